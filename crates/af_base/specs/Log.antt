@@ -16,7 +16,7 @@ use Rattle.af_base.specs.Mix.{Take}
 abbrev pub slots : ℕ
 slots = SLOTS
 
--- the entries, the frames that they took, and for how many entries and frames there is room in all
+-- a log: its entries, the frames that they took, and for how many entries and frames it has room in all
 pub record Logged : Type 0 where
   pub entries : List CycleEntry
   pub frames : List Frame
@@ -39,7 +39,7 @@ kind_of Cold = 2
 kind_of Exit = 3
 kind_of (Spent cycles) = 4
 
--- the entry of a number, from 0
+-- what stands past the end of the entries
 abbrev pub no_entry : CycleEntry
 no_entry = record { state = 0; cycle = Idle; slots = []; scales = []; mono = 0 }
 

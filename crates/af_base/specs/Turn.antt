@@ -15,7 +15,7 @@ pub record TrackSeen : Type 0 where
   pub status : Option ℕ
   pub disabled : Bool
 
--- what it took of one track for its buffer
+-- what a turn took of one track for its buffer
 pub record TakeSeen : Type 0 where
   pub track : ℕ
   pub slot : SlotEntry

@@ -77,7 +77,7 @@ pub enum ClientEvent {
     SetGain { word: u32 },
     /// DISABLED was cleared: the flags before.
     ClearFlags { old: u32 },
-    /// The flags seen where INVALID is set in them, and else 0.
+    /// The flags seen if INVALID is set in them, and else 0.
     SawFlags { flags: u32 },
     /// The front seen.
     SawFront { front: u32 },

@@ -59,13 +59,13 @@ impl Cycle {
 /// What a log keeps of one cycle.
 #[derive(Clone, Copy, Debug, PartialEq, Eq)]
 pub struct CycleEntry {
-    /// The number of the state used, 0 where none was pushed.
+    /// The number of the state used, 0 if none was pushed.
     pub state: u64,
     pub cycle: Cycle,
     pub slots: [SlotEntry; SLOTS],
     /// The 4.12 scale of each slot, at most 0x1000.
     pub scales: [u16; SLOTS],
-    /// Bit i is set where slot i was mixed as mono.
+    /// Bit i is set if slot i was mixed as mono.
     pub mono: u32,
 }
 
@@ -113,7 +113,7 @@ impl FastLog {
         self.entries.len()
     }
 
-    /// The entry of this number, from 0; None exactly where there are no more than `index` entries.
+    /// The entry of this number, from 0; None exactly if there are no more than `index` entries.
     pub fn entry(&self, index: usize) -> Option<&CycleEntry>
         ensures { MatchOption result (length self.now.entries ≤ index) (λ e. (index < length self.now.entries) × (e.now ≡ entry_at self.now.entries index)) }
     {

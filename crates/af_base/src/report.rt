@@ -2,7 +2,7 @@
 
 use crate::state::SLOTS;
 
-/// What is known of one slot: of the item that it holds, or of the one that it held last. All zeros where it never had one.
+/// What is known of one slot: of the item that it holds, or of the one that it held last. All zeros if it never had one.
 #[derive(Clone, Copy, Debug, PartialEq, Eq)]
 pub struct SlotReport {
     /// The server's consumed count.
@@ -19,7 +19,7 @@ pub struct SlotReport {
     pub empties: u32,
 }
 
-/// What the fast mixer tells after some number of cycles.
+/// What the fast mixer reports after some number of cycles.
 #[derive(Clone, Copy, Debug, PartialEq, Eq)]
 pub struct Report {
     /// The number of entries in its log.

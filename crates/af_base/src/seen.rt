@@ -1,6 +1,6 @@
 //! What a server's look at a control block showed.
 
-/// What a look showed (AOSP's ServerProxy::obtainBuffer, with the flush that it noticed told apart).
+/// What a look showed (AOSP's ServerProxy::obtainBuffer, with an answer of its own for a flush that it noticed).
 #[derive(Clone, Copy, Debug, PartialEq, Eq)]
 pub enum Seen {
     /// There was no look.

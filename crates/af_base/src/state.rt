@@ -1,4 +1,4 @@
-//! What the fast mixer is told by a state (AOSP's FastMixerState), and what a push of one answers.
+//! What a state asks of the fast mixer (AOSP's FastMixerState), and what a push of one answers.
 
 /// The number of slots of a state. Slot 0 is the normal mixer's submix.
 pub const SLOTS: usize = 32;
@@ -44,7 +44,7 @@ pub struct FastTrack {
     pub generation: u32,
     /// The number of the track, from 0.
     pub track: u32,
-    /// Its left sample goes to both sides.
+    /// The track is mono: its left sample goes to both sides.
     pub mono: bool,
     /// A 4.12 scale of its gains, at most 0x1000.
     pub scale: u16,
@@ -54,7 +54,7 @@ pub struct FastTrack {
 #[derive(Clone, Copy, Debug, PartialEq, Eq)]
 pub struct FastState {
     pub slots: [FastTrack; SLOTS],
-    /// Bit i is set exactly where slot i is active. Bit 0 is always set.
+    /// Bit i is set exactly if slot i is active. Bit 0 is always set.
     pub mask: u32,
     /// Rises with each attach and each detach.
     pub tracks_gen: u32,

@@ -46,7 +46,7 @@ impl<T: Drop> Items<T> {
         self.items.push_reserved(item);
     }
 
-    /// Takes the last item; None exactly where there is none.
+    /// Takes the last item; None exactly if there is none.
     pub fn pop(&mut self) -> Option<T>
         ensures { MatchOption result ((self.old.items ≡ []) × (self.new ≡ self.old)) (λ item. self.old ≡ record self.new { items = self.new.items ++ item ∷ [] }) }
     {

@@ -1,7 +1,7 @@
-//! Want of memory.
+//! Out of memory.
 use std::alloc::{AllocError, AllocFailed};
 
-/// Want of memory, where that is a call's only refusal.
+/// Out of memory, if that is a call's only refusal.
 #[derive(Clone, Copy, Debug, PartialEq, Eq)]
 pub struct Memory;
 

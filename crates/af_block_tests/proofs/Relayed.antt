@@ -58,7 +58,7 @@ beginning (w ∷ words) (suc n) (suc m) = ap (λ (l : List ℕ). w ∷ l) (begin
 pub take_begins : (xs words : List ℕ) (n m : ℕ) → xs ≡ take n (take m words) → xs ≡ take (length xs) words
 take_begins xs words n m is = is ∙ beginning words n m ∙ ap (λ (l : List ℕ). take (length l) words) (sym is)
 
--- the words of some frames, and of those that follow them
+-- the words of some frames, and then of those that follow them
 pub take_on : (xs : List Frame) (n m : ℕ) → n ≤ length xs → map packed_word (take n xs) ++ map packed_word (take m (drop n xs)) ≡ map packed_word (take (n + m) xs)
 take_on xs n m le =
     let joined : take n xs ++ take m (drop n xs) ≡ take (n + m) xs =

@@ -9,7 +9,7 @@ use std::marker::Brand;
 use std::sync::ledger::{Blank, Ledger};
 use std::test::*;
 
-// Writes one frame into a new block, where the block is seen to be empty.
+// Writes one frame into a new block, if the block is seen to be empty.
 fn write_one<L: Ledger>(
     block: &Block,
     client: &mut ClientPass,
@@ -31,7 +31,7 @@ fn write_one<L: Ledger>(
     true
 }
 
-// Takes one frame of a block that isn't positional, where there is one and no flush was noticed.
+// Takes one frame of a block that isn't positional, if there is one and no flush was noticed.
 fn take_one<L: Ledger>(block: &Block, server: &mut ServerPass, steps: &mut Steps<L>) -> Option<u32>
     requires made { server_made server.old ≡ block.now }
     requires flat { server.old.part.shape.wrap ≡ 0 }

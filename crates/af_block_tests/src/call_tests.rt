@@ -65,7 +65,7 @@ fn all_answer<L: Ledger>(
     true
 }
 
-// The same on a new block.
+// Whether the calls on a new block answer as the table says.
 fn plays_in<L: Ledger>(
     blank: Blank,
     alloc: Global,
@@ -107,7 +107,7 @@ fn took(flush: u32, rear: u32, count: u32, words: [u32; 3]) -> Answer {
     Answer::Took(Look { flush, rear, seen }, words)
 }
 
-// A call that was to take what a look shows, where there was nothing.
+// A call that was to take what a look shows, when there was nothing.
 fn took_none(answer: Answer) -> Answer {
     match answer {
         Answer::Saw(look) => Answer::Took(look, [0; 3]),
@@ -243,7 +243,7 @@ fn both_play(alloc: Global, frames: u32, base: u32, table: &[Row]) -> Result<boo
     both_play_in::<Brand>(Blank::new(1), alloc, frames, base, table)
 }
 
-// The same answer on both.
+// A call with the same answer on both kinds of block.
 fn same(call: Call, answer: Answer) -> Row {
     (call, answer, answer)
 }

@@ -74,7 +74,7 @@ fn write<L: Ledger>(
     Answer::Wrote(client.write(block, &frames[..count as usize], steps))
 }
 
-// Asks for a flush, where there were few.
+// Asks for a flush, if there were few.
 fn flush<L: Ledger>(block: &Block, client: &mut Client, steps: &mut Steps<L>) -> Answer
     requires ready { IsClientOf block.now client.old }
     ensures ready { IsClientOf block.now client.new }

@@ -180,7 +180,7 @@ pub(crate) fn client_has_cause(kept: &Kept, call: &Call, answer: &Answer) -> boo
 
 // ## The server
 
-// Adds what a look saw, and a drop or a take. Front is the server's own position, but where the client poked: then only the words of the answer are known.
+// Adds what a look saw, and a drop or a take. Front is the server's own position, unless the client poked: then only the words of the answer are known.
 fn note_look(list: &mut Vec<ServerEvent>, kept: &Kept, look: &Look) -> Result<(), Memory> {
     let Look { flush, rear, seen } = *look;
     let front = match seen {
@@ -243,7 +243,7 @@ pub(crate) fn note_server(
     }
 }
 
-// How many flushes a flush word tells of.
+// How many flushes a flush word counts.
 fn flushes_by(kept: &Kept, word: u32) -> u32 {
     match kept.wrap {
         0 => word,
@@ -256,7 +256,7 @@ fn is_new(kept: &Kept, flush: u32) -> bool {
     kept.wrap != 0 || flush != kept.flushes
 }
 
-// Whether so many frames are dropped: all that are there, or on a positional block those up to the place that the flush word tells.
+// Whether so many frames are dropped: all that are there, or on a positional block those up to the place that the flush word gives.
 fn is_dropped(kept: &Kept, flush: u32, there: u32, dropped: u32) -> bool {
     if kept.wrap == 0 {
         return dropped == there;
@@ -265,7 +265,7 @@ fn is_dropped(kept: &Kept, flush: u32, there: u32, dropped: u32) -> bool {
     dropped == 0 || (dropped <= there && to % kept.wrap == flush % kept.wrap)
 }
 
-// Whether what a look shows has its cause where the client may have poked any word.
+// Whether what a look shows has its cause if the client may have poked any word.
 fn shown_after_pokes(kept: &Kept, ask: u32, look: &Look) -> bool {
     match look.seen {
         Seen::Shut { front, rear } => {
@@ -282,7 +282,7 @@ fn shown_after_pokes(kept: &Kept, ask: u32, look: &Look) -> bool {
     }
 }
 
-// The same where it has not poked: the server's own position is front, and flush counts rise.
+// Whether what a look shows has its cause if the client has not poked: the server's own position is front, and flush counts rise.
 fn shown_by_cause(kept: &Kept, ask: u32, look: &Look) -> bool {
     let there = look.rear.wrapping_sub(kept.position);
     let flushes = flushes_by(kept, look.flush);

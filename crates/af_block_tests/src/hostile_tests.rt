@@ -26,7 +26,7 @@ const ROUNDS: u32 = 3;
 // How many turns a round of a client that pokes has: in all rounds it pokes each of 135 words with each of six values.
 const POKED_TURNS: u32 = 270;
 
-// The same of a stream block and of a command block.
+// A thing of the stream block, and the same of the command block.
 #[derive(Drop)]
 struct Both<T> {
     stream: T,
@@ -45,7 +45,7 @@ const CLIENT_TURNS: [(Call, Call); 8] = [
     (Call::Write(11, 4), Call::Status),
 ];
 
-// The same of the server.
+// What the server does, turn by turn, on the stream block and on the command block.
 const SERVER_TURNS: [(Call, Call); 8] = [
     (Call::Take(3), Call::Take(2)),
     (Call::Tally(2), Call::SetStatus(257)),
@@ -160,7 +160,7 @@ fn fresh(base: u64, wrap: u32) -> TrackPoint
     }
 }
 
-// Whether each answer had its cause, and, where the client does not poke, the lists have a legal order. Each list has at most 10,000 events.
+// Whether each answer had its cause, and, if the client does not poke, the lists have a legal order. Each list has at most 10,000 events.
 fn has_causes_and_order(
     alloc: Global,
     block: &Block,
@@ -258,7 +258,7 @@ fn server_calls(alloc: Global, plan: &Plan) -> Result<Vec<(Call, Call)>, Memory>
     Ok(calls)
 }
 
-// All rounds of a run, with a meeting after each: whether the same holds after each.
+// All rounds of a run, with a meeting after each: whether the causes and the order hold after each.
 fn rounds<R: Threads + Sync>(
     rt: &R,
     alloc: Global,

@@ -175,7 +175,7 @@ fn is_decided(
     Ok((got == (whole, (begun, gone_on, whole)), whole))
 }
 
-/// The same of three lists that are drawn.
+/// Whether three lists that are drawn are decided so, and whether they have an order.
 fn is_drawn_decided(alloc: Global, draw: &mut Draw) -> Result<(bool, bool), Fail> {
     let from = draw.point();
     let client = clients(alloc, draw)?;

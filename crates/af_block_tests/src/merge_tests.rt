@@ -117,7 +117,7 @@ fn takes_only_what_was_seen(rt: HostRuntime) -> Result<(), Fail> {
     Ok(())
 }
 
-/// A meeting told late forbids an order that was found before.
+/// A meeting that is known late forbids an order that was found before.
 #[test]
 fn late_meeting_reaches_back(rt: HostRuntime) -> Result<(), Fail> {
     let client = [ClientEvent::ClearFlags { old: 0 }];
@@ -138,7 +138,7 @@ fn late_meeting_reaches_back(rt: HostRuntime) -> Result<(), Fail> {
     Ok(())
 }
 
-/// Where the hand has no events yet, its first may still stand before all others.
+/// If the hand has no events yet, its first may still stand before all others.
 #[test]
 fn late_hand_may_stand_first(rt: HostRuntime) -> Result<(), Fail> {
     let client = [ClientEvent::ClearFlags { old: 8 }];

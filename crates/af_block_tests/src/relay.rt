@@ -62,7 +62,7 @@ fn stir<L: Ledger>(block: &Block, client: &mut Client, gains: u32, steps: &mut S
     }
 }
 
-// The same where it is time for it.
+// Asks for a flush and sets other gains, if it is time for it.
 fn stir_at<L: Ledger>(
     block: &Block,
     client: &mut Client,
@@ -214,7 +214,7 @@ fn receive(
     receive_in::<Brand>(Blank::new(1), block, server, alloc, total)
 }
 
-// Once both are back: where no flush was noticed, what was taken begins what was written.
+// Once both are back: if no flush was noticed, what was taken begins what was written.
 fn compare_in<L: Ledger>(
     blank: Blank,
     block: &Block,
@@ -246,7 +246,7 @@ fn block_of(alloc: Global, positional: bool) -> Result<(Block, ClientPass, Serve
     Block::make(alloc, 3, 0)
 }
 
-// What one thread took of the frames that another wrote: a beginning of them where no flush was noticed.
+// What one thread took of the frames that another wrote: a beginning of them if no flush was noticed.
 fn relay<R: Threads + Sync>(
     rt: &R,
     alloc: Global,

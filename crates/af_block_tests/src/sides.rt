@@ -43,7 +43,7 @@ impl<P, E> Recorded<P, E> {
 pub(crate) trait Side: Drop {
     ghost use Rattle.af_cblk.specs.Sides.{Made};
 
-    // Its proxy is of this block, and in order.
+    // The proxy of this side is of this block, and in order.
     ghost is_ready: { Made → Self → Type 0 };
 
     // Makes a call.
@@ -121,7 +121,7 @@ fn learn<L: Ledger>(blank: Blank, block: &Block, client: &mut Client, server: &m
     server.meet(block, client.pass(), &mut steps);
 }
 
-// The same, and their lists say so: each tells how long the other's is.
+// The client and the server learn what the other has done, and their lists say so: each has the length of the other's.
 pub(crate) fn meet(
     block: &Block,
     client: &mut Recorded<Client, ClientEvent>,

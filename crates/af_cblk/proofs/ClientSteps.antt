@@ -1,4 +1,4 @@
--- What each word step of the client makes of the history, the words and the parts, where the client has not poked.
+-- What each word step of the client makes of the history, the words and the parts, if the client has not poked.
 use Rattle.std.proofs.Common.{◌≡◌, ◌≢◌, ⊎_elim, ℕ, ◌+◌, ◌-◌, ◌%◌, ◌^◌, ◌<◌, ◌≤◌, if◌then◌else◌, ◌==◌, Bool, true, false, MatchBool, bit_and, List, ◌++◌, length, set, sym, refl, ap, ◌∙◌, subst, arith, length-set, length-append, append_assoc, get_or-set_other, get_or-set_same, get_or-append-add, eq-eqb, ne_eqb, eqb-true, mod-lt, mod-eq_of_lt, lt_of_not-le}
 use Rattle.std.proofs.lemmas.Nat.{and_le_l}
 use mathlib.Core.Logic.{dite}

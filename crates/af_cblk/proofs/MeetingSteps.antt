@@ -1,4 +1,4 @@
--- What the steps of the hand and of a meeting make of the history, where the client has not poked.
+-- What the steps of the hand and of a meeting make of the history, if the client has not poked.
 use Rattle.std.proofs.Common.{ℕ, ◌-◌, ◌^◌, ◌<◌, bit_or, List, [], length, set, refl, ap, ◌∙◌, arith, append-nil}
 use Rattle.std.proofs.lemmas.Nat.{or_of_32}
 use Rattle.af_base.specs.declared.event.ClientEvent.TheVariants as client

@@ -1,4 +1,4 @@
--- Where two lists have a history, neither proxy was shut.
+-- If two lists have a history, neither proxy was shut.
 use Rattle.std.proofs.Common.{inl, inr, ◌≤◌, ℕ, List, [], ◌∷◌, ◌++◌, sym, ap, ◌∙◌}
 use Rattle.std.proofs.lemmas.Grind.{fold-append}
 use Rattle.af_base.specs.declared.event.ClientEvent.{ClientEvent}

@@ -11,7 +11,7 @@ use Rattle.af_cblk.specs.declared.view.HandPart.{HandPart}
 use Rattle.af_cblk.specs.declared.view.View.{View}
 use Rattle.af_cblk.specs.Plays.{Meeting}
 
--- the same history, where the parts are with other seats
+-- the same history, if the parts are with other seats
 pub parted : (k : Shape) (hand hand' : List HandEvent) (v : View) (c : ClientPart) (s : ServerPart) → v.client.shape ≡ k → v.client ≡ c → v.server ≡ s → hand ≡ hand'
     → Meeting v hand → HasHistory k c.events c.frames s.events s.frames hand'
 parted k hand hand' v c s b hers his its =

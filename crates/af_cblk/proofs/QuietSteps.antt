@@ -1,4 +1,4 @@
--- Steps that change no position, where the client has not poked.
+-- Steps that change no position, if the client has not poked.
 use Rattle.std.proofs.Common.{max, ◌≡◌, ◌≢◌, ℕ, ◌+◌, ◌≤◌, List, [], ◌∷◌, ◌++◌, length, get_or, set, sym, ap, ◌∙◌, subst, arith, length-append, append_assoc}
 use Rattle.af_base.specs.declared.event.ClientEvent.{ClientEvent}
 use Rattle.af_base.specs.declared.event.ServerEvent.{ServerEvent}
@@ -44,7 +44,7 @@ module _ (k : Shape) (words words' : List ℕ) (c : ClientPart) (s : ServerPart)
   abbrev pub StandFor : TrackPoint → Type 0
   StandFor p = (tally : ℕ) × (words' ≡ words_of p tally i.cells) × (wrapped tally ≡ p.underruns) × Small (flush_word p) p.flags p.gains p.status
 
-  -- where the positions are as before, the parties know as much
+  -- if the positions are as before, the parties know as much
   pub client_at : (p : TrackPoint) → Same p → ClientKnows k p.consumed p.released c.frames i.cells c.stored c.front
   client_at p same = subst (λ (x : ℕ × ℕ × ℕ × ℕ × ℕ × ℕ × ℕ). ClientKnows k x.1 x.0 c.frames i.cells c.stored c.front) (sym same) i.client_knows
 

@@ -1,4 +1,4 @@
--- A step of one seat keeps the rule where it keeps what the rule says of the parts.
+-- A step of one seat keeps the rule if it keeps what the rule says of the parts.
 use Rattle.std.proofs.Common.{◌≡◌, ℕ, zero, suc, ◌≢◌, ◌⊎◌, true, false, true≢false, List, [], ◌∷◌, ◌++◌, length, get_or, set, sym, refl, ap, ◌∙◌, subst, inl, inr, ⊎_elim, append_assoc, append-nil}
 use mathlib.Core.Option.{some, some-injective, some-ne-none}
 use lib.ListN.{get_elem?}
@@ -13,7 +13,7 @@ use Rattle.af_cblk.specs.declared.view.HandPart.{HandPart}
 use Rattle.af_cblk.specs.declared.view.View.{View}
 use Rattle.af_cblk.specs.Rule.{StartsWith, Stands, Parties, Sits, HandKnows, Holds, nobody, without_client, client_alone, and_client, without_hand, hand_alone, and_hand}
 
--- what the rule says of the words, where the client has not poked
+-- what the rule says of the words, if the client has not poked
 abbrev pub Lawfully : Shape → List ℕ → ClientPart → ServerPart → HandPart → Type 0
 Lawfully k words c s h = is_lawful c.events ≡ true → Stands k words c s h
 

@@ -1,4 +1,4 @@
--- What each word step of the server makes of the history, the words and the parts, where the client has not poked.
+-- What each word step of the server makes of the history, the words and the parts, if the client has not poked.
 use Rattle.std.proofs.Common.{subst, ◌≡◌, ◌≢◌, ◌*◌, eq-eqb, ne_eqb, ℕ, ◌+◌, ◌-◌, ◌%◌, ◌^◌, ◌<◌, ◌≤◌, if◌then◌else◌, ◌==◌, Bool, true, false, bit_or, List, [], ◌∷◌, ◌++◌, length, set, take, drop, sym, refl, ap, ◌∙◌, arith, length-append, eqb-true, mod-eq_of_lt, lt_of_not-le}
 use Rattle.std.proofs.lemmas.List.{take-append-le}
 use Rattle.std.proofs.lemmas.Nat.{or_of_32}

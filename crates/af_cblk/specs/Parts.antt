@@ -65,7 +65,7 @@ client_saw_front c front = record c { events = c.events ++ client.SawFront front
 abbrev pub cell_stored : ClientPart → ℕ → ℕ → ClientPart
 cell_stored c j word = record c { stored = (number_at c j, word) ∷ c.stored }
 
--- the same, where the cell is that of a position inside the room
+-- the client has stored this word in the cell of a position inside the room
 abbrev pub stored_at : ClientPart → ℕ → ℕ → ClientPart
 stored_at c position word = record c { stored = (length c.frames + ahead (released c) position, word) ∷ c.stored }
 
@@ -117,7 +117,7 @@ abbrev pub server_saw_front : ServerPart → ℕ → ServerPart
 server_saw_front s front =
     record s { events = s.events ++ server.SawFront front ∷ []; front = front; fresh = true; loaded = [] }
 
--- the server has loaded this cell, which counts where it is the next one from the front on
+-- the server has loaded this cell, which counts if it is the next one from the front on
 abbrev pub saw_cell : ServerPart → ℕ → ℕ → ServerPart
 saw_cell s j word =
     record s {
@@ -180,7 +180,7 @@ abbrev pub MayTake : ServerPart → ℕ → Type 0
 MayTake s front =
     (s.fresh ≡ true) × (ahead s.front front ≤ ahead s.front s.rear) × (ahead s.front front ≤ length s.loaded) × (s.shape.wrap ≢ 0 → SawInOrder s)
 
--- after a new flush the frames are dropped, and else taken
+-- front may be stored: after a new flush the frames are dropped, and else taken
 abbrev pub MayStoreFront : ServerPart → ℕ → Type 0
 MayStoreFront s front = (s.noticed ≡ true → MayDrop s front) × (s.noticed ≡ false → MayTake s front)
 

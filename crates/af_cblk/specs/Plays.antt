@@ -1,4 +1,4 @@
--- What each step tells its caller. What it says of the words holds where the client has not poked.
+-- What each step says to its caller. What it says of the words holds if the client has not poked.
 use Rattle.std.specs.Prelude.{◌≡◌, ℕ, ◌-◌, ◌≤◌, true, List, length}
 use Rattle.atomic_table.specs.Table.{Me, Step}
 use Rattle.af_base.specs.declared.event.ClientEvent.TheVariants as client
@@ -103,11 +103,11 @@ HandSets st m n m' = m' ≡ (record m.0 { hand = hand_set m.0.hand }, m.1)
 
 -- ## Meetings
 
--- the lists have a history
+-- the lists of client, server and hand have a history
 abbrev pub Meeting : View → List HandEvent → Type 0
 Meeting v hand = HasHistory v.client.shape v.client.events v.client.frames v.server.events v.server.frames hand
 
--- each has learnt what the other had done
+-- client and server have each learnt what the other had done
 abbrev pub both_met : View → View
 both_met v = record v { client = client_met v.client v.server.events; server = server_did v.server (server.Learn (length v.client.events)) }
 

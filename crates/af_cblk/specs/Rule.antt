@@ -1,4 +1,4 @@
--- The rule of the table. Where the client has not poked, there is one legal order of the parties' events, and the words stand for its last point.
+-- The rule of the table. If the client has not poked, there is one legal order of the parties' events, and the words stand for its last point.
 use Rattle.std.specs.Prelude.{◌≡◌, ◌≢◌, Bool, ℕ, ◌+◌, ◌-◌, ◌%◌, ◌^◌, ◌<◌, ◌≤◌, true, false, List, [], ◌∷◌, ◌++◌, length, take, drop, slice_index}
 use mathlib.Core.Option.{some}
 use lib.ListN.{get_elem?}
@@ -45,7 +45,7 @@ pub record ServerKnows (base consumed rear_seen : ℕ) (frames : List ℕ) (rear
   pub front_is : front ≡ wrapped consumed
   pub loaded_is : (n : ℕ) → n ≤ length loaded → consumed + n ≤ rear_seen → take n loaded ≡ take n (drop (consumed - base) frames)
 
--- What the server knows of flushes on a positional block, where it loaded the flush word at `mark`: since then it stored front at most once. A flush that it has not seen lies past the mark, and one that it noticed at most a room before what is consumed.
+-- What the server knows of flushes on a positional block, if it loaded the flush word at `mark`: since then it stored front at most once. A flush that it has not seen lies past the mark, and one that it noticed at most a room before what is consumed.
 -- A rear that it loaded after the flush word lies past the flush that it saw, and past what is consumed
 pub record KnowsFlush (k : Shape) (consumed rear_seen flushes flush_seen flush_at drop_to flush : ℕ) (noticed flush_fresh rear_fresh : Bool) : Type 0 where
   pub flush_is : flush ≡ flush_number k.wrap flush_seen drop_to
@@ -59,11 +59,11 @@ pub record KnowsFlush (k : Shape) (consumed rear_seen flushes flush_seen flush_a
   pub near : noticed ≡ true → consumed ≤ drop_to + k.frames
   pub shows : rear_fresh ≡ true → (drop_to ≤ rear_seen) × (consumed ≤ rear_seen) × (flush_fresh ≡ true)
 
--- the same at a point, of a server's part
+-- what a server's part knows of flushes at a point
 abbrev pub FlushKnown : Shape → TrackPoint → ServerPart → Type 0
 FlushKnown k p s = KnowsFlush k p.consumed p.rear_seen p.flushes p.flush_seen p.flush_at p.drop_to s.flush s.noticed s.flush_fresh s.rear_fresh
 
--- the list goes on as this one begins
+-- the events begin with these first ones
 abbrev pub StartsWith : List ServerEvent → List ServerEvent → Type 0
 StartsWith events first = (rest : List ServerEvent) × (first ++ rest ≡ events)
 
@@ -103,7 +103,7 @@ pub record Sits (a : Parties) (by : ℕ) (v : View) : Type 0 where
 abbrev pub HandKnows : Parties → Type 0
 HandKnows a = StartsWith a.server.events a.known
 
--- the rule: each seat has the parts that it says it has, the server's list goes on from what the hand knows, and where the client has not poked the words stand for a history of the three lists
+-- the rule: each seat has the parts that it says it has, the server's list goes on from what the hand knows, and if the client has not poked the words stand for a history of the three lists
 pub record Holds (k : Shape) (t : State (Unit {0}) View) : Type 0 where
   pub parties : Parties
   pub seats : (by : ℕ) (v : View) → get_elem? t.views by ≡ some v → Sits parties by v

@@ -9,7 +9,7 @@ use Rattle.af_cblk.specs.declared.view.ClientPart.{ClientPart}
 use Rattle.af_cblk.specs.declared.view.ServerPart.{ServerPart}
 use Rattle.af_cblk.specs.declared.view.HandPart.{HandPart}
 
--- which block it is, and its sizes
+-- a block: which one it is, and its sizes
 pub record Made : Type 0 where
   pub id : TableId
   pub shape : Shape
@@ -19,13 +19,13 @@ pub record ClientSide : Type 0 where
   pub id : TableId
   pub part : ClientPart
 
--- the same of the server, with which the hand is until it is split off
+-- which block the server steps on, and what it has done and knows there; the hand is with it until it is split off
 pub record ServerSide : Type 0 where
   pub id : TableId
   pub part : ServerPart
   pub has_hand : Bool
 
--- the same of the hand, with the server's events as it knows them from its last meeting
+-- which block the hand steps on, what it has done there, and the server's events as it knows them from its last meeting
 pub record HandSide : Type 0 where
   pub id : TableId
   pub part : HandPart
@@ -45,7 +45,7 @@ hand_made p = record { id = p.id; shape = p.part.shape }
 abbrev pub ServerIs : ServerPart → ServerSide → ServerSide → Type 0
 ServerIs s p q = q ≡ (record p { part = s })
 
--- A lawful client sees itself within the room
+-- The client saw this front. A lawful client sees itself within the room
 abbrev pub ClientSawFront : ClientSide → ℕ → ClientSide → Type 0
 ClientSawFront p front q =
     (q.part ≡ client_saw_front p.part front) × (is_lawful p.part.events ≡ true → filled q.part ≤ q.part.shape.frames)

@@ -15,7 +15,7 @@ use std::alloc::{AllocError, Global};
 use std::marker::Model;
 use std::sync::ledger::Ledger;
 
-/// The rule of a block's table: where the client has not poked, there is one legal order of all parties' events, and the words stand for its last point.
+/// The rule of a block's table: if the client has not poked, there is one legal order of all parties' events, and the words stand for its last point.
 pub struct OneOrder;
 
 impl TableRule<(), View, Shape> for OneOrder {
@@ -62,7 +62,7 @@ fn first_words(alloc: Global, base: u32, cells: u32) -> Result<Vec<u64>, AllocEr
 impl Block {
     /// A block with no frames in it, and the passes of its client and its server.
     ///
-    /// Front and rear are `base`, the gains are 0x1000 each, and all else is 0. Each pass begins with no events. `frames` is from 1 to 65,536. The only refusal is want of memory.
+    /// Front and rear are `base`, the gains are 0x1000 each, and all else is 0. Each pass begins with no events. `frames` is from 1 to 65,536. Memory is its only refusal.
     pub fn make(
         alloc: Global,
         frames: u32,
@@ -84,9 +84,9 @@ impl Block {
         Block::of_shape(alloc, shape)
     }
 
-    /// The same with a block whose flush word carries the position of the flush: a flush discards what was released before it, and nothing that is released later.
+    /// A positional block with no frames in it, and the passes of its client and its server. Its flush word carries the position of the flush: a flush discards what was released before it, and nothing that is released later.
     ///
-    /// `frames` is from 1 to 8,192. The only refusal is want of memory.
+    /// The block begins as that of `make`. `frames` is from 1 to 8,192. Memory is its only refusal.
     pub fn make_positional(
         alloc: Global,
         frames: u32,

@@ -72,7 +72,7 @@ impl Block {
         steps.tick();
     }
 
-    /// Loads the flags. It appends SawFlags, with the flags where INVALID (0x04) is set in them, and else with 0.
+    /// Loads the flags. It appends SawFlags, with the flags if INVALID (0x04) is set in them, and else with 0.
     ///
     /// Of a client that has not poked all bits are those of the flags at the end of a history of its list.
     pub fn load_flags<L: Ledger>(&self, pass: &mut ClientPass, steps: &mut Steps<L>) -> u32
@@ -119,7 +119,7 @@ impl Block {
 
     /// Asks for a flush by one add to the flush word, and answers how many flushes this client has asked for. It appends Flush.
     ///
-    /// The word is then the number of flushes where it has not poked, or on a positional block so many wraps with the place of its position in a wrap. There are fewer flushes so far than the word has room for: than 2^32 - 2, or on a positional block than 2^32 / wrap - 1.
+    /// The word is then the number of flushes if the client has not poked, or on a positional block so many wraps with the place of its position in a wrap. There are fewer flushes so far than the word has room for: than 2^32 - 2, or on a positional block than 2^32 / wrap - 1.
     pub fn add_flush<L: Ledger>(&self, pass: &mut ClientPass, steps: &mut Steps<L>) -> u32
         requires made { client_made pass.old ≡ self.now }
         requires room { flushes_of pass.old.part.events < most_flushes self.now.shape.wrap }

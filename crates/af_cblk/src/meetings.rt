@@ -29,7 +29,7 @@ impl Block {
 
     /// The client and the server learn what the other has done so far: all of it stands before their own next events. It appends Learn to each list, in five steps.
     ///
-    /// Where the client has not poked, these two lists have a history, with some hand's list, which is empty where the hand is with the server. Where its list is moreover what its calls spell, neither proxy was shut.
+    /// If the client has not poked, these two lists have a history, with some hand's list, which is empty if the hand is with the server. If the client's list is moreover what its calls spell, neither proxy was shut.
     pub fn meet<L: Ledger>(
         &self,
         client: &mut ClientPass,
@@ -54,7 +54,7 @@ impl Block {
 
     /// The hand learns what the client has done so far, while the server's pass is elsewhere. It appends Met to the hand's list and nothing to the client's, in four steps.
     ///
-    /// From then on the hand knows the list that the server had at that moment. Where the client has not poked, this list goes on from what the client had learnt, and has a history with theirs.
+    /// From then on the hand knows the list that the server had at that moment. If the client has not poked, this list goes on from what the client had learnt, and has a history with theirs.
     pub fn meet_flag<L: Ledger>(
         &self,
         client: &mut ClientPass,
@@ -95,7 +95,7 @@ impl Block {
         hand.seat = self.part_hand(&mut server.seat, steps);
     }
 
-    /// It appends what `meet` and then `meet_flag` append, in nine steps. Where the client has not poked, these three lists have a history.
+    /// It appends what `meet` and then `meet_flag` append, in nine steps. If the client has not poked, these three lists have a history.
     pub fn meet_all<L: Ledger>(
         &self,
         client: &mut ClientPass,

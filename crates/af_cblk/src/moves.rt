@@ -1,6 +1,6 @@
 //! How the parts of the parties move between seats, and the loads by which they learn.
 //!
-//! What a party learns is ghost: it is told to a seat by a step on the table, and a step is a load or a store of some word. So each learning is a load of FRONT that changes nothing and whose number is not used. Any word would do.
+//! What a party learns is ghost: a step on the table gives it to a seat, and a step is a load or a store of some word. So each learning is a load of FRONT that changes nothing and whose number is not used. Any word would do.
 ghost use Rattle.std.specs.Prelude.{◌≡◌, ℕ, ◌+◌, true, List, [], length};
 ghost use Rattle.af_base.specs.declared.event.HandEvent.{HandEvent};
 ghost use Rattle.af_base.specs.declared.event.ServerEvent.{ServerEvent};

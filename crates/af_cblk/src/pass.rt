@@ -16,9 +16,9 @@ pub struct ClientPass {
     pub(crate) seat: Seat<(), View>,
     // The word of the client's position.
     pub(crate) rear: u32,
-    // How many flushes it asked for.
+    // How many flushes the client asked for.
     pub(crate) flushes: u32,
-    // The word of its position at its last flush, and 0 before any.
+    // The word of the client's position at its last flush, and 0 before any.
     pub(crate) flushed: u32,
 }
 
@@ -73,7 +73,7 @@ impl Model for FlagHand {
     ghost invariant = { λ p. (p.seat.me.0.is_hand ≡ true) × (p.seat.me.1 ≡ []) };
 }
 
-// Only the two kinds of pass are of it.
+// Only the two kinds of pass belong to this trait.
 mod sealed {
     pub trait Sealed {}
 }
@@ -87,7 +87,7 @@ pub trait BlockPass: sealed::Sealed {
     ghost use Rattle.af_cblk.specs.Sides.{Made};
     ghost use Rattle.std.specs.Prelude.{ℕ};
 
-    // The block that it was made with.
+    // The block that the pass was made with.
     ghost made: { Self → Made };
 
     // Of the pass before a load, the front that was loaded, and the pass after it.

@@ -1,4 +1,4 @@
-//! What each step tells the seat that makes it: one play for each kind of step.
+//! What each step says to the seat that makes it: one play for each kind of step.
 ghost use Rattle.af_cblk.specs.Plays.{ClientSeesFront as front_seen_by_client, CellIsStored as cell_is_stored, RearIsStored as rear_is_stored, ClientSeesFlags as flags_seen, ClientSeesStatus as status_seen, Flushes as flushes, GainIsStored as gain_is_stored, FlagsAreCleared as flags_are_cleared, Pokes as pokes, SeesFlush as flush_seen, SeesRear as rear_seen, ServerSeesFront as front_seen_by_server, SeesCell as cell_seen, FrontIsStored as front_is_stored, SeesGain as gain_seen, Tallies as tallies, FlagsAreSet as flags_are_set, StatusIsStored as status_is_stored, HandSets as hand_sets, ClientLearns as client_learns, ServerLearns as server_learns, HandMeets as hand_meets, HandRecalls as hand_recalls};
 ghost use Rattle.af_cblk.specs.Rule.{nobody, without_client, client_alone, and_client, without_hand, hand_alone, and_hand};
 

@@ -86,7 +86,7 @@ impl Block {
 
     /// Stores front.
     ///
-    /// After a new flush the position is the rear seen since: all frames up to it are dropped. On a positional block it is the position of the flush, or the front last seen where that is later. It appends Drop.
+    /// After a new flush the position is the rear seen since: all frames up to it are dropped. On a positional block it is the position of the flush, or the front last seen if that is later. It appends Drop.
     ///
     /// Without a new flush it lies some frames past the front last seen, and not past the rear seen before: these frames are taken. Front was loaded after that rear and since the last store of front, and since then the cells of these frames were loaded, in order. It appends Take, and the frames to the server's.
     ///

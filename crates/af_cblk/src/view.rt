@@ -6,7 +6,7 @@ use std::collections::LinkedList;
 /// What a client has done, and what it knows. No value of it is made.
 pub struct ClientPart {
     pub shape: Shape,
-    /// Its events, oldest first.
+    /// The client's events, oldest first.
     pub events: LinkedList<ClientEvent>,
     /// The words of the frames that were released, oldest first.
     pub frames: LinkedList<u32>,
@@ -14,16 +14,16 @@ pub struct ClientPart {
     pub stored: LinkedList<(u64, u32)>,
     /// The front last seen.
     pub front: u32,
-    /// Its position at its last flush, and 0 before any.
+    /// The client's position at its last flush, and 0 before any.
     pub flush_at: u64,
-    /// The server's events at the last meeting with it.
+    /// The server's events at the client's last meeting with it.
     pub learnt: LinkedList<ServerEvent>,
 }
 
 /// What a server has done, and what it knows. No value of it is made.
 pub struct ServerPart {
     pub shape: Shape,
-    /// Its events, oldest first.
+    /// The server's events, oldest first.
     pub events: LinkedList<ServerEvent>,
     /// The words of the frames that were taken, oldest first.
     pub frames: LinkedList<u32>,
@@ -33,7 +33,7 @@ pub struct ServerPart {
     pub noticed: bool,
     /// The rear last seen.
     pub rear: u32,
-    /// It was seen after that flush word, where that was new.
+    /// The rear was seen after that flush word, if that was new.
     pub rear_after: bool,
     /// The front last seen or stored.
     pub front: u32,
@@ -50,7 +50,7 @@ pub struct ServerPart {
 /// What a hand has done. No value of it is made.
 pub struct HandPart {
     pub shape: Shape,
-    /// Its events, oldest first.
+    /// The hand's events, oldest first.
     pub events: LinkedList<HandEvent>,
 }
 

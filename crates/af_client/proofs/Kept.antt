@@ -100,7 +100,7 @@ word_keeps c i pass answer e k a spelled same opened did =
     (did ∙ ap (λ (x : ClientState). client_did x.pass.part e) opened)
     (ap (λ (x : ClientState). x.rear) opened, ap (λ (x : ClientState). x.flushes + flush_in e) opened, ap (λ (x : ClientState). x.released) opened, ap (λ (x : ClientState). x.shut) opened)
 
--- the same, where it is a flush
+-- the same, if it is a flush
 pub flush_keeps : (c i : ClientState) (pass : ClientSide) (count : ℕ) → IsInOrder c → Answers c 0 (call.Flush count) → i ≡ c → pass.part ≡ client_flushed i.pass.part
     → Keeps pass.part i.rear (i.flushes + 1) i.released i.shut
 flush_keeps c i pass count k a opened did =
@@ -117,7 +117,7 @@ flush_keeps c i pass count k a opened did =
       lawful_open = one.lawful_open;
     })
 
--- the same, where it is no flush
+-- the same, if it is no flush
 pub quiet_keeps : (c i : ClientState) (pass : ClientSide) (answer : ClientCall) (e : ClientEvent) → IsInOrder c → Answers c 0 answer
     → client_events_of c.pass.part.shape.frames c.pass.part.shape.base c.pass.part.events answer ≡ e ∷ []
     → client_keeps c.pass.part.shape.frames (client_kept_of c.pass.part) e ≡ client_kept_of c.pass.part

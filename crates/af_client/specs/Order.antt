@@ -7,7 +7,7 @@ use Rattle.af_cblk.specs.declared.view.ClientPart.{ClientPart}
 use Rattle.af_cblk.specs.Parts.{released}
 use Rattle.af_cblk.specs.Sides.{Made, ClientSide, client_made}
 
--- the pass, the word of the client's position, how many flushes it asked for and frames it released, and the front and rear that shut it
+-- a client's proxy: the pass, the word of the client's position, how many flushes it asked for and frames it released, and the front and rear that shut it
 pub record ClientState : Type 0 where
   pub pass : ClientSide
   pub rear : ℕ
@@ -29,7 +29,7 @@ pub record Keeps (p : ClientPart) (rear flushes count : ℕ) (shut : Option (ℕ
   pub shut_is : shut ≡ (client_kept_of p).shut
   pub lawful_open : is_lawful p.events ≡ true → shut ≡ None
 
--- what its maker establishes, and each call and each meeting keeps
+-- a proxy is in order: its maker establishes this, and each call and each meeting keeps it
 abbrev pub IsInOrder : ClientState → Type 0
 IsInOrder c = Keeps c.pass.part c.rear c.flushes c.released c.shut
 

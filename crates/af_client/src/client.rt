@@ -12,9 +12,9 @@ use std::marker::Model;
 
 /// The client's side of one control block: AOSP's `ClientProxy`.
 ///
-/// It keeps its own rear, so that a word that another party stores there changes nothing. Where it once saw a front that doesn't fit the block it is shut for good.
+/// It keeps its own rear, so that a word that another party stores there changes nothing. If it once saw a front that doesn't fit the block it is shut for good.
 ///
-/// Contracts see its pass, with the list of all events so far, and the kept values. A proxy is in order where these are the ones that the list gives. `with` makes it so, and each call and each meeting keeps it so.
+/// Contracts see its pass, with the list of all events so far, and the kept values. A proxy is in order if these are the ones that the list gives. `with` makes it so, and each call and each meeting keeps it so.
 #[derive(Drop)]
 pub struct Client {
     pub(crate) pass: ClientPass,

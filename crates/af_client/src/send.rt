@@ -50,7 +50,7 @@ impl Client {
 
     /// Sends a command on a command block: its code and its argument, as two frames that are released in one step.
     ///
-    /// A proxy that is shut answers Corrupt with the two words that shut it, and makes no step. Otherwise it loads the flags and then front, each in one step. Dead exactly where INVALID (0x04) is set. Corrupt exactly where the front seen doesn't fit the block, which a client that has not poked never sees. Full exactly where fewer than two frames have room.
+    /// A proxy that is shut answers Corrupt with the two words that shut it, and makes no step. Otherwise it loads the flags and then front, each in one step. Dead exactly if INVALID (0x04) is set. Corrupt exactly if the front seen doesn't fit the block, which a client that has not poked never sees. Full exactly if fewer than two frames have room.
     pub fn send<L: Ledger>(
         &mut self,
         block: &Block,

@@ -27,7 +27,7 @@ pub enum Wrote {
 impl Client {
     /// Releases the first of these frames, as many as there is room for before the last cell.
     ///
-    /// A proxy that is shut answers Corrupt with the two words that shut it, and makes no step. Otherwise it loads the flags and then front, each in one step. Dead exactly where INVALID (0x04) is set. Corrupt exactly where the front seen doesn't fit the block, which a client that has not poked never sees. Full exactly where all frames of the block are filled. Else Put: the frames go into their cells, and then rear is raised.
+    /// A proxy that is shut answers Corrupt with the two words that shut it, and makes no step. Otherwise it loads the flags and then front, each in one step. Dead exactly if INVALID (0x04) is set. Corrupt exactly if the front seen doesn't fit the block, which a client that has not poked never sees. Full exactly if all frames of the block are filled. Else Put: the frames go into their cells, and then rear is raised.
     pub fn write<L: Ledger>(
         &mut self,
         block: &Block,

@@ -14,7 +14,7 @@ const ONE: &str =
 const IDLE: &str =
     "version = 1\nframes = 2\nnormal = 1\ncycles = 100\n[[track]]\nkind = \"fast\"\nframes = 8\nchannels = 2\nfile = \"in.pcm\"\nops = [\"open\", \"start\"]\n";
 
-/// The same two frames by the rules of version 2.
+/// Two frames of one stereo track in one cycle, by the rules of version 2.
 const SECOND: &str =
     "version = 2\nframes = 2\nnormal = 1\ncycles = 100\nturns = [\"c 0\", \"n\", \"c 0\", \"f 1\"]\n[[track]]\nkind = \"fast\"\nframes = 8\nchannels = 2\nfile = \"in.pcm\"\nops = [\"open\", \"start\", \"write 2\"]\n";
 

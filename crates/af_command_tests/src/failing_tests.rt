@@ -13,7 +13,7 @@ type Failure<'a> = (u64, u64, u8, Option<usize>, &'a str);
 const DRAINED: &str =
     "version = 1\nframes = 2\nnormal = 1\ncycles = 100\nturns = [\"c 0\", \"n\", \"c 0\", \"f 1\", \"c 0\", \"n\", \"f 1\", \"n\", \"f 1\", \"n\", \"n\", \"c 0\"]\n[[track]]\nkind = \"fast\"\nframes = 8\nchannels = 2\nfile = \"in.pcm\"\nops = [\"open\", \"start\", \"yield\", \"write 4\", \"stop\", \"drain\"]\n";
 
-/// Its sound.
+/// The sound of the drained track.
 const HEARD: &[u8] = &[
     0, 0, 0, 0, 0, 0, 0, 0, 1, 0, 1, 0, 2, 0, 2, 0, 3, 0, 3, 0, 4, 0, 4, 0,
 ];
@@ -47,7 +47,7 @@ const LOOPS: &[Failure<'static>] = &[
     (0, 1, 5, Some(80), "cycles 2 fill"),
 ];
 
-/// Runs over the script and a file of so many bytes, of which calls fail, and whose sound is this where it is whole.
+/// Runs over the script and a file of so many bytes, of which calls fail, and whose sound is this if it is whole.
 fn expect_failures<R: Threads + Sync + Abort>(
     rt: &R,
     alloc: Global,

@@ -30,7 +30,7 @@ const FAILURES: &[GenerateFailure<'static>] = &[
     (1000, 1, 5, Some(402432), "cycles 1572 mixed 800000 dr"),
 ];
 
-/// The length of a file, None where it isn't there.
+/// The length of a file, None if it isn't there.
 fn length_of(store: &MemStore, name: &str) -> Option<usize> {
     match store.file(name) {
         Some(bytes) => Some(bytes.len()),
@@ -38,7 +38,7 @@ fn length_of(store: &MemStore, name: &str) -> Option<usize> {
     }
 }
 
-/// What is left of a file of so many bytes that one call makes and the next one fills, where one fails.
+/// What is left of a file of so many bytes that one call makes and the next one fills, if one fails.
 fn length_left(failing: u64, made: u64, length: usize) -> Option<usize> {
     match failing.saturating_sub(made) {
         0 => None,

@@ -16,7 +16,7 @@ abbrev pub is_ending : List Op → Bool
 is_ending (Stop ∷ Drain ∷ Remove ∷ []) = true
 is_ending _ = false
 
--- gains and writes, and then the end, where so many gains stand directly before
+-- gains and writes, and then the end, if so many gains stand directly before
 abbrev pub goes_on : ℕ → List Op → Bool
 goes_on gains (Gain left right ∷ ops) = nat_lt gains most_gains && goes_on (gains + 1) ops
 goes_on gains (Write count ∷ ops) = goes_on 0 ops
@@ -31,7 +31,7 @@ play_through _ = false
 abbrev pub portion : ScriptData → TrackSpec → ℕ
 portion script track = min track.frames (script.normal * script.frames)
 
--- the cost of an op in rounds: eight; of a write four, and four more for each portion that it has
+-- the cost of an op in rounds: eight, but for a write four, and four more for each portion that it has
 abbrev pub op_cost : ℕ → Op → ℕ
 op_cost q (Write count) = 4 + 4 * div_ceil count q
 op_cost q _ = 8

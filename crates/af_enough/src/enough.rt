@@ -62,7 +62,7 @@ fn portion(script: &Script, track: &TrackSpec) -> u64
     u64::from(track.frames).min(u64::from(script.normal()) * u64::from(script.frames()))
 }
 
-// The cost of an op: 8 rounds; of a write 4, and 4 more for each portion that it has.
+// The cost of an op: 8 rounds, but for a write 4, and 4 more for each portion that it has.
 fn op_cost(op: Op, portion: u64) -> u64
     requires { 1 ≤ portion }
     ensures cost { result ≡ op_cost portion op }
@@ -111,8 +111,8 @@ fn greatest_cost(script: &Script) -> u64
     greatest
 }
 
-/// The cycles that are enough for a script, where each of its tracks plays through: it is opened and started, then its gains and writes
-/// follow, at most 1024 gains directly one after another, then it is stopped, drained and removed. None where a track does something else.
+/// The cycles that are enough for a script, if each of its tracks plays through: it is opened and started, then its gains and writes
+/// follow, at most 1024 gains directly one after another, then it is stopped, drained and removed. None if a track does something else.
 pub fn enough_cycles(script: &Script) -> Option<u64>
     ensures value { result ≡ (if all_play_through script.now then Some (enough_for script.now) else None) }
     ensures enough { IfSome result (λ cycles. cycles ≤ script.now.cycles → HasEnoughCycles script.now) }

@@ -18,7 +18,7 @@ use Rattle.af_enough_law.specs.TrackTurns.{TrackTurned}
 use Rattle.af_enough_law.proofs.Following.{greeted_in, greeted_alike, noted_alike, legal_greeted}
 use Rattle.af_enough_law.proofs.Served.{track_turned}
 
--- ## What a report tells
+-- ## What a report says
 
 either_false : (b x y : Bool) → x ≡ false → y ≡ false → (if b then x else y) ≡ false
 either_false true x y e f = e
@@ -46,7 +46,7 @@ and_none : (b d : Bool) → d ≡ false → (b && d) ≡ false
 and_none true d e = e
 and_none false d e = refl
 
--- nor does it run dry
+-- a life with two retries doesn't run dry
 pub wet_any : (known : Known) (l : Life) → 2 ≤ l.retries → runs_dry known l ≡ false
 unfolding runs_dry
 wet_any known l two = and_none _ _ (and_none _ _ (none_told known l two))
@@ -65,7 +65,7 @@ module _ (n : ℕ) (few : n ≤ 50) where
   rows_keep [] code argument l h has = has
   rows_keep (row ∷ rows) code argument l h has = either_has _ (row.effect argument l) (effect_of rows code argument l) (h.0 argument l has) (rows_keep rows code argument l h.1 has)
 
-  -- no command lowers them
+  -- no command lowers the retries
   pub command_keeps : (code argument : ℕ) (l : Life) → Has l → Has (by_command code argument l)
   unfolding by_command
   command_keeps code argument l has = either_has l.ended l (effect_of commands code argument l) has (rows_keep commands code argument l
@@ -91,7 +91,7 @@ module _ (n : ℕ) (few : n ≤ 50) where
   looks_keep given flush_seen (look ∷ looks) s has = let t : TrackKept = after_look given flush_seen look s in
       let now = look_keeps given flush_seen look s has in either_kept (goes_on look t) (after_looks given flush_seen looks t) t (looks_keep given flush_seen looks t now) now
 
-  -- nor do all looks of a turn
+  -- the looks of a turn lower no retries
   pub commanded_keeps : (given : Option ℕ) (flush_seen : ℕ) (looks : List CommandLook) (s : TrackKept) → Has s.life → Has (commanded given flush_seen looks s).life
   commanded_keeps given flush_seen looks s has = either_kept (is_some s.awaits) s (after_looks given flush_seen looks s) has (looks_keep given flush_seen looks s has)
 

@@ -41,7 +41,7 @@ use Rattle.af_enough_law.proofs.TrackAble.{TrackAble, InMiddle, near_flows}
 use Rattle.af_enough_law.proofs.TrackCarried.{TrackCarried, able}
 use Rattle.af_enough_law.proofs.TrackGives.{home_parts}
 
--- a life that was told two commands plays
+-- a life that took two commands plays
 two_plays : (count k : ℕ) (l : Life) → k ≡ 2 → Course count k l → (l.ended ≡ false) × (stage l ≡ 0) × (plays l ≡ true)
 two_plays count k l is absent = absurd (let z : ⊥ = omega (arith, is) in z)
 two_plays count k l is idle = absurd (let z : ⊥ = omega (arith, is) in z)
@@ -98,7 +98,7 @@ module _ (s : Session) (marks : Marks) (scales : All (λ (x : Setting). x.scale 
     st : StreamRound s marks run round i t
     st = r.stream alive then_plays.0 low
 
-    -- one without a slot
+    -- a track without a slot goes on able
     pub home_goes : (track : TrackCarried run i most total) → (never : ((setting_of (setup_of s) i).fast ≡ false) ⊎ (1 ≤ track.on.told)) → (track_at run.normal.tracks i).slot ≡ None → HasNone i run.normal.last → HomeAble run i → TrackAble after i
     home_goes track never none out h =
         let p = home_parts s marks scales long small sizes run round legal c next legal_next i most total named lawful two track never none in
@@ -114,7 +114,7 @@ module _ (s : Session) (marks : Marks) (scales : All (λ (x : Setting). x.scale 
         can.home p.slot_then (last_holds s marks scales long run round legal c (HasNone i) k.some out (draft_none slot_turned))
         (home_able s marks run round i t legal (spec_of s i).frames (spec_of s i).base kept r st (kept.met alive low) plays_on (greeted_home t.turn.ack run.normal.last (track_at run.normal.tracks i) home) alive seen m.past m.most total m.stands under some_N some_buffer few h)
 
-    -- one that is lent
+    -- a track that is lent goes on able
     pub lent_goes : (slot : ℕ) (item : FastTrack) (track : TrackCarried run i most total) (l : LentCarried s run i slot item) → HeardOf run i slot → LentAble run i slot → TrackAble after i
     lent_goes slot item track l heard_of h = by (is_lent (track_at after.normal.tracks i).holder) refl
       where

@@ -1,4 +1,4 @@
--- A turn sees the last state acknowledged, where that was learnt at a meeting; then its push isn't busy.
+-- A turn sees the last state acknowledged, if that was learnt at a meeting; then its push isn't busy.
 use Rattle.std.proofs.Common.{◌≡◌, ◌⊎◌, inl, inr, ℕ, ◌+◌, ◌-◌, ◌≤◌, ◌<◌, ◌==◌, ◌&&◌, ◌||◌, if◌then◌else◌, Bool, true, false, true≢false, Option, Some, List, [], ◌∷◌, ◌++◌, length, take, drop, fold, refl, sym, ap, ◌∙◌, subst, arith, append_assoc, append-nil}
 use Rattle.std.proofs.lemmas.List.{take-append-le, take-append-drop}
 use Rattle.std.proofs.lemmas.Grind.{fold-append}
@@ -126,7 +126,7 @@ calls_queue : (round : RoundSeen) (run : Run) → (with_calls round run).queue �
 unfolding with_calls
 calls_queue round run = refl
 
--- what a turn adds to the mutator's list: a look, and another one where its push is busy
+-- what a turn adds to the mutator's list: a look, and another one if its push is busy
 record TurnList (m : NormalKept) (e : Turn) (before after : List (MutatorEvent Item)) : Type 0 where
   back : List (Option Item)
   rest : List (MutatorEvent Item)
@@ -172,7 +172,7 @@ by_bool : (A : Type 0) (b : Bool) → (b ≡ true → A) → (b ≡ false → A)
 by_bool A true f g = f refl
 by_bool A false f g = g refl
 
--- Where the normal mixer has learnt that the last state is acknowledged, its turn sees it so, and its push isn't busy
+-- If the normal mixer has learnt that the last state is acknowledged, its turn sees it so, and its push isn't busy
 pub turn_sees_ack : (cut : Bool) (s : Session) (marks : Marks) (run : Run) (round : RoundSeen) → LegalRound cut s marks run round → run.normal.ended ≡ false → KnowsAcked run → (t : TurnMade s marks run round) → (t.turn.ack ≡ true) × (t.turn.ended ≡ false → is_busy t.turn.push ≡ false)
 turn_sees_ack cut s marks run round legal runs knows t =
     let e : Turn = t.turn in

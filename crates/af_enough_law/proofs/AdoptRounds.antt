@@ -51,7 +51,7 @@ use Rattle.af_enough_law.proofs.FastFound.{plays_item}
 
 -- ## What is heard of a proxy that is away
 
--- where a report of this attachment says that the server is open, and the stream was open when the proxy was lent, it isn't heard to be shut
+-- if a report of this attachment says that the server is open, and the stream was open when the proxy was lent, it isn't heard to be shut
 pub away_heard : (own : Heard) (r : SlotReport) (g : TrackKept) → is_home g.holder ≡ false → (r.generation ≡ g.generation → r.shut ≡ false) → g.at_attach.known.shut ≡ false → (heard_by own r g).known.shut ≡ false
 unfolding heard_by
 away_heard own r g away says attach =
@@ -83,11 +83,11 @@ module _ (s : Session) (marks : Marks) (scales : All (λ (x : Setting). x.scale 
   there : i < length run.normal.tracks
   there = let a = c.stands.kept in omega (arith, a, named)
 
-  -- it is lent as before
+  -- the proxy is lent as before
   pub still_lending : IsLending s after i slot item
   still_lending = lent_still s marks scales long run round legal c.stands i named slot item l stays
 
-  -- the last state pushed goes on to play it
+  -- the last state pushed goes on to play the track
   pub last_then : Plays slot item after.normal.last
   last_then = by (is_busy t.turn.push) refl
     where
@@ -106,7 +106,7 @@ module _ (s : Session) (marks : Marks) (scales : All (λ (x : Setting). x.scale 
   some_is : (x y : FastState) → Some x ≡ Some y → x ≡ y
   some_is x y e = ap (λ (o : Option FastState). unwrap_or o x) e
 
-  -- a state that the turn pushes plays it
+  -- a state that the turn pushes plays the track
   pub pushed_plays : (k : ℕ) (x : FastState) → length run.states < k → state_of after.states k ≡ Some x → Plays slot item x
   pushed_plays k x above is = by (low_or k (length after.states))
     where
@@ -118,7 +118,7 @@ module _ (s : Session) (marks : Marks) (scales : All (λ (x : Setting). x.scale 
           let final = state_last after.states (cycle_frames s) after.normal.last some_then (round_last s marks run round legal c.stands.last) in
           subst (Plays slot item) (some_is after.normal.last x (sym final ∙ ap (λ (n : ℕ). state_of after.states n) (sym at) ∙ is)) last_then
 
-  -- so all states that the round may use play it
+  -- all states that the round may use play the track
   pub states_play : AllStates run after (Plays slot item)
   states_play = (some, λ k x high is. by k x is (le_cases (length run.states) k high))
     where
@@ -135,7 +135,7 @@ module _ (s : Session) (marks : Marks) (scales : All (λ (x : Setting). x.scale 
   track_is : item.track ≡ i
   track_is = ap (λ (x : FastTrack). x.track) l.item_is
 
-  -- its proxy takes part in the meeting
+  -- the track's proxy takes part in the meeting
   pub adopted_part : takes_part s after i ≡ true
   adopted_part =
       let low = acks_states s marks run round legal c.stands.going c.states in
@@ -157,7 +157,7 @@ module _ (s : Session) (marks : Marks) (scales : All (λ (x : Setting). x.scale 
   pub turn_adds : server_list (told_at (after_turn s run round) i).stream ≡ server_list (told_at (before_turn s run round) i).stream
   turn_adds = turn_leaves s marks run round t i low_run there goes away slot_next
 
-  -- From here on it is carried as one that flows
+  -- from the round on the track is carried as one that flows
   pub adopted_carried : CalmStream (told_at after i).stream.shape (client_list (told_at after i).stream) [] → LentCarried s after i slot item
   adopted_carried history =
       let told = plays_reported s marks run round i slot item legal (record { there = low_run; slot = l.low; item_is = track_is; states = states_play; fast_mixer = c.stands.going; knows_states = c.states; lent = turn_adds }) in

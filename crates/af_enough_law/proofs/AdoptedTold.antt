@@ -22,7 +22,7 @@ pub record ToldNow (run : Run) (track slot : ℕ) (item : FastTrack) : Type 0 wh
   pub told : IsTold run track slot item
   pub used : LastCarries run slot
 
--- some entries, of which the last one uses a state that plays it
+-- some entries, of which the last one uses a state that plays the track
 pub entries_tell : (s : Session) (track slot : ℕ) (item : FastTrack) (x : FastState) (k : ℕ) → slot < slots → item.track ≡ track → Plays slot item x → (es : List EntrySeen) (run : Run) → 1 ≤ length es → state_of run.states k ≡ Some x → last_used (with_cycles s es run).entries ≡ k
     → ToldNow (with_cycles s es run) track slot item
 entries_tell s track slot item x k low is p [] run some at last = absurd (let z : ⊥ = omega (arith, some) in z)
@@ -44,7 +44,7 @@ told_late s run round track slot item low t =
     let known : known_of (listed (told_at after track).stream) ≡ known_of (listed (told_at late track).stream) = ap (λ b. known_of (listed b)) o.whole ∙ known_quiet (told_at late track).stream (told_at met track).stream o.meeting in
     record { told = told_same late after track slot item g known t.told; used = last_same late after slot g t.used }
 
--- and what is told before a turn that does nothing to the server is told after it
+-- what is told before a turn that does nothing to the server is told after it
 pub told_turn : (s : Session) (run : Run) (round : RoundSeen) (track slot : ℕ) (item : FastTrack) → track < length run.tracks → server_list (told_at (after_turn s run round) track).stream ≡ server_list (told_at (before_turn s run round) track).stream
     → ToldNow (before_turn s run round) track slot item → ToldNow (after_turn s run round) track slot item
 told_turn s run round track slot item low lent t =

@@ -21,7 +21,7 @@ use Rattle.af_enough_law.proofs.Turning.{words_of, words_append, codes_append, s
 
 -- ## Numbers
 
--- a word lies as far past another one as its position does, where that is less than 2 ^ 32
+-- a word lies as far past another one as its position does, if that is less than 2 ^ 32
 pub ahead-far : (a b : ℕ) → a ≤ b → b < a + 2 ^ 32 → ahead (wrapped a) (wrapped b) ≡ b - a
 ahead-far a b low high = omega arith
 
@@ -96,7 +96,7 @@ came_next : (t : Track) (gains : ℕ) (ops : List Op) (most total : ℕ) → IsW
 came_next t gains ops most total way is few sum sent words codes = let b = next_op gains ops way in
     still b.due b.rest mode.Active (ap (λ (c : Client). begun c) is ∙ b.is) (record { doing = b.doing; few = (let same = b.ops_same in omega arith); sum = (let same = b.frames_same in omega arith); sent = sent; words = words; codes = codes ∙ sym b.codes })
 
--- at a full block
+-- a client that found its block full has filled it
 pub full_fills : (from most total asked front : ℕ) (t : Track) → AnswersOn t.stream asked (call.Full front) → SeesFrom from t (call.Full front) → position t.stream < from + 2 ^ 32 → from + t.stream.shape.frames ≤ position t.stream
 full_fills from most total asked front t answers sees low =
     let pos = position t.stream in
@@ -106,7 +106,7 @@ full_fills from most total asked front t answers sees low =
     let b = sees.3 in
     omega arith
 
--- by a write that puts some
+-- a write that puts some frames brings the client on
 put_advances : (from most total asked count left : ℕ) (t u : Track) (ops : List Op) (near : (from + t.stream.shape.frames ≤ position t.stream + count) ⊎ ((((position t.stream + count) % t.stream.shape.cells == 0) ≡ true) × (at_end t ≡ false)) ⊎ (left ≡ 0))
     → IsWay 0 ops → left + count ≡ asked → u.client ≡ at (want.Clear ∷ more left []) ops mode.Active → position u.stream ≡ position t.stream + count → u.stream.shape ≡ t.stream.shape → u.commands.released ≡ t.commands.released
     → Left t (want.Write asked ∷ []) ops mode.Active (suc most) total → Came u (suc most) total → Advanced from most total (rank (want.Write asked ∷ []) (at_end t)) u
@@ -128,7 +128,7 @@ all_or : {A B : Type 0} (asked count : ℕ) (left : ℕ) → left + count ≡ as
 all_or asked count zero sum near = inr (inr refl)
 all_or {A} {B} asked count (suc k) sum near = elim (near (omega arith)) as (λ _. A ⊎ B ⊎ (suc k ≡ 0)) [ inl a ↦ inl a | inr b ↦ inr (inl b) ]
 
--- where a write saw the front
+-- what is known if a write saw the front
 put_sees : (from asked front count : ℕ) (t : Track) → IsBlock t → AnswersOn t.stream asked (call.Put front count) → SeesFrom from t (call.Put front count) → position t.stream < from + 2 ^ 32 → count < asked
     → (from + t.stream.shape.frames ≤ position t.stream + count) ⊎ ((((position t.stream + count) % t.stream.shape.cells == 0) ≡ true) × (at_end t ≡ false))
 put_sees from asked front count t block answers sees low less =
@@ -183,7 +183,7 @@ module _ (from most total : ℕ) (t : Track) (block : IsBlock t) (low : total < 
             filled (omega arith) (call_made t (want.Write asked ∷ []) ops mode.Active (suc most) total (want.Write asked) a is l wants h f)) made fair sees
       ]
 
-  -- one call of a client among its gains and writes
+  -- a call of a client among its gains and writes brings it on
   advance : (w : Want) (wants : List Want) (ops : List Op) (m : Mode) (answer : ClientCall) → Doing (w ∷ wants) ops m → begun t.client ≡ at (w ∷ wants) ops m → Left t (w ∷ wants) ops m (suc most) total
       → wanted_of t ≡ Some w → IsMade t w answer → IsFair answer → SeesFrom from t answer → 1 ≤ rank (w ∷ wants) (at_end t) → Advanced from most total (rank (w ∷ wants) (at_end t)) (after_call t answer)
   unfolding rank

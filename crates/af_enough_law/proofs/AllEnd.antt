@@ -52,7 +52,7 @@ all_end s run round many both = each_one (has_ended s (after_round s run round))
     clients : (track : ℕ) → track < track_count s → (told_at (after_round s run round) track).client.ended ≡ true
     clients track lt = client_ends met_run track (let long = round_long s run round in let same = ends_long met_run in omega (arith, lt, many, long, same)) ended
 
--- and so after some rounds
+-- after some rounds that leave both mixers ended, all parties have
 pub rounds_end : (s : Session) (run : Run) (rounds : List RoundSeen) → 1 ≤ length rounds → track_count s ≤ length run.tracks → BothEnded (run_from s run rounds) → all_ended s (run_from s run rounds) ≡ true
 rounds_end s run [] some many both = absurd (let z : ⊥ = omega (arith, some) in z)
 rounds_end s run (round ∷ []) some many both = all_end s run round many both

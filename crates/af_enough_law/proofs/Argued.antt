@@ -17,7 +17,7 @@ use Rattle.af_enough_law.proofs.Turning.{words_of, words_append, spoken_after}
 
 -- ## Commands and their arguments
 
--- a STOP, or without an argument
+-- a command is a STOP, or has no argument
 abbrev pub is_argued : ℕ × ℕ → Bool
 is_argued sent = (sent.0 == 4) || (sent.1 == 0)
 

@@ -61,15 +61,15 @@ module _ (cut : Bool) (s : Session) (marks : Marks) (run : Run) (round : RoundSe
   pub looks_open : none_shut (track_in t.turn i).looks ≡ true
   looks_open = opens.0
 
-  -- and it stays so
+  -- the command block stays open
   pub open_then : StaysOpen (after_round s run round) i
   open_then = record { keeps = keeps_then; few = ap (λ (b : BlockTold). b.shape.frames) same_commands ∙ few_then; is_open = subst IsOpen (sym same_commands) opens.1 }
 
-  -- its stream's server stays calm, where its lists lie in a later history
+  -- the server of the track's stream stays calm, if its lists lie in a later history
   pub calm_then : Foreseen u.stream → IsQuiet (told_at run i).stream.shape (server_list (told_at run i).stream) → IsQuiet u.stream.shape (server_list u.stream)
   calm_then seen quiet = quiet_after cut s marks run round i named.low legal seen (λ e is. let same : t.turn ≡ e = ap (λ (x : Option Turn). unwrap_or x t.turn) (sym t.is ∙ is) in subst (λ (e : Turn). none_shut (track_in e i).looks ≡ true) same looks_open) quiet
 
-  -- so the round is one that is judged later, where its turn doesn't hear that the stream is shut
+  -- the round is one that is judged later, if its turn doesn't hear that the stream is shut
   pub away_turn : Foreseen u.stream → IsQuiet (told_at run i).stream.shape (server_list (told_at run i).stream) → 2 ≤ (track_at run.normal.tracks i).life.retries
       → ((greeted_in run.normal t.turn i).life.ended ≡ false → (heard (learnt t.by.outside) i (greeted_in run.normal t.turn i)).known.shut ≡ false) → AwayTurn s marks run round i t
   away_turn seen quiet two unshut = record {

@@ -44,7 +44,7 @@ tail_of said _ (learns n) = (client.Learn n ∷ [], refl)
 pub said_then : (s : Session) (run : Run) (round : RoundSeen) (i : ℕ) → i < length run.tracks → (more : List ClientEvent) × (client_list (told_at (after_round s run round) i).stream ≡ said_by run round i ++ more)
 said_then s run round i low = tail_of (said_by run round i) (client_list (told_at (after_round s run round) i).stream) (may_learn s run round i low)
 
--- and what it had said before
+-- what a client had said before stands in its list after the round
 pub said_on : (s : Session) (run : Run) (round : RoundSeen) (i : ℕ) → i < length run.tracks → (more : List ClientEvent) × (client_list (told_at (after_round s run round) i).stream ≡ client_list (told_at run i).stream ++ more)
 said_on s run round i low =
     let more = stream_grows (sides_of (told_at run i)) (calls_in round i) in
@@ -62,7 +62,7 @@ pub record AwayTrack (run : Run) (i most total : ℕ) : Type 0 where
 abbrev pub away_of : (run : Run) (i most total : ℕ) → TrackCarried run i most total → AwayTrack run i most total
 away_of run i most total c = record { known_stream = c.known_stream; known_commands = c.known_commands; calm = c.calm; stands = c.stands; on = c.on }
 
--- what a round makes of it
+-- what a round makes of a track whose proxy may be on its way
 pub record AwayGone (s : Session) (marks : Marks) (run : Run) (round : RoundSeen) (i most total : ℕ) (t : TurnMade s marks run round) (told : ℕ) (known : List ServerEvent) : Type 0 where
   pub carried : AwayTrack (after_round s run round) i most total
   pub gone : CourseGone s marks run round i t told
@@ -78,7 +78,7 @@ pub record AwayTurn (s : Session) (marks : Marks) (run : Run) (round : RoundSeen
   pub quiet : IsQuiet (told_at (after_round s run round) i).stream.shape (server_list (told_at (after_round s run round) i).stream)
 
 module _ (cut : Bool) (s : Session) (marks : Marks) (run : Run) (round : RoundSeen) (i : ℕ) (t : TurnMade s marks run round) (legal : LegalRound cut s marks run round) (away : AwayTurn s marks run round i t) where
-  -- its hand stays calm
+  -- the hand of the track stays calm
   pub away_hands : are_hands_calm (hand_list (told_at run i).stream) ≡ true → are_hands_calm (hand_list (told_at (after_round s run round) i).stream) ≡ true
   away_hands calm = round_hands s run round i away.turn.low (λ e is. let same : t.turn ≡ e = ap (λ (o : Option Turn). unwrap_or o t.turn) (sym t.is ∙ is) in subst (λ (e : Turn). (track_in e i).disabled ≡ false) same able) calm
     where
@@ -89,7 +89,7 @@ module _ (cut : Bool) (s : Session) (marks : Marks) (run : Run) (round : RoundSe
     calm_commands : CalmCommands run i c.known_commands
     calm_commands = commands_of run i c.known_stream c.known_commands c.calm
 
-    -- all that its client is answered is fair
+    -- all that the track's client is answered is fair
     pub away_fair : AreFair (calls_in round i)
     away_fair = all_fair cut s marks run round i t legal c.known_commands calm_commands away.turn c.known_stream stream c.calm.knew_stream most total c.stands
 
@@ -131,7 +131,7 @@ module _ (cut : Bool) (s : Session) (marks : Marks) (run : Run) (round : RoundSe
           flushless = commands.flushless;
         }
 
-    -- Such a round keeps what is carried of the track
+    -- A round that is judged later keeps what is carried of the track
     pub away_gone : AwayGone s marks run round i most total t c.on.told c.known_stream
     away_gone = let gone : CourseGone s marks run round i t c.on.told = away_course in record {
       carried = record { known_stream = c.known_stream; known_commands = away_known; calm = away_calm; stands = away_stands; on = gone.after };
@@ -181,7 +181,7 @@ module _ (cut : Bool) (s : Session) (marks : Marks) (i : ℕ) where
     pub same : carried.known_stream ≡ known
     pub told_on : told ≤ carried.on.told
 
-  -- Where the client's list after such rounds stands in a calm history, all of it is carried over them
+  -- If the client's list after such rounds stands in a calm history, all of the track is carried over them
   pub away_carried : (rounds : List RoundSeen) (run : Run) (most total : ℕ) → AwayRounds cut s marks i run rounds → (c : AwayTrack run i most total) → (k : Shape) → (told_at run i).stream.shape ≡ k → CalmStream k (client_list (told_at (run_from s run rounds) i).stream) c.known_stream
       → AwayCarried (run_from s run rounds) most total c.known_stream c.on.told
   away_carried [] run most total away c k shape stream = record { carried = c; same = refl; told_on = omega arith }
@@ -208,7 +208,7 @@ module _ (cut : Bool) (s : Session) (marks : Marks) (i : ℕ) where
 
 -- ## The meeting after them
 
--- nothing was done yet
+-- before the first of such rounds nothing was done
 pub remains_first : (run : Run) (i most total : ℕ) → TrackCarried run i most total → Remains run run i
 remains_first run i most total c = record {
   keeps = keeps_of run i c.known_stream c.known_commands c.calm;
@@ -217,7 +217,7 @@ remains_first run i most total c = record {
   hands = c.calm.stream_hands;
 }
 
--- its client knows of the stream's server all that it took, once its proxy took part in a meeting
+-- a client knows of the stream's server all that it took, once its proxy took part in a meeting
 pub renewed : (s : Session) (run : Run) (round : RoundSeen) (i most total : ℕ) → i < length run.tracks → takes_part s (met_after s run round) i ≡ true → (c : AwayTrack (after_round s run round) i most total) → (fresh : TrackCarried (after_round s run round) i most total) × (fresh.on ≡ c.on)
 renewed s run round i most total low part c =
     let lists = stream_lists s run round i low part in

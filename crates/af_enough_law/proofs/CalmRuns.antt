@@ -69,7 +69,7 @@ module _ (cut : Bool) (s : Session) (marks : Marks) (run : Run) (round : RoundSe
   calls_fair (on due ops m is left) = (fair_round cut s marks run round i turn.low turn.named legal calm.spelled calm.pokeless known_stream known_commands (calm_round cut s marks run round i t turn legal known_stream known_commands calm able) due ops m most total is left).0
   calls_fair (gone_for_good ended sent words codes) = ended_calls (sides_of (told_at run i)) (calls_in round i) (told_at run i).client.ended ended (legal.turns.clients i turn.named)
 
-  -- its lists are calm after the round
+  -- the lists of the track are calm after the round
   pub goes_calm : Stands (sides_of (told_at run i)) most total
       → CalmTrack (after_round s run round) i (known_stream_then cut s marks run round i t turn legal known_stream known_commands calm) (known_commands_then cut s marks run round i t turn legal known_stream known_commands calm)
   goes_calm stands = calm_then cut s marks run round i t turn legal known_stream known_commands calm able (calls_fair stands)

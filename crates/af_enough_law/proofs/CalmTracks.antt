@@ -1,4 +1,4 @@
--- From round to round the lists of a track that plays through stay calm, where it is never disabled and its stream is never heard to be shut.
+-- From round to round the lists of a track that plays through stay calm, if it is never disabled and its stream is never heard to be shut.
 use Rattle.std.proofs.Common.{◌≡◌, inr, ℕ, ◌≤◌, ◌<◌, Bool, true, false, true≢false, Option, Some, None, unwrap_or, List, [], ◌∷◌, ◌++◌, length, take, fold, refl, sym, ap, ◌∙◌, subst, arith, append_assoc, append-nil}
 use Rattle.af_base.specs.declared.event.ClientCall.{ClientCall}
 use Rattle.af_base.specs.declared.event.ClientEvent.{ClientEvent}
@@ -212,7 +212,7 @@ module _ (cut : Bool) (s : Session) (marks : Marks) (run : Run) (round : RoundSe
   pub commands_then : are_calm (server_list u.commands) ≡ true
   commands_then = ap (λ (b : BlockTold). are_calm (server_list b)) same_commands ∙ commands_calm s marks run round t i turn.low turn.there opens.0 turn.unshut opens.1.none calm.commands
 
-  -- Such a round is calm, where it doesn't disable the track
+  -- Such a round is calm, if it doesn't disable the track
   pub calm_round : (track_in t.turn i).disabled ≡ false → CalmRound s run round i known_stream known_commands
   calm_round able =
       let grown = round_grows s run round i turn.low in
@@ -244,7 +244,7 @@ module _ (cut : Bool) (s : Session) (marks : Marks) (run : Run) (round : RoundSe
   pub known_commands_then : List ServerEvent
   known_commands_then = (command_lists s run round i turn.low).did
 
-  -- which is all that the stream's server took
+  -- what is known is all that the stream's server took
   pub known_all : frames_taken known_stream_then ≡ frames_taken (server_list u.stream)
   unfolding known_stream_then
   known_all =
@@ -253,7 +253,7 @@ module _ (cut : Bool) (s : Session) (marks : Marks) (run : Run) (round : RoundSe
       let sum = taken-append stream.did (server.Learn stream.count ∷ []) in
       omega (arith, is, sum)
 
-  -- And where the client's calls were fair, its lists are calm after the round
+  -- If the client's calls were fair, the track's lists are calm after the round
   pub calm_then : (track_in t.turn i).disabled ≡ false → AreFair (calls_in round i) → CalmTrack (after_round s run round) i known_stream_then known_commands_then
   unfolding known_stream_then known_commands_then
   calm_then able fair =

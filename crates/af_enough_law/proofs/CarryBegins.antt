@@ -40,7 +40,7 @@ use Rattle.af_enough_law.specs.Playing.{position, way_ops, way_frames}
 use Rattle.af_enough_law.proofs.TrackCarried.{TrackCarried}
 use Rattle.af_enough_law.proofs.Turning.{on}
 
--- as many settings as tracks
+-- a session has as many settings as tracks
 pub settings_long : (s : Session) → length (setup_of s).settings ≡ track_count s
 settings_long s = length-map s.script.tracks spec_setting
 

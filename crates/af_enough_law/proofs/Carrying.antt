@@ -38,13 +38,13 @@ use Rattle.af_enough_law.proofs.TrackCarried.{TrackCarried, TrackGone}
 
 -- how a track is between two rounds
 pub data TrackIs (s : Session) (run : Run) (i most total : ℕ) : Type 0 where
-  -- it is mixed by the normal mixer: it has no slot and never gets one, since it isn't fast or was opened when none was free, and its proxy is always home
+  -- the normal mixer mixes the track: it has no slot and never gets one, since it isn't fast or was opened when none was free, and its proxy is always home
   slotless : (track : TrackCarried run i most total) → ((setting_of (setup_of s) i).fast ≡ false) ⊎ (1 ≤ track.on.told) → (track_at run.normal.tracks i).slot ≡ None → TrackIs s run i most total
-  -- its proxy is lent, and it flows by the fast mixer
+  -- the track's proxy is lent, and the track flows by the fast mixer
   lent : (slot : ℕ) (item : FastTrack) → TrackCarried run i most total → LentCarried s run i slot item → TrackIs s run i most total
-  -- it has left the mix, and its client has only its REMOVE to send, or is gone
+  -- the track has left the mix, and its client has only its REMOVE to send, or is gone
   stopped : (slot : ℕ) (item : FastTrack) → slot < slots → item.track ≡ i → (track_at run.normal.tracks i).slot ≡ Some slot → StoppedCarried run i most total → Place s run i slot item → TrackIs s run i most total
-  -- it is over: its life has ended, whatever its stream was found to be and its client is answered
+  -- the track is over: its life has ended, whatever its stream was found to be and its client is answered
   gone_over : IsOver run i → TrackIs s run i most total
 
 -- All that is carried of a run. `most` bounds the ops that are left of a track, and `total` the frames that its client has left and its position
@@ -134,7 +134,7 @@ module _ (s : Session) (marks : Marks) (scales : All (λ (x : Setting). x.scale 
         settled = inl (ap (λ (m : NormalKept). (track_at m.tracks i).life.ended) t.after ∙ ap (λ (l : Life). l.ended) (over_life (setup_of s) (learnt t.by.outside) run.normal t.turn i there runs h.life) ∙ h.life);
       }
 
-  -- it takes one of its retries at most
+  -- a round takes one of a track's retries at most
   pub retries_on : (i most total n : ℕ) → i < track_count s → marks.commands i ≡ true → 1 ≤ n → n + 1 ≤ (track_at run.normal.tracks i).life.retries → n + 1 ≤ 50 → TrackIs s run i most total → n ≤ (track_at after.normal.tracks i).life.retries
   retries_on i most total n named lawful one some few is = by (track_on i most total named lawful (omega (arith, one, some)) is).course
     where
@@ -142,7 +142,7 @@ module _ (s : Session) (marks : Marks) (scales : All (λ (x : Setting). x.scale 
       by (inl gone) = retries_gone s marks run round i gone.0 n t gone.1 some few
       by (inr same) = let r = ap (λ (l : Life). l.retries) same in omega (arith, r, some)
 
--- A legal round that is followed by another one keeps all that is carried, where each track has two retries before it and not all is over after it
+-- A legal round that is followed by another one keeps all that is carried, if each track has two retries before it and not all is over after it
 pub carried_on : (s : Session) (marks : Marks) → All (λ (x : Setting). x.scale ≤ 4096) (setup_of s).settings → length (setup_of s).settings ≡ track_count s → ((i : ℕ) → i < track_count s → marks.commands i ≡ true) → (run : Run) (round next : RoundSeen) (most total : ℕ → ℕ)
     → LegalRound false s marks run round → LegalRound false s marks (after_round s run round) next → ((i : ℕ) → i < track_count s → 2 ≤ (track_at run.normal.tracks i).life.retries) → is_over (after_round s run round).normal.tracks ≡ false
     → Carried s run most total → Carried s (after_round s run round) most total

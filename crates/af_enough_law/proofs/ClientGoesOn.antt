@@ -45,7 +45,7 @@ ends_normal : (b : Bool) (run : Run) → (if b then each_track (λ track t. reco
 ends_normal true run = refl
 ends_normal false run = refl
 
--- where the normal mixer goes on no client is ended
+-- if the normal mixer goes on, no client is ended
 still_met : (run : Run) → (with_ends run).normal.ended ≡ false → with_ends run ≡ run
 unfolding with_ends
 still_met run going = still_if run.normal.ended run (ap (λ m. m.ended) (sym (ends_normal run.normal.ended run)) ∙ going)
@@ -105,7 +105,7 @@ pub mixer_goes : (s : Session) (marks : Marks) (run : Run) (round : RoundSeen) (
 mixer_goes s marks run round t runs = ap (λ (m : NormalKept). m.ended) t.after
     ∙ turn_going (setup_of s) (learnt t.by.outside) run.normal t.turn runs (or_left run.normal.ended (is_exit run.normal.last && t.turn.ack) (sym t.by.legal.ends ∙ runs))
 
--- ## What it has done
+-- ## What the client has done
 
 pub learn_position : (k : Shape) (events : List ClientEvent) (n : ℕ) → (client_kept k.frames k.base (events ++ client.Learn n ∷ [])).position ≡ (client_kept k.frames k.base events).position
 learn_position k events n = ap (λ (x : ClientKept). x.position) (fold-append (client_keeps k.frames) (client_begins k.base) events (client.Learn n ∷ []))
@@ -138,7 +138,7 @@ module _ (cut : Bool) (s : Session) (marks : Marks) (run : Run) (round : RoundSe
       (λ j. (client_kept (shape j).frames (shape j).base (lists.client j)).position) ∙ learn_position k said (length lists.did)
       ∙ ap (λ (x : Shape). (client_kept x.frames x.base said).position) (sym shapes.0)
 
-  -- Its client is on its way after the round, with no more to do than before, or gone once all was sent
+  -- The track's client is on its way after the round, with no more to do than before, or gone once all was sent
   pub goes_on_way : Stands (sides_of (told_at run i)) most total → Stands (sides_of (told_at (after_round s run round) i)) most total
   goes_on_way stands =
       carried (after_calls before (calls_in round i)) (sides_of (told_at (after_round s run round) i)) most total (client_after s run round i turn.low (mixer_goes s marks run round t turn.runs)) same_position (round_released s run round i turn.low) (calls_stand stands)

@@ -1,4 +1,4 @@
--- A legal round, seen by one client: where its blocks stay calm its turn is fair, leaves it on its way, and brings it on.
+-- A legal round, seen by one client: if its blocks stay calm its turn is fair, leaves it on its way, and brings it on.
 use Rattle.std.proofs.Common.{◌≡◌, ℕ, suc, ◌+◌, ◌^◌, ◌≤◌, ◌<◌, Bool, true, false, MatchBool, List, [], ◌∷◌, ◌++◌, length, fold, refl, sym, ap, ◌∙◌, subst, arith, true≢false}
 use Rattle.af_base.specs.declared.event.ClientEvent.{ClientEvent}
 use Rattle.af_base.specs.declared.event.ClientEvent.TheVariants as client
@@ -29,7 +29,7 @@ use Rattle.af_enough_law.proofs.RunTame.{played_client_list, round_pokeless}
 use Rattle.af_enough_law.proofs.RunTracks.{played_track, round_blocks, met_track}
 use Rattle.af_enough_law.proofs.Turning.{Left, Stands, begins_ended, turn_stands}
 
--- a meeting in which the server takes part tells the client how much it did
+-- in a meeting in which the server takes part the client learns how much it did
 tail_met : (there hands : Bool) (b : BlockTold) → there ≡ true → client_list (stream_met there hands b) ≡ client_list b ++ client.Learn (length (server_list b)) ∷ []
 tail_met true true b h = refl
 tail_met true false b h = refl
@@ -141,7 +141,7 @@ module _ (cut : Bool) (s : Session) (marks : Marks) (run : Run) (round : RoundSe
       → Stands (after_calls (sides_of (told_at run i)) (calls_in round i)) most total
   stays_on due ops m most total is left = let fair = fair_round due ops m most total is left in turn_stands (sides_of (told_at run i)) (calls_in round i) due ops m most total is left fair.2 fair.0
 
-  -- And among its gains and writes it did an op, or has put up to all that the block holds past what was known to be taken
+  -- Among its gains and writes the client did an op, or has put up to all that the block holds past what was known to be taken
   pub comes_on : (due : List Want) (ops : List Op) (m : Mode) (most total : ℕ) → IsBlock (sides_of (told_at run i)) → total < (told_at run i).stream.shape.base + frames_taken known_stream + 2 ^ 32 → begun (told_at run i).client ≡ at due ops m
       → Left (sides_of (told_at run i)) due ops m (suc most) total → 1 ≤ rank due (at_end (sides_of (told_at run i))) → rank due (at_end (sides_of (told_at run i))) ≤ 64
       → Progress ((told_at run i).stream.shape.base + frames_taken known_stream) most total (fold after_call (sides_of (told_at run i)) (calls_in round i))

@@ -1,4 +1,4 @@
--- A legal round leaves the server of a command block calm, where no look finds it shut and the stream isn't heard to be.
+-- A legal round leaves the server of a command block calm, if no look finds it shut and the stream isn't heard to be.
 use Rattle.std.proofs.Common.{◌≡◌, ℕ, ◌+◌, ◌*◌, ◌%◌, ◌<◌, ◌==◌, ◌&&◌, ◌||◌, not, if◌then◌else◌, Bool, true, false, true≢false, Option, Some, None, MatchBool, is_some, List, [], ◌∷◌, ◌++◌, length, refl, sym, ap, ◌∙◌, arith}
 use Rattle.af_base.specs.declared.event.ServerEvent.{ServerEvent}
 use Rattle.af_base.specs.declared.event.ServerEvent.TheVariants as server
@@ -46,7 +46,7 @@ drops_split : (xs ys : List ServerEvent) → drops_none (xs ++ ys) ≡ true → 
 drops_split [] ys h = (refl, h)
 drops_split (x ∷ xs) ys h = let rest = drops_split xs ys (both_right (keeps_all x) (drops_none (xs ++ ys)) h) in (both_are (keeps_all x) (drops_none xs) (both_left (keeps_all x) (drops_none (xs ++ ys)) h) rest.0, rest.1)
 
--- events that are calm where they drop nothing
+-- events that are calm if they drop nothing
 abbrev CalmUndropped : List ServerEvent → Type 0
 CalmUndropped es = drops_none es ≡ true → are_calm es ≡ true
 
@@ -120,7 +120,7 @@ track_status_calm given h seen s r false e served looks unshut =
 
 -- ## The round
 
--- what a turn adds is calm where it drops nothing, no look finds the block shut, and the stream isn't heard to be
+-- what a turn adds is calm if it drops nothing, no look finds the block shut, and the stream isn't heard to be
 list_calm : (c : Setup) (o : Outside) (m : NormalKept) (e : Turn) (i : ℕ) → (e.ended ≡ false → are_calm (status_events (track_in e i).status) ≡ true) → (e.ended ≡ false → invalid (learnt o) (track_in e i) (tracks_at c (learnt o) m e i) i ≡ []) → CalmUndropped (command_list c o e (tracks_at c (learnt o) m e i) i)
 list_calm c o m e i status valid = by e.ended refl
   where
@@ -132,7 +132,7 @@ list_calm c o m e i status valid = by e.ended refl
         let words : List ServerEvent = status_events (track_in e i).status in
         undropped_both (looks ++ flags) words (undropped_both looks flags (undropped_looks (track_in e i).looks (o.command_fronts i) (o.commands i)) (λ h. ap are_calm (valid runs))) (λ h. status runs) h
 
--- no INVALID where the greeted track isn't heard to be shut
+-- no INVALID is set if the greeted track isn't heard to be shut
 greeted_valid : (c : Setup) (k : Learnt) (m : NormalKept) (e : Turn) (i : ℕ) → i < length m.tracks → none_shut (track_in e i).looks ≡ true → ((greeted_in m e i).life.ended ≡ false → (heard k i (greeted_in m e i)).known.shut ≡ false)
     → invalid k (track_in e i) (tracks_at c k m e i) i ≡ []
 greeted_valid c k m e i there looks unshut =
@@ -146,7 +146,7 @@ greeted_valid c k m e i there looks unshut =
     by false true is = absurd (true≢false (is refl))
     by false false is = refl
 
--- A legal round leaves the server of a command block calm, where nothing is dropped, no look finds the block shut, and the stream of a track that hasn't ended isn't heard to be
+-- A legal round leaves the server of a command block calm, if nothing is dropped, no look finds the block shut, and the stream of a track that hasn't ended isn't heard to be
 pub commands_calm : (s : Session) (marks : Marks) (run : Run) (round : RoundSeen) (t : TurnMade s marks run round) (i : ℕ) → i < length run.tracks → i < length run.normal.tracks → none_shut (track_in t.turn i).looks ≡ true
     → ((greeted_in run.normal t.turn i).life.ended ≡ false → (heard (learnt t.by.outside) i (greeted_in run.normal t.turn i)).known.shut ≡ false) → drops_none (server_list (told_at (met_after s run round) i).commands) ≡ true
     → are_calm (server_list (told_at run i).commands) ≡ true → are_calm (server_list (told_at (met_after s run round) i).commands) ≡ true

@@ -59,7 +59,7 @@ old_word : (k : Shape) (kept asked flush rear front : ℕ) → flush ≡ kept
 old_word k kept asked flush rear front same =
     ap (λ (b : Bool). if not b && (k.wrap == 0 || not (nat_lt k.frames (ahead front rear))) then seen.Flushed (dropped_by k.wrap flush rear front) else if nat_lt k.frames (ahead front rear) then seen.Shut front rear else if rear == front then seen.Empty else seen.Frames (min asked (ahead front rear))) (eq-eqb flush kept same)
 
--- the answer of a look for a command, where so many frames were released and consumed
+-- the answer of a look for a command, if so many frames were released and consumed
 pub data Shown (consumed released : ℕ) : Seen → Type 0 where
   empty : released ≡ consumed → Shown consumed released seen.Empty
   halved : released ≡ consumed + 1 → Shown consumed released (seen.Frames 1)
@@ -100,7 +100,7 @@ shown_at k flush kept_flush rear front c r few same front_is rear_is low high =
 
 -- ## One look
 
--- what a look takes of a command block: it isn't shut, takes the two words of a command where there is one, and else all but maybe one word that had been learnt of was taken
+-- what a look takes of a command block: it isn't shut, takes the two words of a command if there is one, and else all but maybe one word that had been learnt of was taken
 pub record LookTaken (k : Shape) (cs : List ClientEvent) (before : List ServerEvent) (look : CommandLook) (events : List ServerEvent) : Type 0 where
   pub open_is : is_shut look.seen ≡ false
   pub none : drops_none (before ++ events) ≡ true
@@ -182,7 +182,7 @@ one_look k cs all before look front behind h whole no_drops unshut legal =
 
 -- ## All looks of a turn
 
--- what the looks of a turn take of a command block: none is shut, the words of the commands, and where they end with a look that shows none, all but maybe one word that had been learnt of was taken
+-- what the looks of a turn take of a command block: none is shut, the words of the commands, and if they end with a look that shows none, all but maybe one word that had been learnt of was taken
 pub record LooksTaken (k : Shape) (cs : List ClientEvent) (before : List ServerEvent) (looks : List CommandLook) (events : List ServerEvent) : Type 0 where
   pub open_is : none_shut looks ≡ true
   pub none : drops_none (before ++ events) ≡ true

@@ -254,15 +254,15 @@ module _ (s : Session) (marks : Marks) (run : Run) (round : RoundSeen) (t : Turn
     words_follow = ap (λ (b : BlockTold). b.taken) after_is ∙ ap (λ (b : BlockTold). b.taken) played_is
         ∙ (λ j. calls_taken j ++ (if runs j then [] else words_taken looks))
 
-    -- and all that were taken begin those released
+    -- all words that were taken begin those released
     pub words_begin : (n : ℕ) × (after.taken ≡ take n after.released)
     words_begin = taken_begins k (client_list after) after.released (server_list after) after.taken (hand_list after) ((legal.histories.blocks i here).commands refl tame) commands_open.1.none
 
-    -- what its server took is counted
+    -- what the server of the command block took is counted
     pub commands_counted : frames_taken (server_list after) ≡ frames_taken (server_list before) + length (words_taken looks)
     commands_counted = same_taken ∙ taken_then.taken
 
-    -- as many words are taken as its looks took
+    -- as many words are taken as the looks of the turn took
     pub words_counted : frames_taken (server_list after) ≡ frames_taken (server_list before) + length (words_taken looks)
     words_counted = same_taken ∙ taken_then.taken
 

@@ -41,7 +41,7 @@ use Rattle.af_enough_law.proofs.SeenBlocks.{frames_put-append}
 
 -- ## What is carried of a command block
 
--- its lists are calm, its client knows so much of its server, and neither of the track's blocks was poked or flushed
+-- the lists of the command block are calm, its client knows so much of its server, and neither of the track's blocks was poked or flushed
 pub record CalmCommands (run : Run) (i : ℕ) (known : List ServerEvent) : Type 0 where
   pub calm : are_calm (server_list (told_at run i).commands) ≡ true
   pub hands : are_hands_calm (hand_list (told_at run i).commands) ≡ true
@@ -193,7 +193,7 @@ module _ (cut : Bool) (s : Session) (marks : Marks) (run : Run) (round : RoundSe
   pub known_then : List ServerEvent
   known_then = (command_lists s run round i turn.low).did
 
-  -- where the client's calls were fair, all of it is carried on
+  -- if the client's calls were fair, all of the command block is carried on
   pub commands_go : AreFair (calls_in round i) → CalmCommands (after_round s run round) i known_then
   unfolding known_then
   commands_go fair =

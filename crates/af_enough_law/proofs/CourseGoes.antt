@@ -54,7 +54,7 @@ course_ended count j more c o m e i lt runs goes f gone words =
       life = last.life ∙ ed.life ∙ ap (λ (x : TrackKept). x.life) at ∙ first.life ∙ sym (on_true Life s.life.ended s.life (by_report (heard k i g).known (told_words (course count j more) s.life)) gone);
     }
 
--- A legal turn leaves a track that has two retries on its course, where its looks take the next commands and no block is shut
+-- A legal turn leaves a track that has two retries on its course, if its looks take the next commands and no block is shut
 pub course_turn : (count j more : ℕ) (c : Setup) (o : Outside) (m : NormalKept) (e : Turn) (i : ℕ) → i < length m.tracks → e.ended ≡ false → GoesOn c o m e → Follows count j (track_at m.tracks i) → j + more ≤ 4
     → none_shut (track_in e i).looks ≡ true → words_taken (track_in e i).looks ≡ course count j more → ((greeted_in m e i).life.ended ≡ false → (heard (learnt o) i (greeted_in m e i)).known.shut ≡ false) → 2 ≤ (track_at m.tracks i).life.retries
     → GoesFar count (j + more) (life_after (heard (learnt o) i (greeted_in m e i)) (course count j more) (track_at m.tracks i).life) (track_at (turn_after c (learnt o) m e).tracks i)
@@ -83,10 +83,10 @@ pub record OnCourse (run : Run) (i : ℕ) : Type 0 where
   pub status : last_status (server_list (told_at run i).commands) ≡ (track_at run.normal.tracks i).status
   pub argued : AreArgued (sides_of (told_at run i))
 
--- what a round makes of it: so many more commands were taken, and the life is the one that these and the report leave
+-- what a round makes of a track on its course: so many more commands were taken, and the life is the one that these and the report leave
 pub record CourseGone (s : Session) (marks : Marks) (run : Run) (round : RoundSeen) (i : ℕ) (t : TurnMade s marks run round) (told : ℕ) : Type 0 where
   pub after : OnCourse (after_round s run round) i
-  -- its turn didn't hear that the stream is shut
+  -- the turn didn't hear that the track's stream is shut
   pub turn : OpenTurn s marks run round i t
   pub more : ℕ
   pub next : after.told ≡ told + more
@@ -110,7 +110,7 @@ same_course before after told k n taken words s is front f = by (two_or_more tol
         (is ∙ ap (λ (c : ℕ). course c 0 told) same, subst (λ (c : ℕ). Follows c told s) same f)
 
 module _ (cut : Bool) (s : Session) (marks : Marks) (run : Run) (round : RoundSeen) (i : ℕ) (t : TurnMade s marks run round) (legal : LegalRound cut s marks run round) (known_commands : List ServerEvent) (calm : CalmCommands run i known_commands) (turn : OpenTurn s marks run round i t) where
-  -- Where the client has sent so much of a course after the round, and the track has two retries, it is on this course after it
+  -- If the client has sent so much of a course after the round, and the track has two retries, it is on this course after it
   pub course_goes : SentCourse (told_at (after_round s run round) i).commands.released → AreArgued (sides_of (told_at (after_round s run round) i)) → (on : OnCourse run i) → 2 ≤ (track_at run.normal.tracks i).life.retries → CourseGone s marks run round i t on.told
   course_goes sent argued on two =
       let words = words_after cut s marks run round i t legal known_commands calm turn in

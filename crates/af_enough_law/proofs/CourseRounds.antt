@@ -31,7 +31,7 @@ by_false : (A B : Type 0) (b : Bool) → b ≡ false → MatchBool b A B → B
 by_false A B true e m = absurd (true≢false e)
 by_false A B false e m = m
 
--- the looks of a turn at a track for which no START waits end with one that shows no command, where they take commands of a course
+-- the looks of a turn at a track for which no START waits end with one that shows no command, if they take commands of a course
 pub looks_end : (count j more : ℕ) (c : Setup) (o : Outside) (m : NormalKept) (e : Turn) (i : ℕ) → i < length m.tracks → e.ended ≡ false → GoesOn c o m e → (track_at m.tracks i).awaits ≡ None → (track_at m.tracks i).life.ended ≡ false → j + more ≤ 4
     → none_shut (track_in e i).looks ≡ true → words_taken (track_in e i).looks ≡ course count j more → is_ended (track_in e i).looks ≡ true
 looks_end count j more c o m e i lt runs goes idle alive le open_is words =
@@ -47,12 +47,12 @@ looks_end count j more c o m e i lt runs goes idle alive le open_is words =
     few b n more e le (inl h) = h
     few b n more e le (inr h) = absurd (omega arith)
 
--- so do those at a track on its course
+-- the looks of a turn at a track on its course end with one that shows no command
 pub course_ends : (count j more : ℕ) (c : Setup) (o : Outside) (m : NormalKept) (e : Turn) (i : ℕ) → i < length m.tracks → e.ended ≡ false → GoesOn c o m e → Follows count j (track_at m.tracks i) → (track_at m.tracks i).life.ended ≡ false → j + more ≤ 4
     → none_shut (track_in e i).looks ≡ true → words_taken (track_in e i).looks ≡ course count j more → is_ended (track_in e i).looks ≡ true
 course_ends count j more c o m e i lt runs goes f alive le open_is words = looks_end count j more c o m e i lt runs goes f.awaits alive le open_is words
 
--- A legal round leaves a track on its course, where its looks take the next commands, no block is shut and it doesn't run dry
+-- A legal round leaves a track on its course, if its looks take the next commands, no block is shut and it doesn't run dry
 pub follows_round : (count j more : ℕ) (s : Session) (marks : Marks) (run : Run) (round : RoundSeen) (t : TurnMade s marks run round) (i : ℕ) → i < length run.normal.tracks → t.turn.ended ≡ false → Follows count j (track_at run.normal.tracks i) → j + more ≤ 4
     → none_shut (track_in t.turn i).looks ≡ true → words_taken (track_in t.turn i).looks ≡ course count j more → (heard (learnt t.by.outside) i (greeted_in run.normal t.turn i)).known.shut ≡ false
     → runs_dry (heard (learnt t.by.outside) i (greeted_in run.normal t.turn i)).known (told_words (course count j more) (track_at run.normal.tracks i).life) ≡ false
@@ -61,6 +61,6 @@ follows_round count j more s marks run round t i lt runs f le open_is words unsh
     subst (λ (m : NormalKept). GoesFar count (j + more) (life_after (heard (learnt t.by.outside) i (greeted_in run.normal t.turn i)) (course count j more) (track_at run.normal.tracks i).life) (track_at m.tracks i)) (sym t.after)
     (follows_turn count j more (setup_of s) t.by.outside run.normal t.turn i lt runs (t.by.legal.goes_on runs) f le open_is words unshut wet)
 
--- while its turn follows, the mixer hasn't ended: it ends where an Exit is acknowledged
+-- while its turn follows, the mixer hasn't ended: it ends only if an Exit is acknowledged
 pub goes_unless_exit : (s : Session) (marks : Marks) (run : Run) (round : RoundSeen) (t : TurnMade s marks run round) → run.normal.ended ≡ false → is_exit run.normal.last ≡ false → t.turn.ended ≡ false
 goes_unless_exit s marks run round t runs going = t.by.legal.ends ∙ (λ i. runs i || (going i && t.turn.ack))

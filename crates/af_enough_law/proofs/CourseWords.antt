@@ -12,7 +12,7 @@ abbrev pub codes_from : ℕ → ℕ → List ℕ
 codes_from told zero = []
 codes_from told (suc more) = code_at told ∷ codes_from (suc told) more
 
--- the argument of the STOP among these commands, of which so many were told before
+-- the argument of the STOP among these commands, if so many were sent before
 abbrev pub stop_in : ℕ → List (ℕ × ℕ) → ℕ
 stop_in told [] = 0
 stop_in told (one ∷ sent) = if told == 2 then one.1 else stop_in (suc told) sent
@@ -58,7 +58,7 @@ course_join count told (suc a) b =
     ap (course count told) one
     ∙ ap (λ (ws : List ℕ). code_at told ∷ argument_at count told ∷ ws) (course_join count (suc told) a b ∙ ap (λ (n : ℕ). course count (suc told) a ++ course count n b) same)
 
--- the words after those told before are the next of the course, where both begin a course
+-- the words after those taken before are the next of the course, if both begin a course
 pub next_words : (count j more : ℕ) (before words : List ℕ) → before ≡ course count 0 j → before ++ words ≡ course count 0 (j + more) → words ≡ course count j more
 unfolding codes_tail
 next_words count j more before words first whole =
@@ -78,7 +78,7 @@ pub course_front : (count told a b : ℕ) → take (2 * a) (course count told (a
 course_front count told a b = let size : 2 * a ≡ length (course count told a) = sym (course_size count told a) in
     ap (take (2 * a)) (course_join count told a b) ∙ ap (λ (n : ℕ). take n (course count told a ++ course count (told + a) b)) size ∙ take-append_seam (course count told a) (course count (told + a) b)
 
--- ## What a turn takes of it
+-- ## What a turn takes of a course
 
 take_same : (n : ℕ) (xs : List ℕ) → take n xs ≡ take (length (take n xs)) xs
 take_same zero xs = refl
@@ -90,7 +90,7 @@ take_most zero xs = omega arith
 take_most (suc n) [] = omega arith
 take_most (suc n) (x ∷ xs) = let l = take_most n xs in omega arith
 
--- Words that are taken after those of so many commands, where all that were taken begin a course, are those of its next commands
+-- Words that are taken after those of so many commands, if all that were taken begin a course, are those of its next commands
 pub taken_words : (count j more k n : ℕ) (before words released : List ℕ) → released ≡ course count 0 k → before ≡ course count 0 j → before ++ words ≡ take n released → length words ≡ 2 * more → (words ≡ course count j more) × (j + more ≤ k)
 taken_words count j more k n before words released all first whole size =
     let a = length-append before words in

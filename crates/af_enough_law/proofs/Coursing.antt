@@ -34,14 +34,14 @@ course_told count k l lt (over life e) = absurd (omega arith)
 abbrev step : Option ℕ → ℕ → ℕ → TrackKept → TrackKept
 step given code argument s = record s { life = by_command code argument s.life; slot = if opens code s.life then given else s.slot; settled = s.settled + 1 }
 
--- a course that is told more
+-- a life on its course that takes more of the course
 pub course_all : (count : ℕ) (given : Option ℕ) (more k : ℕ) (s : TrackKept) → k + more ≤ 4 → Course count k s.life → Course count (k + more) (told_all given (course count k more) s).life
 course_all count given zero k s le c = let e : k + 0 ≡ k = omega arith in subst (λ (n : ℕ). Course count n s.life) (sym e) c
 course_all count given (suc more) k s le c = let e : suc k + more ≡ k + suc more = omega arith in
     let t : TrackKept = step given (code_at k) (argument_at count k) s in
     subst (λ (n : ℕ). Course count n (told_all given (course count (suc k) more) t).life) e (course_all count given more (suc k) t (omega arith) (course_told count k s.life (omega arith) c))
 
--- none of its STARTs waits
+-- no START of a course waits
 pub course_starts : (count k more : ℕ) → starts_at_once (course count k more) ≡ true
 course_starts count k zero = refl
 course_starts count zero (suc more) = course_starts count 1 more
@@ -97,7 +97,7 @@ and_false : (b d : Bool) → d ≡ false → (b && d) ≡ false
 and_false true d e = e
 and_false false d e = refl
 
--- a life runs dry only where none are left
+-- a life runs dry only if none are left
 pub wet_while : (known : Known) (l : Life) → 1 ≤ retries_after known l.retries → runs_dry known l ≡ false
 unfolding runs_dry
 wet_while known l some = and_false (not known.shut && not l.ended) _ (and_false _ _ (and_false (nat_lt 0 known.empties) _ (not_zero (retries_after known l.retries) some)))
@@ -144,7 +144,7 @@ course_reported count k known l open_is wet c = calmly (λ (n : Known). runs_dry
 pub over_out : (known : Known) (l : Life) → known.shut ≡ false → l.ended ≡ true → by_report known l ≡ record l { member = false }
 over_out known l open_is e = calmly (λ (n : Known). by_report n l ≡ record l { member = false }) known open_is (out_calm known l e)
 
--- what it makes of a track that plays
+-- what a calm report makes of a track that plays
 playing_calm : (count : ℕ) (known : Known) (l : Life) → runs_dry (calm known) l ≡ false → Course count 2 l → by_report (calm known) l ≡ record l { retries = retries_after known l.retries }
 unfolding by_report runs_dry
 playing_calm count known l wet (playing retries some few) = ap (λ (b : Bool). life_in Active (not b) false (retries_after known retries) 0) wet
@@ -187,11 +187,11 @@ stage_calm count known l (stopping retries) = let s = stage_stopping count retri
 stage_calm count known l (drained retries) = (omega arith, (λ h. omega arith), (λ h. refl))
 stage_calm count known l (stopped retries) = (omega arith, (λ h. omega arith), (λ h. refl))
 
--- A report never takes a stopping track back, brings it on where all before the stop is consumed, and from Stopping2 to its end
+-- A report never takes a stopping track back, brings it on if all before the stop is consumed, and from Stopping2 to its end
 pub stage_reported : (count : ℕ) (known : Known) (l : Life) → known.shut ≡ false → Course count 3 l → (stage l ≤ stage (by_report known l)) × (count ≤ known.consumed → min 3 (stage l + 1) ≤ stage (by_report known l)) × (2 ≤ stage l → stage (by_report known l) ≡ 3)
 stage_reported count known l open_is c = calmly (λ (n : Known). (stage l ≤ stage (by_report n l)) × (count ≤ n.consumed → min 3 (stage l + 1) ≤ stage (by_report n l)) × (2 ≤ stage l → stage (by_report n l) ≡ 3)) known open_is (stage_calm count known l c)
 
--- who is to be heard
+-- a track on its course is to be heard by its stage
 pub course_plays : (count k : ℕ) (l : Life) → Course count k l → plays l ≡ is_heard k (stage l)
 course_plays count k l absent = refl
 course_plays count k l idle = refl

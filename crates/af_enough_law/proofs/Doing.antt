@@ -114,7 +114,7 @@ pub record Begins (ops : List Op) : Type 0 where
   pub doing : Doing due rest mode.Active
   pub ops_same : ops_count due rest ≡ way_ops ops
   pub frames_same : frames_count due rest ≡ way_frames ops
-  -- none of the things that are left of an op
+  -- a gain, a write or the stop is in work
   pub fresh : due_ops due ≡ 1
   pub codes : codes_sent due mode.Active ≡ 1 ∷ 2 ∷ []
 
@@ -177,7 +177,7 @@ put_after asked count (suc k) ops way sum =
 pub put_least : (t : Track) (asked front count : ℕ) → AnswersOn t.stream asked (call.Put front count) → count ≤ asked
 put_least t asked front count h = let is = h.2 in omega arith
 
--- one call: what it makes of the client
+-- what one call makes of the client
 abbrev Makes : (n : ℕ) (w : Want) (wants : List Want) (ops : List Op) (m : Mode) (answer : ClientCall) → Type 0
 Makes n w wants ops m a = After (w ∷ wants) ops m (put_of a) (sent_of a) (after_answer n w wants (at (w ∷ wants) ops m) a)
 

@@ -60,7 +60,7 @@ edited_holder own s t (stays a b) = next_is s.holder (is_some s.slot) (plays s.l
 edited_holder own s t (leaves a) = next_gone s.holder (is_some s.slot) (plays s.life) a
 edited_holder own s t (enters draft a) = next_come s.holder (is_some s.slot) (plays s.life) a
 
--- its part of the turn leaves it with whoever has it
+-- a track's part of the turn leaves it with whoever has it
 either_holder : (b : Bool) (s t : TrackKept) (h : Holder) → s.holder ≡ h → t.holder ≡ h → (if b then s else t).holder ≡ h
 either_holder true s t h e f = e
 either_holder false s t h e f = f
@@ -138,7 +138,7 @@ pushed_draft (Busy seen expected) m = refl
 abbrev by_facts : Bool → Bool → Bool → Bool → Command
 by_facts whole exits over heard = if exits || (over && whole) then Exit else if heard || not whole then MixWrite else ColdIdle
 
--- The command of the draft after a turn follows from the tracks that it leaves: an Exit stays; it comes where all is over and the pipe has all its room; else a mix where a track is to be heard or the pipe isn't empty
+-- The command of the draft after a turn follows from the tracks that it leaves: an Exit stays; it comes if all is over and the pipe has all its room; else a mix if a track is to be heard or the pipe isn't empty
 pub command_turned : (c : Setup) (k : Learnt) (m : NormalKept) (e : Turn) → e.ended ≡ false
     → code_of (turn_after c k m e).draft.command ≡ code_of (next_command (is_exit m.draft) (turn_after c k m e).tracks e.room (pipe_size c))
 unfolding turn_after mutated next_command
@@ -227,7 +227,7 @@ push_made (Pushed number) x h l = record { done = (λ e. (refl, refl)); busy = n
 push_made Clean x h l = record { done = (λ e. (l, h l)); busy = no; latest = h; number = inl refl }
 push_made (Busy seen expected) x h l = record { done = (λ e. absurd (true≢false e)); busy = (λ e. (l.0, l.1, refl, refl)); latest = h; number = inl refl }
 
--- What a legal turn pushes: where its push wasn't busy, nothing is left to be pushed, and the draft that it leaves is the last state pushed
+-- What a legal turn pushes: if its push wasn't busy, nothing is left to be pushed, and the draft that it leaves is the last state pushed
 pub turn_pushes : (c : Setup) (o : Outside) (m : NormalKept) (e : Turn) → e.ended ≡ false → GoesOn c o m e → IsLatest m → PushMade m (turn_after c (learnt o) m e) e.push
 unfolding turn_after
 turn_pushes c o m e runs goes h =

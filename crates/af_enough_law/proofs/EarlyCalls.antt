@@ -37,7 +37,7 @@ pub data Early : Client → ℕ → Type 0 where
   starting : (w d : Bool) (ops : List Op) → Early (held w d (want.Send command.Start ∷ want.Settled ∷ []) ops mode.Idle) 1
   settling : (w d : Bool) (ops : List Op) → Early (held w d (want.Settled ∷ []) ops mode.Active) 2
 
--- what it did then
+-- what a client that hasn't seen its START settled has sent
 pub record IsEarly (t : Track) : Type 0 where
   pub sent : ℕ
   pub client : Early (begun t.client) sent
@@ -45,7 +45,7 @@ pub record IsEarly (t : Track) : Type 0 where
   pub long : length t.commands.released ≡ 2 * sent
   pub stopless : no_stop t.commands.released ≡ true
 
--- such a status was seen, by a client that had sent two commands at most
+-- a status that says so was seen, by a client that had sent two commands at most
 pub record SawSettled (events : List ClientEvent) : Type 0 where
   pub before : List ClientEvent
   pub word : ℕ
@@ -203,7 +203,7 @@ early_call t w answer _ _ (settling x d ops) is wanted made put long none = by a
     same : w ≡ want.Settled
     same = some_same w want.Settled (sym (first_want (x || d) (Some want.Settled) w (ap (λ (c : Client). next_want c) (sym is) ∙ wanted)))
 
-    -- by what the status says
+    -- what the status makes of the client
     told : (word n : ℕ) (over enough : Bool) → (after_call t (call.Status word)).client ≡ (if over then held x true (want.Settled ∷ []) ops mode.Active else if enough && true then held x d [] ops mode.Active else held true d (want.Settled ∷ []) ops mode.Active) → (enough ≡ true → 2 ≤ settled_in word) → Comes (after_call t (call.Status word))
     told word n true enough e f = same_words t 2 put long none (client.SawStatus word ∷ []) _ _ e (settling x true ops) refl refl refl
     told word n false false e f = same_words t 2 put long none (client.SawStatus word ∷ []) _ _ e (settling true d ops) refl refl refl
@@ -287,11 +287,11 @@ turn_if : (b : Bool) (t : Track) (calls : List ClientCall) → MatchBool b (call
 turn_if true t calls none h = subst (λ (cs : List ClientCall). Comes (fold after_call t cs)) (sym none) h
 turn_if false t calls made h = calls_come 64 t calls made h
 
--- a legal turn of a client leaves it so
+-- a legal turn of a client leaves it early
 pub turn_comes : (t : Track) (calls : List ClientCall) → LegalClientTurn t calls → Comes t → Comes (after_calls t calls)
 turn_comes t calls legal h = next_comes (fold after_call t calls) (length calls == 64) (turn_if t.client.ended t calls legal h)
 
--- and what it learns, and its end, too
+-- what a client learns, and its end, leave it early too
 pub met_comes : (t u : Track) (n : ℕ) → u.commands.events ≡ t.commands.events ++ client.Learn n ∷ [] → u.commands.released ≡ t.commands.released → (u.client ≡ t.client) ⊎ (u.client ≡ record t.client { ended = true }) → Comes t → Comes u
 met_comes t u n events words same (late l) = late (late_on t u (client.Learn n ∷ []) [] events (words ∙ sym (append-nil t.commands.released)) l)
 met_comes t u n events words same (early e) = early (record {

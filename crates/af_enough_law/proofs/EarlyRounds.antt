@@ -157,7 +157,7 @@ module _ (cut : Bool) (s : Session) (marks : Marks) (run : Run) (round : RoundSe
   looks_low : are_low (looks ++ flags) ≡ true
   looks_low = low_append looks flags (still_low looks (still_looks (track_in t.turn i).looks (o.command_fronts i) (o.commands i))) (flags_low _)
 
-  -- the statuses say so after the round too, where the last one does
+  -- the statuses say so after the round too, if the last one does
   pub low_then : are_low (server_list (told_at run i).commands) ≡ true → settled_in (last_status (server_list u.commands)) ≤ 1 → are_low (server_list u.commands) ≡ true
   low_then low few =
       ap are_low whole
@@ -186,7 +186,7 @@ module _ (cut : Bool) (s : Session) (marks : Marks) (run : Run) (round : RoundSe
     pub plain_looked : plain_words (words_taken (track_in t.turn i).looks) ≡ true
     plain_looked = plain_rest (told_at run i).commands.taken (words_taken (track_in t.turn i).looks) k.even (ap plain_words (sym follow ∙ front.1) ∙ plain_take front.0 u.commands.released spoken_then.sent.plain)
 
-    -- ## A track that was told fewer than two commands
+    -- ## A track that took fewer than two commands
 
     module _ (n : Unsettled run i) where
       pub counts_then : IsCounted after i
@@ -215,7 +215,7 @@ module _ (cut : Bool) (s : Session) (marks : Marks) (run : Run) (round : RoundSe
           stop_rest (told_at run i).commands.taken (words_taken (track_in t.turn i).looks) k.even
           (ap no_stop (sym follow ∙ front.1 ∙ short_take 4 front.0 u.commands.released few) ∙ stop_take front.0 (take 4 u.commands.released) stopless)
 
-      -- so where it leaves the track to be heard, it leaves it in play
+      -- if the round leaves the track to be heard, it leaves it in play
       pub plays_then : (track_at run.normal.tracks i).life.ended ≡ false → Unstopped (track_at run.normal.tracks i).life → plays (track_at after.normal.tracks i).life ≡ true → InPlay (track_at after.normal.tracks i).life
       plays_then alive unstopped heard =
           subst (λ (m : NormalKept). InPlay (track_at m.tracks i).life) (sym t.after)
@@ -228,13 +228,13 @@ module _ (cut : Bool) (s : Session) (marks : Marks) (run : Run) (round : RoundSe
 
     -- ## A track in play
 
-    -- that isn't to be heard after the round has ended
+    -- a track in play that isn't to be heard after the round has ended
     pub ended_then : InPlay (track_at run.normal.tracks i).life → 2 ≤ (track_at run.normal.tracks i).life.retries → plays (track_at after.normal.tracks i).life ≡ false → (track_at after.normal.tracks i).life.ended ≡ true
     ended_then play two out =
         ap (λ (m : NormalKept). (track_at m.tracks i).life.ended) t.after
         ∙ left_turned c (learnt t.by.outside) run.normal t.turn i named.there runs plain_looked play two (ap (λ (m : NormalKept). plays (track_at m.tracks i).life) (sym t.after) ∙ out)
 
-    -- and one that is, is in play then, or drained
+    -- a track in play that is to be heard after the round is in play then, or drained
     pub played_then : (track_at run.normal.tracks i).life.ended ≡ false → InPlay (track_at run.normal.tracks i).life → plays (track_at after.normal.tracks i).life ≡ true → InPlay (track_at after.normal.tracks i).life ⊎ IsDrained (track_at after.normal.tracks i).life
     played_then alive play heard =
         subst (λ (m : NormalKept). InPlay (track_at m.tracks i).life ⊎ IsDrained (track_at m.tracks i).life) (sym t.after)
@@ -248,7 +248,7 @@ module _ (cut : Bool) (s : Session) (marks : Marks) (run : Run) (round : RoundSe
       no_start_looked = calm_rest (told_at run i).commands.taken (words_taken (track_in t.turn i).looks) k.even stop
           (ap ends_calm (sym follow ∙ front.1) ∙ calm_take front.0 u.commands.released (roams_calm (sides_of u) (roams_then r)))
 
-      -- so where all of it is consumed it has stopped or ended
+      -- if all of the track is consumed, it has stopped or ended
       pub emptied_then : Emptied (track_at run.normal.tracks i).life → Emptied (track_at after.normal.tracks i).life × (plays (track_at after.normal.tracks i).life ≡ false)
       emptied_then empty =
           subst (λ (m : NormalKept). Emptied (track_at m.tracks i).life × (plays (track_at m.tracks i).life ≡ false)) (sym t.after)
@@ -257,7 +257,7 @@ module _ (cut : Bool) (s : Session) (marks : Marks) (run : Run) (round : RoundSe
       pub stop_then : no_stop u.commands.taken ≡ false
       stop_then = ap no_stop follow ∙ stop_front (told_at run i).commands.taken (words_taken (track_in t.turn i).looks) k.even stop
 
-    -- a round that drains a track that was told no STOP takes one
+    -- a round that drains a track that took no STOP takes one
     pub stop_taken : (track_at run.normal.tracks i).life.ended ≡ false → Unstopped (track_at run.normal.tracks i).life → IsDrained (track_at after.normal.tracks i).life → plays (track_at after.normal.tracks i).life ≡ true → no_stop u.commands.taken ≡ false
     stop_taken alive unstopped drained heard = ap no_stop follow ∙ stop_behind (told_at run i).commands.taken (words_taken (track_in t.turn i).looks) k.even (by (no_stop (words_taken (track_in t.turn i).looks)) refl)
       where

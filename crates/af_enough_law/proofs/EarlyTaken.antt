@@ -41,7 +41,7 @@ low_one (server.Tally missing) word low few = few
 low_one (server.SetFlags bits) word low few = few
 low_one (server.Learn n) word low few = few
 
--- so the last status of each front says no more
+-- the last status of each front says no more
 front_low : (xs ys : List ServerEvent) (word : ℕ) → are_low (xs ++ ys) ≡ true → settled_in word ≤ 1 → settled_in (fold status_by word xs) ≤ 1
 front_low [] ys word low few = few
 front_low (x ∷ xs) ys word low few = front_low xs ys (status_by word x) (both_right (is_low x) (are_low (xs ++ ys)) low) (low_one x word (both_left (is_low x) (are_low (xs ++ ys)) low) few)

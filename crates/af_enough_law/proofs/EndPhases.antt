@@ -59,7 +59,7 @@ fast_stays s run round is =
 
 -- ## The phases
 
--- where both know of the Exit, the round ends the normal mixer
+-- if both know of the Exit, the round ends the normal mixer
 pub closing_done : (s : Session) (marks : Marks) (run : Run) (round : RoundSeen) → LegalRound false s marks run round → Closing run → BothEnded (after_round s run round)
 closing_done s marks run round legal c = record {
   normal = exit_ends s marks run round legal c.runs (turn_made false s marks run round legal c.runs) c.last c.acked;
@@ -248,12 +248,12 @@ pub ended_within : (s : Session) (marks : Marks) (run : Run) → BothEnded run �
 ended_within s marks run ended [] legal few = ended
 ended_within s marks run ended (round ∷ rounds) legal few = ended_within s marks (after_round s run round) (both_stay s marks run round legal.0 ended) rounds legal.1 (omega arith)
 
--- one round more
+-- both mixers end within one round more, if they do after each round
 pub next_within : (s : Session) (marks : Marks) (n : ℕ) (run : Run) → ((round : RoundSeen) → LegalRound false s marks run round → EndWithin s marks n (after_round s run round)) → EndWithin s marks (suc n) run
 next_within s marks n run next [] legal few = absurd (let z : ⊥ = omega (arith, few) in z)
 next_within s marks n run next (round ∷ rounds) legal few = next round legal.0 rounds legal.1 (omega (arith, few))
 
--- it is as well within more
+-- if both mixers end within so many rounds, they do within more
 pub more_within : (s : Session) (marks : Marks) (n m : ℕ) (run : Run) → n ≤ m → EndWithin s marks n run → EndWithin s marks m run
 more_within s marks n m run low within rounds legal few = within rounds legal (omega (arith, low, few))
 

@@ -21,7 +21,7 @@ pub rests_puts : (s : Session) (marks : Marks) (run : Run) (round : RoundSeen) (
 rests_puts s marks run round t rests =
     unheard_puts s marks run round t (λ goes. over_unheard (after_round s run round).normal.tracks (subst (λ (m : NormalKept). AllOver m.tracks) (sym t.after) (over_turn (setup_of s) (learnt t.by.outside) run.normal t.turn goes rests.over)))
 
--- and a round in which the fast mixer mixes takes 16 cycles of what is left
+-- a round in which the fast mixer mixes takes 16 cycles of what is left in the pipe
 pub drains : (s : Session) (run : Run) (round : RoundSeen) → PipeFlowed s run round → MixesAll round → put_in s round.turn ≡ 0 → in_pipe (after_round s run round) ≤ in_pipe run - 16 * cycle_frames s
 drains s run round flowed mixes none =
     let put = flowed.put in let taken = flowed.taken mixes in let grows = flowed.grows in
@@ -31,7 +31,7 @@ drains s run round flowed mixes none =
 pub stays_drained : (s : Session) (run : Run) (round : RoundSeen) → put_in s round.turn ≡ 0 → in_pipe run ≡ 0 → in_pipe (after_round s run round) ≡ 0
 stays_drained s run round none empty = let puts = pipe_puts s run round in let put = puts.0 in let grows = puts.1 in omega (arith, put, grows, none, empty)
 
--- where a turn sees the whole room and puts nothing, the pipe is empty after its round
+-- if a turn sees the whole room and puts nothing, the pipe is empty after its round
 pub drained_by : (cut : Bool) (s : Session) (marks : Marks) (run : Run) (round : RoundSeen) (e : Turn) → LegalRound cut s marks run round → KnowsPipe run → pipe_size (setup_of s) ≤ 65536 → pipe_taken run ≤ pipe_put run → round.turn ≡ Some e → e.ended ≡ false
     → e.room ≡ pipe_size (setup_of s) → put_in s round.turn ≡ 0 → in_pipe (after_round s run round) ≡ 0
 drained_by cut s marks run round e legal knows few low is going room none =

@@ -58,11 +58,11 @@ module _ (s : Session) (marks : Marks) (scales : All (λ (x : Setting). x.scale 
   pub order_round : length run.normal.tracks ≤ length (setup_of s).settings → IsInOrder run.normal → IsInOrder after.normal
   order_round few order = subst IsInOrder (sym t.after) (order_turn (setup_of s) scales t.by.outside run.normal t.turn few goes goes_on order)
 
-  -- it goes on resting
+  -- a resting mixer goes on resting
   pub rests_on : length run.normal.tracks ≤ length (setup_of s).settings → Rests run.normal → Rests after.normal
   rests_on few rests = subst Rests (sym t.after) (rests_turn (setup_of s) scales t.by.outside run.normal t.turn few goes goes_on rests.order (over_turn (setup_of s) (learnt t.by.outside) run.normal t.turn goes rests.over))
 
-  -- where the last state is known to be acknowledged, the next turn pushes the draft
+  -- if the last state is known to be acknowledged, the next turn pushes the draft
   pub then_empty : length run.normal.tracks ≤ length (setup_of s).settings → Rests run.normal → CarriesNone run.normal.last ⊎ KnowsAcked run → CarriesNone after.normal.last
   then_empty few rests h = subst (λ (m : NormalKept). CarriesNone m.last) (sym t.after) (by h (subst Rests t.after (rests_on few rests)))
     where
@@ -70,7 +70,7 @@ module _ (s : Session) (marks : Marks) (scales : All (λ (x : Setting). x.scale 
       by (inl empty) later = stays_empty run.normal next t.turn (pushes rests.order) later empty
       by (inr knows) later = last_empty run.normal next t.turn (pushes rests.order) later ((turn_sees_ack false s marks run round legal runs knows t).1 goes)
 
-  -- and then all comes home
+  -- all proxies of a resting mixer come home
   pub home_round : Rests run.normal → CarriesNone run.normal.last → KnowsAcked run → AllHome after.normal.tracks
   home_round rests empty knows = subst (λ (m : NormalKept). AllHome m.tracks) (sym t.after) (all_home (setup_of s) (learnt t.by.outside) run.normal t.turn goes rests empty (turn_sees_ack false s marks run round legal runs knows t).0)
 
@@ -93,7 +93,7 @@ module _ (s : Session) (marks : Marks) (scales : All (λ (x : Setting). x.scale 
   pub exit_pushed : IsInOrder run.normal → is_exit after.normal.draft ≡ true → is_busy t.turn.push ≡ false → ExitSent after.normal
   exit_pushed order is free = subst ExitSent (sym t.after) (sent_by (ap (λ (m : NormalKept). is_exit m.draft) (sym t.after) ∙ is) (pushes order) free)
 
-  -- and a busy one leaves the states and the last of them
+  -- a busy push leaves the states and the last of them
   pub busy_leaves : IsInOrder run.normal → is_busy t.turn.push ≡ true → (after.states ≡ run.states) × (after.normal.last ≡ run.normal.last)
   busy_leaves order busy =
       let none : is_pushed t.turn.push ≡ false = unpushed t.turn.push busy in (
@@ -102,7 +102,7 @@ module _ (s : Session) (marks : Marks) (scales : All (λ (x : Setting). x.scale 
         ap (λ (m : NormalKept). m.last) t.after ∙ ((pushes order).busy busy).3,
       )
 
-  -- and by the next turn it is pushed
+  -- the Exit is pushed by the next turn
   pub exit_then : Rests run.normal → is_exit run.normal.draft ≡ true → ExitSent run.normal ⊎ KnowsAcked run → ExitSent after.normal
   exit_then rests is h = subst ExitSent (sym t.after) (sent_by (exit_stays (setup_of s) (learnt t.by.outside) run.normal t.turn goes is) (pushes rests.order) (free h))
     where
@@ -110,20 +110,20 @@ module _ (s : Session) (marks : Marks) (scales : All (λ (x : Setting). x.scale 
       free (inl sent) = exit_free (setup_of s) t.by.outside run.normal t.turn goes_on rests is sent.clean
       free (inr knows) = (turn_sees_ack false s marks run round legal runs knows t).1 goes
 
-  -- then no more is pushed
+  -- once the Exit is pushed, no more is pushed
   pub exit_last : Rests run.normal → ExitSent run.normal → length after.states ≡ length run.states
   exit_last rests sent = same_states (exit_still (setup_of s) t.by.outside run.normal t.turn goes_on rests sent.draft sent.clean)
 
-  -- so the mixer knows after it that the Exit is acknowledged
+  -- the mixer knows after the round that the Exit is acknowledged
   pub exit_known : Rests run.normal → ExitSent run.normal → fast_ended run ≡ false → KnowsStates s run → QueueStands run → KnowsAcked after
   exit_known rests sent going knows stands = knows_acked s marks run round legal going knows stands (exit_last rests sent)
 
--- and ends
+-- the mixer ends once the Exit is acknowledged
 pub exit_ends : (s : Session) (marks : Marks) (run : Run) (round : RoundSeen) → LegalRound false s marks run round → (runs : run.normal.ended ≡ false) → (t : TurnMade s marks run round) → is_exit run.normal.last ≡ true → KnowsAcked run → (after_round s run round).normal.ended ≡ true
 exit_ends s marks run round legal runs t is knows =
     ap (λ (m : NormalKept). m.ended) t.after ∙ ends_turn (setup_of s) (learnt t.by.outside) run.normal t.turn t.by.legal.ends is (turn_sees_ack false s marks run round legal runs knows t).0
 
--- a turn that pushes nothing leaves as many states, also where it ends
+-- a turn that pushes nothing leaves as many states, also if it ends
 pub pushed_none : (s : Session) (marks : Marks) (run : Run) (round : RoundSeen) (t : TurnMade s marks run round) → is_pushed t.turn.push ≡ false → length (after_turn s run round).states ≡ length run.states
 pushed_none s marks run round t none =
     ap length (states_turned s (found_in s run round) round.turn t.turn (before_turn s run round) t.is)

@@ -181,7 +181,7 @@ module _ (s : Session) (marks : Marks) (scales : All (λ (x : Setting). x.scale 
         by true is rests = more_within s marks 3 9 after (omega arith) (ordered_within s marks scales after (ordering_next s marks scales run round legal u (subst Rests (sym made_turn.after) rests) is))
         by false is rests = resting after (rested run round legal u (underway_round s marks scales small run round legal u is) (subst Rests (sym made_turn.after) rests)) (sent_after rests)
 
-    -- so they do within one more, where every life had ended before it
+    -- both mixers end within one round more, if every life had ended before it
     pub then_within : AllOver run.normal.tracks → EndWithin s marks 9 after
     then_within over = over_within (subst (λ (m : NormalKept). AllOver m.tracks) (sym made_turn.after) (over_turn (setup_of s) (learnt made_turn.by.outside) run.normal made_turn.turn going over))
 

@@ -95,7 +95,7 @@ none_lent c k m e runs over i = by (within_or i (length m.tracks))
     by (inl lt) = let long = turn_len c k m e in ap is_lent (holder_silent c k m e i lt runs (over i (omega (arith, lt, long)))) ∙ unlent (is_some (track_at (turn_after c k m e).tracks i).slot) (greeted_in m e i).holder
     by (inr far) = let long = turn_len c k m e in ap (λ (s : TrackKept). is_lent s.holder) (out_of (turn_after c k m e).tracks i (omega (arith, far, long)))
 
--- a draft whose slots are those of lent tracks carries none where none is lent
+-- a draft whose slots are those of lent tracks carries none if none is lent
 pub carries_none : (tracks : List TrackKept) (draft : FastState) → AreOwned tracks draft → NoneLent tracks → CarriesNone draft
 carries_none tracks draft owned none slot lt = by (carries draft slot) refl
   where
@@ -124,7 +124,7 @@ rests_turn c scales o m e few runs goes order over =
 pub last_empty : (m after : NormalKept) (e : Turn) → PushMade m after e.push → Rests after → is_busy e.push ≡ false → CarriesNone after.last
 last_empty m after e made rests free slot lt = ap (λ (x : FastState). carries x slot) (made.done free).1 ∙ rests.empty slot lt
 
--- and it stays so
+-- a last state that carries nothing stays so
 pub stays_empty : (m after : NormalKept) (e : Turn) → PushMade m after e.push → Rests after → CarriesNone m.last → CarriesNone after.last
 stays_empty m after e made rests empty slot lt = by (is_busy e.push) refl
   where
@@ -158,7 +158,7 @@ slot_low s slotted returning = by (is_some s.slot) refl
     by true is = (slotted.slot is).1
     by false is = absurd (away s.holder returning (slotted.homely is))
 
--- Where the last state pushed carries nothing, a turn that sees it acknowledged brings all proxies home
+-- If the last state pushed carries nothing, a turn that sees it acknowledged brings all proxies home
 pub all_home : (c : Setup) (k : Learnt) (m : NormalKept) (e : Turn) → e.ended ≡ false → Rests m → CarriesNone m.last → e.ack ≡ true → AllHome (turn_after c k m e).tracks
 all_home c k m e runs rests empty ack i lt =
     let long = turn_len c k m e in
@@ -171,7 +171,7 @@ all_home c k m e runs rests empty ack i lt =
     by (inl home) = greeted_home e.ack m.last (track_at m.tracks i) home
     by (inr returning) = ap is_home (come m.last (track_at m.tracks i) e.ack ack returning (empty (slot_number (track_at m.tracks i)) (slot_low (track_at m.tracks i) (rests.order.sound.slotted i) returning)))
 
--- and they stay there
+-- proxies that are all home stay there
 pub home_stays : (c : Setup) (k : Learnt) (m : NormalKept) (e : Turn) → e.ended ≡ false → Rests m → AllHome m.tracks → AllHome (turn_after c k m e).tracks
 home_stays c k m e runs rests home i lt =
     let long = turn_len c k m e in
@@ -179,7 +179,7 @@ home_stays c k m e runs rests home i lt =
     let t : TrackKept = track_at (turn_after c k m e).tracks i in
     ap is_home (holder_silent c k m e i lt' runs (over_stays c k m e i lt' runs (rests.over i lt'))) ∙ stays_home (is_some t.slot) (greeted_in m e i).holder (greeted_home e.ack m.last (track_at m.tracks i) (home i lt'))
 
--- then all is over
+-- if every life has ended and all proxies are home, all is over
 pub is_over_by : (tracks : List TrackKept) → AllOver tracks → AllHome tracks → is_over tracks ≡ true
 is_over_by [] over home = refl
 is_over_by (s ∷ tracks) over home =

@@ -19,7 +19,7 @@ use Rattle.af_enough_law.proofs.FastSteps.{cycle_states, cycles_states}
 
 -- ## Reports
 
--- as many reports are added as entries
+-- as many reports are added as there are entries
 pub cycles_reports : (s : Session) (es : List EntrySeen) (run : Run) → length (with_cycles s es run).reports ≡ length run.reports + length es
 cycles_reports s [] run = omega arith
 cycles_reports s (e ∷ es) run =

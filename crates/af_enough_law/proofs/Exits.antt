@@ -143,7 +143,7 @@ rests_idle c k m e rests i lt =
       ap must_enter same ∙ rest_enters (is_home g.holder) (is_some g.slot) (plays g.life) (silent g.life over),
     )
 
--- so a resting mixer whose Exit was pushed pushes no more
+-- a resting mixer whose Exit was pushed pushes no more
 pub exit_still : (c : Setup) (o : Outside) (m : NormalKept) (e : Turn) → GoesOn c o m e → Rests m → is_exit m.draft ≡ true → m.dirty ≡ false → is_pushed e.push ≡ false
 exit_still c o m e goes rests is clean = exit_pushed_once c o m e goes (rests_idle c (learnt o) m e rests) is clean
 
@@ -152,7 +152,7 @@ clean_free (Pushed number) x legal clean = refl
 clean_free Clean x legal clean = refl
 clean_free (Busy seen expected) x legal clean = absurd (true≢false (sym legal.0 ∙ clean))
 
--- nor is its push busy
+-- the push of a resting mixer whose Exit was pushed isn't busy
 pub exit_free : (c : Setup) (o : Outside) (m : NormalKept) (e : Turn) → GoesOn c o m e → Rests m → is_exit m.draft ≡ true → m.dirty ≡ false → is_busy e.push ≡ false
 exit_free c o m e goes rests is clean =
     let x : NormalKept = after_tracks c (learnt o) e (after_ack e.ack m) in

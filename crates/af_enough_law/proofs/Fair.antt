@@ -70,7 +70,7 @@ calm_status w (server.SetFlags bits) h low = low
 calm_status w (server.SetStatus word) h low = not_not (state_in word == 15) h
 calm_status w (server.Learn n) h low = low
 
--- no calm status tells of a track that was shut
+-- no calm status says that a track was shut
 pub status_calm : (w : ℕ) (es : List ServerEvent) → are_calm es ≡ true → (state_in w == 15) ≡ false → (state_in (fold status_by w es) == 15) ≡ false
 status_calm w [] h low = low
 status_calm w (e ∷ es) h low = status_calm (status_by w e) es (both_right (is_calm e) (are_calm es) h) (calm_status w e (both_left (is_calm e) (are_calm es) h) low)
@@ -173,7 +173,7 @@ module _ (k : Shape) (few : k.frames ≤ 65536) (ce : List ClientEvent) (rel : L
         quiet = quiet_in k early (calm_split (server_of early) (server_of late) (ap are_calm (sym server) ∙ calm)).0 (hands_split (hand_of early) (hand_of late) (ap are_hands_calm (sym hand) ∙ hands)).0;
       }
 
-  -- at the next event
+  -- the point of the next event, which is legal there
   pub next_at : (xs : List ClientEvent) (e : ClientEvent) (ys : List ClientEvent) → ce ≡ xs ++ e ∷ ys → (a : At xs) × ClientMay (after (start k) a.order) (length (server_of a.order)) e
   next_at xs e ys is =
       let cut = client_cut h.order xs e ys (h.client_is ∙ is) in
@@ -208,7 +208,7 @@ module _ (k : Shape) (few : k.frames ≤ 65536) (ce : List ClientEvent) (rel : L
   pub no_dead : (events ys : List ClientEvent) (flags : ℕ) → ce ≡ events ++ client.SawFlags flags ∷ ys → IsInvalid flags → ⊥
   no_dead events ys flags is invalid = let n = next_at events (client.SawFlags flags) ys is in invalid_not flags (after (start k) n.0.order).flags (bit_and flags 4 == 0) refl n.1 invalid n.0.quiet
 
-  -- nor DISABLED
+  -- the flags never have DISABLED
   pub cleared_calm : (events ys : List ClientEvent) (flags : ℕ) → ce ≡ events ++ client.ClearFlags flags ∷ ys → (bit_and flags 8 == 0) ≡ true
   cleared_calm events ys flags is = let n = next_at events (client.ClearFlags flags) ys is in ap (λ f. bit_and f 8 == 0) n.1 ∙ quiet_clear (after (start k) n.0.order).flags n.0.quiet
 

@@ -245,7 +245,7 @@ commands_shape_after t (call.SendCorrupt front rear) fair = absurd fair
 commands_shape_after t (call.Status word) fair = refl
 commands_shape_after t (call.Poke in_command word value) fair = absurd fair
 
--- as many words were sent as the list says
+-- as many words were sent as the client's list says
 pub words_counted : (t : Track) (answer : ClientCall) → IsFair answer → frames_put t.commands.events ≡ length t.commands.released → frames_put (after_call t answer).commands.events ≡ length (after_call t answer).commands.released
 words_counted t (call.Put front count) fair is = is
 words_counted t (call.Full front) fair is = is

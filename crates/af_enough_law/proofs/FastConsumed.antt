@@ -1,4 +1,4 @@
--- What the report tells of a server that dropped nothing: the frames that it took, and that it is open.
+-- What the report says of a server that dropped nothing: the frames that it took, and that it is open.
 use Rattle.std.proofs.Common.{◌≡◌, ℕ, ◌+◌, min, is_some, true, false, true≢false, Option, List, [], ◌∷◌, fold, refl, sym, ap, ◌∙◌, arith}
 use Rattle.af_base.specs.declared.event.ServerEvent.{ServerEvent}
 use Rattle.af_base.specs.declared.event.ServerEvent.TheVariants as server
@@ -36,7 +36,7 @@ kept_taken k s (e ∷ es) none =
 pub open_consumed : (b : BlockTold) → IsOpen b → (kept (listed b)).consumed ≡ frames_taken (server_list b)
 open_consumed b o = let a = kept_taken b.shape (server_begins b.shape) (server_list b) o.none in let z : 0 + frames_taken (server_list b) ≡ frames_taken (server_list b) = omega arith in a ∙ z
 
--- what the report tells of it
+-- what the report says of a server that is open
 pub record ToldOpen (run : Run) (track i : ℕ) : Type 0 where
   pub consumed : (slot_told run i).consumed ≡ min 9223372036854775807 (frames_taken (server_list (told_at run track).stream))
   pub shut : (slot_told run i).shut ≡ false

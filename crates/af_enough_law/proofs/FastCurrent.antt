@@ -18,7 +18,7 @@ use Rattle.af_runs.specs.Sessions.{Session}
 abbrev pub IsCurrent : Run → Type 0
 IsCurrent run = run.current ≡ last_used run.entries
 
--- neither changes
+-- neither the state adopted last nor the entries change
 record SameCurrent (run later : Run) : Type 0 where
   current : later.current ≡ run.current
   entries : later.entries ≡ run.entries
@@ -76,7 +76,7 @@ pub legal_parts : (b : Bool) (s : Session) (marks : Marks) (run : Run) (round : 
 legal_parts false s marks run round h = (h.1, h.2)
 legal_parts true s marks run round none = (subst (LegalEntries s marks (with_calls round run)) (sym (ap (λ l. take (prefix_len (is_early run) l) l) none)) tt, subst (LegalEntries s marks (after_turn s run round)) (sym (ap (λ l. drop (prefix_len (is_early run) l) l) none)) tt)
 
--- and so it is after each legal round
+-- after each legal round the state adopted last is that of the last entry
 pub round_current : (s : Session) (marks : Marks) (run : Run) (round : RoundSeen) → LegalRound false s marks run round → IsCurrent run → IsCurrent (after_round s run round)
 round_current s marks run round legal is =
     let called : Run = with_calls round run in

@@ -122,7 +122,7 @@ pub record Took (k : Shape) (asked known n i : ℕ) (before after : List ServerE
   pub reaches : (frames_taken before + asked_in asked es ≤ frames_taken after) ⊎ (known ≤ frames_taken after)
   pub shown : AllShown i es
 
--- one entry and those after it
+-- what one entry takes, and those after it
 took_more : (k : Shape) (asked known n i : ℕ) (before now after : List ServerEvent) (e : EntrySeen) (es : List EntrySeen) → (frames_taken now ≡ frames_taken before + count_seen (entry_slot e.entry i).seen)
     → ((count_seen (entry_slot e.entry i).seen ≡ asked) ⊎ (known ≤ frames_taken before + count_seen (entry_slot e.entry i).seen)) → IsShown (entry_slot e.entry i).seen → Took k asked known n i now after es → Took k asked known n i before after (e ∷ es)
 took_more k asked known n i before now after e es taken reach shows rest =

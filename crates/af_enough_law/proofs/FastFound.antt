@@ -54,7 +54,7 @@ or_true : (b : Bool) → (b || true) ≡ true
 or_true true = refl
 or_true false = refl
 
--- the slot of an entry whose state counts as one that carries it, where its look is shown
+-- the slot of an entry whose state counts as one that carries it, if its look is shown
 next_found : (s : Session) (run : Run) (entry : CycleEntry) (before : List SlotReport) (i : ℕ) (x : FastState) → state_for s run entry.state ≡ x → carries x i ≡ true → is_shown (entry_slot entry i).seen ≡ true → carries (state_for s run (last_used run.entries)) i ≡ true
     → next_slot s run entry before i ≡ counted_look (cycle_frames s) (slot_of x i).generation (entry_slot entry i).seen (known_of (listed (stream_of run x i))) (report_at before i)
 next_found s run entry before i x is carried shown kept_on =
@@ -303,7 +303,7 @@ opens_of s marks run round track i item base legal f shows start =
     (ap drops_none f.lent ∙ early.none) (ap (λ l. (server_kept k l).shut) f.lent ∙ early.unshut) before then_now uses.late shown.1 to_turn in
     open-append s track (early_of run round) (late_of run round) called a b
 
--- before the entries of a round
+-- what the report says before the entries of a round
 pub found_first : (s : Session) (run : Run) (track i : ℕ) (item : FastTrack) (before : SlotReport) (n : ℕ) → length run.states ≡ n → Uses (Plays i item) run.states n → HasItem i item run.normal.draft → track < length run.tracks → LastCarries run i → IsTold run track i item → Since before (slot_told run i) item
     → FoundNow s track i item before n run
 found_first s run track i item before n long u draft there last told since = record {

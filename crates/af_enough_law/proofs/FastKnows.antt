@@ -56,7 +56,7 @@ met_knows_at s run track low part =
     subst (λ (t : TrackTold). KnowsReleased t.stream) (sym (told_each (track_met s run) run track low))
     (subst (λ (b : Bool). KnowsReleased (stream_met b run.handed (told_at run track).stream)) (sym part) (met_knows run.handed (told_at run track).stream))
 
--- where the proxy takes part in the meeting after a round, its server knows all that was released
+-- if the proxy takes part in the meeting after a round, its server knows all that was released
 pub knows_released : (s : Session) (run : Run) (round : RoundSeen) (track : ℕ) → track < length run.tracks → takes_part s (after_round s run round) track ≡ true → KnowsReleased (told_at (after_round s run round) track).stream
 knows_released s run round track low part =
     let all = all_length s run round in

@@ -93,7 +93,7 @@ pub loaded_queue : (o : Option Turn) (run : Run) → (loaded o run).queue ≡ ru
 loaded_queue None run = refl
 loaded_queue (Some e) run = load_queue e run
 
--- the same pushes and as many states
+-- a run with the same pushes and as many states
 counts_same : (s : Session) (run later : Run) → ones later.queue ≡ ones run.queue → later.states ≡ run.states → CountsStates s run → CountsStates s later
 counts_same s run later list states counts = ap (λ l. (mutated (initial (cycle_frames s)) l).pushed) list ∙ counts ∙ ap length (sym states)
 
@@ -185,6 +185,6 @@ learns_states cut s marks run round legal counts =
     learnt_by s (after_round s run round) (all_played s run round).queue (ends_queue (met_after s run round) ∙ met_queue s (all_played s run round))
     (ap (λ l. (mutated first l).pushed) played ∙ counts2 ∙ ap length (sym (round_states s run round)))
 
--- and before the first round there are none
+-- before the first round there are no pushes and no states
 pub new_counts : (s : Session) → CountsStates s (new_run s)
 new_counts s = refl

@@ -109,7 +109,7 @@ turned_stores : (s : Session) (found : Turn → TurnFound) (o : Option Turn) (ru
 turned_stores s found None run = stores_none run run refl refl
 turned_stores s found (Some e) run = turn_stores s (found e) e run
 
--- all reports of a round
+-- all reports of a round are stored
 round_stores : (s : Session) (run : Run) (round : RoundSeen) → Stores run (with_cycles s (late_of run round) (after_turn s run round))
 round_stores s run round =
     let called : Run = with_calls round run in

@@ -67,7 +67,7 @@ number_none : (wrap : ℕ) (b : Bool) → (if b then 0 else wrapped (0 * wrap + 
 number_none wrap true = refl
 number_none wrap false = ap wrapped (let z : 0 % wrap ≡ 0 = zero-mod wrap in let e : 0 * wrap + 0 % wrap ≡ 0 = omega arith in e)
 
--- then the flush word is 0
+-- if the client never flushed, the flush word is 0
 flush_word_none : (k : Shape) (order : List Moment) → flushes_of (client_of order) ≡ 0 → flush_word (after (start k) order) ≡ 0
 flush_word_none k order none =
     ap (λ (x : ℕ × ℕ). flush_number (after (start k) order).wrap x.0 x.1) (λ i. ((flushes_are k order ∙ none) i, flush_at_none k order none i)) ∙ number_none (after (start k) order).wrap ((after (start k) order).wrap == 0)
@@ -84,7 +84,7 @@ keeps_flush k kept p n (server.SetFlags bits) may none is = is
 keeps_flush k kept p n (server.SetStatus word) may none is = is
 keeps_flush k kept p n (server.Learn count) may none is = is
 
--- and the server never saw another one
+-- if the client never flushed, the server never saw a flush
 kept_flush_none : (k : Shape) (order : List Moment) → IsLegal (start k) order → flushes_of (client_of order) ≡ 0 → (server_kept k (server_of order)).flush ≡ 0
 kept_flush_none k [] legal none = refl
 kept_flush_none k (by_client e ∷ order) legal none = let both = flushes-append (client_of order) (e ∷ []) in kept_flush_none k order legal.1 (omega arith)

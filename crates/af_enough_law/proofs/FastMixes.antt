@@ -1,4 +1,4 @@
--- Where the states that a round may use mix, each of its entries is Mixed.
+-- If the states that a round may use mix, each of its entries is Mixed.
 use Rattle.std.proofs.Common.{◌≡◌, ◌⊎◌, inl, inr, ℕ, zero, suc, ◌≤◌, true, false, true≢false, Option, Some, List, [], ◌∷◌, ◌++◌, length, refl, sym, ap, ◌∙◌, subst, arith, append-nil}
 use Rattle.std.proofs.lemmas.List.{take-append-drop}
 use Rattle.af_base.specs.declared.log.Cycle.{Cycle}
@@ -34,7 +34,7 @@ pub record Uses (P : FastState → Type 0) (states : List FastState) (k : ℕ) :
   pub is : state_of states k ≡ Some state
   pub holds : P state
 
--- by the states of a later run
+-- an entry uses a state of which P holds, by the states of a later run
 pub uses_of : (P : FastState → Type 0) (run after now : Run) (k : ℕ) → AllStates run after P → (more : List FastState) → after.states ≡ now.states ++ more → length run.states ≤ k → k ≤ length now.states → Uses P now.states k
 uses_of P run after now k all more whole low high =
     let there = state_there now.states k (let a = all.0 in omega arith) high in

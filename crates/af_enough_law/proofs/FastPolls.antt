@@ -147,7 +147,7 @@ met_goes s run = record {
     on_ones (one x ∷ told) a b = ap (λ l. x ∷ l) (on_ones told a b)
     on_ones (two x ∷ told) a b = on_ones told a b
 
--- from an entry's turn to the meeting
+-- the queue goes on from an entry's turn to the meeting
 pub turn_met : (s : Session) (run : Run) (round : RoundSeen) → Goes (after_turn s run round) (met_after s run round)
 turn_met s run round =
     let late = with_cycles s (late_of run round) (after_turn s run round) in
@@ -248,7 +248,7 @@ ends_states run = by run.normal.ended (each_track (λ track t. record t { client
     by true x same = same
     by false x same = refl
 
--- those after the turn are those after the round
+-- the states after the turn are those after the round
 pub round_states : (s : Session) (run : Run) (round : RoundSeen) → (after_round s run round).states ≡ (after_turn s run round).states
 round_states s run round =
     ends_states (met_after s run round) ∙ met_states s (all_played s run round) ∙ loaded_states round.turn (with_cycles s (late_of run round) (after_turn s run round)) ∙ cycles_states s (late_of run round) (after_turn s run round)

@@ -156,7 +156,7 @@ module _ (s : Session) (track i : ℕ) (item : FastTrack) (low : i < slots) (is 
 
 -- ## The rest of a round
 
--- a step without a report
+-- a step that stores no report
 pub record SameReports (run later : Run) : Type 0 where
   pub reports : later.reports ≡ run.reports
   pub entries : later.entries ≡ run.entries
@@ -320,7 +320,7 @@ plays_reported s marks run round track i item legal f =
     by_part (inl some) e l told carries = (l.told (inr (told (e.told (inl some)))), l.carries_on (inr (carries (e.carries_on (inl some)))))
     by_part (inr some) e l told carries = (l.told (inl some), l.carries_on (inl some))
 
--- so where a track flows
+-- if a track flows, the report after the round tells of it
 pub reported : (s : Session) (marks : Marks) (run : Run) (round : RoundSeen) (track i : ℕ) (item : FastTrack) → LegalRound false s marks run round → FlowsIn s run round track i item → Reported s run round track i item
 reported s marks run round track i item legal f =
     plays_reported s marks run round track i item legal (record { there = f.there; slot = f.slot; item_is = f.item_is; states = f.states; fast_mixer = f.fast; knows_states = f.knows_states; lent = f.lent })
@@ -349,11 +349,11 @@ heard_none i (e ∷ es) shown none = by (entry_slot e.entry i).seen shown.0 none
     by (seen.Flushed dropped) is low rest = absurd is
     by (seen.Shut front rear) is low rest = absurd is
 
--- where frames were left before the round, some look shows frames
+-- if frames were left before the round, some look shows frames
 pub hears_some : (s : Session) (run : Run) (round : RoundSeen) (track i : ℕ) → Flowed s run round track i → 1 ≤ cycle_frames s → 1 ≤ frames_left_in (told_at run track).stream → 1 ≤ heard_in i round.entries
 hears_some s run round track i f some left = heard_some i round.entries (let a = f.enough in omega arith)
 
--- where none were left, and none were released in the round, all looks are empty
+-- if none were left, and none were released in the round, all looks are empty
 pub hears_none : (s : Session) (run : Run) (round : RoundSeen) (track i : ℕ) → Flowed s run round track i → frames_put (client_list (told_at (after_round s run round) track).stream) ≡ frames_put (client_list (told_at run track).stream)
     → frames_left_in (told_at run track).stream ≡ 0 → (heard_in i round.entries ≡ 0) × (silent_in i round.entries ≡ 16)
 hears_none s run round track i f same left =

@@ -191,7 +191,7 @@ over s run round track low =
       last = omega (arith, a, b, c, low);
     }
 
--- as many tracks
+-- a round leaves as many tracks
 pub all_length : (s : Session) (run : Run) (round : RoundSeen) → length (all_played s run round).tracks ≡ length run.tracks
 all_length s run round =
     let late : Run = with_cycles s (late_of run round) (after_turn s run round) in

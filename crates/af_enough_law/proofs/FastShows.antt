@@ -1,4 +1,4 @@
--- What a look of the fast mixer takes, where it is told in a history of a block that was never flushed.
+-- What a look of the fast mixer takes, if it is told in a history of a block that was never flushed.
 use Rattle.std.proofs.Common.{◌≡◌, ◌⊎◌, inl, inr, ℕ, zero, suc, ◌+◌, ◌-◌, ◌≤◌, ◌<◌, ◌==◌, ◌&&◌, ◌||◌, not, nat_lt, min, if◌then◌else◌, is_some, Bool, true, false, true≢false, Option, Some, None, List, [], ◌∷◌, ◌++◌, length, take, fold, MatchOption, refl, sym, ap, ◌∙◌, subst, arith, append_assoc, eqb-true, eq-eqb}
 use Rattle.std.proofs.lemmas.Bool.Decides.{nat_tests}
 use Rattle.std.proofs.lemmas.Grind.{fold-append}
@@ -196,7 +196,7 @@ never_flushed dropped a b c true same e = true≢false (ap is_flushed e)
 never_flushed dropped a b c false true e = true≢false (ap is_flushed e)
 never_flushed dropped a b c false false e = true≢false (ap is_flushed e)
 
--- a look that shuts the server saw a rear outside the block, by the front that it tells
+-- a look that shuts the server saw a rear outside the block, by the front in its answer
 shut_outside : (frames front rear f r c : ℕ) (out same : Bool) → nat_lt frames (ahead f r) ≡ out → seen.Shut front rear ≡ (if out then seen.Shut f r else if same then seen.Empty else seen.Frames c) → frames < ahead front r
 shut_outside frames front rear f r c true same is e = let g : front ≡ f = ap (shut_front 0) e in subst (λ x. frames < ahead x r) (sym g) (grind (arith, nat_tests, is))
 shut_outside frames front rear f r c false true is e = absurd (true≢false (ap is_shut e))
@@ -205,7 +205,7 @@ shut_outside frames front rear f r c false false is e = absurd (true≢false (ap
 empty_all : (rear c r : ℕ) → rear ≡ wrapped c → rear ≡ wrapped r → c ≤ r → r ≤ c + 65536 → r ≡ c
 empty_all rear c r x y low high = omega (arith, x, y, low, high)
 
--- the frames that a look tells to be all are all
+-- the frames that a look shows as all are all
 behind_all : (rear count c r : ℕ) → behind rear count ≡ wrapped c → rear ≡ wrapped r → c ≤ r → r ≤ c + 65536 → count ≤ 65536 → r ≡ c + count
 behind_all rear count c r x y low high few = omega (arith, x, y, low, high, few)
 

@@ -142,7 +142,7 @@ number_picked reports (suc n) =
     let e : suc n - 1 ≡ n = omega arith in
     ap (λ (b : Bool). if b then no_report else slice_index_or reports (suc n - 1) (last_report reports)) (ne_eqb (suc n) 0 (λ z. let w : ⊥ = omega (arith, z) in w)) ∙ ap (λ m. slice_index_or reports m (last_report reports)) e
 
--- a report of a number from the last one before on, where others were added
+-- a report of a number from the last one before on, if others were added
 pub since_number : (run later : Run) (P : Report → Type 0) (n : ℕ) → Adds run later P → P (last_report run.reports) → length run.reports ≤ n → n ≤ length later.reports → P (report_of later.reports n)
 since_number run later P n adds last low high =
     let long : length later.reports ≡ length run.reports + length adds.news = ap length adds.whole ∙ length-append run.reports adds.news in

@@ -164,7 +164,7 @@ pub entry_pushed : (s : Session) (marks : Marks) (run : Run) (e : EntrySeen) →
 unfolding with_poll
 entry_pushed s marks run e legal = legal.cycle.pushed
 
--- and the draft
+-- a cycle leaves the draft
 pub cycle_draft : (s : Session) (run : Run) (e : EntrySeen) → (with_cycle s run e).normal.draft ≡ run.normal.draft
 unfolding with_poll with_mix
 cycle_draft s run e = refl

@@ -55,7 +55,7 @@ op_falls q base put taken put' taken' total k due takes puts left = let split : 
 
 -- ## What a client past its start does
 
--- it has sent its STOP, or is among its gains, its writes and its stop
+-- a client has sent its STOP, or is among its gains, its writes and its stop
 data Kind (due : List Want) (ops : List Op) (m : Mode) : Type 0 where
   stopped : codes_sent due m ≡ 1 ∷ 2 ∷ 4 ∷ [] → Kind due ops m
   flows : ((b : Bool) → (1 ≤ rank due b) × (rank due b ≤ 64)) → 1 ≤ ops_count due ops → Kind due ops m

@@ -39,7 +39,7 @@ way_within q gains (op.Write count ∷ ops) some way =
 way_within q gains (op.Stop ∷ op.Drain ∷ op.Remove ∷ []) some way = omega arith
 way_within q gains _ some way = absurd way
 
--- and its cost is more than that
+-- the cost of the ops is more than that
 pub way_costs : (q gains : ℕ) (ops : List Op) → IsWay gains ops → way_rounds q ops + 23 ≤ sum_by (op_cost q) ops
 way_costs q gains (op.Gain left right ∷ ops) way = let rest = way_costs q (gains + 1) ops way.1 in let cost = sum_by-cons (op_cost q) (op.Gain left right) ops in omega arith
 way_costs q gains (op.Write count ∷ ops) way = let rest = way_costs q 0 ops way.1 in let cost = sum_by-cons (op_cost q) (op.Write count) ops in omega arith

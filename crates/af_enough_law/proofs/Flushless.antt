@@ -241,7 +241,7 @@ look_unflushed : (was : Bool) (events : List ClientEvent) → are_unflushed even
 look_unflushed true events h = refl
 look_unflushed false events h = h
 
--- and its events are no flushes
+-- the events of such a call are no flushes
 pub call_unflushed : (t : Track) (w : Want) (answer : ClientCall) (was_shut : Bool) → is_plain_want w ≡ true → IsWanted t w answer → are_unflushed (client_call_events was_shut answer) ≡ true
 call_unflushed t w (call.Put front count) s plain made = refl
 call_unflushed t w (call.Full front) s plain made = refl
@@ -263,7 +263,7 @@ pub unflushed_append : (xs ys : List ClientEvent) → are_unflushed xs ≡ true 
 unflushed_append [] ys a b = b
 unflushed_append (x ∷ xs) ys a b = both_are (is_unflushed x) (are_unflushed (xs ++ ys)) (both_left (is_unflushed x) (are_unflushed xs) a) (unflushed_append xs ys (both_right (is_unflushed x) (are_unflushed xs) a) b)
 
--- a track whose client is so, and has not flushed
+-- a track whose client wants no flush, and has not flushed
 pub record IsFlushlessTrack (t : Track) : Type 0 where
   pub client : IsFlushless t.client
   pub stream : are_unflushed t.stream.events ≡ true
@@ -342,7 +342,7 @@ pub next_turn_plain : (cut : Bool) (c : Client) → IsFlushless c → IsFlushles
 next_turn_plain cut c h = let b = begun_plain c h in
     either_plain (c.waiting || c.ended || cut) (record c { waiting = false }) (record (begun c) { due = rested (begun c).due }) (record { due = h.due; ops = h.ops }) (record { due = rested_plain (begun c).due b.due; ops = b.ops })
 
--- a legal turn leaves it so
+-- a legal turn leaves a track flushless
 turn_if : (b : Bool) (t : Track) (calls : List ClientCall) → IsFlushlessTrack t → MatchBool b (calls ≡ []) (AreCalls 64 t calls) → IsFlushlessTrack (fold after_call t calls)
 turn_if true t calls h legal = subst (λ (cs : List ClientCall). IsFlushlessTrack (fold after_call t cs)) (sym legal) h
 turn_if false t calls h legal = calls_flushless 64 t calls h legal

@@ -65,7 +65,7 @@ follows_alike count k s t same f = record {
   status = same.status ∙ f.status ∙ sym (word_same s t same.life same.settled);
 }
 
--- ## What is told
+-- ## What words make of a track
 
 pub told_life : (given : Option ℕ) (words : List ℕ) (s : TrackKept) → (told_all given words s).life ≡ told_words words s.life
 told_life given [] s = refl
@@ -103,7 +103,7 @@ pub none_more : (count k more : ℕ) → [] ≡ course count k more → k ≡ k 
 none_more count k zero e = omega arith
 none_more count k (suc more) e = absurd (let f : 0 ≡ suc (suc (length (course count (suc k) more))) = ap (λ (xs : List ℕ). length xs) e in omega arith)
 
--- it goes on, and its life is that after the words and the report
+-- the track goes on, and its life is that after the words and the report
 pub record GoesFar (count told : ℕ) (l : Life) (s : TrackKept) : Type 0 where
   pub follows : Follows count told s
   pub life : s.life ≡ l
@@ -156,7 +156,7 @@ module _ (count j more : ℕ) (given : Option ℕ) (k : Learnt) (i : ℕ) (seen 
 abbrev pub greeted_in : NormalKept → Turn → ℕ → TrackKept
 greeted_in m e i = greeted e.ack m.last (track_at m.tracks i)
 
--- A legal turn leaves a track on its course, where its looks take the next commands, no block is shut and it doesn't run dry
+-- A legal turn leaves a track on its course, if its looks take the next commands, no block is shut and it doesn't run dry
 pub follows_turn : (count j more : ℕ) (c : Setup) (o : Outside) (m : NormalKept) (e : Turn) (i : ℕ) → i < length m.tracks → e.ended ≡ false → GoesOn c o m e → Follows count j (track_at m.tracks i) → j + more ≤ 4
     → none_shut (track_in e i).looks ≡ true → words_taken (track_in e i).looks ≡ course count j more → (heard (learnt o) i (greeted_in m e i)).known.shut ≡ false
     → runs_dry (heard (learnt o) i (greeted_in m e i)).known (told_words (course count j more) (track_at m.tracks i).life) ≡ false
@@ -178,7 +178,7 @@ follows_turn count j more c o m e i lt runs goes f le open_is words unshut wet =
       life = last.life ∙ ed.life ∙ part.life ∙ ap (λ (l : Life). life_after (heard k i s) (course count j more) l) g.life;
     }
 
--- what a turn tells of a track is legal by the track as it was greeted
+-- what the entry of a turn says of a track is legal by the track as it was greeted
 pub legal_greeted : (c : Setup) (o : Outside) (m : NormalKept) (e : Turn) (i : ℕ) → i < length m.tracks → GoesOn c o m e → (t : TrackTurned c (learnt o) m e i)
     → MatchBool (greeted_in m e i).life.ended (track_in e i ≡ nothing_seen) (IsServed t.given (heard (learnt o) i (greeted_in m e i)) (track_in e i) (ready (learnt o) i (greeted_in m e i)))
 legal_greeted c o m e i lt goes t =

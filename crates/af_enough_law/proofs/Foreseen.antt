@@ -1,4 +1,4 @@
--- What is known of a stream block after a round by a history in which its lists lie: of this round, where its proxy takes part in the meeting, or of a later one.
+-- What is known of a stream block after a round by a history in which its lists lie: of this round, if its proxy takes part in the meeting, or of a later one.
 use Rattle.std.proofs.Common.{◌≡◌, ℕ, ◌≤◌, ◌<◌, Bool, true, false, Some, List, [], ◌++◌, length, append_assoc, refl, sym, ap, ◌∙◌, subst, append-nil}
 use Rattle.af_base.specs.declared.event.ClientEvent.{ClientEvent}
 use Rattle.af_base.specs.declared.event.ServerEvent.{ServerEvent}
@@ -44,7 +44,7 @@ pub record KeepsTo (run : Run) (i : ℕ) : Type 0 where
   pub pokeless : IsPokelessTrack (sides_of (told_at run i))
   pub flushless : IsFlushlessTrack (sides_of (told_at run i))
 
--- it keeps to it in a legal round
+-- the client keeps to this in a legal round
 pub keeps_to : (cut : Bool) (s : Session) (marks : Marks) (run : Run) (round : RoundSeen) (t : TurnMade s marks run round) (i : ℕ) → i < length run.tracks → i < track_count s → LegalRound cut s marks run round → KeepsTo run i → KeepsTo (after_round s run round) i
 keeps_to cut s marks run round t i low named legal k = record {
   few = subst (λ (x : Shape). x.frames ≤ 65536) (sym (round_grows s run round i low).shape) k.few;
@@ -53,7 +53,7 @@ keeps_to cut s marks run round t i low named legal k = record {
   flushless = round_flushless s run round cut marks i low named legal k.flushless;
 }
 
--- where its proxy takes part in the meeting, the lists are those of its history
+-- if its proxy takes part in the meeting, the lists are those of its history
 pub part_seen : (cut : Bool) (s : Session) (marks : Marks) (run : Run) (round : RoundSeen) (t : TurnMade s marks run round) (i : ℕ) → i < length run.tracks → i < track_count s → LegalRound cut s marks run round → KeepsTo run i
     → takes_part s (met_after s run round) i ≡ true → Foreseen (told_at (after_round s run round) i).stream
 part_seen cut s marks run round t i low named legal k part =
@@ -100,7 +100,7 @@ module _ (cut : Bool) (s : Session) (marks : Marks) (run : Run) (round : RoundSe
   shape : k ≡ (told_at run i).stream.shape
   shape = (round_grows s run round i low).shape
 
-  -- before the turn its server is calm and open
+  -- before the turn the stream's server is calm and open
   pub early_quiet : IsQuiet (told_at run i).stream.shape (server_list (told_at run i).stream) → IsQuiet k (server_list (told_at (before_turn s run round) i).stream)
   early_quiet quiet =
       let o = over s run round i low in
@@ -122,6 +122,6 @@ module _ (cut : Bool) (s : Session) (marks : Marks) (run : Run) (round : RoundSe
       home_open (learnt t.by.outside) i (greeted_in run.normal t.turn i) home
       (ap (λ (l : Learnt). (l.own i).known.shut) t.sees ∙ known_open s marks i k seen.list seen.events seen.setting b there (early_quiet quiet))
 
-  -- and leaves it so, where no look finds the command block shut
+  -- the round leaves the server calm and open, if no look finds the command block shut
   pub quiet_after : ((e : Turn) → round.turn ≡ Some e → none_shut (track_in e i).looks ≡ true) → IsQuiet (told_at run i).stream.shape (server_list (told_at run i).stream) → IsQuiet k (server_list (told_at (after_round s run round) i).stream)
   quiet_after open_is quiet = round_quiet cut s marks run round i low legal open_is k seen.list seen.events seen.setting seen.lies (subst (λ (x : Shape). IsQuiet x (server_list (told_at run i).stream)) (sym shape) quiet)

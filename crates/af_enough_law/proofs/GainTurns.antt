@@ -130,7 +130,7 @@ module _ (from : ℕ) (t : Track) (block : IsBlock t) (frames : 1 ≤ t.stream.s
 
 -- ## A turn
 
--- what a turn came to, with so many calls left in it
+-- what a turn of gains came to, with so many calls left
 pub data Turned (from r left : ℕ) (u : Track) : Type 0 where
   writes : from + 1 ≤ position u.stream → Turned from r left u
   stops : 6 ≤ length u.commands.released → Turned from r left u

@@ -21,7 +21,7 @@ use Rattle.af_enough_law.proofs.Drafts.{attended_holder, holder_turned}
 use Rattle.af_enough_law.proofs.Following.{greeted_in}
 use Rattle.af_enough_law.proofs.Served.{track_turned}
 
--- the same attachment: its generation, and what was known then
+-- both have the same attachment: its generation, and what was known then
 pub record Attached (s t : TrackKept) : Type 0 where
   pub generation : t.generation ≡ s.generation
   pub at_attach : t.at_attach ≡ s.at_attach
@@ -117,7 +117,7 @@ away_same own s t away (stays a b) = same s
 away_same own s t away (leaves a) = record { generation = refl; at_attach = refl }
 away_same own s t away (enters draft a) = absurd (true≢false (sym a ∙ away_entry s.holder (is_some s.slot && plays s.life) away))
 
--- and so does one whose proxy is away when it is served
+-- a track whose proxy is away when it is served keeps its attachment
 pub attached_away : (c : Setup) (k : Learnt) (m : NormalKept) (e : Turn) (i : ℕ) → i < length m.tracks → e.ended ≡ false → is_home (greeted_in m e i).holder ≡ false → Attached (track_at m.tracks i) (track_at (turn_after c k m e).tracks i)
 attached_away c k m e i lt runs away =
     let t : TrackTurned c k m e i = track_turned c k m e i lt runs in

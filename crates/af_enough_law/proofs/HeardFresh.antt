@@ -89,7 +89,7 @@ more_than a b c d less = by (nat_lt 0 (a - c)) (nat_lt 0 (b - d)) refl refl
     by false true e f = refl
     by false false e f = let n : a - c ≡ 0 = search (arith, e) in let m : b - d ≡ 0 = search (arith, f) in absurd (let z : ⊥ = omega (arith, n, m, less) in z)
 
--- Frames are heard of, where the report tells of more looks that showed some than were heard of before
+-- Frames are heard of, if the report tells of more looks that showed some than were heard of before
 pub hears_fresh : (own : Heard) (r : SlotReport) (g : TrackKept) → is_home g.holder ≡ false → r.generation ≡ g.generation → g.reported.fulls + g.reported.partials < r.fulls + r.partials
     → (nat_lt 0 (heard_by own r g).known.fulls || nat_lt 0 (heard_by own r g).known.partials) ≡ true
 unfolding heard_by

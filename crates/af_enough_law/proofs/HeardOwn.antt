@@ -73,7 +73,7 @@ some_of zero zero some = absurd (let z : ⊥ = omega (arith, some) in z)
 some_of zero (suc b) some = search (arith, some)
 some_of (suc a) b some = ap (λ (x : Bool). x || nat_lt 0 b) (let e : nat_lt 0 (suc a) ≡ true = search (arith, some) in e)
 
--- and the next one hears of frames, where some of them showed frames
+-- the next turn hears of frames, if some of the own looks showed frames
 pub hears_own : (own : Heard) (r : SlotReport) (g : TrackKept) → is_home g.holder ≡ true → 0 < g.own.fulls + g.own.partials → (nat_lt 0 (heard_by own r g).known.fulls || nat_lt 0 (heard_by own r g).known.partials) ≡ true
 unfolding heard_by
 hears_own own r g home some =

@@ -30,7 +30,7 @@ first_seen : Seen → List TakeSeen → Seen
 first_seen d [] = d
 first_seen d (t ∷ takes) = t.slot.seen
 
--- one take leaves its look
+-- the only take of a track leaves its look in the counts
 pub one_own : (asked i : ℕ) (counts : Counts) (takes : List TakeSeen) (mix : TakeSeen) → takes_from takes i ≡ mix ∷ [] → own_after asked i counts takes ≡ counted asked mix.slot.seen counts
 unfolding tail_takes first_seen
 one_own asked i counts [] mix is = absurd (let z : 0 ≡ 1 = ap length is in omega (arith, z))

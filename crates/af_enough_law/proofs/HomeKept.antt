@@ -37,14 +37,14 @@ pub record HomeSeen (s : Session) (marks : Marks) (run : Run) (round : RoundSeen
   pub reaches : (count_seen mix.slot.seen ≡ buffer_of s) ⊎ (frames_put (client_list (told_at run i).stream) ≤ frames_taken (server_list (told_at run i).stream) + count_seen mix.slot.seen)
   pub all : frames_taken (server_list (told_at (after_round s run round) i).stream) ≡ frames_taken (server_list (told_at run i).stream) + count_seen mix.slot.seen
 
--- What makes such a track have two retries: its STOP was sent; its last look showed frames; frames are left in its block; or few calls are ahead of its client
+-- What makes a track at home that plays have two retries: its STOP was sent; its last look showed frames; frames are left in its block; or few calls are ahead of its client
 pub data HomeAble (run : Run) (i : ℕ) : Type 0 where
   stops : 6 ≤ length (told_at run i).commands.released → 3 ≤ (track_at run.normal.tracks i).life.retries → HomeAble run i
   shown : 1 ≤ own_shown (track_at run.normal.tracks i) → 3 ≤ (track_at run.normal.tracks i).life.retries → HomeAble run i
   left : 1 ≤ frames_left_in (told_at run i).stream → 4 ≤ (track_at run.normal.tracks i).life.retries → HomeAble run i
   hungry : (k : ℕ) → k ≤ 17 → calls_left (told_at run i).client ≤ 64 * k → k + 5 ≤ (track_at run.normal.tracks i).life.retries → HomeAble run i
 
--- so it has three
+-- a track at home that is able has three retries
 pub home_three : (run : Run) (i : ℕ) → HomeAble run i → 3 ≤ (track_at run.normal.tracks i).life.retries
 home_three run i (stops six some) = some
 home_three run i (shown h some) = some
@@ -79,7 +79,7 @@ module _ (s : Session) (marks : Marks) (run : Run) (round : RoundSeen) (i : ℕ)
   one_less : (n : ℕ) → n + 1 ≤ (track_at run.normal.tracks i).life.retries → n + 1 ≤ 50 → n ≤ (track_at after.normal.tracks i).life.retries
   one_less n has few = retries_gone s marks run round i r.on.told n t r.gone has few
 
-  -- A round after which it still plays keeps it, where its STOP wasn't sent before
+  -- A round after which the track still plays keeps it able, if its STOP wasn't sent before
   pub home_able : length (told_at run i).commands.released ≤ 5 → HomeAble run i → HomeAble after i
   home_able few (stops six has) = absurd (let z : ⊥ = omega (arith, six, few) in z)
   home_able few (shown one has) =

@@ -33,7 +33,7 @@ home_part s run round i home = sym (ends_part s (met_after s run round) i) ∙ a
 
 module _ (cut : Bool) (s : Session) (marks : Marks) (run : Run) (round : RoundSeen) (i most total : ℕ) (t : TurnMade s marks run round) (legal : LegalRound cut s marks run round) (named : IsNamed s marks run i) (runs : t.turn.ended ≡ false)
     (c : TrackCarried run i most total) (two : 2 ≤ (track_at run.normal.tracks i).life.retries) where
-  -- where its proxy is home before the round and after it
+  -- what is carried if the track's proxy is home before the round and after it
   pub home_carried : is_home (track_at run.normal.tracks i).holder ≡ true → is_home (track_at (after_round s run round).normal.tracks i).holder ≡ true → TrackGone s marks run round i most total t c.on.told
   home_carried home after =
       let part = home_part s run round i after in

@@ -1,4 +1,4 @@
--- What a round takes of a track that the normal mixer mixes: where the pipe has room for a buffer, a buffer, or all that was in its block before the round.
+-- What a round takes of a track that the normal mixer mixes: if the pipe has room for a buffer, a buffer, or all that was in its block before the round.
 use Rattle.std.proofs.Common.{◌≡◌, ◌⊎◌, inl, inr, ℕ, zero, suc, ◌+◌, ◌≤◌, ◌<◌, ◌==◌, ◌&&◌, ◌||◌, nat_le, if◌then◌else◌, Bool, true, false, true≢false, Option, List, [], ◌∷◌, ◌++◌, length, map, filter, take, fold, refl, sym, ap, ◌∙◌, subst, arith, append_assoc, append-nil, eq-eqb}
 use Rattle.std.proofs.lemmas.List.{length-set, take-append-le}
 use Rattle.std.specs.List.{range_with_len, list_any, flat_map}
@@ -180,7 +180,7 @@ module _ (cut : Bool) (s : Session) (marks : Marks) (run : Run) (round : RoundSe
       ∙ only_mix (is_home (track_at tracks i).holder) invalids mixed
       (λ home. never_invalid (learnt o) (track_in t.turn i) tracks i (home_open (learnt o) i (track_at tracks i) home (known_open s marks i k (client_list u) (server_list u) setting b shape quiet)) open_looks)
 
-  -- its only look at the track, and what it takes
+  -- the turn's only look at the track, and what it takes
   pub record HomeLook : Type 0 where
     pub mix : TakeSeen
     pub is : takes_from t.turn.mixes i ≡ mix ∷ []
@@ -226,7 +226,7 @@ module _ (cut : Bool) (s : Session) (marks : Marks) (run : Run) (round : RoundSe
         ];
       }
 
-  -- the look, where the pipe has room for a buffer and the track is mixed here
+  -- the look, if the pipe has room for a buffer and the track is mixed here
   pub home_look : nat_le (buffer (setup_of s)) t.turn.room ≡ true → is_mixed_here (track_at (after_round s run round).normal.tracks i) ≡ true → HomeLook
   home_look room here =
       let goes = t.by.legal.goes_on turn.runs in
@@ -237,7 +237,7 @@ module _ (cut : Bool) (s : Session) (marks : Marks) (run : Run) (round : RoundSe
         | inr one ↦ looked one
       ]
 
-  -- so it flows
+  -- the track flows in the round
   pub home_takes : nat_le (buffer (setup_of s)) t.turn.room ≡ true → is_mixed_here (track_at (after_round s run round).normal.tracks i) ≡ true → RoundFlows s run round i
   home_takes room here =
       let l = home_look room here in

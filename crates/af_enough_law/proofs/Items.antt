@@ -1,4 +1,4 @@
--- The draft tells the slot of each track whose proxy is not at home.
+-- The draft has the item of each track whose proxy is not at home.
 use Rattle.std.proofs.Common.{◌≡◌, ◌≢◌, inl, inr, ℕ, zero, suc, ◌≤◌, ◌&&◌, if◌then◌else◌, Bool, true, false, true≢false, All, Option, List, [], ◌∷◌, length, fold, refl, sym, ap, ◌∙◌, subst, arith}
 use Rattle.af_base.specs.declared.state.Command.{Command}
 use Rattle.af_base.specs.declared.state.FastState.{FastState}
@@ -49,7 +49,7 @@ module _ (c : Setup) where
   acked_items true m h i = subst (IsItem c m.draft i) (sym (welcomed_at m.last m.tracks i)) (welcomed_item m.last m.draft i (track_at m.tracks i) (h i))
   acked_items false m h i = h i
 
-  -- its slot stays, but for one that an OPEN gives to a track at home
+  -- the slot of a track stays, but for one that an OPEN gives to a track at home
   goes_item : (given : Option ℕ) (draft : FastState) (i : ℕ) (s t : TrackKept) → IsSlotted s → Goes given s t → IsItem c draft i s → IsItem c draft i t
   goes_item given draft i s t slotted goes = same_item c draft i s t goes.holder (λ away. elim goes.slot as (λ x. t.slot ≡ s.slot) [ inl e ↦ e | inr g ↦ absurd (true≢false (sym (slotted.homely g.0) ∙ away)) ]) goes.generation
 
@@ -105,7 +105,7 @@ module _ (c : Setup) where
   takes_items draft (take ∷ takes) tracks h = takes_items draft takes (after_take (buffer c) tracks take)
       (set_each (IsItem c draft) tracks take.track (record (track_at tracks take.track) { own = counted (buffer c) take.slot.seen (track_at tracks take.track).own }) (h take.track) h)
 
-  -- a turn keeps what the draft tells of the slots
+  -- a turn keeps the items in the draft
   pub items_turn : (scales : All (λ (x : Setting). x.scale ≤ 4096) c.settings) (k : Learnt) (m : NormalKept) (e : Turn) → length m.tracks ≤ length c.settings → IsSound m.tracks m.draft → AreItems c m → AreItems c (turn_after c k m e)
   unfolding turn_after
   items_turn scales k m e few sound h =
@@ -119,6 +119,6 @@ module _ (c : Setup) where
       by_bool e.ended (record m { ended = true }) (after_takes c e.mixes (after_push e.push (after_edits c k e m))) (λ f. h)
       (λ f. takes_items (after_push e.push (after_edits c k e m)).draft e.mixes (after_push e.push (after_edits c k e m)).tracks pushed)
 
-  -- and they hold before the first turn
+  -- the draft has the items before the first turn
   pub items_new : AreItems c (new_normal c)
   items_new i = subst (IsItem c (new_normal c).draft i) (sym (at_new (length c.settings) i)) (λ away. absurd (true≢false away))

@@ -167,7 +167,7 @@ turn_going s marks run round legal none going =
     ap has_exit (turned_same s (found_in s run round) round.turn (before_turn s run round)).entries
     ∙ entries_go s marks (early_of run round) called p.0 (subst NoExits (sym (calls_states round run)) none) (ap has_exit (calls_same round run).entries ∙ going)
 
--- where no state is an Exit, the fast mixer hasn't ended
+-- if no state is an Exit, the fast mixer hasn't ended
 pub round_going : (s : Session) (marks : Marks) (run : Run) (round : RoundSeen) → LegalRound false s marks run round → NoExits run.states → NoExits (after_round s run round).states → fast_ended run ≡ false → fast_ended (after_round s run round) ≡ false
 round_going s marks run round legal none later going =
     let turn : Run = after_turn s run round in

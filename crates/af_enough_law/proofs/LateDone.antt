@@ -52,7 +52,7 @@ emptied_stage _ (is_gone l e) alive = absurd (true≢false (sym e ∙ alive))
 emptied_stage _ (empty_on r s) alive = omega arith
 emptied_stage _ (stopped_on d r s) alive = omega arith
 
--- a life of which all is consumed was told three commands
+-- a life of which all is consumed took three commands
 emptied_told : (count told : ℕ) (l : Life) → Course count told l → 2 ≤ stage l → 3 ≤ told
 emptied_told count told l absent far = absurd (let z : ⊥ = omega (arith, far) in z)
 emptied_told count told l idle far = absurd (let z : ⊥ = omega (arith, far) in z)
@@ -83,7 +83,7 @@ module _ (s : Session) (marks : Marks) (scales : All (λ (x : Setting). x.scale 
     low : i < length run.tracks
     low = turn.turn.low
 
-    -- what is carried of it, and its client's list in a calm history
+    -- what is carried of the track, and its client's list in a calm history
     record Left : Type 0 where
       track : AwayTrack after i most total
       stream : CalmStream (told_at after i).stream.shape (client_list (told_at after i).stream) []
@@ -102,7 +102,7 @@ module _ (s : Session) (marks : Marks) (scales : All (λ (x : Setting). x.scale 
       out = out;
     }
 
-    -- where its proxy took part in the meeting
+    -- what is left if the track's proxy took part in the meeting
     left_met : takes_part s (met_after s run round) i ≡ true → Left
     left_met part =
         let back : AwayBack after i most total c.on.told = away_back false s marks i first_run (first ∷ second ∷ []) most total away c round legal t turn part in
@@ -111,7 +111,7 @@ module _ (s : Session) (marks : Marks) (scales : All (λ (x : Setting). x.scale 
           stream = part_stream false s marks run round t i low named legal o.keeps part back.carried.calm.stream.calm back.carried.calm.stream_hands;
         }
 
-    -- and where it is home in the next one
+    -- what is left if the track's proxy is home in the next meeting
     module _ (above : length run.states < after.current) where
       abbrev t_next : TurnMade s marks after next
       t_next = turn_of s marks scales long after next legal_next c_after.stands
@@ -152,7 +152,7 @@ module _ (s : Session) (marks : Marks) (scales : All (λ (x : Setting). x.scale 
             stream = subst (λ (k : _). CalmStream k (client_list (told_at after i).stream) []) grown.shape (said_earlier (told_at (after_round s after next) i).stream.shape (client_list (told_at after i).stream) (client_list (told_at (after_round s after next) i).stream) grown.calls grown.client history);
           }
 
-    -- It is a stopped one
+    -- the track is a stopped one after the round
     pub late_stopped : StoppedCarried after i most total
     late_stopped = by (leaving.part_or s marks scales long run round legal sc i named lawful slot item p leaves c_after)
       where
@@ -160,7 +160,7 @@ module _ (s : Session) (marks : Marks) (scales : All (λ (x : Setting). x.scale 
         by (inl at) = stopped_by (left_met (leaving.part_at s marks scales long run round legal sc i named lawful slot item p leaves c_after at))
         by (inr above) = stopped_by (left_missed above)
 
-    -- where the fast mixer still uses the last state, the report tells of it
+    -- if the fast mixer still uses the last state, the report tells of it
     told_now : after.current ≡ length run.states → ToldNow after i slot item
     told_now at = told_late s run round i slot item low (by (some_or_none (late_of run round)))
       where
@@ -199,7 +199,7 @@ module _ (s : Session) (marks : Marks) (scales : All (λ (x : Setting). x.scale 
             (entries_tell s i slot item run.normal.last (length run.states) p.lending.low track_is p.last (early_of run round) (with_calls round run) (some_early none) at_called
             (ap last_used (sym (turned_same s (found_in s run round) round.turn (before_turn s run round)).entries) ∙ ap (λ (es : List EntrySeen). last_used (with_cycles s es (after_turn s run round)).entries) (sym none) ∙ last_late)))
 
-    -- and its proxy is on its way
+    -- the track's proxy is on its way
     pub late_place : Place s after i slot item
     late_place = by (leaving.part_or s marks scales long run round legal sc i named lawful slot item p leaves c_after)
       where

@@ -71,7 +71,7 @@ module _ (s : Session) (marks : Marks) (scales : All (λ (x : Setting). x.scale 
   pub named_run : IsNamed s marks run i
   named_run = record { low = low_run; named = named; there = there; lawful = lawful }
 
-  -- its proxy is on its way home, in the same slot
+  -- the track's proxy is on its way home, in the same slot
   pub back : (track_at after.normal.tracks i).holder ≡ Returning
   back = left_back s marks scales long run round legal c.stands i named p.lending.lent leaves
 
@@ -97,7 +97,7 @@ module _ (s : Session) (marks : Marks) (scales : All (λ (x : Setting). x.scale 
   pub made : PushMade run.normal after.normal t.turn.push
   made = push_of s marks scales long run round legal c.stands
 
-  -- a state that the turn pushes has nothing of it
+  -- a state that the turn pushes has nothing of the track
   pub out_pushed : (m : ℕ) (y : FastState) → length run.states < m → state_of after.states m ≡ Some y → IsOut slot i y
   out_pushed m y above is = by (low_or m (length after.states))
     where
@@ -121,7 +121,7 @@ module _ (s : Session) (marks : Marks) (scales : All (λ (x : Setting). x.scale 
           let last = state_last after.states (cycle_frames s) after.normal.last some (round_last s marks run round legal c.stands.last) in
           subst (IsOut slot i) (some_is after.normal.last y (sym last ∙ ap (λ (n : ℕ). state_of after.states n) (sym at) ∙ is)) (by_push (is_busy t.turn.push) refl (omega (arith, above, high)))
 
-  -- its proxy takes part in the meeting, or it is coming
+  -- the track's proxy takes part in the meeting, or it is coming
   pub part_or : (after.current ≡ length run.states) ⊎ (length run.states < after.current)
   part_or = le_cases (length run.states) after.current (acks_states s marks run round legal c.stands.going c.states)
 
@@ -134,11 +134,11 @@ module _ (s : Session) (marks : Marks) (scales : All (λ (x : Setting). x.scale 
   -- ## What was done to its stream
 
   module _ (o : StaysOpen run i) (next : RoundSeen) (legal_next : LegalRound false s marks after next) (silent : plays (track_at (after_round s after next).normal.tracks i).life ≡ false) where
-    -- one that is coming is home after the next round
+    -- a proxy that is coming is home after the next round
     pub home_next : length run.states < after.current → is_home (track_at (after_round s after next).normal.tracks i).holder ≡ true
     home_next above = home_then s marks scales long after next legal_next c_after i named (greeted_coming s marks scales long after next legal_next c_after i named slot (coming above) (ap is_returning back) (ap number_of slot_then)) silent
 
-    -- so it is told by the history of this round or of the next one
+    -- what was done to the stream is told by the history of this round or of the next one
     pub left_seen : Foreseen (told_at after i).stream
     left_seen = by part_or
       where

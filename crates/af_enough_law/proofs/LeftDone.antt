@@ -51,7 +51,7 @@ use Rattle.af_runs.proofs.StatesFor.{state_beyond}
 some_is : (x y : FastState) → Some x ≡ Some y → x ≡ y
 some_is x y e = ap (λ (o : Option FastState). unwrap_or o x) e
 
--- a track that was told two commands or more and isn't to be heard was told three
+-- a track that took two commands or more and isn't to be heard took three
 told_three : (count told : ℕ) (l : Life) → 2 ≤ told → Course count told l → plays l ≡ false → 3 ≤ told
 told_three count (suc (suc zero)) l some there out = absurd (true≢false (sym (course_plays count 2 l there) ∙ out))
 told_three count (suc (suc (suc told))) l some there out = omega arith
@@ -86,7 +86,7 @@ module _ (s : Session) (marks : Marks) (scales : All (λ (x : Setting). x.scale 
       by false none = subst (λ (k : Shape). CalmStream k (client_list (told_at after i).stream) []) (sym (goes.shape s marks scales long run round legal c i most total named lawful track slot item l leaves next legal_next two))
           (subst (λ (es : List ClientEvent). CalmStream (told_at run i).stream.shape es []) (sym (missed_said s run round i low none)) (goes.left_stream s marks scales long run round legal c i most total named lawful track slot item l leaves next legal_next two))
 
-  -- the track is a stopped one then
+  -- the track is a stopped one after the round
   pub left_stopped : StoppedCarried after i most total
   left_stopped =
       let gone : CourseGone s marks run round i t track.on.told = goes.left_gone s marks scales long run round legal c i most total named lawful track slot item l leaves next legal_next two in
@@ -165,7 +165,7 @@ module _ (s : Session) (marks : Marks) (scales : All (λ (x : Setting). x.scale 
           subst (Plays slot item) (some_is run.normal.last x (sym there ∙ ap (state_of after.states) (sym at) ∙ is)) l.last
       by count k x is (inr above) = absurd (true≢false (sym (ap is_some is) ∙ ap is_some (state_beyond after.states k (omega (arith, above, count)))))
 
-  -- and its proxy is on its way
+  -- the track's proxy is on its way
   pub left_place : Place s after i slot item
   left_place = by (takes_part s (met_after s run round) i) refl
     where

@@ -37,11 +37,11 @@ module _ (s : Session) (marks : Marks) (scales : All (λ (x : Setting). x.scale 
   pub named_by : marks.commands i ≡ true → IsNamed s marks run i
   named_by lawful = record { low = (let a = c.tracks in omega (arith, a, named)); named = named; there = there; lawful = lawful }
 
-  -- it is there after the round
+  -- the track is there after the round
   pub many_then : i < length after.normal.tracks
   many_then = let a = ap (λ (m : NormalKept). length m.tracks) t.after in let b = turn_len (setup_of s) (learnt t.by.outside) run.normal t.turn in let d = there in omega (arith, a, b, d)
 
-  -- one whose proxy is lent is
+  -- a track whose proxy is lent is to be heard
   pub lent_heard : is_home (track_at run.normal.tracks i).holder ≡ true → (track_at after.normal.tracks i).holder ≡ Lent → plays (track_at after.normal.tracks i).life ≡ true
   lent_heard home lent = (lent_now s marks scales long run round legal c i named home lent).lending.heard
 
@@ -52,7 +52,7 @@ module _ (s : Session) (marks : Marks) (scales : All (λ (x : Setting). x.scale 
   left_by true e = absurd (true≢false e)
   left_by false e = refl
 
-  -- and one that takes its proxy back isn't
+  -- a track that takes its proxy back isn't to be heard
   pub left_silent : (track_at run.normal.tracks i).holder ≡ Lent → is_lent (track_at after.normal.tracks i).holder ≡ false → plays (track_at after.normal.tracks i).life ≡ false
   left_silent lent leaves =
       let u : TrackKept = track_at (turn_after (setup_of s) (learnt t.by.outside) run.normal t.turn).tracks i in

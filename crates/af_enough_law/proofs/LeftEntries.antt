@@ -78,7 +78,7 @@ next_kept s run entry before i free =
     by true r same = same
     by false r same = refl
 
--- and under one that wasn't, where the entry shows nothing in it
+-- the next report of a slot under a state that wasn't pushed, if the entry shows nothing in it
 pub next_unshown : (s : Session) (run : Run) (entry : CycleEntry) (before : List SlotReport) (i : ℕ) → state_of run.states entry.state ≡ None → is_shown (entry_slot entry i).seen ≡ false → next_slot s run entry before i ≡ report_at before i
 next_unshown s run entry before i none shown =
     let x : FastState = state_for s run entry.state in
@@ -175,7 +175,7 @@ module _ (s : Session) (marks : Marks) (track slot : ℕ) (item : FastTrack) (so
         generation = reported.told.generation;
       }
 
-  -- the draft plays nothing of the track where the entry shows nothing in its slot
+  -- the draft plays nothing of the track if the entry shows nothing in its slot
   draft_none : (e : EntrySeen) → is_shown (entry_slot e.entry slot).seen ≡ false → slot_for d e.entry track ≡ None
   draft_none e unshown = by q
     where
@@ -221,7 +221,7 @@ module _ (s : Session) (marks : Marks) (track slot : ℕ) (item : FastTrack) (so
 
   -- ## Some entries
 
-  -- what they leave, and the reports that are found after each
+  -- what some entries leave, and the reports that are found after each
   pub record LeftEnd (run told : Run) (es : List EntrySeen) : Type 0 where
     pub step : LeftStep s track slot item x d n k (with_cycles s es run) (with_cycles s es told)
     pub adds : Adds told (with_cycles s es told) (λ r. SaysOpen (report_at r.slots slot) item)

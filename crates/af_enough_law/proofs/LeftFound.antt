@@ -1,4 +1,4 @@
--- The report that a turn finds in a round in which a track leaves says that its server is open, where its lists lie in a history.
+-- The report that a turn finds in a round in which a track leaves says that its server is open, if its lists lie in a history.
 use Rattle.std.proofs.Common.{◌≡◌, ℕ, ◌≤◌, ◌<◌, is_some, false, true≢false, Some, List, [], ◌∷◌, ◌++◌, length, refl, sym, ap, ◌∙◌, subst, arith, append_assoc}
 use Rattle.std.proofs.lemmas.List.{take-append-drop}
 use Rattle.af_base.specs.declared.report.Report.{Report}
@@ -54,7 +54,7 @@ pub record Flowing (s : Session) (run : Run) (track slot : ℕ) (item : FastTrac
   pub going : fast_ended run ≡ false
   pub knows : KnowsStates s run
 
--- what the round leaves of it: the reports that its turn may find say that the server is open, and so does the last one
+-- what the round leaves of the track: the reports that its turn may find say that the server is open, and so does the last one
 pub record FoundOpen (s : Session) (run : Run) (round : RoundSeen) (track slot : ℕ) (item : FastTrack) : Type 0 where
   pub found : (m : ℕ) → length run.reports ≤ m → m ≤ length (with_cycles s round.entries (with_calls round run)).reports → SaysOpen (report_at (report_of (with_cycles s round.entries (with_calls round run)).reports m).slots slot) item
   pub last : SaysOpen (slot_told (after_round s run round) slot) item

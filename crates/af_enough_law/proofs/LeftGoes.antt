@@ -48,7 +48,7 @@ use Rattle.af_enough_law.proofs.TrackGoes.{CalmStream, said_by, all_fair, goes_b
 use Rattle.af_enough_law.proofs.TurnLives.{in_turned, ended_unseen}
 use Rattle.af_enough_law.proofs.Turning.{Stands}
 
--- a life on its course that is to be heard was told two commands or three
+-- a life on its course that is to be heard took two commands or three
 pub heard_told : (count told : ℕ) (l : Life) → Course count told l → plays l ≡ true → ((told ≡ 2) × (l ≡ life_in Active true false l.retries 0)) ⊎ (told ≡ 3)
 heard_told count told l absent heard = absurd (true≢false (sym heard))
 heard_told count told l idle heard = absurd (true≢false (sym heard))
@@ -204,7 +204,7 @@ module _ (s : Session) (marks : Marks) (scales : All (λ (x : Setting). x.scale 
           plays_at : NormalKept → Bool
           plays_at m = plays (track_at m.tracks i).life
 
-  -- all that its client is answered is fair
+  -- all that the track's client is answered is fair
   pub left_fair : AreFair (calls_in round i)
   left_fair = all_fair false s marks run round i t legal track.known_commands commands turn [] left_stream (inl refl) most total track.stands
 
@@ -217,6 +217,6 @@ module _ (s : Session) (marks : Marks) (scales : All (λ (x : Setting). x.scale 
       let argued = argued_by false s marks run round i t legal low named runs left_fair most total track.calm.flushless track.stands track.on.argued in
       course_goes false s marks run round i t legal track.known_commands commands turn (sent_course (sides_of (told_at after i)) most total left_stands argued) argued track.on two
 
-  -- and its command block goes on
+  -- the track's command block goes on
   pub left_commands : CalmCommands after i (known_then false s marks run round i t legal track.known_commands commands turn)
   left_commands = commands_go false s marks run round i t legal track.known_commands commands turn left_fair

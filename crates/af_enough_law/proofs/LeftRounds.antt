@@ -100,7 +100,7 @@ module _ (s : Session) (marks : Marks) (scales : All (λ (x : Setting). x.scale 
   left_by true e = absurd (true≢false e)
   left_by false e = (refl, refl)
 
-  -- its proxy is on its way home, and it is not to be heard
+  -- the track's proxy is on its way home, and the track is not to be heard
   pub left : (plays (track_at after.normal.tracks i).life ≡ false) × ((track_at after.normal.tracks i).holder ≡ Returning)
   left =
       let u : TrackKept = track_at turned.tracks i in
@@ -149,7 +149,7 @@ module _ (s : Session) (marks : Marks) (scales : All (λ (x : Setting). x.scale 
   pub out_then : IsOut slot i after.normal.draft
   out_then = draft_out after.normal i slot session.stands.order left.1 (ap number_of slot_then)
 
-  -- a state that the turn pushes has nothing of it
+  -- a state that the turn pushes has nothing of the track
   pub out_pushed : (m : ℕ) (y : FastState) → length run.states < m → state_of after.states m ≡ Some y → IsOut slot i y
   out_pushed m y above is = by (low_or m (length after.states))
     where
@@ -185,11 +185,11 @@ module _ (s : Session) (marks : Marks) (scales : All (λ (x : Setting). x.scale 
   pub returning : is_returning (track_at after.normal.tracks i).holder ≡ true
   returning = ap is_returning left.1
 
-  -- where it missed the meeting it is home after the next round, if it isn't to be heard then
+  -- if the proxy missed the meeting, it is home after the next round, if it isn't to be heard then
   pub coming : takes_part s (met_after s run round) i ≡ false → Coming after slot
   coming none = missed s marks scales long run round legal c i slot item l.last l.low (ap (λ (x : FastTrack). x.track) l.item_is) l.some (state_last run.states (cycle_frames s) run.normal.last l.some c.stands.last) out_then.free (ends_part s (met_after s run round) i ∙ none)
 
-  -- of a track whose life has ended what was done to its stream is told by this round's history or the next one's
+  -- what was done to the stream of a track whose life has ended is told by this round's history or the next one's
   pub ended_seen : (track_at after.normal.tracks i).life.ended ≡ true → Foreseen (told_at after i).stream
   ended_seen ended = by (takes_part s (met_after s run round) i) refl
     where
@@ -225,7 +225,7 @@ module _ (s : Session) (marks : Marks) (scales : All (λ (x : Setting). x.scale 
   open_heard : Foreseen (told_at after i).stream → (heard (learnt t.by.outside) i g).known.shut ≡ false
   open_heard seen = let r = report_open seen in heard_away ((learnt t.by.outside).own i) (slot_reported (learnt t.by.outside) g) g away (r.generation ∙ same_generation) r.unshut
 
-  -- So the turn doesn't hear that its stream is shut: else its life would have ended, and what was done to the stream would be told
+  -- the turn doesn't hear that the track's stream is shut: else its life would have ended, and what was done to the stream would be told
   pub left_open : OpenTurn s marks run round i t
   left_open = record { low = low_run; named = named; there = there; lawful = lawful; runs = runs; unshut = λ alive. by alive (heard (learnt t.by.outside) i g).known.shut refl }
     where

@@ -55,7 +55,7 @@ pub record IsLending (s : Session) (run : Run) (i slot : ℕ) (item : FastTrack)
   pub lent : (track_at run.normal.tracks i).holder ≡ Lent
   pub heard : plays (track_at run.normal.tracks i).life ≡ true
 
--- its stream was open when its proxy was lent
+-- a track's stream was open when its proxy was lent
 abbrev pub WasOpen : Run → ℕ → Type 0
 WasOpen run i = (track_at run.normal.tracks i).at_attach.known.shut ≡ false
 
@@ -79,7 +79,7 @@ entered_by None heard e = absurd (true≢false (ap is_lent e))
 entered_by (Some n) true e = entered_in n refl refl
 entered_by (Some n) false e = absurd (true≢false (ap is_lent e))
 
--- what it knew then is what the turn learnt at home
+-- what a lent proxy knew at its attachment is what the turn learnt at home
 edited_attach : (own : Heard) (x y : TrackKept) → x.holder ≡ Home → Edited own x y → y.holder ≡ Lent → y.at_attach ≡ own
 edited_attach own x _ home (stays a b) lent = absurd (true≢false (ap is_lent (sym lent ∙ home)))
 edited_attach own x _ home (leaves a) lent = absurd (true≢false (ap is_lent (sym lent)))
@@ -131,7 +131,7 @@ module _ (s : Session) (marks : Marks) (scales : All (λ (x : Setting). x.scale 
     pub slot : ℕ
     pub item : FastTrack
     pub lending : IsLending s after i slot item
-    -- with a generation above the one that its slot had
+    -- the proxy is lent with a generation above the one that its slot had
     pub fresh : generation_of run slot + 1 ≤ item.generation
 
   pub lent_now : is_home (track_at run.normal.tracks i).holder ≡ true → (track_at after.normal.tracks i).holder ≡ Lent → LentBy
@@ -167,7 +167,7 @@ module _ (s : Session) (marks : Marks) (scales : All (λ (x : Setting). x.scale 
             fresh = omega (arith, anew, same);
           }
 
-  -- one that was lent and stays so
+  -- a proxy that was lent and stays so
   pub lent_still : (slot : ℕ) (item : FastTrack) → IsLending s run i slot item → (track_at after.normal.tracks i).holder ≡ Lent → IsLending s after i slot item
   lent_still slot item l lent =
       let lent_next : (track_at next.tracks i).holder ≡ Lent = ap (λ (m : NormalKept). (track_at m.tracks i).holder) (sym t.after) ∙ lent in
@@ -182,7 +182,7 @@ module _ (s : Session) (marks : Marks) (scales : All (λ (x : Setting). x.scale 
         heard = ap (λ (m : NormalKept). plays (track_at m.tracks i).life) t.after ∙ lent_plays (setup_of s) (learnt t.by.outside) run.normal t.turn i there goes l.lent lent_next;
       }
 
-  -- what was known of its stream then
+  -- the stream of a proxy was open when it was lent, if the proxy then knew it open
   pub open_now : is_home (track_at run.normal.tracks i).holder ≡ true → (track_at after.normal.tracks i).holder ≡ Lent → ((learnt t.by.outside).own i).known.shut ≡ false → WasOpen after i
   open_now home lent own =
       ap (λ (m : NormalKept). (track_at m.tracks i).at_attach.known.shut) t.after
@@ -207,7 +207,7 @@ module _ (s : Session) (marks : Marks) (scales : All (λ (x : Setting). x.scale 
   pub busy_same : is_busy t.turn.push ≡ true → (after.states ≡ run.states) × (after.normal.last ≡ run.normal.last)
   busy_same busy = (round_pushes s marks scales long run round legal c ∙ ap (λ (b : Bool). run.states ++ (if b then after.normal.draft ∷ [] else [])) (pushed_not t.turn.push busy) ∙ append-nil run.states, (made.busy busy).3)
 
-  -- and after one that wasn't busy the last state plays the track
+  -- after a push that wasn't busy the last state plays the track
   pub free_plays : (slot : ℕ) (item : FastTrack) → IsLending s after i slot item → is_busy t.turn.push ≡ false → (1 ≤ length after.states) × Plays slot item after.normal.last
   free_plays slot item l free = (some after.states (round_last s marks run round legal c.last), last)
     where

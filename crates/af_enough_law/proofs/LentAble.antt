@@ -39,7 +39,7 @@ pub data LentAble (run : Run) (i slot : ℕ) : Type 0 where
   left : 1 ≤ frames_left_in (told_at run i).stream → 4 ≤ (track_at run.normal.tracks i).life.retries → LentAble run i slot
   hungry : (k : ℕ) → k ≤ 17 → calls_left (told_at run i).client ≤ 64 * k → k + 5 ≤ (track_at run.normal.tracks i).life.retries → LentAble run i slot
 
--- so it has three
+-- a lent track that is able has three retries
 pub lent_three : (run : Run) (i slot : ℕ) → LentAble run i slot → 3 ≤ (track_at run.normal.tracks i).life.retries
 lent_three run i slot (stops six some) = some
 lent_three run i slot (unheard h some) = some
@@ -79,7 +79,7 @@ module _ (s : Session) (marks : Marks) (run : Run) (round : RoundSeen) (i most t
   one_less : (n : ℕ) → n + 1 ≤ (track_at run.normal.tracks i).life.retries → n + 1 ≤ 50 → n ≤ (track_at after.normal.tracks i).life.retries
   one_less n some few = retries_gone s marks run round i on_it.told n t gone.track.gone some few
 
-  -- A round after which it still plays keeps it, where its STOP wasn't sent before
+  -- A round after which the track still plays keeps it able, if its STOP wasn't sent before
   pub lent_able : length (told_at run i).commands.released ≤ 5 → LentAble run i slot → LentAble after i slot
   lent_able few (stops six some) = absurd (let z : ⊥ = omega (arith, six, few) in z)
   lent_able few (unheard h some) = lent_fresh after i slot most total gone.track.carried.stands (let a = unheard_back s marks run round i most total slot item t on_it l gone plays (omega (arith, some)) h in omega (arith, a))

@@ -62,7 +62,7 @@ pub record LentGone (s : Session) (marks : Marks) (run : Run) (round : RoundSeen
   -- the turn has heard of all looks that this report tells, which are no more than those that the last report of the round tells
   pub noted : (track_at (after_round s run round).normal.tracks i).reported ≡ counts_in (slot_reported (learnt t.by.outside) (greeted_in run.normal t.turn i))
   pub most_found : shown_looks (slot_reported (learnt t.by.outside) (greeted_in run.normal t.turn i)) ≤ shown_looks (slot_told (after_round s run round) slot)
-  -- no more of them were heard of than its last report tells
+  -- no more looks were heard of than the last report tells
   pub heard_of : HeardOf (after_round s run round) i slot
 
 module _ (s : Session) (marks : Marks) (scales : All (λ (x : Setting). x.scale ≤ 4096) (setup_of s).settings) (long : length (setup_of s).settings ≡ track_count s) (run : Run) (round : RoundSeen) (legal : LegalRound false s marks run round) (c : SessionCarried s run)
@@ -95,7 +95,7 @@ module _ (s : Session) (marks : Marks) (scales : All (λ (x : Setting). x.scale 
       let both = length-append run.states (turn_more s run round).more in
       let some = l.some in omega (arith, whole, both, some)
 
-  -- its proxy takes part in the meeting
+  -- the track's proxy takes part in the meeting
   pub part : takes_part s after i ≡ true
   part =
       let first = acks_states s marks run round legal c.stands.going c.states in
@@ -105,7 +105,7 @@ module _ (s : Session) (marks : Marks) (scales : All (λ (x : Setting). x.scale 
       let p = (states_play s marks scales long run round legal c i most total named lawful track two slot item l stays).1 after.current x.0 first x.1 in
       or_last (is_home (track_at after.normal.tracks i).holder) (holds s after i) (holds_by s after i slot item x.0 l.low track_is x.1 p)
 
-  -- it flows
+  -- the track flows
   pub flows : FlowsIn s run round i slot item
   flows =
       let to : KeepsTo after i = keeps_to false s marks run round t i low named legal (keeps_of run i track.known_stream track.known_commands track.calm) in
@@ -129,7 +129,7 @@ module _ (s : Session) (marks : Marks) (scales : All (λ (x : Setting). x.scale 
         lent = turn_leaves s marks run round t i low kept goes away slotted;
       }
 
-  -- the draft has it in its slot
+  -- the draft has the track in its slot
   draft_now : HasItem slot item run.normal.draft
   draft_now = draft_item s run i slot item c.stands.order c.stands.items l.lent l.slot_is l.item_is
 
@@ -143,7 +143,7 @@ module _ (s : Session) (marks : Marks) (scales : All (λ (x : Setting). x.scale 
       subst (λ (r : SlotReport). FoundFor (slot_told run slot) r item)
       (ap (λ (n : ℕ). report_at (report_of (with_cycles s round.entries (with_calls round run)).reports m).slots n) (sym number) ∙ ap (λ (k : Learnt). slot_reported k g) (sym t.sees)) f
 
-  -- so the turn doesn't hear that it is shut
+  -- the turn doesn't hear that the stream is shut
   pub lent_open : OpenTurn s marks run round i t
   lent_open = record {
     low = low;
@@ -180,7 +180,7 @@ module _ (s : Session) (marks : Marks) (scales : All (λ (x : Setting). x.scale 
       let same : item.generation ≡ g.generation = ap (λ (x : FastTrack). x.generation) l.item_is ∙ sym (greeted_same t.turn.ack run.normal.last (track_at run.normal.tracks i)).generation in
       ap (λ (m : NormalKept). (track_at m.tracks i).reported) t.after ∙ reported_turned (setup_of s) (learnt t.by.outside) run.normal t.turn i kept goes l.lent alive (found.since.generation ∙ same)
 
-  -- A round that leaves it lent keeps all that is carried of it
+  -- A round that leaves the proxy lent keeps all that is carried of the track
   pub lent_gone : LentGone s marks run round i most total slot item t track.on.told
   lent_gone =
       let met : takes_part s (met_after s run round) i ≡ true = sym (ends_part s (met_after s run round) i) ∙ part in

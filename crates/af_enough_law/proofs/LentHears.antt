@@ -24,7 +24,7 @@ use Rattle.af_enough_law.proofs.LentRounds.{LentCarried, HeardOf}
 abbrev pub looks_noted : TrackKept → ℕ
 looks_noted s = s.reported.fulls + s.reported.partials
 
--- some that the last report tells of weren't heard of yet
+-- some looks that the last report tells of weren't heard of yet
 abbrev pub IsUnheard : Run → ℕ → ℕ → Type 0
 IsUnheard run i slot = looks_noted (track_at run.normal.tracks i) < shown_looks (slot_told run slot)
 

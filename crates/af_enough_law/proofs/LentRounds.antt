@@ -67,11 +67,11 @@ draft_has c m i order items lent = record {
       sym o.slot_is ∙ ap (λ (n : ℕ). slot_number (track_at m.tracks n)) owner;
 }
 
--- and plays it, where it mixes
+-- the draft plays the track, if it mixes
 pub draft_plays : (c : Setup) (m : NormalKept) (i : ℕ) → IsInOrder m → AreItems c m → is_lent (track_at m.tracks i).holder ≡ true → m.draft.command ≡ MixWrite → Plays (slot_number (track_at m.tracks i)) (item_of c i (track_at m.tracks i)) m.draft
 draft_plays c m i order items lent mixes = let h = draft_has c m i order items lent in record { mixes = mixes; carried = h.carried; is = h.is; only = h.only }
 
--- so in a run
+-- the draft of a run plays the track, if it mixes
 pub draft_item : (s : Session) (run : Run) (i slot : ℕ) (item : FastTrack) → IsInOrder run.normal → AreItems (setup_of s) run.normal → (track_at run.normal.tracks i).holder ≡ Lent → (track_at run.normal.tracks i).slot ≡ Some slot
     → item ≡ item_of (setup_of s) i (track_at run.normal.tracks i) → HasItem slot item run.normal.draft
 draft_item s run i slot item order items lent slot_is item_is =
@@ -92,7 +92,7 @@ any_from p a (suc n) i low high is = by (le_cases a i low) (λ above. any_from p
     by (inl same) later = ap (λ (x : Bool). x || list_any p (range_with_len (a + 1) n)) (ap p (sym same) ∙ is)
     by (inr above) later = or_last (p a) (list_any p (range_with_len (a + 1) n)) (later above)
 
--- where the state adopted last plays a track, its proxy takes part in the meeting
+-- if the state adopted last plays a track, its proxy takes part in the meeting
 pub holds_by : (s : Session) (run : Run) (track slot : ℕ) (item : FastTrack) (x : FastState) → slot < slots → item.track ≡ track → state_of run.states run.current ≡ Some x → Plays slot item x → holds s run track ≡ true
 holds_by s run track slot item x low is at p =
     let y : FastState = state_at (cycle_frames s) run.states run.current in
@@ -114,20 +114,20 @@ state_last (y ∷ z ∷ xs) frames last some is = state_last (z ∷ xs) frames l
 
 -- The proxy is lent, and flows: the states that may be used carry the track, the last report tells of it, and its server knows all that was released
 pub record LentCarried (s : Session) (run : Run) (i slot : ℕ) (item : FastTrack) : Type 0 where
-  -- it has this slot, in which it is told so
+  -- the track has this slot, with its item, and its proxy is lent
   pub low : slot < slots
   pub slot_is : (track_at run.normal.tracks i).slot ≡ Some slot
   pub item_is : item ≡ item_of (setup_of s) i (track_at run.normal.tracks i)
   pub lent : (track_at run.normal.tracks i).holder ≡ Lent
-  -- it is to be heard
+  -- the track is to be heard
   pub heard : plays (track_at run.normal.tracks i).life ≡ true
-  -- a state was pushed, and the last one plays it
+  -- a state was pushed, and the last one plays the track
   pub some : 1 ≤ length run.states
   pub last : Plays slot item run.normal.last
-  -- the state used last carries it, and the last report tells of it
+  -- the state used last carries the slot, and the last report tells of it
   pub used : LastCarries run slot
   pub told : IsTold run i slot item
-  -- at the last meeting its server learnt of all that was released
+  -- at the last meeting the stream's server learnt of all that was released
   pub released : KnowsReleased (told_at run i).stream
   -- the lists of its stream have the calm history of the last meeting
   pub history : CalmStream (told_at run i).stream.shape (client_list (told_at run i).stream) []
@@ -191,7 +191,7 @@ module _ (s : Session) (marks : Marks) (scales : All (λ (x : Setting). x.scale 
   few : length run.normal.tracks ≤ length (setup_of s).settings
   few = let a = c.stands.kept in omega (arith, a, long)
 
-  -- the draft after the turn plays it
+  -- the draft after the turn plays the track
   draft_then : Plays slot item next.draft
   draft_then =
       let order : IsInOrder next = order_turn (setup_of s) scales t.by.outside run.normal t.turn few runs (t.by.legal.goes_on runs) c.stands.order in
@@ -200,7 +200,7 @@ module _ (s : Session) (marks : Marks) (scales : All (λ (x : Setting). x.scale 
       let p = draft_plays (setup_of s) next i order items (ap is_lent stays_next) mixes in
       subst (λ (x : FastTrack). Plays slot x next.draft) (sym item_then) (subst (λ (n : ℕ). Plays n (item_of (setup_of s) i (track_at next.tracks i)) next.draft) (ap number_of slot_then) p)
 
-  -- and so does the last state pushed
+  -- the last state pushed plays the track
   pub last_then : Plays slot item after.normal.last
   last_then = by (is_busy t.turn.push) refl
     where

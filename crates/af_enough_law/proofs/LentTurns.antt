@@ -35,7 +35,7 @@ tail_numbers : List ℕ → List ℕ
 tail_numbers [] = []
 tail_numbers (x ∷ xs) = xs
 
--- of a track that is out there is no take
+-- there is no take of a track that is out
 module _ (p : ℕ → Bool) (i : ℕ) (out : p i ≡ false) where
   none_of : (a n : ℕ) (takes : List TakeSeen) → map (λ take. take.track) takes ≡ filter p (range_with_len a n) → takes_from takes i ≡ []
   unfolding first_or tail_numbers
@@ -76,7 +76,7 @@ slot_edited c k m e i lt runs =
 
 -- ## The round
 
--- The list of the server of a stream is as it was before the turn, where its proxy is away, and the track has a slot after the turn
+-- The list of the server of a stream is as it was before the turn, if its proxy is away, and the track has a slot after the turn
 pub turn_leaves : (s : Session) (marks : Marks) (run : Run) (round : RoundSeen) (t : TurnMade s marks run round) (i : ℕ) → i < length run.tracks → i < length run.normal.tracks → t.turn.ended ≡ false → is_home (greeted_in run.normal t.turn i).holder ≡ false
     → is_some (track_at (turn_after (setup_of s) (learnt t.by.outside) run.normal t.turn).tracks i).slot ≡ true → server_list (told_at (after_turn s run round) i).stream ≡ server_list (told_at (before_turn s run round) i).stream
 turn_leaves s marks run round t i low there runs away slot =

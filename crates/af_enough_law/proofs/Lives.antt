@@ -52,7 +52,7 @@ chosen_yes : {A : Type 0} (b : Bool) (x y : A) → b ≡ true → (if b then x e
 chosen_yes true x y h = refl
 chosen_yes false x y h = absurd (true≢false (sym h))
 
--- what a report leaves of the retries: one less at most, and 49 at least where frames were seen
+-- what a report leaves of the retries: one less at most, and 49 at least if frames were seen
 retries_by : (retries : ℕ) (seen none : Bool) → let after = (let granted = (if seen then 50 else retries) in if none then granted - 1 else granted) in (retries ≤ 50 → retries ≤ after + 1) × (seen ≡ true → 49 ≤ after) × (retries ≤ 50 → after ≤ 50)
 retries_by retries true true = ((λ h. omega arith), (λ h. omega arith), (λ h. omega arith))
 retries_by retries true false = ((λ h. omega arith), (λ h. omega arith), (λ h. omega arith))
@@ -93,22 +93,22 @@ pub stopping_done : (known : Known) (retries stop_at : ℕ) → known.shut ≡ f
 unfolding by_report
 stopping_done known retries stop_at open_still done = chosen known.shut _ _ open_still ∙ chosen_yes (nat_le stop_at known.consumed) _ _ done
 
--- and else it stays
+-- a stopping life stays so while not all is consumed
 pub stopping_stays : (known : Known) (retries stop_at : ℕ) → known.shut ≡ false → nat_le stop_at known.consumed ≡ false → by_report known (stopping retries stop_at) ≡ stopping retries stop_at
 unfolding by_report
 stopping_stays known retries stop_at open_still more = chosen known.shut _ _ open_still ∙ chosen (nat_le stop_at known.consumed) _ _ more
 
--- a drained one is stopped by the next report
+-- a drained life is stopped by the next report
 pub drained_stops : (known : Known) (retries stop_at : ℕ) → known.shut ≡ false → by_report known (drained_life retries stop_at) ≡ stopped retries stop_at
 unfolding by_report
 drained_stops known retries stop_at open_still = chosen known.shut _ _ open_still
 
--- and stays so
+-- a stopped life stays so
 pub stopped_stays : (known : Known) (retries stop_at : ℕ) → known.shut ≡ false → by_report known (stopped retries stop_at) ≡ stopped retries stop_at
 unfolding by_report
 stopped_stays known retries stop_at open_still = chosen known.shut _ _ open_still
 
--- one that isn't opened, or not started, stays out of the mix
+-- a life that isn't opened, or not started, stays out of the mix
 pub absent_stays : (known : Known) → known.shut ≡ false → by_report known new_life ≡ new_life
 unfolding by_report
 absent_stays known open_still = chosen known.shut _ _ open_still

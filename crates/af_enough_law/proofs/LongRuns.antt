@@ -24,7 +24,7 @@ bare-length (e ∷ es) = let rest = bare-length es in omega arith
 pub entries-longer : (s : Session) (run : Run) (round : RoundSeen) → length (after_round s run round).entries ≡ length run.entries + length round.entries
 entries-longer s run round = ap length (round-entries s run round) ∙ length-append run.entries (bare round.entries) ∙ ap (λ n. length run.entries + n) (bare-length round.entries)
 
--- at most 16 in each round
+-- a fast turn has at most 16 entries
 few-of : (A B : Type 0) (b : Bool) (full : Bool) (entries : List EntrySeen) → MatchBool b (entries ≡ []) (IsFastTurn 16 full entries × A × B) → length entries ≤ 16
 few-of A B true full entries h = let none : length entries ≡ 0 = ap length h in omega arith
 few-of A B false full entries h = h.0.0
@@ -42,7 +42,7 @@ entries-few cut s marks run (round ∷ rounds) legal =
 
 -- ## Whole turns
 
--- a turn that ends since the log is full has all its cycles, where it can't be full before
+-- a turn that ends since the log is full has all its cycles, if it can't be full before
 ends_whole : (n : ℕ) (full : Bool) (last : EntrySeen) → n ≡ 16 ⊎ (full ≡ false) → (n ≡ 16) ⊎ (is_mixed last.entry.cycle ≡ false) ⊎ (full ≡ true) → (n ≡ 16) ⊎ (is_mixed last.entry.cycle ≡ false) ⊎ (false ≡ true)
 ends_whole n full last (inl all) h = inl all
 ends_whole n full last (inr not_full) (inl all) = inl all
@@ -99,7 +99,7 @@ first_goes cut s marks run (suc n) (round ∷ rounds) legal going = first_goes c
 
 -- ## Rounds that are cut off
 
--- they are many, and in the first of them the fast mixer made its whole turns
+-- the rounds are many, and in the first of them the fast mixer made its whole turns
 pub long : (script : ScriptData) (files : List (List Frame)) (marks : Marks) (rounds : List RoundSeen) → HasEnoughCycles script → AreCutOff script files marks rounds → StillGoes script files marks
 long script files marks rounds enough cut =
     let s = session_of script files in

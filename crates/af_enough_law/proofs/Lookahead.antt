@@ -54,7 +54,7 @@ module _ (s : Session) (marks : Marks) (scales : All (λ (x : Setting). x.scale 
   abbrev after : Run
   after = after_round s run round
 
-  -- where the state used before the round is still the one adopted last, its proxy takes part in the meeting
+  -- if the state used before the round is still the one adopted last, the proxy takes part in the meeting
   pub held_on : after.current ≡ length run.states → takes_part s after i ≡ true
   held_on at =
       let whole = round_states s run round ∙ (turn_more s run round).whole in
@@ -62,7 +62,7 @@ module _ (s : Session) (marks : Marks) (scales : All (λ (x : Setting). x.scale 
       ap (λ (n : ℕ). state_of after.states n) at ∙ ap (λ l. state_of l (length run.states)) whole ∙ state_more run.states (turn_more s run round).more (length run.states) (omega arith) ∙ last in
       or_last (is_home (track_at after.normal.tracks i).holder) (holds s after i) (holds_by s after i slot item run.normal.last low is_track is plays_last)
 
-  -- else the state that the turn pushed was adopted: it is known to be acknowledged
+  -- if another state was adopted, it is the one that the turn pushed: it is known to be acknowledged
   pub passed : carries after.normal.draft slot ≡ false → length run.states < after.current → Coming after slot
   passed free above =
       let high = round_high s run round c.stands.adopted in
@@ -108,7 +108,7 @@ module _ (s : Session) (marks : Marks) (scales : All (λ (x : Setting). x.scale 
       let ack = (turn_sees_ack false s marks run round legal c.stands.runs h.acked t).0 in
       come run.normal.last (track_at run.normal.tracks i) t.turn.ack ack returning (ap (λ (n : ℕ). carries run.normal.last n) number ∙ h.free)
 
-  -- and stays there, where the track is not to be heard after the turn
+  -- the proxy stays home, if the track is not to be heard after the turn
   pub home_then : (greeted_in run.normal t.turn i).holder ≡ Home → plays (track_at (after_round s run round).normal.tracks i).life ≡ false → is_home (track_at (after_round s run round).normal.tracks i).holder ≡ true
   home_then home silent =
       let u : TrackKept = track_at (turn_after (setup_of s) (learnt t.by.outside) run.normal t.turn).tracks i in
@@ -121,7 +121,7 @@ module _ (s : Session) (marks : Marks) (scales : All (λ (x : Setting). x.scale 
       stays true = refl
       stays false = refl
 
-  -- then what was done to its stream before is told by the history of this round
+  -- what was done before to the stream of a proxy that is home is told by the history of this round
   pub seen_home : KeepsTo run i → is_home (track_at (after_round s run round).normal.tracks i).holder ≡ true → Foreseen (told_at (after_round s run round) i).stream
   seen_home keeps home = part_seen false s marks run round t i low named legal keeps (home_part s run round i home)
 

@@ -31,7 +31,7 @@ no e = absurd (true≢false (sym e))
 
 -- ## Words of some kind
 
--- the codes of these words are such
+-- the codes of these words pass the test
 abbrev pub all_codes : (ℕ → Bool) → List ℕ → Bool
 all_codes ok (code ∷ argument ∷ words) = ok code && all_codes ok words
 all_codes ok _ = true
@@ -40,7 +40,7 @@ either_is : (P : Life → Type 0) (b : Bool) (s t : TrackKept) → P s.life → 
 either_is P true s t h g = h
 either_is P false s t h g = g
 
--- what such commands keep of a life, and its end, so do looks that show no others
+-- what such commands and an end keep of a life, looks that show no other commands keep
 module _ (ok : ℕ → Bool) (P : Life → Type 0) (gone : (l : Life) → l.ended ≡ true → P l) (next : (code argument : ℕ) (l : Life) → ok code ≡ true → P l → P (by_command code argument l)) where
   first_words : (b : Bool) (code argument : ℕ) (words : List ℕ) → all_codes ok ((if b then code ∷ argument ∷ [] else []) ++ words) ≡ true → (b ≡ true → ok code ≡ true) × (all_codes ok words ≡ true)
   first_words true code argument words h = ((λ e. both_left (ok code) (all_codes ok words) h), both_right (ok code) (all_codes ok words) h)
@@ -65,7 +65,7 @@ module _ (ok : ℕ → Bool) (P : Life → Type 0) (gone : (l : Life) → l.ende
   commanded_keeps : (given : Option ℕ) (flush_seen : ℕ) (looks : List CommandLook) (s : TrackKept) → all_codes ok (words_taken looks) ≡ true → P s.life → P (commanded given flush_seen looks s).life
   commanded_keeps given flush_seen looks s plain h = either_is P (is_some s.awaits) s (after_looks given flush_seen looks s) h (looks_keep given flush_seen looks s plain h)
 
-  -- and a turn leaves what a report makes of it
+  -- a turn leaves what a report makes of what such commands keep
   pub turned_keeps : (c : Setup) (k : Learnt) (m : NormalKept) (e : Turn) (i : ℕ) → i < length m.tracks → e.ended ≡ false → (track_at m.tracks i).life.ended ≡ false → all_codes ok (words_taken (track_in e i).looks) ≡ true → P (track_at m.tracks i).life
       → (l : Life) × P l × ((track_at (turn_after c k m e).tracks i).life ≡ by_report (heard k i (greeted_in m e i)).known l)
   turned_keeps c k m e i lt runs alive plain h =
@@ -77,7 +77,7 @@ module _ (ok : ℕ → Bool) (P : Life → Type 0) (gone : (l : Life) → l.ende
 
 -- ## Without a STOP
 
--- a life that was told no STOP, or has ended
+-- a life that took no STOP, or has ended
 pub data Unstopped : Life → Type 0 where
   gone : (l : Life) → l.ended ≡ true → Unstopped l
   absent_on : (drained : Bool) (retries stop_at : ℕ) → Unstopped (life_in Absent false drained retries stop_at)
@@ -112,7 +112,7 @@ not_both true true e = refl
 not_both true false e = no e
 not_both false b e = refl
 
--- one that plays after a report plays on
+-- a life without a STOP that plays after a report plays on
 pub unstopped_plays : (P : Life → Type 0) → ((drained : Bool) (retries stop_at : ℕ) → P (life_in Active true drained retries stop_at)) → (known : Known) (l : Life) → Unstopped l → plays (by_report known l) ≡ true → P (by_report known l)
 unfolding by_report
 unstopped_plays P on known l u h = by known.shut refl
@@ -150,14 +150,14 @@ plain_unstopping (code ∷ argument ∷ words) p n =
 
 -- ## Turns
 
--- a turn that is told plain words without a STOP leaves a life that was told none in play, where it is to be heard after it
+-- a turn that takes plain words without a STOP leaves a life that took none in play, if it is to be heard after it
 pub early_turned : (P : Life → Type 0) → ((drained : Bool) (retries stop_at : ℕ) → P (life_in Active true drained retries stop_at)) → (c : Setup) (k : Learnt) (m : NormalKept) (e : Turn) (i : ℕ) → i < length m.tracks → e.ended ≡ false → (track_at m.tracks i).life.ended ≡ false → all_codes is_unstopping (words_taken (track_in e i).looks) ≡ true → Unstopped (track_at m.tracks i).life
     → plays (track_at (turn_after c k m e).tracks i).life ≡ true → P (track_at (turn_after c k m e).tracks i).life
 early_turned P on c k m e i lt runs alive words u h =
     let z = turned_keeps is_unstopping Unstopped gone unstopped_next c k m e i lt runs alive words u in
     subst P (sym z.2) (unstopped_plays P on (heard k i (greeted_in m e i)).known z.0 z.1 (ap plays (sym z.2) ∙ h))
 
--- a turn that is told plain words ends a life in play that isn't to be heard after it
+-- a turn that takes plain words ends a life in play that isn't to be heard after it
 pub left_turned : (c : Setup) (k : Learnt) (m : NormalKept) (e : Turn) (i : ℕ) → i < length m.tracks → e.ended ≡ false → plain_words (words_taken (track_in e i).looks) ≡ true → InPlay (track_at m.tracks i).life → 2 ≤ (track_at m.tracks i).life.retries
     → plays (track_at (turn_after c k m e).tracks i).life ≡ false → (track_at (turn_after c k m e).tracks i).life.ended ≡ true
 left_turned c k m e i lt runs plain play two out = by (track_at m.tracks i).life.ended refl
@@ -179,7 +179,7 @@ left_turned c k m e i lt runs plain play two out = by (track_at m.tracks i).life
     by true is_gone = ap (λ (l : Life). l.ended) (over_life c k m e i lt runs is_gone) ∙ is_gone
     by false alive = heard_by (ap (λ (l : Life). l.ended) first ∙ alive) (heard k i (greeted_in m e i)).known.shut refl
 
--- a life on its course that was told one command at most was told no STOP
+-- a life on its course that took one command at most took no STOP
 pub course_unstopped : (count told : ℕ) (l : Life) → Course count told l → told ≤ 2 → Unstopped l
 course_unstopped count told l absent few = absent_on false 50 0
 course_unstopped count told l idle few = idle_on false 50 0
@@ -195,7 +195,7 @@ course_unstopped count told l (over life e) few = absurd (let z : ⊥ = omega (a
 pub data IsDrained : Life → Type 0 where
   drained_on : (retries stop_at : ℕ) → IsDrained (life_in Stopping2 true true retries stop_at)
 
--- one in play that plays after a report is in play, or drained
+-- a life in play that plays after a report is in play, or drained
 pub played_report : (known : Known) (l : Life) → InPlay l → plays (by_report known l) ≡ true → InPlay (by_report known l) ⊎ IsDrained (by_report known l)
 unfolding by_report
 played_report known l u h = by known.shut refl
@@ -222,7 +222,7 @@ plain_all [] p = refl
 plain_all (x ∷ []) p = refl
 plain_all (code ∷ argument ∷ words) p = both_are (is_course_code code) (all_codes is_course_code words) (both_left (is_course_code code) (plain_words words) p) (plain_all words (both_right (is_course_code code) (plain_words words) p))
 
--- so is one that plays after a turn that was told plain words
+-- a life that plays after a turn that takes plain words is in play
 pub played_turned : (c : Setup) (k : Learnt) (m : NormalKept) (e : Turn) (i : ℕ) → i < length m.tracks → e.ended ≡ false → (track_at m.tracks i).life.ended ≡ false → plain_words (words_taken (track_in e i).looks) ≡ true → InPlay (track_at m.tracks i).life
     → plays (track_at (turn_after c k m e).tracks i).life ≡ true → InPlay (track_at (turn_after c k m e).tracks i).life ⊎ IsDrained (track_at (turn_after c k m e).tracks i).life
 played_turned c k m e i lt runs alive words u h =
@@ -258,7 +258,7 @@ emptied_next code argument l h (is_gone x e) = subst Emptied (sym (ended_command
 emptied_next code argument l h (empty_on r s) = end_codes (λ c. Emptied (by_command c argument (life_in Stopping2 true true r s))) code h (empty_on r s) (empty_on r s) (is_gone _ refl)
 emptied_next code argument l h (stopped_on d r s) = end_codes (λ c. Emptied (by_command c argument (life_in Stopped false d r s))) code h (stopped_on d r s) (stopped_on d r s) (is_gone _ refl)
 
--- after a report it has stopped or ended
+-- a life of which all is consumed has stopped or ended after a report
 emptied_report : (known : Known) (l : Life) → Emptied l → Emptied (by_report known l) × (plays (by_report known l) ≡ false)
 unfolding by_report
 emptied_report known l u = by known.shut refl
@@ -284,7 +284,7 @@ plain_ending (code ∷ argument ∷ words) p n =
     one false true c d p n = no n
     one false false c d p n = p
 
--- so is one after a turn that was told plain words without a START
+-- a life of which all was consumed is so after a turn that takes plain words without a START
 pub emptied_turned : (c : Setup) (k : Learnt) (m : NormalKept) (e : Turn) (i : ℕ) → i < length m.tracks → e.ended ≡ false → plain_words (words_taken (track_in e i).looks) ≡ true → no_start (words_taken (track_in e i).looks) ≡ true → Emptied (track_at m.tracks i).life
     → Emptied (track_at (turn_after c k m e).tracks i).life × (plays (track_at (turn_after c k m e).tracks i).life ≡ false)
 emptied_turned c k m e i lt runs plain none u = by (track_at m.tracks i).life.ended refl

@@ -34,7 +34,7 @@ pub flushes_split : (xs ys : List ClientEvent) → flushes_of (xs ++ ys) ≡ flu
 flushes_split [] ys = omega arith
 flushes_split (x ∷ xs) ys = let rest = flushes_split xs ys in omega arith
 
--- the position of a flush is 0 where there was none
+-- the position of a flush is 0 if there was none
 flush_client : (p : TrackPoint) (e : ClientEvent) → flush_in e ≡ 0 → (after_client p e).flush_at ≡ p.flush_at
 flush_client p (client.Release count) h = refl
 flush_client p client.Flush h = absurd (omega arith)
@@ -83,7 +83,7 @@ word_none k order none = number_none (after (start k) order).wrap (after (start 
 
 -- ## What a server keeps
 
--- it never sees a new flush, and never a front outside the room
+-- a server never sees a new flush, and never a front outside the room
 pub record Keeps (kept : ServerKept) (p : TrackPoint) : Type 0 where
   pub flush : kept.flush ≡ 0
   pub old : kept.is_new ≡ false
@@ -213,7 +213,7 @@ module _ (k : Shape) (se : List ServerEvent) (known : List ClientEvent) (b : IsS
   some_place xs [] is = place_order [] b.history.order xs refl b.history.legal (b.history.server_is ∙ is ∙ append-nil xs)
   some_place xs (y ∷ ys) is = (next_place xs y ys is).0
 
-  -- what holds at such a place
+  -- what holds at a place of the server's list
   pub unflushed_at : (xs : List ServerEvent) (p : Place xs) → flushes_of (client_of p.order) ≡ 0
   unflushed_at xs p = let split = flushes_split (client_of p.order) p.more in let all : flushes_of (client_of p.order ++ p.more) ≡ 0 = ap flushes_of (sym p.client) ∙ b.unflushed in omega arith
 

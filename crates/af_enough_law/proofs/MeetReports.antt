@@ -1,4 +1,4 @@
--- The report that a turn finds in the round in which the fast mixer comes to have a proxy: where it is of this attachment, it says that the server is open.
+-- The report that a turn finds in the round in which the fast mixer comes to have a proxy: if it is of this attachment, it says that the server is open.
 use Rattle.std.proofs.Common.{◌≡◌, ◌⊎◌, inl, inr, ℕ, ◌≤◌, ◌<◌, ◌||◌, if◌then◌else◌, is_some, Bool, true, false, true≢false, Option, Some, None, List, [], ◌∷◌, ◌++◌, length, refl, sym, ap, ◌∙◌, subst, arith, append_assoc, append-nil}
 use Rattle.af_base.specs.declared.event.ClientEvent.{ClientEvent}
 use Rattle.af_base.specs.declared.event.ServerEvent.{ServerEvent}
@@ -43,7 +43,7 @@ NamesTrack track slot item z = carries z slot ≡ true → (slot_of z slot).gene
 -- ## The report after an entry
 
 module _ (s : Session) (track slot : ℕ) (item : FastTrack) (low : slot < slots) where
-  -- it keeps saying so, or tells of the server that is open
+  -- the report keeps saying so, or tells of the server that is open
   pub says_next : (run : Run) (e : EntrySeen) (z : FastState) → state_for s (with_poll s e.entry.state run) e.entry.state ≡ z → NamesTrack track slot item z → (known_of (listed (told_at (with_cycle s run e) track).stream)).shut ≡ false
       → SaysOpenOf item (slot_told run slot) → SaysOpenOf item (slot_told (with_cycle s run e) slot)
   unfolding with_poll with_mix
@@ -84,7 +84,7 @@ module _ (s : Session) (marks : Marks) (track slot : ℕ) (item : FastTrack) (so
   abbrev pub KnowsMet : Run → Type 0
   KnowsMet run = (n ≤ length run.states) × (state_at (cycle_frames s) run.states n ≡ x) × ((m : ℕ) (y : FastState) → n < m → state_of run.states m ≡ Some y → HasOrOut track slot item y)
 
-  -- a state that has the item plays it where the entry shows its slot
+  -- a state that has the item plays it if the entry shows its slot
   plays_shown : (y : FastState) → HasItem slot item y → (e : EntrySeen) → is_shown (entry_slot e.entry slot).seen ≡ true → slot_for y e.entry track ≡ Some slot
   plays_shown y q e shown = slot_only y e track slot low q.carried (ap (λ (t : FastTrack). t.track) q.is ∙ is) (λ j less carried one. q.only j less carried (one ∙ sym is)) shown
 
@@ -110,7 +110,7 @@ module _ (s : Session) (marks : Marks) (track slot : ℕ) (item : FastTrack) (so
       ∙ listed_mixed y e (told_at told track) (told_at run track) same
       ∙ ap (λ (t : TrackTold). listed t.stream) (sym (cycle_track s run e track there ∙ ap (λ (z : FastState). mixed z (told_at run track)) real))
 
-  -- and so under the draft and under the state that the turn pushes
+  -- the report is the same under the draft and under the state that the turn pushes
   same_pushed : (run told : Run) (e : EntrySeen) (y : FastState) → state_for s (with_poll s e.entry.state run) e.entry.state ≡ y → state_for s (with_poll s e.entry.state told) e.entry.state ≡ d → HasOrOut track slot item y → (IsOut slot track y → is_shown (entry_slot e.entry slot).seen ≡ false)
       → track < length run.tracks → track < length told.tracks → listed (told_at told track).stream ≡ listed (told_at run track).stream → listed (told_at (with_cycle s told e) track).stream ≡ listed (told_at (with_cycle s run e) track).stream
   same_pushed run told e y real counts state hides there there' same = by (is_shown (entry_slot e.entry slot).seen) refl state
@@ -181,7 +181,7 @@ module _ (s : Session) (marks : Marks) (track slot : ℕ) (item : FastTrack) (so
 
   -- ## Some entries
 
-  -- what they leave, and the reports that are found after each
+  -- what some entries leave, and the reports that are found after each
   pub record MetEnd (run told : Run) (es : List EntrySeen) : Type 0 where
     pub step : MeetStep s track slot item x d n k (with_cycles s es run) (with_cycles s es told)
     pub adds : Adds told (with_cycles s es told) (λ r. SaysOpenOf item (report_at r.slots slot))

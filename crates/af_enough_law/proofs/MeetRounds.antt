@@ -53,7 +53,7 @@ pub record Meeting (s : Session) (run : Run) (track slot : ℕ) (item : FastTrac
   pub going : fast_ended run ≡ false
   pub knows : KnowsStates s run
 
--- Each report that the turn may find says that the server is open, where it is of this attachment
+-- Each report that the turn may find says that the server is open, if it is of this attachment
 pub meets_open : (s : Session) (marks : Marks) (run : Run) (round : RoundSeen) (track slot : ℕ) (item : FastTrack) → LegalRound false s marks run round → Meeting s run track slot item
     → ((m : ℕ) (y : FastState) → length run.states < m → state_of (after_round s run round).states m ≡ Some y → HasOrOut track slot item y)
     → server_list (told_at (after_turn s run round) track).stream ≡ server_list (told_at (before_turn s run round) track).stream
@@ -116,11 +116,11 @@ meets_open s marks run round track slot item legal f out lent seen m below high 
 -- ## The last report of a round
 
 module _ (s : Session) (marks : Marks) (track slot : ℕ) (item : FastTrack) (low : slot < slots) where
-  -- the states that were pushed have this track where they have this attachment in the slot
+  -- the states that were pushed have this track if they have this attachment in the slot
   abbrev pub HaveTrack : Run → Type 0
   HaveTrack run = (k : ℕ) (z : FastState) → state_of run.states k ≡ Some z → NamesTrack track slot item z
 
-  -- so has the state of each number
+  -- the state of each number has this track, if it has this attachment in the slot
   pub named_at : (run : Run) → HaveTrack run → (k : ℕ) → NamesTrack track slot item (state_at (cycle_frames s) run.states k)
   named_at run have k = state_at_all (cycle_frames s) run.states (NamesTrack track slot item) have none k
     where
@@ -143,7 +143,7 @@ module _ (s : Session) (marks : Marks) (track slot : ℕ) (item : FastTrack) (lo
         let open_is : (known_of (listed (told_at next track).stream)).shut ≡ false = ap is_some (ap (λ (z : Shape). (server_kept z (server_list (told_at next track).stream)).shut) lies'.shape ∙ now.unshut) in
         said_entries es next (λ m z at. have m z (ap (λ l. state_of l m) (sym (cycle_states s run e)) ∙ at)) there' legal.1 lies now (said_next run e (entry_pushed s marks run e legal.0) have open_is says)
 
-  -- It says so after a round, where the server is calm before it and after the turn, and its lists lie in a later history
+  -- The last report says so after a round, if the server is calm before it and after the turn, and its lists lie in a later history
   pub round_says : (run : Run) (round : RoundSeen) → LegalRound false s marks run round → track < length run.tracks → HaveTrack run → HaveTrack (after_round s run round) → (seen : Foreseen (told_at (after_round s run round) track).stream)
       → IsQuiet (told_at run track).stream.shape (server_list (told_at run track).stream) → IsQuiet (told_at (after_round s run round) track).stream.shape (server_list (told_at (after_turn s run round) track).stream) → SaysOpenOf item (slot_told run slot)
       → SaysOpenOf item (slot_told (after_round s run round) slot)

@@ -28,7 +28,7 @@ pub record Middle (s : Session) (run : Run) (most total q full : ℕ → ℕ) (n
   pub pipe : (i : ℕ) → i < track_count s → plays (track_at run.normal.tracks i).life ≡ true → PipeKept s run
   pub near : (i : ℕ) → i < track_count s → Near s run i (q i) (full i) (total i) n
 
--- where no round is left all lives have ended
+-- if no round is left, all lives have ended
 pub middle_over : (s : Session) (run : Run) (most total q full : ℕ → ℕ) → Middle s run most total q full 0 → (i : ℕ) → i < track_count s → (track_at run.normal.tracks i).life.ended ≡ true
 middle_over s run most total q full m i named = by (m.near i named)
   where
@@ -72,7 +72,7 @@ heard_back cut s marks run round i t legal N base kept r alive heard = by (plays
         let started = kept.started in
         absurd (out (out_stopped r.on.count r.on.told (track_at run.normal.tracks i).life (omega (arith, settled, started)) r.on.follows.course is alive))
 
--- A legal round that is followed by another one leaves one round less, where each track has two retries before it and not all is over after it
+-- A legal round that is followed by another one leaves one round less, if each track has two retries before it and not all is over after it
 pub middle_round : (s : Session) (marks : Marks) → All (λ (x : Setting). x.scale ≤ 4096) (setup_of s).settings → length (setup_of s).settings ≡ track_count s → s.script.normal ≤ 16 → IsSized s → ((i : ℕ) → i < track_count s → marks.commands i ≡ true) → (most total q full : ℕ → ℕ)
     → ((i : ℕ) → i < track_count s → IsPortion s i (q i) (full i)) → ((i : ℕ) → i < track_count s → total i < (spec_of s i).base + 2 ^ 32) → (run : Run) (round next : RoundSeen) (n : ℕ)
     → LegalRound false s marks run round → LegalRound false s marks (after_round s run round) next → ((i : ℕ) → i < track_count s → 2 ≤ (track_at run.normal.tracks i).life.retries) → is_over (after_round s run round).normal.tracks ≡ false

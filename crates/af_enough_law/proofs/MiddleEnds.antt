@@ -51,7 +51,7 @@ pub record StartsTrack (s : Session) (run : Run) (i : ℕ) (rest : List Op) : Ty
   pub past : IsPast (told_at run i).client
   pub fits : frames_put (client_list (told_at run i).stream) ≤ frames_taken (server_list (told_at run i).stream) + (spec_of s i).frames
 
--- or it has left the mix already: it was told its STOP, and all that was put is consumed
+-- the track has left the mix already: it took its STOP, and all that was put is consumed
 pub record EndsTrack (s : Session) (run : Run) (i : ℕ) : Type 0 where
   pub kept : BlockKept run i (spec_of s i).frames (spec_of s i).base
   pub sent : 6 ≤ length (told_at run i).commands.released
@@ -68,7 +68,7 @@ portion_at s i = portion s.script (spec_of s i)
 abbrev pub full_at : Session → ℕ → ℕ
 full_at s i = div_ceil (spec_of s i).frames (portion_at s i)
 
--- Where each track starts so, or has ended already, fifty rounds less than are enough are left
+-- If each track starts so, or has ended already, fifty rounds less than are enough are left
 pub middle_start : (script : ScriptData) (files : List (List Frame)) → IsScript script → (run : Run) (most total : ℕ → ℕ) (n : ℕ) → enough_rounds script ≤ n + 50
     → (let s = session_of script files in Carried s run most total → ((i : ℕ) → i < track_count s → plays (track_at run.normal.tracks i).life ≡ true → PipeKept s run)
     → ((i : ℕ) → i < track_count s → (p : Plays (spec_of s i).ops) × (total i ≡ (spec_of s i).base + way_frames p.rest) × TrackStarts s run i p.rest) → Middle s run most total (portion_at s) (full_at s) n)
@@ -104,7 +104,7 @@ middle_start script files is run most total n enough carried pipe starts = recor
 
 -- ## To the end
 
--- where all is over each life has ended
+-- if all is over, each life has ended
 pub over_lives : (tracks : List TrackKept) (i : ℕ) → i < length tracks → is_over tracks ≡ true → (track_at tracks i).life.ended ≡ true
 over_lives tracks i low whole = by (track_at tracks i).life.ended refl
   where
@@ -112,7 +112,7 @@ over_lives tracks i low whole = by (track_at tracks i).life.ended refl
     by true e = e
     by false e = absurd (true≢false (sym whole ∙ some_life tracks i low e))
 
--- A run from whose middle so many rounds follow, and one more, has ended all lives after one of them, where what makes each track have two retries is kept too
+-- A run from whose middle so many rounds follow, and one more, has ended all lives after one of them, if what makes each track have two retries is kept too
 pub middle_ends : (s : Session) (marks : Marks) → All (λ (x : Setting). x.scale ≤ 4096) (setup_of s).settings → length (setup_of s).settings ≡ track_count s → s.script.normal ≤ 16 → IsSized s → ((i : ℕ) → i < track_count s → marks.commands i ≡ true) → (most total q full : ℕ → ℕ)
     → ((i : ℕ) → i < track_count s → IsPortion s i (q i) (full i)) → ((i : ℕ) → i < track_count s → total i < (spec_of s i).base + 2 ^ 32) → (Able : Run → Type 0) → ((run : Run) → Able run → (i : ℕ) → i < track_count s → 2 ≤ (track_at run.normal.tracks i).life.retries)
     → ((run : Run) (round next : RoundSeen) (n : ℕ) → LegalRound false s marks run round → LegalRound false s marks (after_round s run round) next → is_over (after_round s run round).normal.tracks ≡ false → Middle s run most total q full (suc n) → Able run → Able (after_round s run round))

@@ -1,4 +1,4 @@
--- A run of a script with enough cycles has ended all lives before it is too late for the mixers, where its tracks start to flow early.
+-- A run of a script with enough cycles has ended all lives before it is too late for the mixers, if its tracks start to flow early.
 use Rattle.std.proofs.Common.{◌≡◌, ℕ, zero, suc, ◌+◌, ◌-◌, ◌^◌, ◌≤◌, ◌<◌, Bool, true, false, List, [], ◌∷◌, length, take, drop, refl, sym, ap, ◌∙◌, subst, arith, length-drop}
 use Rattle.std.proofs.lemmas.List.{length-map}
 use Rattle.af_base.specs.declared.frame.Frame.{Frame}
@@ -56,7 +56,7 @@ pub record KeepsAble (s : Session) (marks : Marks) (most total : ℕ → ℕ) (A
 
 -- ## The whole
 
--- Where that is so within 38 rounds, all lives have ended ten rounds before those that are enough are over, or sooner
+-- If that is so within 38 rounds, all lives have ended ten rounds before those that are enough are over, or sooner
 pub middle_never : (script : ScriptData) (files : List (List Frame)) (marks : Marks) → IsScript script → HasEnoughCycles script → ((i : ℕ) → i < length script.tracks → marks.commands i ≡ true) → (rounds : List RoundSeen) → length rounds ≡ enough_rounds script
     → LegalRounds false (session_of script files) marks (new_run (session_of script files)) rounds
     → ((k : ℕ) → k + 10 ≤ enough_rounds script → AllOver (run_from (session_of script files) (new_run (session_of script files)) (take k rounds)).normal.tracks → ⊥)

@@ -41,7 +41,7 @@ near_start s run i q full rest p way kept stands past fits =
 
 -- ## Some rounds
 
--- where no round is left the life has ended
+-- if no round is left, the life has ended
 pub near_over : (run : Run) (i q full total : ℕ) → Nearing run i q full total 0 → (track_at run.normal.tracks i).life.ended ≡ true
 near_over run i q full total (over ended) = ended
 near_over run i q full total (removed eight le) = absurd (let z : ⊥ = omega (arith, le) in z)
@@ -51,7 +51,7 @@ near_over run i q full total (emptied six one all le) = absurd (let z : ⊥ = om
 near_over run i q full total (stopping six d one fits le) = absurd (let z : ⊥ = omega (arith, le) in z)
 near_over run i q full total (flowing most due m f portions fits le) = absurd (let z : ⊥ = omega (arith, le) in z)
 
--- it has ended, or so many rounds are left
+-- the life has ended, or so many rounds are left
 pub data Near (s : Session) (run : Run) (i q full total n : ℕ) : Type 0 where
   ended : (track_at run.normal.tracks i).life.ended ≡ true → Near s run i q full total n
   living : BlockKept run i (spec_of s i).frames (spec_of s i).base → Nearing run i q full total n → Near s run i q full total n
@@ -63,7 +63,7 @@ pub record GivesRound (cut : Bool) (s : Session) (marks : Marks) (run : Run) (ro
   pub made : TurnMade s marks run round
   pub goes : (track_at run.normal.tracks i).life.ended ≡ false → BlockKept run i (spec_of s i).frames (spec_of s i).base → TrackRound s marks run round i made
 
--- such a round leaves one round less
+-- a round that gives this leaves one round less
 pub near_round : (cut : Bool) (s : Session) (marks : Marks) (run : Run) (round : RoundSeen) (i q full total n : ℕ) → IsPortion s i q full → total < (spec_of s i).base + 2 ^ 32 → GivesRound cut s marks run round i → Near s run i q full total (suc n) → Near s (after_round s run round) i q full total n
 near_round cut s marks run round i q full total n p under g (ended e) = ended (g.stays e)
 near_round cut s marks run round i q full total n p under g (living kept near) = by (track_at run.normal.tracks i).life.ended refl
@@ -75,12 +75,12 @@ near_round cut s marks run round i q full total n p under g (living kept near) =
         living (kept_round cut s marks run round i g.made g.legal (spec_of s i).frames (spec_of s i).base kept r)
         (nearer cut s marks run round i g.made g.legal (spec_of s i).frames (spec_of s i).base kept r q full total under p.least p.some p.full_some p.holds n near)
 
--- the same of each of some rounds
+-- each of some rounds gives what it is to give
 abbrev pub GivesRounds : Bool → Session → Marks → ℕ → Run → List RoundSeen → Type 0
 GivesRounds cut s marks i run [] = Unit {0}
 GivesRounds cut s marks i run (round ∷ rounds) = GivesRound cut s marks run round i × GivesRounds cut s marks i (after_round s run round) rounds
 
--- So after as many rounds as were left the life has ended
+-- after as many rounds as were left the life has ended
 pub near_ends : (cut : Bool) (s : Session) (marks : Marks) (run : Run) (rounds : List RoundSeen) (i q full total n : ℕ) → IsPortion s i q full → total < (spec_of s i).base + 2 ^ 32 → n ≤ length rounds → GivesRounds cut s marks i run rounds → Near s run i q full total n
     → (track_at (run_from s run rounds).normal.tracks i).life.ended ≡ true
 near_ends cut s marks run [] i q full total zero p under le g (ended e) = e

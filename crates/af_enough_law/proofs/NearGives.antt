@@ -75,7 +75,7 @@ heard_now count told l some (drained retries) low alive = refl
 heard_now count told l some (stopped retries) low alive = absurd (let z : ⊥ = omega (arith, low) in z)
 heard_now count told l some (over life e) low alive = absurd (true≢false (sym e ∙ alive))
 
--- and one that isn't to be heard has stopped, or has ended
+-- a started life that isn't to be heard has stopped, or has ended
 pub out_stopped : (count told : ℕ) (l : Life) → 2 ≤ told → Course count told l → plays l ≡ false → l.ended ≡ false → stage l ≡ 3
 out_stopped count told l some absent out alive = absurd (let z : ⊥ = omega (arith, some) in z)
 out_stopped count told l some idle out alive = absurd (let z : ⊥ = omega (arith, some) in z)
@@ -85,7 +85,7 @@ out_stopped count told l some (drained retries) out alive = absurd (true≢false
 out_stopped count told l some (stopped retries) out alive = refl
 out_stopped count told l some (over life e) out alive = absurd (true≢false (sym e ∙ alive))
 
--- one that isn't to be heard has stopped
+-- a life that took its STOP and isn't to be heard has stopped
 stopped_out : (count told : ℕ) (l : Life) → 3 ≤ told → Course count told l → plays l ≡ false → l.ended ≡ false → stage l ≤ 1 → ⊥
 stopped_out count told l some absent out alive low = omega (arith, some)
 stopped_out count told l some idle out alive low = omega (arith, some)
@@ -98,7 +98,7 @@ stopped_out count told l some (over life e) out alive low = true≢false (sym e 
 -- ## A round in which the proxy takes part
 
 module _ (cut : Bool) (s : Session) (marks : Marks) (run : Run) (round : RoundSeen) (i most total : ℕ) (t : TurnMade s marks run round) (turn : OpenTurn s marks run round i t) (c : TrackCarried run i most total) where
-  -- where what is carried goes on, and the track flows and is heard
+  -- what a round gives if what is carried goes on, and the track flows and is heard
   pub part_gives : (legal : LegalRound cut s marks run round) → takes_part s (met_after s run round) i ≡ true → 2 ≤ (track_at run.normal.tracks i).life.retries → TrackGone s marks run round i most total t c.on.told
       → ((track_at run.normal.tracks i).life.ended ≡ false → (track_at (after_round s run round).normal.tracks i).life.ended ≡ false → stage (track_at run.normal.tracks i).life ≤ 1 → RoundFlows s run round i) → RoundHears s marks run round i t → TrackRound s marks run round i t
   part_gives legal part two g flows hears = record {

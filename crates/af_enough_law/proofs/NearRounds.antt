@@ -111,7 +111,7 @@ module _ (cut : Bool) (s : Session) (marks : Marks) (run : Run) (round : RoundSe
     abbrev Then : ℕ → Type 0
     Then n = Nearing (after_round s run round) i q full total n
 
-    -- where the life has ended after the round nothing is left
+    -- if the life has ended after the round, nothing is left
     unless_over : (n : ℕ) → (life_then.ended ≡ false → Then n) → Then n
     unless_over n rest = by life_then.ended refl
       where

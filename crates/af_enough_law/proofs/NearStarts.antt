@@ -32,7 +32,7 @@ module _ (cut : Bool) (s : Session) (marks : Marks) (run : Run) (round : RoundSe
   pub counts_start : (N base : ℕ) → BlockCounts run i N base → BlockCounts (after_round s run round) i N base
   counts_start N base b = counts_kept cut s marks run round i t legal N base b turn c.known_commands commands
 
-  -- and once its START is settled all is known of them
+  -- once its START is settled all is known of the track's blocks
   pub kept_start : (N base : ℕ) → BlockCounts run i N base → 2 ≤ (track_at (after_round s run round).normal.tracks i).settled → BlockKept (after_round s run round) i N base
   kept_start N base b started = record {
     block = counts_start N base b;
@@ -42,7 +42,7 @@ module _ (cut : Bool) (s : Session) (marks : Marks) (run : Run) (round : RoundSe
         record { did = l.did; count = l.count; server = l.server; said = _; client = l.client; released = knows_released s run round i turn.low (ends_part s (met_after s run round) i ∙ part) };
   }
 
-  -- Where its START was settled before the round, it starts to flow
+  -- If its START was settled before the round, the track starts to flow
   pub starts_track : (rest : List Op) → most ≡ way_ops rest → total ≡ (spec_of s i).base + way_frames rest → (g : TrackGone s marks run round i most total t c.on.told) → CommandsMet run i → BlockCounts run i (spec_of s i).frames (spec_of s i).base → 2 ≤ (track_at run.normal.tracks i).settled → StartsTrack s (after_round s run round) i rest
   starts_track rest most_is total_is g met b settled =
       let sent = ap (λ (ws : List ℕ). length ws) c.on.released in

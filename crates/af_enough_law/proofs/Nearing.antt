@@ -53,7 +53,7 @@ pub data Nearing (run : Run) (i q full total : ℕ) (n : ℕ) : Type 0 where
 abbrev pub RoundHears : (s : Session) (marks : Marks) (run : Run) (round : RoundSeen) (i : ℕ) → TurnMade s marks run round → Type 0
 RoundHears s marks run round i t = min 9223372036854775807 (frames_taken (server_list (told_at run i).stream)) ≤ (heard (learnt t.by.outside) i (greeted_in run.normal t.turn i)).known.consumed
 
--- of the stream of a track that plays or is to be drained: its proxy takes part in the meeting, the track isn't disabled, and it flows and is heard
+-- what a round gives the stream of a track that plays or is to be drained: its proxy takes part in the meeting, the track isn't disabled, and it flows and is heard
 pub record StreamRound (s : Session) (marks : Marks) (run : Run) (round : RoundSeen) (i : ℕ) (t : TurnMade s marks run round) : Type 0 where
   pub part : takes_part s (met_after s run round) i ≡ true
   pub able : (track_in t.turn i).disabled ≡ false
@@ -63,7 +63,7 @@ pub record StreamRound (s : Session) (marks : Marks) (run : Run) (round : RoundS
   pub flows : RoundFlows s run round i
   pub hears : RoundHears s marks run round i t
 
--- of the track: it goes on along its course, its client on its way, and what the client is answered is fair
+-- what a round gives the track: it goes on along its course, its client on its way, and what the client is answered is fair
 pub record TrackRound (s : Session) (marks : Marks) (run : Run) (round : RoundSeen) (i : ℕ) (t : TurnMade s marks run round) : Type 0 where
   pub turn : OpenTurn s marks run round i t
   pub on : OnCourse run i
@@ -86,7 +86,7 @@ pub record StreamMet (run : Run) (i : ℕ) : Type 0 where
   pub client : client_list (told_at run i).stream ≡ said ++ client.Learn (length did) ∷ []
   pub released : KnowsReleased (told_at run i).stream
 
--- of its blocks, from the first round on: how the stream block is made, and what its client sent and its server took
+-- what is counted of a track's blocks, from the first round on: how the stream block is made, and what its client sent and its server took
 pub record BlockCounts (run : Run) (i N base : ℕ) : Type 0 where
   pub size : (told_at run i).stream.shape.frames ≡ N
   pub base_is : (told_at run i).stream.shape.base ≡ base
@@ -94,7 +94,7 @@ pub record BlockCounts (run : Run) (i N base : ℕ) : Type 0 where
   pub counts : StopCounts (sides_of (told_at run i))
   pub counted : WordsCounted run i
 
--- and once its START is settled: what was learnt at the last meeting
+-- what is counted once the track's START is settled: what was learnt at the last meeting as well
 pub record BlockKept (run : Run) (i N base : ℕ) : Type 0 where
   pub block : BlockCounts run i N base
   pub started : 2 ≤ (track_at run.normal.tracks i).settled

@@ -31,12 +31,12 @@ never-going script files marks is enough lawful goes =
     start_never script files marks is enough lawful goes.rounds goes.count goes.legal never 7 (omega arith) (most_of s) (total_of s)
     (middle_begins script files marks is enough.form lawful goes.rounds (omega (arith, count, costs)) goes.legal (λ k few. never k (omega (arith, few, costs))))
 
--- so by such marks no rounds are cut off
+-- by marks that call each command block lawful no rounds are cut off
 pub never-cut-off : (script : ScriptData) (files : List (List Frame)) (marks : Marks) (rounds : List RoundSeen) → IsScript script → HasEnoughCycles script → ((i : ℕ) → i < length script.tracks → marks.commands i ≡ true)
     → AreCutOff script files marks rounds → ⊥
 never-cut-off script files marks rounds is enough lawful cut = never-going script files marks is enough lawful (long_runs.long script files marks rounds enough cut)
 
--- and once the log is full all parties have ended
+-- by marks that call each command block lawful all parties have ended once the log is full
 pub rounds_end_in_time : (script : ScriptData) (files : List (List Frame)) (marks : Marks) (rounds : List RoundSeen) → RoundsEndInTime script files marks rounds
 rounds_end_in_time script files marks rounds is enough lawful legal full =
     let s = session_of script files in

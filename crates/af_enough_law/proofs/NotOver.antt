@@ -22,7 +22,7 @@ run_ends s marks is rounds more legal over few =
     let long = length-append rounds more in
     rounds_end s (new_run s) (rounds ++ more) (omega (arith, long, few)) (let many = new_long s in omega (arith, many)) (both_end s marks is rounds more legal over few)
 
--- So in one that still goes after as many rounds as are enough, some life hasn't ended ten rounds before
+-- In a run that still goes after as many rounds as are enough, some life hasn't ended ten rounds before
 pub goes_not_over : (script : ScriptData) (files : List (List Frame)) (marks : Marks) → IsScript script → (goes : StillGoes script files marks) → (n : ℕ) → n + 10 ≤ enough_rounds script
     → (let s = session_of script files in AllOver (run_from s (new_run s) (take n goes.rounds)).normal.tracks → ⊥)
 goes_not_over script files marks is goes n few over =

@@ -50,7 +50,7 @@ lives true true home e = no e
 lives true false home e = refl
 lives false ended home e = no e
 
--- then not all is over
+-- if some track is to be heard, not all is over
 not_over : (tracks : List TrackKept) (i : ℕ) → plays (track_at tracks i).life ≡ true → is_over tracks ≡ false
 not_over [] i e = no e
 not_over (s ∷ tracks) zero e = ap (λ (b : Bool). b && is_over tracks) (lives s.life.member s.life.ended (is_home s.holder) e)
@@ -93,7 +93,7 @@ module _ (c : Setup) (k : Learnt) (m : NormalKept) (e : Turn) (runs : e.ended �
   orders_mix going i heard = command_turned c k m e runs ∙ ap (λ (x : Command). code_of x) (facts_are (is_exit m.draft) after.tracks e.room (pipe_size c)
       ∙ mixes_by (is_exit m.draft) (is_over after.tracks) (list_any (λ (s : TrackKept). plays s.life) after.tracks) (e.room == pipe_size c) going (not_over after.tracks i heard) (or_left _ (not (e.room == pipe_size c)) (any_at after.tracks i heard)))
 
-  -- and while the pipe isn't seen empty, where not all is over
+  -- a mix is ordered while the pipe isn't seen empty, if not all is over
   pub orders_drain : is_exit m.draft ≡ false → is_over after.tracks ≡ false → (e.room == pipe_size c) ≡ false → code_of after.draft.command ≡ code_of MixWrite
   orders_drain going over some = command_turned c k m e runs ∙ ap (λ (x : Command). code_of x) (facts_are (is_exit m.draft) after.tracks e.room (pipe_size c)
       ∙ mixes_by (is_exit m.draft) (is_over after.tracks) (list_any (λ (s : TrackKept). plays s.life) after.tracks) (e.room == pipe_size c) going over (or_right (list_any (λ (s : TrackKept). plays s.life) after.tracks) (not (e.room == pipe_size c)) (ap not some)))
@@ -114,7 +114,7 @@ mix_is Mix e = absurd (omega arith)
 mix_is Write e = absurd (omega arith)
 mix_is MixWrite e = refl
 
--- and that of an Exit
+-- the number of an Exit is its own
 pub exit_is : (x : Command) → code_of x ≡ code_of Exit → x ≡ Exit
 exit_is Initial e = absurd (omega arith)
 exit_is HotIdle e = absurd (omega arith)
@@ -141,7 +141,7 @@ come last s true a returning gone = by_test (comes_home last s) (both_true (is_r
     by_test false e = absurd (true≢false (sym e))
 come last s false a returning gone = no a
 
--- A returning proxy is home after a turn that sees the last state acknowledged, where that is the draft and the track is not to be heard again
+-- A returning proxy is home after a turn that sees the last state acknowledged, if that is the draft and the track is not to be heard again
 pub comes_back : (c : Setup) (k : Learnt) (m : NormalKept) (e : Turn) (i : ℕ) → i < length m.tracks → e.ended ≡ false → IsSound m.tracks m.draft → m.last ≡ m.draft → e.ack ≡ true → is_returning (track_at m.tracks i).holder ≡ true
     → plays (track_at (turn_after c k m e).tracks i).life ≡ false → (track_at (turn_after c k m e).tracks i).holder ≡ Home
 comes_back c k m e i lt runs sound latest ack returning rests =

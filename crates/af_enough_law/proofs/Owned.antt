@@ -30,7 +30,7 @@ use Rattle.af_enough_law.specs.Owned.{AreOwned}
 no : {A : Type 0} → false ≡ true → A
 no h = absurd (true≢false (sym h))
 
--- where each lent track stays lent with its slot
+-- each lent track stays lent with its slot
 abbrev StayLent : List TrackKept → List TrackKept → Type 0
 StayLent before after = (i : ℕ) → is_lent (track_at before i).holder ≡ true → (is_lent (track_at after i).holder ≡ true) × (slot_number (track_at after i) ≡ slot_number (track_at before i))
 

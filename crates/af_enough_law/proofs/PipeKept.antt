@@ -66,7 +66,7 @@ module _ (s : Session) (marks : Marks) (scales : All (λ (x : Setting). x.scale 
     draft_mixes = mix_is (turn_after (setup_of s) (learnt t.by.outside) run.normal t.turn).draft.command
         (orders_mix (setup_of s) (learnt t.by.outside) run.normal t.turn (turn_runs s marks scales long run round legal c.stands) c.stands.draft_goes i (ap (λ (m : NormalKept). plays (track_at m.tracks i).life) (sym t.after) ∙ heard))
 
-    -- and the round keeps all of it
+    -- the round keeps all that is kept of the pipe
     pub pipe_round : PipeKept s after
     pipe_round =
         let mixes : MixesAll round = mixes_all s marks run round legal c.stands.going c.states (states_hold s marks scales long run round legal c (λ (x : FastState). x.command ≡ MixWrite) p.some p.mixes draft_mixes) in

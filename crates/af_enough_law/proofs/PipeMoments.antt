@@ -215,7 +215,7 @@ module _ (size : ℕ) where
       let d = ap frames_put h.of_one in let e = ap frames_taken h.of_two in
       (omega arith, omega arith)
 
-  -- as many were put as the events say
+  -- as many frames were put as the events say
   pub pipe_words : (puts : List ClientEvent) (put : List ℕ) (takes : List ServerEvent) (taken : List ℕ) → piped.HasPipeHistory size puts put takes taken → length put ≡ frames_put puts
   pipe_words puts put takes taken h = let a = h.put_is in let b = put_after piped.start h.history.order in let c = ap frames_put h.history.of_one in omega arith
 
@@ -231,7 +231,7 @@ module _ (size : ℕ) where
       room_words : (put room taken : ℕ) → size ≤ 65536 → front_by_room size put room ≡ wrapped taken → room ≤ size → taken ≤ put → put ≤ taken + size → (k : ℕ) → k ≤ taken → size + k ≤ room + put
       room_words put room taken few front low a b k l = omega (arith, few, front, low, a, b, l)
 
-  -- and no more than what was taken in the end leaves
+  -- the room seen is no more than what was taken in the end leaves
   pub pipe_room_most : size ≤ 65536 → (all : List ClientEvent) (takes : List ServerEvent) (before : List ClientEvent) (put room : ℕ) (behind : List ClientEvent) → History all takes → put ≡ frames_put before → room ≤ size
       → all ≡ before ++ client.SawFront (front_by_room size put room) ∷ behind → room + put ≤ size + frames_taken takes
   pipe_room_most few all takes before put room behind h is low whole =

@@ -109,7 +109,7 @@ cycles_go : (s : Session) (es : List EntrySeen) (run : Run) → PipeGoes run.pip
 cycles_go s [] run = pipe_same run.pipe run.pipe refl
 cycles_go s (e ∷ es) run = pipe_both run.pipe (with_cycle s run e).pipe (with_cycles s es (with_cycle s run e)).pipe (cycle_goes s run e) (cycles_go s es (with_cycle s run e))
 
--- and nothing is put by them
+-- nothing is put by entries
 mixed_puts : (b : Bool) (p q : PipeTold) → ones q.told ≡ ones p.told → q.put ≡ p.put → (ones (if b then q else p).told ≡ ones p.told) × ((if b then q else p).put ≡ p.put)
 mixed_puts true p q is same = (is, same)
 mixed_puts false p q is same = (refl, refl)
@@ -466,7 +466,7 @@ room_both cut s marks run round e legal knows few low_run is going =
 pub room_of_turn : (cut : Bool) (s : Session) (marks : Marks) (run : Run) (round : RoundSeen) (e : Turn) → LegalRound cut s marks run round → KnowsPipe run → pipe_size (setup_of s) ≤ 65536 → pipe_taken run ≤ pipe_put run → round.turn ≡ Some e → e.ended ≡ false → RoomSeen s run e
 room_of_turn cut s marks run round e legal knows few low_run is going = (room_both cut s marks run round e legal knows few low_run is going).0
 
--- where a turn sees the whole room, all that was put before its round is taken by the end of it
+-- if a turn sees the whole room, all that was put before its round is taken by the end of it
 pub whole_room : (cut : Bool) (s : Session) (marks : Marks) (run : Run) (round : RoundSeen) (e : Turn) → LegalRound cut s marks run round → KnowsPipe run → pipe_size (setup_of s) ≤ 65536 → pipe_taken run ≤ pipe_put run → round.turn ≡ Some e → e.ended ≡ false
     → e.room ≡ pipe_size (setup_of s) → pipe_put run ≤ pipe_taken (after_round s run round)
 whole_room cut s marks run round e legal knows few low_run is going room =
@@ -475,7 +475,7 @@ whole_room cut s marks run round e legal knows few low_run is going room =
     let b = (room_both cut s marks run round e legal knows few low_run is going).1 in
     omega (arith, a, b, room)
 
--- Two buffers are enough room: where no more than two lie in the pipe before a round that mixes, no more do after it
+-- Two buffers are enough room: if no more than two lie in the pipe before a round that mixes, no more do after it
 pub two_buffers : (s : Session) (run : Run) (round : RoundSeen) → PipeFlowed s run round → MixesAll round → asked (setup_of s) ≤ 16 * cycle_frames s → put_in s round.turn ≤ asked (setup_of s) → in_pipe run ≤ 2 * asked (setup_of s)
     → in_pipe (after_round s run round) ≤ 2 * asked (setup_of s)
 two_buffers s run round flowed mixes wide buffer low =

@@ -193,7 +193,7 @@ look_tame : (was : Bool) (events : List ClientEvent) → is_lawful events ≡ tr
 look_tame true events h = refl
 look_tame false events h = h
 
--- and its events are no pokes
+-- the events of such a call are no pokes
 pub call_tame : (t : Track) (w : Want) (answer : ClientCall) (was_shut : Bool) → is_plain_want w ≡ true → IsWanted t w answer → is_lawful (client_call_events was_shut answer) ≡ true
 call_tame t w (call.Put front count) s plain made = refl
 call_tame t w (call.Full front) s plain made = refl
@@ -215,7 +215,7 @@ pub lawful_append : (xs ys : List ClientEvent) → is_lawful xs ≡ true → is_
 lawful_append [] ys a b = b
 lawful_append (x ∷ xs) ys a b = both_are (is_tame x) (is_lawful (xs ++ ys)) (both_left (is_tame x) (is_lawful xs) a) (lawful_append xs ys (both_right (is_tame x) (is_lawful xs) a) b)
 
--- a track whose client is so, and has not poked
+-- a track whose client wants no poke, and has not poked
 pub record IsPokelessTrack (t : Track) : Type 0 where
   pub client : IsPokeless t.client
   pub stream : is_lawful t.stream.events ≡ true
@@ -294,7 +294,7 @@ pub next_turn_plain : (cut : Bool) (c : Client) → IsPokeless c → IsPokeless 
 next_turn_plain cut c h = let b = begun_plain c h in
     either_plain (c.waiting || c.ended || cut) (record c { waiting = false }) (record (begun c) { due = rested (begun c).due }) (record { due = h.due; ops = h.ops }) (record { due = rested_plain (begun c).due b.due; ops = b.ops })
 
--- a legal turn leaves it so
+-- a legal turn leaves a track pokeless
 turn_if : (b : Bool) (t : Track) (calls : List ClientCall) → IsPokelessTrack t → MatchBool b (calls ≡ []) (AreCalls 64 t calls) → IsPokelessTrack (fold after_call t calls)
 turn_if true t calls h legal = subst (λ (cs : List ClientCall). IsPokelessTrack (fold after_call t cs)) (sym legal) h
 turn_if false t calls h legal = calls_pokeless 64 t calls h legal

@@ -80,7 +80,7 @@ turned_acked : (s : Session) (found : Turn → TurnFound) (o : Option Turn) (run
 turned_acked s found None run is = is
 turned_acked s found (Some e) run is = turn_acked s (found e) e run is
 
--- all that was played in a round
+-- all that was played in a round is acknowledged
 pub played_acked : (s : Session) (marks : Marks) (run : Run) (round : RoundSeen) → LegalRound false s marks run round → IsAcked run → IsAcked (with_cycles s (late_of run round) (after_turn s run round))
 played_acked s marks run round legal is =
     let p = legal_parts (fast_ended run) s marks run round legal.turns.fast in
@@ -166,7 +166,7 @@ queue_stands s marks run round legal q =
       pushed = round_pushed s marks run round legal q.pushed;
     }
 
--- and before the first round
+-- how the queue stands before the first round
 pub new_stands : (s : Session) → QueueStands (new_run s)
 new_stands s = record { current = refl; acked = refl; pushed = refl }
 
@@ -206,7 +206,7 @@ acks_states s marks run round legal going knows =
     by n called turn (inl h) first last = last (inl (first h))
     by n called turn (inr h) first last = last (inr h)
 
--- Where the last state was adopted, the normal mixer knows after the round that it is acknowledged
+-- If the last state was adopted, the normal mixer knows after the round that it is acknowledged
 pub knows_by : (s : Session) (marks : Marks) (run : Run) (round : RoundSeen) → LegalRound false s marks run round → QueueStands run → length (after_round s run round).states ≤ (after_round s run round).current → KnowsAcked (after_round s run round)
 knows_by s marks run round legal q low =
     let late : Run = with_cycles s (late_of run round) (after_turn s run round) in
@@ -225,7 +225,7 @@ knows_by s marks run round legal q low =
       acked = omega (arith, front, is, low);
     }
 
--- After a round that pushes no state it knows that the last one is acknowledged
+-- After a round that pushes no state the normal mixer knows that the last one is acknowledged
 pub knows_acked : (s : Session) (marks : Marks) (run : Run) (round : RoundSeen) → LegalRound false s marks run round → fast_ended run ≡ false → KnowsStates s run → QueueStands run
     → length (after_round s run round).states ≡ length run.states → KnowsAcked (after_round s run round)
 knows_acked s marks run round legal going knows q pushes = knows_by s marks run round legal q (let low = acks_states s marks run round legal going knows in omega (arith, low, pushes))

@@ -50,7 +50,7 @@ stopped_on count c (suc zero) known l (stopped retries) is few open_is =
     (ap (λ (x : Life). code_of x.state) f, ap (λ (x : Life). x.drained) f)
 stopped_on count c (suc (suc more)) known l (stopped retries) is few open_is = absurd (let z : ⊥ = omega (arith, few) in z)
 
--- a life that is on its way to a stop was told three commands
+-- a life that is on its way to a stop took three commands
 pub told_three : (count k : ℕ) (l : Life) → Course count k l → l.ended ≡ false → 1 ≤ stage l → k ≡ 3
 told_three count k l absent alive some = absurd (let z : ⊥ = omega (arith, some) in z)
 told_three count k l idle alive some = absurd (let z : ⊥ = omega (arith, some) in z)
@@ -102,7 +102,7 @@ module _ (cut : Bool) (s : Session) (marks : Marks) (run : Run) (round : RoundSe
       let settled = gone.after.follows.settled in
       subst SaysStopped (sym gone.after.follows.status) (says_word after (ap (λ (l : Life). code_of l.state) life ∙ stays.0) (ap (λ (l : Life). l.drained) life ∙ stays.1) (omega (arith, settled, next, e)))
 
-  -- So after the round the REMOVE was sent
+  -- After the round the REMOVE was sent
   pub removes_round : (most total : ℕ) → Stands (sides_of b) most total → 6 ≤ length b.commands.released → AreFair (calls_in round i) → 8 ≤ length u.commands.released
   removes_round most total stands some fair =
       let made : b.client.ended ≡ false → AreCalls 64 (sides_of b) (calls_in round i) = λ going. subst (λ (d : Bool). MatchBool d (calls_in round i ≡ []) (AreCalls 64 (sides_of b) (calls_in round i))) going (legal.turns.clients i turn.named) in

@@ -122,7 +122,7 @@ module _ (s : Session) (marks : Marks) (scales : All (λ (x : Setting). x.scale 
   pub known_clean : KnowsAcked run → IsClean after
   known_clean knows = clean_by ((turn_sees_ack false s marks run round legal u.runs knows turn).1 open_is)
 
-  -- where nothing was left to be pushed and the command stays, none is
+  -- if nothing was left to be pushed and the command stays, nothing is left to be pushed
   record Still : Type 0 where
     unpushed_is : is_pushed turn.turn.push ≡ false
     clean : IsClean after
@@ -142,11 +142,11 @@ module _ (s : Session) (marks : Marks) (scales : All (λ (x : Setting). x.scale 
   home_stays : AllHome run.normal.tracks → AllHome after.normal.tracks
   home_stays home = home_on s marks scales run round legal u.runs turn open_is r.rests home
 
-  -- it puts nothing
+  -- a round of a resting mixer puts nothing
   puts_none : put_in s round.turn ≡ 0
   puts_none = rests_puts s marks run round turn r.rests
 
-  -- it goes on resting
+  -- the mixer goes on resting
   pub rests_after : Rests after.normal
   rests_after = rests_on s marks scales run round legal u.runs turn open_is u.few r.rests
 
@@ -225,6 +225,6 @@ module _ (s : Session) (marks : Marks) (scales : All (λ (x : Setting). x.scale 
       by (inr clean) (inl before) (inr idle) = none idle.1
       by (inr clean) (inl before) (inl still) = let m = mixed_round clean before later still in (m.0, inr m.1)
 
-  -- where all is home and the pipe is empty, the Exit is ordered
+  -- if all is home and the pipe is empty, the Exit is ordered
   pub orders_now : AllHome run.normal.tracks → in_pipe run ≡ 0 → is_exit after.normal.draft ≡ true
   orders_now home drained = orders_round s marks scales run round legal u.runs turn open_is rests_after (home_stays home) drained seen

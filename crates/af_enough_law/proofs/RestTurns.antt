@@ -53,7 +53,7 @@ module _ (c : Setup) (o : Outside) (m : NormalKept) (e : Turn) (runs : e.ended �
   pub rests_still : is_pushed e.push ≡ false
   rests_still = clean_by e.push (after_edits c (learnt o) e m) goes.push still_clean
 
-  -- nor is its push busy
+  -- the push of a resting mixer that had nothing to push isn't busy
   pub rests_free : is_busy e.push ≡ false
   rests_free = clean_free e.push (after_edits c (learnt o) e m) goes.push still_clean
 

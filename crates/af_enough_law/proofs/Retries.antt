@@ -32,7 +32,7 @@ and_none : (b d : Bool) → d ≡ false → (b && d) ≡ false
 and_none true d e = e
 and_none false d e = refl
 
--- a life on its course doesn't run dry where it has two retries while it plays
+-- a life on its course doesn't run dry if it has two retries while it plays
 pub wet_course : (count k : ℕ) (known : Known) (l : Life) → Course count k l → (k ≡ 2 → 2 ≤ l.retries) → runs_dry known l ≡ false
 unfolding runs_dry
 wet_course count k known l absent two = and_none (not known.shut && true) _ refl
@@ -81,7 +81,7 @@ able_turn count j more c o m e i lt runs goes f le looks words unshut two =
 plays_on : (count : ℕ) (l : Life) → Course count 2 l → (l.ended ≡ false) × (1 ≤ l.retries) × (l.retries ≤ 50)
 plays_on count l (playing retries some few) = (refl, some, few)
 
--- What a report leaves of the retries of a life that plays: one less at most, and 49 or 50 where frames were heard of
+-- What a report leaves of the retries of a life that plays: one less at most, and 49 or 50 if frames were heard of
 pub retries_left : (count : ℕ) (known : Known) (l : Life) → Course count 2 l → known.shut ≡ false → 2 ≤ l.retries
     → (l.retries ≤ (by_report known l).retries + 1) × ((nat_lt 0 known.fulls || nat_lt 0 known.partials) ≡ true → 49 ≤ (by_report known l).retries)
 retries_left count known l there unshut two =
@@ -104,7 +104,7 @@ course_alive count k l (drained retries) low = refl
 course_alive count k l (stopped retries) low = refl
 course_alive count k l (over life e) low = absurd (omega (arith, low))
 
--- what a round leaves of a track that plays after it: it has one retry less at most than when it was told its commands, and 49 or 50 where frames were heard of
+-- what a round leaves of a track that plays after it: it has one retry less at most than when it took its commands, and 49 or 50 if frames were heard of
 pub record Retried (count told : ℕ) (known : Known) (s : TrackKept) : Type 0 where
   pub follows : Follows count 2 s
   pub fall : told ≤ s.life.retries + 1
@@ -132,7 +132,7 @@ retries_round count j more s marks run round t i lt runs f le looks words unshut
       fresh = λ heard. let a = left.1 heard in omega arith;
     }
 
--- a track that has just been told to start has all 50
+-- a track that has just taken its START has all 50
 pub started_fresh : (count j more : ℕ) (l : Life) → Course count j l → j < 2 → j + more ≡ 2 → (told_words (course count j more) l).retries ≡ 50
 unfolding by_command
 started_fresh count j (suc (suc zero)) l absent low sum = refl

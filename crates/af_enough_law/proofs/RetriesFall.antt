@@ -1,4 +1,4 @@
--- A turn takes one retry of a track at most, whatever it is told and hears.
+-- A turn takes one retry of a track at most, whatever it takes and hears.
 use Rattle.std.proofs.Common.{◌≡◌, ℕ, ◌+◌, ◌≤◌, ◌<◌, Bool, true, false, length, refl, sym, ap, ◌∙◌, subst, arith}
 use Rattle.af_base.specs.Turn.{Turn}
 use Rattle.af_life.specs.declared.kept.TrackKept.{TrackKept}

@@ -21,7 +21,7 @@ use Rattle.af_enough_law.proofs.Following.{greeted_in, greeted_alike, told_life}
 use Rattle.af_enough_law.proofs.Retries.{retries_left, course_alive}
 use Rattle.af_enough_law.proofs.SentCourse.{follows_any}
 
--- it takes one at most
+-- a round takes one retry at most
 pub retries_gone : (s : Session) (marks : Marks) (run : Run) (round : RoundSeen) (i told n : ℕ) (t : TurnMade s marks run round) → CourseGone s marks run round i t told → n + 1 ≤ (track_at run.normal.tracks i).life.retries → n + 1 ≤ 50 → n ≤ (track_at (after_round s run round).normal.tracks i).life.retries
 retries_gone s marks run round i told n t gone some few =
     let l : Life = (track_at run.normal.tracks i).life in
@@ -36,7 +36,7 @@ retries_gone s marks run round i told n t gone some few =
     by true left = omega (arith, some)
     by false left = left
 
--- and leaves 49 or 50 of a track that plays, where frames were heard of
+-- the round leaves 49 or 50 retries of a track that plays, if frames were heard of
 pub fresh_gone : (s : Session) (marks : Marks) (run : Run) (round : RoundSeen) (i : ℕ) (t : TurnMade s marks run round) (on : OnCourse run i) → OpenTurn s marks run round i t → (gone : CourseGone s marks run round i t on.told) → gone.after.told ≡ 2 → 2 ≤ (track_at run.normal.tracks i).life.retries
     → (let h = heard (learnt t.by.outside) i (greeted_in run.normal t.turn i) in nat_lt 0 h.known.fulls || nat_lt 0 h.known.partials) ≡ true → 49 ≤ (track_at (after_round s run round).normal.tracks i).life.retries
 fresh_gone s marks run round i t on turn gone at two fresh =

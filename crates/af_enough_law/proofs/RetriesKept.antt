@@ -40,7 +40,7 @@ kept_calm count k n known l (drained retries) some has = has
 kept_calm count k n known l (stopped retries) some has = has
 kept_calm count k n known l (over life e) some has = subst (λ (x : Life). n ≤ x.retries) (sym (over_out (record known { shut = false }) life refl e)) has
 
--- so a round after which three commands or more were taken takes none of them
+-- a round after which three commands or more were taken takes no retries
 pub retries_kept : (s : Session) (marks : Marks) (run : Run) (round : RoundSeen) (i n : ℕ) (t : TurnMade s marks run round) (on : OnCourse run i) → OpenTurn s marks run round i t → (gone : CourseGone s marks run round i t on.told) → 3 ≤ gone.after.told → n ≤ (track_at run.normal.tracks i).life.retries → n ≤ 50
     → n ≤ (track_at (after_round s run round).normal.tracks i).life.retries
 retries_kept s marks run round i n t on turn gone three has few = by (track_at run.normal.tracks i).life.ended refl
@@ -66,11 +66,11 @@ retries_kept s marks run round i n t on turn gone three has few = by (track_at r
 -- ## A lent track that plays
 
 module _ (s : Session) (marks : Marks) (run : Run) (round : RoundSeen) (i most total slot : ℕ) (item : FastTrack) (t : TurnMade s marks run round) (on : OnCourse run i) (l : LentCarried s run i slot item) (gone : LentGone s marks run round i most total slot item t on.told) (plays : gone.track.gone.after.told ≡ 2) (two : 2 ≤ (track_at run.normal.tracks i).life.retries) where
-  -- where frames were taken that it hadn't heard of, it has 49 after the round
+  -- if frames were taken that the track hadn't heard of, it has 49 retries after the round
   pub unheard_back : IsUnheard run i slot → 49 ≤ (track_at (after_round s run round).normal.tracks i).life.retries
   unheard_back unheard = fresh_gone s marks run round i t on gone.open_is gone.track.gone plays two (hears_unheard s marks run round i most total slot item t on.told l gone unheard)
 
-  -- where frames were left, it has, or there are some then that it hasn't heard of, and it has one less at most
+  -- if frames were left, the track has 49 retries after the round, or there are some that it hasn't heard of, and it has one retry less at most
   pub left_back : HeardOf run i slot → (n : ℕ) → n + 1 ≤ (track_at run.normal.tracks i).life.retries → n + 1 ≤ 50 → 1 ≤ cycle_frames s → 1 ≤ frames_left_in (told_at run i).stream
       → (49 ≤ (track_at (after_round s run round).normal.tracks i).life.retries) ⊎ (IsUnheard (after_round s run round) i slot × (n ≤ (track_at (after_round s run round).normal.tracks i).life.retries))
   left_back before n some few one left = by (hears_taken s marks run round i most total slot item t on.told l gone before one left)

@@ -1,4 +1,4 @@
--- No state pushed and no report stored so far tells a generation of a slot above that of the draft.
+-- No state pushed and no report stored so far has a generation of a slot above that of the draft.
 use Rattle.std.proofs.Common.{◌≡◌, ◌⊎◌, inl, inr, ℕ, zero, suc, ◌≤◌, ◌<◌, if◌then◌else◌, is_some, unwrap_or, Bool, true, false, true≢false, All, Option, Some, List, [], ◌∷◌, ◌++◌, length, refl, sym, ap, ◌∙◌, subst, arith, append-nil}
 use Rattle.std.proofs.lemmas.List.{get_or-replicate}
 use Rattle.af_base.specs.declared.report.SlotReport.{SlotReport}
@@ -34,7 +34,7 @@ use Rattle.af_enough_law.proofs.RoundCalm.{legal_parts}
 
 -- ## The reports of a round
 
--- what the last report after a round tells
+-- the generation in the last report after a round
 pub round_generation : (s : Session) (marks : Marks) (run : Run) (round : RoundSeen) → LegalRound false s marks run round → (i : ℕ) (low : i < slots) (P : ℕ → Type 0) → Carry s i low P (after_round s run round) → Carry s i low P run → P (slot_told run i).generation → P (slot_told (after_round s run round) i).generation
 round_generation s marks run round legal i low P later carry told =
     let after : Run = after_round s run round in
@@ -69,7 +69,7 @@ module _ (s : Session) (marks : Marks) (scales : All (λ (x : Setting). x.scale 
       ∙ sym (draft_after_turn (setup_of s) (learnt t.by.outside) run.normal t.turn goes)
       ∙ ap (λ (m : NormalKept). m.draft) (sym t.after)
 
-  -- a round adds the draft after its turn, where that was pushed
+  -- a round adds the draft after its turn, if that was pushed
   pub round_pushes : after.states ≡ run.states ++ (if is_pushed t.turn.push then after.normal.draft ∷ [] else [])
   round_pushes =
       round_states s run round ∙ states_turned s (found_in s run round) round.turn t.turn (before_turn s run round) t.is
@@ -98,7 +98,7 @@ module _ (s : Session) (marks : Marks) (scales : All (λ (x : Setting). x.scale 
   pub states_all : (R : FastState → Type 0) → ((k : ℕ) (z : FastState) → state_of run.states k ≡ Some z → R z) → (is_pushed t.turn.push ≡ true → R after.normal.draft) → (k : ℕ) (z : FastState) → state_of after.states k ≡ Some z → R z
   states_all R h new k z at = elim (pushed_or k z at) as (λ _. R z) [ inl old ↦ h k z old | inr now ↦ subst R (sym now.1) (new now.0) ]
 
-  -- one of a number beyond those before it is the draft after it
+  -- a state of a number beyond those before the round is the draft after it
   pub beyond_draft : (k : ℕ) (z : FastState) → length run.states < k → state_of after.states k ≡ Some z → z ≡ after.normal.draft
   beyond_draft k z above at = elim (pushed_or k z at) as (λ _. z ≡ after.normal.draft) [ inl old ↦ absurd (true≢false (sym (ap is_some old) ∙ ap is_some (state_beyond run.states k above))) | inr now ↦ now.1 ]
 
@@ -108,7 +108,7 @@ module _ (s : Session) (marks : Marks) (scales : All (λ (x : Setting). x.scale 
 abbrev pub generation_of : Run → ℕ → ℕ
 generation_of run n = (slot_of run.normal.draft n).generation
 
--- no state pushed that carries the slot, and no report, tells a higher one
+-- no state pushed that carries the slot, and no report, has a higher generation
 pub record IsRipe (s : Session) (run : Run) (n : ℕ) (low : n < slots) : Type 0 where
   pub states : Carry s n low (λ g. g ≤ generation_of run n) run
   pub told : (slot_told run n).generation ≤ generation_of run n

@@ -26,7 +26,7 @@ abbrev pub no_start : List ℕ → Bool
 no_start (code ∷ argument ∷ words) = not (code == 2) && no_start words
 no_start _ = true
 
--- none follows a STOP
+-- no START among these commands follows a STOP
 abbrev pub ends_calm : List ℕ → Bool
 ends_calm (code ∷ argument ∷ words) = if code == 4 then no_start words else ends_calm words
 ends_calm _ = true
@@ -110,7 +110,7 @@ calm_rest (x ∷ y ∷ xs) ys even stop h = by (x == 4) stop h (calm_rest xs ys 
     by true stop h rest = start_rest xs ys even h
     by false stop h rest = rest stop h
 
--- words have a STOP where some at their front or after it do
+-- words have a STOP if some at their front or after it do
 pub stop_front : (xs ys : List ℕ) → even_words xs ≡ true → no_stop xs ≡ false → no_stop (xs ++ ys) ≡ false
 stop_front [] ys even stop = no (sym stop)
 stop_front (x ∷ []) ys even stop = no even
@@ -136,7 +136,7 @@ even_more (x ∷ y ∷ xs) code argument even = even_more xs code argument even
 
 -- ## A client
 
--- what it still does, before its STOP and after it
+-- what a roaming client still does, before its STOP and after it
 pub data Roams : Client → Bool → Type 0 where
   opening : (w d : Bool) (ops : List Op) → IsWay 0 ops → Roams (held w d (want.Send command.Open ∷ []) (op.Start ∷ ops) mode.Idle) false
   starting : (w d : Bool) (ops : List Op) → IsWay 0 ops → Roams (held w d (want.Send command.Start ∷ want.Settled ∷ []) ops mode.Idle) false
@@ -153,7 +153,7 @@ pub data Roams : Client → Bool → Type 0 where
   removing : (w d : Bool) → Roams (held w d (want.Send command.Remove ∷ []) [] mode.Stopped) true
   done : (w d : Bool) → Roams (held w d [] [] mode.Stopped) true
 
--- the words that it has sent then
+-- the words that a roaming client has sent
 abbrev pub said_well : Bool → List ℕ → Bool
 said_well true words = ends_calm words
 said_well false words = no_stop words
@@ -164,7 +164,7 @@ pub record IsRoaming (t : Track) : Type 0 where
   pub even : even_words t.commands.released ≡ true
   pub words : said_well stopped t.commands.released ≡ true
 
--- so none follows its STOP
+-- no START follows the STOP of a roaming client
 pub roams_calm : (t : Track) → IsRoaming t → ends_calm t.commands.released ≡ true
 roams_calm t r = by r.stopped r.words
   where
@@ -340,7 +340,7 @@ first true w x e = none_some None w refl e
 first false w x e = some_same w x (sym e)
 
 module _ (t : Track) (n : ℕ) (even : even_words t.commands.released ≡ true) where
-  -- by what is wanted, each answer
+  -- what each answer makes of the client, by what is wanted
   roam_send : (c : Client) (answer : ClientCall) → Roams c false → no_stop t.commands.released ≡ true → (w : Want) → next_want c ≡ Some w → IsWanted t w answer → After t.commands.released (after_answer n w (rest_of c.due) c answer) (said_by t answer)
   roam_send _ answer (opening x d ops way) said w wants made = subst (λ (v : Want). After t.commands.released (after_answer n v [] (held x d (want.Send command.Open ∷ []) (op.Start ∷ ops) mode.Idle) answer) (said_by t answer)) (sym same) (by (send_answer 1 _ answer (subst (λ (v : Want). IsWanted t v answer) same made)))
     where
@@ -530,11 +530,11 @@ turn_if : (b : Bool) (t : Track) (calls : List ClientCall) → MatchBool b (call
 turn_if true t calls none h = subst (λ (cs : List ClientCall). IsRoaming (fold after_call t cs)) (sym none) h
 turn_if false t calls made h = calls_roam 64 t calls made h
 
--- a legal turn of a client leaves it so
+-- a legal turn of a client leaves it roaming
 pub turn_roams : (t : Track) (calls : List ClientCall) → LegalClientTurn t calls → IsRoaming t → IsRoaming (after_calls t calls)
 turn_roams t calls legal h = next_roams (fold after_call t calls) (length calls == 64) (turn_if t.client.ended t calls legal h)
 
--- and so does its end
+-- the end of a client leaves it roaming
 pub met_roams : (t u : Track) → u.commands.released ≡ t.commands.released → (u.client ≡ t.client) ⊎ (u.client ≡ record t.client { ended = true }) → IsRoaming t → IsRoaming u
 met_roams t u words same e = record { stopped = e.stopped; client = by same; even = ap even_words words ∙ e.even; words = ap (said_well e.stopped) words ∙ e.words }
   where

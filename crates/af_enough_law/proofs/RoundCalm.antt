@@ -1,4 +1,4 @@
--- Where no client flushes, a legal round leaves a stream block's server calm and open.
+-- If no client flushes, a legal round leaves a stream block's server calm and open.
 use Rattle.std.proofs.Common.{◌≡◌, ◌⊎◌, inl, inr, ℕ, zero, suc, ◌+◌, ◌<◌, ◌==◌, ◌&&◌, ◌||◌, not, if◌then◌else◌, nat_le, Bool, true, false, true≢false, Option, Some, None, MatchBool, MatchOption, List, [], ◌∷◌, ◌++◌, length, map, filter, take, drop, refl, sym, ap, ◌∙◌, subst, arith, append-nil, eqb-true, is_some, get_or}
 use Rattle.std.proofs.lemmas.Grind.{fold-append}
 use Rattle.std.specs.List.{AllByRecursion, range_with_len, list_any, flat_map}
@@ -96,7 +96,7 @@ track_takes c o m e i goes = by (nat_le (buffer c) e.room) goes.due
 
 -- ## The turn
 
--- what a turn at a proxy adds that is home: INVALID where it is found shut
+-- what a turn at a proxy adds that is home: INVALID if it is found shut
 pub none_any : (looks : List CommandLook) → none_shut looks ≡ true → list_any (λ look. is_shut look.seen) looks ≡ false
 none_any [] h = refl
 none_any (look ∷ looks) h = by (is_shut look.seen) h (λ e. none_any looks e)
@@ -105,7 +105,7 @@ none_any (look ∷ looks) h = by (is_shut look.seen) h (λ e. none_any looks e)
     by true e later = absurd (true≢false (sym e))
     by false e later = later e
 
--- a proxy that is home is heard of as open where it is
+-- a proxy that is home is heard of as open if it is
 pub home_open : (k : Learnt) (i : ℕ) (s : TrackKept) → is_home s.holder ≡ true → (k.own i).known.shut ≡ false → (heard k i s).known.shut ≡ false
 unfolding heard_by
 home_open k i s home unshut = ap (λ (b : Bool). (if b then heard_at_home (k.own i) s else heard_elsewhere (slot_reported k s) s).known.shut) home ∙ unshut
@@ -219,7 +219,7 @@ legal_parts cut s marks run round legal = by (fast_ended run) legal.turns.fast
         )
     by false all = (all.1, all.2)
 
--- A legal round leaves the server of a stream block calm and open, where its lists lie in a history of a client that never flushes, and where no look finds the command block shut
+-- A legal round leaves the server of a stream block calm and open, if its lists lie in a history of a client that never flushes, and if no look finds the command block shut
 pub round_quiet : (cut : Bool) (s : Session) (marks : Marks) (run : Run) (round : RoundSeen) (track : ℕ) → track < length run.tracks → LegalRound cut s marks run round → ((e : Turn) → round.turn ≡ Some e → none_shut (track_in e track).looks ≡ true)
     → (k : Shape) (cs : List ClientEvent) (all : List ServerEvent) (h : Setting k cs all) → LiesIn k cs all h (told_at (after_round s run round) track).stream
     → IsQuiet k (server_list (told_at run track).stream) → IsQuiet k (server_list (told_at (after_round s run round) track).stream)

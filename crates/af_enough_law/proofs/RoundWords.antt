@@ -25,7 +25,7 @@ words_even (look ∷ looks) = by (shows_command look.seen) (words_even looks)
     by true rest = (suc rest.0, (let r = rest.1 in omega arith))
     by false rest = rest
 
--- Where the client sent so much of a course, and the words of so many commands were taken before the round, its looks take those of the next ones
+-- If the client sent so much of a course, and the words of so many commands were taken before the round, its looks take those of the next ones
 pub round_words : (cut : Bool) (s : Session) (marks : Marks) (run : Run) (round : RoundSeen) (i : ℕ) (t : TurnMade s marks run round) (turn : CalmTurn s marks run round i t) → LegalRound cut s marks run round → (known_stream known_commands : List ServerEvent) → CalmTrack run i known_stream known_commands
     → (count j k : ℕ) → (told_at (after_round s run round) i).commands.released ≡ course count 0 k → (told_at run i).commands.taken ≡ course count 0 j → (more : ℕ) × (words_taken (track_in t.turn i).looks ≡ course count j more) × (j + more ≤ k)
 round_words cut s marks run round i t turn legal known_stream known_commands calm count j k sent first =

@@ -37,7 +37,7 @@ way_of frames gains (op.Write count ∷ ops) h n = (n.0.0, way_of frames 0 ops h
 way_of frames gains (op.Stop ∷ op.Drain ∷ op.Remove ∷ []) h n = tt
 way_of frames gains _ h n = absurd (true≢false (sym h))
 
--- none of them is a poke
+-- none of a way's ops is a poke
 pub way_plain : (gains : ℕ) (ops : List Op) → IsWay gains ops → plain_ops ops ≡ true
 way_plain gains (op.Gain left right ∷ ops) way = way_plain (gains + 1) ops way.1
 way_plain gains (op.Write count ∷ ops) way = way_plain 0 ops way.1
@@ -61,7 +61,7 @@ all_at test [] i d h lt = absurd (omega arith)
 all_at test (x ∷ xs) zero d h lt = both_left (test x) (list_all test xs) h
 all_at test (x ∷ xs) (suc i) d h lt = all_at test xs i d (both_right (test x) (list_all test xs) h) (omega arith)
 
--- each of its tracks plays through
+-- each track of a script with enough cycles plays through
 pub track_plays : (script : ScriptData) (files : List (List Frame)) (i : ℕ) → IsScript script → all_play_through script ≡ true → i < length script.tracks → Plays (spec_of (session_of script files) i).ops
 track_plays script files i is through lt =
     let track = get_or script.tracks i no_spec in
@@ -76,11 +76,11 @@ new_at s i lt = get_or-map-range_with_len (new_track s) 0 (track_count s) i i _ 
 pub new_long : (s : Session) → length (new_run s).tracks ≡ track_count s
 new_long s = length-map-range_with_len (new_track s) 0 (track_count s)
 
--- its client opens the track first
+-- the client of a track in a new run opens the track first
 unfoldable pub first_doing : (ops : List Op) → Plays ops → (rest : List Op) × (begun (new_client ops) ≡ at (want.Send command.Open ∷ []) (op.Start ∷ rest) mode.Idle) × Doing (want.Send command.Open ∷ []) (op.Start ∷ rest) mode.Idle
 first_doing ops p = (p.rest, ap (λ (l : List Op). begun (new_client l)) p.whole, opening p.rest p.way)
 
--- and no block was poked
+-- no block of a new run was poked
 pub begins_pokeless : (script : ScriptData) (files : List (List Frame)) (i : ℕ) → IsScript script → all_play_through script ≡ true → i < length script.tracks → IsPokelessTrack (sides_of (told_at (new_run (session_of script files)) i))
 begins_pokeless script files i is through lt =
     let s = session_of script files in

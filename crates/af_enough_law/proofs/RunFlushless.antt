@@ -51,7 +51,7 @@ module _ (s : Session) where
           commands = unflushed_commands i lt next.commands;
         }
 
-  -- nor in legal rounds
+  -- no client flushes in legal rounds
   pub rounds_flushless : (cut : Bool) (marks : Marks) (run : Run) (rounds : List RoundSeen) (i : ℕ) → i < length run.tracks → i < track_count s → LegalRounds cut s marks run rounds → IsFlushlessTrack (sides_of (told_at run i))
       → IsFlushlessTrack (sides_of (told_at (run_from s run rounds) i))
   rounds_flushless cut marks run [] i lt there legal h = h

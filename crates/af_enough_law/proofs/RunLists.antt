@@ -39,7 +39,7 @@ drop_front : {X : Type 0} (xs ys : List X) → drop (length xs) (xs ++ ys) ≡ y
 drop_front [] ys = refl
 drop_front (x ∷ xs) ys = drop_front xs ys
 
--- a block whose client's side has grown
+-- the lists of a block whose client's side has grown
 pub side_lists : (side : Side) (b : BlockTold) (more : List ClientEvent) → side.events ≡ client_list b ++ more
     → (client_list (with_side side b) ≡ side.events) × (server_list (with_side side b) ≡ server_list b) × (hand_list (with_side side b) ≡ hand_list b)
 side_lists side b more is =
@@ -47,7 +47,7 @@ side_lists side b more is =
     let new_is : new ≡ more = ap (λ (es : List ClientEvent). drop (length (client_list b)) es) is ∙ drop_front (client_list b) more in
     (client-client b.told new ∙ ap (λ (es : List ClientEvent). client_list b ++ es) new_is ∙ sym is, client-server b.told new, client-hand b.told new)
 
--- and one whose parties met
+-- the lists of a block whose parties met
 pub meets_lists : (b : BlockTold) → (client_list (meets b) ≡ client_list b ++ client.Learn (length (server_list b)) ∷ []) × (server_list (meets b) ≡ server_list b ++ server.Learn (length (client_list b)) ∷ []) × (hand_list (meets b) ≡ hand_list b)
 meets_lists b = (refl, refl, refl)
 
@@ -106,7 +106,7 @@ command_lists s run round i lt =
       hand = ap hand_list is ∙ n.2 ∙ c.2;
     }
 
--- the command block has a history after a legal round, where its client has not poked
+-- the command block has a history after a legal round, if its client has not poked
 pub command_history : (cut : Bool) (s : Session) (marks : Marks) (run : Run) (round : RoundSeen) (i : ℕ) → LegalRound cut s marks run round → i < length run.tracks → i < track_count s
     → is_tame (told_at (after_round s run round) i).commands ≡ true → HasBlockHistory (told_at (after_round s run round) i).commands
 command_history cut s marks run round i legal lt there tame =

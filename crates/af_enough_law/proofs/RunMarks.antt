@@ -72,7 +72,7 @@ rounds_free on cut s marks run (round ∷ rounds) i lt there legal h =
     (turn_free on (told_at run i).client.ended (sides_of (told_at run i)) (calls_in round i) h (legal.0.turns.clients i there))
     (rounds_free on cut s marks (after_round s run round) rounds i (let long = round_long s run round in omega arith) there legal.1 (round_pokeless s run round cut marks i lt there legal.0 h))
 
--- so each of its blocks is lawful
+-- each block of a track that plays through is lawful
 pub run_lawful : (on cut : Bool) (script : ScriptData) (files : List (List Frame)) (marks : Marks) (rounds : List RoundSeen) (i : ℕ) → IsScript script → all_play_through script ≡ true → i < length script.tracks
     → LegalRounds cut (session_of script files) marks (new_run (session_of script files)) rounds → is_lawful_block on rounds i ≡ true
 run_lawful on cut script files marks rounds i is through lt legal =

@@ -56,7 +56,7 @@ played_grows : (asked : ℕ) (e : EntrySeen) (i : ℕ) (b : BlockTold) → Grows
 played_grows asked e i b = let slot = entry_slot e.entry i in let events = cycle_events asked (listed b) slot (front_of asked (listed b) slot) in
     record { shape = refl; more = events; server = server-server b.told events }
 
--- by its client's calls
+-- a track's blocks grow by its client's calls
 side_grows : (t : TrackTold) (calls : List _) → Grows t.stream (called calls t).stream × Grows t.commands (called calls t).commands
 side_grows t calls =
     let after = after_calls (sides_of t) calls in (

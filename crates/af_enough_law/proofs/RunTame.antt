@@ -88,7 +88,7 @@ module _ (s : Session) where
           commands = lawful_commands i lt next.commands;
         }
 
-  -- nor in legal rounds
+  -- no client pokes in legal rounds
   pub rounds_pokeless : (cut : Bool) (marks : Marks) (run : Run) (rounds : List RoundSeen) (i : ℕ) → i < length run.tracks → i < track_count s → LegalRounds cut s marks run rounds → IsPokelessTrack (sides_of (told_at run i))
       → IsPokelessTrack (sides_of (told_at (run_from s run rounds) i))
   rounds_pokeless cut marks run [] i lt there legal h = h

@@ -198,7 +198,7 @@ module _ (s : Session) where
         ∙ turned_client (found_in s run round) round.turn run.normal i early
         ∙ (mixed_commands (with_calls round run) (early_of run round) i (called (calls_in round i) t)).1
 
-    -- and of the command block only the turn changes what they left
+    -- of the command block only the turn changes what the client's calls left
     pub played_commands : (i : ℕ) (t : TrackTold) → (played_track i t).commands ≡ commands_by (found_in s run round) round.turn run.normal i (called (calls_in round i) t).commands
     unfolding played_track
     played_commands i t =

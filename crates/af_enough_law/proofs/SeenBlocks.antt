@@ -194,7 +194,7 @@ taken_next p (server.SetFlags bits) h = omega arith
 taken_next p (server.SetStatus word) h = omega arith
 taken_next p (server.Learn n) h = omega arith
 
--- where nothing is dropped, the frames consumed are those that the server's list takes
+-- if nothing is dropped, the frames consumed are those that the server's list takes
 pub consumed_is : (k : Shape) (order : List Moment) → drops_none (server_of order) ≡ true → (after (start k) order).consumed ≡ k.base + frames_taken (server_of order)
 consumed_is k [] none = omega arith
 consumed_is k (by_client e ∷ order) none = same_consumed (after (start k) order) e ∙ consumed_is k order none

@@ -57,7 +57,7 @@ next_seen first before behind others k x items h =
     (queued.start first) others before behind (observer.SawNext k x items) (λ front. k ≡ (mutated first front).pushed) refl h
     (λ es l. l.0 ∙ ap (λ (m : MutatorPoint Item). m.pushed) (mutator_half (queued.start first) es))
 
--- the same order, told from the other end
+-- an order of the queue, seen from the other end
 swapped_half : (p : QueuePoint Item) (es : List (Event (ObserverEvent Item) (MutatorEvent Item)))
     → (after (legal_swapped queued.legal queued.next) (next_swapped queued.legal queued.next) p es).observer ≡ fold observer_next p.observer (ones es)
 swapped_half p [] = refl

@@ -48,7 +48,7 @@ sends_remove left t (answer ∷ calls) is some made fair =
     let rest = spoken_long (after_call t answer) calls fair.1 in
     omega (arith, spoken, split, two, rest)
 
--- where its first look at the status says that the track is stopped, one that waits for it goes on to its REMOVE
+-- if the first look at the status says that the track is stopped, a client that waits for it goes on to its REMOVE
 drained_goes : (n word : ℕ) → SaysStopped word → n ≤ 3 → after_answer n want.Drained [] (at (want.Drained ∷ []) (op.Remove ∷ []) mode.Stopped) (call.Status word) ≡ at [] (op.Remove ∷ []) mode.Stopped
 drained_goes n word says few =
     let settled = says.settled in

@@ -13,7 +13,7 @@ use Rattle.af_enough_law.proofs.CourseWords.{codes_from, stop_in, words_course}
 use Rattle.af_enough_law.proofs.Doing.{codes_sent, codes_of}
 use Rattle.af_enough_law.proofs.Turning.{Stands, on, gone_for_good, words_of}
 
--- ## The words tell the commands
+-- ## The commands by their words
 
 rest_words : List ℕ → List ℕ
 rest_words [] = []
@@ -126,6 +126,6 @@ life_any before after told l low (drained retries) = absurd (let z : ⊥ = omega
 life_any before after told l low (stopped retries) = absurd (let z : ⊥ = omega (arith, low) in z)
 life_any before after told l low (over life e) = absurd (let z : ⊥ = omega (arith, low) in z)
 
--- so a track that was told no STOP yet follows any course
+-- a track that took no STOP yet follows any course
 pub follows_any : (before after told : ℕ) (s : TrackKept) → told ≤ 2 → Follows before told s → Follows after told s
 follows_any before after told s low f = record { course = life_any before after told s.life low f.course; settled = f.settled; awaits = f.awaits; status = f.status }

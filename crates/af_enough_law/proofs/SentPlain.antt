@@ -45,7 +45,7 @@ plain_take (suc zero) (code ∷ words) h = refl
 plain_take (suc (suc n)) (code ∷ []) h = refl
 plain_take (suc (suc n)) (code ∷ argument ∷ words) h = both_are (is_course_code code) (plain_words (take n words)) (both_left (is_course_code code) (plain_words words) h) (plain_take n words (both_right (is_course_code code) (plain_words words) h))
 
--- what follows so many commands
+-- what follows so many commands is plain
 pub plain_tail : (count told more : ℕ) (words : List ℕ) → plain_words (course count told more ++ words) ≡ true → plain_words words ≡ true
 plain_tail count told zero words h = h
 plain_tail count told (suc more) words h = plain_tail count (suc told) more words (both_right (is_course_code (code_at told)) (plain_words (course count (suc told) more ++ words)) h)
@@ -135,13 +135,13 @@ turn_if : (b : Bool) (t : Track) (calls : List ClientCall) → IsFlushlessTrack 
 turn_if true t calls flushless legal h = subst (λ (cs : List ClientCall). ArePlain (fold after_call t cs).commands.released) (sym legal) h
 turn_if false t calls flushless legal h = calls_plain 64 t calls flushless legal h
 
--- in a legal turn it sends no other commands
+-- in a legal turn a client that never flushes sends plain commands alone
 pub turn_plain : (t : Track) (calls : List ClientCall) → IsFlushlessTrack t → LegalClientTurn t calls → ArePlain t.commands.released → ArePlain (fold after_call t calls).commands.released
 turn_plain t calls flushless legal h = turn_if t.client.ended t calls flushless legal h
 
--- ## What they make of a track that plays
+-- ## What plain commands make of a track that plays
 
--- its life has ended, plays, or is on its way to a stop
+-- a life has ended, plays, or is on its way to a stop
 pub data InPlay : Life → Type 0 where
   is_over : (l : Life) → l.ended ≡ true → InPlay l
   plays_on : (drained : Bool) (retries stop_at : ℕ) → InPlay (life_in Active true drained retries stop_at)
@@ -191,7 +191,7 @@ looks_in given flush_seen (look ∷ looks) s plain h =
 pub commanded_in : (given : Option ℕ) (flush_seen : ℕ) (looks : List CommandLook) (s : TrackKept) → plain_words (words_taken looks) ≡ true → InPlay s.life → InPlay (commanded given flush_seen looks s).life
 commanded_in given flush_seen looks s plain h = either_in (is_some s.awaits) s (after_looks given flush_seen looks s) h (looks_in given flush_seen looks s plain h)
 
--- a report that doesn't hear that its stream is shut leaves it in the mix, or it has ended, where it has two retries
+-- a report that doesn't hear that its stream is shut leaves a life in the mix, or it has ended, if it has two retries
 calm : Known → Known
 calm known = record known { shut = false }
 
@@ -216,7 +216,7 @@ reported_in known l (stops_on drained retries stop_at) two = inr (by (nat_le sto
 pub stays_in : (known : Known) (l : Life) → known.shut ≡ false → InPlay l → 2 ≤ l.retries → ((by_report known l).ended ≡ true) ⊎ (plays (by_report known l) ≡ true)
 stays_in known l unshut h two = subst (λ (b : Bool). ((by_report (record known { shut = b }) l).ended ≡ true) ⊎ (plays (by_report (record known { shut = b }) l) ≡ true)) (sym unshut) (reported_in known l h two)
 
--- one that hears it ends the life
+-- a report that hears that its stream is shut ends the life
 pub ends_shut : (known : Known) (l : Life) → known.shut ≡ true → (by_report known l).ended ≡ true
 unfolding by_report
 ends_shut known l shut = ap (λ (b : Bool). (by_report (record known { shut = b }) l).ended) shut

@@ -48,7 +48,7 @@ by_test : {A : Type 0} (P : A → Type 0) (b : Bool) (x y : A) → (b ≡ true �
 by_test P true x y f g = f refl
 by_test P false x y f g = g refl
 
--- the edit of its own number
+-- what the edit of its own number makes of a track
 edited_here : (c : Setup) (k : Learnt) (i : ℕ) (m : NormalKept) → i < length m.tracks → Edited (k.own i) (track_at m.tracks i) (track_at (edited c k i m).tracks i)
 unfolding edited let_go lend
 edited_here c k i m lt = let s : TrackKept = track_at m.tracks i in
@@ -58,7 +58,7 @@ edited_here c k i m lt = let s : TrackKept = track_at m.tracks i in
     (λ f. subst (Edited (k.own i) s) (sym (at_here m.tracks i (lent_by (entered c i m) (k.own i) s) lt)) (enters (entered c i m) f))
     (λ f. stays e f))
 
--- and that of another one
+-- a track stays by the edit of another number
 edited_other : (c : Setup) (k : Learnt) (j i : ℕ) (m : NormalKept) → i ≢ j → track_at (edited c k j m).tracks i ≡ track_at m.tracks i
 unfolding edited let_go lend
 edited_other c k j i m ne =
@@ -70,7 +70,7 @@ edits_before : (c : Setup) (k : Learnt) (m : NormalKept) (n i : ℕ) → n ≤ i
 edits_before c k m zero i le = refl
 edits_before c k m (suc n) i le = edited_other c k n i (edited_to c k m n) (λ e. absurd (omega arith)) ∙ edits_before c k m n i (omega arith)
 
--- and from then on
+-- a track is, from its own edit on, as that left it
 edits_more : (c : Setup) (k : Learnt) (m : NormalKept) (n i : ℕ) (b : Bool) → (n == i) ≡ b → i < suc n → i < length m.tracks
     → (i < n → Edited (k.own i) (track_at m.tracks i) (track_at (edited_to c k m n).tracks i)) → Edited (k.own i) (track_at m.tracks i) (track_at (edited c k n (edited_to c k m n)).tracks i)
 edits_more c k m n i true e lt in_list before = let same : n ≡ i = search (arith, e) in

@@ -63,7 +63,7 @@ goes_by false false true whole a b = refl
 goes_by false false false true a b = refl
 goes_by false false false false a b = refl
 
--- so the draft is no Exit then
+-- while a life hasn't ended the draft is no Exit
 draft_on : (c : Setup) (k : Learnt) (m : NormalKept) (e : Turn) → e.ended ≡ false → is_exit m.draft ≡ false → is_over (turn_after c k m e).tracks ≡ false → is_exit (turn_after c k m e).draft ≡ false
 unfolding next_command by_facts
 draft_on c k m e runs going over =
@@ -74,7 +74,7 @@ busy_or_not : (b : Bool) → (b ≡ true) ⊎ (b ≡ false)
 busy_or_not true = inl refl
 busy_or_not false = inr refl
 
--- nor is the last state
+-- while the draft is no Exit the last state is none
 last_on : (m after : NormalKept) (push : Push) → PushMade m after push → is_exit m.last ≡ false → is_exit after.draft ≡ false → is_exit after.last ≡ false
 last_on m after push made last draft = by (busy_or_not (is_busy push))
   where
@@ -89,7 +89,7 @@ push_few true x xs = let l = length-append xs (x ∷ []) in omega (arith, l)
 push_few {X} false x xs = let none : List X = [] in let l = length-append xs none in omega (arith, l)
 
 module _ (s : Session) (marks : Marks) (scales : All (λ (x : Setting). x.scale ≤ 4096) (setup_of s).settings) (long : length (setup_of s).settings ≡ track_count s) (run : Run) (round : RoundSeen) (legal : LegalRound false s marks run round) (c : SessionStands s run) where
-  -- the turn that it has
+  -- the turn that the round has
   pub turn_of : TurnMade s marks run round
   turn_of = turn_made false s marks run round legal c.runs
 
@@ -105,11 +105,11 @@ module _ (s : Session) (marks : Marks) (scales : All (λ (x : Setting). x.scale 
   pushes : PushMade run.normal (turn_after (setup_of s) (learnt turn_of.by.outside) run.normal turn_of.turn) turn_of.turn.push
   pushes = turn_pushes (setup_of s) turn_of.by.outside run.normal turn_of.turn turn_runs (turn_of.by.legal.goes_on turn_runs) c.order.latest
 
-  -- the push of its turn
+  -- the push of the round's turn
   pub push_of : PushMade run.normal after.normal turn_of.turn.push
   push_of = subst (λ (m : NormalKept). PushMade run.normal m turn_of.turn.push) (sym turn_of.after) pushes
 
-  -- it pushes one state at most
+  -- the turn pushes one state at most
   pub states_few : length after.states ≤ length run.states + 1
   states_few =
       let is = ap length (round_states s run round ∙ states_turned s (found_in s run round) round.turn turn_of.turn (before_turn s run round) turn_of.is) in
@@ -128,7 +128,7 @@ module _ (s : Session) (marks : Marks) (scales : All (λ (x : Setting). x.scale 
     exits_then : NoExits after.states
     exits_then = no_exits_round s run round c.exits (round_last s marks run round legal c.last) last_then states_few
 
-    -- A legal round keeps what holds, where not all is over after it
+    -- A legal round keeps what holds, if not all is over after it
     pub session_stands : SessionStands s after
     session_stands = record {
       runs = mixer_goes s marks run round turn_of turn_runs;
@@ -148,7 +148,7 @@ module _ (s : Session) (marks : Marks) (scales : All (λ (x : Setting). x.scale 
       exits = exits_then;
     }
 
-    -- and what the mixers know
+    -- a legal round keeps what the mixers know
     pub session_carried : SessionCarried s after
     session_carried = record {
       stands = session_stands;

@@ -20,7 +20,7 @@ no e = absurd (true≢false (sym e))
 
 -- ## A client that is done with its stream
 
--- it waits for its track to be drained, sends its REMOVE, or wants nothing in this turn
+-- a client that is done with its stream waits for its track to be drained, sends its REMOVE, or wants nothing in this turn
 data Silent (c : Client) : Type 0 where
   drains : begun c ≡ at (want.Drained ∷ []) (op.Remove ∷ []) mode.Stopped → Silent c
   removes : begun c ≡ at (want.Send command.Remove ∷ []) [] mode.Stopped → Silent c
@@ -102,6 +102,6 @@ turn_if : (b : Bool) (t : Track) (calls : List ClientCall) → MatchBool b (call
 turn_if true t calls legal h = ap (λ (cs : List ClientCall). (fold after_call t cs).stream) legal
 turn_if false t calls legal h = calls_silent 64 t calls h legal
 
--- Its turn leaves its side of the stream block as it was
+-- The turn of a client that has sent three commands leaves its side of the stream block as it was
 pub silent_turn : (t : Track) (calls : List ClientCall) (most total : ℕ) → LegalClientTurn t calls → Stands t most total → 6 ≤ length t.commands.released → (fold after_call t calls).stream ≡ t.stream
 silent_turn t calls most total legal stands some = turn_if t.client.ended t calls legal (stands_silent t most total stands some)

@@ -1,4 +1,4 @@
--- A turn leaves a slot of the draft as it was, or attaches it anew, with a higher generation; so a proxy that it lends has a generation that no state before told.
+-- A turn leaves a slot of the draft as it was, or attaches it anew, with a higher generation; so a proxy that it lends has a generation that no state before had.
 use Rattle.std.proofs.Common.{◌≡◌, ◌≢◌, ℕ, zero, suc, ◌+◌, ◌≤◌, ◌<◌, if◌then◌else◌, Bool, true, false, true≢false, All, length, refl, sym, ap, ◌∙◌, subst, arith, ⊎_elim}
 use Rattle.std.proofs.lemmas.Bool.{cases_eq}
 use Rattle.af_base.specs.declared.state.Command.{Command}
@@ -28,7 +28,7 @@ pub data SlotStays (before after : FastState) (n : ℕ) : Type 0 where
   kept : slot_of after n ≡ slot_of before n → (carries after n ≡ true → carries before n ≡ true) → SlotStays before after n
   anew : (slot_of before n).generation + 1 ≤ (slot_of after n).generation → SlotStays before after n
 
--- so its generation never falls
+-- the generation of a slot never falls
 pub generation_rises : (before after : FastState) (n : ℕ) → SlotStays before after n → (slot_of before n).generation ≤ (slot_of after n).generation
 generation_rises before after n (kept same on) = let g = ap (λ (t : FastTrack). t.generation) same in omega (arith, g)
 generation_rises before after n (anew more) = omega (arith, more)

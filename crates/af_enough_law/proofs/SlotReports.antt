@@ -64,7 +64,7 @@ module _ (s : Session) (i : ℕ) (low : i < slots) (P : ℕ → Type 0) where
       P_none : carries (initial (cycle_frames s)) i ≡ true → P (slot_of (initial (cycle_frames s)) i).generation
       P_none c = let none : ⊥ = true≢false (sym c ∙ initial_none (cycle_frames s) i) in absurd none
 
-  -- Legal entries, each of whose states does so, leave such a generation where the last report before them has one
+  -- Legal entries, each of whose states does so, leave such a generation if the last report before them has one
   pub cycles_generations : (marks : Marks) (es : List EntrySeen) (run : Run) → LegalEntries s marks run es → Carry run → P (slot_told run i).generation → P (slot_told (with_cycles s es run) i).generation
   cycles_generations marks [] run legal carry told = told
   cycles_generations marks (e ∷ es) run legal carry told =

@@ -133,7 +133,7 @@ slot_turned c k m e i lt t h =
 pub slot_stays : (c : Setup) (k : Learnt) (m : NormalKept) (e : Turn) (i : ℕ) → i < length m.tracks → e.ended ≡ false → IsOpened (track_at m.tracks i).life → (track_at (turn_after c k m e).tracks i).slot ≡ (track_at m.tracks i).slot
 slot_stays c k m e i lt runs opened = slot_turned c k m e i lt (track_turned c k m e i lt runs) (inr opened)
 
--- and one that isn't fast never gets one
+-- a track that isn't fast never gets a slot
 pub slotless_stays : (c : Setup) (k : Learnt) (m : NormalKept) (e : Turn) (i : ℕ) → i < length m.tracks → e.ended ≡ false → (setting_of c i).fast ≡ false → (track_at m.tracks i).slot ≡ None → (track_at (turn_after c k m e).tracks i).slot ≡ None
 slotless_stays c k m e i lt runs slow none =
     let t : TrackTurned c k m e i = track_turned c k m e i lt runs in

@@ -53,7 +53,7 @@ use Rattle.af_enough_law.proofs.StartRun.{started_on, from_home, lent_or_not, bo
 use Rattle.af_enough_law.proofs.StartTracks.{numbers, stays_or_lent, home_gone, home_fair, home_knows, home_stopped}
 use Rattle.af_enough_law.proofs.TrackCarried.{TrackCarried, TrackGone}
 
--- the status of a life that was told one command at most says so
+-- the status of a life that took one command at most says so
 low_course : (count told : ℕ) (l : Life) (n : ℕ) → Course count told l → told ≤ 1 → n ≡ told → settled_in (state_code false l + (if l.drained then 16 else 0) + 256 * n) ≤ 1
 low_course count told l n absent few same = subst (λ (k : ℕ). settled_in (0 + 0 + 256 * k) ≤ 1) (sym same) (omega arith)
 low_course count told l n idle few same = subst (λ (k : ℕ). settled_in (1 + 0 + 256 * k) ≤ 1) (sym same) (omega arith)
@@ -80,7 +80,7 @@ pub record FirstRounds (s : Session) (marks : Marks) : Type 0 where
   pub over_three : is_over (after_round s (after_round s (after_round s (new_run s) first) second) third).normal.tracks ≡ false
   pub over_four : is_over (after_round s (after_round s (after_round s (after_round s (new_run s) first) second) third) fourth).normal.tracks ≡ false
 
--- the run after the fourth
+-- the run after the fourth round
 abbrev pub fourth_run : (s : Session) (marks : Marks) → FirstRounds s marks → Run
 fourth_run s marks r = after_round s (after_round s (after_round s (after_round s (new_run s) r.first) r.second) r.third) r.fourth
 
@@ -147,11 +147,11 @@ module _ (script : ScriptData) (files : List (List Frame)) (marks : Marks) (form
     some_three : 47 ≤ (track_at three.normal.tracks i).life.retries
     some_three = retries_round s marks scales long two r.third r.legal.1.1.0 at_two.stands i 47 named (omega arith) some_two
 
-    -- and each track has this many retries at least
+    -- each track has this many retries at least
     pub start_retries : 46 ≤ (track_at four.normal.tracks i).life.retries
     start_retries = retries_round s marks scales long three r.fourth r.legal.1.1.1.0 at_three.stands i 46 named (omega arith) some_three
 
-    -- what its client has to do
+    -- what the track's client has to do
     pub begun_track : Begun s i
     begun_track = begins_track script files i form through named
 
@@ -179,7 +179,7 @@ module _ (script : ScriptData) (files : List (List Frame)) (marks : Marks) (form
     few_three : 2 ≤ (track_at three.normal.tracks i).life.retries
     few_three = let a = some_three in omega (arith, a)
 
-    -- what it is after an earlier round it is after the fourth
+    -- what a track is after an earlier round it is after the fourth
     from_three : TrackIs s three i most total → Starts four
     from_three x = (started_on s marks scales long i named (lawful i named) three r.fourth r.fifth r.legal.1.1.1.0 at_three r.legal.1.1.1.1.0 most total few_three x)
 
@@ -195,7 +195,7 @@ module _ (script : ScriptData) (files : List (List Frame)) (marks : Marks) (form
     goes : t.turn.ended ≡ false
     goes = turn_runs s marks scales long run r.first r.legal.0 begins
 
-    -- one that never gets a slot
+    -- a track that never gets a slot
     slow_track : (setting_of (setup_of s) i).fast ≡ false → Starts four
     slow_track slow =
         let none : (track_at run.normal.tracks i).slot ≡ None = ap (λ (x : TrackKept). x.slot) new_is in
@@ -217,7 +217,7 @@ module _ (script : ScriptData) (files : List (List Frame)) (marks : Marks) (form
         runs_client : List Op → Client
         runs_client ops = record (runs.new_track s i).client { ops = ops }
 
-    -- nothing was done yet
+    -- no command of a track in a new run is settled
     unsettled : Unsettled run i
     unsettled = record {
       comes = early (record {
@@ -248,7 +248,7 @@ module _ (script : ScriptData) (files : List (List Frame)) (marks : Marks) (form
     spoken_one : Spoken one i
     spoken_one = spoken_then false s marks run r.first i t r.legal.0 named_run goes spoken
 
-    -- its first turn sends OPEN and START
+    -- a client whose track stays at home sends OPEN and START in its first turn
     module _ (stays : (track_at one.normal.tracks i).holder ≡ Home) where
       gone_one : TrackGone s marks run r.first i most total t track.on.told
       gone_one = home_gone s marks scales long i named (lawful i named) run r.first r.legal.0 begins most total track few home stays
@@ -284,7 +284,7 @@ module _ (script : ScriptData) (files : List (List Frame)) (marks : Marks) (form
           by (inr two_told) (inl none) = from_one (slotless gone_one.carried (inr (omega (arith, two_told))) none)
           by (inr two_told) (inr at) = from_one (home_stopped s marks scales long i named (lawful i named) run r.first r.legal.0 begins most total track few home stays at.0 at.1 two_told)
 
-    -- or the first turn lends it already: its push isn't busy
+    -- a track that the first turn lends already: its push isn't busy
     lent_track : (track_at one.normal.tracks i).holder ≡ Lent → Starts four
     lent_track lents = by (bool_cases (is_busy t.turn.push)) (lent_or_not (track_at two.normal.tracks i).holder)
       where

@@ -18,7 +18,7 @@ use Rattle.af_enough_law.proofs.StopCounts.{counts_round}
 use Rattle.af_enough_law.proofs.TakenRounds.{counted_then, knows_sent}
 use Rattle.af_enough_law.proofs.TakesAll.{CommandsKnown, commands_met}
 
--- its command block stays open, and its blocks are counted
+-- a track's command block stays open, and its blocks are counted
 pub record Counting (run : Run) (i N base : ℕ) : Type 0 where
   pub opens : StaysOpen run i
   pub block : BlockCounts run i N base
@@ -33,7 +33,7 @@ module _ (s : Session) (marks : Marks) (scales : All (λ (x : Setting). x.scale 
   runs : t.turn.ended ≡ false
   runs = turn_runs s marks scales long run round legal c
 
-  -- A round keeps it
+  -- A round keeps the counts
   pub counting_round : (N base : ℕ) → Counting run i N base → Counting (after_round s run round) i N base
   counting_round N base k =
       let shape = (round_grows s run round i numbered.low).shape in
@@ -49,6 +49,6 @@ module _ (s : Session) (marks : Marks) (scales : All (λ (x : Setting). x.scale 
         };
       }
 
-  -- and leaves both ends of the command block knowing all that was done before its meeting
+  -- a round leaves both ends of the command block knowing all that was done before its meeting
   pub known_start : StaysOpen run i → CommandsKnown (after_round s run round) i
   known_start o = record { met = commands_met s run round i numbered.low; knows = knows_sent false s marks run round i t legal numbered runs o }

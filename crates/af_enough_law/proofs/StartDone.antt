@@ -141,7 +141,7 @@ module _ (script : ScriptData) (files : List (List Frame)) (marks : Marks) (form
           pipe_kept s marks scales long two c legal.1.1.0 c_two.stands b_two.under
           (mixes_round s marks scales long two c legal.1.1.0 c_two.stands b_two.under (mix_ordered s marks scales long two c legal.1.1.0 c_two.stands b_two.under i heard) sizes b_two.carried ready)
 
-    -- So the middle begins
+    -- after these rounds the middle begins
     pub start_done : Starts s three (most_of s) (total_of s) (AllAble s)
     start_done = record {
       carried = record { session = c_three; tracks = λ i named. is_three i named };

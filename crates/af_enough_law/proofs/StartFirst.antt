@@ -26,7 +26,7 @@ module _ (script : ScriptData) (files : List (List Frame)) (marks : Marks) (form
   abbrev s : Session
   s = session_of script files
 
-  -- so many first rounds, after none of which all lives have ended
+  -- the first rounds, after none of which all lives have ended
   module _ (a b c d e f g h : RoundSeen) (rounds : List RoundSeen) (legal : LegalRounds false (session_of script files) marks (new_run (session_of script files)) (a ∷ b ∷ c ∷ d ∷ e ∷ f ∷ g ∷ h ∷ rounds))
       (never : (k : ℕ) → k ≤ 7 → AllOver (run_from (session_of script files) (new_run (session_of script files)) (take k (a ∷ b ∷ c ∷ d ∷ e ∷ f ∷ g ∷ h ∷ rounds))).normal.tracks → ⊥) where
     abbrev one : Run

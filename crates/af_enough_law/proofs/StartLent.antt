@@ -105,7 +105,7 @@ module _ (s : Session) (marks : Marks) (scales : All (λ (x : Setting). x.scale 
     two_run : 2 ≤ (track_at run.normal.tracks i).life.retries
     two_run = omega (arith, some)
 
-    -- its state is pushed at once: it is adopted in the next round
+    -- the state with the proxy is pushed at once: it is adopted in the next round
     pub lent_two : (second : RoundSeen) (legal_second : LegalRound false s marks one second) (sc : SessionCarried s one) → is_busy (turn_of s marks scales long run first legal c).turn.push ≡ false → (track_at (after_round s one second).normal.tracks i).holder ≡ Lent
         → StartedLent s (after_round s one second) i most total track.on.told
     lent_two second legal_second sc free stays_second = by lent_by.way
@@ -166,7 +166,7 @@ module _ (s : Session) (marks : Marks) (scales : All (λ (x : Setting). x.scale 
             let few_two = retries_round s marks scales long one second legal_second sc_one.stands i 3 named (omega arith) few_one in
             adopted_all run (first ∷ second ∷ []) most total (legal, (turn_of s marks scales long run first legal c, turn_one), (legal_second, (turn_of s marks scales long one second legal_second sc_one.stands, turn_two), tt)) track third legal_third sc_two lent_by.slot lent_by.item p stays_third o_two turn_two.quiet was_two says (omega (arith, few_two))
 
-    -- or it is taken back in that round, and has stopped
+    -- the proxy is taken back in that round, and its track has stopped
     pub left_three : (second : RoundSeen) (legal_second : LegalRound false s marks one second) (sc : SessionCarried s run) (sc_one : SessionCarried s one) (third : RoundSeen) → (let two = after_round s one second in (legal_third : LegalRound false s marks two third) → SessionCarried s two
         → is_busy (turn_of s marks scales long run first legal c).turn.push ≡ true → (track_at two.normal.tracks i).holder ≡ Lent → (let three = after_round s two third in is_lent (track_at three.normal.tracks i).holder ≡ false → SessionCarried s three
         → (next : RoundSeen) → LegalRound false s marks three next → plays (track_at (after_round s three next).normal.tracks i).life ≡ false → 2 ≤ (track_at three.normal.tracks i).life.retries → plays (track_at three.normal.tracks i).life ≡ false → (track_at three.normal.tracks i).life.ended ≡ false → Emptied (track_at three.normal.tracks i).life

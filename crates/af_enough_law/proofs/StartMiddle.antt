@@ -77,7 +77,7 @@ module _ (s : Session) (marks : Marks) (scales : All (λ (x : Setting). x.scale 
   ended_is : (track_at run.normal.tracks i).life.ended ≡ true → MiddleTrack s after i rest
   ended_is e = let gone = ended_then s marks scales long run round legal c i named e in record { starts = inl gone; able = can.gone (inl gone) two_then }
 
-  -- one that isn't to be heard after the round
+  -- a track that isn't to be heard after the round
   silent_is : (told : ℕ) (gone : CourseGone s marks run round i t told) → 2 ≤ told → plays (track_at after.normal.tracks i).life ≡ false → MiddleTrack s after i rest
   silent_is told gone some silent = by (silent_ends gone.after.count gone.after.told (track_at (after_round s run round).normal.tracks i).life gone.after.follows.course (let n = gone.next in omega (arith, n, some)) silent)
     where
@@ -104,7 +104,7 @@ module _ (s : Session) (marks : Marks) (scales : All (λ (x : Setting). x.scale 
             able = can.gone (inr (omega (arith, settled, three))) two_then;
           }
 
-  -- Each track
+  -- What each track is once its START is settled
   module _ (met : CommandsMet run i) where
     started_is : TrackIs s run i most total → 2 ≤ (track_at run.normal.tracks i).settled → MiddleTrack s after i rest
     started_is (slotless track never none) settled =

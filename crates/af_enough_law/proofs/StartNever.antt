@@ -1,4 +1,4 @@
--- No run of a script with enough cycles is still going after as many rounds as are enough, where its tracks start to flow early and its mixers end in time.
+-- No run of a script with enough cycles is still going after as many rounds as are enough, if its tracks start to flow early and its mixers end in time.
 use Rattle.std.proofs.Common.{◌≡◌, ℕ, ◌+◌, ◌^◌, ◌≤◌, ◌<◌, true, false, List, length, take, arith}
 use Rattle.af_base.specs.declared.frame.Frame.{Frame}
 use Rattle.af_model.specs.Journals.{RoundSeen}
@@ -15,7 +15,7 @@ use Rattle.af_enough_law.proofs.MiddleNever.{Starts, middle_never}
 use Rattle.af_enough_law.proofs.NearSums.{way_few}
 use Rattle.af_enough_law.proofs.TrackAble.{AllAble}
 
--- Where all tracks have started to flow within 38 rounds, some run has ended all lives ten rounds before those that are enough are over
+-- If all tracks have started to flow within 38 rounds, some run has ended all lives ten rounds before those that are enough are over
 pub start_never : (script : ScriptData) (files : List (List Frame)) (marks : Marks) → IsScript script → HasEnoughCycles script → ((i : ℕ) → i < length script.tracks → marks.commands i ≡ true) → (rounds : List RoundSeen) → length rounds ≡ enough_rounds script
     → LegalRounds false (session_of script files) marks (new_run (session_of script files)) rounds
     → ((k : ℕ) → k + 10 ≤ enough_rounds script → AllOver (run_from (session_of script files) (new_run (session_of script files)) (take k rounds)).normal.tracks → ⊥)

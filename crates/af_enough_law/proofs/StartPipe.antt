@@ -37,11 +37,11 @@ pub record PipeMixes (s : Session) (run : Run) : Type 0 where
   pub mixes : run.normal.last.command ≡ MixWrite
   pub few : in_pipe run ≤ 2 * asked (setup_of s)
 
--- so it is, or the last state is known to be acknowledged and at most one is in it
+-- the pipe mixes so, or the last state is known to be acknowledged and at most one buffer is in the pipe
 abbrev pub PipeReady : Session → Run → Type 0
 PipeReady s run = (KnowsAcked run × (in_pipe run ≤ asked (setup_of s))) ⊎ PipeMixes s run
 
--- or it is empty
+-- the pipe is ready, or it is empty
 abbrev pub PipeCase : Session → Run → Type 0
 PipeCase s run = (in_pipe run ≡ 0) ⊎ PipeReady s run
 
@@ -67,7 +67,7 @@ module _ (s : Session) (marks : Marks) (scales : All (λ (x : Setting). x.scale 
   busy_known : is_busy t.turn.push ≡ true → KnowsAcked after
   busy_known busy = known_unless s marks scales run round legal u t goes (unpushed t.turn.push busy)
 
-  -- where it was known before the push isn't busy
+  -- if the last state was known to be acknowledged before, the push isn't busy
   known_free : KnowsAcked run → is_busy t.turn.push ≡ false
   known_free knows = (turn_sees_ack false s marks run round legal c.runs knows t).1 goes
 
@@ -85,7 +85,7 @@ module _ (s : Session) (marks : Marks) (scales : All (λ (x : Setting). x.scale 
     draft_is : after.normal.draft.command ≡ MixWrite
     draft_is = mix_is after.normal.draft.command orders
 
-    -- after a push that wasn't busy
+    -- the pipe mixes after a push that wasn't busy
     free_mixes : is_busy t.turn.push ≡ false → in_pipe run ≤ asked (setup_of s) → PipeMixes s after
     free_mixes free low =
         let last : after.normal.last.command ≡ MixWrite = ap (λ (x : FastState). x.command) (made.done free).1 ∙ draft_is in
@@ -95,7 +95,7 @@ module _ (s : Session) (marks : Marks) (scales : All (λ (x : Setting). x.scale 
           few = let more = puts_one in omega (arith, more, low);
         }
 
-    -- A round that orders a mix and finds it ready mixes
+    -- A round that orders a mix and finds the pipe ready mixes
     pub mixes_round : (sizes : IsSized s) → (1 ≤ length run.states → SessionCarried s run) → PipeReady s run → PipeMixes s after
     mixes_round sizes carried (inl known) = free_mixes (known_free known.0) known.1
     mixes_round sizes carried (inr p) =
@@ -113,7 +113,7 @@ module _ (s : Session) (marks : Marks) (scales : All (λ (x : Setting). x.scale 
         by mixes (inl none) = let more = puts_one in omega (arith, more, none)
         by mixes (inr knows) = let few = p.few in two_buffers s run round (pipe_flowed false s marks run round legal knows sizes.pipe) mixes sizes.wide (puts_buffer s round.turn) few
 
-    -- and each one that orders a mix makes it ready
+    -- each round that orders a mix makes the pipe ready
     pub ready_round : (sizes : IsSized s) → (1 ≤ length run.states → SessionCarried s run) → PipeCase s run → PipeReady s after
     ready_round sizes carried (inl none) = by (is_busy t.turn.push) refl
       where
@@ -122,7 +122,7 @@ module _ (s : Session) (marks : Marks) (scales : All (λ (x : Setting). x.scale 
         by false free = inr (free_mixes free (omega (arith, none)))
     ready_round sizes carried (inr ready) = inr (mixes_round sizes carried ready)
 
-  -- So each round leaves it in one of these cases, while no Exit is ordered
+  -- Each round leaves the pipe in one of these cases, while no Exit is ordered
   pub case_round : (sizes : IsSized s) → (1 ≤ length run.states → SessionCarried s run) → Underway s after → PipeCase s run → PipeCase s after
   case_round sizes carried later case = by later.command
     where

@@ -51,7 +51,7 @@ use Rattle.af_base.specs.declared.state.FastState.{FastState}
 
 -- ## After a turn
 
--- the server of a stream is calm after the turn of a round, where its lists lie in a later history
+-- the server of a stream is calm after the turn of a round, if its lists lie in a later history
 pub turn_calm : (s : Session) (marks : Marks) (run : Run) (round : RoundSeen) (i : ℕ) → i < length run.tracks → LegalRound false s marks run round → (t : TurnMade s marks run round) → none_shut (track_in t.turn i).looks ≡ true → (seen : Foreseen (told_at (after_round s run round) i).stream)
     → IsQuiet (told_at run i).stream.shape (server_list (told_at run i).stream) → IsQuiet (told_at (after_round s run round) i).stream.shape (server_list (told_at (after_turn s run round) i).stream)
 turn_calm s marks run round i low legal t looks seen quiet =
@@ -74,13 +74,13 @@ own_heard own r g home unshut = sym (ap (λ (b : Bool). (if b then heard_at_home
 
 -- ## What stands of a proxy on its way
 
--- its proxy is lent, and no state pushed and no report so far has it
+-- a track's proxy is lent, and no state pushed and no report so far has it
 pub record Unpushed (s : Session) (run : Run) (i slot : ℕ) (item : FastTrack) : Type 0 where
   pub lending : IsLending s run i slot item
   pub fresh : Carry s slot lending.low (λ g. g + 1 ≤ item.generation) run
   pub told : (slot_told run slot).generation + 1 ≤ item.generation
 
--- or the last state pushed plays it
+-- a track's proxy is lent, and the last state pushed plays the track
 pub record PushedLast (s : Session) (run : Run) (i slot : ℕ) (item : FastTrack) : Type 0 where
   pub lending : IsLending s run i slot item
   pub some : 1 ≤ length run.states
@@ -143,7 +143,7 @@ module _ (s : Session) (marks : Marks) (scales : All (λ (x : Setting). x.scale 
       let less : (slot_told run b.slot).generation + 1 ≤ b.item.generation = omega (arith, told, anew) in
       record { slot = b.slot; item = b.item; lending = b.lending; fresh = fresh; told = less; way = on_way b.slot b.item b.lending fresh less }
 
-  -- and one that leaves it so
+  -- a turn that leaves the proxy on its way
   pub waits : (slot : ℕ) (item : FastTrack) → Unpushed s run i slot item → OnWay slot item
   waits slot item u = on_way slot item (lent_still s marks scales long run round legal c i named slot item u.lending stays) u.fresh u.told
 
@@ -159,7 +159,7 @@ module _ (s : Session) (marks : Marks) (scales : All (λ (x : Setting). x.scale 
     turned : IsQuiet (told_at after i).stream.shape (server_list (told_at (after_turn s run round) i).stream)
     turned = turn_calm s marks run round i numbers.low legal t looks seen quiet
 
-    -- where no state before the round has the attachment, the last report after it says that the server is open
+    -- if no state before the round has the attachment, the last report after it says that the server is open
     pub says_after : (slot : ℕ) (item : FastTrack) → (l : IsLending s after i slot item) → Carry s slot l.low (λ g. g + 1 ≤ item.generation) run → (slot_told run slot).generation + 1 ≤ item.generation → SaysOpenOf item (slot_told after slot)
     says_after slot item l fresh told =
         let plays = lending_draft s marks scales long run round legal c i named slot item l in
@@ -175,14 +175,14 @@ module _ (s : Session) (marks : Marks) (scales : All (λ (x : Setting). x.scale 
       unshut : (heard (learnt t.by.outside) i g).known.shut ≡ false
       unshut = home_unshut false s marks run round i numbers.low legal seen t quiet greeted
 
-      -- the round in which it is lent is judged later
+      -- the round in which the proxy is lent is judged later
       pub lends_turn : AwayTurn s marks run round i t
       lends_turn = away_turn false s marks run round i t legal numbers goes o seen quiet two (λ alive. unshut)
 
       pub lends_open : WasOpen after i
       lends_open = open_now s marks scales long run round legal c i named home stays (own_heard ((learnt t.by.outside).own i) (slot_reported (learnt t.by.outside) g) g greeted unshut)
 
-    -- and so is one in which it waits for its push
+    -- the round in which the proxy waits for its push is judged later
     module _ (states : KnowsStates s run) (reports : KnowsReports run) (slot : ℕ) (item : FastTrack) (u : Unpushed s run i slot item) (was : WasOpen run i) where
       pub waits_open : WasOpen after i
       waits_open = open_still s marks scales long run round legal c i named u.lending.lent was

@@ -67,7 +67,7 @@ slot_or_none None = inl refl
 slot_or_none (Some n) = inr (n, refl)
 
 module _ (s : Session) (marks : Marks) (scales : All (λ (x : Setting). x.scale ≤ 4096) (setup_of s).settings) (long : length (setup_of s).settings ≡ track_count s) (i : ℕ) (named : i < track_count s) (lawful : marks.commands i ≡ true) where
-  -- a round keeps what it is
+  -- a round keeps what a track is
   pub started_on : (run : Run) (round next : RoundSeen) (legal : LegalRound false s marks run round) (c : SessionCarried s run) (legal_next : LegalRound false s marks (after_round s run round) next) (most total : ℕ) → 2 ≤ (track_at run.normal.tracks i).life.retries → TrackIs s run i most total → TrackIs s (after_round s run round) i most total
   started_on run round next legal c legal_next most total two track = (track_on s marks scales long run round legal c next legal_next i most total named lawful two track).is
 
@@ -99,7 +99,7 @@ module _ (s : Session) (marks : Marks) (scales : All (λ (x : Setting). x.scale 
         two_three : 2 ≤ (track_at three_run.normal.tracks i).life.retries
         two_three = let a = some_three in omega (arith, a)
 
-        -- what it is after the third round, or after the second, it is after the fourth
+        -- what a track is after the third round, or after the second, it is after the fourth
         from_three : TrackIs s three_run i most total → TrackIs s four_run i most total
         from_three x = (started_on three_run fourth fifth legal_fourth c_three legal_fifth most total two_three x)
 
@@ -114,7 +114,7 @@ module _ (s : Session) (marks : Marks) (scales : All (λ (x : Setting). x.scale 
           abbrev t : TurnMade s marks run second
           t = turn_of s marks scales long run second legal c.stands
 
-          -- lent by the second round, it is in play then
+          -- a track lent by the second round is in play then
           module _ (lents : (track_at (after_round s run second).normal.tracks i).holder ≡ Lent) where
             named_run : IsNamed s marks run i
             named_run = named_by s marks scales long run second legal c.stands i named lawful
@@ -149,14 +149,14 @@ module _ (s : Session) (marks : Marks) (scales : All (λ (x : Setting). x.scale 
             goes_three : t_three.turn.ended ≡ false
             goes_three = turn_runs s marks scales long (after_round s run second) third legal_third c_two.stands
 
-            -- where the third takes the proxy back the life has ended
+            -- if the third round takes the proxy back, the life has ended
             left_three : is_lent (track_at three_run.normal.tracks i).holder ≡ false → TrackIs s three_run i most total
             left_three gone = gone_over (record { life = ended_then false s marks (after_round s run second) third i t_three legal_third named_two goes_three spoken_two play_two two_two (left_silent s marks scales long (after_round s run second) third legal_third c_two.stands i named lents gone) })
 
             abbrev t_four : TurnMade s marks three_run fourth
             t_four = turn_of s marks scales long three_run fourth legal_fourth c_three.stands
 
-            -- and where the fourth does it has ended, or the life was drained
+            -- if the fourth round takes the proxy back, the life has ended, or was drained
             left_four : is_busy t.turn.push ≡ true → (track_at three_run.normal.tracks i).holder ≡ Lent → is_lent (track_at four_run.normal.tracks i).holder ≡ false → TrackIs s four_run i most total
             left_four busy lents_three gone = by (played_then false s marks (after_round s run second) third i t_three legal_third named_two goes_three spoken_two (plays_alive (track_at (after_round s run second).normal.tracks i).life heard_two) play_two (still_heard s marks scales long (after_round s run second) third legal_third c_two.stands i named lents lents_three)) (bool_cases (track_at four_run.normal.tracks i).life.ended)
               where

@@ -33,11 +33,11 @@ use Rattle.af_enough_law.proofs.TrackGives.{HomeParts, NeverSlotted, home_parts,
 use Rattle.af_enough_law.proofs.TrackGoes.{made_of}
 use Rattle.af_enough_law.proofs.Turning.{Stands, on, gone_for_good}
 
--- its life has ended, or its START is settled
+-- a track has started: its life has ended, or its START is settled
 abbrev pub HasStarted : Run → ℕ → Type 0
 HasStarted run i = ((track_at run.normal.tracks i).life.ended ≡ true) ⊎ (2 ≤ (track_at run.normal.tracks i).settled)
 
--- or it was sent
+-- a track has started, or its START was sent
 abbrev pub HasSent : Run → ℕ → Type 0
 HasSent run i = HasStarted run i ⊎ (4 ≤ length (told_at run i).commands.released)
 
@@ -74,7 +74,7 @@ module _ (s : Session) (marks : Marks) (scales : All (λ (x : Setting). x.scale 
       by (inl e) = inl e
       by (inr more) = inr (omega (arith, settled, more))
 
-  -- it was settled before, where the track has a slot
+  -- the START was settled before, if the track has a slot
   slotted : {X : Type 0} → (HasStarted run i → X) → ((track : TrackCarried run i most total) → NeverSlotted s marks scales long small sizes run round legal c next legal_next i track.on.told → (track_at run.normal.tracks i).slot ≡ None → X) → TrackIs s run i most total → X
   slotted started home (slotless track never none) = home track never none
   slotted started home (lent slot item track l) =
@@ -84,7 +84,7 @@ module _ (s : Session) (marks : Marks) (scales : All (λ (x : Setting). x.scale 
   slotted started home (stopped slot item low item_is slot_is z place) = let told = z.told in let settled = z.on.follows.settled in started (inr (omega (arith, told, settled)))
   slotted started home (gone_over h) = started (inl h.life)
 
-  -- A round leaves it sent
+  -- A round leaves the START sent
   pub sends_round : TrackIs s run i most total → HasSent after i
   sends_round is = slotted (λ h. inl (started_then is h)) home is
     where
@@ -107,7 +107,7 @@ module _ (s : Session) (marks : Marks) (scales : All (λ (x : Setting). x.scale 
               (ap (λ (ws : List ℕ). length ws) left.words ∙ codes_long left.sent (codes_sent due m) left.codes) in
               omega (arith, sent, same)
 
-  -- and one more leaves it settled
+  -- one round more leaves the START settled
   pub starts_round : TrackIs s run i most total → KnowsReleased (told_at run i).commands → WordsCounted run i → HasSent run i → HasStarted after i
   starts_round is knows counted (inl h) = started_then is h
   starts_round is knows counted (inr four) = slotted (λ h. started_then is h) home is

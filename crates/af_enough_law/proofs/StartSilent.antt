@@ -29,7 +29,7 @@ module _ (s : Session) (marks : Marks) (scales : All (λ (x : Setting). x.scale 
   abbrev after : Run
   after = after_round s run round
 
-  -- one that isn't to be heard before the round isn't after it
+  -- a track that isn't to be heard before the round isn't after it
   stays_silent : TrackIs s run i most total → HasStarted run i → plays (track_at run.normal.tracks i).life ≡ false → plays (track_at after.normal.tracks i).life ≡ false
   stays_silent is (inl e) out = silent (track_at after.normal.tracks i).life (ended_then s marks scales long run round legal c i named e)
   stays_silent (slotless track never none) (inr settled) out =

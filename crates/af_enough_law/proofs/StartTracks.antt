@@ -49,7 +49,7 @@ some_not : (n : ℕ) → 1 ≤ n → (n == 0) ≡ false
 some_not zero some = absurd (let z : ⊥ = omega (arith, some) in z)
 some_not (suc n) some = search arith
 
--- one that has a slot and is home isn't to be heard
+-- a track that has a slot and is home isn't to be heard
 home_silent : (heard slot : Bool) → Home ≡ next_holder heard slot Home → slot ≡ true → heard ≡ false
 home_silent true true is e = absurd (true≢false (ap is_home is))
 home_silent true false is e = absurd (true≢false (sym e))
@@ -88,7 +88,7 @@ module _ (s : Session) (marks : Marks) (scales : All (λ (x : Setting). x.scale 
         ∙ ap (next_holder (plays (track_at (turn_after (setup_of s) (learnt t.by.outside) run.normal t.turn).tracks i).life) (is_some (track_at (turn_after (setup_of s) (learnt t.by.outside) run.normal t.turn).tracks i).slot))
         (home_is (greeted_in run.normal t.turn i).holder (greeted_home t.turn.ack run.normal.last (track_at run.normal.tracks i) home)))
 
-    -- it is home or lent after it
+    -- the proxy is home or lent after the round
     pub stays_or_lent : ((track_at after.normal.tracks i).holder ≡ Home) ⊎ ((track_at after.normal.tracks i).holder ≡ Lent)
     stays_or_lent = home_or_lent (plays (track_at after.normal.tracks i).life) (is_some (track_at after.normal.tracks i).slot) (track_at after.normal.tracks i).holder holder_then
 
@@ -96,11 +96,11 @@ module _ (s : Session) (marks : Marks) (scales : All (λ (x : Setting). x.scale 
     order_then = order_round s marks scales run round legal c.runs t goes (let a = c.kept in omega (arith, a, long)) c.order
 
     module _ (stays : (track_at after.normal.tracks i).holder ≡ Home) where
-      -- a round that leaves it home
+      -- a round that leaves the proxy home
       pub home_gone : TrackGone s marks run round i most total t track.on.told
       home_gone = home_carried false s marks run round i most total t legal numbers goes track two home (ap is_home stays)
 
-      -- all that its client is answered in it is fair
+      -- all that the track's client is answered in the round is fair
       pub home_fair : AreFair (calls_in round i)
       home_fair =
           let part = home_part s run round i (ap is_home stays) in
@@ -115,7 +115,7 @@ module _ (s : Session) (marks : Marks) (scales : All (λ (x : Setting). x.scale 
             unshut = λ alive. home_unshut false s marks run round i numbers.low legal seen t track.calm.stream greeted;
           }) part track two
 
-      -- with a slot, and two commands taken, it has stopped
+      -- a track with a slot, and two commands taken, has stopped
       pub home_stopped : (slot : ℕ) → (track_at after.normal.tracks i).slot ≡ Some slot → 2 ≤ home_gone.carried.on.told → TrackIs s after i most total
       home_stopped slot slot_is told =
           let z : TrackCarried after i most total = home_gone.carried in

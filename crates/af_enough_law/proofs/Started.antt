@@ -102,7 +102,7 @@ past_after last count (does due ops m is doing started) (inr none) = let first =
 past_after last count (rests due ops m is doing started) why = inr (ap (λ (c : Client). is_started (begun (at_next_turn (count == 64) c)).due) is ∙ ap (λ (c : Client). is_started c.due) (rested_at due ops m doing) ∙ started)
 past_after last count (over ended) why = inl (next_ended last.client last.client.waiting last.client.ended (count == 64) ended ended)
 
--- A whole fair turn of a client that is past its start leaves it so
+-- A whole fair turn leaves a client that is past its start so
 pub turn_past : (t : Track) (calls : List ClientCall) (due : List Want) (ops : List Op) (m : Mode) → begun t.client ≡ at due ops m → Doing due ops m → is_started due ≡ true
     → AreCalls 64 t calls → AreFair calls → (length calls ≡ 64) ⊎ (wanted_of (fold after_call t calls) ≡ None) → IsPast (at_next_turn (length calls == 64) (fold after_call t calls).client)
 turn_past t calls due ops m is doing started made fair whole = past_after (fold after_call t calls) (length calls) (past_calls 64 t calls (does due ops m is doing started) made fair) whole

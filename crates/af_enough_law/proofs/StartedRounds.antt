@@ -29,7 +29,7 @@ use Rattle.af_enough_law.proofs.StatusSaid.{look_says}
 use Rattle.af_enough_law.proofs.TakesAll.{CommandsMet}
 use Rattle.af_enough_law.proofs.Turning.{Stands, on, gone_for_good, begins_ended, next_ended, turn_whole}
 
--- the status word tells how many commands are settled
+-- the status word says how many commands are settled
 settled_least : (s : TrackKept) → s.settled ≤ settled_in (status_word false s)
 unfolding status_word
 settled_least s = by (state_code false s.life + (if s.life.drained then 16 else 0)) s.settled
@@ -69,7 +69,7 @@ module _ (cut : Bool) (s : Session) (marks : Marks) (run : Run) (round : RoundSe
   ended_past true e none ended = subst (λ (cs : List ClientCall). IsPast (at_next_turn (length cs == 64) (fold after_call v cs).client)) (sym none) (inl (next_ended v.client v.client.waiting v.client.ended (0 == 64) ended ended))
   ended_past false e m ended = absurd (true≢false (sym e))
 
-  -- Where OPEN and START were sent before, the client is past its start after the round
+  -- If OPEN and START were sent before, the client is past its start after the round
   pub past_round : (most total : ℕ) → Stands v most total → 4 ≤ length (told_at run i).commands.released → IsPast (told_at (after_round s run round) i).client
   past_round most total stands some = subst IsPast (sym client_is) (of_stands stands)
     where

@@ -40,7 +40,7 @@ pub record Begins (s : Session) (run : Run) (n : ℕ) : Type 0 where
   pub counting : (i : ℕ) → i < track_count s → Counting run i (spec_of s i).frames (spec_of s i).base
   pub retries : (i : ℕ) → i < track_count s → n ≤ (track_at run.normal.tracks i).life.retries
 
--- where not every life has ended not all is over
+-- if not every life has ended, not all is over
 pub not_over : (tracks : List TrackKept) → (AllOver tracks → ⊥) → is_over tracks ≡ false
 not_over tracks never = by (is_over tracks) refl
   where
@@ -48,7 +48,7 @@ not_over tracks never = by (is_over tracks) refl
     by true whole = absurd (never (λ i low. over_lives tracks i low whole))
     by false going = going
 
--- before the first round
+-- the run before the first round begins so
 pub begins_all : (script : ScriptData) (files : List (List Frame)) → IsScript script → all_play_through script ≡ true → (let s = session_of script files in Begins s (new_run s) 50)
 begins_all script files is through =
     let s : Session = session_of script files in
@@ -68,11 +68,11 @@ module _ (s : Session) (marks : Marks) (is : IsScript s.script) (lawful : (i : �
   abbrev long : length (setup_of s).settings ≡ track_count s
   long = settings_long s
 
-  -- it is carried after the round
+  -- the session is carried after the round
   pub session_then : SessionCarried s (after_round s run round)
   session_then = session_carried s marks scales long run round legal b.stands (not_over (after_round s run round).normal.tracks never)
 
-  -- A round keeps it, but for a retry
+  -- A round keeps a track's beginning, but for a retry
   pub begins_round : Begins s (after_round s run round) n
   begins_round = record {
     stands = session_then.stands;

@@ -60,7 +60,7 @@ still_looks (look ∷ looks) [] s word = refl
 still_looks (look ∷ looks) (front ∷ fronts) s word = let now : List ServerEvent = command_events s look front in
     still_both now (all_command_events (did s now) looks fronts) (still_look s look front) (still_looks looks fronts (did s now)) word
 
--- a word that is stored where it is new is the last one then
+-- a word that is stored if it is new is the last one then
 pub stored_last : (last word : ℕ) → fold status_by last (status_events (stored_over last word)) ≡ word
 stored_last last word = by_equal (word == last) refl
   where

@@ -1,4 +1,4 @@
--- What a client sees of its track's status in a round, where the status before the round and the one after it say something.
+-- What a client sees of its track's status in a round, if the status before the round and the one after it say something.
 use Rattle.std.proofs.Common.{get_or, ◌≡◌, inr, ℕ, suc, ◌≤◌, Bool, true, false, Option, Some, None, is_some, List, [], ◌∷◌, ◌++◌, length, fold, refl, sym, ap, ◌∙◌, subst, arith, append_assoc, if◌then◌else◌}
 use Rattle.std.proofs.lemmas.Grind.{fold-append}
 use Rattle.af_base.specs.declared.event.ClientCall.{ClientCall}
@@ -74,7 +74,7 @@ module _ (Says : ℕ → Type 0) where
       let first : e ≡ y = ap (λ (l : List ServerEvent). get_or l 0 e) is in
       says_front (status_by word y) es front rest (ap tail_of is) (subst (λ (x : ServerEvent). Says (status_by word x)) first (says_next word e h all.0)) all.1
 
-  -- the last status of a front that has these first events says so, where theirs does and all later ones do
+  -- the last status of a front that has these first events says so, if theirs does and all later ones do
   pub says_least : (word : ℕ) (xs xs' ys ys' : List ServerEvent) → xs ++ xs' ≡ ys ++ ys' → length xs ≤ length ys → Says (fold status_by word xs) → AllSay xs' → Says (fold status_by word ys)
   unfolding tail_of
   says_least word [] xs' ys ys' is short h all = says_front word xs' ys ys' is h all

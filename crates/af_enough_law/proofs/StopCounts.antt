@@ -61,7 +61,7 @@ third n (x ∷ []) h = (omega arith, omega arith)
 third n (x ∷ y ∷ []) h = (omega arith, omega arith)
 third n (x ∷ y ∷ z ∷ sent) h = (h.2.2.0, h.2.2.1)
 
--- so the STOP of a course is at no greater count
+-- the STOP of a course is at no greater count than the frames put
 pub stop_within : (t : Track) (count k : ℕ) → StopCounts t → t.commands.released ≡ course count 0 k → 3 ≤ k → (count ≤ frames_put t.stream.events) × (count < 2 ^ 32)
 stop_within t count k h is some =
     let same : get_or (words_of h.sent) 5 0 ≡ count = ap (λ (ws : List ℕ). get_or ws 5 0) (sym h.words ∙ is) ∙ with_none count k some in
@@ -104,7 +104,7 @@ take_few zero xs = omega arith
 take_few (suc n) [] = omega arith
 take_few (suc n) (x ∷ xs) = let l = take_few n xs in omega arith
 
--- and how many words it releases there
+-- how many words a call releases on the stream
 words_put : (t : Track) (answer : ClientCall) → length (after_call t answer).stream.released ≤ length t.stream.released + put_of answer
 words_put t (call.Put front count) =
     let a = length-append t.stream.released (take count (drop (length t.stream.released) t.file)) in
@@ -123,7 +123,7 @@ words_put t (call.Status word) = omega arith
 words_put t (call.Poke true word value) = omega arith
 words_put t (call.Poke false word value) = let a = length-append t.stream.released [] in omega arith
 
--- the words that it sends
+-- the words that a call sends
 words_spoken : (t : Track) (answer : ClientCall) → (after_call t answer).commands.released ≡ t.commands.released ++ words_of (sent_of answer)
 words_spoken t (call.Put front count) = sym (append-nil t.commands.released)
 words_spoken t (call.Full front) = sym (append-nil t.commands.released)
@@ -251,7 +251,7 @@ turn_counted : (t : Track) (calls : List ClientCall) (b : Bool) → MatchBool b 
 turn_counted t calls true made e flushless h = none_counted t calls true refl made h
 turn_counted t calls false made e flushless h = calls_counted 64 t calls flushless h made
 
--- A legal round keeps it
+-- A legal round keeps the counts
 pub counts_round : (cut : Bool) (s : Session) (marks : Marks) (run : Run) (round : RoundSeen) (i : ℕ) → LegalRound cut s marks run round → i < length run.tracks → i < track_count s → IsFlushlessTrack (sides_of (told_at run i))
     → StopCounts (sides_of (told_at run i)) → StopCounts (sides_of (told_at (after_round s run round) i))
 counts_round cut s marks run round i legal low named flushless h =

@@ -39,7 +39,7 @@ heard_not false e = absurd (true≢false e)
 stage_back : (n : ℕ) → n ≡ 3 → (false || (true && not (n == 3))) ≡ false
 stage_back n e = ap (λ (m : ℕ). false || (true && not (m == 3))) e
 
--- one that isn't to be heard isn't to be heard after a report either
+-- a life that isn't to be heard isn't to be heard after a report either
 still_out : (count last told more : ℕ) (l after : Life) → 3 ≤ told → told + more ≤ 4 → Course count told l → plays l ≡ false → Course last (told + more) after → (told ≡ 3 → more ≡ 0 → stage l ≡ 3 → stage after ≡ 3) → plays after ≡ false
 still_out count last (suc (suc (suc zero))) zero l after some few there out then_there open_is = course_plays last 3 after then_there ∙ stage_back (stage after) (open_is refl refl (let t = heard_not (stage l == 3) (sym (course_plays count 3 l there) ∙ out) in search (arith, t)))
 still_out count last (suc (suc (suc zero))) (suc zero) l after some few there out then_there open_is = course_plays last 4 after then_there
@@ -70,13 +70,13 @@ out_round s marks run round i t on three_told out turn gone =
     let life : u ≡ by_report (heard (learnt t.by.outside) i g).known l = gone.life ∙ ap (λ (n : ℕ). life_after (heard (learnt t.by.outside) i g) (course gone.after.count on.told n) l) none ∙ ap (λ (b : Bool). if b then l else by_report (heard (learnt t.by.outside) i g).known l) alive in
     ap stage life ∙ (stage_reported on.count (heard (learnt t.by.outside) i g).known l open_is there).2 (omega (arith, at)))
 
--- so a stopped track
+-- a round leaves a stopped track out of the mix
 pub stopped_out : (s : Session) (marks : Marks) (run : Run) (round : RoundSeen) (i most total : ℕ) (t : TurnMade s marks run round) (z : StoppedCarried run i most total) → OpenTurn s marks run round i t → CourseGone s marks run round i t z.on.told → plays (track_at (after_round s run round).normal.tracks i).life ≡ false
 stopped_out s marks run round i most total t z turn gone = out_round s marks run round i t z.on z.told z.out turn gone
 
 -- ## Places
 
--- Where the proxy of a stopped track is: home; on its way, so that it is home in the next turn; on its way, where the last state has nothing of it and the last report says that its server is open; or still with the fast mixer by the last state, which is known to be acknowledged
+-- Where the proxy of a stopped track is: home; on its way, so that it is home in the next turn; on its way, if the last state has nothing of it and the last report says that its server is open; or still with the fast mixer by the last state, which is known to be acknowledged
 pub data Place (s : Session) (run : Run) (i slot : ℕ) (item : FastTrack) : Type 0 where
   at_home : (track_at run.normal.tracks i).holder ≡ Home → Place s run i slot item
   comes : (track_at run.normal.tracks i).holder ≡ Returning → Coming run slot → Place s run i slot item
@@ -98,7 +98,7 @@ greeted_or true last s back = by (comes_home last s)
     by true = inl refl
     by false = inr back
 
--- it stays where the last state still carries it
+-- the holder of a proxy stays if the last state still carries its slot
 pub greeted_stays : (ack : Bool) (last : FastState) (s : TrackKept) → carries last (slot_number s) ≡ true → (greeted ack last s).holder ≡ s.holder
 unfolding welcomed
 greeted_stays false last s carried = refl

@@ -97,7 +97,7 @@ module _ (s : Session) (marks : Marks) (scales : All (λ (x : Setting). x.scale 
   slot_turned : (track_at (turn_after (setup_of s) (learnt t.by.outside) run.normal t.turn).tracks i).slot ≡ Some slot
   slot_turned = slot_stays (setup_of s) (learnt t.by.outside) run.normal t.turn i there runs (course_opened z.on.count z.on.told (track_at run.normal.tracks i).life z.on.follows.course (not_zero z.on.told z.told)) ∙ slot_is
 
-  -- its slot stays
+  -- the track's slot stays
   pub stopped_slot : (track_at after.normal.tracks i).slot ≡ Some slot
   stopped_slot = ap (λ (m : NormalKept). (track_at m.tracks i).slot) t.after ∙ slot_turned
 
@@ -160,7 +160,7 @@ module _ (s : Session) (marks : Marks) (scales : All (λ (x : Setting). x.scale 
     more_states : 1 ≤ n → 1 ≤ length after.states
     more_states some = let a = ap length (round_states s run round ∙ (turn_more s run round).whole) in let b = length-append run.states (turn_more s run round).more in omega (arith, a, b, some)
 
-    -- ## Where the last state has nothing of it
+    -- ## If the last state has nothing of the track
 
     module _ (same : item.generation ≡ (track_at run.normal.tracks i).generation) (some : 1 ≤ n) (out : IsOut slot i run.normal.last) (says : SaysOpen (slot_told run slot) item) where
       all_before : AllOut slot i n run
@@ -205,7 +205,7 @@ module _ (s : Session) (marks : Marks) (scales : All (λ (x : Setting). x.scale 
       waits_then : Place s after i slot item
       waits_then = waits back_then (generation_then same) (more_states some) (last_out out) (subst (λ (r : SlotReport). SaysOpen r item) (sym kept.last) says)
 
-    -- ## Where the last state still carries it, and is known to be acknowledged
+    -- ## If the last state still carries the track, and is known to be acknowledged
 
     module _ (held : (track_at run.normal.tracks i).holder ≡ Returning) (same : item.generation ≡ (track_at run.normal.tracks i).generation) (acked : KnowsAcked run) (some : 1 ≤ n) (last : Plays slot item run.normal.last) (told : IsTold run i slot item) where
       free : is_busy t.turn.push ≡ false

@@ -43,12 +43,12 @@ use Rattle.af_enough_law.proofs.TrackGoes.{CalmStream, said_by, all_fair, goes_b
 use Rattle.af_enough_law.proofs.TurnLives.{shut_turned}
 use Rattle.af_enough_law.proofs.Turning.{Stands}
 
--- what is carried of it, wherever its proxy is
+-- what is carried of a stopped track, wherever its proxy is
 pub record StoppedCarried (run : Run) (i most total : ℕ) : Type 0 where
-  -- its command block is calm, and so much is known of its server
+  -- the track's command block is calm, and so much is known of its server
   pub known : List ServerEvent
   pub commands : CalmCommands run i known
-  -- the lists of its stream: few frames, a hand that sets no flag, and a client whose list has a calm history; the server is calm and open as far as some history tells what it did
+  -- the lists of the track's stream: few frames, a hand that sets no flag, and a client whose list has a calm history; the server is calm and open as far as some history tells what it did
   pub few : (told_at run i).stream.shape.frames ≤ 65536
   pub hands : are_hands_calm (hand_list (told_at run i).stream) ≡ true
   pub stream : CalmStream (told_at run i).stream.shape (client_list (told_at run i).stream) []
@@ -126,14 +126,14 @@ module _ (s : Session) (marks : Marks) (scales : All (λ (x : Setting). x.scale 
     said_stream : CalmStream (told_at run i).stream.shape (said_by run round i) []
     said_stream = subst (λ (es : List ClientEvent). CalmStream (told_at run i).stream.shape es []) (sym said_same) z.stream
 
-    -- all that its client is answered is fair
+    -- all that the track's client is answered is fair
     pub stopped_fair : AreFair (calls_in round i)
     stopped_fair = all_fair false s marks run round i t legal z.known z.commands turn [] said_stream (inl refl) most total z.stands
 
     stopped_stands : Stands (sides_of (told_at after i)) most total
     stopped_stands = goes_by false s marks run round i t legal low named runs stopped_fair most total z.stands
 
-    -- and the track goes on on its course
+    -- the track goes on on its course
     pub stopped_gone : CourseGone s marks run round i t z.on.told
     stopped_gone =
         let argued = argued_by false s marks run round i t legal low named runs stopped_fair most total z.commands.flushless z.stands z.on.argued in
@@ -164,7 +164,7 @@ module _ (s : Session) (marks : Marks) (scales : All (λ (x : Setting). x.scale 
         by false none = subst (λ (k : Shape). CalmStream k (client_list (told_at after i).stream) []) (sym shape)
             (subst (λ (es : List ClientEvent). CalmStream (told_at run i).stream.shape es []) (sym (missed_said s run round i low none)) said_stream)
 
-    -- All of it is carried on, where the track isn't to be heard after the round
+    -- All of the track is carried on, if it isn't to be heard after the round
     pub stopped_carried : plays (track_at after.normal.tracks i).life ≡ false → StoppedCarried after i most total
     stopped_carried out =
         let gone : CourseGone s marks run round i t z.on.told = stopped_gone in

@@ -1,4 +1,4 @@
--- Where no client flushes, the entries of a round leave a stream block's server calm and open.
+-- If no client flushes, the entries of a round leave a stream block's server calm and open.
 use Rattle.std.proofs.Common.{◌≡◌, ℕ, zero, suc, ◌+◌, ◌-◌, ◌≤◌, ◌<◌, ◌==◌, ◌&&◌, if◌then◌else◌, Bool, true, false, true≢false, Option, Some, None, List, [], ◌∷◌, ◌++◌, length, refl, sym, ap, ◌∙◌, subst, arith, append_assoc, eqb-true, is_some}
 use Rattle.std.proofs.lemmas.List.{get_or-replicate}
 use Rattle.std.specs.List.{find, range_with_len}
@@ -74,7 +74,7 @@ module _ (k : Shape) (cs : List ClientEvent) (all : List ServerEvent) (h : Setti
   pub lies_earlier : (b later : BlockTold) → Later b later → LiesIn later → LiesIn b
   lies_earlier b later f l = record { shape = sym f.shape ∙ l.shape; rest = f.events ++ l.rest; whole = l.whole ∙ ap (λ x. x ++ l.rest) f.server ∙ append_assoc (server_list b) f.events l.rest }
 
-  -- one look leaves it so
+  -- one look leaves the server calm and open
   pub look_quiet : (asked : ℕ) (before : List ServerEvent) (slot : SlotEntry) (front : ℕ) (rest : List ServerEvent) → let s : Listed = record { shape = k; events = before } in
       LooksBy asked s slot front → all ≡ (before ++ cycle_events asked s slot (front_of asked s slot)) ++ rest → IsQuiet k before → IsQuiet k (before ++ cycle_events asked s slot (front_of asked s slot))
   look_quiet asked before slot front rest looks whole quiet =

@@ -1,4 +1,4 @@
--- The calm history that a stream block has where its proxy took part in the last meeting.
+-- The calm history that a stream block has if its proxy took part in the last meeting.
 use Rattle.std.proofs.Common.{◌≡◌, ℕ, ◌≤◌, ◌<◌, true, Bool, List, [], ◌++◌, length, refl, sym, ap, ◌∙◌, subst, append-nil, append_assoc}
 use Rattle.af_base.specs.declared.event.ClientEvent.{ClientEvent}
 use Rattle.af_model.specs.declared.shape.Shape.{Shape}
@@ -35,7 +35,7 @@ calm_stream b history spelled few calm hands = record {
   };
 }
 
--- the history of a round in which its proxy takes part in the meeting
+-- the history of a round in which the stream's proxy takes part in the meeting
 pub part_stream : (cut : Bool) (s : Session) (marks : Marks) (run : Run) (round : RoundSeen) (t : TurnMade s marks run round) (i : ℕ) → i < length run.tracks → i < track_count s → LegalRound cut s marks run round → KeepsTo run i → takes_part s (met_after s run round) i ≡ true
     → are_calm (server_list (told_at (after_round s run round) i).stream) ≡ true → are_hands_calm (hand_list (told_at (after_round s run round) i).stream) ≡ true → CalmStream (told_at (after_round s run round) i).stream.shape (client_list (told_at (after_round s run round) i).stream) []
 part_stream cut s marks run round t i low named legal k part calm hands =
@@ -45,6 +45,6 @@ part_stream cut s marks run round t i low named legal k part calm hands =
     let history : HasBlockHistory u.stream = subst HasBlockHistory (sym same) ((legal.histories.blocks i named).stream part (ap is_tame (sym same) ∙ to.pokeless.stream)) in
     calm_stream u.stream history to.spelled.stream to.few calm hands
 
--- it tells what was said before
+-- a calm history tells what was said before
 pub said_earlier : (k : Shape) (early late : List ClientEvent) (more : List ClientEvent) → late ≡ early ++ more → CalmStream k late [] → CalmStream k early []
 said_earlier k early late more is h = record { list = h.list; tail = more ++ h.tail; whole = h.whole ∙ ap (λ (es : List ClientEvent). es ++ h.tail) is ∙ append_assoc early more h.tail; calm = h.calm }

@@ -46,14 +46,14 @@ module _ (cut : Bool) (s : Session) (marks : Marks) (run : Run) (round : RoundSe
   pub knows_sent : KnowsReleased u.commands
   knows_sent = subst KnowsReleased (sym same_commands) (commands_known s marks run round t i named.low)
 
-  -- the words that its looks took follow those taken before
+  -- the words that the turn's looks took follow those taken before
   pub words : (told_at (met_after s run round) i).commands.taken ≡ (told_at run i).commands.taken ++ words_taken (track_in t.turn i).looks
   words =
       words_follow s marks run round t i named.low cut legal runs named.lawful named.named named.there (ap is_tame (sym same_commands) ∙ keeps_then.pokeless.commands) size
       (subst (λ (b : BlockTold). IsSpelled b.shape (client_list b)) same_commands keeps_then.spelled.commands)
       (ap (λ (b : BlockTold). flushes_of (client_list b)) (sym same_commands) ∙ unflushed_none (client_list u.commands) keeps_then.flushless.commands) o.is_open
 
-  -- and all that were taken begin those released
+  -- all words that were taken begin those released
   pub begins : (n : ℕ) × (u.commands.taken ≡ take n u.commands.released)
   begins =
       let b = words_begin s marks run round t i named.low cut legal runs named.lawful named.named named.there (ap is_tame (sym same_commands) ∙ keeps_then.pokeless.commands) size
@@ -83,7 +83,7 @@ module _ (cut : Bool) (s : Session) (marks : Marks) (run : Run) (round : RoundSe
         (subst (λ (b : BlockTold). IsSpelled b.shape (client_list b)) same_commands keeps_then.spelled.commands)
         (ap (λ (b : BlockTold). flushes_of (client_list b)) (sym same_commands) ∙ unflushed_none (client_list u.commands) keeps_then.flushless.commands) o.is_open knows
 
-    -- So all that were sent before the round are taken, of a track that lives and took no more than two
+    -- All words that were sent before the round are taken, of a track that lives and took no more than two commands
     pub all_sent : (on : OnCourse run i) → (gone : CourseGone s marks run round i t on.told) → on.told ≤ 2 → (track_at run.normal.tracks i).life.ended ≡ false → frames_put (client_list (told_at run i).commands) ≡ length (told_at run i).commands.released → on.sent ≤ gone.after.told
     all_sent on gone low alive put =
         let looks = looks_open cut s marks run round i t legal named runs o in

@@ -40,7 +40,7 @@ pub record CommandsKnown (run : Run) (i : ℕ) : Type 0 where
   pub met : CommandsMet run i
   pub knows : KnowsReleased (told_at run i).commands
 
--- as many words were taken as were told
+-- as many words are told as taken as the takes of the server say
 abbrev pub WordsCounted : Run → ℕ → Type 0
 WordsCounted run i = frames_taken (server_list (told_at run i).commands) ≡ length (told_at run i).commands.taken
 
@@ -61,7 +61,7 @@ module _ (cut : Bool) (s : Session) (marks : Marks) (run : Run) (round : RoundSe
   pub known_round : CommandsKnown (after_round s run round) i
   known_round = record { met = commands_met s run round i turn.low; knows = subst KnowsReleased (sym same) (commands_known s marks run round t i turn.low) }
 
-  -- and the words counted
+  -- a legal round leaves the words counted
   pub counted_round : WordsCounted run i → WordsCounted (after_round s run round) i
   counted_round had =
       let words = words_after cut s marks run round i t legal known calm turn in

@@ -1,4 +1,4 @@
--- A turn's looks tell a track the words that they take.
+-- A track takes the words that a turn's looks take.
 use Rattle.std.proofs.Common.{◌⊎◌, inl, inr, ◌*◌, ◌≡◌, ℕ, zero, suc, ◌+◌, ◌==◌, ◌&&◌, ◌||◌, not, nat_lt, Bool, true, false, List, [], ◌∷◌, ◌++◌, length, refl, sym, ap, ◌∙◌, subst, arith, true≢false, Option, Some, None, is_some, MatchBool, if◌then◌else◌, ◌≤◌}
 use Rattle.std.specs.List.{list_any}
 use Rattle.af_base.specs.declared.report.SlotReport.{SlotReport}
@@ -46,7 +46,7 @@ no_wait flush_seen code argument life h = by_code (code == 2) (not life.ended &&
     by_code true d false z h = no h
     by_code false d z e h = refl
 
--- what one look tells
+-- what one look gives the track
 module _ (given : Option ℕ) (flush_seen : ℕ) where
   abbrev step : ℕ → ℕ → TrackKept → TrackKept
   step code argument s = record s { life = by_command code argument s.life; slot = if opens code s.life then given else s.slot; settled = s.settled + 1 }
@@ -88,7 +88,7 @@ module _ (given : Option ℕ) (flush_seen : ℕ) where
       ap (after_first look looks) is ∙ ap (λ (b : Bool). if b then after_looks given flush_seen looks s else s) stops
       ∙ none_left looks s (sym (ap (λ (b : Bool). if b then are_due n given flush_seen looks s else length looks == 0) stops) ∙ sym (ap (due_first n look looks) is) ∙ due)
 
-  -- the looks of a turn tell the words that they take
+  -- the track takes the words that the looks of a turn take
   pub looks_told : (n : ℕ) (looks : List CommandLook) (s : TrackKept) → s.awaits ≡ None → none_shut looks ≡ true → starts_at_once (words_taken looks) ≡ true → are_due n given flush_seen looks s ≡ true
       → after_looks given flush_seen looks s ≡ told_all given (words_taken looks) s
   looks_told n [] s idle open_is fine due = refl
@@ -149,7 +149,7 @@ idle_due given flush_seen looks s idle due = by_idle (looks ≡ []) (are_due mos
 abbrev with_report : Heard → Bool → TrackKept → TrackKept
 with_report h shut s = let t = record s { life = by_report h.known s.life } in record t { status = status_word shut t }
 
--- A track that lives, of which no START waits, is told the words that its looks take, and then hears the report
+-- A track that lives, for which no START waits, takes the words that its looks take, and then hears the report
 pub attended_told : (given : Option ℕ) (k : Learnt) (i : ℕ) (seen : TrackSeen) (s : TrackKept) → s.life.ended ≡ false → s.awaits ≡ None → none_shut seen.looks ≡ true → starts_at_once (words_taken seen.looks) ≡ true
     → IsServed given (heard k i s) seen (ready k i s) → attended given k i seen.looks s ≡ reported_by (heard k i s) (told_all given (words_taken seen.looks) (noted (slot_reported k s) s))
 unfolding after_part status_word
@@ -173,7 +173,7 @@ served_ends given k i seen s idle open_is fine served =
     let still : r.awaits ≡ None = noted_idle (slot_reported k s) s idle in
     due_ends given (heard k i s).flush_seen most_looks seen.looks r still open_is fine (idle_due given (heard k i s).flush_seen seen.looks r still (subst (HasDueLooks given (heard k i s).flush_seen seen.looks) (ready_idle k i s idle) served.looks))
 
--- And it is disabled where the report says so of the life that was told them
+-- The track is disabled if the report says so of the life that took those words
 pub disabled_told : (given : Option ℕ) (k : Learnt) (i : ℕ) (seen : TrackSeen) (s : TrackKept) → s.awaits ≡ None → none_shut seen.looks ≡ true → starts_at_once (words_taken seen.looks) ≡ true
     → IsServed given (heard k i s) seen (ready k i s) → seen.disabled ≡ told_by_report (heard k i s).known (told_all given (words_taken seen.looks) (noted (slot_reported k s) s)).life
 disabled_told given k i seen s idle open_is fine served =

@@ -11,13 +11,13 @@ use Rattle.af_enough_law.proofs.LentRounds.{HeardOf}
 use Rattle.af_enough_law.proofs.Nearing.{Nearing, over, removed, stopped, drained, emptied, stopping, flowing}
 use Rattle.af_enough_law.proofs.Turning.{Stands}
 
--- a track that has ended or was told its STOP keeps its retries; one that plays has what its mixer asks for
+-- what makes a track have two retries: it has ended or took its STOP, and keeps its retries; or it plays, and has what its mixer asks for
 pub data TrackAble (run : Run) (i : ℕ) : Type 0 where
   gone : ((track_at run.normal.tracks i).life.ended ≡ true) ⊎ (3 ≤ (track_at run.normal.tracks i).settled) → 2 ≤ (track_at run.normal.tracks i).life.retries → TrackAble run i
   home : (track_at run.normal.tracks i).slot ≡ None → HasNone i run.normal.last → HomeAble run i → TrackAble run i
   lent : (slot : ℕ) → (track_at run.normal.tracks i).slot ≡ Some slot → HeardOf run i slot → LentAble run i slot → TrackAble run i
 
--- each track has it
+-- each track is able
 abbrev pub AllAble : Session → Run → Type 0
 AllAble s run = (i : ℕ) → i < track_count s → TrackAble run i
 

@@ -24,16 +24,16 @@ pub record TrackCarried (run : Run) (i most total : ℕ) : Type 0 where
   -- what its client has learnt of the two servers
   pub known_stream : List ServerEvent
   pub known_commands : List ServerEvent
-  -- of the stream's, all that it took
+  -- the client has learnt of all that the stream's server took
   pub all_known : frames_taken known_stream ≡ frames_taken (server_list (told_at run i).stream)
   -- the lists of both blocks are calm: no flag but UNDERRUN, no drop, no block shut, no status 15
   pub calm : CalmTrack run i known_stream known_commands
   -- the client is on its way, or gone once all four commands were sent
   pub stands : Stands (sides_of (told_at run i)) most total
-  -- the commands sent and taken are those of its course, on which its life is
+  -- the commands sent and taken are those of the track's course, on which its life is
   pub on : OnCourse run i
 
--- what a round makes of it: all is carried on, and so many more commands were taken
+-- what a round makes of a track: all is carried on, and so many more commands were taken
 pub record TrackGone (s : Session) (marks : Marks) (run : Run) (round : RoundSeen) (i most total : ℕ) (t : TurnMade s marks run round) (told : ℕ) : Type 0 where
   pub carried : TrackCarried (after_round s run round) i most total
   pub gone : CourseGone s marks run round i t told
@@ -48,7 +48,7 @@ module _ (cut : Bool) (s : Session) (marks : Marks) (run : Run) (round : RoundSe
   pub able : (track_in t.turn i).disabled ≡ false
   able = able_any (setup_of s) t.by.outside run.normal t.turn i turn.there turn.runs (t.by.legal.goes_on turn.runs) two
 
-  -- all that its client is answered is fair
+  -- all that the track's client is answered is fair
   pub fair : AreFair (calls_in round i)
   fair = calls_fair cut s marks run round i t calm_turn legal c.known_stream c.known_commands c.calm able most total c.stands
 
@@ -61,7 +61,7 @@ module _ (cut : Bool) (s : Session) (marks : Marks) (run : Run) (round : RoundSe
       let argued = argued_by cut s marks run round i t legal turn.low turn.named turn.runs fair most total c.calm.flushless c.stands c.on.argued in
       course_goes cut s marks run round i t legal c.known_commands (commands_of run i c.known_stream c.known_commands c.calm) turn (sent_course (sides_of (told_at (after_round s run round) i)) most total carried_stands argued) argued c.on two
 
-  -- A legal round keeps all of it
+  -- A legal round keeps all that is carried of a track
   pub track_gone : TrackGone s marks run round i most total t c.on.told
   track_gone = let gone : CourseGone s marks run round i t c.on.told = course_gone in record {
     carried = record {

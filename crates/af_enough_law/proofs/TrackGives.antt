@@ -1,4 +1,4 @@
--- What is carried of a track makes each round bring it nearer to its end: without a slot where the round takes what it may, and else always.
+-- What is carried of a track makes each round bring it nearer to its end: without a slot if the round takes what it may, and else always.
 use Rattle.std.proofs.Common.{◌≡◌, ◌⊎◌, inl, inr, ℕ, ◌≤◌, ◌<◌, ◌==◌, ◌&&◌, not, nat_le, is_some, Bool, true, false, true≢false, All, None, length, refl, sym, ap, ◌∙◌, arith}
 use Rattle.af_life.specs.declared.kept.Setting.{Setting}
 use Rattle.af_life.specs.declared.track.Life.{Life}
@@ -66,7 +66,7 @@ module _ (s : Session) (marks : Marks) (scales : All (λ (x : Setting). x.scale 
   runs : t.turn.ended ≡ false
   runs = turn_runs s marks scales long run round legal c.stands
 
-  -- it isn't fast, or was opened when no slot was free
+  -- a track isn't fast, or was opened when no slot was free
   abbrev pub NeverSlotted : ℕ → ℕ → Type 0
   NeverSlotted i told = ((setting_of (setup_of s) i).fast ≡ false) ⊎ (1 ≤ told)
 
@@ -74,7 +74,7 @@ module _ (s : Session) (marks : Marks) (scales : All (λ (x : Setting). x.scale 
   never_slotted i there count told course (inl slow) none = slotless_stays (setup_of s) (learnt t.by.outside) run.normal t.turn i there runs slow none
   never_slotted i there count told course (inr some) none = slot_stays (setup_of s) (learnt t.by.outside) run.normal t.turn i there runs (course_opened count told (track_at run.normal.tracks i).life course (not_zero told some)) ∙ none
 
-  -- the round of one that has no slot: its proxy is always home
+  -- the round of a track that has no slot: its proxy is always home
   pub record HomeParts (i most total told : ℕ) : Type 0 where
     pub gone : TrackGone s marks run round i most total t told
     pub turn : OpenTurn s marks run round i t
@@ -118,7 +118,7 @@ module _ (s : Session) (marks : Marks) (scales : All (λ (x : Setting). x.scale 
     | inr three ↦ omega (arith, three)
   ]
 
-  -- Each track with two retries
+  -- What the round gives of each track with two retries
   pub track_gives : (i most total : ℕ) → i < track_count s → marks.commands i ≡ true → 2 ≤ (track_at run.normal.tracks i).life.retries → (track_at run.normal.tracks i).life.ended ≡ false → TrackIs s run i most total → HomeFlows s run round i → TrackRound s marks run round i t
   track_gives i most total named lawful two alive (slotless track never none) flows = slotless_gives i most total named lawful two track never none flows
   track_gives i most total named lawful two alive (lent slot item track l) flows = by (is_lent (track_at after.normal.tracks i).holder) refl
@@ -163,7 +163,7 @@ module _ (s : Session) (marks : Marks) (scales : All (λ (x : Setting). x.scale 
   home_flows i most total N base named lawful two (stopped slot item low' item_is slot_is z place) kept pipe none alive going low = absurd (true≢false (sym (ap is_some slot_is) ∙ ap is_some none))
   home_flows i most total N base named lawful two (gone_over h) kept pipe none alive going low = absurd (true≢false (sym h.life ∙ alive))
 
-  -- So the round gives what is asked of it
+  -- The round gives what is asked of it
   pub gives_round : (i most total : ℕ) → i < track_count s → marks.commands i ≡ true → 2 ≤ (track_at run.normal.tracks i).life.retries → TrackIs s run i most total → (plays (track_at run.normal.tracks i).life ≡ true → PipeKept s run) → GivesRound false s marks run round i
   gives_round i most total named lawful two is pipe = record {
     legal = legal;

@@ -1,4 +1,4 @@
--- A client's turn in a legal round is fair, and leaves it on its way, where what it did to the stream block stands in a calm history of this round or of a later one.
+-- A client's turn in a legal round is fair, and leaves it on its way, if what it did to the stream block stands in a calm history of this round or of a later one.
 use Rattle.std.proofs.Common.{◌≡◌, ℕ, ◌+◌, ◌≤◌, ◌<◌, Bool, true, false, true≢false, MatchBool, List, [], ◌∷◌, ◌++◌, length, fold, refl, sym, ap, ◌∙◌, subst, arith, ◌==◌}
 use Rattle.af_base.specs.declared.event.ClientCall.{ClientCall}
 use Rattle.af_base.specs.declared.event.ClientEvent.{ClientEvent}
@@ -130,7 +130,7 @@ module _ (cut : Bool) (s : Session) (marks : Marks) (run : Run) (round : RoundSe
       calls_stand (on due ops m is left) = turn_stands before_fair (calls_in round i) due ops m most total is left (made_of due ops m is) fair
       calls_stand (gone_for_good gone sent words codes) = ended_stays before_fair (calls_in round i) (told_at run i).client.ended gone gone (legal.turns.clients i named) sent words codes
 
-  -- and no command but a STOP has an argument
+  -- no command but a STOP has an argument
   pub argued_by : (most total : ℕ) → IsFlushlessTrack before_fair → Stands before_fair most total → AreArgued before_fair → AreArgued (sides_of after_fair)
   argued_by most total flushless stands argued =
       let now : AreArgued (fold after_call before_fair (calls_in round i)) = by stands in

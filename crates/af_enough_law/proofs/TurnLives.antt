@@ -36,11 +36,11 @@ module _ (c : Setup) (k : Learnt) (m : NormalKept) (e : Turn) (i : ℕ) (lt : i 
       let at : TrackKept = attended t.given k i (track_in e i).looks g in
       ap (λ (x : TrackKept). x.life) t.after ∙ (edited_alike (k.own i) at t.edited t.edit).life ∙ part_life t.given g g.life.ended alive
 
-  -- one that hears that its stream is shut has ended
+  -- a track that hears that its stream is shut has ended
   pub shut_turned : g.life.ended ≡ false → (heard k i g).known.shut ≡ true → (track_at (turn_after c k m e).tracks i).life.ended ≡ true
   shut_turned alive shut = ap (λ (l : Life). l.ended) (life_turned alive) ∙ ends_shut (heard k i g).known told_life shut
 
-  -- one that plays, is told plain words and hears that its stream is open plays on, or has ended
+  -- a track that plays, takes plain words and hears that its stream is open plays on, or has ended
   pub in_turned : g.life.ended ≡ false → (heard k i g).known.shut ≡ false → plain_words (words_taken (track_in e i).looks) ≡ true → InPlay g.life → 2 ≤ g.life.retries
       → ((track_at (turn_after c k m e).tracks i).life.ended ≡ true) ⊎ (plays (track_at (turn_after c k m e).tracks i).life ≡ true)
   in_turned alive unshut plain play two =
@@ -50,7 +50,7 @@ module _ (c : Setup) (k : Learnt) (m : NormalKept) (e : Turn) (i : ℕ) (lt : i 
       let left = commanded_keeps 2 (omega arith) t.given (heard k i g).flush_seen (track_in e i).looks (ready k i g) (omega (arith, retries, two)) in
       subst (λ (l : Life). (l.ended ≡ true) ⊎ (plays l ≡ true)) (sym (life_turned alive)) (stays_in (heard k i g).known told_life unshut there left)
 
--- a turn tells nothing of a track that had ended
+-- the entry of a turn says nothing of a track that had ended
 pub ended_unseen : (c : Setup) (o : Outside) (m : NormalKept) (e : Turn) (i : ℕ) → i < length m.tracks → e.ended ≡ false → GoesOn c o m e → (track_at m.tracks i).life.ended ≡ true → track_in e i ≡ nothing_seen
 ended_unseen c o m e i lt runs goes over =
     let t : TrackTurned c (learnt o) m e i = track_turned c (learnt o) m e i lt runs in

@@ -36,7 +36,7 @@ position_after t (call.SendCorrupt front rear) fair = absurd fair
 position_after t (call.Status word) fair = omega arith
 position_after t (call.Poke in_command word value) fair = absurd fair
 
--- and leaves the block's sizes
+-- a fair call leaves the block's sizes
 pub shape_after : (t : Track) (answer : ClientCall) → IsFair answer → (after_call t answer).stream.shape ≡ t.stream.shape
 shape_after t (call.Put front count) fair = refl
 shape_after t (call.Full front) fair = refl
@@ -183,7 +183,7 @@ none_waiting _ _ _ stopping = refl
 none_waiting _ _ _ draining = refl
 none_waiting _ _ _ removing = refl
 
--- at its next turn it does what it did
+-- a client at its next turn does what it did
 pub rested_at : (due : List Want) (ops : List Op) (m : Mode) → Doing due ops m → begun (at due ops m) ≡ at due ops m
 rested_at _ _ _ (opening ops way) = refl
 rested_at _ _ _ (starting ops way) = refl
@@ -207,7 +207,7 @@ none_ended c e = none_if (begun c).waiting (begun c).ended (begun c).due (begins
 pub none_some : {X A : Type 0} (o : Option X) (x : X) → o ≡ None → o ≡ Some x → A
 none_some {X} {A} o x n s = let e : None ≡ Some x = sym n ∙ s in absurd (true≢false (ap (λ (z : Option X). elim z as (λ _. Bool) [ None ↦ true | Some y ↦ false ]) e))
 
--- all calls of a turn, of a client that comes so
+-- a client comes so by all calls of a turn
 pub turn_came : (left : ℕ) (t : Track) (calls : List ClientCall) (most total : ℕ) → Came t most total → AreCalls left t calls → AreFair calls → Came (fold after_call t calls) most total
 turn_came left t [] most total came made fair = came
 turn_came left t (answer ∷ calls) most total (still due ops m is l) made fair =

@@ -70,12 +70,12 @@ new_underway s = record {
 exit_is_not : (code : ℕ) → code ≡ code_of Exit → (code == code_of Exit) ≡ false → ⊥
 exit_is_not code is off = true≢false (ap (λ (n : ℕ). n == code_of Exit) (sym is) ∙ off)
 
--- where no Exit is ordered, a mix is where some track is to be heard or less than the whole room was seen
+-- a mix is ordered, as some track is to be heard or less than the whole room was seen
 pub record Mixes (tracks : List TrackKept) (room size code : ℕ) : Type 0 where
   pub code_is : code ≡ code_of MixWrite
   pub needed : (some_heard tracks || not (room == size)) ≡ true
 
--- and else a cold idle
+-- a cold idle is ordered, as no track is to be heard and the whole room was seen
 pub record Idles (tracks : List TrackKept) (room size code : ℕ) : Type 0 where
   pub code_is : code ≡ code_of ColdIdle
   pub unheard : some_heard tracks ≡ false
@@ -113,7 +113,7 @@ alive_over [] i lt is = absurd (let z : ⊥ = omega (arith, lt) in z)
 alive_over (s ∷ tracks) zero lt is = ap (λ (b : Bool). (b && is_home s.holder) && is_over tracks) is
 alive_over (s ∷ tracks) (suc i) lt is = and_false (s.life.ended && is_home s.holder) (is_over tracks) (alive_over tracks i (omega (arith, lt)) is)
 
--- nor while some proxy isn't home
+-- not all is over while some proxy isn't home
 pub away_over : (tracks : List TrackKept) (i : ℕ) → i < length tracks → is_home (track_at tracks i).holder ≡ false → is_over tracks ≡ false
 away_over [] i lt is = absurd (let z : ⊥ = omega (arith, lt) in z)
 away_over (s ∷ tracks) zero lt is = first s.life.ended (is_home s.holder) is
@@ -143,7 +143,7 @@ module _ (s : Session) (marks : Marks) (scales : All (λ (x : Setting). x.scale 
   pub made : PushMade run.normal next t.turn.push
   made = turn_pushes (setup_of s) t.by.outside run.normal t.turn goes (t.by.legal.goes_on goes) u.order.latest
 
-  -- what it orders
+  -- the command that the turn orders
   pub orders : code_of after.normal.draft.command ≡ code_of (next_command false after.normal.tracks t.turn.room (pipe_size (setup_of s)))
   orders =
       ap (λ (m : NormalKept). code_of m.draft.command) t.after ∙ command_turned (setup_of s) (learnt t.by.outside) run.normal t.turn goes
@@ -174,7 +174,7 @@ module _ (s : Session) (marks : Marks) (scales : All (λ (x : Setting). x.scale 
       by true is = ap is_exit (made.busy is).3 ∙ u.none
       by false is = ap is_exit (made.done is).1 ∙ ap (λ (m : NormalKept). is_exit m.draft) (sym t.after) ∙ draft
 
-  -- a cold idle is ordered where the pipe is empty after the round
+  -- a cold idle is ordered if the pipe is empty after the round
   idle_round : Idles after.normal.tracks t.turn.room (pipe_size (setup_of s)) (code_of after.normal.draft.command) → IsIdle after
   idle_round idles = (idles.code_is, by u.pipe)
     where
@@ -216,14 +216,14 @@ module _ (s : Session) (marks : Marks) (scales : All (λ (x : Setting). x.scale 
         command = mixes_or_idles draft;
       }
 
-  -- so does one that leaves a life that hasn't ended
+  -- a round that leaves a life that hasn't ended orders no Exit
   pub underway_alive : (i : ℕ) → i < length after.normal.tracks → (track_at after.normal.tracks i).life.ended ≡ false → Underway s after
   underway_alive i lt alive = underway_round (unordered (ap (λ (b : Bool). b && (t.turn.room == pipe_size (setup_of s))) (alive_over after.normal.tracks i lt alive)))
 
-  -- or a proxy that isn't home
+  -- a round that leaves a proxy that isn't home orders no Exit
   pub underway_away : (i : ℕ) → i < length after.normal.tracks → is_home (track_at after.normal.tracks i).holder ≡ false → Underway s after
   underway_away i lt away = underway_round (unordered (ap (λ (b : Bool). b && (t.turn.room == pipe_size (setup_of s))) (away_over after.normal.tracks i lt away)))
 
-  -- or whose turn doesn't see the whole room
+  -- a round whose turn doesn't see the whole room orders no Exit
   pub underway_room : (t.turn.room == pipe_size (setup_of s)) ≡ false → Underway s after
   underway_room off = underway_round (unordered (and_false (is_over after.normal.tracks) (t.turn.room == pipe_size (setup_of s)) off))

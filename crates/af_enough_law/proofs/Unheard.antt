@@ -34,7 +34,7 @@ unheard_at [] i none = refl
 unheard_at (s ∷ tracks) zero none = (or_none (plays s.life) (some_heard tracks) none).0
 unheard_at (s ∷ tracks) (suc i) none = unheard_at tracks i (or_none (plays s.life) (some_heard tracks) none).1
 
--- where every life has ended none is to be heard
+-- if every life has ended, none is to be heard
 pub over_unheard : (tracks : List TrackKept) → AllOver tracks → some_heard tracks ≡ false
 over_unheard [] over = refl
 over_unheard (s ∷ tracks) over = ap (λ (b : Bool). b || some_heard tracks) (silent s.life (over 0 (omega arith))) ∙ over_unheard tracks (λ i lt. over (suc i) (omega (arith, lt)))

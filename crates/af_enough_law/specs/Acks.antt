@@ -6,7 +6,7 @@ use Rattle.af_model.specs.StateQueue.{observed}
 use Rattle.af_runs.specs.Runs.{Run}
 use Rattle.af_enough_law.specs.Seen.{Stands}
 
--- at a meeting it learnt of so many events of the fast mixer's end, by which the last state pushed was acknowledged
+-- at a meeting the normal mixer learnt of so many events of the fast mixer's end, by which the last state pushed was acknowledged
 pub record KnowsAcked (run : Run) : Type 0 where
   pub count : ℕ
   pub learnt : Stands (mutator.Learn count) (ones run.queue)

@@ -10,7 +10,7 @@ use Rattle.af_enough_law.specs.FastFlows.{KnowsStates, CountsStates, KnowsReport
 use Rattle.af_enough_law.specs.Items.{AreItems}
 use Rattle.af_enough_law.specs.QueueRounds.{QueueStands}
 
--- what holds before the first round too
+-- what holds of a session before the first round too
 pub record SessionStands (s : Session) (run : Run) : Type 0 where
   -- both mixers go on
   pub runs : run.normal.ended ≡ false
@@ -18,7 +18,7 @@ pub record SessionStands (s : Session) (run : Run) : Type 0 where
   -- each track is there, in the run and in the mixer
   pub tracks : length run.tracks ≡ track_count s
   pub kept : length run.normal.tracks ≡ track_count s
-  -- the slots, the draft and what is to be pushed fit together, and the draft tells each track that is lent as it is
+  -- the slots, the draft and what is to be pushed fit together, and the draft has the item of each track whose proxy is away
   pub order : IsInOrder run.normal
   pub items : AreItems (setup_of s) run.normal
   -- the queue's two ends, and the last state pushed
@@ -34,7 +34,7 @@ pub record SessionStands (s : Session) (run : Run) : Type 0 where
   pub last_goes : is_exit run.normal.last ≡ false
   pub exits : NoExits run.states
 
--- and once there was a meeting: each mixer knows what the other one did
+-- what holds once there was a meeting as well: each mixer knows what the other one did
 pub record SessionCarried (s : Session) (run : Run) : Type 0 where
   pub stands : SessionStands s run
   pub states : KnowsStates s run

@@ -25,7 +25,7 @@ pub record CommandsTold (s : Session) (run : Run) (round : RoundSeen) (e : Turn)
   pub count : ℕ
   pub server : (let c = setup_of s in let o = outside_of c (found_in s run round e) e in server_list after ≡ server_list before ++ (command_list c o e (tracks_at c (learnt o) run.normal e i) i ++ server.Learn count ∷ []))
 
--- What a turn takes of the block: none of its looks finds it shut, the words of the commands are taken, and where the looks end with one that shows none, all but maybe one word of what was released before the round
+-- What a turn takes of the block: none of its looks finds it shut, the words of the commands are taken, and if the looks end with one that shows none, all but maybe one word of what was released before the round
 pub record CommandsTaken (e : Turn) (i : ℕ) (before after : BlockTold) : Type 0 where
   pub open_is : none_shut (track_in e i).looks ≡ true
   pub taken : frames_taken (server_list after) ≡ frames_taken (server_list before) + length (words_taken (track_in e i).looks)

@@ -1,4 +1,4 @@
--- The course of a track that plays through: what its client tells it, and what each turn makes of its life.
+-- The course of a track that plays through: what its client sends it, and what each turn makes of its life.
 use Rattle.std.specs.Prelude.{◌≡◌, ℕ, zero, suc, ◌+◌, ◌≤◌, ◌==◌, ◌&&◌, ◌||◌, not, Bool, true, false, if◌then◌else◌, List, [], ◌∷◌, length, Option, None}
 use Rattle.af_base.specs.declared.turn.CommandLook.{CommandLook}
 use Rattle.af_life.specs.declared.kept.Heard.{Heard}
@@ -13,7 +13,7 @@ use Rattle.af_life.specs.Serves.{status_word}
 
 -- ## Words and looks
 
--- a track that was told these words, two for each command, none of which waits
+-- a track once it took these words, two for each command, none of which waits
 abbrev pub told_all : Option ℕ → List ℕ → TrackKept → TrackKept
 told_all given (code ∷ argument ∷ words) s = told_all given words (record s { life = by_command code argument s.life; slot = if opens code s.life then given else s.slot; settled = s.settled + 1 })
 told_all given _ s = s
@@ -37,7 +37,7 @@ is_ended (look ∷ looks) = if shows_command look.seen then is_ended looks else 
 abbrev pub reported_by : Heard → TrackKept → TrackKept
 reported_by h s = let t = record s { life = by_report h.known s.life } in record t { status = status_word h.known.shut t }
 
--- ## What the client of a track that plays through tells it: OPEN, START, a STOP at some count and REMOVE
+-- ## What the client of a track that plays through sends it: OPEN, START, a STOP at some count and REMOVE
 
 abbrev pub code_at : ℕ → ℕ
 code_at zero = 1
@@ -49,12 +49,12 @@ abbrev pub argument_at : ℕ → ℕ → ℕ
 argument_at count (suc (suc zero)) = count
 argument_at count _ = 0
 
--- the words of so many commands, where so many were told before
+-- the words of so many commands, if so many were sent before
 abbrev pub course : ℕ → ℕ → ℕ → List ℕ
 course count told zero = []
 course count told (suc more) = code_at told ∷ argument_at count told ∷ course count (suc told) more
 
--- a life in such a state
+-- a life that goes on, in this state
 abbrev pub life_in : LifeState → Bool → Bool → ℕ → ℕ → Life
 life_in state member drained retries stop_at = record { state = state; member = member; ended = false; drained = drained; retries = retries; stop_at = stop_at }
 
@@ -68,7 +68,7 @@ pub data Course (count : ℕ) : ℕ → Life → Type 0 where
   stopped : (retries : ℕ) → Course count 3 (life_in Stopped false true retries count)
   over : (life : Life) → life.ended ≡ true → Course count 4 life
 
--- how far a track is on its way to a stop: 3 where it has stopped
+-- how far a track is on its way to a stop: 3 if it has stopped
 abbrev pub stage_of : LifeState → ℕ
 stage_of Stopping1 = 1
 stage_of Stopping2 = 2
@@ -78,7 +78,7 @@ stage_of _ = 0
 abbrev pub stage : Life → ℕ
 stage life = stage_of life.state
 
--- a track of so many commands, so far on its way, is to be heard
+-- a track that took so many commands, so far on its way, is to be heard
 abbrev pub is_heard : ℕ → ℕ → Bool
 is_heard told way = (told == 2) || ((told == 3) && not (way == 3))
 
@@ -89,7 +89,7 @@ pub record Follows (count told : ℕ) (s : TrackKept) : Type 0 where
   pub awaits : s.awaits ≡ None
   pub status : s.status ≡ status_word false s
 
--- a life that was told these words
+-- a life once it took these words
 abbrev pub told_words : List ℕ → Life → Life
 told_words (code ∷ argument ∷ words) life = told_words words (by_command code argument life)
 told_words _ life = life

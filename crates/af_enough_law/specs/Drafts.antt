@@ -12,7 +12,7 @@ next_holder heard slot Home = if slot && heard then Lent else Home
 next_holder heard slot Lent = if heard then Lent else Returning
 next_holder heard slot Returning = Returning
 
--- where nothing is to be pushed, the draft is the last state pushed
+-- if nothing is to be pushed, the draft is the last state pushed
 abbrev pub IsLatest : NormalKept → Type 0
 IsLatest m = m.dirty ≡ false → m.last ≡ m.draft
 

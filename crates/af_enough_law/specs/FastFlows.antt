@@ -34,7 +34,7 @@ pub record KnowsStates (s : Session) (run : Run) : Type 0 where
   pub within : count ≤ length (ones run.queue)
   pub pushed : (mutated (initial (cycle_frames s)) (take count (ones run.queue))).pushed ≡ length run.states
 
--- the pushes that were told are those of the states
+-- as many pushes were told as there are states
 abbrev pub CountsStates : Session → Run → Type 0
 CountsStates s run = (mutated (initial (cycle_frames s)) (ones run.queue)).pushed ≡ length run.states
 
@@ -43,7 +43,7 @@ abbrev pub AllUse : ℕ → ℕ → List EntrySeen → Type 0
 AllUse low high [] = Unit {0}
 AllUse low high (e ∷ entries) = (low ≤ e.entry.state) × (e.entry.state ≤ high) × AllUse low high entries
 
--- a state is pushed before the round, and this holds of the last one and of each one that is pushed in it
+-- a state is pushed before the round, and P holds of the last one and of each one that is pushed in it
 abbrev pub AllStates : Run → Run → (FastState → Type 0) → Type 0
 AllStates run after P = (1 ≤ length run.states) × ((k : ℕ) (x : FastState) → length run.states ≤ k → state_of after.states k ≡ Some x → P x)
 
@@ -77,7 +77,7 @@ abbrev pub taken_in : ℕ → List EntrySeen → ℕ
 taken_in i [] = 0
 taken_in i (e ∷ entries) = count_seen (entry_slot e.entry i).seen + taken_in i entries
 
--- how many of them were asked for
+-- how many frames the entries asked for
 abbrev pub asked_in : ℕ → List EntrySeen → ℕ
 asked_in asked [] = 0
 asked_in asked (e ∷ entries) = asked + asked_in asked entries
@@ -141,7 +141,7 @@ pub record Flowed (s : Session) (run : Run) (round : RoundSeen) (track i : ℕ) 
 abbrev pub slot_told : Run → ℕ → SlotReport
 slot_told run i = report_at (last_report run.reports).slots i
 
--- it is of this item, with the count of the frames consumed and whether the server is shut
+-- the last report says of a slot that it is of this item, how many frames were consumed, and whether the server is shut
 pub record IsTold (run : Run) (track i : ℕ) (item : FastTrack) : Type 0 where
   pub generation : (slot_told run i).generation ≡ item.generation
   pub consumed : (slot_told run i).consumed ≡ (known_of (listed (told_at run track).stream)).consumed
@@ -153,7 +153,7 @@ pub record LastCarries (run : Run) (i : ℕ) : Type 0 where
   pub is : state_of run.states (last_used run.entries) ≡ Some state
   pub carried : carries state i ≡ true
 
--- the looks that showed frames, and those that showed none
+-- how many looks showed frames, and how many showed none
 abbrev pub heard_by : Seen → ℕ
 heard_by (seen.Frames count) = 1
 heard_by _ = 0
@@ -175,7 +175,7 @@ pub record Counted (run later : Run) (i : ℕ) (entries : List EntrySeen) : Type
   pub heard : (slot_told later i).fulls + (slot_told later i).partials ≡ (slot_told run i).fulls + (slot_told run i).partials + heard_in i entries
   pub silent : (slot_told later i).empties ≡ (slot_told run i).empties + silent_in i entries
 
--- the report after a round: it tells of the slot, and where the state used last before the round carried the slot too, the counts go on
+-- the report after a round: it tells of the slot, and if the state used last before the round carried the slot too, the counts go on
 pub record Reported (s : Session) (run : Run) (round : RoundSeen) (track i : ℕ) (item : FastTrack) : Type 0 where
   pub told : IsTold (after_round s run round) track i item
   pub carries_on : LastCarries (after_round s run round) i
@@ -183,7 +183,7 @@ pub record Reported (s : Session) (run : Run) (round : RoundSeen) (track i : ℕ
 
 -- ## The report that is loaded
 
--- the stores that were told are those of the reports
+-- as many stores were told as there are reports
 abbrev pub CountsReports : Run → Type 0
 CountsReports run = stored (ones run.report) ≡ length run.reports
 
@@ -194,7 +194,7 @@ pub record KnowsReports (run : Run) : Type 0 where
   pub within : count ≤ length (ones run.report)
   pub all : stored (take count (ones run.report)) ≡ length run.reports
 
--- What a later report says of a slot: it is of this item, and no count fell
+-- What a later report says of a slot: the slot is of this item, and no count fell
 pub record Since (before now : SlotReport) (item : FastTrack) : Type 0 where
   pub generation : now.generation ≡ item.generation
   pub heard : before.fulls + before.partials ≤ now.fulls + now.partials

@@ -16,7 +16,7 @@ use Rattle.af_enough_law.specs.Seen.{frames_taken}
 
 -- ## The client
 
--- not at its OPEN, at its START, or at the wait for this to be settled
+-- a client is past its START: it isn't at its OPEN, at its START, or at the wait for this to be settled
 abbrev pub is_started : List Want → Bool
 is_started (want.Send command.Open ∷ wants) = false
 is_started (want.Send command.Start ∷ wants) = false

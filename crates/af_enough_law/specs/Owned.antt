@@ -12,6 +12,6 @@ pub record IsOwned (tracks : List TrackKept) (slot : ℕ) : Type 0 where
   pub lent : is_lent (track_at tracks owner).holder ≡ true
   pub slot_is : slot_number (track_at tracks owner) ≡ slot
 
--- each slot that the draft carries is that of such a track
+-- each slot that the draft carries is that of a track that is lent
 abbrev pub AreOwned : List TrackKept → FastState → Type 0
 AreOwned tracks draft = (slot : ℕ) → slot < slots → carries draft slot ≡ true → IsOwned tracks slot

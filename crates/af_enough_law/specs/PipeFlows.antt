@@ -20,7 +20,7 @@ pipe_put run = frames_put (ones run.pipe.told)
 abbrev pub pipe_taken : Run → ℕ
 pipe_taken run = frames_taken (twos run.pipe.told)
 
--- those put and not taken
+-- how many frames were put and not taken
 abbrev pub in_pipe : Run → ℕ
 in_pipe run = pipe_put run - pipe_taken run
 
@@ -36,12 +36,12 @@ pub record KnowsPipe (run : Run) : Type 0 where
   pub takes_all : frames_taken (take takes (twos run.pipe.told)) ≡ pipe_taken run
   pub words : length run.pipe.put ≡ pipe_put run
 
--- how many frames a turn puts: a buffer, where it mixes some track
+-- how many frames a turn puts: a buffer, if it mixes some track
 abbrev pub put_in : Session → Option Turn → ℕ
 put_in s None = 0
 put_in s (Some e) = if e.ended then 0 else length (put_by (setup_of s) e.mixes)
 
--- what a round does to the pipe: it puts what the turn mixed, and where it mixes it takes at least all that was in the pipe, or 16 times the frames of a cycle
+-- what a round does to the pipe: it puts what the turn mixed, and if all its entries are Mixed, it takes at least all that was in the pipe, or 16 times the frames of a cycle
 pub record PipeFlowed (s : Session) (run : Run) (round : RoundSeen) : Type 0 where
   pub put : pipe_put (after_round s run round) ≡ pipe_put run + put_in s round.turn
   pub within : pipe_taken (after_round s run round) ≤ pipe_put (after_round s run round)

@@ -15,7 +15,7 @@ use Rattle.af_runs.specs.Clients.{Client, begun, state_in}
 use Rattle.af_runs.specs.ClientTurns.{Side, Track, after_call}
 use Rattle.af_enough.specs.Enough.{most_gains}
 
--- gains and writes of some frames, and then a stop, a drain and a removal, where so many gains stand directly before
+-- gains and writes of some frames, and then a stop, a drain and a removal, if so many gains stand directly before
 abbrev pub IsWay : ℕ → List Op → Type 0
 IsWay gains (op.Gain left right ∷ ops) = (gains < most_gains) × IsWay (gains + 1) ops
 IsWay gains (op.Write count ∷ ops) = (1 ≤ count) × IsWay 0 ops
@@ -35,13 +35,13 @@ pub data Doing : List Want → List Op → Mode → Type 0 where
   draining : Doing (want.Drained ∷ []) (op.Remove ∷ []) mode.Stopped
   removing : Doing (want.Send command.Remove ∷ []) [] mode.Stopped
 
--- the client has ended, or does one of these
+-- the client has ended, or is doing what Doing lists
 abbrev pub IsDoing : Client → Type 0
 IsDoing c = (c.ended ≡ true) ⊎ ((c.ended ≡ false) × Doing (begun c).due (begun c).ops c.mode)
 
 -- ## What is left of the gains, the writes and the stop
 
--- 1 where one of them is in work
+-- 1 if a gain, a write or the stop is in work
 abbrev pub due_ops : List Want → ℕ
 due_ops [] = 0
 due_ops (want.Gain left right ∷ wants) = 1
@@ -111,7 +111,7 @@ SeesFrom from t (call.Put front count) = (at : ℕ) × (front ≡ wrapped at) ×
 SeesFrom from t (call.Full front) = (at : ℕ) × (front ≡ wrapped at) × (from ≤ at) × (at ≤ position t.stream)
 SeesFrom from t _ = Unit {0}
 
--- the same of each call of a turn
+-- A front that a write of a turn sees is the word of a position that isn't before this one, nor past what was released
 abbrev pub AllSeeFrom : ℕ → Track → List ClientCall → Type 0
 AllSeeFrom from t [] = Unit {0}
 AllSeeFrom from t (answer ∷ calls) = SeesFrom from t answer × AllSeeFrom from (after_call t answer) calls

@@ -20,11 +20,11 @@ use Rattle.af_life.specs.TurnEvents.{tracks_at}
 abbrev pub greeted : Bool → FastState → TrackKept → TrackKept
 greeted ack last s = if ack then welcomed last s else s
 
--- and once it was served; one that had ended is passed over
+-- the track once it was served; one that had ended is passed over
 abbrev pub attended : Option ℕ → Learnt → ℕ → List CommandLook → TrackKept → TrackKept
 attended given k i looks s = if s.life.ended then s else after_part given (heard k i s) looks (ready k i s)
 
--- what the edits of the draft make of it
+-- what the edits of the draft make of a track
 pub data Edited (own : Heard) (s : TrackKept) : TrackKept → Type 0 where
   stays : must_leave s ≡ false → must_enter s ≡ false → Edited own s s
   leaves : must_leave s ≡ true → Edited own s (record s { holder = Returning })

@@ -54,7 +54,7 @@ calls_words : (calls : List ClientCall) (t : Track) → words_of (fold after_cal
 calls_words [] t = refl
 calls_words (answer ∷ calls) t = calls_words calls (after_call t answer) ∙ ap (λ (x : Words). (x.0, words_after x.0 x.1 calls)) (call_words t answer)
 
--- a turn of these calls
+-- a turn of these calls releases the words
 pub turn_words : (calls : List ClientCall) (t : Track) → (after_calls t calls).stream.released ≡ words_after t.file t.stream.released calls
 turn_words calls t = ap (λ (x : Words). x.1) (calls_words calls t)
 
@@ -75,7 +75,7 @@ called_words : (round : RoundSeen) (n : ℕ) (ts : List TrackTold) → map track
 called_words round n [] = refl
 called_words round n (t ∷ ts) = λ j. (t.file, turn_words (calls_in round n) (record { file = t.file; client = t.client; stream = side_of t.stream; commands = side_of t.commands }) j) ∷ called_words round (n + 1) ts j
 
--- what leaves the words of each track leaves those of all
+-- a change that leaves the words of each track leaves those of all
 each_words : (change : ℕ → TrackTold → TrackTold) → ((n : ℕ) (t : TrackTold) → track_words (change n t) ≡ track_words t) → (n : ℕ) (ts : List TrackTold) → map track_words (each_from change n ts) ≡ map track_words ts
 each_words change keeps n [] = refl
 each_words change keeps n (t ∷ ts) = λ j. keeps n t j ∷ each_words change keeps (n + 1) ts j
@@ -142,7 +142,7 @@ module _ (s : Session) where
       ∙ cycles_run (early_of run round) (with_calls round run)
       ∙ calls_run round run
 
--- those of one track
+-- the words of one track after the calls
 pub called_at : (round : RoundSeen) (n : ℕ) (xs : List Words) (i : ℕ) (x : Words) → slice_get xs i ≡ Some x → slice_get (words_called round n xs) i ≡ Some (x.0, words_after x.0 x.1 (calls_in round (n + i)))
 called_at round n [] i x at = absurd (none-some x at)
 called_at round n (y ∷ xs) zero x at =

@@ -26,7 +26,7 @@ Side = NormalKept × List FastState
 abbrev side : Run → Side
 side run = (run.normal, run.states)
 
--- after a turn that found this
+-- the mixer and its states after a turn that found this
 abbrev turned_side : Session → TurnFound → Turn → Side → Side
 turned_side s f e x = let c = setup_of s in let o = outside_of c f e in (turn_after c (learnt o) x.0 e, x.1 ++ pushed_by c o x.0 e)
 
@@ -68,7 +68,7 @@ module _ (s : Session) where
     before_side : side (before_turn s run round) ≡ side run
     before_side = cycles_side (early_of run round) (with_calls round run) ∙ calls_side round run
 
-    -- what comes behind the turn
+    -- what comes behind the turn leaves the mixer and its states
     behind_side : side (after_round s run round) ≡ side (after_turn s run round)
     behind_side =
         ends_side (met s (loaded round.turn (with_cycles s (late_of run round) (after_turn s run round))))
@@ -88,7 +88,7 @@ module _ (s : Session) where
 
 -- ## A mixer that is followed
 
--- the same is told of both, and these states are those of the run
+-- what is told of m is told of the run's mixer, and these states are those of the run
 pub record IsFollowed (m : NormalKept) (states : List FastState) (run : Run) : Type 0 where
   pub kept : mixer_told m ≡ mixer_told run.normal
   pub pushed : states ≡ run.states
@@ -103,7 +103,7 @@ module _ (s : Session) (marks : Marks) (run : Run) (round : RoundSeen) (m : Norm
   same_end : run.normal.ended ≡ m.ended
   same_end = ap (λ (x : NormalKept). x.ended) (sym is.kept)
 
-  -- one that has ended makes no turn
+  -- a mixer that has ended makes no turn, and is followed
   pub rest_followed : m.ended ≡ true → IsFollowed m states (after_round s run round)
   rest_followed ended =
       let none : round.turn ≡ None = subst (λ (b : Bool). MatchBool b (round.turn ≡ None) (MatchOption round.turn ⊥ (λ e. LegalTurnBy c marks (found_in s run round e) run.normal e))) (same_end ∙ ended) legal in
@@ -131,7 +131,7 @@ module _ (s : Session) (marks : Marks) (run : Run) (round : RoundSeen) (m : Norm
             (λ j. if none j then draft_after c o m e ∷ [] else []) ∙ sym (λ j. if none j then draft_after c (outside_of c f e) run.normal e ∷ [] else [])
         by_end false on = λ j. if is_pushed e.push then edited on j ∷ [] else []
 
-    -- a turn of its own, legal by what it saw itself
+    -- a mixer that makes a turn, legal by what it saw itself, is followed
     pub turn_followed : IsFollowed (turn_after c (learnt o) m e) (states ++ pushed_by c o m e) (after_round s run round)
     turn_followed = followed_by (turn_after c (learnt o) m e) (states ++ pushed_by c o m e) (after_round s run round) (turned_side s f e (side run)) (some_side s run round e turn)
         ((turns_same c o told.outside m run.normal e is.kept mine told.legal).kept ∙ ap (λ (k : Learnt). mixer_told (turn_after c k run.normal e)) heard)

@@ -121,7 +121,7 @@ module _ (given : Option ℕ) (f g : ℕ) where
   either_way true t = refl
   either_way false t = refl
 
-  -- of these looks: they make the same of both, where they are due and as many commands are settled
+  -- these looks make the same of both tracks, if they are due and as many commands are settled
   abbrev Rest : ℕ → List CommandLook → Type 0
   Rest n looks = (a b : TrackKept) → track_told a ≡ track_told b → are_due n given f looks a ≡ true → are_due n given g looks b ≡ true → (after_looks given f looks a).settled ≡ (after_looks given g looks b).settled
       → track_told (after_looks given f looks a) ≡ track_told (after_looks given g looks b)
@@ -132,14 +132,14 @@ module _ (given : Option ℕ) (f g : ℕ) where
   looks_same (suc n) [] a b same due due' count = no due
   looks_same (suc n) (look ∷ looks) a b same due due' count = by_next (λ x y at d d' c. looks_same n looks x y at d d' c) (after_look given f look a) (after_look given g look b) (look_together look a b same) due due' count
     where
-      -- what is so of the looks behind it
+      -- the looks behind a look make the same of both tracks
       by_goes : Rest n looks → (p q : Bool) → p ≡ q → (x y : TrackKept) → track_told x ≡ track_told y → Due given n looks f p x → Due given n looks g q y → (left given looks f p x).settled ≡ (left given looks g q y).settled → track_told (left given looks f p x) ≡ track_told (left given looks g q y)
       by_goes rest true true e x y at d d' c = rest x y at d d' c
       by_goes rest false false e x y at d d' c = at
       by_goes rest true false e x y at d d' c = no (sym e)
       by_goes rest false true e x y at d d' c = no e
 
-      -- where one waits no look is left, so the other has settled one more
+      -- if a track waits no look is left, so the other has settled one more
       waiting : (h k : ℕ) (x y : TrackKept) → is_some x.awaits ≡ true → y.settled ≡ x.settled + 1 → Due given n looks h (goes_on look x) x → (left given looks h (goes_on look x) x).settled ≡ (left given looks k (goes_on look y) y).settled → ⊥
       waiting h k x y waits more d c =
           let off : goes_on look x ≡ false = stops look x waits in
@@ -172,7 +172,7 @@ module _ (given : Option ℕ) (f : ℕ) where
   shut_stops : (look : CommandLook) (t : TrackKept) → is_shut look.seen ≡ true → goes_on look t ≡ false
   shut_stops look t shut = ap (λ (b : Bool). b && not (is_some t.awaits)) (shut_shows_none look.seen shut)
 
-  -- it ends the track
+  -- a look that finds the block shut ends the track
   pub shut_ends : (n : ℕ) (looks : List CommandLook) (s : TrackKept) → are_due n given f looks s ≡ true → list_any (λ (look : CommandLook). is_shut look.seen) looks ≡ true → (after_looks given f looks s).life.ended ≡ true
   shut_ends n [] s due shut = no shut
   shut_ends zero (look ∷ looks) s due shut = no due

@@ -42,7 +42,7 @@ acked_same true m n same =
 -- ## The edits
 
 module _ (c : Setup) (k l : Learnt) where
-  -- of the track of a number
+  -- what the edits make of the track of a number
   module _ (i : ℕ) (m n : NormalKept) (same : mixer_told m ≡ mixer_told n) where
     abbrev s : TrackKept
     s = track_at m.tracks i
@@ -109,7 +109,7 @@ module _ (c : Setup) (k l : Learnt) where
       by_case true = same
       by_case false = λ j. record (same j) { draft = commanded command (same j).draft; dirty = true }
 
-  -- all edits of a turn
+  -- all edits of a turn leave what tells the same
   pub mutated_same : (room : ℕ) (m n : NormalKept) → mixer_told m ≡ mixer_told n → mixer_told (mutated c k room m) ≡ mixer_told (mutated c l room n)
   unfolding mutated
   mutated_same room m n same =

@@ -29,14 +29,14 @@ pub state_code_small : (shut : Bool) (l : Life) → state_code shut l < 16
 state_code_small true l = omega arith
 state_code_small false l = let small = code_small l.state in omega (arith, small)
 
--- a word tells the number of the state, whether it is drained, and how many commands are settled
+-- a status word gives the number of the state, whether the life is drained, and how many commands are settled
 pub word_tells : (a b : ℕ) (d e : Bool) (n k : ℕ) → a < 16 → b < 16 → a + (if d then 16 else 0) + 256 * n ≡ b + (if e then 16 else 0) + 256 * k → (a ≡ b) × (n ≡ k)
 word_tells a b true true n k small small' e = (omega (arith, small, small', e), omega (arith, small, small', e))
 word_tells a b false false n k small small' e = (omega (arith, small, small', e), omega (arith, small, small', e))
 word_tells a b true false n k small small' e = absurd (omega (arith, small, small', e))
 word_tells a b false true n k small small' e = absurd (omega (arith, small, small', e))
 
--- what is stored over the same word tells the word
+-- what is stored over the same word gives the word
 pub stored_tells : (last v w : ℕ) → stored_over last v ≡ stored_over last w → v ≡ w
 stored_tells last v w = by_both (v == last) (w == last) refl refl
   where
@@ -64,7 +64,7 @@ stopping member drained false false n m stop e = refl
 stopping member drained true false n m stop e = absurd (omega (arith, e))
 stopping member drained false true n m stop e = absurd (omega (arith, e))
 
--- by two reports, of which either may find the block shut, where a look at the commands did or did not
+-- two reports leave what tells the same of two lives; either may find the block shut, and a look at the commands may have
 abbrev SameBy : Known → Known → Bool → Life → Life → Type 0
 SameBy k h looks l m = (looks ≡ true → l.ended ≡ true) → state_code (k.shut || looks) (by_report k l) ≡ state_code (h.shut || looks) (by_report h m) → told_by_report k l ≡ told_by_report h m → life_told (by_report k l) ≡ life_told (by_report h m)
 

@@ -60,7 +60,7 @@ module _ (given : Option ℕ) (f g : ℕ) (looks : List CommandLook) (a b : Trac
 
 -- ## One track
 
--- of a track that is ready for its commands
+-- what is told of a track that is ready for its commands
 module _ (given : Option ℕ) (h k : Heard) (seen : TrackSeen) (a b : TrackKept) (same : track_told a ≡ track_told b) (is : IsServed given h seen a) (is' : IsServed given k seen b) where
   abbrev looks : List CommandLook
   looks = seen.looks
@@ -109,7 +109,7 @@ module _ (given : Option ℕ) (h k : Heard) (seen : TrackSeen) (a b : TrackKept)
 -- ## All tracks
 
 module _ (c : Setup) (k l : Learnt) where
-  -- the track of a number
+  -- what is told of the track of a number
   module _ (seen : TrackSeen) (ts us : List TrackKept) (same : tracks_told ts ≡ tracks_told us) (i : ℕ) where
     abbrev s : TrackKept
     s = track_at ts i
@@ -145,7 +145,7 @@ module _ (c : Setup) (k l : Learnt) where
         by_end true false e is there = no (sym e)
         by_end false true e is there = no e
 
-  -- the first ones
+  -- the same is told of all tracks once the first ones were served
   pub all_served_same : (seen : List TrackSeen) (ts us : List TrackKept) → tracks_told ts ≡ tracks_told us → (n : ℕ)
       → ((i : ℕ) → i < n → LegalTrack c k (seen_at seen i) (served_to c k seen ts i) i) → ((i : ℕ) → i < n → LegalTrack c l (seen_at seen i) (served_to c l seen us i) i)
       → tracks_told (served_to c k seen ts n) ≡ tracks_told (served_to c l seen us n)

@@ -22,7 +22,7 @@ told_set [] i s = refl
 told_set (t ∷ ts) zero s = refl
 told_set (t ∷ ts) (suc i) s = ap (λ (l : List TrackKept). track_told t ∷ l) (told_set ts i s)
 
--- a test that asks for nothing else
+-- a test that asks for what is told alone
 module _ (test : TrackKept → Bool) (same : (t : TrackKept) → test (track_told t) ≡ test t) where
   pub any_told : (ts : List TrackKept) → list_any test (tracks_told ts) ≡ list_any test ts
   any_told [] = refl
@@ -32,7 +32,7 @@ module _ (test : TrackKept → Bool) (same : (t : TrackKept) → test (track_tol
   all_told [] = refl
   all_told (t ∷ ts) = λ j. same t j && all_told ts j
 
--- the slot that an OPEN gives
+-- the slot that an OPEN gives goes by what is told
 pub slot_told : (c : Setup) (ts : List TrackKept) (i : ℕ) → slot_for c (tracks_told ts) i ≡ slot_for c ts i
 slot_told c ts i = λ j. if (setting_of c i).fast then find (λ (slot : ℕ). not (any_told (holds slot) (λ t. refl) ts j)) (range_with_len 1 (slots - 1)) else None
 

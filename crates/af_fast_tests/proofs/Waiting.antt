@@ -12,7 +12,7 @@ use Rattle.af_fast_tests.specs.Ready.{AreWaiting, AreLines, IsLine}
 use Rattle.std.proofs.lemmas.Option.{same_Some}
 use Rattle.af_fast_tests.proofs.Zips.{zip_push}
 
--- one was taken
+-- one of the waiting proxies was taken
 pub one_taken : (blocks : List Made) (servers : List (Option ServerState)) (track : ℕ) (o : Option ServerState) → o ≡ None → track < length servers → AreWaiting blocks servers → AreWaiting blocks (slice_set servers track o)
 one_taken blocks servers track o gone lt waiting = record { each = (λ i s is. by_place i s is (cases_eq i track)) }
   where
@@ -24,12 +24,12 @@ one_taken blocks servers track o gone lt waiting = record { each = (λ i s is. b
 one_waits : (blocks : List Made) (i : ℕ) (b : Made) (x s : ServerState) → slice_get blocks i ≡ Some b → IsServerOf b x → Some x ≡ Some s → IsStreamOf blocks i s
 one_waits blocks i b x s here of is = subst (λ (t : ServerState). IsStreamOf blocks i t) (same_Some x s is) (record { made = here ∙ ap (λ (m : Made). Some m) (sym of.0); in_order = of.1 })
 
--- and it is of the block of its place
+-- the proxy that was taken is of the block of its place
 pub one_given : (blocks : List Made) (servers : List (Option ServerState)) (track : ℕ) (o : Option ServerState) → AreWaiting blocks servers → at servers track ≡ o → IfSome o (λ s. IsStreamOf blocks track s)
 one_given blocks servers track None waiting is = tt
 one_given blocks servers track (Some s) waiting is = waiting.each track s is
 
--- one came back
+-- a proxy came back
 pub one_put : (blocks : List Made) (servers : List (Option ServerState)) (track : ℕ) (x : ServerState) → IsStreamOf blocks track x → track < length servers → AreWaiting blocks servers → AreWaiting blocks (slice_set servers track (Some x))
 one_put blocks servers track x of lt waiting = record { each = (λ i s is. by_place i s is (cases_eq i track)) }
   where

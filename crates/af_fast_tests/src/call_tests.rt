@@ -57,7 +57,7 @@ fn writes(track: usize, word: u32, count: u32) -> Row {
     (step, Told::Wrote { wrote })
 }
 
-// Whether something is so.
+// A step that answers whether something is so.
 fn is(step: Step, so: bool) -> Row {
     (step, Told::Is { so })
 }
@@ -68,7 +68,7 @@ fn pushes(command: Command, number: u64) -> Row {
     (Step::Push { command }, Told::Pushed { push })
 }
 
-// A step that tells nothing.
+// A step that answers nothing.
 fn done(step: Step) -> Row {
     (step, Told::Done)
 }

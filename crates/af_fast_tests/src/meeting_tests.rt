@@ -89,7 +89,7 @@ fn meets_over<L: Ledger>(
     held && polled
 }
 
-// The same of new ends over this block alone.
+// One cycle and the meetings after it, of new ends over this block alone.
 fn meets_on<L: Ledger>(
     alloc: Global,
     streams: &[Block],

@@ -1,4 +1,4 @@
-//! A plain model of what a table of steps tells, by the rules alone: lists of frames, counts, and what each cycle shows of them.
+//! A plain model of what a table of steps answers, by the rules alone: lists of frames, counts, and what each cycle shows of them.
 use crate::table_tests::{Size, Step, Told, frames_of};
 use crate::tests::{BEFORE, FRAMES, Turned, still};
 use af_base::{
@@ -158,7 +158,7 @@ impl PlainTrack {
         })
     }
 
-    // The report of its slot, after the one before and a look.
+    // The report of a track's slot, after the one before and a look.
     fn report(&self, generation: u32, seen: Seen, before: SlotReport) -> SlotReport {
         let mut report = before;
         report.consumed = self.consumed as u64;
@@ -301,7 +301,7 @@ impl Plain {
         self.last = self.state;
     }
 
-    // The mix of an entry, where it is one.
+    // The mix of an entry, if it is one.
     fn mix(&self, alloc: Global, entry: &CycleEntry) -> Result<[Frame; FRAMES], Memory> {
         let mut out = [BEFORE; FRAMES];
         if entry.cycle != Cycle::Mixed {
@@ -395,7 +395,7 @@ impl Plain {
         Ok(Told::Done)
     }
 
-    /// Makes a step, and answers what it is to tell, where each push is followed by a cycle.
+    /// Makes a step, and gives what it is to answer, if each push is followed by a cycle.
     pub(crate) fn does(&mut self, alloc: Global, step: Step) -> Result<Told, Memory> {
         match step {
             Step::Attach {

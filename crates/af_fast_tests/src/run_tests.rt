@@ -23,7 +23,7 @@ const SIZES: [(u32, u32); 7] = [
 
 const SCALES: [u16; 7] = [0x1000, 0x0e00, 0x0c01, 0x0a02, 0x0803, 0x0604, 0];
 
-// A run as it is made: what each step is to tell by the model, and the source of what the parties do.
+// A run as it is made: what each step is to answer by the model, and the source of what the parties do.
 #[derive(Drop)]
 struct Run {
     alloc: Global,
@@ -131,7 +131,7 @@ fn sizes(alloc: Global) -> Result<Vec<Size>, Memory> {
     Ok(sizes)
 }
 
-// Whether each step of the run told what the model does.
+// Whether each step of the run answered what the model does.
 fn runs(alloc: Global) -> Result<bool, Memory> {
     let sizes = sizes(alloc)?;
     let mut run = Run {

@@ -1,4 +1,4 @@
-//! One driver for the tests by calls: a table of steps, with what each of them tells.
+//! One driver for the tests by calls: a table of steps, with what each of them answers.
 ghost use Rattle.std.specs.Prelude.{◌≡◌, ◌+◌, ◌<◌, ◌≤◌, ◌^◌, IfOk, IfSome, length, false};
 ghost use Rattle.af_client.specs.Order.{IsClientOf};
 ghost use Rattle.af_link.specs.Names.{IsStreamOf};
@@ -80,7 +80,7 @@ pub(crate) enum Step {
         track: usize,
         rear: u32,
     },
-    /// Clears DISABLED, and tells the flags before.
+    /// Clears DISABLED, and answers the flags before.
     Clear {
         track: usize,
     },
@@ -92,7 +92,7 @@ pub(crate) enum Step {
     Meet,
 }
 
-/// What a step told.
+/// What a step answered.
 #[derive(Clone, Copy, PartialEq, Eq)]
 pub(crate) enum Told {
     Done,
@@ -103,7 +103,7 @@ pub(crate) enum Told {
     Turned { turned: Turned },
 }
 
-/// A step with what it is to tell.
+/// A step with what it is to answer.
 pub(crate) type Row = (Step, Told);
 
 // The ends, the clients, the proxies that are with the test, and how often it pushed.
@@ -170,7 +170,7 @@ fn client_does<L: Ledger>(
     Told::Done
 }
 
-// The same of the client of a track.
+// What the client of a track does on its block.
 fn track_does<L: Ledger>(
     clients: &mut [Client],
     streams: &[Block],
@@ -334,7 +334,7 @@ impl Table {
     }
 }
 
-// Whether a cycle wrote the mix of the last entry by its definition, where it mixed.
+// Whether a cycle wrote the mix of the last entry by its definition, if it mixed.
 fn is_mix(log: &FastLog, told: Told) -> bool {
     let Told::Turned { turned } = told else {
         return true;
@@ -351,7 +351,7 @@ fn is_mix(log: &FastLog, told: Told) -> bool {
     mixed == turned.out
 }
 
-// Makes the steps of a table. It answers how many told what they should, each cycle with the mix of its entry, and whether the log is right, where entries are given.
+// Makes the steps of a table. It answers how many steps answered what they should, each cycle with the mix of its entry, and whether the log is right, if entries are given.
 fn play_all<L: Ledger>(
     table: &mut Table,
     links: &Links<'_>,
@@ -399,7 +399,7 @@ fn lines(alloc: Global, sizes: &[Size]) -> Result<Lines, Memory>
     Ok((streams, clients, servers))
 }
 
-// The same over new blocks.
+// Makes the steps of a table over new blocks of these sizes.
 fn plays_in<L: Ledger>(
     alloc: Global,
     blank: Blank,
@@ -428,7 +428,7 @@ fn plays_in<L: Ledger>(
     Ok(told)
 }
 
-/// Makes the steps of a table over blocks of these sizes, with a mixer of so many entries on four frames a cycle. It answers how many told what they should, and whether the log then has these entries and frames, where entries are given.
+/// Makes the steps of a table over blocks of these sizes, with a mixer of so many entries on four frames a cycle. It answers how many steps answered what they should, and whether the log then has these entries and frames, if entries are given.
 pub(crate) fn plays(
     alloc: Global,
     cycles: usize,

@@ -1,4 +1,4 @@
-//! What the tests of a mixer share: its ends, the calls on them, and what they may tell.
+//! What the tests of a mixer share: its ends, the calls on them, and what they may answer.
 ghost use Rattle.std.specs.Prelude.{◌≡◌, ◌+◌, ◌*◌, ◌^◌, ◌<◌, ◌≤◌, true, false, IfOk};
 ghost use Rattle.af_base.specs.Log.{slots};
 ghost use Rattle.af_cblk.specs.Sides.{client_made};
@@ -84,7 +84,7 @@ struct Joints {
     to: PipeOut,
 }
 
-/// All of them, over these blocks and a pipe of 64 frames. Nothing was done on any end.
+/// The joints of two mixers, over these blocks and a pipe of 64 frames. Nothing was done on any end.
 fn join(alloc: Global, streams: &[Block], frames: usize) -> Result<Joints, Memory>
     requires frames { (1 ≤ frames) × (frames ≤ 16) }
     ensures names { IfOk result (λ j. NamesBlocks j.mutator.past.key streams.now × NamesBlocks j.observer.past.key streams.now) }
@@ -147,7 +147,7 @@ pub(crate) fn begin(
     Ok((joints.shared, ends))
 }
 
-/// Attaches the proxy of a track where the slot is free, and says whether it was.
+/// Attaches the proxy of a track if the slot is free, and says whether it was.
 pub(crate) fn attach(
     mutator: &mut Pushing,
     links: &Links<'_>,
@@ -177,7 +177,7 @@ pub(crate) fn attach(
     true
 }
 
-/// Detaches a slot where it is active, and says whether it was.
+/// Detaches a slot if it is active, and says whether it was.
 pub(crate) fn detach(mutator: &mut Pushing, slot: u32) -> bool
     requires idle { mutator.old.editing ≡ false }
     requires slot { (1 ≤ slot) × (slot < slots) }
@@ -296,7 +296,7 @@ pub(crate) fn at_unity(rear: u32, seen: Seen, first: usize) -> SlotEntry {
     }
 }
 
-/// The entry of a mix of slot 1 alone, at unity, where the pipe is empty.
+/// The entry of a mix of slot 1 alone, at unity, if the pipe is empty.
 pub(crate) fn mixed_one(state: u64, slot: SlotEntry) -> CycleEntry {
     let mut entry = still(state, Cycle::Mixed);
     entry.slots[0] = at_unity(0, Seen::Empty, 0);

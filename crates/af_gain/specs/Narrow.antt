@@ -12,7 +12,7 @@ use Rattle.af_gain.specs.Sums.{IsWithin, sum_of}
 abbrev pub lanes_of : Sum → Sum → List ℤ
 lanes_of first second = first.left ∷ first.right ∷ second.left ∷ second.right ∷ []
 
--- the gains that they meet
+-- the gains of both sides, once for each of two sums
 abbrev pub gain_lanes : ℕ × ℕ → List ℤ
 gain_lanes gains = pos gains.0 ∷ pos gains.1 ∷ pos gains.0 ∷ pos gains.1 ∷ []
 

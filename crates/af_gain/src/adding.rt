@@ -72,7 +72,7 @@ pub(crate) fn heard_two(frames: &[Frame], mono: bool, at: usize) -> i32x4
     }
 }
 
-/// The same of a frame at an even place. The four frames that the two stand among are there, and are read once for both of their pairs.
+/// The samples of the frame at an even place and of the next one as they are heard, in lanes. The four frames that the two stand among are there, and are read once for both of their pairs.
 #[inline(always)]
 fn heard_pair(frames: &[Frame], mono: bool, at: usize) -> i32x4
     requires { (at % 2 ≡ 0) × (at / 4 * 4 + 4 ≤ length frames.now) }

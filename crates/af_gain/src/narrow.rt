@@ -82,7 +82,7 @@ fn with_frames(sums: Eight, frames: &[Frame], mono: bool, gains: Gains) -> Eight
     }
 }
 
-/// Eight frames from a place on, where the take may end before: then silence follows.
+/// Eight frames from a place on. If the take ends before, silence follows.
 fn padded(frames: &[Frame], at: usize) -> [Frame; 8]
     ensures { AreFrom frames.now at result }
 {

@@ -8,20 +8,20 @@ pub record NamedFile : Type 0 where
   pub name : List ℕ
   pub bytes : List ℕ
 
--- the files where this one was made
+-- the files after this one was made
 abbrev pub with_file : Files → NamedFile → Files
 with_file files made other = if bytes_eq made.name other then Some made.bytes else files other
 
--- the files where all of these were made, one after the other
+-- the files after all of these were made, one after the other
 abbrev pub with_files : Files → List NamedFile → Files
 with_files files [] = files
 with_files files (made ∷ rest) = with_files (with_file files made) rest
 
--- all of these were made, and no other file has changed
+-- all of these files were made, and no other file has changed
 abbrev pub SetsFiles : Files → List NamedFile → Files → Type 0
 SetsFiles old files new = SameFiles (with_files old files) new
 
--- They were made up to a fault: some first ones are whole, the next is as before or holds a front of its bytes (empty, too), and no other file has changed.
+-- Files were made up to a fault: some first ones are whole, the next is as before or holds a front of its bytes (empty, too), and no other file has changed.
 abbrev pub LeavesFronts : Files → List NamedFile → Files → Type 0
 LeavesFronts old [] new = SameFiles old new
 LeavesFronts old (made ∷ rest) new = LeavesFront old made.name made.bytes new ⊎ LeavesFronts (with_file old made) rest new

@@ -1,4 +1,4 @@
--- Whole reads and writes, over a reader or a writer that tells its bytes.
+-- Whole reads and writes, over a reader or a writer that may say its bytes.
 use Rattle.std.specs.Prelude.{◌≡◌, ℕ, ◌+◌, List, take, Option, IfSome, Result, Ok, Err, OnOk}
 use Rattle.std.specs.Io.KnownBytes.{Appends as AppendsKnown}
 

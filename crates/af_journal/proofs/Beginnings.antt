@@ -55,7 +55,7 @@ module _ (tracks : ℕ) (clients : List (List ClientCall)) (further : List Entry
           let many = just.many in
           ap (list_any (is_poke_on commands)) (past-end commands track clients track (omega (arith, many, beyond))) ∙ sym (none-beyond commands track tracks rounds form beyond)
 
--- further entries, where the round before is full, and rounds
+-- further entries, if the round before is full, and rounds
 record LeftBy (tracks place : ℕ) (full : Bool) (ws : List Written) : Type 0 where
   left : EntriesLeft tracks place ws
   none : full ≡ false → left.es ≡ []

@@ -34,7 +34,7 @@ round-entries (r ∷ rs) (suc i) lt = let before = entries_of (take i rs) in let
     ∙ ap (λ l. take count (drop (length before) l)) (drop_at r.entries (entries_of rs) (length r.entries) refl)
     ∙ round-entries rs i (omega arith)
 
--- they end within those of all rounds
+-- the entries of a round end within those of all rounds
 pub round-ends : (rounds : List RoundSeen) (i : ℕ) → i < length rounds → length (entries_of (take i rounds)) + length (slice_index_or rounds i no_round).entries ≤ length (entries_of rounds)
 round-ends [] i lt = absurd (omega arith)
 round-ends (r ∷ rs) zero lt = let e = length-append r.entries (entries_of rs) in omega arith
@@ -55,7 +55,7 @@ middle before here rest at count within =
     ap (take count) (sym (drop-drop at (length before) (before ++ (here ++ rest))) ∙ ap (drop at) (drop_at before (here ++ rest) (length before) refl) ∙ drop-append-le at here rest (omega arith))
     ∙ take-append-le count (drop at here) rest (let e = length-drop at here in omega arith)
 
--- the place that a slot names: where it took no frames any will do
+-- the place that a slot names: if it took no frames, any will do
 at-place : (frames : List Frame) (place count first : ℕ) (kept : List Frame) → first ≡ (if count == 0 then 0 else place) → take count (drop place frames) ≡ take count kept → take count (drop first frames) ≡ take count kept
 at-place frames place zero first kept is same = refl
 at-place frames place (suc n) first kept is same = let e : first ≡ place = search (rules, is) in ap (λ k. take (suc n) (drop k frames)) e ∙ same

@@ -25,7 +25,7 @@ entries-append place (e ∷ es) more are m =
 pub adds-none : (entries : List CycleEntry) (frames : List Frame) → AddsEntries entries frames [] entries frames
 adds-none entries frames = record { entries_are = sym (append-nil entries); frames_are = sym (append-nil frames); form = tt }
 
--- one more
+-- one more entry is added
 pub adds-more : (entries es : List CycleEntry) (frames fs next : List Frame) (seen : List EntrySeen) (e : EntrySeen) → AddsEntries entries frames seen es fs → AddsEntry fs e next → AddsEntries entries frames (seen ++ e ∷ []) (es ++ e.entry ∷ []) next
 adds-more entries es frames fs next seen e a b =
     let place : length fs ≡ length frames + length (frames_of seen) = ap length a.frames_are ∙ length-append frames (frames_of seen) in

@@ -1,4 +1,4 @@
--- The numbers of a journal lie in the ranges of their fields just where those of its lines do.
+-- The numbers of a journal lie in the ranges of their fields just if those of its lines do.
 use Rattle.std.proofs.Common.{⊎_elim, ◌≡◌, ◌⊎◌, inl, inr, ℕ, zero, suc, ◌+◌, ◌*◌, ◌/◌, ◌%◌, ◌<◌, ◌≤◌, ◌^◌, ◌==◌, List, [], ◌∷◌, ◌++◌, length, map, Option, Some, None, Bool, true, false, cond, slice_index_or, MatchOption, lit<, refl, ap, ◌∙◌, sym, subst, arith, All}
 use Rattle.std.specs.Int.{bit_at, cast_unsigned, w16}
 use Rattle.std.specs.List.{AllByRecursion, flat_map, range_with_len}
@@ -33,7 +33,7 @@ use Rattle.af_journal.proofs.Texts.{range-more}
 abbrev pub AreWritten : List Written → Type 0
 AreWritten lines = AllByRecursion IsWritten lines
 
--- those of some lines and of some more
+-- if the numbers of two lists of lines fit together, they fit in each
 fits-split : (first more : List Written) → AreWritten (first ++ more) → AreWritten first × AreWritten more
 fits-split [] more all = (tt, all)
 fits-split (w ∷ ws) more all = let rest = fits-split ws more all.1 in ((all.0, rest.0), rest.1)
@@ -292,7 +292,7 @@ module _ (place : ℕ) (e : EntrySeen) (m : IsMixed place e.entry) where
   abbrev Tells : ℕ → Type 0
   Tells i = FitsSlot (entry_slot e.entry i) × (slice_index_or e.entry.scales i 0 < 2 ^ 16)
 
-  -- where it has one
+  -- if it has one
   line_told : (i : ℕ) → IsWritten (line_of i) → Tells i
   line_told i fits = ((fits.2.0, (fits.2.1.0, (fits.2.1.1.0, seen_told (seen_at i) fits.3))), fits.1)
 

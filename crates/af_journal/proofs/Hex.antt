@@ -1,4 +1,4 @@
--- Packed words are read exactly where they are spelled.
+-- Packed words are read exactly if they are spelled.
 use Rattle.std.proofs.Common.{◌≡◌, ℕ, zero, suc, ◌+◌, ◌*◌, ◌/◌, ◌%◌, ◌<◌, ◌^◌, List, [], ◌∷◌, ◌++◌, Option, Some, None, Bool, true, false, ◌==◌, cond, get_or, refl, ap, ◌∙◌, sym, subst, arith, lit<}
 use Rattle.std.specs.List.{flat_map}
 use Rattle.std.specs.Int.{from_be_bytes, to_be_bytes, byte_at as byte_of, w32}

@@ -74,7 +74,7 @@ due_is n = ap (λ m. m == n) (length-zeros n) ∙ itself n
 here : (tracks : ℕ) (at : Stage) → may_end at ≡ true → Ending tracks at
 here tracks at may = record { ws = []; fit = tt; end = at; follow = refl; may = may }
 
--- the submix comes, where it is due
+-- the submix comes, if it is due
 
 mixed-by : (tracks low : ℕ) (b : Bool) → (low == 0) ≡ b → Ending tracks (stage.Mixed low)
 mixed-by tracks low true e = record {

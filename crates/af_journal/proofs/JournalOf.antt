@@ -348,7 +348,7 @@ left tracks place at end (words us ∷ ws) fit e may =
 pub order-is-rounds : (tracks place : ℕ) (ws : List Written) → AreInOrder tracks ws → RoundsLeft tracks place ws
 order-is-rounds tracks place ws o = left tracks place stage.Nothing o.last ws o.numbers_fit o.follow o.ends
 
--- and so of a journal
+-- lines in order are those of a journal
 pub order-is-journal : (tracks : ℕ) (ws : List Written) → tracks < 2 ^ 32 → AreInOrder tracks ws → (j : JournalData) × CanBeWritten tracks j × (ws ≡ lines_of j)
 order-is-journal tracks ws few o =
     let r = order-is-rounds tracks 0 ws o in (

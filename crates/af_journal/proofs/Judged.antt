@@ -39,7 +39,7 @@ pub take-none : {X : Type 0} (n : ℕ) → take {A = X} n [] ≡ []
 take-none zero = refl
 take-none (suc n) = refl
 
--- one more behind a list that was cut
+-- one more item behind a list that was cut
 pub take-more : {X : Type 0} (n : ℕ) (xs : List X) (x : X) → take n (take n xs ++ x ∷ []) ≡ take n (xs ++ x ∷ [])
 take-more zero xs x = refl
 take-more (suc n) [] x = refl
@@ -77,7 +77,7 @@ module _ (most looks : ℕ) (few : looks < most) where
   turn_whole None e = refl
   turn_whole (Some t) e = ap (λ (l : List TrackSeen). Some (record t { tracks = l })) (tracks_whole t.tracks e)
 
--- of a round that has no more entries and looks than so many
+-- a round that has no more entries and looks than so many is whole
 pub round_whole : (most entries looks : ℕ) → entries < most → looks < most → (r : RoundSeen) → is_beyond entries looks (first_of_round most r) ≡ false → first_of_round most r ≡ r
 round_whole most entries looks few_entries few_looks r e =
     let b = both_false (nat_lt entries (length (take most r.entries))) (has_more looks (option_map (first_of_turn most) r.turn)) e in
@@ -173,7 +173,7 @@ rounds_form most tracks [] all = All-nil (IsRound tracks)
 rounds_form most tracks (r ∷ rounds) all =
     All-cons (IsRound tracks) (first_of_round most r) (map (first_of_round most) rounds) (round_form most tracks r (All-head (IsRound tracks) r rounds all)) (rounds_form most tracks rounds (All-tail (IsRound tracks) r rounds all))
 
--- there are no more entries
+-- cut rounds have no more entries
 pub rounds_few : (most : ℕ) (rounds : List RoundSeen) → length (entries_of (map (first_of_round most) rounds)) ≤ length (entries_of rounds)
 rounds_few most [] = omega arith
 rounds_few most (r ∷ rounds) =

@@ -36,7 +36,7 @@ leaves-then a b d first more one two = record {
   fits = fits-append first more one.fits two.fits;
 }
 
--- the same lines
+-- equal lines leave the same
 pub leaves-as : (a b : List ℕ) (lines same : List Written) → lines ≡ same → Leaves a lines b → Leaves a same b
 leaves-as a b lines same e l = subst (λ ls. Leaves a ls b) e l
 
@@ -116,18 +116,18 @@ packed-small (a ∷ b ∷ c ∷ d ∷ x ∷ y ∷ []) w h e = absurd (omega arit
 packed-small (a ∷ b ∷ c ∷ d ∷ x ∷ y ∷ z ∷ []) w h e = absurd (omega arith)
 packed-small (a ∷ b ∷ c ∷ d ∷ x ∷ y ∷ z ∷ u ∷ rest) w h e = (packed-sound a b c d x y z u w e).1
 
--- one word more
+-- one packed word more is read
 pub words-more : (digits xs ws : List ℕ) (w : ℕ) → digits ≡ flat_map hex_word ws ++ xs → xs ≡ hex_word w ++ drop 8 xs → digits ≡ flat_map hex_word (ws ++ w ∷ []) ++ drop 8 xs
 words-more digits xs ws w one two =
     one ∙ ap (λ l. flat_map hex_word ws ++ l) two ∙ sym (append_assoc (flat_map hex_word ws) (hex_word w) (drop 8 xs))
     ∙ ap (λ l. l ++ drop 8 xs) (ap (λ l. flat_map hex_word ws ++ l) (sym (append-nil (hex_word w))) ∙ sym (flat_map-append hex_word ws (w ∷ [])))
 
--- one more of some that follow one another
+-- one more item of some that follow one another is read
 pub leaves-more : {X : Type 0} (f : X → List Written) (a b d : List ℕ) (xs : List X) (x : X) → Leaves a (flat_map f xs) b → Leaves b (f x) d → Leaves a (flat_map f (xs ++ x ∷ [])) d
 leaves-more f a b d xs x one two =
     leaves-as a d (flat_map f xs ++ f x) (flat_map f (xs ++ x ∷ [])) (ap (λ l. flat_map f xs ++ l) (sym (append-nil (f x))) ∙ sym (flat_map-append f xs (x ∷ []))) (leaves-then a b d (flat_map f xs) (f x) one two)
 
--- the same of numbered ones
+-- one more item of some that are numbered is read
 pub leaves-each : {X : Type 0} (f : ℕ → X → List Written) (a b d : List ℕ) (xs : List X) (x : X) (n : ℕ) → length xs ≡ n → Leaves a (each_from f 0 xs) b → Leaves b (f n x) d → Leaves a (each_from f 0 (xs ++ x ∷ [])) d
 leaves-each f a b d xs x n count one two =
     leaves-as a d (each_from f 0 xs ++ f n x) (each_from f 0 (xs ++ x ∷ [])) (ap (λ i. each_from f 0 xs ++ f i x) (let e : n ≡ 0 + length xs = omega (arith, count) in e) ∙ sym (each-more f 0 xs x)) (leaves-then a b d (each_from f 0 xs) (f n x) one two)

@@ -1,4 +1,4 @@
--- A line is read exactly where it is spelled: all kinds of lines.
+-- A line is read exactly if it is spelled: all kinds of lines.
 use Rattle.std.proofs.Common.{◌≡◌, ℕ, ◌+◌, ◌-◌, ◌<◌, ◌≤◌, ◌^◌, List, [], ◌∷◌, ◌++◌, Option, Some, None, Bool, true, false, ◌==◌, cond, refl, ap, ◌∙◌, sym, subst, arith, append_assoc, append-nil, lit<}
 use Rattle.std.proofs.lemmas.Option.{same_Some}
 use Rattle.std.proofs.lemmas.Fmt.{decimal_digit}
@@ -35,7 +35,7 @@ six_then a b c d e f g =
     append_assoc a (32 ∷ (b ++ 32 ∷ (c ++ 32 ∷ (d ++ 32 ∷ (e ++ 32 ∷ f))))) (32 ∷ g)
     ∙ ap (λ l. a ++ 32 ∷ l) (append_assoc b (32 ∷ (c ++ 32 ∷ (d ++ 32 ∷ (e ++ 32 ∷ f)))) (32 ∷ g) ∙ ap (λ l. b ++ 32 ∷ l) (four_then c d e f g))
 
--- one number more
+-- the text of one number more
 abbrev after : ℕ → List ℕ → List ℕ
 after n rest = 32 ∷ (decimal n ++ rest)
 

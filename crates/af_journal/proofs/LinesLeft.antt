@@ -65,7 +65,7 @@ with_push tracks low part place ws push k = record {
   lines = ap (λ l. l ++ numbers (line.Pushed push) ∷ ws) (sym (pad_all track_lines no_track no_track_lines low (tracks - low)));
 }
 
--- what a part's line makes of the track that it tells of, where low, part come first
+-- what a part's line makes of the track that it tells of, if low, part come first
 pub record Told (tracks low part track place : ℕ) (ws : List Written) : Type 0 where
   pub t : TrackSeen
   pub ts : List TrackSeen
@@ -102,7 +102,7 @@ comes_part track part low low_part e h = grind (arith, nat_tests)
 pub below : (track tracks : ℕ) → nat_lt track tracks ≡ true → track < tracks
 below track tracks e = grind (arith, nat_tests)
 
--- the first of the tracks that are left, where there is one
+-- the first of the tracks that are left, if there is one
 pub record First (ts : List TrackSeen) : Type 0 where
   pub t : TrackSeen
   pub others : List TrackSeen

@@ -50,7 +50,7 @@ words-are_none us = refl
 
 -- ## What is left to be noted
 
--- the marks of one kind of block, where these lines are left of all
+-- the marks of one kind of block, if these lines are left of all
 pub record MarksSome (commands : Bool) (own : ℕ) (ws left : List Written) (marks now : List Bool) : Type 0 where
   pub many : length now ≡ length marks
   pub each : (track : ℕ) → track < length marks → (slice_index_or now track false || pokes commands track own left) ≡ (slice_index_or marks track false || pokes commands track 0 ws)

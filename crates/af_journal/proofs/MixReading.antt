@@ -54,7 +54,7 @@ set_behind [] ys y z (suc n) e = cc
 set_behind (x ∷ xs) ys y z zero e = cc
 set_behind (x ∷ xs) ys y z (suc n) e = ap (λ l. x ∷ l) (set_behind xs ys y z n (omega arith))
 
--- the same where equal ones stand behind
+-- an item in the place behind some others, if equal ones stand behind
 pub set_next : {X : Type 0} (f : SlotGot → X) (x : X) (gots : List SlotGot) (g : SlotGot) (n : ℕ) → length gots ≡ n → n < slots → slice_set (map f gots ++ replicate (slots - n) x) n (f g) ≡ map f (gots ++ g ∷ []) ++ replicate (slots - (n + 1)) x
 set_next f x gots g n count lt =
     let one : slots - n ≡ suc (slots - (n + 1)) = omega arith in
@@ -83,7 +83,7 @@ are-more place (x ∷ xs) g are is =
 pub frames-more : (gots : List SlotGot) (g : SlotGot) → frames_in (gots ++ g ∷ []) ≡ frames_in gots ++ g.frames
 frames-more gots g = flat_map-append (λ (g : SlotGot). g.frames) gots (g ∷ []) ∙ ap (λ l. frames_in gots ++ l) (append-nil g.frames)
 
--- one slot more
+-- one slot more is read
 pub front-more : (state n : ℕ) (before frames more : List Frame) (start mid rest : List ℕ) (entry next : CycleEntry) (g : SlotGot) → IsMixFront state (length before) n before frames start mid entry → n < slots
     → IsGot (length frames) g → more ≡ frames ++ g.frames → Leaves mid (got_lines n g) rest
     → next.slots ≡ slice_set entry.slots n g.slot → next.scales ≡ slice_set entry.scales n g.scale → next.mono ≡ entry.mono + digit g.mono * 2 ^ n → next.state ≡ entry.state → next.cycle ≡ entry.cycle

@@ -51,7 +51,7 @@ fast-no-take : (r : List Written) → AtFast r → NoTake r
 unfolding kind_at
 fast-no-take r h track gains flush rear answer rest e = not-kind r 1 h (ap kind_at e) (inl refl)
 
--- ## A turn, where there was one
+-- ## A turn, if there was one
 
 turn-kind : (tracks : ℕ) (e : Turn) (r : List Written) → IsTurn tracks e → kind_at (turn_lines e ++ r) ≡ 2
 unfolding kind_at

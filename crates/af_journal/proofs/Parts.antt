@@ -133,7 +133,7 @@ parts_front (p ∷ ps) (q ∷ qs) rest lp lq e =
     let r = parts_front ps qs rest lp.1 lq.1 (ap (λ (t : List ℕ × List ℕ). t.1) both) in
     (r.0, (λ i. (both i).0 ∷ r.1 i), r.2)
 
--- one part of a text that has an LF
+-- the first part of a text that has an LF is refused, or those after it
 pub refused-step : (tracks : ℕ) (at : Stage) (number : ℕ) (part after : List ℕ)
     → first_refused tracks at number (part ∷ parts_of after) ≡ refused_or number (stage_after tracks at part) (λ e. first_refused tracks e (number + 1) (parts_of after))
 refused-step tracks at number part after =

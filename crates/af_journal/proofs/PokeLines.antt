@@ -222,7 +222,7 @@ module _ (commands : Bool) (track : ℕ) where
   pub rounds-poke : (own : ℕ) (rounds : List RoundSeen) → pokes commands track own (flat_map round_lines rounds) ≡ list_any (λ round. list_any (is_poke_on commands) (calls_in round track)) rounds
   rounds-poke own rounds = past-rounds own rounds ∙ each-hit rounds
 
-  -- and so do they behind the lines of entries
+  -- behind the lines of entries the lines of some rounds poke what their calls poke
   pub entries-poke : (own : ℕ) (further : List EntrySeen) (rounds : List RoundSeen) → pokes commands track own (flat_map entry_lines further ++ flat_map round_lines rounds) ≡ list_any (λ round. list_any (is_poke_on commands) (calls_in round track)) rounds
   entries-poke own further rounds = past-quiet own (flat_map entry_lines further) (flat_map round_lines rounds) (quiet-flat entry_lines quiet-entry further) ∙ rounds-poke own rounds
 
@@ -244,7 +244,7 @@ module _ (commands : Bool) (track : ℕ) where
   pub one-for_all : (r : RoundSeen) (rounds : List RoundSeen) → list_any (is_poke_on commands) (calls_in r track) ≡ list_any (λ round. list_any (is_poke_on commands) (calls_in round track)) rounds → is_lawful_block commands (r ∷ []) track ≡ is_lawful_block commands rounds track
   one-for_all r rounds e = ap not (or_nothing (in_round r) ∙ e)
 
-  -- rounds may be left out where one that pokes the block as they do comes in their place
+  -- rounds may be left out if one that pokes the block as they do comes in their place
   pub in-place : (first rounds others : List RoundSeen) → is_lawful_block commands rounds track ≡ is_lawful_block commands others track → is_lawful_block commands (first ++ rounds) track ≡ is_lawful_block commands (first ++ others) track
   in-place first rounds others e = ap not (list_any-append in_round first rounds ∙ ap (λ b. list_any in_round first || b) (not-same (list_any in_round rounds) (list_any in_round others) e) ∙ sym (list_any-append in_round first others))
     where

@@ -1,4 +1,4 @@
--- A text is one of lines in order exactly where it has a reading, so the first bad line is the same by either.
+-- A text is one of lines in order exactly if it has a reading, so the first bad line is the same by either.
 use Rattle.std.proofs.Common.{ℕ, ◌++◌, ◌<◌, ◌^◌, List, Option, Some, None, IfNone, IfSome}
 use Rattle.af_journal.specs.Readings.{HasReading, IsFirstBad, IsInOrder, first_lines}
 use Rattle.af_journal.proofs.InOrder.{Found}

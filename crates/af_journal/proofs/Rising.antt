@@ -16,7 +16,7 @@ pub rise-all : (low high : ℕ) (ts : List TakeSeen) → RiseTo low high ts → 
 rise-all low high [] r = tt
 rise-all low high (t ∷ ts) r = (r.0, rise-all (t.track + 1) high ts r.1)
 
--- there are no more than tracks
+-- there are no more takes than tracks
 pub rise-few : (low high : ℕ) (ts : List TakeSeen) → RiseTo low high ts → low + length ts ≤ high
 rise-few low high [] r = omega arith
 rise-few low high (t ∷ ts) r = let n = rise-few (t.track + 1) high ts r.1 in let h = r.0 in omega arith

@@ -20,7 +20,7 @@ use Rattle.af_journal.specs.Texts.{call_lines, client_lines, each_from, entry_li
 
 -- ## Lists
 
--- so many of the same
+-- a list of so many equal items
 abbrev pub many : {X : Type 0} → ℕ → X → List X
 many zero x = []
 many (suc n) x = x ∷ many n x
@@ -39,7 +39,7 @@ pub pad_all : {X : Type 0} (f : ℕ → X → List Written) (x : X) → ((n : �
 pad_all f x none n zero = refl
 pad_all f x none n (suc k) = ap (λ l. l ++ each_from f (n + 1) (many k x)) (none n) ∙ pad_all f x none (n + 1) k
 
--- before a place that lies so far behind
+-- items that tell nothing stand before a place that lies so far behind
 pub pad_to : {X : Type 0} (f : ℕ → X → List Written) (x : X) → ((n : ℕ) → f n x ≡ []) → (low n : ℕ) (xs : List X) → low ≤ n → each_from f low (many (n - low) x ++ xs) ≡ each_from f n xs
 pad_to f x none low n xs h = pad f x none low (n - low) xs ∙ ap (λ m. each_from f m xs) (let e : low + (n - low) ≡ n = omega arith in e)
 
@@ -105,7 +105,7 @@ pub record EntriesLeft (tracks place : ℕ) (ws : List Written) : Type 0 where
   pub are : AreEntries place (es ++ entries_of rounds)
   pub lines : ws ≡ flat_map entry_lines es ++ flat_map round_lines rounds
 
--- the same, of which one is due
+-- entries, of which one is due, and then rounds
 pub record EntriesDue (tracks place : ℕ) (ws : List Written) : Type 0 where
   pub e : EntrySeen
   pub es : List EntrySeen
@@ -187,7 +187,7 @@ pub record CallsLeft (tracks low place : ℕ) (ws : List Written) : Type 0 where
   pub clients : ClientsLeft tracks low place rest
   pub lines : ws ≡ call_lines calls ++ rest
 
--- the same, of which one is due
+-- calls, of which one is due, and then clients
 pub record CallDue (tracks low place : ℕ) (ws : List Written) : Type 0 where
   pub call : ClientCall
   pub calls : List ClientCall

@@ -30,7 +30,7 @@ use Rattle.af_journal.proofs.Fitting.{is_journal}
 
 -- ## Clients
 
--- one call more
+-- one call more is read
 pub leaves-call : (a b d : List ℕ) (calls : List ClientCall) (call : ClientCall) → Leaves a (call_lines calls) b → Leaves b (numbers (line.Call call) ∷ []) d → Leaves a (call_lines (calls ++ call ∷ [])) d
 leaves-call a b d calls call one two =
     leaves-as a d (call_lines calls ++ numbers (line.Call call) ∷ []) (call_lines (calls ++ call ∷ [])) (sym (map-more (λ (call : ClientCall). numbers (line.Call call)) calls call)) (leaves-then a b d (call_lines calls) (numbers (line.Call call) ∷ []) one two)
@@ -162,7 +162,7 @@ module _ (tracks : ℕ) (rounds : List RoundSeen) (noted : RoundsNoted) (entries
     ap frames_of log-seen ∙ sym (frames_is ∙ t.frames_are),
   )
 
-  -- where the numbers of its lines fit
+  -- if the numbers of its lines fit
   pub journal-form : tracks < 2 ^ 32 → AllByRecursion IsWritten (flat_map round_lines rounds) → IsJournal (journal_of noted log)
   journal-form few fit = subst IsJournal (sym journal-is) (is_journal tracks rounds few t.form t.each fit)
 
@@ -182,7 +182,7 @@ read-fit tracks reach start rest at noted entries frames r few =
     let many = ap length r.taken.entries_are ∙ length-map (entries_of kept) (λ (e : EntrySeen). e.entry) in
     let fewer = rounds_few reach.kept r.rounds in omega (arith, n, m, long, count, many, fewer, few)
 
--- none was read yet
+-- no round was read yet
 pub read-none : (tracks : ℕ) (reach : Reach) (start : List ℕ) (noted : RoundsNoted) (entries : List CycleEntry) (frames : List Frame) → AreTaken tracks [] noted entries frames → AreRead tracks reach start why.Last noted entries frames start
 read-none tracks reach start noted entries frames taken = record { rounds = []; taken = taken; form = All-nil (IsRound tracks); lines = leaves-none start; ends = refl }
 
@@ -191,7 +191,7 @@ last_is why.Last is = refl
 last_is why.Enough is = cc
 last_is (why.Beyond full) is = cc
 
--- where rounds are read on nothing of them is left out
+-- if rounds are read on, nothing of them is left out
 pub read-whole : (tracks : ℕ) (reach : Reach) (start rest : List ℕ) (at : End) (noted : RoundsNoted) (entries : List CycleEntry) (frames : List Frame) → at ≡ why.Last → (r : AreRead tracks reach start at noted entries frames rest) → AreTaken tracks r.rounds noted entries frames
 read-whole tracks reach start rest why.Last noted entries frames is r = subst (λ (l : List RoundSeen). AreTaken tracks l noted entries frames) r.ends r.taken
 read-whole tracks reach start rest why.Enough noted entries frames is r = absurd (let h = is in cc)

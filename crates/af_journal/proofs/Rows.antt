@@ -12,7 +12,7 @@ use Rattle.af_journal.specs.Lines.{hex_byte, hex_digit, hex_word}
 
 -- ## Stores one after the other
 
--- one store more
+-- one item more is stored in a row
 store-more : (row front : List ℕ) (n m a : ℕ) → m ≡ n + 1 → n < length row → take n row ≡ front → take m (set row n a) ≡ front ++ a ∷ []
 store-more row front n m a is lt was = take-set_at row n m a is lt ∙ ap (λ l. l ++ a ∷ []) was
 
@@ -61,7 +61,7 @@ each-word : (frames : List Frame) → flat_map frame_digits frames ≡ flat_map 
 each-word [] = refl
 each-word (frame ∷ frames) = ap (λ l. frame_digits frame ++ l) (each-word frames)
 
--- those of one frame more
+-- the bytes of one frame more
 pub bytes-more : (frames : List Frame) (bytes word : List ℕ) (i : ℕ) (frame : Frame) → i < length frames → 4 * i + 3 < length bytes
     → word ≡ to_be_bytes w32 (packed_word (get_or frames i frame)) → take (4 * i) bytes ≡ flat_map (to_be_bytes w32) (map packed_word (take i frames))
     → take (4 * (i + 1)) (set (set (set (set bytes (4 * i) (get_or word 0 0)) (4 * i + 1) (get_or word 1 0)) (4 * i + 2) (get_or word 2 0)) (4 * i + 3) (get_or word 3 0))

@@ -1,4 +1,4 @@
--- A line is read exactly where it is spelled.
+-- A line is read exactly if it is spelled.
 use Rattle.std.proofs.Common.{◌≡◌, ℕ, zero, suc, ◌+◌, ◌-◌, ◌%◌, ◌<◌, ◌≤◌, ◌^◌, List, [], ◌∷◌, ◌++◌, Option, Some, None, Bool, true, false, nat_le, ◌==◌, if◌then◌else◌, cond, refl, ap, ◌∙◌, sym, subst, arith, append-nil, lit<}
 use Rattle.std.proofs.lemmas.Option.{same_Some}
 use Rattle.std.proofs.lemmas.Fmt.{decimal_by_steps}
@@ -25,7 +25,7 @@ pub guard_some : {A : Type 0} (b : Bool) (r : Option A) (y : A) → cond b r Non
 guard_some true r y e = (refl, e)
 guard_some false r y e = cc
 
--- one of two
+-- a result is that of one of two branches
 pub either : {A P : Type 0} (b : Bool) (x y : Option A) (z : A) → cond b x y ≡ Some z → (b ≡ true → x ≡ Some z → P) → (y ≡ Some z → P) → P
 either true x y z e f g = f refl e
 either false x y z e f g = g e
@@ -79,7 +79,7 @@ word-more (c ∷ cs) rest p =
     ap (λ b. cond {A = List ℕ × List ℕ} b ([], c ∷ (cs ++ 32 ∷ rest)) (c ∷ (word_at (cs ++ 32 ∷ rest)).0, (word_at (cs ++ 32 ∷ rest)).1)) p.0
     ∙ ap (λ (r : List ℕ × List ℕ). (c ∷ r.0, r.1)) (word-more cs rest p.1)
 
--- or at the end
+-- a word ends at the end of the line
 word-last : (word : List ℕ) → Lacks 32 word → word_at word ≡ (word, [])
 word-last [] p = refl
 word-last (c ∷ cs) p =

@@ -34,7 +34,7 @@ pub looked-by : (b : Bool) (track : ℕ) → IsMet (cond b (stage.Look track) (s
 looked-by true track = tt
 looked-by false track = tt
 
--- what is answered under a test is met where it is
+-- what is answered under a test is met if it is
 pub so_met : (b : Bool) (at next : Stage) → if_so b at ≡ Some next → IsMet at → IsMet next
 so_met b at next e met = let g = guard_some b (Some at) next e in subst IsMet (same_Some _ _ g.1) met
 

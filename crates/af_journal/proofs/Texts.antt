@@ -19,7 +19,7 @@ goes-none a = sym (append-nil a)
 pub goes-then : (a b d : List ℕ) (first more : List Written) → GoesOn a first b → GoesOn b more d → GoesOn a (first ++ more) d
 goes-then a b d first more one two = two ∙ ap (λ l. l ++ text_of_lines more) one ∙ append_assoc a (text_of_lines first) (text_of_lines more) ∙ ap (λ l. a ++ l) (sym (text-append first more))
 
--- one more
+-- the lines of one item more
 pub each-more : {X : Type 0} (f : ℕ → X → List Written) (track : ℕ) (xs : List X) (x : X) → each_from f track (xs ++ x ∷ []) ≡ each_from f track xs ++ f (track + length xs) x
 each-more f track [] x = append-nil (f track x) ∙ ap (λ i. f i x) (let e : track ≡ track + 0 = omega arith in e)
 each-more f track (y ∷ ys) x =
@@ -27,7 +27,7 @@ each-more f track (y ∷ ys) x =
     ∙ sym (append_assoc (f track y) (each_from f (track + 1) ys) (f (track + 1 + length ys) x))
     ∙ ap (λ i. (f track y ++ each_from f (track + 1) ys) ++ f i x) (let e : track + 1 + length ys ≡ track + suc (length ys) = omega arith in e)
 
--- the same of a list's next place
+-- the lines of the first items of a list, with its next one
 pub each-next : {X : Type 0} (f : ℕ → X → List Written) (xs : List X) (i : ℕ) (d : X) → i < length xs → each_from f 0 (take (i + 1) xs) ≡ each_from f 0 (take i xs) ++ f i (slice_index_or xs i d)
 each-next f xs i d lt =
     ap (each_from f 0) (take_more xs i d lt)

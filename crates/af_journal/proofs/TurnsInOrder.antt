@@ -32,7 +32,7 @@ none tracks at P good = record { next = at; follow = refl; good = good }
 pub and_on : (tracks : ℕ) (at : Stage) (xs ys : List Written) (P Q : Stage → Type 0) → Leads tracks at xs P → ((next : Stage) → P next → Leads tracks next ys Q) → Leads tracks at (xs ++ ys) Q
 and_on tracks at xs ys P Q l f = let m = f l.next l.good in record { next = m.next; follow = all-append tracks xs ys at l.next l.follow ∙ m.follow; good = m.good }
 
--- one line, and then others
+-- one line leads on, and then others
 pub first : (tracks : ℕ) (at mid : Stage) (w : Written) (ws : List Written) (Q : Stage → Type 0) → after_written tracks at w ≡ Some mid → Leads tracks mid ws Q → Leads tracks at (w ∷ ws) Q
 first tracks at mid w ws Q e l = record { next = l.next; follow = ap (λ o. o >>= λ next. after_all tracks next ws) e ∙ l.follow; good = l.good }
 
@@ -182,7 +182,7 @@ next_track track p low low_part e = grind (arith, nat_tests)
 pub own_part : (track p q : ℕ) → q ≤ p → comes track p track q ≡ true
 own_part track p q h = grind (arith, nat_tests)
 
--- the words of a look come, where it took some
+-- the words of a look come, if it took some
 pub look_words : (tracks track code argument : ℕ) (b : Bool) → after_all tracks (cond b (stage.Look track) (stage.Turn track 0)) (words_after (cond b (code ∷ argument ∷ []) [])) ≡ Some (stage.Turn track 0)
 look_words tracks track code argument true = refl
 look_words tracks track code argument false = refl

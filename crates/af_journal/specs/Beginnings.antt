@@ -20,7 +20,7 @@ pub record BeginsAs (front j : JournalData) : Type 0 where
   pub first : take (length front.rounds - 1) front.rounds ≡ take (length front.rounds - 1) j.rounds
   pub marks : marks_of front.rounds ≡ marks_of j.rounds
 
--- a journal is the one reading of a text, where it is whole, and nothing of it was left out; else it begins as what is kept of the reading
+-- a journal is the one reading of a text, if it is whole, and nothing of it was left out; else it begins as what is kept of the reading
 pub record IsFrontOf (most tracks : ℕ) (text : List ℕ) (whole : Bool) (front : JournalData) : Type 0 where
   pub reading : JournalData
   pub reads : Reads tracks text reading
@@ -55,7 +55,7 @@ AreUpTo reach rounds why.Last = map (first_of_round reach.kept) rounds ≡ round
 AreUpTo reach rounds why.Enough = (map (first_of_round reach.kept) rounds ≡ rounds) × (reach.cycles ≡ None → ⊥)
 AreUpTo reach rounds (why.Beyond full) = LastIsBeyond reach full rounds
 
--- the same behind a round that was read
+-- why no more rounds are read behind a round that was read
 abbrev pub EndsBy : Option ℕ → RoundRead → End → Type 0
 EndsBy cycles read why.Last = read.beyond ≡ false
 EndsBy cycles read why.Enough = (read.beyond ≡ false) × (cycles ≡ None → ⊥)
@@ -92,7 +92,7 @@ pub record PokesAsAll (tracks : ℕ) (more : List RoundSeen) (noted new_noted : 
   pub noted_are : new_noted ≡ record noted { rounds = noted.rounds ++ noted_of round ∷ [] }
   pub marks : (commands : Bool) (track : ℕ) → is_lawful_block commands (round ∷ []) track ≡ is_lawful_block commands more track
 
--- what is left of a text is that of some rounds, whose first frames stand at a place, behind further entries of the round before them where that one is full. A round is noted that pokes what they poke
+-- what is left of a text is that of some rounds, whose first frames stand at a place, behind further entries of the round before them if that one is full. A round is noted that pokes what they poke
 pub record NotesRest (tracks place : ℕ) (rest : List ℕ) (full : Bool) (noted new_noted : RoundsNoted) : Type 0 where
   pub further : List EntrySeen
   pub more : List RoundSeen

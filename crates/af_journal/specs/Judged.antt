@@ -15,7 +15,7 @@ most_judged = 32768
 abbrev pub first_looks : ℕ → TrackSeen → TrackSeen
 first_looks most t = record t { looks = take most t.looks }
 
--- the same of all tracks of a turn
+-- the first looks at each track of a turn
 abbrev pub first_of_turn : ℕ → Turn → Turn
 first_of_turn most e = record e { tracks = map (first_looks most) e.tracks }
 
@@ -23,7 +23,7 @@ first_of_turn most e = record e { tracks = map (first_looks most) e.tracks }
 abbrev pub first_of_round : ℕ → RoundSeen → RoundSeen
 first_of_round most round = record { calls = round.calls; turn = option_map (first_of_turn most) round.turn; entries = take most round.entries }
 
--- a journal of such rounds
+-- a journal with the first entries of its rounds, and the first looks of their turns
 abbrev pub first_of : ℕ → JournalData → JournalData
 first_of most j = record { tracks = j.tracks; rounds = map (first_of_round most) j.rounds }
 
@@ -49,7 +49,7 @@ has_more looks (Some e) = list_any (λ (t : TrackSeen). nat_lt looks (length t.l
 abbrev pub is_beyond : ℕ → ℕ → RoundSeen → Bool
 is_beyond entries looks round = nat_lt entries (length round.entries) || has_more looks round.turn
 
--- the last round but one does
+-- the last round but one has more entries than so many, or its turn more looks at some track
 pub record EndsBeyond (entries looks : ℕ) (j : JournalData) : Type 0 where
   pub before : List RoundSeen
   pub round : RoundSeen

@@ -63,13 +63,13 @@ three_at bytes = do
 
 -- ## What a look showed
 
--- frames, one at least
+-- a look that showed frames, one at least
 unfoldable pub frames_at : List ℕ → Option Seen
 frames_at bytes = do
   count ← one_at bytes
   if count == 0 then None else Some (seen.Frames count)
 
--- by its mark: "f", "e", "l" or "x"
+-- what a look showed, by its mark: "f", "e", "l" or "x"
 unfoldable pub shown_at : ℕ → List ℕ → Option Seen
 shown_at mark rest =
     if mark == 102 then frames_at rest
@@ -77,7 +77,7 @@ shown_at mark rest =
     else (if mark == 108 then (one_at rest >>= λ dropped. Some (seen.Flushed dropped))
     else (if mark == 120 then (two_at rest >>= λ words. Some (seen.Shut words.0 words.1)) else None)))
 
--- after a space
+-- what a look showed, after a space
 unfoldable pub seen_at : List ℕ → Option Seen
 seen_at [] = None
 seen_at (c ∷ []) = None
@@ -119,7 +119,7 @@ send_at (mark ∷ rest) =
     else (if mark == 100 then (one_at rest >>= λ flags. Some (call.SendDead flags))
     else (if mark == 120 then send_corrupt_at rest else sent_at (mark ∷ rest)))
 
--- by its mark: "p", "u", "d", "x", "k", "l", "g", "s", "t" or "o"
+-- a call of a client, by its mark: "p", "u", "d", "x", "k", "l", "g", "s", "t" or "o"
 unfoldable pub call_at : ℕ → List ℕ → Option ClientCall
 call_at mark rest =
     if mark == 112 then put_at rest
@@ -204,7 +204,7 @@ slot_at rest = do
 
 -- ## A line
 
--- of the normal mixer's turn, by its mark: "N", "E", "q", "b", "a", "P" or "m"
+-- a line of the normal mixer's turn, by its mark: "N", "E", "q", "b", "a", "P" or "m"
 unfoldable pub turn_line_at : ℕ → List ℕ → Option Line
 turn_line_at mark rest =
     if mark == 78 then turn_at rest
@@ -215,7 +215,7 @@ turn_line_at mark rest =
     else (if mark == 80 then (push_at rest >>= λ push. Some (line.Pushed push))
     else (if mark == 109 then take_at rest else (call_at mark rest >>= λ answer. Some (line.Call answer))))))))
 
--- of a round, its clients and its entries, by its mark: "R", "C", "F", "y" or "z"; else one of the turn, or a call
+-- a line of a round, its clients and its entries, by its mark: "R", "C", "F", "y" or "z"; else one of the turn, or a call
 unfoldable pub marked_at : ℕ → List ℕ → Option Line
 marked_at mark rest =
     if mark == 82 then whole rest line.Round

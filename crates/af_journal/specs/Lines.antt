@@ -25,7 +25,7 @@ hex_digit n = if nat_lt n 10 then 48 + n else 87 + n
 abbrev pub hex_byte : ℕ → List ℕ
 hex_byte byte = hex_digit (byte / 16) ∷ hex_digit (byte % 16) ∷ []
 
--- the eight of a word: those of its bytes, the most significant first
+-- the eight hexadecimal digits of a word: those of its bytes, the most significant first
 unfoldable pub hex_word : ℕ → List ℕ
 hex_word word = flat_map hex_byte (to_be_bytes w32 word)
 
@@ -146,7 +146,7 @@ line_text line.Fast = fast_line
 line_text (line.Entry state kind) = entry_line state kind
 line_text (line.Slot slot scale mono gains flush rear answer) = slot_line slot scale mono gains flush rear answer
 
--- the same of either kind
+-- the bytes of a line of numbers or of words, without its LF
 abbrev pub spelled : Written → List ℕ
 spelled (numbers l) = line_text l
 spelled (words ws) = words_line ws

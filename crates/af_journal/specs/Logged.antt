@@ -30,7 +30,7 @@ logged_slots frames entry = flat_map (logged_slot frames entry) (range_with_len 
 abbrev pub logged_entry : List Frame → CycleEntry → List Written
 logged_entry frames entry = numbers (line.Entry entry.state (kind_of entry.cycle)) ∷ (if is_mixed entry.cycle then logged_slots frames entry else [])
 
--- the entries of a round, where there are some
+-- the entries of a round, if there are some
 abbrev pub logged_fast : List Frame → List CycleEntry → List Written
 logged_fast frames [] = []
 logged_fast frames (entry ∷ entries) = numbers line.Fast ∷ flat_map (logged_entry frames) (entry ∷ entries)

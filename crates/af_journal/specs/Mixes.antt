@@ -24,7 +24,7 @@ pub record SlotGot : Type 0 where
 abbrev pub got_of : SlotRead → List Frame → SlotGot
 got_of r frames = record { slot = r.slot; scale = r.scale; mono = r.mono; frames = frames }
 
--- its lines: none where it shows nothing
+-- the lines of a slot: none if it shows nothing
 abbrev pub lines_by : ℕ → SlotEntry → ℕ → Bool → List Frame → List Written
 lines_by i slot scale mono frames = if is_shown slot.seen then numbers (line.Slot i scale mono slot.gains slot.flush slot.rear slot.seen) ∷ words_after (map packed_word frames) else []
 

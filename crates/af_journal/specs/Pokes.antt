@@ -8,7 +8,7 @@ use Rattle.af_journal.specs.declared.line.Line.{Line}
 use Rattle.af_journal.specs.declared.line.Line.TheVariants as line
 use Rattle.af_journal.specs.Lines.{Written, numbers, words}
 
--- whose calls follow a line, where those of `own` came before it
+-- whose calls follow a line, if those of `own` came before it
 abbrev pub caller_after : ℕ → Line → ℕ
 caller_after own (line.Client track) = track
 caller_after own _ = own
@@ -18,7 +18,7 @@ abbrev pub is_poke_line : Bool → Line → Bool
 is_poke_line commands (line.Call answer) = is_poke_on commands answer
 is_poke_line commands _ = false
 
--- one of these lines pokes that block of a track, where the calls of `own` come first
+-- one of these lines pokes that block of a track, if the calls of `own` come first
 abbrev pub pokes : Bool → ℕ → ℕ → List Written → Bool
 pokes commands track own [] = false
 pokes commands track own (numbers l ∷ ws) = ((own == track) && is_poke_line commands l) || pokes commands track (caller_after own l) ws
@@ -29,7 +29,7 @@ pub record Notes (commands : Bool) (own : ℕ) (l : Line) (marks new_marks : Lis
   pub many : length new_marks ≡ length marks
   pub each : (track : ℕ) → track < length marks → slice_index_or new_marks track false ≡ (slice_index_or marks track false || ((own == track) && is_poke_line commands l))
 
--- the same of some lines, one after the other
+-- some lines are noted, one after the other, of which the calls of `own` come first: of the marks of all tracks those of blocks that they poke are set
 pub record MarksAll (commands : Bool) (own : ℕ) (ws : List Written) (marks new_marks : List Bool) : Type 0 where
   pub many : length new_marks ≡ length marks
   pub each : (track : ℕ) → track < length marks → slice_index_or new_marks track false ≡ (slice_index_or marks track false || pokes commands track own ws)

@@ -32,7 +32,7 @@ IsLine line.Fast = Unit {0}
 IsLine (line.Entry state kind) = (state < 2 ^ 64) × (kind < 4)
 IsLine (line.Slot slot scale mono gains flush rear answer) = (slot < slots) × (scale < 2 ^ 16) × AreWords (gains ∷ flush ∷ rear ∷ []) × IsSeenText answer
 
--- the same of a line of packed words, of which there is one at least
+-- a line has numbers in their ranges, or packed words, of which there is one at least
 abbrev pub IsWritten : Written → Type 0
 IsWritten (numbers l) = IsLine l
 IsWritten (words []) = ⊥

@@ -1,4 +1,4 @@
--- A text has a reading where it is that of a journal, and else a first bad line.
+-- A text has a reading if it is that of a journal, and else a first bad line.
 use Rattle.std.specs.Prelude.{◌≡◌, ℕ, ◌+◌, ◌<◌, ◌≤◌, ◌==◌, Bool, true, false, if◌then◌else◌, List, [], ◌∷◌, ◌++◌, take, length, flat_map, Option, Some, None}
 use Rattle.std.specs.List.{AllByRecursion, slice_split}
 use Rattle.af_model.specs.Journals.{JournalData}
@@ -63,18 +63,18 @@ parts_of text = slice_split (λ byte. byte == 10) text
 abbrev pub first_lines : ℕ → List ℕ → List ℕ
 first_lines n text = flat_map with_lf (take n (parts_of text))
 
--- some right text begins so
+-- some right text begins with these bytes
 abbrev pub BeginsOne : (List ℕ → Type 0) → List ℕ → Type 0
 BeginsOne IsRight front = (rest : List ℕ) × IsRight (front ++ rest)
 
--- The text isn't right. A right text begins with all lines before that number, counted from 1, and none with the line of that number too. It may be the last line, without its LF; or, where a further line is due, the number after the last
+-- The text isn't right. A right text begins with all lines before that number, counted from 1, and none with the line of that number too. It may be the last line, without its LF; or, if a further line is due, the number after the last
 pub record IsFirstBad (IsRight : List ℕ → Type 0) (text : List ℕ) (number : ℕ) : Type 0 where
   pub none : IsRight text → ⊥
   pub above : (n : ℕ) → n < number → BeginsOne IsRight (first_lines n text)
   pub here : number < length (parts_of text) → BeginsOne IsRight (first_lines number text) → ⊥
   pub inside : (1 ≤ number) × (number ≤ length (parts_of text))
 
--- why a text isn't read: its first bad line where it has no reading, and else want of memory
+-- why a text isn't read: its first bad line if it has no reading, and else that memory ran out
 abbrev pub IsFaultOf : ℕ → List ℕ → JournalFault → Type 0
 IsFaultOf tracks text (fault.Line number) = IsFirstBad (HasReading tracks) text number
 IsFaultOf tracks text fault.Memory = HasReading tracks text
@@ -86,7 +86,7 @@ abbrev pub cut : List ℕ → Option (List ℕ × List ℕ)
 cut [] = None
 cut (c ∷ cs) = if c == 10 then Some ([], cs) else (cut cs >>= λ r. Some (c ∷ r.0, r.1))
 
--- the same where some bytes stand in front
+-- what was cut off at the first LF, if some bytes stand in front
 abbrev pub with_front : List ℕ → Option (List ℕ × List ℕ) → Option (List ℕ × List ℕ)
 with_front front r = r >>= λ r. Some (front ++ r.0, r.1)
 

@@ -9,7 +9,7 @@ use Rattle.af_journal.specs.declared.stage.Stage.{Stage}
 use Rattle.af_journal.specs.declared.stage.Stage.TheVariants as stage
 use Rattle.af_journal.specs.Lines.{Written, numbers, words}
 
--- this stage, where it may be
+-- the stage `next`, if it may be
 abbrev pub if_so : Bool → Stage → Option Stage
 if_so b next = if b then Some next else None
 
@@ -30,12 +30,12 @@ after_clients tracks low (line.Turn room ack cycle) = Some (stage.Turn 0 0)
 after_clients tracks low line.Ended = Some stage.Turned
 after_clients tracks low l = after_turn l
 
--- a call, or what follows clients
+-- what may follow a call: another one, or what follows clients
 abbrev pub after_call : ℕ → ℕ → Line → Option Stage
 after_call tracks low (line.Call answer) = Some (stage.Calls low)
 after_call tracks low l = after_clients tracks low l
 
--- a look of two frames has words
+-- the stage after a look: one of two frames has words
 abbrev pub after_look : ℕ → Seen → Stage
 after_look track answer = if count_seen answer == 2 then stage.Look track else stage.Turn track 0
 
@@ -43,7 +43,7 @@ after_look track answer = if count_seen answer == 2 then stage.Look track else s
 abbrev pub comes : ℕ → ℕ → ℕ → ℕ → Bool
 comes track part low_track low_part = nat_lt low_track track || ((low_track == track) && nat_le low_part part)
 
--- in a turn: the tracks' lines, and then the push
+-- the stage after a line of a turn: the tracks' lines, and then the push
 abbrev pub after_part : ℕ → ℕ → ℕ → Line → Option Stage
 after_part tracks low part (line.Look track flush rear answer) = if_so (nat_lt track tracks && comes track 0 low part) (after_look track answer)
 after_part tracks low part (line.Disabled track) = if_so (nat_lt track tracks && comes track 1 low part) (stage.Turn track 2)
@@ -51,11 +51,11 @@ after_part tracks low part (line.Status track word) = if_so (nat_lt track tracks
 after_part tracks low part (line.Pushed push) = Some (stage.Takes 0)
 after_part tracks low part _ = None
 
--- the stage after a take, which has words where it showed frames
+-- the stage after a take, which has words if it showed frames
 abbrev pub after_taken : ℕ → Seen → Stage
 after_taken track answer = if count_seen answer == 0 then stage.Takes (track + 1) else stage.Take (count_seen answer) (track + 1)
 
--- a take of another track, or what follows a turn
+-- what may follow a take: one of another track, or what follows a turn
 abbrev pub after_take : ℕ → ℕ → Line → Option Stage
 after_take tracks low (line.Take track gains flush rear answer) = if_so (is_next tracks low track) (after_taken track answer)
 after_take tracks low l = after_turn l
@@ -65,7 +65,7 @@ abbrev pub after_fast : Line → Option Stage
 after_fast (line.Entry state kind) = Some (if kind == 0 then stage.Mixed 0 else stage.Entries)
 after_fast _ = None
 
--- another entry, or a round
+-- what may follow an entry: another one, or a round
 abbrev pub after_entry : Line → Option Stage
 after_entry line.Round = Some (stage.Clients 0)
 after_entry l = after_fast l
@@ -80,7 +80,7 @@ shows_submix _ = false
 abbrev pub is_submix : ℕ → Bool → ℕ → ℕ → Seen → Bool
 is_submix scale mono gains flush answer = (scale == 4096) && (not mono && ((gains == 268439552) && ((flush == 0) && shows_submix answer)))
 
--- the stage after a slot, which has words where it showed frames
+-- the stage after a slot, which has words if it showed frames
 abbrev pub after_shown : ℕ → Seen → Stage
 after_shown i answer = if count_seen answer == 0 then stage.Mixed (i + 1) else stage.Slot (count_seen answer) (i + 1)
 

@@ -15,7 +15,7 @@ use Rattle.af_journal.specs.Lines.{Written, numbers, words, spelled, with_lf}
 
 -- ## The lines of a journal
 
--- packed words have a line of their own, where there are some
+-- packed words have a line of their own, if there are some
 abbrev pub words_after : List ℕ → List Written
 words_after [] = []
 words_after (word ∷ rest) = words (word ∷ rest) ∷ []
@@ -34,7 +34,7 @@ abbrev pub client_lines : ℕ → List ClientCall → List Written
 client_lines track [] = []
 client_lines track (call ∷ calls) = numbers (line.Client track) ∷ call_lines (call ∷ calls)
 
--- the two words of a command, where a look took one
+-- the two words of a command, if a look took one
 abbrev pub command_words : CommandLook → List ℕ
 command_words l = if count_seen l.seen == 2 then l.code ∷ l.argument ∷ [] else []
 
@@ -42,11 +42,11 @@ command_words l = if count_seen l.seen == 2 then l.code ∷ l.argument ∷ [] el
 abbrev pub look_lines : ℕ → CommandLook → List Written
 look_lines track l = numbers (line.Look track l.flush l.rear l.seen) ∷ words_after (command_words l)
 
--- DISABLED, where it was set
+-- DISABLED, if it was set
 abbrev pub disabled_lines : ℕ → Bool → List Written
 disabled_lines track disabled = if disabled then numbers (line.Disabled track) ∷ [] else []
 
--- the status, where one was stored
+-- the status, if one was stored
 abbrev pub status_lines : ℕ → Option ℕ → List Written
 status_lines track None = []
 status_lines track (Some word) = numbers (line.Status track word) ∷ []
@@ -79,12 +79,12 @@ slots_lines e = flat_map (slot_lines e) (range_with_len 0 slots)
 abbrev pub entry_lines : EntrySeen → List Written
 entry_lines e = numbers (line.Entry e.entry.state (kind_of e.entry.cycle)) ∷ (if is_mixed e.entry.cycle then slots_lines e else [])
 
--- the entries of a round, where there are some
+-- the entries of a round, if there are some
 abbrev pub fast_lines : List EntrySeen → List Written
 fast_lines [] = []
 fast_lines (e ∷ entries) = numbers line.Fast ∷ flat_map entry_lines (e ∷ entries)
 
--- the turn, where there was one
+-- the turn, if there was one
 abbrev pub turns_lines : Option Turn → List Written
 turns_lines None = []
 turns_lines (Some e) = turn_lines e

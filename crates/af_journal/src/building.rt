@@ -28,14 +28,14 @@ use std::alloc::Global;
 pub enum JournalFault {
     /// The number of its first bad line, counted from 1.
     Line { number: u64 },
-    /// Memory was wanting.
+    /// Memory ran out.
     Memory,
 }
 
 /// What a text begins with.
 #[derive(Drop)]
 pub struct Front {
-    /// The text's journal, where it is whole. Else all of its rounds but the last are what is kept of the first ones of that journal, and the last one only pokes what the rest of the text pokes.
+    /// The text's journal, if it is whole. Else all of its rounds but the last are what is kept of the first ones of that journal, and the last one only pokes what the rest of the text pokes.
     pub journal: Journal,
     /// The text was read to its end, and nothing of it left out.
     pub whole: bool,
@@ -53,7 +53,7 @@ fn read_calls(alloc: Global, left: &mut Left<'_>) -> Result<Vec<ClientCall>, Sto
     Ok(calls)
 }
 
-// The calls of a client; none where it has no line.
+// The calls of a client; none if it has no line.
 fn read_client(alloc: Global, left: &mut Left<'_>, track: u32) -> Result<Vec<ClientCall>, Stop>
     ensures { IfOk result (λ calls. Leaves left.old.rest.now (client_lines track calls.items) left.new.rest.now) }
 {
@@ -113,7 +113,7 @@ fn read_round(
     })
 }
 
-// What follows the line of a round, where rounds are read on and there is one.
+// What follows the line of a round, if rounds are read on and there is one.
 fn next_round(bytes: &[u8], end: End) -> Option<&[u8]>
     ensures line { IfSome result (λ after. Leaves bytes.now (numbers line.Round ∷ []) after.now) }
     ensures last { IfSome result (λ after. is_last end ≡ true) }
@@ -152,7 +152,7 @@ fn read_rounds(
     Ok(end)
 }
 
-// At which stage the rest of a text begins: within the entries of a round, where that is full.
+// At which stage the rest of a text begins: within the entries of a round, if that is full.
 fn stage_behind(full: bool) -> Stage
     ensures { result ≡ (if full then stage.Entries else stage.Nothing) }
 {
@@ -179,7 +179,7 @@ fn note_pokes(
     Ok(())
 }
 
-// What is left of a text behind its rounds: nothing, where all were read, and else a round is noted that pokes what it pokes.
+// What is left of a text behind its rounds: nothing, if all were read, and else a round is noted that pokes what it pokes.
 fn note_rest(
     alloc: Global,
     rest: &[u8],
@@ -226,7 +226,7 @@ fn build(alloc: Global, bytes: &[u8], tracks: u32, reach: Reach) -> Result<Front
 
 /// Reads a journal's text, for as many tracks as the script has: the journal whose text it is.
 ///
-/// A text that has no reading is answered by the number of its first bad line, as `first_bad_line` gives it, and is known before any memory is taken. Memory comes only for a text that has one, where it was refused.
+/// A text that has no reading is answered by the number of its first bad line, as `first_bad_line` gives it, and is known before any memory is taken. Memory comes only for a text that has one, if it was refused.
 pub fn read(alloc: Global, bytes: &[u8], script: &Script) -> Result<Journal, JournalFault>
     ensures journal { IfOk result (Reads (length script.now.tracks) bytes.now) }
     ensures only { IfOk result (λ journal. (other : JournalData) → Reads (length script.now.tracks) bytes.now other → other ≡ journal) }

@@ -15,7 +15,7 @@ fn digit_of(byte: u8) -> Option<u64>
     }
 }
 
-// One digit more, where 64 bits hold it.
+// One digit more, if 64 bits hold it.
 fn with_digit(value: u64, digit: u64) -> Option<u64>
     requires { digit < 10 }
     ensures { result ≡ fitting (value * 10 + digit) }
@@ -47,7 +47,7 @@ fn number_of(word: &[u8]) -> Option<u64>
     more_digits(digit, rest)
 }
 
-// The same up to a limit.
+// The number that a word spells, up to a limit.
 fn number_up_to(word: &[u8], limit: u64) -> Option<u64>
     ensures value { result ≡ up_to limit word.now }
     ensures bound { IfSome result (λ n. n ≤ limit) }

@@ -46,7 +46,7 @@ fn add_shown(
     Ok(())
 }
 
-// Adds a slot of a mix, where it shows something.
+// Adds a slot of a mix, if it shows something.
 fn add_slot(
     text: &mut Text,
     frames: &[Frame],
@@ -94,7 +94,7 @@ fn add_entry(text: &mut Text, frames: &[Frame], entry: &CycleEntry) -> Result<()
     add_slots(text, frames, entry)
 }
 
-/// Adds so many entries from a place of the log on, where there are some.
+/// Adds so many entries from a place of the log on, if there are some.
 pub(crate) fn add_entries(
     text: &mut Text,
     log: &FastLog,

@@ -53,14 +53,14 @@ fn still_entry(state: u64, cycle: Cycle) -> CycleEntry
     }
 }
 
-// The place of a slot's frames, which is 0 where it took none.
+// The place of a slot's frames, which is 0 if it took none.
 fn place_of(place: usize, seen: Seen) -> usize
     ensures { result ≡ place_of place seen }
 {
     if seen.count() == 0 { 0 } else { place }
 }
 
-// A slot of a mix, which is absent where it has no line; its frames are added.
+// A slot of a mix, which is absent if it has no line; its frames are added.
 fn read_slot(
     alloc: Global,
     left: &mut Left<'_>,
@@ -207,7 +207,7 @@ fn read_entries(
     Ok(taken.entries.len() - before)
 }
 
-/// The entries of a round, so many at most, which are added; how many there were. What is left may begin with further ones where there were so many.
+/// The entries of a round, so many at most, which are added; how many there were. What is left may begin with further ones if there were so many.
 pub(crate) fn read_fast(
     alloc: Global,
     left: &mut Left<'_>,

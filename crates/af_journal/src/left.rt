@@ -18,7 +18,7 @@ use std::alloc::{AllocError, AllocFailed, Global};
 pub(crate) enum Stop {
     /// A line stands where it may not. No text without a bad line has one.
     Order,
-    /// Memory was wanting.
+    /// Memory ran out.
     Memory,
 }
 
@@ -46,7 +46,7 @@ pub(crate) struct Left<'a> {
     pub rest: &'a [u8],
 }
 
-/// The line of numbers that stands first, and what follows it; None where none does.
+/// The line of numbers that stands first, and what follows it; None if none does.
 pub(crate) fn next_line(bytes: &[u8]) -> Option<(Line, &[u8])>
     ensures line { IfSome result (λ r. Leaves bytes.now (numbers r.0 ∷ []) r.1.now) }
     ensures fits { IfSome result (λ r. IsLine r.0) }
@@ -120,7 +120,7 @@ fn frames_of(alloc: Global, words: &[u32]) -> Result<FrameList, Memory>
     Ok(frames)
 }
 
-/// The frames of a line of their own, so many; where none were taken there is no line.
+/// The frames of a line of their own, so many; if none were taken there is no line.
 pub(crate) fn read_frames(alloc: Global, left: &mut Left<'_>, count: u32) -> Result<FrameList, Stop>
     ensures lines { IfOk result (λ frames. Leaves left.old.rest.now (words_after (map packed_word frames.items)) left.new.rest.now) }
     ensures count { IfOk result (λ frames. length frames.items ≡ count) }

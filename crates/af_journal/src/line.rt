@@ -14,7 +14,7 @@ pub enum Line {
     Client {
         track: u32,
     },
-    /// One of them.
+    /// A call of that client.
     Call {
         call: ClientCall,
     },
@@ -56,7 +56,7 @@ pub enum Line {
     },
     /// The fast mixer's entries follow.
     Fast,
-    /// One of them: the number of its state, and 0 to 3 for Mixed, Idle, Cold and Exit.
+    /// An entry of the fast mixer: the number of its state, and 0 to 3 for Mixed, Idle, Cold and Exit.
     Entry {
         state: u64,
         kind: u32,

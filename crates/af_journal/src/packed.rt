@@ -98,7 +98,7 @@ fn add_words(text: &mut Text, frames: &[Frame]) -> Result<(), Memory>
     Ok(())
 }
 
-/// Adds a line of the frames that were taken, where there are some.
+/// Adds a line of the frames that were taken, if there are some.
 pub(crate) fn add_frames(text: &mut Text, frames: &[Frame]) -> Result<(), Memory>
     ensures { IfOk result (λ _. GoesOn text.old.bytes.items (words_after (map packed_word frames.now)) text.new.bytes.items) }
 {

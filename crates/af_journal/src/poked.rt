@@ -28,7 +28,7 @@ fn is_poke_line(commands: bool, line: Line) -> bool
     }
 }
 
-// Whose calls follow a line, where those of `own` came before it.
+// Whose calls follow a line, if those of `own` came before it.
 fn caller_after(own: u32, line: Line) -> u32
     ensures { result ≡ caller_after own line }
 {
@@ -38,7 +38,7 @@ fn caller_after(own: u32, line: Line) -> u32
     }
 }
 
-// Sets the mark of a track, where it has one.
+// Sets the mark of a track, if it has one.
 fn set_mark(marks: &mut [bool], track: u32)
     ensures many { length marks.new ≡ length marks.old }
     ensures each { (other : ℕ) → other < length marks.old → slice_index_or marks.new other false ≡ (slice_index_or marks.old other false || (track == other)) }

@@ -8,13 +8,13 @@ ghost use Rattle.af_journal.specs.Judged.{has_more, most_entries, most_judged, m
 
 use af_base::{TrackTurn, TurnEntry};
 
-// So many rounds without entries are read, where a text is read no further than it matters: the first one without entries is a fault, unless the mixer has ended, and then the second one comes behind the end of all parties.
+// So many rounds without entries are read, if a text is read no further than it matters: the first one without entries is a fault, unless the mixer has ended, and then the second one comes behind the end of all parties.
 const MOST_STILL: usize = 2;
 // So many entries of a round, and looks at a track, are judged.
 const MOST_JUDGED: usize = 32_768;
-// A legal round has no more entries,
+// A legal round has no more entries.
 const MOST_ENTRIES: usize = 16;
-// and its turn no more looks at a track.
+// The turn of a legal round has no more looks at a track.
 const MOST_LOOKS: usize = 64;
 
 /// How far a text is read.
@@ -26,16 +26,16 @@ pub(crate) struct Reach {
     pub entries: usize,
     /// or more looks at a track than so many,
     pub looks: usize,
-    /// and as many as matter where the script allows so many cycles.
+    /// and as many as matter if the script allows so many cycles.
     pub cycles: Option<usize>,
 }
 
 /// A round that was read.
 #[derive(Clone, Copy)]
 pub(crate) struct RoundRead {
-    /// It has more entries, or more looks at a track, than one that others follow.
+    /// The round has more entries, or more looks at a track, than one that others follow.
     pub beyond: bool,
-    /// It has as many entries as are kept: what is left may begin with further ones.
+    /// The round has as many entries as are kept: what is left may begin with further ones.
     pub full: bool,
 }
 
@@ -44,9 +44,9 @@ pub(crate) struct RoundRead {
 pub(crate) enum End {
     /// None is left.
     Last,
-    /// Those that follow matter no more.
+    /// The rounds that follow matter no more.
     Enough,
-    /// The last one has more entries, or more looks at a track, than one that others follow; what is left may begin with further entries where it is full.
+    /// The last one has more entries, or more looks at a track, than one that others follow; what is left may begin with further entries if it is full.
     Beyond { full: bool },
 }
 
@@ -62,7 +62,7 @@ pub(crate) fn reach_of_all() -> Reach
     }
 }
 
-/// A text is read as far as it is judged, or only as it matters where the script allows so many cycles.
+/// A text is read as far as it is judged, or only as it matters if the script allows so many cycles.
 pub(crate) fn reach_of_judged(cycles: Option<usize>) -> Reach
     ensures { result ≡ record { kept = most_judged; entries = most_entries; looks = most_looks; cycles = cycles } }
 {
@@ -83,7 +83,7 @@ fn some_have_more(looks: usize, tracks: &[TrackTurn]) -> bool
         .any(|track| track.looks.as_slice().len() > looks)
 }
 
-/// The same of a turn, where there is one.
+/// Whether a turn, if there is one, has more looks at some track than so many.
 pub(crate) fn has_more(looks: usize, turn: &Option<TurnEntry>) -> bool
     ensures { result ≡ has_more looks (option_map turn_of turn.now) }
 {
@@ -93,7 +93,7 @@ pub(crate) fn has_more(looks: usize, turn: &Option<TurnEntry>) -> bool
     }
 }
 
-// Whether the rounds behind one matter no more, where the script allows so many cycles: it begins with a full log or leaves more entries, or so many rounds had none. Each is a fault of that round or of one before it.
+// Whether the rounds behind one matter no more, if the script allows so many cycles: it begins with a full log or leaves more entries, or so many rounds had none. Each is a fault of that round or of one before it.
 fn is_enough(cycles: Option<usize>, before: usize, now: usize, still: usize) -> bool
     ensures { result ≡ true → cycles ≡ None → false ≡ true }
 {

@@ -73,7 +73,7 @@ fn words_of(rest: &[u8]) -> Option<usize>
     if count == 0 { None } else { Some(count) }
 }
 
-// The stage after a line of bytes; None where it may not come.
+// The stage after a line of bytes; None if it may not come.
 #[tactic(auto, unfolding(crate::specs::Readings::stage_after))]
 fn stage_of(tracks: u32, stage: Stage, part: &[u8]) -> Option<Stage>
     ensures { result ≡ stage_after tracks stage part.now }
@@ -107,7 +107,7 @@ fn ends(stage: Stage, rest: &[u8]) -> bool
     rest.is_empty() && may_end(stage)
 }
 
-// The number of the first line that may not come after those before it, at this stage before them; None where all may, and the text may end there.
+// The number of the first line that may not come after those before it, at this stage before them; None if all may, and the text may end there.
 pub(crate) fn first_refused(bytes: &[u8], tracks: u32, first: Stage) -> Option<u64>
     ensures { result ≡ first_refused tracks first 1 (parts_of bytes.now) }
 {
@@ -131,7 +131,7 @@ pub(crate) fn first_refused(bytes: &[u8], tracks: u32, first: Stage) -> Option<u
 
 /// Looks for the first bad line of a journal's text, for as many tracks as the script has: its number, counted from 1.
 ///
-/// None exactly where the text has a reading: where it is the text of a journal of as many tracks, whose numbers lie in the ranges of their fields. Else the number is that of the first line such that no text with a reading begins with the lines up to it; a last line without its LF is such a line. Where every line is allowed and a further one is due, it is the number after the last.
+/// None exactly if the text has a reading: if it is the text of a journal of as many tracks, whose numbers lie in the ranges of their fields. Else the number is that of the first line such that no text with a reading begins with the lines up to it; a last line without its LF is such a line. If every line is allowed and a further one is due, it is the number after the last.
 pub fn first_bad_line(bytes: &[u8], script: &Script) -> Option<u64>
     ensures reading { IfNone result (HasReading (length script.now.tracks) bytes.now) }
     ensures line { IfSome result (IsFirstBad (HasReading (length script.now.tracks)) bytes.now) }

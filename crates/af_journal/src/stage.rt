@@ -76,7 +76,7 @@ fn after_call(tracks: u32, low: u32, line: Line) -> Option<Stage>
     }
 }
 
-// After a look its words are due, where it took some.
+// The stage after a look: its words are due, if it took some.
 fn after_look(track: u32, seen: Seen) -> Stage
     ensures { result ≡ after_look track seen }
 {
@@ -122,7 +122,7 @@ fn after_part(tracks: u32, low: u32, part: u32, line: Line) -> Option<Stage>
     }
 }
 
-// The stage after a take: its words are due, where it took some.
+// The stage after a take: its words are due, if it took some.
 fn after_taken(track: u32, seen: Seen) -> Stage
     requires { track + 1 < 2 ^ 32 }
     ensures { result ≡ after_taken track seen }
@@ -193,7 +193,7 @@ pub(crate) fn is_submix(scale: u16, mono: bool, gains: u32, flush: u32, seen: Se
     scale == 4096 && !mono && gains == 0x1000_1000 && flush == 0 && shows_submix(seen)
 }
 
-// The stage after a slot: its words are due, where it took some.
+// The stage after a slot: its words are due, if it took some.
 fn after_shown(slot: u32, seen: Seen) -> Stage
     requires { slot < slots }
     ensures { result ≡ after_shown slot seen }
@@ -248,7 +248,7 @@ fn after_slot(low: u32, line: Line) -> Option<Stage>
     }
 }
 
-/// The stage after a line of numbers, of a journal of so many tracks; None where it may not come.
+/// The stage after a line of numbers, of a journal of so many tracks; None if it may not come.
 pub(crate) fn after_line(tracks: u32, stage: Stage, line: Line) -> Option<Stage>
     ensures { result ≡ after_line tracks stage line }
 {
@@ -267,7 +267,7 @@ pub(crate) fn after_line(tracks: u32, stage: Stage, line: Line) -> Option<Stage>
     }
 }
 
-/// The stage after a line of so many packed words; None where it may not come.
+/// The stage after a line of so many packed words; None if it may not come.
 pub(crate) fn after_words(stage: Stage, count: usize) -> Option<Stage>
     ensures { result ≡ after_words stage count }
 {

@@ -10,7 +10,7 @@ use crate::packed::{add_frames, add_two};
 use crate::text::{Text, add};
 use af_base::{CommandLook, Memory, NormalTake, TrackTurn, TurnEntry};
 
-// Adds a line of a command's two words, where a look took one.
+// Adds a line of a command's two words, if a look took one.
 fn add_command(text: &mut Text, look: &CommandLook) -> Result<(), Memory>
     ensures { IfOk result (λ _. GoesOn text.old.bytes.items (words_after (command_words look.now)) text.new.bytes.items) }
 {

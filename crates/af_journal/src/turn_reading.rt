@@ -46,7 +46,7 @@ fn read_command(
     Ok(look)
 }
 
-// The same looks in a list of their own room.
+// These looks in a list of their own room.
 fn looks_of(alloc: Global, looks: &[CommandLook]) -> Result<CommandLooks, Memory>
     ensures { IfOk result (λ list. list.items ≡ looks.now) }
 {
@@ -113,7 +113,7 @@ fn read_disabled(left: &mut Left<'_>, track: u32) -> bool
     }
 }
 
-// The status that was stored for a track, where one was.
+// The status that was stored for a track, if one was.
 fn read_status(left: &mut Left<'_>, track: u32) -> Option<u32>
     ensures { Leaves left.old.rest.now (status_lines track result) left.new.rest.now }
 {
@@ -145,7 +145,7 @@ fn read_track(
     })
 }
 
-// What it saw and did of all tracks.
+// What a turn saw and did of all tracks.
 fn read_tracks(
     alloc: Global,
     left: &mut Left<'_>,
@@ -244,7 +244,7 @@ fn read_open_turn(
     })
 }
 
-/// The turn of a round, of so many tracks; None where there was none. So many looks at each track are kept.
+/// The turn of a round, of so many tracks; None if there was none. So many looks at each track are kept.
 pub(crate) fn read_turn(
     alloc: Global,
     left: &mut Left<'_>,

@@ -46,7 +46,7 @@ fn add_clients(text: &mut Text, journal: &Journal, round: usize) -> Result<(), M
     Ok(())
 }
 
-// Adds the turn of a round, where there was one.
+// Adds the turn of a round, if there was one.
 fn add_turn_of(text: &mut Text, journal: &Journal, round: usize) -> Result<(), Memory>
     requires round { round < length journal.now.rounds }
     requires form { IsJournal journal.now }
@@ -60,7 +60,7 @@ fn add_turn_of(text: &mut Text, journal: &Journal, round: usize) -> Result<(), M
     Ok(())
 }
 
-// Adds the entries of a round, where there are some.
+// Adds the entries of a round, if there are some.
 fn add_fast(text: &mut Text, journal: &Journal, round: usize) -> Result<(), Memory>
     requires round { round < length journal.now.rounds }
     ensures { IfOk result (λ _. GoesOn text.old.bytes.items (fast_lines (round_at journal.now round).entries) text.new.bytes.items) }

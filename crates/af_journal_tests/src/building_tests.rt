@@ -22,7 +22,7 @@ const TEXTS: [(&str, usize, u64); 8] = [
     ("R\nF\ny 1 0\nR\n", 0, 4),
 ];
 
-// Texts, with whether nothing made their reader stop, and the number of rounds kept, of which the last one is made up where something did.
+// Texts, with whether nothing made their reader stop, and the number of rounds kept, of which the last one is made up if something did.
 const FRONTS: [(&str, bool, usize); 8] = [
     ("", true, 0),
     ("R\nR\n", false, 3),
@@ -109,7 +109,7 @@ fn tells_rounds(journal: &Journal) -> bool {
         && journal.cycles(1) == (2, 0)
 }
 
-// Whether it has the first entry of that text, and its frame.
+// Whether a journal has the first entry of the whole text, and its frame.
 fn tells_entry(journal: &Journal) -> bool {
     let log = journal.log();
     let Some(entry) = log.entry(0) else {
@@ -121,7 +121,7 @@ fn tells_entry(journal: &Journal) -> bool {
         && entry.slots[2].seen == Seen::Absent
 }
 
-// Whether it has the turn of its first round: a status, and a take with its frame.
+// Whether a journal has the turn of its first round: a status, and a take with its frame.
 fn tells_turn(journal: &Journal) -> bool {
     if journal.rounds() == 0 {
         return false;
@@ -138,7 +138,7 @@ fn tells_turn(journal: &Journal) -> bool {
     track.status == Some(258) && take.frames.as_slice() == [Frame { left: -1, right: 1 }].as_slice()
 }
 
-// Whether the whole text says so.
+// Whether the journal of the whole text has all of that.
 fn text_is_told(alloc: Global) -> Result<bool, Memory> {
     let text = text_with(alloc, 30, 30, "")?;
     let Ok(journal) = read(alloc, text.as_bytes(), &script(alloc)?) else {

@@ -36,7 +36,7 @@ const REMOVE: Option<Want> = Some(Want::Send {
     command: ClientCommand::Remove,
 });
 
-// What is wanted and how it is answered; where nothing is, the turn ends and the answer is none. The START is settled in the second turn, a START is owed after the first Put, and the yield ends that turn.
+// What is wanted and how it is answered; if nothing is wanted, the turn ends and the answer is none. The START is settled in the second turn, a START is owed after the first Put, and the yield ends that turn.
 const LIFE: [(Option<Want>, ClientCall); 17] = [
     (OPEN, SENT),
     (START, SENT),

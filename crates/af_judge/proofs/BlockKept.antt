@@ -19,7 +19,7 @@ and-true : (a : Bool) → (a && true) ≡ a
 and-true true = refl
 and-true false = refl
 
--- one event more
+-- a list with one event more is lawful, if it was and the event is no poke
 pub lawful-more : (events : List ClientEvent) (e : ClientEvent) → is_lawful (events ++ e ∷ []) ≡ (is_lawful events && is_tame e)
 lawful-more [] e = and-true (is_tame e)
 lawful-more (x ∷ events) e = ap (λ (b : Bool). is_tame x && b) (lawful-more events e) ∙ and-assoc (is_tame x) (is_lawful events) (is_tame e)
@@ -46,7 +46,7 @@ client_kept_more server tame stays raised counted more lists after e b is stays_
     } in
     subst (IsBlock server stays counted) (sym is) here
 
--- the words of a take are told with their places
+-- the words of a take are noted with their places
 pub words_told : (j : BlockJudged) (w : Words) (at : ℕ) (words : List ℕ) → at ≡ min most_counted (server_kept j.shape j.server).consumed → w ≡ record { released = j.released; taken = j.taken ++ placed_from at words }
     → record j { released = w.released; taken = w.taken } ≡ taken_more j.server words j
 words_told j w at words at_is w_is =

@@ -137,7 +137,7 @@ served-track s marks n ops there hands t b h w = record {
   wrap_commands = h.wrap_commands;
 }
 
--- Where each track was kept whole, each is after the meetings. One whose client's turn was illegal isn't kept: its parties learn another count of its client's events than the run's
+-- If each track was kept whole, each is after the meetings. One whose client's turn was illegal isn't kept: its parties learn another count of its client's events than the run's
 pub tracks_met : (s : Session) (marks : Marks) (Whole : ℕ → Type 0) (tracks after : List TrackJudge) (run : Run) → KeepsTracks s marks Whole tracks run → ((n : ℕ) → n < length tracks → Whole n) → length after ≡ length tracks
     → ((n : ℕ) (t k : TrackJudge) → IsTrackAt tracks n t → IsTrackAt after n k → k ≡ blocks_met (takes_part s run n) run.handed t) → KeepsTracks s marks Whole after (met s run)
 tracks_met s marks Whole tracks after run h all many are = record {
@@ -160,7 +160,7 @@ tracks_met s marks Whole tracks after run h all many are = record {
     before : (n : ℕ) (k : TrackJudge) → IsTrackAt after n k → (t : TrackJudge) × IsTrackAt tracks n t
     before n k at = let low : n < length tracks = (let a = at.0 in omega (arith, a, many)) in (get_or tracks n k, (low, get_or_default tracks n k (get_or tracks n k) low))
 
--- whether a stream proxy takes part is told by what is kept of both mixers
+-- what is kept of both mixers says whether a stream proxy takes part
 pub there_same : (s : Session) (run : Run) (kept : NormalKept) (told : Telling) (states : List FastState) (n : ℕ) → kept ≡ run.normal → states ≡ run.states → told.asked ≡ cycle_frames s → told.current ≡ run.current
     → (is_home (track_at kept.tracks n).holder || carries_track (adopted_in told states) n) ≡ takes_part s run n
 there_same s run kept told states n kept_is states_is asked current = λ j. is_home (track_at (kept_is j).tracks n).holder || carries_track (state_at (asked j) (states_is j) (current j)) n

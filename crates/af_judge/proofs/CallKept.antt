@@ -24,7 +24,7 @@ call_of ops file answer j k t kept call = record {
   made = (let P : SidesKept → Type 0 = λ s. MadeBy s call.wanted answer in (made-by t call.wanted answer).1 (subst P kept.sides call.made));
 }
 
--- one that was refused is none
+-- a call that was refused is none of the track
 pub no_call_of : (ops : List Op) (answer : ClientCall) (j : ClientJudged) (t : Track) → IsKeptOf ops j t → IsNoCall ops answer j → IsCallOf t answer → ⊥
 no_call_of ops answer j t kept none call =
     let P : SidesKept → Type 0 = λ s. MadeBy s call.wanted answer in

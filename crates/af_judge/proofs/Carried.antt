@@ -52,7 +52,7 @@ stay_then a b c p q i away = let x = p i away in let y = q i (ap is_home x.1 ∙
 carried_stay : (Is : Holder → Type 0) → ((h : Holder) → Is h → is_home h ≡ false) → (before after : List TrackKept) → StayAway before after → (x : FastState) → CarriesBy Is before x → CarriesBy Is after x
 carried_stay Is away before after stay x c k lt on = let h = c k lt on in let s = stay (slot_of x k).track (away _ h.1) in (s.0 ∙ h.0, subst Is (sym s.1) h.1)
 
--- one track is replaced by such a one
+-- tracks that are away stay if one is replaced that leaves its own track so
 set_stay : (tracks : List TrackKept) (i : ℕ) (t : TrackKept) → (is_home (track_at tracks i).holder ≡ false → (t.slot ≡ (track_at tracks i).slot) × (t.holder ≡ (track_at tracks i).holder)) → StayAway tracks (slice_set tracks i t)
 set_stay tracks i t stays j away = elim (at_set tracks i t j) as (λ x. ((track_at (slice_set tracks i t) j).slot ≡ (track_at tracks j).slot) × ((track_at (slice_set tracks i t) j).holder ≡ (track_at tracks j).holder)) [
   | inl p ↦ (
@@ -81,7 +81,7 @@ served_stay c k seen draft tracks zero sound = λ i away. (refl, refl)
 served_stay c k seen draft tracks (suc n) sound = stay_then tracks (served_to c k seen tracks n) (served_to c k seen tracks (suc n)) (served_stay c k seen draft tracks n sound)
     (one_stays c k seen draft (served_to c k seen tracks n) n (sound_served c k seen draft tracks n sound))
 
--- their takes count
+-- tracks that are away stay if takes are counted
 takes_stay : (asked : ℕ) (takes : List TakeSeen) (tracks : List TrackKept) → StayAway tracks (fold (after_take asked) tracks takes)
 takes_stay asked [] tracks = λ i away. (refl, refl)
 takes_stay asked (take ∷ takes) tracks = stay_then tracks (after_take asked tracks take) (fold (after_take asked) tracks (take ∷ takes)) (set_stay tracks take.track _ (λ away. (refl, refl))) (takes_stay asked takes (after_take asked tracks take))
@@ -144,7 +144,7 @@ carried_served c k e m h =
 
 -- ## The edits
 
--- one that has another slot, or is elsewhere, is another track
+-- a track that has another slot, or is elsewhere, is another track
 other_track : (tracks : List TrackKept) (n i k : ℕ) → (track_at tracks n).slot ≡ Some k → k ≢ slot_number (track_at tracks i) → n ≢ i
 other_track tracks n i k slot ne e = ne (sym (ap number_of slot) ∙ ap (λ (j : ℕ). slot_number (track_at tracks j)) e)
 
@@ -205,7 +205,7 @@ module _ (m : NormalKept) (c : Carried m) (b : Setup) (i : ℕ) (own : Heard) (e
   low1 : (1 ≤ slot_number (track_at m.tracks i)) × (slot_number (track_at m.tracks i) < slots)
   low1 = comer_slot m c.sound b i own enters
 
-  -- such a state doesn't carry its slot
+  -- a state that is known doesn't carry the slot of a track that enters
   known_not : (x : FastState) → IsKnown m x → carries x (slot_number (track_at m.tracks i)) ≡ true → ⊥
   known_not x known on =
       let h = known.away k1 low1.1 on in
@@ -286,7 +286,7 @@ module _ (b : Setup) (scales : All (λ (s : Setting). s.scale ≤ 4096) b.settin
   unfolding mutated
   carried_mutated room m few h = carried_command _ (edited_to b k m (length m.tracks)) (carried_edits (length m.tracks) m few h)
 
-  -- all edits of a turn
+  -- all edits of a turn keep what is carried
   pub carried_after_edits : (e : Turn) (m : NormalKept) → length m.tracks ≤ length b.settings → Carried m → Carried (after_edits b k e m)
   carried_after_edits e m few h = carried_mutated e.room (after_tracks b k e (after_ack e.ack m))
       (let l = served_len b k e.tracks (after_ack e.ack m).tracks (length (after_ack e.ack m).tracks) in let a = acked_len e.ack m in omega (arith, l, a, few))
@@ -349,7 +349,7 @@ module _ (b : Setup) (scales : All (λ (s : Setting). s.scale ≤ 4096) b.settin
   carried_turn m e few h = by_test e.ended (record m { ended = true }) _ (λ f. record { sound = h.sound; draft = h.draft; last = h.last; same = h.same })
       (λ f. carried_takes e.mixes (after_push e.push (after_edits b k e m)) (carried_pushed e.push (after_edits b k e m) (carried_after_edits e m few h)))
 
--- and it holds before the first turn
+-- what is carried is so before the first turn
 pub carried_new : (c : Setup) → Carried (new_normal c)
 carried_new c = record {
   sound = sound_new c;
@@ -367,6 +367,6 @@ carries_apart tracks x c i j li lj on also same =
     let g = (c j lj also).0 in
     ap number_of (sym h ∙ ap (λ (n : ℕ). (track_at tracks n).slot) same ∙ g)
 
--- and no track that isn't there
+-- a state carries no track that isn't there
 pub carries_within : (tracks : List TrackKept) (x : FastState) → CarriesBy IsLent tracks x → CarriesWithin (length tracks) x
 carries_within tracks x c i lt on = inside tracks (slot_of x i).track (ap is_some (c i lt on).0)

@@ -1,4 +1,4 @@
--- What is kept of a run follows some entries, which are right exactly where they are legal.
+-- What is kept of a run follows some entries, which are right exactly if they are legal.
 use Rattle.std.proofs.Common.{◌≡◌, ◌↔◌, ℕ, ◌+◌, refl, sym, ap, ◌∙◌, subst, map, List, [], ◌∷◌, ◌++◌, append-nil, append_assoc, arith}
 use Rattle.std.specs.List.{sum_by}
 use Rattle.std.proofs.lemmas.List.Sums.{sum_by-append, sum_by-cons}
@@ -49,7 +49,7 @@ pub record KeepsPlaying (s : Session) (marks : Marks) (W : ℕ → Type 0) (earl
   pub tracks : KeepsTracks s marks W p.tracks run
   pub fits : StatesFit s run
 
--- it follows an entry
+-- what is kept follows an entry
 pub entry_keeps : (s : Session) (marks : Marks) (W : ℕ → Type 0) (earlier : List Report) (frames : List Frame) (p : Playing) (run : Run) (e : EntrySeen) → StandsIn frames e → KeepsPlaying s marks W earlier p run
     → KeepsPlaying s marks W earlier (entry_leaves run.states frames e.entry p) (with_cycle s run e)
 unfolding entry_leaves
@@ -60,7 +60,7 @@ entry_keeps s marks W earlier frames p run e stands keeps = record {
   fits = fits_follow s marks W earlier run e p.fast frames p.tracks keeps.fits stands keeps.fast keeps.draft keeps.tracks;
 }
 
--- and is right exactly where it is legal
+-- an entry is right exactly if it is legal
 pub entry_right : (s : Session) (marks : Marks) (W : ℕ → Type 0) (earlier : List Report) (frames : List Frame) (p : Playing) (run : Run) (e : EntrySeen) → StandsIn frames e → IsEntry (frames_before run) e.entry → KeepsPlaying s marks W earlier p run
     → IsRightAfter run.states frames e.entry p ↔ LegalEntry s marks (with_poll s e.entry.state run) e
 unfolding IsRightAfter
@@ -68,7 +68,7 @@ entry_right s marks W earlier frames p run e stands form keeps = entry_exact s m
 
 -- ## Some entries
 
--- what is kept follows them
+-- what is kept follows some entries
 pub entries_keep : (s : Session) (marks : Marks) (W : ℕ → Type 0) (earlier : List Report) (frames : List Frame) (es : List EntrySeen) (p : Playing) (run : Run) (place : ℕ) → AreFormed frames place es → KeepsPlaying s marks W earlier p run
     → KeepsPlaying s marks W earlier (entries_leave run.states frames (entries_in es) p) (with_cycles s es run)
 entries_keep s marks W earlier frames [] p run place formed keeps = keeps
@@ -78,7 +78,7 @@ entries_keep s marks W earlier frames (e ∷ es) p run place formed keeps =
     let rest = entries_keep s marks W earlier frames es (entry_leaves run.states frames e.entry p) (with_cycle s run e) (place + taken_by e.entry) formed.2 here in
     subst (λ (xs : List FastState). KeepsPlaying s marks W earlier (entries_leave xs frames (entries_in es) (entry_leaves run.states frames e.entry p)) (with_cycles s es (with_cycle s run e))) same rest
 
--- and all are right exactly where they are legal
+-- all entries are right exactly if they are legal
 pub entries_right : (s : Session) (marks : Marks) (W : ℕ → Type 0) (earlier : List Report) (frames : List Frame) (es : List EntrySeen) (p : Playing) (run : Run) → AreFormed frames (frames_before run) es → KeepsPlaying s marks W earlier p run
     → AreEntriesRight run.states frames (entries_in es) p ↔ LegalEntries s marks run es
 entries_right s marks W earlier frames [] p run formed keeps = ((λ h. tt), (λ h. tt))

@@ -18,11 +18,11 @@ module _ (states : List FastState) (frames : List Frame) where
       let rest = right-push entries entry (entry_leaves states frames x p) in
       ((λ h. let r = rest.0 h.1 in ((h.0, r.0), r.1)), (λ h. (h.0.0, rest.1 (h.0.1, h.1))))
 
-  -- what they leave
+  -- what some entries and one more leave
   pub leave_more : (entries : List CycleEntry) (at : ℕ) (d : CycleEntry) (p : Playing) → at < length entries → entries_leave states frames (take (at + 1) entries) p ≡ entry_leaves states frames (get_or entries at d) (entries_leave states frames (take at entries) p)
   leave_more entries at d p low = fold_more (λ q e. entry_leaves states frames e q) p entries at d low
 
-  -- they are right where those before it are, and it is after them
+  -- some entries and one more are right if the first ones are, and the other one is after them
   pub right_more : (entries : List CycleEntry) (at : ℕ) (d : CycleEntry) (p : Playing) → at < length entries
       → AreEntriesRight states frames (take (at + 1) entries) p ↔ (AreEntriesRight states frames (take at entries) p × IsRightAfter states frames (get_or entries at d) (entries_leave states frames (take at entries) p))
   right_more entries at d p low =

@@ -1,4 +1,4 @@
--- An entry is right by what a judge keeps exactly where it is a legal entry of the run.
+-- An entry is right by what a judge keeps exactly if it is a legal entry of the run.
 use Rattle.std.specs.Prelude.{slice_get, MatchOption}
 use Rattle.std.proofs.Common.{◌≡◌, ◌↔◌, ℕ, zero, suc, ◌+◌, ◌^◌, ◌<◌, ◌≤◌, ◌==◌, nat_le, Bool, true, false, true≢false, if◌then◌else◌, is_some, unwrap_or, refl, sym, ap, ◌∙◌, subst, List, [], ◌∷◌, ◌++◌, length, map, Option, Some, None, eqb-true, arith}
 use Rattle.std.proofs.lemmas.List.{append_cancel_left}
@@ -61,7 +61,7 @@ front-told asked s slot f g same by = (by.0, by_shut (kept s).shut same by.1)
     by_shut None is h = subst (λ (n : ℕ). slot.seen ≡ look_at s.shape (kept s).flush asked slot.flush slot.rear n) (ap fourth-front is) h
     by_shut (Some words) is h = h
 
--- one end did more
+-- the events of the second end, if it alone did some
 twos-map : (es : List ServerEvent) → twos (map (λ (b : ServerEvent). let v : Event ClientEvent ServerEvent = two b in v) es) ≡ es
 twos-map [] = refl
 twos-map (e ∷ es) = ap (λ (xs : List ServerEvent). e ∷ xs) (twos-map es)
@@ -92,7 +92,7 @@ module _ (s : Session) (marks : Marks) (r : Run) (e : EntrySeen) (f : FastKept) 
   abbrev asked : ℕ
   asked = cycle_frames s
 
-  -- its state
+  -- the state of the entry
   abbrev x : FastState
   x = state_for s r e.entry.state
 
@@ -129,7 +129,7 @@ module _ (s : Session) (marks : Marks) (r : Run) (e : EntrySeen) (f : FastKept) 
             let same : j ≡ i = apart j i (omega (arith, less, low)) low (both-true (carries x j) (is_shown (entry_slot e.entry j).seen) both.0).0 carried (eqb-true (slot_of x j).track n both.1) in
             absurd (let z : ⊥ = omega (arith, less, same) in z)
 
-    -- its track
+    -- what is known of a track that a slot plays
     record Here : Type 0 where
       track : TrackJudge
       is : slice_get tracks n ≡ Some track
@@ -259,7 +259,7 @@ module _ (s : Session) (marks : Marks) (r : Run) (e : EntrySeen) (f : FastKept) 
           );
     }
 
-    -- both ways
+    -- the entry is right exactly if it is legal
     pub entry_legal : (FollowsTold f r.states e.entry × IsMixRight f.told.asked (state_in f.told r.states e.entry.state) frames e.entry f.pipe tracks) ↔ LegalEntry s marks r e
     entry_legal = (
       (λ h. legal-so h.0 (subst (λ (y : FastState). IsMixRight f.told.asked y frames e.entry f.pipe tracks) state-same h.1)),
@@ -294,7 +294,7 @@ module _ (s : Session) (marks : Marks) (run : Run) (e : EntrySeen) (f : FastKept
   unfolding with_poll
   streams_of_polled streams = record { many = streams.many; each = λ n t is. let h = streams.each n t is in record { server = h.server; lawful = h.lawful; wrap = h.wrap } }
 
-  -- an entry of its form is right after what is kept exactly where it is legal in the run
+  -- an entry of its form is right after what is kept exactly if it is legal in the run
   pub right_legal_entry : FastOf s earlier run f → f.told.draft ≡ run.normal.draft → StreamsOf marks run tracks → IsEntry (frames_before run) e.entry → CarriesApart (state_for s polled e.entry.state) → CarriesWithin (length tracks) (state_for s polled e.entry.state)
       → IsEntryRight run.states frames e.entry f tracks ↔ LegalEntry s marks polled e
   unfolding with_poll

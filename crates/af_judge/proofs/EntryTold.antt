@@ -1,4 +1,4 @@
--- What is kept of a run follows an entry, and the entry is right exactly where it is legal.
+-- What is kept of a run follows an entry, and the entry is right exactly if it is legal.
 use Rattle.std.specs.Prelude.{slice_index_or}
 use Rattle.std.proofs.Common.{◌≡◌, ◌↔◌, ℕ, zero, suc, ◌+◌, ◌==◌, if◌then◌else◌, unwrap_or, refl, sym, ◌∙◌, subst, List, [], ◌∷◌, length, Option, Some, None}
 use Rattle.af_base.specs.declared.frame.Frame.{Frame}
@@ -80,7 +80,7 @@ cycle_beside s run e =
 
 -- ## The states
 
--- they fit a run in which they are the same
+-- the states fit a run in which they are the same
 pub fits_same : (s : Session) (run after : Run) → after.states ≡ run.states → after.normal ≡ run.normal → StatesFit s run → StatesFit s after
 fits_same s run after states normal fits = record {
   pushed = subst (λ (xs : List FastState). (k : ℕ) → CarriesFit s (state_at (cycle_frames s) xs k)) (sym states) fits.pushed;
@@ -96,7 +96,7 @@ module _ (s : Session) (marks : Marks) (W : ℕ → Type 0) (earlier : List Repo
   abbrev g : FastKept
   g = fast_polled run.states e.entry.state f
 
-  -- its state
+  -- the state of the entry
   abbrev x : FastState
   x = state_for s polled e.entry.state
 
@@ -144,7 +144,7 @@ module _ (s : Session) (marks : Marks) (W : ℕ → Type 0) (earlier : List Repo
   unfolding with_poll
   fast_follows = fast_mixed s marks polled e g frames (entry_tracks run.states frames e.entry f tracks) earlier fast-polled drafts-polled stands (streams_of s marks W (entry_tracks run.states frames e.entry f tracks) (with_looks s e polled) keeps-looks)
 
-  -- and it is right exactly where it is legal
+  -- the entry is right exactly if it is legal
   pub entry_exact : IsEntry (frames_before run) e.entry → IsEntryRight run.states frames e.entry f tracks ↔ LegalEntry s marks polled e
   entry_exact form = right_legal_entry s marks run e f frames tracks earlier fast drafts (streams_of s marks W tracks run keeps) form apart (subst (λ (n : ℕ). CarriesWithin n x) (sym keeps.all) within)
 

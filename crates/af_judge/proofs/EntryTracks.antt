@@ -92,7 +92,7 @@ module _ (asked : ℕ) (x : FastState) (frames : List Frame) (entry : CycleEntry
   not-so true h = absurd (h refl)
   not-so false h = refl
 
-  -- one that a slot plays is played once
+  -- a track that a slot plays is played once
   pub played_once : (i k : ℕ) (tracks : List TrackJudge) (t : TrackJudge) → i < k → plays_track x entry n i ≡ true → ((j : ℕ) → j < k → plays_track x entry n j ≡ true → j ≡ i) → slice_get tracks n ≡ Some t
       → slice_get (slots_played asked x frames entry k tracks) n ≡ Some (played_in i t)
   unfolding slots_played

@@ -68,7 +68,7 @@ fast_same s earlier run after f same fast = record {
   taken = fast.taken ∙ sym same.taken;
 }
 
--- nor does it matter which draft the judge has, and what else it keeps of the queue and of the pipe
+-- which draft the judge has doesn't matter, nor what else it keeps of the queue and of the pipe
 pub record SameTold (f g : FastKept) : Type 0 where
   pub asked : g.told.asked ≡ f.told.asked
   pub current : g.told.current ≡ f.told.current
@@ -182,7 +182,7 @@ fast_round s earlier run f fast = record {
   taken = fast.taken;
 }
 
--- before the first one
+-- what is kept of the fast mixer before the first round
 pub fast_new : (s : Session) (size cells : ℕ) → FastOf s [] (new_run s) (fast_begins (cycle_frames s) size cells)
 fast_new s size cells = record {
   asked = refl;

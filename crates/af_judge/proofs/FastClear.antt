@@ -1,4 +1,4 @@
--- The fast mixer's turn is legal exactly where the judge finds that its entries may come and that each is right.
+-- The fast mixer's turn is legal exactly if the judge finds that its entries may come and that each is right.
 use Rattle.std.specs.Prelude.{slice_get, MatchBool, nat_le}
 use Rattle.std.specs.List.{prefix_len, sum_by}
 use Rattle.std.proofs.Common.{◌≡◌, ◌↔◌, ℕ, suc, ◌+◌, ◌<◌, ◌≤◌, ◌==◌, ◌&&◌, Bool, true, false, if◌then◌else◌, refl, sym, ap, ◌∙◌, subst, map, List, [], ◌∷◌, ◌++◌, append_assoc, append-nil, length, take, length-append, Option, Some, None, arith}
@@ -127,7 +127,7 @@ early-names run (e ∷ es) = by_early (nat_le e.entry.state (length run.states))
         subst (λ (n : ℕ). NameUpTo (length run.states) (take n (e ∷ es))) next (low, rest)
     by_early false is rest = tt
 
--- so it is before the turn, as the early entries name states that were pushed before
+-- before the turn the entries use states that were pushed, as the early entries name states that were pushed before
 pub early_used : (s : Session) (run : Run) (round : RoundSeen) → UseUpTo (length run.states) run.entries → UseUpTo (length (before_turn s run round).states) (before_turn s run round).entries
 early_used s run round used =
     let b = cycles_beside s (early_of run round) (with_calls round run) in
@@ -143,7 +143,7 @@ legal-names s marks (e ∷ es) run legal =
     let b = cycle_beside s run e in
     (legal.0.cycle.pushed, subst (λ (xs : List FastState). NameUpTo (length xs) es) b.states (legal-names s marks es (with_cycle s run e) legal.1))
 
--- and so it is after the round, where its late entries are legal
+-- after the round the entries use states that were pushed, if its late entries are legal
 pub round_used : (s : Session) (marks : Marks) (run : Run) (round : RoundSeen) → UseUpTo (length run.states) run.entries → LegalEntries s marks (after_turn s run round) (late_of run round) → UseUpTo (length (after_round s run round).states) (after_round s run round).entries
 round_used s marks run round used legal =
     let turned-run = after_turn s run round in
@@ -196,7 +196,7 @@ module _ (cut : Bool) (s : Session) (marks : Marks) (earlier : List Report) (run
   told-so : f.told.report.cycle ≡ length run.entries
   told-so = ap (λ (r : Report). r.cycle) fast.report ∙ fast.numbered.cycle
 
-  -- the entries end as a turn, where no mixer has ended
+  -- the entries end as a turn, if no mixer has ended
   abbrev Ends : Bool → Bool → Type 0
   Ends full b = MatchBool b (count ≡ 0) (EndsAsTurn log first count 16 full)
 
@@ -242,7 +242,7 @@ module _ (cut : Bool) (s : Session) (marks : Marks) (earlier : List Report) (run
 
 -- ## What the judge finds
 
--- the entries of a round may come and are right exactly where the fast mixer's turn is legal, by what is kept before the round and after its calls, and after the normal mixer's turn
+-- the entries of a round may come and are right exactly if the fast mixer's turn is legal, by what is kept before the round and after its calls, and after the normal mixer's turn
 pub fast_judged : (cut : Bool) (s : Session) (marks : Marks) (W V : ℕ → Type 0) (earlier : List Report) (frames : List Frame) (run : Run) (round : RoundSeen) (f : FastKept) (p q : Playing) (cycles : ℕ) (log : List CycleEntry) (first : ℕ) → cycles ≡ s.script.cycles
     → FastOf s earlier run f → KeepsPlaying s marks W earlier p (with_calls round run) → KeepsPlaying s marks V earlier q (after_turn s run round) → AreFormed frames (frames_before run) round.entries
     → ((i : ℕ) (e : EntrySeen) → slice_get round.entries i ≡ Some e → entry_at log (first + i) ≡ e.entry)

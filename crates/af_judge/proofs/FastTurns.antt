@@ -45,7 +45,7 @@ of_place Last (x ∷ y ∷ es) p = (
   of_place Last (y ∷ es) (record { some = omega arith; mixes = λ i e low is. p.mixes (suc i) e (omega (arith, low)) is; last = λ i e end is. p.last (suc i) e (omega (arith, end)) is }),
 )
 
--- so it is one of the entries of a round, where those are the log's from a place on
+-- the entries of a round end as a turn exactly if they are a fast turn, if they are the log's from a place on
 pub turn_exact : (entries : List CycleEntry) (first cycles : ℕ) (full : Bool) (es : List EntrySeen) → ((i : ℕ) (e : EntrySeen) → slice_get es i ≡ Some e → entry_at entries (first + i) ≡ e.entry)
     → EndsAsTurn entries first (length es) cycles full ↔ IsFastTurn cycles full es
 turn_exact entries first cycles full es are = (

@@ -27,7 +27,7 @@ stream_server t = listed_in t.stream
 
 -- ## The servers
 
--- the servers with that of a track changed, where there is one
+-- the servers with that of a track changed, if there is one
 abbrev with-changed : ℕ → (Listed → Listed) → List Listed → Option Listed → List Listed
 with-changed n by servers o = elim o as (λ o. List Listed) [ None ↦ servers | Some s ↦ slice_set servers n (by s) ]
 
@@ -83,7 +83,7 @@ entry-foreseen states frames entry p =
     let heard : heard_foreseen (slots_foreseen t.asked x entry slots (servers_at p.tracks)) x ≡ heard_slots after x = ap (λ (ss : List Listed). heard_foreseen ss x) servers ∙ sym (heard-same after x) in
     λ i. record { servers = servers i; told = entry_added states (told_at_slot (heard i)) entry t }
 
--- after some
+-- what is foreseen after some entries
 pub entries_foreseen_told : (states : List FastState) (frames : List Frame) (entries : List CycleEntry) (p : Playing) → entries_foreseen states entries (foreseen_of p) ≡ foreseen_of (entries_leave states frames entries p)
 entries_foreseen_told states frames [] p = refl
 entries_foreseen_told states frames (entry ∷ entries) p =

@@ -1,4 +1,4 @@
--- A block has a history exactly where its lists have a legal order, as many words were released as the releases say, and each word taken was released at its place.
+-- A block has a history exactly if its lists have a legal order, as many words were released as the releases say, and each word taken was released at its place.
 use Rattle.std.proofs.Common.{◌≡◌, ℕ, zero, suc, ◌+◌, ◌-◌, ◌<◌, ◌≤◌, min, Bool, true, false, fold, List, [], ◌∷◌, ◌++◌, length, take, drop, All, Option, Some, None, slice_get, refl, sym, ap, ◌∙◌, subst, arith, true≢false, append_assoc, append-nil, unwrap_or, length-drop, length-take-le}
 use Rattle.std.proofs.lemmas.List.{take_at, drop_at, take-append-drop}
 use Rattle.std.proofs.lemmas.List.Elements.{All-append, All-cons, All-head, All-nil, All-tail}
@@ -238,7 +238,7 @@ placed-released released place (w ∷ words) short all =
     ap (take (suc (length words))) (drop-here released place w there)
     ∙ ap (λ (ws : List ℕ). w ∷ ws) (placed-released released (place + 1) words short (All-tail (IsReleased released) t (placed_from (place + 1) words) all))
 
--- and those released there are released at their places
+-- a list has an item at each place within it
 there-is : (xs : List ℕ) (n : ℕ) → n < length xs → (w : ℕ) × (slice_get xs n ≡ Some w)
 there-is [] n inside = absurd (let x : ⊥ = omega (arith, inside) in x)
 there-is (x ∷ xs) zero inside = (x, refl)
@@ -343,7 +343,7 @@ history_of j words t h =
           ∙ released-covered j.released k (server_begins k) j.server words t.short t.whole (subst (All (IsReleased j.released)) t.taken h.taken));
     }
 
--- and a history is found
+-- a history is found by the judge
 pub history_found : (j : BlockJudged) (words : List ℕ) → Tells j words → HasHistory j.shape j.client j.released j.server words j.hand → HasItsHistory j
 history_found j words t h =
     let k = j.shape in

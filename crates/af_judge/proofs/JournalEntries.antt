@@ -18,7 +18,7 @@ use Rattle.af_judge.specs.EntriesTold.{AreFormed}
 
 -- ## The slots of an entry
 
--- its frames hold those of each slot
+-- the frames of an entry hold those of each slot
 slot-inside : (entry : CycleEntry) (i n : ℕ) → i < n → taken_before entry i + count_seen (entry_slot entry i).seen ≤ taken_before entry n
 slot-inside entry i zero lt = absurd (omega (arith, lt))
 slot-inside entry i (suc n) lt = by_case (cases_eq i n) (λ low. slot-inside entry i n low)
@@ -48,7 +48,7 @@ piece pre own post first count before is inside =
     ∙ (ap (take count) (drop-append-add pre (own ++ post) before ∙ drop-append-le before own post (omega (arith, inside)))
     ∙ take-append-le count (drop before own) post (let l = length-drop before own in omega (arith, l, inside)))
 
--- those of an entry stand between those before and those after it
+-- the frames of an entry stand between those before and those after it
 stands-so : (pre post : List Frame) (e : EntrySeen) → IsEntry (length pre) e.entry → length e.frames ≡ taken_by e.entry → StandsIn (pre ++ (e.frames ++ post)) e
 unfolding taken_by
 stands-so pre post e form long = record {
@@ -85,7 +85,7 @@ formed pre post (e ∷ es) are =
 
 -- ## The entries of a round
 
--- behind some entries
+-- entries behind some others are of their form
 formed-behind : (frames : List Frame) (place : ℕ) (es more : List EntrySeen) → AreFormed frames place (es ++ more) → AreFormed frames (place + sum_by taken_by (map (λ e. e.entry) es)) more
 formed-behind frames place [] more are = subst (λ (n : ℕ). AreFormed frames n more) (omega arith) are
 formed-behind frames place (e ∷ es) more are =
@@ -93,7 +93,7 @@ formed-behind frames place (e ∷ es) more are =
     let sum = sum_by-cons taken_by e.entry (map (λ e. e.entry) es) in
     subst (λ (n : ℕ). AreFormed frames n more) (omega (arith, sum)) rest
 
--- and before some
+-- entries before some others are of their form
 formed-before : (frames : List Frame) (place : ℕ) (es more : List EntrySeen) → AreFormed frames place (es ++ more) → AreFormed frames place es
 formed-before frames place [] more are = tt
 formed-before frames place (e ∷ es) more are = (are.0, are.1, formed-before frames (place + taken_by e.entry) es more are.2)
@@ -121,7 +121,7 @@ round_formed j frames n form is low =
     let behind = subst (λ (k : ℕ). AreFormed frames k ((round_at j n).entries ++ entries_of (drop (n + 1) j.rounds))) place (formed-behind frames 0 (entries_of (take n j.rounds)) ((round_at j n).entries ++ entries_of (drop (n + 1) j.rounds)) split) in
     formed-before frames (sum_by taken_by (map (λ e. e.entry) (entries_of (take n j.rounds)))) (round_at j n).entries (entries_of (drop (n + 1) j.rounds)) behind
 
--- and are those of the log from their place on
+-- the entries of a round are those of the log from their place on
 pub round_entries_at : (j : JournalData) (n : ℕ) → n < length j.rounds
     → take (length (round_at j n).entries) (drop (length (entries_of (take n j.rounds))) (map (λ e. e.entry) (entries_of j.rounds))) ≡ map (λ e. e.entry) (round_at j n).entries
 round_entries_at j n low =

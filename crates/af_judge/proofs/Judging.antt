@@ -15,7 +15,7 @@ use Rattle.af_runs.specs.Clients.{code_of}
 use Rattle.af_runs.specs.ClientTurns.{Side, Track, AnswersOn, IsMade, IsWanted, argument_of, asked_by, called, is_of_commands, is_send, released_by, side_of, with_call}
 use Rattle.af_judge.specs.Judging.{SideKept, side_kept, AnswersBy, MadeBy, WantedBy, argument_by, kept_called, kept_for, sides_called, sides_kept, words_of, flushes_asked}
 
--- an answer is right by the list exactly where it is by what is kept
+-- an answer is right by the list exactly if it is by what is kept
 pub answers-by : (b : Side) (asked : ℕ) (answer : ClientCall) → AnswersOn b asked answer ≡ AnswersBy (side_kept b) asked answer
 answers-by b asked (call.Put front count) = refl
 answers-by b asked (call.Full front) = refl
@@ -96,11 +96,11 @@ kept-either : (b : Bool) (x y : Side) → side_kept (if b then x else y) ≡ (if
 kept-either true x y = refl
 kept-either false x y = refl
 
--- it answers right by the list of its side
+-- a call answers right by the list of its side
 side-answers : (t : Track) (asked : ℕ) (answer : ClientCall) → AnswersOn (side_of t answer) asked answer ≡ AnswersBy (kept_for (sides_kept t) answer) asked answer
 side-answers t asked answer = answers-by (side_of t answer) asked answer ∙ ap (λ k. AnswersBy k asked answer) (kept-either (is_of_commands answer) t.commands t.stream)
 
--- a call is made right exactly where it is by what is kept
+-- a call is made right exactly if it is by what is kept
 pub made-by : (t : Track) (wanted : Want) (answer : ClientCall) → IsMade t wanted answer ↔ MadeBy (sides_kept t) wanted answer
 made-by t wanted answer = (
   (λ h. record { is_wanted = subst (λ (A : Type 0). A) (wanted-by t wanted answer) h.0; answers = subst (λ (A : Type 0). A) (side-answers t (asked_by wanted) answer) h.1 }),
@@ -129,7 +129,7 @@ released-long t (call.Poke command word value) = refl
 kept-after : (t : Track) (answer : ClientCall) (b : Side) → side_kept (called answer (released_by t answer) b) ≡ kept_called answer (words_of (length t.file) (sides_kept t) answer) (side_kept b)
 kept-after t answer b = side_kept-called b answer (released_by t answer) ∙ ap (λ n. kept_called answer n (side_kept b)) (released-long t answer)
 
--- either side
+-- what is kept of a track of which either side is changed
 sides-by : (on : Bool) (t : Track) (commands stream : Side) (k l : SideKept) → side_kept commands ≡ k → side_kept stream ≡ l
     → sides_kept (if on then record t { commands = commands } else record t { stream = stream }) ≡ (if on then record (sides_kept t) { commands = k } else record (sides_kept t) { stream = l })
 sides-by true t commands stream k l e f i = record { stream = side_kept t.stream; commands = e i }

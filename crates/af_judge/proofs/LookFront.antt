@@ -1,4 +1,4 @@
--- Where a look answers by some front, it answers by the one that its answer tells.
+-- If a look answers by some front, it answers by the one that its answer gives.
 use Rattle.std.proofs.Common.{◌≡◌, ℕ, ◌+◌, ◌-◌, ◌%◌, ◌^◌, ◌<◌, ◌≤◌, ◌==◌, ◌&&◌, ◌||◌, not, min, nat_lt, Bool, true, false, true≢false, if◌then◌else◌, refl, sym, ap, ◌∙◌, subst, eqb-true, mod-lt, arith}
 use Rattle.std.proofs.lemmas.Bool.Decides.{nat_tests}
 use Rattle.af_base.specs.declared.log.SlotEntry.{SlotEntry}
@@ -57,7 +57,7 @@ differs a b other = by_case (a == b) refl
     by_case true e = absurd (other (eqb-true a b e))
     by_case false e = e
 
--- a new flush that is noticed, where front and rear fit
+-- a new flush that is noticed, if front and rear fit
 pub noticed_new : (new wrapless out : Bool) → (new && (wrapless || not out)) ≡ false → out ≡ false → new ≡ false
 noticed_new true true out e f = absurd (true≢false e)
 noticed_new true false out e f = absurd (true≢false (ap not (sym f) ∙ e))
@@ -161,7 +161,7 @@ module _ (k : Shape) (few : k.wrap ≤ 2 ^ 31) (old asked flush rear : ℕ) wher
       by_case false wraps true none = ap (look_at k old asked flush rear) (front false true wraps none) ∙ empty_flush f wraps noticed (low wraps) ∙ ap seen.Flushed (sym (eqb-true d 0 none))
       by_case false wraps false some = ap (look_at k old asked flush rear) (front false false wraps some) ∙ far_flush f d wraps noticed (past wraps) some
 
--- where the look answers so by some front, it does by the one that the answer tells
+-- if the look answers so by some front, it does by the one that the answer gives
 pub answers_so : (k : Shape) → k.wrap ≤ 2 ^ 31 → (old asked : ℕ) (slot : SlotEntry) (f : ℕ) → IsSeen slot.seen → slot.seen ≡ look_at k old asked slot.flush slot.rear f → slot.seen ≡ look_at k old asked slot.flush slot.rear (front_by_answer k slot)
 answers_so k few old asked slot f is_seen answers =
     by_case (is_noticed k (not (slot.flush == old)) slot.rear f) (nat_lt k.frames (ahead f slot.rear)) (slot.rear == f) refl refl refl

@@ -1,4 +1,4 @@
--- Looks at a command block are legal by some fronts exactly where each answers by the front by which it is judged.
+-- Looks at a command block are legal by some fronts exactly if each answers by the front by which it is judged.
 use Rattle.std.proofs.Common.{◌≡◌, ℕ, ◌+◌, ◌^◌, ◌≤◌, ◌==◌, ◌&&◌, ◌||◌, not, min, nat_lt, Bool, true, false, true≢false, if◌then◌else◌, is_some, fold, refl, sym, ap, ◌∙◌, subst, List, [], ◌∷◌, ◌++◌, Option, Some, None, arith}
 use Rattle.std.specs.Prelude.{MatchOption}
 use Rattle.af_base.specs.declared.event.ServerEvent.{ServerEvent}
@@ -40,7 +40,7 @@ shut_by : Seen → Option (ℕ × ℕ)
 shut_by (seen.Shut front rear) = Some (front, rear)
 shut_by _ = None
 
--- a server that saw this front notices a flush where the look showed one, and is shut where it showed that
+-- a server that saw this front notices a flush if the look showed one, and is shut if it showed that
 record Tells (k : Shape) (a : ServerKept) (flush rear front : ℕ) (s : Seen) : Type 0 where
   noticed : is_noticed k (not (flush == a.flush)) rear front ≡ is_flushed s
   shut : (if is_noticed k (not (flush == a.flush)) rear front then None else outside k.frames front rear) ≡ shut_by s
@@ -111,11 +111,11 @@ module _ (k : Shape) where
 
   -- ## The front that a journal tells
 
-  -- where the server's own front lies in the block
+  -- if the server's own front lies in the block
   inside_so : (t : Listed) (rear : ℕ) → is_own_inside t rear ≡ true → nat_lt t.shape.frames (ahead (own_front t.shape (kept t)) rear) ≡ false
   inside_so t rear e = un_not (nat_lt t.shape.frames (ahead (own_front t.shape (kept t)) rear)) e
 
-  -- the server's own front, where the answer leaves it open
+  -- the server's own front, if the answer leaves it open
   own_tells : (a : ServerKept) (asked flush rear g : ℕ) (s : Seen) → leaves_open k asked s ≡ true → nat_lt k.frames (ahead g rear) ≡ false → (f : ℕ) → Tells k a flush rear f s → Tells k a flush rear g s
   unfolding is_flushed shut_by
   own_tells a asked flush rear g (seen.Frames count) opens inside f t = record { noticed = none; shut = ap (λ (b : Bool). if b then None else outside k.frames g rear) none ∙ ap (λ (b : Bool). if b then Some (g, rear) else None) inside }
@@ -168,7 +168,7 @@ module _ (k : Shape) where
     answers_open xs asked slot f open_is by = subst (λ (o : Option (ℕ × ℕ)). MatchOption o (slot.seen ≡ look_at k (server_kept k xs).flush asked slot.flush slot.rear f)
         (λ words. (slot.seen ≡ seen.Shut words.0 words.1) × (slot.flush ≡ (server_kept k xs).flush) × (slot.rear ≡ words.1))) open_is by.1
 
-    -- it answers by what is alike
+    -- a look answers by lists that are alike
     pub looks_alike : (xs ys : List ServerEvent) (asked : ℕ) (slot : SlotEntry) (f : ℕ) → Alike (server_kept k xs) (server_kept k ys) → LooksBy asked (at xs) slot f → LooksBy asked (at ys) slot f
     looks_alike xs ys asked slot f same by = (
       by.0,
@@ -183,7 +183,7 @@ module _ (k : Shape) where
     events_by : Option (ℕ × ℕ) → CommandLook → ℕ → List ServerEvent
     events_by o look f = (if is_some o then [] else look_events look.seen look.flush look.rear f) ++ takes_command look
 
-    -- what it leaves is alike, by its own front and by the one that is told
+    -- what a look leaves is alike, by its own front and by the one that is told
     pub step_alike : (xs ys : List ServerEvent) (look : CommandLook) (f : ℕ) → Alike (server_kept k xs) (server_kept k ys) → LooksBy 2 (at xs) (as_slot look) f
         → Alike (server_kept k (xs ++ command_events (at xs) look f)) (server_kept k (ys ++ command_events (at ys) look (front_of 2 (at ys) (as_slot look))))
     unfolding events_by

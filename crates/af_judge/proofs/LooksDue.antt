@@ -56,7 +56,7 @@ module _ (given : Option ℕ) (flush_seen : ℕ) where
         ∙ are_due-go given flush_seen n (take made looks) (drop made looks) s h
         ∙ ap (λ (xs : List CommandLook). are_due n given flush_seen xs (after_all given flush_seen s (take made looks))) (drop-cons looks made none there)
 
-    -- those beyond the last that may be made are not
+    -- looks beyond the last that may be made are not due
     pub none_beyond : made ≡ 64 → all_go_on given flush_seen (take made looks) s ≡ true → are_due 64 given flush_seen looks s ≡ false
     none_beyond e h = let f : 64 ≡ made + 0 = omega (arith, e) in ap (λ (k : ℕ). are_due k given flush_seen looks s) f ∙ so_far 0 h
 
@@ -65,7 +65,7 @@ module _ (given : Option ℕ) (flush_seen : ℕ) where
       now : u ≡ after_look given flush_seen (get_or looks made none) (after_all given flush_seen s (take made looks))
       now = after ∙ ap (after_look given flush_seen (get_or looks made none)) before
 
-      -- one more that goes on
+      -- one look more goes on
       pub one_on : goes_on (get_or looks made none) u ≡ true → all_go_on given flush_seen (take (made + 1) looks) s ≡ true
       one_on on = subst (λ (xs : List CommandLook). all_go_on given flush_seen xs s ≡ true) (sym (take_more looks made none there))
           (still_on s (take made looks) (get_or looks made none) all (ap (goes_on (get_or looks made none)) (sym now) ∙ on))
@@ -73,7 +73,7 @@ module _ (given : Option ℕ) (flush_seen : ℕ) where
       pub one_after : u ≡ after_all given flush_seen s (take (made + 1) looks)
       one_after = now ∙ sym (ap (after_all given flush_seen s) (take_more looks made none there) ∙ after_push s (take made looks) (get_or looks made none))
 
-      -- those after one that ends them are not due
+      -- looks after one that ends them are not due
       pub stops_there : made < 64 → goes_on (get_or looks made none) u ≡ false → are_due 64 given flush_seen looks s ≡ (made + 1 == length looks)
       stops_there few off =
           let left : ℕ = 63 - made in
@@ -84,7 +84,7 @@ module _ (given : Option ℕ) (flush_seen : ℕ) where
           ∙ ap (λ (b : Bool). if b then are_due left given flush_seen (drop (suc made) looks) x else length (drop (suc made) looks) == 0) off'
           ∙ last made (length looks) (length (drop (suc made) looks)) there (length-drop (suc made) looks)
 
-  -- where all go on the last that may be made is due
+  -- if all go on, the last that may be made is due
   pub all_made : (looks : List CommandLook) (s : TrackKept) (made : ℕ) → length looks ≤ made → made ≤ 64 → all_go_on given flush_seen (take made looks) s ≡ true → are_due 64 given flush_seen looks s ≡ (length looks == 64)
   all_made looks s made le few h =
       let left : ℕ = 64 - length looks in

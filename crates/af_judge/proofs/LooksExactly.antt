@@ -1,4 +1,4 @@
--- All looks at a command block are legal by some fronts exactly where each answers by the front by which it is judged.
+-- All looks at a command block are legal by some fronts exactly if each answers by the front by which it is judged.
 use Rattle.std.proofs.Common.{◌≡◌, ◌↔◌, ℕ, ◌+◌, ◌^◌, ◌≤◌, Bool, true, false, true≢false, if◌then◌else◌, refl, sym, ap, ◌∙◌, subst, List, [], ◌∷◌, ◌++◌, Option, Some, None}
 use Rattle.std.specs.Prelude.{MatchBool, MatchOption}
 use Rattle.af_base.specs.declared.event.ServerEvent.{ServerEvent}
@@ -31,7 +31,7 @@ pub record LegalBy (lawful : Bool) (s : Listed) (looks : List CommandLook) : Typ
   pub own : lawful ≡ true → fronts ≡ fronts_by lawful_front s looks
 
 module _ (k : Shape) (few : k.wrap ≤ 2 ^ 31) (lawful : Bool) where
-  -- the front by which a look is judged is told by what is alike
+  -- lists that are alike give the same front by which a look is judged
   judged_alike : (xs ys : List ServerEvent) (asked : ℕ) (slot : SlotEntry) → Alike (server_kept k xs) (server_kept k ys) → front_judged lawful asked (at k few xs) slot ≡ front_judged lawful asked (at k few ys) slot
   judged_alike xs ys asked slot same =
       ap (λ (n : ℕ). if lawful then (if leaves_open k asked slot.seen then wrapped (k.base + n) else front_by_answer k slot) else front_by_answer k slot) same.consumed
@@ -39,7 +39,7 @@ module _ (k : Shape) (few : k.wrap ≤ 2 ^ 31) (lawful : Bool) where
   pub lawful_is : (asked : ℕ) (s : Listed) (slot : SlotEntry) → lawful ≡ true → front_judged lawful asked s slot ≡ lawful_front asked s slot
   lawful_is asked s slot e = ap (λ (b : Bool). if b then lawful_front asked s slot else front_by_answer s.shape slot) e
 
-  -- where it answers by some front, on a lawful block the server's own, it answers by the one by which it is judged
+  -- if it answers by some front, on a lawful block the server's own, it answers by the one by which it is judged
   pub judged_so : (xs : List ServerEvent) (asked : ℕ) (slot : SlotEntry) (f : ℕ) → LooksBy asked (at k few xs) slot f → (lawful ≡ true → f ≡ lawful_front asked (at k few xs) slot) → LooksBy asked (at k few xs) slot (front_judged lawful asked (at k few xs) slot)
   judged_so xs asked slot f by own = by_case lawful refl
     where
@@ -52,7 +52,7 @@ module _ (k : Shape) (few : k.wrap ≤ 2 ^ 31) (lawful : Bool) where
       by_case true e = subst (LooksBy asked (at k few xs) slot) (own e) by
       by_case false e = (by.0, other (server_kept k xs).shut by.1)
 
-  -- it answers as its words say exactly where it does by that front
+  -- a look answers as its words say exactly if it does by that front
   pub rightly : (xs : List ServerEvent) (asked : ℕ) (slot : SlotEntry) → LooksRightly lawful asked (at k few xs) slot ↔ LooksBy asked (at k few xs) slot (front_judged lawful asked (at k few xs) slot)
   rightly xs asked slot = by_case lawful refl
     where
@@ -93,6 +93,6 @@ module _ (k : Shape) (few : k.wrap ≤ 2 ^ 31) (lawful : Bool) where
             (λ e. ap tail_of (own e) ∙ ap (λ (g : ℕ). fronts_by lawful_front (did (at k few xs) (command_events (at k few xs) look g)) looks) (sym (first e))),
       )
 
-  -- both ways
+  -- all looks answer exactly if they are legal by some fronts
   pub looks_exactly : (xs : List ServerEvent) (looks : List CommandLook) → AllAnswer lawful (at k few xs) looks ↔ LegalBy lawful (at k few xs) looks
   looks_exactly xs looks = (to_legal xs xs looks (alike (server_kept k xs)), λ (l : LegalBy lawful (at k few xs) looks). from_legal xs xs looks l.fronts (alike (server_kept k xs)) l.legal l.own)

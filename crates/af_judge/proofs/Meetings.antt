@@ -158,7 +158,7 @@ module _ {P A B : Type 0} (legal : P → Event A B → Type 0) (next : P → Eve
   twos_both (one a ∷ xs) ys = twos_both xs ys
   twos_both (two b ∷ xs) ys = ap (λ z. b ∷ z) (twos_both xs ys)
 
-  -- and a cut order is one
+  -- a cut order is an order
   unfoldable pub joined_at : (firsts seconds : P → ℕ) (a : A) (b : B) (known_first known_second : ℕ) (m : IsMeeting firsts seconds a b known_first known_second) (p : P) (xs : List A) (ys : List B) (later : List A) (looks : List B)
       → IsCut firsts seconds a b known_first known_second m p xs ys later looks → HasOrder legal next p (xs ++ a ∷ later) (ys ++ b ∷ looks)
   joined_at firsts seconds a b known_first known_second m p xs ys later looks c = record {

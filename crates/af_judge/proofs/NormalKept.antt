@@ -54,7 +54,7 @@ either_slot : (b : Bool) (s t : TrackKept) → slot_number s ≡ slot_number t �
 either_slot true s t e = e
 either_slot false s t e = refl
 
--- who comes home keeps its slot
+-- a track that comes home keeps its slot
 pub found_slot : (ack : Bool) (last : FastState) (t : TrackKept) → slot_number (if ack then welcomed last t else t) ≡ slot_number t
 unfolding welcomed
 found_slot true last t = either_slot (comes_home last t) _ t refl
@@ -65,7 +65,7 @@ pub found_slots : (t : ℕ) (c : Setup) (m : NormalKept) (ack : Bool) (found : L
 found_slots t c m ack found small is i =
     let a = ((small_turns.acked c t ack m small).tracks i).slot in let b = ap (λ (ts : List TrackKept). slot_number (track_at ts i)) is in omega (arith, a, b)
 
--- and room for the commands of a turn
+-- the tracks found have room for the commands of a turn
 pub found_room : (t : ℕ) (c : Setup) (m : NormalKept) (e : Turn) (found : List TrackKept) (seen : List TrackSeen) → IsSmall t c m → t + turn_weight e ≤ 131072 → found ≡ (after_ack e.ack m).tracks → seen ≡ e.tracks
     → (i : ℕ) → (track_at found i).settled + length (seen_at seen i).looks < 2 ^ 24 - 1
 found_room t c m e found seen small few is of i =
@@ -147,7 +147,7 @@ served_so c d k turns all found tracks n r setup given is many h =
     (subst (λ (xs : List TrackTurn). IsTrue r ↔ ((i : ℕ) → i < length found → LegalTrack d k (seen_at (map track_seen xs) i) (served_to d k (map track_seen xs) found i) i)) given
     (subst (λ (x : Setup). IsTrue r ↔ ((i : ℕ) → i < length found → LegalTrack x k (seen_at (map track_seen turns) i) (served_to x k (map track_seen turns) found i) i)) setup h)))
 
--- the tracks of the takes are those due, where they are so by what is the same
+-- the tracks of the takes are those due, if they are so by what is the same
 pub due_by : (takes all : List NormalTake) (c d : Setup) (room : ℕ) (tracks now : List TrackKept) (due : List ℕ) (r : Bool) → takes ≡ all → c ≡ d → tracks ≡ now → tracks_due d room now ≡ due
     → (IsTrue r ↔ (map (λ (t : TakeSeen). t.track) (map take_seen takes) ≡ tracks_due c room tracks)) → IsTrue r ↔ (map (λ (t : TakeSeen). t.track) (map take_seen all) ≡ due)
 due_by takes all c d room tracks now due r given setup same is h =

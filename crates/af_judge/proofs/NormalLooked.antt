@@ -1,4 +1,4 @@
--- One look more at a command block, as a judge tells it.
+-- One look more at a command block, as a judge notes it.
 use Rattle.std.proofs.Common.{◌≡◌, ◌↔◌, ℕ, ◌+◌, ◌<◌, ◌&&◌, Bool, IsTrue, refl, sym, ap, ◌∙◌, subst, List, [], ◌∷◌, ◌++◌, length, take, get_or}
 use Rattle.std.proofs.lemmas.List.{take_more}
 use Rattle.af_base.specs.declared.turn.CommandLook.{CommandLook}

@@ -1,4 +1,4 @@
--- A turn is right where its parts are.
+-- A turn is right if its parts are.
 use Rattle.std.proofs.Common.{◌≡◌, ◌↔◌, ℕ, ◌&&◌, Bool, true, false, IsTrue, MatchBool, if◌then◌else◌, sym, subst, List, [], ◌∷◌, ◌++◌, length, arith}
 use Rattle.std.specs.Prelude.{slice_index_or, MatchOption}
 use Rattle.std.specs.List.{AllByRecursion}
@@ -28,7 +28,7 @@ use Rattle.af_judge.specs.Servers.{LooksRightly}
 use Rattle.af_judge.proofs.NormalKept.{both_so}
 use Rattle.af_judge.proofs.NormalTells.{same_track, there_is}
 
--- ## A take is right after the other parts of the turn where it was before them
+-- ## A take is right after the other parts of the turn if it was before them
 
 -- flags change nothing of what a list tells of its server
 pub flags_same : (k : Shape) (xs : List ServerEvent) (bits : ℕ) → server_kept k (xs ++ server.SetFlags bits ∷ []) ≡ server_kept k xs
@@ -40,7 +40,7 @@ AnswersAs k asked slot a front = IsSeen slot.seen × MatchOption a.shut
     (slot.seen ≡ look_at k a.flush asked slot.flush slot.rear front)
     (λ words. (slot.seen ≡ seen.Shut words.0 words.1) × (slot.flush ≡ a.flush) × (slot.rear ≡ words.1))
 
--- by the front by which it is to, or some
+-- a look answers by the front by which it is to, or by some
 AnswersBy : Shape → Bool → ℕ → SlotEntry → ServerKept → Type 0
 AnswersBy k lawful asked slot a = MatchBool lawful
     (AnswersAs k asked slot a (if leaves_open k asked slot.seen then own_front k a else front_by_answer k slot))

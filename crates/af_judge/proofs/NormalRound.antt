@@ -47,7 +47,7 @@ module _ (s : Session) (marks : Marks) (W : ℕ → Type 0) (run : Run) (round :
       by_end true is = ((λ r. none), (λ l. is))
       by_end false is = ((λ r. absurd (true≢false (sym r ∙ is))), (λ l. absurd (subst (λ (o : Option Turn). MatchOption o ⊥ Legal) none l)))
 
-  -- and it changes nothing
+  -- a round without a turn changes nothing
   pub no_turn_follows : round.turn ≡ None → KeepsTracks s marks W tracks (before_turn s run round) → KeepsTracks s marks W tracks (after_turn s run round) × NormalOf s (after_turn s run round) j
   no_turn_follows none keeps =
       let same : after_turn s run round ≡ before_turn s run round = ap (λ (o : Option Turn). turned s (found_in s run round) o (before_turn s run round)) none in

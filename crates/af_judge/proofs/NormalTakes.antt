@@ -1,4 +1,4 @@
--- One take more for the buffer, as a judge tells it.
+-- One take more for the buffer, as a judge notes it.
 use Rattle.std.proofs.Common.{◌≡◌, ◌↔◌, ℕ, zero, suc, ◌+◌, ◌<◌, ◌≤◌, ◌==◌, ◌&&◌, Bool, true, false, IsTrue, cond, fold, refl, sym, ap, ◌∙◌, subst, List, [], ◌∷◌, ◌++◌, append-nil, length, map, take, get_or, eqb-true, true≢false, arith}
 use Rattle.std.specs.Prelude.{slice_index_or}
 use Rattle.std.specs.List.{AllByRecursion}
@@ -26,7 +26,7 @@ all_last : {A : Type 0} (P : A → Type 0) (xs : List A) (x : A) → AllByRecurs
 all_last P [] x = ((λ h. (tt, h.0)), (λ h. (h.1, tt)))
 all_last P (y ∷ xs) x = let rest = all_last P xs x in ((λ h. let r = rest.0 h.1 in ((h.0, r.0), r.1)), (λ h. (h.0.0, rest.1 (h.0.1, h.1))))
 
--- those up to the next one
+-- what is seen of the takes up to the next one
 pub one_seen : (takes : List NormalTake) (i : ℕ) (item : NormalTake) → i < length takes → item ≡ slice_index_or takes i item → map take_seen (take (i + 1) takes) ≡ map take_seen (take i takes) ++ take_seen item ∷ []
 one_seen takes i item there is = ap (map take_seen) (take_more takes i item there) ∙ map_last take_seen (take i takes) (get_or takes i item) ∙ ap (λ (t : NormalTake). map take_seen (take i takes) ++ take_seen t ∷ []) (sym is)
 
@@ -73,7 +73,7 @@ module _ (asked : ℕ) (takes : List TakeSeen) (x : TakeSeen) (before now : List
           subst (IsTrackAt next i) (sym (ap F (only i false e) ∙ ap F (append-nil (takes_from takes i)))) (one.others i (F (takes_from takes i)) other (taken i t at))
 
   module _ (none : takes_from takes x.track ≡ []) (many : length now ≡ length before) where
-    -- its track is as it was before all takes
+    -- the track of the next take is as it was before all takes
     still : (t : TrackJudge) → IsTrackAt before x.track t → IsTrackAt now x.track t
     still t at = subst (λ (ts : List TakeSeen). IsTrackAt now x.track (fold (λ (t : TrackJudge) (take : TakeSeen). take_told asked take t) t ts)) none (taken x.track t at)
 

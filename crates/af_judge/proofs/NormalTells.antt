@@ -1,4 +1,4 @@
--- One track more is told what a turn did for it.
+-- What a turn did for one track more is noted in it.
 use Rattle.std.proofs.Common.{◌≡◌, ◌↔◌, ℕ, ◌+◌, ◌<◌, ◌&&◌, Bool, true, false, IsTrue, nat_lt, if◌then◌else◌, refl, sym, ap, ◌∙◌, subst, List, length, arith}
 use Rattle.std.specs.Prelude.{slice_set, slice_index_or}
 use Rattle.std.proofs.lemmas.List as lists
@@ -28,7 +28,7 @@ set_here ts i u lt = ((let l = length-set ts i u in omega (arith, l, lt)), sym (
 pub set_elsewhere : (ts : List TrackJudge) (i n : ℕ) (u t : TrackJudge) → (n ≡ i → ⊥) → IsTrackAt ts n t → IsTrackAt (slice_set ts i u) n t
 set_elsewhere ts i n u t other at = ((let l = length-set ts i u in let b = at.0 in omega (arith, l, b)), at.1 ∙ sym (get_or-set_other ts i n u t other))
 
--- there is one
+-- there is a track at each place
 pub there_is : (ts : List TrackJudge) (i : ℕ) (t : TrackJudge) → i < length ts → IsTrackAt ts i (slice_index_or ts i t)
 there_is ts i t lt = (lt, get_or_default ts i t (slice_index_or ts i t) lt)
 
@@ -47,7 +47,7 @@ less_or P n i lt below same = by_case (nat_lt n i) refl
     by_case false e = same (grind (arith, nat_tests, e, lt))
 
 module _ (k : Learnt) (m : NormalKept) (e : Turn) (before now : List TrackJudge) (i : ℕ) (t : TrackJudge) (so_far : AllTold k m e before now i) (lt : i < length before) (at : IsTrackAt now i t) where
-  -- it is as it was
+  -- the track of the next number is as it was
   pub as_before : IsTrackAt before i t
   as_before = let u : TrackJudge = slice_index_or before i t in
       subst (IsTrackAt before i) (same_track now i u t (so_far.others i u (omega arith) (there_is before i t lt)) at) (there_is before i t lt)

@@ -21,7 +21,7 @@ meetings_rise low high [] h = h
 meetings_rise low high (hand.SetFlags bits ∷ hs) h = absurd h
 meetings_rise low high (hand.Met known ∷ hs) h = let rest = meetings_rise known high hs h.1 in omega (arith, h.0, rest)
 
--- they may name more
+-- meetings may name more
 pub meetings_grow : (low high more : ℕ) (hs : List HandEvent) → high ≤ more → AreMeetings low high hs → AreMeetings low more hs
 meetings_grow low high more [] up h = omega (arith, h, up)
 meetings_grow low high more (hand.SetFlags bits ∷ hs) up h = absurd h
@@ -205,7 +205,7 @@ none_at (by_client e ∷ order) h = none_at order h
 none_at (by_server e ∷ order) h = none_at order h
 none_at (by_hand e ∷ order) h = let long : length (hand_of order ++ e ∷ []) ≡ 0 = ap length h in absurd (omega (arith, length-append (hand_of order) (e ∷ [])))
 
--- with such meetings the lists have a legal order exactly where they have one without a hand
+-- with such meetings the lists have a legal order exactly if they have one without a hand
 pub only_meetings : (from : TrackPoint) (client : List ClientEvent) (server : List ServerEvent) (hs : List HandEvent) → AreMeetings 0 (length client) hs
     → HasLegalOrder from client server hs ↔ HasLegalOrder from client server []
 only_meetings from client server hs meet = (

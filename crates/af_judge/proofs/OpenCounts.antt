@@ -13,7 +13,7 @@ below_or_at i n h = grind arith
 -- ## A loop that opens counts
 
 module _ {A : Type 0} (S : ℕ → A → Type 0) (steps : List A) where
-  -- a count is open where it was, or where the one before it leads to it
+  -- a count is open if it was, or if the one before it leads to it
   abbrev Opens : ℕ → A → (counts first here : Bool) → Type 0
   Opens i step next old here = IsTrue next ↔ (IsTrue old ⊎ (IsTrue here × S i step))
 
@@ -42,7 +42,7 @@ module _ {A : Type 0} (S : ℕ → A → Type 0) (steps : List A) where
             opens-same i step _ _ _ _ _ _ next old from (subst (λ k. Opens k step v (slice_index_or counts (at + 1) false) (slice_index_or counts at false)) (sym same) (here step (subst (λ k. slice_get steps k ≡ Some step) same is))))
       ]
 
-  -- what the counts tell, where each is told by the one before it
+  -- what the counts tell, if each is told by the one before it
   pub settled : (R B : ℕ → Type 0) (before counts : List Bool)
       → R 0 ↔ B 0
       → ((i : ℕ) (a : A) → slice_get steps i ≡ Some a → R (i + 1) ↔ (B (i + 1) ⊎ (R i × S i a)))
@@ -100,7 +100,7 @@ module _ {M O A B : Type 0} (legal : Ends M O → Event A B → Type 0) (first_a
   abbrev May : List A → List B → Event A B → Type 0
   May zs ys e = legal (ends_after legal first_after second_after p zs ys) e
 
-  -- the same by the half of the second end
+  -- an event is legal by the half of the second end
   abbrev At : List A → O → Event A B → Type 0
   At zs o e = legal (record { first = (ends_after legal first_after second_after p zs []).first; second = o }) e
 
@@ -153,7 +153,7 @@ module _ {M O A B : Type 0} (legal : Ends M O → Event A B → Type 0) (first_a
         first each;
   }
 
-  -- the same by the second end's halves before and after the step
+  -- the counts after one step more, by the second end's halves before and after it
   pub open_step : (ys : List B) (b : B) (here next : O) (before passed counts : List Bool) → here ≡ (ends_after legal first_after second_after p [] ys).second → next ≡ second_after here b
       → AreOpen legal first_after second_after p xs ys before
       → length counts ≡ length xs + 1

@@ -41,11 +41,11 @@ module _ {P A B : Type 0} (legal : P → Event A B → Type 0) (next : P → Eve
         let cut : Cut point later looks [] [] = record { before = h; may_a = (may h).0; may_b = (may h).1; behind = record { order = []; is_legal = tt; of_one = refl; of_two = refl } } in
         join_cut from point xs (later ++ a ∷ []) ys (looks ++ b ∷ []) c (joined_at legal next firsts seconds a b known_first known_second m point later looks [] [] cut)
 
-    -- the lists with the meeting have an order exactly where those before it go on
+    -- the lists with the meeting have an order exactly if those before it go on
     pub meeting_exact : May → HasOrder legal next point later looks ↔ HasOrder legal next from (xs ++ (later ++ a ∷ [])) (ys ++ (looks ++ b ∷ []))
     meeting_exact may = (with_meeting may, λ h. (cut_there [] [] (c.goes_on (later ++ a ∷ []) (looks ++ b ∷ []) h)).before)
 
-    -- and they are cut at it, where each order before it leaves the same point
+    -- the lists are cut at the meeting, if each order before it leaves the same point
     pub cut_meets : May → (left : P) → ((h : HasOrder legal next point later looks) → after legal next point h.order ≡ left) → HasOrder legal next point later looks
         → IsCutAt legal next from (next (next left (one a)) (two b)) (xs ++ (later ++ a ∷ [])) (ys ++ (looks ++ b ∷ []))
     unfolding with_meeting join_cut joined_at

@@ -1,4 +1,4 @@
--- The lists of a pipe's ends have the pipe's history exactly where they have a legal order, by which the frames taken begin those put.
+-- The lists of a pipe's ends have the pipe's history exactly if they have a legal order, by which the frames taken begin those put.
 use Rattle.std.specs.Prelude.{◌↔◌}
 use Rattle.std.proofs.Common.{◌≡◌, ℕ, ◌+◌, ◌-◌, ◌≤◌, ◌&&◌, true, true≢false, List, [], ◌∷◌, ◌++◌, length, take, refl, sym, ap, ◌∙◌, subst, arith, length-append, append_assoc}
 use Rattle.std.specs.List.{list_all}
@@ -207,6 +207,6 @@ order_of p h =
     let g = goes_on p.size h.history.order [] pipe.start tt (record { put = refl; taken = refl; shown = refl; puts = refl; takes = refl }) h.history.is_legal in
     (record { order = g.more; legal = g.legal_is; client_is = g.client_is ∙ h.history.of_one; server_is = g.server_is ∙ h.history.of_two; hand_is = g.hand_is }, h.begins)
 
--- the one exactly where the other
+-- the one exactly if the other
 pub pipe_exact : (p : PipeKept) → AreEnds p → HasPipeOrder p ↔ HasPipeHistory p.size p.puts p.put p.takes p.taken
 pipe_exact p ends = (history_of p ends, order_of p)

@@ -1,4 +1,4 @@
--- What is kept of the pipe follows each step of a round, and each meeting is judged exactly where all turns were legal.
+-- What is kept of the pipe follows each step of a round, and each meeting is judged exactly if all turns were legal.
 use Rattle.std.specs.Prelude.{if◌then◌else◌, ◌==◌, nat_le, ◌↔◌}
 use Rattle.std.specs.List.{list_all}
 use Rattle.std.proofs.Common.{◌≡◌, ℕ, suc, ◌+◌, ◌-◌, ◌%◌, ◌^◌, ◌≤◌, ◌&&◌, Bool, true, false, List, [], ◌∷◌, ◌++◌, fold, length, map, refl, sym, ap, ◌∙◌, subst, arith, append_assoc, append-nil, length-append}
@@ -66,7 +66,7 @@ pipe_ended s run p h = by_case run.normal.ended
     by_case true = record { size = h.size; cells = h.cells; puts = h.puts; takes = h.takes; put = h.put; taken = h.taken }
     by_case false = h
 
--- what a mix tells of the pipe, where so many frames were taken
+-- what a mix tells of the pipe, if so many frames were taken
 abbrev mix_told : EntrySeen → ℕ → List ServerEvent
 mix_told e n = server.SawRear (entry_slot e.entry 0).rear ∷ server.SawFront (wrapped n) ∷ takes_shown (entry_slot e.entry 0).seen
 
@@ -76,7 +76,7 @@ mixed_by e p mixed = if mixed then record p { told = p.told ++ map two (mix_told
 abbrev looked_by : List Frame → EntrySeen → PipeKept → Bool → PipeKept
 looked_by frames e p mixed = if mixed then with_look (entry_slot e.entry 0).rear (entry_slot e.entry 0).seen (frames_taken frames (entry_slot e.entry 0)) p else p
 
--- an entry takes what it shows, where its frames stand in the log
+-- an entry takes what it shows, if its frames stand in the log
 pub pipe_mixed : (s : Session) (e : EntrySeen) (run : Run) (p : PipeKept) (frames : List Frame) → frames_taken frames (entry_slot e.entry 0) ≡ slot_frames e 0 → PipeOf s run p → PipeOf s (with_mix s e run) (pipe_played frames e.entry p)
 unfolding with_mix
 pipe_mixed s e run p frames stands h = record {
@@ -112,7 +112,7 @@ pipe_mixed s e run p frames stands h = record {
     by_taken true = λ j. h.taken j ++ map packed_word (stands j)
     by_taken false = h.taken
 
--- what a turn tells of it, and leaves
+-- what a turn tells of the pipe, and leaves
 abbrev put_told : Session → Turn → ℕ → ℕ → ℕ → List ClientEvent
 put_told s e size cells put = client.SawFront (front_by_room size put e.room) ∷ releases_of cells put (length (frames_put (setup_of s) e.mixes))
 
@@ -333,7 +333,7 @@ ends_turned s marks f m e p legal size h = by_case e.ended refl
 
 -- ## Meetings
 
--- the judge's answer is that of the run, where the lists are those of ends
+-- the judge's answer is that of the run, if the lists are those of ends
 pub pipe_judged : (s : Session) (run : Run) (p : PipeKept) → PipeOf s run p → AreEnds p → HasPipeOrder (with_meeting p) ↔ HasPipeTold (pipe_size (setup_of s)) (met s run).pipe
 pipe_judged s run p h are =
     let after = pipe_met_so s run p h in

@@ -12,7 +12,7 @@ use Rattle.af_judge.specs.Servers.{most_counted}
 capped : (place n : ℕ) → min most_counted (min most_counted place + n) ≡ min most_counted (place + n)
 capped place n = omega arith
 
--- one word more
+-- one word more is placed
 pub placed_more : (place : ℕ) (words : List ℕ) (word : ℕ) → placed_from place (words ++ word ∷ []) ≡ placed_from place words ++ record { at = min most_counted (place + length words); word = word } ∷ []
 placed_more place [] word = ap (λ (n : ℕ). let ts : List Taken = record { at = min most_counted n; word = word } ∷ [] in ts) (let e : place ≡ place + 0 = omega arith in e)
 placed_more place (w ∷ words) word =
@@ -31,15 +31,15 @@ placed_capped place (w ∷ words) =
 
 -- ## Words known to be released at their places
 
--- one word more
+-- one word more is known
 pub known_more : (released : List ℕ) (taken : List Taken) (at : ℕ) (t : Taken) → at < length taken → t ≡ get_or taken at t → All (IsReleased released) (take at taken) → IsReleased released t → All (IsReleased released) (take (at + 1) taken)
 known_more released taken at t inside is known one = All-more (IsReleased released) taken at t inside known (subst (IsReleased released) is one)
 
--- they are all, where their number is
+-- all words are known, if their number is reached
 pub all_known : (released : List ℕ) (taken : List Taken) (n : ℕ) → length taken ≤ n → All (IsReleased released) (take n taken) → All (IsReleased released) taken
 all_known released taken n all known = subst (All (IsReleased released)) (take_all n taken all) known
 
--- where all are, the first that isn't has the number of all
+-- if all are, the first that isn't has the number of all
 pub all_ends : (released : List ℕ) (taken : List Taken) (n : ℕ) → n ≤ length taken → ((t : Taken) → slice_get taken n ≡ Some t → IsReleased released t → ⊥) → All (IsReleased released) taken → n ≡ length taken
 all_ends released [] n within ends all = omega (arith, within)
 all_ends released (t ∷ taken) zero within ends all = absurd (ends t refl (All-head (IsReleased released) t taken all))
@@ -65,7 +65,7 @@ pub record Ends (w : Words) (n : ℕ) : Type 0 where
   pub known : All (IsReleased w.released) (take n w.taken)
   pub ends : (t : Taken) → slice_get w.taken n ≡ Some t → IsReleased w.released t → ⊥
 
--- then all are where n is their number, and else not
+-- all words are known if n is their number, and else not
 pub all_by : (v w : Words) (n len : ℕ) → v ≡ w → len ≡ length w.taken → len ≤ n → Ends w n → All (IsReleased v.released) v.taken
 all_by v w n len is long all e = subst (λ (x : Words). All (IsReleased x.released) x.taken) (sym is) (all_known w.released w.taken n (omega (arith, long, all)) e.known)
 

@@ -334,11 +334,11 @@ module _ (frames : ℕ) (states : List FastState) (current : ℕ) (told : QueueT
         (meeting_exact queued.legal queued.next (λ p. p.mutator.count) (λ p. p.observer.count) (mutator.Learn learnt) (observer.Learn known) known learnt (queue_meeting learnt known)
         (queued.start (initial frames)) h.point h.firsts h.later h.seconds h.also h.cut first_known second_known may_meet)
 
-    -- the numbers have a legal order exactly where the run's queue has its history
+    -- the numbers have a legal order exactly if the run's queue has its history
     pub follows_exact : HasRoundOrder q ↔ HasQueueHistory frames (queue_met told)
     follows_exact = ((λ r. order_told.0 (order_exact.1 r)), (λ r. order_exact.0 (order_told.1 r)))
 
-    -- and where it has, what is kept follows the run after the meeting
+    -- if there is an order, what is kept follows the run after the meeting
     pub follows_meeting : HasRoundOrder q → QueueFollows frames states current (queue_met told) (met q)
     follows_meeting r =
         let g = order_exact.1 r in

@@ -1,4 +1,4 @@
--- The ends of the state queue have a legal order exactly where the numbers of their steps have one.
+-- The ends of the state queue have a legal order exactly if the numbers of their steps have one.
 use Rattle.std.specs.Prelude.{◌↔◌, ◌≢◌, if◌then◌else◌, ◌==◌}
 use Rattle.std.proofs.Common.{◌≡◌, ℕ, ◌+◌, ◌-◌, ◌<◌, ◌≤◌, ◌&&◌, ◌||◌, not, Bool, true, false, true≢false, List, [], ◌∷◌, length, Option, Some, None, refl, sym, ap, ◌∙◌, subst, arith, eqb-true, eq-eqb}
 use Rattle.std.proofs.lemmas.List.FromFn.{length-map-range_with_len, get_or-map-range_with_len}
@@ -318,7 +318,7 @@ module _ (state : ℕ → FastState) (f : Follow state) where
 
   -- ## Both ways
 
-  -- between two meetings the events have a legal order exactly where the numbers of their steps have one
+  -- between two meetings the events have a legal order exactly if the numbers of their steps have one
   pub queue_exact : (q : QueuePoint Item) (n : Numbers) (seen : Bool) (current : ℕ) (xs : List (MutatorEvent Item)) (ys : List (ObserverEvent Item)) (ss : List MutatorStep) (ls : List ObserverStep) → Fits state q n seen current
       → TellsSteps state n.first.pushed seen xs ss → TellsLooks state current ys ls → HasOrder queued.legal queued.next q xs ys ↔ HasStepOrder n.first ss n.second ls
   queue_exact q n seen current xs ys ss ls t a b = (
@@ -328,7 +328,7 @@ module _ (state : ℕ → FastState) (f : Follow state) where
     λ h. from_numbers h.order q n seen current xs ys t (subst (λ l. TellsSteps state n.first.pushed seen xs l) (sym h.of_one) a) (subst (λ l. TellsLooks state current ys l) (sym h.of_two) b) h.is_legal,
   )
 
-  -- and the points fit after any such order, by what all these steps leave
+  -- the points fit after any such order, by what all these steps leave
   pub fits_after : (q : QueuePoint Item) (n : Numbers) (seen : Bool) (current : ℕ) (xs : List (MutatorEvent Item)) (ys : List (ObserverEvent Item)) (ss : List MutatorStep) (ls : List ObserverStep) → Fits state q n seen current
       → TellsSteps state n.first.pushed seen xs ss → TellsLooks state current ys ls → (h : HasOrder queued.legal queued.next q xs ys)
       → (let m = ends_after may_step mutator_after observer_after n ss ls in Fits state (after queued.legal queued.next q h.order) m m.first.clear m.second.acked)
@@ -338,7 +338,7 @@ module _ (state : ℕ → FastState) (f : Follow state) where
       after_lists may_step mutator_after observer_after n r.order ∙ (λ j. ends_after may_step mutator_after observer_after n (r.of_one j) (r.of_two j)) in
       subst (λ (k : Numbers). Fits state (after queued.legal queued.next q h.order) k k.first.clear k.second.acked) m r.fits
 
-  -- before any event, where the state 0 is the one before the first push
+  -- the points fit before any event, if the state 0 is the one before the first push
   pub fits_start : Fits state (queued.start (state 0)) (numbers queue_begins.mutator queue_begins.observer) true 0
   fits_start = record {
     pushed = refl;
@@ -358,7 +358,7 @@ module _ (state : ℕ → FastState) (f : Follow state) where
     due_is = λ h. absurd (h refl);
   }
 
-  -- a meeting changes nothing, where nothing is to be acknowledged
+  -- a meeting changes nothing, if nothing is to be acknowledged
   pub fits_met : (q : QueuePoint Item) (n : Numbers) (seen : Bool) (current learnt known : ℕ) → Fits state q n seen current → n.second.due ≡ 0
       → Fits state (queued.next (queued.next q (one (mutator.Learn learnt))) (two (observer.Learn known))) n seen current
   fits_met q n seen current learnt known t none = record {

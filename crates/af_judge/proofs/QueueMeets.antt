@@ -40,7 +40,7 @@ module _ {P : Type 0} where
   observer_keeps c p (observer.Ack k items) may = may
   observer_keeps c p (observer.Learn count) may = (one_up count p.mutator.count may.0, may.1)
 
-  -- the ends of the queue meet, where the observer did so many events before and the mutator so many
+  -- the ends of the queue meet, when the observer did so many events before and the mutator so many
   pub queue_meeting : (looks steps : ℕ) → IsMeeting (queued.legal {P = P}) queued.next (λ p. p.mutator.count) (λ p. p.observer.count) (mutator.Learn looks) (observer.Learn steps) steps looks
   queue_meeting looks steps = record {
     first_counts = mutator_counts;
@@ -78,7 +78,7 @@ module _ {T : Type 0} where
   writer_swaps c p (writes.Store x) = refl
   writer_swaps c p (writes.Learn count) = refl
 
-  -- the ends of a newest-value cell meet, where the reader did so many events before and the writer so many
+  -- the ends of a newest-value cell meet, when the reader did so many events before and the writer so many
   pub cell_meeting : (loads stores : ℕ) → IsMeeting (newest.legal {T = T}) newest.next (λ p. p.writes) (λ p. p.reads) (writes.Learn loads) (reads.Learn stores) stores loads
   cell_meeting loads stores = record {
     first_counts = writer_counts;

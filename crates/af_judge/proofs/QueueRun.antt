@@ -72,7 +72,7 @@ goes_polled s k run q low h =
     by_case true e = follows_poll (cycle_frames s) run.states run.current run.queue q h k low
     by_case false e = let beyond = leb-false k (length run.states) e in absurd (omega (arith, low, beyond))
 
--- and any poll
+-- what is kept of the queue follows any poll
 pub queue_polled : (s : Session) (k : ℕ) (run : Run) (q : QueueKept) → QueueOf s run q → QueueOf s (with_poll s k run) (with_looks (poll_steps run.current k) q)
 unfolding with_poll
 queue_polled s k run q (inr h) = inr (stays_lost (length run.states) run.queue q (poll_events (cycle_frames s) run.states run.current k) (poll_steps run.current k) h)
@@ -130,7 +130,7 @@ queue_turned s f e run q going_on pushed opens h =
     subst (λ (l : List (MutatorEvent Item) × List MutatorStep). QueueFollows frames (run.states ++ pushed_if (is_pushed e.push) draft) run.current (mutator_does l.0 run.queue) (with_steps l.1 q))
     (λ j. (sym events j, sym (steps_by_last c k run.normal e last going_on pushed opens) j)) here
 
--- as many states are there as the mixer pushed
+-- there are as many states as the mixer pushed
 push_counts : (push : Push) (m : NormalKept) (last : ℕ) (draft : FastState) (states : List FastState) → m.pushed ≡ length states → (after_push push m).pushed ≡ length (states ++ pushed_if (is_pushed push) draft)
 push_counts pushing.Clean m last draft states is = is ∙ ap (λ l. length l) (sym (append-nil states))
 push_counts (pushing.Busy x y) m last draft states is = is ∙ ap (λ l. length l) (sym (append-nil states))
@@ -157,7 +157,7 @@ unfolding met
 queue_judged s run q f (inl h) = follows_exact (cycle_frames s) run.states run.current run.queue q f h
 queue_judged s run q f (inr h) = lost_exact (cycle_frames s) (length run.states) run.queue q h
 
--- and what is kept follows the run after the meeting
+-- what is kept of the queue follows the run after the meeting
 pub queue_met : (s : Session) (run : Run) (q : QueueKept) → Follow (state_at (cycle_frames s) run.states) → QueueOf s run q → HasRoundOrder q → QueueGoes s (met s run) (met_kept q)
 unfolding met
 queue_met s run q f (inl h) r = follows_meeting (cycle_frames s) run.states run.current run.queue q f h r

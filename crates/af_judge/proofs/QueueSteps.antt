@@ -65,7 +65,7 @@ module _ {A B : Type 0} where
   ones_stay (one a ∷ told) ys = ap (λ l. a ∷ l) (ones_stay told ys)
   ones_stay (two b ∷ told) ys = ones_stay told ys
 
-  -- both met
+  -- the list of the first end once both met
   pub ones_met : (told : List (Event A B)) (a : A) (b : B) → ones (told ++ one a ∷ two b ∷ []) ≡ ones told ++ a ∷ []
   ones_met [] a b = refl
   ones_met (one x ∷ told) a b = ap (λ l. x ∷ l) (ones_met told a b)
@@ -175,7 +175,7 @@ none_found n (two (looks.Found number) ∷ es) p few (inl h) l = let e = l.0.0 i
 none_found n (two (looks.Found number) ∷ es) p few (inr h) l = none_found n es (ends_next may_step mutator_after observer_after p (two (looks.Found number))) few h l.1
 none_found n (two (looks.Acknowledged number) ∷ es) p few h l = none_found n es (ends_next may_step mutator_after observer_after p (two (looks.Acknowledged number))) few h l.1
 
--- nor have the events
+-- the events have no legal order with it
 pub none_seen : (n : ℕ) (es : List (Event (MutatorEvent Item) (ObserverEvent Item))) (p : QueuePoint Item) → p.mutator.pushed + pushes_told (ones es) ≤ n → SeesBeyond n (twos es) → Legal queued.legal queued.next p es → ⊥
 none_seen n [] p few h l = h
 none_seen n (one (mutator.SawAck a items) ∷ es) p few h l = none_seen n es (queued.next p (one (mutator.SawAck a items))) few h l.1
@@ -233,11 +233,11 @@ push_told last pushing.Clean draft again sent = []
 push_told last (pushing.Busy seen expected) draft again sent = mutator.SawAck (last - 1) again ∷ []
 push_told last (pushing.Pushed number) draft again sent = (if last == 0 then [] else mutator.SawAck last again ∷ []) ++ mutator.Push number draft sent ∷ []
 
--- the items that a look at this number brings, where the last state was seen acknowledged or not
+-- the items that a look at this number brings, by whether the last state was seen acknowledged
 abbrev pub brought_if : ℕ → ℕ → Bool → List (Option Item) → List (Option Item)
 brought_if last a seen back = if (a == last) && not seen then back else []
 
--- the items that the look before a push brings: none where the first look of the turn saw the last state
+-- the items that the look before a push brings: none if the first look of the turn saw the last state
 abbrev pub brought_again : ℕ → Bool → Push → Bool → List (Option Item) → List (Option Item)
 brought_again last ack push seen back = if is_pushed push && not ack then brought_if last last seen back else []
 
@@ -313,7 +313,7 @@ turn_told last (pushing.Pushed number) draft again sent = by_case (last == 0)
     by_case true = refl
     by_case false = refl
 
--- its looks see no number beyond the last one
+-- the looks of a push see no number beyond the last one
 pub turn_sees : (k last : ℕ) (push : Push) (draft : FastState) (again sent : List (Option Item)) → last < k → list_any (is_look_at k) (push_told last push draft again sent) ≡ false
 turn_sees k last pushing.Clean draft again sent h = refl
 turn_sees k last (pushing.Busy x y) draft again sent h = ap (λ b. b || false) (ne_eqb (last - 1) k (λ e. omega (arith, h, e)))
@@ -372,7 +372,7 @@ seen_here : (clear : Bool) (number pushed : ℕ) → (clear ≡ true → number 
 seen_here true number pushed h = sym (eq-eqb number pushed (h refl))
 seen_here false number pushed h = refl
 
--- and the last state was seen acknowledged as the steps say
+-- the last state was seen acknowledged as the steps say
 pub seen_counts : (es : List (Event MutatorStep ObserverStep)) (p : Numbers) → IsBetween p → Legal may_step next_number p es → seen_after p.first.pushed p.first.clear (ones es) ≡ (mutated p.first (ones es)).clear
 seen_counts [] p b l = refl
 seen_counts (one (steps.Saw number) ∷ es) p b l =

@@ -199,7 +199,7 @@ module _ (reports : List Report) (told : ReportTold) (r : ReportKept) (h : Repor
       (meeting_exact newest.legal newest.next (λ p. p.writes) (λ p. p.reads) (writes.Learn learnt) (reads.Learn known) known learnt (cell_meeting learnt known)
       (newest.start no_report) h.point h.firsts (stores values) h.seconds loads h.cut first_known second_known may_meet)
 
-  -- the load is right exactly where the report has its history
+  -- the load is right exactly if the report has its history
   pub report_exact : IsLoadOf (length reports) r ↔ HasReportHistory (report_met told)
   report_exact = ((λ b. order_told.0 ((by_load r.loaded).1 b)), (λ g. (by_load r.loaded).0 (order_told.1 g)))
 

@@ -1,4 +1,4 @@
--- The report that a turn of the normal mixer finds is the one that the judge tells.
+-- The report that a turn of the normal mixer finds is the one that the judge has.
 use Rattle.std.specs.Prelude.{slice_index_or, max, min}
 use Rattle.std.proofs.Common.{◌≡◌, ◌⊎◌, inl, inr, ℕ, suc, ◌+◌, ◌-◌, ◌<◌, ◌≤◌, ◌==◌, Bool, false, if◌then◌else◌, ne_eqb, refl, sym, ap, ◌∙◌, fold, List, [], ◌∷◌, ◌++◌, append_assoc, append-nil, length, take, drop, length-append, arith}
 use Rattle.std.proofs.lemmas.Bool.{cases_lt}
@@ -45,7 +45,7 @@ report_at_end (x ∷ xs) more =
     ap (λ (b : Bool). if b then no_report else slice_index_or all (suc (length xs) - 1) (last_report all)) some
     ∙ (ap (λ (n : ℕ). slice_index_or all n (last_report all)) place ∙ sym (last-at no_report x xs more (last_report all)))
 
--- that of a number is at the place before it
+-- the report of a number is at the place before it
 pub report_at_place : (xs : List Report) (n : ℕ) → 1 ≤ n → report_of xs n ≡ slice_index_or xs (n - 1) (last_report xs)
 report_at_place xs n some = ap (λ (b : Bool). if b then no_report else slice_index_or xs (n - 1) (last_report xs)) (ne_eqb n 0 (λ e. omega (arith, some, e)))
 
@@ -75,9 +75,9 @@ cycles-split s n es run =
     ap (λ (xs : List EntrySeen). with_cycles s xs run) (sym (take-append-drop n es))
     ∙ fold-append (λ (r : Run) (e : EntrySeen). with_cycle s r e) run (take n es) (drop n es)
 
--- ## The report that the judge tells
+-- ## The report that the judge has
 
--- it is the last one before the round, one of the round so far, or one after entries that are still to come
+-- the judge's report is the last one before the round, one of the round so far, or one after entries that are still to come
 pub record IsReportTold (p : Playing) (run : Run) (late : List CycleEntry) (number : ℕ) (r : Report) : Type 0 where
   pub before : number ≤ p.fast.before.cycle → r ≡ p.fast.before
   pub ahead : p.fast.before.cycle < number → p.fast.told.report.cycle < number → r ≡ (entries_foreseen run.states (take (min (length late) (number - p.fast.told.report.cycle)) late) (foreseen (servers_at p.tracks) p.fast.told)).told.report
@@ -87,7 +87,7 @@ module _ (s : Session) (marks : Marks) (W : ℕ → Type 0) (earlier : List Repo
   abbrev all : List Report
   all = (with_cycles s late run).reports
 
-  -- its number is that of the entries
+  -- the number of the last report is that of the entries
   cycle-is : p.fast.told.report.cycle ≡ length run.reports
   cycle-is = let f = keeps.fast in ap (λ (r : Report). r.cycle) f.report ∙ (f.numbered.cycle ∙ sym f.numbered.many)
 
@@ -122,7 +122,7 @@ module _ (s : Session) (marks : Marks) (W : ℕ → Type 0) (earlier : List Repo
   -- ## One after entries that are still to come
 
   module _ (n : ℕ) where
-    -- after so many of them
+    -- the run after so many of the late entries
     abbrev after : Run
     after = with_cycles s (take n late) run
 

@@ -1,4 +1,4 @@
--- The report's cell between two meetings: a load has an order with the stores exactly where its number lies among theirs.
+-- The report's cell between two meetings: a load has an order with the stores exactly if its number lies among theirs.
 use Rattle.std.specs.Prelude.{◌↔◌}
 use Rattle.std.proofs.Common.{◌≡◌, ℕ, zero, suc, ◌+◌, ◌-◌, ◌≤◌, List, [], ◌∷◌, length, map, fold, get_or, refl, sym, ap, ◌∙◌, subst, arith}
 use Rattle.af_model.specs.declared.newest.WriterEvent.{WriterEvent}
@@ -77,7 +77,7 @@ module _ {T : Type 0} where
       later_load p x values number value (from_order es (next p (one (writes.Store x))) values number value (subst (λ z. Legal legal next (next p (one (writes.Store z))) es) same.0 l.1) same.1 f)
   from_order (one (writes.Learn count) ∷ es) p (x ∷ values) number value l e f = absurd (cc)
 
-  -- a load of a number with its value stands in an order with the stores exactly where the number is that of the value before them or of one of theirs
+  -- a load of a number with its value stands in an order with the stores exactly if the number is that of the value before them or of one of theirs
   pub load_exact : (p : CellPoint T) (values : List T) (number : ℕ) → HasOrder legal next p (stores values) (reads.Load number (value_at p values number) ∷ []) ↔ ((p.number ≤ number) × (number ≤ p.number + length values))
   load_exact p values number = (
     λ h. (let r = from_order h.order p values number (value_at p values number) h.is_legal h.of_one h.of_two in (omega (arith, r.is), omega (arith, r.is, r.few))),

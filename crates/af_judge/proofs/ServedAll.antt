@@ -15,7 +15,7 @@ use Rattle.af_life.proofs.Lives.{served_len, not_yet}
 pub seen_is : (turns : List TrackTurn) (i : ℕ) (t : TrackTurn) → i < length turns → t ≡ slice_index_or turns i t → seen_at (map track_seen turns) i ≡ track_seen t
 seen_is turns i t there is = lists.get_or-map track_seen turns i t nothing_seen there ∙ ap track_seen (sym is)
 
--- and its looks
+-- how many looks a turn made at the track of a number
 pub looks_are : (turns : List TrackTurn) (i : ℕ) (t : TrackTurn) (looks : List CommandLook) → i < length turns → t ≡ slice_index_or turns i t → looks ≡ t.looks.items → length looks ≡ length (seen_at (map track_seen turns) i).looks
 looks_are turns i t looks there is of = ap (λ (ls : List CommandLook). length ls) of ∙ sym (ap (λ (x : TrackSeen). length x.looks) (seen_is turns i t there is))
 

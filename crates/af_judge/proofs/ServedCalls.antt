@@ -27,7 +27,7 @@ side_served j k b y h is =
       follow = subst (AllFollow false) (sym servers) h.follow;
     }
 
--- after calls of its client, legal or not
+-- a track is kept after calls of its client, legal or not
 pub track_called : (marks : Marks) (n : ℕ) (j k : TrackJudge) (t : TrackTold) (calls : List ClientCall) → IsServedTrack marks n j t → SameServers j k → IsServedTrack marks n k (called calls t)
 track_called marks n j k t calls h same =
     let after = after_calls (sides_of t) calls in

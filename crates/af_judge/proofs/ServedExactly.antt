@@ -1,4 +1,4 @@
--- A track is served exactly where its parts are right.
+-- A track is served exactly if its parts are right.
 use Rattle.std.proofs.Common.{◌≡◌, ◌↔◌, ℕ, Bool, true, false, MatchBool, IsTrue, sym, refl, ap, ◌∙◌, subst, List, Option}
 use Rattle.af_base.specs.declared.turn.CommandLook.{CommandLook}
 use Rattle.af_base.specs.Turn.{TrackSeen}
@@ -26,7 +26,7 @@ served_by given h seen s word due told stored looks is_due disabled is_told is_w
       (λ (x : IsServed given h seen s). status.1 (x.status ∙ sym over)),
     )
 
--- where it isn't told as the report says it isn't served
+-- if a track isn't disabled as the report says, it isn't served
 pub untold : (given : Option ℕ) (h : Heard) (seen : TrackSeen) (s : TrackKept) (told : Bool) → (seen.disabled ≡ told → ⊥) → told ≡ told_by_report h.known (after_commands given h seen.looks s).life → IsServed given h seen s → ⊥
 untold given h seen s told other is_told x = other (x.disabled ∙ sym is_told)
 

@@ -16,11 +16,11 @@ use Rattle.af_judge.specs.RunTold.{IsServedBlock}
 use Rattle.af_judge.proofs.BlocksTold.{hand_told}
 use Rattle.af_judge.proofs.StepsTold.{commanded_kept, flags_kept, hand_kept, met_kept, played_kept, status_kept}
 
--- the same with the client's side of the block told
+-- what is judged of a block, with the client's side of the block told
 abbrev pub shadow : BlockJudged → BlockTold → BlockJudged
 shadow j b = record j { client = client_list b; released = b.released }
 
--- that is kept of it whole
+-- such a block is kept whole
 pub shadow_of : (j : BlockJudged) (b : BlockTold) → IsServedBlock j b → IsBlockOf (shadow j b) b
 shadow_of j b h = record { shape = h.shape; client = refl; server = h.server; hand = h.hand; released = refl; taken = h.taken; whole = h.whole; follow = h.follow }
 
@@ -54,7 +54,7 @@ flags_served j b bits h =
     let there = server_more (server.SetFlags bits ∷ []) (shadow j b) in
     served_beside there (server_more (server.SetFlags bits ∷ []) j) (server_does (server.SetFlags bits ∷ []) b) refl (served_of there (server_does (server.SetFlags bits ∷ []) b) (flags_kept (shadow j b) b bits (shadow_of j b h)))
 
--- it stored the status
+-- the server stored the status
 pub status_served : (j : BlockJudged) (b : BlockTold) (word : ℕ) → IsServedBlock j b → IsServedBlock (server_more (server.SetStatus word ∷ []) j) (server_does (server.SetStatus word ∷ []) b)
 status_served j b word h =
     let there = server_more (server.SetStatus word ∷ []) (shadow j b) in

@@ -7,7 +7,7 @@ use Rattle.af_model.specs.Cycles.{Listed}
 use Rattle.af_judge.specs.declared.server_judge.ServerJudge.{ServerJudge}
 use Rattle.af_judge.specs.Foresight.{no_server, server_changed, server_of}
 
--- one that is there
+-- a server that is there is changed
 pub server_there : (js : List ServerJudge) (ss : List Listed) (track : ℕ) (change : Listed → Listed) (d j : ServerJudge) → js ≡ map server_of ss → track < length js
     → ((s : Listed) → get_or js track d ≡ server_of s → j ≡ server_of (change s)) → slice_set js track j ≡ map server_of (server_changed track change ss)
 server_there js ss track change d j is low changed =
@@ -19,7 +19,7 @@ server_there js ss track change d j is low changed =
     ∙ (sym (map-set server_of ss track (change s))
     ∙ ap (λ (o : Option Listed). map server_of (elim o as (λ x. List Listed) [ None ↦ ss | Some z ↦ slice_set ss track (change z) ])) (sym there))
 
--- one that isn't
+-- a server that isn't there changes nothing
 pub server_absent : (js : List ServerJudge) (ss : List Listed) (track : ℕ) (change : Listed → Listed) → js ≡ map server_of ss → length js ≤ track → js ≡ map server_of (server_changed track change ss)
 server_absent js ss track change is past =
     let long : length ss ≤ track = subst (λ n. n ≤ track) (ap length is ∙ length-map ss server_of) past in

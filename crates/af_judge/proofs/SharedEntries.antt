@@ -54,7 +54,7 @@ module _ (s : Session) (marks : Marks) (W : ℕ → Type 0) (earlier : List Repo
       (entry_keeps s marks W earlier frames p run e formed.0 keeps) (goes_entry p run e keeps low.0 h) in
       subst (λ (xs : List FastState). QueueGoes s (with_cycles s es (with_cycle s run e)) (entries_leave xs frames (entries_in es) (entry_leaves run.states frames e.entry p)).fast.queue) same rest
 
-  -- and any
+  -- what is kept of the queue follows any entries
   pub entries_queue : (es : List EntrySeen) (p : Playing) (run : Run) (place : ℕ) → AreFormed frames place es → KeepsPlaying s marks W earlier p run → QueueOf s run p.fast.queue
       → QueueOf s (with_cycles s es run) (entries_leave run.states frames (entries_in es) p).fast.queue
   entries_queue [] p run place formed keeps h = h

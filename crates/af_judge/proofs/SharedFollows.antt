@@ -23,7 +23,7 @@ use Rattle.af_judge.proofs.PipeFollows.{ends_first, ends_met, ends_mixed, ends_t
 use Rattle.af_judge.proofs.QueueRun.{PushesOpen, goes_mixed, goes_polled, pushed_turned, queue_judged, queue_met, queue_mixed, queue_polled}
 use Rattle.af_judge.proofs.ReportFollows.{loaded_by, report_called, report_ended, report_first, report_judged, report_met_so, report_mixed, report_of_turn, report_polled, report_turned}
 
--- before the first round
+-- what is kept beside the queue before the first round
 pub beside_first : (s : Session) → pipe_size (setup_of s) ≤ 65536 → BesideQueue s (new_run s) (record { met = 0; loaded = None }) (new_pipe (pipe_size (setup_of s)) (pipe_cells (setup_of s)))
 beside_first s small = record { report = report_first s; pipe = pipe_first s; ends = ends_first (pipe_size (setup_of s)) (pipe_cells (setup_of s)) small; pushed = refl }
 
@@ -49,7 +49,7 @@ beside_mixed s e run r p frames stands none h = record {
 pub beside_cycle : (s : Session) (e : EntrySeen) (run : Run) (r : ReportKept) (p : PipeKept) (frames : List Frame) → StandsIn frames e → r.loaded ≡ None → BesideQueue s run r p → BesideQueue s (with_cycle s run e) r (pipe_played frames e.entry p)
 beside_cycle s e run r p frames stands none h = beside_mixed s e (with_poll s e.entry.state run) r p frames stands none (beside_polled s e.entry.state run r p h)
 
--- one of a state that was pushed, and any
+-- what is kept of the queue follows a cycle of a state that was pushed, and any cycle
 pub goes_cycle : (s : Session) (e : EntrySeen) (run : Run) (q : QueueKept) → e.entry.state ≤ length run.states → QueueGoes s run q → QueueGoes s (with_cycle s run e) (with_looks (poll_steps run.current e.entry.state) q)
 goes_cycle s e run q low h = goes_mixed s e (with_poll s e.entry.state run) (with_looks (poll_steps run.current e.entry.state) q) (goes_polled s e.entry.state run q low h)
 
@@ -79,7 +79,7 @@ shared_judged s run q r p f queue h =
     let three = pipe_judged s run p h.pipe h.ends in
     ((λ a. record { queue = one.0 a.queue; report = two.0 a.report; pipe = three.0 a.pipe }), (λ a. record { queue = one.1 a.queue; report = two.1 a.report; pipe = three.1 a.pipe }))
 
--- and what is kept after it follows the run
+-- what is kept beside the queue follows the run after the meeting
 pub beside_met : (s : Session) (run : Run) (q : QueueKept) (r : ReportKept) (p : PipeKept) → AreRight (length run.reports) q r p → BesideQueue s run r p → BesideQueue s (met s run) (record { met = length run.reports; loaded = None }) (with_meeting p)
 unfolding met
 beside_met s run q r p a h = record { report = report_met_so s run r h.report a.report; pipe = pipe_met_so s run p h.pipe; ends = ends_met p h.ends; pushed = h.pushed }

@@ -1,4 +1,4 @@
--- A look that answers right by some front answers right by the one that its answer tells.
+-- A look that answers right by some front answers right by the one that its answer gives.
 use Rattle.std.proofs.Common.{◌≡◌, ◌↔◌, IsTrue, ℕ, ◌+◌, ◌-◌, ◌%◌, ◌<◌, ◌≤◌, ◌^◌, ◌==◌, ◌&&◌, ◌||◌, not, nat_lt, min, Bool, true, false, if◌then◌else◌, MatchOption, Option, Some, None, refl, sym, ap, ◌∙◌, subst, arith, eqb-true, ne_eqb, mod-lt}
 use Rattle.std.proofs.lemmas.Bool.{eqb-false}
 use Rattle.std.proofs.lemmas.Bool.Decides.{nat_tests}
@@ -16,7 +16,7 @@ use Rattle.af_runs.specs.Fronts.{behind, flushed_front, front_by_answer}
 
 -- ## Words
 
--- so many past the word before it
+-- a word lies so many past the word that lies so many before it
 ahead-behind : (to count : ℕ) → to < 2 ^ 32 → count < 2 ^ 32 → ahead (behind to count) to ≡ count
 ahead-behind to count word few = omega arith
 
@@ -61,7 +61,7 @@ flushes-so : (k : Shape) (kept asked flush rear other dropped : ℕ) → is_noti
 flushes-so k kept asked flush rear other dropped noticed is =
     ap (λ (b : Bool). if b then seen.Flushed (dropped_by k.wrap flush rear other) else if nat_lt k.frames (ahead other rear) then seen.Shut other rear else if rear == other then seen.Empty else seen.Frames (min asked (ahead other rear))) noticed ∙ ap seen.Flushed is
 
--- one that shows frames
+-- a look by another front that shows frames
 frames-so : (k : Shape) (kept asked flush rear other count : ℕ) → is_noticed k (not (flush == kept)) rear other ≡ false → nat_lt k.frames (ahead other rear) ≡ false → (rear == other) ≡ false → min asked (ahead other rear) ≡ count
     → look_at k kept asked flush rear other ≡ seen.Frames count
 frames-so k kept asked flush rear other count noticed out same is =
@@ -71,7 +71,7 @@ frames-so k kept asked flush rear other count noticed out same is =
 abbrev slot_of : (flush rear : ℕ) → Seen → SlotEntry
 slot_of flush rear sight = record { gains = 0; flush = flush; rear = rear; seen = sight; first = 0 }
 
--- of a block whose flushes are counted
+-- a look at a block whose flushes are counted
 flat-flush : (k : Shape) (kept asked flush rear front : ℕ) → rear < 2 ^ 32 → (k.wrap == 0) ≡ true → is_noticed k (not (flush == kept)) rear front ≡ true
     → look_at k kept asked flush rear (flushed_front k.wrap flush rear (dropped_by k.wrap flush rear front)) ≡ seen.Flushed (dropped_by k.wrap flush rear front)
 flat-flush k kept asked flush rear front word flat noticed =
@@ -91,7 +91,7 @@ past-by false x some = absurd (some refl)
 and-new : (new b : Bool) → (new && b) ≡ true → new ≡ true
 and-new new b h = both_left new b h
 
--- of a block whose flush words carry positions, where nothing is dropped
+-- a look at a block whose flush words carry positions, if nothing is dropped
 none-dropped : (k : Shape) (kept asked flush rear : ℕ) → rear < 2 ^ 32 → ahead flush rear % k.wrap < 2 ^ 31 → (k.wrap == 0) ≡ false → not (flush == kept) ≡ true → look_at k kept asked flush rear rear ≡ seen.Flushed 0
 none-dropped k kept asked flush rear word few placed new =
     let inside : nat_lt k.frames (ahead rear rear) ≡ false = ap (nat_lt k.frames) (ahead-same rear word) ∙ nat_lt-no k.frames 0 (omega arith) in
@@ -100,7 +100,7 @@ none-dropped k kept asked flush rear word few placed new =
     ap (λ (b : Bool). if b then ahead rear rear else past_front rear (flush_position k.wrap flush rear)) placed ∙ past-before rear (ahead flush rear % k.wrap) word few in
     flushes-so k kept asked flush rear rear 0 noticed dropped
 
--- and where some frames are
+-- a look at a block whose flush words carry positions, if some frames are dropped
 some-dropped : (k : Shape) (kept asked flush rear front : ℕ) → (k.wrap == 0) ≡ false → is_noticed k (not (flush == kept)) rear front ≡ true → (past_front front (flush_position k.wrap flush rear) ≡ 0 → ⊥)
     → look_at k kept asked flush rear (behind (flush_position k.wrap flush rear) (past_front front (flush_position k.wrap flush rear))) ≡ seen.Flushed (past_front front (flush_position k.wrap flush rear))
 some-dropped k kept asked flush rear front placed noticed some =
@@ -142,7 +142,7 @@ and-true : (b : Bool) → (b && true) ≡ b
 and-true true = refl
 and-true false = refl
 
--- one that shows frames
+-- a look that shows frames does so by the front that lies so many before the rear
 frames-again : (k : Shape) (kept asked flush rear front : ℕ) → rear < 2 ^ 32 → is_noticed k (not (flush == kept)) rear front ≡ false → nat_lt k.frames (ahead front rear) ≡ false → 1 ≤ min asked (ahead front rear)
     → look_at k kept asked flush rear (behind rear (min asked (ahead front rear))) ≡ seen.Frames (min asked (ahead front rear))
 frames-again k kept asked flush rear front word noticed out some =
@@ -176,7 +176,7 @@ option-by : (A B : Type 0) (o : Option (ℕ × ℕ)) (C : ℕ × ℕ → Type 0)
 option-by A B None C f h = f h
 option-by A B (Some words) C f h = h
 
--- a look that answers by some front answers by the one that its answer tells
+-- a look that answers by some front answers by the one that its answer gives
 pub some_front : (asked : ℕ) (s : Listed) (slot : SlotEntry) (front : ℕ) → slot.rear < 2 ^ 32 → s.shape.wrap ≤ 2 ^ 31 → LooksBy asked s slot front → LooksBy asked s slot (front_by_answer s.shape slot)
 some_front asked s slot front word few looks =
     let k = s.shape in
@@ -187,7 +187,7 @@ some_front asked s slot front word few looks =
     ∙ ap (λ (sight : Seen). look_at k flush asked slot.flush slot.rear (front_by_answer k (slot_of slot.flush slot.rear sight))) (sym is)) in
     (looks.0, option-by (slot.seen ≡ look) (slot.seen ≡ look_at k flush asked slot.flush slot.rear (front_by_answer k slot)) (kept s).shut (λ words. (slot.seen ≡ seen.Shut words.0 words.1) × (slot.flush ≡ (kept s).flush) × (slot.rear ≡ words.1)) again looks.1)
 
--- a look is right where it answers by the front that it is judged by
+-- a look is right if it answers by the front that it is judged by
 pub looks_rightly : (lawful b : Bool) (asked : ℕ) (s : Listed) (slot : SlotEntry) → slot.rear < 2 ^ 32 → s.shape.wrap ≤ 2 ^ 31 → IsTrue b ↔ LooksBy asked s slot (front_judged lawful asked s slot) → IsTrue b ↔ LooksRightly lawful asked s slot
 looks_rightly true b asked s slot word few h = h
 looks_rightly false b asked s slot word few h = (λ yes. (front_by_answer s.shape slot, h.0 yes), λ found. h.1 (some_front asked s slot found.0 word few found.1))

@@ -42,14 +42,14 @@ at_here tracks i s lt = get_or-set_same tracks i s new_track lt
 pub at_other : (tracks : List TrackKept) (i : ℕ) (s : TrackKept) (j : ℕ) → j ≢ i → track_at (slice_set tracks i s) j ≡ track_at tracks j
 at_other tracks i s j ne = get_or-set_other tracks i j s new_track ne
 
--- a fact of each track, where one of the list was replaced
+-- a fact of each track, if one of the list was replaced
 pub each_set : (P : ℕ → TrackKept → Type 0) (tracks : List TrackKept) (i : ℕ) (s : TrackKept) → i < length tracks → P i s → ((j : ℕ) → j ≢ i → P j (track_at tracks j)) → (j : ℕ) → P j (track_at (slice_set tracks i s) j)
 each_set P tracks i s lt here others j = ⊎_elim
     (λ (e : j ≡ i). subst (λ (n : ℕ). P n (track_at (slice_set tracks i s) n)) (sym e) (subst (P i) (sym (at_here tracks i s lt)) here))
     (λ (ne : j ≢ i). subst (P j) (sym (at_other tracks i s j ne)) (others j ne))
     (cases_eq j i)
 
--- one that is lent or returning isn't home
+-- a proxy that is lent or returning isn't home
 pub lent_away : (h : Holder) → is_lent h ≡ true → is_home h ≡ false
 lent_away Home e = no e
 lent_away Lent e = refl
@@ -77,7 +77,7 @@ module _ (m : NormalKept) (sound : IsSound m.tracks m.draft) where
   pub apart : (i j : ℕ) → j ≢ i → holds (slot_number (track_at m.tracks i)) (track_at m.tracks i) ≡ true → is_home (track_at m.tracks j).holder ≡ false → slot_number (track_at m.tracks j) ≢ slot_number (track_at m.tracks i)
   apart i j ne here away same = ne (sound.alone j i (slot_number (track_at m.tracks i)) (subst (λ (k : ℕ). holds k (track_at m.tracks j) ≡ true) same (away_holds (track_at m.tracks j) (sound.slotted j) away)) here)
 
-  -- a draft that tells of another track what it told before
+  -- a draft that has at another slot what it had before
   abbrev SameAt : FastState → ℕ → Type 0
   SameAt draft k = (carries draft k ≡ carries m.draft k) × (slot_of draft k ≡ slot_of m.draft k)
 

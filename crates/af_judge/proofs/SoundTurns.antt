@@ -170,6 +170,6 @@ new_sound n frames draft e = record {
   state = subst IsState (sym e) (initial_state frames);
 }
 
--- and it holds before the first turn
+-- the mixer is sound before the first turn
 pub sound_new : (c : Setup) → Sound (new_normal c)
 sound_new c = new_sound (length c.settings) c.frames (new_normal c).draft refl

@@ -33,14 +33,14 @@ spelled-calls t (c ∷ calls) h made = spelled-calls (after_call t c) calls (spe
 pub spelled_turn : (t : Track) (calls : List ClientCall) → AreSpelled t → LegalClientTurn t calls → AreSpelled (after_calls t calls)
 spelled_turn t calls h legal = let s = spelled-calls t calls h (turn_makes t calls legal).made in record { stream = s.stream; commands = s.commands }
 
--- so do the server and the hand
+-- the server's events leave the client's list spelled
 pub spelled_server : (b : BlockTold) (es : List ServerEvent) → IsSpelled b.shape (client_list b) → IsSpelled b.shape (client_list (server_does es b))
 spelled_server b es h = subst (IsSpelled b.shape) (sym (server-client b.told es)) h
 
 pub spelled_hand : (b : BlockTold) (es : List HandEvent) → IsSpelled b.shape (client_list b) → IsSpelled b.shape (client_list (hand_does es b))
 spelled_hand b es h = subst (IsSpelled b.shape) (sym (hand-client b.told es)) h
 
--- and the meetings
+-- the meetings leave the client's list spelled
 pub spelled_met : (server_there hand_there : Bool) (b : BlockTold) → IsSpelled b.shape (client_list b) → IsSpelled b.shape (client_list (stream_met server_there hand_there b))
 spelled_met true true b h = list.meets (client_list b) _ h
 spelled_met true false b h = list.meets (client_list b) _ h

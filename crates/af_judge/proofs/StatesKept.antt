@@ -39,7 +39,7 @@ same_before [] x (suc k) le = absurd (let f : ⊥ = omega (arith, le) in f)
 same_before (y ∷ xs) x (suc zero) le = refl
 same_before (y ∷ xs) x (suc (suc k)) le = same_before xs x (suc k) (omega (arith, le))
 
--- it has the next number
+-- the new state has the next number
 last_there : (xs : List FastState) (x : FastState) → state_of (xs ++ x ∷ []) (suc (length xs)) ≡ Some x
 last_there [] x = refl
 last_there (y ∷ xs) x = last_there xs x
@@ -109,11 +109,11 @@ states_new s =
 -- ## A turn
 
 module _ (s : Session) (m : NormalKept) (states : List FastState) (h : StatesKept s m states) (n : NormalKept) (many : length n.tracks ≡ length m.tracks) (carried : Carried n) where
-  -- which pushed nothing
+  -- the states are kept after a turn which pushed nothing
   pub states_same : n.pushed ≡ m.pushed → n.last ≡ m.last → StatesKept s n states
   states_same pushed last = record { many = many ∙ h.many; carried = carried; pushed = pushed ∙ h.pushed; last = h.last ∙ sym last; apart = h.apart; within = h.within; follow = h.follow }
 
-  -- which pushed a state
+  -- the states are kept after a turn which pushed a state
   pub states_more : (x : FastState) → CarriesApart x → CarriesWithin (track_count s) x → IsState x → SameSlots x m.last → n.pushed ≡ m.pushed + 1 → n.last ≡ x → StatesKept s n (states ++ x ∷ [])
   states_more x apart within state same pushed last =
       let frames : ℕ = cycle_frames s in

@@ -24,7 +24,7 @@ use Rattle.af_judge.proofs.StatesKept.{states_new, states_turned}
 
 -- ## What leaves the normal mixer and its states alone
 
--- they are as they were
+-- the normal mixer and the states are as they were
 pub record SameNormal (before after : Run) : Type 0 where
   pub normal : after.normal ≡ before.normal
   pub states : after.states ≡ before.states
@@ -59,11 +59,11 @@ loaded_same : (turn : Option Turn) (run : Run) → SameNormal run (loaded turn r
 loaded_same None run = record { normal = refl; states = refl }
 loaded_same (Some e) run = load_same e run
 
--- before the normal mixer's turn
+-- what comes before the normal mixer's turn leaves it as it was
 pub before_same : (s : Session) (run : Run) (round : RoundSeen) → SameNormal run (before_turn s run round)
 before_same s run round = same_then run (with_calls round run) (before_turn s run round) (calls_same round run) (cycles_same s (early_of run round) (with_calls round run))
 
--- and after it
+-- what comes after the normal mixer's turn leaves it as it was
 pub after_same : (s : Session) (run : Run) (round : RoundSeen) → SameNormal (after_turn s run round) (after_round s run round)
 after_same s run round =
     let a : Run = after_turn s run round in

@@ -185,11 +185,11 @@ plain-told j b e h whole follow none =
     let P : List Taken × List ℕ → Type 0 = λ x. IsBlockOf (record (server_more (e ∷ []) j) { taken = x.0 }) (record (server_does (e ∷ []) b) { taken = x.1 }) in
     subst P (λ i. (append-nil j.taken i, append-nil b.taken i)) here
 
--- it set flags
+-- the server set flags
 pub flags_kept : (j : BlockJudged) (b : BlockTold) (bits : ℕ) → IsBlockOf j b → IsBlockOf (server_more (server.SetFlags bits ∷ []) j) (server_does (server.SetFlags bits ∷ []) b)
 flags_kept j b bits h = plain-told j b (server.SetFlags bits) h refl (λ last. (tt, tt)) (λ k. refl)
 
--- it stored the status
+-- the server stored the status
 pub status_kept : (j : BlockJudged) (b : BlockTold) (word : ℕ) → IsBlockOf j b → IsBlockOf (server_more (server.SetStatus word ∷ []) j) (server_does (server.SetStatus word ∷ []) b)
 status_kept j b word h = plain-told j b (server.SetStatus word) h refl (λ last. (tt, tt)) (λ k. refl)
 

@@ -8,7 +8,7 @@ use Rattle.af_life.specs.Kept.{track_at}
 use Rattle.af_life.specs.Plays.{is_mixed_here, mixed_here}
 use Rattle.af_judge.specs.NormalChanges.{tracks_from, with_due}
 
--- the takes as a turn tells them
+-- the takes as a turn has them
 pub all_tracks : (takes : List NormalTake) → map (λ (t : TakeSeen). t.track) (map take_seen takes) ≡ tracks_from takes 0
 all_tracks [] = refl
 all_tracks (t ∷ takes) = ap (λ (ns : List ℕ). t.track ∷ ns) (all_tracks takes)
@@ -17,7 +17,7 @@ all_tracks (t ∷ takes) = ap (λ (ns : List ℕ). t.track ∷ ns) (all_tracks t
 abbrev pub due_from : List TrackKept → ℕ → List ℕ
 due_from tracks i = filter (λ i. is_mixed_here (track_at tracks i)) (range_with_len i (length tracks - i))
 
--- one or none of them first
+-- the tracks that are due from a track on are this one, if it is due, and those after it
 pub first_due : (tracks : List TrackKept) (i : ℕ) → i < length tracks → due_from tracks i ≡ with_due (is_mixed_here (track_at tracks i)) i (due_from tracks (i + 1))
 first_due tracks i lt =
     let m : ℕ = length tracks - (i + 1) in
@@ -42,7 +42,7 @@ none_left (t ∷ takes) (suc next) le =
     )
 
 module _ (takes : List NormalTake) (tracks : List TrackKept) (next i : ℕ) (due : Bool) (left : (tracks_from takes 0 ≡ mixed_here tracks) ↔ (tracks_from takes next ≡ due_from tracks i)) where
-  -- those that are due from a track on, where it is due or not
+  -- the tracks that are due from this one on, whether it is due or not
   now_due : i < length tracks → due ≡ is_mixed_here (track_at tracks i) → due_from tracks i ≡ with_due due i (due_from tracks (i + 1))
   now_due lt is = first_due tracks i lt ∙ ap (λ (b : Bool). with_due b i (due_from tracks (i + 1))) (sym is)
 

@@ -83,7 +83,7 @@ cut_kept ops j d t count h cut client sides =
       commands = h.commands;
     }
 
--- one that ended since nothing was wanted
+-- what is kept of a client that ended its turn since nothing was wanted
 pub rest_kept : (ops : List Op) (j : TrackJudge) (d : ClientJudged) (t : Track) (count : ℕ) → KeepsTrack ops j t → (count == 64) ≡ false → client_of ops d.client ≡ at_next_turn false (client_of ops j.client.client) → d.sides ≡ j.client.sides
     → KeepsTrack ops (record j { client = d }) (ended_after count t)
 rest_kept ops j d t count h short client sides =
@@ -100,7 +100,7 @@ rest_kept ops j d t count h short client sides =
 pub wants_kept : (ops : List Op) (j : TrackJudge) (t : Track) → KeepsTrack ops j t → next_want (begun (client_of ops j.client.client)) ≡ wanted_of t
 wants_kept ops j t h = ap (λ (c : Client). next_want (begun c)) h.client.client
 
--- where the turn isn't cut it ends where nothing is wanted
+-- a turn that isn't cut ends if nothing is wanted
 pub rests : (b : Bool) (count : ℕ) (ops : List Op) (j : TrackJudge) (d : ClientJudged) (t : Track) → count ≤ 64 → (count ≡ 64 → ⊥) → EndsTurn b ops j.client d → KeepsTrack ops j t
     → MatchBool b (Ends (most_calls - count) t × KeepsTrack ops (record j { client = d }) (ended_after count t)) (Ends (most_calls - count) t → ⊥)
 rests true count ops j d t few short ends h = (inr (sym (wants_kept ops j t h) ∙ ends.0), rest_kept ops j d t count h (ne_eqb count 64 short) ends.1 ends.2)
@@ -120,7 +120,7 @@ pub fold-file : (t : Track) (calls : List ClientCall) → (fold after_call t cal
 fold-file t [] = refl
 fold-file t (c ∷ calls) = fold-file (after_call t c) calls ∙ after_call-file t c
 
--- one call more
+-- one call more is made
 pub makes_more : (ops : List Op) (file : List ℕ) (calls : List ClientCall) (at : ℕ) (answer d : ClientCall) (j k l : TrackJudge) → at < length calls → answer ≡ get_or calls at d
     → ((t : Track) → t.file ≡ file → KeepsTrack ops j t → AreMade t (take at calls) × KeepsTrack ops k (fold after_call t (take at calls)))
     → ((t : Track) → t.file ≡ file → KeepsTrack ops k t → IsCallOf t answer × KeepsTrack ops l (after_call t answer))
@@ -143,7 +143,7 @@ makes_none ops file calls at answer d j k inside is before none t long h made =
     let sofar = take at calls in
     none (fold after_call t sofar) (fold-file t sofar ∙ long) (before t long h).1 (made_at t calls at answer d inside is made)
 
--- all calls
+-- all calls are made
 pub makes_all : (ops : List Op) (calls : List ClientCall) (at : ℕ) (k : TrackJudge) (t : Track) → length calls ≤ at → AreMade t (take at calls) × KeepsTrack ops k (fold after_call t (take at calls)) → AreMade t calls × KeepsTrack ops k (fold after_call t calls)
 makes_all ops calls at k t all h = let P : List ClientCall → Type 0 = λ cs. AreMade t cs × KeepsTrack ops k (fold after_call t cs) in subst P (take_all at calls all) h
 

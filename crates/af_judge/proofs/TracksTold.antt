@@ -92,7 +92,7 @@ keeps_of ops j t h = record {
   commands = record { shape = h.commands.shape; events = h.commands.client; released = h.commands.released };
 }
 
--- after a turn of its client it is kept of the track after the turn
+-- what is kept of a track follows a turn of its client
 pub turn_told : (ops : List Op) (j k : TrackJudge) (t : TrackTold) (calls : List ClientCall) → IsTrackOf ops j t → KeepsTrack ops k (after_calls (sides_of t) calls) → SameServers j k → IsTrackOf ops k (run.called calls t)
 turn_told ops j k t calls h keeps same =
     let after = after_calls (sides_of t) calls in

@@ -6,7 +6,7 @@ use Rattle.af_runs.specs.ClientTurns.{AreCalls, LegalClientTurn, Track, after_ca
 use Rattle.af_judge.specs.Tracks.{AreMade, Ends, IsCallOf}
 use Rattle.af_judge.proofs.WantedNext.{halted_none}
 
--- one call more
+-- one call more is made
 pub made_more : (t : Track) (calls : List ClientCall) (answer : ClientCall) → AreMade t calls → IsCallOf (fold after_call t calls) answer → AreMade t (calls ++ answer ∷ [])
 made_more t [] answer made is = (is, tt)
 made_more t (c ∷ calls) answer made is = (made.0, made_more (after_call t c) calls answer made.1 is)

@@ -1,4 +1,4 @@
--- What a turn's edits leave is told by the draft before the turn and after it.
+-- What a turn's edits leave follows from the draft before the turn and after it.
 use Rattle.std.proofs.Common.{◌≡◌, ℕ, zero, suc, ◌+◌, ◌≤◌, ◌==◌, ◌||◌, not, Bool, true, false, nat_lt, if◌then◌else◌, cond, refl, sym, ap, ◌∙◌, List, [], ◌∷◌, length, fold, arith, eq-eqb}
 use Rattle.std.specs.Prelude.{slice_set}
 use Rattle.std.specs.List.{filter, range_with_len}
@@ -140,7 +140,7 @@ same_filter : (p q : ℕ → Bool) → ((i : ℕ) → p i ≡ q i) → (ns : Lis
 same_filter p q same [] = refl
 same_filter p q same (n ∷ ns) = ap (λ (b : Bool). cond b (n ∷ filter p ns) (filter p ns)) (same n) ∙ ap (λ (xs : List ℕ). cond (q n) (n ∷ xs) xs) (same_filter p q same ns)
 
--- the tracks that are due are told by the tracks after the turn
+-- which tracks are due follows from the tracks after the turn
 pub due_after : (asked : ℕ) (takes : List TakeSeen) (push : Push) (x : NormalKept) → mixed_here (fold (after_take asked) (after_push push x).tracks takes) ≡ mixed_here x.tracks
 due_after asked takes push x =
     ap (λ (ts : List TrackKept). mixed_here (fold (after_take asked) ts takes)) (push_tracks push x)

@@ -1,4 +1,4 @@
--- A turn is right as it is judged exactly where it is legal by what it found.
+-- A turn is right as it is judged exactly if it is legal by what it found.
 use Rattle.std.proofs.Common.{◌≡◌, ◌↔◌, ℕ, ◌+◌, ◌^◌, ◌<◌, ◌≤◌, ◌==◌, nat_lt, Bool, true, false, true≢false, MatchBool, cond, refl, sym, ap, ◌∙◌, subst, List, [], ◌∷◌, length, eq-eqb, arith}
 use Rattle.std.specs.List.{AllByRecursion}
 use Rattle.std.proofs.lemmas.Bool.Decides.{nat_tests}
@@ -19,12 +19,12 @@ use Rattle.af_judge.specs.NormalLooks.{AllAnswer}
 use Rattle.af_judge.specs.NormalTurns.{BlocksFound, TakeAnswers, TurnAnswers, IsRightTurn}
 use Rattle.af_judge.proofs.LooksExactly.{LegalBy, looks_exactly, judged_so, rightly}
 
--- ## The first take of a track, where the tracks of takes rise
+-- ## The first take of a track, if the tracks of takes rise
 
 differs : (a b : ℕ) → a < b → (a == b) ≡ false
 differs a b lt = grind (arith, nat_tests, lt)
 
--- those of a track from this one on are the first's own and those of the rest
+-- the takes of a track are the first one, if it is the track's, and those of the rest
 pub first_of : (t : TakeSeen) (rest : List TakeSeen) → takes_from (t ∷ rest) t.track ≡ t ∷ takes_from rest t.track
 first_of t rest = ap (λ (b : Bool). cond b (t ∷ takes_from rest t.track) (takes_from rest t.track)) (eq-eqb t.track t.track refl)
 
@@ -39,7 +39,7 @@ module _ (front : Listed → SlotEntry → ℕ) where
 module _ (c : Setup) (o : Outside) (b : BlocksFound) (all : List TakeSeen)
     (streams : (i : ℕ) → o.streams i ≡ b.streams i)
   where
-    -- each is legal, where the fronts are those by which it is judged
+    -- each is legal, if the fronts are those by which it is judged
     takes_legal : (wraps : (i : ℕ) → (b.streams i).shape.wrap ≤ 2 ^ 31) (fronts : (i : ℕ) → o.stream_front i ≡ take_front (front_judged (b.lawful_streams i) (asked c)) (b.streams i) (takes_from all i)) (low : ℕ) (takes : List TakeSeen) → TracksRise low takes
         → ((n : ℕ) → low ≤ n → takes_from all n ≡ takes_from takes n) → AllByRecursion (TakeAnswers c b) takes → AllByRecursion (LegalTake c o) takes
     takes_legal wraps fronts low [] rise same h = tt
@@ -55,7 +55,7 @@ module _ (c : Setup) (o : Outside) (b : BlocksFound) (all : List TakeSeen)
       takes_legal wraps fronts (t.track + 1) takes rise.1 (λ n le. same n (let r = rise.0 in omega (arith, le, r)) ∙ others_of t takes n (omega (arith, le))) h.1,
     )
 
-    -- and the other way
+    -- each take answers, if it is legal
     takes_answer : (wraps : (i : ℕ) → (b.streams i).shape.wrap ≤ 2 ^ 31) (fronts : (i : ℕ) → b.lawful_streams i ≡ true → o.stream_front i ≡ take_front (lawful_front (asked c)) (b.streams i) (takes_from all i)) (low : ℕ) (takes : List TakeSeen) → TracksRise low takes
         → ((n : ℕ) → low ≤ n → takes_from all n ≡ takes_from takes n) → AllByRecursion (LegalTake c o) takes → AllByRecursion (TakeAnswers c b) takes
     takes_answer wraps fronts low [] rise same h = tt
@@ -142,7 +142,7 @@ module _ (c : Setup) (marks : Marks) (f : TurnFound) (m : NormalKept) (e : Turn)
       legal = record { ends = ended ∙ sym h.0; still = λ is. h.1; goes_on = λ open_is. absurd (true≢false (sym ended ∙ open_is)) };
     }
 
-    -- both ways
+    -- the turn is right exactly if it is legal
     pub turn_exactly : IsRightTurn c f.report (blocks_of marks f) m e ↔ LegalTurnBy c marks f m e
     turn_exactly = by_end e.ended refl
       where

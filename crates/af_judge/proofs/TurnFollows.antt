@@ -1,4 +1,4 @@
--- What is kept of the tracks and of the normal mixer of a run follows a turn of that mixer, and the turn is right exactly where it is legal.
+-- What is kept of the tracks and of the normal mixer of a run follows a turn of that mixer, and the turn is right exactly if it is legal.
 use Rattle.std.specs.Prelude.{IsTrue, slice_index_or}
 use Rattle.std.proofs.Common.{◌≡◌, ◌↔◌, ℕ, ◌+◌, ◌^◌, ◌<◌, ◌≤◌, Bool, true, false, if◌then◌else◌, fold, refl, sym, ap, ◌∙◌, subst, List, [], ◌∷◌, ◌++◌, length, append-nil, inl, inr, arith}
 use Rattle.std.proofs.lemmas.Bool.{cases_lt}
@@ -101,7 +101,7 @@ module _ (s : Session) (marks : Marks) (W : ℕ → Type 0) (run : Run) (f : Tur
     setup_is : j.plain.setup ≡ setup_of s
     setup_is = sym normal.judged.setup ∙ normal.setup
 
-    -- there are as many tracks as the mixer has
+    -- a judge keeps as many tracks as the mixer has
     pub many : length tracks ≡ length j.plain.kept.tracks
     many = keeps.all ∙ sym (normal.judged.small.whole ∙ ap (λ (c : Setup). length c.settings) setup_is ∙ length-map s.script.tracks spec_setting)
 

@@ -1,4 +1,4 @@
--- A turn is right by the tracks that a judge keeps exactly where it is legal by what it found in the run.
+-- A turn is right by the tracks that a judge keeps exactly if it is legal by what it found in the run.
 use Rattle.std.proofs.Common.{◌≡◌, ◌↔◌, ℕ, zero, suc, ◌^◌, ◌<◌, ◌≤◌, Bool, true, false, true≢false, MatchBool, nat_lt, refl, sym, ap, ◌∙◌, subst, List, [], ◌∷◌, length, inl, inr, arith}
 use Rattle.std.specs.Prelude.{slice_index_or}
 use Rattle.std.specs.List.{AllByRecursion}
@@ -26,7 +26,7 @@ use Rattle.af_judge.specs.NormalTurns.{Serves, TakeAnswers, TurnAnswers, learnt_
 use Rattle.af_judge.specs.Servers.{LooksRightly}
 use Rattle.af_judge.proofs.TurnExactly.{blocks_of, turn_exactly}
 
--- the track of a number, where there is one
+-- the track of a number, if there is one
 pub record Element (tracks : List TrackJudge) (i : ℕ) : Type 0 where
   pub track : TrackJudge
   pub at : IsTrackAt tracks i track

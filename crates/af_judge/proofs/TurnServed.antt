@@ -1,4 +1,4 @@
--- A turn of the normal mixer tells a track its mixers' sides, whatever its client did, as the run tells them.
+-- A turn of the normal mixer is noted in a track's blocks on its mixers' sides, whatever its client did, as the run tells it.
 use Rattle.std.proofs.Common.{◌≡◌, ℕ, ◌&&◌, Bool, true, false, fold, map, refl, ap, ◌∙◌, subst, List, [], ◌∷◌, Option, Some, None}
 use Rattle.af_base.specs.declared.event.ClientEvent.{ClientEvent}
 use Rattle.af_base.specs.declared.turn.CommandLook.{CommandLook}
@@ -85,7 +85,7 @@ module _ (c : Setup) (f : TurnFound) (m : NormalKept) (e : Turn) (open_is : e.en
   abbrev shut : Bool
   shut = is_shut_now found (heard k i found) (track_in e i)
 
-  -- its blocks as the turn tells them
+  -- the blocks of a track with what the turn did noted
   abbrev pub commands_after : BlockJudged → BlockJudged
   commands_after j = status_told (track_in e i).status (shut_told shut (looks_told (track_in e i).looks j))
 

@@ -1,4 +1,4 @@
--- What a judge's turn tells the blocks of a track is what the turn told them in the run.
+-- What a judge notes of a turn in the blocks of a track is what the turn told of them in the run.
 use Rattle.std.proofs.Common.{◌≡◌, ◌⊎◌, ℕ, ◌+◌, ◌<◌, ◌==◌, ◌&&◌, not, Bool, true, false, cond, if◌then◌else◌, is_some, fold, map, refl, sym, ap, ◌∙◌, subst, List, [], ◌∷◌, ◌++◌, length, Option, Some, None, inl, inr, nat_lt, eqb-true, append_assoc, append-nil, arith}
 use Rattle.std.specs.List.{AllByRecursion, flat_map}
 use Rattle.std.proofs.lemmas.Bool.Decides.{nat_tests}
@@ -63,7 +63,7 @@ stored_kept : (status : Option ℕ) (j : BlockJudged) (b : BlockTold) → IsBloc
 stored_kept None j b h = h
 stored_kept (Some word) j b h = status_kept j b word h
 
--- all that a turn tells a command block
+-- a command block is kept with all that a turn did to it
 pub commands_kept : (looks : List CommandLook) (shut : Bool) (status : Option ℕ) (j : BlockJudged) (b : BlockTold) → IsBlockOf j b
     → IsBlockOf (status_told status (shut_told shut (looks_told looks j)))
     (took (words_taken looks) (server_does (all_command_events (listed b) looks (fronts_by front_of (listed b) looks) ++ (if shut then server.SetFlags 4 ∷ [] else []) ++ status_events status) b))
@@ -81,7 +81,7 @@ disabled_kept : (disabled : Bool) (j : BlockJudged) (b : BlockTold) → IsBlockO
 disabled_kept true j b h = hand_told j b (hand.SetFlags 8 ∷ []) h
 disabled_kept false j b h = h
 
--- the events of a mix are told by what is kept
+-- the events of a mix follow from what is kept
 mix_same : (k : Shape) (xs ys : List ServerEvent) (asked : ℕ) (slot : SlotEntry) → server_kept k xs ≡ server_kept k ys
     → let s : Listed = record { shape = k; events = xs } in let t : Listed = record { shape = k; events = ys } in cycle_events asked s slot (front_of asked s slot) ≡ cycle_events asked t slot (front_of asked t slot)
 mix_same k xs ys asked slot same = ap by_kept same
@@ -158,7 +158,7 @@ lonely P low (t ∷ takes) i rise all = by_case (t.track == i) refl (lonely P (t
         inr (record { take = t; is = ap (λ (ts : List TakeSeen). t ∷ ts) (nothing_from (t.track + 1) takes i rise.1 (omega (arith, e))); holds = all.0 })
     by_case false other rest = rest
 
--- all that a turn tells a stream block
+-- a stream block is kept with all that a turn did to it
 pub stream_kept : (j : BlockJudged) (b : BlockTold) (h : IsBlockOf j b) (shut disabled : Bool) (asked : ℕ) (takes : List TakeSeen) (i : ℕ) → TracksRise 0 takes → AllByRecursion (λ (t : TakeSeen). length t.frames ≡ count_seen t.slot.seen) takes
     → IsBlockOf (fold (λ (x : BlockJudged) (t : TakeSeen). played_told asked t.slot (map packed_word t.frames) x) (shut_told shut (disabled_told disabled j)) (takes_from takes i)) (turned j b h shut disabled asked (takes_from takes i))
 stream_kept j b h shut disabled asked takes i rise whole = by_takes (lonely (λ (t : TakeSeen). length t.frames ≡ count_seen t.slot.seen) 0 takes i rise whole)

@@ -129,7 +129,7 @@ track_follows c marks f m e before after finds many form open_is told i t at str
     follows_so c f m e open_is i before after (opens c marks f before m e finds many form open_is)
     (subst (λ (l : Learnt). IsTold c l m e before after) (sym (learnt_same c marks f before m e finds many)) told) t at stream commands
 
--- and the mixer follows it by what was learnt in the run
+-- the mixer follows the turn by what was learnt in the run
 pub mixer_follows : (marks : Marks) (f : TurnFound) (e : Turn) (tracks : List TrackJudge) (j after : NormalJudged) → Finds marks f tracks → length tracks ≡ length j.plain.kept.tracks
     → Follows j (learnt_of f.report (all_known tracks)) e after → Follows j (learnt (outside_of j.plain.setup f e)) e after
 mixer_follows marks f e tracks j after finds many follows = subst (λ (l : Learnt). Follows j l e after) (sym (learnt_same j.plain.setup marks f tracks j.plain.kept e finds many)) follows

@@ -15,7 +15,7 @@ ends_with : {E : Type 0} (es : List E) → EndsWith es
 ends_with [] = inl refl
 ends_with (x ∷ es) = elim (ends_with es) as (λ s. EndsWith (x ∷ es)) [ inl none ↦ inr ([], x, ap (λ l. x ∷ l) none) | inr some ↦ inr (x ∷ some.0, some.1, ap (λ l. x ∷ l) some.2) ]
 
--- two lists with one thing more at their ends are the same where both parts are
+-- two lists with one thing more at their ends are the same if both parts are
 same_ends : {E : Type 0} (xs zs : List E) (a b : E) → xs ++ a ∷ [] ≡ zs ++ b ∷ [] → (xs ≡ zs) × (a ≡ b)
 same_ends [] [] a b e = (refl, cc)
 same_ends [] (z ∷ zs) a b e = let n : 1 ≡ suc (length (zs ++ b ∷ [])) = ap length e in absurd (omega (arith, length-append zs (b ∷ [])))
@@ -78,11 +78,11 @@ module _ {M O A B : Type 0} (legal : Ends M O → Event A B → Type 0) (first_a
 
     -- ## What one step more leaves
 
-    -- with nothing of the second end, and nothing of the first
+    -- nothing of either end has a legal order
     pub reach_none : Reach [] []
     reach_none = record { order = []; is_legal = tt; of_one = refl; of_two = refl }
 
-    -- one step of the first end more, with none of the second
+    -- the last step may be the first end's, with none of the second
     pub back_none : (xs : List A) (a : A) → Reach (xs ++ a ∷ []) [] → Reach xs [] × May xs [] (one a)
     back_none xs a h = elim (last (xs ++ a ∷ []) [] h) [
       | nothing e f ↦ absurd (not_empty xs a e)
@@ -90,7 +90,7 @@ module _ {M O A B : Type 0} (legal : Ends M O → Event A B → Type 0) (first_a
       | last_two zs b e r m ↦ absurd (not_empty zs b (sym e))
     ]
 
-    -- one step of the second end more, with none of the first
+    -- the last step may be the second end's, with none of the first
     pub back_first : (ys : List B) (b : B) → Reach [] (ys ++ b ∷ []) → Reach [] ys × May [] ys (two b)
     back_first ys b h = elim (last [] (ys ++ b ∷ []) h) [
       | nothing e f ↦ absurd (not_empty ys b f)
@@ -98,7 +98,7 @@ module _ {M O A B : Type 0} (legal : Ends M O → Event A B → Type 0) (first_a
       | last_two zs c e r m ↦ (let same = same_ends ys zs b c e in (subst (λ l. Reach [] l) (sym same.0) r, subst (λ l. May [] l (two b)) (sym same.0) (subst (λ x. May [] zs (two x)) (sym same.1) m)))
     ]
 
-    -- one step of each more: either may be the last
+    -- the last step may be either end's
     pub back_both : (xs : List A) (a : A) (ys : List B) (b : B) → Reach (xs ++ a ∷ []) (ys ++ b ∷ [])
         → (Reach (xs ++ a ∷ []) ys × May (xs ++ a ∷ []) ys (two b)) ⊎ (Reach xs (ys ++ b ∷ []) × May xs (ys ++ b ∷ []) (one a))
     back_both xs a ys b h = elim (last (xs ++ a ∷ []) (ys ++ b ∷ []) h) [

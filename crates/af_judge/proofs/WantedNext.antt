@@ -34,7 +34,7 @@ begun_again c = begins-again c c.due c.ops
 goes-end : (c : Client) → (c.waiting || c.ended) ≡ false → at_next_turn false c ≡ (let d = begun c in record d { due = rested d.due })
 goes-end c h = ap (λ (b : Bool). if b || false then record c { waiting = false } else (let d = begun c in record d { due = rested d.due })) h
 
--- it is the same after the next op was begun
+-- the end of the turn is the same after the next op was begun
 end_begun : (c : Client) → (c.waiting || c.ended) ≡ false → at_next_turn false (begun c) ≡ at_next_turn false c
 end_begun c h = goes-end (begun c) (begins-halts c c.due c.ops ∙ h) ∙ (ap (λ (d : Client). let r : Client = record d { due = rested d.due } in r) (begun_again c) ∙ sym (goes-end c h))
 

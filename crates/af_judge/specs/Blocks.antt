@@ -55,7 +55,7 @@ placed_from place (word ∷ words) = record { at = min most_counted place; word 
 
 -- ## The block
 
--- the sizes, whether no poke is told in the whole journal, what each party did, and the words released and taken
+-- a block: the sizes, whether no poke is told in the whole journal, what each party did, and the words released and taken
 pub record BlockJudged : Type 0 where
   pub shape : Shape
   pub lawful : Bool
@@ -77,7 +77,7 @@ raised_by _ = 0
 abbrev pub raised_in : List ClientEvent → ℕ
 raised_in events = fold (λ sofar e. sofar + raised_by e) 0 events
 
--- what is kept beside the lists follows from them
+-- what is kept of a block beside the lists follows from them
 pub record IsBlock (server : ServerJudge) (tame : Bool) (raised : ℕ) (lists : Lists) : Type 0 where
   pub server_is : server ≡ server_at server.shape (server_kept server.shape lists.server)
   pub from_is : lists.from ≡ start server.shape
@@ -85,11 +85,11 @@ pub record IsBlock (server : ServerJudge) (tame : Bool) (raised : ℕ) (lists : 
   pub raised_is : raised ≡ min most_counted (raised_in lists.client)
   pub wrap_few : server.shape.wrap ≤ 2 ^ 31
 
--- its server as a cycle or a turn finds it
+-- a block's server as a cycle or a turn finds it
 abbrev pub listed_in : BlockJudged → Listed
 listed_in j = record { shape = j.shape; events = j.server }
 
--- its client did these events, its server, its hand
+-- a block after its client did these events, its server, its hand
 abbrev pub client_more : List ClientEvent → BlockJudged → BlockJudged
 client_more events j = record j { client = j.client ++ events }
 
@@ -99,11 +99,11 @@ server_more events j = record j { server = j.server ++ events }
 abbrev pub hand_more : List HandEvent → BlockJudged → BlockJudged
 hand_more events j = record j { hand = j.hand ++ events }
 
--- these words were released
+-- a block after these words were released
 abbrev pub released_more : List ℕ → BlockJudged → BlockJudged
 released_more words j = record j { released = j.released ++ words }
 
--- these words were taken, by a server with this list before the take
+-- a block after these words were taken, by a server with this list before the take
 abbrev pub taken_more : List ServerEvent → List ℕ → BlockJudged → BlockJudged
 taken_more events words j = record j { taken = j.taken ++ placed_from (server_kept j.shape events).consumed words }
 
@@ -158,7 +158,7 @@ servers_met j = server_more (server.Learn (length j.client) ∷ []) (client_more
 abbrev pub hand_met : BlockJudged → BlockJudged
 hand_met j = hand_more (hand.Met (length j.client) ∷ []) j
 
--- both, where these say so
+-- client and server meet, and hand and client, if these say so
 abbrev pub parties_met : Bool → Bool → BlockJudged → BlockJudged
 parties_met server_there hand_there j = let k = if server_there then servers_met j else j in if hand_there then hand_met k else k
 

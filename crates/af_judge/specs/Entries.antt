@@ -19,7 +19,7 @@ use Rattle.af_judge.specs.FastKept.{FastKept}
 abbrev pub CarriesApart : FastState → Type 0
 CarriesApart x = (i j : ℕ) → i < slots → j < slots → carries x i ≡ true → carries x j ≡ true → (slot_of x i).track ≡ (slot_of x j).track → i ≡ j
 
--- each track that it carries is one of so many
+-- each track that a state carries is one of so many
 abbrev pub CarriesWithin : ℕ → FastState → Type 0
 CarriesWithin tracks x = (i : ℕ) → i < slots → carries x i ≡ true → (slot_of x i).track < tracks
 

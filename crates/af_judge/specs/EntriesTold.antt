@@ -9,7 +9,7 @@ use Rattle.af_judge.specs.declared.track_judge.TrackJudge.{TrackJudge}
 use Rattle.af_judge.specs.Entries.{StandsIn}
 use Rattle.af_judge.specs.FastKept.{EndsAsTurn, FastKept, IsEntryRight, entry_told, entry_tracks}
 
--- the fast mixer and the tracks
+-- what is kept of the fast mixer and of the tracks
 pub record Playing : Type 0 where
   pub fast : FastKept
   pub tracks : List TrackJudge
@@ -17,11 +17,11 @@ pub record Playing : Type 0 where
 abbrev pub playing : FastKept → List TrackJudge → Playing
 playing fast tracks = record { fast = fast; tracks = tracks }
 
--- after an entry
+-- what an entry leaves of the fast mixer and of the tracks
 unfoldable pub entry_leaves : List FastState → List Frame → CycleEntry → Playing → Playing
 entry_leaves states frames entry p = record { fast = entry_told states frames entry p.tracks p.fast; tracks = entry_tracks states frames entry p.fast p.tracks }
 
--- after some, one after the other
+-- what some entries leave, one after the other
 abbrev pub entries_leave : List FastState → List Frame → List CycleEntry → Playing → Playing
 entries_leave states frames entries p = fold (λ q entry. entry_leaves states frames entry q) p entries
 
@@ -29,7 +29,7 @@ entries_leave states frames entries p = fold (λ q entry. entry_leaves states fr
 unfoldable pub IsRightAfter : List FastState → List Frame → CycleEntry → Playing → Type 0
 IsRightAfter states frames entry p = IsEntryRight states frames entry p.fast p.tracks
 
--- each of some is, after those before it
+-- each of some entries is right after what was told, those before it among that
 abbrev pub AreEntriesRight : List FastState → List Frame → List CycleEntry → Playing → Type 0
 AreEntriesRight states frames [] p = Unit {0}
 AreEntriesRight states frames (entry ∷ entries) p = IsRightAfter states frames entry p × AreEntriesRight states frames entries (entry_leaves states frames entry p)

@@ -23,7 +23,7 @@ use Rattle.af_judge.specs.QueueNumbers.{QueueKept, poll_steps, queue_begins, wit
 use Rattle.af_judge.specs.Reporting.{Telling, entry_added, heard_at, polled_in, state_in, telling_begins, told_at_slot}
 use Rattle.af_judge.specs.Servers.{LooksRightly}
 
--- what it told, the cold generation performed last, whether it has ended, the reports of the round with the one before it, and the ends of the queue and of the pipe
+-- the fast mixer: what it told, the cold generation performed last, whether it has ended, the reports of the round with the one before it, and the ends of the queue and of the pipe
 pub record FastKept : Type 0 where
   pub told : Telling
   pub cold : ℕ
@@ -59,12 +59,12 @@ abbrev pub IsLookRight : ℕ → SlotEntry → ℕ → List TrackJudge → Type 
 IsLookRight asked slot track tracks =
     (t : TrackJudge) → slice_get tracks track ≡ Some t → LooksRightly t.stream.lawful asked (listed_in t.stream) slot
 
--- where an entry mixes, a slot that its state carries shows something, and its look is right
+-- if an entry mixes, a slot that its state carries shows something, and its look is right
 abbrev pub IsSlotRight : ℕ → FastState → CycleEntry → ℕ → List TrackJudge → Type 0
 IsSlotRight asked x entry i tracks =
     is_mixed entry.cycle ≡ true → carries x i ≡ true → (is_shown (entry_slot entry i).seen ≡ true) × IsLookRight asked (entry_slot entry i) (slot_of x i).track tracks
 
--- each of the first slots, after those before it were played
+-- each of the first slots is right, after those before it were played
 abbrev pub AreSlotsRight : ℕ → FastState → List Frame → CycleEntry → ℕ → List TrackJudge → Type 0
 AreSlotsRight asked x frames entry n tracks = (i : ℕ) → i < n → IsSlotRight asked x entry i (slots_played asked x frames entry i tracks)
 
@@ -72,7 +72,7 @@ AreSlotsRight asked x frames entry n tracks = (i : ℕ) → i < n → IsSlotRigh
 abbrev pub pipe_played : List Frame → CycleEntry → PipeKept → PipeKept
 pipe_played frames entry p = let slot = entry_slot entry 0 in if is_mixed entry.cycle then with_look slot.rear slot.seen (frames_taken frames slot) p else p
 
--- where an entry mixes, its slots are those of its state, and each look is right
+-- if an entry mixes, its slots are those of its state, and each look is right
 pub record IsMixRight (asked : ℕ) (x : FastState) (frames : List Frame) (entry : CycleEntry) (p : PipeKept) (tracks : List TrackJudge) : Type 0 where
   pub marked : is_mixed entry.cycle ≡ true → IsMarkedBy x entry
   pub submix : is_mixed entry.cycle ≡ true → (let slot = entry_slot entry 0 in slot ≡ submix_slot asked (wrapped (length p.taken)) slot.rear slot.first)
@@ -80,7 +80,7 @@ pub record IsMixRight (asked : ℕ) (x : FastState) (frames : List Frame) (entry
 
 -- ## An entry
 
--- its state is that of the last entry or the next one, and was pushed, the mixer hadn't ended, and the entry is what its state makes it
+-- an entry follows what was told: its state is that of the last entry or the next one, and was pushed, the mixer hadn't ended, and the entry is what its state makes it
 pub record FollowsTold (f : FastKept) (states : List FastState) (entry : CycleEntry) : Type 0 where
   pub next : (f.told.used ≤ entry.state) × (entry.state ≤ f.told.used + 1)
   pub pushed : entry.state ≤ length states
@@ -127,7 +127,7 @@ pub record IsEntryRight (states : List FastState) (frames : List Frame) (entry :
   pub follows : FollowsTold f states entry
   pub mixes : IsMixRight f.told.asked (state_in (polled_in states entry.state f.told) states entry.state) frames entry f.pipe tracks
 
--- before the first cycle
+-- the fast mixer before the first cycle
 abbrev pub fast_begins : (asked size cells : ℕ) → FastKept
 fast_begins asked size cells = record { told = telling_begins asked; cold = 0; ended = false; before = no_report; reports = []; queue = queue_begins; pipe = new_pipe size cells }
 
@@ -137,7 +137,7 @@ fast_begins asked size cells = record { told = telling_begins asked; cold = 0; e
 abbrev pub number_found : FastKept → ℕ → ℕ
 number_found f number = min number (f.before.cycle + most_cycles)
 
--- A turn of so many entries of a log, from this place on, ends where it may: after so many cycles, or after one that isn't Mixed, or, where `full` says so, since the log is full. Each before the last is Mixed
+-- A turn of so many entries of a log, from this place on, ends where it may: after so many cycles, or after one that isn't Mixed, or, if `full` says so, since the log is full. Each before the last is Mixed
 pub record EndsAsTurn (entries : List CycleEntry) (first count cycles : ℕ) (full : Bool) : Type 0 where
   pub some : 1 ≤ count
   pub within : count ≤ cycles

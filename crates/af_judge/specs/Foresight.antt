@@ -63,7 +63,7 @@ pub record Foreseen : Type 0 where
 abbrev pub foreseen : List Listed → Telling → Foreseen
 foreseen servers told = record { servers = servers; told = told }
 
--- after one entry more
+-- the servers and the mixer after one entry more
 abbrev pub entry_foreseen : List FastState → CycleEntry → Foreseen → Foreseen
 entry_foreseen states entry f =
     let t = polled_in states entry.state f.told in
@@ -71,7 +71,7 @@ entry_foreseen states entry f =
     let servers = slots_foreseen t.asked x entry slots f.servers in
     record { servers = servers; told = entry_added states (told_at_slot (heard_foreseen servers x)) entry t }
 
--- after some
+-- the servers and the mixer after some entries more
 abbrev pub entries_foreseen : List FastState → List CycleEntry → Foreseen → Foreseen
 entries_foreseen states entries f = fold (λ g entry. entry_foreseen states entry g) f entries
 

@@ -15,7 +15,7 @@ use Rattle.af_runs.specs.Clients.{Client, code_of, after_answer, at_next_turn, b
 use Rattle.af_runs.specs.Kept.{ClientKept as ClientAt, client_of}
 use Rattle.af_runs.specs.ClientTurns.{Side, Track, asked_by, is_clear, is_flush, is_of_commands, is_send, is_status, is_write}
 
--- the block's sizes, what the client's list tells of it, and how many flushes it asked for and words it released
+-- a side of a block: the block's sizes, what the client's list tells of it, and how many flushes it asked for and words it released
 pub record SideKept : Type 0 where
   pub shape : Shape
   pub kept : ClientKept
@@ -61,7 +61,7 @@ pub record IsFew (calls : ℕ) (k : SideKept) : Type 0 where
   pub words : k.words ≤ 2 ^ 32 * calls
   pub flushes : k.flushes ≤ calls
 
--- few enough that one call more can be counted
+-- so few words and flushes that one call more can be counted
 pub record AreFew (k : SideKept) : Type 0 where
   pub position : k.kept.position < 2 ^ 62
   pub words : k.words < 2 ^ 62
@@ -74,7 +74,7 @@ pub record SidesKept : Type 0 where
   pub stream : SideKept
   pub commands : SideKept
 
--- the same of a track
+-- what is kept of the two sides of a track
 abbrev pub sides_kept : Track → SidesKept
 sides_kept t = record { stream = side_kept t.stream; commands = side_kept t.commands }
 
@@ -114,7 +114,7 @@ words_of file k (call.Put front count) = min count (file - k.stream.words)
 words_of file k (call.Sent front code argument) = 2
 words_of file k _ = 0
 
--- what is kept of both sides after a call, where the file has so many frames
+-- what is kept of both sides after a call, if the file has so many frames
 abbrev pub sides_called : ℕ → ClientCall → SidesKept → SidesKept
 sides_called file answer k =
     if is_of_commands answer then record k { commands = kept_called answer (words_of file k answer) k.commands }
@@ -140,7 +140,7 @@ pub record IsKeptOf (ops : List Op) (j : ClientJudged) (t : Track) : Type 0 wher
   pub client : client_of ops j.client ≡ t.client
   pub sides : j.sides ≡ sides_kept t
 
--- What a client is found to want, once its next op is begun: it is d then. Where it wants nothing its turn ends as that of the client before
+-- What a client is found to want, once its next op is begun: it is d then. If it wants nothing its turn ends as that of the client before
 abbrev pub FindsNext : Client → Option Want → Client → Type 0
 FindsNext c None d = (next_want (begun c) ≡ None) × (at_next_turn false d ≡ at_next_turn false c)
 FindsNext c (Some wanted) d = (next_want (begun c) ≡ Some wanted) × (d ≡ begun c)

@@ -9,7 +9,7 @@ AreMeetings low high [] = low ≤ high
 AreMeetings low high (hand.SetFlags bits ∷ hs) = ⊥
 AreMeetings low high (hand.Met known ∷ hs) = low ≤ known × AreMeetings known high hs
 
--- what the hand did: nothing where there is none
+-- what the hand did: nothing if there is none
 abbrev pub hand_of_own : Bool → List HandEvent → List HandEvent
 hand_of_own true hs = hs
 hand_of_own false hs = []

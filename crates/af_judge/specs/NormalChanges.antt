@@ -12,6 +12,6 @@ is_edited before after = nat_lt before.tracks_gen after.tracks_gen || not (code_
 abbrev pub tracks_from : List NormalTake → ℕ → List ℕ
 tracks_from takes next = map (λ take. take.track) (drop next takes)
 
--- the number in front of others, where it is due
+-- the number in front of others, if it is due
 abbrev pub with_due : Bool → ℕ → List ℕ → List ℕ
 with_due due i others = if due then i ∷ others else others

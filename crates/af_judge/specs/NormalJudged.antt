@@ -8,7 +8,7 @@ use Rattle.af_life.specs.Small.{IsSmall, turn_weight}
 use Rattle.af_life.specs.Turn.{after_edits, turn_after}
 use Rattle.af_runs.specs.Told.{is_pushed}
 
--- what it is made of, the mixer as a plain value, the state pushed last, all states pushed, and whether it made its hands
+-- the normal mixer: what it is made of, the mixer as a plain value, the state pushed last, all states pushed, and whether it made its hands
 pub record NormalJudged : Type 0 where
   pub setup : Setup
   pub plain : Plain
@@ -16,7 +16,7 @@ pub record NormalJudged : Type 0 where
   pub states : List FastState
   pub handed : Bool
 
--- its parts belong together, and its numbers are small
+-- a normal mixer's parts belong together, and its numbers are small
 pub record IsJudged (j : NormalJudged) : Type 0 where
   pub setup : j.setup ≡ j.plain.setup
   pub last : j.last ≡ j.plain.kept.last

@@ -32,16 +32,16 @@ use Rattle.af_judge.specs.Servers.{LooksRightly}
 abbrev pub looks_told : List CommandLook → BlockJudged → BlockJudged
 looks_told looks j = fold (λ j look. commanded_told look j) j looks
 
--- INVALID, where a track is found shut
+-- INVALID, if a track is found shut
 abbrev pub shut_told : Bool → BlockJudged → BlockJudged
 shut_told shut j = if shut then server_more (server.SetFlags 4 ∷ []) j else j
 
--- the status, where it is stored
+-- the status, if it is stored
 abbrev pub status_told : Option ℕ → BlockJudged → BlockJudged
 status_told None j = j
 status_told (Some word) j = server_more (server.SetStatus word ∷ []) j
 
--- DISABLED, where it is set
+-- DISABLED, if it is set
 abbrev pub disabled_told : Bool → BlockJudged → BlockJudged
 disabled_told disabled j = if disabled then hand_more (hand.SetFlags 8 ∷ []) j else j
 
@@ -62,25 +62,25 @@ track_told found heard seen t =
 abbrev pub take_told : ℕ → TakeSeen → TrackJudge → TrackJudge
 take_told asked take t = record t { stream = played_told asked take.slot (map packed_word take.frames) t.stream }
 
--- this is the track of a number
+-- t is the track of a number
 abbrev pub IsTrackAt : List TrackJudge → ℕ → TrackJudge → Type 0
 IsTrackAt tracks i t = (i < length tracks) × (t ≡ slice_index_or tracks i t)
 
--- the first tracks were told what a turn did for them before its takes, and the others nothing
+-- what a turn did for the first tracks before its takes is noted in them, and nothing in the others
 pub record AllTold (k : Learnt) (m : NormalKept) (e : Turn) (before after : List TrackJudge) (count : ℕ) : Type 0 where
   pub told : (i : ℕ) (t : TrackJudge) → i < count → IsTrackAt before i t → IsTrackAt after i (let found = track_at (after_ack e.ack m).tracks i in track_told found (heard k i found) (track_in e i) t)
   pub others : (i : ℕ) (t : TrackJudge) → count ≤ i → IsTrackAt before i t → IsTrackAt after i t
 
--- a take was told its track, and nothing another one
+-- a take is noted in its track, and nothing in another one
 pub record IsTaken (asked : ℕ) (take : TakeSeen) (before after : List TrackJudge) : Type 0 where
   pub told : (t : TrackJudge) → IsTrackAt before take.track t → IsTrackAt after take.track (take_told asked take t)
   pub others : (i : ℕ) (t : TrackJudge) → (i ≡ take.track → ⊥) → IsTrackAt before i t → IsTrackAt after i t
 
--- each track was told its takes
+-- the takes of each track are noted in it
 abbrev pub AreTaken : ℕ → List TakeSeen → List TrackJudge → List TrackJudge → Type 0
 AreTaken asked takes before after = (i : ℕ) (t : TrackJudge) → IsTrackAt before i t → IsTrackAt after i (fold (λ t take. take_told asked take t) t (takes_from takes i))
 
--- what a turn told the tracks: first what it did for each, and then the takes
+-- what a turn leaves of the tracks: what it did for each is noted first, and then the takes
 pub record IsTold (c : Setup) (k : Learnt) (m : NormalKept) (e : Turn) (before after : List TrackJudge) : Type 0 where
   pub between : List TrackJudge
   pub many : length between ≡ length before

@@ -22,7 +22,7 @@ pub record Begins (c : Setup) (loaded : Report) (m : NormalKept) (e : Turn) : Ty
   pub room : e.room ≤ pipe_size c
   pub whole : length e.tracks ≡ length m.tracks
 
--- what it did by what was learnt: each track is served as it is due, the push answers as it may, and the tracks that are due are mixed
+-- what a turn did by what was learnt: each track is served as it is due, the push answers as it may, and the tracks that are due are mixed
 pub record Serves (c : Setup) (k : Learnt) (m : NormalKept) (e : Turn) : Type 0 where
   pub tracks : (i : ℕ) → i < length m.tracks → LegalTrack c k (track_in e i) (served_to c k e.tracks (after_ack e.ack m).tracks i) i
   pub push : LegalPush (after_edits c k e m) e.push
@@ -35,7 +35,7 @@ pub record BlocksFound : Type 0 where
   pub streams : ℕ → Listed
   pub commands : ℕ → Listed
 
--- what is learnt by them
+-- what is learnt by a report and by the blocks found
 abbrev pub learnt_by : Report → BlocksFound → Learnt
 learnt_by loaded b = record { report = loaded; own = λ i. known_by (b.streams i) }
 

@@ -13,7 +13,7 @@ use Rattle.af_model.specs.Merges.{HasLegalOrder}
 use Rattle.af_model.specs.PipeHistory.{IsPutList, IsTakeList, releases_of}
 use Rattle.af_model.specs.Point.{wrapped}
 
--- its frames and cells, the events of its ends, and the words of the frames put and taken
+-- the pipe: its frames and cells, the events of its ends, and the words of the frames put and taken
 pub record PipeKept : Type 0 where
   pub size : ℕ
   pub cells : ℕ
@@ -38,11 +38,11 @@ with_put frames p = record p { puts = p.puts ++ releases_of p.cells (length p.pu
 abbrev pub with_look : ℕ → Seen → List Frame → PipeKept → PipeKept
 with_look rear shown frames p = record p { takes = p.takes ++ server.SawRear rear ∷ server.SawFront (wrapped (length p.taken)) ∷ takes_shown shown; taken = p.taken ++ map packed_word frames }
 
--- its ends meet
+-- the ends of the pipe meet
 abbrev pub with_meeting : PipeKept → PipeKept
 with_meeting p = record p { puts = p.puts ++ client.Learn (length p.takes) ∷ []; takes = p.takes ++ server.Learn (length p.puts) ∷ [] }
 
--- before any event of a block that begins at 0
+-- the point before any event of a block that begins at 0
 abbrev pub pipe_begins : TrackPoint
 pipe_begins = record { released = 0; consumed = 0; flushes = 0; flush_seen = 0; rear_seen = 0; gains = 268439552; flags = 0; status = 0; underruns = 0; flush_at = 0; drop_to = 0; wrap = 0 }
 
@@ -71,7 +71,7 @@ taken_by _ = 0
 abbrev pub taken_in : List ServerEvent → ℕ
 taken_in events = fold (λ sofar e. sofar + taken_by e) 0 events
 
--- the lists are those of ends that put and take, where there is room by the front last seen, and tell of as many frames as were put and taken
+-- the lists are those of an end that puts only if there is room by the front last seen, and of an end that takes, and tell of as many frames as were put and taken
 pub record AreEnds (p : PipeKept) : Type 0 where
   pub small : p.size ≤ 65536
   pub puts : IsPutList p.size p.puts

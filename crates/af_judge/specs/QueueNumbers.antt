@@ -15,12 +15,12 @@ use Rattle.af_judge.specs.TwoEnds.{Ends, HasEndsOrder, AreOpen}
 abbrev pub Numbers : Type 0
 Numbers = Ends MutatorNumbers ObserverNumbers
 
--- after one step more of the mutator: a look tells whether the last state was acknowledged
+-- what the mutator leaves after one step more: a look tells whether the last state was acknowledged
 abbrev pub mutator_after : MutatorNumbers → MutatorStep → MutatorNumbers
 mutator_after m (mutator.Saw number) = record m { clear = number == m.pushed }
 mutator_after m (mutator.Pushed number) = record { pushed = number; clear = false }
 
--- after one step more of the observer: a state that is new to it is to be acknowledged
+-- what the observer leaves after one step more: a state that is new to it is to be acknowledged
 abbrev pub observer_after : ObserverNumbers → ObserverStep → ObserverNumbers
 observer_after o (observer.Found number) = record o { due = if number == o.acked then 0 else number }
 observer_after o (observer.Acknowledged number) = record { acked = number; due = 0 }
@@ -51,12 +51,12 @@ HasStepOrder m steps o looks = HasEndsOrder may_step mutator_after observer_afte
 abbrev pub AreOpenCounts : MutatorNumbers → List MutatorStep → ObserverNumbers → List ObserverStep → List Bool → Type 0
 AreOpenCounts m steps o looks counts = AreOpen may_step mutator_after observer_after (numbers m o) steps looks counts
 
--- an open count stays open where the observer's step is legal
+-- an open count stays open if the observer's step is legal
 abbrev pub Passes : MutatorNumbers → List MutatorStep → ObserverNumbers → ObserverStep → List Bool → List Bool → Type 0
 Passes m steps o look before counts =
     (i : ℕ) → i < length before → IsTrue (slice_index_or counts i false) ↔ (IsTrue (slice_index_or before i false) × may_step (numbers (mutated m (take i steps)) o) (two look))
 
--- a count is opened where an open one leads to it by the mutator's next step
+-- a count is opened if an open one leads to it by the mutator's next step
 pub record Leads (m : MutatorNumbers) (steps : List MutatorStep) (o : ObserverNumbers) (before counts : List Bool) : Type 0 where
   pub first : slice_index_or counts 0 false ≡ slice_index_or before 0 false
   pub each : (i : ℕ) (step : MutatorStep) → slice_get steps i ≡ Some step
@@ -75,7 +75,7 @@ pub record QueueKept : Type 0 where
 abbrev pub queue_begins : QueueKept
 queue_begins = record { mutator = record { pushed = 0; clear = true }; observer = record { acked = 0; due = 0 }; steps = []; looks = [] }
 
--- a push after so many: a look where a push stands, and the next state
+-- a push after so many: a look if a push stands, and the next state
 abbrev pub push_steps : ℕ → Push → List MutatorStep
 push_steps last pushing.Clean = []
 push_steps last (pushing.Busy seen expected) = mutator.Saw (last - 1) ∷ []
@@ -85,7 +85,7 @@ push_steps last (pushing.Pushed number) = (if last == 0 then [] else mutator.Saw
 abbrev pub turn_steps : ℕ → (ended ack : Bool) → Push → List MutatorStep
 turn_steps last ended ack push = mutator.Saw (if ack then last else last - 1) ∷ (if ended then [] else push_steps last push)
 
--- a poll that finds a state, where another one was adopted
+-- a poll that finds a state, when another one was adopted
 abbrev pub poll_steps : (current number : ℕ) → List ObserverStep
 poll_steps current number = if number == current then observer.Found number ∷ [] else observer.Found number ∷ observer.Acknowledged number ∷ []
 
@@ -93,7 +93,7 @@ poll_steps current number = if number == current then observer.Found number ∷ 
 abbrev pub with_steps : List MutatorStep → QueueKept → QueueKept
 with_steps steps q = record q { steps = q.steps ++ steps }
 
--- the observer did
+-- the observer did these steps
 abbrev pub with_looks : List ObserverStep → QueueKept → QueueKept
 with_looks looks q = record q { looks = q.looks ++ looks }
 
@@ -101,6 +101,6 @@ with_looks looks q = record q { looks = q.looks ++ looks }
 abbrev pub HasRoundOrder : QueueKept → Type 0
 HasRoundOrder q = HasStepOrder q.mutator q.steps q.observer q.looks
 
--- they have met
+-- the ends of the queue have met
 abbrev pub met : QueueKept → QueueKept
 met q = record { mutator = mutated q.mutator q.steps; observer = observed q.observer q.looks; steps = []; looks = [] }

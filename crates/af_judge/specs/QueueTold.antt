@@ -19,7 +19,7 @@ pub record Follow (state : ℕ → FastState) : Type 0 where
   pub same : (k i : ℕ) → i < slots → carries (state (k + 1)) i ≡ true → carries (state k) i ≡ true → slot_of (state (k + 1)) i ≡ slot_of (state k) i
 
 module _ (state : ℕ → FastState) where
-  -- The mutator's events and their steps, where so many states were pushed and the last was seen acknowledged or not: the first look that sees it so brings the items that went off with it
+  -- The mutator's events and their steps, after so many states were pushed and the last was seen acknowledged or not: the first look that sees it so brings the items that went off with it
   abbrev pub TellsSteps : ℕ → Bool → List (MutatorEvent Item) → List MutatorStep → Type 0
   TellsSteps pushed seen [] [] = Unit {0}
   TellsSteps pushed seen (mutator.SawAck a items ∷ es) (steps.Saw number ∷ ss) =
@@ -28,7 +28,7 @@ module _ (state : ℕ → FastState) where
       (k ≡ number) × (x ≡ state (pushed + 1)) × (items ≡ items_of (state (pushed + 1)) (state pushed)) × TellsSteps (pushed + 1) false es ss
   TellsSteps pushed seen _ _ = ⊥
 
-  -- the observer's events and their steps, where it has the state of a number
+  -- the observer's events and their steps, when it has the state of a number
   abbrev pub TellsLooks : ℕ → List (ObserverEvent Item) → List ObserverStep → Type 0
   TellsLooks current [] [] = Unit {0}
   TellsLooks current (observer.SawNext k x items ∷ es) (looks.Found number ∷ ls) =
@@ -37,7 +37,7 @@ module _ (state : ℕ → FastState) where
       (k ≡ number) × (items ≡ items_of (state current) (state k)) × TellsLooks k es ls
   TellsLooks current _ _ = ⊥
 
-  -- a point of the queue is that of these numbers, where the last state was seen acknowledged or not and the observer has the state of a number
+  -- a point of the queue is that of these numbers, with the last state seen acknowledged or not, and the observer having the state of a number
   pub record Fits (q : QueuePoint Item) (n : Numbers) (seen : Bool) (current : ℕ) : Type 0 where
     pub pushed : q.mutator.pushed ≡ n.first.pushed
     pub clear : q.mutator.clear ≡ n.first.clear

@@ -18,7 +18,7 @@ use Rattle.af_runs.specs.Sessions.{command_shape}
 use Rattle.af_runs.specs.Told.{state_at}
 use Rattle.af_judge.specs.Blocks.{BlockJudged, listed_in}
 
--- the frames of a cycle, the number of the state adopted last, that of the last entry, the normal mixer's draft, and the last report
+-- what the fast mixer told: the frames of a cycle, the number of the state adopted last, that of the last entry, the normal mixer's draft, and the last report
 pub record Telling : Type 0 where
   pub asked : ℕ
   pub current : ℕ
@@ -26,7 +26,7 @@ pub record Telling : Type 0 where
   pub draft : FastState
   pub report : Report
 
--- before the first entry
+-- what the fast mixer has told before the first entry
 abbrev pub telling_begins : ℕ → Telling
 telling_begins asked = record { asked = asked; current = 0; used = 0; draft = initial asked; report = no_report }
 
@@ -52,7 +52,7 @@ unpushed_in t states k = if k == 0 then adopted_in t states else t.draft
 abbrev pub state_in : Telling → List FastState → ℕ → FastState
 state_in t states k = unwrap_or (state_of states k) (unpushed_in t states k)
 
--- it polls and finds the state of a number
+-- the fast mixer polls and finds the state of a number
 abbrev pub polled_in : List FastState → ℕ → Telling → Telling
 polled_in states k t = record t { current = if nat_le k (length states) then k else t.current }
 
@@ -60,7 +60,7 @@ polled_in states k t = record t { current = if nat_le k (length states) then k e
 abbrev pub told_by : Heard → ServerKnown
 told_by h = record { consumed = h.known.consumed; flush_seen = h.flush_seen; shut = h.known.shut }
 
--- the same of the server of a slot
+-- what a report tells of the server of a slot
 abbrev pub told_at_slot : List Heard → ℕ → ServerKnown
 told_at_slot heard i = told_by (slice_index_or heard i nothing_heard)
 

@@ -22,7 +22,7 @@ pub record IsServedBlock (j : BlockJudged) (b : BlockTold) : Type 0 where
   pub whole : WholeTakes (server_list b) b.taken
   pub follow : AllFollow false (server_list b)
 
--- both blocks of a track are kept so, with the marks of the journal
+-- both blocks of a track are kept as served blocks, with the marks of the journal
 pub record IsServedTrack (marks : Marks) (n : ℕ) (j : TrackJudge) (t : TrackTold) : Type 0 where
   pub stream : IsServedBlock j.stream t.stream
   pub commands : IsServedBlock j.commands t.commands
@@ -31,7 +31,7 @@ pub record IsServedTrack (marks : Marks) (n : ℕ) (j : TrackJudge) (t : TrackTo
   pub wrap_stream : t.stream.shape.wrap ≤ 2 ^ 31
   pub wrap_commands : t.commands.shape.wrap ≤ 2 ^ 31
 
--- each track of a run is kept so, and each of which this holds is kept whole
+-- each track of a run is kept as a served track, and each of which `Whole` holds is kept whole
 pub record KeepsTracks (s : Session) (marks : Marks) (Whole : ℕ → Type 0) (tracks : List TrackJudge) (run : Run) : Type 0 where
   pub many : length tracks ≡ length run.tracks
   pub all : length tracks ≡ track_count s
@@ -51,7 +51,7 @@ pub record CarriesFit (s : Session) (x : FastState) : Type 0 where
   pub apart : CarriesApart x
   pub within : CarriesWithin (track_count s) x
 
--- each state does, and the draft
+-- each state of a run, and the draft, carries each track in one slot at most, and no track that isn't there
 pub record StatesFit (s : Session) (run : Run) : Type 0 where
   pub pushed : (k : ℕ) → CarriesFit s (state_at (cycle_frames s) run.states k)
   pub draft : CarriesFit s run.normal.draft

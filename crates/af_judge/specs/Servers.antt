@@ -18,16 +18,16 @@ most_counted = 18446744073709551615
 abbrev pub server_at : Shape → ServerKept → ServerJudge
 server_at shape k = record { shape = shape; flush = k.flush; is_new = k.is_new; noticed = k.noticed; rear = k.rear; front = k.front; consumed = min most_counted k.consumed; own = own_front shape k; shut = k.shut }
 
--- it is what is kept of the server with this list
+-- what is kept of the server with this list
 abbrev pub IsServerOf : Listed → ServerJudge → Type 0
 IsServerOf s j = j ≡ server_at s.shape (kept s)
 
--- it consumed so many frames
+-- the server consumed so many frames
 pub record IsConsumed (count : ℕ) (j : ServerJudge) : Type 0 where
   pub consumed : j.consumed ≡ min most_counted count
   pub own : j.own ≡ wrapped (j.shape.base + count)
 
--- the front by which a look is judged: on a lawful block the server's own, where the answer leaves it open, and else one by which it answers so, if there is any
+-- the front by which a look is judged: on a lawful block the server's own, if the answer leaves it open, and else one by which it answers so, if there is any
 abbrev pub front_judged : Bool → ℕ → Listed → SlotEntry → ℕ
 front_judged lawful asked s slot = if lawful then lawful_front asked s slot else front_by_answer s.shape slot
 
@@ -37,6 +37,6 @@ AnswersAs asked s slot front = MatchOption (kept s).shut
     (slot.seen ≡ look_at s.shape (kept s).flush asked slot.flush slot.rear front)
     (λ words. (slot.seen ≡ seen.Shut words.0 words.1) × (slot.flush ≡ (kept s).flush) × (slot.rear ≡ words.1))
 
--- the look answers as its words say: on a lawful block by the server's own front, where the answer leaves it open, and on another by some front
+-- the look answers as its words say: on a lawful block by the server's own front, if the answer leaves it open, and on another by some front
 abbrev pub LooksRightly : Bool → ℕ → Listed → SlotEntry → Type 0
 LooksRightly lawful asked s slot = MatchBool lawful (LooksBy asked s slot (lawful_front asked s slot)) ((front : ℕ) × LooksBy asked s slot front)

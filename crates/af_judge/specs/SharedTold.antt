@@ -49,7 +49,7 @@ pushes_in [] = 0
 pushes_in (steps.Saw number ∷ ss) = pushes_in ss
 pushes_in (steps.Pushed number ∷ ss) = pushes_in ss + 1
 
--- how many these events do
+-- how many states these events push
 abbrev pub pushes_told : List (MutatorEvent Item) → ℕ
 pushes_told [] = 0
 pushes_told (mutator.Push k x items ∷ es) = pushes_told es + 1
@@ -66,7 +66,7 @@ seen_after pushed seen (steps.Pushed number ∷ ss) = seen_after (pushed + 1) fa
 abbrev pub AreStates : ℕ → List FastState → (ℕ → FastState) → Type 0
 AreStates frames states state = (k : ℕ) → k ≤ length states → state k ≡ state_at frames states k
 
--- What is kept of the queue, where each poll found a state that was pushed: the ends have a history up to their last meeting, which left these numbers, and the steps kept since then are what they did since then
+-- What is kept of the queue, if each poll found a state that was pushed: the ends have a history up to their last meeting, which left these numbers, and the steps kept since then are what they did since then
 pub record QueueFollows (frames : ℕ) (states : List FastState) (current : ℕ) (told : QueueTold) (q : QueueKept) : Type 0 where
   pub point : QueuePoint Item
   pub firsts : List (MutatorEvent Item)
@@ -95,7 +95,7 @@ FindsBeyond states [] = ⊥
 FindsBeyond states (looks.Found number ∷ ls) = (states < number) ⊎ FindsBeyond states ls
 FindsBeyond states (looks.Acknowledged number ∷ ls) = FindsBeyond states ls
 
--- some event is such a look
+-- some event is a look that finds a state beyond so many
 abbrev pub SeesBeyond : ℕ → List (ObserverEvent Item) → Type 0
 SeesBeyond states [] = ⊥
 SeesBeyond states (observer.SawNext k x items ∷ es) = (states < k) ⊎ SeesBeyond states es
@@ -113,7 +113,7 @@ pub record QueueLost (states : ℕ) (told : QueueTold) (q : QueueKept) : Type 0 
 abbrev pub QueueGoes : Session → Run → QueueKept → Type 0
 QueueGoes s run q = QueueFollows (cycle_frames s) run.states run.current run.queue q
 
--- and in any
+-- what is kept of the queue of a run, whatever its polls found
 abbrev pub QueueOf : Session → Run → QueueKept → Type 0
 QueueOf s run q = QueueGoes s run q ⊎ QueueLost (length run.states) run.queue q
 
@@ -160,7 +160,7 @@ pipe_noted s e p = if e.ended then p else with_put (put_by (setup_of s) e.mixes)
 
 -- ## All three
 
--- what is kept of the report and of the pipe, where all turns so far were legal, and how many states were pushed
+-- what is kept of the report and of the pipe, if all turns so far were legal, and how many states were pushed
 pub record BesideQueue (s : Session) (run : Run) (r : ReportKept) (p : PipeKept) : Type 0 where
   pub report : ReportOf s run r
   pub pipe : PipeOf s run p

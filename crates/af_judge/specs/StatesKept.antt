@@ -19,7 +19,7 @@ IsAway holder = is_home holder ≡ false
 abbrev pub IsLent : Holder → Type 0
 IsLent holder = is_lent holder ≡ true
 
--- each slot that the state carries is that of its track, whose proxy is such a one
+-- each slot that the state carries is that of its track, whose proxy's holder is of this kind
 abbrev pub CarriesBy : (Holder → Type 0) → List TrackKept → FastState → Type 0
 CarriesBy Is tracks x = (k : ℕ) → k < slots → carries x k ≡ true → ((track_at tracks (slot_of x k).track).slot ≡ Some k) × Is (track_at tracks (slot_of x k).track).holder
 

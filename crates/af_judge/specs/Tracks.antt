@@ -21,7 +21,7 @@ pub record IsCallOf (t : Track) (answer : ClientCall) : Type 0 where
   pub is : wanted_of t ≡ Some wanted
   pub made : IsMade t wanted answer
 
--- each of these calls is, after those before it
+-- the track wants each of these calls, which answers right, after those before it
 abbrev pub AreMade : Track → List ClientCall → Type 0
 AreMade t [] = Unit {0}
 AreMade t (answer ∷ calls) = IsCallOf t answer × AreMade (after_call t answer) calls
@@ -44,7 +44,7 @@ pub record IsTrackOf (ops : List Op) (j : TrackJudge) (t : TrackTold) : Type 0 w
   pub stream : IsBlockOf j.stream t.stream
   pub commands : IsBlockOf j.commands t.commands
 
--- the words that a call releases, where so many were released of the file
+-- the words that a call releases, if so many were released of the file
 abbrev pub words_by : ℕ → List ℕ → ClientCall → List ℕ
 words_by released file (call.Put front count) = take count (drop released file)
 words_by released file (call.Sent front code argument) = code ∷ argument ∷ []

@@ -114,7 +114,7 @@ impl BlockJudge {
         BlockJudge::of(alloc, shape, lawful, true)
     }
 
-    /// The same of a block that has no hand.
+    /// A block that has no hand, on which nothing was done. `lawful` says that no poke of it is told in the whole journal.
     pub fn without_hand(alloc: Global, shape: Shape, lawful: bool) -> BlockJudge
         requires { shape.wrap ≤ 2 ^ 31 }
         ensures { result ≡ record { shape = shape; lawful = lawful; client = []; server = []; hand = []; released = []; taken = [] } }
@@ -144,14 +144,14 @@ impl BlockJudge {
         self.server.shape()
     }
 
-    /// What a report or a mixer learns of its server, without looks.
+    /// What a report or a mixer learns of the block's server, without looks.
     pub fn known(&self) -> Heard
         ensures { result ≡ known_by (listed_in self.now) }
     {
         self.server.known()
     }
 
-    /// Its server, to be tried out.
+    /// The block's server, to be tried out.
     pub fn server(&self) -> ServerJudge
         ensures { IsServerOf (listed_in self.now) result }
     {
@@ -167,7 +167,7 @@ impl BlockJudge {
 
     // ## The client
 
-    // Its client did this.
+    // The block's client did this.
     fn client_does(&mut self, event: ClientEvent) -> Result<(), Memory>
         ensures told { OnOk result (self.new ≡ client_more (event ∷ []) self.old) }
     {
@@ -193,7 +193,7 @@ impl BlockJudge {
         self.client_does(ClientEvent::Release { count })
     }
 
-    /// Its client made a call. `was_shut` says whether its proxy was shut before.
+    /// The block's client made a call. `was_shut` says whether its proxy was shut before.
     pub fn called(&mut self, was_shut: bool, call: ClientCall) -> Result<(), Memory>
         ensures { OnOk result (self.new ≡ client_more (client_call_events was_shut call) self.old) }
     {
@@ -222,7 +222,7 @@ impl BlockJudge {
         }
     }
 
-    /// Its client released the words of a command.
+    /// The block's client released the words of a command.
     pub fn release(&mut self, code: u32, argument: u32) -> Result<(), Memory>
         ensures { OnOk result (self.new ≡ released_more (code ∷ argument ∷ []) self.old) }
     {
@@ -230,7 +230,7 @@ impl BlockJudge {
         self.words.release(argument)
     }
 
-    /// Its client released these frames.
+    /// The block's client released these frames.
     pub fn release_frames(&mut self, frames: &[Frame]) -> Result<(), Memory>
         ensures { OnOk result (self.new ≡ released_more (map packed_word frames.now) self.old) }
     {
@@ -239,7 +239,7 @@ impl BlockJudge {
 
     // ## The server and the hand
 
-    // Its server did this.
+    // The block's server did this.
     fn server_does(&mut self, event: ServerEvent) -> Result<(), Memory>
         ensures told { OnOk result (self.new ≡ server_more (event ∷ []) self.old) }
     {
@@ -248,7 +248,7 @@ impl BlockJudge {
         Ok(())
     }
 
-    // Its hand did this.
+    // The block's hand did this.
     fn hand_does(&mut self, event: HandEvent) -> Result<(), Memory>
         ensures told { OnOk result (self.new ≡ hand_more (event ∷ []) self.old) }
     {
@@ -262,7 +262,7 @@ impl BlockJudge {
         self.server.front_told(asked, slot)
     }
 
-    // Whether a look answers as its words say: on a block that is lawful by the server's own front where the answer leaves it open, on another by some front.
+    // Whether a look answers as its words say: on a block that is lawful by the server's own front if the answer leaves it open, on another by some front.
     fn answers(&self, asked: u32, slot: SlotEntry) -> bool
         ensures { IsTrue result ↔ LooksRightly self.now.lawful asked (listed_in self.now) slot }
     {
@@ -312,7 +312,7 @@ impl BlockJudge {
         Ok(())
     }
 
-    // Missing frames are tallied, where there are some.
+    // Missing frames are tallied, if there are some.
     fn tally(&mut self, missing: u32) -> Result<(), Memory>
         ensures { OnOk result (self.new ≡ server_more (tally missing) self.old) }
     {
@@ -338,7 +338,7 @@ impl BlockJudge {
         }
     }
 
-    /// A mixer's look at a stream block, with the gains before it, the take and the flags after it. Answers whether the look answers as its words say: on a block that is lawful by the server's own front where the answer leaves it open, on another by some front.
+    /// A mixer's look at a stream block, with the gains before it, the take and the flags after it. Answers whether the look answers as its words say: on a block that is lawful by the server's own front if the answer leaves it open, on another by some front.
     pub fn played(&mut self, asked: u32, slot: &SlotEntry, frames: &[Frame]) -> Result<bool, Memory>
         ensures told { OnOk result (self.new ≡ played_told asked slot.now (map packed_word frames.now) self.old) }
         ensures right { IfOk result (λ yes. IsTrue yes ↔ LooksRightly self.old.lawful asked (listed_in self.old) slot.now) }
@@ -369,7 +369,7 @@ impl BlockJudge {
         self.answers(2, as_slot(look)) && has_words(look)
     }
 
-    // The words of a command are taken, where one was shown.
+    // The words of a command are taken, if one was shown.
     fn take_if_shown(&mut self, look: CommandLook) -> Result<(), Memory>
         ensures { OnOk result (self.new ≡ server_more (takes_command look) (taken_more self.old.server (if shows_command look.seen then look.code ∷ look.argument ∷ [] else []) self.old)) }
     {
@@ -431,7 +431,7 @@ impl BlockJudge {
         self.hand_does(HandEvent::Met { client })
     }
 
-    // The parties meet: client and server, and the hand, where these say so.
+    // The parties meet: client and server, and the hand, if these say so.
     fn met(&mut self, server_there: bool, hand_there: bool) -> Result<(), Memory>
         ensures { OnOk result (self.new ≡ parties_met server_there hand_there self.old) }
     {
@@ -456,7 +456,7 @@ impl BlockJudge {
         Ok(are_all(has, whole, released))
     }
 
-    /// The parties meet: client and server where `server_there` says so, the hand where it is made. Answers whether the block has its history, where that is judged: where the server takes part and nothing was poked so far; else true.
+    /// The parties meet: client and server if `server_there` says so, the hand if it is made. Answers whether the block has its history, if that is judged: if the server takes part and nothing was poked so far; else true.
     pub fn meet(&mut self, server_there: bool, hand_there: bool) -> Result<bool, Memory>
         ensures met { OnOk result (self.new ≡ parties_met server_there hand_there self.old) }
         ensures has { IfOk result (λ yes. IsTrue yes ↔ (server_there ≡ true → is_lawful self.new.client ≡ true → HasItsHistory self.new)) }

@@ -54,7 +54,7 @@ fn is_write(call: ClientCall) -> bool
     }
 }
 
-// It reads the status.
+// The call reads the status.
 fn is_status(call: ClientCall) -> bool
     ensures { result ≡ is_status call }
 {
@@ -64,7 +64,7 @@ fn is_status(call: ClientCall) -> bool
     }
 }
 
-// It flushes.
+// The call flushes.
 fn is_flush(call: ClientCall) -> bool
     ensures { result ≡ is_flush call }
 {
@@ -74,7 +74,7 @@ fn is_flush(call: ClientCall) -> bool
     }
 }
 
-// It clears DISABLED.
+// The call clears DISABLED.
 fn is_clear(call: ClientCall) -> bool
     ensures { result ≡ is_clear call }
 {
@@ -84,7 +84,7 @@ fn is_clear(call: ClientCall) -> bool
     }
 }
 
-/// It is made on the command block.
+/// The call is made on the command block.
 pub fn is_of_commands(call: ClientCall) -> bool
     ensures { result ≡ is_of_commands call }
 {
@@ -207,7 +207,7 @@ impl SidesJudge {
         is_wanted(&self.stream, wanted, call) && self.answers(asked_by(wanted), call)
     }
 
-    // How many words the call releases, where the file has so many frames.
+    // How many words the call releases, if the file has so many frames.
     fn words_of(&self, file: u64, call: ClientCall) -> u32
         ensures { result ≡ words_of file self.now call }
     {
@@ -228,7 +228,7 @@ impl SidesJudge {
         self.commands.words() / 2
     }
 
-    /// Notes a call, where the file has so many frames.
+    /// Notes a call, if the file has so many frames.
     pub fn note(&mut self, file: u64, call: ClientCall)
         requires few { AreFew self.old.stream × AreFew self.old.commands }
         ensures called { self.new ≡ sides_called file call self.old }

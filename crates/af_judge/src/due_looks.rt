@@ -27,7 +27,7 @@ pub fn is_passed(seen: &TrackTurn) -> bool
     seen.looks.as_slice().is_empty() && seen.status.is_none() && !seen.disabled
 }
 
-// Whether the status word was stored where it differs from the last one.
+// Whether the status word was stored if it differs from the last one, and else none.
 fn is_stored(status: Option<u32>, last: u32, word: u32) -> bool
     ensures { IsTrue result ↔ (status ≡ stored_over last word) }
 {
@@ -53,7 +53,7 @@ impl Ready {
         looks.len() == MOST_LOOKS
     }
 
-    // No look where a START waits, else those that are due.
+    // No look if a START waits, else those that are due.
     fn has_due_looks(self, looks: &[CommandLook]) -> bool
         requires room { self.track.settled < 2 ^ 30 }
         ensures { IsTrue result ↔ HasDueLooks self.given self.heard.flush_seen looks.now self.track }
@@ -84,7 +84,7 @@ impl Ready {
         disabled
     }
 
-    /// Whether the looks are those due, DISABLED is set where the report says so, and the status is stored where it is new.
+    /// Whether the looks are those due, DISABLED is set if the report says so, and the status is stored if it is new.
     pub fn is_served(self, seen: &TrackTurn) -> bool
         requires room { self.track.settled + length seen.now.looks.items < 2 ^ 24 }
         ensures { IsTrue result ↔ IsServed self.given self.heard (track_seen seen.now) self.track }

@@ -21,7 +21,7 @@ pub const ABSENT: SlotEntry = SlotEntry {
     first: 0,
 };
 
-/// What a cycle is by its state, where there is one, after a cold generation was performed.
+/// What a cycle is by its state, if there is one, after a cold generation was performed.
 pub fn cycle_of(done: u32, state: Option<&FastState>) -> Cycle
     ensures { result ≡ cycle_of done (option_map (λ x. x.now) state.entry) }
 {
@@ -74,7 +74,7 @@ fn marks_to(marks: u32, state: &FastState, slot: usize) -> u32
     marks
 }
 
-// The marks of a state: bit i is set where slot i is mono.
+// The marks of a state: bit i is set if slot i is mono.
 fn mono_marks(state: &FastState) -> u32
     ensures { result ≡ mono_marks state.now slots }
 {
@@ -134,7 +134,7 @@ fn shown(count: u32) -> Seen
     }
 }
 
-/// Whether the slot of the submix is that of a look for so many frames, where so many were taken before.
+/// Whether the slot of the submix is that of a look for so many frames, if so many were taken before.
 pub fn is_submix(asked: u32, taken: usize, slot: &SlotEntry) -> bool
     ensures { IsTrue result ↔ (slot.now ≡ submix_slot asked (wrapped taken) slot.now.rear slot.now.first) }
 {

@@ -112,7 +112,7 @@ fn both(first: bool, second: bool) -> bool
     first && second
 }
 
-// The second holds where the first does.
+// The second holds if the first does.
 fn holds_if(first: bool, second: bool) -> bool
     ensures { IsTrue result ↔ (first ≡ true → IsTrue second) }
 {
@@ -175,7 +175,7 @@ fn may_end(full: bool, whole: bool, mixed: bool) -> bool
     full || whole || !mixed
 }
 
-/// Whether a turn of these entries ends where it may: after so many cycles, or after one that isn't Mixed, or, where it says so, since the log is full. Each before the last is Mixed.
+/// Whether a turn of these entries ends where it may: after so many cycles, or after one that isn't Mixed, or, if `full` says so, since the log is full. Each before the last is Mixed.
 pub fn is_fast_turn(log: &FastLog, entries: Entries, cycles: usize, full: bool) -> bool
     requires { entries.first + entries.count ≤ length log.now.entries }
     ensures { IsTrue result ↔ EndsAsTurn log.now.entries entries.first entries.count cycles full }
@@ -248,21 +248,21 @@ impl FastJudge {
         }
     }
 
-    /// It has ended.
+    /// The fast mixer has ended.
     pub fn has_ended(&self) -> bool
         ensures { result ≡ self.now.ended }
     {
         self.ended
     }
 
-    /// How many entries it added.
+    /// How many entries the fast mixer added.
     pub fn entries(&self) -> u64
         ensures { result ≡ self.now.told.report.cycle }
     {
         self.told.report().cycle
     }
 
-    /// It holds the stream proxy of a track: the state adopted last carries it.
+    /// The fast mixer holds the stream proxy of a track: the state adopted last carries it.
     pub fn holds(&self, states: &[FastState], track: u32) -> bool
         ensures { result ≡ carries_track (adopted_in self.now.told states.now) track }
     {
@@ -284,7 +284,7 @@ impl FastJudge {
         self.reports.clear();
     }
 
-    // Whether an entry follows: its state is that of the last entry or the next one, and was pushed, and it is what its state makes it.
+    // Whether an entry follows: its state is that of the last entry or the next one, and was pushed, and the entry is what its state makes it.
     fn follows(&self, states: &[FastState], entry: &CycleEntry) -> bool
         ensures { IsTrue result ↔ FollowsTold self.now states.now entry.now }
     {
@@ -311,7 +311,7 @@ impl FastJudge {
         self.told.state(states, number)
     }
 
-    // Plays a slot of a state where the entry shows it, and answers whether its look is right.
+    // Plays a slot of a state if the entry shows it, and answers whether its look is right.
     fn play_slot(
         &self,
         state: &FastState,
@@ -371,7 +371,7 @@ impl FastJudge {
         Ok(right)
     }
 
-    // Plays the slots of an entry under a state, and answers whether they are those of a mix, where it mixes.
+    // Plays the slots of an entry under a state, and answers whether they are those of a mix, if it mixes.
     fn mix(
         &mut self,
         state: &FastState,
@@ -410,7 +410,7 @@ impl FastJudge {
         Ok(())
     }
 
-    /// Tells an entry, with the states pushed so far: the poll, the looks of its slots, and the report. Answers whether it is legal after what was told.
+    /// Notes an entry, with the states pushed so far: the poll, the looks of its slots, and the report. Answers whether it is legal after what was told.
     pub fn entry(
         &mut self,
         states: &[FastState],
@@ -430,7 +430,7 @@ impl FastJudge {
         Ok(both(follows, mixes))
     }
 
-    /// Tells these entries, one after the other. Answers whether each is legal after what was told.
+    /// Notes these entries, one after the other. Answers whether each is legal after what was told.
     pub fn enter(
         &mut self,
         states: &[FastState],
@@ -489,7 +489,7 @@ impl FastJudge {
         within_round(self.before.cycle, number)
     }
 
-    /// The report of a number, where these entries of the round are still to come; where there aren't so many, the last one. A number before the round stands for the last report before it.
+    /// The report of a number, if these entries of the round are still to come; if there aren't so many, the last one. A number before the round stands for the last report before it.
     pub fn report_of(
         &self,
         states: &[FastState],

@@ -42,7 +42,7 @@ pub fn is_noticed(shape: Shape, new: bool, rear: u32, front: u32) -> bool
     new && (shape.wrap == 0 || !is_outside(shape, front, rear))
 }
 
-// How far a word lies past a front, or 0 where it lies before it.
+// How far a word lies past a front, or 0 if it lies before the front.
 fn past_front(front: u32, to: u32) -> u32
     ensures { result ≡ past_front front to }
 {

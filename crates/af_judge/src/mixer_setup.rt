@@ -164,7 +164,7 @@ impl MixerSetup {
         track.heard(own, report.slots[track.slot_number() as usize])
     }
 
-    /// Whether the takes are those of the tracks that are due: where the pipe has room for a buffer those that are mixed here, in order.
+    /// Whether the takes are those of the tracks that are due: if the pipe has room for a buffer those that are mixed here, in order.
     pub fn are_due(&self, room: u32, takes: &[NormalTake], tracks: &[TrackKept]) -> bool
         requires sizes { (self.now.frames ≤ 1024) × (self.now.normal ≤ 16) }
         ensures { IsTrue result ↔ (map (λ take. take.track) (map take_seen takes.now) ≡ tracks_due self.now room tracks.now) }
@@ -195,7 +195,7 @@ impl MixerSetup {
         }
     }
 
-    /// The frames that a turn with these takes put into the pipe: one buffer of their mix, where there are some. Memory is its only refusal.
+    /// The frames that a turn with these takes put into the pipe: one buffer of their mix, if there are some. Memory is its only refusal.
     pub fn put(&self, alloc: Global, takes: &[NormalTake]) -> Result<Vec<Frame>, Memory>
         requires sizes { (self.now.frames ≤ 1024) × (self.now.normal ≤ 16) }
         ensures { IfOk result (λ frames. frames.items ≡ put_by self.now (map take_seen takes.now)) }

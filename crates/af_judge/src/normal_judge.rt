@@ -90,7 +90,7 @@ impl NormalJudge {
         self.mixer.has_ended()
     }
 
-    /// Whether it made its hands.
+    /// Whether the mixer made its hands.
     pub fn has_hands(&self) -> bool
         ensures { result ≡ self.now.handed }
     {
@@ -104,7 +104,7 @@ impl NormalJudge {
         self.states.as_slice()
     }
 
-    /// The state that it would push now.
+    /// The state that the mixer would push now.
     pub fn draft(&self) -> &FastState
         ensures { result.now ≡ self.now.plain.kept.draft }
     {
@@ -121,7 +121,7 @@ impl NormalJudge {
         }
     }
 
-    /// The frames that a turn with these takes put into the pipe: one buffer of their mix, where there are some. Memory is its only refusal.
+    /// The frames that a turn with these takes put into the pipe: one buffer of their mix, if there are some. Memory is its only refusal.
     pub fn put(&self, alloc: Global, takes: &[NormalTake]) -> Result<Vec<Frame>, Memory>
         requires judged { IsJudged self.now }
         ensures { IfOk result (λ frames. frames.items ≡ put_by self.now.setup (map take_seen takes.now)) }
@@ -201,7 +201,7 @@ impl NormalJudge {
         )
     }
 
-    // Tells what a turn did for each track. Answers whether each look answers as its words say.
+    // Notes what a turn did for each track. Answers whether each look answers as its words say.
     fn tell_all(
         &self,
         tracks: &mut [TrackJudge],
@@ -224,7 +224,7 @@ impl NormalJudge {
         Ok(right)
     }
 
-    // The state is pushed, where the push says so.
+    // The state is pushed, if the push says so.
     fn push(&mut self, push: Push) -> Result<(), Memory>
         ensures pushed { IfOk result (λ done. let x = self.old.plain.kept.draft in self.new ≡ record self.old { last = (if is_pushed push then x else self.old.last); states = self.old.states ++ (if is_pushed push then x ∷ [] else []) }) }
     {
@@ -325,7 +325,7 @@ impl NormalJudge {
         Ok(told & played & follows)
     }
 
-    /// A turn, by the report that it loaded, over the blocks, which are told what it did. Answers whether it is legal. Memory is its only refusal, also where the turns weigh more together than is counted: each weighs 1, and one more for each 64 looks that its longest track has beyond its first 64.
+    /// A turn, by the report that it loaded, over the blocks, in which what it did is noted. Answers whether it is legal. Memory is its only refusal, also if the turns weigh more together than is counted: each weighs 1, and one more for each 64 looks that its longest track has beyond its first 64.
     pub fn turn(
         &mut self,
         alloc: Global,

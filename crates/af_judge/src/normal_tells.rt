@@ -1,4 +1,4 @@
-//! What a turn of the normal mixer did to the blocks, as it is told to them.
+//! What a turn of the normal mixer did to the blocks, as it is noted in them.
 ghost use Rattle.std.specs.Prelude.{◌≡◌, ◌↔◌, ℕ, ◌+◌, ◌<◌, ◌&&◌, IfOk, IsTrue, OnOk, length, map};
 ghost use Rattle.std.specs.List.{AllByRecursion};
 ghost use Rattle.af_base.specs.Turn.{take_seen, track_seen};
@@ -25,7 +25,7 @@ pub fn all_known(alloc: Global, tracks: &[TrackJudge]) -> Result<Vec<Heard>, Mem
     Ok(own)
 }
 
-// Tells the looks at a command block. Answers whether each answers as its words say.
+// Notes the looks at a command block. Answers whether each answers as its words say.
 fn all_looked(commands: &mut BlockJudge, looks: &[CommandLook]) -> Result<bool, Memory>
     ensures told { OnOk result (commands.new ≡ looks_told looks.now commands.old) }
     ensures right { IfOk result (λ right. IsTrue right ↔ AllAnswer commands.old.lawful (listed_in commands.old) looks.now) }
@@ -37,7 +37,7 @@ fn all_looked(commands: &mut BlockJudge, looks: &[CommandLook]) -> Result<bool, 
     Ok(right)
 }
 
-// Tells the take of a track for the buffer. Answers whether its look answers as its words say, and all frames that it shows are taken, with 0 as their place.
+// Notes the take of a track for the buffer. Answers whether its look answers as its words say, and all frames that it shows are taken, with 0 as their place.
 fn take_of_track(asked: u32, track: &mut TrackJudge, take: &NormalTake) -> Result<bool, Memory>
     ensures told { OnOk result (track.new ≡ take_told asked (take_seen take.now) track.old) }
     ensures right { IfOk result (λ right. IsTrue right ↔ TakeRight asked track.old (take_seen take.now)) }
@@ -48,7 +48,7 @@ fn take_of_track(asked: u32, track: &mut TrackJudge, take: &NormalTake) -> Resul
     Ok(fits & whole & (take.slot.first == 0))
 }
 
-// Tells a take for the buffer. Answers whether it is one of a track, for which it is right.
+// Notes a take for the buffer. Answers whether it is one of a track, for which it is right.
 fn taken(asked: u32, tracks: &mut [TrackJudge], take: &NormalTake) -> Result<bool, Memory>
     ensures many { length tracks.new ≡ length tracks.old }
     ensures told { OnOk result (IsTaken asked (take_seen take.now) tracks.old tracks.new) }
@@ -79,7 +79,7 @@ pub fn all_taken(
     Ok(right)
 }
 
-// Tells INVALID, where a track is found shut.
+// Notes INVALID, if a track is found shut.
 fn tell_shut(
     track: &mut TrackJudge,
     found: TrackKept,
@@ -98,7 +98,7 @@ fn tell_shut(
     Ok(())
 }
 
-/// Tells what a turn did for a track. Answers whether each look answers as its words say.
+/// Notes what a turn did for a track. Answers whether each look answers as its words say.
 pub fn tell(
     track: &mut TrackJudge,
     found: TrackKept,

@@ -55,7 +55,7 @@ impl PartiesJudge {
         self.lists.server_does(event)
     }
 
-    /// The hand did this. Where there is none that is refused as memory.
+    /// The hand did this. If there is none that is refused as memory.
     pub fn hand_does(&mut self, event: HandEvent) -> Result<(), Memory>
         ensures told { OnOk result (self.new ≡ record self.old { hand = self.old.hand ++ event ∷ [] }) }
         ensures kept { OnErr result (self.new ≡ self.old) }
@@ -80,7 +80,7 @@ impl PartiesJudge {
         self.lists.servers()
     }
 
-    // Where there is no hand, one that was given meets the client.
+    // If there is no hand, one that was given meets the client.
     fn meet_client(&mut self) -> Result<(), Memory>
         ensures { self.new ≡ self.old }
     {

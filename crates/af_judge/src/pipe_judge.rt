@@ -133,7 +133,7 @@ impl PipeJudge {
         Ok(())
     }
 
-    // The releases of so many frames: none for none, and two where the index reaches the number of cells in between.
+    // The releases of so many frames: none for none, and two if the index reaches the number of cells in between.
     fn release(&mut self, count: u32) -> Result<(), Memory>
         ensures { OnOk result (self.new ≡ record self.old { puts = self.old.puts ++ releases_of self.old.cells (length self.old.put) count }) }
     {

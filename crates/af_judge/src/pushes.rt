@@ -18,7 +18,7 @@ fn word_of(number: u64) -> u32
     }
 }
 
-/// Whether a push answered as it may, where the draft is to be pushed or not, and so many states were pushed before.
+/// Whether a push answered as it may, of a draft that is to be pushed or not, after so many states were pushed.
 pub fn is_legal_push(push: Push, dirty: bool, pushed: u64) -> bool
     requires few { pushed < 2 ^ 62 }
     ensures { (m : NormalKept) → m.dirty ≡ dirty → m.pushed ≡ pushed → IsTrue result ↔ LegalPush m push }
@@ -39,7 +39,7 @@ fn is_edited(before: &FastState, after: &FastState) -> bool
     before.tracks_gen < after.tracks_gen || after.command.code() != before.command.code()
 }
 
-/// Whether a draft is to be pushed, where it was to be before, or not, and was this one then.
+/// Whether a draft is to be pushed: it was to be before, or was edited since it was the other one.
 pub fn is_to_push(dirty: bool, before: &FastState, after: &FastState) -> bool
     ensures { result ≡ (dirty || is_edited before.now after.now) }
 {

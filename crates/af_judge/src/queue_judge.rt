@@ -54,7 +54,7 @@ impl MutatorNumbers {
         }
     }
 
-    // Whether the step is legal where the observer is so far.
+    // Whether the mutator's step is legal, with the observer where it is so far.
     fn may(self, observer: ObserverNumbers, step: MutatorStep) -> bool
         ensures { IsTrue result ↔ may_step (numbers self observer) (one step) }
     {
@@ -87,7 +87,7 @@ impl ObserverNumbers {
         }
     }
 
-    // Whether the step is legal where the mutator is so far.
+    // Whether the observer's step is legal, with the mutator where it is so far.
     fn may(self, mutator: MutatorNumbers, step: ObserverStep) -> bool
         ensures { IsTrue result ↔ may_step (numbers mutator self) (two step) }
     {
@@ -98,7 +98,7 @@ impl ObserverNumbers {
     }
 }
 
-// After all these steps.
+// What the mutator's numbers are after all these steps.
 fn mutated(from: MutatorNumbers, steps: &[MutatorStep]) -> MutatorNumbers
     ensures { result ≡ mutated from steps.now }
 {
@@ -109,7 +109,7 @@ fn mutated(from: MutatorNumbers, steps: &[MutatorStep]) -> MutatorNumbers
     point
 }
 
-// After all these steps.
+// What the observer's numbers are after all these steps.
 fn observed(from: ObserverNumbers, steps: &[ObserverStep]) -> ObserverNumbers
     ensures { result ≡ observed from steps.now }
 {
@@ -287,7 +287,7 @@ impl QueueJudge {
         }
     }
 
-    /// The observer found the state of this number, where it had adopted that of another one: a new state is acknowledged.
+    /// The observer found the state of this number, when it had adopted that of another one: a new state is acknowledged.
     pub fn polled(&mut self, current: u64, number: u64) -> Result<(), Memory>
         ensures { OnOk result (self.new ≡ with_looks (poll_steps current number) self.old) }
     {

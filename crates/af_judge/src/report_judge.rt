@@ -37,7 +37,7 @@ impl ReportJudge {
         self.loaded = Some(number);
     }
 
-    /// The ends meet, where so many reports are stored. Answers whether the load, if there was one, lies among those stored since the last meeting, and goes on from there.
+    /// The ends meet, when so many reports are stored. Answers whether the load, if there was one, lies among those stored since the last meeting, and goes on from there.
     pub fn meet(&mut self, stored: u64) -> bool
         ensures right { IsTrue result ↔ IsLoadOf stored self.old }
         ensures met { self.new ≡ record { met = stored; loaded = None } }

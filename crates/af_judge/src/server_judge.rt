@@ -30,7 +30,7 @@ pub struct ServerJudge {
     shut: Option<(u32, u32)>,
 }
 
-// A look shows something, and where it shows frames at least one.
+// A look shows something, and if it shows frames at least one.
 fn is_seen(seen: Seen) -> bool
     ensures { IsTrue result ↔ IsSeen seen }
 {
@@ -66,21 +66,21 @@ impl ServerJudge {
         self.shape
     }
 
-    /// How many frames it took and dropped, at most 2^64 - 1.
+    /// How many frames the server took and dropped, at most 2^64 - 1.
     pub fn consumed(&self) -> u64
         ensures { result ≡ self.now.consumed }
     {
         self.consumed
     }
 
-    /// It is shut.
+    /// The server is shut.
     pub fn is_shut(&self) -> bool
         ensures { result ≡ is_some self.now.shut }
     {
         self.shut.is_some()
     }
 
-    /// What a report or a mixer knows of it, without looks.
+    /// What a report or a mixer knows of the server, without looks.
     pub fn known(&self) -> Heard
         ensures { (s : Listed) → IsServerOf s self.now → result ≡ known_by s }
     {
@@ -108,7 +108,7 @@ impl ServerJudge {
         front_by_answer(self.shape, slot)
     }
 
-    // The front by which a look is judged: on a block without a poke the server's own, where the answer leaves it open.
+    // The front by which a look is judged: on a block without a poke the server's own, if the answer leaves it open.
     fn front_judged(&self, lawful: bool, asked: u32, slot: &SlotEntry) -> u32
         ensures { (s : Listed) → IsServerOf s self.now → result ≡ front_judged lawful asked s slot.now }
     {
@@ -134,7 +134,7 @@ impl ServerJudge {
         }
     }
 
-    /// Whether a look answers by the words seen, by the server's own front where a lawful block's answer leaves it open, and else by some front.
+    /// Whether a look answers by the words seen, by the server's own front if a lawful block's answer leaves it open, and else by some front.
     pub fn answers(&self, lawful: bool, asked: u32, slot: &SlotEntry) -> bool
         ensures { (s : Listed) → IsServerOf s self.now → IsTrue result ↔ LooksBy asked s slot.now (front_judged lawful asked s slot.now) }
     {
@@ -151,7 +151,7 @@ impl ServerJudge {
         self.own = self.own.wrapping_add(count);
     }
 
-    // A front is seen: one outside the room shuts it, unless a new flush is noticed.
+    // A front is seen: one outside the room shuts the server, unless a new flush is noticed.
     fn see_front(&mut self, front: u32)
         ensures { (k : ServerKept) → self.old ≡ server_at self.old.shape k → self.new ≡ server_at self.old.shape (server_keeps self.old.shape k (SawFront front)) }
     {
@@ -164,7 +164,7 @@ impl ServerJudge {
         }
     }
 
-    /// Notes what it did.
+    /// Notes what the server did.
     pub fn note(&mut self, event: ServerEvent)
         ensures { (k : ServerKept) → self.old ≡ server_at self.old.shape k → self.new ≡ server_at self.old.shape (server_keeps self.old.shape k event) }
     {

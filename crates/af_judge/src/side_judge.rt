@@ -44,14 +44,14 @@ impl SideJudge {
         }
     }
 
-    /// How many flushes it asked for.
+    /// How many flushes the client asked for.
     pub fn flushes(&self) -> u32
         ensures { result ≡ self.now.flushes }
     {
         self.flushes
     }
 
-    /// How many words it released.
+    /// How many words the client released.
     pub fn words(&self) -> u64
         ensures { result ≡ self.now.words }
     {
@@ -66,14 +66,14 @@ impl SideJudge {
         rear.wrapping_sub(front)
     }
 
-    /// It is shut.
+    /// The client's proxy is shut.
     pub fn is_shut(&self) -> bool
         ensures { result ≡ is_some self.now.kept.shut }
     {
         self.shut.is_some()
     }
 
-    // It isn't shut.
+    // The client's proxy isn't shut.
     fn is_open(&self) -> bool
         ensures { IsTrue result ↔ (self.now.kept.shut ≡ None) }
     {
@@ -109,7 +109,7 @@ impl SideJudge {
         self.is_open() && flags & INVALID != 0
     }
 
-    // Whether front and rear are those that shut it, or lie too far apart in this call.
+    // Whether front and rear are those that shut the proxy, or lie too far apart in this call.
     fn is_corrupt(&self, front: u32, rear: u32) -> bool
         ensures { IsTrue result ↔ AnswersBy self.now 0 (seen_call.Corrupt front rear) }
     {
@@ -160,7 +160,7 @@ impl SideJudge {
         }
     }
 
-    // A front outside the room shuts it.
+    // A front outside the room shuts the proxy.
     fn see_front(&mut self, front: u32)
         ensures { self.new ≡ record self.old { kept = record self.old.kept { shut = outside self.old.shape.frames front (wrapped self.old.kept.position) } } }
     {

@@ -56,7 +56,7 @@ fn is_full(asked: u32, seen: Seen) -> bool
     }
 }
 
-// It showed some of it.
+// A look showed some frames, but not all that were asked for.
 fn is_partial(asked: u32, seen: Seen) -> bool
     ensures { result ≡ is_partial asked seen }
 {
@@ -66,14 +66,14 @@ fn is_partial(asked: u32, seen: Seen) -> bool
     }
 }
 
-// It showed none of it.
+// A look showed no frames.
 fn is_empty(seen: Seen) -> bool
     ensures { result ≡ is_empty seen }
 {
     matches!(seen, Seen::Empty)
 }
 
-/// It showed something.
+/// A look showed something.
 pub fn is_shown(seen: Seen) -> bool
     ensures { result ≡ is_shown seen }
 {
@@ -116,7 +116,7 @@ fn counts_from(last: &FastState, slot: usize, before: SlotReport) -> SlotReport
     }
 }
 
-/// The state of a number, where it is pushed.
+/// The state of a number, if it is pushed.
 pub fn state_of(states: &[FastState], number: u64) -> Option<&FastState>
     ensures { option_map (λ x. x.now) result ≡ state_of states.now number }
 {
@@ -205,7 +205,7 @@ fn note_seen(server: &mut ServerJudge, was_shut: bool, slot: &SlotEntry, front: 
     note_look(server, slot, front);
 }
 
-// Notes missing frames, where there are some.
+// Notes missing frames, if there are some.
 fn note_missing(server: &mut ServerJudge, missing: u32)
     ensures { (s : Listed) → server.old ≡ server_of s → server.new ≡ server_of (did_more (tally missing) s) }
 {
@@ -255,7 +255,7 @@ fn foresee_track(servers: &mut [ServerJudge], asked: u32, track: u32, slot: &Slo
     note_slot(&mut servers[at], asked, slot);
 }
 
-// Notes that the track of a slot was played, where the entry shows it.
+// Notes that the track of a slot was played, if the entry shows it.
 fn foresee_slot(
     servers: &mut [ServerJudge],
     asked: u32,
@@ -272,7 +272,7 @@ fn foresee_slot(
     foresee_track(servers, asked, state.slots[slot].track, &entry.slots[slot]);
 }
 
-// The same for all slots.
+// Notes for each slot that its track was played, if the entry shows it.
 fn foresee_slots(servers: &mut [ServerJudge], asked: u32, state: &FastState, entry: &CycleEntry)
     ensures { (ss : List Listed) → servers.old ≡ map server_of ss → servers.new ≡ map server_of (slots_foreseen asked state.now entry.now slots ss) }
 {
@@ -323,7 +323,7 @@ impl Reporter {
         }
     }
 
-    /// The same once more, to be tried out.
+    /// The reporter once more, to be tried out.
     pub fn copy(&self) -> Reporter
         ensures { result ≡ self.now }
     {
@@ -344,7 +344,7 @@ impl Reporter {
         self.current
     }
 
-    /// The number of the state of the last entry, 0 where there is none.
+    /// The number of the state of the last entry, 0 if there is none.
     pub fn used(&self) -> u64
         ensures { result ≡ self.now.used }
     {
@@ -395,7 +395,7 @@ impl Reporter {
         }
     }
 
-    /// It polls and finds the state of a number, which it adopts where it was pushed.
+    /// The fast mixer polls and finds the state of a number, which it adopts if it was pushed.
     pub fn poll(&mut self, states: &[FastState], number: u64)
         ensures { self.new ≡ polled_in states.now number self.old }
     {
@@ -404,7 +404,7 @@ impl Reporter {
         }
     }
 
-    // The report of one slot after an entry, where this is known of its server. Of a state that isn't pushed only what the entry shows is told.
+    // The report of one slot after an entry, if this is known of its server. Of a state that isn't pushed only what the entry shows is told.
     fn slot(
         &self,
         states: &[FastState],

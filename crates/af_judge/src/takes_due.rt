@@ -8,7 +8,7 @@ ghost use Rattle.af_judge.specs.NormalChanges.{tracks_from, with_due};
 use af_base::NormalTake;
 use af_life::TrackKept;
 
-// The place of the next take once a track was come by, which is due or not; None where the take at this place isn't the one that is due.
+// The place of the next take once a track was come by, which is due or not; None if the take at this place isn't the one that is due.
 fn after_due(takes: &[NormalTake], next: usize, due: bool, track: usize) -> Option<usize>
     requires { next ≤ length takes.now }
     ensures { MatchOption result ((others : List ℕ) → tracks_from takes.now next ≡ with_due due track others → ⊥) (λ after. (after ≤ length takes.now) × ((others : List ℕ) → (tracks_from takes.now next ≡ with_due due track others) ↔ (tracks_from takes.now after ≡ others))) }

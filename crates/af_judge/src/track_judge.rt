@@ -84,7 +84,7 @@ fn frames_from(frames: &[Frame], at: u64, count: u32) -> &[Frame]
     &frames[first as usize..end as usize]
 }
 
-// The frames that a Put releases, where so many were released before.
+// The frames that a Put releases, if so many were released before.
 fn frames_put(file: &[Frame], released: u64, count: u32) -> &[Frame]
     ensures { map packed_word result.now ≡ take count (drop released (map packed_word file.now)) }
 {
@@ -109,7 +109,7 @@ impl TrackJudge {
         TrackJudge::of(alloc, shape, stream, commands)
     }
 
-    // The same, by the sizes of its stream block.
+    // A track before its first turn, by the sizes of its stream block.
     pub fn of(alloc: Global, shape: Shape, stream: bool, commands: bool) -> TrackJudge
         requires cells { shape.cells ≢ 0 }
         requires wrap { shape.wrap ≤ 2 ^ 31 }
@@ -123,21 +123,21 @@ impl TrackJudge {
         }
     }
 
-    /// Its client has ended.
+    /// The track's client has ended.
     pub fn has_ended(&self) -> bool
         ensures { result ≡ self.now.client.client.ended }
     {
         self.client.has_ended()
     }
 
-    /// Ends its client.
+    /// Ends the track's client.
     pub fn end(&mut self)
         ensures { self.new ≡ record self.old { client = record self.old.client { client = record self.old.client.client { ended = true } } } }
     {
         self.client.end();
     }
 
-    // Tells a call that was made when the client had released so many frames of its file.
+    // Notes a call that was made when the client had released so many frames of its file.
     fn tell(
         &mut self,
         was_shut: bool,
@@ -164,7 +164,7 @@ impl TrackJudge {
         }
     }
 
-    // Whether the client makes this call next, and answers right. It is told then.
+    // Whether the client makes this call next, and answers right. It is noted then.
     fn call(&mut self, ops: &[Op], file: &[Frame], call: ClientCall) -> Result<bool, Memory>
         requires few { self.old.client.calls < 2 ^ 29 }
         ensures calls { self.new.client.calls ≤ self.old.client.calls + 1 }
@@ -207,7 +207,7 @@ impl TrackJudge {
         self.client.ends_turn(ops)
     }
 
-    /// Whether these calls are a turn of its client. Where they are they are told, and the client is that of its next turn; else the client and what it did are of no more use, and its servers are as before. More calls than can be counted are refused as memory.
+    /// Whether these calls are a turn of the track's client. If they are they are noted, and the client is that of its next turn; else the client and what it did are of no more use, and its servers are as before. More calls than can be counted are refused as memory.
     pub fn client_turn(
         &mut self,
         ops: &[Op],

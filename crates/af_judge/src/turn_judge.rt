@@ -49,14 +49,14 @@ impl ClientJudge {
         }
     }
 
-    /// It has ended.
+    /// The client has ended.
     pub fn has_ended(&self) -> bool
         ensures { result ≡ self.now.client.ended }
     {
         self.client.has_ended()
     }
 
-    /// Ends it.
+    /// Ends the client.
     pub fn end(&mut self)
         ensures { self.new ≡ record self.old { client = record self.old.client { ended = true } } }
     {
@@ -70,21 +70,21 @@ impl ClientJudge {
         self.sides.is_shut_for(call)
     }
 
-    /// How many words it released on its stream block.
+    /// How many words the client released on its stream block.
     pub fn released(&self) -> u64
         ensures { result ≡ self.now.sides.stream.words }
     {
         self.sides.released()
     }
 
-    /// How many calls it made.
+    /// How many calls the client made.
     pub fn calls(&self) -> u64
         ensures { result ≡ self.now.calls }
     {
         self.calls
     }
 
-    /// Ends its turn that is cut after its last call.
+    /// Ends the client's turn that is cut after its last call.
     pub fn cut_turn(&mut self, ops: &[Op])
         ensures client { client_of ops.now self.new.client ≡ at_next_turn true (client_of ops.now self.old.client) }
         ensures same { self.new ≡ record self.old { client = self.new.client } }
@@ -92,7 +92,7 @@ impl ClientJudge {
         self.client.end_turn(ops, true);
     }
 
-    /// Whether its turn ends here, since it wants no more. It is then the client of its next turn.
+    /// Whether the client's turn ends here, since it wants no more. It is then the client of its next turn.
     pub fn ends_turn(&mut self, ops: &[Op]) -> bool
         ensures ends { EndsTurn result ops.now self.old self.new }
         ensures calls { self.new.calls ≡ self.old.calls }
@@ -106,7 +106,7 @@ impl ClientJudge {
         }
     }
 
-    // What it wants next, with its op begun; None where its turn ends.
+    // What the client wants next, with its op begun; None if its turn ends.
     fn wanted(&mut self, ops: &[Op]) -> Option<Want>
         ensures same { self.new ≡ record self.old { client = self.new.client } }
         ensures finds { FindsNext (client_of ops.now self.old.client) result (client_of ops.now self.new.client) }
@@ -130,7 +130,7 @@ impl ClientJudge {
         self.calls += 1;
     }
 
-    /// Whether the client makes this call next, and answers right, where its file has so many frames. Where it does the call is noted; else what is kept is of no more use.
+    /// Whether the client makes this call next, and answers right, if its file has so many frames. If it does the call is noted; else what is kept is of no more use.
     pub fn call(&mut self, ops: &[Op], file: u64, call: ClientCall) -> bool
         requires few { self.old.calls < 2 ^ 29 }
         ensures calls { self.new.calls ≤ self.old.calls + 1 }

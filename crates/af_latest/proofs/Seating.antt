@@ -1,4 +1,4 @@
--- The rule at the start, where the ends take their slots, and where a part changes seats.
+-- The rule at the start, when the ends take their slots, and when a part changes seats.
 use Rattle.std.proofs.Common.{◌≡◌, ℕ, true, false, true≢false, List, [], ◌∷◌, set, get_or, sym, refl, ap, ◌∙◌, subst, arith, length-set, zero, suc, Some}
 use mathlib.Core.Option.{none, some, some-injective, some-ne-none}
 use lib.ListN.{get_elem?}

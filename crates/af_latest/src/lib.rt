@@ -1,6 +1,6 @@
 //! A cell for one writer and one reader, which shows the newest value and makes nobody wait.
 //!
-//! It has three slots. The writer holds one, the reader holds one, and one word names the third: it is the slot's number, with 4 added where its value is fresh.
+//! It has three slots. The writer holds one, the reader holds one, and one word names the third: it is the slot's number, with 4 added if its value is fresh.
 #![tactic(auto)]
 
 mod laws;

@@ -51,7 +51,7 @@ impl<T> Model for Reader<T> {
     ghost invariant = { λ r. IsReader r.seat.me r.slot };
 }
 
-/// A cell with its two ends, whose first content is `first`. The one error is want of memory.
+/// A cell with its two ends, whose first content is `first`. Memory is its only refusal.
 pub fn latest<T: Copy>(alloc: Global, first: T) -> Result<(Latest<T>, Writer<T>, Reader<T>), Memory>
     ensures together { IfOk result (λ l. (l.1.cell ≡ l.0) × (l.2.cell ≡ l.0)) }
     ensures first { IfOk result (λ l. l.1.first ≡ Some first) }
@@ -96,7 +96,7 @@ impl<T: Copy> Writer<T> {
 }
 
 impl<T: Copy> Reader<T> {
-    /// The last value stored at the place of this load in the order of stores and loads. It takes one step, and one more where the value is another than at the load before. It takes no memory and never refuses.
+    /// The last value stored at the place of this load in the order of stores and loads. It takes one step, and one more if the value is another than at the load before. It takes no memory and never refuses.
     pub fn load<L: Ledger>(&mut self, cell: &Latest<T>, steps: &mut Steps<L>) -> T
         requires together { self.old.cell ≡ cell.now }
         ensures together { self.new.cell ≡ self.old.cell }

@@ -2,7 +2,7 @@
 use af_model::{ReaderEvent, WriterEvent};
 use std::collections::LinkedList;
 
-/// The first content, the writer's events, its slot, and whether that slot is out with it.
+/// What the writer has: the first content, its events, its slot, and whether that slot is out with it.
 pub struct Writing<T> {
     pub first: Option<T>,
     pub events: LinkedList<WriterEvent<T>>,
@@ -10,7 +10,7 @@ pub struct Writing<T> {
     pub out: bool,
 }
 
-/// The same of the reader, with the value in its slot. It is `fresh` from a look that found a fresh value to the swap.
+/// What the reader has: its events, its slot, whether that slot is out with it, and the value in it. It is `fresh` from a look that found a fresh value to the swap.
 pub struct Reading<T> {
     pub events: LinkedList<ReaderEvent<T>>,
     pub slot: u64,

@@ -78,13 +78,13 @@ commands =
 abbrev pub applies : Row → ℕ → Life → Bool
 applies row code life = (row.command == code) && (is_among row.states life.state && row.provided life)
 
--- the effect of the first row that applies; where none does, nothing changes
+-- the effect of the first row that applies; if none does, nothing changes
 abbrev pub first_effect : List Row → ℕ → ℕ → Life → Life
 first_effect [] code argument life = life
 first_effect (row ∷ rows) code argument life =
     if applies row code life then row.effect argument life else first_effect rows code argument life
 
--- what a command makes of a life: nothing where it has ended, else the table's effect
+-- what a command makes of a life: nothing if it has ended, else the table's effect
 unfoldable pub by_command : ℕ → ℕ → Life → Life
 by_command code argument life = if life.ended then life else first_effect commands code argument life
 

@@ -69,11 +69,11 @@ IsDrainedBy steps = (count : ℕ) × StoppedAt count steps × (count ≤ most_he
 abbrev pub is_stopping : Life → Bool
 is_stopping life = is_among (Stopping1 ∷ []) life.state
 
--- the life is where no STOP has an effect
+-- the life is in a state in which no STOP has an effect
 abbrev pub is_at_rest : Life → Bool
 is_at_rest life = is_among (Stopping2 ∷ Stopped ∷ Flushed ∷ []) life.state
 
--- What keeps it: a life on its way to a stop, or drained, was stopped at its count and not started since; a drained life has reached its count, and is at rest
+-- A life on its way to a stop, or drained, was stopped at its count and not started since; a drained life has reached its count, and is at rest
 pub record DrainsInOrder (steps : List LifeStep) : Type 0 where
   pub stopping : is_stopping (life_of steps) ≡ true → StoppedAt (life_of steps).stop_at steps
   pub drained : (life_of steps).drained ≡ true → StoppedAt (life_of steps).stop_at steps × ((life_of steps).stop_at ≤ most_heard steps)
@@ -89,13 +89,13 @@ Turned = Outside × Turn
 abbrev pub look_steps : CommandLook → List LifeStep
 look_steps look = if shows_command look.seen then told look.code look.argument ∷ [] else if is_shut look.seen then cut ∷ [] else []
 
--- those of the looks up to one that ends them, after steps before, the newest first
+-- the steps of the looks up to one that ends them, after steps before, the newest first
 abbrev pub looks_steps : Option ℕ → ℕ → List CommandLook → TrackKept → List LifeStep → List LifeStep
 looks_steps given flush_seen [] s before = before
 looks_steps given flush_seen (look ∷ looks) s before = let t = after_look given flush_seen look s in let steps = look_steps look ++ before in
     if goes_on look t then looks_steps given flush_seen looks t steps else steps
 
--- those of the track i in a turn, the newest first: its commands, and then the report
+-- the steps of the track i in a turn, the newest first: its commands, and then the report
 unfoldable pub track_steps : Setup → Learnt → NormalKept → Turn → ℕ → List LifeStep → List LifeStep
 track_steps c k m e i before = let tracks = tracks_at c k m e i in let s = track_at tracks i in let h = heard k i s in let r = ready k i s in
     if e.ended then before else if s.life.ended then before
@@ -106,7 +106,7 @@ abbrev pub kept_after : Setup → NormalKept → List Turned → NormalKept
 kept_after c m [] = m
 kept_after c m (t ∷ turns) = turn_after c (learnt t.0) (kept_after c m turns) t.1
 
--- the steps of the track i in them
+-- the steps of the track i in some turns
 abbrev pub steps_of : Setup → NormalKept → List Turned → ℕ → List LifeStep
 steps_of c m [] i = []
 steps_of c m (t ∷ turns) i = track_steps c (learnt t.0) (kept_after c m turns) t.1 i (steps_of c m turns i)

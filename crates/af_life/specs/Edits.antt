@@ -16,14 +16,14 @@ use Rattle.af_life.specs.Kept.{Setup, pipe_size, setting_of, NormalKept, track_a
 
 -- ## What comes home
 
--- a returning proxy comes where the last state pushed no longer has it, once that is acknowledged
+-- a returning proxy comes home if the last state pushed no longer has it, once that is acknowledged
 abbrev pub comes_home : FastState → TrackKept → Bool
 comes_home last s = is_returning s.holder && not (carries last (slot_number s))
 
 unfoldable pub welcomed : FastState → TrackKept → TrackKept
 welcomed last s = if comes_home last s then record s { holder = Home } else s
 
--- where the last push was seen acknowledged, all come that come by it
+-- if the last push was seen acknowledged, all proxies come home that come by it
 abbrev pub after_ack : Bool → NormalKept → NormalKept
 after_ack ack m = if ack then record m { tracks = map (welcomed m.last) m.tracks } else m
 
@@ -36,7 +36,7 @@ is_exit x = code_of x.command == code_of Exit
 abbrev pub must_leave : TrackKept → Bool
 must_leave s = is_lent s.holder && not (plays s.life)
 
--- it is home, has a slot and is to be heard
+-- the track's proxy is home, it has a slot and is to be heard
 abbrev pub must_enter : TrackKept → Bool
 must_enter s = is_home s.holder && (is_some s.slot && plays s.life)
 
@@ -60,7 +60,7 @@ lent_by draft own s = record s { holder = Lent; generation = (slot_of draft (slo
 unfoldable pub lend : Setup → ℕ → Heard → NormalKept → NormalKept
 lend c i own m = with_edit i (lent_by (entered c i m) own (track_at m.tracks i)) (entered c i m) m
 
--- the track i is attached or detached, where that is due
+-- the track i is attached or detached, if that is due
 unfoldable pub edited : Setup → Learnt → ℕ → NormalKept → NormalKept
 edited c k i m =
     if must_leave (track_at m.tracks i) then let_go i m
@@ -78,14 +78,14 @@ edited_to c k m (suc i) = edited c k i (edited_to c k m i)
 abbrev pub is_over : List TrackKept → Bool
 is_over tracks = list_all (λ s. s.life.ended && is_home s.holder) tracks
 
--- the command of the draft: an Exit stays, and comes where all is over and the pipe of this size has all its room; a mix where a track is to be heard or frames are in the pipe
+-- the command of the draft: an Exit stays, and comes if all is over and the pipe of this size has all its room; a mix if a track is to be heard or frames are in the pipe
 unfoldable pub next_command : (exits : Bool) → List TrackKept → (room size : ℕ) → Command
 next_command exits tracks room size =
     if exits || (is_over tracks && (room == size)) then Exit
     else if list_any (λ s. plays s.life) tracks || not (room == size) then MixWrite
     else ColdIdle
 
--- the draft is to be pushed where its command changes
+-- the draft is to be pushed if its command changes
 unfoldable pub ordered : Command → NormalKept → NormalKept
 ordered command m = if code_of command == code_of m.draft.command then m else record m { draft = with_command command m.draft; dirty = true }
 
@@ -105,7 +105,7 @@ after_push (Pushed number) m = record m { dirty = false; pushed = m.pushed + 1; 
 after_push Clean m = m
 after_push (Busy seen expected) m = m
 
--- the answer that a push may give: the next number, or Busy where a push stands and the word of the state before it was seen
+-- the answer that a push may give: the next number, or Busy if a push stands and the word of the state before it was seen
 abbrev pub LegalPush : NormalKept → Push → Type 0
 LegalPush m Clean = m.dirty ≡ false
 LegalPush m (Pushed number) = (m.dirty ≡ true) × (number ≡ m.pushed + 1)

@@ -11,7 +11,7 @@ use Rattle.af_life.specs.Kept.{Outside, Learnt, no_counts, is_home, slot_number}
 
 -- ## What is known of a proxy
 
--- so much is known, with the looks since the last turn
+-- what is heard of a stream by these numbers, with the looks since the last turn
 abbrev pub heard_with : (consumed flush_seen : ℕ) → Bool → Counts → Heard
 heard_with consumed flush_seen shut looks = record {
   known = record { consumed = consumed; fulls = looks.fulls; partials = looks.partials; empties = looks.empties; shut = shut };
@@ -39,19 +39,19 @@ is_reported r s = r.generation == s.generation
 
 -- ## What a turn hears
 
--- of a proxy that is home: what it knows, with the mixer's own looks
+-- what is heard of a proxy that is home: what it knows, with the mixer's own looks
 abbrev pub heard_at_home : Heard → TrackKept → Heard
 heard_at_home own s = heard_with own.known.consumed own.flush_seen own.known.shut s.own
 
--- Of a proxy elsewhere: what the report says, with the looks since the one before; where that is of an earlier attachment, what the proxy knew when it was attached
+-- What is heard of a proxy elsewhere: what the report says, with the looks since the one before; if that is of an earlier attachment, what the proxy knew when it was attached
 abbrev pub heard_elsewhere : SlotReport → TrackKept → Heard
 heard_elsewhere r s = if is_reported r s then heard_with r.consumed r.flush_seen r.shut (grown (counts_in r) s.reported) else s.at_attach
 
--- of either
+-- what is heard of a proxy, at home or elsewhere
 unfoldable pub heard_by : Heard → SlotReport → TrackKept → Heard
 heard_by own r s = if is_home s.holder then heard_at_home own s else heard_elsewhere r s
 
--- the looks that were heard of are not told again
+-- the track once its looks were heard of: none of them counts again
 unfoldable pub noted : SlotReport → TrackKept → TrackKept
 noted r s =
     if is_home s.holder then record s { own = no_counts }
@@ -69,7 +69,7 @@ settled_at flush_seen s = if is_reached flush_seen s.awaits then record s { awai
 
 -- ## The same of the track i
 
--- what the report says of its slot
+-- what the report says of a track's slot
 abbrev pub slot_reported : Learnt → TrackKept → SlotReport
 slot_reported k s = report_at k.report.slots (slot_number s)
 

@@ -16,7 +16,7 @@ use Rattle.af_life.specs.State.{new_life}
 
 -- ## What never changes
 
--- the frames of a fast cycle, the cycles of a normal buffer, and what each track is
+-- what a mixer is made of: the frames of a fast cycle, the cycles of a normal buffer, and what each track is
 pub record Setup : Type 0 where
   pub frames : ℕ
   pub normal : ℕ
@@ -39,7 +39,7 @@ setting_of c i = slice_index_or c.settings i no_setting
 
 -- ## What a turn leaves to the next
 
--- the tracks, the draft and whether it is to be pushed, how many states were pushed and the last of them, and whether a turn answered that the mixer has ended
+-- what a mixer keeps: the tracks, the draft and whether it is to be pushed, how many states were pushed and the last of them, and whether a turn answered that the mixer has ended
 pub record NormalKept : Type 0 where
   pub tracks : List TrackKept
   pub draft : FastState
@@ -83,12 +83,12 @@ abbrev pub is_returning : Holder → Bool
 is_returning Returning = true
 is_returning _ = false
 
--- the number of a slot, 0 where there is none
+-- the number of a slot, 0 if there is none
 abbrev pub number_of : Option ℕ → ℕ
 number_of None = 0
 number_of (Some k) = k
 
--- that of a track's slot
+-- the number of a track's slot, 0 if it has none
 abbrev pub slot_number : TrackKept → ℕ
 slot_number s = number_of s.slot
 
@@ -107,7 +107,7 @@ pub record Outside : Type 0 where
   pub stream_front : ℕ → ℕ
   pub command_fronts : ℕ → List ℕ
 
--- of a track that the turn passes over
+-- what a turn saw and did of a track that it passes over
 abbrev pub nothing_seen : TrackSeen
 nothing_seen = record { looks = []; status = None; disabled = false }
 
@@ -115,6 +115,6 @@ nothing_seen = record { looks = []; status = None; disabled = false }
 abbrev pub seen_at : List TrackSeen → ℕ → TrackSeen
 seen_at turns i = slice_index_or turns i nothing_seen
 
--- the same by its entry
+-- what a turn saw and did of the track of a number, by its entry
 abbrev pub track_in : Turn → ℕ → TrackSeen
 track_in e i = seen_at e.tracks i

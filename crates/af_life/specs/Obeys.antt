@@ -80,7 +80,7 @@ after_looks given flush_seen (look ∷ looks) s = let t = after_look given flush
 abbrev pub commanded : Option ℕ → ℕ → List CommandLook → TrackKept → TrackKept
 commanded given flush_seen looks s = if is_some s.awaits then s else after_looks given flush_seen looks s
 
--- the looks are as many as are due where up to so many are made: they end with the first that ends them, or with the last that may be made
+-- the looks are as many as are due if up to so many are made: they end with the first that ends them, or with the last that may be made
 abbrev pub are_due : ℕ → Option ℕ → ℕ → List CommandLook → TrackKept → Bool
 are_due zero given flush_seen [] s = true
 are_due zero given flush_seen (look ∷ looks) s = false

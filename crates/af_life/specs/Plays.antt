@@ -20,7 +20,7 @@ is_mixed_here s = not (is_some s.slot) && plays s.life
 abbrev pub mixed_here : List TrackKept → List ℕ
 mixed_here tracks = filter (λ i. is_mixed_here (track_at tracks i)) (range_with_len 0 (length tracks))
 
--- a buffer is mixed where the pipe has room for it
+-- the tracks that are mixed into a buffer, if the pipe has room for one
 abbrev pub tracks_due : Setup → ℕ → List TrackKept → List ℕ
 tracks_due c room tracks = if nat_le (buffer c) room then mixed_here tracks else []
 
@@ -40,12 +40,12 @@ after_takes c takes m = record m { tracks = fold (after_take (buffer c)) m.track
 abbrev pub take_of : Setup → TakeSeen → Take
 take_of c take = record { frames = take.frames; mono = (setting_of c take.track).mono; gains = take.slot.gains; scale = (setting_of c take.track).scale }
 
--- the frames put into the pipe: one buffer of the mix, where some track was mixed
+-- the frames put into the pipe: one buffer of the mix, if some track was mixed
 abbrev pub put_by : Setup → List TakeSeen → List Frame
 put_by c [] = []
 put_by c (take ∷ takes) = mix (map (take_of c) (take ∷ takes)) (buffer c)
 
--- The look answers by the words seen and the list before, all frames shown are taken, and its place is 0
+-- A take's look answers by the words seen and the list before, all frames shown are taken, and its place is 0
 pub record LegalTake (c : Setup) (o : Outside) (take : TakeSeen) : Type 0 where
   pub looks : LooksBy (buffer c) (o.streams take.track) take.slot (o.stream_front take.track)
   pub frames : length take.frames ≡ count_seen take.slot.seen

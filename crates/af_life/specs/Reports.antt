@@ -12,7 +12,7 @@ pub record Case : Type 0 where
   pub effect : Known → Life → Life
   pub tells : Known → Life → Bool
 
--- a row that tells nothing
+-- a row by which no track is disabled
 abbrev pub row : (Known → Life → Bool) → (Known → Life → Life) → Case
 row applies effect = record { applies = applies; effect = effect; tells = λ known life. false }
 
@@ -64,7 +64,7 @@ drained known life = record life { state = Stopping2; drained = true }
 abbrev pub stopped : Known → Life → Life
 stopped known life = record life { state = Stopped; member = false }
 
--- the retries that are left: all 50 again where a look showed frames, and then one less, down to 0, where a look showed none
+-- the retries that are left: all 50 again if a look showed frames, and then one less, down to 0, if a look showed none
 abbrev pub retries_after : Known → ℕ → ℕ
 retries_after known retries =
     let granted = (if nat_lt 0 known.fulls || nat_lt 0 known.partials then 50 else retries) in
@@ -74,7 +74,7 @@ retries_after known retries =
 abbrev pub no_retries_left : Known → Life → Bool
 no_retries_left known life = nat_lt 0 known.empties && (retries_after known life.retries == 0)
 
--- the life with the retries that are left, out of the mix where an empty look left none
+-- the life with the retries that are left, out of the mix if an empty look left none
 abbrev pub counted : Known → Life → Life
 counted known life =
     record life { retries = retries_after known life.retries; member = life.member && not (no_retries_left known life) }
@@ -101,7 +101,7 @@ first_effect [] known life = life
 first_effect (row ∷ rows) known life =
     if row.applies known life then row.effect known life else first_effect rows known life
 
--- what the first row that applies tells
+-- whether the first row that applies disables the track
 abbrev pub first_told : List Case → Known → Life → Bool
 first_told [] known life = false
 first_told (row ∷ rows) known life =

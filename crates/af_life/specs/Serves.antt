@@ -16,11 +16,11 @@ use Rattle.af_life.specs.Obeys.{slot_for, is_shut, commanded, are_due}
 abbrev pub most_looks : ℕ
 most_looks = 64
 
--- the number of a state in the status word: 15 where the track was shut
+-- the number of a state in the status word: 15 if the track was shut
 abbrev pub state_code : Bool → Life → ℕ
 state_code shut life = if shut then 15 else code_of life.state
 
--- the status word: the state, 16 where it is drained, and 256 for each command that is settled
+-- the status word: the state, 16 if it is drained, and 256 for each command that is settled
 unfoldable pub status_word : Bool → TrackKept → ℕ
 status_word shut s = state_code shut s.life + (if s.life.drained then 16 else 0) + 256 * s.settled
 
@@ -34,11 +34,11 @@ is_found_shut h looks = h.known.shut || list_any (λ look. is_shut look.seen) lo
 abbrev pub after_commands : Option ℕ → Heard → List CommandLook → TrackKept → TrackKept
 after_commands given h looks s = commanded given h.flush_seen looks s
 
--- and after the report
+-- the track after its commands and the report
 abbrev pub after_report : Option ℕ → Heard → List CommandLook → TrackKept → TrackKept
 after_report given h looks s = let t = after_commands given h looks s in record t { life = by_report h.known t.life }
 
--- its status word
+-- the status word of the track after its commands and the report
 abbrev pub status_due : Option ℕ → Heard → List CommandLook → TrackKept → ℕ
 status_due given h looks s = status_word (is_found_shut h looks) (after_report given h looks s)
 
@@ -46,15 +46,15 @@ status_due given h looks s = status_word (is_found_shut h looks) (after_report g
 unfoldable pub after_part : Option ℕ → Heard → List CommandLook → TrackKept → TrackKept
 after_part given h looks s = record (after_report given h looks s) { status = status_due given h looks s }
 
--- a word is stored where it differs from the last one
+-- the word that is stored: none if it is the same as the last one
 abbrev pub stored_over : ℕ → ℕ → Option ℕ
 stored_over last word = if word == last then None else Some word
 
--- no look where a START waits, else those that are due
+-- no look if a START waits, else those that are due
 abbrev pub HasDueLooks : Option ℕ → ℕ → List CommandLook → TrackKept → Type 0
 HasDueLooks given flush_seen looks s = MatchBool (is_some s.awaits) (looks ≡ []) (are_due most_looks given flush_seen looks s ≡ true)
 
--- the looks are those due, DISABLED is set where the report says so, and the status is stored where it is new
+-- the looks are those due, DISABLED is set if the report says so, and the status is stored if it is new
 pub record IsServed (given : Option ℕ) (h : Heard) (seen : TrackSeen) (s : TrackKept) : Type 0 where
   pub looks : HasDueLooks given h.flush_seen seen.looks s
   pub disabled : seen.disabled ≡ told_by_report h.known (after_commands given h seen.looks s).life
@@ -76,7 +76,7 @@ abbrev pub served_to : Setup → Learnt → List TrackSeen → List TrackKept �
 served_to c k seen tracks zero = tracks
 served_to c k seen tracks (suc i) = with_served c k seen i (served_to c k seen tracks i)
 
--- what the entry holds of the track i is what it does there; of one that had ended, nothing
+-- what the entry holds of the track i is what is due there; of one that had ended, nothing
 abbrev pub LegalTrack : Setup → Learnt → TrackSeen → List TrackKept → ℕ → Type 0
 LegalTrack c k seen tracks i = let s = track_at tracks i in
     MatchBool s.life.ended (seen ≡ nothing_seen) (IsServed (slot_for c tracks i) (heard k i s) seen (ready k i s))

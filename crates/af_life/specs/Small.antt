@@ -23,7 +23,7 @@ pub record IsSmallTrack (commands looks : ℕ) (s : TrackKept) : Type 0 where
   pub own : AreUpTo looks s.own
   pub slot : slot_number s < slots
 
--- each track is
+-- each track has settled at most so many commands and made so many looks
 abbrev pub AreSmall : ℕ → ℕ → List TrackKept → Type 0
 AreSmall commands looks tracks = (i : ℕ) → IsSmallTrack commands looks (track_at tracks i)
 

@@ -15,7 +15,7 @@ pub record IsSlotted (s : TrackKept) : Type 0 where
   pub unopened : is_among (Absent ∷ []) s.life.state ≡ true → is_some s.slot ≡ false
   pub homely : is_some s.slot ≡ false → is_home s.holder ≡ true
 
--- The draft carries the slot of the track i where that is lent, and not where it is returning. The slot tells the track and the generation of either
+-- The draft carries the slot of the track i if that is lent, and not if it is returning. The slot has the track and the generation of either
 pub record IsDrafted (draft : FastState) (i : ℕ) (s : TrackKept) : Type 0 where
   pub lent : is_lent s.holder ≡ true → carries draft (slot_number s) ≡ true
   pub returning : is_returning s.holder ≡ true → carries draft (slot_number s) ≡ false
@@ -25,7 +25,7 @@ pub record IsDrafted (draft : FastState) (i : ℕ) (s : TrackKept) : Type 0 wher
 abbrev pub AreAlone : List TrackKept → Type 0
 AreAlone tracks = (i j slot : ℕ) → holds slot (track_at tracks i) ≡ true → holds slot (track_at tracks j) ≡ true → i ≡ j
 
--- Each track with a slot has it alone, and the draft carries it where the track is lent
+-- Each track with a slot has it alone, and the draft carries it if the track is lent
 pub record IsSound (tracks : List TrackKept) (draft : FastState) : Type 0 where
   pub slotted : (i : ℕ) → IsSlotted (track_at tracks i)
   pub drafted : (i : ℕ) → IsDrafted draft i (track_at tracks i)

@@ -11,11 +11,11 @@ use Rattle.af_life.specs.Plays.{tracks_due, after_takes, LegalTake}
 
 -- ## What a turn leaves, step by step. It never asks whether the turn was legal
 
--- the tracks were served
+-- the mixer once its tracks were served
 abbrev pub after_tracks : Setup → Learnt → Turn → NormalKept → NormalKept
 after_tracks c k e m = record m { tracks = served_to c k e.tracks m.tracks (length m.tracks) }
 
--- the draft was edited
+-- the mixer once its draft was edited
 abbrev pub after_edits : Setup → Learnt → Turn → NormalKept → NormalKept
 after_edits c k e m = mutated c k e.room (after_tracks c k e (after_ack e.ack m))
 

@@ -32,11 +32,11 @@ use Rattle.af_life.specs.Turn.{after_edits}
 abbrev pub tracks_at : Setup → Learnt → NormalKept → Turn → ℕ → List TrackKept
 tracks_at c k m e i = served_to c k e.tracks (after_ack e.ack m).tracks i
 
--- none of these events where the turn has ended
+-- these events, or none if the turn has ended
 abbrev pub going : {E : Type 0} → Turn → List E → List E
 going e events = if e.ended then [] else events
 
--- INVALID, where the track is found shut
+-- INVALID, if the track is found shut
 abbrev pub invalid : Learnt → TrackSeen → List TrackKept → ℕ → List ServerEvent
 invalid k seen tracks i = let s = track_at tracks i in if not s.life.ended && is_found_shut (heard k i s) seen.looks then server.SetFlags 4 ∷ [] else []
 
@@ -49,11 +49,11 @@ status_events (Some word) = server.SetStatus word ∷ []
 abbrev pub command_events_of : Setup → Outside → TrackSeen → List TrackKept → ℕ → List ServerEvent
 command_events_of c o seen tracks i = all_command_events (o.commands i) seen.looks (o.command_fronts i) ++ invalid (learnt o) seen tracks i ++ status_events seen.status
 
--- the server of the command block
+-- the events of the server of the command block
 abbrev pub command_list : Setup → Outside → Turn → List TrackKept → ℕ → List ServerEvent
 command_list c o e tracks i = going e (command_events_of c o (track_in e i) tracks i)
 
--- the hand of the stream block: DISABLED
+-- the events of the hand of the stream block: DISABLED
 abbrev pub hand_list : Turn → ℕ → List HandEvent
 hand_list e i = going e (if (track_in e i).disabled then hand.SetFlags 8 ∷ [] else [])
 
@@ -61,18 +61,18 @@ hand_list e i = going e (if (track_in e i).disabled then hand.SetFlags 8 ∷ [] 
 abbrev pub takes_from : List TakeSeen → ℕ → List TakeSeen
 takes_from takes i = filter (λ take. take.track == i) takes
 
--- the gains, look, take and missing frames of its mix
+-- the events of a track's mix: gains, look, take and missing frames
 abbrev pub mix_events : Setup → Outside → List TakeSeen → ℕ → List ServerEvent
 mix_events c o takes i = flat_map (λ take. cycle_events (asked c) (o.streams i) take.slot (o.stream_front i)) (takes_from takes i)
 
--- the server of the stream block, where it is home: INVALID, and the mix
+-- the events of the server of the stream block: INVALID, if it is home, and those of the mix
 abbrev pub stream_list : Setup → Outside → Turn → List TrackKept → ℕ → List ServerEvent
 stream_list c o e tracks i =
     going e ((if is_home (track_at tracks i).holder then invalid (learnt o) (track_in e i) tracks i else []) ++ mix_events c o e.mixes i)
 
 -- ## The other ends
 
--- the reader of the report: the report n is that of n entries
+-- the events of the reader of the report: the report n is that of n entries
 abbrev pub reader_list : Outside → Turn → List (ReaderEvent Report)
 reader_list o e = going e (Load e.cycle o.report ∷ [])
 
@@ -80,7 +80,7 @@ reader_list o e = going e (Load e.cycle o.report ∷ [])
 abbrev pub front_by_room : ℕ → ℕ → ℕ → ℕ
 front_by_room size put room = (put + 2 ^ 32 - (size - room)) % 2 ^ 32
 
--- the writing end of a pipe with so many cells, into which so many frames were put: the room seen, and the releases of a buffer
+-- the events of the writing end of a pipe with so many cells, into which so many frames were put: the room seen, and the releases of a buffer
 abbrev pub pipe_list : Setup → ℕ → ℕ → Turn → List ClientEvent
 pipe_list c cells put e = going e (client.SawFront (front_by_room (pipe_size c) put e.room) ∷ releases_of cells put (length (put_by c e.mixes)))
 
@@ -89,13 +89,13 @@ abbrev pub number_seen : NormalKept → Bool → ℕ
 number_seen m ack = if ack then m.pushed else m.pushed - 1
 
 module _ {P : Type 0} where
-  -- a push: a look where a push stands, and then the next state with its items
+  -- a push: a look if a push stands, and then the next state with its items
   abbrev pub push_list : NormalKept → Push → List (Option P) → List (Option P) → List (MutatorEvent P)
   push_list m Clean again sent = []
   push_list m (Busy seen expected) again sent = mutator.SawAck (m.pushed - 1) again ∷ []
   push_list m (Pushed number) again sent = (if m.pushed == 0 then [] else mutator.SawAck m.pushed again ∷ []) ++ mutator.Push number m.draft sent ∷ []
 
-  -- the mutator: its look with the items that come by it, and the push with those that come or go by it
+  -- the events of the mutator: its look with the items that come by it, and the push with those that come or go by it
   abbrev pub mutator_list : Setup → Learnt → NormalKept → Turn → List (Option P) → List (Option P) → List (Option P) → List (MutatorEvent P)
   mutator_list c k m e back again sent =
       if m.ended then []

@@ -1,4 +1,4 @@
-//! Which slot a track gets, what comes home, and what the fast mixer is told to do.
+//! Which slot a track gets, what comes home, and which command the next state has.
 ghost use Rattle.std.specs.Prelude.{◌≡◌, ◌<◌};
 ghost use Rattle.std.specs.List.{list_any};
 ghost use Rattle.af_base.specs.Log.{slots};
@@ -12,7 +12,7 @@ use af_base::{Command, FastState, SLOTS};
 use af_model::carries_item;
 
 impl TrackKept {
-    /// The slot of the track, 0 where it has none.
+    /// The slot of the track, 0 if it has none.
     pub fn slot_number(self) -> u32
         ensures { result ≡ slot_number self }
     {
@@ -38,7 +38,7 @@ impl TrackKept {
         self.holder == Holder::Returning && !carries_item(last, self.slot_number() as usize)
     }
 
-    /// The track once the last state pushed is acknowledged: its proxy is home where it comes.
+    /// The track once the last state pushed is acknowledged: its proxy is home if it comes by that.
     #[tactic(auto, unfolding(crate::specs::Edits::welcomed))]
     pub fn welcomed(self, last: &FastState) -> TrackKept
         requires slot { slot_number self < slots }
@@ -89,7 +89,7 @@ fn is_held(tracks: &[TrackKept], slot: u32) -> bool
     tracks.iter().any(|track| track.holds(slot))
 }
 
-/// The lowest slot, from 1 on, that no track has; None where each has a track.
+/// The lowest slot, from 1 on, that no track has; None if each has a track.
 pub fn free_slot(tracks: &[TrackKept]) -> Option<u32>
     ensures { result ≡ free_slot tracks.now }
 {
@@ -112,7 +112,7 @@ fn any_plays(tracks: &[TrackKept]) -> bool
     tracks.iter().any(|track| track.plays())
 }
 
-/// The command of the next state: an Exit stays, and comes where every life has ended, every proxy is home and the pipe has all its room; a mix where a track is to be heard or frames are in the pipe; else cold idle.
+/// The command of the next state: an Exit stays, and comes if every life has ended, every proxy is home and the pipe has all its room; a mix if a track is to be heard or frames are in the pipe; else cold idle.
 #[tactic(auto, unfolding(crate::specs::Edits::next_command))]
 pub fn next_command(exits: bool, tracks: &[TrackKept], room: u32, size: u32) -> Command
     ensures { result ≡ next_command exits tracks.now room size }

@@ -6,7 +6,7 @@ use crate::Known;
 use crate::kept::{Counts, Heard, Holder, TrackKept};
 use af_base::SlotReport;
 
-// So much is known, with the looks since the last turn.
+// What is heard of a stream by these numbers, with the looks since the last turn.
 fn heard_with(consumed: u64, flush_seen: u32, shut: bool, looks: Counts) -> Heard
     ensures { result ≡ heard_with consumed flush_seen shut looks }
 {
@@ -53,7 +53,7 @@ impl TrackKept {
     }
 
     /// What a turn hears of the track's stream. Of a proxy that is home `own` is what it knows, with this mixer's own looks since the last turn.
-    /// Of one elsewhere it is the report of its slot, with the looks since the report before; where that is of an earlier attachment it is what the proxy knew when it was attached.
+    /// Of one elsewhere it is the report of its slot, with the looks since the report before; if that is of an earlier attachment it is what the proxy knew when it was attached.
     #[tactic(auto, unfolding(crate::specs::Heard::heard_by))]
     pub fn heard(self, own: Heard, reported: SlotReport) -> Heard
         ensures { result ≡ heard_by own reported self }
@@ -73,7 +73,7 @@ impl TrackKept {
         }
     }
 
-    /// The track once its looks were heard of: none of them is told again.
+    /// The track once its looks were heard of: none of them counts again.
     #[tactic(auto, unfolding(crate::specs::Heard::noted))]
     pub fn noted(self, reported: SlotReport) -> TrackKept
         ensures noted { result ≡ noted reported self }

@@ -7,9 +7,9 @@ use crate::{Known, Life};
 pub enum Holder {
     /// The normal mixer.
     Home,
-    /// It is attached to a slot.
+    /// The proxy is attached to a slot.
     Lent,
-    /// It was detached, and isn't taken back yet.
+    /// The proxy was detached, and isn't taken back yet.
     Returning,
 }
 
@@ -24,7 +24,7 @@ pub struct Counts {
 /// What is known of a track's stream proxy.
 #[derive(Clone, Copy, Debug, PartialEq, Eq)]
 pub struct Heard {
-    /// What its life is told.
+    /// What the track's life goes by.
     pub known: Known,
     /// The flush count seen last.
     pub flush_seen: u32,
@@ -58,6 +58,6 @@ pub struct TrackKept {
     pub awaits: Option<u32>,
     /// How many commands are settled.
     pub settled: u32,
-    /// The status word stored last, 0 where none was.
+    /// The status word stored last, 0 if none was.
     pub status: u32,
 }

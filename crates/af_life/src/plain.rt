@@ -351,7 +351,7 @@ impl PlainMixer {
         }
     }
 
-    // A track is detached or attached, where that is due.
+    // A track is detached or attached, if that is due.
     #[tactic(auto, unfolding(crate::specs::Edits::edited))]
     fn edit(&mut self, i: usize, own: Heard)
         requires track { (i < length self.old.kept.tracks) × (i < length self.old.setup.settings) × (i < 2 ^ 32) }

@@ -9,7 +9,7 @@ use crate::kept::{Heard, TrackKept};
 use af_base::{CommandLook, Seen};
 
 impl TrackKept {
-    /// The status word: the state, or 15 for a track found shut; 16 where it is drained; and 256 for each command settled.
+    /// The status word: the state, or 15 for a track found shut; 16 if it is drained; and 256 for each command settled.
     #[tactic(auto, unfolding(crate::specs::Serves::status_word))]
     pub fn status_word(self, shut: bool) -> u32
         requires room { self.settled < 2 ^ 24 }
@@ -35,7 +35,7 @@ impl TrackKept {
         track
     }
 
-    /// The track after the looks at its commands, up to one that ends them. Where a START waits none of them is obeyed.
+    /// The track after the looks at its commands, up to one that ends them. If a START waits none of them is obeyed.
     pub fn commanded(self, given: Option<u32>, flush_seen: u32, looks: &[CommandLook]) -> TrackKept
         requires room { self.settled + length looks.now < 2 ^ 31 }
         ensures { result ≡ commanded given flush_seen looks.now self }
@@ -46,7 +46,7 @@ impl TrackKept {
         self.after_looks(given, flush_seen, looks)
     }
 
-    /// The track after its part of a turn: its commands are obeyed, its life is told what was heard of the stream, and the status follows.
+    /// The track after its part of a turn: its commands are obeyed, its life goes by what was heard of the stream, and the status follows.
     /// `given` is the slot that an OPEN gets, and `self` is the track once what was heard was noted and a START that waited was settled.
     #[tactic(auto, unfolding(crate::specs::Serves::after_part))]
     pub fn after_part(self, given: Option<u32>, heard: Heard, looks: &[CommandLook]) -> TrackKept
@@ -68,7 +68,7 @@ impl TrackKept {
     }
 }
 
-/// The status word that is stored: none where it is the same as the last one.
+/// The status word that is stored: none if it is the same as the last one.
 pub fn stored_over(last: u32, word: u32) -> Option<u32>
     ensures { result ≡ stored_over last word }
 {

@@ -9,12 +9,12 @@ pub enum LifeState {
     Idle,
     /// Playing.
     Active,
-    /// Told to pause; the next report makes it paused.
+    /// A pause was asked for; the next report makes it paused.
     Pausing,
     Paused,
     /// Started from a pause; the next report makes it active.
     Resuming,
-    /// Told to stop; what was released is still to be consumed.
+    /// A stop was asked for; what was released is still to be consumed.
     Stopping1,
     /// All that was released is consumed; the next report makes it stopped.
     Stopping2,

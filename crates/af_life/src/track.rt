@@ -184,12 +184,12 @@ impl Life {
         ensures ends { result.0.ended ≡ (self.ended || known.shut) }
         ensures no_new_member { IsTrue result.0.member → IsTrue self.member }
 
-        // It is disabled exactly where a playing member's retries reach 0: it leaves the mix, and stays active.
+        // The life is disabled exactly if a playing member's retries reach 0: it leaves the mix, and stays active.
         ensures disabled { result.1 ≡ runs_dry known self }
         ensures disabled_leaves { IsTrue result.1 → result.0 ≡ record self { member = false; retries = 0 } }
         ensures capped { self.retries ≤ RETRIES → result.0.retries ≤ RETRIES }
 
-        // It is drained exactly where it was, or where a stop finds all consumed.
+        // The life is drained exactly if it was, or if a stop finds all consumed.
         ensures drained { result.0.drained ≡ (self.drained || drains known self) }
     {
         if known.shut {

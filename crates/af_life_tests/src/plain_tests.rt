@@ -25,7 +25,7 @@ const NOTHING_HEARD: Heard = Heard {
     flush_seen: 0,
 };
 
-// What a turn saw of the first slot, of the push, and at the commands of two tracks. A report says nothing where it has another generation.
+// What a turn saw of the first slot, of the push, and at the commands of two tracks. A report says nothing if it has another generation.
 #[derive(Clone, Copy)]
 struct Step {
     ack: bool,
@@ -36,7 +36,7 @@ struct Step {
     wants: [Want; 2],
 }
 
-// What it leaves of a track.
+// What a turn leaves of a track.
 #[derive(Clone, Copy, PartialEq, Eq)]
 struct Want {
     state: LifeState,
@@ -294,7 +294,7 @@ fn commands_of_one_turn(rt: HostRuntime) {
             [start, nothing(), open],
             left(Absent, Home, None, 50, 1, 256),
         ),
-        // one of a flush count that was not seen is obeyed, and waits
+        // a START of a flush count that was not seen is obeyed, and waits
         (
             [open, command(2, 3), open],
             left(Active, Lent, Some(1), 50, 1, 258),
@@ -303,7 +303,7 @@ fn commands_of_one_turn(rt: HostRuntime) {
         ([open, remove, start], left(Idle, Home, Some(1), 50, 3, 769)),
         // a look that shows half a command ends them
         ([open, one, start], left(Idle, Home, Some(1), 50, 1, 257)),
-        // and so does one that finds the block shut
+        // a look that finds the block shut ends them
         ([open, shut, start], left(Idle, Home, Some(1), 50, 1, 271)),
         // a code that is no command's is settled
         (

@@ -56,7 +56,7 @@ fn walk(rt: &impl Abort, code: u32, member: bool, wants: &[LifeState; 10]) {
     }
 }
 
-// Every code from 0 to 7 at every state, where `stop` is what a stop makes of each.
+// Every code from 0 to 7 at every state, if `stop` is what a stop makes of each.
 fn walk_codes(rt: &impl Abort, member: bool, stop: [LifeState; 10]) {
     let rows = [
         (0, STATES),
@@ -160,7 +160,7 @@ fn shut_and_ended_lives_leave(rt: HostRuntime) {
 
 #[test]
 fn retries_of_a_playing_member(rt: HostRuntime) {
-    // Retries before; full, partial and empty looks; then retries, member, told.
+    // Retries before; full, partial and empty looks; then retries, member, and whether the track is to be disabled.
     let rows = [
         (2, looks(0, 0, 0, 3), 1, true, false),
         (1, looks(0, 0, 0, 1), 0, false, true),

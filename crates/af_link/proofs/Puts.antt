@@ -14,7 +14,7 @@ use Rattle.af_cblk.proofs.Numbers.{past}
 use Rattle.af_client.specs.Calls.{PutOn}
 use Rattle.af_link.specs.PipeEnds.{IsPutting, room_of}
 
--- an end that takes goes on as one where it meets
+-- an end that takes goes on as one when it meets
 pub takes_met : (es : List ServerEvent) (count : ℕ) → IsTakeList es → IsTakeList (es ++ server.Learn count ∷ [])
 takes_met es count all = list_all-append is_taking es (server.Learn count ∷ []) ∙ ap (λ b. b && true) all
 

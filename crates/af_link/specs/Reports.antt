@@ -12,17 +12,17 @@ use Rattle.af_model.specs.declared.newest.ReaderEvent.TheVariants as reads
 use Rattle.af_latest.specs.Ends.{Stores}
 use Rattle.af_latest.specs.Laws.{last_of}
 
--- the cell that it stores into, and its events
+-- the cell that a writer stores into, and its events
 pub record WriterSide : Type 0 where
   pub cell : TableId
   pub events : List (WriterEvent Report)
 
--- the cell that it loads from, and its events
+-- the cell that a reader loads from, and its events
 pub record ReaderSide : Type 0 where
   pub cell : TableId
   pub events : List (ReaderEvent Report)
 
--- the cycle of the last report stored, 0 where none was
+-- the cycle of the last report stored, 0 if none was
 abbrev pub last_cycle : List (WriterEvent Report) → ℕ
 last_cycle events = (last_of no_report events).cycle
 
@@ -38,7 +38,7 @@ CyclesNeverFall ws low [] = Unit {0}
 CyclesNeverFall ws low (Load n x ∷ rs) = (low ≤ x.cycle) × CyclesNeverFall ws x.cycle rs
 CyclesNeverFall ws low (reads.Learn count ∷ rs) = CyclesNeverFall ws (max low (last_cycle (take count ws))) rs
 
--- its first content was all zeros, and its reports rise
+-- the writer's first content was all zeros, and its reports rise
 pub record IsReportWriter (w : Stores Report) : Type 0 where
   pub first : w.first ≡ Some no_report
   pub rises : Rises 0 w.events

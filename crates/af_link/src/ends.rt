@@ -57,7 +57,7 @@ impl Model for PipeOut {
     ghost invariant = { λ p. (p.pass.has_hand ≡ true) × IsTaking p.pass.part p.front p.rear p.shown };
 }
 
-/// An empty pipe for `frames` frames, from 1 to 65,536, and its two ends. Each begins with no events. The only refusal is want of memory.
+/// An empty pipe for `frames` frames, from 1 to 65,536, and its two ends. Each begins with no events. Memory is its only refusal.
 pub fn pipe(alloc: Global, frames: u32) -> Result<(Block, PipeIn, PipeOut), Memory>
     requires some { 1 ≤ frames }
     requires few { frames ≤ 65536 }

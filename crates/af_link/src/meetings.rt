@@ -18,7 +18,7 @@ use std::sync::ledger::Ledger;
 
 /// The client and the server learn what the other has done so far: all of it stands before their own next events. It appends Learn to each list, in five steps, and both proxies stay in order.
 ///
-/// Where the client has not poked, their lists have a history, in which no look of this server was shut, with some hand's list, which is empty where the hand is with the server. On a positional block what a look discarded was released before the flush that it saw, and after it all that was released before that flush is taken or discarded.
+/// If the client has not poked, their lists have a history, in which no look of this server was shut, with some hand's list, which is empty if the hand is with the server. On a positional block what a look discarded was released before the flush that it saw, and after it all that was released before that flush is taken or discarded.
 pub fn meet_track<L: Ledger>(
     client: &mut Client,
     server: &mut Server,
@@ -43,7 +43,7 @@ pub fn meet_track<L: Ledger>(
 
 /// The hand learns what the client has done so far, while the server's proxy is elsewhere. It appends Met to the hand's list and nothing to the client's, in four steps.
 ///
-/// From then on the hand knows the list that the server had at that moment. Where the client has not poked, this list goes on from what the client had learnt, and has a history with theirs.
+/// From then on the hand knows the list that the server had at that moment. If the client has not poked, this list goes on from what the client had learnt, and has a history with theirs.
 pub fn meet_flag<L: Ledger>(
     client: &mut Client,
     hand: &mut FlagHand,
@@ -81,7 +81,7 @@ pub fn recall<L: Ledger>(
 
 /// It appends what `meet_track` and then `meet_flag` append, in nine steps, and both proxies stay in order.
 ///
-/// Where the client has not poked, the three lists have a history, in which no look of this server was shut. On a positional block what a look discarded was released before the flush that it saw, and after it all that was released before that flush is taken or discarded.
+/// If the client has not poked, the three lists have a history, in which no look of this server was shut. On a positional block what a look discarded was released before the flush that it saw, and after it all that was released before that flush is taken or discarded.
 pub fn meet_all<L: Ledger>(
     client: &mut Client,
     server: &mut Server,

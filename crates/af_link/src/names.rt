@@ -10,7 +10,7 @@ use std::marker::Model;
 
 /// Which blocks the streams of a program are, by the number of their track. It has no bytes, and contracts see the list of the blocks.
 ///
-/// It is the key of the program's state queue: an item fits a track where it is a proxy in order that was made with the stream block of that track.
+/// It is the key of the program's state queue: an item fits a track if it is a proxy in order that was made with the stream block of that track.
 #[derive(Drop)]
 pub struct StreamNames {
     pub ghost blocks: { List Made },

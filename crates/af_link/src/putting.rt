@@ -27,7 +27,7 @@ impl PipeIn {
         self.room
     }
 
-    /// Puts all of these frames, no more than the room that is left. They are stored in their cells and released in one release, or in two where the index reaches the number of cells in between. No frames are no release. The room shrinks by them. A step for each frame and for each release.
+    /// Puts all of these frames, no more than the room that is left. They are stored in their cells and released in one release, or in two if the index reaches the number of cells in between. No frames are no release. The room shrinks by them. A step for each frame and for each release.
     pub fn put<L: Ledger>(&mut self, block: &Block, frames: &[Frame], steps: &mut Steps<L>)
         requires made { in_made self.old ≡ block.now }
         requires room { length frames.now ≤ self.old.room }

@@ -82,7 +82,7 @@ pub fn first_report() -> Report
     }
 }
 
-/// A cell whose first report is of cycle 0 and all zeros, with its two ends. The only refusal is want of memory.
+/// A cell whose first report is of cycle 0 and all zeros, with its two ends. Memory is its only refusal.
 pub fn report(alloc: Global) -> Result<(ReportCell, ReportWriter, ReportReader), Memory>
     ensures together { IfOk result (λ r. (r.1.cell ≡ r.0) × (r.2.cell ≡ r.0)) }
     ensures lists { IfOk result (λ r. (r.1.events ≡ []) × (r.2.events ≡ [])) }
@@ -110,7 +110,7 @@ impl ReportWriter {
 }
 
 impl ReportReader {
-    /// The last report stored at the place of this load in the order of stores and loads, whole. It appends Load with the number of that store. One step, and one more where the report is another than at the load before.
+    /// The last report stored at the place of this load in the order of stores and loads, whole. It appends Load with the number of that store. One step, and one more if the report is another than at the load before.
     pub fn load<L: Ledger>(&mut self, cell: &ReportCell, steps: &mut Steps<L>) -> Report
         requires { self.old.cell ≡ cell.now }
         ensures together { self.new.cell ≡ self.old.cell }

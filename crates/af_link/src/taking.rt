@@ -33,7 +33,7 @@ impl PipeOut {
         self.rear
     }
 
-    /// Takes exactly the frames that the last look showed, of which there is at least one and none was taken since. It loads their cells, across the wrap where needed, and then raises front, in one step each. It appends Take.
+    /// Takes exactly the frames that the last look showed, of which there is at least one and none was taken since. It loads their cells, across the wrap if needed, and then raises front, in one step each. It appends Take.
     pub fn take<L: Ledger>(&mut self, block: &Block, into: &mut [Frame], steps: &mut Steps<L>)
         requires made { out_made self.old ≡ block.now }
         requires some { 1 ≤ length into.old }

@@ -59,7 +59,7 @@ flushes_are shape (by_client e ∷ order) = flushes_client (after (start shape) 
 flushes_are shape (by_server e ∷ order) = flushes_server (after (start shape) order) e ∙ flushes_are shape order
 flushes_are shape (by_hand e ∷ order) = flushes_hand (after (start shape) order) e ∙ flushes_are shape order
 
--- it stays lawful with an event that is no poke
+-- a list stays lawful with an event that is no poke
 pub lawful_more : (es : List ClientEvent) (e : ClientEvent) → is_tame e ≡ true → is_lawful es ≡ true → is_lawful (es ++ e ∷ []) ≡ true
 lawful_more [] e tame h = both_are (is_tame e) true tame refl
 lawful_more (x ∷ es) e tame h = both_are (is_tame x) _ (both_left (is_tame x) _ h) (lawful_more es e tame (both_right (is_tame x) _ h))

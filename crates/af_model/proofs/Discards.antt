@@ -70,7 +70,7 @@ module _ (k : Shape) where
   drop_discards order placed h (server.SetStatus word) = tt
   drop_discards order placed h (server.Learn count) = tt
 
-  -- in a legal order each drop does so
+  -- in a legal order each drop discards what was released before the flush that its look saw, and no more
   pub discards-before : k.wrap ≢ 0 → (order : List Moment) → IsLegal (start k) order → DiscardsBefore k order
   discards-before placed [] h = tt
   discards-before placed (by_client e ∷ order) h = discards-before placed order h.1

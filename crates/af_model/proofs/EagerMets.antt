@@ -51,7 +51,7 @@ keeps-mix (hand.Met known ∷ hs) place i j h k p q a b =
 pub ahead-itself : (l : Lists) (m : Stage) → keeps_mets l.hand 0 m.clients m.hands ≡ true → m.hands ≤ length l.hand → IsAhead l m m
 ahead-itself l m k w = record { point = refl; clients = refl; servers = refl; hands = omega arith; mets = λ p a b. absurd (omega arith); kept = k; within = w }
 
--- one Met more
+-- a Met leaves the point as it was
 met_step : (l : Lists) (m : Stage) (e : HandEvent) → is_met (Some e) ≡ true → after_hand m.point e ≡ m.point
 met_step l m (hand.SetFlags bits) h = cc
 met_step l m (hand.Met known) h = refl
@@ -124,7 +124,7 @@ settled (suc fuel) l m n long ahead =
     let s = settled fuel l m r.0 (omega (arith, r.2)) r.3 in
     record { ws = Hand ∷ s.ws; end = s.end; walk = ap (option_and_then (walk (eager l) s.ws)) r.1 ∙ s.walk; ahead = s.ahead; rests = s.rests })
 
--- one step of the order: it is a Met that was taken before, or the eager one makes it too
+-- one step of the order: a Met that was taken before, or a step that the eager one makes too
 pub data Follows (l : Lists) (x n : Stage) : Type 0 where
   Before : IsAhead l x n → Follows l x n
   Makes : (w : Who) (y : Stage) → eager l w n ≡ Some y → IsAhead l x y → Follows l x n

@@ -12,7 +12,7 @@ pub record AreWhole (place : ℕ) (frames : List Frame) (entries : List CycleEnt
   pub form : AreEntries place (entries_seen frames entries)
   pub frames_are : frames_of (entries_seen frames entries) ≡ frames
 
--- one that begins where the frames end
+-- an entry that begins where the frames end
 pub record Follows (place : ℕ) (entry : CycleEntry) (more : List Frame) : Type 0 where
   pub form : IsEntry place entry
   pub count : length more ≡ taken_by entry

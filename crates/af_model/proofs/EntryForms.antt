@@ -29,12 +29,12 @@ unspent_by done cold ColdIdle = idle_or_cold (cold == done)
 unspent_by done cold MixWrite = refl
 unspent_by done cold _ = refl
 
--- it isn't the end of the log
+-- the end of the log is none of the cycles of a state
 unspent : (done : ℕ) (state : Option FastState) → is_spent (cycle_of done state) ≡ false
 unspent done None = refl
 unspent done (Some x) = unspent_by done x.cold_gen x.command
 
--- and a mix has a state
+-- a mix has a state
 state_to_mix : (done : ℕ) (state : Option FastState) → is_mixed (cycle_of done state) ≡ true → (x : FastState) × (state ≡ Some x)
 state_to_mix done None mixed = absurd (true≢false (sym mixed))
 state_to_mix done (Some x) mixed = (x, refl)

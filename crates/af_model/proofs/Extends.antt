@@ -372,7 +372,7 @@ InBounds-first l from p = record {
   kept = keeps_first l.hand 0;
 }
 
--- such stages are in bounds
+-- stages that the search begins with are in bounds
 pub All-InBounds-from_starts : (s : Search) (cs : List ClientEvent) (ss : List ServerEvent) (hs : List HandEvent) (starts : List Stage)
     → MayStart s hs starts → IsStart s.from → All (InBounds (joined (lists_in s) cs ss hs)) starts
 All-InBounds-from_starts s cs ss hs starts (Afresh e) p =

@@ -1,4 +1,4 @@
--- Where nothing was dropped, what was taken begins what was released.
+-- If nothing was dropped, what was taken begins what was released.
 use Rattle.std.proofs.Common.{◌≡◌, ◌≢◌, ℕ, ◌+◌, ◌-◌, ◌≤◌, ◌==◌, if◌then◌else◌, max, Bool, eq-eqb, ne_eqb, eqb-true, false, true, true≢false, ◌&&◌, List, [], ◌∷◌, ◌++◌, take, drop, refl, sym, ap, ◌∙◌, subst, arith, take-add}
 use Rattle.af_base.specs.declared.event.ClientEvent.{ClientEvent}
 use Rattle.af_base.specs.declared.event.ClientEvent.TheVariants as client
@@ -17,7 +17,7 @@ use Rattle.af_model.proofs.Logic.{both_left, both_right, both_are}
 pub drop_flat : (p : TrackPoint) → p.wrap ≡ 0 → drop_end p ≡ p.rear_seen
 drop_flat p flat = ap (λ (b : Bool). if b then p.rear_seen else max p.drop_to p.consumed) (eq-eqb p.wrap 0 flat)
 
--- and else what was released before the flush that was seen
+-- if the wrap isn't 0, a drop consumes what was released before the flush that was seen
 pub drop_placed : (p : TrackPoint) → p.wrap ≢ 0 → drop_end p ≡ max p.drop_to p.consumed
 drop_placed p placed = ap (λ (b : Bool). if b then p.rear_seen else max p.drop_to p.consumed) (ne_eqb p.wrap 0 placed)
 
@@ -34,7 +34,7 @@ module _ (shape : Shape) (p : TrackPoint) (t : InTurn shape p) where
   high_as true = t.to_released
   high_as false = let a = t.drop_flushed in let b = t.flush_released in let c = t.within in omega arith
 
-  -- nor does it pass what was released
+  -- a drop never passes what was released
   pub drop_released : drop_end p ≤ p.released
   drop_released = high_as (p.wrap == 0)
 
@@ -127,7 +127,7 @@ module _ (frames : List ℕ) (shape : Shape) where
       of_server _ _ e (in_turn shape order h.1).from_base b.1 (begins order h.1 b.0)
   begins (by_hand e ∷ order) h none = of_hand _ _ e (begins order h.1 none)
 
--- where nothing was dropped, the frames taken begin the frames released
+-- if nothing was dropped, the frames taken begin the frames released
 pub taken_begins : (shape : Shape) (ce : List ClientEvent) (cf : List ℕ) (se : List ServerEvent) (sf : List ℕ) (he : List HandEvent) → HasHistory shape ce cf se sf he → drops_none se ≡ true
     → (n : ℕ) × (sf ≡ take n cf)
 taken_begins shape ce cf se sf he h none =

@@ -56,7 +56,7 @@ first-count entries (r ∷ rs) (suc i) enough = let rest = rounds_seen (drop r.c
     let here = length-take-le r.cycles entries (omega arith) in
     let there = first-count (drop r.cycles entries) rs i (left-over entries r rs enough) in omega arith
 
--- all entries are dealt out where the rounds have as many
+-- all entries are dealt out if the rounds have as many
 pub all-dealt : (entries : List EntrySeen) (rounds : List RoundNoted) → cycles_of rounds ≡ length entries → entries_of (rounds_seen entries rounds) ≡ entries
 all-dealt [] [] same = refl
 all-dealt (e ∷ es) [] same = absurd (omega arith)

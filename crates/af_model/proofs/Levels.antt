@@ -129,7 +129,7 @@ found-more step size Counts starts now old new n level found collects = record {
       ];
 }
 
--- where no place is as large as that
+-- if no place is as large as that
 pub found-all : {W M : Type 0} (step : W → M → Option M) (size : M → ℕ) (Counts : M → Type 0) (starts found : List M) (n : ℕ)
     → ((s : M) (ws : List W) (m : M) → Contains starts s → walk step ws s ≡ Some m → size m < n)
     → IsFoundBelow step size Counts starts n found → IsReached step Counts starts found

@@ -93,7 +93,7 @@ pub client_outside : (frames : ℕ) (kept : ClientKept) (es : List ClientEvent) 
 client_outside frames kept [] h = h
 client_outside frames kept (e ∷ es) h = client_outside frames (client_keeps frames kept e) es (client_lies frames kept e h)
 
--- and those that shut a server
+-- the words that shut a server lie outside the room
 pub server_outside : (shape : Shape) (kept : ServerKept) (es : List ServerEvent) → LieOutside shape.frames kept.shut → LieOutside shape.frames (fold (server_keeps shape) kept es).shut
 server_outside shape kept [] h = h
 server_outside shape kept (e ∷ es) h = server_outside shape (server_keeps shape kept e) es (server_lies shape kept e h)

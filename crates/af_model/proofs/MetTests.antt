@@ -82,7 +82,7 @@ hand-kept (hand.Met known ∷ hs) place i n (suc (suc k)) s e =
 old_far : (known place i n : ℕ) → place + 1 < n → ((nat_le n (place + 1) || nat_le known i) && (nat_le i known || nat_le place n)) ≡ true → nat_le known i ≡ true
 old_far known place i n h e = grind (arith, nat_tests)
 
--- where the hand's list is used up
+-- if the hand's list is used up
 pub knows-last : (hs : List HandEvent) (place i n k : ℕ) → length hs ≡ k → n ≡ place + k → keeps_mets hs place i n ≡ true → knows_no_more hs i ≡ known_by i (event_before hs k)
 knows-last [] place i n zero l s e = refl
 knows-last [] place i n (suc k) l s e = absurd (omega arith)

@@ -31,7 +31,7 @@ keeps-stood (hand.Met known ∷ hs) place i k h e =
     let know = and_parts (nat_le known i) (knows_no_more hs i) h in
     both_are _ (keeps_mets hs (place + 1) i (k + 1)) (met-stood known place i k know.0 both.0) (keeps-stood hs (place + 1) i k know.1 both.1)
 
--- one more event of the hand, where what was met before it has stood
+-- one more event of the hand, if what was met before it has stood
 pub hand-more : (a b : List HandEvent) (i : ℕ) → knows_no_more a i ≡ true → keeps_mets (a ++ b) 0 i (length a) ≡ true → keeps_mets (a ++ b) 0 i (length a + 1) ≡ true
 hand-more a b i h e =
     keeps-append a b 0 i (length a + 1) (keeps-stood a 0 i (length a) h (keeps-front a b 0 i (length a) e))

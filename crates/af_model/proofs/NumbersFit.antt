@@ -39,7 +39,7 @@ ranges_dealt noted log few rounds entries = record { tracks = few; rounds = roun
 pub absent_fits : FitsSlot absent
 absent_fits = (lit< tt, (lit< tt, (lit< tt, tt)))
 
--- so of an entry in which every slot is absent
+-- the numbers fit of an entry in which every slot is absent
 pub still_fits : (state : ℕ) (cy : Cycle) → state < 2 ^ 64 → FitsEntry (still_entry state cy)
 still_fits state cy few = record {
   state = few;

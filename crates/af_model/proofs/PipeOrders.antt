@@ -181,7 +181,7 @@ module _ (shape : Shape) (size : ℕ) (few : size ≤ 65536) (from_zero : shape.
       }
   agrees (by_hand e ∷ order) h none puts takes = let long : length (hand_of order ++ e ∷ []) ≡ 0 = ap length none in absurd (omega (arith, length-append (hand_of order) (e ∷ [])))
 
-  -- where the two ends of a pipe did what ends do, their history on the block is one of the pipe
+  -- if the two ends of a pipe did what ends do, their history on the block is one of the pipe
   pub pipe_history : (ce : List ClientEvent) (cf : List ℕ) (se : List ServerEvent) (sf : List ℕ) → HasHistory shape ce cf se sf [] → IsPutList size ce → IsTakeList se
       → HasPipeHistory size ce cf se sf
   pipe_history ce cf se sf h puts takes =

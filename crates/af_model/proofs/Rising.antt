@@ -1,4 +1,4 @@
--- Where the Mets of a list rise, the first one tells of all.
+-- If the Mets of a list rise, all name at least what the first one names.
 use Rattle.std.proofs.Common.{◌≡◌, ℕ, zero, suc, List, [], ◌∷◌, drop, Bool, true, false, ◌&&◌, nat_le, refl, arith}
 use Rattle.std.proofs.lemmas.Bool.Decides.{nat_tests}
 use Rattle.af_base.specs.declared.event.HandEvent.{HandEvent}

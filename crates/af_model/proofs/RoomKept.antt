@@ -174,7 +174,7 @@ module _ (shape : Shape) where
     seen_later (Some front) consumed consumed' released released' grows same seen =
         (seen.0, seen.1, (let a = seen.2 in omega arith), (let a = seen.3 in omega arith))
 
-    -- the same room, where the client releases nothing and sees no front
+    -- the front keeps its room, if the client releases nothing and sees no front
     stays : (k : ClientKept) (o : Option ℕ) (p q : TrackPoint) → q.released ≡ p.released → p.consumed ≤ q.consumed → FrontHasRoom k o p → FrontHasRoom k o q
     stays k o p q same grows r =
         record {
@@ -331,7 +331,7 @@ module _ (shape : Shape) where
     pub never_corrupt : (client_kept shape.frames shape.base ce).shut ≡ None
     never_corrupt = subst (λ (es : List ClientEvent). (client_kept shape.frames shape.base es).shut ≡ None) h.client_is (room_in few h.order h.legal fit_all).unshut
 
-    -- nor is its server
+    -- the server is never shut
     pub never_shut : LooksInOrder shape se → (server_kept shape se).shut ≡ None
     never_shut looked =
         let follow : AllFollowRear false (server_of h.order) = subst (λ (es : List ServerEvent). AllFollowRear false es) (sym h.server_is) (looked_follow se looked) in

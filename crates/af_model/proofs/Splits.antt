@@ -29,7 +29,7 @@ module _ {A B : Type 0} where
   ones_append (one a ∷ xs) ys = ap (λ z. a ∷ z) (ones_append xs ys)
   ones_append (two b ∷ xs) ys = ones_append xs ys
 
-  -- where the first party has no event more, the rest is the second party's
+  -- if the first party has no event more, the rest is the second party's
   pub only_twos : (es : List (Event A B)) → length (ones es) ≡ 0 → es ≡ map two (twos es)
   only_twos [] e = refl
   only_twos (one a ∷ es) e = absurd (omega arith)

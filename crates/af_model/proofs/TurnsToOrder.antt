@@ -44,7 +44,7 @@ names-ahead (hand.Met known ∷ hs) place i k h e =
     let both = and_parts (keeps_event (hand.Met known) place i k) (keeps_mets hs (place + 1) i k) e in
     both_are (nat_le i known) (names_at_least i hs) (ahead-met known place i k h both.0) (names-ahead hs (place + 1) i k (omega arith) both.1)
 
--- where each Met is kept, those past the hand's next event name no fewer client events than have stood
+-- if each Met is kept, those past the hand's next event name no fewer client events than have stood
 names-past : (hs : List HandEvent) (place i k d : ℕ) → place + d ≡ k + 1 → keeps_mets hs place i k ≡ true → names_at_least i (drop d hs) ≡ true
 names-past hs place i k zero e h = names-ahead hs place i k (omega arith) h
 names-past [] place i k (suc d) e h = refl

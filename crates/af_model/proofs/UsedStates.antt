@@ -12,7 +12,7 @@ state_of-before [] x (suc k) few = absurd (omega arith)
 state_of-before (y ∷ xs) x (suc zero) few = refl
 state_of-before (y ∷ xs) x (suc (suc k)) few = state_of-before xs x (suc k) (omega arith)
 
--- and it has the next one
+-- the new state has the next number
 pub state_of-newest : (xs : List FastState) (x : FastState) → state_of (xs ++ x ∷ []) (length xs + 1) ≡ Some x
 state_of-newest [] x = refl
 state_of-newest (y ∷ xs) x =

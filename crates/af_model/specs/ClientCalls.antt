@@ -13,17 +13,17 @@ pub record ClientKept : Type 0 where
   pub position : ℕ
   pub shut : Option (ℕ × ℕ)
 
--- what is known after one event more: a front outside the room shuts the client
+-- what is known of a client after one event more: a front outside the room shuts the client
 abbrev pub client_keeps : ℕ → ClientKept → ClientEvent → ClientKept
 client_keeps frames kept (client.Release count) = record kept { position = kept.position + count }
 client_keeps frames kept (client.SawFront front) = record kept { shut = outside frames front (wrapped kept.position) }
 client_keeps frames kept _ = kept
 
--- before its first event
+-- what is known of a client before its first event
 abbrev pub client_begins : ℕ → ClientKept
 client_begins base = record { position = base; shut = None }
 
--- what these events tell of the client
+-- what a list of events tells of its client
 abbrev pub client_kept : ℕ → ℕ → List ClientEvent → ClientKept
 client_kept frames base events = fold (client_keeps frames) (client_begins base) events
 

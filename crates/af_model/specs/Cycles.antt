@@ -26,7 +26,7 @@ state_of [] (suc k) = None
 state_of (x ∷ xs) (suc zero) = Some x
 state_of (x ∷ xs) (suc (suc k)) = state_of xs (suc k)
 
--- the number of the state that the last entry used, 0 where there is none
+-- the number of the state that the last entry used, 0 if there is no entry
 abbrev pub last_used : List CycleEntry → ℕ
 last_used entries = fold (λ number entry. entry.state) 0 entries
 
@@ -47,12 +47,12 @@ abbrev pub is_cold : Cycle → Bool
 is_cold cycle.Cold = true
 is_cold _ = false
 
--- the cold generation of a state, 0 where there is none
+-- the cold generation of a state, 0 if there is no state
 abbrev pub cold_of : Option FastState → ℕ
 cold_of None = 0
 cold_of (Some x) = x.cold_gen
 
--- the cold generation performed last: that of the state of the last Cold entry, 0 where there is none
+-- the cold generation performed last: that of the state of the last Cold entry, 0 if there is none
 abbrev pub cold_done : List FastState → List CycleEntry → ℕ
 cold_done states entries = fold (λ done entry. if is_cold entry.cycle then cold_of (state_of states entry.state) else done) 0 entries
 
@@ -63,7 +63,7 @@ cycle_by done cold ColdIdle = if cold == done then cycle.Idle else cycle.Cold
 cycle_by done cold MixWrite = cycle.Mixed
 cycle_by done cold _ = cycle.Idle
 
--- the same where there may be no state, which is idle
+-- what a cycle is if there may be no state: idle without one
 abbrev pub cycle_of : ℕ → Option FastState → Cycle
 cycle_of done None = cycle.Idle
 cycle_of done (Some x) = cycle_by done x.cold_gen x.command
@@ -94,11 +94,11 @@ pub record Listed : Type 0 where
   pub shape : Shape
   pub events : List ServerEvent
 
--- what its list tells of it
+-- what a server's list tells of it
 abbrev pub kept : Listed → ServerKept
 kept s = server_kept s.shape s.events
 
--- a look shows something, and where it shows frames at least one
+-- a look shows something, and if it shows frames, at least one
 abbrev pub IsSeen : Seen → Type 0
 IsSeen seen.Absent = ⊥
 IsSeen (seen.Frames count) = 1 ≤ count
@@ -110,11 +110,11 @@ LooksBy asked s slot front = IsSeen slot.seen × MatchOption (kept s).shut
     (slot.seen ≡ look_at s.shape (kept s).flush asked slot.flush slot.rear front)
     (λ words. (slot.seen ≡ seen.Shut words.0 words.1) × (slot.flush ≡ (kept s).flush) × (slot.rear ≡ words.1))
 
--- missing frames are tallied, where there are some
+-- the events by which missing frames are tallied, if there are some
 abbrev pub tally : ℕ → List ServerEvent
 tally missing = if missing == 0 then [] else server.Tally missing ∷ server.SetFlags 1 ∷ []
 
--- what follows a look: all frames shown are taken and those missing tallied, nothing after a flush, and INVALID once where it shuts the server
+-- what follows a look: all frames shown are taken and those missing tallied, nothing after a flush, and INVALID once if it shuts the server
 abbrev pub after_look : ℕ → Bool → Seen → List ServerEvent
 after_look asked was_shut (seen.Frames count) = server.Take count ∷ tally (asked - count)
 after_look asked was_shut seen.Empty = tally asked
@@ -134,7 +134,7 @@ pub record TrackSlot (asked : ℕ) (s : Listed) (after : List ServerEvent) (slot
 
 -- ## The entry
 
--- where the frames of a slot begin: at this place in the log's frames, and at 0 where it took none
+-- where the frames of a slot begin: at this place in the log's frames, and at 0 if it took none
 abbrev pub place_of : ℕ → Seen → ℕ
 place_of place answer = if count_seen answer == 0 then 0 else place
 
@@ -151,7 +151,7 @@ still_entry state cycle = record { state = state; cycle = cycle; slots = replica
 abbrev pub is_mono : FastState → ℕ → Bool
 is_mono x i = carries x i && (slot_of x i).mono
 
--- the marks of the first slots: bit i is set where slot i is mono
+-- the marks of the first slots: bit i is set if slot i is mono
 abbrev pub mono_marks : FastState → ℕ → ℕ
 mono_marks x zero = 0
 mono_marks x (suc i) = bit_or (mono_marks x i) (if is_mono x i then 2 ^ i else 0)

@@ -13,7 +13,7 @@ abbrev pub flush_by : (released before : ℕ) → ClientEvent → ℕ
 flush_by released before client.Flush = released
 flush_by released before _ = before
 
--- up to which position the client had released at the last flush of an order, and 0 where there is none
+-- up to which position the client had released at the last flush of an order, and 0 if there is none
 abbrev pub last_flush : Shape → List Moment → ℕ
 last_flush k [] = 0
 last_flush k (by_client e ∷ order) = flush_by (after (start k) order).released (last_flush k order) e
@@ -25,7 +25,7 @@ abbrev pub seen_by : (last before : ℕ) → ServerEvent → ℕ
 seen_by last before (server.SawFlush flush) = last
 seen_by last before _ = before
 
--- the same of the flush that the server's last look at the flush word saw
+-- up to which position the client had released at the flush that the server's last look at the flush word saw
 abbrev pub seen_flush : Shape → List Moment → ℕ
 seen_flush k [] = 0
 seen_flush k (by_client e ∷ order) = seen_flush k order
@@ -40,7 +40,7 @@ DropsBefore k order (server.Drop to) =
     ((position : ℕ) → p.consumed ≤ position → position < q.consumed → position < seen_flush k order) × (seen_flush k order ≤ q.consumed)
 DropsBefore k order _ = Unit {0}
 
--- each drop of the order does so
+-- each drop of an order covers only frames released before its flush, and after it none of those waits
 abbrev pub DiscardsBefore : Shape → List Moment → Type 0
 DiscardsBefore k [] = Unit {0}
 DiscardsBefore k (by_client e ∷ order) = DiscardsBefore k order

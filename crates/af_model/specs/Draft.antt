@@ -12,7 +12,7 @@ abbrev pub initial : ℕ → FastState
 initial frames =
     record { slots = record { generation = 0; track = 0; mono = false; scale = 4096 } ∷ replicate (slots - 1) no_track; mask = 1; tracks_gen = 0; frames = frames; command = ColdIdle; cold_gen = 0 }
 
--- the slot with a new track: its generation rises
+-- a slot with a new track: its generation rises
 abbrev pub renewed : Bool → ℕ → ℕ → FastTrack → FastTrack
 renewed mono scale track t = record { generation = t.generation + 1; track = track; mono = mono; scale = scale }
 

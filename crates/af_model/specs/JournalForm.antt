@@ -58,7 +58,7 @@ pub record IsMixed (place : ℕ) (entry : CycleEntry) : Type 0 where
   pub others : (i : ℕ) → 0 < i → i < slots → IsAbsent entry i ⊎ IsSeen (entry_slot entry i).seen
   pub placed : (i : ℕ) → i < slots → (entry_slot entry i).first ≡ place_of (place + taken_before entry i) (entry_slot entry i).seen
 
--- the log had all of its entries
+-- a cycle says that the log had all of its entries
 abbrev pub is_spent : Cycle → Bool
 is_spent (cycle.Spent cycles) = true
 is_spent _ = false
@@ -74,7 +74,7 @@ abbrev pub AreEntries : ℕ → List EntrySeen → Type 0
 AreEntries place [] = Unit {0}
 AreEntries place (e ∷ es) = IsEntry place e.entry × (length e.frames ≡ taken_by e.entry) × All IsFrame e.frames × AreEntries (place + length e.frames) es
 
--- a round has the calls of each track, and a turn of its form where it has one
+-- a round has the calls of each track, and a turn of its form if it has one
 pub record IsRound (tracks : ℕ) (round : RoundSeen) : Type 0 where
   pub calls : length round.calls ≡ tracks
   pub turn : MatchOption round.turn (Unit {0}) (IsTurn tracks)

@@ -27,7 +27,7 @@ pub record JournalData : Type 0 where
   pub tracks : ℕ
   pub rounds : List RoundSeen
 
--- the round of a number, from 0
+-- what stands past the end of the rounds
 abbrev pub no_round : RoundSeen
 no_round = record { calls = []; turn = None; entries = [] }
 

@@ -32,11 +32,11 @@ server_may p others (server.SetFlags bits) = true
 server_may p others (server.SetStatus word) = true
 server_may p others (server.Learn count) = nat_le count others
 
--- p, where the test passes
+-- the point p, if the test passes
 abbrev pub when : Bool → TrackPoint → Option TrackPoint
 when legal p = if legal then Some p else None
 
--- the point after a client's event, where it is legal
+-- the point after a client's event, if it is legal
 abbrev pub client_step : TrackPoint → ℕ → ClientEvent → Option TrackPoint
 client_step p others e = when (client_may p others e) (after_client p e)
 

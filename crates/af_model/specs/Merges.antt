@@ -29,7 +29,7 @@ pub record IsStart (p : TrackPoint) : Type 0 where
   pub drop_to : p.drop_to < 2 ^ 62
   pub flushes : p.flushes < 2 ^ 31
 
--- the point that the lists begin at, the lists of all calls so far, and whether memory ran out in one of them
+-- a merge: the point that the lists begin at, the lists of all calls so far, and whether memory ran out in one of them
 pub record Merged : Type 0 where
   pub from : TrackPoint
   pub client : List ClientEvent
@@ -40,6 +40,6 @@ pub record Merged : Type 0 where
 abbrev pub merged : TrackPoint → List ClientEvent → List ServerEvent → List HandEvent → Bool → Merged
 merged from client server hand spent = record { from = from; client = client; server = server; hand = hand; spent = spent }
 
--- the same lists with a piece more at the end of each
+-- three lists with a piece more at the end of each
 abbrev pub with_pieces : Merged → List ClientEvent → List ServerEvent → List HandEvent → Merged
 with_pieces m client server hand = record m { client = m.client ++ client; server = m.server ++ server; hand = m.hand ++ hand }

@@ -8,7 +8,7 @@ use Rattle.af_model.specs.declared.newest.ReaderEvent.TheVariants.{Load}
 use Rattle.af_model.specs.declared.newest.ReaderEvent.TheVariants as reads
 use Rattle.af_model.specs.Order.{Event, one, two, HasOrder}
 
--- how many values were stored, the last of them, or the first content, and how many events each party has had
+-- the point of a cell: how many values were stored, the last of them, or the first content, and how many events each party has had
 pub record CellPoint (T : Type 0) : Type 0 where
   pub number : ℕ
   pub value : T

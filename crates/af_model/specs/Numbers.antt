@@ -20,7 +20,7 @@ AreWords ns = AllByRecursion (λ n. n < 2 ^ 32) ns
 
 -- ## Numbers of 32 bits
 
--- those of a call
+-- the numbers of a call
 abbrev pub call_words : ClientCall → List ℕ
 call_words (call.Put front count) = front ∷ count ∷ []
 call_words (call.Full front) = front ∷ []
@@ -36,7 +36,7 @@ call_words (call.SendCorrupt front rear) = front ∷ rear ∷ []
 call_words (call.Status word) = word ∷ []
 call_words (call.Poke command word value) = word ∷ value ∷ []
 
--- those of what a look showed
+-- the numbers of what a look showed
 abbrev pub seen_words : Seen → List ℕ
 seen_words seen.Absent = []
 seen_words (seen.Frames count) = count ∷ []
@@ -44,44 +44,44 @@ seen_words seen.Empty = []
 seen_words (seen.Flushed dropped) = dropped ∷ []
 seen_words (seen.Shut front rear) = front ∷ rear ∷ []
 
--- those of a look at a command block
+-- the numbers of a look at a command block
 abbrev pub look_words : CommandLook → List ℕ
 look_words l = l.flush ∷ l.rear ∷ l.code ∷ l.argument ∷ seen_words l.seen
 
--- those of a slot
+-- the numbers of a slot
 abbrev pub slot_words : SlotEntry → List ℕ
 slot_words slot = slot.gains ∷ slot.flush ∷ slot.rear ∷ seen_words slot.seen
 
 -- ## All numbers
 
--- a call
+-- the numbers of a call lie in their ranges
 abbrev pub FitsCall : ClientCall → Type 0
 FitsCall c = AreWords (call_words c)
 
--- a look at a command block
+-- the numbers of a look at a command block lie in their ranges
 abbrev pub FitsLook : CommandLook → Type 0
 FitsLook l = AreWords (look_words l)
 
--- a slot
+-- the numbers of a slot lie in their ranges
 abbrev pub FitsSlot : SlotEntry → Type 0
 FitsSlot slot = AreWords (slot_words slot)
 
--- a take
+-- the numbers of a take lie in their ranges
 abbrev pub FitsTake : TakeSeen → Type 0
 FitsTake t = (t.track < 2 ^ 32) × FitsSlot t.slot
 
--- what a push answered
+-- the numbers of what a push answered lie in their ranges
 abbrev pub FitsPush : Push → Type 0
 FitsPush pushing.Clean = Unit {0}
 FitsPush (pushing.Pushed number) = number < 2 ^ 64
 FitsPush (pushing.Busy word expected) = AreWords (word ∷ expected ∷ [])
 
--- what a turn saw and did of a track
+-- the numbers of what a turn saw and did of a track lie in their ranges
 pub record FitsTrack (t : TrackSeen) : Type 0 where
   pub looks : All FitsLook t.looks
   pub status : MatchOption t.status (Unit {0}) (λ word. word < 2 ^ 32)
 
--- a turn
+-- the numbers of a turn lie in their ranges
 pub record FitsTurn (e : Turn) : Type 0 where
   pub room : e.room < 2 ^ 32
   pub cycle : e.cycle < 2 ^ 64
@@ -89,29 +89,29 @@ pub record FitsTurn (e : Turn) : Type 0 where
   pub push : FitsPush e.push
   pub takes : All FitsTake e.mixes
 
--- an entry
+-- the numbers of an entry lie in their ranges
 pub record FitsEntry (entry : CycleEntry) : Type 0 where
   pub state : entry.state < 2 ^ 64
   pub looks : (i : ℕ) → i < slots → FitsSlot (entry_slot entry i)
   pub scales : (i : ℕ) → i < slots → slice_index_or entry.scales i 0 < 2 ^ 16
 
--- some calls
+-- the numbers of some calls lie in their ranges
 abbrev pub FitCalls : List ClientCall → Type 0
 FitCalls calls = All FitsCall calls
 
--- the calls of each client in a round, and its turn if there was one
+-- the numbers of each client's calls in a round, and of its turn if there was one, lie in their ranges
 abbrev pub FitTurns : List (List ClientCall) → Option Turn → Type 0
 FitTurns calls turn = All FitCalls calls × MatchOption turn (Unit {0}) FitsTurn
 
--- some entries
+-- the numbers of some entries lie in their ranges
 abbrev pub FitEntries : List EntrySeen → Type 0
 FitEntries entries = All (λ e. FitsEntry e.entry) entries
 
--- a round
+-- the numbers of a round lie in their ranges
 abbrev pub FitsRound : RoundSeen → Type 0
 FitsRound round = FitTurns round.calls round.turn × FitEntries round.entries
 
--- a journal
+-- the numbers of a journal lie in their ranges
 pub record HasRanges (j : JournalData) : Type 0 where
   pub tracks : j.tracks < 2 ^ 32
   pub rounds : All FitsRound j.rounds

@@ -9,7 +9,7 @@ use Rattle.af_model.specs.Point.{wrapped}
 use Rattle.af_model.specs.Room.{ahead}
 use Rattle.af_model.specs.Order.{Event, one, two, Legal, after, HasOrder}
 
--- how many frames were put and taken, how many of those put the last rear seen shows, and how many events each end has had
+-- the point of a pipe: how many frames were put and taken, how many of those put the last rear seen shows, and how many events each end has had
 pub record PipePoint : Type 0 where
   pub put : ℕ
   pub taken : ℕ
@@ -20,11 +20,11 @@ pub record PipePoint : Type 0 where
 abbrev pub start : PipePoint
 start = record { put = 0; taken = 0; shown = 0; puts = 0; takes = 0 }
 
--- the frames that there is room for, where so many were put and this front is seen
+-- the frames that there is room for, if so many were put and this front is seen
 abbrev pub room_by : ℕ → ℕ → ℕ → ℕ
 room_by size put front = size - ahead front (wrapped put)
 
--- Frames are put where there is room. A front seen is the number of frames taken, and the room by it is the pipe's size minus the frames put and not taken. A rear seen is the number of frames put, and frames are taken up to it. What was learnt stands before
+-- Frames are put only if there is room. A front seen is the number of frames taken, and the room by it is the pipe's size minus the frames put and not taken. A rear seen is the number of frames put, and frames are taken up to it. What was learnt stands before
 abbrev pub legal : ℕ → PipePoint → Event ClientEvent ServerEvent → Type 0
 legal size p (one (client.Release count)) = p.put + count ≤ p.taken + size
 legal size p (one (client.SawFront front)) = (front ≡ wrapped p.taken) × (room_by size p.put front ≡ size - (p.put - p.taken))
@@ -50,7 +50,7 @@ pub record HasPipeHistory (size : ℕ) (puts : List ClientEvent) (put : List ℕ
   pub taken_is : (after (legal size) next start history.order).taken ≡ length taken
   pub begins : taken ≡ take (length taken) put
 
--- A put of n frames after so many is one release, or two where the index reaches the number of cells in between. No frames are no release
+-- A put of n frames after so many is one release, or two if the index reaches the number of cells in between. No frames are no release
 abbrev pub releases_of : ℕ → ℕ → ℕ → List ClientEvent
 releases_of cells put n =
     let left = cells - put % cells in
@@ -66,7 +66,7 @@ pub record PutKept : Type 0 where
 abbrev pub nothing_put : PutKept
 nothing_put = record { put = 0; front = 0 }
 
--- frames are put where there is room by the front last seen
+-- frames are put only if there is room by the front last seen
 abbrev pub may_put : ℕ → PutKept → ClientEvent → Type 0
 may_put size k (client.Release count) = count ≤ room_by size k.put k.front
 may_put size k (client.SawFront front) = Unit {0}
@@ -82,7 +82,7 @@ after_put k _ = k
 abbrev pub IsPutList : ℕ → List ClientEvent → Type 0
 IsPutList size events = Legal (may_put size) after_put nothing_put events
 
--- what it tells
+-- what the list of the end that puts tells of it
 abbrev pub put_kept : ℕ → List ClientEvent → PutKept
 put_kept size events = after (may_put size) after_put nothing_put events
 

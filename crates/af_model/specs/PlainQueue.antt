@@ -28,7 +28,7 @@ may_attach r slot scale = r.editing && is_shelf slot && not (slice_index_or r.ou
 abbrev pub may_detach : Readiness → ℕ → Bool
 may_detach r slot = r.editing && is_shelf slot && carries r.draft slot && nat_lt r.draft.tracks_gen (2 ^ 31)
 
--- the draft, whether it is to be pushed, whether a mutation is in progress and made an edit, the number of the last state pushed and that state,
+-- a plain queue: the draft, whether it is to be pushed, whether a mutation is in progress and made an edit, the number of the last state pushed and that state,
 -- the number of the state polled last, that state and the one before, and where the item of each slot is
 pub record QueueState (P : Type 0) : Type 0 where
   pub draft : FastState
@@ -79,12 +79,12 @@ module _ {P : Type 0} where
   moved (Take x) i (Held p) = if carries x i then Held p else Coming p
   moved _ i place = place
 
-  -- the items of the slots from i on
+  -- where the items of the slots from i on are after a move
   abbrev pub moved_from : Move → ℕ → List (Place P) → List (Place P)
   moved_from m i [] = []
   moved_from m i (place ∷ places) = moved m i place ∷ moved_from m (i + 1) places
 
-  -- nothing was pushed, the draft is the first state, and no slot has an item
+  -- a new queue: nothing was pushed, the draft is the first state, and no slot has an item
   abbrev pub new_queue : ℕ → QueueState P
   new_queue frames = record {
     draft = initial frames;
@@ -119,14 +119,14 @@ module _ {P : Type 0} where
   abbrev pub is_acked : QueueState P → Bool
   is_acked q = q.number == q.pushed
 
-  -- a look at the acknowledgement: where it is that of the last push, the items that come back are in hand
+  -- a look at the acknowledgement: if it is that of the last push, the items that come back are in hand
   abbrev pub after_look : QueueState P → QueueState P
   after_look q = if is_acked q then record q { places = moved_from SeeAck 0 q.places } else q
 
   abbrev pub push_answer : QueueState P → Push
   push_answer q = if not q.dirty then pushing.Clean else if is_acked q then pushing.Pushed (q.pushed + 1) else pushing.Busy (word q.number) (word q.pushed)
 
-  -- the draft is the next state, and the items that were attached go with it
+  -- a push that is made: the draft is the next state, and the items that were attached go with it
   abbrev pub shown : QueueState P → QueueState P
   shown q = record q { dirty = false; pushed = q.pushed + 1; last = q.draft; places = moved_from Send 0 q.places }
 
@@ -136,7 +136,7 @@ module _ {P : Type 0} where
   abbrev pub poll_answer : QueueState P → Poll
   poll_answer q = if is_acked q then (if q.pushed == 0 then polling.Nothing else polling.Same) else polling.New q.pushed
 
-  -- where there is a new state it is current, the items that came with it are held, and those of slots that went off it come back
+  -- a poll: if there is a new state it is current, the items that came with it are held, and those of slots that went off it come back
   abbrev pub after_poll : QueueState P → QueueState P
   after_poll q = if is_acked q then q else record q { number = q.pushed; current = Some q.last; previous = q.current; places = moved_from (Take q.last) 0 q.places }
 
@@ -161,7 +161,7 @@ module _ {P : Type 0} where
   answers_of q [] = []
   answers_of q (c ∷ cs) = (step q c).0 ∷ answers_of (step q c).1 cs
 
-  -- the state that they leave
+  -- the state that some calls leave
   abbrev pub state_after : QueueState P → List (QueueCall P) → QueueState P
   state_after q [] = q
   state_after q (c ∷ cs) = state_after (step q c).1 cs

@@ -9,11 +9,11 @@ use Rattle.af_base.specs.declared.event.HandEvent.TheVariants as hand
 use Rattle.af_model.specs.declared.point.TrackPoint.{TrackPoint}
 use Rattle.af_model.specs.declared.shape.Shape.{Shape}
 
--- the word of a number
+-- the word of a number: its low 32 bits
 abbrev pub wrapped : ℕ → ℕ
 wrapped n = n % 2 ^ 32
 
--- before any event, on a block of this shape
+-- the point before any event, on a block of this shape
 abbrev pub start : Shape → TrackPoint
 start k =
     record {
@@ -35,15 +35,15 @@ start k =
 abbrev pub flush_number : (wrap flushes position : ℕ) → ℕ
 flush_number wrap flushes position = if wrap == 0 then flushes else wrapped (flushes * wrap + position % wrap)
 
--- the flush word
+-- the flush word at a point
 abbrev pub flush_word : TrackPoint → ℕ
 flush_word p = flush_number p.wrap p.flushes p.flush_at
 
--- The position up to which a drop consumes: for wrap 0 all that the last rear showed, and else what was released before the flush that the server saw last, where that lies past what was consumed
+-- The position up to which a drop consumes: for wrap 0 all that the last rear showed, and else what was released before the flush that the server saw last, if that lies past what was consumed
 abbrev pub drop_end : TrackPoint → ℕ
 drop_end p = if p.wrap == 0 then p.rear_seen else max p.drop_to p.consumed
 
--- `others` is the number of the server's events before
+-- which event of the client is legal at a point. `others` is the number of the server's events before
 abbrev pub ClientMay : TrackPoint → ℕ → ClientEvent → Type 0
 ClientMay p others (client.Release count) = Unit {0}
 ClientMay p others client.Flush = Unit {0}
@@ -55,7 +55,7 @@ ClientMay p others (client.SawStatus word) = word ≡ p.status
 ClientMay p others (client.Poke word value) = ⊥
 ClientMay p others (client.Learn count) = count ≤ others
 
--- `others` is the number of the client's events before
+-- which event of the server is legal at a point. `others` is the number of the client's events before
 abbrev pub ServerMay : TrackPoint → ℕ → ServerEvent → Type 0
 ServerMay p others (server.SawGain word) = word ≡ p.gains
 ServerMay p others (server.SawFlush flush) = flush ≡ flush_word p
@@ -68,13 +68,13 @@ ServerMay p others (server.SetFlags bits) = Unit {0}
 ServerMay p others (server.SetStatus word) = Unit {0}
 ServerMay p others (server.Learn count) = count ≤ others
 
--- `clients` is the number of the client's events before, `met` the most that an earlier meeting of the hand named, and `at` how many stand before the hand's last event.
+-- which event of the hand is legal. `clients` is the number of the client's events before, `met` the most that an earlier meeting of the hand named, and `at` how many stand before the hand's last event.
 -- What was met stands before the hand's later events, and the hand's earlier events stand before what the client did after the meeting
 abbrev pub HandMay : ℕ → ℕ → ℕ → HandEvent → Type 0
 HandMay clients met at (hand.SetFlags bits) = met ≤ clients
 HandMay clients met at (hand.Met client) = (met ≤ clients) × (at ≤ client)
 
--- what lacks a line leaves the point as it is
+-- the point after an event of the client; an event without a line here leaves it as it is
 abbrev pub after_client : TrackPoint → ClientEvent → TrackPoint
 after_client p (client.Release count) = record p { released = p.released + count }
 after_client p client.Flush = record p { flushes = p.flushes + 1; flush_at = p.released }

@@ -28,12 +28,12 @@ abbrev pub is_full : ℕ → Seen → Bool
 is_full asked (seen.Frames count) = count == asked
 is_full asked _ = false
 
--- a look that showed some of it
+-- a look that showed some frames, but not all that were asked for
 abbrev pub is_partial : ℕ → Seen → Bool
 is_partial asked (seen.Frames count) = not (count == asked)
 is_partial asked _ = false
 
--- a look that showed none of it
+-- a look that showed no frames
 abbrev pub is_empty : Seen → Bool
 is_empty seen.Empty = true
 is_empty _ = false
@@ -50,7 +50,7 @@ counted_look asked generation answer known r = record {
   empties = r.empties + one_if (is_empty answer);
 }
 
--- a state carries an item for the slot, where there is a state
+-- there is a state, and it carries an item for the slot
 abbrev pub carried : Option FastState → ℕ → Bool
 carried None i = false
 carried (Some x) i = carries x i

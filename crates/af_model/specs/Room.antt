@@ -6,6 +6,6 @@ use Rattle.af_model.specs.Point.{wrapped}
 abbrev pub ahead : ℕ → ℕ → ℕ
 ahead from to = (to + (2 ^ 32 - wrapped from)) % 2 ^ 32
 
--- Front and rear, where rear lies more frames past front than a block has. A rear that lies before front, by their distance as a signed number of 32 bits, lies 2^31 or more past it
+-- Front and rear, if rear lies more frames past front than a block has. A rear that lies before front, by their distance as a signed number of 32 bits, lies 2^31 or more past it
 abbrev pub outside : ℕ → ℕ → ℕ → Option (ℕ × ℕ)
 outside frames front rear = if nat_lt frames (ahead front rear) then Some (front, rear) else None

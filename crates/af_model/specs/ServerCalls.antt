@@ -18,11 +18,11 @@ pub record ServerKept : Type 0 where
   pub consumed : ℕ
   pub shut : Option (ℕ × ℕ)
 
--- a look notices a new flush: for wrap 0 in any case, and else where rear and front fit the block
+-- a look notices a new flush: for wrap 0 in any case, and else if rear and front fit the block
 abbrev pub is_noticed : Shape → Bool → (rear front : ℕ) → Bool
 is_noticed k new rear front = new && (k.wrap == 0 || not (nat_lt k.frames (ahead front rear)))
 
--- what is known after one event more: a front outside the room shuts the server, unless a new flush is noticed
+-- what is known of a server after one event more: a front outside the room shuts the server, unless a new flush is noticed
 abbrev pub server_keeps : Shape → ServerKept → ServerEvent → ServerKept
 server_keeps k kept (server.SawFlush flush) = record kept { flush = flush; is_new = not (flush == kept.flush) }
 server_keeps k kept (server.SawRear rear) = record kept { rear = rear }
@@ -37,11 +37,11 @@ server_keeps k kept (server.Drop to) = record kept { consumed = kept.consumed + 
 server_keeps k kept (server.Take count) = record kept { consumed = kept.consumed + count }
 server_keeps k kept _ = kept
 
--- before its first event
+-- what is known of a server before its first event
 abbrev pub server_begins : Shape → ServerKept
 server_begins k = record { flush = 0; is_new = false; noticed = 0; rear = wrapped k.base; front = wrapped k.base; consumed = 0; shut = None }
 
--- what these events tell of the server
+-- what a list of events tells of its server
 abbrev pub server_kept : Shape → List ServerEvent → ServerKept
 server_kept k events = fold (server_keeps k) (server_begins k) events
 
@@ -53,7 +53,7 @@ flushes_by wrap word = if wrap == 0 then word else word / wrap
 abbrev pub flush_position : (wrap flush rear : ℕ) → ℕ
 flush_position wrap flush rear = wrapped (rear + (2 ^ 32 - ahead flush rear % wrap))
 
--- how far a word lies past a front, or 0 where it lies before it
+-- how far a word lies past a front, or 0 if it lies before the front
 abbrev pub past_front : (front to : ℕ) → ℕ
 past_front front to = if nat_lt (ahead front to) (2 ^ 31) then ahead front to else 0
 
@@ -69,7 +69,7 @@ look_at k kept asked flush rear front =
     else if rear == front then seen.Empty
     else seen.Frames (min asked (ahead front rear))
 
--- what a look drops: so many frames from the front that it saw on, where it noticed a new flush
+-- what a look drops: so many frames from the front that it saw on, if it noticed a new flush
 abbrev pub drops_of : Seen → ℕ → List ServerEvent
 drops_of (seen.Flushed dropped) front = server.Drop (wrapped (front + dropped)) ∷ []
 drops_of _ front = []
@@ -78,12 +78,12 @@ drops_of _ front = []
 abbrev pub look_events : Seen → (flush rear front : ℕ) → List ServerEvent
 look_events shown flush rear front = server.SawFlush flush ∷ server.SawRear rear ∷ server.SawFront front ∷ drops_of shown front
 
--- how many frames a look showed, where it showed some
+-- how many frames a look showed, if it showed some
 abbrev pub shown_by : Seen → Option ℕ
 shown_by (seen.Frames count) = Some count
 shown_by _ = None
 
--- A server's list is what calls and meetings add, one after the other. `shown` is how many frames may be taken: those that the last call showed, where it was a look that showed some.
+-- A server's list is what calls and meetings add, one after the other. `shown` is how many frames may be taken: those that the last call showed, if it was a look that showed some.
 -- A server that was shut looks no more
 pub data IsServerList (k : Shape) : (shown : Option ℕ) → List ServerEvent → Type 0 where
   begins : IsServerList k None []

@@ -59,21 +59,21 @@ pub record HasOneFate (spans : List Span) (position : ℕ) : Type 0 where
   pub lies : LiesIn span position
   pub only : (other : ℕ) (s : Span) → slice_get spans other ≡ Some s → LiesIn s position → other ≡ place
 
--- these frames, where they are mixed
+-- some frames, if their fate is to be mixed
 abbrev pub frames_by : Fate → List ℕ → List ℕ
 frames_by mixed frames = frames
 frames_by discarded frames = []
 frames_by queued frames = []
 
--- those released at the positions of the span
+-- the frames that a span mixes: those released at its positions, if its fate is to be mixed
 abbrev pub mixed_in : List ℕ → ℕ → Span → List ℕ
 mixed_in released base s = frames_by s.fate (take (s.to - s.from) (drop (s.from - base) released))
 
--- those of all spans, in order
+-- the frames that all spans mix, in order
 abbrev pub mixed_by : List ℕ → ℕ → List Span → List ℕ
 mixed_by released base spans = flat_map (mixed_in released base) spans
 
--- that many frames, where the two fates are one
+-- a count, if the two fates are one, and else 0
 abbrev pub count_if : Fate → Fate → ℕ → ℕ
 count_if mixed mixed count = count
 count_if discarded discarded count = count

@@ -62,7 +62,7 @@ abbrev pub StepAnswers : Kind → (frames cells base : ℕ) → List ClientEvent
 StepAnswers kind frames cells base events (called answer) = is_on kind answer ≡ true → (asked : ℕ) × ClientAnswers frames cells base events asked answer
 StepAnswers kind frames cells base events (met_server count) = Unit {0}
 
--- each call does
+-- each call of some steps answers by the list before it
 abbrev pub AllAnswer : Kind → (frames cells base : ℕ) → List ClientEvent → List ClientStep → Type 0
 AllAnswer kind frames cells base events [] = Unit {0}
 AllAnswer kind frames cells base events (s ∷ steps) =
@@ -103,7 +103,7 @@ server_spells k kept (s ∷ steps) = server_step_events k kept s ++ server_spell
 abbrev pub server_spelled : Shape → List ServerStep → List ServerEvent
 server_spelled k steps = server_spells k (server_begins k) steps
 
--- how many frames may be taken after a step: those that it showed, where it was a look that showed some
+-- how many frames may be taken after a step: those that it showed, if it was a look that showed some
 abbrev pub shown_after : Shape → ServerKept → Option ℕ → ServerStep → Option ℕ
 shown_after k kept shown (looked asked flush rear front) = if is_some kept.shut then None else shown_by (sight_of k kept asked flush rear front)
 shown_after k kept shown (met_client count) = shown
@@ -137,7 +137,7 @@ abbrev pub SeesOwn : Shape → ServerKept → ServerEvent → Type 0
 SeesOwn k kept (server.SawFront front) = front ≡ own_front k kept
 SeesOwn k kept _ = Unit {0}
 
--- each look does
+-- each look of some events sees the server's own front
 abbrev pub AllSeeOwn : Shape → ServerKept → List ServerEvent → Type 0
 AllSeeOwn k kept [] = Unit {0}
 AllSeeOwn k kept (e ∷ es) = SeesOwn k kept e × AllSeeOwn k (server_keeps k kept e) es

@@ -25,7 +25,7 @@ pub data Who : Type 0 where
   Server : Who
   Hand : Who
 
--- Where that many events of the client and of the hand have stood, the event at that place of the hand's list
+-- If that many events of the client and of the hand have stood, the event at that place of the hand's list
 -- is kept if it is a Met: no event of the hand past it has stood before the client's events that it names,
 -- and no client event past these before each event of the hand that is before the Met.
 abbrev pub keeps_event : HandEvent → ℕ → ℕ → ℕ → Bool
@@ -38,7 +38,7 @@ abbrev pub keeps_mets : List HandEvent → ℕ → ℕ → ℕ → Bool
 keeps_mets [] place clients hands = true
 keeps_mets (h ∷ hs) place clients hands = keeps_event h place clients hands && keeps_mets hs (place + 1) clients hands
 
--- m, where it keeps each Met
+-- the stage m, if it keeps each Met
 abbrev pub kept : List HandEvent → Stage → Option Stage
 kept hs m = if keeps_mets hs 0 m.clients m.hands then Some m else None
 
@@ -51,7 +51,7 @@ with_server m p = record { point = p; clients = m.clients; servers = m.servers +
 abbrev pub with_hand : Stage → TrackPoint → Stage
 with_hand m p = record { point = p; clients = m.clients; servers = m.servers; hands = m.hands + 1 }
 
--- the stage after one more event of that party, where there is one and it is legal
+-- the stage after one more event of that party, if there is one and it is legal
 abbrev pub move : Lists → Who → Stage → Option Stage
 move l Client m =
     option_and_then (λ e. option_and_then (λ p. kept l.hand (with_client m p)) (client_step m.point m.servers e)) (slice_get l.client m.clients)
@@ -75,11 +75,11 @@ hand_only l Client m = None
 hand_only l Server m = None
 hand_only l Hand m = move l Hand m
 
--- The same steps, but a Met that may stand here stands here: it changes no point, and later it may stand no better.
+-- One step of the search, but a Met that may stand here stands here: it changes no point, and later it may stand no better.
 abbrev pub eager : Lists → Who → Stage → Option Stage
 eager l w m = if takes_met l.hand m then hand_only l w m else move l w m
 
--- before all events
+-- the stage before all events
 abbrev pub begin : TrackPoint → Stage
 begin p = record { point = p; clients = 0; servers = 0; hands = 0 }
 
@@ -90,11 +90,11 @@ count m = m.clients + m.servers + m.hands
 abbrev pub HasCount : ℕ → Stage → Type 0
 HasCount n m = (count m == n) ≡ true
 
--- how many there are
+-- how many events all lists have
 abbrev pub total : Lists → ℕ
 total l = length l.client + length l.server + length l.hand
 
--- after all events
+-- the stage after all events
 pub record IsWhole (l : Lists) (m : Stage) : Type 0 where
   pub client : m.clients ≡ length l.client
   pub server : m.servers ≡ length l.server

@@ -51,7 +51,7 @@ module _ {P : Type 0} where
   AllFit fits x items = (i : ℕ) (p : P) → i < slots → slice_index_or items i None ≡ Some p → fits (slot_of x i).track p
 
 module _ {P K : Type 0} where
-  -- the same at the key that an end has
+  -- each item fits the track of its slot, at the key of an end that has one
   abbrev pub FitAt : (K → ℕ → P → Type 0) → Option K → FastState → List (Option P) → Type 0
   FitAt fits o x items = (key : K) → o ≡ Some key → AllFit (fits key) x items
 
@@ -71,7 +71,7 @@ pub record ObserverPoint (P : Type 0) : Type 0 where
   pub given : List (Option P)
   pub count : ℕ
 
--- what both leave
+-- what the events of both ends leave
 pub record QueuePoint (P : Type 0) : Type 0 where
   pub mutator : MutatorPoint P
   pub observer : ObserverPoint P
@@ -104,7 +104,7 @@ module _ {P : Type 0} where
   abbrev pub observed : List (ObserverEvent P) → ObserverPoint P
   observed os = fold observer_next observer_start os
 
-  -- what a look at the acknowledgement brings: the items given back, where the mutator doesn't have them yet and the last state is acknowledged
+  -- what a look at the acknowledgement brings: the items given back, if the mutator doesn't have them yet and the last state is acknowledged
   abbrev pub brought : QueuePoint P → List (Option P)
   brought p = if not p.mutator.clear && (p.observer.acked == p.mutator.pushed) then p.observer.given else []
 

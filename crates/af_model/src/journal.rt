@@ -163,7 +163,7 @@ impl Journal {
         self.noted.tracks
     }
 
-    /// The calls of a client in a round, in order; none where it had no turn.
+    /// The calls of a client in a round, in order; none if it had no turn.
     pub fn client(&self, round: usize, track: u32) -> &[ClientCall]
         requires round { round < length self.now.rounds }
         requires track { track < self.now.tracks }
@@ -172,7 +172,7 @@ impl Journal {
         self.noted.round(round).calls[track as usize].as_slice()
     }
 
-    /// The normal mixer's turn in a round; None where it had none.
+    /// The normal mixer's turn in a round; None if it had none.
     pub fn turn(&self, round: usize) -> Option<&TurnEntry>
         requires round { round < length self.now.rounds }
         ensures { option_map (λ e. turn_of e.now) result ≡ (round_at self.now round).turn }

@@ -9,7 +9,7 @@ pub enum WriterEvent<T> {
 
 /// What the reader of a cell did.
 pub enum ReaderEvent<T> {
-    /// It was shown this value, the one stored under this number. The first content has the number 0.
+    /// The reader was shown this value, the one stored under this number. The first content has the number 0.
     Load { number: u64, value: T },
     /// So many of the writer's events stand before.
     Learn { count: u64 },

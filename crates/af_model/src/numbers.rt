@@ -16,7 +16,7 @@ pub(crate) fn know_word(word: u32)
     let _word = word;
 }
 
-// The number of a cycle or of a state has 64.
+// The number of a cycle or of a state has 64 bits.
 fn know_number(number: u64)
     ensures { number < 2 ^ 64 }
 {
@@ -83,7 +83,7 @@ fn know_call(call: ClientCall)
     }
 }
 
-// Those of some calls.
+// The words of some calls.
 fn know_calls(calls: &[ClientCall])
     ensures { FitCalls calls.now }
 {
@@ -92,7 +92,7 @@ fn know_calls(calls: &[ClientCall])
     }
 }
 
-/// Those of the calls of each client.
+/// The words of the calls of each client.
 pub(crate) fn know_clients(clients: &[Vec<ClientCall>])
     ensures { All (λ calls. FitCalls calls.items) clients.now }
 {
@@ -112,7 +112,7 @@ fn know_look(look: CommandLook)
     know_seen(look.seen);
 }
 
-// Those of some looks.
+// The words of some looks at a command block.
 fn know_looks(looks: &[CommandLook])
     ensures { All FitsLook looks.now }
 {
@@ -131,7 +131,7 @@ fn know_status(status: Option<u32>)
     }
 }
 
-// What a turn saw and did of a track.
+// The numbers of what a turn saw and did of a track.
 fn know_track(track: &TrackTurn)
     ensures { FitsTrack (track_seen track.now) }
 {
@@ -139,7 +139,7 @@ fn know_track(track: &TrackTurn)
     know_status(track.status);
 }
 
-// The same of each track.
+// The numbers of what a turn saw and did of each track.
 fn know_tracks(tracks: &[TrackTurn])
     ensures { All (λ t. FitsTrack (track_seen t)) tracks.now }
 {
@@ -148,7 +148,7 @@ fn know_tracks(tracks: &[TrackTurn])
     }
 }
 
-// What a push answered.
+// The numbers of what a push answered.
 fn know_push(push: Push)
     ensures { FitsPush push }
 {
@@ -172,7 +172,7 @@ fn know_slot(slot: SlotEntry)
     know_seen(slot.seen);
 }
 
-// Those of a take.
+// The numbers of a take.
 fn know_take(take: &NormalTake)
     ensures { FitsTake (take_seen take.now) }
 {
@@ -180,7 +180,7 @@ fn know_take(take: &NormalTake)
     know_slot(take.slot);
 }
 
-// Those of each take.
+// The numbers of each take.
 fn know_takes(takes: &[NormalTake])
     ensures { All (λ t. FitsTake (take_seen t)) takes.now }
 {
@@ -200,7 +200,7 @@ fn know_turn(turn: &TurnEntry)
     know_takes(turn.mixes.as_slice());
 }
 
-/// Those of a turn that may have been made.
+/// The numbers of a turn, if one was made.
 pub(crate) fn know_turns(turn: Option<&TurnEntry>)
     ensures { MatchOption (option_map (λ e. turn_of e.now) turn.entry) (Unit {0}) FitsTurn }
 {
@@ -228,7 +228,7 @@ fn know_entry(entry: &CycleEntry)
     }
 }
 
-/// Those of each entry of a log.
+/// The numbers of each entry of a log.
 pub(crate) fn know_log(log: &FastLog)
     ensures { All FitsEntry log.now.entries }
 {

@@ -14,7 +14,7 @@ use crate::search::{
 use af_base::{ClientEvent, HandEvent, ServerEvent};
 use std::alloc::{AllocError, Global};
 
-/// Where the hand's list is used up, only its last event can forbid another.
+/// If the hand's list is used up, only its last event can forbid another.
 fn knows_each(hand: &[HandEvent], clients: usize) -> bool
     requires { keeps_mets hand.now 0 clients (length hand.now) ≡ true }
     ensures { result ≡ knows_no_more hand.now clients }
@@ -118,7 +118,7 @@ fn join(
     Ok(())
 }
 
-/// The open stages that these lead to, count by count.
+/// The open stages that some stages lead to, count by count.
 fn settle(alloc: Global, events: &Events<'_>, starts: &[Stage]) -> Result<Vec<Stage>, AllocError>
     requires short { AreShortLists (lists_of events.now) }
     requires bounds { All (InBounds (lists_of events.now)) starts.now }
@@ -170,7 +170,7 @@ pub(crate) struct Search {
     pub known: bool,
 }
 
-/// Where the search begins: at the open stages, or afresh where a Met of the new events reaches back.
+/// Where the search begins: at the open stages, or afresh if a Met of the new events reaches back.
 fn starts(alloc: Global, search: &mut Search, hand: &[HandEvent]) -> Result<Vec<Stage>, AllocError>
     requires from { IsStart search.old.from }
     requires knows { Knows search.old }

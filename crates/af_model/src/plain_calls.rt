@@ -50,7 +50,7 @@ pub enum QueueCall<P> {
 /// What a call answers.
 #[derive(Debug, PartialEq, Eq, Drop)]
 pub enum QueueAnswer<P> {
-    /// The call could not be made. Nothing changed, and here it is back.
+    /// The call could not be made. Nothing changed, and the call comes back.
     NotAllowed { call: QueueCall<P> },
     /// An edit, or the begin or the end of a mutation.
     Done,
@@ -63,7 +63,7 @@ pub enum QueueAnswer<P> {
 /// Where the item of a slot is.
 #[derive(Drop)]
 pub enum Place<P> {
-    /// There is none: it was never attached, or was taken back.
+    /// There is no item: it was never attached, or was taken back.
     Nowhere,
     /// With the mutator, attached and not pushed yet.
     Pending { item: P },

@@ -76,7 +76,7 @@ pub(crate) fn detach_from<P: Drop>(places: &mut Vec<Place<P>>, slot: usize)
     places[slot] = place.let_go();
 }
 
-/// The item of a slot, where it is in the mutator's hand.
+/// The item of a slot, if it is in the mutator's hand.
 pub(crate) fn take_from<P: Drop>(places: &mut Vec<Place<P>>, slot: usize) -> Option<P>
     requires { slot < length places.old.items }
     ensures item { result ≡ returned_of (place_at places.old.items slot) }

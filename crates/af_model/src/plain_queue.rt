@@ -261,7 +261,7 @@ impl<P: Drop> PlainQueue<P> {
         QueueAnswer::Done
     }
 
-    /// Makes a call, where it is allowed.
+    /// Makes a call, if it is allowed.
     pub fn answer(&mut self, call: QueueCall<P>) -> QueueAnswer<P>
         ensures answer { result ≡ (step self.old call).0 }
         ensures state { self.new ≡ (step self.old call).1 }
@@ -275,7 +275,7 @@ impl<P: Drop> PlainQueue<P> {
 }
 
 impl<P: Drop> PlainQueue<P> {
-    /// Makes each call that is allowed, in order. Where memory is wanting none is made.
+    /// Makes each call that is allowed, in order. If memory runs out none is made.
     pub fn answer_each(
         &mut self,
         alloc: Global,
@@ -330,7 +330,7 @@ impl<P: Drop> PlainQueue<P> {
         self.number
     }
 
-    /// The item of a slot, where the observer holds it.
+    /// The item of a slot, if the observer holds it.
     pub fn item(&self, slot: u32) -> Option<&P>
         requires slot { slot < slots }
         ensures { MatchOption result (held_of (place_at self.now.places slot) ≡ None) (λ p. held_of (place_at self.now.places slot) ≡ Some p.now) }

@@ -7,9 +7,9 @@ pub struct TrackPoint {
     pub consumed: u64,
     /// How many flushes the client asked for.
     pub flushes: u32,
-    /// How many flushes the server saw where it loaded the flush word last.
+    /// How many flushes the server saw when it loaded the flush word last.
     pub flush_seen: u32,
-    /// What was released where the server saw the rear last.
+    /// What was released when the server saw the rear last.
     pub rear_seen: u64,
     /// The gain word: left in the low half, right in the high half.
     pub gains: u32,
@@ -21,8 +21,8 @@ pub struct TrackPoint {
     pub underruns: u32,
     /// The position up to which the client had released at its last flush, and 0 before any.
     pub flush_at: u64,
-    /// What `flush_at` was where the server loaded the flush word last.
+    /// What `flush_at` was when the server loaded the flush word last.
     pub drop_to: u64,
-    /// The wrap of the block's flush words, or 0 where flushes are only counted.
+    /// The wrap of the block's flush words, or 0 if flushes are only counted.
     pub wrap: u32,
 }

@@ -49,7 +49,7 @@ fn first_names_each(hand: &[HandEvent], clients: usize) -> bool
     true
 }
 
-/// Whether each Met names at least so many client events. Where they rise, the first one tells.
+/// Whether each Met names at least so many client events. If they rise, the first one decides.
 fn names_all(hand: &[HandEvent], clients: usize, rises: bool) -> bool
     requires { rises ≡ true → rises_from 0 hand.now ≡ true }
     ensures { result ≡ names_at_least clients hand.now }
@@ -110,7 +110,7 @@ fn keeps_client(hand: &[HandEvent], clients: usize, hands: usize, rises: bool) -
     names_all(later(hand, hands + 1), clients + 1, rises)
 }
 
-/// The same with one event of the hand more. Only its last event can forbid it.
+/// Whether each Met is kept with one event of the hand more. Only its last event can forbid it.
 pub(crate) fn keeps_hand(hand: &[HandEvent], clients: usize, hands: usize) -> bool
     requires { keeps_mets hand.now 0 clients hands ≡ true }
     ensures { result ≡ keeps_mets hand.now 0 clients (hands + 1) }

@@ -4,13 +4,13 @@ use std::collections::LinkedList;
 
 /// What the mutator of a queue did.
 pub enum MutatorEvent<P> {
-    /// It showed the state of this number, and sent the items of the newly attached slots with it. An entry stands for each slot.
+    /// The mutator showed the state of this number, and sent the items of the newly attached slots with it. An entry stands for each slot.
     Push {
         number: u64,
         state: FastState,
         items: LinkedList<Option<P>>,
     },
-    /// It saw that the state of this number was the last acknowledged, and these items came into its hand.
+    /// The mutator saw that the state of this number was the last acknowledged, and these items came into its hand.
     SawAck {
         number: u64,
         items: LinkedList<Option<P>>,
@@ -23,13 +23,13 @@ pub enum MutatorEvent<P> {
 
 /// What the observer of a queue did.
 pub enum ObserverEvent<P> {
-    /// It saw that the state of this number was the last pushed. Where it was new to it, it took that state and its items.
+    /// The observer saw that the state of this number was the last pushed. If it was new to it, it took that state and its items.
     SawNext {
         number: u64,
         state: Option<FastState>,
         items: LinkedList<Option<P>>,
     },
-    /// It acknowledged the state of this number, and gave back the items of the detached slots.
+    /// The observer acknowledged the state of this number, and gave back the items of the detached slots.
     Ack {
         number: u64,
         items: LinkedList<Option<P>>,

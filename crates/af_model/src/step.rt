@@ -57,7 +57,7 @@ fn with_flags(point: &TrackPoint, bits: u32) -> TrackPoint
     }
 }
 
-/// The point after a client's event, where it is legal. That many events of the server stand before it.
+/// The point after a client's event, if it is legal. That many events of the server stand before it.
 pub(crate) fn after_client(
     point: &TrackPoint,
     servers: u64,
@@ -103,7 +103,7 @@ pub(crate) fn after_client(
     }
 }
 
-/// The same for a server's event, before which that many events of the client stand.
+/// The point after a server's event, if it is legal. That many events of the client stand before it.
 pub(crate) fn after_server(
     point: &TrackPoint,
     clients: u64,
@@ -153,7 +153,7 @@ pub(crate) fn after_server(
     }
 }
 
-/// The same for an event of the hand.
+/// The point after an event of the hand.
 pub(crate) fn after_hand(point: &TrackPoint, event: &HandEvent) -> TrackPoint
     ensures { result ≡ after_hand_event point.now event.now }
 {

@@ -1,4 +1,4 @@
--- Where no round has more than half as many notes as there is room for, none is refused.
+-- If no round has more than half as many notes as there is room for, none is refused.
 use Rattle.std.proofs.Common.{◌≡◌, ℕ, ◌+◌, ◌*◌, ◌≤◌, Bool, true, false, All, List, [], ◌∷◌, length, refl, subst, arith}
 use Rattle.std.proofs.lemmas.List.Elements.{All-nil, All-head, All-tail, All-cons}
 use Rattle.af_nblog.specs.NoteRounds.{count_accepted, RefusesLate, EachRefusesLate}

@@ -103,7 +103,7 @@ last_accepted-append : (before : ℕ) (rounds : List (List Bool)) (round : List 
 last_accepted-append before [] round = refl
 last_accepted-append before (r ∷ rounds) round = last_accepted-append (count_accepted r) rounds round
 
--- what a list's front has, where all of it has it
+-- what a list's front has, if all of it has it
 front_takes : (xs ys : List ServerEvent) → list_all takes_note (xs ++ ys) ≡ true → list_all takes_note xs ≡ true
 front_takes xs ys all = (and_parts (list_all takes_note xs) (list_all takes_note ys) (sym (list_all-append takes_note xs ys) ∙ all)).0
 

@@ -7,11 +7,11 @@ use Rattle.af_nblog.specs.declared.entries.Note.{Note}
 abbrev pub spaced : List ℕ → List ℕ
 spaced numbers = join_with_byte 32 (map decimal numbers)
 
--- a note that was accepted, without its LF
+-- the line of a note that was accepted, without its LF
 abbrev pub note_line : Note → List ℕ
 note_line n = spaced (n.place ∷ n.state ∷ n.kind ∷ n.fulls ∷ n.partials ∷ n.empties ∷ [])
 
--- how many notes were refused
+-- the line that says how many notes were refused
 abbrev pub refused_line : ℕ → List ℕ
 refused_line count = codes "refused " ++ decimal count
 

@@ -18,12 +18,12 @@ use Rattle.af_nblog.specs.NoteFronts.{takes_note}
 
 -- ## The end that notes
 
--- its pass, and how many notes were refused
+-- the writer's pass, and how many notes were refused
 pub record WriterState : Type 0 where
   pub pass : ClientSide
   pub refused : ℕ
 
--- the block that it was made with
+-- the block that a writer was made with
 abbrev pub writer_made : WriterState → Made
 writer_made w = client_made w.pass
 
@@ -43,7 +43,7 @@ left_by p = room_in p - room_of p / 8
 abbrev pub known_by : ClientPart → ℕ
 known_by p = length (notes_in p.frames) - left_by p
 
--- A note is refused exactly where the front that it sees leaves as many notes in the log as there is room for. Else its words are put, in one release
+-- A note is refused exactly if the front that it sees leaves as many notes in the log as there is room for. Else its words are put, in one release
 abbrev pub NotedBy : ClientPart → Note → Noted → ClientPart → Type 0
 NotedBy p note Sent q =
     (left_by (client_saw_front p q.front) < room_in p)
@@ -56,17 +56,17 @@ NotedBy p note Sent q =
 NotedBy p note (Refused sent known) q =
     (room_in p ≤ left_by q) × (sent ≡ length (notes_in p.frames)) × (known ≡ known_by q) × (q ≡ client_saw_front p q.front)
 
--- the note where it was accepted
+-- the note, if it was accepted
 abbrev pub kept : Noted → Note → List Note
 kept Sent note = note ∷ []
 kept (Refused sent known) note = []
 
--- how many notes this refused
+-- how many notes an answer refused
 abbrev pub refusals : Noted → ℕ
 refusals Sent = 0
 refusals (Refused sent known) = 1
 
--- the front, eight cells and a release; or the front alone
+-- the steps of a note: the front, eight cells and a release; or the front alone
 abbrev pub note_steps : Noted → ℕ
 note_steps Sent = 10
 note_steps (Refused sent known) = 1
@@ -81,11 +81,11 @@ pub record IsNoting (p : ClientPart) (sent room : ℕ) : Type 0 where
 
 -- ## The end that reads
 
--- its pass
+-- the reader's pass
 pub record ReaderState : Type 0 where
   pub pass : ServerSide
 
--- the block that it was made with
+-- the block that a reader was made with
 abbrev pub reader_made : ReaderState → Made
 reader_made r = server_made r.pass
 
@@ -110,7 +110,7 @@ note_taken s words =
       loaded = [];
     }
 
--- There is no note exactly where the rear that is seen lies less than a note past the front. Else the note there is taken, whole
+-- There is no note exactly if the rear that is seen lies less than a note past the front. Else the note there is taken, whole
 abbrev pub ReadBy : ServerSide → Option Note → ServerSide → Type 0
 ReadBy p answer q =
     (rear : ℕ) × (front : ℕ)
@@ -123,7 +123,7 @@ abbrev pub listed : Option Note → List Note
 listed None = []
 listed (Some note) = note ∷ []
 
--- rear and front, and with a note eight cells and the front
+-- the steps of a read: rear and front, and with a note eight cells and the front
 abbrev pub read_steps : Option Note → ℕ
 read_steps None = 2
 read_steps (Some note) = 11

@@ -20,13 +20,13 @@ count_accepted [] = 0
 count_accepted (true ∷ outcomes) = 1 + count_accepted outcomes
 count_accepted (false ∷ outcomes) = count_accepted outcomes
 
--- A note of a round is refused only where the notes accepted before it, in this round and in the round before, are at least as many as there is room for
+-- A note of a round is refused only if the notes accepted before it, in this round and in the round before, are at least as many as there is room for
 abbrev pub RefusesLate : (room before : ℕ) → List Bool → Type 0
 RefusesLate room before [] = Unit {0}
 RefusesLate room before (true ∷ outcomes) = RefusesLate room (before + 1) outcomes
 RefusesLate room before (false ∷ outcomes) = (room ≤ before) × RefusesLate room before outcomes
 
--- the same of each round, where so many notes were accepted in the round before the first
+-- each round refuses so late, if so many notes were accepted in the round before the first
 abbrev pub EachRefusesLate : (room before : ℕ) → List (List Bool) → Type 0
 EachRefusesLate room before [] = Unit {0}
 EachRefusesLate room before (round ∷ rounds) = RefusesLate room before round × EachRefusesLate room (count_accepted round) rounds
@@ -50,7 +50,7 @@ HasDrained room p notes q = ((mid : ServerSide) × HasRead p notes mid × ReadBy
 
 -- ## Between rounds
 
--- how many events of the other end were learnt last, where it were so many before
+-- how many events of the other end were learnt last, after so many before
 abbrev pub told_reads : ℕ → List ClientEvent → ℕ
 told_reads told [] = told
 told_reads told (client.Learn count ∷ es) = told_reads count es
@@ -61,19 +61,19 @@ told_puts told [] = told
 told_puts told (server.Learn count ∷ es) = told_puts count es
 told_puts told (_ ∷ es) = told_puts told es
 
--- how many notes were accepted in the last of these rounds, where there were so many in the round before the first
+-- how many notes were accepted in the last of these rounds, if there were so many in the round before the first
 abbrev pub last_accepted : ℕ → List (List Bool) → ℕ
 last_accepted before [] = before
 last_accepted before (round ∷ rounds) = last_accepted (count_accepted round) rounds
 
--- Each end's words are those of whole notes, and its events tell how many there are
+-- Each end's words are those of whole notes, and its events say how many there are
 pub record AreCounted (w : WriterState) (r : ReaderState) : Type 0 where
   pub whole : length w.pass.part.frames ≡ 8 * length (accepted w)
   pub put_is : put_in w.pass.part.events ≡ length w.pass.part.frames
   pub whole_read : length r.pass.part.frames ≡ 8 * length (read r)
   pub read_is : read_in r.pass.part.events ≡ length (read r)
 
--- Between rounds, of which these were the outcomes: each end was told all that the other did, the notes accepted before the last round have been read, and each refusal came late
+-- Between rounds, of which these were the outcomes: each end learnt all that the other did, the notes accepted before the last round have been read, and each refusal came late
 pub record IsBetween (room : ℕ) (rounds : List (List Bool)) (w : WriterState) (r : ReaderState) : Type 0 where
   pub counted : AreCounted w r
   pub reads : length (read r) ≤ read_in (take (told_reads 0 w.pass.part.events) r.pass.part.events)

@@ -15,7 +15,7 @@ abbrev pub is_full : ℕ → Seen → Bool
 is_full frames (seen.Frames count) = count == frames
 is_full frames _ = false
 
--- a look showed fewer
+-- a look showed fewer frames than so many
 abbrev pub is_partial : ℕ → Seen → Bool
 is_partial frames (seen.Frames count) = nat_lt count frames
 is_partial frames _ = false
@@ -25,7 +25,7 @@ abbrev pub is_empty : Seen → Bool
 is_empty seen.Empty = true
 is_empty _ = false
 
--- the same of what a slot showed
+-- a slot showed frames for a whole cycle, fewer, or that no frame is there
 abbrev pub full_slot : ℕ → SlotEntry → Bool
 full_slot frames slot = is_full frames slot.seen
 
@@ -35,7 +35,7 @@ partial_slot frames slot = is_partial frames slot.seen
 abbrev pub empty_slot : SlotEntry → Bool
 empty_slot slot = is_empty slot.seen
 
--- The note of an entry at a place of the log, where a cycle has so many frames. It counts the slots but the first
+-- The note of an entry at a place of the log, if a cycle has so many frames. It counts the slots but the first
 abbrev pub note_of : ℕ → CycleEntry → ℕ → Note
 note_of place entry frames =
     record {

@@ -59,7 +59,7 @@ impl Model for NoteReader {
     ghost invariant = { λ r. IsReading r.takes.pass.part };
 }
 
-/// An empty log for `room` notes, from 1 to 1024, and its two ends. Each begins with no events. The only refusal is want of memory.
+/// An empty log for `room` notes, from 1 to 1024, and its two ends. Each begins with no events. Memory is its only refusal.
 pub fn ring(alloc: Global, room: u32) -> Result<(Block, NoteWriter, NoteReader), Memory>
     requires some { 1 ≤ room }
     requires few { room ≤ 1024 }
@@ -83,7 +83,7 @@ pub fn ring(alloc: Global, room: u32) -> Result<(Block, NoteWriter, NoteReader),
 ///
 /// Whatever the order in which their steps came, the two ends' lists have a history of the pipe, and the notes read and the notes left are together the notes accepted, in order. Each front that the writer saw is that of a number of notes read by then: no fewer than before a meeting that stands before it, and no more than those accepted by then. By it there lie in the log the notes accepted and not read, no more than there is room for. Each rear that the reader saw is that of what was accepted by then, and no less than before a meeting that stands before it.
 ///
-/// Where the ends meet in rounds, in each of which the reader goes on until it sees no note left or has read as many as there is room for, a note is refused only where the notes accepted before it, in its round and in the round before, are at least as many as there is room for; and none is, where no round has more than half as many notes.
+/// If the ends meet in rounds, in each of which the reader goes on until it sees no note left or has read as many as there is room for, a note is refused only if the notes accepted before it, in its round and in the round before, are at least as many as there is room for; and none is, if no round has more than half as many notes.
 pub fn meet_notes<L: Ledger>(
     block: &Block,
     writer: &mut NoteWriter,

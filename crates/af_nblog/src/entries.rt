@@ -11,9 +11,9 @@ use af_base::{CycleEntry, Seen, SlotEntry};
 pub struct Note {
     /// The index of the entry in the mixer's log.
     pub place: u64,
-    /// The number of the state that the entry used, 0 where none was pushed.
+    /// The number of the state that the entry used, 0 if none was pushed.
     pub state: u64,
-    /// 0 where it was mixed, 1 idle, 2 a change to cold idle, 3 the end.
+    /// 0 if it was mixed, 1 idle, 2 a change to cold idle, 3 the end.
     pub kind: u32,
     /// How many of the slots 1 to 31 showed frames for the whole cycle.
     pub fulls: u32,
@@ -61,7 +61,7 @@ fn count_fulls(slots: &[SlotEntry], frames: u32) -> usize
         .count()
 }
 
-// How many of them showed fewer.
+// How many of these slots showed fewer frames.
 fn count_partials(slots: &[SlotEntry], frames: u32) -> usize
     ensures value { result ≡ count_by (partial_slot frames) slots.now }
     ensures few { result ≤ length slots.now }
@@ -72,7 +72,7 @@ fn count_partials(slots: &[SlotEntry], frames: u32) -> usize
         .count()
 }
 
-// How many of them showed no frame.
+// How many of these slots showed no frame.
 fn count_empties(slots: &[SlotEntry]) -> usize
     ensures value { result ≡ count_by empty_slot slots.now }
     ensures few { result ≤ length slots.now }
@@ -80,7 +80,7 @@ fn count_empties(slots: &[SlotEntry]) -> usize
     slots.iter().filter(|slot| is_empty(slot.seen)).count()
 }
 
-/// The note of an entry that stands at this index of the log, where a cycle has so many frames. The counts are of the slots 1 to 31 that showed so many frames, fewer, or none. The entry isn't that of a full log.
+/// The note of an entry that stands at this index of the log, if a cycle has so many frames. The counts are of the slots 1 to 31 that showed so many frames, fewer, or none. The entry isn't that of a full log.
 pub fn note_of(place: u64, entry: &CycleEntry, frames: u32) -> Note
     requires kept { is_spent entry.now.cycle ≡ false }
     ensures { result ≡ note_of place entry.now frames }

@@ -12,7 +12,7 @@ use af_cblk::Block;
 use std::sync::ledger::Ledger;
 
 impl NoteReader {
-    /// Takes the next note. None exactly where the rear that it sees shows no note left.
+    /// Takes the next note. None exactly if the rear that it sees shows no note left.
     pub fn next<L: Ledger>(&mut self, block: &Block, steps: &mut Steps<L>) -> Option<Note>
         requires made { reader_made self.old ≡ block.now }
         ensures made { reader_made self.new ≡ block.now }
@@ -27,7 +27,7 @@ impl NoteReader {
         self.takes.take(block, &mut into, steps);
         Some(note_in(&into))
     }
-    /// A turn of the end that reads: it takes notes until it sees none left, or has taken as many as the log has room for, and puts them behind others, where there is room for so many. It takes no memory.
+    /// A turn of the end that reads: it takes notes until it sees none left, or has taken as many as the log has room for, and puts them behind others, if there is room for so many. It takes no memory.
     pub fn drain<L: Ledger>(
         &mut self,
         block: &Block,

@@ -12,14 +12,14 @@ use std::sync::ledger::Ledger;
 /// What came of a note.
 #[derive(Clone, Copy, Debug, PartialEq, Eq)]
 pub enum Noted {
-    /// It was accepted.
+    /// The note was accepted.
     Sent,
     /// There was no room. So many notes were accepted so far, and the front seen shows so many of them taken.
     Refused { sent: u64, known: u64 },
 }
 
 impl NoteWriter {
-    /// Notes without waiting. It looks at the front, and puts the note where that leaves room. Where the notes accepted and not taken by that front are as many as there is room for, nothing is put, and the note is counted as refused. The notes are fewer than 2^62 in all.
+    /// Notes without waiting. It looks at the front, and puts the note if that leaves room. If the notes accepted and not taken by that front are as many as there is room for, nothing is put, and the note is counted as refused. The notes are fewer than 2^62 in all.
     pub fn note<L: Ledger>(&mut self, block: &Block, note: Note, steps: &mut Steps<L>) -> Noted
         requires made { writer_made self.old ≡ block.now }
         requires few { length (accepted self.old) + self.old.refused < 2 ^ 62 }

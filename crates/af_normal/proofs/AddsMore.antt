@@ -18,7 +18,7 @@ adds_more s t r a b u w one two = record {
   shape = two.shape ∙ one.shape;
 }
 
--- where only the first took words
+-- if only the first took words
 pub adds_three : (s t r q : ServerState) (a b d : List ServerEvent) (u : List ℕ) → Adds s a u t → Adds t b [] r → Adds r d [] q → Adds s (a ++ b ++ d) u q
 adds_three s t r q a b d u one two three = subst (λ (ws : List ℕ). Adds s (a ++ b ++ d) ws q) (append-nil (u ++ []) ∙ append-nil u) (adds_more s r q (a ++ b) d (u ++ []) [] (adds_more s t r a b u [] one two) three)
 

@@ -68,7 +68,7 @@ get_last [] a (suc n) e = absurd (omega arith)
 get_last (x ∷ xs) a zero e = absurd (omega arith)
 get_last (x ∷ xs) a (suc n) e = get_last xs a n (omega arith)
 
--- and those before it
+-- the items before the last one stay
 get_before : {A : Type 0} (xs : List A) (a : A) (n : ℕ) → n < length xs → slice_get (xs ++ a ∷ []) n ≡ slice_get xs n
 get_before [] a n lt = absurd (omega arith)
 get_before (x ∷ xs) a zero lt = refl
@@ -100,7 +100,7 @@ hand_more blocks i x y count whole of h = λ k flag at.
 pub one_back : {A : Type 0} (xs a b ys : List A) (item : A) → b ≡ a ++ item ∷ [] → b ++ reverse ys ≡ xs → a ++ reverse (ys ++ item ∷ []) ≡ xs
 one_back xs a b ys item e h = ap (λ (zs : List _). a ++ zs) (reverse-append ys (item ∷ [])) ∙ sym (append_assoc a (item ∷ []) (reverse ys)) ∙ ap (λ (zs : List _). zs ++ reverse ys) (sym e) ∙ h
 
--- all did
+-- all items went back
 pub all_back : {A : Type 0} (xs a to to' : List A) → length a ≡ 0 → a ++ reverse (drop (length to) to') ≡ xs → take (length to) to' ≡ to → to' ≡ to ++ reverse xs
 all_back xs [] to to' none h front = sym (take-append-drop (length to) to') ∙ ap (λ (zs : List _). zs ++ drop (length to) to') front ∙ ap (λ (zs : List _). to ++ zs) (sym (reverse-reverse (drop (length to) to')) ∙ ap reverse h)
 all_back xs (x ∷ a) to to' none h front = absurd (omega arith)

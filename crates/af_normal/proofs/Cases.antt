@@ -16,7 +16,7 @@ on_true b P Q e p = subst (λ (x : Bool). MatchBool x P Q) (sym e) p
 pub on_false : (b : Bool) (P Q : Type 0) → b ≡ false → Q → MatchBool b P Q
 on_false b P Q e q = subst (λ (x : Bool). MatchBool x P Q) (sym e) q
 
--- the other elements stay
+-- the other elements of a list stay
 pub get_set_other : {A : Type 0} (xs : List A) (i k : ℕ) (a : A) → k ≢ i → slice_get (slice_set xs i a) k ≡ slice_get xs k
 get_set_other [] i k a ne = refl
 get_set_other (x ∷ xs) zero zero a ne = absurd (ne refl)

@@ -50,7 +50,7 @@ module _ (asked i : ℕ) (x y : Mixing) where
       ∙ map-set_same is_some x.streams i (Some t.after) None (sym (ap is_some t.is_home)))
       (λ e. ap (λ (z : Mixing). map is_some z.streams) e) m
 
-  -- nor is the track mixed elsewhere afterwards
+  -- another track isn't mixed elsewhere afterwards
   pub same_mixed : (k : ℕ) → k < length x.tracks → MixesTrack asked i x y → is_mixed_here (track_at y.tracks k) ≡ is_mixed_here (track_at x.tracks k)
   same_mixed k lt m = ⊎_elim
       (λ (e : k ≡ i). by_track (is_mixed_here (track_at y.tracks k) ≡ is_mixed_here (track_at x.tracks k))

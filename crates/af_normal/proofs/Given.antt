@@ -21,7 +21,7 @@ no_take = record { track = 0; slot = absent; frames = record { items = []; room 
 abbrev pub setup_of : List Setting → Setup
 setup_of settings = record { frames = 0; normal = 0; settings = settings }
 
--- by the settings alone
+-- what a take gives the mix, by the settings alone
 abbrev pub given : List Setting → NormalTake → Take
 given settings t = take_of (setup_of settings) (take_seen t)
 

@@ -67,7 +67,7 @@ none_there : (hands : List HandSide) → (length hands == 0) ≡ true → hands 
 none_there [] e = refl
 none_there (h ∷ hands) e = let l : length (h ∷ hands) ≡ 0 = is_none (length (h ∷ hands)) e in absurd (omega arith)
 
--- before the acknowledgement: the kept value, the command proxies, the ends and all lists are as they were
+-- what a turn leaves before the acknowledgement: the kept value, the command proxies, the ends and all lists are as they were
 pub record BegunBy (x y : NormalState) : Type 0 where
   pub same : y ≡ record x { entry = y.entry; spare_turns = y.spare_turns; spare_takes = y.spare_takes; turns = x.turns + 1; streams = y.streams; hands = y.hands }
   pub hands : (i : ℕ) → hand_events y.hands i ≡ hand_events x.hands i
@@ -127,7 +127,7 @@ module _ (x y z : NormalState) (o : Outside) (b : BegunBy x y) where
     lent = g.lent;
   }
 
-  -- so a turn that is legal from there on is legal from the beginning
+  -- a turn that is legal from there on is legal from the beginning
   pub begun_legally : IsLegal o y z → IsLegal o x z
   begun_legally l = record {
     commands = (λ i s is. l.commands i s (ap (λ (w : NormalState). slice_get w.commands i) b.same ∙ is));

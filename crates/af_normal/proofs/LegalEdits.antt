@@ -158,7 +158,7 @@ module _ (c : Setup) (k : Learnt) (x : NormalState) (setup : c ≡ setup_of x) (
 -- ## The whole mutation
 
 module _ (c : Setup) (k : Learnt) (room : ℕ) (x y : NormalState) (setup : c ≡ setup_of x) (own : (i : ℕ) (s : ServerState) → stream_at x.streams i ≡ Some s → k.own i ≡ known_by (listed s)) where
-  -- a command is set where it is another one
+  -- a command is set if it is another one
   order_is : (command : Command) (z : NormalState) → kept_open (record z { mutator = commands command z.mutator }) ≡ ordered command (kept_open z)
   unfolding ordered
   order_is command z = by_same (code_of command == code_of z.mutator.draft.command)

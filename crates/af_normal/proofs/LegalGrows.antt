@@ -146,7 +146,7 @@ module _ (links : Links) (t : ℕ) (x : NormalState) (ack : Bool) (report : Repo
 
   -- ## The streams
 
-  -- INVALID in the list of a proxy that is home, where its track was found shut
+  -- INVALID in the list of a proxy that is home, if its track was found shut
   abbrev pub Invalid : ℕ → List ServerEvent
   Invalid i = if is_home (track_at (tracks_at cs ks (kept_of x) e i) i).holder then invalid ks (seen_at ts i) (tracks_at cs ks (kept_of x) e i) i else []
 
@@ -209,7 +209,7 @@ module _ (links : Links) (t : ℕ) (x : NormalState) (ack : Bool) (report : Repo
           subst (λ (d : Option ServerState × HandSide). StartsWith (listed_at d.0).events d.1.known) (λ j. (sym was j, same j))
           (part.recalled r was (λ none. some (ap (λ (tracks : List TrackKept). invalid ks (seen_at ts i) tracks i) (sym (at_is i)) ∙ none)))
 
-  -- and what the mix did to it
+  -- what the mix did to the proxy of a track
   mixes_are : (i : ℕ) (r : ServerState) → stream_at s.streams i ≡ Some r → stream_at p.streams i ≡ Some r → Mixes i ≡ mix_events cs o (mixing_of q).takes i
   mixes_are i r served pushed = flat_same
       (λ (take : TakeSeen). cycle_events (asked (setup_of p)) (listed_at (stream_at p.streams i)) take.slot ((mix links t x ack report room push y made).0 i))

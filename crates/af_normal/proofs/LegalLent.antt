@@ -125,7 +125,7 @@ module _ (links : Links) (edits : ℕ) (x : NormalState) (begins : IsOpen links 
         by_leave true is l = goes y is l
         by_leave false is l = by_enter (must_enter (track_at z.tracks i)) refl l
 
-  -- after the first tracks were edited
+  -- which tracks are lent after the first ones were edited
   pub all_lent : (n : ℕ) (y : NormalState) → EditsTo n x y → Lent n y
   all_lent zero y e = subst (Lent 0) (sym e) (record {
     wide_still = wide;

@@ -121,7 +121,7 @@ module _ (c : Setup) (k : Learnt) where
 
   module _ (n : ℕ) (x : Serving) (all : AreAll n x) where
     module _ (i : ℕ) (lt : i < n) (z : Serving) (before : ServedTo n x z i) where
-      -- one that is joined to the list: what was seen of the tracks before it stays
+      -- a record that is joined to the list: what was seen of the tracks before it stays
       module _ (seen : TrackSeen) (y : Serving) (turns_are : y.turns ≡ z.turns ++ seen ∷ []) where
         to_same : (j : ℕ) → j ≤ i → served_to c k y.turns x.tracks j ≡ served_to c k z.turns x.tracks j
         to_same j le = ap (λ (ts : List TrackSeen). served_to c k ts x.tracks j) turns_are ∙ prefix z.turns seen x.tracks j (let l = before.count in omega arith)

@@ -151,7 +151,7 @@ module _ (x y : NormalState) (stops : Stops x y) where
     turns_y : y.turns ≡ t + 1
     turns_y = ap (λ (w : NormalState). w.turns) stops.leaves ∙ going.next
 
-    -- the order stays, where the lists of the entry and the spare ones have their room
+    -- the order stays, if the lists of the entry and the spare ones have their room
     pub order_stopped : HasTurns (length y.tracks) y.entry.tracks y.spare_turns → HasTakes (asked (setup_of y)) (length y.tracks) y.entry.mixes y.spare_takes → IsInOrder links y
     order_stopped turns_room takes_room = record {
       tied = tied_stopped;

@@ -35,12 +35,12 @@ module _ (asked : ℕ) (s u : ServerState) (look : Look) (order : IsInOrder s) (
   abbrev pub LookedBy : Type 0
   LookedBy = (front : ℕ) × LooksBy asked (listed s) slot front × (u.pass.part.events ≡ before ++ (if is_some (kept (listed s)).shut then [] else look_events look.seen look.flush look.rear front))
 
-  -- what the look says where no words had shut the server
+  -- what the look says if no words had shut the server
   abbrev Opens : Type 0
   Opens = (front : ℕ) × (let shows = look_at s.pass.part.shape s.flush asked look.flush look.rear front in
       (look.seen ≡ shows) × (u.shown ≡ shown_by shows) × (u.pass.part.events ≡ before ++ look_events shows look.flush look.rear front))
 
-  -- and where these words had shut it
+  -- a server that these words had shut stays so
   abbrev Stays : ℕ × ℕ → Type 0
   Stays words = (look.seen ≡ seen.Shut words.0 words.1) × (look.flush ≡ s.flush) × (look.rear ≡ words.1) × (u ≡ (record s { shown = None }))
 
@@ -84,7 +84,7 @@ module _ (asked : ℕ) (s u : ServerState) (look : Look) (order : IsInOrder s) (
 abbrev own_events : ServerState → CommandLook → ℕ → List ServerEvent
 own_events s look front = if is_some (kept (listed s)).shut then [] else look_events look.seen look.flush look.rear front
 
--- it showed no command
+-- the look showed no command
 pub missed : (s u : ServerState) (look : CommandLook) (front : ℕ) → shows_command look.seen ≡ false → look.code ≡ 0 → look.argument ≡ 0 → LooksBy 2 (listed s) (as_slot look) front
     → u.pass.part.events ≡ s.pass.part.events ++ own_events s look front → u.pass.part.frames ≡ s.pass.part.frames → u.pass.part.shape ≡ s.pass.part.shape → u.pass.has_hand ≡ s.pass.has_hand → LooksOnce s look u
 missed s u look front h code argument by list frames shape hand = record {
@@ -98,7 +98,7 @@ missed s u look front h code argument by list frames shape hand = record {
   hand = hand;
 }
 
--- its two words were taken
+-- the two words of the command were taken
 pub taken : (s u v : ServerState) (look : CommandLook) (front : ℕ) → shows_command look.seen ≡ true → LooksBy 2 (listed s) (as_slot look) front
     → u.pass.part.events ≡ s.pass.part.events ++ own_events s look front → u.pass.part.frames ≡ s.pass.part.frames
     → v.pass.part.events ≡ u.pass.part.events ++ server.Take 2 ∷ [] → v.pass.part.frames ≡ u.pass.part.frames ++ look.code ∷ look.argument ∷ [] → v.pass.part.shape ≡ s.pass.part.shape → v.pass.has_hand ≡ s.pass.has_hand → LooksOnce s look v

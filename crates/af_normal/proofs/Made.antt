@@ -139,7 +139,7 @@ module _ (links : Links) (frames normal : ℕ) (tracks : TrackList) (mutator : M
     linked = new.linked;
   }
 
-  -- so it may make its first turn
+  -- the mixer may make its first turn
   pub made_order : IsInOrder links m
   made_order = subst (IsInOrder links) (sym made.is) (record {
     tied = tied;

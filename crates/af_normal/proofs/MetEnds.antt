@@ -21,7 +21,7 @@ module _ (links : Links) (m : NormalState) (i : ℕ) (h : HandSide) (o : IsInOrd
   pub block_is : (b : Made) → b ≡ slice_index_or links.streams.now i b → hand_made h ≡ b
   block_is b e = sym (get_or_from_slice_get links.streams.now i (hand_made h) b of_block) ∙ sym e
 
-  -- and another one of that block may stand there
+  -- another hand of that block may stand in its place
   pub hand_order : (g : HandSide) → hand_made g ≡ hand_made h → IsInOrder links (record m { hands = slice_set m.hands i g })
   hand_order g same = record {
     tied = record { sound = o.tied.sound; sizes = o.tied.sizes; proxies = o.tied.proxies; out = o.tied.out; linked = o.tied.linked };

@@ -40,7 +40,7 @@ mixed_fit asked (suc n) x y none m = by_test (is_mixed_here (track_at m.0.tracks
     (λ e. subst (AreTaken asked (suc n)) (sym (ap (λ (z : Mixing). z.takes) e)) (more asked n m.0.takes (mixed_fit asked n x m.0 none m.1)))
     m.2
 
--- the same of the takes of the program
+-- so many tracks gave so many takes of the program at most, each of which fits
 pub takes_fit : (asked n : ℕ) (takes : List NormalTake) → AreTaken asked n (map take_seen takes) → (length takes ≤ n) × All (Fits asked n) takes
 takes_fit asked n takes h = (
   (let f = h.few in let l = length-map takes take_seen in omega arith),

@@ -61,7 +61,7 @@ module _ (given : Option ℕ) (flush_seen : ℕ) where
       ap (λ (x : ℕ). are_due x given flush_seen (looks ++ look ∷ []) s) is ∙ are_due-go given flush_seen (suc k) looks (look ∷ []) s h
       ∙ or_true (goes_on look (after_look given flush_seen look (after_all given flush_seen s looks))) _ stops
 
-  -- and so are as many as may be made
+  -- as many looks as may be made are due
   pub all_due : (s : TrackKept) (looks : List CommandLook) → all_go_on given flush_seen looks s ≡ true → are_due (length looks) given flush_seen looks s ≡ true
   all_due s looks h = let is : length looks ≡ length looks + 0 = omega arith in
       ap (λ (x : ℕ). are_due x given flush_seen looks s) is ∙ ap (λ (xs : List CommandLook). are_due (length looks + 0) given flush_seen xs s) (sym (append-nil looks)) ∙ are_due-go given flush_seen 0 looks [] s h

@@ -51,7 +51,7 @@ module _ (links : Links) (x : NormalState) (tied : IsTied links x) (held : InDra
   one_slot : (k : ℕ) → k < slots → InSlot x.mutator.past.clear (carries x.mutator.draft k) (carries last k) (carries x.mutator.past.before k) (slot_of x.mutator.draft k) (slot_of last k) (slot_of x.mutator.past.before k) (at x.mutator.pending k) (at x.mutator.returned k) (is_out x.mutator.out k)
   one_slot k lt = held.each k lt
 
-  -- the item of a returning track is in hand exactly where the last state doesn't carry its slot
+  -- the item of a returning track is in hand exactly if the last state doesn't carry its slot
   in_hand : (i : ℕ) → is_returning (track_at x.tracks i).holder ≡ true → is_some (at x.mutator.returned (slot_at i)) ≡ not (carries last (slot_at i))
   in_hand i r = by_last (carries last (slot_at i)) refl
     where
@@ -62,7 +62,7 @@ module _ (links : Links) (x : NormalState) (tied : IsTied links x) (held : InDra
       by_last true e = false_by (is_some (at x.mutator.returned (slot_at i))) (λ some. true≢false (sym e ∙ ((one_slot (slot_at i) (away_slot (kept_of x) tied.sound i away).1).rests some).1))
       by_last false e = (one_slot (slot_at i) (away_slot (kept_of x) tied.sound i away).1).found (tied.out.of_track i away) ((tied.sound.drafted i).returning r) e (inl clear)
 
-  -- and it is the proxy of the track
+  -- the proxy that comes is the track's own
   its_own : (i : ℕ) (s : ServerState) → is_returning (track_at x.tracks i).holder ≡ true → at x.mutator.returned (slot_at i) ≡ Some s → IsStreamOf links.streams.now i s
   its_own i s r is = let away = returning_away (track_at x.tracks i).holder r in
       let names = tied.linked.names in
@@ -302,7 +302,7 @@ module _ (links : Links) (x : NormalState) (tied : IsTied links x) (held : InDra
         by_holder true r v = by_item r (at returned k) refl v
         by_holder false r v = (tracks, streams, returned, out, v, passes r)
 
-  -- so do all
+  -- all tracks come home that are due
   all_come : (n : ℕ) (y : NormalState) → WelcomesTo n x y → Coming n y
   all_come zero y w = (
     x.tracks,

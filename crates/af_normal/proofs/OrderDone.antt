@@ -85,7 +85,7 @@ module _ (links : Links) (t : ℕ) (x : NormalState) (ack : Bool) (report : Repo
   there : AreThere q.tracks q.streams
   there j lt = takes_some (stream_at p.streams j) _ _ (stream_at q.streams j) (by.streams j) ∙ tied.proxies.there j (let l = tracks_long in omega arith) ∙ sym (ap is_home (put j).0)
 
-  -- where the stream proxies are of their blocks afterwards, all is tied
+  -- if the stream proxies are of their blocks afterwards, all is tied
   pub tied_played : ((j : ℕ) (s : ServerState) → stream_at q.streams j ≡ Some s → IsStreamOf links.streams.now j s) → IsTied links q
   tied_played of = subst (IsTied links) (sym made.goes_on.rest.plays.same) (record {
     sound = subst (λ (ts : List TrackKept). IsSound ts p.mutator.draft) (sym by.tracks) (sound_takes (asked (setup_of p)) p.mutator.draft (mixing_of q).takes p.tracks tied.sound);

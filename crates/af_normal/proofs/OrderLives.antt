@@ -22,7 +22,7 @@ use Rattle.af_life.specs.Serves.{served, after_part}
 abbrev pub is_absent : Life → Bool
 is_absent l = is_among (Absent ∷ []) l.state
 
--- once it has ended it stays so, and it is never absent again
+-- a life that has ended stays so, and one that was there is never absent again
 pub record Grew (l t : Life) : Type 0 where
   pub ended : l.ended ≡ true → t.ended ≡ true
   pub absent : is_absent t ≡ true → is_absent l ≡ true
@@ -37,7 +37,7 @@ either : (b : Bool) (l t u : Life) → Grew l t → Grew l u → Grew l (if b th
 either true l t u g h = g
 either false l t u g h = h
 
--- by the first row that applies
+-- a life grows by the first row that applies
 by_row : (rows : List Row) (code argument : ℕ) (l : Life) → AllByRecursion (λ (r : Row). Grew l (r.effect argument l)) rows → Grew l (command_effect rows code argument l)
 by_row [] code argument l all = same l
 by_row (r ∷ rows) code argument l all = either (applies r code l) l (r.effect argument l) (command_effect rows code argument l) all.0 (by_row rows code argument l all.1)
@@ -136,7 +136,7 @@ Unopened s = is_absent s.life ≡ true → is_some s.slot ≡ false
 abbrev pub IsGiven : Option ℕ → TrackKept → TrackKept → Type 0
 IsGiven given s t = (is_some s.slot ≡ false) × (t.slot ≡ given) × (is_absent t.life ≡ false)
 
--- its proxy is where it was, and it keeps its slot or gets the one given
+-- the proxy of a track is where it was, and the track keeps its slot or gets the one given
 pub record Goes (given : Option ℕ) (s t : TrackKept) : Type 0 where
   pub holder : t.holder ≡ s.holder
   pub generation : t.generation ≡ s.generation
@@ -200,7 +200,7 @@ module _ (given : Option ℕ) where
       let one : Goes given s t = goes_look flush_seen look s u in
       either_goes (goes_on look t) s _ _ (goes_then s t _ one (goes_looks flush_seen looks t (still_unopened s t one u))) one
 
-  -- its part of the turn
+  -- a track's part of the turn leaves its proxy and its slot so
   pub goes_part : (h : Heard) (looks : List CommandLook) (s : TrackKept) → Unopened s → Goes given s (after_part given h looks s)
   unfolding after_part
   goes_part h looks s u =

@@ -45,7 +45,7 @@ module _ (m : NormalKept) (sound : IsSound m.tracks m.draft) (out : List Bool) (
   abbrev Away : List TrackKept → ℕ → Type 0
   Away tracks q = (j : ℕ) × (j < length tracks) × (slot_number (track_at tracks j) ≡ q) × (is_home (track_at tracks j).holder ≡ false)
 
-  -- the track that a slot is out for, where it is another one
+  -- the track that a slot is out for, if it is another one
   other : (q j : ℕ) → j ≢ i → j < length m.tracks → slot_number (track_at m.tracks j) ≡ q → is_home (track_at m.tracks j).holder ≡ false → Away (slice_set m.tracks i t) q
   other q j ne lj number away = (
     j,

@@ -58,7 +58,7 @@ given_free c tracks i k e = by_fast (setting_of c i).fast e
 
 -- ## One track is replaced
 
--- it is that one at its place, and the others are as they were
+-- a track that is set stands at its place, and the others are as they were
 pub at_set : (tracks : List TrackKept) (i : ℕ) (s : TrackKept) (j : ℕ) → ((j ≡ i) × (track_at (slice_set tracks i s) j ≡ s)) ⊎ (track_at (slice_set tracks i s) j ≡ track_at tracks j)
 at_set [] i s j = inr refl
 at_set (t ∷ tracks) zero s zero = inl (refl, refl)
@@ -181,7 +181,7 @@ module _ (c : Setup) (tracks : List TrackKept) (i : ℕ) (s t : TrackKept) (is :
       low None e some = no some
       low (Some k) e some = let free = given_free c tracks i k (sym e) in (free.0, free.1)
 
-  -- the draft tells of it what it told before
+  -- the draft has of the track what it had before
   pub drafted : (draft : FastState) (n : ℕ) → IsSlotted s → IsDrafted draft n s → IsDrafted draft n t
   drafted draft n sl d = record {
     lent = (λ h. let was = ap is_lent (sym goes.holder) ∙ h in subst (λ (o : Option ℕ). carries draft (number_of o) ≡ true) (kept (lent_away s.holder was)) (d.lent was));
@@ -206,7 +206,7 @@ module _ (c : Setup) (tracks : List TrackKept) (i : ℕ) (s t : TrackKept) (is :
         | inr g ↦ absurd (true≢false (sym (sl.homely g.0) ∙ away))
       ]
 
--- after one track is served
+-- the tracks are sound after one is served
 pub sound_one : (c : Setup) (k : Learnt) (seen : List TrackSeen) (draft : FastState) (tracks : List TrackKept) (i : ℕ) → IsSound tracks draft → IsSound (slice_set tracks i (served c k (seen_at seen i).looks tracks i)) draft
 sound_one c k seen draft tracks i h =
     let s : TrackKept = track_at tracks i in
@@ -218,7 +218,7 @@ sound_one c k seen draft tracks i h =
       state = h.state;
     }
 
--- and after the first ones are
+-- the tracks are sound after the first ones are served
 pub sound_served : (c : Setup) (k : Learnt) (seen : List TrackSeen) (draft : FastState) (tracks : List TrackKept) (n : ℕ) → IsSound tracks draft → IsSound (served_to c k seen tracks n) draft
 sound_served c k seen draft tracks zero h = h
 sound_served c k seen draft tracks (suc n) h = sound_one c k seen draft (served_to c k seen tracks n) n (sound_served c k seen draft tracks n h)

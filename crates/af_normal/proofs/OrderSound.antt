@@ -121,6 +121,6 @@ module _ (c : Setup) (scales : All (λ (s : Setting). s.scale ≤ 4096) c.settin
   unfolding turn_after
   sound_turn m e few h = by_bool e.ended (record m { ended = true }) _ (λ f. h) (λ f. goes_sound m e few h)
 
--- and it holds before the first turn
+-- the mixer is sound before the first turn
 pub sound_new : (c : Setup) → Sound (new_normal c)
 sound_new c = new_sound (length c.settings) c.frames (new_normal c).draft refl

@@ -153,7 +153,7 @@ sound_ordered tracks draft command h = record {
 }
 
 module _ (links : Links) (edits : ℕ) where
-  -- after the first tracks were edited
+  -- the mutation stays open after the first tracks were edited
   pub edited_open : (n : ℕ) (x y : NormalState) → IsOpen links edits x → EditsTo n x y → IsOpen links (edits + n) y
   edited_open zero x y mutating e = subst (λ (m : ℕ). IsOpen links m y) (omega arith) (subst (IsOpen links edits) (sym e) mutating)
   edited_open (suc n) x y mutating (z, before, e) = subst (λ (m : ℕ). IsOpen links m y) (omega arith) (edit_keeps links (edits + n) n z (edited_open n x z mutating before) y e)
@@ -168,7 +168,7 @@ module _ (links : Links) where
     editing = refl;
   }
 
-  -- and ends
+  -- the mutation ends
   pub tied_finished : (edits : ℕ) (command : Command) (z : NormalState) → IsOpen links edits z → IsTied links (record z { mutator = finished (commands command z.mutator) })
   tied_finished edits command z mutating = by_same (code_of command == code_of z.mutator.draft.command)
     where

@@ -146,7 +146,7 @@ module _ (links : Links) (t : ℕ) (x : NormalState) (going : IsGoing links t x)
       by_stream (Some r) p e (q, adds, is_q) = subst (Tells (Some r)) (same_proxy q s (sym is_q ∙ e))
           (told_still (learnt_by report x.streams) (seen_at (serving_of y).turns i) (served_to (setup_of x) (learnt_by report x.streams) (serving_of y).turns x.tracks i) i r q adds)
 
-  -- and is known by the same
+  -- a proxy that stays at home knows the same
   pub own_still : (i : ℕ) (s : ServerState) → stream_at y.streams i ≡ Some s → known_by (listed_at (stream_at x.streams i)) ≡ known_by (listed s)
   own_still i s is = let told = told_served i s is in sym (known_still (listed_at (stream_at x.streams i)) (listed s) told.0 told.1)
 

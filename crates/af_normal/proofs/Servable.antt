@@ -132,7 +132,7 @@ module _ (links : Links) (x b : NormalState) (order : IsInOrder links x) (begins
   begun_tied : IsTied links b
   begun_tied = subst (IsTied links) (sym begins.same) (record { sound = order.tied.sound; sizes = order.tied.sizes; proxies = order.tied.proxies; out = order.tied.out; linked = order.tied.linked })
 
-  -- each stream proxy is home and still has its hand, where there are no hands yet
+  -- each stream proxy is home and still has its hand, if there are no hands yet
   pub whole_begun : b.hands ≡ [] → (i : ℕ) → i < length b.tracks → HasWhole links.streams.now i b.streams
   whole_begun none i lt = by_turns (x.turns) refl
     where
@@ -183,7 +183,7 @@ module _ (links : Links) (x b : NormalState) (order : IsInOrder links x) (begins
   abbrev Goes : NormalState → Type 0
   Goes y = IsGoing links x.turns y
 
-  -- with its hands
+  -- the mixer goes on with its hands
   with_hands : Emptied → (y : NormalState) → y ≡ record b { streams = y.streams; hands = y.hands } → IsTied links y → HaveHands links.streams.now (length y.tracks) y.hands → Goes y
   with_hands e y same tied hands =
       let b_is = begins.same in

@@ -1,4 +1,4 @@
--- A track is served by what was learnt, where the code did so by the same report and the same proxy.
+-- A track is served by what was learnt, if the code did so by the same report and the same proxy.
 use Rattle.std.proofs.Common.{◌≡◌, ℕ, Bool, true, false, MatchBool, [], ◌∷◌, ◌++◌, if◌then◌else◌, List, slice_set, Option, sym, ap, subst, ◌∙◌}
 use Rattle.af_base.specs.declared.report.Report.{Report}
 use Rattle.af_base.specs.Turn.{TrackSeen}
@@ -77,7 +77,7 @@ serves_track c k i x m y seen by e = by_ended (track_at x.tracks i).life.ended b
       leaves = e ∙ ap (λ (w : Serving). record w { turns = w.turns ++ seen ∷ [] }) s.leaves;
     }
 
--- the same with equal parts
+-- a track is served so with equal parts
 pub at_same : (i : ℕ) (seen : TrackSeen) (g g' : Option ℕ) (h h' : Heard) (r r' : TrackKept) (s s' t t' : List (Option ServerState)) (c c' d d' : List ServerState) (f f' e e' : List HandSide)
     → g ≡ g' → h ≡ h' → r ≡ r' → s ≡ s' → c ≡ c' → f ≡ f' → t ≡ t' → d ≡ d' → e ≡ e'
     → AttendsAt g h r i s c f seen t d e → AttendsAt g' h' r' i s' c' f' seen t' d' e'

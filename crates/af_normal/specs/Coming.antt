@@ -9,7 +9,7 @@ use Rattle.af_life.specs.declared.kept.TrackKept.{TrackKept}
 use Rattle.af_life.specs.Kept.{is_returning, slot_number, track_at}
 use Rattle.af_normal.specs.State.{NormalState}
 
--- the item of a slot is taken back, where it is in hand
+-- the item of a slot is taken back, if it is in hand
 abbrev pub takes_back : ℕ → Mutates ServerState StreamNames → Mutates ServerState StreamNames
 takes_back slot m = record m { returned = slice_set m.returned slot None; out = slice_set m.out slot (is_out m.out slot && not (is_some (at m.returned slot))) }
 
@@ -17,12 +17,12 @@ takes_back slot m = record m { returned = slice_set m.returned slot None; out = 
 abbrev pub has_back : ℕ → ServerState → NormalState → NormalState
 has_back i server x = record x { tracks = slice_set x.tracks i (record (track_at x.tracks i) { holder = Home }); streams = slice_set x.streams i (Some server) }
 
--- the proxy of the track i comes home, where it is returning and in hand
+-- the proxy of the track i comes home, if it is returning and in hand
 abbrev pub Welcomes : ℕ → NormalState → NormalState → Type 0
 Welcomes i x y = let s = track_at x.tracks i in let z = record x { mutator = takes_back (slot_number s) x.mutator } in
     MatchBool (is_returning s.holder) (MatchOption (at x.mutator.returned (slot_number s)) (y ≡ z) (λ server. y ≡ has_back i server z)) (y ≡ x)
 
--- the first tracks were asked for theirs
+-- the proxies of the first tracks come home, if they are returning and in hand
 abbrev pub WelcomesTo : ℕ → NormalState → NormalState → Type 0
 WelcomesTo zero x y = y ≡ x
 WelcomesTo (suc i) x y = (z : NormalState) × WelcomesTo i x z × Welcomes i z y

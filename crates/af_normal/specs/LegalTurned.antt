@@ -28,7 +28,7 @@ use Rattle.af_normal.specs.Serving.{Adds}
 use Rattle.af_normal.specs.State.{NormalState, setup_of, kept_of}
 use Rattle.af_normal.specs.Turning.{listed_at}
 
--- the events of the hand of the track i, none where it is not split off yet
+-- the events of the hand of the track i, none if it is not split off yet
 abbrev pub hand_events : List HandSide → ℕ → List HandEvent
 hand_events hands i = elim (slice_get hands i) as (λ h. List HandEvent) [ None ↦ [] | Some h ↦ h.part.events ]
 
@@ -42,7 +42,7 @@ in_queue (Busy seen expected) sent pending = pending
 abbrev pub in_hand : (came before : List (Option ServerState)) → ℕ → Option ServerState
 in_hand came before k = if is_some (at came k) then at came k else at before k
 
--- the stream proxy of the track i that is home in the turn: that of a returning track comes by a seen acknowledgement, where it is in hand
+-- the stream proxy of the track i that is home in the turn: that of a returning track comes by a seen acknowledgement, if it is in hand
 abbrev pub home_stream : Bool → NormalKept → List (Option ServerState) → NormalState → ℕ → Option ServerState
 home_stream ack m back x i = let s = track_at m.tracks i in
     if ack && is_returning s.holder then in_hand back x.mutator.returned (slot_number s) else stream_at x.streams i

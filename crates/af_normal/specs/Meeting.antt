@@ -29,7 +29,7 @@ ends_met m w out = record m {
   pipe = record m.pipe { pass = record m.pipe.pass { part = client_met m.pipe.pass.part out.pass.part.events } };
 }
 
--- and those what the mixer's ends have done
+-- the writer and the end that takes learnt what the mixer's ends have done so far
 abbrev pub writer_met : NormalState → WriterSide → WriterSide
 writer_met m w = record w { events = w.events ++ writes.Learn (length m.reader.events) ∷ [] }
 
@@ -40,7 +40,7 @@ out_met m out = record out { pass = record out.pass { part = server_did out.pass
 abbrev pub queue_met : NormalState → Observes ServerState StreamNames → NormalState
 queue_met m o = record m { mutator = record m.mutator { past = record m.mutator.past { events = m.mutator.past.events ++ mutates.Learn (length o.past.events) ∷ [] } } }
 
--- and the observer what the mutator has done
+-- the observer learnt what the mutator has done so far
 abbrev pub observer_met : NormalState → Observes ServerState StreamNames → Observes ServerState StreamNames
 observer_met m o = record o { past = record o.past { events = o.past.events ++ observes.Learn (length m.mutator.past.events) ∷ [] } }
 
@@ -59,11 +59,11 @@ server_knows s c = record s { pass = record s.pass { part = server_did s.pass.pa
 abbrev pub client_knows : ClientState → ServerState → ClientState
 client_knows c s = record c { pass = record c.pass { part = client_met c.pass.part s.pass.part.events } }
 
--- the same of a proxy whose hand is elsewhere
+-- a proxy whose hand is elsewhere, after it learnt what its client has done so far
 abbrev pub server_alone : ServerState → ClientState → ServerState
 server_alone s c = record s { pass = record s.pass { part = server_did s.pass.part (takes.Learn (length c.pass.part.events)); has_hand = false } }
 
--- The proxy s of this block met its client, and is t then. Where the client has not poked the lists have a history, with some hand's list, which is empty where the proxy still has its hand, and the proxy isn't shut
+-- The proxy s of this block met its client, and is t then. If the client has not poked the lists have a history, with some hand's list, which is empty if the proxy still has its hand, and the proxy isn't shut
 pub record Meets (block : Made) (s t : ServerState) (c d : ClientState) : Type 0 where
   pub server : t ≡ server_knows s c
   pub client : d ≡ client_knows c s
@@ -78,13 +78,13 @@ pub record MeetsAll (block : Made) (s t : ServerState) (c d : ClientState) (h g 
   pub history : is_lawful c.pass.part.events ≡ true → HasHistory block.shape d.pass.part.events d.pass.part.frames t.pass.part.events t.pass.part.frames g.part.events
   pub unshut : is_lawful c.pass.part.events ≡ true → t.shut ≡ None
 
--- a stream proxy that is there meets its client, and its hand where that was split off
+-- a stream proxy that is there meets its client, and its hand if that was split off
 abbrev pub MeetsStream : Made → Option ServerState → Option HandSide → ClientState → Option ServerState → Option HandSide → ClientState → Type 0
 MeetsStream block None h c s' h' d = (s' ≡ None) × (h' ≡ h) × (d ≡ c)
 MeetsStream block (Some s) None c s' h' d = (t : ServerState) × (s' ≡ Some t) × (h' ≡ None) × Meets block s t c d
 MeetsStream block (Some s) (Some h) c s' h' d = (t : ServerState) × (g : HandSide) × (s' ≡ Some t) × (h' ≡ Some g) × MeetsAll block s t c d h g
 
--- The proxies of the track i, and its hand where that was split off, met their clients c and e, which are d and f then, and nothing else changed
+-- The proxies of the track i, and its hand if that was split off, met their clients c and e, which are d and f then, and nothing else changed
 pub record MeetsTrack (links : Links) (i : ℕ) (streams streams' : List (Option ServerState)) (commands commands' : List ServerState) (hands hands' : List HandSide) (c d e f : ClientState) : Type 0 where
   pub command : ServerState
   pub has_command : slice_get commands i ≡ Some command
@@ -95,7 +95,7 @@ pub record MeetsTrack (links : Links) (i : ℕ) (streams streams' : List (Option
   pub streamed : MeetsStream (client_made c.pass) (stream_at streams i) (slice_get hands i) c (stream_at streams' i) (slice_get hands' i) d
   pub hands_are : (length hands' ≡ length hands) × ((j : ℕ) → j ≢ i → slice_get hands' j ≡ slice_get hands j)
 
--- the stream proxy and the hand of the track i, where they are there, and its command proxy are of its blocks
+-- the stream proxy and the hand of the track i, if they are there, and its command proxy are of its blocks
 pub record AreOf (links : Links) (i : ℕ) (streams : List (Option ServerState)) (commands : List ServerState) (hands : List HandSide) : Type 0 where
   pub command_is : (s : ServerState) → slice_get commands i ≡ Some s → IsStreamOf links.commands.now i s
   pub stream_is : (s : ServerState) → stream_at streams i ≡ Some s → IsStreamOf links.streams.now i s

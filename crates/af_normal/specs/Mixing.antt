@@ -10,7 +10,7 @@ use Rattle.af_life.specs.declared.kept.TrackKept.{TrackKept}
 use Rattle.af_life.specs.Kept.{track_at}
 use Rattle.af_life.specs.Plays.{is_mixed_here, after_take}
 
--- the stream proxy of the track i, where it is home
+-- the stream proxy of the track i, if it is home
 abbrev pub stream_at : List (Option ServerState) → ℕ → Option ServerState
 stream_at streams i = slice_index_or streams i None
 
@@ -41,11 +41,11 @@ pub record TakesOf (asked i : ℕ) (x y : Mixing) : Type 0 where
   pub takes : TakesOnce asked i before take after
   pub then : y ≡ record { tracks = after_take asked x.tracks take; streams = slice_set x.streams i (Some after); takes = x.takes ++ take ∷ [] }
 
--- the track i is mixed where it is due, and else passed over
+-- the track i is mixed if it is due, and else passed over
 abbrev pub MixesTrack : ℕ → ℕ → Mixing → Mixing → Type 0
 MixesTrack asked i x y = MatchBool (is_mixed_here (track_at x.tracks i)) (TakesOf asked i x y) (y ≡ x)
 
--- the first tracks were
+-- the first tracks are mixed if they are due, and else passed over
 abbrev pub MixesTo : ℕ → ℕ → Mixing → Mixing → Type 0
 MixesTo asked zero x y = y ≡ x
 MixesTo asked (suc i) x y = (z : Mixing) × MixesTo asked i x z × MixesTrack asked i z y

@@ -23,12 +23,12 @@ use Rattle.af_normal.specs.State.{NormalState, setup_of}
 abbrev pub IsSlot : ℕ → Type 0
 IsSlot k = (1 ≤ k) × (k < slots)
 
--- A track may be detached where it is due: the draft carries its slot
+-- A track may be detached when it is due: the draft carries its slot
 pub record MayLeave (s : TrackKept) (draft : FastState) : Type 0 where
   pub slot : IsSlot (slot_number s)
   pub carried : carries draft (slot_number s) ≡ true
 
--- The track i may be attached where it is due: no item is out at its slot, and its stream proxy is there, in order and of its block
+-- The track i may be attached when it is due: no item is out at its slot, and its stream proxy is there, in order and of its block
 pub record MayEnter (i : ℕ) (x : NormalState) : Type 0 where
   pub slot : IsSlot (slot_number (track_at x.tracks i))
   pub free : is_out x.mutator.out (slot_number (track_at x.tracks i)) ≡ false
@@ -45,12 +45,12 @@ pub record IsEditable (i : ℕ) (x : NormalState) : Type 0 where
   pub scale : (setting_of (setup_of x) i).scale ≤ 4096
   pub room : x.mutator.draft.tracks_gen < 2 ^ 31
 
--- the track i is detached or attached, where that is due
+-- the track i is detached or attached, if that is due
 abbrev pub EditsTrack : ℕ → NormalState → NormalState → Type 0
 EditsTrack i x y = MatchBool (must_leave (track_at x.tracks i)) (LetsGo i x y)
     (MatchBool (must_enter (track_at x.tracks i)) (Lends i x y) (y ≡ x))
 
--- the first tracks were
+-- the first tracks are detached or attached, if that is due
 abbrev pub EditsTo : ℕ → NormalState → NormalState → Type 0
 EditsTo zero x y = y ≡ x
 EditsTo (suc i) x y = (z : NormalState) × EditsTo i x z × EditsTrack i z y
@@ -63,7 +63,7 @@ begun m = record m { editing = true; edited = false }
 abbrev pub commands : Command → Mutates ServerState StreamNames → Mutates ServerState StreamNames
 commands command m = if code_of command == code_of m.draft.command then m else record m { draft = with_command command m.draft; edited = true }
 
--- the mutation ends: where there was an edit the draft is to be pushed
+-- the mutation ends: if there was an edit the draft is to be pushed
 abbrev pub finished : Mutates ServerState StreamNames → Mutates ServerState StreamNames
 finished m = record m { editing = false; edited = false; dirty = m.dirty || m.edited }
 

@@ -32,7 +32,7 @@ pub record HasSizes (links : Links) (c : Setup) (tracks streams commands pipe : 
   pub scales : All (λ setting. setting.scale ≤ 4096) c.settings
   pub pipe_is : pipe ≡ pipe_size c
 
--- A track's stream proxy is there exactly where it is home
+-- A track's stream proxy is there exactly if it is home
 abbrev pub AreThere : List TrackKept → List (Option ServerState) → Type 0
 AreThere tracks streams = (i : ℕ) → i < length tracks → is_some (stream_at streams i) ≡ is_home (track_at tracks i).holder
 
@@ -42,7 +42,7 @@ pub record HasProxies (links : Links) (tracks : List TrackKept) (streams : List 
   pub streams_of : (i : ℕ) (s : ServerState) → stream_at streams i ≡ Some s → IsStreamOf links.streams.now i s
   pub commands_of : (i : ℕ) (s : ServerState) → slice_get commands i ≡ Some s → IsStreamOf links.commands.now i s
 
--- a slot's item is out exactly where a track that has the slot isn't home
+-- a slot's item is out exactly if a track that has the slot isn't home
 pub record IsOut (tracks : List TrackKept) (out : List Bool) : Type 0 where
   pub at_slot : (k : ℕ) → 1 ≤ k → k < slots → is_out out k ≡ true → (i : ℕ) × (i < length tracks) × (slot_number (track_at tracks i) ≡ k) × (is_home (track_at tracks i).holder ≡ false)
   pub whole : length out ≡ slots
@@ -75,7 +75,7 @@ pub record IsTied (links : Links) (m : NormalState) : Type 0 where
   pub out : IsOut m.tracks m.mutator.out
   pub linked : AreLinked links m.mutator.past.key m.mutator.past.queue m.reader.cell (in_made m.pipe)
 
--- between two turns
+-- a mixer is in order between two turns
 pub record IsInOrder (links : Links) (m : NormalState) : Type 0 where
   pub tied : IsTied links m
   pub small : IsSmall m.turns (setup_of m) (kept_of m)
@@ -85,14 +85,14 @@ pub record IsInOrder (links : Links) (m : NormalState) : Type 0 where
   pub takes : HasTakes (asked (setup_of m)) (length m.tracks) m.entry.mixes m.spare_takes
   pub idle : m.mutator.editing ≡ false
 
--- while the draft is edited: it has had so many edits at most
+-- a mixer whose draft is edited, and has had so many edits at most
 pub record IsOpen (links : Links) (edits : ℕ) (m : NormalState) : Type 0 where
   pub tied : IsTied links m
   pub generations : (k : ℕ) → (slot_of m.mutator.draft k).generation ≤ edits
   pub changes : m.mutator.draft.tracks_gen ≤ edits
   pub editing : m.mutator.editing ≡ true
 
--- In a turn, once it has begun and the hands are there, after so many turns before
+-- A mixer in a turn, once it has begun and the hands are there, after so many turns before
 pub record IsGoing (links : Links) (turns : ℕ) (m : NormalState) : Type 0 where
   pub tied : IsTied links m
   pub small : IsSmall turns (setup_of m) (kept_of m)

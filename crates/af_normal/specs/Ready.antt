@@ -16,7 +16,7 @@ use Rattle.af_normal.specs.State.{NormalState}
 abbrev pub serving_of : NormalState → Serving
 serving_of m = record { tracks = m.tracks; streams = m.streams; commands = m.commands; hands = m.hands; turns = map track_seen m.entry.tracks.items }
 
--- The command proxy, the hand and, where it is home, the stream proxy of the track i are those of its two blocks
+-- The command proxy, the hand and, if it is home, the stream proxy of the track i are those of its two blocks
 pub record AreOwn (links : Links) (streams : List (Option ServerState)) (commands : List ServerState) (hands : List HandSide) (i : ℕ) : Type 0 where
   pub blocks : (i < length links.commands.now) × (i < length links.streams.now)
   pub there : (i < length commands) × (i < length hands)
@@ -31,6 +31,6 @@ pub record AreWhole (n : ℕ) (x : Serving) : Type 0 where
   pub commands : length x.commands ≡ n
   pub hands : length x.hands ≡ n
 
--- each has room for the looks of a turn
+-- each record of a track has room for the looks of a turn
 abbrev pub HaveRoom : List TrackTurn → Type 0
 HaveRoom turns = All (λ t. t.looks.room ≡ most_looks) turns

@@ -19,16 +19,16 @@ use Rattle.af_life.specs.Serves.{is_found_shut, served, IsServed}
 use Rattle.af_life.specs.TurnEvents.{status_events}
 use Rattle.af_normal.specs.Mixing.{stream_at}
 
--- what a stream proxy knows, where it is home
+-- what a stream proxy knows, if it is home
 abbrev pub known_at : Option ServerState → Heard
 known_at None = nothing_heard
 known_at (Some s) = known_by (listed s)
 
--- DISABLED, where it was set
+-- DISABLED, if it was set
 abbrev pub disabled_events : Bool → List HandEvent
 disabled_events disabled = if disabled then hand.SetFlags 8 ∷ [] else []
 
--- INVALID, where the track was found shut
+-- INVALID, if the track was found shut
 abbrev pub shut_events : Bool → List ServerEvent
 shut_events shut = if shut then server.SetFlags 4 ∷ [] else []
 
@@ -38,7 +38,7 @@ pub record Adds (s : ServerState) (events : List ServerEvent) (words : List ℕ)
   pub took : t.pass.part.frames ≡ s.pass.part.frames ++ words
   pub shape : t.pass.part.shape ≡ s.pass.part.shape
 
--- the same of a stream proxy, where it is home
+-- a stream proxy, if it is home, goes on with these events
 abbrev pub StreamAdds : Option ServerState → List ServerEvent → Option ServerState → Type 0
 StreamAdds None events y = y ≡ None
 StreamAdds (Some s) events y = (t : ServerState) × Adds s events [] t × (y ≡ Some t)
@@ -123,11 +123,11 @@ pub record ServesOne (c : Setup) (k : Learnt) (i : ℕ) (x : Serving) (y : Servi
     turns = x.turns ++ seen ∷ [];
   }
 
--- a track that had ended is passed over
+-- the track i has its part of the turn; one that had ended is passed over
 abbrev pub ServesTrack : Setup → Learnt → ℕ → Serving → Serving → Type 0
 ServesTrack c k i x y = MatchBool (track_at x.tracks i).life.ended (y ≡ record x { turns = x.turns ++ nothing_seen ∷ [] }) (ServesOne c k i x y)
 
--- the first tracks had theirs
+-- the first tracks have their parts of the turn
 abbrev pub ServesTo : Setup → Learnt → ℕ → Serving → Serving → Type 0
 ServesTo c k zero x y = y ≡ x
 ServesTo c k (suc i) x y = (z : Serving) × ServesTo c k i x z × ServesTrack c k i z y

@@ -14,7 +14,7 @@ use Rattle.af_life.specs.declared.kept.Setting.{Setting}
 use Rattle.af_life.specs.declared.kept.TrackKept.{TrackKept}
 use Rattle.af_life.specs.Kept.{Setup, NormalKept}
 
--- its sizes, what each track is and what is kept of it, the stream proxies that are home, the command proxies, the hands, which are there from the first turn on, its ends of the queue, the report and the pipe, the last entry and what is left to fill the next one, whether a turn answered that it has ended, and how many turns there were
+-- the mixer: its sizes, what each track is and what is kept of it, the stream proxies that are home, the command proxies, the hands, which are there from the first turn on, its ends of the queue, the report and the pipe, the last entry and what is left to fill the next one, whether a turn answered that it has ended, and how many turns there were
 pub record NormalState : Type 0 where
   pub frames : ℕ
   pub normal : ℕ
@@ -32,10 +32,10 @@ pub record NormalState : Type 0 where
   pub ended : Bool
   pub turns : ℕ
 
--- what it was made of
+-- what a mixer was made of
 abbrev pub setup_of : NormalState → Setup
 setup_of m = record { frames = m.frames; normal = m.normal; settings = m.settings }
 
--- what it leaves from turn to turn
+-- what a mixer leaves from turn to turn
 abbrev pub kept_of : NormalState → NormalKept
 kept_of m = record { tracks = m.tracks; draft = m.mutator.draft; dirty = m.mutator.dirty; pushed = m.mutator.past.number; last = m.mutator.past.last; ended = m.ended }

@@ -41,7 +41,7 @@ pub record ServesAll (report : Report) (x y : NormalState) : Type 0 where
 abbrev pub mixing_of : NormalState → Mixing
 mixing_of x = record { tracks = x.tracks; streams = x.streams; takes = map take_seen x.entry.mixes.items }
 
--- Where the pipe had room for a buffer, the tracks without a slot are mixed, and what was taken is put into the pipe
+-- If the pipe had room for a buffer, the tracks without a slot are mixed, and what was taken is put into the pipe
 pub record PlaysAll (room : ℕ) (x y : NormalState) : Type 0 where
   pub mixes : MatchBool (nat_le (asked (setup_of x)) room) (MixesTo (asked (setup_of x)) (length x.tracks) (mixing_of x) (mixing_of y)) (mixing_of y ≡ mixing_of x)
   pub made : in_made y.pipe ≡ in_made x.pipe
@@ -76,7 +76,7 @@ pub record GoesOnFrom (ack : Bool) (report : Report) (room : ℕ) (push : Push) 
   pub tells : turn_of y.entry ≡ told_turn room ack report push played
   pub leaves : y ≡ record played { entry = y.entry }
 
--- The same with what stays in order: the proxies and the hands are of their blocks, and the entry and the spare lists have their room
+-- What follows once what came home is home, with what stays in order: the proxies and the hands are of their blocks, and the entry and the spare lists have their room
 pub record WentOn (links : Links) (ack : Bool) (report : Report) (room : ℕ) (push : Push) (home y : NormalState) : Type 0 where
   pub goes : GoesOnFrom ack report room push home y
   pub own : (i : ℕ) → i < length goes.served.tracks → AreOwn links goes.served.streams goes.served.commands goes.served.hands i
@@ -98,7 +98,7 @@ pub record TurnsBy (push : Push) (x y : NormalState) : Type 0 where
   pub lives : (x.ended ≡ false) × ((is_exit x.mutator.past.last && ack) ≡ false)
   pub goes_on : GoesOnBy ack report room push x y
 
--- It had ended, or sees an Exit acknowledged
+-- The mixer had ended, or sees an Exit acknowledged
 pub record Stops (x y : NormalState) : Type 0 where
   pub mutator : Mutates ServerState StreamNames
   pub looks : MatchBool x.ended (mutator ≡ x.mutator) (WasAcked x.mutator true mutator × (is_exit x.mutator.past.last ≡ true))

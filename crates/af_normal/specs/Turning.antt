@@ -35,7 +35,7 @@ with_mutator m x = record x { mutator = m }
 abbrev pub stream_fits : StreamNames → ℕ → ServerState → Type 0
 stream_fits names track s = IsStreamOf names.blocks track s
 
--- where the last push was seen acknowledged, each proxy that is in hand comes home
+-- if the last push was seen acknowledged, each proxy that is in hand comes home
 pub record SeesAck (ack : Bool) (x y : NormalState) : Type 0 where
   pub mutator : Mutates ServerState StreamNames
   pub acked : WasAcked x.mutator ack mutator
@@ -48,7 +48,7 @@ pub record SeesAck (ack : Bool) (x y : NormalState) : Type 0 where
 abbrev pub without_hand : ServerState → ServerState
 without_hand s = record s { pass = record s.pass { has_hand = false }; shown = None }
 
--- that hand
+-- the hand that was split off a proxy
 abbrev pub hand_of : ServerState → HandSide
 hand_of s = record { id = s.pass.id; part = new_hand s.pass.part.shape; known = [] }
 
@@ -66,12 +66,12 @@ pub record Hands (i : ℕ) (x y : NormalState) : Type 0 where
   pub in_order : IsInOrder (without_hand stream)
   pub leaves : y ≡ record x { streams = slice_set x.streams i (Some (without_hand stream)); hands = x.hands ++ hand_of stream ∷ [] }
 
--- the first ones did
+-- the proxies of the first tracks, which are home, give their hands
 abbrev pub HandsTo : ℕ → NormalState → NormalState → Type 0
 HandsTo zero x y = y ≡ x
 HandsTo (suc i) x y = (z : NormalState) × HandsTo i x z × Hands i z y
 
--- all do, in the first turn
+-- in the first turn each stream proxy gives its hand
 abbrev pub HasHands : NormalState → NormalState → Type 0
 HasHands x y = MatchBool (length x.hands == 0) (HandsTo (length x.tracks) x y) (y ≡ x)
 

@@ -8,7 +8,7 @@ use crate::mixer::NormalMixer;
 use af_life::{Holder, TrackKept};
 
 impl NormalMixer {
-    // A returning proxy is taken back where it is in hand.
+    // A returning proxy is taken back if it is in hand.
     fn welcome(&mut self, i: usize)
         requires track { (i < length self.old.tracks) × (i < length self.old.streams) }
         requires slot { is_returning (track_at self.old.tracks i).holder ≡ true → (1 ≤ slot_number (track_at self.old.tracks i)) × (slot_number (track_at self.old.tracks i) < slots) }

@@ -52,7 +52,7 @@ pub(crate) fn known(server: &Server) -> Heard
     }
 }
 
-// The looks at the commands, where no START waits.
+// The looks at the commands, if no START waits.
 fn obey<L: Ledger>(
     command: &mut Server,
     block: &Block,
@@ -78,7 +78,7 @@ fn obey<L: Ledger>(
     look_at_commands(command, block, given, flush_seen, ready, looks, steps)
 }
 
-// DISABLED, where the report says so.
+// DISABLED, if the report says so.
 fn disable<L: Ledger>(hand: &mut TrackHand, block: &Block, disabled: bool, steps: &mut Steps<L>)
     requires made { hand_made hand.old ≡ block.now }
     ensures made { hand_made hand.new ≡ block.now }
@@ -89,7 +89,7 @@ fn disable<L: Ledger>(hand: &mut TrackHand, block: &Block, disabled: bool, steps
     }
 }
 
-// INVALID in a block, where the track was found shut.
+// INVALID in a block, if the track was found shut.
 fn mark<L: Ledger>(server: &mut Server, block: &Block, shut: bool, steps: &mut Steps<L>)
     requires server { IsServerOf block.now server.old }
     ensures server { IsServerOf block.now server.new }
@@ -101,7 +101,7 @@ fn mark<L: Ledger>(server: &mut Server, block: &Block, shut: bool, steps: &mut S
     }
 }
 
-// The same in a stream block. The hand recalls before what it knows of the proxy's list.
+// INVALID in a stream block, if the track was found shut. The hand recalls before what it knows of the proxy's list.
 fn mark_home<L: Ledger>(
     server: &mut Server,
     hand: &mut TrackHand,
@@ -122,7 +122,7 @@ fn mark_home<L: Ledger>(
     mark(server, block, shut, steps);
 }
 
-// The same of a stream, where its proxy is home.
+// INVALID in a stream block, if the track was found shut and the stream proxy is home.
 fn mark_stream<L: Ledger>(
     stream: &mut Option<Server>,
     hand: &mut TrackHand,
@@ -142,7 +142,7 @@ fn mark_stream<L: Ledger>(
     }
 }
 
-// The status, where it is a new one.
+// The status, if it is a new one.
 fn store_status<L: Ledger>(
     command: &mut Server,
     block: &Block,
@@ -159,7 +159,7 @@ fn store_status<L: Ledger>(
     }
 }
 
-/// A track's part of the turn: its commands are obeyed, its life is told what was heard of the stream, and DISABLED, INVALID and the status are stored where they are due. `ready` is the track once what was heard was noted. `seen` is filled with what the entry is to hold.
+/// A track's part of the turn: its commands are obeyed, its life goes by what was heard of the stream, and DISABLED, INVALID and the status are stored if they are due. `ready` is the track once what was heard was noted. `seen` is filled with what the entry is to hold.
 pub(crate) fn attend<L: Ledger>(
     command: &mut Server,
     stream: &mut Option<Server>,

@@ -57,7 +57,7 @@ impl NormalMixer {
         );
     }
 
-    // The same where the pipe has room for a buffer.
+    // The tracks that are due are mixed, if the pipe has room for a buffer.
     fn mix_within<L: Ledger>(&mut self, links: &Links<'_>, room: u32, steps: &mut Steps<L>)
         requires tracks { (length self.old.tracks ≤ 32) × (length self.old.tracks ≡ length self.old.settings) }
         requires streams { length self.old.streams ≡ length self.old.tracks }
@@ -115,7 +115,7 @@ impl NormalMixer {
         true
     }
 
-    /// Where the pipe has room for a buffer it is mixed and put there; whether it was.
+    /// If the pipe has room for a buffer it is mixed and put there; whether it was.
     pub(crate) fn play<L: Ledger>(
         &mut self,
         links: &Links<'_>,

@@ -66,7 +66,7 @@ impl NormalMixer {
         self.tracks[i] = track.lent_by(self.mutator.draft(), own);
     }
 
-    // A track is detached or attached, where that is due; whether it was.
+    // A track is detached or attached, if that is due; whether it was.
     fn edit(&mut self, i: usize) -> bool
         requires editing { self.old.mutator.editing ≡ true }
         requires track { (i < length self.old.tracks) × (i < length self.old.streams) × (i < length self.old.settings) × (i < 2 ^ 32) }
@@ -105,7 +105,7 @@ impl NormalMixer {
         true
     }
 
-    // Each track is detached or attached, where that is due; whether one was.
+    // Each track is detached or attached, if that is due; whether one was.
     fn edit_all(&mut self, links: &Links<'_>) -> bool
         requires may { (edits : ℕ) × (edits + 32 < 2 ^ 31) × IsOpen links.now edits self.old }
         requires none { self.old.mutator.edited ≡ false }
@@ -134,7 +134,7 @@ impl NormalMixer {
         self.mutator.end(edited || ordered);
     }
 
-    /// The draft is pushed where it is to be and the last push was acknowledged.
+    /// The draft is pushed if it is to be and the last push was acknowledged.
     pub(crate) fn push<L: Ledger>(&mut self, links: &Links<'_>, steps: &mut Steps<L>) -> Push
         requires idle { self.old.mutator.editing ≡ false }
         requires together { self.old.mutator.past.queue ≡ links.now.queue.now }

@@ -53,7 +53,7 @@ fn meet_alone<L: Ledger>(
     true
 }
 
-// The same with the hand.
+// The proxies of a track whose hand was split off meet their clients, and the hand as well; whether the stream proxy is there.
 fn meet_with_hand<L: Ledger>(
     command: &mut Server,
     stream: &mut Option<Server>,
@@ -84,7 +84,7 @@ fn meet_with_hand<L: Ledger>(
     true
 }
 
-// The same by the number of the track, whether its hand was split off or not.
+// The proxies of a track meet their clients, by its number, whether its hand was split off or not; whether the stream proxy is there.
 fn meet_at<L: Ledger>(
     i: usize,
     links: &Links<'_>,
@@ -174,7 +174,7 @@ impl NormalMixer {
         meet(links.queue, mutator, observer, steps);
     }
 
-    /// The client of a track's command block meets the command proxy. Where the stream proxy is home it meets the client of the stream block, together with the hand once that is split off, and the answer is true. Elsewhere the stream block isn't touched, and the answer is false.
+    /// The client of a track's command block meets the command proxy. If the stream proxy is home it meets the client of the stream block, together with the hand once that is split off, and the answer is true. Elsewhere the stream block isn't touched, and the answer is false.
     pub fn meet_client<L: Ledger>(
         &mut self,
         links: &Links<'_>,

@@ -37,7 +37,7 @@ pub struct NormalMixer {
     // The stream proxies that are home.
     pub(crate) streams: Vec<Option<Server>>,
     pub(crate) commands: Vec<Server>,
-    // They are there from the first turn on.
+    // The hands are there from the first turn on.
     pub(crate) hands: Vec<TrackHand>,
     pub(crate) mutator: Mutator<Server, StreamNames>,
     pub(crate) ends: (ReportReader, PipeIn),

@@ -49,7 +49,7 @@ pub(crate) fn mix_track<L: Ledger>(
     keep_frames(&buffer[..slot.seen.count() as usize], &mut take.frames);
 }
 
-/// Mixes a track where it is due, and else passes it over.
+/// Mixes a track if it is due, and else passes it over.
 fn mix_due<L: Ledger>(
     block: &Block,
     i: usize,

@@ -84,7 +84,7 @@ fn attend_at<L: Ledger>(
 }
 
 impl NormalMixer {
-    // What the stream proxy of a track knows, where it is home.
+    // What the stream proxy of a track knows, if it is home.
     fn own(&self, track: usize) -> Heard
         requires track { track < length self.now.streams }
         requires order { (s : ServerState) → stream_at self.now.streams track ≡ Some s → IsInOrder s }
@@ -145,7 +145,7 @@ impl NormalMixer {
         );
     }
 
-    // The same of any track: one that had ended is passed over.
+    // The part of any track: one that had ended is passed over.
     fn attend_due<L: Ledger>(
         &mut self,
         links: &Links<'_>,

@@ -22,7 +22,7 @@ use std::sync::ledger::Ledger;
 /// What a turn answers.
 #[derive(Clone, Copy, Debug, PartialEq, Eq)]
 pub enum Turn {
-    /// It went on: whether it put a buffer into the pipe, and what the push answered.
+    /// The turn went on: whether it put a buffer into the pipe, and what the push answered.
     Turned { mixed: bool, pushed: Push },
     /// The mixer has ended.
     Ended,
@@ -139,7 +139,7 @@ impl NormalMixer {
         Turn::Ended
     }
 
-    // Where the last push was seen acknowledged, the proxies in hand come home.
+    // If the last push was seen acknowledged, the proxies in hand come home.
     fn come_home(&mut self, ack: bool)
         requires long { length self.old.streams ≡ length self.old.tracks }
         requires slots { HaveSlots self.old.tracks }
@@ -169,7 +169,7 @@ impl NormalMixer {
         self.go_on(links, ack, steps)
     }
 
-    /// One turn. The acknowledgement is looked for, and what comes by it comes home; the report is loaded and the pipe's room read; each track has its part; the draft is edited and pushed; and where the pipe has room for a buffer, the tracks without a slot are mixed into it. Where a pushed Exit is seen acknowledged the mixer has ended, and so it has in each turn after that.
+    /// One turn. The acknowledgement is looked for, and what comes by it comes home; the report is loaded and the pipe's room read; each track has its part; the draft is edited and pushed; and if the pipe has room for a buffer, the tracks without a slot are mixed into it. If a pushed Exit is seen acknowledged the mixer has ended, and so it has in each turn after that.
     ///
     /// It goes by the steps of a turn, in their order. The turn that its entry tells is a legal one, by what it saw; what the mixer keeps is what that turn leaves; and the list of each of its parties grows by just what the entry tells. It takes no memory and waits for nobody.
     pub fn turn<L: Ledger>(&mut self, links: &Links<'_>, steps: &mut Steps<L>) -> Turn

@@ -16,7 +16,7 @@ client_at (b ∷ bs) (d ∷ ds) (suc i) c z lt = client_at bs ds i c z.1 (omega 
 same_made : (x y : Made) → Some x ≡ Some y → x ≡ y
 same_made x y e = ap (λ o. unwrap_or o x) e
 
--- and another client of that block may stand there
+-- another client of that block may stand in its place
 pub client_set : (blocks : List Made) (clients : List ClientState) (i : ℕ) (d : ClientState) → AreClients blocks clients → slice_get blocks i ≡ Some (client_made d.pass) → IsInOrder d
     → AreClients blocks (slice_set clients i d)
 client_set [] [] i d z is order = tt

@@ -34,7 +34,7 @@ more_streams (c ∷ bs) (t ∷ ts) b x long of each (suc i) s is =
     let here = more_streams bs ts b x (omega (arith, long)) of (λ j r at_j. let there = each (suc j) r at_j in record { made = there.made; in_order = there.in_order }) i s is in
     record { made = here.made; in_order = here.in_order }
 
--- and with a command proxy
+-- one block more, with a command proxy
 more_commands : (blocks : List Made) (commands : List ServerState) (b : Made) (x : ServerState) → length blocks ≡ length commands → IsServerOf b x
     → ((i : ℕ) (s : ServerState) → slice_get commands i ≡ Some s → IsStreamOf blocks i s)
     → (i : ℕ) (s : ServerState) → slice_get (commands ++ x ∷ []) i ≡ Some s → IsStreamOf (blocks ++ b ∷ []) i s
@@ -47,7 +47,7 @@ more_commands (c ∷ bs) (t ∷ ts) b x long of each (suc i) s is =
     let here = more_commands bs ts b x (omega (arith, long)) of (λ j r at_j. let there = each (suc j) r at_j in record { made = there.made; in_order = there.in_order }) i s is in
     record { made = here.made; in_order = here.in_order }
 
--- what holds of each stream proxy holds with one more of which it holds
+-- what holds of each stream proxy holds of one more too, if it holds of that
 more_hold : (P : ServerState → Type 0) (streams : List (Option ServerState)) (x : ServerState) → P x
     → ((i : ℕ) (s : ServerState) → stream_at streams i ≡ Some s → P s)
     → (i : ℕ) (s : ServerState) → stream_at (streams ++ Some x ∷ []) i ≡ Some s → P s

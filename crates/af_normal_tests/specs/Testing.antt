@@ -36,7 +36,7 @@ pub record AreOthers (links : Links) (o : Observes ServerState StreamNames) (w :
   pub streams_are : AreClients links.streams.now streams
   pub commands_are : AreClients links.commands.now commands
 
--- the mixer is in order besides
+-- the mixer is in order, and the ends of the other mixer and the clients are of these links
 pub record IsWorld (links : Links) (m : NormalState) (o : Observes ServerState StreamNames) (w : WriterSide) (p : OutSide) (last : Report) (streams commands : List ClientState) : Type 0 where
   pub order : IsInOrder links m
   pub others : AreOthers links o w p last streams commands

@@ -131,7 +131,7 @@ fn a_pause_sends_the_proxy_home_and_a_start_out_again(rt: HostRuntime) {
     assert!(rt; plays(rt.alloc(), &[FAST], 2, 1, &rows) == Ok(true));
 }
 
-// What is told of a track that underran for the fiftieth time in a row.
+// What is said of a track that underran for the fiftieth time in a row.
 fn disabled() -> Told {
     let turn = Turn::Turned {
         mixed: false,
@@ -177,7 +177,7 @@ fn fifty_underruns_disable_once(rt: HostRuntime) {
     assert!(rt; fifty_underruns(rt.alloc()) == Ok(true));
 }
 
-// A normal track is mixed by whole buffers, each where the pipe has room for it.
+// A normal track is mixed by whole buffers, each if the pipe has room for it.
 #[test]
 fn a_normal_track_is_mixed_here(rt: HostRuntime) {
     let normal = Kind {
@@ -253,7 +253,7 @@ fn a_shut_block_ends_its_track(rt: HostRuntime) {
     assert!(rt; plays(rt.alloc(), &[FAST], 2, 2, &rows) == Ok(true));
 }
 
-// Where the stream's proxy is lent the stream block is never marked, also not once the proxy is home.
+// If the stream's proxy is lent, the stream block is never marked, also not once the proxy is home.
 #[test]
 fn a_lent_proxy_marks_nothing(rt: HostRuntime) {
     let rows = [
@@ -272,7 +272,7 @@ fn a_lent_proxy_marks_nothing(rt: HostRuntime) {
     assert!(rt; plays(rt.alloc(), &[FAST], 2, 2, &rows) == Ok(true));
 }
 
-// The mix is made also where the push is Busy, and a track that is paused in this turn is mixed once more. A look that finds a flush is no underrun, and is heard of in the next turn.
+// The mix is made also if the push is Busy, and a track that is paused in this turn is mixed once more. A look that finds a flush is no underrun, and is heard of in the next turn.
 #[test]
 fn a_mix_follows_each_push(rt: HostRuntime) {
     let normal = Kind {

@@ -27,12 +27,12 @@ fn rear_is(command: bool, rear: u32) -> Row {
     })
 }
 
-// The fast mixer is to do this, and so often it was told to rest.
+// The fast mixer is to do this, and was to rest so often.
 fn is_told(command: Command, cold: u32) -> Row {
     (Step::Command, Told::Commanded { command, cold })
 }
 
-// A track that was never attached is removed, and the track after it opens in the same turn: it gets the same slot. The acknowledgement is looked at where no push stands, too, and counts as seen.
+// A track that was never attached is removed, and the track after it opens in the same turn: it gets the same slot. The acknowledgement is looked at even if no push stands, and counts as seen.
 #[test]
 fn a_slot_is_free_within_the_turn(rt: HostRuntime) {
     let rows = [
@@ -157,7 +157,7 @@ fn reported_again(alloc: Global) -> Result<bool, Memory> {
     plays(alloc, &[FAST], 1, 1, &rows)
 }
 
-// What a turn tells of a track that it disabled, with the push of this number.
+// What a turn answers for a track that it disabled, with the push of this number.
 fn disabled(number: u64) -> Told {
     let (_, told) = turned_to(0, false, pushed(number), None);
     match told {
@@ -259,7 +259,7 @@ fn a_flush_of_nothing_is_seen(rt: HostRuntime) {
     }
 }
 
-// A flush and a rear out of reach are seen by one look: it finds the block shut where a flush carries its position, and else the flush, which drops all up to that rear.
+// A flush and a rear out of reach are seen by one look: it finds the block shut if a flush carries its position, and else the flush, which drops all up to that rear.
 #[test]
 fn a_flush_comes_before_the_rear_or_after_it(rt: HostRuntime) {
     for (positional, status) in &[(true, Some(527)), (false, None)] {

@@ -36,7 +36,7 @@ enum Step {
     Takes(u32),
     // The other server takes up to so many commands.
     Obeys(u32),
-    // It stores this status.
+    // The other server stores this status.
     Tells(u32),
     // The client has ended.
     Ended,
@@ -57,7 +57,7 @@ fn takes<L: Ledger>(block: &Block, server: &mut Server, ask: u32, steps: &mut St
     }
 }
 
-// A turn; false where too much was sent before it.
+// A turn; false if too much was sent before it.
 fn turns<L: Ledger>(
     party: &mut Party,
     links: &Links<'_>,
@@ -219,7 +219,7 @@ struct Joints {
     report: ReportCell,
 }
 
-// They are there for the mixers, which are none here.
+// The shared objects of the mixers, which are none here.
 fn make_joints(alloc: Global, streams: &[Block]) -> Result<Joints, Memory> {
     let report = report(alloc)?;
     let pipe = pipe(alloc, 8)?;
@@ -251,7 +251,7 @@ fn new_stage(alloc: Global, frames: u32) -> Result<Stage, Memory>
     Ok(Stage { sides, joints })
 }
 
-// The same of a new client on new blocks, with so many frames in the stream's.
+// Whether each step of a table does what it says, by a new client on new blocks, with so many frames in the stream's.
 fn plays_in<L: Ledger>(
     blank: Blank,
     alloc: Global,

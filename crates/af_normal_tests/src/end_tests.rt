@@ -1,4 +1,4 @@
-//! A mixer that has ended loads nothing any more, and its entry tells that alone.
+//! A mixer that has ended loads nothing any more, and its entry says that alone.
 ghost use Rattle.std.specs.Prelude.{◌≡◌, ◌<◌, true};
 ghost use Rattle.af_base.specs.Turn.{ended_turn, turn_of};
 ghost use Rattle.af_normal.specs.Order.{IsInOrder};
@@ -15,7 +15,7 @@ use std::mem::drop;
 use std::sync::ledger::{Blank, Ledger};
 use std::test::*;
 
-// A turn after the end: it answers so again, and no list grows. The acknowledgement isn't loaded, and neither is the report or the room.
+// A turn after the end: the mixer answers so again, and no list grows. The acknowledgement isn't loaded, and neither is the report or the room.
 fn turn_after_the_end<L: Ledger>(
     mixer: &mut NormalMixer,
     links: &Links<'_>,
@@ -34,14 +34,14 @@ fn turn_after_the_end<L: Ledger>(
     mixer.turn(links, steps)
 }
 
-// Whether an entry tells the end alone.
+// Whether an entry says the end alone.
 fn tells_the_end(entry: &TurnEntry) -> bool {
     let none = entry.tracks.as_slice().is_empty() && entry.mixes.as_slice().is_empty();
     let nothing = entry.room == 0 && entry.cycle == 0 && entry.push == Push::Clean;
     entry.ended && entry.ack && none && nothing
 }
 
-// Whether the mixer ends by the next turn, and tells so in that and in the one after it.
+// Whether the mixer ends by the next turn, and says so in that and in the one after it.
 fn stays_ended<L: Ledger>(mixer: &mut NormalMixer, links: &Links<'_>, steps: &mut Steps<L>) -> bool
     requires { IsInOrder links.now mixer.old }
 {

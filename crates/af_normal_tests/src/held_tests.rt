@@ -1,4 +1,4 @@
-//! What the tests have the fast mixer do with a proxy that it holds, and what its state tells.
+//! What the tests have the fast mixer do with a proxy that it holds, and what its state has.
 ghost use Rattle.std.specs.Prelude.{◌≡◌, ◌<◌, ◌≤◌, ◌^◌, true, length};
 ghost use Rattle.af_base.specs.Log.{slots};
 ghost use Rattle.af_model.specs.StateQueue.{slot_of, carries};
@@ -38,7 +38,7 @@ fn play_held<L: Ledger>(
     server.play(&streams[track as usize], 0, buffer, steps).seen
 }
 
-/// The fast mixer plays a slot for so many frames, from one to four, and tells what it saw and took.
+/// The fast mixer plays a slot for so many frames, from one to four, and answers what it saw and took.
 pub(crate) fn plays_slot<L: Ledger>(
     observer: &mut Observer<Server, StreamNames>,
     links: &Links<'_>,

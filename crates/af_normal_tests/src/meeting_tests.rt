@@ -1,4 +1,4 @@
-//! The meetings of a mixer's ends and proxies between turns, and what a track's hand tells.
+//! The meetings of a mixer's ends and proxies between turns, and what a track's hand sets.
 ghost use Rattle.std.specs.Prelude.{◌≡◌, ◌<◌, length};
 ghost use Rattle.af_client.specs.Order.{IsClientOf};
 ghost use Rattle.af_cblk.specs.Sides.{hand_made};
@@ -59,7 +59,7 @@ fn tells<L: Ledger>(hand: &mut TrackHand, block: &Block, client: &mut Client, st
     meet_flag(client, flag, block, steps);
 }
 
-/// The hand of a track sets DISABLED, and meets the client; tells whether there is a hand.
+/// The hand of a track sets DISABLED, and meets the client; answers whether there is a hand.
 pub(crate) fn disables<L: Ledger>(
     mixer: &mut NormalMixer,
     links: &Links<'_>,
@@ -83,7 +83,7 @@ pub(crate) fn disables<L: Ledger>(
     Told::Is { so: true }
 }
 
-// How many tracks the last turn told of: none before the first turn and after the end.
+// How many tracks the entry of the last turn has: none before the first turn and after the end.
 fn tracks_told(mixer: &NormalMixer) -> usize
     ensures { result ≡ length mixer.now.entry.tracks.items }
 {
@@ -91,7 +91,7 @@ fn tracks_told(mixer: &NormalMixer) -> usize
 }
 
 impl World {
-    /// The clients of a track meet its proxies; tells whether the stream proxy is home. Before the first turn and after the end nothing is done.
+    /// The clients of a track meet its proxies; answers whether the stream proxy is home. Before the first turn and after the end nothing is done.
     pub(crate) fn meets<L: Ledger>(
         &mut self,
         links: &Links<'_>,
@@ -145,7 +145,7 @@ impl World {
         }
     }
 
-    /// Whether each step of a table tells what it should.
+    /// Whether each step of a table answers what it should.
     pub(crate) fn plays<L: Ledger>(
         &mut self,
         links: &Links<'_>,
@@ -165,12 +165,12 @@ impl World {
     }
 }
 
-// The clients of the first track meet its proxies, where the stream proxy is home or not.
+// The clients of the first track meet its proxies, whether the stream proxy is home or not.
 fn meets(so: bool) -> Row {
     (Step::Meet { track: 0 }, Told::Is { so })
 }
 
-// The hand of the first track tells DISABLED, where it is there.
+// The hand of the first track sets DISABLED, if it is there.
 fn disables_first(so: bool) -> Row {
     (Step::Disable { track: 0 }, Told::Is { so })
 }
@@ -213,7 +213,7 @@ fn clients_meet_the_proxies_that_are_home(rt: HostRuntime) {
     assert!(rt; plays(rt.alloc(), &[FAST], 2, 1, &rows) == Ok(true));
 }
 
-// A world between the meetings of its ends, and whether each step so far told what it should.
+// A world between the meetings of its ends, and whether each step so far answered what it should.
 #[derive(Drop)]
 struct Met {
     world: World,
@@ -234,7 +234,7 @@ impl Met {
         }
     }
 
-    // The world ends; what its steps told stays.
+    // The world ends; what its steps answered stays.
     fn told(self) -> bool
         ensures { result ≡ self.so }
     {

@@ -57,7 +57,7 @@ impl Source {
         (self.seed >> 16) % bound.max(1)
     }
 
-    // Whether it is so once in so many times.
+    // Whether what comes once in so many times comes now.
     fn once_in(&mut self, times: u32) -> bool {
         self.draw(times) == 0
     }
@@ -167,7 +167,7 @@ fn all_heard(own: &mut [Heard; TRACKS], takes: &[NormalTake]) {
     }
 }
 
-// Whether a turn that left a track so told that of it.
+// Whether the entry of a turn says what the turn left of a track.
 fn is_told(entry: &TurnEntry, track: usize, before: TrackKept, after: TrackKept) -> bool {
     let Some(seen) = entry.tracks.as_slice().get(track) else {
         return entry.ended && before == after;
@@ -177,7 +177,7 @@ fn is_told(entry: &TurnEntry, track: usize, before: TrackKept, after: TrackKept)
     seen.status == stored_over(before.status, after.status) && seen.disabled == disabled
 }
 
-// Whether all are told.
+// Whether the entry of a turn says what the turn left of each track.
 fn are_told(entry: &TurnEntry, before: &[TrackKept; TRACKS], after: &[TrackKept]) -> bool {
     for (i, (old, new)) in before.iter().zip(after.iter()).enumerate() {
         if !is_told(entry, i, *old, *new) {
@@ -298,7 +298,7 @@ fn run<L: Ledger>(
     beside.plain.pushed() > 20 && again > 5
 }
 
-// The same of a world that ends with the run.
+// Some turns of a world that ends with them; whether each was that of the plain mixer.
 fn runs_out<L: Ledger>(
     world: World,
     beside: &mut Beside,

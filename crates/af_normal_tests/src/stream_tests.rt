@@ -1,4 +1,4 @@
-//! Flushes and short writes of a client, as its calls, turns and what the fast mixer then plays. A block of a stream has a flush that drops what was released when it is seen, or, where it carries its position, what was released before it.
+//! Flushes and short writes of a client, as its calls, turns and what the fast mixer then plays. A block of a stream has a flush that drops what was released when it is seen, or, if it carries its position, what was released before it.
 ghost use Rattle.std.specs.Prelude.{◌≡◌, true, IfOk};
 ghost use Rattle.af_cblk.specs.Rule.{new_client, new_server};
 ghost use Rattle.af_cblk.specs.Sides.{client_made, server_made};
@@ -141,7 +141,7 @@ fn a_short_write_is_played_and_its_rest_is_missing(rt: HostRuntime) {
     assert!(rt; plays(rt.alloc(), &[FAST], 4, 1, &rows) == Ok(true));
 }
 
-// The same of a normal track: the buffer of four frames is put whole, its last frame silent.
+// Three frames of four asked are taken of a normal track: the buffer of four frames is put whole, its last frame silent.
 #[test]
 fn a_short_write_of_a_normal_track_fills_a_buffer(rt: HostRuntime) {
     let normal = Kind {

@@ -1,4 +1,4 @@
-//! One driver for the tests by calls: a table of steps over new blocks, with what each of them tells.
+//! One driver for the tests by calls: a table of steps over new blocks, with what each of them answers.
 ghost use Rattle.std.specs.Prelude.{◌≡◌, ℕ, ◌+◌, ◌*◌, ◌<◌, ◌≤◌, ◌++◌, ◌∷◌, [], length, All, IfOk};
 ghost use Rattle.af_link.specs.declared.links.Links.{Links as Linked};
 ghost use Rattle.af_normal.specs.Making.{AreNew};
@@ -222,10 +222,10 @@ impl Parts {
     }
 }
 
-/// A step with what it is to tell.
+/// A step with what it is to answer.
 pub(crate) type Row = (Step, Told);
 
-// Whether each step of a table tells what it should.
+// Whether each step of a table answers what it should.
 fn play_all<L: Ledger>(
     world: &mut World,
     links: &Links<'_>,
@@ -265,7 +265,7 @@ fn plays_in<L: Ledger>(
     Ok(told)
 }
 
-// Whether each step of a table over new blocks tells what it should, for one to 32 tracks and up to 1,024 frames a cycle and 16 cycles a buffer.
+// Whether each step of a table over new blocks answers what it should, for one to 32 tracks and up to 1,024 frames a cycle and 16 cycles a buffer.
 pub(crate) fn plays(
     alloc: Global,
     kinds: &[Kind],

@@ -1,4 +1,4 @@
-//! What the tests of the mixer share: the world that it works in, with lists in place of a session, and the steps that a test makes in it. What the fast mixer reports is told by the test.
+//! What the tests of the mixer share: the world that it works in, with lists in place of a session, and the steps that a test makes in it. What the fast mixer reports is set by the test.
 ghost use Rattle.std.specs.Prelude.{◌≡◌};
 ghost use Rattle.af_client.specs.Order.{IsClientOf};
 ghost use Rattle.af_link.specs.PipeEnds.{out_made};
@@ -60,11 +60,11 @@ pub(crate) enum Step {
         command: bool,
         rear: u32,
     },
-    /// Clears DISABLED, and tells the flags before.
+    /// Clears DISABLED, and answers the flags before.
     Clear {
         track: usize,
     },
-    /// Tells the status word.
+    /// Answers the status word.
     Status {
         track: usize,
     },
@@ -82,17 +82,17 @@ pub(crate) enum Step {
     },
     /// The fast mixer takes four frames.
     Hear,
-    /// Tells a slot of the state that the fast mixer has.
+    /// Answers a slot of the state that the fast mixer has.
     Slot {
         slot: usize,
     },
-    /// Tells what the fast mixer is to do, and the count of cold idles.
+    /// Answers what the fast mixer is to do, and the count of cold idles.
     Command,
-    /// A track's clients meet its proxies; tells whether the stream proxy is home.
+    /// A track's clients meet its proxies; answers whether the stream proxy is home.
     Meet {
         track: usize,
     },
-    /// DISABLED is set by the hand of a track, which meets the client; tells whether there is a hand.
+    /// DISABLED is set by the hand of a track, which meets the client; answers whether there is a hand.
     Disable {
         track: usize,
     },
@@ -100,11 +100,11 @@ pub(crate) enum Step {
     Turn {
         track: usize,
     },
-    /// Tells whether the last turn saw the last push acknowledged, and the room that it saw.
+    /// Answers whether the last turn saw the last push acknowledged, and the room that it saw.
     Entry,
 }
 
-/// What a step told.
+/// What a step answered.
 #[derive(Clone, Copy, PartialEq, Eq)]
 pub(crate) enum Told {
     Done,
@@ -198,7 +198,7 @@ fn client_does<L: Ledger>(
     Told::Done
 }
 
-// The same of the client of a track.
+// What the client of a track does on one of its blocks.
 fn track_does<L: Ledger>(
     clients: &mut [Client],
     blocks: &[Block],

@@ -1,4 +1,4 @@
--- A round that has more entries than a turn of the fast mixer, or whose turn has more looks at a track than one of the normal mixer, is some party's fault. So nothing of a legal journal is left out where it is judged, and the fault of a front that ends behind such a round is in one of its rounds.
+-- A round that has more entries than a turn of the fast mixer, or whose turn has more looks at a track than one of the normal mixer, is some party's fault. So nothing of a legal journal is left out when it is judged, and the fault of a front that ends behind such a round is in one of its rounds.
 use Rattle.std.proofs.Common.{◌≡◌, ℕ, zero, suc, ◌<◌, ◌≤◌, ◌==◌, ◌&&◌, ◌||◌, nat_lt, Bool, true, false, if◌then◌else◌, MatchBool, MatchOption, List, [], ◌∷◌, ◌++◌, length, map, is_some, Option, Some, None, refl, ap, ◌∙◌, sym, subst, arith, length-append}
 use Rattle.std.specs.List.{list_any}
 use Rattle.std.proofs.lemmas.Bool.{true≢false}
@@ -57,12 +57,12 @@ module _ (c : Setup) (k : Learnt) (seen : TrackSeen) (tracks : List TrackKept) (
       by_ended true e = let l : length seen.looks ≡ 0 = ap (λ (s : TrackSeen). length s.looks) e in omega arith
       by_ended false h = by_wait (is_some (ready k i (track_at tracks i)).awaits) h.looks
 
--- ## A round that has more than a legal one
+-- ## A round that has more entries or looks than a legal one
 
 not_more : (n m : ℕ) → m ≤ n → nat_lt n m ≡ false
 not_more n m h = grind (arith, nat_tests, h)
 
--- each track has few looks
+-- if each track has few looks, none has more
 none_more : (looks : ℕ) (ts : List TrackSeen) → ((i : ℕ) → i < length ts → length (seen_at ts i).looks ≤ looks) → list_any (λ (t : TrackSeen). nat_lt looks (length t.looks)) ts ≡ false
 none_more looks [] few = refl
 none_more looks (t ∷ ts) few =
@@ -84,7 +84,7 @@ fast_few : (entries : List EntrySeen) (full : Bool) (Early Late : Type 0) (b : B
 fast_few entries full Early Late true none = let l : length entries ≡ 0 = ap (λ (es : List EntrySeen). length es) none in omega (arith, l)
 fast_few entries full Early Late false legal = legal.0.0
 
--- a round in which each party is clear has no more
+-- a round in which each party is clear has no more entries or looks
 pub clear_within : (cut : Bool) (s : Session) (marks : Marks) (run : Run) (round : RoundSeen) → AreClear cut s marks run round → is_beyond 16 64 round ≡ false
 clear_within cut s marks run round clear =
     let fast : FastIsClear cut s marks run round = fast_part cut s marks run round (clear (fast_party s) (omega arith)) in
@@ -99,7 +99,7 @@ clear_rounds s marks run [] clear = refl
 clear_rounds s marks run (round ∷ rounds) clear =
     (λ k. round_within most_judged 16 64 (omega arith) (omega arith) round (clear_within false s marks run round clear.0) k ∷ clear_rounds s marks (after_round s run round) rounds clear.1 k)
 
--- it is the journal itself
+-- what is judged of a legal journal is the journal itself
 pub legal_judged : (script : ScriptData) (files : List (List Frame)) (j : JournalData) → HasNoFault script files j → judged_of j ≡ j
 legal_judged script files j clear =
     let s = session_of script files in
@@ -127,7 +127,7 @@ module _ (script : ScriptData) (files : List (List Frame)) (front : JournalData)
       not_all (session_of script files) (marks_of front.rounds) e.round e.last e.beyond (new_run (session_of script files)) e.before
       (subst (AllClear (session_of script files) (marks_of front.rounds) (new_run (session_of script files))) e.rounds_are clear)
 
-  -- what is found of it is a fault in a round before its last one
+  -- what is found of such a front is a fault in a round before its last one
   pub beyond_tells : (found : Verdict) → IsVerdict script files front pcm found → Tells found false (length front.rounds)
   beyond_tells verdict.Legal v = absurd (no_legal v.0)
   beyond_tells (verdict.Refused (refused.Text line)) v = absurd v

@@ -11,7 +11,7 @@ use Rattle.af_offline.specs.Status.{Meets}
 abbrev pub behind : {X : Type 0} → List X → Result (List X) Refusal → Result (List X) Refusal
 behind xs rest = rest >>= (λ ys. Ok (xs ++ ys))
 
--- reading one more
+-- one more value is read
 pub behind-more : {X : Type 0} (xs : List X) (x : X) (rest : Result (List X) Refusal) → behind xs (then_cons x rest) ≡ behind (xs ++ x ∷ []) rest
 behind-more xs x (Ok ys) = ap Ok (sym (append_assoc xs (x ∷ []) ys))
 behind-more xs x (Err refusal) = refl
@@ -20,14 +20,14 @@ pub behind-none : {X : Type 0} (rest : Result (List X) Refusal) → behind [] re
 behind-none (Ok ys) = refl
 behind-none (Err refusal) = refl
 
--- a step that stopped, and what would have followed
+-- a step that stopped, and what would have followed, stop alike
 pub Meets-stopped : {X Y Z W : Type 0} (view : X → Y) (other : W → Z) (e : Stop) (told : Result Y Refusal) (next : Y → Result Z Refusal) → Meets view (Err e) told → Meets other (Err e) (told >>= next)
 Meets-stopped {X} {Y} view other (Refused refusal) told next is = ap (λ (r : Result Y Refusal). r >>= next) is
 Meets-stopped view other (Over over) told next is = absurd is
 Meets-stopped view other Store told next is = tt
 Meets-stopped view other Memory told next is = tt
 
--- memory ran out
+-- a step in which memory ran out may answer so
 pub Meets-memory : {X Y : Type 0} (view : X → Y) (r : Result X Stop) (told : Result Y Refusal) → IsErrAnd r (λ s. s ≡ Memory) → Meets view r told
 Meets-memory view (Ok x) told is = absurd is
 Meets-memory view (Err stop) told is = subst (λ (s : Stop). Meets view (Err s) told) (sym is) tt

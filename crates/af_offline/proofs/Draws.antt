@@ -49,17 +49,17 @@ pub file_length : (number track : ℕ) → length (generated_file number track) 
 unfolding generated_file
 file_length number track = drawn_length (drawn number (samples_before track)) (samples_of track)
 
--- where a track's file ends the next one begins
+-- the next track's file begins where a track's file ends
 drawn_track : (number track : ℕ) → drawn (drawn number (samples_before track)) (samples_of track) ≡ drawn number (samples_before (track + 1))
 drawn_track number track =
     drawn_behind number (samples_before track) (samples_of track)
     ∙ ap (drawn number) (let same : samples_before track + samples_of track ≡ samples_before (track + 1) = omega arith in same)
 
--- what is drawn where the files before it ended is the track's file
+-- what is drawn from where the files before it ended is the track's file
 pub file_is : (number track state : ℕ) (bytes : List ℕ) → state ≡ drawn number (samples_before track) → bytes ≡ drawn_bytes state (samples_of track) → bytes ≡ generated_file number track
 unfolding generated_file
 file_is number track state bytes at is = is ∙ ap (λ (x : ℕ). drawn_bytes x (samples_of track)) at
 
--- and the state behind it is where the next one begins
+-- the state behind a track's file is where the next one begins
 pub state_is : (number track state after : ℕ) → state ≡ drawn number (samples_before track) → after ≡ drawn state (samples_of track) → after ≡ drawn number (samples_before (track + 1))
 state_is number track state after at is = is ∙ ap (λ (x : ℕ). drawn x (samples_of track)) at ∙ drawn_track number track

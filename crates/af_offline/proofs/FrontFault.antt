@@ -1,4 +1,4 @@
--- The first fault of a journal is that of each one that begins with the same rounds and pokes the same blocks, where it is in one of those rounds.
+-- The first fault of a journal is that of each one that begins with the same rounds and pokes the same blocks, if it is in one of those rounds.
 use Rattle.std.proofs.Common.{◌≡◌, ℕ, zero, suc, ◌<◌, Bool, false, List, [], ◌∷◌, take, arith, ap, subst}
 use Rattle.af_base.specs.declared.frame.Frame.{Frame}
 use Rattle.af_model.specs.Journals.{JournalData, RoundSeen}

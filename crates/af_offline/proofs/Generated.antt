@@ -33,7 +33,7 @@ drawn_files-front number track few =
     let all : List NamedFile = map (drawn_file number) (range_with_len 0 8) in
     sym (take-append-drop track all) ∙ ap (λ (front : List NamedFile). front ++ drop track all) (take-map-range_with_len (drawn_file number) 0 8 track few)
 
--- the count of faults stays where a call has its answer
+-- the count of faults stays if a call has its answer
 pub count_stays : {X : Type 0} (x : X) (before now : ℕ) → HasCause before now (Ok x) → now ≡ before
 count_stays {X} x before now cause = go (nat_le now before) refl
   where
@@ -52,7 +52,7 @@ drawn_before number track old mid few before =
     subst (λ (files : List NamedFile). LeavesFronts old files mid) (sym (drawn_files-front number track few))
     (LeavesFronts-first old (drawn_files number track) (drop track (drawn_files number 8)) mid (LeavesFronts-whole old (drawn_files number track) mid before))
 
--- the next one may not be
+-- some first files are whole, and the next one may not be
 pub drawn_up_to : (number track : ℕ) (old mid new : Files) → track < 8 → SetsFiles old (drawn_files number track) mid → LeavesFront mid (generated_name track) (generated_file number track) new → LeavesFronts old (drawn_files number 8) new
 drawn_up_to number track old mid new few before left =
     let here : LeavesFronts old (drawn_files number (track + 1)) new =
@@ -60,7 +60,7 @@ drawn_up_to number track old mid new few before left =
     subst (λ (files : List NamedFile). LeavesFronts old files new) (sym (drawn_files-front number (track + 1) (omega (arith, few))))
     (LeavesFronts-first old (drawn_files number (track + 1)) (drop (track + 1) (drawn_files number 8)) new here)
 
--- the script behind them
+-- the script is written behind the tracks' files
 pub script_more : (number : ℕ) (name : List ℕ) (old mid new : Files) → SetsFiles old (drawn_files number 8) mid → SetsFile mid name (Some (printed_script generated_script)) new → SetsFiles old (generated_files number name) new
 script_more number name old mid new before set = SetsFiles-more old (drawn_files number 8) mid (script_file name) new before set
 

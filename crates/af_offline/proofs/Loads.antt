@@ -63,11 +63,11 @@ served_count [] (f ∷ files) all = absurd all
 served_count (t ∷ tracks) [] all = absurd all
 served_count (t ∷ tracks) (f ∷ files) all = ap suc (served_count tracks files all.1)
 
--- all tracks have their files, where so many first ones have
+-- all tracks have their files, if as many first ones have theirs
 pub all_served : (tracks : List TrackSpec) (files : List (List Frame)) (i : ℕ) → length tracks ≤ i → AreServed (take i tracks) files → AreServed tracks files
 all_served tracks files i le all = subst (λ (ts : List TrackSpec). AreServed ts files) (take_all i tracks le) all
 
--- ## What is told of them
+-- ## What the files are by the definitions
 
 -- one more track's file is loaded
 pub tracks_step : (files : Files) (number total more : ℕ) (tracks : List TrackSpec) (track : TrackSpec) (file : List Frame) (before after : List (List Frame)) → number < length tracks → track ≡ get_or tracks number track
@@ -82,7 +82,7 @@ tracks_step files number total more tracks track file before after lt is told af
     ∙ behind-more before file tail
     ∙ ap (λ (xs : List (List Frame)). behind xs tail) (sym after_is)
 
--- the count of faults stays where a step has its answer
+-- the count of faults stays if a step has its answer
 pub faults_stay : {X : Type 0} (x : X) (before now : ℕ) → HasFault before now (Ok x) → now ≡ before
 faults_stay {X} x before now cause = go (nat_le now before) refl
   where
@@ -104,7 +104,7 @@ ok_no_store {X} x h = let e : ⊥ = cc in e
 memory_no_store : {X : Type 0} → IsErrOf {T = X} {E = Stop} (Err Memory) Store → ⊥
 memory_no_store {X} h = let e : ⊥ = cc in e
 
--- no fault
+-- a step in which no fault came
 pub faultless_ok : {X : Type 0} (x : X) (before now : ℕ) → now ≡ before → HasFault before now (Ok x)
 faultless_ok {X} x before now same = record { later = omega (arith, same); fault = (λ h. absurd (ok_no_store x h)); only = (λ lt. absurd (omega (arith, lt, same))) }
 
@@ -123,19 +123,19 @@ tracks_stopped other files number total tracks track before e lt is told =
     let here : Meets other (Err e) (tracks_in files number total (track ∷ rest)) = Meets-stopped file_view other e (track_in files number total track) (λ one. then_cons one.0 (tracks_in files (number + 1) one.1 rest)) told in
     subst (λ (ts : List TrackSpec). Meets other (Err e) (behind before (tracks_in files number total ts))) (sym first) (Meets-stopped other other e (tracks_in files number total (track ∷ rest)) (λ ys. Ok (before ++ ys)) here)
 
--- all are loaded
+-- all files are loaded
 pub tracks_done : (files : Files) (number total : ℕ) (tracks : List TrackSpec) (before : List (List Frame)) → length tracks ≤ number → tracks_in files 0 0 tracks ≡ behind before (tracks_in files number total (drop number tracks)) → tracks_in files 0 0 tracks ≡ Ok before
 tracks_done files number total tracks before le told =
     told ∙ ap (λ (ts : List TrackSpec). behind before (tracks_in files number total ts)) (drop_all number tracks le) ∙ ap Ok (append-nil before)
 
--- ## What is told of one
+-- ## What one file is by the definitions
 
 -- what follows the bytes of a track's file
 abbrev framed : ℕ → ℕ → TrackSpec → List ℕ → Result (List Frame × ℕ) Refusal
 framed number total track bytes = frames_in number track.mono bytes >>= enough_of number (frames_to_come track.ops) >>= (λ frames. Ok (frames, total + length bytes))
 
 module _ (files : Files) (number total : ℕ) (track : TrackSpec) where
-  -- its file stopped
+  -- a track's file wasn't loaded
   pub track_unloaded : {X : Type 0} (view : X → List ℕ) (e : Stop) → Meets view (Err e) (loaded (role.Track number) most_file (files track.file)) → Meets file_view (Err e) (track_in files number total track)
   track_unloaded view e told =
       Meets-stopped view file_view e (loaded (role.Track number) most_file (files track.file) >>= counted number total) (framed number total track)
@@ -163,7 +163,7 @@ module _ (files : Files) (number total : ℕ) (track : TrackSpec) where
       kept : track_in files number total track ≡ framed number total track bytes
       kept = here ∙ ap by_test (le-leb (total + length bytes) most_files few)
 
-      -- its frames stopped
+      -- the bytes of a track's file gave no frames
       pub track_unframed : (e : Stop) → Meets {X = List Frame} (λ pcm. pcm) (Err e) (frames_in number track.mono bytes) → Meets file_view (Err e) (track_in files number total track)
       track_unframed e told =
           subst (λ (r : Result (List Frame × ℕ) Refusal). Meets file_view (Err e) r) (sym kept)
@@ -174,13 +174,13 @@ module _ (files : Files) (number total : ℕ) (track : TrackSpec) where
         in_frames : track_in files number total track ≡ (enough_of number (frames_to_come track.ops) frames >>= (λ all. Ok (all, total + length bytes)))
         in_frames = kept ∙ ap (λ (r : Result (List Frame) Refusal). r >>= enough_of number (frames_to_come track.ops) >>= (λ all. Ok (all, total + length bytes))) framed_is
 
-        -- they are too few
+        -- the frames of a track's file are too few
         pub track_short : (e : Stop) → Meets {X = List Frame} (λ pcm. pcm) (Err e) (enough_of number (frames_to_come track.ops) frames) → Meets file_view (Err e) (track_in files number total track)
         track_short e told =
             subst (λ (r : Result (List Frame × ℕ) Refusal). Meets file_view (Err e) r) (sym in_frames)
             (Meets-stopped {X = List Frame} (λ (pcm : List Frame). pcm) file_view e (enough_of number (frames_to_come track.ops) frames) (λ all. Ok (all, total + length bytes)) told)
 
-        -- they are enough
+        -- the frames of a track's file are enough
         pub track_done : (all : List Frame) → enough_of number (frames_to_come track.ops) frames ≡ Ok all → track_in files number total track ≡ Ok (all, total + length bytes)
         track_done all is_all = in_frames ∙ ap (λ (r : Result (List Frame) Refusal). r >>= (λ some. Ok (some, total + length bytes))) is_all
 

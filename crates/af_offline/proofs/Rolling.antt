@@ -54,7 +54,7 @@ module _ (first : HandState) (places : ℕ) (kept : List ℕ) where
     pub standing : standing_in hand ≡ after_calls (length first.frames) (standing_in first) (calls_under first.newest places i)
     pub shuts : 0 < i → is_shut ≡ is_some (shut_by (length first.frames) (next_setting first))
 
-  -- one call on
+  -- one call more
   pub on_again : (hand after : HandState) (had now : List ℕ) (out : List Frame) (i filled more : ℕ) (was is : Bool) → IsOn hand had i filled was
       → after.frames ≡ hand.frames → after.newest ≡ hand.newest → next_setting after ≡ next_setting hand
       → now ≡ had ++ pcm_bytes out

@@ -20,7 +20,7 @@ use Rattle.af_offline.specs.declared.status.Stop.TheVariants as stop
 use Rattle.af_offline.specs.Verified.{FoundTo, IsJudgedIn, IsOfJournal, IsUnread, JudgesTo, Tells, unread}
 use Rattle.af_script.specs.Data.{ScriptData}
 
--- a fault of a text is told
+-- a text with this fault wasn't read
 pub unread_told : (script : ScriptData) (text : List ℕ) (f : JournalFault) → IsFaultOf (length script.tracks) text f → IsUnread (unread f) script text
 unread_told script text (fault.Line number) h = h
 unread_told script text fault.Memory h = tt
@@ -32,7 +32,7 @@ judged c (verdict.Refused (refused.Text line)) h = absurd h.2
 judged c (verdict.Refused (refused.Round round party)) h = h
 judged c (verdict.Refused (refused.Pcm at)) h = h
 
--- and so is what is found of its front, where that tells it
+-- what is found of a text's front is what is found of the text, if the front is enough
 pub front_judged : (c : asked.Case) (whole : Bool) (front : JournalData) (found : Verdict) → IsFrontOf most_judged (length c.loaded.script.tracks) c.text whole front → Tells found whole (length front.rounds) → IsVerdict c.loaded.script c.loaded.files front c.pcm found → IsJudgedIn c found
 front_judged c true front found f tells v =
     judged c found (f.reading, record { reads = f.reads; only = f.only }, subst (λ j. IsVerdict c.loaded.script c.loaded.files j c.pcm found) ((f.same refl).0 ∙ sym (f.same refl).1) v)
@@ -43,21 +43,21 @@ front_judged c false front (verdict.Refused (refused.Round round party)) f tells
     let b = f.begins refl in
     (f.reading, record { reads = f.reads; only = f.only }, begins_fault c.loaded.script c.loaded.files front (judged_of f.reading) (length front.rounds - 1) round party b.first b.marks (omega (arith, tells)) v)
 
--- and so is what is found of one that ends behind a round at fault
+-- what is found of a front that ends behind a round at fault is what is found of the text
 pub whole_judged : (c : asked.Case) (whole : Bool) (front : JournalData) (found : Verdict) → IsFrontOf most_judged (length c.loaded.script.tracks) c.text whole front → (whole ≡ false → EndsBeyond 16 64 front) → IsVerdict c.loaded.script c.loaded.files front c.pcm found → IsJudgedIn c found
 whole_judged c true front found f beyond v = front_judged c true front found f tt v
 whole_judged c false front found f beyond v = front_judged c false front found f (beyond_tells c.loaded.script c.loaded.files front c.pcm (beyond refl) found v) v
 
--- the whole tells all that is found of it
+-- whatever is found of the whole holds of it
 pub tells_whole : (found : Verdict) (whole : Bool) (rounds : ℕ) → whole ≡ true → Tells found whole rounds
 tells_whole found whole rounds is = subst (λ w. Tells found w rounds) (sym is) tt
 
--- and a front the faults before its last round
+-- a fault before the last round of a front holds of the whole
 pub tells_round : (round party rounds : ℕ) (whole : Bool) → round < rounds - 1 → Tells (verdict.Refused (refused.Round round party)) whole rounds
 tells_round round party rounds true lt = tt
 tells_round round party rounds false lt = omega (arith, lt)
 
--- the line of what was found tells it
+-- the line or the refusal says what was found
 pub told : (r : Result (String Global) Stop) (c : asked.Case) (found : Verdict) → FoundTo r found → IsJudgedIn c found → JudgesTo r c
 told (Ok line) c found f j = (f.0, subst (IsJudgedIn c) f.1 j)
 told (Err (stop.Over (ending.Judged refusal))) c found f j = subst (IsJudgedIn c) f j
@@ -66,7 +66,7 @@ told (Err (stop.Refused refusal)) c found f j = absurd f
 told (Err stop.Store) c found f j = absurd f
 told (Err stop.Memory) c found f j = tt
 
--- and a text that wasn't read is refused
+-- a text that wasn't read is refused
 pub refused_text : (s : Stop) (c : asked.Case) → IsUnread s c.loaded.script c.text → JudgesTo (Err s) c
 refused_text (stop.Over (ending.Judged (refused.Text line))) c h = h
 refused_text (stop.Over (ending.Judged (refused.Round round party))) c h = absurd h

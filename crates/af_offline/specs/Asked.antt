@@ -34,7 +34,7 @@ Err refusal >>= next = Err refusal
 abbrev pub then_cons : {X : Type 0} → X → Result (List X) Refusal → Result (List X) Refusal
 then_cons x rest = rest >>= (λ xs. Ok (x ∷ xs))
 
--- what is to be made: these bytes and this line, or what the turns of a script come to with the frames of its tracks' files, or what its parties come to in rounds, with the journal in a file of this name; or the same with the log, which has this room, in another; or a sound and the text of its journal are judged by a script and the frames of its tracks' files, and nothing is made
+-- what is to be made. `Exact`: these bytes and this line. `Session`: what the turns of a script come to with the frames of its tracks' files. `Rounds`: what its parties come to in rounds, with the journal in a file of this name. `Judge`: nothing, as a sound and the text of its journal are judged by a script and the frames of its tracks' files. `Traced`: what the parties come to in rounds, with the journal and the log in files of these names, and this room for the log
 pub data Work : Type 0 where
   Exact : List ℕ → List ℕ → Work
   Session : ScriptData → List (List Frame) → Work
@@ -69,17 +69,17 @@ abbrev pub loaded : Role → ℕ → Option (List ℕ) → Result (List ℕ) Ref
 loaded part limit None = Err (File (record { role = part; why = Missing }))
 loaded part limit (Some bytes) = if nat_le (length bytes) limit then Ok bytes else Err (File (record { role = part; why = Long }))
 
--- a file's bytes, where those of the files so far are not too many
+-- a file's bytes, if those of all files up to it are not too many
 abbrev pub counted : ℕ → ℕ → List ℕ → Result (List ℕ) Refusal
 counted number total bytes =
     if nat_le (total + length bytes) most_files then Ok bytes else Err (File (record { role = role.Track number; why = Total (total + length bytes) }))
 
--- the frames of a track's file that is no part of a frame too long
+-- the frames of a track's file, if its bytes are whole frames
 abbrev pub frames_in : ℕ → Bool → List ℕ → Result (List Frame) Refusal
 frames_in number mono bytes =
     if length bytes % frame_width mono == 0 then Ok (frames_from mono bytes) else Err (File (record { role = role.Track number; why = Ragged (length bytes) }))
 
--- the frames of a track's file, where they are as many as its client writes
+-- the frames of a track's file, if they are at least as many as its client writes
 abbrev pub enough_of : ℕ → ℕ → List Frame → Result (List Frame) Refusal
 enough_of number asked frames =
     if nat_le asked (length frames) then Ok frames else Err (File (record { role = role.Track number; why = Short (length frames) asked }))
@@ -128,11 +128,11 @@ pub record Case : Type 0 where
   pub pcm : List ℕ
   pub text : List ℕ
 
--- they are judged
+-- a sound and the text of its journal are judged
 abbrev pub verify_job : List ℕ → Case → Job
 verify_job sound c = record { first = []; target = sound; work = Judge c.loaded.script c.loaded.files c.pcm c.text }
 
--- the same, with its log in a file of another
+-- a script is played in rounds, with its journal and its log in files of these names, and this room for the log
 abbrev pub trace_job : List ℕ → List ℕ → List ℕ → ℕ → Loaded → Job
 trace_job target journal log room l = record { first = []; target = target; work = Traced l.script l.files journal log room }
 
@@ -188,7 +188,7 @@ case_of files script sound journal =
 abbrev pub verify_asked : Files → List ℕ → List ℕ → List ℕ → Result Job Refusal
 verify_asked files script sound journal = case_of files script sound journal >>= (λ c. Ok (verify_job sound c))
 
--- the same with a log, of this name and this room
+-- what is made of a script that is traced, for an output, a journal and a log of these names, and this room for the log
 abbrev pub trace_asked : Files → List ℕ → List ℕ → List ℕ → List ℕ → ℕ → Result Job Refusal
 trace_asked files script target journal log room = loaded_of files script >>= (λ l. Ok (trace_job target journal log room l))
 

@@ -11,11 +11,11 @@ use Rattle.af_offline.specs.Recorded.{Counts, Recording}
 abbrev pub word_bytes : ℕ → List ℕ
 word_bytes word = word % 256 ∷ word / 256 % 256 ∷ word / 65536 % 256 ∷ word / 16777216 % 256 ∷ []
 
--- how far it has come, by the words of frames
+-- how far a recording at work has come, by the words of frames
 abbrev pub state_of : Tape → Recording ℕ
 state_of tape = record { read = tape.hand.read; queued = tape.hand.queued; lost = tape.lost }
 
--- it has these sizes and the bytes of all that was read, and each frame was read, is queued or was lost
+-- a recording at work has these sizes and the bytes of all that was read, and each frame was read, is queued or was lost
 pub record IsTape (sizes : Sizes) (tape : Tape) : Type 0 where
   pub sound : AreSizes sizes
   pub size : tape.hand.size ≡ sizes.room

@@ -30,11 +30,11 @@ drawn_bytes x (suc count) = sample_bytes (sample_of (next_draw x)) ++ drawn_byte
 
 -- ## Files
 
--- the samples of a track's file: 100000 frames of one channel, or of two where its number is odd
+-- the samples of a track's file: 100000 frames of one channel, or of two if its number is odd
 abbrev pub samples_of : ℕ → ℕ
 samples_of track = 100000 * (1 + track % 2)
 
--- the samples of the files before it
+-- the samples of the files before a track's
 abbrev pub samples_before : ℕ → ℕ
 samples_before track = 100000 * (track + track / 2)
 
@@ -42,7 +42,7 @@ samples_before track = 100000 * (track + track / 2)
 unfoldable pub generated_file : ℕ → ℕ → List ℕ
 generated_file number track = drawn_bytes (drawn number (samples_before track)) (samples_of track)
 
--- the same, with its name
+-- a track's file, with its name
 abbrev pub drawn_file : ℕ → ℕ → NamedFile
 drawn_file number track = record { name = generated_name track; bytes = generated_file number track }
 

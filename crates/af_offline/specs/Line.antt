@@ -42,14 +42,14 @@ abbrev pub ending_text : Ending → List ℕ
 ending_text (Limit cycles) = limit_text cycles
 ending_text (Judged refusal) = judged_text refusal
 
--- which file it is
+-- the words for a file's role
 abbrev pub role_text : Role → List ℕ
 role_text role.Script = codes "script"
 role_text (role.Track number) = codes "track " ++ decimal number
 role_text role.Pcm = codes "pcm"
 role_text role.Journal = codes "journal"
 
--- what is wrong with it
+-- the words for what is wrong with a file
 abbrev pub why_text : Why → List ℕ
 why_text Missing = codes "missing"
 why_text Long = codes "long"

@@ -23,11 +23,11 @@ call_under setting places = record { setting = setting; gains = unity; places = 
 abbrev pub calls_under : Setting → ℕ → ℕ → List Call
 calls_under setting places calls = replicate calls (call_under setting places)
 
--- the one setting, which the first call sees
+-- the one setting of a loop, which the first call sees
 abbrev pub setting_of : Turns → Setting
 setting_of turns = record { number = 1; start = turns.start; end = turns.end; count = turns.count }
 
--- what is heard of all calls
+-- what is heard of all calls of a loop
 abbrev pub looped : Turns → List Frame → List Frame
 looped turns frames = outputs_of frames unplayed (calls_under (setting_of turns) turns.places turns.calls)
 
@@ -52,7 +52,7 @@ next_setting hand = if is_valid (length hand.frames) hand.used then hand.newest 
 abbrev pub heard_in : HandState → Turns → List Frame
 heard_in hand turns = outputs_of hand.frames (standing_in hand) (calls_under hand.newest turns.places turns.calls)
 
--- how many calls there were, how many frames they took, and whether the player is shut
+-- how many calls a buffer in hand has, how many frames they take, and whether the player is shut
 abbrev pub rolls_from : HandState → Turns → Rolls
 rolls_from hand turns = record {
   cycles = turns.calls;

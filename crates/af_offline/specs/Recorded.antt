@@ -10,21 +10,21 @@ pub record Recording (X : Type 0) : Type 0 where
   pub lost : ℕ
 
 module _ {X : Type 0} where
-  -- before the first period
+  -- a recording before the first period
   abbrev pub empty : Recording X
   empty = record { read = []; queued = []; lost = 0 }
 
-  -- the first frames that there is room for are put, and the others are lost
+  -- a supply puts the first frames that there is room for, and the others are lost
   abbrev pub supplied : ℕ → List X → Recording X → Recording X
   supplied room frames r =
       let put = min (length frames) (room - length r.queued) in
       record { read = r.read; queued = r.queued ++ take put frames; lost = r.lost + (length frames - put) }
 
-  -- up to so many of the frames that are queued are read
+  -- a read takes up to so many of the frames that are queued
   abbrev pub read_up_to : ℕ → Recording X → Recording X
   read_up_to count r = record { read = r.read ++ take count r.queued; queued = drop count r.queued; lost = r.lost }
 
-  -- a supply of these frames, and a read
+  -- a period: a supply of these frames, and then a read
   abbrev pub period : Sizes → List X → Recording X → Recording X
   period sizes frames r = read_up_to sizes.read (supplied sizes.room frames r)
 
@@ -34,11 +34,11 @@ module _ {X : Type 0} where
   periods sizes (suc count) [] r = r
   periods sizes (suc count) (frame ∷ frames) r = periods sizes count (drop sizes.supply (frame ∷ frames)) (period sizes (take sizes.supply (frame ∷ frames)) r)
 
-  -- all frames are supplied: each period takes at least one
+  -- a recording after all frames are supplied: each period takes at least one
   abbrev pub recorded : Sizes → List X → Recording X
   recorded sizes frames = periods sizes (length frames) frames empty
 
-  -- reads until one gives nothing take all that is queued
+  -- all frames that are heard: reads until one gives nothing take all that is queued
   abbrev pub heard : Recording X → List X
   heard r = r.read ++ r.queued
 

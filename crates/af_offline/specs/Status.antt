@@ -37,7 +37,7 @@ abbrev pub stop_of : StoreError → Stop
 stop_of outside.Failed = Store
 stop_of outside.Memory = Memory
 
--- a step answers what is told, but for faults of the outside and want of memory
+-- a step answers as defined, unless the store or the sink failed or memory ran out
 abbrev pub Meets : {X Y : Type 0} → (X → Y) → Result X Stop → Result Y Refusal → Type 0
 Meets view (Ok x) told = told ≡ Ok (view x)
 Meets view (Err (Refused refusal)) told = told ≡ Err refusal
@@ -45,13 +45,13 @@ Meets view (Err (Over over)) told = ⊥
 Meets view (Err Store) told = Unit {0}
 Meets view (Err Memory) told = Unit {0}
 
--- the count of faults never falls, and rises exactly where the step stops by the store
+-- the count of faults never falls, and rises exactly if the step stops by the store
 pub record HasFault {X : Type 0} (before now : ℕ) (result : Result X Stop) : Type 0 where
   pub later : before ≤ now
   pub fault : IsErrOf result Store → Rose before now
   pub only : before < now → IsErrOf result Store
 
--- neither of two counts falls, and one of them rises exactly where the step stops by the store or the sink
+-- neither of two counts falls, and one of them rises exactly if the step stops by the store or the sink
 pub record HasEitherFault {X : Type 0} (before now other_before other_now : ℕ) (result : Result X Stop) : Type 0 where
   pub later : before ≤ now
   pub other_later : other_before ≤ other_now
@@ -59,7 +59,7 @@ pub record HasEitherFault {X : Type 0} (before now other_before other_now : ℕ)
   pub only : before < now → IsErrOf result Store
   pub other_only : other_before < other_now → IsErrOf result Store
 
--- The counts of the store's and the sink's faults never fall, and one of them rises exactly where the answer is StoreFault.
+-- The counts of the store's and the sink's faults never fall, and one of them rises exactly if the answer is StoreFault.
 pub record CountsFaults (before now other_before other_now : ℕ) (ended : Status) : Type 0 where
   pub later : before ≤ now
   pub other_later : other_before ≤ other_now
@@ -78,12 +78,12 @@ abbrev pub IsVerifyRequest : Request → Type 0
 IsVerifyRequest (Verify script sound journal) = Unit {0}
 IsVerifyRequest request = ⊥
 
--- an ending comes of its command alone
+-- an ending belongs to its request: a limit to a play, and a refusal of the judge to a verification
 abbrev pub SuitsEnding : Ending → Request → Type 0
 SuitsEnding (ending.Limit cycles) request = IsPlayRequest request
 SuitsEnding (ending.Judged refusal) request = IsVerifyRequest request
 
--- a stop by the store or the sink, or by want of memory
+-- a stop by the store or the sink, or since memory ran out
 abbrev pub IsOutside : Stop → Type 0
 IsOutside (Refused refusal) = ⊥
 IsOutside (Over over) = ⊥
@@ -101,7 +101,7 @@ abbrev pub SuitsRequest : {X : Type 0} → Result X Stop → Request → Type 0
 SuitsRequest (Err (Over over)) request = SuitsEnding over request
 SuitsRequest result request = IsNoUsage result
 
--- the words are refused exactly where they name nothing
+-- the words are refused exactly if they name nothing
 abbrev pub RefusesWords : {X Y : Type 0} → Result X Stop → Option Y → Type 0
 RefusesWords (Ok _) names = IsTrue (is_some names)
 RefusesWords (Err (Refused Usage)) names = names ≡ None
@@ -109,7 +109,7 @@ RefusesWords (Err (Refused refusal)) names = IsTrue (is_some names)
 RefusesWords (Err (Over over)) names = IsTrue (is_some names)
 RefusesWords (Err _) names = Unit {0}
 
--- The words don't fit exactly where the answer is Usage. A sink that failed and want of memory may stand in its place.
+-- The answer is Usage exactly if the words don't fit. A sink that failed or memory that ran out may stand in its place.
 abbrev pub JudgesWords : {X : Type 0} → Status → Option X → Type 0
 JudgesWords status.Usage names = names ≡ None
 JudgesWords status.StoreFault names = Unit {0}

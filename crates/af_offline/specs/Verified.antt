@@ -22,11 +22,11 @@ use Rattle.af_offline.specs.declared.status.Ending.TheVariants as ending
 use Rattle.af_offline.specs.declared.status.Stop.{Stop}
 use Rattle.af_offline.specs.declared.status.Stop.TheVariants.{Over, Memory}
 
--- this journal is the one reading of the text, for as many tracks as the script has
+-- a journal is the one reading of a text, for as many tracks as the script has
 abbrev pub IsTextFor : ScriptData → List ℕ → JournalData → Type 0
 IsTextFor script text journal = IsOneReading (length script.tracks) text journal
 
--- the text has one reading, and this is what is found of what of that journal is judged, and the sound
+-- the text has one reading, and this is the verdict on the judged part of that journal and on the sound
 abbrev pub IsOfJournal : ScriptData → List (List Frame) → List ℕ → List ℕ → Verdict → Type 0
 IsOfJournal script files pcm text found = (journal : JournalData) × IsTextFor script text journal × IsVerdict script files (judged_of journal) pcm found
 
@@ -35,7 +35,7 @@ abbrev pub IsJudged : ScriptData → List (List Frame) → List ℕ → List ℕ
 IsJudged script files pcm text (verdict.Refused (refused.Text line)) = IsFirstBad (HasReading (length script.tracks)) text line
 IsJudged script files pcm text found = IsOfJournal script files pcm text found
 
--- how the command ends, where a text wasn't read
+-- how the command ends if a text wasn't read
 abbrev pub unread : JournalFault → Stop
 unread (fault.Line number) = Over (ending.Judged (refused.Text number))
 unread fault.Memory = Memory
@@ -51,12 +51,12 @@ abbrev pub BeginsTo : Result Front Stop → ScriptData → List ℕ → Type 0
 BeginsTo (Ok front) script text = IsFrontOf most_judged (length script.tracks) text front.whole front.journal
 BeginsTo (Err stop) script text = IsUnread stop script text
 
--- the same, to the end of the text or to a round that is at fault
+-- a text was read to its end or to a round that is at fault, or the text refused
 abbrev pub ReadsTo : Result Front Stop → ScriptData → List ℕ → Type 0
 ReadsTo (Ok front) script text = IsFrontOf most_judged (length script.tracks) text front.whole front.journal × (front.whole ≡ false → EndsBeyond most_entries most_looks front.journal)
 ReadsTo (Err stop) script text = IsUnread stop script text
 
--- what is found of a journal by which a text begins is found of the text's own: it is the whole, or the fault is in a round before its last one
+-- what is found of the front of a journal holds of the whole: the front is the whole, or the fault is in a round before the front's last one
 abbrev pub Tells : Verdict → Bool → ℕ → Type 0
 Tells found true rounds = Unit {0}
 Tells (verdict.Refused (refused.Round round party)) false rounds = round + 1 < rounds
@@ -69,7 +69,7 @@ FoundTo (Err (Over (ending.Judged refusal))) found = found ≡ verdict.Refused r
 FoundTo (Err Memory) found = Unit {0}
 FoundTo (Err stop) found = ⊥
 
--- the same of what is judged
+-- what is found of the sound and the text of a case
 abbrev pub IsJudgedIn : asked.Case → Verdict → Type 0
 IsJudgedIn c found = IsJudged c.loaded.script c.loaded.files c.pcm c.text found
 
@@ -78,7 +78,7 @@ abbrev pub Finds : Result Verdict Stop → asked.Case → Type 0
 Finds (Ok found) c = IsJudgedIn c found
 Finds (Err stop) c = IsUnread stop c.loaded.script c.text
 
--- the same, where it may be open as well
+-- something was found of a sound and the text of its journal, or it is still open, or the text refused
 abbrev pub FindsFront : Result (Option Verdict) Stop → asked.Case → Type 0
 FindsFront (Ok None) c = Unit {0}
 FindsFront (Ok (Some found)) c = IsJudgedIn c found
@@ -91,6 +91,6 @@ JudgesTo (Err (Over (ending.Judged refusal))) c = IsJudgedIn c (verdict.Refused 
 JudgesTo (Err Memory) c = Unit {0}
 JudgesTo (Err stop) c = ⊥
 
--- what was loaded
+-- what was loaded to be judged
 abbrev pub case_view : Case → asked.Case
 case_view c = record { loaded = loaded_view c.loaded; pcm = c.pcm.items; text = c.text.items }

@@ -48,7 +48,7 @@ fn counts_line(alloc: Global, counts: &Counted) -> Result<String, AllocError>
     format!(in alloc; "{counts}")
 }
 
-/// Reads once, and adds the bytes of what was read. How many frames.
+/// Reads once, and adds the bytes of what was read. Answers how many frames.
 fn read_once(hand: &mut InHand, places: &mut [Frame], bytes: &mut Vec<u8>) -> Result<u32, Memory>
     requires places { (1 ≤ length places.old) × (length places.old ≤ 1024) }
     requires few { length hand.old.read ≤ 2097152 }
@@ -85,7 +85,7 @@ impl Tape {
         })
     }
 
-    /// Reads once, and adds the bytes of what was read. How many frames.
+    /// Reads once, and adds the bytes of what was read. Answers how many frames.
     fn read(&mut self, sizes: Sizes) -> Result<u32, Memory>
         requires tape { IsTape sizes self.old }
         ensures tape { OnOk result (IsTape sizes self.new) }

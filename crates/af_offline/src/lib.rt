@@ -1,4 +1,4 @@
-//! What the commands do with files alone, where no session is played: scripts and the files of their tracks are loaded, a file is recorded or looped, a sound and its journal are judged, the files of a generated session are drawn, and each end has its status and its line.
+//! What the commands do with files alone, when no session is played: scripts and the files of their tracks are loaded, a file is recorded or looped, a sound and its journal are judged, the files of a generated session are drawn, and each end has its status and its line.
 #![tactic(auto)]
 
 mod capture;

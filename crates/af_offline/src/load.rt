@@ -106,7 +106,7 @@ fn frames_asked(ops: &[Op]) -> u64
     asked
 }
 
-/// The frames of a track's file, where they are as many as its client writes.
+/// The frames of a track's file, if they are at least as many as its client writes.
 fn enough_of(number: u32, ops: &[Op], pcm: Pcm) -> Result<Pcm, Stop>
     requires { length ops.now ≤ 4097 }
     ensures enough { Meets (λ pcm. pcm) result (enough_of number (frames_to_come ops.now) pcm) }

@@ -19,15 +19,15 @@ pub enum Role {
 /// What is wrong with a file. Lengths are in bytes.
 #[derive(Clone, Copy, Debug, PartialEq, Eq)]
 pub enum Why {
-    /// It isn't there.
+    /// The file isn't there.
     Missing,
-    /// It is longer than its limit.
+    /// The file is longer than its limit.
     Long,
-    /// Its length is no multiple of a frame's.
+    /// The file's length is no multiple of a frame's.
     Ragged { length: u64 },
-    /// It has fewer frames than its track's client writes.
+    /// The file has fewer frames than its track's client writes.
     Short { frames: u64, asked: u64 },
-    /// With it the tracks' files together pass their limit.
+    /// With this file the tracks' files together pass their limit.
     Total { bytes: u64 },
 }
 
@@ -46,7 +46,7 @@ pub enum Refusal {
     File(FileFault),
 }
 
-/// How a work that came to its end is told, where it isn't done.
+/// How a work came to its end if it isn't done.
 #[derive(Clone, Copy, Debug, PartialEq, Eq)]
 pub enum Ending {
     /// A play whose log is full was cut off, at so many cycles. Its files are whole.
@@ -168,7 +168,7 @@ impl Status {
     ghost use Rattle.std.specs.Prelude.{◌≡◌};
     ghost use Rattle.af_offline.specs.Status.{code_of};
 
-    /// The exit status: 0 where the command is done.
+    /// The exit status: 0 if the command is done.
     pub fn code(&self) -> u8
         ensures { result ≡ code_of self.now }
     {

@@ -17,7 +17,7 @@ use std::alloc::Global;
 /// The most bytes of a journal.
 const MOST_JOURNAL: u64 = 1 << 30;
 
-/// How the command ends, where a text wasn't read.
+/// How the command ends if a text wasn't read.
 fn unread(fault: JournalFault) -> Stop
     ensures { result ≡ unread fault }
 {
@@ -102,7 +102,7 @@ fn tells(found: Verdict, front: &Front) -> bool
     }
 }
 
-/// What is found of a sound and the text of its journal by what the text begins with, where that tells it.
+/// What is found of a sound and the text of its journal by what the text begins with, if that is enough.
 #[tactic(auto, using(crate::proofs::Loads::served_count))]
 fn judge_front(alloc: Global, case: &Case) -> Result<Option<Verdict>, Stop>
     requires { AreFilesFor case.now.loaded }

@@ -57,7 +57,7 @@ const STILL: &str = "y 1 0\nz 0 4096 0 268439552 0 0 e\nz 1 4096 0 268439552 0 0
 const ENDED: &str =
     "R\nC 0\nt 792\ns 6 6 0\nN 8 1 17\nq 0 0 6 e\na 0 792\nP 1 2\nF\ny 2 2\nR\nN 8 1 18\nq 0 0 8 f 2\nh 0000000600000000\nq 0 0 8 e\na 0 1048\nP 1 3\nF\ny 3 3\nR\nE\n";
 
-/// Its script.
+/// The script of that track without frames.
 const EMPTY: &str =
     "version = 1\nframes = 2\nnormal = 1\ncycles = 1024\n[[track]]\nkind = \"fast\"\nframes = 8\nchannels = 2\nfile = \"in.pcm\"\nops = [\"open\", \"start\", \"stop\", \"drain\", \"remove\"]\n";
 
@@ -65,7 +65,7 @@ const EMPTY: &str =
 const LATE: &str =
     "version = 1\nframes = 2\nnormal = 1\ncycles = 300\n[[track]]\nkind = \"fast\"\nframes = 4\nchannels = 2\nfile = \"in.pcm\"\nops = [\"open\", \"start\"]\n[[track]]\nkind = \"fast\"\nframes = 4\nchannels = 2\nfile = \"in.pcm\"\nops = [\"open\", \"yield\", \"start\", \"write 1\", \"stop\", \"drain\"]\n";
 
-/// A journal of it that no order of a play makes. The later track is attached in round 1, whose push is Busy; the normal mixer's turn of round 2 pushes its state, and loads the report of the entries behind that push. What comes before sixteen silent cycles, before fifteen more, and behind them.
+/// A journal of two tracks that no order of a play makes. The later track is attached in round 1, whose push is Busy; the normal mixer's turn of round 2 pushes its state, and loads the report of the entries behind that push. What comes before sixteen silent cycles, before fifteen more, and behind them.
 const ATTACHED: &str =
     "R\nC 0\ns 0 1 0\ns 0 2 0\nt 0\nC 1\ns 0 1 0\nN 8 1 1\nq 0 0 4 f 2\nh 0000000100000000\nq 0 0 4 f 2\nh 0000000200000000\nq 0 0 4 e\na 0 514\nq 1 0 2 f 2\nh 0000000100000000\nq 1 0 2 e\na 1 257\nP 1 1\nF\ny 0 1\nR\nC 0\nt 514\ns 4 6 0\nC 1\ns 2 2 0\nt 257\nN 8 0 1\nq 0 0 6 f 2\nh 0000000600000000\nq 0 0 6 e\na 0 770\nq 1 0 4 f 2\nh 0000000200000000\nq 1 0 4 e\na 1 514\nP 2 0 1\nF\n";
 
@@ -190,7 +190,7 @@ fn journals_are_legal(rt: HostRuntime) -> Result<(), Fail> {
     Ok(())
 }
 
-/// Each kind of line damaged, one left out, and cuts before each round and behind the last; and what a damage that no reader can tell leaves: a legal journal.
+/// Each kind of line damaged, one left out, and cuts before each round and behind the last; and what a damage that no reader can see leaves: a legal journal.
 const DAMAGES: &[Damage<'static>] = &[
     (0, 2, "", "line 1"),
     (2, 4, "C 1\n", "line 2"),
@@ -272,7 +272,7 @@ fn expect_damage<R: Abort>(
     expect_verdict(rt, alloc, store, line.as_str())
 }
 
-/// The same with each of some damages.
+/// What is found in a session's journal with each of some damages.
 fn expect_found<R: Abort>(
     rt: &R,
     alloc: Global,

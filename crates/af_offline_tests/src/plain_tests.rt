@@ -63,7 +63,7 @@ fn plain_loop(
     Ok((bytes, filled))
 }
 
-/// What is made of a file by a request, None where it asks for another command or memory ran out.
+/// What is made of a file by a request, None if it asks for another command or memory ran out.
 fn output_of(alloc: Global, mut store: MemStore, request: Request<'_>) -> Option<Output>
     requires { IsSound request }
 {
@@ -124,7 +124,7 @@ fn recording_words(alloc: Global, (_, room, supply, read): Recording) -> Result<
     Ok(format!(in alloc; "record in.pcm out.pcm {room} {supply} {read}")?)
 }
 
-/// Its line, where so many frames are heard.
+/// The line of a recording of which so many frames are heard.
 fn recording_line(alloc: Global, count: u8, heard: usize) -> Result<String, Fail> {
     let lost = usize::from(count).saturating_sub(heard);
     Ok(format!(in alloc; "supplied {count} read {heard} lost {lost}\n")?)
@@ -151,7 +151,7 @@ fn recordings_are_as_the_plain_one(rt: HostRuntime) -> Result<(), Fail> {
 /// A loop of 20 frames: the frames of a call, the calls, the start, the end and the count, and whether its places fit the buffer.
 type Loop = (u32, u32, u32, u32, u32, bool);
 
-/// Of 15 and of 16 frames, of the whole buffer, without jumps, with one, with more and without end, and starts and ends that a buffer doesn't have.
+/// Loops of 15 and of 16 frames, of the whole buffer, without jumps, with one, with more and without end, and starts and ends that a buffer doesn't have.
 const LOOPS: &[Loop] = &[
     (8, 5, 2, 18, 1, true),
     (8, 5, 2, 17, 1, false),
@@ -176,7 +176,7 @@ fn loop_words(alloc: Global, played: Loop) -> Result<String, Fail> {
     Ok(format!(in alloc; "loop in.pcm out.pcm {places} {calls} {start} {end} {count}")?)
 }
 
-/// Its line, where so many frames are taken.
+/// The line of a loop of which so many frames are taken.
 fn loop_line(alloc: Global, calls: u32, filled: u32, fits: bool) -> Result<String, Fail> {
     let shut = u32::from(!fits);
     Ok(format!(in alloc; "cycles {calls} filled {filled} shut {shut}\n")?)

@@ -42,11 +42,11 @@ module _ (s : Session) (form : IsScript s.script) (many : ℕ) (marks : Marks) w
   AllForms [] = Unit {0}
   AllForms (round ∷ rounds) = RoundForm many round × AllForms rounds
 
-  -- no block was poked
+  -- no block of the run was poked
   abbrev pub IsTame : Run → Type 0
   IsTame run = (n : ℕ) → n < many → (is_tame (told_at run n).stream ≡ true) × (is_tame (told_at run n).commands ≡ true)
 
-  -- at the end of each round
+  -- no block was poked up to the end of each round
   abbrev pub AllTame : Run → List TurnSpec → List RoundSeen → Type 0
   AllTame run [] rounds = Unit {0}
   AllTame run (turn ∷ turns) [] = Unit {0}
@@ -59,7 +59,7 @@ module _ (s : Session) (form : IsScript s.script) (many : ℕ) (marks : Marks) w
       let next = with_ends (met_alone s run turn round) in
       follows_then run next (run_alone s next turns rounds) (round_follows s form many run turn round forms.0) (rounds_follow next turns rounds forms.1)
 
-  -- the streams at the end
+  -- the streams are told at the end
   abbrev StreamsTold : Run → Type 0
   StreamsTold run = (n : ℕ) → n < many → IsBlockTold (file_words s n) (told_at run n).stream
 

@@ -77,7 +77,7 @@ cycle_takes asked s slot front = by_shut (is_some (kept s).shut)
 pub counted_served : (b : BlockTold) (es : List ServerEvent) (words : List ℕ) → length words ≡ served_in es → IsCounted b → IsCounted (took words (server_does es b))
 counted_served b es words long counted = let n = length-append b.taken words in let m = takes_more b.told (map by_server es) in omega (arith, n, m, long, counted)
 
--- a block that was played in a slot
+-- a block that was played in a slot stays counted
 pub counted_played : (asked : ℕ) (e : EntrySeen) (i : ℕ) (b : BlockTold) → i < slots → length e.frames ≡ taken_before e.entry slots → IsCounted b → IsCounted (played asked e i b)
 counted_played asked e i b low long counted =
     let slot = entry_slot e.entry i in

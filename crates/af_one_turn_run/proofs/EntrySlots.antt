@@ -20,7 +20,7 @@ use Rattle.af_one_turn_run.proofs.OneTakes.{bare_slot}
 
 -- ## The slot of a track
 
--- the only number for which this holds is found
+-- the only number that passes the test is found
 find_only : (p : ℕ → Bool) (a n k : ℕ) → p k ≡ true → ((j : ℕ) → j < a + n → p j ≡ true → j ≡ k) → a ≤ k → k < a + n → find p (range_with_len a n) ≡ Some k
 find_only p a zero k holds only low high = absurd (let z : ⊥ = omega (arith, low, high) in z)
 find_only p a (suc n) k holds only low high = by_first (p a) refl (λ ne. find_only p (a + 1) n k holds (λ j lt. only j (omega (arith, lt))) (omega (arith, low, ne)) (omega (arith, high)))

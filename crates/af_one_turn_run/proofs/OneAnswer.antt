@@ -49,7 +49,7 @@ module _ (frames cells base : ℕ) (events : List ClientEvent) (p : TrackPoint) 
   abbrev Sees : ClientCall → Type 0
   Sees answer = ClientSees p n (client_events_of frames base events answer)
 
-  -- a proxy that isn't shut and finds no INVALID, or finds it
+  -- the call of a proxy that isn't shut and finds no INVALID, or finds it
   valid : (corrupt : ℕ → ℕ → ClientCall) (here dead : ClientCall) → kept.shut ≡ None → bit_and p.flags 4 ≡ 0 → here ≡ call_by kept.shut (is_valid p) corrupt here dead
   valid corrupt here dead free zero = λ i. call_by (sym free i) (sym (eq-eqb (bit_and p.flags 4) 0 zero) i) corrupt here dead
 
@@ -74,12 +74,12 @@ module _ (frames cells base : ℕ) (events : List ClientEvent) (p : TrackPoint) 
           (λ i. corrupt (s.1 i) (h.0 i)) ∙ by_front (wrapped p.consumed) (subst (λ f. frames < filled_by kept f) s.1 h.1) ∙ (λ i. call_by None (sym (eq-eqb (bit_and p.flags 4) 0 s.0) i) corrupt (valid_is (wrapped p.consumed)) dead)
       by_shut (Some words) is h sees = λ i. corrupt (sym h i).0 (sym h i).1
 
-  -- what a call saw that found its block corrupt, where it looked
+  -- what a call saw that found its block corrupt, if it looked
   saw_both : (b : Bool) (front : ℕ) → ClientSees p n (if b then [] else client.SawFlags 0 ∷ client.SawFront front ∷ []) → b ≡ false → (bit_and p.flags 4 ≡ 0) × (front ≡ wrapped p.consumed)
   saw_both true front sees is = absurd (true≢false is)
   saw_both false front sees is = (sees.0, sees.1.0)
 
-  -- a write
+  -- a write has one answer
   written_so : (asked : ℕ) (answer : ClientCall) → is_write answer ≡ true → ClientAnswers frames cells base events asked answer → Sees answer → answer ≡ written frames cells kept asked p
   written_so asked (call.Put front count) is h sees =
       (λ i. call.Put (sees.1.0 i) (h.2 i)) ∙ (λ i. call.Put (wrapped p.consumed) (put_count frames cells kept (sees.1.0 i) asked))
@@ -97,7 +97,7 @@ module _ (frames cells base : ℕ) (events : List ClientEvent) (p : TrackPoint) 
       h (saw_both (is_some kept.shut) front sees)
   written_so asked answer is h sees = absurd (true≢false (sym is))
 
-  -- a send
+  -- a send has one answer
   sent_so : (asked code argument : ℕ) (answer : ClientCall) → is_send code argument answer ≡ true → ClientAnswers frames cells base events asked answer → Sees answer → answer ≡ sent frames kept code argument p
   sent_so asked code argument (call.Sent front sent_code sent_argument) is h sees =
       (λ i. call.Sent (sees.1.0 i) (eqb-true sent_code code (both-true (sent_code == code) (sent_argument == argument) is).0 i) (eqb-true sent_argument argument (both-true (sent_code == code) (sent_argument == argument) is).1 i))
@@ -133,7 +133,7 @@ write_side (call.Dead flags) is = refl
 write_side (call.Corrupt front rear) is = refl
 write_side answer is = absurd (true≢false (sym is))
 
--- a call of a track sees what is there, where its blocks stand at these points, with so many events of their servers
+-- a call of a track sees what is there, if its blocks stand at these points, with so many events of their servers
 pub record Points : Type 0 where
   pub stream : TrackPoint
   pub commands : TrackPoint
@@ -195,6 +195,6 @@ module _ (t : Track) (p : Points) where
   made_so want.Rest answer h sees = absurd h.0
   made_so want.Leave answer h sees = send_made (code_of command.Remove) 0 0 answer h.0 h.1 sees
 
-  -- so two such answers are the same
+  -- two answers to a want that see what is there are the same
   pub one_answer : (wanted : Want) (a b : ClientCall) → IsMade t wanted a → CallSees t p a → IsMade t wanted b → CallSees t p b → a ≡ b
   one_answer wanted a b made sees made_b sees_b = made_so wanted a made sees ∙ sym (made_so wanted b made_b sees_b)

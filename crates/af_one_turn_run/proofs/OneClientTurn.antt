@@ -16,7 +16,7 @@ use Rattle.af_one_turn_run.proofs.OneAnswer.{Points, point_at, served_at, events
 
 -- ## The events of calls on one block
 
--- these events, where both flags are the same
+-- these events, if both flags are the same
 abbrev pub only_on : Bool → Bool → List ClientEvent → List ClientEvent
 only_on true true es = es
 only_on false false es = es

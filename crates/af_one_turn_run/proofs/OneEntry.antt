@@ -99,7 +99,7 @@ module _ (s : Session) (marks : Marks) (lawful : (n : ℕ) → marks.streams n �
     pub pipe : Legal (piped.legal (pipe_size (setup_of s))) piped.next piped.start (with_mix s e r).pipe.told
     pub pipe_taken : (with_mix s e r).pipe.taken ≡ take (length (with_mix s e r).pipe.taken) r.pipe.put
 
-  -- before the entry
+  -- how all is told before the entry
   pub record IsBeforeEntry (x : FastState) : Type 0 where
     pub tracks : length r.tracks ≡ many
     pub apart : CarriesApart x
@@ -133,7 +133,7 @@ module _ (s : Session) (marks : Marks) (lawful : (n : ℕ) → marks.streams n �
         (t.legal.lawful mixed i low) carried (lawful (slot_of x i).track) in
         same_answer asked k slot look.front (lawful_front asked k slot) (append_cancel_left k.events _ _ (sym look.list ∙ own)) look.looks
 
-    -- after the entry its block has its events
+    -- after the entry the block of a slot that the state carries has its events
     slot_plays : (i : ℕ) → i < slots → carries x i ≡ true → (told_at (with_mix s e r) (slot_of x i).track).stream ≡ played asked e i (block i)
     unfolding with_mix
     slot_plays i low carried =
@@ -144,7 +144,7 @@ module _ (s : Session) (marks : Marks) (lawful : (n : ℕ) → marks.streams n �
         ap (λ (z : TrackTold). z.stream) (each_at (mixed_track s (state_for s r e.entry.state) e) 0 r.tracks n n no_track few (omega arith) ∙ ap (λ (z : FastState). mixed_track s z e n (told_at r n)) state)
         ∙ ap (λ (o : Option ℕ). (elim o as (λ o. TrackTold) [ None ↦ told_at r n | Some i ↦ record (told_at r n) { stream = played asked e i (told_at r n).stream } ]).stream) found
 
-    -- so the slot is told
+    -- a slot that the state carries is told
     slot_told : (i : ℕ) → i < slots → carries x i ≡ true → (let b = block i in SlotTold (frames (slot_of x i).track) b.shape.base asked (listed b) (after (start b.shape) b.told) (length (client_of b.told)) (entry_slot e.entry i) (map packed_word (slot_frames e i)))
     slot_told i low carried =
         let b = block i in

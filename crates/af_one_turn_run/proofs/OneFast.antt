@@ -112,7 +112,7 @@ begin_of xs ys put g is =
     let all = ap length g.1 in
     sym (take_at xs g.0 (length xs) refl) ∙ ap (take (length xs)) (sym g.1 ∙ is) ∙ take-take (length xs) (length ys) put (omega (arith, long, all))
 
--- what was told before
+-- what is told at the end of the cycles was told before
 pub told_earlier : (s : Session) (many : ℕ) (frames : ℕ → List ℕ) (put : List ℕ) (run last : Run) → length run.tracks ≡ many → ((n : ℕ) → n < many → IsCounted (told_at run n).stream) → Follows run last → CyclesTold s many frames put last → CyclesTold s many frames put run
 told_earlier s many frames put run last tracks counted f t = record {
   streams = λ n low. (let few : n < length run.tracks = omega (arith, low, tracks) in told_before (frames n) (told_at run n).stream (told_at last n).stream (f.streams n few) (counted n low) (f.counted n few (counted n low)) (t.streams n low));

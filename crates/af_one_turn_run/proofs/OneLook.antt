@@ -59,7 +59,7 @@ pub record Look : Type 0 where
 abbrev pub look_of : SlotEntry → Look
 look_of slot = record { flush = slot.flush; rear = slot.rear; seen = slot.seen }
 
--- by the words that shut the server, or else by those at a point
+-- the look by the words that shut the server, or else by those at a point
 abbrev pub looked_by : Option (ℕ × ℕ) → ℕ → Listed → TrackPoint → Look
 looked_by None asked s p = record { flush = flush_word p; rear = wrapped p.released; seen = look_at s.shape (kept s).flush asked (flush_word p) (wrapped p.released) (wrapped p.consumed) }
 looked_by (Some words) asked s p = record { flush = (kept s).flush; rear = words.1; seen = seen.Shut words.0 words.1 }
@@ -72,7 +72,7 @@ abbrev pub looks_by : Listed → SlotEntry → ℕ → List ServerEvent
 looks_by s slot front = if is_some (kept s).shut then [] else look_events slot.seen slot.flush slot.rear front
 
 module _ (asked : ℕ) (s : Listed) (slot : SlotEntry) where
-  -- a legal look that sees what is there
+  -- a legal look that sees what is there is the look at the point
   pub look_so : (p : TrackPoint) (n : ℕ) → LooksBy asked s slot (lawful_front asked s slot) → ServerSees p n (looks_by s slot (lawful_front asked s slot)) → look_of slot ≡ looked asked s p
   look_so p n looks sees = by_shut (kept s).shut looks.1 sees
     where
@@ -92,7 +92,7 @@ module _ (asked : ℕ) (s : Listed) (slot : SlotEntry) where
       by_shut None is = ap (look_events slot.seen slot.flush slot.rear) (front_told asked s slot is looks)
       by_shut (Some words) is = refl
 
--- two such looks are the same
+-- two legal looks that see what is there are the same
 pub one_look : (asked : ℕ) (s : Listed) (a b : SlotEntry) (p : TrackPoint) (n : ℕ) → LooksBy asked s a (lawful_front asked s a) → ServerSees p n (looks_by s a (lawful_front asked s a)) → LooksBy asked s b (lawful_front asked s b) → ServerSees p n (looks_by s b (lawful_front asked s b))
     → look_of a ≡ look_of b
 one_look asked s a b p n looks sees looks_b sees_b = look_so asked s a p n looks sees ∙ sym (look_so asked s b p n looks_b sees_b)

@@ -37,7 +37,7 @@ same_parts (x ∷ xs) (u ∷ us) ys vs n e =
 abbrev pub front_at : Listed → CommandLook → ℕ
 front_at s look = lawful_front 2 s (as_slot look)
 
--- its events
+-- the events of a look at a command block
 abbrev pub events_at : Listed → CommandLook → List ServerEvent
 events_at s look = command_events s look (front_at s look)
 
@@ -64,7 +64,7 @@ module _ (frames : List ℕ) (base : ℕ) where
   abbrev command_words : TrackPoint → List ℕ
   command_words p = take 2 (drop (p.consumed - base) frames)
 
-  -- what the events of a look take, where they see what is there
+  -- what the events of a look take, if they see what is there
   abbrev Takes : Listed → TrackPoint → CommandLook → Type 0
   Takes s p look = (taken_by frames base p (events_at s look) ≡ (if shows_command look.seen then command_words p else [])) × (shows_command look.seen ≡ true → length (command_words p) ≡ 2)
 
@@ -94,7 +94,7 @@ module _ (frames : List ℕ) (base : ℕ) where
 
   -- ## The look that is told
 
-  -- by its words, and by the frames taken where it shows a command
+  -- the command look by the words of a look, and by the frames taken if it shows a command
   abbrev command_by : Look → Bool → List ℕ → CommandLook
   command_by l shows words = record { flush = l.flush; rear = l.rear; seen = l.seen; code = if shows then slice_index_or words 0 0 else 0; argument = if shows then slice_index_or words 1 0 else 0 }
 
@@ -114,7 +114,7 @@ module _ (frames : List ℕ) (base : ℕ) where
     pub sees : ServerSees p n (all_command_events s looks (fronts_by lawful_front s looks))
     pub words : words_taken looks ≡ taken_by frames base p (all_command_events s looks (fronts_by lawful_front s looks))
 
-  -- the first look, and those after it
+  -- the first look is told, and those after it
   record FirstTold (s : Listed) (p : TrackPoint) (n : ℕ) (look : CommandLook) (looks : List CommandLook) : Type 0 where
     is : look ≡ command_at s p
     rest : AreTold (did s (events_at s look)) (after_servers p (events_at s look)) n looks

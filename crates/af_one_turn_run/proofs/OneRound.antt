@@ -33,7 +33,7 @@ use Rattle.af_one_turn_run.proofs.Parts.{legal_parts}
 use Rattle.af_one_turn_run.proofs.RoundFollows.{told_legally, told_taken_of, told_frames, pipe_legal, RoundReady, RoundTold, RoundForm}
 use Rattle.af_one_turn_run.proofs.RunFollows.{met_follows, turn_follows}
 
--- a run of which each block meets
+-- a track of a run of which each block meets
 met_track : (s : Session) (run : Run) (n : ℕ) → n < length run.tracks → told_at (met s run) n ≡ track_met s run n (told_at run n)
 unfolding met
 met_track s run n low = each_at (track_met s run) 0 run.tracks n n no_track low (omega arith)
@@ -45,14 +45,14 @@ met_legal b h = (told_legally (meets b) h).1.1
 met_taken : (b : BlockTold) → IsHistoryAsTold (meets b) → IsTakenOf b.released b
 met_taken b h = told_taken_of (meets b) h
 
--- calls of all clients
+-- the calls of all clients are the same, if each client's are
 one_calls : (many : ℕ) (a b : RoundSeen) → length a.calls ≡ many → length b.calls ≡ many → ((n : ℕ) → n < many → calls_in a n ≡ calls_in b n) → a.calls ≡ b.calls
 one_calls many a b long long_b each = ext_get_or [] a.calls b.calls (long ∙ sym long_b) (λ n low. each n (omega (arith, long, low)))
 
 no_calls : (a : RoundSeen) → OnlyCalls (λ t. ⊥) a → (n : ℕ) → calls_in a n ≡ []
 no_calls a only n = elim (only n) [ inl never ↦ absurd never | inr none ↦ none ]
 
--- rounds by their parts
+-- rounds are the same by their parts
 same_round : (a b : RoundSeen) → a.calls ≡ b.calls → a.turn ≡ b.turn → a.entries ≡ b.entries → a ≡ b
 same_round a b calls turn entries = λ i. let r : RoundSeen = record { calls = calls i; turn = turn i; entries = entries i } in r
 
@@ -137,7 +137,7 @@ module _ (s : Session) (form : IsScript s.script) (marks : Marks) (lawful : (n :
     abbrev made : Run
     made = with_load e (with_turn s found e run)
 
-    -- by the fronts of lawful blocks
+    -- the turn is legal by the fronts of lawful blocks
     legal_lawful : LegalTurn (setup_of s) (lawful_outside (setup_of s) found e) run.normal e
     legal_lawful = subst (λ o. LegalTurn (setup_of s) o run.normal e)
         (legal.found ∙ (λ i. record (outside_of (setup_of s) found e) { stream_front = λ n. legal.streams n (lawful n) i; command_fronts = λ n. legal.commands n (lawful_commands n) i })) legal.legal
@@ -184,7 +184,7 @@ module _ (s : Session) (form : IsScript s.script) (marks : Marks) (lawful : (n :
       pipe = (legal_parts (piped.legal (pipe_size (setup_of s))) piped.next piped.start made.pipe.told _ (pipe_legal (pipe_size (setup_of s)) (met s made).pipe told.pipe)).0;
     }
 
-    -- before the turn
+    -- how all is told before the turn
     turn_before : run.normal.ended ≡ false → IsBeforeTurn s run many frames
     turn_before runs = record {
       runs = runs;

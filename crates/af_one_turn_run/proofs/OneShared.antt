@@ -39,7 +39,7 @@ module _ (q : QueuePoint Item) (c : Setup) (k : Learnt) (m : NormalKept) (e : Tu
   began : m.ended ≡ false → QueueSees (mutator_list c k m e back again sent) → QueueSees after_ack
   began runs l = subst (λ (b : Bool). QueueSees (if b then [] else after_ack)) runs l
 
-  -- the look at the acknowledgement
+  -- the look at the acknowledgement saw the number acknowledged
   pub ack_seen : m.ended ≡ false → QueueSees (mutator_list c k m e back again sent) → number_seen m e.ack ≡ q.observer.acked
   ack_seen runs l = (began runs l).0.0
 
@@ -69,11 +69,11 @@ one_push acked n (Busy seen expected) (Pushed b) la (busy _ _ waits) lb (pushed 
 -- ## The report and the pipe
 
 module _ (e : Turn) where
-  -- the number of the report
+  -- the turn saw the number of the report
   pub report_seen : (r : newest.CellPoint Report) (x : Report) → e.ended ≡ false → Legal newest.legal newest.next r (map two (going e (Load e.cycle x ∷ []))) → e.cycle ≡ r.number
   report_seen r x goes l = (subst (λ (b : Bool). Legal newest.legal newest.next r (map two (if b then [] else Load e.cycle x ∷ []))) goes l).0.0
 
-  -- the front of the pipe
+  -- the turn saw the front of the pipe
   pub room_seen : (p : piped.PipePoint) (c : Setup) (cells put : ℕ) → e.ended ≡ false → Legal (piped.legal (pipe_size c)) piped.next p (map one (pipe_list c cells put e)) → front_by_room (pipe_size c) put e.room ≡ p.taken % 2 ^ 32
   room_seen p c cells put goes l = (subst (λ (b : Bool). Legal (piped.legal (pipe_size c)) piped.next p (map one (if b then [] else client.SawFront (front_by_room (pipe_size c) put e.room) ∷ releases_of cells put (length (put_by c e.mixes))))) goes l).0.0
 

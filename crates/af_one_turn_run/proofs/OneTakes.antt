@@ -57,7 +57,7 @@ module _ (frames : List ℕ) (base asked : ℕ) (s : Listed) (p : TrackPoint) (n
       let look = look_so asked s slot p n h.looks (server_parts p n (looks_by s slot (lawful_front asked s slot)) (after_look asked (is_some (kept s).shut) slot.seen) saw.1).0 in
       λ i. let x : SlotEntry = record { gains = saw.0 i; flush = (look i).flush; rear = (look i).rear; seen = (look i).seen; first = 0 } in x
 
-  -- two such slots are the same, and take the same
+  -- two slots that are told at one point are the same, and take the same
   pub one_slot : (a b : SlotEntry) (words others : List ℕ) → SlotTold frames base asked s p n a words → SlotTold frames base asked s p n b others → (bare_slot a ≡ bare_slot b) × (words ≡ others)
   one_slot a b words others h h_b =
       let same = slot_so a words h ∙ sym (slot_so b others h_b) in
@@ -131,7 +131,7 @@ none_from low n (t ∷ takes) before rise =
     ap (λ (b : Bool). if b then t ∷ takes_from takes n else takes_from takes n) (ne_eqb t.track n (λ e. omega (arith, e, r, before))) ∙ none_from (t.track + 1) n takes (omega (arith, before, r)) rise.1
 
 module _ (frames : ℕ → List ℕ) (base : ℕ → ℕ) (asked : ℕ) (s : ℕ → Listed) (p : ℕ → TrackPoint) (n : ℕ → ℕ) where
-  -- a take that its stream block tells, where it is the only one of its track
+  -- a take that its stream block tells, if it is the only one of its track
   pub record IsTakeTold (all : List TakeSeen) (t : TakeSeen) : Type 0 where
     pub first : t.slot.first ≡ 0
     pub are : All IsFrame t.frames

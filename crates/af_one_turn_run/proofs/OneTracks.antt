@@ -32,7 +32,7 @@ use Rattle.af_one_turn_run.proofs.TakenWords.{taken_parts, words_told}
 -- ## One track
 
 module _ (frames : List ℕ) (base : ℕ) (s : Listed) (p : TrackPoint) (n : ℕ) (there : HasFrames frames base p) where
-  -- the looks are those that are due
+  -- two lists of looks that are due and told are the same
   due_looks : (given : Option ℕ) (flush_seen : ℕ) (life : TrackKept) (looks others : List CommandLook) → HasDueLooks given flush_seen looks life → AreTold frames base s p n looks → HasDueLooks given flush_seen others life → AreTold frames base s p n others → looks ≡ others
   due_looks given flush_seen life looks others due told due_others told_others = by_wait (is_some life.awaits) due due_others
     where
@@ -56,7 +56,7 @@ module _ (frames : List ℕ) (base : ℕ) (s : Listed) (p : TrackPoint) (n : ℕ
 
 -- ## All tracks
 
--- two lists of which each track is the same by the tracks before it
+-- two lists are the same if each track is the same by the tracks before it
 pub one_tracks : (c : Setup) (k : Learnt) (many : ℕ) (tracks : List TrackKept) (seen others : List TrackSeen) → ((i : ℕ) → i < many → served_to c k seen tracks i ≡ served_to c k others tracks i → seen_at seen i ≡ seen_at others i)
     → (i : ℕ) → i ≤ many → served_to c k seen tracks i ≡ served_to c k others tracks i
 one_tracks c k many tracks seen others each zero low = refl

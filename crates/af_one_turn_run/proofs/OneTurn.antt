@@ -64,7 +64,7 @@ module _ (s : Session) (run : Run) (many : ℕ) (frames : ℕ → List ℕ) wher
     pub report : IsReportAsTold (run.report ++ map two (going e (Load e.cycle (report_of run.reports e.cycle) ∷ [])))
     pub pipe : Legal (piped.legal (pipe_size c)) piped.next piped.start (pipe_turned c e run.pipe).told
 
-  -- before the turn
+  -- how all is told before the turn
   pub record IsBeforeTurn : Type 0 where
     pub runs : m.ended ≡ false
     pub tracks : length m.tracks ≡ many
@@ -170,7 +170,7 @@ module _ (s : Session) (run : Run) (many : ℕ) (frames : ℕ → List ℕ) wher
     abbrev play_count : Turn → ℕ → ℕ
     play_count e i = length (client_of (handed (told_at run i).stream (hand_list e i)))
 
-    -- the takes are told, where the blocks stand as the turn e leaves them
+    -- the takes are told, if the blocks stand as the turn e leaves them
     abbrev TakesTold : Turn → List TakeSeen → List TakeSeen → Type 0
     TakesTold e all takes = AllByRecursion (IsTakeTold frames (λ i. (told_at run i).stream.shape.base) (asked c) (λ i. listed (told_at run i).stream) (play_point e) (play_count e) all) takes
 

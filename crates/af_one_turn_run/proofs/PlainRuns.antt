@@ -108,7 +108,7 @@ pub record IsTrackPlain (t : TrackTold) : Type 0 where
 next_plain : (cut : Bool) (c : Client) → IsPlain c → IsPlain (at_next_turn cut c)
 next_plain cut c h = either_plain (c.waiting || c.ended || cut) (record c { waiting = false }) (record (begun c) { due = rested (begun c).due }) (record { due = h.due; ops = h.ops }) (let g = begun_plain c h in record { due = rested_plain (begun c).due g.due; ops = g.ops })
 
--- after the calls of a legal turn, none of which is a poke
+-- a track stays plain by the calls of a legal turn, none of which is a poke
 pub called_plain : (t : TrackTold) (calls : List ClientCall) → IsTrackPlain t → LegalClientTurn (sides_of t) calls → PlainCalls calls × IsTrackPlain (called calls t)
 called_plain t calls h legal =
     let turn = by_end t.client.ended legal in

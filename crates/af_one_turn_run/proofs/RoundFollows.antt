@@ -46,7 +46,7 @@ pipe_legal size p h = subst (Legal (piped.legal size) piped.next piped.start) h.
 
 -- ## A round
 
--- before a round
+-- how a run stands before a round
 pub record RoundReady (s : Session) (many : ℕ) (run : Run) : Type 0 where
   pub tracks : length run.tracks ≡ many
   pub count : many ≡ track_count s
@@ -54,7 +54,7 @@ pub record RoundReady (s : Session) (many : ℕ) (run : Run) : Type 0 where
   pub counted : (n : ℕ) → n < many → IsCounted (told_at run n).stream
   pub commands : (n : ℕ) → n < many → IsHistoryAsTold (told_at run n).commands
 
--- after its meetings: each stream block is told right, with the frames of its file
+-- how a run stands after the meetings of a round: each stream block is told right, with the frames of its file
 pub record RoundTold (s : Session) (many : ℕ) (frames : ℕ → List ℕ) (last : Run) : Type 0 where
   pub streams : (n : ℕ) → n < many → IsBlockTold (frames n) (told_at last n).stream
   pub commands : (n : ℕ) → n < many → IsHistoryAsTold (told_at last n).commands
@@ -98,7 +98,7 @@ module _ (s : Session) (form : IsScript s.script) (many : ℕ) where
   pub met_alone_follows : (run : Run) (turn : TurnSpec) (round : RoundSeen) → RoundForm many round → Follows run (met_alone s run turn round)
   met_alone_follows run turn round is = follows_then run (made_alone s run turn round) (met_alone s run turn round) (made_follows run turn round is) (met_follows s (made_alone s run turn round))
 
-  -- and so does the whole round
+  -- the whole round goes on with the run
   pub round_follows : (run : Run) (turn : TurnSpec) (round : RoundSeen) → RoundForm many round → Follows run (with_ends (met_alone s run turn round))
   round_follows run turn round is = follows_then run (met_alone s run turn round) (with_ends (met_alone s run turn round)) (met_alone_follows run turn round is) (ends_follow (met_alone s run turn round))
 

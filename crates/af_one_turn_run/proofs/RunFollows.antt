@@ -66,7 +66,7 @@ follows_then a b c g h = record {
   taken = on_then a.pipe.taken b.pipe.taken c.pipe.taken g.taken h.taken;
 }
 
--- a run of which each track was changed, and whose queue and pipe go on
+-- a run follows of which each track was changed, and whose queue and pipe go on
 each_follows : (change : ℕ → TrackTold → TrackTold) (run after : Run) → after.tracks ≡ each_from change 0 run.tracks
     → ((n : ℕ) (t : TrackTold) → Grows t.stream (change n t).stream × (IsCounted t.stream → IsCounted (change n t).stream))
     → GoesOn run.queue after.queue → GoesOn run.pipe.told after.pipe.told → GoesOn run.pipe.taken after.pipe.taken → Follows run after
@@ -84,7 +84,7 @@ each_follows change run after is each queue pipe taken = record {
 
 -- ## Each step
 
--- a client's calls
+-- a client's calls make a block grow and leave it counted
 called_follows : (calls : List ClientCall) (t : TrackTold) → Grows t.stream (called calls t).stream × (IsCounted t.stream → IsCounted (called calls t).stream)
 called_follows calls t =
     let es = drop (length (client_list t.stream)) (after_calls (sides_of t) calls).stream.events in (
@@ -101,7 +101,7 @@ calls_follow track round run =
     by_track true t = called_follows (calls_in round track) t
     by_track false t = (grows_not t.stream, λ is. is)
 
--- the meetings
+-- the meetings leave a block counted
 met_counted : (p h : Bool) (b : BlockTold) → IsCounted b → IsCounted (stream_met p h b)
 met_counted true true b is = omega (arith, is)
 met_counted true false b is = omega (arith, is)
@@ -114,7 +114,7 @@ met_follows s run =
     each_follows (track_met s run) run (met s run) refl (λ n t. (grows_met (takes_part s run n) run.handed t.stream, met_counted (takes_part s run n) run.handed t.stream))
     (_, refl) (_, refl) (on_not run.pipe.taken)
 
--- the ends
+-- a run goes on with its ends
 pub ends_follow : (run : Run) → Follows run (with_ends run)
 unfolding with_ends
 ends_follow run = by_end run.normal.ended
@@ -123,7 +123,7 @@ ends_follow run = by_end run.normal.ended
     by_end true = each_follows (λ track t. record t { client = ends t.client }) run (each_track (λ track t. record t { client = ends t.client }) run) refl (λ n t. (grows_not t.stream, λ is. is)) (on_not run.queue) (on_not run.pipe.told) (on_not run.pipe.taken)
     by_end false = follows_not run
 
--- a poll
+-- a run goes on with a poll
 pub poll_follows : (s : Session) (k : ℕ) (run : Run) → Follows run (with_poll s k run)
 unfolding with_poll
 poll_follows s k run = record { long = refl; streams = λ n low. grows_not (told_at run n).stream; counted = λ n low is. is; queue = (_, refl); pipe = on_not run.pipe.told; taken = on_not run.pipe.taken }
@@ -140,7 +140,7 @@ found_low p a (suc n) k is = by_first (p a) (found_low p (a + 1) n k) is
     by_first true later is = let e : a ≡ k = ap (λ (o : Option ℕ). unwrap_or o a) is in omega (arith, e)
     by_first false later is = let l = later is in omega (arith, l)
 
--- a mix
+-- a run goes on with a mix
 pub mix_follows : (s : Session) (e : EntrySeen) (run : Run) → length e.frames ≡ taken_before e.entry slots → Follows run (with_mix s e run)
 unfolding with_mix
 mix_follows s e run long =
@@ -162,13 +162,13 @@ mix_follows s e run long =
     taken_by_mix true = (_, refl)
     taken_by_mix false = on_not run.pipe.taken
 
--- a cycle
+-- a run goes on with a cycle
 pub cycle_follows : (s : Session) (run : Run) (e : EntrySeen) → length e.frames ≡ taken_before e.entry slots → Follows run (cycle_alone s run e)
 cycle_follows s run e long =
     let polled = with_poll s e.entry.state run in
     follows_then run polled (cycle_alone s run e) (poll_follows s e.entry.state run) (follows_then polled (met s polled) (cycle_alone s run e) (met_follows s polled) (mix_follows s e (met s polled) long))
 
--- a turn of the normal mixer
+-- a run goes on with a load
 load_follows : (e : Turn) (run : Run) → Follows run (with_load e run)
 unfolding with_load
 load_follows e run = record { long = refl; streams = λ n low. grows_not (told_at run n).stream; counted = λ n low is. is; queue = on_not run.queue; pipe = on_not run.pipe.told; taken = on_not run.pipe.taken }

@@ -45,7 +45,7 @@ from_hand : (base : ℕ) (p : TrackPoint) (e : HandEvent) → IsFrom base p → 
 from_hand base p (hand.SetFlags bits) h = record { released = h.released; consumed = h.consumed; rear_seen = h.rear_seen }
 from_hand base p (hand.Met count) h = h
 
--- at any point of a block
+-- no position lies before the base at any point of a block
 pub from_base : (k : Shape) (told : List Moment) → IsFrom k.base (after (start k) told)
 from_base k [] = record { released = omega arith; consumed = omega arith; rear_seen = omega arith }
 from_base k (by_client e ∷ told) = from_client k.base (after (start k) told) e (from_base k told)
@@ -85,7 +85,7 @@ told_taken frames k told (e ∷ es) =
     ∙ ap (λ (ws : List ℕ). ws ++ taken_by frames k.base (after_server (after (start k) told) e) es) (one_taken frames k.base (after (start k) told) (taken_of frames k told) e)
     ∙ append_assoc (taken_of frames k told) (takes_at frames k.base (after (start k) told) e) (taken_by frames k.base (after_server (after (start k) told) e) es)
 
--- so these are the words that were taken
+-- the words that were taken are those that the events take
 pub words_told : (frames : List ℕ) (k : Shape) (told : List Moment) (es : List ServerEvent) (taken words : List ℕ) → taken_of frames k told ≡ taken → taken_of frames k (told_more told (map by_server es)) ≡ taken ++ words
     → words ≡ taken_by frames k.base (after (start k) told) es
 words_told frames k told es taken words before after_is =

@@ -12,23 +12,23 @@ use Rattle.af_runs.specs.declared.want.Want.TheVariants as want
 use Rattle.af_runs.specs.Clients.{code_of}
 use Rattle.af_runs.specs.ClientTurns.{Side, Track, argument_of}
 
--- what a proxy answers that was shut, one that finds no INVALID, and one that finds it
+-- the answer of a proxy that was shut, of one that finds no INVALID, and of one that finds it
 abbrev pub call_by : Option (ℕ × ℕ) → Bool → (corrupt : ℕ → ℕ → ClientCall) → (valid dead : ClientCall) → ClientCall
 call_by None true corrupt valid dead = valid
 call_by None false corrupt valid dead = dead
 call_by (Some words) valid_is corrupt valid dead = corrupt words.0 words.1
 
--- by the room: there is some, there is none, or the front lies outside
+-- the answer by the room: there is some, there is none, or the front lies outside
 abbrev pub room_by : (some none : Bool) → (done full outside : ClientCall) → ClientCall
 room_by true none done full outside = done
 room_by false true done full outside = full
 room_by false false done full outside = outside
 
--- no INVALID
+-- a point whose flags have no INVALID
 abbrev pub is_valid : TrackPoint → Bool
 is_valid p = bit_and p.flags 4 == 0
 
--- a write by a front, and at a point
+-- what a write answers by a front, and at a point
 abbrev pub written_by : (frames cells : ℕ) → ClientKept → (asked front : ℕ) → ClientCall
 written_by frames cells kept asked front =
     let filled = filled_by kept front in
@@ -37,7 +37,7 @@ written_by frames cells kept asked front =
 abbrev pub written : (frames cells : ℕ) → ClientKept → ℕ → TrackPoint → ClientCall
 written frames cells kept asked p = call_by kept.shut (is_valid p) call.Corrupt (written_by frames cells kept asked (wrapped p.consumed)) (call.Dead p.flags)
 
--- a send of a command by a front, and at a point
+-- what a send of a command answers by a front, and at a point
 abbrev pub sent_by : ℕ → ClientKept → (code argument front : ℕ) → ClientCall
 sent_by frames kept code argument front =
     let filled = filled_by kept front in
@@ -46,18 +46,18 @@ sent_by frames kept code argument front =
 abbrev pub sent : ℕ → ClientKept → (code argument : ℕ) → TrackPoint → ClientCall
 sent frames kept code argument p = call_by kept.shut (is_valid p) call.SendCorrupt (sent_by frames kept code argument (wrapped p.consumed)) (call.SendDead p.flags)
 
--- what a side tells of its client
+-- what a side keeps of its client
 abbrev pub kept_of : Side → ClientKept
 kept_of b = client_kept b.shape.frames b.shape.base b.events
 
--- a send on a track, and a write
+-- what a send on a track answers, and a write
 abbrev pub sent_on : Track → (code argument : ℕ) → TrackPoint → ClientCall
 sent_on t code argument p = sent t.commands.shape.frames (kept_of t.commands) code argument p
 
 abbrev pub written_on : Track → ℕ → TrackPoint → ClientCall
 written_on t asked p = written t.stream.shape.frames t.stream.shape.cells (kept_of t.stream) asked p
 
--- The answer to a want, where the stream block and the command block stand at these points
+-- The answer to a want, if the stream block and the command block stand at these points
 abbrev pub answer_to : Track → Want → (stream commands : TrackPoint) → ClientCall
 answer_to t (want.Send sending) stream commands = sent_on t (code_of sending) (argument_of t sending) commands
 answer_to t want.Settled stream commands = call.Status commands.status

@@ -19,13 +19,13 @@ abbrev pub takes_by : ServerEvent → ℕ
 takes_by (server.Take count) = count
 takes_by _ = 0
 
--- and all moments
+-- how many frames the takes among these moments cover
 abbrev pub takes_in : List Moment → ℕ
 takes_in [] = 0
 takes_in (by_client e ∷ told) = takes_in told
 takes_in (by_server e ∷ told) = takes_by e + takes_in told
 takes_in (by_hand e ∷ told) = takes_in told
 
--- as many frames are taken as the takes say
+-- as many frames of a block are taken as the takes say
 abbrev pub IsCounted : BlockTold → Type 0
 IsCounted b = length b.taken ≡ takes_in b.told

@@ -22,7 +22,7 @@ abbrev pub is_poke_call : ClientCall → Bool
 is_poke_call (call.Poke in_command word value) = true
 is_poke_call _ = false
 
--- none of them is a poke
+-- none of these ops is a poke
 abbrev pub PlainOps : List Op → Type 0
 PlainOps [] = Unit {0}
 PlainOps (o ∷ ops) = (is_poke_op o ≡ false) × PlainOps ops
@@ -35,7 +35,7 @@ abbrev pub PlainCalls : List ClientCall → Type 0
 PlainCalls [] = Unit {0}
 PlainCalls (a ∷ calls) = (is_poke_call a ≡ false) × PlainCalls calls
 
--- of no track
+-- no op of these tracks is a poke
 abbrev pub PlainTracks : List TrackSpec → Type 0
 PlainTracks [] = Unit {0}
 PlainTracks (track ∷ tracks) = PlainOps track.ops × PlainTracks tracks

@@ -1,4 +1,4 @@
--- What a party's events see, one after the other, where no other party does anything between them.
+-- What a party's events see, one after the other, if no other party does anything between them.
 use Rattle.std.specs.Prelude.{ℕ, fold, List, [], ◌∷◌}
 use Rattle.af_base.specs.declared.event.ClientEvent.{ClientEvent}
 use Rattle.af_base.specs.declared.event.ServerEvent.{ServerEvent}
@@ -17,7 +17,7 @@ abbrev pub ClientSees : TrackPoint → ℕ → List ClientEvent → Type 0
 ClientSees p others [] = Unit {0}
 ClientSees p others (e ∷ es) = ClientMay p others e × ClientSees (after_client p e) others es
 
--- each event of the server is, after so many of the client
+-- each event of the server is legal where it stands, after so many events of the client
 abbrev pub ServerSees : TrackPoint → ℕ → List ServerEvent → Type 0
 ServerSees p others [] = Unit {0}
 ServerSees p others (e ∷ es) = ServerMay p others e × ServerSees (after_server p e) others es

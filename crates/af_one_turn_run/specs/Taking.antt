@@ -12,7 +12,7 @@ abbrev pub takes_at : List ℕ → ℕ → TrackPoint → ServerEvent → List �
 takes_at frames base p (server.Take count) = take count (drop (p.consumed - base) frames)
 takes_at frames base p _ = []
 
--- and some events
+-- what some events take of these frames
 abbrev pub taken_by : List ℕ → ℕ → TrackPoint → List ServerEvent → List ℕ
 taken_by frames base p [] = []
 taken_by frames base p (e ∷ es) = takes_at frames base p e ++ taken_by frames base (after_server p e) es

@@ -13,7 +13,7 @@ told_more told moments = fold (λ (sofar : List Moment) (m : Moment). m ∷ sofa
 abbrev pub IsToldLegally : BlockTold → Type 0
 IsToldLegally b = IsLegal (start b.shape) b.told
 
--- those of both blocks of a track are
+-- the orders in which both blocks of a track are told are legal
 pub record IsTrackLegal (t : TrackTold) : Type 0 where
   pub stream : IsToldLegally t.stream
   pub commands : IsToldLegally t.commands

@@ -30,7 +30,7 @@ pub made_fold : (t u : Track) (calls : List ClientCall) → AreMade t calls u �
 made_fold t u [] made = made
 made_fold t u (c ∷ calls) made = made_fold (after_call t c) u calls made.3
 
--- the calls of a turn that ends where nothing is wanted, or where no call is left
+-- the calls of a turn that ends if nothing is wanted, or if no call is left
 pub made_calls : (left : ℕ) (t u : Track) (calls : List ClientCall) → AreMade t calls u → length calls ≤ left → (left ≡ length calls) ⊎ (wanted_of u ≡ None) → AreCalls left t calls
 made_calls left t u [] made few ends = elim ends [ inl e ↦ inl e | inr none ↦ inr (ap wanted_of (sym made) ∙ none) ]
 made_calls left t u (c ∷ calls) made few ends = (

@@ -38,7 +38,7 @@ pub work_ended : (ops : List Op) (frames : ℕ) (cut : Bool) (p q : PartyState) 
 work_ended ops frames cut p q same is can =
     work_client ops frames p q (at_next_turn cut (client_of ops p.client)) same is (ended_left p.stream.pass.part.shape.cells p.command.pass.part.shape.cells cut (client_of ops p.client)) can
 
--- the track where the client alone changed
+-- the track if the client alone changed
 pub track_client : (ops : List Op) (file : List Frame) (p q : PartyState) (c : Client) → q ≡ (record p { client = q.client }) → client_of ops q.client ≡ c
     → track_of ops file q ≡ (let t = track_of ops file p in record t { client = c })
 track_client ops file p q c same is = ap (track_of ops file) same ∙ ap (λ (x : Client). track_with x file p) is

@@ -201,7 +201,7 @@ flushes-more left rest = flushes-if (left == 0) left rest
 fits-more : (s k left : ℕ) (rest : List Want) → left < 4294967296 → All (IsFitting s k) rest → All (IsFitting s k) (more left rest)
 fits-more s k left rest few h = fits-if s k (left == 0) left rest (λ h. let ne = eqb-false left 0 h in omega arith) few h
 
--- a Clear goes before these, where the client is active
+-- a Clear goes before these, if the client is active
 put_left : (s k x y : ℕ) (b : Bool) (asked left : ℕ) (rest : List Want) (c : Client) → c.due ≡ want.Write asked ∷ rest → left + x ≤ asked → y ≤ 0
     → Left s k x y c.due c.ops (if b then want.Clear ∷ more left rest else more left rest) c.ops
 put_left s k x y true asked left rest c is few flushed =

@@ -52,7 +52,7 @@ pub record Makes (file : List Frame) (answer : ClientCall) (p q : PartyState) : 
   pub written : q.stream.released ≡ p.stream.released + written_by answer
   pub commands : q.command.released ≤ p.command.released + 2
 
--- its proxies are of these blocks, and in order
+-- the party's proxies are of these blocks, and in order
 abbrev pub HasBlocks : (stream command : Made) → PartyState → Type 0
 HasBlocks stream command p = IsClientOf stream p.stream × IsClientOf command p.command
 

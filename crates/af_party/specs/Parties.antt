@@ -9,7 +9,7 @@ use Rattle.af_runs.specs.ClientTurns.{Side, Track}
 use Rattle.af_runs.specs.Kept.{ClientKept, client_of}
 use Rattle.af_script.specs.declared.op.Op.{Op}
 
--- the number of its track, what it wants, its proxies of the stream's block and of the command block, and the calls of its last turn
+-- the party: the number of its track, what it wants, its proxies of the stream's block and of the command block, and the calls of its last turn
 pub record PartyState : Type 0 where
   pub track : ℕ
   pub client : ClientKept

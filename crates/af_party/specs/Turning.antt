@@ -9,7 +9,7 @@ use Rattle.af_script.specs.declared.op.Op.{Op}
 use Rattle.af_party.specs.Asking.{track_with}
 use Rattle.af_party.specs.Parties.{PartyState, track_of}
 
--- what a client wants next, with its op begun; where it wants nothing, its turn ends as that of the client before
+-- what a client wants next, with its op begun; if it wants nothing, its turn ends as that of the client before
 abbrev pub WantsNext : Client → Option Want → Client → Type 0
 WantsNext c None d = (next_want (begun c) ≡ None) × (at_next_turn false d ≡ at_next_turn false c)
 WantsNext c (Some wanted) d = (next_want (begun c) ≡ Some wanted) × (d ≡ begun c)

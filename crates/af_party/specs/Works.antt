@@ -18,7 +18,7 @@ frames_to_come [] = 0
 frames_to_come (op.Write count ∷ ops) = count + frames_to_come ops
 frames_to_come (_ ∷ ops) = frames_to_come ops
 
--- the flushes that they ask for
+-- the flushes that these wants, and these ops, ask for
 abbrev pub flushes_due : List Want → ℕ
 flushes_due [] = 0
 flushes_due (want.Flush ∷ wants) = 1 + flushes_due wants

@@ -26,7 +26,7 @@ use std::sync::ledger::Ledger;
 const MOST_CALLS: usize = 64;
 
 impl Party {
-    // What it wants next, with its op begun; None where its turn ends.
+    // What the client wants next, with its op begun; None if its turn ends.
     fn wanted(&mut self, ops: &[Op]) -> Option<Want>
         ensures same { self.new ≡ (record self.old { client = self.new.client }) }
         ensures wants { WantsNext (client_of ops.now self.old.client) result (client_of ops.now self.new.client) }
@@ -70,7 +70,7 @@ impl Party {
         ask_send(&mut self.command, command, sending.code(), argument, steps)
     }
 
-    // Writes the next frames of its file.
+    // Writes the next frames of the client's file.
     fn write<L: Ledger>(
         &mut self,
         count: u32,
@@ -165,7 +165,7 @@ impl Party {
         ask_clear(&mut self.stream, stream, steps)
     }
 
-    // Makes the call that it wants.
+    // Makes the call that the client wants.
     fn make<L: Ledger>(
         &mut self,
         wanted: Want,
@@ -217,7 +217,7 @@ impl Party {
         self.client.end_turn(ops, cut);
     }
 
-    // One call, where one is wanted; else the turn ends.
+    // One call, if one is wanted; else the turn ends.
     fn step<L: Ledger>(
         &mut self,
         stream: &Block,
@@ -272,7 +272,7 @@ impl Party {
         self.rest(ops, true);
     }
 
-    /// One turn: the calls that it wants, one after the other, until it wants none or 64 are made.
+    /// One turn: the calls that the client wants, one after the other, until it wants none or 64 are made.
     ///
     /// What it wants, and what each answer makes of it, is the turn of its ops. Each call is made of the proxies of the track's two blocks, and answers by the words that it sees there. The calls stand in the place of those of the turn before.
     pub fn turn<L: Ledger>(
@@ -298,7 +298,7 @@ impl Party {
         self.call_on(stream, command, ops, file, steps);
     }
 
-    /// Ends it: its track is no more.
+    /// Ends the client: its track is no more.
     pub fn end(&mut self)
         ensures { self.new ≡ (record self.old { client = record self.old.client { ended = true } }) }
     {

@@ -25,14 +25,14 @@ impl Model for Party {
 }
 
 impl Party {
-    /// Whether it has ended.
+    /// Whether the client has ended.
     pub fn has_ended(&self) -> bool
         ensures { result ≡ self.now.client.ended }
     {
         self.client.has_ended()
     }
 
-    // How many frames its client has released to the stream's block.
+    // How many frames the client has released to the stream's block.
     pub fn released(&self) -> u64
         ensures { result ≡ self.now.stream.released }
     {

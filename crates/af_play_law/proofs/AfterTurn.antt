@@ -1,4 +1,4 @@
--- The normal mixer's turn in a round of all parties is told behind the early entries, where of the proxies that aren't home it heard what the run foresees; and so are the late entries behind it.
+-- The normal mixer's turn in a round of all parties is told behind the early entries, if of the proxies that aren't home it heard what the run foresees; and so are the late entries behind it.
 use Rattle.std.proofs.Common.{◌≡◌, ⊎_elim, ℕ, ◌*◌, ◌<◌, ◌≤◌, Bool, true, false, if◌then◌else◌, map, List, [], ◌∷◌, ◌++◌, length, Option, Some, None, refl, sym, ap, subst, ◌∙◌, arith}
 use Rattle.std.specs.Bool.{MatchBool}
 use Rattle.std.specs.Prelude.{MatchOption}
@@ -96,7 +96,7 @@ module _ (links : Links) (s : Session) (run : Run) (d : Deeds) (x u z : SessionS
   pub finds : FindsBlocks before found
   finds = record { streams = (λ i. refl); commands = (λ i. sym (cycles_commands s (early_of run round) (with_calls round run) i)) }
 
-  -- ## What it leaves
+  -- ## What the turn leaves
 
   -- the servers' lists, what is so before the late entries, that the turn is legal, and what is known of the queue
   pub record TurnTold : Type 0 where
@@ -109,7 +109,7 @@ module _ (links : Links) (s : Session) (run : Run) (d : Deeds) (x u z : SessionS
     pub leads : Leads f.observer.past.state (kept_of n)
     pub same : 0 < n.mutator.past.number → f.observer.past.number ≡ n.mutator.past.number → f.observer.past.state ≡ n.mutator.past.last
 
-  -- a mixer that has ended makes none
+  -- a mixer that has ended makes no turn
   module _ (over : x.normal.ended ≡ true) (still : n ≡ x.normal) where
     no_turn : round.turn ≡ None
     no_turn = w.notes.turn ∙ ap (λ (b : Bool). if b then None else Some (turn_of n.entry)) over
@@ -129,7 +129,7 @@ module _ (links : Links) (s : Session) (run : Run) (d : Deeds) (x u z : SessionS
       same = subst (λ (m : NormalState). 0 < m.mutator.past.number → f.observer.past.number ≡ m.mutator.past.number → f.observer.past.state ≡ m.mutator.past.last) (sym still) (stands_half links s run d x u z bytes round stands w).step.same;
     }
 
-  -- one that hasn't makes one
+  -- a mixer that hasn't ended makes one turn
   module _ (lives : x.normal.ended ≡ false) (o : Outside) (legal : IsLegal o x.normal n) (made : TurnMade (answer_of (turn_of n.entry)) x.normal n) (hears : HearsForeseen s run x u round) where
     one_turn : round.turn ≡ Some e
     one_turn = w.notes.turn ∙ ap (λ (b : Bool). if b then None else Some (turn_of n.entry)) lives

@@ -49,7 +49,7 @@ stays_home true last s home = by (comes_home last s)
     by true = refl
     by false = home
 
--- so one that is away then was away before
+-- a proxy that is away after the acknowledgement was away before
 was_away : (ack : Bool) (last : FastState) (s : TrackKept) → is_home (greeted ack last s).holder ≡ false → is_home s.holder ≡ false
 was_away ack last s away = by (is_home s.holder) refl
   where
@@ -57,14 +57,14 @@ was_away ack last s away = by (is_home s.holder) refl
     by true home = no (sym away ∙ stays_home ack last s home)
     by false home = refl
 
--- one that is away stays away in the turn
+-- a proxy that is away stays away in the turn
 away_next : (heard slot : Bool) (h : Holder) → is_home h ≡ false → is_home (next_holder heard slot h) ≡ false
 away_next heard slot Home away = no (sym away)
 away_next true slot Lent away = refl
 away_next false slot Lent away = refl
 away_next heard slot Returning away = refl
 
--- and is lent after it only if it was lent and its track is to be heard
+-- a proxy that is away is lent after the turn only if it was lent and its track is to be heard
 lent_next : (heard slot : Bool) (h : Holder) → is_home h ≡ false → is_lent (next_holder heard slot h) ≡ true → (is_lent h ≡ true) × (heard ≡ true)
 lent_next heard slot Home away lent = no (sym away)
 lent_next true slot Lent away lent = (refl, refl)

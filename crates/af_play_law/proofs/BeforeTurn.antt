@@ -16,7 +16,7 @@ use Rattle.af_told_law.proofs.KnownSteps.{Quiet, known_same, quiet_then}
 
 -- ## The command blocks
 
--- a change that leaves them
+-- a change of each track that leaves the command blocks
 at_commands : (change : ℕ → TrackTold → TrackTold) → ((n : ℕ) (t : TrackTold) → (change n t).commands ≡ t.commands) → (ts : List TrackTold) (n i : ℕ) → (slice_index_or (each_from change n ts) i no_track).commands ≡ (slice_index_or ts i no_track).commands
 at_commands change same [] n i = refl
 at_commands change same (t ∷ ts) n zero = same n t
@@ -67,6 +67,6 @@ pub quiet_calls : (round : RoundSeen) (run : Run) → Quiet run (with_calls roun
 unfolding with_calls
 quiet_calls round run = record { states = refl; looks = (λ k. refl) }
 
--- it is known of the same mixer
+-- the queue stays known by a step that leaves the states and the looks
 pub known_quiet : (frames : ℕ) (run after : Run) (m : NormalState) → Quiet run after → QueueKnown frames run m → QueueKnown frames after m
 known_quiet frames run after m quiet known = known_same frames run after m m quiet.states quiet.looks refl refl known

@@ -23,7 +23,7 @@ at_seam : {X : Type 0} (front : List X) (x : X) (rest : List X) → slice_get (f
 at_seam [] x rest = refl
 at_seam (y ∷ front) x rest = at_seam front x rest
 
--- and another one in its place
+-- another element in the place behind a beginning
 set_seam : {X : Type 0} (front : List X) (x y : X) (rest : List X) → slice_set (front ++ x ∷ rest) (length front) y ≡ front ++ y ∷ rest
 set_seam [] x y rest = refl
 set_seam (z ∷ front) x y rest = ap (λ l. z ∷ l) (set_seam front x y rest)
@@ -39,14 +39,14 @@ module _ (round : RoundSeen) where
   abbrev each_called : ℕ → TrackTold → TrackTold
   each_called n t = called (calls_in round n) t
 
-  -- behind that track the others stay
+  -- the tracks behind that of this number stay
   others_stay : (k m : ℕ) (ts : List TrackTold) → k < m → each_from (one_called k) m ts ≡ ts
   others_stay k m [] above = refl
   others_stay k m (t ∷ ts) above =
       let here : one_called k m t ≡ t = ap (λ (b : Bool). if b then called (calls_in round k) t else t) (ne_eqb m k (λ e. omega (arith, above, e))) in
       λ i. here i ∷ others_stay k (m + 1) ts (omega (arith, above)) i
 
-  -- its calls are made in its place
+  -- the calls of a track are made in its place
   called_in_place : (k m : ℕ) (front : List TrackTold) (t : TrackTold) (ts : List TrackTold) → m + length front ≡ k → each_from (one_called k) m (front ++ t ∷ ts) ≡ front ++ each_called k t ∷ ts
   called_in_place k m [] t ts at =
       let here : one_called k m t ≡ each_called k t = ap (λ (b : Bool). if b then called (calls_in round k) t else t) (eq-eqb m k (omega (arith, at))) in
@@ -60,7 +60,7 @@ module _ (round : RoundSeen) where
   calls_from k [] run = run
   calls_from k (q ∷ qs) run = calls_from (k + 1) qs (calls_alone k round run)
 
-  -- they are those of each track from there on
+  -- the calls from a number on are those of each track from there on
   calls_are : (run : Run) (k : ℕ) (front ts : List TrackTold) (qs : List PartyState) → length front ≡ k → length qs ≡ length ts → calls_from k qs (record run { tracks = front ++ ts }) ≡ record run { tracks = front ++ each_from each_called k ts }
   calls_are run k front [] [] at long = refl
   calls_are run k front [] (q ∷ qs) at long = absurd (omega (arith, long))
@@ -102,7 +102,7 @@ module _ (s : Session) (round : RoundSeen) (x : SessionState) where
     leaves = ap with_clients (sym (set_seam front p q ps));
   }
 
-  -- those of all from there on
+  -- the turns of all clients from a number on are told
   turns_told : {d : Deeds} (run : Run) (k : ℕ) (front ps qs : List PartyState) → length front ≡ k → AllZip (ClientPlayed (given_of s)) ps qs → AreNumbered k ps qs → Tells s run d (with_clients (front ++ ps)) → Tells s (calls_from round k qs run) d (with_clients (front ++ qs))
   turns_told {d} run k front [] [] at plays numbered told = told
   turns_told {d} run k front [] (q ∷ qs) at plays numbered told = absurd plays
@@ -123,7 +123,7 @@ module _ (s : Session) (round : RoundSeen) (x : SessionState) where
       subst (λ (l : List PartyState). Tells s (calls_from round k (q ∷ qs) run) d (with_clients l)) (append_assoc front (q ∷ []) qs)
       (turns_told (calls_alone k round run) (k + 1) (front ++ q ∷ []) ps qs next plays.1 rest on)
 
-  -- of all clients
+  -- the turns of all clients are told
   pub calls_told : {d : Deeds} (run : Run) (qs : List PartyState) → length qs ≡ length run.tracks → AllZip (ClientPlayed (given_of s)) x.clients qs → AreNumbered 0 x.clients qs → Tells s run d x → Tells s (with_calls round run) d (with_clients qs)
   calls_told {d} run qs long plays numbered told =
       subst (λ (r : Run). Tells s r d (with_clients qs)) (all_calls round run qs long) (turns_told run 0 [] x.clients qs refl plays numbered told)

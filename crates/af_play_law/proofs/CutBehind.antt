@@ -78,14 +78,14 @@ within_in p (two (Ack k items) ∷ es) n count l few short = within_in (next p (
 within_in p (two (observer.Learn c) ∷ es) n count l few short =
     ((let is = l.0.0 in omega (arith, is, short)), within_in (next p (two (observer.Learn c))) es n count l.1 few short)
 
--- in a history they are those of the mutator's list
+-- in a history the looks and the meetings are within the mutator's list
 pub within : (first : FastState) (ms : Pushed) (os : Polled) → HasHistory first ms os → Within (mutated first ms).pushed (length ms) os
 within first ms os h = subst (λ (w : Pushed × Polled). Within (mutated first w.0).pushed (length w.0) w.1) (λ j. (h.of_one j, h.of_two j))
     (within_in (start first) h.order (mutated first (ones h.order)).pushed (length (ones h.order)) h.is_legal (omega arith) (omega arith))
 
 -- ## Behind a push
 
--- nothing was done but learnt of so many events
+-- the observer did nothing but learn of so many events
 abbrev Learns : ℕ → Polled → Type 0
 Learns count [] = Unit {0}
 Learns count (SawNext k x items ∷ os) = ⊥
@@ -122,7 +122,7 @@ learns_on first ms os (observer.Learn c ∷ w) h owes l =
     subst (HasHistory first ms) (append_assoc os (observer.Learn c ∷ []) w)
     (learns_on first ms (os ++ observer.Learn c ∷ []) w (one_on first ms os (observer.Learn c) h (low, owes)) settled l.1)
 
--- an observer owes nothing where it may push
+-- an observer owes nothing if the mutator may push
 none_owed : (p : Point) (k : ℕ) (y : FastState) (sent : Items) → IsSane p → legal p (one (Push k y sent)) → p.observer.due ≡ 0
 none_owed p k y sent sane l = ⊎_elim
     (λ (is : p.observer.due ≡ 0). is)

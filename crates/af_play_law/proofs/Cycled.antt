@@ -29,12 +29,12 @@ pub record OneAdded (links : Links) (m : MixerState) (e : EntrySeen) (m' : Mixer
   pub mixed : answer ≡ entry.cycle
   pub is : e ≡ entry_told m'.log.frames (length m.log.frames) entry
 
--- these entries, one after the other
+-- the cycles from m to m' add these entries, one after the other
 abbrev pub CyclesAre : Links → List EntrySeen → MixerState → MixerState → Type 0
 CyclesAre links [] m m' = m' ≡ m
 CyclesAre links (e ∷ es) m m' = (next : MixerState) × OneAdded links m e next × CyclesAre links es next m'
 
--- the cycles of a turn: these entries, and then nothing is left but that no state waits for a mix
+-- the cycles of a turn: these entries, and then nothing is left except that no state waits for a mix
 pub record CyclesOf (links : Links) (m m' : MixerState) : Type 0 where
   pub entries : List EntrySeen
   pub last : MixerState
@@ -44,7 +44,7 @@ pub record CyclesOf (links : Links) (m m' : MixerState) : Type 0 where
 module _ (links : Links) where
   -- ## A turn
 
-  -- the mixer at the end is this one
+  -- the mixer at the end is the one before, but for the mark of an adopted state
   pub same_end : (m m' : MixerState) → m' ≡ m → m' ≡ record m { adopted = m'.adopted }
   same_end m m' is = λ j. record (is j) { adopted = m'.adopted }
 
@@ -55,7 +55,7 @@ module _ (links : Links) where
   one_added m next m' e one rest = record { entries = e ∷ rest.entries; last = rest.last; chain = (next, one, rest.chain); ends = rest.ends }
 
   module _ (m next m' : MixerState) (answer : Cycle) (bytes : List ℕ) (w : CyclesOnce links m answer bytes next) (runs : m.exited ≡ false) (stops : is_mixed answer ≡ false → m' ≡ next) where
-    -- the log was full
+    -- the turn's cycles if the log was full
     over_then : length m.log.entries ≡ m.cycles → (length m.log.entries == m.cycles) ≡ true → CyclesOf links m m'
     over_then all full =
         let over : is_over m ≡ true = (λ j. runs j || full j) in
@@ -65,7 +65,7 @@ module _ (links : Links) where
         let total : m' ≡ record m { adopted = false } = stops (ap is_mixed end.0) ∙ end.1 ∙ ap (λ (f : MixerState). let g : MixerState = record f { adopted = false } in g) (w.adopts.rests over) in
         none_added m m' (λ j. record (total j) { adopted = m'.adopted })
 
-    -- it had room
+    -- the turn's cycles if the log had room
     added_then : has_exit m.log.entries ≡ false → is_over m ≡ false → (b : Bool) → is_mixed answer ≡ b → ((next.exited ≡ false) × (has_exit next.log.entries ≡ false) → is_mixed answer ≡ true → CyclesOf links next m') → CyclesOf links m m'
     added_then none on b mixes rest = by_mix b mixes
       where
@@ -94,21 +94,21 @@ module _ (links : Links) where
       by_full true full rest = over_then m turn.1 m' turn.0 turn.2 turn.4 runs stops (eqb-true (length m.log.entries) m.cycles full) full
       by_full false room rest = added_then m turn.1 m' turn.0 turn.2 turn.4 runs stops none (λ j. runs j || room j) (is_mixed turn.0) refl rest
 
-  -- ## What they leave
+  -- ## What the cycles leave
 
-  -- the lists of the ends
+  -- the lists of the ends grow by the cycles
   pub chain_grows : (es : List EntrySeen) (m m' : MixerState) → CyclesAre links es m m' → EndsGrow m m'
   chain_grows [] m m' c = grow_none m m' (ap (λ (f : MixerState). f.observer.past.events) c) (ap (λ (f : MixerState). f.writer.events) c) (ap (λ (f : MixerState). f.pipe.pass.part.events) c)
   chain_grows (e ∷ es) m m' (next, one, c) = grow_both m next m' (once_grows links m next one.answer one.bytes one.once) (chain_grows es next m' c)
 
-  -- the entries
+  -- the log grows by the entries of the cycles
   pub chain_entries : (es : List EntrySeen) (m m' : MixerState) → CyclesAre links es m m' → m'.log.entries ≡ m.log.entries ++ map (λ (e : EntrySeen). e.entry) es
   chain_entries [] m m' c = ap (λ (f : MixerState). f.log.entries) c ∙ sym (append-nil m.log.entries)
   chain_entries (e ∷ es) m m' (next, one, c) =
       let here : next.log.entries ≡ m.log.entries ++ e.entry ∷ [] = one.adds.entries ∙ ap (λ (f : MixerState). f.log.entries ++ one.entry ∷ []) one.once.adopts.same ∙ ap (λ (x : EntrySeen). m.log.entries ++ x.entry ∷ []) (sym one.is) in
       chain_entries es next m' c ∙ ap (λ (l : List CycleEntry). l ++ map (λ (x : EntrySeen). x.entry) es) here ∙ append_assoc m.log.entries (e.entry ∷ []) (map (λ (x : EntrySeen). x.entry) es)
 
-  -- the frames
+  -- the frames that the first cycle took
   abbrev more_of : (m next : MixerState) (e : EntrySeen) → OneAdded links m e next → List Frame
   more_of m next e one = one.adds.takes.grown.0
 
@@ -121,7 +121,7 @@ module _ (links : Links) where
       let rest = chain_frames es next m' c in
       (more_of m next e one ++ rest.0, rest.1 ∙ ap (λ (l : List Frame). l ++ rest.0) (frames_one m next e one) ∙ append_assoc m.log.frames (more_of m next e one) rest.0)
 
-  -- ## With their frames
+  -- ## The entries with their frames
 
   -- what a log has past some frames that it begins with
   past_first : (frames first rest : List Frame) → frames ≡ first ++ rest → drop (length first) frames ≡ rest
@@ -168,7 +168,7 @@ module _ (links : Links) where
     seen_first : (es : List CycleEntry) → e ∷ entries_seen (drop (length next.log.frames) t.log.frames) es ≡ entries_seen (drop (length m.log.frames) t.log.frames) (one.entry ∷ es)
     seen_first es = λ j. seen_is j ∷ entries_seen (sym tail_frames j) es
 
-  -- they are those by which the log grew
+  -- the entries of the cycles are those by which the log grew
   pub chain_seen : (es : List EntrySeen) (m t : MixerState) → CyclesAre links es m t → es ≡ entries_seen (drop (length m.log.frames) t.log.frames) (map (λ (e : EntrySeen). e.entry) es)
   chain_seen [] m t c = refl
   chain_seen (e ∷ es) m t (next, one, c) =
@@ -177,7 +177,7 @@ module _ (links : Links) where
       ∙ seen_first m next t e one grows.0 grows.1 (map (λ (x : EntrySeen). x.entry) es)
       ∙ ap (λ (x : EntrySeen). entries_seen (drop (length m.log.frames) t.log.frames) (x.entry ∷ map (λ (x : EntrySeen). x.entry) es)) (sym one.is)
 
-  -- ## In two parts
+  -- ## Cycles in two parts
 
   pub record TwoParts (k : ℕ) (es : List EntrySeen) (m m' : MixerState) : Type 0 where
     pub between : MixerState

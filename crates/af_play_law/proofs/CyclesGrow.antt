@@ -34,7 +34,7 @@ pub record EndsGrow (m m' : MixerState) : Type 0 where
   pub takes : List ServerEvent
   pub taken : m'.pipe.pass.part.events ≡ m.pipe.pass.part.events ++ takes
 
--- by nothing
+-- the lists grow by nothing
 pub grow_none : (m m' : MixerState) → m'.observer.past.events ≡ m.observer.past.events → m'.writer.events ≡ m.writer.events → m'.pipe.pass.part.events ≡ m.pipe.pass.part.events → EndsGrow m m'
 grow_none m m' polled stored taken = record {
   polls = [];
@@ -45,7 +45,7 @@ grow_none m m' polled stored taken = record {
   taken = taken ∙ sym (append-nil m.pipe.pass.part.events);
 }
 
--- by one and then another
+-- the lists grow from a to b and then to c
 pub grow_both : (a b c : MixerState) → EndsGrow a b → EndsGrow b c → EndsGrow a c
 grow_both a b c f g = record {
   polls = f.polls ++ g.polls;
@@ -56,7 +56,7 @@ grow_both a b c f g = record {
   taken = g.taken ∙ ap (λ (l : List ServerEvent). l ++ g.takes) f.taken ∙ append_assoc a.pipe.pass.part.events f.takes g.takes;
 }
 
--- by a poll
+-- the lists grow by a poll
 pub poll_grows : (m p : MixerState) → Adopts m p → EndsGrow m p
 poll_grows m p adopts = by_over (is_over m) refl
   where
@@ -86,7 +86,7 @@ pipe_grows m m' entry adds = by_mixed (is_mixed entry.cycle) refl
     by_mixed true mixed = by_state (state_of (adopted_states m) entry.state) refl mixed
     by_mixed false dry = ([], ap (λ (o : OutSide). o.pass.part.events) (adds.takes.still dry).1 ∙ sym (append-nil m.pipe.pass.part.events))
 
--- by a mix
+-- the lists grow by a mix
 pub mix_grows : (m m' : MixerState) (out out' : List Frame) (answer : Cycle) → MixesOnce m out answer m' out' → EndsGrow m m'
 mix_grows m m' out out' answer mixes = by_exit m.exited (length m.log.entries == m.cycles) refl refl
   where
@@ -109,11 +109,11 @@ mix_grows m m' out out' answer mixes = by_exit m.exited (length m.log.entries ==
           taken = pipe.1;
         }
 
--- by a cycle
+-- the lists grow by a cycle
 pub once_grows : (links : Links) (m m' : MixerState) (answer : Cycle) (bytes : List ℕ) → CyclesOnce links m answer bytes m' → EndsGrow m m'
 once_grows links m m' answer bytes w = grow_both m w.polled m' (poll_grows m w.polled w.adopts) (mix_grows w.polled m' w.before w.after answer w.mixes)
 
--- by those of a turn
+-- the lists grow by the cycles of a turn
 pub cycles_grow : (links : Links) (left : ℕ) (m : MixerState) (bytes : List ℕ) (m' : MixerState) → CyclesOn links left m bytes m' → EndsGrow m m'
 cycles_grow links zero m bytes m' turn = grow_none m m' (ap (λ (f : MixerState). f.observer.past.events) turn.1) (ap (λ (f : MixerState). f.writer.events) turn.1) (ap (λ (f : MixerState). f.pipe.pass.part.events) turn.1)
 cycles_grow links (suc left) m bytes m' turn = grow_both m turn.1 m' (once_grows links m turn.1 turn.0 turn.2 turn.4) (by_answer (is_mixed turn.0) refl (λ mixed. cycles_grow links left turn.1 turn.3 m' (turn.6 mixed)))
@@ -122,7 +122,7 @@ cycles_grow links (suc left) m bytes m' turn = grow_both m turn.1 m' (once_grows
     by_answer true mixed goes = goes mixed
     by_answer false dry goes = let is = (turn.7 dry).1 in grow_none turn.1 m' (ap (λ (f : MixerState). f.observer.past.events) is) (ap (λ (f : MixerState). f.writer.events) is) (ap (λ (f : MixerState). f.pipe.pass.part.events) is)
 
--- by a turn
+-- the lists grow by a turn
 pub turned_grows : (links : Links) (m : MixerState) (bytes : List ℕ) (m' : MixerState) → FastTurned links m bytes m' → EndsGrow m m'
 turned_grows links m bytes m' turned = by_exit m.exited turned
   where

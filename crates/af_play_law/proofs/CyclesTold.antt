@@ -41,7 +41,7 @@ go_none d = record { streams = (λ i. ([], append-nil (d.streams i))); commands 
 pub go_then : (a b c : Deeds) → GoOn a b → GoOn b c → GoOn a c
 go_then a b c f g = record { streams = (λ i. starts_then (a.streams i) (b.streams i) (c.streams i) (f.streams i) (g.streams i)); commands = (λ i. starts_then (a.commands i) (b.commands i) (c.commands i) (f.commands i) (g.commands i)) }
 
--- what saw own fronts did so before
+-- a server that saw its own fronts did so before
 pub saw_first : (k : Shape) (es first : List ServerEvent) → StartsWith es first → SawOwnOf k es → SawOwnOf k first
 saw_first k es first starts saw = (own_split k (server_begins k) first starts.0 (subst (SawOwnOf k) (sym starts.1) saw)).0
 
@@ -91,7 +91,7 @@ module _ (links : Links) (s : Session) where
   pub shapes_same : (a b : Run) → HasShapes a → HasShapes b → SameShapes s a b
   shapes_same a b f g = record { before = f.many; after = g.many; streams = same_streams a b f g; commands = same_commands a b f g }
 
--- what was seen by the end of a run was so before
+-- if each front seen by the end of a run is a server's own, so is each seen before
 pub saw_back : (s : Session) (marks : Marks) (a b : Run) (d e : Deeds) → SameShapes s a b → GoOn d e → SawOwnBy marks b e → SawOwnBy marks a d
 saw_back s marks a b d e same goes saw = record {
   streams = (λ i low on.
@@ -112,7 +112,7 @@ saw_polled marks s k run d h = record { streams = h.streams; commands = h.comman
 -- ## Cycles one after the other
 
 module _ (links : Links) where
-  -- each found the last state that this normal mixer pushed
+  -- each cycle found the last state that this normal mixer pushed
   abbrev pub AllShown : NormalState → (es : List EntrySeen) → (f g : MixerState) → CyclesAre links es f g → Type 0
   AllShown n [] f g c = Unit {0}
   AllShown n (e ∷ es) f g c = CycleShown n f c.1.once.polled c.0 × AllShown n es c.0 g c.2
@@ -120,13 +120,13 @@ module _ (links : Links) where
   same_past : (f : MixerState) (e : EntrySeen) (g : MixerState) (one : OneAdded links f e g) → g.observer.past ≡ one.once.polled.observer.past
   same_past f e g one = ap (λ (o : Observes ServerState StreamNames). o.past) one.adds.takes.observer
 
-  -- the history goes on by their polls
+  -- the history goes on by the polls of these cycles
   pub history_after : (n : NormalState) (es : List EntrySeen) (f g : MixerState) (c : CyclesAre links es f g) → AllShown n es f g c → HasHistory n.mutator.past.first n.mutator.past.events f.observer.past.events → HasHistory n.mutator.past.first n.mutator.past.events g.observer.past.events
   history_after n [] f g c shown h = subst (λ (m : MixerState). HasHistory n.mutator.past.first n.mutator.past.events m.observer.past.events) (sym c) h
   history_after n (e ∷ es) f g (next, one, c) (now, later) h =
       history_after n es next g c later (subst (λ (w : Polls ServerState StreamNames). HasHistory n.mutator.past.first n.mutator.past.events w.events) (sym (same_past f e next one)) now.history)
 
-  -- the mixer has polled no more states than were pushed, and where it has polled as many the last of them
+  -- the mixer has polled no more states than were pushed, and if it has polled as many, it has the last of them
   abbrev pub Reaches : NormalState → MixerState → Type 0
   Reaches n f = (f.observer.past.number ≤ n.mutator.past.number) × (0 < n.mutator.past.number → f.observer.past.number ≡ n.mutator.past.number → f.observer.past.state ≡ n.mutator.past.last)
 
@@ -140,7 +140,7 @@ module _ (links : Links) where
       same : 0 < n.mutator.past.number → next.observer.past.number ≡ n.mutator.past.number → next.observer.past.state ≡ n.mutator.past.last
       same some all = ap (λ (w : Polls ServerState StreamNames). w.state) (same_past f e next one) ∙ same_polled n f one.once.polled one.once.adopts one.on now.finds h.1 some
 
-  -- the same of a mixer that has polled no state that wasn't pushed yet
+  -- a mixer that has polled no state that wasn't pushed yet has the last one once it has polled as many
   pub same_after : (n : NormalState) (es : List EntrySeen) (f g : MixerState) (c : CyclesAre links es f g) → AllShown n es f g c → (0 < n.mutator.past.number → f.observer.past.number ≡ n.mutator.past.number → f.observer.past.state ≡ n.mutator.past.last)
       → 0 < n.mutator.past.number → g.observer.past.number ≡ n.mutator.past.number → g.observer.past.state ≡ n.mutator.past.last
   same_after n [] f g c shown h = subst (λ (m : MixerState). 0 < n.mutator.past.number → m.observer.past.number ≡ n.mutator.past.number → m.observer.past.state ≡ n.mutator.past.last) (sym c) h

@@ -219,7 +219,7 @@ module _ (links : Links) (s : Session) (run : Run) (d : Deeds) (x u z : SessionS
     loaded : (legal.lists.reader.0 ≡ e.cycle) × (o.report ≡ report_of stored.reports (max known e.cycle))
     loaded = loaded_found known legal.lists.reader.0 stored.reports o.report e.cycle counted.cycles loads_here (legal.legal.goes_on goes).report
 
-    -- it is the number by which the run finds it
+    -- the number of the load is the one by which the run finds the report
     number_is : max known e.cycle ≡ load_of (with_calls round run) e
     number_is =
         let first = w.before.fast.0.reports.many in
@@ -285,7 +285,7 @@ module _ (links : Links) (s : Session) (run : Run) (d : Deeds) (x u z : SessionS
       slots = slots_heard;
     })
 
-  -- one that has ended hears nothing
+  -- a mixer that has ended hears nothing
   pub hears_foreseen : Carried run.normal → HearsForeseen s run x u round
   hears_foreseen carried o legal goes = by_end x.normal.ended refl w.plays.normal
     where

@@ -53,7 +53,7 @@ either_map : {A : Type 0} (f : Report → A) (b : Bool) (x y : Report) → f (if
 either_map f true x y = refl
 either_map f false x y = refl
 
--- the reports of a number tell the same where all reports do
+-- the reports of a number tell the same if all reports do
 pub same_report : {A : Type 0} (f : Report → A) (xs ys : List Report) (n : ℕ) → map f xs ≡ map f ys → f (report_of xs n) ≡ f (report_of ys n)
 same_report {A} f xs ys n same = told xs ∙ (λ j. by (same j)) ∙ sym (told ys)
   where
@@ -135,7 +135,7 @@ module _ (s : Session) (e : EntrySeen) (slot : ℕ) (low : slot < slots) where
 
 -- ## Two runs, of which the second has the state
 
--- they tell the same of the stream of the track i, and of its slot by each report
+-- two runs tell the same of the stream of the track i, and of its slot by each report
 pub record Alike (xs : List FastState) (x y : FastState) (i slot : ℕ) (p q : Run) : Type 0 where
   pub there : i < length p.tracks
   pub also : i < length q.tracks
@@ -242,7 +242,7 @@ module _ (s : Session) (marks : Marks) (xs : List FastState) (x y : FastState) (
     abbrev second_before : FastState
     second_before = state_for s (with_poll s e.entry.state q) (last_used q.entries)
 
-    -- the counts go on from the same ones, where the state carries the slot
+    -- the counts go on from the same ones, if the state carries the slot
     since_same : carries y slot ≡ true → (if carries first_before slot then was else no_slot) ≡ (if carries second_before slot then was else no_slot)
     since_same on = by (last_used p.entries) refl
       where
@@ -383,7 +383,7 @@ module _ (s : Session) (marks : Marks) (xs : List FastState) (x y : FastState) (
           fresh = (λ none. let used = ap last_used (cycle_entries s p e) in let last = last_used-push p.entries e.entry in absurd (omega (arith, none, used, last, number)));
         }
 
-  -- all entries keep it
+  -- all entries keep the two runs alike
   pub alike_on : (es : List EntrySeen) (p q : Run) → FirstLate (length xs) es → LegalEntries s marks q es → Alike xs x y i slot p q → Alike xs x y i slot (with_cycles s es p) (with_cycles s es q)
   alike_on [] p q first legal h = h
   alike_on (e ∷ es) p q first legal h =

@@ -131,7 +131,7 @@ module _ (s : Session) (scales : All (λ (t : Setting). t.scale ≤ 4096) (setup
       pub slot_foretold : (n : ℕ) → report_at (report_of (with_cycles s es turned).reports n).slots slot ≡ report_at (report_of (with_cycles s es run).reports n).slots slot
       slot_foretold n = sym (same_report (at_slot slot) (with_cycles s es run).reports (with_cycles s es turned).reports n slots_same)
 
-  -- and it has the same number
+  -- the report of a number has the same number
   pub number_foretold : (n : ℕ) → (report_of (with_cycles s es turned).reports n).cycle ≡ (report_of (with_cycles s es run).reports n).cycle
   number_foretold n = sym (same_report (λ (r : Report). r.cycle) (with_cycles s es run).reports (with_cycles s es turned).reports n
       (numbers_same s es run turned (sym turned_entries) (ap (map (λ (r : Report). r.cycle)) (sym turned_reports))))

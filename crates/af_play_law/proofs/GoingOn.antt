@@ -1,4 +1,4 @@
--- Where some party of a session goes on, some party of the run that tells it does; so where all of the run have ended, all of the session have.
+-- If some party of a session goes on, some party of the run that tells it does; so if all of the run have ended, all of the session have.
 use Rattle.std.proofs.Common.{◌≡◌, ℕ, zero, suc, ◌+◌, ◌<◌, ◌==◌, ◌&&◌, nat_lt, Bool, true, false, true≢false, if◌then◌else◌, List, [], ◌∷◌, Some, slice_get, refl, sym, ap, ◌∙◌, arith}
 use Rattle.std.specs.List.{list_all, range_with_len}
 use Rattle.std.proofs.lemmas.Bool.{and_parts, false_from_ne_true}
@@ -14,7 +14,7 @@ use Rattle.af_told_law.specs.Deeds.{Deeds}
 use Rattle.af_told_law.specs.Tells.{Tells}
 use Rattle.af_play_law.specs.PlayRuns.{all_over}
 
--- each number of a range passes, where all do
+-- each number of a range passes, if all do
 range_pass : (P : ℕ → Bool) (from count : ℕ) → list_all P (range_with_len from count) ≡ true → (i : ℕ) → i < count → P (from + i) ≡ true
 range_pass P from zero all i low = absurd (omega (arith, low))
 range_pass P from (suc count) all zero low = ap P (let same : from + 0 ≡ from = omega arith in same) ∙ (and_parts (P from) (list_all P (range_with_len (from + 1) count)) all).0

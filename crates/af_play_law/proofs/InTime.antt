@@ -18,11 +18,11 @@ use Rattle.af_play_law.proofs.GoingOn.{over}
 use Rattle.af_play_law.proofs.PlayTold.{holds_first}
 use Rattle.af_play_law.proofs.RunTold.{runs_told}
 
--- the same marks of the command blocks, and of no stream
+-- the marks of the command blocks, and of no stream
 abbrev commands_alone : Marks → Marks
 commands_alone marks = record { streams = λ track. false; commands = marks.commands }
 
--- what is legal up to the last meetings of the streams is so where nothing is asked of them
+-- rounds that are legal up to the last meetings of the streams are legal if nothing is asked of the streams
 commands_legal : (s : Session) (marks : Marks) (rounds : List RoundSeen) (run : Run) → SureRounds s marks run rounds → LegalRounds true s (commands_alone marks) run rounds
 commands_legal s marks [] run sure = tt
 commands_legal s marks (round ∷ rounds) run sure =

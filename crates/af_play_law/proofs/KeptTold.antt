@@ -66,7 +66,7 @@ module _ (links : Links) (s : Session) (run : Run) (d : Deeds) (x u z : SessionS
   told_after : Tells s after deeds (with_ends z)
   told_after = told.told.left.told
 
-  -- there are as many tracks
+  -- there are as many tracks as the session has
   few : length played.tracks ≡ track_count s
   few = (told_loaded links s run d x u z bytes round stands w hears).count.0
 
@@ -98,7 +98,7 @@ module _ (links : Links) (s : Session) (run : Run) (d : Deeds) (x u z : SessionS
   stands_again : PlayStands s after deeds (with_ends z)
   stands_again = told.stands
 
--- the rounds of a play keep it so, up to its ends
+-- the rounds of a play keep the lists, up to its ends
 kept_from : (s : Session) (marks : Marks) (rounds : List RoundSeen) (run : Run) (d : Deeds) (x t : SessionState) → PlayStands s run d x → SawAtHome s run d x → PlaysOn s marks x rounds t → KeepsLists (run_from s run rounds) (ends_from t)
 kept_from s marks [] run d x t stands saw same = subst (λ (y : SessionState). KeepsLists run (ends_from y)) (sym same) (ends_keep_lists s run d x stands.told saw)
 kept_from s marks (round ∷ rounds) run d x t stands saw (links, u, z, bytes, goes, free, w, rest) =

@@ -56,7 +56,7 @@ module _ (n : NormalState) (f p : MixerState) (adopts : Adopts f p) (on : is_ove
       by_poll Same a b w = same_state w.1
       by_poll (New k) a b w = new_state w.1.0 w.1.1
 
-  -- where the mixer has as many states as were pushed it has the last
+  -- if the mixer has as many states as were pushed, it has the last
   pub same_polled : (0 < n.mutator.past.number → f.observer.past.number ≡ n.mutator.past.number → f.observer.past.state ≡ n.mutator.past.last) → 0 < n.mutator.past.number → p.observer.past.state ≡ n.mutator.past.last
   same_polled same some = let q = adopts.polls on in by_poll q.0 q.1 q.2 q.3
     where

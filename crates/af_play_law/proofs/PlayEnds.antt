@@ -28,7 +28,7 @@ turn_by : (x n : NormalState) (b : Bool) → MatchBool b (n ≡ x) (TurnPlayed x
 turn_by x n true is h = subst (λ (m : NormalState). EndsHome (kept_of m)) (sym is) h
 turn_by x n false (o, legal, made) h = subst EndsHome (sym legal.leaves) (turn_ends (setup_of x) (learnt o) o (kept_of x) (turn_of n.entry) legal.legal h)
 
--- by the rounds of a play
+-- the rounds of a play keep EndsHome
 pub plays_home : (s : Session) (marks : Marks) (rounds : List RoundSeen) (x t : SessionState) → PlaysOn s marks x rounds t → EndsHome (kept_of x.normal) → EndsHome (kept_of t.normal)
 plays_home s marks [] x t same h = subst (λ (q : SessionState). EndsHome (kept_of q.normal)) (sym same) h
 plays_home s marks (round ∷ rounds) x t (links, u, z, bytes, goes, free, w, rest) h =
@@ -66,7 +66,7 @@ or_right true b e = refl
 or_right false b e = e
 
 module _ (s : Session) where
-  -- each takes part in the meeting behind which it is home
+  -- each stream proxy takes part in the meeting behind which it is home
   last_meets : (run : Run) (round : RoundSeen) → AllHome (after_round s run round).normal → (i : ℕ) → takes_part s (all_played s run round) i ≡ true
   last_meets run round home i =
       or_left (is_home (track_at (all_played s run round).normal.tracks i).holder) (holds s (all_played s run round) i)

@@ -33,7 +33,7 @@ counts m (mutator.Learn c) = refl
 pub point_is : (first : FastState) (ms : Pushed) (os : Polled) (h : HasHistory first ms os) → after legal next (start first) h.order ≡ point_of first ms os
 point_is first ms os h = λ j. record { mutator = (after_ones (start first) h.order ∙ ap (mutated first) h.of_one) j; observer = (after_twos (start first) h.order ∙ ap observed h.of_two) j }
 
--- In an order of ms with a list in which the event b stands behind os, a front of ms stands before b. It has all of which the observer had learnt, the two have a history, and by what they leave b is legal
+-- In an order of ms with a list in which the event b stands behind os, a front of ms stands before b. The front has all of which the observer had learnt, the two have a history, and by what they leave b is legal
 pub record LooksAt (first : FastState) (ms : Pushed) (os : Polled) (b : ObserverEvent ServerState) : Type 0 where
   pub front : Pushed
   pub back : Pushed
@@ -58,7 +58,7 @@ looks_at first ms os b rest h =
 
 -- ## A look
 
--- where a look shows a state, that is the last one, with its items, and the next one after that acknowledged
+-- if a look shows a state, that is the last one, with its items, and the next one after that acknowledged
 shown : (k a : ℕ) (y : FastState) (sent items : Items) (x : Option FastState) → a ≤ k → k ≤ a + 1 → x ≡ (if k == a then None else Some y) → items ≡ (if k == a then [] else sent) → IfSome x (λ z. (z ≡ y) × (items ≡ sent) × (a + 1 ≡ k))
 shown k a y sent items None low level e f = tt
 shown k a y sent items (Some z) low level e f = ⊎_elim
@@ -70,7 +70,7 @@ shown k a y sent items (Some z) low level e f = ⊎_elim
     ))
     (cases_eq k a)
 
--- Of a look behind the observer's events os: it finds the last state pushed in the front that stands before it, and where it shows one, that and the items that went with it
+-- Of a look behind the observer's events os: it finds the last state pushed in the front that stands before it, and if it shows one, that and the items that went with it
 pub record PollsAt (first : FastState) (ms : Pushed) (os : Polled) (k : ℕ) (x : Option FastState) (items : Items) : Type 0 where
   pub at : LooksAt first ms os (observer.SawNext k x items)
   pub number : k ≡ (mutated first at.front).pushed

@@ -30,17 +30,17 @@ use Rattle.af_play_law.proofs.RoundTurned.{ComesLate, early_poll, late_poll}
 
 -- ## Early and late entries
 
--- the states of these were pushed before, of which there were n
+-- the states of all these entries were pushed before, of which there were n
 abbrev pub AllEarly : ℕ → List EntrySeen → Type 0
 AllEarly n [] = Unit {0}
 AllEarly n (e ∷ es) = (e.entry.state ≤ n) × AllEarly n es
 
--- those of these weren't
+-- the states of none of these entries were pushed before
 abbrev pub AllLate : ℕ → List EntrySeen → Type 0
 AllLate n [] = Unit {0}
 AllLate n (e ∷ es) = (n < e.entry.state) × AllLate n es
 
--- that of the first one wasn't, if there is one
+-- the state of the first of these entries, if there is one, wasn't pushed before
 abbrev pub StartsLate : ℕ → List EntrySeen → Type 0
 StartsLate n [] = Unit {0}
 StartsLate n (e ∷ es) = n < e.entry.state
@@ -72,7 +72,7 @@ module _ (n : ℕ) where
       by_first true is rest = subst (λ (k : ℕ). StartsLate n (drop k (e ∷ es))) (sym (one_on e es is)) rest
       by_first false is rest = subst (λ (k : ℕ). StartsLate n (drop k (e ∷ es))) (sym (none_on e es is)) (leb-false e.entry.state n is)
 
--- ## Their numbers
+-- ## The numbers of the entries
 
 module _ (links : Links) where
   -- the number of an entry is that of its poll, which the mix leaves
@@ -82,7 +82,7 @@ module _ (links : Links) where
   number_left : (f : MixerState) (e : EntrySeen) (g : MixerState) (one : OneAdded links f e g) → g.observer.past.number ≡ e.entry.state
   number_left f e g one = ap (λ (o : Observes ServerState StreamNames). o.past.number) one.adds.takes.observer ∙ sym (number_is f e g one)
 
-  -- behind a late state all are late
+  -- behind a late entry all are late
   all_behind : (n : ℕ) (es : List EntrySeen) (f g : MixerState) → CyclesAre links es f g → n < f.observer.past.number → AllLate n es
   all_behind n [] f g c low = tt
   all_behind n (e ∷ es) f g (next, one, c) low =
@@ -114,19 +114,19 @@ module _ (links : Links) (x u z : SessionState) (ends : EndsMet u.normal z.norma
     saw_here : SeesTaken 0 next.pipe.pass.part.events
     saw_here = sees_in_round u z ends next behind.takes behind.taken
 
-    -- it found the last state pushed before the round
+    -- an early cycle found the last state pushed before the round
     early_found : IsFastInOrder f → HasHistory m.first m.events f.observer.past.events → e.entry.state ≤ m.number → FindsLast x.normal f p × HasHistory m.first m.events p.observer.past.events
     early_found order h low =
         early_poll x u z ends between same_first grows f p one.once.adopts one.on order.observer.told.acked before.polls polled_behind.polls before.polled polled_behind.polled h
         (let is = number_is links f e next one in omega (arith, is, low))
 
-    -- or the one that the turn pushed
+    -- a late cycle found the one that the turn pushed
     late_found : Tells u.normal.mutator.past → IsFastInOrder f → HasHistory m.first u.normal.mutator.past.events f.observer.past.events → m.number < e.entry.state → FindsLast u.normal f p × HasHistory m.first u.normal.mutator.past.events p.observer.past.events
     late_found tells order h late =
         late_poll x u z ends between same_first grows f p one.once.adopts one.on order.observer.told.acked before.polls polled_behind.polls before.polled polled_behind.polled tells h
         (let is = number_is links f e next one in omega (arith, is, late))
 
-  -- the early ones
+  -- each early cycle found the last state pushed before the round
   pub early_shown : (es : List EntrySeen) (f g : MixerState) (c : CyclesAre links es f g) → IsFastInOrder f → EndsGrow x.fast f → EndsGrow g u.fast → HasHistory m.first m.events f.observer.past.events → AllEarly m.number es → AllShown links x.normal es f g c
   early_shown [] f g c order before behind h low = tt
   early_shown (e ∷ es) f g (next, one, c) order before behind h low =
@@ -137,7 +137,7 @@ module _ (links : Links) (x u z : SessionState) (ends : EndsMet u.normal z.norma
             (subst (λ (o : Observes ServerState StreamNames). HasHistory m.first m.events o.past.events) (sym one.adds.takes.observer) now.1) low.1,
       )
 
-  -- the late ones; the reader of the report has no part in it
+  -- each late cycle found the one that the turn pushed; the reader of the report has no part in it
   pub late_shown : (r : ReaderSide) → Tells u.normal.mutator.past → (es : List EntrySeen) (f g : MixerState) (c : CyclesAre links es f g) → IsFastInOrder f → EndsGrow x.fast f → EndsGrow g u.fast → HasHistory m.first u.normal.mutator.past.events f.observer.past.events
       → AllLate m.number es → AllShown links (record u.normal { reader = r }) es f g c
   late_shown r tells [] f g c order before behind h late = tt
@@ -153,7 +153,7 @@ module _ (links : Links) (x u z : SessionState) (ends : EndsMet u.normal z.norma
             (subst (λ (o : Observes ServerState StreamNames). HasHistory m.first u.normal.mutator.past.events o.past.events) (sym one.adds.takes.observer) now.1) late.1,
       )
 
--- ## What the late ones polled
+-- ## What the late cycles polled
 
 -- what a chain of these entries polled begins with a look at a late state, or there are none
 pub record PollsLate (n : ℕ) (es : List EntrySeen) (f g : MixerState) : Type 0 where

@@ -1,4 +1,4 @@
--- Of two beginnings of one list of pushes the longer one pushes as much or more, and where both push as much the last state is the same.
+-- Of two beginnings of one list of pushes the longer one pushes as much or more, and if both push as much the last state is the same.
 use Rattle.std.proofs.Common.{◌≡◌, ◌⊎◌, inl, inr, ℕ, ◌+◌, ◌≤◌, false, true≢false, List, [], ◌∷◌, ◌++◌, length, length-append, append-nil, fold, get_or, Option, refl, sym, ap, subst, ◌∙◌, arith}
 use Rattle.std.specs.List.{list_any}
 use Rattle.std.proofs.lemmas.List.Sums.{fold-append}
@@ -51,7 +51,7 @@ module _ {P : Type 0} where
   numbered_in p (one (mutator.Learn c) ∷ es) l = numbered_in (next p (one (mutator.Learn c))) es l.1
   numbered_in p (two e ∷ es) l = numbered_in (next p (two e)) es l.1
 
-  -- so are those of a history
+  -- the pushes of a history are numbered
   pub numbered : (first : FastState) (ms : List (MutatorEvent P)) (os : List (ObserverEvent P)) → HasHistory first ms os → Numbered 0 ms
   numbered first ms os h = subst (Numbered 0) h.of_one (numbered_in (start first) h.order h.is_legal)
 
@@ -74,14 +74,14 @@ module _ {P : Type 0} where
   no_fewer m (SawAck a items ∷ ms) r = no_fewer (mutator_next m (SawAck a items)) ms r
   no_fewer m (mutator.Learn c ∷ ms) r = no_fewer (mutator_next m (mutator.Learn c)) ms r
 
-  -- events with no push
+  -- events with no push push nothing more
   pub none_more : (m : MutatorPoint P) (ms : List (MutatorEvent P)) → list_any is_push ms ≡ false → (fold mutator_next m ms).pushed ≡ m.pushed
   none_more m [] h = refl
   none_more m (Push k x items ∷ ms) h = absurd (true≢false h)
   none_more m (SawAck a items ∷ ms) h = none_more (mutator_next m (SawAck a items)) ms h
   none_more m (mutator.Learn c ∷ ms) h = none_more (mutator_next m (mutator.Learn c)) ms h
 
-  -- the last state pushed is the same
+  -- the last state pushed is the same at both points
   pub record SameLast (m n : MutatorPoint P) : Type 0 where
     pub pushed : n.pushed ≡ m.pushed
     pub last : n.last ≡ m.last
@@ -119,7 +119,7 @@ module _ {P : Type 0} where
   same_then first xs ys r e = subst (SameLast (mutated first xs)) (sym (then_more first xs ys))
       (still_last (mutated first xs) ys (numbered_back (mutator_start first) xs ys r) (ap (λ (m : MutatorPoint P). m.pushed) (sym (then_more first xs ys)) ∙ e))
 
-  -- where two beginnings push as much they push the same last
+  -- if two beginnings push as much, they push the same last
   pub same_last : (first : FastState) (all xs us ys vs : List (MutatorEvent P)) → Numbered 0 all → all ≡ xs ++ us → all ≡ ys ++ vs → (mutated first ys).pushed ≡ (mutated first xs).pushed → SameLast (mutated first xs) (mutated first ys)
   same_last first all xs us ys vs r a b e = elim (either_cuts xs us ys vs (sym a ∙ b)) as (λ _. SameLast (mutated first xs) (mutated first ys)) [
     | inl c ↦
@@ -133,7 +133,7 @@ module _ {P : Type 0} where
         record { pushed = sym s.pushed; last = sym s.last; before = sym s.before; items = sym s.items }
   ]
 
-  -- the longer one pushes as much or more
+  -- the longer of two beginnings pushes as much or more
   pub longer_pushes : (first : FastState) (all xs us ys vs : List (MutatorEvent P)) → Numbered 0 all → all ≡ xs ++ us → all ≡ ys ++ vs → length xs ≤ length ys → (mutated first xs).pushed ≤ (mutated first ys).pushed
   longer_pushes first all xs us ys vs r a b few = elim (either_cuts xs us ys vs (sym a ∙ b)) as (λ _. (mutated first xs).pushed ≤ (mutated first ys).pushed) [
     | inl c ↦

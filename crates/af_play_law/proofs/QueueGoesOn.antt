@@ -1,4 +1,4 @@
--- A history goes on by what a poll did, where that found the last state pushed in it.
+-- A history goes on by what a poll did, if that found the last state pushed in it.
 use Rattle.std.proofs.Common.{◌≡◌, ◌==◌, ℕ, Some, None, if◌then◌else◌, [], ◌∷◌, ◌++◌, append-nil, append_assoc, sym, ap, subst, ◌∙◌, arith}
 use Rattle.af_base.specs.declared.state.FastState.{FastState}
 use Rattle.af_model.specs.declared.states.ObserverEvent.{ObserverEvent}
@@ -21,12 +21,12 @@ IsOf n (SawNext k x items) = k ≡ n
 IsOf n (Ack k items) = k ≡ n
 IsOf n (observer.Learn c) = ⊥
 
--- so are all of these
+-- all of these events found the state n, or are its acknowledgement
 abbrev pub AllOf : ℕ → Polled → Type 0
 AllOf n [] = Unit {0}
 AllOf n (b ∷ bs) = IsOf n b × AllOf n bs
 
--- where it is legal, n is the last state pushed
+-- if such an event is legal, n is the last state pushed
 number_at : (p : Point) (n : ℕ) (b : ObserverEvent ServerState) → IsSane p → IsOf n b → legal p (two b) → p.mutator.pushed ≡ n
 number_at p n (SawNext k x items) sane is l = sym l.0 ∙ is
 number_at p n (Ack k items) sane is l =
@@ -34,7 +34,7 @@ number_at p n (Ack k items) sane is l =
     (let a = l.0 in let b = d.0 in let c = d.1 in let v = sane.level in omega (arith, a, b, c, v, is))
 number_at p n (observer.Learn c) sane is l = absurd is
 
--- it is legal wherever that is the last state pushed
+-- such an event is legal wherever n is the last state pushed
 moves : (m m' : MutatorPoint ServerState) (o : ObserverPoint ServerState) (n : ℕ) (b : ObserverEvent ServerState) → SameLast m m' → IsOf n b → legal (record { mutator = m; observer = o }) (two b) → legal (record { mutator = m'; observer = o }) (two b)
 moves m m' o n (SawNext k x items) s is l = (
   l.0 ∙ sym s.pushed,
@@ -45,7 +45,7 @@ moves m m' o n (SawNext k x items) s is l = (
 moves m m' o n (Ack k items) s is l = (l.0, l.1, subst (λ (w : FastState × FastState). AreOf w.0 w.1 items) (λ j. (sym s.before j, sym s.last j)) l.2)
 moves m m' o n (observer.Learn c) s is l = absurd is
 
--- one event more
+-- a history goes on by one event more
 pub one_on : (first : FastState) (ms : Pushed) (os : Polled) (b : ObserverEvent ServerState) → HasHistory first ms os → legal (point_of first ms os) (two b) → HasHistory first ms (os ++ b ∷ [])
 one_on first ms os b h l = add_two legal next (start first) ms os b h (subst (λ (p : Point). legal p (two b)) (sym (point_is first ms os h)) l)
 
@@ -60,7 +60,7 @@ module _ (first : FastState) (all ms later : Pushed) (parts : all ≡ ms ++ late
       let same : SameLast (mutated first at.front) (mutated first ms) = same_last first all at.front at.back ms later (numbered first all (os ++ b ∷ rest) whole) at.parts parts (sym found) in
       one_on first ms os b h (moves (mutated first at.front) (mutated first ms) (observed os) (mutated first ms).pushed b same is at.may)
 
-  -- so may events that all found it
+  -- events that all found the last state that ms pushed may stand behind ms
   pub all_go_on : (os bs rest : Polled) → HasHistory first all (os ++ (bs ++ rest)) → AllOf (mutated first ms).pushed bs → HasHistory first ms os → HasHistory first ms (os ++ bs)
   all_go_on os [] rest whole found h = subst (HasHistory first ms) (sym (append-nil os)) h
   all_go_on os (b ∷ bs) rest whole found h =

@@ -1,4 +1,4 @@
--- Each report of a run tells the number of entries that it is of.
+-- Each report of a run has the number of entries that it is of.
 use Rattle.std.proofs.Common.{◌≡◌, ℕ, Bool, true, false, if◌then◌else◌, List, [], ◌∷◌, length, length-append, Option, Some, None, refl, subst, arith}
 use Rattle.af_base.specs.declared.log.CycleEntry.{CycleEntry}
 use Rattle.af_base.specs.declared.report.Report.{Report}
@@ -19,7 +19,7 @@ new_counts s = record { many = refl; cycles = tt }
 same_counts : (a b : Run) → a.reports ≡ b.reports → a.entries ≡ b.entries → ReportsCount a → ReportsCount b
 same_counts a b reports entries h = record { many = subst (λ (w : List Report × List CycleEntry). length w.0 ≡ length w.1) (λ j. (reports j, entries j)) h.many; cycles = subst (CountUp 0) reports h.cycles }
 
--- an entry more
+-- the reports are counted after an entry more
 cycle_counts : (s : Session) (run : Run) (e : EntrySeen) → ReportsCount run → ReportsCount (with_cycle s run e)
 unfolding with_poll with_mix
 cycle_counts s run e h =
@@ -60,7 +60,7 @@ met_counts : (s : Session) (run : Run) → ReportsCount run → ReportsCount (me
 unfolding met
 met_counts s run h = same_counts run (met s run) refl refl h
 
--- all that is stored by the load of a round
+-- the reports stored up to the load of a round are counted
 pub round_counts : (s : Session) (run : Run) (round : RoundSeen) → ReportsCount run → ReportsCount (with_cycles s (late_of run round) (after_turn s run round))
 round_counts s run round h =
     cycles_count s (late_of run round) (after_turn s run round)

@@ -133,7 +133,7 @@ module _ (links : Links) (s : Session) (run : Run) (d : Deeds) (x u z : SessionS
   pub grown_end : EndsGrow cycles.last u.fast
   grown_end = grow_none cycles.last u.fast (ap (λ (f : MixerState). f.observer.past.events) cycles.ends) (ap (λ (f : MixerState). f.writer.events) cycles.ends) (ap (λ (f : MixerState). f.pipe.pass.part.events) cycles.ends)
 
-  -- ## The early ones
+  -- ## The early cycles
 
   shown_early : AllShown links x.normal (early_of run round) x.fast half parts.front
   shown_early = early_shown links x u z w.meets.ends stands.stands first_is grows_is (early_of run round) x.fast half parts.front w.before.fast.0

@@ -19,7 +19,7 @@ use Rattle.af_side_by_side.specs.Alone.{CyclesOn, CyclesOnce}
 abbrev pub IsFull : MixerState → Type 0
 IsFull m = length m.log.entries ≡ m.cycles
 
--- each but the last is Mixed, and of the last this holds
+-- each entry but the last is Mixed, and Last holds of the last
 abbrev pub ButLast : (CycleEntry → Type 0) → List CycleEntry → Type 0
 ButLast Last [] = ⊥
 ButLast Last (e ∷ []) = Last e
@@ -39,7 +39,7 @@ but_map P Q [] h b = b
 but_map P Q (e ∷ []) h b = h e b
 but_map P Q (e ∷ next ∷ es) h b = (b.0, but_map P Q (next ∷ es) h b.1)
 
--- one mixed entry in front
+-- the form with one mixed entry in front
 cons_form : (left : ℕ) (m : MixerState) (e : CycleEntry) (es : List CycleEntry) → is_mixed e.cycle ≡ true → Form left m es → Form (suc left) m (e ∷ es)
 cons_form left m e [] mixed (inl none) = inl (omega (arith, none))
 cons_form left m e [] mixed (inr full) = inr (inr full)
@@ -49,7 +49,7 @@ cons_form left m e (next ∷ es) mixed form = (
       (λ last why. ⊎_elim (λ (all : length (next ∷ es) ≡ left). inl (omega (arith, all))) (λ (other : (is_mixed last.cycle ≡ false) ⊎ IsFull m). inr other) why) form,
 )
 
--- with their frames
+-- the form of entries with their frames
 form_seen : (P : CycleEntry → Type 0) (es : List EntrySeen) → ButLast P (map (λ (e : EntrySeen). e.entry) es) → AreMixedBut (λ (e : EntrySeen). P e.entry) es
 form_seen P [] b = b
 form_seen P (e ∷ []) b = b
@@ -154,7 +154,7 @@ module _ (links : Links) where
             sizes = ap (λ (y : MixerState). y.cycles) still ∙ turn.4.sizes.1;
           }
 
-  -- Such entries with their frames are those of a turn, where the log had room before; `full` is true where it has none left
+  -- Such entries with their frames are those of a turn, if the log had room before; `full` is true if it has none left
   pub turn_form : (cycles : ℕ) (m m' : MixerState) (all : CyclesAdded cycles m m') (es : List EntrySeen) (full : Bool) → 1 ≤ cycles → length m.log.entries < m.cycles → map (λ (e : EntrySeen). e.entry) es ≡ all.added → (IsFull m' → full ≡ true) → IsFastTurn cycles full es
   turn_form cycles m m' all es full some room same is_full = (
     (let l = all.few in let n = long in omega (arith, l, n)),

@@ -82,7 +82,7 @@ module _ (links : Links) (s : Session) (run : Run) (d : Deeds) (x u z : SessionS
             reads_one goes ∙ (λ i. x.normal.reader.events ++ Load (is.0 i) ((is.1 ∙ ap (report_of stored.reports) number) i) ∷ [])
             ∙ ap (λ (b : Bool). x.normal.reader.events ++ (if b then [] else Load e.cycle (report_of stored.reports e.cycle) ∷ [])) (sym goes)
 
-  -- what the run with the load is, where the mixer had ended, and where it hadn't
+  -- the run with the load tells the session, if the mixer had ended, and if it hadn't
   told_by : (b : Bool) → x.normal.ended ≡ b → MatchBool b (n ≡ x.normal) (TurnPlayed x.normal n) → Tells s (all_played s run round) deeds u
   told_by true over still =
       let none : round.turn ≡ None = w.notes.turn ∙ ap (λ (b : Bool). if b then None else Some (turn_of n.entry)) over in
@@ -95,7 +95,7 @@ module _ (links : Links) (s : Session) (run : Run) (d : Deeds) (x u z : SessionS
   pub told_loaded : Tells s (all_played s run round) (late_told links s run d x u z bytes round stands w hears).deeds u
   told_loaded = told_by x.normal.ended refl w.plays.normal
 
-  -- the queue is known with it
+  -- the queue is known with all that is stored
   known_stored : QueueKnown (cycle_frames s) stored n
   known_stored = known_quiet (cycle_frames s) (after_turn s run round) stored n (quiet_cycles s (late_of run round) (after_turn s run round)) (turn_told links s run d x u z bytes round stands w hears).known
 

@@ -45,7 +45,7 @@ abbrev numbered : Report → ℕ → List Report → Report → Report
 numbered x zero reports d = x
 numbered x (suc k) reports d = slice_index_or reports k d
 
--- the last one stored in a front is that of its number
+-- the last report stored in a front is that of its number
 last_numbered : (x d : Report) (front back : Stored) → last_of x front ≡ numbered x (stores front) (reports_stored (front ++ back)) d
 last_numbered x d [] back = refl
 last_numbered x d (Store y ∷ front) back = last_numbered y d front back ∙ behind (stores front)
@@ -141,7 +141,7 @@ module _ (x u z : SessionState) (ends : EndsMet u.normal z.normal u.fast z.fast)
   same_reports = ap (λ (l : Stored). reports_stored l) (sym (append_assoc x.fast.writer.events more (knows ∷ []))) ∙ reports_append (x.fast.writer.events ++ more) (knows ∷ []) ∙ append-nil (reports_stored (x.fast.writer.events ++ more))
       ∙ ap (λ (l : Stored). reports_stored l) (sym writes_are)
 
-  -- it shows the report of its number
+  -- the load of a round shows the report of its number
   pub round_loads : LoadsOneOf (stores x.fast.writer.events) k (reports_stored u.fast.writer.events) report
   round_loads = subst (λ (l : List Report). LoadsOneOf (stores x.fast.writer.events) k l report) same_reports (loads_show x.fast.writer.events (more ++ knows ∷ []) x.normal.reader.events (learns ∷ []) k report met history)
 
@@ -161,7 +161,7 @@ met_before run met = ⊎_elim (λ (none : run.report ≡ []). inl (ap (λ (r : R
 
 -- ## Cycles
 
--- one report more tells its number
+-- the reports are numbered with one more
 pub count_on : (n : ℕ) (reports : List Report) (r : Report) → CountUp n reports → r.cycle ≡ n + length reports + 1 → CountUp n (reports ++ r ∷ [])
 count_on n [] r count is = (omega (arith, is), tt)
 count_on n (q ∷ reports) r count is = (count.0, count_on (n + 1) reports r count.1 (omega (arith, is)))
@@ -179,7 +179,7 @@ cycle_loaded known (suc k) reports x count l =
     let is = ap (λ (r : Report). r.cycle) (l.is ∙ sym (numbered_is reports (suc k))) in
     omega (arith, at, is)
 
--- so it is the one found by its cycle
+-- the report loaded is the one found by its cycle
 pub loaded_found : (known k : ℕ) (reports : List Report) (x : Report) (cycle : ℕ) → CountUp 0 reports → LoadsOneOf known k reports x → cycle ≡ x.cycle → (k ≡ cycle) × (x ≡ report_of reports (max known cycle))
 loaded_found known k reports x cycle count l is =
     let number = cycle_loaded known k reports x count l in

@@ -66,7 +66,7 @@ zip_at R (a ∷ xs) [] i x y z is also = absurd z
 zip_at {X} R (a ∷ xs) (b ∷ ys) zero x y z is also = subst (λ (q : X × X). R q.0 q.1) (λ j. (same_Some a x is j, same_Some b y also j)) z.0
 zip_at R (a ∷ xs) (b ∷ ys) (suc i) x y z is also = zip_at R xs ys i x y z.1 is also
 
--- of two parts
+-- if each front of two parts of a list is the server's own, so is each of the list
 own_join : (k : Shape) (kept : ServerKept) (xs ys : List ServerEvent) → AllSeeOwn k kept xs → AllSeeOwn k (fold (server_keeps k) kept xs) ys → AllSeeOwn k kept (xs ++ ys)
 own_join k kept [] ys a b = b
 own_join k kept (x ∷ xs) ys a b = (a.0, own_join k (server_keeps k kept x) xs ys a.1 b)
@@ -89,7 +89,7 @@ go_met s run d = record { streams = (λ i. by_part (takes_part s run i) (told_at
     by_part true b deed = (server.Learn (length (client_list b)) ∷ [], refl)
     by_part false b deed = ([], append-nil deed)
 
--- the blocks keep their sizes
+-- the blocks keep their sizes in the meetings
 met_shapes : (s : Session) (run : Run) → length run.tracks ≡ track_count s → SameShapes s run (met s run)
 met_shapes s run many = record {
   before = many;
@@ -186,7 +186,7 @@ module _ (links : Links) (s : Session) (run : Run) (d : Deeds) (x u z : SessionS
       by_home (Some t) is = own_list (told_at played i).stream (deeds.streams i) t ((told.tracks i p.0 p.1).stream.home t is) (sees.homes i p.0 t p.1 lawful is)
       by_home None none = by_held (sym (w.turned.normal.tied.proxies.there i (within i low)) ∙ ap is_some none) (held_slot u.fast i) refl
 
-  -- and of each command server
+  -- each front of a command server is its own
   commands_own : (i : ℕ) → i < track_count s → is_tame (told_at played i).commands ≡ true → SawOwnOf (told_at played i).commands.shape (deeds.commands i)
   commands_own i low tame =
       let p = party i low in
@@ -200,7 +200,7 @@ module _ (links : Links) (s : Session) (run : Run) (d : Deeds) (x u z : SessionS
     commands = (λ i low tame. let p = party i low in (told.tracks i p.0 p.1).did.commands.own (commands_own i low tame));
   }
 
-  -- ## What they leave
+  -- ## What the meetings leave
 
   abbrev left : Deeds
   left = deeds_met s played deeds
@@ -288,7 +288,7 @@ module _ (links : Links) (s : Session) (run : Run) (d : Deeds) (x u z : SessionS
       fast = fast_legal;
     }
 
-  -- it may follow
+  -- the round may follow
   follows : all_ended s run ≡ false → MayFollow s run round
   follows going = record { going = going; room = room; within = within_log }
     where
@@ -308,7 +308,7 @@ module _ (links : Links) (s : Session) (run : Run) (d : Deeds) (x u z : SessionS
           let a = was in
           omega (arith, now, sum, long, cycles, most, a)
 
-  -- ## All
+  -- ## The whole round
 
   pub round_told : RoundIsTold s run d round (parties.with_ends z)
   round_told = record {
@@ -319,7 +319,7 @@ module _ (links : Links) (s : Session) (run : Run) (d : Deeds) (x u z : SessionS
     commands = (λ i low tame. own_met (told_at played i).commands (deeds.commands i) (commands_own i low tame));
   }
 
-  -- the blocks keep their sizes
+  -- the blocks keep their sizes in the round
   pub shapes_after : SameShapes s run (after_round s run round)
   shapes_after =
       let one = met_shapes s played same_played.after in

@@ -36,7 +36,7 @@ use Rattle.af_told_law.specs.MixLaws.{TookCounted}
 
 -- ## Beginnings
 
--- where each front seen in a list is the number of frames taken before, so it is in a beginning
+-- if each front seen in a list is the number of frames taken before, so it is in a beginning
 pub seen_front : (n : ℕ) (xs ys : List ServerEvent) → SeesTaken n (xs ++ ys) → SeesTaken n xs
 seen_front n [] ys s = tt
 seen_front n (server.SawFront front ∷ xs) ys s = (s.0, seen_front n xs ys s.1)
@@ -50,7 +50,7 @@ seen_front n (server.Tally missing ∷ xs) ys s = seen_front n xs ys s
 seen_front n (server.SetFlags bits ∷ xs) ys s = seen_front n xs ys s
 seen_front n (server.SetStatus word ∷ xs) ys s = seen_front n xs ys s
 
--- and behind one, by the frames taken there
+-- if each front seen in a list is the number of frames taken before, so it is behind a beginning, by the frames taken there
 seen_back : (n m : ℕ) (xs ys : List ServerEvent) → m ≡ n + frames_taken xs → SeesTaken n (xs ++ ys) → SeesTaken m ys
 seen_back n m [] ys e s = subst (λ (k : ℕ). SeesTaken k ys) (let same : n ≡ m = omega (arith, e) in same) s
 seen_back n m (server.SawFront front ∷ xs) ys e s = seen_back n m xs ys (omega (arith, e)) s.1
@@ -66,7 +66,7 @@ seen_back n m (server.SetStatus word ∷ xs) ys e s = seen_back n m xs ys (omega
 
 -- ## A mix
 
--- the front that its look at the pipe sees is the number of frames taken before
+-- the front that a mix's look at the pipe sees is the number of frames taken before
 pub front_counted : (f g : MixerState) (slot : SlotEntry) → TookCounted f → SeesTaken 0 g.pipe.pass.part.events → (submix : SubmixSlot f.frames f.pipe.pass.part.events g.pipe.pass.part.events slot) → submix.front ≡ wrapped (length f.pipe.pass.part.frames)
 front_counted f g slot took sees submix =
     let more : List ServerEvent = server.SawRear slot.rear ∷ server.SawFront submix.front ∷ takes_shown slot.seen in
@@ -80,7 +80,7 @@ takes_count seen.Empty = refl
 takes_count (seen.Flushed dropped) = refl
 takes_count (seen.Shut front rear) = refl
 
--- the frames of its slot are as many as that shows
+-- the frames of the submix slot are as many as its look shows
 module _ (frames : List Frame) (entry : CycleEntry) (place : ℕ) (first : (entry_slot entry 0).first ≡ place_of (place + taken_before entry 0) (entry_slot entry 0).seen) (total : length frames ≡ place + taken_before entry slots) where
   abbrev count : ℕ
   count = count_seen (entry_slot entry 0).seen
@@ -99,7 +99,7 @@ module _ (frames : List Frame) (entry : CycleEntry) (place : ℕ) (first : (entr
       omega (arith, at_place, rest, up, l, total)))
       (cases_eq count 0)
 
--- the frames that it took are counted again after it
+-- the frames that a mix took are counted again after it
 pub took_mixed : (f g : MixerState) (x : FastState) (entry : CycleEntry) → Takes f g entry → (is_mixed entry.cycle ≡ true → Mixes f.frames x (length f.log.frames) (found f.observer f.pipe) (found g.observer g.pipe) entry) → TookCounted f → TookCounted g
 took_mixed f g x entry takes mixes took = by_mixed (is_mixed entry.cycle) refl
   where
@@ -143,7 +143,7 @@ sees_in_round u z ends g rest goes =
 
 -- ## A turn of the normal mixer
 
--- the room that it saw tells the front, also where frames were taken meanwhile
+-- the room that the turn saw tells the front, also if frames were taken meanwhile
 pub room_front : (size : ℕ) → size ≤ 65536 → (before puts : List ClientEvent) (front cells n count : ℕ) (put more taken : List ℕ) (takes : List ServerEvent) → puts ≡ before ++ client.SawFront front ∷ releases_of cells (length put) n → length more ≡ n
     → HasPipeHistory size (puts ++ client.Learn count ∷ []) (put ++ more) takes taken → front_by_room size (length put) (room_by size (length put) front) ≡ front
 room_front size few before puts front cells n count put more taken takes is long h =

@@ -1,4 +1,4 @@
--- A poll of the fast mixer finds the last state that the normal mixer has pushed, where its number is that one's, and leaves a history.
+-- A poll of the fast mixer finds the last state that the normal mixer has pushed, if its number is that one's, and leaves a history.
 use Rattle.std.proofs.Common.{◌≡◌, ℕ, ◌+◌, ◌<◌, false, true, [], ◌∷◌, ◌++◌, append_assoc, Option, Some, None, sym, ap, subst, ◌∙◌, arith}
 use Rattle.std.proofs.lemmas.Bool.{false_from_ne_true}
 use Rattle.af_base.specs.declared.state.FastState.{FastState}
@@ -29,7 +29,7 @@ Watched = Polls ServerState StreamNames
 
 -- ## What a poll adds to the observer's list
 
--- a look at the state of the number that it has then, and perhaps its acknowledgement
+-- a look at the state of the number that the mixer has then, and perhaps its acknowledgement
 pub record PollAdds (o o' : Watched) : Type 0 where
   pub state : Option FastState
   pub items : Items
@@ -84,7 +84,7 @@ module _ (m : NormalState) (f g : MixerState) (adopts : Adopts f g) (on : is_ove
   number_is : o'.number ≡ (mutated p.first p.events).pushed
   number_is = number ∙ sym (tells.pushed p.first)
 
-  -- the history goes on by it
+  -- the history goes on by the poll
   pub history_polled : HasHistory p.first p.events o'.events
   history_polled =
       let bs : Polled = observer.SawNext o'.number added.state added.items ∷ added.more in
@@ -109,7 +109,7 @@ module _ (m : NormalState) (f g : MixerState) (adopts : Adopts f g) (on : is_ove
     found : FindsLastOf p.first p.events (o.number + 1) (Some x) came
     found = finds_last_of p.first all p.events later parts o.events (o.number + 1) (Some x) came (observer.Ack (o.number + 1) back ∷ rest) whole_new number_new
 
-    -- the state that it took is the last one, with the items that went with it, and the mutator hadn't seen it acknowledged
+    -- the state that the poll took is the last one, with the items that went with it, and the mutator hadn't seen it acknowledged
     new_is_last : (x ≡ p.last) × (came ≡ items_sent m) × ((mutated_by m).clear ≡ false)
     new_is_last = (
       found.shows.0 ∙ tells.last (let more = number in let now = one_on_from in omega (arith, more, now)) p.first,
@@ -120,7 +120,7 @@ module _ (m : NormalState) (f g : MixerState) (adopts : Adopts f g) (on : is_ove
   pub finds_last : FindsLast m f g
   finds_last = record { number = number; new = new_is_last }
 
-  -- and where it has as many states as were pushed, it has the last
+  -- if the mixer has as many states as were pushed, it has the last
   pub same_polled : (0 < p.number → o.number ≡ p.number → o.state ≡ p.last) → 0 < p.number → o'.state ≡ p.last
   same_polled same some = let q = adopts.polls on in by_poll q.0 q.1 q.2 q.3
     where

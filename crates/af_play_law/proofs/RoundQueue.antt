@@ -22,7 +22,7 @@ module _ (first : FastState) (all ms later : Pushed) (parts : all ≡ ms ++ late
   numbers : Numbered 0 all
   numbers = numbered first all (os ++ observer.SawNext k x items ∷ rest) whole
 
-  -- it finds no state that isn't pushed in the end
+  -- the look finds no state that isn't pushed in the end
   pub none_later : k ≤ (mutated first all).pushed
   none_later =
       let low = no_fewer_then first look.at.front look.at.back (subst (Numbered 0) look.at.parts numbers) in
@@ -30,7 +30,7 @@ module _ (first : FastState) (all ms later : Pushed) (parts : all ≡ ms ++ late
       let is = look.number in
       omega (arith, low, same, is)
 
-  -- nor an earlier one than the last of which the observer had learnt
+  -- the look finds no earlier state than the last of which the observer had learnt
   pub none_earlier : (old since : Polled) → os ≡ old ++ since → ((mutated first ms).pushed ≡ 0) ⊎ HasLearnt ms old → (mutated first ms).pushed ≤ k
   none_earlier old since is knows = ⊎_elim (λ (none : (mutated first ms).pushed ≡ 0). (let low : (mutated first ms).pushed ≤ k = omega (arith, none) in low)) learnt knows
     where
@@ -45,7 +45,7 @@ module _ (first : FastState) (all ms later : Pushed) (parts : all ≡ ms ++ late
           let now = look.number in
           omega (arith, low, same, now)
 
-  -- where it has the number of the last state that ms pushed it finds that state
+  -- if the look has the number of the last state that ms pushed, it finds that state
   pub finds_last_of : k ≡ (mutated first ms).pushed → FindsLastOf first ms k x items
   finds_last_of is = record { number = is; shows = by_state x look.shows }
     where
@@ -58,14 +58,14 @@ module _ (first : FastState) (all ms later : Pushed) (parts : all ≡ ms ++ late
 
 -- ## A turn
 
--- its events
+-- the events of the turn
 pub grown_by : (ms us : Pushed) → GrowsByTurn ms us → (turn : Pushed) × (us ≡ ms ++ turn)
 grown_by ms us g = elim (g.ends) as (λ _. (turn : Pushed) × (us ≡ ms ++ turn)) [
   | inl is ↦ (g.looks, is)
   | inr push ↦ (g.looks ++ mutator.Push push.0 push.1 push.2 ∷ [], push.3 ∙ append_assoc ms g.looks (mutator.Push push.0 push.1 push.2 ∷ []))
 ]
 
--- it pushes no more than one state
+-- the turn pushes no more than one state
 pub one_more : (first : FastState) (ms us later : Pushed) (os : Polled) → GrowsByTurn ms us → HasHistory first (us ++ later) os → (mutated first us).pushed ≤ (mutated first ms).pushed + 1
 one_more first ms us later os g h = elim (g.ends) as (λ _. (mutated first us).pushed ≤ (mutated first ms).pushed + 1) [
   | inl is ↦ (let same = ap (λ (l : Pushed). (mutated first l).pushed) is in omega (arith, same, looks))

@@ -27,7 +27,7 @@ use Rattle.af_told_law.proofs.TurnCounts.{turns_made}
 use Rattle.af_play_law.proofs.OneCycle.{MayCycle}
 use Rattle.af_play_law.proofs.TurnApart.{order_unread}
 
--- the session after the turn, where the reader of the report hasn't loaded yet
+-- the session after the turn, when the reader of the report hasn't loaded yet
 abbrev pub unread : SessionState → NormalState → SessionState
 unread x n = record x { normal = record n { reader = x.normal.reader } }
 

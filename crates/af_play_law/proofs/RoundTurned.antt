@@ -106,13 +106,13 @@ module _ (x u z : SessionState) (ends : EndsMet u.normal z.normal u.fast z.fast)
     no_later : g.observer.past.number ≤ (mutated m.first pushes).pushed
     no_later = none_later m.first pushes m.events (turn.0 ++ met_of (length o.events)) parts f.observer.past.events g.observer.past.number added.state added.items (added.more ++ behind) whole_look
 
-    -- it finds the last state pushed before the round, or the next one
+    -- the poll finds the last state pushed before the round, or the next one
     pub no_third : (g.observer.past.number ≡ m.number) ⊎ (g.observer.past.number ≡ m.number + 1)
     no_third =
         let low = no_earlier in let high = no_later in let most = few in
         ⊎_elim (λ (more : m.number < g.observer.past.number). inr (omega (arith, more, high, most))) (λ (same : g.observer.past.number ≤ m.number). inl (omega (arith, same, low))) (cases_lt m.number g.observer.past.number)
 
-    -- one that finds no later state than those pushed before the round finds the last of these, and the history goes on by it
+    -- a poll that finds no later state than those pushed before the round finds the last of these, and the history goes on by it
     pub early_poll : HasHistory m.first m.events f.observer.past.events → g.observer.past.number ≤ m.number → FindsLast x.normal f g × HasHistory m.first m.events g.observer.past.events
     early_poll before early =
         let low = no_earlier in
@@ -121,7 +121,7 @@ module _ (x u z : SessionState) (ends : EndsMet u.normal z.normal u.fast z.fast)
           history_polled x.normal f g adopts on between.step.tells acked pushes (turn.0 ++ met_of (length o.events)) parts behind whole_polled before number,
         )
 
-    -- one that finds a later one finds that which the turn pushed
+    -- a poll that finds a later state finds the one that the turn pushed
     pub late_poll : Tells n → HasHistory m.first n.events f.observer.past.events → m.number < g.observer.past.number → FindsLast u.normal f g × HasHistory m.first n.events g.observer.past.events
     late_poll tells before late =
         let high = no_later in let most = few in
@@ -144,7 +144,7 @@ module _ (x u z : SessionState) (ends : EndsMet u.normal z.normal u.fast z.fast)
     whole_cut : HasHistory m.first pushes (es ++ rest)
     whole_cut = subst (HasHistory m.first pushes) (ap (λ (l : Polled). l ++ observer.Learn (length n.events) ∷ []) cut ∙ append_assoc es ls (observer.Learn (length n.events) ∷ [])) whole
 
-    -- what comes next owes nothing
+    -- the observer owes nothing before the late polls
     owes : (observed es).due ≡ 0
     owes = by_next ls late whole_cut
       where
@@ -174,7 +174,7 @@ module _ (x u z : SessionState) (ends : EndsMet u.normal z.normal u.fast z.fast)
       pub history_turned : HasHistory m.first n.events es
       history_turned = subst (λ (l : Pushed). HasHistory m.first l es) (sym is) (cut_behind m.first m.events looks k y sent (met_of (length o.events)) es rest whole_push before (next_behind ls late))
 
-    -- where the turn pushed nothing no poll is late
+    -- if the turn pushed nothing, no poll is late
     pub none_late : n.events ≡ m.events ++ grows.looks → ls ≡ []
     none_late is = by_next ls late whole_cut
       where
@@ -191,7 +191,7 @@ module _ (x u z : SessionState) (ends : EndsMet u.normal z.normal u.fast z.fast)
         by_next (Ack k items ∷ os) late h = absurd late
         by_next (observer.Learn c ∷ os) late h = absurd late
 
-    -- the same with a meeting at the end, of which something may be known
+    -- the queue has a history with a meeting at the end, of which something may be known
     pub record Later : Type 0 where
       pub known_polls : ℕ
       pub known_pushes : ℕ

@@ -68,7 +68,7 @@ module _ (s : Session) (marks : Marks) where
     since = same_played links s run d x u z bytes round holds.stands w hears
 
     module _ (rest : RunIsTold s marks after deeds rounds t) where
-      -- a stream that meets now or later
+      -- the server of a stream that meets now or later saw its own fronts
       saw_stream : (i : ℕ) → i < track_count s → marks.streams i ≡ true → (takes_part s played i || meets_from s after rounds i) ≡ true → SawOwnOf (told_at played i).stream.shape (deeds.streams i)
       saw_stream i low on meets = ⊎_elim
           (λ (now : takes_part s played i ≡ true). told.told.streams i low now ((marked_now i (let m = since.after in omega (arith, low, m))).stream on))

@@ -45,7 +45,7 @@ module _ (c : Setup) (k : Learnt) (m : NormalKept) (e : Turn) (back again sent :
   pub turn_grows : GrowsByTurn ms (ms ++ mutator_list c k m e back again sent)
   turn_grows = by_end m.ended e.ended
 
--- so does a legal one
+-- a legal turn looks at the acknowledgement and then perhaps pushes one state
 pub legal_grows : (o : Outside) (x n : NormalState) → IsLegal o x n → GrowsByTurn x.mutator.past.events n.mutator.past.events
 legal_grows o x n legal = subst (GrowsByTurn x.mutator.past.events) (sym legal.lists.mutator)
     (turn_grows (setup_of x) (learnt o) (kept_of x) (turn_of n.entry) legal.lists.back legal.lists.again legal.lists.sent x.mutator.past.events)

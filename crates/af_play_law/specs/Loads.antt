@@ -24,13 +24,13 @@ pub record LoadsOneOf (known k : ℕ) (reports : List Report) (x : Report) : Typ
   pub stored : k ≤ length reports
   pub is : x ≡ report_of reports k
 
--- The first load since a meeting shows the report of its number among all that are stored in the end. That is no older than the last one stored before the meeting
+-- The first load since a meeting shows the report of its number among all that are stored in the end. This report is no older than the last one stored before the meeting
 abbrev pub LoadsShowTheirNumber : Type 0
 LoadsShowTheirNumber = (ws more : List (WriterEvent Report)) (rs behind : List (ReaderEvent Report)) (k : ℕ) (x : Report)
     → ((ws ≡ []) × (rs ≡ [])) ⊎ MetLast ws rs → HasHistory no_report (ws ++ more) (rs ++ reads.Load k x ∷ behind)
     → LoadsOneOf (stores ws) k (reports_stored (ws ++ more)) x
 
--- each report tells its number, from n on
+-- each report has its number, counted from n on
 abbrev pub CountUp : ℕ → List Report → Type 0
 CountUp n [] = Unit {0}
 CountUp n (r ∷ reports) = (r.cycle ≡ n + 1) × CountUp (n + 1) reports

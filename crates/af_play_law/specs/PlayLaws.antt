@@ -20,7 +20,7 @@ pub record EndsAsRun (script : ScriptData) (files : List (List Frame)) (j : Jour
   pub so_far : IsRunSoFar script files j
   pub ended : all_ended (session_of script files) (run_of script files j) ≡ true
 
--- Of a session that was made new of a script, and played these rounds until all parties had ended, the rounds are by themselves those of a run of the script and its files, where they have the form of a journal
+-- Of a session that was made new of a script, and played these rounds until all parties had ended, the rounds are by themselves those of a run of the script and its files, if they have the form of a journal
 abbrev pub PlaysAreToldAlone : Type 0
 PlaysAreToldAlone = (script : ScriptData) (files : List (List Frame)) (shared : SharedState) (x t : SessionState) (rounds : List RoundSeen) → IsNewSession script shared x → PlaysOn (session_of script files) (marks_of rounds) x rounds t → all_over t ≡ true
     → IsJournal (journal_with script rounds) → EndsAsRun script files (journal_with script rounds)

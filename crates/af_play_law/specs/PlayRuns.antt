@@ -26,7 +26,7 @@ abbrev pub PlaysOn : Session → Marks → SessionState → List RoundSeen → S
 PlaysOn s marks x [] t = t ≡ x
 PlaysOn s marks x (round ∷ rounds) t = (links : Links) × (u : SessionState) × (z : SessionState) × (bytes : List ℕ) × (all_over x ≡ false) × IsRoundMarked marks round.calls × RoundPlayed links s x u z bytes round × PlaysOn s marks (with_ends z) rounds t
 
--- ## The blocks of which is known what their servers saw
+-- ## The blocks whose servers' looks are known
 
 -- a track's stream proxy takes part in the meeting after one of these rounds
 abbrev pub meets_from : Session → Run → List RoundSeen → ℕ → Bool
@@ -57,6 +57,6 @@ pub record RunIsTold (s : Session) (marks : Marks) (run : Run) (d : Deeds) (roun
   pub sure : SureRounds s marks run rounds
   pub saw : (i : ℕ) → i < track_count s → marks.streams i ≡ true → meets_from s run rounds i ≡ true → SawOwnOf (told_at run i).stream.shape (d.streams i)
 
--- so they are for each session and each marks
+-- for any marks and any run that tells a session, the rounds played from there on are told
 abbrev pub RunsAreTold : Session → Type 0
 RunsAreTold s = (marks : Marks) (rounds : List RoundSeen) (run : Run) (d : Deeds) (x t : SessionState) → PlayHolds s marks run d x → PlaysOn s marks x rounds t → RunIsTold s marks run d rounds t

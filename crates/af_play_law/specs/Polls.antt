@@ -27,7 +27,7 @@ pub record GrowsByTurn (ms us : Pushed) : Type 0 where
   pub none : list_any is_push looks ≡ false
   pub ends : (us ≡ ms ++ looks) ⊎ ((k : ℕ) × (y : FastState) × (sent : Items) × (us ≡ (ms ++ looks) ++ mutator.Push k y sent ∷ []))
 
--- A look found the last state that these events push: it saw that state's number, and where it took a state that one, with the items that went with it
+-- A look found the last state that these events push: it saw that state's number, and if it took a state, that one, with the items that went with it
 pub record FindsLastOf (first : FastState) (ms : Pushed) (k : ℕ) (x : Option FastState) (items : Items) : Type 0 where
   pub number : k ≡ (mutated first ms).pushed
   pub shows : IfSome x (λ z. (z ≡ (mutated first ms).last) × (items ≡ (mutated first ms).items))

@@ -28,7 +28,7 @@ pub record RoundNotes (x u : SessionState) (round : RoundSeen) : Type 0 where
   pub turn : round.turn ≡ turn_noted x.normal u.normal
   pub entries : round.entries ≡ entries_seen (drop (length x.fast.log.frames) u.fast.log.frames) (drop (length x.fast.log.entries) u.fast.log.entries)
 
--- there are as many reports as entries, and each tells its number
+-- there are as many reports as entries, and each has its number
 pub record ReportsCount (run : Run) : Type 0 where
   pub many : length run.reports ≡ length run.entries
   pub cycles : CountUp 0 run.reports

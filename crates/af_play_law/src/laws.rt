@@ -22,7 +22,7 @@ pub fn a_load_shows_the_report_of_its_number()
     ensures { LoadsShowTheirNumber }
 {}
 
-/// A round in which all parties act at the same time is told by its journal: the run with it tells the session after it, and where some party went on the round is legal by marks on whose blocks each front seen is a server's own; what stood before it stands again.
+/// A round in which all parties act at the same time is told by its journal: the run with it tells the session after it, and if some party went on the round is legal by marks on whose blocks each front seen is a server's own; what stood before it stands again.
 pub fn a_round_of_all_parties_is_told()
     ensures { (s : Session) → RoundsAreTold s }
 {}
@@ -37,7 +37,7 @@ pub fn a_play_is_told_by_its_journal()
     ensures { PlaysAreToldAlone }
 {}
 
-/// The ends of a play, whether it has ended or was cut off, keep the lists of the run that its rounds tell: those of the clients' proxies, of the queue's mutator, of the report's reader, of the pipe's end, of the hands, and of the proxies that the normal mixer holds, where no poke was made.
+/// The ends of a play, whether it has ended or was cut off, keep the lists of the run that its rounds tell: those of the clients' proxies, of the queue's mutator, of the report's reader, of the pipe's end, of the hands, and of the proxies that the normal mixer holds, if no poke was made.
 pub fn the_ends_of_a_play_keep_its_lists()
     ensures { PlaysKeepTheirLists }
 {}

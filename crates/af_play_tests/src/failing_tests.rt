@@ -128,7 +128,7 @@ const TRACES: &[PlayFailure<'static>] = &[
     ("", 0, 1, 5, "cycles ", [Whole; 3]),
 ];
 
-/// How much of a file is left that is whole or not, where it is there.
+/// How much of a file is left that is whole or not, if it is there.
 fn judged_left(found: Option<&[u8]>, is_whole: bool) -> Left {
     match found {
         None => Unmade,
@@ -156,7 +156,7 @@ fn is_verified<R: Threads + Sync + Abort>(
     Ok(run(rt, alloc, &words, files, &mut out, &NoGate).code() == 0)
 }
 
-/// What is left of OUT, JOURNAL and LOG. The sound is whole where each frame is heard once and in order, the journal where it is verified, and the log where its last line is.
+/// What is left of OUT, JOURNAL and LOG. The sound is whole if each frame is heard once and in order, the journal if it is verified, and the log if its last line is there.
 fn lefts<R: Threads + Sync + Abort>(
     rt: &R,
     alloc: Global,
@@ -185,7 +185,7 @@ fn one_fails<'a>(alloc: Global, name: &'a str, failing: u64) -> Result<OneFails<
     })
 }
 
-/// Whether a text is printed that begins so, and none where that is empty.
+/// Whether a text is printed that begins so, and none if that is empty.
 fn is_begun(printed: &[u8], line: &str) -> bool {
     printed.starts_with(line.as_bytes()) && printed.is_empty() == line.is_empty()
 }

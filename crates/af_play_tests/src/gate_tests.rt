@@ -121,7 +121,7 @@ fn is_played<R: Threads + Sync>(
     is_whole
 }
 
-/// The same, in a play alone.
+/// All six turns found the other party, in a play alone.
 fn expect_play<R: Threads + Sync + Abort>(rt: &R, alloc: Global, other: u32) -> Result<(), Fail> {
     let (script, files) = idle(alloc)?;
     let watch = Watch::new(other);

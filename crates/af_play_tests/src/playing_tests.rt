@@ -11,7 +11,7 @@ use std::thread::Threads;
 const CUT: &str =
     "version = 1\nframes = 2\nnormal = 1\ncycles = 1\n[[track]]\nkind = \"fast\"\nframes = 8\nchannels = 2\nfile = \"in.pcm\"\nops = [\"open\"]\n";
 
-/// How a play ends: its exit status, the end of its line, the samples of its sound that aren't silent, and the beginning of the journal's text, where that file is there.
+/// How a play ends: its exit status, the end of its line, the samples of its sound that aren't silent, and the beginning of the journal's text, if that file is there.
 #[derive(Clone, Copy)]
 struct End<'a> {
     status: u8,
@@ -26,7 +26,7 @@ fn has_sound(alloc: Global, store: &MemStore, wanted: &[u8]) -> Result<bool, Fai
     Ok(sound.as_slice() == wanted)
 }
 
-/// Whether the text of the journal begins so, where that file is to be there.
+/// Whether the text of the journal begins so, if that file is to be there.
 fn has_text(store: &MemStore, wanted: Option<&str>) -> bool {
     match (store.file("out.txt"), wanted) {
         (Some(text), Some(begun)) => text.starts_with(begun.as_bytes()),
@@ -35,7 +35,7 @@ fn has_text(store: &MemStore, wanted: Option<&str>) -> bool {
     }
 }
 
-/// Whether a line is printed that ends so, and none where that is empty.
+/// Whether a line is printed that ends so, and none if that is empty.
 fn is_line(printed: &[u8], wanted: &str) -> bool {
     printed.ends_with(wanted.as_bytes()) && printed.is_empty() == wanted.is_empty()
 }
@@ -72,7 +72,7 @@ fn a_play_ends_well(rt: HostRuntime) -> Result<(), Fail> {
     expect_play(&rt, rt.alloc(), WHOLE, (0, 0), want)
 }
 
-/// A play that is cut off at its limit has its journal and its line. Where the file of the journal can't be made or filled, or the line can't be printed, that is the answer.
+/// A play that is cut off at its limit has its journal and its line. If the file of the journal can't be made or filled, or the line can't be printed, that is the answer.
 #[test]
 fn a_play_is_cut_off(rt: HostRuntime) -> Result<(), Fail> {
     let alloc = rt.alloc();

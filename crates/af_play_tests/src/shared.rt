@@ -32,7 +32,7 @@ pub(crate) fn loud(alloc: Global, bytes: &[u8]) -> Result<Vec<u8>, Fail> {
     Ok(found)
 }
 
-/// A list of one number, or of none where it is 0.
+/// A list of one number, or of none if it is 0.
 fn only(alloc: Global, number: u64) -> Result<Vec<u64>, Fail> {
     let mut numbers = Vec::new(alloc);
     if number > 0 {

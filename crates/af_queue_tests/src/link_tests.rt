@@ -251,7 +251,7 @@ fn run_fast(
     take_all(links, to, writer, total) && !held
 }
 
-// The same of the normal mixer.
+// What the normal mixer has of the shared objects, with its conditions on the links.
 fn run_normal(
     links: &Links<'_>,
     mutator: Mutator<Server, StreamNames>,
@@ -294,7 +294,7 @@ fn cross<R: Threads + Sync>(
     in_place && right
 }
 
-// The same over these blocks, and a new pipe of four buffers of 64 frames.
+// Both mixers' ends on two threads, over these blocks and a new pipe of four buffers of 64 frames.
 fn cross_over<R: Threads + Sync>(
     rt: &R,
     alloc: Global,
@@ -325,7 +325,7 @@ fn cross_over<R: Threads + Sync>(
     ))
 }
 
-// The same with so many numbered frames, over one block.
+// Both mixers' ends on two threads, with so many numbered frames, over one block.
 fn run_both<R: Threads + Sync>(rt: &R, alloc: Global, total: u32) -> Result<bool, Memory> {
     let frames = numbered(alloc, total)?;
     let (stream, _client, _server) = Block::make(alloc, 64, 0)?;

@@ -120,7 +120,7 @@ fn start_answers<L: Ledger>(
     Ok(answers.as_slice() == wants)
 }
 
-// The answers of a list from the start, where both functions give those of the plain queue, and the ends are then the plain queue.
+// The answers of a list from the start, if both functions give those of the plain queue, and the ends are then the plain queue.
 fn answers_of_both<L: Ledger>(
     alloc: Global,
     list: &[Told],

@@ -27,7 +27,7 @@ pub(crate) type Pushing = Mutator<u32, ByNumber>;
 
 pub(crate) type Polling = Observer<u32, ByNumber>;
 
-// Attaches a track where the slot is free, and says whether it was.
+// Attaches a track if the slot is free, and says whether it was.
 pub(crate) fn attach(mutator: &mut Pushing, slot: u32, track: u32) -> bool
     requires idle { mutator.old.editing ≡ false }
     requires slot { (1 ≤ slot) × (slot < slots) }
@@ -46,7 +46,7 @@ pub(crate) fn attach(mutator: &mut Pushing, slot: u32, track: u32) -> bool
     true
 }
 
-// Detaches a slot where it is active, and says whether it was.
+// Detaches a slot if it is active, and says whether it was.
 pub(crate) fn detach(mutator: &mut Pushing, slot: u32) -> bool
     requires idle { mutator.old.editing ≡ false }
     requires slot { (1 ≤ slot) × (slot < slots) }
@@ -135,7 +135,7 @@ fn show<L: Ledger>(
     observer.poll(line, steps)
 }
 
-// Polls before the first state and after the second, each of which is polled before the next. Whether each poll told what came, and the two states are then the last ones.
+// Polls before the first state and after the second, each of which is polled before the next. Whether each poll answered what came, and the two states are then the last ones.
 fn two_come<L: Ledger>(
     line: &Line,
     mutator: &mut Pushing,

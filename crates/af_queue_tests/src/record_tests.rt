@@ -25,7 +25,7 @@ fn number(frames: &mut [Frame], first: u32)
     }
 }
 
-// The number after the last, where the numbers of these frames rise from `low` on.
+// The number after the last, if the numbers of these frames rise from `low` on.
 fn risen(frames: &[Frame], low: Option<u32>) -> Option<u32> {
     let mut next = low?;
     for frame in frames {

@@ -1,4 +1,4 @@
--- Where the client never flushed, no flush word seen is other than 0, and a server that looks and takes drops nothing.
+-- If the client never flushed, no flush word seen is other than 0, and a server that looks and takes drops nothing.
 use Rattle.std.proofs.Common.{◌≡◌, ℕ, ◌+◌, ◌*◌, ◌%◌, ◌==◌, if◌then◌else◌, Bool, true, false, true≢false, Option, Some, fold, List, [], ◌∷◌, ◌++◌, refl, sym, ap, ◌∙◌, arith, eq-eqb, eqb-true}
 use Rattle.std.specs.List.{list_all}
 use Rattle.std.proofs.lemmas.Grind.{fold-append}
@@ -66,7 +66,7 @@ module _ (shape : Shape) (flat : shape.wrap ≡ 0) where
 
 -- ## Nothing is dropped
 
--- a look that sees the flush word 0, where 0 was kept, drops nothing
+-- a look that sees the flush word 0, if 0 was kept, drops nothing
 no_drop : (b d : Bool) (front rear count : ℕ) → drops_of (if b then seen.Shut front rear else if d then seen.Empty else seen.Frames count) front ≡ []
 no_drop true d front rear count = refl
 no_drop false true front rear count = refl
@@ -130,6 +130,6 @@ module _ (k : Shape) where
       let on = stays_calm before es list (all_first is_reading es (server.Learn count ∷ []) reads) (all_first is_zero es (server.Learn count ∷ []) zeros) in
       more_calm es (server.Learn count ∷ []) on.calm refl
 
-  -- a server that looks and takes drops nothing, where it sees no flush
+  -- a server that looks and takes drops nothing, if it sees no flush
   pub drops_nothing : (shown : Option ℕ) (events : List ServerEvent) → IsServerList k shown events → list_all is_reading events ≡ true → list_all is_zero events ≡ true → list_all is_calm events ≡ true
   drops_nothing shown events list reads zeros = (stays_calm shown events list reads zeros).calm

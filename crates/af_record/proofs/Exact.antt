@@ -67,7 +67,7 @@ module _ (size : ℕ) (takes : List ServerEvent) where
   rooms_front (client.SawStatus word ∷ xs) ys put low s = rooms_front xs ys put low s
   rooms_front (client.Poke word value ∷ xs) ys put low s = rooms_front xs ys put low s
 
-  -- where all that was taken is known, the last room is that by all of it
+  -- if all that was taken is known, the last room is that by all of it
   last_known : (xs : List ClientEvent) (put low room by : ℕ) → taken_in takes ≤ low → by ≤ put → room ≡ size - (by - taken_in takes) → SeesRoom size takes put low xs
       → (last : ℕ) × (last ≤ put + put_by xs) × (last_room size put room xs ≡ size - (last - taken_in takes))
   last_known [] put low room by known le is s = (by, omega arith, is)
@@ -167,7 +167,7 @@ pub front_is : (before rest : List ServerEvent) (flush rear front : ℕ) → See
 front_is before rest flush rear front s =
     (taken_behind before (server.SawFlush flush ∷ server.SawRear rear ∷ server.SawFront front ∷ rest) 0 s).0 ∙ ap wrapped (let e : 0 + taken_in before ≡ taken_in before = omega arith in e)
 
--- what a look shows where no flush is seen and the words fit the block: the lesser of the frames asked for and those that are there
+-- what a look shows if no flush is seen and the words fit the block: the lesser of the frames asked for and those that are there
 shown_as : (b d : Bool) (places front rear : ℕ) → b ≡ false → (d ≡ true → ahead front rear ≡ 0)
     → count_seen (if b then seen.Shut front rear else if d then seen.Empty else seen.Frames (min places (ahead front rear))) ≡ min places (ahead front rear)
 shown_as true d places front rear fits same = absurd (true≢false fits)
@@ -203,7 +203,7 @@ never_dead (client.SawStatus word ∷ es) all = never_dead es all
 never_dead (client.Poke word value ∷ es) all = never_dead es all
 never_dead (client.Learn count ∷ es) all = never_dead es all
 
--- an end that never saw INVALID stops where there is no room
+-- an end that never saw INVALID stops if there is no room
 by_room : (p : ClientPart) → list_all is_alive p.events ≡ true → IsStopped p → room_seen p ≡ 0
 by_room p alive (inl dead) = absurd (true≢false (sym dead ∙ never_dead p.events alive))
 by_room p alive (inr full) = full

@@ -55,7 +55,7 @@ put_or_lost : (ss : List Supply) → count_supplied ss ≡ length (kept ss) + co
 put_or_lost [] = refl
 put_or_lost (s ∷ ss) = let e = put_or_lost ss in let f = length-append s.put (kept ss) in omega arith
 
--- where what was taken begins what was put, the reads are a beginning of the kept list
+-- if what was taken begins what was put, the reads are a beginning of the kept list
 pub capture_history : (ss : List Supply) (rs : List (List ℕ)) (c : CaptureState) (l : ListenerState) → l.pass.part.frames ≡ take (length l.pass.part.frames) c.pass.part.frames → CameBy ss c → ReadBy rs l → IsCaptureHistory ss rs
 capture_history ss rs c l begins came read =
     let n : ℕ = length l.pass.part.frames in

@@ -110,7 +110,7 @@ record Reads (size : ℕ) (k : PutKept) (p : TrackPoint) (puts takes : ℕ) (e :
   point_is : next (point_of p puts takes) (two e) ≡ point_of (after_server p e) puts (takes + 1)
   room : TapeHasRoom size k (after_server p e)
 
--- where no flag is set, none are seen to have INVALID
+-- if no flag is set, none are seen to have INVALID
 no_flags : (flags word : ℕ) (b : Bool) → (bit_and flags 4 == 0) ≡ b → word ≡ 0 → MatchBool b (bit_and word 4 ≡ 0) (flags ≡ word) → bit_and flags 4 ≡ 0
 no_flags flags word true e none may = eqb-true (bit_and flags 4) 0 e
 no_flags flags word false e none may = ap (λ (n : ℕ). bit_and n 4) (may ∙ none)
@@ -229,7 +229,7 @@ module _ (shape : Shape) (size : ℕ) (few : size ≤ 65536) (from_zero : shape.
       }
   agrees (by_hand e ∷ order) h none puts takes = let long : length (hand_of order ++ e ∷ []) ≡ 0 = ap length none in absurd (omega (arith, length-append (hand_of order) (e ∷ [])))
 
-  -- where the two ends of a recording did what ends do, their history on the block is one of the recording
+  -- if the two ends of a recording did what ends do, their history on the block is one of the recording
   pub tape_history : (ce : List ClientEvent) (cf : List ℕ) (se : List ServerEvent) (sf : List ℕ) → HasHistory shape ce cf se sf [] → IsSupplyList size ce → list_all is_calm se ≡ true
       → HasTapeHistory size ce cf se sf
   tape_history ce cf se sf h puts takes =

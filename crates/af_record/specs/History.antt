@@ -9,7 +9,7 @@ use Rattle.af_model.specs.Order.{Event, one, two, Legal, after, HasOrder}
 use Rattle.af_model.specs.PipeHistory.{PipePoint, start, next, PutKept, nothing_put, may_put, after_put, is_taking}
 use Rattle.af_model.specs.PipeHistory as pipe
 
--- That of a pipe, in which the end that supplies also looks at the flags, and the end that reads at the flush word. No flags seen have INVALID, each flush word seen is 0, and nothing is dropped
+-- Which event is legal, as in a pipe, but that the end that supplies also looks at the flags, and the end that reads at the flush word. No flags seen have INVALID, each flush word seen is 0, and nothing is dropped
 abbrev pub legal : ℕ → PipePoint → Event ClientEvent ServerEvent → Type 0
 legal size p (one (client.SawFlags flags)) = bit_and flags 4 ≡ 0
 legal size p (one e) = pipe.legal size p (one e)
@@ -44,7 +44,7 @@ is_reading e = is_taking e
 abbrev pub IsReadList : List ServerEvent → Type 0
 IsReadList events = list_all is_reading events ≡ true
 
--- ## What is seen where nothing disturbs them
+-- ## What is seen if nothing disturbs the two ends
 
 -- no look at the flags shows INVALID
 abbrev pub is_alive : ClientEvent → Bool

@@ -9,7 +9,7 @@ use Rattle.af_server.specs.Order.{server_kept_of}
 use Rattle.af_record.specs.History.{HasTapeHistory}
 use Rattle.af_record.specs.Ends.{CaptureState, ListenerState, capture_made, listener_made}
 
--- for how many frames there is room in all, the words of those that are queued and of those that were read, and how many were supplied
+-- a recording in one hand: for how many frames there is room in all, the words of those that are queued and of those that were read, and how many were supplied
 pub record HandState : Type 0 where
   pub size : ℕ
   pub queued : List ℕ

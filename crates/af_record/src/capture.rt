@@ -20,7 +20,7 @@ pub struct Supplied {
 impl Capture {
     /// Supplies these frames, 1 to 1024. It writes until all are put or a write puts none. The rest is lost.
     ///
-    /// Some are lost exactly where the last write was answered with Full or Dead: the last front seen showed no room, since the frames put before that look, and not taken by that front, filled the block; or the last flags seen had INVALID, which a meeting shows never came. The frames supplied are no more than 2^62 in all.
+    /// Some are lost exactly if the last write was answered with Full or Dead: the last front seen showed no room, since the frames put before that look, and not taken by that front, filled the block; or the last flags seen had INVALID, which a meeting shows never came. The frames supplied are no more than 2^62 in all.
     pub fn supply<L: Ledger>(
         &mut self,
         block: &Block,
@@ -56,7 +56,7 @@ impl Capture {
         self.supplied
     }
 
-    /// How many of them were lost.
+    /// How many of the frames supplied were lost.
     pub fn overrun(&self) -> u64
         ensures value { result ≡ self.now.overrun }
         ensures rest { self.now.supplied ≡ length self.now.pass.part.frames + result }

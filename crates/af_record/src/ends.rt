@@ -56,7 +56,7 @@ impl Model for Listener {
     ghost invariant = { λ l. IsListening l.server l.total };
 }
 
-/// An empty recording for `frames` frames, from 1 to 8192, and its two ends. Each begins with no events. The only refusal is want of memory.
+/// An empty recording for `frames` frames, from 1 to 8192, and its two ends. Each begins with no events. Memory is its only refusal.
 pub fn make(alloc: Global, frames: u32) -> Result<(Block, Capture, Listener), Memory>
     requires some { 1 ≤ frames }
     requires few { frames ≤ 8192 }

@@ -103,7 +103,7 @@ fn read_met<L: Ledger>(
 }
 
 impl InHand {
-    /// An empty recording for `frames` frames, from 1 to 8192. The only refusal is want of memory, and no other call takes memory.
+    /// An empty recording for `frames` frames, from 1 to 8192. Memory is its only refusal, and no other call takes memory.
     pub fn make(alloc: Global, frames: u32) -> Result<InHand, Memory>
         requires { (1 ≤ frames) × (frames ≤ 8192) }
         ensures { IfOk result (λ h. h ≡ (record { size = frames; queued = []; read = []; supplied = 0 })) }

@@ -44,7 +44,7 @@ fn take_shown<L: Ledger>(
 impl Listener {
     /// Reads as many frames as the rear that it sees shows, and no more than `into` has places, 1 to 1024. They stand at the front of `into`, and the rest of it stays.
     ///
-    /// None are read where the look sees a flush, or a rear and a front that don't fit the block; after the latter it looks no more. A meeting shows that neither ever came. A step for each event, of which there are at most four, and for each frame.
+    /// None are read if the look sees a flush, or a rear and a front that don't fit the block; after the latter it looks no more. A meeting shows that neither ever came. A step for each event, of which there are at most four, and for each frame.
     pub fn read<L: Ledger>(
         &mut self,
         block: &Block,

@@ -21,7 +21,7 @@ fn count_put(wrote: Wrote) -> u32
     }
 }
 
-// Writes the first of these frames, and answers how many: none where the block is full, or the flags have INVALID.
+// Writes the first of these frames, and answers how many: none if the block is full, or the flags have INVALID.
 fn put_some<L: Ledger>(
     block: &Block,
     client: &mut Client,
@@ -46,7 +46,7 @@ fn put_some<L: Ledger>(
     count_put(client.write(block, frames, steps)) as usize
 }
 
-// Writes these frames, until all are put or a write puts none. It answers how many were put.
+// Writes these frames, until all are put or a write puts none, and answers how many were put.
 pub(crate) fn put_all<L: Ledger>(
     block: &Block,
     client: &mut Client,

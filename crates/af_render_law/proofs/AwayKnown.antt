@@ -33,7 +33,7 @@ module _ (c d : ClientState) where
   stays_home p None h' o m none = none-some m.0 (sym none ∙ m.1)
   stays_home p (Some g) h' o m none = none-some m.0 (sym none ∙ m.2)
 
-  -- one that is held does so too, and else the hand knows
+  -- a proxy that is held meets and stays, and else the hand knows its list
   by_away : (held held' : Option ServerState) (h g : HandSide) → MeetsAway (client_made c.pass) held h c held' g d → held' ≡ None → KnownBy d g
   by_away (Some p) held' h g m none = absurd (none-some m.0 (sym none ∙ m.1))
   by_away None held' h g m none = λ lawful.

@@ -79,7 +79,7 @@ module _ (turned met t : SessionState) (meets : Met turned met) (ends : t ≡ wi
   abbrev Same : Type 0
   Same = 0 < turned.normal.mutator.past.number → turned.fast.observer.past.number ≡ turned.normal.mutator.past.number → turned.fast.observer.past.state ≡ turned.normal.mutator.past.last
 
-  -- what the turn left stands after them
+  -- what the turn left stands after the meetings
   pub stands_after : Tells turned.normal.mutator.past → Same → Leads turned.fast.observer.past.state (kept_of turned.normal) → IsQuiet (kept_of turned.normal) → StandsBetween t
   stands_after tells same leads quiet =
       let m = turned.normal.mutator.past in
@@ -97,7 +97,7 @@ module _ (turned met t : SessionState) (meets : Met turned met) (ends : t ≡ wi
 -- ## Rounds
 
 module _ (g : Given) (s : SessionState) (r : RoundNoted) (bytes : List ℕ) (t : SessionState) (before : StandsBetween s) where
-  -- a round in which both mixers did nothing
+  -- what stands after a round in which both mixers did nothing
   pub still_stands : (turned met : SessionState) → Met turned met → t ≡ with_ends met → IsInOrder met.fast → turned.normal ≡ s.normal → turned.fast ≡ s.fast → StandsBetween t
   still_stands turned met meets ends order normal fast =
       let both : (s.normal ≡ turned.normal) × (s.fast ≡ turned.fast) = (sym normal, sym fast) in
@@ -110,7 +110,7 @@ module _ (g : Given) (s : SessionState) (r : RoundNoted) (bytes : List ℕ) (t :
   client_stands i w = let one = w.turns.3 in
       still_stands w.turned w.met w.meets w.ends w.together.met.fast.0 (ap (λ (x : SessionState). x.normal) one.leaves) (ap (λ (x : SessionState). x.fast) one.leaves)
 
-  -- the turn of the normal mixer
+  -- what stands after a round of the normal mixer
   pub normal_stands : IsRound g spec.Normal s r bytes t → StandsBetween t
   normal_stands w = by_ended s.normal.ended w.turns.1
     where
@@ -147,7 +147,7 @@ module _ (script : ScriptData) (shared : SharedState) (s : SessionState) (new : 
 
 -- ## A turn of the normal mixer before the meetings
 
--- the slots of states lead to tracks that are away then
+-- the slots of states lead to tracks that are away before the meetings
 pub leads_turned : (links : Links) (x : SessionState) (n : NormalState) (z : SessionState) (o : Outside) → AreTogether links x → IsLegal o x.normal n → StandsBetween x → Met (record x { normal = n }) z → AreTogether links z → Leads x.fast.observer.past.state (kept_of n)
 leads_turned links x n z o before legal stands meets after =
     let saw = saw_after (record x { normal = n }) z (with_ends z) meets refl after.fast.0 in

@@ -64,7 +64,7 @@ module _ (links : Links) (s : Session) (marks : Marks) (run : Run) (i : ℕ) (x 
   left : ToldBy s (calls_alone i round run) w.turned
   left = record { deeds = d; told = client_told s run i round x w.turned h (subst (ClientTurned (given_of s) i x w.turned) (sym here) turn); saw = saw_calls run d i round saw }
 
-  -- it is made legally, leaves the histories, and is told
+  -- the round is made legally, leaves the histories, and is told
   pub client_step : StepIsTold s marks run (makes.Client i) round y
   client_step = record {
     made = made;

@@ -59,7 +59,7 @@ module _ (s : Session) (run : Run) (x next : SessionState) (out out' : List Fram
   abbrev pub then_met : Run
   then_met = run_of.met s (with_poll s c.polled.observer.past.number run)
 
-  -- what the servers did up to there, and that each front seen is a server's own
+  -- what the servers did up to the meetings, and that each front seen is a server's own
   abbrev met_deeds : Deeds
   met_deeds = deeds_met s (with_poll s c.polled.observer.past.number run) h.deeds
 
@@ -78,7 +78,7 @@ module _ (s : Session) (run : Run) (x next : SessionState) (out out' : List Fram
   same_past : next.fast.observer.past ≡ c.met.fast.observer.past
   same_past = ap (λ (o : Observes ServerState StreamNames). o.past) (adds x next out out' answer c on).2.takes.observer
 
-  -- after the mix
+  -- what stands after the mix
   pub next_between : IsBetween next
   next_between = subst IsBetween (sym c.others) (between_mixed c.met next.fast same_past met_between)
 
@@ -88,7 +88,7 @@ module _ (s : Session) (run : Run) (x next : SessionState) (out out' : List Fram
   pub next_small : AreSmall next
   next_small = let t = small_told s then_met c.met met_told (λ i low. (then_tame i low).few) in subst AreSmall (sym c.others) (record { streams = t.streams; commands = t.commands })
 
-  -- the entry that the journal tells of it
+  -- the entry that the cycle added
   abbrev pub entry : CycleEntry
   entry = (adds x next out out' answer c on).0
 
@@ -145,7 +145,7 @@ module _ (s : Session) (run : Run) (x next : SessionState) (out out' : List Fram
     seen_is : entry_told next.fast.log.frames (length c.met.fast.log.frames) mixed.0 ≡ seen
     seen_is = λ j. entry_told next.fast.log.frames (length ((same_frames x next out out' answer c on) j)) (same_entry j)
 
-    -- it is legal, and told
+    -- the cycle is legal, and told
     pub cycle_legal : LegalEntry s marks (run_of.met s (with_poll s entry.state run)) seen
     cycle_legal = subst (λ (y : Run × EntrySeen). LegalEntry s marks y.0 y.1) (λ j. (run_is j, seen_is j)) (mixed.5 marks then_saw)
 

@@ -67,7 +67,7 @@ module _ (s : Session) (marks : Marks) (run : Run) (count : ℕ) (x : SessionSta
   left : ToldBy s (fold (cycle_alone s) run round.entries) w.turned
   left = subst (λ (es : List EntrySeen). ToldBy s (fold (cycle_alone s) run es) w.turned) (sym entries_are) turn.told
 
-  -- it is made legally, leaves the histories, and is told
+  -- the round is made legally, leaves the histories, and is told
   pub fast_step : StepIsTold s marks run (makes.Fast count) round y
   fast_step = record {
     made = made;
@@ -76,7 +76,7 @@ module _ (s : Session) (marks : Marks) (run : Run) (count : ℕ) (x : SessionSta
     unseen = λ e is. absurd (none-some e (sym made.1 ∙ is));
   }
 
-  -- the ends of the queue are in step after it
+  -- the ends of the queue are in step after the round
   pub fast_between : IsBetween y
   fast_between = subst IsBetween (sym w.ends) (between_ends w.met (between_after w.together.links w.turned w.met w.together.met w.meets turn.between))
     where

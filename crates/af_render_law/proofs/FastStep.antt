@@ -23,7 +23,7 @@ use Rattle.af_told_law.specs.Tells.{given_of}
 use Rattle.af_render_law.proofs.FastRound.{fast_between, fast_step}
 use Rattle.af_told_law.proofs.MixTold.{mix_told}
 
--- the ends of the queue between two rounds
+-- what the ends of the queue stand on between two rounds
 pub between_by : (x : SessionState) → StandsBetween x → IsBetween x
 between_by x h = record { step = h.step; history = h.history; state = h.leads.state; last = h.leads.last }
 

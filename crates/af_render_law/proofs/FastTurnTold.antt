@@ -1,4 +1,4 @@
--- The cycles of a fast turn, one after the other, are told, where the meetings after the turn show what the servers saw in the last one.
+-- The cycles of a fast turn, one after the other, are told, if the meetings after the turn show what the servers saw in the last one.
 use Rattle.std.proofs.Common.{◌≡◌, ℕ, zero, suc, ◌+◌, ◌≤◌, Bool, true, false, true≢false, fold, take, drop, List, [], ◌∷◌, ◌++◌, length, append-nil, append_assoc, refl, sym, ap, ◌∙◌, subst, arith}
 use Rattle.std.proofs.Math.Seq.{drop-append_seam}
 use Rattle.af_base.specs.declared.frame.Frame.{Frame}
@@ -94,7 +94,7 @@ module _ (links : Links) (t z : SessionState) (together : AreTogether links t) (
         seen_first : (es : List CycleEntry) → seen ∷ entries_seen (drop (length next.fast.log.frames) t.fast.log.frames) es ≡ entries_seen (drop (length x.fast.log.frames) t.fast.log.frames) (e ∷ es)
         seen_first es = λ j. record { entry = e; frames = sym head_frames j } ∷ entries_seen (sym tail_frames j) es
 
-        -- a cycle and the rest of the turn
+        -- a cycle is told with the rest of the turn
         one_and : (es : List CycleEntry) → t.fast.log.entries ≡ next.fast.log.entries ++ es → AreTurn mixed_entry (suc left) (e ∷ es) → LegalAlone s marks (cycle_alone s run seen) (entries_seen (drop (length next.fast.log.frames) t.fast.log.frames) es)
             → ToldBy s (fold (cycle_alone s) (cycle_alone s run seen) (entries_seen (drop (length next.fast.log.frames) t.fast.log.frames) es)) t → IsBetween t → TurnTold (suc left) run x
         one_and es added are legal told_t between_t = record {
@@ -106,12 +106,12 @@ module _ (links : Links) (t z : SessionState) (together : AreTogether links t) (
           between = between_t;
         }
 
-      -- the turn goes on
+      -- the turn is told if it goes on after the cycle
       goes_told : is_mixed answer ≡ true → (rest : List Frame) → t.fast.log.frames ≡ next.fast.log.frames ++ rest → TurnTold left (cycle_alone s run seen) next → TurnTold (suc left) run x
       goes_told is rest grows told = one_and rest grows told.entries told.added
           ((λ _. told.are), (λ dry. absurd (true≢false (sym is ∙ ap is_mixed (adds x next w.before w.after answer c on).1 ∙ dry)))) told.legal told.told told.between
 
-      -- or was that cycle
+      -- the turn is told if the cycle was its last one
       ends_told : is_mixed answer ≡ false → t ≡ next → TurnTold (suc left) run x
       ends_told is over =
           one_and [] (ap (λ (y : SessionState). y.fast.log.frames) over ∙ sym (append-nil next.fast.log.frames)) [] (ap (λ (y : SessionState). y.fast.log.entries) over ∙ sym (append-nil next.fast.log.entries))
@@ -147,7 +147,7 @@ module _ (links : Links) (t z : SessionState) (together : AreTogether links t) (
           let own : SeesOwn next = meetings_show links next z small_next (subst (AreTogether links) over together) still between_next.state (subst (λ (y : SessionState). Met y z) over meets) in
           ends_told left run x next answer front w h between tame on own is over
 
-    -- the turn from x on
+    -- the turn is told from x on
     pub turn_told : (left : ℕ) (run : Run) (x : SessionState) (bytes : List ℕ) → IsFastTurn left x bytes t → ToldBy s run x → IsBetween x → IsMarkedRun marks run → x.fast.exited ≡ false → length x.fast.log.entries + left ≤ x.fast.cycles → TurnTold left run x
     turn_told zero run x bytes turn h between tame runs room = record {
       entries = [];

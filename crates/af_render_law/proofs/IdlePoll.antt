@@ -1,4 +1,4 @@
--- A poll after a mix of the same turn finds nothing new, since nobody pushed in between: so that the meetings after it show what they would have shown before it.
+-- A poll after a mix of the same turn finds nothing new, since nobody pushed in between: so the meetings after it show what they would have shown before it.
 use Rattle.std.proofs.Common.{◌≡◌, ◌⊎◌, inl, inr, ◌<◌, true, false, List, [], ◌∷◌, ◌++◌, length, sym, ap, ◌∙◌, subst, arith}
 use Rattle.af_base.specs.declared.state.FastState.{FastState}
 use Rattle.af_fast.specs.Mixer.{MixerState, is_over}
@@ -68,7 +68,7 @@ module _ (links : Links) (x : SessionState) (g : MixerState) (y : SessionState) 
       by_case (inl same) = subst P (sym (ap (λ (w : Watching). w.past.state) same)) old
       by_case (inr new) = subst P (sym new.1) last
 
-  -- where all is polled it is the last one
+  -- if all is polled, the state polled is the last one
   polled_last : 0 < m.number → g.observer.past.number ≡ m.number → g.observer.past.state ≡ m.last
   polled_last some all = by_case found.state
     where
@@ -89,17 +89,17 @@ module _ (links : Links) (x : SessionState) (g : MixerState) (y : SessionState) 
     last = subst (λ (w : FastState × List TrackKept). LeadAway w.0 w.1) (λ j. (sym (ap (λ (p : Pushes ServerState StreamNames). p.last) pushed_now) j, sym tracks_now j)) between.last;
   }
 
-  -- all is polled after them
+  -- all is polled after the meetings
   pub caught_met : y.fast.observer.past.number ≡ y.normal.mutator.past.number
   caught_met = ap (λ (p : Polls ServerState StreamNames). p.number) polled_now ∙ all_polled ∙ sym (ap (λ (p : Pushes ServerState StreamNames). p.number) pushed_now)
 
-  -- the state polled leads to such tracks before them too
+  -- the state polled leads to tracks whose proxies are away before the meetings too
   pub lead_polled : LeadAway g.observer.past.state x.normal.tracks
   lead_polled = polled_state (λ (z : FastState). LeadAway z x.normal.tracks) between.state between.last
 
 -- ## The meetings after a turn
 
--- they leave the queue's ends in step
+-- the meetings after a turn leave the queue's ends in step
 pub between_after : (links : Links) (x y : SessionState) → AreTogether links y → Met x y → IsBetween x → IsBetween y
 between_after links x y still met b =
     let m : Pushes ServerState StreamNames = x.normal.mutator.past in
@@ -127,7 +127,7 @@ idle_shows x g same idle shows = record {
 
 module _ (links : Links) (x : SessionState) (g : MixerState) (y : SessionState) (polled : AreTogether links (record x { fast = g })) (still : AreTogether links y) (adopts : Adopts x.fast g) (on : is_over x.fast ≡ false) (met : Met (record x { fast = g }) y)
     (between : IsBetween x) (caught : x.fast.observer.past.number ≡ x.normal.mutator.past.number) (small : AreSmall x) where
-  -- so the meetings after it show what each server saw before it
+  -- the meetings after such a poll show what each server saw before it
   pub idle_meetings_show : SeesOwn x
   idle_meetings_show =
       idle_shows x g adopts.same (same_found links x g y still adopts on met between caught)

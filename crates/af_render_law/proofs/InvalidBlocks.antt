@@ -33,7 +33,7 @@ use Rattle.af_render_law.proofs.MixedOpen.{Looked, played_open}
 use Rattle.af_render_law.proofs.NoInvalid.{SetsNoInvalid, SetNoInvalid, HandSetsNoInvalid, HandSetNoInvalid}
 use Rattle.af_render_law.proofs.Unmixed.{Unmixed}
 
--- of a block of this shape with these lists of its server and its hand
+-- no INVALID is set on a block of this shape with these lists of its server and its hand
 pub record SetsNone (s : TrackKept) (k : Shape) (events : List ServerEvent) (hands : List HandEvent) : Type 0 where
   pub server : Unmixed s → (server_kept k events).shut ≡ None → SetNoInvalid events
   pub hand : HandSetNoInvalid hands
@@ -93,13 +93,13 @@ cycle_sets asked x slot front h =
 -- ## The steps
 
 module _ (s : TrackKept) where
-  -- its client does something
+  -- the client of the block does something
   pub unset_called : (side : Side) (b : BlockTold) → StreamUnset s b → StreamUnset s (with_side side b)
   unset_called side b h =
       let es : List ClientEvent = drop (length (client_list b)) side.events in
       subst (λ hs. SetsNone s b.shape (server_list (with_side side b)) hs) (sym (client-hand b.told es)) (subst (λ xs. SetsNone s b.shape xs (hand_list b)) (sym (client-server b.told es)) h)
 
-  -- a meeting
+  -- the server of the block meets
   learns : (k : Shape) (es : List ServerEvent) (hs : List HandEvent) (count : ℕ) → SetsNone s k es hs → SetsNone s k (es ++ server.Learn count ∷ []) hs
   learns k es hs count h = record {
     server = λ u fine. All-push SetsNoInvalid es (server.Learn count) (h.server u (sym (ap (λ (x : ServerKept). x.shut) (fold-append (server_keeps k) (server_begins k) es (server.Learn count ∷ []))) ∙ fine)) tt;
@@ -115,7 +115,7 @@ module _ (s : TrackKept) where
   unset_met false true b h = hand_meets b.shape (server_list b) (hand_list b) _ h
   unset_met false false b h = h
 
-  -- an entry plays it, whose look wasn't Shut where the server isn't shut after it
+  -- an entry plays the block, and its look wasn't Shut if the server isn't shut after it
   unset_played : (asked : ℕ) (e : EntrySeen) (i : ℕ) (b : BlockTold) → ((server_kept b.shape (server_list (played asked e i b))).shut ≡ None → ((kept (listed b)).shut ≡ None) × (is_shut (entry_slot e.entry i).seen ≡ false))
       → StreamUnset s b → StreamUnset s (played asked e i b)
   unset_played asked e i b open_is h =
@@ -149,7 +149,7 @@ hands_set e n = by_flags e.ended (track_in e n).disabled
     by_flags false true = All-cons HandSetsNoInvalid (hand.SetFlags 8) [] refl (All-nil HandSetsNoInvalid)
     by_flags false false = All-nil HandSetsNoInvalid
 
--- the hand does what a turn does, and the server these events: none where the track is so after it, which was so before
+-- the hand does what a turn does, and the server these events: none if the track is unmixed after the turn, as it then was before
 pub unset_turned : (s t : TrackKept) (e : Turn) (n : ℕ) (es : List ServerEvent) (k : Shape) (told : List Moment) → (Unmixed t → Unmixed s) → (Unmixed t → es ≡ []) → SetsNone s k (server_of told) (hand_of told)
     → (let after = told_more (told_more told (map by_hand (turn.hand_list e n))) (map by_server es) in SetsNone t k (server_of after) (hand_of after))
 unset_turned s t e n es k told was none h =

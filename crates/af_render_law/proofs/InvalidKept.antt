@@ -33,7 +33,7 @@ use Rattle.af_render_law.proofs.NoInvalid.{SetNoInvalid, unseen}
 use Rattle.af_render_law.proofs.Unmixed.{IsOut, Unmixed}
 use Rattle.af_render_law.proofs.UnmixedTurns.{turn_out, turn_unmixed, none_found, none_taken, found_lives}
 
--- of each track: no life is in the mix before it is there, and no INVALID is set while the track is so
+-- of each track: no life is in the mix before it is there, and no INVALID is set while the track is unmixed
 pub record InvalidKept (run : Run) : Type 0 where
   pub out : (n : ℕ) → n < length run.tracks → IsOut (track_at run.normal.tracks n).life
   pub streams : (n : ℕ) → n < length run.tracks → StreamUnset (track_at run.normal.tracks n) (told_at run n).stream
@@ -173,7 +173,7 @@ invalid_round s marks run turn round made many h = invalid_ends (met_alone s run
 
 -- ## A track whose proxy is away
 
--- no INVALID was set on its stream block, if the turn finds it shut
+-- no INVALID was set on the stream block of a track whose proxy is away, if the turn finds it shut
 pub away_unset : (c : Setup) (k : Learnt) (e : Turn) (run : Run) (n : ℕ) → InvalidKept run → Sound run.normal → n < length run.tracks → is_home (track_at run.normal.tracks n).holder ≡ false → (kept (listed (told_at run n).stream)).shut ≡ None
     → (invalid k (track_in e n) (tracks_at c k run.normal e n) n ≡ []) ⊎ SetNoInvalid (server_list (told_at run n).stream)
 away_unset c k e run n h sound low away fine = by_life (found_lives c k run.normal e n)
@@ -182,7 +182,7 @@ away_unset c k e run n h sound low away fine = by_life (found_lives c k run.norm
     by_life (inl none) = inl none
     by_life (inr lives) = inr ((h.streams n low).server (record { lives = lives; apart = inr (slot_of_away (track_at run.normal.tracks n) (sound.slotted n) away) }) fine)
 
--- nor was it seen, if the block has a history
+-- the client of such a block has seen no INVALID, if the block has a history
 pub away_unseen : (c : Setup) (k : Learnt) (e : Turn) (run : Run) (n : ℕ) → InvalidKept run → Sound run.normal → n < length run.tracks → is_home (track_at run.normal.tracks n).holder ≡ false → (kept (listed (told_at run n).stream)).shut ≡ None
     → HasBlockHistory (told_at run n).stream → (invalid k (track_in e n) (tracks_at c k run.normal e n) n ≡ []) ⊎ SawNoInvalid (client_list (told_at run n).stream)
 away_unseen c k e run n h sound low away fine history = by_found (away_unset c k e run n h sound low away fine)

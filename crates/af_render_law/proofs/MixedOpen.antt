@@ -1,4 +1,4 @@
--- A look that an entry makes at a stream block answers by some front; and where the block's server isn't shut after it, it wasn't before, and the look wasn't Shut.
+-- A look that an entry makes at a stream block answers by some front; and if the block's server isn't shut after it, it wasn't before, and the look wasn't Shut.
 use Rattle.std.proofs.Common.{◌≡◌, ℕ, zero, suc, ◌+◌, ◌<◌, ◌==◌, ◌&&◌, not, Bool, true, false, if◌then◌else◌, is_some, map, List, [], ◌++◌, Option, Some, None, refl, sym, ap, ◌∙◌, subst, eqb-true, arith}
 use Rattle.std.specs.List.{find, range_with_len}
 use Rattle.std.proofs.lemmas.List.{get_or-replicate}
@@ -40,7 +40,7 @@ found_at p a (suc n) k e = by_first (p a) refl (found_at p (a + 1) n k) e
     by_first true is later f = let same : a ≡ k = ap number_of f in (subst (λ j. p j ≡ true) same is, omega (arith, same))
     by_first false is later f = let more = later f in (more.0, (let h = more.1 in omega (arith, h)))
 
--- a look by some front
+-- a look of an entry answers by some front
 abbrev pub Looked : Session → EntrySeen → ℕ → BlockTold → Type 0
 Looked s e i b = (front : ℕ) × LooksBy (cycle_frames s) (listed b) (entry_slot e.entry i) front
 

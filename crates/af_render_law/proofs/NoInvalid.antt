@@ -1,4 +1,4 @@
--- Where neither the server nor the hand of a block sets INVALID, its client never sees it.
+-- If neither the server nor the hand of a block sets INVALID, its client never sees it.
 use Rattle.std.proofs.Common.{◌≡◌, ℕ, ◌*◌, ◌==◌, max, min, bit_and, bit_or, Bool, true, false, MatchBool, List, [], ◌∷◌, ◌++◌, All, refl, sym, ap, ◌∙◌, subst, arith, eqb-true}
 use Rattle.std.specs.Int.{bit_at}
 use Rattle.std.proofs.lemmas.Nat.Bits.{and_pow, bit_at_and, bit_at_or}
@@ -27,7 +27,7 @@ SetsNoInvalid _ = Unit {0}
 abbrev pub SetNoInvalid : List ServerEvent → Type 0
 SetNoInvalid events = All SetsNoInvalid events
 
--- nor does a hand's
+-- a hand's event doesn't set INVALID
 abbrev pub HandSetsNoInvalid : HandEvent → Type 0
 HandSetsNoInvalid (hand.SetFlags bits) = bit_and bits 4 ≡ 0
 HandSetsNoInvalid (hand.Met client) = Unit {0}
@@ -47,7 +47,7 @@ module _ {X : Type 0} (P : X → Type 0) where
   all_last [] x h = All-head P x [] h
   all_last (y ∷ first) x h = all_last first x (All-tail P y (first ++ x ∷ []) h)
 
--- a list that begins so
+-- a server that sets no INVALID by a list sets none by a beginning of it
 pub set_first : (first rest events : List ServerEvent) → first ++ rest ≡ events → SetNoInvalid events → SetNoInvalid first
 set_first first rest events is h = all_first SetsNoInvalid first rest (subst SetNoInvalid (sym is) h)
 
@@ -114,7 +114,7 @@ hand_lacks p (hand.Met client) none h = h
 
 -- ## An order
 
--- the flags lack INVALID at the end of it, and no look before saw it
+-- the flags lack INVALID at the end of the order, and no look before saw it
 record Unseen (p : TrackPoint) (order : List Moment) : Type 0 where
   flags : bit_and (after p order).flags 4 ≡ 0
   saw : SawNone (client_of order)

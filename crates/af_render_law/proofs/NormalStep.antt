@@ -139,7 +139,7 @@ module _ (s : Session) (marks : Marks) (parts : PartsAreTold s) (run : Run) (x :
   abbrev then_run : Run
   then_run = with_load e turned_run
 
-  -- what the servers did up to its end
+  -- what the servers did up to the end of the turn
   abbrev then_deeds : Deeds
   then_deeds = did_by one.2.outside x n holds.told.deeds
 
@@ -162,14 +162,14 @@ module _ (s : Session) (marks : Marks) (parts : PartsAreTold s) (run : Run) (x :
   same_sides : (i : ℕ) → i < length run.tracks → (side_of (told_at turned_run i).stream ≡ side_of (told_at run i).stream) × (side_of (told_at turned_run i).commands ≡ side_of (told_at run i).commands)
   same_sides i low = (ap (λ (y : Track). y.stream) (turned_sides i low), ap (λ (y : Track). y.commands) (turned_sides i low))
 
-  -- each front seen up to its end is a server's own: one whose proxy isn't home was not looked at
+  -- each front seen up to the end of the turn is its own: one whose proxy isn't home was not looked at
   old_saw : SawOwnBy (tame_marks then_run) then_run holds.told.deeds
   old_saw = saw_loaded e turned_run holds.told.deeds (saw_sides run turned_run holds.told.deeds many_turned same_sides holds.told.saw)
 
   then_saw : SawOwnBy (tame_marks then_run) then_run then_deeds
   then_saw = saw_now links s then_run then_x after told own (λ i low gone none tame. turned_own links x n one.2.outside w.together.before legal i (told_at then_run i).stream.shape (holds.told.deeds.streams i) gone (old_saw.streams i low tame))
 
-  -- by the run before it
+  -- each front seen is a server's own by the run before the turn too
   before_saw : SawOwnBy marks run then_deeds
   before_saw =
       let loaded_many : length then_run.tracks ≡ length turned_run.tracks = same_many e turned_run in

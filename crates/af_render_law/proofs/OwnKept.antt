@@ -49,7 +49,7 @@ use Rattle.af_told_law.proofs.TameRuns.{lawful_before}
 
 -- ## Lists
 
--- of two parts
+-- if each front of two parts of a list is the server's own, so is each of the list
 own_join : (k : Shape) (kept : ServerKept) (xs ys : List ServerEvent) → AllSeeOwn k kept xs → AllSeeOwn k (fold (server_keeps k) kept xs) ys → AllSeeOwn k kept (xs ++ ys)
 own_join k kept [] ys a b = b
 own_join k kept (x ∷ xs) ys a b = (a.0, own_join k (server_keeps k kept x) xs ys a.1 b)
@@ -71,7 +71,7 @@ module _ (links : Links) (s : Session) (run : Run) {d : Deeds} (x : SessionState
   within : (i : ℕ) → i < length run.tracks → i < length x.normal.tracks
   within i low = let a = told.count.0 in let b = told.count.1 in let c = together.count in omega (arith, low, a, b, c)
 
-  -- where it's known of each stream's proxy that is neither home nor held, it is so of all
+  -- if it's known of each stream's proxy that is neither home nor held, it is so of all
   pub saw_now : ((i : ℕ) → i < length run.tracks → is_home (track_at x.normal.tracks i).holder ≡ false → held_slot x.fast i ≡ None → is_tame (told_at run i).stream ≡ true → SawOwnOf (told_at run i).stream.shape (d.streams i)) → SawOwnBy (tame_marks run) run d
   saw_now rest = record { streams = streams; commands = commands }
     where
@@ -138,7 +138,7 @@ saw_met s run d h = record { streams = streams; commands = commands }
 
 -- ## What changes no server's list
 
--- a run with the same sides of the clients
+-- a run with the same sides of the clients saw the same fronts
 pub saw_sides : (run after : Run) (d : Deeds) → length after.tracks ≡ length run.tracks → ((i : ℕ) → i < length run.tracks → (side_of (told_at after i).stream ≡ side_of (told_at run i).stream) × (side_of (told_at after i).commands ≡ side_of (told_at run i).commands))
     → SawOwnBy (tame_marks run) run d → SawOwnBy (tame_marks after) after d
 saw_sides run after d many same h = record {
@@ -146,7 +146,7 @@ saw_sides run after d many same h = record {
   commands = (λ i low. let l : i < length run.tracks = omega (arith, low, many) in subst (λ (y : Side). is_lawful y.events ≡ true → SawOwnOf y.shape (d.commands i)) (sym (same i l).1) (h.commands i l));
 }
 
--- the clients' ends
+-- the clients' ends change no server's list
 pub saw_ends : (run : Run) (d : Deeds) → SawOwnBy (tame_marks run) run d → SawOwnBy (tame_marks (with_ends run)) (with_ends run) d
 unfolding with_ends
 saw_ends run d h = by_end run.normal.ended
@@ -158,7 +158,7 @@ saw_ends run d h = by_end run.normal.ended
     by_end true = saw_sides run (each_track ended run) d (each_long ended 0 run.tracks) (λ i low. (ap (λ (t : TrackTold). side_of t.stream) (told_each ended run i low), ap (λ (t : TrackTold). side_of t.commands) (told_each ended run i low))) h
     by_end false = h
 
--- a client's calls
+-- a client's calls change no server's list
 pub saw_calls : (run : Run) (d : Deeds) (i : ℕ) (round : RoundSeen) → SawOwnBy (tame_marks run) run d → SawOwnBy (tame_marks (calls_alone i round run)) (calls_alone i round run) d
 saw_calls run d i round h = record { streams = streams; commands = commands }
   where
@@ -185,7 +185,7 @@ saw_calls run d i round h = record { streams = streams; commands = commands }
     commands : (n : ℕ) → n < length (calls_alone i round run).tracks → is_tame (told_at (calls_alone i round run) n).commands ≡ true → SawOwnOf (told_at (calls_alone i round run) n).commands.shape (d.commands n)
     commands n low = subst (λ (t : TrackTold). is_tame t.commands ≡ true → SawOwnOf t.commands.shape (d.commands n)) (sym (told_each change run n (inside n low))) (commands_by_track (n == i) (told_at run n) (d.commands n) (h.commands n (inside n low)))
 
--- a poll, and a load
+-- a poll and a load change no server's list
 pub saw_polled : (s : Session) (k : ℕ) (run : Run) (d : Deeds) → SawOwnBy (tame_marks run) run d → SawOwnBy (tame_marks (with_poll s k run)) (with_poll s k run) d
 unfolding with_poll
 saw_polled s k run d h = record { streams = h.streams; commands = h.commands }
@@ -220,7 +220,7 @@ module _ (links : Links) (x : SessionState) (n : NormalState) (o : Outside) (bef
   flags_own k kept true false = tt
   flags_own k kept false b = tt
 
-  -- a stream whose proxy isn't home after it was not looked at
+  -- a stream whose proxy isn't home after the turn was not looked at
   pub turned_unseen : (i : ℕ) (k : Shape) (kept : ServerKept) → is_home (track_at n.tracks i).holder ≡ false → AllSeeOwn k kept (stream_by (mixer_setup x.normal) (kept_of x.normal) o (turn_of n.entry) i)
   turned_unseen i k kept gone = by_end e.ended refl
     where
@@ -248,7 +248,7 @@ module _ (links : Links) (x : SessionState) (n : NormalState) (o : Outside) (bef
           ∙ append-nil (if is_home track.holder then invalid (learnt o) (track_in e i) (tracks_at c (learnt o) m e i) i else [])))
           (flags_own k kept (is_home track.holder) found)
 
-  -- so its fronts are its own as before
+  -- the fronts of a stream whose proxy isn't home after the turn are its own as before
   pub turned_own : (i : ℕ) (k : Shape) (deed : List ServerEvent) → is_home (track_at n.tracks i).holder ≡ false → SawOwnOf k deed → SawOwnOf k (deed ++ stream_by (mixer_setup x.normal) (kept_of x.normal) o (turn_of n.entry) i)
   turned_own i k deed gone saw = own_join k (server_begins k) deed (stream_by c m o e i) saw (turned_unseen i k (fold (server_keeps k) (server_begins k) deed) gone)
 

@@ -115,7 +115,7 @@ module _ (script : ScriptData) (files : List (List Frame)) (form : IsScript scri
       turns = subst (λ (rounds : List RoundSeen). AreTurns s (marks_of rounds) (new_run s) script.turns rounds) (sym rounds_are) (let all = turns back.rounds back.parties back.rendered in forced_run s (marks back.rounds back.parties back.rendered) script.turns (seen back.rounds back.parties back.rendered) form all.0 all.1);
     }
 
-    -- and the run that it tells tells the parties
+    -- the run that the journal tells tells the parties
     pub parties_told : ToldBy s (run_alone s (new_run s) script.turns j.rounds) back.parties
     parties_told = subst (λ (rs : List RoundSeen). ToldBy s (run_alone s (new_run s) script.turns rs) back.parties) (sym rounds_are) (turns back.rounds back.parties back.rendered).2
 

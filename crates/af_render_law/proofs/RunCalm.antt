@@ -28,7 +28,7 @@ pub record RunCalm (s : Session) (run : Run) : Type 0 where
 abbrev pub AllOpen : Run → Type 0
 AllOpen run = (n : ℕ) → n < length run.tracks → IsOpenStream (told_at run n)
 
--- each track is changed by its number
+-- the run stays calm if each of its tracks is changed by its number
 calm_each : (s : Session) (run after : Run) (change : ℕ → TrackTold → TrackTold) → after.tracks ≡ each_from change 0 run.tracks → length run.tracks ≡ track_count s
     → ((n : ℕ) → n < length run.tracks → TrackCalm (takes_part s after n) (change n (told_at run n))) → RunCalm s after
 calm_each s run after change is many each = record {

@@ -43,7 +43,7 @@ module _ (given : Option ℕ) (flush_seen : ℕ) where
   unfolding after_look
   look_ends look s shut = ends_by (shows_command look.seen) (is_shut look.seen) _ s (shut_shows look.seen shut) shut
 
-  -- of so many looks one finds the block shut
+  -- if one of so many looks finds the block shut, the life has ended after them
   abbrev Ends : ℕ → List CommandLook → TrackKept → Type 0
   Ends n looks s = are_due n given flush_seen looks s ≡ true → list_any (λ (look : CommandLook). is_shut look.seen) looks ≡ true → (after_looks given flush_seen looks s).life.ended ≡ true
 

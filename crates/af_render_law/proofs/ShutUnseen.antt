@@ -121,7 +121,7 @@ module _ (links : Links) (s : Session) (run : Run) {d : Deeds} (x : SessionState
       history : let c = client.0.stream.pass.part in (taken : List ℕ) × HasHistory c.shape c.events c.frames hand.0.known taken hand.0.part.events
       history = aware i client.0 hand.0 client.1 hand.1 gone (ap (item_at x.fast.observer.items) unheld) (ap is_lawful (sym sides) ∙ tame)
 
-      -- the same by what the mixer saw
+      -- the mixer found the track shut by what it saw too
       found_then : invalid (learnt o) (track_in e i) (tracks_at (mixer_setup x.normal) (learnt o) (kept_of x.normal) e i) i ≢ []
       found_then none = found (sym (invalid_same (setup_of s) run.normal e o p sound (turn_alike links s run x n o told before legal runs f finds report comers) i (let l = long in let a = inside in let t = ap (λ (k : NormalKept). length k.tracks) told.normal.kept in omega (arith, a, t)))
           ∙ ap (λ (y : Setup × NormalKept). invalid (learnt o) (track_in e i) (tracks_at y.0 (learnt o) y.1 e i) i) (λ j. (sym told.normal.setup j, sym told.normal.kept j)) ∙ none)

@@ -18,7 +18,7 @@ use Rattle.af_render_law.specs.RenderLaws.{run_told, summary_alone}
 use Rattle.af_told_law.specs.Tells.{Tells}
 use Rattle.af_told_law.specs.Deeds.{Deeds}
 
--- two lists give the same where each place does
+-- two lists give the same if each place does
 same_maps : (xs : List PartyState) (ts : List TrackTold) → length ts ≡ length xs → ((i : ℕ) (p : PartyState) (t : TrackTold) → slice_get xs i ≡ Some p → slice_get ts i ≡ Some t → p.stream.released ≡ length t.stream.released)
     → map (λ (p : PartyState). p.stream.released) xs ≡ map (λ (t : TrackTold). length t.stream.released) ts
 same_maps [] [] long each = refl

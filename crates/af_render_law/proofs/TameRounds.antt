@@ -68,7 +68,7 @@ module _ (s : Session) (marks : Marks) (scales : All (λ (x : Setting). x.scale 
         is_open = open_ends (met s m) (all_open (met s m) calm histories);
       }
 
--- before the first round
+-- what is kept before the first round
 pub tame_new : (s : Session) → IsScript s.script → TameReady s (new_run s)
 tame_new s script = record {
   turns = turns_new s;

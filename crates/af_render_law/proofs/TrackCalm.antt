@@ -1,4 +1,4 @@
--- What holds of a track through each step of a turn run: while its stream block is tame, its server is not shut where it takes part in no meeting.
+-- What holds of a track through each step of a turn run: while its stream block is tame, its server is not shut if it takes part in no meeting.
 use Rattle.std.proofs.Common.{◌≡◌, ℕ, ◌≤◌, Bool, true, false, true≢false, map, List, [], ◌++◌, drop, length, Option, Some, None, refl, sym, ◌∙◌, subst, append-nil}
 use Rattle.af_base.specs.declared.event.ClientCall.{ClientCall}
 use Rattle.af_base.specs.declared.event.HandEvent.{HandEvent}
@@ -41,11 +41,11 @@ pub record IsCalmClient (t : Track) : Type 0 where
 abbrev pub IsOpenBlock : BlockTold → Type 0
 IsOpenBlock b = (kept (listed b)).shut ≡ None
 
--- nor that of a stream block, if it is tame so far
+-- the server of a stream block isn't shut, if the block is tame so far
 abbrev pub IsOpenStream : TrackTold → Type 0
 IsOpenStream t = is_tame t.stream ≡ true → IsOpenBlock t.stream
 
--- of a track, whose stream proxy takes part in the meetings or not
+-- what holds of a track, whose stream proxy takes part in the meetings or not
 pub record TrackCalm (part : Bool) (t : TrackTold) : Type 0 where
   pub trim : IsTrim false t
   pub client : IsCalmClient (sides_of t)
@@ -125,7 +125,7 @@ calm_met part hands t h = record { trim = trim_met false part hands t h.trim; cl
 pub calm_ended : (part : Bool) (t : TrackTold) → TrackCalm part t → TrackCalm part (record t { client = ends t.client })
 calm_ended part t h = record { trim = trim_ended false t h.trim; client = record { spelled = record { stream = h.client.spelled.stream; commands = h.client.spelled.commands }; stream = h.client.stream; commands = h.client.commands }; unshut = h.unshut }
 
--- who takes part changes nothing where the server isn't shut
+-- who takes part changes nothing if the server isn't shut
 pub calm_first : (part after : Bool) (t : TrackTold) → IsOpenStream t → TrackCalm part t → TrackCalm after t
 calm_first part after t is h = record { trim = h.trim; client = h.client; unshut = λ off. is }
 

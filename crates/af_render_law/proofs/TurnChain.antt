@@ -69,7 +69,7 @@ cycle_past x y answer bytes w =
     let past = ap (λ (m : NormalState). m.mutator.past) (same ∙ w.cycle.meets.ends.normal) in
     (ap (λ (q : Pushes ServerState StreamNames). q.clear) past, ap (λ (q : Pushes ServerState StreamNames). q.before) past)
 
--- also in a turn of the fast mixer
+-- the normal mixer keeps the same of its pushes in a turn of the fast mixer
 fast_past : (count : ℕ) (x : SessionState) (bytes : List ℕ) (y : SessionState) → IsFastTurn count x bytes y → SamePast x y
 fast_past zero x bytes y turn = same_past x y (ap (λ (z : SessionState). z.normal) turn.1)
 fast_past (suc left) x bytes y (answer, next, front, back, w, bytes_are, goes, stops) = by_mixed (λ is. fast_past left next back y (goes is)) (is_mixed answer) refl
@@ -141,7 +141,7 @@ module _ (s : Session) (marks : Marks) (scales : All (λ (x : Setting). x.scale 
     any_steps makes.Normal tracks form room grown w = normal_steps w
     any_steps (makes.Fast count) tracks form room grown w = fast_steps count form.0 room grown w
 
-  -- ## What holds after it
+  -- ## What holds after the round
 
   module _ (turn : TurnSpec) (left : ℕ) (run : Run) (x : SessionState) (r : RoundNoted) (bytes : List ℕ) (y : SessionState) (entries : List EntrySeen) (holds : Holds s marks run x (asked_by turn + left)) (w : IsRound g turn x r bytes y) (free : IsRoundMarked marks r.calls)
       (steps : StepIsTold s marks run turn (round_of r entries) y × StandsBetween y × QueueKnown (cycle_frames s) (with_ends (met_alone s run turn (round_of r entries))) y.normal) where

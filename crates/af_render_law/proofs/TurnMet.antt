@@ -1,4 +1,4 @@
--- What the meetings after a turn of the normal mixer show of it, where the run told before it is what it found: the report is the last one stored, the ends of the queue have a history just behind it, and its room tells the front of the pipe.
+-- What the meetings after a turn of the normal mixer show of it, if the run told before it is what it found: the report is the last one stored, the ends of the queue have a history just behind it, and its room tells the front of the pipe.
 use Rattle.std.proofs.Common.{◌≡◌, ℕ, ◌*◌, ◌≤◌, Bool, true, false, if◌then◌else◌, map, List, [], ◌∷◌, ◌++◌, length, refl, sym, ap, subst, ◌∙◌, append_assoc, arith}
 use Rattle.std.proofs.lemmas.List.{length-map}
 use Rattle.std.proofs.Math.Nat.{mul-le-mul_right}
@@ -129,7 +129,7 @@ module _ (s : Session) (run : Run) {d : Deeds} (x : SessionState) (n : NormalSta
       let history = subst (λ (q : ℕ × List ClientEvent × List ℕ). HasPipeHistory q.0 q.1 q.2 z.fast.pipe.pass.part.events z.fast.pipe.pass.part.frames) (λ i. (size i, all i, words i)) meets.ends.histories.pipe in
       front_told (pipe_size (setup_of s)) few part.events front part.shape.cells (length put) (length x.fast.pipe.pass.part.events) part.frames (map packed_word put) z.fast.pipe.pass.part.frames z.fast.pipe.pass.part.events (length-map put packed_word) history
 
-  -- ## All
+  -- ## All that the meetings show
 
   pub turn_shown : TurnShown s run x n o f
   turn_shown = record { finds = record { streams = (λ i. refl); commands = (λ i. refl) }; hears = hears; polled = polled; pushed = pushed; later = later; front = front_shown }

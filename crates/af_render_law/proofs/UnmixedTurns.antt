@@ -94,7 +94,7 @@ due_hold c room tracks = by_room (nat_le (asked c) room)
     by_room true = filter_passes (λ i. is_mixed_here (track_at tracks i)) (range_with_len 0 (length tracks))
     by_room false = All-nil (λ i. is_mixed_here (track_at tracks i) ≡ true)
 
--- either nothing was taken from the track, or it is one of those
+-- either nothing was taken from the track, or the test holds of it
 taken_holds : (p : ℕ → Bool) (n : ℕ) (takes : List TakeSeen) → All (λ i. p i ≡ true) (map (λ (take : TakeSeen). take.track) takes) → (takes_from takes n ≡ []) ⊎ (p n ≡ true)
 taken_holds p n [] h = inl refl
 taken_holds p n (take ∷ takes) h =
@@ -203,7 +203,7 @@ module _ (c : Setup) (k : Learnt) (m : NormalKept) (e : Turn) (n : ℕ) where
     unfolding served
     part_is lives = ap (λ (b : Bool). if b then found else after_part (slot_for c tracks n) (heard k n found) (track_in e n).looks (ready k n found)) lives
 
-    -- such a track wasn't found shut
+    -- a track that isn't there yet or has a slot wasn't found shut
     pub none_found : e.ended ≡ false → LegalTrack c k (track_in e n) tracks n → Unmixed after → invalid k (track_in e n) tracks n ≡ []
     none_found runs legal h =
         let u : Unmixed part = as_part runs h in
@@ -213,7 +213,7 @@ module _ (c : Setup) (k : Learnt) (m : NormalKept) (e : Turn) (n : ℕ) where
         none_set found.life.ended (is_found_shut (heard k n found) (track_in e n).looks) (never_true (is_found_shut (heard k n found) (track_in e n).looks)
         (λ shut. true≢false (sym (found_ends (slot_for c tracks n) (heard k n found) (track_in e n) (ready k n found) fine shut) ∙ sym (ap (λ (s : TrackKept). s.life.ended) (part_is lives)) ∙ u.lives)))
 
-    -- nor was it mixed
+    -- a track that isn't there yet or has a slot wasn't mixed
     pub none_taken : e.ended ≡ false → map (λ (take : TakeSeen). take.track) e.mixes ≡ tracks_due c e.room edits.tracks → IsOut (track_at m.tracks n).life → Unmixed after → takes_from e.mixes n ≡ []
     none_taken runs due out h = by_taken (taken_holds (λ i. is_mixed_here (track_at edits.tracks i)) n e.mixes (subst (All (λ i. is_mixed_here (track_at edits.tracks i) ≡ true)) (sym due) (due_hold c e.room edits.tracks)))
       where

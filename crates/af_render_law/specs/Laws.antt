@@ -15,7 +15,7 @@ use Rattle.af_turn_law.specs.Acting.{FindsShutUnseen}
 use Rattle.af_told_law.specs.Tells.{Tells}
 use Rattle.af_told_law.specs.Deeds.{Deeds, SawOwnBy, tame_marks}
 
--- a round as the journal has it, where these entries are left
+-- a round as the journal has it, if these entries are left
 abbrev pub round_of : RoundNoted → List EntrySeen → RoundSeen
 round_of r entries = record { calls = r.calls; turn = r.turn; entries = take r.cycles entries }
 
@@ -32,7 +32,7 @@ pub record StepIsTold (s : Session) (marks : Marks) (run : Run) (turn : TurnSpec
   pub left : ToldBy s (with_ends (met_alone s run turn round)) y
   pub unseen : (e : Turn) → round.turn ≡ Some e → FindsShutUnseen s run (found_before s run [] e) e
 
--- the rounds are such turns, one after the other, up to the session y
+-- the rounds are turns of one party each, one after the other, up to the session y
 abbrev pub AreSteps : Session → Marks → Run → List TurnSpec → List RoundSeen → SessionState → Type 0
 AreSteps s marks run [] rounds y = (rounds ≡ []) × ToldBy s run y
 AreSteps s marks run (turn ∷ turns) [] y = ⊥

@@ -36,7 +36,7 @@ entries-fewer s marks fewer run (e ∷ entries) f legal = (entry-fewer s marks f
 turn-fewer : (c : Setup) (marks fewer : Marks) (found : TurnFound) (m : NormalKept) (e : Turn) → AreFewer marks fewer → LegalTurnBy c marks found m e → LegalTurnBy c fewer found m e
 turn-fewer c marks fewer found m e f legal = record { outside = legal.outside; found = legal.found; streams = λ track mark. legal.streams track (f.streams track mark); commands = λ track mark. legal.commands track (f.commands track mark); legal = legal.legal }
 
--- a test chooses the same of two, where each of the first leads to that of the second
+-- a test chooses the same of two, if each of the first leads to that of the second
 pub match_bool-map : {A B C D : Type 0} (b : Bool) → (A → C) → (B → D) → MatchBool b A B → MatchBool b C D
 match_bool-map {A} {B} {C} {D} b f g = elim b as (λ x. MatchBool x A B → MatchBool x C D) [ true ↦ f | false ↦ g ]
 
@@ -54,7 +54,7 @@ round-fewer cut s marks fewer run round f legal = record {
   histories = legal.histories;
 }
 
--- legal rounds are legal also where fewer blocks are lawful
+-- legal rounds are legal also if fewer blocks are lawful
 pub rounds-fewer : (cut : Bool) (s : Session) (marks fewer : Marks) (run : Run) (rounds : List RoundSeen) → AreFewer marks fewer → LegalRounds cut s marks run rounds → LegalRounds cut s fewer run rounds
 rounds-fewer cut s marks fewer run [] f legal = tt
 rounds-fewer cut s marks fewer run (round ∷ rounds) f legal = (round-fewer cut s marks fewer run round f legal.0, rounds-fewer cut s marks fewer (after_round s run round) rounds f legal.1)

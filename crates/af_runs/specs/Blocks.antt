@@ -10,7 +10,7 @@ use Rattle.af_model.specs.declared.shape.Shape.{Shape}
 use Rattle.af_model.specs.Cycles.{Listed}
 use Rattle.af_model.specs.History.{Moment, by_client, by_server, by_hand, client_of, server_of, hand_of, is_lawful, HasHistory}
 
--- its sizes, the events of all its parties in the order in which they are told, the newest first, and the words of the frames released and taken
+-- a block: its sizes, the events of all its parties in the order in which they are told, the newest first, and the words of the frames released and taken
 pub record BlockTold : Type 0 where
   pub shape : Shape
   pub told : List Moment
@@ -21,21 +21,21 @@ pub record BlockTold : Type 0 where
 abbrev pub new_block : Shape → BlockTold
 new_block shape = record { shape = shape; told = []; released = []; taken = [] }
 
--- ## The lists of its parties
+-- ## The lists of a block's parties
 
--- the events of its client
+-- the events of a block's client
 abbrev pub client_list : BlockTold → List ClientEvent
 client_list b = client_of b.told
 
--- those of its server
+-- the events of a block's server
 abbrev pub server_list : BlockTold → List ServerEvent
 server_list b = server_of b.told
 
--- and those of its hand
+-- the events of a block's hand
 abbrev pub hand_list : BlockTold → List HandEvent
 hand_list b = hand_of b.told
 
--- its server as a cycle or a turn finds it
+-- a block's server as a cycle or a turn finds it
 abbrev pub listed : BlockTold → Listed
 listed b = record { shape = b.shape; events = server_list b }
 
@@ -50,23 +50,23 @@ pub record Marks : Type 0 where
 
 -- ## What a party does
 
--- some moments more
+-- a block after some moments more
 abbrev pub tells : List Moment → BlockTold → BlockTold
 tells moments b = record b { told = fold (λ told moment. moment ∷ told) b.told moments }
 
--- its client did these events
+-- a block after its client did these events
 abbrev pub client_does : List ClientEvent → BlockTold → BlockTold
 client_does events b = tells (map by_client events) b
 
--- its server did
+-- a block after its server did these events
 abbrev pub server_does : List ServerEvent → BlockTold → BlockTold
 server_does events b = tells (map by_server events) b
 
--- its hand did
+-- a block after its hand did these events
 abbrev pub hand_does : List HandEvent → BlockTold → BlockTold
 hand_does events b = tells (map by_hand events) b
 
--- these words were taken
+-- a block after these words were taken
 abbrev pub took : List ℕ → BlockTold → BlockTold
 took words b = record b { taken = b.taken ++ words }
 
@@ -90,6 +90,6 @@ meets_all b = meets_flag (meets b)
 abbrev pub HasBlockHistory : BlockTold → Type 0
 HasBlockHistory b = HasHistory b.shape (client_list b) b.released (server_list b) b.taken (hand_list b)
 
--- the order in which they are told is such an order: each event sees what all those before it left
+-- the order in which the events are told is such a legal order: each event sees what all those before it left
 abbrev pub IsHistoryAsTold : BlockTold → Type 0
 IsHistoryAsTold b = (h : HasBlockHistory b) × (h.order ≡ b.told)

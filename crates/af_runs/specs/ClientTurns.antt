@@ -97,11 +97,11 @@ IsWanted t (want.Poke in_command word value) answer = answer ≡ call.Poke in_co
 IsWanted t want.Rest answer = ⊥
 IsWanted t want.Leave answer = is_send (code_of command.Remove) 0 answer ≡ true
 
--- it answers by the words that it saw and the list of its pass
+-- a call answers by the words that it saw and the list of its pass
 abbrev pub AnswersOn : Side → ℕ → ClientCall → Type 0
 AnswersOn b asked answer = ClientAnswers b.shape.frames b.shape.cells b.shape.base b.events asked answer
 
--- the call is wanted, and answers so
+-- the call is wanted, and answers by the words that it saw
 abbrev pub IsMade : Track → Want → ClientCall → Type 0
 IsMade t wanted answer = IsWanted t wanted answer × AnswersOn (side_of t answer) (asked_by wanted) answer
 
@@ -129,7 +129,7 @@ commands_sent t = length t.commands.released / 2
 abbrev pub wanted_of : Track → Option Want
 wanted_of t = next_want (begun t.client)
 
--- the client after a call: unchanged where it wanted none
+-- the client after a call: unchanged if it wanted none
 abbrev pub answered : Track → ClientCall → Client
 answered t answer = elim (wanted_of t) as (λ o. Client) [ None ↦ t.client | Some wanted ↦ after_answer (commands_sent (with_call t answer)) wanted (rest_of (begun t.client).due) (begun t.client) answer ]
 

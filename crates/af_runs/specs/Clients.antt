@@ -14,7 +14,7 @@ use Rattle.af_runs.specs.declared.want.Want.TheVariants as want
 use Rattle.af_runs.specs.declared.want.Due.{Due}
 use Rattle.af_runs.specs.declared.want.Due.TheVariants as due
 
--- what is left of the op in work, the ops after it, the mode, whether the turn waits for the other parties, and whether the client has ended
+-- a client: what is left of the op in work, the ops after it, the mode, whether the turn waits for the other parties, and whether the client has ended
 pub record Client : Type 0 where
   pub due : List Want
   pub ops : List Op
@@ -51,7 +51,7 @@ is_stoppable mode.Active = true
 is_stoppable mode.Paused = true
 is_stoppable _ = false
 
--- these wants, where this holds
+-- these wants, if this holds
 abbrev pub only : Bool → List Want → List Want
 only b wants = if b then wants else []
 
@@ -69,34 +69,34 @@ wants_of m (op.Gain left right) = want.Gain left right ∷ []
 wants_of m (op.Write count) = want.Write count ∷ []
 wants_of m (op.Poke in_command word value) = want.Poke in_command word value ∷ []
 
--- with these wants, once it has some; else with those of the first op that has some
+-- a client with these wants, if it has some; else with those of the first op that has some
 abbrev pub begins : Client → List Want → List Op → Client
 begins c (w ∷ wants) ops = record c { due = w ∷ wants; ops = ops }
 begins c [] [] = record c { due = []; ops = [] }
 begins c [] (o ∷ ops) = begins c (wants_of c.mode o) ops
 
--- the client with its next op begun, where nothing is left of the one in work
+-- the client with its next op begun, if nothing is left of the one in work
 abbrev pub begun : Client → Client
 begun c = begins c c.due c.ops
 
--- what the first of these wants asks of the proxies: nothing where the turn is to end
+-- what the first of these wants asks of the proxies: nothing if the turn is to end
 abbrev pub asked_first : List Want → Option Want
 asked_first [] = None
 asked_first (want.Rest ∷ wants) = None
 asked_first (w ∷ wants) = Some w
 
--- what is wanted next, of a client whose op is begun; None where the turn ends
+-- what is wanted next, of a client whose op is begun; None if the turn ends
 abbrev pub next_want : Client → Option Want
 next_want c = if c.waiting || c.ended then None else asked_first c.due
 
--- what is wanted after it
+-- what is wanted after the first of these wants
 abbrev pub rest_of : List Want → List Want
 rest_of [] = []
 rest_of (w ∷ wants) = wants
 
 -- ## What an answer makes of a client
 
--- it goes on with these wants, it waits, it has ended
+-- a client that goes on with these wants, one that waits, and one that has ended
 abbrev pub goes_on : List Want → Client → Client
 goes_on wants c = record c { due = wants }
 
@@ -130,7 +130,7 @@ after_send sending wants c (call.Sent front code argument) = after_sent sending 
 after_send sending wants c (call.SendFull front) = waits c
 after_send sending wants c _ = ends c
 
--- so many frames are still to be written
+-- these wants, after a write of the frames that are left, if there are some
 abbrev pub more : ℕ → List Want → List Want
 more left wants = if left == 0 then wants else want.Write left ∷ wants
 
@@ -159,12 +159,12 @@ after_status to_stop commands wants c (call.Status word) =
     else waits c
 after_status to_stop commands wants c _ = c
 
--- where DISABLED was set, a START is owed before anything else
+-- if DISABLED was set, a START is owed before anything else
 abbrev pub after_clear : List Want → Client → ClientCall → Client
 after_clear wants c (call.Cleared flags) = goes_on (if bit_and flags 8 == 0 then wants else want.Send command.Start ∷ wants) c
 after_clear wants c _ = c
 
--- the client after the answer to a want, with what is wanted after it, where so many commands were sent in all
+-- the client after the answer to a want, with what is wanted after it, when so many commands were sent in all
 abbrev pub after_answer : ℕ → Want → List Want → Client → ClientCall → Client
 after_answer commands (want.Send sending) wants c answer = after_send sending wants c answer
 after_answer commands want.Settled wants c answer = after_status false commands wants c answer
@@ -181,11 +181,11 @@ abbrev pub rested : List Want → List Want
 rested (want.Rest ∷ wants) = wants
 rested wants = wants
 
--- The client at its next turn, after one that ended with it (and was cut after its 64th call or not): where a call was still possible, an op that lets the turn end is done with
+-- The client at its next turn, after one that ended with it (and was cut after its 64th call or not): if a call was still possible, an op that lets the turn end is done with
 abbrev pub at_next_turn : Bool → Client → Client
 at_next_turn cut c = if c.waiting || c.ended || cut then record c { waiting = false } else record (begun c) { due = rested (begun c).due }
 
--- ## As the program keeps it
+-- ## A client as the program keeps it
 
 -- the wants that are due
 abbrev pub due_of : Due → List Want

@@ -10,13 +10,13 @@ use Rattle.af_model.specs.Cycles.{Listed}
 use Rattle.af_runs.specs.Blocks.{BlockTold, Marks, listed}
 use Rattle.af_runs.specs.Fronts.{front_of, lawful_front, fronts_by}
 
--- the report that it loads, and the two blocks of each track
+-- what a turn finds: the report that it loads, and the two blocks of each track
 pub record TurnFound : Type 0 where
   pub report : Report
   pub streams : ℕ → BlockTold
   pub commands : ℕ → BlockTold
 
--- the front of the look for a buffer, 0 where there is none
+-- the front of the look for a buffer, 0 if there is none
 abbrev pub take_front : (Listed → SlotEntry → ℕ) → Listed → List TakeSeen → ℕ
 take_front front s [] = 0
 take_front front s (take ∷ takes) = front s take.slot
@@ -31,11 +31,11 @@ outside_with front c f e = record {
   command_fronts = λ i. fronts_by front (listed (f.commands i)) (track_in e i).looks;
 }
 
--- as the journal tells it
+-- what a turn sees beside its entry, as the journal tells it
 abbrev pub outside_of : Setup → TurnFound → Turn → Outside
 outside_of c f e = outside_with front_of c f e
 
--- as it is on blocks without a poke
+-- what a turn sees beside its entry, on blocks without a poke
 abbrev pub lawful_outside : Setup → TurnFound → Turn → Outside
 lawful_outside c f e = outside_with lawful_front c f e
 

@@ -16,7 +16,7 @@ use Rattle.af_model.specs.Spelled.{own_front}
 abbrev pub behind : ℕ → ℕ → ℕ
 behind position count = wrapped (position + (2 ^ 32 - wrapped count))
 
--- the answer leaves the front open: all frames that were asked for, or, where flush words carry positions, a flush that drops nothing
+-- the answer leaves the front open: all frames that were asked for, or, if flush words carry positions, a flush that drops nothing
 abbrev pub leaves_open : Shape → ℕ → Seen → Bool
 leaves_open k asked (seen.Frames count) = count == asked
 leaves_open k asked (seen.Flushed dropped) = not (k.wrap == 0) && (dropped == 0)
@@ -26,7 +26,7 @@ leaves_open k asked _ = false
 abbrev pub flushed_front : (wrap flush rear dropped : ℕ) → ℕ
 flushed_front wrap flush rear dropped = if wrap == 0 then behind rear dropped else if dropped == 0 then rear else behind (flush_position wrap flush rear) dropped
 
--- a front by which the look answers so: the only one, where the answer doesn't leave it open
+-- a front by which the look answers so: the only one, if the answer doesn't leave it open
 abbrev pub front_by_answer : Shape → SlotEntry → ℕ
 front_by_answer k slot =
     elim slot.seen as (λ s. ℕ) [
@@ -41,11 +41,11 @@ front_by_answer k slot =
 abbrev pub is_own_inside : Listed → ℕ → Bool
 is_own_inside s rear = not (nat_lt s.shape.frames (ahead (own_front s.shape (kept s)) rear))
 
--- The front on a block without a poke: the server's own, where the answer leaves it open
+-- The front on a block without a poke: the server's own, if the answer leaves it open
 abbrev pub lawful_front : ℕ → Listed → SlotEntry → ℕ
 lawful_front asked s slot = if leaves_open s.shape asked slot.seen then own_front s.shape (kept s) else front_by_answer s.shape slot
 
--- The front that a journal tells: where the answer leaves it open, the server's own, if it could answer so by that. On a block that was poked it may have seen another one
+-- The front that a journal tells: the server's own, if the answer leaves it open and that front could give it. On a block that was poked the look may have seen another one
 abbrev pub front_of : ℕ → Listed → SlotEntry → ℕ
 front_of asked s slot = if leaves_open s.shape asked slot.seen && is_own_inside s slot.rear then own_front s.shape (kept s) else front_by_answer s.shape slot
 

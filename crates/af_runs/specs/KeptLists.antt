@@ -17,7 +17,7 @@ use Rattle.af_runs.specs.Blocks.{BlockTold, client_list, server_list}
 use Rattle.af_runs.specs.Runs.{Run}
 use Rattle.af_runs.specs.Told.{Item}
 
--- the events, and the words released, of a client's pass
+-- the events of a client's pass, and the words released, are those told of it
 pub record KeepsClient (b : BlockTold) (events : List ClientEvent) (released : List ℕ) : Type 0 where
   pub told : events ≡ client_list b
   pub words : released ≡ b.released
@@ -33,7 +33,7 @@ abbrev pub before_poke : List Moment → List Moment
 before_poke [] = []
 before_poke (moment ∷ told) = if is_lawful (client_of (moment ∷ told)) then moment ∷ told else before_poke told
 
--- how many events of the server were told up to the last meeting before the first poke, or up to the last meeting, where no poke was told
+-- how many events of the server were told up to the last meeting before the first poke, or up to the last meeting if no poke was told
 abbrev pub sure_count : BlockTold → ℕ
 sure_count b = length (server_of (up_to_meeting (before_poke b.told)))
 
@@ -42,7 +42,7 @@ abbrev pub flush_after : ℕ → ServerEvent → ℕ
 flush_after kept (server.SawFlush flush) = flush
 flush_after kept _ = kept
 
--- the same after some events
+-- the flush word seen last in some events, and 0 before any
 abbrev pub last_flush : List ServerEvent → ℕ
 last_flush events = fold flush_after 0 events
 
@@ -79,15 +79,15 @@ module _ {P : Type 0} where
   marked_event (mutator.SawAck a items) = mutator.SawAck a (marked items)
   marked_event (mutator.Learn count) = mutator.Learn count
 
-  -- the events of the queue's mutator
+  -- the events of the queue's mutator are those told of it
   abbrev pub KeepsMutator : Run → List (MutatorEvent P) → Type 0
   KeepsMutator run events = map marked_event events ≡ ones run.queue
 
--- the events of the report's reader
+-- the events of the report's reader are those told of it
 abbrev pub KeepsReader : Run → List (ReaderEvent Report) → Type 0
 KeepsReader run events = events ≡ twos run.report
 
--- the events, and the words put, of the pipe's end that puts
+-- the events of the pipe's end that puts, and the words put, are those told of it
 pub record KeepsPipe (run : Run) (events : List ClientEvent) (put : List ℕ) : Type 0 where
   pub told : events ≡ ones run.pipe.told
   pub words : put ≡ run.pipe.put

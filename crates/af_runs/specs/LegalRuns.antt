@@ -20,21 +20,21 @@ is_poke_on true (call.Poke true word value) = true
 is_poke_on false (call.Poke false word value) = true
 is_poke_on _ _ = false
 
--- a block is lawful where its client never pokes it in the whole journal
+-- a block is lawful if its client never pokes it in the whole journal
 abbrev pub is_lawful_block : Bool → List RoundSeen → ℕ → Bool
 is_lawful_block commands rounds track = not (list_any (λ round. list_any (is_poke_on commands) (calls_in round track)) rounds)
 
--- the same of all blocks
+-- which stream blocks and which command blocks are lawful
 abbrev pub marks_of : List RoundSeen → Marks
 marks_of rounds = record { streams = is_lawful_block false rounds; commands = is_lawful_block true rounds }
 
--- a track is lawful where both its blocks are
+-- a track is lawful if both its blocks are
 abbrev pub is_lawful_track : List RoundSeen → ℕ → Bool
 is_lawful_track rounds track = is_lawful_block false rounds track && is_lawful_block true rounds track
 
 -- ## Rounds
 
--- what is played
+-- what is played: a script and its files
 abbrev pub session_of : ScriptData → List (List Frame) → Session
 session_of script files = record { script = script; files = files }
 

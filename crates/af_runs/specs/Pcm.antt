@@ -14,7 +14,7 @@ use Rattle.af_model.specs.Journals.{JournalData, entries_of, frames_of}
 abbrev pub LieWithin : List Frame → CycleEntry → Type 0
 LieWithin frames entry = is_mixed entry.cycle ≡ true → (i : ℕ) → i < slots → (entry_slot entry i).first + count_seen (entry_slot entry i).seen ≤ length frames
 
--- the bytes of a cycle that wrote these frames: none where it didn't mix
+-- the bytes of a cycle that wrote these frames: none if it didn't mix
 abbrev pub written : Cycle → List Frame → List ℕ
 written cycle out = if is_mixed cycle then pcm_bytes out else []
 

@@ -37,7 +37,7 @@ late_of run round = drop (early_count run round) round.entries
 abbrev pub before_turn : Session → Run → RoundSeen → Run
 before_turn s run round = with_cycles s (early_of run round) (with_calls round run)
 
--- what that turn finds: the stream blocks as the entries before it left them, and the report among those of all entries
+-- what the turn of the normal mixer finds: the stream blocks as the entries before it left them, and the report among those of all entries
 abbrev pub found_in : Session → Run → RoundSeen → Turn → TurnFound
 found_in s run round e = record (found_before s (with_calls round run) round.entries e) { streams = λ track. (told_at (before_turn s run round) track).stream }
 
@@ -74,7 +74,7 @@ AreMixedBut Last [] = ⊥
 AreMixedBut Last (e ∷ []) = Last e
 AreMixedBut Last (e ∷ next ∷ entries) = (is_mixed e.entry.cycle ≡ true) × AreMixedBut Last (next ∷ entries)
 
--- A turn has so many cycles, or fewer where the last isn't Mixed. Where `full` says so it may also end since the log is full
+-- A turn has so many cycles, or fewer if the last isn't Mixed. If `full` says so it may also end since the log is full
 abbrev pub IsFastTurn : ℕ → Bool → List EntrySeen → Type 0
 IsFastTurn cycles full entries = (length entries ≤ cycles) × AreMixedBut (λ last. (length entries ≡ cycles) ⊎ (is_mixed last.entry.cycle ≡ false) ⊎ (full ≡ true)) entries
 
@@ -107,7 +107,7 @@ LegalFastTurn cut s marks run round = MatchBool (fast_ended run) (round.entries 
 
 -- ## The normal mixer's turn
 
--- it is one by the rules and by what it finds; a mixer that has ended makes none
+-- the turn of a round follows from the rules and from what it finds; a mixer that has ended makes none
 abbrev pub LegalTurnIn : Session → Marks → (Turn → TurnFound) → Run → RoundSeen → Type 0
 LegalTurnIn s marks found run round = MatchBool run.normal.ended (round.turn ≡ None) (MatchOption round.turn ⊥ (λ e. LegalTurnBy (setup_of s) marks (found e) run.normal e))
 
@@ -133,7 +133,7 @@ pub record SharedHistories (s : Session) (run : Run) : Type 0 where
 
 -- ## The round
 
--- it may follow: not all parties had ended, the log had room, and has no more entries than the script allows
+-- a round may follow: not all parties had ended, the log had room, and has no more entries than the script allows
 pub record MayFollow (s : Session) (run : Run) (round : RoundSeen) : Type 0 where
   pub going : all_ended s run ≡ false
   pub room : length run.entries < s.script.cycles

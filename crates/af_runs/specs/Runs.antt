@@ -43,7 +43,7 @@ pub record TrackTold : Type 0 where
   pub stream : BlockTold
   pub commands : BlockTold
 
--- each track, the normal mixer, whether it made its hands, the states pushed, the number of the state adopted last, the entries and the reports stored, and what the ends of the queue, the report and the pipe did
+-- a run: each track, the normal mixer, whether it made its hands, the states pushed, the number of the state adopted last, the entries and the reports stored, and what the ends of the queue, the report and the pipe did
 pub record Run : Type 0 where
   pub tracks : List TrackTold
   pub normal : NormalKept
@@ -60,7 +60,7 @@ pub record Run : Type 0 where
 abbrev pub new_track : Session → ℕ → TrackTold
 new_track s track = record { file = file_words s track; client = new_client (spec_of s track).ops; stream = new_block (stream_shape s.script.version (spec_of s track)); commands = new_block command_shape }
 
--- before the first round
+-- a run before its first round
 abbrev pub new_run : Session → Run
 new_run s = record {
   tracks = map (new_track s) (range_with_len 0 (track_count s));
@@ -126,7 +126,7 @@ with_calls round run = each_track (λ track t. called (calls_in round track) t) 
 abbrev pub state_for : Session → Run → ℕ → FastState
 state_for s run k = unwrap_or (state_of run.states k) (if k == 0 then state_at (cycle_frames s) run.states run.current else run.normal.draft)
 
--- it polls and finds the state of a number, which it adopts where it was pushed
+-- the fast mixer polls and finds the state of a number, which it adopts if it was pushed
 unfoldable pub with_poll : Session → ℕ → Run → Run
 with_poll s k run = record run { queue = observer_does (poll_events (cycle_frames s) run.states run.current k) run.queue; current = if nat_le k (length run.states) then k else run.current }
 
@@ -191,7 +191,7 @@ with_report s entry run =
     let report = next_report s run entry in
     record run { entries = run.entries ++ entry ∷ []; reports = run.reports ++ report ∷ []; report = run.report ++ one (Store report) ∷ [] }
 
--- it mixes
+-- the fast mixer's entry after its poll: its looks, and the report
 unfoldable pub with_mix : Session → EntrySeen → Run → Run
 with_mix s e run = with_report s e.entry (with_looks s e run)
 
@@ -228,13 +228,13 @@ found_before s run entries e = record {
   commands = λ track. (told_at run track).commands;
 }
 
--- a stream block after a turn: DISABLED by the hand, INVALID where the track was found shut at home, and the look and the take for the buffer
+-- a stream block after a turn: DISABLED by the hand, INVALID if the track was found shut at home, and the look and the take for the buffer
 abbrev pub stream_turned : Setup → Outside → NormalKept → Turn → ℕ → BlockTold → BlockTold
 stream_turned c o m e i b =
     took (going e (map packed_word (flat_map (λ take. take.frames) (takes_from e.mixes i))))
     (server_does (stream_list c o e (tracks_at c (learnt o) m e i) i) (hand_does (hand_list e i) b))
 
--- a command block after a turn: the looks, INVALID where the track was found shut, and the status
+-- a command block after a turn: the looks, INVALID if the track was found shut, and the status
 abbrev pub commands_turned : Setup → Outside → NormalKept → Turn → ℕ → BlockTold → BlockTold
 commands_turned c o m e i b = took (going e (words_taken (track_in e i).looks)) (server_does (command_list c o e (tracks_at c (learnt o) m e i) i) b)
 
@@ -253,7 +253,7 @@ pipe_turned c e p = record p { told = p.told ++ map one (pipe_list c (pipe_cells
 abbrev pub draft_after : Setup → Outside → NormalKept → Turn → FastState
 draft_after c o m e = (after_edits c (learnt o) e m).draft
 
--- the state that a turn pushes, if it does
+-- the state that a turn pushes, if it pushes one
 abbrev pub pushed_by : Setup → Outside → NormalKept → Turn → List FastState
 pushed_by c o m e = if is_pushed e.push then draft_after c o m e ∷ [] else []
 
@@ -265,7 +265,7 @@ queue_turned frames c o m e states told =
     let sent = items_of (draft_after c o m e) (state_at frames states (length states)) in
     mutator_does (mutator_list c (learnt o) m e back again sent) told
 
--- a turn by what it found
+-- a run after a turn of the normal mixer, by what it found
 unfoldable pub with_turn : Session → TurnFound → Turn → Run → Run
 with_turn s f e run =
     let c = setup_of s in

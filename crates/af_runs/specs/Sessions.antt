@@ -9,7 +9,7 @@ use Rattle.af_script.specs.Data.{ScriptData}
 use Rattle.af_script.specs.Ops.{cells_of}
 use Rattle.af_script.specs.declared.track.TrackSpec.{TrackSpec}
 
--- the script, and the frames of each track's file
+-- a session: the script, and the frames of each track's file
 pub record Session : Type 0 where
   pub script : ScriptData
   pub files : List (List Frame)

@@ -38,11 +38,11 @@ dropped_of t = consumed_of t - length t.stream.taken
 abbrev pub queued_of : TrackTold → ℕ
 queued_of t = length t.stream.released - consumed_of t
 
--- a track's frames count where its blocks are lawful
+-- a track's frames count if its blocks are lawful
 abbrev pub counted : (TrackTold → ℕ) → List RoundSeen → Run → ℕ → ℕ
 counted frames rounds run track = if is_lawful_track rounds track then frames (told_at run track) else 0
 
--- those of all tracks
+-- the frames of all lawful tracks
 abbrev pub total : (TrackTold → ℕ) → JournalData → Run → ℕ
 total frames j run = sum_by (counted frames j.rounds run) (range_with_len 0 j.tracks)
 
@@ -56,10 +56,10 @@ summed_by script j run = record {
   peak = peak_of (mixed_frames script.frames (mixes_of j));
 }
 
--- those of a journal of rounds, in each of which all parties made a turn
+-- the numbers of a journal of rounds, in each of which all parties made a turn
 abbrev pub summed_of : ScriptData → List (List Frame) → JournalData → Summed
 summed_of script files j = summed_by script j (run_of script files j)
 
--- those of a turn run
+-- the numbers of a turn run
 abbrev pub turns_summed : ScriptData → List (List Frame) → JournalData → Summed
 turns_summed script files j = let s = session_of script files in summed_by script j (run_alone s (new_run s) script.turns j.rounds)

@@ -34,11 +34,11 @@ Item = Unit {0}
 abbrev pub QueueTold : Type 0
 QueueTold = List (Event (MutatorEvent Item) (ObserverEvent Item))
 
--- those of the report's writer and of its reader
+-- the events of the report's writer and of its reader
 abbrev pub ReportTold : Type 0
 ReportTold = List (Event (WriterEvent Report) (ReaderEvent Report))
 
--- those of the pipe's ends, and the words of the frames put and taken
+-- the events of the pipe's ends, and the words of the frames put and taken
 pub record PipeTold : Type 0 where
   pub told : List (Event ClientEvent ServerEvent)
   pub put : List ℕ
@@ -54,7 +54,7 @@ state_at frames states k = unwrap_or (state_of states k) (initial frames)
 abbrev pub items_of : FastState → FastState → List (Option Item)
 items_of x y = map (λ i. if carries x i && not (carries y i) then Some tt else None) (range_with_len 0 slots)
 
--- it is a look that sees the state k acknowledged
+-- the event is a look that sees the state k acknowledged
 abbrev pub is_look_at : ℕ → MutatorEvent Item → Bool
 is_look_at k (mutator.SawAck a items) = a == k
 is_look_at k _ = false
@@ -78,11 +78,11 @@ is_pushed _ = false
 abbrev pub mutator_does : List (MutatorEvent Item) → QueueTold → QueueTold
 mutator_does events told = told ++ map one events
 
--- the observer did
+-- the observer did these events
 abbrev pub observer_does : List (ObserverEvent Item) → QueueTold → QueueTold
 observer_does events told = told ++ map two events
 
--- the observer's poll that finds the state k, where it has the state c: a new state takes the items of its new slots, and gives back those of the slots that went off
+-- the observer's poll that finds the state k, when it has the state c: a new state takes the items of its new slots, and gives back those of the slots that went off
 abbrev pub poll_events : ℕ → List FastState → ℕ → ℕ → List (ObserverEvent Item)
 poll_events frames states c k =
     let x = state_at frames states k in
@@ -90,42 +90,42 @@ poll_events frames states c k =
     if k == c then observer.SawNext k None [] ∷ []
     else observer.SawNext k (Some x) (items_of x y) ∷ observer.Ack k (items_of y x) ∷ []
 
--- its ends meet
+-- the queue's ends meet
 abbrev pub queue_met : QueueTold → QueueTold
 queue_met told = told ++ one (mutator.Learn (length (twos told))) ∷ two (observer.Learn (length (ones told))) ∷ []
 
--- the lists of its ends stand in some legal order
+-- the lists of the queue's ends stand in some legal order
 abbrev pub HasQueueHistory : ℕ → QueueTold → Type 0
 HasQueueHistory frames told = queued.HasHistory (initial frames) (ones told) (twos told)
 
--- the order in which they are told is legal
+-- the order in which the queue's events are told is legal
 abbrev pub IsQueueAsTold : ℕ → QueueTold → Type 0
 IsQueueAsTold frames told = Legal queued.legal queued.next (queued.start (initial frames)) told
 
 -- ## The report
 
--- its ends meet
+-- the report's ends meet
 abbrev pub report_met : ReportTold → ReportTold
 report_met told = told ++ one (writes.Learn (length (twos told))) ∷ two (reads.Learn (length (ones told))) ∷ []
 
--- their lists stand in some legal order
+-- the lists of the report's ends stand in some legal order
 abbrev pub HasReportHistory : ReportTold → Type 0
 HasReportHistory told = newest.HasHistory no_report (ones told) (twos told)
 
--- the order in which they are told is legal
+-- the order in which the report's events are told is legal
 abbrev pub IsReportAsTold : ReportTold → Type 0
 IsReportAsTold told = Legal newest.legal newest.next (newest.start no_report) told
 
 -- ## The pipe
 
--- its ends meet
+-- the pipe's ends meet
 abbrev pub pipe_met : PipeTold → PipeTold
 pipe_met p = record p { told = p.told ++ one (client.Learn (length (twos p.told))) ∷ two (server.Learn (length (ones p.told))) ∷ [] }
 
--- their lists stand in some legal order, and the frames taken begin those put
+-- the lists of the pipe's ends stand in some legal order, and the frames taken begin those put
 abbrev pub HasPipeTold : ℕ → PipeTold → Type 0
 HasPipeTold size p = piped.HasPipeHistory size (ones p.told) p.put (twos p.told) p.taken
 
--- the order in which they are told is such an order
+-- the order in which the pipe's events are told is such an order
 abbrev pub IsPipeAsTold : ℕ → PipeTold → Type 0
 IsPipeAsTold size p = (h : HasPipeTold size p) × (h.history.order ≡ p.told)

@@ -35,13 +35,13 @@ made_alone s run (makes.Client track) round = calls_alone track round run
 made_alone s run makes.Normal round = turn_alone s run round
 made_alone s run (makes.Fast cycles) round = fold (cycle_alone s) run round.entries
 
--- the run after it and the meetings
+-- the run after a party's turn and the meetings
 abbrev pub met_alone : Session → Run → TurnSpec → RoundSeen → Run
 met_alone s run turn round = met s (made_alone s run turn round)
 
 -- ## When a round is legal
 
--- no client but such a one made a call
+-- no client made a call but those of which this holds
 abbrev pub OnlyCalls : (ℕ → Type 0) → RoundSeen → Type 0
 OnlyCalls May round = (track : ℕ) → May track ⊎ (calls_in round track ≡ [])
 

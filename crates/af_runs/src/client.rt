@@ -93,7 +93,7 @@ fn mode_after(command: ClientCommand, mode: Mode) -> Mode
     }
 }
 
-// What is due after the first.
+// What is due after the first want.
 fn rest_of(due: Due) -> Due
     ensures { due_of result ≡ rest_of (due_of due) }
 {
@@ -103,7 +103,7 @@ fn rest_of(due: Due) -> Due
     }
 }
 
-// What is due where an op that lets the turn end is done with.
+// What is due once an op that lets the turn end is done with.
 fn rested(due: Due) -> Due
     ensures { due_of result ≡ rested (due_of due) }
 {
@@ -141,28 +141,28 @@ impl Client {
         }
     }
 
-    /// Whether it has ended.
+    /// Whether the client has ended.
     pub fn has_ended(&self) -> bool
         ensures { result ≡ self.now.ended }
     {
         self.ended
     }
 
-    /// Whether it makes no more calls in this turn: it waits for the other parties, or has ended.
+    /// Whether the client makes no more calls in this turn: it waits for the other parties, or has ended.
     pub fn is_halted(&self) -> bool
         ensures { result ≡ (self.now.waiting || self.now.ended) }
     {
         self.waiting || self.ended
     }
 
-    /// Ends it: its track is no more.
+    /// Ends the client: its track is no more.
     pub fn end(&mut self)
         ensures { self.new ≡ record self.old { ended = true } }
     {
         self.ended = true;
     }
 
-    /// Begins its next op, where nothing is left of the one in work. Ops that want nothing are done at once.
+    /// Begins the client's next op, if nothing is left of the one in work. Ops that want nothing are done at once.
     pub fn begin(&mut self, ops: &[Op])
         ensures { client_of ops.now self.new ≡ begun (client_of ops.now self.old) }
     {
@@ -172,7 +172,7 @@ impl Client {
         }
     }
 
-    /// What it wants next, where its op is begun; None where its turn ends.
+    /// What the client wants next, once its op is begun; None if its turn ends.
     pub fn next(&self) -> Option<Want>
         ensures { (ops : List OpSeen) → result ≡ next_want (client_of ops self.now) }
     {
@@ -185,7 +185,7 @@ impl Client {
         }
     }
 
-    // The first that is due is done: these are due.
+    // The first want that is due is done: these are due.
     fn go_on(&mut self, due: Due)
         requires { WritesLast (due_of due) }
         ensures { (ops : List OpSeen) → client_of ops self.new ≡ goes_on (due_of due) (client_of ops self.old) }
@@ -241,7 +241,7 @@ impl Client {
         }
     }
 
-    // The status that was seen, where so many commands were sent.
+    // The status that was seen, when so many commands were sent.
     fn note_status(&mut self, to_stop: bool, commands: u64, call: ClientCall)
         ensures { (ops : List OpSeen) → client_of ops self.new ≡ after_status to_stop commands (rest_of self.old.due) (client_of ops self.old) call }
     {
@@ -270,7 +270,7 @@ impl Client {
         }
     }
 
-    /// Notes the answer to what was wanted, where so many commands were sent in all.
+    /// Notes the answer to what was wanted, when so many commands were sent in all.
     pub fn note(&mut self, ops: &[Op], commands: u64, call: ClientCall)
         ensures { (first : WantSeen) (wants : List WantSeen) → self.old.due ≡ first ∷ wants → client_of ops.now self.new ≡ after_answer commands first wants (client_of ops.now self.old) call }
     {

@@ -102,7 +102,7 @@ tables-tied (Some (datetime d)) = refl
 tables-tied (Some (array items)) = some-tied (all_are as_table items) items
 tables-tied (Some (table members)) = refl
 
--- where an array has no fault its items are all of the type
+-- if an array has no fault its items are all of the type
 
 unless-none : (test : Bool) (found : ScriptFault) → unless test found ≡ None → test ≡ true
 unless-none true found none = refl

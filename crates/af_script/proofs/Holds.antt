@@ -14,7 +14,7 @@ use Rattle.af_script.specs.declared.fault.ScriptFault.{ScriptFault}
 use Rattle.af_script.specs.declared.fault.ScriptFault.TheVariants as fault
 use Rattle.af_script.specs.declared.fault.KeyId.{KeyId}
 
--- a fact about the value, where one was found
+-- a fact about the value, if one was found
 abbrev pub Holds : {X : Type 0} → (X → Type 0) → Result X ScriptFault → Type 0
 Holds P (Ok x) = P x
 Holds P (Err found) = Unit {0}

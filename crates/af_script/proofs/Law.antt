@@ -91,7 +91,7 @@ refused_is bytes found (inl r) = ap (λ t. ok_or t fault.Toml >>= script_in) r.n
 refused_is bytes found (inr r) =
     in_tree bytes r.tree r.document ∙ ap (λ p. judged p (script_meant r.tree)) (first-is (places r.tree) found r.first)
 
--- the script is the answer exactly where the bytes are accepted, and a fault exactly where it is the first
+-- the script is the answer exactly if the bytes are accepted, and a fault exactly if it is the first
 pub accepted : (bytes : List ℕ) (s : ScriptData) → (script_of bytes ≡ Ok s) ↔ IsAccepted bytes s
 accepted bytes s = (tree_ok bytes (tree_of bytes) s refl, accepted_is bytes s)
 

@@ -33,7 +33,7 @@ pub data Place : Type 0 where
   op : (track frames count index : ℕ) → (text : List ℕ) → Place
   turn : (tracks index : ℕ) → (text : List ℕ) → Place
 
--- a fault where a test fails
+-- a fault if a test fails
 abbrev pub unless : Bool → ScriptFault → Option ScriptFault
 unless test found = if test then None else Some found
 
@@ -46,7 +46,7 @@ abbrev pub range_fault : ℕ → KeyId → ℕ → ℕ → ℤ → Option Script
 range_fault table id low high (pos n) = unless (nat_le low n && nat_le n high) (fault.Range table id (pos n))
 range_fault table id low high (negsuc n) = Some (fault.Range table id (negsuc n))
 
--- Key where a value is missing or has another type than the form asks; Range where its number, or the number of its tables, is out of range
+-- the fault of an entry: Key if its value is missing or has another type than the form asks; Range if its number, or the number of its tables, is out of range
 abbrev pub entry_fault : ℕ → KeyId → Form → Option Data → Option ScriptFault
 entry_fault table id (number low high) (Some (integer z)) = range_fault table id low high z
 entry_fault table id (number_or_none low high) None = None

@@ -90,7 +90,7 @@ source_text t =
     ++ (text_line key.File t.file
     ++ number_line key.Frames t.frames))
 
--- what is done with it
+-- what is done with a track: its kind, its ops and its scale
 unfoldable pub use_text : TrackSpec → List ℕ
 use_text t =
     text_line key.Kind (kind_text t.fast)

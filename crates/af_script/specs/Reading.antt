@@ -28,11 +28,11 @@ abbrev pub in_range_if : ℕ → KeyId → ℕ → ℕ → Option ℤ → Result
 in_range_if table id low high None = Err (fault.Key table id)
 in_range_if table id low high (Some z) = in_range table id low high z
 
--- the number at a key: Key where it is missing or has another type, Range where it is out of range
+-- the number at a key: Key if it is missing or has another type, Range if it is out of range
 abbrev pub number_in : ℕ → KeyId → ℕ → ℕ → Members → Result ℕ ScriptFault
 number_in table id low high tree = in_range_if table id low high (option_and_then as_integer (value_at id tree))
 
--- the same, from 0 on, or a default where the key is missing
+-- a number, or a default if the key is missing
 abbrev pub default_if_none : ℕ → Option Data → Result ℕ ScriptFault → Result ℕ ScriptFault
 default_if_none default None number = Ok default
 default_if_none default (Some value) number = number
@@ -55,7 +55,7 @@ some_tables items =
 abbrev pub track_items : Members → Result Items ScriptFault
 track_items tree = ok_or (option_and_then (array_of as_table) (value_at key.Track tree)) (fault.Key 0 key.Track) >>= some_tables
 
--- the texts of the turns, none where the key is missing
+-- the texts of the turns, none if the key is missing
 abbrev pub turn_items_if : Option Data → Result Items ScriptFault
 turn_items_if None = Ok no_items
 turn_items_if (Some value) = ok_or (array_of as_str value) (fault.Key 0 key.Turns)
@@ -93,7 +93,7 @@ abbrev pub each_in : {X : Type 0} → (ℕ → Data → Result X ScriptFault) �
 each_in read index no_items = Ok []
 each_in read index (item value rest) = read index value >>= (λ x. each_in read (index + 1) rest >>= (λ xs. Ok (x ∷ xs)))
 
--- an op of a track, where the text spells one that may stand there
+-- an op of a track, if the text spells one that may stand there
 abbrev pub op_in : ℕ → ℕ → ℕ → ℕ → Data → Result Op ScriptFault
 op_in track frames count index value = ok_or (option_and_then (op_at frames count index) (as_str value)) (fault.Op track index)
 

@@ -1,4 +1,4 @@
--- Answers of steps that find the first fault, where memory may run out.
+-- Answers of steps that find the first fault, if memory may run out.
 use Rattle.std.specs.Prelude.{◌≡◌, Result, Ok, Err}
 use Rattle.af_script.specs.declared.fault.ScriptFault.{ScriptFault}
 use Rattle.af_script.specs.declared.fault.ReadError.{ReadError}
@@ -15,7 +15,7 @@ abbrev pub Finds : {X Y : Type 0} → (X → Y) → Result X ScriptFault → Res
 Finds view (Ok x) told = told ≡ Ok (view x)
 Finds view (Err fault) told = told ≡ Err fault
 
--- the answer that is told, but that memory may run out
+-- the answer is the one that the definition gives, but that memory may run out
 abbrev pub Reads : {X Y : Type 0} → (X → Y) → Result X ReadError → Result Y ScriptFault → Type 0
 Reads view (Ok x) told = told ≡ Ok (view x)
 Reads view (Err (Fault fault)) told = told ≡ Err fault

@@ -13,7 +13,7 @@ use std::alloc::Global;
 /// The tracks of a generated session.
 pub const GENERATED_TRACKS: u32 = 8;
 
-/// The frames of each of its files.
+/// The frames of each file of the session that the generator makes.
 pub const GENERATED_FRAMES: u32 = 100000;
 
 // The writes of each client.

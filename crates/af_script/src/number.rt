@@ -31,7 +31,7 @@ pub fn number_in(
     }
 }
 
-/// The number at a key of a numbered table, from 0 on, or a default where the key is missing.
+/// The number at a key of a numbered table, from 0 on, or a default if the key is missing.
 pub fn number_or(
     table: &Table,
     number: u32,

@@ -162,7 +162,7 @@ fn add_source(text: &mut String, track: &TrackSpec) -> Result<(), Memory>
     add_number(text, KeyId::Frames, track.frames)
 }
 
-// Adds what is done with it.
+// Adds what is done with a track: its kind, its ops and its scale.
 #[tactic(auto, unfolding(crate::specs::Printing::use_text))]
 fn add_use(text: &mut String, track: &TrackSpec) -> Result<(), Memory>
     ensures { IfOk result (λ _. string_bytes text.new ≡ string_bytes text.old ++ use_text track.now) }

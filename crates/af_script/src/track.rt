@@ -47,7 +47,7 @@ impl Name {
         self.text.as_str()
     }
 
-    /// The name that a text is: `is_name` tells whether it is one.
+    /// The name that a text is: `is_name` says whether it is one.
     pub fn new(alloc: Global, text: &str) -> Result<Name, Memory>
         requires { is_name text.now ≡ true }
         ensures { IfOk result (λ name. name ≡ text.now) }
@@ -57,7 +57,7 @@ impl Name {
         })
     }
 
-    // The same, for a reader.
+    // The name that a text is, for a reader.
     fn copied(alloc: Global, text: &str) -> Result<Name, ReadError>
         requires { is_name text.now ≡ true }
         ensures { CopiesText result text.now }
@@ -107,19 +107,19 @@ impl Ops {
 /// One track of a script.
 #[derive(Drop)]
 pub struct TrackSpec {
-    /// Whether it asks for a slot of the fast mixer.
+    /// Whether the track asks for a slot of the fast mixer.
     pub fast: bool,
-    /// The frames of its buffer, 1 to 8192.
+    /// The frames of the track's buffer, 1 to 8192.
     pub frames: u32,
-    /// Whether its file has one channel, and else two.
+    /// Whether the track's file has one channel, and else two.
     pub mono: bool,
-    /// The position at which it starts.
+    /// The position at which the track starts.
     pub base: u32,
-    /// Its scale in 4.12, at most 4096.
+    /// The track's scale in 4.12, at most 4096.
     pub scale: u16,
-    /// Its file of samples.
+    /// The track's file of samples.
     pub file: Name,
-    /// What its client does.
+    /// What the track's client does.
     pub ops: Ops,
 }
 
@@ -202,7 +202,7 @@ fn each_op(alloc: Global, track: u32, frames: u32, values: &[Value]) -> Result<V
     Ok(ops)
 }
 
-/// Adds `remove` where it isn't the last of some ops.
+/// Adds `remove` if it isn't the last of some ops.
 fn close(ops: &mut Vec<Op>) -> Result<(), ReadError>
     ensures { ClosesOps result ops.old.items ops.new.items }
 {

@@ -9,7 +9,7 @@ turns = ['c 1', 'n', 'f 16', 'c 0', 'f 1']\n\
 ops = ['open', 'start', 'pause', 'stop', 'flush', 'drain', 'yield', 'gain 0 65535', 'write 4194304', 'poke stream 8198 4294967295', 'poke command 134 0', 'remove']\n\
 [[track]]\nkind = 'fast'\nframes = 1\nchannels = 2\nfile = 'b'\nops = ['open']\n";
 
-/// The same as it is printed.
+/// The full script as it is printed.
 const PRINTED: &str = "cycles = 2048\nframes = 1024\nnormal = 16\n\
 turns = [\"c 1\", \"n\", \"f 16\", \"c 0\", \"f 1\"]\nversion = 2\n\
 \n[[track]]\nbase = 4294967295\nchannels = 1\nfile = \"a_B-9.wav\"\nframes = 8192\nkind = \"normal\"\n\

@@ -258,7 +258,7 @@ fn has_sizes_and_turns(script: &Script) -> bool {
         && script.turns() == TURNS.as_slice()
 }
 
-/// Whether its first track is as it stands there.
+/// Whether the script's first track is as it stands there.
 fn has_track(script: &Script) -> bool {
     let Some(track) = script.tracks().first() else {
         return false;

@@ -19,7 +19,7 @@ use Rattle.af_server.proofs.Kept.{kept-more, fewer}
 
 -- ## What a look shows
 
--- where no new flush was seen
+-- if no new flush was seen
 abbrev pub judged : Shape → ℕ → ℕ → ℕ → Seen
 judged shape asked rear front = if nat_lt shape.frames (ahead front rear) then seen.Shut front rear else if rear == front then seen.Empty else seen.Frames (min asked (ahead front rear))
 
@@ -126,7 +126,7 @@ discard_keeps c d asked flush rear front k unshut some new part flush_is flushes
 
 -- ## No new flush
 
--- where the words fit, nothing new was seen
+-- if the words fit, nothing new was seen
 same_as : (same flat out : Bool) → (not same && (flat || not out)) ≡ false → out ≡ false → same ≡ true
 same_as true flat out none fits = refl
 same_as false true out none fits = sym none

@@ -38,12 +38,12 @@ module _ (asked first : ℕ) (s u v : ServerState) (gains : ℕ) (look : Look) (
       ∙ joined before (server.SawGain gains) (if is_some s.shut then [] else look_events look.seen look.flush look.rear front) (after_look asked (is_some s.shut) look.seen)
       ∙ ap (λ (o : Option (ℕ × ℕ)). before ++ (server.SawGain gains ∷ (if is_some o then [] else look_events look.seen look.flush look.rear front) ++ after_look asked (is_some o) look.seen)) order.shut_is
 
-  -- what the look says where no words had shut the server
+  -- what the look says if no words had shut the server
   abbrev Opens : Type 0
   Opens = (front : ℕ) × (let shows = look_at s.pass.part.shape s.flush asked look.flush look.rear front in
       (look.seen ≡ shows) × (u.shown ≡ shown_by shows) × (u.pass.part.events ≡ (before ++ server.SawGain gains ∷ []) ++ look_events shows look.flush look.rear front))
 
-  -- and where these words had shut it
+  -- and if these words had shut it
   abbrev Stays : ℕ × ℕ → Type 0
   Stays words = (look.seen ≡ seen.Shut words.0 words.1) × (look.flush ≡ s.flush) × (look.rear ≡ words.1) × (u ≡ (record (did s (server.SawGain gains)) { shown = None }))
 

@@ -1,4 +1,4 @@
--- What a look shows is something, and where it shows frames at least one.
+-- What a look shows is something, and if it shows frames at least one.
 use Rattle.std.proofs.Common.{◌≡◌, ℕ, Bool, true, false, min, not, ◌==◌, nat_lt, if◌then◌else◌, Option, Some, None, MatchOption, ◌++◌, sym, subst}
 use Rattle.af_base.specs.declared.seen.Seen.{Seen}
 use Rattle.af_base.specs.declared.seen.Seen.TheVariants as seen
@@ -22,12 +22,12 @@ some_by_tests asked false false true dropped front rear count within = tt
 some_by_tests asked false false false dropped front rear count within = within.0
 
 module _ (asked : ℕ) (s u : ServerState) (look : Look) (within : WithinAsk asked look.seen) where
-  -- what the look says where no words had shut the server
+  -- what the look says if no words had shut the server
   abbrev Opens : Type 0
   Opens = (front : ℕ) × (let shows = look_at s.pass.part.shape s.flush asked look.flush look.rear front in
       (look.seen ≡ shows) × (u.shown ≡ shown_by shows) × (u.pass.part.events ≡ s.pass.part.events ++ look_events shows look.flush look.rear front))
 
-  -- and where these words had shut it
+  -- and if these words had shut it
   abbrev Stays : ℕ × ℕ → Type 0
   Stays words = (look.seen ≡ seen.Shut words.0 words.1) × (look.flush ≡ s.flush) × (look.rear ≡ words.1) × (u ≡ (record s { shown = None }))
 

@@ -32,7 +32,7 @@ abbrev pub shut_of : Seen → Option (ℕ × ℕ)
 shut_of (seen.Shut front rear) = Some (front, rear)
 shut_of _ = None
 
--- how many frames it discarded
+-- how many frames a look discarded
 abbrev pub dropped_of : Seen → ℕ
 dropped_of (seen.Flushed count) = count
 dropped_of _ = 0
@@ -42,12 +42,12 @@ abbrev pub flushes_after : (wrap flush before : ℕ) → Seen → ℕ
 flushes_after wrap flush before (seen.Flushed count) = flushes_by wrap flush
 flushes_after wrap flush before _ = before
 
--- there are some frames, and no more than were asked for
+-- a look that showed frames showed at least one, and no more than were asked for
 abbrev pub WithinAsk : ℕ → Seen → Type 0
 WithinAsk asked (seen.Frames count) = (1 ≤ count) × (count ≤ asked)
 WithinAsk asked _ = Unit {0}
 
--- a look steps once for each of the three words, and once more where it discards
+-- a look steps once for each of the three words, and once more if it discards
 abbrev pub sight_steps : Seen → ℕ
 sight_steps (seen.Flushed count) = 4
 sight_steps _ = 3

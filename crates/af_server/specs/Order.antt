@@ -7,7 +7,7 @@ use Rattle.af_cblk.specs.declared.view.ServerPart.{ServerPart}
 use Rattle.af_cblk.specs.Parts.{server_did}
 use Rattle.af_cblk.specs.Sides.{Made, ServerSide, server_made}
 
--- the pass, the flush word last seen, the number of flushes by the last flush that was noticed, the front last seen, how many frames the last call showed if it showed some, how many were consumed, and the front and rear that shut it
+-- a server's proxy: the pass, the flush word last seen, the number of flushes by the last flush that was noticed, the front last seen, how many frames the last call showed if it showed some, how many were consumed, and the front and rear that shut it
 pub record ServerState : Type 0 where
   pub pass : ServerSide
   pub flush : ℕ
@@ -45,7 +45,7 @@ pub record Keeps (s : ServerPart) (flush flushes front : ℕ) (shown : Option �
   pub shut_is : shut ≡ (server_kept_of s).shut
   pub ready : MatchOption shown (Unit {0}) (λ count. IsReady s front count)
 
--- what its maker establishes, and each call and each meeting keeps
+-- a proxy is in order: its maker establishes this, and each call and each meeting keeps it
 abbrev pub IsInOrder : ServerState → Type 0
 IsInOrder c = Keeps c.pass.part c.flush c.flushes c.front c.shown c.consumed c.shut
 

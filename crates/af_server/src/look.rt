@@ -16,7 +16,7 @@ use std::sync::ledger::Ledger;
 pub struct Look {
     pub flush: u32,
     pub rear: u32,
-    /// It is never Absent.
+    /// What the look showed. It is never Absent.
     pub seen: Seen,
 }
 
@@ -95,7 +95,7 @@ impl Server {
         Seen::Flushed { dropped }
     }
 
-    // What the words show where no new flush is noticed.
+    // What the words show if no new flush is noticed.
     fn judge(&mut self, block: &Block, ask: u32, words: Words) -> Seen
         requires unnoticed { is_noticed block.now.shape (not (words.flush == self.old.flush)) words.rear words.front ≡ false }
         requires open { (self.old.shown ≡ None) × (self.old.shut ≡ None) }
@@ -121,7 +121,7 @@ impl Server {
     ///
     /// A proxy that is shut answers Shut with the two words that shut it, and the flush word of that look, and makes no step. Otherwise it loads the flush word, rear and front, each in one step.
     ///
-    /// Flushed exactly where the flush word differs from the one kept: that is kept, and all frames up to the rear seen are discarded, by one step more. Shut exactly where rear minus front, as a signed number, is below 0 or above the block's frames. Empty exactly where rear is front. Else Frames, with the lesser of `ask` and the frames that are there.
+    /// Flushed exactly if the flush word differs from the one kept: that is kept, and all frames up to the rear seen are discarded, by one step more. Shut exactly if rear minus front, as a signed number, is below 0 or above the block's frames. Empty exactly if rear is front. Else Frames, with the lesser of `ask` and the frames that are there.
     ///
     /// On a positional block Shut comes first, and Flushed discards the frames up to the position of the flush, which may be none.
     pub fn look<L: Ledger>(&mut self, block: &Block, ask: u32, steps: &mut Steps<L>) -> Look

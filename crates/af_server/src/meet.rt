@@ -18,7 +18,7 @@ use std::sync::ledger::Ledger;
 impl Server {
     /// Meets the client of the same block, whose list is spelled by the calls of a proxy: each learns what the other has done so far.
     ///
-    /// Where the client has not poked, their lists have a history, in which no look of this server was shut, and where no frames were discarded, those taken are a beginning of those released. On a positional block what a look discarded was released before the flush that it saw, and after it all that was released before that flush is taken or discarded.
+    /// If the client has not poked, their lists have a history, in which no look of this server was shut, and if no frames were discarded, those taken are a beginning of those released. On a positional block what a look discarded was released before the flush that it saw, and after it all that was released before that flush is taken or discarded.
     pub fn meet<L: Ledger>(&mut self, block: &Block, client: &mut ClientPass, steps: &mut Steps<L>)
         requires client { client_made client.old ≡ block.now }
         requires ready { IsServerOf block.now self.old }

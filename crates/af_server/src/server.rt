@@ -17,9 +17,9 @@ pub(crate) const MOST_CONSUMED: u64 = 0x7fff_ffff_ffff_ffff;
 
 /// The server's side of one control block: AOSP's `ServerProxy`.
 ///
-/// It distrusts every index that it reads: where front and rear once lie further apart than the block has frames, it is shut for good.
+/// It distrusts every index that it reads: if front and rear once lie further apart than the block has frames, it is shut for good.
 ///
-/// Contracts see its pass, with the list of all events so far, and the kept values. A proxy is in order where these are the ones that the list gives. `with` makes it so, and each call and each meeting keeps it so.
+/// Contracts see its pass, with the list of all events so far, and the kept values. A proxy is in order if these are the ones that the list gives. `with` makes it so, and each call and each meeting keeps it so.
 #[derive(Drop)]
 pub struct Server {
     pub(crate) pass: ServerPass,
@@ -29,7 +29,7 @@ pub struct Server {
     pub(crate) flushes: u32,
     // The front last seen.
     pub(crate) front: u32,
-    // How many frames the last call showed, where it was a look that showed some.
+    // How many frames the last call showed, if it was a look that showed some.
     pub(crate) shown: Option<u32>,
     pub(crate) consumed: u64,
     pub(crate) shut: Option<(u32, u32)>,

@@ -12,7 +12,7 @@ use af_base::{Frame, INVALID, Seen, SlotEntry, Steps};
 use af_cblk::Block;
 use std::sync::ledger::Ledger;
 
-/// Where the frames of a slot stand in a list of frames that had so many before: 0 where it took none.
+/// Where the frames of a slot stand in a list of frames that had so many before: 0 if it took none.
 pub fn place_of(place: usize, seen: Seen) -> usize
     ensures { result ≡ place_of place seen }
 {
@@ -23,7 +23,7 @@ pub fn place_of(place: usize, seen: Seen) -> usize
 }
 
 impl Server {
-    // Tallies missing frames, where there are some.
+    // Tallies missing frames, if there are some.
     fn tally_some<L: Ledger>(&mut self, block: &Block, missing: usize, steps: &mut Steps<L>)
         requires ready { IsServerOf block.now self.old }
         requires few { missing < 2 ^ 32 }
@@ -36,7 +36,7 @@ impl Server {
         }
     }
 
-    // What follows a look: all frames shown are taken and those missing tallied, and INVALID is set where it shut the server.
+    // What follows a look: all frames shown are taken and those missing tallied, and INVALID is set if it shut the server.
     fn follow<L: Ledger>(
         &mut self,
         block: &Block,
@@ -65,7 +65,7 @@ impl Server {
         }
     }
 
-    /// What a mixer does with one slot of the mask: the gains are read, and the block is looked at for as many frames as the buffer has room for. Frames that are shown are taken to the front of the buffer, those missing are tallied, and where the look shuts this server INVALID is set in the block.
+    /// What a mixer does with one slot of the mask: the gains are read, and the block is looked at for as many frames as the buffer has room for. Frames that are shown are taken to the front of the buffer, those missing are tallied, and if the look shuts this server INVALID is set in the block.
     ///
     /// `place` is how many frames stand before these where they will be kept. A step for each frame of the buffer, and at most seven more.
     pub fn play<L: Ledger>(

@@ -33,7 +33,7 @@ pub fn load_frames<L: Ledger>(
 impl Server {
     /// Takes the frames that the last call showed, which was a look that answered Frames. `into` has room for exactly these.
     ///
-    /// It loads their cells, across the wrap where needed, and then raises front, in one step each.
+    /// It loads their cells, across the wrap if needed, and then raises front, in one step each.
     pub fn take<L: Ledger>(&mut self, block: &Block, into: &mut [Frame], steps: &mut Steps<L>)
         requires ready { IsServerOf block.now self.old }
         requires shown { self.old.shown ≡ Some (length into.old) }

@@ -75,21 +75,21 @@ const TONE: Voice<'static> = Voice {
     bytes: &[0xe8, 3, 0x18, 0xfc, 0xd0, 7, 0x30, 0xf8],
 };
 
-/// One of full samples.
+/// A track of full samples.
 const LOUD: Voice<'static> = Voice {
     count: 1,
     bytes: &[0xff, 0x7f, 0x00, 0x80],
     ..TONE
 };
 
-/// One that turns the left of those down.
+/// A track that turns the left of those full samples down.
 const TURNED: Voice<'static> = Voice {
     count: 1,
     bytes: &[0x01, 0x80, 0, 0],
     ..TONE
 };
 
-/// One of one channel.
+/// A track of one channel.
 const ONE: Voice<'static> = Voice {
     channels: 1,
     count: 1,
@@ -113,7 +113,7 @@ fn expect_mix<R: Threads + Sync + Abort>(
 /// Some tracks, their output in one cycle of two frames, and the line.
 type Mix<'a> = (&'a [Voice<'a>], [u8; 8], &'a str);
 
-/// Several tracks: their sum, clamped once, and silence where one has no frame left. As many as hold a slot, and one more, which waits.
+/// Several tracks: their sum, clamped once, and silence of one that has no frame left. As many as hold a slot, and one more, which waits.
 const SUMS: &[Mix<'static>] = &[
     (
         &[TONE, LOUD],
@@ -255,7 +255,7 @@ const FRAMES: [Frame; 3] = [
     },
 ];
 
-// What is heard of them.
+// What is heard of these frames.
 const SOUND: [u8; 16] = [1, 0, 1, 0, 44, 1, 254, 255, 254, 255, 44, 1, 0, 0, 0, 0];
 
 #[test]

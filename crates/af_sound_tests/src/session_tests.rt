@@ -102,7 +102,7 @@ fn expect_session<R: Threads + Sync + Abort>(
     expect(rt, alloc, RENDER, ends, 0, line, Some(&output))
 }
 
-/// The same of some sessions.
+/// The line and the output of each of some sessions.
 fn expect_sessions<R: Threads + Sync + Abort>(
     rt: &R,
     alloc: Global,
@@ -137,7 +137,7 @@ const FLUSHES: Voice<'static> = Voice {
     ..FAST
 };
 
-/// A flush discards all that was released before it is seen; by the rules of version 2 what was released before it was made. One of an active track is no call.
+/// A flush discards all that was released before it is seen; by the rules of version 2 what was released before it was made. A flush of an active track is no call.
 const FLUSHED: &[Session<'static>] = &[
     (
         Plan {

@@ -17,7 +17,7 @@ fn words_of(alloc: Global, line: &str) -> Result<Vec<String>, Fail> {
     Ok(words)
 }
 
-/// A run over a store and a sink: the exit status, the line, and what OUT holds where it is made.
+/// A run over a store and a sink: the exit status, the line, and what OUT holds if it is made.
 pub(crate) fn expect<R: Threads + Sync + Abort>(
     rt: &R,
     alloc: Global,

@@ -50,7 +50,7 @@ module _ {P K : Type 0} (fits : K → ℕ → P → Type 0) (basis : Basis K) wh
     abbrev Here : Phase → Type 0
     Here = Now fits basis s k id v here
 
-    -- nothing comes where the mutator has the shelves, or the last state is not acknowledged
+    -- nothing comes if the mutator has the shelves, or the last state is not acknowledged
     brings_nothing : (p : Phase) → (hit : Bool) → (r == word k.m.pushed) ≡ hit → brings k.m r ≡ false → [] ≡ brought k.stands.point → (k.o.current == k.stands.point.mutator.pushed) ≡ hit → (hit ≡ true → k.o.current ≡ k.m.pushed) → (hit ≡ false → k.o.current + 1 ≡ k.m.pushed)
         → InPhase (fits basis.key) (known_by (ack_m fits basis s k id v here ok [] (r == word k.m.pushed) s.homes) k.o (ack_point fits basis s k id v here ok [] (r == word k.m.pushed) s.homes)) s.homes p
         → (k.m.clear ≡ true → (r == word k.m.pushed) ≡ true) → Allowed

@@ -110,11 +110,11 @@ module _ {P K : Type 0} (m : Pushes P K) (o : Polls P K) (s : AreInStep m o) whe
   pub coming_push : (x : FastState) (items : List (Option P)) → o.number ≡ m.number → items_coming (pushes x items m) o ≡ []
   coming_push x items same = ap (λ b. if not b then [] else (observed o.events).given) (ne_eqb o.number (m.number + 1) (λ e. omega arith))
 
-  -- where the observer is at the last push none is on its way to it
+  -- if the observer is at the last push none is on its way to it
   pub none_going : o.number ≡ m.number → items_going m o ≡ []
   none_going same = ap (λ b. if b then [] else (mutated m.first m.events).items) (eq-eqb o.number m.number same)
 
-  -- where it isn't none is on its way back
+  -- if it isn't, none is on its way back
   pub none_coming : o.number + 1 ≡ m.number → items_coming m o ≡ []
   none_coming e = ap (λ b. if m.clear || not b then [] else (observed o.events).given) (ne_eqb o.number m.number (λ h. omega arith)) ∙ or_true m.clear
     where

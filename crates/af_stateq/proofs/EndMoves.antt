@@ -70,7 +70,7 @@ module _ {P K : Type 0} (m : Mutates P K) (o : Observes P K) (places : List (Pla
             (joined i li ∙ ap (λ (l : List (Option P)). if is_some (at l i) then at l i else at m.returned i) brought));
       }
 
-  -- where nothing is on its way back, a look would bring nothing
+  -- if nothing is on its way back, a look would bring nothing
   pub sees_nothing : items_coming m.past o.past ≡ [] → AreAt (moved_from SeeAck 0 places) m o
   sees_nothing none = record {
     in_step = s;

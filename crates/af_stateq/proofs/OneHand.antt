@@ -50,7 +50,7 @@ module _ {P K : Type 0} (m : Mutates P K) (o : Observes P K) (places : List (Pla
     abbrev HasOrder : Pushes P K → Polls P K → Type 0
     HasOrder m' o' = HasHistory m'.first m'.events o'.events
 
-    -- what a look at the acknowledgement found, where more events follow it
+    -- what a look at the acknowledgement found, if more events follow it
     older_is : (a : ℕ) (rest : List (MutatorEvent P)) → HasHistory m.past.first (m.past.events ++ SawAck a [] ∷ rest) o.past.events → a ≡ o.past.number
     older_is a rest h = (ack_is_exact m.past o.past here.in_step met a [] rest h).0
 

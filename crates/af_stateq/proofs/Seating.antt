@@ -1,4 +1,4 @@
--- The rule at the start, where the ends take their slots, and where a part changes seats.
+-- The rule at the start, when the ends take their slots, and when a part changes seats.
 use Rattle.std.proofs.Common.{◌≡◌, ◌≢◌, ℕ, zero, suc, ◌+◌, ◌<◌, true, false, true≢false, List, [], ◌∷◌, map, drop, set, get_or, replicate, None, sym, refl, ap, ◌∙◌, arith, length-set}
 use mathlib.Core.Option as maybe
 use lib.ListN.{get_elem?}

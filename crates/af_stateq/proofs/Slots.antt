@@ -1,4 +1,4 @@
--- How the facts of one slot fare where it is attached, detached, taken back, pushed, or its item comes back.
+-- How the facts of one slot fare when it is attached, detached, taken back, pushed, or its item comes back.
 use Rattle.std.proofs.Common.{◌≡◌, ℕ, ◌<◌, ◌≤◌, ◌&&◌, ⊎_elim, inl, inr, not, if◌then◌else◌, Bool, true, false, true≢false, Option, Some, None, is_some, refl, ap, sym, ◌∙◌, subst}
 use Rattle.std.proofs.lemmas.Bool.{ltb-true, leb-true}
 use Rattle.af_base.specs.declared.state.FastTrack.{FastTrack}

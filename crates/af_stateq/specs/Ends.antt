@@ -9,7 +9,7 @@ use Rattle.af_model.specs.declared.states.ObserverEvent.TheVariants.{SawNext, Ac
 use Rattle.af_model.specs.StateQueue.{AreOf, FitAt}
 use Rattle.af_stateq.specs.Shelved.{word}
 
--- which queue it is of, the key, the number of the last state, that state and the one before, whether it was seen acknowledged, and the events
+-- the end that pushes: which queue it is of, the key, the number of the last state, that state and the one before, whether it was seen acknowledged, and the events
 pub record Pushes (P K : Type 0) : Type 0 where
   pub queue : TableId
   pub key : Option K
@@ -20,7 +20,7 @@ pub record Pushes (P K : Type 0) : Type 0 where
   pub clear : Bool
   pub events : List (MutatorEvent P)
 
--- which queue it is of, the key, the number of the current state, that state, whether the next one was taken, that one, and the events
+-- the end that polls: which queue it is of, the key, the number of the current state, that state, whether the next one was taken, that one, and the events
 pub record Polls (P K : Type 0) : Type 0 where
   pub queue : TableId
   pub key : Option K
@@ -44,7 +44,7 @@ module _ {P K : Type 0} where
     events = m.events ++ SawAck a items ∷ [];
   }
 
-  -- items came where the last state was first seen acknowledged
+  -- items came if the last state was first seen acknowledged
   abbrev pub SawAcked : (K → ℕ → P → Type 0) → Pushes P K → List (Option P) → ℕ → Pushes P K → List (Option P) → Type 0
   SawAcked fits m before seen m' after = (a : ℕ) × (seen ≡ word a) × (seen ≡ word m.number → a ≡ m.number) × (seen ≢ word m.number → a + 1 ≡ m.number)
       × ((not m.clear && (seen == word m.number)) ≡ false → (m' ≡ saw a [] m) × (after ≡ before))

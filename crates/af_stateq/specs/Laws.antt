@@ -20,7 +20,7 @@ module _ {P : Type 0} where
   pushed_states (SawAck a items ∷ es) = pushed_states es
   pushed_states (mutator.Learn c ∷ es) = pushed_states es
 
-  -- the states polled: those acknowledged, each the one taken last, y where none was
+  -- the states polled: those acknowledged, each the one taken last, y if none was
   abbrev pub polled_states : FastState → List (ObserverEvent P) → List FastState
   polled_states y [] = []
   polled_states y (SawNext k (Some x) items ∷ es) = polled_states x es
@@ -37,13 +37,13 @@ module _ {P : Type 0} where
   is_ack (Ack k items) = true
   is_ack _ = false
 
-  -- Where the observer learnt of the events `told`, and the mutator pushed nothing after them, the next look finds the number of the last push, and where it shows a state it shows that one, with the items that it carried
+  -- If the observer learnt of the events `told`, and the mutator pushed nothing after them, the next look finds the number of the last push, and if it shows a state it shows that one, with the items that it carried
   abbrev pub SeesTheLast : FastState → List (MutatorEvent P) → Type 0
   SeesTheLast first ms =
       (told more : List (MutatorEvent P)) (os rest : List (ObserverEvent P)) (c n : ℕ) (x : Option FastState) (items : List (Option P)) → HasHistory first ms ((os ++ observer.Learn c ∷ []) ++ SawNext n x items ∷ rest) → ms ≡ told ++ more → length told ≤ c → list_any is_push more ≡ false
       → (n ≡ (mutated first ms).pushed) × IfSome x (λ s. (s ≡ (mutated first ms).last) × (items ≡ (mutated first ms).items))
 
-  -- Where the mutator learnt of the events `told`, and the observer acknowledged nothing after them, the next look at the acknowledgement finds the number of the last one, and brings the items given back with it where they are those of the last push and weren't brought before
+  -- If the mutator learnt of the events `told`, and the observer acknowledged nothing after them, the next look at the acknowledgement finds the number of the last one, and brings the items given back with it if they are those of the last push and weren't brought before
   abbrev pub SeesTheAck : FastState → List (ObserverEvent P) → Type 0
   SeesTheAck first os =
       (told more : List (ObserverEvent P)) (ms rest : List (MutatorEvent P)) (c a : ℕ) (items : List (Option P)) → HasHistory first ((ms ++ mutator.Learn c ∷ []) ++ SawAck a items ∷ rest) os → os ≡ told ++ more → length told ≤ c → list_any is_ack more ≡ false
@@ -66,7 +66,7 @@ given_to to None h = h
 given_to to (Some p) h = to p
 
 module _ {P : Type 0} (i : ℕ) where
-  -- an event passes the slot's item on only where its holder has it, and what is taken off a shelf is what was put there
+  -- an event passes the slot's item on only if its holder has it, and what is taken off a shelf is what was put there
   abbrev pub may_pass : Holder P → Event (MutatorEvent P) (ObserverEvent P) → Type 0
   may_pass h (one (Push k x items)) = (p : P) → at items i ≡ Some p → h ≡ in_hand
   may_pass h (one (SawAck a items)) = (p : P) → at items i ≡ Some p → h ≡ coming p
@@ -75,7 +75,7 @@ module _ {P : Type 0} (i : ℕ) where
   may_pass h (two (Ack k items)) = (p : P) → at items i ≡ Some p → h ≡ held
   may_pass h (two (observer.Learn c)) = Unit {0}
 
-  -- who has it then
+  -- who has the slot's item after an event
   abbrev pub passed : Holder P → Event (MutatorEvent P) (ObserverEvent P) → Holder P
   passed h (one (Push k x items)) = given_to going (at items i) h
   passed h (one (SawAck a items)) = given_to (λ _. in_hand) (at items i) h

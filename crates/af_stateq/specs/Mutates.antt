@@ -6,7 +6,7 @@ use Rattle.af_model.specs.StateQueue.{slots, slot_of, carries, IsState, FitAt}
 use Rattle.af_stateq.specs.Shelved.{nothing}
 use Rattle.af_stateq.specs.Ends.{Pushes}
 
--- what it pushed and saw, the draft, whether it differs from the last push, whether a mutation is in progress and made an edit,
+-- the mutator: what it pushed and saw, the draft, whether it differs from the last push, whether a mutation is in progress and made an edit,
 -- the items attached since the last push, the detached items in hand, and which slots have an item that was attached and not taken back
 pub record Mutates (P K : Type 0) : Type 0 where
   pub past : Pushes P K
@@ -26,7 +26,7 @@ is_out out i = slice_index_or out i false
 
 -- one slot, by what the draft, the last state and the one before it carry and by its tracks there, its pending and its returned item, whether its item is out, and whether the last state was seen acknowledged
 pub record InSlot {P : Type 0} (clear in_draft in_last in_before : Bool) (track last before : FastTrack) (pending returned : Option P) (out : Bool) : Type 0 where
-  -- an item is pending exactly where the draft carries one that the last state doesn't
+  -- an item is pending exactly if the draft carries one that the last state doesn't
   pub pends : is_some pending ≡ (in_draft && not in_last)
   -- no slot changes its track while the last state carries it
   pub stays : in_last ≡ true → track ≡ last
@@ -34,7 +34,7 @@ pub record InSlot {P : Type 0} (clear in_draft in_last in_before : Bool) (track 
   pub comes : clear ≡ false → in_before ≡ true → in_last ≡ false → (in_draft ≡ false) × (is_some returned ≡ false) × (track ≡ before)
   -- an item in hand is on no state
   pub rests : is_some returned ≡ true → (in_draft ≡ false) × (in_last ≡ false)
-  -- where no item is out, none is anywhere
+  -- if no item is out, none is anywhere
   pub clean : out ≡ false → (in_draft ≡ false) × (is_some returned ≡ false) × (in_last ≡ false) × (clear ≡ false → in_before ≡ false)
   -- an item that is out is on a state, on its way back, or in hand
   pub found : out ≡ true → in_draft ≡ false → in_last ≡ false → (clear ≡ true) ⊎ (in_before ≡ false) → is_some returned ≡ true
@@ -56,7 +56,7 @@ pub record InDraft {P K : Type 0} (fits : K → ℕ → P → Type 0) (m : Mutat
 abbrev pub IsJoined : {P : Type 0} → List (Option P) → List (Option P) → List (Option P) → Type 0
 IsJoined items before after = (i : ℕ) → i < slots → at after i ≡ (if is_some (at items i) then at items i else at before i)
 
--- nothing was pushed or seen, the draft is the first state, and no slot has an item
+-- a new mutator: nothing was pushed or seen, the draft is the first state, and no slot has an item
 pub record IsNewMutator {P K : Type 0} (key : K) (first : FastState) (m : Mutates P K) : Type 0 where
   pub has_key : m.past.key ≡ Some key
   pub begins : (m.past.first ≡ first) × (m.past.last ≡ first) × (m.draft ≡ first)

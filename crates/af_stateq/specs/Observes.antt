@@ -9,7 +9,7 @@ use Rattle.af_stateq.specs.Ends.{Polls}
 use Rattle.af_stateq.specs.Mutates.{at}
 use Rattle.af_stateq.specs.Laws.{polled_states}
 
--- what it saw and acknowledged, the current state and the one before, and the items that it holds
+-- the observer: what it saw and acknowledged, the current state and the one before, and the items that it holds
 pub record Observes (P K : Type 0) : Type 0 where
   pub past : Polls P K
   pub current : Option FastState
@@ -24,7 +24,7 @@ pub record AreTold {P : Type 0} (events : List (ObserverEvent P)) (n : ℕ) (x :
   pub previous : (first : FastState) → state_of (polled_states first events) (n - 1) ≡ before
   pub state : 0 < n → now ≡ Some x
 
--- the numbers and states are those that the events tell, and each item is held exactly where its slot carries one in the current state, and fits the track of its slot there
+-- the numbers and states are those that the events tell, and each item is held exactly if its slot carries one in the current state, and fits the track of its slot there
 pub record InOrder {P K : Type 0} (fits : K → ℕ → P → Type 0) (o : Observes P K) : Type 0 where
   pub told : AreTold o.past.events o.past.number o.past.state o.current o.previous
   pub state : IsState o.past.state
@@ -32,14 +32,14 @@ pub record InOrder {P K : Type 0} (fits : K → ℕ → P → Type 0) (o : Obser
   pub held : (i : ℕ) → i < slots → has o.items i ≡ carries o.past.state i
   pub fit : FitAt fits o.past.key o.past.state o.items
 
--- the item held and the item on the shelf change places where one came for the slot, or the state x doesn't carry it
+-- the item held and the item on the shelf change places if one came for the slot, or the state x doesn't carry it
 abbrev pub changes : {P : Type 0} → FastState → List (Option P) → ℕ → Bool
 changes x moving i = has moving i || not (carries x i)
 
 abbrev pub IsSettled : {P : Type 0} → FastState → List (Option P) → List (Option P) → List (Option P) → List (Option P) → ℕ → Type 0
 IsSettled x items moving items' moving' i = (at items' i ≡ (if changes x moving i then at moving i else at items i)) × (at moving' i ≡ (if changes x moving i then at items i else at moving i))
 
--- nothing was seen, and nothing is held
+-- a new observer: nothing was seen, and nothing is held
 pub record IsNewObserver {P K : Type 0} (key : K) (first : FastState) (o : Observes P K) : Type 0 where
   pub has_key : o.past.key ≡ Some key
   pub begins : o.past.state ≡ first

@@ -38,7 +38,7 @@ module _ {P : Type 0} where
   coming_of (Coming p) = Some p
   coming_of _ = None
 
-  -- of one slot: its item stands at this place, so each holder has it exactly where the place says so
+  -- the item of one slot stands at this place, so each holder has it exactly if the place says so
   pub record InPlace (place : Place P) (pends goes here comes back : Option P) : Type 0 where
     pub pending : pends ≡ pending_of place
     pub going : goes ≡ going_of place
@@ -71,7 +71,7 @@ module _ {P K : Type 0} where
     pub out : map is_placed places ≡ m.out
     pub each : (i : ℕ) → i < slots → InPlace (place_at places i) (at m.pending i) (at (items_going m.past o.past) i) (at o.items i) (at (items_coming m.past o.past) i) (at m.returned i)
 
-  -- the plain queue that the ends are, where the items stand at these places
+  -- the plain queue that the ends are, if the items stand at these places
   abbrev pub plain_of : Mutates P K → Observes P K → List (Place P) → QueueState P
   plain_of m o places = record {
     draft = m.draft;
@@ -114,7 +114,7 @@ module _ {P K : Type 0} where
       × (m' ≡ record m { returned = slice_set m.returned slot None; out = slice_set m.out slot (is_out m.out slot && not (is_some (at m.returned slot))) }) × (o' ≡ o)
   Made call.Poll m o a m' o' = (p : Poll) × (s : ℕ) × (s' : ℕ) × (a ≡ answer.Polled p) × WasPolled o p o' s s' × (m' ≡ m)
 
-  -- a call is made where it is allowed, and else given back
+  -- a call is made if it is allowed, and else given back
   pub record Tried (c : QueueCall P) (m : Mutates P K) (o : Observes P K) (a : QueueAnswer P) (m' : Mutates P K) (o' : Observes P K) : Type 0 where
     pub made : is_allowed (ready_of m o) c ≡ true → Made c m o a m' o'
     pub refused : is_allowed (ready_of m o) c ≡ false → (a ≡ answer.NotAllowed c) × (m' ≡ m) × (o' ≡ o)

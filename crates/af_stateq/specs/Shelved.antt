@@ -37,7 +37,7 @@ module _ {P : Type 0} where
   abbrev pub shelves : List (Slot P) → List (ℕ × Slot P)
   shelves xs = slots_from cells xs
 
-  -- what lies on them
+  -- what lies on some shelves
   abbrev pub items_on : List (Slot P) → List (Option P)
   items_on xs = map (λ x. x.item) xs
 
@@ -197,7 +197,7 @@ module _ {P K : Type 0} where
   abbrev pub brings : Mutating P K → ℕ → Bool
   brings m r = not m.clear && (r == word m.pushed)
 
-  -- the acknowledged number a was seen; where it is first seen that it is the last pushed, the shelves were taken
+  -- the acknowledged number a was seen; if it is first seen that it is the last pushed, the shelves were taken
   abbrev pub saw_ack : (K → ℕ → P → Type 0) → Step (Slot P) → Seated P K → ℕ → Seated P K → Type 0
   saw_ack fits st me r me' = let m = me.0.mutating in
       (a : ℕ) × (r ≡ word a) × (r ≡ word m.pushed → a ≡ m.pushed) × (r ≢ word m.pushed → a + 1 ≡ m.pushed)
@@ -238,7 +238,7 @@ module _ {P K : Type 0} where
         me.1,
       ))
 
-  -- a mutator holds the cell of the next state, and the shelves where the last state was seen acknowledged
+  -- a mutator holds the cell of the next state, and the shelves if the last state was seen acknowledged
   pub record IsMutator (me : Seated P K) (n : ℕ) (clear : Bool) : Type 0 where
     pub mutates : me.0.mutates ≡ true
     pub alone : me.0.observes ≡ false
@@ -248,7 +248,7 @@ module _ {P K : Type 0} where
     pub begins : n ≡ 0 → clear ≡ true
     pub holds : HoldsNext clear n me.1
 
-  -- an observer holds the cells of its state and of the one before, and where it took the next one that cell and the shelves
+  -- an observer holds the cells of its state and of the one before, and if it took the next one that cell and the shelves
   pub record IsObserver (me : Seated P K) (c : ℕ) (due : Bool) : Type 0 where
     pub observes : me.0.observes ≡ true
     pub alone : me.0.mutates ≡ false

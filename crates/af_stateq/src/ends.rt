@@ -54,7 +54,7 @@ pub(crate) fn word_of(number: u64) -> u64
 }
 
 impl<P: Drop, N: Fits<P>> MutatorEnd<P, N> {
-    /// One look at ack. Where it first sees the last state acknowledged, it brings the items that came back.
+    /// One look at ack. If it first sees the last state acknowledged, it brings the items that came back.
     pub fn see_ack<L: Ledger>(
         &mut self,
         queue: &Queue<P, N>,
@@ -109,7 +109,7 @@ impl<P: Drop, N: Fits<P>> MutatorEnd<P, N> {
 }
 
 impl<P: Drop, N: Fits<P>> ObserverEnd<P, N> {
-    /// One look at next. Where there is a new state it takes that state, with the items that came with it.
+    /// One look at next. If there is a new state it takes that state, with the items that came with it.
     pub fn look<L: Ledger>(
         &mut self,
         queue: &Queue<P, N>,
@@ -135,7 +135,7 @@ impl<P: Drop, N: Fits<P>> ObserverEnd<P, N> {
         Some(state)
     }
 
-    /// Acknowledges the state that it took, and gives items back with it.
+    /// Acknowledges the state that the observer took, and gives items back with it.
     pub fn acknowledge<L: Ledger>(
         &mut self,
         queue: &Queue<P, N>,

@@ -29,7 +29,7 @@ pub fn each_item_has_one_holder<P>()
     ensures { (first : State) (ms : List (MutatorEvent P)) (os : List (ObserverEvent P)) → OneHolder first ms os }
 {}
 
-/// In a history a look of an observer that has learnt of all pushes has the number of the last push, and where it shows a state that is the last one, with the items that it carried. So with both ends in one hand, and a meeting after each call, each look sees the last push.
+/// In a history a look of an observer that has learnt of all pushes has the number of the last push, and if it shows a state that is the last one, with the items that it carried. So with both ends in one hand, and a meeting after each call, each look sees the last push.
 pub fn a_look_after_a_meeting_sees_the_last_push<P>()
     ensures { (first : State) (ms : List (MutatorEvent P)) → SeesTheLast first ms }
 {}

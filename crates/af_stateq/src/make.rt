@@ -143,7 +143,7 @@ pub(crate) fn meet_ends<P: Drop, N: Fits<P>, L: Ledger>(
     shared.join_seat::<Part>(&mut observer.seat, part);
 }
 
-/// A queue with its two ends, for states of `frames` frames and items that fit by `key`. Nothing is pushed. In the draft the submix alone is active, with the command ColdIdle, and no slot has an item. The one error is want of memory.
+/// A queue with its two ends, for states of `frames` frames and items that fit by `key`. Nothing is pushed. In the draft the submix alone is active, with the command ColdIdle, and no slot has an item. Memory is its only refusal.
 pub fn queue<P: Drop, N: Fits<P>>(
     alloc: Global,
     frames: u32,

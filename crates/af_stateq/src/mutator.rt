@@ -51,7 +51,7 @@ impl<P: Drop, N: Fits<P>> Mutator<P, N> {
         self.edited = false;
     }
 
-    /// Ends a mutation. Where it made an edit, or says so, the draft is to be pushed.
+    /// Ends a mutation. If it made an edit, or says so, the draft is to be pushed.
     pub fn end(&mut self, did_modify: bool)
         requires editing { self.old.editing ≡ true }
         requires honest { self.old.edited ≡ true → did_modify ≡ true }
@@ -117,7 +117,7 @@ impl<P: Drop, N: Fits<P>> Mutator<P, N> {
         self.edited = true;
     }
 
-    /// The detached item of a slot, where it is in hand. From then on the slot is free.
+    /// The detached item of a slot, if it is in hand. From then on the slot is free.
     pub fn take_back(&mut self, slot: u32) -> Option<P>
         requires slot { (1 ≤ slot) × (slot < slots) }
         ensures item { result ≡ at self.old.returned slot }
@@ -130,7 +130,7 @@ impl<P: Drop, N: Fits<P>> Mutator<P, N> {
         item
     }
 
-    /// The draft. What always holds of the mutator is told here.
+    /// The draft. What always holds of the mutator stands here.
     pub fn draft(&self) -> &FastState
         ensures draft { result.now ≡ self.now.draft }
         ensures holds { InDraft N.fits self.now }
@@ -191,7 +191,7 @@ impl<P: Drop, N: Fits<P>> Mutator<P, N> {
         Push::Pushed { number: end.number }
     }
 
-    /// Pushes the draft where it is dirty and the last push was acknowledged. Where a push stands it looks once for the acknowledgement, which is one step; a push is one more. After Busy the draft stays dirty.
+    /// Pushes the draft if it is dirty and the last push was acknowledged. If a push stands it looks once for the acknowledgement, which is one step; a push is one more. After Busy the draft stays dirty.
     pub fn push<L: Ledger>(&mut self, queue: &Queue<P, N>, steps: &mut Steps<L>) -> Push
         requires idle { self.old.editing ≡ false }
         requires together { self.old.past.queue ≡ queue.now }

@@ -52,7 +52,7 @@ fn settle<P: Drop>(state: &FastState, items: &mut Vec<Option<P>>, moving: &mut V
 }
 
 impl<P: Drop, N: Fits<P>> Observer<P, N> {
-    /// Looks once for a new state. Where there is one it takes that state with the items of the newly attached slots, and acknowledges it, giving back the cell before the previous one and the detached items. It takes one step, or two where there is a new state, takes no memory and waits for nobody.
+    /// Looks once for a new state. If there is one it takes that state with the items of the newly attached slots, and acknowledges it, giving back the cell before the previous one and the detached items. It takes one step, or two if there is a new state, takes no memory and waits for nobody.
     pub fn poll<L: Ledger>(&mut self, queue: &Queue<P, N>, steps: &mut Steps<L>) -> Poll
         requires together { self.old.past.queue ≡ queue.now }
         requires room { self.old.past.number < 2 ^ 62 }
@@ -104,7 +104,7 @@ impl<P: Drop, N: Fits<P>> Observer<P, N> {
         self.end.number
     }
 
-    /// The item of a slot, where the observer holds one.
+    /// The item of a slot, if the observer holds one.
     pub fn item(&mut self, slot: u32) -> Option<&mut P>
         ensures* writes_back { sem 𝓛 (lends_item P.row N.row N.Key.row N.Fits self.entry slot result) }
         ensures value { MatchOption result (has self.old.items slot ≡ false) (λ p. at self.old.items slot ≡ Some p.now) }

@@ -81,7 +81,7 @@ fn make_call<P: Drop, N: Fits<P>, L: Ledger>(
     QueueAnswer::Done
 }
 
-/// Makes a call where it is allowed, and else gives it back.
+/// Makes a call if it is allowed, and else gives it back.
 fn try_call<P: Drop, N: Fits<P>, L: Ledger>(
     queue: &Queue<P, N>,
     mutator: &mut Mutator<P, N>,
@@ -104,7 +104,7 @@ fn try_call<P: Drop, N: Fits<P>, L: Ledger>(
     }
 }
 
-/// Makes a call where it is allowed, and meets.
+/// Makes a call if it is allowed, and meets.
 fn answer_one<P: Drop, N: Fits<P>, L: Ledger>(
     queue: &Queue<P, N>,
     mutator: &mut Mutator<P, N>,
@@ -126,7 +126,7 @@ fn answer_one<P: Drop, N: Fits<P>, L: Ledger>(
     answer
 }
 
-/// Makes a list of calls with both ends, each where it is allowed, and meets before the first and after each. So each look sees the last push, and each look at the acknowledgement the last one: the answers are those of the plain queue that the ends are, and after the calls they are the plain queue that these leave. The one error is want of memory for the answers: then no call is made.
+/// Makes a list of calls with both ends, each if it is allowed, and meets before the first and after each. So each look sees the last push, and each look at the acknowledgement the last one: the answers are those of the plain queue that the ends are, and after the calls they are the plain queue that these leave. Memory for the answers is its only refusal: then no call is made.
 pub fn answer_each<P: Drop, N: Fits<P>, L: Ledger>(
     alloc: Global,
     queue: &Queue<P, N>,

@@ -34,7 +34,7 @@ impl<P: Drop, N: Fits<P>> Mutator<P, N> {
         unreachable!()
     }
 
-    /// Does the same, and then looks again and again until the last push is acknowledged, also after Clean.
+    /// Pushes until the push isn't Busy, and then looks again and again until the last push is acknowledged, also after Clean.
     pub fn push_until_acked<R: Wait, L: Ledger>(
         &mut self,
         rt: &R,

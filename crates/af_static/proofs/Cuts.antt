@@ -14,7 +14,7 @@ use Rattle.af_static.proofs.Calling.{heard_once, used_again}
 
 -- ## Frames
 
--- frames in two parts: where the first has fewer than there are places, nothing is left for the second
+-- frames in two parts: if the first has fewer than there are places, nothing is left for the second
 record IsCut (whole one two : List Frame) (places : ℕ) : Type 0 where
   parts : whole ≡ one ++ two
   most : length one ≤ places
@@ -57,7 +57,7 @@ module _ (frames : List Frame) (more : ℕ) where
       let on = on_cut steps h (steps_cut steps (moved h 1)) (cases_lt h.position (length frames)) in
       record { parts = ap (frames_of frames h) place ∙ on.parts; most = on.most; short = on.short }
 
-  -- the same where nothing is played
+  -- the same if nothing is played
   cut_as : (b : Bool) (places : ℕ) (h : Head)
       → IsCut (if b then frames_of frames h (places + more) else []) (if b then frames_of frames h places else []) (if b then frames_of frames (if b then after (length frames) h places else h) more else []) places
   cut_as true places h = steps_cut places h

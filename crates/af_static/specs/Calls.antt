@@ -21,7 +21,7 @@ pub record Standing : Type 0 where
   pub used : Setting
   pub head : Head
 
--- before any call
+-- what the first call goes on from
 abbrev pub unplayed : Standing
 unplayed = record { used = opening; head = at_first }
 
@@ -29,19 +29,19 @@ unplayed = record { used = opening; head = at_first }
 abbrev pub used_in : ℕ → Standing → Call → Setting
 used_in n s call = if is_valid n s.used then call.setting else s.used
 
--- the settings that it loads: none where the one used before is invalid
+-- the settings that a call loads: none if the one used before is invalid
 abbrev pub loads_in : ℕ → Standing → Call → List Setting
 loads_in n s call = if is_valid n s.used then call.setting ∷ [] else []
 
--- the head from which it plays
+-- the head from which a call plays
 abbrev pub head_in : ℕ → Standing → Call → Head
 head_in n s call = heard n s.used s.head (used_in n s call)
 
--- the frames that it takes
+-- the frames that a call takes
 abbrev pub taken_in : List Frame → Standing → Call → List Frame
 taken_in frames s call = taken frames (used_in (length frames) s call) (head_in (length frames) s call) call.places
 
--- what the call after it goes on from
+-- what the call after this one goes on from
 abbrev pub after_call : ℕ → Standing → Call → Standing
 after_call n s call = record { used = used_in n s call; head = head_after n (used_in n s call) (head_in n s call) call.places }
 
@@ -50,17 +50,17 @@ abbrev pub outputs_of : List Frame → Standing → List Call → List Frame
 outputs_of frames s [] = []
 outputs_of frames s (call ∷ calls) = output call.gains (taken_in frames s call) call.places ++ outputs_of frames (after_call (length frames) s call) calls
 
--- how many frames they take
+-- how many frames some calls take
 abbrev pub filled_of : List Frame → Standing → List Call → ℕ
 filled_of frames s [] = 0
 filled_of frames s (call ∷ calls) = length (taken_in frames s call) + filled_of frames (after_call (length frames) s call) calls
 
--- the settings that they load
+-- the settings that some calls load
 abbrev pub loads_of : ℕ → Standing → List Call → List Setting
 loads_of n s [] = []
 loads_of n s (call ∷ calls) = loads_in n s call ++ loads_of n (after_call n s call) calls
 
--- what a call after all of them goes on from
+-- what a call after all of these goes on from
 abbrev pub after_calls : ℕ → Standing → List Call → Standing
 after_calls n s [] = s
 after_calls n s (call ∷ calls) = after_calls n (after_call n s call) calls
@@ -89,7 +89,7 @@ pub record HasPlayed (frames : List Frame) (calls : List Call) (played : List Fr
   pub all : CallsPlay frames unplayed calls played count (standing_of p)
   pub loads : loaded p.events ≡ loads_of (length frames) unplayed calls
 
--- the same call with so many places
+-- a call with so many places
 abbrev pub with_places : Call → ℕ → Call
 with_places call places = record call { places = places }
 

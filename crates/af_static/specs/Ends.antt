@@ -7,17 +7,17 @@ use Rattle.af_model.specs.declared.newest.ReaderEvent.{ReaderEvent}
 use Rattle.af_static.specs.declared.setting.Setting.{Setting}
 use Rattle.af_static.specs.declared.head.Head.{Head}
 
--- the cell of the settings, and the buffer's frames
+-- a static buffer: the cell of the settings, and the frames
 pub record Kept : Type 0 where
   pub cell : TableId
   pub frames : List Frame
 
--- the cell that it sets, and its events
+-- the cell that a setter sets, and its events
 pub record Sets : Type 0 where
   pub cell : TableId
   pub events : List (WriterEvent Setting)
 
--- the cell that it sees, the number of the buffer's frames, its events, the setting that it saw last, and its head
+-- the cell that a player sees, the number of the buffer's frames, its events, the setting that it saw last, and its head
 pub record Plays : Type 0 where
   pub cell : TableId
   pub size : ℕ

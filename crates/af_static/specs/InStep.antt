@@ -11,7 +11,7 @@ use Rattle.af_static.specs.declared.head.Head.{Head}
 use Rattle.af_static.specs.Ends.{Kept, Sets, Plays, IsPlayerOf}
 use Rattle.af_static.specs.Loops.{opening}
 
--- the buffer's frames, how many settings were made and the last of them, the setting that the last call used, and the head
+-- a static buffer in one hand: its frames, how many settings were made and the last of them, the setting that the last call used, and the head
 pub record HandState : Type 0 where
   pub frames : List Frame
   pub made : ℕ

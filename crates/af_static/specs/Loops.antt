@@ -17,7 +17,7 @@ opening = record { number = 0; start = 0; end = 0; count = 0 }
 abbrev pub at_first : Head
 at_first = record { position = 0; start = 0; end = 0; left = 0 }
 
--- whether a buffer of n frames has what is set: its start, where there are no jumps, or else a loop of at least 16 frames
+-- whether a buffer of n frames has what is set: its start, if there are no jumps, or else a loop of at least 16 frames
 abbrev pub is_valid : ℕ → Setting → Bool
 is_valid n s = if s.count == 0 then nat_le s.start n else nat_le (s.start + 16) s.end && nat_le s.end n
 
@@ -39,7 +39,7 @@ adopted s h = if s.count == 0
 abbrev pub heard : ℕ → Setting → Head → Setting → Head
 heard n last h s = if is_valid n s && not (s.number == last.number) then adopted s h else h
 
--- one jump is spent, unless they have no end
+-- one jump is spent, unless the jumps have no end
 abbrev pub spent : ℕ → ℕ
 spent left = if left == endless then left else left - 1
 
@@ -69,11 +69,11 @@ abbrev pub after : ℕ → Head → ℕ → Head
 after n h zero = h
 after n h (suc steps) = after n (step n h) steps
 
--- what a call of so many places takes under a setting: nothing where it is invalid
+-- what a call of so many places takes under a setting: nothing if it is invalid
 abbrev pub taken : List Frame → Setting → Head → ℕ → List Frame
 taken frames s h places = if is_valid (length frames) s then frames_of frames h places else []
 
--- the head that it leaves
+-- the head that a call leaves
 abbrev pub head_after : ℕ → Setting → Head → ℕ → Head
 head_after n s h places = if is_valid n s then after n h places else h
 
@@ -85,7 +85,7 @@ take_at gains frames = record { frames = frames; mono = false; gains = gains.0 +
 abbrev pub output : ℕ × ℕ → List Frame → ℕ → List Frame
 output gains frames places = mix (take_at gains frames ∷ []) places
 
--- the head is in the buffer, and where jumps are left in the loop, which is in the buffer
+-- the head is in the buffer, and if jumps are left in the loop, which is in the buffer
 pub record IsSound (n : ℕ) (h : Head) : Type 0 where
   pub inside : h.position ≤ n
   pub looped : 0 < h.left → (h.start < h.end) × (h.position < h.end) × (h.end ≤ n)

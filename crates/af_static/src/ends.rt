@@ -59,7 +59,7 @@ impl Model for Setter {
     ghost invariant = { λ s. IsSetter s.writer s.made };
 }
 
-/// The end that plays. Contracts see its cell, the number of the buffer's frames, the list of its events, the setting that it saw last, and its head. It is shut where that setting is invalid.
+/// The end that plays. Contracts see its cell, the number of the buffer's frames, the list of its events, the setting that it saw last, and its head. It is shut if that setting is invalid.
 #[derive(Drop)]
 pub struct Player {
     reader: Reader<Setting>,
@@ -99,7 +99,7 @@ fn no_sums(alloc: Global) -> Result<Vec<Sum>, Memory>
     Ok(sums)
 }
 
-/// A static buffer of 1 to 8192 frames, which are copied, with its two ends. No other call takes memory, and want of memory is the only refusal.
+/// A static buffer of 1 to 8192 frames, which are copied, with its two ends. Memory is its only refusal, and no other call takes memory.
 pub fn make(alloc: Global, frames: &[Frame]) -> Result<(Shared, Setter, Player), Memory>
     requires { (1 ≤ length frames.now) × (length frames.now ≤ 8192) }
     ensures together { IfOk result (λ m. (m.1.cell ≡ m.0.cell) × IsPlayerOf m.0 m.2) }
@@ -153,7 +153,7 @@ impl Setter {
 }
 
 impl Player {
-    /// Loads the newest setting, unless the player is shut, and adopts it where it is new and valid.
+    /// Loads the newest setting, unless the player is shut, and adopts it if it is new and valid.
     fn hear<L: Ledger>(&mut self, shared: &Shared, steps: &mut Steps<L>)
         requires { self.old.cell ≡ shared.now.cell }
         ensures together { (self.new.cell ≡ self.old.cell) × (self.new.size ≡ self.old.size) }
@@ -191,7 +191,7 @@ impl Player {
 
     /// Plays the next frames of the buffer to 1 to 1024 places, by the newest setting: it loads once and appends Load with it.
     ///
-    /// It takes one step, and one more where the setting is another than at the load before. An invalid setting shuts the player for good: it plays nothing, loads nothing and takes no step then.
+    /// It takes one step, and one more if the setting is another than at the load before. An invalid setting shuts the player for good: it plays nothing, loads nothing and takes no step then.
     ///
     /// The outputs of all calls since the player was made, one after the other, are those of the settings that it loaded, in that order (`played`).
     pub fn mix_next<L: Ledger>(

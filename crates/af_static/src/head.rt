@@ -35,7 +35,7 @@ fn kept_in(setting: Setting, position: usize) -> usize
     }
 }
 
-/// One jump is spent, unless they have no end.
+/// One jump is spent, unless the jumps have no end.
 fn spent(left: u32) -> u32
     requires { 0 < left }
     ensures { result ≡ spent left }

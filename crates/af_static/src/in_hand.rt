@@ -93,7 +93,7 @@ fn play_met<L: Ledger>(
 }
 
 impl InHand {
-    /// A static buffer of 1 to 8192 frames, which are copied. No other call takes memory, and want of memory is the only refusal.
+    /// A static buffer of 1 to 8192 frames, which are copied. Memory is its only refusal, and no other call takes memory.
     pub fn make(alloc: Global, frames: &[Frame]) -> Result<InHand, Memory>
         requires { (1 ≤ length frames.now) × (length frames.now ≤ 8192) }
         ensures { IfOk result (λ h. h ≡ (record { frames = frames.now; made = 0; newest = opening; used = opening; head = at_first })) }

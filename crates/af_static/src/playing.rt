@@ -22,7 +22,7 @@ fn mix_row(frames: &[Frame], gains: Gains, sums: &mut [Sum], out: &mut [Frame])
     mix(&[part], &mut sums[..out.len()], out);
 }
 
-/// Plays the next row to its place. How many frames it has.
+/// Plays the next row to its place, and answers how many frames it has.
 fn play_row(
     frames: &[Frame],
     head: &mut Head,
@@ -76,7 +76,7 @@ fn finish(frames: &[Frame], head: Head, gains: Gains, at: usize, out: &mut [Fram
     silence_from(at, out);
 }
 
-/// Takes frames until there is no place left, or the head is at the end of the buffer, and mixes them. How many were taken.
+/// Takes frames until there is no place left, or the head is at the end of the buffer, and mixes them. It answers how many were taken.
 fn play(
     frames: &[Frame],
     head: &mut Head,
@@ -101,7 +101,7 @@ fn play(
     at
 }
 
-/// The same under a valid setting, and silence under another.
+/// Takes and mixes frames under a valid setting, and gives silence under another.
 pub(crate) fn roll(
     frames: &[Frame],
     valid: bool,

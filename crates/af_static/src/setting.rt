@@ -23,7 +23,7 @@ pub(crate) fn opening_setting() -> Setting
 }
 
 impl Setting {
-    /// Whether a buffer of so many frames has what is set: its start, where there are no jumps, or else a loop of at least 16 frames.
+    /// Whether a buffer of so many frames has what is set: its start, if there are no jumps, or else a loop of at least 16 frames.
     pub(crate) fn is_valid(self, size: usize) -> bool
         ensures { result ≡ is_valid size self }
     {
@@ -35,7 +35,7 @@ impl Setting {
         }
     }
 
-    /// The three numbers, where they shut the player of a buffer of so many frames.
+    /// The three numbers, if they shut the player of a buffer of so many frames.
     pub(crate) fn shut_by(self, size: usize) -> Option<(u32, u32, u32)>
         ensures { result ≡ shut_by size self }
     {

@@ -33,7 +33,7 @@ const SETTINGS: [Numbers; 14] = [
     (MOST, MOST, MOST),
 ];
 
-// The model.
+// The plain model of a player.
 #[derive(Clone, Copy)]
 pub(crate) struct Plain {
     position: usize,

@@ -54,7 +54,7 @@ pcm_stays len frames more (entry ∷ entries) all =
 pub within_more : (low high : List Frame) → length low ≤ length high → (entries : List CycleEntry) → All (LieWithin low) entries → All (LieWithin high) entries
 within_more low high le entries all = All-weaker (LieWithin low) (LieWithin high) (λ entry within mixed i lt. let at = within mixed i lt in omega (arith, at)) entries all
 
--- entries and frames that are added, where the frames of each new entry lie within all of them
+-- entries and frames that are added, if the frames of each new entry lie within all of them
 pub log_grows : (len : ℕ) (log log' : Logged) (more : List CycleEntry) (taken : List Frame) → IsWhole log → log'.entries ≡ log.entries ++ more → log'.frames ≡ log.frames ++ taken
     → All (LieWithin log'.frames) more → Grows len log log' more (entries_pcm len log'.frames more)
 log_grows len log log' more taken whole entries frames within =

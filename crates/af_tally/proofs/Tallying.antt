@@ -175,7 +175,7 @@ queued_is run t released is = ap (λ (n : ℕ). in_all n (queued_at t.tracks rel
 
 -- ## Bounds
 
--- what may not count is small where it would be
+-- what may not count is small if it would be
 if_small : (b : Bool) (n m : ℕ) → n ≤ m → (if b then n else 0) ≤ m
 if_small true n m le = le
 if_small false n m le = omega arith

@@ -14,7 +14,7 @@ pcm_of len log = entries_pcm len log.frames log.entries
 abbrev pub IsWhole : Logged → Type 0
 IsWhole log = All (LieWithin log.frames) log.entries
 
--- it is that of a mix
+-- the entry is that of a mix
 abbrev pub IsMixed : CycleEntry → Type 0
 IsMixed entry = is_mixed entry.cycle ≡ true
 

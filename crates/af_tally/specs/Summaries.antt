@@ -23,7 +23,7 @@ pub record EntryUsed : Type 0 where
   pub entry : CycleEntry
   pub state : Option FastState
 
--- the calls of each client, by the number of its track, the turns of the normal mixer, the entries of the fast mixer, and the frames written
+-- what a run shows: the calls of each client, by the number of its track, the turns of the normal mixer, the entries of the fast mixer, and the frames written
 pub record Shown : Type 0 where
   pub calls : List (List ClientCall)
   pub turns : List Turn
@@ -58,11 +58,11 @@ pub record Look : Type 0 where
   pub track : ℕ
   pub seen : Seen
 
--- the look of a slot, where it is of the mask: the state used names its track
+-- the look of a slot, if it is of the mask: the state used names its track
 abbrev pub slot_looks : CycleEntry → FastState → ℕ → List Look
 slot_looks entry x k = if carries x k then record { track = (slot_of x k).track; seen = (entry_slot entry k).seen } ∷ [] else []
 
--- the looks of an entry: none where it used no state
+-- the looks of an entry: none if it used no state
 unfoldable pub looks_by : CycleEntry → Option FastState → List Look
 looks_by entry None = []
 looks_by entry (Some x) = flat_map (slot_looks entry x) (range_with_len 0 slots)
@@ -88,7 +88,7 @@ count_flushed _ = 0
 abbrev pub taken_by_look : ℕ → Look → ℕ
 taken_by_look i look = if look.track == i then count_seen look.seen else 0
 
--- those that some looks took, an entry, and a turn
+-- the frames of track i that some looks took, an entry, and a turn
 abbrev pub taken_in : ℕ → List Look → ℕ
 taken_in i looks = sum_by (taken_by_look i) looks
 
@@ -98,7 +98,7 @@ taken_by_entry i used = taken_in i (entry_looks used)
 abbrev pub taken_by_turn : ℕ → Turn → ℕ
 taken_by_turn i turn = taken_in i (turn_looks turn)
 
--- and those taken in all
+-- the frames of track i that were taken in all
 abbrev pub taken_of : Shown → ℕ → ℕ
 taken_of run i = sum_by (taken_by_entry i) run.entries + sum_by (taken_by_turn i) run.turns
 
@@ -108,7 +108,7 @@ taken_of run i = sum_by (taken_by_entry i) run.entries + sum_by (taken_by_turn i
 abbrev pub dropped_by_look : ℕ → Look → ℕ
 dropped_by_look i look = if look.track == i then count_flushed look.seen else 0
 
--- those that some looks discarded, an entry, and a turn
+-- the frames of track i that some looks discarded, an entry, and a turn
 abbrev pub dropped_in : ℕ → List Look → ℕ
 dropped_in i looks = sum_by (dropped_by_look i) looks
 
@@ -118,7 +118,7 @@ dropped_by_entry i used = dropped_in i (entry_looks used)
 abbrev pub dropped_by_turn : ℕ → Turn → ℕ
 dropped_by_turn i turn = dropped_in i (turn_looks turn)
 
--- and those discarded in all
+-- the frames of track i that were discarded in all
 abbrev pub dropped_of : Shown → ℕ → ℕ
 dropped_of run i = sum_by (dropped_by_entry i) run.entries + sum_by (dropped_by_turn i) run.turns
 
@@ -128,7 +128,7 @@ abbrev pub is_poke : ClientCall → Bool
 is_poke (Poke command word value) = true
 is_poke _ = false
 
--- a track is lawful where no poke was performed on either of its blocks
+-- a track is lawful if no poke was performed on either of its blocks
 abbrev pub has_no_poke : List ClientCall → Bool
 has_no_poke calls = list_all (λ call. not (is_poke call)) calls
 
@@ -137,7 +137,7 @@ is_lawful run i = has_no_poke (calls_of run i)
 
 -- ## The summary
 
--- how many frames of track i count as mixed, as dropped, and, of those that its client released, as queued: none where the track isn't lawful
+-- how many frames of track i count as mixed, as dropped, and, of those that its client released, as queued: none if the track isn't lawful
 abbrev pub mixed_of : Shown → ℕ → ℕ
 mixed_of run i = if is_lawful run i then taken_of run i else 0
 

@@ -6,7 +6,7 @@ use Rattle.af_script.specs.Bounds.{most_tracks}
 use Rattle.af_tally.specs.declared.tally.TrackTally.{TrackTally}
 use Rattle.af_tally.specs.Summaries.{Shown, Look, taken_in, dropped_in, taken_of, dropped_of, is_lawful, mixed_cycles}
 
--- the numbers of each track, how many cycles were mixed, how many looks may have been noted, and the peak
+-- a tally: the numbers of each track, how many cycles were mixed, how many looks may have been noted, and the peak
 pub record Tallied : Type 0 where
   pub tracks : List TrackTally
   pub cycles : ℕ
@@ -70,7 +70,7 @@ pub record IsTally (run : Shown) (t : Tallied) : Type 0 where
   pub looks : t.looks ≤ slots * (length run.entries + length run.turns)
   pub peak : t.peak ≡ peak_of run.written
 
--- what counts of a track: nothing where it isn't lawful
+-- what counts of a track: nothing if it isn't lawful
 abbrev pub mixed_by : TrackTally → ℕ
 mixed_by t = if t.lawful then t.taken else 0
 

@@ -33,7 +33,7 @@ fn count_flushed(seen: Seen) -> u32
 }
 
 impl TrackTally {
-    // The same after one more look.
+    // The tally of a track after one more look.
     fn with_look(self, seen: Seen) -> TrackTally
         requires taken { self.taken < 2 ^ 63 }
         requires dropped { self.dropped < 2 ^ 63 }
@@ -46,7 +46,7 @@ impl TrackTally {
         }
     }
 
-    // The same after calls of its client.
+    // The tally of a track after calls of its client.
     fn with_calls(self, calls: &[ClientCall]) -> TrackTally
         ensures { result ≡ record self { lawful = self.lawful && has_no_poke calls.now } }
     {
@@ -190,7 +190,7 @@ impl Tally {
         self.note_cycle(entry.cycle);
     }
 
-    // Notes what an entry shows: nothing where it used no state.
+    // Notes what an entry shows: nothing if it used no state.
     fn note_state(&mut self, entry: &CycleEntry, state: Option<&FastState>)
         requires room { self.old.looks + slots ≤ most_looks }
         ensures { Notes slots (looks_by entry.now (option_copied state.entry)) self.old self.new }

@@ -48,7 +48,7 @@ item_within [] k t e = absurd (none-some _ e)
 item_within (o ∷ items) zero t e = omega arith
 item_within (o ∷ items) (suc k) t e = let l : k < length items = item_within items k t e in omega arith
 
--- an item in hand came, or was there where none came
+-- an item in hand came, or was there if none came
 pub came : (items before after : List (Option ServerState)) (k : ℕ) (t : ServerState) → at after k ≡ (if is_some (at items k) then at items k else at before k) → at after k ≡ Some t → (at items k ≡ Some t) ⊎ ((at before k ≡ Some t) × (at items k ≡ None))
 came items before after k t is e = by_item (at items k) refl
   where
@@ -67,11 +67,11 @@ second_some (Some t) b e = refl
 -- ## One slot before a look
 
 module _ (clear in_draft in_last in_before : Bool) (track last before : FastTrack) (pending returned : Option ServerState) (out : Bool) (one : InSlot clear in_draft in_last in_before track last before pending returned out) where
-  -- an item that waits has none in hand
+  -- an item that waits has none of its slot in hand
   pends_alone : is_some pending ≡ true → is_some returned ≡ true → ⊥
   pends_alone some there = true≢false (sym some ∙ one.pends ∙ ap (λ (b : Bool). b && not in_last) (one.rests there).0)
 
-  -- where the last state isn't seen acknowledged, an item that waits or is in hand is not on its way back
+  -- if the last state isn't seen acknowledged, an item that waits or is in hand is not on its way back
   stands_off : clear ≡ false → (is_some pending ≡ true) ⊎ (is_some returned ≡ true) → in_before ≡ false
   stands_off off either = by_before in_before refl
     where
@@ -89,7 +89,7 @@ module _ (clear in_draft in_last in_before : Bool) (track last before : FastTrac
 
 -- ## What comes home
 
--- items only leave the hand, and a slot is out no more only where its item left it
+-- items only leave the hand, and a slot is out no more only if its item left it
 record Leaves (m n : Mutates ServerState StreamNames) : Type 0 where
   hand : (k : ℕ) (t : ServerState) → at n.returned k ≡ Some t → at m.returned k ≡ Some t
   out : (k : ℕ) → (is_out n.out k ≡ is_out m.out k) ⊎ ((is_some (at m.returned k) ≡ true) × (at n.returned k ≡ None))
@@ -153,7 +153,7 @@ all_leave (suc n) x y (z, before, w) = join x.mutator z.mutator y.mutator (all_l
 pub one_look : (n : ℕ) (back again : List (Option ServerState)) → mutator.SawAck n back ∷ [] ≡ mutator.SawAck n again ∷ [] → back ≡ again
 one_look n back again e = cc
 
--- What a look leaves: the pushes as they were, seen acknowledged where it says so, the items in hand, which were there or came by it, and a slot that isn't out, which no state carries that an observer may have. What was in hand, or came, the last state doesn't carry; what waited had none on its way back
+-- What a look leaves: the pushes as they were, seen acknowledged if it says so, the items in hand, which were there or came by it, and a slot that isn't out, which no state carries that an observer may have. What was in hand, or came, the last state doesn't carry; what waited had none on its way back
 pub record Acked (ack : Bool) (x y : Mutates ServerState StreamNames) (back : List (Option ServerState)) : Type 0 where
   pub past : y.past ≡ record x.past { clear = ack; events = y.past.events }
   pub older : ack ≡ false → x.past.clear ≡ false
@@ -203,7 +203,7 @@ module _ (links : Links) (x y : NormalState) (tied : IsTied links x) where
   mutator_is : (sees : SeesAck false x y) → y.mutator ≡ sees.mutator
   mutator_is sees = ap (λ (z : NormalState). z.mutator) sees.comes
 
-  -- the items that came
+  -- the items that came by the look
   abbrev items_of : (ack : Bool) → SeesAck ack x y → List (Option ServerState)
   items_of true sees = sees.acked.0
   items_of false sees = []
@@ -268,7 +268,7 @@ module _ (links : Links) (x y : NormalState) (tied : IsTied links x) where
     ));
   }
 
-  -- the look, by what it saw
+  -- what the look leaves, by what it saw
   pub look_leaves : (ack : Bool) (sees : SeesAck ack x y) → Acked ack x.mutator y.mutator (acked_list links ack x y tied sees).0
   look_leaves ack sees = subst (Acked ack x.mutator y.mutator) (one_look (number_seen (kept_of x) ack) (items_of ack sees) (acked_list links ack x y tied sees).0
       (append_cancel_left x.mutator.past.events _ _ (sym (events_are ack sees) ∙ (acked_list links ack x y tied sees).1))) (look_by ack sees)

@@ -26,7 +26,7 @@ use Rattle.af_model.specs.ServerCalls.{server_begins}
 use Rattle.af_told_law.specs.Deeds.{DeedTold, done_on, met_deed}
 use Rattle.af_told_law.proofs.MixLooks.{own_split}
 
--- the lists of a client, a server and a hand that are told have the history of their block, where what the server did is told
+-- the lists of a client, a server and a hand that are told have the history of their block, if what the server did is told
 pub history_told : (b : BlockTold) (deed : List ServerEvent) (d : ClientState) (t : ServerState) (hs : List HandEvent) → side_of b ≡ side_of_proxy d → TellsServer (done_on b deed) t → deed ≡ server_list b → hs ≡ hand_list b
     → HasHistory d.pass.part.shape d.pass.part.events d.pass.part.frames t.pass.part.events t.pass.part.frames hs → HasBlockHistory b
 history_told b deed d t hs side told list hands h =
@@ -63,12 +63,12 @@ hand_after b c h g side told is =
     let met : length c.pass.part.events + 1 ≡ length (client_list b ++ client.Learn (length (server_list b)) ∷ []) = (λ j. length ((sym (ap (λ (y : Side). y.events) side)) j) + 1) ∙ sym more in
     ap (λ (p : HandPart). p.events) is ∙ (λ j. told j ++ hand.Met (met j) ∷ [])
 
--- and alone
+-- the hand meets the client alone
 pub hand_alone : (b : BlockTold) (c : ClientState) (h g : HandSide) → side_of b ≡ side_of_proxy c → h.part.events ≡ hand_list b → g.part ≡ hand_met h.part (length c.pass.part.events) → g.part.events ≡ hand_list (meets_flag b)
 hand_alone b c h g side told is =
     ap (λ (p : HandPart). p.events) is ∙ (λ j. told j ++ hand.Met (length ((sym (ap (λ (y : Side). y.events) side)) j)) ∷ [])
 
--- the client met
+-- a client that is lawful after it met was lawful before
 client_tame : (c d : ClientState) (s : ServerState) → d ≡ client_knows c s → is_lawful d.pass.part.events ≡ true → is_lawful c.pass.part.events ≡ true
 client_tame c d s is lawful = lawful_before c.pass.part.events (client.Learn (length s.pass.part.events) ∷ []) (sym (ap (λ (y : ClientState). is_lawful y.pass.part.events) is) ∙ lawful)
 
@@ -81,7 +81,7 @@ module _ (b : BlockTold) (deed : List ServerEvent) (did : DeedTold b deed) (c d 
   pub meets_server : TellsServer (done_on (meets b) (met_deed b deed)) t
   meets_server = server_met b deed c d s t side told (ap (λ (y : ServerState). y.pass.part) m.server)
 
-  -- the server still has its hand, which did nothing
+  -- if the server still has its hand, which did nothing, the block has its history after the meeting
   pub meets_history : s.pass.has_hand ≡ true → hand_list b ≡ [] → deed ≡ server_list b → is_lawful (client_list (meets b)) ≡ true → HasBlockHistory (meets b)
   meets_history whole none list lawful =
       let h = m.history (client_tame c d s m.client (ap (λ (y : Side). is_lawful y.events) (sym meets_side) ∙ lawful)) in

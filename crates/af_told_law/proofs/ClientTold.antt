@@ -27,7 +27,7 @@ use Rattle.af_told_law.specs.Deeds.{DeedTold, Deeds, SawOwnOf}
 
 -- ## A block of which the server did nothing
 
--- where the run tells the same of a server that did this, it is told as before
+-- if the run tells the same of a server that did this, it is told as before
 pub did_same : (b c : BlockTold) (deed : List ServerEvent) → c.shape ≡ b.shape → server_list c ≡ server_list b → DeedTold b deed → DeedTold c deed
 did_same b c deed shape list h = record {
   alike = subst (λ (y : Shape × List ServerEvent). TellAlike y.0 deed y.1) (λ j. (sym shape j, sym list j)) h.alike;

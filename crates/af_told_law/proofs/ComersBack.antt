@@ -45,7 +45,7 @@ comes_off last s returning home = by_carried (carries last (slot_number s)) refl
         let stays : comes_home last s ≡ false = (λ j. returning j && not (is j)) in
         absurd (true≢false (sym home ∙ ap (λ (b : Bool). is_home (if b then record s { holder = Home } else s).holder) stays ∙ returning_away s.holder returning))
 
--- and what the last state doesn't carry comes home
+-- what the last state doesn't carry comes home
 off_comes : (last : FastState) (s : TrackKept) → is_returning s.holder ≡ true → carries last (slot_number s) ≡ false → is_home (welcomed last s).holder ≡ true
 unfolding welcomed
 off_comes last s returning off = let comes : comes_home last s ≡ true = (λ j. returning j && not (off j)) in ap (λ (b : Bool). is_home (if b then record s { holder = Home } else s).holder) comes
@@ -58,7 +58,7 @@ module _ (links : Links) (x : SessionState) (n : NormalState) (o : Outside) (leg
   abbrev k : NormalKept
   k = kept_of x.normal
 
-  -- the observer has a track only where the last state has it, once that is acknowledged
+  -- the observer has a track only if the last state has it, once that is acknowledged
   not_held : (i : ℕ) → e.ack ≡ true → carries k.last (slot_number (track_at k.tracks i)) ≡ false → (found : Option ℕ) → slot_for x.fast.observer.past.state i ≡ found → held_slot x.fast i ≡ None
   not_held i ack off None none = none
   not_held i ack off (Some j) found =
@@ -104,7 +104,7 @@ module _ (links : Links) (x : SessionState) (n : NormalState) (o : Outside) (leg
       by_item None is some = absurd (true≢false (sym some ∙ ap is_some is))
       by_item (Some p) is some = let came = back_coming x n o legal runs goes before.fast.0 stands.step stands.history c d later slot p is in (came.0, is ∙ sym came.1)
 
-  -- so they are told
+  -- the proxies that come home are told
   module _ (s : Session) (run : Run) {deeds : Deeds} (told : Tells s run deeds x) where
     pub comers_tell : ComersTell run deeds x.normal e goes.back
     comers_tell = comers_told s run deeds x e goes.back told before.count comes_by
@@ -121,7 +121,7 @@ module _ (links : Links) (x : SessionState) (n : NormalState) (o : Outside) (leg
         by_back true returns found = let here = comers_tell i low returns home in subst (TellsServer (done_on (told_at run i).stream (deeds.streams i))) (same_Some here.0 h (sym here.1 ∙ found)) here.2
         by_back false stays found = let client = some_at x.clients i (let count = before.count in omega (arith, low, count)) in (told.tracks i client.0 client.1).stream.home h found
 
-    -- so does each that is home in the turn, as a returning proxy is in hand only where the last state doesn't carry its slot
+    -- each proxy that is home in the turn tells its block, as a returning proxy is in hand only if the last state doesn't carry its slot
     pub all_home_told : (i : ℕ) (h : ServerState) → i < length x.normal.tracks → home_stream e.ack k goes.back x.normal i ≡ Some h → TellsServer (done_on (told_at run i).stream (deeds.streams i)) h
     all_home_told i h low is = by_back (e.ack && is_returning (track_at x.normal.tracks i).holder) refl is
       where

@@ -1,4 +1,4 @@
--- The stream proxies that come home in a turn of the normal mixer tell their blocks, where it is known how they come.
+-- The stream proxies that come home in a turn of the normal mixer tell their blocks, if it is known how they come.
 use Rattle.std.proofs.Common.{◌≡◌, ℕ, ◌<◌, ◌&&◌, Bool, true, false, true≢false, if◌then◌else◌, is_some, List, length, Option, Some, None, refl, sym, ◌∙◌, arith}
 use Rattle.af_base.specs.Turn.{Turn}
 use Rattle.af_life.specs.declared.kept.Holder.{Holder}
@@ -16,7 +16,7 @@ use Rattle.af_told_law.specs.Tells.{Tells, TellsAway, TellsServer}
 use Rattle.af_told_law.proofs.AllMeet.{some_at}
 use Rattle.af_told_law.specs.Deeds.{Deeds, done_on}
 
--- what is there where one of two is taken by whether the first is there
+-- what is there if one of two is taken, by whether the first is there
 either_there : {X : Type 0} (o p : Option X) → is_some (if is_some o then o else p) ≡ true → (b : Bool) → is_some o ≡ b → (t : X) × ((if is_some o then o else p) ≡ Some t)
 either_there (Some t) p there b is = (t, refl)
 either_there None (Some t) there b is = (t, refl)

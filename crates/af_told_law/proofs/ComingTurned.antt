@@ -58,11 +58,11 @@ module _ (links : Links) (x : SessionState) (n : NormalState) (o : Outside) (leg
 
   -- ## After the turn
 
-  -- a state that was pushed in it is on its way
+  -- a state that was pushed in the turn is on its way
   pushed_going : is_pushed e.push ≡ true → is_going n x.fast ≡ true
   pushed_going is = let few = stands.step.few in let now = (goes.queue.shown is).0 in lt-ltb f.number n.mutator.past.number (omega (arith, few, now))
 
-  -- what is on its way then was so before, where none was pushed
+  -- if no state was pushed, what is on its way after the turn was so before
   pub going_before : is_pushed e.push ≡ false → is_going n x.fast ≡ true → is_going x.normal x.fast ≡ true
   going_before off going = ap (λ (k : ℕ). nat_lt f.number k) (sym (goes.queue.still off).0) ∙ going
 
@@ -148,7 +148,7 @@ module _ (links : Links) (x : SessionState) (n : NormalState) (o : Outside) (leg
         let on : carries t.last slot ≡ true = first_of (carries t.last slot) _ (sym (ap is_some here) ∙ sent.1 slot lent_low) in
         true≢false (sym on ∙ ap (λ (y : FastState). carries y slot) (stands.step.tells.last some m.first) ∙ lent.last)
 
-    -- and none is on its way back, where the last state isn't seen acknowledged
+    -- no item is on its way back for the slot, if the last state isn't seen acknowledged
     pub lent_back : (p : ServerState) → e.ack ≡ false → is_coming x.normal x.fast ≡ true → at (items_given x.fast) (slot_in n i) ≡ Some p → ⊥
     lent_back p off coming here =
         let parts = coming_parts x n o legal runs goes before.fast.0 stands.step stands.history c d later coming in

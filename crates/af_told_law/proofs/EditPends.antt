@@ -20,7 +20,7 @@ use Rattle.af_normal.proofs.OrderEdits.{comer_slot, leaver_slot}
 use Rattle.af_told_law.proofs.AckPlaces.{none_set}
 use Rattle.af_told_law.proofs.EditPlaces.{Placed, all_placed}
 
--- an item waits exactly where the draft carries one that the last state pushed doesn't
+-- an item waits exactly if the draft carries one that the last state pushed doesn't
 abbrev pub Pends : FastState → Mutates ServerState StreamNames → Type 0
 Pends last m = (k : ℕ) → k < slots → is_some (at m.pending k) ≡ (carries m.draft k && not (carries last k))
 
@@ -74,7 +74,7 @@ module _ (x : NormalState) (fine : (i : ℕ) → (setting_of (setup_of x) i).sca
         by_leave true is l = goes y is l
         by_leave false is l = by_enter (must_enter (track_at z.tracks i)) refl l
 
-  -- after the first tracks were edited
+  -- which items wait after the first tracks were edited
   pub all_pend : IsSound x.tracks x.mutator.draft → length x.mutator.pending ≡ slots → Pends last x.mutator → (n : ℕ) (y : NormalState) → EditsTo n x y → Pends last y.mutator
   all_pend sound wide pends zero y e = subst (λ (w : NormalState). Pends last w.mutator) (sym e) pends
   all_pend sound wide pends (suc n) y (z, before, e) = next n z (all_placed x fine sound wide n z before) (all_pend sound wide pends n z before) y e

@@ -29,7 +29,7 @@ item_set (o ∷ items) zero v (suc j) t e = inr e
 item_set (o ∷ items) (suc k) v zero t e = inr e
 item_set (o ∷ items) (suc k) v (suc j) t e = ⊎_elim (λ (p : (j ≡ k) × (v ≡ Some t)). inl (ap suc p.0, p.1)) (λ (q : at items j ≡ Some t). inr q) (item_set items k v j t e)
 
--- one that enters is home
+-- a track that enters is home
 entering_home : (s : TrackKept) → must_enter s ≡ true → is_home s.holder ≡ true
 entering_home s e = first (is_home s.holder) _ e
   where
@@ -73,7 +73,7 @@ module _ (x : NormalState) (fine : (i : ℕ) → (setting_of (setup_of x) i).sca
     more : (k : ℕ) → LentAt i k → LentAt (suc i) k
     more k l = (l.0, (let n = l.1 in omega arith), l.2, l.3)
 
-    -- one that enters holds its slot
+    -- a track that enters holds its slot
     holds_now : (j : ℕ) → must_enter (track_at x.tracks j) ≡ true → holds (slot_number (track_at z.tracks j)) (track_at z.tracks j) ≡ true
     holds_now j enters = ⊎_elim
         (λ (lt : j < i). away_holds (track_at z.tracks j) (b.sound.slotted j) (b.entered j lt enters).1)
@@ -90,7 +90,7 @@ module _ (x : NormalState) (fine : (i : ℕ) → (setting_of (setup_of x) i).sca
       no_entry : must_enter (track_at x.tracks i) ≡ true → ⊥
       no_entry enters = true≢false (sym (entering_home (track_at x.tracks i) enters) ∙ ap (λ (u : TrackKept). is_home u.holder) (sym here) ∙ away_i)
 
-      -- its slot is not that of one that enters
+      -- the slot of a track that is away is not that of one that enters
       other : (j : ℕ) → must_enter (track_at x.tracks j) ≡ true → slot_number (track_at x.tracks j) ≢ slot_number (track_at z.tracks i)
       other j enters same = apart (kept_of z) b.sound j i (λ e. no_entry (ap (λ (n : ℕ). must_enter (track_at x.tracks n)) e ∙ enters)) (holds_now j enters) away_i (sym same ∙ sym (b.slot_same j))
 
@@ -204,7 +204,7 @@ module _ (x : NormalState) (fine : (i : ℕ) → (setting_of (setup_of x) i).sca
         by_leave true is l = subst (Placed (suc i)) (sym l) (goes is)
         by_leave false is l = by_enter (must_enter (track_at z.tracks i)) refl l
 
-  -- after the first tracks were edited
+  -- what the edits of the first tracks leave
   pub all_placed : IsSound x.tracks x.mutator.draft → length x.mutator.pending ≡ slots → (n : ℕ) (y : NormalState) → EditsTo n x y → Placed n y
   all_placed sound wide zero y e = subst (Placed 0) (sym e) (record {
     setup = refl;

@@ -45,7 +45,7 @@ module _ (s : Session) (run : Run) (d : Deeds) (x : SessionState) (told : Tells 
   pub ends_keep_lists : KeepsLists run (ends_from x)
   ends_keep_lists = record { tracks = keeps_track; mutator = told.shared.mutator; reader = told.shared.reader; pipe = told.shared.puts }
 
--- so do those of which each server saw its own fronts, where no poke was told
+-- each server at home saw its own fronts, if no poke was told
 pub own_at_home : (s : Session) (run : Run) (d : Deeds) (x : SessionState) → Tells s run d x → SawOwnBy (tame_marks run) run d → SawAtHome s run d x
 own_at_home s run d x told saw = record {
   streams = (λ i t low here tame. saw.streams i (let c = told.count.0 in omega (arith, low, c)) tame);

@@ -54,7 +54,7 @@ module _ (s : Session) (run : Run) {d : Deeds} (x : SessionState) (h : Tells s r
   by_end true = all_ended
   by_end false = h
 
-  -- the clients end in both
+  -- the clients end in the session and in the run
   pub ends_told : Tells s (with_ends run) d (parties.with_ends x)
   unfolding with_ends
   ends_told =

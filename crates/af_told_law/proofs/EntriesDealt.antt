@@ -26,7 +26,7 @@ seen_parts front back (e ∷ es) ds long =
     ∙ ap (λ (fs : List Frame). record { entry = e; frames = take (taken_by e) front } ∷ entries_seen fs (es ++ ds)) (drop-append-le (taken_by e) front back within)
     ∙ ap (λ (seen : List EntrySeen). record { entry = e; frames = take (taken_by e) front } ∷ seen) (seen_parts (drop (taken_by e) front) back es ds left)
 
--- what a log grew by
+-- the entries that a log grew by
 pub grown_is : (few : ℕ) (a b : Logged) (x : GrowsBy few a b) → entries_grown a b ≡ entries_seen x.taken x.more
 grown_is few a b x =
     ap (λ (fs : List Frame). entries_seen (drop (length a.frames) fs) (drop (length a.entries) b.entries)) x.frames
@@ -35,7 +35,7 @@ grown_is few a b x =
     ∙ ap (λ (es : List CycleEntry). entries_seen x.taken es) (drop-append_seam a.entries x.more)
 
 module _ (few some : ℕ) (a b c : Logged) (x : GrowsBy few a b) (y : GrowsBy some b c) where
-  -- in two steps
+  -- the entries that a log grew by in two steps
   pub grown_parts : entries_grown a c ≡ entries_grown a b ++ entries_grown b c
   grown_parts =
       ap (λ (fs : List Frame). entries_seen (drop (length a.frames) fs) (drop (length a.entries) c.entries)) (y.frames ∙ ap (λ (fs : List Frame). fs ++ y.taken) x.frames ∙ append_assoc a.frames x.taken y.taken)
@@ -53,10 +53,10 @@ module _ (few some : ℕ) (a b c : Logged) (x : GrowsBy few a b) (y : GrowsBy so
         let all : length b.entries ≡ length a.entries + length x.more = ap length x.entries ∙ length-append a.entries x.more in
         omega arith
 
-    -- the first ones are those of the first step
+    -- the first entries are those of the first step
     pub first_dealt : take cycles (entries_grown a c) ≡ entries_grown a b
     first_dealt = ap (take cycles) grown_parts ∙ ap (λ (n : ℕ). take n (entries_grown a b ++ entries_grown b c)) (sym grown_long) ∙ take-append_seam (entries_grown a b) (entries_grown b c)
 
-    -- and the others those of the second
+    -- the other entries are those of the second step
     pub rest_dealt : drop cycles (entries_grown a c) ≡ entries_grown b c
     rest_dealt = ap (drop cycles) grown_parts ∙ ap (λ (n : ℕ). drop n (entries_grown a b ++ entries_grown b c)) (sym grown_long) ∙ drop-append_seam (entries_grown a b) (entries_grown b c)

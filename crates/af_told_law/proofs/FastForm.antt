@@ -6,7 +6,7 @@ use Rattle.af_model.specs.Cycles.{is_mixed}
 use Rattle.af_model.specs.Journals.{EntrySeen, entries_seen, taken_by}
 use Rattle.af_runs.specs.Rounds.{AreMixedBut, IsFastTurn}
 
--- so many entries, or fewer where one isn't Mixed: it is the last
+-- so many entries, or fewer if one isn't Mixed: it is the last
 abbrev pub AreTurn : {X : Type 0} → (X → Bool) → ℕ → List X → Type 0
 AreTurn mixed zero es = es ≡ []
 AreTurn mixed (suc left) [] = ⊥
@@ -51,7 +51,7 @@ module _ (cycles total : ℕ) where
 turn_form : (cycles : ℕ) (es : List EntrySeen) → 1 ≤ cycles → AreTurn mixes cycles es → IsFastTurn cycles false es
 turn_form cycles es some h = (few_entries cycles es h, form_by cycles (length es) 0 cycles es (omega arith) (omega arith) some h)
 
--- so are those of the log with their frames
+-- the entries of the log, with their frames, are those of a turn
 turn_seen : (count : ℕ) (frames : List Frame) (es : List CycleEntry) → AreTurn mixed_entry count es → AreTurn mixes count (entries_seen frames es)
 turn_seen zero frames es h = ap (entries_seen frames) h
 turn_seen (suc left) frames [] h = h

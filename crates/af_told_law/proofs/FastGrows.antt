@@ -41,7 +41,7 @@ module _ (x next : SessionState) (out out' : List Frame) (answer : Cycle) (c : I
   pub one_more : next.fast.log.entries ≡ x.fast.log.entries ++ adds.0 ∷ []
   one_more = adds.2.entries ∙ ap (λ (es : List CycleEntry). es ++ adds.0 ∷ []) same_entries
 
-  -- the frames that it took
+  -- the frames that the cycle took
   abbrev pub taken : List Frame
   taken = adds.2.takes.grown.0
 
@@ -72,7 +72,7 @@ module _ (x next : SessionState) (out out' : List Frame) (answer : Cycle) (c : I
 abbrev pub FramesGrow : SessionState → SessionState → Type 0
 FramesGrow x t = (more : List Frame) × (t.fast.log.frames ≡ x.fast.log.frames ++ more)
 
--- by one cycle, and by what follows it
+-- the frames grow by one cycle, and by what follows it
 grow_by : (left : ℕ) (x next t : SessionState) (answer : Cycle) (front : List ℕ) (w : WritesCycle x answer front next) → is_over x.fast ≡ false → (b : Bool) → is_mixed answer ≡ b → (is_mixed answer ≡ true → FramesGrow next t) → (is_mixed answer ≡ false → t ≡ next) → FramesGrow x t
 grow_by left x next t answer front w on true is goes stops =
     let more = taken x next w.before w.after answer w.cycle on in

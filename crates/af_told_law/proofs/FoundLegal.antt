@@ -21,15 +21,15 @@ use Rattle.af_told_law.proofs.LegalAlike.{all_looks_same, legal_alike, looks_sam
 use Rattle.af_told_law.proofs.TakenHome.{taken_home}
 
 module _ (c : Setup) (m : NormalKept) (e : Turn) (o : Outside) (f : TurnFound) (sound : IsSound m.tracks m.draft) (runs : e.ended ≡ false) (legal : LegalTurn c o m e) (found : IsFound c m e o f) where
-  -- what it saw is alike what the run tells
+  -- what the turn saw is alike what the run tells
   pub found_alike : AreAlike m e o (outside_of c f e)
   found_alike = record { report = found.report; streams = found.streams; commands = found.commands }
 
-  -- a track was taken from only where it is home
+  -- a track was taken from only if it is home
   from_home : (i : ℕ) → (takes_from e.mixes i ≡ []) ⊎ ((i < length m.tracks) × (is_home (track_at (after_ack e.ack m).tracks i).holder ≡ true))
   from_home i = taken_home c (learnt o) m e i sound (legal.goes_on runs).due
 
-  -- where each front that the server saw is its own the list and the front are those told, by either rule
+  -- if each front that the server saw is its own, the list and the front are those told, by either rule
   same_front : (i : ℕ) → SawStream c m e o i → (takes_from e.mixes i ≡ []) ⊎ ((o.streams i ≡ listed (f.streams i)) × SameFront (o.streams i) (o.stream_front i) (take_front (front_of (asked c)) (listed (f.streams i)) (takes_from e.mixes i))
       × (take_front (front_of (asked c)) (listed (f.streams i)) (takes_from e.mixes i) ≡ take_front (lawful_front (asked c)) (listed (f.streams i)) (takes_from e.mixes i)))
   same_front i saw = elim (from_home i) as (λ _. Result) [
@@ -48,7 +48,7 @@ module _ (c : Setup) (m : NormalKept) (e : Turn) (o : Outside) (f : TurnFound) (
       Result = (takes_from e.mixes i ≡ []) ⊎ ((o.streams i ≡ listed (f.streams i)) × SameFront (o.streams i) (o.stream_front i) (take_front (front_of (asked c)) (listed (f.streams i)) (takes_from e.mixes i))
           × (take_front (front_of (asked c)) (listed (f.streams i)) (takes_from e.mixes i) ≡ take_front (lawful_front (asked c)) (listed (f.streams i)) (takes_from e.mixes i)))
 
-  -- so are the list and the fronts of the looks at a command block
+  -- if each front that a command server saw is its own, the list and the fronts of its looks are those told
   same_fronts : (i : ℕ) → i < length m.tracks → SawCommands c m e o i → SameFronts (o.commands i) (track_in e i).looks (o.command_fronts i) (fronts_by front_of (listed (f.commands i)) (track_in e i).looks)
       × (fronts_by front_of (listed (f.commands i)) (track_in e i).looks ≡ fronts_by lawful_front (listed (f.commands i)) (track_in e i).looks)
   same_fronts i low saw =
@@ -58,7 +58,7 @@ module _ (c : Setup) (m : NormalKept) (e : Turn) (o : Outside) (f : TurnFound) (
         subst (λ (s : Listed). fronts_by front_of s (track_in e i).looks ≡ fronts_by lawful_front s (track_in e i).looks) list told.1,
       )
 
-  -- so is the list of a stream, and what the turn took of it
+  -- if each front that the server saw is its own, the list of a stream and what the turn took of it are those told
   pub taken_same : (i : ℕ) → SawStream c m e o i → (takes_from e.mixes i ≡ []) ⊎ ((o.streams i ≡ listed (f.streams i)) × SameFront (o.streams i) (o.stream_front i) ((outside_of c f e).stream_front i))
   taken_same i saw = elim (same_front i saw) as (λ _. (takes_from e.mixes i ≡ []) ⊎ ((o.streams i ≡ listed (f.streams i)) × SameFront (o.streams i) (o.stream_front i) ((outside_of c f e).stream_front i))) [
     | inl none ↦ inl none

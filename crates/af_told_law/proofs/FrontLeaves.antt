@@ -13,7 +13,7 @@ use Rattle.af_model.specs.Spelled.{own_front}
 use Rattle.af_runs.specs.Fronts.{behind, flushed_front, front_by_answer, front_of, is_own_inside, leaves_open}
 use Rattle.af_judge.proofs.LookFront.{both, noticed_new, un_not}
 
--- both fronts are noticed alike, and where they aren't both lie alike in the block
+-- both fronts are noticed alike, and if they aren't noticed both lie alike in the block
 abbrev pub Leaves : Shape → (old flush rear f g : ℕ) → Type 0
 Leaves k old flush rear f g = (is_noticed k (not (flush == old)) rear f ≡ is_noticed k (not (flush == old)) rear g) × (is_noticed k (not (flush == old)) rear f ≡ false → outside k.frames f rear ≡ outside k.frames g rear)
 
@@ -45,7 +45,7 @@ module _ (k : Shape) (old asked : ℕ) (slot : SlotEntry) (f : ℕ) (answers : s
   abbrev Same : ℕ → Type 0
   Same g = Leaves k old slot.flush slot.rear f g
 
-  -- which answer it is
+  -- P holds of the answer if it holds of each answer that the look may give
   by_answer : (P : Seen → Type 0) → (is_noticed k (not (slot.flush == old)) slot.rear f ≡ true → P (seen.Flushed (dropped_by k.wrap slot.flush slot.rear f)))
       → (is_noticed k (not (slot.flush == old)) slot.rear f ≡ false → nat_lt k.frames (ahead f slot.rear) ≡ true → P (seen.Shut f slot.rear))
       → (is_noticed k (not (slot.flush == old)) slot.rear f ≡ false → nat_lt k.frames (ahead f slot.rear) ≡ false → slot.rear ≡ f → P seen.Empty)
@@ -67,7 +67,7 @@ module _ (k : Shape) (old asked : ℕ) (slot : SlotEntry) (f : ℕ) (answers : s
   outside_none : (g : ℕ) → nat_lt k.frames (ahead g slot.rear) ≡ false → outside k.frames g slot.rear ≡ None
   outside_none g inside = ap (λ (b : Bool). if b then Some (g, slot.rear) else None) inside
 
-  -- where no flush was noticed and the front lay in the block, any other one in the block leaves the same
+  -- if no flush was noticed and the front lay in the block, any other one in the block leaves the same
   both_inside : (g : ℕ) → is_noticed k (not (slot.flush == old)) slot.rear f ≡ false → nat_lt k.frames (ahead f slot.rear) ≡ false → nat_lt k.frames (ahead g slot.rear) ≡ false → Same g
   both_inside g off inside in_too =
       let old_word : not (slot.flush == old) ≡ false = noticed_new (not (slot.flush == old)) (k.wrap == 0) (nat_lt k.frames (ahead f slot.rear)) off inside in
@@ -77,7 +77,7 @@ module _ (k : Shape) (old asked : ℕ) (slot : SlotEntry) (f : ℕ) (answers : s
   or_true true = refl
   or_true false = refl
 
-  -- where a flush was noticed, it is by each front that lies in the block
+  -- if a flush was noticed, it is noticed by each front that lies in the block
   both_notice : (g : ℕ) → is_noticed k (not (slot.flush == old)) slot.rear f ≡ true → (k.wrap == 0 || not (nat_lt k.frames (ahead g slot.rear))) ≡ true → Same g
   both_notice g on fits =
       let new_word : not (slot.flush == old) ≡ true = (both _ _ on).0 in
@@ -87,7 +87,7 @@ module _ (k : Shape) (old asked : ℕ) (slot : SlotEntry) (f : ℕ) (answers : s
   notice_inside : (g : ℕ) → is_noticed k (not (slot.flush == old)) slot.rear f ≡ true → nat_lt k.frames (ahead g slot.rear) ≡ false → Same g
   notice_inside g on inside = both_notice g on (ap (λ (b : Bool). k.wrap == 0 || not b) inside ∙ or_true (k.wrap == 0))
 
-  -- where the answer leaves the front open, one in the block leaves the same
+  -- if the answer leaves the front open, one in the block leaves the same
   pub open_leaves : (g : ℕ) → leaves_open k asked slot.seen ≡ true → nat_lt k.frames (ahead g slot.rear) ≡ false → Same g
   open_leaves g = by_answer (λ (s : Seen). leaves_open k asked s ≡ true → nat_lt k.frames (ahead g slot.rear) ≡ false → Same g)
       (λ on opens inside. notice_inside g on inside)
@@ -95,7 +95,7 @@ module _ (k : Shape) (old asked : ℕ) (slot : SlotEntry) (f : ℕ) (answers : s
       (λ off in_block same opens inside. absurd (true≢false (sym opens)))
       (λ off in_block opens inside. both_inside g off in_block inside)
 
-  -- the front of a flush by its answer
+  -- the front of a flush by its answer leaves the same
   flush_leaves : is_noticed k (not (slot.flush == old)) slot.rear f ≡ true → Same (flushed_front k.wrap slot.flush slot.rear (dropped_by k.wrap slot.flush slot.rear f))
   flush_leaves on = by_wrap (k.wrap == 0) refl
     where
@@ -116,7 +116,7 @@ module _ (k : Shape) (old asked : ℕ) (slot : SlotEntry) (f : ℕ) (answers : s
       by_wrap true flat = both_notice (flushed_front k.wrap slot.flush slot.rear (dropped_by k.wrap slot.flush slot.rear f)) on (ap (λ (b : Bool). b || not (nat_lt k.frames (ahead (flushed_front k.wrap slot.flush slot.rear (dropped_by k.wrap slot.flush slot.rear f)) slot.rear))) flat)
       by_wrap false placed = subst Same (sym (λ j. front (placed j) (if placed j then ahead f slot.rear else past_front f at))) (by_some (past_front f at == 0) placed refl)
 
-  -- so does the one that the answer tells
+  -- the front that the answer tells leaves the same
   pub answer_leaves : Same (front_by_answer k slot)
   answer_leaves = by_answer (λ (s : Seen). Same (front_by_answer k (record slot { seen = s })))
       flush_leaves
@@ -128,7 +128,7 @@ module _ (k : Shape) (old asked : ℕ) (slot : SlotEntry) (f : ℕ) (answers : s
       let low = at_most k.frames (ahead f slot.rear) inside in
       both_inside (behind slot.rear (min asked (ahead f slot.rear))) off inside (not_over k.frames (ahead (behind slot.rear (min asked (ahead f slot.rear))) slot.rear) (omega (arith, back, low))))
 
--- and so does the front that a journal tells
+-- the front that a journal tells leaves the same
 pub told_leaves : (asked : ℕ) (s : Listed) (slot : SlotEntry) (f : ℕ) → slot.seen ≡ look_at s.shape (kept s).flush asked slot.flush slot.rear f → Leaves s.shape (kept s).flush slot.flush slot.rear f (front_of asked s slot)
 told_leaves asked s slot f answers = by_open (leaves_open s.shape asked slot.seen) (is_own_inside s slot.rear) refl refl
   where

@@ -52,7 +52,7 @@ module _ (links : Links) (x b h : NormalState) (order : IsInOrder links x) (begi
           (handed_tied links b begun_tied none (whole_begun links x b order begins none) h m, (have_hands links b begun_tied none (whole_begun links x b order begins none) h m).whole)
       by_hands false is m = subst (λ (z : NormalState). IsTied links z × (length z.hands ≡ length z.tracks)) (sym m) (begun_tied, by_turns x.turns refl (some_of_other b.hands is))
 
-  -- the entry is empty
+  -- the entry of the turn is empty before it looks
   pub empty : (h.entry.tracks.items ≡ []) × (h.entry.mixes.items ≡ [])
   empty = by_hands (length b.hands == 0) refl hands
     where
@@ -72,7 +72,7 @@ module _ (links : Links) (x b h : NormalState) (order : IsInOrder links x) (begi
       by_hands true m = let one = parts_to (length b.tracks) b h m i t e in let all = by_begun one.0 one.1 in (all.0, all.1, one.2 ∙ all.2)
       by_hands false m = by_begun t (ap (λ (w : NormalState). stream_at w.streams i) (sym m) ∙ e)
 
-  -- so is one that comes home by the acknowledgement
+  -- a proxy that comes home by the acknowledgement was there with its list and its frames
   pub home_parts : (ack : Bool) (back : List (Option ServerState)) (i : ℕ) (t : ServerState) → home_stream ack (kept_of h) back h i ≡ Some t → HasPart (home_stream ack (kept_of x) back x i) t
   home_parts ack back i t e =
       let kept : kept_of h ≡ kept_of x = ap kept_of handed.same in

@@ -21,7 +21,7 @@ use Rattle.af_told_law.proofs.TurnAlike.{served_holder}
 abbrev HomeAt : ℕ → List TrackKept → Type 0
 HomeAt i tracks = is_home (track_at tracks i).holder ≡ true
 
--- one that is home after a track was replaced was so before, where that holds of the track itself
+-- one that is home after a track was replaced was so before, if that holds of the track itself
 set_home : (i : ℕ) (tracks : List TrackKept) (n : ℕ) (t : TrackKept) → (is_home t.holder ≡ true → is_home (track_at tracks n).holder ≡ true) → HomeAt i (slice_set tracks n t) → HomeAt i tracks
 set_home i tracks n t back home = elim (at_set tracks n t i) as (λ _. HomeAt i tracks) [
   | inl here ↦ ap (λ (j : ℕ). is_home (track_at tracks j).holder) here.0 ∙ back (sym (ap (λ (s : TrackKept). is_home s.holder) here.1) ∙ home)
@@ -60,11 +60,11 @@ module _ (c : Setup) (k : Learnt) (m : NormalKept) (e : Turn) (i : ℕ) (sound :
   abbrev acked : NormalKept
   acked = after_ack e.ack m
 
-  -- one that is home once all were served
+  -- one that is home once all were served was home before
   pub served_before : HomeAt i (after_tracks c k e acked).tracks → HomeAt i acked.tracks
   served_before home = sym (ap is_home (served_holder c k e.tracks acked.draft acked.tracks (length acked.tracks) i (sound_acked e.ack m sound))) ∙ home
 
-  -- one that is to be lent
+  -- one that is to be lent was home before
   pub enters_before : must_enter (track_at (after_tracks c k e acked).tracks i) ≡ true → HomeAt i acked.tracks
   enters_before enters = served_before (first (is_home (track_at (after_tracks c k e acked).tracks i).holder) _ enters)
     where
@@ -72,7 +72,7 @@ module _ (c : Setup) (k : Learnt) (m : NormalKept) (e : Turn) (i : ℕ) (sound :
       first true b e = refl
       first false b e = e
 
-  -- one that is home after the turn
+  -- one that is home after the turn was home before
   pub turned_before : e.ended ≡ false → HomeAt i (turn_after c k m e).tracks → HomeAt i acked.tracks
   unfolding turn_after
   turned_before runs home = served_before (mutated_home c k i e.room (after_tracks c k e acked) pushed)

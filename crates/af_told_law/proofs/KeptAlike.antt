@@ -80,7 +80,7 @@ module _ (k : Shape) where
       by_none z is = ap (λ (y : Bool). left_by a answer flush rear y (if y then o else p)) is ∙ sym (ap (λ (y : Bool). left_by a answer flush rear y p) is)
   left_same a answer flush rear false n o p same out = (λ j. left_by a answer flush rear (same j) (out refl j))
 
-  -- the same look by two fronts that leave the same
+  -- one look by two fronts that leave the same
   pub look_alike : (a b : ServerKept) (answer : Seen) (flush rear f g : ℕ) → bare a ≡ bare b → Leaves k a.flush flush rear f g → bare (fold (server_keeps k) a (look_events answer flush rear f)) ≡ bare (fold (server_keeps k) b (look_events answer flush rear g))
   look_alike a b answer flush rear f g h leaves =
       look_leaves a answer flush rear f
@@ -88,7 +88,7 @@ module _ (k : Shape) where
       ∙ ap (λ (z : ServerKept). left_by z answer flush rear (is_noticed k (not (flush == z.flush)) rear g) (outside k.frames g rear)) h
       ∙ sym (look_leaves b answer flush rear g)
 
-  -- one by a server that may be shut, and what follows it
+  -- a look by a server that may be shut, and what follows it
   pub some_look : (was : Bool) (more : List ServerEvent) (a b : ServerKept) (answer : Seen) (flush rear f g : ℕ) → NoDrops more → bare a ≡ bare b → (was ≡ false → Leaves k a.flush flush rear f g)
       → bare (fold (server_keeps k) a ((if was then [] else look_events answer flush rear f) ++ more)) ≡ bare (fold (server_keeps k) b ((if was then [] else look_events answer flush rear g) ++ more))
   some_look true more a b answer flush rear f g none h leaves = undropped_alike more a b none h
@@ -145,11 +145,11 @@ module _ (k : Shape) (xs ys : List ServerEvent) (h : TellAlike k xs ys) (asked :
   pub looks_alike : (f : ℕ) → LooksBy asked real slot f → LooksBy asked told slot f
   looks_alike f = subst (λ (z : ServerKept). IsSeen slot.seen × MatchOption z.shut (slot.seen ≡ look_at k z.flush asked slot.flush slot.rear f) (λ words. (slot.seen ≡ seen.Shut words.0 words.1) × (slot.flush ≡ z.flush) × (slot.rear ≡ words.1))) h.kept
 
-  -- and its events are the same
+  -- the events of the look are the same by the one as by the other
   pub events_alike : (f : ℕ) → cycle_events asked real slot f ≡ cycle_events asked told slot f
   events_alike f = ap (λ (z : ServerKept). let was = is_some z.shut in server.SawGain slot.gains ∷ (if was then [] else look_events slot.seen slot.flush slot.rear f) ++ after_look asked was slot.seen) h.kept
 
-  -- after it they tell alike, where both fronts leave the same
+  -- after the look the lists tell alike, if both fronts leave the same
   pub cycle_alike : (f g : ℕ) → (is_some (kept told).shut ≡ false → Leaves k (kept told).flush slot.flush slot.rear f g) → TellAlike k (xs ++ cycle_events asked real slot f) (ys ++ cycle_events asked told slot g)
   cycle_alike f g leaves =
       let was : Bool = is_some (kept told).shut in
@@ -163,11 +163,11 @@ module _ (k : Shape) (xs ys : List ServerEvent) (h : TellAlike k xs ys) (asked :
       } in
       subst (λ (es : List ServerEvent). TellAlike k (xs ++ es) (ys ++ cycle_events asked told slot g)) (sym (events_alike f)) here
 
-  -- so they do by the front that a journal tells
+  -- after the look the lists tell alike by the front that a journal tells
   pub told_alike : (f : ℕ) → LooksBy asked real slot f → TellAlike k (xs ++ cycle_events asked real slot f) (ys ++ cycle_events asked told slot (front_of asked told slot))
   told_alike f looks = cycle_alike f (front_of asked told slot) (λ off. told_leaves asked told slot f (answers asked k (kept told) slot f (looks_alike f looks).1 off))
 
--- the same of a server with another record of its shape
+-- a cycle of a server with another record of its shape is told alike
 pub cycle_told_alike : (asked : ℕ) (s b : Listed) (slot : SlotEntry) (f : ℕ) → s.shape ≡ b.shape → TellAlike b.shape s.events b.events → LooksBy asked s slot f
     → TellAlike b.shape (s.events ++ cycle_events asked s slot f) (b.events ++ cycle_events asked b slot (front_of asked b slot))
 cycle_told_alike asked s b slot f same h looks =

@@ -76,7 +76,7 @@ all_looks_alike k xs ys h (look ∷ looks) (f ∷ fs) legal =
       all_looks_alike k (xs ++ command_events real look f) (ys ++ command_events told look f) (command_alike k xs ys h look f f (λ off. (refl, λ _. refl))) looks fs legal.2,
     )
 
--- after all looks the lists tell alike, where the fronts are those that a journal tells
+-- after all looks the lists tell alike, if the fronts are those that a journal tells
 pub all_alike : (k : Shape) (xs ys : List ServerEvent) → TellAlike k xs ys → (looks : List CommandLook) (fs : List ℕ) → LegalLooks (record { shape = k; events = xs }) looks fs
     → TellAlike k (xs ++ all_command_events (record { shape = k; events = xs }) looks fs) (ys ++ all_command_events (record { shape = k; events = ys }) looks (fronts_by front_of (record { shape = k; events = ys }) looks))
 all_alike k xs ys h [] [] legal = subst (λ (z : List ServerEvent × List ServerEvent). TellAlike k z.0 z.1) (λ j. (sym (append-nil xs) j, sym (append-nil ys) j)) h
@@ -112,7 +112,7 @@ module _ (k : Shape) (xs ys : List ServerEvent) (h : TellAlike k xs ys) (asked :
       subst (λ (z : List ServerEvent × List ServerEvent). TellAlike k (xs ++ z.0) (ys ++ z.1)) (λ j. (sym (append-nil es) j, sym (append-nil gs) j)) (told_alike k xs ys h asked take.slot f (looks take [] refl))
   one_alike (take ∷ next ∷ rest) f few looks = absurd (omega (arith, few))
 
-  -- with flags before it
+  -- the takes of one track, with flags before them
   pub takes_alike : (home shut : Bool) (takes : List TakeSeen) (f : ℕ) → length takes ≤ 1 → ((take : TakeSeen) (rest : List TakeSeen) → takes ≡ take ∷ rest → LooksBy asked was take.slot f)
       → TellAlike k (xs ++ ((if home then (if shut then server.SetFlags 4 ∷ [] else []) else []) ++ flat_map (λ (take : TakeSeen). cycle_events asked was take.slot f) takes))
       (ys ++ ((if home then (if shut then server.SetFlags 4 ∷ [] else []) else []) ++ flat_map (λ (take : TakeSeen). cycle_events asked is_told take.slot (take_front (front_of asked) is_told takes)) takes))

@@ -25,7 +25,7 @@ use Rattle.af_told_law.specs.QueueTurned.{QueueKnown, ReportMet}
 abbrev Looks : QueueTold → QueueTold → Type 0
 Looks told more = (k : ℕ) → was_seen k more ≡ was_seen k told
 
--- the same states and looks
+-- what is known of the queue stays known by the same states and looks
 pub known_same : (frames : ℕ) (run after : Run) (m n : NormalState) → after.states ≡ run.states → Looks run.queue after.queue → n.mutator.past.clear ≡ m.mutator.past.clear → n.mutator.past.before ≡ m.mutator.past.before
     → QueueKnown frames run m → QueueKnown frames after n
 known_same frames run after m n states looks clear before known = record {
@@ -59,7 +59,7 @@ looks_observed told es k = ap (list_any (is_look_at k)) (ones_observed told es)
 
 -- ## Steps of a run
 
--- what leaves the states, and adds no look of the mutator
+-- a step of a run leaves the states as they are, and adds no look of the mutator
 pub record Quiet (run after : Run) : Type 0 where
   pub states : after.states ≡ run.states
   pub looks : Looks run.queue after.queue
@@ -98,7 +98,7 @@ quiet_cycles s (e ∷ entries) run =
 pub quiet_calls : (i : ℕ) (round : RoundSeen) (run : Run) → Quiet run (calls_alone i round run)
 quiet_calls i round run = record { states = refl; looks = (λ k. refl) }
 
--- the report after a round
+-- after a round the ends of the report met last
 pub report_ends : (s : Session) (run : Run) → ReportMet (with_ends (met s run))
 unfolding met with_ends
 report_ends s run = by_end run.normal.ended

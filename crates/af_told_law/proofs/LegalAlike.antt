@@ -46,7 +46,7 @@ module _ (s : Listed) (f g : ℕ) (same : SameFront s f g) where
       by_shut true same = refl
       by_shut false same = ap es (same refl)
 
-  -- its events are the same
+  -- the events of a look are the same by either front
   pub cycle_same : (asked : ℕ) (slot : SlotEntry) → cycle_events asked s slot f ≡ cycle_events asked s slot g
   cycle_same asked slot = ap (λ (es : List ServerEvent). server.SawGain slot.gains ∷ es ++ after_look asked (is_some (kept s).shut) slot.seen) (events_same [] (look_events slot.seen slot.flush slot.rear))
 
@@ -120,7 +120,7 @@ module _ (c : Setup) (m : NormalKept) (e : Turn) (o p : Outside) (sound : IsSoun
   pub invalid_same : (i : ℕ) → i < length m.tracks → invalid (learnt o) (track_in e i) (tracks_at c (learnt o) m e i) i ≡ invalid (learnt p) (track_in e i) (tracks_at c (learnt p) m e i) i
   invalid_same i low = λ j. if not (track_at (tracks_same c (learnt o) (learnt p) m e sound learns i j) i).life.ended && is_found_shut (heard_then_same c (learnt o) (learnt p) m e sound learns i low j) (track_in e i).looks then server.SetFlags 4 ∷ [] else []
 
-  -- of a stream from which nothing was taken, or whose list and front are the same
+  -- the list of a stream from which nothing was taken, or whose list and front are the same
   pub stream_list_same : (i : ℕ) → i < length m.tracks → (takes_from e.mixes i ≡ []) ⊎ ((o.streams i ≡ p.streams i) × SameFront (o.streams i) (o.stream_front i) (p.stream_front i))
       → stream_list c o e (tracks_at c (learnt o) m e i) i ≡ stream_list c p e (tracks_at c (learnt p) m e i) i
   stream_list_same i low taken = by_end e.ended refl
@@ -145,14 +145,14 @@ module _ (c : Setup) (m : NormalKept) (e : Turn) (o p : Outside) (sound : IsSoun
       by_end true is = refl
       by_end false is = λ j. (if is_home (track_at (tracks_same c (learnt o) (learnt p) m e sound learns i j) i).holder then invalid_same i low j else []) ++ mixes j
 
-  -- of a command block whose list and fronts are the same
+  -- the list of a command block whose list and fronts are the same
   pub command_list_same : (i : ℕ) → i < length m.tracks → o.commands i ≡ p.commands i → SameFronts (o.commands i) (track_in e i).looks (o.command_fronts i) (p.command_fronts i) → command_list c o e (tracks_at c (learnt o) m e i) i ≡ command_list c p e (tracks_at c (learnt p) m e i) i
   command_list_same i low list fronts =
       let looks : all_command_events (o.commands i) (track_in e i).looks (o.command_fronts i) ≡ all_command_events (p.commands i) (track_in e i).looks (p.command_fronts i) =
       all_events_same (o.commands i) (track_in e i).looks (o.command_fronts i) (p.command_fronts i) fronts ∙ ap (λ (s : Listed). all_command_events s (track_in e i).looks (p.command_fronts i)) list in
       (λ j. going e (looks j ++ invalid_same i low j ++ status_events (track_in e i).status))
 
--- of the mutator
+-- the list of the mutator
 pub mutator_list_same : {P : Type 0} (c : Setup) (m : NormalKept) (e : Turn) (o p : Outside) → IsSound m.tracks m.draft → AreAlike m e o p → (back again sent : List (Option P)) → mutator_list c (learnt o) m e back again sent ≡ mutator_list c (learnt p) m e back again sent
 mutator_list_same c m e o p sound alike back again sent =
     let edits : after_edits c (learnt o) e m ≡ after_edits c (learnt p) e m = after_edits_same c (learnt o) (learnt p) m e sound (learn_alike m e o p alike) in

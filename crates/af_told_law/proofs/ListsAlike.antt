@@ -58,7 +58,7 @@ module _ (c : Setup) (m : NormalKept) (e : Turn) (o p : Outside) (sound : IsSoun
       ≡ (if is_home (track_at (tracks_at c (learnt p) m e i) i).holder then invalid (learnt p) (track_in e i) (tracks_at c (learnt p) m e i) i else [])
   flags_same i low = λ j. if is_home (track_at (tracks_same c (learnt o) (learnt p) m e sound (learn_alike m e o p alike) i j) i).holder then invalid_same c m e o p sound alike i low j else []
 
-  -- of a stream, where the other outside's front is that told
+  -- the list of a stream tells alike, if the other outside's front is that told
   pub stream_list_alike : (i : ℕ) → i < length m.tracks → ListAlike (o.streams i) (p.streams i) → p.stream_front i ≡ take_front (front_of (asked c)) (p.streams i) (takes_from e.mixes i)
       → TellAlike (p.streams i).shape ((o.streams i).events ++ stream_list c o e (tracks_at c (learnt o) m e i) i) ((p.streams i).events ++ stream_list c p e (tracks_at c (learnt p) m e i) i)
   stream_list_alike i low near front =
@@ -83,7 +83,7 @@ module _ (c : Setup) (m : NormalKept) (e : Turn) (o p : Outside) (sound : IsSoun
             ∙ sym (ap (λ (b : Bool). if b then [] else (if is_home (track_at (tracks_at c (learnt p) m e i) i).holder then invalid (learnt p) (track_in e i) (tracks_at c (learnt p) m e i) i else []) ++ mix_events c p e.mixes i) runs)) j,
       )) base
 
-  -- of a command block
+  -- the list of a command block tells alike
   pub command_list_alike : (i : ℕ) → i < length m.tracks → p.command_fronts i ≡ fronts_by front_of (p.commands i) (track_in e i).looks
       → TellAlike (p.commands i).shape ((o.commands i).events ++ command_list c o e (tracks_at c (learnt o) m e i) i) ((p.commands i).events ++ command_list c p e (tracks_at c (learnt p) m e i) i)
   command_list_alike i low fronts =

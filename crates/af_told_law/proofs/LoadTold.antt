@@ -57,7 +57,7 @@ module _ (s : Session) (run : Run) (y : SessionState) (before : ReaderSide) (e :
   unread = record y.normal { reader = before }
 
   module _ {d : Deeds} where
-    -- the run with the load tells the session with it
+    -- the run with the load tells the session after the load
     pub load_told : Tells s run d (record y { normal = unread }) → y.normal.reader.events ≡ before.events ++ loads → Tells s (with_load e run) d y
     unfolding with_load
     load_told told grows = record {

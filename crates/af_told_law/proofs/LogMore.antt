@@ -46,12 +46,12 @@ grows_then m n k a b c few x y = record {
   sized = (let first = x.sized in let next = y.sized in let all = length-append x.taken y.taken in let sums = sum_by-append taken_by x.more y.more in omega arith);
 }
 
--- the frames of one entry
+-- one entry takes the frames of its slots
 one_taken : (entry : CycleEntry) → sum_by taken_by (entry ∷ []) ≡ taken_before entry slots
 unfolding taken_by
 one_taken entry = omega arith
 
--- a call of mix
+-- a log grows by a call of mix
 pub mix_grows : (m m' : MixerState) (out out' : List Frame) (answer : Cycle) → MixesOnce m out answer m' out' → GrowsBy 1 m.log m'.log
 mix_grows m m' out out' answer x = by_exit m.exited refl
   where
@@ -74,7 +74,7 @@ mix_grows m m' out out' answer x = by_exit m.exited refl
     by_exit true is = grows_none 1 m.log m'.log (ap (λ (y : MixerState). y.log) (x.exited is).1)
     by_exit false is = by_length (length m.log.entries == m.cycles) is refl
 
--- a cycle
+-- a log grows by a cycle
 pub cycle_grows : (s t : SessionState) (answer : Cycle) (bytes : List ℕ) → WritesCycle s answer bytes t → GrowsBy 1 s.fast.log t.fast.log
 cycle_grows s t answer bytes w =
     let met = met_keeps (record s { fast = w.cycle.polled }) w.cycle.met w.cycle.meets in
@@ -85,7 +85,7 @@ grows_on : (left : ℕ) (s m t : SessionState) (back : List ℕ) (mixed : Bool) 
 grows_on left s m t back true first goes stops = grows_then 1 left (suc left) s.fast.log m.fast.log t.fast.log (omega arith) first (goes refl)
 grows_on left s m t back false first goes stops = grows_then 1 0 (suc left) s.fast.log m.fast.log t.fast.log (omega arith) first (grows_none 0 m.fast.log t.fast.log (ap (λ (x : SessionState). x.fast.log) (stops refl).1))
 
--- the cycles of a turn
+-- a log grows by the cycles of a turn
 pub fast_grows : (count : ℕ) (s t : SessionState) (bytes : List ℕ) → IsFastTurn count s bytes t → GrowsBy count s.fast.log t.fast.log
 fast_grows zero s t bytes turn = grows_none 0 s.fast.log t.fast.log (ap (λ (x : SessionState). x.fast.log) turn.1)
 fast_grows (suc left) s t bytes turn = grows_on left s turn.1 t turn.3 (is_mixed turn.0) (cycle_grows s turn.1 turn.0 turn.2 turn.4) (λ yes. fast_grows left turn.1 t turn.3 (turn.6 yes)) turn.7

@@ -115,11 +115,11 @@ module _ (x : SessionState) (n : NormalState) (o : Outside) (legal : IsLegal o x
   number_is : (b : Bool) → e.ack ≡ b → number_seen k e.ack ≡ (if b then m.number else m.number - 1)
   number_is b is = ap (λ (b : Bool). if b then m.number else m.number - 1) is
 
-  -- where it saw the last state acknowledged the observer has that
+  -- if the look saw the last state acknowledged, the observer has that
   pub all_polled : e.ack ≡ true → f.number ≡ m.number
   all_polled ack = let low = look.few in let few = step.few in let seen = number_is true ack in omega (arith, low, few, seen, acked_is)
 
-  -- and the items that it gave back came, where that wasn't seen before
+  -- the items that the observer gave back came, if that wasn't seen before
   pub back_given : e.ack ≡ true → t.clear ≡ false → goes.back ≡ items_given x.fast
   back_given ack off =
       let all : number_seen k e.ack ≡ (observed os).acked = number_is true ack ∙ sym (acked_is ∙ all_polled ack) in
@@ -134,7 +134,7 @@ module _ (x : SessionState) (n : NormalState) (o : Outside) (legal : IsLegal o x
   older : e.ack ≡ false → number_seen k e.ack ≢ t.pushed
   older off = λ same. let some = (legal.legal.goes_on runs).ack off in let seen = number_is false off in let p = pushed_is in omega (arith, some, seen, p, same)
 
-  -- else nothing came
+  -- if the look saw no acknowledgement, nothing came
   pub back_none : e.ack ≡ false → goes.back ≡ []
   back_none off = (look.none (older off)).0
 
@@ -163,7 +163,7 @@ module _ (x : SessionState) (n : NormalState) (o : Outside) (legal : IsLegal o x
   looked_then : mutated m.first looked ≡ mutator_next t (mutator.SawAck (number_seen k e.ack) goes.back)
   looked_then = fold-append mutator_next (mutator_start m.first) m.events (mutator.SawAck (number_seen k e.ack) goes.back ∷ [])
 
-  -- it brings what the observer gave back, where the first look didn't see that yet
+  -- the look of the push brings what the observer gave back, if the first look didn't see that yet
   pub again_given : e.ack ≡ false → is_pushed e.push ≡ true → (f.number ≡ m.number) × (goes.again ≡ items_given x.fast)
   again_given off is = by_push e.push is whole
     where
@@ -191,7 +191,7 @@ module _ (x : SessionState) (n : NormalState) (o : Outside) (legal : IsLegal o x
 
   -- ## What is on its way back
 
-  -- the observer has all, and that wasn't seen
+  -- if items are on their way back, the observer has all states, and that wasn't seen
   pub coming_parts : is_coming x.normal x.fast ≡ true → (f.number ≡ m.number) × (t.clear ≡ false)
   coming_parts coming =
       let parts = and_parts (not (is_going x.normal x.fast)) (not t.clear) coming in (
@@ -205,7 +205,7 @@ module _ (x : SessionState) (n : NormalState) (o : Outside) (legal : IsLegal o x
   pub coming_from : f.number ≡ m.number → t.clear ≡ false → is_coming x.normal x.fast ≡ true
   coming_from all off = (λ j. not (le-ltb f.number m.number (let few : m.number ≤ f.number = omega (arith, all) in few) j) && not (off j))
 
-  -- where an item waits, or is in hand and none came for its slot, none is on its way back, once that was seen or a state was pushed
+  -- if an item waits, or is in hand and none came for its slot, none is on its way back, once that was seen or a state was pushed
   none_again : e.ack ≡ false → is_pushed e.push ≡ true → (j : ℕ) → j < slots → (is_some (at x.normal.mutator.pending j) ≡ true) ⊎ (is_some (at x.normal.mutator.returned j) ≡ true) → at goes.again j ≡ None
   none_again off is j low either = none_of (at goes.again j) (λ p here. true≢false (sym (goes.stands.brings j low (ap is_some here)).2 ∙ goes.stands.still off j low either))
 

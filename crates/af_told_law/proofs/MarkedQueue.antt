@@ -33,7 +33,7 @@ abbrev marked_both : Real → Event (MutatorEvent Item) (ObserverEvent Item)
 marked_both (one e) = one (marked_event e)
 marked_both (two e) = two (marked_poll e)
 
--- an item stands where one did
+-- a marked item stands exactly if the item did
 pub has_marked : (items : Items) (i : ℕ) → has (marked items) i ≡ has items i
 has_marked [] i = refl
 has_marked (None ∷ items) zero = refl

@@ -137,7 +137,7 @@ module _ (marks : Marks) where
   pub round_marked : (s : Session) (run : Run) (turn : TurnSpec) (round : RoundSeen) → IsRoundMarked marks round.calls → IsMarkedRun marks run → IsMarkedRun marks (with_ends (met_alone s run turn round))
   round_marked s run turn round free h = ends_marked (met_alone s run turn round) (met_marked marks s (made_alone s run turn round) (made_marked s run turn round free h))
 
-  -- the first run, whose blocks are small
+  -- the blocks of the first run weren't poked, and are small
   pub new_marked : (s : Session) → IsSmallRun (new_run s) → IsMarkedRun marks (new_run s)
   new_marked s small n low = record { stream = (λ on. ap (λ (t : TrackTold). is_tame t.stream) (told_new n low)); commands = (λ on. ap (λ (t : TrackTold). is_tame t.commands) (told_new n low)); few = small n low }
     where

@@ -37,12 +37,12 @@ use Rattle.af_told_law.proofs.TrackMeets.{tracks_are}
 
 -- ## Fronts of a list
 
--- of a list in two parts
+-- if each front of a list is the server's own, so is each of its first part
 own_first : (k : Shape) (kept : ServerKept) (xs ys : List ServerEvent) → AllSeeOwn k kept (xs ++ ys) → AllSeeOwn k kept xs
 own_first k kept [] ys h = tt
 own_first k kept (x ∷ xs) ys h = (h.0, own_first k (server_keeps k kept x) xs ys h.1)
 
--- a history of the list with a meeting more shows it
+-- a history of a list with a meeting more shows that each front is the server's own
 own_by_history : (k : Shape) (shown : Option ℕ) (es : List ServerEvent) (count : ℕ) → k.frames ≤ 65536 → IsServerList k shown es → (ce : List ClientEvent) (cf sf : List ℕ) (he : List HandEvent)
     → IsClientList k.frames k.cells k.base ce → HasHistory k ce cf (es ++ server.Learn count ∷ []) sf he → AllSeeOwn k (server_begins k) es
 own_by_history k shown es count few spelled ce cf sf he hers h =
@@ -58,7 +58,7 @@ module _ (blocks : List Made) (i : ℕ) (c d : ClientState) (few : c.pass.part.s
   same_client : client_made d.pass ≡ server_made s.pass
   same_client = same_Some (client_made d.pass) (server_made s.pass) (sym now ∙ is.made)
 
-  -- by a history of its list with that of the client that it met
+  -- the server that met saw its own fronts, by a history of its list with that of the client that it met
   shown_by : (es : List ServerEvent) (count : ℕ) (sf : List ℕ) (he : List HandEvent) → es ≡ s.pass.part.events ++ server.Learn count ∷ [] → HasHistory (client_made c.pass).shape d.pass.part.events d.pass.part.frames es sf he → SawOwn s
   shown_by es count sf he es_is h =
       own_by_history s.pass.part.shape s.shown s.pass.part.events count (subst (λ (b : Made). b.shape.frames ≤ 65536) same_block few) is.in_order.spelled d.pass.part.events d.pass.part.frames sf he
@@ -124,7 +124,7 @@ module _ (links : Links) (y z : SessionState) (small : AreSmall y) (together : A
         let away : is_home (track_at y.normal.tracks i).holder ≡ false = ap (λ (j : ℕ). is_home (track_at y.normal.tracks j).holder) (sym (found_track adopted i k found)) ∙ (lead k c.0 c.1).0 in
         true≢false (ap is_some (sym is) ∙ together.normal.tied.proxies.there i (let n = together.count in omega (arith, low, n)) ∙ away)
 
-    -- it is of the track's block
+    -- a proxy that is held is of the track's block
     of_track : (k : ℕ) (s : ServerState) → slot_for adopted i ≡ Some k → at y.fast.observer.items k ≡ Some s → IsStreamOf links.streams.now i s
     of_track k s found is =
         let c = found_carries adopted i k found in
@@ -151,7 +151,7 @@ module _ (links : Links) (y z : SessionState) (small : AreSmall y) (together : A
         by_meets links.commands.now i before.0.command after.0.command (small.commands i before.0 before.1) mine.command_is hers.command_is hers.in_order.1 s (together.normal.tied.proxies.commands_of i s is) tame
         track.command' (subst (λ (q : ServerState). Meets (client_made before.0.command.pass) q track.command' before.0.command after.0.command) one track.commanded)
 
-  -- the end of the pipe with the meeting more
+  -- what the pipe's end saw with the meeting more it saw before
   pipe_before : (taken : ℕ) (es : List ServerEvent) (count : ℕ) → SeesTaken taken (es ++ server.Learn count ∷ []) → SeesTaken taken es
   pipe_before taken [] count h = tt
   pipe_before taken (server.SawFront front ∷ es) count h = (h.0, pipe_before taken es count h.1)

@@ -1,4 +1,4 @@
--- After a mix the run with this mix tells the ends, the fast mixer and what the normal mixer keeps, where the pipe and the report are those that it tells.
+-- After a mix the run with this mix tells the ends, the fast mixer and what the normal mixer keeps, if the pipe and the report are those that it tells.
 use Rattle.std.specs.List.{sum_by}
 use Rattle.std.proofs.Common.{◌≡◌, ℕ, ◌+◌, Bool, false, if◌then◌else◌, map, List, [], ◌∷◌, ◌++◌, refl, sym, ap, ◌∙◌, subst, arith}
 use Rattle.std.proofs.lemmas.List.Sums.{sum_by-append}
@@ -24,17 +24,17 @@ use Rattle.af_stateq.specs.Observes.{Observes}
 use Rattle.af_told_law.specs.MixLaws.{PipeTells}
 use Rattle.af_told_law.specs.Tells.{IsFresh, TellsFast, TellsNormal, TellsShared, marked_poll, reports_stored}
 
--- one report more
+-- one report more was stored
 stored_more : (es : List (WriterEvent Report)) (report : Report) → reports_stored (es ++ writes.Store report ∷ []) ≡ reports_stored es ++ report ∷ []
 stored_more [] report = refl
 stored_more (writes.Store r ∷ es) report = ap (λ (l : List Report). r ∷ l) (stored_more es report)
 stored_more (writes.Learn c ∷ es) report = stored_more es report
 
--- one entry more
+-- one entry more took its frames
 taken_more : (es : List CycleEntry) (e : CycleEntry) → sum_by taken_by (es ++ e ∷ []) ≡ sum_by taken_by es + taken_by e
 taken_more es e = sum_by-append taken_by es (e ∷ []) ∙ ap (λ (k : ℕ). sum_by taken_by es + k) (let one : sum_by taken_by (e ∷ []) ≡ taken_by e = omega arith in one)
 
--- the pipe where nothing is mixed
+-- the pipe is told, if nothing is mixed
 pub pipe_still : (f g : MixerState) (e : EntrySeen) (p : PipeTold) (puts : List ClientEvent) (put : List ℕ) → PipeTells p puts put f → is_mixed e.entry.cycle ≡ false → Takes f g e.entry → PipeTells (mixed_pipe e p) puts put g
 pipe_still f g e p puts put h dry takes =
     let same : g.pipe ≡ f.pipe = (takes.still dry).1 in

@@ -15,7 +15,7 @@ use Rattle.af_base.specs.declared.event.ServerEvent.{ServerEvent}
 kept_known : (s : ServerState) → IsInOrder s → known_at (Some s) ≡ known_of (listed s)
 kept_known s order = λ j. record { consumed = order.consumed_is j; flush_seen = order.flushes_is j; shut = is_some (order.shut_is j) }
 
--- so it is what its block tells
+-- what a proxy in order keeps is what its block tells
 pub block_known : (b : BlockTold) (deed : List ServerEvent) (s : ServerState) → IsInOrder s → TellsServer (done_on b deed) s → DeedTold b deed → known_at (Some s) ≡ known_of (told_list b)
 block_known b deed s order told did =
     kept_known s order

@@ -49,7 +49,7 @@ module _ (s : Session) (marks : Marks) (run : Run) (n : NormalState) (f g : Mixe
   state_is : (y : FastState) → state_of run.states e.entry.state ≡ Some y → x ≡ y
   state_is y is = state_known s run e.entry.state y is
 
-  -- the slots of a mix
+  -- the slots of a mix are those that the run finds
   mixes_x : is_mixed e.entry.cycle ≡ true → Mixes (cycle_frames s) x (frames_before run) before really e.entry → Mixes (cycle_frames s) x (frames_before run) (found_for run x) after e.entry
   mixes_x mixed m = record {
     whole = m.whole;
@@ -69,7 +69,7 @@ module _ (s : Session) (marks : Marks) (run : Run) (n : NormalState) (f g : Mixe
       subst (λ (z : ℕ × FastState × ℕ). Mixes z.0 z.1 z.2 before really e.entry) (λ j. (fast.frames j, sym here j, fast.logged j)) old in
       subst (λ (z : FastState). Mixes (cycle_frames s) z (frames_before run) (found_for run x) after e.entry) here (mixes_x mixed now)
 
-  -- the entry by itself
+  -- the entry by itself is legal
   pub cycle_legal : LegalCycle (cycle_frames s) run.states run.entries (frames_before run) (found_for run x) after e.entry
   cycle_legal =
       let follows : (last_used run.entries ≤ e.entry.state) × (e.entry.state ≤ last_used run.entries + 1) =
@@ -83,6 +83,6 @@ module _ (s : Session) (marks : Marks) (run : Run) (n : NormalState) (f g : Mixe
         mixes = mixes_told;
       }
 
-  -- and with the pipe and the lawful blocks
+  -- the entry is legal with the pipe and the lawful blocks
   pub entry_legal : TellsShared s (with_mix s e run) n g → LegalEntry s marks run e
   entry_legal mixed = record { after = after; cycle = cycle_legal; pipe = mixed.takes; lawful = finds.lawful }

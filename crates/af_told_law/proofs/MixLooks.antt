@@ -1,4 +1,4 @@
--- What a look of the fast mixer did on a stream's proxy is told by its block, where each front that the proxy saw is its own.
+-- What a look of the fast mixer did on a stream's proxy is told by its block, if each front that the proxy saw is its own.
 use Rattle.std.proofs.Common.{List, [], ap, fold, subst, ℕ, ◌++◌, ◌∙◌, ◌∷◌, ◌≡◌}
 use Rattle.af_base.specs.declared.event.ServerEvent.{ServerEvent}
 use Rattle.af_base.specs.declared.log.SlotEntry.{SlotEntry}
@@ -14,7 +14,7 @@ use Rattle.af_told_law.specs.Tells.{TellsServer}
 use Rattle.af_told_law.proofs.OwnFronts.{cycle_told}
 use Rattle.af_told_law.specs.Deeds.{DeedTold, SawOwnOf, done_on}
 
--- the fronts of a list in two parts
+-- if each front of a list is the server's own, so is each of its two parts
 pub own_split : (k : Shape) (kept : ServerKept) (xs ys : List ServerEvent) → AllSeeOwn k kept (xs ++ ys) → AllSeeOwn k kept xs × AllSeeOwn k (fold (server_keeps k) kept xs) ys
 own_split k kept [] ys h = (tt, h)
 own_split k kept (x ∷ xs) ys h = let r = own_split k (server_keeps k kept x) xs ys h.1 in ((h.0, r.0), r.1)
@@ -23,12 +23,12 @@ own_split k kept (x ∷ xs) ys h = let r = own_split k (server_keeps k kept x) x
 abbrev pub real_list : BlockTold → List ServerEvent → Listed
 real_list b deed = record { shape = b.shape; events = deed }
 
--- a proxy that did this
+-- what is listed of a proxy that did this
 pub listed_real : (b : BlockTold) (deed : List ServerEvent) (s : ServerState) → TellsServer (done_on b deed) s → listed s ≡ real_list b deed
 listed_real b deed s told = λ j. record { shape = told.shape j; events = told.events j }
 
 module _ (asked : ℕ) (b : BlockTold) (deed : List ServerEvent) (slot : SlotEntry) where
-  -- its list after the look
+  -- the proxy's list after the look
   module _ (s : ServerState) (told : TellsServer (done_on b deed) s) (events : List ServerEvent) (plays : TrackSlot asked (listed s) events slot) where
     pub looks_real : LooksBy asked (real_list b deed) slot plays.front
     looks_real = subst (λ (l : Listed). LooksBy asked l slot plays.front) (listed_real b deed s told) plays.looks
@@ -36,7 +36,7 @@ module _ (asked : ℕ) (b : BlockTold) (deed : List ServerEvent) (slot : SlotEnt
     pub list_grown : events ≡ deed ++ cycle_events asked (real_list b deed) slot plays.front
     list_grown = plays.list ∙ (λ j. told.events j ++ cycle_events asked (listed_real b deed s told j) slot plays.front)
 
-  -- where each front seen is its own, its events are those by the front that the journal tells, and those by the front that a lawful block asks for
+  -- if each front seen is the proxy's own, its events are those by the front that the journal tells, and those by the front that a lawful block asks for
   module _ (did : DeedTold b deed) (front : ℕ) (looks : LooksBy asked (real_list b deed) slot front) (saw : SawOwnOf b.shape (deed ++ cycle_events asked (real_list b deed) slot front)) where
     parts : AllSeeOwn b.shape (server_begins b.shape) deed × AllSeeOwn b.shape (fold (server_keeps b.shape) (server_begins b.shape) deed) (cycle_events asked (real_list b deed) slot front)
     parts = own_split b.shape (server_begins b.shape) deed (cycle_events asked (real_list b deed) slot front) saw

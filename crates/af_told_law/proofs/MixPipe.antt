@@ -1,4 +1,4 @@
--- What a mix leaves of the pipe is told by the run's mix, where its look saw the number of frames taken before.
+-- What a mix leaves of the pipe is told by the run's mix, if its look saw the number of frames taken before.
 use Rattle.std.proofs.Common.{◌≡◌, ℕ, Bool, true, if◌then◌else◌, map, List, ◌∷◌, ◌++◌, length, sym, ap, ◌∙◌, append-nil, subst}
 use Rattle.af_base.specs.declared.event.ClientEvent.{ClientEvent}
 use Rattle.af_base.specs.declared.event.ServerEvent.{ServerEvent}

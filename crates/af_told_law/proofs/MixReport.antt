@@ -60,13 +60,13 @@ module _ (s : Session) (run : Run) (entry : CycleEntry) (before : List SlotRepor
       by_mask true on = λ j. look (sym (knows x refl on) j) (since x p fresh j)
       by_mask false off = refl
 
-  -- a slot of the report
+  -- a slot of the report is that of the run's next report
   pub slot_told : (state_of run.states entry.state ≡ None → carries (state_for s run entry.state) i ≡ false) → (state_of run.states (last_used run.entries) ≡ None → was ≡ no_slot)
       → ((x : FastState) → state_of run.states entry.state ≡ Some x → carries x i ≡ true → known ≡ known_of (listed (stream_of run x i)))
       → next_slot s run entry before i ≡ slot_report (cycle_frames s) (state_of run.states entry.state) (state_of run.states (last_used run.entries)) entry known i was
   slot_told none fresh knows = slot_by (state_of run.states entry.state) (state_of run.states (last_used run.entries)) (λ is. ap (λ (o : Option FastState). carries (unwrap_or o first) i) (sym is) ∙ none is) fresh knows
 
--- Where the run, in which the looks of the entry were made, has the states, and tells what is known of the proxies, the report is the next one of the run. Where no state was used before, each slot still has its first report
+-- If the run, in which the looks of the entry were made, has the states, and tells what is known of the proxies, the report is the next one of the run. If no state was used before, each slot still has its first report
 pub report_told : (s : Session) (run : Run) (entry : CycleEntry) (known : ℕ → ServerKnown) (report : Report)
     → IsNextReport (cycle_frames s) run.states run.entries entry known (last_report run.reports).slots report
     → ((i : ℕ) → i < slots → state_of run.states entry.state ≡ None → carries (state_for s run entry.state) i ≡ false)

@@ -19,7 +19,7 @@ module _ (links : Links) (x : SessionState) (g : MixerState) (together : AreToge
   abbrev state : FastState
   state = x.fast.observer.past.state
 
-  -- it mixes by a state that was pushed
+  -- the mixer mixes by a state that was pushed
   some_number : 0 < x.fast.observer.past.number
   some_number = ⊎_elim
       (λ (none : x.fast.observer.past.number ≡ 0). absurd (true≢false (sym mixed ∙ ap is_mixed (adds.legal.what ∙ ap (λ (k : ℕ). cycle_of (cold_done (adopted_states x.fast) x.fast.log.entries) (state_of (adopted_states x.fast) k)) (adds.state ∙ none)))))

@@ -38,13 +38,13 @@ module _ (links : Links) (x : SessionState) (g : MixerState) (together : AreToge
   past_home : (i : ℕ) → length x.normal.tracks ≤ i → is_home (track_at x.normal.tracks i).holder ≡ true
   past_home i high = ap (λ (t : TrackKept). is_home t.holder) (get_or_past x.normal.tracks i new_track high)
 
-  -- so a slot's track is one of the session
+  -- a slot's track is one of the session
   pub inside : (k : ℕ) → k < slots → carries state k ≡ true → (slot_of state k).track < length x.normal.tracks
   inside k low carried = ⊎_elim (λ (less : (slot_of state k).track < length x.normal.tracks). less)
       (λ (high : length x.normal.tracks ≤ (slot_of state k).track). absurd (true≢false (sym (past_home (slot_of state k).track high) ∙ (lead k low carried).0)))
       (cases_lt (slot_of state k).track (length x.normal.tracks))
 
-  -- and is found in this slot
+  -- a slot's track is found in this slot
   pub found_slot : (k : ℕ) → k < slots → carries state k ≡ true → slot_for state (slot_of state k).track ≡ Some k
   found_slot k low carried = by_slot (slot_for state (slot_of state k).track) refl
     where

@@ -25,7 +25,7 @@ use Rattle.af_told_law.specs.Tells.{TellsFast, TellsNormal}
 
 -- ## States polled
 
--- which state counts as the first doesn't matter, where each acknowledgement follows a look that took its state
+-- which state counts as the first doesn't matter, if each acknowledgement follows a look that took its state
 any_first : (p : QueuePoint ServerState) (y z : FastState) (es : List (Event (MutatorEvent ServerState) (ObserverEvent ServerState))) → (p.observer.due ≢ 0 → y ≡ z) → Legal legal next p es → polled_states y (twos es) ≡ polled_states z (twos es)
 any_first p y z [] same l = refl
 any_first p y z (one (mutator.Push k x items) ∷ es) same l = any_first (next p (one (mutator.Push k x items))) y z es same l.1
@@ -90,13 +90,13 @@ module _ (s : Session) (run : Run) (n : NormalState) (f : MixerState) (order : I
       let low : run.current ≤ length run.states = (let m = many in let l = few_adopted in let c = fast.current in omega (arith, m, l, c)) in
       ap (λ (i : ℕ). state_for s run i) (is ∙ fast.current) ∙ state_adopted s run low ∙ sym fast.state
 
-  -- where it is of no number it carries nothing
+  -- if the observer's state is of no number, it carries nothing
   pub none_adopted : state_of run.states f.observer.past.number ≡ None → CarriesNone f.observer.past.state
   none_adopted none = ⊎_elim (λ (e : f.observer.past.number ≡ 0). order.begins e)
       (λ (ne : f.observer.past.number ≢ 0). absurd (some_state (adopted_states f) f.observer.past.number (omega (arith, ne)) (let m = many in omega (arith, m)) (sym (same_state f.observer.past.number (omega arith)) ∙ none)))
       (cases_eq f.observer.past.number 0)
 
-  -- and where the last entry used no state, its number is 0
+  -- if the last entry used no state, its number is 0
   pub none_used : state_of run.states (last_used run.entries) ≡ None → last_used run.entries ≡ 0
   none_used none = ⊎_elim (λ (e : last_used run.entries ≡ 0). e)
       (λ (ne : last_used run.entries ≢ 0). let low : last_used run.entries ≤ f.observer.past.number = (let l = order.uses.low in let e = ap last_used fast.entries in omega (arith, l, e)) in

@@ -43,7 +43,7 @@ and_off : (a b c : Bool) → b ≡ false → ((a && b) && c) ≡ false
 and_off true b c off = ap (λ (d : Bool). d && c) off
 and_off false b c off = refl
 
--- a track after an entry that mixes nothing
+-- a track is as it was after an entry that mixes nothing
 pub track_still : (s : Session) (x : FastState) (e : EntrySeen) (i : ℕ) (t : TrackTold) → e.entry ≡ still_entry e.entry.state e.entry.cycle → mixed_track s x e i t ≡ t
 track_still s x e i t still =
     let none : run_of.slot_for x e.entry i ≡ None = none_found (λ k. plays x e.entry k && ((slot_of x k).track == i)) 0 slots (λ k.

@@ -1,4 +1,4 @@
--- What a mix leaves of a stream is told by the run's mix: where each front that its proxy saw is its own what is told is what it did, and else each front by which it answers so leaves the same.
+-- What a mix leaves of a stream is told by the run's mix: if each front that its proxy saw is its own, what is told is what it did, and else each front by which it answers so leaves the same.
 use Rattle.std.proofs.Common.{◌≡◌, ℕ, zero, suc, ◌+◌, ◌<◌, ◌==◌, ◌&&◌, not, nat_lt, Bool, true, false, true≢false, if◌then◌else◌, find, fold, is_some, map, List, [], ◌∷◌, ◌++◌, length, Option, Some, None, refl, sym, ap, ◌∙◌, subst, arith, append_assoc, append-nil}
 use Rattle.std.specs.List.{range_with_len}
 use Rattle.std.proofs.lemmas.Option.{none-some}
@@ -82,12 +82,12 @@ hand_still told (e ∷ es) = hand_still (by_server e ∷ told) es
 
 -- ## The list of a stream's proxy after a mix
 
--- of an item that is there, or else the list before
+-- the list of an item that is there, or else the list before
 abbrev pub list_of : Option ServerState → List ServerEvent → List ServerEvent
 list_of None deed = deed
 list_of (Some p) deed = p.pass.part.events
 
--- of the item in this slot
+-- the list of the item in this slot
 abbrev pub list_by : Option ℕ → MixerState → List ServerEvent → List ServerEvent
 list_by None g deed = deed
 list_by (Some k) g deed = list_of (at g.observer.items k) deed
@@ -118,7 +118,7 @@ module _ (links : Links) (x : SessionState) (g : MixerState) (together : AreToge
           (λ j. (is j && shown j) && ((slot_of state k).track == i)) ∙ sym (λ j. is j && ((slot_of state k).track == i))
       by_carried false is = (λ j. (is j && is_shown (entry_slot e.entry k).seen) && ((slot_of state k).track == i)) ∙ sym (λ j. is j && ((slot_of state k).track == i))
 
-  -- the run finds the track where the observer has it
+  -- the run finds the track in the slot in which the observer has it
   found_so : (i : ℕ) → run_of.slot_for state e.entry i ≡ slot_for state i
   unfolding slot_for
   found_so i = first_found (λ k. plays state e.entry k && ((slot_of state k).track == i)) state i slots (plays_is i)
@@ -175,7 +175,7 @@ module _ (links : Links) (x : SessionState) (g : MixerState) (together : AreToge
       same_block : one.new.pass.part.shape ≡ one.old.pass.part.shape
       same_block = shape_same links x g together after lead takes.observer k one.old one.new low one.was one.is
 
-      -- what it did, and what the run tells that it did
+      -- what the proxy did, and what the run tells that it did
       abbrev more : List ServerEvent
       more = cycle_events x.fast.frames (real_list b deed) (entry_slot e.entry k) one.plays.front
 
@@ -228,7 +228,7 @@ module _ (links : Links) (x : SessionState) (g : MixerState) (together : AreToge
       item_list : list_of (at g.observer.items k) deed ≡ one.new.pass.part.events
       item_list = ap (λ (o : Option ServerState). list_of o deed) one.is
 
-  -- that of each track
+  -- the stream of each track after a mix
   pub stream_mixed : (i : ℕ) (t : TrackTold) (deed : List ServerEvent) → i < length x.normal.tracks → TellsStream x.normal x.fast i t.stream deed → DeedTold t.stream deed → StreamMixed x.normal g i (mixed_track s state e i t).stream deed (list_mixed state g i deed)
   stream_mixed i t deed inside h did = by_slot (slot_for state i) refl
     where

@@ -98,7 +98,7 @@ module _ (links : Links) (s : Session) (run : Run) (d : Deeds) (x : SessionState
   saw : is_mixed entry.cycle ≡ true → SawTold x.fast g e
   saw mixed = saw_told links x g may.together may.after may.lead entry adds mixed
 
-  -- what the servers did with the mix, and where nothing was mixed
+  -- what the servers did with the mix, and what they did if nothing was mixed
   abbrev by_entry : Bool → Deeds
   by_entry mixes = if mixes then record { streams = λ i. list_mixed state g i (d.streams i); commands = d.commands } else d
 
@@ -143,7 +143,7 @@ module _ (links : Links) (s : Session) (run : Run) (d : Deeds) (x : SessionState
     found_here : slot_for state (slot_track k) ≡ Some k
     found_here = found_slot links x g may.together may.after may.lead adds.takes.observer k low carried
 
-    -- the list that is told of the block, and what its proxy did before the mix
+    -- the block of a slot as it is told, and what its proxy did before the mix
     abbrev block : BlockTold
     block = stream_of run state k
 
@@ -245,7 +245,7 @@ module _ (links : Links) (s : Session) (run : Run) (d : Deeds) (x : SessionState
   fresh : IsFresh (with_mix s e run)
   fresh = counted.fresh_mixed s run x.normal x.fast g e may.together.fast.0 may.told.normal may.told.fast may.queue adds knows
 
-  -- ## All
+  -- ## The whole mix
 
   track_after : (i : ℕ) (p : PartyState) → slice_get x.clients i ≡ Some p → TellsTrack s x.normal g left i (mixed_track s state e i (told_at run i)) p
   track_after i p is =
@@ -305,7 +305,7 @@ module _ (links : Links) (s : Session) (run : Run) (d : Deeds) (x : SessionState
   legal_entry : (marks : Marks) → SawOwnBy marks run left → LegalEntry s marks run e
   legal_entry marks own = entry_legal s marks run x.normal x.fast g e may.told.shared may.told.fast adds (finds marks own) (shared_mixed s run x.normal x.fast g e may.told.shared may.told.fast adds sizes may.after.fast.0 pipe_after pipe_shape report_is fresh)
 
--- the mix of a mixer that isn't over
+-- the mix of a mixer that isn't over is told
 pub mix_told : (links : Links) (s : Session) (run : Run) (d : Deeds) (x : SessionState) (g : MixerState) (out : List Frame) (answer : Cycle) (out' : List Frame) → MixIsTold links s run d x g out answer out'
 mix_told links s run d x g out answer out' together after lead on mixes sizes queue counted sees told =
     let added = mixes.adds on in

@@ -51,7 +51,7 @@ as_first (suc n) (suc i) = as_first n i
 server_new : (shape : Shape) (s : ServerState) → IsNewServer shape s → TellsServer (done_on (new_block shape) []) s
 server_new shape s new = record { shape = ap (λ (p : ServerPart). p.shape) new.part; events = ap (λ (p : ServerPart). p.events) new.part; taken = ap (λ (p : ServerPart). p.frames) new.part }
 
--- and so it is told
+-- what a server that has done nothing did is told
 did_new : (shape : Shape) → DeedTold (new_block shape) []
 did_new shape = record { alike = same_alike shape [] [] refl; own = (λ saw. refl) }
 

@@ -66,13 +66,13 @@ module _ (links : Links) (s : Session) (run : Run) {d : Deeds} (x : SessionState
   pub client_at : (i : ℕ) → i < length m.tracks → (p : PartyState) × (slice_get x.clients i ≡ Some p)
   client_at i low = some_at x.clients i (let count = before.count in omega (arith, low, count))
 
-  -- what was told of its servers
+  -- what was told of the servers of a track
   did_at : (i : ℕ) → i < length m.tracks → TrackDid d i (told_at run i)
   did_at i low = let client = client_at i low in (told.tracks i client.0 client.1).did
 
   -- ## The streams
 
-  -- a stream proxy that is home in the turn did what it did
+  -- a stream proxy that is home in the turn did what is listed of it
   served_home : (i : ℕ) → i < length m.tracks → is_home (track_at (after_ack e.ack m).tracks i).holder ≡ true → (t : ServerState) × (o.streams i ≡ listed t) × TellsServer (done_on (told_at run i).stream (d.streams i)) t
   served_home i low home = let here = by_back (e.ack && is_returning (track_at m.tracks i).holder) refl in (here.0, legal.lists.home runs i ∙ here.1, here.2)
     where
@@ -91,7 +91,7 @@ module _ (links : Links) (s : Session) (run : Run) {d : Deeds} (x : SessionState
   stream_near : (i : ℕ) → i < length m.tracks → is_home (track_at (after_ack e.ack m).tracks i).holder ≡ true → ListAlike (o.streams i) (told_list (told_at run i).stream)
   stream_near i low home = subst (λ (l : Listed). ListAlike l (told_list (told_at run i).stream)) (sym (stream_real i low home)) (record { shape = refl; alike = (did_at i low).stream.alike })
 
-  -- where each front that it saw is its own it has the list that is told
+  -- if each front that a stream proxy saw is its own, it has the list that is told
   pub stream_found : (i : ℕ) → i < length m.tracks → is_home (track_at (after_ack e.ack m).tracks i).holder ≡ true → SawStream c m e o i → o.streams i ≡ told_list (told_at run i).stream
   stream_found i low home saw =
       let b : BlockTold = (told_at run i).stream in

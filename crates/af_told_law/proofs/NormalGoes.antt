@@ -1,4 +1,4 @@
--- A turn of the normal mixer leaves each stream proxy in its place, by what it tells.
+-- A turn of the normal mixer leaves each stream proxy in the place that it tells.
 use Rattle.std.proofs.Common.{◌≡◌, ℕ, ◌<◌, ◌==◌, ◌⊎◌, inl, inr, not, Bool, true, false, true≢false, MatchBool, if◌then◌else◌, refl, sym, ap, subst, ◌∙◌, List, [], ◌∷◌, ◌++◌, append-nil, length, Option, Some, None, eq-eqb}
 use Rattle.af_base.specs.Log.{slots}
 use Rattle.af_base.specs.declared.state.Push.TheVariants.{Clean}
@@ -44,7 +44,7 @@ module _ (links : Links) (o : Outside) (x y : NormalState) (order : IsInOrder li
   begun : BegunBy x h
   begun = handed links x made.begun h order made.begins made.hands
 
-  -- ## It went on
+  -- ## A turn that went on
 
   module _ (lives : (turn_of y.entry).ended ≡ false) where
     turned : TurnsBy (turn_of y.entry).push made.handed y
@@ -60,7 +60,7 @@ module _ (links : Links) (o : Outside) (x y : NormalState) (order : IsInOrder li
         (subst (λ (t : Turn). Grows (setup_of x) (kept_of x) o t x y) tells_is legal.lists)
         (λ off. (legal.legal.goes_on lives).ack (ap (λ (t : Turn). t.ack) tells_is ∙ off)))
 
-  -- ## It ended
+  -- ## A turn that ended
 
   module _ (over : (turn_of y.entry).ended ≡ true) where
     stops : Stops made.handed y
@@ -148,7 +148,7 @@ module _ (links : Links) (o : Outside) (x y : NormalState) (order : IsInOrder li
       clear = all_looked.clear;
     })
 
--- what the mutator's list tells of the acknowledgement is what it keeps, where it tells the number before the turn
+-- what the mutator's list tells of the acknowledgement is what it keeps, if it tells the number before the turn
 pub clear_is : (o : Outside) (x y : NormalState) (e : Turn) → StreamsGo o x y e → (told_by x).pushed ≡ x.mutator.past.number → (told_by y).clear ≡ y.mutator.past.clear
 clear_is o x y e s number = by_pushed (is_pushed e.push) refl
   where
@@ -156,7 +156,7 @@ clear_is o x y e s number = by_pushed (is_pushed e.push) refl
     by_pushed true is = (s.queue.sent_items is).1 ∙ sym (s.queue.shown is).3
     by_pushed false is = s.queue.same_clear is number ∙ sym (s.queue.still is).3
 
--- ## Either
+-- ## Either turn
 
 pub turn_leaves : (links : Links) (o : Outside) (x y : NormalState) → TurnLeavesStreams links o x y
 turn_leaves links o x y order legal made = (streams_go links o x y order legal made, streams_stay links o x y order legal made)

@@ -67,13 +67,13 @@ module _ (s : Session) (run : Run) {d : Deeds} (x : SessionState) (n : NormalSta
   leaves : (e.ended ≡ false → StreamsGo o x.normal n e) × (e.ended ≡ true → StreamsStay o x.normal n e)
   leaves = turn_leaves links o x.normal n before.normal legal made
 
-  -- it is legal by marks on whose blocks each front seen up to its end is a server's own
+  -- the turn is legal by marks on whose blocks each front seen up to its end is a server's own
   pub legal_now : (marks : Marks) → SawOwnBy marks run (did_by o x n d) → LegalTurnBy (setup_of s) marks f run.normal e
   legal_now = normal_legal links s run x n o told before legal f seen.finds (λ runs. (seen.hears runs, parts.comers runs))
 
   -- ## What the run has
 
-  -- what was kept, as the run has it
+  -- what was kept is sound, as the run has it
   sound : IsSound run.normal.tracks run.normal.draft
   sound = subst (λ (k : NormalKept). IsSound k.tracks k.draft) told.normal.kept before.normal.tied.sound
 
@@ -191,7 +191,7 @@ module _ (s : Session) (run : Run) {d : Deeds} (x : SessionState) (n : NormalSta
         did = parts.did i low;
       }
 
-  -- ## All
+  -- ## The whole turn
 
   few_polled : x.fast.observer.past.number ≤ length run.states
   few_polled = let few = stands.step.few in let number = told.normal.number in omega (arith, few, number)

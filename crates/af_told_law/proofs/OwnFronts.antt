@@ -23,7 +23,7 @@ module _ (k : Shape) (old asked : ℕ) (slot : SlotEntry) (f : ℕ) (word : f �
   abbrev at : ℕ
   at = flush_position k.wrap slot.flush slot.rear
 
-  -- which answer it is
+  -- P holds of the answer if it holds of each answer that the look may give
   by_answer : (P : Seen → Type 0) → (is_noticed k (not (slot.flush == old)) slot.rear f ≡ true → P (seen.Flushed (dropped_by k.wrap slot.flush slot.rear f)))
       → (nat_lt k.frames (ahead f slot.rear) ≡ true → P (seen.Shut f slot.rear))
       → (nat_lt k.frames (ahead f slot.rear) ≡ false → slot.rear ≡ f → P seen.Empty)
@@ -51,7 +51,7 @@ module _ (k : Shape) (old asked : ℕ) (slot : SlotEntry) (f : ℕ) (word : f �
           ∙ ap (λ (b : Bool). if b then seen.Flushed (dropped_by k.wrap slot.flush slot.rear f) else if nat_lt k.frames (ahead f slot.rear) then seen.Shut f slot.rear else if slot.rear == f then seen.Empty else seen.Frames (min asked (ahead f slot.rear))) noticed
           ∙ (λ j. if is_out j then seen.Shut f slot.rear else if is_same j then seen.Empty else seen.Frames (min asked (ahead f slot.rear))))) (frames is_out)
 
-  -- a flush tells the front, but where it drops nothing by a position
+  -- a flush tells the front, unless it drops nothing by a position
   flush_tells : (not (k.wrap == 0) && (dropped_by k.wrap slot.flush slot.rear f == 0)) ≡ false → flushed_front k.wrap slot.flush slot.rear (dropped_by k.wrap slot.flush slot.rear f) ≡ f
   flush_tells closed = by_wrap (k.wrap == 0) closed
     where
@@ -71,7 +71,7 @@ module _ (k : Shape) (old asked : ℕ) (slot : SlotEntry) (f : ℕ) (word : f �
       by_wrap true e = back_to f slot.rear word
       by_wrap false e = by_some (past_front f at == 0) refl e
 
-  -- an answer that doesn't leave it open tells the front
+  -- an answer that doesn't leave the front open tells it
   pub front_tells : leaves_open k asked slot.seen ≡ false → front_by_answer k slot ≡ f
   front_tells = by_answer (λ (s : Seen). leaves_open k asked s ≡ false → front_by_answer k (record slot { seen = s }) ≡ f)
       (λ noticed closed. flush_tells closed)
@@ -79,7 +79,7 @@ module _ (k : Shape) (old asked : ℕ) (slot : SlotEntry) (f : ℕ) (word : f �
       (λ inside same closed. same)
       (λ inside closed. ap (behind slot.rear) (let ne = eqb-false (min asked (ahead f slot.rear)) asked closed in let m : min asked (ahead f slot.rear) ≡ ahead f slot.rear = omega (arith, ne) in m) ∙ back_to f slot.rear word)
 
-  -- and where it leaves it open the front lies in the block
+  -- if an answer leaves the front open, the front lies in the block
   pub open_inside : leaves_open k asked slot.seen ≡ true → nat_lt k.frames (ahead f slot.rear) ≡ false
   open_inside = by_answer (λ (s : Seen). leaves_open k asked s ≡ true → nat_lt k.frames (ahead f slot.rear) ≡ false)
       (λ noticed opens. fits (k.wrap == 0) (nat_lt k.frames (ahead f slot.rear)) (both (not (slot.flush == old)) _ noticed).1 (both (not (k.wrap == 0)) _ opens).0)
@@ -107,7 +107,7 @@ own_told asked s slot f answers own = by_open (leaves_open s.shape asked slot.se
 
 -- ## The events of a cycle
 
--- where each front that a cycle saw is its server's own, its events are those that a journal tells, and those of a lawful block
+-- if each front that a cycle saw is its server's own, its events are those that a journal tells, and those of a lawful block
 pub cycle_told : (asked : ℕ) (s : Listed) (slot : SlotEntry) (f : ℕ) → LooksBy asked s slot f → AllSeeOwn s.shape (kept s) (cycle_events asked s slot f)
     → (cycle_events asked s slot f ≡ cycle_events asked s slot (front_of asked s slot)) × (cycle_events asked s slot f ≡ cycle_events asked s slot (lawful_front asked s slot))
 cycle_told asked s slot f looks own = by_shut (kept s).shut looks.1 own

@@ -31,7 +31,7 @@ module _ (s : Session) (links : Links) (run : Run) (d : Deeds) (x : SessionState
   within : (i : ℕ) → i < track_count s → i < length x.normal.tracks
   within i low = let a = told.count.1 in let b = before.count in omega (arith, low, a, b)
 
-  -- ## It went on
+  -- ## A turn that went on
 
   module _ (runs : (turn_of n.entry).ended ≡ false) where
     goes : StreamsGo o x.normal n (turn_of n.entry)
@@ -49,7 +49,7 @@ module _ (s : Session) (links : Links) (run : Run) (d : Deeds) (x : SessionState
     did_went : (i : ℕ) → i < track_count s → TrackDid (did_by o x n d) i (track_turned s f run e i)
     did_went i low = track_did links s run x n o told before after legal runs f shown.finds (shown.hears runs) goes stands known shown.polled shown.pushed shown.later i (within i low)
 
-  -- ## It ended
+  -- ## A turn that ended
 
   module _ (ends : (turn_of n.entry).ended ≡ true) where
     stays : StreamsStay o x.normal n (turn_of n.entry)
@@ -64,12 +64,12 @@ module _ (s : Session) (links : Links) (run : Run) (d : Deeds) (x : SessionState
     did_over : (i : ℕ) → i < track_count s → TrackDid (did_by o x n d) i (track_turned s f run e i)
     did_over i low = track_over links s run x n o (outside_of (setup_of s) f e) told before legal ends stays lives stands.quiet i (within i low)
 
-  -- ## Either
+  -- ## Either turn
 
   parts_by : (b : Bool) → (turn_of n.entry).ended ≡ b → PartsTold s run d x n o f legal
   parts_by false runs = record { comers = comers_so; streams = stream_went runs; commands = (λ i t low is. commands_went runs i t is); did = did_went runs }
   parts_by true ends = record { comers = comers_so; streams = stream_over ends; commands = commands_over ends; did = did_over ends }
 
--- after each turn its parts are told
+-- after each turn the parts that a step of the run needs are told
 pub parts_told : (s : Session) → PartsAreTold s
 parts_told s links run d x n o f before after told stands legal made shown known lives = parts_by s links run d x n o f before after told stands legal made shown known lives (turn_of n.entry).ended refl

@@ -1,4 +1,4 @@
--- Where each look at the pipe saw the number of frames taken before, the look of a mix saw as many as its end has.
+-- If each look at the pipe saw the number of frames taken before, the look of a mix saw as many as its end has.
 use Rattle.std.proofs.Common.{List, [], ap, arith, length, refl, subst, sym, ℕ, ◌++◌, ◌+◌, ◌∙◌, ◌∷◌, ◌≡◌}
 use Rattle.af_base.specs.declared.event.ClientEvent.{ClientEvent}
 use Rattle.af_base.specs.declared.event.ClientEvent.TheVariants as client
@@ -28,7 +28,7 @@ seen_after taken (server.SetFlags bits ∷ es) more s = subst (λ (n : ℕ). See
 seen_after taken (server.SetStatus word ∷ es) more s = subst (λ (n : ℕ). SeesTaken n more) (let z : taken + frames_taken es ≡ taken + (0 + frames_taken es) = omega arith in z) (seen_after taken es more s)
 seen_after taken (server.Learn count ∷ es) more s = subst (λ (n : ℕ). SeesTaken n more) (let z : taken + frames_taken es ≡ taken + (0 + frames_taken es) = omega arith in z) (seen_after taken es more s)
 
--- the look of a mix at the pipe
+-- the front that the look of a mix saw at the pipe
 pub front_taken : (f g : MixerState) (slot : SlotEntry) → TookCounted f → SeesTaken 0 g.pipe.pass.part.events → (submix : SubmixSlot f.frames f.pipe.pass.part.events g.pipe.pass.part.events slot) → submix.front ≡ wrapped (length f.pipe.pass.part.frames)
 front_taken f g slot counted sees submix =
     let more : List ServerEvent = server.SawRear slot.rear ∷ server.SawFront submix.front ∷ takes_shown slot.seen in

@@ -1,4 +1,4 @@
--- A poll finds the last state pushed, where its observer had learnt of all pushes: so that it is told, with the meetings after it.
+-- A poll finds the last state pushed, if its observer had learnt of all pushes: so the poll is told, with the meetings after it.
 use Rattle.std.proofs.Common.{◌≡◌, ◌≢◌, ⊎_elim, ℕ, ◌+◌, ◌≤◌, ◌||◌, Bool, true, false, true≢false, if◌then◌else◌, List, [], ◌∷◌, ◌++◌, length, length-append, Option, Some, None, IfSome, refl, sym, ap, subst, ◌∙◌, append_assoc, arith}
 use Rattle.std.specs.List.{list_any}
 use Rattle.std.proofs.lemmas.Bool.{cases_eq, eq-eqb, eqb-true, false_from_ne_true}
@@ -46,7 +46,7 @@ Polled = List (ObserverEvent ServerState)
 
 -- ## What the mutator has seen acknowledged is all that was pushed
 
--- where the last push was seen acknowledged it is, and no other is due; one that is due isn't acknowledged
+-- if the last push was seen acknowledged it is, and no other is due; a push that is due isn't acknowledged
 record Calm (p : QueuePoint ServerState) : Type 0 where
   clear : p.mutator.clear ≡ true → (p.observer.acked ≡ p.mutator.pushed) × (p.observer.due ≡ 0)
   due : p.observer.due ≢ 0 → p.observer.acked ≢ p.mutator.pushed
@@ -139,7 +139,7 @@ module _ (links : Links) (x : SessionState) (g : MixerState) (y : SessionState) 
       ∙ append_assoc (o.events ++ observer.SawNext (o.number + 1) (Some z) came ∷ []) (observer.Ack (o.number + 1) back ∷ []) (observer.Learn (length m.events) ∷ [])
       ∙ append_assoc o.events (observer.SawNext (o.number + 1) (Some z) came ∷ []) (observer.Ack (o.number + 1) back ∷ observer.Learn (length m.events) ∷ [])
 
-  -- it had learnt of all pushes, where it took one
+  -- the observer had learnt of all pushes, if it took one
   has_learnt : p.number ≡ o.number + 1 → HasLearnt m.events o.events
   has_learnt one_more = ⊎_elim (λ (none : m.number ≡ 0). absurd (let f = few in omega (arith, f, none, one_more))) (λ (l : HasLearnt m.events o.events). l) step.knows
 

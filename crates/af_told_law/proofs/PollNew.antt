@@ -78,7 +78,7 @@ module _ (m : NormalState) (f g : MixerState) (x : FastState) (came back : List 
   at_stayed : (k : ℕ) → k < slots → has came k ≡ false → carries x k ≡ true → at g.observer.items k ≡ at f.observer.items k
   at_stayed k low none there = (settled k low).0 ∙ (λ j. if none j || not (there j) then at came k else at f.observer.items k)
 
-  -- one that was given back was held
+  -- an item that was given back was held
   at_given : (k : ℕ) → k < slots → carries x k ≡ false → at back k ≡ at f.observer.items k
   at_given k low off = (settled k low).1 ∙ ap (λ (b : Bool). if b then at f.observer.items k else at came k) (either_true (has came k) (not (carries x k)) (ap (λ (b : Bool). not b) off))
 
@@ -93,7 +93,7 @@ module _ (m : NormalState) (f g : MixerState) (x : FastState) (came back : List 
     slot_new : (k : ℕ) → slot_for x i ≡ Some k → slot ≡ k
     slot_new k found = let c = found_carries x i k found in ap (λ (j : ℕ). slot_number (track_at m.tracks j)) (sym (found_track x i k found)) ∙ (lead_new k c.0 c.1).1
 
-    -- it had the track, where its state carried the slot for it
+    -- the observer had the track, if its state carried the slot for it
     was_held : (k : ℕ) → k < slots → carries y k ≡ true → (slot_of y k).track ≡ i → (p : ServerState) → at f.observer.items k ≡ Some p → TellsServer b p
     was_held k low carried track p item = by_slot (slot_for y i) refl
       where
@@ -132,7 +132,7 @@ module _ (m : NormalState) (f g : MixerState) (x : FastState) (came back : List 
         let one : (slot_of y slot).track ≡ i = sym ((sound.drafted (slot_of y slot).track).own lead.0).0 ∙ ap (λ (k : ℕ). (slot_of m.mutator.draft k).track) lead.1 ∙ ((sound.drafted i).own away).0 in
         was_held slot low parts.0 one p (sym (at_given slot low (not-true (carries x slot) parts.1)) ∙ item)
 
-    -- where nothing comes back for its slot the observer hadn't it
+    -- if nothing comes back for a track's slot, the observer hadn't the track
     not_held : slot_for x i ≡ None → none_comes m g slot → (o : Option ℕ) → slot_for y i ≡ o → slot_for y i ≡ None
     not_held none comes None off = off
     not_held none comes (Some k) found = absurd (by_new (carries x k) refl)
@@ -210,6 +210,6 @@ module _ (links : Links) (s : Session) (run : Run) {d : Deeds} (x : SessionState
   by_poll Same before after was = by_same was.1
   by_poll (New number) before after was = by_new was.1.0 was.1.1
 
-  -- where it wasn't over
+  -- after the poll the run with it tells the session, if the mixer wasn't over
   pub polled_told : is_over x.fast ≡ false → Tells s (with_poll s g.observer.past.number run) d (record x { fast = g })
   polled_told on = let p = adopts.polls on in by_poll p.0 p.1 p.2 p.3

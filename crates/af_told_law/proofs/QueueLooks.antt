@@ -1,4 +1,4 @@
--- What a look at the acknowledgement brings, by the history of the queue, wherever it stands: the items given back with the last acknowledgement, where it saw that.
+-- What a look at the acknowledgement brings, by the history of the queue, wherever it stands: the items given back with the last acknowledgement, if it saw that.
 use Rattle.std.proofs.Common.{◌≡◌, ◌≢◌, ⊎_elim, ℕ, ◌+◌, ◌≤◌, ◌<◌, ◌==◌, ◌&&◌, not, Bool, true, false, true≢false, if◌then◌else◌, List, [], ◌∷◌, ◌++◌, length, length-append, get_or, Option, refl, sym, ap, subst, ◌∙◌, arith}
 use Rattle.std.proofs.lemmas.Bool.{cases_eq, eq-eqb, eqb-true, ne_eqb}
 use Rattle.af_base.specs.declared.state.FastState.{FastState}
@@ -48,7 +48,7 @@ after_parts p (x ∷ xs) ys = after_parts (next p x) xs ys
 
 -- ## What holds at each point
 
--- At most one push isn't acknowledged, and one that is due isn't yet; what was seen acknowledged is; and the items of the last push, and those given back with its acknowledgement, are those of the slots that are new in it, and that went off with it
+-- At most one push isn't acknowledged, and a push that is due isn't yet; what was seen acknowledged is; and the items of the last push, and those given back with its acknowledgement, are those of the slots that are new in it, and that went off with it
 pub record IsSane (p : Point) : Type 0 where
   pub low : p.observer.acked ≤ p.mutator.pushed
   pub level : p.mutator.pushed ≤ p.observer.acked + 1
@@ -113,7 +113,7 @@ sane_start first = record { low = omega arith; level = omega arith; due = (λ ne
 
 -- ## Acknowledgements
 
--- they are never taken back, and each gives other items
+-- acknowledgements are never taken back, and each gives other items
 record Grown (p q : Point) : Type 0 where
   few : p.observer.acked ≤ q.observer.acked
   same : q.observer.acked ≡ p.observer.acked → q.observer.given ≡ p.observer.given
@@ -141,7 +141,7 @@ grown_after p (e ∷ es) h l =
 -- ## Histories
 
 module _ (first : FastState) (ms : List (MutatorEvent ServerState)) (os : List (ObserverEvent ServerState)) where
-  -- what the two lists leave
+  -- the point that the two lists leave
   abbrev pub point_of : Point
   point_of = record { mutator = mutated first ms; observer = observed os }
 
@@ -150,7 +150,7 @@ module _ (first : FastState) (ms : List (MutatorEvent ServerState)) (os : List (
       (λ j. record { mutator = (after_ones (start first) h.order ∙ ap (mutated first) h.of_one) j; observer = (after_twos (start first) h.order ∙ ap observed h.of_two) j })
       (sane_after (start first) h.order (sane_start first) h.is_legal)
 
-  -- Of a look that saw the number a, after the events ms: no more was seen than the observer acknowledged. Where that was all, it brought what was given back with it; where it wasn't the last push it brought nothing, and nothing later was seen before
+  -- Of a look that saw the number a, after the events ms: no more was seen than the observer acknowledged. If that was all, the look brought what was given back with it; if it wasn't the last push, the look brought nothing, and nothing later was seen before
   pub record Looked (a : ℕ) (items : List (Option ServerState)) : Type 0 where
     pub few : a ≤ (observed os).acked
     pub brings : a ≡ (observed os).acked → items ≡ (if not (mutated first ms).clear && (a == (mutated first ms).pushed) then (observed os).given else [])

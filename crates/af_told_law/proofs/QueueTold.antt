@@ -33,7 +33,7 @@ module _ (first : FastState) (events : List (MutatorEvent ServerState)) (n : ℕ
   shown_told push e = let t = shown_then push e in
       (ap (λ (p : MutatorPoint ServerState). p.items) (told_then push) ∙ t.0, ap (λ (p : MutatorPoint ServerState). p.clear) (told_then push) ∙ t.1)
 
-  -- else the items are those of the last push
+  -- if nothing was pushed, the items are those of the last push
   still_then : (push : Push) → is_pushed push ≡ false → (fold mutator_next (mutator_next (mutated first events) (mutator.SawAck n back)) (push_list m push again sent)).items ≡ (mutated first events).items
   still_then (Pushed number) e = absurd (true≢false e)
   still_then Clean e = refl
@@ -42,7 +42,7 @@ module _ (first : FastState) (events : List (MutatorEvent ServerState)) (n : ℕ
   pub still_told : (push : Push) → is_pushed push ≡ false → (mutated first (events ++ mutator.SawAck n back ∷ push_list m push again sent)).items ≡ (mutated first events).items
   still_told push e = ap (λ (p : MutatorPoint ServerState). p.items) (told_then push) ∙ still_then push e
 
-  -- and it is clear where the look saw its number
+  -- if nothing was pushed, the last push is clear if the look saw its number
   clear_then : (push : Push) (ack : Bool) → is_pushed push ≡ false → (n == (mutated first events).pushed) ≡ ack → (is_busy push ≡ true → (m.pushed - 1 == (mutated first events).pushed) ≡ ack)
       → (fold mutator_next (mutator_next (mutated first events) (mutator.SawAck n back)) (push_list m push again sent)).clear ≡ ack
   clear_then (Pushed number) ack e saw busy = absurd (true≢false e)

@@ -103,26 +103,26 @@ module _ (s : Session) (run : Run) {d : Deeds} (x : SessionState) (n : NormalSta
   entries_many : length x.fast.log.entries ≡ length run.entries
   entries_many = ap (λ (es : List CycleEntry). length es) told.fast.entries
 
-  -- its cycle is the number of entries, and so is that of the load
+  -- the cycle of the last report is the number of entries, and so is that of the report loaded
   pub cycle_is : loaded.cycle ≡ length run.entries
   cycle_is = ap (λ (r : Report). r.cycle) seen.1 ∙ together.fast.0.reports.number ∙ entries_many
 
   pub number_is : k ≡ length run.entries
   number_is = seen.0 ∙ together.fast.0.reports.many ∙ entries_many
 
-  -- and it is the one that the run tells
+  -- the report loaded is the one that the run tells
   pub loaded_is : loaded ≡ report_of run.reports (length run.entries)
   loaded_is =
       let long : length run.reports ≡ length run.entries = ap (λ (l : List Report). length l) (sym told.fast.reports) ∙ stored_long ws ∙ together.fast.0.reports.many ∙ entries_many in
       seen.1 ∙ sym (last_stored ws no_report) ∙ ap (λ (l : List Report). last_report l) told.fast.reports ∙ sym (last_told run.reports) ∙ ap (report_of run.reports) long
 
-  -- by the number that a turn with this cycle finds
+  -- the report loaded has the number that a turn with this cycle finds
   loaded_found : (cycle : ℕ) → cycle ≡ loaded.cycle → loaded ≡ report_of run.reports (min (max (length run.entries) cycle) (length run.entries + most_cycles))
   loaded_found cycle is =
       let same : min (max (length run.entries) cycle) (length run.entries + 16) ≡ length run.entries = (let c = cycle_is in let e : cycle ≡ length run.entries = is ∙ c in omega (arith, e)) in
       loaded_is ∙ ap (report_of run.reports) (sym same)
 
-  -- so the same is heard by both
+  -- the same is heard by the report loaded and by the one that the run tells
   pub heard_found : (tracks : List TrackKept) (cycle : ℕ) → cycle ≡ loaded.cycle → HeardAlike tracks loaded (report_of run.reports (min (max (length run.entries) cycle) (length run.entries + most_cycles)))
   heard_found tracks cycle is =
       let same : loaded ≡ report_of run.reports (min (max (length run.entries) cycle) (length run.entries + most_cycles)) = loaded_found cycle is in

@@ -41,7 +41,7 @@ twos_append [] ys = refl
 twos_append (one a ∷ xs) ys = twos_append xs ys
 twos_append {A} {B} (two b ∷ xs) ys = ap (λ (l : List B). b ∷ l) (twos_append xs ys)
 
--- events of the second party alone
+-- an event of the second party alone
 abbrev pub of_two : (A : Type 0) {B : Type 0} → B → Event A B
 of_two A e = two e
 

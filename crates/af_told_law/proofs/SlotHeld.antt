@@ -1,4 +1,4 @@
--- The observer holds a track's proxy, as the run tells it, where a slot of its state carries it.
+-- The observer holds a track's proxy, as the run tells it, if a slot of its state carries it.
 use Rattle.std.proofs.Common.{◌≡◌, ◌⊎◌, inl, inr, ℕ, zero, suc, ◌+◌, ◌<◌, ◌==◌, ◌||◌, Bool, true, false, true≢false, if◌then◌else◌, is_some, List, [], ◌∷◌, ◌++◌, Option, Some, None, refl, sym, ap, ◌∙◌, arith}
 use Rattle.std.specs.List.{list_any, range_with_len}
 use Rattle.std.proofs.lemmas.Bool.{and_from, and_parts, cases_eq, eq-eqb, eqb-true}
@@ -44,7 +44,7 @@ module _ (x : FastState) (track : ℕ) where
   found_below zero k is = absurd (none-some k is)
   found_below (suc n) k is = by_last n k (slot_below x track n) (is_slot_of x track n) refl refl is (found_below n)
 
-  -- the slot carries it
+  -- the slot that is found carries a track
   pub found_carries : (k : ℕ) → slot_for x track ≡ Some k → (k < slots) × (carries x k ≡ true)
   unfolding slot_for
   found_carries k is = let f = found_below slots k is in (f.0, (and_parts (carries x k) ((slot_of x k).track == track) f.1).0)
@@ -59,7 +59,7 @@ module _ (x : FastState) (track : ℕ) where
       by_parts None false found here off (inl e) before = true≢false (sym is ∙ ap (is_slot_of x track) e ∙ here)
       by_parts None false found here off (inr ne) before = before found (omega (arith, low, ne))
 
-  -- where none is found no slot carries it
+  -- if no slot is found, none carries the track
   pub none_carries : (k : ℕ) → slot_for x track ≡ None → k < slots → carries x k ≡ true → (slot_of x k).track ≡ track → ⊥
   unfolding slot_for
   none_carries k none low is one = not_below slots k none low (and_from (carries x k) ((slot_of x k).track == track) is (eq-eqb (slot_of x k).track track one))

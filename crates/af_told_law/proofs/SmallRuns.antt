@@ -97,7 +97,7 @@ module _ (script : ScriptData) (files : List (List Frame)) (shared : SharedState
       let spec_is : at_place.spec ≡ spec_of here i = sym (get_or_from_slice_get script.tracks i at_place.spec no_spec at_place.spec_at) in
       (subst (λ (spec : TrackSpec). spec.frames ≤ 65536) spec_is at_place.new.stream_line.sound.few, omega arith)
 
-  -- that of a new session
+  -- the first run of a new session is small
   pub new_small : IsSmallRun (new_run here)
   new_small n low =
       let below : n < track_count here = (let l = length-map-range_with_len (new_track here) 0 (track_count here) in omega (arith, low, l)) in

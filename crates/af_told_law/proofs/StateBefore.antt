@@ -11,7 +11,7 @@ use Rattle.af_server.specs.Order.{ServerState}
 use Rattle.af_stateq.specs.Laws.{pushed_states}
 
 module _ (frames : ℕ) where
-  -- a point has the last of these states, and the one before it
+  -- a point of the mutator has the last of these states, and the one before it
   record Has (p : MutatorPoint ServerState) (states : List FastState) : Type 0 where
     last : p.last ≡ state_at frames states (length states)
     before : 0 < length states → p.before ≡ state_at frames states (length states - 1)

@@ -31,7 +31,7 @@ use Rattle.af_told_law.proofs.AllMeet.{some_at}
 use Rattle.af_told_law.proofs.ClientTold.{did_same}
 use Rattle.af_told_law.specs.Deeds.{DeedTold, Deeds, ServerDone, TrackDid, commands_by, deeds_turned, done_on, stream_by}
 
--- of tracks that are all done with each is home
+-- if all tracks are done with, each is home
 done_home : (tracks : List TrackKept) (i : ℕ) → AllByRecursion IsDone tracks → is_home (track_at tracks i).holder ≡ true
 done_home [] i done = refl
 done_home (s ∷ tracks) zero done = done.0.home
@@ -73,7 +73,7 @@ module _ (links : Links) (s : Session) (run : Run) {d : Deeds} (x : SessionState
   pub all_home : (i : ℕ) → is_home (track_at n.tracks i).holder ≡ true
   all_home i = ap (λ (ts : List TrackKept). is_home (track_at ts i).holder) stays.tracks ∙ done_home x.normal.tracks i (quiet.over (quiet.rests exit).1)
 
-  -- and the servers did nothing
+  -- the servers did nothing in the turn
   stream_none : (i : ℕ) → d.streams i ++ stream_by c k o e i ≡ d.streams i
   stream_none i =
       let none : stream_by c k o e i ≡ [] = ap (λ (b : Bool). if b then [] else (if is_home (track_at (tracks_at c (learnt o) k e i) i).holder then invalid (learnt o) (track_in e i) (tracks_at c (learnt o) k e i) i else []) ++ mix_events c o e.mixes i) ends in

@@ -76,7 +76,7 @@ module _ (links : Links) (s : Session) (run : Run) {deeds : Deeds} (x : SessionS
   abbrev block : ℕ → BlockTold
   block i = stream_turned (setup_of s) seen_by run.normal e i (was i)
 
-  -- what its proxy did before the turn, and after it
+  -- what the proxy of a track did before the turn, and after it
   abbrev did : ℕ → ServerDone
   did i = done_on (was i) (deeds.streams i)
 
@@ -94,7 +94,7 @@ module _ (links : Links) (s : Session) (run : Run) {deeds : Deeds} (x : SessionS
 
   -- ## The proxies that are home in the turn
 
-  -- the frames of one that goes on from where it was home
+  -- the frames of a proxy that goes on from where it was home
   frames_told : (i : ℕ) (t : ServerState) → i < length k.tracks → is_home (track_at (after_ack e.ack k).tracks i).holder ≡ true → ComesFrom o goes.back x.normal e i t → t.pass.part.frames ≡ (was i).taken ++ words_by e i
   frames_told i t low home from = from.does.took ∙ ap (λ (ws : List ℕ). ws ++ words_by e i) (home_told links x n o legal runs goes before stands c d later s run told i from.before low from.was home).taken
 
@@ -113,7 +113,7 @@ module _ (links : Links) (s : Session) (run : Run) {deeds : Deeds} (x : SessionS
       (lent.comes.does.list ∙ ap (λ (l : Listed). l.events ++ events_by o x.normal e i) (sym list), lent.comes.does.shape ∙ ap (λ (l : Listed). l.shape) (sym list)) in
       turned_stream links s run x n o told before legal runs f finds report comers i lent.item low home goes_on (frames_told i lent.item low home lent.comes)
 
-  -- ## One that was lent
+  -- ## A proxy that was lent
 
   module _ (i : ℕ) (low : i < length x.normal.tracks) (enters : must_enter (track_at (served_tracks (mixer_setup x.normal) (learnt o) k e) i) ≡ true) where
     lent : IsLentBy o goes.back goes.sent x.normal n e i
@@ -145,7 +145,7 @@ module _ (links : Links) (s : Session) (run : Run) {deeds : Deeds} (x : SessionS
       back = (λ _ none p here. absurd (none-some p (sym lent.returned ∙ here)));
     }
 
-  -- ## One that stays away
+  -- ## A proxy that stays away
 
   module _ (i : ℕ) (low : i < length x.normal.tracks) (gone : is_home (track_at n.tracks i).holder ≡ false) (stays : StaysAway o goes.back goes.again goes.sent x.normal n e i) where
     abbrev slot : ℕ
@@ -154,7 +154,7 @@ module _ (links : Links) (s : Session) (run : Run) {deeds : Deeds} (x : SessionS
     slot_low : slot_in n i < slots
     slot_low = (away_slot (kept_of n) after.normal.tied.sound i gone).1
 
-    -- the turn tells nothing of it
+    -- the turn tells nothing of a proxy that stays away
     same : did i ≡ does i
     same = λ j. record {
       shape = (was i).shape;
@@ -170,7 +170,7 @@ module _ (links : Links) (s : Session) (run : Run) {deeds : Deeds} (x : SessionS
     so p h = subst (λ (k : ServerDone). TellsServer k p) same h
 
     module _ (off : held_slot x.fast i ≡ None) where
-      -- what waited
+      -- what waited tells its block
       waited : (e.ack ≡ true) ⊎ (is_pushed e.push ≡ true) → (p : ServerState) → at x.normal.mutator.pending (slot_in n i) ≡ Some p → TellsServer (does i) p
       waited either p here = so p (old.waits off (waiting_none x n o legal runs goes before.fast.0 stands.step stands.history c d later either slot slot_low (ap is_some here)) p here)
 
@@ -178,7 +178,7 @@ module _ (links : Links) (s : Session) (run : Run) {deeds : Deeds} (x : SessionS
       sent_so true is going p here = waited (inr is) p (stays.went is p (ap (λ (items : List (Option ServerState)). at items slot) (sym (goes.queue.sent_items is).0) ∙ here))
       sent_so false none going p here = so p (old.goes off (going_before links x n o legal runs goes before after stands c d later none going) p (ap (λ (items : List (Option ServerState)). at items slot) (sym (goes.queue.same_items none)) ∙ here))
 
-      -- where neither the last state was seen acknowledged nor one was pushed, what comes is as before
+      -- if neither the last state was seen acknowledged nor one was pushed, what comes is as before
       none_before : is_pushed e.push ≡ false → e.ack ≡ false → none_comes n x.fast (slot_in n i) → none_comes x.normal x.fast (slot_in n i)
       none_before none ack comes coming = comes (coming_now links x n o legal runs goes before after stands c d later none ack coming)
 
@@ -233,12 +233,12 @@ module _ (links : Links) (s : Session) (run : Run) {deeds : Deeds} (x : SessionS
     hand = turned_hand links s run x n o told before legal runs f finds report comers i low;
   }
 
-  -- and its command proxy
+  -- after the turn the run with it tells the command proxy of each track
   pub commands_told : (i : ℕ) (t : ServerState) → slice_get n.commands i ≡ Some t → TellsCommands (turned_track (setup_of s) seen_by run.normal e i (told_at run i)).commands (deeds.commands i ++ commands_by (mixer_setup x.normal) k o e i) t
   commands_told i t is =
       let low : i < length x.normal.tracks = (let w = slice_get_within n.commands i t is in let many = after.normal.tied.sizes.commands_are in let same = same_count in omega (arith, w, many, same)) in
       turned_commands links s run x n o told before legal runs f finds report comers i t low is
 
-  -- and what both did
+  -- after the turn the run with it tells what both proxies of a track did
   pub track_did : (i : ℕ) → i < length x.normal.tracks → TrackDid (deeds_turned (mixer_setup x.normal) k o e deeds) i (turned_track (setup_of s) seen_by run.normal e i (told_at run i))
   track_did i low = record { stream = stream_did links s run x n o told before legal runs f finds report comers i low; commands = commands_did links s run x n o told before legal runs f finds report comers i low }

@@ -22,7 +22,7 @@ range_rises : (from count : ℕ) → Rise from (range_with_len from count)
 range_rises from zero = tt
 range_rises from (suc count) = (omega arith, range_rises (from + 1) count)
 
--- what a test leaves of them
+-- what a test leaves of rising numbers rises
 module _ (test : ℕ → Bool) where
   kept_rise : (low n : ℕ) (ns : List ℕ) (b : Bool) → low ≤ n → Rise (n + 1) ns → Rise low (cond b (n ∷ ns) ns)
   kept_rise low n ns true le rise = (le, rise)

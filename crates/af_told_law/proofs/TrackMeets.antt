@@ -39,7 +39,7 @@ use Rattle.af_runs.specs.Kept.{client_of}
 use Rattle.af_base.specs.declared.event.ServerEvent.{ServerEvent}
 use Rattle.af_told_law.specs.Deeds.{DeedTold, Deeds, ServerDone, deeds_met, done_on, met_deed}
 
--- one that is there and tells the block
+-- a proxy that is there and tells the block
 pub there_is : (b : ServerDone) (o : Option ServerState) (t : ServerState) → o ≡ Some t → TellsServer b t → IfThere b o
 there_is b o t is told = λ s found. subst (TellsServer b) (same_Some t s (sym is ∙ found)) told
 
@@ -99,7 +99,7 @@ module _ (a b : SessionState) (m : Met a b) where
       back = (λ off comes. subst (λ (o : Option ServerState). IfThere did o) (sym (ap (λ (n : NormalState). at n.mutator.returned k) m.ends.normal)) (h.back none (none_came comes)));
     }
 
-    -- one that is held is told where it is held
+    -- a proxy that is held is told where it is held
     held_met : (j : ℕ) (t : ServerState) → slot_for polled i ≡ Some j → item_at b.fast.observer.items (slot_for polled i) ≡ Some t → TellsServer did t → TellsAway b.normal b.fast i k did
     held_met j t some is told_so = record {
       held = there_is did (item_at b.fast.observer.items (held_slot b.fast i)) t (ap (item_at b.fast.observer.items) (held_is i) ∙ is) told_so;
@@ -125,7 +125,7 @@ module _ (s : Session) (run : Run) {d : Deeds} (links : Links) (a b : SessionSta
   abbrev stream_told : BlockTold
   stream_told = (told_at run i).stream
 
-  -- what its proxy did before the meetings, and after them where it takes part
+  -- what a stream's proxy did before the meetings, and after them if it takes part
   abbrev deed : List ServerEvent
   deed = d.streams i
 
@@ -151,7 +151,7 @@ module _ (s : Session) (run : Run) {d : Deeds} (links : Links) (a b : SessionSta
     pub handed : is_some (slice_get b.normal.hands i) ≡ run.handed
     pub history : deed ≡ server_list stream_told → takes_part s run i ≡ true → is_lawful (client_list after) ≡ true → HasBlockHistory after
 
-  -- by whether the proxy takes part, and whether there are hands
+  -- a stream meets, by whether the proxy takes part, and whether there are hands
   abbrev Meeting : Bool → Bool → ClientState → Type 0
   Meeting part there c = StreamMet (stream_met part there stream_told) (deed_after part) c
 
@@ -175,7 +175,7 @@ module _ (s : Session) (run : Run) {d : Deeds} (links : Links) (a b : SessionSta
           let w = (together.normal.hands (omega (arith, some))).whole in let l = inside in let past = none_past a.normal.hands i none in absurd (omega (arith, w, l, past))
 
   module _ (c e : ClientState) (side : side_of stream_told ≡ side_of_proxy c) (told : TellsStream a.normal a.fast i stream_told deed) (did : DeedTold stream_told deed) where
-    -- at home
+    -- a stream meets whose proxy is at home
     by_home : (p : ServerState) (o o' : Option HandSide) → stream_at a.normal.streams i ≡ Some p → slice_get a.normal.hands i ≡ o → slice_get b.normal.hands i ≡ o' → MeetsStream (client_made c.pass) (Some p) o c (stream_at b.normal.streams i) o' e
         → Meeting (takes_part s run i) run.handed e
     by_home p None o' is none now met =
@@ -218,7 +218,7 @@ module _ (s : Session) (run : Run) {d : Deeds} (links : Links) (a b : SessionSta
       as_now : (after : ServerDone) → TellsAway b.normal b.fast i (slot_number (track_at a.normal.tracks i)) after → TellsAway b.normal b.fast i (slot_number (track_at b.normal.tracks i)) after
       as_now after = subst (λ (ts : List TrackKept). TellsAway b.normal b.fast i (slot_number (track_at ts i)) after) (sym (tracks_are a b m))
 
-      -- held by the observer
+      -- a stream meets whose proxy the observer holds
       by_held : (j : ℕ) (o : Option ServerState) → slot_for (polled a b m) i ≡ Some j → item_at a.fast.observer.items (slot_for (polled a b m) i) ≡ o
           → MeetsAway (client_made c.pass) o g c (item_at b.fast.observer.items (slot_for (polled a b m) i)) g' e → Meeting (takes_part s run i) run.handed e
       by_held j None found item met =
@@ -238,7 +238,7 @@ module _ (s : Session) (run : Run) {d : Deeds} (links : Links) (a b : SessionSta
             history = (λ list part lawful. all_history stream_told deed did c e p met.0 g g' side mine hand_so met.2 list lawful);
           })
 
-      -- on its way
+      -- a stream meets whose proxy is on its way
       by_way : slot_for (polled a b m) i ≡ None → MeetsFlag (client_made c.pass) c e g g' → Meeting (takes_part s run i) run.handed e
       by_way none met =
           let part : takes_part s run i ≡ false = part_is ∙ (λ k. home_is None is k || is_some (none k)) in

@@ -38,7 +38,7 @@ module _ (k l : Learnt) (i : ℕ) (s : TrackKept) (elsewhere : is_home s.holder 
       by_home true is = ap (λ (h : Heard). heard_at_home h s) (own is)
       by_home false is = ap (λ (r : SlotReport). heard_elsewhere r s) (elsewhere is)
 
-  -- and the same of it is noted
+  -- of a proxy the same is noted
   noted_same : noted (slot_reported k s) s ≡ noted (slot_reported l s) s
   unfolding noted
   noted_same = by_home (is_home s.holder) refl
@@ -142,15 +142,15 @@ module _ (c : Setup) (k l : Learnt) (m : NormalKept) (e : Turn) (sound : IsSound
   abbrev acked : NormalKept
   acked = after_ack e.ack m
 
-  -- the tracks once those before the track i were served
+  -- the tracks are the same once those before the track i were served
   pub tracks_same : (i : ℕ) → tracks_at c k m e i ≡ tracks_at c l m e i
   tracks_same i = served_to_same c k l e.tracks acked.tracks i alike
 
-  -- the tracks once all were served
+  -- the tracks are the same once all were served
   pub after_tracks_same : after_tracks c k e acked ≡ after_tracks c l e acked
   after_tracks_same = ap (λ (ts : List TrackKept). record acked { tracks = ts }) (tracks_same (length acked.tracks))
 
-  -- the mixer once its draft was edited
+  -- the mixer is the same once its draft was edited
   pub after_edits_same : after_edits c k e m ≡ after_edits c l e m
   after_edits_same = mutated_same c k l e.room (after_tracks c k e acked) alike_then ∙ ap (mutated c l e.room) after_tracks_same
     where
@@ -158,7 +158,7 @@ module _ (c : Setup) (k l : Learnt) (m : NormalKept) (e : Turn) (sound : IsSound
       alike_then i low home = alike.own i (let long : length (after_tracks c k e acked).tracks ≡ length acked.tracks = served_len c k e.tracks acked.tracks (length acked.tracks) in omega (arith, low, long))
           (ap is_home (sym (served_holder c k e.tracks acked.draft acked.tracks (length acked.tracks) i (sound_acked e.ack m sound))) ∙ home)
 
-  -- what the turn leaves
+  -- the turn leaves the same
   pub turn_same : turn_after c k m e ≡ turn_after c l m e
   unfolding turn_after
   turn_same = ap (λ (n : NormalKept). if e.ended then record m { ended = true } else after_takes c e.mixes (after_push e.push n)) after_edits_same
@@ -167,11 +167,11 @@ module _ (c : Setup) (k l : Learnt) (m : NormalKept) (e : Turn) (sound : IsSound
   at_home : (i : ℕ) → i < length m.tracks → is_home (track_at (tracks_at c k m e i) i).holder ≡ true → k.own i ≡ l.own i
   at_home i low home = alike.own i (let long : length acked.tracks ≡ length m.tracks = acked_len e.ack m in omega (arith, low, long)) (sym (ap (λ (s : TrackKept). is_home s.holder) (not_yet c k e.tracks acked.tracks i i (omega arith))) ∙ home)
 
-  -- and of one that isn't home the same is reported
+  -- of a proxy that isn't home when its track is served the same is reported
   reported_then : (i : ℕ) → i < length m.tracks → is_home (track_at (tracks_at c k m e i) i).holder ≡ false → slot_reported k (track_at (tracks_at c k m e i) i) ≡ slot_reported l (track_at (tracks_at c k m e i) i)
   reported_then i low = reported_yet c k l e.tracks acked.tracks i alike (let long : length acked.tracks ≡ length m.tracks = acked_len e.ack m in omega (arith, low, long))
 
-  -- what is heard of a track in its part of the turn
+  -- the same is heard of a track in its part of the turn
   pub heard_then_same : (i : ℕ) → i < length m.tracks → heard k i (track_at (tracks_at c k m e i) i) ≡ heard l i (track_at (tracks_at c l m e i) i)
   heard_then_same i low = heard_same k l i (track_at (tracks_at c k m e i) i) (reported_then i low) (at_home i low) ∙ ap (λ (ts : List TrackKept). heard l i (track_at ts i)) (tracks_same i)
 
@@ -184,7 +184,7 @@ known_alike s t h =
     ap (λ (k : Shape). known_by (record { shape = k; events = s.events })) h.shape
     ∙ ap (λ (k : ServerKept). heard_with (min 9223372036854775807 k.consumed) (flushes_by t.shape.wrap k.noticed) (is_some k.shut) no_counts) h.alike.kept
 
--- alike outsides are learnt alike
+-- what is learnt by alike outsides is alike
 pub learn_alike : (m : NormalKept) (e : Turn) (o p : Outside) → AreAlike m e o p → LearnAlike (after_ack e.ack m).tracks (learnt o) (learnt p)
 learn_alike m e o p alike = record {
   report = alike.report;

@@ -55,7 +55,7 @@ done (Turned mixed pushed) x y (by, is_mixed) =
     ∙ ap (λ (m : NormalState). m.turns) rest.learns.same
     ∙ acked by.ack x by.goes_on.home by.goes_on.sees
 
--- the whole turn
+-- the whole turn counts one turn more
 pub turns_made : (answer : Answer) (x y : NormalState) → TurnMade answer x y → y.turns ≡ x.turns + 1
 turns_made answer x y made = done answer made.handed y made.does ∙ first (length made.begun.hands == 0) made.hands ∙ ap (λ (m : NormalState). m.turns) made.begins.same
   where

@@ -1,4 +1,4 @@
--- Where each front that a server saw in a turn of the normal mixer is its own, the fronts of its looks are those told, by the rule of a journal and by that of a lawful block.
+-- If each front that a server saw in a turn of the normal mixer is its own, the fronts of its looks are those told, by the rule of a journal and by that of a lawful block.
 use Rattle.std.proofs.Common.{◌≡◌, inl, inr, ℕ, ◌==◌, ◌&&◌, not, Bool, true, false, true≢false, if◌then◌else◌, is_some, fold, List, [], ◌∷◌, ◌++◌, Option, Some, None, refl, sym, ap, ◌∙◌, subst, eqb-true}
 use Rattle.std.specs.Prelude.{MatchOption}
 use Rattle.std.specs.List.{AllByRecursion, flat_map}
@@ -29,13 +29,13 @@ use Rattle.af_told_law.specs.Deeds.{SawOwnOf}
 
 -- ## One look
 
--- where the answer doesn't leave the front open, both rules tell the same
+-- if the answer doesn't leave the front open, both rules tell the same
 closed_told : (asked : ℕ) (s : Listed) (slot : SlotEntry) → leaves_open s.shape asked slot.seen ≡ false → front_of asked s slot ≡ lawful_front asked s slot
 closed_told asked s slot closed =
     ap (λ (b : Bool). if b && is_own_inside s slot.rear then own_front s.shape (kept s) else front_by_answer s.shape slot) closed
     ∙ sym (ap (λ (b : Bool). if b then own_front s.shape (kept s) else front_by_answer s.shape slot) closed)
 
--- a look that saw its server's own front, where it was made, saw the one told
+-- a look that saw its server's own front, if it was made, saw the one told
 pub look_told : (asked : ℕ) (s : Listed) (slot : SlotEntry) (f : ℕ) → LooksBy asked s slot f → (is_some (kept s).shut ≡ false → f ≡ own_front s.shape (kept s))
     → SameFront s f (front_of asked s slot) × (front_of asked s slot ≡ lawful_front asked s slot)
 look_told asked s slot f looks own = by_shut (kept s).shut own looks.1
@@ -102,7 +102,7 @@ taken_looks c o i (take ∷ takes) legal = by_track (take.track == i) refl (take
 -- ## The proxies after the turn
 
 module _ (c : Setup) (o : Outside) (e : Turn) (tracks : List TrackKept) (i : ℕ) (runs : e.ended ≡ false) where
-  -- of a stream that is home, or was lent
+  -- the front of a stream that is home, or was lent, is told
   pub stream_told : SawOwnOf (o.streams i).shape ((o.streams i).events ++ stream_list c o e tracks i) → AllByRecursion (LegalTake c o) e.mixes → TakeTold c (o.streams i) (o.stream_front i) (takes_from e.mixes i)
   stream_told own legal =
       let s : Listed = o.streams i in
@@ -120,7 +120,7 @@ module _ (c : Setup) (o : Outside) (e : Turn) (tracks : List TrackKept) (i : ℕ
       flags_keep shape now true false = refl
       flags_keep shape now false b = refl
 
-  -- of a command block
+  -- the fronts of the looks at a command block are told
   pub commands_told : SawOwnOf (o.commands i).shape ((o.commands i).events ++ command_list c o e tracks i) → LegalLooks (o.commands i) (track_in e i).looks (o.command_fronts i) → LooksTold (o.commands i) (track_in e i).looks (o.command_fronts i)
   commands_told own legal =
       let s : Listed = o.commands i in

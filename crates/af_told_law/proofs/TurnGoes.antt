@@ -62,7 +62,7 @@ one_load n m a b e = cc
 first_look : (n : ℕ) (a b : List (Option ServerState)) (xs ys : List (MutatorEvent ServerState)) → mutator.SawAck n a ∷ xs ≡ mutator.SawAck n b ∷ ys → (a ≡ b) × (xs ≡ ys)
 first_look n a b xs ys e = (cc, cc)
 
--- a push that is told in one way sends the same items
+-- two pushes with equal lists send the same items
 same_sent : (push : Push) (m : NormalKept) (a b s t pending : List (Option ServerState)) → push_list m push a s ≡ push_list m push b t → in_queue push s pending ≡ in_queue push t pending
 same_sent Clean m a b s t pending e = refl
 same_sent (Busy seen expected) m a b s t pending e = refl
@@ -216,7 +216,7 @@ module _ (links : Links) (x b h : NormalState) (order : IsInOrder links x) (begi
     none_by : (i : ℕ) → takes_from told.mixes i ≡ [] → words_by told i ≡ []
     none_by i e = ap (λ (takes : List TakeSeen). map packed_word (flat_map (λ take. take.frames) takes)) e
 
-    -- ## One that was lent
+    -- ## A proxy that was lent
 
     lent_so : (i : ℕ) → enters_by o x told i → IsLentBy o back sent x y told i
     lent_so i due =
@@ -240,7 +240,7 @@ module _ (links : Links) (x b h : NormalState) (order : IsInOrder links x) (begi
           before = (λ e. ap (λ (m : Mutates ServerState StreamNames). carries m.past.before (slot_in y i)) (sym mutator_h) ∙ ap (carries h.mutator.past.before) (sym slot) ∙ free.1 e);
         }
 
-    -- ## One that stays away
+    -- ## A proxy that stays away
 
     away_so : (i : ℕ) → is_home (track_at y.tracks i).holder ≡ false → rests_by o x told i → StaysAway o back again sent x y told i
     away_so i away due =
@@ -282,7 +282,7 @@ module _ (links : Links) (x b h : NormalState) (order : IsInOrder links x) (begi
     told_y : told_by y ≡ mutated x.mutator.past.first (x.mutator.past.events ++ mutator.SawAck (number_seen (kept_of x) ack) back ∷ push_list (kept_of z) push again sent)
     told_y = λ j. mutated (first_y j) (events_y j)
 
-    -- the look saw the last number where it says so, as there is a push before where it doesn't
+    -- the look saw the last number if it says so, as there is a push before if it doesn't
     saw_number : (ack ≡ false → 0 < x.mutator.past.number) → (told_by x).pushed ≡ x.mutator.past.number → (d : Bool) → ack ≡ d → (number_seen (kept_of x) d == (told_by x).pushed) ≡ d
     saw_number some number true e = eq-eqb x.mutator.past.number (told_by x).pushed (sym number)
     saw_number some number false e = let l = some e in ne_eqb (x.mutator.past.number - 1) (told_by x).pushed (λ f. let n : x.mutator.past.number - 1 ≡ x.mutator.past.number = f ∙ number in omega arith)
@@ -361,7 +361,7 @@ module _ (links : Links) (x b h : NormalState) (order : IsInOrder links x) (begi
           (ap (λ (p : Past ServerState StreamNames). p.clear) (sym past_z) ∙ of.0, again_pushed k some (is_pushed push) refl, ap (λ (p : Past ServerState StreamNames). carries p.before k) (sym past_z) ∙ of.1));
     }
 
-    -- all of it
+    -- where each stream proxy lies after the turn
     pub goes : (ack ≡ false → 0 < x.mutator.past.number) → StreamsGo o x y told
     goes some = record {
       back = back;

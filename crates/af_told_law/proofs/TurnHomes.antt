@@ -36,7 +36,7 @@ module _ (links : Links) (s : Session) (run : Run) {d : Deeds} (x : SessionState
   abbrev block : ℕ → BlockTold
   block i = stream_turned (setup_of s) (outside_of (setup_of s) f e) run.normal e i (told_at run i).stream
 
-  -- one that is home after the turn, where it took the words of its takes
+  -- a proxy that is home after the turn is told, if it took the words of its takes
   pub turned_home : (i : ℕ) (t : ServerState) → i < length m.tracks → stream_at n.streams i ≡ Some t → t.pass.part.frames ≡ (told_at run i).stream.taken ++ stream_words e i → TellsServer (done_on (block i) (d.streams i ++ stream_by (mixer_setup x.normal) m o e i)) t
   turned_home i t low is took =
       let still : i < length n.tracks = (let count = before.count in let now = after.count in omega (arith, low, count, now)) in

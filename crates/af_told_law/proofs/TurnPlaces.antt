@@ -42,13 +42,13 @@ use Rattle.af_told_law.proofs.EditPlaces.{LentAt, Placed, all_placed}
 use Rattle.af_told_law.proofs.PushPlaces.{PutOn, put_on}
 use Rattle.af_told_law.proofs.TurnSteps.{back, done, k, kept_l, mix, mutated_z, mutator_l, mutator_s, out_s, put_s, put_y, setup_s, sound_s, still_s, streams_l, tied_l, turns}
 
--- no scale is above 1, also where there is no track
+-- no scale is above 1, also if there is no track
 scale_at : (settings : List Setting) → All (λ (s : Setting). s.scale ≤ 4096) settings → (i : ℕ) → (slice_index_or settings i no_setting).scale ≤ 4096
 scale_at [] all i = omega arith
 scale_at (s ∷ settings) all zero = All-head (λ (t : Setting). t.scale ≤ 4096) s settings all
 scale_at (s ∷ settings) all (suc i) = scale_at settings (All-tail (λ (t : Setting). t.scale ≤ 4096) s settings all) i
 
--- one that is away after a look was so before
+-- a track that is away after a look was so before
 one_away : (last : FastState) (s : TrackKept) → is_home (welcomed last s).holder ≡ false → welcomed last s ≡ s
 unfolding welcomed
 one_away last s away = by_case _ away
@@ -77,7 +77,7 @@ is_sent (Pushed number) sent pending e = refl
 is_sent Clean sent pending e = absurd (true≢false (sym e))
 is_sent (Busy seen expected) sent pending e = absurd (true≢false (sym e))
 
--- one that has a slot isn't mixed by the normal mixer
+-- a track that has a slot isn't mixed by the normal mixer
 unmixed : (b d : Bool) → b ≡ true → (not b && d) ≡ false
 unmixed true d e = refl
 unmixed false d e = absurd (true≢false (sym e))
@@ -186,7 +186,7 @@ module _ (links : Links) (x : NormalState) (tied : IsTied links x) (enough : len
     lent : (at ed.mutator.pending (slot_number (track_at s.tracks i)) ≡ stream_at s.streams i) × (is_home (track_at ed.tracks i).holder ≡ false) × ((r : ServerState) × (stream_at s.streams i ≡ Some r))
     lent = placed.entered i (comer_inside (kept_of s) (sound_s links x tied enough empty ack report room push y by) (setup_of s) i nothing_heard enters) enters
 
-    -- its slot was out for no track
+    -- the slot of a track that is lent was out for no track
     not_out : is_out s.mutator.out (slot_number (track_at s.tracks i)) ≡ false
     not_out = by_out (is_out s.mutator.out (slot_number (track_at s.tracks i))) refl
       where
@@ -204,7 +204,7 @@ module _ (links : Links) (x : NormalState) (tied : IsTied links x) (enough : len
     pub lent_away : is_home (track_at y.tracks i).holder ≡ false
     lent_away = (track_y i).0 ∙ lent.1
 
-    -- its proxy waits, and did nothing but what its serving did
+    -- the proxy of a track that is lent waits, and did nothing but what its serving did
     pub lent_item : (t : ServerState) × (r : ServerState) × (at (in_queue push put.1 y.mutator.pending) (slot_number (track_at s.tracks i)) ≡ Some t)
         × (home_stream ack (kept_of x) (back links x tied enough empty ack report room push y by) x i ≡ Some r) × (t.pass.part.frames ≡ r.pass.part.frames)
     lent_item = let b = still_s links x tied enough empty ack report room push y by i lent.2.0 lent.2.1 in (
@@ -219,7 +219,7 @@ module _ (links : Links) (x : NormalState) (tied : IsTied links x) (enough : len
     pub lent_untaken : takes_from (mixing_of by.rest.played).takes i ≡ []
     lent_untaken = none_taken i lent.1
 
-    -- nothing of its slot is in hand
+    -- nothing of the slot of a track that is lent is in hand
     pub lent_rests : at y.mutator.returned (slot_number (track_at s.tracks i)) ≡ None
     lent_rests = none_of (at y.mutator.returned slot) (λ t e. ⊎_elim
         (λ (h : at put.0 slot ≡ Some t). let of = put.2.again_of slot low.1 (ap is_some h) in
@@ -277,7 +277,7 @@ module _ (links : Links) (x : NormalState) (tied : IsTied links x) (enough : len
     acked_away : is_home (track_at (after_ack ack (kept_of x)).tracks i).holder ≡ false
     acked_away = ap (λ (m : NormalKept). is_home (track_at m.tracks i).holder) (sym (kept_l links x tied enough empty ack report room push y by)) ∙ away_l
 
-    -- it was as it is when the turn had learnt
+    -- once the turn had learnt, a track that stays away is as it was before
     was : track_at l.tracks i ≡ track_at x.tracks i
     was = ap (λ (m : NormalKept). track_at m.tracks i) (kept_l links x tied enough empty ack report room push y by) ∙ away_before ack (kept_of x) i acked_away
 
@@ -293,7 +293,7 @@ module _ (links : Links) (x : NormalState) (tied : IsTied links x) (enough : len
     pub away_untaken : takes_from (mixing_of by.rest.played).takes i ≡ []
     away_untaken = none_taken i away_ed
 
-    -- its slot is not that of one that was lent
+    -- the slot of a track that stays away is not that of one that was lent
     not_lent : LentAt (record s { mutator = begun s.mutator }) fine (length s.tracks) (slot_number (track_at y.tracks i)) → ⊥
     not_lent t = apart (kept_of ed) placed.sound t.0 i
         (λ e. true≢false (sym t.2 ∙ ap (λ (n : ℕ). must_enter (track_at s.tracks n)) (sym e) ∙ rests))

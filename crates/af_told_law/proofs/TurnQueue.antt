@@ -28,7 +28,7 @@ use Rattle.af_told_law.specs.QueueTurned.{MutatorGoes, QueueKnown}
 abbrev Events : Type 0
 Events = List (MutatorEvent Item)
 
--- the lists of an end after some events more
+-- the mutator's list after some events more
 ones_told : (told : QueueTold) (es : Events) → ones (mutator_does es told) ≡ ones told ++ es
 ones_told [] [] = refl
 ones_told [] (e ∷ es) = ap (λ (l : Events). e ∷ l) (ones_told [] es)
@@ -99,7 +99,7 @@ or_true : (b : Bool) → (b || true) ≡ true
 or_true true = refl
 or_true false = refl
 
--- no look of a push list sees the number k, where that is later than the last one
+-- no look of a push list sees the number k, if that is later than the last one
 pub unseen_push : (m : NormalKept) (push : Push) (again sent : List (Option Item)) (k : ℕ) → LegalPush m push → m.pushed < k → list_any (is_look_at k) (push_list m push again sent) ≡ false
 unseen_push m Clean again sent k legal more = refl
 unseen_push m (Busy seen expected) again sent k legal more = ap (λ (b : Bool). b || false) (not_same (m.pushed - 1) k (λ is. omega (arith, is, more)))
@@ -109,7 +109,7 @@ unseen_push m (Pushed number) again sent k legal more = by_first (m.pushed == 0)
     by_first true = refl
     by_first false = ap (λ (b : Bool). b || false) (not_same m.pushed k (λ is. omega (arith, is, more)))
 
--- where nothing is pushed no look of it sees the last one
+-- if nothing is pushed, no look of the push list sees the last one
 pub unseen_last : (m : NormalKept) (push : Push) (again sent : List (Option Item)) → LegalPush m push → is_pushed push ≡ false → list_any (is_look_at m.pushed) (push_list m push again sent) ≡ false
 unseen_last m Clean again sent legal none = refl
 unseen_last m (Busy seen expected) again sent legal none = ap (λ (b : Bool). b || false) (not_same (m.pushed - 1) m.pushed (λ is. let some = legal.1 in omega (arith, is, some)))
@@ -134,7 +134,7 @@ module _ (frames : ℕ) (run : Run) (o p : Outside) (x y : NormalState) (e : Tur
   items_are : 0 < many → items_of x.mutator.past.before x.mutator.past.last ≡ before_last
   items_are more = λ i. items_of (known.before more i) (last i)
 
-  -- where the last state isn't known acknowledged there is one
+  -- if the last state isn't known acknowledged, there is one
   some_pushed : ((many == 0) || was_seen many run.queue) ≡ false → 0 < many
   some_pushed unseen = by_zero (many == 0) refl unseen
     where
@@ -198,7 +198,7 @@ module _ (frames : ℕ) (run : Run) (o p : Outside) (x y : NormalState) (e : Tur
         ∙ sent_told _ _)
         ∙ sym (ones_told run.queue told)
 
-    -- ## What is known after it
+    -- ## What is known after the turn
 
     module _ (kept : m ≡ run.normal) (push : e.ended ≡ false → LegalPush (after_edits c (learnt p) e m) e.push) (still_end : e.ended ≡ true → (is_pushed e.push ≡ false) × (e.ack ≡ true)) (pushed_edits : (after_edits c (learnt p) e m).pushed ≡ m.pushed) (after : Run)
         (states : after.states ≡ run.states ++ (if is_pushed e.push then (after_edits c (learnt p) e m).draft ∷ [] else [])) (queue : after.queue ≡ mutator_does told run.queue) where

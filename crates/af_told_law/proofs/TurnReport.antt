@@ -29,7 +29,7 @@ pub record LoadsAt (p : CellPoint Report) (ws : List (WriterEvent Report)) (n : 
   pub number : n ≡ p.number + stores front
   pub value : x ≡ last_of p.value front
 
--- one store more before it
+-- what a load saw behind one event more of the writer
 loads_after : (p : CellPoint Report) (w : WriterEvent Report) (ws : List (WriterEvent Report)) (n : ℕ) (x : Report) → LoadsAt (newest.next p (one w)) ws n x → LoadsAt p (w ∷ ws) n x
 loads_after p (Store y) ws n x h = record { front = Store y ∷ h.front; back = h.back; parts = ap (λ (l : List (WriterEvent Report)). Store y ∷ l) h.parts; number = (let a = h.number in omega arith); value = h.value }
 loads_after p (writes.Learn c) ws n x h = record { front = writes.Learn c ∷ h.front; back = h.back; parts = ap (λ (l : List (WriterEvent Report)). writes.Learn c ∷ l) h.parts; number = h.number; value = h.value }
@@ -130,7 +130,7 @@ last_more : (r : Report) (reports : List Report) (first d : Report) → slice_in
 last_more r [] first d = refl
 last_more r (q ∷ reports) first d = last_more q reports r d
 
--- that of as many as were stored is the last
+-- the report of as many as were stored is the last
 pub last_told : (reports : List Report) → report_of reports (length reports) ≡ last_report reports
 last_told [] = refl
 last_told (r ∷ reports) =

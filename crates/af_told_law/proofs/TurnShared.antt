@@ -55,7 +55,7 @@ module _ (s : Session) (run : Run) {d : Deeds} (x : SessionState) (n : NormalSta
   grows = subst (λ (d : Setup). (front : ℕ) × (n.pipe.pass.part.events ≡ part.events ++ going e (client.SawFront front ∷ releases_of part.shape.cells (length part.frames) (length (put_by d e.mixes)))) × ((e.room ≡ room_by (pipe_size d) (length part.frames) front) ⊎ (e.ended ≡ true))
       × (n.pipe.pass.part.frames ≡ part.frames ++ map packed_word (put_by d e.mixes))) told.normal.setup legal.lists.pipe
 
-  -- the list of a turn that went on is that told
+  -- the pipe's list of a turn that went on is the one told
   list_runs : e.ended ≡ false → n.pipe.pass.part.events ≡ part.events ++ pipe_list c (pipe_cells c) (length run.pipe.put) e
   list_runs runs =
       let seen_front : ℕ = grows.0 in
@@ -77,7 +77,7 @@ module _ (s : Session) (run : Run) {d : Deeds} (x : SessionState) (n : NormalSta
           grows.1 ∙ ap (λ (b : Bool). part.events ++ (if b then [] else client.SawFront grows.0 ∷ releases_of part.shape.cells (length part.frames) (length put))) over
           ∙ ap (λ (b : Bool). part.events ++ (if b then [] else client.SawFront (front_by_room (pipe_size c) (length run.pipe.put) e.room) ∷ releases_of (pipe_cells c) (length run.pipe.put) (length put))) (sym over)
 
-  -- what was put, and taken, is told
+  -- what was put into the pipe is told
   pub pipe_puts : (none : e.ended ≡ true → put ≡ []) → (n.pipe.pass.part.events ≡ ones (pipe_turned c e run.pipe).told) × (n.pipe.pass.part.frames ≡ (pipe_turned c e run.pipe).put)
   pipe_puts none = (
     list_told ∙ ap (λ (l : List ClientEvent). l ++ pipe_list c (pipe_cells c) (length run.pipe.put) e) told.shared.puts.told ∙ sym (ones_more run.pipe.told (pipe_list c (pipe_cells c) (length run.pipe.put) e)),

@@ -152,7 +152,7 @@ module _ (links : Links) (x : NormalState) (tied : IsTied links x) (enough : len
   out_s = subst (λ (m : Mutates ServerState StreamNames). IsOut s.tracks m.out) (sym mutator_s)
       (out_put l.tracks s.tracks l.mutator.out (ap (λ (ts : List TrackKept). length ts) done.tracks ∙ served_len (setup_of l) k turns l.tracks (length l.tracks)) put_s tied_l.out)
 
-  -- a proxy that is home was, has the same frames and tells the same
+  -- a proxy that is home was home, has the same frames and tells the same
   pub record Still (o : Option ServerState) (t : ServerState) : Type 0 where
     pub before : ServerState
     pub was : o ≡ Some before
@@ -212,12 +212,12 @@ module _ (links : Links) (x : NormalState) (tied : IsTied links x) (enough : len
     pub mix : (fronts : ℕ → ℕ) × PlaysBy room p q by.rest.plays fronts
     mix = plays_by room p q by.rest.plays none_mixed wide
 
-    -- where each track is and its slot stay
+    -- the holder and the slot of each track stay
     pub put_y : (j : ℕ) → ((track_at y.tracks j).holder ≡ (track_at p.tracks j).holder) × ((track_at y.tracks j).slot ≡ (track_at p.tracks j).slot)
     put_y j = subst (λ (ts : List TrackKept). ((track_at ts j).holder ≡ (track_at p.tracks j).holder) × ((track_at ts j).slot ≡ (track_at p.tracks j).slot))
         (sym (ap (λ (w : NormalState). w.tracks) by.rest.leaves ∙ mix.1.tracks)) (takes_put (asked (setup_of p)) (mixing_of q).takes p.tracks j)
 
-    -- a proxy that is home after the turn came home or was, and took what was taken of it
+    -- a proxy that is home after the turn came home or was home, and took what was taken of it
     pub home_takes : (i : ℕ) (t : ServerState) → stream_at y.streams i ≡ Some t
         → (r : ServerState) × (home_stream ack (kept_of x) back x i ≡ Some r) × (t.pass.part.frames ≡ r.pass.part.frames ++ words_of (takes_from (mixing_of q).takes i))
     home_takes i t is = from_played (stream_at p.streams i) refl (mix.1.streams i)

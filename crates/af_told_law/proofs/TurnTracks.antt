@@ -102,21 +102,21 @@ module _ (links : Links) (s : Session) (run : Run) {d : Deeds} (x : SessionState
 
   -- ## The command blocks
 
-  -- what the run tells of it
+  -- what the run tells of a command block
   abbrev told_commands : ℕ → List ServerEvent
   told_commands i = commands_by (setup_of s) run.normal (seen_by (setup_of s)) e i
 
   commands_setup : (i : ℕ) → commands_by (mixer_setup x.normal) m (seen_by (mixer_setup x.normal)) e i ≡ told_commands i
   commands_setup i = λ j. commands_by (told.normal.setup j) (told.normal.kept j) (seen_by (told.normal.setup j)) e i
 
-  -- where each front seen is the server's own
+  -- the list of a command block, if each front seen is the server's own
   commands_list : (i : ℕ) → i < length m.tracks → SawCommands (mixer_setup x.normal) m e o i → commands_by (mixer_setup x.normal) m o e i ≡ told_commands i
   commands_list i low saw =
       command_list_same (mixer_setup x.normal) m e o (seen_by (mixer_setup x.normal)) before.normal.tied.sound alike i low (found_now.same_commands i low saw)
       (looks_same_fronts (mixer_setup x.normal) m e o f before.normal.tied.sound runs legal.legal found_now i low saw)
       ∙ commands_setup i
 
-  -- the proxy after the turn
+  -- the command proxy after the turn
   pub turned_commands : (i : ℕ) (t : ServerState) → i < length m.tracks → slice_get n.commands i ≡ Some t → TellsCommands (commands_turned (setup_of s) (seen_by (setup_of s)) run.normal e i (told_at run i).commands) (d.commands i ++ commands_by (mixer_setup x.normal) m o e i) t
   turned_commands i t low is =
       let b : BlockTold = (told_at run i).commands in
@@ -136,7 +136,7 @@ module _ (links : Links) (s : Session) (run : Run) {d : Deeds} (x : SessionState
         none = hand_still b.told (told_commands i) ∙ was.none;
       }
 
-  -- what it did is told
+  -- what a command proxy did is told
   pub commands_did : (i : ℕ) → i < length m.tracks → DeedTold (commands_turned (setup_of s) (seen_by (setup_of s)) run.normal e i (told_at run i).commands) (d.commands i ++ commands_by (mixer_setup x.normal) m o e i)
   commands_did i low =
       let b : BlockTold = (told_at run i).commands in
@@ -154,18 +154,18 @@ module _ (links : Links) (s : Session) (run : Run) {d : Deeds} (x : SessionState
 
   -- ## The streams
 
-  -- what the run tells of it
+  -- what the run tells of a stream
   abbrev told_stream : ℕ → List ServerEvent
   told_stream i = stream_by (setup_of s) run.normal (seen_by (setup_of s)) e i
 
   streams_setup : (i : ℕ) → stream_by (mixer_setup x.normal) m (seen_by (mixer_setup x.normal)) e i ≡ told_stream i
   streams_setup i = λ j. stream_by (told.normal.setup j) (told.normal.kept j) (seen_by (told.normal.setup j)) e i
 
-  -- of a stream from which nothing was taken, or whose list and front are the same
+  -- the list of a stream from which nothing was taken, or whose list and front are the same
   streams_list : (i : ℕ) → i < length m.tracks → (takes_from e.mixes i ≡ []) ⊎ ((o.streams i ≡ listed (f.streams i)) × SameFront (o.streams i) (o.stream_front i) ((seen_by (mixer_setup x.normal)).stream_front i)) → stream_by (mixer_setup x.normal) m o e i ≡ told_stream i
   streams_list i low taken = stream_list_same (mixer_setup x.normal) m e o (seen_by (mixer_setup x.normal)) before.normal.tied.sound alike i low taken ∙ streams_setup i
 
-  -- where nothing was done nothing is told
+  -- if nothing was done to a stream, nothing is told
   pub streams_quiet : (i : ℕ) → i < length m.tracks → stream_by (mixer_setup x.normal) m o e i ≡ [] → stream_by (setup_of s) run.normal (seen_by (setup_of s)) e i ≡ []
   streams_quiet i low none = sym (streams_list i low (inl (nothing_taken (mixer_setup x.normal) o e (tracks_at (mixer_setup x.normal) (learnt o) m e i) i runs none))) ∙ none
 
@@ -225,7 +225,7 @@ module _ (links : Links) (s : Session) (run : Run) {d : Deeds} (x : SessionState
           subst (DeedTold after) (sym (ap (λ (es : List ServerEvent). d.streams i ++ es) none ∙ append-nil (d.streams i)))
           (did_same b after (d.streams i) refl (grown ∙ ap (λ (es : List ServerEvent). server_list b ++ es) (streams_quiet i low none) ∙ append-nil (server_list b)) (told.tracks i client.0 client.1).did.stream)
 
-  -- the hand
+  -- the hand of a track after the turn
   pub turned_hand : (i : ℕ) → i < length m.tracks → hand_events n.hands i ≡ told_hand (stream_turned (setup_of s) (seen_by (setup_of s)) run.normal e i (told_at run i).stream)
   turned_hand i low =
       let client = client_at links s run x n o told before legal runs f finds report comers i low in

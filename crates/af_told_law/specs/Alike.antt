@@ -8,7 +8,7 @@ use Rattle.af_model.specs.ServerCalls.{ServerKept, server_kept}
 abbrev pub bare : ServerKept → ServerKept
 bare k = record k { front = 0 }
 
--- What the lists tell is the same but for the front last seen, which nobody asks for after its look, and so is how long they are
+-- Two lists tell the same but for the front last seen, which nobody asks for after its look, and they are equally long
 pub record TellAlike (k : Shape) (xs ys : List ServerEvent) : Type 0 where
   pub kept : bare (server_kept k xs) ≡ bare (server_kept k ys)
   pub long : length xs ≡ length ys

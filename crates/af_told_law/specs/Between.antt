@@ -17,13 +17,13 @@ pub record StandsBetween (x : SessionState) : Type 0 where
   pub leads : Leads x.fast.observer.past.state (kept_of x.normal)
   pub quiet : IsQuiet (kept_of x.normal)
 
--- What the mutator keeps of its pushes is what its list tells. The observer has polled no more states than were pushed, and where it has polled as many the last of them
+-- What the mutator keeps of its pushes is what its list tells. The observer has polled no more states than were pushed, and if it has polled as many, it has the last of them
 pub record InReach (m : Pushes ServerState StreamNames) (o : Polls ServerState StreamNames) : Type 0 where
   pub tells : leads.Tells m
   pub few : o.number ≤ m.number
   pub same : 0 < m.number → o.number ≡ m.number → o.state ≡ m.last
 
--- the same of a session whose ends haven't met since the observer polled
+-- a session whose ends haven't met since the observer polled: the observer is in reach of the mutator, their lists have a history, and the slots of states lead to tracks whose proxies are away. Once the draft says Exit all tracks are done with
 pub record StandsBefore (x : SessionState) : Type 0 where
   pub step : InReach x.normal.mutator.past x.fast.observer.past
   pub history : HasHistory x.normal.mutator.past.first x.normal.mutator.past.events x.fast.observer.past.events

@@ -12,7 +12,7 @@ use Rattle.af_session.specs.Together.{SessionState}
 use Rattle.af_told_law.specs.Tells.{TellsServer, held_slot, is_coming, items_given, none_comes}
 use Rattle.af_told_law.specs.Deeds.{Deeds, done_on}
 
--- each stream proxy that comes home by the acknowledgement seen in the turn, with these items back, is there and tells its block
+-- each stream proxy that comes home by the acknowledgement seen in the turn, with these items back, is there and did what is told of its block
 abbrev pub ComersTell : Run → Deeds → NormalState → Turn → List (Option ServerState) → Type 0
 ComersTell run d m e back = (i : ℕ) → i < length m.tracks → (e.ack && is_returning (track_at m.tracks i).holder) ≡ true → is_home (track_at (after_ack e.ack (kept_of m)).tracks i).holder ≡ true
     → (t : ServerState) × (in_hand back m.mutator.returned (slot_number (track_at m.tracks i)) ≡ Some t) × TellsServer (done_on (told_at run i).stream (d.streams i)) t

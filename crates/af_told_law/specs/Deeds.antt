@@ -23,15 +23,15 @@ pub record ServerDone : Type 0 where
   pub events : List ServerEvent
   pub taken : List ℕ
 
--- that of a block, where this is its list
+-- what the server of a block did, if this is its list
 abbrev pub done_on : BlockTold → List ServerEvent → ServerDone
 done_on b deed = record { shape = b.shape; events = deed; taken = b.taken }
 
--- each front that such a list saw is the server's own
+-- each front that a server's list saw is the server's own
 abbrev pub SawOwnOf : Shape → List ServerEvent → Type 0
 SawOwnOf k es = AllSeeOwn k (server_begins k) es
 
--- What a server did is told alike; and where each front that it saw is its own, what is told is what it did
+-- What a server did is told alike; and if each front that it saw is its own, what is told is what it did
 pub record DeedTold (b : BlockTold) (deed : List ServerEvent) : Type 0 where
   pub alike : TellAlike b.shape deed (server_list b)
   pub own : SawOwnOf b.shape deed → deed ≡ server_list b
@@ -43,17 +43,17 @@ pub record Deeds : Type 0 where
   pub streams : ℕ → List ServerEvent
   pub commands : ℕ → List ServerEvent
 
--- both servers of a track are told
+-- what both servers of a track did is told
 pub record TrackDid (d : Deeds) (i : ℕ) (t : TrackTold) : Type 0 where
   pub stream : DeedTold t.stream (d.streams i)
   pub commands : DeedTold t.commands (d.commands i)
 
--- the servers went on
+-- the servers went on, so their lists begin with the earlier ones
 pub record GoOn (d e : Deeds) : Type 0 where
   pub streams : (i : ℕ) → StartsWith (e.streams i) (d.streams i)
   pub commands : (i : ℕ) → StartsWith (e.commands i) (d.commands i)
 
--- on each block of these marks each front seen so far is the server's own
+-- on each block that these marks call lawful each front seen so far is the server's own
 pub record SawOwnBy (marks : Marks) (run : Run) (d : Deeds) : Type 0 where
   pub streams : (i : ℕ) → i < length run.tracks → marks.streams i ≡ true → SawOwnOf (told_at run i).stream.shape (d.streams i)
   pub commands : (i : ℕ) → i < length run.tracks → marks.commands i ≡ true → SawOwnOf (told_at run i).commands.shape (d.commands i)
@@ -73,7 +73,7 @@ pub record MetTold (s : Session) (run : Run) (d : Deeds) : Type 0 where
 abbrev pub met_deed : BlockTold → List ServerEvent → List ServerEvent
 met_deed b deed = deed ++ server.Learn (length (client_list b)) ∷ []
 
--- of all that take part
+-- the lists of all servers, once those that take part have met their clients
 abbrev pub deeds_met : Session → Run → Deeds → Deeds
 deeds_met s run d = record {
   streams = λ i. if takes_part s run i then met_deed (told_at run i).stream (d.streams i) else d.streams i;

@@ -16,7 +16,7 @@ abbrev pub AreRoundsMarked : Marks → List RoundNoted → Type 0
 AreRoundsMarked marks [] = Unit {0}
 AreRoundsMarked marks (r ∷ rounds) = IsRoundMarked marks r.calls × AreRoundsMarked marks rounds
 
--- a track whose blocks have no more frames than a block may have, and weren't poked so far where the marks call them lawful in the whole journal
+-- a track whose blocks have no more frames than a block may have, and weren't poked so far if the marks call them lawful in the whole journal
 pub record IsTrackMarked (marks : Marks) (n : ℕ) (t : TrackTold) : Type 0 where
   pub stream : marks.streams n ≡ true → is_tame t.stream ≡ true
   pub commands : marks.commands n ≡ true → is_tame t.commands ≡ true

@@ -22,7 +22,7 @@ use Rattle.af_link.specs.PipeEnds.{SeesTaken}
 use Rattle.af_enough_law.specs.Seen.{frames_taken}
 use Rattle.af_told_law.specs.Deeds.{Deeds, SawOwnBy}
 
--- an entry as the journal has it, where the log had so many frames before
+-- an entry as the journal has it, if the log had so many frames before
 abbrev pub entry_told : List Frame → ℕ → CycleEntry → EntrySeen
 entry_told frames place entry = record { entry = entry; frames = take (taken_by entry) (drop place frames) }
 
@@ -42,11 +42,11 @@ MixIsTold links s run d x g out answer out' =
     → (entry : CycleEntry) × (answer ≡ entry.cycle) × (g.log.entries ≡ x.fast.log.entries ++ entry ∷ []) × (left : Leaves s d (with_mix s (entry_added x g entry) run) (record x { fast = g }))
     × ((i : ℕ) → held_slot x.fast i ≡ None → left.deeds.streams i ≡ d.streams i) × ((marks : Marks) → SawOwnBy marks run left.deeds → LegalEntry s marks run (entry_added x g entry))
 
--- each mix is told
+-- the run tells each mix of a session
 abbrev pub MixesAreTold : Session → Type 0
 MixesAreTold s = (links : Links) (run : Run) (d : Deeds) (x : SessionState) (g : MixerState) (out : List Frame) (answer : Cycle) (out' : List Frame) → MixIsTold links s run d x g out answer out'
 
--- the pipe's ends did and have what is told
+-- the ends of the pipe did and have what is told
 pub record PipeTells (p : PipeTold) (puts : List ClientEvent) (put : List ℕ) (f : MixerState) : Type 0 where
   pub puts_are : puts ≡ ones p.told
   pub put_is : put ≡ p.put

@@ -34,12 +34,12 @@ track_turned s f run e i = turned_track (setup_of s) (outside_of (setup_of s) f 
 abbrev pub HearsFound : NormalState → NormalState → Outside → TurnFound → Type 0
 HearsFound m n o f = (turn_of n.entry).ended ≡ false → HeardAlike (after_ack (turn_of n.entry).ack (kept_of m)).tracks o.report f.report
 
--- a turn that looked at the pipe saw the front that its room tells
+-- a turn that looked at the pipe saw the front that its room gives
 abbrev pub ShowsFront : Setup → NormalState → NormalState → Turn → Type 0
 ShowsFront c m n e = let part = m.pipe.pass.part in (front : ℕ) → n.pipe.pass.part.events ≡ part.events ++ client.SawFront front ∷ releases_of part.shape.cells (length part.frames) (length (put_by c e.mixes))
     → front_by_room (pipe_size c) (length part.frames) (room_by (pipe_size c) (length part.frames) front) ≡ front
 
--- What is known, once all have met, of a turn of the normal mixer from x to n that saw o and found f: the blocks are found as they are told, of what isn't home the same was heard, the ends of the queue have a history just behind the turn, and the room tells the front of the pipe
+-- What is known, once all have met, of a turn of the normal mixer from x to n that saw o and found f: the blocks are found as they are told, of what isn't home the same was heard, the ends of the queue have a history just behind the turn, and the room gives the front of the pipe
 pub record TurnShown (s : Session) (run : Run) (x : SessionState) (n : NormalState) (o : Outside) (f : TurnFound) : Type 0 where
   pub finds : FindsBlocks run f
   pub hears : HearsFound x.normal n o f
@@ -59,7 +59,7 @@ pub record PartsTold (s : Session) (run : Run) (d : Deeds) (x : SessionState) (n
   pub commands : (i : ℕ) (t : ServerState) → i < track_count s → slice_get n.commands i ≡ Some t → TellsCommands (track_turned s f run (turn_of n.entry) i).commands ((did_by o x n d).commands i) t
   pub did : (i : ℕ) → i < track_count s → TrackDid (did_by o x n d) i (track_turned s f run (turn_of n.entry) i)
 
--- so they are for each turn
+-- after each turn of the normal mixer the proxies that came home are told, and each track's stream and command proxy
 abbrev pub PartsAreTold : Session → Type 0
 PartsAreTold s = (links : Links) (run : Run) (d : Deeds) (x : SessionState) (n : NormalState) (o : Outside) (f : TurnFound) → AreTogether links x → AreTogether links (record x { normal = n }) → Tells s run d x → StandsBefore x
     → (legal : IsLegal o x.normal n) → TurnMade (answer_of (turn_of n.entry)) x.normal n → TurnShown s run x n o f → QueueKnown (cycle_frames s) run x.normal → x.normal.ended ≡ false

@@ -23,7 +23,7 @@ pub record HeardAlike (tracks : List TrackKept) (r q : Report) : Type 0 where
   pub cycle : r.cycle ≡ q.cycle
   pub slots : (i : ℕ) → i < length tracks → is_home (track_at tracks i).holder ≡ false → report_at r.slots (slot_number (track_at tracks i)) ≡ report_at q.slots (slot_number (track_at tracks i))
 
--- each stream proxy that is home knows the same
+-- each stream proxy that is home knows the same by both
 abbrev pub OwnAlike : List TrackKept → Learnt → Learnt → Type 0
 OwnAlike tracks k l = (i : ℕ) → i < length tracks → is_home (track_at tracks i).holder ≡ true → k.own i ≡ l.own i
 
@@ -32,17 +32,17 @@ pub record LearnAlike (tracks : List TrackKept) (k l : Learnt) : Type 0 where
   pub report : HeardAlike tracks k.report l.report
   pub own : OwnAlike tracks k l
 
--- the front of a look is the same, where it was made: a server that was shut makes none
+-- the front of a look is the same, if it was made: a server that was shut makes none
 abbrev pub SameFront : Listed → ℕ → ℕ → Type 0
 SameFront s f g = is_some (kept s).shut ≡ false → f ≡ g
 
--- so are those of looks at a command block
+-- the fronts of looks at a command block are the same, if these were made
 abbrev pub SameFronts : Listed → List CommandLook → List ℕ → List ℕ → Type 0
 SameFronts s [] [] [] = Unit {0}
 SameFronts s (look ∷ looks) (f ∷ fs) (g ∷ gs) = SameFront s f g × SameFronts (did s (command_events s look f)) looks fs gs
 SameFronts s _ _ _ = ⊥
 
--- the lists tell alike, of one block
+-- two lists of one block tell alike
 pub record ListAlike (s t : Listed) : Type 0 where
   pub shape : s.shape ≡ t.shape
   pub alike : TellAlike t.shape s.events t.events
@@ -53,7 +53,7 @@ pub record AreAlike (m : NormalKept) (e : Turn) (o p : Outside) : Type 0 where
   pub streams : (i : ℕ) → i < length m.tracks → is_home (track_at (after_ack e.ack m).tracks i).holder ≡ true → ListAlike (o.streams i) (p.streams i)
   pub commands : (i : ℕ) → i < length m.tracks → ListAlike (o.commands i) (p.commands i)
 
--- what was answered by the fronts of the one is by those of the other
+-- the takes and looks of a turn that fit the fronts of the one outside fit those of the other
 pub record AnswerAlike (c : Setup) (m : NormalKept) (e : Turn) (o p : Outside) : Type 0 where
   pub takes : (i : ℕ) → (takes_from e.mixes i ≡ []) ⊎ ((slot : SlotEntry) → LooksBy (asked c) (o.streams i) slot (o.stream_front i) → LooksBy (asked c) (p.streams i) slot (p.stream_front i))
   pub looks : (i : ℕ) → i < length m.tracks → LegalLooks (o.commands i) (track_in e i).looks (o.command_fronts i) → LegalLooks (p.commands i) (track_in e i).looks (p.command_fronts i)
@@ -64,7 +64,7 @@ pub record AnswerAlike (c : Setup) (m : NormalKept) (e : Turn) (o p : Outside) :
 abbrev pub TakeTold : Setup → Listed → ℕ → List TakeSeen → Type 0
 TakeTold c s f takes = ((takes ≡ []) ⊎ SameFront s f (take_front (front_of (asked c)) s takes)) × (take_front (front_of (asked c)) s takes ≡ take_front (lawful_front (asked c)) s takes)
 
--- so are those of looks at a command block
+-- the fronts of looks at a command block are those told, and both rules tell the same
 abbrev pub LooksTold : Listed → List CommandLook → List ℕ → Type 0
 LooksTold s looks fs = SameFronts s looks fs (fronts_by front_of s looks) × (fronts_by front_of s looks ≡ fronts_by lawful_front s looks)
 
@@ -80,7 +80,7 @@ pub record FindsBlocks (run : Run) (f : TurnFound) : Type 0 where
   pub streams : (i : ℕ) → f.streams i ≡ (told_at run i).stream
   pub commands : (i : ℕ) → f.commands i ≡ (told_at run i).commands
 
--- What a turn saw is what was found: what the report says of the stream proxies that aren't home once the acknowledgement was seen, and what the lists of those that are, and those of the command proxies, tell. Where each front that a server saw up to the end of the turn is its own the lists and the fronts are the same
+-- What a turn saw is what was found: what the report says of the stream proxies that aren't home once the acknowledgement was seen, and what the lists of those that are, and those of the command proxies, tell. If each front that a server saw up to the end of the turn is its own, the lists and the fronts are the same
 pub record IsFound (c : Setup) (m : NormalKept) (e : Turn) (o : Outside) (f : TurnFound) : Type 0 where
   pub report : HeardAlike (after_ack e.ack m).tracks o.report f.report
   pub streams : (i : ℕ) → i < length m.tracks → is_home (track_at (after_ack e.ack m).tracks i).holder ≡ true → ListAlike (o.streams i) (listed (f.streams i))

@@ -14,7 +14,7 @@ use Rattle.af_session.specs.Together.{SessionState}
 abbrev pub SawOwn : ServerState → Type 0
 SawOwn s = AllSeeOwn s.pass.part.shape (server_begins s.pass.part.shape) s.pass.part.events
 
--- On each block whose client hasn't poked so did the stream proxy that is home, the one that the observer holds, and the command proxy; and each look at the pipe saw the number of frames taken before
+-- On each block whose client hasn't poked, the stream proxy that is home, the one that the observer holds, and the command proxy saw fronts of their own; and each look at the pipe saw the number of frames taken before
 pub record SeesOwn (y : SessionState) : Type 0 where
   pub homes : (i : ℕ) (p : PartyState) (s : ServerState) → slice_get y.clients i ≡ Some p → is_lawful p.stream.pass.part.events ≡ true → stream_at y.normal.streams i ≡ Some s → SawOwn s
   pub held : (i : ℕ) (p : PartyState) (s : ServerState) → slice_get y.clients i ≡ Some p → is_lawful p.stream.pass.part.events ≡ true → item_at y.fast.observer.items (slot_for y.fast.observer.past.state i) ≡ Some s → SawOwn s

@@ -31,7 +31,7 @@ words_by e i = going e (map packed_word (flat_map (λ take. take.frames) (takes_
 abbrev pub events_by : Outside → NormalState → Turn → ℕ → List ServerEvent
 events_by o x e i = stream_by (setup_of x) (kept_of x) o e i
 
--- the proxy t is that of the track i that was home in the turn, or came home by its acknowledgement, and did and took what the turn tells
+-- the proxy t is that of the track i that was home in the turn, or came home by its acknowledgement, and did and took what the turn's entry says
 pub record ComesFrom (o : Outside) (back : List (Option ServerState)) (x : NormalState) (e : Turn) (i : ℕ) (t : ServerState) : Type 0 where
   pub before : ServerState
   pub was : home_stream e.ack (kept_of x) back x i ≡ Some before
@@ -45,11 +45,11 @@ slot_in y i = slot_number (track_at y.tracks i)
 abbrev pub enters_by : Outside → NormalState → Turn → ℕ → Type 0
 enters_by o x e i = must_enter (track_at (served_tracks (setup_of x) (learnt o) (kept_of x) e) i) ≡ true
 
--- it isn't
+-- the track i isn't lent in the turn
 abbrev pub rests_by : Outside → NormalState → Turn → ℕ → Type 0
 rests_by o x e i = must_enter (track_at (served_tracks (setup_of x) (learnt o) (kept_of x) e) i) ≡ false
 
--- A track that was lent in the turn: its proxy waits for a push, or went with that of the turn, and nothing of its slot is in hand. Neither the last state before the turn carried the slot nor, where that wasn't seen acknowledged, the one before it
+-- A track that was lent in the turn: its proxy waits for a push, or went with that of the turn, and nothing of its slot is in hand. Neither the last state before the turn carried the slot nor, if that wasn't seen acknowledged, the one before it
 pub record IsLentBy (o : Outside) (back sent : List (Option ServerState)) (x y : NormalState) (e : Turn) (i : ℕ) : Type 0 where
   pub away : is_home (track_at y.tracks i).holder ≡ false
   pub item : ServerState
@@ -59,7 +59,7 @@ pub record IsLentBy (o : Outside) (back sent : List (Option ServerState)) (x y :
   pub last : carries x.mutator.past.last (slot_in y i) ≡ false
   pub before : e.ack ≡ false → carries x.mutator.past.before (slot_in y i) ≡ false
 
--- A track that is away after the turn and was not lent in it: it was away before, in the same slot, the turn tells nothing of its proxy, and each item that stands at its slot stood there before, was pending, or came by a look
+-- A track that is away after the turn and was not lent in it: it was away before, in the same slot, its proxy does nothing in the turn, and each item that stands at its slot stood there before, was pending, or came by a look
 pub record StaysAway (o : Outside) (back again sent : List (Option ServerState)) (x y : NormalState) (e : Turn) (i : ℕ) : Type 0 where
   pub away : is_home (track_at x.tracks i).holder ≡ false
   pub slot : slot_in x i ≡ slot_in y i
@@ -70,7 +70,7 @@ pub record StaysAway (o : Outside) (back again sent : List (Option ServerState))
       → ((at x.mutator.returned (slot_in y i) ≡ Some t) × (at back (slot_in y i) ≡ None)) ⊎ (at x.mutator.pending (slot_in y i) ≡ Some t) ⊎ (at back (slot_in y i) ≡ Some t) ⊎ (at again (slot_in y i) ≡ Some t)
   pub went : is_pushed e.push ≡ true → (t : ServerState) → at sent (slot_in y i) ≡ Some t → at x.mutator.pending (slot_in y i) ≡ Some t
 
--- what the mutator's list leaves
+-- the point that the mutator's list leaves
 abbrev pub told_by : NormalState → MutatorPoint ServerState
 told_by m = mutated m.mutator.past.first m.mutator.past.events
 
@@ -85,7 +85,7 @@ pub record QueueGoes (o : Outside) (sent : List (Option ServerState)) (x y : Nor
   pub same_items : is_pushed e.push ≡ false → (told_by y).items ≡ (told_by x).items
   pub same_clear : is_pushed e.push ≡ false → (told_by x).pushed ≡ x.mutator.past.number → (told_by y).clear ≡ e.ack
 
--- The slots of a turn: what was in hand, or came by its look, the last state doesn't carry, and what waited had none on its way back. Where the last state wasn't seen acknowledged, the one before it doesn't carry what waited or was in hand, and only the look of a push brings items of its slots. Where the last state was seen acknowledged, an item that is out and on no state is in hand
+-- The slots of a turn: what was in hand, or came by its look, the last state doesn't carry, and what waited had none on its way back. If the last state wasn't seen acknowledged, the one before it doesn't carry what waited or was in hand, and only the look of a push brings items of its slots. If the last state was seen acknowledged, an item that is out and on no state is in hand
 pub record SlotsStand (back again : List (Option ServerState)) (x : NormalState) (e : Turn) : Type 0 where
   pub rests : (k : ℕ) → k < slots → is_some (at x.mutator.returned k) ≡ true → carries x.mutator.past.last k ≡ false
   pub comes : (k : ℕ) → k < slots → is_some (at back k) ≡ true → carries x.mutator.past.last k ≡ false
@@ -124,7 +124,7 @@ pub record StreamsStay (o : Outside) (x y : NormalState) (e : Turn) : Type 0 whe
   pub marks_back : x.ended ≡ false → marked back ≡ (if not x.mutator.past.clear then items_of x.mutator.past.before x.mutator.past.last else [])
   pub clear : x.ended ≡ false → (y.mutator.past.clear ≡ true) × ((told_by x).pushed ≡ x.mutator.past.number → (told_by y).clear ≡ true)
 
--- by what it tells, a turn leaves each proxy in its place
+-- a legal turn leaves each stream proxy where StreamsGo says, or, if it ended, where StreamsStay says
 abbrev pub TurnLeavesStreams : Links → Outside → NormalState → NormalState → Type 0
 TurnLeavesStreams links o x y = IsInOrder links x → IsLegal o x y → TurnMade (answer_of (turn_of y.entry)) x y
     → ((turn_of y.entry).ended ≡ false → StreamsGo o x y (turn_of y.entry)) × ((turn_of y.entry).ended ≡ true → StreamsStay o x y (turn_of y.entry))

@@ -10,7 +10,7 @@ use Rattle.af_runs.specs.Runs.{Run}
 use Rattle.af_runs.specs.Told.{ReportTold, is_pushed, items_of, report_met, state_at, was_seen}
 use Rattle.af_server.specs.Order.{ServerState}
 
--- The mutator knows its last state acknowledged where its list has a look that saw it so; no look saw a later one; and once one was pushed it keeps the state before the last one
+-- The mutator knows its last state acknowledged exactly if its list has a look that saw it so, or none was pushed; no look saw a later one; and once one was pushed it keeps the state before the last one
 pub record QueueKnown (frames : ℕ) (run : Run) (m : NormalState) : Type 0 where
   pub clear : m.mutator.past.clear ≡ ((length run.states == 0) || was_seen (length run.states) run.queue)
   pub beyond : (k : ℕ) → length run.states < k → was_seen k run.queue ≡ false

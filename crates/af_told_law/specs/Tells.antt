@@ -42,19 +42,19 @@ pub record TellsServer (k : ServerDone) (s : ServerState) : Type 0 where
   pub events : s.pass.part.events ≡ k.events
   pub taken : s.pass.part.frames ≡ k.taken
 
--- so did one that may be there
+-- the proxy, if there is one, has these sizes, and did and took this
 abbrev pub IfThere : ServerDone → Option ServerState → Type 0
 IfThere k o = (s : ServerState) → o ≡ Some s → TellsServer k s
 
--- a state was pushed that the observer hasn't
+-- a state was pushed that the observer hasn't polled
 abbrev pub is_going : NormalState → MixerState → Bool
 is_going m f = nat_lt f.observer.past.number m.mutator.past.number
 
--- what the mutator's list leaves
+-- the point that the mutator's list leaves
 abbrev pub mutated_by : NormalState → MutatorPoint ServerState
 mutated_by m = mutated m.mutator.past.first m.mutator.past.events
 
--- the observer has all, and the mutator hasn't seen it
+-- the observer has polled all states, and the mutator hasn't seen the last one acknowledged
 abbrev pub is_coming : NormalState → MixerState → Bool
 is_coming m f = not (is_going m f) && not (mutated_by m).clear
 
@@ -81,13 +81,13 @@ pub record TellsAway (m : NormalState) (f : MixerState) (i slot : ℕ) (k : Serv
   pub waits : held_slot f i ≡ None → none_comes m f slot → IfThere k (at m.mutator.pending slot)
   pub back : held_slot f i ≡ None → none_comes m f slot → IfThere k (at m.mutator.returned slot)
 
--- a stream's proxy, home or away, which did this, and its hand
+-- a stream's proxy, home or away, did this, and its hand did what is told
 pub record TellsStream (m : NormalState) (f : MixerState) (i : ℕ) (b : BlockTold) (deed : List ServerEvent) : Type 0 where
   pub home : IfThere (done_on b deed) (stream_at m.streams i)
   pub away : is_home (track_at m.tracks i).holder ≡ false → TellsAway m f i (slot_number (track_at m.tracks i)) (done_on b deed)
   pub hand : hand_events m.hands i ≡ hand_list b
 
--- a command proxy, which keeps its hand
+-- a command proxy did this, and keeps its hand, which did nothing
 pub record TellsCommands (b : BlockTold) (deed : List ServerEvent) (s : ServerState) : Type 0 where
   pub server : TellsServer (done_on b deed) s
   pub whole : s.pass.has_hand ≡ true
@@ -97,7 +97,7 @@ pub record TellsCommands (b : BlockTold) (deed : List ServerEvent) (s : ServerSt
 abbrev pub given_of : Session → Given
 given_of s = record { tracks = s.script.tracks; files = s.files }
 
--- a track: its client p with both proxies, and their servers, which did this
+-- the run tells a track: its client p with both proxies, whose servers did this
 pub record TellsTrack (s : Session) (m : NormalState) (f : MixerState) (d : Deeds) (i : ℕ) (t : TrackTold) (p : PartyState) : Type 0 where
   pub client : sides_of t ≡ track_of (ops_at (given_of s) i) (file_at (given_of s) i) p
   pub stream : TellsStream m f i t.stream (d.streams i)
@@ -118,7 +118,7 @@ reports_stored [] = []
 reports_stored (writes.Store report ∷ events) = report ∷ reports_stored events
 reports_stored (writes.Learn count ∷ events) = reports_stored events
 
--- the ends of the queue, the report and the pipe
+-- the ends of the queue, the report and the pipe did what the run tells
 pub record TellsShared (s : Session) (run : Run) (m : NormalState) (f : MixerState) : Type 0 where
   pub first : m.mutator.past.first ≡ initial (cycle_frames s)
   pub mutator : KeepsMutator run m.mutator.past.events
@@ -130,7 +130,7 @@ pub record TellsShared (s : Session) (run : Run) (m : NormalState) (f : MixerSta
   pub taken : f.pipe.pass.part.frames ≡ run.pipe.taken
   pub size : f.pipe.pass.part.shape.frames ≡ pipe_size (setup_of s)
 
--- what the normal mixer keeps, its hands, and the states that it pushed, of which it keeps the number and the last
+-- the run tells what the normal mixer keeps, its hands, and the states that it pushed, of which it keeps the number and the last
 pub record TellsNormal (s : Session) (run : Run) (m : NormalState) : Type 0 where
   pub setup : mixer_setup m ≡ setup_of s
   pub kept : kept_of m ≡ run.normal
@@ -143,7 +143,7 @@ pub record TellsNormal (s : Session) (run : Run) (m : NormalState) : Type 0 wher
 abbrev pub IsFresh : Run → Type 0
 IsFresh run = last_used run.entries ≡ 0 → (i : ℕ) → i < slots → report_at (last_report run.reports).slots i ≡ no_slot
 
--- the state that the fast mixer adopted, its log, and the reports that it stored, which are empty at first
+-- the run tells the state that the fast mixer adopted, its log, and the reports that it stored, which are empty at first
 pub record TellsFast (s : Session) (run : Run) (f : MixerState) : Type 0 where
   pub frames : f.frames ≡ cycle_frames s
   pub cycles : f.cycles ≡ s.script.cycles

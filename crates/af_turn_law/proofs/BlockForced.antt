@@ -1,4 +1,4 @@
--- The lists of a block's parties force the order in which they are told, where that is in phases.
+-- The lists of a block's parties force the order in which they are told, if that is in phases.
 use Rattle.std.proofs.Common.{◌≡◌, inl, inr, ℕ, ◌≤◌, true≢false, List, [], ◌∷◌, ◌++◌, length, refl, sym, ap, ◌∙◌, subst, arith, length-append}
 use Rattle.af_base.specs.declared.event.HandEvent.TheVariants as hand
 use Rattle.af_model.specs.declared.point.TrackPoint.{TrackPoint}

@@ -1,4 +1,4 @@
--- From a legal order of a block's parties the last event of one party is taken to the end, where that party had learnt of all that others did.
+-- From a legal order of a block's parties the last event of one party is taken to the end, if that party had learnt of all that others did.
 use Rattle.std.proofs.Common.{◌≡◌, ◌⊎◌, inl, inr, ℕ, ◌+◌, ◌≤◌, ◌<◌, ◌||◌, max, Bool, true, false, true≢false, List, [], ◌∷◌, ◌++◌, length, refl, sym, ap, ◌∙◌, subst, arith, length-append}
 use Rattle.std.proofs.lemmas.List.{same_from_push}
 use Rattle.std.proofs.lemmas.Grind.{fold-append}
@@ -115,7 +115,7 @@ module _ (k : Shape) (frames : List ℕ) where
   abbrev p : TrackPoint
   p = start k
 
-  -- ## The client's
+  -- ## The client's last event
 
   abbrev ClientAllowed : ClientEvent → List Moment → Type 0
   ClientAllowed e rest = ClientMay (after p rest) (length (server_of rest)) e
@@ -191,7 +191,7 @@ module _ (k : Shape) (frames : List ℕ) where
         met = omega (arith, down);
       }
 
-  -- ## The server's
+  -- ## The server's last event
 
   abbrev pub ServerAllowed : ServerEvent → List Moment → Type 0
   ServerAllowed e rest = ServerMay (after p rest) (length (client_of rest)) e
@@ -257,7 +257,7 @@ module _ (k : Shape) (frames : List ℕ) where
         met = omega (arith, down);
       }
 
-  -- ## The hand's
+  -- ## The hand's last event
 
   pub pull_hand : (hs : List HandEvent) (e : HandEvent) (order : List Moment) → hand_of order ≡ hs ++ e ∷ [] → IsLegal p order
       → (hand_is_mark e ≡ false → KnowsAll hand_marks client_marks hs (client_of order))

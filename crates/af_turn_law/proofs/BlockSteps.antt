@@ -44,11 +44,11 @@ pub record Done (part handed : Bool) (told : List Moment) : Type 0 where
   pub client : part ≡ false → ClientKnows told
   pub met : handed ≡ false → HandMet told
 
--- a block on which nothing was done
+-- a block on which nothing was done is ready
 pub new_ready : (part handed : Bool) → Ready part handed []
 new_ready part handed = record { phased = tt; client = tt; met = refl; hand = λ h. tt; server = λ h. tt }
 
--- nothing is done
+-- a block is done if nothing is done
 pub rest_done : (part after handed : Bool) (told : List Moment) → Ready part handed told → Done after handed told
 rest_done part after handed told h = record { phased = h.phased; client = λ e. h.client; met = λ e. h.met }
 
@@ -76,7 +76,7 @@ server_keeps : (P : List ClientEvent → List HandEvent → Type 0) (es : List S
 server_keeps P [] told h = h
 server_keeps P (e ∷ es) told h = server_keeps P es (by_server e ∷ told) h
 
--- the server, which takes part in the meetings before and after
+-- a block is done if its server, which takes part in the meetings before and after, did these events
 pub server_done : (handed : Bool) (es : List ServerEvent) (told : List Moment) → NoMarks server_marks es → Ready true handed told → Done true handed (told_more told (map by_server es))
 server_done handed es told plain h = record {
   phased = server_phased es told plain h.phased (h.server refl);
@@ -84,11 +84,11 @@ server_done handed es told plain h = record {
   met = λ e. server_keeps (λ cs hs. ends_met hs ≡ true) es told h.met;
 }
 
--- the hand sets flags, once it is there; nobody else did anything since the last meeting
+-- a block is in phases if the hand, once it is there, sets flags; nobody else did anything since the last meeting
 pub hand_ready : (part : Bool) (bits : ℕ) (told : List Moment) → Ready part true told → (part ≡ true → ServerKnows (by_hand (hand.SetFlags bits) ∷ told)) × IsBlockPhased (by_hand (hand.SetFlags bits) ∷ told) × ClientKnows (by_hand (hand.SetFlags bits) ∷ told)
 hand_ready part bits told h = (h.server, ((h.hand refl, phased_hand told h.phased), h.phased), h.client)
 
--- a fact of the client's events, whatever the hand does
+-- a fact of the client's events stays, whatever the hand does
 pub hand_keeps : (P : List ClientEvent → Type 0) (hs : List HandEvent) (told : List Moment) → P (client_of told) → P (client_of (told_more told (map by_hand hs)))
 hand_keeps P [] told h = h
 hand_keeps P (e ∷ hs) told h = hand_keeps P hs (by_hand e ∷ told) h
@@ -97,7 +97,7 @@ hand_keeps P (e ∷ hs) told h = hand_keeps P hs (by_hand e ∷ told) h
 abbrev pub OnlyInvalid : List ServerEvent → List Moment → Type 0
 OnlyInvalid es told = (es ≡ []) ⊎ ((es ≡ server.SetFlags 4 ∷ []) × SawNoInvalid (client_of told))
 
--- the hand and then the server in a turn; the hand has met after it
+-- a block is done if the hand and then the server did these events in a turn; the hand has met after it
 pub turn_done : (part after : Bool) (hs : List HandEvent) (es : List ServerEvent) (told : List Moment) → IsBlockPhased (told_more told (map by_hand hs)) → ClientKnows (told_more told (map by_hand hs)) → (part ≡ true → ServerKnows (told_more told (map by_hand hs)))
     → NoMarks server_marks es → (after ≡ false → es ≡ []) → (part ≡ false → OnlyInvalid es told) → Done after true (told_more (told_more told (map by_hand hs)) (map by_server es))
 turn_done part after hs es told phased knows server plain away only = record {

@@ -27,7 +27,7 @@ pub hand_same : (q : TrackPoint) (e : HandEvent) → hand_is_mark e ≡ true →
 hand_same q (hand.Met k) is = refl
 hand_same q (hand.SetFlags bits) is = no is
 
--- one of two flags
+-- one of two flags is true, if either is
 pub one_of : (a b : Bool) → (a || b) ≡ true → (a ≡ true) ⊎ (b ≡ true)
 one_of true b h = inl refl
 one_of false b h = inr h
@@ -94,7 +94,7 @@ server_more q m n (server.Tally missing) le h = h
 server_more q m n (server.SetFlags bits) le h = h
 server_more q m n (server.SetStatus word) le h = h
 
--- nor do fewer, where a mark names no more
+-- fewer of the other party's events forbid nothing, if a mark names no more
 client_fewer : (q : TrackPoint) (m n : ℕ) (e : ClientEvent) → client_named e ≤ n → ClientMay q m e → ClientMay q n e
 client_fewer q m n (client.Learn k) le h = le
 client_fewer q m n (client.Release count) le h = h

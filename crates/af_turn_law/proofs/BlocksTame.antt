@@ -9,7 +9,7 @@ use Rattle.af_runs.specs.Blocks.{BlockTold, client_list, server_list, is_tame}
 use Rattle.af_runs.specs.Runs.{TrackTold, stream_met}
 use Rattle.af_turn_law.proofs.BlockSteps.{Ready, Done, told_more}
 
--- of a track whose stream block is tame so far, before a turn and after it
+-- what is kept of a track whose stream block is tame so far, before a turn and after it
 abbrev pub StreamReady : Bool → Bool → TrackTold → Type 0
 StreamReady part handed t = is_tame t.stream ≡ true → Ready part handed t.stream.told
 
@@ -27,12 +27,12 @@ tame_one told (by_client e) h = lawful_first (client_of told) (e ∷ []) h
 tame_one told (by_server e) h = h
 tame_one told (by_hand e) h = h
 
--- whatever was told more
+-- a block is tame before, whatever was told more
 pub tame_told : (told moments : List Moment) → is_lawful (client_of (told_more told moments)) ≡ true → is_lawful (client_of told) ≡ true
 tame_told told [] h = h
 tame_told told (m ∷ moments) h = tame_one told m (tame_told (m ∷ told) moments h)
 
--- meetings
+-- a block is tame before meetings
 pub tame_met : (part handed : Bool) (b : BlockTold) → is_tame (stream_met part handed b) ≡ true → is_tame b ≡ true
 tame_met true true b h = lawful_first (client_list b) (client.Learn (length (server_list b)) ∷ []) h
 tame_met true false b h = lawful_first (client_list b) (client.Learn (length (server_list b)) ∷ []) h

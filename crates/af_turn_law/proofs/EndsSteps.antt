@@ -45,7 +45,7 @@ module _ {A B : Type 0} (ma : Marking A) (mb : Marking B) where
   abbrev pub TwoKnows : List (Event A B) → Type 0
   TwoKnows told = KnowsAll mb ma (twos told) (ones told)
 
-  -- between a meeting and what is done next
+  -- how two ends stand between a meeting and what is done next
   pub record EndsReady (told : List (Event A B)) : Type 0 where
     pub phased : IsPhased ma mb told
     pub one_knows : OneKnows told
@@ -67,7 +67,7 @@ module _ {A B : Type 0} (ma : Marking A) (mb : Marking B) where
   twos_phased xs ys [] plain knows = tt
   twos_phased xs ys (b ∷ bs) plain knows = (due_plain mb ma ys xs b plain.0 knows, twos_phased xs (ys ++ b ∷ []) bs plain.1 (knows_more mb ma ys (b ∷ []) xs knows))
 
-  -- the first end did these events
+  -- the order stays in phases if the first end did these events
   pub ones_done : (told : List (Event A B)) (ds : List A) → NoMarks ma ds → IsPhased ma mb told → OneKnows told → IsPhased ma mb (told ++ map (λ a. one a) ds) × OneKnows (told ++ map (λ a. one a) ds)
   ones_done told ds plain phased knows = (
     phased_join [] [] told (map (λ a. one a) ds) phased (ones_phased (ones told) (twos told) ds plain knows),
@@ -75,7 +75,7 @@ module _ {A B : Type 0} (ma : Marking A) (mb : Marking B) where
         (subst (λ l. KnowsAll ma mb (ones told ++ ds) l) (sym (twos_join told (map (λ a. one a) ds) ∙ ap (λ l. twos told ++ l) (twos_one B ds) ∙ append-nil (twos told))) (knows_more ma mb (ones told) ds (twos told) knows)),
   )
 
-  -- the second end did
+  -- the order stays in phases if the second end did these events
   pub twos_done : (told : List (Event A B)) (bs : List B) → NoMarks mb bs → IsPhased ma mb told → TwoKnows told → IsPhased ma mb (told ++ map (λ b. two b) bs) × TwoKnows (told ++ map (λ b. two b) bs)
   twos_done told bs plain phased knows = (
     phased_join [] [] told (map (λ b. two b) bs) phased (twos_phased (ones told) (twos told) bs plain knows),
@@ -83,7 +83,7 @@ module _ {A B : Type 0} (ma : Marking A) (mb : Marking B) where
         (subst (λ l. KnowsAll mb ma (twos told ++ bs) l) (sym (ones_join told (map (λ b. two b) bs) ∙ ap (λ l. ones told ++ l) (ones_two A bs) ∙ append-nil (ones told))) (knows_more mb ma (twos told) bs (ones told) knows)),
   )
 
-  -- the ends meet
+  -- the ends are ready once they met
   pub ends_met : (told : List (Event A B)) (a : A) (b : B) → ma.is_mark a ≡ true → mb.is_mark b ≡ true → ma.named a ≡ length (twos told) → mb.named b ≡ length (ones told) → IsPhased ma mb told → EndsReady (told ++ one a ∷ two b ∷ [])
   ends_met told a b mark_a mark_b all_a all_b phased =
       let ones_are : ones (told ++ one a ∷ two b ∷ []) ≡ ones told ++ a ∷ [] = ones_join told (one a ∷ two b ∷ []) in

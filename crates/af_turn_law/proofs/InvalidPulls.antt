@@ -26,7 +26,7 @@ shown flags none =
     let last : bit_and (bit_or flags 4 / 4) 1 ≡ bit_or flags 4 / 4 % 2 = and_mask (bit_or flags 4 / 4) 1 in
     omega (arith, none, set, low, one, seen, last)
 
--- the client's event that sees no INVALID comes before it, and leaves the same
+-- the client's event that sees no INVALID comes before INVALID is set, and leaves the same
 record Passes (q : TrackPoint) (n : ℕ) (a : ClientEvent) : Type 0 where
   may : ClientMay q n a
   ends : after_client (after_server q (server.SetFlags 4)) a ≡ after_server (after_client q a) (server.SetFlags 4)

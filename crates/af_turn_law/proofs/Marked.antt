@@ -3,7 +3,7 @@ use Rattle.std.proofs.Common.{◌≡◌, ◌⊎◌, inl, inr, ℕ, zero, suc, �
 use Rattle.std.proofs.lemmas.Grind.{fold-append}
 use Rattle.af_turn_law.specs.Marking.{Marking, learnt, OnlyMarksPast, OnlyMarks, NoMarks, IsDue, KnowsAll}
 
--- nothing is both
+-- true and false aren't the same
 pub no : {A : Type 0} → false ≡ true → A
 no e = absurd (true≢false (sym e))
 
@@ -69,11 +69,11 @@ module _ {A B : Type 0} (mine : Marking A) (others : Marking B) where
   pub knows_more : (xs more : List A) (ys : List B) → KnowsAll mine others xs ys → KnowsAll mine others (xs ++ more) ys
   knows_more xs more ys h = past_more others (learnt mine xs) (learnt mine (xs ++ more)) ys (learnt_more mine xs more) h
 
-  -- and it stays all where the other one meets
+  -- what is known stays all if the other party meets
   pub knows_met : (xs : List A) (ys : List B) (b : B) → others.is_mark b ≡ true → KnowsAll mine others xs ys → KnowsAll mine others xs (ys ++ b ∷ [])
   knows_met xs ys b mark h = past_marks others (learnt mine xs) ys (b ∷ []) h (mark, tt)
 
-  -- after a mark that names all
+  -- all is known after a mark that names all
   pub knows_now : (xs : List A) (ys : List B) (a : A) → length ys ≤ mine.named a → KnowsAll mine others (xs ++ a ∷ []) ys
   knows_now xs ys a all = let e = learnt_last mine xs a in past_all others (learnt mine (xs ++ a ∷ [])) ys (omega (arith, e, all))
 

@@ -98,7 +98,7 @@ filter_hold p (n ∷ ns) = by_first (p n) refl (filter_hold p ns)
     by_first true is rest = (is, rest)
     by_first false is rest = rest
 
--- either nothing was taken from the track, or it is one of those
+-- either nothing was taken from the track, or the test holds of it
 taken_holds : (p : ℕ → Bool) (n : ℕ) (takes : List TakeSeen) → AllHold p (map (λ take. take.track) takes) → (filter (λ take. take.track == n) takes ≡ []) ⊎ (p n ≡ true)
 taken_holds p n [] h = inl refl
 taken_holds p n (take ∷ takes) h = by_track (take.track == n) refl (taken_holds p n takes h.1)
@@ -121,7 +121,7 @@ no_slot s h = by_flags (is_some s.slot) (plays s.life) h
     by_flags true b h = absurd (true≢false (sym h))
     by_flags false b h = refl
 
--- home before and after the turn
+-- the stream proxy of a track that is mixed is home before and after the turn
 pub mixed_home : (c : Setup) (scales : All (λ (s : Setting). s.scale ≤ 4096) c.settings) (k : Learnt) (m : NormalKept) (e : Turn) (n : ℕ) → length m.tracks ≤ length c.settings → Sound m → e.ended ≡ false
     → map (λ (take : TakeSeen). take.track) e.mixes ≡ tracks_due c e.room (after_edits c k e m).tracks
     → (filter (λ (take : TakeSeen). take.track == n) e.mixes ≡ []) ⊎ ((is_home (track_at m.tracks n).holder ≡ true) × (is_home (track_at (turn_after c k m e).tracks n).holder ≡ true))

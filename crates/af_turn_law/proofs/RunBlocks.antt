@@ -26,12 +26,12 @@ use Rattle.af_turn_law.proofs.PlainLists.{plain_turn, plain_cycle}
 use Rattle.af_runs.specs.Rounds.{LegalEntry}
 use Rattle.af_runs.proofs.StatesFor.{polled_pushed}
 
--- these blocks between two rounds
+-- how the blocks stand between two rounds
 pub record RunReady (s : Session) (run : Run) : Type 0 where
   pub streams : (n : ℕ) → n < length run.tracks → StreamReady (takes_part s run n) run.handed (told_at run n)
   pub commands : (n : ℕ) → n < length run.tracks → Ready true false (told_at run n).commands.told
 
--- before the meetings
+-- how the blocks stand before the meetings
 pub record RunDone (s : Session) (run : Run) : Type 0 where
   pub streams : (n : ℕ) → n < length run.tracks → StreamDone (takes_part s run n) run.handed (told_at run n)
   pub commands : (n : ℕ) → n < length run.tracks → Done true false (told_at run n).commands.told
@@ -115,11 +115,11 @@ poll_first s k run h = record {
   commands = λ n low. rest_done true true false (told_at run n).commands.told (h.commands n low);
 }
 
--- who takes part where the observer has the state of a number
+-- who takes part if the observer has the state of a number
 abbrev pub part_at : Session → Run → ℕ → ℕ → Bool
 part_at s run n c = is_home (track_at run.normal.tracks n).holder || (let x = state_at (cycle_frames s) run.states c in list_any (λ i. carries x i && ((slot_of x i).track == n)) (range_with_len 0 slots))
 
--- a later one finds the same state
+-- a later poll finds the same state
 poll_again : (s : Session) (k : ℕ) (run : Run) → (with_poll s k run).current ≡ run.current → RunDone s run → RunDone s (with_poll s k run)
 unfolding with_poll
 poll_again s k run same h = record {
@@ -209,10 +209,10 @@ pub alone_pushed : (s : Session) (marks : Marks) (run : Run) (e : EntrySeen) →
 unfolding met with_poll
 alone_pushed s marks run e legal = legal.cycle.pushed
 
--- the first cycle of a turn
+-- the first cycle of a turn leaves the blocks in phases
 pub cycle_first : (s : Session) (run : Run) (e : EntrySeen) → e.entry.state ≤ length run.states → RunReady s run → RunDone s (cycle_alone s run e)
 cycle_first s run e low h = run_mix s e (met s (with_poll s e.entry.state run)) (holds_played s e run low) (run_met s (with_poll s e.entry.state run) (poll_first s e.entry.state run h))
 
--- a later one, which finds the same state
+-- a later cycle, which finds the same state, leaves the blocks in phases
 pub cycle_again : (s : Session) (run : Run) (e : EntrySeen) → e.entry.state ≤ length run.states → (with_poll s e.entry.state run).current ≡ run.current → RunDone s run → RunDone s (cycle_alone s run e)
 cycle_again s run e low same h = run_mix s e (met s (with_poll s e.entry.state run)) (holds_played s e run low) (run_met s (with_poll s e.entry.state run) (poll_again s e.entry.state run same h))

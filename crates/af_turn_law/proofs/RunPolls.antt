@@ -1,4 +1,4 @@
--- All cycles of a fast turn find the same state, where the queue is as told; so they leave the blocks of a turn run in phases.
+-- All cycles of a fast turn find the same state, if the queue is as told; so they leave the blocks of a turn run in phases.
 use Rattle.std.proofs.Common.{◌≡◌, ℕ, ◌==◌, nat_le, Bool, true, false, if◌then◌else◌, fold, map, List, [], ◌∷◌, ◌++◌, length, Some, None, refl, sym, ap, ◌∙◌, subst, append_assoc, append-nil}
 use Rattle.af_base.specs.declared.state.FastState.{FastState}
 use Rattle.af_model.specs.declared.states.MutatorEvent.TheVariants as mutator

@@ -87,19 +87,19 @@ plain_shown (seen.Shut back rear) = tt
 
 -- ## The steps
 
--- between two rounds
+-- how the shared objects stand between two rounds
 pub record SharedReady (run : Run) : Type 0 where
   pub queue : EndsReady mutator_marks observer_marks run.queue
   pub report : EndsReady writer_marks reader_marks run.report
   pub pipe : EndsReady client_marks server_marks run.pipe.told
 
--- before the meetings
+-- how the shared objects stand before the meetings
 pub record SharedDone (run : Run) : Type 0 where
   pub queue : IsPhased mutator_marks observer_marks run.queue
   pub report : IsPhased writer_marks reader_marks run.report
   pub pipe : IsPhased client_marks server_marks run.pipe.told
 
--- after a mix
+-- how the shared objects stand after a mix
 pub record SharedMixed (run : Run) : Type 0 where
   pub queue : EndsReady mutator_marks observer_marks run.queue
   pub report : IsPhased writer_marks reader_marks run.report

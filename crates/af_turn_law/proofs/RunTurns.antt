@@ -1,4 +1,4 @@
--- A turn of the normal mixer leaves the blocks of a turn run in phases, where its proxies act where they met.
+-- A turn of the normal mixer leaves the blocks of a turn run in phases, if its proxies act where they met.
 use Rattle.std.proofs.Common.{◌≡◌, ◌⊎◌, inl, inr, ℕ, ◌<◌, Bool, true, false, true≢false, if◌then◌else◌, map, List, [], ◌∷◌, length, Option, Some, None, refl, sym, ap, ◌∙◌, subst, arith}
 use Rattle.af_base.specs.declared.event.HandEvent.{HandEvent}
 use Rattle.af_base.specs.declared.event.HandEvent.TheVariants as hand
@@ -49,7 +49,7 @@ module _ (s : Session) (f : TurnFound) (e : Turn) (run : Run) (n : ℕ) (es : Li
     ]
   ]
 
-  -- and whoever took none in the last ones only sets an INVALID that is unseen
+  -- whoever took no part in the last meetings only sets an INVALID that is unseen
   only_invalid : takes_part s run n ≡ false → OnlyInvalid es (told_at run n).stream.told
   only_invalid off = elim acts [
     | inl none ↦ inl none
@@ -88,7 +88,7 @@ run_turned s f e run acts h = record {
     told : (n : ℕ) → n < length run.tracks → told_at (with_turn s f e run) n ≡ turned_track c o run.normal e n (told_at run n)
     told n low = each_at (turned_track c o run.normal e) 0 run.tracks n n no_track low (omega arith)
 
--- the turn of a round
+-- the turn of a round leaves the blocks in phases
 pub run_turn : (s : Session) (round : RoundSeen) (run : Run) → ((e : Turn) → round.turn ≡ Some e → ActsWhereMet s run (found_before s run [] e) e) → RunReady s run → RunDone s (turn_alone s run round)
 run_turn s round run acts h = by_turn round.turn acts
   where

@@ -1,4 +1,4 @@
--- The lists of the queue's, the report's and the pipe's ends force the order in which they are told, where that is in phases.
+-- The lists of the queue's, the report's and the pipe's ends force the order in which they are told, if that is in phases.
 use Rattle.std.proofs.Common.{◌≡◌, ℕ, ◌+◌, ◌≤◌, ◌||◌, true, false, true≢false, [], refl, ap, ◌∙◌, arith}
 use Rattle.af_base.specs.declared.event.ClientEvent.{ClientEvent}
 use Rattle.af_base.specs.declared.event.ClientEvent.TheVariants as client

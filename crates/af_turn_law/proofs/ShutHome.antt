@@ -32,7 +32,7 @@ use Rattle.af_judge.proofs.SoundTurns.{Sound, sound_acked}
 use Rattle.af_judge.proofs.TurnEdits.{push_tracks}
 use Rattle.af_turn_law.proofs.Marked.{no}
 
--- ## It has ended
+-- ## The life has ended
 
 abbrev shut_in : List CommandLook → Bool
 shut_in looks = list_any (λ look. is_shut look.seen) looks
@@ -121,7 +121,7 @@ served_ends c k seen tracks i legal found = by_life (track_at tracks i).life.end
     by_life true is legal found = is
     by_life false is legal found = part_ends given (heard k i s) seen.looks (ready k i s) found legal.looks
 
--- ## And is home
+-- ## The proxy is home
 
 abbrev IsDone : TrackKept → Type 0
 IsDone s = (is_home s.holder ≡ true) × (s.life.ended ≡ true)
@@ -149,7 +149,7 @@ module _ (c : Setup) (k : Learnt) (i : ℕ) where
   either_done true m n f g = f refl
   either_done false m n f g = g
 
-  -- another track is replaced
+  -- a track is done with also once another track is replaced
   other_done : (P : TrackKept → Bool) (tracks : List TrackKept) (n : ℕ) (s : TrackKept) → P (track_at tracks i) ≡ false → P (track_at tracks n) ≡ true → IsDone (track_at tracks i) → IsDone (track_at (slice_set tracks n s) i)
   other_done P tracks n s off on done = subst IsDone (sym (at_other tracks n s i (λ same. true≢false (sym on ∙ ap (λ j. P (track_at tracks j)) (sym same) ∙ off)))) done
 
@@ -180,7 +180,7 @@ module _ (c : Setup) (k : Learnt) (i : ℕ) where
         | inr same ↦ subst IsDone (sym same) done
       ])
 
-  -- once it is served it stays as it is while the others are
+  -- a track once served stays as it is while the others are served
   served_done : (seen : List TrackSeen) (tracks : List TrackKept) (n : ℕ) → i < n → n ≤ length tracks → IsDone (served c k (seen_at seen i).looks (served_to c k seen tracks i) i) → IsDone (track_at (served_to c k seen tracks n) i)
   served_done seen tracks zero low few done = absurd (let z : ⊥ = omega (arith, low) in z)
   served_done seen tracks (suc n) low few done =
@@ -192,7 +192,7 @@ module _ (c : Setup) (k : Learnt) (i : ℕ) where
         | inr other ↦ subst IsDone (sym (at_other now n next i other)) (served_done seen tracks n (omega (arith, low, other)) (omega (arith, few)) done)
       ]
 
--- the stream proxy of a track that is found shut is home after the turn where it was home before its part of it
+-- the stream proxy of a track that is found shut is home after the turn if it was home before its part of it
 pub shut_home : (c : Setup) (k : Learnt) (m : NormalKept) (e : Turn) (i : ℕ) → Sound m → e.ended ≡ false → (i < length m.tracks → LegalTrack c k (track_in e i) (tracks_at c k m e i) i) → is_home (track_at (tracks_at c k m e i) i).holder ≡ true
     → is_shut_now k (track_in e i) (tracks_at c k m e i) i ≡ true → is_home (track_at (turn_after c k m e).tracks i).holder ≡ true
 unfolding turn_after

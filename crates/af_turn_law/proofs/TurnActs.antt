@@ -123,7 +123,7 @@ module _ (s : Session) (marks : Marks) (run : Run) (f : TurnFound) (e : Turn) (s
       mixes : List ServerEvent
       mixes = mix_events c o e.mixes n
 
-      -- it takes part after the turn where it is home and found shut
+      -- a stream proxy takes part after the turn if it is home and found shut
       takes_after : e.ended ≡ false → home ≡ true → shut ≡ true → takes_part s (with_turn s f e run) n ≡ true
       takes_after runs here found =
           part_turned s f e run n (shut_home c (learnt o) run.normal e n kept.sound runs (λ inside. subst (λ k. LegalTrack c k (track_in e n) (tracks_at c k run.normal e n) n) same_learnt ((t.legal.goes_on runs).tracks n inside)) here found)
@@ -135,7 +135,7 @@ module _ (s : Session) (marks : Marks) (run : Run) (f : TurnFound) (e : Turn) (s
       by_shut runs here nothing true found (inr (inl part)) = inr (inl (part, takes_after runs here found))
       by_shut runs here nothing true found (inr (inr saw)) = inr (inr (ap (λ es. server.SetFlags 4 ∷ es) nothing, saw, takes_after runs here found))
 
-      -- it does no more than INVALID where nothing was taken
+      -- a stream proxy does no more than INVALID if nothing was taken
       still : e.ended ≡ false → mixes ≡ [] → (b : Bool) → home ≡ b → StreamActs s run f e n ((if b then invalid (learnt o) (track_in e n) tracks n else []) ++ mixes)
       still runs nothing false here = inl nothing
       still runs nothing true here = by_shut runs here nothing shut refl (unseen runs n low tame here)

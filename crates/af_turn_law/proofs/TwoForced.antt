@@ -1,4 +1,4 @@
--- Two parties' lists have one legal order, but for the places of marks, where an order in phases is known.
+-- Two parties' lists have one legal order, but for the places of marks, if an order in phases is known.
 use Rattle.std.proofs.Common.{◌≡◌, ◌⊎◌, inl, inr, ℕ, ◌+◌, ◌≤◌, ◌<◌, ◌||◌, Bool, true, false, MatchBool, List, [], ◌∷◌, ◌++◌, length, drop, get_or, refl, sym, ap, ◌∙◌, subst, arith, length-append}
 use Rattle.std.proofs.lemmas.Bool.{cases_lt}
 use Rattle.af_model.specs.Order.{Event, one, two, ones, twos, Legal, after}
@@ -7,7 +7,7 @@ use Rattle.af_turn_law.specs.Phased.{IsPhasedFrom}
 use Rattle.af_turn_law.proofs.Marked.{by_flag, past_front, past_last, learnt_last}
 
 module _ {P A B : Type 0} (legal : P → Event A B → Type 0) (next : P → Event A B → P) (ma : Marking A) (mb : Marking B) (ones_in twos_in : P → ℕ) where
-  -- Marks pass events of the other party: they change nothing but counts, and go by counts
+  -- Marks pass events of the other party: marks change nothing but counts, and go by counts
   pub record MarksPass : Type 0 where
     pub one_counts : (p : P) (a : A) → (ones_in (next p (one a)) ≡ ones_in p + 1) × (twos_in (next p (one a)) ≡ twos_in p)
     pub two_counts : (p : P) (b : B) → (ones_in (next p (two b)) ≡ ones_in p) × (twos_in (next p (two b)) ≡ twos_in p + 1)

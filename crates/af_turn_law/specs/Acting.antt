@@ -20,7 +20,7 @@ SeesNoInvalid (client.ClearFlags old) = bit_and old 4 ≡ 0
 SeesNoInvalid (client.SawFlags flags) = bit_and flags 4 ≡ 0
 SeesNoInvalid _ = Unit {0}
 
--- of all these events
+-- the flags that these events saw or cleared had no INVALID
 abbrev pub SawNoInvalid : List ClientEvent → Type 0
 SawNoInvalid events = AllByRecursion SeesNoInvalid events
 
@@ -30,12 +30,12 @@ StreamActs s run f e n events =
     let after = takes_part s (with_turn s f e run) n in
     (events ≡ []) ⊎ (((takes_part s run n ≡ true) × (after ≡ true)) ⊎ ((events ≡ server.SetFlags 4 ∷ []) × SawNoInvalid (client_list (told_at run n).stream) × (after ≡ true)))
 
--- A hand does something only once it is there; and the stream proxy of a track acts so where the stream block is tame so far
+-- A hand does something only once it is there; and the stream proxy of a track acts as StreamActs says if the stream block is tame so far
 pub record ActsWhereMet (s : Session) (run : Run) (f : TurnFound) (e : Turn) : Type 0 where
   pub hands : (n : ℕ) → (hand_list e n ≡ []) ⊎ (run.handed ≡ true)
   pub streams : (n : ℕ) → n < length run.tracks → is_tame (told_at run n).stream ≡ true → let o = outside_of (setup_of s) f e in StreamActs s run f e n (stream_list (setup_of s) o e (tracks_at (setup_of s) (learnt o) run.normal e n) n)
 
--- Where a track is found shut in the turn whose stream proxy is home and whose stream block is tame so far, so that INVALID is set, the proxy took part in the last meetings, or the client saw no INVALID so far
+-- If a turn finds a track shut whose stream proxy is home and whose stream block is tame so far, so that INVALID is set, the proxy took part in the last meetings, or the client saw no INVALID so far
 abbrev pub FindsShutUnseen : Session → Run → TurnFound → Turn → Type 0
 FindsShutUnseen s run f e = let k = learnt (outside_of (setup_of s) f e) in
     e.ended ≡ false → (n : ℕ) → n < length run.tracks → is_tame (told_at run n).stream ≡ true → is_home (track_at (tracks_at (setup_of s) k run.normal e n) n).holder ≡ true

@@ -24,6 +24,6 @@ PipeIsAsTold size p = IsPhased client_marks server_marks p.told → HasPipeTold 
 abbrev pub BlockIsAsTold : BlockTold → Type 0
 BlockIsAsTold b = IsBlockPhased b.told → HasBlockHistory b → IsHistoryAsTold b
 
--- from the beginning of a run of a script
+-- turns whose lists have legal orders are those of a turn run from its beginning, if those that find a track shut do so as FindShutUnseen says
 abbrev pub ListTurnsAreTurns : Session → Marks → List TurnSpec → List RoundSeen → Type 0
 ListTurnsAreTurns s marks turns rounds = IsScript s.script → AreListTurns s marks (new_run s) turns rounds → FindShutUnseen s (new_run s) turns rounds → AreTurns s marks (new_run s) turns rounds

@@ -17,7 +17,7 @@ AreListTurns s marks run (turn ∷ turns) [] = ⊥
 AreListTurns s marks run (turn ∷ turns) (round ∷ rounds) =
     IsMadeBy s marks run turn round × HaveHistories s (met_alone s run turn round) × AreListTurns s marks (with_ends (met_alone s run turn round)) turns rounds
 
--- each turn of the normal mixer that finds a track shut, whose stream block is tame so far, finds it so unseen
+-- each turn of the normal mixer that finds a track shut, whose stream block is tame so far, does so as FindsShutUnseen says
 abbrev pub FindShutUnseen : Session → Run → List TurnSpec → List RoundSeen → Type 0
 FindShutUnseen s run [] rounds = Unit {0}
 FindShutUnseen s run (turn ∷ turns) [] = Unit {0}

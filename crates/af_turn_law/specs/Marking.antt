@@ -45,7 +45,7 @@ module _ {A B : Type 0} (mine : Marking A) (others : Marking B) where
   abbrev pub KnowsAll : List A → List B → Type 0
   KnowsAll xs ys = OnlyMarksPast others (learnt mine xs) ys
 
-  -- A party that did the first events, where the other one did the second, may do one more: a mark that names no more than was done, or any event once it has learnt of all
+  -- A party that did the first events, when the other one did the second, may do one more: a mark that names no more than was done, or any event once it has learnt of all
   abbrev pub IsDue : List A → List B → A → Type 0
   IsDue xs ys a = MatchBool (mine.is_mark a) (mine.named a ≤ length ys) (KnowsAll xs ys)
 
@@ -75,7 +75,7 @@ abbrev pub hand_is_mark : HandEvent → Bool
 hand_is_mark (hand.SetFlags bits) = false
 hand_is_mark (hand.Met count) = true
 
--- of a block, and of a pipe, whose ends put and take
+-- the marks of the parties of a block, and of the ends of a pipe, which put and take
 abbrev pub client_marks : Marking ClientEvent
 client_marks = record { is_mark = client_is_mark; named = client_named }
 
@@ -118,14 +118,14 @@ module _ {P : Type 0} where
   reader_is_mark (reads.Learn count) = true
   reader_is_mark _ = false
 
-  -- of a queue
+  -- the marks of the ends of a queue
   abbrev pub mutator_marks : Marking (MutatorEvent P)
   mutator_marks = record { is_mark = mutator_is_mark; named = mutator_named }
 
   abbrev pub observer_marks : Marking (ObserverEvent P)
   observer_marks = record { is_mark = observer_is_mark; named = observer_named }
 
-  -- of a newest-value cell
+  -- the marks of the ends of a newest-value cell
   abbrev pub writer_marks : Marking (WriterEvent P)
   writer_marks = record { is_mark = writer_is_mark; named = writer_named }
 

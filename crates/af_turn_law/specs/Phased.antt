@@ -28,7 +28,7 @@ module _ {A B : Type 0} (ma : Marking A) (mb : Marking B) where
 abbrev pub ends_met : List HandEvent → Bool
 ends_met hs = fold (λ met e. hand_is_mark e) true hs
 
--- INVALID, where the client that did these events has seen nothing of it
+-- a server sets INVALID, of which the client that did these events has seen nothing
 abbrev pub IsUnseen : List ClientEvent → ServerEvent → Type 0
 IsUnseen events e = (e ≡ server.SetFlags 4) × SawNoInvalid events
 

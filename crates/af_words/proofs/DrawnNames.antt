@@ -15,7 +15,7 @@ neither_of : (a b : Bool) → a ≡ false → b ≡ false → (a || b) ≡ false
 neither_of true b first second = cc
 neither_of false b first second = second
 
--- of one of them
+-- a test that holds of a number in a range holds of one of the range
 pub any_found : (test : ℕ → Bool) (i from count : ℕ) → test i ≡ true → from ≤ i → i < from + count → list_any test (range_with_len from count) ≡ true
 any_found test i from zero is le lt = absurd (omega arith)
 any_found test i from (suc count) is le lt = go (nat_le i from) refl (λ more. any_found test i (from + 1) count is (omega (arith, more)) (omega (arith, lt)))
@@ -34,11 +34,11 @@ none_more_from test from (suc count) none next =
     neither_of (test from) (list_any test (range_with_len (from + 1) (suc count))) both.0
     (none_more_from test (from + 1) count both.1 (ap test (let same : (from + 1) + count ≡ from + suc count = omega arith in same) ∙ next))
 
--- of none of them, and not of the next
+-- a test that fails for all numbers so far and for the next one fails for all
 pub none_more : (test : ℕ → Bool) (count : ℕ) → list_any test (range_with_len 0 count) ≡ false → test count ≡ false → list_any test (range_with_len 0 (count + 1)) ≡ false
 none_more test count none next = ap (λ (n : ℕ). list_any test (range_with_len 0 n)) (add-one count) ∙ none_more_from test 0 count none (ap test (let same : 0 + count ≡ count = omega arith in same) ∙ next)
 
--- of none of them, so not of this one
+-- a test that fails for all numbers fails for each
 pub none_is : (test : ℕ → Bool) (i count : ℕ) → list_any test (range_with_len 0 count) ≡ false → i < count → test i ≡ false
 none_is test i count none lt = go (test i) refl
   where
@@ -46,7 +46,7 @@ none_is test i count none lt = go (test i) refl
     go true is = let clash : true ≡ false = sym (any_found test i 0 count is (omega arith) (omega (arith, lt))) ∙ none in cc
     go false is = is
 
--- the first of two names, where there are two, is the first that was given
+-- the first of two names, if there are two, isn't drawn if the first that was given isn't
 pub first_free : {P : Type 0} (first_of second_of : P → List ℕ) (r : Option P) (first second : List ℕ) → option_map (λ p. (first_of p, second_of p)) r ≡ two_names first second → is_drawn first ≡ false → IfSome r (λ p. is_drawn (first_of p) ≡ false)
 first_free first_of second_of None first second is free = tt
 first_free {P} first_of second_of (Some p) first second is free = go ((is_name first && is_name second) && not (bytes_eq first second)) is

@@ -61,7 +61,7 @@ first_takes_one test (rule ∷ rest) all = go (test rule) (first_takes_one test 
     go false behind = behind
 
 module _ (shape : Shape) where
-  -- where it stands behind a word that is a value
+  -- the walk behind a word that is a value
   abbrev pub at_value : Walk → Text → Walk
   at_value w word = standing (after_step shape.rules word w w.held value).held (after_step shape.rules word w w.held value).position
 
@@ -70,7 +70,7 @@ module _ (shape : Shape) where
   value_faults w [] = []
   value_faults w (word ∷ rest) = or_else (step_fault shape w.position w.held value) (value_faults (at_value w word) rest)
 
-  -- and how the level fails, and what it finds
+  -- how the level fails if all words are values, and what it finds
   abbrev pub value_level : List Text → Kinds
   value_level words = or_else (value_faults start words) (end_fault shape (fold at_value start words).held false)
 

@@ -20,7 +20,7 @@ use Rattle.af_words.specs.Words.{matched_request, player_words}
 use Rattle.af_words.proofs.PlainWords.{end_fault, level_of_values, met_faultless, met_value, neither, nil_first, rows_of_values, start, value_level, value_rows}
 use Rattle.af_words.proofs.SubWords.{AreMet, IsSub, labels, top, render_sub, record_sub, loop_sub, generate_sub, play_sub, verify_sub, trace_sub}
 
--- the command is one of those whose matches and faults are told
+-- the command is one of those whose matches and faults are known
 pub player_told : is_simple_and_free player_words ≡ true
 unfolding clap_on_literals
 player_told = refl
@@ -37,7 +37,7 @@ or_nothing (k ∷ ks) = refl
 -- ---- words behind the name of a subcommand
 
 module _ (name : Text) (shape : Shape) (asked : List Text → Option Request) (is : IsSub name shape asked) (rest : List Text) (plain : list_any begins_dash rest ≡ false) where
-  -- the walk leaves them to the subcommand
+  -- the walk leaves the words behind the name to the subcommand
   abbrev Stopped : Walk
   Stopped = record start { stopped = Some (name, rest) }
 
@@ -66,7 +66,7 @@ module _ (name : Text) (shape : Shape) (asked : List Text → Option Request) (i
       ap (λ (w : Walk). entered (built player_words) w.stopped) walk_stops
       ∙ (ap (option_map (λ s. rows_at s rest)) is.found ∙ ap₂ (λ (n : Text) (rows : List Row). Some (n, rows)) is.named (rows_of_values shape is.single rest plain))
 
-  -- so what they ask for is told by the subcommand
+  -- the words behind the name ask for what the subcommand finds
   sub_fits : AreMet name shape asked rest → Fits (name ∷ rest)
   sub_fits (inl met) = (
     λ none. ap matched_request rows_below ∙ met.1 ∙ sym (is.request rest),
@@ -77,7 +77,7 @@ module _ (name : Text) (shape : Shape) (asked : List Text → Option Request) (i
     λ fails. is.request rest ∙ met.1,
   )
 
--- ---- and behind another word
+-- ---- words behind another word
 
 abbrev top_turn : Option Text → Text → Kinds
 top_turn met word = or_else (other_fault top met word nothing_held)
@@ -88,7 +88,7 @@ stray_turn : (word : Text) → begins_dash word ≡ false → subcommand_met lab
 stray_turn word plain other = ap (λ (met : Option Text). top_turn met word) other
     ∙ ap₂ (λ (ks : Kinds) (met : Held × Step). or_else ks (step_fault top 1 met.0 met.1)) (met_faultless top word nothing_held plain) (met_value top.rules 1 word nothing_held plain)
 
--- so no other first word is taken
+-- a first word that is no subcommand asks for nothing
 stray_fits : (word : Text) (rest : List Text) → subcommand_met labels idle word ≡ None → command_request (word ∷ rest) ≡ None → begins_dash word ≡ false → Fits (word ∷ rest)
 unfolding walk_fault
 stray_fits word rest other nothing plain = (
@@ -129,7 +129,7 @@ words_fit (word ∷ rest) plain =
     or_sub trace_sub word rest parts.1 (λ no_trace not_trace.
     stray_fits word rest (rw (no_render, no_record, no_loop, no_generate, no_play, no_verify, no_trace) refl) (rw (not_render, not_record, not_loop, not_generate, not_play, not_verify, not_trace) refl) parts.0)))))))
 
--- ---- what a parse tells
+-- ---- what a parse finds
 
 plain_request : (words : List Text) → list_any begins_dash words ≡ false → request_of words ≡ command_request words
 plain_request words plain = rw plain refl
@@ -153,7 +153,7 @@ no_kind : (k : ErrorKind) → (k ≡ kind.OutOfMemory) ⊎ IsAmong k [] → (k �
 no_kind k (inl memory) other = other memory
 no_kind k (inr among) other = among
 
--- a parse that fails, and not for want of memory
+-- a parse that fails, though memory didn't run out
 pub parse_strays : (app : App) (words : List Text) (k : ErrorKind) → app ≡ player_words → list_any begins_dash words ≡ false
     → (is_simple_and_free app ≡ true → (k ≡ kind.OutOfMemory) ⊎ IsAmong k (fault_of app words)) → (k ≡ kind.OutOfMemory → ⊥) → request_of words ≡ None
 parse_strays app words k is plain fails other = plain_request words plain ∙ (words_fit words plain).1 (λ none.

@@ -8,7 +8,7 @@ use Rattle.af_words.specs.declared.request.Sizes.{Sizes}
 use Rattle.af_words.specs.declared.request.Turns.{Turns}
 use Rattle.af_words.specs.Dash.{begins_dash}
 
--- a script and an output to render it to; a file to record, an output, and the sizes of the recording; a file to loop, an output, and the turns of the loop; the number of a session, a file for its script, and an output; a script, an output to play it to, and a file for its journal; the same, with a file for its log and the room of the log; a script, and the files of a sound and of a journal to be judged
+-- a script and an output to render it to; a file to record, an output, and the sizes of the recording; a file to loop, an output, and the turns of the loop; the number of a session, a file for its script, and an output; a script, an output to play it to, and a file for its journal; a script, and the files of a sound and of a journal to be judged; a script, an output to play it to, files for its journal and its log, and the room of the log
 pub data Request : Type 0 where
   Render : List ℕ → List ℕ → Request
   Record : List ℕ → List ℕ → Sizes → Request

@@ -56,7 +56,7 @@ pub enum Request<'a> {
         sound: &'a str,
         journal: &'a str,
     },
-    /// The same, with the file of its log, and for how many notes the log has room.
+    /// A script, the output that it is played to, the files of its journal and its log, and for how many notes the log has room.
     Trace {
         script: &'a str,
         target: &'a str,

@@ -139,7 +139,7 @@ fn bare_command<'a>(alloc: Global) -> Command<'a>
         .subcommand_required(true)
 }
 
-/// A command with one more subcommand, where that could be made.
+/// A command with one more subcommand, if that could be made.
 fn with_sub<'a>(
     command: Command<'a>,
     sub: Result<Command<'a>, AllocError>,
@@ -443,7 +443,7 @@ fn matched_request<'a>(matches: &ArgMatches<'a>) -> Option<Request<'a>>
     }
 }
 
-/// What the words ask for, none where they don't fit.
+/// What the words ask for, none if they don't fit.
 pub fn request_of<'a>(alloc: Global, words: &'a [String]) -> Result<Option<Request<'a>>, AllocError>
     ensures value { IfOk result (λ found. option_map request_view found ≡ request_of (map string_bytes words.now)) }
     ensures sound { IfOk result (λ found. IfSome found IsSound) }

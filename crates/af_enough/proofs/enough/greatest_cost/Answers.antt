@@ -4,7 +4,7 @@ use Rattle.af_script.specs.declared.track.TrackSpec.{TrackSpec}
 use Rattle.af_enough.specs.Enough.{greatest_cost, track_cost}
 use Rattle.af_enough.proofs.enough.greatest_cost.Goals as goal
 
--- the greatest of some costs, one track on
+-- the greatest of some costs, after one track more
 one_on : (script : ScriptData) (tracks : List TrackSpec) (k : ℕ) (track : TrackSpec) (before now total : ℕ) → k < length tracks → track ≡ get_or tracks k track
     → now ≡ max (track_cost script track) before → max before (greatest_cost script (drop k tracks)) ≡ total → max now (greatest_cost script (drop (k + 1) tracks)) ≡ total
 one_on script tracks k track before now total lt is larger same =

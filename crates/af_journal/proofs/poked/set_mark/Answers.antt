@@ -3,7 +3,7 @@ use Rattle.std.proofs.lemmas.Bool.{cases_eq, eq-eqb, ne_eqb}
 use Rattle.std.proofs.lemmas.List.{get_or-set_other, get_or-set_same}
 use Rattle.af_journal.proofs.PokeLines.{or_nothing}
 
--- the marks after one is set, where it is there
+-- the marks after one is set, if it is there
 set-one : (marks : List Bool) (at other : ℕ) → at < length marks → slice_index_or (slice_set marks at true) other false ≡ (slice_index_or marks other false || (at == other))
 set-one marks at other lt = by_place (cases_eq at other)
   where
@@ -19,6 +19,6 @@ set-one marks at other lt = by_place (cases_eq at other)
         get_or-set_other marks at other true false (λ e. apart (sym e)) ∙ sym (or_nothing (slice_index_or marks other false))
         ∙ ap (λ b. slice_index_or marks other false || b) (sym (ne_eqb at other apart))
 
--- the marks, where it isn't
+-- the marks, if it isn't
 set-none : (marks : List Bool) (at other : ℕ) → length marks ≤ at → other < length marks → slice_index_or marks other false ≡ (slice_index_or marks other false || (at == other))
 set-none marks at other high lt = sym (or_nothing (slice_index_or marks other false)) ∙ ap (λ b. slice_index_or marks other false || b) (sym (ne_eqb at other (λ e. omega (arith, high, lt, e))))
