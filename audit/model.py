@@ -729,7 +729,7 @@ class Normal:
             track.command.block.set_flags(INVALID)
             if track.place == "home":
                 track.stream.block.set_flags(INVALID)
-        word = (DEAD if shut else track.life.state) + 16 * track.life.drained + 256 * track.settled
+        word = (DEAD if shut else track.life.state) + 16 * track.life.drained + 256 * (track.settled % 2 ** 24)
         if word != track.stored:
             track.stored = track.command.block.words[STATUS] = word
             lines.append(f"a {at} {word}")

@@ -193,7 +193,7 @@ class Normal:
             if track.place == "home":
                 track.stream.served.append(("set", INVALID))
             shut = True
-        word = (DEAD if shut else track.life.state) + 16 * track.life.drained + 256 * track.settled
+        word = (DEAD if shut else track.life.state) + 16 * track.life.drained + 256 * (track.settled % 2 ** 24)
         right &= seen.status == (None if word == track.status else word)
         track.status = word
         return right

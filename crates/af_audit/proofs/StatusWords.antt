@@ -1,5 +1,5 @@
 -- How many commands a stored status counts as settled.
-use Rattle.std.proofs.Common.{◌≡◌, ℕ, ◌+◌, ◌*◌, ◌/◌, ◌≤◌, Bool, true, false, if◌then◌else◌, List, [], ◌∷◌, ◌++◌, ap, ◌∙◌, arith}
+use Rattle.std.proofs.Common.{◌≡◌, ℕ, ◌+◌, ◌*◌, ◌/◌, ◌≤◌, Bool, true, false, if◌then◌else◌, List, [], ◌∷◌, ◌++◌, sym, ap, subst, ◌∙◌, arith}
 use Rattle.std.proofs.lemmas.Nat.{div-mul-add}
 use Rattle.af_base.specs.declared.event.ServerEvent.{ServerEvent}
 use Rattle.af_base.specs.declared.event.ServerEvent.TheVariants as server
@@ -7,7 +7,7 @@ use Rattle.af_life.specs.declared.kept.TrackKept.{TrackKept}
 use Rattle.af_life.specs.declared.state.LifeState.{LifeState}
 use Rattle.af_life.specs.declared.state.LifeState.TheVariants.{Absent, Idle, Active, Pausing, Paused, Resuming, Stopping1, Stopping2, Stopped, Flushed}
 use Rattle.af_life.specs.declared.track.Life.{Life}
-use Rattle.af_life.specs.Serves.{state_code, status_word}
+use Rattle.af_life.specs.Serves.{settled_told, state_code, status_word}
 use Rattle.af_life.specs.State.{code_of}
 use Rattle.af_runs.specs.Clients.{settled_in}
 
@@ -33,15 +33,15 @@ mark_low : (drained : Bool) → (if drained then 16 else 0) ≤ 16
 mark_low true = omega arith
 mark_low false = omega arith
 
--- a track's status counts the commands that it has settled
-pub status_settles : (shut : Bool) (s : TrackKept) → settled_in (status_word shut s) ≡ s.settled
+-- a track's status counts no more commands than it has settled
+pub status_settles : (shut : Bool) (s : TrackKept) → settled_in (status_word shut s) ≤ s.settled
 unfolding status_word
-status_settles shut s = by (state_code shut s.life) (if s.life.drained then 16 else 0) (state_low shut s.life) (mark_low s.life.drained)
+status_settles shut s = subst (λ (n : ℕ). n ≤ s.settled) (sym (by (state_code shut s.life) (if s.life.drained then 16 else 0) (settled_told s) (state_low shut s.life) (mark_low s.life.drained))) (omega arith)
   where
-    by : (state mark : ℕ) → state ≤ 15 → mark ≤ 16 → (state + mark + 256 * s.settled) / 256 ≡ s.settled
-    by state mark a b =
-        let word : state + mark + 256 * s.settled ≡ s.settled * 256 + (state + mark) = omega arith in
-        ap (λ (n : ℕ). n / 256) word ∙ div-mul-add s.settled 256 (state + mark) (omega (arith, a, b))
+    by : (state mark n : ℕ) → state ≤ 15 → mark ≤ 16 → (state + mark + 256 * n) / 256 ≡ n
+    by state mark n a b =
+        let word : state + mark + 256 * n ≡ n * 256 + (state + mark) = omega arith in
+        ap (λ (m : ℕ). m / 256) word ∙ div-mul-add n 256 (state + mark) (omega (arith, a, b))
 
 -- ## A list
 

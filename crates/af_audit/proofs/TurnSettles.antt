@@ -126,12 +126,12 @@ pub record TurnSettles (most least : ℕ) (taken : List ℕ) (e : Turn) (n : ℕ
   pub so : SettledSo most least (taken ++ going e (words_taken (track_in e n).looks)) after
   pub status : StatusesLow after.settled (going e (status_events (track_in e n).status))
 
-stored_low : (most last word : ℕ) → settled_in word ≡ most → StatusesLow most (status_events (stored_over last word))
+stored_low : (most last word : ℕ) → settled_in word ≤ most → StatusesLow most (status_events (stored_over last word))
 stored_low most last word is = by (word == last)
   where
     by : (b : Bool) → StatusesLow most (status_events (if b then None else Some word))
     by true = tt
-    by false = (omega (arith, is), tt)
+    by false = (is, tt)
 
 module _ (most least : ℕ) (taken : List ℕ) (c : Setup) (o : Outside) (m : NormalKept) (e : Turn) (n : ℕ) (low : n < length m.tracks) (legal : LegalTurn c o m e) where
   abbrev k : Learnt
@@ -163,7 +163,7 @@ module _ (most least : ℕ) (taken : List ℕ) (c : Setup) (o : Outside) (m : No
         let t : TrackKept = after_report (slot_for c tracks n) (heard k n s) (track_in e n).looks (ready k n s) in
         let part : (served c k (track_in e n).looks tracks n).settled ≡ t.settled = ap (λ (b : Bool). (if b then s else after_part (slot_for c tracks n) (heard k n s) (track_in e n).looks (ready k n s)).settled) lives in
         let many : after.settled ≡ t.settled = ap (λ (x : Core). x.1) now ∙ part in
-        let word : settled_in (status_due (slot_for c tracks n) (heard k n s) (track_in e n).looks (ready k n s)) ≡ after.settled = status_settles (is_found_shut (heard k n s) (track_in e n).looks) t ∙ sym many in (
+        let word : settled_in (status_due (slot_for c tracks n) (heard k n s) (track_in e n).looks (ready k n s)) ≤ after.settled = subst (λ (count : ℕ). settled_in (status_due (slot_for c tracks n) (heard k n s) (track_in e n).looks (ready k n s)) ≤ count) (sym many) (status_settles (is_found_shut (heard k n s) (track_in e n).looks) t) in (
           core_so most least (taken ++ looks_words) (core (served c k (track_in e n).looks tracks n)) (core after) (sym now) so,
           subst (λ (o : Option ℕ). StatusesLow after.settled (status_events o)) (sym is.status) (stored_low after.settled (ready k n s).status _ word),
         )

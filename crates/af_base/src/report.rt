@@ -10,7 +10,7 @@ pub struct SlotReport {
     /// Whether the server is shut.
     pub shut: bool,
     /// The slot's generation in the state that brought the item.
-    pub generation: u32,
+    pub generation: u64,
     /// The flush count that the server saw last.
     pub flush_seen: u32,
     /// How many looks since then showed all frames of a cycle, some of them, and none.

@@ -41,7 +41,7 @@ impl Command {
 #[derive(Clone, Copy, Debug, PartialEq, Eq)]
 pub struct FastTrack {
     /// Rises with each attach to the slot.
-    pub generation: u32,
+    pub generation: u64,
     /// The number of the track, from 0.
     pub track: u32,
     /// The track is mono: its left sample goes to both sides.
@@ -57,12 +57,12 @@ pub struct FastState {
     /// Bit i is set exactly if slot i is active. Bit 0 is always set.
     pub mask: u32,
     /// Rises with each attach and each detach.
-    pub tracks_gen: u32,
+    pub tracks_gen: u64,
     /// The frames of one cycle.
     pub frames: u32,
     pub command: Command,
     /// Rises with each change to ColdIdle.
-    pub cold_gen: u32,
+    pub cold_gen: u64,
 }
 
 /// What a push of a state answered.

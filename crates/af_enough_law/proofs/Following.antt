@@ -1,5 +1,5 @@
 -- A turn leaves a track on its course.
-use Rattle.std.proofs.Common.{◌≡◌, ℕ, zero, suc, ◌+◌, ◌*◌, ◌<◌, ◌≤◌, Bool, true, false, List, [], ◌∷◌, length, refl, sym, ap, ◌∙◌, subst, arith, true≢false, Option, MatchBool, if◌then◌else◌}
+use Rattle.std.proofs.Common.{◌≡◌, ℕ, zero, suc, ◌+◌, ◌*◌, ◌%◌, ◌<◌, ◌≤◌, Bool, true, false, List, [], ◌∷◌, length, refl, sym, ap, ◌∙◌, subst, arith, true≢false, Option, MatchBool, if◌then◌else◌}
 use Rattle.af_base.specs.declared.report.SlotReport.{SlotReport}
 use Rattle.af_base.specs.declared.state.FastState.{FastState}
 use Rattle.af_base.specs.Turn.{Turn, TrackSeen}
@@ -55,7 +55,7 @@ edited_alike own s t (enters draft a) = record { life = refl; settled = refl; aw
 
 word_same : (s t : TrackKept) → t.life ≡ s.life → t.settled ≡ s.settled → status_word false t ≡ status_word false s
 unfolding status_word
-word_same s t life settled = λ i. state_code false (life i) + (if (life i).drained then 16 else 0) + 256 * settled i
+word_same s t life settled = λ i. state_code false (life i) + (if (life i).drained then 16 else 0) + 256 * (settled i % 16777216)
 
 pub follows_alike : (count k : ℕ) (s t : TrackKept) → Alike s t → Follows count k s → Follows count k t
 follows_alike count k s t same f = record {

@@ -8,7 +8,7 @@ use Rattle.af_life.specs.declared.track.Life.{Life}
 use Rattle.af_life.specs.Heard.{learnt, heard}
 use Rattle.af_life.specs.Kept.{track_at}
 use Rattle.af_life.specs.Reports.{by_report}
-use Rattle.af_life.specs.Serves.{status_word}
+use Rattle.af_life.specs.Serves.{settled_told, status_word}
 use Rattle.af_life.specs.State.{code_of}
 use Rattle.af_model.specs.Journals.{RoundSeen}
 use Rattle.af_runs.specs.Blocks.{Marks}
@@ -32,11 +32,11 @@ use Rattle.af_enough_law.proofs.Turning.{Stands}
 
 -- ## The words of a stopped track
 
-says_word : (s : TrackKept) → code_of s.life.state ≡ 8 → s.life.drained ≡ true → 3 ≤ s.settled → SaysStopped (status_word false s)
+says_word : (s : TrackKept) → code_of s.life.state ≡ 8 → s.life.drained ≡ true → 3 ≤ s.settled → s.settled ≤ 4 → SaysStopped (status_word false s)
 unfolding status_word
-says_word s code dry some =
-    let word : status_word false s ≡ 8 + 16 + 256 * s.settled = λ j. code j + (if dry j then 16 else 0) + 256 * s.settled in
-    subst SaysStopped (sym word) (record { state = omega arith; settled = omega arith })
+says_word s code dry some few =
+    let word : status_word false s ≡ 8 + 16 + 256 * settled_told s = λ j. code j + (if dry j then 16 else 0) + 256 * settled_told s in
+    subst SaysStopped (sym word) (record { state = omega arith; settled = omega (arith, some, few) })
 
 -- a stopped life stays stopped, whether or not it is removed
 stopped_on : (count c more : ℕ) (known : Known) (l : Life) → Course count 3 l → stage l ≡ 3 → 3 + more ≤ 4 → known.shut ≡ false
@@ -85,7 +85,7 @@ module _ (cut : Bool) (s : Session) (marks : Marks) (run : Run) (round : RoundSe
   -- the status words before and after
   says_before : SaysStopped before.status
   says_before = let code = stopped_code on.count before.life there still in let settled = on.follows.settled in
-      subst SaysStopped (sym on.follows.status) (says_word before code.0 code.1 (let e = three in omega (arith, settled, e)))
+      subst SaysStopped (sym on.follows.status) (says_word before code.0 code.1 (let e = three in omega (arith, settled, e)) (let e = three in omega (arith, settled, e)))
 
   says_after : SaysStopped after.status
   says_after =
@@ -100,7 +100,7 @@ module _ (cut : Bool) (s : Session) (marks : Marks) (run : Run) (round : RoundSe
       gone.life ∙ ap (λ (d : Bool). if d then before.life else by_report h.known (told_words (course gone.after.count on.told gone.more) before.life)) alive ∙ ap (λ (ws : List ℕ). by_report h.known (told_words ws before.life)) words in
       let stays = stopped_on on.count gone.after.count gone.more h.known before.life there still (omega (arith, next, within, few, e)) open_is in
       let settled = gone.after.follows.settled in
-      subst SaysStopped (sym gone.after.follows.status) (says_word after (ap (λ (l : Life). code_of l.state) life ∙ stays.0) (ap (λ (l : Life). l.drained) life ∙ stays.1) (omega (arith, settled, next, e)))
+      subst SaysStopped (sym gone.after.follows.status) (says_word after (ap (λ (l : Life). code_of l.state) life ∙ stays.0) (ap (λ (l : Life). l.drained) life ∙ stays.1) (omega (arith, settled, next, e)) (omega (arith, settled, within, few)))
 
   -- After the round the REMOVE was sent
   pub removes_round : (most total : ℕ) → Stands (sides_of b) most total → 6 ≤ length b.commands.released → AreFair (calls_in round i) → 8 ≤ length u.commands.released

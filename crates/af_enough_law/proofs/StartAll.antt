@@ -1,5 +1,5 @@
 -- After the first four rounds of a run of a script whose tracks play through, the session is carried, and each track is started.
-use Rattle.std.proofs.Common.{◌≡◌, ◌⊎◌, inl, inr, ℕ, ◌+◌, ◌*◌, ◌≤◌, ◌<◌, if◌then◌else◌, MatchBool, Bool, true, false, All, Some, None, List, [], ◌∷◌, length, sym, ap, ◌∙◌, subst, arith}
+use Rattle.std.proofs.Common.{◌≡◌, ◌⊎◌, inl, inr, ℕ, ◌+◌, ◌*◌, ◌%◌, ◌≤◌, ◌<◌, if◌then◌else◌, MatchBool, Bool, true, false, All, Some, None, List, [], ◌∷◌, length, sym, ap, ◌∙◌, subst, arith}
 use Rattle.af_base.specs.declared.frame.Frame.{Frame}
 use Rattle.af_base.specs.Log.{slots}
 use Rattle.af_life.specs.declared.kept.Holder.TheVariants.{Home, Lent}
@@ -54,9 +54,9 @@ use Rattle.af_enough_law.proofs.StartTracks.{numbers, stays_or_lent, home_gone, 
 use Rattle.af_enough_law.proofs.TrackCarried.{TrackCarried, TrackGone}
 
 -- the status of a life that took one command at most says so
-low_course : (count told : ℕ) (l : Life) (n : ℕ) → Course count told l → told ≤ 1 → n ≡ told → settled_in (state_code false l + (if l.drained then 16 else 0) + 256 * n) ≤ 1
-low_course count told l n absent few same = subst (λ (k : ℕ). settled_in (0 + 0 + 256 * k) ≤ 1) (sym same) (omega arith)
-low_course count told l n idle few same = subst (λ (k : ℕ). settled_in (1 + 0 + 256 * k) ≤ 1) (sym same) (omega arith)
+low_course : (count told : ℕ) (l : Life) (n : ℕ) → Course count told l → told ≤ 1 → n ≡ told → settled_in (state_code false l + (if l.drained then 16 else 0) + 256 * (n % 16777216)) ≤ 1
+low_course count told l n absent few same = subst (λ (k : ℕ). settled_in (0 + 0 + 256 * (k % 16777216)) ≤ 1) (sym same) (omega arith)
+low_course count told l n idle few same = subst (λ (k : ℕ). settled_in (1 + 0 + 256 * (k % 16777216)) ≤ 1) (sym same) (omega arith)
 low_course count told l n (playing retries a b) few same = absurd (let z : ⊥ = omega (arith, few) in z)
 low_course count told l n (stopping retries) few same = absurd (let z : ⊥ = omega (arith, few) in z)
 low_course count told l n (drained retries) few same = absurd (let z : ⊥ = omega (arith, few) in z)

@@ -1,5 +1,5 @@
 -- A round in which the START of a track was settled before leaves its client past its start.
-use Rattle.std.proofs.Common.{◌≡◌, inl, ℕ, ◌+◌, ◌*◌, ◌/◌, ◌≤◌, ◌==◌, Bool, true, false, true≢false, MatchBool, List, [], ◌∷◌, length, fold, refl, sym, ap, ◌∙◌, subst, arith, if◌then◌else◌}
+use Rattle.std.proofs.Common.{◌≡◌, inl, ℕ, ◌+◌, ◌*◌, ◌%◌, ◌/◌, ◌≤◌, ◌==◌, Bool, true, false, true≢false, MatchBool, List, [], ◌∷◌, length, fold, refl, sym, ap, ◌∙◌, subst, arith, if◌then◌else◌}
 use Rattle.af_base.specs.declared.event.ClientCall.{ClientCall}
 use Rattle.af_base.specs.declared.event.ClientCall.TheVariants as call
 use Rattle.af_base.specs.declared.event.ServerEvent.{ServerEvent}
@@ -29,13 +29,13 @@ use Rattle.af_enough_law.proofs.StatusSaid.{look_says}
 use Rattle.af_enough_law.proofs.TakesAll.{CommandsMet}
 use Rattle.af_enough_law.proofs.Turning.{Stands, on, gone_for_good, begins_ended, next_ended, turn_whole}
 
--- the status word says how many commands are settled
-settled_least : (s : TrackKept) → s.settled ≤ settled_in (status_word false s)
+-- the status word says how many commands are settled, if they are few
+settled_least : (s : TrackKept) → s.settled ≤ 4 → s.settled ≤ settled_in (status_word false s)
 unfolding status_word
-settled_least s = by (state_code false s.life + (if s.life.drained then 16 else 0)) s.settled
+settled_least s few = by (state_code false s.life + (if s.life.drained then 16 else 0)) s.settled few
   where
-    by : (x n : ℕ) → n ≤ (x + 256 * n) / 256
-    by x n = omega arith
+    by : (x n : ℕ) → n ≤ 4 → n ≤ (x + 256 * (n % 16777216)) / 256
+    by x n few = omega (arith, few)
 
 module _ (cut : Bool) (s : Session) (marks : Marks) (run : Run) (round : RoundSeen) (i : ℕ) (t : TurnMade s marks run round) (legal : LegalRound cut s marks run round) (known : List ServerEvent) (calm : CalmCommands run i known) (turn : OpenTurn s marks run round i t)
     (met : CommandsMet run i) (on_it : OnCourse run i) (gone : CourseGone s marks run round i t on_it.told) (settled : 2 ≤ (track_at run.normal.tracks i).settled) (fair : AreFair (calls_in round i)) where
@@ -50,8 +50,12 @@ module _ (cut : Bool) (s : Session) (marks : Marks) (run : Run) (round : RoundSe
   sees =
       let before : TrackKept = track_at run.normal.tracks i in
       let after : TrackKept = track_at (after_round s run round).normal.tracks i in
-      let a = settled_least before in
-      let b = settled_least after in
+      let sent = on_it.within in
+      let sent_few = on_it.few in
+      let sent_then = gone.after.within in
+      let few_then = gone.after.few in
+      let a = settled_least before (let now = on_it.follows.settled in omega (arith, now, sent, sent_few)) in
+      let b = settled_least after (let now = gone.after.follows.settled in omega (arith, now, sent_then, few_then)) in
       let same = ap settled_in on_it.follows.status in
       let same_then = ap settled_in gone.after.follows.status in
       let c = on_it.follows.settled in

@@ -14,7 +14,7 @@ use af_link::Links;
 use std::sync::ledger::Ledger;
 
 // What a cycle is by its state.
-fn cycle_of(done: u32, state: &Option<FastState>) -> Cycle
+fn cycle_of(done: u64, state: &Option<FastState>) -> Cycle
     ensures { result ≡ cycle_of done state.now }
 {
     let Some(state) = state else {

@@ -24,7 +24,7 @@ use af_link::Links;
 use std::sync::ledger::Ledger;
 
 // The cold generation performed last, after an entry under a state.
-fn cold_after(done: u32, cycle: Cycle, state: &Option<FastState>) -> u32
+fn cold_after(done: u64, cycle: Cycle, state: &Option<FastState>) -> u64
     ensures { result ≡ (if is_cold cycle then cold_of state.now else done) }
 {
     match (cycle, state) {

@@ -31,7 +31,7 @@ pub struct FastMixer {
     pub(crate) adopted: bool,
     pub(crate) exited: bool,
     // The cold generation performed last.
-    pub(crate) cold: u32,
+    pub(crate) cold: u64,
     // The state that the last entry used.
     pub(crate) last: Option<FastState>,
     // The report after the last entry.

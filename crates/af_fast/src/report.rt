@@ -68,7 +68,7 @@ fn is_empty(seen: Seen) -> bool
 // A report goes on with one more look at a server of which this is known.
 fn counted_look(
     asked: usize,
-    generation: u32,
+    generation: u64,
     seen: Seen,
     known: KnownNow,
     before: SlotReport,

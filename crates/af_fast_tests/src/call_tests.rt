@@ -222,7 +222,7 @@ fn pair(cycle: u64, out: [Frame; 4], first: SlotReport, second: SlotReport) -> R
 }
 
 // What is reported of a slot after looks at a lawful track without flushes.
-fn counted(generation: u32, consumed: u64, looks: [u32; 3]) -> SlotReport {
+fn counted(generation: u64, consumed: u64, looks: [u32; 3]) -> SlotReport {
     let [fulls, partials, empties] = looks;
     SlotReport {
         consumed,

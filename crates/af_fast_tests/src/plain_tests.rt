@@ -41,7 +41,7 @@ pub(crate) struct Plain {
     number: u64,
     state: Option<FastState>,
     last: Option<FastState>,
-    cold: u32,
+    cold: u64,
     report: Report,
     pub entries: Vec<CycleEntry>,
     pub frames: Vec<Frame>,
@@ -159,7 +159,7 @@ impl PlainTrack {
     }
 
     // The report of a track's slot, after the one before and a look.
-    fn report(&self, generation: u32, seen: Seen, before: SlotReport) -> SlotReport {
+    fn report(&self, generation: u64, seen: Seen, before: SlotReport) -> SlotReport {
         let mut report = before;
         report.consumed = self.consumed as u64;
         report.shut = self.shut.is_some();

@@ -22,7 +22,7 @@ pub const ABSENT: SlotEntry = SlotEntry {
 };
 
 /// What a cycle is by its state, if there is one, after a cold generation was performed.
-pub fn cycle_of(done: u32, state: Option<&FastState>) -> Cycle
+pub fn cycle_of(done: u64, state: Option<&FastState>) -> Cycle
     ensures { result ≡ cycle_of done (option_map (λ x. x.now) state.entry) }
 {
     let Some(state) = state else {
@@ -38,7 +38,7 @@ pub fn cycle_of(done: u32, state: Option<&FastState>) -> Cycle
 }
 
 /// The cold generation performed last, after an entry under a state.
-pub fn cold_after(done: u32, cycle: Cycle, state: Option<&FastState>) -> u32
+pub fn cold_after(done: u64, cycle: Cycle, state: Option<&FastState>) -> u64
     ensures { result ≡ (if is_cold cycle then cold_of (option_map (λ x. x.now) state.entry) else done) }
 {
     match (cycle, state) {

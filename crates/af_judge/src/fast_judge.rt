@@ -42,7 +42,7 @@ pub struct Entries {
 pub struct FastJudge {
     alloc: Global,
     asked: u32,
-    cold: u32,
+    cold: u64,
     ended: bool,
     told: Reporter,
     before: Report,

@@ -83,7 +83,7 @@ pub fn is_shown(seen: Seen) -> bool
 // A report goes on with one more look at a server of which this is known.
 fn counted_look(
     asked: u32,
-    generation: u32,
+    generation: u64,
     seen: Seen,
     heard: Heard,
     before: SlotReport,

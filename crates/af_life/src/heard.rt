@@ -95,7 +95,7 @@ impl TrackKept {
     /// A START that waits for a flush count is settled once that is reached.
     #[tactic(auto, unfolding(crate::specs::Heard::settled_at))]
     pub fn settled_at(self, flush_seen: u32) -> TrackKept
-        requires room { self.settled < 2 ^ 31 }
+        requires room { self.settled < 2 ^ 62 }
         ensures settles { result ≡ settled_at flush_seen self }
         ensures few { result.settled ≤ self.settled + 1 }
     {

@@ -47,7 +47,7 @@ pub struct TrackKept {
     /// The slot given at OPEN.
     pub slot: Option<u32>,
     /// The slot's generation at the last attach.
-    pub generation: u32,
+    pub generation: u64,
     /// What the proxy knew at the last attach, without looks.
     pub at_attach: Heard,
     /// The counts of this attachment that a report showed last.
@@ -57,7 +57,7 @@ pub struct TrackKept {
     /// The flush count that a START waits for.
     pub awaits: Option<u32>,
     /// How many commands are settled.
-    pub settled: u32,
+    pub settled: u64,
     /// The status word stored last, 0 if none was.
     pub status: u32,
 }

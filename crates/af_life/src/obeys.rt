@@ -43,7 +43,7 @@ impl TrackKept {
     /// A command makes the life another, and an OPEN gives the slot. The command is settled, but for a START of a flush count that was not seen yet, which waits.
     #[tactic(auto, unfolding(crate::specs::Obeys::obeyed))]
     pub fn obeyed(self, given: Option<u32>, flush_seen: u32, code: u32, argument: u32) -> TrackKept
-        requires room { self.settled < 2 ^ 31 }
+        requires room { self.settled < 2 ^ 62 }
         ensures { result ≡ obeyed given flush_seen code argument self }
     {
         let told = self.told(given, code, argument);
@@ -72,7 +72,7 @@ impl TrackKept {
     /// What a look at the command block makes of the track: a command is obeyed, and a block that was shut ends the track.
     #[tactic(auto, unfolding(crate::specs::Obeys::after_look))]
     pub fn after_look(self, given: Option<u32>, flush_seen: u32, look: CommandLook) -> TrackKept
-        requires room { self.settled < 2 ^ 31 }
+        requires room { self.settled < 2 ^ 62 }
         ensures { result ≡ after_look given flush_seen look self }
     {
         match look.seen {

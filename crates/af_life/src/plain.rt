@@ -84,7 +84,7 @@ pub fn new_track() -> TrackKept
 // A slot of the state gets a track: its generation rises.
 fn attach(draft: &mut FastState, slot: u32, setting: Setting, track: u32)
     requires slot { slot < slots }
-    requires room { ((slot_of draft.old slot).generation < 2 ^ 31) × (draft.old.tracks_gen < 2 ^ 31) }
+    requires room { ((slot_of draft.old slot).generation < 2 ^ 62) × (draft.old.tracks_gen < 2 ^ 62) }
     ensures { draft.new ≡ attached slot setting.mono setting.scale track draft.old }
 {
     let i = slot as usize;
@@ -101,7 +101,7 @@ fn attach(draft: &mut FastState, slot: u32, setting: Setting, track: u32)
 // A slot leaves the state.
 fn detach(draft: &mut FastState, slot: u32)
     requires slot { slot < slots }
-    requires room { draft.old.tracks_gen < 2 ^ 31 }
+    requires room { draft.old.tracks_gen < 2 ^ 62 }
     ensures { draft.new ≡ detached slot draft.old }
 {
     draft.mask &= !(1 << slot);
@@ -110,7 +110,7 @@ fn detach(draft: &mut FastState, slot: u32)
 
 // The state with another command: a change to cold idle counts.
 fn set_command(draft: &mut FastState, command: Command)
-    requires room { draft.old.cold_gen < 2 ^ 31 }
+    requires room { draft.old.cold_gen < 2 ^ 62 }
     ensures { draft.new ≡ with_command command draft.old }
 {
     let (before, after) = (draft.command.code(), command.code());
@@ -262,7 +262,7 @@ impl PlainMixer {
     fn served(&self, i: usize, report: &Report, own: &[Heard], looks: &[CommandLook]) -> TrackKept
         requires track { (i < length self.now.kept.tracks) × (i < length self.now.setup.settings) × (i < length own.now) }
         requires slot { slot_number (track_at self.now.kept.tracks i) < slots }
-        requires room { (track_at self.now.kept.tracks i).settled + length looks.now < 2 ^ 24 - 1 }
+        requires room { (track_at self.now.kept.tracks i).settled + length looks.now < 2 ^ 62 - 1 }
         ensures { result ≡ served self.now.setup (learnt_of report.now own.now) looks.now self.now.kept.tracks i }
     {
         let track = self.tracks[i];
@@ -280,7 +280,7 @@ impl PlainMixer {
     fn let_go(&mut self, i: usize)
         requires track { i < length self.old.kept.tracks }
         requires slot { slot_number (track_at self.old.kept.tracks i) < slots }
-        requires room { self.old.kept.draft.tracks_gen < 2 ^ 31 }
+        requires room { self.old.kept.draft.tracks_gen < 2 ^ 62 }
         ensures { self.new ≡ record self.old { kept = let_go i self.old.kept } }
     {
         let track = self.tracks[i];
@@ -297,7 +297,7 @@ impl PlainMixer {
     fn lend(&mut self, i: usize, own: Heard)
         requires track { (i < length self.old.kept.tracks) × (i < length self.old.setup.settings) × (i < 2 ^ 32) }
         requires slot { slot_number (track_at self.old.kept.tracks i) < slots }
-        requires room { ((slot_of self.old.kept.draft (slot_number (track_at self.old.kept.tracks i))).generation < 2 ^ 31) × (self.old.kept.draft.tracks_gen < 2 ^ 31) }
+        requires room { ((slot_of self.old.kept.draft (slot_number (track_at self.old.kept.tracks i))).generation < 2 ^ 62) × (self.old.kept.draft.tracks_gen < 2 ^ 62) }
         ensures { self.new ≡ record self.old { kept = lend self.old.setup i own self.old.kept } }
     {
         let track = self.tracks[i];
@@ -315,7 +315,7 @@ impl PlainMixer {
     #[tactic(auto, unfolding(crate::specs::Edits::ordered))]
     fn order(&mut self, room: u32)
         requires sizes { (self.old.setup.frames ≤ 1024) × (self.old.setup.normal ≤ 16) }
-        requires colds { self.old.kept.draft.cold_gen < 2 ^ 31 }
+        requires colds { self.old.kept.draft.cold_gen < 2 ^ 62 }
         ensures { self.new ≡ record self.old { kept = commanded_by self.old.setup room self.old.kept } }
     {
         let before = self.draft.command;
@@ -356,7 +356,7 @@ impl PlainMixer {
     fn edit(&mut self, i: usize, own: Heard)
         requires track { (i < length self.old.kept.tracks) × (i < length self.old.setup.settings) × (i < 2 ^ 32) }
         requires slot { slot_number (track_at self.old.kept.tracks i) < slots }
-        requires room { ((slot_of self.old.kept.draft (slot_number (track_at self.old.kept.tracks i))).generation < 2 ^ 31) × (self.old.kept.draft.tracks_gen < 2 ^ 31) }
+        requires room { ((slot_of self.old.kept.draft (slot_number (track_at self.old.kept.tracks i))).generation < 2 ^ 62) × (self.old.kept.draft.tracks_gen < 2 ^ 62) }
         ensures { (k : Learnt) → k.own i ≡ own → self.new ≡ record self.old { kept = edited self.old.setup k i self.old.kept } }
     {
         let track = self.tracks[i];

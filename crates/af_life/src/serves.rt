@@ -8,21 +8,24 @@ ghost use Rattle.af_life.specs.Serves.{status_word, stored_over, is_found_shut, 
 use crate::kept::{Heard, TrackKept};
 use af_base::{CommandLook, Seen};
 
+// A status word has 24 bits for the commands settled: their count begins anew here.
+const SETTLED_END: u64 = 0x0100_0000;
+
 impl TrackKept {
-    /// The status word: the state, or 15 for a track found shut; 16 if it is drained; and 256 for each command settled.
+    /// The status word: the state, or 15 for a track found shut; 16 if it is drained; and 256 for each command settled, modulo 2^32.
     #[tactic(auto, unfolding(crate::specs::Serves::status_word))]
     pub fn status_word(self, shut: bool) -> u32
-        requires room { self.settled < 2 ^ 24 }
         ensures { result ≡ status_word shut self }
     {
         let code = if shut { 15 } else { self.life.state.code() };
         let drained = if self.life.drained { 16 } else { 0 };
-        code + drained + 256 * self.settled
+        let settled = (self.settled % SETTLED_END) as u32;
+        code + drained + 256 * settled
     }
 
     // The track after some looks at its commands, up to one that ends them.
     fn after_looks(self, given: Option<u32>, flush_seen: u32, looks: &[CommandLook]) -> TrackKept
-        requires room { self.settled + length looks.now < 2 ^ 31 }
+        requires room { self.settled + length looks.now < 2 ^ 62 }
         ensures { result ≡ after_looks given flush_seen looks.now self }
     {
         let mut track = self;
@@ -37,7 +40,7 @@ impl TrackKept {
 
     /// The track after the looks at its commands, up to one that ends them. If a START waits none of them is obeyed.
     pub fn commanded(self, given: Option<u32>, flush_seen: u32, looks: &[CommandLook]) -> TrackKept
-        requires room { self.settled + length looks.now < 2 ^ 31 }
+        requires room { self.settled + length looks.now < 2 ^ 62 }
         ensures { result ≡ commanded given flush_seen looks.now self }
     {
         if self.awaits.is_some() {
@@ -50,7 +53,7 @@ impl TrackKept {
     /// `given` is the slot that an OPEN gets, and `self` is the track once what was heard was noted and a START that waited was settled.
     #[tactic(auto, unfolding(crate::specs::Serves::after_part))]
     pub fn after_part(self, given: Option<u32>, heard: Heard, looks: &[CommandLook]) -> TrackKept
-        requires room { self.settled + length looks.now < 2 ^ 24 }
+        requires room { self.settled + length looks.now < 2 ^ 62 }
         ensures { result ≡ after_part given heard looks.now self }
     {
         let mut track = self.commanded(given, heard.flush_seen, looks);

@@ -43,7 +43,7 @@ struct Want {
     holder: Holder,
     slot: Option<u32>,
     retries: u32,
-    settled: u32,
+    settled: u64,
     status: u32,
 }
 
@@ -65,7 +65,7 @@ fn nothing() -> CommandLook {
     look(Seen::Empty, 0, 0)
 }
 
-fn reported(generation: u32, consumed: u64, empties: u32) -> SlotReport {
+fn reported(generation: u64, consumed: u64, empties: u32) -> SlotReport {
     SlotReport {
         consumed,
         shut: false,
@@ -82,7 +82,7 @@ fn left(
     holder: Holder,
     slot: Option<u32>,
     retries: u32,
-    settled: u32,
+    settled: u64,
     status: u32,
 ) -> Want {
     Want {

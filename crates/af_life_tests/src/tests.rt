@@ -1,7 +1,7 @@
 use LifeState::{
     Absent, Active, Flushed, Idle, Paused, Pausing, Resuming, Stopped, Stopping1, Stopping2,
 };
-use af_life::{Known, Life, LifeState, fresh};
+use af_life::{Known, Life, LifeState, TrackKept, fresh, new_track};
 use std::process::Abort;
 
 // The states in the order in which the rows below give what each becomes.
@@ -174,5 +174,24 @@ fn retries_of_a_playing_member(rt: HostRuntime) {
         let after = play(*member, false, *retries, 0, Active);
         let found = play(true, false, *before, 0, Active).on_report(*known);
         assert!(rt; found == (after, *told));
+    }
+}
+
+// A status word has 24 bits for the commands settled: their count begins anew where these are full.
+#[test]
+fn a_status_word_begins_its_count_anew(rt: HostRuntime) {
+    let rows: [(u64, u32); 5] = [
+        (0, 0),
+        (1, 0x100),
+        (0x00ff_ffff, 0xffff_ff00),
+        (0x0100_0000, 0),
+        (0x0100_0001, 0x100),
+    ];
+    for (settled, word) in &rows {
+        let track = TrackKept {
+            settled: *settled,
+            ..new_track()
+        };
+        assert!(rt; track.status_word(false) == *word);
     }
 }

@@ -23,10 +23,10 @@ abbrev pub is_shelf : ℕ → Bool
 is_shelf slot = nat_le 1 slot && nat_lt slot slots
 
 abbrev pub may_attach : Readiness → ℕ → ℕ → Bool
-may_attach r slot scale = r.editing && is_shelf slot && not (slice_index_or r.out slot false) && nat_le scale 4096 && nat_lt (slot_of r.draft slot).generation (2 ^ 31) && nat_lt r.draft.tracks_gen (2 ^ 31)
+may_attach r slot scale = r.editing && is_shelf slot && not (slice_index_or r.out slot false) && nat_le scale 4096 && nat_lt (slot_of r.draft slot).generation (2 ^ 62) && nat_lt r.draft.tracks_gen (2 ^ 62)
 
 abbrev pub may_detach : Readiness → ℕ → Bool
-may_detach r slot = r.editing && is_shelf slot && carries r.draft slot && nat_lt r.draft.tracks_gen (2 ^ 31)
+may_detach r slot = r.editing && is_shelf slot && carries r.draft slot && nat_lt r.draft.tracks_gen (2 ^ 62)
 
 -- a plain queue: the draft, whether it is to be pushed, whether a mutation is in progress and made an edit, the number of the last state pushed and that state,
 -- the number of the state polled last, that state and the one before, and where the item of each slot is
@@ -106,7 +106,7 @@ module _ {P : Type 0} where
   -- edits are made within a mutation, an attach on a free slot and a detach on an attached one, and a push is made outside of a mutation. Each count has room
   abbrev pub is_allowed : Readiness → QueueCall P → Bool
   is_allowed r call.Begin = not r.editing
-  is_allowed r (call.SetCommand c) = r.editing && nat_lt r.draft.cold_gen (2 ^ 31)
+  is_allowed r (call.SetCommand c) = r.editing && nat_lt r.draft.cold_gen (2 ^ 62)
   is_allowed r (call.Attach slot mono scale track item) = may_attach r slot scale
   is_allowed r (call.Detach slot) = may_detach r slot
   is_allowed r (call.End did_modify) = r.editing && (did_modify || not r.edited)

@@ -96,11 +96,8 @@ pub struct Readiness {
     pub number: u64,
 }
 
-/// The counts of a state stay below this.
-const COUNT_END: u32 = 1 << 31;
-
-/// The numbers of states stay below this.
-const NUMBER_END: u64 = 1 << 62;
+/// The counts of a state, and the numbers of states, stay below this.
+const COUNT_END: u64 = 1 << 62;
 
 /// Whether a slot is active and carries an item.
 pub fn carries_item(state: &FastState, slot: usize) -> bool
@@ -154,10 +151,10 @@ impl<P> QueueCall<P> {
             QueueCall::Attach { slot, scale, .. } => at.may_attach(*slot, *scale),
             QueueCall::Detach { slot } => at.may_detach(*slot),
             QueueCall::End { did_modify } => at.editing && (*did_modify || !at.edited),
-            QueueCall::Push => !at.editing && at.pushed < NUMBER_END,
+            QueueCall::Push => !at.editing && at.pushed < COUNT_END,
             QueueCall::Acked => true,
             QueueCall::TakeBack { slot } => is_shelf(*slot),
-            QueueCall::Poll => at.number < NUMBER_END,
+            QueueCall::Poll => at.number < COUNT_END,
         }
     }
 }

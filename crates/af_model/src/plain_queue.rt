@@ -119,7 +119,7 @@ impl<P: Drop> PlainQueue<P> {
     }
 
     fn set_command(&mut self, command: Command)
-        requires room { self.old.draft.cold_gen < 2 ^ 31 }
+        requires room { self.old.draft.cold_gen < 2 ^ 62 }
         ensures { self.new ≡ record self.old { draft = commanded command self.old.draft; edited = self.old.edited || not (code_of command == code_of self.old.draft.command) } }
     {
         let (before, after) = (self.draft.command.code(), command.code());
@@ -133,7 +133,7 @@ impl<P: Drop> PlainQueue<P> {
 
     fn attach(&mut self, slot: u32, mono: bool, scale: u16, track: u32, item: P)
         requires slot { slot < slots }
-        requires room { ((slot_of self.old.draft slot).generation < 2 ^ 31) × (self.old.draft.tracks_gen < 2 ^ 31) }
+        requires room { ((slot_of self.old.draft slot).generation < 2 ^ 62) × (self.old.draft.tracks_gen < 2 ^ 62) }
         ensures { self.new ≡ record self.old { draft = attached slot mono scale track self.old.draft; edited = true; places = slice_set self.old.places slot (Pending item) } }
     {
         let i = slot as usize;
@@ -152,7 +152,7 @@ impl<P: Drop> PlainQueue<P> {
 
     fn detach(&mut self, slot: u32)
         requires slot { slot < slots }
-        requires room { self.old.draft.tracks_gen < 2 ^ 31 }
+        requires room { self.old.draft.tracks_gen < 2 ^ 62 }
         ensures { self.new ≡ record self.old { draft = detached slot self.old.draft; edited = true; places = slice_set self.old.places slot (let_go (place_at self.old.places slot)) } }
     {
         self.draft.mask &= !(1 << slot);

@@ -12,7 +12,7 @@ use Rattle.af_life.specs.Kept.{Setup, asked}
 use Rattle.af_life.specs.Small.{AreUpTo, most_tracks}
 use Rattle.af_normal.specs.AllMixed.{AreHome, AreServersOf, HasTakes}
 use Rattle.af_normal.specs.Mutating.{EditsAll, Pushes, begun}
-use Rattle.af_normal.specs.Order.{IsGoing, IsOpen, IsTied}
+use Rattle.af_normal.specs.Order.{IsGoing, IsOpen, IsTied, most_turns}
 use Rattle.af_normal.specs.Ready.{AreOwn}
 use Rattle.af_normal.specs.State.{NormalState, setup_of}
 use Rattle.af_normal.specs.TurnMade.{ServesAll}
@@ -37,7 +37,7 @@ within (o ∷ streams) (suc i) s e = let l = within streams i s e in omega arith
 pub all_streams_of : (blocks : List Made) (streams : List (Option ServerState)) → length streams ≤ length blocks → AreServersOf blocks streams → (i : ℕ) (s : ServerState) → stream_at streams i ≡ Some s → IsStreamOf blocks i s
 all_streams_of blocks streams few h i s e = streams_of blocks streams few h i (within streams i s e) s e
 
-module _ (links : Links) (t : ℕ) (x : NormalState) (going : IsGoing links t x) (few : t < 131072)
+module _ (links : Links) (t : ℕ) (x : NormalState) (going : IsGoing links t x) (few : t < most_turns)
     (report : Report) (room : ℕ) (y : NormalState) (learns : Learns report room x y)
     (s : NormalState) (serves : ServesAll report y s) (own : (i : ℕ) → i < length s.tracks → AreOwn links s.streams s.commands s.hands i) where
   pub after : IsGoing links t y
@@ -48,7 +48,7 @@ module _ (links : Links) (t : ℕ) (x : NormalState) (going : IsGoing links t x)
 
   -- ## The mutation
 
-  pub may_mutate : (edits : ℕ) × (edits + 32 < 2 ^ 31) × IsOpen links edits (record s { mutator = begun s.mutator })
+  pub may_mutate : (edits : ℕ) × (edits + 32 < 2 ^ 62) × IsOpen links edits (record s { mutator = begun s.mutator })
   may_mutate = (most_tracks * t, omega arith, served_open links t y after report s serves own)
 
   same_mutator : s.mutator ≡ y.mutator
@@ -57,7 +57,7 @@ module _ (links : Links) (t : ℕ) (x : NormalState) (going : IsGoing links t x)
   pub is_idle : s.mutator.editing ≡ false
   is_idle = ap (λ m. m.editing) same_mutator ∙ after.idle
 
-  pub few_colds : s.mutator.draft.cold_gen < 2 ^ 31
+  pub few_colds : s.mutator.draft.cold_gen < 2 ^ 62
   few_colds = let e = ap (λ m. m.draft.cold_gen) same_mutator in let l = after.small.draft.colds in omega arith
 
   pub small_sizes : (s.frames ≤ 1024) × (s.normal ≤ 16)
@@ -126,7 +126,7 @@ module _ (links : Links) (t : ℕ) (x : NormalState) (going : IsGoing links t x)
       play_none = ap (λ m. m.items) still.mixes ∙ after.none.1
 
       pub play_few : All (λ (track : TrackKept). AreUpTo (2 ^ 31) track.own) p.tracks
-      play_few = pushed_few links t y after report s serves own room z edits push p pushes few
+      play_few = pushed_few links t y after report s serves own room z edits push p pushes
 
       pub play_home : AreHome p.tracks p.streams
       play_home = mixed_home links p tied_p

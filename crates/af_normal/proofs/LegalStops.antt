@@ -19,7 +19,7 @@ use Rattle.af_life.proofs.SmallTurns.{turn_small}
 use Rattle.af_normal.specs.AllMixed.{HasTakes}
 use Rattle.af_normal.specs.LegalTurned.{hand_events, Grows, IsLegal}
 use Rattle.af_normal.specs.Mixing.{stream_at}
-use Rattle.af_normal.specs.Order.{HaveHands, HasTurns, IsTied, IsGoing, IsInOrder}
+use Rattle.af_normal.specs.Order.{HaveFewLooks, HaveHands, HasTurns, IsTied, IsGoing, IsInOrder}
 use Rattle.af_normal.specs.State.{NormalState, setup_of, kept_of}
 use Rattle.af_normal.specs.TurnMade.{Stops}
 use Rattle.af_normal.specs.Turning.{listed_at}
@@ -156,6 +156,7 @@ module _ (x y : NormalState) (stops : Stops x y) where
     order_stopped turns_room takes_room = record {
       tied = tied_stopped;
       small = subst (λ (n : ℕ). IsSmall n (setup_of y) (kept_of y)) (sym turns_y) small_stopped;
+      looks = subst HaveFewLooks (sym (ap (λ (w : NormalState). w.tracks) stops.leaves)) going.looks;
       none_yet = (λ e. absurd (omega (arith, turns_y)));
       hands = (λ h. subst (λ (w : NormalState). HaveHands links.streams.now (length w.tracks) w.hands) (sym stops.leaves) going.hands);
       turns = turns_room;

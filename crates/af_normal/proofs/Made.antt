@@ -26,7 +26,7 @@ use Rattle.af_life.specs.declared.kept.TrackKept.{TrackKept}
 use Rattle.af_life.specs.Kept.{Setup, new_normal, new_track, track_at, is_home}
 use Rattle.af_life.specs.Obeys.{holds}
 use Rattle.af_life.specs.Serves.{most_looks}
-use Rattle.af_life.specs.Small.{IsSmall}
+use Rattle.af_life.specs.Small.{AreUpTo, IsSmall}
 use Rattle.af_life.specs.Sound.{IsSlotted, IsDrafted, IsSound}
 use Rattle.af_life.proofs.Smalls.{new_small}
 use Rattle.af_normal.specs.Making.{TrackList, IsMade, AreNew}
@@ -144,6 +144,7 @@ module _ (links : Links) (frames normal : ℕ) (tracks : TrackList) (mutator : M
   made_order = subst (IsInOrder links) (sym made.is) (record {
     tied = tied;
     small = subst (IsSmall 0 (record { frames = frames; normal = normal; settings = tracks.settings })) (sym kept_new) (new_small (record { frames = frames; normal = normal; settings = tracks.settings }) sizes.1 sizes.3 few);
+    looks = (λ i. subst (λ (s : TrackKept). AreUpTo 1 s.own) (sym (at_new (length tracks.settings) i)) (omega arith, omega arith, omega arith));
     none_yet = (λ e. record { none = refl; home = (λ i. ap (λ (t : TrackKept). is_home t.holder) (at_new (length tracks.settings) i)); whole = new.hands_of });
     hands = (λ h. absurd (omega arith));
     turns = subst (λ (k : ℕ). HasTurns k m.entry.tracks m.spare_turns) (sym long) made.turns;

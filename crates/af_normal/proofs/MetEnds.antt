@@ -26,6 +26,7 @@ module _ (links : Links) (m : NormalState) (i : ℕ) (h : HandSide) (o : IsInOrd
   hand_order g same = record {
     tied = record { sound = o.tied.sound; sizes = o.tied.sizes; proxies = o.tied.proxies; out = o.tied.out; linked = o.tied.linked };
     small = o.small;
+    looks = o.looks;
     none_yet = (λ e. absurd (true≢false (sym (ap is_some (sym (ap (λ (hs : List HandSide). slice_get hs i) (o.none_yet e).none) ∙ is)))));
     hands = (λ z. let old = o.hands z in record {
       whole = length-set m.hands i g ∙ old.whole;

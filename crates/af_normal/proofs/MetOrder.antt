@@ -24,6 +24,7 @@ module _ (links : Links) (m : NormalState) (o : IsInOrder links m) where
   ends_order w out = record {
     tied = record { sound = o.tied.sound; sizes = o.tied.sizes; proxies = o.tied.proxies; out = o.tied.out; linked = o.tied.linked };
     small = o.small;
+    looks = o.looks;
     none_yet = (λ e. let h = o.none_yet e in record { none = h.none; home = h.home; whole = h.whole });
     hands = o.hands;
     turns = o.turns;
@@ -35,6 +36,7 @@ module _ (links : Links) (m : NormalState) (o : IsInOrder links m) where
   queue_order other = record {
     tied = record { sound = o.tied.sound; sizes = o.tied.sizes; proxies = o.tied.proxies; out = o.tied.out; linked = o.tied.linked };
     small = o.small;
+    looks = o.looks;
     none_yet = (λ e. let h = o.none_yet e in record { none = h.none; home = h.home; whole = h.whole });
     hands = o.hands;
     turns = o.turns;
@@ -117,6 +119,7 @@ module _ (links : Links) (x : NormalState) (o : IsInOrder links x) (i : ℕ) (in
         linked = o.tied.linked;
       };
       small = o.small;
+      looks = o.looks;
       none_yet = (λ z. let h = o.none_yet z in record {
         none = nil_from_length hands (met.hands_are.0 ∙ ap (λ (hs : List HandSide). length hs) h.none);
         home = h.home;

@@ -1,5 +1,5 @@
 -- A whole turn keeps the order.
-use Rattle.std.proofs.Common.{◌≡◌, ℕ, zero, suc, ◌+◌, ◌<◌, ◌≤◌, ◌&&◌, Bool, false, inl, inr, sym, refl, ap, subst, ◌∙◌, List, length, Some, arith}
+use Rattle.std.proofs.Common.{◌≡◌, ℕ, zero, suc, ◌+◌, ◌<◌, ◌≤◌, ◌&&◌, Bool, true, false, MatchBool, nat_le, inl, inr, sym, refl, ap, subst, ◌∙◌, List, length, Some, arith}
 use Rattle.std.proofs.lemmas.Bool.{cases_lt}
 use Rattle.std.proofs.lemmas.Option.{slice_get_within}
 use Rattle.af_base.specs.declared.report.Report.{Report}
@@ -14,22 +14,24 @@ use Rattle.af_link.specs.Names.{IsStreamOf}
 use Rattle.af_link.specs.declared.links.Links.{Links}
 use Rattle.af_link.specs.declared.names.StreamNames.{StreamNames}
 use Rattle.af_life.specs.declared.kept.TrackKept.{TrackKept}
-use Rattle.af_life.specs.Kept.{Setup, asked, NormalKept, Learnt, seen_at}
+use Rattle.af_life.specs.Kept.{Setup, asked, NormalKept, Learnt, seen_at, track_at}
 use Rattle.af_life.specs.Heard.{learnt}
 use Rattle.af_life.specs.Edits.{is_exit}
 use Rattle.af_life.specs.Serves.{served_to}
-use Rattle.af_life.specs.Small.{IsSmall, IsSmallTurn}
+use Rattle.af_life.specs.Small.{AreUpTo, IsSmall, IsSmallTurn}
 use Rattle.af_life.proofs.SmallTurns.{turn_small}
 use Rattle.af_normal.specs.AllMixed.{HasTakes}
-use Rattle.af_normal.specs.Mixing.{stream_at}
+use Rattle.af_normal.specs.Mixing.{Mixing, MixesTo, stream_at}
 use Rattle.af_normal.specs.Mutating.{Pushes}
-use Rattle.af_normal.specs.Order.{HaveHands, HasTurns, IsTied, IsInOrder}
+use Rattle.af_normal.specs.Order.{HaveFewLooks, HaveHands, HasTurns, IsTied, IsInOrder}
 use Rattle.af_normal.specs.State.{NormalState, setup_of, kept_of}
+use Rattle.af_normal.specs.TurnMade.{mixing_of}
 use Rattle.af_normal.proofs.LegalMade.{IsMade, going_l, done, mix, told, tells, outside, c, k, turns, p_tied, setup_of_p, setup_of_l, p_same, z_same, turn_kept}
 use Rattle.af_normal.proofs.LegalGrows.{y_same, q_same, home_same}
 use Rattle.af_normal.proofs.OrderDone.{tied_played}
 use Rattle.af_normal.proofs.OrderServed.{long as served_long}
-use Rattle.af_normal.proofs.OrderTurn.{few_looks, seen_past}
+use Rattle.af_normal.proofs.OrderTurn.{few_looks, pushed_looks, seen_past}
+use Rattle.af_normal.proofs.OwnLooks.{IsFew, mixed_few}
 
 -- a push edits nothing
 push_idle : (push : Push) (x y : NormalState) → Pushes push x y → y.mutator.editing ≡ x.mutator.editing
@@ -92,6 +94,17 @@ module _ (links : Links) (t : ℕ) (x : NormalState) (ack : Bool) (report : Repo
   small_done lives no_exit = subst (λ (d : Setup × NormalKept). IsSmall (t + 1) d.0 d.1) (λ i. (sym setup_of_y i, sym (turn_kept links t x ack report room push y made lives no_exit) i))
       (turn_small (setup_of x) t (learnt (outside links t x ack report room push y made)) (turn_of y.entry) (kept_of x) made.going.small (subst IsSmallTurn (sym (tells links t x ack report room push y made)) few_told))
 
+  -- and at most one look of each track was not told
+  looks_done : HaveFewLooks q.tracks
+  looks_done = by_room (nat_le (asked (setup_of p)) room) made.goes_on.rest.plays.mixes
+    where
+      few : (i : ℕ) → IsFew (track_at p.tracks i)
+      few = pushed_looks links t l (going_l links t x ack report room push y made) report s made.goes_on.rest.serves made.own room z made.goes_on.rest.edits push p made.goes_on.rest.pushes
+
+      by_room : (b : Bool) → MatchBool b (MixesTo (asked (setup_of p)) (length p.tracks) (mixing_of p) (mixing_of q)) (mixing_of q ≡ mixing_of p) → HaveFewLooks q.tracks
+      by_room true mixes = mixed_few (asked (setup_of p)) (mixing_of p) few (λ i. ((p_tied links t x ack report room push y made).sound.slotted i).homely) (length p.tracks) (mixing_of q) mixes
+      by_room false same = λ i. subst (λ (w : Mixing). AreUpTo 1 (track_at w.tracks i).own) (sym same) (few i).0
+
   turns_y : y.turns ≡ t + 1
   turns_y = ap (λ (w : NormalState). w.turns) (y_same links t x ack report room push y made) ∙ ap (λ (w : NormalState). w.turns) (q_same links t x ack report room push y made)
       ∙ ap (λ (w : NormalState). w.turns) (p_same links t x ack report room push y made) ∙ ap (λ (w : NormalState). w.turns) (z_same links t x ack report room push y made)
@@ -119,6 +132,7 @@ module _ (links : Links) (t : ℕ) (x : NormalState) (ack : Bool) (report : Repo
   order_done lives no_exit of turns_room takes_room = record {
     tied = subst (IsTied links) (sym (y_same links t x ack report room push y made)) (let w : IsTied links q = tied_played links t x ack report room push y made of in record { sound = w.sound; sizes = w.sizes; proxies = w.proxies; out = w.out; linked = w.linked });
     small = subst (λ (n : ℕ). IsSmall n (setup_of y) (kept_of y)) (sym turns_y) (small_done lives no_exit);
+    looks = subst HaveFewLooks (sym tracks_y) looks_done;
     none_yet = (λ e. absurd (omega (arith, turns_y)));
     hands = (λ h. subst (λ (hs : List HandSide). HaveHands links.streams.now (length y.tracks) hs) (sym hands_y) (subst (λ (n : ℕ). HaveHands links.streams.now n s.hands) tracks_long hands_done));
     turns = turns_room;

@@ -179,7 +179,7 @@ module _ (links : Links) (edits i : ℕ) (x : NormalState) (mutating : IsOpen li
   some_there (Some p) e = (p, refl)
 
   -- the track i may be edited
-  pub editable : i < length x.tracks → edits < 2 ^ 31 → IsEditable i x
+  pub editable : i < length x.tracks → edits < 2 ^ 62 → IsEditable i x
   editable inside few = record {
     leaves = (λ e. record { slot = leaver_slot (kept_of x) mutating.tied.sound i e; carried = leaver_carried (kept_of x) mutating.tied.sound i e });
     enters = may_enter;

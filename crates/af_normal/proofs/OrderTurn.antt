@@ -23,13 +23,13 @@ use Rattle.af_life.specs.Kept.{Setup, NormalKept, Learnt, track_at, new_track, s
 use Rattle.af_life.specs.Obeys.{after_look, goes_on, are_due, slot_for}
 use Rattle.af_life.specs.Serves.{served_to, LegalTrack, IsServed, most_looks}
 use Rattle.af_life.specs.Edits.{mutated}
-use Rattle.af_life.specs.Small.{IsSmall, IsSmallTurn, IsEdited, AreUpTo, most_tracks}
+use Rattle.af_life.specs.Small.{IsSmall, AreUpTo, most_tracks}
 use Rattle.af_life.proofs.Lives.{acked_len}
-use Rattle.af_life.proofs.SmallTurns.{acked, edited_small}
+use Rattle.af_life.proofs.SmallTurns.{acked}
 use Rattle.af_normal.specs.AllMixed.{AreHome, HasTakes}
 use Rattle.af_normal.specs.Mixing.{stream_at}
 use Rattle.af_normal.specs.Mutating.{EditsAll, Pushes, begun}
-use Rattle.af_normal.specs.Order.{HaveHands, HasTurns, IsTied, IsOpen, IsGoing}
+use Rattle.af_normal.specs.Order.{HaveFewLooks, HaveHands, HasTurns, IsTied, IsOpen, IsGoing}
 use Rattle.af_normal.specs.Ready.{AreOwn, serving_of}
 use Rattle.af_normal.specs.Serving.{StreamAdds}
 use Rattle.af_normal.specs.State.{NormalState, setup_of, kept_of}
@@ -39,6 +39,7 @@ use Rattle.af_normal.proofs.LegalEdits.{edits_are, edits_same, Mutated}
 use Rattle.af_normal.proofs.LegalFlags.{told_still, known_still}
 use Rattle.af_normal.proofs.LegalServed.{ServedTo, served_all}
 use Rattle.af_normal.proofs.OrderServed.{tied_served}
+use Rattle.af_normal.proofs.OwnLooks.{IsFew, acked_few, all_few, mutated_few}
 use Rattle.af_normal.proofs.OrderStages.{acked_kept, tied_acked, acked_same, tied_learnt, opened, tied_edited, tied_pushed}
 
 -- ## No more looks than are due
@@ -84,6 +85,7 @@ module _ (links : Links) (t : ℕ) (x : NormalState) (going : IsGoing links t x)
       let long : length y.tracks ≡ length x.tracks = ap (λ (m : NormalKept). length m.tracks) kept ∙ acked_len ack (kept_of x) in record {
         tied = tied_acked links ack x y going.tied sees;
         small = subst (λ (p : Setup × NormalKept). IsSmall t p.0 p.1) (λ d. (sym (ap setup_of same) d, sym kept d)) (acked (setup_of x) t ack (kept_of x) going.small);
+        looks = subst HaveFewLooks (sym (ap (λ (m : NormalKept). m.tracks) kept)) (acked_few ack (kept_of x) going.looks);
         hands = subst (λ (w : NormalState). HaveHands links.streams.now (length y.tracks) w.hands) (sym same) (subst (λ (n : ℕ). HaveHands links.streams.now n x.hands) (sym long) going.hands);
         turns_room = subst (λ (w : NormalState). HasTurns (length y.tracks) w.entry.tracks w.spare_turns) (sym same) (subst (λ (n : ℕ). HasTurns n x.entry.tracks x.spare_turns) (sym long) going.turns_room);
         takes_room = subst (λ (w : NormalState). HasTakes (w.normal * w.frames) (length y.tracks) w.entry.mixes w.spare_takes) (sym same) (subst (λ (n : ℕ). HasTakes (x.normal * x.frames) n x.entry.mixes x.spare_takes) (sym long) going.takes_room);
@@ -98,6 +100,7 @@ module _ (links : Links) (t : ℕ) (x : NormalState) (going : IsGoing links t x)
       subst (IsGoing links t) (sym l.same) (record {
         tied = subst (IsTied links) l.same tied;
         small = going.small;
+        looks = going.looks;
         hands = going.hands;
         turns_room = going.turns_room;
         takes_room = going.takes_room;
@@ -172,19 +175,6 @@ module _ (links : Links) (t : ℕ) (x : NormalState) (going : IsGoing links t x)
     abbrev turns : List TrackSeen
     turns = (serving_of y).turns
 
-    -- the part of the entry that the edits read
-    abbrev seen_so_far : ℕ → Turn
-    seen_so_far room = record { ended = false; room = room; ack = false; cycle = 0; tracks = (serving_of y).turns; push = Clean; mixes = [] }
-
-    few : (room : ℕ) → IsSmallTurn (seen_so_far room)
-    few room = record {
-      looks = (λ i. elim (cases_lt i (length x.tracks)) as (λ p. length (seen_at turns i).looks ≤ 64) [
-        | inl lt ↦ few_looks c k (seen_at turns i) (served_to c k turns x.tracks i) i (served_done.parts i lt).legal
-        | inr le ↦ let l : length (seen_at turns i).looks ≡ 0 = ap (λ (s : TrackSeen). length s.looks) (seen_past turns i (let n = served_done.count in omega arith)) in omega arith
-      ]);
-      mixes = omega arith;
-    }
-
     -- the tracks are those that the definition leaves
     pub served_kept : kept_of y ≡ record (kept_of x) { tracks = served_to c k turns x.tracks (length x.tracks) }
     served_kept = ap kept_of serves.same ∙ ap (λ (ts : List TrackKept). record (kept_of x) { tracks = ts }) served_done.tracks
@@ -204,18 +194,20 @@ module _ (links : Links) (t : ℕ) (x : NormalState) (going : IsGoing links t x)
       edited_number = let g = going.small.pushed in
           let e : z.mutator.past.number ≡ x.mutator.past.number = ap (λ (p : Past ServerState StreamNames). p.number) edited_mutated.past ∙ ap (λ (m : Mutates ServerState StreamNames). m.past.number) served_mutator in omega arith
 
-      edited_few : IsEdited (65 * t + 65) (most_tracks * t) (most_tracks * t + most_tracks) (t + 1) (kept_of z)
-      edited_few = subst (IsEdited (65 * t + 65) (most_tracks * t) (most_tracks * t + most_tracks) (t + 1)) (sym edited_kept) (edited_small c t k (seen_so_far room) (kept_of x) going.small (few room))
+      edited_looks : (i : ℕ) → IsFew (track_at (kept_of z).tracks i)
+      edited_looks i = subst (λ (m : NormalKept). IsFew (track_at m.tracks i)) (sym edited_kept)
+          (mutated_few c k room (record (kept_of x) { tracks = served_to c k turns x.tracks (length x.tracks) }) (all_few c k turns x.tracks going.looks) i)
 
       module _ (push : Push) (p : NormalState) (pushes : Pushes push z p) where
         pub pushed_tied : IsTied links p
         pushed_tied = tied_pushed links push z p edited_tied pushes
 
         -- the looks that count are few
-        pub pushed_few : t < 131072 → All (λ (s : TrackKept). AreUpTo (2 ^ 31) s.own) p.tracks
-        pushed_few turns_few = All-from_get_or (λ (s : TrackKept). AreUpTo (2 ^ 31) s.own) p.tracks new_track (λ i lt.
-            subst (λ (ts : List TrackKept). AreUpTo (2 ^ 31) (track_at ts i).own) (sym (ap (λ (w : NormalState). w.tracks) pushes.same))
-            ((let a = (edited_few.tracks i).own.0 in omega arith), (let a = (edited_few.tracks i).own.1 in omega arith), (let a = (edited_few.tracks i).own.2 in omega arith)))
+        pub pushed_looks : (i : ℕ) → IsFew (track_at p.tracks i)
+        pushed_looks i = subst (λ (ts : List TrackKept). IsFew (track_at ts i)) (sym (ap (λ (w : NormalState). w.tracks) pushes.same)) (edited_looks i)
+
+        pub pushed_few : All (λ (s : TrackKept). AreUpTo (2 ^ 31) s.own) p.tracks
+        pushed_few = All-from_get_or (λ (s : TrackKept). AreUpTo (2 ^ 31) s.own) p.tracks new_track (λ i lt. let few = (pushed_looks i).0 in (omega (arith, few.0), omega (arith, few.1), omega (arith, few.2)))
 
 -- a track that is mixed here has its proxy at home
 pub mixed_home : (links : Links) (x : NormalState) → IsTied links x → AreHome x.tracks x.streams

@@ -11,7 +11,7 @@ use Rattle.af_life.specs.Kept.{Setup, asked, NormalKept, track_at}
 use Rattle.af_normal.specs.AllMixed.{HasTakes}
 use Rattle.af_normal.specs.Coming.{HaveSlots}
 use Rattle.af_normal.specs.Mixing.{stream_at}
-use Rattle.af_normal.specs.Order.{HasNoHands, HasSizes, HasTurns, HaveHands, IsGoing, IsInOrder, IsTied}
+use Rattle.af_normal.specs.Order.{HasNoHands, HasSizes, HasTurns, HaveFewLooks, HaveHands, IsGoing, IsInOrder, IsTied, most_turns}
 use Rattle.af_normal.specs.Ready.{AreOwn}
 use Rattle.af_normal.specs.State.{NormalState, kept_of, setup_of}
 use Rattle.af_normal.specs.TurnMade.{IsServable}
@@ -33,7 +33,7 @@ module _ (links : Links) (t : ℕ) (x : NormalState) (going : IsGoing links t x)
     stream_is = going.tied.proxies.streams_of i;
   }
 
-  pub servable : t < 131072 → (report : Report) (room : ℕ) (y : NormalState) → Learns report room x y → (i : ℕ) → i < length y.tracks → IsServable links i y
+  pub servable : t < most_turns → (report : Report) (room : ℕ) (y : NormalState) → Learns report room x y → (i : ℕ) → i < length y.tracks → IsServable links i y
   servable few report room y l i lt =
       let same : y ≡ record x { reader = y.reader; pipe = y.pipe } = l.same in
       let tracks = ap (λ (z : NormalState). z.tracks) same in
@@ -192,6 +192,7 @@ module _ (links : Links) (x b : NormalState) (order : IsInOrder links x) (begins
       record {
         tied = tied;
         small = subst (λ (m : NormalKept). IsSmall x.turns (setup_of y) m) (sym kept) (subst (λ (c : Setup). IsSmall x.turns c (kept_of x)) (sym setup) order.small);
+        looks = subst HaveFewLooks (sym (ap (λ (m : NormalKept). m.tracks) kept)) order.looks;
         hands = hands;
         turns_room = subst (λ (z : NormalState). HasTurns (length z.tracks) z.entry.tracks z.spare_turns) (sym same) e.turns;
         takes_room = subst (λ (z : NormalState). HasTakes (asked (setup_of z)) (length z.tracks) z.entry.mixes z.spare_takes) (sym same) e.takes;

@@ -11,7 +11,7 @@ use Rattle.af_life.specs.Edits.{is_exit}
 use Rattle.std.proofs.lemmas.List.{length-map}
 use Rattle.af_base.specs.Turn.{Turn, take_seen, turn_of}
 use Rattle.af_normal.specs.declared.turn.Turn.{Turn as Answer}
-use Rattle.af_normal.specs.declared.turn.Turn.TheVariants.{Turned, Ended}
+use Rattle.af_normal.specs.declared.turn.Turn.TheVariants.{Turned, Ended, Spent}
 use Rattle.af_normal.specs.Coming.{WelcomesTo}
 use Rattle.af_normal.specs.Order.{IsGoing, IsInOrder}
 use Rattle.af_normal.specs.State.{NormalState}
@@ -49,6 +49,7 @@ module _ (links : Links) (t : ℕ) (x : NormalState) (going : IsGoing links t x)
 -- the answer is that of the entry
 pub answer_is : (answer : Answer) (x y : NormalState) → Does answer x y → answer ≡ answer_of (turn_of y.entry)
 answer_is Ended x y stops = sym (ap answer_of stops.tells)
+answer_is Spent x y none = absurd none
 answer_is (Turned mixed push) x y turns =
     let g = turns.0.goes_on.rest in
     let none : (turn_of y.entry).ended ≡ false = ap (λ (e : Turn). e.ended) g.tells in

@@ -36,14 +36,14 @@ pub record MayEnter (i : ℕ) (x : NormalState) : Type 0 where
   pub is_home : stream_at x.streams i ≡ Some stream
   pub in_order : IsInOrder stream
   pub fits : (names : StreamNames) → x.mutator.past.key ≡ Some names → IsStreamOf names.blocks i stream
-  pub room : (slot_of x.mutator.draft (slot_number (track_at x.tracks i))).generation < 2 ^ 31
+  pub room : (slot_of x.mutator.draft (slot_number (track_at x.tracks i))).generation < 2 ^ 62
 
 -- the track i may be edited, and counts have room
 pub record IsEditable (i : ℕ) (x : NormalState) : Type 0 where
   pub leaves : must_leave (track_at x.tracks i) ≡ true → MayLeave (track_at x.tracks i) x.mutator.draft
   pub enters : must_enter (track_at x.tracks i) ≡ true → MayEnter i x
   pub scale : (setting_of (setup_of x) i).scale ≤ 4096
-  pub room : x.mutator.draft.tracks_gen < 2 ^ 31
+  pub room : x.mutator.draft.tracks_gen < 2 ^ 62
 
 -- the track i is detached or attached, if that is due
 abbrev pub EditsTrack : ℕ → NormalState → NormalState → Type 0

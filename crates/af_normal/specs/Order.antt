@@ -13,7 +13,7 @@ use Rattle.af_link.specs.PipeEnds.{in_made}
 use Rattle.af_link.specs.declared.links.Links.{Links}
 use Rattle.af_life.specs.declared.kept.TrackKept.{TrackKept}
 use Rattle.af_life.specs.Kept.{Setup, asked, pipe_size, track_at, is_home, slot_number}
-use Rattle.af_life.specs.Small.{IsSmall, most_tracks}
+use Rattle.af_life.specs.Small.{AreUpTo, IsSmall, most_tracks}
 use Rattle.af_life.specs.Sound.{IsSound}
 use Rattle.af_normal.specs.AllMixed.{HasTakes}
 use Rattle.af_normal.specs.Mixing.{stream_at}
@@ -67,6 +67,14 @@ pub record HasTurns (tracks : ℕ) (turns spare : Roomy TrackTurn) : Type 0 wher
   pub seen : HaveRoom turns.items
   pub left : HaveRoom spare.items
 
+-- how many turns a mixer makes at most: so its numbers of 64 bits have room. At a turn each 20 ms these last for 22 million years
+abbrev pub most_turns : ℕ
+most_turns = 36028797018963968
+
+-- each track has at most one look of the mixer's own that it was not told of
+abbrev pub HaveFewLooks : List TrackKept → Type 0
+HaveFewLooks tracks = (i : ℕ) → AreUpTo 1 (track_at tracks i).own
+
 -- What each step of a turn keeps: the kept values are sound, the proxies are those of its tracks, and the ends are those of the links
 pub record IsTied (links : Links) (m : NormalState) : Type 0 where
   pub sound : IsSound m.tracks m.mutator.draft
@@ -79,6 +87,7 @@ pub record IsTied (links : Links) (m : NormalState) : Type 0 where
 pub record IsInOrder (links : Links) (m : NormalState) : Type 0 where
   pub tied : IsTied links m
   pub small : IsSmall m.turns (setup_of m) (kept_of m)
+  pub looks : HaveFewLooks m.tracks
   pub none_yet : m.turns ≡ 0 → HasNoHands m
   pub hands : 1 ≤ m.turns → HaveHands links.streams.now (length m.tracks) m.hands
   pub turns : HasTurns (length m.tracks) m.entry.tracks m.spare_turns
@@ -96,6 +105,7 @@ pub record IsOpen (links : Links) (edits : ℕ) (m : NormalState) : Type 0 where
 pub record IsGoing (links : Links) (turns : ℕ) (m : NormalState) : Type 0 where
   pub tied : IsTied links m
   pub small : IsSmall turns (setup_of m) (kept_of m)
+  pub looks : HaveFewLooks m.tracks
   pub hands : HaveHands links.streams.now (length m.tracks) m.hands
   pub turns_room : HasTurns (length m.tracks) m.entry.tracks m.spare_turns
   pub takes_room : HasTakes (asked (setup_of m)) (length m.tracks) m.entry.mixes m.spare_takes

@@ -22,13 +22,13 @@ use Rattle.af_normal.specs.Ready.{AreOwn, serving_of}
 use Rattle.af_normal.specs.Serving.{ServesTo}
 use Rattle.af_normal.specs.State.{NormalState, setup_of}
 use Rattle.af_normal.specs.declared.turn.Turn.{Turn as Answer}
-use Rattle.af_normal.specs.declared.turn.Turn.TheVariants.{Turned, Ended}
+use Rattle.af_normal.specs.declared.turn.Turn.TheVariants.{Turned, Ended, Spent}
 use Rattle.af_normal.specs.Turning.{Begins, SeesAck, HasHands, Learns, learnt_by}
 
 -- The track i may be served: its proxies and its hand are of its blocks, its slot is one, and it has settled few commands
 pub record IsServable (links : Links) (i : ℕ) (x : NormalState) : Type 0 where
   pub slot : slot_number (track_at x.tracks i) < slots
-  pub few : (track_at x.tracks i).settled < 2 ^ 24 - 256
+  pub few : (track_at x.tracks i).settled < 2 ^ 62 - 256
   pub own : AreOwn links x.streams x.commands x.hands i
 
 -- the tracks are served, by what was learnt, each by what those before it left
@@ -109,10 +109,11 @@ pub record Stops (x y : NormalState) : Type 0 where
 abbrev pub has_mixed : NormalState → Bool
 has_mixed x = not (length x.entry.mixes.items == 0)
 
--- what a turn does by its answer, once it began
+-- what a turn does by its answer, once it began; one that began is not refused
 abbrev pub Does : Answer → NormalState → NormalState → Type 0
 Does Ended x y = Stops x y
 Does (Turned mixed pushed) x y = TurnsBy pushed x y × (mixed ≡ has_mixed y)
+Does Spent x y = ⊥
 
 -- A turn, by what it answers: it begins, in the first turn the hands are split off, and then it does the rest
 pub record TurnMade (answer : Answer) (x y : NormalState) : Type 0 where

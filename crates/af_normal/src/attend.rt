@@ -64,7 +64,7 @@ fn obey<L: Ledger>(
 ) -> TrackKept
     requires server { IsServerOf block.now command.old }
     requires room { (looks.old.items ≡ []) × (most_looks ≤ looks.old.room) }
-    requires few { ready.settled < 2 ^ 30 }
+    requires few { ready.settled < 2 ^ 62 - 64 }
     ensures server { IsServerOf block.now command.new }
     ensures looks { LooksMade command.old looks.new.items command.new }
     ensures due { HasDueLooks given flush_seen looks.new.items ready }
@@ -176,7 +176,7 @@ pub(crate) fn attend<L: Ledger>(
     requires stream { (s : ServerState) → stream.old ≡ Some s → IsServerOf stream_block.now s }
     requires hand { hand_made hand.old ≡ stream_block.now }
     requires seen { (track_seen seen.old ≡ nothing_seen) × (most_looks ≤ seen.old.looks.room) }
-    requires few { ready.settled < 2 ^ 24 - 128 }
+    requires few { ready.settled < 2 ^ 62 - 128 }
     ensures command { IsServerOf command_block.now command.new }
     ensures stream { (s : ServerState) → stream.new ≡ Some s → IsServerOf stream_block.now s }
     ensures hand { hand_made hand.new ≡ stream_block.now }

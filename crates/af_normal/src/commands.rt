@@ -54,7 +54,7 @@ pub(crate) fn look_at_commands<L: Ledger>(
 ) -> TrackKept
     requires ready { IsServerOf block.now server.old }
     requires room { (looks.old.items ≡ []) × (most_looks ≤ looks.old.room) }
-    requires few { track.settled < 2 ^ 30 }
+    requires few { track.settled < 2 ^ 62 - 64 }
     ensures ready { IsServerOf block.now server.new }
     ensures looks { LooksMade server.old looks.new.items server.new }
     ensures due { are_due most_looks given flush_seen looks.new.items track ≡ true }

@@ -33,7 +33,7 @@ impl NormalMixer {
         requires track { i < length self.old.tracks }
         requires slot { (1 ≤ slot_number (track_at self.old.tracks i)) × (slot_number (track_at self.old.tracks i) < slots) }
         requires attached { carries self.old.mutator.draft (slot_number (track_at self.old.tracks i)) ≡ true }
-        requires room { self.old.mutator.draft.tracks_gen < 2 ^ 31 }
+        requires room { self.old.mutator.draft.tracks_gen < 2 ^ 62 }
         ensures { LetsGo i self.old self.new }
     {
         let track = self.tracks[i];
@@ -52,7 +52,7 @@ impl NormalMixer {
         requires free { is_out self.old.mutator.out (slot_number (track_at self.old.tracks i)) ≡ false }
         requires scale { (setting_of (setup_of self.old) i).scale ≤ 4096 }
         requires home { (s : ServerState) × (stream_at self.old.streams i ≡ Some s) × IsInOrder s × ((names : Names) → self.old.mutator.past.key ≡ Some names → IsStreamOf names.blocks i s) }
-        requires room { ((slot_of self.old.mutator.draft (slot_number (track_at self.old.tracks i))).generation < 2 ^ 31) × (self.old.mutator.draft.tracks_gen < 2 ^ 31) }
+        requires room { ((slot_of self.old.mutator.draft (slot_number (track_at self.old.tracks i))).generation < 2 ^ 62) × (self.old.mutator.draft.tracks_gen < 2 ^ 62) }
         ensures { Lends i self.old self.new }
     {
         let Some(server) = self.streams[i].take() else {
@@ -90,7 +90,7 @@ impl NormalMixer {
     fn order(&mut self, room: u32) -> bool
         requires editing { self.old.mutator.editing ≡ true }
         requires sizes { (self.old.frames ≤ 1024) × (self.old.normal ≤ 16) }
-        requires colds { self.old.mutator.draft.cold_gen < 2 ^ 31 }
+        requires colds { self.old.mutator.draft.cold_gen < 2 ^ 62 }
         ensures orders { self.new ≡ record self.old { mutator = commands (due_command room self.old) self.old.mutator } }
         ensures edited { self.new.mutator.edited ≡ (self.old.mutator.edited || result) }
     {
@@ -107,7 +107,7 @@ impl NormalMixer {
 
     // Each track is detached or attached, if that is due; whether one was.
     fn edit_all(&mut self, links: &Links<'_>) -> bool
-        requires may { (edits : ℕ) × (edits + 32 < 2 ^ 31) × IsOpen links.now edits self.old }
+        requires may { (edits : ℕ) × (edits + 32 < 2 ^ 62) × IsOpen links.now edits self.old }
         requires none { self.old.mutator.edited ≡ false }
         ensures edits { EditsTo (length self.old.tracks) self.old self.new }
         ensures edited { result ≡ self.new.mutator.edited }
@@ -123,9 +123,9 @@ impl NormalMixer {
     /// One mutation of the draft: the tracks in order, and then the command.
     pub(crate) fn mutate(&mut self, links: &Links<'_>, room: u32)
         requires idle { self.old.mutator.editing ≡ false }
-        requires may { (edits : ℕ) × (edits + 32 < 2 ^ 31) × IsOpen links.now edits (record self.old { mutator = begun self.old.mutator }) }
+        requires may { (edits : ℕ) × (edits + 32 < 2 ^ 62) × IsOpen links.now edits (record self.old { mutator = begun self.old.mutator }) }
         requires sizes { (self.old.frames ≤ 1024) × (self.old.normal ≤ 16) }
-        requires colds { self.old.mutator.draft.cold_gen < 2 ^ 31 }
+        requires colds { self.old.mutator.draft.cold_gen < 2 ^ 62 }
         ensures edits { EditsAll room self.old self.new }
     {
         self.mutator.begin();

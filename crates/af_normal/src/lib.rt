@@ -18,4 +18,4 @@ mod turn;
 
 pub use make::{TrackSetup, Tracks};
 pub use mixer::{NormalMixer, TrackHand};
-pub use turn::Turn;
+pub use turn::{MOST_TURNS, Turn};

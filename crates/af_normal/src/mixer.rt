@@ -48,7 +48,7 @@ pub struct NormalMixer {
     pub(crate) ended: bool,
     // Whether the last state pushed is an Exit.
     pub(crate) exits: bool,
-    pub(crate) turns: u32,
+    pub(crate) turns: u64,
     pub(crate) sums: Vec<Sum>,
     pub(crate) buffer: Vec<Frame>,
 }
@@ -82,7 +82,7 @@ impl NormalMixer {
     }
 
     /// How many turns were made.
-    pub fn turns(&self) -> u32
+    pub fn turns(&self) -> u64
         ensures { result ≡ self.now.turns }
     {
         self.turns

@@ -63,7 +63,7 @@ fn attend_at<L: Ledger>(
 ) -> TrackKept
     requires track { (i < length streams.old) × AreOwn links.now streams.old commands.old hands.old i }
     requires seen { (track_seen seen.old ≡ nothing_seen) × (seen.old.looks.room ≡ most_looks) }
-    requires few { ready.settled < 2 ^ 24 - 128 }
+    requires few { ready.settled < 2 ^ 62 - 128 }
     ensures own { AreOwn links.now streams.new commands.new hands.new i }
     ensures attends { AttendsAt given heard ready i streams.old commands.old hands.old (track_seen seen.new) streams.new commands.new hands.new }
     ensures track { result ≡ after_part given heard seen.new.looks.items ready }
@@ -119,7 +119,7 @@ impl NormalMixer {
         requires track { (i < length self.old.tracks) × (i < length self.old.streams) × (i < length self.old.settings) }
         requires lives { (track_at self.old.tracks i).life.ended ≡ false }
         requires slot { slot_number (track_at self.old.tracks i) < slots }
-        requires few { (track_at self.old.tracks i).settled < 2 ^ 24 - 256 }
+        requires few { (track_at self.old.tracks i).settled < 2 ^ 62 - 256 }
         requires own { AreOwn links.now self.old.streams self.old.commands self.old.hands i }
         requires seen { (track_seen seen.old ≡ nothing_seen) × (seen.old.looks.room ≡ most_looks) }
         ensures serves { (k : Learnt) → k.report ≡ report.now → k.own i ≡ known_at (stream_at self.old.streams i) → ServesBy (setup_of self.old) k i (track_seen seen.new) (serving_of self.old) (serving_of self.new) }
@@ -156,7 +156,7 @@ impl NormalMixer {
     )
         requires track { (i < length self.old.tracks) × (i < length self.old.streams) × (i < length self.old.settings) }
         requires slot { slot_number (track_at self.old.tracks i) < slots }
-        requires few { (track_at self.old.tracks i).settled < 2 ^ 24 - 256 }
+        requires few { (track_at self.old.tracks i).settled < 2 ^ 62 - 256 }
         requires own { AreOwn links.now self.old.streams self.old.commands self.old.hands i }
         requires seen { (track_seen seen.old ≡ nothing_seen) × (seen.old.looks.room ≡ most_looks) }
         ensures serves { (k : Learnt) → k.report ≡ report.now → k.own i ≡ known_at (stream_at self.old.streams i) → MatchBool (track_at self.old.tracks i).life.ended ((self.new ≡ self.old) × (track_seen seen.new ≡ nothing_seen)) (ServesBy (setup_of self.old) k i (track_seen seen.new) (serving_of self.old) (serving_of self.new)) }
@@ -180,7 +180,7 @@ impl NormalMixer {
     )
         requires track { (i < length self.old.tracks) × (i < length self.old.streams) × (i < length self.old.settings) }
         requires slot { slot_number (track_at self.old.tracks i) < slots }
-        requires few { (track_at self.old.tracks i).settled < 2 ^ 24 - 256 }
+        requires few { (track_at self.old.tracks i).settled < 2 ^ 62 - 256 }
         requires own { AreOwn links.now self.old.streams self.old.commands self.old.hands i }
         requires spare { (0 < length self.old.spare_turns.items) × HaveRoom self.old.spare_turns.items }
         requires room { length self.old.entry.tracks.items < self.old.entry.tracks.room }

@@ -7,10 +7,10 @@ ghost use Rattle.af_link.specs.PipeEnds.{in_made};
 ghost use Rattle.af_server.specs.Order.{IsServerOf};
 ghost use Rattle.af_normal.specs.Mixing.{stream_at};
 ghost use Rattle.af_normal.specs.Coming.{HaveSlots, WelcomesTo};
-ghost use Rattle.af_normal.specs.declared.turn.Turn.TheVariants.{Turned, Ended};
+ghost use Rattle.af_normal.specs.declared.turn.Turn.TheVariants.{Turned, Ended, Spent};
 ghost use Rattle.af_life.specs.Kept.{Outside};
 ghost use Rattle.af_normal.specs.LegalTurned.{IsLegal};
-ghost use Rattle.af_normal.specs.Order.{IsGoing, IsInOrder};
+ghost use Rattle.af_normal.specs.Order.{IsGoing, IsInOrder, most_turns};
 ghost use Rattle.af_normal.specs.TurnMade.{Does, TurnMade, WentOn, answer_of, has_mixed};
 ghost use Rattle.af_normal.specs.Turning.{Begins, Hands, HasHands, HandsTo, HasWhole, Learns};
 
@@ -26,7 +26,12 @@ pub enum Turn {
     Turned { mixed: bool, pushed: Push },
     /// The mixer has ended.
     Ended,
+    /// It has made all of its turns, `MOST_TURNS`: nothing was done.
+    Spent,
 }
+
+/// How many turns a mixer makes at most, so that its counts of 64 bits have room. At a turn each 20 ms these last for 22 million years.
+pub const MOST_TURNS: u64 = 1 << 55;
 
 // All items of a list go behind those of another.
 fn give_back<T: Drop>(from: &mut Items<T>, to: &mut Items<T>)
@@ -45,7 +50,7 @@ fn give_back<T: Drop>(from: &mut Items<T>, to: &mut Items<T>)
 impl NormalMixer {
     // One turn more is counted, and the last entry's lists are emptied.
     fn begin(&mut self)
-        requires few { self.old.turns < 2 ^ 31 }
+        requires few { self.old.turns < most_turns }
         requires turns { length self.old.spare_turns.items + length self.old.entry.tracks.items ≤ self.old.spare_turns.room }
         requires takes { length self.old.spare_takes.items + length self.old.entry.mixes.items ≤ self.old.spare_takes.room }
         ensures begins { Begins self.old self.new }
@@ -115,7 +120,7 @@ impl NormalMixer {
     // What follows once the acknowledgement was seen and the proxies are home.
     fn go_on<L: Ledger>(&mut self, links: &Links<'_>, ack: bool, steps: &mut Steps<L>) -> Turn
         requires going { IsGoing links.now (self.old.turns - 1) self.old }
-        requires few { self.old.turns ≤ 131072 }
+        requires few { self.old.turns ≤ most_turns }
         ensures goes { (report : Load) × (room : ℕ) × (push : Answer) × WentOn links.now ack report room push self.old self.new × (result ≡ Turned (has_mixed self.new) push) }
     {
         let (report, room) = self.learn(links, steps);
@@ -153,7 +158,7 @@ impl NormalMixer {
     // The rest of a turn of a mixer that had not ended.
     fn look<L: Ledger>(&mut self, links: &Links<'_>, steps: &mut Steps<L>) -> Turn
         requires going { IsGoing links.now (self.old.turns - 1) self.old }
-        requires few { self.old.turns ≤ 131072 }
+        requires few { self.old.turns ≤ most_turns }
         requires lives { self.old.ended ≡ false }
         ensures does { Does result self.old self.new }
         ensures legal { (o : Outside) × IsLegal o self.old self.new }
@@ -169,12 +174,10 @@ impl NormalMixer {
         self.go_on(links, ack, steps)
     }
 
-    /// One turn. The acknowledgement is looked for, and what comes by it comes home; the report is loaded and the pipe's room read; each track has its part; the draft is edited and pushed; and if the pipe has room for a buffer, the tracks without a slot are mixed into it. If a pushed Exit is seen acknowledged the mixer has ended, and so it has in each turn after that.
-    ///
-    /// It goes by the steps of a turn, in their order. The turn that its entry tells is a legal one, by what it saw; what the mixer keeps is what that turn leaves; and the list of each of its parties grows by just what the entry tells. It takes no memory and waits for nobody.
-    pub fn turn<L: Ledger>(&mut self, links: &Links<'_>, steps: &mut Steps<L>) -> Turn
+    // A turn that is counted.
+    fn make_turn<L: Ledger>(&mut self, links: &Links<'_>, steps: &mut Steps<L>) -> Turn
         requires order { IsInOrder links.now self.old }
-        requires few { self.old.turns < 131072 }
+        requires few { self.old.turns < most_turns }
         ensures order { IsInOrder links.now self.new }
         ensures turns { self.new.turns ≡ self.old.turns + 1 }
         ensures answer { result ≡ answer_of (turn_of self.new.entry) }
@@ -187,5 +190,25 @@ impl NormalMixer {
             return self.stop();
         }
         self.look(links, steps)
+    }
+
+    /// One turn. The acknowledgement is looked for, and what comes by it comes home; the report is loaded and the pipe's room read; each track has its part; the draft is edited and pushed; and if the pipe has room for a buffer, the tracks without a slot are mixed into it. If a pushed Exit is seen acknowledged the mixer has ended, and so it has in each turn after that.
+    ///
+    /// It goes by the steps of a turn, in their order. The turn that its entry tells is a legal one, by what it saw; what the mixer keeps is what that turn leaves; and the list of each of its parties grows by just what the entry tells. It takes no memory and waits for nobody.
+    ///
+    /// It answers Spent, and does nothing, exactly if it has made `MOST_TURNS` turns.
+    pub fn turn<L: Ledger>(&mut self, links: &Links<'_>, steps: &mut Steps<L>) -> Turn
+        requires order { IsInOrder links.now self.old }
+        ensures order { IsInOrder links.now self.new }
+        ensures spent { most_turns ≤ self.old.turns → (result ≡ Spent) × (self.new ≡ self.old) }
+        ensures turns { self.old.turns < most_turns → self.new.turns ≡ self.old.turns + 1 }
+        ensures answer { self.old.turns < most_turns → result ≡ answer_of (turn_of self.new.entry) }
+        ensures made { self.old.turns < most_turns → TurnMade result self.old self.new }
+        ensures legal { self.old.turns < most_turns → (o : Outside) × IsLegal o self.old self.new }
+    {
+        if self.turns >= MOST_TURNS {
+            return Turn::Spent;
+        }
+        self.make_turn(links, steps)
     }
 }

@@ -28,7 +28,7 @@ fn rear_is(command: bool, rear: u32) -> Row {
 }
 
 // The fast mixer is to do this, and was to rest so often.
-fn is_told(command: Command, cold: u32) -> Row {
+fn is_told(command: Command, cold: u64) -> Row {
     (Step::Command, Told::Commanded { command, cold })
 }
 

@@ -330,7 +330,7 @@ pub(crate) fn polls(number: u64) -> Row {
 }
 
 // The fast mixer has this of a slot.
-pub(crate) fn has_slot(slot: usize, carried: bool, track: u32, generation: u32) -> Row {
+pub(crate) fn has_slot(slot: usize, carried: bool, track: u32, generation: u64) -> Row {
     let told = Told::Slot {
         carried,
         track,
@@ -340,7 +340,7 @@ pub(crate) fn has_slot(slot: usize, carried: bool, track: u32, generation: u32) 
 }
 
 // The fast mixer reports of slot 1: the frames consumed, the flushes seen, and the counts of full and of empty looks.
-pub(crate) fn reports(generation: u32, consumed: u64, flush_seen: u32, looks: [u32; 2]) -> Row {
+pub(crate) fn reports(generation: u64, consumed: u64, flush_seen: u32, looks: [u32; 2]) -> Row {
     let mut report = no_slot();
     report.generation = generation;
     report.consumed = consumed;

@@ -127,12 +127,12 @@ pub(crate) enum Told {
     },
     Commanded {
         command: Command,
-        cold: u32,
+        cold: u64,
     },
     Slot {
         carried: bool,
         track: u32,
-        generation: u32,
+        generation: u64,
     },
     Turned {
         turn: Turn,

@@ -65,7 +65,7 @@ impl<P: Drop, N: Fits<P>> Mutator<P, N> {
     /// Sets the command of the draft. A change to ColdIdle raises its count of cold idles.
     pub fn set_command(&mut self, command: Command)
         requires editing { self.old.editing ≡ true }
-        requires room { self.old.draft.cold_gen < 2 ^ 31 }
+        requires room { self.old.draft.cold_gen < 2 ^ 62 }
         ensures { self.new ≡ record self.old { draft = commanded command self.old.draft; edited = self.old.edited || not (code_of command == code_of self.old.draft.command) } }
     {
         let (before, after) = (self.draft.command.code(), command.code());
@@ -84,7 +84,7 @@ impl<P: Drop, N: Fits<P>> Mutator<P, N> {
         requires free { is_out self.old.out slot ≡ false }
         requires scale { scale ≤ 4096 }
         requires fits { (key : N.Key) → self.old.past.key ≡ Some key → N.fits key track item }
-        requires room { ((slot_of self.old.draft slot).generation < 2 ^ 31) × (self.old.draft.tracks_gen < 2 ^ 31) }
+        requires room { ((slot_of self.old.draft slot).generation < 2 ^ 62) × (self.old.draft.tracks_gen < 2 ^ 62) }
         ensures { self.new ≡ record self.old { draft = attached slot mono scale track self.old.draft; edited = true; pending = slice_set self.old.pending slot (Some item); out = slice_set self.old.out slot true } }
     {
         let i = slot as usize;
@@ -107,7 +107,7 @@ impl<P: Drop, N: Fits<P>> Mutator<P, N> {
         requires editing { self.old.editing ≡ true }
         requires slot { (1 ≤ slot) × (slot < slots) }
         requires attached { carries self.old.draft slot ≡ true }
-        requires room { self.old.draft.tracks_gen < 2 ^ 31 }
+        requires room { self.old.draft.tracks_gen < 2 ^ 62 }
         ensures { self.new ≡ record self.old { draft = detached slot self.old.draft; edited = true; pending = slice_set self.old.pending slot None; returned = slice_set self.old.returned slot (at self.old.pending slot) } }
     {
         let i = slot as usize;

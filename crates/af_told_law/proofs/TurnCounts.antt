@@ -8,7 +8,7 @@ use Rattle.af_normal.specs.Mutating.{EditsTo}
 use Rattle.af_normal.specs.State.{NormalState}
 use Rattle.af_normal.specs.TurnMade.{Does, TurnMade}
 use Rattle.af_normal.specs.declared.turn.Turn.{Turn as Answer}
-use Rattle.af_normal.specs.declared.turn.Turn.TheVariants.{Turned, Ended}
+use Rattle.af_normal.specs.declared.turn.Turn.TheVariants.{Turned, Ended, Spent}
 use Rattle.af_normal.specs.Turning.{HandsTo, SeesAck, with_mutator}
 use Rattle.af_server.specs.Order.{ServerState}
 use Rattle.af_stateq.specs.Mutates.{at}
@@ -44,6 +44,7 @@ acked false x y sees = ap (λ (m : NormalState). m.turns) sees.comes
 
 done : (answer : Answer) (x y : NormalState) → Does answer x y → y.turns ≡ x.turns
 done Ended x y stops = ap (λ (m : NormalState). m.turns) stops.leaves
+done Spent x y none = absurd none
 done (Turned mixed pushed) x y (by, is_mixed) =
     let rest = by.goes_on.rest in
     ap (λ (m : NormalState). m.turns) rest.leaves

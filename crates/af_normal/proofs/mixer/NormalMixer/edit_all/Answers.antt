@@ -24,7 +24,7 @@ edit-here-requires c =
     let sizes = open_now.tied.sizes in
     let lt : c.loop-i.i < length c.loop-i.self.tracks = (let l = v.long in omega arith) in
     let few : c.loop-i.i < 32 = (let f = sizes.few in omega arith) in
-    let room : v.may.0 < 2 ^ 31 = (let r = v.may.1 in omega arith) in
+    let room : v.may.0 < 2 ^ 62 = (let r = v.may.1 in omega arith) in
     record {
       editing = open_now.editing;
       track = (lt, (let s = sizes.streams_are in omega arith), (let s = sizes.settings in omega arith), omega arith);

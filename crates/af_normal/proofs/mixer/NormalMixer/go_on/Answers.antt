@@ -9,7 +9,7 @@ use Rattle.af_base.specs.Roomy.{Roomy}
 use Rattle.af_link.specs.declared.links.Links.{Links}
 use Rattle.af_life.specs.Kept.{Setup, asked}
 use Rattle.af_normal.specs.AllMixed.{HasTakes}
-use Rattle.af_normal.specs.Order.{HasTurns, IsGoing}
+use Rattle.af_normal.specs.Order.{HasTurns, IsGoing, most_turns}
 use Rattle.af_normal.specs.State.{NormalState, setup_of}
 use Rattle.af_normal.specs.declared.turn.Turn.TheVariants.{Turned}
 use Rattle.af_normal.specs.Mutating.{Pushes}
@@ -25,7 +25,7 @@ learn-room-requires g c = let l = c.requires.going.tied.linked in record { repor
 pub serve_all-requires : goal.serve_all-requires
 serve_all-requires g c =
     let t : ℕ = c.args.self.now.turns - 1 in
-    let few : t < 131072 = (let f = c.requires.few in let n = c.requires.going.next in omega arith) in
+    let few : t < most_turns = (let f = c.requires.few in let n = c.requires.going.next in omega arith) in
     let y : NormalState = c.learn-room.new.self in
     let a : IsGoing c.args.links.now t y = going_learnt c.args.links.now t c.args.self.now c.requires.going c.learn-room.result.0 c.learn-room.result.1 y c.learn-room.ensures.learns in
     record {
@@ -39,7 +39,7 @@ pub mutate-requires : goal.mutate-requires
 mutate-requires g c =
     let links : Links = c.args.links.now in
     let t : ℕ = c.args.self.now.turns - 1 in
-    let few : t < 131072 = (let f = c.requires.few in let n = c.requires.going.next in omega arith) in
+    let few : t < most_turns = (let f = c.requires.few in let n = c.requires.going.next in omega arith) in
     let x : NormalState = c.args.self.now in
     let r : Report = c.learn-room.result.0 in
     let n : ℕ = c.learn-room.result.1 in
@@ -57,7 +57,7 @@ pub push-pushed-requires : goal.push-pushed-requires
 push-pushed-requires g c =
     let links : Links = c.args.links.now in
     let t : ℕ = c.args.self.now.turns - 1 in
-    let few : t < 131072 = (let f = c.requires.few in let n = c.requires.going.next in omega arith) in
+    let few : t < most_turns = (let f = c.requires.few in let n = c.requires.going.next in omega arith) in
     let x : NormalState = c.args.self.now in
     let r : Report = c.learn-room.result.0 in
     let n : ℕ = c.learn-room.result.1 in
@@ -75,7 +75,7 @@ pub play-mixed-requires : goal.play-mixed-requires
 play-mixed-requires g c =
     let links : Links = c.args.links.now in
     let t : ℕ = c.args.self.now.turns - 1 in
-    let few : t < 131072 = (let f = c.requires.few in let n = c.requires.going.next in omega arith) in
+    let few : t < most_turns = (let f = c.requires.few in let n = c.requires.going.next in omega arith) in
     let x : NormalState = c.args.self.now in
     let r : Report = c.learn-room.result.0 in
     let n : ℕ = c.learn-room.result.1 in
@@ -105,7 +105,7 @@ pub returns : goal.returns
 returns g c =
     let links : Links = c.args.links.now in
     let t : ℕ = c.args.self.now.turns - 1 in
-    let few : t < 131072 = (let f = c.requires.few in let n = c.requires.going.next in omega arith) in
+    let few : t < most_turns = (let f = c.requires.few in let n = c.requires.going.next in omega arith) in
     let x : NormalState = c.args.self.now in
     let r : Report = c.learn-room.result.0 in
     let n : ℕ = c.learn-room.result.1 in

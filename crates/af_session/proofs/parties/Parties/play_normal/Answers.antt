@@ -1,9 +1,10 @@
-use Rattle.std.proofs.Common.{[], sym, subst, ◌∙◌}
+use Rattle.std.proofs.Common.{[], ◌<◌, sym, subst, ◌∙◌, arith}
 use Rattle.af_base.specs.declared.turn.TurnEntry.{TurnEntry}
 use Rattle.af_base.specs.Turn.{turn_of}
 use Rattle.af_model.specs.Journals.{RoundNoted}
 use Rattle.af_script.specs.declared.op.TurnSpec.TheVariants as spec
 use Rattle.af_normal.specs.declared.turn.Turn.{Turn as Answer}
+use Rattle.af_normal.specs.Order.{most_turns}
 use Rattle.af_normal.specs.TurnMade.{TurnMade}
 use Rattle.af_session.specs.Rounds.{Given, IsReady, Turns, round_told}
 use Rattle.af_session.specs.Shown.{FollowsRound}
@@ -19,15 +20,20 @@ pub returns-then-not-has_ended-clause-ready : goal.returns-then-not-has_ended-cl
 returns-then-not-has_ended-clause-ready g c = λ n ready.
     let given : Given = record { tracks = c.args.tracks.now; files = c.args.files.now } in
     let was : SessionState = record { clients = c.self.inside.clients.items; normal = c.self.inside.normal; fast = c.self.inside.fast } in
-    ready_normal c.args.links.now given n was (subst (IsReady c.args.links.now given n) (sym c.self.view_is) ready) c.turn.new.self c.turn.ensures.order c.turn.ensures.turns c.turn.ensures.legal.1.setup
+    let now : IsReady c.args.links.now given c.requires.ready.0 was = subst (IsReady c.args.links.now given c.requires.ready.0) (sym c.self.view_is) c.requires.ready.2 in
+    let few : was.normal.turns < most_turns = (let turns = now.turns in let rounds = c.requires.ready.1 in omega arith) in
+    ready_normal c.args.links.now given n was (subst (IsReady c.args.links.now given n) (sym c.self.view_is) ready) c.turn.new.self c.turn.ensures.order (c.turn.ensures.turns few) (c.turn.ensures.legal few).1.setup
 
 pub returns-then-not-has_ended-clause-turns : goal.returns-then-not-has_ended-clause-turns
 returns-then-not-has_ended-clause-turns g c =
     let given : Given = record { tracks = c.args.tracks.now; files = c.args.files.now } in
     let was : SessionState = record { clients = c.self.inside.clients.items; normal = c.self.inside.normal; fast = c.self.inside.fast } in
+    let now : IsReady c.args.links.now given c.requires.ready.0 was = subst (IsReady c.args.links.now given c.requires.ready.0) (sym c.self.view_is) c.requires.ready.2 in
+    let few : was.normal.turns < most_turns = (let turns = now.turns in let rounds = c.requires.ready.1 in omega arith) in
+    let legal = c.turn.ensures.legal few in
     subst (λ (s : SessionState). (r : RoundNoted) × Turns given spec.Normal s r [] (record was { normal = c.turn.new.self })) c.self.view_is
-    (goes_on given was c.turn.new.self (sym c.has_ended.ensures ∙ c.if-not-has_ended.true) c.turn.ensures.legal.0 c.turn.ensures.legal.1
-    (subst (λ (a : Answer). TurnMade a was.normal c.turn.new.self) c.turn.ensures.answer c.turn.ensures.made))
+    (goes_on given was c.turn.new.self (sym c.has_ended.ensures ∙ c.if-not-has_ended.true) legal.0 legal.1
+    (subst (λ (a : Answer). TurnMade a was.normal c.turn.new.self) (c.turn.ensures.answer few) (c.turn.ensures.made few)))
 
 pub returns-else-not-has_ended-clause-turns : goal.returns-else-not-has_ended-clause-turns
 returns-else-not-has_ended-clause-turns g c =

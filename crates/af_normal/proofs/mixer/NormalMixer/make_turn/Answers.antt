@@ -10,7 +10,7 @@ use Rattle.af_normal.proofs.LegalBegins.{begun_by, begun_legally, ended_legally}
 use Rattle.af_normal.proofs.Servable.{emptied, going_begun, whole_begun}
 use Rattle.af_normal.proofs.Stopped.{stopped}
 use Rattle.af_normal.proofs.Turned.{answer_is}
-use Rattle.af_normal.proofs.mixer.NormalMixer.turn.Goals as goal
+use Rattle.af_normal.proofs.mixer.NormalMixer.make_turn.Goals as goal
 
 pub begin-requires : goal.begin-requires
 begin-requires g c =
