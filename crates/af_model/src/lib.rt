@@ -21,6 +21,7 @@ pub use journal::{Journal, Rounds};
 pub use merging::{Merge, merge_check};
 pub use mixing::{mix_entry, parts_of};
 pub use newest::{ReaderEvent, WriterEvent};
+pub use numbers::{know_calls, know_log, know_turn};
 pub use plain_calls::{Move, Place, Poll, QueueAnswer, QueueCall, Readiness, carries_item};
 pub use plain_queue::{PlainQueue, first_state};
 pub use point::TrackPoint;

@@ -83,8 +83,8 @@ fn know_call(call: ClientCall)
     }
 }
 
-// The words of some calls.
-fn know_calls(calls: &[ClientCall])
+/// The words of some calls have 32 bits: each is read, and nothing is done with it.
+pub fn know_calls(calls: &[ClientCall])
     ensures { FitCalls calls.now }
 {
     for i in 0..calls.len() {
@@ -189,8 +189,8 @@ fn know_takes(takes: &[NormalTake])
     }
 }
 
-// The numbers of a turn.
-fn know_turn(turn: &TurnEntry)
+/// The numbers of a turn lie in the ranges of their fields: each is read, and nothing is done with it.
+pub fn know_turn(turn: &TurnEntry)
     ensures { FitsTurn (turn_of turn.now) }
 {
     know_word(turn.room);
@@ -228,8 +228,8 @@ fn know_entry(entry: &CycleEntry)
     }
 }
 
-/// The numbers of each entry of a log.
-pub(crate) fn know_log(log: &FastLog)
+/// The numbers of each entry of a log lie in the ranges of their fields: each is read, and nothing is done with it.
+pub fn know_log(log: &FastLog)
     ensures { All FitsEntry log.now.entries }
 {
     for i in 0..log.len() {

@@ -7,9 +7,9 @@ ghost use Rattle.af_session.specs.Noted.{HasFrames, NotesFrames, NotesNumbers};
 ghost use Rattle.af_session.specs.Rounds.{round_told};
 ghost use Rattle.af_session.specs.Together.{SessionState};
 
-use crate::numbers::{know_calls, know_turn};
 use crate::parties::Parties;
 use af_base::{Frame, Items, Memory, NormalTake, TrackTurn, TurnEntry};
+use af_model::{know_calls, know_turn};
 use af_script::TurnSpec;
 use std::alloc::Global;
 

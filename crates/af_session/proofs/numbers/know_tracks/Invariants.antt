@@ -1,9 +1,0 @@
-use Rattle.std.proofs.Common.{take}
-use Rattle.std.specs.Prelude.{All}
-use Rattle.af_base.specs.declared.turn.TrackTurn.{TrackTurn}
-use Rattle.af_base.specs.Turn.{track_seen}
-use Rattle.af_model.specs.Numbers.{FitsTrack}
-use Rattle.af_session.proofs.numbers.know_tracks.Given as goal
-
-abbrev pub invariant-loop-i : goal.invariant-loop-i
-invariant-loop-i l = All (λ (t : TrackTurn). FitsTrack (track_seen t)) (take l.i l.tracks)
