@@ -34,7 +34,7 @@ same_one x y e = ap (λ (o : Option _). unwrap_or o x) e
 
 -- ## The settings
 
--- the settings are those of the specs, where they are so place by place
+-- the settings are those of the specs, if they are so place by place
 settings_by : (xs : List Setting) (specs : List EngineTrack) → length xs ≡ length specs
     → ((i : ℕ) → i < length specs → (spec : EngineTrack) × (slice_get specs i ≡ Some spec) × (slice_get xs i ≡ Some (setting_of spec))) → xs ≡ map setting_of specs
 settings_by [] [] long each = refl
@@ -56,7 +56,7 @@ scales_fit specs settings same each = subst (All (λ (s : Setting). s.scale ≤ 
 
 -- ## The proxies
 
--- the track at a place where there is a stream proxy
+-- a place that has a stream proxy lies within the list of the stream proxies
 within : (streams : List (Option ServerState)) (i : ℕ) (s : ServerState) → stream_at streams i ≡ Some s → i < length streams
 within [] i s here = absurd (cc)
 within (x ∷ streams) zero s here = omega arith

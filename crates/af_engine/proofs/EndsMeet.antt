@@ -28,7 +28,7 @@ module _ (links : Links) (m m1 n : NormalState) (f : MixerState) (o : Observes S
   pub fast_order : IsFastInOrder f × IsLinked links f → IsFastInOrder g × IsLinked links g
   fast_order k = subst (λ (y : MixerState). IsFastInOrder y × IsLinked links y) (sym fast_is) (met_order f (ends_of m) k.0, k.1)
 
--- what the meetings of proxies leave of those of the ends
+-- the meetings of proxies leave the ends of the two mixers as their own meetings made them
 module _ (m n n' : NormalState) (f g g' : MixerState) (met : EndsMet m n f g) (normal : n' ≡ record n { streams = n'.streams; commands = n'.commands; hands = n'.hands })
     (fast : g' ≡ record g { observer = record g.observer { items = g'.observer.items } }) where
   pub still_met : EndsMet m n' f g'

@@ -60,7 +60,7 @@ module _ (links : Links) (f : MixerState) (track slot : ℕ) (c : ClientState) (
         ap (λ (o : Observes ServerState StreamNames). at o.items slot) m.observer
         ∙ get_or-set_same f.observer.items slot (Some (server_met is_held.0 c)) None (omega (arith, here, order.0.observer.whole))
 
-    -- they met
+    -- the client met what is held in the slot, and the hand
     pub away_met : MeetsAway (client_made c.pass) (item_at f.observer.items (slot_for f.observer.past.state track)) h c (item_at f'.observer.items (slot_for f.observer.past.state track)) h' c'
     away_met =
         let s : ServerState = is_held.0 in
@@ -76,7 +76,7 @@ module _ (links : Links) (f : MixerState) (track slot : ℕ) (c : ClientState) (
         subst (λ (o : Option ℕ). MeetsAway (client_made c.pass) (item_at f.observer.items o) h c (item_at f'.observer.items o) h' c') (sym found)
         (subst (λ (y : Option ServerState). MeetsAway (client_made c.pass) y h c (at f'.observer.items slot) h' c') (sym is_held.1) (t, now_held, all))
 
-    -- in the mixer the items alone changed
+    -- in the mixer only the items changed
     pub only_items : f' ≡ record f { observer = record f.observer { items = f'.observer.items } }
     only_items =
         let m = met is_held.0 is_held.1 in
@@ -84,7 +84,7 @@ module _ (links : Links) (f : MixerState) (track slot : ℕ) (c : ClientState) (
         subst (λ (o : Observes ServerState StreamNames). o ≡ record f.observer { items = o.items }) (sym m.observer) refl in
         only ∙ (λ i. record f { observer = e i })
 
-    -- and of these that of the slot
+    -- no item changed but that of the slot
     pub other_items : (k : ℕ) → slot_for f.observer.past.state track ≢ Some k → at f'.observer.items k ≡ at f.observer.items k
     other_items k ne =
         let m = met is_held.0 is_held.1 in
@@ -98,11 +98,11 @@ module _ (links : Links) (f : MixerState) (track slot : ℕ) (c : ClientState) (
     pub hand_after : hand_made h' ≡ hand_made h
     hand_after = let m = met is_held.0 is_held.1 in m.others.1 ∙ sym (same_block is_held.0 is_held.1) ∙ sym hand
 
-    -- all of this
+    -- the meeting of a stream whose proxy is held comes to this
     pub there : MeetsThere f track c h f' c' h'
     there = record { stream = client_after; hand = hand_after; same = only_items; met = away_met; others = other_items }
 
--- the same of a mixer and a hand that were lent
+-- the meeting of a stream whose proxy is held, if the mixer and the hand were lent
 pub held_there : (links : Links) (f f1 f' : MixerState) (track slot : ℕ) (c c' : ClientState) (h h1 h' : HandSide) → f1 ≡ f → h1 ≡ h → IsFastInOrder f × IsLinked links f → (slice_get links.streams.now track ≡ Some (client_made c.pass)) × IsClientInOrder c
     → hand_made h ≡ client_made c.pass → slot_for f.observer.past.state track ≡ Some slot → f' ≡ record f1 { observer = f'.observer }
     → ((s : ServerState) → at f1.observer.items slot ≡ Some s → MeetsHeld slot s f1.observer c h1 f'.observer c' h') → MeetsThere f track c h f' c' h'
@@ -114,7 +114,7 @@ held_there links f f1 f' track slot c c' h h1 h' same flag order stream hand fou
 pub block_at : (blocks : List Made) (i : ℕ) (b other : Made) → slice_get blocks i ≡ Some b → b ≡ slice_index_or blocks i other
 block_at blocks i b other there = sym (get_or_from_slice_get blocks i b other there)
 
--- where the observer holds none the hand alone meets the client
+-- if the observer holds no proxy of the track, the hand alone meets the client
 pub none_there : (block : Made) (f f' : MixerState) (track : ℕ) (c c' : ClientState) (h h1 h' : HandSide) → slot_for f.observer.past.state track ≡ None → f' ≡ f → h1 ≡ h → c' ≡ c → client_made c.pass ≡ block → IsClientInOrder c
     → hand_made h ≡ client_made c.pass → hand_made h' ≡ block → h'.part ≡ hand_met h1.part (length c.pass.part.events)
     → (is_lawful c.pass.part.events ≡ true → (taken : List ℕ) × StartsWith h'.known c.pass.part.learnt × HasHistory block.shape c.pass.part.events c.pass.part.frames h'.known taken h'.part.events) → MeetsThere f track c h f' c' h'

@@ -21,7 +21,7 @@ module _ (x : FastState) (track : ℕ) where
   below_or_last n k before (inl found) = let b = before found in (omega (arith, b.0), b.1)
   below_or_last n k before (inr here) = (omega (arith, here.0), subst (λ (j : ℕ). is_slot_of x track j ≡ true) here.0 here.1)
 
-  -- what is found among so many slots lies among them and carries the track
+  -- a slot that is found among the first n lies among them and carries the track
   below_is : (n k : ℕ) → slot_below x track n ≡ Some k → (k < n) × (is_slot_of x track k ≡ true)
   below_is zero k is = absurd (none-some k is)
   below_is (suc n) k is = below_or_last n k (below_is n k) (by_last n k (slot_below x track n) (is_slot_of x track n) refl refl is)
@@ -34,15 +34,16 @@ module _ (x : FastState) (track : ℕ) where
   at_end n k j found le (inl e) = inl (subst (λ (m : ℕ). slot_below x track m ≡ Some j) e found)
   at_end n k j found le (inr ne) = inr (omega (arith, le, ne))
 
-  -- and it is found among more slots
+  -- a slot that is found among some slots is found among more
   below_stays : (n k j : ℕ) → slot_below x track k ≡ Some j → k ≤ n → slot_below x track n ≡ Some j
   below_stays zero k j found le = subst (λ (m : ℕ). slot_below x track m ≡ Some j) (let e : k ≡ 0 = omega arith in e) found
   below_stays (suc n) k j found le = or_before n k j found (at_end n k j found le (cases_eq k (suc n))) (λ fits. below_stays n k j found fits)
 
-  -- one slot more, which carries it or not
+  -- no slot is found among one more, if that one doesn't carry the track
   pub none_more : (k : ℕ) → slot_below x track k ≡ None → is_slot_of x track k ≡ false → slot_below x track (suc k) ≡ None
   none_more k none not = λ i. or_else (none i) (if not i then Some k else None)
 
+  -- a slot is found among one more, if none was before and that one carries the track
   found_more : (k : ℕ) → slot_below x track k ≡ None → is_slot_of x track k ≡ true → slot_below x track (suc k) ≡ Some k
   found_more k none carried = λ i. or_else (none i) (if carried i then Some k else None)
 
@@ -71,7 +72,7 @@ module _ (x : FastState) (track : ℕ) where
       let before = none_of n k (slot_below x track n) (is_slot_of x track n) refl refl none in
       ⊎_elim (λ (e : k ≡ n). subst (λ (j : ℕ). is_slot_of x track j ≡ false) (sym e) before.1) (λ (ne : k ≢ n). none_at n k before.0 (omega (arith, lt, ne))) (cases_eq k n)
 
-  -- where none is found no slot carries the track
+  -- if no slot is found, none carries the track
   pub none_there : slot_for x track ≡ None → (k : ℕ) → k < slots → is_slot_of x track k ≡ false
   unfolding slot_for
   none_there none k lt = none_at slots k none lt
@@ -80,7 +81,7 @@ module _ (x : FastState) (track : ℕ) where
   only_by k None is lt carried only = absurd (true≢false (sym carried ∙ none_there is k lt))
   only_by k (Some j) is lt carried only = let s = slot_is j is in is ∙ ap (λ (n : ℕ). Some n) (only j s.0 (and_from (carries x j) ((slot_of x j).track == track) s.1 (eq-eqb (slot_of x j).track track s.2)))
 
-  -- a slot that alone carries it is found
+  -- a slot that alone carries the track is found
   pub only_slot : (k : ℕ) → k < slots → is_slot_of x track k ≡ true → ((j : ℕ) → j < slots → is_slot_of x track j ≡ true → j ≡ k) → slot_for x track ≡ Some k
   only_slot k lt carried only = only_by k (slot_for x track) refl lt carried only
 
@@ -88,7 +89,7 @@ module _ (x : FastState) (track : ℕ) where
   none_below none zero le = refl
   none_below none (suc n) le = none_more n (none_below none n (omega (arith, le))) (and_left (carries x n) ((slot_of x n).track == track) (none n (omega (arith, le))))
 
-  -- a state that carries nothing has no slot for it
+  -- a state that carries nothing has no slot for the track
   pub none_carried : CarriesNone x → slot_for x track ≡ None
   unfolding slot_for
   none_carried none = none_below none slots (omega arith)
@@ -102,6 +103,6 @@ module _ (x : FastState) (i : ℕ) (items items' : List (Option ServerState)) (o
   by_slot j ne None is = refl
   by_slot j ne (Some k) is = others k (λ e. ne (one_track x j i k is e))
 
-  -- where only the item of one track changed, that of any other stays
+  -- if only the item of one track changed, that of any other stays
   pub held_other : (j : ℕ) → j ≢ i → item_at items' (slot_for x j) ≡ item_at items (slot_for x j)
   held_other j ne = by_slot j ne (slot_for x j) refl

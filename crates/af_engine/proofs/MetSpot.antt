@@ -13,12 +13,12 @@ use Rattle.af_stateq.specs.Mutates.{at}
 use Rattle.af_engine.specs.Met.{ClientMet, MeetsAway, Proxies, Spot, SpotMet, item_at, slot_for, spot_of}
 use Rattle.af_engine.proofs.MetSlots.{held_other}
 
--- at home
+-- the client of a stream whose proxy is home met what is there
 at_home : (block : Made) (o : Option ServerState) (a b : Spot) (c d : ClientState) → is_some o ≡ true → b.held ≡ a.held → MeetsStream block o a.hand c b.stream b.hand d → SpotMet block o a c b d
 at_home block None a b c d there held m = absurd (true≢false (sym there))
 at_home block (Some s) a b c d there held m = (m, held)
 
--- where none was home the meetings of home left all as it was
+-- if no proxy was home, the meetings at home left all as it was
 stayed : (block : Made) (o : Option ServerState) (h : Option HandSide) (c d : ClientState) (o' : Option ServerState) (h' : Option HandSide) → is_some o ≡ false → MeetsStream block o h c o' h' d → (o' ≡ None) × (h' ≡ h) × (d ≡ c)
 stayed block None h c d o' h' gone m = m
 stayed block (Some s) h c d o' h' gone m = absurd (true≢false gone)
@@ -44,7 +44,7 @@ module _ (x : FastState) (i : ℕ) (links : Links) (streams streams' : List (Opt
   other_command : (j : ℕ) → j ≢ i → slice_get commands' j ≡ slice_get commands j
   other_command j ne = ap (λ (cs : List ServerState). slice_get cs j) t.commands_are ∙ get_set_other commands i j t.command' ne
 
-  -- the stream proxy is home
+  -- the client of a track met its proxies, if the stream proxy is home
   pub met_home : is_some (stream_at streams i) ≡ true → ClientMet (Unit {0}) (spot_of x before i) (spot_of x (at_hands hands' items) i) c e d f
   met_home there = record {
     same = tt;
@@ -63,7 +63,7 @@ module _ (x : FastState) (i : ℕ) (links : Links) (streams streams' : List (Opt
       let command = other_command j ne in
       λ k. record { stream = stream k; held = item_at items (slot_for x j); hand = hand k; command = command k }
 
-  -- it isn't: the hand at the track, and what is held for it, met the client after that
+  -- if the stream proxy isn't home, the hand at the track, and what is held for it, met the client after that
   module _ (h g : HandSide) (items' : List (Option ServerState)) (c' : ClientState) (away_is : is_some (stream_at streams i) ≡ false) (is : slice_get hands' i ≡ Some h) where
     abbrev after : Proxies
     after = at_hands (slice_set hands' i g) items'
@@ -90,6 +90,6 @@ module _ (x : FastState) (i : ℕ) (links : Links) (streams streams' : List (Opt
         let command = other_command j ne in
         λ k. record { stream = stream k; held = held k; hand = hand k; command = command k }
 
--- all else of the client stays, too
+-- all else of the client stays, too, as A says
 pub with_rest : (A : Type 0) (a b : Spot) (c e d f : ClientState) → A → ClientMet (Unit {0}) a b c e d f → ClientMet A a b c e d f
 with_rest A a b c e d f same m = record { same = same; command = m.command; has_command = m.has_command; command' = m.command'; has_command' = m.has_command'; commanded = m.commanded; streamed = m.streamed }

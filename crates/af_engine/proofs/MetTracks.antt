@@ -15,7 +15,7 @@ use Rattle.af_engine.specs.declared.ends.TrackEnds.{TrackEnds}
 use Rattle.af_engine.specs.Engines.{AreTogether}
 use Rattle.af_engine.specs.Met.{ItemStays, Proxies, Spot, TracksMet, slot_for, spot_of}
 
--- before any meeting
+-- before any meeting no track has met its proxies
 pub none_met : {P : Type 0} (One : Spot → Spot → P → P → Type 0) (x : FastState) (clients : List P) (a : Proxies) → TracksMet One x 0 clients clients a a
 none_met One x clients a = record {
   met = (λ i p q lt is is'. absurd (omega (arith, lt)));
@@ -52,7 +52,7 @@ module _ {P : Type 0} (One : Spot → Spot → P → P → Type 0) (x : FastStat
       by_number (inl e) = inr (n, omega arith, found ∙ ap (λ (m : ℕ). Some m) e)
       by_number (inr ne) = item_more k (items k (λ e. ne (same_Some j k (sym found ∙ e)))) (so_far.items k)
 
-  -- one track more met
+  -- one track more has met its proxies
   pub one_met : TracksMet One x (n + 1) clients (slice_set clients' n q) a c
   one_met = record {
     met = (λ i r s lt was now. met_at i r s lt (cases_eq i n) was now);
@@ -61,7 +61,7 @@ module _ {P : Type 0} (One : Spot → Spot → P → P → Type 0) (x : FastStat
     items = (λ k. item_by k (slot_for x n) refl);
   }
 
--- what holds of each of a list holds of each where one is set of which it holds
+-- what holds of each item of a list still holds of each, after one was set of which it holds
 module _ {P : Type 0} (Holds : ℕ → P → Type 0) (xs : List P) (n : ℕ) (p q : P) (is : slice_get xs n ≡ Some p) (of_all : (i : ℕ) (r : P) → slice_get xs i ≡ Some r → Holds i r) (of_one : Holds n q) where
   by_place : (i : ℕ) (r : P) → (i ≡ n) ⊎ (i ≡ n → ⊥) → slice_get (slice_set xs n q) i ≡ Some r → Holds i r
   by_place i r (inl e) at_i =
@@ -84,10 +84,11 @@ still_together links tracks m m' f f' n p q t is normal fast same track ours = r
   clients = all_at_set (λ i r. AreClientsOf links i r.stream r.command) tracks n p q is t.clients ours;
 }
 
--- a meeting that speaks of another value of the observer's state, and of the client's own number
+-- a track met as well for an equal state of the observer, and an equal number of the track
 pub met_by_number : {P : Type 0} (One : Spot → Spot → P → P → Type 0) (x y : FastState) (i k : ℕ) (a b : Proxies) (p q : P) → x ≡ y → i ≡ k → One (spot_of x a i) (spot_of x b i) p q → One (spot_of y a k) (spot_of y b k) p q
 met_by_number One x y i k a b p q state number met = subst (λ (z : FastState × ℕ). One (spot_of z.0 a z.1) (spot_of z.0 b z.1) p q) (λ j. (state j, number j)) met
 
+-- the other tracks stay as well for an equal state of the observer, and an equal number of the track
 pub others_by_number : (x y : FastState) (i k : ℕ) (a b : Proxies) → x ≡ y → i ≡ k → ((j : ℕ) → j ≢ i → spot_of x b j ≡ spot_of x a j) → (j : ℕ) → j ≢ k → spot_of y b j ≡ spot_of y a j
 others_by_number x y i k a b state number others = subst (λ (z : FastState × ℕ). (j : ℕ) → j ≢ z.1 → spot_of z.0 b j ≡ spot_of z.0 a j) (λ j. (state j, number j)) others
 

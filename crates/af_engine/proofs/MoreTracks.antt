@@ -8,7 +8,7 @@ use Rattle.af_normal.specs.Making.{TrackList, setting_of, with_track}
 use Rattle.af_normal.specs.declared.make.TrackSetup.{TrackSetup}
 use Rattle.af_engine.specs.NewTracks.{IsTrackAt, AreNewTracks}
 
--- no tracks
+-- empty lists have no new tracks
 pub no_tracks : {S P : Type 0} (New : ℕ → S → Made → Made → P → TrackSetup → Type 0) (specs : List S) (streams commands : List Made) (clients : List P) (tracks : TrackList) → streams ≡ [] → commands ≡ [] → clients ≡ [] → tracks ≡ record { settings = []; streams = []; commands = [] }
     → AreNewTracks New 0 specs streams commands clients tracks
 no_tracks New specs streams commands clients tracks no_streams no_commands no_clients none = record {
@@ -18,14 +18,14 @@ no_tracks New specs streams commands clients tracks no_streams no_commands no_cl
   each = λ i lt. absurd (omega (arith, lt));
 }
 
--- the last of a list
+-- an item put behind a list is its last one
 pub at_last : {X : Type 0} (xs : List X) (x : X) (n : ℕ) → length xs ≡ n → slice_get (xs ++ x ∷ []) n ≡ Some x
 at_last [] x zero long = refl
 at_last [] x (suc n) long = absurd (omega arith)
 at_last (y ∷ xs) x zero long = absurd (omega arith)
 at_last (y ∷ xs) x (suc n) long = at_last xs x n (omega arith)
 
--- and those before it
+-- the items of a list stand at their places if others are put behind
 pub at_before : {X : Type 0} (xs ys : List X) (i : ℕ) (x : X) → slice_get xs i ≡ Some x → slice_get (xs ++ ys) i ≡ Some x
 at_before [] ys i x here = absurd (cc)
 at_before (y ∷ xs) ys zero x here = here
@@ -88,9 +88,9 @@ module _ {S P : Type 0} (New : ℕ → S → Made → Made → P → TrackSetup 
     each = λ i lt. grown i lt (cases_eq i n);
   }
 
--- ## The same tracks told in other words
+-- ## The same tracks in other words
 
--- where each spec and each client stands for another one, of which the same can be said in other words
+-- each spec and each client stands for another one, of which the same can be said in other words
 module _ {S S' P P' : Type 0} (New : ℕ → S → Made → Made → P → TrackSetup → Type 0) (New' : ℕ → S' → Made → Made → P' → TrackSetup → Type 0) (count : ℕ) (specs : List S) (specs' : List S') (streams commands : List Made) (clients : List P) (clients' : List P') (tracks : TrackList)
     (known : AreNewTracks New count specs streams commands clients tracks) (long : length clients' ≡ length clients)
     (retold : (i : ℕ) (spec : S) (stream command : Made) (p : P) (t : TrackSetup) → slice_get specs i ≡ Some spec → slice_get clients i ≡ Some p → New i spec stream command p t

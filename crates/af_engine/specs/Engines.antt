@@ -7,7 +7,7 @@ use Rattle.af_normal.specs.Order.{IsInOrder as IsNormalInOrder}
 use Rattle.af_normal.specs.State.{NormalState}
 use Rattle.af_engine.specs.declared.ends.TrackEnds.{TrackEnds}
 
--- the ends of the clients in order of tracks, the normal mixer and the fast mixer
+-- the ends of a mixer: those of the clients in order of tracks, the normal mixer and the fast mixer
 pub record EngineState : Type 0 where
   pub tracks : List TrackEnds
   pub normal : NormalState

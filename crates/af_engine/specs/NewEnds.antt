@@ -23,7 +23,7 @@ pub record EndStates : Type 0 where
   pub writer : WriterSide
   pub to : OutSide
 
--- those that two mixers have
+-- the ends of the queue, of the report and of the pipe that two mixers have
 abbrev pub ends_of : NormalState → MixerState → EndStates
 ends_of normal fast = record { mutator = normal.mutator; reader = normal.reader; from = normal.pipe; observer = fast.observer; writer = fast.writer; to = fast.pipe }
 
@@ -33,7 +33,7 @@ pub record AreEndsOf (shared : SharedState) (e : EndStates) : Type 0 where
   pub report_is : (e.reader.cell ≡ shared.report) × (e.writer.cell ≡ shared.report)
   pub pipe_is : (in_made e.from ≡ shared.pipe) × (out_made e.to ≡ shared.pipe)
 
--- Nothing was done on them. The queue's states are for so many frames, its names are those of the streams, and the pipe holds four buffers of so many cycles
+-- Nothing was done on the ends. The queue's states are for so many frames, its names are those of the streams, and the pipe holds four buffers of so many cycles
 pub record AreNewEnds (frames normal : ℕ) (shared : SharedState) (e : EndStates) : Type 0 where
   pub ends : AreEndsOf shared e
   pub names : StreamNames

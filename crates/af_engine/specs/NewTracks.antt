@@ -37,7 +37,7 @@ pub record IsNewLine (shape : Shape) (block : Made) (c : ClientState) (s : Serve
 
 -- ## One track
 
--- the sizes of a track's stream block: where its flush words carry positions they wrap at four times the cells
+-- the sizes of a track's stream block: if its flush words carry positions they wrap at four times the cells
 pub record IsStreamShape (t : EngineTrack) (shape : Shape) : Type 0 where
   pub frames : shape.frames ≡ t.frames
   pub base : shape.base ≡ t.base
@@ -51,7 +51,7 @@ pub record IsCommandShape (shape : Shape) : Type 0 where
   pub wrap : shape.wrap ≡ 0
   pub sound : IsShape shape
 
--- the two blocks of a track by its place, the ends of its client, and what the normal mixer gets
+-- a new track: its two blocks by its place, the ends of its client, and what the normal mixer gets
 pub record IsNewTrack (place : ℕ) (spec : EngineTrack) (stream command : Made) (ends : TrackEnds) (setup : TrackSetup) : Type 0 where
   pub place_is : ends.track ≡ place
   pub stream_shape : IsStreamShape spec stream.shape
@@ -78,7 +78,7 @@ pub record IsTrackAt {S P : Type 0} (New : ℕ → S → Made → Made → P →
   pub control_at : slice_get tracks.commands place ≡ Some setup.command
   pub new : New place spec stream command party setup
 
--- the first tracks of so many, and no others, are in the lists
+-- the lists hold the tracks of the first `count` places, and no others
 pub record AreNewTracks {S P : Type 0} (New : ℕ → S → Made → Made → P → TrackSetup → Type 0) (count : ℕ) (specs : List S) (streams commands : List Made) (clients : List P) (tracks : TrackList) : Type 0 where
   pub blocks : (length streams ≡ count) × (length commands ≡ count)
   pub parties : length clients ≡ count

@@ -4,7 +4,7 @@ use Rattle.atomic_table.specs.Seated.{TableId}
 use Rattle.af_cblk.specs.Sides.{Made}
 use Rattle.af_link.specs.declared.links.Links.{Links}
 
--- the queue, the blocks of the streams and of the commands by tracks, the pipe, and the cell of the report
+-- the shared objects: the queue, the blocks of the streams and of the commands by tracks, the pipe, and the cell of the report
 pub record SharedState : Type 0 where
   pub queue : TableId
   pub streams : List Made

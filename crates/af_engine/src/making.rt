@@ -158,7 +158,7 @@ fn make_fitting(alloc: Global, spec: &MixerSpec<'_>) -> Result<(Shared, Engine),
 
 /// The ends of a mixer of this spec, on which nothing was done, and what they share: the blocks of its tracks, the queue, the pipe and the cell of the report. They are in order, and were made together.
 ///
-/// It refuses a spec that doesn't fit, by its first number that is wrong, and memory is its only other refusal.
+/// It refuses a spec that doesn't fit with `MakeError::Spec`, by its first number that is wrong. Otherwise it is refused only for lack of memory, with `MakeError::Memory`.
 pub fn make(alloc: Global, spec: &MixerSpec<'_>) -> Result<(Shared, Engine), MakeError>
     ensures new { IfOk result (λ r. IsNewEngine spec.now r.0 r.1) }
     ensures together { (links : Links) → IfOk result (λ r. AreLinksOf r.0 links → AreTogether links r.1) }

@@ -21,7 +21,7 @@ use std::sync::ledger::Ledger;
 
 /// The ends of the two mixers meet: those of the queue, of the report and of the pipe.
 ///
-/// Each learns what its other has done so far, and nothing else changes. The two lists of each have a history.
+/// Each end learns what its other has done so far, and nothing else changes. The two lists of each object have a history.
 pub fn meet_ends<L: Ledger>(
     normal: &mut NormalMixer,
     fast: &mut FastMixer,
@@ -64,7 +64,7 @@ fn slot_held(fast: &mut FastMixer, track: u32) -> Option<u32>
     slot_in(state, track)
 }
 
-// The client of a stream whose proxy isn't home meets the proxy and the hand where the observer holds the proxy, and else the hand.
+// The client of a stream whose proxy isn't home meets the proxy and the hand if the observer holds the proxy, and else the hand.
 fn meet_away<L: Ledger>(
     track: u32,
     fast: &mut FastMixer,
@@ -90,9 +90,9 @@ fn meet_away<L: Ledger>(
     fast.meet_held(links, slot, stream, hand.flag(), steps);
 }
 
-/// The client of a track meets the proxies of its two blocks: that of the commands, and that of the stream where it is home or the fast mixer holds it. A proxy on its way misses the meeting, and the client meets the track's hand alone.
+/// The client of a track meets the proxies of its two blocks: that of the commands, and that of the stream if it is home or the fast mixer holds it. A proxy on its way misses the meeting, and the client meets the track's hand alone.
 ///
-/// Each learns what its other has done so far, and nothing else changes. The lists of each two that met have a history, where the client has not poked.
+/// Each learns what its other has done so far, and nothing else changes. The lists of each two that met have a history, if the client has not poked.
 pub fn meet_track<L: Ledger>(
     track: u32,
     stream: &mut Client,
@@ -156,7 +156,7 @@ fn meet_client<L: Ledger>(
 
 /// All ends of a mixer meet, while nobody else uses them: those of the two mixers, and then per track the client and the proxies of its two blocks.
 ///
-/// Each learns what its other has done so far, and nothing else changes. The lists of each two that met have a history, where no client has poked.
+/// Each learns what its other has done so far, and nothing else changes. The lists of each two that met have a history, if no client has poked.
 pub fn meet_all<L: Ledger>(
     tracks: &mut [TrackEnds],
     normal: &mut NormalMixer,

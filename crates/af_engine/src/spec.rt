@@ -2,17 +2,22 @@
 ghost use Rattle.std.specs.Prelude.{◌≡◌, ◌*◌, ◌^◌, ◌≤◌, true, false, length, slice_get, Some, All, IfErr, OnOk};
 ghost use Rattle.af_engine.specs.MixerSpecs.{IsCause, IsEngineTrack, IsMixerSpec, IsOutside};
 
-// The most frames of a cycle, cycles of a normal buffer, cycles of the log, frames of all of them, tracks, and frames of a stream block.
+// The most frames of a cycle.
 const MOST_FRAMES: u32 = 1024;
 
+// The most cycles of a normal buffer.
 const MOST_NORMAL: u32 = 16;
 
+// The most cycles of the log.
 const MOST_CYCLES: u32 = 100_000;
 
+// The most frames of all cycles of the log.
 const MOST_LOG: u32 = 1 << 21;
 
+// The most tracks.
 const MOST_TRACKS: usize = 32;
 
+// The most frames of a stream block.
 const MOST_BUFFER: u32 = 8192;
 
 // A scale of 1 in 4.12.
@@ -23,9 +28,9 @@ const UNITY_SCALE: u16 = 0x1000;
 pub struct EngineTrack {
     /// Whether it asks for a slot of the fast mixer. Without one the normal mixer mixes it.
     pub fast: bool,
-    /// Whether its frames have one channel, the left, and else two.
+    /// Whether its frames have one channel, the left. Otherwise they have two.
     pub mono: bool,
-    /// Whether a flush discards only what was released before it, and else all that was released when it is seen.
+    /// Whether a flush discards only what was released before it. Otherwise it discards all that was released when it is seen.
     pub positional: bool,
     /// The scale of its gains in 4.12, at most 0x1000.
     pub scale: u16,
@@ -76,7 +81,7 @@ pub enum MakeError {
     Memory,
 }
 
-// Whether a number is not from the first of these to the last.
+// Whether a number is below the first of these or above the last.
 fn is_outside(first: u32, last: u32, number: u32) -> bool
     ensures outside { result ≡ true → IsOutside first last number }
     ensures inside { result ≡ false → (first ≤ number) × (number ≤ last) }
@@ -134,7 +139,7 @@ impl MixerSpec<'_> {
         Ok(())
     }
 
-    /// Whether a mixer can be made of it, and else its first number that doesn't fit.
+    /// Answers Ok if a mixer can be made of it, and else its first number that doesn't fit.
     pub fn check(&self) -> Result<(), SpecError>
         ensures fits { OnOk result (IsMixerSpec self.now) }
         ensures cause { IfErr result (λ error. IsCause error self.now) }

@@ -133,7 +133,7 @@ impl NewTracks {
         }
     }
 
-    // Takes room for one more track. Memory is its only refusal.
+    // Takes room for one more track. It is refused only for lack of memory.
     fn reserve_one(&mut self) -> Result<(), Memory>
         ensures room { OnOk result ((vec_len self.new.streams < vec_capacity self.new.streams) × (vec_len self.new.commands < vec_capacity self.new.commands) × (vec_len self.new.clients < vec_capacity self.new.clients)) }
         ensures blocks { (self.new.streams.items ≡ self.old.streams.items) × (self.new.commands.items ≡ self.old.commands.items) }
@@ -145,7 +145,7 @@ impl NewTracks {
         Ok(())
     }
 
-    // Adds a track behind the others, for which there is room. Memory is its only refusal.
+    // Adds a track behind the others, for which there is room. It is refused only for lack of memory.
     fn push(&mut self, track: NewTrack) -> Result<(), Memory>
         requires room { (vec_len self.old.streams < vec_capacity self.old.streams) × (vec_len self.old.commands < vec_capacity self.old.commands) × (vec_len self.old.clients < vec_capacity self.old.clients) }
         ensures streams { self.new.streams.items ≡ self.old.streams.items ++ track.stream ∷ [] }
@@ -166,7 +166,7 @@ impl NewTracks {
     }
 }
 
-/// The tracks of these specs, at most 32, in order. Memory is the only refusal.
+/// The tracks of these specs, at most 32, in order. They are refused only for lack of memory.
 pub(crate) fn new_tracks(alloc: Global, specs: &[EngineTrack]) -> Result<NewTracks, Memory>
     requires count { length specs.now ≤ 32 }
     requires specs { All IsEngineTrack specs.now }

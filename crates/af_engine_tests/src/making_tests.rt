@@ -36,7 +36,7 @@ const KINDS: [EngineTrack; 4] = [
     },
 ];
 
-// The numbers of these tracks are those of their places.
+// Whether the numbers of these tracks are those of their places.
 fn are_numbered(tracks: &[TrackEnds]) -> bool {
     let mut so = true;
     for (place, ends) in tracks.iter().enumerate() {
@@ -45,7 +45,7 @@ fn are_numbered(tracks: &[TrackEnds]) -> bool {
     so
 }
 
-// How many tracks a mixer of this spec has, where each has its number.
+// How many tracks a mixer of this spec has, and whether each has its number.
 fn made(alloc: Global, spec: &MixerSpec<'_>) -> Result<(usize, bool), MakeError> {
     let (_shared, engine) = make(alloc, spec)?;
     let Engine { tracks, .. } = engine;
@@ -95,7 +95,7 @@ fn numbers_that_do_not_fit_are_refused(rt: HostRuntime) {
     }
 }
 
-// What is answered to a mixer of these tracks.
+// What is answered to a request for a mixer of these tracks.
 fn made_of(alloc: Global, tracks: &[EngineTrack]) -> Result<(usize, bool), MakeError> {
     let spec = MixerSpec {
         frames: 4,

@@ -67,7 +67,7 @@ module _ (earlier : List CycleEntry) (m n l : MixerState) (entry : CycleEntry) (
         (λ j. (ap (λ (y : MixerState). y.frames) played.same j, sym current_is j, (ap (λ (y : MixerState). y.last) played.same ∙ k.keeps.last_is) j, ap (λ (y : MixerState). report_at y.reports i) played.same j)));
   }
 
-  -- with what the slots did
+  -- an entry is added legally, if the slots did what it says
   adds : ((x : FastState) → m.observer.current ≡ Some x → is_mixed entry.cycle ≡ true → Mixes m.frames x (length m.log.frames) (found m.observer m.pipe) (found n.observer n.pipe) entry)
       → (is_mixed entry.cycle ≡ false → entry ≡ still_entry entry.state entry.cycle) → Takes m after entry → AddsCycleAfter earlier m l entry
   adds mixes still takes = subst (λ (y : MixerState). AddsCycleAfter earlier m y entry) (sym (is_now earlier m n l entry k open_log runs played state noted r)) (record {
@@ -85,7 +85,7 @@ module _ (earlier : List CycleEntry) (m n l : MixerState) (entry : CycleEntry) (
     report = (r.report, r.stored ∙ ap (λ (y : MixerState). y.writer.events ++ Store r.report ∷ []) played.same, next_report);
   })
 
-  -- a mix
+  -- an entry that mixes is added legally
   pub adds_mix : (x : FastState) → m.observer.current ≡ Some x → PlaysSlots m.frames m.observer.past.number x m.observer n.observer m.pipe n.pipe m.log.frames n.log.frames entry → AddsCycleAfter earlier m l entry
   adds_mix x is p =
       let same : (y : FastState) → m.observer.current ≡ Some y → x ≡ y = (λ y is'. some_same x y (sym is ∙ is')) in
@@ -101,7 +101,7 @@ module _ (earlier : List CycleEntry) (m n l : MixerState) (entry : CycleEntry) (
         tracks = (λ yes' y is' i lt on. p.tracks i lt (subst (λ (z : FastState). Rattle.af_model.specs.StateQueue.carries z i ≡ true) (sym (same y is')) on));
       })
 
-  -- a cycle that mixes nothing
+  -- an entry that mixes nothing is added legally
   pub adds_still : is_mixed entry.cycle ≡ false → entry ≡ still_entry entry.state entry.cycle → n ≡ record m { adopted = false } → AddsCycleAfter earlier m l entry
   adds_still dry is rests =
       let taken : taken_before entry slots ≡ 0 = ap (λ (e : CycleEntry). taken_before e slots) is in
@@ -117,11 +117,11 @@ module _ (earlier : List CycleEntry) (m n l : MixerState) (entry : CycleEntry) (
         tracks = (λ mixed. absurd (true≢false (sym mixed ∙ dry)));
       })
 
--- what a call of mix comes to, where an entry is added
+-- what a call of mix comes to, if an entry is added
 abbrev pub Comes : List CycleEntry → MixerState → MixerState → Cycle → CycleEntry → Type 0
 Comes earlier m l answer entry = IsInOrderAfter earlier l × (answer ≡ entry.cycle) × AddsCycleAfter earlier m l entry
 
--- with a mix
+-- a cycle that mixes comes to its entry
 pub mix_step : (earlier : List CycleEntry) (m n l : MixerState) (entry : CycleEntry) (x : FastState) (answer : Cycle) → IsInOrderAfter earlier m → is_over m ≡ false → m.observer.current ≡ Some x → answer ≡ cycle_of m.cold (Some x) → is_mixed answer ≡ true
     → n ≡ record m { adopted = false; observer = n.observer; pipe = n.pipe; log = n.log } → InOrder stream_fits n.observer → (n.log.entries ≡ m.log.entries) × (n.log.room ≡ m.log.room) × (m.log.frame_room ≤ n.log.frame_room)
     → PlaysSlots m.frames m.observer.past.number x m.observer n.observer m.pipe n.pipe m.log.frames n.log.frames entry
@@ -138,7 +138,7 @@ mix_step earlier m n l entry x answer k goes is answer_is mixed same order log p
       adds_mix earlier m n l entry k open_log runs played p.state noted_so reports (sym cycle_is ∙ answer_is ∙ ap (cycle_of m.cold) (sym is)) x is p,
     )
 
--- without one
+-- a cycle that mixes nothing comes to its entry
 pub still_step : (earlier : List CycleEntry) (m l : MixerState) (entry : CycleEntry) (answer : Cycle) → IsInOrderAfter earlier m → is_over m ≡ false → answer ≡ cycle_of m.cold m.observer.current → is_mixed answer ≡ false
     → entry ≡ still_entry m.observer.past.number answer
     → l ≡ notes m.observer.current entry l.writer l.reports (record m { adopted = false }) → StoresReport m.observer.current entry (record m { adopted = false }) l → Comes earlier m l answer entry
@@ -155,7 +155,7 @@ still_step earlier m l entry answer k goes answer_is dry is noted r =
       adds_still earlier m n l entry k open_log runs played state noted r (sym cycle_is ∙ answer_is) (ap is_mixed (sym cycle_is) ∙ dry) still refl,
     )
 
--- an entry was added, so nothing else comes to pass
+-- an entry was added, so a call of mix does nothing else
 pub adds_so : {earlier : List CycleEntry} (m m' : MixerState) (out out' : List Frame) (answer : Cycle) → is_over m ≡ false → (entry : CycleEntry) × (answer ≡ entry.cycle) × AddsCycleAfter earlier m m' entry × Writes m' entry out out'
     → MixesOnceAfter earlier m out answer m' out'
 adds_so m m' out out' answer goes added =
@@ -170,7 +170,7 @@ adds_so m m' out out' answer goes added =
 abbrev pub over_answer : MixerState → Cycle
 over_answer m = if m.exited then cycle.Exit else cycle.Spent m.cycles
 
--- it is over, and nothing was done
+-- a mixer that is over answers so, and nothing was done
 pub over_so : {earlier : List CycleEntry} (m : MixerState) (out : List Frame) (answer : Cycle) → is_over m ≡ true → answer ≡ over_answer m → MixesOnceAfter earlier m out answer (record m { adopted = false }) out
 over_so m out answer over is = record {
   exited = (λ yes. (is ∙ ap (λ (b : Bool). if b then cycle.Exit else cycle.Spent m.cycles) yes, refl, refl));
@@ -178,7 +178,7 @@ over_so m out answer over is = record {
   adds = (λ goes. absurd (true≢false (sym over ∙ goes)));
 }
 
--- there are no more looks than entries
+-- the reports count no more looks than there are entries
 pub few_reports : {earlier : List CycleEntry} (m : MixerState) → IsInOrderAfter earlier m → is_over m ≡ false → AreFew most_entries m.reports
 few_reports {earlier} m k goes i lt =
     let few = k.reports.few i lt in
@@ -186,11 +186,11 @@ few_reports {earlier} m k goes i lt =
     let open_log = log_open m k goes in
     (omega (arith, few, long, open_log, k.forgotten.most), omega (arith, few, long, open_log, k.forgotten.most), omega (arith, few, long, open_log, k.forgotten.most))
 
--- so one entry more can be counted
+-- one entry more can be counted
 pub few_counted : {earlier : List CycleEntry} (m : MixerState) → IsInOrderAfter earlier m → is_over m ≡ false → m.count < most_entries
 few_counted {earlier} m k goes = omega (arith, k.forgotten.counted, length-append earlier m.log.entries, log_open m k goes, k.forgotten.most)
 
--- and a log that is open has room for the frames of one cycle
+-- a log that is open has room for the frames of one cycle
 pub room_one : {earlier : List CycleEntry} (m : MixerState) → IsInOrderAfter earlier m → is_over m ≡ false → length m.log.frames + slots * m.frames ≤ m.log.frame_room
 room_one m k goes =
     let left : ℕ = m.cycles - (length m.log.entries + 1) in
@@ -198,7 +198,7 @@ room_one m k goes =
     let one : (m.cycles - length m.log.entries) * m.frames ≡ left * m.frames + m.frames = ap (λ a. a * m.frames) (let e : m.cycles - length m.log.entries ≡ suc left = omega (arith, open_log) in e) ∙ suc-mul left m.frames in
     omega (arith, k.room.rest, one)
 
--- before the first state there is none
+-- before the first state is pushed no state is current
 pub none_current : {earlier : List CycleEntry} (m : MixerState) → IsInOrderAfter earlier m → m.observer.past.number ≡ 0 → m.observer.current ≡ None
 none_current m k none = sym (k.observer.told.current no_state) ∙ ap (state_of (adopted_states m)) none
 

@@ -18,7 +18,7 @@ use Rattle.af_link.specs.declared.names.StreamNames.{StreamNames}
 use Rattle.af_fast.specs.Fits.{stream_fits}
 use Rattle.af_fast.specs.Mixer.{MixerState, UsesStates, KeepsEntries, CarriesNone, IsInOrderAfter, adopted_states, all_entries, is_over}
 
--- a look that found nothing new
+-- a look that found nothing new polls no state
 polled-same : (y : FastState) (es : List (ObserverEvent ServerState)) (k : ℕ) → polled_states y (es ++ SawNext k None [] ∷ []) ≡ polled_states y es
 polled-same y [] k = refl
 polled-same y (SawNext n (Some x) items ∷ es) k = polled-same x es k
@@ -26,7 +26,7 @@ polled-same y (SawNext n None items ∷ es) k = polled-same y es k
 polled-same y (Ack n items ∷ es) k = ap (λ (l : List FastState). y ∷ l) (polled-same y es k)
 polled-same y (observer.Learn c ∷ es) k = polled-same y es k
 
--- a look that took a state, which was acknowledged
+-- a look that took a state, which was acknowledged, polls one state more
 polled-new : (y : FastState) (es : List (ObserverEvent ServerState)) (k n : ℕ) (x : FastState) (came back : List (Option ServerState))
     → polled_states y ((es ++ SawNext k (Some x) came ∷ []) ++ Ack n back ∷ []) ≡ polled_states y es ++ x ∷ []
 polled-new y [] k n x came back = refl
@@ -35,7 +35,7 @@ polled-new y (SawNext m None items ∷ es) k n x came back = polled-new y es k n
 polled-new y (Ack m items ∷ es) k n x came back = ap (λ (l : List FastState). y ∷ l) (polled-new y es k n x came back)
 polled-new y (observer.Learn c ∷ es) k n x came back = polled-new y es k n x came back
 
--- with another answer to whether a state waits for its mix
+-- the mixer uses its states so with another answer to whether a state waits for its mix
 pub with_turn : {n : ℕ} {es : List CycleEntry} {turn over : Bool} (turn' : Bool) → (turn' ≡ false → n ≡ last_used es) → UsesStates n es turn over → UsesStates n es turn' over
 with_turn turn' still k = record { used = k.used; low = k.low; high = k.high; still = still; ended = k.ended; few = k.few }
 
@@ -43,7 +43,7 @@ module _ (earlier : List CycleEntry) where
   abbrev all : MixerState → List CycleEntry
   all = all_entries earlier
 
-  -- a mixer whose observer has the same states
+  -- a mixer is in order if its observer has the same states
   same_states : (m : MixerState) (o : Observes ServerState StreamNames) → IsInOrderAfter earlier m → InOrder stream_fits o → o.past.number ≡ m.observer.past.number → o.past.state ≡ m.observer.past.state
       → polled_states no_state o.past.events ≡ adopted_states m → IsInOrderAfter earlier (record m { observer = o; adopted = true })
   same_states m o k order number state states = record {
@@ -56,7 +56,7 @@ module _ (earlier : List CycleEntry) where
     forgotten = k.forgotten;
   }
 
-  -- a mixer whose observer has one state more
+  -- a mixer is in order if its observer has one state more
   next_state : (m : MixerState) (o : Observes ServerState StreamNames) (x : FastState) → IsInOrderAfter earlier m → is_over m ≡ false → m.adopted ≡ false → InOrder stream_fits o → o.past.number ≡ m.observer.past.number + 1
       → polled_states no_state o.past.events ≡ adopted_states m ++ x ∷ [] → IsInOrderAfter earlier (record m { observer = o; adopted = true })
   next_state m o x k goes turn order number states =
@@ -85,7 +85,7 @@ module _ (earlier : List CycleEntry) where
         forgotten = k.forgotten;
       }
 
-  -- whatever the poll found
+  -- a mixer is in order after a poll, whatever the poll found
   pub polled_order : (m : MixerState) (o : Observes ServerState StreamNames) (poll : Poll) (s s' : ℕ) → IsInOrderAfter earlier m → is_over m ≡ false → m.adopted ≡ false → InOrder stream_fits o → WasPolled m.observer poll o s s'
       → IsInOrderAfter earlier (record m { observer = o; adopted = true })
   polled_order m o Nothing s s' k goes turn order (none, is, stepped) =
@@ -98,10 +98,10 @@ module _ (earlier : List CycleEntry) where
       next_state m o x k goes turn order (ap (λ (y : Observes ServerState StreamNames). y.past.number) took.2)
       (ap (λ (y : Observes ServerState StreamNames). polled_states no_state y.past.events) took.2 ∙ polled-new no_state m.observer.past.events (m.observer.past.number + 1) (m.observer.past.number + 1) x took.0 took.1)
 
-  -- it is over, and nothing is polled
+  -- a mixer that is over is in order, with nothing polled
   pub over_order : (m : MixerState) → IsInOrderAfter earlier m → IsInOrderAfter earlier (record m { adopted = true })
   over_order m k = same_states m m.observer k k.observer refl refl refl
 
-  -- it is over, and nothing is mixed
+  -- a mixer that is over is in order, with nothing mixed
   pub rest_order : (m : MixerState) → IsInOrderAfter earlier m → is_over m ≡ true → IsInOrderAfter earlier (record m { adopted = false })
   rest_order m k over = record { observer = k.observer; begins = k.begins; room = k.room; uses = with_turn false (λ _. k.uses.ended over) k.uses; keeps = k.keeps; reports = k.reports; forgotten = k.forgotten }

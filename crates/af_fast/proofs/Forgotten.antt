@@ -3,7 +3,7 @@ use Rattle.std.proofs.Common.{◌≡◌, ℕ, ◌+◌, ◌-◌, ◌*◌, ◌≤�
 use Rattle.af_base.specs.declared.log.CycleEntry.{CycleEntry}
 use Rattle.af_fast.specs.Mixer.{MixerState, UsesStates, KeepsEntries, Reported, IsInOrderAfter, adopted_states, all_entries, emptied, is_over, most_entries}
 
--- an empty log is full where it has room for no entry, and then it was full before
+-- an empty log is full if it has room for no entry, and then it was full before
 was_over : (exited : Bool) (n cycles : ℕ) → n ≤ cycles → (exited || (0 == cycles)) ≡ true → (exited || (n == cycles)) ≡ true
 was_over true n cycles le over = refl
 was_over false n cycles le over = let none : 0 ≡ cycles = eqb-true 0 cycles over in eq-eqb n cycles (omega (arith, none, le))

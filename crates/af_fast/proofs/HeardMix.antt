@@ -68,11 +68,11 @@ module _ (frames : List Frame) (entry : CycleEntry) where
   one_case true t ts = refl
   one_case false t ts = refl
 
-  -- one slot, and then the next ones
+  -- the takes that are heard are that of one slot, and then those of the next ones
   pub one_then : (i n : ℕ) → heard_takes frames entry i 1 ++ heard_takes frames entry (i + 1) n ≡ heard_takes frames entry i (suc n)
   one_then i n = one_case (count i == 0) (slot_take frames entry i) (heard_takes frames entry (i + 1) n)
 
-  -- each of them fits a mix
+  -- each take that is heard fits a mix
   module _ (asked : ℕ) (within : (i : ℕ) → i < slots → count i ≤ asked) (scaled : (i : ℕ) → i < slots → slice_index_or entry.scales i 0 ≤ 4096) where
     abbrev Fits : Take → Type 0
     Fits t = (length t.frames ≤ asked) × (t.scale ≤ 4096)

@@ -28,11 +28,11 @@ module _ (o : Observes ServerState StreamNames) (blocks : List Made) (slot track
   pub held_fits : IsStreamOf blocks track s
   held_fits = subst (λ (bt : List Made × ℕ). IsStreamOf bt.0 bt.1 s) (λ i. (names.2 i, sym same i)) (order.fit names.0 names.1 slot s inside was)
 
-  -- so there is a block of that number
+  -- there is a block with the number of the track
   pub has_block : track < length blocks
   has_block = slice_get_within blocks track (server_made s.pass) held_fits.made
 
-  -- after a call on it the observer is in order again
+  -- after a call on the proxy the observer is in order again
   module _ (t : ServerState) (fits : IsStreamOf blocks track t) where
     abbrev items : List (Option ServerState)
     items = slice_set o.items slot (Some t)

@@ -35,7 +35,7 @@ module _ (m m' : MixerState) (entry : CycleEntry) (adds : AddsCycle m m' entry) 
     samples = subst (All IsFrame) (ap (drop (length m.log.frames)) grown ∙ drop_at m.log.frames more (length m.log.frames) refl) (All-drop IsFrame (length m.log.frames) m'.log.frames samples);
   }
 
-  -- with the entry that a cycle adds
+  -- the log keeps its form with the entry that a cycle adds
   pub log_form : AreWhole 0 m.log.frames m.log.entries → AreWhole 0 m'.log.frames m'.log.entries
   log_form whole = subst (λ (l : List Frame × List CycleEntry). AreWhole 0 l.0 l.1) (λ k. (sym grown k, sym adds.entries k))
       (one_more 0 m.log.frames m.log.entries entry more whole (subst (λ (n : ℕ). Follows n entry more) (let e : length m.log.frames ≡ 0 + length m.log.frames = omega arith in e) follows))

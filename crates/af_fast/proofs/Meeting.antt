@@ -45,7 +45,7 @@ polled-learn y (SawNext n None items ∷ es) k = polled-learn y es k
 polled-learn y (Ack n items ∷ es) k = ap (λ (l : List FastState). y ∷ l) (polled-learn y es k)
 polled-learn y (observes.Learn c ∷ es) k = polled-learn y es k
 
--- all ends met
+-- a mixer is in order after all its ends met
 pub met_order : {earlier : List CycleEntry} (m : MixerState) (o : Others) → IsInOrderAfter earlier m → IsInOrderAfter earlier (mixer_met m o)
 met_order {earlier} m o k =
     let count : ℕ = length o.mutator.past.events in
@@ -59,6 +59,6 @@ met_order {earlier} m o k =
       forgotten = k.forgotten;
     }
 
--- the items that the observer holds changed
+-- a mixer is in order after the items that the observer holds changed
 pub items_order : {earlier : List CycleEntry} (m : MixerState) (items : List (Option ServerState)) → IsInOrderAfter earlier m → InOrder stream_fits (record m.observer { items = items }) → IsInOrderAfter earlier (record m { observer = record m.observer { items = items } })
 items_order m items k order = record { observer = order; begins = k.begins; room = k.room; uses = k.uses; keeps = k.keeps; reports = k.reports; forgotten = k.forgotten }

@@ -76,14 +76,14 @@ module _ (earlier : List CycleEntry) (m n l : MixerState) (entry : CycleEntry) (
   abbrev es : List CycleEntry
   es = m.log.entries
 
-  -- all entries of its life
+  -- all entries of the mixer's life
   abbrev all : List CycleEntry
   all = earlier ++ es
 
   abbrev xs : List FastState
   xs = adopted_states m
 
-  -- the mixer, by what it was before
+  -- the mixer after its entry, by what it was before
   abbrev pub now : MixerState
   now = record m {
     observer = n.observer;
@@ -119,7 +119,7 @@ module _ (earlier : List CycleEntry) (m n l : MixerState) (entry : CycleEntry) (
   all_longer : length (all ++ entry ∷ []) ≡ length all + 1
   all_longer = length-append all (entry ∷ [])
 
-  -- all entries of its life, with this one
+  -- all entries of the mixer's life, with the one added
   one_more : all ++ entry ∷ [] ≡ earlier ++ (es ++ entry ∷ [])
   one_more = append_assoc earlier es (entry ∷ [])
 

@@ -21,7 +21,7 @@ use Rattle.af_fast.specs.Slots.{LogsSlot, SlotPlayed, PlayedTo}
 below : (i j : ℕ) → j < suc i → (j < i) ⊎ (j ≡ i)
 below i j lt = elim (cases_eq j i) [ inl e ↦ inr e | inr other ↦ inl (omega (arith, other)) ]
 
--- what holds below a number, and of it, holds up to it
+-- what holds of all numbers below a number, and of that number, holds up to it
 up_to : (P : ℕ → Type 0) (i : ℕ) → ((j : ℕ) → j < i → P j) → P i → (j : ℕ) → j < suc i → P j
 up_to P i before here j lt = elim (below i j lt) [ inl less ↦ before j less | inr e ↦ subst P (sym e) here ]
 
@@ -36,7 +36,7 @@ module _ (asked : ℕ) (x : FastState) (place : ℕ) (o : Observes ServerState S
   abbrev Played : Observes ServerState StreamNames → List Frame → CycleEntry → ℕ → Type 0
   Played o' frames entry' i = PlayedTo asked x place o o' first frames entry entry' i
 
-  -- a slot that has no track
+  -- the slots are played one further, over a slot that has no track
   pub rest_step : (o' : Observes ServerState StreamNames) (frames : List Frame) (entry' : CycleEntry) (i : ℕ) → Played o' frames entry' i → 0 < i → i < slots → carries x i ≡ false → Played o' frames entry' (suc i)
   rest_step o' frames entry' i p low lt off =
       let here = p.rest i (omega arith) lt in
@@ -59,7 +59,7 @@ module _ (asked : ℕ) (x : FastState) (place : ℕ) (o : Observes ServerState S
         rest = (λ j le lt'. p.rest j (omega arith) lt');
       }
 
-  -- a slot that has one
+  -- the slots are played one further, over a slot that has a track
   module _ (o' o'' : Observes ServerState StreamNames) (frames frames'' : List Frame) (entry' : CycleEntry) (i : ℕ) (e : SlotEntry)
       (p : Played o' frames entry' i) (low : 0 < i) (lt : i < slots) (on : carries x i ≡ true) (long : length o'.items ≡ slots) (q : LogsSlot asked i o' o'' frames frames'' e) where
     abbrev new_items : List (Option ServerState)
@@ -155,7 +155,7 @@ module _ (asked : ℕ) (x : FastState) (place : ℕ) (o : Observes ServerState S
     pub play_step : Played o'' frames'' filled (suc i)
     play_step = subst (λ (y : Observes ServerState StreamNames × List Frame). Played y.0 y.1 filled (suc i)) (λ k. (sym q.plays.is k, sym q.grown k)) step
 
-  -- any slot, by what its call says
+  -- the slots are played one further, over any slot, by what its call says
   pub slot_step : (o' o'' : Observes ServerState StreamNames) (frames frames'' : List Frame) (entry' entry'' : CycleEntry) (i : ℕ) → Played o' frames entry' i → 0 < i → i < slots → length o'.items ≡ slots
       → (carries x i ≡ true → (e : SlotEntry) × LogsSlot asked i o' o'' frames frames'' e × (entry'' ≡ with_slot entry' i e))
       → (carries x i ≡ false → (o'' ≡ o') × (frames'' ≡ frames) × (entry'' ≡ entry'))

@@ -19,7 +19,7 @@ use Rattle.af_link.specs.declared.names.StreamNames.{StreamNames}
 use Rattle.af_fast.specs.Slots.{listed_at, found, IsMarked, LogsPipe, PlayedTo, PlaysSlots}
 use Rattle.af_fast.proofs.SlotSteps.{place_within}
 
--- one slot has nothing more than the slots before it
+-- the first i slots took at most i times what was asked, if each took at most that
 pub taken_few : (asked : ℕ) (entry : CycleEntry) (i : ℕ) → ((j : ℕ) → j < i → count_seen (entry_slot entry j).seen ≤ asked) → taken_before entry i ≤ asked * i
 taken_few asked entry zero few = omega arith
 taken_few asked entry (suc i) few =
@@ -55,7 +55,7 @@ module _ (asked number : ℕ) (x : FastState) (o : Observes ServerState StreamNa
   only_zero P at_zero zero lt = at_zero
   only_zero P at_zero (suc j) lt = absurd (omega arith)
 
-  -- after the pipe
+  -- the slots are played up to slot 1, after the pipe was played
   pub begins : PlayedTo asked x (length frames) o o first first begun begun 1
   begins = record {
     whole = length-set marked.slots 0 e ∙ long;
@@ -75,7 +75,7 @@ module _ (asked number : ℕ) (x : FastState) (o : Observes ServerState StreamNa
     rest = (λ j some lt. (refl, none_yet j some lt));
   }
 
-  -- and after the last slot
+  -- what the slots come to after the last one was played
   module _ (o' : Observes ServerState StreamNames) (final : List Frame) (entry : CycleEntry) (d : PlayedTo asked x (length frames) o o' first final begun entry slots) where
     not_zero : (i : ℕ) → carries x i ≡ true → 0 < i
     not_zero zero on = absurd (true≢false (sym on))

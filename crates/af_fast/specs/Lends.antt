@@ -16,14 +16,14 @@ use Rattle.af_fast.specs.contracts.mixer.FastMixer.{the_row}
 use Rattle.af_fast.specs.Fits.{stream_fits}
 use Rattle.af_fast.specs.Mixer.{MixerState}
 
--- its observer is the last value written through r
+-- the mixer ends with an observer that is the last value written through r
 abbrev pub lends_observer : MutBor MixerState → MutBor (Observes ServerState StreamNames) → Fml
 lends_observer m r = Lends the_row (observer_row server_row names_row names_row (record { fits = stream_fits })) m r (λ o. record m.now { observer = o })
 
--- its ends of the report and of the pipe are the parts of the last value written through r
+-- the mixer ends with ends of the report and of the pipe that are the parts of the last value written through r
 abbrev pub lends_pair : MutBor MixerState → MutBor (WriterSide × OutSide) → Fml
 lends_pair m r = Lends the_row (Tuple (writer_row ∷ pipe_row ∷ [])) m r (λ e. record m.now { writer = e.0; pipe = e.1 })
 
--- they are the last values written through the two references
+-- the mixer ends with ends of the report and of the pipe that are the last values written through the two references
 abbrev pub lends_ends : MutBor MixerState → MutBor WriterSide × MutBor OutSide → Fml
 lends_ends m r = LendsBoth the_row writer_row pipe_row m r (λ w p. record m.now { writer = w; pipe = p })

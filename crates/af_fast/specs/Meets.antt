@@ -23,13 +23,13 @@ use Rattle.af_link.specs.declared.names.StreamNames.{StreamNames}
 use Rattle.af_fast.specs.Mixer.{MixerState}
 use Rattle.af_client.specs.Order.{IsClientOf}
 
--- the ends of the other side: that which pushes states, that which loads reports, and that which puts frames
+-- the ends of the other side: the one that pushes states, the one that loads reports, and the one that puts frames
 pub record Others : Type 0 where
   pub mutator : Mutates ServerState StreamNames
   pub reader : ReaderSide
   pub pipe : InSide
 
--- they were made with the objects of these links
+-- the other ends were made with the objects of these links
 pub record AreOthers (links : Links) (o : Others) : Type 0 where
   pub queue_is : o.mutator.past.queue ≡ links.queue.now
   pub report_is : o.reader.cell ≡ links.report.now
@@ -71,7 +71,7 @@ server_met s c = record s { pass = record s.pass { part = server_did s.pass.part
 abbrev pub client_knows : ClientState → ServerState → ClientState
 client_knows c s = record c { pass = record c.pass { part = client_met c.pass.part s.pass.part.events } }
 
--- The proxy s that is held for a slot met its client and its hand. Where the client has not poked the three lists have a history, in which no look of this server was shut
+-- The proxy s that is held for a slot met its client and its hand. If the client has not poked the three lists have a history, in which no look of this server was shut
 pub record MeetsHeld (slot : ℕ) (s : ServerState) (o : Observes ServerState StreamNames) (c : ClientState) (h : HandSide) (o' : Observes ServerState StreamNames) (c' : ClientState) (h' : HandSide) : Type 0 where
   pub observer : o' ≡ record o { items = slice_set o.items slot (Some (server_met s c)) }
   pub client : c' ≡ client_knows c s

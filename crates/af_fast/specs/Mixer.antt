@@ -21,7 +21,7 @@ use Rattle.af_link.specs.declared.links.Links.{Links}
 use Rattle.af_link.specs.declared.names.StreamNames.{StreamNames}
 use Rattle.af_fast.specs.Fits.{stream_fits}
 
--- the observer, the ends of the report and of the pipe, the log, the frames of a cycle, for how many entries the log has room, whether a state was adopted that no mix has used yet, whether Exit was answered, the cold generation performed last, the state that the last entry used, how many entries were added in all, and the last report of each slot
+-- a mixer: the observer, the ends of the report and of the pipe, the log, the frames of a cycle, for how many entries the log has room, whether a state was adopted that no mix has used yet, whether Exit was answered, the cold generation performed last, the state that the last entry used, how many entries were added in all, and the last report of each slot
 pub record MixerState : Type 0 where
   pub observer : Observes ServerState StreamNames
   pub writer : WriterSide
@@ -40,7 +40,7 @@ pub record MixerState : Type 0 where
 abbrev pub adopted_states : MixerState → List FastState
 adopted_states m = polled_states no_state m.observer.past.events
 
--- the entries of its life: those that it forgot, and then those of its log
+-- the entries of a mixer's life: those that it forgot, and then those of its log
 abbrev pub all_entries : List CycleEntry → MixerState → List CycleEntry
 all_entries earlier m = earlier ++ m.log.entries
 
@@ -52,17 +52,17 @@ most_entries = 4294967295
 abbrev pub emptied : MixerState → MixerState
 emptied m = record m { log = record m.log { entries = []; frames = [] } }
 
--- Exit was answered, or the log is full
+-- a mixer is over: Exit was answered, or the log is full
 abbrev pub is_over : MixerState → Bool
 is_over m = m.exited || (length m.log.entries == m.cycles)
 
--- the sizes that it was made with, and room for all entries and frames that are still to come
+-- the log has the sizes that it was made with, and room for all entries and frames that are still to come
 pub record LogHasRoom (frames cycles : ℕ) (log : Logged) : Type 0 where
   pub sized : (1 ≤ frames) × (frames ≤ 2 ^ 21) × (cycles ≤ 100000)
   pub entries : (length log.entries ≤ cycles) × (log.room ≡ cycles)
   pub rest : length log.frames + slots * ((cycles - length log.entries) * frames) ≤ log.frame_room
 
--- The number of the state adopted is that of the state of the last entry or the next one, and the latter only where a mix is still to use it
+-- The number of the state adopted is that of the state of the last entry or the next one, and the latter only if a mix is still to use it
 pub record UsesStates (number : ℕ) (entries : List CycleEntry) (adopted over : Bool) : Type 0 where
   pub used : UseUpTo (last_used entries) entries
   pub low : last_used entries ≤ number
@@ -71,7 +71,7 @@ pub record UsesStates (number : ℕ) (entries : List CycleEntry) (adopted over :
   pub ended : over ≡ true → number ≡ last_used entries
   pub few : last_used entries ≤ length entries
 
--- whether Exit was answered, the cold generation performed last, and the state that the last entry used
+-- the kept values are those of the entries: whether Exit was answered, the cold generation performed last, and the state that the last entry used
 pub record KeepsEntries (states : List FastState) (entries : List CycleEntry) (exited : Bool) (cold : ℕ) (last : Option FastState) : Type 0 where
   pub exited_is : exited ≡ has_exit entries
   pub cold_is : cold ≡ cold_done states entries
@@ -99,7 +99,7 @@ pub record HasForgotten (earlier : List CycleEntry) (count frames cycles : ℕ) 
   pub most : length earlier + cycles ≤ most_entries
   pub room : slots * (cycles * frames) ≤ log.frame_room
 
--- The kept values are those that the lists of its parts give, where it has forgotten these entries, and each item that the observer holds fits the track of its slot
+-- The kept values are those that the lists of its parts give, if it has forgotten these entries, and each item that the observer holds fits the track of its slot
 pub record IsInOrderAfter (earlier : List CycleEntry) (m : MixerState) : Type 0 where
   pub observer : InOrder stream_fits m.observer
   pub begins : m.observer.past.number ≡ 0 → CarriesNone m.observer.past.state
@@ -109,20 +109,20 @@ pub record IsInOrderAfter (earlier : List CycleEntry) (m : MixerState) : Type 0 
   pub reports : Reported (length (all_entries earlier m)) m.writer.events m.reports
   pub forgotten : HasForgotten earlier m.count m.frames m.cycles m.log
 
--- the same where it has forgotten nothing
+-- a mixer that has forgotten nothing is in order
 abbrev pub IsInOrder : MixerState → Type 0
 IsInOrder m = IsInOrderAfter [] m
 
--- the same whatever it has forgotten
+-- a mixer is in order, whatever it has forgotten
 pub record IsSound (m : MixerState) : Type 0 where
   pub earlier : List CycleEntry
   pub order : IsInOrderAfter earlier m
 
--- it stays in order, and forgets nothing more
+-- a mixer stays in order, and forgets nothing more
 abbrev pub StaysInOrder : MixerState → MixerState → Type 0
 StaysInOrder m m' = (earlier : List CycleEntry) → IsInOrderAfter earlier m → IsInOrderAfter earlier m'
 
--- its ends were made together with these links
+-- a mixer's ends were made together with these links
 abbrev pub IsLinked : Links → MixerState → Type 0
 IsLinked links m = AreLinked links m.observer.past.key m.observer.past.queue m.writer.cell (out_made m.pipe)
 

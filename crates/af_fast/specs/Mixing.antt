@@ -22,13 +22,13 @@ use Rattle.af_fast.specs.Known.{known}
 use Rattle.af_fast.specs.Mixer.{MixerState, adopted_states, all_entries, is_over}
 use Rattle.af_fast.specs.Slots.{SlotPlayed, found}
 
--- a state is polled for, unless it is over
+-- a mixer polls for a state, unless it is over
 pub record Adopts (m m' : MixerState) : Type 0 where
   pub rests : is_over m ≡ true → m' ≡ record m { adopted = true }
   pub polls : is_over m ≡ false → (poll : Poll) × (before : ℕ) × (after : ℕ) × WasPolled m.observer poll m'.observer before after
   pub same : m' ≡ record m { observer = m'.observer; adopted = true }
 
--- The ends took what the entry shows, and just this is in the log: in a mix the pipe's and the tracks' frames, each slot's where its entry says, and else nothing was done
+-- The ends took what the entry shows, and just this is in the log. In a mix it is the pipe's and the tracks' frames, each slot's at the place that its entry gives. Otherwise nothing was done
 pub record Takes (m m' : MixerState) (entry : CycleEntry) : Type 0 where
   pub observer : m'.observer ≡ record m.observer { items = m'.observer.items }
   pub grown : (more : List Frame) × (m'.log.frames ≡ m.log.frames ++ more)
@@ -45,7 +45,7 @@ pub record AddsCycleAfter (earlier : List CycleEntry) (m m' : MixerState) (entry
   pub takes : Takes m m' entry
   pub report : (report : Report) × (m'.writer.events ≡ m.writer.events ++ Store report ∷ []) × IsNextReport m.frames (adopted_states m) (all_entries earlier m) entry (known m'.observer) m.reports report
 
--- the same where nothing was forgotten
+-- one entry is added by a mixer that has forgotten nothing
 abbrev pub AddsCycle : MixerState → MixerState → CycleEntry → Type 0
 AddsCycle m m' entry = AddsCycleAfter [] m m' entry
 
@@ -59,7 +59,7 @@ pub record MixesOnceAfter (earlier : List CycleEntry) (m : MixerState) (out : Li
   pub spent : m.exited ≡ false → length m.log.entries ≡ m.cycles → (answer ≡ cycle.Spent m.cycles) × (m' ≡ record m { adopted = false }) × (out' ≡ out)
   pub adds : is_over m ≡ false → (entry : CycleEntry) × (answer ≡ entry.cycle) × AddsCycleAfter earlier m m' entry × Writes m' entry out out'
 
--- the same where nothing was forgotten
+-- a call of mix by a mixer that has forgotten nothing
 abbrev pub MixesOnce : MixerState → List Frame → Cycle → MixerState → List Frame → Type 0
 MixesOnce m out answer m' out' = MixesOnceAfter [] m out answer m' out'
 

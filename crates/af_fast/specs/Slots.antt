@@ -15,7 +15,7 @@ use Rattle.af_stateq.specs.Observes.{Observes}
 use Rattle.af_link.specs.PipeEnds.{OutSide}
 use Rattle.af_link.specs.declared.names.StreamNames.{StreamNames}
 
--- a server with its list, as a cycle finds it, where a slot has one
+-- the list of a slot's server, as a cycle finds it, if the slot has one
 abbrev pub listed_at : Option ServerState → Listed
 listed_at None = record { shape = record { frames = 0; cells = 0; base = 0; wrap = 0 }; events = [] }
 listed_at (Some s) = listed s
@@ -36,7 +36,7 @@ pub record PlaysSlot (asked place slot : ℕ) (o o' : Observes ServerState Strea
   pub is : o' ≡ record o { items = slice_set o.items slot (Some new) }
   pub plays : Plays asked place old buffer entry new
 
--- the same with the frames that it showed in the log
+-- the proxy of a slot was played, and the frames that it showed are in the log
 pub record LogsSlot (asked slot : ℕ) (o o' : Observes ServerState StreamNames) (frames frames' : List Frame) (entry : SlotEntry) : Type 0 where
   pub buffer : List Frame
   pub long : length buffer ≡ asked
@@ -50,7 +50,7 @@ pub record PlaysPipe (asked place : ℕ) (p p' : OutSide) (buffer : List Frame) 
   pub within : count_seen entry.seen ≤ asked
   pub place_is : entry.first ≡ place_of place entry.seen
 
--- the same with the frames in the log
+-- the pipe was played, and the frames that it showed are in the log
 pub record LogsPipe (asked : ℕ) (p p' : OutSide) (frames frames' : List Frame) (entry : SlotEntry) : Type 0 where
   pub buffer : List Frame
   pub long : length buffer ≡ asked

@@ -56,9 +56,9 @@ impl FastMixer {
         }
     }
 
-    /// Polls once, and adopts a new state with its items. It does nothing where Exit was answered or the log is full. At most two steps.
+    /// Polls once, and adopts a new state with its items. It does nothing if Exit was answered or the log is full. At most two steps.
     ///
-    /// It comes first, and then after each mix.
+    /// The calls of `adopt` and of `mix` come in turns, and the first is `adopt`.
     pub fn adopt<L: Ledger>(&mut self, links: &Links<'_>, steps: &mut Steps<L>)
         requires linked { IsLinked links.now self.old }
         requires order { IsSound self.old }
@@ -106,9 +106,9 @@ impl FastMixer {
         kind
     }
 
-    /// The rest of the cycle, with the state adopted: Exit where it was answered before, else Spent where the log is full, and both leave all as it was. Else one entry is added to the log, and the report after it is stored.
+    /// The rest of the cycle, with the state adopted. It answers Exit if it was answered before, else Spent if the log is full, and both leave all as it was. Else one entry is added to the log, and the report after it is stored.
     ///
-    /// The entry is Idle where nothing was pushed. By the state's command it is Exit, or Cold where its cold generation wasn't performed yet, or Mixed for MixWrite, and else Idle. Only Mixed writes `out`, which has the frames of a cycle. With m tracks in the state it takes at most `(m + 1) * frames + 7 * m + 4` steps.
+    /// The entry is Idle if nothing was pushed. By the state's command it is Exit, or Cold if its cold generation wasn't performed yet, or Mixed for MixWrite, and else Idle. Only Mixed writes `out`, which has the frames of a cycle. With m tracks in the state it takes at most `(m + 1) * frames + 7 * m + 4` steps.
     pub fn mix<L: Ledger>(
         &mut self,
         links: &Links<'_>,

@@ -31,7 +31,7 @@ fn slot_part<'a>(frames: &'a [Frame], entry: &CycleEntry, slot: usize) -> Part<'
     }
 }
 
-// Puts what a slot gives behind the first parts, where it took frames, and answers how many there are then.
+// Puts what a slot gives behind the first parts, if it took frames, and answers how many there are then.
 fn add_heard<'a>(
     parts: &mut [Part<'a>; SLOTS],
     heard: usize,

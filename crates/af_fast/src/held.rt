@@ -42,7 +42,7 @@ pub(crate) fn play_held<L: Ledger>(
     server.play(&streams[track as usize], place, buffer, steps)
 }
 
-/// The same, with the frames that were taken added to the log.
+/// Plays the proxy that the observer holds for a slot of the mask, and adds the frames that were taken to the log.
 pub(crate) fn log_held<L: Ledger>(
     observer: &mut Observer<Server, StreamNames>,
     log: &mut FastLog,

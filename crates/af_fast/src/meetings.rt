@@ -45,7 +45,7 @@ impl FastMixer {
         meet_pipe(links.pipe, from, pipe, steps);
     }
 
-    // The track of a slot, where the current state carries one for it.
+    // The track of a slot, if the current state carries one for it.
     fn track_of(&self, slot: u32) -> Option<u32>
         requires slot { slot < slots }
         requires order { IsSound self.now }
@@ -58,7 +58,7 @@ impl FastMixer {
         Some(state.slots[slot as usize].track)
     }
 
-    /// The proxy that the observer holds for a slot, its client and its hand meet, as by `af_link::meet_all`, in nine steps. Where the observer holds none there it answers false, and nothing is done.
+    /// The proxy that the observer holds for a slot, its client and its hand meet, as by `af_link::meet_all`, in nine steps. If the observer holds none there it answers false, and nothing is done.
     pub fn meet_held<L: Ledger>(
         &mut self,
         links: &Links<'_>,

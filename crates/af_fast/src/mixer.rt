@@ -17,15 +17,16 @@ use std::marker::Model;
 
 /// The mixer that never waits (AOSP's FastMixer): each cycle it polls for a state, mixes what the pipe and the tracks of the state show, and reports.
 ///
-/// Contracts see its parts with their lists, its log, and the kept values. A mixer is in order where these are the ones that the lists give. `make` makes it so, and each call and each meeting keeps it so.
+/// Contracts see its parts with their lists, its log, and the kept values. A mixer is in order if these are the ones that the lists give. `make` makes it so, and each call and each meeting keeps it so.
 #[derive(Drop)]
 pub struct FastMixer {
     pub(crate) observer: Observer<Server, StreamNames>,
     // The ends of the report and of the pipe.
     pub(crate) ends: (ReportWriter, PipeOut),
     pub(crate) log: FastLog,
-    // The frames of a cycle, and for how many entries the log has room.
+    // The frames of a cycle.
     pub(crate) frames: usize,
+    // For how many entries the log has room.
     pub(crate) cycles: usize,
     // Whether a state was adopted that no mix has used yet.
     pub(crate) adopted: bool,
@@ -95,7 +96,7 @@ fn reserve(alloc: Global, cycles: usize, frames: usize) -> Result<Reserved, Memo
 impl FastMixer {
     /// A mixer over its three ends, on which nothing was done: for `cycles` entries, from 1 to 100,000, and `frames` frames a cycle, at least 1, with `cycles * frames` at most 2^21.
     ///
-    /// It reserves the whole log, and the sums and frames of one cycle. No other call takes memory. Memory is its only refusal.
+    /// It reserves the whole log, and the sums and frames of one cycle. No other call takes memory. It answers Memory only if an allocation was refused.
     pub fn make(
         alloc: Global,
         observer: Observer<Server, StreamNames>,

@@ -40,7 +40,7 @@ fn known_of(observer: &mut Observer<Server, StreamNames>, slot: usize) -> KnownN
     }
 }
 
-// Whether a look showed all that was asked for, some of it, or none.
+// Whether a look showed all that was asked for.
 fn is_full(asked: usize, seen: Seen) -> bool
     ensures { result ≡ is_full asked seen }
 {
@@ -50,6 +50,7 @@ fn is_full(asked: usize, seen: Seen) -> bool
     }
 }
 
+// Whether a look showed some of what was asked for.
 fn is_partial(asked: usize, seen: Seen) -> bool
     ensures { result ≡ is_partial asked seen }
 {
@@ -59,6 +60,7 @@ fn is_partial(asked: usize, seen: Seen) -> bool
     }
 }
 
+// Whether a look showed nothing.
 fn is_empty(seen: Seen) -> bool
     ensures { result ≡ is_empty seen }
 {
@@ -98,7 +100,7 @@ fn carried(state: &Option<FastState>, slot: usize) -> bool
     }
 }
 
-// The report of one slot goes on, where the state carries an item for it.
+// The report of one slot goes on, if the state carries an item for it.
 fn report_slot(
     observer: &mut Observer<Server, StreamNames>,
     reports: &mut [SlotReport; SLOTS],

@@ -60,7 +60,7 @@ fn marks_to(marks: u32, state: &FastState, slot: usize) -> u32
     marks
 }
 
-// Marks a slot of a mix that is unmarked, where it has a track, with the track's scale and whether it is mono.
+// Marks a slot of a mix that is unmarked, if it has a track, with the track's scale and whether it is mono.
 fn mark_slot(entry: &mut CycleEntry, state: &FastState, slot: usize)
     requires slot { (1 ≤ slot) × (slot < slots) }
     requires unmarked { slice_index_or entry.old.scales slot 0 ≡ 0 }
@@ -106,7 +106,7 @@ fn log_pipe<L: Ledger>(
     entry
 }
 
-// Plays the track of a slot into the entry, where the state has one for it.
+// Plays the track of a slot into the entry, if the state has one for it.
 fn play_slot<L: Ledger>(
     observer: &mut Observer<Server, StreamNames>,
     log: &mut FastLog,

@@ -7,7 +7,7 @@ use Rattle.af_fast.specs.Heard.{heard_takes}
 use Rattle.af_fast.proofs.HeardMix.{mix_all, one_then, parts_fit}
 use Rattle.af_fast.proofs.heard.mix_heard.Goals as goal
 
--- one slot more was looked at
+-- the takes that are heard after one slot more was looked at
 grown : (here one rest next all : List Take) → here ++ one ≡ next → one ++ rest ≡ all → next ++ rest ≡ here ++ all
 grown here one rest next all added then = ap (λ (ts : List Take). ts ++ rest) (sym added) ∙ append_assoc here one rest ∙ ap (λ (ts : List Take). here ++ ts) then
 
@@ -24,7 +24,7 @@ loop-slot-preserved c =
           ∙ c.loop-slot.invariant.takes;
     }
 
--- all slots were looked at
+-- the takes that are heard are all there are, once all slots were looked at
 all_are : (takes all : List Take) (rest : ℕ → List Take) (i : ℕ) → i ≡ slots → rest slots ≡ [] → takes ++ rest i ≡ all → takes ≡ all
 all_are takes all rest i last none are = sym (append-nil takes) ∙ ap (λ (ts : List Take). takes ++ ts) (sym none ∙ ap rest (sym last)) ∙ are
 

@@ -1,7 +1,7 @@
 -- `ends` takes the one reference to the pair from `pair`, and cuts its borrow into one of each part. The mixer's name follows that of the pair, which follows the two. Assumes `Logic`.
 --     second      the offset of the pair's second part
 --     back        the two parts in memory, with what is left of the pair's place, are the pair
---     both_then   where one value follows another, and that one follows two: the first follows the two
+--     both_then   if one value follows another, and that one follows two, the first follows the two
 use Rattle.std.proofs.Common.{◌≡◌, ℕ, ◌+◌, List, [], ◌∷◌, refl, ap, MutBor}
 use Rattle.std.proofs.raw_atomic.Walks.{proved}
 use seplogic.Ra.Ura.{Ura}

@@ -6,7 +6,7 @@ use Rattle.af_fast.proofs.Adopted.{rest_order}
 use Rattle.af_fast.proofs.Added.{adds_so, over_so}
 use Rattle.af_fast.proofs.mixer.FastMixer.mix.Goals as goal
 
--- it is over
+-- the mixer is over
 pub returns-then-is_over-clause-order : goal.returns-then-is_over-clause-order
 returns-then-is_over-clause-order g c = λ earlier k.
     let m : MixerState = the_view c.self.inside in
