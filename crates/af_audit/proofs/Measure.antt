@@ -1,4 +1,4 @@
--- A number that the list of a server tells, which its reports and its mixer hear of: as how much was consumed, or how many flushes were seen.
+-- A number that the list of a server gives, and that its reports and its mixer hear of: such as how much was consumed, or how many flushes were seen.
 use Rattle.std.proofs.Common.{◌≡◌, ℕ, ◌≤◌, List, ◌++◌}
 use Rattle.af_base.specs.declared.event.ServerEvent.{ServerEvent}
 use Rattle.af_base.specs.declared.report.Report.{Report}
@@ -17,7 +17,7 @@ use Rattle.af_model.specs.StateQueue.{slot_of}
 use Rattle.af_runs.specs.Blocks.{listed}
 use Rattle.af_runs.specs.Runs.{Run, known_of, told_at}
 
--- the number by a list, by a slot of a report, and as a mixer hears it: a list only raises it, and neither a report nor a proxy tells of more than its list
+-- the number by a list, by a slot of a report, and as a mixer hears it: a list only raises it, and neither a report nor a proxy gives more of it than its list
 pub record Measure : Type 0 where
   pub of_list : Shape → List ServerEvent → ℕ
   pub of_report : SlotReport → ℕ
@@ -34,15 +34,15 @@ pub record Measure : Type 0 where
 abbrev pub of_server : Measure → Listed → ℕ
 of_server measure s = measure.of_list s.shape s.events
 
--- that of the server of a track's stream block in a run
+-- the number by the list of the server of a track's stream block in a run
 abbrev pub of_run : Measure → Run → ℕ → ℕ
 of_run measure run track = of_server measure (listed (told_at run track).stream)
 
--- no slot of the report has a later generation than the state, and where one has the same, it tells of no more than so much of its track
+-- no slot of the report has a later generation than the state, and if one has the same, it gives no more than so much of its track
 pub record IsBounded (measure : Measure) (draft : FastState) (told : ℕ → ℕ) (report : Report) : Type 0 where
   pub low : (i : ℕ) → (report_at report.slots i).generation ≤ (slot_of draft i).generation
   pub within : (i : ℕ) → (report_at report.slots i).generation ≡ (slot_of draft i).generation → measure.of_report (report_at report.slots i) ≤ told (slot_of draft i).track
 
--- what each track's proxy told when it was attached is no more than so much
+-- what each track's proxy gave when it was attached is no more than so much
 abbrev pub AreAttached : Measure → (ℕ → ℕ) → List TrackKept → Type 0
 AreAttached measure told tracks = (i : ℕ) → measure.of_heard (track_at tracks i).at_attach ≤ told i

@@ -39,7 +39,7 @@ may_tame p others (client.SawStatus word) may = refl
 may_tame p others (client.Poke word value) may = absurd may
 may_tame p others (client.Learn count) may = refl
 
--- a legal order has none
+-- a legal order of moments has no poke
 legal_lawful : (p : TrackPoint) (order : List Moment) → IsLegal p order → is_lawful (client_of order) ≡ true
 legal_lawful p [] l = refl
 legal_lawful p (by_client e ∷ order) l = lawful_more (client_of order) e (may_tame (after p order) (length (server_of order)) e l.0) (legal_lawful p order l.1)
@@ -70,7 +70,7 @@ released_met hands b h =
     let d : released_in (client_of h.order) ≡ released_in (client_list b) + put_by (client.Learn (length (server_list b))) = ap released_in (h.client_is ∙ met_clients hands b) ∙ fold-append puts 0 (client_list b) (client.Learn (length (server_list b)) ∷ []) in
     omega (arith, a, c, d)
 
--- What a later block tells begins with what was told up to the meeting
+-- What is recorded of a later block begins with what was recorded up to the meeting
 module _ (b last : BlockTold) (g : Grows (meets b) last) (h : HasBlockHistory last) (from count : ℕ) (narrow : last.shape.wrap ≤ 32768) (few : flushes_of (client_list last) ≤ 65536) (noticed : DropsByFlush last.shape [] (server_list last))
     (seen : count ≤ most_seen last.shape (server_list b)) (released : released_in (client_list b) ≤ from) where
   clients_are : client_list last ≡ client_list b ++ client.Learn (length (server_list b)) ∷ client_of g.more
@@ -96,7 +96,7 @@ module _ (b last : BlockTold) (g : Grows (meets b) last) (h : HasBlockHistory la
     released = released;
   })
 
--- a block had no poke where it has none later
+-- a block had no poke if it has none later
 pub grown_tame : (a last : BlockTold) → Grows a last → HasBlockHistory last → is_lawful (client_list a) ≡ true
 grown_tame a last g h =
     let list : client_of h.order ≡ client_list a ++ client_of g.more = h.client_is ∙ ap client_of g.told ∙ client_append g.more a.told in
@@ -151,7 +151,7 @@ module _ (cut : Bool) (s : Session) (marks : Marks) (run : Run) (round : RoundSe
         let history : HasBlockHistory (told_at (met_after s run round) n).stream = (legal.histories.blocks n low).stream part tame in
         subst (λ (b : BlockTold). released_in (client_list played_stream) ≤ length b.released) (sym (ends_stream n (met_after s run round) met_there ∙ met_stream)) (released_met hands played_stream (subst HasBlockHistory met_stream history))
 
-    -- where its server had seen so many flushes when the round's turns were made, what the client releases in later rounds is discarded only by looks that saw more
+    -- if its server had seen so many flushes when the round's turns were made, what the client releases in later rounds is discarded only by looks that saw more
     pub meeting-discards : (count : ℕ) (h : HasBlockHistory last_stream) → last_stream.shape.wrap ≤ 32768 → flushes_of (client_list last_stream) ≤ 65536 → DropsByFlush last_stream.shape [] (server_list last_stream)
         → count ≤ most_seen last_stream.shape (server_list played_stream) → DiscardsAbove last_stream.shape (length (told_at (after_round s run round) n).stream.released) count h.order
     meeting-discards count h narrow few noticed seen = block-discards played_stream last_stream meeting_grows h (length (told_at (after_round s run round) n).stream.released) count narrow few noticed seen (released_then h)

@@ -28,7 +28,7 @@ module _ (j : RunJudge) (before now : List TrackJudge) (at : ℕ) (t k : TrackJu
   put_here : IsTrackAt (set now at k) at k
   put_here = ((let x = here.0 in let l = length-set now at k in omega (arith, x, l)), sym (get_or-set_same now at k k here.0))
 
-  -- one track more
+  -- the meetings of one track more are judged, after those of the tracks before it
   pub one_met : (found next : Option ℕ) (right : Bool) → TracksMet j at before now found → k ≡ blocks_met (is_there j at) j.normal.handed t → AreShort (is_there j at) k → IsTrue right ↔ BothKeep (is_there j at) k → next ≡ found_after found right at
       → TracksMet j (at + 1) before (set now at k) next
   one_met found next right h met short answer is = record {

@@ -1,4 +1,4 @@
--- A normal mixer that has ended has all stream proxies home: an Exit comes into its draft only where they are, and from then on its turns change no track.
+-- A normal mixer that has ended has all stream proxies home: an Exit comes into its draft only if they are, and from then on its turns change no track.
 use Rattle.std.proofs.Common.{◌≡◌, ℕ, zero, suc, ◌==◌, ◌&&◌, ◌||◌, not, Bool, true, false, if◌then◌else◌, sym, refl, ap, subst, ◌∙◌, List, [], ◌∷◌, length}
 use Rattle.std.specs.List.{AllByRecursion}
 use Rattle.af_base.specs.declared.state.Command.{Command}
@@ -15,7 +15,7 @@ use Rattle.af_life.specs.Plays.{after_takes}
 use Rattle.af_life.specs.Turn.{after_tracks, after_edits, turn_after, LegalTurn}
 use Rattle.af_audit.proofs.DoneTracks.{IsDone, exit_when_empty, exit_when_over, no, ordered_exit, ordered_over, quiet_edits, takes_done}
 
--- A draft that says Exit has only tracks that are done with, and so has a mixer that pushed an Exit. One that has ended did
+-- A draft that says Exit has only tracks that are done with, and so has a mixer that pushed an Exit. A mixer that has ended pushed an Exit
 pub record EndsHome (m : NormalKept) : Type 0 where
   pub over : is_exit m.draft ≡ true → AllByRecursion IsDone m.tracks
   pub exits : is_exit m.last ≡ true → is_exit m.draft ≡ true
@@ -82,7 +82,7 @@ module _ (c : Setup) (k : Learnt) (m : NormalKept) (e : Turn) where
   unfolding mutated acked edits told
   beside = edits_beside
 
-  -- where the draft doesn't say Exit
+  -- if the draft doesn't say Exit, the mixer runs on after the edits
   still_runs : is_exit m.draft ≡ false → is_exit edits.draft ≡ false
   still_runs runs = says.exit ∙ runs
 
@@ -90,7 +90,7 @@ module _ (c : Setup) (k : Learnt) (m : NormalKept) (e : Turn) where
   unfolding told
   told_exit runs exit = exit_when_empty edits.tracks e.room (pipe_size c) (sym (ap (λ (b : Bool). code_of (next_command b edits.tracks e.room (pipe_size c)) == code_of Exit) (still_runs runs)) ∙ ordered_exit told edits (still_runs runs) exit)
 
-  -- an Exit comes into the draft only where the whole room of the pipe is seen
+  -- an Exit comes into the draft only if the whole room of the pipe is seen
   pub exit_room : is_exit m.draft ≡ false → is_exit (after_edits c k e m).draft ≡ true → e.room ≡ pipe_size c
   unfolding mutated acked edits told
   exit_room = told_exit
@@ -134,7 +134,7 @@ push_ends (Pushed number) m runs h = record { over = h.over; exits = λ exit. ex
 push_ends Clean m runs h = h
 push_ends (Busy seen expected) m runs h = h
 
--- a legal turn keeps it
+-- a legal turn keeps what `EndsHome` says of a mixer
 pub turn_ends : (c : Setup) (k : Learnt) (o : Outside) (m : NormalKept) (e : Turn) → LegalTurn c o m e → EndsHome m → EndsHome (turn_after c k m e)
 unfolding turn_after
 turn_ends c k o m e legal h = by_end e.ended refl
@@ -154,7 +154,7 @@ turn_ends c k o m e legal h = by_end e.ended refl
         let still : (after_edits c k e m).ended ≡ false = (beside c k m e).ended ∙ runs m.ended refl (sym legal.ends ∙ is) in
         takes_end c e.mixes _ (push_ends e.push _ still (edited_ends c k m e h))
 
--- and a new mixer has it
+-- a new mixer is as `EndsHome` says
 pub new_ends : (c : Setup) → EndsHome (new_normal c)
 new_ends c = record { over = (λ exit. no exit); exits = (λ exit. no exit); ended = (λ ended. no ended) }
 

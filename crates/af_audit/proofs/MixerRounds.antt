@@ -1,4 +1,4 @@
--- What a legal round keeps of the normal mixer, and what its turn does where the draft says Exit after it.
+-- What a legal round keeps of the normal mixer, and what its turn does if the draft says Exit after it.
 use Rattle.std.proofs.Common.{◌≡◌, ℕ, Bool, true, false, if◌then◌else◌, nat_le, List, [], ◌∷◌, length, map, Option, Some, None, refl, sym, ap, ◌∙◌, subst, arith}
 use Rattle.af_base.specs.Turn.{TakeSeen, Turn}
 use Rattle.af_life.specs.Edits.{is_exit}
@@ -34,7 +34,7 @@ module _ (cut : Bool) (s : Session) (marks : Marks) (run : Run) (round : RoundSe
     abbrev Exits : NormalKept → Type 0
     Exits m = is_exit m.draft ≡ true
 
-    -- without a turn that goes on it said so before
+    -- if the round has no turn, the draft said Exit before the round
     pub said_without : round.turn ≡ None → Exits run.normal
     said_without none = subst Exits (round_normal s run round ∙ ap (mixer_after s run round) none) exit
 
@@ -52,11 +52,11 @@ module _ (cut : Bool) (s : Session) (marks : Marks) (run : Run) (round : RoundSe
         edits_exit : Exits (after_edits c k e run.normal)
         edits_exit = sym (ap is_exit (draft_goes c k run.normal e runs)) ∙ exits_turned
 
-        -- where it didn't, the turn saw the whole room
+        -- if the draft didn't say Exit before the turn, the turn saw the whole room
         pub saw_room : is_exit run.normal.draft ≡ false → e.room ≡ pipe_size c
         saw_room not_yet = exit_room c k run.normal e not_yet edits_exit
 
-        -- and in any case it mixed nothing
+        -- a turn that goes on and leaves a draft that says Exit mixed nothing
         pub mixed_none : e.mixes ≡ []
         mixed_none =
             let t = turn_legal cut s marks run round legal e is in

@@ -52,7 +52,7 @@ module _ (s : Session) (run : Run) (round : RoundSeen) where
       ends_normal (met s (loaded round.turn late)) ∙ met_normal (loaded round.turn late) ∙ loaded_normal round.turn late ∙ (cycles_beside s (late_of run round) (after_turn s run round)).normal ∙ turned_normal round.turn
 
 module _ (cut : Bool) (s : Session) (marks : Marks) (run : Run) (round : RoundSeen) (legal : LegalRound cut s marks run round) where
-  -- the turn that it has, if it has one
+  -- a turn that the round has is legal
   pub turn_legal : (e : Turn) → round.turn ≡ Some e → LegalTurnBy (setup_of s) marks (found_in s run round e) run.normal e
   turn_legal e is = by_ended run.normal.ended legal.turns.normal
     where

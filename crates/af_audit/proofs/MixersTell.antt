@@ -1,4 +1,4 @@
--- Both mixers' turns in a round are told: the entries before the turn, the turn, and those behind it.
+-- Both mixers' turns in a round are followed: the entries before the turn, the turn, and those behind it.
 use Rattle.std.specs.Prelude.{◌↔◌, IsTrue}
 use Rattle.std.proofs.Common.{◌≡◌, ℕ, ◌+◌, ◌-◌, ◌≤◌, Bool, List, take, drop, Option, refl, sym, ap, subst, ◌∙◌, arith}
 use Rattle.std.proofs.lemmas.List.{drop-drop, drop-take, take-take}
@@ -19,11 +19,11 @@ module _ (log : List CycleEntry) (first count : ℕ) where
   abbrev own : List CycleEntry
   own = take count (drop first log)
 
-  -- the first ones
+  -- the first entries of the round
   pub early_part : (n : ℕ) → n ≤ count → take n (drop first log) ≡ take n own
   early_part n few = sym (take-take n count (drop first log) few)
 
-  -- and the others
+  -- the entries of the round behind the first ones
   pub late_part : (n : ℕ) → n ≤ count → take (count - n) (drop (first + n) log) ≡ drop n own
   late_part n few =
       let all : n + (count - n) ≡ count = omega (arith, few) in
@@ -31,7 +31,7 @@ module _ (log : List CycleEntry) (first count : ℕ) where
 
 -- ## Both mixers
 
--- entries were told, and whether all are right
+-- entries were followed, and a bit says whether all are right
 abbrev pub Entered : List FastState → List Frame → List CycleEntry → Playing → Playing → Bool → Type 0
 Entered states frames entries p q right = (q ≡ entries_leave states frames entries p) × (IsTrue right ↔ AreEntriesRight states frames entries p)
 
@@ -48,7 +48,7 @@ module _ (frames : List Frame) (entries : List CycleEntry) (turn : Option Turn) 
   abbrev before_turn : List CycleEntry
   before_turn = take (early_of j entries) entries
 
-  -- and those behind it
+  -- the entries behind the turn
   abbrev behind_turn : List CycleEntry
   behind_turn = drop (early_of j entries) entries
 

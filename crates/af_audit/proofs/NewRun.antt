@@ -62,7 +62,7 @@ new_keeps s rounds tracks many new = record {
   whole = λ i t at yes. let lt : i < track_count s = (let a = at.0 in omega (arith, a, many)) in subst (IsTrackOf (spec_of s i).ops t) (sym (told_new s i lt)) (new_whole s rounds i t (new i t lt at));
 }
 
--- and each is fit
+-- each new track is fit
 pub new_fit : (s : Session) (rounds : List RoundSeen) (tracks : List TrackJudge) → length tracks ≡ track_count s → AreNewTracks s.script rounds (track_count s) tracks → AreFit s (new_run s)
 new_fit s rounds tracks many new = λ i lt.
     let a = track_there tracks i (let x : i < length tracks = omega (arith, lt, many) in x) in

@@ -102,7 +102,7 @@ module _ (c : Setup) (k : Learnt) where
   pub older_draft : (m : NormalKept) (e : Turn) → IsOlder m.draft (after_edits c k e m).draft
   older_draft m e = subst (λ (x : FastState). IsOlder x (after_edits c k e m).draft) (acked_draft e.ack m) (older_mutated e.room (after_tracks c k e (after_ack e.ack m)))
 
-  -- and the one that the turn leaves, which is the same where the turn goes on
+  -- the draft that a turn leaves is the one that its edits leave, if the turn goes on
   pub draft_goes : (m : NormalKept) (e : Turn) → e.ended ≡ false → (turn_after c k m e).draft ≡ (after_edits c k e m).draft
   unfolding turn_after
   draft_goes m e runs = ap (λ (b : Bool). (if b then record m { ended = true } else after_takes c e.mixes (after_push e.push (after_edits c k e m))).draft) runs ∙ pushed_draft e.push (after_edits c k e m)

@@ -25,17 +25,17 @@ order_of m n = grind arith
 one_least : (Holds : ℕ → Type 0) (last p q : ℕ) → IsLeastWithout Holds last p → IsLeastWithout Holds last q → p ≡ q
 one_least Holds last p q a b = elim (order_of p q) [ inl less ↦ absurd (a.fails (b.least p less)) | inr other ↦ elim other [ inl more ↦ absurd (b.fails (a.least q more)) | inr same ↦ same ] ]
 
--- each number of a range passes, where all do
+-- each number of a range passes, if all do
 passes : (P : ℕ → Bool) (from count i : ℕ) → list_all P (range_with_len from count) ≡ true → i < count → P (from + i) ≡ true
 passes P from zero i h low = absurd (omega (arith, low))
 passes P from (suc count) zero h low = subst (λ n. P n ≡ true) (omega arith) (both_left (P from) _ h)
 passes P from (suc count) (suc i) h low = subst (λ n. P n ≡ true) (omega arith) (passes P (from + 1) count i (both_right (P from) _ h) (omega (arith, low)))
 
--- where all have ended, each party has
+-- if all parties have ended, each of them has
 pub each_ended : (s : Session) (run : Run) (party : ℕ) → all_ended s run ≡ true → party ≤ fast_party s → has_ended s run party ≡ true
 each_ended s run party h low = subst (λ n. has_ended s run n ≡ true) (omega arith) (passes (has_ended s run) 0 (fast_party s + 1) party h (omega (arith, low)))
 
--- where no party has a fault, there is no first one
+-- if no party has a fault, there is no first one
 clear-no_fault : (s : Session) (marks : Marks) (run : Run) (rounds : List RoundSeen) (number party : ℕ) → AllClear s marks run rounds → IsFirstFault false s marks run rounds number party → ⊥
 clear-no_fault s marks run [] number party clear fault = fault.1.fails (each_ended s run party clear fault.1.is_party)
 clear-no_fault s marks run (round ∷ rounds) zero party clear fault = fault.fails (clear.0 party fault.is_party)

@@ -17,7 +17,7 @@ use Rattle.af_audit.proofs.OneVerdict.{each_ended}
 use Rattle.af_audit.proofs.TrackThere.{track_there}
 use Rattle.af_audit.proofs.Booleans.{never_true}
 
--- all numbers of a range pass, where each does
+-- all numbers of a range pass, if each does
 range_all : (P : ℕ → Bool) (from count : ℕ) → ((i : ℕ) → i < count → P (from + i) ≡ true) → list_all P (range_with_len from count) ≡ true
 range_all P from zero each = refl
 range_all P from (suc count) each = both-true (P from) (list_all P (range_with_len (from + 1) count))
@@ -28,7 +28,7 @@ range_all P from (suc count) each = both-true (P from) (list_all P (range_with_l
     both-true true b h k = k
     both-true false b h k = h
 
--- none is found, by a test of what is
+-- a bit says whether none is found, if its opposite says whether one is
 pub none_of : (o : Option ℕ) (b : Bool) → is_some o ≡ not b → b ≡ is_none o
 none_of None true h = refl
 none_of None false h = absurd (true≢false (sym h))
@@ -42,7 +42,7 @@ module _ (s : Session) (marks : Marks) (j : RunJudge) (tracks : List TrackJudge)
       let one = track_there tracks p lt in
       lists.get_or-map (λ (t : TrackJudge). t.client.client.ended) tracks p one.0 true lt ∙ (ap (λ (t : TrackJudge). t.client.client.ended) (sym one.1.1) ∙ ap (λ (c : Client). c.ended) (keeps.whole p one.0 one.1 tt).client.client)
 
-  -- each party has
+  -- each party has ended as in the run
   party-same : (p : ℕ) → party_ended j tracks p ≡ has_ended s run p
   party-same p = by_case (nat_lt p (length tracks)) refl
     where
@@ -63,11 +63,11 @@ module _ (s : Session) (marks : Marks) (j : RunJudge) (tracks : List TrackJudge)
       subst (λ (n : ℕ). LeastBelow (λ p. has_ended s run p ≡ true) n found) bound
       (least_same (λ p. party_ended j tracks p ≡ true) (λ p. has_ended s run p ≡ true) (length tracks + 2) found (λ p lt h. sym (party-same p) ∙ h) (λ p lt h. party-same p ∙ h) least)
 
-  -- all have ended, where none is found
+  -- all have ended, if none is found that goes on
   pub none_going : LeastBelow (λ p. party_ended j tracks p ≡ true) (length tracks + 2) None → all_ended s run ≡ true
   none_going least = range_all (has_ended s run) 0 (fast_party s + 1) (λ i lt. subst (λ (k : ℕ). has_ended s run k ≡ true) (let e : i ≡ 0 + i = omega arith in e) (going_least None least i lt))
 
-  -- all have ended exactly where none is found
+  -- all have ended exactly if none is found that goes on
   pub all_is : (found : Option ℕ) → LeastBelow (λ p. party_ended j tracks p ≡ true) (length tracks + 2) found → all_ended s run ≡ is_none found
   all_is None least = none_going least
   all_is (Some party) least =

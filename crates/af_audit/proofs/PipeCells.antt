@@ -10,7 +10,7 @@ use Rattle.af_script.specs.Ops.{power_above}
 le-power : (j k : ℕ) → j ≤ k → 2 ^ j ≤ 2 ^ k
 le-power j k le = pow-le-pow_right (omega arith) le
 
--- a power of two of which no half is enough
+-- if a power of two is enough and its half isn't, it is the least one
 power_next : (k j n : ℕ) → n ≤ 2 ^ j → 2 ^ j / 2 < max 1 n → j ≤ k → 2 ^ j ≡ power_above k n
 power_next zero j n above half low = let first : j ≡ 0 = omega (arith, low) in ap (λ i. 2 ^ i) first
 power_next (suc k) j n above half low = by_case (λ within. power_next k j n above half within) (nat_le n (2 ^ k)) refl
@@ -42,7 +42,7 @@ cells_next n p (j, power) above half few =
       | inr within ↦ within
     ]
 
--- the pipe of a script has few enough
+-- the pipe of a script has few enough frames
 pub few_frames : (script : ScriptData) (multiple frames : ℕ) → multiple ≡ script.normal → frames ≡ script.frames → IsScript script → 4 * (multiple * frames) ≤ 65536
 few_frames script multiple frames is_multiple is_frames form =
     let most_multiple = form.normal.1 in

@@ -1,4 +1,4 @@
--- Where the putting end of a pipe saw the whole room, and put nothing after that, all that was put is taken in the end.
+-- If the putting end of a pipe saw the whole room, and put nothing after that, all that was put is taken in the end.
 use Rattle.std.proofs.Common.{◌≡◌, ℕ, ◌-◌, ◌<◌, ◌≤◌, List, [], ◌∷◌, ◌++◌, drop, get_or, length, refl, sym, ap, ◌∙◌, subst, arith}
 use Rattle.af_base.specs.declared.event.ClientEvent.{ClientEvent}
 use Rattle.af_base.specs.declared.event.ClientEvent.TheVariants as client
@@ -56,7 +56,7 @@ module _ (size : ℕ) where
   puts_none p (one e ∷ es) none = absurd (let l = ap length none in omega (arith, l))
   puts_none p (two e ∷ es) none = puts_none (piped.next p (two e)) es none ∙ (two_takes p e).put
 
-  -- nor by a meeting
+  -- a meeting puts nothing
   puts_learns : (p : PipePoint) (es : Told) (n : ℕ) → ones es ≡ client.Learn n ∷ [] → (point p es).put ≡ p.put
   puts_learns p [] n is = absurd (let l = ap length is in omega (arith, l))
   puts_learns p (one e ∷ es) n is =
@@ -67,7 +67,7 @@ module _ (size : ℕ) where
   -- ## The whole room
 
   module _ (some : 0 < size) (front n : ℕ) where
-    -- where the front seen is the word of all frames put, none is left
+    -- if the front seen is the word of all frames put, none is left
     none_left : (p : PipePoint) (put : ℕ) → p.put ≡ put → front ≡ wrapped put → room_by size p.put front ≡ size - (p.put - p.taken) → p.put ≤ p.taken
     none_left p put is word room =
         let front_is : front ≡ wrapped p.put = word ∙ ap wrapped (sym is) in
@@ -89,7 +89,7 @@ module _ (size : ℕ) where
         let more = taken_grows q es in
         omega (arith, put, first, left, kept, more)
 
-  -- in a history of the pipe
+  -- in a history of the pipe all that was put is taken
   pub all_taken : (puts : List ClientEvent) (put : List ℕ) (takes : List ServerEvent) (taken : List ℕ) (before : List ClientEvent) (front n : ℕ) → 0 < size → HasPipeHistory size puts put takes taken
       → puts ≡ before ++ client.SawFront front ∷ client.Learn n ∷ [] → front ≡ wrapped (length put) → length put ≤ length taken
   all_taken puts put takes taken before front n some h is word =

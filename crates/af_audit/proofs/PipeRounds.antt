@@ -57,12 +57,12 @@ cycles_flow s (e ∷ es) run =
 
 -- ## The turn
 
--- what the putting end does in it
+-- what the putting end does in the turn
 abbrev pub turn_events : Session → PipeTold → Option Turn → List ClientEvent
 turn_events s p None = []
 turn_events s p (Some e) = pipe_list (setup_of s) (pipe_cells (setup_of s)) (length p.put) e
 
--- the words that it puts
+-- the words that the putting end puts in the turn
 abbrev pub turn_words : Session → Option Turn → List ℕ
 turn_words s None = []
 turn_words s (Some e) = going e (map packed_word (put_by (setup_of s) e.mixes))

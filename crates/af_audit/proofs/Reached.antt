@@ -96,7 +96,7 @@ module _ (cut : Bool) (s : Session) (form : IsScript s.script) (marks : Marks) (
     heard_so = round_heard;
   }
 
-  -- where the track is reported drained, its STOP's count is consumed
+  -- if the track is reported drained, its STOP's count is consumed
   pub reached_round : Reaches → n < track_count s → says_drained round.turn n ≡ true → (count : ℕ) × StoppedAt count (round_steps s run round round.turn n steps) × (count ≤ consumed_of after n)
   reached_round reached low says = let d = round_drained cut s marks run round legal n steps h.turns reached low says in
       (d.0, d.1, (let a = d.2 in let b = round_heard in omega (arith, a, b)))

@@ -1,4 +1,4 @@
--- In a history a server that sees each front right after a rear is never shut; and servers that look as a journal tells do so.
+-- In a history a server that sees each front right after a rear is never shut; and servers that look as a journal says do so.
 use Rattle.std.proofs.Common.{◌≡◌, ◌⊎◌, inl, inr, ℕ, ◌+◌, ◌-◌, ◌≤◌, ◌==◌, nat_lt, Bool, true, false, if◌then◌else◌, is_some, fold, Option, Some, None, List, [], ◌∷◌, ◌++◌, refl, sym, ap, ◌∙◌, subst, arith}
 use Rattle.std.proofs.lemmas.Grind.{fold-append}
 use Rattle.af_base.specs.declared.event.ClientEvent.{ClientEvent}
@@ -83,7 +83,7 @@ module _ (shape : Shape) where
         let f : nat_lt shape.frames (ahead (wrapped consumed) (wrapped released)) ≡ false = nat_lt-no _ _ (omega arith) in
         ap (λ (b : Bool). if b then Some (wrapped consumed, wrapped released) else None) f
 
-    -- it isn't shut, and knows the rear seen last, behind which nothing was consumed
+    -- the server isn't shut, and knows the rear seen last, behind which nothing was consumed
     pub record SeesRoom (k : ServerKept) (b : Bool) (p : TrackPoint) : Type 0 where
       pub rear_is : k.rear ≡ wrapped p.rear_seen
       pub unshut : k.shut ≡ None

@@ -1,4 +1,4 @@
--- What is kept of a run after its meetings is kept of it once the clients have ended, where the normal mixer has.
+-- What is kept of a run after its meetings is kept of it once the clients have ended, if the normal mixer has.
 use Rattle.std.proofs.Common.{◌≡◌, ℕ, ◌<◌, Bool, true, false, if◌then◌else◌, List, length, map, arith, sym, ap, subst, ◌∙◌}
 use Rattle.std.specs.Prelude.{slice_index_or}
 use Rattle.std.proofs.lemmas.List.{get_or-map, length-map}
@@ -16,7 +16,7 @@ use Rattle.af_runs.specs.Sessions.{Session, spec_of}
 use Rattle.af_script.specs.declared.op.Op.{Op}
 use Rattle.af_audit.specs.RoundTold.{ended_track, tracks_ended}
 
--- a track whose client has ended
+-- a track whose client has ended is kept
 end_track : (ops : List Op) (t : TrackJudge) (b : TrackTold) → IsTrackOf ops t b → IsTrackOf ops (ended_track t) (record b { client = ends b.client })
 end_track ops t b h = record {
   client = record { client = ap (λ (c : Client). ends c) h.client.client; sides = h.client.sides };
@@ -46,7 +46,7 @@ all-ended s marks W tracks run h =
     same_ended : (n : ℕ) (k : TrackJudge) → n < length tracks → slice_index_or (map ended_track tracks) n k ≡ ended_track (slice_index_or tracks n k)
     same_ended n k lt = get_or-map ended_track tracks n k k lt
 
--- each track is kept
+-- each track is kept once the clients have ended
 pub ends_keep : (s : Session) (marks : Marks) (W : ℕ → Type 0) (tracks : List TrackJudge) (run : Run) (ended : Bool) → ended ≡ run.normal.ended → KeepsTracks s marks W tracks run → KeepsTracks s marks W (tracks_ended ended tracks) (with_ends run)
 unfolding with_ends
 ends_keep s marks W tracks run ended is h = subst (λ (b : Bool). KeepsTracks s marks W (tracks_ended ended tracks) (if b then each_track (λ track t. record t { client = ends t.client }) run else run)) is (by_case ended)
@@ -55,7 +55,7 @@ ends_keep s marks W tracks run ended is h = subst (λ (b : Bool). KeepsTracks s 
     by_case true = all-ended s marks W tracks run h
     by_case false = h
 
--- so is the normal mixer
+-- the normal mixer is kept once the clients have ended
 pub ends_normal : (s : Session) (run : Run) (j : NormalJudged) → NormalOf s run j → NormalOf s (with_ends run) j
 unfolding with_ends
 ends_normal s run j h = by_case run.normal.ended

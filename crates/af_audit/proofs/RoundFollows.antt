@@ -86,7 +86,7 @@ module _ (s : Session) (marks : Marks) (round : RoundSeen) (run : Run) (frames :
     fits = fits_same s run start (calls_states round run) (calls-normal round run) (fits_of s run keeps.states);
   }
 
-  -- and once the early entries were told
+  -- what is kept once the early entries were followed
   abbrev pub early : Playing
   early = entries_leave run.states frames (entries_in (early_of run round)) (playing (begun j.fast) called)
 
@@ -111,7 +111,7 @@ module _ (s : Session) (marks : Marks) (round : RoundSeen) (run : Run) (frames :
 
 -- ## From behind the turn to the meetings
 
--- what is kept behind the turn: the tracks and the fast mixer, the normal mixer, what both share where the turn was legal, and the report that it loaded
+-- what is kept behind the turn: the tracks and the fast mixer, the normal mixer, what both share if the turn was legal, and the report that it loaded
 pub record KeepsTurned (s : Session) (marks : Marks) (round : RoundSeen) (run : Run) (r : ReportKept) (right : Bool) (k : RunJudge) (between : List TrackJudge) : Type 0 where
   pub kept : KeepsPlaying s marks (IsLegalCaller run round) run.reports (playing k.fast between) (after_turn s run round)
   pub normal : NormalOf s (after_turn s run round) k.normal
@@ -122,7 +122,7 @@ pub record KeepsTurned (s : Session) (marks : Marks) (round : RoundSeen) (run : 
 
 module _ (s : Session) (marks : Marks) (round : RoundSeen) (run : Run) (frames : List Frame) (r : ReportKept) (right : Bool) (k : RunJudge) (between : List TrackJudge) (place : ℕ) (keeps : KeepsTurned s marks round run r right k between) (unloaded : r.loaded ≡ None)
     (formed : AreFormed frames place (late_of run round)) where
-  -- once the late entries were told
+  -- what is kept once the late entries were followed
   abbrev pub late : Playing
   late = entries_leave (after_turn s run round).states frames (entries_in (late_of run round)) (playing k.fast between)
 
@@ -132,7 +132,7 @@ module _ (s : Session) (marks : Marks) (round : RoundSeen) (run : Run) (frames :
   late-keeps : KeepsPlaying s marks (IsLegalCaller run round) run.reports late told_late
   late-keeps = entries_keep s marks (IsLegalCaller run round) run.reports frames (late_of run round) (playing k.fast between) (after_turn s run round) place formed keeps.kept
 
-  -- and once the report was loaded
+  -- the tracks that are kept once the report was loaded
   loaded-tracks : (o : Option Turn) → KeepsTracks s marks (IsLegalCaller run round) late.tracks told_late → KeepsTracks s marks (IsLegalCaller run round) late.tracks (loaded o told_late)
   unfolding with_load
   loaded-tracks None h = h
@@ -144,7 +144,7 @@ module _ (s : Session) (marks : Marks) (round : RoundSeen) (run : Run) (frames :
   pub played_fast : FastOf s run.reports (all_played s run round) late.fast
   played_fast = fast_same s run.reports told_late (loaded round.turn told_late) late.fast (loaded_same round.turn told_late) late-keeps.fast
 
-  -- its judge has the draft that the turn left
+  -- the fast mixer's judge has the draft that the turn left
   pub played_draft : late.fast.told.draft ≡ k.normal.plain.kept.draft
   played_draft =
       let l = late-keeps in

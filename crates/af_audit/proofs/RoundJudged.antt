@@ -1,4 +1,4 @@
--- What is found of a round is the least party that isn't clear, and where none is found what is kept is kept of the run after the round.
+-- What is found of a round is the least party that isn't clear, and if none is found what is kept is kept of the run after the round.
 use Rattle.std.specs.Prelude.{◌↔◌, MatchBool}
 use Rattle.std.proofs.Common.{◌≡◌, ℕ, ◌+◌, ◌<◌, ◌≤◌, ◌==◌, ◌&&◌, ◌||◌, zero, suc, drop, nat_lt, Bool, true, false, true≢false, IsTrue, List, [], length, Option, None, arith, refl, sym, ap, subst, ◌∙◌}
 use Rattle.std.proofs.lemmas.Bool.Decides.{nat_tests}
@@ -70,7 +70,7 @@ from_fast cut s marks run round h =
 module _ (s : Session) (marks : Marks) (round : RoundSeen) (run : Run) (W : ℕ → Type 0) (k : RunJudge) (played after : List TrackJudge) (found : Option ℕ) (earlier : List Report)
     (tracks : KeepsTracks s marks W played (all_played s run round)) (normal : NormalOf s (all_played s run round) k.normal) (fast : FastOf s earlier (all_played s run round) k.fast)
     (meets : TracksMet k (length played) played after found) (many : length after ≡ length played) where
-  -- who takes part
+  -- a track's stream proxy is there exactly if it takes part in the meeting
   there-same : (n : ℕ) → is_there k n ≡ takes_part s (all_played s run round) n
   there-same n = λ i. is_home (track_at (normal.kept i).tracks n).holder || carries_track (state_at (fast.asked i) (normal.states i) (fast.current i)) n
 
@@ -95,7 +95,7 @@ module _ (s : Session) (marks : Marks) (round : RoundSeen) (run : Run) (W : ℕ 
         (λ h. λ v c. subst (BothKeep (is_there k n)) (same_track after n u v b c) (subst (λ (x : Bool). BothKeep x u) (sym (there-same n)) (subst (BothKeep (takes_part s r n)) (sym is) (exact.1 h)))),
       )
 
-  -- and where all are whole each track is kept after the meetings
+  -- if all blocks have their histories each track is kept after the meetings
   pub met_keep : ((n : ℕ) → n < length played → W n) → KeepsTracks s marks W after (met_after s run round)
   met_keep all = tracks_met s marks W played after (all_played s run round) tracks all many met-is
 
@@ -144,7 +144,7 @@ module _ (cut : Bool) (s : Session) (marks : Marks) (round : RoundSeen) (run : R
   exact : (n : ℕ) → n < length tracks → IsLegalCaller run round n → Keeps mixed met_tracks n ↔ TrackHistories s (met_after s run round) n
   exact n lt legal = keeps_exact s marks round run (IsLegalCaller run round) mixed played met_tracks f.met run.reports of_tracks normal fast meets as_many n (let m = many-played in omega (arith, lt, m)) legal (fit-here n lt legal)
 
-  -- a client is clear where its turn is legal and its blocks have their histories
+  -- a client is clear if its turn is legal and its blocks have their histories
   client-of : (p : ℕ) → p < length tracks → IsClear cut s marks run round p → ClientIsClear s run round p
   client-of p lt clear = client_part cut s marks run round p (in-script p lt) clear
 
@@ -189,7 +189,7 @@ module _ (cut : Bool) (s : Session) (marks : Marks) (round : RoundSeen) (run : R
   pub least_so : LeastBelow (IsClear cut s marks run round) (fast_party s + 1) (least_found over (length tracks) f)
   least_so = subst (λ (n : ℕ). LeastBelow (IsClear cut s marks run round) n (least_found over (length tracks) f)) (let a = keeps.of_tracks.all in let e : length tracks + 2 ≡ fast_party s + 1 = omega (arith, a) in e) (found_least (IsClear cut s marks run round) (IsLegalCaller run round) (Keeps mixed met_tracks) (length tracks) f over finds)
 
-  -- and where there is none what is kept is kept of the run after the round
+  -- if no party is found what is kept is kept of the run after the round
   module _ (left : k ≡ mixers_met mixed) (ended : after ≡ tracks_ended mixed.normal.plain.kept.ended met_tracks) (cycles : mixed.cycles ≡ s.script.cycles) (drafts : mixed.fast.told.draft ≡ mixed.normal.plain.kept.draft) (none : least_found over (length tracks) f ≡ None) where
     clear : (p : ℕ) → p ≤ fast_party s → IsClear cut s marks run round p
     clear p low = subst (λ (o : Option ℕ). LeastBelow (IsClear cut s marks run round) (fast_party s + 1) o) none least_so p (omega (arith, low))

@@ -1,4 +1,4 @@
--- A round that was told is judged exactly: the least party that isn't clear is found, or none, and then what is kept is kept of the run after the round.
+-- A round that the judge has followed is judged exactly: the least party that isn't clear is found, or none, and then what is kept is kept of the run after the round.
 use Rattle.std.specs.Prelude.{◌↔◌, is_none, slice_get, MatchOption}
 use Rattle.std.specs.List.{sum_by}
 use Rattle.std.proofs.Common.{◌≡◌, ℕ, zero, suc, ◌+◌, ◌<◌, Bool, true, IsTrue, List, [], ◌∷◌, ◌++◌, length, map, take, drop, Option, Some, None, arith, refl, sym, ap, subst, ◌∙◌, append-nil, append_assoc, unwrap_or}
@@ -77,7 +77,7 @@ bare-at [] i e at = absurd (let h : None ≡ Some e = at in let z : ⊥ = cc in 
 bare-at (x ∷ es) zero e at = ap (λ (o : Option EntrySeen). Some (unwrap_or o x).entry) at
 bare-at (x ∷ es) (suc i) e at = bare-at es i e at
 
--- what is loaded leaves the normal mixer
+-- the load of a report leaves the normal mixer
 loaded-states : (s : Session) (o : Option Turn) (r : Run) → StatesKept s r.normal r.states → StatesKept s (loaded o r).normal (loaded o r).states
 unfolding with_load
 loaded-states s None r h = h
@@ -175,7 +175,7 @@ module _ (cut : Bool) (s : Session) (journal : JournalData) (frames : List Frame
     Right : List FastState → List CycleEntry → Playing → Type 0
     Right states es x = AreEntriesRight states frames es x
 
-    -- both parts of the fast mixer's turn
+    -- both parts of the fast mixer's turn are right exactly if their entries are
     entered-is : IsTrue p.entered ↔ (AreEntriesRight run.states frames (entries_in (early_of run round)) (playing (begun j.fast) p.called) × AreEntriesRight (after_turn s run round).states frames (entries_in (late_of run round)) (playing p.mixers.turned.fast p.mixers.between))
     entered-is = subst (λ (x : Type 0). IsTrue p.entered ↔ x) (λ i. AreEntriesRight (keeps.normal.states i) frames (early_bare (record j { fast = begun j.fast }) run round keeps.normal.states i) (playing (begun j.fast) p.called) × AreEntriesRight (turned-kept.normal.states i) frames (late_bare (record j { fast = begun j.fast }) run round keeps.normal.states i) (playing p.mixers.turned.fast p.mixers.between)) p.mixers.fast_is
 

@@ -28,7 +28,7 @@ bare-length (e ∷ es) = ap (λ n. suc n) (bare-length es)
 mixed-no_exit : (entry : CycleEntry) → is_mixed entry.cycle ≡ true → is_exit entry.cycle ≡ false
 mixed-no_exit entry h = (elim (entry.cycle) as (λ c. is_mixed c ≡ true → is_exit c ≡ false) [ cycle.Mixed ↦ λ h. refl | cycle.Idle ↦ λ h. refl | cycle.Cold ↦ λ h. refl | cycle.Exit ↦ λ h. sym h | cycle.Spent n ↦ λ h. refl ]) h
 
--- and an Exit isn't mixed
+-- an Exit isn't mixed
 exit-not_mixed : (entry : CycleEntry) → is_exit entry.cycle ≡ true → is_mixed entry.cycle ≡ false
 exit-not_mixed entry h = (elim (entry.cycle) as (λ c. is_exit c ≡ true → is_mixed c ≡ false) [ cycle.Mixed ↦ λ h. sym h | cycle.Idle ↦ λ h. refl | cycle.Cold ↦ λ h. refl | cycle.Exit ↦ λ h. refl | cycle.Spent n ↦ λ h. refl ]) h
 
@@ -36,13 +36,13 @@ exits-append : (found : Bool) (xs ys : List CycleEntry) → fold (λ found entry
 exits-append found [] ys = refl
 exits-append found (x ∷ xs) ys = exits-append (found || is_exit x.cycle) xs ys
 
--- where an Exit is among entries of which all but the last are mixed, the last is no mix
+-- if an Exit is among entries of which all but the last are mixed, the last is no mix
 last-exit : (Last : EntrySeen → Type 0) (es : List EntrySeen) → AreMixedBut Last es → fold (λ found entry. found || is_exit entry.cycle) false (bare es) ≡ true → AreMixedBut (λ last. is_mixed last.entry.cycle ≡ false) es
 last-exit Last [] mixed found = mixed
 last-exit Last (e ∷ []) mixed found = exit-not_mixed e.entry found
 last-exit Last (e ∷ next ∷ es) mixed found = (mixed.0, last-exit Last (next ∷ es) mixed.1 (subst (λ b. fold (λ found entry. found || is_exit entry.cycle) b (bare (next ∷ es)) ≡ true) (mixed-no_exit e.entry mixed.0) found))
 
--- each last entry that is one in one way is one in another
+-- if one property implies another, mixed entries with a last one of the first are such with a last one of the second
 but-map : (P Q : EntrySeen → Type 0) (es : List EntrySeen) → ((e : EntrySeen) → P e → Q e) → AreMixedBut P es → AreMixedBut Q es
 but-map P Q [] f mixed = mixed
 but-map P Q (e ∷ []) f mixed = f e mixed
@@ -53,7 +53,7 @@ but-map P Q (e ∷ next ∷ es) f mixed = (mixed.0, but-map P Q (next ∷ es) f 
 none_below : (n : ℕ) → nat_lt (n + 1) n ≡ false
 none_below n = grind (arith, nat_tests)
 
--- where all parties have ended, the fast mixer has
+-- if all parties have ended, the fast mixer has
 fast-ended : (s : Session) (run : Run) → all_ended s run ≡ true → fast_ended run ≡ true
 fast-ended s run h =
     let last = each_ended s run (fast_party s) h (omega arith) in
@@ -63,7 +63,7 @@ fast-ended s run h =
 choose : {A B C D : Type 0} (b : Bool) → (A → C) → (b ≡ false → B → D) → MatchBool b A B → MatchBool b C D
 choose {A} {B} {C} {D} b f g = (elim b as (λ x. (x ≡ false → B → D) → MatchBool x A B → MatchBool x C D) [ true ↦ λ g. f | false ↦ λ g. g refl ]) g
 
--- a legal round is one without a cut, where its fast turn has the length of one
+-- a legal round is legal without a cut, if its fast turn has the length of one without a cut
 uncut : (s : Session) (marks : Marks) (run : Run) (round : RoundSeen) → (fast_ended run ≡ false → IsFastTurn most_cycles (fills s run round) round.entries → IsFastTurn most_cycles false round.entries)
     → LegalRound true s marks run round → LegalRound false s marks run round
 uncut s marks run round f legal = record {
@@ -78,7 +78,7 @@ not-full s run round room =
     let count : length (after_round s run round).entries ≡ length run.entries + length round.entries = ap length (round-entries s run round) ∙ (length-append run.entries _ ∙ ap (λ n. length run.entries + n) (bare-length round.entries)) in
     grind (arith, nat_tests, count, room)
 
--- where the fast mixer ends in a round, its last entry is no mix
+-- if the fast mixer ends in a round, its last entry is no mix
 ends-uncut : (s : Session) (run : Run) (round : RoundSeen) → fast_ended (after_round s run round) ≡ true → fast_ended run ≡ false → (full : Bool) → IsFastTurn most_cycles full round.entries → IsFastTurn most_cycles false round.entries
 ends-uncut s run round ended going full turn =
     let on : has_exit (run.entries ++ bare round.entries) ≡ true = subst (λ es. has_exit es ≡ true) (round-entries s run round) ended in

@@ -1,4 +1,4 @@
--- A run may end by what is kept of it exactly where it may.
+-- By what is kept of it a run may end exactly if it may.
 use Rattle.std.specs.Prelude.{◌≡◌, ◌↔◌, ℕ, ◌+◌, ◌==◌, Bool, true, false, not, IsTrue, List, length, Option, is_some}
 use Rattle.std.proofs.Common.{arith, ap, sym, ◌∙◌}
 use Rattle.std.proofs.lemmas.Bool.Decides.{nat_tests}
@@ -30,11 +30,11 @@ module _ (s : Session) (marks : Marks) (j : RunJudge) (tracks : List TrackJudge)
   told-so : j.fast.told.report.cycle ≡ length run.entries
   told-so = ap (λ (r : Report). r.cycle) keeps.fast.report ∙ keeps.fast.numbered.cycle
 
-  -- where all parties have ended
+  -- a run may end if all parties have ended
   pub whole_ends : IsTrue over ↔ MayEnd false s run
   whole_ends = ((λ h. over-so ∙ h), (λ h. sym over-so ∙ h))
 
-  -- or where the log is full and some party hasn't
+  -- a run may end cut off if the log is full and some party hasn't ended
   pub cut_ends : (count : ℕ) (answer : Bool) → count ≡ j.fast.told.report.cycle → IsTrue answer ↔ (IsTrue (count == j.cycles) × IsTrue (not over)) → IsTrue answer ↔ MayEnd true s run
   cut_ends count answer count_is both = (
     (λ h. let b = both.0 h in (sym (count_is ∙ told-so) ∙ (is_same count j.cycles b.0 ∙ keeps.cycles), over-so ∙ not_true over b.1)),

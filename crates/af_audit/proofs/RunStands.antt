@@ -75,7 +75,7 @@ module _ (s : Session) (marks : Marks) (r : Run) (e : EntrySeen) (legal : LegalE
 
 -- ## The steps of a round
 
--- what holds of a track of a number
+-- what holds of the track of a number
 pub record StandsAt (s : Session) (n : ℕ) (run : Run) : Type 0 where
   pub there : n < length run.tracks
   pub track : TrackStands (file_words s n) (told_at run n)
@@ -130,11 +130,11 @@ module _ (s : Session) (marks : Marks) (n : ℕ) where
 
 -- ## What is kept of a run
 
--- once the stream proxy of a track is home, its stream block has a history where no poke was told
+-- once the stream proxy of a track is home, its stream block has a history if no poke was recorded
 abbrev pub HasHistoryAtHome : ℕ → Run → Type 0
 HasHistoryAtHome n run = is_home (track_at run.normal.tracks n).holder ≡ true → is_tame (told_at run n).stream ≡ true → HasBlockHistory (told_at run n).stream
 
--- the track, the normal mixer and the history
+-- what holds of a run: of the track, of the normal mixer and of the history
 pub record RunStands (s : Session) (n : ℕ) (run : Run) : Type 0 where
   pub stands : StandsAt s n run
   pub mixer : EndsHome run.normal
@@ -146,7 +146,7 @@ module _ (cut : Bool) (s : Session) (marks : Marks) (run : Run) (round : RoundSe
   abbrev pub start : Run
   start = with_calls round run
 
-  -- its entries are legal
+  -- the entries of the round are legal
   pub fast_parts : LegalEntries s marks start (early_of run round) × LegalEntries s marks (after_turn s run round) (late_of run round)
   fast_parts = legal_parts (fast_ended run) (cut && fills s run round) s marks run round legal.turns.fast
 
@@ -191,7 +191,7 @@ module _ (cut : Bool) (s : Session) (marks : Marks) (run : Run) (round : RoundSe
   history_round low stands = history_ends (met_after s run round) stands.there
       (λ home. (legal.histories.blocks n low).stream (or_left (is_home (track_at (met_after s run round).normal.tracks n).holder) (holds s (met_after s run round) n) home))
 
-  -- a legal round keeps all
+  -- a legal round keeps all that holds of a run
   pub round_stands : n < track_count s → list_any (is_poke_on false) (calls_in round n) ≡ false → RunStands s n run → RunStands s n (after_round s run round)
   round_stands low calm h =
       let met_so = stands_met_after calm h.stands in
@@ -199,7 +199,7 @@ module _ (cut : Bool) (s : Session) (marks : Marks) (run : Run) (round : RoundSe
 
 -- ## All rounds
 
--- legal rounds without a poke on the track's stream block keep all
+-- legal rounds without a poke on the track's stream block keep all that holds of a run
 pub rounds_stand : (cut : Bool) (s : Session) (marks : Marks) (tracks n : ℕ) (rounds : List RoundSeen) (run : Run) → n < track_count s → All (IsRound tracks) rounds → LegalRounds cut s marks run rounds
     → list_any (λ round. list_any (is_poke_on false) (calls_in round n)) rounds ≡ false → RunStands s n run → RunStands s n (run_from s run rounds)
 rounds_stand cut s marks tracks n [] run low forms legal calm h = h

@@ -27,7 +27,7 @@ use Rattle.af_audit.proofs.MixerTurns.{before_normal, turn_legal}
 use Rattle.af_audit.proofs.TrackUnshut.{IsTrim, IsUnshut, trim_called, trim_ended, trim_met, trim_mixed, trim_turned, unshut_called, unshut_ended, unshut_met, unshut_mixed, unshut_turned}
 use Rattle.af_audit.proofs.Booleans.{neither}
 
--- From one run to another the track is kept trim; and where the proxies of its block aren't shut in the second, they aren't in the first, and this holds
+-- From one run to another the track is kept trim; and if the proxies of its block aren't shut in the second, they aren't in the first, and the block is spared
 pub record Spares (commands : Bool) (n : ℕ) (a b : Run) (Spared : Type 0) : Type 0 where
   pub there : n < length b.tracks
   pub trim : IsTrim commands (told_at a n) → IsTrim commands (told_at b n)
@@ -42,15 +42,15 @@ module _ (commands : Bool) where
     unshut = λ h fine. (let two = g.unshut (f.trim h) fine in let one = f.unshut h two.0 in (one.0, (one.1, two.1)));
   }
 
-  -- what is spared means something else as well
+  -- if what is spared means something else, that is spared too
   spares_as : (n : ℕ) (a b : Run) (S R : Type 0) → (S → R) → Spares commands n a b S → Spares commands n a b R
   spares_as n a b S R f h = record { there = h.there; trim = h.trim; unshut = λ t fine. (let one = h.unshut t fine in (one.0, f one.1)) }
 
-  -- the track is the same
+  -- a step that leaves the track as it was spares its block
   spares_same : (n : ℕ) (a b : Run) → n < length b.tracks → told_at b n ≡ told_at a n → Spares commands n a b (Unit {0})
   spares_same n a b low same = record { there = low; trim = subst (IsTrim commands) (sym same); unshut = λ t fine. (subst (IsUnshut commands) same fine, tt) }
 
-  -- the track is changed so
+  -- a step that changes the track to another one spares its block, if the change does
   spares_by : (n : ℕ) (a b : Run) (t : TrackTold) (S : Type 0) → n < length b.tracks → told_at b n ≡ t → (IsTrim commands (told_at a n) → IsTrim commands t)
       → (IsTrim commands (told_at a n) → IsUnshut commands t → IsUnshut commands (told_at a n) × S) → Spares commands n a b S
   spares_by n a b t S low is trim unshut = record { there = low; trim = λ h. subst (IsTrim commands) (sym is) (trim h); unshut = λ h fine. unshut h (subst (IsUnshut commands) is fine) }

@@ -1,4 +1,4 @@
--- In legal rounds: where the server of a track without a poke had seen so many flushes by the meeting after a round, what the client releases in later rounds is discarded only by looks that saw more.
+-- In legal rounds: if the server of a track without a poke had seen so many flushes by the meeting after a round, what the client releases in later rounds is discarded only by looks that saw more.
 use Rattle.std.specs.Prelude.{All, []}
 use Rattle.std.proofs.Common.{◌≡◌, ℕ, zero, suc, ◌+◌, ◌*◌, ◌^◌, ◌<◌, ◌≤◌, ◌==◌, nat_le, Bool, true, false, if◌then◌else◌, List, ◌∷◌, ◌++◌, length, refl, sym, ap, ◌∙◌, subst, arith}
 use Rattle.std.specs.List.{list_any}
@@ -28,7 +28,7 @@ use Rattle.af_audit.proofs.RunStands.{rounds_stand}
 
 -- ## Sizes
 
--- a block has no more cells than that power of two
+-- the cells of a block are no more than the power of two up to which they are searched for
 most_cells : (k n : ℕ) → power_above k n ≤ 2 ^ k
 most_cells zero n = omega arith
 most_cells (suc k) n = by_test (nat_le n (2 ^ k)) (most_cells k n)

@@ -15,7 +15,7 @@ use Rattle.af_audit.proofs.Booleans.{no}
 
 -- ## The words of commands
 
--- one after the other
+-- the words of the commands sent, one after the other
 abbrev pub words_sent : List Sent → List ℕ
 words_sent [] = []
 words_sent (one ∷ sent) = one.code ∷ one.argument ∷ words_sent sent

@@ -37,11 +37,11 @@ module _ (s : Session) (run : Run) (round : RoundSeen) (n : ℕ) (low : n < leng
   abbrev c : Setup
   c = setup_of s
 
-  -- once the calls were made
+  -- the command block once the calls were made
   abbrev start : BlockTold
   start = commands_at n (with_calls round run)
 
-  -- and once the turn was, if one was made
+  -- the command block once the turn was made, if there was one
   abbrev with_its_turn : Option Turn → BlockTold
   with_its_turn o = elim o as (λ o. BlockTold) [ None ↦ start | Some e ↦ commands_turned c (outside_of c (found_in s run round e) e) run.normal e n start ]
 
@@ -102,7 +102,7 @@ module _ (s : Session) (run : Run) (round : RoundSeen) (n : ℕ) (low : n < leng
 
   -- ## The turn
 
-  -- the words taken in it
+  -- the words taken in the turn
   abbrev turn_words : Option Turn → List ℕ
   turn_words o = elim o as (λ o. List ℕ) [ None ↦ [] | Some e ↦ going e (words_taken (track_in e n).looks) ]
 
@@ -126,7 +126,7 @@ module _ (s : Session) (run : Run) (round : RoundSeen) (n : ℕ) (low : n < leng
     last_is : last ≡ meets (with_its_turn o)
     last_is = after_is ∙ met_is
 
-    -- the turn takes what its steps tell
+    -- the words of the turn's commands are those among its steps
     words_told_so : (x : Option Turn) → round.turn ≡ x → steps_words (round_steps s run round x n steps) ≡ steps_words steps ++ turn_words x
     words_told_so None is = sym (append-nil (steps_words steps))
     words_told_so (Some e) is =
@@ -142,6 +142,6 @@ module _ (s : Session) (run : Run) (round : RoundSeen) (n : ℕ) (low : n < leng
       taken = ap (λ (x : BlockTold). x.taken) last_is ∙ turn_taken o ∙ ap (λ (l : List ℕ). l ++ turn_words o) (start_taken ∙ h.taken) ∙ sym (words_told_so o refl);
     }
 
-    -- and it has a history, where it is tame
+    -- the block has a history, if it is tame
     pub sent_history : is_tame last ≡ true → HasBlockHistory last
     sent_history tame = subst HasBlockHistory (sym after_is) ((legal.histories.blocks n track).commands refl (ap is_tame (sym after_is) ∙ tame))

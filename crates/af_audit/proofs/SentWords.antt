@@ -58,15 +58,15 @@ begins_waiting c b (w ∷ wants) ops = refl
 begins_waiting c b [] [] = refl
 begins_waiting c b [] (o ∷ ops) = begins_waiting c b (wants_of c.mode o) ops
 
--- the next that the client wants is to send its OPEN
+-- what the client wants next is to send its OPEN
 abbrev pub AtOpen : Client → Type 0
 AtOpen c = (begun c).due ≡ want.Send command.Open ∷ []
 
--- what is due stays due
+-- a client to which only its OPEN is due still wants that next
 due_open : (c : Client) → c.due ≡ want.Send command.Open ∷ [] → AtOpen c
 due_open c is = ap (λ (wants : List Want). (begins c wants c.ops).due) is
 
--- a client with whole ops begins so
+-- a client with whole ops begins with its OPEN
 pub open_first : (ops : List Op) → are_whole ops ≡ true → AtOpen (new_client ops)
 open_first [] whole = no whole
 open_first (op.OpenTrack ∷ ops) whole = refl
@@ -135,7 +135,7 @@ answer_fine t w wants c n (call.Cleared flags) is = tt
 answer_fine t w wants c n (call.Flush count) is = tt
 answer_fine t w wants c n (call.Gain word) is = tt
 
--- to the OPEN: it was sent, or the client goes on with it, or it has ended
+-- an answer to a client that is to send its OPEN: it was sent, or the client still wants it, or the client has ended
 abbrev OpenAnswered : ℕ → Client → ClientCall → Type 0
 OpenAnswered n c answer =
     let d : Client = after_answer n (want.Send command.Open) [] c answer in
@@ -184,11 +184,11 @@ module _ (t : Track) (w : Want) (answer : ClientCall) (wanted : wanted_of t ≡ 
   first = wants_first b.waiting b.ended b.due w wanted
 
   module _ (h : SentSo t.commands.released t.client) where
-    -- the words after it
+    -- the words sent after a call
     words_now : (after_call t answer).commands.released ≡ words_of (h.sent ++ sent_by answer)
     words_now = words_sent t answer ∙ ap (λ (l : List ℕ). l ++ words_of (sent_by answer)) h.words_are ∙ sym (words_join h.sent (sent_by answer))
 
-    -- the client has sent its OPEN
+    -- the client has sent its OPEN before the call
     gone_on : 1 ≤ length h.sent → NoneRemoves h.sent → SentSo (after_call t answer).commands.released d
     gone_on some none = by (sent_by answer) refl (answer_fine t w (rest_of b.due) b n answer made)
       where
@@ -231,7 +231,7 @@ module _ (t : Track) (w : Want) (answer : ClientCall) (wanted : wanted_of t ≡ 
             one_at_most (call.Flush count) = omega arith
             one_at_most (call.Gain word) = omega arith
 
-    -- the client is to send it
+    -- the client is to send its OPEN in the call
     opened : h.sent ≡ [] → AtOpen t.client → SentSo (after_call t answer).commands.released d
     opened none first_due =
         let want_is : want.Send command.Open ≡ w = first_is (sym (ap asked_first first_due) ∙ first.1) in
@@ -263,7 +263,7 @@ module _ (t : Track) (w : Want) (answer : ClientCall) (wanted : wanted_of t ≡ 
             course (inl ended) = inl (sym (ap (λ (x : Client). x.ended) client) ∙ ended)
             course (inr due) = inr (inl (refl, due_open d (sym (ap (λ (x : Client). x.due) client) ∙ due ∙ first_due)))
 
-    -- a call keeps it
+    -- a call keeps what a client has sent
     pub call_so : SentSo (after_call t answer).commands.released (after_call t answer).client
     call_so = subst (SentSo (after_call t answer).commands.released) (sym answered_is) (by h.course)
       where
@@ -278,7 +278,7 @@ calls_so : (left : ℕ) (t : Track) (calls : List ClientCall) → AreCalls left 
 calls_so left t [] legal h = h
 calls_so left t (answer ∷ calls) legal h = calls_so (left - 1) (after_call t answer) calls legal.4 (call_so t legal.1 answer legal.2 legal.3.0 h)
 
--- the client at its next turn
+-- at its next turn the client has sent the same
 pub next_so : (words : List ℕ) (cut : Bool) (c : Client) → SentSo words c → SentSo words (at_next_turn cut c)
 next_so words cut c h = by (c.waiting || c.ended || cut)
   where
@@ -299,7 +299,7 @@ next_so words cut c h = by (c.waiting || c.ended || cut)
     by true = record { sent = h.sent; words_are = h.words_are; opens = h.opens; removes = h.removes; course = stays h.course }
     by false = record { sent = h.sent; words_are = h.words_are; opens = h.opens; removes = h.removes; course = goes h.course }
 
--- a legal turn keeps it
+-- a legal turn keeps what a client has sent
 pub turn_sends : (t : Track) (calls : List ClientCall) → LegalClientTurn t calls → SentSo t.commands.released t.client → SentSo (after_calls t calls).commands.released (after_calls t calls).client
 turn_sends t calls legal h = next_so (fold after_call t calls).commands.released (length calls == most_calls) (fold after_call t calls).client (by t.client.ended legal)
   where
@@ -307,6 +307,6 @@ turn_sends t calls legal h = next_so (fold after_call t calls).commands.released
     by true none = subst (λ (cs : List ClientCall). SentSo (fold after_call t cs).commands.released (fold after_call t cs).client) (sym none) h
     by false made = calls_so most_calls t calls made h
 
--- and so does its end
+-- the end of a client keeps what it has sent
 pub ends_so : (words : List ℕ) (c : Client) → SentSo words c → SentSo words (ends c)
 ends_so words c h = record { sent = h.sent; words_are = h.words_are; opens = h.opens; removes = h.removes; course = inl refl }

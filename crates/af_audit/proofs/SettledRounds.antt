@@ -50,7 +50,7 @@ flushes = record {
   away = λ r looks. refl;
 }
 
--- what is kept of a run
+-- what is kept of a run: what the mixer hears of a track, the commands, and that the block is trim
 pub record SettlesSo (s : Session) (n : ℕ) (run : Run) : Type 0 where
   pub tells : TellsSo flushes s n run
   pub commands : CommandsAt (of_run flushes run n) n run
@@ -76,7 +76,7 @@ module _ (cut : Bool) (s : Session) (form : IsScript s.script) (marks : Marks) (
       let k : Learnt = learnt (outside_of (setup_of s) (found_in s run round e) e) in
       subst (λ (m : NormalKept). (heard k n (track_at (tracks_at (setup_of s) k m e n) n)).flush_seen ≤ most) (sym (before_normal s run round)) (heard_told flushes cut s form marks run round tracks n is_round legal h.tells e is)
 
-  -- when its turns were made
+  -- the commands of the track when the round's turns were made
   pub played_at : CommandsAt most n played
   played_at =
       let start : CommandsAt most n run = at_more (of_run flushes run n) most n run (run_told flushes run played (to_played s run round) n) h.commands in
@@ -86,7 +86,7 @@ module _ (cut : Bool) (s : Session) (form : IsScript s.script) (marks : Marks) (
       let d = cycles_at most n s (late_of run round) (after_turn s run round) c in
       loaded_at most n round.turn (with_cycles s (late_of run round) (after_turn s run round)) d
 
-  -- and after it
+  -- what is kept of the run after the round
   pub round_settles : list_any (is_poke_on true) (calls_in round n) ≡ false → SettlesSo s n (after_round s run round)
   round_settles calm = record {
     tells = tells_round flushes cut s form marks run round tracks n is_round legal h.tells;

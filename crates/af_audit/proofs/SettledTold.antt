@@ -1,4 +1,4 @@
--- In a legal run of a script: where a client saw its START settled, the frames that it released in later rounds are discarded only by looks that saw a flush count above that of the START.
+-- In a legal run of a script: if a client saw its START settled, the frames that it released in later rounds are discarded only by looks that saw a flush count above that of the START.
 use Rattle.std.specs.Prelude.{All, slice_get, []}
 use Rattle.std.specs.List.{list_any}
 use Rattle.std.proofs.Common.{◌≡◌, ◌⊎◌, inl, inr, ℕ, ◌+◌, ◌*◌, ◌/◌, ◌<◌, ◌≤◌, true, false, List, ◌∷◌, ◌++◌, take, drop, length, Option, Some, None, refl, sym, ap, ◌∙◌, subst, append_assoc, arith, Bool}
@@ -120,7 +120,7 @@ module _ (s : Session) (run : Run) (round : RoundSeen) (n : ℕ) (low : n < leng
   loaded_side None r = refl
   loaded_side (Some e) r = refl
 
-  -- once the turns were made it is as its client left it
+  -- once the turns were made the side is as its client left it
   played_side : n < length (before_turn s run round).tracks → Of (all_played s run round) ≡ after.commands
   played_side there =
       loaded_side round.turn (with_cycles s (late_of run round) (after_turn s run round))
@@ -137,7 +137,7 @@ before_there s run round n low = (let a = (grows_calls s round run).many in let 
 pub seen_by : (s : Session) (played : Run) (n : ℕ) (k : Shape) (count : ℕ) → (told_at played n).stream.shape ≡ k → count ≤ of_run flushes played n → count ≤ most_seen k (server_list (told_at played n).stream)
 seen_by s played n k count same seen = subst (λ (x : Shape). count ≤ most_seen x (server_list (told_at played n).stream)) same seen
 
--- where a client saw a START settled, what it released in later rounds is discarded only so, in each history of its stream block after these rounds
+-- if a client saw a START settled, what it released in later rounds is discarded only so, in each history of its stream block after these rounds
 abbrev pub AreKept : Session → List RoundSeen → Type 0
 AreKept s rounds =
     (before : List RoundSeen) (round : RoundSeen) (later : List RoundSeen) → rounds ≡ before ++ round ∷ later → (track : ℕ) → track < track_count s → is_lawful_track rounds track ≡ true
@@ -174,6 +174,6 @@ rounds-settled cut s marks tracks rounds is forms legal before round later whole
     let shape : (told_at played track).stream.shape ≡ (told_at last track).stream.shape = shape_played ∙ shape_run ∙ sym shape_last in
     seen-kept cut s marks tracks rounds forms legal before round later whole track low lawful is count part (seen_by s played track (told_at last track).stream.shape count shape seen) h
 
--- by the end of a legal run too
+-- in a legal run a settled START keeps its promise by the end too
 pub settled : (script : ScriptData) (files : List (List Frame)) (j : JournalData) → IsScript script → IsLegalRun script files j → SettledMeansKept script files j
 settled script files j is legal = rounds-settled false (session_of script files) (marks_of j.rounds) j.tracks j.rounds is legal.rounds.form.rounds legal.rounds.rounds

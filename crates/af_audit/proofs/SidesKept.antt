@@ -44,7 +44,7 @@ fit_by s n t u file spelled stream commands h = record {
   commands = subst (λ k. k.frames ≤ 65536) (sym commands) h.commands;
 }
 
--- after a legal turn of its client
+-- a track is fit after a legal turn of its client
 pub fit_called : (s : Session) (n : ℕ) (t : TrackTold) (calls : List ClientCall) → LegalClientTurn (sides_of t) calls → IsFit s n (sides_of t) → IsFit s n (sides_of (called calls t))
 fit_called s n t calls legal h =
     let shapes = shapes_called (sides_of t) calls in
@@ -110,7 +110,7 @@ unfolding with_load
 fit-loaded s run None n h = h
 fit-loaded s run (Some e) n h = h
 
--- as many tracks are there
+-- a turn leaves as many tracks
 turned-many : (s : Session) (run : Run) (found : Turn → TurnFound) (o : Option Turn) → length (turned s found o run).tracks ≡ length run.tracks
 unfolding with_turn
 turned-many s run found None = refl
@@ -162,7 +162,7 @@ fit-ends s run n low h = by_case run.normal.ended
     by_case true = subst (λ (t : TrackTold). IsFit s n (sides_of t)) (sym (told_each (λ track t. record t { client = ends t.client }) run n low)) (record { file = h.file; spelled = record { stream = h.spelled.stream; commands = h.spelled.commands }; stream = h.stream; commands = h.commands })
     by_case false = h
 
--- and behind the round
+-- a track whose client's turn was legal is fit behind the round
 pub fit_round : (s : Session) (run : Run) (round : RoundSeen) (n : ℕ) → n < length run.tracks → IsLegalCaller run round n → FitAt s run n → FitAt s (after_round s run round) n
 fit_round s run round n low legal h =
     let played : n < length (all_played s run round).tracks = (let m = played_many s run round in omega (arith, low, m)) in

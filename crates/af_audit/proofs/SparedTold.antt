@@ -28,7 +28,7 @@ use Rattle.af_audit.proofs.Booleans.{not_true}
 
 -- ## What is kept of a run
 
--- the track's client keeps to its calls, and its command block has a history where no poke was told
+-- the track's client keeps to its calls, and its command block has a history if no poke was recorded
 record StandsSo (s : Session) (n : ℕ) (run : Run) : Type 0 where
   there : n < length run.tracks
   fit : IsFit s n (sides_of (told_at run n))
@@ -50,7 +50,7 @@ ends_history run n low h = by_end run.normal.ended
     by_end true = subst (λ (b : BlockTold). is_tame b ≡ true → HasBlockHistory b) (sym (ap (λ (t : TrackTold). t.commands) (told_each (λ track t. record t { client = ends t.client }) run n low))) h
     by_end false = h
 
--- a legal round keeps it
+-- a legal round keeps what `StandsSo` says of a run
 round_so : (cut : Bool) (s : Session) (marks : Marks) (n : ℕ) (run : Run) (round : RoundSeen) → n < track_count s → LegalRound cut s marks run round → StandsSo s n run → StandsSo s n (after_round s run round)
 round_so cut s marks n run round low legal h =
     let played = all_played s run round in

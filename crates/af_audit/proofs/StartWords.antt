@@ -28,17 +28,17 @@ words_front (c ∷ cs) (d ∷ sent) more e =
 
 -- ## Order
 
--- the first of them, if there is one, is an OPEN
+-- the first of the commands, if there is one, is an OPEN
 abbrev pub OpensFirst : List (ℕ × ℕ) → Type 0
 OpensFirst [] = Unit {0}
 OpensFirst (c ∷ cs) = c.0 ≡ OPEN
 
--- none of them is a REMOVE
+-- none of the commands is a REMOVE
 abbrev pub NoneRemoves : List (ℕ × ℕ) → Type 0
 NoneRemoves [] = Unit {0}
 NoneRemoves (c ∷ cs) = ((c.0 == REMOVE) ≡ false) × NoneRemoves cs
 
--- none but the last one is
+-- none of the commands but the last one is a REMOVE
 abbrev pub RemovesLast : List (ℕ × ℕ) → Type 0
 RemovesLast [] = Unit {0}
 RemovesLast (c ∷ []) = Unit {0}
@@ -86,7 +86,7 @@ opens_more (x ∷ xs) ys some h = h
 
 -- ## The flush counts of STARTs
 
--- each START among them has a flush count of at most so many
+-- each START among the commands has a flush count of at most so many
 abbrev pub StartsSeen : ℕ → List (ℕ × ℕ) → Type 0
 StartsSeen most [] = Unit {0}
 StartsSeen most (c ∷ cs) = (c.0 ≡ START → c.1 ≤ most) × StartsSeen most cs
@@ -99,7 +99,7 @@ pub seen_more : (few most : ℕ) (xs : List (ℕ × ℕ)) → few ≤ most → S
 seen_more few most [] low h = tt
 seen_more few most (x ∷ xs) low h = ((λ is. let a = h.0 is in omega (arith, a, low)), seen_more few most xs low h.1)
 
--- the one of a number, by the words
+-- the START of a number has a flush count of at most so many, by the words of the commands
 pub start_seen : (most : ℕ) (done : List (ℕ × ℕ)) (rest : List ℕ) (number count : ℕ) → number < length done → slice_get (words_of done ++ rest) (2 * number) ≡ Some START → slice_get (words_of done ++ rest) (2 * number + 1) ≡ Some count
     → StartsSeen most done → count ≤ most
 start_seen most [] rest number count low code argument h = absurd (omega (arith, low))

@@ -138,7 +138,7 @@ module _ (most least : ℕ) where
       before : (d : ℕ × ℕ) → IsOrderly (done ++ d ∷ []) → Stands most done s.life
       before d order = g.so.stands (subst (λ (o : Option ℕ). IsOrderly (done ++ waiting o)) (sym g.still) (subst IsOrderly (sym (append-nil done)) (orderly_front done (d ∷ []) order)))
 
-      -- where none is settled the first one is an OPEN
+      -- if none is settled the first command is an OPEN
       first_opens : IsOrderly (done ++ c ∷ []) → done ≡ [] → code ≡ OPEN
       first_opens order none = subst (λ (cs : List (ℕ × ℕ)). OpensFirst (cs ++ c ∷ [])) none order.opens
 
@@ -154,7 +154,7 @@ module _ (most least : ℕ) where
           let e : opens code s.life ≡ true = (λ i. one i && (not (lives i) && was i)) in
           true≢false (sym absent ∙ (opened_life code argument s.life e).1)
 
-      -- it is settled at once
+      -- a command that needn't wait is settled at once
       settles : must_wait flush_seen code argument s.life ≡ false → Going (taken ++ code ∷ argument ∷ []) (record (told given code argument s) { settled = s.settled + 1 })
       settles waits = record {
         so = record {
@@ -174,7 +174,7 @@ module _ (most least : ℕ) where
         lives = λ none. (let p = none_split done (c ∷ []) none in lives_on code argument s.life p.1.0 (g.lives p.0));
       }
 
-      -- it is a START that waits
+      -- a command that must wait is a START
       waits_so : must_wait flush_seen code argument s.life ≡ true → SettledSo most least (taken ++ code ∷ argument ∷ []) (record (told given code argument s) { awaits = Some argument })
       unfolding starts
       waits_so waits =
@@ -232,7 +232,7 @@ module _ (most least : ℕ) where
   noted_so taken r s h = either_so taken (is_home s.holder) (record s { own = no_counts }) (if is_reported r s then record s { reported = counts_in r } else s) h
       (either_so taken (is_reported r s) (record s { reported = counts_in r }) s h h)
 
-  -- a START that waited is settled, where its count was heard to be seen
+  -- a START that waited is settled, if its count was heard to be seen
   reached_so : (taken : List ℕ) (count settled : ℕ) (life : Life) → count ≤ most → SettledCore most least taken (Some count) settled life → SettledCore most least taken None (settled + 1) life
   reached_so taken count settled life low h = record {
     done = h.done ++ (START, count) ∷ [];
@@ -280,7 +280,7 @@ module _ (most least : ℕ) where
       by true is none = subst (λ (l : List ℕ). SettledSo most least l s) (sym (ap (λ (ls : List CommandLook). taken ++ words_taken ls) none ∙ append-nil taken)) so
       by false is due = looks_so h.flush_seen low given most_looks looks taken s due (record { so = so; still = none_waits s.awaits is; lives = λ none. lives })
 
-  -- the track i, once those before it were served
+  -- the commands of track i, once those before it were served
   pub served_so : (c : Setup) (k : Learnt) (looks : List CommandLook) (tracks : List TrackKept) (i : ℕ) (taken : List ℕ) → (let s = track_at tracks i in s.life.ended ≡ false → (heard k i s).flush_seen ≤ most → HasDueLooks (slot_for c tracks i) (heard k i s).flush_seen looks (ready k i s)
       → SettledSo most least taken s → SettledSo most least (taken ++ words_taken looks) (served c k looks tracks i))
   unfolding served
@@ -293,7 +293,7 @@ module _ (most least : ℕ) where
           ready_lives : (ready k i (track_at tracks i)).life.ended ≡ (track_at tracks i).life.ended
           ready_lives = ap (λ (l : Life). l.ended) (ready_life k i (track_at tracks i))
 
-  -- the same of one that had ended
+  -- the commands of a track i that had ended, once those before it were served
   pub over_so : (c : Setup) (k : Learnt) (looks : List CommandLook) (tracks : List TrackKept) (i : ℕ) (taken : List ℕ) → (track_at tracks i).life.ended ≡ true → SettledSo most least taken (track_at tracks i) → SettledSo most least taken (served c k looks tracks i)
   unfolding served
   over_so c k looks tracks i taken ended so = subst (λ (b : Bool). SettledSo most least taken (if b then track_at tracks i else after_part (slot_for c tracks i) (heard k i (track_at tracks i)) looks (ready k i (track_at tracks i)))) (sym ended) so

@@ -74,7 +74,7 @@ pub statuses_more : (few most : ℕ) (es : List ServerEvent) → few ≤ most �
 statuses_more few most [] low h = tt
 statuses_more few most (e ∷ es) low h = (status_more few most e low h.0, statuses_more few most es low h.1)
 
--- one of them
+-- each status that is stored counts at most so many
 pub status_among : (most : ℕ) (before : List ServerEvent) (word : ℕ) (later : List ServerEvent) → StatusesLow most (before ++ server.SetStatus word ∷ later) → settled_in word ≤ most
 status_among most [] word later h = h.0
 status_among most (e ∷ before) word later h = status_among most before word later h.1

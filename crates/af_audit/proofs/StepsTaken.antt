@@ -20,14 +20,14 @@ use Rattle.af_audit.proofs.StartWords.{words_join, words_of}
 
 -- ## The commands among steps
 
--- the oldest first
+-- the commands among steps, the oldest first
 abbrev pub told_in : List LifeStep → List (ℕ × ℕ)
 told_in [] = []
 told_in (told code argument ∷ steps) = told_in steps ++ (code, argument) ∷ []
 told_in (heard_of known ∷ steps) = told_in steps
 told_in (cut ∷ steps) = told_in steps
 
--- their words
+-- the words of the commands among steps
 abbrev pub steps_words : List LifeStep → List ℕ
 steps_words steps = words_of (told_in steps)
 
@@ -82,7 +82,7 @@ module _ (c : Setup) (k : Learnt) (m : NormalKept) (e : Turn) (i : ℕ) (before 
   looks_none : looks ≡ [] → after_looks ≡ before
   looks_none none = ap (λ (ls : List CommandLook). looks_steps (slot_for c (tracks_at c k m e i) i) (heard k i s).flush_seen ls (ready k i s) before) none
 
-  -- what the steps of a legal turn tell is what its looks took
+  -- the commands among the steps of a legal turn are those that its looks took
   pub turn_told : (e.ended ≡ false → (looks ≡ []) ⊎ LegalTrack c k (track_in e i) (tracks_at c k m e i) i) → steps_words (track_steps c k m e i before) ≡ steps_words before ++ going e (words_taken looks)
   unfolding track_steps
   turn_told legal = by_end e.ended refl
@@ -123,7 +123,7 @@ module _ {A : Type 0} where
   still_at (y ∷ xs) ys zero x is = is
   still_at (y ∷ xs) ys (suc n) x is = still_at xs ys n x is
 
--- it is a STOP of that count
+-- the command of the STOP's number is a STOP of that count
 pub stop_told : (count : ℕ) (steps : List LifeStep) → StoppedAt count steps → slice_get (told_in steps) (stop_number steps) ≡ Some (4, count)
 stop_told count [] h = absurd h
 stop_told count (heard_of known ∷ steps) h = stop_told count steps h

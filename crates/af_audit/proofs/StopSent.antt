@@ -1,4 +1,4 @@
--- Where the commands that were taken begin those that were sent, the STOP that stopped a life last is the command of the same number that was sent.
+-- If the commands that were taken begin those that were sent, the STOP that stopped a life last is the command of the same number that was sent.
 use Rattle.std.proofs.Common.{◌≡◌, ℕ, zero, suc, List, [], ◌∷◌, length, take, get_or, slice_get, Some, refl, sym, ap, ◌∙◌, subst, arith}
 use Rattle.std.proofs.lemmas.Option.{none-some, same_Some}
 use Rattle.af_life.specs.Drained.{LifeStep, StoppedAt}
@@ -53,7 +53,7 @@ pub record SentSo (b : BlockTold) (steps : List LifeStep) (sent : List Sent) : T
   pub right : AreRight sent
   pub taken : b.taken ≡ steps_words steps
 
--- then, where these begin those, the STOP was sent
+-- if the words taken begin the words released, the STOP was sent
 pub stop_sent : (b : BlockTold) (steps : List LifeStep) (sent : List Sent) (count n : ℕ) → SentSo b steps sent → b.taken ≡ take n b.released → StoppedAt count steps → IsStopSent count steps sent
 stop_sent b steps sent count n h first stopped =
     let begins : steps_words steps ≡ take n (words_sent sent) = sym h.taken ∙ first ∙ ap (take n) h.released in

@@ -70,7 +70,7 @@ module _ (s : Session) (marks : Marks) (run : Run) (track : ℕ) (steps : List L
     pub turn_turns : (after : Run) → after.normal ≡ turn_after c (learnt (outside_of c f e)) run.normal e → AreTurns s track after now_steps
     turn_turns after same = record { turns = turn ∷ h.turns; legal = now_legal; mixer = now_mixer ∙ sym same; made = same_steps }
 
-    -- where its status says drained
+    -- if the track's status says drained, the steps so far have drained it
     pub turn_drained : Reaches → track < track_count s → reports_drained (track_in e track) ≡ true → IsDrainedBy now_steps
     turn_drained reached low drained =
         let new = track_new s track low in

@@ -1,4 +1,4 @@
--- The words taken of a track's stream block are those that a journal records, in the order in which its rounds are told.
+-- The words taken of a track's stream block are those that a journal records, in the order of its rounds.
 use Rattle.std.proofs.Common.{◌≡◌, ℕ, ◌<◌, Bool, true, false, if◌then◌else◌, List, [], ◌∷◌, ◌++◌, map, length, Option, Some, None, refl, sym, ap, ◌∙◌, append-nil, append_assoc, arith}
 use Rattle.af_base.specs.Sample.{packed_word}
 use Rattle.af_base.specs.Turn.{Turn}
@@ -31,7 +31,7 @@ takes_none n run after there same = record { there = there; taken = same ∙ sym
 takes_both : (n : ℕ) (a b c : Run) (xs ys : List ℕ) → Takes n a b xs → Takes n b c ys → Takes n a c (xs ++ ys)
 takes_both n a b c xs ys h g = record { there = g.there; taken = g.taken ∙ ap (λ l. l ++ ys) h.taken ∙ append_assoc (taken_at n a) xs ys }
 
--- before a step by which nothing was taken, and after one
+-- one step after another takes the words of the second, if the first took none
 takes_before : (n : ℕ) (a b c : Run) (ys : List ℕ) → Takes n a b [] → Takes n b c ys → Takes n a c ys
 takes_before n a b c ys h g = takes_both n a b c [] ys h g
 

@@ -51,7 +51,7 @@ hand-server told (e ∷ es) = hand-server (by_hand e ∷ told) es
 -- ## The steps
 
 module _ (file : List ℕ) where
-  -- its client's calls
+  -- the calls of the track's client keep what holds of the track
   pub stands_called : (calls : List ClientCall) (t : TrackTold) → list_any (is_poke_on false) calls ≡ false → TrackStands file t → TrackStands file (called calls t)
   stands_called calls t calm h = record {
     file_is = h.file_is;
@@ -59,7 +59,7 @@ module _ (file : List ℕ) where
     drops = subst (DropsByFlush t.stream.shape []) (sym (client-server t.stream.told (drop (length (client_list t.stream)) (after_calls (sides_of t) calls).stream.events))) h.drops;
   }
 
-  -- an entry, in which each slot that plays the track answers by its server's list
+  -- an entry keeps what holds of the track, if each slot that plays the track answers by its server's list
   pub stands_mixed : (s : Session) (x : FastState) (e : EntrySeen) (n : ℕ) (t : TrackTold) → ((i : ℕ) → slot_for x e.entry n ≡ Some i → (front : ℕ) × LooksBy (cycle_frames s) (listed t.stream) (entry_slot e.entry i) front)
       → TrackStands file t → TrackStands file (mixed_track s x e n t)
   stands_mixed s x e n t looks h = by_slot (slot_for x e.entry n) refl
@@ -78,7 +78,7 @@ module _ (file : List ℕ) where
             drops = subst (DropsByFlush t.stream.shape []) (sym (server-server t.stream.told es)) (drops_more t.stream.shape (server_list t.stream) es h.drops (cycle_drops asked (listed t.stream) slot look.0 (front_of asked (listed t.stream) slot) look.1));
           }
 
-  -- a legal turn
+  -- a legal turn keeps what holds of the track
   pub stands_turned : (c : Setup) (o told : Outside) (m : NormalKept) (e : Turn) (n : ℕ) (t : TrackTold) → o.streams ≡ told.streams → told.streams n ≡ listed t.stream → TracksRise 0 e.mixes → LegalTurn c o m e
       → TrackStands file t → TrackStands file (turned_track c told m e n t)
   stands_turned c o told m e n t streams found rise legal h =
@@ -92,7 +92,7 @@ module _ (file : List ℕ) where
         drops = subst (DropsByFlush t.stream.shape []) (sym (server-server after es ∙ ap (λ l. l ++ es) (hand-server t.stream.told hs))) (drops_more t.stream.shape (server_list t.stream) es h.drops new);
       }
 
-  -- the meetings
+  -- the meetings keep what holds of the track
   pub stands_met : (there hands : Bool) (t : TrackTold) → TrackStands file t → TrackStands file (record t { stream = stream_met there hands t.stream; commands = meets t.commands })
   stands_met true true t h = record {
     file_is = h.file_is;
@@ -107,6 +107,6 @@ module _ (file : List ℕ) where
   stands_met false true t h = record { file_is = h.file_is; client = record { begins = h.client.begins; tame = h.client.tame }; drops = h.drops }
   stands_met false false t h = record { file_is = h.file_is; client = record { begins = h.client.begins; tame = h.client.tame }; drops = h.drops }
 
-  -- the end of its client
+  -- the end of its client keeps what holds of the track
   pub stands_ended : (t : TrackTold) → TrackStands file t → TrackStands file (record t { client = ends t.client })
   stands_ended t h = record { file_is = h.file_is; client = record { begins = h.client.begins; tame = h.client.tame }; drops = h.drops }

@@ -1,4 +1,4 @@
--- What each step of a round keeps of a track's block whose server and client are never shut; and where they aren't shut after the step, they weren't before it, and the step spared the block. `commands` says which block it is.
+-- What each step of a round keeps of a track's block whose server and client are never shut; and if they aren't shut after the step, they weren't before it, and the step spared the block. `commands` says which block it is.
 use Rattle.std.proofs.Common.{◌≡◌, inl, inr, ◌⊎◌, ℕ, ◌≤◌, ◌^◌, not, Bool, true, false, true≢false, if◌then◌else◌, is_some, fold, map, List, [], ◌∷◌, ◌++◌, flat_map, drop, length, Option, Some, None, refl, sym, ap, ◌∙◌, subst, append-nil, arith}
 use Rattle.std.specs.List.{AllByRecursion, list_all, list_any}
 use Rattle.std.proofs.lemmas.Grind.{fold-append}
@@ -54,7 +54,7 @@ use Rattle.af_audit.proofs.TrackStands.{hand-server, server-server, told_more}
 use Rattle.af_audit.proofs.TracksSeen.{looks_legal}
 use Rattle.af_audit.proofs.Booleans.{neither, no}
 
--- the stream's server sees each front right after a rear; and of the command block, nothing was poked on it
+-- the stream's server sees each front right after a rear; and if the block is the command block, nothing was poked on it
 pub record IsTrim (commands : Bool) (t : TrackTold) : Type 0 where
   pub rears : AllFollowRear t.stream.shape false (server_list t.stream)
   pub tame : commands ≡ true → is_lawful (client_list t.commands) ≡ true
@@ -65,7 +65,7 @@ abbrev pub block_on : Bool → TrackTold → BlockTold
 block_on true t = t.commands
 block_on false t = t.stream
 
--- neither proxy of that block is shut
+-- neither proxy of the block is shut
 pub record IsUnshut (commands : Bool) (t : TrackTold) : Type 0 where
   pub client : IsOpen commands (sides_of t)
   pub server : (kept (listed (block_on commands t))).shut ≡ None
@@ -260,7 +260,7 @@ module _ (c : Setup) (f : TurnFound) (m : NormalKept) (e : Turn) (o : Outside) (
   none_shut_look : List CommandLook → Bool
   none_shut_look ls = list_all (λ (look : CommandLook). not (is_shut look.seen)) ls
 
-  -- what follows the looks
+  -- the events that follow the looks at commands
   abbrev invalid_so : List ServerEvent
   invalid_so = invalid (learnt told) (track_in e n) tracks n
 
@@ -333,7 +333,7 @@ server_met k es count = ap (λ (x : ServerKept). x.shut) (kept_more k es (server
 client_met : (frames base : ℕ) (es : List ClientEvent) (count : ℕ) → (client_kept frames base (es ++ client.Learn count ∷ [])).shut ≡ (client_kept frames base es).shut
 client_met frames base es count = ap (λ (x : ClientKept). x.shut) (fold-append (client_keeps frames) (client_begins base) es (client.Learn count ∷ []))
 
--- of a block
+-- neither proxy of a block is shut
 record IsUnshutBlock (b : BlockTold) : Type 0 where
   client : (client_kept b.shape.frames b.shape.base (client_list b)).shut ≡ None
   server : (kept (listed b)).shut ≡ None

@@ -42,7 +42,7 @@ module _ (c : Setup) (f : TurnFound) (m : NormalKept) (e : Turn) (o : Outside) (
       by_seen (inl none) = inl (ap (λ (seen : TrackSeen). seen.looks) none)
       by_seen (inr legal_so) = inr legal_so
 
-  -- and so are its looks, by some fronts
+  -- the looks at a track's commands are legal, by some fronts
   pub looks_legal : e.ended ≡ false → (fronts : List ℕ) × LegalLooks (listed b) looks fronts
   looks_legal is = by_low (nat_lt n (length m.tracks)) refl
     where

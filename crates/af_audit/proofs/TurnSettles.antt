@@ -101,7 +101,7 @@ module _ (c : Setup) (k : Learnt) (m : NormalKept) (e : Turn) (n : ℕ) where
   then_core : core_at (tracks_at c k m e n) n ≡ core_at m.tracks n
   then_core = ap core (not_yet c k e.tracks (after_ack e.ack m).tracks n n (omega arith)) ∙ ack_keeps e.ack m n
 
-  -- and after a turn that goes on
+  -- the track after a turn that goes on
   after_core : e.ended ≡ false → n < length m.tracks → core_at (turn_after c k m e).tracks n ≡ core (served c k (track_in e n).looks (tracks_at c k m e n) n)
   unfolding turn_after
   after_core runs low =
@@ -153,7 +153,7 @@ module _ (most least : ℕ) (taken : List ℕ) (c : Setup) (o : Outside) (m : No
     abbrev looks_words : List ℕ
     looks_words = words_taken (track_in e n).looks
 
-    -- a track that plays on
+    -- what is settled of a track that plays on
     part_settles : e.ended ≡ false → s.life.ended ≡ false → IsServed (slot_for c tracks n) (heard k n s) (track_in e n) (ready k n s)
         → SettledSo most least (taken ++ looks_words) after × StatusesLow after.settled (status_events (track_in e n).status)
     unfolding served after_part
@@ -168,7 +168,7 @@ module _ (most least : ℕ) (taken : List ℕ) (c : Setup) (o : Outside) (m : No
           subst (λ (o : Option ℕ). StatusesLow after.settled (status_events o)) (sym is.status) (stored_low after.settled (ready k n s).status _ word),
         )
 
-    -- one that had ended
+    -- what is settled of a track that had ended
     over_settles : e.ended ≡ false → s.life.ended ≡ true → track_in e n ≡ nothing_seen
         → SettledSo most least (taken ++ looks_words) after × StatusesLow after.settled (status_events (track_in e n).status)
     over_settles runs ended none =

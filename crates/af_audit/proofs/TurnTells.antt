@@ -1,4 +1,4 @@
--- A turn is told: the report that it loads, what it leaves of the mixer, the looks at the queue, and the pipe.
+-- A turn is followed: the report that it loads, what it leaves of the mixer, the looks at the queue, and the pipe.
 use Rattle.std.specs.Prelude.{◌↔◌, IsTrue, slice_index_or}
 use Rattle.std.proofs.Common.{◌≡◌, ℕ, ◌+◌, ◌-◌, ◌<◌, ◌≤◌, ◌&&◌, not, min, Bool, List, length, take, drop, sym, ap, subst, ◌∙◌, arith}
 use Rattle.std.proofs.lemmas.List.{length-drop, length-take-le, take-take}
@@ -21,7 +21,7 @@ module _ (log : List CycleEntry) (first count : ℕ) (inside : first + count ≤
   abbrev own : List CycleEntry
   own = take count (drop first log)
 
-  -- as many as come before a number
+  -- the entries that come before a number
   ahead_part : (n : ℕ) → take (min count n) (drop first log) ≡ take (min (length own) n) own
   ahead_part n = sym (take-take (min count n) count (drop first log) (omega arith)) ∙ ap (λ (k : ℕ). take (min k n) own) (sym (length-take-le count (drop first log) (let l = length-drop first log in omega (arith, l, inside))))
 
@@ -35,7 +35,7 @@ module _ (log : List CycleEntry) (first count : ℕ) (inside : first + count ≤
     told = told;
   })
 
--- all of a turn
+-- all that a turn leaves
 pub turn_so : (j k : RunJudge) (tracks after : List TrackJudge) (later : List CycleEntry) (e : Turn) (report : Report) (legal ended right : Bool) (next : NormalJudged) (states : List FastState)
     → IsReportOf j.fast j.normal.states tracks later (number_found j.fast e.cycle) report → IsTrue legal ↔ IsRight j.normal.plain.setup report tracks j.normal.plain.kept e
     → ended ≡ j.normal.plain.kept.ended → right ≡ (legal && not ended) → TurnJudged report e tracks after j.normal next

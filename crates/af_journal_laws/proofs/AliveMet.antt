@@ -1,4 +1,4 @@
--- Up to each meeting of its stream proxy no call tells the client of a track without a poke that the track was shut.
+-- Up to each meeting of its stream proxy no call shows the client of a track without a poke that the track was shut.
 use Rattle.std.specs.Prelude.{MatchBool, MatchOption, []}
 use Rattle.std.specs.List.{list_all, list_any}
 use Rattle.std.proofs.Common.{◌≡◌, ◌⊎◌, inl, inr, ℕ, ◌<◌, ◌≤◌, ◌==◌, ◌&&◌, Bool, true, false, if◌then◌else◌, fold, List, ◌∷◌, ◌++◌, length, All, Option, Some, None, refl, sym, ap, ◌∙◌, subst, eqb-true, arith}
@@ -53,15 +53,15 @@ use Rattle.af_journal_laws.proofs.Turns as of_turns
 use Rattle.af_journal_laws.proofs.Turns.{entries_legal, goes_calls, met-blocks-are-spared-alone, none_called}
 use Rattle.af_journal_laws.proofs.Walk.{round_keeps, turns_keep}
 
--- no call of a track's client in these rounds tells it that the track was shut
+-- no call of a track's client in these rounds shows that the track was shut
 abbrev pub NoneDead : ℕ → List RoundSeen → Type 0
 NoneDead n rounds = list_all (λ round. none_dead (calls_in round n)) rounds ≡ true
 
--- nor in this one
+-- no call of a track's client in this round shows that the track was shut
 abbrev pub IsAlive : ℕ → RoundSeen → Type 0
 IsAlive n round = none_dead (calls_in round n) ≡ true
 
--- one round more
+-- no call of a track's client shows that the track was shut in these rounds and one more, if none does in either
 none_more : (n : ℕ) (round : RoundSeen) (rounds : List RoundSeen) → (none_dead (calls_in round n) ≡ true) × NoneDead n rounds → NoneDead n (round ∷ rounds)
 none_more n round rounds both = both_are (none_dead (calls_in round n)) (list_all (λ round. none_dead (calls_in round n)) rounds) both.0 both.1
 
@@ -107,11 +107,11 @@ module _ (cut : Bool) (s : Session) (marks : Marks) (run : Run) (round : RoundSe
       let f = lives_then n run played_all last (IsAlive n round) e (lives_met s n played_all e.there) in
       lives_then n run last (after_round s run round) (IsAlive n round) f (lives_ended s n last f.there)
 
--- a server that wasn't shut by the end was not heard to be
+-- a server that wasn't shut by the end was not heard to be shut
 open_by : (b : Bool) (now last : ℕ) → mark b ≤ now → now ≤ last → last ≡ 0 → b ≡ false
 open_by b now last low more none = mark_none b (omega (arith, low, more, none))
 
--- each round hears none
+-- the turn of each round, if one was made, hears no server of the track's stream block that was shut
 abbrev AreOpenRounds : Session → ℕ → Run → List RoundSeen → Type 0
 AreOpenRounds s n run [] = Unit {0}
 AreOpenRounds s n run (round ∷ rounds) = IsOpenRound s n run round × AreOpenRounds s n (after_round s run round) rounds
@@ -141,11 +141,11 @@ lives_rounds cut s marks tracks n (round ∷ rounds) run track low forms legal s
 
 -- ## Turns of one party after another
 
--- the turn of a round, if one was made, hears no server of the track's stream block that was shut
+-- the turn of a round of a turn run, if one was made, hears no server of the track's stream block that was shut
 abbrev IsOpenTurn : Session → ℕ → Run → RoundSeen → Type 0
 IsOpenTurn s n run round = (e : Turn) → round.turn ≡ Some e → IsHeardOpen s n run.normal (found_before s run [] e) e
 
--- each round hears none
+-- the turn of each round of a turn run, if one was made, hears no server of the track's stream block that was shut
 abbrev AreOpenTurns : Session → ℕ → Run → List TurnSpec → List RoundSeen → Type 0
 AreOpenTurns s n run [] rounds = Unit {0}
 AreOpenTurns s n run (turn ∷ turns) [] = Unit {0}
@@ -180,7 +180,7 @@ module _ (s : Session) (marks : Marks) (n : ℕ) where
       let three = lives_then n run before after (Unit {0}) two (lives_mixed s n marks before e two.there legal.0) in
       lives_then n run after (fold (cycle_alone s) after es) (Unit {0}) three (lives_cycles es after three.there legal.1)
 
-  -- the calls of one client
+  -- the calls of one client keep the track alive
   lives_calls : (track : ℕ) (round : RoundSeen) (run : Run) → n < length run.tracks → OnlyCalls (λ t. t ≡ track) round → list_any (is_poke_on false) (calls_in round n) ≡ false → LegalClientTurn (sides_of (told_at run track)) (calls_in round track)
       → Lives n run (calls_alone track round run) (none_dead (calls_in round n) ≡ true)
   lives_calls track round run low only still legal = by_number (n == track) refl
@@ -210,7 +210,7 @@ module _ (s : Session) (marks : Marks) (n : ℕ) where
           by_only (inl same) = no (sym is ∙ grind (arith, nat_tests, same))
           by_only (inr none) = none
 
-  -- the turn of the normal mixer
+  -- the turn of the normal mixer keeps the track alive
   lives_own : (o : Option Turn) (round : RoundSeen) (tracks : ℕ) (run : Run) → n < length run.tracks → IsRound tracks round → round.turn ≡ o → MatchBool run.normal.ended (o ≡ None) (MatchOption o ⊥ (λ e. LegalTurnBy (setup_of s) marks (found_before s run [] e) run.normal e))
       → IsOpenTurn s n run round → is_spared_by_turn true o n ≡ true → Lives n run (loaded o (turned s (found_before s run []) o run)) (Unit {0})
   lives_own None round tracks run low form is legal open_so spared = lives_same s n run run low refl
@@ -254,7 +254,7 @@ record IsMet (s : Session) (n : ℕ) (run : Run) (words : List ℕ) (S R : Type 
   sent_history : HasHistoryMet true s n run
 
 module _ (s : Session) (is : IsScript s.script) (n : ℕ) (low : n < track_count s) (run : Run) (words : List ℕ) (S R : Type 0) (h : IsMet s n run words S R) where
-  -- its server was never shut
+  -- the server of the track's stream block was never shut
   none_shut : of_run shut run n ≡ 0
   none_shut = ap mark (never_shut_so false s is n low run words S h.stream h.part h.history refl)
 

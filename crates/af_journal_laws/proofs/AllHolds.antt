@@ -1,4 +1,4 @@
--- All that follows up to the meetings, of legal rounds and of turn runs.
+-- All that follows up to the meetings, from legal rounds and from turn runs.
 use Rattle.std.proofs.Common.{Bool, List}
 use Rattle.af_base.specs.declared.frame.Frame.{Frame}
 use Rattle.af_model.specs.Journals.{JournalData}
@@ -14,10 +14,11 @@ use Rattle.af_journal_laws.proofs.SettledSoFar.{settled-so-far, settled-so-far-a
 use Rattle.af_journal_laws.proofs.SparedMet.{met-blocks-are-spared}
 use Rattle.af_journal_laws.proofs.Turns.{met-blocks-are-spared-alone}
 
--- what follows of every journal of legal rounds, and of every turn run
+-- what follows from every journal of legal rounds
 abbrev pub OfRounds : (ScriptData → List (List Frame) → JournalData → Type 0) → Type 0
 OfRounds Holds = (cut : Bool) (script : ScriptData) (files : List (List Frame)) (j : JournalData) → IsScript script → HasLegalRounds cut script files j → Holds script files j
 
+-- what follows from every turn run
 abbrev pub OfTurnRuns : (ScriptData → List (List Frame) → JournalData → Type 0) → Type 0
 OfTurnRuns Holds = (script : ScriptData) (files : List (List Frame)) (j : JournalData) → IsScript script → IsTurnRun script files j → Holds script files j
 

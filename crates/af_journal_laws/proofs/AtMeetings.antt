@@ -20,11 +20,11 @@ use Rattle.af_journal_laws.specs.Meetings.{meets_on}
 use Rattle.af_journal_laws.proofs.ShutTold.{ever_shut, server_never_shut}
 use Rattle.af_journal_laws.proofs.Steps.{Goes}
 
--- where its proxies met, the block has a history if no poke was told
+-- if its proxies met, the block has a history if no poke was recorded
 abbrev pub HasHistoryMet : Bool → Session → ℕ → Run → Type 0
 HasHistoryMet commands s n run = meets_on commands s run n ≡ true → is_tame (block_on commands (told_at run n)) ≡ true → HasBlockHistory (block_on commands (told_at run n))
 
--- the clients' ends leave it so
+-- the clients' ends keep the history of the block
 pub history_ends : (commands : Bool) (s : Session) (n : ℕ) (run : Run) → n < length run.tracks → HasHistoryMet commands s n run → HasHistoryMet commands s n (with_ends run)
 unfolding with_ends
 history_ends commands s n run low h = by_block commands h
@@ -73,7 +73,7 @@ module _ (commands : Bool) (s : Session) (script : IsScript s.script) (n : ℕ) 
   tame_so true is = trim.tame is
   tame_so false is = (stands_met_so is).client.tame
 
-  -- it has a history
+  -- the block has a history
   pub has_history : HasBlockHistory (block_on commands t)
   has_history = history meets (tame_so commands refl)
 
@@ -87,14 +87,14 @@ module _ (commands : Bool) (s : Session) (script : IsScript s.script) (n : ℕ) 
     server = server_unshut t.stream fit.stream history fit.spelled.stream h.rears;
   }
 
-  -- neither of its proxies is shut
+  -- neither of the block's proxies is shut
   pub unshut_met_so : IsUnshut commands t
   unshut_met_so = unshut_by commands trim has_history
 
-  -- and the server of its stream block never was
+  -- the server of a stream block was never shut
   pub never_shut_so : commands ≡ false → ever_shut t.stream.shape (server_begins t.stream.shape) (server_list t.stream) ≡ false
   never_shut_so off = server_never_shut t.stream fit.stream (subst (λ (b : Bool). HasBlockHistory (block_on b t)) off has_history) fit.spelled.stream trim.rears
 
-  -- and it was spared by all steps up to here
+  -- the block was spared by all steps up to here
   pub spared_so : S
   spared_so = (goes.track.unshut (new_trim s script n low commands) unshut_met_so).1

@@ -1,4 +1,4 @@
--- Where a client's lists of its blocks show neither INVALID nor 15 after its calls, none of these told it that its track was shut.
+-- If a client's lists of its blocks show neither INVALID nor 15 after its calls, none of these showed it that its track was shut.
 use Rattle.std.proofs.Common.{◌≡◌, ℕ, ◌-◌, ◌==◌, not, Bool, true, false, if◌then◌else◌, is_some, fold, MatchBool, List, [], ◌∷◌, refl, ap, subst, eqb-true}
 use Rattle.std.specs.Prelude.{bit_and}
 use Rattle.std.specs.List.{list_all}
@@ -20,7 +20,7 @@ IsValid t = (list_all is_valid t.stream.events ≡ true) × (list_all is_valid t
 
 -- ## One call
 
--- a call that tells the client so shows it
+-- a call that shows that the track was shut saw INVALID or 15
 shows_dead : (frames cells base : ℕ) (es : List ClientEvent) (asked : ℕ) (was : Bool) (answer : ClientCall) → ClientAnswers frames cells base es asked answer → list_all is_valid (client_call_events was answer) ≡ true → is_dead answer ≡ false
 shows_dead frames cells base es asked was (call.Dead flags) a fine = absurd (a.1 (eqb-true (bit_and flags 4) 0 (both_left (bit_and flags 4 == 0) true fine)))
 shows_dead frames cells base es asked was (call.SendDead flags) a fine = absurd (a.1 (eqb-true (bit_and flags 4) 0 (both_left (bit_and flags 4 == 0) true fine)))
@@ -37,7 +37,7 @@ shows_dead frames cells base es asked was (call.SendCorrupt front rear) a fine =
 shows_dead frames cells base es asked was (call.Poke command word value) a fine = refl
 
 module _ (t : Track) (wanted : Want) (answer : ClientCall) where
-  -- on the side on which the call was made
+  -- the side on which the call was made shows INVALID or 15 if the call shows that the track was shut
   shown_on : (b : Side) → AnswersOn b (asked_by wanted) answer → list_all is_valid (called answer (released_by t answer) b).events ≡ true → (list_all is_valid b.events ≡ true) × (is_dead answer ≡ false)
   shown_on b a fine =
       let was = is_some (client_kept b.shape.frames b.shape.base b.events).shut in (

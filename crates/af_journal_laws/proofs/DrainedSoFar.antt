@@ -137,7 +137,7 @@ module _ (s : Session) (script : IsScript s.script) (marks : Marks) (tracks n : 
     drained_by reached None is says = no says
     drained_by reached (Some e) is says = turn_drained s marks run n steps h.turns (found_before s run [] e) e (own_legal s marks run turn round made e is) reached low says
 
-    -- where the track is reported drained, its STOP's count is consumed
+    -- if the track is reported drained, its STOP's count is consumed
     reached_alone : Reaches → says_drained round.turn n ≡ true → (count : ℕ) × StoppedAt count (now_steps steps) × (count ≤ consumed_of after n)
     reached_alone reached says = let d = drained_by reached round.turn refl says in (d.0, d.1, (let a = d.2 in let b = now_heard round.turn refl in omega (arith, a, b)))
 
@@ -163,7 +163,7 @@ module _ (s : Session) (script : IsScript s.script) (marks : Marks) (tracks n : 
           so = sent_round_alone s marks n steps sent turn round run made h.so;
         }
 
-    -- the words taken by its end begin those released
+    -- the words taken by the end of the round begin those released
     taken_begins : SeesAllBefore s (met_alone s run turn round) → (count : ℕ) × (last.taken ≡ take count last.released)
     taken_begins sees =
         let now = sends_alone in

@@ -25,13 +25,14 @@ module _ (s : Session) (script : IsScript s.script) (n : ℕ) (low : n < track_c
   fates_met : HasFates (file_words s n) words (told_at run n).stream
   fates_met = fates_told (file_words s n) words (told_at run n) (stands_met_so false s script n low run words S goes part history refl) (has_history false s script n low run words S goes part history) taken_are
 
--- in legal rounds, and in a turn run
+-- in legal rounds each frame released has one fate by each meeting
 pub met-frames-have-fates : (cut : Bool) (script : ScriptData) (files : List (List Frame)) (j : JournalData) → IsScript script → HasLegalRounds cut script files j → EachMetFrameHasOneFate script files j
 met-frames-have-fates cut script files j is legal now later begins n low part lawful =
     let s = session_of script files in
     fates_met s is n low (run_from s (new_run s) now) (recorded s (new_run s) now n) (IsSpared false s (new_run s) now n)
     (rounds.goes_now cut script files j is legal now later begins false n low lawful) part (rounds.history_now cut script files j is legal now later begins false n low lawful)
 
+-- in a turn run each frame released has one fate by each meeting
 pub met-frames-have-fates-alone : (script : ScriptData) (files : List (List Frame)) (j : JournalData) → IsScript script → IsTurnRun script files j → EachMetFrameHasOneFateAlone script files j
 met-frames-have-fates-alone script files j is run_is now later begins n low part lawful =
     let s = session_of script files in

@@ -1,4 +1,4 @@
--- Where neither server nor hand sets INVALID on a block, and no status is stored that says 15, its client sees neither in any history.
+-- If neither server nor hand sets INVALID on a block, and no status is stored that says 15, its client sees neither in any history.
 use Rattle.std.proofs.Common.{◌≡◌, ◌⊎◌, inl, inr, ℕ, ◌-◌, ◌==◌, not, Bool, true, false, true≢false, if◌then◌else◌, is_some, MatchBool, List, [], ◌∷◌, ◌++◌, refl, sym, ap, ◌∙◌, subst, eqb-true}
 use Rattle.std.specs.Prelude.{bit_and, bit_or}
 use Rattle.std.specs.List.{list_all}
@@ -24,22 +24,24 @@ use Rattle.af_runs.specs.Blocks.{BlockTold, HasBlockHistory, client_list, hand_l
 
 -- ## Calm lists
 
--- a server sets no flag but that of missing frames and stores no status that says 15, a hand sets none but DISABLED, and a client sees neither INVALID nor 15
+-- a server sets no flag but that of missing frames and stores no status that says 15
 abbrev pub is_calm : ServerEvent → Bool
 is_calm (server.SetFlags bits) = bits == 1
 is_calm (server.SetStatus word) = not (state_in word == 15)
 is_calm _ = true
 
+-- a hand sets no flag but DISABLED
 abbrev pub is_calm_hand : HandEvent → Bool
 is_calm_hand (hand.SetFlags bits) = bits == 8
 is_calm_hand (hand.Met count) = true
 
+-- a client sees neither INVALID nor 15
 abbrev pub is_valid : ClientEvent → Bool
 is_valid (client.SawFlags flags) = bit_and flags 4 == 0
 is_valid (client.SawStatus word) = not (state_in word == 15)
 is_valid _ = true
 
--- more of them
+-- two lists of which all items pass make one list of which all items pass
 pub all_join : {A : Type 0} (p : A → Bool) (xs ys : List A) → list_all p xs ≡ true → list_all p ys ≡ true → list_all p (xs ++ ys) ≡ true
 all_join p xs ys h g = list_all-append p xs ys ∙ both_are (list_all p xs) (list_all p ys) h g
 
@@ -82,7 +84,7 @@ cycle_calm asked s slot front open_is =
 
 -- ## Flags in a history
 
--- none but the flags of missing frames and DISABLED
+-- flags with no other bit than those of missing frames and DISABLED
 AreCalmFlags : ℕ → Type 0
 AreCalmFlags flags = (flags ≡ 0) ⊎ (flags ≡ 1) ⊎ (flags ≡ 8) ⊎ (flags ≡ 9)
 
@@ -157,7 +159,7 @@ calm_in p (by_hand e ∷ order) zero legal servers hands =
     let h = calm_in p order zero legal.1 servers (all_left is_calm_hand (hand_of order) (e ∷ []) hands) in
     (hand_calm (after p order) e (both_left (is_calm_hand e) true (all_right is_calm_hand (hand_of order) (e ∷ []) hands)) h.0, h.1)
 
--- the client of such a block sees neither INVALID nor 15
+-- the client of a block whose server and hand are calm sees neither INVALID nor 15
 pub valid_by_history : (b : BlockTold) → HasBlockHistory b → list_all is_calm (server_list b) ≡ true → list_all is_calm_hand (hand_list b) ≡ true → list_all is_valid (client_list b) ≡ true
 unfolding AreCalmFlags
 valid_by_history b h servers hands =

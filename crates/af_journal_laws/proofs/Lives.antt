@@ -1,4 +1,4 @@
--- Where both blocks of a track are spared and no turn hears that one was shut, no step sets INVALID or stores a status that says 15; and where its client sees neither by the end, no call told it that its track was shut.
+-- If both blocks of a track are spared and no turn hears that one was shut, no step sets INVALID or stores a status that says 15; and if its client sees neither by the end, no call showed it that its track was shut.
 use Rattle.std.proofs.Common.{◌≡◌, ℕ, ◌<◌, Bool, true, false, if◌then◌else◌, List, [], length, Option, Some, None, refl, sym, ◌∙◌, subst, arith}
 use Rattle.std.specs.List.{list_any}
 use Rattle.af_base.specs.declared.state.FastState.{FastState}
@@ -30,7 +30,7 @@ use Rattle.af_journal_laws.proofs.TrackAlive.{IsCalm, alive_called, alive_met, c
 abbrev pub IsHeardOpen : Session → ℕ → NormalKept → TurnFound → Turn → Type 0
 IsHeardOpen s n m f e = let c = setup_of s in let k = learnt (outside_of c f e) in (heard k n (track_at (tracks_at c k m e n) n)).known.shut ≡ false
 
--- From one run to another the track is kept trim. Where the proxies of its stream block aren't shut in the second, they aren't in the first, and nobody set INVALID on a block or stored 15; and where its client's lists show neither in the second, they don't in the first, and this holds
+-- From one run to another the track is kept trim. If the proxies of its stream block aren't shut in the second, they aren't in the first, and nobody set INVALID on a block or stored 15; and if its client's lists show neither in the second, they don't in the first, and `Alive` holds
 pub record Lives (n : ℕ) (a b : Run) (Alive : Type 0) : Type 0 where
   pub there : n < length b.tracks
   pub trim : IsTrim false (told_at a n) → IsTrim false (told_at b n)
@@ -38,7 +38,7 @@ pub record Lives (n : ℕ) (a b : Run) (Alive : Type 0) : Type 0 where
   pub calm : IsTrim false (told_at a n) → IsUnshut false (told_at b n) → IsCalm (told_at a n) → IsCalm (told_at b n)
   pub valid : IsValid (sides_of (told_at b n)) → IsValid (sides_of (told_at a n)) × Alive
 
--- one step after another
+-- a track that lives through two steps lives through both of them
 pub lives_both : (n : ℕ) (a b c : Run) (A B : Type 0) → Lives n a b A → Lives n b c B → Lives n a c (A × B)
 lives_both n a b c A B f g = record {
   there = g.there;
@@ -48,16 +48,16 @@ lives_both n a b c A B f g = record {
   valid = λ fine. (let two = g.valid fine in let one = f.valid two.0 in (one.0, (one.1, two.1)));
 }
 
--- what holds so means something else as well
+-- a track lives with another claim, if its claim means the other one
 pub lives_as : (n : ℕ) (a b : Run) (A B : Type 0) → (A → B) → Lives n a b A → Lives n a b B
 lives_as n a b A B f h = record { there = h.there; trim = h.trim; unshut = h.unshut; calm = h.calm; valid = λ fine. (let one = h.valid fine in (one.0, f one.1)) }
 
--- after a step came one in which nothing was called
+-- a track lives through a step and one after it in which nothing was called
 pub lives_then : (n : ℕ) (a b c : Run) (A : Type 0) → Lives n a b A → Lives n b c (Unit {0}) → Lives n a c A
 lives_then n a b c A f g = lives_as n a c (A × Unit {0}) A (λ both. both.0) (lives_both n a b c A (Unit {0}) f g)
 
 module _ (s : Session) (n : ℕ) where
-  -- the track is changed so
+  -- a track lives through a step that changes it to another one, if it stays calm
   pub lives_by : (a b : Run) (t : TrackTold) (words : List ℕ) (S A : Type 0) → Goes false s n a b words S → told_at b n ≡ t → (IsUnshut false (told_at a n) → S → IsCalm (told_at a n) → IsCalm t)
       → (IsValid (sides_of t) → IsValid (sides_of (told_at a n)) × A) → Lives n a b A
   lives_by a b t words S A goes is calm valid = record {
@@ -68,7 +68,7 @@ module _ (s : Session) (n : ℕ) where
     valid = λ fine. valid (subst (λ (u : TrackTold). IsValid (sides_of u)) is fine);
   }
 
-  -- the track is the same
+  -- a track lives through a step that leaves it as it was
   pub lives_same : (a b : Run) → n < length b.tracks → told_at b n ≡ told_at a n → Lives n a b (Unit {0})
   lives_same a b low same = lives_by a b (told_at a n) [] (Unit {0}) (Unit {0}) (goes_same false s n a b low same) same (λ unshut spared calm. calm) (λ fine. (fine, tt))
 

@@ -48,7 +48,7 @@ grows_polled s k run = record { many = refl; tracks = λ n low. record { there =
 pub grows_turn : (s : Session) (e : Turn) (run : Run) → AllGrow run (with_turn s (found_before s run [] e) e run)
 grows_turn s e run = grows_turned s (λ x. found_before s run [] x) (Some e) run
 
--- from a run on
+-- the blocks of a track grow from a start run on
 module _ (s : Session) (marks : Marks) (tracks n : ℕ) (start : Run) where
   polled_more : (k : ℕ) (run : Run) → RunGrows n start run → RunGrows n start (with_poll s k run)
   unfolding with_poll

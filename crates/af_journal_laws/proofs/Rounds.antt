@@ -30,7 +30,7 @@ turn_rises tracks round e form is = by_form (subst (λ (o : Option Turn). MatchO
     by_form (inl ended) = subst (λ (t : Turn). TracksRise 0 t.mixes) (sym ended) tt
     by_form (inr open_turn) = open_turn.rise
 
--- where it may have one, it is legal
+-- a turn that a mixer made is legal, if the mixer may make one
 pub turn_legal : (ended : Bool) (May : Turn → Type 0) (o : Option Turn) (e : Turn) → MatchBool ended (o ≡ None) (MatchOption o ⊥ May) → o ≡ Some e → May e
 turn_legal true May o e none is = no (sym (ap is_some none) ∙ ap is_some is)
 turn_legal false May o e turn is = subst (λ (o : Option Turn). MatchOption o ⊥ May) is turn

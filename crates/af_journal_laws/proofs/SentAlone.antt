@@ -38,7 +38,7 @@ use Rattle.af_journal_laws.proofs.Walk.{IsKeptQuietly, ends_keep, fast_keeps}
 
 -- ## A block
 
--- a block from which and to which as much was moved
+-- a block keeps what was sent, if as much was released on it and taken of it
 sent_same : (a b : BlockTold) (steps : List LifeStep) (sent : List Sent) → b.released ≡ a.released → b.taken ≡ a.taken → SentSo a steps sent → SentSo b steps sent
 sent_same a b steps sent released taken h = record { released = released ∙ h.released; right = h.right; taken = taken ∙ h.taken }
 
@@ -53,7 +53,7 @@ sent_called calls t steps sent legal h =
 
 -- ## A run
 
--- the track is there, and its command block so
+-- the track is there, and its command block has what its client sent and its mixer took
 pub record SentAt (n : ℕ) (steps : List LifeStep) (sent : List Sent) (run : Run) : Type 0 where
   pub there : n < length run.tracks
   pub so : SentSo (commands_at n run) steps sent
@@ -99,7 +99,7 @@ module _ (s : Session) (marks : Marks) (n : ℕ) (steps : List LifeStep) (sent :
   pub sent_quiet : IsKeptQuietly s marks (SentAt n steps sent)
   sent_quiet = record { polled = sent_polled; mixed = λ e run legal h. sent_mixed e run h; loads = sent_loaded; meets = sent_met; ended = sent_ended }
 
-  -- no call is none sent
+  -- a round in which the client makes no call sends no command
   none_sent : (round : RoundSeen) (run after : Run) → calls_in round n ≡ [] → SentAt n steps sent after → SentAt n steps (sent ++ sent_in run round n) after
   none_sent round run after none = subst (λ (l : List Sent). SentAt n steps l after) (sym (ap (λ (calls : List ClientCall). sent ++ sent_by_all (sides_of (told_at run n)) calls) none ∙ append-nil sent))
 
@@ -156,11 +156,11 @@ module _ (s : Session) (marks : Marks) (n : ℕ) (steps : List LifeStep) (sent :
   sent_load None now run h = h
   sent_load (Some e) now run h = (sent_quiet s marks n now sent).loads e run h
 
-  -- no turn of the normal mixer adds no step
+  -- a round without a turn of the normal mixer adds no step
   none_made : (round : RoundSeen) (run after : Run) (all : List Sent) → round.turn ≡ None → SentAt n steps all after → SentAt n (steps_alone s run round.turn n steps) all after
   none_made round run after all none = subst (λ (o : Option Turn). SentAt n (steps_alone s run o n steps) all after) (sym none)
 
-  -- the turn of one party
+  -- the turn of one party adds the commands that its client sent and the steps of its mixer
   sent_made : (turn : TurnSpec) (round : RoundSeen) (run : Run) → IsMadeBy s marks run turn round → SentAt n steps sent run → SentAt n (steps_alone s run round.turn n steps) (sent ++ sent_in run round n) (made_alone s run turn round)
   sent_made (makes.Client track) round run made h = none_made round run (calls_alone track round run) (sent ++ sent_in run round n) made.1 (sent_calls s marks n steps sent track round run made.0 made.3 h)
   sent_made makes.Normal round run made h =

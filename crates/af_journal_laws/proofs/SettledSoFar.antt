@@ -1,4 +1,4 @@
--- In legal rounds, and in a turn run: where a client saw its START settled, the frames that it released in later rounds are discarded only by looks that saw a flush count above that of the START.
+-- In legal rounds, and in a turn run: if a client saw its START settled, the frames that it released in later rounds are discarded only by looks that saw a flush count above that of the START.
 use Rattle.std.specs.List.{list_any}
 use Rattle.std.proofs.Common.{◌≡◌, ◌⊎◌, inl, inr, ℕ, ◌<◌, ◌≤◌, ◌==◌, Bool, true, false, if◌then◌else◌, List, [], ◌∷◌, ◌++◌, length, All, refl, sym, ap, ◌∙◌, subst, eqb-true, arith}
 use Rattle.std.proofs.lemmas.Bool.Decides.{nat_tests}
@@ -59,7 +59,7 @@ settled-so-far cut script files j is legal now later begins =
 
 -- ## A round of a turn run
 
--- a client that sees a START settled makes the turn
+-- a list that holds an item isn't empty: a client that sees a START settled makes the turn
 none_among : (before : List ClientCall) (one : ClientCall) (later : List ClientCall) → before ++ one ∷ later ≡ [] → ⊥
 none_among [] one later is = (let many = ap length is in omega (arith, many))
 none_among (x ∷ before) one later is = (let many = ap length is in omega (arith, many))
@@ -73,7 +73,7 @@ module _ (s : Session) (marks : Marks) (n : ℕ) (run : Run) (low : n < length r
       told_each (changed track round) run n low ∙ ap (λ (b : Bool). if b then called (calls_in round track) (told_at run n) else told_at run n) is
       ∙ ap (λ (k : ℕ). called (calls_in round k) (told_at run n)) (sym (eqb-true n track is))
 
-  -- its command block's side when the turn was made
+  -- the side of the track's command block when the turn was made
   made_side : (turn : TurnSpec) (count : ℕ) → IsMadeBy s marks run turn round → SeesSettled (sides_of (told_at run n)) (calls_in round n) count
       → side_of (told_at (made_alone s run turn round) n).commands ≡ (after_calls (sides_of (told_at run n)) (calls_in round n)).commands
   made_side (makes.Client track) count made sees = by_number (n == track) refl

@@ -17,7 +17,7 @@ use Rattle.af_journal_laws.proofs.Own.{called_at, grows_calls_alone, grows_polle
 use Rattle.af_journal_laws.proofs.TellsAlone.{heard_alone, tells_kept}
 use Rattle.af_journal_laws.proofs.Walk.{IsKept}
 
--- what is kept of a run
+-- what is kept of a run: what the mixer hears of a track, and the commands of its block
 pub record SettlesAlone (s : Session) (n : ℕ) (run : Run) : Type 0 where
   pub tells : TellsSo flushes s n run
   pub commands : CommandsAt (of_run flushes run n) n run

@@ -1,4 +1,4 @@
--- Whether a server was ever shut, as far as its list tells: a report, and what a mixer hears, tell of no more. In a history it never was.
+-- Whether a server was ever shut, as far as its list says: a report, and what a mixer hears, say no more. In a history it never was.
 use Rattle.std.proofs.Common.{◌≡◌, ℕ, ◌≤◌, ◌||◌, Bool, true, false, is_some, fold, List, [], ◌∷◌, ◌++◌, None, refl, sym, ap, ◌∙◌, subst, arith}
 use Rattle.std.proofs.lemmas.Grind.{fold-append}
 use Rattle.af_base.specs.declared.event.ServerEvent.{ServerEvent}
@@ -18,7 +18,7 @@ abbrev pub ever_shut : Shape → ServerKept → List ServerEvent → Bool
 ever_shut k kept [] = is_some kept.shut
 ever_shut k kept (e ∷ es) = is_some kept.shut || ever_shut k (server_keeps k kept e) es
 
--- the same as a number
+-- 1 if a server was shut, else 0
 abbrev pub mark : Bool → ℕ
 mark true = 1
 mark false = 0
@@ -57,7 +57,7 @@ ever_grows k es more =
     subst (λ (b : Bool). mark (ever_shut k (server_begins k) es) ≤ mark b) (sym (ever_more k (server_begins k) es more))
     (mark_or (ever_shut k (server_begins k) es) (ever_shut k (fold (server_keeps k) (server_begins k) es) more))
 
--- one that is shut now was
+-- a server that is shut now was shut after some of its events
 pub now_ever : (k : Shape) (kept : ServerKept) (es : List ServerEvent) → mark (is_some (fold (server_keeps k) kept es).shut) ≤ mark (ever_shut k kept es)
 now_ever k kept [] = omega arith
 now_ever k kept (e ∷ es) = let a = now_ever k (server_keeps k kept e) es in let b = mark_behind (is_some kept.shut) (ever_shut k (server_keeps k kept e) es) in omega (arith, a, b)
@@ -66,7 +66,7 @@ pub mark_none : (b : Bool) → mark b ≤ 0 → b ≡ false
 mark_none true low = absurd (omega (arith, low))
 mark_none false low = refl
 
--- whether a server was shut
+-- the measure of whether a server was shut
 abbrev pub shut : Measure
 shut = record {
   of_list = λ k es. mark (ever_shut k (server_begins k) es);

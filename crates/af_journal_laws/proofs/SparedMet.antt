@@ -36,7 +36,7 @@ forms_first tracks (round ∷ now) later forms = All-cons (IsRound tracks) round
 
 -- ## The histories
 
--- a legal round leaves a history where both proxies met
+-- a legal round leaves a history, if both proxies met
 history_round : (commands cut : Bool) (s : Session) (marks : Marks) (n : ℕ) (run : Run) (round : RoundSeen) → n < track_count s → n < length run.tracks → LegalRound cut s marks run round → HasHistoryMet commands s n (after_round s run round)
 history_round commands cut s marks n run round low there legal = history_ends commands s n (met_after s run round) (let m = met_many s (all_played s run round) in let p = played_many s run round in omega (arith, m, p, there)) (by_block commands)
   where
@@ -73,7 +73,7 @@ module _ (cut : Bool) (script : ScriptData) (files : List (List Frame)) (j : Jou
   pub history_now : HasHistoryMet commands s n run
   history_now = history_rounds commands cut s (marks_of j.rounds) n now (new_run s) low (new_there s n low) legal_now (history_new s is n low commands)
 
--- the law
+-- in legal rounds each block without a poke is spared up to each meeting of both its proxies
 pub met-blocks-are-spared : (cut : Bool) (script : ScriptData) (files : List (List Frame)) (j : JournalData) → IsScript script → HasLegalRounds cut script files j → EachMetBlockIsSpared script files j
 met-blocks-are-spared cut script files j is legal now later begins commands n low meets lawful =
     let s = session_of script files in

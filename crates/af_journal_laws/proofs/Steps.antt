@@ -1,4 +1,4 @@
--- What holds of a track through each step of a run: its client keeps to its calls and its file, its servers drop by flushes alone, the frames taken are those recorded; and where the proxies of one of its blocks aren't shut after the step, they weren't before it, and the step spared the block.
+-- What holds of a track through each step of a run: its client keeps to its calls and its file, its servers drop by flushes alone, the frames taken are those recorded; and if the proxies of one of its blocks aren't shut after the step, they weren't before it, and the step spared the block.
 use Rattle.std.specs.List.{list_any}
 use Rattle.std.proofs.Common.{◌≡◌, ℕ, ◌<◌, ◌≤◌, not, Bool, true, false, if◌then◌else◌, List, [], ◌++◌, map, length, Option, Some, None, refl, sym, ap, ◌∙◌, subst, append-nil, append_assoc, arith}
 use Rattle.af_base.specs.declared.event.ClientCall.{ClientCall}
@@ -33,7 +33,7 @@ use Rattle.af_audit.proofs.TrackUnshut.{IsTrim, IsUnshut, trim_called, trim_ende
 
 -- ## What a step keeps
 
--- from a track to what it is after the step, in which these words were taken of its stream block, and this holds where its block is unshut in the end
+-- a track goes from what it was to what it is after a step, in which these words were taken of its stream block; `Spared` holds if its block is unshut in the end
 pub record TrackGoes (commands : Bool) (s : Session) (n : ℕ) (t u : TrackTold) (words : List ℕ) (Spared : Type 0) : Type 0 where
   pub fit : IsFit s n (sides_of t) → IsFit s n (sides_of u)
   pub trim : IsTrim commands t → IsTrim commands u
@@ -41,24 +41,24 @@ pub record TrackGoes (commands : Bool) (s : Session) (n : ℕ) (t u : TrackTold)
   pub taken : u.stream.taken ≡ t.stream.taken ++ words
   pub unshut : IsTrim commands t → IsUnshut commands u → IsUnshut commands t × Spared
 
--- the same of the track of a number from one run to another
+-- the track of a number goes through a step from one run to another, in which these words were taken of its stream block
 pub record Goes (commands : Bool) (s : Session) (n : ℕ) (a b : Run) (words : List ℕ) (Spared : Type 0) : Type 0 where
   pub there : n < length b.tracks
   pub track : TrackGoes commands s n (told_at a n) (told_at b n) words Spared
 
 module _ (commands : Bool) (s : Session) (n : ℕ) where
-  -- nothing is done
+  -- a step that does nothing leaves the track as it was
   pub track_same : (t : TrackTold) → TrackGoes commands s n t t [] (Unit {0})
   track_same t = record { fit = λ h. h; trim = λ h. h; stands = λ off h. h; taken = sym (append-nil t.stream.taken); unshut = λ h fine. (fine, tt) }
 
   pub goes_same : (a b : Run) → n < length b.tracks → told_at b n ≡ told_at a n → Goes commands s n a b [] (Unit {0})
   goes_same a b low same = record { there = low; track = subst (λ (t : TrackTold). TrackGoes commands s n (told_at a n) t [] (Unit {0})) (sym same) (track_same (told_at a n)) }
 
-  -- the track is changed so
+  -- a step that changes the track to another one goes as the change does
   pub goes_by : (a b : Run) (u : TrackTold) (words : List ℕ) (S : Type 0) → n < length b.tracks → told_at b n ≡ u → TrackGoes commands s n (told_at a n) u words S → Goes commands s n a b words S
   goes_by a b u words S low is goes = record { there = low; track = subst (λ (t : TrackTold). TrackGoes commands s n (told_at a n) t words S) (sym is) goes }
 
-  -- one step after another
+  -- two steps one after the other take the words of both and spare what both spare
   track_both : (t u v : TrackTold) (xs ys : List ℕ) (S R : Type 0) → TrackGoes commands s n t u xs S → TrackGoes commands s n u v ys R → TrackGoes commands s n t v (xs ++ ys) (S × R)
   track_both t u v xs ys S R f g = record {
     fit = λ h. g.fit (f.fit h);
@@ -71,7 +71,7 @@ module _ (commands : Bool) (s : Session) (n : ℕ) where
   pub goes_both : (a b c : Run) (xs ys : List ℕ) (S R : Type 0) → Goes commands s n a b xs S → Goes commands s n b c ys R → Goes commands s n a c (xs ++ ys) (S × R)
   goes_both a b c xs ys S R f g = record { there = g.there; track = track_both (told_at a n) (told_at b n) (told_at c n) xs ys S R f.track g.track }
 
-  -- what is taken and what is spared mean something else as well
+  -- a step takes other words and spares another claim, if the words are the same and its claim means the other one
   pub goes_as : (a b : Run) (xs ys : List ℕ) (S R : Type 0) → xs ≡ ys → (S → R) → Goes commands s n a b xs S → Goes commands s n a b ys R
   goes_as a b xs ys S R same f h = record {
     there = h.there;
@@ -84,14 +84,14 @@ module _ (commands : Bool) (s : Session) (n : ℕ) where
     });
   }
 
-  -- after a step came one by which nothing was taken and nothing spared
+  -- a step that is followed by one that takes nothing and spares nothing goes as it did
   pub goes_then : (a b c : Run) (xs : List ℕ) (S : Type 0) → Goes commands s n a b xs S → Goes commands s n b c [] (Unit {0}) → Goes commands s n a c xs S
   goes_then a b c xs S f g = goes_as a c (xs ++ []) xs (S × Unit {0}) S (append-nil xs) (λ both. both.0) (goes_both a b c xs [] S (Unit {0}) f g)
 
 -- ## The steps
 
 module _ (commands : Bool) (s : Session) (n : ℕ) where
-  -- the calls of its client
+  -- the calls of the track's client
   pub track_called : (calls : List ClientCall) (t : TrackTold) → list_any (is_poke_on commands) calls ≡ false → LegalClientTurn (sides_of t) calls → TrackGoes commands s n t (called calls t) [] (none_corrupt_on commands calls ≡ true)
   track_called calls t calm legal = record {
     fit = fit_called s n t calls legal;
@@ -108,7 +108,7 @@ module _ (commands : Bool) (s : Session) (n : ℕ) where
       let change = λ (track : ℕ) (t : TrackTold). called (calls_in round track) t in
       goes_by commands s n run (with_calls round run) _ _ _ (let m = each_long change 0 run.tracks in omega (arith, m, low)) (told_each change run n low) (track_called (calls_in round n) (told_at run n) calm legal)
 
-  -- a mix
+  -- a mix, of one track
   track_mixed : (x : FastState) (e : EntrySeen) (t : TrackTold) → ((i : ℕ) → slot_for x e.entry n ≡ Some i → (front : ℕ) × LooksBy (cycle_frames s) (listed t.stream) (entry_slot e.entry i) front)
       → TrackGoes commands s n t (mixed_track s x e n t) (elim (slot_for x e.entry n) as (λ o. List ℕ) [ None ↦ [] | Some i ↦ map packed_word (slot_frames e i) ])
       (commands ≡ false → elim (slot_for x e.entry n) as (λ o. Bool) [ None ↦ true | Some i ↦ not (is_shut (entry_slot e.entry i).seen) ] ≡ true)
@@ -124,7 +124,7 @@ module _ (commands : Bool) (s : Session) (n : ℕ) where
       by_slot None = sym (append-nil t.stream.taken)
       by_slot (Some i) = refl
 
-  -- in a run
+  -- a mix, in a run
   pub goes_mixed : (marks : Marks) (run : Run) (e : EntrySeen) → n < length run.tracks → LegalEntry s marks run e → Goes commands s n run (with_mix s e run) (recorded_by s run e n) (commands ≡ false → is_spared_by s run e n ≡ true)
   unfolding with_mix
   goes_mixed marks run e low legal =
@@ -132,12 +132,12 @@ module _ (commands : Bool) (s : Session) (n : ℕ) where
       goes_by commands s n run (with_mix s e run) (mixed_track s x e n (told_at run n)) _ _ (let m = each_long (mixed_track s x e) 0 run.tracks in omega (arith, m, low)) (told_each (mixed_track s x e) run n low)
       (track_mixed x e (told_at run n) (entry_looks s marks run e legal n))
 
-  -- a poll
+  -- a poll, in a run
   pub goes_polled : (k : ℕ) (run : Run) → n < length run.tracks → Goes commands s n run (with_poll s k run) [] (Unit {0})
   unfolding with_poll
   goes_polled k run low = goes_same commands s n run (with_poll s k run) low refl
 
-  -- the turn of the normal mixer
+  -- the turn of the normal mixer, in a run
   pub goes_turned : (marks : Marks) (f : TurnFound) (e : Turn) (m : NormalKept) (run : Run) → n < length run.tracks → f.streams n ≡ (told_at run n).stream → f.commands n ≡ (told_at run n).commands → run.normal ≡ m → TracksRise 0 e.mixes
       → LegalTurnBy (setup_of s) marks f m e → Goes commands s n run (with_turn s f e run) (recorded_by_turn (Some e) n) (is_spared_in_turn commands e n ≡ true)
   unfolding with_turn
@@ -159,13 +159,13 @@ module _ (commands : Bool) (s : Session) (n : ℕ) where
         unshut = λ h fine. (let one = unshut_turned c f m e legal.outside n legal.found rise legal.legal t commands (subst (IsTrim commands) (sym is) h) fine in (subst (IsUnshut commands) is one.0, one.1));
       })
 
-  -- the load of a report
+  -- the load of a report, in a run
   pub goes_loaded : (o : Option Turn) (run : Run) → n < length run.tracks → Goes commands s n run (loaded o run) [] (Unit {0})
   unfolding with_load
   goes_loaded None run low = goes_same commands s n run run low refl
   goes_loaded (Some e) run low = goes_same commands s n run (with_load e run) low refl
 
-  -- the meetings
+  -- a meeting keeps the file of a track
   file_met : (t u : TrackTold) → u ≡ t → u.file ≡ t.file
   file_met t u is = ap (λ (x : TrackTold). x.file) is
 
@@ -187,7 +187,7 @@ module _ (commands : Bool) (s : Session) (n : ℕ) where
         unshut = λ h fine. (unshut_met commands part run.handed t fine, tt);
       })
 
-  -- the clients' ends
+  -- the clients' ends, in a run
   pub goes_ended : (run : Run) → n < length run.tracks → Goes commands s n run (with_ends run) [] (Unit {0})
   unfolding with_ends
   goes_ended run low = by_end run.normal.ended

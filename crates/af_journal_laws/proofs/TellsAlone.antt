@@ -1,4 +1,4 @@
--- In a turn run no turn of the normal mixer hears more of a track's server than the server's list tells.
+-- In a turn run no turn of the normal mixer hears more of a track's server than the server's list gives.
 use Rattle.std.proofs.Common.{◌≡◌, ℕ, ◌≤◌, Bool, true, false, Some, refl, sym, ap, ◌∙◌, subst, arith, []}
 use Rattle.af_base.specs.declared.state.FastState.{FastState}
 use Rattle.af_base.specs.Turn.{Turn}

@@ -1,4 +1,4 @@
--- What each step of a round keeps of the flags and the statuses of a track's blocks, where both are spared and the mixer hears of no shut server: nobody sets INVALID, and no status says 15.
+-- What each step of a round keeps of the flags and the statuses of a track's blocks, if both are spared and the mixer hears of no shut server: nobody sets INVALID, and no status says 15.
 use Rattle.std.proofs.Common.{◌≡◌, ◌⊎◌, inl, inr, ℕ, ◌+◌, ◌*◌, ◌≤◌, ◌==◌, ◌&&◌, ◌||◌, not, Bool, true, false, true≢false, if◌then◌else◌, is_some, map, List, [], ◌∷◌, ◌++◌, flat_map, drop, length, Option, Some, None, refl, sym, ap, ◌∙◌, subst, append-nil, append_assoc, MatchBool, arith}
 use Rattle.std.specs.List.{list_all, list_any}
 use Rattle.std.proofs.lemmas.List.Concat.{flat_map-cons}
@@ -53,7 +53,7 @@ pub record IsCalmBlock (b : BlockTold) : Type 0 where
   pub server : list_all is_calm (server_list b) ≡ true
   pub hand : list_all is_calm_hand (block.hand_list b) ≡ true
 
--- nor of either block of a track
+-- both blocks of a track are calm
 pub record IsCalm (t : TrackTold) : Type 0 where
   pub stream : IsCalmBlock t.stream
   pub commands : IsCalmBlock t.commands
@@ -121,7 +121,7 @@ code_open Stopping2 = refl
 code_open Stopped = refl
 code_open Flushed = refl
 
--- a status of a track that isn't found shut tells its state
+-- a status of a track that isn't found shut holds its state
 state_told : (code settled : ℕ) (drained : Bool) → code ≤ 15 → state_in (code + (if drained then 16 else 0) + 256 * settled) ≡ code
 state_told code settled true low = let same : code + 16 + 256 * settled ≡ (1 + 16 * settled) * 16 + code = omega arith in ap state_in same ∙ mod-mul-add (1 + 16 * settled) 16 code (omega (arith, low))
 state_told code settled false low = let same : code + 0 + 256 * settled ≡ (16 * settled) * 16 + code = omega arith in ap state_in same ∙ mod-mul-add (16 * settled) 16 code (omega (arith, low))

@@ -54,7 +54,7 @@ module _ (commands : Bool) (s : Session) (marks : Marks) (n : ℕ) where
 
   -- ## Calls
 
-  -- one client made its calls, and no other did
+  -- one client made its calls, and no other did: the track goes through them
   pub goes_calls : (track : ℕ) (round : RoundSeen) (run : Run) → n < length run.tracks → OnlyCalls (λ t. t ≡ track) round → list_any (is_poke_on commands) (calls_in round n) ≡ false → LegalClientTurn (sides_of (told_at run track)) (calls_in round track)
       → Goes commands s n run (calls_alone track round run) [] (none_corrupt_on commands (calls_in round n) ≡ true)
   goes_calls track round run low only calm legal = by_number (n == track) refl
@@ -92,7 +92,7 @@ module _ (commands : Bool) (s : Session) (marks : Marks) (n : ℕ) where
 
   -- ## A round
 
-  -- no client made a call
+  -- if no client made a call, the track's client made none
   pub none_called : (round : RoundSeen) → OnlyCalls (λ t. ⊥) round → calls_in round n ≡ []
   none_called round only = by_only (only n)
     where
@@ -145,7 +145,7 @@ module _ (commands : Bool) (s : Session) (marks : Marks) (n : ℕ) where
       goes_both commands s n run next (run_alone s next turns now) (recorded_in_turn s run round n) (recorded_alone s next turns now n) _ _ ended
       (goes_alone turns now later tracks next ended.there (All-tail (IsRound tracks) round now forms) two.1 are.2)
 
-  -- where both proxies of a block met there is a history
+  -- if both proxies of a block met there is a history
   pub history_alone : (turns : List TurnSpec) (now later : List RoundSeen) (tracks : ℕ) (run : Run) → n < track_count s → n < length run.tracks → All (IsRound tracks) now → list_any (λ round. list_any (is_poke_on commands) (calls_in round n)) now ≡ false
       → AreTurns s marks run turns (now ++ later) → HasHistoryMet commands s n run → HasHistoryMet commands s n (run_alone s run turns now)
   history_alone [] now later tracks run count low forms calm are h = h

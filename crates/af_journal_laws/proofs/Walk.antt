@@ -17,7 +17,7 @@ use Rattle.af_script.specs.declared.op.TurnSpec.TheVariants as makes
 use Rattle.af_journal_laws.proofs.Rounds.{turn_legal}
 use Rattle.af_journal_laws.proofs.Turns.{entries_legal}
 
--- this is kept by the steps of the fast mixer, by the load of a report, by meetings, and where the clients end
+-- a property of runs is kept by the steps of the fast mixer, by the load of a report, by meetings, and by the clients' ends
 pub record IsKeptQuietly (s : Session) (marks : Marks) (P : Run → Type 0) : Type 0 where
   pub polled : (k : ℕ) (run : Run) → P run → P (with_poll s k run)
   pub mixed : (e : EntrySeen) (run : Run) → LegalEntry s marks run e → P run → P (with_mix s e run)
@@ -25,13 +25,13 @@ pub record IsKeptQuietly (s : Session) (marks : Marks) (P : Run → Type 0) : Ty
   pub meets : (run : Run) → P run → P (met s run)
   pub ended : (run : Run) → P run → P (with_ends run)
 
--- and by the turns of the clients and of the normal mixer
+-- a property of runs is kept by all quiet steps, and by the turns of the clients and of the normal mixer
 pub record IsKept (s : Session) (marks : Marks) (tracks : ℕ) (P : Run → Type 0) : Type 0 where
   pub quiet : IsKeptQuietly s marks P
   pub calls : (track : ℕ) (round : RoundSeen) (run : Run) → LegalClientTurn (sides_of (told_at run track)) (calls_in round track) → P run → P (calls_alone track round run)
   pub turn : (e : Turn) (run : Run) → IsTurn tracks e → LegalTurnBy (setup_of s) marks (found_before s run [] e) run.normal e → P run → P (with_turn s (found_before s run [] e) e run)
 
--- what the turn of a round is
+-- the turn of a round has its form
 pub turn_form : (tracks : ℕ) (round : RoundSeen) (e : Turn) → IsRound tracks round → round.turn ≡ Some e → IsTurn tracks e
 turn_form tracks round e form is = subst (λ (o : Option Turn). MatchOption o (Unit {0}) (IsTurn tracks)) is form.turn
 
@@ -42,7 +42,7 @@ module _ (s : Session) (marks : Marks) (P : Run → Type 0) (k : IsKeptQuietly s
       let polled = with_poll s e.entry.state run in
       cycles_keep es (cycle_alone s run e) legal.1 (k.mixed e (met s polled) legal.0 (k.meets polled (k.polled e.entry.state run h)))
 
-  -- the cycles of a round in which the fast mixer makes its turn
+  -- the cycles of a round in which the fast mixer makes its turn keep the property
   pub fast_keeps : (n cycles : ℕ) (round : RoundSeen) (run : Run) → IsMadeBy s marks run (makes.Fast cycles) round → P run → P (made_alone s run (makes.Fast cycles) round)
   fast_keeps n cycles round run made h = cycles_keep round.entries run (entries_legal false s marks n (fast_ended run) run round _ made.2) h
 

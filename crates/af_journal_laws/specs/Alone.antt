@@ -1,4 +1,4 @@
--- What turn runs tell of a track's frames and blocks, in which one party after another makes a turn.
+-- What turn runs, in which one party after another makes a turn, say of a track's frames and blocks.
 use Rattle.std.specs.Prelude.{◌≡◌, ℕ, ◌<◌, ◌&&◌, Bool, true, false, List, [], ◌∷◌, ◌++◌}
 use Rattle.af_base.specs.declared.frame.Frame.{Frame}
 use Rattle.af_model.specs.Journals.{EntrySeen, RoundSeen, JournalData}
@@ -14,12 +14,12 @@ use Rattle.af_journal_laws.specs.Meetings.{meets_on}
 
 -- ## Entries, before each of whose mixes all pairs meet
 
--- the words of a track's frames that they record, one after the other
+-- the words of a track's frames that the entries record, one after the other
 abbrev pub recorded_by_cycles : Session → Run → List EntrySeen → ℕ → List ℕ
 recorded_by_cycles s run [] track = []
 recorded_by_cycles s run (e ∷ entries) track = recorded_by s (met s (with_poll s e.entry.state run)) e track ++ recorded_by_cycles s (cycle_alone s run e) entries track
 
--- the slot that plays the track is Shut in none of them
+-- the slot that plays the track is Shut in none of the entries
 abbrev pub is_spared_by_cycles : Session → Run → List EntrySeen → ℕ → Bool
 is_spared_by_cycles s run [] track = true
 is_spared_by_cycles s run (e ∷ entries) track = is_spared_by s (met s (with_poll s e.entry.state run)) e track && is_spared_by_cycles s (cycle_alone s run e) entries track
@@ -30,19 +30,19 @@ is_spared_by_cycles s run (e ∷ entries) track = is_spared_by s (met s (with_po
 abbrev pub recorded_in_turn : Session → Run → RoundSeen → ℕ → List ℕ
 recorded_in_turn s run round track = recorded_by_cycles s run round.entries track ++ recorded_by_turn round.turn track
 
--- in some rounds, one after the other
+-- the words recorded in some rounds, one after the other
 abbrev pub recorded_alone : Session → Run → List TurnSpec → List RoundSeen → ℕ → List ℕ
 recorded_alone s run [] rounds track = []
 recorded_alone s run (turn ∷ turns) [] track = []
 recorded_alone s run (turn ∷ turns) (round ∷ rounds) track = recorded_in_turn s run round track ++ recorded_alone s (with_ends (met_alone s run turn round)) turns rounds track
 
--- a round spares a block: its client's calls, the turn, and a stream block the entries
+-- a round spares a block: its client's calls and the turn spare it, and if it is a stream block the entries do
 pub record IsSparedInTurn (commands : Bool) (s : Session) (run : Run) (round : RoundSeen) (track : ℕ) : Type 0 where
   pub calls : none_corrupt_on commands (calls_in round track) ≡ true
   pub turn : is_spared_by_turn commands round.turn track ≡ true
   pub entries : commands ≡ false → is_spared_by_cycles s run round.entries track ≡ true
 
--- each of some rounds does
+-- each of some rounds spares the block
 abbrev pub IsSparedAlone : Bool → Session → Run → List TurnSpec → List RoundSeen → ℕ → Type 0
 IsSparedAlone commands s run [] rounds track = Unit {0}
 IsSparedAlone commands s run (turn ∷ turns) [] track = Unit {0}

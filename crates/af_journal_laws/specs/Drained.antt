@@ -29,7 +29,7 @@ abbrev pub steps_alone : Session → Run → Option Turn → ℕ → List LifeSt
 steps_alone s run None track before = before
 steps_alone s run (Some e) track before = let c = setup_of s in track_steps c (learnt (outside_of c (found_before s run [] e) e)) run.normal e track before
 
--- In each round that reports the track drained this holds of the run after the round, of the steps of the track's life so far, and of the commands that its client sent so far
+-- In each round that reports the track drained `Holds` holds of the run after the round, of the steps of the track's life so far, and of the commands that its client sent so far
 abbrev pub WhereDrainedAlone : (Run → List LifeStep → List Sent → Type 0) → Session → Run → List TurnSpec → List LifeStep → List Sent → List RoundSeen → ℕ → Type 0
 WhereDrainedAlone Holds s run [] steps sent rounds track = Unit {0}
 WhereDrainedAlone Holds s run (turn ∷ turns) steps sent [] track = Unit {0}
@@ -39,7 +39,7 @@ WhereDrainedAlone Holds s run (turn ∷ turns) steps sent (round ∷ rounds) tra
     let after = with_ends (met_alone s run turn round) in
     (says_drained round.turn track ≡ true → Holds after now all) × WhereDrainedAlone Holds s after turns now all rounds track
 
--- the same of the turns of one party after another
+-- in turn runs, in the rounds so far, each track that is reported drained has reached the STOP that stopped it last, with no START since; its client sent that STOP, if none of these rounds has a poke on it
 abbrev pub EachDrainedTrackHasStoppedAlone : ScriptData → List (List Frame) → JournalData → Type 0
 EachDrainedTrackHasStoppedAlone script files j = let s = session_of script files in
     (now : List RoundSeen) (later : List RoundSeen) → j.rounds ≡ now ++ later → (track : ℕ) → track < track_count s

@@ -16,7 +16,7 @@ EachMetFrameHasOneFate script files j = let s = session_of script files in
     (now : List RoundSeen) (later : List RoundSeen) → j.rounds ≡ now ++ later → (track : ℕ) → track < track_count s → takes_part s (run_from s (new_run s) now) track ≡ true → is_lawful_block false now track ≡ true
     → HasFates (file_words s track) (recorded s (new_run s) now track) (told_at (run_from s (new_run s) now) track).stream
 
--- the same of the turns of one party after another
+-- in turn runs, by each meeting in which the stream proxy of a track takes part, no poke on its stream block among the rounds before, each frame released has one fate
 abbrev pub EachMetFrameHasOneFateAlone : ScriptData → List (List Frame) → JournalData → Type 0
 EachMetFrameHasOneFateAlone script files j = let s = session_of script files in
     (now : List RoundSeen) (later : List RoundSeen) → j.rounds ≡ now ++ later → (track : ℕ) → track < track_count s → takes_part s (run_alone s (new_run s) script.turns now) track ≡ true → is_lawful_block false now track ≡ true

@@ -1,4 +1,4 @@
--- What follows of each track's frames and blocks up to the meetings of their proxies, of every journal that a command makes.
+-- What follows of each track's frames and blocks up to the meetings of their proxies, for every journal that a command makes.
 use Rattle.std.specs.Prelude.{List}
 use Rattle.af_base.specs.declared.frame.Frame.{Frame}
 use Rattle.af_model.specs.Journals.{JournalData}
@@ -15,7 +15,7 @@ use Rattle.af_journal_laws.specs.Meetings.{EachProxyMeetsLast}
 use Rattle.af_journal_laws.specs.Settled.{EachSettledStartKeeps, EachSettledStartKeepsAlone}
 use Rattle.af_journal_laws.specs.Spared.{EachMetBlockIsSpared}
 
--- of rounds of all parties, ended or cut off: what holds up to each meeting of the proxies of a block without a poke, and what drained and settled mean in the rounds so far
+-- the laws on rounds of all parties, ended or cut off: what holds up to each meeting of the proxies of a block without a poke, and what drained and settled mean in the rounds so far
 pub record HoldsAtMeetings (script : ScriptData) (files : List (List Frame)) (j : JournalData) : Type 0 where
   pub spared : EachMetBlockIsSpared script files j
   pub fates : EachMetFrameHasOneFate script files j
@@ -23,7 +23,7 @@ pub record HoldsAtMeetings (script : ScriptData) (files : List (List Frame)) (j 
   pub drained : EachDrainedTrackHasStopped script files j
   pub settled : EachSettledStartKeeps script files j
 
--- the same of the turns of one party after another
+-- the laws on turn runs: what holds up to each meeting of the proxies of a block without a poke, and what drained and settled mean in the rounds so far
 pub record HoldsAtMeetingsAlone (script : ScriptData) (files : List (List Frame)) (j : JournalData) : Type 0 where
   pub spared : EachMetBlockIsSparedAlone script files j
   pub fates : EachMetFrameHasOneFateAlone script files j
@@ -31,7 +31,7 @@ pub record HoldsAtMeetingsAlone (script : ScriptData) (files : List (List Frame)
   pub drained : EachDrainedTrackHasStoppedAlone script files j
   pub settled : EachSettledStartKeepsAlone script files j
 
--- what is said of the whole journal of a legal run is this at its last meeting
+-- in a legal run what holds up to its last meeting holds of the whole journal
 pub record HoldsToTheEnd (script : ScriptData) (files : List (List Frame)) (j : JournalData) : Type 0 where
   pub last : EachProxyMeetsLast script files j
   pub spared : EachMetBlockIsSpared script files j → EachLawfulBlockIsSpared script files j

@@ -14,7 +14,7 @@ use Rattle.af_audit.specs.Settled.{DiscardsAbove, SeesSettled}
 
 -- ## Rounds of all parties
 
--- where the client of a track without a poke saw a START settled, and its stream proxy met it after that round, only looks that saw a flush count above the START's discard what it released afterwards
+-- if the client of a track without a poke saw a START settled, and its stream proxy met it after that round, only looks that saw a flush count above the START's discard what it released afterwards
 abbrev pub EachSettledStartKeeps : ScriptData → List (List Frame) → JournalData → Type 0
 EachSettledStartKeeps script files j = let s = session_of script files in
     (now : List RoundSeen) (later : List RoundSeen) → j.rounds ≡ now ++ later
@@ -26,7 +26,7 @@ EachSettledStartKeeps script files j = let s = session_of script files in
 
 -- ## The turns of one party after another
 
--- In each round in which the track's client saw a START settled, and after which the track's stream proxy met it, this holds of the run after the round and of the START's flush count
+-- In each round in which the track's client saw a START settled, and after which the track's stream proxy met it, `Holds` holds of the run after the round and of the START's flush count
 abbrev pub WhereSettledAlone : (Run → ℕ → Type 0) → Session → Run → List TurnSpec → List RoundSeen → ℕ → Type 0
 WhereSettledAlone Holds s run [] rounds track = Unit {0}
 WhereSettledAlone Holds s run (turn ∷ turns) [] track = Unit {0}
@@ -34,7 +34,7 @@ WhereSettledAlone Holds s run (turn ∷ turns) (round ∷ rounds) track =
     let after = with_ends (met_alone s run turn round) in
     ((count : ℕ) → SeesSettled (sides_of (told_at run track)) (calls_in round track) count → takes_part s (made_alone s run turn round) track ≡ true → Holds after count) × WhereSettledAlone Holds s after turns rounds track
 
--- the same of the turns of one party after another
+-- in turn runs, if the client of a track without a poke saw a START settled, and its stream proxy met it after that round, only looks that saw a flush count above the START's discard what it released afterwards
 abbrev pub EachSettledStartKeepsAlone : ScriptData → List (List Frame) → JournalData → Type 0
 EachSettledStartKeepsAlone script files j = let s = session_of script files in
     (now : List RoundSeen) (later : List RoundSeen) → j.rounds ≡ now ++ later → (track : ℕ) → track < track_count s → is_lawful_track now track ≡ true

@@ -1,4 +1,4 @@
-//! All of these laws at once.
+//! All laws of this crate at once.
 ghost use Rattle.std.specs.Prelude.{Bool, List};
 ghost use Rattle.af_base.specs.declared.frame.Frame.{Frame};
 ghost use Rattle.af_journal_laws.specs.Laws.{HoldsAtMeetings, HoldsAtMeetingsAlone};
@@ -10,14 +10,14 @@ ghost use Rattle.af_script.specs.Form.{IsScript};
 
 use crate::drained::{drained_tracks_have_stopped, drained_tracks_of_turn_runs_have_stopped};
 
-/// What follows of a journal of legal rounds, ended or cut off.
+/// What follows of a journal of legal rounds, ended or cut off: the laws up to each meeting, and on drained tracks and settled STARTs.
 pub fn what_follows_of_rounds()
     ensures { (cut : Bool) (script : ScriptData) (files : List (List Frame)) (j : JournalData) → IsScript script → HasLegalRounds cut script files j → HoldsAtMeetings script files j }
 {
     drained_tracks_have_stopped();
 }
 
-/// What follows of a turn run.
+/// What follows of a turn run: the laws up to each meeting, and on drained tracks and settled STARTs.
 pub fn what_follows_of_turn_runs()
     ensures { (script : ScriptData) (files : List (List Frame)) (j : JournalData) → IsScript script → IsTurnRun script files j → HoldsAtMeetingsAlone script files j }
 {

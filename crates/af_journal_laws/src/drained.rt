@@ -17,7 +17,7 @@ pub fn drained_tracks_have_stopped()
     a_drained_track_was_reached();
 }
 
-/// The same in a turn run.
+/// In a turn run the server of each track that is reported drained has consumed, by the end of that round, the count of the STOP that stopped it last, and no START has changed it since. On a track without a poke so far that STOP is the command of the same number that its client sent, when it had released so many frames.
 pub fn drained_tracks_of_turn_runs_have_stopped()
     ensures { (script : ScriptData) (files : List (List Frame)) (j : JournalData) → IsScript script → IsTurnRun script files j → EachDrainedTrackHasStoppedAlone script files j }
 {

@@ -13,7 +13,7 @@ pub fn met_frames_have_one_fate()
     ensures { (cut : Bool) (script : ScriptData) (files : List (List Frame)) (j : JournalData) → IsScript script → HasLegalRounds cut script files j → EachMetFrameHasOneFate script files j }
 {}
 
-/// The same in a turn run.
+/// In a turn run each frame that a client released on a stream block without a poke has one fate by each meeting of its stream proxy: mixed in place, discarded by a noticed flush, or still queued.
 pub fn met_frames_of_turn_runs_have_one_fate()
     ensures { (script : ScriptData) (files : List (List Frame)) (j : JournalData) → IsScript script → IsTurnRun script files j → EachMetFrameHasOneFateAlone script files j }
 {}
