@@ -1,4 +1,4 @@
-//! Tests of the ends: each call and each refusal.
+//! Tests of the ends: each call and each refusal as tables, and two threads over a stream, a recording and a static buffer.
 #![tactic(auto)]
 
 #[cfg(test)]
@@ -13,3 +13,5 @@ mod static_tests;
 mod stream_calls;
 #[cfg(test)]
 mod stream_tests;
+#[cfg(test)]
+mod thread_tests;
