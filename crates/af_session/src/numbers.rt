@@ -8,21 +8,21 @@ use af_base::{
     TrackTurn, TurnEntry,
 };
 
-// A word has 32 bits.
+// Reads a word: it has 32 bits.
 fn know_word(word: u32)
     ensures { word < 2 ^ 32 }
 {
     let _word = word;
 }
 
-// The number of a cycle or of a state has 64.
+// The number of a cycle or of a state has 64 bits.
 fn know_number(number: u64)
     ensures { number < 2 ^ 64 }
 {
     let _number = number;
 }
 
-// The words of what a look showed.
+// Reads the words of what a look showed.
 fn know_seen(seen: Seen)
     ensures { AreWords (seen_words seen) }
 {
@@ -37,7 +37,7 @@ fn know_seen(seen: Seen)
     }
 }
 
-// The words of a call.
+// Reads the words of a call.
 fn know_call(call: ClientCall)
     ensures { FitsCall call }
 {
@@ -82,7 +82,7 @@ fn know_call(call: ClientCall)
     }
 }
 
-/// Those of some calls.
+/// Reads the words of some calls.
 pub(crate) fn know_calls(calls: &[ClientCall])
     ensures { FitCalls calls.now }
 {
@@ -91,7 +91,7 @@ pub(crate) fn know_calls(calls: &[ClientCall])
     }
 }
 
-// The words of a look at a command block.
+// Reads the words of a look at a command block.
 fn know_look(look: CommandLook)
     ensures { FitsLook look }
 {
@@ -102,7 +102,7 @@ fn know_look(look: CommandLook)
     know_seen(look.seen);
 }
 
-// Those of some looks.
+// Reads the words of some looks at a command block.
 fn know_looks(looks: &[CommandLook])
     ensures { All FitsLook looks.now }
 {
@@ -111,7 +111,7 @@ fn know_looks(looks: &[CommandLook])
     }
 }
 
-// A status that may be stored.
+// Reads a status, if there is one.
 fn know_status(status: Option<u32>)
     ensures { MatchOption status (Unit {0}) (λ word. word < 2 ^ 32) }
 {
@@ -121,7 +121,7 @@ fn know_status(status: Option<u32>)
     }
 }
 
-// What a turn saw and did of a track.
+// Reads what a turn saw and did of one track.
 fn know_track(track: &TrackTurn)
     ensures { FitsTrack (track_seen track.now) }
 {
@@ -129,7 +129,7 @@ fn know_track(track: &TrackTurn)
     know_status(track.status);
 }
 
-// The same of each track.
+// Reads what a turn saw and did of each track.
 fn know_tracks(tracks: &[TrackTurn])
     ensures { All (λ t. FitsTrack (track_seen t)) tracks.now }
 {
@@ -138,7 +138,7 @@ fn know_tracks(tracks: &[TrackTurn])
     }
 }
 
-// What a push answered.
+// Reads what a push answered.
 fn know_push(push: Push)
     ensures { FitsPush push }
 {
@@ -152,7 +152,7 @@ fn know_push(push: Push)
     }
 }
 
-// The words of a slot.
+// Reads the words of a slot.
 fn know_slot(slot: SlotEntry)
     ensures { FitsSlot slot }
 {
@@ -162,7 +162,7 @@ fn know_slot(slot: SlotEntry)
     know_seen(slot.seen);
 }
 
-// Those of a take.
+// Reads the words of a take.
 fn know_take(take: &NormalTake)
     ensures { FitsTake (take_seen take.now) }
 {
@@ -170,7 +170,7 @@ fn know_take(take: &NormalTake)
     know_slot(take.slot);
 }
 
-// Those of each take.
+// Reads the words of each take.
 fn know_takes(takes: &[NormalTake])
     ensures { All (λ t. FitsTake (take_seen t)) takes.now }
 {
@@ -179,7 +179,7 @@ fn know_takes(takes: &[NormalTake])
     }
 }
 
-/// The numbers of a turn.
+/// Reads the numbers of a turn.
 pub(crate) fn know_turn(turn: &TurnEntry)
     ensures { FitsTurn (turn_of turn.now) }
 {
@@ -190,14 +190,14 @@ pub(crate) fn know_turn(turn: &TurnEntry)
     know_takes(turn.mixes.as_slice());
 }
 
-// A scale has 16 bits.
+// Reads a scale: it has 16 bits.
 fn know_scale(scale: u16)
     ensures { scale < 2 ^ 16 }
 {
     let _scale = scale;
 }
 
-// The numbers of an entry.
+// Reads the numbers of an entry.
 fn know_entry(entry: &CycleEntry)
     ensures { FitsEntry entry.now }
 {
@@ -208,7 +208,7 @@ fn know_entry(entry: &CycleEntry)
     }
 }
 
-/// Those of each entry of a log.
+/// Reads the numbers of each entry of a log.
 pub fn know_log(log: &FastLog)
     ensures { All FitsEntry log.now.entries }
 {
