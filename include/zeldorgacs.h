@@ -16,12 +16,12 @@
  * back memory. So all others may be made by a thread that must not be held up. A null pointer is answered, as each call says.
  *
  * YOU OWE, and nothing checks:
- *   - the samples' pointer is good for as many frames as you say, or ZG_MOST_FRAMES if that is fewer: readable, and writable where they are written;
+ *   - the samples' pointer is good for as many frames as you say, or ZG_MOST_FRAMES if that is fewer: readable, and writable if the call writes them;
  *   - one call at a time for each handle. Another thread may go on with it once that is ordered: by a thread's start or join, a lock, or a
  *     sequentially consistent atomic;
  *   - nobody but this library reads, writes or copies the two words of an open handle, or writes what it allocated. An open handle that is
  *     overwritten, or goes out of life, is never freed;
- *   - malloc, realloc and free come from one allocator, and align each block to 16 where its size allows that;
+ *   - malloc, realloc and free come from one allocator, and align each block to 16 if its size allows that;
  *   - no call in a signal handler, nor in the child of a fork of a process with threads;
  *   - a stack with 16 KB to spare.
  *
@@ -48,7 +48,7 @@ typedef struct zg_handle {
     void *at;
 } zg_handle;
 
-/* The handles by their kinds: the same two words, which the compiler tells apart. */
+/* The handles by their kinds: the same two words, which the compiler distinguishes. */
 typedef struct zg_client {
     zg_handle handle;
 } zg_client;
@@ -126,7 +126,7 @@ int64_t zeldorgacs_setter_set(zg_handle *setter, uint32_t start, uint32_t end, u
 int64_t zeldorgacs_player_play(zg_handle *player, uint16_t left, uint16_t right, int16_t *samples, size_t count, int64_t *number);
 void zeldorgacs_close(zg_handle *handle);
 
-/* What stands for the samples where there are none, so that the archive is given no null pointer. */
+/* What stands for the samples if there are none, so that the archive is given no null pointer. */
 static inline int16_t *zg_no_samples(void)
 {
     static int16_t none[2];
@@ -252,7 +252,7 @@ static inline void zg_client_close(zg_client *client)
 /*
  * Reads as many frames as there are, up to so many: how many (obtainBuffer, and releaseBuffer). 0 if there are none, or frames is 0. What stands
  * in samples behind them stays. A flush is noticed first: then this call reads none, and *flushed says how many frames it discarded, and else -1.
- * flushed may be null. It stays where the call is refused.
+ * flushed may be null. It stays if the call is refused.
  * ZG_E_CORRUPT, ZG_E_HANDLE; ZG_E_ARGUMENT if samples is null and frames isn't 0.
  */
 static inline int64_t zg_server_read(zg_server *server, int16_t *samples, size_t frames, int64_t *flushed)

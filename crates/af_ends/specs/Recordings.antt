@@ -34,12 +34,12 @@ pub record IsOpenedRecord (frames : ℕ) (c : CaptureEndState) (l : ListenerEndS
   pub none_supplied : CameBy [] c.capture
   pub none_read : ReadBy [] l.listener
 
--- how many frames were put
+-- how many frames were put, by the answer of a supply
 abbrev pub put_in : Result Supplied EndError → ℕ
 put_in (Ok supplied) = supplied.put
 put_in (Err e) = 0
 
--- These frames were supplied: the first ones are put and the others lost. Some are lost exactly if the last look showed that no frame may be put
+-- These frames were supplied: the first ones are put and the others lost. Some frames are lost exactly if the last look showed that no frame may be put
 pub record HasSupplied (c : CaptureState) (frames : List Frame) (s : Supplied) (d : CaptureState) : Type 0 where
   pub sum : s.put + s.lost ≡ length frames
   pub put : d.pass.part.frames ≡ c.pass.part.frames ++ map packed_word (take s.put frames)
@@ -48,7 +48,7 @@ pub record HasSupplied (c : CaptureState) (frames : List Frame) (s : Supplied) (
   pub looked : LooksFirst c.pass.part.events d.pass.part.events
   pub history : (supplies : List Supply) → CameBy supplies c → CameBy (supplies ++ supply_of frames s.put ∷ []) d
 
--- A supply, by its answer. With no frames it does nothing
+-- A supply, by its answer. A supply of no frames does nothing
 abbrev pub Supplies : CaptureState → List Frame → Result Supplied EndError → CaptureState → Type 0
 Supplies c frames (Ok s) d =
     ((length frames ≡ 0) × (s.put ≡ 0) × (s.lost ≡ 0) × (d ≡ c))
@@ -59,7 +59,7 @@ Supplies c frames (Err Memory) d = ⊥
 Supplies c frames (Err Dead) d = ⊥
 Supplies c frames (Err Corrupt) d = ⊥
 
--- A read to so many places, by its answer: it looks for so many frames, and no more than 1,024, and takes what it finds. With no places it does nothing
+-- A read to so many places, by its answer: it looks for so many frames, and no more than 1,024, and takes what it finds. A read to no places does nothing
 abbrev pub Listens : ListenerState → ℕ → Result ℕ EndError → ListenerState → Type 0
 Listens l places (Ok count) m =
     ((places ≡ 0) × (count ≡ 0) × (m ≡ l))
@@ -75,13 +75,13 @@ pub record RecordedState : Type 0 where
   pub capture : CaptureState
   pub listener : ListenerState
 
--- the end that reads is as it was, and each has learnt the list of the other
+-- two ends of a recording have met: the end that reads is as it was, and each has learnt the list of the other
 abbrev pub RecordHasMet : ListenerState → RecordedState → Type 0
 RecordHasMet before r =
     (events : List ClientEvent)
     × (r.capture.pass.part.events ≡ events ++ client_event.Learn (length before.pass.part.events) ∷ [])
     × (r.listener ≡ (record before { pass = record before.pass { part = server_did before.pass.part (server_event.Learn (length events)) } }))
 
--- the lists of both have a history of a recording for so many frames
+-- the lists of both ends have a history of a recording for so many frames
 abbrev pub RecordHistory : ℕ → RecordedState → Type 0
 RecordHistory frames r = HasTapeHistory frames r.capture.pass.part.events r.capture.pass.part.frames r.listener.pass.part.events r.listener.pass.part.frames

@@ -34,13 +34,13 @@ pub record IsOpenedStatic (frames : List Frame) (s : SetterEndState) (p : Player
 
 -- ## Setting
 
--- the three numbers were set, under the next number
+-- a setting was made of these three numbers, under the next number
 pub record HasSet (s : ends.Sets) (start end count number : ℕ) (t : ends.Sets) : Type 0 where
   pub cell : t.cell ≡ s.cell
   pub list : t.events ≡ s.events ++ writes.Store (record { number = number; start = start; end = end; count = count }) ∷ []
   pub number_is : number ≡ stores s.events + 1
 
--- a setting, by its answer
+-- a call that sets, by its answer
 abbrev pub Sets : ends.Sets → (start end count : ℕ) → Result ℕ EndError → ends.Sets → Type 0
 Sets s start end count (Ok number) t = (stores s.events < 2 ^ 63) × HasSet s start end count number t
 Sets s start end count (Err Limit) t = (2 ^ 63 ≤ stores s.events) × (t ≡ s)
@@ -51,7 +51,7 @@ Sets s start end count (Err Corrupt) t = ⊥
 
 -- ## Playing
 
--- A call of so many places played: it loaded the newest setting, unless an invalid one had shut the player, and went on from the head under it
+-- A call of so many places played: it loaded the newest setting, unless an invalid one had shut the player, and went on from the head under that setting
 pub record HasMixed (frames : List Frame) (gains : ℕ × ℕ) (p : ends.Plays) (places : ℕ) (out : List Frame) (told : Unrolled) (q : ends.Plays) : Type 0 where
   pub load : is_valid p.size p.setting ≡ true → (n : ℕ) × (q.events ≡ p.events ++ reads.Load n q.setting ∷ [])
   pub shut : is_valid p.size p.setting ≡ false → q ≡ p
@@ -61,7 +61,7 @@ pub record HasMixed (frames : List Frame) (gains : ℕ × ℕ) (p : ends.Plays) 
   pub played : (calls : List Call) (played : List Frame) (count : ℕ) → HasPlayed frames calls played count p
       → let call : Call = record { setting = q.setting; gains = gains; places = places } in HasPlayed frames (calls ++ call ∷ []) (played ++ out) (count + told.filled) q
 
--- a call that plays, by its answer. A refused one leaves all as it was
+-- a call that plays, by its answer. A refused call leaves all as it was
 abbrev pub Plays : List Frame → ℕ × ℕ → ends.Plays → List Frame → Result Unrolled EndError → List Frame → ends.Plays → Type 0
 Plays frames gains p out (Ok told) out' q = (1 ≤ length out) × (length out ≤ 1024) × HasMixed frames gains p (length out) out' told q
 Plays frames gains p out (Err Argument) out' q = ((length out ≡ 0) ⊎ (1024 < length out)) × (out' ≡ out) × (q ≡ p)
@@ -77,7 +77,7 @@ pub record PlayedState : Type 0 where
   pub setter : ends.Sets
   pub player : ends.Plays
 
--- the end that plays is as it was, and each has learnt the list of the other
+-- two ends of a static buffer have met: the end that plays is as it was, and each has learnt the list of the other
 abbrev pub StaticHasMet : ends.Plays → PlayedState → Type 0
 StaticHasMet before m =
     (events : List (WriterEvent Setting))

@@ -37,7 +37,7 @@ impl Lived {
         self.client.released()
     }
 
-    /// How many frames the server took and discarded, up to 2^63 - 1.
+    /// How many frames the server took and discarded together, up to 2^63 - 1.
     pub fn consumed(&self) -> u64
         ensures { result ≡ self.now.server.consumed }
     {
@@ -45,7 +45,7 @@ impl Lived {
     }
 }
 
-// Both meet.
+// The two ends of a stream meet.
 fn meet_in<L: Ledger>(blank: Blank, block: &Block, client: &mut Client, server: &mut Server)
     requires ledger { (blank.name ≡ L.name) × (blank.parts ≡ L.parts) × (0 < blank.parts) }
     requires client { IsStreamClient block.now client.old }
@@ -62,7 +62,7 @@ fn meet_in<L: Ledger>(blank: Blank, block: &Block, client: &mut Client, server: 
 }
 
 impl StreamClient {
-    /// Closes this end. Its list is left with the stream, for the server's end.
+    /// Closes the client's end. Its list is left with the stream, for the server's end. No refusal comes.
     pub fn close(self) {
         let StreamClient { stream, client } = self;
         stream.park(ParkedClient { client });
@@ -70,9 +70,9 @@ impl StreamClient {
 }
 
 impl StreamServer {
-    /// Closes this end after the client's: the two meet, and the stream is freed. If the client's end isn't closed, this one is given back as it is.
+    /// Closes the server's end after the client's: the two meet, and the stream is freed. If the client's end isn't closed, the server's end is given back as it is.
     ///
-    /// The client never poked. Whatever the order in which their steps came, their lists have a history: the frames taken are those released at their positions. If nothing was discarded, they are a beginning of those released. What a look discarded was released before the flush that it saw, and all that was released before that flush is taken or discarded. No look found front and rear that do not fit the block.
+    /// The client never poked. Whatever the order in which the steps of the two came, their lists have a history: the frames taken are those released at their positions. If nothing was discarded, the frames taken are a beginning of those released. What a look discarded was released before the flush that it saw, and all that was released before that flush is taken or discarded. No look found front and rear that do not fit the block.
     pub fn close(self) -> Result<Lived, StreamServer>
         ensures open { IfErr result (λ s. s ≡ self) }
         ensures client { IfOk result (λ l. IsStreamClient self.block l.client) }
@@ -94,7 +94,7 @@ impl StreamServer {
 
 /// Closes both ends of a stream, which meet then. If they are not of one stream, the client's end is closed and the server's end given back as it is.
 ///
-/// What holds of the stream's whole life then is what `StreamServer::close` says.
+/// `StreamServer::close` says what holds then of the stream's whole life.
 pub fn close(client: StreamClient, server: StreamServer) -> Result<Lived, StreamServer>
     ensures open { IfErr result (λ s. s ≡ server) }
     ensures client { IfOk result (λ l. IsStreamClient server.block l.client) }

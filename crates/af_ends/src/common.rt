@@ -4,7 +4,7 @@ ghost use Rattle.std.specs.Prelude.{◌≡◌, IfSome};
 use counted_slot::{Counted, FREE, Fits, PRESENT, TAKEN};
 use std::marker::Model;
 
-/// What two ends share, and a place in which one of them is left when it is closed. Contracts see what is shared.
+/// What two ends share, and a place in which one of the two is left when it is closed. Contracts see what is shared.
 #[derive(Drop)]
 pub struct Common<X: Fits> {
     what: X::Tag,
@@ -22,7 +22,7 @@ impl<X: Fits> Model for Common<X> {
 }
 
 impl<X: Fits + Drop> Common<X> {
-    /// Shared by two ends that are both open.
+    /// What is shared by two ends that are both open.
     pub fn new(what: X::Tag) -> Common<X>
         ensures { result ≡ what }
     {
@@ -37,7 +37,7 @@ impl<X: Fits + Drop> Common<X> {
         &self.what
     }
 
-    /// Leaves an end in its place, unless there is one.
+    /// Leaves an end in the place, unless an end is there.
     pub fn park(&self, end: X)
         requires { X.fits self.now end }
     {
@@ -49,7 +49,7 @@ impl<X: Fits + Drop> Common<X> {
         }
     }
 
-    /// Takes the end that was left in its place, if there is one: it is one of what is shared here.
+    /// Takes the end that was left in the place, if there is one: it is an end of what is shared here.
     pub fn parked(&self) -> Option<X>
         ensures { IfSome result (λ end. X.fits self.now end) }
     {

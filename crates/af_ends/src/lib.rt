@@ -1,4 +1,4 @@
-//! The ends that a program links. Each owns its proxy and a share of what it works on, and each call is total: it tests at run time what the calls below it require, and refuses otherwise.
+//! The ends that a program links. Each owns its proxy and a share of what it works on. Each call is total: it tests at run time what the calls below it require, and refuses otherwise.
 #![tactic(auto)]
 
 mod closing;

@@ -42,7 +42,7 @@ impl Fits for ParkedCapture {
 
 /// The end of a recording that supplies frames, with a share of the block: it puts what there is room for, and loses and counts the rest.
 ///
-/// Contracts see the block, and the end that does the work. No call takes memory or waits. That it may be sent to another thread is not proved yet.
+/// Contracts see the block, and the end that does the work. No call takes memory or waits. That this end may be sent to another thread is not proved yet.
 #[derive(Drop)]
 pub struct CaptureEnd {
     pub(crate) recording: Arc<Common<ParkedCapture>, Global>,
@@ -64,7 +64,7 @@ impl Model for CaptureEnd {
 
 /// The end of a recording from which frames are read, with a share of the block.
 ///
-/// Contracts see the block, and the end that does the work. No call takes memory or waits. That it may be sent to another thread is not proved yet.
+/// Contracts see the block, and the end that does the work. No call takes memory or waits. That this end may be sent to another thread is not proved yet.
 #[derive(Drop)]
 pub struct ListenerEnd {
     pub(crate) recording: Arc<Common<ParkedCapture>, Global>,
@@ -102,7 +102,7 @@ fn make(alloc: Global, frames: u32) -> Result<(CaptureEnd, ListenerEnd), Memory>
 
 /// Opens a recording for `frames` frames, 1 to 8192: its two ends, which have done nothing.
 ///
-/// Argument exactly if `frames` is outside that range. Memory if it is out of memory.
+/// Argument exactly if `frames` is outside that range. Memory if an allocation was refused.
 pub fn open_record(alloc: Global, frames: u32) -> Result<(CaptureEnd, ListenerEnd), EndError>
     ensures opened { IfOk result (λ r. IsOpenedRecord frames r.0 r.1) }
     ensures size { IfOk result (λ r. (1 ≤ frames) × (frames ≤ 8192)) }
@@ -117,7 +117,7 @@ pub fn open_record(alloc: Global, frames: u32) -> Result<(CaptureEnd, ListenerEn
     }
 }
 
-// One supply.
+// Supplies the frames of one call.
 fn supply_in<L: Ledger>(
     blank: Blank,
     block: &Block,
@@ -135,7 +135,7 @@ fn supply_in<L: Ledger>(
     capture.supply(block, frames, &mut steps)
 }
 
-// One read.
+// Reads to the places of one call.
 fn read_in<L: Ledger>(
     blank: Blank,
     block: &Block,
@@ -158,7 +158,7 @@ fn read_in<L: Ledger>(
     listener.read(block, out, &mut steps)
 }
 
-// Both meet.
+// The two ends of a recording meet.
 fn meet_in<L: Ledger>(blank: Blank, block: &Block, capture: &mut Capture, listener: &mut Listener)
     requires ledger { (blank.name ≡ L.name) × (blank.parts ≡ L.parts) × (0 < blank.parts) }
     requires from { capture_made capture.old ≡ block.now }
@@ -174,9 +174,9 @@ fn meet_in<L: Ledger>(blank: Blank, block: &Block, capture: &mut Capture, listen
 }
 
 impl CaptureEnd {
-    /// Supplies these frames, up to 1024: as many of the first as there is room for are put, and the rest is lost and counted. With none it does nothing.
+    /// Supplies these frames, up to 1024: as many of the first as there is room for are put, and the rest is lost and counted. Without frames the call does nothing.
     ///
-    /// Argument exactly if there are more. Limit if there aren't, but more than 2^62 frames would be supplied in all. No other refusal comes.
+    /// Argument exactly if there are more than 1024 frames. Limit exactly if there are no more, but more than 2^62 frames would be supplied in all. No other refusal comes.
     pub fn supply(&mut self, frames: &[Frame]) -> Result<Supplied, EndError>
         ensures block { self.new.block ≡ self.old.block }
         ensures answer { Supplies self.old.capture frames.now result self.new.capture }
@@ -205,7 +205,7 @@ impl CaptureEnd {
         self.capture.supplied()
     }
 
-    /// How many of them were lost.
+    /// How many of the frames supplied were lost.
     pub fn overrun(&self) -> u64
         ensures value { result ≡ self.now.capture.overrun }
         ensures rest { self.now.capture.supplied ≡ length self.now.capture.pass.part.frames + result }
@@ -213,7 +213,7 @@ impl CaptureEnd {
         self.capture.overrun()
     }
 
-    /// Closes this end. Its list is left with the recording, for the other end.
+    /// Closes the end that supplies. Its list is left with the recording, for the end that reads. No refusal comes.
     pub fn close(self) {
         let CaptureEnd { recording, capture } = self;
         recording.park(ParkedCapture { capture });
@@ -221,7 +221,7 @@ impl CaptureEnd {
 }
 
 impl ListenerEnd {
-    /// Reads as many frames as are there and `out` has places for, up to 1024, to the front of `out`, and answers how many. The rest of `out` stays. With no places it does nothing.
+    /// Reads as many frames as are there and `out` has places for, up to 1024, to the front of `out`, and answers how many. The rest of `out` stays. Without places the call does nothing.
     ///
     /// Limit exactly if there are places, and 2^62 frames were read before. No other refusal comes.
     pub fn read(&mut self, out: &mut [Frame]) -> Result<u32, EndError>
@@ -255,9 +255,9 @@ impl ListenerEnd {
         self.listener.total()
     }
 
-    /// Closes this end after the other: the two meet, and the recording is freed. If the other end isn't closed, this one is given back as it is.
+    /// Closes the end that reads after the end that supplies: the two meet, and the recording is freed. If the end that supplies isn't closed, the end that reads is given back as it is.
     ///
-    /// Whatever the order in which their steps came, the frames read are a beginning of those put: each supplied frame was read once in its order, is still queued, or was lost and counted. No flags seen had INVALID, no flush was seen, nothing was dropped, and neither end was shut.
+    /// Whatever the order in which the steps of the two came, the frames read are a beginning of those put: each supplied frame was read once in its order, is still queued, or was lost and counted. No flags seen had INVALID, no flush was seen, nothing was dropped, and neither end was shut.
     pub fn close(self) -> Result<Recorded, ListenerEnd>
         ensures open { IfErr result (λ l. l ≡ self) }
         ensures from { IfOk result (λ r. capture_made r.capture ≡ self.block) }
@@ -302,7 +302,7 @@ impl Recorded {
         self.capture.supplied()
     }
 
-    /// How many of them were lost.
+    /// How many of the frames supplied were lost.
     pub fn overrun(&self) -> u64
         ensures { result ≡ self.now.capture.overrun }
     {

@@ -41,7 +41,7 @@ impl Fits for ParkedSetter {
 
 /// The end of a static buffer that sets loops, with a share of the buffer.
 ///
-/// Contracts see the cell of the settings and the frames, and the end that does the work. No call takes memory or waits. That it may be sent to another thread is not proved yet.
+/// Contracts see the cell of the settings and the frames, and the end that does the work. No call takes memory or waits. That this end may be sent to another thread is not proved yet.
 #[derive(Drop)]
 pub struct SetterEnd {
     pub(crate) buffer: Arc<Common<ParkedSetter>, Global>,
@@ -64,7 +64,7 @@ impl Model for SetterEnd {
 
 /// The end of a static buffer that plays, with a share of the buffer.
 ///
-/// Contracts see the cell of the settings and the frames, and the end that does the work. No call takes memory or waits. That it may be sent to another thread is not proved yet.
+/// Contracts see the cell of the settings and the frames, and the end that does the work. No call takes memory or waits. That this end may be sent to another thread is not proved yet.
 #[derive(Drop)]
 pub struct PlayerEnd {
     pub(crate) buffer: Arc<Common<ParkedSetter>, Global>,
@@ -105,7 +105,7 @@ fn make(alloc: Global, frames: &[Frame]) -> Result<(SetterEnd, PlayerEnd), Memor
 
 /// Opens a static buffer of these frames, 1 to 8192, which are copied: its two ends, which have done nothing.
 ///
-/// Argument exactly if their number is outside that range. Memory if it is out of memory.
+/// Argument exactly if the number of frames is outside that range. Memory if an allocation was refused.
 pub fn open_static(alloc: Global, frames: &[Frame]) -> Result<(SetterEnd, PlayerEnd), EndError>
     ensures opened { IfOk result (λ r. IsOpenedStatic frames.now r.0 r.1) }
     ensures size { IfOk result (λ r. (1 ≤ length frames.now) × (length frames.now ≤ 8192)) }
@@ -120,7 +120,7 @@ pub fn open_static(alloc: Global, frames: &[Frame]) -> Result<(SetterEnd, Player
     }
 }
 
-// One setting.
+// Makes one setting.
 fn set_in<L: Ledger>(
     blank: Blank,
     shared: &Shared,
@@ -137,7 +137,7 @@ fn set_in<L: Ledger>(
     setter.set(shared, numbers.0, numbers.1, numbers.2, &mut steps)
 }
 
-// One call that plays.
+// Plays to the places of one call.
 fn play_in<L: Ledger>(
     blank: Blank,
     shared: &Shared,
@@ -155,7 +155,7 @@ fn play_in<L: Ledger>(
     player.mix_next(shared, gains, out, &mut steps)
 }
 
-// Both meet.
+// The two ends of a static buffer meet.
 fn meet_in<L: Ledger>(blank: Blank, shared: &Shared, setter: &mut Setter, player: &mut Player)
     requires ledger { (blank.name ≡ L.name) × (blank.parts ≡ L.parts) × (0 < blank.parts) }
     requires together { (setter.old.cell ≡ shared.now.cell) × (player.old.cell ≡ shared.now.cell) }
@@ -169,7 +169,7 @@ fn meet_in<L: Ledger>(blank: Blank, shared: &Shared, setter: &mut Setter, player
 }
 
 impl SetterEnd {
-    /// Sets the start, end and count of a loop, of whatever numbers, in place of those set before, and answers the setting's number, from 1.
+    /// Sets the start, end (both in frames) and count of a loop, in place of those set before, and answers the setting's number, from 1. Any numbers are taken.
     ///
     /// Limit exactly if 2^63 settings were made before. No other refusal comes.
     pub fn set(&mut self, start: u32, end: u32, count: u32) -> Result<u64, EndError>
@@ -189,7 +189,7 @@ impl SetterEnd {
         Ok(number)
     }
 
-    /// Closes this end. Its list is left with the buffer, for the other end.
+    /// Closes the end that sets. Its list is left with the buffer, for the end that plays. No refusal comes.
     pub fn close(self) {
         let SetterEnd { buffer, setter, .. } = self;
         buffer.park(ParkedSetter { setter });
@@ -197,7 +197,7 @@ impl SetterEnd {
 }
 
 impl PlayerEnd {
-    /// Plays the next frames of the buffer to 1 to 1024 places, by the newest setting, at these gains. An invalid setting shuts the player for good, and the answer tells it: it plays silence from then on.
+    /// Plays the next frames of the buffer to 1 to 1024 places, by the newest setting, at these gains. An invalid setting shuts the player for good, and the answer says so. A player that is shut plays silence.
     ///
     /// Argument exactly if there are no places, or more than 1024. No other refusal comes.
     pub fn play(&mut self, gains: Gains, out: &mut [Frame]) -> Result<Unrolled, EndError>
@@ -216,9 +216,9 @@ impl PlayerEnd {
         ))
     }
 
-    /// Closes this end after the other: the two meet, and the buffer is freed. If the other end isn't closed, this one is given back as it is.
+    /// Closes the end that plays after the end that sets: the two meet, and the buffer is freed. If the end that sets isn't closed, the end that plays is given back as it is.
     ///
-    /// Whatever the order in which their steps came, the two lists have a history: each call has used the last setting made before it, whole, and no older one than a call before it. What all calls have played stays as it was.
+    /// Whatever the order in which the steps of the two came, their lists have a history: each call has used the last setting made before it, whole, and no older one than a call before it. What all calls have played stays as it was.
     pub fn close(self) -> Result<Played, PlayerEnd>
         ensures open { IfErr result (λ p. p ≡ self) }
         ensures met { IfOk result (λ m. StaticHasMet self.player m) }

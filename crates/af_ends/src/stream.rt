@@ -15,7 +15,7 @@ use counted_slot::Fits;
 use std::alloc::Global;
 use std::sync::Arc;
 
-/// How many frames a stream, a recording or a static buffer may have.
+/// How many frames a stream, a recording or a static buffer may have at most.
 pub const MOST_FRAMES: u32 = 8192;
 
 /// The client of a stream, once its end is closed.
@@ -52,7 +52,7 @@ fn make(alloc: Global, frames: u32) -> Result<(StreamClient, StreamServer), Memo
 
 /// Opens a stream for `frames` frames, 1 to 8192: its two ends, which have done nothing.
 ///
-/// Argument exactly if `frames` is outside that range. Memory if it is out of memory.
+/// Argument exactly if `frames` is outside that range. Memory if an allocation was refused.
 pub fn open_stream(alloc: Global, frames: u32) -> Result<(StreamClient, StreamServer), EndError>
     ensures opened { IfOk result (λ r. IsOpened frames r.0 r.1) }
     ensures size { IfOk result (λ r. (1 ≤ frames) × (frames ≤ 8192)) }

@@ -19,15 +19,15 @@ use std::marker::{Brand, Model};
 use std::sync::Arc;
 use std::sync::ledger::{Blank, Ledger};
 
-/// How many frames a client releases at most.
+/// Once a client has released so many frames, it writes no more.
 const MOST_RELEASED: u64 = 0x4000_0000_0000_0000;
 
-/// The gain of unity.
+/// The gain of unity, in 4.12.
 const UNITY: u16 = 0x1000;
 
 /// The end of a stream that writes: AOSP's `AudioTrackClientProxy`, with a share of the control block.
 ///
-/// Contracts see the block, and the proxy with the list of all that it did and the frames that it released. It pokes never, so no call of it answers Corrupt. No call takes memory or waits. That it may be sent to another thread is not proved yet.
+/// Contracts see the block, and the proxy with the list of all that it did and the frames that it released. This end never pokes, so no call of it answers Corrupt. No call takes memory or waits. That this end may be sent to another thread is not proved yet.
 #[derive(Drop)]
 pub struct StreamClient {
     pub(crate) stream: Arc<Common<ParkedClient>, Global>,
@@ -45,7 +45,7 @@ impl Model for StreamClient {
     ghost invariant = { λ e. IsStreamClient (arc_value e.stream) e.client };
 }
 
-// What an end tells of a write.
+// The answer of an end, by what its proxy wrote.
 fn told(wrote: Wrote) -> Result<u32, EndError>
     ensures { result ≡ told wrote }
 {
@@ -57,6 +57,7 @@ fn told(wrote: Wrote) -> Result<u32, EndError>
     }
 }
 
+// Writes the first of these frames.
 fn write_in<L: Ledger>(
     blank: Blank,
     block: &Block,
@@ -76,6 +77,7 @@ fn write_in<L: Ledger>(
     told(client.write(block, frames, &mut steps))
 }
 
+// Asks for one flush.
 fn flush_in<L: Ledger>(blank: Blank, block: &Block, client: &mut Client) -> u32
     requires ledger { (blank.name ≡ L.name) × (blank.parts ≡ L.parts) × (0 < blank.parts) }
     requires ready { IsStreamClient block.now client.old }
@@ -87,6 +89,7 @@ fn flush_in<L: Ledger>(blank: Blank, block: &Block, client: &mut Client) -> u32
     client.flush(block, &mut steps)
 }
 
+// Sets the word of two gains.
 fn gains_in<L: Ledger>(blank: Blank, block: &Block, client: &mut Client, word: u32)
     requires ledger { (blank.name ≡ L.name) × (blank.parts ≡ L.parts) × (0 < blank.parts) }
     requires ready { IsStreamClient block.now client.old }
@@ -98,6 +101,7 @@ fn gains_in<L: Ledger>(blank: Blank, block: &Block, client: &mut Client, word: u
     client.set_gains(block, word, &mut steps);
 }
 
+// Loads the status word.
 fn status_in<L: Ledger>(blank: Blank, block: &Block, client: &mut Client) -> u32
     requires ledger { (blank.name ≡ L.name) × (blank.parts ≡ L.parts) × (0 < blank.parts) }
     requires ready { IsStreamClient block.now client.old }
@@ -109,6 +113,7 @@ fn status_in<L: Ledger>(blank: Blank, block: &Block, client: &mut Client) -> u32
     client.status(block, &mut steps)
 }
 
+// Clears DISABLED, and answers the flags before.
 fn clear_in<L: Ledger>(blank: Blank, block: &Block, client: &mut Client) -> u32
     requires ledger { (blank.name ≡ L.name) × (blank.parts ≡ L.parts) × (0 < blank.parts) }
     requires ready { IsStreamClient block.now client.old }
@@ -120,7 +125,7 @@ fn clear_in<L: Ledger>(blank: Blank, block: &Block, client: &mut Client) -> u32
     client.clear_disabled(block, &mut steps)
 }
 
-// How many flushes a client of this block may ask for.
+// How many flushes a client of this block may ask for in all.
 fn flush_room(block: &Block) -> u32
     ensures { result ≡ most_flushes block.now.shape.wrap }
 {
@@ -134,7 +139,7 @@ fn flush_room(block: &Block) -> u32
 impl StreamClient {
     /// Releases the first of these frames, as many as there is room for before the last cell, and answers how many: 0 if the block is full, or there are none to write. The rest can be written by a second call, after the wrap.
     ///
-    /// Limit exactly if there are frames to write, and 2^62 were released before. Dead exactly if INVALID is seen: the list tells that look, and nothing else changes. No other refusal comes.
+    /// Limit exactly if there are frames to write, and 2^62 were released before. Dead exactly if INVALID is seen: that look is added to the list, and nothing else changes. No other refusal comes.
     pub fn write(&mut self, frames: &[Frame]) -> Result<u32, EndError>
         ensures block { self.new.block ≡ self.old.block }
         ensures answer { Writes self.old.client (length frames.now) result self.new.client }
@@ -153,7 +158,7 @@ impl StreamClient {
 
     /// Asks the server to discard the frames released so far, and no later ones, and answers how many flushes were asked for.
     ///
-    /// Limit exactly if there were as many flushes as flush words can tell apart: 2^32 divided by four times the cells, less one.
+    /// Limit exactly if as many flushes were asked for before as flush words can distinguish: 2^32 divided by four times the cells, less one. No other refusal comes.
     pub fn flush(&mut self) -> Result<u32, EndError>
         ensures block { self.new.block ≡ self.old.block }
         ensures flushes { Flushes self.old.block self.old.client result self.new.client }
@@ -164,9 +169,9 @@ impl StreamClient {
         Ok(flush_in::<Brand>(Blank::new(1), self.stream.what(), &mut self.client))
     }
 
-    /// Sets the gains of the two sides, each in 4.12, from 0 to unity (0x1000).
+    /// Sets the gains of the left and the right side, each in 4.12, from 0 to unity (0x1000).
     ///
-    /// Argument exactly if one is above unity.
+    /// Argument exactly if a gain is above unity. No other refusal comes.
     pub fn set_gains(&mut self, left: u16, right: u16) -> Result<(), EndError>
         ensures block { self.new.block ≡ self.old.block }
         ensures sets { SetsGains self.old.client left right result self.new.client }
@@ -179,7 +184,7 @@ impl StreamClient {
         Ok(())
     }
 
-    /// The status word that the server stored last, 0 before any.
+    /// The status word that the server stored last, 0 if it stored none.
     pub fn status(&mut self) -> u32
         ensures block { self.new.block ≡ self.old.block }
         ensures saw { self.new.client.pass.part ≡ client_did self.old.client.pass.part (client_event.SawStatus result) }

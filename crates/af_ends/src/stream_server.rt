@@ -23,7 +23,7 @@ use std::sync::ledger::{Blank, Ledger};
 
 /// The end of a stream that reads: AOSP's `AudioTrackServerProxy`, with a share of the control block.
 ///
-/// Contracts see the block, and the proxy with the list of all that it did and the frames that it took. No call takes memory or waits. That it may be sent to another thread is not proved yet.
+/// Contracts see the block, and the proxy with the list of all that it did and the frames that it took. No call takes memory or waits. That this end may be sent to another thread is not proved yet.
 #[derive(Drop)]
 pub struct StreamServer {
     pub(crate) stream: Arc<Common<ParkedClient>, Global>,
@@ -48,7 +48,7 @@ pub struct Found {
     pub flushed: Option<u32>,
 }
 
-// What an end tells of a look.
+// The answer of an end, by what its proxy saw in a look.
 fn found_by(seen: Seen) -> Result<Found, EndError>
     ensures { result ≡ found_by seen }
 {
@@ -69,7 +69,7 @@ fn found_by(seen: Seen) -> Result<Found, EndError>
     }
 }
 
-// Takes the frames that a look showed, if there are some, to the front of `out`.
+// Takes the frames that a look showed, if it showed some, to the front of `out`.
 fn take_shown<L: Ledger>(
     block: &Block,
     server: &mut Server,
@@ -93,7 +93,7 @@ fn take_shown<L: Ledger>(
     }
 }
 
-// A look for frames, and a take of what it shows.
+// Looks for frames, and takes what the look shows.
 fn read_in<L: Ledger>(
     blank: Blank,
     block: &Block,
@@ -117,6 +117,7 @@ fn read_in<L: Ledger>(
     found_by(look.seen)
 }
 
+// Looks for frames, and takes none.
 fn available_in<L: Ledger>(
     blank: Blank,
     block: &Block,
@@ -133,6 +134,7 @@ fn available_in<L: Ledger>(
     found_by(server.look(block, block.frames(), &mut steps).seen)
 }
 
+// Loads the word of two gains.
 fn gains_in<L: Ledger>(blank: Blank, block: &Block, server: &mut Server) -> u32
     requires ledger { (blank.name ≡ L.name) × (blank.parts ≡ L.parts) × (0 < blank.parts) }
     requires ready { IsStreamServer block.now server.old }
@@ -143,6 +145,7 @@ fn gains_in<L: Ledger>(blank: Blank, block: &Block, server: &mut Server) -> u32
     server.gains(block, &mut steps)
 }
 
+// Counts frames as missing, and sets UNDERRUN.
 fn tally_in<L: Ledger>(blank: Blank, block: &Block, server: &mut Server, missing: u32)
     requires ledger { (blank.name ≡ L.name) × (blank.parts ≡ L.parts) × (0 < blank.parts) }
     requires ready { IsStreamServer block.now server.old }
@@ -154,6 +157,7 @@ fn tally_in<L: Ledger>(blank: Blank, block: &Block, server: &mut Server, missing
     server.tally(block, missing, &mut steps);
 }
 
+// Sets these bits of the flags.
 fn flags_in<L: Ledger>(blank: Blank, block: &Block, server: &mut Server, bits: u32)
     requires ledger { (blank.name ≡ L.name) × (blank.parts ≡ L.parts) × (0 < blank.parts) }
     requires ready { IsStreamServer block.now server.old }
@@ -164,6 +168,7 @@ fn flags_in<L: Ledger>(blank: Blank, block: &Block, server: &mut Server, bits: u
     server.set_flags(block, bits, &mut steps);
 }
 
+// Stores the status word.
 fn status_in<L: Ledger>(blank: Blank, block: &Block, server: &mut Server, word: u32)
     requires ledger { (blank.name ≡ L.name) × (blank.parts ≡ L.parts) × (0 < blank.parts) }
     requires ready { IsStreamServer block.now server.old }
@@ -175,11 +180,11 @@ fn status_in<L: Ledger>(blank: Blank, block: &Block, server: &mut Server, word: 
 }
 
 impl StreamServer {
-    /// Takes as many frames as are there and `out` has places for, to the front of `out`, and answers how many. The rest of `out` stays. With no places it does nothing.
+    /// Takes as many frames as are there and `out` has places for, to the front of `out`, and answers how many. The rest of `out` stays. Without places the call does nothing.
     ///
-    /// A new flush is noticed first: then the frames that were released before it are discarded, and none are taken by this call.
+    /// A new flush is noticed first: then the frames that were released before it are discarded, and this call takes none.
     ///
-    /// Corrupt exactly if front and rear do not fit the block, in this call or in an earlier one. It never comes if the client is a `StreamClient`, as `close` shows.
+    /// Corrupt exactly if front and rear do not fit the block, in this call or in an earlier one. If the client is a `StreamClient`, that never comes, as `close` shows. No other refusal comes.
     pub fn read(&mut self, out: &mut [Frame]) -> Result<Found, EndError>
         ensures block { self.new.block ≡ self.old.block }
         ensures answer { Reads self.old.block self.old.server (length out.old) result self.new.server }
@@ -197,7 +202,7 @@ impl StreamServer {
         read_in::<Brand>(Blank::new(1), self.stream.what(), &mut self.server, out)
     }
 
-    /// How many frames are there, of which it takes none. It notices a flush as a read does, and is refused as a read is.
+    /// How many frames are there. The call takes none of them. It notices a flush as `read` does, and refuses as `read` does: Corrupt exactly if front and rear do not fit the block, in this call or in an earlier one.
     pub fn available(&mut self) -> Result<Found, EndError>
         ensures block { self.new.block ≡ self.old.block }
         ensures answer { Finds self.old.server self.old.block.shape.frames result [] self.new.server }
@@ -207,7 +212,7 @@ impl StreamServer {
         available_in::<Brand>(Blank::new(1), self.stream.what(), &mut self.server)
     }
 
-    /// The gains that the client set last, each clamped to unity.
+    /// The gains that the client set last, each in 4.12 and clamped to unity (0x1000).
     pub fn gains(&mut self) -> Gains
         ensures block { self.new.block ≡ self.old.block }
         ensures saw { (word : ℕ) × (self.new.server ≡ did self.old.server (server_event.SawGain word)) × (result ≡ (min (left_half word) 4096, min (right_half word) 4096)) }
@@ -218,7 +223,7 @@ impl StreamServer {
 
     /// Counts so many frames as missing, and sets UNDERRUN (0x01).
     ///
-    /// Argument exactly if there are none.
+    /// Argument exactly if `missing` is 0. No other refusal comes.
     pub fn tally(&mut self, missing: u32) -> Result<(), EndError>
         ensures block { self.new.block ≡ self.old.block }
         ensures tallied { Tallies self.old.server missing result self.new.server }
@@ -259,7 +264,7 @@ impl StreamServer {
         status_in::<Brand>(Blank::new(1), self.stream.what(), &mut self.server, word);
     }
 
-    /// How many frames were taken and discarded, up to 2^63 - 1.
+    /// How many frames were taken and discarded together, up to 2^63 - 1.
     pub fn consumed(&self) -> u64
         ensures value { result ≡ self.now.server.consumed }
         ensures list { result ≡ counted (server_kept_of self.now.server.pass.part).consumed }

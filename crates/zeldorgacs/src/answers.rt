@@ -1,11 +1,11 @@
-//! What C is answered.
+//! The answers that C gets.
 
 use af_ends::EndError;
 
-/// The handle is closed, or leads to an end of another kind.
+/// The answer if the handle is closed, or leads to an end of another kind.
 pub const NO_HANDLE: i64 = -3;
 
-/// The number of a refusal, as the header has it.
+/// The number of a refusal, as the header has it: -1, -2, -4, -5 or -6.
 pub fn refused(error: EndError) -> i64 {
     match error {
         EndError::Argument => -1,
@@ -16,7 +16,7 @@ pub fn refused(error: EndError) -> i64 {
     }
 }
 
-/// A count, or the number of a refusal.
+/// The answer of a call that counts: the count, or the number of a refusal.
 pub fn told(answer: Result<u32, EndError>) -> i64 {
     match answer {
         Ok(count) => i64::from(count),
@@ -24,7 +24,7 @@ pub fn told(answer: Result<u32, EndError>) -> i64 {
     }
 }
 
-/// 0, or the number of a refusal.
+/// The answer of a call that counts nothing: 0, or the number of a refusal.
 pub fn done(answer: Result<(), EndError>) -> i64 {
     match answer {
         Ok(()) => 0,
@@ -32,7 +32,7 @@ pub fn done(answer: Result<(), EndError>) -> i64 {
     }
 }
 
-/// A long count, up to 2^63 - 1.
+/// The answer of a call whose count has 64 bits: the count, or 2^63 - 1 if it is above that.
 pub fn counted(count: u64) -> i64 {
     count.min(0x7fff_ffff_ffff_ffff) as i64
 }

@@ -1,4 +1,4 @@
-//! The end of a recording that is supplied.
+//! The end of a recording that supplies frames.
 
 use crate::answers::{NO_HANDLE, counted, told};
 use crate::handle::Handle;
@@ -8,14 +8,16 @@ use crate::samples::{count_of, frames_of};
 use af_ends::{CaptureEnd, EndError};
 use std::alloc::Global;
 
-// Supplies the first of these samples: how many frames were put.
+// Supplies the frames of these samples, at most 1024 of them, and answers how many were put.
 fn supply(end: &mut CaptureEnd, samples: &[i16]) -> Result<u32, EndError> {
     let frames = frames_of(samples);
     let supplied = end.supply(&frames[..count_of(samples)])?;
     Ok(supplied.put)
 }
 
-/// Supplies the first of these samples, and loses what finds no room: how many frames were put, or a refusal.
+/// Supplies the first frames of these samples (left and right in turn), at most 1024, and loses and counts what finds no room.
+///
+/// Answers how many frames were put. -3 if the handle is closed or of another kind. -6 (limit) if more than 2^62 frames would be supplied in all. A refusal changes nothing.
 #[unsafe(no_mangle)]
 pub extern "C" fn zeldorgacs_capture_supply(
     alloc: Global,
@@ -33,7 +35,7 @@ pub extern "C" fn zeldorgacs_capture_supply(
     answer
 }
 
-/// How many frames were supplied, or a refusal.
+/// How many frames were supplied; or -3 if the handle is closed or of another kind.
 #[unsafe(no_mangle)]
 pub extern "C" fn zeldorgacs_capture_supplied(alloc: Global, capture: &mut Handle) -> i64 {
     let Some(mut kept) = taken(alloc, capture) else {
@@ -47,7 +49,7 @@ pub extern "C" fn zeldorgacs_capture_supplied(alloc: Global, capture: &mut Handl
     answer
 }
 
-/// How many of them were lost, or a refusal.
+/// How many of the frames supplied were lost; or -3 if the handle is closed or of another kind.
 #[unsafe(no_mangle)]
 pub extern "C" fn zeldorgacs_capture_overrun(alloc: Global, capture: &mut Handle) -> i64 {
     let Some(mut kept) = taken(alloc, capture) else {

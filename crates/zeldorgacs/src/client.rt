@@ -7,7 +7,9 @@ use crate::opened::{put, taken};
 use crate::samples::{count_of, frames_of};
 use std::alloc::Global;
 
-/// Writes the first of these samples, left and right in turn: how many frames were written, or a refusal.
+/// Writes the first frames of these samples (left and right in turn), at most 1024, as many as there is room for before the last cell.
+///
+/// Answers how many frames were written. -3 if the handle is closed or of another kind. -4 (dead) if INVALID is seen. -6 (limit) if there are frames to write, and 2^62 were released before. A refusal writes nothing.
 #[unsafe(no_mangle)]
 pub extern "C" fn zeldorgacs_client_write(
     alloc: Global,
@@ -28,7 +30,9 @@ pub extern "C" fn zeldorgacs_client_write(
     answer
 }
 
-/// Asks that what was written so far be discarded: how many times this was asked, or a refusal.
+/// Asks the server to discard the frames written so far.
+///
+/// Answers how many flushes were asked for. -3 if the handle is closed or of another kind. -6 (limit) if as many flushes were asked for before as flush words can distinguish. A refusal changes nothing.
 #[unsafe(no_mangle)]
 pub extern "C" fn zeldorgacs_client_flush(alloc: Global, client: &mut Handle) -> i64 {
     let Some(mut kept) = taken(alloc, client) else {
@@ -42,7 +46,9 @@ pub extern "C" fn zeldorgacs_client_flush(alloc: Global, client: &mut Handle) ->
     answer
 }
 
-/// Sets the gains, each in 4.12, up to unity: 0, or a refusal.
+/// Sets the gains of the left and the right side, each in 4.12, from 0 to unity (0x1000).
+///
+/// Answers 0. -1 (argument) if a gain is above unity. -3 if the handle is closed or of another kind. A refusal changes nothing.
 #[unsafe(no_mangle)]
 pub extern "C" fn zeldorgacs_client_set_gains(
     alloc: Global,
@@ -61,7 +67,7 @@ pub extern "C" fn zeldorgacs_client_set_gains(
     answer
 }
 
-/// The status word that the server stored last, or a refusal.
+/// The status word that the server stored last, 0 if it stored none; or -3 if the handle is closed or of another kind.
 #[unsafe(no_mangle)]
 pub extern "C" fn zeldorgacs_client_status(alloc: Global, client: &mut Handle) -> i64 {
     let Some(mut kept) = taken(alloc, client) else {
@@ -75,7 +81,7 @@ pub extern "C" fn zeldorgacs_client_status(alloc: Global, client: &mut Handle) -
     answer
 }
 
-/// Clears DISABLED: the flags before, or a refusal.
+/// Clears DISABLED (0x08), and answers the flags before; or -3 if the handle is closed or of another kind.
 #[unsafe(no_mangle)]
 pub extern "C" fn zeldorgacs_client_clear_disabled(alloc: Global, client: &mut Handle) -> i64 {
     let Some(mut kept) = taken(alloc, client) else {
@@ -89,7 +95,7 @@ pub extern "C" fn zeldorgacs_client_clear_disabled(alloc: Global, client: &mut H
     answer
 }
 
-/// How many frames were written, or a refusal.
+/// How many frames were written; or -3 if the handle is closed or of another kind.
 #[unsafe(no_mangle)]
 pub extern "C" fn zeldorgacs_client_released(alloc: Global, client: &mut Handle) -> i64 {
     let Some(mut kept) = taken(alloc, client) else {
@@ -103,7 +109,7 @@ pub extern "C" fn zeldorgacs_client_released(alloc: Global, client: &mut Handle)
     answer
 }
 
-/// How many flushes were asked for, or a refusal.
+/// How many flushes were asked for; or -3 if the handle is closed or of another kind.
 #[unsafe(no_mangle)]
 pub extern "C" fn zeldorgacs_client_flushes(alloc: Global, client: &mut Handle) -> i64 {
     let Some(mut kept) = taken(alloc, client) else {
@@ -117,7 +123,7 @@ pub extern "C" fn zeldorgacs_client_flushes(alloc: Global, client: &mut Handle) 
     answer
 }
 
-/// How many frames the stream may hold, or a refusal.
+/// How many frames the stream may hold; or -3 if the handle is closed or of another kind.
 #[unsafe(no_mangle)]
 pub extern "C" fn zeldorgacs_client_frames(alloc: Global, client: &mut Handle) -> i64 {
     let Some(mut kept) = taken(alloc, client) else {

@@ -1,4 +1,4 @@
-//! The ends of streams, recordings and static buffers, for C: thin exports over those of af_ends, each of which answers whatever its handle is.
+//! The ends of streams, recordings and static buffers, for C: thin exports over the ends of af_ends. Each export answers, whatever its handle is.
 #![tactic(auto)]
 
 mod answers;

@@ -8,7 +8,7 @@ use crate::samples::{count_of, put_frames, silence};
 use af_ends::{EndError, ListenerEnd};
 use std::alloc::Global;
 
-// Reads as many frames as there are and have room.
+// Reads as many frames as are there and have room in the samples, at most 1024.
 fn read(end: &mut ListenerEnd, samples: &mut [i16]) -> Result<u32, EndError> {
     let mut frames = silence();
     let most = count_of(samples);
@@ -17,7 +17,9 @@ fn read(end: &mut ListenerEnd, samples: &mut [i16]) -> Result<u32, EndError> {
     Ok(count)
 }
 
-/// Reads as many frames as there are and have room: how many, or a refusal.
+/// Reads as many frames as are there and have room in the samples (left and right in turn), at most 1024. The samples behind them stay.
+///
+/// Answers how many frames were read. -3 if the handle is closed or of another kind. -6 (limit) if there is room, and 2^62 frames were read before. A refusal changes nothing.
 #[unsafe(no_mangle)]
 pub extern "C" fn zeldorgacs_listener_read(
     alloc: Global,
@@ -35,7 +37,7 @@ pub extern "C" fn zeldorgacs_listener_read(
     answer
 }
 
-/// How many frames were read, or a refusal.
+/// How many frames were read; or -3 if the handle is closed or of another kind.
 #[unsafe(no_mangle)]
 pub extern "C" fn zeldorgacs_listener_total(alloc: Global, listener: &mut Handle) -> i64 {
     let Some(mut kept) = taken(alloc, listener) else {

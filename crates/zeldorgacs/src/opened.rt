@@ -1,4 +1,4 @@
-//! How a handle is opened for a call, and closed again behind it.
+//! How a call takes what a handle leads to, and puts it back.
 
 use crate::answers::refused;
 use crate::handle::Handle;
@@ -8,13 +8,13 @@ use af_ends::EndError;
 use std::alloc::Global;
 use std::mem::replace;
 
-/// What a handle led to, if it was open. It is closed.
+/// What a handle led to, if the handle was open. The handle is closed.
 pub fn taken(alloc: Global, handle: &mut Handle) -> Option<Box<Kept, Global>> {
     let loose = replace(handle, Handle::closed()).into_loose(alloc)?;
     Some(loose.into_box())
 }
 
-/// Has the handle lead to this. What it led to is closed.
+/// Has the handle lead to this end. The end that the handle led to is closed.
 pub fn put(alloc: Global, handle: &mut Handle, kept: Box<Kept, Global>) {
     let old = replace(handle, Handle::of(Loose::of(kept)));
     if let Some(loose) = old.into_loose(alloc) {
@@ -22,7 +22,7 @@ pub fn put(alloc: Global, handle: &mut Handle, kept: Box<Kept, Global>) {
     }
 }
 
-/// Closes an end. If the other end, which writes, supplies or sets, was closed before, the two meet.
+/// Closes an end. If it reads or plays, and the end that writes, supplies or sets was closed before it, the two meet.
 pub fn close(kept: Box<Kept, Global>) {
     let mut kept = kept;
     match replace(&mut *kept, Kept::Nothing) {
@@ -36,7 +36,7 @@ pub fn close(kept: Box<Kept, Global>) {
     }
 }
 
-/// Has two handles lead to two new ends: 0. If there is no memory for that, it does nothing, and answers the number of that refusal.
+/// Has two handles lead to two new ends, and answers 0. If an allocation is refused, the handles stay as they are, and the answer is -2 (out of memory).
 pub fn put_both(alloc: Global, first: &mut Handle, second: &mut Handle, ends: (Kept, Kept)) -> i64 {
     let Ok(one) = Box::new(alloc, ends.0) else {
         return refused(EndError::Memory);

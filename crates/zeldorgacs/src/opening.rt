@@ -8,7 +8,9 @@ use crate::samples::all_frames_of;
 use af_ends::{EndError, MOST_FRAMES, open_record, open_static, open_stream};
 use std::alloc::Global;
 
-/// Opens a stream of so many frames, from 1 to 8192. What the handles led to is closed. 0, or a refusal, which changes nothing.
+/// Opens a stream of so many frames, from 1 to 8192. What the handles led to is closed.
+///
+/// Answers 0. -1 (argument) if the number of frames is outside that range. -2 (memory) if an allocation was refused. A refusal changes nothing.
 #[unsafe(no_mangle)]
 pub extern "C" fn zeldorgacs_stream_open(
     alloc: Global,
@@ -25,7 +27,9 @@ pub extern "C" fn zeldorgacs_stream_open(
     }
 }
 
-/// Opens a recording of so many frames, from 1 to 8192. What the handles led to is closed. 0, or a refusal, which changes nothing.
+/// Opens a recording of so many frames, from 1 to 8192. What the handles led to is closed.
+///
+/// Answers 0. -1 (argument) if the number of frames is outside that range. -2 (memory) if an allocation was refused. A refusal changes nothing.
 #[unsafe(no_mangle)]
 pub extern "C" fn zeldorgacs_record_open(
     alloc: Global,
@@ -52,7 +56,9 @@ fn static_ends(alloc: Global, samples: &[i16]) -> Result<(Kept, Kept), EndError>
     Ok((Kept::Setter(first), Kept::Player(second)))
 }
 
-/// Opens a static buffer with a copy of these samples, from 1 to 8192 frames. What the handles led to is closed. 0, or a refusal, which changes nothing.
+/// Opens a static buffer with a copy of these samples (left and right in turn), from 1 to 8192 frames. What the handles led to is closed.
+///
+/// Answers 0. -1 (argument) if the number of frames is outside that range. -2 (memory) if an allocation was refused. A refusal changes nothing.
 #[unsafe(no_mangle)]
 pub extern "C" fn zeldorgacs_static_open(
     alloc: Global,

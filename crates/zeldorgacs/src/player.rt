@@ -9,7 +9,7 @@ use af_base::Gains;
 use af_ends::{EndError, PlayerEnd};
 use std::alloc::Global;
 
-// Plays to all places of the samples, as far as a call takes them, and tells the number of the setting: how many frames of the buffer were taken.
+// Plays to all places of the samples, at most 1024, and writes the number of the setting. Answers how many frames of the buffer were taken.
 fn play(
     end: &mut PlayerEnd,
     gains: Gains,
@@ -27,7 +27,9 @@ fn play(
     Ok(unrolled.filled)
 }
 
-/// Plays the next frames, at gains of 4.12 that are clamped to unity, with silence behind the buffer's end, and tells the number of the setting: how many frames of the buffer were taken, or a refusal. A player that an invalid setting has shut plays silence.
+/// Plays the next frames of the buffer to the places of the samples (left and right in turn), at most 1024 frames, with silence behind the buffer's end. The gains are in 4.12 and clamped to unity (0x1000). `number` becomes the number of the setting that was played, 0 if none was set.
+///
+/// Answers how many frames of the buffer were taken. -1 (argument) if there is no place for a frame: then nothing changes. -3 if the handle is closed or of another kind: then nothing changes. -5 (corrupt) if an invalid setting has shut the player: then `samples` are silence, and `number` is the number of that setting.
 #[unsafe(no_mangle)]
 pub extern "C" fn zeldorgacs_player_play(
     alloc: Global,

@@ -8,7 +8,7 @@ use crate::samples::{count_of, put_frames, silence};
 use af_ends::{EndError, Found, StreamServer};
 use std::alloc::Global;
 
-// How many frames a flush that was noticed discarded, and -1 if none was.
+// How many frames were discarded by the flush that was noticed, or -1 if no flush was.
 fn flushed_by(found: Found) -> i64 {
     match found.flushed {
         Some(dropped) => i64::from(dropped),
@@ -16,7 +16,7 @@ fn flushed_by(found: Found) -> i64 {
     }
 }
 
-// Reads as many frames as there are and have room.
+// Reads as many frames as are there and have room in the samples, at most 1024, and writes what a flush discarded.
 fn read(end: &mut StreamServer, samples: &mut [i16], flushed: &mut i64) -> Result<u32, EndError> {
     let mut frames = silence();
     let most = count_of(samples);
@@ -26,14 +26,16 @@ fn read(end: &mut StreamServer, samples: &mut [i16], flushed: &mut i64) -> Resul
     Ok(found.frames)
 }
 
-// How many frames there are.
+// How many frames are there. It writes what a flush discarded.
 fn available(end: &mut StreamServer, flushed: &mut i64) -> Result<u32, EndError> {
     let found = end.available()?;
     *flushed = flushed_by(found);
     Ok(found.frames)
 }
 
-/// Reads as many frames as there are and have room, and tells of a flush that it noticed: how many frames, or a refusal.
+/// Reads as many frames as are there and have room in the samples (left and right in turn), at most 1024. The samples behind them stay. `flushed` becomes the number of frames that a flush noticed by this call discarded, and -1 if it noticed none.
+///
+/// Answers how many frames were read, 0 if a flush was noticed. -3 if the handle is closed or of another kind. -5 (corrupt) if front and rear do not fit the block, in this call or in an earlier one. After a refusal `samples` and `flushed` are as before.
 #[unsafe(no_mangle)]
 pub extern "C" fn zeldorgacs_server_read(
     alloc: Global,
@@ -52,7 +54,9 @@ pub extern "C" fn zeldorgacs_server_read(
     answer
 }
 
-/// How many frames there are, of which it takes none, or a refusal. It tells of a flush as a read does.
+/// How many frames are there. The call takes none of them. `flushed` becomes the number of frames that a flush noticed by this call discarded, and -1 if it noticed none.
+///
+/// Answers the number of frames, 0 if a flush was noticed. -3 if the handle is closed or of another kind. -5 (corrupt) if front and rear do not fit the block, in this call or in an earlier one. After a refusal `flushed` is as before.
 #[unsafe(no_mangle)]
 pub extern "C" fn zeldorgacs_server_available(
     alloc: Global,
@@ -70,7 +74,7 @@ pub extern "C" fn zeldorgacs_server_available(
     answer
 }
 
-/// The gains that the client set last: left in the low 16 bits, right in the high 16 bits; or a refusal.
+/// The gains that the client set last, each in 4.12 and clamped to unity (0x1000): left in the low 16 bits, right in the high 16 bits; or -3 if the handle is closed or of another kind.
 #[unsafe(no_mangle)]
 pub extern "C" fn zeldorgacs_server_gains(alloc: Global, server: &mut Handle) -> i64 {
     let Some(mut kept) = taken(alloc, server) else {
@@ -87,7 +91,9 @@ pub extern "C" fn zeldorgacs_server_gains(alloc: Global, server: &mut Handle) ->
     answer
 }
 
-/// Counts so many frames as missing, and sets UNDERRUN: 0, or a refusal.
+/// Counts so many frames as missing, and sets UNDERRUN (0x01).
+///
+/// Answers 0. -1 (argument) if `missing` is 0. -3 if the handle is closed or of another kind. A refusal changes nothing.
 #[unsafe(no_mangle)]
 pub extern "C" fn zeldorgacs_server_tally(alloc: Global, server: &mut Handle, missing: u32) -> i64 {
     let Some(mut kept) = taken(alloc, server) else {
@@ -101,7 +107,7 @@ pub extern "C" fn zeldorgacs_server_tally(alloc: Global, server: &mut Handle, mi
     answer
 }
 
-/// Sets INVALID: the client writes no more. 0, or a refusal.
+/// Sets INVALID (0x04): the client writes no more. Answers 0; or -3 if the handle is closed or of another kind.
 #[unsafe(no_mangle)]
 pub extern "C" fn zeldorgacs_server_invalidate(alloc: Global, server: &mut Handle) -> i64 {
     let Some(mut kept) = taken(alloc, server) else {
@@ -118,7 +124,7 @@ pub extern "C" fn zeldorgacs_server_invalidate(alloc: Global, server: &mut Handl
     answer
 }
 
-/// Sets DISABLED, which the client clears. 0, or a refusal.
+/// Sets DISABLED (0x08), which the client clears. Answers 0; or -3 if the handle is closed or of another kind.
 #[unsafe(no_mangle)]
 pub extern "C" fn zeldorgacs_server_disable(alloc: Global, server: &mut Handle) -> i64 {
     let Some(mut kept) = taken(alloc, server) else {
@@ -135,7 +141,7 @@ pub extern "C" fn zeldorgacs_server_disable(alloc: Global, server: &mut Handle) 
     answer
 }
 
-/// Stores the status word, which the client sees: 0, or a refusal.
+/// Stores the status word, which the client sees. Answers 0; or -3 if the handle is closed or of another kind.
 #[unsafe(no_mangle)]
 pub extern "C" fn zeldorgacs_server_set_status(
     alloc: Global,
@@ -156,7 +162,7 @@ pub extern "C" fn zeldorgacs_server_set_status(
     answer
 }
 
-/// How many frames were taken and discarded, up to 2^63 - 1, or a refusal.
+/// How many frames were taken and discarded together, up to 2^63 - 1; or -3 if the handle is closed or of another kind.
 #[unsafe(no_mangle)]
 pub extern "C" fn zeldorgacs_server_consumed(alloc: Global, server: &mut Handle) -> i64 {
     let Some(mut kept) = taken(alloc, server) else {
@@ -170,7 +176,7 @@ pub extern "C" fn zeldorgacs_server_consumed(alloc: Global, server: &mut Handle)
     answer
 }
 
-/// How many flushes had been asked for, by the last one that was noticed; or a refusal.
+/// How many flushes had been asked for, by the last one that was noticed; or -3 if the handle is closed or of another kind.
 #[unsafe(no_mangle)]
 pub extern "C" fn zeldorgacs_server_flush_seen(alloc: Global, server: &mut Handle) -> i64 {
     let Some(mut kept) = taken(alloc, server) else {
@@ -184,7 +190,7 @@ pub extern "C" fn zeldorgacs_server_flush_seen(alloc: Global, server: &mut Handl
     answer
 }
 
-/// How many frames the stream may hold, or a refusal.
+/// How many frames the stream may hold; or -3 if the handle is closed or of another kind.
 #[unsafe(no_mangle)]
 pub extern "C" fn zeldorgacs_server_frames(alloc: Global, server: &mut Handle) -> i64 {
     let Some(mut kept) = taken(alloc, server) else {

@@ -6,7 +6,9 @@ use crate::kept::Kept;
 use crate::opened::{put, taken};
 use std::alloc::Global;
 
-/// Sets the start, end and count of a loop: the number of the setting, from 1, or a refusal.
+/// Sets the start, end (both in frames) and count of a loop. Any numbers are taken: the player judges them.
+///
+/// Answers the number of the setting, from 1. -3 if the handle is closed or of another kind. -6 (limit) if 2^63 settings were made before. A refusal changes nothing.
 #[unsafe(no_mangle)]
 pub extern "C" fn zeldorgacs_setter_set(
     alloc: Global,
