@@ -134,7 +134,7 @@ module _ (links : Links) (t : ℕ) (x : NormalState) (going : IsGoing links t x)
   abbrev Tells : Option ServerState → ServerState → Type 0
   Tells o q = ((listed q).shape ≡ (listed_at o).shape) × (kept (listed q) ≡ kept (listed_at o))
 
-  -- a stream proxy that is home tells still what it told before
+  -- a stream proxy that is home still shows the shape and the kept values that it showed before
   pub told_served : (i : ℕ) (s : ServerState) → stream_at y.streams i ≡ Some s → ((listed s).shape ≡ (listed_at (stream_at x.streams i)).shape) × (kept (listed s) ≡ kept (listed_at (stream_at x.streams i)))
   told_served i s is = elim (cases_lt i (length x.tracks)) as (λ p. Tells (stream_at x.streams i) s) [
     | inl lt ↦ by_stream (stream_at x.streams i) (stream_at y.streams i) is (served_done.parts i lt).streamed
