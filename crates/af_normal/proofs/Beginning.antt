@@ -96,7 +96,7 @@ hand_more blocks i x y count whole of h = λ k flag at.
     of k flag (sym (get_before x.hands (hand_of h.stream) k lt) ∙ here))
     (cases_eq k i)
 
--- with one item more moved back, the rest is as it was
+-- if the last item of a list is moved behind another list, the first list and the reverse of the other make up the same list
 pub one_back : {A : Type 0} (xs a b ys : List A) (item : A) → b ≡ a ++ item ∷ [] → b ++ reverse ys ≡ xs → a ++ reverse (ys ++ item ∷ []) ≡ xs
 one_back xs a b ys item e h = ap (λ (zs : List _). a ++ zs) (reverse-append ys (item ∷ [])) ∙ sym (append_assoc a (item ∷ []) (reverse ys)) ∙ ap (λ (zs : List _). zs ++ reverse ys) (sym e) ∙ h
 

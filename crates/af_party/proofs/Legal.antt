@@ -25,7 +25,7 @@ made_more t u v [] wanted answer made is does goes =
     subst P made (wanted, is, does, goes)
 made_more t u v (c ∷ calls) wanted answer made is does goes = (made.0, made.1, made.2, made_more (after_call t c) u v calls wanted answer made.3 is does goes)
 
--- calls that lead from a track to another do all their steps to the first
+-- calls that lead from a track to another, taken one after the other, turn the first into the other
 pub made_fold : (t u : Track) (calls : List ClientCall) → AreMade t calls u → u ≡ fold after_call t calls
 made_fold t u [] made = made
 made_fold t u (c ∷ calls) made = made_fold (after_call t c) u calls made.3

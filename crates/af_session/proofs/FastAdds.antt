@@ -215,7 +215,7 @@ turned_by count s s' bytes bytes' added whole grown turn = record { added = adde
 pub entries_more : (count : ℕ) (s s' : SessionState) (bytes bytes' : Roomy ℕ) → Turned count s s' bytes bytes' → length s.fast.log.entries ≤ length s'.fast.log.entries
 entries_more count s s' bytes bytes' t = omega (arith, ap length t.adds.grows.entries ∙ length-append s.fast.log.entries (t.adds.mixes ++ t.adds.last))
 
--- if the bytes behind those that went out before were the sound of the log, they are so again after a turn
+-- if the bytes, behind those that went out before, were the sound of the log, they are so again after a turn
 pub sounds_again : (count : ℕ) (s s' : SessionState) (bytes bytes' : Roomy ℕ) (before : List ℕ) → Turned count s s' bytes bytes' → before ++ bytes.items ≡ pcm_of s.fast.frames s.fast.log → before ++ bytes'.items ≡ pcm_of s.fast.frames s'.fast.log
 sounds_again count s s' bytes bytes' before t same =
     ap (λ (y : Roomy ℕ). before ++ y.items) t.written_is

@@ -98,7 +98,7 @@ turned_adds links m m' bytes whole turned = by_exit m.exited turned
     by_exit true done = subst (TurnAdds m.frames most_cycles m.log m'.log) (sym done.0) (none_added m.frames most_cycles m.log m'.log whole (ap (λ (y : MixerState). y.log) done.1))
     by_exit false done = cycles_add links most_cycles m m' bytes whole done
 
--- if the bytes behind those that went out before were the sound of the log, they are so again after a turn
+-- if the bytes, behind those that went out before, were the sound of the log, they are so again after a turn
 pub sounds_on : (links : Links) (m m' : MixerState) (bytes bytes' : Roomy ℕ) (added before : List ℕ) → IsWhole m.log → FastTurned links m added m' → bytes' ≡ record bytes { items = bytes.items ++ added }
     → before ++ bytes.items ≡ pcm_of m.frames m.log → before ++ bytes'.items ≡ pcm_of m.frames m'.log
 sounds_on links m m' bytes bytes' added before whole turned is same =

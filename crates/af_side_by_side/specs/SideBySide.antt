@@ -106,7 +106,7 @@ pub record CanCycle (links : Links) (m : MixerState) : Type 0 where
   pub between : m.adopted ≡ false
   pub whole : IsWhole m.log
 
--- The fast mixer made a turn, if it hadn't ended. The bytes of what it mixed were put behind others. If the bytes behind those that went out before were the sound of its log, they are so again
+-- The fast mixer made a turn, if it hadn't ended. The bytes of what it mixed were put behind others. If the bytes, behind those that went out before, were the sound of its log, they are so again
 pub record HasCycledOn (links : Links) (m m' : MixerState) (bytes bytes' : Roomy ℕ) : Type 0 where
   pub added : List ℕ
   pub written_is : bytes' ≡ record bytes { items = bytes.items ++ added }
