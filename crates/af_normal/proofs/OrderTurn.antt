@@ -1,14 +1,13 @@
 -- The stages of a turn in a row: what each leaves, and that its numbers stay small.
-use Rattle.std.proofs.Common.{◌≡◌, inl, inr, ℕ, zero, suc, ◌+◌, ◌*◌, ◌<◌, ◌≤◌, ◌^◌, ◌==◌, ◌&&◌, not, Bool, true, false, if◌then◌else◌, true≢false, is_some, MatchBool, sym, refl, ap, subst, ◌∙◌, List, [], ◌∷◌, length, map, All, Option, Some, None, arith}
+use Rattle.std.proofs.Common.{◌≡◌, inl, inr, ℕ, zero, suc, ◌*◌, ◌<◌, ◌≤◌, ◌^◌, ◌==◌, ◌&&◌, not, Bool, true, false, if◌then◌else◌, true≢false, is_some, MatchBool, sym, refl, ap, subst, ◌∙◌, List, [], ◌∷◌, length, map, All, Option, Some, None, arith}
 use Rattle.std.specs.Prelude.{slice_get}
 use Rattle.std.proofs.lemmas.List.Elements.{All-from_get_or}
 use Rattle.std.proofs.lemmas.Bool.{cases_lt}
 use Rattle.af_life.specs.TurnEvents.{invalid}
 use Rattle.af_base.specs.declared.report.Report.{Report}
 use Rattle.af_base.specs.declared.state.Push.{Push}
-use Rattle.af_base.specs.declared.state.Push.TheVariants.{Clean}
 use Rattle.af_base.specs.declared.turn.CommandLook.{CommandLook}
-use Rattle.af_base.specs.Turn.{Turn, TrackSeen, track_seen}
+use Rattle.af_base.specs.Turn.{TrackSeen, track_seen}
 use Rattle.af_model.specs.Cycles.{kept}
 use Rattle.af_model.specs.StateQueue.{slot_of}
 use Rattle.af_server.specs.Order.{ServerState}
