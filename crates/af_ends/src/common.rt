@@ -1,6 +1,7 @@
 //! What two ends share.
 ghost use Rattle.std.specs.Prelude.{◌≡◌, IfSome};
 
+use crate::exclusive::Exclusive;
 use counted_slot::{Counted, FREE, Fits, PRESENT, TAKEN};
 use std::marker::Model;
 
@@ -8,7 +9,7 @@ use std::marker::Model;
 #[derive(Drop)]
 pub struct Common<X: Fits> {
     what: X::Tag,
-    parked: Counted<Option<X>>,
+    parked: Counted<Option<Exclusive<X>>>,
 }
 
 impl<X: Fits> Model for Common<X> {
@@ -43,7 +44,7 @@ impl<X: Fits + Drop> Common<X> {
     {
         let (found, claim) = self.parked.turn(FREE, TAKEN);
         if found == FREE {
-            claim.put(Some(end), PRESENT);
+            claim.put(Some(Exclusive::new(end)), PRESENT);
         } else {
             claim.done();
         }
@@ -55,7 +56,7 @@ impl<X: Fits + Drop> Common<X> {
     {
         let (found, claim) = self.parked.turn(PRESENT, TAKEN);
         if found == PRESENT {
-            claim.put(None, FREE)
+            Some(claim.put(None, FREE)?.into_inner())
         } else {
             claim.done();
             None

@@ -4,6 +4,7 @@
 mod closing;
 mod common;
 mod error;
+mod exclusive;
 mod record_ends;
 mod static_ends;
 mod stream;

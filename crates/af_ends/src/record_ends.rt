@@ -42,7 +42,7 @@ impl Fits for ParkedCapture {
 
 /// The end of a recording that supplies frames, with a share of the block: it puts what there is room for, and loses and counts the rest.
 ///
-/// Contracts see the block, and the end that does the work. No call takes memory or waits. That this end may be sent to another thread is not proved yet.
+/// Contracts see the block, and the end that does the work. No call takes memory or waits. It may be sent to another thread (`Send`).
 #[derive(Drop)]
 pub struct CaptureEnd {
     pub(crate) recording: Arc<Common<ParkedCapture>, Global>,
@@ -64,7 +64,7 @@ impl Model for CaptureEnd {
 
 /// The end of a recording from which frames are read, with a share of the block.
 ///
-/// Contracts see the block, and the end that does the work. No call takes memory or waits. That this end may be sent to another thread is not proved yet.
+/// Contracts see the block, and the end that does the work. No call takes memory or waits. It may be sent to another thread (`Send`).
 #[derive(Drop)]
 pub struct ListenerEnd {
     pub(crate) recording: Arc<Common<ParkedCapture>, Global>,

@@ -41,7 +41,7 @@ impl Fits for ParkedSetter {
 
 /// The end of a static buffer that sets loops, with a share of the buffer.
 ///
-/// Contracts see the cell of the settings and the frames, and the end that does the work. No call takes memory or waits. That this end may be sent to another thread is not proved yet.
+/// Contracts see the cell of the settings and the frames, and the end that does the work. No call takes memory or waits. It may be sent to another thread (`Send`).
 #[derive(Drop)]
 pub struct SetterEnd {
     pub(crate) buffer: Arc<Common<ParkedSetter>, Global>,
@@ -64,7 +64,7 @@ impl Model for SetterEnd {
 
 /// The end of a static buffer that plays, with a share of the buffer.
 ///
-/// Contracts see the cell of the settings and the frames, and the end that does the work. No call takes memory or waits. That this end may be sent to another thread is not proved yet.
+/// Contracts see the cell of the settings and the frames, and the end that does the work. No call takes memory or waits. It may be sent to another thread (`Send`).
 #[derive(Drop)]
 pub struct PlayerEnd {
     pub(crate) buffer: Arc<Common<ParkedSetter>, Global>,

@@ -27,7 +27,7 @@ const UNITY: u16 = 0x1000;
 
 /// The end of a stream that writes: AOSP's `AudioTrackClientProxy`, with a share of the control block.
 ///
-/// Contracts see the block, and the proxy with the list of all that it did and the frames that it released. This end never pokes, so no call of it answers Corrupt. No call takes memory or waits. That this end may be sent to another thread is not proved yet.
+/// Contracts see the block, and the proxy with the list of all that it did and the frames that it released. This end never pokes, so no call of it answers Corrupt. No call takes memory or waits. It may be sent to another thread (`Send`).
 #[derive(Drop)]
 pub struct StreamClient {
     pub(crate) stream: Arc<Common<ParkedClient>, Global>,

@@ -23,7 +23,7 @@ use std::sync::ledger::{Blank, Ledger};
 
 /// The end of a stream that reads: AOSP's `AudioTrackServerProxy`, with a share of the control block.
 ///
-/// Contracts see the block, and the proxy with the list of all that it did and the frames that it took. No call takes memory or waits. That this end may be sent to another thread is not proved yet.
+/// Contracts see the block, and the proxy with the list of all that it did and the frames that it took. No call takes memory or waits. It may be sent to another thread (`Send`).
 #[derive(Drop)]
 pub struct StreamServer {
     pub(crate) stream: Arc<Common<ParkedClient>, Global>,
