@@ -1,4 +1,4 @@
--- What a proxy told when it was attached is no more than its server's list tells.
+-- What a proxy showed when it was attached is no more than its server's list shows.
 use Rattle.std.proofs.Common.{◌≡◌, ℕ, zero, suc, ◌+◌, ◌≤◌, ◌==◌, if◌then◌else◌, is_some, Bool, true, false, List, [], ◌∷◌, length, map, fold, Option, Some, None, refl, sym, ap, ◌∙◌, subst, arith}
 use Rattle.af_base.specs.Command.{code_of}
 use Rattle.af_base.specs.declared.report.SlotReport.{SlotReport}
@@ -111,7 +111,7 @@ module _ (measure : Measure) where
       takes_keep (take ∷ takes) tracks h = takes_keep takes (after_take (buffer c) tracks take)
           (set_each (λ (j : ℕ) (s : TrackKept). measure.of_heard s.at_attach ≤ told j) tracks take.track (record (track_at tracks take.track) { own = counted (buffer c) take.slot.seen (track_at tracks take.track).own }) (h take.track) h)
 
-      -- a turn keeps it, where its tracks' servers have told what they know
+      -- what was shown at the attaching stays within bounds after a turn, if what is known of the tracks' own servers does
       pub turn_keeps : (m : NormalKept) (e : Turn) → AreAttached measure told m.tracks → AreAttached measure told (turn_after c k m e).tracks
       unfolding turn_after
       turn_keeps m e h =
@@ -121,11 +121,11 @@ module _ (measure : Measure) where
           let all : AreAttached measure told edits.tracks = mutated_keeps e.room there (served_keeps e.tracks acked.tracks (length acked.tracks) (acked_keeps e.ack m h)) in
           either_keeps e.ended (record m { ended = true }) (after_takes c e.mixes (after_push e.push edits)) h (takes_keep e.mixes (after_push e.push edits).tracks (pushed_keeps e.push edits all))
 
-    -- when the track i is served
+    -- what was shown at the attaching stays within bounds when the track i is served
     pub attached_then : (m : NormalKept) (e : Turn) (i : ℕ) → AreAttached measure told m.tracks → AreAttached measure told (served_to c k e.tracks (after_ack e.ack m).tracks i)
     attached_then m e i h = served_keeps e.tracks (after_ack e.ack m).tracks i (acked_keeps e.ack m h)
 
-  -- more may be told
+  -- what was shown at the attaching stays within bounds if more is shown
   pub attached_more : (few more : ℕ → ℕ) (tracks : List TrackKept) → ((i : ℕ) → few i ≤ more i) → AreAttached measure few tracks → AreAttached measure more tracks
   attached_more few more tracks grows h i = let a = h i in let b = grows i in omega (arith, a, b)
 

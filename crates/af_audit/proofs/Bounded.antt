@@ -1,4 +1,4 @@
--- No report tells of more than the list of the server of its slot's track.
+-- No report shows more than the list of the server of its slot's track.
 use Rattle.std.specs.List.{AllByRecursion}
 use Rattle.std.proofs.Common.{◌≡◌, inl, inr, ℕ, zero, suc, ◌≤◌, ◌==◌, ◌||◌, if◌then◌else◌, is_some, Bool, true, false, List, [], ◌∷◌, ◌++◌, fold, Some, refl, sym, ap, subst, arith}
 use Rattle.std.specs.Prelude.{◌-◌, slice_index_or, replicate}
@@ -71,7 +71,7 @@ module _ (measure : Measure) where
       each (suc n) zero = refl
       each (suc n) (suc i) = each n i
 
-  -- by a newer draft, when more was told
+  -- a report stays bounded by a newer draft, when more is shown
   pub bounded_more : (x y : FastState) (few more : ℕ → ℕ) (r : Report) → IsOlder x y → ((n : ℕ) → few n ≤ more n) → IsBounded measure x few r → IsBounded measure y more r
   bounded_more x y few more r older grows h = record {
     low = λ i. (let a = h.low i in let b = older.low i in omega (arith, a, b));
@@ -91,7 +91,7 @@ module _ (measure : Measure) where
   abbrev pub AreBounded : FastState → Run → Type 0
   AreBounded draft run = AllByRecursion (IsBounded measure draft (of_run measure run)) run.reports
 
-  -- the report that a turn loads is one of them
+  -- the report that a turn loads is bounded
   pub report_bounded : (draft : FastState) (run : Run) (n : ℕ) → AreBounded draft run → IsBounded measure draft (of_run measure run) (report_of run.reports n)
   report_bounded draft run n all = by_test (n == 0)
     where

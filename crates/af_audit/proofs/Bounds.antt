@@ -1,4 +1,4 @@
--- What a run keeps of its reports and its attachments: none tells of more than the list of its server.
+-- What a run keeps of its reports and its attachments: none shows more than the list of its server.
 use Rattle.std.specs.List.{AllByRecursion}
 use Rattle.std.proofs.Common.{◌≡◌, ℕ, zero, suc, ◌≤◌, if◌then◌else◌, Bool, true, false, true≢false, List, [], ◌∷◌, ◌++◌, Option, Some, None, refl, sym, ap, subst, append-nil, arith}
 use Rattle.af_base.specs.declared.report.Report.{Report}
@@ -25,14 +25,14 @@ use Rattle.af_audit.proofs.MixerTurns.{turn_legal}
 use Rattle.af_audit.proofs.Measure.{Measure, of_run, of_server, IsBounded, AreAttached}
 
 module _ (measure : Measure) where
-  -- no state is newer than the draft, and no report and no attachment tells of more than the list of its server
+  -- no state is newer than the draft, and no report and no attachment shows more than the list of its server
   pub record RunBounds (s : Session) (run : Run) : Type 0 where
     pub older : AllOlder s run run.normal.draft
     pub bounded : AreBounded measure run.normal.draft run
     pub attached : AreAttached measure (of_run measure run) run.normal.tracks
 
   module _ (s : Session) where
-    -- a step that changes neither the mixer, nor the states, nor the reports
+    -- a step keeps the bounds if it changes neither the mixer, nor the states, nor the reports
     pub bounds_same : (a b : Run) → b.normal ≡ a.normal → b.states ≡ a.states → b.reports ≡ a.reports → RunGrows a b → RunBounds s a → RunBounds s b
     bounds_same a b normal states reports grows h = record {
       older = subst (λ (p : NormalKept × List FastState). (k : ℕ) → IsOlder (state_at (cycle_frames s) p.1 k) p.0.draft) (λ i. (sym normal i, sym states i)) h.older;
@@ -133,7 +133,7 @@ module _ (measure : Measure) where
         by_end true grows = bounds_same run (each_track (λ track t. record t { client = ends t.client }) run) refl refl refl grows h
         by_end false grows = h
 
-  -- a legal round keeps them
+  -- a legal round keeps the bounds
   pub bounds_round : (cut : Bool) (s : Session) (marks : Marks) (run : Run) (round : RoundSeen) → LegalRound cut s marks run round → RunBounds s run → RunBounds s (after_round s run round)
   bounds_round cut s marks run round legal h =
       let early : RunBounds s (before_turn s run round) = bounds_cycles s (early_of run round) (with_calls round run) (bounds_calls s round run h) in
@@ -144,7 +144,7 @@ module _ (measure : Measure) where
       by_turn None is b = b
       by_turn (Some e) is b = bounds_turn s (found_in s run round e) e (before_turn s run round) (λ i. refl) (turn_legal cut s marks run round legal e is).legal.still b
 
-  -- and they hold before the first round
+  -- the bounds hold before the first round
   pub bounds_new : (s : Session) → RunBounds s (new_run s)
   bounds_new s = record {
     older = λ n. by n;

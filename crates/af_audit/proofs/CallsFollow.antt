@@ -25,14 +25,14 @@ unfolding with_calls
 calls_long round run = each_long (λ track t. called (calls_in round track) t) 0 run.tracks
 
 module _ (s : Session) (marks : Marks) (run : Run) (round : RoundSeen) (tracks after : List TrackJudge) (found : Option ℕ) where
-  -- the sides that the clients find
+  -- the sides of each track as its client finds them are kept
   sides : KeepsTracks s marks (λ i. Unit {0}) tracks run → AreFit s run → AreSides s.script.tracks s.files tracks (λ i. sides_of (told_at run i))
   sides keeps files = record {
     file = λ i lt. (files i (let all = keeps.all in omega (arith, lt, all))).file;
     kept = λ i t at. keeps_of (spec_of s i).ops t (told_at run i) (keeps.whole i t at tt);
   }
 
-  -- each track is kept as it was served, and whole where its client's turn was legal; and the least client is found whose turn wasn't
+  -- each track is kept as it was served, and whole if its client's turn was legal; and the least client is found whose turn wasn't legal
   pub calls_follow : KeepsTracks s marks (λ i. Unit {0}) tracks run → AreFit s run → length after ≡ length tracks
       → CallsJudged (length tracks) s.script.tracks s.files (calls_in round) tracks after found → KeepsTracks s marks (IsLegalCaller run round) after (with_calls round run)
   calls_follow keeps files many judged = record {

@@ -26,19 +26,19 @@ no_calls specs files calls tracks = record {
 pub less_or : (i n : ℕ) → i < n + 1 → (i < n) ⊎ (i ≡ n)
 less_or i n lt = grind (arith, lt)
 
--- the track at a place of a list is one
+-- a list has one track at a place
 pub one-track : (tracks : List TrackJudge) (i : ℕ) (t u : TrackJudge) → IsTrackAt tracks i t → IsTrackAt tracks i u → t ≡ u
 one-track tracks i t u a b = a.1 ∙ (get_or_default tracks i t u a.0 ∙ sym b.1)
 
--- the track that was put there
+-- the track at a place is the one that was put there
 pub put-track : (tracks : List TrackJudge) (i : ℕ) (k u : TrackJudge) → IsTrackAt (set tracks i k) i u → u ≡ k
 put-track tracks i k u a = a.1 ∙ get_or-set_same tracks i k u (let x = a.0 in let l = length-set tracks i k in omega (arith, x, l))
 
--- and those at other places
+-- the tracks at other places are as before one was put
 pub other-track : (tracks : List TrackJudge) (i j : ℕ) (k u : TrackJudge) → (j ≡ i → ⊥) → IsTrackAt (set tracks i k) j u → IsTrackAt tracks j u
 other-track tracks i j k u ne a = ((let x = a.0 in let l = length-set tracks i k in omega (arith, x, l)), a.1 ∙ get_or-set_other tracks i j k u ne)
 
--- the least one, after one more
+-- the least number found stays the least after one more number
 pub least_found_more : (P : ℕ → Type 0) (at x : ℕ) → LeastBelow P at (Some x) → LeastBelow P (at + 1) (Some x)
 least_found_more P at x h = ((let a = h.0 in omega (arith, a)), h.1, h.2)
 
@@ -69,7 +69,7 @@ pub here-at : (tracks : List TrackJudge) (i : ℕ) (d : TrackJudge) → i < leng
 here-at tracks i d lt = (lt, get_or_default tracks i d (slice_index_or tracks i d) lt)
 
 module _ (specs : List TrackSpec) (files : List (List Frame)) (calls : ℕ → List ClientCall) (before now : List TrackJudge) (at : ℕ) (t k : TrackJudge) (here : IsTrackAt now at t) where
-  -- what a client's turn answers
+  -- what the turn of the client at this place answers
   Answers : Bool → Type 0
   Answers legal = (u : Track) → u.file ≡ map packed_word (slice_index_or files at []) → KeepsTrack (slice_index_or specs at no_spec).ops t u → MatchBool legal (LegalClientTurn u (calls at) × KeepsTrack (slice_index_or specs at no_spec).ops k (after_calls u (calls at))) (LegalClientTurn u (calls at) → ⊥)
 

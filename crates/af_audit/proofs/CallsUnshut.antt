@@ -1,4 +1,4 @@
--- Where a client's proxy of a block isn't shut after its calls, none of these found that block's words not to fit.
+-- If a client's proxy of a block isn't shut after its calls, none of these found that block's words not to fit.
 use Rattle.std.proofs.Common.{◌≡◌, ℕ, ◌-◌, ◌<◌, not, Bool, true, false, true≢false, if◌then◌else◌, is_some, fold, MatchBool, MatchOption, List, [], ◌∷◌, Option, Some, None, refl, sym, ap, ◌∙◌, subst}
 use Rattle.std.proofs.lemmas.Grind.{fold-append}
 use Rattle.std.proofs.lemmas.Option.{none-some}
@@ -12,23 +12,23 @@ use Rattle.af_runs.specs.ClientTurns.{AnswersOn, AreCalls, IsMade, LegalClientTu
 use Rattle.af_runs.specs.declared.want.Want.{Want}
 use Rattle.af_audit.specs.Spared.{is_corrupt_on, none_corrupt_on}
 
--- what a side's list tells of its client
+-- what a side's list says of its client
 abbrev pub kept_of : Side → ClientKept
 kept_of b = client_kept b.shape.frames b.shape.base b.events
 
--- one of its two sides: that of the commands, or of the stream
+-- one of a track's two sides: that of the commands, or of the stream
 abbrev pub side_on : Bool → Track → Side
 side_on true t = t.commands
 side_on false t = t.stream
 
--- its proxy there isn't shut
+-- the client's proxy on that side isn't shut
 abbrev pub IsOpen : Bool → Track → Type 0
 IsOpen commands t = (kept_of (side_on commands t)).shut ≡ None
 
 -- ## One call
 
 module _ (frames : ℕ) (k : ClientKept) where
-  -- what the list tells after a call
+  -- what the list says after a call
   abbrev then_kept : Option (ℕ × ℕ) → ClientCall → ClientKept
   then_kept o answer = fold (client_keeps frames) k (client_call_events (is_some o) answer)
 
@@ -44,7 +44,7 @@ module _ (frames cells base : ℕ) (es : List ClientEvent) (asked : ℕ) where
   abbrev before : ClientKept
   before = client_kept frames base es
 
-  -- where the proxy isn't shut after a call it wasn't before it, and the call wasn't Corrupt
+  -- if the proxy isn't shut after a call it wasn't before it, and the call wasn't Corrupt
   unshut_call : (commands : Bool) (answer : ClientCall) → ClientAnswers frames cells base es asked answer → (then_kept frames before before.shut answer).shut ≡ None → (before.shut ≡ None) × (is_corrupt_on commands answer ≡ false)
   unshut_call commands (call.Put front count) a fine = (a.0.0, refl)
   unshut_call commands (call.Full front) a fine = (a.0, refl)
@@ -60,7 +60,7 @@ module _ (frames cells base : ℕ) (es : List ClientEvent) (asked : ℕ) where
   unshut_call commands (call.Status word) a fine = (fine, refl)
   unshut_call commands (call.Poke command word value) a fine = (fine, refl)
 
--- the same of a side
+-- if the proxy of a side isn't shut after a call it wasn't before it, and the call wasn't Corrupt
 unshut_side : (commands : Bool) (b : Side) (asked : ℕ) (answer : ClientCall) (words : List ℕ) → AnswersOn b asked answer → (kept_of (called answer words b)).shut ≡ None → ((kept_of b).shut ≡ None) × (is_corrupt_on commands answer ≡ false)
 unshut_side commands b asked answer words a fine =
     unshut_call b.shape.frames b.shape.cells b.shape.base b.events asked commands answer a
@@ -84,7 +84,7 @@ elsewhere commands (call.SendDead flags) other = refl
 elsewhere commands (call.Status word) other = refl
 elsewhere commands (call.Poke command word value) other = refl
 
--- and of a track
+-- if a proxy of a track isn't shut after a call it wasn't before it, and the call wasn't Corrupt on its block
 module _ (t : Track) (wanted : Want) (answer : ClientCall) where
   by_side : (commands b : Bool) → is_of_commands answer ≡ b → AnswersOn (if b then t.commands else t.stream) (asked_by wanted) answer
       → IsOpen commands (if b then record t { commands = called answer (released_by t answer) t.commands } else record t { stream = called answer (released_by t answer) t.stream }) → IsOpen commands t × (is_corrupt_on commands answer ≡ false)
@@ -98,7 +98,7 @@ module _ (t : Track) (wanted : Want) (answer : ClientCall) where
 
 -- ## A turn
 
--- what follows a call leaves both sides
+-- a proxy that isn't shut after a call and what follows it isn't shut after the call
 same_sides : (commands : Bool) (t : Track) (answer : ClientCall) → IsOpen commands (after_call t answer) → IsOpen commands (with_call t answer)
 same_sides true t answer h = h
 same_sides false t answer h = h
@@ -114,7 +114,7 @@ all_sides : (commands : Bool) (t : Track) (calls : List ClientCall) → IsOpen c
 all_sides true t calls h = h
 all_sides false t calls h = h
 
--- where a proxy isn't shut after a legal turn, it wasn't before it, and no call on its block was Corrupt
+-- if a proxy isn't shut after a legal turn, it wasn't before it, and no call on its block was Corrupt
 pub unshut_turn : (commands : Bool) (t : Track) (calls : List ClientCall) → LegalClientTurn t calls → IsOpen commands (after_calls t calls) → IsOpen commands t × (none_corrupt_on commands calls ≡ true)
 unshut_turn commands t calls legal fine = by_ended t.client.ended legal
   where

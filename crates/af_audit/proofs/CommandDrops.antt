@@ -63,7 +63,7 @@ module _ (k : Shape) where
         by_shut (Some words) is = none_dropped k ys (takes_command look) (takes_none look)
 
   module _ (few : k.wrap ≤ 2 ^ 31) where
-    -- the looks of a turn as they are told, where they are legal by some fronts
+    -- the looks of a turn as they are recorded drop only by new flushes, if they are legal by some fronts
     pub looks_drop : (xs ys : List ServerEvent) (looks : List CommandLook) (fronts : List ℕ) → Alike (server_kept k xs) (server_kept k ys) → LegalLooks (with_list xs) looks fronts
         → DropsByFlush k ys (all_command_events (with_list ys) looks (fronts_by front_of (with_list ys) looks))
     looks_drop xs ys [] [] same legal = tt
@@ -83,7 +83,7 @@ drops_split k before [] e h = (tt, subst (λ (l : List ServerEvent). ComesByFlus
 drops_split k before (x ∷ xs) e h = let r = drops_split k (before ++ x ∷ []) xs e h.1 in ((h.0, r.0), subst (λ (l : List ServerEvent). ComesByFlush k l e) (append_assoc before (x ∷ []) xs) r.1)
 
 module _ (k : Shape) (narrow : k.wrap ≤ 32768) where
-  -- a look sees no new flush, where there is none
+  -- a look sees no new flush, if there is none
   never_new : (order : List Moment) → IsLegal (start k) order → flushes_of (client_of order) ≡ 0 → SeesNewFlush k (server_of order) → ⊥
   never_new order legal calm s =
       let cut = server_cut order s.before (server.SawFlush s.flush) (server.SawRear s.rear ∷ server.SawFront s.front ∷ []) s.look in
@@ -120,7 +120,7 @@ module _ (k : Shape) (narrow : k.wrap ≤ 32768) where
       drops_more (server_of order) e (keeps_so order e legal.1 calm r.1) (never_drops order legal.1 calm r.0)
   never_drops (by_hand e ∷ order) legal calm noticed = never_drops order legal.1 calm noticed
 
-  -- where its client never flushes what was taken begins what was released
+  -- if the client never flushes, the frames taken are the first ones of those released
   pub taken_first : (ce : List ClientEvent) (cf : List ℕ) (se : List ServerEvent) (sf : List ℕ) (he : List HandEvent) → HasHistory k ce cf se sf he → flushes_of ce ≡ 0 → DropsByFlush k [] se → (n : ℕ) × (sf ≡ take n cf)
   taken_first ce cf se sf he h calm noticed =
       taken_begins k ce cf se sf he h (subst (λ (es : List ServerEvent). drops_none es ≡ true) h.server_is (never_drops h.order h.legal (ap flushes_of h.client_is ∙ calm) (subst (DropsByFlush k []) (sym h.server_is) noticed)))

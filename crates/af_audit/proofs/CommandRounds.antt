@@ -49,7 +49,7 @@ use Rattle.af_audit.proofs.StatusWords.{StatusesLow, statuses_join, statuses_mor
 use Rattle.af_audit.proofs.TrackStands.{server-server}
 use Rattle.af_audit.proofs.TurnSettles.{TurnSettles, turn_settles}
 
--- Of a command block, its client and its track in the mixer, where STARTs with flush counts up to `most` were seen
+-- What holds of a command block, its client and its track in the mixer, if STARTs with flush counts up to `most` were seen
 pub record CommandsSo (most : ℕ) (b : BlockTold) (c : Client) (s : TrackKept) : Type 0 where
   pub so : SettledSo most 0 b.taken s
   pub statuses : StatusesLow s.settled (server_list b)
@@ -58,7 +58,7 @@ pub record CommandsSo (most : ℕ) (b : BlockTold) (c : Client) (s : TrackKept) 
   pub sent : SentSo b.released c
   pub calm : flushes_of (client_list b) ≡ 0
 
--- more may have been seen
+-- what holds of a command block holds if more flushes may have been seen
 pub commands_more : (few most : ℕ) (b : BlockTold) (c : Client) (s : TrackKept) → few ≤ most → CommandsSo few b c s → CommandsSo most b c s
 commands_more few most b c s low h = record {
   so = record { done = h.so.done; taken_are = h.so.taken_are; many = h.so.many; up = h.so.up; stands = λ order. (let x = h.so.stands order in record { seen = seen_more few most h.so.done low x.seen; none = x.none }) };
@@ -197,7 +197,7 @@ module _ (most : ℕ) (c : Setup) (f : TurnFound) (m : NormalKept) (e : Turn) (o
       by true h = tt
       by false h = statuses_join many (looked ++ flags) status (statuses_join many looked flags (looks_statuses many (listed b) looks (fronts_by front_of (listed b) looks)) (flags_statuses many _)) h
 
-  -- the block after it, where no more was heard to be seen
+  -- what holds of a command block holds after a turn, if no flush count above `most` was heard to be seen
   turned_so : (x : Client) → (heard (learnt told) n (track_at tracks n)).flush_seen ≤ most → CommandsSo most b x (track_at m.tracks n) → CommandsSo most (commands_turned c told m e n b) x (track_at (turn_after c (learnt told) m e).tracks n)
   turned_so x heard_low h =
       let same : learnt o ≡ learnt told = ap learnt found in
@@ -233,7 +233,7 @@ ended_so most b c s h = record { so = h.so; statuses = h.statuses; drops = h.dro
 
 -- ## The steps of a round
 
--- the same of the track of a number in a run
+-- what holds of the commands of the track of a number in a run
 pub record CommandsAt (most n : ℕ) (run : Run) : Type 0 where
   pub there : n < length run.tracks
   pub mixed : n < length run.normal.tracks
@@ -303,7 +303,7 @@ module _ (most n : ℕ) where
       }
       by_end false = h
 
-  -- the turn, if one was made
+  -- the turn of a round keeps what holds of a track's commands, if the round has one
   pub turned_at : (s : Session) (marks : Marks) (found : Turn → TurnFound) (o : Option Turn) (run : Run) → ((e : Turn) → o ≡ Some e → (found e).commands n ≡ (told_at run n).commands) → ((e : Turn) → o ≡ Some e → LegalTurnBy (setup_of s) marks (found e) run.normal e)
       → ((e : Turn) → o ≡ Some e → (let k = learnt (outside_of (setup_of s) (found e) e) in (heard k n (track_at (tracks_at (setup_of s) k run.normal e n) n)).flush_seen ≤ most)) → CommandsAt most n run → CommandsAt most n (turned s found o run)
   turned_at s marks found None run is legal heard_low h = h

@@ -1,4 +1,4 @@
--- How much a server has consumed: its list only raises it, and neither a report nor a proxy tells of more.
+-- How much a server has consumed: its list only raises it, and neither a report nor a proxy shows more.
 use Rattle.std.proofs.Common.{◌≡◌, ◌≤◌, List, [], ◌∷◌, ◌++◌, fold, refl, ap, arith}
 use Rattle.std.proofs.lemmas.Grind.{fold-append}
 use Rattle.af_base.specs.declared.event.ServerEvent.{ServerEvent}

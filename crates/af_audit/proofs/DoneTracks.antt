@@ -31,13 +31,13 @@ over_done (s ∷ tracks) h =
     let one = both_left (s.life.ended && is_home s.holder) (is_over tracks) h in
     (record { ended = both_left s.life.ended (is_home s.holder) one; home = both_right s.life.ended (is_home s.holder) one }, over_done tracks (both_right (s.life.ended && is_home s.holder) (is_over tracks) h))
 
--- a track that is put back as it was
+-- putting back a track as it was leaves the list as it was
 set_same : (tracks : List TrackKept) (i : ℕ) (s : TrackKept) → AllByRecursion IsDone tracks → (IsDone (track_at tracks i) → s ≡ track_at tracks i) → slice_set tracks i s ≡ tracks
 set_same [] i s done same = refl
 set_same (t ∷ tracks) zero s done same = ap (λ (x : TrackKept). x ∷ tracks) (same done.0)
 set_same (t ∷ tracks) (suc i) s done same = ap (λ (l : List TrackKept). t ∷ l) (set_same tracks i s done.1 same)
 
--- a track that is done with in place of another
+-- if a track that is done with is replaced by one that is too, all tracks still are done with
 pub set_done : (tracks : List TrackKept) (i : ℕ) (s : TrackKept) → AllByRecursion IsDone tracks → (IsDone (track_at tracks i) → IsDone s) → AllByRecursion IsDone (slice_set tracks i s)
 set_done [] i s done kept = done
 set_done (t ∷ tracks) zero s done kept = (kept done.0, done.1)
@@ -79,7 +79,7 @@ served_same c k seen tracks (suc i) done =
     let all : AllByRecursion IsDone (served_to c k seen tracks i) = subst (AllByRecursion IsDone) (sym before) done in
     set_same (served_to c k seen tracks i) i _ all (λ one. if_true (track_at (served_to c k seen tracks i) i).life.ended _ _ one.ended) ∙ before
 
--- it is not to be heard
+-- a track that is done with doesn't play
 done_plays : (s : TrackKept) → IsDone s → plays s.life ≡ false
 done_plays s done = by s.life.member s.life.ended done.ended
   where
@@ -125,7 +125,7 @@ edits_same c k m (suc i) done =
     let before = edits_same c k m i done in
     ap (edited c k i) before ∙ edited_same c k i m done
 
--- a draft that says Exit is told so again
+-- a draft that says Exit isn't changed by the next command
 exit_again : (c : Setup) (room : ℕ) (m : NormalKept) → is_exit m.draft ≡ true → commanded_by c room m ≡ m
 unfolding ordered next_command
 exit_again c room m exit = by_exit (is_exit m.draft) exit
@@ -138,7 +138,7 @@ exit_again c room m exit = by_exit (is_exit m.draft) exit
     by_exit true e = by_code (code_of Exit == code_of m.draft.command) refl
     by_exit false e = no e
 
--- so the edits of a turn change nothing where the draft says Exit and all tracks are done with
+-- the edits of a turn change nothing if the draft says Exit and all tracks are done with
 pub quiet_edits : (c : Setup) (k : Learnt) (m : NormalKept) (e : Turn) → is_exit m.draft ≡ true → AllByRecursion IsDone m.tracks → after_edits c k e m ≡ m
 unfolding mutated
 quiet_edits c k m e exit done =
@@ -147,9 +147,9 @@ quiet_edits c k m e exit done =
     let tracks : after_tracks c k e (after_ack e.ack m) ≡ m = ap (after_tracks c k e) acked ∙ served in
     ap (mutated c k e.room) tracks ∙ ap (commanded_by c e.room) (edits_same c k m (length m.tracks) done) ∙ exit_again c e.room m exit
 
--- ## Where the draft doesn't say Exit
+-- ## If the draft doesn't say Exit
 
--- an Exit comes into the draft only where all tracks are done with
+-- an Exit comes into the draft only if all tracks are done with
 pub ordered_over : (command : Command) (m : NormalKept) → is_exit m.draft ≡ false → ((code_of command == code_of Exit) ≡ true → AllByRecursion IsDone m.tracks)
     → is_exit (ordered command m).draft ≡ true → AllByRecursion IsDone (ordered command m).tracks
 unfolding ordered
@@ -160,6 +160,7 @@ ordered_over command m runs done = by_same (code_of command == code_of m.draft.c
     by_same true exit = no (sym runs ∙ exit)
     by_same false exit = done exit
 
+-- an Exit is the next command only if all tracks are done with
 pub exit_when_over : (tracks : List TrackKept) (room size : ℕ) → (code_of (next_command false tracks room size) == code_of Exit) ≡ true → AllByRecursion IsDone tracks
 unfolding next_command
 exit_when_over tracks room size = by_over (is_over tracks) (room == size) refl (list_any (λ s. plays s.life) tracks || not (room == size))
@@ -173,7 +174,7 @@ exit_when_over tracks room size = by_over (is_over tracks) (room == size) refl (
     by_over true false is mixes h = by_rest mixes h
     by_over false b is mixes h = by_rest mixes h
 
--- nor where there is less room than the pipe has
+-- an Exit is the next command only if there is as much room as the pipe has
 pub exit_when_empty : (tracks : List TrackKept) (room size : ℕ) → (code_of (next_command false tracks room size) == code_of Exit) ≡ true → room ≡ size
 unfolding next_command
 exit_when_empty tracks room size = by (is_over tracks) (room == size) refl (list_any (λ s. plays s.life) tracks || not (room == size))
@@ -198,7 +199,7 @@ ordered_exit command m runs = by_same (code_of command == code_of m.draft.comman
 
 -- ## What is mixed
 
--- of tracks that are done with none is mixed in a turn
+-- if all tracks are done with, none is mixed in a turn
 pub done_here : (tracks : List TrackKept) → AllByRecursion IsDone tracks → mixed_here tracks ≡ []
 done_here tracks done = none_passes (λ i. is_mixed_here (track_at tracks i)) (range_with_len 0 (length tracks)) (λ i. quiet (not (is_some (track_at tracks i).slot)) (plays (track_at tracks i).life) (plays_at tracks i done))
   where

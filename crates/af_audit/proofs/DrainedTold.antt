@@ -43,7 +43,7 @@ module _ (cut : Bool) (s : Session) (script : IsScript s.script) (marks : Marks)
   sends_round : SendsSo s n (after_round s run round) (round_steps s run round round.turn n steps) (sent ++ sent_in run round n)
   sends_round = record { settles = round_settles cut s script marks run round tracks n low form legal h.settles calm; so = sent_round s run round n h.settles.tells.low cut marks legal low steps sent h.so }
 
-  -- the words taken by its end begin those released
+  -- the words taken by the end of the round begin those released
   taken_begins : (count : ℕ) × (last.taken ≡ take count last.released)
   taken_begins =
       let now = round_settles cut s script marks run round tracks n low form legal h.settles calm in
@@ -82,12 +82,12 @@ new_sends s n script low = record {
 abbrev pub AreDrained : Session → List RoundSeen → Type 0
 AreDrained s rounds = (track : ℕ) → track < track_count s → WhereDrained (λ run steps sent. HasReachedStop (is_lawful_track rounds track) (consumed_of run track) steps sent) s (new_run s) [] [] rounds track
 
--- in legal rounds of a script, ended or cut off, they have
+-- in legal rounds of a script, ended or cut off, each track that is reported drained has reached its STOP
 pub rounds-drained : Reaches → (cut : Bool) (s : Session) (marks : Marks) (tracks : ℕ) (rounds : List RoundSeen) → IsScript s.script → All (IsRound tracks) rounds → LegalRounds cut s marks (new_run s) rounds → AreDrained s rounds
 rounds-drained reached cut s marks tracks rounds is forms legal track low =
     let calm = λ (lawful : is_lawful_track rounds track ≡ true). not_true (list_any (λ (round : RoundSeen). list_any (is_poke_on true) (calls_in round track)) rounds) (both_right (is_lawful_block false rounds track) (is_lawful_block true rounds track) lawful) in
     rounds_told reached cut s is marks tracks track (is_lawful_track rounds track) rounds (new_run s) [] [] low forms legal calm (new_keeps s track low) (λ lawful. new_sends s track is low)
 
--- by the end of a legal run too
+-- by the end of a legal run each track that is reported drained has reached its STOP
 pub drained : Reaches → (script : ScriptData) (files : List (List Frame)) (j : JournalData) → IsScript script → IsLegalRun script files j → EachDrainedTrackReachedItsStop script files j
 drained reached script files j is legal = rounds-drained reached false (session_of script files) (marks_of j.rounds) j.tracks j.rounds is legal.rounds.form.rounds legal.rounds.rounds

@@ -26,7 +26,7 @@ tail_of (x ∷ xs) = xs
 -- ## Two ways to cut a list
 
 module _ {X : Type 0} where
-  -- at two items that differ: the second one stands behind the first one, or before it
+  -- a list cut at two items that differ: the second item stands behind the first one, or before it
   places : (xs : List X) (x : X) (ys zs : List X) (w : X) (ws : List X) → xs ++ x ∷ ys ≡ zs ++ w ∷ ws → x ≢ w → ((rest : List X) × (zs ≡ xs ++ x ∷ rest)) ⊎ ((rest : List X) × (xs ≡ zs ++ w ∷ rest) × (rest ++ x ∷ ys ≡ ws))
   unfolding tail_of
   places [] x ys [] w ws e other = absurd (other (ap (λ l. get_or l 0 x) e))
@@ -39,7 +39,7 @@ module _ {X : Type 0} where
         | inr b ↦ inr (b.0, (λ i. first i ∷ b.1 i), b.2)
       ]
 
-  -- before an item or behind it
+  -- a list cut in two parts: an item stands in the second part, or in the first one
   sides : (xs ys zs : List X) (w : X) (ws : List X) → xs ++ ys ≡ zs ++ w ∷ ws → ((rest : List X) × (zs ≡ xs ++ rest)) ⊎ ((rest : List X) × (xs ≡ zs ++ w ∷ rest))
   unfolding tail_of
   sides [] ys zs w ws e = inl (zs, refl)
@@ -152,7 +152,7 @@ hand_puts : (p : TrackPoint) (e : HandEvent) → (after_hand p e).released ≡ p
 hand_puts p (hand.SetFlags bits) = refl
 hand_puts p (hand.Met count) = refl
 
--- the point's count is that of the client's list
+-- the count of a point is that of the client's list
 pub released_told : (k : Shape) (order : List Moment) → (after (start k) order).released ≡ k.base + released_in (client_of order)
 released_told k [] = omega arith
 released_told k (by_client e ∷ order) = let a = released_told k order in let b = put_next (after (start k) order) e in let c : released_in (client_of order ++ e ∷ []) ≡ released_in (client_of order) + put_by e = fold-append puts 0 (client_of order) (e ∷ []) in omega (arith, a, b, c)
@@ -181,7 +181,7 @@ more_seen k n (e ∷ es) = let a = more_seen k (sees_more k n e) es in let b = o
     one_more n (server.SetStatus word) = omega arith
     one_more n (server.Learn count) = omega arith
 
--- a front of a list saw no more
+-- the first events of a list saw no more flushes than all of it
 pub most_grows : (k : Shape) (xs ys : List ServerEvent) → most_seen k xs ≤ most_seen k (xs ++ ys)
 most_grows k xs ys = subst (λ n. most_seen k xs ≤ n) (sym (fold-append (sees_more k) 0 xs ys)) (more_seen k (most_seen k xs) ys)
 
@@ -263,7 +263,7 @@ module _ (k : Shape) (from count : ℕ) (order : List Moment) (met : MetSo k fro
           let long : length met.servers ≡ length (server_of early) + length (server.Drop to ∷ rest) = ap length is ∙ length-append (server_of early) (server.Drop to ∷ rest) in
           absurd (omega (arith, may, all, long))
 
-  -- a drop after it follows a look that sees more flushes
+  -- a drop after the meeting follows a look that sees more flushes
   late_sees : (rest : List ServerEvent) → server_of early ≡ met.servers ++ server.Learn met.other ∷ rest → count < flushes_by k.wrap (server_kept k (server_of early)).flush
   unfolding is_learn has_learn
   late_sees rest is =
@@ -294,7 +294,7 @@ module _ (k : Shape) (from count : ℕ) (order : List Moment) (met : MetSo k fro
           learn_stands : (more : List ServerEvent) → more ++ server.Learn met.other ∷ rest ≡ server.SawRear s.rear ∷ server.SawFront s.front ∷ [] → ⊥
           learn_stands more e = no (sym (ap has_learn e) ∙ learn_in more met.other rest)
 
-  -- so each drop does what is promised
+  -- a drop that discards a frame released after the meeting follows a look that saw more flushes
   drops_so : DropsAbove k from count early (server.Drop to)
   unfolding p is_learn
   drops_so frame high low within = by_place (places met.servers (server.Learn met.other) met.servers_later (server_of early) (server.Drop to) (server_of late) (sym met.servers_are ∙ servers_cut) (apart met.other (server.Drop to) plain))
@@ -307,7 +307,7 @@ module _ (k : Shape) (from count : ℕ) (order : List Moment) (met : MetSo k fro
       by_place (inl behind) = late_sees behind.0 behind.1
       by_place (inr before) = let reach = early_reaches before.0 before.1 in absurd (omega (arith, reach, high, within))
 
--- each drop of the order does
+-- each drop of the order that discards such a frame follows such a look
 module _ (k : Shape) (from count : ℕ) (order : List Moment) (met : MetSo k from count order) where
   any_so : (late : List Moment) (e : ServerEvent) (early : List Moment) → order ≡ late ++ by_server e ∷ early → DropsAbove k from count early e
   any_so late (server.Drop to) early whole = drops_so k from count order met late early to whole

@@ -24,13 +24,13 @@ use Rattle.af_model.proofs.Logic.{both_left, both_right}
 use Rattle.af_audit.specs.Fates.{DropsByFlush, ComesByFlush}
 use Rattle.af_audit.proofs.Booleans.{no}
 
--- ## Some events more
+-- ## More events
 
 pub drops_join : (k : Shape) (before xs ys : List ServerEvent) → DropsByFlush k before xs → DropsByFlush k (before ++ xs) ys → DropsByFlush k before (xs ++ ys)
 drops_join k before [] ys h g = subst (λ (es : List ServerEvent). DropsByFlush k es ys) (append-nil before) g
 drops_join k before (x ∷ xs) ys h g = (h.0, drops_join k (before ++ x ∷ []) xs ys h.1 (subst (λ (es : List ServerEvent). DropsByFlush k es ys) (sym (append_assoc before (x ∷ []) xs)) g))
 
--- after those of a server before
+-- events whose drops belong to flushes, after those of a server before
 pub drops_more : (k : Shape) (xs ys : List ServerEvent) → DropsByFlush k [] xs → DropsByFlush k xs ys → DropsByFlush k [] (xs ++ ys)
 drops_more k xs ys h g = drops_join k [] xs ys h g
 
@@ -46,7 +46,7 @@ may_keep k before (server.SetFlags bits) h = tt
 may_keep k before (server.SetStatus word) h = tt
 may_keep k before (server.Learn count) h = tt
 
--- events without a drop
+-- events without a drop need no flush
 pub none_dropped : (k : Shape) (before es : List ServerEvent) → drops_none es ≡ true → DropsByFlush k before es
 none_dropped k before [] none = tt
 none_dropped k before (e ∷ es) none = (may_keep k before e (both_left (keeps_all e) (drops_none es) none), none_dropped k (before ++ e ∷ []) es (both_right (keeps_all e) (drops_none es) none))
@@ -82,7 +82,7 @@ tally_none missing = by_zero (missing == 0)
     by_zero true = refl
     by_zero false = refl
 
--- the events of a cycle or of a take, by a look that answers by what the list before tells
+-- the events of a cycle or of a take, by a look that answers by what the list before says
 module _ (asked : ℕ) (s : Listed) (before : List ServerEvent) (slot : SlotEntry) (front told : ℕ) (still : (server_kept s.shape before).flush ≡ (kept s).flush) where
   abbrev start : List ServerEvent
   start = before ++ server.SawGain slot.gains ∷ []
@@ -118,13 +118,13 @@ module _ (asked : ℕ) (s : Listed) (before : List ServerEvent) (slot : SlotEntr
       by_shut None is = looked slot.seen is
       by_shut (Some words) is = none_dropped s.shape start (after_look asked true slot.seen) (after_none true slot.seen)
 
--- the events of a cycle
+-- each drop among the events of a cycle belongs to a flush that was noticed
 pub cycle_drops : (asked : ℕ) (s : Listed) (slot : SlotEntry) (front told : ℕ) → LooksBy asked s slot front → DropsByFlush s.shape s.events (cycle_events asked s slot told)
 cycle_drops asked s slot front told by = drops_cycled asked s s.events slot front told refl by
 
 -- ## A turn
 
--- at most one take is of a track
+-- no take is of a track whose number is below those of all takes
 nothing_from : (low : ℕ) (takes : List TakeSeen) (i : ℕ) → TracksRise low takes → i < low → takes_from takes i ≡ []
 nothing_from low [] i rise lt = refl
 nothing_from low (t ∷ takes) i rise lt =
@@ -132,12 +132,14 @@ nothing_from low (t ∷ takes) i rise lt =
     let other : (t.track == i) ≡ false = grind (arith, nat_tests, r, lt) in
     ap (λ (b : Bool). cond b (t ∷ takes_from takes i) (takes_from takes i)) other ∙ nothing_from (t.track + 1) takes i rise.1 (omega (arith, r, lt))
 
+-- the one take of a track
 pub record OneTake (P : TakeSeen → Type 0) (i : ℕ) (takes : List TakeSeen) : Type 0 where
   pub take : TakeSeen
   pub is : takes ≡ take ∷ []
   pub of_track : take.track ≡ i
   pub holds : P take
 
+-- at most one take is of a track
 pub one_take : (P : TakeSeen → Type 0) (low : ℕ) (takes : List TakeSeen) (i : ℕ) → TracksRise low takes → AllByRecursion P takes → (takes_from takes i ≡ []) ⊎ OneTake P i (takes_from takes i)
 one_take P low [] i rise all = inl refl
 one_take P low (t ∷ takes) i rise all = by_case (t.track == i) refl (one_take P (t.track + 1) takes i rise.1 all.1)
@@ -148,7 +150,7 @@ one_take P low (t ∷ takes) i rise all = by_case (t.track == i) refl (one_take 
         inr (record { take = t; is = ap (λ (ts : List TakeSeen). t ∷ ts) (nothing_from (t.track + 1) takes i rise.1 (omega (arith, e))); of_track = e; holds = all.0 })
     by_case false other rest = rest
 
--- INVALID leaves what is kept of the flushes
+-- further events drop only by flushes that were noticed, and leave the flush word that is kept
 record IsStill (k : Shape) (before more : List ServerEvent) : Type 0 where
   drops : DropsByFlush k before more
   flush : (server_kept k (before ++ more)).flush ≡ (server_kept k before).flush
@@ -178,7 +180,7 @@ module _ (c : Setup) (o told : Outside) (m : NormalKept) (e : Turn) (i : ℕ) (s
   abbrev flags : List TrackKept → List ServerEvent
   flags tracks = if is_home (track_at tracks i).holder then invalid (learnt told) (track_in e i) tracks i else []
 
-  -- the events of a legal turn
+  -- each drop among the events of a legal turn belongs to a flush that was noticed
   pub turn_drops : (tracks : List TrackKept) → LegalTurn c o m e → DropsByFlush s.shape s.events (stream_list c told e tracks i)
   turn_drops tracks legal = by_end e.ended refl
     where

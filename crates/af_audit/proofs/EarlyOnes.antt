@@ -14,7 +14,7 @@ module _ (log : List CycleEntry) (first count pushed : ℕ) (inside : first + co
   abbrev own : List CycleEntry
   own = take count (drop first log)
 
-  -- names a state that was pushed
+  -- an entry names a state that was pushed
   abbrev names : CycleEntry → Bool
   names e = nat_le e.state pushed
 
@@ -24,7 +24,7 @@ module _ (log : List CycleEntry) (first count pushed : ℕ) (inside : first + co
   entry-own : (at : ℕ) → at < count → get_or own at no_entry ≡ entry_at log (first + at)
   entry-own at low = get_or-take count (drop first log) at no_entry low ∙ get_or-drop first log at no_entry
 
-  -- one more is early
+  -- one more entry is early
   pub early_more : (at : ℕ) (e : CycleEntry) → at < count → at ≤ prefix_len names own → e ≡ entry_at log (first + at) → e.state ≤ pushed → at + 1 ≤ prefix_len names own
   early_more at e low sofar is early = by_case (cases_eq at (prefix_len names own))
     where
@@ -37,7 +37,7 @@ module _ (log : List CycleEntry) (first count pushed : ℕ) (inside : first + co
           absurd (let z : ⊥ = omega (arith, past, early) in z)
       by_case (inr apart) = omega (arith, sofar, apart)
 
-  -- the first one that isn't
+  -- the first entry that isn't early ends the early ones
   pub early_stops : (at : ℕ) (e : CycleEntry) → at < count → at ≤ prefix_len names own → e ≡ entry_at log (first + at) → pushed < e.state → at ≡ prefix_len names own
   early_stops at e low sofar is late = by_case (cases_eq at (prefix_len names own))
     where
@@ -49,6 +49,6 @@ module _ (log : List CycleEntry) (first count pushed : ℕ) (inside : first + co
           let low : e.state ≤ pushed = grind (arith, nat_tests, early) in
           absurd (let z : ⊥ = omega (arith, low, late) in z)
 
-  -- all are
+  -- all entries are early
   pub early_all : count ≤ prefix_len names own → count ≡ prefix_len names own
   early_all all = let l = long in let most = prefix_len-le-length names own in omega (arith, all, l, most)

@@ -1,4 +1,4 @@
--- By the end of a legal run all that the normal mixer put into the pipe was taken: an Exit comes into its draft only where it sees the whole room, and from then on it puts nothing.
+-- By the end of a legal run all that the normal mixer put into the pipe was taken: an Exit comes into its draft only if it sees the whole room, and from then on it puts nothing.
 use Rattle.std.proofs.Common.{◌≡◌, ℕ, ◌*◌, ◌<◌, ◌≤◌, Bool, true, false, if◌then◌else◌, map, List, [], ◌∷◌, ◌++◌, length, take, Option, Some, None, refl, sym, ap, ◌∙◌, subst, append_assoc, append-nil, arith}
 use Rattle.std.proofs.Math.Nat.{mul-le-mul}
 use Rattle.std.proofs.lemmas.List.{take_all}
@@ -30,7 +30,7 @@ use Rattle.af_audit.proofs.MixerRounds.{mixed_none, round_ends, said_ended, said
 use Rattle.af_audit.proofs.PipeDrains.{all_taken}
 use Rattle.af_audit.proofs.PipeRounds.{RoundFlows, ended_pipe, round_flows, turn_events, turn_words}
 
--- the frames taken begin those put, and where the draft says Exit they are no fewer
+-- the frames taken begin those put, and if the draft says Exit they are no fewer
 record Empties (run : Run) : Type 0 where
   mixer : EndsHome run.normal
   begins : run.pipe.taken ≡ take (length run.pipe.taken) run.pipe.put
@@ -55,7 +55,7 @@ module _ (cut : Bool) (s : Session) (form : IsScript s.script) (marks : Marks) (
   flows : RoundFlows s run round
   flows = round_flows s run round
 
-  -- where nothing was put and the draft had said Exit
+  -- all was taken, if nothing was put and the draft had said Exit
   was_emptied : turn_words s round.turn ≡ [] → is_exit run.normal.draft ≡ true → length after.pipe.put ≤ length after.pipe.taken
   was_emptied none exit =
       let a = h.emptied exit in
@@ -63,7 +63,7 @@ module _ (cut : Bool) (s : Session) (form : IsScript s.script) (marks : Marks) (
       let c = flows.grows in
       omega (arith, a, b, c)
 
-  -- where the turn that orders the Exit saw the whole room
+  -- all was taken, if the turn that orders the Exit saw the whole room
   now_emptied : (e : Turn) → round.turn ≡ Some e → e.ended ≡ false → e.mixes ≡ [] → e.room ≡ pipe_size (setup_of s) → turn_words s round.turn ≡ [] → length after.pipe.put ≤ length after.pipe.taken
   now_emptied e is runs mixes room none =
       let size : ℕ = pipe_size (setup_of s) in

@@ -8,7 +8,7 @@ use Rattle.af_runs.specs.Rounds.{is_early, IsFastTurn, LegalEntries, early_of, l
 use Rattle.af_runs.specs.Runs.{Run, most_cycles, with_calls}
 use Rattle.af_runs.specs.Sessions.{Session}
 
--- where there are none too
+-- both parts of the entries are legal, also if there are no entries
 pub legal_parts : (b full : Bool) (s : Session) (marks : Marks) (run : Run) (round : RoundSeen) → MatchBool b (round.entries ≡ []) (IsFastTurn most_cycles full round.entries × LegalEntries s marks (with_calls round run) (early_of run round) × LegalEntries s marks (after_turn s run round) (late_of run round))
     → LegalEntries s marks (with_calls round run) (early_of run round) × LegalEntries s marks (after_turn s run round) (late_of run round)
 legal_parts false full s marks run round h = (h.1, h.2)

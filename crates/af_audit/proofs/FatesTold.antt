@@ -51,7 +51,7 @@ module _ (s : Session) (track : ℕ) (low : track < track_count s) where
 
 -- ## At the end
 
--- where all parties have ended, the normal mixer has
+-- if all parties have ended, the normal mixer has
 pub normal_ended : (s : Session) (run : Run) → all_ended s run ≡ true → run.normal.ended ≡ true
 normal_ended s run all =
     let at = each_ended s run (normal_party s) all (omega arith) in

@@ -20,11 +20,12 @@ use Rattle.af_audit.proofs.Booleans.{no}
 
 -- ## What is still to be done
 
--- how many flushes a want, and some wants, ask for
+-- how many flushes a want asks for
 abbrev pub asks_flush : Want → ℕ
 asks_flush want.Flush = 1
 asks_flush _ = 0
 
+-- how many flushes some wants ask for
 abbrev pub flushes_due : List Want → ℕ
 flushes_due [] = 0
 flushes_due (w ∷ wants) = asks_flush w + flushes_due wants
@@ -37,7 +38,7 @@ only_few : (b : Bool) (wants : List Want) → flushes_due wants ≤ 1 → flushe
 only_few true wants h = h
 only_few false wants h = omega arith
 
--- an op asks for one at most
+-- an op asks for one flush at most
 op_few : (m : Mode) (o : Op) → flushes_due (wants_of m o) ≤ 1
 op_few m op.OpenTrack = omega arith
 op_few m op.Start = only_few (not (is_active m)) (want.Send command.Start ∷ want.Settled ∷ []) (omega arith)
@@ -72,7 +73,7 @@ more_none left wants = by_zero (left == 0)
     by_zero true = refl
     by_zero false = omega arith
 
--- the flushes left once a client goes on with these wants, where it had no fewer due
+-- the flushes left once a client goes on with these wants, if it had no fewer due
 module _ (wants : List Want) (c : Client) (low : flushes_due wants ≤ flushes_due c.due) where
   sent_few : (sending : ClientCommand) → flushes_left (after_sent sending wants c) ≤ flushes_left c
   sent_few sending = if_few (is_last sending) (ends (goes_on wants c)) (record (goes_on wants c) { mode = mode_after sending c.mode }) (flushes_left c) (omega (arith, low)) (omega (arith, low))
@@ -193,7 +194,7 @@ pub flushes_join : (xs ys : List ClientEvent) → flushes_of (xs ++ ys) ≡ flus
 flushes_join [] ys = omega arith
 flushes_join (x ∷ xs) ys = let a = flushes_join xs ys in omega (arith, a)
 
--- a call that is wanted flushes where that is wanted
+-- a call that is wanted flushes only if a flush is wanted
 wanted_flush : (t : Track) (w : Want) (answer : ClientCall) → IsWanted t w answer → flushes_by_call answer ≤ asks_flush w
 wanted_flush t w (call.Put front count) is = omega arith
 wanted_flush t w (call.Full front) is = omega arith
@@ -233,7 +234,7 @@ stream_flushes t answer = by_side (is_of_commands answer)
         let c = call_flushes (is_some shut) answer in
         omega (arith, a, c)
 
--- a call that is made takes from those that are left
+-- a call takes its flushes from those that are left
 call_few : (t : Track) (w : Want) (answer : ClientCall) → wanted_of t ≡ Some w → IsMade t w answer → all_flushes (after_call t answer) ≤ all_flushes t
 call_few t w answer is made =
     let rest = rest_of (begun t.client).due in
@@ -266,7 +267,7 @@ rested_few (want.Leave ∷ wants) = omega arith
 next_few : (cut : Bool) (c : Client) → flushes_left (at_next_turn cut c) ≤ flushes_left c
 next_few cut c = let a = begun_few c in let b = rested_few (begun c).due in if_few (c.waiting || c.ended || cut) (record c { waiting = false }) (record (begun c) { due = rested (begun c).due }) (flushes_left c) (omega arith) (omega (arith, a, b))
 
--- so does a legal turn
+-- a legal turn takes its flushes from those that are left
 pub turn_few : (t : Track) (calls : List ClientCall) → LegalClientTurn t calls → all_flushes (after_calls t calls) ≤ all_flushes t
 turn_few t calls legal = let a = made_few t.client.ended legal in let b = next_few (length calls == most_calls) (fold after_call t calls).client in omega (arith, a, b)
   where

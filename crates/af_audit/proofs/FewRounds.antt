@@ -33,7 +33,7 @@ use Rattle.af_audit.proofs.FewFlushes.{all_flushes, flushes_join, flushes_left, 
 abbrev pub told_flushes : TrackTold → ℕ
 told_flushes t = all_flushes (sides_of t)
 
--- the server and the hand add none
+-- the server and the hand add no flushes
 served_same : (b : BlockTold) (es : List ServerEvent) (hs : List HandEvent) → flushes_of (client_list (server_does es (hand_does hs b))) ≡ flushes_of (client_list b)
 served_same b es hs = ap flushes_of (server-client (hand_does hs b).told es ∙ hand-client b.told hs)
 
@@ -120,7 +120,7 @@ module _ (most n : ℕ) where
       by_end true = each_few (λ track t. record t { client = ends t.client }) run h (omega arith)
       by_end false = h
 
-  -- a legal round adds none
+  -- a legal round adds no flushes
   pub round_has : (cut : Bool) (s : Session) (marks : Marks) (run : Run) (round : RoundSeen) → n < track_count s → LegalRound cut s marks run round → HasFew most n run → HasFew most n (after_round s run round)
   round_has cut s marks run round low legal h =
       let a = calls_have round run (legal.turns.clients n low) h in

@@ -1,4 +1,4 @@
--- What a client does to its stream block: it releases the frames of its file from the first on, and where none of its calls pokes the block no poke is told.
+-- What a client does to its stream block: it releases the frames of its file from the first on, and if none of its calls pokes the block its list has no poke.
 use Rattle.std.proofs.Common.{◌≡◌, ℕ, zero, suc, ◌+◌, Bool, true, false, if◌then◌else◌, is_some, fold, List, [], ◌∷◌, ◌++◌, take, drop, length, refl, sym, ap, ◌∙◌, subst, append-nil, take-add}
 use Rattle.std.specs.List.{list_any}
 use Rattle.af_base.specs.declared.event.ClientCall.{ClientCall}
@@ -22,7 +22,7 @@ take_again zero xs = refl
 take_again (suc n) [] = refl
 take_again (suc n) (x ∷ xs) = ap (λ l. x ∷ l) (take_again n xs)
 
--- so many words as were released are the first of the file
+-- words that begin a file are as many of its first words
 pub begins_by_length : (file words : List ℕ) → Begins file words → words ≡ take (length words) file
 begins_by_length file words b = b.is ∙ sym (take_again b.count file) ∙ ap (λ l. take (length l) file) (sym b.is)
 
@@ -59,7 +59,7 @@ call_lawful shut (call.Poke false word value) stream calm = no (sym calm)
 
 -- ## What holds of a client's side
 
--- it released the first words of its file, and poked nothing
+-- a client released the first words of its file, and poked nothing
 pub record IsFromFile (t : Track) : Type 0 where
   pub begins : Begins t.file t.stream.released
   pub tame : is_lawful t.stream.events ≡ true
@@ -67,7 +67,7 @@ pub record IsFromFile (t : Track) : Type 0 where
 still : (t : Track) → Begins t.file t.stream.released → Begins t.file (t.stream.released ++ [])
 still t b = subst (Begins t.file) (sym (append-nil t.stream.released)) b
 
--- the words of a call on the stream block
+-- the words released begin the file after a call on the stream block
 call_begins : (t : Track) (answer : ClientCall) → is_of_commands answer ≡ false → Begins t.file t.stream.released → Begins t.file (t.stream.released ++ released_by t answer)
 call_begins t (call.Put front count) stream b = record { count = length t.stream.released + count; is = begins_more t.file t.stream.released count (begins_by_length t.file t.stream.released b) }
 call_begins t (call.Sent front code argument) stream b = no (sym stream)
@@ -99,6 +99,6 @@ after_all t (answer ∷ calls) calm h =
     let two = neither (is_poke_on false answer) (list_any (is_poke_on false) calls) calm in
     after_all (after_call t answer) calls two.1 (after_one t answer two.0 h)
 
--- a turn without a poke on the stream block keeps it
+-- after a turn without a poke on the stream block a client still released the first words of its file, and poked nothing
 pub calls_from_file : (t : Track) (calls : List ClientCall) → list_any (is_poke_on false) calls ≡ false → IsFromFile t → IsFromFile (after_calls t calls)
 calls_from_file t calls calm h = let a = after_all t calls calm h in record { begins = a.begins; tame = a.tame }

@@ -15,7 +15,7 @@ use Rattle.af_audit.specs.Verdicts.{AllBefore, AllClear, AreClear, IsClear, IsFi
 use Rattle.af_audit.proofs.LeastOnes.{all_clear, fault_at_end, fault_here}
 use Rattle.af_audit.proofs.PartiesEnded.{all_is, going_least}
 
--- some rounds more
+-- the run after some more rounds
 pub from-more : (s : Session) (run : Run) (first rest : List RoundSeen) → run_from s run (first ++ rest) ≡ run_from s (run_from s run first) rest
 from-more s run [] rest = refl
 from-more s run (r ∷ first) rest = from-more s (after_round s run r) first rest
@@ -41,14 +41,14 @@ before-more : (cut : Bool) (s : Session) (marks : Marks) (run : Run) (first : Li
 before-more cut s marks run [] round h clear = (clear, tt)
 before-more cut s marks run (r ∷ first) round h clear = (h.0, before-more cut s marks (after_round s run r) first round h.1 clear)
 
--- one round more is clear
+-- clear rounds and one more clear round are clear
 pub clear_more : (cut : Bool) (s : Session) (marks : Marks) (rounds : List RoundSeen) (n : ℕ) → n < length rounds → AllBefore cut s marks (new_run s) (take n rounds) → LeastBelow (IsClear cut s marks (run_before s rounds n) (slice_index_or rounds n no_round)) (fast_party s + 1) None
     → AllBefore cut s marks (new_run s) (take (n + 1) rounds)
 clear_more cut s marks rounds n lt h least =
     let round = slice_index_or rounds n no_round in
     subst (AllBefore cut s marks (new_run s)) (sym (take-more rounds n lt)) (before-more cut s marks (new_run s) (take n rounds) round h (all_clear cut s marks (run_before s rounds n) round least))
 
--- behind clear rounds
+-- a first fault behind clear rounds is that of all rounds
 fault-behind : (cut : Bool) (s : Session) (marks : Marks) (run : Run) (first rest : List RoundSeen) (number party : ℕ) → AllBefore cut s marks run first → IsFirstFault cut s marks (run_from s run first) rest number party → IsFirstFault cut s marks run (first ++ rest) (length first + number) party
 fault-behind cut s marks run [] rest number party h fault = subst (λ (k : ℕ). IsFirstFault cut s marks run rest k party) (let e : number ≡ 0 + number = omega arith in e) fault
 fault-behind cut s marks run (r ∷ first) rest number party h fault =
@@ -93,7 +93,7 @@ found_at_end s marks run rounds (Some party) h ended least =
     subst (λ (k : ℕ). IsFirstFault false s marks run rounds k party) (let e : length rounds + 0 ≡ length rounds = omega arith in e)
     (subst (λ (l : List RoundSeen). IsFirstFault false s marks run l (length rounds + 0) party) (append-nil rounds) (fault-behind false s marks run rounds [] 0 party h (fault_at_end false s marks (run_from s run rounds) party least)))
 
--- so it is by what is kept behind clear rounds
+-- behind clear rounds the party found by what is kept is at fault, or there is none
 pub found_last : (s : Session) (marks : Marks) (rounds : List RoundSeen) (j : RunJudge) (tracks : List TrackJudge) (found : Option ℕ) → FindsUnclear false s marks (new_run s) rounds j tracks None → LeastBelow (λ p. party_ended j tracks p ≡ true) (length tracks + 2) found
     → FindsFault s marks (new_run s) rounds (at_end (length rounds) found)
 found_last s marks rounds j tracks found clear least =

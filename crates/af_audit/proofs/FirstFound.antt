@@ -4,7 +4,7 @@ use Rattle.std.specs.Prelude.{find, unwrap_or}
 use Rattle.std.proofs.Common.{◌≡◌, ℕ, zero, suc, ◌+◌, ◌<◌, ◌≤◌, Bool, true, false, if◌then◌else◌, is_some, Option, Some, None, refl, sym, ap, ◌∙◌, subst, arith}
 use Rattle.af_audit.proofs.Booleans.{no}
 
--- one that is found passes, and lies in the range
+-- a number that is found passes, and lies in the range
 pub record FoundAt (p : ℕ → Bool) (a n k : ℕ) : Type 0 where
   pub holds : p k ≡ true
   pub high : k < a + n

@@ -23,7 +23,7 @@ positive : (w : ℕ) → (w == 0) ≡ false → 0 < w
 positive zero e = no (sym e)
 positive (suc w) e = omega arith
 
--- a flush word tells of how many flushes there were, where they are few
+-- a flush word says how many flushes there were, if they are few
 pub flushes_told : (wrap flushes position : ℕ) → wrap ≤ 32768 → flushes ≤ 65536 → flushes_by wrap (flush_number wrap flushes position) ≡ flushes
 flushes_told wrap flushes position narrow few = by_wrap (wrap == 0) refl
   where
@@ -35,7 +35,7 @@ flushes_told wrap flushes position narrow few = by_wrap (wrap == 0) refl
         let whole : wrapped (flushes * wrap + position % wrap) ≡ flushes * wrap + position % wrap = mod-eq_of_lt (omega (arith, inside, small, few, narrow)) in
         ap (λ n. n / wrap) whole ∙ div-mul-add flushes wrap (position % wrap) inside
 
--- before any flush it is 0
+-- before any flush the flush word is 0
 none_as : (w : ℕ) (b : Bool) → (w == 0) ≡ b → 0 ≡ (if b then 0 else wrapped (0 * w + 0 % w))
 none_as w true e = refl
 none_as w false e =
@@ -45,7 +45,7 @@ none_as w false e =
 
 -- ## What was seen
 
--- what a list tells of its server's looks is what the point tells: the flush word seen last, and the most flushes seen
+-- what a list says of its server's looks is what the point says: the flush word seen last, and the most flushes seen
 record FlushesStand (k : Shape) (p : TrackPoint) (flush most : ℕ) : Type 0 where
   wrap_is : p.wrap ≡ k.wrap
   low : p.flush_seen ≤ p.flushes
@@ -68,7 +68,7 @@ hand_stands : (k : Shape) (p : TrackPoint) (flush most : ℕ) (e : HandEvent) �
 hand_stands k p flush most (hand.SetFlags bits) s = record { wrap_is = s.wrap_is; low = s.low; word = s.word; same = s.same; most_is = s.most_is }
 hand_stands k p flush most (hand.Met count) s = s
 
--- some flushes more
+-- an event of a client takes no flushes back
 more_flushes : (p : TrackPoint) (e : ClientEvent) → p.flushes ≤ (after_client p e).flushes
 more_flushes p (client.Release count) = omega arith
 more_flushes p client.Flush = omega arith

@@ -1,4 +1,4 @@
--- What the lists of a run's servers tell only grows from step to step of a run.
+-- What the lists of a run's servers show only grows from step to step of a run.
 use Rattle.std.proofs.Common.{◌≡◌, inl, inr, ℕ, ◌<◌, ◌≤◌, List, ◌++◌, length, Option, Some, None, refl, sym, ap, ◌∙◌, arith}
 use Rattle.std.proofs.lemmas.Bool.{cases_lt}
 use Rattle.std.proofs.lemmas.List.{get_or_past}
@@ -30,7 +30,7 @@ run_both a b c first next = record {
   tracks = λ n low. run_twice n a b c (first.tracks n low) (next.tracks n (let m = first.many in omega (arith, m, low)));
 }
 
--- what the list of a track's server tells grows
+-- what the list of a track's server shows grows
 pub track_told : (measure : Measure) (a b : Run) (n : ℕ) → TrackGrows n a b → of_run measure a n ≤ of_run measure b n
 track_told measure a b n g =
     let grown = g.track.stream in

@@ -1,4 +1,4 @@
--- What is told of a track's two blocks is never taken back: each step of a round adds to it.
+-- What is recorded of a track's two blocks is never taken back: each step of a round adds to it.
 use Rattle.std.specs.List.{flat_map}
 use Rattle.std.proofs.Common.{◌≡◌, ℕ, ◌<◌, Bool, true, false, if◌then◌else◌, fold, map, List, [], ◌∷◌, ◌++◌, drop, length, Option, Some, None, refl, sym, ap, ◌∙◌, subst, arith, append_assoc}
 use Rattle.af_base.specs.declared.event.ClientCall.{ClientCall}
@@ -33,13 +33,13 @@ use Rattle.af_judge.proofs.EachTrack.{each_long, told_each}
 
 -- ## Blocks
 
--- a block of which more is told
+-- a block of which more is recorded
 pub record Grows (a b : BlockTold) : Type 0 where
   pub shape : b.shape ≡ a.shape
   pub more : List Moment
   pub told : b.told ≡ more ++ a.told
 
--- both blocks of a track
+-- a track of whose two blocks more is recorded
 pub record TrackGrows (a b : TrackTold) : Type 0 where
   pub stream : Grows a.stream b.stream
   pub commands : Grows a.commands b.commands
@@ -50,12 +50,12 @@ grows_none a = record { shape = refl; more = []; told = refl }
 pub grows_twice : (a b c : BlockTold) → Grows a b → Grows b c → Grows a c
 grows_twice a b c f g = record { shape = g.shape ∙ f.shape; more = g.more ++ f.more; told = g.told ∙ ap (λ l. g.more ++ l) f.told ∙ sym (append_assoc g.more f.more a.told) }
 
--- some moments more
+-- some moments are recorded in front of those before
 tells_more : (moments told : List Moment) → (more : List Moment) × (fold (λ (told : List Moment) (moment : Moment). moment ∷ told) told moments ≡ more ++ told)
 tells_more [] told = ([], refl)
 tells_more (m ∷ moments) told = let r = tells_more moments (m ∷ told) in (r.0 ++ m ∷ [], r.1 ∙ sym (append_assoc r.0 (m ∷ []) told))
 
--- a block of which these moments more are told
+-- a block of which these moments are recorded too
 told_grows : (a b : BlockTold) (moments : List Moment) → b.shape ≡ a.shape → b.told ≡ fold (λ (told : List Moment) (moment : Moment). moment ∷ told) a.told moments → Grows a b
 told_grows a b moments same is = let r = tells_more moments a.told in record { shape = same; more = r.0; told = is ∙ r.1 }
 
@@ -64,7 +64,7 @@ told_grows a b moments same is = let r = tells_more moments a.told in record { s
 client_grows : (es : List ClientEvent) (b : BlockTold) → Grows b (client_does es b)
 client_grows es b = told_grows b (client_does es b) (map by_client es) refl refl
 
--- frames are taken, the server does something, and the hand before it
+-- what a block records grows if frames are taken, the server does something, and the hand before it
 server_grows : (words : List ℕ) (es : List ServerEvent) (hs : List HandEvent) (b : BlockTold) → Grows b (took words (server_does es (hand_does hs b)))
 server_grows words es hs b =
     let first : Grows b (hand_does hs b) = told_grows b (hand_does hs b) (map by_hand hs) refl refl in
@@ -131,7 +131,7 @@ pub run_none : (n : ℕ) (a : Run) → n < length a.tracks → RunGrows n a a
 run_none n a low = record { there = low; track = track_none (told_at a n) }
 
 module _ (n : ℕ) where
-  -- each track changed by its number
+  -- a run grows if each track is changed by its number, and the track of this number grows
   pub each_grows : (change : ℕ → TrackTold → TrackTold) (a b : Run) → b.tracks ≡ (each_track change a).tracks → n < length a.tracks → TrackGrows (told_at a n) (change n (told_at a n)) → RunGrows n a b
   each_grows change a b is low grows = record {
     there = (let m = each_long change 0 a.tracks in let l = ap length is in omega (arith, m, l, low));
@@ -142,13 +142,14 @@ module _ (n : ℕ) where
   unfolding with_calls
   calls_grow round run low = each_grows (λ track t. called (calls_in round track) t) run (with_calls round run) refl low (called_grows (calls_in round n) (told_at run n))
 
-  -- a mix, and a whole cycle
+  -- a mix adds to what is recorded
   pub mix_grows : (s : Session) (e : EntrySeen) (run : Run) → n < length run.tracks → RunGrows n run (with_mix s e run)
   unfolding with_mix
   mix_grows s e run low =
       let x = state_for s run e.entry.state in
       each_grows (mixed_track s x e) run (with_mix s e run) refl low (mixed_grows s x e n (told_at run n))
 
+  -- a cycle adds to what is recorded
   pub cycle_grows : (s : Session) (e : EntrySeen) (run : Run) → n < length run.tracks → RunGrows n run (with_cycle s run e)
   unfolding with_poll
   cycle_grows s e run low = let g = mix_grows s e (with_poll s e.entry.state run) low in record { there = g.there; track = g.track }
@@ -183,7 +184,7 @@ module _ (n : ℕ) where
       by_end true = each_grows (λ track t. record t { client = ends t.client }) run _ refl low (record { stream = grows_none (told_at run n).stream; commands = grows_none (told_at run n).commands })
       by_end false = run_none n run low
 
-  -- up to the meetings of a round
+  -- what is recorded grows up to the meetings of a round
   pub played_grow : (s : Session) (run : Run) (round : RoundSeen) → n < length run.tracks → RunGrows n run (all_played s run round)
   played_grow s run round low =
       let a = calls_grow round run low in
@@ -193,7 +194,7 @@ module _ (n : ℕ) where
       let e = load_grows round.turn (with_cycles s (late_of run round) (after_turn s run round)) d.there in
       run_twice n run (with_calls round run) _ a (run_twice n (with_calls round run) (before_turn s run round) _ b (run_twice n (before_turn s run round) (after_turn s run round) _ c (run_twice n (after_turn s run round) (with_cycles s (late_of run round) (after_turn s run round)) _ d e)))
 
-  -- in a round, and in some rounds
+  -- what is recorded grows in a round
   pub round_grows : (s : Session) (run : Run) (round : RoundSeen) → n < length run.tracks → RunGrows n run (after_round s run round)
   round_grows s run round low =
       let a = played_grow s run round low in
@@ -201,6 +202,7 @@ module _ (n : ℕ) where
       let c = ends_grow (met_after s run round) b.there in
       run_twice n run (all_played s run round) _ a (run_twice n (all_played s run round) (met_after s run round) _ b c)
 
+  -- what is recorded grows in some rounds
   pub rounds_grow : (s : Session) (rounds : List RoundSeen) (run : Run) → n < length run.tracks → RunGrows n run (run_from s run rounds)
   rounds_grow s [] run low = run_none n run low
   rounds_grow s (round ∷ rounds) run low = let a = round_grows s run round low in run_twice n run (after_round s run round) _ a (rounds_grow s rounds (after_round s run round) a.there)

@@ -1,4 +1,4 @@
--- What a turn hears of a track's server is no more than the server's list tells once the round's turns were made.
+-- What a turn hears of a track's server is no more than the server's list shows once the round's turns were made.
 use Rattle.std.proofs.Common.{◌≡◌, ℕ, ◌<◌, ◌≤◌, ◌==◌, ◌&&◌, if◌then◌else◌, Bool, true, false, List, [], length, Option, Some, refl, sym, ap, ◌∙◌, subst, eqb-true, arith}
 use Rattle.af_base.specs.declared.report.SlotReport.{SlotReport}
 use Rattle.af_base.specs.declared.state.FastState.{FastState}
@@ -50,10 +50,11 @@ turn_grows s run round =
 before_grows : (s : Session) (run : Run) (round : RoundSeen) → RunGrows run (before_turn s run round)
 before_grows s run round = run_both run (with_calls round run) (before_turn s run round) (grows_calls s round run) (grows_cycles s (early_of run round) (with_calls round run))
 
--- up to the meetings, and with them
+-- the lists grow up to the meetings of a round
 pub to_played : (s : Session) (run : Run) (round : RoundSeen) → RunGrows run (all_played s run round)
 to_played s run round = run_both run (before_turn s run round) (all_played s run round) (before_grows s run round) (turn_grows s run round)
 
+-- the lists grow with the meetings of a round and the ends
 pub from_played : (s : Session) (run : Run) (round : RoundSeen) → RunGrows (all_played s run round) (after_round s run round)
 from_played s run round = run_both (all_played s run round) (met_after s run round) (after_round s run round) (grows_met s (all_played s run round)) (grows_ends s (met_after s run round))
 
@@ -70,7 +71,7 @@ module _ (measure : Measure) where
       by true is = (let a = home is in let same = measure.home own t in omega (arith, a, same))
       by false is = by_report (r.generation == t.generation) is refl
 
-  -- what is kept of a run
+  -- what holds of a run before each round
   pub record TellsSo (s : Session) (n : ℕ) (run : Run) : Type 0 where
     pub low : n < length run.tracks
     pub kept_so : RunKept s run
@@ -99,7 +100,7 @@ module _ (measure : Measure) where
       turn_is : after_turn s run round ≡ with_turn s f e before
       turn_is = ap (λ (o : Option Turn). turned s (found_in s run round) o before) is
 
-      -- what is told without the turn is no more than with it, where the track is away
+      -- what is shown without the turn is no more than with it, if the track is away
       untold_low : is_home (track_at (tracks_at c k run.normal e n) n).holder ≡ false → of_run measure (untold s run round) n ≤ of_run measure played n
       untold_low away =
           let by = turn_legal cut s marks run round legal e is in
@@ -118,7 +119,7 @@ module _ (measure : Measure) where
           let second = ap (λ (r : Run). of_run measure (with_cycles s (late_of run round) r) n) turn_is in
           omega (arith, first, late, second, to_end)
 
-      -- what the turn heard is told by the list once the round's turns were made
+      -- what the turn heard is shown by the list once the round's turns were made
       pub heard_told : measure.of_heard (heard k n (track_at (tracks_at c k run.normal e n) n)) ≤ of_run measure played n
       unfolding with_calls
       heard_told =
@@ -151,7 +152,7 @@ module _ (measure : Measure) where
           acked_draft true = refl
           acked_draft false = refl
 
-    -- a legal round keeps it
+    -- what holds of a run holds after a legal round
     pub tells_round : TellsSo s n (after_round s run round)
     tells_round = record {
       low = (let m = (to_played s run round).many in let o = (from_played s run round).many in let l = h.low in omega (arith, m, o, l));

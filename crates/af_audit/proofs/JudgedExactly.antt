@@ -35,13 +35,15 @@ is_below m n h = grind (arith, nat_tests, h)
 same : (n : ℕ) → (n == n) ≡ true
 same n = grind (arith, nat_tests)
 
--- the parts of a round by parties
+-- a client is clear, if the party of its number is
 pub client_part : (cut : Bool) (s : Session) (marks : Marks) (run : Run) (round : RoundSeen) (track : ℕ) → track < track_count s → IsClear cut s marks run round track → ClientIsClear s run round track
 client_part cut s marks run round track h clear = where_true _ (nat_lt track (normal_party s)) (below track (track_count s) h) clear
 
+-- the normal mixer is clear, if its party is
 pub normal_part : (cut : Bool) (s : Session) (marks : Marks) (run : Run) (round : RoundSeen) → IsClear cut s marks run round (normal_party s) → NormalIsClear s marks run round
 normal_part cut s marks run round clear = where_true _ (normal_party s == normal_party s) (same (normal_party s)) (where_false _ (nat_lt (normal_party s) (normal_party s)) (not_below (normal_party s) (normal_party s) (omega arith)) clear)
 
+-- the fast mixer is clear, if its party is
 pub fast_part : (cut : Bool) (s : Session) (marks : Marks) (run : Run) (round : RoundSeen) → IsClear cut s marks run round (fast_party s) → FastIsClear cut s marks run round
 fast_part cut s marks run round clear = where_false _ (fast_party s == normal_party s) (one_more (normal_party s)) (where_false _ (nat_lt (fast_party s) (normal_party s)) (not_below (fast_party s) (normal_party s) (omega arith)) clear)
 

@@ -1,4 +1,4 @@
--- What a status that a client saw rests on: it was stored by the server; and the flush count that a server's list tells was seen by one of its looks.
+-- What a status that a client saw rests on: it was stored by the server; and the flush count that a server's list shows was seen by one of its looks.
 use Rattle.std.proofs.Common.{◌≡◌, ◌⊎◌, inl, inr, ℕ, ◌/◌, ◌≤◌, ◌==◌, Bool, true, false, if◌then◌else◌, fold, List, [], ◌∷◌, ◌++◌, refl, sym, ap, ◌∙◌, subst, arith, append_assoc}
 use Rattle.std.proofs.Math.Nat.{zero-div}
 use Rattle.af_base.specs.declared.event.ClientEvent.{ClientEvent}
@@ -24,7 +24,7 @@ none_told wrap = by_wrap (wrap == 0)
     by_wrap true = omega arith
     by_wrap false = let e : 0 / wrap ≡ 0 = zero-div wrap in omega (arith, e)
 
--- the flush words kept tell of no more flushes than were seen
+-- the flush words kept say no more flushes than were seen
 record Within (k : Shape) (kept : ServerKept) (most : ℕ) : Type 0 where
   flush : flushes_by k.wrap kept.flush ≤ most
   noticed : flushes_by k.wrap kept.noticed ≤ most
@@ -50,7 +50,7 @@ module _ (k : Shape) where
   events_within [] kept most w = w
   events_within (e ∷ es) kept most w = events_within es (server_keeps k kept e) (sees_more k most e) (event_within kept most e w)
 
-  -- the flush count that a proxy tells by its list was seen by one of its looks
+  -- the flush count that a proxy shows by its list was seen by one of its looks
   pub noticed-seen : (es : List ServerEvent) → flushes_by k.wrap (server_kept k es).noticed ≤ most_seen k es
   noticed-seen es = (events_within es (server_begins k) 0 (record { flush = none_told k.wrap; noticed = none_told k.wrap })).noticed
 

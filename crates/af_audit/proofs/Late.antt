@@ -1,4 +1,4 @@
--- Entries that are told without the state that a turn pushes show no more of a track than they do with it.
+-- Entries that follow without the state that a turn pushes show no more of a track than they do with it.
 use Rattle.std.proofs.Common.{◌≡◌, ◌⊎◌, inl, inr, ℕ, ◌<◌, ◌≤◌, ◌==◌, ◌&&◌, Bool, true, ◌++◌, length, Option, Some, None, refl, sym, ap, ◌∙◌, subst, eqb-true, eq-eqb, arith}
 use Rattle.af_base.specs.declared.state.FastState.{FastState}
 use Rattle.af_base.specs.declared.state.FastTrack.{FastTrack}
@@ -53,7 +53,7 @@ module _ (measure : Measure) where
     abbrev Never : Type 0
     Never = (j : ℕ) → j < slots → carries x j ≡ true → (slot_of x j).track ≡ n → carries y j ≡ true → ⊥
 
-    -- its server is the same in both runs, or the first run never plays it and shows no more of it
+    -- a track's server is the same in both runs, or the first run never plays the track and shows no more of it
     pub record Behind (a b : Run) : Type 0 where
       pub there : n < length a.tracks
       pub also : n < length b.tracks
@@ -102,7 +102,7 @@ module _ (measure : Measure) where
       cycle_track run z low is = let r : Run = with_poll s e.entry.state run in
           told_each (mixed_track s (state_for s r e.entry.state) e) r n low ∙ ap (λ (q : FastState). mixed_track s q e n (told_at run n)) is
 
-      -- an entry keeps it
+      -- an entry keeps the first run behind the second
       pub behind_cycle : (a b : Run) → state_for s (with_poll s e.entry.state a) e.entry.state ≡ x → state_for s (with_poll s e.entry.state b) e.entry.state ≡ y → Behind a b → Behind (with_cycle s a e) (with_cycle s b e)
       behind_cycle a b xs ys h =
           let one = cycle_track a x h.there xs in

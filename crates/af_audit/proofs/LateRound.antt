@@ -1,4 +1,4 @@
--- What the list of a track's server tells by the end of a round, when its entries are told without the turn.
+-- What the list of a track's server shows by the end of a round, if its entries follow without the turn.
 use Rattle.std.proofs.Common.{◌≡◌, inl, ℕ, suc, ◌+◌, ◌<◌, ◌≤◌, if◌then◌else◌, Bool, true, false, List, [], ◌∷◌, ◌++◌, length, drop, Some, refl, sym, ap, ◌∙◌, subst, append-nil, arith}
 use Rattle.std.specs.List.{prefix_len}
 use Rattle.std.specs.Prelude.{nat_le}
@@ -31,7 +31,7 @@ use Rattle.af_audit.proofs.Late.{Behind, behind_told}
 use Rattle.af_audit.proofs.LateRuns.{FirstLate, behind_cycles}
 use Rattle.af_audit.proofs.Measure.{Measure, of_run}
 
--- the run with all entries of a round told without the turn
+-- the run with all entries of a round, but without its turn
 abbrev pub untold : Session → Run → RoundSeen → Run
 untold s run round = with_cycles s round.entries (with_calls round run)
 

@@ -1,4 +1,4 @@
--- The entries of a state that a turn pushes, told with it and without it.
+-- The entries of a state that a turn pushes, in a run with that state and in one without it.
 use Rattle.std.proofs.Common.{◌≡◌, ℕ, zero, suc, ◌+◌, ◌<◌, Bool, true, false, List, [], ◌∷◌, ◌++◌, length, Some, refl, sym, ap, ◌∙◌, length-append, arith}
 use Rattle.std.proofs.lemmas.List.{get_or-replicate}
 use Rattle.af_base.specs.declared.log.CycleEntry.{CycleEntry}
@@ -29,7 +29,7 @@ FirstLate n [] = Unit {0}
 FirstLate n (e ∷ es) = n < e.entry.state
 
 module _ (s : Session) (marks : Marks) (b : Run) (e : EntrySeen) (y : FastState) (legal : LegalEntry s marks (with_poll s e.entry.state b) e) (is : state_of b.states e.entry.state ≡ Some y) where
-  -- what it shows is carried by its state
+  -- what an entry shows is carried by its state
   pub shown_carried : (j : ℕ) → j < slots → 0 < j → is_shown (entry_slot e.entry j).seen ≡ true → carries y j ≡ true
   unfolding with_poll
   shown_carried j low some shown = by_mixed (is_mixed e.entry.cycle) refl
@@ -72,7 +72,7 @@ module _ (measure : Measure) where
         let used : last_used (with_poll s next.entry.state (with_cycle s b e)).entries ≡ e.entry.state = ap last_used (poll_entries (with_cycle s b e) next.entry.state ∙ cycle_entries s b e) ∙ last_used-push b.entries e.entry in
         omega (arith, rises, used, far)
 
-    -- all entries keep it
+    -- all entries keep the first run behind the second
     pub behind_cycles : (es : List EntrySeen) (a b : Run) → a.states ≡ xs → b.states ≡ xs ++ y ∷ [] → a.normal.draft ≡ x → FirstLate (length xs) es → LegalEntries s marks b es
         → Behind measure s n x y same apart a b → Behind measure s n x y same apart (with_cycles s es a) (with_cycles s es b)
     behind_cycles [] a b af bf draft first legal h = h

@@ -10,23 +10,23 @@ use Rattle.af_runs.specs.Rounds.{after_round}
 use Rattle.af_runs.specs.Runs.{Run, fast_party, has_ended}
 use Rattle.af_runs.specs.Sessions.{Session}
 
--- one more that holds
+-- what holds below a number and of that number holds below the next one
 pub all_more : (Holds : ℕ → Type 0) (n : ℕ) → ((i : ℕ) → i < n → Holds i) → Holds n → (i : ℕ) → i < n + 1 → Holds i
 all_more Holds n all h i lt = elim (at_or i n lt) [ inl less ↦ all i less | inr same ↦ subst Holds (sym same) h ]
   where
     at_or : (i n : ℕ) → i < n + 1 → (i < n) ⊎ (i ≡ n)
     at_or i n lt = grind (arith, lt)
 
--- a least one below a bound is a least one up to the number before
+-- the least number below a bound is the least one up to the number before
 pub least_without : (Holds : ℕ → Type 0) (last i : ℕ) → LeastBelow Holds (last + 1) (Some i) → IsLeastWithout Holds last i
 least_without Holds last i h = record { is_party = (let a = h.0 in omega (arith, a)); fails = h.1; least = h.2 }
 
--- what holds as well
+-- the least number is the same if what holds is the same
 pub least_same : (P Q : ℕ → Type 0) (bound : ℕ) (o : Option ℕ) → ((i : ℕ) → i < bound → P i → Q i) → ((i : ℕ) → i < bound → Q i → P i) → LeastBelow P bound o → LeastBelow Q bound o
 least_same P Q bound None to from h = λ i lt. to i lt (h i lt)
 least_same P Q bound (Some i) to from h = (h.0, (λ q. h.1 (from i h.0 q)), (λ b lt. to b (let a = h.0 in omega (arith, a, lt)) (h.2 b lt)))
 
--- the least one of which one of two doesn't hold
+-- the least number of which one of two doesn't hold
 pub least_first : (P Q : ℕ → Type 0) (bound x : ℕ) (b : Option ℕ) → LeastBelow P bound (Some x) → LeastBelow Q bound b → ((y : ℕ) → b ≡ Some y → x ≤ y) → LeastBelow (λ i. P i × Q i) bound (Some x)
 least_first P Q bound x None p q low = (p.0, (λ h. p.1 h.0), (λ i lt. (p.2 i lt, q i (let a = p.0 in omega (arith, a, lt)))))
 least_first P Q bound x (Some y) p q low = (p.0, (λ h. p.1 h.0), (λ i lt. (p.2 i lt, q.2 i (let a = low y refl in omega (arith, a, lt)))))
@@ -38,7 +38,7 @@ pub least_only : (P Q : ℕ → Type 0) (bound : ℕ) (b : Option ℕ) → Least
 least_only P Q bound None p q = λ i lt. (p i lt, q i lt)
 least_only P Q bound (Some y) p q = (q.0, (λ h. q.1 h.1), (λ i lt. (p i (let a = q.0 in omega (arith, a, lt)), q.2 i lt)))
 
--- the lesser of two least ones
+-- the lesser of two least numbers is the least of which one of the two doesn't hold
 pub least_lesser : (P Q : ℕ → Type 0) (bound : ℕ) (a b : Option ℕ) → LeastBelow P bound a → LeastBelow Q bound b → LeastBelow (λ i. P i × Q i) bound (lesser a b)
 least_lesser P Q bound None b p q = least_only P Q bound b p q
 least_lesser P Q bound (Some x) None p q = least_first P Q bound x None p q (λ y e. none-some y e)
@@ -55,11 +55,11 @@ least_lesser P Q bound (Some x) (Some y) p q = by_case (nat_lt y x) refl
     by_case false is = least_first P Q bound x (Some y) p q (λ w e. let low : x ≤ y = grind (arith, nat_tests, is) in let s = some-same w e in omega (arith, low, s))
 
 module _ (Clear Turn Met : ℕ → Type 0) (tracks : ℕ) (f : Found) where
-  -- a round behind the end of all parties
+  -- client 0 is at fault in a round behind the end of all parties
   pub least_over : FindsFaults Clear Turn Met true tracks f → LeastBelow Clear (tracks + 2) (Some 0)
   least_over h = ((let x : 0 < tracks + 2 = omega arith in x), h.behind refl, (λ b lt. absurd (omega (arith, lt))))
 
-  -- a client
+  -- the client found is the least party at fault
   pub least_client : (i : ℕ) → FindsFaults Clear Turn Met false tracks f → LeastBelow (λ p. Turn p × Met p) tracks (Some i) → LeastBelow Clear (tracks + 2) (Some i)
   least_client i h l = (
     (let a = l.0 in omega (arith, a)),
@@ -70,13 +70,13 @@ module _ (Clear Turn Met : ℕ → Type 0) (tracks : ℕ) (f : Found) where
   clients_clear : FindsFaults Clear Turn Met false tracks f → LeastBelow (λ p. Turn p × Met p) tracks None → (p : ℕ) → p < tracks → Clear p
   clients_clear h l p lt = let both = l p lt in h.going refl p lt both.0 both.1
 
-  -- the normal mixer
+  -- the normal mixer is the least party at fault if no client is
   pub least_normal : FindsFaults Clear Turn Met false tracks f → LeastBelow (λ p. Turn p × Met p) tracks None → f.normal ≡ false → LeastBelow Clear (tracks + 2) (Some tracks)
   least_normal h l wrong =
       let clear = clients_clear h l in
       ((let x : tracks < tracks + 2 = omega arith in x), (λ c. true≢false (sym ((h.normal_is clear).1 c) ∙ wrong)), clear)
 
-  -- all before the fast mixer
+  -- all parties before the fast mixer are clear if no client was found and the normal mixer is clear
   before_fast : FindsFaults Clear Turn Met false tracks f → LeastBelow (λ p. Turn p × Met p) tracks None → f.normal ≡ true → (p : ℕ) → p < tracks + 1 → Clear p
   before_fast h l right = let clear = clients_clear h l in all_more Clear tracks clear ((h.normal_is clear).0 right)
 
@@ -112,7 +112,7 @@ all_clear cut s marks run round h = λ party low. h party (omega (arith, low))
 pub fault_here : (cut : Bool) (s : Session) (marks : Marks) (run : Run) (round : RoundSeen) (rounds : List RoundSeen) (party : ℕ) → LeastBelow (IsClear cut s marks run round) (fast_party s + 1) (Some party) → IsFirstFault cut s marks run (round ∷ rounds) 0 party
 fault_here cut s marks run round rounds party h = least_without (IsClear cut s marks run round) (fast_party s) party h
 
--- and one found later is, where the first round is clear
+-- a fault found later is the first one, if the first round is clear
 pub fault_later : (cut : Bool) (s : Session) (marks : Marks) (run : Run) (round : RoundSeen) (rounds : List RoundSeen) (number party : ℕ) → LeastBelow (IsClear cut s marks run round) (fast_party s + 1) None → IsFirstFault cut s marks (after_round s run round) rounds number party → IsFirstFault cut s marks run (round ∷ rounds) (suc number) party
 fault_later cut s marks run round rounds number party h rest = (all_clear cut s marks run round h, rest)
 

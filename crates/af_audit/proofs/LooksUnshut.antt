@@ -1,4 +1,4 @@
--- Where a server isn't shut after a look, it wasn't before it, and the look wasn't Shut. The front that a journal tells is the one that was seen, where a look was Shut.
+-- If a server isn't shut after a look, it wasn't before it, and the look wasn't Shut. The front that a journal records is the one that was seen, if a look was Shut.
 use Rattle.std.proofs.Common.{◌≡◌, ℕ, ◌-◌, ◌^◌, ◌≤◌, ◌==◌, not, nat_lt, Bool, true, false, true≢false, if◌then◌else◌, is_some, fold, min, MatchOption, List, [], ◌∷◌, ◌++◌, Option, Some, None, refl, sym, ap, subst, ◌∙◌}
 use Rattle.std.specs.List.{list_all}
 use Rattle.std.proofs.lemmas.Grind.{fold-append}
@@ -19,7 +19,7 @@ use Rattle.af_model.specs.ServerCalls.{ServerKept, dropped_by, is_noticed, look_
 use Rattle.af_model.specs.declared.shape.Shape.{Shape}
 use Rattle.af_runs.specs.Fronts.{front_of, fronts_by}
 
--- what a list tells, after further events
+-- what a list says, after further events
 pub kept_more : (k : Shape) (es more : List ServerEvent) → server_kept k (es ++ more) ≡ fold (server_keeps k) (server_kept k es) more
 kept_more k es more = fold-append (server_keeps k) (server_begins k) es more
 
@@ -33,7 +33,7 @@ module _ (shape : Shape) where
   shut_append : (k : ServerKept) (es more : List ServerEvent) → shut_after k (es ++ more) ≡ shut_after (fold (server_keeps shape) k es) more
   shut_append k es more = ap (λ (x : ServerKept). x.shut) (fold-append (server_keeps shape) k es more)
 
-  -- what a look leaves: nothing shuts it where it noticed a flush, and else a front outside the room does
+  -- what a look leaves: nothing shuts it if it noticed a flush, and else a front outside the room does
   shut_by : (k : ServerKept) (answer : Seen) (flush rear front : ℕ) → shut_after k (look_events answer flush rear front) ≡ (if is_noticed shape (not (flush == k.flush)) rear front then None else outside shape.frames front rear)
   shut_by k seen.Absent flush rear front = refl
   shut_by k (seen.Flushed dropped) flush rear front = refl
@@ -56,7 +56,7 @@ module _ (shape : Shape) where
   stay_shut true k = refl
   stay_shut false k = refl
 
-  -- what follows a look looks at none
+  -- what follows a look looks at no front
   stay_after : (asked : ℕ) (was : Bool) (answer : Seen) → Stay (after_look asked was answer)
   stay_after asked was seen.Absent k = refl
   stay_after asked was (seen.Flushed dropped) k = refl
@@ -68,11 +68,11 @@ module _ (shape : Shape) where
   abbrev sight : (dropped asked rear front : ℕ) (noticed out same : Bool) → Seen
   sight dropped asked rear front noticed out same = if noticed then seen.Flushed dropped else if out then seen.Shut front rear else if same then seen.Empty else seen.Frames (min asked (ahead front rear))
 
-  -- the words that shut a server then
+  -- the words that shut a server after a look
   abbrev shut_if : (noticed out : Bool) (front rear : ℕ) → Option (ℕ × ℕ)
   shut_if noticed out front rear = if noticed then None else (if out then Some (front, rear) else None)
 
-  -- where a look shut nobody, it shows no words that don't fit
+  -- if a look shut nobody, it shows no words that don't fit
   open_sight : (dropped asked rear front : ℕ) (noticed out same : Bool) → shut_if noticed out front rear ≡ None → is_shut (sight dropped asked rear front noticed out same) ≡ false
   open_sight dropped asked rear front true out same fine = refl
   open_sight dropped asked rear front false true same fine = absurd (none-some (front, rear) (sym fine))
@@ -81,12 +81,12 @@ module _ (shape : Shape) where
 
 -- ## One look
 
--- the front that a look which was Shut tells
+-- the front that a look which was Shut records
 abbrev told_by : ℕ → Seen → ℕ
 told_by front (seen.Shut f r) = f
 told_by front _ = front
 
--- it is the one that it saw
+-- the front that a Shut look records is the one that it saw
 told_sight : (shape : Shape) (dropped asked rear front : ℕ) (noticed out same : Bool) → told_by front (sight shape dropped asked rear front noticed out same) ≡ front
 told_sight shape dropped asked rear front true out same = refl
 told_sight shape dropped asked rear front false true same = refl
@@ -101,7 +101,7 @@ front_is asked s slot front seen.Empty is shut same = absurd (true≢false (sym 
 front_is asked s slot front (seen.Flushed dropped) is shut same = absurd (true≢false (sym shut))
 
 module _ (asked : ℕ) (s : Listed) (slot : SlotEntry) (front : ℕ) (looks : LooksBy asked s slot front) where
-  -- the front that is told
+  -- the front that is recorded
   abbrev told : ℕ
   told = front_of asked s slot
 
@@ -112,7 +112,7 @@ module _ (asked : ℕ) (s : Listed) (slot : SlotEntry) (front : ℕ) (looks : Lo
   abbrev look_of : Bool → List ServerEvent
   look_of was = if was then [] else look_events slot.seen slot.flush slot.rear told
 
-  -- whether a look by this front notices a flush, and whether its words lie outside the room
+  -- whether a look by this front notices a flush
   abbrev noticed_by : ℕ → Bool
   noticed_by f = is_noticed s.shape (not (slot.flush == (kept s).flush)) slot.rear f
 
@@ -147,12 +147,12 @@ module _ (asked : ℕ) (s : Listed) (slot : SlotEntry) (front : ℕ) (looks : Lo
       ∙ ap (λ (flush : ℕ). if is_noticed s.shape (not (slot.flush == flush)) slot.rear told then None else outside s.shape.frames told slot.rear) (same k) in
       (is, not_shut shows (sym looked ∙ fine))
 
-  -- a look with what stands before it and after it
+  -- if a server isn't shut after a look and what stands before and after it, it wasn't before, and the look wasn't Shut
   open_look : (first more : List ServerEvent) → Stay s.shape first → Stay s.shape more → ((k : ServerKept) → (fold (server_keeps s.shape) k first).flush ≡ k.flush)
       → shut_after s.shape (kept s) (first ++ ((if is_some (kept s).shut then [] else look_events slot.seen slot.flush slot.rear told) ++ more)) ≡ None → ((kept s).shut ≡ None) × (is_shut slot.seen ≡ false)
   open_look first more quiet calm same fine = open_by first more (kept s).shut quiet calm same refl looks.1 fine
 
-  -- the look of a cycle
+  -- if a server isn't shut after a cycle, it wasn't before it, and its look wasn't Shut
   pub unshut_cycle : shut_after s.shape (kept s) (cycle_events asked s slot told) ≡ None → ((kept s).shut ≡ None) × (is_shut slot.seen ≡ false)
   unshut_cycle fine = open_look (server.SawGain slot.gains ∷ []) (after_look asked (is_some (kept s).shut) slot.seen) (λ k. refl) (stay_after s.shape asked (is_some (kept s).shut) slot.seen) (λ k. refl) fine
 
@@ -170,7 +170,7 @@ module _ (k : Shape) (few : k.wrap ≤ 2 ^ 31) where
   abbrev with_list : List ServerEvent → Listed
   with_list events = record { shape = k; events = events }
 
-  -- where a server isn't shut after some looks at commands as they are told, it wasn't before them, and none of them was Shut
+  -- if a server isn't shut after some looks at commands as they are recorded, it wasn't before them, and none of them was Shut
   pub unshut_looks : (xs ys : List ServerEvent) (looks : List CommandLook) (fronts : List ℕ) → Alike (server_kept k xs) (server_kept k ys) → LegalLooks (with_list xs) looks fronts
       → shut_after k (server_kept k ys) (all_command_events (with_list ys) looks (fronts_by front_of (with_list ys) looks)) ≡ None → ((server_kept k ys).shut ≡ None) × (list_all (λ (l : CommandLook). not (is_shut l.seen)) looks ≡ true)
   unshut_looks xs ys [] [] same legal fine = (fine, refl)

@@ -1,4 +1,4 @@
--- A track that is reported drained, as a journal tells it: which STOP it was that drained it, when its client sent it, and that its count was reached.
+-- A track that is reported drained, as a journal records it: which STOP drained it, when its client sent it, and that its count was reached.
 use Rattle.std.specs.Prelude.{◌≡◌, ℕ, ◌+◌, ◌<◌, ◌≤◌, Bool, true, false, if◌then◌else◌, List, [], ◌∷◌, ◌++◌, length, slice_get, Option, Some, None}
 use Rattle.af_base.specs.declared.event.ClientCall.{ClientCall}
 use Rattle.af_base.specs.declared.event.ClientCall.TheVariants as call
@@ -28,17 +28,17 @@ pub record Sent : Type 0 where
   pub argument : ℕ
   pub released : ℕ
 
--- the one that a call sent, if it sent one
+-- the command that a call sent, if it sent one
 abbrev pub sent_by : Track → ClientCall → List Sent
 sent_by t (call.Sent front code argument) = record { code = code; argument = argument; released = length t.stream.released } ∷ []
 sent_by t _ = []
 
--- those of some calls, one after the other
+-- the commands that some calls sent, one after the other
 abbrev pub sent_by_all : Track → List ClientCall → List Sent
 sent_by_all t [] = []
 sent_by_all t (answer ∷ calls) = sent_by t answer ++ sent_by_all (after_call t answer) calls
 
--- those of the calls of a round
+-- the commands that the calls of a round sent
 abbrev pub sent_in : Run → RoundSeen → ℕ → List Sent
 sent_in run round track = sent_by_all (sides_of (told_at run track)) (calls_in round track)
 
@@ -48,7 +48,7 @@ sent_in run round track = sent_by_all (sides_of (told_at run track)) (calls_in r
 abbrev pub turn_steps : Session → Run → RoundSeen → Turn → ℕ → List LifeStep → List LifeStep
 turn_steps s run round e track before = let c = setup_of s in track_steps c (learnt (outside_of c (found_in s run round e) e)) run.normal e track before
 
--- the same after a round
+-- the steps of a track's life after a round, with its turn if it has one
 abbrev pub round_steps : Session → Run → RoundSeen → Option Turn → ℕ → List LifeStep → List LifeStep
 round_steps s run round None track before = before
 round_steps s run round (Some e) track before = turn_steps s run round e track before
@@ -60,7 +60,7 @@ commands_in (told code argument ∷ steps) = commands_in steps + 1
 commands_in (heard_of known ∷ steps) = commands_in steps
 commands_in (cut ∷ steps) = commands_in steps
 
--- the number, from 0, of the last one that put the life on its way to a stop
+-- the number, from 0, of the last command that put the life on its way to a stop
 abbrev pub stop_number : List LifeStep → ℕ
 stop_number [] = 0
 stop_number (told code argument ∷ steps) = if stops code (life_of steps) then commands_in steps else stop_number steps
@@ -69,7 +69,7 @@ stop_number (cut ∷ steps) = stop_number steps
 
 -- ## What a track that is reported drained has reached
 
--- the turn, where there is one, stores a status that says drained
+-- the turn, if there is one, stores a status that says drained
 abbrev pub says_drained : Option Turn → ℕ → Bool
 says_drained None track = false
 says_drained (Some e) track = reports_drained (track_in e track)
@@ -91,7 +91,7 @@ pub record HasReachedStop (lawful : Bool) (consumed : ℕ) (steps : List LifeSte
   pub reached : count ≤ consumed
   pub is_sent : lawful ≡ true → IsStopSent count steps sent
 
--- In each round that reports the track drained this holds of the run after the round, of the steps of the track's life so far, and of the commands that its client sent so far
+-- In each round that reports the track drained `Holds` is true of the run after the round, of the steps of the track's life so far, and of the commands that its client sent so far
 abbrev pub WhereDrained : (Run → List LifeStep → List Sent → Type 0) → Session → Run → List LifeStep → List Sent → List RoundSeen → ℕ → Type 0
 WhereDrained Holds s run steps sent [] track = Unit {0}
 WhereDrained Holds s run steps sent (round ∷ rounds) track =
@@ -100,7 +100,7 @@ WhereDrained Holds s run steps sent (round ∷ rounds) track =
     let after = after_round s run round in
     (says_drained round.turn track ≡ true → Holds after now all) × WhereDrained Holds s after now all rounds track
 
--- where a track is reported drained, its server has consumed by the round's end the count of the STOP that stopped it last, and no START has changed it since
+-- if a track is reported drained, its server has consumed by the round's end the count of the STOP that stopped it last, and no START has changed its life since
 abbrev pub EachDrainedTrackReachedItsStop : ScriptData → List (List Frame) → JournalData → Type 0
 EachDrainedTrackReachedItsStop script files j = let s = session_of script files in
     (track : ℕ) → track < track_count s → WhereDrained (λ run steps sent. HasReachedStop (is_lawful_track j.rounds track) (consumed_of run track) steps sent) s (new_run s) [] [] j.rounds track

@@ -1,4 +1,4 @@
--- What becomes of each frame that a track's client released, as a journal tells it: mixed in place, discarded by a flush that was noticed, or still queued.
+-- What becomes of each frame that a track's client released, as a journal records it: mixed in place, discarded by a flush that was noticed, or still queued.
 use Rattle.std.specs.Prelude.{◌≡◌, ◌≢◌, ℕ, ◌+◌, ◌<◌, true, List, [], ◌∷◌, ◌++◌, map, flat_map, take, length, Option, Some, None}
 use Rattle.af_base.specs.declared.event.ServerEvent.{ServerEvent}
 use Rattle.af_base.specs.declared.event.ServerEvent.TheVariants as server
@@ -20,25 +20,25 @@ use Rattle.af_script.specs.Data.{ScriptData}
 
 -- ## Where the frames of a track are recorded
 
--- in an entry: in the slot that plays the track, by the state that was polled
+-- the frames of a track in an entry: those of the slot that plays the track, by the state that was polled
 abbrev pub recorded_by : Session → Run → EntrySeen → ℕ → List ℕ
 recorded_by s run e track = elim (slot_for (state_for s run e.entry.state) e.entry track) as (λ o. List ℕ) [ None ↦ [] | Some i ↦ map packed_word (slot_frames e i) ]
 
--- in some entries, one after the other
+-- the frames of a track in some entries, one after the other
 abbrev pub recorded_by_all : Session → Run → List EntrySeen → ℕ → List ℕ
 recorded_by_all s run [] track = []
 recorded_by_all s run (e ∷ entries) track = recorded_by s (with_poll s e.entry.state run) e track ++ recorded_by_all s (with_cycle s run e) entries track
 
--- in the normal mixer's turn, where there is one: in its takes of the track
+-- the frames of a track in the normal mixer's turn, if there is one: those of its takes of the track
 abbrev pub recorded_by_turn : Option Turn → ℕ → List ℕ
 recorded_by_turn None track = []
 recorded_by_turn (Some e) track = going e (map packed_word (flat_map (λ take. take.frames) (takes_from e.mixes track)))
 
--- in a round: in the entries before the turn, in the turn, and in the entries after it
+-- the frames of a track in a round: in the entries before the turn, in the turn, and in the entries after it
 abbrev pub recorded_in : Session → Run → RoundSeen → ℕ → List ℕ
 recorded_in s run round track = recorded_by_all s (with_calls round run) (early_of run round) track ++ recorded_by_turn round.turn track ++ recorded_by_all s (after_turn s run round) (late_of run round) track
 
--- in some rounds, one after the other
+-- the frames of a track in some rounds, one after the other
 abbrev pub recorded : Session → Run → List RoundSeen → ℕ → List ℕ
 recorded s run [] track = []
 recorded s run (round ∷ rounds) track = recorded_in s run round track ++ recorded s (after_round s run round) rounds track
@@ -54,19 +54,19 @@ pub record SeesNewFlush (k : Shape) (events : List ServerEvent) : Type 0 where
   pub look : events ≡ before ++ server.SawFlush flush ∷ server.SawRear rear ∷ server.SawFront front ∷ []
   pub is_new : flush ≢ (server_kept k before).flush
 
--- an event comes behind these: a drop only at the end of such a look
+-- an event comes behind the events `before`: a drop only if these end with a look that saw a new flush word
 abbrev pub ComesByFlush : Shape → List ServerEvent → ServerEvent → Type 0
 ComesByFlush k before (server.Drop to) = SeesNewFlush k before
 ComesByFlush k before _ = Unit {0}
 
--- each of the events that follow those before does so
+-- each drop among `events` comes behind a look that saw a new flush word
 abbrev pub DropsByFlush : Shape → (before events : List ServerEvent) → Type 0
 DropsByFlush k before [] = Unit {0}
 DropsByFlush k before (e ∷ events) = ComesByFlush k before e × DropsByFlush k (before ++ e ∷ []) events
 
 -- ## Fates
 
--- The frames released on a block are the first ones of a file. In a history of the block each of them has one fate: a take mixed it, a drop discarded it, or it is queued. The frames mixed are those recorded, in order. Each drop follows a look that noticed a new flush, and where flush words carry positions it discards what was released before that flush, and no more
+-- The frames released on a block are the first ones of a file. In a history of the block each of them has one fate: a take mixed it, a drop discarded it, or it is queued. The frames mixed are those recorded, in order. Each drop follows a look that noticed a new flush, and if flush words carry positions it discards what was released before that flush, and no more
 pub record HasFates (file recorded : List ℕ) (b : BlockTold) : Type 0 where
   pub history : HasBlockHistory b
   pub from_file : b.released ≡ take (length b.released) file

@@ -19,7 +19,7 @@ is_there j track = is_home (track_at j.normal.plain.kept.tracks track).holder ||
 abbrev pub Keeps : RunJudge → List TrackJudge → ℕ → Type 0
 Keeps j tracks i = (t : TrackJudge) → IsTrackAt tracks i t → BothKeep (is_there j i) t
 
--- the first tracks have met the mixers, and the least one is found that has no history
+-- the first tracks have met the mixers, and the least track is found one of whose blocks has no history
 pub record TracksMet (j : RunJudge) (count : ℕ) (before after : List TrackJudge) (found : Option ℕ) : Type 0 where
   pub met : (i : ℕ) (t k : TrackJudge) → i < count → IsTrackAt before i t → IsTrackAt after i k → k ≡ blocks_met (is_there j i) j.normal.handed t
   pub short : (i : ℕ) (k : TrackJudge) → i < count → IsTrackAt after i k → AreShort (is_there j i) k

@@ -1,4 +1,4 @@
--- What a judge tells of a round, step by step: the calls, the entries before the turn, the turn, the entries behind it, and the meetings.
+-- What a judge is told of a round, step by step: the calls, the entries before the turn, the turn, the entries behind it, and the meetings.
 use Rattle.std.specs.Prelude.{◌≡◌, ◌↔◌, ℕ, ◌-◌, ◌<◌, ◌≤◌, ◌&&◌, not, min, nat_le, Bool, true, IsTrue, if◌then◌else◌, List, [], length, map, take, drop, slice_index_or, Option, Some, None}
 use Rattle.std.specs.List.{prefix_len}
 use Rattle.af_base.specs.declared.frame.Frame.{Frame}
@@ -29,21 +29,21 @@ use Rattle.af_audit.specs.RunKept.{CallsJudged}
 
 -- ## The turn
 
--- the report of a number, where some entries are still to come
+-- the report of a number, if some entries are still to come
 pub record IsReportOf (f : FastKept) (states : List FastState) (tracks : List TrackJudge) (later : List CycleEntry) (number : ℕ) (report : Report) : Type 0 where
   pub before : number ≤ f.before.cycle → report ≡ f.before
   pub ahead : f.before.cycle < number → f.told.report.cycle < number → report ≡ (entries_foreseen states (take (min (length later) (number - f.told.report.cycle)) later) (foreseen (servers_at tracks) f.told)).told.report
   pub told : f.before.cycle < number → number ≤ f.told.report.cycle → report ≡ slice_index_or f.reports (number - f.before.cycle - 1) f.before
 
--- the pipe after a turn of a mixer: the room is seen, and a buffer put. One that ended leaves it
+-- the pipe after a turn of a mixer: the room is seen, and a buffer put. A turn that says that the mixer ended leaves the pipe as it was
 abbrev pub pipe_turned : Setup → Turn → PipeKept → PipeKept
 pipe_turned c e p = if e.ended then p else with_put (put_by c e.mixes) (saw_front (front_by_room p.size (length p.put) e.room) p)
 
--- the report's cell after a turn: the number is loaded. One that ended leaves it
+-- the report's cell after a turn: the number is loaded. A turn that says that the mixer ended leaves the cell as it was
 abbrev pub report_turned : Turn → ReportKept → ReportKept
 report_turned e r = if e.ended then r else record r { loaded = Some e.cycle }
 
--- the same of the turn that a round has, if it has one
+-- the report's cell after the turn of a round, if the round has one
 abbrev pub loaded_if : Option Turn → ReportKept → ReportKept
 loaded_if None r = r
 loaded_if (Some e) r = report_turned e r
@@ -52,7 +52,7 @@ loaded_if (Some e) r = report_turned e r
 abbrev pub fast_turned : NormalJudged → FastState → Turn → FastKept → FastKept
 fast_turned j draft e f = record f { told = record f.told { draft = draft }; queue = with_steps (turn_steps (length j.states) e.ended e.ack e.push) f.queue; pipe = pipe_turned j.setup e f.pipe }
 
--- a turn was told, before these entries of its round; it is right where the mixer hadn't ended and the turn is
+-- the judge was told of a turn, before these entries of its round; the turn is right if it is legal and the mixer hadn't ended
 pub record TurnTold (j : RunJudge) (tracks : List TrackJudge) (later : List CycleEntry) (e : Turn) (right : Bool) (k : RunJudge) (after : List TrackJudge) : Type 0 where
   pub report : Report
   pub report_is : IsReportOf j.fast j.normal.states tracks later (number_found j.fast e.cycle) report
@@ -64,11 +64,11 @@ pub record TurnTold (j : RunJudge) (tracks : List TrackJudge) (later : List Cycl
   pub reported : k.report ≡ report_turned e j.report
   pub cycles : k.cycles ≡ j.cycles
 
--- no turn was told: all is as before, and right once the mixer has ended
+-- the judge was told of no turn: all is as before, which is right exactly if the mixer has ended
 abbrev pub IsUntold : RunJudge → List TrackJudge → Bool → RunJudge → List TrackJudge → Type 0
 IsUntold j tracks right k after = (right ≡ j.normal.plain.kept.ended) × (k ≡ j) × (after ≡ tracks)
 
--- the turn that a round has was told, if it has one
+-- the judge was told of the turn of a round, if the round has one
 abbrev pub TurnIfTold : RunJudge → List TrackJudge → List CycleEntry → Option Turn → Bool → RunJudge → List TrackJudge → Type 0
 TurnIfTold j tracks later None right k after = IsUntold j tracks right k after
 TurnIfTold j tracks later (Some e) right k after = TurnTold j tracks later e right k after
@@ -79,7 +79,7 @@ TurnIfTold j tracks later (Some e) right k after = TurnTold j tracks later e rig
 abbrev pub early_of : RunJudge → List CycleEntry → ℕ
 early_of j entries = prefix_len (λ entry. nat_le entry.state (length j.normal.states)) entries
 
--- Both mixers' turns in a round were told: the entries of states pushed before, the turn, and the others
+-- The judge was told of both mixers' turns in a round: the entries of states pushed before, the turn, and the other entries
 pub record MixersTold (frames : List Frame) (entries : List CycleEntry) (turn : Option Turn) (j : RunJudge) (tracks : List TrackJudge) (normal fast : Bool) (k : RunJudge) (after : List TrackJudge) : Type 0 where
   pub turned : RunJudge
   pub between : List TrackJudge
@@ -98,7 +98,7 @@ pub record MixersTold (frames : List Frame) (entries : List CycleEntry) (turn : 
 abbrev pub ended_track : TrackJudge → TrackJudge
 ended_track t = record t { client = record t.client { client = record t.client.client { ended = true } } }
 
--- all of them, once the normal mixer has ended
+-- the tracks; if the normal mixer has ended, the client of each has ended
 abbrev pub tracks_ended : Bool → List TrackJudge → List TrackJudge
 tracks_ended ended tracks = if ended then map ended_track tracks else tracks
 
@@ -108,7 +108,7 @@ tracks_ended ended tracks = if ended then map ended_track tracks else tracks
 abbrev pub begun : FastKept → FastKept
 begun f = record f { before = f.told.report; reports = [] }
 
--- a round was told: the calls, both mixers' turns, and the meetings; and what was found of it
+-- the judge was told of a round: the calls, both mixers' turns, and the meetings; and `f` was found of it
 pub record RoundPlayed (cut : Bool) (specs : List TrackSpec) (files : List (List Frame)) (frames : List Frame) (log : List CycleEntry) (first : ℕ) (round : RoundSeen) (j : RunJudge) (tracks : List TrackJudge) (f : Found) (k : RunJudge) (after : List TrackJudge) : Type 0 where
   pub called : List TrackJudge
   pub many : length called ≡ length tracks

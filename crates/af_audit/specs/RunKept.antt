@@ -31,12 +31,12 @@ use Rattle.af_audit.specs.declared.run_judge.RunJudge.{RunJudge}
 
 -- ## Least ones
 
--- the least number below a bound of which this doesn't hold; None where it holds of all
+-- the least number below a bound of which `Holds` isn't true; None if it is true of all
 abbrev pub LeastBelow : (ℕ → Type 0) → ℕ → Option ℕ → Type 0
 LeastBelow Holds bound None = (i : ℕ) → i < bound → Holds i
 LeastBelow Holds bound (Some i) = (i < bound) × (Holds i → ⊥) × ((before : ℕ) → before < i → Holds before)
 
--- the least one found, after one more that holds or not
+-- the least number found, after one more number that is right or not
 abbrev pub found_after : Option ℕ → Bool → ℕ → Option ℕ
 found_after (Some x) right at = Some x
 found_after None true at = None
@@ -75,7 +75,7 @@ least_party tracks normal fast None = least_mixer tracks normal fast
 abbrev pub least_found : Bool → ℕ → Found → Option ℕ
 least_found over tracks f = if over then Some 0 else least_party tracks f.normal f.fast (lesser f.caller f.met)
 
--- What is found says which party is clear: a client is where the round isn't behind the end of all parties, its turn is legal and what is found of its blocks is right. Each mixer is judged where all parties before it are clear
+-- What is found says which party is clear: a client is if the round isn't behind the end of all parties, its turn is legal and what is found of its blocks is right. Each mixer is judged if all parties before it are clear
 pub record FindsFaults (Clear Turn Met : ℕ → Type 0) (over : Bool) (tracks : ℕ) (f : Found) : Type 0 where
   pub behind : over ≡ true → Clear 0 → ⊥
   pub going : over ≡ false → (p : ℕ) → p < tracks → Turn p → Met p → Clear p
@@ -95,7 +95,7 @@ pub record IsFit (s : Session) (n : ℕ) (t : Track) : Type 0 where
   pub stream : t.stream.shape.frames ≤ 65536
   pub commands : t.commands.shape.frames ≤ 65536
 
--- each track of a run is
+-- each track of a run is fit
 abbrev pub AreFit : Session → Run → Type 0
 AreFit s run = (n : ℕ) → n < track_count s → IsFit s n (sides_of (told_at run n))
 
@@ -122,7 +122,7 @@ pub record KeepsRun (s : Session) (marks : Marks) (j : RunJudge) (tracks : List 
   pub unloaded : j.report.loaded ≡ None
   pub cycles : j.cycles ≡ s.script.cycles
 
--- The least party of a round that isn't clear is found, or none, and then what is kept is kept of the run after the round
+-- The least party of a round that isn't clear is found, or none. If none is found, what the judge keeps is kept of the run after the round
 pub record JudgesRound (cut : Bool) (s : Session) (marks : Marks) (run : Run) (round : RoundSeen) (j : RunJudge) (tracks : List TrackJudge) (found : Option ℕ) : Type 0 where
   pub least : LeastBelow (IsClear cut s marks run round) (fast_party s + 1) found
   pub kept : found ≡ None → KeepsRun s marks j tracks (after_round s run round)
@@ -132,12 +132,12 @@ abbrev pub FindsFault : Session → Marks → Run → List RoundSeen → Option 
 FindsFault s marks run rounds None = AllClear s marks run rounds
 FindsFault s marks run rounds (Some at) = IsFirstFault false s marks run rounds at.0 at.1
 
--- a party found behind all rounds
+-- a party found behind all rounds, with the number of rounds
 abbrev pub at_end : ℕ → Option ℕ → Option (ℕ × ℕ)
 at_end rounds None = None
 at_end rounds (Some party) = Some (rounds, party)
 
--- the first one of some rounds that isn't clear is found, with its least party, or none, and then what is kept is kept of the run after them
+-- the first of some rounds that isn't clear is found, with its least party, or none. If none is found, what the judge keeps is kept of the run after these rounds
 abbrev pub FindsUnclear : Bool → Session → Marks → Run → List RoundSeen → RunJudge → List TrackJudge → Option (ℕ × ℕ) → Type 0
 FindsUnclear cut s marks run rounds j tracks None = AllBefore cut s marks run rounds × KeepsRun s marks j tracks (run_from s run rounds)
 FindsUnclear cut s marks run rounds j tracks (Some at) = IsFirstFault cut s marks run rounds at.0 at.1
@@ -152,11 +152,11 @@ pub record IsNewTrack (script : ScriptData) (rounds : List RoundSeen) (i : ℕ) 
   pub wrap : (stream_shape script.version (slice_index_or script.tracks i no_spec)).wrap ≤ 2 ^ 31
   pub few : (slice_index_or script.tracks i no_spec).frames ≤ 65536
 
--- the first tracks are
+-- the first tracks are new tracks of a script
 abbrev pub AreNewTracks : ScriptData → List RoundSeen → ℕ → List TrackJudge → Type 0
 AreNewTracks script rounds count tracks = (i : ℕ) (t : TrackJudge) → i < count → IsTrackAt tracks i t → IsNewTrack script rounds i t
 
--- the mixers of a script
+-- the mixers of a script, before the first round
 pub record IsNewJudge (script : ScriptData) (j : RunJudge) : Type 0 where
   pub setup : j.normal.setup ≡ script_setup script
   pub kept : j.normal.plain.kept ≡ new_normal (script_setup script)
@@ -168,12 +168,12 @@ pub record IsNewJudge (script : ScriptData) (j : RunJudge) : Type 0 where
 
 -- ## The calls of a round
 
--- the tracks of these numbers have these files, and are kept
+-- each track has the file of its number, and is kept
 pub record AreSides (specs : List TrackSpec) (files : List (List Frame)) (tracks : List TrackJudge) (run : ℕ → Track) : Type 0 where
   pub file : (i : ℕ) → i < length tracks → (run i).file ≡ map packed_word (slice_index_or files i [])
   pub kept : (i : ℕ) (t : TrackJudge) → IsTrackAt tracks i t → KeepsTrack (slice_index_or specs i no_spec).ops t (run i)
 
--- The calls of the first clients are judged: the least one is found whose turn isn't legal, and each track whose turn was is kept of the track after it. The servers and the other tracks are as before
+-- The calls of the first clients are judged: the least client is found whose turn isn't legal, and if a track's turn was legal, what is kept of the track is that after the turn. The servers and the other tracks are as before
 pub record CallsJudged (count : ℕ) (specs : List TrackSpec) (files : List (List Frame)) (calls : ℕ → List ClientCall) (before after : List TrackJudge) (found : Option ℕ) : Type 0 where
   pub servers : (i : ℕ) (t k : TrackJudge) → i < count → IsTrackAt before i t → IsTrackAt after i k → SameServers t k
   pub others : (i : ℕ) (t : TrackJudge) → count ≤ i → IsTrackAt after i t → IsTrackAt before i t

@@ -1,4 +1,4 @@
--- A START that its client saw settled: of the frames released in later rounds none is discarded but by a look that saw a flush count above its own.
+-- A START that its client saw settled: of the frames released in later rounds none is discarded but by a look that saw a flush count above that of the START.
 use Rattle.std.specs.Prelude.{◌≡◌, ℕ, ◌+◌, ◌*◌, ◌<◌, ◌≤◌, true, fold, List, [], ◌∷◌, ◌++◌, length, slice_get, Some}
 use Rattle.af_base.specs.declared.event.ClientCall.{ClientCall}
 use Rattle.af_base.specs.declared.event.ClientCall.TheVariants as call
@@ -22,7 +22,7 @@ use Rattle.af_script.specs.Data.{ScriptData}
 
 -- ## What the client saw
 
--- among these words of commands the one of a number, from 0, is a START with this flush count
+-- among these words of commands the command of this number, from 0, is a START with this flush count
 pub record IsStart (words : List ℕ) (number count : ℕ) : Type 0 where
   pub code : slice_get words (2 * number) ≡ Some START
   pub argument : slice_get words (2 * number + 1) ≡ Some count
@@ -39,14 +39,14 @@ pub record SeesSettled (t : Track) (calls : List ClientCall) (count : ℕ) : Typ
 
 -- ## What is discarded
 
--- a drop that discards a frame from this one on follows a look that saw a flush count above this one
+-- a drop that discards the frame `from` or a later one follows a look that saw a flush count above `count`
 abbrev pub DropsAbove : Shape → (from count : ℕ) → List Moment → ServerEvent → Type 0
 DropsAbove k from count order (server.Drop to) =
     let p = after (start k) order in
     (frame : ℕ) → from ≤ frame → p.consumed ≤ k.base + frame → k.base + frame < drop_end p → count < flushes_by k.wrap (server_kept k (server_of order)).flush
 DropsAbove k from count order _ = Unit {0}
 
--- each drop of the order does so
+-- each drop of the order that discards such a frame follows such a look
 abbrev pub DiscardsAbove : Shape → (from count : ℕ) → List Moment → Type 0
 DiscardsAbove k from count [] = Unit {0}
 DiscardsAbove k from count (by_client e ∷ order) = DiscardsAbove k from count order
@@ -55,7 +55,7 @@ DiscardsAbove k from count (by_hand e ∷ order) = DiscardsAbove k from count or
 
 -- ## The promise
 
--- Where the client of a track without a poke saw a START settled in a round, and the track's stream proxy took part in the meeting after it, what it released in later rounds is discarded only so, in each history of its stream block
+-- If the client of a track without a poke saw a START settled in a round, and the track's stream proxy took part in the meeting after it, what it released in later rounds is discarded only by looks that saw a flush count above that of the START, in each history of its stream block
 abbrev pub SettledMeansKept : ScriptData → List (List Frame) → JournalData → Type 0
 SettledMeansKept script files j = let s = session_of script files in
     (before : List RoundSeen) (round : RoundSeen) (later : List RoundSeen) → j.rounds ≡ before ++ round ∷ later → (track : ℕ) → track < track_count s → is_lawful_track j.rounds track ≡ true

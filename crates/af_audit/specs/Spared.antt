@@ -1,4 +1,4 @@
--- A block that is spared, as a journal tells it: no call of its client found that its words don't fit, and no mixer's look at it was Shut. Of the two blocks of a track `commands` names the one.
+-- A block that is spared, as a journal records it: no call of its client found that its words don't fit, and no mixer's look at it was Shut. `commands` says which of a track's two blocks is meant.
 use Rattle.std.specs.Prelude.{◌≡◌, ℕ, ◌<◌, ◌&&◌, not, Bool, true, false, List, [], ◌∷◌, Option, Some, None}
 use Rattle.std.specs.List.{list_all}
 use Rattle.af_base.specs.declared.event.ClientCall.{ClientCall}
@@ -24,16 +24,17 @@ is_corrupt_on commands (SendCorrupt front rear) = commands
 is_corrupt_on commands (Corrupt front rear) = not commands
 is_corrupt_on commands _ = false
 
--- none of these calls did
+-- none of these calls found that the words of the block don't fit it
 abbrev pub none_corrupt_on : Bool → List ClientCall → Bool
 none_corrupt_on commands calls = list_all (λ call. not (is_corrupt_on commands call)) calls
 
--- on either block
+-- a call found that the words of one of the two blocks don't fit it
 abbrev pub is_corrupt : ClientCall → Bool
 is_corrupt (SendCorrupt front rear) = true
 is_corrupt (Corrupt front rear) = true
 is_corrupt _ = false
 
+-- none of these calls found that the words of one of the two blocks don't fit it
 abbrev pub none_corrupt : List ClientCall → Bool
 none_corrupt calls = list_all (λ call. not (is_corrupt call)) calls
 
@@ -43,31 +44,31 @@ none_corrupt calls = list_all (λ call. not (is_corrupt call)) calls
 abbrev pub is_spared_by : Session → Run → EntrySeen → ℕ → Bool
 is_spared_by s run e track = elim (slot_for (state_for s run e.entry.state) e.entry track) as (λ o. Bool) [ None ↦ true | Some i ↦ not (is_shut (entry_slot e.entry i).seen) ]
 
--- nor is it in any of these entries, one after the other
+-- in none of these entries, one after the other, the slot that plays the track is Shut
 abbrev pub is_spared_by_all : Session → Run → List EntrySeen → ℕ → Bool
 is_spared_by_all s run [] track = true
 is_spared_by_all s run (e ∷ entries) track = is_spared_by s (with_poll s e.entry.state run) e track && is_spared_by_all s (with_cycle s run e) entries track
 
--- no look of a turn at the track's commands is Shut, or none at its stream for the buffer
+-- no look of a turn at the block is Shut: of a command block no look at the track's commands, of a stream block no take for the buffer
 abbrev pub is_spared_in_turn : Bool → Turn → ℕ → Bool
 is_spared_in_turn true e track = list_all (λ look. not (is_shut look.seen)) (track_in e track).looks
 is_spared_in_turn false e track = list_all (λ take. not (is_shut take.slot.seen)) (takes_from e.mixes track)
 
--- the same of the normal mixer's turn, where there is one
+-- no look of the normal mixer's turn at the block is Shut, if there is a turn
 abbrev pub is_spared_by_turn : Bool → Option Turn → ℕ → Bool
 is_spared_by_turn commands None track = true
 is_spared_by_turn commands (Some e) track = is_spared_in_turn commands e track
 
 -- ## Rounds
 
--- in a round: by its client's calls and by the turn, and a stream block by the entries before the turn and after it
+-- a block is spared in a round: by its client's calls and by the turn, and a stream block by the entries before the turn and after it
 pub record IsSparedIn (commands : Bool) (s : Session) (run : Run) (round : RoundSeen) (track : ℕ) : Type 0 where
   pub calls : none_corrupt_on commands (calls_in round track) ≡ true
   pub early : commands ≡ false → is_spared_by_all s (with_calls round run) (early_of run round) track ≡ true
   pub turn : is_spared_by_turn commands round.turn track ≡ true
   pub late : commands ≡ false → is_spared_by_all s (after_turn s run round) (late_of run round) track ≡ true
 
--- in some rounds, one after the other
+-- a block is spared in some rounds, one after the other
 abbrev pub IsSpared : Bool → Session → Run → List RoundSeen → ℕ → Type 0
 IsSpared commands s run [] track = Unit {0}
 IsSpared commands s run (round ∷ rounds) track = IsSparedIn commands s run round track × IsSpared commands s (after_round s run round) rounds track

@@ -33,11 +33,11 @@ pub record FastIsClear (cut : Bool) (s : Session) (marks : Marks) (run : Run) (r
   pub within : length run.entries + length round.entries ≤ s.script.cycles
   pub room : length run.entries < s.script.cycles
 
--- no fault of a party
+-- a party has no fault in a round
 abbrev pub IsClear : Bool → Session → Marks → Run → RoundSeen → ℕ → Type 0
 IsClear cut s marks run round party = MatchBool (nat_lt party (normal_party s)) (ClientIsClear s run round party) (MatchBool (party == normal_party s) (NormalIsClear s marks run round) (FastIsClear cut s marks run round))
 
--- no fault of any
+-- no party has a fault in a round
 abbrev pub AreClear : Bool → Session → Marks → Run → RoundSeen → Type 0
 AreClear cut s marks run round = (party : ℕ) → party ≤ fast_party s → IsClear cut s marks run round party
 
@@ -53,13 +53,13 @@ abbrev pub MayEnd : Bool → Session → Run → Type 0
 MayEnd false s run = all_ended s run ≡ true
 MayEnd true s run = (length run.entries ≡ s.script.cycles) × (all_ended s run ≡ false)
 
--- its rounds are legal, and it may end after them
+-- the rounds of a run are legal, and it may end after them
 abbrev pub IsRun : Bool → Session → Marks → Run → List RoundSeen → Type 0
 IsRun cut s marks run rounds = LegalRounds cut s marks run rounds × MayEnd cut s (run_from s run rounds)
 
 -- ## The first fault
 
--- of all numbers up to the last one the least of which this doesn't hold
+-- the least of all numbers up to the last one of which `Holds` isn't true
 pub record IsLeastWithout (Holds : ℕ → Type 0) (last party : ℕ) : Type 0 where
   pub is_party : party ≤ last
   pub fails : Holds party → ⊥

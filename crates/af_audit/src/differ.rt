@@ -2,7 +2,7 @@
 ghost use Rattle.std.specs.Prelude.{◌≡◌, MatchOption};
 ghost use Rattle.af_audit.specs.Verdicts.{FirstDiffer};
 
-/// The first place at which two lists of bytes differ, or at which the shorter one ends; None where they are the same.
+/// The first place at which two lists of bytes differ, or at which the shorter one ends; None if they are the same.
 pub(crate) fn first_differ(a: &[u8], b: &[u8]) -> Option<usize>
     ensures { MatchOption result (b.now ≡ a.now) (FirstDiffer a.now b.now) }
 {

@@ -1,4 +1,4 @@
-//! That nothing is left in the pipe, by the end of every legal run.
+//! Nothing is left in the pipe by the end of every legal run.
 ghost use Rattle.std.specs.Prelude.{List};
 ghost use Rattle.af_base.specs.declared.frame.Frame.{Frame};
 ghost use Rattle.af_model.specs.Journals.{JournalData};

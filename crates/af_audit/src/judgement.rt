@@ -133,7 +133,7 @@ fn find(
     })
 }
 
-/// Whether a journal is that of a legal run of the script and its files, or, where `cut` says so, that of a run cut off with its log full.
+/// Whether a journal is that of a legal run of the script and its files, or, if `cut` says so, that of a run cut off with its log full.
 ///
 /// The journal has as many tracks as the script, and the files are those that `play` may be given. Memory is its only error.
 pub fn judge(
@@ -156,7 +156,7 @@ pub fn judge(
     Ok(is)
 }
 
-/// The verdict on a journal and its PCM: legal, or the first round and in it the least party at fault, or the first byte that isn't that of the mix. It is legal exactly where the journal is that of a legal run of the script and its files, and the bytes are its PCM.
+/// The verdict on a journal and its PCM: legal, or the first round and in it the least party at fault, or the first byte that isn't that of the mix. It is legal exactly if the journal is that of a legal run of the script and its files, and the bytes are its PCM.
 ///
 /// The journal has as many tracks as the script, and the files are those that `play` may be given. It never answers Text. Memory is its only error.
 pub fn verify(

@@ -1,4 +1,4 @@
-//! A run as its journal tells it, round by round.
+//! A run as its journal records it, round by round.
 ghost use Rattle.std.specs.Prelude.{◌≡◌, ◌⊎◌, ◌↔◌, ◌+◌, ◌-◌, ◌^◌, ◌<◌, ◌≤◌, IfOk, IfSome, IsTrue, OnOk, length, map, nat_le, take, drop, option_map, true};
 ghost use Rattle.std.specs.List.{list_any, prefix_len};
 ghost use Rattle.af_base.specs.Turn.{turn_of};
@@ -63,7 +63,7 @@ fn is_poke_on(commands: bool, call: ClientCall) -> bool
     }
 }
 
-// Whether some of these calls is such a poke.
+// Whether some of these calls pokes that block.
 fn has_poke_on(commands: bool, calls: &[ClientCall]) -> bool
     ensures { result ≡ list_any (is_poke_on commands) calls.now }
 {
@@ -126,7 +126,7 @@ fn settings_of(alloc: Global, script: &Script) -> Result<Vec<Setting>, Memory>
     Ok(settings)
 }
 
-// How many entries of a round come first: up to the first whose state is beyond these.
+// How many entries of a round come first: up to the first whose state is beyond those pushed.
 fn early_of(log: &FastLog, entries: Entries, pushed: u64) -> Entries
     requires { entries.first + entries.count ≤ length log.now.entries }
     ensures first { result.first ≡ entries.first }
@@ -148,7 +148,7 @@ fn early_of(log: &FastLog, entries: Entries, pushed: u64) -> Entries
     entries
 }
 
-// The entries behind the first ones.
+// The entries of a round behind its first ones.
 fn late_of(entries: Entries, early: usize) -> Entries
     requires early { early ≤ entries.count }
     requires few { entries.first + entries.count < 2 ^ 64 }
@@ -217,7 +217,7 @@ fn least(a: Option<u32>, b: Option<u32>) -> Option<u32>
 }
 
 impl Found {
-    // The least party at fault, of a round behind the end of all parties or not, where there are so many tracks.
+    // The least party at fault, in a run of so many tracks. `over` says whether the round is behind the end of all parties.
     fn least(self, over: bool, tracks: u32) -> Option<u32>
         requires few { tracks ≤ 32 }
         requires caller { IfSome self.caller (λ track. track < tracks) }
@@ -254,7 +254,7 @@ fn going_client(tracks: &[TrackJudge]) -> Option<u32>
     None
 }
 
-// Tells the calls of all clients. Answers the least one whose turn isn't legal.
+// Notes the calls of all clients. Answers the least one whose turn isn't legal.
 fn call_all(
     tracks: &mut [TrackJudge],
     specs: &[TrackSpec],
@@ -281,7 +281,7 @@ fn call_all(
     Ok(least)
 }
 
-// Once the normal mixer has ended, every client has.
+// Ends every client, once the normal mixer has ended.
 fn end_all(tracks: &mut [TrackJudge])
     ensures { tracks.new ≡ map ended_track tracks.old }
 {
@@ -290,14 +290,14 @@ fn end_all(tracks: &mut [TrackJudge])
     }
 }
 
-// Both hold.
+// Whether both hold.
 fn both(first: bool, second: bool) -> bool
     ensures { IsTrue result ↔ (IsTrue first × IsTrue second) }
 {
     first && second
 }
 
-// A track meets the mixers. Answers whether both its blocks have their histories.
+// Lets a track meet the mixers. Answers whether both its blocks have their histories.
 fn meet(track: &mut TrackJudge, there: bool, hands: bool) -> Result<bool, Memory>
     ensures met { OnOk result (track.new ≡ blocks_met there hands track.old) }
     ensures short { OnOk result (AreShort there track.new) }
@@ -309,7 +309,7 @@ fn meet(track: &mut TrackJudge, there: bool, hands: bool) -> Result<bool, Memory
 }
 
 impl RunJudge {
-    /// Before the first round of a script.
+    /// The judge of a script's run before the first round.
     pub(crate) fn new(alloc: Global, script: &Script) -> Result<RunJudge, Memory>
         ensures ready { IfOk result (λ j. IsReady j (length script.now.tracks)) }
         ensures new { IfOk result (λ j. IsNewJudge script.now j) }
@@ -327,7 +327,7 @@ impl RunJudge {
         })
     }
 
-    /// The least party that hasn't ended; None where all have.
+    /// The least party that hasn't ended; None if all have.
     pub(crate) fn going_party(&self, tracks: &[TrackJudge]) -> Option<u32>
         requires { length tracks.now ≤ 32 }
         ensures least { LeastBelow (λ party. party_ended self.now tracks.now party ≡ true) (length tracks.now + 2) result }
@@ -346,7 +346,7 @@ impl RunJudge {
         None
     }
 
-    /// Whether a run may end: all parties have ended, or, where it is cut off, its log is full and some party hasn't.
+    /// Whether a run may end: all parties have ended, or, if it is cut off, its log is full and some party hasn't.
     pub(crate) fn may_end(&self, tracks: &[TrackJudge], cut: bool) -> bool
         requires { length tracks.now ≤ 32 }
         ensures { (s : Session) (marks : Marks) (run : Run) → KeepsRun s marks self.now tracks.now run → IsTrue result ↔ MayEnd cut s run }
@@ -358,7 +358,7 @@ impl RunJudge {
         both(self.fast.entries() == self.cycles, !over)
     }
 
-    // What a turn left of the draft, what it did at the queue, after so many pushes, what it put into the pipe, and the report that it loaded.
+    // Notes what a turn left of the draft, what it did at the queue, after so many pushes, what it put into the pipe, and the report that it loaded.
     fn note_turn(&mut self, pushed: u64, turn: &TurnEntry) -> Result<(), Memory>
         requires judged { IsJudged self.old.normal }
         ensures same { self.new.normal ≡ self.old.normal }
@@ -380,7 +380,7 @@ impl RunJudge {
         Ok(())
     }
 
-    // Tells a turn of the normal mixer, before these entries of its round. Answers whether it is legal.
+    // Notes a turn of the normal mixer, before these entries of its round. Answers whether it is legal.
     fn turn(
         &mut self,
         tracks: &mut [TrackJudge],
@@ -405,7 +405,7 @@ impl RunJudge {
         Ok(legal && !had_ended)
     }
 
-    // Tells the turn that a round has. Answers whether it is legal: none is, once the mixer has ended.
+    // Notes the turn of a round, if the round has one. Answers whether that is legal: a round without a turn is, once the mixer has ended.
     fn turn_if(
         &mut self,
         tracks: &mut [TrackJudge],
@@ -426,7 +426,7 @@ impl RunJudge {
         }
     }
 
-    // Tells the turns of both mixers in a round. Answers whether that of each is legal, but for what is asked of all entries at once.
+    // Notes the turns of both mixers in a round. Answers whether that of each is legal, but for what is asked of all entries at once.
     fn mix(
         &mut self,
         tracks: &mut [TrackJudge],
@@ -476,7 +476,7 @@ impl RunJudge {
         self.normal.is_home(track) || self.fast.holds(self.normal.states(), track)
     }
 
-    // The clients meet the mixers. Answers the least one of whose blocks one has no history.
+    // Lets the clients meet the mixers. Answers the least client one of whose blocks has no history.
     fn meet_all(&self, tracks: &mut [TrackJudge]) -> Result<Option<u32>, Memory>
         requires few { length tracks.old ≤ 32 }
         ensures count { length tracks.new ≡ length tracks.old }
@@ -493,7 +493,7 @@ impl RunJudge {
         Ok(least)
     }
 
-    // The mixers meet. Answers whether the queue, the pipe and the report have their histories.
+    // Lets the mixers meet. Answers whether the queue, the pipe and the report have their histories.
     fn meet_mixers(&mut self) -> Result<bool, Memory>
         ensures same { self.new.normal ≡ self.old.normal }
         ensures met { OnOk result (self.new ≡ mixers_met self.old) }
@@ -505,7 +505,7 @@ impl RunJudge {
         Ok(both(queue, both(pipe, report)))
     }
 
-    // Tells all turns and meetings of a round, and answers what is found.
+    // Notes all turns and meetings of a round, and answers what is found.
     fn play(
         &mut self,
         tracks: &mut [TrackJudge],
@@ -543,7 +543,7 @@ impl RunJudge {
         })
     }
 
-    /// Tells a round, of a run that is cut off or not. Answers the least party that isn't clear; None where all are.
+    /// Notes a round, of a run that is cut off or not. Answers the least party that isn't clear; None if all are.
     pub(crate) fn round(
         &mut self,
         tracks: &mut [TrackJudge],

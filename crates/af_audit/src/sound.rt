@@ -34,7 +34,7 @@ fn are_fit(parts: &[Part<'_>], asked: usize) -> bool
     true
 }
 
-// Writes the mix of an entry: by the kernel, and plainly where it doesn't take what the entry tells.
+// Writes the mix of an entry: by the kernel, and plainly if the kernel doesn't take what the entry records.
 fn mix_one(log: &FastLog, index: usize, sums: &mut [Sum], out: &mut [Frame])
     requires there { index < length log.now.entries }
     requires mixed { is_mixed (entry_at log.now.entries index).cycle ≡ true }
@@ -95,7 +95,7 @@ fn push_entries(
     Ok(())
 }
 
-/// Appends the sound of a log whose cycles have so many frames: the bytes of the mix of each Mixed entry. After want of memory `out` is as before.
+/// Appends the sound of a log whose cycles have so many frames: the bytes of the mix of each Mixed entry. Memory is its only error: an allocation was refused, and `out` is as before.
 pub fn pcm(alloc: Global, log: &FastLog, frames: usize, out: &mut Vec<u8>) -> Result<(), Memory>
     ensures ok { OnOk result (out.new.items ≡ out.old.items ++ entries_pcm frames log.now.frames log.now.entries) }
     ensures err { OnErr result (out.new.items ≡ out.old.items) }

@@ -1,6 +1,6 @@
 //! What is found of a journal and its PCM.
 
-/// Why they are refused.
+/// Why a journal and its PCM are refused.
 #[derive(Clone, Copy, Debug, PartialEq, Eq)]
 pub enum Refusal {
     /// The number of the first line, from 1, such that no text with a reading begins with the lines up to it.
@@ -11,11 +11,11 @@ pub enum Refusal {
     Pcm { at: u64 },
 }
 
-/// What is found.
+/// The verdict on a journal and its PCM.
 #[derive(Clone, Copy, Debug, PartialEq, Eq)]
 pub enum Verdict {
     /// The journal is a legal run of the script and the files, and the bytes are its PCM.
     Legal,
-    /// It isn't.
+    /// The journal and the bytes are refused, for this reason.
     Refused(Refusal),
 }

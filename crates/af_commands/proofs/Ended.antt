@@ -1,4 +1,4 @@
--- A work that is over and isn't done: a play that was cut off at its limit, whose files are both whole, or a judgement that refuses. Its line is printed or not.
+-- A work that is over and isn't done: a play that was cut off at its limit, whose files are both whole, or a judgement that refuses. The line of the work is printed or not.
 use Rattle.std.proofs.Common.{◌≡◌, ℕ, ◌++◌, List, [], Option, Some, Result, Ok, Err, IsTrue, is_some, false, arith, inl, inr, length, refl, subst, sym}
 use Rattle.std.proofs.lemmas.List.{take_all}
 use Rattle.af_io.specs.Files.{Files, SetsFile, LeavesFront}
@@ -15,7 +15,7 @@ use Rattle.af_offline.specs.Line.{ending_text, limit_text}
 use Rattle.af_words.specs.Requests.{Request}
 use Rattle.af_offline.specs.Status.{JudgesWords, RefusesWords, ended_status}
 
--- a file that was made anew holds a front of its bytes: all of them
+-- a file that was made anew with all of its bytes holds a front of these bytes
 pub LeavesFront-whole : (old : Files) (name bytes : List ℕ) (new : Files) → SetsFile old name (Some bytes) new → LeavesFront old name bytes new
 LeavesFront-whole old name bytes new set =
     inr (length bytes, subst (λ (held : List ℕ). SetsFile old name (Some held) new) (sym (take_all (length bytes) bytes (omega arith))) set)
@@ -42,7 +42,7 @@ pub IsOver-ended : (ending : Ending) (asked : Result Job Refusal) (old new : Fil
 IsOver-ended ending (Ok job) old new ended = (ending_text ending, inr (ending, refl, ended))
 IsOver-ended ending (Err refusal) old new ended = absurd ended
 
--- the sink stopped in its line
+-- the sink stopped in the line of an ending
 pub Prints-end_cut : (ending : Ending) (asked : Result Job Refusal) (old new : Files) (before after : List ℕ) → IsEnded ending asked old new → PrintsFront (ending_text ending) before after → Prints status.StoreFault asked old new before after
 Prints-end_cut ending (Ok job) old new before after ended front = inr (ending_text ending, inr (ending, refl, ended), front)
 Prints-end_cut ending (Err refusal) old new before after ended front = absurd ended
@@ -89,13 +89,13 @@ pub EndsAsAsked-ended : (ending : Ending) (asked : Result Job Refusal) (old new 
 EndsAsAsked-ended ending (Ok job) old new ended = ends_as job old new ending (refuses job.work job.target (with_files old job.first) new ending ended)
 EndsAsAsked-ended ending (Err refusal) old new ended = absurd ended
 
--- ## A stop at such an end
+-- ## A stop at an ending
 
 module _ (X : Type 0) (stop : Stop) (ending : Ending) (is : stop ≡ Over ending) where
   pub end_reached : (asked : Result Job Refusal) (old new : Files) → Renders {X = X} (Err stop) asked old new → IsEnded ending asked old new
   end_reached asked old new ends = subst (λ (s : Stop). Renders {X = X} (Err s) asked old new) is ends
 
-  -- nothing was printed by then, and its command was asked for
+  -- nothing was printed by the time of the stop
   pub end_unprinted : (asked : Result Job Refusal) (old new : Files) (before after : List ℕ) → Printed {X = X} (Err stop) asked old new before after → after ≡ before
   end_unprinted asked old new before after printed = subst (λ (s : Stop). Printed {X = X} (Err s) asked old new before after) is printed
 

@@ -54,7 +54,7 @@ record IsFit (total : ℕ) (track : TrackSpec) (bytes : List ℕ) : Type 0 where
 track_found : (files : Files) (number total : ℕ) (track : TrackSpec) (bytes : List ℕ) → files track.file ≡ Some bytes → IsFit total track bytes → track_in files number total track ≡ Ok (frames_from track.mono bytes, total + length bytes)
 track_found files number total track bytes there fit = rw (there, fit.short, fit.few, fit.even, fit.enough) refl
 
--- the width of a frame divides a file's bytes, and it has 100000 frames
+-- the width of a frame divides the length of a track's file, and the file has 100000 frames
 whole_frames : (bytes track : ℕ) → bytes ≡ 2 * samples_of track → ((bytes % frame_width (track % 2 == 0) == 0) ≡ true) × (bytes / frame_width (track % 2 == 0) ≡ 100000)
 whole_frames bytes track is = go (track % 2 == 0) refl
   where
@@ -92,7 +92,7 @@ track_there : (files : Files) (number track : ℕ) → files (generated_name tra
 unfolding generated_track
 track_there files number track there few = track_found files track (2 * samples_before track) (generated_track track) (generated_file number track) there (file_fits number track few)
 
--- one track's file after another
+-- the files of some tracks are found, one after another
 tracks_found : (files : Files) (number : ℕ) → ((track : ℕ) → track < 8 → files (generated_name track) ≡ Some (generated_file number track)) → (from count : ℕ) → from + count ≤ 8
     → tracks_in files from (2 * samples_before from) (map generated_track (range_with_len from count)) ≡ Ok (map (frames_of_track number) (range_with_len from count))
 tracks_found files number there from zero le = refl
@@ -106,7 +106,7 @@ tracks_found files number there from (suc count) le =
     ∙ ap (λ (total : ℕ). then_cons (frames_of_track number from) (tracks_in files (from + 1) total rest)) next
     ∙ ap (λ (r : Result (List (List Frame)) Refusal). then_cons (frames_of_track number from) r) (tracks_found files number there (from + 1) count (omega (arith, le)))
 
--- the session is loaded as it is told
+-- the session is loaded from the files that were written for it
 pub session_there : (old : Files) (number : ℕ) (script : List ℕ) → is_drawn script ≡ false
     → session_of (with_files old (generated_files number script)) generated_script ≡ Ok (record { script = generated_script; files = generated_frames number })
 unfolding generated_tracks generated_frames
@@ -127,14 +127,14 @@ module _ (old : Files) (number : ℕ) (script target : List ℕ) (free : is_draw
   told_here : session_of mid generated_script ≡ Ok loaded
   told_here = ap (λ (files : Files). session_of files generated_script) (files_are whole mid written) ∙ session_there old number script free
 
-  -- the files were made, and the work stopped where they were read again
+  -- the files were made, and the work stopped when they were loaded
   pub Makes-unloaded : (e : Stop) (new : Files) → Meets loaded_view (Err e) (session_of mid generated_script) → SameFiles mid new → Makes (Err e) (Ok (generated_job number script target)) old new
   Makes-unloaded (Refused refusal) new told same = let clash : ◌≡◌ {A = Result Loaded Refusal} (Ok loaded) (Err refusal) = sym told_here ∙ told in cc
   Makes-unloaded (Over over) new told same = absurd told
   Makes-unloaded Store new told same = inl (inr (inl (λ name. same name ∙ written name)))
   Makes-unloaded Memory new told same = inl (inr (inl (λ name. same name ∙ written name)))
 
-  -- it was played behind them
+  -- the session was played after the files were made
   behind : (r : Result (String Global) Stop) (new : Files) → Makes r (Ok (session_job target loaded)) whole new → Makes r (Ok (generated_job number script target)) old new
   behind (Ok line) new made = made
   behind (Err (Refused refusal)) new made = let clash : ◌≡◌ {A = Result Job Refusal} (Ok (session_job target loaded)) (Err refusal) = made.0 in cc

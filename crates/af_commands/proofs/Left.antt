@@ -1,4 +1,4 @@
--- What is left behind, and what is printed, where a command stops.
+-- What is left behind, and what is printed, if a command stops.
 use Rattle.std.proofs.Common.{◌≡◌, ◌∙◌, ◌≤◌, ℕ, ◌++◌, List, Option, Some, is_some, IsTrue, Result, Ok, Err, IfErr, IsErrAnd, String, string_bytes, ok_or, append-nil, refl, sym, ap, subst, inl, inr, arith}
 use Rattle.std.specs.declared.alloc.Global.{Global}
 use Rattle.af_io.specs.Causes.{Rose}
@@ -16,7 +16,7 @@ use Rattle.af_offline.specs.Status.{status_of, IsOutside, RefusesWords, SuitsReq
 use Rattle.af_commands.specs.Ends.{Makes, Works, Prints, PrintsFront, PrintsCut, PrintsLine, Renders, Printed, WholeUnless, AsksEnding, IsDoneLine, IsAskedLine, PrintsOwnLine, PrintsSomeLine, EndsAsAsked}
 use Rattle.af_commands.proofs.Made.{IsCutOff-same, IsCutOff-made, IsOver-made, Renders-made, PrintsWhole-made, PrintsCut-made}
 
--- what words of a request ask for
+-- what the words of a request ask for is what the request asks for
 pub asked_named : (files : Files) (words : List (List ℕ)) (request : Request) → Some request ≡ request_of words → asked_of files words ≡ job_of files request
 asked_named files words request named = ap (λ (asked : Option Request). ok_or asked Usage >>= job_of files) (sym named)
 
@@ -25,7 +25,7 @@ pub Renders-memory : {X : Type 0} (r : Result X Stop) (asked : Result Job Refusa
 Renders-memory (Ok x) asked files memory = absurd memory
 Renders-memory {X} (Err stop) asked files memory = subst (λ (s : Stop). Renders {X = X} (Err s) asked files files) (sym memory) (IsCutOff-same asked files files (λ name. refl))
 
--- nothing was made
+-- the work stopped before its line was made
 pub Renders-stopped : (X : Type 0) (e : Stop) (asked : Result Job Refusal) (old new : Files) → Makes (Err e) asked old new → Renders {X = X} (Err e) asked old new
 Renders-stopped X (Refused refusal) asked old new made = made
 Renders-stopped X (Over over) asked old new made = made
@@ -86,7 +86,7 @@ RefusesWords-written (Err Memory) names outside some = tt
 pub Rose-later : (before mid now : ℕ) → before ≤ mid → Rose mid now → Rose before now
 Rose-later before mid now later rose = omega arith
 
--- the work ended well, and a refusal was printed
+-- the work ended well
 pub Works-done : (X : Type 0) (x : X) (asked : Result Job Refusal) (old new : Files) → Renders {X = X} (Ok x) asked old new → Works status.Done asked old new
 Works-done X x (Ok job) old new written = (refl, written)
 Works-done X x (Err refusal) old new none = absurd none
@@ -96,6 +96,7 @@ works_as Usage old new same = (refl, same)
 works_as (Script fault) old new same = (refl, same)
 works_as (File fault) old new same = (refl, same)
 
+-- a refusal was printed, and no file has changed
 pub Works-refused : (refusal : Refusal) (asked : Result Job Refusal) (old new : Files) → asked ≡ Err refusal → SameFiles old new → Works (status_of refusal) asked old new
 Works-refused refusal asked old new is same = subst (λ (told : Result Job Refusal). Works (status_of refusal) told old new) (sym is) (works_as refusal old new same)
 
@@ -118,7 +119,7 @@ JudgesWords-refused X Y Usage names words = words
 JudgesWords-refused X Y (Script fault) names words = words
 JudgesWords-refused X Y (File fault) names words = words
 
--- ---- the line, told by the end and the words alone
+-- ---- the line, by the end and the words alone
 
 -- nothing was printed yet
 pub PrintsSomeLine-nothing : (X : Type 0) (e : Stop) (asked : Option Request) (before : List ℕ) → ((over : Ending) → e ≡ Over over → AsksEnding over asked) → PrintsSomeLine {X = X} (Err e) asked before before
@@ -127,7 +128,7 @@ PrintsSomeLine-nothing X (Over over) asked before limited = (limited over refl, 
 PrintsSomeLine-nothing X Store asked before limited = (refusal_text Usage, inr (inl (Usage, refl)), (0, sym (append-nil before)))
 PrintsSomeLine-nothing X Memory asked before limited = refl
 
--- a step of a request that the words name
+-- nothing was printed, as a step of a request that the words name stopped
 pub PrintsSomeLine-stopped : (X Z : Type 0) (e : Stop) (request : Request) (asked : Option Request) (before : List ℕ) → Some request ≡ asked → SuitsRequest {X = Z} (Err e) request → PrintsSomeLine {X = X} (Err e) asked before before
 PrintsSomeLine-stopped X Z e request asked before named suits = PrintsSomeLine-nothing X e asked before (λ over is.
     subst (AsksEnding over) named (subst (λ (stop : Stop). SuitsRequest {X = Z} (Err stop) request) is suits))
@@ -136,7 +137,7 @@ pub PrintsSomeLine-memory : {X : Type 0} (r : Result X Stop) (asked : Option Req
 PrintsSomeLine-memory (Ok x) asked before memory = absurd memory
 PrintsSomeLine-memory {X} (Err stop) asked before memory = PrintsSomeLine-nothing X stop asked before (λ over is. let clash : Memory ≡ Over over = sym memory ∙ is in cc)
 
--- a line of the request that the words name
+-- a line of a request that the words name is a line that they ask for
 pub asked_line : (asked : Option Request) (request : Request) (line : List ℕ) → Some request ≡ asked → IsDoneLine request line → IsAskedLine asked line
 asked_line asked request line named is = subst (λ (a : Option Request). IsAskedLine a line) named is
 
@@ -157,7 +158,7 @@ PrintsOwnLine-refused (File fault) asked before after printed = printed
 pub PrintsOwnLine-refusal_cut : (refusal : Refusal) (asked : Option Request) (before after : List ℕ) → PrintsFront (refusal_text refusal) before after → PrintsOwnLine status.StoreFault asked before after
 PrintsOwnLine-refusal_cut refusal asked before after front = (refusal_text refusal, inr (inl (refusal, refl)), front)
 
--- the work ended well, so it was asked for
+-- the work ended well, and its status is that of what was asked for
 pub EndsAsAsked-done : (X : Type 0) (x : X) (asked : Result Job Refusal) (old new : Files) → Renders {X = X} (Ok x) asked old new → EndsAsAsked status.Done asked
 EndsAsAsked-done X x (Ok job) old new written = inl refl
 EndsAsAsked-done X x (Err refusal) old new none = absurd none

@@ -1,4 +1,4 @@
--- What a command makes, and what it leaves behind where it stops.
+-- What a command makes, and what it leaves behind if it stops.
 use Rattle.std.proofs.Common.{◌≡◌, ℕ, List, ◌++◌, Some, Result, Ok, Err, String, string_bytes, sym, ap, subst, inl, inr}
 use Rattle.std.specs.declared.alloc.Global.{Global}
 use Rattle.af_io.specs.Files.{Files, SameFiles, SetsFile, LeavesFront}
@@ -22,21 +22,21 @@ pub IsCutOff-same : (asked : Result Job Refusal) (old new : Files) → SameFiles
 IsCutOff-same (Ok job) old new same = inl (inl (LeavesFronts-none old job.first new same))
 IsCutOff-same (Err refusal) old new same = same
 
--- nothing was done
+-- the work stopped before anything was done
 pub Makes-stopped : {X : Type 0} (view : X → Job) (e : Stop) (asked : Result Job Refusal) (old new : Files) → Meets view (Err e) asked → SameFiles old new → Makes (Err e) asked old new
 Makes-stopped view (Refused refusal) asked old new told same = (told, same)
 Makes-stopped view (Over over) asked old new told same = absurd told
 Makes-stopped view Store asked old new told same = IsCutOff-same asked old new same
 Makes-stopped view Memory asked old new told same = IsCutOff-same asked old new same
 
--- the same where more would have followed
+-- the work stopped before anything was done, at a step that more steps would have followed
 pub Makes-stopped_before : {X Y : Type 0} (view : X → Y) (e : Stop) (told : Result Y Refusal) (next : Y → Result Job Refusal) (old new : Files) → Meets view (Err e) told → SameFiles old new → Makes (Err e) (told >>= next) old new
 Makes-stopped_before {X} {Y} view (Refused refusal) told next old new is same = (ap (λ (r : Result Y Refusal). r >>= next) is, same)
 Makes-stopped_before view (Over over) told next old new is same = absurd is
 Makes-stopped_before view Store told next old new is same = IsCutOff-same (told >>= next) old new same
 Makes-stopped_before view Memory told next old new is same = IsCutOff-same (told >>= next) old new same
 
--- a line that was made for what is asked for
+-- a work whose line was made is cut off if the line isn't printed
 pub IsCutOff-made : (asked : Result Job Refusal) (line : String Global) (old new : Files) → Makes (Ok line) asked old new → IsCutOff asked old new
 IsCutOff-made (Ok job) line old new made = inr (string_bytes line, made)
 IsCutOff-made (Err refusal) line old new made = absurd made
@@ -71,7 +71,7 @@ Makes-delivered output line asked target old mid new is same line_is set =
     let here : SetsFile old target (Some output.bytes.items) new = subst (λ (files : Files). SetsFile files target (Some output.bytes.items) new) (files_are old mid same) set in
     subst (λ (told : Result Job Refusal). Makes (Ok line) told old new) (sym is) (ap string_bytes line_is, here)
 
--- it was not
+-- the output was not written, or not all of it
 pub Makes-undelivered : (output : Output) (e : StoreError) (asked : Result Job Refusal) (target : List ℕ) (old mid new : Files) → asked ≡ Ok (output_job target output) → SameFiles old mid → LeavesFront mid target output.bytes.items new
     → Makes (Err (stop_of e)) asked old new
 Makes-undelivered output e asked target old mid new is same left =

@@ -49,11 +49,11 @@ module _ (l : Loaded) (journal : JournalData) (ends : EndsState) (back : HandsBa
     Makes-played : (line : String Global) → string_bytes line ≡ summary_line summary → Makes (Ok line) (Ok (session_job target l)) old new
     Makes-played line is = subst (λ (text : List ℕ). IsMade (session_job target l) text old new) (sym is) is_made
 
-    -- the output is whole, and the line has no room
+    -- a work is cut off if the output is whole and memory ran out for the line
     cut_behind : IsCutOff (Ok (session_job target l)) old new
     cut_behind = inr (summary_line summary, is_made)
 
--- ## What is told of a render
+-- ## What a render answers
 
 module _ (l : Loaded) (accepted : IsScript l.script) (follows : OfTurnRuns HoldsAtMeetingsAlone) (target : List ℕ) (told : Type 0) (old new : Files) where
   -- what a render into the target came to, by its journal

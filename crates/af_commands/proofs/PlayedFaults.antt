@@ -1,4 +1,4 @@
--- How a play is told that the outside stopped it, in its session or behind it.
+-- How a play answers that the outside stopped it, in its session or after it.
 use Rattle.std.proofs.Common.{◌≡◌, ◌∙◌, ℕ, ◌<◌, ◌≤◌, Ok, Err, Result, String, IsErrAnd, IsErrOf, arith, refl, sym, subst}
 use Rattle.std.specs.declared.alloc.Global.{Global}
 use Rattle.af_io.specs.Causes.{HasCause}
@@ -18,7 +18,7 @@ use Rattle.af_words.specs.Requests.{Request}
 use Rattle.af_offline.specs.Status.{HasFault, IsNoUsage, IsOutside, IsPlayRequest, SuitsRequest, stop_of}
 use Rattle.af_commands.specs.Told.{Tells, TellsCause, TellsRender}
 
--- what is so of the stop of the store's refusal is so of the answer
+-- what holds of the stop of the store's refusal holds of the answer
 pub stopped : (P : Result (String Global) Stop → Type 0) (r : Result (String Global) Stop) (e : StoreError) → P (Err (stop_of e)) → IsErrAnd r (λ s. s ≡ stop_of e) → P r
 stopped P (Ok line) e p is = absurd is
 stopped P (Err s) e p is = subst (λ (x : Stop). P (Err x)) (sym is) p
@@ -56,7 +56,7 @@ no_store h = let e : ⊥ = cc in e
 line_no_store : (line : String Global) → IsErrOf {T = String Global} {E = Stop} (Ok line) Store → ⊥
 line_no_store line h = let e : ⊥ = cc in e
 
--- no count rose where the store was not the cause
+-- no count rose if the store was not the cause
 pub ok_still : (p : Played) (before now : ℕ) → HasStoreCause {T = Played} before now (Ok p) → now ≡ before
 ok_still p before now cause = same_count before now cause.later (λ lt. not_stopped p (cause.only lt))
 
@@ -69,14 +69,14 @@ written_still {T} x before now cause = same_count before now cause.later (λ lt.
 line_still : (line : String Global) (before now : ℕ) → HasFault before now (Ok line) → now ≡ before
 line_still line before now cause = same_count before now cause.later (λ lt. line_no_store line (cause.only lt))
 
--- no fault
+-- a line has no fault if no count rose
 calm_line : (line : String Global) (before now : ℕ) → now ≡ before → HasFault before now (Ok line)
 calm_line line before now same = record { later = omega (arith, same); fault = (λ h. absurd (line_no_store line h)); only = (λ lt. absurd (omega (arith, lt, same))) }
 
 calm_memory : (before now : ℕ) → now ≡ before → HasFault {X = String Global} before now (Err Memory)
 calm_memory before now same = record { later = omega (arith, same); fault = (λ h. absurd (no_store h)); only = (λ lt. absurd (omega (arith, lt, same))) }
 
--- a fault of the store
+-- an error of the store is answered as a fault
 fault_told : {T : Type 0} (e : StoreError) (before now : ℕ) → HasCause {T = T} before now (Err e) → HasFault {X = String Global} before now (Err (stop_of e))
 fault_told outside.Failed before now cause = record { later = cause.later; fault = (λ h. cause.failed refl); only = (λ lt. refl) }
 fault_told {T} outside.Memory before now cause = record { later = cause.later; fault = (λ h. absurd (no_store h)); only = (λ lt. absurd (no_failed {T = T} (cause.only lt))) }
@@ -125,9 +125,9 @@ module _ (cycles : ℕ) where
   SuitsRequest-told request (Err fault.Store) result is told = subst (λ (r : Result (String Global) Stop). SuitsRequest r request) (sym told) tt
   SuitsRequest-told request (Err fault.Memory) result is told = subst (λ (r : Result (String Global) Stop). SuitsRequest r request) (sym told) tt
 
--- ## A log behind a play
+-- ## A log after a play
 
--- a log is written where all parties have ended alone
+-- a log is written only if all parties have ended
 module _ (cycles : ℕ) (line : String Global) where
   pub Tells-unlogged : (played : Result Played PlayFault) (e : StoreError) → Tells cycles played (Ok line) → Tells cycles played (Err (stop_of e))
   Tells-unlogged (Ok p) e told = stop_outside e

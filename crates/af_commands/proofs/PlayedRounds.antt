@@ -38,14 +38,14 @@ pub record IsKept (ended : Bool) (l : Loaded) (journal : JournalData) : Type 0 w
   pub legal : IsLegalJournal ended l.script l.files journal
   pub met : HoldsAtMeetings l.script l.files journal
 
--- the promises of a journal
+-- a play in which all parties have ended keeps the promises of its journal
 pub promises : (l : Loaded) (accepted : IsScript l.script) → OfRounds HoldsAtMeetings → (p : Played) → KeepsPlay l.script l.files (Ok p) → IsKept true l p.journal
 promises l accepted follows p keeps = record {
   legal = keeps.done.promises;
   met = follows false l.script l.files p.journal accepted keeps.done.promises.legal.rounds;
 }
 
--- and those of one that was cut off
+-- a play that was cut off keeps the promises of its journal
 pub cut_short : (l : Loaded) (accepted : IsScript l.script) → OfRounds HoldsAtMeetings → (journal : JournalData) (ends : EndsState) → KeepsPlay l.script l.files (Err (fault.CycleLimit journal ends)) → IsKept false l journal
 cut_short l accepted follows journal ends keeps = record { legal = (keeps.limit.cut_run, keeps.enough); met = follows true l.script l.files journal accepted keeps.limit.cut_run.rounds }
 
@@ -101,9 +101,9 @@ pub Makes-cut : (l : Loaded) (journal : JournalData) (ends : EndsState) → Hand
 Makes-cut l journal ends back legal target name old mid new set text cycles is =
     (is, played false l journal ends back legal target name old mid set (limit_text cycles) new (ap limit_text is) text)
 
--- ## What is told of a play
+-- ## What a play answers
 
--- what was left stays where no file changes
+-- what was left stays if no file changes
 pub LeavesRun-stays : (l : Loaded) (target : List ℕ) (old mid new : Files) → LeavesRun l.script l.files target old mid → SameFiles mid new → LeavesRun l.script l.files target old new
 LeavesRun-stays l target old mid new left same = subst (λ (files : Files). LeavesRun l.script l.files target old files) (sym (files_are mid new same)) left
 

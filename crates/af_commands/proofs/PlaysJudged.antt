@@ -16,11 +16,11 @@ use Rattle.af_commands.specs.PlaysJudged.{IsFoundLegal, PlayIsFoundLegal}
 use Rattle.af_offline.specs.Verified.{IsJudged, IsOfJournal}
 
 module _ (script : ScriptData) (files : List (List Frame)) (bytes text line : List ℕ) (some : 0 < length script.tracks) (play : IsPlay true script files bytes text line) where
-  -- its journal is that of a legal run with this sound
+  -- the journal of the play is that of a legal run with this sound
   legal : IsVerdict script files play.journal bytes Legal
   legal = (legal_exactly script files play.journal bytes (record { tracks = play.read.reads.0.tracks_are; some = some; form = play.run.form })).1 (play.legal.legal, play.bytes_are)
 
-  -- and all of it is judged
+  -- all of the journal is judged
   whole : judged_of play.journal ≡ play.journal
   whole = legal_judged script files play.journal legal.0
 

@@ -1,4 +1,4 @@
--- Tracks that have their files, one after the other, have them by their numbers.
+-- Tracks that find their files one after the other have the files that belong to their numbers.
 use Rattle.std.proofs.Common.{◌≡◌, ℕ, zero, suc, ◌<◌, List, [], ◌∷◌, length, sym, subst, arith}
 use Rattle.af_base.specs.declared.frame.Frame.{Frame}
 use Rattle.af_rendering.specs.Rendered.{HaveFiles, IsFileFor}

@@ -1,4 +1,4 @@
--- The files of a play that is told.
+-- The files of a play that is answered.
 use Rattle.std.proofs.Common.{ℕ, List, Some, Ok, Err, Result, String, inl, inr, subst, sym}
 use Rattle.std.specs.declared.alloc.Global.{Global}
 use Rattle.af_io.specs.Files.{Files, SetsFile, LeavesFront}
@@ -23,7 +23,7 @@ WritesText-line summary name journal (Err stop) old new is set = subst (λ (s : 
 -- ## With a log
 
 module _ (cycles : ℕ) (name log text : List ℕ) where
-  -- the log wasn't come to
+  -- the command stopped before the log was written
   pub TellsTexts-stopped : (played : Result Played PlayFault) (stop : Stop) (old new : Files) → Tells cycles played (Err stop) → TellsText name played (Err stop) old new → TellsTexts name log text played (Err stop) old new
   TellsTexts-stopped (Ok p) (Refused refusal) old new none left = absurd none
   TellsTexts-stopped (Ok p) (Over over) old new none left = absurd none
@@ -32,14 +32,14 @@ module _ (cycles : ℕ) (name log text : List ℕ) where
   TellsTexts-stopped (Err stopped) stop old new told left = left
 
   module _ (line : String Global) (old mid new : Files) where
-    -- it wasn't written
+    -- the log wasn't written, or not all of it
     pub TellsTexts-unlogged : (played : Result Played PlayFault) (e : StoreError) → Tells cycles played (Ok line) → TellsText name played (Ok line) old mid → LeavesFront mid log text new → TellsTexts name log text played (Err (stop_of e)) old new
     TellsTexts-unlogged (Ok p) e told set left = inr (mid, set, left)
     TellsTexts-unlogged (Err (fault.CycleLimit journal ends)) e none set left = absurd none
     TellsTexts-unlogged (Err fault.Store) e clash set left = let none : ⊥ = cc in absurd none
     TellsTexts-unlogged (Err fault.Memory) e clash set left = let none : ⊥ = cc in absurd none
 
-    -- it was
+    -- the log was written
     pub TellsTexts-logged : (played : Result Played PlayFault) → Tells cycles played (Ok line) → TellsText name played (Ok line) old mid → SetsFile mid log (Some text) new → TellsTexts name log text played (Ok line) old new
     TellsTexts-logged (Ok p) told set wrote = (mid, set, wrote)
     TellsTexts-logged (Err (fault.CycleLimit journal ends)) none set wrote = absurd none

@@ -34,7 +34,7 @@ use Rattle.af_commands.specs.Traces.{IsTrace, IsTraced, LeavesLog, LeavesTrace}
 use Rattle.af_offline.proofs.Chains.{files_are}
 use Rattle.af_commands.proofs.PlayedRounds.{IsKept, LeavesRun-stays, cut_short, is_play, line_told, played, promises, text_left}
 
--- what a list that was empty holds behind what was appended
+-- a list that was empty holds what was appended to it
 appended : (held new empty more : List ℕ) → held ≡ new → new ≡ empty ++ more → empty ≡ [] → held ≡ more
 appended held new empty more is grown none = is ∙ grown ∙ ap (λ (xs : List ℕ). xs ++ more) none
 
@@ -72,19 +72,19 @@ module _ (l : Loaded) (room : ℕ) (journal : JournalData) (ends : EndsState) (b
     pub Makes-traced : (summary : Summary) → summary ≡ summary_of_play l.script l.files journal → (new : Files) → SetsFile next log (Some told) new → (line : String Global) → string_bytes line ≡ summary_line summary → Makes (Ok line) (Ok (trace_job target name log room l)) old new
     Makes-traced summary summary_is new wrote line is = traced (string_bytes line) new (line_told l journal ends back legal summary summary_is (string_bytes line) is) wrote
 
--- ## Where no log is written
+-- ## If no log is written
 
--- a run that was cut off
+-- a run that was cut off makes its sound and its journal, and no log
 pub Makes-cut_log : (l : Loaded) (room : ℕ) (journal : JournalData) (ends : EndsState) → HandsBackRun false l.script l.files journal ends → IsKept false l journal → (target name log : List ℕ) (old mid new : Files)
     → SetsFile old target (Some (journal_pcm l.script.frames journal)) mid → SetsFile mid name (Some (text_of journal)) new
     → (cycles : ℕ) → cycles ≡ l.script.cycles → Makes (Err (Over (Limit cycles))) (Ok (trace_job target name log room l)) old new
 Makes-cut_log l room journal ends back legal target name log old mid new set text cycles is =
     (is, played false l journal ends back legal target name old mid set (limit_text cycles) new (ap limit_text is) text)
 
--- ## What is told of a play with a log
+-- ## What a play with a log answers
 
 module _ (l : Loaded) (accepted : IsScript l.script) (follows : OfRounds HoldsAtMeetings) (room : ℕ) (target name log : List ℕ) (old mid new : Files) where
-  -- the journal is not whole, or the log
+  -- the journal is not whole, or the log is not
   trace_left : (p : Played) → KeepsPlay l.script l.files (Ok p) → SetsFile old target (Some (journal_pcm l.script.frames p.journal)) mid → (notes : List Note) (refused : ℕ) → IsLogOf l.script.frames room p.journal notes refused → (32 ≤ room → refused ≡ 0) → (held : List ℕ) → held ≡ log_text notes refused
       → LeavesFront mid name (text_of p.journal) new ⊎ ((next : Files) × SetsFile mid name (Some (text_of p.journal)) next × LeavesFront next log held new)
       → LeavesTrace l.script l.files room target name log old new

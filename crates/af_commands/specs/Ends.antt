@@ -28,7 +28,7 @@ use Rattle.af_offline.specs.Verified.{IsJudged}
 
 -- ## The output
 
--- What is made of a work with this line: the output holds its bytes, or the sound of one turn run; or the two files of a play are those of one run in which all parties have ended. No other file has changed. A sound and a journal that are judged are legal, and no file has changed.
+-- What is made of a work with this line: the output holds its bytes, or the sound of one turn run; or the two files of a play are those of one run in which all parties have ended. No other file has changed. If a sound and a journal are judged, they are legal, and no file has changed.
 abbrev pub MakesWork : Work → List ℕ → List ℕ → Files → Files → Type 0
 MakesWork (Exact bytes told) target line old new = (line ≡ told) × SetsFile old target (Some bytes) new
 MakesWork (Session script files) target line old new = (bytes : List ℕ) × IsSession script files bytes line × SetsFile old target (Some bytes) new
@@ -40,11 +40,11 @@ MakesWork (Traced script files journal log room) target line old new = IsTraced 
 abbrev pub IsMade : Job → List ℕ → Files → Files → Type 0
 IsMade job line old new = MakesWork job.work job.target line (with_files old job.first) new
 
--- the same, with some line
+-- the files that are made first are whole, the output holds what is asked for with some line, and no other file has changed
 abbrev pub IsWritten : Job → Files → Files → Type 0
 IsWritten job old new = (line : List ℕ) × IsMade job line old new
 
--- The two files of a play are those of one run that was cut off at its limit of so many cycles, and no other file has changed. Or a sound and a journal are refused so, and no file has changed
+-- The two files of a play are those of one run that was cut off at its limit of so many cycles, and no other file has changed. Or a sound and a journal are refused with this refusal, and no file has changed
 abbrev pub EndsWork : Ending → Work → List ℕ → Files → Files → Type 0
 EndsWork (Limit cycles) (Rounds script files journal) target old new = (cycles ≡ script.cycles) × IsPlayed false script files target journal (limit_text cycles) old new
 EndsWork (Limit cycles) (Traced script files journal log room) target old new = (cycles ≡ script.cycles) × IsPlayed false script files target journal (limit_text cycles) old new
@@ -57,12 +57,12 @@ EndsWork (Judged refusal) (Session script files) target old new = ⊥
 EndsWork (Judged refusal) (Exact bytes line) target old new = ⊥
 EndsWork (Judged refusal) (Judge script files pcm text) target old new = IsJudged script files pcm text (verdict.Refused refusal) × SameFiles old new
 
--- the same, of what is asked for
+-- what is asked for came to this ending
 abbrev pub IsEnded : Ending → Result Job Refusal → Files → Files → Type 0
 IsEnded ending (Ok job) old new = EndsWork ending job.work job.target (with_files old job.first) new
 IsEnded ending (Err refusal) old new = ⊥
 
--- no file has changed, or only the output, which holds a front of the bytes, or of those of some first turns of a script; or what a play leaves
+-- no file has changed; or only the output, which holds a front of the bytes, or of the sound of some first turns of a script; or the files are what a play leaves
 abbrev pub LeavesWork : Work → List ℕ → Files → Files → Type 0
 LeavesWork (Exact bytes line) target old new = LeavesFront old target bytes new
 LeavesWork (Session script files) target old new = LeavesSound script files target old new
@@ -70,7 +70,7 @@ LeavesWork (Rounds script files journal) target old new = LeavesPlay script file
 LeavesWork (Judge script files pcm text) target old new = SameFiles old new
 LeavesWork (Traced script files journal log room) target old new = LeavesTrace script files room target journal log old new
 
--- the files that are made first were made up to a place; or they are whole, and the output is left as above
+-- the files that are made first were made up to a place; or they are whole, and the output is left as `LeavesWork` says
 abbrev pub LeavesJob : Job → Files → Files → Type 0
 LeavesJob job old new = LeavesFronts old job.first new ⊎ LeavesWork job.work job.target (with_files old job.first) new
 
@@ -79,7 +79,7 @@ abbrev pub asked_status : Result Job Refusal → Status
 asked_status (Ok job) = status.Done
 asked_status (Err refusal) = status_of refusal
 
--- the whole work was done: its files hold what is asked for and no other file has changed, or where it is refused none has
+-- the whole work was done: its files hold what is asked for, and no other file has changed. If it is refused, no file has changed
 abbrev pub IsWhole : Result Job Refusal → Files → Files → Type 0
 IsWhole (Ok job) old new = IsWritten job old new
 IsWhole (Err refusal) old new = SameFiles old new
@@ -88,17 +88,17 @@ IsWhole (Err refusal) old new = SameFiles old new
 abbrev pub IsOverWith : Job → List ℕ → Files → Files → Type 0
 IsOverWith job line old new = IsMade job line old new ⊎ ((ending : Ending) × (line ≡ ending_text ending) × EndsWork ending job.work job.target (with_files old job.first) new)
 
--- nothing is left to do but to print; where it is refused no file has changed
+-- nothing is left to do but to print; if the work is refused, no file has changed
 abbrev pub IsOver : Result Job Refusal → Files → Files → Type 0
 IsOver (Ok job) old new = (line : List ℕ) × IsOverWith job line old new
 IsOver (Err refusal) old new = SameFiles old new
 
--- the work was cut off while its files were made, or behind them; where it is refused no file has changed
+-- the work was cut off while its files were made, or after that; if the work is refused, no file has changed
 abbrev pub IsCutOff : Result Job Refusal → Files → Files → Type 0
 IsCutOff (Ok job) old new = LeavesJob job old new ⊎ IsWritten job old new
 IsCutOff (Err refusal) old new = SameFiles old new
 
--- What becomes of the files. A fault of the outside and want of memory may cut the work off, and the limit of its cycles a play; what is judged may be refused.
+-- What becomes of the files. A fault of the outside, or an allocation that was refused, may cut the work off. The limit of its cycles may cut a play off. What is judged may be refused.
 abbrev pub Works : Status → Result Job Refusal → Files → Files → Type 0
 Works status.StoreFault asked old new = IsCutOff asked old new
 Works status.Memory asked old new = IsCutOff asked old new
@@ -112,17 +112,17 @@ Works ended asked old new = (ended ≡ asked_status asked) × IsWhole asked old 
 abbrev pub PrintsFront : List ℕ → List ℕ → List ℕ → Type 0
 PrintsFront line before after = (count : ℕ) × (after ≡ before ++ take count line)
 
--- the line of what is asked for was printed: one that may be made with the bytes of the output, or that of the refusal
+-- the line of what is asked for was printed: a line that may be made with the bytes of the output, or the line of the refusal
 abbrev pub PrintsWhole : Result Job Refusal → Files → Files → List ℕ → List ℕ → Type 0
 PrintsWhole (Ok job) old new before after = (line : List ℕ) × IsMade job line old new × (after ≡ before ++ line)
 PrintsWhole (Err refusal) old new before after = after ≡ before ++ refusal_text refusal
 
--- a front of it was printed, where the output is whole
+-- a front of the line of what is asked for was printed, and the output is whole
 abbrev pub PrintsCut : Result Job Refusal → Files → Files → List ℕ → List ℕ → Type 0
 PrintsCut (Ok job) old new before after = (line : List ℕ) × IsOverWith job line old new × PrintsFront line before after
 PrintsCut (Err refusal) old new before after = PrintsFront (refusal_text refusal) before after
 
--- What is printed: the line, nothing or a front of it after a fault of the outside, and nothing where memory ran out.
+-- What is printed: the line; nothing or a front of it after a fault of the outside; nothing if memory ran out.
 abbrev pub Prints : Status → Result Job Refusal → Files → Files → List ℕ → List ℕ → Type 0
 Prints status.StoreFault asked old new before after = (after ≡ before) ⊎ PrintsCut asked old new before after
 Prints status.Memory asked old new before after = after ≡ before
@@ -146,7 +146,7 @@ Makes (Err (Refused refusal)) asked old new = (asked ≡ Err refusal) × SameFil
 Makes (Err (Over ending)) asked old new = IsEnded ending asked old new
 Makes (Err _) asked old new = IsCutOff asked old new
 
--- how the work ends: it may stop at a refusal, with nothing done and nothing printed, or come to another end
+-- how the work ends: it may stop at a refusal, with nothing done and nothing printed, or come to another end, or be cut off
 abbrev pub Renders : {X : Type 0} → Result X Stop → Result Job Refusal → Files → Files → Type 0
 Renders (Ok _) (Ok job) old new = IsWritten job old new
 Renders (Ok _) (Err refusal) old new = ⊥
@@ -154,20 +154,20 @@ Renders (Err (Refused refusal)) asked old new = (asked ≡ Err refusal) × SameF
 Renders (Err (Over ending)) asked old new = IsEnded ending asked old new
 Renders (Err _) asked old new = IsCutOff asked old new
 
--- what it has printed by then
+-- what the work has printed by its end
 abbrev pub Printed : {X : Type 0} → Result X Stop → Result Job Refusal → Files → Files → List ℕ → List ℕ → Type 0
 Printed (Ok _) asked old new before after = PrintsWhole asked old new before after
 Printed (Err Store) asked old new before after = (after ≡ before) ⊎ PrintsCut asked old new before after
 Printed (Err _) asked old new before after = after ≡ before
 
--- a store that failed, or a whole output and a sink that failed
+-- after a fault of the outside the store has failed, or the work is whole and the sink has failed
 abbrev pub WholeUnless : {X : Type 0} → Type 0 → Result X Stop → Result Job Refusal → Files → Files → Type 0
 WholeUnless failed (Err Store) asked old new = failed ⊎ IsOver asked old new
 WholeUnless failed result asked old new = Unit {0}
 
 -- ## The line alone
 
--- a line that a command prints where it is done: of a turn run of some script, of some counts, of some rolls, of a run of all parties, or that of what is legal
+-- a line that a command prints when it is done: of a turn run of some script, of some counts, of some rolls, of a run of all parties, or the line of what is legal
 abbrev pub IsDoneLine : Request → List ℕ → Type 0
 IsDoneLine (Render script target) line = IsSomeSessionLine line
 IsDoneLine (Record input target sizes) line = (counts : Counts) × (line ≡ counts_text counts)
@@ -177,7 +177,7 @@ IsDoneLine (Play script target journal) line = IsSomePlayLine line
 IsDoneLine (Verify script sound journal) line = line ≡ legal_text
 IsDoneLine (Trace script target journal log room) line = IsSomePlayLine line
 
--- the same, of what the words ask for
+-- a line that the command which the words ask for prints when it is done
 abbrev pub IsAskedLine : Option Request → List ℕ → Type 0
 IsAskedLine None line = ⊥
 IsAskedLine (Some request) line = IsDoneLine request line
@@ -191,7 +191,7 @@ AsksEnding ending (Some request) = SuitsEnding ending request
 abbrev pub IsLine : Option Request → List ℕ → Type 0
 IsLine asked line = IsAskedLine asked line ⊎ ((refusal : Refusal) × (line ≡ refusal_text refusal)) ⊎ ((ending : Ending) × AsksEnding ending asked × (line ≡ ending_text ending))
 
--- What is printed, told by the status and the words alone: a line of the command, that of the refusal, a front of some line after a fault of the outside, nothing where memory ran out.
+-- What is printed, by the status and the words alone: a line of the command, the line of the refusal, a front of some line after a fault of the outside, nothing if memory ran out.
 abbrev pub PrintsOwnLine : Status → Option Request → List ℕ → List ℕ → Type 0
 PrintsOwnLine status.Done asked before after = (line : List ℕ) × IsAskedLine asked line × (after ≡ before ++ line)
 PrintsOwnLine status.Usage asked before after = after ≡ before ++ refusal_text Usage
@@ -202,14 +202,14 @@ PrintsOwnLine status.Memory asked before after = after ≡ before
 PrintsOwnLine (status.CycleLimit cycles) asked before after = AsksEnding (Limit cycles) asked × (after ≡ before ++ ending_text (Limit cycles))
 PrintsOwnLine (status.Refused refusal) asked before after = AsksEnding (Judged refusal) asked × (after ≡ before ++ ending_text (Judged refusal))
 
--- what the work has printed by then, told by its end alone: a line of the command, or a front of it, or nothing
+-- what the work has printed by its end, by that end alone: a line of the command, or a front of it, or nothing
 abbrev pub PrintsSomeLine : {X : Type 0} → Result X Stop → Option Request → List ℕ → List ℕ → Type 0
 PrintsSomeLine (Ok _) asked before after = (line : List ℕ) × IsAskedLine asked line × (after ≡ before ++ line)
 PrintsSomeLine (Err Store) asked before after = (line : List ℕ) × IsLine asked line × PrintsFront line before after
 PrintsSomeLine (Err (Over ending)) asked before after = AsksEnding ending asked × (after ≡ before)
 PrintsSomeLine (Err stop) asked before after = after ≡ before
 
--- the work may be cut off at a limit of so many cycles: a play alone, at that of its script, and none whose script has enough cycles by the rule
+-- the work may be cut off at a limit of so many cycles: only a play, at the limit of its script, and never one whose script has enough cycles by the rule
 abbrev pub MayBeCut : ℕ → Work → Type 0
 MayBeCut cycles (Rounds script files journal) = (cycles ≡ script.cycles) × (HasEnoughCycles script → ⊥)
 MayBeCut cycles (Traced script files journal log room) = (cycles ≡ script.cycles) × (HasEnoughCycles script → ⊥)
@@ -217,11 +217,12 @@ MayBeCut cycles (Session script files) = ⊥
 MayBeCut cycles (Exact bytes line) = ⊥
 MayBeCut cycles (Judge script files pcm text) = ⊥
 
+-- what is asked for may be cut off at a limit of so many cycles
 abbrev pub AskedMayBeCut : ℕ → Result Job Refusal → Type 0
 AskedMayBeCut cycles (Ok job) = MayBeCut cycles job.work
 AskedMayBeCut cycles (Err refusal) = ⊥
 
--- the refusal of what is judged
+-- the work judges a journal, which is refused with this refusal
 abbrev pub RefusesWork : JournalRefusal → Work → Type 0
 RefusesWork refusal (Judge script files pcm text) = IsJudged script files pcm text (verdict.Refused refusal)
 RefusesWork refusal (Rounds script files journal) = ⊥
@@ -229,17 +230,18 @@ RefusesWork refusal (Session script files) = ⊥
 RefusesWork refusal (Exact bytes line) = ⊥
 RefusesWork refusal (Traced script files journal log room) = ⊥
 
+-- what is asked for judges a journal, which is refused with this refusal
 abbrev pub RefusesAsked : JournalRefusal → Result Job Refusal → Type 0
 RefusesAsked refusal (Ok job) = RefusesWork refusal job.work
 RefusesAsked refusal (Err other) = ⊥
 
--- what may come in place of the status of what is asked for: memory may run out, a play may be cut off at its limit, where its script hasn't enough cycles, and what is judged may be refused
+-- what may come in place of the status of what is asked for: memory may run out; a play may be cut off at its limit, if its script hasn't enough cycles; what is judged may be refused
 abbrev pub MayEnd : Status → Result Job Refusal → Type 0
 MayEnd status.Memory asked = Unit {0}
 MayEnd (status.CycleLimit cycles) asked = AskedMayBeCut cycles asked
 MayEnd (status.Refused refusal) asked = RefusesAsked refusal asked
 MayEnd ended asked = ⊥
 
--- The status is that of what is asked for: Done where script and files are accepted, and each refusal where it comes; or one that may come in its place.
+-- The status is that of what is asked for: Done if script and files are accepted, and else that of the refusal. Or it is one that may come in place of that status.
 abbrev pub EndsAsAsked : Status → Result Job Refusal → Type 0
 EndsAsAsked ended asked = (ended ≡ asked_status asked) ⊎ MayEnd ended asked

@@ -1,4 +1,4 @@
--- What the rounds of all parties come to, with the frames of the tracks' files: the sound, the text of the journal and the line; and what a play leaves where it stops.
+-- What the rounds of all parties come to, with the frames of the tracks' files: the sound, the text of the journal and the line. Also what a play leaves if it stops.
 use Rattle.std.specs.Prelude.{◌≡◌, ◌⊎◌, ℕ, Bool, true, false, List, [], ◌∷◌}
 use Rattle.af_base.specs.declared.frame.Frame.{Frame}
 use Rattle.af_io.specs.Files.{Files, LeavesFront}
@@ -19,12 +19,12 @@ use Rattle.af_offline.specs.Verified.{IsTextFor}
 
 -- ## One run
 
--- the line of a run, by its journal alone: where all parties have ended that of its summary, and else that of the limit
+-- the line of a run, by its journal alone: that of its summary if all parties have ended, and else that of the limit
 abbrev pub run_line : Bool → ScriptData → List (List Frame) → JournalData → List ℕ
 run_line true script files journal = summary_line (summary_of_play script files journal)
 run_line false script files journal = limit_text script.cycles
 
--- These bytes, this text and this line are of one run of all parties, in which all have ended, or which was cut off where the log was full: the sound of its journal, the text of the same journal, which is its one reading, and its line. By itself that journal is a legal run in which each frame of a lawful client has one fate and each lawful track is spared, or else a cut run. In either, up to each meeting of its two proxies, a block without a poke is spared, each frame released on such a stream block has one fate, and no call tells the client of a track without a poke that it was shut; each track that is reported drained has reached its STOP, and a START that was seen settled bounds what is discarded; and the lists that the parties keep are those of the run that it tells
+-- These bytes, this text and this line are of one run of all parties, in which all have ended, or which was cut off when the log was full. The bytes are the sound of its journal. The text is that of the same journal, and has no other reading. By itself that journal is a legal run in which each frame of a lawful client has one fate and each lawful track is spared, or else a cut run. In either, up to each meeting of its two proxies, a block without a poke is spared, each frame released on such a stream block has one fate, and no call of the client of a track without a poke answers that it was shut. Each track that is reported drained has reached its STOP, and a START that was seen settled bounds what is discarded. The lists that the parties keep are those of the journal's run
 pub record IsPlay (ended : Bool) (script : ScriptData) (files : List (List Frame)) (bytes text line : List ℕ) : Type 0 where
   pub journal : JournalData
   pub ends : EndsState
@@ -55,6 +55,6 @@ LeavesText script files target journal old new =
     (ended : Bool) × (bytes : List ℕ) × (text : List ℕ) × (line : List ℕ) × IsPlay ended script files bytes text line
     × LeavesFront (with_file old (record { name = target; bytes = bytes })) journal text new
 
--- What a play leaves where it stops: no file has changed, or the first alone, which holds a front of the sound of some first rounds; or the first is whole, and the second not yet.
+-- What a play leaves if it stops: no file has changed; or the first alone, which holds a front of the sound of some first rounds; or the first is whole, and the second not yet.
 abbrev pub LeavesPlay : ScriptData → List (List Frame) → List ℕ → List ℕ → Files → Files → Type 0
 LeavesPlay script files target journal old new = LeavesRun script files target old new ⊎ LeavesText script files target journal old new

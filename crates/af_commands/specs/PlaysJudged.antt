@@ -12,6 +12,6 @@ pub record IsFoundLegal (script : ScriptData) (files : List (List Frame)) (bytes
   pub legal : IsJudged script files bytes text Legal
   pub only : (found : Verdict) → IsJudged script files bytes text found → found ≡ Legal
 
--- where these bytes, this text and this line are of one run of a script with a track, in which all parties have ended
+-- if these bytes, this text and this line are of one run of a script with a track, in which all parties have ended, the sound and the text are found legal
 abbrev pub PlayIsFoundLegal : ScriptData → List (List Frame) → List ℕ → List ℕ → List ℕ → Type 0
 PlayIsFoundLegal script files bytes text line = 0 < length script.tracks → IsPlay true script files bytes text line → IsFoundLegal script files bytes text

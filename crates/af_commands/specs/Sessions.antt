@@ -20,14 +20,14 @@ use Rattle.af_told_law.specs.KeptEnds.{KeepsLists}
 abbrev pub summary_line : Summary → List ℕ
 summary_line summary = summary_text summary ++ codes "\n"
 
--- The journal is by itself a turn run, in which each event sees what all before it left, and the line is that of the summary that it tells. Up to each meeting of its two proxies a block without a poke is spared, each frame released on such a stream block has one fate, and no call tells the client of a track without a poke that it was shut; each track that is reported drained has reached its STOP, and a START that was seen settled bounds what is discarded. Where no op of the script is a poke, any other turn run of this script and these files is this one, where in both each stream proxy takes part in the last meeting
+-- The journal is by itself a turn run, in which each event sees what all before it left, and the line is that of its summary. Up to each meeting of its two proxies a block without a poke is spared, each frame released on such a stream block has one fate, and no call of the client of a track without a poke answers that it was shut. Each track that is reported drained has reached its STOP, and a START that was seen settled bounds what is discarded. If no op of the script is a poke, any other turn run of this script and these files is this one, provided that in both each stream proxy takes part in the last meeting
 pub record IsTurnRunAlone (script : ScriptData) (files : List (List Frame)) (journal : JournalData) (line : List ℕ) : Type 0 where
   pub run : IsTurnRun script files journal
   pub line_is : line ≡ summary_line (summary_alone script files journal)
   pub met : HoldsAtMeetingsAlone script files journal
   pub alone : HasNoPokes script → AllMetLast script files journal → (other : JournalData) → IsTurnRun script files other → AllMetLast script files other → other ≡ journal
 
--- These bytes and this line are the sound of the journal of one turn run, and the line of its summary; the lists that its parties keep are those of the run that the journal tells. Where no op is a poke, and each stream proxy takes part in the last meeting, they are a function of the script and the files
+-- These bytes and this line are the sound of the journal of one turn run, and the line of its summary. The lists that its parties keep are those of the journal's run. If no op is a poke, and each stream proxy takes part in the last meeting, they are a function of the script and the files
 pub record IsSession (script : ScriptData) (files : List (List Frame)) (bytes line : List ℕ) : Type 0 where
   pub journal : JournalData
   pub ends : EndsState

@@ -1,4 +1,4 @@
--- What the rounds of all parties come to with a log: the sound, the texts of the journal and of the log, and the line; and what such a play leaves where it stops.
+-- What the rounds of all parties come to with a log: the sound, the texts of the journal and of the log, and the line. Also what such a play leaves if it stops.
 use Rattle.std.specs.Prelude.{◌≡◌, ◌⊎◌, ℕ, ◌≤◌, true, List, [], ◌∷◌}
 use Rattle.af_base.specs.declared.frame.Frame.{Frame}
 use Rattle.af_io.specs.Files.{Files, LeavesFront}
@@ -18,7 +18,7 @@ pub record IsTrace (script : ScriptData) (files : List (List Frame)) (room : ℕ
   pub log_is : log ≡ log_text notes refused
   pub all_kept : 32 ≤ room → refused ≡ 0
 
--- the three files hold what is of one run with this line, and no other file has changed
+-- the three files hold the bytes and the two texts of one run with this line, and no other file has changed
 abbrev pub IsTraced : ScriptData → List (List Frame) → ℕ → List ℕ → List ℕ → List ℕ → List ℕ → Files → Files → Type 0
 IsTraced script files room target journal log line old new =
     (bytes : List ℕ) × (text : List ℕ) × (told : List ℕ) × IsTrace script files room bytes text told line
@@ -30,6 +30,6 @@ LeavesLog script files room target journal log old new =
     (bytes : List ℕ) × (text : List ℕ) × (told : List ℕ) × (line : List ℕ) × IsTrace script files room bytes text told line
     × LeavesFront (with_files old (record { name = target; bytes = bytes } ∷ record { name = journal; bytes = text } ∷ [])) log told new
 
--- what such a play leaves where it stops
+-- what a play with a log leaves if it stops
 abbrev pub LeavesTrace : ScriptData → List (List Frame) → ℕ → List ℕ → List ℕ → List ℕ → Files → Files → Type 0
 LeavesTrace script files room target journal log old new = LeavesPlay script files target journal old new ⊎ LeavesLog script files room target journal log old new

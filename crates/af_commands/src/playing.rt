@@ -80,7 +80,7 @@ fn tell_limit<S: Store>(
     Err(Stop::Over(Ending::Limit { cycles }))
 }
 
-/// Tells a play: writes its journal where all parties have ended, whose line is answered, and where it was cut off at its limit of so many cycles.
+/// Answers a play: writes its journal if all parties have ended, and answers its line; or if it was cut off at its limit of so many cycles, and answers that end.
 pub(crate) fn tell<S: Store>(
     alloc: Global,
     store: &mut S,
@@ -132,7 +132,7 @@ fn play<R: Threads + Sync, S: Store, G: Gate>(
     told
 }
 
-/// Loads a script and the files of its tracks, and plays it in rounds into the output. The journal is written where all parties have ended, whose line is answered, and where the play was cut off at its limit of cycles.
+/// Loads a script and the files of its tracks, and plays it in rounds into the output. If all parties have ended, or if the play was cut off at its limit of cycles, the journal is written. The answer is the line if all parties have ended, and else what stopped the play.
 pub fn play_script<R: Threads + Sync, S: Store, G: Gate>(
     rt: &R,
     alloc: Global,

@@ -23,14 +23,14 @@ pub fn summary_line(alloc: Global, summary: &Summary) -> Result<String, AllocErr
     format!(in alloc; "{summary}\n")
 }
 
-/// The same as the answer of a command, which memory alone may stop.
+/// The line of a summary, as the answer of a command, which is stopped only if memory runs out.
 pub(crate) fn line_of(alloc: Global, summary: &Summary) -> Result<String, Stop>
     ensures { TellsLine summary.now result }
 {
     Ok(summary_line(alloc, summary)?)
 }
 
-/// What is told of a render: its line, or the stop of the store's error.
+/// The answer of a render: its line, or the stop of the store's error.
 fn tell(alloc: Global, played: &Result<Outcome, StoreError>) -> Result<String, Stop>
     ensures { TellsRender played.now result }
 {
@@ -49,7 +49,7 @@ pub(crate) fn is_accepted(script: &Script)
 
 /// Plays what was loaded, and answers its line.
 ///
-/// The journal behind the sound is by itself a turn run, in which each event sees what all before it left, and the line is that of its summary. Where no op of the script is a poke, and each stream proxy takes part in its last meeting, it is the only such turn run of this script and these files.
+/// The journal behind the sound is by itself a turn run, in which each event sees what all before it left, and the line is that of its summary. If no op of the script is a poke, and each stream proxy takes part in its last meeting, it is the only such turn run of this script and these files.
 pub fn play<S: Store>(
     alloc: Global,
     loaded: &Loaded,

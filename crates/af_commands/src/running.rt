@@ -126,7 +126,7 @@ fn work<R: Threads + Sync, S: Store, O: Sink, G: Gate>(
 
 /// Does what the words after the program's name ask for, over the store and the sink, and prints one line.
 ///
-/// Where the store tells its files, each answer but a fault of the outside and want of memory has its cause in the words and the files.
+/// If the store says what its files hold, each answer but a fault of the outside and an allocation that was refused has its cause in the words and the files.
 pub fn run<R: Threads + Sync, S: Store, O: Sink, G: Gate>(
     rt: &R,
     alloc: Global,
@@ -135,20 +135,20 @@ pub fn run<R: Threads + Sync, S: Store, O: Sink, G: Gate>(
     out: &mut O,
     gate: &G,
 ) -> Status
-    // The status and the files: those that the command makes hold what is asked for and no other has changed, or the first refusal came and none has. Of a play the two files are the sound and the text of the journal of one run, and with a log a third is the text of a log of that journal, in which all parties have ended where the status is Done, and which was cut off where it is CycleLimit. Of a render the file is the sound of the journal of one turn run, in which each event sees what all before it left; where no op of the script is a poke it is the only one in which each stream proxy takes part in the last meeting, if it does so. By each of these journals, up to each meeting of its two proxies, a block that no poke was made on is spared, each frame released on such a stream block has one fate, and no write of a track without a poke was answered Dead.
+    // The status and the files: those that the command makes hold what is asked for and no other has changed, or the first refusal came and none has. Of a play the two files are the sound and the text of the journal of one run, and with a log a third is the text of a log of that journal. In that run all parties have ended if the status is Done, and it was cut off if the status is CycleLimit. Of a render the file is the sound of the journal of one turn run, in which each event sees what all before it left. If no op of the script is a poke, it is the only one in which each stream proxy takes part in the last meeting, if it does so. By each of these journals, up to each meeting of its two proxies, a block that no poke was made on is spared, each frame released on such a stream block has one fate, and no write of a track without a poke was answered Dead.
     ensures work { S.told store.old → Works result (asked_of (S.files store.old) (map string_bytes words.now)) (S.files store.old) (S.files store.new) }
-    // The line, of one outcome with the bytes of the output: all of it, a front of it or nothing after a fault of the outside, nothing where memory ran out.
+    // The line, of one outcome with the bytes of the output: all of it, a front of it or nothing after a fault of the outside, nothing if memory ran out.
     ensures line { S.told store.old → O.told out.old → Prints result (asked_of (S.files store.old) (map string_bytes words.now)) (S.files store.old) (S.files store.new) (O.held out.old) (O.held out.new) }
-    // The line that the status and the words tell, whatever the store tells: one of the command, that of the refusal or of the limit of a play, a front of some line after a fault of the outside, or nothing.
+    // The line by the status and the words alone, whatever the store says of its files: one of the command, that of the refusal or of the limit of a play, a front of some line after a fault of the outside, or nothing.
     ensures printed { O.told out.old → PrintsOwnLine result (request_of (map string_bytes words.now)) (O.held out.old) (O.held out.new) }
     // After a fault of the outside the store has failed, or the work is whole and the sink has failed at the line.
     ensures whole { S.told store.old → result ≡ Status.StoreFault → Rose (S.faults store.old) (S.faults store.new)
         ⊎ IsOver (asked_of (S.files store.old) (map string_bytes words.now)) (S.files store.old) (S.files store.new) }
-    // Usage comes exactly where the words don't fit, whatever the store tells.
+    // Usage comes exactly if the words don't fit, whatever the store says of its files.
     ensures words { JudgesWords result (request_of (map string_bytes words.now)) }
-    // A fault of the outside is told exactly where a count of faults rose.
+    // A fault of the outside is answered exactly if a count of faults rose.
     ensures cause { CountsFaults (S.faults store.old) (S.faults store.new) (O.faults out.old) (O.faults out.new) result }
-    // Where no count of faults rises, the answer is what is asked for: Done where the words fit and script and files are accepted. Memory may run out, and a play may be cut off at the limit of its script, but never where that has enough cycles by the rule of docs/FORMATS.md.
+    // If no count of faults rises, the answer is what is asked for: Done if the words fit and script and files are accepted. Memory may run out, and a play may be cut off at the limit of its script, but never if the script has enough cycles by the rule of docs/FORMATS.md.
     ensures complete { S.told store.old → (Rose (S.faults store.old) (S.faults store.new) → ⊥) → (Rose (O.faults out.old) (O.faults out.new) → ⊥)
         → EndsAsAsked result (asked_of (S.files store.old) (map string_bytes words.now)) }
 {

@@ -18,7 +18,7 @@ use af_rendering::Played;
 use std::alloc::Global;
 use std::thread::Threads;
 
-/// Tells a play as `tell` does, and writes the text of its log behind the journal where all parties have ended.
+/// Answers a play as `tell` does, and writes the text of its log after the journal if all parties have ended.
 fn tell_with_log<S: Store>(
     alloc: Global,
     store: &mut S,
@@ -71,7 +71,7 @@ fn trace<R: Threads + Sync, S: Store, G: Gate>(
     told
 }
 
-/// Loads a script and the files of its tracks, and plays it in rounds into the output, with a log of so much room. The journal is written where all parties have ended, whose line is answered, and where the play was cut off at its limit of cycles; the log behind it where all have ended.
+/// Loads a script and the files of its tracks, and plays it in rounds into the output, with a log of room for so many notes. If all parties have ended, or if the play was cut off at its limit of cycles, the journal is written. If all have ended, the log is written after it, and the answer is the line; else the answer is what stopped the play.
 pub fn trace_script<R: Threads + Sync, S: Store, G: Gate>(
     rt: &R,
     alloc: Global,

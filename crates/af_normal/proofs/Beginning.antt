@@ -18,7 +18,7 @@ use Rattle.af_normal.specs.Turning.{Hands, HasWhole, hand_of}
 
 -- ## The lists of the entry go back to the spare ones
 
--- what each has, each has in reverse
+-- if all items of a list have a property, all items of the reversed list have it
 All-reverse : {A : Type 0} (P : A → Type 0) (xs : List A) → All P xs → All P (reverse xs)
 All-reverse P [] h = All-nil P
 All-reverse P (x ∷ xs) h = subst (All P) (sym (reverse-append (x ∷ []) xs)) (All-push P (reverse xs) x (All-reverse P xs (All-tail P x xs h)) (All-head P x xs h))
@@ -96,7 +96,7 @@ hand_more blocks i x y count whole of h = λ k flag at.
     of k flag (sym (get_before x.hands (hand_of h.stream) k lt) ∙ here))
     (cases_eq k i)
 
--- one item more went back
+-- if the last item of a list is moved behind another list, the first list and the reverse of the other make up the same list
 pub one_back : {A : Type 0} (xs a b ys : List A) (item : A) → b ≡ a ++ item ∷ [] → b ++ reverse ys ≡ xs → a ++ reverse (ys ++ item ∷ []) ≡ xs
 one_back xs a b ys item e h = ap (λ (zs : List _). a ++ zs) (reverse-append ys (item ∷ [])) ∙ sym (append_assoc a (item ∷ []) (reverse ys)) ∙ ap (λ (zs : List _). zs ++ reverse ys) (sym e) ∙ h
 

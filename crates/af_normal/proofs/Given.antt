@@ -35,7 +35,7 @@ AreGiven settings takes parts n = (k : ℕ) → k < n → take_of_part (slice_in
 pub read_take : (takes : List NormalTake) (i : ℕ) (t : NormalTake) → i < length takes → t ≡ slice_index_or takes i t → t ≡ slice_index_or takes i no_take
 read_take takes i t lt is = is ∙ get_or_default takes i t no_take lt
 
--- one part more
+-- the parts with one part more
 pub given_more : (settings : List Setting) (takes : List NormalTake) (parts : List Part) (i : ℕ) (part : Part) → i < length parts → AreGiven settings takes parts i
     → take_of_part part ≡ given settings (slice_index_or takes i no_take) → AreGiven settings takes (slice_set parts i part) (i + 1)
 given_more settings takes parts i part lt before here k below = ⊎_elim

@@ -26,7 +26,7 @@ use Rattle.af_normal.proofs.LegalEnds.{made_legally}
 use Rattle.af_normal.proofs.LegalMade.{IsMade, outside}
 use Rattle.af_normal.proofs.LegalStops.{seen, stopped_legally}
 
--- one hand more, that has done nothing
+-- a list of hands that have done nothing, with one more that has done nothing
 hand_end : (hands : List HandSide) (h : HandSide) → h.part.events ≡ [] → ((i : ℕ) → hand_events hands i ≡ []) → (i : ℕ) → hand_events (hands ++ h ∷ []) i ≡ []
 hand_end [] h none all zero = none
 hand_end [] h none all (suc i) = refl

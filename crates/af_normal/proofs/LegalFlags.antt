@@ -1,4 +1,4 @@
--- Flags that a server sets tell nothing of it: its looks answer by the list before them as well.
+-- Flags that a server sets say nothing of it: its looks answer by the list before them as well.
 use Rattle.std.proofs.Common.{◌≡◌, ℕ, ◌&&◌, not, min, Bool, true, false, if◌then◌else◌, is_some, MatchOption, ap, subst, ◌∙◌, List, [], ◌∷◌, ◌++◌, append-nil}
 use Rattle.std.proofs.lemmas.Grind.{fold-append}
 use Rattle.af_base.specs.declared.event.ServerEvent.{ServerEvent}
@@ -22,7 +22,7 @@ kept_still : (shape : Shape) (events : List ServerEvent) (b : Bool) → server_k
 kept_still shape events true = fold-append (server_keeps shape) (server_begins shape) events (server.SetFlags 4 ∷ [])
 kept_still shape events false = ap (server_kept shape) (append-nil events)
 
--- what a list tells: its shape, and what is kept by it
+-- what a list shows: its shape, and what is kept by it
 abbrev Told : Type 0
 Told = Shape × ServerKept
 

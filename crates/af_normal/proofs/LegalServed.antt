@@ -209,7 +209,7 @@ module _ (c : Setup) (k : Learnt) where
       some_same : {X : Type 0} (o : Option X) (u v : X) → o ≡ Some u → o ≡ Some v → u ≡ v
       some_same o u v e f = let g : Some u ≡ Some v = sym e ∙ f in cc
 
-      -- what serving it leaves
+      -- what serving the stream proxy leaves
       abbrev after : TrackSeen → ServerState → Option ServerState → HandSide → Serving
       after seen command stream flag = record {
         tracks = slice_set z.tracks i (served c k seen.looks z.tracks i);

@@ -28,7 +28,7 @@ module _ (x y : NormalState) (stops : Stops x y) where
   abbrev Looks : Bool → Type 0
   Looks b = MatchBool b (stops.mutator ≡ x.mutator) (WasAcked x.mutator true stops.mutator × (is_exit x.mutator.past.last ≡ true))
 
-  -- what it saw: nothing but its own lists
+  -- the mixer that stops saw nothing but its own lists
   abbrev pub seen : Outside
   seen = record {
     report = no_report;

@@ -113,7 +113,7 @@ taken s u v look front h by list frames took words shape hand = record {
   hand = hand;
 }
 
--- so many frames were shown
+-- a look at so many frames showed them
 pub shown_two : (x : Seen) (n : ℕ) → count_seen x ≡ suc n → shown_by x ≡ Some (suc n)
 shown_two (seen.Frames count) n h = ap Some h
 shown_two seen.Absent n h = absurd (omega arith)

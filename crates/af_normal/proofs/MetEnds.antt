@@ -1,4 +1,4 @@
--- A mixer whose hand told something is in order.
+-- A mixer stays in order if one of its hands is replaced by another hand of the same block.
 use Rattle.std.proofs.Common.{◌≡◌, ◌≢◌, ℕ, zero, suc, true≢false, is_some, List, length-set, slice_set, slice_get, slice_index_or, Some, ⊎_elim, refl, sym, ap, subst, ◌∙◌, arith}
 use Rattle.std.proofs.lemmas.Bool.{cases_eq}
 use Rattle.std.proofs.lemmas.Option.{slice_get_within, get_or_from_slice_get}
@@ -17,7 +17,7 @@ module _ (links : Links) (m : NormalState) (i : ℕ) (h : HandSide) (o : IsInOrd
       by_turns zero e = absurd (true≢false (sym (ap is_some (sym (ap (λ (hs : List HandSide). slice_get hs i) (o.none_yet e).none) ∙ is))))
       by_turns (suc n) e = (o.hands (omega arith)).flags_of i h is
 
-  -- where one stands at its place
+  -- the hand is made of the block that stands at its place
   pub block_is : (b : Made) → b ≡ slice_index_or links.streams.now i b → hand_made h ≡ b
   block_is b e = sym (get_or_from_slice_get links.streams.now i (hand_made h) b of_block) ∙ sym e
 

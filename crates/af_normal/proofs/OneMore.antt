@@ -45,7 +45,7 @@ module _ (given : Option ℕ) (flush_seen : ℕ) where
   either_same true x = refl
   either_same false x = refl
 
-  -- one more look, whether it goes on or not
+  -- the looks with one look more, whether it goes on or not
   pub one_more : (s : TrackKept) (looks : List CommandLook) (look : CommandLook) → all_go_on given flush_seen looks s ≡ true
       → after_looks given flush_seen (looks ++ look ∷ []) s ≡ after_look given flush_seen look (after_all given flush_seen s looks)
   one_more s looks look h = after_looks-go given flush_seen looks (look ∷ []) s h ∙ either_same (goes_on look (after_look given flush_seen look (after_all given flush_seen s looks))) _

@@ -290,7 +290,7 @@ module _ (links : Links) (x : NormalState) (tied : IsTied links x) (held : InDra
     abbrev Item : NormalState → Option ServerState → Type 0
     Item y o = MatchOption o (y ≡ now) (λ server. y ≡ has_back i server now)
 
-    -- one track more
+    -- the welcome goes on by one track more
     one_more : (y : NormalState) → Welcomes i (state tracks streams returned out) y → Coming (suc i) y
     one_more y w = by_holder (is_returning (track_at tracks i).holder) refl w
       where

@@ -92,7 +92,7 @@ alone_set tracks i s alone new a b k ha hb = elim (at_set tracks i s a) as (λ x
   ]
 ]
   where
-    -- another track that has the slot too is the track i
+    -- another track that holds the same slot is the track i
     against : (j : ℕ) → holds k s ≡ true → holds k (track_at tracks j) ≡ true → i ≡ j
     against j here there = elim (new k here) as (λ x. i ≡ j) [
       | inl h ↦ alone i j k h there

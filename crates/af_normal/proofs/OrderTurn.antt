@@ -1,14 +1,13 @@
 -- The stages of a turn in a row: what each leaves, and that its numbers stay small.
-use Rattle.std.proofs.Common.{◌≡◌, inl, inr, ℕ, zero, suc, ◌+◌, ◌*◌, ◌<◌, ◌≤◌, ◌^◌, ◌==◌, ◌&&◌, not, Bool, true, false, if◌then◌else◌, true≢false, is_some, MatchBool, sym, refl, ap, subst, ◌∙◌, List, [], ◌∷◌, length, map, All, Option, Some, None, arith}
+use Rattle.std.proofs.Common.{◌≡◌, inl, inr, ℕ, zero, suc, ◌*◌, ◌<◌, ◌≤◌, ◌^◌, ◌==◌, ◌&&◌, not, Bool, true, false, if◌then◌else◌, true≢false, is_some, MatchBool, sym, refl, ap, subst, ◌∙◌, List, [], ◌∷◌, length, map, All, Option, Some, None, arith}
 use Rattle.std.specs.Prelude.{slice_get}
 use Rattle.std.proofs.lemmas.List.Elements.{All-from_get_or}
 use Rattle.std.proofs.lemmas.Bool.{cases_lt}
 use Rattle.af_life.specs.TurnEvents.{invalid}
 use Rattle.af_base.specs.declared.report.Report.{Report}
 use Rattle.af_base.specs.declared.state.Push.{Push}
-use Rattle.af_base.specs.declared.state.Push.TheVariants.{Clean}
 use Rattle.af_base.specs.declared.turn.CommandLook.{CommandLook}
-use Rattle.af_base.specs.Turn.{Turn, TrackSeen, track_seen}
+use Rattle.af_base.specs.Turn.{TrackSeen, track_seen}
 use Rattle.af_model.specs.Cycles.{kept}
 use Rattle.af_model.specs.StateQueue.{slot_of}
 use Rattle.af_server.specs.Order.{ServerState}
@@ -134,7 +133,7 @@ module _ (links : Links) (t : ℕ) (x : NormalState) (going : IsGoing links t x)
   abbrev Tells : Option ServerState → ServerState → Type 0
   Tells o q = ((listed q).shape ≡ (listed_at o).shape) × (kept (listed q) ≡ kept (listed_at o))
 
-  -- a stream proxy that is home tells still what it told before
+  -- a stream proxy that is home still shows the shape and the kept values that it showed before
   pub told_served : (i : ℕ) (s : ServerState) → stream_at y.streams i ≡ Some s → ((listed s).shape ≡ (listed_at (stream_at x.streams i)).shape) × (kept (listed s) ≡ kept (listed_at (stream_at x.streams i)))
   told_served i s is = elim (cases_lt i (length x.tracks)) as (λ p. Tells (stream_at x.streams i) s) [
     | inl lt ↦ by_stream (stream_at x.streams i) (stream_at y.streams i) is (served_done.parts i lt).streamed

@@ -1,5 +1,5 @@
 -- How few looks of its own the mixer has not told of: one of each track at most, and of a track that it may mix none until it is mixed.
-use Rattle.std.proofs.Common.{◌≡◌, ◌≢◌, ℕ, zero, suc, ◌+◌, ◌<◌, ◌≤◌, ◌&&◌, not, Bool, true, false, true≢false, if◌then◌else◌, is_some, MatchBool, refl, sym, ap, subst, ◌∙◌, List, [], ◌∷◌, length, Option, inl, inr, ⊎_elim, get_or-set_same, arith}
+use Rattle.std.proofs.Common.{◌≡◌, ◌≢◌, ℕ, zero, suc, ◌<◌, ◌≤◌, ◌&&◌, not, Bool, true, false, true≢false, if◌then◌else◌, is_some, MatchBool, refl, sym, ap, subst, ◌∙◌, List, [], ◌∷◌, length, Option, ⊎_elim, get_or-set_same, arith}
 use Rattle.std.specs.Prelude.{map, slice_set}
 use Rattle.std.proofs.lemmas.Bool.{cases_eq, cases_lt}
 use Rattle.af_base.specs.declared.report.SlotReport.{SlotReport}
@@ -22,7 +22,7 @@ use Rattle.af_life.specs.Serves.{served, served_to, after_part}
 use Rattle.af_life.specs.Small.{AreUpTo}
 use Rattle.af_life.proofs.Lives.{served_len}
 use Rattle.af_life.proofs.Smalls.{set_all}
-use Rattle.af_normal.specs.Mixing.{Mixing, TakesOf, MixesTrack, MixesTo}
+use Rattle.af_normal.specs.Mixing.{Mixing, TakesOf, MixesTo}
 use Rattle.af_normal.specs.Order.{HaveFewLooks}
 use Rattle.af_normal.proofs.DueTracks.{other_track}
 use Rattle.af_normal.proofs.OrderSlots.{set_each}
@@ -31,7 +31,7 @@ use Rattle.af_normal.proofs.OrderSlots.{set_each}
 abbrev pub IsTold : TrackKept → Type 0
 IsTold s = is_home s.holder ≡ true → s.life.ended ≡ false → AreUpTo 0 s.own
 
--- at most one, and none where it may be mixed
+-- at most one, and none if it may be mixed
 abbrev pub IsFew : TrackKept → Type 0
 IsFew s = AreUpTo 1 s.own × IsTold s
 
@@ -215,20 +215,17 @@ module _ (asked : ℕ) (x : Mixing) (few : (j : ℕ) → IsFew (track_at x.track
   -- the first ones were mixed, and the others are as they were
   mixes_few : (n : ℕ) (y : Mixing) → MixesTo asked n x y → (j : ℕ) → AreUpTo 1 (track_at y.tracks j).own × (n ≤ j → track_at y.tracks j ≡ track_at x.tracks j)
   mixes_few zero y same j = (subst (λ (z : Mixing). AreUpTo 1 (track_at z.tracks j).own) (sym same) (few j).0, λ le. ap (λ (z : Mixing). track_at z.tracks j) same)
-  mixes_few (suc n) y (z, first, one) j = (by (is_mixed_here (track_at z.tracks n)) refl one, λ le. other_track asked n z y j (omega (arith, le)) one ∙ (before j).1 (omega (arith, le)))
+  mixes_few (suc n) y (z, first, one) j = (by (mixes_few n z first) (is_mixed_here (track_at z.tracks n)) refl one, λ le. other_track asked n z y j (omega (arith, le)) one ∙ (mixes_few n z first j).1 (omega (arith, le)))
     where
-      before : (j : ℕ) → AreUpTo 1 (track_at z.tracks j).own × (n ≤ j → track_at z.tracks j ≡ track_at x.tracks j)
-      before = mixes_few n z first
-
-      by : (b : Bool) → is_mixed_here (track_at z.tracks n) ≡ b → MatchBool b (TakesOf asked n z y) (y ≡ z) → AreUpTo 1 (track_at y.tracks j).own
-      by true mixed t =
+      by : ((k : ℕ) → AreUpTo 1 (track_at z.tracks k).own × (n ≤ k → track_at z.tracks k ≡ track_at x.tracks k)) → (b : Bool) → is_mixed_here (track_at z.tracks n) ≡ b → MatchBool b (TakesOf asked n z y) (y ≡ z) → AreUpTo 1 (track_at y.tracks j).own
+      by before true mixed t =
           let at : track_at z.tracks t.take.track ≡ track_at x.tracks n = ap (λ (m : ℕ). track_at z.tracks m) t.takes.track ∙ (before n).1 (omega arith) in
           let is : is_mixed_here (track_at x.tracks n) ≡ true = sym (ap is_mixed_here ((before n).1 (omega arith))) ∙ mixed in
           let parts = mixed_parts (is_some (track_at x.tracks n).slot) (track_at x.tracks n).life.member (track_at x.tracks n).life.ended is in
           let none : AreUpTo 0 (track_at z.tracks t.take.track).own = subst (λ (s : TrackKept). AreUpTo 0 s.own) (sym at) ((few n).1 (homely n parts.0) parts.1) in
           subst (λ (w : Mixing). AreUpTo 1 (track_at w.tracks j).own) (sym t.then)
           (set_all (λ (s : TrackKept). AreUpTo 1 s.own) z.tracks t.take.track _ (λ (i : ℕ). (before i).0) (counted_one asked t.take.slot.seen (track_at z.tracks t.take.track).own none) j)
-      by false passed e = subst (λ (w : Mixing). AreUpTo 1 (track_at w.tracks j).own) (sym e) (before j).0
+      by before false passed e = subst (λ (w : Mixing). AreUpTo 1 (track_at w.tracks j).own) (sym e) (before j).0
 
   pub mixed_few : (n : ℕ) (y : Mixing) → MixesTo asked n x y → HaveFewLooks y.tracks
   mixed_few n y mixes j = (mixes_few n y mixes j).0

@@ -69,7 +69,7 @@ pub known_here : (o : Option ServerState) → known_by (listed_at o) ≡ known_a
 known_here None = refl
 known_here (Some s) = refl
 
--- one record more
+-- the turns with one record more
 pub turns_more : (n : ℕ) (turns spare turns' spare' : Roomy TrackTurn) (turn : TrackTurn) → HasTurns n turns spare → turns' ≡ record turns { items = turns.items ++ turn ∷ [] } → turn.looks.room ≡ most_looks
     → length spare'.items + 1 ≡ length spare.items → HaveRoom spare'.items → spare'.room ≡ spare.room → HasTurns n turns' spare'
 turns_more n turns spare turns' spare' turn h e room short left same = record {

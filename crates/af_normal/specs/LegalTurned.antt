@@ -75,7 +75,7 @@ pub record Grows (c : Setup) (m : NormalKept) (o : Outside) (e : Turn) (x y : No
   pub pipe : (front : ℕ) × (y.pipe.pass.part.events ≡ x.pipe.pass.part.events ++ going e (client.SawFront front ∷ releases_of x.pipe.pass.part.shape.cells (length x.pipe.pass.part.frames) (length (put_by c e.mixes))))
       × ((e.room ≡ room_by (pipe_size c) (length x.pipe.pass.part.frames) front) ⊎ (e.ended ≡ true)) × (y.pipe.pass.part.frames ≡ x.pipe.pass.part.frames ++ map packed_word (put_by c e.mixes))
 
--- By what the turn saw, the lists of the command proxies among it, the turn that the entry tells is legal, leaves what the definition says, and each list grows by it. What the mixer was made of stays
+-- By what the turn saw, the lists of the command proxies among it, the turn that the entry records is legal, leaves what the definition says, and each list grows by it. What the mixer was made of stays
 pub record IsLegal (o : Outside) (x y : NormalState) : Type 0 where
   pub commands : (i : ℕ) (s : ServerState) → slice_get x.commands i ≡ Some s → o.commands i ≡ listed s
   pub setup : setup_of y ≡ setup_of x

@@ -18,7 +18,7 @@ use Rattle.af_normal.specs.Mixing.{stream_at}
 use Rattle.af_normal.specs.Order.{HasTurns}
 use Rattle.af_normal.specs.State.{NormalState}
 
--- what a track is
+-- the setting of a track
 abbrev pub setting_of : TrackSetup → Setting
 setting_of t = record { fast = t.fast; mono = t.mono; scale = t.scale }
 

@@ -49,7 +49,7 @@ pub record PlaysAll (room : ℕ) (x y : NormalState) : Type 0 where
   pub same : y ≡ record x { tracks = y.tracks; streams = y.streams; pipe = y.pipe; entry = y.entry; spare_takes = y.spare_takes }
   pub tracks : y.entry.tracks ≡ x.entry.tracks
 
--- the entry that tells a turn
+-- the entry that records a turn
 abbrev pub told_turn : ℕ → Bool → Report → Push → NormalState → Turn
 told_turn room ack report push x = record {
   ended = false;
@@ -105,7 +105,7 @@ pub record Stops (x y : NormalState) : Type 0 where
   pub tells : turn_of y.entry ≡ ended_turn
   pub leaves : y ≡ record x { mutator = mutator; ended = true; entry = y.entry }
 
--- the entry tells some take
+-- the entry records some take
 abbrev pub has_mixed : NormalState → Bool
 has_mixed x = not (length x.entry.mixes.items == 0)
 

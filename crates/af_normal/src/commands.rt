@@ -1,5 +1,5 @@
 //! Looking at a track's commands.
-ghost use Rattle.std.specs.Prelude.{◌≡◌, ◌+◌, ◌<◌, ◌≤◌, ◌^◌, [], true, length};
+ghost use Rattle.std.specs.Prelude.{◌≡◌, ◌+◌, ◌-◌, ◌<◌, ◌≤◌, ◌^◌, [], true, length};
 ghost use Rattle.af_server.specs.Order.{IsServerOf};
 ghost use Rattle.af_life.specs.Obeys.{after_looks, are_due};
 ghost use Rattle.af_life.specs.Serves.{most_looks};

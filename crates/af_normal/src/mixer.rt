@@ -27,7 +27,7 @@ impl Model for TrackHand {
     ghost view = { λ h. h.flag };
 }
 
-/// The mixer that hears of all tracks, tells the fast mixer what to do, and mixes the tracks that have no slot into the pipe (AOSP's MixerThread).
+/// The mixer that hears of all tracks, sets what the fast mixer does, and mixes the tracks that have no slot into the pipe (AOSP's MixerThread).
 #[derive(Drop)]
 pub struct NormalMixer {
     pub(crate) frames: u32,
@@ -88,7 +88,7 @@ impl NormalMixer {
         self.turns
     }
 
-    /// The hand of a track's stream block, by which the session tells of an underrun while the stream proxy is elsewhere. None exactly before the first turn.
+    /// The hand of a track's stream block, by which an underrun is shown while the stream proxy is elsewhere. None exactly before the first turn.
     pub fn hand(&mut self, track: u32) -> Option<&mut TrackHand>
         ensures* lends { sem 𝓛 (lends_hand self.entry track result) }
         ensures value { MatchOption result (length self.entry.now.hands ≤ track) (λ h. slice_get self.entry.now.hands track ≡ Some h.now) }

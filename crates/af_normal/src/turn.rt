@@ -194,7 +194,7 @@ impl NormalMixer {
 
     /// One turn. The acknowledgement is looked for, and what comes by it comes home; the report is loaded and the pipe's room read; each track has its part; the draft is edited and pushed; and if the pipe has room for a buffer, the tracks without a slot are mixed into it. If a pushed Exit is seen acknowledged the mixer has ended, and so it has in each turn after that.
     ///
-    /// It goes by the steps of a turn, in their order. The turn that its entry tells is a legal one, by what it saw; what the mixer keeps is what that turn leaves; and the list of each of its parties grows by just what the entry tells. It takes no memory and waits for nobody.
+    /// It goes by the steps of a turn, in their order. The turn that its entry records is a legal one, by what it saw; what the mixer keeps is what that turn leaves; and the list of each of its parties grows by just what the entry records. It takes no memory and waits for nobody.
     ///
     /// It answers Spent, and does nothing, exactly if it has made `MOST_TURNS` turns.
     pub fn turn<L: Ledger>(&mut self, links: &Links<'_>, steps: &mut Steps<L>) -> Turn

@@ -64,25 +64,25 @@ work_kept ops frames p q can due at released flushes stream command room =
     let here : P (p.client.due, p.client.at) = record { frames = omega arith; flushes = omega arith; fits = λ h. h } in
     work_on ops frames 0 0 p q can (subst P (λ i. (sym due i, sym at i)) here) (omega (arith, released)) (omega (arith, flushes)) stream command room
 
--- its proxies learnt what the servers have done
+-- a client can do its work if its proxies learnt what the servers have done
 pub work_met : (ops : List Op) (frames : ℕ) (p : PartyState) (s k : ServerState) → CanWork ops frames p → CanWork ops frames (record p { stream = client_knows p.stream s; command = client_knows p.command k })
 work_met ops frames p s k can = work_kept ops frames p (record p { stream = client_knows p.stream s; command = client_knows p.command k }) can refl refl refl refl refl refl refl
 
--- its command proxy alone did
+-- a client can do its work if its command proxy alone learnt what its server has done
 pub work_met_command : (ops : List Op) (frames : ℕ) (p : PartyState) (k : ServerState) → CanWork ops frames p → CanWork ops frames (record p { command = client_knows p.command k })
 work_met_command ops frames p k can = work_kept ops frames p (record p { command = client_knows p.command k }) can refl refl refl refl refl refl refl
 
--- it has ended
+-- a client that has ended can do its work
 pub work_end : (ops : List Op) (frames : ℕ) (p : PartyState) → CanWork ops frames p → CanWork ops frames (record p { client = record p.client { ended = true } })
 work_end ops frames p can = work_kept ops frames p (record p { client = record p.client { ended = true } }) can refl refl refl refl refl refl refl
 
--- its calls are exchanged for others
+-- a client can do its work if its calls are exchanged for others
 pub work_calls : (ops : List Op) (frames : ℕ) (p : PartyState) (calls : Roomy ClientCall) → calls.room ≡ p.calls.room → CanWork ops frames p → CanWork ops frames (record p { calls = calls })
 work_calls ops frames p calls room can = work_kept ops frames p (record p { calls = calls }) can refl refl refl refl refl refl room
 
 -- ## What is wanted next
 
--- it wants something that a call does
+-- the want is one that a call does
 abbrev pub IsCall : Want → Type 0
 IsCall want.Rest = ⊥
 IsCall _ = Unit {0}
@@ -98,11 +98,11 @@ next-some : (b : Bool) (wants : List Want) (w : Want) → (if b then None else a
 next-some true wants w h = absurd (let e : ⊥ = cc in e)
 next-some false wants w h = let first = asked-some wants w h in (refl, first.0, first.1)
 
--- what is wanted stands first, and is one that a call does
+-- the want that comes next stands first, and is one that a call does
 pub first_wanted : (c : Client) (w : Want) → next_want c ≡ Some w → (c.due ≡ w ∷ rest_of c.due) × IsCall w
 first_wanted c w h = let found = next-some (c.waiting || c.ended) c.due w h in (found.1, found.2)
 
--- what a want needs, from what the first of the wants has
+-- the client can make the first of its wants
 can_first : (ops : List Op) (frames : ℕ) (p : PartyState) (w : Want) (wants : List Want) → CanWork ops frames p → p.client.due ≡ w ∷ wants → IsCall w
     → IsFitting p.stream.pass.part.shape.cells p.command.pass.part.shape.cells w → CanMake frames p w
 can_first ops frames p (want.Write count) wants can is is_call fit = (fit.0, omega (arith, can.file, ap frames_due is), can.few_frames)

@@ -17,7 +17,7 @@ abbrev pub AreMade : Track → List ClientCall → Track → Type 0
 AreMade t [] u = u ≡ t
 AreMade t (answer ∷ calls) u = (wanted : Want) × (wanted_of t ≡ Some wanted) × IsMade t wanted answer × AreMade (after_call t answer) calls u
 
--- one call more
+-- with one call more, the calls lead from the track to the track after the call
 pub made_more : (t u v : Track) (calls : List ClientCall) (wanted : Want) (answer : ClientCall) → AreMade t calls u → wanted_of u ≡ Some wanted → IsMade u wanted answer → v ≡ after_call u answer
     → AreMade t (calls ++ answer ∷ []) v
 made_more t u v [] wanted answer made is does goes =
@@ -25,7 +25,7 @@ made_more t u v [] wanted answer made is does goes =
     subst P made (wanted, is, does, goes)
 made_more t u v (c ∷ calls) wanted answer made is does goes = (made.0, made.1, made.2, made_more (after_call t c) u v calls wanted answer made.3 is does goes)
 
--- they lead where they go
+-- calls that lead from a track to another, taken one after the other, turn the first into the other
 pub made_fold : (t u : Track) (calls : List ClientCall) → AreMade t calls u → u ≡ fold after_call t calls
 made_fold t u [] made = made
 made_fold t u (c ∷ calls) made = made_fold (after_call t c) u calls made.3
@@ -86,11 +86,11 @@ begun_again c = begins-again c c.due c.ops
 goes-end : (c : Client) → (c.waiting || c.ended) ≡ false → at_next_turn false c ≡ (let d = begun c in record d { due = rested d.due })
 goes-end c h = ap (λ (b : Bool). if b || false then record c { waiting = false } else (let d = begun c in record d { due = rested d.due })) h
 
--- it is the same after the next op was begun
+-- the end of a turn is the same after the next op was begun
 pub end_begun : (c : Client) → (c.waiting || c.ended) ≡ false → at_next_turn false (begun c) ≡ at_next_turn false c
 end_begun c h = goes-end (begun c) (begins-halts c c.due c.ops ∙ h) ∙ ap (λ (d : Client). let r : Client = record d { due = rested d.due } in r) (begun_again c) ∙ sym (goes-end c h)
 
--- what is wanted, as the program finds it
+-- the next want of a client, as the program finds it
 pub wants_next : (o : Option Want) (c d : Client) → o ≡ next_want d → d ≡ begun c → (c.waiting || c.ended) ≡ false → WantsNext c o d
 wants_next None c d is begins goes = (ap next_want (sym begins) ∙ sym is, ap (at_next_turn false) begins ∙ end_begun c goes)
 wants_next (Some w) c d is begins goes = (ap next_want (sym begins) ∙ sym is, begins)

@@ -20,7 +20,7 @@ use Rattle.af_party.proofs.WorkLeft.{LeftBy, answer_left, begun_left, ended_left
 
 -- ## The client alone
 
--- what a change of the client leaves of the work
+-- the work that a change of the client leaves
 pub work_client : (ops : List Op) (frames : ℕ) (p q : PartyState) (c : Client) → q ≡ (record p { client = q.client }) → client_of ops q.client ≡ c
     → LeftBy p.stream.pass.part.shape.cells p.command.pass.part.shape.cells 0 0 (client_of ops p.client) c → CanWork ops frames p → CanWork ops frames q
 work_client ops frames p q c same is left can =
@@ -59,7 +59,7 @@ step_rests ops file p q r first wants second is =
 
 -- ## A call
 
--- what is due when a call is made
+-- the frames and flushes due when a call is made
 due-now : (ops : List Op) (p p1 p2 : PartyState) (wanted : Want) → WantsNext (client_of ops p.client) (Some wanted) (client_of ops p1.client) → p2.client ≡ p1.client
     → p2.client.due ≡ wanted ∷ rest_of (begun (client_of ops p.client)).due
 due-now ops p p1 p2 wanted wants kept =
@@ -73,7 +73,7 @@ noted-now ops p p1 p2 p3 wanted answer wants kept noted =
     let rest = rest_of (begun (client_of ops p.client)).due in
     noted wanted rest (due-now ops p p1 p2 wanted wants kept) ∙ ap (λ (c : Client). after_answer (p2.command.released / 2) wanted rest c answer) (ap (client_of ops) kept ∙ wants.1)
 
--- one call was made
+-- a step of the turn made one call
 pub step_calls : (ops : List Op) (file : List Frame) (p p1 p2 p3 : PartyState) (wanted : Want) (answer : ClientCall) → p1 ≡ (record p { client = p1.client })
     → WantsNext (client_of ops p.client) (Some wanted) (client_of ops p1.client) → Makes file answer p1 p2 → IsMadeBy file p1 wanted answer
     → p3 ≡ (record p2 { client = p3.client; calls = p3.calls }) → p3.calls ≡ (record p2.calls { items = p2.calls.items ++ answer ∷ [] })

@@ -22,7 +22,7 @@ frames_next file first count n is =
 pub few_frames : (file : List Frame) (first count x : ℕ) → x ≤ length (take (first + count - first) (drop first file)) → x ≤ count
 few_frames file first count x few = omega (arith, few, length-take (first + count - first) (drop first file))
 
--- one call more
+-- the calls of a turn with one call more lead to the party after it
 pub step_more : (ops : List Op) (file : List Frame) (p q r : PartyState) → AreMade (track_of ops file p) q.calls.items (track_of ops file q) → Calls ops file q r
     → AreMade (track_of ops file p) r.calls.items (track_of ops file r)
 step_more ops file p q r made step =
@@ -52,7 +52,7 @@ pub turn_rests : (ops : List Op) (file : List Frame) (p q r : PartyState) → Ar
 turn_rests ops file p q r made few rests =
     turned ops file false p q r made (omega arith) (inr rests.none) (ne_eqb (length q.calls.items) 64 (λ e. omega (arith, e))) rests.same (ap (λ (t : Track). t.client) rests.track)
 
--- and one that was
+-- a turn that was cut
 pub turn_cut : (ops : List Op) (file : List Frame) (p q r : PartyState) → AreMade (track_of ops file p) q.calls.items (track_of ops file q) → length q.calls.items ≡ 64 → r ≡ (record q { client = r.client })
     → client_of ops r.client ≡ at_next_turn true (client_of ops q.client) → IsTurned ops file p r
 turn_cut ops file p q r made all same left = turned ops file true p q r made (omega arith) (inl (sym all)) (eq-eqb (length q.calls.items) 64 all) same left

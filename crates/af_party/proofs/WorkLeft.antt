@@ -48,7 +48,7 @@ left_then s k x y c d e first second = record {
   fits = λ h. second.fits (first.fits h);
 }
 
--- one of two
+-- the work left by either of two clients
 left_either : (s k x y : ℕ) (b : Bool) (c d e : Client) → LeftBy s k x y c d → LeftBy s k x y c e → LeftBy s k x y c (if b then d else e)
 left_either s k x y true c d e one other = one
 left_either s k x y false c d e one other = other
@@ -147,7 +147,7 @@ flushes-first : (w : Want) (rest : List Want) → flushes_due (w ∷ rest) ≡ f
 flushes-first want.Flush rest = refl
 flushes-first _ rest = omega arith
 
--- these wants in place of the first
+-- the work left if these wants stand in place of the first
 next_left : (s k x y : ℕ) (w : Want) (rest due' : List Want) (c : Client) → c.due ≡ w ∷ rest → frames_due due' + x ≤ asked_by w + frames_due rest → flushes_due due' + y ≤ flush_of w + flushes_due rest
     → (IsFitting s k w → All (IsFitting s k) rest → All (IsFitting s k) due') → Left s k x y c.due c.ops due' c.ops
 next_left s k x y w rest due' c is few flushed fit = record {

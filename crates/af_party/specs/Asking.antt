@@ -32,7 +32,7 @@ abbrev pub words_sent : ClientCall → List ℕ
 words_sent (call.Sent front code argument) = code ∷ argument ∷ []
 words_sent _ = []
 
--- A call of a proxy, on the command block or else on the stream's: it answers by the words that it saw, and its list and the words released grow by what it tells
+-- A call of a proxy, on the command block or else on the stream's: it answers by the words that it saw, and its list and the words released grow by what it records
 pub record Asked (side : Bool) (asked : ℕ) (answer : ClientCall) (words : List ℕ) (c d : ClientState) : Type 0 where
   pub on : is_of_commands answer ≡ side
   pub answers : AnswersOn (side_of_proxy c) asked answer

@@ -18,7 +18,7 @@ WantsNext c (Some wanted) d = (next_want (begun c) ≡ Some wanted) × (d ≡ be
 abbrev pub IsMadeBy : List Frame → PartyState → Want → ClientCall → Type 0
 IsMadeBy file p wanted answer = (c : Client) → IsMade (track_with c file p) wanted answer
 
--- one call was made, which was wanted
+-- one call was made that was wanted
 pub record Calls (ops : List Op) (file : List Frame) (p q : PartyState) : Type 0 where
   pub wanted : Want
   pub is : wanted_of (track_of ops file p) ≡ Some wanted

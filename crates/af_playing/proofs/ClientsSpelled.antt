@@ -1,4 +1,4 @@
--- The lists of each client are spelled by just the calls that the journal tells of it.
+-- The lists of each client are spelled by just the calls that the journal records of it.
 use Rattle.std.proofs.Common.{◌≡◌, ℕ, Bool, true, false, not, if◌then◌else◌, is_some, fold, List, [], ◌∷◌, ◌++◌, refl, sym, ap, subst, ◌∙◌, append-nil, append_assoc}
 use Rattle.af_base.specs.declared.event.ClientCall.{ClientCall}
 use Rattle.af_base.specs.declared.event.ClientCall.TheVariants as call
@@ -22,7 +22,7 @@ module _ (kind : Kind) (frames base : ℕ) where
   pub spelled_none : IsSpelled kind frames base [] []
   spelled_none = record { steps = []; calls_are = refl; spelled = refl }
 
-  -- one step more
+  -- a list with one step more is spelled by the calls among all steps
   spelled_step : (calls : List ClientCall) (events : List ClientEvent) (s : ClientStep) → IsSpelled kind frames base calls events
       → IsSpelled kind frames base (calls ++ calls_among (s ∷ [])) (events ++ client_step_events kind (client_kept frames base events) s)
   spelled_step calls events s is =
@@ -84,13 +84,14 @@ on_stream (call.Flush count) = refl
 on_stream (call.Gain word) = refl
 on_stream (call.Cleared flags) = refl
 
--- a call on this side, and one on the other
+-- a call on this side is spelled behind the calls before it
 side_called : (kind : Kind) (calls : List ClientCall) (b : Side) (answer : ClientCall) (words : List ℕ) → is_on kind answer ≡ true → SideSpells kind calls b → SideSpells kind (calls ++ answer ∷ []) (called answer words b)
 side_called kind calls b answer words on is =
     let kept : ClientKept = client_kept b.shape.frames b.shape.base b.events in
     subst (λ (x : Bool). IsSpelled kind b.shape.frames b.shape.base (calls ++ answer ∷ []) (b.events ++ (if x then client_call_events (is_some kept.shut) answer else []))) on
     (spelled_call kind b.shape.frames b.shape.base calls b.events answer is)
 
+-- a call on the other side leaves what this side's list spells
 side_passed : (kind : Kind) (calls : List ClientCall) (b : Side) (answer : ClientCall) → is_on kind answer ≡ false → SideSpells kind calls b → SideSpells kind (calls ++ answer ∷ []) b
 side_passed kind calls b answer off is =
     let kept : ClientKept = client_kept b.shape.frames b.shape.base b.events in

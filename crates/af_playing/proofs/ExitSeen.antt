@@ -50,16 +50,16 @@ use Rattle.af_playing.proofs.LastExit.{IsLastExit, current_exit, exit_state, loo
 abbrev pub CurrentExits : Observes ServerState StreamNames → Type 0
 CurrentExits o = (x : FastState) × (o.current ≡ Some x) × (is_exit x ≡ true)
 
--- What the observer keeps is what its events tell, and where an Exit was answered its current state says so
+-- What the observer keeps is what its events give, and if an Exit was answered its current state says so
 pub record FastKnows (f : MixerState) : Type 0 where
   pub told : AreTold f.observer.past.events f.observer.past.number f.observer.past.state f.observer.current f.observer.previous
   pub exit : has_exit f.log.entries ≡ true → CurrentExits f.observer
 
--- the same by the observer alone
+-- what the observer keeps is what its events give, by the observer alone
 abbrev IsTold : Observes ServerState StreamNames → Type 0
 IsTold o = AreTold o.past.events o.past.number o.past.state o.current o.previous
 
--- a poll keeps what the observer's events tell
+-- after a poll the observer still keeps what its events give
 polled_told : (o o' : Observes ServerState StreamNames) (poll : Poll) (s s' : ℕ) → IsTold o → WasPolled o poll o' s s' → IsTold o'
 polled_told o o' Nothing s s' told (none, is, stepped) = subst IsTold (sym is) (told_look o.past.events o.past.number o.past.state o.current o.previous told)
 polled_told o o' Same s s' told (some, is, stepped) = subst IsTold (sym is) (told_look o.past.events o.past.number o.past.state o.current o.previous told)
@@ -73,7 +73,7 @@ rests_over p m' out out' answer over mixes = by_exit p.exited refl
     by_exit true is = (mixes.exited is).1
     by_exit false is = (mixes.spent is (eqb-true (length p.log.entries) p.cycles (sym (ap (λ (b : Bool). b || (length p.log.entries == p.cycles)) is) ∙ over))).1
 
--- an entry that is added
+-- a mixer that adds an entry still knows what its events give
 adds_knows : (p m' : MixerState) (entry : CycleEntry) → IsTold p.observer → AddsCycle p m' entry → FastKnows m'
 adds_knows p m' entry told adds = record {
   told = subst IsTold (sym adds.takes.observer) told;
@@ -85,7 +85,7 @@ adds_knows p m' entry told adds = record {
       (seen.0, ap (λ (o : Observes ServerState StreamNames). o.current) adds.takes.observer ∙ sym current ∙ seen.1, seen.2));
 }
 
--- one cycle
+-- a mixer that makes one cycle still knows what its events give
 once_knows : (links : Links) (m m' : MixerState) (answer : Cycle) (bytes : List ℕ) → FastKnows m → CyclesOnce links m answer bytes m' → FastKnows m'
 once_knows links m m' answer bytes knows w = by_over (is_over m) refl
   where
@@ -113,7 +113,7 @@ cycles_know links (suc left) m m' bytes knows (answer, next, front, back, cycle,
     let first = once_knows links m next answer front knows cycle in
     on_answer answer next m' back first (λ is. cycles_know links left next m' back first (more is)) over
 
--- a turn
+-- a mixer that makes a turn still knows what its events give
 pub fast_knows : (links : Links) (m m' : MixerState) (bytes : List ℕ) → FastKnows m → FastTurned links m bytes m' → FastKnows m'
 fast_knows links m m' bytes knows turned = by_exit m.exited turned
   where
@@ -123,12 +123,12 @@ fast_knows links m m' bytes knows turned = by_exit m.exited turned
 
 -- ## The normal mixer
 
--- it is quiet, and no state before the last one that it pushed says Exit
+-- the normal mixer is quiet, and no state before the last one that it pushed says Exit
 pub record NormalKnows (m : NormalState) : Type 0 where
   pub quiet : IsQuiet (kept_of m)
   pub runs : PushedRuns m.mutator.past.number m.mutator.past.last (pushed_states m.mutator.past.events)
 
--- the same by what it keeps and the mutator's events
+-- the normal mixer is quiet, by what it keeps, and no state before the last one says Exit, by the mutator's events
 abbrev Knows : NormalKept → List (MutatorEvent ServerState) → Type 0
 Knows m events = IsQuiet m × PushedRuns m.pushed m.last (pushed_states events)
 
@@ -157,7 +157,7 @@ met_knows m m' f f' normal fast met = (
   subst FastKnows (sym met.fast) (record { told = told_learn f.observer.past.events f.observer.past.number f.observer.past.state f.observer.current f.observer.previous fast.told (length m.mutator.past.events); exit = fast.exit }),
 )
 
--- After a meeting the two lists have a history. The last event of each is what it learnt then, the mutator of all that the observer had done
+-- After a meeting the two lists have a history. The last event of each list is what its end learnt then: the mutator learnt of all that the observer had done
 pub record HasMet (m : NormalState) (f : MixerState) : Type 0 where
   pub mutations : List (MutatorEvent ServerState)
   pub observations : List (ObserverEvent ServerState)
@@ -182,7 +182,7 @@ has_met m m' f f' met = record {
 
 -- ## The turn after the Exit
 
--- the mutator's list of a turn begins with its look, where the mixer had not ended
+-- the mutator's list of a turn begins with its look, if the mixer had not ended
 looks_first : (o : Outside) (m m' : NormalState) → m.ended ≡ false → (l : IsLegal o m m')
     → (rest : List (MutatorEvent ServerState)) × (m'.mutator.past.events ≡ m.mutator.past.events ++ mutator.SawAck (number_seen (kept_of m) (turn_of m'.entry).ack) l.lists.back ∷ rest)
 looks_first o m m' goes l =
@@ -190,7 +190,7 @@ looks_first o m m' goes l =
     let rest : List (MutatorEvent ServerState) = going e (push_list (after_edits (setup_of m) (learnt o) e (kept_of m)) e.push l.lists.again l.lists.sent) in
     (rest, l.lists.mutator ∙ ap (λ (b : Bool). m.mutator.past.events ++ (if b then [] else mutator.SawAck (number_seen (kept_of m) e.ack) l.lists.back ∷ rest)) goes)
 
--- where an Exit was answered before a meeting, and the fast mixer does nothing after it, a turn of the normal mixer ends
+-- if an Exit was answered before a meeting, and the fast mixer does nothing after it, a turn of the normal mixer ends
 exit_ends : (o : Outside) (m m' n : NormalState) (f f' : MixerState) → NormalKnows m → FastKnows f → HasMet m f → has_exit f.log.entries ≡ true → m.ended ≡ false → IsLegal o m m' → EndsMet m' n f f' → m'.ended ≡ true
 exit_ends o m m' n f f' normal fast before exit goes legal met =
     let x = fast.exit exit in
@@ -226,7 +226,7 @@ pub record Knowing (s : SessionState) : Type 0 where
   pub fast : FastKnows s.fast
   pub met : has_exit s.fast.log.entries ≡ true → HasMet s.normal s.fast
 
--- a round keeps it
+-- a round keeps what holds between two rounds
 pub round_knows : (g : Given) (s t : SessionState) (r : RoundNoted) (bytes : List ℕ) → Knowing s → IsRoundOfAll g s r bytes t → Knowing t
 round_knows g s t r bytes knows w =
     let normal = normal_knows s.normal w.turned.normal knows.normal w.plays.normal in

@@ -16,7 +16,7 @@ clients_all : (ps : List PartyState) → ((i : ℕ) (p : PartyState) → slice_g
 clients_all [] each = refl
 clients_all (p ∷ ps) each = ap (λ (b : Bool). b && list_all (λ (q : PartyState). q.client.ended) ps) (each 0 p refl) ∙ clients_all ps (λ i q at. each (suc i) q at)
 
--- where every party has ended all have
+-- if every party has ended, `all_ended` says so
 whole_end : (s : SessionState) → AllEnded s → all_ended s ≡ true
 whole_end s all =
     ap (λ (b : Bool). b && (s.fast.exited && list_all (λ (p : PartyState). p.client.ended) s.clients)) all.normal
@@ -30,12 +30,12 @@ some_goes s goes all = true≢false (sym (whole_end s all) ∙ goes.some)
 pub room_left : (s : SessionState) → length s.fast.log.entries ≤ s.fast.cycles → GoesOn s → length s.fast.log.entries < s.fast.cycles
 room_left s few goes = let other = eqb-false (length s.fast.log.entries) s.fast.cycles goes.room in omega (arith, few, other)
 
--- where a run goes on after so many rounds, each has added an entry
+-- if a run goes on after so many rounds, each round has added an entry
 pub few_so_far : (i : ℕ) (s : SessionState) → length s.fast.log.entries ≤ s.fast.cycles → GoesOn s → IsGoing i s → i < s.fast.cycles
 few_so_far i s few goes (has_ended all) = absurd (some_goes s goes all)
 few_so_far i s few goes (has_entries more) = let room = room_left s few goes in omega (arith, more, room)
 
--- and so after one round more
+-- after one round more, all have ended or the log has one entry more
 pub goes_further : (g : Given) (i : ℕ) (s t : SessionState) (r : RoundNoted) (bytes : List ℕ) → Knowing s → s.fast.exited ≡ has_exit s.fast.log.entries → length s.fast.log.entries ≤ s.fast.cycles → GoesOn s → IsGoing i s → IsRoundOfAll g s r bytes t
     → IsGoing (i + 1) t
 goes_further g i s t r bytes knows is few goes going round = going_on g i s t r bytes knows is (some_goes s goes) (room_left s few goes) going round

@@ -20,10 +20,10 @@ module _ (script : ScriptData) (files : List (List Frame)) where
       let filled : length t.fast.log.entries ≡ t.fast.cycles = search (arith, full) in
       plays_end script files p.shared p.start t (seen script files rounds t p) is enough p.new (rounds_told script files rounds t p) filled
 
-  -- so what was played to its end, or to that of the log, has ended
+  -- a stage that was played to its end, or to the end of the log, has ended
   pub played_out : (s : Stage) → HasPlayed script files s → IsScript script → HasEnoughCycles script → all_ended s.parties ≡ true
   played_out s have is enough = true_from_ne_false (all_ended s.parties) (λ goes. true≢false (sym (ends_in_time is enough s.rounds.rounds s.parties have.all (have.over goes)) ∙ goes))
 
-  -- and none is handed back as cut off
+  -- no run is handed back as cut off
   pub never_cut_off : IsScript script → HasEnoughCycles script → (j : JournalData) (e : EndsState) → HandsBackRun false script files j e → ⊥
   never_cut_off is enough j e h = true≢false (sym (ends_in_time is enough h.rounds h.parties h.played (h.cut refl)) ∙ h.all)

@@ -41,7 +41,7 @@ use Rattle.af_playing.proofs.RunSpelled.{calls_stand_once}
 use Rattle.af_playing.proofs.ToldAlone.{alone_kept}
 use Rattle.af_rendering.proofs.Spared.{spares_told}
 
--- ## Where nothing is handed back
+-- ## If nothing is handed back
 
 module _ (script : ScriptData) (files : List (List Frame)) where
   -- nothing is promised of an error that is no limit
@@ -56,7 +56,7 @@ module _ (script : ScriptData) (files : List (List Frame)) where
         enough = (λ enough. off_limit {T = Played} (Err x) (λ (j : JournalData) (e : EndsState). ⊥) never);
       }
 
-  -- and the file is left
+  -- after an error that is no limit the file is left
   pub files_none : (name : List ℕ) (old new : Files) (r : Result Played PlayFault) (f : PlayFault) → is_limit f ≡ false → IsErrAnd r (λ x. x ≡ f) → LeavesRun script files name old new → KeepsFiles script files name old new r
   files_none name old new (Ok p) f calm is left = absurd is
   files_none name old new (Err x) f calm is left =
@@ -70,7 +70,7 @@ module _ (script : ScriptData) (files : List (List Frame)) where
 
 -- ## By the stage that was played
 
--- the promises of a play that is done follow of its legal journal
+-- the promises of a play that is done follow from its legal journal
 promises_kept : (script : ScriptData) (files : List (List Frame)) → IsScript script → ((journal : JournalData) → IsLegalRun script files journal → EachDrainedTrackReachedItsStop script files journal) → (j : JournalData) → IsLegalRun script files j → KeepsPromises script files j
 promises_kept script files is law j legal = record {
   legal = legal;
@@ -81,7 +81,7 @@ promises_kept script files is law j legal = record {
   emptied = pipe-is-emptied script files j is legal;
 }
 
--- what a journal tells of its run whether it is legal or not: all but the summary
+-- what a journal records of its run whether it is legal or not: all but the summary
 record RestTold (script : ScriptData) (files : List (List Frame)) (journal : JournalData) (ends : EndsState) : Type 0 where
   calls : CallsStandOnce journal ends
   released : ReleasedAsTold journal ends
@@ -158,11 +158,11 @@ module _ (script : ScriptData) (files : List (List Frame)) (s : Stage) (r : Resu
 
 -- ## Behind the text of a log
 
--- what was played is handed on, or memory ran out where all had ended
+-- what was played is handed on, or an allocation was refused after all parties had ended
 abbrev pub IsHandedOn : Result Played PlayFault → Result Played PlayFault → Type 0
 IsHandedOn played r = (r ≡ played) ⊎ ((p : Played) × (played ≡ Ok p) × IsErrAnd r (λ f. f ≡ fault.Memory))
 
--- the text of the log was told, or there was no memory for it
+-- the text of the log was written, or an allocation for it was refused
 module _ (told : Result (Unit {0}) Memory) (played r : Result Played PlayFault) (same : IfOk told (λ _. r ≡ played)) (memory : IfErr told (λ _. r ≡ Err fault.Memory)) where
   pub handed_by : OnErr told (IfErr played (λ _. ⊥)) → IsHandedOn played r
   handed_by = by_told told played same memory

@@ -48,7 +48,7 @@ exit_state done (Some x) h = (x, refl, by_command x.command h)
     by_command Write e = no e
     by_command MixWrite e = no e
 
--- ## Where it stands among the states pushed
+-- ## Where the Exit stands among the states pushed
 
 nothing_is : {A : Type 0} {x : FastState} → None ≡ Some x → A
 nothing_is h = no (ap is_some h)
@@ -98,7 +98,7 @@ module _ {P : Type 0} where
 
   -- ## The look after a meeting
 
-  -- where the observer only learnt since the mutator did, the next look at the acknowledgement finds its number
+  -- if the observer only learnt since the mutator did, the next look at the acknowledgement finds the number of the observer's state
   pub look_finds : (first y : FastState) (ms rest : List (MutatorEvent P)) (os : List (ObserverEvent P)) (c a d d' n : ℕ) (items : List (Option P)) (now before : Option FastState)
       → HasHistory first ((ms ++ mutator.Learn c ∷ []) ++ mutator.SawAck a items ∷ rest) ((os ++ observer.Learn d ∷ []) ++ observer.Learn d' ∷ []) → length os ≤ c
       → AreTold ((os ++ observer.Learn d ∷ []) ++ observer.Learn d' ∷ []) n y now before → a ≡ n
@@ -106,7 +106,7 @@ module _ {P : Type 0} where
       (sees_the_ack first ((os ++ observer.Learn d ∷ []) ++ observer.Learn d' ∷ []) os (observer.Learn d ∷ observer.Learn d' ∷ []) ms rest c a items h
       (append_assoc os (observer.Learn d ∷ []) (observer.Learn d' ∷ [])) reached refl).0 ∙ told.acked
 
--- ## The turn that sees it
+-- ## The turn that sees the Exit
 
 ack_seen : (m : NormalKept) (ack : Bool) → 0 < m.pushed → number_seen m ack ≡ m.pushed → ack ≡ true
 ack_seen m true some is = refl

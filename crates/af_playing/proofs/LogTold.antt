@@ -23,12 +23,13 @@ rounds_long entries (r ∷ rs) same =
     let here : length (take r.cycles entries) ≡ r.cycles = omega (arith, length-take r.cycles entries, same) in
     λ i. here i ∷ rounds_long (drop r.cycles entries) rs (omega (arith, left, same)) i
 
--- where all notes were accepted none was refused
+-- the notes of a round are those accepted and those refused
 round_whole : (round : List Bool) → count_accepted round + count_refused round ≡ length round
 round_whole [] = refl
 round_whole (true ∷ round) = let e = round_whole round in omega arith
 round_whole (false ∷ round) = let e = round_whole round in omega arith
 
+-- if all notes were accepted none was refused
 all_accepted : (rounds : List (List Bool)) → All (λ (round : List Bool). count_accepted round ≡ length round) rounds → count_refused (flat_map (λ (round : List Bool). round) rounds) ≡ 0
 all_accepted [] all = refl
 all_accepted (round ∷ rounds) all =

@@ -1,4 +1,4 @@
--- No cycle of a run uses a state older than that of one before it.
+-- No cycle of a run uses a state older than that of a cycle before it.
 use Rattle.std.proofs.Common.{◌≡◌, ℕ, zero, suc, ◌+◌, ◌≤◌, ◌==◌, ◌||◌, Bool, true, false, fold, List, [], ◌∷◌, ◌++◌, length, map, refl, sym, ap, subst, ◌∙◌, eqb-true}
 use Rattle.std.specs.Bool.{MatchBool}
 use Rattle.af_base.specs.declared.frame.Frame.{Frame}
@@ -22,7 +22,7 @@ use Rattle.af_session.proofs.FastAdds.{polled_keeps}
 use Rattle.af_rendering.proofs.JournalSound.{dealt, same_entries}
 use Rattle.af_playing.proofs.RoundsOfAll.{log_of_turns}
 
--- one entry more
+-- entries step up with one entry more, which uses the last state or the next one
 steps_more : (n : ℕ) (es : List CycleEntry) (e : CycleEntry) → StepsUp n es → fold (λ (number : ℕ) (x : CycleEntry). x.state) n es ≤ e.state → e.state ≤ fold (λ (number : ℕ) (x : CycleEntry). x.state) n es + 1 → StepsUp n (es ++ e ∷ [])
 steps_more n [] e steps low high = (low, high, tt)
 steps_more n (x ∷ es) e steps low high = (steps.0, steps.1, steps_more x.state es e steps.2 low high)
@@ -30,7 +30,7 @@ steps_more n (x ∷ es) e steps low high = (steps.0, steps.1, steps_more x.state
 abbrev Steps : Logged → Type 0
 Steps log = StepsUp 0 log.entries
 
--- a call of mix
+-- a call that mixes keeps that the entries step up
 mix_steps : (m m' : MixerState) (out out' : List Frame) (answer : Cycle) → MixesOnce m out answer m' out' → Steps m.log → Steps m'.log
 mix_steps m m' out out' answer x steps = by_exit m.exited refl
   where
@@ -48,7 +48,7 @@ mix_steps m m' out out' answer x steps = by_exit m.exited refl
     by_exit true is = stays (ap (λ (y : MixerState). y.log) (x.exited is).1)
     by_exit false is = by_length (length m.log.entries == m.cycles) is refl
 
--- a cycle, some of them, and a turn
+-- one cycle keeps that the entries step up
 once_steps : (links : Links) (m m' : MixerState) (answer : Cycle) (bytes : List ℕ) → CyclesOnce links m answer bytes m' → Steps m.log → Steps m'.log
 once_steps links m m' answer bytes w steps = mix_steps w.polled m' w.before w.after answer w.mixes (subst Steps (sym (polled_keeps m w.polled w.adopts).0) steps)
 
@@ -56,12 +56,14 @@ steps_by : (next m' : MixerState) (back : List ℕ) (mixed : Bool) → Steps nex
 steps_by next m' back true first goes stops = goes refl
 steps_by next m' back false first goes stops = subst (λ (x : MixerState). Steps x.log) (sym (stops refl).1) first
 
+-- some cycles keep that the entries step up
 cycles_step : (links : Links) (left : ℕ) (m m' : MixerState) (bytes : List ℕ) → CyclesOn links left m bytes m' → Steps m.log → Steps m'.log
 cycles_step links zero m m' bytes turn steps = subst (λ (x : MixerState). Steps x.log) (sym turn.1) steps
 cycles_step links (suc left) m m' bytes (answer, next, front, back, cycle, bytes_are, more, over) steps =
     let first : Steps next.log = once_steps links m next answer front cycle steps in
     steps_by next m' back (is_mixed answer) first (λ yes. cycles_step links left next m' back (more yes) first) over
 
+-- a turn keeps that the entries step up
 turn_steps : (links : Links) (m m' : MixerState) (bytes : List ℕ) → FastTurned links m bytes m' → Steps m.log → Steps m'.log
 turn_steps links m m' bytes turned steps = by_exit m.exited turned
   where
@@ -69,14 +71,14 @@ turn_steps links m m' bytes turned steps = by_exit m.exited turned
     by_exit true done = subst (λ (x : MixerState). Steps x.log) (sym done.1) steps
     by_exit false done = cycles_step links most_cycles m m' bytes done steps
 
--- a run
+-- a run keeps that the entries step up
 run_steps : (g : Given) (s : SessionState) (rounds : List RoundNoted) (bytes : List ℕ) (t : SessionState) → IsRunOfAll g s rounds bytes t → Steps s.fast.log → Steps t.fast.log
 run_steps g s [] bytes t run steps = subst (λ (x : SessionState). Steps x.fast.log) (sym run.1) steps
 run_steps g s (r ∷ rs) bytes t run steps =
     let round : IsRoundOfAll g s r run.0 run.2 = run.5 in
     run_steps g run.2 rs run.1 t run.6 (subst Steps (sym (log_of_turns g s r run.0 run.2 round)) (turn_steps round.links s.fast round.turned.fast run.0 round.plays.fast steps))
 
--- the journal of one that was played since its session was made
+-- in the journal of a run that was played since its session was made no cycle uses an older state
 pub none_older : (script : ScriptData) (files : List (List Frame)) (noted : RoundsNoted) (t : SessionState) → Plays script files noted.rounds t → IsWhole noted t.fast.log → NoneOlder (journal_of noted t.fast.log)
 none_older script files noted t played whole =
     let first : Steps played.start.fast.log = subst (λ (m : MixerState). Steps m.log) (sym played.new.fast) tt in

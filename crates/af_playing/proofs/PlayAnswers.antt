@@ -33,7 +33,7 @@ pub if_ok_three : {T E : Type 0} (A B C D : T → Type 0) (r : Result T E) → (
 if_ok_three A B C D (Ok x) f a b c = f x a b c
 if_ok_three A B C D (Err e) f a b c = tt
 
--- what is so where a result is Ok, and it is
+-- if a result is Ok, what is so of Ok is so of its value
 pub when_ok : {T E : Type 0} (P : T → Type 0) (r : Result T E) → is_err r ≡ false → IfOk r P → (x : T) × (r ≡ Ok x) × P x
 when_ok P (Ok x) is p = (x, refl, p)
 when_ok P (Err e) is p = absurd (let e : ⊥ = cc in e)
@@ -41,7 +41,7 @@ when_ok P (Err e) is p = absurd (let e : ⊥ = cc in e)
 pub ok_when : {T E : Type 0} (P : T → Type 0) (r : Result T E) (x : T) → r ≡ Ok x → P x → IfOk r P
 ok_when P r x is p = subst (λ y. IfOk y P) (sym is) p
 
--- nothing is so of an error, and none is so of what is Ok
+-- if a result is an error, anything is so of Ok
 pub none_ok : {T E : Type 0} (P : T → Type 0) (r : Result T E) → is_err r ≡ true → IfOk r P
 none_ok P (Ok x) is = absurd (let e : ⊥ = cc in e)
 none_ok P (Err e) is = tt
@@ -62,14 +62,14 @@ pub on_err_from : {T E : Type 0} (A : Type 0) (r : Result T E) → A → OnErr r
 on_err_from A (Ok x) a = tt
 on_err_from A (Err e) a = a
 
--- ## Want of memory and faults of the store
+-- ## Refused allocations and faults of the store
 
 pub limits_not : (e : StoreError) → is_limit (fault_of e) ≡ false
 limits_not store.Failed = refl
 limits_not store.Memory = refl
 
 module _ {T : Type 0} (r : Result T PlayFault) where
-  -- neither is a limit
+  -- a refused allocation is no limit
   pub memory_never : IsErrAnd r (λ f. f ≡ fault.Memory) → IfErr r (λ f. is_limit f ≡ false)
   memory_never = by_answer r
     where
@@ -77,6 +77,7 @@ module _ {T : Type 0} (r : Result T PlayFault) where
       by_answer (Ok y) is = tt
       by_answer (Err f) is = ap is_limit is
 
+  -- a fault of the store is no limit
   pub store_never : (e : StoreError) → IsErrAnd r (λ f. f ≡ fault_of e) → IfErr r (λ f. is_limit f ≡ false)
   store_never e = by_answer r
     where
@@ -84,7 +85,7 @@ module _ {T : Type 0} (r : Result T PlayFault) where
       by_answer (Ok y) is = tt
       by_answer (Err f) is = ap is_limit is ∙ limits_not e
 
-  -- so nothing is claimed of one
+  -- if an error is no limit, anything is so at the limit
   pub off_limit : (P : JournalData → EndsState → Type 0) → IfErr r (λ f. is_limit f ≡ false) → IfErr r (AtLimit P)
   off_limit P = by_answer r
     where
@@ -97,7 +98,7 @@ module _ {T : Type 0} (r : Result T PlayFault) where
       by_answer (Ok y) is = tt
       by_answer (Err f) is = by_fault f is
 
-  -- where none can be, there is none
+  -- if no limit can be, there is none
   pub never_limited : (P : JournalData → EndsState → Type 0) → ((journal : JournalData) (ends : EndsState) → P journal ends → ⊥) → IfErr r (AtLimit P) → IfErr r (AtLimit (λ journal ends. ⊥))
   never_limited P never = by_answer r
     where
@@ -110,7 +111,7 @@ module _ {T : Type 0} (r : Result T PlayFault) where
       by_answer (Ok y) is = tt
       by_answer (Err f) is = by_fault f is
 
-  -- what follows of two things that are so at the limit is so there
+  -- what follows from two things that are so at the limit is so at the limit
   pub limit_two : (P Q R : JournalData → EndsState → Type 0) → ((journal : JournalData) (ends : EndsState) → P journal ends → Q journal ends → R journal ends) → IfErr r (AtLimit P) → IfErr r (AtLimit Q) → IfErr r (AtLimit R)
   limit_two P Q R follows = by_answer r
     where
@@ -123,7 +124,7 @@ module _ {T : Type 0} (r : Result T PlayFault) where
       by_answer (Ok y) p q = tt
       by_answer (Err f) p q = by_fault f p q
 
-  -- what is so anyway is so after a fault
+  -- what is so in any case is so after a fault
   pub at_fault : (P : Type 0) → P → IfErr r (AtFault P)
   at_fault P p = by_answer r
     where
@@ -136,7 +137,7 @@ module _ {T : Type 0} (r : Result T PlayFault) where
       by_answer (Ok y) = tt
       by_answer (Err f) = by_fault f
 
--- ## A run that was played to its end, or to that of the log
+-- ## A run that was played to its end, or to the end of the log
 
 no_store : {T : Type 0} (j : JournalData) (e : EndsState) → IsErrOf {T = T} {E = PlayFault} (Err (fault.CycleLimit j e)) fault.Store → ⊥
 no_store {T} j e h = let x : ⊥ = cc in x
@@ -147,7 +148,7 @@ no_want {T} h = let x : ⊥ = cc in x
 no_fault : (x : Unit {0}) → IsErrOf {T = Unit {0}} {E = StoreError} (Ok x) store.Failed → ⊥
 no_fault x h = let e : ⊥ = cc in e
 
--- an answer that is an error comes where not all had ended: it was cut off, with this journal and these ends, or memory ran out
+-- an answer that is an error comes if not all had ended: the play was cut off, with this journal and these ends, or an allocation was refused
 abbrev pub IsCut : Result Played PlayFault → Type 0 → JournalData → EndsState → Type 0
 IsCut r A j e = IfErr r (λ f. A × ((f ≡ fault.CycleLimit j e) ⊎ (f ≡ fault.Memory)))
 
@@ -175,7 +176,7 @@ cause_cut (Ok p) A j e x before now cause is = cause_ok p x before now cause
 cause_cut (Err f) A j e x before now cause (more, inl is) = subst (λ (y : PlayFault). HasStoreCause {T = Played} before now (Err y)) (sym is) (cause_limit A j e x before now cause)
 cause_cut (Err f) A j e x before now cause (more, inr is) = subst (λ (y : PlayFault). HasStoreCause {T = Played} before now (Err y)) (sym is) (cause_want x before now cause)
 
--- what is handed back
+-- the journal and the ends of what was played are handed back
 pub hands_back : (ended : Bool) (script : ScriptData) (files : List (List Frame)) (t : SessionState) (noted : RoundsNoted) (j : JournalData) (e : EndsState) → Plays script files noted.rounds t → noted.tracks ≡ length script.tracks
     → IsJournal (journal_of noted t.fast.log) → length t.clients ≡ length script.tracks → length noted.rounds ≤ script.cycles → (all_ended t ≡ false → is_full t ≡ true) → all_ended t ≡ ended → j ≡ journal_of noted t.fast.log → e ≡ ends_from t → HandsBackRun ended script files j e
 hands_back ended script files t noted j e played tracks form count few over is journal ends = record {
@@ -197,14 +198,14 @@ handed P (Ok p) A j e is journal ends cut = subst (λ (x : JournalData × EndsSt
 handed P (Err f) A j e is journal ends (more, inl cut) = subst (AtLimit P) (sym cut) is
 handed P (Err f) A j e is journal ends (more, inr want) = subst (AtLimit P) (sym want) tt
 
--- so is what follows of two such things
+-- what follows from two things that are so of what is handed back is so of it
 pub handed_two : (P Q R : JournalData → EndsState → Type 0) (r : Result Played PlayFault) → ((journal : JournalData) (ends : EndsState) → P journal ends → Q journal ends → R journal ends) → HandedBack P r → HandedBack Q r → HandedBack R r
 handed_two P Q R (Ok p) follows a b = follows p.journal p.ends a b
 handed_two P Q R (Err fault.Store) follows a b = tt
 handed_two P Q R (Err fault.Memory) follows a b = tt
 handed_two P Q R (Err (fault.CycleLimit journal ends)) follows a b = follows journal ends a b
 
--- nothing is after want of memory or a fault of the store
+-- nothing is handed back after a refused allocation or a fault of the store
 pub none_handed : (P : JournalData → EndsState → Type 0) (r : Result Played PlayFault) (fault : PlayFault) → is_limit fault ≡ false → IsErrAnd r (λ f. f ≡ fault) → HandedBack P r
 none_handed P (Ok p) fault not is = absurd is
 none_handed P (Err f) fault not is = off_limit {T = Played} (Err f) P (ap is_limit is ∙ not)
@@ -215,12 +216,12 @@ memory_handed P r is = none_handed P r fault.Memory refl is
 pub store_handed : (P : JournalData → EndsState → Type 0) (r : Result Played PlayFault) (e : StoreError) → IsErrAnd r (λ f. f ≡ fault_of e) → HandedBack P r
 store_handed P r e is = none_handed P r (fault_of e) (limits_not e) is
 
--- what a journal is of a run that was cut off
+-- the journal is that of a run that was cut off
 abbrev pub cut_by : ScriptData → List (List Frame) → JournalData → EndsState → Type 0
 cut_by script files j e = IsCutRun script files j
 
 -- ## The file
 
--- it is whole: the sound of all rounds is that of some first ones
+-- the file is left as after some first rounds: the sound of all rounds is such a sound
 pub leaves : (script : ScriptData) (files : List (List Frame)) (name : List ℕ) (old new : Files) (noted : RoundsNoted) (t : SessionState) → Plays script files noted.rounds t → SetsFile old name (Some (pcm_of script.frames t.fast.log)) new → LeavesRun script files name old new
 leaves script files name old new noted t played written = inr (noted.rounds, t, played, left_whole old new name (pcm_of script.frames t.fast.log) written)

@@ -14,7 +14,7 @@ other_fault {T} h = let e : ⊥ = cc in e
 not_err : {T : Type 0} (x : T) (f : PlayFault) → IsErrOf {T = T} {E = PlayFault} (Ok x) f → ⊥
 not_err x f h = let e : ⊥ = cc in e
 
--- memory ran out, and the store did nothing
+-- an allocation was refused, and the store did nothing
 by_memory : {T : Type 0} (f : PlayFault) (n : ℕ) → f ≡ fault.Memory → HasStoreCause {T = T} n n (Err f)
 by_memory {T} f n is =
     subst (λ (x : PlayFault). HasStoreCause {T = T} n n (Err x)) (sym is)
@@ -37,7 +37,7 @@ pub cause_store : {T : Type 0} (r : Result T PlayFault) (e : StoreError) (before
 cause_store (Ok x) e before now is cause = absurd is
 cause_store {T} (Err f) e before now is cause = subst (λ (x : PlayFault). HasStoreCause {T = T} before now (Err x)) (sym is) (by_store {T = T} e before now cause)
 
--- all went well
+-- the store did its work, and the play is Ok
 pub cause_ok : {T : Type 0} (played : T) (x : Unit {0}) (before now : ℕ) → HasCause {T = Unit {0}} before now (Ok x) → HasStoreCause {T = T} before now (Ok played)
 cause_ok {T} played x before now cause = record {
   later = cause.later;
@@ -45,7 +45,7 @@ cause_ok {T} played x before now cause = record {
   only = (λ lt. absurd (no_fault x (cause.only lt)));
 }
 
--- all went well, and then memory ran out
+-- the store did its work, and then an allocation was refused
 pub cause_behind : {T : Type 0} (r : Result T PlayFault) (played : T) (before now : ℕ) → HasStoreCause {T = T} before now (Ok played) → IsErrAnd r (λ f. f ≡ fault.Memory) → HasStoreCause before now r
 cause_behind (Ok x) played before now cause is = absurd is
 cause_behind {T} (Err f) played before now cause is = subst (λ (x : PlayFault). HasStoreCause {T = T} before now (Err x)) (sym is) (record {

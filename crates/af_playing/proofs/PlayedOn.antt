@@ -1,4 +1,4 @@
--- The rounds of a run of all parties are those that its journal tells, one after the other.
+-- The rounds of a run of all parties are those that its journal records, one after the other.
 use Rattle.std.proofs.Common.{◌≡◌, ℕ, zero, suc, ◌+◌, ◌-◌, if◌then◌else◌, Bool, true, false, List, [], ◌∷◌, length, map, option_map, take, drop, Some, slice_get, refl, sym, ap, subst, ◌∙◌, arith}
 use Rattle.std.specs.Bool.{MatchBool}
 use Rattle.std.specs.Prelude.{slice_index_or}
@@ -29,11 +29,11 @@ use Rattle.af_playing.proofs.GoingOn.{room_left}
 
 -- ## How the log grows
 
--- by one cycle
+-- one cycle adds one entry to the log at most
 once_grows : (links : Links) (m next : MixerState) (w : (b : List ℕ) × (answer : _) × CyclesOnce links m answer b next) → GrowsBy 1 m.log next.log
 once_grows links m next (bytes, answer, once) = subst (λ (l : Logged). GrowsBy 1 l next.log) (polled_keeps m once.polled once.adopts).0 (mix_grows once.polled next once.before once.after answer once.mixes)
 
--- by what comes behind it
+-- one cycle and those behind it add their entries to the log
 grows_on : (left : ℕ) (m next m' : MixerState) (back : List ℕ) (mixed : Bool) → GrowsBy 1 m.log next.log → (mixed ≡ true → GrowsBy left next.log m'.log) → (mixed ≡ false → (back ≡ []) × (m' ≡ next)) → GrowsBy (suc left) m.log m'.log
 grows_on left m next m' back true first goes stops = grows_then 1 left (suc left) m.log next.log m'.log (omega arith) first (goes refl)
 grows_on left m next m' back false first goes stops = grows_then 1 0 (suc left) m.log next.log m'.log (omega arith) first (grows_none 0 next.log m'.log (ap (λ (f : MixerState). f.log) (stops refl).1))
@@ -42,7 +42,7 @@ cycles_grow : (links : Links) (left : ℕ) (m : MixerState) (bytes : List ℕ) (
 cycles_grow links zero m bytes m' turn = grows_none 0 m.log m'.log (ap (λ (f : MixerState). f.log) turn.1)
 cycles_grow links (suc left) m bytes m' turn = grows_on left m turn.1 m' turn.3 (is_mixed turn.0) (once_grows links m turn.1 (turn.2, turn.0, turn.4)) (λ mixed. cycles_grow links left turn.1 turn.3 m' (turn.6 mixed)) turn.7
 
--- by a turn
+-- a turn adds sixteen entries to the log at most
 turn_grows : (links : Links) (m : MixerState) (bytes : List ℕ) (m' : MixerState) → FastTurned links m bytes m' → GrowsBy 16 m.log m'.log
 turn_grows links m bytes m' turned = by_exit m.exited turned
   where
@@ -63,11 +63,11 @@ module _ (s : Session) where
   round_log : (x : SessionState) (r : RoundNoted) (bytes : List ℕ) (y : SessionState) (w : IsRoundOfAll (given_of s) x r bytes y) → y.fast.log ≡ w.turned.fast.log
   round_log x r bytes y w = ap (λ (z : SessionState). z.fast.log) w.ends ∙ ap (λ (f : MixerState). f.log) (ends_leave w.met) ∙ ap (λ (f : MixerState). f.log) w.meets.ends.fast
 
-  -- by a round
+  -- a round adds sixteen entries to the log at most
   round_grows : (x : SessionState) (r : RoundNoted) (bytes : List ℕ) (y : SessionState) → IsRoundOfAll (given_of s) x r bytes y → GrowsBy 16 x.fast.log y.fast.log
   round_grows x r bytes y w = subst (GrowsBy 16 x.fast.log) (sym (round_log x r bytes y w)) (turn_grows w.links x.fast bytes w.turned.fast w.plays.fast)
 
-  -- by so many entries at most
+  -- how many entries these rounds add to the log at most
   abbrev most_of : List RoundNoted → ℕ
   most_of [] = 0
   most_of (r ∷ rs) = 16 + most_of rs

@@ -30,7 +30,7 @@ pub record EndsWith (count : ℕ) (last : FastState) (states : List FastState) :
   pub counted : count ≡ length earlier + 1
   pub run : NoneExits earlier
 
--- so many states were pushed, none, or the last one and others before it that say no Exit
+-- so many states were pushed: none, or the last one and others before it that don't say Exit
 pub record PushedRuns (count : ℕ) (last : FastState) (states : List FastState) : Type 0 where
   pub none : count ≡ 0 → states ≡ []
   pub some : 0 < count → EndsWith count last states
@@ -50,7 +50,7 @@ none_append : (xs ys : List FastState) → NoneExits xs → NoneExits ys → Non
 none_append [] ys none more = more
 none_append (x ∷ xs) ys none more = (none.0, none_append xs ys none.1 more)
 
--- one state more, after a last one that doesn't say Exit
+-- one state more may be pushed after a last one that doesn't say Exit
 one_more : (count : ℕ) (last next : FastState) (states : List FastState) → PushedRuns count last states → is_exit last ≡ false → PushedRuns (count + 1) next (states ++ next ∷ [])
 one_more zero last next states runs run = record {
   none = (λ is. absurd (omega arith));
@@ -80,7 +80,7 @@ module _ {P : Type 0} (c : Setup) (o : Outside) (m : NormalKept) (e : Turn) (bac
   unfolding edits
   edits_run = let same = mutated_none c (learnt o) m e in subst (λ (x : ℕ × FastState). PushedRuns x.0 x.1 states) (λ i. (sym same.pushed i, sym same.last i)) runs
 
-  -- where a state is pushed, the last one before it said no Exit
+  -- if a state is pushed, the last one before it didn't say Exit
   pushed_runs : (number : ℕ) → e.ended ≡ false → e.push ≡ Pushed number → is_exit edits.last ≡ false
   unfolding edits is_clean
   pushed_runs number goes is = by_exit (is_exit m.last) refl
@@ -108,7 +108,7 @@ module _ {P : Type 0} (c : Setup) (o : Outside) (m : NormalKept) (e : Turn) (bac
   stays : (t : NormalKept) → t.pushed ≡ m.pushed → t.last ≡ m.last → PushedRuns t.pushed t.last (states ++ [])
   stays t pushed last = subst (λ (x : ℕ × FastState × List FastState). PushedRuns x.0 x.1 x.2) (λ i. (sym pushed i, sym last i, sym (append-nil states) i)) runs
 
-  -- a turn keeps it
+  -- a turn keeps that no state before the last one says Exit
   turn_runs : Turned (turn_after c (learnt o) m e) (mutator_list c (learnt o) m e back again sent)
   unfolding turn_after edits
   turn_runs = by_ends m.ended e.ended refl refl
@@ -128,6 +128,6 @@ turn_pushes c o m e back again sent events quiet legal runs =
     subst (PushedRuns (turn_after c (learnt o) m e).pushed (turn_after c (learnt o) m e).last) (sym (pushed_append events (mutator_list c (learnt o) m e back again sent)))
     (turn_runs c o m e back again sent (pushed_states events) quiet legal runs)
 
--- nothing was pushed
+-- before the first push no state was pushed
 pub new_pushes : (last : FastState) → PushedRuns 0 last []
 new_pushes last = record { none = (λ _. refl); some = (λ lt. absurd (omega arith)) }

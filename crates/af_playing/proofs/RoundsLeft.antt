@@ -17,7 +17,7 @@ use Rattle.af_session.proofs.FollowingRounds.{ends_keep}
 
 -- ## The log
 
--- a cycle takes no entry off the log, and adds one where the mixer wasn't over
+-- a cycle takes no entry off the log, and adds one if the mixer wasn't over
 once_adds : (links : Links) (m m' : MixerState) (answer : Cycle) (bytes : List ℕ) → CyclesOnce links m answer bytes m' → (length m.log.entries ≤ length m'.log.entries) × (is_over m ≡ false → length m.log.entries + 1 ≤ length m'.log.entries)
 once_adds links m m' answer bytes w = by_over (is_over m) refl
   where
@@ -90,7 +90,7 @@ ended_at [] i p e = absurd (true≢false (sym (ap is_some e)))
 ended_at (q ∷ ps) zero p e = sym (ap (λ (o : Option PartyState). (unwrap_or o p).client.ended) e)
 ended_at (q ∷ ps) (suc i) p e = ended_at ps i p e
 
--- with the ends, every client has ended where the normal mixer has
+-- with the ends, every client has ended if the normal mixer has
 clients_ended : (s : SessionState) → s.normal.ended ≡ true → (i : ℕ) (p : PartyState) → slice_get (with_ends s).clients i ≡ Some p → p.client.ended ≡ true
 clients_ended s ended i p e = ended_at s.clients i p (sym (ap (λ (b : Bool). slice_get (if b then record s { clients = map end_party s.clients } else s).clients i) ended) ∙ e)
 
@@ -116,7 +116,7 @@ round_ends g s t r bytes knows is exited w = record {
     ended : t.normal.ended ≡ true
     ended = by_end s.normal.ended refl
 
--- A round from where not all have ended and the log isn't full goes one further
+-- If not all have ended and the log isn't full, after one round more all have ended or the log has one entry more
 pub going_on : (g : Given) (i : ℕ) (s t : SessionState) (r : RoundNoted) (bytes : List ℕ) → Knowing s → s.fast.exited ≡ has_exit s.fast.log.entries → (AllEnded s → ⊥) → length s.fast.log.entries < s.fast.cycles → IsGoing i s → IsRoundOfAll g s r bytes t
     → IsGoing (i + 1) t
 going_on g i s t r bytes knows is some room (has_ended all) w = absurd (some all)

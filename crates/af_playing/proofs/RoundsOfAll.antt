@@ -77,7 +77,7 @@ module _ (g : Given) (s : SessionState) (r : RoundNoted) (bytes : List ℕ) (t :
       } in
       subst (λ (y : RoundNoted × Logged). Notes s y.0 y.1) (λ k. (sym round.told k, sym log_of_turns k)) told
 
--- one more is noted
+-- if one round more is noted, what is noted still has its form
 pub noted_of_all : (links : Links) (g : Given) (n : ℕ) (s : SessionState) → IsReady links g n s → (r : RoundNoted) (bytes : List ℕ) (t : SessionState) → IsRoundOfAll g s r bytes t → NotesFrames r
     → (noted : RoundsNoted) → AreNoted (length g.tracks) noted s.fast.log → AreNoted (length g.tracks) (record noted { rounds = noted.rounds ++ r ∷ [] }) t.fast.log
 noted_of_all links g n s ready r bytes t round frames noted are =

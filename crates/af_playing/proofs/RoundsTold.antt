@@ -1,4 +1,4 @@
--- The rounds that the parties of a new session played are those that their journal tells.
+-- The rounds that the parties of a new session played are those that their journal records.
 use Rattle.std.proofs.Common.{◌≡◌, List, ap, subst}
 use Rattle.af_base.specs.declared.frame.Frame.{Frame}
 use Rattle.af_fast.specs.Mixer.{MixerState}

@@ -1,4 +1,4 @@
--- The run that a legal journal tells follows the parties that made it: their normal mixer in all that entries tell of it, with the states that it pushed, and each client in the words that it released.
+-- The run that a legal journal records follows the parties that made it: their normal mixer in all that entries record of it, with the states that it pushed, and each client in the words that it released.
 use Rattle.std.proofs.Common.{◌≡◌, ℕ, zero, suc, ◌+◌, ◌<◌, ◌==◌, Bool, true, false, if◌then◌else◌, MatchBool, List, [], ◌∷◌, ◌++◌, length, map, append-nil, option_map, drop, take, Option, Some, None, slice_get, true≢false, refl, sym, ap, subst, ◌∙◌, arith}
 use Rattle.std.specs.Prelude.{slice_index_or}
 use Rattle.std.specs.List.{range_with_len}
@@ -70,7 +70,7 @@ module _ {P : Type 0} (c : Setup) (o : Outside) (m : NormalKept) (e : Turn) (bac
   by_going true is off = absurd (true≢false off)
   by_going false is off = by_end e.ended refl
 
-  -- the mutator's list grows by the draft where the turn pushes it
+  -- the mutator's list grows by the draft if the turn pushes it
   turn_pushed : pushed_states (mutator_list c (learnt o) m e back again sent) ≡ pushed_by c o m e
   turn_pushed = by_going m.ended refl going
 
@@ -119,7 +119,7 @@ module _ (script : ScriptData) (files : List (List Frame)) where
     pub long : length (run_words run) ≡ length script.tracks
     pub clients : (i : ℕ) (p : PartyState) → slice_get x.clients i ≡ Some p → slice_get (run_words run) i ≡ Some (client_words i p)
 
-  -- before the first round
+  -- what holds before the first round
   module _ (shared : SharedState) (x : SessionState) (new : IsNewSession script shared x) where
     abbrev first_words : ℕ → Words
     first_words i = (file_words s i, [])
@@ -182,7 +182,7 @@ module _ (script : ScriptData) (files : List (List Frame)) where
         by_end true off still = subst MixerFollows (sym still) (rest_followed s marks run seen (kept_of x.normal) states follows.normal legal off, follows.setup)
         by_end false on played = played_follows on played
 
-    -- the meetings and the ends leave what it keeps, and the states that it pushed
+    -- the meetings and the ends leave what the normal mixer keeps, and the states that it pushed
     mixer_follows : MixerFollows t.normal
     mixer_follows =
         let end : t.normal ≡ round.met.normal = ap (λ (y : SessionState). y.normal) round.ends ∙ (ends_keep round.met).normal in

@@ -25,7 +25,7 @@ use Rattle.af_rendering.proofs.Quiet.{IsQuiet}
 
 -- ## Growing
 
--- none were played
+-- if no rounds were played, that is a run
 pub run_of_none : (g : Given) (s : SessionState) → RunsOfAll g s [] s
 run_of_none g s = record { bytes = []; run = (refl, refl); sound = sym (append-nil (pcm_of s.fast.frames s.fast.log)) }
 
@@ -50,7 +50,7 @@ run_behind g s m t (x ∷ xs) out run goes r bytes round = (
   run_behind g run.2 m t xs run.1 run.6 goes r bytes round,
 )
 
--- one more was, where the run went on
+-- a run with one round more is a run, if it went on before that round
 pub run_of_more : (g : Given) (s m t : SessionState) (rounds : List RoundNoted) → RunsOfAll g s rounds m → GoesOn m → (r : RoundNoted) (bytes : List ℕ) → IsRoundOfAll g m r bytes t
     → pcm_of s.fast.frames m.fast.log ++ bytes ≡ pcm_of s.fast.frames t.fast.log → RunsOfAll g s (rounds ++ r ∷ []) t
 run_of_more g s m t rounds runs goes r bytes round sound =
@@ -61,10 +61,10 @@ run_of_more g s m t rounds runs goes r bytes round sound =
       sound = sym sound ∙ ap (λ (xs : List ℕ). xs ++ bytes) runs.sound ∙ append_assoc (pcm_of len s.fast.log) runs.bytes bytes;
     }
 
--- ## Of a new session
+-- ## Runs of a new session
 
 module _ (script : ScriptData) (shared : SharedState) (s : SessionState) (new : IsNewSession script shared s) where
-  -- rounds that were played since are a run of the script
+  -- rounds that were played since the session was made are a run of the script
   pub plays : (files : List (List Frame)) (rounds : List RoundNoted) (t : SessionState) → RunsOfAll (record { tracks = script.tracks; files = files }) s rounds t → Plays script files rounds t
   plays files rounds t runs =
       let len = s.fast.frames in
@@ -78,7 +78,7 @@ module _ (script : ScriptData) (shared : SharedState) (s : SessionState) (new : 
         sound = sym heard ∙ ap (λ (n : ℕ). pcm_of n t.fast.log) (frames_first script shared s new files);
       }
 
-  -- no round was
+  -- no rounds are a run of the script
   pub plays_none : (files : List (List Frame)) → Plays script files [] s
   plays_none files = record { shared = shared; start = s; new = new; bytes = []; run = (refl, refl); sound = sym (silent_first script shared s new files script.frames) }
 
@@ -88,7 +88,7 @@ module _ (script : ScriptData) (shared : SharedState) (s : SessionState) (new : 
   no_exit : has_exit s.fast.log.entries ≡ false
   no_exit = ap (λ (m : MixerState). has_exit m.log.entries) new.fast
 
-  -- it knows what holds between two rounds
+  -- a new session has what holds between two rounds
   pub knowing_first : Knowing s
   knowing_first =
       let m : NormalState = s.normal in

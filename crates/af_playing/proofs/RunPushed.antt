@@ -1,4 +1,4 @@
--- In a run of all parties the journal tells each push once, in order.
+-- In a run of all parties the journal records each push once, in order.
 use Rattle.std.proofs.Common.{◌≡◌, ℕ, zero, suc, ◌+◌, Bool, true, false, if◌then◌else◌, List, [], ◌∷◌, ◌++◌, length, length-append, drop, take, Some, None, refl, sym, ap, subst, ◌∙◌, append_assoc, append-nil, arith}
 use Rattle.std.specs.Prelude.{flat_map}
 use Rattle.std.specs.Bool.{MatchBool}
@@ -35,7 +35,7 @@ use Rattle.af_playing.proofs.RunOfAll.{knowing_first}
 one_more : (n : ℕ) → first_numbers n ++ (n + 1) ∷ [] ≡ first_numbers (n + 1)
 one_more n = sym (map-range_with_len_more (λ (k : ℕ). k + 1) 0 n n (omega arith))
 
--- so many were told, and then the push of a mixer that has pushed so many
+-- if the first numbers were recorded of a mixer that has pushed so many states, they are so with its next push
 by_push : (told : List ℕ) (m : NormalKept) (push : Push) → LegalPush m push → told ≡ first_numbers m.pushed → told ++ number_pushed push ≡ first_numbers (after_push push m).pushed
 by_push told m (Pushed number) legal is = ap (λ (n : ℕ). told ++ n ∷ []) legal.1 ∙ ap (λ (l : List ℕ). l ++ (m.pushed + 1) ∷ []) is ∙ one_more m.pushed
 by_push told m Clean legal is = append-nil told ∙ is

@@ -1,4 +1,4 @@
--- In a run of all parties each client has released as many frames as the calls that the journal tells put.
+-- In a run of all parties each client has released as many frames as the calls that the journal records put.
 use Rattle.std.proofs.Common.{◌≡◌, ℕ, ◌+◌, ◌<◌, Bool, true, false, if◌then◌else◌, is_some, fold, List, [], ◌∷◌, length, map, sum_by, option_map, slice_get, Some, refl, sym, ap, subst, ◌∙◌, ⊎_elim, arith}
 use Rattle.std.proofs.Math.Nat.{add-zero}
 use Rattle.std.proofs.lemmas.Grind.{fold-append}
@@ -34,7 +34,7 @@ use Rattle.af_playing.proofs.RunSpelled.{calls_stand_once}
 -- ## One list
 
 module _ (frames : ℕ) where
-  -- a look that doesn't shut moves no position, and one that was shut before doesn't look
+  -- a look that doesn't shut moves no position, and a proxy that was shut before doesn't look
   position_shut : (kept : ClientKept) (front : ℕ) (shut : Bool) → (fold (client_keeps frames) kept (if shut then [] else client.SawFlags 0 ∷ client.SawFront front ∷ [])).position ≡ kept.position + 0
   position_shut kept front true = sym (add-zero kept.position)
   position_shut kept front false = sym (add-zero kept.position)
@@ -56,7 +56,7 @@ module _ (frames : ℕ) where
   position_called kept (call.Poke true word value) = sym (add-zero kept.position)
   position_called kept (call.Poke false word value) = sym (add-zero kept.position)
 
-  -- and so do all calls among some steps
+  -- all calls among some steps move the position by the frames that they put
   position_spelled : (kept : ClientKept) (steps : List ClientStep) → (fold (client_keeps frames) kept (client_spells stream frames kept steps)).position ≡ kept.position + sum_by frames_put (calls_among steps)
   position_spelled kept [] = sym (add-zero kept.position)
   position_spelled kept (met_server count ∷ steps) = position_spelled kept steps
@@ -103,7 +103,7 @@ run_order g s (r ∷ rs) bytes t run order = run_order g run.2 rs run.1 t run.6 
 -- ## The journal
 
 module _ (ended : Bool) (script : ScriptData) (files : List (List Frame)) (j : JournalData) (e : EndsState) (h : HandsBackRun ended script files j e) where
-  -- of the client of one track
+  -- the client of one track has released the frames that its calls in the journal put
   one_released : (i : ℕ) (p : PartyState) → slice_get e.clients i ≡ Some p → p.stream.released ≡ sum_by frames_put (calls_told j i)
   one_released i p at =
       let played = h.played in
@@ -113,7 +113,7 @@ module _ (ended : Bool) (script : ScriptData) (files : List (List Frame)) (j : J
   long : length (released_by e.clients) ≡ j.tracks
   long = length-map e.clients (λ (p : PartyState). p.stream.released) ∙ h.count ∙ sym (ap (λ (x : JournalData). x.tracks) h.journal_is)
 
-  -- of each
+  -- the client of each track has released the frames that its calls in the journal put
   pub released_as_told : ReleasedAsTold j e
   released_as_told = fill_by_all (λ (i : ℕ). sum_by frames_put (calls_told j i)) (released_by e.clients) j.tracks 0 long (λ k lt.
       let f : PartyState → ℕ = λ (p : PartyState). p.stream.released in

@@ -1,4 +1,4 @@
--- In a run of all parties each client's lists are spelled by just the calls that the journal tells of it.
+-- In a run of all parties each client's lists are spelled by just the calls that the journal records of it.
 use Rattle.std.proofs.Common.{◌≡◌, ℕ, Bool, true, false, if◌then◌else◌, List, [], ◌∷◌, ◌++◌, length, map, option_map, slice_get, Option, Some, None, refl, sym, ap, subst, ◌∙◌, append_assoc, append-nil, drop, take, ⊎_elim, arith}
 use Rattle.std.specs.Prelude.{flat_map, slice_index_or}
 use Rattle.std.proofs.lemmas.List.Concat.{flat_map-cons}
@@ -51,11 +51,11 @@ module _ (calls : List ClientCall) where
 
 -- ## A round
 
--- the lists of each client are spelled by these calls of it
+-- the lists of each client are spelled by these calls of that client
 abbrev AllSpell : (ℕ → List ClientCall) → SessionState → Type 0
 AllSpell calls s = (i : ℕ) (p : PartyState) → slice_get s.clients i ≡ Some p → BothSpell (calls i) p
 
--- what stands at a place before the ends
+-- the client at a place before the ends are made, whose lists the ends leave
 ended_from : (ps : List PartyState) (ended : Bool) (i : ℕ) (q : PartyState) (s : SessionState) → s.clients ≡ ps → slice_get (if ended then record s { clients = map end_party s.clients } else s).clients i ≡ Some q
     → (p : PartyState) × (slice_get ps i ≡ Some p) × ((calls : List ClientCall) → BothSpell calls p → BothSpell calls q)
 ended_from ps false i q s is at = (q, ap (λ (l : List PartyState). slice_get l i) (sym is) ∙ at, λ calls spells. spells)
@@ -74,7 +74,7 @@ module _ (g : Given) (s : SessionState) (r : RoundNoted) (bytes : List ℕ) (t :
   abbrev x : SessionState
   x = round.turned
 
-  -- whoever met had made its turn
+  -- a client that met had made its turn, and the meeting keeps what its lists spell
   met_from : (i : ℕ) (q : PartyState) → slice_get round.met.clients i ≡ Some q → (p : PartyState) × (slice_get x.clients i ≡ Some p) × ((calls : List ClientCall) → BothSpell calls p → BothSpell calls q)
   met_from i q at = ⊎_elim
       (λ h. (h.0, h.2, λ calls spells. track_met calls _ _ h.0 q (round.meets.tracks.met i h.0 q h.1 h.2 at) spells))
@@ -100,7 +100,7 @@ module _ (g : Given) (s : SessionState) (r : RoundNoted) (bytes : List ℕ) (t :
 
 -- ## A run
 
--- the calls of a client over rounds noted
+-- the calls of a client in all rounds noted
 abbrev calls_over : List RoundNoted → ℕ → List ClientCall
 calls_over rounds i = flat_map (λ (r : RoundNoted). slice_index_or r.calls i []) rounds
 

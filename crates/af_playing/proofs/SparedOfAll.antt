@@ -98,6 +98,6 @@ module _ (links : Links) (g : Given) (n : ℕ) (s : SessionState) (before : IsRe
     spared = (λ i p q was at old new. (calls_spared i q at new, turn_spared i q at new));
   }
 
-  -- a round more
+  -- one round more spares these tracks too
   pub spares_of_all : (rounds : List RoundNoted) → SparesSoFar rounds s → SparesSoFar (rounds ++ r ∷ []) t
   spares_of_all rounds so_far = spares_more rounds r s t so_far all_spare (sym after.given.0 ∙ before.given.0)

@@ -1,4 +1,4 @@
--- What a stage comes to whose rounds were played.
+-- What a stage is, once its rounds were played.
 use Rattle.std.proofs.Common.{◌≡◌, ◌≤◌, ℕ, List, [], Result, Ok, Err, OnOk, length, false, true, sym, ap, subst, ◌∙◌}
 use Rattle.af_base.specs.declared.frame.Frame.{Frame}
 use Rattle.af_link.specs.declared.links.Links.{Links}
@@ -22,7 +22,7 @@ module _ (script : ScriptData) (shared : SharedState) (was : SessionState) (new 
   abbrev given : Given
   given = record { tracks = tracks; files = files }
 
-  -- of all rounds
+  -- a stage on which all rounds were played is one that was played to its end, or to the end of the log
   played_on : (cycles : ℕ) → cycles ≡ script.cycles → NotedOn links given (length s.rounds.rounds) was s → RunsOfAll given was s.rounds.rounds s.parties → (all_ended s.parties ≡ false → is_full s.parties ≡ true) → length s.rounds.rounds ≤ cycles → HasPlayed script files s
   played_on cycles are noted ran over few =
       let n : ℕ = length s.rounds.rounds in

@@ -1,4 +1,4 @@
--- The summary of a play is that of its journal alone, where that is legal or cut.
+-- The summary of a play is that of its journal alone, if the journal is that of a legal run or of a cut one.
 use Rattle.std.proofs.Common.{◌≡◌, ℕ, suc, Bool, true, false, List, [], ◌∷◌, length, map, option_map, slice_get, Some, Result, Ok, Err, IfErr, IfOk, refl, sym, ap, subst, ◌∙◌, arith}
 use Rattle.std.proofs.lemmas.List.{length-map}
 use Rattle.std.proofs.lemmas.Option.{same_Some, slice_get-map}
@@ -23,7 +23,7 @@ use Rattle.af_playing.specs.PlayedRuns.{AtLimit, HandedBack, HandsBackRun}
 use Rattle.af_playing.proofs.RunFollows.{Follows, client_words, new_follows, run_follows}
 use Rattle.af_playing.proofs.RunReleased.{AreInOrder, new_order, run_order}
 
--- two lists give the same where each place does
+-- two lists give the same if each place does
 same_maps : (ps : List PartyState) (ts : List TrackTold) → length ps ≡ length ts → ((i : ℕ) (p : PartyState) (t : TrackTold) → slice_get ps i ≡ Some p → slice_get ts i ≡ Some t → p.stream.released ≡ length t.stream.released)
     → released_by ps ≡ map (λ (t : TrackTold). length t.stream.released) ts
 same_maps [] [] long each = refl
@@ -66,7 +66,7 @@ module _ (ended : Bool) (script : ScriptData) (files : List (List Frame)) (j : J
       let states : pushed_states e.normal.mutator.past.events ≡ run.states = ap (λ (x : EndsState). pushed_states x.normal.mutator.past.events) h.ends_are ∙ follows.normal.pushed in
       λ k. summary_of (shows (states k) script.frames j.tracks (map (λ r. r.calls) j.rounds) (map (λ r. r.turn) j.rounds) (frames_of seen) (map (λ x. x.entry) seen)) (all_released k)
 
--- so is what a play hands back
+-- the summary of what a play hands back is that of its journal alone
 pub alone_kept : (script : ScriptData) (files : List (List Frame)) (r : Result Played PlayFault) → IfOk r (λ (p : Played). HandsBackRun true script files p.journal p.ends) → IfErr r (AtLimit (HandsBackRun false script files))
     → IfOk r (λ (p : Played). IsLegalRun script files p.journal) → IfErr r (AtLimit (λ (j : JournalData) (e : EndsState). IsCutRun script files j)) → HandedBack (IsToldAlone script files) r
 alone_kept script files (Ok p) back none legal none' = told_alone true script files p.journal p.ends back false legal.rounds

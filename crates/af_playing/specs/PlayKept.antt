@@ -1,4 +1,4 @@
--- What a play answers, by the stage that was played; and what is promised of each answer, whatever the store.
+-- What a play answers, by the stage that was played, and what is promised of each answer, whatever the store.
 use Rattle.std.specs.Prelude.{◌≡◌, ◌⊎◌, ◌≤◌, ◌++◌, ℕ, true, false, List, Option, Some, Result, IfErr, IfOk}
 use Rattle.af_base.specs.declared.frame.Frame.{Frame}
 use Rattle.af_enough.specs.Enough.{HasEnoughCycles}
@@ -23,7 +23,7 @@ use Rattle.af_told_law.specs.KeptEnds.{KeepsLists}
 use Rattle.af_playing.specs.PlayedAlone.{IsToldAlone}
 use Rattle.af_playing.specs.Spelled.{CallsStandOnce, NoneOlder, PushesStandOnce, ReleasedAsTold}
 
--- The journal and the ends of a stage are handed back: where all have ended with the summary, and else as cut off at the limit, in whose place alone Memory may stand. The journal is legal by itself
+-- The journal and the ends of a stage are handed back: if all parties have ended with the summary, and else as cut off at the limit, in whose place alone Memory may stand. By itself, the journal of a play that is done is that of a legal run, and the journal of one that was cut off is that of a cut run
 pub record Answers (script : ScriptData) (files : List (List Frame)) (s : Stage) (result : Result Played PlayFault) : Type 0 where
   pub ended : IfOk result (λ _. all_ended s.parties ≡ true)
   pub journal : IfOk result (λ p. p.journal ≡ journal_of s.rounds s.parties.fast.log)
@@ -36,18 +36,18 @@ pub record Answers (script : ScriptData) (files : List (List Frame)) (s : Stage)
 
 -- ## What is promised of a play, whatever the store
 
--- What is promised where all parties have ended: their run is handed back, its journal by itself keeps the promises of a play that is done, and its summary is that of the journal and the ends
+-- What is promised if all parties have ended: their run is handed back, its journal by itself keeps the promises of a play that is done, and its summary is that of the journal and the ends
 pub record IsDonePlay (script : ScriptData) (files : List (List Frame)) (p : Played) : Type 0 where
   pub played : HandsBackRun true script files p.journal p.ends
   pub promises : KeepsPromises script files p.journal
   pub summary : p.summary ≡ summary_told script.frames p.journal p.ends
 
--- What is promised where the log was full first: the run so far is handed back, and its journal by itself is that of a cut run
+-- What is promised if the log was full first: the run so far is handed back, and its journal by itself is that of a cut run
 pub record IsCutPlay (script : ScriptData) (files : List (List Frame)) (journal : JournalData) (ends : EndsState) : Type 0 where
   pub played : HandsBackRun false script files journal ends
   pub cut_run : IsCutRun script files journal
 
--- What a journal that is handed back tells of its run, and the ends with it: the summary is that of the journal alone, each client's calls and each state pushed stand once in it, each client released as many frames as its calls put there, no cycle uses a state older than one before it, each track that nobody poked is spared, and the ends keep the lists of the run that it tells
+-- What a journal that is handed back records of its run, and the ends with it: the summary is that of the journal alone, each client's calls and each state pushed stand once in the journal, each client released as many frames as its calls put there, no cycle uses a state older than one before it, each track that nobody poked is spared, and the ends keep the lists of the run that the journal records
 pub record TellsItsRun (script : ScriptData) (files : List (List Frame)) (journal : JournalData) (ends : EndsState) : Type 0 where
   pub alone : IsToldAlone script files journal ends
   pub calls : CallsStandOnce journal ends
@@ -66,7 +66,7 @@ pub record KeepsPlay (script : ScriptData) (files : List (List Frame)) (result :
 
 -- ## What is promised of its file
 
--- What is promised of the file of a play: where all have ended, or the log was full first, it holds the sound of the journal; where the store or memory failed it is as before or holds a front of the sound of some first rounds. The whole sound is such a front
+-- What is promised of the file of a play: if all parties have ended, or the log was full first, the file holds the sound of the journal. If the store failed or an allocation was refused, the file is as before or holds a front of the sound of some first rounds. The whole sound is such a front
 pub record KeepsFiles (script : ScriptData) (files : List (List Frame)) (name : List ℕ) (old new : Files) (result : Result Played PlayFault) : Type 0 where
   pub written : IfOk result (λ p. SetsFile old name (Some (journal_pcm script.frames p.journal)) new)
   pub cut : IfErr result (AtLimit (λ journal _. SetsFile old name (Some (journal_pcm script.frames journal)) new))
@@ -75,14 +75,14 @@ pub record KeepsFiles (script : ScriptData) (files : List (List Frame)) (name : 
 
 -- ## What is promised of its log
 
--- a log with this room is kept of the journal of what was played, or none is
+-- a log with this room, or no log, was kept of the journal of what was played
 abbrev pub TellsLogOf : Option ℕ → ℕ → Result Played PlayFault → LoggingState → Type 0
 TellsLogOf kept frames played l = IfOk played (λ p. TellsLog kept frames p.journal l)
 
--- the text of a log of this journal stands behind another text; with room for 32 notes none was refused
+-- the text of a log of this journal stands behind another text; with room for 32 notes no note was refused
 abbrev pub AppendsLogOf : (frames room : ℕ) → JournalData → List ℕ → List ℕ → Type 0
 AppendsLogOf frames room j text text' = (notes : List Note) × (refused : ℕ) × IsLogOf frames room j notes refused × (text' ≡ text ++ log_text notes refused) × (32 ≤ room → refused ≡ 0)
 
--- so does that of the journal of what was played
+-- the text of a log of the journal of what was played stands behind another text
 abbrev pub AppendsLogOfPlay : (frames room : ℕ) → Result Played PlayFault → List ℕ → List ℕ → Type 0
 AppendsLogOfPlay frames room played text text' = IfOk played (λ p. AppendsLogOf frames room p.journal text text')

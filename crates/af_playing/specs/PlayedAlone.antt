@@ -9,10 +9,10 @@ use Rattle.af_session.specs.Ends.{EndsState}
 use Rattle.af_session.specs.Shown.{summary_told}
 use Rattle.af_tally.specs.declared.summary.Summary.{Summary}
 
--- that of the run that the journal tells
+-- the summary of the run that the journal records
 abbrev pub summary_of_play : ScriptData → List (List Frame) → JournalData → Summary
 summary_of_play script files j = summary_by script j (run_of script files j)
 
--- it is the summary by the journal and these ends
+-- the summary by a journal and these ends is that of the run that the journal records
 abbrev pub IsToldAlone : ScriptData → List (List Frame) → JournalData → EndsState → Type 0
 IsToldAlone script files j ends = summary_told script.frames j ends ≡ summary_of_play script files j

@@ -30,15 +30,15 @@ use Rattle.af_session.specs.Together.{SessionState}
 
 -- ## When a run goes on
 
--- every client has ended, and both mixers
+-- every client has ended, and both mixers have
 abbrev pub all_ended : SessionState → Bool
 all_ended s = s.normal.ended && (s.fast.exited && list_all (λ (p : PartyState). p.client.ended) s.clients)
 
--- the log has all of its entries
+-- the log has all the entries that it may have
 abbrev pub is_full : SessionState → Bool
 is_full s = length s.fast.log.entries == s.fast.cycles
 
--- some party goes on, and the log has room
+-- a run goes on: some party has not ended, and the log has room
 pub record GoesOn (s : SessionState) : Type 0 where
   pub some : all_ended s ≡ false
   pub room : is_full s ≡ false
@@ -67,12 +67,12 @@ pub record Plays (script : ScriptData) (files : List (List Frame)) (rounds : Lis
 
 -- ## What is left and handed back
 
--- no file has changed, or only that of this name, which holds a front of the sound of some first rounds
+-- no file has changed, or only the file of this name, which holds a front of the sound of some first rounds
 abbrev pub LeavesRun : ScriptData → List (List Frame) → List ℕ → Files → Files → Type 0
 LeavesRun script files name old new = SameFiles old new
     ⊎ ((rounds : List RoundNoted) × (t : SessionState) × Plays script files rounds t × LeavesFront old name (pcm_of script.frames t.fast.log) new)
 
--- The journal and the ends of parties that have played rounds since they were made, no more than there are cycles: the journal has these rounds, and the entries of the fast mixer's log, and its form. `ended` says whether all have ended; else the log has all of its entries
+-- The journal and the ends of parties that have played rounds since they were made, no more rounds than there are cycles. The journal has these rounds, the entries of the fast mixer's log, and the form of a journal. `ended` says whether all parties have ended; if not, the log has all of its entries
 pub record HandsBackRun (ended : Bool) (script : ScriptData) (files : List (List Frame)) (journal : JournalData) (ends : EndsState) : Type 0 where
   pub parties : SessionState
   pub rounds : List RoundNoted
@@ -94,7 +94,7 @@ pub record KeepsPromises (script : ScriptData) (files : List (List Frame)) (jour
   pub settled : SettledMeansKept script files journal
   pub emptied : PipeIsEmptied script files journal
 
--- the journal alone keeps these promises; or, where not all have ended, it is that of a run cut off with its log full, of a script that hasn't enough cycles by the rule
+-- the journal alone keeps the promises of a play that is done; or, if not all parties have ended, it is that of a run cut off with its log full, of a script that hasn't enough cycles by the rule
 abbrev pub IsLegalJournal : Bool → ScriptData → List (List Frame) → JournalData → Type 0
 IsLegalJournal true script files journal = KeepsPromises script files journal
 IsLegalJournal false script files journal = IsCutRun script files journal × (HasEnoughCycles script → ⊥)
@@ -106,12 +106,12 @@ abbrev pub is_limit : PlayFault → Bool
 is_limit (fault.CycleLimit journal ends) = true
 is_limit _ = false
 
--- what the store's refusal is in a play
+-- the fault of a play, by the store's refusal
 abbrev pub fault_of : StoreError → PlayFault
 fault_of store.Failed = fault.Store
 fault_of store.Memory = fault.Memory
 
--- the count of the store's faults never falls, and rises exactly where the answer is Store
+-- the count of the store's faults never falls, and rises exactly if the answer is Store
 pub record HasStoreCause {T : Type 0} (before now : ℕ) (result : Result T PlayFault) : Type 0 where
   pub later : before ≤ now
   pub failed : IsErrOf result fault.Store → Rose before now
@@ -123,7 +123,7 @@ AtLimit P (fault.CycleLimit journal ends) = P journal ends
 AtLimit P fault.Store = Unit {0}
 AtLimit P fault.Memory = Unit {0}
 
--- what is so after a fault of the store, and after want of memory
+-- what is so after a fault of the store, and after a refused allocation
 abbrev pub AtFault : Type 0 → PlayFault → Type 0
 AtFault P (fault.CycleLimit journal ends) = Unit {0}
 AtFault P fault.Store = P

@@ -6,7 +6,7 @@ use Rattle.af_rendering.specs.declared.staging.Stage.{Stage}
 use Rattle.af_playing.specs.PlayedRuns.{Plays, all_ended, is_full}
 use Rattle.af_rendering.specs.Stages.{IsNoted}
 
--- all parties were played on it to their end, or to that of the log
+-- all parties were played on a stage to their end, or to the end of the log
 pub record HasPlayed (script : ScriptData) (files : List (List Frame)) (s : Stage) : Type 0 where
   pub all : Plays script files s.rounds.rounds s.parties
   pub over : all_ended s.parties ≡ false → is_full s.parties ≡ true

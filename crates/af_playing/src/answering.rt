@@ -1,4 +1,4 @@
-//! What a play answers, once its parties were played to their end, or to that of the log.
+//! What a play answers, once its parties were played to their end, or to the end of the log.
 ghost use Rattle.std.specs.Prelude.{◌≡◌, ◌⊎◌, true, false, length, IfErr, IfOk, OnOk};
 ghost use Rattle.af_runs.specs.LegalRuns.{IsCutRun, IsLegalRun};
 ghost use Rattle.af_model.specs.Journals.{journal_of};
@@ -26,9 +26,9 @@ use std::mem::drop;
 pub enum PlayFault {
     /// The store failed, and its count of faults rose.
     Store,
-    /// The log has all of its entries, and some party has not ended. The journal is that of the rounds that were made.
+    /// The log has all of its entries, and some party has not ended. The journal is that of the rounds that were made, and the ends are those of the parties.
     CycleLimit { journal: Journal, ends: Ends },
-    /// Memory ran out.
+    /// Out of memory: an allocation was refused.
     Memory,
 }
 
@@ -57,7 +57,7 @@ impl From<Memory> for PlayFault {
     }
 }
 
-// What is handed back where all parties have ended. Its journal is legal by the law on plays, whatever the threads did.
+// What is handed back if all parties have ended. Its journal is legal by the law on plays, whatever the threads did.
 fn whole(stage: Stage, script: &Script, files: &[Pcm]) -> Played
     requires played { HasPlayed script.now files.now stage }
     requires ended { all_ended stage.parties ≡ true }
@@ -70,7 +70,7 @@ fn whole(stage: Stage, script: &Script, files: &[Pcm]) -> Played
     stage.finish()
 }
 
-// Judges the journal of a play that was cut off by itself, as anyone may: Memory says that there was none, that it isn't that of a cut run, or that it is longer than the judge counts. No play has come to the last two.
+// Judges by itself the journal of a play that was cut off, as anyone may. Memory says that an allocation was refused, that the journal isn't that of a cut run, or that it is longer than the judge counts. No play has come to the last two.
 fn judged(alloc: Global, script: &Script, files: &[Pcm], journal: &Journal) -> Result<(), Memory>
     requires tracks { journal.now.tracks ≡ length script.now.tracks }
     requires files { length files.now ≡ length script.now.tracks }
@@ -82,7 +82,7 @@ fn judged(alloc: Global, script: &Script, files: &[Pcm], journal: &Journal) -> R
     Err(Memory)
 }
 
-// What is handed back where the log is full first, once the journal was judged.
+// What is handed back if the log is full before all parties have ended, once the journal was judged.
 fn cut_off(stage: Stage, alloc: Global, script: &Script, files: &[Pcm]) -> Result<Played, PlayFault>
     requires played { HasPlayed script.now files.now stage }
     requires files { HaveFiles (record { tracks = script.now.tracks; files = files.now }) }
@@ -101,7 +101,7 @@ fn cut_off(stage: Stage, alloc: Global, script: &Script, files: &[Pcm]) -> Resul
     }
 }
 
-/// What a play answers of a stage that was played to its end, or to that of the log. Where all have ended it is Ok, and no memory is taken; what was cut off is judged before it is handed back, and there alone it may be Memory.
+/// What a play answers for a stage that was played to its end, or to the end of the log. If all parties have ended the answer is Ok, and no memory is taken. A play that was cut off is judged before it is handed back, with CycleLimit, and only for such a play the answer may be Memory.
 pub fn answer(
     stage: Stage,
     alloc: Global,

@@ -28,7 +28,7 @@ use std::alloc::Global;
 use std::mem::drop;
 use std::thread::Threads;
 
-// All rounds of a script's new parties, into a file that is empty.
+// Plays all rounds of a script's new parties, into a file that is empty.
 fn play_rounds<R: Threads + Sync, S: Store, G: Gate>(
     stage: &mut Stage,
     rt: &R,
@@ -142,11 +142,11 @@ fn play_with<R: Threads + Sync, S: Store, G: Gate>(
     }
 }
 
-/// Plays a script in rounds. In each every party that has not ended makes one turn, on a thread of its own where one can be made: each client, the normal mixer, and the fast mixer, which makes sixteen cycles, or fewer after one that isn't mixed. Then all parties meet. A party's turn begins at the gate, by its number: the clients' are those of their tracks, and the mixers' come behind. The sound goes to the file of the piece, round by round. All blocks, logs and mixers are made before the file is; the rounds are noted as they are played. It makes at most as many rounds as the script has cycles.
+/// Plays a script in rounds. In each round every party that has not ended makes one turn, on a thread of its own if one can be made: each client, the normal mixer, and the fast mixer, which makes sixteen cycles, or fewer after one that isn't mixed. Then all parties meet. A party's turn begins at the gate, by the party's number: a client has the number of its track, and the mixers' numbers come behind those. The sound goes to the file of the piece, round by round. All blocks, logs and mixers are made before the file is; the rounds are noted as they are played. There are at most as many rounds as the script has cycles.
 ///
-/// Whatever the threads did, what was played is a run of the script and its files, of rounds of all parties, whose journal is handed back (`HandsBackRun`). Ok says that all parties have ended (`done`), CycleLimit that the log is full and some party has not (`limit`); so after each round but the last some party goes on and the log has room. In both the journal tells its run (`run`): each client's calls and each state pushed stand in it once, in their order, each client has released as many frames as its calls put there, and no cycle uses a state older than one before it. The summary is that of the journal alone. The lists that the ends handed back keep are those of the run that the journal tells: of the clients' proxies, of the queue's mutator, of the report's reader, of the pipe's end, and of the proxies that the normal mixer holds, if no poke was made. Whatever clients stored in their words, each track on whose blocks nothing was poked is spared: no call of its client was answered Corrupt, and no look of the normal mixer at its blocks was Shut. Where the store tells it the file is the sound of the journal; after a fault no file has changed, or the file holds a front of the sound of some first rounds (`files`).
+/// Whatever the threads did, what was played is a run of the script and its files, of rounds of all parties, whose journal is handed back (`HandsBackRun`). Ok says that all parties have ended (`done`), CycleLimit that the log is full and some party has not (`limit`); so after each round but the last some party goes on and the log has room. With either answer the journal records its run (`run`): each client's calls and each state pushed stand in it once, in their order, each client has released as many frames as its calls put there, and no cycle uses a state older than one before it. The summary is that of the journal alone. The lists that the ends handed back keep are those of the run that the journal records: of the clients' proxies, of the queue's mutator, of the report's reader, of the pipe's end, and of the proxies that the normal mixer holds, if no poke was made. Whatever clients stored in their words, each track on whose blocks nothing was poked is spared: no call of its client was answered Corrupt, and no look of the normal mixer at its blocks was Shut. If the store shows its files, the file is the sound of the journal; after a fault no file has changed, or the file holds a front of the sound of some first rounds (`files`).
 ///
-/// By itself, whoever made it, the journal of Ok keeps the promises of a play that is done (`KeepsPromises`): it is that of a legal run of the script and its files, in which each frame that a client without a poke released was mixed once, in its place, was discarded by one flush that was noticed, or is still queued; nothing of such a track was found shut or corrupt; a track that is reported drained has reached the count of its last stop, at which its client had released so much; and what a client releases after it saw a START settled is discarded by a later flush alone. All that the normal mixer put into the pipe was taken from it and mixed. The journal after CycleLimit is that of a cut run, and CycleLimit never comes to a script whose tracks play through and whose cycles are enough by the rule (`enough`): whatever its threads do, its rounds can't come to the end of the log with a party still going (`in_time`), so what was played to its end is Ok. That the journal of Ok is legal is a law on plays, whatever the threads did: nothing judges it. That of CycleLimit is judged before it is handed back, so only of a script without enough cycles: there Memory may also stand for one that was judged not to be that of a cut run, or that is longer than the judge counts (131,072 turns of the normal mixer). No play has come to either.
+/// By itself, whoever made it, the journal of Ok keeps the promises of a play that is done (`KeepsPromises`): it is that of a legal run of the script and its files, in which each frame that a client without a poke released was mixed once, in its place, was discarded by one flush that was noticed, or is still queued; nothing of such a track was found shut or corrupt; a track that is reported drained has reached the count of its last stop, at which its client had released so much; and what a client releases after it saw a START settled is discarded by a later flush alone. All that the normal mixer put into the pipe was taken from it and mixed. The journal after CycleLimit is that of a cut run, and CycleLimit never comes to a script whose tracks play through and whose cycles are enough by the rule (`enough`): whatever its threads do, its rounds can't come to the end of the log with a party still going (`in_time`), so what was played to its end is Ok. That the journal of Ok is legal is a law on plays, whatever the threads did: nothing judges that journal. The journal of CycleLimit is judged before it is handed back, so only if the script hasn't enough cycles. After such a play Memory may also stand for a journal that was judged not to be that of a cut run, or that is longer than the judge counts (131,072 turns of the normal mixer). No play has come to either. In all other cases Memory says that an allocation was refused. Store says that the store failed, and comes exactly if its count of faults rose (`cause`).
 pub fn play<R: Threads + Sync, S: Store, G: Gate>(
     rt: &R,
     alloc: Global,
@@ -168,7 +168,7 @@ pub fn play<R: Threads + Sync, S: Store, G: Gate>(
     play_with(rt, alloc, piece, store, &mut logging, gate)
 }
 
-// Where all parties have ended, drains what is left of a log, and appends its text. Memory is its only refusal; `text` is then as before.
+// If all parties have ended, drains what is left of a log, and appends its text. Memory if an allocation was refused: then `text` is as before. No other refusal comes.
 fn tell(
     logging: &mut Logging,
     alloc: Global,
@@ -187,7 +187,7 @@ fn tell(
     logging.write(alloc, text)
 }
 
-// Hands on what was played, where the text of its log was told too.
+// Hands on what was played, if the text of its log was written too. Memory if that text was refused for lack of memory.
 fn hand_on(played: Result<Played, PlayFault>, told: Result<(), Memory>) -> Result<Played, PlayFault>
     ensures same { IfOk told (λ _. result ≡ played) }
     ensures memory { IfErr told (λ _. result ≡ Err MemoryFault) }
@@ -201,9 +201,9 @@ fn hand_on(played: Result<Played, PlayFault>, told: Result<(), Memory>) -> Resul
     }
 }
 
-/// Plays a script as `play` does, with a log of notes: the fast mixer's party notes each entry that it adds, without waiting, in a log with room for `room` notes, and a party more, whose number is behind that of the fast mixer, reads it in each round until it sees no note left. The text of the log is appended to `text` where all parties have ended; else `text` is as before.
+/// Plays a script as `play` does, with a log of notes, and refuses as `play` does. The fast mixer's party notes each entry that it adds, without waiting, in a log with room for `room` notes, 1 to 1024. A party more, whose number is behind that of the fast mixer, reads the log in each round until it sees no note left. If the answer is Ok, the text of the log is appended to `text`; else `text` is as before.
 ///
-/// Whatever the threads did, each entry of the journal was noted in its place, and accepted or refused. One was refused only where the notes accepted before it, in its round and in the round before, were at least as many as there is room for; so with room for 32 none was.
+/// Whatever the threads did, each entry of the journal was noted in its place, and accepted or refused. A note was refused only if the notes accepted before it, in its round and in the round before, were at least as many as there is room for; so with room for 32 none was refused.
 pub fn play_logged<R: Threads + Sync, S: Store, G: Gate>(
     rt: &R,
     alloc: Global,

@@ -34,7 +34,7 @@ use af_tally::Tally;
 use std::alloc::Global;
 use std::thread::Threads;
 
-// A copy of the calls of each client's last turn. Memory is its only refusal.
+// A copy of the calls of each client's last turn. Memory if an allocation was refused; no other refusal comes.
 fn calls_of_all(alloc: Global, clients: &[Party]) -> Result<Vec<Vec<ClientCall>>, Memory>
     ensures { IfOk result (λ v. map (λ c. c.items) v.items ≡ map (λ p. p.calls.items) clients.now) }
 {
@@ -62,7 +62,7 @@ pub fn have_ended(parties: &Parties) -> bool
     parties.normal.has_ended() && parties.fast.has_exited() && clients_ended(&parties.clients)
 }
 
-// Notes a round of all parties that is over, before which the normal mixer had ended or not, and the fast mixer's log had so many entries. Memory is its only refusal.
+// Notes a round of all parties that is over. The caller says whether the normal mixer had ended before the round, and how many entries the fast mixer's log had. Memory if an allocation was refused; no other refusal comes.
 fn note_all(
     parties: &Parties,
     alloc: Global,
@@ -84,7 +84,7 @@ fn note_all(
     rounds.push(calls, Some(entry), cycles)
 }
 
-// A round of all parties, and the bytes of what it mixed.
+// Plays a round of all parties, and sends out the bytes of what it mixed.
 fn send_round_of_all<R: Threads + Sync, S: Store, G: Gate>(
     parties: &mut Parties,
     rt: &R,
@@ -123,7 +123,7 @@ fn send_round_of_all<R: Threads + Sync, S: Store, G: Gate>(
     send_out(store, name, bytes.as_slice())
 }
 
-// A round of all parties that is noted. After want of memory its bytes may be in the file, but it isn't noted.
+// Plays a round of all parties, and notes it. If an allocation was refused, the bytes of the round may be in the file, but the round isn't noted.
 fn noted_round_of_all<R: Threads + Sync, S: Store, G: Gate>(
     parties: &mut Parties,
     rt: &R,
@@ -178,9 +178,9 @@ fn goes_on(parties: &Parties, cycles: u32) -> bool
     !have_ended(parties) && parties.fast.log().len() != cycles as usize
 }
 
-/// Plays rounds of all parties until all have ended, or the log has `cycles` entries, which are all of them. Each is noted, in the tally too, and the bytes of its mixed cycles are added to the file as one piece, where there are some.
+/// Plays rounds of all parties until all have ended, or the log has `cycles` entries, which are all that it may have. Each round is noted, in the tally too, and the bytes of its mixed cycles are added to the file as one piece, if there are some.
 ///
-/// What was played is a run of all parties with the rounds noted, which make a journal with the log; and where the file held the sound of the fast mixer's log before it does so again. After a fault of the store, or want of memory, some first rounds were played, and the file holds a front of their sound.
+/// What was played is a run of all parties with the rounds noted, which make a journal with the log. If the file held the sound of the fast mixer's log before, it does so again. After a fault of the store (Store), or if an allocation was refused (Memory), some first rounds were played, and the file holds a front of their sound.
 pub fn play_to_end<R: Threads + Sync, S: Store, G: Gate>(
     parties: &mut Parties,
     rt: &R,

@@ -1,4 +1,4 @@
--- An entry of the fast mixer spares a track where the proxies that the mixer holds for it are not shut after it.
+-- An entry of the fast mixer spares a track if the proxies that the mixer holds for it are not shut after the entry.
 use Rattle.std.proofs.Common.{◌≡◌, ◌≢◌, ⊎_elim, ℕ, zero, suc, ◌+◌, ◌<◌, ◌==◌, ◌&&◌, not, Bool, true, false, true≢false, if◌then◌else◌, List, [], ◌∷◌, ◌++◌, slice_get, replicate, Option, Some, None, refl, sym, ap, subst, ◌∙◌, eqb-true, arith}
 use Rattle.std.specs.Prelude.{slice_index_or}
 use Rattle.std.specs.List.{flat_map, range_with_len}
@@ -37,7 +37,7 @@ use Rattle.af_rendering.proofs.OpenLooks.{kept_more, open_cycle}
 -- ## The looks of an entry
 
 module _ (i : ℕ) (entry : CycleEntry) (x : FastState) where
-  -- a slot of another track, or that isn't of the mask, has none of the track
+  -- a slot of another track, or one that isn't of the mask, has no look at the track
   one_slot : (k : ℕ) → (carries x k ≡ true → (slot_of x k).track ≡ i → is_shut (entry_slot entry k).seen ≡ false) → none_shut i (slot_looks entry x k) ≡ true
   one_slot k fine = by_mask (carries x k) refl
     where
@@ -89,7 +89,7 @@ module _ (m m' : MixerState) (entry : CycleEntry) (adds : AddsCycle m m' entry) 
   none_current : m.observer.past.number ≡ 0 → m.observer.current ≡ None
   none_current none = sym (order.observer.told.current no_state) ∙ ap (state_of (polled_states no_state m.observer.past.events)) none
 
-  -- the state used is the observer's, and there is one where a slot is carried
+  -- the state that an entry uses is the observer's, and there is one if a slot is carried
   state_is : (x : FastState) → m.observer.current ≡ Some x → m.observer.past.state ≡ x
   state_is x current = ⊎_elim
       (λ (none : m.observer.past.number ≡ 0). absurd (none-some x (sym (none_current none) ∙ current)))
@@ -102,7 +102,7 @@ module _ (m m' : MixerState) (entry : CycleEntry) (adds : AddsCycle m m' entry) 
       (λ (some : m.observer.past.number ≢ 0). order.observer.told.state (omega (arith, some)))
       (cases_eq m.observer.past.number 0)
 
-  -- a proxy that was played is of its block as before
+  -- a proxy that was played is of the same block as before
   same_shape : (k : ℕ) (s t : ServerState) → k < slots → at m.observer.items k ≡ Some s → at m'.observer.items k ≡ Some t → t.pass.part.shape ≡ s.pass.part.shape
   same_shape k s t lt was is =
       let old : IsStreamOf names.blocks (slot_of m.observer.past.state k).track s = order.observer.fit names key k s lt was in
@@ -111,7 +111,7 @@ module _ (m m' : MixerState) (entry : CycleEntry) (adds : AddsCycle m m' entry) 
       ap (λ (b : Made). b.shape) (same_Some (server_made t.pass) (server_made s.pass) (sym here ∙ old.made))
 
   module _ (i : ℕ) (unshut : AreUnshut i m') where
-    -- a slot of the track, in a mix under the observer's state
+    -- the look of a slot of the track, in a mix under the observer's state
     module _ (mixed : is_mixed entry.cycle ≡ true) (x : FastState) (current : m.observer.current ≡ Some x) (state : m.observer.past.state ≡ x) (k : ℕ) (lt : k < slots) (on : carries x k ≡ true) (track : (slot_of x k).track ≡ i) where
       played : SlotPlayed m.frames (at m.observer.items k) (at m'.observer.items k) m'.log.frames (entry_slot entry k)
       played = adds.takes.tracks mixed x current k lt on
@@ -130,7 +130,7 @@ module _ (m m' : MixerState) (entry : CycleEntry) (adds : AddsCycle m m' entry) 
           subst (λ (z : Shape × List ServerEvent). (server_kept z.0 z.1).shut ≡ None) (λ j. (same j, list j)) none in
           open_cycle m.frames (listed s) slot played.plays.front played.plays.looks (sym (ap (λ (z : ServerKept). z.shut) (kept_more s.pass.part.shape s.pass.part.events _)) ∙ fine)
 
-    -- nor were they before the cycle
+    -- the proxies held for the track were not shut before the cycle either
     pub unshut_before : AreUnshut i m
     unshut_before k s lt on track was = by_mix (is_mixed entry.cycle) refl
       where
@@ -144,7 +144,7 @@ module _ (m m' : MixerState) (entry : CycleEntry) (adds : AddsCycle m m' entry) 
             unshut k s lt (ap (λ (o : Observes ServerState StreamNames). carries o.past.state k) same ∙ on) (ap (λ (o : Observes ServerState StreamNames). (slot_of o.past.state k).track) same ∙ track)
             (ap (λ (o : Observes ServerState StreamNames). at o.items k) same ∙ was)
 
-    -- the look of a slot
+    -- the look of a slot of the track is not Shut
     look_fine : (x : FastState) → m.observer.current ≡ Some x → m.observer.past.state ≡ x → (k : ℕ) → k < slots → carries x k ≡ true → (slot_of x k).track ≡ i → is_shut (entry_slot entry k).seen ≡ false
     look_fine x current state k lt on track = by_mix (is_mixed entry.cycle) refl
       where
@@ -152,7 +152,7 @@ module _ (m m' : MixerState) (entry : CycleEntry) (adds : AddsCycle m m' entry) 
         by_mix true mixed = (fine_slot mixed x current state k lt on track).1
         by_mix false dry = ap (λ (e : CycleEntry). is_shut (entry_slot e k).seen) (adds.legal.still dry) ∙ ap (λ (s : SlotEntry). is_shut s.seen) (absent_at slots k)
 
-    -- so the entry spares the track
+    -- an entry spares the track if the proxies held for it are not shut after the cycle
     pub entry_spares : none_shut i (entry_looks (record { entry = entry; state = m'.observer.current })) ≡ true
     entry_spares = ap (λ (o : Option FastState). none_shut i (looks_by entry o)) (ap (λ (o : Observes ServerState StreamNames). o.current) adds.takes.observer) ∙ by_state m.observer.current refl
       where

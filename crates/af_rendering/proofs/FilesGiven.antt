@@ -1,4 +1,4 @@
--- What is tested of the files of a script.
+-- The test of the files of a script.
 use Rattle.std.proofs.Common.{◌≡◌, ◌≢◌, ℕ, ◌+◌, ◌-◌, ◌<◌, ◌≤◌, List, [], ◌∷◌, ◌++◌, length, take, drop, get_or, refl, sym, ap, subst, ◌∙◌, ⊎_elim, arith}
 use Rattle.std.proofs.lemmas.Bool.{cases_eq}
 use Rattle.std.proofs.lemmas.List.{take_more, take_all, take-append-drop, get_or_default}
@@ -34,12 +34,12 @@ writes_front ops i =
     let parts = writes_both (take i ops) (drop i ops) in
     omega (arith, whole, parts)
 
--- so many of the frames were left before an op, and so many are behind it
+-- so many frames are left before an op, and after it as many less those that it writes
 pub writes_step : (d : Op) (ops : List Op) (i count left most : ℕ) → i < length ops → count ≡ frames_to_come (get_or ops i d ∷ []) → frames_to_come (take i ops) + left ≡ most → count ≤ left
     → frames_to_come (take (i + 1) ops) + (left - count) ≡ most
 writes_step d ops i count left most lt is so_far le = let more = writes_more d ops i lt in omega (arith, more, is, so_far, le)
 
--- an op asks for more than are left
+-- if an op asks for more frames than are left, all ops ask for more than the most
 pub writes_over : (d : Op) (ops : List Op) (i count left most : ℕ) → i < length ops → count ≡ frames_to_come (get_or ops i d ∷ []) → frames_to_come (take i ops) + left ≡ most → left < count
     → frames_to_come ops ≤ most → ⊥
 writes_over d ops i count left most lt is so_far over le =
@@ -47,7 +47,7 @@ writes_over d ops i count left most lt is so_far over le =
     let all = writes_front ops (i + 1) in
     omega (arith, more, all, is, so_far, over, le)
 
--- none does
+-- if no op is left, all ops ask for no more than the most
 pub writes_end : (ops : List Op) (i left most : ℕ) → length ops ≤ i → frames_to_come (take i ops) + left ≡ most → frames_to_come ops ≤ most
 writes_end ops i left most le so_far = let all = ap frames_to_come (take_all i ops le) in omega (arith, all, so_far)
 
@@ -68,7 +68,7 @@ module _ (g : Given) (i : ℕ) (t : TrackSpec) (ops : List Op) (pcm file : List 
   pub served_here : IsFileFor (ops_at g i) (file_at g i) → IsFileFor ops file
   served_here serves = subst (λ (x : List Op × List Frame). IsFileFor x.0 x.1) (λ k. (sym ops_here k, sym file_here k)) serves
 
--- one more track has its file
+-- if the first tracks have their files and one more track has its own, all of these have theirs
 pub files_step : (g : Given) (i : ℕ) → ((k : ℕ) → k < i → IsFileFor (ops_at g k) (file_at g k)) → IsFileFor (ops_at g i) (file_at g i) → (k : ℕ) → k < i + 1 → IsFileFor (ops_at g k) (file_at g k)
 files_step g i below here k lt = ⊎_elim
     (λ (e : k ≡ i). subst (λ (n : ℕ). IsFileFor (ops_at g n) (file_at g n)) (sym e) here)

@@ -1,4 +1,4 @@
--- A session that was made new is ready for its first round, and what its rounds come to.
+-- A session that was made new is ready for its first round. What its rounds come to.
 use Rattle.std.proofs.Common.{◌≡◌, ℕ, ◌<◌, ◌≤◌, ◌++◌, List, [], length, slice_get, Some, refl, sym, ap, subst, ◌∙◌, arith}
 use Rattle.std.proofs.lemmas.Option.{same_Some, slice_get_within}
 use Rattle.af_base.specs.declared.frame.Frame.{Frame}
@@ -60,15 +60,15 @@ module _ (script : ScriptData) (shared : SharedState) (s : SessionState) (new : 
   pub frames_first : s.fast.frames ≡ script.frames
   frames_first = ap (λ (m : MixerState). m.frames) new.fast
 
-  -- the log is empty
+  -- the log of a new session is empty
   pub empty_first : (s.fast.log.entries ≡ []) × (s.fast.log.frames ≡ [])
   empty_first = (ap (λ (m : MixerState). m.log.entries) new.fast, ap (λ (m : MixerState). m.log.frames) new.fast)
 
-  -- nothing was heard yet
+  -- nothing was heard yet of a new session
   pub silent_first : (len : ℕ) → pcm_of len s.fast.log ≡ []
   silent_first len = ap (λ (m : MixerState). pcm_of len m.log) new.fast
 
-  -- turns that were played since are a run of the script
+  -- turns that were played since a session was made are a run of its script
   pub rendered : (turns : List TurnSpec) (rounds : List RoundNoted) (t : SessionState) → Runs given turns s rounds t → Renders script files turns rounds t
   rendered turns rounds t runs =
       let len = s.fast.frames in
@@ -82,6 +82,6 @@ module _ (script : ScriptData) (shared : SharedState) (s : SessionState) (new : 
         sound = sym heard ∙ ap (λ (n : ℕ). pcm_of n t.fast.log) frames_first;
       }
 
-  -- no turn was
+  -- a new session has rendered no turns
   pub rendered_none : Rendered script files [] s
   rendered_none = ([], record { shared = shared; start = s; new = new; bytes = []; run = (refl, refl, refl); sound = sym (silent_first script.frames) })

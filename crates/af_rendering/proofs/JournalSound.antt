@@ -13,7 +13,7 @@ use Rattle.af_tally.specs.Sound.{pcm_of}
 use Rattle.af_runs.specs.Pcm.{entries_pcm, journal_pcm}
 use Rattle.af_rendering.proofs.RoundForms.{AreNoted, IsNoted}
 
--- the entries of a log stay
+-- the entries of a log are those that the journal of the log has
 pub same_entries : (frames : List Frame) (entries : List CycleEntry) → map (λ (x : EntrySeen). x.entry) (entries_seen frames entries) ≡ entries
 same_entries frames [] = refl
 same_entries frames (e ∷ es) = ap (λ (l : List CycleEntry). e ∷ l) (same_entries (drop (taken_by e) frames) es)
@@ -22,7 +22,7 @@ pub same_length : (frames : List Frame) (entries : List CycleEntry) → length (
 same_length frames [] = refl
 same_length frames (e ∷ es) = ap suc (same_length (drop (taken_by e) frames) es)
 
--- all are dealt out where the rounds have as many
+-- all entries are dealt out if the rounds have as many
 all_dealt : (entries : List EntrySeen) (rounds : List RoundNoted) → cycles_of rounds ≡ length entries → entries_of (rounds_seen entries rounds) ≡ entries
 all_dealt [] [] same = refl
 all_dealt (e ∷ es) [] same = absurd (omega arith)

@@ -1,4 +1,4 @@
--- Which tracks the slots of a state lead to, through a turn of the normal mixer: each to one whose proxy isn't home.
+-- Which tracks the slots of states lead to, through a turn of the normal mixer: each leads to a track whose proxy isn't home.
 use Rattle.std.proofs.Common.{◌≡◌, ◌≢◌, ℕ, zero, suc, ◌<◌, ◌≤◌, ◌&&◌, ◌⊎◌, not, Bool, true, false, true≢false, if◌then◌else◌, List, [], ◌∷◌, length, map, refl, sym, ap, subst, ◌∙◌, ⊎_elim, arith}
 use Rattle.std.specs.Prelude.{All, slice_set}
 use Rattle.std.proofs.lemmas.Bool.{cases_eq}
@@ -38,7 +38,7 @@ no h = absurd (true≢false (sym h))
 abbrev led : FastState → ℕ → ℕ
 led x k = (slot_of x k).track
 
--- ## Where proxies and slots of those away stay
+-- ## Where the proxies and the slots of tracks that are away stay
 
 module _ (tracks now : List TrackKept) (put : (j : ℕ) → StaysPut (track_at tracks j) (track_at now j)) where
   away_put : (x : FastState) → LeadAway x tracks → LeadAway x now
@@ -76,7 +76,7 @@ lent_stays last s lent = ap (λ (b : Bool). b && not (carries last (slot_number 
     not_returning Returning e = no e
 
 module _ (last : FastState) (tracks : List TrackKept) where
-  -- a slot that the last state carries leads away still
+  -- a slot that the last state carries still leads away
   away_acked : LeadAway last tracks → LeadAway last (map (welcomed last) tracks)
   away_acked h k lt on =
       let old = h k lt on in
@@ -112,7 +112,7 @@ module _ (m : NormalKept) (sound : IsSound m.tracks m.draft) (i : ℕ) where
   abbrev s : TrackKept
   s = track_at m.tracks i
 
-  -- a track that is away and stays so with its slot
+  -- states lead away if a track is changed that is away, stays away and keeps its slot
   moved_away : (t : TrackKept) → is_home t.holder ≡ false → t.slot ≡ s.slot → (x : FastState) → LeadAway x m.tracks → LeadAway x (slice_set m.tracks i t)
   moved_away t away slot x h k lt on =
       let old = h k lt on in
@@ -124,7 +124,7 @@ module _ (m : NormalKept) (sound : IsSound m.tracks m.draft) (i : ℕ) where
       (λ (e : track_at (slice_set m.tracks i t) (led x k) ≡ track_at m.tracks (led x k)). (ap (λ (u : TrackKept). is_home u.holder) e ∙ old.0, ap slot_number e ∙ old.1))
       (at_set m.tracks i t (led x k))
 
-  -- one that is let go
+  -- a track that is let go
   module _ (leaves : must_leave (track_at m.tracks i) ≡ true) where
     lent_let_go : LeadLent m.draft m.tracks → LeadLent (detached (slot_number s) m.draft) (slice_set m.tracks i (record s { holder = Returning }))
     lent_let_go h k lt on =
@@ -146,7 +146,7 @@ module _ (m : NormalKept) (sound : IsSound m.tracks m.draft) (i : ℕ) where
       state = moved_away (record s { holder = Returning }) refl refl x h.state;
     }
 
-  -- one that is lent
+  -- a track that is lent
   module _ (c : Setup) (own : Heard) (enters : must_enter (track_at m.tracks i) ≡ true) where
     abbrev more : FastState
     more = entered c i m

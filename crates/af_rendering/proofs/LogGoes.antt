@@ -15,13 +15,13 @@ use Rattle.af_session.specs.FastTurns.{IsFastTurn, WritesCycle}
 use Rattle.af_session.specs.Together.{SessionState}
 use Rattle.af_session.proofs.FastAdds.{met_keeps, polled_keeps}
 
--- b is a with more entries and frames, each entry of its form
+-- the log b is the log a with more entries and frames, each entry of its form
 pub record Goes (a b : Logged) : Type 0 where
   pub frames : (more : List Frame) × (b.frames ≡ a.frames ++ more)
   pub longer : length a.entries ≤ length b.entries
   pub form : All IsFrame b.frames → AreWhole 0 a.frames a.entries → AreWhole 0 b.frames b.entries
 
--- what holds of all holds of the first ones
+-- what holds of all items of a list holds of the first ones
 pub all_front : {X : Type 0} (P : X → Type 0) (xs ys : List X) → All P (xs ++ ys) → All P xs
 all_front P [] ys all = All-nil P
 all_front P (x ∷ xs) ys all = All-cons P x xs (All-head P x (xs ++ ys) all) (all_front P xs ys (All-tail P x (xs ++ ys) all))
@@ -36,7 +36,7 @@ goes_then a b c x y = record {
   form = (λ samples whole. y.form samples (x.form (all_front IsFrame b.frames y.frames.0 (subst (All IsFrame) y.frames.1 samples)) whole));
 }
 
--- a call of mix
+-- the log goes on in a call of mix
 pub mix_goes : (m m' : MixerState) (out out' : List Frame) (answer : Cycle) → MixesOnce m out answer m' out' → Goes m.log m'.log
 mix_goes m m' out out' answer x = by_exit m.exited refl
   where
@@ -56,7 +56,7 @@ mix_goes m m' out out' answer x = by_exit m.exited refl
     by_exit true is = goes_not m.log m'.log (ap (λ (y : MixerState). y.log) (x.exited is).1)
     by_exit false is = by_length (length m.log.entries == m.cycles) is refl
 
--- a cycle
+-- the log goes on in a cycle
 cycle_goes : (s t : SessionState) (answer : Cycle) (bytes : List ℕ) → WritesCycle s answer bytes t → Goes s.fast.log t.fast.log
 cycle_goes s t answer bytes w =
     let met = met_keeps (record s { fast = w.cycle.polled }) w.cycle.met w.cycle.meets in
@@ -67,7 +67,7 @@ goes_by : (s m t : SessionState) (back : List ℕ) (mixed : Bool) → Goes s.fas
 goes_by s m t back true first goes stops = goes_then s.fast.log m.fast.log t.fast.log first (goes refl)
 goes_by s m t back false first goes stops = subst (λ (x : SessionState). Goes s.fast.log x.fast.log) (sym (stops refl).1) first
 
--- the cycles of a turn
+-- the log goes on in the cycles of a turn
 pub fast_goes : (count : ℕ) (s t : SessionState) (bytes : List ℕ) → IsFastTurn count s bytes t → Goes s.fast.log t.fast.log
 fast_goes zero s t bytes turn = goes_not s.fast.log t.fast.log (ap (λ (x : SessionState). x.fast.log) turn.1)
 fast_goes (suc left) s t bytes turn =

@@ -24,7 +24,7 @@ use Rattle.af_rendering.proofs.OpenLooks.{kept_more}
 
 -- ## Clients
 
--- d has learnt something perhaps, and its list tells what that of c does
+-- the client d is c, which has perhaps learnt something: its list says of the words that shut it, and of pokes, what the list of c says
 pub record IsAsBefore (c d : ClientState) : Type 0 where
   pub kept : (client_kept_of d.pass.part).shut ≡ (client_kept_of c.pass.part).shut
   pub lawful : is_lawful c.pass.part.events ≡ true → is_lawful d.pass.part.events ≡ true
@@ -55,7 +55,7 @@ by_spot : (block : Made) (o : Option ServerState) (a b : Spot) (c d : ClientStat
 by_spot block None a b c d m = by_away block a.held m.hand m.hand' c d b.held m.met
 by_spot block (Some s) a b c d m = by_home block s a.hand c d b.stream b.hand m.0
 
--- a party whose lists tell what those of p do
+-- a party whose lists say what those of p say
 pub record IsPartyAsBefore (p q : PartyState) : Type 0 where
   pub stream : IsAsBefore p.stream q.stream
   pub command : IsAsBefore p.command q.command
@@ -74,7 +74,7 @@ clients_met a b met i q is = ⊎_elim
     (λ (none : (length a.clients ≤ i) × (slice_get a.clients i ≡ None)). absurd (none-some q (sym ((met.tracks.rest i none.0).1 ∙ none.1) ∙ is)))
     (slice_get_cases a.clients i).1
 
--- once the normal mixer has ended the clients end, and keep their proxies
+-- once the normal mixer has ended, each client ends and keeps its proxies
 ended_keeps : (o : Option PartyState) (q : PartyState) → option_map end_party o ≡ Some q → (p : PartyState) × (o ≡ Some p) × (q.stream ≡ p.stream) × (q.command ≡ p.command)
 ended_keeps None q is = absurd (none-some q is)
 ended_keeps (Some p) q is = let same : end_party p ≡ q = same_Some (end_party p) q is in (p, refl, ap (λ (x : PartyState). x.stream) (sym same), ap (λ (x : PartyState). x.command) (sym same))
@@ -88,12 +88,12 @@ clients_ended m i q is = by_end m.normal.ended is
 
 -- ## Servers
 
--- a proxy that learnt something tells of its shut what it told before
+-- a proxy that learnt something says what shut it as it did before
 module _ (s : ServerState) (count : ℕ) where
   pub knows_kept : (server_kept_of (server_did s.pass.part (server.Learn count))).shut ≡ (server_kept_of s.pass.part).shut
   knows_kept = ap (λ (k : ServerKept). k.shut) (kept_more s.pass.part.shape s.pass.part.events (server.Learn count ∷ []))
 
--- where the client has not poked, a proxy that met it and is in order had found nothing that didn't fit
+-- if the client has not poked, a proxy that met it and is in order had found nothing that didn't fit
 pub open_met : (block : Made) (s t : ServerState) (c d : ClientState) → Meets block s t c d → IsServerInOrder t → is_lawful c.pass.part.events ≡ true → (server_kept_of s.pass.part).shut ≡ None
 open_met block s t c d m order lawful =
     sym (knows_kept s (length c.pass.part.events)) ∙ ap (λ (x : ServerState). (server_kept_of x.pass.part).shut) (sym m.server) ∙ sym order.shut_is ∙ m.unshut lawful
@@ -102,7 +102,7 @@ pub open_met_all : (block : Made) (s t : ServerState) (c d : ClientState) (h g :
 open_met_all block s t c d h g m order lawful =
     sym (knows_kept s (length c.pass.part.events)) ∙ ap (λ (x : ServerState). (server_kept_of x.pass.part).shut) (sym m.server) ∙ sym order.shut_is ∙ m.unshut lawful
 
--- the stream proxy at home
+-- the stream proxy at home had found nothing that didn't fit
 module _ (block : Made) (s : ServerState) (c d : ClientState) (o : Option ServerState) (g : Option HandSide) (order : (t : ServerState) → o ≡ Some t → IsServerInOrder t) (lawful : is_lawful c.pass.part.events ≡ true) where
   pub open_home : (h : Option HandSide) → MeetsStream block (Some s) h c o g d → (server_kept_of s.pass.part).shut ≡ None
   open_home None m = open_met block s m.0 c d m.3 (order m.0 m.1) lawful

@@ -1,4 +1,4 @@
--- What a turn of the normal mixer leaves of its end of the queue, and where the slots of states lead then.
+-- What a turn of the normal mixer leaves of its end of the queue, and where the slots of states lead after the turn.
 use Rattle.std.proofs.Common.{◌≡◌, ◌≢◌, ℕ, zero, suc, ◌-◌, ◌<◌, ◌≤◌, ◌==◌, ◌&&◌, ◌||◌, inl, inr, ⊎_elim, Bool, true, false, true≢false, if◌then◌else◌, List, [], ◌∷◌, ◌++◌, length, fold, Option, refl, sym, ap, subst, ◌∙◌, append_assoc, arith}
 use Rattle.std.proofs.lemmas.Bool.{cases_eq}
 use Rattle.std.proofs.lemmas.Grind.{fold-append}
@@ -73,9 +73,9 @@ module _ (c : Setup) (k : Learnt) where
   all_push m e = let acked = acked_push e.ack m in let edits = mutated_push e.room (after_tracks c k e (after_ack e.ack m)) in
       record { pushed = edits.pushed ∙ acked.pushed; last = edits.last ∙ acked.last }
 
--- ## What the list tells
+-- ## What the list says
 
--- a point tells what is kept
+-- a point of the queue's mutator says what is kept
 record PointTells (p : MutatorPoint ServerState) (m : NormalKept) : Type 0 where
   pushed : p.pushed ≡ m.pushed
   last : 0 < m.pushed → p.last ≡ m.last
@@ -150,7 +150,7 @@ module _ (links : Links) (x y : NormalState) (order : IsInOrder links x) (o : Ou
         by_end true ended = ended_tells ended
         by_end false runs = going_tells runs
 
-  -- what the mutator keeps is what its list tells
+  -- what the mutator keeps is what its list says
   pub turn_tells : Tells x.mutator.past → Tells y.mutator.past
   turn_tells t = record {
     pushed = (λ first. ap (λ (p : MutatorPoint ServerState). p.pushed) (then_list first) ∙ (all_tells (mutated first x.mutator.past.events) (point first)).pushed ∙ sym (ap (λ (n : NormalKept). n.pushed) legal.leaves));
@@ -167,7 +167,7 @@ module _ (links : Links) (x y : NormalState) (order : IsInOrder links x) (o : Ou
 
   -- ## With an observer that has polled up to some number
   module _ (state : FastState) (number : ℕ) (few : number ≤ x.mutator.past.number) (same : 0 < x.mutator.past.number → number ≡ x.mutator.past.number → state ≡ x.mutator.past.last) where
-    -- where it polled as many states as were pushed it has the last of them
+    -- if the observer has polled as many states as were pushed, it has the last of them
     pub turn_same : 0 < y.mutator.past.number → number ≡ y.mutator.past.number → state ≡ y.mutator.past.last
     turn_same some all = by_end e.ended refl
       where
@@ -192,7 +192,7 @@ module _ (links : Links) (x y : NormalState) (order : IsInOrder links x) (o : Ou
             let n : y.mutator.past.number ≡ (after_push e.push edits).pushed = pushed ∙ ap (λ (k : NormalKept). k.pushed) kept in
             by_push e.push (sym (all ∙ n)) (subst (λ (k : ℕ). 0 < k) (sym all) some) ∙ sym (last ∙ ap (λ (k : NormalKept). k.last) kept)
 
-    -- where the turn saw the last state acknowledged, the observer has it, or none
+    -- if the turn saw the last state acknowledged, the observer has that state, or none
     module _ (none : number ≡ 0 → CarriesNone state) (told : ℕ) (saw : SawUpTo number (y.mutator.past.events ++ mutator.Learn told ∷ [])) where
       saw_last : e.ended ≡ false → e.ack ≡ true → IsLast state m
       saw_last runs ack =
@@ -208,7 +208,7 @@ module _ (links : Links) (x y : NormalState) (order : IsInOrder links x) (o : Ou
           (λ (some : number ≢ 0). inl (same (omega (arith, some, all)) all))
           (cases_eq number 0)
 
-      -- so the slots lead away still
+      -- the slots still lead away after the turn
       pub turned_leads : Leads state m → Leads state (kept_of y)
       turned_leads leads = subst (Leads state) (sym legal.leaves)
           (turn_leads c order.tied.sizes.scales (learnt o) state m e (let l = order.tied.sizes.settings in omega (arith, l)) order.tied.sound saw_last leads)

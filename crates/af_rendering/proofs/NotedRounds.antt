@@ -1,4 +1,4 @@
--- A round that is noted: what noting it needs, and what a want of memory leaves.
+-- A round that is noted: what its noting needs, and what is left if memory runs out.
 use Rattle.std.proofs.Common.{◌≡◌, ℕ, ◌+◌, ◌<◌, ◌≤◌, ◌^◌, List, length, Some, Result, Ok, Err, IsErrAnd, IsErrOf, sym, subst, ◌∙◌, inr, arith}
 use Rattle.std.proofs.lemmas.List.{take_all}
 use Rattle.af_io.specs.Causes.{HasCause}
@@ -15,11 +15,11 @@ use Rattle.af_rendering.proofs.RoundForms.{round_notes}
 use Rattle.af_rendering.proofs.RoundTold.{round_is_told}
 
 module _ (links : Links) (g : Given) (n m : ℕ) (s t : SessionState) (ready : IsReady links g n s) (next : IsReady links g m t) where
-  -- as many clients as before
+  -- there are as many clients as before the round
   pub clients_stay : length t.clients ≡ length s.clients
   clients_stay = sym next.given.0 ∙ ready.given.0
 
-  -- so the turn is one of them
+  -- a turn of the clients before the round is a turn of those after it
   pub turn_stays : (turn : TurnSpec) → IsTurn (length s.clients) turn → IsTurn (length t.clients) turn
   turn_stays turn is = subst (λ (k : ℕ). IsTurn k turn) (sym clients_stay) is
 
@@ -39,9 +39,9 @@ module _ (links : Links) (g : Given) (n m : ℕ) (s t : SessionState) (ready : I
     pub round_noted : IsRound g turn s (round_told turn s t) bytes t
     round_noted = subst (λ (x : RoundNoted). IsRound g turn s x bytes t) (round_is_told g turn s r bytes t round clients_stay) round
 
--- ## Want of memory
+-- ## Memory runs out
 
--- all that went out is a front of itself
+-- if all that is to go out is in a file, the file holds a front of it
 pub left_whole : (base new : Files) (name whole : List ℕ) → SetsFile base name (Some whole) new → LeavesFront base name whole new
 left_whole base new name whole set = inr (length whole, subst (λ (xs : List ℕ). SetsFile base name (Some xs) new) (sym (take_all (length whole) whole (omega arith))) set)
 
@@ -67,6 +67,6 @@ pub cause_on : (before mid now : ℕ) (e : StoreError) (r : Result (Unit {0}) St
 cause_on before mid now e (Ok x) same is cause = absurd is
 cause_on before mid now e (Err f) same is cause = subst (λ (y : ℕ × StoreError). HasCause {T = Unit {0}} y.0 now (Err y.1)) (λ i. (same i, sym is i)) cause
 
--- it refused none
+-- the store refused none of the rounds
 pub cause_never : (before now : ℕ) (x : Unit {0}) → now ≡ before → HasCause {T = Unit {0}} before now (Ok x)
 cause_never before now x same = record { later = omega (arith, same); failed = (λ h. absurd (no_fault x h)); only = (λ lt. absurd (omega (arith, same, lt))) }

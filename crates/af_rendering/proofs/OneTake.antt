@@ -1,4 +1,4 @@
--- Where the takes of a turn are those of the tracks that are due, a track has one take at most.
+-- If the takes of a turn are those of the tracks that are due, a track has one take at most.
 use Rattle.std.proofs.Common.{◌≡◌, ◌≢◌, ℕ, zero, suc, ◌+◌, ◌<◌, ◌≤◌, ◌==◌, Bool, true, false, if◌then◌else◌, filter, List, [], ◌∷◌, length, map, refl, ap, subst, ◌∙◌, ⊎_elim, arith, eqb-true, ne_eqb}
 use Rattle.std.specs.List.{range_with_len}
 use Rattle.std.proofs.lemmas.Bool.{cases_eq}
@@ -13,12 +13,12 @@ abbrev pub times : ℕ → List ℕ → ℕ
 times i [] = 0
 times i (j ∷ js) = once (j == i) + times i js
 
--- once for each place where it is there
+-- a number counts once at most in a place
 one_more : (b : Bool) → once b ≤ 1
 one_more true = omega arith
 one_more false = omega arith
 
--- among the numbers from a on one below a doesn't stand, and none stands twice
+-- among the numbers from a on, a number below a doesn't stand, and no number stands twice
 times_below : (i a n : ℕ) → i < a → times i (range_with_len a n) ≡ 0
 times_below i a zero lt = refl
 times_below i a (suc n) lt =
@@ -38,7 +38,7 @@ times_range i a (suc n) = ⊎_elim
     omega (arith, none, rest))
     (cases_eq a i)
 
--- a choice of them has no more
+-- a choice of the numbers of a list has a number no more often than the list
 fewer : (i j : ℕ) (chosen all : List ℕ) (b : Bool) → times i chosen ≤ times i all → times i (if b then j ∷ chosen else chosen) ≤ once (j == i) + times i all
 fewer i j chosen all true le = omega (arith, le)
 fewer i j chosen all false le = omega (arith, le)
@@ -70,7 +70,7 @@ times_passes : (p : ℕ → Bool) (i : ℕ) (js : List ℕ) → 1 ≤ times i (f
 times_passes p i [] some = absurd (omega (arith, some))
 times_passes p i (j ∷ js) some = by_choice p i j (filter p js) (times_passes p i js) (p j) refl some
 
--- the takes of those that are due, where a buffer is
+-- the takes are those of the tracks that are due, if there is a buffer
 module _ (p : ℕ → Bool) (n i : ℕ) (takes : List TakeSeen) where
   due_times : (b : Bool) → times i (if b then filter p (range_with_len 0 n) else []) ≤ 1
   due_times true = let few = times_filter p i (range_with_len 0 n) in let one = times_range i 0 n in omega (arith, few, one)
@@ -80,7 +80,7 @@ module _ (p : ℕ → Bool) (n i : ℕ) (takes : List TakeSeen) where
   due_passes true some = times_passes p i (range_with_len 0 n) some
   due_passes false some = absurd (omega (arith, some))
 
-  -- so a track was taken from once at most, and only where it is due
+  -- a track was taken from once at most, and only if it is due
   module _ (b : Bool) (due : map (λ (t : TakeSeen). t.track) takes ≡ (if b then filter p (range_with_len 0 n) else [])) where
     many : length (takes_from takes i) ≡ times i (if b then filter p (range_with_len 0 n) else [])
     many = takes_count i takes ∙ ap (times i) due

@@ -14,7 +14,7 @@ use Rattle.af_runs.specs.declared.want.Want.{Want}
 use Rattle.af_audit.specs.Spared.{is_corrupt, none_corrupt}
 use Rattle.af_tally.specs.Summaries.{has_no_poke, is_poke}
 
--- what a side's list tells of its client
+-- what a side's list says of its client
 abbrev pub kept_of : Side → ClientKept
 kept_of b = client_kept b.shape.frames b.shape.base b.events
 
@@ -29,7 +29,7 @@ AreTame t = (is_lawful t.stream.events ≡ true) × (is_lawful t.commands.events
 -- ## One call
 
 module _ (frames : ℕ) (k : ClientKept) where
-  -- what the list tells after a call
+  -- what the list says after a call
   abbrev then_kept : Option (ℕ × ℕ) → ClientCall → ClientKept
   then_kept o answer = fold (client_keeps frames) k (client_call_events (is_some o) answer)
 
@@ -45,7 +45,7 @@ module _ (frames cells base : ℕ) (es : List ClientEvent) (asked : ℕ) where
   abbrev before : ClientKept
   before = client_kept frames base es
 
-  -- where the proxy isn't shut after a call it wasn't before it, and the call wasn't Corrupt
+  -- if the proxy isn't shut after a call, it wasn't before the call, and the call wasn't Corrupt
   open_call : (answer : ClientCall) → ClientAnswers frames cells base es asked answer → (then_kept frames before before.shut answer).shut ≡ None → (before.shut ≡ None) × (is_corrupt answer ≡ false)
   open_call (call.Put front count) a fine = (a.0.0, refl)
   open_call (call.Full front) a fine = (a.0, refl)
@@ -61,14 +61,14 @@ module _ (frames cells base : ℕ) (es : List ClientEvent) (asked : ℕ) where
   open_call (call.Status word) a fine = (fine, refl)
   open_call (call.Poke command word value) a fine = (fine, refl)
 
--- the same of a side
+-- if a side isn't shut after a call, it wasn't before the call, and the call wasn't Corrupt
 open_side : (b : Side) (asked : ℕ) (answer : ClientCall) (words : List ℕ) → AnswersOn b asked answer → (kept_of (called answer words b)).shut ≡ None → ((kept_of b).shut ≡ None) × (is_corrupt answer ≡ false)
 open_side b asked answer words a fine =
     let k : ClientKept = kept_of b in
     open_call b.shape.frames b.shape.cells b.shape.base b.events asked answer a
     (sym (ap (λ (x : ClientKept). x.shut) (kept-more b.shape.frames b.shape.base b.events (client_call_events (is_some k.shut) answer))) ∙ fine)
 
--- and of a track
+-- if neither side of a track is shut after a call, neither was before the call, and the call wasn't Corrupt
 module _ (t : Track) (wanted : Want) (answer : ClientCall) where
   by_side : (b : Bool) → AnswersOn (if b then t.commands else t.stream) (asked_by wanted) answer
       → AreOpen (if b then record t { commands = called answer (released_by t answer) t.commands } else record t { stream = called answer (released_by t answer) t.stream }) → AreOpen t × (is_corrupt answer ≡ false)
@@ -80,7 +80,7 @@ module _ (t : Track) (wanted : Want) (answer : ClientCall) where
 
 -- ## A turn
 
--- where neither proxy is shut after some calls none of them was Corrupt
+-- if neither proxy is shut after some calls, none of the calls was Corrupt
 open_calls : (left : ℕ) (t : Track) (calls : List ClientCall) → AreCalls left t calls → AreOpen (fold after_call t calls) → AreOpen t × (none_corrupt calls ≡ true)
 open_calls left t [] are fine = (fine, refl)
 open_calls left t (answer ∷ calls) are fine =

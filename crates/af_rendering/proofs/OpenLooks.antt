@@ -1,4 +1,4 @@
--- A server that is not shut in the end found no words that don't fit: no look of it was Shut.
+-- A server that is not shut in the end found no words that don't fit: none of its looks was Shut.
 use Rattle.std.proofs.Common.{◌≡◌, ℕ, ◌-◌, ◌==◌, not, nat_lt, Bool, true, false, if◌then◌else◌, is_some, fold, min, MatchOption, List, [], ◌∷◌, ◌++◌, Option, Some, None, refl, sym, ap, subst, ◌∙◌, append-nil, append_assoc}
 use Rattle.std.specs.List.{list_all}
 use Rattle.std.proofs.lemmas.Grind.{fold-append}
@@ -17,7 +17,7 @@ use Rattle.af_model.specs.Room.{ahead, outside}
 use Rattle.af_model.specs.ServerCalls.{ServerKept, is_noticed, look_at, look_events, server_begins, server_keeps, server_kept}
 use Rattle.af_model.specs.declared.shape.Shape.{Shape}
 
--- what a list tells, after further events
+-- what a list says, after further events
 pub kept_more : (k : Shape) (es more : List ServerEvent) → server_kept k (es ++ more) ≡ fold (server_keeps k) (server_kept k es) more
 kept_more k es more = fold-append (server_keeps k) (server_begins k) es more
 
@@ -31,7 +31,7 @@ module _ (shape : Shape) where
   shut_append : (k : ServerKept) (es more : List ServerEvent) → shut_after k (es ++ more) ≡ shut_after (fold (server_keeps shape) k es) more
   shut_append k es more = ap (λ (x : ServerKept). x.shut) (fold-append (server_keeps shape) k es more)
 
-  -- what a look leaves: nothing shuts it where it noticed a flush, and else a front outside the room does
+  -- what a look leaves: nothing shuts the server if it noticed a flush, else a front outside the room does
   shut_by : (k : ServerKept) (answer : Seen) (flush rear front : ℕ) → shut_after k (look_events answer flush rear front) ≡ (if is_noticed shape (not (flush == k.flush)) rear front then None else outside shape.frames front rear)
   shut_by k seen.Absent flush rear front = refl
   shut_by k (seen.Flushed dropped) flush rear front = refl
@@ -54,7 +54,7 @@ module _ (shape : Shape) where
   stay_shut true k = refl
   stay_shut false k = refl
 
-  -- what follows a look looks at none
+  -- the events that follow a look are no looks at a front
   stay_after : (asked : ℕ) (was : Bool) (answer : Seen) → Stay (after_look asked was answer)
   stay_after asked was seen.Absent k = refl
   stay_after asked was (seen.Flushed dropped) k = refl
@@ -62,7 +62,7 @@ module _ (shape : Shape) where
   stay_after asked was seen.Empty k = stay_tally asked k
   stay_after asked was (seen.Frames count) k = stay_tally (asked - count) (fold (server_keeps shape) k (server.Take count ∷ []))
 
-  -- where a look shut nobody, it shows no words that don't fit
+  -- the words that a look shuts with. If a look shut nobody, it shows no words that don't fit
   abbrev shut_if : (noticed outside_is : Bool) (front rear : ℕ) → Option (ℕ × ℕ)
   shut_if noticed outside_is front rear = if noticed then None else (if outside_is then Some (front, rear) else None)
 
@@ -81,7 +81,7 @@ module _ (asked : ℕ) (s : Listed) (slot : SlotEntry) (front : ℕ) (looks : Lo
   abbrev shown_now : Seen
   shown_now = look_at s.shape (kept s).flush asked slot.flush slot.rear front
 
-  -- the events of a look by a server that was shut, or wasn't, and those that follow it
+  -- the events of a look: none if the server was shut
   abbrev look_of : Bool → List ServerEvent
   look_of was = if was then [] else look_events slot.seen slot.flush slot.rear front
 
@@ -104,12 +104,12 @@ module _ (asked : ℕ) (s : Listed) (slot : SlotEntry) (front : ℕ) (looks : Lo
       ∙ ap (λ (flush : ℕ). if is_noticed s.shape (not (slot.flush == flush)) slot.rear front then None else outside s.shape.frames front slot.rear) (same k) in
       (is, ap is_shut shows ∙ open_sight s.shape _ asked slot.flush slot.rear front (is_noticed s.shape (not (slot.flush == k.flush)) slot.rear front) (nat_lt s.shape.frames (ahead front slot.rear)) (sym looked ∙ fine))
 
-  -- a look with what stands before it and after it
+  -- a look with the events before it and after it: if they leave the server not shut, it wasn't shut before, and the look wasn't Shut
   pub open_look : (first more : List ServerEvent) → Stay s.shape first → Stay s.shape more → ((k : ServerKept) → (fold (server_keeps s.shape) k first).flush ≡ k.flush)
       → shut_after s.shape (kept s) (first ++ ((if is_some (kept s).shut then [] else look_events slot.seen slot.flush slot.rear front) ++ more)) ≡ None → ((kept s).shut ≡ None) × (is_shut slot.seen ≡ false)
   open_look first more quiet calm same fine = open_by first more (kept s).shut quiet calm same refl looks.1 fine
 
-  -- the look of a cycle
+  -- if a server isn't shut after a cycle, it wasn't before the cycle, and its look wasn't Shut
   pub open_cycle : shut_after s.shape (kept s) (cycle_events asked s slot front) ≡ None → ((kept s).shut ≡ None) × (is_shut slot.seen ≡ false)
   open_cycle fine = open_look (server.SawGain slot.gains ∷ []) (after_look asked (is_some (kept s).shut) slot.seen) (λ k. refl) (stay_after s.shape asked (is_some (kept s).shut) slot.seen) (λ k. refl) fine
 
@@ -122,7 +122,7 @@ stay_taken shape look k = by_command (shows_command look.seen)
     by_command true = refl
     by_command false = refl
 
--- where a server isn't shut after some looks at commands none of them was Shut
+-- if a server isn't shut after some looks at commands, none of the looks was Shut
 pub open_commands : (s : Listed) (looks : List CommandLook) (fronts : List ℕ) → LegalLooks s looks fronts → (server_kept s.shape (s.events ++ all_command_events s looks fronts)).shut ≡ None
     → ((kept s).shut ≡ None) × (list_all (λ look. not (is_shut look.seen)) looks ≡ true)
 open_commands s [] [] legal fine = (subst (λ (es : List ServerEvent). (server_kept s.shape es).shut ≡ None) (append-nil s.events) fine, refl)

@@ -8,7 +8,7 @@ use Rattle.af_io.proofs.Steps.{SetsFile-adds, AddsFront-append, LeavesFront-adde
 
 -- ## Pieces
 
--- a piece was added to what the file held, or after an error a front of it
+-- a piece was added to what the file held, or after an error a front of the piece
 pub sent_all : (result : Result (Unit {0}) StoreError) (base mid new : Files) (name out piece : List ℕ) → SetsFile base name (Some out) mid → AppendsTo result name piece mid new → OnOk result (SetsFile base name (Some (out ++ piece)) new)
 sent_all (Ok x) base mid new name out piece set adds = SetsFile-adds base mid new name out piece set adds
 sent_all (Err e) base mid new name out piece set adds = tt
@@ -18,7 +18,7 @@ sent_front (Ok x) base mid new name out piece set adds = tt
 sent_front (Err e) base mid new name out piece set adds =
     LeavesFront-added base mid new name out piece [] (out ++ piece) (ap (λ (xs : List ℕ). out ++ xs) (sym (append-nil piece))) set (AddsFront-append (Unit {0}) e name piece mid new adds)
 
--- nothing was, where the piece is empty
+-- an empty piece adds nothing to a file
 pub nothing_sent : (base new : Files) (name out piece : List ℕ) → length piece ≡ 0 → SetsFile base name (Some out) new → SetsFile base name (Some (out ++ piece)) new
 nothing_sent base new name out [] none set = subst (λ (xs : List ℕ). SetsFile base name (Some xs) new) (sym (append-nil out)) set
 nothing_sent base new name out (x ∷ xs) none set = absurd (omega arith)
@@ -35,7 +35,7 @@ no_fault x h = let e : ⊥ = cc in e
 pub stays_at : (before now : ℕ) (x : Unit {0}) → HasCause {T = Unit {0}} before now (Ok x) → before ≡ now
 stays_at before now x cause = same_count before now cause.later (λ rose. no_fault x (cause.only rose))
 
--- so the next call's cause is that of both
+-- after a call that answered Ok, the cause of the next call is that of both
 pub then_cause : (before mid now : ℕ) (x : Unit {0}) (r : Result (Unit {0}) StoreError) → HasCause {T = Unit {0}} before mid (Ok x) → HasCause mid now r → HasCause before now r
 then_cause before mid now x r first next = subst (λ (n : ℕ). HasCause n now r) (sym (stays_at before mid x first)) next
 
@@ -57,7 +57,7 @@ calm_memory {T} (Err e) n is =
 not_failed : {T : Type 0} (x : T) → IsErrOf {T = T} {E = StoreError} (Ok x) store.Failed → ⊥
 not_failed {T} x h = let e : ⊥ = cc in e
 
--- all went well
+-- a render that went well has the cause of a call that went well
 pub calm_ok : {T : Type 0} (played : T) (x : Unit {0}) (before now : ℕ) → HasCause {T = Unit {0}} before now (Ok x) → HasCause {T = T} before now (Ok played)
 calm_ok {T} played x before now cause = record {
   later = cause.later;
@@ -73,7 +73,7 @@ failed_back : {T : Type 0} (e : StoreError) → IsErrOf {T = T} {E = StoreError}
 failed_back store.Failed h = refl
 failed_back {T} store.Memory h = absurd (no_failed {T = T} h)
 
--- the store refused
+-- if the store refused, the answer has the cause of the refusal
 pub cause_same : {T : Type 0} (r : Result T StoreError) (e : StoreError) (before now : ℕ) → IsErrAnd r (λ x. x ≡ e) → HasCause {T = Unit {0}} before now (Err e) → HasCause before now r
 cause_same (Ok x) e before now is cause = absurd is
 cause_same {T} (Err f) e before now is cause =
@@ -85,7 +85,7 @@ pub on_err : {T E P : Type 0} (r : Result T E) → P → OnErr r P
 on_err (Ok x) p = tt
 on_err (Err e) p = p
 
--- and one after an answer
+-- a fact that holds anyway holds after an answer
 pub on_ok : {T E P : Type 0} (r : Result T E) → P → OnOk r P
 on_ok (Ok x) p = p
 on_ok (Err e) p = tt

@@ -1,4 +1,4 @@
--- What the two lists of a queue tell of each other: no more states were acknowledged than pushed, and no more seen acknowledged than were.
+-- What the two lists of a queue say of each other: no more states were acknowledged than pushed, and no look saw more acknowledged than were.
 use Rattle.std.proofs.Common.{◌≡◌, ◌≢◌, ℕ, ◌≤◌, ◌==◌, if◌then◌else◌, Bool, true, false, List, [], ◌∷◌, ◌++◌, Option, refl, ap, subst, ◌∙◌, arith}
 use Rattle.af_base.specs.declared.state.FastState.{FastState}
 use Rattle.af_model.specs.declared.states.MutatorEvent.{MutatorEvent}
@@ -16,7 +16,7 @@ due_next k acked pushed true le is ne = absurd (ne refl)
 due_next k acked pushed false le is ne = (omega (arith, le, is), omega (arith, is))
 
 module _ {P : Type 0} where
-  -- at a point no more was acknowledged than pushed, and what is to be acknowledged next lies between
+  -- at a point, no more was acknowledged than pushed, and the next acknowledgement lies between the two
   record Low (p : QueuePoint P) : Type 0 where
     low : p.observer.acked ≤ p.mutator.pushed
     due : p.observer.due ≢ 0 → (p.observer.acked ≤ p.observer.due) × (p.observer.due ≤ p.mutator.pushed)
@@ -85,11 +85,11 @@ module _ {P : Type 0} where
     pub few_acked : (observed os).acked ≤ (mutated first ms).pushed
     few_acked = let l = low_after (start first) h.order (low_start first) h.is_legal in let a = l.low in omega (arith, a, acked_is, pushed_is)
 
-    -- and no more seen acknowledged than were
+    -- no look saw more acknowledged than was acknowledged
     pub few_seen : SawUpTo (observed os).acked ms
     few_seen = subst (λ (x : ℕ × List (MutatorEvent P)). SawUpTo x.0 x.1) (λ i. (acked_is i, h.of_one i)) (saw_after (start first) h.order (low_start first) h.is_legal)
 
-  -- one of the looks
+  -- if no look of a list saw a number above n, this look of the list saw none above n
   pub saw_one : (n : ℕ) (before : List (MutatorEvent P)) (a : ℕ) (items : List (Option P)) (rest : List (MutatorEvent P)) → SawUpTo n (before ++ SawAck a items ∷ rest) → a ≤ n
   saw_one n [] a items rest all = all.0
   saw_one n (Push k x more ∷ before) a items rest all = saw_one n before a items rest all

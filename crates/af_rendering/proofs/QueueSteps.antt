@@ -1,4 +1,4 @@
--- What a poll finds, where its observer had learnt of all pushes, and what meetings leave of that.
+-- What a poll finds, if its observer had learnt of all pushes, and what meetings leave of that.
 use Rattle.std.proofs.Common.{◌≡◌, ℕ, ◌+◌, ◌<◌, ◌≤◌, ◌⊎◌, inl, inr, ⊎_elim, ◌||◌, Bool, false, List, [], ◌∷◌, ◌++◌, length, Option, Some, None, IfSome, refl, ap, subst, ◌∙◌, append_assoc, arith}
 use Rattle.std.specs.List.{list_any}
 use Rattle.std.proofs.lemmas.List.Folds.{list_any-append}
@@ -43,7 +43,7 @@ module _ (m : Pushes ServerState StreamNames) (c : ℕ) where
     last = (λ some first. ap (λ (p : MutatorPoint ServerState). p.last) (then_learnt first) ∙ t.last some first);
   }
 
-  -- both ends learnt of each other
+  -- the two ends of the queue, each of which learnt of the other, are in step
   pub step_met : (o : Polls ServerState StreamNames) → Tells m → o.number ≤ m.number → (0 < m.number → o.number ≡ m.number → o.state ≡ m.last) → InStep learnt_by (record o { events = o.events ++ observer.Learn (length m.events) ∷ [] })
   step_met o t few same = record {
     tells = tells_met t;
@@ -59,11 +59,11 @@ module _ (first : FastState) (m : Pushes ServerState StreamNames) (c d : ℕ) (o
   pushed_then : (mutated first (m.events ++ mutator.Learn c ∷ [])).pushed ≡ m.number
   pushed_then = (tells_met m c tells).pushed first
 
-  -- no more was polled than pushed
+  -- no more states were polled than pushed
   pub few_polled : o'.past.number ≤ m.number
   few_polled = let few = few_acked first (m.events ++ mutator.Learn c ∷ []) (o'.past.events ++ observer.Learn d ∷ []) history in omega (arith, few, acked, pushed_then)
 
-  -- the number that it saw is that of the last push
+  -- the number that a poll saw is that of the last push
   module _ (l : HasLearnt m.events o.past.events) (n : ℕ) (x : Option FastState) (items : List (Option ServerState)) (rest : Polled) (list : o'.past.events ++ observer.Learn d ∷ [] ≡ o.past.events ++ SawNext n x items ∷ rest) where
     abbrev seen_last : Type 0
     seen_last = (n ≡ (mutated first (m.events ++ mutator.Learn c ∷ [])).pushed) × IfSome x (λ s. (s ≡ (mutated first (m.events ++ mutator.Learn c ∷ [])).last) × (items ≡ (mutated first (m.events ++ mutator.Learn c ∷ [])).items))
@@ -78,7 +78,7 @@ module _ (first : FastState) (m : Pushes ServerState StreamNames) (c d : ℕ) (o
         subst (λ (es : Polled). HasHistory first ms es) (list ∙ ap (λ (es : Polled). es ++ SawNext n x items ∷ rest) l.learnt) history in
         sees_the_last first ms l.told more l.before rest l.count n x items all parts l.enough none
 
-  -- it found nothing new, or it took the last state that was pushed
+  -- a poll found nothing new, or it took the last state that was pushed
   pub record Finds : Type 0 where
     pub all : o'.past.number ≡ m.number
     pub state : (o' ≡ sees_same o) ⊎ ((0 < m.number) × (o'.past.state ≡ m.last))

@@ -22,7 +22,7 @@ pub record IsQuiet (m : NormalKept) : Type 0 where
 
 -- ## A turn keeps a mixer quiet
 
--- where the draft says Exit
+-- a turn keeps a mixer quiet if the draft says Exit
 exit_keeps : (c : Setup) (k : Learnt) (m : NormalKept) (e : Turn) → IsQuiet m → is_exit m.draft ≡ true → IsQuiet (after_edits c k e m)
 exit_keeps c k m e quiet exit = subst IsQuiet (sym (quiet_edits c k m e exit (quiet.over exit))) quiet
 
@@ -48,7 +48,7 @@ acked_says : (ack : Bool) (m : NormalKept) → SaysTheSame m (after_ack ack m)
 acked_says true m = record { exit = refl; last = refl }
 acked_says false m = record { exit = refl; last = refl }
 
--- where the draft doesn't say Exit
+-- a turn keeps a mixer quiet if the draft doesn't say Exit
 module _ (c : Setup) (k : Learnt) (m : NormalKept) (e : Turn) (quiet : IsQuiet m) (runs : is_exit m.draft ≡ false) where
   acked : NormalKept
   acked = after_tracks c k e (after_ack e.ack m)

@@ -26,7 +26,7 @@ use Rattle.af_rendering.proofs.RoundTold.{log_turned}
 
 -- ## A round
 
--- the calls of each client, and a turn of its form where there is one
+-- a round of its form: the calls of each client, and a turn of its form if there is one
 pub record IsNoted (tracks : ℕ) (r : RoundNoted) : Type 0 where
   pub calls : length r.calls ≡ tracks
   pub turn : MatchOption r.turn (Unit {0}) (IsTurn tracks)
@@ -59,7 +59,7 @@ normal_notes s t e n = record {
 fast_notes : (s t : SessionState) → Goes s.fast.log t.fast.log → Notes s (fast_round s t) t.fast.log
 fast_notes s t goes = record { goes = goes; count = (let more = goes.longer in omega arith); calls = quiet s; turn = (λ frames tracks. tt) }
 
--- what was noted where the parties end up with that log
+-- what was noted of a round, if the parties end up with that log
 noted_as : (s t : SessionState) (r x : RoundNoted) (log : Logged) → r ≡ x → t.fast.log ≡ log → Notes s x log → Notes s r t.fast.log
 noted_as s t r x log is same n = subst (λ (y : RoundNoted × Logged). Notes s y.0 y.1) (λ k. (sym is k, sym same k)) n
 
@@ -83,14 +83,14 @@ round_notes g turn s r bytes t round =
 
 -- ## All rounds
 
--- Rounds of so many tracks were noted, with as many cycles as the log has entries, which are of their form if their frames are
+-- Rounds of so many tracks were noted, with as many cycles as the log has entries. The entries are of their form if their frames are
 pub record AreNoted (tracks : ℕ) (noted : RoundsNoted) (log : Logged) : Type 0 where
   pub tracks_are : noted.tracks ≡ tracks
   pub each : All (IsNoted tracks) noted.rounds
   pub count : cycles_of noted.rounds ≡ length log.entries
   pub form : All IsFrame log.frames → AreWhole 0 log.frames log.entries
 
--- none were
+-- no rounds were noted
 pub noted_none : (tracks : ℕ) (log : Logged) → log.entries ≡ [] → log.frames ≡ [] → AreNoted tracks (record { tracks = tracks; rounds = [] }) log
 noted_none tracks log entries frames = record {
   tracks_are = refl;
@@ -103,7 +103,7 @@ cycles_more : (rounds : List RoundNoted) (r : RoundNoted) → cycles_of (rounds 
 cycles_more [] r = omega arith
 cycles_more (x ∷ xs) r = let more = cycles_more xs r in omega arith
 
--- one more was
+-- one more round was noted
 pub noted_more : (s : SessionState) (r : RoundNoted) (noted : RoundsNoted) (log : Logged) → AreNoted (length s.clients) noted s.fast.log → Notes s r log → NotesFrames r → length s.normal.tracks ≡ length s.clients
     → AreNoted (length s.clients) (record noted { rounds = noted.rounds ++ r ∷ [] }) log
 noted_more s r noted log are n frames tracks = record {

@@ -1,4 +1,4 @@
--- What is noted of a round is what the parties before it and after it tell.
+-- What is noted of a round is what the parties before it and after it show.
 use Rattle.std.proofs.Common.{◌≡◌, ℕ, ◌-◌, ◌<◌, Bool, true, false, if◌then◌else◌, MatchBool, List, [], length, map, option_map, slice_get, get_or, Option, Some, None, refl, sym, ap, ◌∙◌, arith}
 use Rattle.std.proofs.lemmas.List.{length-map, length-set}
 use Rattle.std.proofs.lemmas.Option.{slice_get-get_or, slice_get-map, slice_get_within}
@@ -36,14 +36,14 @@ calls_ended m i true = ap calls_in (slice_get-map end_party m.clients i) ∙ cal
 calls_ended m i false = refl
 
 module _ (g : Given) (turn : TurnSpec) (s : SessionState) (r : RoundNoted) (bytes : List ℕ) (t : SessionState) (round : IsRound g turn s r bytes t) where
-  -- the log is that of the turn
+  -- the log after a round is that of the turn
   pub log_turned : t.fast.log ≡ round.turned.fast.log
   log_turned =
       ap (λ (x : SessionState). x.fast.log) round.ends
       ∙ log_ended round.met round.met.normal.ended
       ∙ ap (λ m. m.log) round.meets.ends.fast
 
-  -- so is the normal mixer's entry
+  -- the normal mixer's entry after a round is that of the turn
   pub entry_turned : t.normal.entry ≡ round.turned.normal.entry
   entry_turned =
       ap (λ (x : SessionState). x.normal.entry) round.ends
@@ -65,7 +65,7 @@ module _ (g : Given) (turn : TurnSpec) (s : SessionState) (r : RoundNoted) (byte
       ∙ ap calls_in there
       ∙ ap (λ (x : PartyState). x.calls.items) one.same
 
--- ## What is told
+-- ## What is noted
 
 pub round_is_told : (g : Given) (turn : TurnSpec) (s : SessionState) (r : RoundNoted) (bytes : List ℕ) (t : SessionState) → IsRound g turn s r bytes t → length t.clients ≡ length s.clients → r ≡ round_told turn s t
 round_is_told g (spec.Client i) s r bytes t round long =

@@ -8,7 +8,7 @@ use Rattle.af_session.specs.Rounds.{Given, IsRound, IsTurnRun}
 use Rattle.af_tally.specs.Sound.{pcm_of}
 use Rattle.af_session.specs.Together.{SessionState}
 
--- none were played
+-- a run of no turns
 pub run_none : (g : Given) (s : SessionState) → Runs g [] s [] s
 run_none g s = record { bytes = []; run = (refl, refl, refl); sound = sym (append-nil (pcm_of s.fast.frames s.fast.log)) }
 
@@ -37,7 +37,7 @@ run_behind g (x ∷ xs) turn s m t rounds out run r bytes round = (
   run_behind g xs turn run.4 m t run.1 run.3 run.8 r bytes round,
 )
 
--- one more was, whatever stands for a turn that isn't there
+-- a run of one turn more, whatever stands for a turn that isn't there
 pub run_more : (d : TurnSpec) (g : Given) (turns : List TurnSpec) (i : ℕ) (s m t : SessionState) (rounds : List RoundNoted) → i < length turns → Runs g (take i turns) s rounds m
     → (r : RoundNoted) (bytes : List ℕ) → IsRound g (get_or turns i d) m r bytes t → pcm_of s.fast.frames m.fast.log ++ bytes ≡ pcm_of s.fast.frames t.fast.log → Runs g (take (i + 1) turns) s (rounds ++ r ∷ []) t
 run_more d g turns i s m t rounds lt runs r bytes round sound =

@@ -39,7 +39,7 @@ use Rattle.af_rendering.proofs.JournalSound.{dealt, same_entries}
 
 -- ## At the start
 
--- nothing is shown
+-- no rounds and an empty log show nothing
 shows_none : (states : List FastState) (len tracks : ℕ) (frames : List Frame) → shows states len tracks [] [] frames [] ≡ nothing_shown tracks
 unfolding shows
 shows_none states len tracks frames =
@@ -65,7 +65,7 @@ pub record AreInStep (s : SessionState) : Type 0 where
   pub missing : List FastState
   pub states : pushed_states s.normal.mutator.past.events ≡ polled_states s.normal.mutator.past.first s.fast.observer.past.events ++ missing
 
--- before the first turn
+-- the states are in step before the first turn
 pub in_step_new : (script : ScriptData) (shared : SharedState) (s : SessionState) → IsNewSession script shared s → AreInStep s
 in_step_new script shared s new = record {
   missing = [];
@@ -74,7 +74,7 @@ in_step_new script shared s new = record {
       ∙ sym (ap (λ (es : List (ObserverEvent ServerState)). polled_states s.normal.mutator.past.first es ++ []) new.ends.observer.0.silent.1);
 }
 
--- once all have met
+-- the states are in step once all have met
 pub in_step_met : (a b : SessionState) → Met a b → AreInStep b
 in_step_met a b met =
     let order = polled_in_order b.normal.mutator.past.first b.normal.mutator.past.events b.fast.observer.past.events met.ends.histories.queue in
@@ -90,12 +90,12 @@ in_step_round g turn s r bytes t round =
       states = subst (λ (x : NormalState × MixerState). pushed_states x.0.mutator.past.events ≡ polled_states x.0.mutator.past.first x.1.observer.past.events ++ met.missing) (λ i. (sym same.0 i, sym same.1 i)) met.states;
     }
 
--- and so after each turn
+-- the states are in step after each turn
 pub in_step_run : (g : Given) (turns : List TurnSpec) (s : SessionState) (rounds : List RoundNoted) (bytes : List ℕ) (t : SessionState) → IsTurnRun g turns s rounds bytes t → AreInStep s → AreInStep t
 in_step_run g [] s rounds bytes t run before = subst AreInStep (sym run.2) before
 in_step_run g (turn ∷ turns) s rounds bytes t run before = in_step_run g turns run.4 run.1 run.3 t run.8 (in_step_round g turn s run.0 run.2 run.4 run.7)
 
--- so a tally is that of the states pushed
+-- a tally is that of the states pushed, if the states are in step
 pub tally_pushed : (tracks : ℕ) (rounds : List RoundNoted) (t : SessionState) (y : Tallied) → IsInOrder t.fast → AreInStep t → ((first : FastState) → IsTally (shown_at first tracks rounds t.fast) y)
     → IsTally (shown_in t.fast.frames (record { tracks = tracks; rounds = rounds }) t.fast.log t.normal.mutator.past.events) y
 tally_pushed tracks rounds t y order step is =
@@ -121,7 +121,7 @@ same_turns : (entries : List EntrySeen) (rounds : List RoundNoted) → map (λ (
 same_turns entries [] = refl
 same_turns entries (r ∷ rs) = ap (λ l. r.turn ∷ l) (same_turns (drop r.cycles entries) rs)
 
--- so the journal shows what the rounds and the log do
+-- the journal shows what the rounds and the log do
 pub shown_journal : (len : ℕ) (noted : RoundsNoted) (log : Logged) (events : List (MutatorEvent ServerState)) → IsWhole noted log → shown_by len (journal_of noted log) events ≡ shown_in len noted log events
 shown_journal len noted log events whole =
     let seen : List EntrySeen = entries_seen log.frames log.entries in
@@ -142,7 +142,7 @@ released_few links g n t ready = λ i d lt.
     let few = works.few_frames in
     omega arith
 
--- two answers in one
+-- two facts after an answer are one
 pub on_ok_both : {T E : Type 0} (P Q : Type 0) (r : Result T E) → OnOk r P → OnOk r Q → OnOk r (P × Q)
 on_ok_both P Q (Ok x) p q = (p, q)
 on_ok_both P Q (Err e) p q = tt
@@ -159,7 +159,7 @@ tally_end script shared s new links g n turns rounds t y ready runs tracks frame
 
 -- ## The summary
 
--- the summary of a tally is told by the journal and the ends
+-- the summary of a tally is that of the journal and the ends
 pub is_told : (len : ℕ) (noted : RoundsNoted) (log : Logged) (events : List (MutatorEvent ServerState)) (clients : List PartyState) (t : Tallied) (summary : Summary) (j : JournalData) (ends : EndsState) → IsWhole noted log
     → j ≡ journal_of noted log → ends.clients ≡ clients → ends.normal.mutator.past.events ≡ events → IsTally (shown_in len noted log events) t → ((run : Shown) → IsTally run t → summary ≡ summary_of run (released_by clients))
     → summary ≡ summary_told len j ends

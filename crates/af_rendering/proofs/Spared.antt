@@ -62,11 +62,11 @@ module _ (states : List FastState) (len tracks : ℕ) (rounds : List RoundNoted)
   spares_run : (s : SessionState) → length s.clients ≡ tracks → SparesSoFar rounds s → PokesSpareOthers run
   spares_run s long so_far = record { each = spared_run s long so_far }
 
--- by rounds noted and the log
+-- pokes spare other tracks, by the rounds noted and the log
 pub spares_noted : (len : ℕ) (noted : RoundsNoted) (log : Logged) (events : List (MutatorEvent ServerState)) (s : SessionState) → length s.clients ≡ noted.tracks → SparesSoFar noted.rounds s → PokesSpareOthers (shown_in len noted log events)
 spares_noted len noted log events s long so_far = spares_run (pushed_states events) len noted.tracks noted.rounds log s long so_far
 
--- by the journal and the ends
+-- pokes spare other tracks, by the journal and the ends
 pub spares_told : (len : ℕ) (noted : RoundsNoted) (log : Logged) (events : List (MutatorEvent ServerState)) (j : JournalData) (ends : EndsState) → IsWhole noted log → j ≡ journal_of noted log → ends.normal.mutator.past.events ≡ events
     → PokesSpareOthers (shown_in len noted log events) → PokesSpareOthers (shown_by len j ends.normal.mutator.past.events)
 spares_told len noted log events j ends whole journal pushed spares =

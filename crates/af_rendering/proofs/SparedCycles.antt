@@ -1,4 +1,4 @@
--- The cycles of the fast mixer spare each track whose client has not poked, where the proxies held for it are not shut in the end.
+-- The cycles of the fast mixer spare each track whose client has not poked, if the proxies held for it are not shut in the end.
 use Rattle.std.proofs.Common.{◌≡◌, ℕ, zero, suc, ◌<◌, ◌==◌, ◌||◌, ◌⊎◌, inl, inr, ⊎_elim, Bool, true, false, List, [], ◌∷◌, ◌++◌, length, slice_get, Option, Some, None, refl, sym, ap, subst, ◌∙◌, eqb-true}
 use Rattle.std.specs.List.{list_all}
 use Rattle.std.proofs.lemmas.List.Folds.{list_all-append}
@@ -48,13 +48,13 @@ use Rattle.af_rendering.proofs.QueueSteps.{Finds, few_polled, finds, finds_none,
 abbrev pub entries_at : FastState → MixerState → List EntryUsed
 entries_at first m = (shown_at first 0 [] m).entries
 
--- they spare the track
+-- all entries of the mixer's log spare the track
 abbrev pub EntriesSpare : MixerState → ℕ → Type 0
 EntriesSpare m i = (first : FastState) → list_all (is_spared_in_entry i) (entries_at first m) ≡ true
 
 -- ## An item through the meetings
 
--- a proxy that learnt something perhaps tells of its shut what it told before
+-- a proxy that learnt something, perhaps, says what shut it as it did before
 abbrev SameShut : ServerState → ServerState → Type 0
 SameShut s t = (server_kept_of t.pass.part).shut ≡ (server_kept_of s.pass.part).shut
 
@@ -104,7 +104,7 @@ module _ (a b : SessionState) (met : Met a b) (k : ℕ) (s : ServerState) (held 
     pub met_item : Kept
     met_item = by_item (met.tracks.items k)
 
--- where the proxies held for a track are not shut after the meetings they weren't before
+-- if the proxies held for a track are not shut after the meetings, they weren't before the meetings
 pub unshut_met : (a b : SessionState) → Met a b → (i : ℕ) (q : PartyState) → slice_get b.clients i ≡ Some q → AreUnshut i b.fast → AreUnshut i a.fast
 unshut_met a b met i q there unshut k s lt on track held =
     let item = met_item a b met k s held i track q there in
@@ -117,11 +117,11 @@ unshut_met a b met i q there unshut k s lt on track held =
 abbrev pub FreeAt : SessionState → Type 0
 FreeAt s = (i : ℕ) (p : PartyState) → slice_get s.clients i ≡ Some p → IsTame p → EntriesSpare s.fast i
 
--- and where the proxies held for them are not shut
+-- the clients that have not poked find their tracks spared so far, if the proxies held for them are not shut
 abbrev pub FreeIf : SessionState → Type 0
 FreeIf s = (i : ℕ) (p : PartyState) → slice_get s.clients i ≡ Some p → IsTame p → AreUnshut i s.fast → EntriesSpare s.fast i
 
--- within a turn of the fast mixer: the queue's ends are in step, its states lead away, and the tracks are spared where they were unshut, once the observer has polled all
+-- within a turn of the fast mixer: the ends of the queue are in step, and its states lead away. The tracks are spared; or the observer has polled all, and the tracks whose proxies are not shut are spared
 pub record Goes (kept : NormalKept) (s : SessionState) : Type 0 where
   pub step : InStep s.normal.mutator.past s.fast.observer.past
   pub same : kept_of s.normal ≡ kept
@@ -143,7 +143,7 @@ module _ (kept : NormalKept) (s next : SessionState) (answer : Cycle) (bytes : L
   abbrev met : SessionState
   met = w.cycle.met
 
-  -- what is the same through it
+  -- the observer's end of the queue after a cycle's meetings
   met_past : met.fast.observer.past ≡ record w.cycle.polled.observer.past { events = w.cycle.polled.observer.past.events ++ observer.Learn (length s.normal.mutator.past.events) ∷ [] }
   met_past = ap (λ (m : MixerState). m.observer.past) cycle.meets.ends.fast
 
@@ -167,7 +167,7 @@ module _ (kept : NormalKept) (s next : SessionState) (answer : Cycle) (bytes : L
       let known = party_met _ _ was.0 q was.2 in
       (here, (was.0, was.1, λ tame. (known.stream.before tame.0, known.command.before tame.1)))
 
-  -- the entries through the poll and the meetings
+  -- the entries are the same after the poll and the meetings
   entries_met : (first : FastState) → entries_at first met.fast ≡ entries_at first s.fast
   entries_met first =
       ap (λ (run : Shown). run.entries) (shown_met first 0 [] polled met cycle.order.0 cycle.meets)
@@ -183,7 +183,7 @@ module _ (kept : NormalKept) (s next : SessionState) (answer : Cycle) (bytes : L
   acked : (observed (w.cycle.polled.observer.past.events ++ observer.Learn (length s.normal.mutator.past.events) ∷ [])).acked ≡ w.cycle.polled.observer.past.number
   acked = subst (λ (y : Polls ServerState StreamNames). (observed y.events).acked ≡ y.number) met_past cycle.order.1.observer.told.acked
 
-  -- the ends are in step again
+  -- the ends of the queue are in step again after a cycle
   step_on : (0 < s.normal.mutator.past.number → w.cycle.polled.observer.past.number ≡ s.normal.mutator.past.number → w.cycle.polled.observer.past.state ≡ s.normal.mutator.past.last) → next.fast.observer.past ≡ met.fast.observer.past → InStep next.normal.mutator.past next.fast.observer.past
   step_on same past =
       let few = few_polled s.normal.mutator.past.first s.normal.mutator.past (length w.cycle.polled.observer.past.events) (length s.normal.mutator.past.events) s.fast.observer w.cycle.polled.observer goes.step.tells history acked in
@@ -197,7 +197,7 @@ module _ (kept : NormalKept) (s next : SessionState) (answer : Cycle) (bytes : L
   number_on : next.normal.mutator.past.number ≡ s.normal.mutator.past.number
   number_on = ap (λ (m : Pushes ServerState StreamNames). m.number) (ap (λ (n : NormalState). n.mutator.past) same_normal ∙ met_pushed)
 
-  -- all but what it spared
+  -- what goes on in a cycle, but for what it spared
   module _ (past : next.fast.observer.past ≡ met.fast.observer.past) (key : w.cycle.polled.observer.past.key ≡ s.fast.observer.past.key) (state : LeadAway w.cycle.polled.observer.past.state kept.tracks)
       (same : 0 < s.normal.mutator.past.number → w.cycle.polled.observer.past.number ≡ s.normal.mutator.past.number → w.cycle.polled.observer.past.state ≡ s.normal.mutator.past.last)
       (spares : FreeAt next ⊎ ((next.fast.observer.past.number ≡ next.normal.mutator.past.number) × FreeIf next)) where
@@ -294,7 +294,7 @@ module _ (kept : NormalKept) (s next : SessionState) (answer : Cycle) (bytes : L
     number_all : next.fast.observer.past.number ≡ next.normal.mutator.past.number
     number_all = ap (λ (o : Polls ServerState StreamNames). o.number) (added_past ∙ met_past) ∙ found_by.all ∙ sym number_on
 
-    -- the entries
+    -- the entry of the cycle
     abbrev entry : CycleEntry
     entry = adds.0
 
@@ -306,7 +306,7 @@ module _ (kept : NormalKept) (s next : SessionState) (answer : Cycle) (bytes : L
         whole_met : IsWhole met.fast.log
         whole_met = subst IsWhole (sym (ap (λ (m : MixerState). m.log) cycle.meets.ends.fast ∙ ap (λ (m : MixerState). m.log) cycle.adopts.same)) goes.whole
 
-    -- where the proxies are not shut it spares the track, and they weren't before
+    -- if the proxies held for a track are not shut, the entry spares it, and the proxies weren't shut before the cycle
     module _ (i : ℕ) (unshut : AreUnshut i next.fast) where
       spares_one : is_spared_in_entry i (record { entry = adds.0; state = next.fast.observer.current }) ≡ true
       spares_one = entry_spares met.fast next.fast adds.0 adds.2 cycle.order.1 cycle.order.2 goes.names (names_met ∙ key_same ∙ goes.key) i unshut

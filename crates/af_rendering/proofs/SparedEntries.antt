@@ -105,18 +105,18 @@ module _ (len : ℕ) (rounds : RoundsNoted) (t : SessionState) (long : length t.
       (λ (none : (length t.clients ≤ i) × (slice_get t.clients i ≡ None)). absurd (omega (arith, inside, none.0)))
       (slice_get_cases t.clients i).1
 
-  -- by rounds noted and the log
+  -- pokes spare the entries, by the rounds noted and the log
   entries_noted : PokesSpareEntries (shown_in len rounds t.fast.log t.normal.mutator.past.events)
   entries_noted = record { each = entries_of_track }
 
--- at the end of all turns of a script
+-- pokes spare the entries at the end of all turns of a script
 pub entries_end : (script : ScriptData) (shared : SharedState) (s : SessionState) → IsNewSession script shared s → (links : Links) (g : Given) (n : ℕ) (turns : List TurnSpec) (rounds : RoundsNoted) (t : SessionState)
     → IsReady links g n t → Runs g turns s rounds.rounds t → rounds.tracks ≡ length g.tracks → SparesSoFar rounds.rounds t → FastSparesSoFar t → PokesSpareEntries (shown_in script.frames rounds t.fast.log t.normal.mutator.past.events)
 entries_end script shared s new links g n turns rounds t ready runs tracks so_far fast =
     let step = in_step_run g turns s rounds.rounds runs.bytes t runs.run (in_step_new script shared s new) in
     entries_noted script.frames rounds t (sym ready.given.0 ∙ sym tracks) ready.together.fast.0 step so_far fast
 
--- by the journal and the ends
+-- pokes spare the entries, by the journal and the ends
 pub entries_told : (len : ℕ) (noted : RoundsNoted) (log : Logged) (events : List (MutatorEvent ServerState)) (j : JournalData) (ends : EndsState) → IsWhole noted log → j ≡ journal_of noted log → ends.normal.mutator.past.events ≡ events
     → PokesSpareEntries (shown_in len noted log events) → PokesSpareEntries (shown_by len j ends.normal.mutator.past.events)
 entries_told len noted log events j ends whole journal pushed spares =

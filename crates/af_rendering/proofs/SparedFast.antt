@@ -115,7 +115,7 @@ module _ (links : Links) (g : Given) (n : ℕ) (turned met t : SessionState) (me
   leads_after : Leads turned.fast.observer.past.state (kept_of turned.normal) → Leads t.fast.observer.past.state (kept_of t.normal)
   leads_after leads = subst (λ (y : FastState × NormalKept). Leads y.0 y.1) (λ j. (sym (ap (λ (o : Polls ServerState StreamNames). o.state) polled_after) j, sym kept_after j)) leads
 
-  -- the client of a track before them
+  -- a client after the meetings and ends was there before them
   client_before : (i : ℕ) (q : PartyState) → slice_get t.clients i ≡ Some q → (p : PartyState) × (slice_get turned.clients i ≡ Some p) × (IsTame q → IsTame p)
   client_before i q is =
       let ended = clients_ended met i q (ap (λ (x : SessionState). slice_get x.clients i) (sym ends) ∙ is) in
@@ -160,7 +160,7 @@ module _ (links : Links) (g : Given) (n : ℕ) (turned met t : SessionState) (me
       found = only_slot x i k lt (and_from (carries x k) ((slot_of x k).track == i) on (eq-eqb (slot_of x k).track i track))
           (λ j below here. let its = of_track j here in sym (number j below its.0 its.1) ∙ number k lt on track)
 
-      -- it isn't home
+      -- the proxy held for the track isn't home
       gone : is_some (stream_at met.normal.streams i) ≡ false
       gone =
           let inside : i < length t.normal.tracks = omega (arith, slice_get_within t.clients i q is, after.together.count) in
@@ -199,7 +199,7 @@ module _ (links : Links) (g : Given) (n : ℕ) (turned met t : SessionState) (me
     unshut_closed : AreUnshut i turned.fast
     unshut_closed k s lt on track held = held_unshut k lt on track s held
 
-  -- all that a turn left goes on
+  -- if `Goes` holds after the turn, the tracks are spared after the round
   closes : Goes (kept_of turned.normal) turned → FreeAt t
   closes goes = ⊎_elim (λ (free : FreeAt turned). free_after goes.order free)
       (λ (h : (turned.fast.observer.past.number ≡ turned.normal.mutator.past.number) × FreeIf turned). λ i q is tame first.
@@ -216,7 +216,7 @@ module _ (links : Links) (g : Given) (n : ℕ) (s : SessionState) (before : IsRe
   to_spec : FreeAt t → InStep t.normal.mutator.past t.fast.observer.past → Leads t.fast.observer.past.state (kept_of t.normal) → FastSparesSoFar t
   to_spec free step leads = record { spared = (λ i p is tame. spared_used t.fast i (free i p is tame)); step = step; leads = leads }
 
-  -- a round in which both mixers did nothing, by clients that had poked before where they hold pokes
+  -- a round in which both mixers did nothing, by clients that had poked before it if they hold pokes
   module _ (turned met : SessionState) (meets : Met turned met) (ends : t ≡ with_ends met) (normal : turned.normal ≡ s.normal) (fast : turned.fast ≡ s.fast)
       (clients : (i : ℕ) (q : PartyState) → slice_get turned.clients i ≡ Some q → (p : PartyState) × (slice_get s.clients i ≡ Some p) × (IsTame q → IsTame p)) where
     free_turned : FreeAt turned
@@ -308,7 +308,7 @@ module _ (links : Links) (g : Given) (n : ℕ) (s : SessionState) (before : IsRe
           (step_after links g (n + 1) turned round.met t round.meets round.ends after goes.step.tells goes.step.same)
           (leads_after links g (n + 1) turned round.met t round.meets round.ends after (subst (λ (k : NormalKept). Leads turned.fast.observer.past.state k) (sym goes.same) leads))
 
-  -- a round more
+  -- one round more spares the tracks, by the fast mixer's log
   pub fast_round_spares : (turn : TurnSpec) (r : RoundNoted) → IsRound g turn s r bytes t → FastSparesSoFar t
   fast_round_spares (spec.Client j) r round = client_fast j r round
   fast_round_spares spec.Normal r round = normal_fast r round

@@ -47,7 +47,7 @@ calls_in_round r i = slice_index_or r.calls i []
 
 -- ## Rounds
 
--- what a round does
+-- what a round does for the clients without pokes: their lists stay without pokes, and their tracks are spared
 pub record RoundSpares (r : RoundNoted) (s t : SessionState) : Type 0 where
   pub tame : (i : ℕ) (q : PartyState) → slice_get t.clients i ≡ Some q → (p : PartyState) × (slice_get s.clients i ≡ Some p) × (has_no_poke (calls_in_round r i) ≡ true → IsTame p → IsTame q)
   pub spared : (i : ℕ) (p q : PartyState) → slice_get s.clients i ≡ Some p → slice_get t.clients i ≡ Some q → IsTame p → IsTame q → (none_corrupt (calls_in_round r i) ≡ true) × (list_all (is_spared_in_turn i) (turn_in r.turn) ≡ true)
@@ -82,7 +82,7 @@ module _ (rounds : List RoundNoted) (r : RoundNoted) where
           ap (list_all (is_spared_in_turn i)) more_turns ∙ list_all-append (is_spared_in_turn i) (all_turns rounds) (turn_in r.turn) ∙ both_are (list_all (is_spared_in_turn i) (all_turns rounds)) _ old.1 new.1,
         )
 
-    -- one round more
+    -- the tracks are spared so far after one round more
     pub spares_more : SparesSoFar (rounds ++ r ∷ []) t
     spares_more = record {
       tame = still_tame;
@@ -113,7 +113,7 @@ follows_ended : (m : SessionState) → Follows m (with_ends m)
 follows_ended m i q is = let was = clients_ended m i q is in
     (was.0, was.1, λ tame. (ap (λ (c : ClientState). is_lawful c.pass.part.events) was.2 ∙ tame.0, ap (λ (c : ClientState). is_lawful c.pass.part.events) was.3 ∙ tame.1))
 
--- through a cycle of the fast mixer, and through its turn
+-- the clients after a cycle of the fast mixer follow those before it
 follows_cycle : (s next : SessionState) (out out' : List Frame) (answer : Cycle) → IsCycle s out answer next out' → Follows s next
 follows_cycle s next out out' answer cycle =
     let polled : SessionState = record s { fast = cycle.polled } in
@@ -123,6 +123,7 @@ follows_rest : (b : Bool) (next t : SessionState) (goes : Type 0) (back : List �
 follows_rest true next t goes back on off more = more (on refl)
 follows_rest false next t goes back on off more = follows_same next t (ap (λ (x : SessionState). x.clients) (off refl).1)
 
+-- the clients after a turn of the fast mixer follow those before it
 follows_fast : (count : ℕ) (s : SessionState) (bytes : List ℕ) (t : SessionState) → IsFastTurn count s bytes t → Follows s t
 follows_fast zero s bytes t turn = follows_same s t (ap (λ (x : SessionState). x.clients) turn.1)
 follows_fast (suc left) s bytes t turn =
@@ -154,7 +155,7 @@ module _ (links : Links) (g : Given) (n : ℕ) (turned met t : SessionState) (me
   same_normal : t.normal ≡ met.normal
   same_normal = ap (λ (x : SessionState). x.normal) ends ∙ keeps.normal
 
-  -- the parties of a track through them
+  -- the parties of a track through the meetings and ends
   record Closed (i : ℕ) (q : PartyState) : Type 0 where
     party : PartyState
     was : slice_get turned.clients i ≡ Some party
@@ -192,7 +193,7 @@ module _ (links : Links) (g : Given) (n : ℕ) (turned met t : SessionState) (me
               ∙ in_order.1.lawful_open tame.1,
         )
 
-    -- nor was anything poked before the meetings
+    -- nothing was poked before the meetings either
     pub tame_before : (p : PartyState) → slice_get turned.clients i ≡ Some p → IsTame p
     tame_before p was =
         let z = closed i q is in
@@ -246,7 +247,7 @@ module _ (links : Links) (g : Given) (n : ℕ) (turned met t : SessionState) (me
         let away = subst (λ (o : Option ServerState). SpotMet (client_made z.party.stream.pass) o a z.party.stream b z.party'.stream) here z.track.streamed in
         absurd (true≢false (sym there ∙ ap is_some away.still_away))
 
-    -- nor is its stream's where that is home
+    -- its stream proxy isn't shut, if that is home
     pub stream_open : is_home (track_at turned.normal.tracks i).holder ≡ true → (u : ServerState) × (stream_at turned.normal.streams i ≡ Some u) × ((server_kept_of u.pass.part).shut ≡ None)
     stream_open home = by_stream (stream_at turned.normal.streams i) refl (there_after home)
 
@@ -335,6 +336,6 @@ module _ (links : Links) (g : Given) (n : ℕ) (s : SessionState) (before : IsRe
   round_spares spec.Normal r round = normal_spares r round
   round_spares (spec.Fast count) r round = fast_spares count r round
 
-  -- a round more
+  -- one round more spares the tracks
   pub spares_round : (turn : TurnSpec) (r : RoundNoted) (rounds : List RoundNoted) → IsRound g turn s r bytes t → SparesSoFar rounds s → SparesSoFar (rounds ++ r ∷ []) t
   spares_round turn r rounds round so_far = spares_more rounds r s t so_far (round_spares turn r round) (sym after.given.0 ∙ before.given.0)

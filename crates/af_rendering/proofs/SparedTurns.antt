@@ -1,4 +1,4 @@
--- A turn of the normal mixer spares each track whose client has not poked: by the meetings after it no look at its blocks was Shut.
+-- A turn of the normal mixer spares each track whose client has not poked: by the meetings after the turn, no look at the track's blocks was Shut.
 use Rattle.std.proofs.Common.{◌≡◌, ℕ, ◌<◌, ◌≤◌, ◌==◌, ◌&&◌, not, nat_le, Bool, true, false, if◌then◌else◌, is_some, fold, List, [], ◌∷◌, ◌++◌, length, map, slice_get, Option, Some, None, refl, sym, ap, subst, ◌∙◌, append-nil, append_assoc, eqb-true, arith}
 use Rattle.std.specs.List.{AllByRecursion, flat_map, list_all}
 use Rattle.std.proofs.lemmas.Grind.{fold-append}
@@ -59,7 +59,7 @@ module _ (shape : Shape) where
   stay_status (Some word) k = refl
 
 module _ (c : Setup) (o : Outside) (m : NormalKept) (e : Turn) (goes : GoesOn c o m e) (tracks : List TrackKept) (i : ℕ) (lt : i < length m.tracks) where
-  -- where the command proxy isn't shut after its part no look was Shut
+  -- if the command proxy isn't shut after its part, no look was Shut
   open_served : (s : Listed) → o.commands i ≡ s → (server_kept s.shape (s.events ++ command_events_of c o (track_in e i) tracks i)).shut ≡ None → list_all (λ (l : CommandLook). not (is_shut l.seen)) (track_in e i).looks ≡ true
   open_served s is fine =
       let looks = (track_in e i).looks in
@@ -82,7 +82,7 @@ module _ (c : Setup) (o : Outside) (m : NormalKept) (e : Turn) (goes : GoesOn c 
 
 -- ## The stream's block
 
--- of the takes of a turn those of one track
+-- the takes of one track, among those of a turn
 module _ (i : ℕ) (t : TakeSeen) (taken : List TakeSeen) (others : Bool) (rest : list_all (λ (x : TakeSeen). not (is_shut x.slot.seen)) taken ≡ true → others ≡ true) where
   look_by : (b : Bool) → (t.track == i) ≡ b → list_all (λ (x : TakeSeen). not (is_shut x.slot.seen)) (if b then t ∷ taken else taken) ≡ true → (not ((t.track == i) && is_shut t.slot.seen) && others) ≡ true
   look_by true is h = both_are (not ((t.track == i) && is_shut t.slot.seen)) others
@@ -104,7 +104,7 @@ legal_from c o i [] all = tt
 legal_from c o i (t ∷ takes) all = legal_by c o i t (takes_from takes i) all.0 (legal_from c o i takes all.1) (t.track == i) refl
 
 module _ (c : Setup) (o : Outside) (i : ℕ) (s : Listed) (is : o.streams i ≡ s) (flags : List ServerEvent) (calm : (k : ServerKept) → (shut_after s.shape k flags ≡ k.shut) × (fold (server_keeps s.shape) k flags ≡ k)) where
-  -- where the stream's proxy isn't shut after the one take of its track that look wasn't Shut
+  -- if the stream's proxy isn't shut after the one take of its track, the look of the take wasn't Shut
   open_takes : (takes : List TakeSeen) → length takes ≤ 1 → AllByRecursion (λ (t : TakeSeen). (t.track ≡ i) × LegalTake c o t) takes
       → (server_kept s.shape (s.events ++ (flags ++ flat_map (λ (t : TakeSeen). cycle_events (asked c) (o.streams i) t.slot (o.stream_front i)) takes))).shut ≡ None
       → list_all (λ (t : TakeSeen). not (is_shut t.slot.seen)) takes ≡ true
@@ -152,7 +152,7 @@ module _ (links : Links) (x y : NormalState) (order : IsInOrder links x) (o : Ou
   ended_takes : e.ended ≡ true → none_shut i (turn_looks e) ≡ true
   ended_takes ended = ap (λ (u : Turn). none_shut i (turn_looks u)) (legal.legal.still ended)
 
-  -- the looks at the commands
+  -- no look at the track's commands was Shut
   pub commands_spared : (s t : ServerState) → slice_get x.commands i ≡ Some s → slice_get y.commands i ≡ Some t → (server_kept_of t.pass.part).shut ≡ None → list_all (λ (l : CommandLook). not (is_shut l.seen)) (track_in e i).looks ≡ true
   commands_spared s t was is fine = by_end e.ended refl
     where
@@ -170,7 +170,7 @@ module _ (links : Links) (x y : NormalState) (order : IsInOrder links x) (o : Ou
           open_served c o m e (legal.legal.goes_on ended) before_serving i lt (listed s) (legal.commands i s was)
           (subst (λ (z : Shape × List ServerEvent). (server_kept z.0 z.1).shut ≡ None) (λ j. (shape j, list j)) fine)
 
-  -- the takes from its stream, where the proxy is home
+  -- no look of the takes from the track's stream was Shut, if the stream's proxy is home
   pub takes_spared : (t : ServerState) → stream_at y.streams i ≡ Some t → (server_kept_of t.pass.part).shut ≡ None → none_shut i (turn_looks e) ≡ true
   takes_spared t is fine = by_end e.ended refl
     where
@@ -191,7 +191,7 @@ module _ (links : Links) (x y : NormalState) (order : IsInOrder links x) (o : Ou
           (open_takes c o i s refl flags (keeps_flags s.shape home flagged) (takes_from e.mixes i) one (legal_from c o i e.mixes goes.takes)
           (subst (λ (z : Shape × List ServerEvent). (server_kept z.0 z.1).shut ≡ None) (λ j. (grown.1 j, list j)) fine))
 
-  -- where some were taken its proxy is home afterwards
+  -- a push changes no track
   same_tracks : (push : Push) (n : NormalKept) → (after_push push n).tracks ≡ n.tracks
   same_tracks (Pushed number) n = refl
   same_tracks Clean n = refl
@@ -226,7 +226,7 @@ module _ (links : Links) (x y : NormalState) (order : IsInOrder links x) (o : Ou
           ∙ ap (λ (ts : List TrackKept). is_home (track_at ts i).holder) (same_tracks e.push edited)
           ∙ homely
 
-  -- the turn spares the track, where its command proxy isn't shut, nor its stream's where that is home
+  -- the turn spares the track, if its command proxy isn't shut, nor its stream's if that is home
   pub turn_spares : (s t : ServerState) → slice_get x.commands i ≡ Some s → slice_get y.commands i ≡ Some t → (server_kept_of t.pass.part).shut ≡ None
       → (is_home (track_at y.tracks i).holder ≡ true → (u : ServerState) × (stream_at y.streams i ≡ Some u) × ((server_kept_of u.pass.part).shut ≡ None)) → is_spared_in_turn i e ≡ true
   turn_spares s t was is fine home = both_are (list_all (λ (l : CommandLook). not (is_shut l.seen)) (track_in e i).looks) (none_shut i (turn_looks e)) (commands_spared s t was is fine) (by_takes (takes_from e.mixes i) refl)

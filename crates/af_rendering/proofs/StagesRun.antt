@@ -1,4 +1,4 @@
--- What a stage comes to whose turns were played.
+-- What a stage comes to once its turns were played.
 use Rattle.std.proofs.Common.{◌≡◌, ℕ, List, [], Some, Result, Ok, Err, OnOk, length, sym, ap, subst, ◌∙◌}
 use Rattle.af_base.specs.declared.frame.Frame.{Frame}
 use Rattle.af_base.specs.declared.state.FastState.{FastState}
@@ -26,7 +26,7 @@ use Rattle.af_rendering.proofs.ShownWhole.{released_few, tally_end}
 use Rattle.af_rendering.proofs.Spared.{spares_noted}
 use Rattle.af_rendering.proofs.SparedEntries.{entries_end}
 
--- the rounds of a stage were noted, as `n` of these tracks and files, behind the parties that it began with
+-- the rounds of a stage were noted, as `n` rounds of these tracks and files, since the parties that it began with
 pub record NotedOn (links : Links) (g : Given) (n : ℕ) (was : SessionState) (s : Stage) : Type 0 where
   pub ready : IsReady links g n s.parties
   pub tracks : s.rounds.tracks ≡ length g.tracks
@@ -49,7 +49,7 @@ module _ (script : ScriptData) (shared : SharedState) (was : SessionState) (new 
   long : (n : ℕ) → NotedOn links given n was s → length s.parties.clients ≡ s.rounds.tracks
   long n noted = sym noted.ready.given.0 ∙ sym noted.tracks
 
-  -- of all turns
+  -- a stage with all turns of the script noted has rendered it
   rendered_on : (turns : List TurnSpec) → turns ≡ script.turns → NotedOn links given (length turns) was s → Runs given turns was s.rounds.rounds s.parties → FastSparesSoFar s.parties → HasRendered script files s
   rendered_on turns are noted ran spares =
       let n : ℕ = length turns in
@@ -69,13 +69,13 @@ module _ (script : ScriptData) (shared : SharedState) (was : SessionState) (new 
         entries = entries_end script shared was new links given n turns s.rounds s.parties noted.ready ran noted.tracks noted.spares spares;
       }
 
--- ## A render, whose rounds are told and not noted
+-- ## A render, whose rounds are not noted
 
 module _ (script : ScriptData) (shared : SharedState) (was : SessionState) (new : IsNewSession script shared was) (files : List (List Frame)) (links : Links) (tracks : List TrackSpec) (here : tracks ≡ script.tracks) (s : Stage) (room : s.room.released ≡ record { items = []; room = length script.tracks }) (turns : List TurnSpec) (are : turns ≡ script.turns) where
   abbrev session : Given
   session = record { tracks = tracks; files = files }
 
-  -- as if the rounds had been noted
+  -- a stage as if the rounds had been noted on it
   as_noted : (rounds : RoundsNoted) → IsReady links session (length turns) s.parties → PlaysTurns session turns was rounds s.parties s.room.tally → s.parties.fast.frames ≡ was.fast.frames → SparesSoFar [] was → NotedOn links session (length turns) was (noted_as rounds s)
   as_noted rounds ready plays frames fresh = record {
     ready = ready;
@@ -96,7 +96,7 @@ module _ (script : ScriptData) (shared : SharedState) (was : SessionState) (new 
 -- ## The file
 
 module _ (script : ScriptData) (shared : SharedState) (was : SessionState) (new : IsNewSession script shared was) (base : Files) (name : List ℕ) where
-  -- an empty file is the sound so far
+  -- an empty file holds the sound of a new session's log
   pub silent_so_far : (old : Files) → SetsFile base name (Some []) old → SetsFile base name (Some (pcm_of was.fast.frames was.fast.log)) old
   silent_so_far old set = subst (λ (xs : List ℕ). SetsFile base name (Some xs) old) (sym (silent_first script shared was new [] was.fast.frames)) set
 

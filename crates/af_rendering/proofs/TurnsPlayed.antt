@@ -1,4 +1,4 @@
--- The turns that were played so far, and what all of them come to. Their rounds are told by the parties before and after each, and stand nowhere else.
+-- The turns that were played so far, and what all of them come to. Their rounds are seen in the parties before and after each, and stand nowhere else.
 use Rattle.std.proofs.Common.{◌≡◌, ℕ, ◌+◌, ◌<◌, ◌^◌, All, List, [], ◌∷◌, ◌++◌, length, take, get_or, refl, arith}
 use Rattle.std.proofs.lemmas.List.Elements.{All-append, All-cons, All-nil}
 use Rattle.af_base.specs.declared.state.FastState.{FastState}
@@ -35,7 +35,7 @@ pub record SoFar (g : Given) (turns : List TurnSpec) (s : SessionState) (rounds 
   pub numbers : All NotesNumbers rounds
   pub spares : SparesSoFar [] s → SparesSoFar rounds t
 
--- none were
+-- no turns were played so far
 pub so_far_none : (g : Given) (s : SessionState) (tally : Tallied) → s.fast.log.entries ≡ [] → s.fast.log.frames ≡ [] → IsTally (nothing_shown (length g.tracks)) tally → SoFar g [] s [] s tally
 so_far_none g s tally entries frames is = record {
   run = run_none g s;
@@ -45,7 +45,7 @@ so_far_none g s tally entries frames is = record {
   spares = (λ new. new);
 }
 
--- one more was, whatever stands for a turn that isn't there
+-- one more turn was played, whatever stands for a turn that isn't there
 pub so_far_more : (links : Links) (d : TurnSpec) (g : Given) (turns : List TurnSpec) (i : ℕ) (s m t : SessionState) (rounds : List RoundNoted) (before after : Tallied) → i < length turns → IsReady links g i m → IsReady links g (i + 1) t
     → SoFar g (take i turns) s rounds m before → (added : List ℕ) → IsRound g (get_or turns i d) m (round_told (get_or turns i d) m t) added t → pcm_of s.fast.frames m.fast.log ++ added ≡ pcm_of s.fast.frames t.fast.log
     → NotesFrames (round_told (get_or turns i d) m t) → NotesNumbers (round_told (get_or turns i d) m t) → FollowsRound (round_told (get_or turns i d) m t) m.fast t.fast before after
@@ -65,7 +65,7 @@ so_far_more links d g turns i s m t rounds before after lt ready next far added 
 few_tracks : (links : Links) (g : Given) (n : ℕ) (t : SessionState) → IsReady links g n t → length g.tracks < 2 ^ 32
 few_tracks links g n t ready = let few = ready.together.normal.tied.sizes.few in omega (arith, few, ready.given.0, ready.together.count)
 
--- all were, and the frames and the numbers of the log have their form
+-- all turns were played, and the frames and the numbers of the log have their form
 pub all_played : (links : Links) (g : Given) (n : ℕ) (turns : List TurnSpec) (s : SessionState) (rounds : List RoundNoted) (t : SessionState) (tally : Tallied) → IsReady links g n t → SoFar g turns s rounds t tally
     → All IsFrame t.fast.log.frames → All FitsEntry t.fast.log.entries → PlaysTurns g turns s (noted_of g rounds) t tally
 all_played links g n turns s rounds t tally ready far samples entries = record {

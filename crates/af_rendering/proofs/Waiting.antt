@@ -4,11 +4,11 @@ use Rattle.af_io.specs.Files.{Files, SetsFile}
 use Rattle.af_rendering.specs.Rendered.{HoldsBut}
 
 module _ (base files : Files) (name sound : List ℕ) where
-  -- none wait behind a whole sound
+  -- no bytes wait behind a whole sound
   pub none_wait : (waiting : List ℕ) → waiting ≡ [] → SetsFile base name (Some sound) files → HoldsBut waiting base name sound files
   none_wait waiting none set = (sound, ap (λ (xs : List ℕ). sound ++ xs) none ∙ append-nil sound, set)
 
-  -- more wait where the sound has as many more
+  -- more bytes wait if the sound has as many more
   pub more_wait : (waiting waits more next : List ℕ) → waits ≡ waiting ++ more → sound ++ more ≡ next → HoldsBut waiting base name sound files → HoldsBut waits base name next files
   more_wait waiting waits more next are grown held =
       let joined = ap (λ (xs : List ℕ). held.0 ++ xs) are ∙ sym (append_assoc held.0 waiting more) ∙ ap (λ (xs : List ℕ). xs ++ more) held.1 ∙ grown in

@@ -1,4 +1,4 @@
--- The summary that a journal tells alone, by the run that it leads to.
+-- The summary of a journal alone, by the run that it leads to.
 use Rattle.std.specs.Prelude.{length, map}
 use Rattle.af_model.specs.Journals.{JournalData, entries_of, frames_of}
 use Rattle.af_runs.specs.Runs.{Run}
@@ -7,7 +7,7 @@ use Rattle.af_session.specs.Shown.{shows}
 use Rattle.af_tally.specs.declared.summary.Summary.{Summary}
 use Rattle.af_tally.specs.Summaries.{summary_of}
 
--- that of its calls, turns and entries, with the states pushed and the frames released in this run
+-- the summary of a journal's calls, turns and entries, with the states pushed and the frames released in this run
 abbrev pub summary_by : ScriptData → JournalData → Run → Summary
 summary_by script j run =
     let seen = entries_of j.rounds in

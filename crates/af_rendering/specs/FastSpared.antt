@@ -12,7 +12,7 @@ use Rattle.af_session.specs.Shown.{use_of}
 use Rattle.af_tally.specs.Summaries.{EntryUsed}
 use Rattle.af_session.specs.Together.{SessionState}
 
--- the entries of a log, each with the state that it used, whatever stood before the first
+-- the entries of a log, each with the state that it used, whatever stood before the first state
 abbrev pub entries_used : FastState → MixerState → List EntryUsed
 entries_used first m = map (use_of (polled_states first m.observer.past.events)) m.log.entries
 

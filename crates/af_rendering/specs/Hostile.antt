@@ -13,11 +13,11 @@ use Rattle.af_session.specs.Shown.{calls_over, turns_over}
 use Rattle.af_tally.specs.Summaries.{EntryUsed, Look, Shown, calls_of, entry_looks, has_no_poke, is_lawful, turn_looks}
 use Rattle.af_session.specs.Together.{SessionState}
 
--- of these looks at stream blocks none at the track i was Shut
+-- none of these looks at stream blocks was Shut at the track i
 abbrev pub none_shut : ℕ → List Look → Bool
 none_shut i looks = list_all (λ look. not ((look.track == i) && is_shut look.seen)) looks
 
--- a turn of the normal mixer found neither block of the track i shut: by no look at its commands, and by none at its stream
+-- a turn of the normal mixer found neither block of the track i shut: no look at its commands was Shut, and none at its stream
 abbrev pub is_spared_in_turn : ℕ → Turn → Bool
 is_spared_in_turn i turn = list_all (λ look. not (is_shut look.seen)) (track_in turn i).looks && none_shut i (turn_looks turn)
 
@@ -44,10 +44,11 @@ pub record PokesSpareEntries (run : Shown) : Type 0 where
 abbrev pub IsTame : PartyState → Type 0
 IsTame p = (is_tame p.stream.pass.part.events ≡ true) × (is_tame p.command.pass.part.events ≡ true)
 
--- all calls of a client in some rounds, and all turns of the normal mixer
+-- all calls of a client in some rounds
 abbrev pub all_calls : List RoundNoted → ℕ → List ClientCall
 all_calls rounds i = calls_over (map (λ r. r.calls) rounds) i
 
+-- all turns of the normal mixer in some rounds
 abbrev pub all_turns : List RoundNoted → List Turn
 all_turns rounds = turns_over (map (λ r. r.turn) rounds)
 

@@ -18,11 +18,11 @@ use Rattle.af_stateq.specs.Laws.{is_push}
 abbrev pub LeadAway : FastState → List TrackKept → Type 0
 LeadAway x tracks = (k : ℕ) → k < slots → carries x k ≡ true → (is_home (track_at tracks (slot_of x k).track).holder ≡ false) × (slot_number (track_at tracks (slot_of x k).track) ≡ k)
 
--- and to one that is lent
+-- each slot that a state carries leads to a track that has it and is lent
 abbrev pub LeadLent : FastState → List TrackKept → Type 0
 LeadLent x tracks = (k : ℕ) → k < slots → carries x k ≡ true → (is_lent (track_at tracks (slot_of x k).track).holder ≡ true) × (slot_number (track_at tracks (slot_of x k).track) ≡ k)
 
--- the slots of the draft lead to tracks that are lent, those of the last state pushed and of the state x to tracks whose proxies are away
+-- the slots of the draft lead to tracks that are lent. Those of the last state pushed, and those of the state x, lead to tracks whose proxies are away
 pub record Leads (x : FastState) (m : NormalKept) : Type 0 where
   pub draft : LeadLent m.draft m.tracks
   pub last : LeadAway m.last m.tracks
@@ -39,12 +39,12 @@ pub record HasLearnt (ms : List (MutatorEvent ServerState)) (os : List (Observer
   pub learnt : os ≡ before ++ observer.Learn count ∷ []
   pub enough : length told ≤ count
 
--- what the mutator keeps of its pushes is what its list tells
+-- what the mutator keeps of its pushes is what its list says
 pub record Tells (m : Pushes ServerState StreamNames) : Type 0 where
   pub pushed : (first : FastState) → (mutated first m.events).pushed ≡ m.number
   pub last : 0 < m.number → (first : FastState) → (mutated first m.events).last ≡ m.last
 
--- The observer has polled no more states than were pushed, and where it has polled as many the last of them. It has learnt of all, or there is none
+-- The observer has polled no more states than were pushed. If it has polled as many, it has the last of them. It has learnt of all pushes, or there is none
 pub record InStep (m : Pushes ServerState StreamNames) (o : Polls ServerState StreamNames) : Type 0 where
   pub tells : Tells m
   pub few : o.number ≤ m.number

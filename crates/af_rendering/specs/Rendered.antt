@@ -38,7 +38,7 @@ pub record Runs (g : Given) (turns : List TurnSpec) (s : SessionState) (rounds :
   pub run : IsTurnRun g turns s rounds bytes t
   pub sound : pcm_of s.fast.frames t.fast.log ≡ pcm_of s.fast.frames s.fast.log ++ bytes
 
--- All these turns were played from s to t: their rounds make a journal with the log, the tally is that of the rounds, and each track that nobody poked was spared where none was shut before
+-- All these turns were played from s to t. Their rounds make a journal with the log, and the tally is that of the rounds. If no track was shut before, each track that nobody poked was spared
 pub record PlaysTurns (g : Given) (turns : List TurnSpec) (s : SessionState) (rounds : RoundsNoted) (t : SessionState) (tally : Tallied) : Type 0 where
   pub runs : Runs g turns s rounds.rounds t
   pub tracks : rounds.tracks ≡ length g.tracks
@@ -56,24 +56,24 @@ pub record Renders (script : ScriptData) (files : List (List Frame)) (turns : Li
   pub run : IsTurnRun (record { tracks = script.tracks; files = files }) turns start rounds bytes t
   pub sound : bytes ≡ pcm_of script.frames t.fast.log
 
--- with some rounds
+-- the parties t have played these turns with some rounds
 abbrev pub Rendered : ScriptData → List (List Frame) → List TurnSpec → SessionState → Type 0
 Rendered script files turns t = (rounds : List RoundNoted) × Renders script files turns rounds t
 
 -- ## Files
 
--- the file of this name has a sound but for the bytes that wait to go out behind it
+-- the file of this name has a sound but for the last bytes, which wait to go out
 abbrev pub HoldsBut : List ℕ → Files → List ℕ → List ℕ → Files → Type 0
 HoldsBut waiting base name sound files = (out : List ℕ) × (out ++ waiting ≡ sound) × SetsFile base name (Some out) files
 
--- no file has changed, or only that of this name, which holds a front of the sound of some first turns
+-- no file has changed; or only the file of this name, which holds a front of the sound of some first turns
 abbrev pub LeavesSound : ScriptData → List (List Frame) → List ℕ → Files → Files → Type 0
 LeavesSound script files name old new = SameFiles old new
     ⊎ ((n : ℕ) × (t : SessionState) × Rendered script files (take n script.turns) t × LeavesFront old name (pcm_of script.frames t.fast.log) new)
 
 -- ## What a run hands back
 
--- The journal and the ends of the parties that have played all turns, with a client for each track: the journal has the rounds of the turn run, and the entries of the fast mixer's log, and its form
+-- The journal and the ends of the parties that have played all turns, with a client for each track. The journal has the rounds of the turn run, the entries of the fast mixer's log, and its form
 pub record HandsBack (script : ScriptData) (files : List (List Frame)) (journal : JournalData) (ends : EndsState) : Type 0 where
   pub parties : SessionState
   pub rounds : List RoundNoted
@@ -83,7 +83,7 @@ pub record HandsBack (script : ScriptData) (files : List (List Frame)) (journal 
   pub ends_are : ends ≡ ends_from parties
   pub count : length ends.clients ≡ length script.tracks
 
--- What a render comes to, as its journal tells it: the ends of the turn run, the summary of the journal with them, and each track spared on whose blocks nothing was poked, by the looks of either mixer
+-- What a render comes to, by its journal: the ends of the turn run, and the summary of the journal with them. Each track on whose blocks nothing was poked was spared, by the looks of either mixer
 pub record ComesTo (script : ScriptData) (files : List (List Frame)) (journal : JournalData) (summary : Summary) (ends : EndsState) : Type 0 where
   pub back : HandsBack script files journal ends
   pub summary_is : summary ≡ summary_told script.frames journal ends

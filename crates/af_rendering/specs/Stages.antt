@@ -25,7 +25,7 @@ pub record IsNewRoom (frames tracks : ℕ) (room : Room) : Type 0 where
   pub tally : IsTally (nothing_shown tracks) room.tally
   pub released : room.released ≡ record { items = []; room = tracks }
 
--- the new parties of an accepted script with what they share, with such room, and no round
+-- a new stage: the new parties of an accepted script with what they share, with new room, and no round
 pub record IsNewStage (script : ScriptData) (s : Stage) : Type 0 where
   pub script_is : IsScript script
   pub new : IsNewSession script s.shared s.parties
@@ -37,11 +37,11 @@ pub record IsNewStage (script : ScriptData) (s : Stage) : Type 0 where
 abbrev pub noted_as : RoundsNoted → Stage → Stage
 noted_as rounds s = record s { rounds = rounds }
 
--- what the rounds noted show, with the log
+-- what the rounds noted on a stage show, with the log
 abbrev pub shown_on : ScriptData → Stage → Shown
 shown_on script s = shown_in script.frames s.rounds s.parties.fast.log s.parties.normal.mutator.past.events
 
--- The rounds noted make a journal with the log, and the tally is theirs; there is room for a count of each client; and each track that nobody poked was spared
+-- The rounds noted on a stage make a journal with the log, and the tally is theirs. There is room for a count of each client. Each track that nobody poked was spared
 pub record IsNoted (script : ScriptData) (s : Stage) : Type 0 where
   pub tracks : s.rounds.tracks ≡ length script.tracks
   pub whole : IsWhole s.rounds s.parties.fast.log
@@ -52,7 +52,7 @@ pub record IsNoted (script : ScriptData) (s : Stage) : Type 0 where
   pub room : s.room.released ≡ record { items = []; room = length script.tracks }
   pub spared : PokesSpareOthers (shown_on script s)
 
--- all turns of the script were played on it
+-- all turns of the script were played on the stage
 pub record HasRendered (script : ScriptData) (files : List (List Frame)) (s : Stage) : Type 0 where
   pub all : Renders script files script.turns s.rounds.rounds s.parties
   pub noted : IsNoted script s

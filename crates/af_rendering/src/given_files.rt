@@ -47,7 +47,7 @@ fn is_file_for(ops: &[Op], file: &[Frame]) -> bool
     write_within(ops, file.len())
 }
 
-/// Whether each track has a file, which has the frames that the track's writes ask for, and no more than 4,194,304.
+/// Whether each track has a file, which has the frames that the track's writes ask for, and no more than 4,194,304 frames.
 pub fn have_files(tracks: &[TrackSpec], files: &[Pcm]) -> bool
     ensures yes { IsTrue result → HaveFiles (record { tracks = tracks.now; files = files.now }) }
     ensures no { HaveFiles (record { tracks = tracks.now; files = files.now }) → IsTrue result }

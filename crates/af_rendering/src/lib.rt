@@ -1,4 +1,4 @@
-//! Renders: the turns of a script from first to last, one after the other, and the file of what they mixed; and what a session is played on.
+//! Renders: the turns of a script from first to last, one after the other, and the file of what they mixed. Also what a session is played on.
 #![tactic(auto)]
 
 mod given_files;

@@ -23,10 +23,10 @@ use af_tally::Tally;
 use std::marker::Brand;
 use std::sync::ledger::{Blank, Ledger};
 
-// The most bytes, for each frame of a cycle, that wait to go out while a round is played: those of three rounds of sixteen cycles.
+// The most bytes that wait to go out while a round is played, for each frame of a cycle: those of three rounds of sixteen cycles.
 const MOST_WAITING: usize = 192;
 
-/// The bytes are added to a file as one piece, where there are some.
+/// Adds the bytes to a file as one piece, if there are some.
 pub fn send_out<S: Store>(store: &mut S, name: &str, bytes: &[u8]) -> Result<(), StoreError>
     ensures written { S.told store.old → (base : Files) (out : List ℕ) → SetsFile base name.now (Some out) (S.files store.old) → OnOk result (SetsFile base name.now (Some (out ++ bytes.now)) (S.files store.new)) }
     ensures left { S.told store.old → (base : Files) (out : List ℕ) → SetsFile base name.now (Some out) (S.files store.old) → OnErr result (LeavesFront base name.now (out ++ bytes.now) (S.files store.new)) }
@@ -39,7 +39,7 @@ pub fn send_out<S: Store>(store: &mut S, name: &str, bytes: &[u8]) -> Result<(),
     store.append(name, bytes)
 }
 
-// The bytes that wait go out behind what the file has of the sound, and none waits any more.
+// Adds the bytes that wait to what the file has of the sound. No byte waits any more.
 fn send_waiting<S: Store>(
     store: &mut S,
     name: &str,
@@ -56,7 +56,7 @@ fn send_waiting<S: Store>(
     sent
 }
 
-// The bytes go out that wait, if more than so many do.
+// Adds the bytes that wait to the file, if they are more than so many.
 fn send_beyond<S: Store>(
     store: &mut S,
     name: &str,
@@ -76,7 +76,7 @@ fn send_beyond<S: Store>(
     send_waiting(store, name, bytes)
 }
 
-// A round, whose steps are counted by themselves.
+// A round, whose steps are counted apart from those of other rounds.
 fn round_in<L: Ledger>(
     blank: Blank,
     parties: &mut Parties,
@@ -105,7 +105,7 @@ fn round_in<L: Ledger>(
     parties.round(links, turn, tracks, files, buffer, bytes, tally, &mut steps);
 }
 
-// A round. Its bytes wait behind those of the rounds before; all go out as one piece as soon as those of the next round might find no room.
+// A round. Its bytes wait behind those of the rounds before it; all go out as one piece as soon as those of the next round might find no room.
 fn play_out<S: Store>(
     parties: &mut Parties,
     links: &Links<'_>,
@@ -154,7 +154,7 @@ fn play_out<S: Store>(
 
 /// Plays these turns one after the other, each as a round after which all meet, and notes each in the tally. The bytes of the rounds' mixed cycles are added to the file in pieces of several rounds.
 ///
-/// What was played is a turn run of the script and its files. Its rounds, which nobody writes down, make a journal with the log; and where the file held the sound of the fast mixer's log before it does so again. After a fault of the store some first turns were played, and the file holds a front of their sound.
+/// What was played is a turn run of the script and its files. Its rounds, which nobody writes down, make a journal with the log. If the file held the sound of the fast mixer's log before, it does so again. After a fault of the store some first turns were played, and the file holds a front of their sound.
 pub fn play_all<S: Store>(
     parties: &mut Parties,
     links: &Links<'_>,

@@ -29,7 +29,7 @@ use std::alloc::Global;
 use std::marker::Model;
 use std::mem::drop;
 
-/// The client proxies and the normal mixer of a run that is over. Contracts see the lists that their passes keep.
+/// The client proxies and the normal mixer of a run that is over. Contracts see the lists that the passes of the proxies and the mixer keep.
 #[derive(Drop)]
 pub struct Ends {
     clients: Vec<Party>,
@@ -69,14 +69,14 @@ impl Ends {
     }
 }
 
-/// What a render comes to: its summary and the ends. Its journal stands in contracts alone, and no code makes it.
+/// What a render comes to: its summary and the ends of its parties. Its journal stands in contracts alone, and no code makes it.
 #[derive(Drop)]
 pub struct Outcome {
     pub summary: Summary,
     pub ends: Ends,
 }
 
-/// What was played: its journal, its summary, and the ends.
+/// What was played: its journal, its summary, and the ends of its parties.
 #[derive(Drop)]
 pub struct Played {
     pub journal: Journal,
@@ -84,7 +84,7 @@ pub struct Played {
     pub ends: Ends,
 }
 
-// How many frames the client of each track has released, in a list with room for them.
+// Puts how many frames the client of each track has released into a list with room for them.
 fn push_released(clients: &[Party], released: &mut Items<u64>)
     requires room { length clients.now ≤ released.old.room }
     requires empty { released.old.items ≡ [] }
@@ -95,7 +95,7 @@ fn push_released(clients: &[Party], released: &mut Items<u64>)
     }
 }
 
-// The summary of what a tally noted and of the frames that the clients released, for whose counts a list has room.
+// The summary of what a tally noted and of the frames that the clients released. The list `released` has room for a count of each client.
 fn sum_up(parties: &Parties, tally: &Tally, released: &mut Items<u64>) -> Summary
     requires room { length parties.now.clients ≤ released.old.room }
     requires empty { released.old.items ≡ [] }
@@ -107,7 +107,7 @@ fn sum_up(parties: &Parties, tally: &Tally, released: &mut Items<u64>) -> Summar
     tally.summary(released.as_slice())
 }
 
-/// The journal of parties, whose rounds were noted, and their ends.
+/// The journal of parties whose rounds were noted, and the ends of the parties.
 pub fn hand_over(parties: Parties, rounds: Rounds) -> (Journal, Ends)
     requires whole { IsWhole rounds parties.fast.log }
     requires form { IsJournal (journal_of rounds parties.fast.log) }
@@ -125,7 +125,7 @@ pub fn hand_over(parties: Parties, rounds: Rounds) -> (Journal, Ends)
     )
 }
 
-// The ends of parties. The fast mixer and its log are let go.
+// The ends of parties. The fast mixer and its log are dropped.
 fn ends_of(parties: Parties) -> Ends
     ensures { result ≡ ends_from parties }
 {
@@ -155,7 +155,7 @@ fn hand_back(parties: Parties, rounds: Rounds, summary: Summary) -> Played
 }
 
 impl Stage {
-    // All turns of a script by its new parties, into a file that is empty. No round is noted.
+    // Plays all turns of a script by its new parties, into a file that is empty. No round is noted.
     fn play_turns<S: Store>(
         &mut self,
         script: &Script,
@@ -214,7 +214,7 @@ impl Stage {
         self.play_turns(script, files, store, name)
     }
 
-    // What a render comes to, of a stage on which all turns were played.
+    // What a render comes to, from a stage on which all turns were played.
     fn close(mut self) -> Outcome
         requires { (script : ScriptData) × (rounds : RoundsNoted) × IsNoted script (noted_as rounds self) }
         ensures ends { result.ends ≡ ends_from self.parties }
@@ -227,7 +227,7 @@ impl Stage {
         }
     }
 
-    /// What is handed back of a stage whose rounds were noted.
+    /// The journal, the summary and the ends of a stage whose rounds were noted.
     pub fn finish(mut self) -> Played
         requires { (script : ScriptData) × IsNoted script self }
         ensures journal { result.journal ≡ journal_of self.rounds self.parties.fast.log }
@@ -241,7 +241,7 @@ impl Stage {
 
 /// Plays the turns of a script one after the other, each as a round after which all parties meet, and writes the sound to the file of this name. All blocks, logs and mixers are made before the file is; from then on no memory is taken.
 ///
-/// What was played is a turn run of the script and its files. Its journal is nowhere written down: that there is one, whose rounds are those of the run, of which the summary is, and whose sound is the file where the store tells it, is what `played` says. Whatever clients stored in their words, each track on whose blocks nothing was poked is spared: no call of its client was answered Corrupt, and no look of either mixer at its blocks was Shut. After a fault of the store, or want of memory, no file has changed, or the file holds a front of the sound of some first turns.
+/// What was played is a turn run of the script and its files. Its journal is nowhere written down. `played` says that there is one: its rounds are those of the run, and the summary is that of this journal. If the store says what its files hold, the file is the sound of this journal. Whatever clients stored in their words, each track on whose blocks nothing was poked is spared: no call of its client was answered Corrupt, and no look of either mixer at its blocks was Shut. After a fault of the store, or if an allocation was refused, no file has changed, or the file holds a front of the sound of some first turns.
 pub fn render<S: Store>(
     alloc: Global,
     script: &Script,

@@ -11,7 +11,7 @@ use af_session::{Parties, make};
 use af_tally::Tally;
 use std::alloc::Global;
 
-/// Room for the frames of a cycle and for the bytes of four rounds of the most cycles, the tally of the tracks, and room for a count of each.
+/// The room of a session: for the frames of a cycle, for the bytes of four rounds of the most cycles, for the tally of the tracks, and for a count of each track.
 #[derive(Drop)]
 pub struct Room {
     pub buffer: Vec<Frame>,
@@ -20,7 +20,7 @@ pub struct Room {
     pub released: Items<u64>,
 }
 
-/// The parties of a session with what they share, the room that their rounds need, and the rounds that were noted: those of a play, as a render notes none.
+/// The parties of a session with what they share, the room that their rounds need, and the rounds that were noted. Only a play notes rounds; a render notes none.
 #[derive(Drop)]
 pub struct Stage {
     pub shared: Shared,
@@ -40,7 +40,7 @@ fn silence(alloc: Global, frames: usize) -> Result<Vec<Frame>, Memory>
 }
 
 impl Room {
-    // The room of so many frames a cycle and of so many tracks. Memory is its only refusal.
+    // The room for so many frames of a cycle and so many tracks. Memory is the only refusal.
     fn make(alloc: Global, frames: usize, tracks: usize) -> Result<Self, Memory>
         requires frames { frames ≤ 1024 }
         requires tracks { tracks ≤ most_tracks }
@@ -60,7 +60,7 @@ impl Room {
 }
 
 impl Stage {
-    /// The stage of a script, before its first turn. Memory is its only refusal.
+    /// The stage of a script, before its first turn. Memory is the only refusal.
     pub fn make(alloc: Global, script: &Script) -> Result<Self, Memory>
         ensures { IfOk result (IsNewStage script.now) }
     {

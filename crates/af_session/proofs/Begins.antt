@@ -39,10 +39,11 @@ use Rattle.af_session.proofs.Sizes.{command_shape_is, stream_shape_is}
 
 -- ## The spec
 
--- the tracks of a script fit
+-- the tracks of a script fit a mixer
 tracks_fit : (version : ℕ) (specs : List TrackSpec) → All IsTrack specs → All IsEngineTrack (map (engine_track version) specs)
 tracks_fit version specs each = All-map IsEngineTrack (engine_track version) specs (λ k d lt. let one = each k d lt in record { frames = one.buffer; scale = one.scale })
 
+-- what a script asks of a mixer fits
 pub spec_fits : (script : ScriptData) (spec : MixerSpec) → IsScript script → IsSpecOf script spec → IsMixerSpec spec
 spec_fits script spec ok is =
     let count : length spec.tracks.now ≡ length script.tracks = ap (λ (xs : List EngineTrack). length xs) is.tracks ∙ length-map script.tracks (engine_track script.version) in
@@ -55,6 +56,7 @@ spec_fits script spec ok is =
       tracks = subst (All IsEngineTrack) (sym is.tracks) (tracks_fit script.version script.tracks ok.tracks);
     }
 
+-- the settings of the tracks are those that the script gives
 settings_map : (version : ℕ) (specs : List TrackSpec) → map setting_of (map (engine_track version) specs) ≡ map spec_setting specs
 settings_map version [] = refl
 settings_map version (s ∷ specs) = ap (λ (xs : List Setting). spec_setting s ∷ xs) (settings_map version specs)
@@ -122,7 +124,7 @@ module _ (script : ScriptData) (ok : IsScript script) (spec : MixerSpec) (is : I
     fast = new.fast ∙ (λ i. made_of e.fast.observer e.fast.writer e.fast.pipe (is.cycles i) (is.frames i));
   }
 
-  -- the parties belong together as the ends do
+  -- each client has the ends of its track, so the parties belong together as the ends do
   own : (i : ℕ) (p : PartyState) → slice_get clients i ≡ Some p → (d : TrackEnds) × (slice_get e.tracks i ≡ Some d) × IsClientOf d p
   own i p at_p =
       let inside = slice_get_within clients i p at_p in

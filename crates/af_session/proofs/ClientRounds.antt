@@ -28,7 +28,7 @@ module _ (links : Links) (g : Given) (s : SessionState) (i : ℕ) (p : PartyStat
   pub file_here : file ≡ file_at g i
   file_here = file_is ∙ pcm_is ∙ get_or_default g.files i pcm [] (omega (arith, lt, given.1))
 
-  -- what the turn asks for
+  -- what the turn of a client asks for
   module _ (n : ℕ) (ready : IsReady links g n s) where
     pub asks_clients : AreClientsOf links p.track p.stream p.command
     asks_clients = subst (λ (k : ℕ). AreClientsOf links k p.stream p.command) (sym (ready.together.tracks i p here)) (ready.together.clients i p here)
@@ -39,7 +39,7 @@ module _ (links : Links) (g : Given) (s : SessionState) (i : ℕ) (p : PartyStat
     pub asks_few : n < 100000 → p.command.released + 128 ≤ 2 ^ 62
     asks_few few = let sent = ready.few i p here in omega (arith, sent, few)
 
-    -- what it leaves
+    -- what the turn of a client leaves: a session ready for one round more
     module _ (q : PartyState) (ours : AreClientsOf links q.track q.stream q.command) (can : CanWork ops (length file) q) (track : q.track ≡ p.track) (sent : q.command.released ≤ p.command.released + 128) where
       pub leaves_ready : IsReady links g (n + 1) (record s { clients = slice_set s.clients i q })
       leaves_ready = ready_client links g n s ready i p q here
@@ -47,7 +47,7 @@ module _ (links : Links) (g : Given) (s : SessionState) (i : ℕ) (p : PartyStat
           (subst (λ (x : List Op × List Frame). CanWork x.0 (length x.1) q) (λ k. (ops_here k, file_here k)) can)
           track sent
 
-  -- the turn that it was
+  -- legal calls of the client make its turn in the session
   pub has_turned : (q : PartyState) → LegalClientTurn (track_of ops file p) q.calls.items → track_of ops file q ≡ after_calls (track_of ops file p) q.calls.items
       → (r : RoundNoted) × Turns g (spec.Client i) s r [] (record s { clients = slice_set s.clients i q })
   has_turned q legal turned = (

@@ -25,14 +25,14 @@ use Rattle.af_tally.proofs.Sounding.{log_grows, grows_not, grows_on, same_if}
 
 -- ## Where the frames of a new entry stand
 
--- the frames of the first slots, and those of one more, are among those of all
+-- the frames that the first slots took, and those of one slot more, are among the frames of all slots
 taken_below : (entry : CycleEntry) (i n : ℕ) → i < n → taken_before entry i + count_seen (entry_slot entry i).seen ≤ taken_before entry n
 taken_below entry i zero lt = absurd (omega arith)
 taken_below entry i (suc n) lt = dite (ℕ_discrete i n)
     (λ e. subst (λ k. taken_before entry k + count_seen (entry_slot entry k).seen ≤ taken_before entry n + count_seen (entry_slot entry n).seen) (sym e) (omega arith))
     (λ ne. let h = taken_below entry i n (omega arith) in omega arith)
 
--- a slot that names its place, or 0 where it took nothing, ends where its frames do
+-- a slot names the place of its frames, or 0 if it took none: it ends no later than its frames do
 ends_within : (place count first high : ℕ) → first ≡ (if count == 0 then 0 else place) → place + count ≤ high → first + count ≤ high
 ends_within place zero first high is le = omega (arith, is)
 ends_within place (suc n) first high is le =
@@ -40,7 +40,7 @@ ends_within place (suc n) first high is le =
     let there : first ≡ place = is ∙ ap (λ (b : Bool). if b then 0 else place) some in
     omega (arith, there)
 
--- a mix has a state
+-- a cycle that mixes has a state
 mixes_state : (done : ℕ) (state : Option FastState) → is_mixed (cycle_of done state) ≡ true → (x : FastState) × (state ≡ Some x)
 mixes_state done None mixed = absurd (true≢false (sym mixed))
 mixes_state done (Some x) mixed = (x, refl)
@@ -56,14 +56,14 @@ added_within m m' entry a mixed i lt =
 
 -- ## One cycle
 
--- at most one entry, which is that of a mix where the cycle mixed
+-- what one cycle adds to the log: at most one entry, which is that of a mix if the cycle mixed
 pub record AddsOne (len : ℕ) (answer : Cycle) (log log' : Logged) (bytes : List ℕ) : Type 0 where
   pub entries : List CycleEntry
   pub one : length entries ≤ 1
   pub mixed : is_mixed answer ≡ true → All IsMixed entries
   pub grows : Grows len log log' entries bytes
 
--- a cycle that adds none
+-- a cycle that adds no entry, and doesn't mix, adds no bytes
 adds_none : (len : ℕ) (answer : Cycle) (log log' : Logged) (out : List Frame) → IsWhole log → is_mixed answer ≡ false → log' ≡ log → AddsOne len answer log log' (written answer out)
 adds_none len answer log log' out whole dry same =
     let none : written answer out ≡ [] = ap (λ (b : Bool). if b then pcm_bytes out else []) dry in
@@ -74,7 +74,7 @@ adds_none len answer log log' out whole dry same =
       grows = subst (Grows len log log' []) (sym none) (grows_not len log log' whole same);
     }
 
--- one that adds an entry
+-- a cycle that adds an entry adds the bytes of its mix
 adds_entry : (m m' : MixerState) (out out' : List Frame) (answer : Cycle) (entry : CycleEntry) → length out ≡ m.frames → IsWhole m.log → answer ≡ entry.cycle → AddsCycle m m' entry → Writes m' entry out out'
     → AddsOne m.frames answer m.log m'.log (written answer out')
 adds_entry m m' out out' answer entry long whole is a w =
@@ -92,7 +92,7 @@ adds_entry m m' out out' answer entry long whole is a w =
       grows = subst (Grows len m.log m'.log (entry ∷ [])) bytes (log_grows len m.log m'.log (entry ∷ []) a.takes.grown.0 whole a.entries a.takes.grown.1 within);
     }
 
--- a call of mix
+-- a call of mix adds at most one entry
 pub mix_adds : (m m' : MixerState) (out out' : List Frame) (answer : Cycle) → length out ≡ m.frames → IsWhole m.log → MixesOnce m out answer m' out' → AddsOne m.frames answer m.log m'.log (written answer out')
 mix_adds m m' out out' answer long whole x = by_exit m.exited refl
   where
@@ -111,7 +111,7 @@ mix_adds m m' out out' answer long whole x = by_exit m.exited refl
         adds_none m.frames answer m.log m'.log out' whole (ap is_mixed done.0) (ap (λ (y : MixerState). y.log) done.1)
     by_exit false is = by_length (length m.log.entries == m.cycles) is refl
 
--- the meetings leave the log, the sizes and the mark as they are
+-- the meetings leave the log, the sizes and the mark of the fast mixer as they are
 pub met_keeps : (a b : SessionState) → Met a b → (b.fast.log ≡ a.fast.log) × (b.fast.frames ≡ a.fast.frames) × (b.fast.cycles ≡ a.fast.cycles) × (b.fast.adopted ≡ a.fast.adopted)
 met_keeps a b met = (
   ap (λ (m : MixerState). m.log) met.ends.fast,
@@ -120,7 +120,7 @@ met_keeps a b met = (
   ap (λ (m : MixerState). m.adopted) met.ends.fast,
 )
 
--- so does a poll, but for the mark
+-- a poll leaves the log and the sizes of the fast mixer as they are, and sets its mark
 pub polled_keeps : (m p : MixerState) → Adopts m p → (p.log ≡ m.log) × (p.frames ≡ m.frames) × (p.cycles ≡ m.cycles) × (p.adopted ≡ true)
 polled_keeps m p adopts = (
   ap (λ (y : MixerState). y.log) adopts.same,
@@ -129,14 +129,14 @@ polled_keeps m p adopts = (
   ap (λ (y : MixerState). y.adopted) adopts.same,
 )
 
--- a cycle keeps the sizes
+-- a cycle keeps the sizes of the fast mixer
 pub cycle_sizes : (s s' : SessionState) (out out' : List Frame) (answer : Cycle) → IsCycle s out answer s' out' → (s'.fast.frames ≡ s.fast.frames) × (s'.fast.cycles ≡ s.fast.cycles)
 cycle_sizes s s' out out' answer c =
     let met = met_keeps (record s { fast = c.polled }) c.met c.meets in
     let polled = polled_keeps s.fast c.polled c.adopts in
     (c.sizes.0 ∙ met.1 ∙ polled.1, c.sizes.1 ∙ met.2 ∙ polled.2)
 
--- what it adds
+-- a cycle among the parties adds at most one entry, with the bytes that it wrote
 cycle_adds : (s s' : SessionState) (answer : Cycle) (bytes : List ℕ) → IsWhole s.fast.log → WritesCycle s answer bytes s' → AddsOne s.fast.frames answer s.fast.log s'.fast.log bytes
 cycle_adds s s' answer bytes whole w =
     let met = met_keeps (record s { fast = w.cycle.polled }) w.cycle.met w.cycle.meets in
@@ -148,13 +148,13 @@ cycle_adds s s' answer bytes whole w =
     let of_frames = subst (λ (n : ℕ). AddsOne n answer s.fast.log s'.fast.log (written answer w.after)) frames of_log in
     subst (AddsOne s.fast.frames answer s.fast.log s'.fast.log) (sym w.bytes_are) of_frames
 
--- the frames that its entry names lie in the log
+-- after a cycle the frames that the entries of the log name lie in the log
 pub cycle_whole : (s s' : SessionState) (answer : Cycle) (bytes : List ℕ) → IsWhole s.fast.log → WritesCycle s answer bytes s' → IsWhole s'.fast.log
 cycle_whole s s' answer bytes whole w = (cycle_adds s s' answer bytes whole w).grows.whole
 
 -- ## A turn
 
--- a cycle that mixes nothing is the last
+-- a cycle that mixes nothing is the last of its turn: the turn adds what the cycle does
 pub adds_last : (len left : ℕ) (answer : Cycle) (log log' : Logged) (bytes : List ℕ) → AddsOne len answer log log' bytes → TurnAdds len (suc left) log log' bytes
 adds_last len left answer log log' bytes a = record {
   mixes = [];
@@ -165,7 +165,7 @@ adds_last len left answer log log' bytes a = record {
   grows = a.grows;
 }
 
--- after a mix the turn goes on
+-- after a mix the turn goes on: it adds what the mix and the other cycles do
 pub adds_more : (len left : ℕ) (answer : Cycle) (a b c : Logged) (front back : List ℕ) → is_mixed answer ≡ true → AddsOne len answer a b front → TurnAdds len left b c back → TurnAdds len (suc left) a c (front ++ back)
 adds_more len left answer a b c front back mixed p q = record {
   mixes = p.entries ++ q.mixes;
@@ -176,7 +176,7 @@ adds_more len left answer a b c front back mixed p q = record {
   grows = subst (λ (l : List CycleEntry). Grows len a c l (front ++ back)) (sym (append_assoc p.entries q.mixes q.last)) (grows_on len a b c p.entries (q.mixes ++ q.last) front back p.grows q.grows);
 }
 
--- a cycle, and what comes after it
+-- a cycle, and the cycles that come after it, add what a turn may add
 turn_step : (left : ℕ) (s next s' : SessionState) (answer : Cycle) (front back : List ℕ) → AddsOne s.fast.frames answer s.fast.log next.fast.log front → next.fast.frames ≡ s.fast.frames
     → (is_mixed answer ≡ true → TurnAdds next.fast.frames left next.fast.log s'.fast.log back) → (is_mixed answer ≡ false → (back ≡ []) × (s' ≡ next))
     → TurnAdds s.fast.frames (suc left) s.fast.log s'.fast.log (front ++ back)
@@ -207,15 +207,15 @@ turn_adds (suc left) s s' bytes whole (answer, next, front, back, cycle, bytes_a
     subst (TurnAdds s.fast.frames (suc left) s.fast.log s'.fast.log) (sym bytes_are)
     (turn_step left s next s' answer front back first sizes.0 (λ mixed. turn_adds left next s' back first.grows.whole (more mixed)) over)
 
--- and so does one that put its bytes behind others
+-- a turn that put its bytes behind others adds what its cycles do
 pub turned_by : (count : ℕ) (s s' : SessionState) (bytes bytes' : Roomy ℕ) (added : List ℕ) → IsWhole s.fast.log → bytes' ≡ record bytes { items = bytes.items ++ added } → IsFastTurn count s added s' → Turned count s s' bytes bytes'
 turned_by count s s' bytes bytes' added whole grown turn = record { added = added; written_is = grown; turn = turn; adds = turn_adds count s s' added whole turn }
 
--- the log has as many entries more as the turn added
+-- after a turn the log is no shorter than before
 pub entries_more : (count : ℕ) (s s' : SessionState) (bytes bytes' : Roomy ℕ) → Turned count s s' bytes bytes' → length s.fast.log.entries ≤ length s'.fast.log.entries
 entries_more count s s' bytes bytes' t = omega (arith, ap length t.adds.grows.entries ∙ length-append s.fast.log.entries (t.adds.mixes ++ t.adds.last))
 
--- bytes that were the sound of the log, behind others, are so again
+-- if the bytes, behind those that went out before, were the sound of the log, they are so again after a turn
 pub sounds_again : (count : ℕ) (s s' : SessionState) (bytes bytes' : Roomy ℕ) (before : List ℕ) → Turned count s s' bytes bytes' → before ++ bytes.items ≡ pcm_of s.fast.frames s.fast.log → before ++ bytes'.items ≡ pcm_of s.fast.frames s'.fast.log
 sounds_again count s s' bytes bytes' before t same =
     ap (λ (y : Roomy ℕ). before ++ y.items) t.written_is
@@ -223,10 +223,10 @@ sounds_again count s s' bytes bytes' before t same =
     ∙ ap (λ (l : List ℕ). l ++ t.added) same
     ∙ sym t.adds.grows.sound
 
--- the frames that the log's mixes name lie in it after the meetings, too
+-- after the meetings the frames that the log's mixes name still lie in the log
 pub whole_met : (a b : SessionState) → Met a b → IsWhole a.fast.log → IsWhole b.fast.log
 whole_met a b met whole = subst IsWhole (sym (met_keeps a b met).0) whole
 
--- and in an empty log, since it names none
+-- an empty log names no frames, so all that it names lie in it
 pub whole_new : (log : Logged) → log.entries ≡ [] → IsWhole log
 whole_new log none = subst (All (LieWithin log.frames)) (sym none) (All-nil (LieWithin log.frames))

@@ -16,21 +16,21 @@ use Rattle.af_session.specs.Together.{SessionState}
 abbrev pub GoesTo : ℕ → ℕ → SessionState → SessionState → List ℕ → Type 0
 GoesTo count i first now front = (left : ℕ) (back : List ℕ) (last : SessionState) → left + i ≡ count → IsFastTurn left now back last → IsFastTurn count first (front ++ back) last
 
--- at the beginning
+-- before the first cycle the parties are those at the beginning
 pub goes_first : (count : ℕ) (first : SessionState) → GoesTo count 0 first first []
 goes_first count first left back last is turn = subst (λ (n : ℕ). IsFastTurn n first back last) (sym (add-zero left) ∙ is) turn
 
--- after one more mix
+-- after one more mix the turn goes on
 pub goes_on : (count i : ℕ) (first now next : SessionState) (answer : Cycle) (front more : List ℕ) → GoesTo count i first now front → WritesCycle now answer more next → is_mixed answer ≡ true → GoesTo count (i + 1) first next (front ++ more)
 goes_on count i first now next answer front more goes w mixed left back last is turn =
     let whole : IsFastTurn (suc left) now (more ++ back) last = (answer, next, more, back, w, refl, λ _. turn, λ dry. absurd (true≢false (sym mixed ∙ dry))) in
     subst (λ (bytes : List ℕ). IsFastTurn count first bytes last) (sym (append_assoc front more back)) (goes (suc left) (more ++ back) last (omega (arith, is)) whole)
 
--- where all cycles were made
+-- after all cycles the turn is over
 pub goes_whole : (count : ℕ) (first now : SessionState) (front : List ℕ) → GoesTo count count first now front → IsFastTurn count first front now
 goes_whole count first now front goes = subst (λ (bytes : List ℕ). IsFastTurn count first bytes now) (append-nil front) (goes 0 [] now (omega arith) (refl, refl))
 
--- where a cycle mixes nothing
+-- after a cycle that mixes nothing the turn is over
 pub goes_over : (count i : ℕ) (first now next : SessionState) (answer : Cycle) (front more : List ℕ) → GoesTo count i first now front → WritesCycle now answer more next → is_mixed answer ≡ false → i < count
     → IsFastTurn count first (front ++ more) next
 goes_over count i first now next answer front more goes w dry lt =
@@ -38,7 +38,7 @@ goes_over count i first now next answer front more goes w dry lt =
     let turn : IsFastTurn (suc left) now more next = (answer, next, more, [], w, sym (append-nil more), (λ mixed. absurd (true≢false (sym mixed ∙ dry))), λ _. (refl, refl)) in
     goes (suc left) more next (omega arith) turn
 
--- four bytes a frame
+-- the sound of some frames has four bytes a frame
 pub long_pcm : (frames : List Frame) → length (pcm_bytes frames) ≡ 4 * length frames
 long_pcm [] = refl
 long_pcm (f ∷ fs) =
@@ -47,7 +47,7 @@ long_pcm (f ∷ fs) =
     let four : length (frame_bytes f) ≡ 4 = refl in
     omega (arith, rest, both, four)
 
--- or none
+-- a cycle writes four bytes for each frame of its buffer, or none
 pub long_written : (answer : Cycle) (out : List Frame) → length (written answer out) ≤ 4 * length out
 long_written answer out = by_mixed (is_mixed answer)
   where
@@ -55,7 +55,7 @@ long_written answer out = by_mixed (is_mixed answer)
     by_mixed true = omega (arith, long_pcm out)
     by_mixed false = omega arith
 
--- bytes behind bytes
+-- if bytes are put behind others in two steps, the result is the same as in one step
 pub put_behind : (a b c : Roomy ℕ) (front more : List ℕ) → b ≡ record a { items = a.items ++ front } → c ≡ record b { items = b.items ++ more } → c ≡ record a { items = a.items ++ (front ++ more) }
 put_behind a b c front more first second =
     second ∙ ap (λ (y : Roomy ℕ). record y { items = y.items ++ more }) first ∙ ap (λ (l : List ℕ). record a { items = l }) (append_assoc a.items front more)

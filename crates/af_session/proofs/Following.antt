@@ -36,21 +36,21 @@ use Rattle.af_tally.proofs.Sounding.{takes_stay}
 
 -- ## States
 
--- a state keeps its number where more states follow
+-- a state keeps its number if more states follow
 pub state_of-front : (xs more : List FastState) (k : ℕ) → k ≤ length xs → state_of (xs ++ more) k ≡ state_of xs k
 state_of-front xs more zero few = refl
 state_of-front [] more (suc k) few = absurd (omega arith)
 state_of-front (x ∷ xs) more (suc zero) few = refl
 state_of-front (x ∷ xs) more (suc (suc k)) few = state_of-front xs more (suc k) (omega arith)
 
--- so entries that name no later ones use the same states
+-- entries that name none of the later states use the same states if more follow
 pub uses_stay : (xs more : List FastState) (n : ℕ) (entries : List CycleEntry) → n ≤ length xs → UseUpTo n entries → map (use_of (xs ++ more)) entries ≡ map (use_of xs) entries
 uses_stay xs more n [] few up = refl
 uses_stay xs more n (entry ∷ entries) few up =
     let here : state_of (xs ++ more) entry.state ≡ state_of xs entry.state = state_of-front xs more entry.state (let le = up.0 in omega arith) in
     λ i. record { entry = entry; state = here i } ∷ uses_stay xs more n entries few up.1 i
 
--- events after which these states more are polled
+-- events behind others add the states that they poll
 polled_more : (rest : List (ObserverEvent ServerState)) (more : List FastState) → ((y : FastState) → polled_states y rest ≡ more) → (y : FastState) (es : List (ObserverEvent ServerState)) → polled_states y (es ++ rest) ≡ polled_states y es ++ more
 polled_more rest more h y [] = h y
 polled_more rest more h y (SawNext k (Some x) items ∷ es) = polled_more rest more h x es
@@ -62,14 +62,14 @@ polled_more rest more h y (observer.Learn c ∷ es) = polled_more rest more h y 
 abbrev states_at : FastState → MixerState → List FastState
 states_at first m = polled_states first m.observer.past.events
 
--- the mixer has polled some states more, and else is as it was
+-- the mixer has polled some states more, and is otherwise as it was
 record PollsMore (first : FastState) (m m' : MixerState) : Type 0 where
   more : List FastState
   states : states_at first m' ≡ states_at first m ++ more
   frames : m'.frames ≡ m.frames
   log : m'.log ≡ m.log
 
--- whatever a poll found
+-- a poll adds the states that it found
 poll_more : (first : FastState) (o o' : Observes ServerState StreamNames) (poll : Poll) (s s' : ℕ) → WasPolled o poll o' s s' → (more : List FastState) × (polled_states first o'.past.events ≡ polled_states first o.past.events ++ more)
 poll_more first o o' Nothing s s' (none, is, stepped) =
     ([], ap (λ (y : Observes ServerState StreamNames). polled_states first y.past.events) is ∙ polled_more (SawNext o.past.number None [] ∷ []) [] (λ _. refl) first o.past.events)
@@ -82,7 +82,7 @@ poll_more first o o' (New number) s s' (next, (x, took), stepped) = (
       ∙ polled_more (SawNext (o.past.number + 1) (Some x) took.0 ∷ Ack (o.past.number + 1) took.1 ∷ []) (x ∷ []) (λ _. refl) first o.past.events,
 )
 
--- what a poll leaves
+-- after a poll the mixer has polled some states more
 adopt_more : (first : FastState) (m p : MixerState) → Adopts m p → PollsMore first m p
 adopt_more first m p adopts = by_over (is_over m) refl
   where
@@ -103,7 +103,7 @@ adopt_more first m p adopts = by_over (is_over m) refl
           log = ap (λ (y : MixerState). y.log) adopts.same;
         }
 
--- what the meetings leave
+-- the meetings leave the states that the mixer polled
 meet_more : (first : FastState) (a b : SessionState) → Met a b → PollsMore first a.fast b.fast
 meet_more first a b met = record {
   more = [];
@@ -120,6 +120,7 @@ shows_more xs more len tracks calls turns frames n entries few up =
     let before : Shown = shows xs len tracks calls turns frames entries in
     ap (λ (used : List EntryUsed). record before { entries = used }) (uses_stay xs more n entries few up)
 
+-- a mixer that polled some states more shows the same of its rounds
 shown_more : (first : FastState) (tracks : ℕ) (rounds : List RoundNoted) (m m' : MixerState) → IsInOrder m → PollsMore first m m' → shown_at first tracks rounds m' ≡ shown_at first tracks rounds m
 shown_more first tracks rounds m m' order p =
     let calls = map (λ (r : RoundNoted). r.calls) rounds in
@@ -128,15 +129,17 @@ shown_more first tracks rounds m m' order p =
     (λ i. shows (p.states i) (p.frames i) tracks calls turns (p.log i).frames (p.log i).entries)
     ∙ shows_more (states_at first m) p.more m.frames tracks calls turns m.log.frames (last_used m.log.entries) m.log.entries few order.uses.used
 
+-- a mixer shows the same of its rounds after a poll
 pub shown_adopted : (first : FastState) (tracks : ℕ) (rounds : List RoundNoted) (m p : MixerState) → IsInOrder m → Adopts m p → shown_at first tracks rounds p ≡ shown_at first tracks rounds m
 shown_adopted first tracks rounds m p order adopts = shown_more first tracks rounds m p order (adopt_more first m p adopts)
 
+-- a mixer shows the same of its rounds after the meetings
 pub shown_met : (first : FastState) (tracks : ℕ) (rounds : List RoundNoted) (a b : SessionState) → IsInOrder a.fast → Met a b → shown_at first tracks rounds b.fast ≡ shown_at first tracks rounds a.fast
 shown_met first tracks rounds a b order met = shown_more first tracks rounds a.fast b.fast order (meet_more first a b met)
 
 -- ## Frames written
 
--- frames that are those of a mix alone
+-- a cycle writes the same frames if the frames of its mix are the same
 same_written : (cycle : Cycle) (xs ys : List Frame) → (is_mixed cycle ≡ true → xs ≡ ys) → frames_written cycle xs ≡ frames_written cycle ys
 same_written cycle xs ys same = by_mixed (is_mixed cycle) same
   where
@@ -144,11 +147,12 @@ same_written cycle xs ys same = by_mixed (is_mixed cycle) same
     by_mixed true h = h refl
     by_mixed false h = refl
 
--- frames that are added to a log leave what its entries wrote as it was
+-- frames that are added to a log leave the frames that an entry wrote as they were
 entry_written_stays : (len : ℕ) (frames more : List Frame) (entry : CycleEntry) → LieWithin frames entry → entry_written len (frames ++ more) entry ≡ entry_written len frames entry
 entry_written_stays len frames more entry within = same_written entry.cycle (mix (takes_of (frames ++ more) entry) len) (mix (takes_of frames entry) len)
     (λ mixed. ap (λ (takes : List Take). mix takes len) (takes_stay frames more entry within mixed))
 
+-- frames that are added to a log leave the frames that all its entries wrote as they were
 written_stays : (len : ℕ) (frames more : List Frame) (entries : List CycleEntry) → All (LieWithin frames) entries → entries_written len (frames ++ more) entries ≡ entries_written len frames entries
 written_stays len frames more [] all = refl
 written_stays len frames more (entry ∷ entries) all =
@@ -159,7 +163,7 @@ written_stays len frames more (entry ∷ entries) all =
 
 -- ## A mix
 
--- what one entry more shows
+-- a run with one entry more shows what it did, the entry and the frames of its mix
 shows_entry : (states : List FastState) (len tracks : ℕ) (calls : List (List (List ClientCall))) (turns : List (Option Turn)) (frames more : List Frame) (entries : List CycleEntry) (entry : CycleEntry) (state : Option FastState) (out : List Frame)
     → All (LieWithin frames) entries → state_of states entry.state ≡ state → entry_written len (frames ++ more) entry ≡ out
     → shows states len tracks calls turns (frames ++ more) (entries ++ entry ∷ []) ≡ with_written (with_entry (shows states len tracks calls turns frames entries) (record { entry = entry; state = state })) out
@@ -175,13 +179,13 @@ shows_entry states len tracks calls turns frames more entries entry state out wi
     ∙ ap (λ (xs : List Frame). xs ++ out) (written_stays len frames more entries within) in
     λ i. record before { entries = used i; written = written i }
 
--- the entry that was added last
+-- the entry that a cycle added is the last of the log
 pub last_entry : (m m' : MixerState) (entry : CycleEntry) → AddsCycle m m' entry → entry_at m'.log.entries (length m'.log.entries - 1) ≡ entry
 last_entry m m' entry a =
     ap (λ (es : List CycleEntry). entry_at es (length es - 1)) a.entries
     ∙ get_or_push m.log.entries entry no_entry (length (m.log.entries ++ entry ∷ []) - 1) (omega (arith, length_push m.log.entries entry))
 
--- what a cycle shows that adds an entry
+-- a cycle that adds an entry shows what the mixer did, the entry and the frames of its mix
 pub shown_added : (first : FastState) (tracks : ℕ) (rounds : List RoundNoted) (m m' : MixerState) (entry : CycleEntry) (out out' : List Frame) → IsInOrder m → IsWhole m.log → length out ≡ m.frames → m'.frames ≡ m.frames
     → AddsCycle m m' entry → Writes m' entry out out'
     → shown_at first tracks rounds m' ≡ with_written (with_entry (shown_at first tracks rounds m) (record { entry = entry; state = m'.observer.current })) (frames_written entry.cycle out')
@@ -198,17 +202,17 @@ shown_added first tracks rounds m m' entry out out' order whole long sizes a w =
     (λ i. shows (same i) (sizes i) tracks calls turns (taken.1 i) (a.entries i))
     ∙ shows_entry states m.frames tracks calls turns m.log.frames taken.0 m.log.entries entry m'.observer.current (frames_written entry.cycle out') whole state wrote
 
--- one that adds none
+-- a cycle that adds no entry shows the same
 pub shown_still : (first : FastState) (tracks : ℕ) (rounds : List RoundNoted) (m m' : MixerState) → m' ≡ record m { adopted = false } → shown_at first tracks rounds m' ≡ shown_at first tracks rounds m
 shown_still first tracks rounds m m' same = ap (shown_at first tracks rounds) same
 
 -- ## Cycles
 
--- one after the other
+-- a tally that follows the fast mixer from a to b and from b to c follows it from a to c
 pub follows_on : (a b c : MixerState) (x y z : Tallied) → Follows a b x y → Follows b c y z → Follows a c x z
 follows_on a b c x y z p q = λ first tracks rounds is. q first tracks rounds (p first tracks rounds is)
 
--- a cycle follows where its mix does
+-- a tally follows a cycle if it follows the mix of the cycle
 pub follows_cycle : (s : SessionState) (p : MixerState) (met : SessionState) (m' : MixerState) (x y : Tallied) → IsInOrder s.fast → IsInOrder p → Adopts s.fast p → Met (record s { fast = p }) met → Follows met.fast m' x y → Follows s.fast m' x y
 follows_cycle s p met m' x y order polled adopts meets mixes = λ first tracks rounds is.
     mixes first tracks rounds
@@ -216,7 +220,7 @@ follows_cycle s p met m' x y order polled adopts meets mixes = λ first tracks r
 
 -- ## A call of mix
 
--- it leaves all but a mark as it was, or adds an entry
+-- a call of mix leaves all but a mark as it was, or adds an entry
 mix_does : (m m' : MixerState) (out out' : List Frame) (answer : Cycle) → MixesOnce m out answer m' out' → (m' ≡ record m { adopted = false }) ⊎ ((entry : CycleEntry) × (answer ≡ entry.cycle) × AddsCycle m m' entry × Writes m' entry out out')
 mix_does m m' out out' answer x = by_exit m.exited refl
   where
@@ -235,7 +239,7 @@ module _ (m m' : MixerState) (out out' : List Frame) (answer : Cycle) (mixes : M
   added_long : (entry : CycleEntry) → AddsCycle m m' entry → length m'.log.entries ≡ length m.log.entries + 1
   added_long entry a = ap length a.entries ∙ length_push m.log.entries entry
 
-  -- where the log is longer then
+  -- if the log is longer after the mix, an entry was added
   module _ (longer : length m.log.entries < length m'.log.entries) where
     one_longer : length m'.log.entries ≡ length m.log.entries + 1
     one_longer = ⊎_elim (λ (same : m' ≡ record m { adopted = false }). absurd (omega (arith, longer, still_long same)))
@@ -262,7 +266,7 @@ module _ (m m' : MixerState) (out out' : List Frame) (answer : Cycle) (mixes : M
       cycles = (let old = p.cycles in let more = first.cycles in let last = second.cycles in omega (arith, one_longer));
     }
 
-  -- where it isn't
+  -- if the log is as long after the mix, no entry was added
   module _ (as_long : length m'.log.entries ≤ length m.log.entries) where
     is_still : m' ≡ record m { adopted = false }
     is_still = ⊎_elim (λ (same : m' ≡ record m { adopted = false }). same)
@@ -274,9 +278,10 @@ module _ (m m' : MixerState) (out out' : List Frame) (answer : Cycle) (mixes : M
     pub places_kept : (x : Tallied) (n tracks : ℕ) → HasPlaces n tracks (length m.log.entries) x → HasPlaces n tracks (length m'.log.entries) x
     places_kept x n tracks p = subst (λ (k : ℕ). HasPlaces n tracks k x) (sym (still_long is_still)) p
 
--- there is room for the looks of one entry more
+-- the tally has room for the looks of one entry more
 pub room_more : (m : MixerState) (x : Tallied) (n tracks : ℕ) → IsInOrder m → n ≤ 100000 → HasPlaces n tracks (length m.log.entries) x → x.looks + slots ≤ most_looks
 room_more m x n tracks order few p = let looks = p.looks in omega (arith, few, order.room.entries.0, order.room.sized.2)
 
+-- a tally has counted fewer than 2^32 cycles
 pub cycles_few : (m : MixerState) (x : Tallied) (n tracks : ℕ) → IsInOrder m → HasPlaces n tracks (length m.log.entries) x → x.cycles < 2 ^ 32
 cycles_few m x n tracks order p = let cycles = p.cycles in omega (arith, order.room.entries.0, order.room.sized.2)

@@ -1,4 +1,4 @@
--- A loop that changes each element of a list in place: one element more.
+-- A loop that changes each element of a list in place: the step for one element more.
 use Rattle.std.proofs.Common.{◌≡◌, ℕ, zero, suc, ◌+◌, List, [], ◌∷◌, ◌++◌, take, drop, map, slice_get, slice_set, Some, ap, sym, ◌∙◌, arith}
 use Rattle.std.proofs.lemmas.Option.{none-some, same_Some}
 

@@ -10,7 +10,7 @@ use Rattle.af_session.specs.Met.{TrackMet}
 use Rattle.af_party.specs.Parties.{PartyState}
 use Rattle.af_party.specs.Works.{CanWork}
 
--- the proxy learnt something, and is as before in all else
+-- the client's proxy learnt something, and is as before in all else
 abbrev pub HasLearnt : ClientState → ClientState → Type 0
 HasLearnt c d = d ≡ record c { pass = record c.pass { part = record c.pass.part { events = d.pass.part.events; learnt = d.pass.part.learnt } } }
 
@@ -39,7 +39,7 @@ module _ (a b : Spot) (p q : PartyState) (met : TrackMet a b p q) where
   pub command_learnt : HasLearnt p.command q.command
   command_learnt = knows_learnt p.command q.command met.command met.commanded.client
 
-  -- a client that can do its work still can
+  -- a client that can do its work before a meeting still can after it
   pub work_met : (ops : List Op) (frames : ℕ) → CanWork ops frames p → CanWork ops frames q
   work_met ops frames k =
       let learnt : q ≡ record p {

@@ -8,16 +8,17 @@ use Rattle.af_engine.proofs.MoreTracks.{at_before, at_last}
 use Rattle.af_party.specs.Parties.{PartyState}
 use Rattle.af_session.specs.NewTracks.{AreNewClients, IsClientOf}
 
+-- without ends there are no clients
 pub no_clients : AreNewClients [] []
 no_clients = record { count = refl; each = λ i e p none at. absurd (none-some e none) }
 
--- what stands at a place
+-- a list has an item at each place below its length
 pub some_at : {X : Type 0} (xs : List X) (i : ℕ) → i < length xs → (x : X) × (slice_get xs i ≡ Some x)
 some_at [] i lt = absurd (omega (arith, lt))
 some_at (x ∷ xs) zero lt = (x, refl)
 some_at (x ∷ xs) (suc i) lt = some_at xs i (omega (arith, lt))
 
--- one more
+-- one client more, with its ends
 module _ (ends : List TrackEnds) (clients : List PartyState) (e : TrackEnds) (p : PartyState) (before : AreNewClients ends clients) (one : IsClientOf e p) where
   each_at : (i : ℕ) (d : TrackEnds) (q : PartyState) → (i ≡ length ends) ⊎ (i ≡ length ends → ⊥) → i < length (ends ++ e ∷ []) → slice_get (ends ++ e ∷ []) i ≡ Some d → slice_get (clients ++ p ∷ []) i ≡ Some q → IsClientOf d q
   each_at i d q (inl same) lt at_d at_q =

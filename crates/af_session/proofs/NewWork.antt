@@ -29,7 +29,7 @@ use Rattle.af_party.specs.Works.{CanWork, IsFitting, IsFittingOp, frames_due, fr
 abbrev side_of_part : ClientPart → Side
 side_of_part part = record { shape = part.shape; events = part.events; released = part.frames }
 
--- there are no more flushes than ops
+-- a list of ops has no more flushes than ops
 flushes_few : (ops : List Op) → flushes_to_come ops ≤ length ops
 flushes_few [] = omega arith
 flushes_few (op.Flush ∷ ops) = let few = flushes_few ops in omega arith

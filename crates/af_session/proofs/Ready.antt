@@ -28,10 +28,11 @@ use Rattle.af_session.proofs.MetTracks.{still_together}
 
 -- ## What meetings leave
 
--- a client of these was one before, can do all work that it could, and has sent no more
+-- the client q of track i was a client p before, can do all work that p could, and has sent no more commands
 abbrev pub Was : SessionState → ℕ → PartyState → Type 0
 Was s i q = (p : PartyState) × (slice_get s.clients i ≡ Some p) × ((ops : List Op) (frames : ℕ) → CanWork ops frames p → CanWork ops frames q) × (q.command.released ≡ p.command.released)
 
+-- what a meeting and a cycle leave: the clients with their work, and the normal mixer with its turns and tracks
 pub record Stays (s t : SessionState) : Type 0 where
   pub clients : (i : ℕ) (q : PartyState) → slice_get t.clients i ≡ Some q → Was s i q
   pub turns : t.normal.turns ≡ s.normal.turns
@@ -50,6 +51,7 @@ was_met a b met i q at (inr h) = absurd (none-some q (sym h.1 ∙ sym (met.track
 found : {X : Type 0} (xs : List X) (i : ℕ) → ((x : X) × (i < length xs) × (slice_get xs i ≡ Some x) × Unit {0}) ⊎ ((length xs ≤ i) × (slice_get xs i ≡ None))
 found xs i = ⊎_elim (λ h. inl (h.0, h.1, h.2, tt)) (λ h. inr h) (slice_get_cases xs i).1
 
+-- the meetings leave the clients with their work
 pub met_stays : (a b : SessionState) → Met a b → Stays a b
 met_stays a b met = record {
   clients = (λ i q at. was_met a b met i q at (found a.clients i));
@@ -57,7 +59,7 @@ met_stays a b met = record {
   tracks = ap (λ (m : NormalState). length m.tracks) met.ends.normal;
 }
 
--- one after the other
+-- what is left by two steps, one after the other, is left by both
 both_stay : (a b c : SessionState) → Stays a b → Stays b c → Stays a c
 both_stay a b c x y = record {
   clients = (λ i q at. let later = y.clients i q at in let first = x.clients i later.0 later.1 in
@@ -88,7 +90,7 @@ fast_stays (suc left) s t bytes turn =
 -- ## Ready again
 
 module _ (links : Links) (g : Given) (n : ℕ) (s : SessionState) (ready : IsReady links g n s) where
-  -- what only met, or went through cycles
+  -- parties that only met, or went through cycles, are ready if they were
   pub ready_on : (t : SessionState) → AreTogether links t → t.fast.adopted ≡ false → IsWhole t.fast.log → Stays s t → IsReady links g n t
   ready_on t together between whole stays =
       let long : length s.clients ≡ length t.clients = ready.together.count ∙ sym stays.tracks ∙ sym together.count in
@@ -105,7 +107,7 @@ module _ (links : Links) (g : Given) (n : ℕ) (s : SessionState) (ready : IsRea
   pub ready_met : (t : SessionState) → AreTogether links t → Met s t → IsReady links g n t
   ready_met t together met = ready_on t together ((met_keeps s t met).3 ∙ ready.between) (whole_met s t met ready.whole) (met_stays s t met)
 
-  -- one round more
+  -- parties that are ready are so after one round more
   pub ready_more : IsReady links g (n + 1) s
   ready_more = record {
     together = ready.together;
@@ -117,7 +119,7 @@ module _ (links : Links) (g : Given) (n : ℕ) (s : SessionState) (ready : IsRea
     whole = ready.whole;
   }
 
-  -- the normal mixer made a turn
+  -- the parties are ready after a turn of the normal mixer
   pub ready_normal : (m : NormalState) → IsNormalInOrder links m → m.turns ≡ s.normal.turns + 1 → setup_of m ≡ setup_of s.normal → IsReady links g (n + 1) (record s { normal = m })
   ready_normal m order one setup =
       let settings : length m.settings ≡ length s.normal.settings = ap (λ (c : Setup). length c.settings) setup in
@@ -132,7 +134,7 @@ module _ (links : Links) (g : Given) (n : ℕ) (s : SessionState) (ready : IsRea
         whole = ready.whole;
       }
 
-  -- a client made one
+  -- the parties are ready after a turn of a client
   module _ (i : ℕ) (p q : PartyState) (at : slice_get s.clients i ≡ Some p) (ours : AreClientsOf links i q.stream q.command) (can : CanWork (ops_at g i) (length (file_at g i)) q)
       (track : q.track ≡ p.track) (sent : q.command.released ≤ p.command.released + 128) where
     new_one : (j : ℕ) (r : PartyState) → j ≡ i → slice_get (slice_set s.clients i q) j ≡ Some r → q ≡ r
@@ -158,7 +160,7 @@ module _ (links : Links) (g : Given) (n : ℕ) (s : SessionState) (ready : IsRea
       whole = ready.whole;
     }
 
--- the clients have ended where the normal mixer has
+-- the parties are ready after the ends: the clients have ended if the normal mixer has
 module _ (links : Links) (g : Given) (n : ℕ) (s : SessionState) (ready : IsReady links g n s) where
   ended_was : (i : ℕ) (q : PartyState) (o : Option PartyState) → slice_get s.clients i ≡ o → option_map end_party o ≡ Some q → (p : PartyState) × (slice_get s.clients i ≡ Some p) × (q ≡ end_party p)
   ended_was i q None is now = absurd (none-some q now)

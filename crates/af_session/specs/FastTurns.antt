@@ -13,7 +13,7 @@ use Rattle.af_tally.specs.Sound.{Grows, IsMixed}
 use Rattle.af_runs.specs.Pcm.{written}
 use Rattle.af_session.specs.Together.{AreTogether, SessionState, StayTogether}
 
--- One cycle among the parties: the fast mixer polls, all meet, and it mixes into a buffer, in order and together all the while. Else nothing changes
+-- One cycle among the parties: the fast mixer polls, all meet, and it mixes into a buffer. The parties are in order and together all the while. Nothing else changes
 pub record IsCycle (s : SessionState) (out : List Frame) (answer : Cycle) (s' : SessionState) (out' : List Frame) : Type 0 where
   pub polled : MixerState
   pub met : SessionState
@@ -26,7 +26,7 @@ pub record IsCycle (s : SessionState) (out : List Frame) (answer : Cycle) (s' : 
   pub together : StayTogether s (record s { fast = polled }) met
   pub mixed : AreTogether together.links s'
 
--- the same with some buffer that has the frames of a cycle, and the bytes of what was mixed
+-- one cycle among the parties with some buffer that has the frames of a cycle, and the bytes of what was mixed
 pub record WritesCycle (s : SessionState) (answer : Cycle) (bytes : List ℕ) (s' : SessionState) : Type 0 where
   pub before : List Frame
   pub after : List Frame
@@ -34,7 +34,7 @@ pub record WritesCycle (s : SessionState) (answer : Cycle) (bytes : List ℕ) (s
   pub cycle : IsCycle s before answer s' after
   pub bytes_are : bytes ≡ written answer after
 
--- So many cycles with the bytes that they wrote, or fewer where one of them mixes nothing: it is the last
+-- So many cycles, with the bytes that they wrote, or fewer if one of them mixes nothing: it is the last
 abbrev pub IsFastTurn : ℕ → SessionState → List ℕ → SessionState → Type 0
 IsFastTurn zero s bytes s' = (bytes ≡ []) × (s' ≡ s)
 IsFastTurn (suc left) s bytes s' = (answer : Cycle) × (next : SessionState) × (front : List ℕ) × (back : List ℕ) × WritesCycle s answer front next × (bytes ≡ front ++ back)
@@ -49,7 +49,7 @@ pub record TurnAdds (len count : ℕ) (log log' : Logged) (bytes : List ℕ) : T
   pub few : length mixes + length last ≤ count
   pub grows : Grows len log log' (mixes ++ last) bytes
 
--- a turn that put its bytes behind others
+-- a turn of at most so many cycles that put its bytes behind others
 pub record Turned (count : ℕ) (s s' : SessionState) (bytes bytes' : Roomy ℕ) : Type 0 where
   pub added : List ℕ
   pub written_is : bytes' ≡ record bytes { items = bytes.items ++ added }

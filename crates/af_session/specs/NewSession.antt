@@ -19,7 +19,7 @@ pub record IsSpecOf (script : ScriptData) (spec : MixerSpec) : Type 0 where
   pub cycles : spec.cycles ≡ script.cycles
   pub tracks : spec.tracks.now ≡ map (engine_track script.version) script.tracks
 
--- what the script's tracks are, and the proxies that the normal mixer has
+-- what the tracks of a script are, and the proxies that the normal mixer has for them
 abbrev pub tracks_of : ScriptData → NormalState → TrackList
 tracks_of script m = record { settings = map spec_setting script.tracks; streams = m.streams; commands = m.commands }
 

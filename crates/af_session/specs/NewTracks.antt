@@ -17,7 +17,7 @@ use Rattle.af_script.specs.declared.track.TrackSpec.{TrackSpec}
 use Rattle.af_party.specs.Parties.{PartyState, track_of}
 use Rattle.af_party.specs.Works.{CanWork, frames_to_come}
 
--- what a track of a script is to a mixer
+-- a track of a script as a mixer sees it
 abbrev pub engine_track : ℕ → TrackSpec → EngineTrack
 engine_track version spec = record { fast = spec.fast; mono = spec.mono; positional = version == 2; scale = spec.scale; frames = spec.frames; base = spec.base }
 
@@ -38,7 +38,7 @@ pub record AreNewClients (ends : List TrackEnds) (clients : List PartyState) : T
 abbrev pub first_track : ℕ → TrackSpec → List Frame → Track
 first_track version spec file = record { file = map packed_word file; client = new_wants spec.ops; stream = new_side (stream_shape version spec); commands = new_side command_shape }
 
--- The client of a track by its place, before its first turn: it has all of its ops before it, and can do the work that they ask for with any file that has the frames
+-- The client of a track by its place, before its first turn: it has all of its ops to do, and can do the work that they ask for with any file that has the frames
 pub record IsNewParty (version place : ℕ) (spec : TrackSpec) (p : PartyState) : Type 0 where
   pub place_is : p.track ≡ place
   pub wants : (ops : List Op) → client_of ops p.client ≡ new_wants ops
@@ -59,6 +59,6 @@ pub record IsNewTrack (version place : ℕ) (spec : TrackSpec) (stream command :
 abbrev pub IsTrackAt : ℕ → ℕ → List TrackSpec → List Made → List Made → List PartyState → TrackList → Type 0
 IsTrackAt version place specs streams commands clients tracks = IsAt (IsNewTrack version) place specs streams commands clients tracks
 
--- the first tracks of so many, and no others, are in the lists
+-- the lists have the first tracks of so many, and no others
 abbrev pub AreNewTracks : ℕ → ℕ → List TrackSpec → List Made → List Made → List PartyState → TrackList → Type 0
 AreNewTracks version count specs streams commands clients tracks = AreTracks (IsNewTrack version) count specs streams commands clients tracks

@@ -9,7 +9,7 @@ use Rattle.af_model.specs.Numbers.{FitTurns}
 abbrev pub HasFrames : Turn → Type 0
 HasFrames e = All (λ (t : TakeSeen). All IsFrame t.frames) e.mixes
 
--- and each that the turn of a round took, where it has one
+-- each frame that the turn of a round took, if it has one, has two samples of 16 bits
 abbrev pub NotesFrames : RoundNoted → Type 0
 NotesFrames r = MatchOption r.turn (Unit {0}) HasFrames
 

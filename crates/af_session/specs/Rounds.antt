@@ -25,14 +25,16 @@ pub record Given : Type 0 where
   pub tracks : List TrackSpec
   pub files : List (List Frame)
 
--- the ops of a track, and the frames of its file
+-- the ops of a track, if there is one
 abbrev pub ops_of : Option TrackSpec → List Op
 ops_of None = []
 ops_of (Some t) = t.ops
 
+-- the ops of the track at this place
 abbrev pub ops_at : Given → ℕ → List Op
 ops_at g i = ops_of (slice_get g.tracks i)
 
+-- the frames of the file of the track at this place
 abbrev pub file_at : Given → ℕ → List Frame
 file_at g i = slice_index_or g.files i []
 
@@ -64,13 +66,15 @@ no_calls s = replicate (length s.clients) []
 abbrev pub still_round : SessionState → RoundNoted
 still_round s = record { calls = no_calls s; turn = None; cycles = 0 }
 
--- a round with one client's calls, with a turn of the normal mixer, with cycles of the fast mixer
+-- a round with the calls of one client
 abbrev pub client_round : SessionState → ℕ → List ClientCall → RoundNoted
 client_round s i calls = record (still_round s) { calls = slice_set (no_calls s) i calls }
 
+-- a round with a turn of the normal mixer
 abbrev pub normal_round : SessionState → Turn → RoundNoted
 normal_round s e = record (still_round s) { turn = Some e }
 
+-- a round with cycles of the fast mixer
 abbrev pub fast_round : SessionState → SessionState → RoundNoted
 fast_round s t = record (still_round s) { cycles = length t.fast.log.entries - length s.fast.log.entries }
 
@@ -82,14 +86,15 @@ Turns g (spec.Fast count) s r bytes t = MatchBool s.fast.exited ((r ≡ still_ro
 
 -- ## A round
 
--- once the normal mixer has ended every client has
+-- a client that has ended
 abbrev pub end_party : PartyState → PartyState
 end_party p = record p { client = record p.client { ended = true } }
 
+-- the parties, of which every client has ended if the normal mixer has
 abbrev pub with_ends : SessionState → SessionState
 with_ends s = if s.normal.ended then record s { clients = map end_party s.clients } else s
 
--- the turn, then the meetings of all, and then the ends; the parties belong together all the while
+-- A round: the turn, then the meetings of all, and then the ends. The parties belong together all the while
 pub record IsRound (g : Given) (turn : TurnSpec) (s : SessionState) (r : RoundNoted) (bytes : List ℕ) (t : SessionState) : Type 0 where
   pub turned : SessionState
   pub met : SessionState
@@ -103,7 +108,7 @@ abbrev pub calls_in : Option PartyState → List ClientCall
 calls_in None = []
 calls_in (Some p) = p.calls.items
 
--- what is to be noted of a round, by the parties before it and after it
+-- what a journal notes of a round, by the parties before it and after it
 abbrev pub round_told : TurnSpec → SessionState → SessionState → RoundNoted
 round_told (spec.Client i) s t = client_round s i (calls_in (slice_get t.clients i))
 round_told spec.Normal s t = if s.normal.ended then still_round s else normal_round s (turn_of t.normal.entry)
@@ -119,7 +124,7 @@ IsTurnRun g (turn ∷ turns) s rounds bytes t = (r : RoundNoted) × (rs : List R
 
 -- ## What each round finds
 
--- The parties belong together, the fast mixer is between two cycles, each client can do what is left of its work, and after so many rounds none has sent more commands, and the normal mixer made no more turns, than the rounds allow
+-- The parties belong together, the fast mixer is between two cycles, and each client can do what is left of its work. After so many rounds no client has sent more commands, and the normal mixer has made no more turns, than the rounds allow
 pub record IsReady (links : Links) (g : Given) (rounds : ℕ) (s : SessionState) : Type 0 where
   pub together : AreTogether links s
   pub between : s.fast.adopted ≡ false

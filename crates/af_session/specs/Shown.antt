@@ -23,19 +23,19 @@ use Rattle.af_tally.specs.Tallies.{Tallied, IsTally}
 
 -- ## Of rounds and a log
 
--- an entry with the state that it names among these, of which the first has the number 1
+-- an entry with the state that it names among these states, of which the first has the number 1
 abbrev pub use_of : List FastState → CycleEntry → EntryUsed
 use_of states entry = record { entry = entry; state = state_of states entry.state }
 
--- the frames that a cycle wrote: none where it didn't mix
+-- the frames that a cycle wrote: none if it didn't mix
 abbrev pub frames_written : Cycle → List Frame → List Frame
 frames_written cycle out = if is_mixed cycle then out else []
 
--- those of an entry at a length: those of its mix, from the frames of its log
+-- the frames that an entry wrote, at this length of a cycle: those of its mix, from the frames of its log
 abbrev pub entry_written : ℕ → List Frame → CycleEntry → List Frame
 entry_written len frames entry = frames_written entry.cycle (mix (takes_of frames entry) len)
 
--- those of some entries, one after the other
+-- the frames that some entries wrote, one after the other
 abbrev pub entries_written : ℕ → List Frame → List CycleEntry → List Frame
 entries_written len frames entries = flat_map (entry_written len frames) entries
 
@@ -43,15 +43,16 @@ entries_written len frames entries = flat_map (entry_written len frames) entries
 abbrev pub calls_over : List (List (List ClientCall)) → ℕ → List ClientCall
 calls_over rounds i = flat_map (λ calls. slice_index_or calls i []) rounds
 
--- the turn of a round, if it had one, and those of all rounds
+-- the turn of a round, if it had one
 abbrev pub turn_in : Option Turn → List Turn
 turn_in None = []
 turn_in (Some turn) = turn ∷ []
 
+-- the turns of all rounds
 abbrev pub turns_over : List (Option Turn) → List Turn
 turns_over rounds = flat_map turn_in rounds
 
--- what rounds with these calls and turns show of so many tracks, with the entries of a log, which name these states
+-- what rounds with these calls and turns show of so many tracks, with the entries of a log that name these states
 unfoldable pub shows : (states : List FastState) (len tracks : ℕ) (calls : List (List (List ClientCall))) (turns : List (Option Turn)) (frames : List Frame) (entries : List CycleEntry) → Shown
 shows states len tracks calls turns frames entries = record {
   calls = map (calls_over calls) (range_with_len 0 tracks);
@@ -71,30 +72,30 @@ shown_by len j events = let seen = entries_of j.rounds in
 abbrev pub released_by : List PartyState → List ℕ
 released_by clients = map (λ p. p.stream.released) clients
 
--- the summary of the run that a journal tells, at so many frames a cycle, with the ends that it left
+-- the summary of the run that a journal records, at so many frames a cycle, with the ends that the run left
 abbrev pub summary_told : ℕ → JournalData → EndsState → Summary
 summary_told len j ends = summary_of (shown_by len j ends.normal.mutator.past.events) (released_by ends.clients)
 
--- by rounds noted and the log of their cycles
+-- what a run shows by the rounds noted and the log of their cycles
 abbrev pub shown_in : ℕ → RoundsNoted → Logged → List (MutatorEvent ServerState) → Shown
 shown_in len noted log events = shows (pushed_states events) len noted.tracks (map (λ r. r.calls) noted.rounds) (map (λ r. r.turn) noted.rounds) log.frames log.entries
 
 -- ## While the run goes on
 
--- what the rounds noted so far show, by the states that the fast mixer polled, whatever stood before the first, and by its log
+-- what the rounds noted so far show, by the states that the fast mixer polled, by the state before the first of them, and by its log
 abbrev pub shown_at : FastState → ℕ → List RoundNoted → MixerState → Shown
 shown_at first tracks rounds m =
     shows (polled_states first m.observer.past.events) m.frames tracks (map (λ r. r.calls) rounds) (map (λ r. r.turn) rounds) m.log.frames m.log.entries
 
--- A tally follows the fast mixer: where it was that of some rounds before, it is so again
+-- A tally follows the fast mixer: if it was that of some rounds before, it is so again
 abbrev pub Follows : MixerState → MixerState → Tallied → Tallied → Type 0
 Follows m m' a b = (first : FastState) (tracks : ℕ) (rounds : List RoundNoted) → IsTally (shown_at first tracks rounds m) a → IsTally (shown_at first tracks rounds m') b
 
--- It follows a round: where it was that of the rounds before, it is that of them and this one
+-- A tally follows a round: if it was that of the rounds before, it is that of them and this one
 abbrev pub FollowsRound : RoundNoted → MixerState → MixerState → Tallied → Tallied → Type 0
 FollowsRound r m m' a b = (first : FastState) (tracks : ℕ) (rounds : List RoundNoted) → IsTally (shown_at first tracks rounds m) a → IsTally (shown_at first tracks (rounds ++ r ∷ []) m') b
 
--- After so many rounds with so many entries it has each track, and no more looks and cycles than those can show
+-- After so many rounds with so many entries a tally has each track, and no more looks and cycles than those can show
 pub record HasPlaces (rounds tracks entries : ℕ) (t : Tallied) : Type 0 where
   pub tracks_are : length t.tracks ≡ tracks
   pub looks : t.looks ≤ slots * (rounds + entries)

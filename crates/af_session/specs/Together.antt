@@ -7,7 +7,7 @@ use Rattle.af_normal.specs.Order.{IsInOrder as IsNormalInOrder}
 use Rattle.af_normal.specs.State.{NormalState}
 use Rattle.af_party.specs.Parties.{PartyState}
 
--- the clients in order of tracks, the normal mixer and the fast mixer
+-- the parties of a session: the clients in order of tracks, the normal mixer and the fast mixer
 pub record SessionState : Type 0 where
   pub clients : List PartyState
   pub normal : NormalState
@@ -21,7 +21,7 @@ pub record AreTogether (links : Links) (s : SessionState) : Type 0 where
   pub tracks : (i : ℕ) (p : PartyState) → slice_get s.clients i ≡ Some p → p.track ≡ i
   pub clients : (i : ℕ) (p : PartyState) → slice_get s.clients i ≡ Some p → AreClientsOf links i p.stream p.command
 
--- Over the same links the parties belong together before a turn or a poll, x, after it, y, and after the meetings that follow, z
+-- Over the same links the parties belong together before a turn or a poll, after it, and after the meetings that follow: x, y and z
 pub record StayTogether (x y z : SessionState) : Type 0 where
   pub links : Links
   pub before : AreTogether links x

@@ -38,7 +38,7 @@ pub fn push_written(cycle: Cycle, buffer: &[Frame], bytes: &mut Items<u8>)
     }
 }
 
-// The state that a fast mixer polled last, None where it polled none.
+// The state that a fast mixer polled last, None if it polled none.
 fn state_polled(fast: &mut FastMixer) -> Option<FastState>
     requires order { IsFastInOrder fast.old }
     ensures same { fast.new ≡ fast.old }
@@ -76,7 +76,7 @@ fn note_last(fast: &mut FastMixer, tally: &mut Tally)
     tally.note_entry(entry, state.as_ref());
 }
 
-/// The mix of a cycle. The entry that it adds is noted, with the state that it used, and the frames that it writes; where it adds none nothing is.
+/// The mix of a cycle. The entry that it adds is noted, with the state that it used and the frames that it writes. If it adds no entry nothing is noted.
 pub fn mix_noted<L: Ledger>(
     fast: &mut FastMixer,
     links: &Links<'_>,
@@ -108,7 +108,7 @@ pub fn mix_noted<L: Ledger>(
     cycle
 }
 
-// One cycle: a poll, the meetings of all parties, and the mix, which is noted, and whose bytes are appended.
+// One cycle: a poll, the meetings of all parties, and the mix. The mix is noted, and its bytes are appended.
 fn fast_cycle<L: Ledger>(
     clients: &mut [Party],
     normal: &mut NormalMixer,
@@ -174,7 +174,7 @@ fn fast_cycles<L: Ledger>(
 
 /// The fast mixer's turn: up to `count` cycles, in each of which all parties meet between the poll and the mix. The first cycle that mixes nothing is the last. The bytes of each mix are appended to `bytes`, which has room for all of them, and the tally notes each entry and what it wrote. It answers how many entries were added to the log, and takes no memory.
 ///
-/// The bytes are the sound of the entries added, and the sound that the log had before stays: where `bytes`, behind what went out before, were the sound of the log, they are so again.
+/// The bytes are the sound of the entries added, and the sound that the log had before stays: if `bytes`, behind what went out before, were the sound of the log, they are so again.
 pub fn fast_turn<L: Ledger>(
     clients: &mut [Party],
     normal: &mut NormalMixer,

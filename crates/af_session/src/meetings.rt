@@ -46,9 +46,9 @@ fn meet_party<L: Ledger>(
     meet_track(track, stream, command, normal, fast, links, steps);
 }
 
-/// All parties meet, as after each round: the two mixers at the queue, at the report and at the pipe, and then per track the client of the command block and its proxy, and the client of the stream block and its proxy, where that is home or the fast mixer holds it. A proxy on its way misses the meeting, and the client meets the track's hand alone.
+/// All parties meet, as after each round: the two mixers meet at the queue, at the report and at the pipe. Then, per track, the client of the command block and its proxy meet, and the client of the stream block and its proxy, if that is home or the fast mixer holds it. A proxy on its way misses the meeting, and the client meets the track's hand alone.
 ///
-/// Each learns what its other has done so far, and nothing else changes. The lists of each two that met have a history, where no client has poked.
+/// Each learns what its other has done so far, and nothing else changes. The lists of each two that met have a history, if no client has poked.
 pub(crate) fn meet<L: Ledger>(
     clients: &mut [Party],
     normal: &mut NormalMixer,

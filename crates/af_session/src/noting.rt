@@ -33,7 +33,7 @@ fn known(frame: Frame) -> Frame
     frame
 }
 
-/// Each of these frames has two samples of 16 bits: it is read to know it.
+/// Each of these frames has two samples of 16 bits: they are read to know it.
 pub fn know_frames(frames: &[Frame])
     ensures { All IsFrame frames.now }
 {
@@ -130,7 +130,7 @@ fn know_taken(entry: &TurnEntry)
 }
 
 impl Parties {
-    /// What a journal notes of a round that is over, that of this turn of the script, has its form: the calls of the client, or the turn of the normal mixer, are read where they stand to know it. Nothing is copied, and no memory is taken.
+    /// What a journal notes of the round of this turn, which is over, has its form: to know it, the calls of the client or the turn of the normal mixer are read where they stand. Nothing is copied, and no memory is taken.
     pub fn know_round(&self, turn: TurnSpec)
         requires { IsTurn (length self.now.clients) turn }
         ensures frames { (s : SessionState) → NotesFrames (round_told turn s self.now) }

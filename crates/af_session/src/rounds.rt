@@ -19,7 +19,7 @@ use af_script::{TrackSpec, TurnSpec};
 use af_tally::Tally;
 use std::sync::ledger::Ledger;
 
-// Every client of these ends.
+// Ends each of these clients.
 fn end_all(clients: &mut [Party])
     ensures { clients.new ≡ map end_party clients.old }
 {
@@ -56,7 +56,7 @@ impl Parties {
         tally.note_calls(i, client.calls.as_slice());
     }
 
-    // The turn of the normal mixer: nothing where it has ended.
+    // The turn of the normal mixer: nothing if it has ended.
     fn play_normal<L: Ledger>(
         &mut self,
         links: &Links<'_>,
@@ -79,7 +79,7 @@ impl Parties {
         }
     }
 
-    // The turn of the fast mixer, up to so many cycles: nothing where it has ended.
+    // The turn of the fast mixer, up to so many cycles: nothing if it has ended.
     fn play_fast<L: Ledger>(
         &mut self,
         links: &Links<'_>,
@@ -179,9 +179,9 @@ impl Parties {
         }
     }
 
-    /// A round of an offline session: the turn of the party that the script names, and then the meetings of all. Once the normal mixer has ended every client has. The bytes of what the fast mixer mixed are appended to `bytes`, which has room for those of sixteen cycles. The tally notes what the turn shows: nothing where its mixer had ended. It takes no memory.
+    /// A round of an offline session: the turn of the party that the script names, and then the meetings of all. Once the normal mixer has ended every client has. The bytes of what the fast mixer mixed are appended to `bytes`, which has room for those of sixteen cycles. The tally notes what the turn shows: nothing if its mixer had ended. It takes no memory.
     ///
-    /// The turn is a legal one by what the party saw, and where the bytes that went out before, and `bytes` behind them, were the sound of the fast mixer's log, they are so again.
+    /// The turn is a legal one by what the party saw. If the bytes that went out before, and `bytes` behind them, were the sound of the fast mixer's log, they are so again.
     pub fn round<L: Ledger>(
         &mut self,
         links: &Links<'_>,

@@ -1,4 +1,4 @@
-//! What a script's tracks are to a mixer, and the clients of its ends.
+//! A script's tracks as a mixer sees them, and the clients of its ends.
 ghost use Rattle.std.specs.Prelude.{◌≡◌, length, map, IfOk};
 ghost use Rattle.af_session.specs.NewTracks.{AreNewClients, IsClientOf, engine_track};
 
@@ -12,7 +12,7 @@ use std::alloc::Global;
 /// The most calls of a client's turn.
 pub(crate) const MOST_CALLS: usize = 64;
 
-// What a track is to a mixer. By the second version of scripts its flushes carry positions.
+// A track as a mixer sees it. By the second version of scripts its flushes carry positions.
 fn engine_track(version: u32, spec: &TrackSpec) -> EngineTrack
     ensures { result ≡ engine_track version spec.now }
 {
@@ -26,7 +26,7 @@ fn engine_track(version: u32, spec: &TrackSpec) -> EngineTrack
     }
 }
 
-/// What the tracks are to a mixer. Memory is its only refusal.
+/// The tracks as a mixer sees them. Memory is its only refusal.
 pub(crate) fn engine_tracks(
     alloc: Global,
     version: u32,

@@ -23,21 +23,21 @@ use Rattle.af_tally.proofs.Sounding.{grows_not}
 abbrev pub ComesTo : Links → ℕ → ℕ → MixerState → MixerState → List ℕ → Type 0
 ComesTo links count i first now front = (left : ℕ) (back : List ℕ) (last : MixerState) → left + i ≡ count → CyclesOn links left now back last → CyclesOn links count first (front ++ back) last
 
--- at the beginning
+-- before the first cycle the mixer is the one at the beginning
 pub comes_first : (links : Links) (count : ℕ) (first : MixerState) → ComesTo links count 0 first first []
 comes_first links count first left back last is turn = subst (λ (n : ℕ). CyclesOn links n first back last) (sym (add-zero left) ∙ is) turn
 
--- after one more mix
+-- after one more mix the turn goes on
 pub comes_on : (links : Links) (count i : ℕ) (first now next : MixerState) (answer : Cycle) (front more : List ℕ) → ComesTo links count i first now front → CyclesOnce links now answer more next → is_mixed answer ≡ true → ComesTo links count (i + 1) first next (front ++ more)
 comes_on links count i first now next answer front more comes w mixed left back last is turn =
     let whole : CyclesOn links (suc left) now (more ++ back) last = (answer, next, more, back, w, refl, λ _. turn, λ dry. absurd (true≢false (sym mixed ∙ dry))) in
     subst (λ (bytes : List ℕ). CyclesOn links count first bytes last) (sym (append_assoc front more back)) (comes (suc left) (more ++ back) last (omega (arith, is)) whole)
 
--- where all cycles were made
+-- after all cycles the turn is over
 pub comes_whole : (links : Links) (count : ℕ) (first now : MixerState) (front : List ℕ) → ComesTo links count count first now front → CyclesOn links count first front now
 comes_whole links count first now front comes = subst (λ (bytes : List ℕ). CyclesOn links count first bytes now) (append-nil front) (comes 0 [] now (omega arith) (refl, refl))
 
--- where a cycle mixes nothing
+-- after a cycle that mixes nothing the turn is over
 pub comes_over : (links : Links) (count i : ℕ) (first now next : MixerState) (answer : Cycle) (front more : List ℕ) → ComesTo links count i first now front → CyclesOnce links now answer more next → is_mixed answer ≡ false → i < count
     → CyclesOn links count first (front ++ more) next
 comes_over links count i first now next answer front more comes w dry lt =
@@ -47,7 +47,7 @@ comes_over links count i first now next answer front more comes w dry lt =
 
 -- ## What is added
 
--- by one cycle
+-- a cycle adds at most one entry, with the bytes that it wrote
 pub once_adds : (links : Links) (m m' : MixerState) (answer : Cycle) (bytes : List ℕ) → IsWhole m.log → CyclesOnce links m answer bytes m' → AddsOne m.frames answer m.log m'.log bytes
 once_adds links m m' answer bytes whole w =
     let polled = polled_keeps m w.polled w.adopts in
@@ -56,7 +56,7 @@ once_adds links m m' answer bytes whole w =
     let of_frames = subst (λ (n : ℕ). AddsOne n answer m.log m'.log (written answer w.after)) polled.1 of_log in
     subst (AddsOne m.frames answer m.log m'.log) (sym w.bytes_are) of_frames
 
--- a cycle, and what comes after it
+-- a cycle, and the cycles that come after it, add what a turn may add
 on_step : (left : ℕ) (m next m' : MixerState) (answer : Cycle) (front back : List ℕ) → AddsOne m.frames answer m.log next.log front → next.frames ≡ m.frames
     → (is_mixed answer ≡ true → TurnAdds next.frames left next.log m'.log back) → (is_mixed answer ≡ false → (back ≡ []) × (m' ≡ next))
     → TurnAdds m.frames (suc left) m.log m'.log (front ++ back)
@@ -71,6 +71,7 @@ on_step left m next m' answer front back first sizes more over = by_answer (is_m
         let bytes_are : front ≡ front ++ back = sym (ap (λ (l : List ℕ). front ++ l) (over is).0 ∙ append-nil front) in
         subst (λ (y : MixerState). TurnAdds m.frames (suc left) m.log y.log (front ++ back)) (sym (over is).1) (subst (TurnAdds m.frames (suc left) m.log next.log) bytes_are end)
 
+-- a turn that leaves the log as it is adds nothing
 none_added : (len count : ℕ) (log log' : Logged) → IsWhole log → log' ≡ log → TurnAdds len count log log' []
 none_added len count log log' whole same = record {
   mixes = [];
@@ -81,7 +82,7 @@ none_added len count log log' whole same = record {
   grows = grows_not len log log' whole same;
 }
 
--- by the cycles of a turn
+-- the cycles of a turn add what a turn may add
 pub cycles_add : (links : Links) (left : ℕ) (m m' : MixerState) (bytes : List ℕ) → IsWhole m.log → CyclesOn links left m bytes m' → TurnAdds m.frames left m.log m'.log bytes
 cycles_add links zero m m' bytes whole turn = subst (TurnAdds m.frames zero m.log m'.log) (sym turn.0) (none_added m.frames zero m.log m'.log whole (ap (λ (y : MixerState). y.log) turn.1))
 cycles_add links (suc left) m m' bytes whole (answer, next, front, back, cycle, bytes_are, more, over) =
@@ -89,7 +90,7 @@ cycles_add links (suc left) m m' bytes whole (answer, next, front, back, cycle, 
     subst (TurnAdds m.frames (suc left) m.log m'.log) (sym bytes_are)
     (on_step left m next m' answer front back first cycle.sizes.0 (λ mixed. cycles_add links left next m' back first.grows.whole (more mixed)) over)
 
--- by a turn
+-- a turn adds at most sixteen entries, with the bytes that it wrote
 pub turned_adds : (links : Links) (m m' : MixerState) (bytes : List ℕ) → IsWhole m.log → FastTurned links m bytes m' → TurnAdds m.frames most_cycles m.log m'.log bytes
 turned_adds links m m' bytes whole turned = by_exit m.exited turned
   where
@@ -97,7 +98,7 @@ turned_adds links m m' bytes whole turned = by_exit m.exited turned
     by_exit true done = subst (TurnAdds m.frames most_cycles m.log m'.log) (sym done.0) (none_added m.frames most_cycles m.log m'.log whole (ap (λ (y : MixerState). y.log) done.1))
     by_exit false done = cycles_add links most_cycles m m' bytes whole done
 
--- bytes that were the sound of the log, behind others, are so again
+-- if the bytes, behind those that went out before, were the sound of the log, they are so again after a turn
 pub sounds_on : (links : Links) (m m' : MixerState) (bytes bytes' : Roomy ℕ) (added before : List ℕ) → IsWhole m.log → FastTurned links m added m' → bytes' ≡ record bytes { items = bytes.items ++ added }
     → before ++ bytes.items ≡ pcm_of m.frames m.log → before ++ bytes'.items ≡ pcm_of m.frames m'.log
 sounds_on links m m' bytes bytes' added before whole turned is same =
@@ -107,7 +108,7 @@ sounds_on links m m' bytes bytes' added before whole turned is same =
     ∙ ap (λ (l : List ℕ). l ++ added) same
     ∙ sym adds.grows.sound
 
--- after fewer than sixteen cycles there is room for one more
+-- after fewer than sixteen cycles there is room for the bytes of one more
 pub room_on : (bytes bytes' : Roomy ℕ) (added : List ℕ) (i frames frames' : ℕ) → bytes' ≡ record bytes { items = bytes.items ++ added } → length added ≤ 4 * (i * frames) → i < 16 → frames' ≡ frames
     → length bytes.items + 64 * frames ≤ bytes.room → length bytes'.items + 4 * frames' ≤ bytes'.room
 room_on bytes bytes' added i frames frames' is few lt same room =

@@ -28,14 +28,14 @@ module _ (g : Given) (p : PartyState) (n : ℕ) (same : n ≡ p.track) (t : Trac
   file_here : file ≡ file_at g p.track
   file_here = file_is ∙ pcm_is ∙ get_or_default g.files p.track pcm [] there.1
 
-  -- it can do the same work by them
+  -- the client can do the same work by the ops and the file that it was given
   pub work_asked : CanWork (ops_at g p.track) (length (file_at g p.track)) p → CanWork ops (length file) p
   work_asked can = subst (λ (x : List Op × List Frame). CanWork x.0 (length x.1) p) (λ k. (sym ops_here k, sym file_here k)) can
 
   pub work_left : (q : PartyState) → CanWork ops (length file) q → CanWork (ops_at g p.track) (length (file_at g p.track)) q
   work_left q can = subst (λ (x : List Op × List Frame). CanWork x.0 (length x.1) q) (λ k. (ops_here k, file_here k)) can
 
-  -- and the turn was made by them
+  -- the turn was made by the ops and the file that the client was given
   pub turn_played : (q : PartyState) → LegalClientTurn (track_of ops file p) q.calls.items → track_of ops file q ≡ after_calls (track_of ops file p) q.calls.items → ClientPlayed g p q
   turn_played q legal turned = record {
     legal = subst (λ (x : List Op × List Frame). LegalClientTurn (track_of x.0 x.1 p) q.calls.items) (λ k. (ops_here k, file_here k)) legal;

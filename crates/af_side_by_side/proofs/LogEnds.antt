@@ -12,11 +12,12 @@ can_finish frames room j l h =
     subst (λ o. IsAuditor o l.auditor) (sym h.ends.log)
     (h.ends.reader, h.ends.auditor, h.ends.made.1, (let space = h.space in let is = h.room_is in omega (arith, space, is)), h.kept)
 
+-- how many notes the last of some rounds accepted
 last_of : (before : ℕ) (rounds : List (List Bool)) (round : List Bool) → last_accepted before (rounds ++ round ∷ []) ≡ count_accepted round
 last_of before [] round = refl
 last_of before (first ∷ rounds) round = last_of (count_accepted first) rounds round
 
--- what is in order, with nothing left, is the same
+-- if as many notes were read as were accepted, they are the same notes
 none_left : (xs ys : List Note) → AreInOrder xs ys → length xs ≤ length ys → ys ≡ xs
 none_left xs ys order long = by_left order.left order.together
   where

@@ -4,13 +4,15 @@ use Rattle.af_cblk.specs.Sides.{Made}
 use Rattle.af_nblog.specs.NoteEnds.{WriterState, ReaderState, writer_made, reader_made}
 use Rattle.af_side_by_side.specs.Logging.{AuditorState, HasMetLog, LoggingState, NotesMet, no_log}
 
+-- an option that is None is not Some
 none_some : {X : Type 0} (o : Option X) (x : X) → o ≡ None → o ≡ Some x → ⊥
 none_some o x none some = let e : ⊥ = cc in e
 
+-- an option is Some of one item only
 same_some : {X : Type 0} (o : Option X) (x y : X) → o ≡ Some x → o ≡ Some y → x ≡ y
 same_some o x y one two = cc
 
--- both ends were there
+-- a log has met if its two ends have
 pub met_log : (l l' : LoggingState) (block : Made) (w w' : WriterState) (r r' : ReaderState) → l.log ≡ Some block → l.scribe.end ≡ Some w → l.auditor.end ≡ Some r → writer_made w' ≡ block → reader_made r' ≡ block → NotesMet block w w' r r'
     → l'.log ≡ Some block → l'.scribe.end ≡ Some w' → l'.auditor ≡ record l.auditor { end = Some r' } → HasMetLog l l'
 met_log l l' block w w' r r' log scribe auditor made_w made_r met log' scribe' auditor' = record {
@@ -32,6 +34,6 @@ met_log l l' block w w' r r' log scribe auditor made_w made_r met log' scribe' a
       ));
 }
 
--- no log is kept
+-- if no log is kept, the meeting changes nothing
 pub met_none : (l : LoggingState) → no_log l → HasMetLog l l
 met_none l none = record { none = (λ _. refl); some = (λ block a. absurd (none_some l.log block none.0 a.log)) }

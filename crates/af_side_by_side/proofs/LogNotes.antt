@@ -16,7 +16,7 @@ use Rattle.af_side_by_side.specs.Logging.{Logs, count_refused, notes_kept}
 
 -- ## One entry
 
--- the last entry stands alone behind the others
+-- what is left of a list at its last entry is that entry alone
 pub at_last : (es : List CycleEntry) (n : ℕ) → n + 1 ≡ length es → drop n es ≡ entry_at es n ∷ []
 at_last [] n is = absurd (omega arith)
 at_last (e ∷ []) zero is = refl
@@ -24,6 +24,7 @@ at_last (e ∷ []) (suc n) is = absurd (omega arith)
 at_last (e ∷ f ∷ es) zero is = absurd (omega arith)
 at_last (e ∷ f ∷ es) (suc n) is = at_last (f ∷ es) n (omega arith)
 
+-- the last entry of a log was noted: it was accepted or refused
 pub logged_one : (answer : Noted) (first : ℕ) (m : MixerState) (w w' : WriterState) (entry : CycleEntry) → drop first m.log.entries ≡ entry ∷ [] → first + 1 ≡ length m.log.entries
     → NotedBy w.pass.part (note_of first entry m.frames) answer w'.pass.part → accepted w' ≡ accepted w ++ kept answer (note_of first entry m.frames) → w'.refused ≡ w.refused + refusals answer → writer_made w' ≡ writer_made w
     → Logs first m w w'
@@ -46,11 +47,12 @@ logged_one (Refused sent known) first m w w' entry last all by notes refused mad
       made = made;
     }
 
+-- without outcomes no notes are kept
 pub none_kept : (frames place : ℕ) (es : List CycleEntry) → notes_kept frames place es [] ≡ []
 none_kept frames place [] = refl
 none_kept frames place (e ∷ es) = refl
 
--- no entry
+-- if no entry was added, none was noted
 pub logged_none : (m : MixerState) (w : WriterState) → Logs (length m.log.entries) m w w
 logged_none m w =
     record {
@@ -64,11 +66,13 @@ logged_none m w =
 
 -- ## Entries behind others
 
+-- outcomes that were noted in two steps were noted one behind the other
 noted_more : (first more : List Bool) (p q r : ClientPart) → HasNoted p first q → HasNoted q more r → HasNoted p (first ++ more) r
 noted_more [] more p q r a b = subst (λ (x : ClientPart). HasNoted x more r) a b
 noted_more (true ∷ first) more p q r a b = (a.0, a.1, a.2, noted_more first more a.1 q r a.3 b)
 noted_more (false ∷ first) more p q r a b = (a.0, a.1, a.2, a.3, a.4, noted_more first more a.3 q r a.5 b)
 
+-- the notes kept of two lists of entries, joined end to end, are those of both, joined end to end
 pub kept_more : (frames place : ℕ) (es fs : List CycleEntry) (first more : List Bool) → length es ≡ length first → notes_kept frames place (es ++ fs) (first ++ more) ≡ notes_kept frames place es first ++ notes_kept frames (place + length es) fs more
 kept_more frames place [] fs [] more same = ap (λ (n : ℕ). notes_kept frames n fs more) (let e : place ≡ place + 0 = omega arith in e)
 kept_more frames place [] fs (o ∷ first) more same = absurd (omega arith)
@@ -87,13 +91,13 @@ kept_count frames place (e ∷ es) [] same = absurd (omega arith)
 kept_count frames place (e ∷ es) (true ∷ outcomes) same = let rest = kept_count frames (place + 1) es outcomes (omega arith) in omega arith
 kept_count frames place (e ∷ es) (false ∷ outcomes) same = let rest = kept_count frames (place + 1) es outcomes (omega arith) in omega arith
 
--- refusals behind others
+-- the refusals of two lists of outcomes, joined end to end, are those of both together
 pub refused_more : (first more : List Bool) → count_refused (first ++ more) ≡ count_refused first + count_refused more
 refused_more [] more = omega arith
 refused_more (true ∷ first) more = refused_more first more
 refused_more (false ∷ first) more = let e = refused_more first more in omega arith
 
--- the entries of a log that grew were noted behind those before
+-- if a log grew, its new entries were noted behind those before
 pub logged_more : (a : ℕ) (m m' : MixerState) (more : List CycleEntry) (w v u : WriterState) → a ≤ length m.log.entries → m'.frames ≡ m.frames → m'.log.entries ≡ m.log.entries ++ more → Logs a m w v → Logs (length m.log.entries) m' v u → Logs a m' w u
 logged_more a m m' more w v u within frames grown one two =
     let n : ℕ = length m.log.entries in

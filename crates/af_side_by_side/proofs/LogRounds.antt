@@ -22,6 +22,7 @@ use Rattle.af_side_by_side.proofs.LogNotes.{kept_count, kept_more, refused_more}
 abbrev flat : List (List Bool) → List Bool
 flat outcomes = flat_map (λ (round : List Bool). round) outcomes
 
+-- the outcomes of one round more stand behind those of the rounds before
 flat_more : (outcomes : List (List Bool)) (round : List Bool) → flat (outcomes ++ round ∷ []) ≡ flat outcomes ++ round
 flat_more outcomes round = flat_map-append (λ (r : List Bool). r) outcomes (round ∷ []) ∙ ap (λ (l : List Bool). flat outcomes ++ l) (append-nil round)
 
@@ -73,12 +74,13 @@ module _ (room : ℕ) (m m' : MixerState) (rounds : List RoundNoted) (r : RoundN
 
 -- ## What the turns of a round need
 
--- a log by the rounds played so far has its two ends
+-- the fast mixer's party has its end of the log that was kept for the rounds played so far
 pub has_scribe : (kept : Option ℕ) (m : MixerState) (rounds : List RoundNoted) (l : LoggingState) → LogsPlay kept m rounds l → IsScribe l.log (length m.log.entries) l.scribe
 has_scribe None m rounds l is = subst (λ (o : Option Made). IsScribe o (length m.log.entries) l.scribe) (sym is.0) is.1
 has_scribe (Some room) m rounds l h =
     subst (λ (o : Option Made). IsScribe o (length m.log.entries) l.scribe) (sym h.ends.log) (h.ends.writer, h.ends.scribe, h.ends.made.0, h.logged.noted)
 
+-- the auditor has its end of the log that was kept for the rounds played so far
 pub has_auditor : (kept : Option ℕ) (m : MixerState) (rounds : List RoundNoted) (l : LoggingState) → length m.log.entries ≤ m.cycles → LogsPlay kept m rounds l → IsAuditor l.log l.auditor
 has_auditor None m rounds l few is = subst (λ (o : Option Made). IsAuditor o l.auditor) (sym is.0) is.2
 has_auditor (Some room) m rounds l few h =
@@ -93,7 +95,7 @@ has_auditor (Some room) m rounds l few h =
 
 -- ## A round
 
--- nothing was done where no log is kept
+-- if no log is kept before the turns of a round, none is kept after them
 still_none : (first : ℕ) (m : MixerState) (l l' : LoggingState) → no_log l → HasBothLogged first m l l' → no_log l'
 still_none first m l l' none both =
     let scribe : l'.scribe ≡ l.scribe = subst (λ (o : Option WriterState). MatchOption o (l'.scribe ≡ l.scribe) (λ w. (w' : WriterState) × (l'.scribe.end ≡ Some w') × Logs first m w w')) none.1 both.scribe in
@@ -102,7 +104,7 @@ still_none first m l l' none both =
     × HasDrained l.auditor.room r.pass more r'.pass)) none.2 both.auditor in
     (both.log ∙ none.0, ap (λ (s : ScribeState). s.end) scribe ∙ none.1, ap (λ (a : AuditorState). a.end) auditor ∙ none.2)
 
--- the two ends behind their turns
+-- the two ends of a log behind their turns
 record Turned (first : ℕ) (m : MixerState) (block : Made) (l l' : LoggingState) (a : HasEnds block l) : Type 0 where
   ends : HasEnds block l'
   logs : Logs first m a.writer ends.writer
@@ -111,6 +113,7 @@ record Turned (first : ℕ) (m : MixerState) (block : Made) (l l' : LoggingState
   reads : read ends.reader ≡ read a.reader ++ more
   drained : HasDrained l.auditor.room a.reader.pass more ends.reader.pass
 
+-- the two ends after their turns, if a log is kept
 turned_ends : (first : ℕ) (m : MixerState) (block : Made) (l l' : LoggingState) (a : HasEnds block l) → HasBothLogged first m l l' → Turned first m block l l' a
 turned_ends first m block l l' a both =
     let scribe = subst (λ (o : Option WriterState). MatchOption o (l'.scribe ≡ l.scribe) (λ w. (w' : WriterState) × (l'.scribe.end ≡ Some w') × Logs first m w w')) a.scribe both.scribe in
@@ -133,12 +136,12 @@ turned_ends first m block l l' a both =
       drained = auditor.5;
     }
 
--- they can meet
+-- the two ends can meet after their turns
 pub are_ends : (kept : Option ℕ) (s t : MixerState) (rounds : List RoundNoted) (l l' : LoggingState) → LogsPlay kept s rounds l → HasBothLogged (length s.log.entries) t l l' → AreEnds l'
 are_ends None s t rounds l l' is both = inl (still_none (length s.log.entries) t l l' is both)
 are_ends (Some room) s t rounds l l' h both = inr (h.block, (turned_ends (length s.log.entries) t h.block l l' h.ends both).ends)
 
--- a mixer with the same sizes and the same log
+-- a log that is kept of a mixer is kept of one with the same sizes and the same log
 logged_same : (room : ℕ) (t t' : MixerState) (rounds : List RoundNoted) (w : WriterState) (r : ReaderState) (notes : Roomy Note) → t'.frames ≡ t.frames → t'.cycles ≡ t.cycles → t'.log ≡ t.log → IsLogged room t rounds w r notes → IsLogged room t' rounds w r notes
 logged_same room t t' rounds w r notes frames cycles log x = record {
   outcomes = x.outcomes;
@@ -154,7 +157,7 @@ logged_same room t t' rounds w r notes frames cycles log x = record {
   space = x.space ∙ ap (λ (n : ℕ). n + room) (sym cycles);
 }
 
--- a log goes on by a round
+-- a log that was kept for the rounds before is kept for one round more
 pub round_logs : (kept : Option ℕ) (s t t' : MixerState) (rounds : List RoundNoted) (r : RoundNoted) (more : List CycleEntry) (l l' l'' : LoggingState) → LogsPlay kept s rounds l → HasBothLogged (length s.log.entries) t l l' → HasMetLog l' l''
     → t.frames ≡ s.frames → t.cycles ≡ s.cycles → t.log.entries ≡ s.log.entries ++ more → length more ≤ most_cycles → r.cycles ≡ length more → t'.frames ≡ t.frames → t'.cycles ≡ t.cycles → t'.log ≡ t.log → LogsPlay kept t' (rounds ++ r ∷ []) l''
 round_logs None s t t' rounds r more l l' l'' is both met frames cycles grown few count frames' cycles' log' =

@@ -33,6 +33,7 @@ record NotedTo (made : List (List ClientCall)) (i : ℕ) (run run' : Shown) : Ty
   done : (k : ℕ) → k < i → k < length run.calls → calls_of run' k ≡ calls_of run k ++ slice_index_or made k []
   rest : (k : ℕ) → i ≤ k → calls_of run' k ≡ calls_of run k
 
+-- the calls of one client more are noted
 noted_next : (made : List (List ClientCall)) (i : ℕ) (run run' : Shown) → NotedTo made i run run' → NotedTo made (suc i) run (with_calls run' i (slice_index_or made i []))
 noted_next made i run run' n =
     let next : List ClientCall = calls_of run' i ++ slice_index_or made i [] in
@@ -47,6 +48,7 @@ noted_next made i run run' n =
       rest = (λ k le. get_or-set_other run'.calls i k next [] (λ e. omega (arith, e, le)) ∙ n.rest k (omega arith));
     }
 
+-- the calls of the first i clients are noted in a run that goes on by them
 noted_to : (made : List (List ClientCall)) (i : ℕ) (run : Shown) → NotedTo made i run (with_all_calls made i run)
 noted_to made zero run = record { same = refl; long = refl; done = (λ k lt within. absurd (omega (arith, lt))); rest = (λ k le. refl) }
 noted_to made (suc i) run = noted_next made i run (with_all_calls made i run) (noted_to made i run)
@@ -58,7 +60,7 @@ module _ (states : List FastState) (len tracks : ℕ) (calls : AllCalls) (turns 
   abbrev after : Shown
   after = with_all_calls made tracks before
 
-  -- all calls are those of one round more
+  -- the calls of all clients after a round are those of the rounds before and this one
   calls_after : after.calls ≡ map (calls_over (calls ++ made ∷ [])) (range_with_len 0 tracks)
   unfolding shows
   calls_after =
@@ -69,7 +71,7 @@ module _ (states : List FastState) (len tracks : ℕ) (calls : AllCalls) (turns 
       ∙ ap (λ (xs : List ClientCall). xs ++ slice_index_or made k []) (get_or-map-range_with_len (calls_over calls) 0 tracks k k [] below (omega arith))
       ∙ sym (calls_more calls made k))
 
-  -- with the turn of that round, if it had one
+  -- a run with one round more shows its calls, and its turn if the normal mixer made one
   shows_all : (had_ended : Bool) (turn : Turn) → shows states len tracks (calls ++ made ∷ []) (turns ++ (if had_ended then None else Some turn) ∷ []) frames entries ≡ with_turn_if had_ended turn after
   unfolding shows
   shows_all true turn =
@@ -79,7 +81,7 @@ module _ (states : List FastState) (len tracks : ℕ) (calls : AllCalls) (turns 
       let x : Shown = before in
       sym (ap (λ (y : Shown). with_turn y turn) (noted_to made tracks before).same ∙ (λ i. record x { calls = calls_after i; turns = sym (turns_more turns (Some turn)) i }))
 
--- the tally of one round of all more
+-- a tally that notes the calls and the turn of a round of all follows the round
 pub follows_all : (s t : SessionState) (turn : Turn) (a b c : Tallied) → length s.clients ≡ length t.clients → turn ≡ turn_of t.normal.entry → length a.tracks ≡ length t.clients → Follows s.fast t.fast a b
     → ((run : Shown) → IsTally run b → IsTally (with_turn_if s.normal.ended turn (with_all_calls (map (λ (p : PartyState). p.calls.items) t.clients) (length t.clients) run)) c)
     → FollowsRound (all_noted s t) s.fast t.fast a c
@@ -117,7 +119,7 @@ module _ (s played met t : SessionState) (meets : Met played met) (long : length
       (λ i. shown_at first tracks (rounds ++ told i ∷ []) (same_fast i)) ∙ shown_met first tracks (rounds ++ all_noted s played ∷ []) played met order meets in
       subst (λ (run : Shown). IsTally run b) (sym shown) (follows first tracks rounds is)
 
-  -- its places are those of the parties
+  -- the places of a tally after the turns are those after the round
   pub places_after : (n : ℕ) (b : Tallied) → HasPlaces n (length played.clients) (length played.fast.log.entries) b → HasPlaces n (length t.clients) (length t.fast.log.entries) b
   places_after n b p =
       let clients : length played.clients ≡ length t.clients = sym (ap (λ (x : SessionState). length x.clients) ends ∙ (ends_keep met).long ∙ long) in
@@ -126,12 +128,13 @@ module _ (s played met t : SessionState) (meets : Met played met) (long : length
 
 -- ## The calls of one client more
 
--- those that stand at its place
+-- the calls that stand at a client's place are those that it made
 pub calls_at : (clients : List PartyState) (i : ℕ) (p : PartyState) → i < length clients → p ≡ get_or clients i p → slice_index_or (map (λ (q : PartyState). q.calls.items) clients) i [] ≡ p.calls.items
 calls_at clients i p lt is =
     let f : PartyState → List ClientCall = λ (q : PartyState). q.calls.items in
     get_or_from_slice_get (map f clients) i (f p) [] (slice_get-map f clients i ∙ ap (option_map f) (slice_get-get_or clients i p lt ∙ ap Some (sym is)))
 
+-- going on with one client more adds that client's calls
 pub calls_next : (clients : List PartyState) (i : ℕ) (run : Shown) (calls : List ClientCall) → slice_index_or (map (λ (q : PartyState). q.calls.items) clients) i [] ≡ calls
     → with_all_calls (map (λ (q : PartyState). q.calls.items) clients) (i + 1) run ≡ with_calls (with_all_calls (map (λ (q : PartyState). q.calls.items) clients) i run) i calls
 calls_next clients i run calls is =

@@ -18,22 +18,24 @@ use Rattle.af_party.specs.Works.{CanWork}
 
 -- ## Lists that are related place by place
 
+-- an option that is Some of an item with a property has such an item
 some_and : {X : Type 0} (o : Option X) (P : X → Type 0) → IsSomeAnd o P → (x : X) × (o ≡ Some x) × P x
 some_and None P h = absurd h
 some_and (Some x) P h = (x, refl, h)
 
--- what stands at a place of the second stands there in the first
+-- the item at a place of the second list has a related item at that place of the first
 pub zip_at : {X : Type 0} (R : X → X → Type 0) (xs ys : List X) (i : ℕ) (y : X) → AllZip R xs ys → slice_get ys i ≡ Some y → (x : X) × (slice_get xs i ≡ Some x) × R x y
 zip_at {X} R xs ys i y zip at =
     some_and (slice_get xs i) (λ x. R x y) (subst (λ (o : Option X). MatchOption o (Unit {0}) (λ z. IsSomeAnd (slice_get xs i) (λ x. R x z))) at (AllZip-right R xs ys zip i))
 
+-- lists that are related place by place are as long as each other
 pub zip_long : {X : Type 0} (R : X → X → Type 0) (xs ys : List X) → AllZip R xs ys → length ys ≡ length xs
 zip_long R [] [] zip = refl
 zip_long R [] (y ∷ ys) zip = absurd zip
 zip_long R (x ∷ xs) [] zip = absurd zip
 zip_long R (x ∷ xs) (y ∷ ys) zip = ap suc (zip_long R xs ys zip.1)
 
--- what is related by one relation is by another that follows from it
+-- lists that are related by one relation are related by each relation that follows from it
 pub zip_weaker : {X : Type 0} (R S : X → X → Type 0) → ((x y : X) → R x y → S x y) → (xs ys : List X) → AllZip R xs ys → AllZip S xs ys
 zip_weaker R S f [] [] zip = zip
 zip_weaker R S f [] (y ∷ ys) zip = absurd zip
@@ -69,6 +71,7 @@ module _ (links : Links) (g : Given) (n : ℕ) (s : SessionState) (ready : IsRea
 
 -- ## After them
 
+-- a turn of the normal mixer leaves what the mixer was made of
 same_setup : (m m' : NormalState) → NormalPlayed m m' → setup_of m' ≡ setup_of m
 same_setup m m' played = by_end m.ended played
   where

@@ -19,11 +19,12 @@ use Rattle.af_side_by_side.proofs.LogNotes.{logged_more, logged_none}
 
 -- ## What a cycle adds
 
--- the entries of a log stay, or one is added that doesn't tell of a full log
+-- a cycle adds nothing to the log, or one entry that doesn't say that the log is full
 pub data AddsUpToOne (m m' : MixerState) : Type 0 where
   adds_nothing : m'.log.entries ≡ m.log.entries → AddsUpToOne m m'
   adds_entry : (entry : CycleEntry) → m'.log.entries ≡ m.log.entries ++ entry ∷ [] → is_spent entry.cycle ≡ false → AddsUpToOne m m'
 
+-- a call of mix adds at most one entry
 mix_adds_up_to_one : (m m' : MixerState) (out out' : List Frame) (answer : Cycle) → MixesOnce m out answer m' out' → AddsUpToOne m m'
 mix_adds_up_to_one m m' out out' answer x = by_exit m.exited refl
   where
@@ -38,28 +39,30 @@ mix_adds_up_to_one m m' out out' answer x = by_exit m.exited refl
     by_exit true is = adds_nothing (ap (λ (y : MixerState). y.log.entries) (x.exited is).1)
     by_exit false is = by_length (length m.log.entries == m.cycles) is refl
 
+-- a poll adds no entry, so a poll and a mix add at most one
 from_polled : (m p m' : MixerState) → p.log ≡ m.log → AddsUpToOne p m' → AddsUpToOne m m'
 from_polled m p m' same (adds_nothing is) = adds_nothing (is ∙ ap (λ (l : Logged). l.entries) same)
 from_polled m p m' same (adds_entry entry is kept) = adds_entry entry (is ∙ ap (λ (l : Logged). l.entries ++ entry ∷ []) same) kept
 
--- a cycle adds no more
+-- a cycle adds at most one entry
 pub cycle_adds_up_to_one : (links : Links) (m m' : MixerState) (answer : Cycle) (bytes : List ℕ) → CyclesOnce links m answer bytes m' → AddsUpToOne m m'
 cycle_adds_up_to_one links m m' answer bytes w = from_polled m w.polled m' (polled_keeps m w.polled w.adopts).0 (mix_adds_up_to_one w.polled m' w.before w.after answer w.mixes)
 
--- so the log is no shorter
+-- a log to which at most one entry was added has its entries before, and perhaps more behind them
 pub grown_by : (m m' : MixerState) → AddsUpToOne m m' → (more : List CycleEntry) × (m'.log.entries ≡ m.log.entries ++ more)
 grown_by m m' (adds_nothing is) = ([], is ∙ sym (append-nil m.log.entries))
 grown_by m m' (adds_entry entry is kept) = (entry ∷ [], is)
 
+-- a log to which at most one entry was added is no shorter
 pub no_shorter : (m m' : MixerState) → AddsUpToOne m m' → length m.log.entries ≤ length m'.log.entries
 no_shorter m m' adds = let more = grown_by m m' adds in omega (arith, ap length more.1 ∙ length-append m.log.entries more.0)
 
--- a longer one has one entry more
+-- a log that got longer has one entry more
 pub one_longer : (m m' : MixerState) → AddsUpToOne m m' → length m.log.entries < length m'.log.entries → length m'.log.entries - 1 ≡ length m.log.entries
 one_longer m m' (adds_nothing is) longer = absurd (omega (arith, ap length is))
 one_longer m m' (adds_entry entry is kept) longer = omega (arith, ap length is ∙ length_push m.log.entries entry)
 
--- and the last one doesn't tell of a full log
+-- the last entry of a log that got longer doesn't say that the log is full
 pub last_kept : (m m' : MixerState) → AddsUpToOne m m' → length m.log.entries < length m'.log.entries → is_spent (entry_at m'.log.entries (length m'.log.entries - 1)).cycle ≡ false
 last_kept m m' (adds_nothing is) longer = absurd (omega (arith, ap length is))
 last_kept m m' (adds_entry entry is kept) longer =
@@ -69,7 +72,7 @@ last_kept m m' (adds_entry entry is kept) longer =
 
 -- ## What the scribe notes
 
--- nothing where nothing was added
+-- if no entry was added, the scribe noted none
 pub noted_none : (first : ℕ) (m : MixerState) (s : ScribeState) → first ≡ length m.log.entries → HasLogged first m s s
 noted_none first m s same = by_end s.end refl
   where
@@ -77,7 +80,7 @@ noted_none first m s same = by_end s.end refl
     by_end None is = refl
     by_end (Some w) is = (w, is, subst (λ (n : ℕ). Logs n m w w) (sym same) (logged_none m w))
 
--- behind what was noted before
+-- the entries of one step more are noted behind those noted before
 pub noted_more : (first : ℕ) (m m' : MixerState) (s v u : ScribeState) → first ≤ length m.log.entries → m'.frames ≡ m.frames → AddsUpToOne m m' → HasLogged first m s v → HasLogged (length m.log.entries) m' v u → HasLogged first m' s u
 noted_more first m m' s v u within frames adds one two = by_end s.end refl one
   where

@@ -8,7 +8,7 @@ use Rattle.af_fast.specs.Mixing.{Adopts, MixesOnce}
 use Rattle.af_link.specs.declared.links.Links.{Links}
 use Rattle.af_runs.specs.Pcm.{written}
 
--- One cycle: a poll and a mix into some buffer that has the frames of a cycle, after each of which the mixer is in order over these links, and the bytes of what was mixed
+-- One cycle: a poll and a mix into some buffer that has the frames of a cycle, and the bytes of what was mixed. The mixer is in order over these links after the poll and after the mix
 pub record CyclesOnce (links : Links) (m : MixerState) (answer : Cycle) (bytes : List ℕ) (m' : MixerState) : Type 0 where
   pub polled : MixerState
   pub adopts : Adopts m polled
@@ -21,7 +21,7 @@ pub record CyclesOnce (links : Links) (m : MixerState) (answer : Cycle) (bytes :
   pub sizes : (m'.frames ≡ m.frames) × (m'.cycles ≡ m.cycles)
   pub bytes_are : bytes ≡ written answer after
 
--- So many cycles with the bytes that they wrote, or fewer where one of them mixes nothing: it is the last
+-- So many cycles, with the bytes that they wrote, or fewer if one of them mixes nothing: it is the last
 abbrev pub CyclesOn : Links → ℕ → MixerState → List ℕ → MixerState → Type 0
 CyclesOn links zero m bytes m' = (bytes ≡ []) × (m' ≡ m)
 CyclesOn links (suc left) m bytes m' = (answer : Cycle) × (next : MixerState) × (front : List ℕ) × (back : List ℕ) × CyclesOnce links m answer front next × (bytes ≡ front ++ back)
@@ -31,6 +31,6 @@ CyclesOn links (suc left) m bytes m' = (answer : Cycle) × (next : MixerState) �
 abbrev pub most_cycles : ℕ
 most_cycles = 16
 
--- a turn: none where the mixer has ended
+-- a turn of the fast mixer: none if it has ended
 abbrev pub FastTurned : Links → MixerState → List ℕ → MixerState → Type 0
 FastTurned links m bytes m' = MatchBool m.exited ((bytes ≡ []) × (m' ≡ m)) (CyclesOn links most_cycles m bytes m')

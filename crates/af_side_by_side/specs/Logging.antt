@@ -1,4 +1,4 @@
--- The log of a play, where one is kept: what its two ends do in a round, and what it comes to.
+-- The log of a play, if one is kept: what its two ends do in a round, and what it comes to.
 use Rattle.std.specs.Prelude.{◌≡◌, ◌⊎◌, ℕ, ◌+◌, ◌*◌, ◌≤◌, All, Bool, true, false, Option, Some, None, List, [], ◌∷◌, ◌++◌, length, map, drop, MatchOption}
 use Rattle.std.specs.List.{flat_map}
 use Rattle.af_base.specs.declared.log.CycleEntry.{CycleEntry}
@@ -14,13 +14,13 @@ use Rattle.af_side_by_side.specs.Alone.{most_cycles}
 
 -- ## Which entries were noted
 
--- the notes of these entries that were accepted, where the first stands at this place of the mixer's log
+-- the notes of these entries that were accepted; the first entry has this place in the mixer's log
 abbrev pub notes_kept : (frames place : ℕ) → List CycleEntry → List Bool → List Note
 notes_kept frames place (entry ∷ entries) (true ∷ outcomes) = note_of place entry frames ∷ notes_kept frames (place + 1) entries outcomes
 notes_kept frames place (entry ∷ entries) (false ∷ outcomes) = notes_kept frames (place + 1) entries outcomes
 notes_kept frames place _ _ = []
 
--- how many were refused
+-- how many of these outcomes are refusals
 abbrev pub count_refused : List Bool → ℕ
 count_refused [] = 0
 count_refused (true ∷ outcomes) = count_refused outcomes
@@ -36,11 +36,11 @@ pub record IsLogOf (frames room : ℕ) (j : JournalData) (notes : List Note) (re
 
 -- ## The two parties
 
--- the end of the fast mixer's party, where there is a log
+-- the end of the fast mixer's party, if there is a log
 pub record ScribeState : Type 0 where
   pub end : Option WriterState
 
--- the end of the party that reads, where there is one, for how many notes there is room in all, and the notes that it keeps
+-- the end of the party that reads, if there is a log; for how many notes there is room in all; and the notes that it keeps
 pub record AuditorState : Type 0 where
   pub end : Option ReaderState
   pub room : ℕ
@@ -67,7 +67,7 @@ pub record Logs (first : ℕ) (m : MixerState) (w w' : WriterState) : Type 0 whe
   pub refused : w'.refused ≡ w.refused + count_refused outcomes
   pub made : writer_made w' ≡ writer_made w
 
--- the same where there is a log
+-- the entries of the mixer's log from this place on were noted, if there is a log; else the scribe is as before
 abbrev pub HasLogged : ℕ → MixerState → ScribeState → ScribeState → Type 0
 HasLogged first m s s' = MatchOption s.end (s' ≡ s) (λ w. (w' : WriterState) × (s'.end ≡ Some w') × Logs first m w w')
 
@@ -90,7 +90,7 @@ pub record LoggingState : Type 0 where
 abbrev pub no_log : LoggingState → Type 0
 no_log l = (l.log ≡ None) × (l.scribe.end ≡ None) × (l.auditor.end ≡ None)
 
--- one is kept in this block, and the parties have its ends
+-- a log is kept in this block, and the parties have its ends
 pub record HasEnds (block : Made) (l : LoggingState) : Type 0 where
   pub writer : WriterState
   pub reader : ReaderState
@@ -99,7 +99,7 @@ pub record HasEnds (block : Made) (l : LoggingState) : Type 0 where
   pub auditor : l.auditor.end ≡ Some reader
   pub made : (writer_made writer ≡ block) × (reader_made reader ≡ block)
 
--- the ends are those of one log, or there is none
+-- the parties have the ends of one log, or none is kept
 abbrev pub AreEnds : LoggingState → Type 0
 AreEnds l = no_log l ⊎ ((block : Made) × HasEnds block l)
 
@@ -109,14 +109,14 @@ pub record HasBothLogged (first : ℕ) (m : MixerState) (l l' : LoggingState) : 
   pub scribe : HasLogged first m l.scribe l'.scribe
   pub auditor : HasAudited l.auditor l'.auditor
 
--- The two ends met: the notes accepted and read stay, and the two lists are in order. Where they were between rounds, and noted and read in another, they are again
+-- The two ends met: the notes accepted and read stay, and the two lists are in order. If the ends were between two rounds, and then noted and read in a round, they are between two rounds again
 pub record NotesMet (block : Made) (w w' : WriterState) (r r' : ReaderState) : Type 0 where
   pub kept : (accepted w' ≡ accepted w) × (w'.refused ≡ w.refused) × (read r' ≡ read r)
   pub order : AreInOrder (accepted w') (read r')
   pub rounds : (room : ℕ) (rounds : List (List Bool)) (round : List Bool) (notes : List Note) (v : WriterState) (q : ReaderState) → block.shape.frames ≡ 8 * room
       → IsBetween room rounds v q → HasNoted v.pass.part round w.pass.part → HasDrained room q.pass notes r.pass → IsBetween room (rounds ++ round ∷ []) w' r'
 
--- the same of a log, where one is kept
+-- the ends of a log met, if one is kept; else nothing changes
 pub record HasMetLog (l l' : LoggingState) : Type 0 where
   pub none : no_log l → l' ≡ l
   pub some : (block : Made) (a : HasEnds block l) → (b : HasEnds block l') × (l'.auditor ≡ record l.auditor { end = Some b.reader }) × NotesMet block a.writer b.writer a.reader b.reader
@@ -135,7 +135,7 @@ pub record IsLogged (room : ℕ) (m : MixerState) (rounds : List RoundNoted) (w 
   pub kept_is : kept.items ≡ read r
   pub space : kept.room ≡ m.cycles + room
 
--- one with this room is kept so
+-- a log with this room is kept, by the rounds played so far
 pub record HasLog (room : ℕ) (m : MixerState) (rounds : List RoundNoted) (l : LoggingState) : Type 0 where
   pub block : Made
   pub size : block.shape.frames ≡ 8 * room
@@ -143,12 +143,12 @@ pub record HasLog (room : ℕ) (m : MixerState) (rounds : List RoundNoted) (l : 
   pub ends : HasEnds block l
   pub logged : IsLogged room m rounds ends.writer ends.reader l.auditor.notes
 
--- a log with this room is kept so, or none is
+-- a log with this room is kept, by the rounds played so far, or none is kept
 abbrev pub LogsPlay : Option ℕ → MixerState → List RoundNoted → LoggingState → Type 0
 LogsPlay None m rounds l = no_log l
 LogsPlay (Some room) m rounds l = HasLog room m rounds l
 
--- the same of a mixer that has made no cycle yet, and makes at most so many
+-- a log with this room, or none, is kept for a mixer that has made no cycle yet and makes at most so many
 abbrev pub BeginsLog : Option ℕ → ℕ → LoggingState → Type 0
 BeginsLog kept cycles l = (m : MixerState) → m.cycles ≡ cycles → m.log.entries ≡ [] → LogsPlay kept m [] l
 
@@ -167,7 +167,7 @@ pub record HasLogOf (frames room : ℕ) (j : JournalData) (l : LoggingState) : T
   pub kept : l.auditor.notes.items ≡ read ends.reader
   pub space : length l.auditor.notes.items + room ≤ l.auditor.notes.room
 
--- such a log is kept, or none is
+-- the log of a journal with this room is kept, or none is
 abbrev pub TellsLog : Option ℕ → ℕ → JournalData → LoggingState → Type 0
 TellsLog None frames j l = no_log l
 TellsLog (Some room) frames j l = HasLogOf frames room j l

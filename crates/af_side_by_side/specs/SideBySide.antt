@@ -36,14 +36,15 @@ pub record ClientPlayed (g : Given) (p q : PartyState) : Type 0 where
 abbrev pub TurnPlayed : NormalState → NormalState → Type 0
 TurnPlayed m m' = (o : Outside) × IsLegal o m m' × TurnMade (answer_of (turn_of m'.entry)) m m'
 
--- it did so; one that has ended makes none
+-- the normal mixer made a legal turn; one that has ended makes none
 abbrev pub NormalPlayed : NormalState → NormalState → Type 0
 NormalPlayed m m' = MatchBool m.ended (m' ≡ m) (TurnPlayed m m')
 
--- what the journal notes of a round: the calls of each client, the normal mixer's turn if it made one, and how many entries came
+-- the turn of the normal mixer that the journal notes of a round, if it made one
 abbrev pub turn_noted : NormalState → NormalState → Option Turn
 turn_noted m m' = if m.ended then None else Some (turn_of m'.entry)
 
+-- what the journal notes of a round: the calls of each client, the normal mixer's turn if it made one, and how many entries came
 abbrev pub all_noted : SessionState → SessionState → RoundNoted
 all_noted s t = record {
   calls = map (λ (p : PartyState). p.calls.items) t.clients;
@@ -59,7 +60,7 @@ pub record AllPlayed (links : Links) (g : Given) (s t : SessionState) (bytes : L
 
 -- ## The round
 
--- The turns, then the meetings of all, and then the ends; the parties belong together before the turns, after them and after the meetings, over the same links
+-- The round: the turns, then the meetings of all, and then the ends. The parties belong together before the turns, after them and after the meetings, over the same links
 pub record IsRoundOfAll (g : Given) (s : SessionState) (r : RoundNoted) (bytes : List ℕ) (t : SessionState) : Type 0 where
   pub turned : SessionState
   pub met : SessionState
@@ -72,14 +73,14 @@ pub record IsRoundOfAll (g : Given) (s : SessionState) (r : RoundNoted) (bytes :
 
 -- ## What each party needs for its turn, and has after it
 
--- a client has the proxies of its two blocks and can do what is left of its work, and has room for 128 words more
+-- a client has the proxies of its two blocks, can do what is left of its work, and has room for 128 words more
 pub record CanTurn (links : Links) (g : Given) (p : PartyState) : Type 0 where
   pub track : (p.track < length g.tracks) × (p.track < length g.files)
   pub clients : AreClientsOf links p.track p.stream p.command
   pub work : CanWork (ops_at g p.track) (length (file_at g p.track)) p
   pub few : p.command.released + 128 ≤ 2 ^ 62
 
--- it made a turn, and is as ready for the next one
+-- a client made a turn, and is as ready for the next one
 pub record HasTurned (links : Links) (g : Given) (p q : PartyState) : Type 0 where
   pub played : ClientPlayed g p q
   pub track : q.track ≡ p.track
@@ -92,7 +93,7 @@ pub record CanMixOn (links : Links) (m : NormalState) : Type 0 where
   pub order : IsNormalInOrder links m
   pub few : m.turns < 131072
 
--- it made a turn, if it hadn't ended
+-- the normal mixer made a turn, if it hadn't ended
 pub record HasMixedOn (links : Links) (m m' : NormalState) : Type 0 where
   pub played : NormalPlayed m m'
   pub order : IsNormalInOrder links m'
@@ -105,7 +106,7 @@ pub record CanCycle (links : Links) (m : MixerState) : Type 0 where
   pub between : m.adopted ≡ false
   pub whole : IsWhole m.log
 
--- it made a turn, if it hadn't ended. The bytes of what it mixed were put behind others, and where those were the sound of its log behind what went out before, they are so again
+-- The fast mixer made a turn, if it hadn't ended. The bytes of what it mixed were put behind others. If the bytes, behind those that went out before, were the sound of its log, they are so again
 pub record HasCycledOn (links : Links) (m m' : MixerState) (bytes bytes' : Roomy ℕ) : Type 0 where
   pub added : List ℕ
   pub written_is : bytes' ≡ record bytes { items = bytes.items ++ added }
@@ -114,16 +115,16 @@ pub record HasCycledOn (links : Links) (m m' : MixerState) (bytes bytes' : Roomy
   pub sizes : (m'.frames ≡ m.frames) × (m'.cycles ≡ m.cycles)
   pub sound : (before : List ℕ) → before ++ bytes.items ≡ pcm_of m.frames m.log → before ++ bytes'.items ≡ pcm_of m.frames m'.log
 
--- a tally follows what the fast mixer does, and has the looks and the mixed cycles of its entries more
+-- A tally follows what the fast mixer does. It has the looks and the mixed cycles of the entries that the turn added
 pub record HasNotedOn (m m' : MixerState) (a b : Tallied) : Type 0 where
   pub follows : Follows m m' a b
   pub places : (n tracks : ℕ) → HasPlaces n tracks (length m.log.entries) a → HasPlaces n tracks (length m'.log.entries) b
 
--- a run goes on by the first calls of these, those of each client
+-- a run goes on by the calls of the first so many clients, by their places
 abbrev pub with_all_calls : List (List ClientCall) → ℕ → Shown → Shown
 with_all_calls made zero run = run
 with_all_calls made (suc i) run = with_calls (with_all_calls made i run) i (slice_index_or made i [])
 
--- and by a turn, if the mixer hadn't ended
+-- a run goes on by the normal mixer's turn, if it hadn't ended
 abbrev pub with_turn_if : Bool → Turn → Shown → Shown
 with_turn_if had_ended turn run = if had_ended then run else with_turn run turn

@@ -43,7 +43,7 @@ fn cycle_once<L: Ledger>(
     cycle
 }
 
-// One cycle, whose bytes are appended, and whose entry is noted in the log where one is kept.
+// One cycle, whose bytes are appended. Its entry is noted in the log, if one is kept.
 fn cycle_logged<L: Ledger>(
     fast: &mut FastMixer,
     links: &Links<'_>,
@@ -108,7 +108,7 @@ fn cycles_on<L: Ledger>(
     }
 }
 
-/// The fast mixer's turn while the other parties make theirs: up to sixteen cycles, none where it has ended. The bytes of each mix are appended to `bytes`, which has room for all of them, and the tally notes each entry and what it wrote. Where a log is kept each entry is noted in it too. It takes no memory.
+/// The fast mixer's turn while the other parties make theirs: up to sixteen cycles, none if it has ended. The bytes of each mix are appended to `bytes`, which has room for all of them, and the tally notes each entry and what it wrote. If a log is kept each entry is noted in it too. It takes no memory.
 pub fn turn_alone<L: Ledger>(
     fast: &mut FastMixer,
     links: &Links<'_>,

@@ -1,4 +1,4 @@
-//! The log of a play, where one is kept: the end with which the fast mixer's party notes its entries, and the party that reads it.
+//! The log of a play, if one is kept: the end with which the fast mixer's party notes its entries, and the party that reads it.
 ghost use Rattle.std.specs.Prelude.{◌≡◌, ◌+◌, ◌-◌, ◌++◌, ◌<◌, ◌≤◌, ℕ, false, Some, None, IfOk, MatchOption, OnErr, length};
 ghost use Rattle.af_base.specs.Log.{entry_at};
 ghost use Rattle.af_model.specs.JournalForm.{is_spent};
@@ -16,7 +16,7 @@ use std::alloc::Global;
 use std::marker::{Brand, Model};
 use std::sync::ledger::{Blank, Ledger};
 
-/// The end of a log in the hands of the fast mixer's party; none where no log is kept.
+/// The end of a log in the hands of the fast mixer's party; none if no log is kept.
 #[derive(Drop)]
 pub struct Scribe {
     pub(crate) end: Option<NoteWriter>,
@@ -30,7 +30,7 @@ impl Model for Scribe {
     ghost view = { λ s. record { end = s.end } };
 }
 
-/// The party that reads a log, with the notes that it read; none where no log is kept.
+/// The party that reads a log, with the notes that it read; none if no log is kept.
 #[derive(Drop)]
 pub struct Auditor {
     pub(crate) end: Option<NoteReader>,
@@ -46,7 +46,7 @@ impl Model for Auditor {
     ghost view = { λ a. record { end = a.end; room = a.room; notes = a.notes } };
 }
 
-/// The log of a play: its block, where one is kept, and the two parties' ends.
+/// The log of a play: its block, if one is kept, and the two parties' ends.
 #[derive(Drop)]
 pub struct Logging {
     pub(crate) log: Option<Block>,
@@ -63,7 +63,7 @@ impl Model for Logging {
 }
 
 impl Logging {
-    /// No log is kept. Memory is its only refusal.
+    /// The log of a play that keeps none. Memory is its only refusal.
     pub fn none(alloc: Global) -> Result<Self, Memory>
         ensures { (cycles : ℕ) → IfOk result (BeginsLog None cycles) }
     {
@@ -98,7 +98,7 @@ impl Logging {
         })
     }
 
-    /// The two ends meet, where a log is kept.
+    /// The two ends meet, if a log is kept.
     pub(crate) fn meet<L: Ledger>(&mut self, steps: &mut Steps<L>)
         requires ends { AreEnds self.old }
         ensures met { HasMetLog self.old self.new }
@@ -120,7 +120,7 @@ impl Logging {
         meet_notes(block, writer, reader, steps);
     }
 
-    // The auditor drains what is left, and the ends meet behind it: so all that was accepted is then read.
+    // The auditor drains what is left, and the ends meet after that: so all notes that were accepted are then read.
     fn finish<L: Ledger>(&mut self, blank: Blank)
         requires ledger { (blank.name ≡ L.name) × (blank.parts ≡ L.parts) × (0 < blank.parts) }
         requires told { (frames : ℕ) × (room : ℕ) × (journal : JournalData) × HasLogOf frames room journal self.old }
@@ -144,7 +144,7 @@ impl Logging {
 }
 
 impl Scribe {
-    // How many notes were refused; none where no log is kept.
+    // How many notes were refused; 0 if no log is kept.
     fn refused(&self) -> u64
         ensures { MatchOption self.now.end (result ≡ 0) (λ w. result ≡ w.refused) }
     {
@@ -154,7 +154,7 @@ impl Scribe {
         }
     }
 
-    /// Notes the entry that the mixer added last, where a log is kept.
+    /// Notes the entry that the mixer added last, if a log is kept.
     pub(crate) fn note_last<L: Ledger>(
         &mut self,
         log: &Option<Block>,
@@ -186,7 +186,7 @@ impl Scribe {
 }
 
 impl Auditor {
-    // Reads until it sees no note left, or has read as many as there is room for.
+    // Reads until it sees no note left, or has read as many notes as there is room for.
     fn read_in<L: Ledger>(&mut self, blank: Blank, log: &Option<Block>)
         requires ledger { (blank.name ≡ L.name) × (blank.parts ≡ L.parts) × (0 < blank.parts) }
         requires can { IsAuditor log.now self.old }
@@ -202,7 +202,7 @@ impl Auditor {
         end.drain(block, self.room, &mut self.notes, &mut steps);
     }
 
-    /// A turn of the party that reads, of this number: none where no log is kept.
+    /// A turn of the party that reads, of this number: none if no log is kept.
     pub(crate) fn turn<G: Gate>(&mut self, log: &Option<Block>, party: u32, gate: &G)
         requires { IsAuditor log.now self.old }
         ensures { HasAudited self.old self.new }

@@ -61,7 +61,7 @@ fn play_at_once<R: Threads + Sync, G: Gate>(
     );
 }
 
-// Notes the calls of each client and the normal mixer's turn, which it made if it hadn't ended.
+// Notes the calls of each client, and the turn of the normal mixer if the mixer hadn't ended.
 fn note_turns(parties: &Parties, had_ended: bool, tally: &mut Tally)
     requires places { (n : ℕ) × (entries : ℕ) × (n < 100000) × (entries ≤ 100000) × HasPlaces n (length parties.now.clients) entries tally.old }
     requires takes { length parties.now.normal.entry.mixes.items ≤ slots }
@@ -97,9 +97,9 @@ fn meet_in<L: Ledger>(
     logging.meet(&mut steps);
 }
 
-/// A round of all parties: each that hasn't ended makes one turn, on a thread of its own where one can be made, and then all meet. Once the normal mixer has ended every client has. The bytes of what the fast mixer mixed are appended to `bytes`, which has room for those of sixteen cycles. Where a log is kept a party of its own reads it in each round, and its two ends meet with the others. It takes no memory.
+/// A round of all parties: each that hasn't ended makes one turn, on a thread of its own if one can be made, and then all meet. Once the normal mixer has ended every client has. The bytes of what the fast mixer mixed are appended to `bytes`, which has room for those of sixteen cycles. If a log is kept a party of its own reads it in each round, and its two ends meet with the others. It takes no memory.
 ///
-/// Each turn is a legal one by what its party saw, and after the meetings the lists of each two that met have a history. Where the bytes that went out before, and `bytes` behind them, were the sound of the fast mixer's log, they are so again.
+/// Each turn is a legal one by what its party saw, and after the meetings the lists of each two that met have a history. If the bytes that went out before, and `bytes` behind them, were the sound of the fast mixer's log, they are so again.
 pub fn round_of_all<R: Threads + Sync, G: Gate>(
     parties: &mut Parties,
     rt: &R,

@@ -1,4 +1,4 @@
-//! The turns of all parties at once: each on a thread of its own where threads can be made.
+//! The turns of all parties at once: each on a thread of its own if threads can be made.
 ghost use Rattle.std.specs.Prelude.{◌≡◌, ◌+◌, ◌*◌, ◌<◌, ◌≤◌, ◌^◌, ℕ, length, All};
 ghost use Rattle.std.specs.List.{AllZip, list_all};
 ghost use Rattle.std.specs.Thread.{IsSync};
@@ -150,7 +150,7 @@ fn have_ended(clients: &[Party]) -> bool
     clients.iter().all(|client| client.has_ended())
 }
 
-// The turns of some clients, on threads of their own. Those that have ended need none: where a half has only such clients, both halves go on one thread.
+// The turns of some clients, on threads of their own. Those that have ended need none: if a half has only such clients, both halves go on one thread.
 #[cycle(clients)]
 fn clients_turns<R: Threads + Sync, G: Gate>(
     rt: &R,
@@ -228,7 +228,7 @@ fn fast_and_auditor<R: Threads + Sync, G: Gate>(
     );
 }
 
-// The turns of the fast mixer and, where a log is kept, of the party that reads it.
+// The turns of the fast mixer and, if a log is kept, of the party that reads it.
 fn fast_and_log<R: Threads + Sync, G: Gate>(
     rt: &R,
     fast: &mut FastMixer,
@@ -305,7 +305,7 @@ fn mixers_turns<R: Threads + Sync, G: Gate>(
     );
 }
 
-/// The turns of all parties at the same time, each on a thread of its own where one can be made: the clients, then the normal mixer, then the fast mixer, and the party that reads the log where one is kept, divided in halves. The bytes of what the fast mixer mixed are appended to `bytes`, which has room for those of sixteen cycles. It takes no memory.
+/// The turns of all parties at the same time, each on a thread of its own if one can be made: the clients, then the normal mixer, then the fast mixer, and the party that reads the log if one is kept, divided in halves. The bytes of what the fast mixer mixed are appended to `bytes`, which has room for those of sixteen cycles. It takes no memory.
 pub fn all_turns<R: Threads + Sync, G: Gate>(
     rt: &R,
     clients: &mut [Party],

@@ -2,7 +2,7 @@ use Rattle.std.proofs.Common.{rules, true≢false, sym, ◌∙◌}
 use Rattle.af_playing.proofs.InTime.{played_out}
 use Rattle.af_playing.proofs.answering.answer.Goals as goal
 
--- what was cut off had not ended, so its script hasn't enough cycles
+-- a play that was cut off had not ended, so its script hasn't enough cycles
 pub returns : goal.returns
 returns c =
     let ended = sym c.have_ended.ensures ∙ c.if-have_ended.false in

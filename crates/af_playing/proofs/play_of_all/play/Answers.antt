@@ -8,7 +8,7 @@ use Rattle.af_playing.proofs.play_of_all.play.Goals as goal
 pub play_with-requires-clause-log : goal.play_with-requires-clause-log
 play_with-requires-clause-log g c = λ κs lives. (None, c.in_ok-logging.ensures c.args.piece.now.script.now.cycles)
 
--- no room for a log that isn't kept
+-- an allocation for what stands in place of a log was refused
 pub returns-in_err-logging : goal.returns-in_err-logging
 returns-in_err-logging g c =
     let p = c.args.piece.now in
@@ -25,7 +25,7 @@ returns-in_err-logging g c =
       cause = cause_memory c.from_residual.result (g.S.Store.faults c.args.store.now) c.from_residual.ensures.1;
     }
 
--- what was played
+-- what was played is handed back
 pub returns : goal.returns
 returns g c =
     let keeps = c.play_with.ensures.keeps in

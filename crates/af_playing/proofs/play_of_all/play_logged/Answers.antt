@@ -25,7 +25,7 @@ tell-told-requires g c =
           (λ p log. (c.args.piece.now.script.now.frames, c.args.room, log)) (c.play_with-played.ensures.log (Some c.args.room) begins);
     }
 
--- no room for the log
+-- an allocation for the log was refused
 pub returns-in_err-logging : goal.returns-in_err-logging
 returns-in_err-logging g c =
     let p = c.args.piece.now in
@@ -44,7 +44,7 @@ returns-in_err-logging g c =
       unchanged = on_err c.from_residual.result refl;
     }
 
--- what was played
+-- what was played is handed back
 pub returns : goal.returns
 returns g c =
     let p = c.args.piece.now in

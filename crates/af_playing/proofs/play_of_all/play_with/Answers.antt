@@ -11,7 +11,7 @@ use Rattle.af_playing.proofs.PlayCauses.{cause_memory, cause_store}
 use Rattle.af_playing.proofs.PlayAnswers.{if_ok_one, limits_not}
 use Rattle.af_playing.proofs.play_of_all.play_with.Goals as goal
 
--- ## Where nothing was played
+-- ## If nothing was played
 
 pub returns-in_err-stage-clause-keeps : goal.returns-in_err-stage-clause-keeps
 returns-in_err-stage-clause-keeps g c = keeps_none c.args.piece.now.script.now c.args.piece.now.files.now c.from_residual.result fault.Memory refl c.from_residual.ensures.1
@@ -24,7 +24,7 @@ returns-in_err-stage-clause-files g c = λ told.
 pub returns-in_err-stage-clause-cause : goal.returns-in_err-stage-clause-cause
 returns-in_err-stage-clause-cause g c = cause_memory c.from_residual.result (g.S.Store.faults c.args.store.now) c.from_residual.ensures.1
 
--- ## Where the store or memory failed
+-- ## If the store failed or an allocation was refused
 
 pub returns-in-Err-clause-keeps : goal.returns-in-Err-clause-keeps
 returns-in-Err-clause-keeps g c =
@@ -41,7 +41,7 @@ pub returns-in-Err-clause-cause : goal.returns-in-Err-clause-cause
 returns-in-Err-clause-cause g c =
     cause_store (Err c.from.result) c.in-Err.error (g.S.Store.faults c.args.store.now) (g.S.Store.faults c.play_made.new.store) c.from.ensures c.in-Err.ensures.cause
 
--- ## Where all was played
+-- ## If all was played
 
 pub returns-in-Ok-clause-keeps : goal.returns-in-Ok-clause-keeps
 returns-in-Ok-clause-keeps g c =
