@@ -27,10 +27,10 @@
  *
  * WHAT IS CLAIMED. The library is proved up to the C boundary: each function of the archive, for all arguments that keep what you owe, is safe
  * (it reads and writes only what it may), returns, and does what the contract of the method behind it says (crates/af_ends), over every
- * interleaving of the two ends' steps. What a contract says of a call is in that call's comment here.
+ * interleaving of the two ends' steps. What a contract says of a call is in that call's comment here. That a handle, with the end behind it, may
+ * go from one thread to another is proved too (Rust's Send).
  * Not proved: the program that calls; this header (a prototype that differs from the archive voids all, and the inline functions below, which
- * look for null pointers, are C); malloc; the compilers, which made the archive from the proved code; that an end
- * may go from one thread to another (Rust's Send); that a thread runs, and any time.
+ * look for null pointers, are C); malloc; the compilers, which made the archive from the proved code; that a thread runs, and any time.
  */
 #ifndef ZELDORGACS_H
 #define ZELDORGACS_H
