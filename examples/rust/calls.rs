@@ -88,7 +88,7 @@ fn fixed() -> Result<(), Error> {
         ([102, -102], [117, -117], [102, -102])
     );
     assert_eq!(player.play(UNITY, UNITY, &mut []), Err(Error::Argument));
-    assert_eq!(setter.set(20, 0, 0)?, 2);
+    assert_eq!(setter.set(21, 0, 0)?, 2);
     assert_eq!(player.play(UNITY, UNITY, &mut into), Err(Error::Corrupt));
     assert_eq!(into, [[0, 0]; 22]);
     Ok(())
