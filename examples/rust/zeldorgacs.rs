@@ -144,7 +144,7 @@ struct End(Box<Handle>);
 // SAFETY: the header lets another thread go on with a handle once that is ordered by a thread's start or join, a lock or a sequentially consistent
 // atomic. One owner has the end and each call takes it by `&mut`, so there is one call at a time; by which of these it is sent is what the caller owes
 // (the head of this file). What the two ends of a pair share is the library's, which lets two threads use it. That an end may be sent is the header's
-// word, and isn't proved.
+// word, which also says what of that is proved.
 unsafe impl Send for End {}
 
 impl End {
