@@ -31,6 +31,7 @@ order_unread links m n before h = record {
   turns = h.turns;
   takes = h.takes;
   idle = h.idle;
+  looks = h.looks;
 }
 
 -- ## The mark for an adopted state
