@@ -69,6 +69,19 @@ cell_stored c j word = record c { stored = (number_at c j, word) ∷ c.stored }
 abbrev pub stored_at : ClientPart → ℕ → ℕ → ClientPart
 stored_at c position word = record c { stored = (length c.frames + ahead (released c) position, word) ∷ c.stored }
 
+-- the words that were stored, and then these for the frames from a number on
+abbrev pub with_run : List (ℕ × ℕ) → ℕ → List ℕ → List (ℕ × ℕ)
+with_run stored x [] = stored
+with_run stored x (word ∷ words) = with_run ((x, word) ∷ stored) (suc x) words
+
+-- the client has stored these words in this cell and in those behind it
+abbrev pub cells_stored : ClientPart → ℕ → List ℕ → ClientPart
+cells_stored c j words = record c { stored = with_run c.stored (number_at c j) words }
+
+-- the client has stored the words of the next frames
+abbrev pub next_stored : ClientPart → List ℕ → ClientPart
+next_stored c words = record c { stored = with_run c.stored (length c.frames) words }
+
 -- the cells of the next `count` positions were stored
 abbrev pub AreStored : ClientPart → ℕ → Type 0
 AreStored c count = (i : ℕ) → i < count → Has c.stored (length c.frames + i)

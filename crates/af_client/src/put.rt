@@ -36,9 +36,7 @@ pub fn store_frames<L: Ledger>(
     ensures stored { Stored pass.new.part (map packed_word frames.now) (length frames.now) }
     ensures steps { steps.new ≡ steps.old + length frames.now }
 {
-    for (i, frame) in frames.iter().enumerate() {
-        block.store_cell(pass, rear.wrapping_add(i as u32), frame.pack(), steps);
-    }
+    block.store_cells(pass, rear, frames, steps);
 }
 
 impl Client {

@@ -1,0 +1,12 @@
+use Rattle.std.proofs.Common.{◌≡◌, ◌+◌, ◌-◌, ◌≤◌, length, take, map}
+use Rattle.af_base.specs.Sample.{packed_word}
+use Rattle.af_cblk.specs.Parts.{cells_stored}
+use Rattle.af_cblk.specs.Sides.{client_made}
+use Rattle.af_cblk.proofs.block.Block.store_run.Given as goal
+
+abbrev pub invariant-loop-done : goal.invariant-loop-done
+invariant-loop-done g l =
+    (client_made l.pass ≡ client_made l.initial.pass) × (l.pass.part ≡ cells_stored l.initial.pass.part (l.first - 7) (map packed_word (take l.done l.frames))) × (l.steps ≡ l.initial.steps + l.done) × (l.done ≤ length l.frames)
+
+abbrev pub decreases-loop-done : goal.decreases-loop-done
+decreases-loop-done g l = length l.frames - l.done
