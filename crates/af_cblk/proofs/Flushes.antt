@@ -105,8 +105,8 @@ past_before : (C D : ℕ) → D < C → C ≤ D + 65536 → past_front (wrapped 
 past_before C D low high =
     let far : 2 ^ 31 ≤ ahead (wrapped C) (wrapped D) = omega arith in
     ap (λ (b : Bool). if b then ahead (wrapped C) (wrapped D) else 0) (nat_lt-no (ahead (wrapped C) (wrapped D)) (2 ^ 31) far)
+
 -- where a drop ends: at the position of the flush, or, if that lies before what is consumed, there
--- where a drop ends: at the position of the flush, or where it lies before what is consumed, there
 pub drop_word : (w m n D R C N : ℕ) → m * w ≡ 2 ^ 32 → 0 < w → w ≤ 65536 → N + N < w → D ≤ R → R ≤ C + N → C ≤ D + N
     → wrapped (wrapped C + past_front (wrapped C) (flush_position w (wrapped (n * w + D % w)) (wrapped R))) ≡ wrapped (max D C)
 drop_word w m n D R C N turns some small room low high near =
