@@ -7,7 +7,7 @@ use std::alloc::Global;
 use std::test::*;
 
 // How many rounds there are, in how many periods of each frames are written, and the most periods that are waited for anything.
-const ROUNDS: u32 = 200;
+const ROUNDS: u32 = 20;
 
 const PERIODS: u32 = 5;
 

@@ -9,7 +9,7 @@ use std::test::*;
 use std::thread::{Threads, join, yield_now};
 
 // How many frames each track is to carry, and the most calls of each thread.
-const FRAMES: u32 = 2000;
+const FRAMES: u32 = 400;
 
 const CALLS: u32 = 1_000_000;
 
