@@ -1,7 +1,8 @@
 -- A log that grew out of an empty one has no frames beside those that its entries took.
-use Rattle.std.proofs.Common.{◌≡◌, ℕ, List, [], ◌∷◌, ◌++◌, length, take, drop, refl, sym, ap, ◌∙◌, take-append-drop, arith}
+use Rattle.std.proofs.Common.{◌≡◌, ℕ, ◌+◌, List, [], ◌∷◌, ◌++◌, length, take, drop, refl, sym, ap, ◌∙◌, take-append-drop, arith}
 use Rattle.std.specs.Prelude.{sum_by}
 use Rattle.std.proofs.lemmas.List.{length-drop}
+use Rattle.std.proofs.lemmas.List.Sums.{sum_by-append}
 use Rattle.af_base.specs.declared.frame.Frame.{Frame}
 use Rattle.af_base.specs.declared.log.CycleEntry.{CycleEntry}
 use Rattle.af_base.specs.Log.{Logged}
@@ -14,7 +15,8 @@ frames_dealt [] [] same = refl
 frames_dealt (f ∷ fs) [] same = absurd (omega (arith, same))
 frames_dealt frames (e ∷ es) same =
     let left = length-drop (taken_by e) frames in
-    ap (λ (l : List Frame). take (taken_by e) frames ++ l) (frames_dealt (drop (taken_by e) frames) es (omega (arith, left, same))) ∙ take-append-drop (taken_by e) frames
+    let sum : sum_by taken_by (e ∷ es) ≡ (0 + taken_by e) + sum_by taken_by es = sum_by-append taken_by (e ∷ []) es in
+    ap (λ (l : List Frame). take (taken_by e) frames ++ l) (frames_dealt (drop (taken_by e) frames) es (omega (arith, left, same, sum))) ∙ take-append-drop (taken_by e) frames
 
 pub dealt_whole : (few : ℕ) (a b : Logged) → a.entries ≡ [] → a.frames ≡ [] → GrowsBy few a b → frames_of (entries_seen b.frames b.entries) ≡ b.frames
 dealt_whole few a b none empty grows =
