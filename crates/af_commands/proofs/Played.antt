@@ -1,14 +1,15 @@
 -- A session that was played, and its line.
-use Rattle.std.proofs.Common.{◌≡◌, ℕ, List, Some, Result, Ok, Err, IfOk, OnErr, String, string_bytes, refl, sym, ap, subst, ◌∙◌, inr}
+use Rattle.std.proofs.Common.{◌≡◌, ℕ, List, Some, Result, Ok, Err, IfOk, OnErr, String, length, string_bytes, refl, sym, ap, subst, ◌∙◌, inl, inr}
 use Rattle.std.specs.declared.alloc.Global.{Global}
-use Rattle.af_model.specs.Journals.{JournalData}
-use Rattle.af_io.specs.Files.{Files, SetsFile}
+use Rattle.af_model.specs.Journals.{JournalData, journal_of}
+use Rattle.af_io.specs.Files.{Files, SetsFile, LeavesFront}
 use Rattle.af_io.specs.declared.store.StoreError.{StoreError}
 use Rattle.af_tally.specs.declared.summary.Summary.{Summary}
 use Rattle.af_journal_laws.specs.Laws.{HoldsAtMeetingsAlone}
 use Rattle.af_journal_laws.proofs.AllHolds.{OfTurnRuns}
 use Rattle.af_one_turn_run.proofs.OneTurnRun.{one_turn_run}
 use Rattle.af_render_law.proofs.RendersTold.{render_told}
+use Rattle.af_render_law.proofs.TurnsSoFar.{are_turns, sounds}
 use Rattle.af_script.specs.Form.{IsScript}
 use Rattle.af_rendering.specs.declared.rendering.Outcome.{Outcome}
 use Rattle.af_session.specs.Ends.{EndsState}
@@ -18,7 +19,7 @@ use Rattle.af_runs.specs.Pcm.{journal_pcm}
 use Rattle.af_offline.specs.declared.status.Stop.{Stop}
 use Rattle.af_offline.specs.Asked.{Loaded, session_job}
 use Rattle.af_commands.specs.Ends.{IsCutOff, IsMade, Makes}
-use Rattle.af_commands.specs.Sessions.{IsSession, IsSomeSessionLine, summary_line}
+use Rattle.af_commands.specs.Sessions.{IsSession, IsSomeSessionLine, LeavesTurns, summary_line}
 use Rattle.af_commands.specs.Told.{TellsRender}
 use Rattle.af_commands.proofs.Made.{Makes-unwritten}
 
@@ -26,17 +27,13 @@ module _ (l : Loaded) (journal : JournalData) (ends : EndsState) (back : HandsBa
   is_session : IsSession l.script l.files (journal_pcm l.script.frames journal) (summary_line summary)
   is_session = record {
     journal = journal;
-    ends = ends;
-    back = back;
     bytes_are = refl;
-    line_is = ap summary_line summary_is;
     told = (let told = render_told l.script l.files journal ends accepted back in record {
       run = told.run;
       line_is = ap summary_line (summary_is ∙ told.summary);
       met = follows l.script l.files journal accepted told.run;
       alone = (λ plain met other run also. one_turn_run l.script l.files other journal accepted plain run told.run also met);
     });
-    kept = (render_told l.script l.files journal ends accepted back).kept;
   }
 
   some_line : (line : List ℕ) → line ≡ summary_line summary → IsSomeSessionLine line
@@ -52,6 +49,18 @@ module _ (l : Loaded) (journal : JournalData) (ends : EndsState) (back : HandsBa
     -- a work is cut off if the output is whole and memory ran out for the line
     cut_behind : IsCutOff (Ok (session_job target l)) old new
     cut_behind = inr (summary_line summary, is_made)
+
+-- ## What a render leaves
+
+-- what is left of the sound of some first turns is left of that of their journal
+leaves_turns : (l : Loaded) → IsScript l.script → (target : List ℕ) (old new : Files) → LeavesSound l.script l.files target old new → LeavesTurns l.script l.files target old new
+leaves_turns l accepted target old new (inl same) = inl same
+leaves_turns l accepted target old new (inr (n, t, (rounds, rendered), left)) = inr (
+  n,
+  journal_of (record { tracks = length l.script.tracks; rounds = rounds }) t.fast.log,
+  are_turns l.script l.files n rounds t rendered accepted,
+  subst (λ (bytes : List ℕ). LeavesFront old target bytes new) (sym (sounds l.script l.files n rounds t rendered)) left,
+)
 
 -- ## What a render answers
 
@@ -71,4 +80,4 @@ module _ (l : Loaded) (accepted : IsScript l.script) (follows : OfTurnRuns Holds
   Makes-rendered (Ok o) (Err stop) tells came left is =
       subst (λ (s : Stop). Makes (Err s) (Ok (session_job target l)) old new) (sym is) (cut_behind l came.0 o.ends came.1.back o.summary came.1.summary_is accepted follows target old new (came.2 tells))
   Makes-rendered (Err e) result tells came left is =
-      subst (λ (r : Result (String Global) Stop). Makes r (Ok (session_job target l)) old new) (sym is) (Makes-unwritten e (session_job target l) old new left)
+      subst (λ (r : Result (String Global) Stop). Makes r (Ok (session_job target l)) old new) (sym is) (Makes-unwritten e (session_job target l) old new (leaves_turns l accepted target old new left))

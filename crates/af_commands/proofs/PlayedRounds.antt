@@ -1,5 +1,5 @@
 -- A script that was played in rounds, its journal and its line.
-use Rattle.std.proofs.Common.{◌≡◌, ◌∙◌, ℕ, Bool, true, false, List, Some, Ok, Err, IfOk, Result, String, string_bytes, ap, inl, inr, refl, subst, sym}
+use Rattle.std.proofs.Common.{◌≡◌, ◌∙◌, ◌≤◌, ℕ, Bool, true, false, List, Some, Ok, Err, IfOk, Result, String, length, string_bytes, ap, arith, inl, inr, refl, subst, sym}
 use Rattle.std.specs.declared.alloc.Global.{Global}
 use Rattle.af_io.specs.Files.{Files, SameFiles, SetsFile, LeavesFront}
 use Rattle.af_io.specs.Outputs.{with_file}
@@ -9,7 +9,8 @@ use Rattle.af_script.specs.Form.{IsScript}
 use Rattle.af_journal.specs.Readings.{IsOneReading}
 use Rattle.af_journal.specs.Texts.{text_of}
 use Rattle.af_journal.proofs.OneJournal.{read-back}
-use Rattle.af_model.specs.Journals.{JournalData}
+use Rattle.af_model.specs.Journals.{JournalData, entries_seen, journal_of, rounds_seen}
+use Rattle.af_model.proofs.Journals.{same-rounds}
 use Rattle.af_tally.specs.declared.summary.Summary.{Summary}
 use Rattle.af_playing.specs.declared.answering.PlayFault.{PlayFault}
 use Rattle.af_playing.specs.declared.answering.PlayFault.TheVariants as fault
@@ -18,7 +19,7 @@ use Rattle.af_session.specs.Ends.{EndsState}
 use Rattle.af_playing.specs.PlayedRuns.{HandsBackRun, IsLegalJournal, LeavesRun}
 use Rattle.af_playing.specs.PlayKept.{KeepsFiles, KeepsPlay}
 use Rattle.af_playing.specs.PlayedAlone.{summary_of_play}
-use Rattle.af_playing.proofs.ListsKept.{lists_kept}
+use Rattle.af_playing.proofs.RoundsSoFar.{are_rounds, sounds}
 use Rattle.af_runs.specs.Pcm.{journal_pcm}
 use Rattle.af_offline.specs.declared.status.Stop.{Stop}
 use Rattle.af_offline.specs.declared.status.Stop.TheVariants.{Refused, Over, Store, Memory}
@@ -27,7 +28,7 @@ use Rattle.af_offline.specs.declared.status.Ending.TheVariants.{Limit}
 use Rattle.af_offline.specs.Asked.{Loaded, play_job}
 use Rattle.af_commands.specs.Ends.{Makes}
 use Rattle.af_offline.specs.Line.{limit_text}
-use Rattle.af_commands.specs.Plays.{IsPlay, IsPlayed, IsSomePlayLine, LeavesText, run_line}
+use Rattle.af_commands.specs.Plays.{IsPlay, IsPlayed, IsSomePlayLine, LeavesRounds, LeavesText, run_line}
 use Rattle.af_commands.specs.Sessions.{summary_line}
 use Rattle.af_commands.specs.Told.{Tells, TellsText}
 use Rattle.af_offline.specs.Verified.{IsTextFor}
@@ -57,8 +58,16 @@ module _ (ended : Bool) (l : Loaded) (journal : JournalData) (ends : EndsState) 
   abbrev bytes : List ℕ
   bytes = journal_pcm l.script.frames journal
 
+  few_rounds : length journal.rounds ≤ l.script.cycles
+  few_rounds =
+      let log = back.parties.fast.log in
+      let count : length journal.rounds ≡ length (rounds_seen (entries_seen log.frames log.entries) back.rounds) = ap (λ (j : JournalData). length j.rounds) back.journal_is in
+      let same = same-rounds (entries_seen log.frames log.entries) back.rounds in
+      let few = back.few in
+      omega (arith, count, same, few)
+
   abbrev pub is_play : (line : List ℕ) → line ≡ run_line ended l.script l.files journal → IsPlay ended l.script l.files bytes (text_of journal) line
-  is_play line is = record { journal = journal; ends = ends; run = back; legal = legal.legal; met = legal.met; kept = lists_kept ended l.script l.files journal ends back; bytes_are = refl; text_is = refl; read = read_alone ended l journal ends back; line_is = is }
+  is_play line is = record { journal = journal; legal = legal.legal; met = legal.met; few = few_rounds; bytes_are = refl; text_is = refl; read = read_alone ended l journal ends back; line_is = is }
 
   module _ (target name : List ℕ) (old mid : Files) (set : SetsFile old target (Some bytes) mid) where
     made : with_file old (record { name = target; bytes = bytes }) ≡ mid
@@ -103,9 +112,17 @@ Makes-cut l journal ends back legal target name old mid new set text cycles is =
 
 -- ## What a play answers
 
--- what was left stays if no file changes
-pub LeavesRun-stays : (l : Loaded) (target : List ℕ) (old mid new : Files) → LeavesRun l.script l.files target old mid → SameFiles mid new → LeavesRun l.script l.files target old new
-LeavesRun-stays l target old mid new left same = subst (λ (files : Files). LeavesRun l.script l.files target old files) (sym (files_are mid new same)) left
+-- what is left of the sound of some first rounds is left of that of their journal, and stays if no file changes
+pub leaves_rounds : (l : Loaded) (target : List ℕ) (old mid new : Files) → LeavesRun l.script l.files target old mid → SameFiles mid new → LeavesRounds l.script l.files target old new
+leaves_rounds l target old mid new left same = subst (λ (files : Files). LeavesRounds l.script l.files target old files) (sym (files_are mid new same)) (by_journal left)
+  where
+    by_journal : LeavesRun l.script l.files target old mid → LeavesRounds l.script l.files target old mid
+    by_journal (inl none) = inl none
+    by_journal (inr (rounds, t, played, front)) = inr (
+      journal_of (record { tracks = length l.script.tracks; rounds = rounds }) t.fast.log,
+      are_rounds l.script l.files rounds t played,
+      subst (λ (bytes : List ℕ). LeavesFront old target bytes mid) (sym (sounds l.script l.files rounds t played)) front,
+    )
 
 module _ (l : Loaded) (accepted : IsScript l.script) (follows : OfRounds HoldsAtMeetings) (cycles : ℕ) where
   pub some_play_told : (played : Result Played PlayFault) (result : Result (String Global) Stop) → KeepsPlay l.script l.files played → Tells cycles played result → IfOk result (λ line. IsSomePlayLine (string_bytes line))
@@ -131,6 +148,6 @@ module _ (l : Loaded) (accepted : IsScript l.script) (follows : OfRounds HoldsAt
     Makes-told (Err (fault.CycleLimit journal ends)) (Err Store) keeps kept told text = inl (inr (inr (text_left false l journal ends keeps.limit.played (cut_short l accepted follows journal ends keeps) target name old mid kept.cut new text)))
     Makes-told (Err (fault.CycleLimit journal ends)) (Err Memory) keeps kept told text = inl (inr (inr (text_left false l journal ends keeps.limit.played (cut_short l accepted follows journal ends keeps) target name old mid kept.cut new text)))
     Makes-told (Err fault.Store) result keeps kept is same =
-        subst (λ (r : Result (String Global) Stop). Makes r (Ok (play_job target name l)) old new) (sym is) (inl (inr (inl (LeavesRun-stays l target old mid new kept.left same))))
+        subst (λ (r : Result (String Global) Stop). Makes r (Ok (play_job target name l)) old new) (sym is) (inl (inr (inl (leaves_rounds l target old mid new kept.left same))))
     Makes-told (Err fault.Memory) result keeps kept is same =
-        subst (λ (r : Result (String Global) Stop). Makes r (Ok (play_job target name l)) old new) (sym is) (inl (inr (inl (LeavesRun-stays l target old mid new kept.left same))))
+        subst (λ (r : Result (String Global) Stop). Makes r (Ok (play_job target name l)) old new) (sym is) (inl (inr (inl (leaves_rounds l target old mid new kept.left same))))

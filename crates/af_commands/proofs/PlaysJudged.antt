@@ -18,7 +18,7 @@ use Rattle.af_offline.specs.Verified.{IsJudged, IsOfJournal}
 module _ (script : ScriptData) (files : List (List Frame)) (bytes text line : List ℕ) (some : 0 < length script.tracks) (play : IsPlay true script files bytes text line) where
   -- the journal of the play is that of a legal run with this sound
   legal : IsVerdict script files play.journal bytes Legal
-  legal = (legal_exactly script files play.journal bytes (record { tracks = play.read.reads.0.tracks_are; some = some; form = play.run.form })).1 (play.legal.legal, play.bytes_are)
+  legal = (legal_exactly script files play.journal bytes (record { tracks = play.read.reads.0.tracks_are; some = some; form = play.legal.legal.rounds.form })).1 (play.legal.legal, play.bytes_are)
 
   -- all of the journal is judged
   whole : judged_of play.journal ≡ play.journal

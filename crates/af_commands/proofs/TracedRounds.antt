@@ -32,7 +32,7 @@ use Rattle.af_commands.specs.Sessions.{summary_line}
 use Rattle.af_commands.specs.Told.{Tells, TellsTexts}
 use Rattle.af_commands.specs.Traces.{IsTrace, IsTraced, LeavesLog, LeavesTrace}
 use Rattle.af_offline.proofs.Chains.{files_are}
-use Rattle.af_commands.proofs.PlayedRounds.{IsKept, LeavesRun-stays, cut_short, is_play, line_told, played, promises, text_left}
+use Rattle.af_commands.proofs.PlayedRounds.{IsKept, cut_short, is_play, leaves_rounds, line_told, played, promises, text_left}
 
 -- a list that was empty holds what was appended to it
 appended : (held new empty more : List ℕ) → held ≡ new → new ≡ empty ++ more → empty ≡ [] → held ≡ more
@@ -116,6 +116,6 @@ module _ (l : Loaded) (accepted : IsScript l.script) (follows : OfRounds HoldsAt
     Makes-logged (Err (fault.CycleLimit journal ends)) (Err Memory) keeps kept logged stopped text =
         inl (inr (inl (inr (text_left false l journal ends keeps.limit.played (cut_short l accepted follows journal ends keeps) target name old mid kept.cut new text))))
     Makes-logged (Err fault.Store) result keeps kept logged is same =
-        subst (λ (r : Result (String Global) Stop). Makes r (Ok (trace_job target name log room l)) old new) (sym is) (inl (inr (inl (inl (LeavesRun-stays l target old mid new kept.left same)))))
+        subst (λ (r : Result (String Global) Stop). Makes r (Ok (trace_job target name log room l)) old new) (sym is) (inl (inr (inl (inl (leaves_rounds l target old mid new kept.left same)))))
     Makes-logged (Err fault.Memory) result keeps kept logged is same =
-        subst (λ (r : Result (String Global) Stop). Makes r (Ok (trace_job target name log room l)) old new) (sym is) (inl (inr (inl (inl (LeavesRun-stays l target old mid new kept.left same)))))
+        subst (λ (r : Result (String Global) Stop). Makes r (Ok (trace_job target name log room l)) old new) (sym is) (inl (inr (inl (inl (leaves_rounds l target old mid new kept.left same)))))

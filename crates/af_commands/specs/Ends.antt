@@ -4,7 +4,6 @@ use Rattle.std.specs.declared.alloc.Global.{Global}
 use Rattle.af_enough.specs.Enough.{HasEnoughCycles}
 use Rattle.af_io.specs.Files.{Files, SameFiles, SetsFile, LeavesFront}
 use Rattle.af_io.specs.Outputs.{with_files, LeavesFronts}
-use Rattle.af_rendering.specs.Rendered.{LeavesSound}
 use Rattle.af_audit.specs.declared.verdict.Refusal.{Refusal as JournalRefusal}
 use Rattle.af_audit.specs.declared.verdict.Verdict.TheVariants as verdict
 use Rattle.af_offline.specs.declared.status.Ending.{Ending}
@@ -21,7 +20,7 @@ use Rattle.af_words.specs.Requests.{Request, Render, Record, Loop, Generate, Pla
 use Rattle.af_offline.specs.Asked.{Job, Work, Exact, Session, Rounds, Judge, Traced}
 use Rattle.af_commands.specs.Plays.{IsPlayed, IsSomePlayLine, LeavesPlay}
 use Rattle.af_commands.specs.Traces.{IsTraced, LeavesTrace}
-use Rattle.af_commands.specs.Sessions.{IsSession, IsSomeSessionLine}
+use Rattle.af_commands.specs.Sessions.{IsSession, IsSomeSessionLine, LeavesTurns}
 use Rattle.af_offline.specs.Line.{counts_text, ending_text, legal_text, limit_text, rolls_text, refusal_text}
 use Rattle.af_offline.specs.Status.{status_of, SuitsEnding}
 use Rattle.af_offline.specs.Verified.{IsJudged}
@@ -65,7 +64,7 @@ IsEnded ending (Err refusal) old new = ⊥
 -- no file has changed; or only the output, which holds a front of the bytes, or of the sound of some first turns of a script; or the files are what a play leaves
 abbrev pub LeavesWork : Work → List ℕ → Files → Files → Type 0
 LeavesWork (Exact bytes line) target old new = LeavesFront old target bytes new
-LeavesWork (Session script files) target old new = LeavesSound script files target old new
+LeavesWork (Session script files) target old new = LeavesTurns script files target old new
 LeavesWork (Rounds script files journal) target old new = LeavesPlay script files target journal old new
 LeavesWork (Judge script files pcm text) target old new = SameFiles old new
 LeavesWork (Traced script files journal log room) target old new = LeavesTrace script files room target journal log old new

@@ -1,19 +1,17 @@
 -- What the rounds of all parties come to, with the frames of the tracks' files: the sound, the text of the journal and the line. Also what a play leaves if it stops.
-use Rattle.std.specs.Prelude.{◌≡◌, ◌⊎◌, ℕ, Bool, true, false, List, [], ◌∷◌}
+use Rattle.std.specs.Prelude.{◌≡◌, ◌⊎◌, ℕ, ◌≤◌, Bool, true, false, List, [], ◌∷◌, length}
 use Rattle.af_base.specs.declared.frame.Frame.{Frame}
-use Rattle.af_io.specs.Files.{Files, LeavesFront}
+use Rattle.af_io.specs.Files.{Files, SameFiles, LeavesFront}
 use Rattle.af_io.specs.Outputs.{SetsFiles, with_file}
 use Rattle.af_journal.specs.Texts.{text_of}
 use Rattle.af_journal_laws.specs.Laws.{HoldsAtMeetings}
 use Rattle.af_model.specs.Journals.{JournalData}
 use Rattle.af_script.specs.Data.{ScriptData}
 use Rattle.af_playing.specs.PlayedAlone.{summary_of_play}
-use Rattle.af_playing.specs.PlayedRuns.{HandsBackRun, IsLegalJournal, LeavesRun}
-use Rattle.af_session.specs.Ends.{EndsState}
-use Rattle.af_runs.specs.LegalRuns.{run_of}
+use Rattle.af_playing.specs.PlayedRuns.{IsLegalJournal}
+use Rattle.af_playing.specs.RoundsSoFar.{AreRoundsOf}
 use Rattle.af_runs.specs.Pcm.{journal_pcm}
 use Rattle.af_offline.specs.Line.{limit_text}
-use Rattle.af_told_law.specs.KeptEnds.{KeepsLists}
 use Rattle.af_commands.specs.Sessions.{summary_line}
 use Rattle.af_offline.specs.Verified.{IsTextFor}
 
@@ -24,14 +22,12 @@ abbrev pub run_line : Bool → ScriptData → List (List Frame) → JournalData 
 run_line true script files journal = summary_line (summary_of_play script files journal)
 run_line false script files journal = limit_text script.cycles
 
--- These bytes, this text and this line are of one run of all parties, in which all have ended, or which was cut off when the log was full. The bytes are the sound of its journal. The text is that of the same journal, and has no other reading. By itself that journal is a legal run in which each frame of a lawful client has one fate and each lawful track is spared, or else a cut run. In either, up to each meeting of its two proxies, a block without a poke is spared, each frame released on such a stream block has one fate, and no call of the client of a track without a poke answers that it was shut. Each track that is reported drained has reached its STOP, and a START that was seen settled bounds what is discarded. The lists that the parties keep are those of the journal's run
+-- These bytes, this text and this line are of one run of all parties, in which all have ended, or which was cut off when the log was full. The bytes are the sound of its journal. The text is that of the same journal, and has no other reading. By itself that journal is a legal run in which each frame of a lawful client has one fate and each lawful track is spared, or else a cut run. In either, up to each meeting of its two proxies, a block without a poke is spared, each frame released on such a stream block has one fate, and no call of the client of a track without a poke answers that it was shut. Each track that is reported drained has reached its STOP, and a START that was seen settled bounds what is discarded. It has no more rounds than the script has cycles
 pub record IsPlay (ended : Bool) (script : ScriptData) (files : List (List Frame)) (bytes text line : List ℕ) : Type 0 where
   pub journal : JournalData
-  pub ends : EndsState
-  pub run : HandsBackRun ended script files journal ends
   pub legal : IsLegalJournal ended script files journal
   pub met : HoldsAtMeetings script files journal
-  pub kept : KeepsLists (run_of script files journal) ends
+  pub few : length journal.rounds ≤ script.cycles
   pub bytes_are : bytes ≡ journal_pcm script.frames journal
   pub text_is : text ≡ text_of journal
   pub read : IsTextFor script text journal
@@ -55,6 +51,11 @@ LeavesText script files target journal old new =
     (ended : Bool) × (bytes : List ℕ) × (text : List ℕ) × (line : List ℕ) × IsPlay ended script files bytes text line
     × LeavesFront (with_file old (record { name = target; bytes = bytes })) journal text new
 
+-- no file has changed; or only the file of this name, which holds a front of the sound of a journal whose rounds are the first of a play
+abbrev pub LeavesRounds : ScriptData → List (List Frame) → List ℕ → Files → Files → Type 0
+LeavesRounds script files name old new = SameFiles old new
+    ⊎ ((journal : JournalData) × AreRoundsOf script files journal × LeavesFront old name (journal_pcm script.frames journal) new)
+
 -- What a play leaves if it stops: no file has changed; or the first alone, which holds a front of the sound of some first rounds; or the first is whole, and the second not yet.
 abbrev pub LeavesPlay : ScriptData → List (List Frame) → List ℕ → List ℕ → Files → Files → Type 0
-LeavesPlay script files target journal old new = LeavesRun script files target old new ⊎ LeavesText script files target journal old new
+LeavesPlay script files target journal old new = LeavesRounds script files target old new ⊎ LeavesText script files target journal old new

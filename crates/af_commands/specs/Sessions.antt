@@ -1,20 +1,18 @@
 -- What the turns of a script come to with the frames of its tracks' files.
-use Rattle.std.specs.Prelude.{◌≡◌, ℕ, List, ◌++◌, codes}
+use Rattle.std.specs.Prelude.{◌≡◌, ◌⊎◌, ℕ, List, ◌++◌, codes}
 use Rattle.af_base.specs.declared.frame.Frame.{Frame}
+use Rattle.af_io.specs.Files.{Files, SameFiles, LeavesFront}
 use Rattle.af_journal_laws.specs.Laws.{HoldsAtMeetingsAlone}
 use Rattle.af_model.specs.Journals.{JournalData}
 use Rattle.af_one_turn_run.specs.MetLast.{AllMetLast}
 use Rattle.af_one_turn_run.specs.NoPokes.{HasNoPokes}
-use Rattle.af_render_law.specs.RenderLaws.{run_told, summary_alone}
+use Rattle.af_render_law.specs.RenderLaws.{summary_alone}
+use Rattle.af_render_law.specs.TurnsSoFar.{AreTurnsOf, first_turns}
 use Rattle.af_runs.specs.TurnRuns.{IsTurnRun}
 use Rattle.af_script.specs.Data.{ScriptData}
 use Rattle.af_tally.specs.declared.summary.Summary.{Summary}
-use Rattle.af_session.specs.Ends.{EndsState}
-use Rattle.af_rendering.specs.Rendered.{HandsBack}
-use Rattle.af_session.specs.Shown.{summary_told}
 use Rattle.af_runs.specs.Pcm.{journal_pcm}
 use Rattle.af_tally.specs.Summaries.{summary_text}
-use Rattle.af_told_law.specs.KeptEnds.{KeepsLists}
 
 -- the line of a summary
 abbrev pub summary_line : Summary → List ℕ
@@ -27,16 +25,17 @@ pub record IsTurnRunAlone (script : ScriptData) (files : List (List Frame)) (jou
   pub met : HoldsAtMeetingsAlone script files journal
   pub alone : HasNoPokes script → AllMetLast script files journal → (other : JournalData) → IsTurnRun script files other → AllMetLast script files other → other ≡ journal
 
--- These bytes and this line are the sound of the journal of one turn run, and the line of its summary. The lists that its parties keep are those of the journal's run. If no op is a poke, and each stream proxy takes part in the last meeting, they are a function of the script and the files
+-- These bytes and this line are the sound of one journal, which is by itself a turn run, and the line of its summary. If no op is a poke, and each stream proxy takes part in the last meeting, they are a function of the script and the files
 pub record IsSession (script : ScriptData) (files : List (List Frame)) (bytes line : List ℕ) : Type 0 where
   pub journal : JournalData
-  pub ends : EndsState
-  pub back : HandsBack script files journal ends
   pub bytes_are : bytes ≡ journal_pcm script.frames journal
-  pub line_is : line ≡ summary_line (summary_told script.frames journal ends)
   pub told : IsTurnRunAlone script files journal line
-  pub kept : KeepsLists (run_told script files journal) ends
 
 -- this is the line of a turn run of some script with some files
 abbrev pub IsSomeSessionLine : List ℕ → Type 0
 IsSomeSessionLine line = (script : ScriptData) × (files : List (List Frame)) × (bytes : List ℕ) × IsSession script files bytes line
+
+-- What a render leaves if it stops: no file has changed; or only the file of this name, which holds a front of the sound of a journal whose rounds are some first turns of the script
+abbrev pub LeavesTurns : ScriptData → List (List Frame) → List ℕ → Files → Files → Type 0
+LeavesTurns script files name old new = SameFiles old new
+    ⊎ ((n : ℕ) × (journal : JournalData) × AreTurnsOf (first_turns n script) files journal × LeavesFront old name (journal_pcm script.frames journal) new)

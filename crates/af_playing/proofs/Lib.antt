@@ -23,3 +23,4 @@ pub mod PlayedOn
 pub mod RoundsTold
 pub mod PlayLegal
 pub mod ListsKept
+pub mod RoundsSoFar

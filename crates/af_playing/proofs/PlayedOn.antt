@@ -43,7 +43,7 @@ cycles_grow links zero m bytes m' turn = grows_none 0 m.log m'.log (ap (λ (f : 
 cycles_grow links (suc left) m bytes m' turn = grows_on left m turn.1 m' turn.3 (is_mixed turn.0) (once_grows links m turn.1 (turn.2, turn.0, turn.4)) (λ mixed. cycles_grow links left turn.1 turn.3 m' (turn.6 mixed)) turn.7
 
 -- a turn adds sixteen entries to the log at most
-turn_grows : (links : Links) (m : MixerState) (bytes : List ℕ) (m' : MixerState) → FastTurned links m bytes m' → GrowsBy 16 m.log m'.log
+pub turn_grows : (links : Links) (m : MixerState) (bytes : List ℕ) (m' : MixerState) → FastTurned links m bytes m' → GrowsBy 16 m.log m'.log
 turn_grows links m bytes m' turned = by_exit m.exited turned
   where
     by_exit : (b : Bool) → MatchBool b ((bytes ≡ []) × (m' ≡ m)) (CyclesOn links most_cycles m bytes m') → GrowsBy 16 m.log m'.log

@@ -5,3 +5,4 @@ pub mod InTime
 pub mod PlayedStages
 pub mod PlayKept
 pub mod Pieces
+pub mod RoundsSoFar

@@ -27,3 +27,4 @@ pub mod UnmixedTurns
 pub mod InvalidBlocks
 pub mod InvalidKept
 pub mod Chain
+pub mod TurnsSoFar

@@ -103,6 +103,10 @@ module _ (script : ScriptData) (files : List (List Frame)) (form : IsScript scri
     turns : AreListTurns s marks (new_run s) script.turns seen × FindShutUnseen s (new_run s) script.turns seen × ToldBy s (run_alone s (new_run s) script.turns seen) t
     turns = steps_turns s marks (new_run s) script.turns seen t chained.0
 
+    -- the rounds that were played are the turns of the script, one by one
+    pub turns_seen : AreTurns s marks (new_run s) script.turns seen
+    turns_seen = forced_run s marks script.turns seen form turns.0 turns.1
+
   module _ (j : JournalData) (ends : EndsState) (back : HandsBack script files j ends) where
     rounds_are : j.rounds ≡ seen back.rounds back.parties back.rendered
     rounds_are = ap (λ (k : JournalData). k.rounds) back.journal_is
@@ -112,7 +116,7 @@ module _ (script : ScriptData) (files : List (List Frame)) (form : IsScript scri
     turn_run = record {
       tracks = ap (λ (k : JournalData). k.tracks) back.journal_is;
       form = back.form;
-      turns = subst (λ (rounds : List RoundSeen). AreTurns s (marks_of rounds) (new_run s) script.turns rounds) (sym rounds_are) (let all = turns back.rounds back.parties back.rendered in forced_run s (marks back.rounds back.parties back.rendered) script.turns (seen back.rounds back.parties back.rendered) form all.0 all.1);
+      turns = subst (λ (rounds : List RoundSeen). AreTurns s (marks_of rounds) (new_run s) script.turns rounds) (sym rounds_are) (turns_seen back.rounds back.parties back.rendered);
     }
 
     -- the run that the journal tells tells the parties

@@ -1,3 +1,4 @@
 pub mod Laws
 pub mod RenderLaws
 pub mod Aware
+pub mod TurnsSoFar

@@ -80,3 +80,4 @@ pub mod StreamsEnded
 pub mod PartsTold
 pub mod TakesRise
 pub mod EndsKept
+pub mod LogDealt
