@@ -4,8 +4,20 @@ use crate::answers::{NO_HANDLE, counted, done, told};
 use crate::handle::Handle;
 use crate::kept::Kept;
 use crate::opened::{put, taken};
-use crate::samples::{count_of, frames_of};
+use crate::samples::{FEW_FRAMES, count_of, few_silent, fill, frames_of};
+use af_ends::{EndError, StreamClient};
 use std::alloc::Global;
+
+// Writes the first frames of these samples, at most 1024, as many as there is room for.
+fn write(end: &mut StreamClient, samples: &[i16]) -> Result<u32, EndError> {
+    let count = count_of(samples);
+    if count > FEW_FRAMES {
+        return end.write(&frames_of(samples)[..count]);
+    }
+    let mut frames = few_silent();
+    fill(samples, &mut frames);
+    end.write(&frames[..count])
+}
 
 /// Writes the first frames of these samples (left and right in turn), at most 1024, as many as there is room for before the last cell.
 ///
@@ -20,10 +32,7 @@ pub extern "C" fn zeldorgacs_client_write(
         return NO_HANDLE;
     };
     let answer = match &mut *kept {
-        Kept::Client(end) => {
-            let frames = frames_of(samples);
-            told(end.write(&frames[..count_of(samples)]))
-        }
+        Kept::Client(end) => told(write(end, samples)),
         _ => NO_HANDLE,
     };
     put(alloc, client, kept);

@@ -4,7 +4,8 @@ use crate::answers::{NO_HANDLE, counted, done, told};
 use crate::handle::Handle;
 use crate::kept::Kept;
 use crate::opened::{put, taken};
-use crate::samples::{count_of, put_frames, silence};
+use crate::samples::{FEW_FRAMES, count_of, few_silent, put_frames, silence};
+use af_base::Frame;
 use af_ends::{EndError, Found, StreamServer};
 use std::alloc::Global;
 
@@ -16,14 +17,26 @@ fn flushed_by(found: Found) -> i64 {
     }
 }
 
-// Reads as many frames as are there and have room in the samples, at most 1024, and writes what a flush discarded.
-fn read(end: &mut StreamServer, samples: &mut [i16], flushed: &mut i64) -> Result<u32, EndError> {
-    let mut frames = silence();
-    let most = count_of(samples);
+// Reads as many frames as are there and have room in the frames and in the samples, and writes what a flush discarded.
+fn read_by(
+    end: &mut StreamServer,
+    frames: &mut [Frame],
+    samples: &mut [i16],
+    flushed: &mut i64,
+) -> Result<u32, EndError> {
+    let most = count_of(samples).min(frames.len());
     let found = end.read(&mut frames[..most])?;
     put_frames(&frames[..found.frames as usize], samples);
     *flushed = flushed_by(found);
     Ok(found.frames)
+}
+
+// Reads as many frames as are there and have room in the samples, at most 1024, and writes what a flush discarded.
+fn read(end: &mut StreamServer, samples: &mut [i16], flushed: &mut i64) -> Result<u32, EndError> {
+    if count_of(samples) > FEW_FRAMES {
+        return read_by(end, &mut silence(), samples, flushed);
+    }
+    read_by(end, &mut few_silent(), samples, flushed)
 }
 
 // How many frames are there. It writes what a flush discarded.
