@@ -29,6 +29,31 @@ pub fn file_fault(role: Role, why: Why) -> Stop
     Stop::Refused(Refusal::File(FileFault { role, why }))
 }
 
+/// Loads a file of at most `limit` bytes in place of what `bytes` has.
+fn load_into<S: Store>(
+    store: &mut S,
+    name: &str,
+    role: Role,
+    limit: u64,
+    bytes: &mut Vec<u8>,
+) -> Result<(), Stop>
+    ensures loaded { S.told store.old → Meets (λ _. bytes.new.items) result (loaded role limit (S.files store.old name.now)) }
+    ensures within { IfOk result (λ _. length bytes.new.items ≤ limit) }
+    ensures same { S.told store.old → SameFiles (S.files store.old) (S.files store.new) }
+    ensures tells { S.told store.old → S.told store.new }
+    ensures cause { HasFault (S.faults store.old) (S.faults store.new) result }
+    ensures words { IsNoUsage result }
+{
+    bytes.clear();
+    match store.load(name, limit, bytes) {
+        Ok(Load::Whole) => Ok(()),
+        Ok(Load::Missing) => Err(file_fault(role, Why::Missing)),
+        Ok(Load::Long) => Err(file_fault(role, Why::Long)),
+        Err(StoreError::Failed) => Err(Stop::Store),
+        Err(StoreError::Memory) => Err(Stop::Memory),
+    }
+}
+
 /// Loads a file of at most `limit` bytes.
 pub fn load_file<S: Store>(
     alloc: Global,
@@ -45,13 +70,8 @@ pub fn load_file<S: Store>(
     ensures words { IsNoUsage result }
 {
     let mut bytes = Vec::new(alloc);
-    match store.load(name, limit, &mut bytes) {
-        Ok(Load::Whole) => Ok(bytes),
-        Ok(Load::Missing) => Err(file_fault(role, Why::Missing)),
-        Ok(Load::Long) => Err(file_fault(role, Why::Long)),
-        Err(StoreError::Failed) => Err(Stop::Store),
-        Err(StoreError::Memory) => Err(Stop::Memory),
-    }
+    load_into(store, name, role, limit, &mut bytes)?;
+    Ok(bytes)
 }
 
 /// The script that bytes are.
@@ -130,13 +150,14 @@ struct TrackFile {
     total: u64,
 }
 
-/// Loads the file of a track with a number, behind files of `total` bytes.
+/// Loads the file of a track with a number, behind files of `total` bytes. Its bytes take the place of those of the file before, so that they need no room of their own.
 fn load_track<S: Store>(
     alloc: Global,
     store: &mut S,
     number: u32,
     total: u64,
     track: &TrackSpec,
+    bytes: &mut Vec<u8>,
 ) -> Result<TrackFile, Stop>
     requires track { IsTrack track.now }
     requires total { total ≤ most_files }
@@ -149,13 +170,13 @@ fn load_track<S: Store>(
     ensures words { IsNoUsage result }
 {
     let name = track.file.as_str();
-    let bytes = load_file(alloc, store, name, Role::Track(number), MOST_FILE)?;
+    load_into(store, name, Role::Track(number), MOST_FILE, bytes)?;
     let total = total + bytes.len() as u64;
     if total > MOST_FILES {
         let why = Why::Total { bytes: total };
         return Err(file_fault(Role::Track(number), why));
     }
-    let pcm = frames_in(alloc, number, track.mono, &bytes)?;
+    let pcm = frames_in(alloc, number, track.mono, bytes)?;
     let pcm = enough_of(number, track.ops.as_slice(), pcm)?;
     Ok(TrackFile { pcm, total })
 }
@@ -176,9 +197,10 @@ fn load_tracks<S: Store>(
     ensures words { IsNoUsage result }
 {
     let mut files = Vec::new(alloc);
+    let mut bytes = Vec::new(alloc);
     let mut total = 0u64;
     for (number, track) in tracks.iter().enumerate() {
-        let file = load_track(alloc, store, number as u32, total, track)?;
+        let file = load_track(alloc, store, number as u32, total, track, &mut bytes)?;
         total = file.total;
         files.push(file.pcm)?;
     }

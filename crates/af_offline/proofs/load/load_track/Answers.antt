@@ -1,4 +1,4 @@
-use Rattle.std.proofs.Common.{◌≡◌, ◌∙◌, ◌+◌, ◌≤◌, ◌<◌, ℕ, List, Ok, Err, Vec, Global, length, arith, ap, subst, sym}
+use Rattle.std.proofs.Common.{◌≡◌, ◌∙◌, ◌+◌, ◌≤◌, ◌<◌, ℕ, List, Ok, Err, length, arith, ap, subst, sym}
 use Rattle.af_base.specs.declared.frame.Frame.{Frame}
 use Rattle.af_script.specs.declared.op.Op.{Op}
 use Rattle.af_party.specs.Works.{frames_to_come}
@@ -14,15 +14,16 @@ use Rattle.af_offline.proofs.Chains.{passed_on}
 use Rattle.af_offline.proofs.Loads.{track_done, track_short, track_total, track_unframed, track_unloaded}
 use Rattle.af_offline.proofs.load.load_track.Goals as goal
 
-pub returns-in_err-bytes-clause-file : goal.returns-in_err-bytes-clause-file
-returns-in_err-bytes-clause-file g c = λ told.
+pub returns-in_err-load_into-clause-file : goal.returns-in_err-load_into-clause-file
+returns-in_err-load_into-clause-file g c = λ told.
     let files = g.S.Store.files c.args.store.now in
     let number = c.args.number in
     let track = c.args.track.now in
-    let e = c.in_err-bytes.field-0.0 in
-    let here : Meets (λ (bytes : Vec ℕ Global). bytes.items) (Err e) (loaded (role.Track number) most_file (files track.file)) =
-    subst (λ (name : List ℕ). Meets (λ (bytes : Vec ℕ Global). bytes.items) (Err e) (loaded (role.Track number) most_file (files name))) c.as_str-name.ensures.text (c.in_err-bytes.ensures.loaded told) in
-    passed_on (λ r. Meets file_view r (track_in files number c.args.total track)) c.from_residual.result e (track_unloaded files number c.args.total track (λ (bytes : Vec ℕ Global). bytes.items) e here) c.from_residual.ensures.1
+    let e = c.in_err-load_into.field-0.0 in
+    let view = λ (done : Unit {0}). c.load_into.new.bytes.items in
+    let here : Meets view (Err e) (loaded (role.Track number) most_file (files track.file)) =
+    subst (λ (name : List ℕ). Meets view (Err e) (loaded (role.Track number) most_file (files name))) c.as_str-name.ensures.text (c.in_err-load_into.ensures.loaded told) in
+    passed_on (λ r. Meets file_view r (track_in files number c.args.total track)) c.from_residual.result e (track_unloaded files number c.args.total track view e here) c.from_residual.ensures.1
 
 pub returns-then-total-gt-MOST_FILES-clause-file : goal.returns-then-total-gt-MOST_FILES-clause-file
 returns-then-total-gt-MOST_FILES-clause-file g c = λ told.
@@ -30,9 +31,9 @@ returns-then-total-gt-MOST_FILES-clause-file g c = λ told.
     let number = c.args.number in
     let total = c.args.total in
     let track = c.args.track.now in
-    let bytes = c.in_ok-bytes.bytes.items in
-    let is : loaded (role.Track number) most_file (files track.file) ≡ Ok bytes = subst (λ (name : List ℕ). loaded (role.Track number) most_file (files name) ≡ Ok bytes) c.as_str-name.ensures.text (c.in_ok-bytes.ensures.loaded told) in
-    let size : c.len.result ≡ length bytes = omega (arith, c.len.ensures, c.in_ok-bytes.bytes.ok.0) in
+    let bytes = c.load_into.new.bytes.items in
+    let is : loaded (role.Track number) most_file (files track.file) ≡ Ok bytes = subst (λ (name : List ℕ). loaded (role.Track number) most_file (files name) ≡ Ok bytes) c.as_str-name.ensures.text (c.in_ok-load_into.ensures.loaded told) in
+    let size : c.len.result ≡ length bytes = omega (arith, c.len.ensures, c.load_into.new.bytes.ok.0) in
     let over : most_files < total + length bytes = omega (arith, c.if-total-gt-MOST_FILES.true, size) in
     let why : track_in files number total track ≡ Err (File (record { role = role.Track number; why = Total (total + c.len.result) })) =
     track_total files number total track bytes is over ∙ ap (λ (n : ℕ). Err (File (record { role = role.Track number; why = Total (total + n) }))) (sym size) in
@@ -44,10 +45,10 @@ returns-in_err-pcm-clause-file g c = λ told.
     let number = c.args.number in
     let total = c.args.total in
     let track = c.args.track.now in
-    let bytes = c.in_ok-bytes.bytes.items in
+    let bytes = c.load_into.new.bytes.items in
     let e = c.in_err-pcm.field-0.0 in
-    let is : loaded (role.Track number) most_file (files track.file) ≡ Ok bytes = subst (λ (name : List ℕ). loaded (role.Track number) most_file (files name) ≡ Ok bytes) c.as_str-name.ensures.text (c.in_ok-bytes.ensures.loaded told) in
-    let size : c.len.result ≡ length bytes = omega (arith, c.len.ensures, c.in_ok-bytes.bytes.ok.0) in
+    let is : loaded (role.Track number) most_file (files track.file) ≡ Ok bytes = subst (λ (name : List ℕ). loaded (role.Track number) most_file (files name) ≡ Ok bytes) c.as_str-name.ensures.text (c.in_ok-load_into.ensures.loaded told) in
+    let size : c.len.result ≡ length bytes = omega (arith, c.len.ensures, c.load_into.new.bytes.ok.0) in
     let few : total + length bytes ≤ most_files = omega (arith, c.if-total-gt-MOST_FILES.false, size) in
     let here : Meets (λ (pcm : List Frame). pcm) (Err e) (frames_in number track.mono bytes) =
     subst (λ (xs : List ℕ). Meets (λ (pcm : List Frame). pcm) (Err e) (frames_in number track.mono xs)) c.deref.ensures.value c.in_err-pcm.ensures.frames in
@@ -59,10 +60,10 @@ returns-in_err-pcm-2-clause-file g c = λ told.
     let number = c.args.number in
     let total = c.args.total in
     let track = c.args.track.now in
-    let bytes = c.in_ok-bytes.bytes.items in
+    let bytes = c.load_into.new.bytes.items in
     let e = c.in_err-pcm-2.field-0.0 in
-    let is : loaded (role.Track number) most_file (files track.file) ≡ Ok bytes = subst (λ (name : List ℕ). loaded (role.Track number) most_file (files name) ≡ Ok bytes) c.as_str-name.ensures.text (c.in_ok-bytes.ensures.loaded told) in
-    let size : c.len.result ≡ length bytes = omega (arith, c.len.ensures, c.in_ok-bytes.bytes.ok.0) in
+    let is : loaded (role.Track number) most_file (files track.file) ≡ Ok bytes = subst (λ (name : List ℕ). loaded (role.Track number) most_file (files name) ≡ Ok bytes) c.as_str-name.ensures.text (c.in_ok-load_into.ensures.loaded told) in
+    let size : c.len.result ≡ length bytes = omega (arith, c.len.ensures, c.load_into.new.bytes.ok.0) in
     let few : total + length bytes ≤ most_files = omega (arith, c.if-total-gt-MOST_FILES.false, size) in
     let pcm = c.in_ok-pcm.pcm in
     let frames : frames_in number track.mono bytes ≡ Ok pcm = subst (λ (xs : List ℕ). frames_in number track.mono xs ≡ Ok pcm) c.deref.ensures.value c.in_ok-pcm.ensures.frames in
@@ -76,9 +77,9 @@ returns-clause-file g c = λ told.
     let number = c.args.number in
     let total = c.args.total in
     let track = c.args.track.now in
-    let bytes = c.in_ok-bytes.bytes.items in
-    let is : loaded (role.Track number) most_file (files track.file) ≡ Ok bytes = subst (λ (name : List ℕ). loaded (role.Track number) most_file (files name) ≡ Ok bytes) c.as_str-name.ensures.text (c.in_ok-bytes.ensures.loaded told) in
-    let size : c.len.result ≡ length bytes = omega (arith, c.len.ensures, c.in_ok-bytes.bytes.ok.0) in
+    let bytes = c.load_into.new.bytes.items in
+    let is : loaded (role.Track number) most_file (files track.file) ≡ Ok bytes = subst (λ (name : List ℕ). loaded (role.Track number) most_file (files name) ≡ Ok bytes) c.as_str-name.ensures.text (c.in_ok-load_into.ensures.loaded told) in
+    let size : c.len.result ≡ length bytes = omega (arith, c.len.ensures, c.load_into.new.bytes.ok.0) in
     let few : total + length bytes ≤ most_files = omega (arith, c.if-total-gt-MOST_FILES.false, size) in
     let pcm = c.in_ok-pcm.pcm in
     let all = c.in_ok-pcm-2.pcm in
