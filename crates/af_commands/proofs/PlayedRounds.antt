@@ -1,5 +1,5 @@
 -- A script that was played in rounds, its journal and its line.
-use Rattle.std.proofs.Common.{◌≡◌, ◌∙◌, ◌≤◌, ℕ, Bool, true, false, List, Some, Ok, Err, IfOk, Result, String, length, string_bytes, ap, arith, inl, inr, refl, subst, sym}
+use Rattle.std.proofs.Common.{◌≡◌, ◌∙◌, ◌≤◌, ℕ, suc, Bool, true, false, List, [], ◌∷◌, Some, Ok, Err, IfOk, Result, String, drop, length, string_bytes, ap, arith, inl, inr, refl, subst, sym}
 use Rattle.std.specs.declared.alloc.Global.{Global}
 use Rattle.af_io.specs.Files.{Files, SameFiles, SetsFile, LeavesFront}
 use Rattle.af_io.specs.Outputs.{with_file}
@@ -9,8 +9,7 @@ use Rattle.af_script.specs.Form.{IsScript}
 use Rattle.af_journal.specs.Readings.{IsOneReading}
 use Rattle.af_journal.specs.Texts.{text_of}
 use Rattle.af_journal.proofs.OneJournal.{read-back}
-use Rattle.af_model.specs.Journals.{JournalData, entries_seen, journal_of, rounds_seen}
-use Rattle.af_model.proofs.Journals.{same-rounds}
+use Rattle.af_model.specs.Journals.{EntrySeen, JournalData, RoundNoted, entries_seen, journal_of, rounds_seen}
 use Rattle.af_tally.specs.declared.summary.Summary.{Summary}
 use Rattle.af_playing.specs.declared.answering.PlayFault.{PlayFault}
 use Rattle.af_playing.specs.declared.answering.PlayFault.TheVariants as fault
@@ -54,15 +53,20 @@ cut_short l accepted follows journal ends keeps = record { legal = (keeps.limit.
 pub read_alone : (ended : Bool) (l : Loaded) (journal : JournalData) (ends : EndsState) → HandsBackRun ended l.script l.files journal ends → IsTextFor l.script (text_of journal) journal
 read_alone ended l journal ends back = subst (λ (tracks : ℕ). IsOneReading tracks (text_of journal) journal) (ap (λ (j : JournalData). j.tracks) back.journal_is) (read-back journal back.form)
 
+-- a journal has the rounds that were noted
+same_rounds : (entries : List EntrySeen) (rounds : List RoundNoted) → length (rounds_seen entries rounds) ≡ length rounds
+same_rounds entries [] = refl
+same_rounds entries (r ∷ rs) = ap suc (same_rounds (drop r.cycles entries) rs)
+
 module _ (ended : Bool) (l : Loaded) (journal : JournalData) (ends : EndsState) (back : HandsBackRun ended l.script l.files journal ends) (legal : IsKept ended l journal) where
   abbrev bytes : List ℕ
   bytes = journal_pcm l.script.frames journal
 
-  few_rounds : length journal.rounds ≤ l.script.cycles
+  pub few_rounds : length journal.rounds ≤ l.script.cycles
   few_rounds =
       let log = back.parties.fast.log in
       let count : length journal.rounds ≡ length (rounds_seen (entries_seen log.frames log.entries) back.rounds) = ap (λ (j : JournalData). length j.rounds) back.journal_is in
-      let same = same-rounds (entries_seen log.frames log.entries) back.rounds in
+      let same = same_rounds (entries_seen log.frames log.entries) back.rounds in
       let few = back.few in
       omega (arith, count, same, few)
 
