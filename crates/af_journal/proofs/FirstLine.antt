@@ -1,6 +1,7 @@
 -- The first line of a text, by the place of its LF.
-use Rattle.std.proofs.Common.{◌≡◌, ℕ, zero, suc, ◌+◌, ◌-◌, ◌<◌, ◌≤◌, ◌==◌, List, [], ◌∷◌, Option, Some, None, Bool, true, false, cond, length, take, drop, get_or, refl, ap, ◌∙◌, sym, arith}
+use Rattle.std.proofs.Common.{◌≡◌, ℕ, zero, suc, ◌+◌, ◌-◌, ◌<◌, ◌≤◌, ◌==◌, List, [], ◌∷◌, Option, Some, None, Bool, true, false, cond, length, take, drop, get_or, ◌⊎◌, inl, inr, refl, ap, ◌∙◌, sym, arith}
 use Rattle.std.specs.List.{list_any, slice_range}
+use Rattle.std.proofs.lemmas.Bool.{cases_lt}
 use Rattle.std.proofs.lemmas.List.Folds.{list_any_at}
 use Rattle.std.proofs.lemmas.Simd.{get_or-chunk, length-chunk}
 use Rattle.af_journal.specs.LineReading.{◌>>=◌}
@@ -36,7 +37,7 @@ cut_none (x ∷ xs) before =
     ∙ ap (λ (o : Option (List ℕ × List ℕ)). o >>= λ r. Some (x ∷ r.0, r.1)) (cut_none xs (λ k h. before (suc k) (omega arith)))
 
 -- no byte of a block is an LF
-pub none_in : (xs : List ℕ) (a b k : ℕ) → b ≡ a + 16 → b ≤ length xs → list_any (λ c. c == 10) (slice_range xs a b) ≡ false → a ≤ k → k < b → get_or xs k 0 ≡ 10 → ⊥
+none_in : (xs : List ℕ) (a b k : ℕ) → b ≡ a + 16 → b ≤ length xs → list_any (λ c. c == 10) (slice_range xs a b) ≡ false → a ≤ k → k < b → get_or xs k 0 ≡ 10 → ⊥
 none_in xs a b k is le none low high here =
     let span : b - a ≡ 16 = omega arith in
     let place : a + (k - a) ≡ k = omega arith in
@@ -44,3 +45,13 @@ none_in xs a b k is le none low high here =
     let long : length (slice_range xs a b) ≡ b - a = length-chunk a (b - a) xs (omega arith) in
     let some : list_any (λ c. c == 10) (slice_range xs a b) ≡ true = list_any_at (λ c. c == 10) (slice_range xs a b) (k - a) 0 (omega arith) (ap (λ c. c == 10) (at ∙ here)) in
     cc (sym none ∙ some)
+
+either : (xs : List ℕ) (a k : ℕ) → a + 16 ≤ length xs → ((k : ℕ) → k < a → get_or xs k 0 ≡ 10 → ⊥) → list_any (λ c. c == 10) (slice_range xs a (a + 16)) ≡ false
+    → k < a + 16 → (k < a) ⊎ (a ≤ k) → get_or xs k 0 ≡ 10 → ⊥
+either xs a k le before none high (inl lt) = before k lt
+either xs a k le before none high (inr low) = none_in xs a (a + 16) k refl le none low high
+
+-- a block more without an LF
+pub block_more : (xs : List ℕ) (a : ℕ) → a + 16 ≤ length xs → ((k : ℕ) → k < a → get_or xs k 0 ≡ 10 → ⊥) → list_any (λ c. c == 10) (slice_range xs a (a + 16)) ≡ false
+    → (k : ℕ) → k < a + 16 → get_or xs k 0 ≡ 10 → ⊥
+block_more xs a le before none k high = either xs a k le before none high (cases_lt k a)

@@ -153,7 +153,7 @@ both_tests false true rest m n e = refl
 both_tests false false rest m n e = refl
 
 -- so many words stand in digits, if they are some and of whole words
-pub count_words : (xs : List ℕ) → option_map length (words_at xs) ≡ cond ((length xs % 8 == 0) && list_all is_hex xs) (Some (length xs / 8)) None
+count_words : (xs : List ℕ) → option_map length (words_at xs) ≡ cond ((length xs % 8 == 0) && list_all is_hex xs) (Some (length xs / 8)) None
 count_words [] = refl
 count_words (a ∷ []) = refl
 count_words (a ∷ b ∷ []) = refl
@@ -173,3 +173,22 @@ count_words (a ∷ b ∷ c ∷ d ∷ e ∷ f ∷ g ∷ h ∷ rest) =
     ∙ both_tests (length rest % 8 == 0) (list_all is_hex first) (list_all is_hex rest) (length rest / 8) (length (first ++ rest) / 8) (ap (λ n. n / 8) long ∙ one)
     ∙ ap (λ t. cond (t && (list_all is_hex first && list_all is_hex rest)) (Some (length (first ++ rest) / 8)) None) (ap (λ n. n == 0) (sym (ap (λ n. n % 8) long ∙ whole)))
     ∙ ap (λ t. cond ((length (first ++ rest) % 8 == 0) && t) (Some (length (first ++ rest) / 8)) None) (sym (list_all-append is_hex first rest))
+
+-- whole words, of digits alone
+pub count_some : (xs : List ℕ) → length xs % 8 ≡ 0 → list_all is_hex xs ≡ true → option_map length (words_at xs) ≡ Some (length xs / 8)
+count_some xs whole all =
+    count_words xs ∙ ap (λ t. cond (t && list_all is_hex xs) (Some (length xs / 8)) None) (ap (λ n. n == 0) whole)
+    ∙ ap (λ t. cond t (Some (length xs / 8)) None) all
+
+-- another byte stands among them
+pub count_other : (xs : List ℕ) → length xs % 8 ≡ 0 → list_all is_hex xs ≡ false → option_map length (words_at xs) ≡ None
+count_other xs whole some =
+    count_words xs ∙ ap (λ t. cond (t && list_all is_hex xs) (Some (length xs / 8)) None) (ap (λ n. n == 0) whole)
+    ∙ ap (λ t. cond t (Some (length xs / 8)) None) some
+
+not_whole : (n : ℕ) → (n ≡ 0 → ⊥) → (n == 0) ≡ false
+not_whole n h = grind (arith, nat_tests)
+
+-- the last word has fewer digits
+pub count_part : (xs : List ℕ) → (length xs % 8 ≡ 0 → ⊥) → option_map length (words_at xs) ≡ None
+count_part xs part = count_words xs ∙ ap (λ t. cond (t && list_all is_hex xs) (Some (length xs / 8)) None) (not_whole (length xs % 8) part)

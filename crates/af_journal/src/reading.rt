@@ -49,11 +49,14 @@ pub(crate) fn packed_of(a: u8, b: u8, c: u8, d: u8, e: u8, f: u8, g: u8, h: u8) 
 }
 
 // How many words these digits spell.
-#[tactic(auto, using(crate::proofs::Spelling::count_words))]
+#[tactic(auto, using(crate::proofs::Spelling::count_some, crate::proofs::Spelling::count_other, crate::proofs::Spelling::count_part))]
 fn count_words(digits: &[u8]) -> Option<usize>
     ensures { result ≡ option_map length (words_at digits.now) }
 {
-    if digits.len() % 8 == 0 && are_digits(digits) {
+    if digits.len() % 8 != 0 {
+        return None;
+    }
+    if are_digits(digits) {
         Some(digits.len() / 8)
     } else {
         None
@@ -100,7 +103,6 @@ fn has_lf(bytes: &[u8]) -> bool
 }
 
 // The place of the first LF, or the end if there is none. The compiler looks at sixteen bytes at once.
-#[tactic(auto, using(crate::proofs::FirstLine::none_in))]
 fn line_end(bytes: &[u8]) -> usize
     ensures inside { result ≤ length bytes.now }
     ensures before { (k : ℕ) → k < result → slice_index bytes.now k ≢ 10 }
@@ -117,7 +119,6 @@ fn line_end(bytes: &[u8]) -> usize
 }
 
 // What stands before the first LF, and what after it.
-#[tactic(auto, using(crate::proofs::FirstLine::cut_at, crate::proofs::FirstLine::cut_none))]
 pub(crate) fn cut_line(bytes: &[u8]) -> Option<(&[u8], &[u8])>
     ensures { option_map (λ r. (r.0.now, r.1.now)) result ≡ cut bytes.now }
 {
