@@ -58,12 +58,7 @@ fn frame_at(bytes: &[u8], at: usize) -> Frame
     ensures small { packed_word result < 2 ^ 32 }
     ensures word { to_be_bytes w32 (packed_word result) ≡ slice_index bytes.now at ∷ slice_index bytes.now (at + 1) ∷ slice_index bytes.now (at + 2) ∷ slice_index bytes.now (at + 3) ∷ [] }
 {
-    Frame::unpack(u32::from_be_bytes([
-        bytes[at],
-        bytes[at + 1],
-        bytes[at + 2],
-        bytes[at + 3],
-    ]))
+    Frame::unpack(u32::from_be_bytes([bytes[at], bytes[at + 1], bytes[at + 2], bytes[at + 3]]))
 }
 
 // Adds the frames whose words so many pairs of digits spell, from a place on.

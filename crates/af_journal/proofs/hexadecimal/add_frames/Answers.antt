@@ -1,4 +1,4 @@
-use Rattle.std.proofs.Common.{rules, ◌≡◌, ◌<◌, ◌≤◌, ◌+◌, ◌*◌, ◌++◌, ◌∷◌, [], length, get_or, subst, sym, arith}
+use Rattle.std.proofs.Common.{rules, ◌≡◌, ◌≤◌, ◌+◌, ◌*◌, ◌++◌, ◌∷◌, [], length, get_or, subst, sym, arith}
 use Rattle.af_journal.specs.Hexadecimal.{AreSpelled}
 use Rattle.af_journal.proofs.Spelling.{pair-at, spelled-more}
 use Rattle.af_journal.proofs.hexadecimal.add_frames.Goals as goal
