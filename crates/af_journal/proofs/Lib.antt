@@ -4,6 +4,7 @@ mod Decimal
 mod Spelled
 mod LineLaws
 mod Parts
+mod FirstLine
 mod Counting
 mod Hex
 mod Lacking
@@ -18,6 +19,7 @@ mod EntriesLeft
 mod JournalOf
 mod Readable
 mod Leaving
+mod Spelling
 pub mod Judged
 pub mod Fitting
 mod Rising

@@ -11,3 +11,4 @@ pub mod Taken
 pub mod Pokes
 pub mod Judged
 pub mod Beginnings
+pub mod Hexadecimal

@@ -11,7 +11,7 @@ ghost use Rattle.af_journal.specs.Taken.{AreTaken, Leaves};
 ghost use Rattle.af_journal.specs.Texts.{call_lines, client_lines, each_from};
 
 use crate::fast_reading::{Taken, read_fast};
-use crate::left::{Left, Stop, next_line};
+use crate::left::{Left, Stop, line_with, next_line};
 use crate::line::Line;
 use crate::poked::pokes_in;
 use crate::reach::{End, Reach, RoundRead, end_after, has_more, reach_of_all, reach_of_judged};
@@ -57,7 +57,7 @@ fn read_calls(alloc: Global, left: &mut Left<'_>) -> Result<Vec<ClientCall>, Sto
 fn read_client(alloc: Global, left: &mut Left<'_>, track: u32) -> Result<Vec<ClientCall>, Stop>
     ensures { IfOk result (λ calls. Leaves left.old.rest.now (client_lines track calls.items) left.new.rest.now) }
 {
-    match next_line(left.rest) {
+    match line_with(left.rest, b'C') {
         Some((Line::Client { track: own }, after)) if own == track => {
             left.rest = after;
             let calls = read_calls(alloc, left)?;

@@ -1,11 +1,12 @@
 //! The entries of the fast mixer are read.
-ghost use Rattle.std.specs.Prelude.{◌≡◌, ◌+◌, ◌*◌, ◌^◌, ◌<◌, ◌≤◌, ◌++◌, ◌==◌, true, List, length, flat_map, All, IfOk, [], slice_index_or};
+ghost use Rattle.std.specs.Prelude.{◌≡◌, ◌+◌, ◌*◌, ◌^◌, ◌<◌, ◌≤◌, ◌++◌, ◌∷◌, ◌==◌, true, List, length, flat_map, All, IfOk, IfSome, [], slice_index_or};
 ghost use Rattle.std.specs.Int.{bit_at};
 ghost use Rattle.af_base.specs.Log.{entry_slot, kind_of, slots};
 ghost use Rattle.af_model.specs.Cycles.{place_of, still_entry};
 ghost use Rattle.af_model.specs.Journals.{EntrySeen};
-ghost use Rattle.af_journal.specs.Lines.{digit};
+ghost use Rattle.af_journal.specs.Lines.{digit, numbers};
 ghost use Rattle.af_journal.specs.Mixes.{AreGots, IsGot, SlotGot, frames_in, got_lines, got_of, mix_entry};
+ghost use Rattle.af_journal.specs.Ranges.{IsLine};
 ghost use Rattle.af_journal.specs.Stages.{is_submix};
 ghost use Rattle.af_journal.specs.Taken.{AddsEntries, AddsEntry, Leaves, more_lines};
 ghost use Rattle.af_journal.specs.Texts.{each_from, entry_lines, fast_lines};
@@ -60,6 +61,30 @@ fn place_of(place: usize, seen: Seen) -> usize
     if seen.count() == 0 { 0 } else { place }
 }
 
+// Whether the line that stands first may be that of a slot, by its mark and the number of the slot.
+fn may_be_of(bytes: &[u8], slot: usize) -> bool {
+    match bytes {
+        [b'z', b' ', digit, b' ', ..] => usize::from(digit.wrapping_sub(b'0')) == slot,
+        [b'z', b' ', first, second, ..] => {
+            let tens = usize::from(first.wrapping_sub(b'0'));
+            tens * 10 + usize::from(second.wrapping_sub(b'0')) == slot
+        }
+        _ => false,
+    }
+}
+
+// The line that stands first, and what follows it, if it may be that of a slot. Most slots of a mix have no line, and no line is read for them.
+fn slot_line(bytes: &[u8], slot: usize) -> Option<(Line, &[u8])>
+    ensures line { IfSome result (λ r. Leaves bytes.now (numbers r.0 ∷ []) r.1.now) }
+    ensures fits { IfSome result (λ r. IsLine r.0) }
+{
+    if may_be_of(bytes, slot) {
+        next_line(bytes)
+    } else {
+        None
+    }
+}
+
 // A slot of a mix, which is absent if it has no line; its frames are added.
 fn read_slot(
     alloc: Global,
@@ -69,7 +94,7 @@ fn read_slot(
 ) -> Result<SlotRead, Stop>
     ensures { IfOk result (λ got. (taken : List Frame) × IsGot (length frames.old.items) (got_of got taken) × (frames.new.items ≡ frames.old.items ++ taken) × Leaves left.old.rest.now (got_lines slot (got_of got taken)) left.new.rest.now) }
 {
-    match next_line(left.rest) {
+    match slot_line(left.rest, slot) {
         Some(
             (
                 Line::Slot {

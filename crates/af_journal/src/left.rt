@@ -7,10 +7,11 @@ ghost use Rattle.af_journal.specs.Ranges.{IsLine};
 ghost use Rattle.af_journal.specs.Taken.{Leaves};
 ghost use Rattle.af_journal.specs.Texts.{words_after};
 
+use crate::hexadecimal::{are_digits, frames_of};
 use crate::line::Line;
 use crate::line_reading::line_of;
 use crate::reading::{cut_line, packed_of};
-use af_base::{Frame, FrameList, Memory};
+use af_base::{FrameList, Memory};
 use std::alloc::{AllocError, AllocFailed, Global};
 
 /// Why no journal was put together.
@@ -55,6 +56,18 @@ pub(crate) fn next_line(bytes: &[u8]) -> Option<(Line, &[u8])>
     let (part, after) = cut_line(bytes)?;
     let line = line_of(part)?;
     Some((line, after))
+}
+
+/// The line of numbers that stands first, and what follows it, if it has this mark; None if it doesn't.
+pub(crate) fn line_with(bytes: &[u8], mark: u8) -> Option<(Line, &[u8])>
+    ensures line { IfSome result (λ r. Leaves bytes.now (numbers r.0 ∷ []) r.1.now) }
+    ensures fits { IfSome result (λ r. IsLine r.0) }
+    ensures shorter { IfSome result (λ r. length r.1.now < length bytes.now) }
+{
+    match bytes {
+        [first, ..] if *first == mark => next_line(bytes),
+        _ => None,
+    }
 }
 
 // The words that digits spell, which are all of words.
@@ -108,18 +121,6 @@ pub(crate) fn read_words(alloc: Global, left: &mut Left<'_>, count: u32) -> Resu
     Ok(words)
 }
 
-// The frames that words pack.
-fn frames_of(alloc: Global, words: &[u32]) -> Result<FrameList, Memory>
-    ensures words { IfOk result (λ frames. map packed_word frames.items ≡ words.now) }
-    ensures samples { IfOk result (λ frames. All IsFrame frames.items) }
-{
-    let mut frames = FrameList::with_room(alloc, words.len())?;
-    for word in words {
-        frames.push(Frame::unpack(*word));
-    }
-    Ok(frames)
-}
-
 /// The frames of a line of their own, so many; if none were taken there is no line.
 pub(crate) fn read_frames(alloc: Global, left: &mut Left<'_>, count: u32) -> Result<FrameList, Stop>
     ensures lines { IfOk result (λ frames. Leaves left.old.rest.now (words_after (map packed_word frames.items)) left.new.rest.now) }
@@ -129,6 +130,16 @@ pub(crate) fn read_frames(alloc: Global, left: &mut Left<'_>, count: u32) -> Res
     if count == 0 {
         return Ok(FrameList::with_room(alloc, 0)?);
     }
-    let words = read_words(alloc, left, count)?;
-    Ok(frames_of(alloc, words.as_slice())?)
+    let Some((part, after)) = cut_line(left.rest) else {
+        return Err(Stop::Order);
+    };
+    let Some(digits) = digits_of(part) else {
+        return Err(Stop::Order);
+    };
+    if digits.len() != 8 * count as usize || !are_digits(digits) {
+        return Err(Stop::Order);
+    }
+    let frames = frames_of(alloc, digits)?;
+    left.rest = after;
+    Ok(frames)
 }

@@ -5,6 +5,7 @@ mod building;
 mod digits;
 mod fast;
 mod fast_reading;
+mod hexadecimal;
 mod laws;
 mod left;
 mod line;

@@ -1,10 +1,12 @@
 //! A journal is read.
-ghost use Rattle.std.specs.Prelude.{◌≡◌, ◌+◌, ◌*◌, ◌<◌, ◌≤◌, ◌^◌, length, IfNone, IfSome, Some};
+ghost use Rattle.std.specs.Prelude.{◌≡◌, ◌≢◌, ◌==◌, ◌+◌, ◌*◌, ◌<◌, ◌≤◌, ◌^◌, ℕ, length, slice_index, IfNone, IfSome, Some};
+ghost use Rattle.std.specs.List.{list_any};
 ghost use Rattle.std.specs.Option.{option_map};
 ghost use Rattle.af_journal.specs.declared.stage.Stage.TheVariants.{Nothing};
 ghost use Rattle.af_journal.specs.LineReading.{byte_at, hex_at, packed_at, words_after_mark, words_at};
 ghost use Rattle.af_journal.specs.Readings.{HasReading, IsFirstBad, cut, ends, first_refused, parts_of, stage_after};
 
+use crate::hexadecimal::are_digits;
 use crate::line_reading::marked_of;
 use crate::stage::{Stage, after_line, after_words, may_end};
 use af_script::Script;
@@ -47,17 +49,18 @@ pub(crate) fn packed_of(a: u8, b: u8, c: u8, d: u8, e: u8, f: u8, g: u8, h: u8) 
 }
 
 // How many words these digits spell.
+#[tactic(auto, using(crate::proofs::Spelling::count_some, crate::proofs::Spelling::count_other, crate::proofs::Spelling::count_part))]
 fn count_words(digits: &[u8]) -> Option<usize>
     ensures { result ≡ option_map length (words_at digits.now) }
 {
-    let mut rest = digits;
-    let mut count = 0usize;
-    'words: while let [a, b, c, d, e, f, g, h, after @ ..] = rest {
-        packed_of(*a, *b, *c, *d, *e, *f, *g, *h)?;
-        rest = after;
-        count += 1;
+    if digits.len() % 8 != 0 {
+        return None;
     }
-    if rest.is_empty() { Some(count) } else { None }
+    if are_digits(digits) {
+        Some(digits.len() / 8)
+    } else {
+        None
+    }
 }
 
 // How many words stand after a space, one at least.
@@ -88,16 +91,43 @@ fn stage_of(tracks: u32, stage: Stage, part: &[u8]) -> Option<Stage>
     }
 }
 
+// Whether an LF stands among some bytes.
+fn has_lf(bytes: &[u8]) -> bool
+    ensures { result ≡ list_any (λ b. b == 10) bytes.now }
+{
+    let mut found = false;
+    for byte in bytes {
+        found |= *byte == b'\n';
+    }
+    found
+}
+
+// The place of the first LF, or the end if there is none. The compiler looks at sixteen bytes at once.
+fn line_end(bytes: &[u8]) -> usize
+    ensures inside { result ≤ length bytes.now }
+    ensures before { (k : ℕ) → k < result → slice_index bytes.now k ≢ 10 }
+    ensures here { result < length bytes.now → slice_index bytes.now result ≡ 10 }
+{
+    let mut at = 0usize;
+    'blocks: while bytes.len() - at >= 16 && !has_lf(&bytes[at..at + 16]) {
+        at += 16;
+    }
+    'bytes: while at < bytes.len() && bytes[at] != b'\n' {
+        at += 1;
+    }
+    at
+}
+
 // What stands before the first LF, and what after it.
 pub(crate) fn cut_line(bytes: &[u8]) -> Option<(&[u8], &[u8])>
     ensures { option_map (λ r. (r.0.now, r.1.now)) result ≡ cut bytes.now }
 {
-    for (place, byte) in bytes.iter().enumerate() {
-        if *byte == b'\n' {
-            return Some((&bytes[..place], &bytes[place + 1..]));
-        }
+    let place = line_end(bytes);
+    if place < bytes.len() {
+        Some((&bytes[..place], &bytes[place + 1..]))
+    } else {
+        None
     }
-    None
 }
 
 // Whether a text may end here: nothing stands after the last LF.

@@ -9,7 +9,7 @@ ghost use Rattle.af_journal.specs.Lines.{numbers};
 ghost use Rattle.af_journal.specs.Taken.{Leaves, open_lines};
 ghost use Rattle.af_journal.specs.Texts.{command_words, disabled_lines, each_from, look_lines, status_lines, take_lines, track_lines, turns_lines, words_after};
 
-use crate::left::{Left, Stop, next_line, read_frames, read_words};
+use crate::left::{Left, Stop, line_with, next_line, read_frames, read_words};
 use crate::line::Line;
 use af_base::{
     CommandLook, CommandLooks, Memory, NormalTake, NormalTakes, Push, Seen, SlotEntry, TrackTurn,
@@ -88,7 +88,7 @@ fn read_looks(
             },
             after,
         ),
-    ) = next_line(left.rest)
+    ) = line_with(left.rest, b'q')
     {
         if own != track {
             break;
@@ -104,7 +104,7 @@ fn read_looks(
 fn read_disabled(left: &mut Left<'_>, track: u32) -> bool
     ensures { Leaves left.old.rest.now (disabled_lines track result) left.new.rest.now }
 {
-    match next_line(left.rest) {
+    match line_with(left.rest, b'b') {
         Some((Line::Disabled { track: own }, after)) if own == track => {
             left.rest = after;
             true
@@ -117,7 +117,7 @@ fn read_disabled(left: &mut Left<'_>, track: u32) -> bool
 fn read_status(left: &mut Left<'_>, track: u32) -> Option<u32>
     ensures { Leaves left.old.rest.now (status_lines track result) left.new.rest.now }
 {
-    match next_line(left.rest) {
+    match line_with(left.rest, b'a') {
         Some((Line::Status { track: own, word }, after)) if own == track => {
             left.rest = after;
             Some(word)
@@ -194,7 +194,7 @@ fn read_takes(alloc: Global, left: &mut Left<'_>, tracks: u32) -> Result<NormalT
             },
             after,
         ),
-    ) = next_line(left.rest)
+    ) = line_with(left.rest, b'm')
     {
         if track < low || track >= tracks {
             return Err(Stop::Order);

@@ -1,0 +1,23 @@
+use Rattle.std.proofs.Common.{rules, ◌≡◌, ◌∙◌, ◌∷◌, ◌≤◌, Some, length, map, refl, sym, arith}
+use Rattle.std.specs.List.{flat_map}
+use Rattle.std.proofs.lemmas.List.{length-map, take_all}
+use Rattle.af_base.specs.Sample.{packed_word}
+use Rattle.af_journal.specs.Lines.{hex_word}
+use Rattle.af_journal.specs.Readings.{cut}
+use Rattle.af_journal.proofs.Leaving.{leaves-frames, leaves-words}
+use Rattle.af_journal.proofs.left.read_frames.Goals as goal
+
+pub returns-clause-lines : goal.returns-clause-lines
+returns-clause-lines c =
+    let bytes = c.args.left.now.rest.now in
+    let part = c.in-Some.part.now in
+    let after = c.in-Some.after.now in
+    let digits = c.in-Some-digits_of.digits.now in
+    let frames = c.in_ok-frames.frames.items in
+    let are = c.in_ok-frames.ensures in
+    let ws = map packed_word frames in
+    let front : cut bytes ≡ Some (part, after) = search rules in
+    let marked : part ≡ 104 ∷ 32 ∷ digits = search rules in
+    let spelled : digits ≡ flat_map hex_word ws = sym (are.words ∙ take_all (length digits) digits (omega arith)) in
+    let some : 1 ≤ length ws = omega (arith, length-map frames packed_word, are.count, c.if-digits-count.false, c.if-count-eq0.false) in
+    leaves-frames bytes after ws ws refl some (leaves-words bytes part after digits ws front marked spelled some are.fits)
