@@ -31,38 +31,43 @@ fn give(track: &mut TrackEnd, asked: Ask) -> Result<(), CommandError> {
     }
 }
 
-// What comes of a step: the samples heard in six periods, the state then, and whether it is drained.
-type After = ([i16; 6], u32, bool);
+// A step of a life: what is asked, the samples that are heard in six periods then, as digits in base 100, the state that is told, and whether the track is drained.
+type Step = (Ask, i64, u32, bool);
 
-// The steps of a life. Each writes two frames with the next numbers, and asks this.
-const LIFE: [(Ask, After); 11] = [
-    (Ask::Nothing, ([0, 0, 0, 0, 0, 0], 0, false)),
-    (Ask::Open, ([0, 0, 0, 0, 0, 0], 1, false)),
-    (Ask::Start, ([1, 2, 3, 4, 5, 6], 2, false)),
-    (Ask::Pause, ([7, 8, 0, 0, 0, 0], 4, false)),
-    (Ask::Nothing, ([0, 0, 0, 0, 0, 0], 4, false)),
-    (Ask::Start, ([9, 10, 11, 12, 0, 0], 2, false)),
-    (Ask::Stop, ([13, 14, 0, 0, 0, 0], 8, true)),
-    (Ask::Start, ([15, 16, 0, 0, 0, 0], 2, false)),
-    (Ask::Stop, ([17, 18, 0, 0, 0, 0], 8, true)),
-    (Ask::Flush, ([0, 0, 0, 0, 0, 0], 9, true)),
-    (Ask::Start, ([21, 22, 0, 0, 0, 0], 2, false)),
+// A life. Before each step two frames with the next numbers are written.
+const LIFE: &[Step] = &[
+    (Ask::Nothing, 0, 0, false),
+    (Ask::Open, 0, 1, false),
+    (Ask::Start, 01_02_03_04_05_06, 2, false),
+    (Ask::Pause, 07_08, 4, false),
+    (Ask::Nothing, 0, 4, false),
+    (Ask::Start, 09_10_11_12, 2, false),
+    (Ask::Stop, 13_14, 8, true),
+    (Ask::Start, 15_16, 2, false),
+    (Ask::Stop, 17_18, 8, true),
+    (Ask::Flush, 0, 9, true),
+    (Ask::Start, 21_22, 2, false),
 ];
 
-// The first six samples but silence that are heard in six turns with a cycle each.
-fn hear(normal: &mut NormalEnd, fast: &mut FastEnd) -> [i16; 6] {
-    let mut heard = [0; 6];
-    let mut count = 0;
-    for _ in 0..6 {
-        let mut out = [SILENCE; 4];
-        let _turn = normal.turn();
-        let _cycle = fast.cycle(&mut out);
-        for frame in out {
-            if frame.left != 0 && count < 6 {
-                heard[count] = frame.left;
-                count += 1;
-            }
+// The samples but silence that are heard in a period, behind others, as digits in base 100.
+fn hear_one(normal: &mut NormalEnd, fast: &mut FastEnd, before: i64) -> i64 {
+    let mut heard = before;
+    let mut out = [SILENCE; 4];
+    let _turn = normal.turn();
+    let _cycle = fast.cycle(&mut out);
+    for frame in out {
+        if frame.left != 0 {
+            heard = heard.wrapping_mul(100).wrapping_add(i64::from(frame.left));
         }
+    }
+    heard
+}
+
+// The same of six periods.
+fn hear(normal: &mut NormalEnd, fast: &mut FastEnd) -> i64 {
+    let mut heard: i64 = 0;
+    for _ in 0..6 {
+        heard = hear_one(normal, fast, heard);
     }
     heard
 }
@@ -74,44 +79,55 @@ fn frame_of(number: i16) -> Frame {
     }
 }
 
-// What comes of a step that writes the frames of these two numbers.
-fn live(
+// Whether a step comes to what it says. It writes the frames of these two numbers.
+fn comes_true(
     normal: &mut NormalEnd,
     fast: &mut FastEnd,
     track: &mut TrackEnd,
-    asked: Ask,
+    step: &Step,
     first: i16,
-) -> After {
+) -> bool {
+    let (asked, wanted, life, drained) = *step;
     let frames = [frame_of(first), frame_of(first.wrapping_add(1))];
     let _count = track.write(&frames);
     let _sent = give(track, asked);
     let heard = hear(normal, fast);
     let status = track.status();
-    (heard, status.life, status.drained)
+    heard == wanted && status.life == life && status.drained == drained
 }
 
-// The first step of the life of such a track that comes to something else, and to what.
-fn strays(alloc: Global, kind: EngineTrack) -> Result<Option<(usize, After)>, MakeError> {
-    let (mut normal, mut fast, mut tracks) = mixer_of(alloc, &[kind])?;
-    let Some(track) = tracks.first_mut() else {
-        return Ok(None);
-    };
+// How many of these steps of the life of a track come to what they say, up to one that doesn't.
+fn steps_of(
+    normal: &mut NormalEnd,
+    fast: &mut FastEnd,
+    track: &mut TrackEnd,
+    steps: &[Step],
+) -> u32 {
+    let mut count: u32 = 0;
     let mut first: i16 = 1;
-    for (step, (asked, wanted)) in LIFE.into_iter().enumerate() {
-        let after = live(&mut normal, &mut fast, track, asked, first);
-        if after != wanted {
-            return Ok(Some((step, after)));
+    for step in steps {
+        if !comes_true(normal, fast, track, step, first) {
+            break;
         }
         first = first.wrapping_add(2);
+        count = count.wrapping_add(1);
     }
-    Ok(None)
+    count
+}
+
+// The same of a new track of this kind.
+fn lived(alloc: Global, kind: EngineTrack, steps: &[Step]) -> Result<u32, MakeError> {
+    let (mut normal, mut fast, mut tracks) = mixer_of(alloc, &[kind])?;
+    match tracks.first_mut() {
+        Some(track) => Ok(steps_of(&mut normal, &mut fast, track, steps)),
+        None => Ok(0),
+    }
 }
 
 #[test]
 fn a_track_lives(rt: HostRuntime) {
-    for kind in [FAST, PLAIN] {
-        assert_eq!(rt; strays(rt.alloc(), kind), Ok(None));
-    }
+    assert_eq!(rt; lived(rt.alloc(), FAST, LIFE), Ok(11));
+    assert_eq!(rt; lived(rt.alloc(), PLAIN, LIFE), Ok(11));
 }
 
 // Whether the mixers end once all tracks are removed.
