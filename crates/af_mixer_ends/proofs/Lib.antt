@@ -1,0 +1,4 @@
+pub mod Told
+pub mod Moves
+pub mod Opened
+pub mod GoesOn

@@ -1,0 +1,3 @@
+pub mod Tracks
+pub mod Mixers
+pub mod Opening
