@@ -33,6 +33,9 @@ pub fn close(kept: Box<Kept, Global>) {
         Kept::Listener(end) => drop(end.close()),
         Kept::Setter(end) => end.close(),
         Kept::Player(end) => drop(end.close()),
+        Kept::Track(end) => drop(end),
+        Kept::Normal(end) => drop(end),
+        Kept::Fast(end) => drop(end),
     }
 }
 
