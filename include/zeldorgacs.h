@@ -105,7 +105,21 @@ enum {
 #define ZG_MOST_NORMAL 16u
 #define ZG_MOST_TRACKS 32u
 
-/* What a track is: whether it asks for one of the fast mixer's seven slots, whether its frames have one channel, the left, a scale of its gains in 4.12, up to ZG_UNITY, and the frames of its buffer, 1 to ZG_MOST_BUFFER. */
+/*
+ * What a mixer is: the frames of a cycle, 1 to ZG_MOST_PERIOD; the cycles of a normal buffer, 1 to ZG_MOST_NORMAL; and how many cycles the fast mixer's log
+ * has before it forgets them and begins again, 1 to 100000 with at most 2^21 frames together. Nothing here reads that log, so 1 will do; its memory,
+ * 128 bytes for each of its frames and some 200 for each of its cycles, is taken at the open.
+ */
+typedef struct zg_mixer_spec {
+    uint32_t frames;
+    uint32_t normal;
+    uint32_t log;
+} zg_mixer_spec;
+
+/*
+ * What a track is: whether it asks for a slot of the fast mixer (AUDIO_OUTPUT_FLAG_FAST); whether its frames have one channel, the left; a scale of its
+ * gains in 4.12, up to ZG_UNITY; and the frames of its buffer, 1 to ZG_MOST_BUFFER.
+ */
 typedef struct zg_track_spec {
     uint8_t fast;
     uint8_t mono;
@@ -186,7 +200,7 @@ int64_t zeldorgacs_listener_total(zg_handle *listener);
 int64_t zeldorgacs_static_open(const int16_t *samples, size_t count, zg_handle *setter, zg_handle *player);
 int64_t zeldorgacs_setter_set(zg_handle *setter, uint32_t start, uint32_t end, uint32_t count);
 int64_t zeldorgacs_player_play(zg_handle *player, uint16_t left, uint16_t right, int16_t *samples, size_t count, int64_t *number);
-int64_t zeldorgacs_mixer_open(uint32_t frames, uint32_t normal, const zg_track_spec *specs, size_t count, zg_handle *turns, zg_handle *cycles, zg_handle *tracks, size_t handles);
+int64_t zeldorgacs_mixer_open(const zg_mixer_spec *mixer, const zg_track_spec *specs, size_t count, zg_handle *turns, zg_handle *cycles, zg_handle *tracks, size_t handles);
 int64_t zeldorgacs_track_write(zg_handle *track, const int16_t *samples, size_t count);
 int64_t zeldorgacs_track_start(zg_handle *track);
 int64_t zeldorgacs_track_pause(zg_handle *track);
@@ -196,7 +210,9 @@ int64_t zeldorgacs_track_remove(zg_handle *track);
 int64_t zeldorgacs_track_set_gains(zg_handle *track, uint16_t left, uint16_t right);
 int64_t zeldorgacs_track_status(zg_handle *track, zg_track_info *info);
 int64_t zeldorgacs_normal_turn(zg_handle *normal);
+int64_t zeldorgacs_normal_turns(zg_handle *normal);
 int64_t zeldorgacs_fast_cycle(zg_handle *fast, int16_t *samples, size_t count);
+int64_t zeldorgacs_fast_frames(zg_handle *fast);
 void zeldorgacs_close(zg_handle *handle);
 
 /* What stands for the samples if there are none, so that the archive is given no null pointer. */
@@ -601,18 +617,18 @@ static inline void zg_player_close(zg_player *player)
  */
 
 /*
- * Opens a mixer: so many frames a period, 1 to ZG_MOST_PERIOD, so many periods a normal buffer, 1 to ZG_MOST_NORMAL, and as many tracks as there are
- * specs, 1 to ZG_MOST_TRACKS, each with a handle. All tracks are opened: they are idle from the first turn on. What the handles led to is closed,
- * and no two of them are one. What all share is freed with the last of these handles that is closed, whichever that is.
- * 0; ZG_E_ARGUMENT if a number is out of range or specs is null, ZG_E_MEMORY, ZG_E_HANDLE if a handle is null: then nothing has changed.
+ * Opens a mixer, with as many tracks as there are specs, 1 to ZG_MOST_TRACKS, each with a handle. All tracks are opened: they are idle from the first
+ * turn on. The first 31 that ask for a slot of the fast mixer get one, and all others go by way of the normal mixer. What the handles led to is
+ * closed, and no two of them are one. What all share is freed with the last of these handles that is closed, whichever that is.
+ * 0; ZG_E_ARGUMENT if a number is out of range, or mixer or specs is null, ZG_E_MEMORY, ZG_E_HANDLE if a handle is null: then nothing has changed.
  */
-static inline int64_t zg_mixer_open(uint32_t frames, uint32_t normal, const zg_track_spec *specs, size_t count, zg_normal *turns, zg_fast *cycles, zg_track *tracks)
+static inline int64_t zg_mixer_open(const zg_mixer_spec *mixer, const zg_track_spec *specs, size_t count, zg_normal *turns, zg_fast *cycles, zg_track *tracks)
 {
     if (!turns || !cycles || !tracks)
         return ZG_E_HANDLE;
-    if (!specs)
+    if (!mixer || !specs || count > ZG_MOST_TRACKS)
         return ZG_E_ARGUMENT;
-    return zeldorgacs_mixer_open(frames, normal, specs, count, &turns->handle, &cycles->handle, &tracks->handle, count);
+    return zeldorgacs_mixer_open(mixer, specs, count, &turns->handle, &cycles->handle, &tracks->handle, count);
 }
 
 /*
@@ -727,6 +743,16 @@ static inline int64_t zg_normal_turn(zg_normal *normal)
     return zeldorgacs_normal_turn(&normal->handle);
 }
 
+/*
+ * How many turns it has made; or ZG_E_HANDLE.
+ */
+static inline int64_t zg_normal_turns(zg_normal *normal)
+{
+    if (!normal)
+        return ZG_E_HANDLE;
+    return zeldorgacs_normal_turns(&normal->handle);
+}
+
 /* Closes the handle, if it is open. */
 static inline void zg_normal_close(zg_normal *normal)
 {
@@ -745,6 +771,16 @@ static inline int64_t zg_fast_cycle(zg_fast *fast, int16_t *samples, size_t fram
     if (!samples || frames > ZG_MOST_PERIOD)
         return ZG_E_ARGUMENT;
     return zeldorgacs_fast_cycle(&fast->handle, samples, 2 * frames);
+}
+
+/*
+ * The frames of a cycle; or ZG_E_HANDLE.
+ */
+static inline int64_t zg_fast_frames(zg_fast *fast)
+{
+    if (!fast)
+        return ZG_E_HANDLE;
+    return zeldorgacs_fast_frames(&fast->handle);
 }
 
 /* Closes the handle, if it is open. */

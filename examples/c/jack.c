@@ -141,7 +141,8 @@ static const char *open_mixer(jack_client_t *client)
     periods = (rate / 50 + period - 1) / period;
     if (periods > ZG_MOST_NORMAL)
         periods = ZG_MOST_NORMAL;
-    switch (zg_mixer_open(period, periods, specs, VOICES, &normal, &fast, voice)) {
+    zg_mixer_spec mixer = {period, periods, 1};
+    switch (zg_mixer_open(&mixer, specs, VOICES, &normal, &fast, voice)) {
     case 0: return NULL;
     case ZG_E_MEMORY: return "out of memory";
     default: return "the server's period is too long for a mixer";

@@ -124,7 +124,8 @@ int main(int words, char **word)
     if (words > 1)
         total = (uint32_t)strtoul(word[1], NULL, 10) * RATE;
     has_clock = words < 3;
-    int64_t opened = zg_mixer_open(PERIOD, NORMAL, specs, TRACKS, &normal, &fast, track);
+    static const zg_mixer_spec mixer = {PERIOD, NORMAL, 1};
+    int64_t opened = zg_mixer_open(&mixer, specs, TRACKS, &normal, &fast, track);
     if (opened < 0) {
         fprintf(stderr, "tones: the mixer isn't opened: %d\n", (int)opened);
         return 1;

@@ -12,8 +12,14 @@ use std::alloc::Global;
 /// How many tracks a mixer has at most.
 const MOST_TRACKS: usize = 32;
 
-/// The cycles of the fast mixer's log, which nobody reads: each is forgotten when the next one comes.
-const LOG: u32 = 1;
+/// What C says of a mixer.
+#[derive(Clone, Copy, Drop)]
+#[repr(C)]
+pub struct MixerShape {
+    pub frames: u32,
+    pub normal: u32,
+    pub log: u32,
+}
 
 /// What C says of a track.
 #[derive(Clone, Copy, Drop)]
@@ -55,15 +61,14 @@ fn tracks_of(alloc: Global, specs: &[TrackSpec]) -> Result<Vec<EngineTrack>, End
 // The ends of a mixer of these tracks.
 fn open_ends(
     alloc: Global,
-    frames: u32,
-    normal: u32,
+    shape: &MixerShape,
     specs: &[TrackSpec],
 ) -> Result<(NormalEnd, FastEnd, Vec<TrackEnd>), EndError> {
     let tracks = tracks_of(alloc, specs)?;
     let spec = MixerSpec {
-        frames,
-        normal,
-        cycles: LOG,
+        frames: shape.frames,
+        normal: shape.normal,
+        cycles: shape.log,
         tracks: &tracks,
     };
     match open_mixer(alloc, &spec) {
@@ -97,13 +102,8 @@ fn track_boxes(alloc: Global, tracks: Vec<TrackEnd>) -> Result<Vec<Box<Kept, Glo
 }
 
 // Boxes with the ends of a mixer of these tracks.
-fn boxes_of(
-    alloc: Global,
-    frames: u32,
-    normal: u32,
-    specs: &[TrackSpec],
-) -> Result<Boxes, EndError> {
-    let (turns, cycles, ends) = open_ends(alloc, frames, normal, specs)?;
+fn boxes_of(alloc: Global, shape: &MixerShape, specs: &[TrackSpec]) -> Result<Boxes, EndError> {
+    let (turns, cycles, ends) = open_ends(alloc, shape, specs)?;
     let tracks = track_boxes(alloc, ends)?;
     let normal = boxed(alloc, Kept::Normal(turns))?;
     let fast = boxed(alloc, Kept::Fast(cycles))?;
@@ -114,12 +114,13 @@ fn boxes_of(
     })
 }
 
-/// Opens a mixer: so many frames a cycle, from 1 to 1024, so many cycles a normal buffer, from 1 to 16, and from 1 to 32 tracks of these specs, for each of which there is a handle. What the handles led to is closed. 0, or a refusal, which changes nothing.
+/// Opens a mixer of this shape: frames a cycle, from 1 to 1024; cycles a normal buffer, from 1 to 16; cycles that the fast mixer's log has, from 1 to 100,000 and with at most 2^21 frames together, before it forgets them; and from 1 to 32 tracks of these specs, for each of which there is a handle. What the handles led to is closed.
+///
+/// Answers 0. -1 (argument) if a number is outside its range, or there are not as many handles as specs. -2 (memory) if an allocation was refused. A refusal changes nothing.
 #[unsafe(no_mangle)]
 pub extern "C" fn zeldorgacs_mixer_open(
     alloc: Global,
-    frames: u32,
-    normal: u32,
+    shape: &MixerShape,
     specs: &[TrackSpec],
     turns: &mut Handle,
     cycles: &mut Handle,
@@ -128,7 +129,7 @@ pub extern "C" fn zeldorgacs_mixer_open(
     if specs.len() > MOST_TRACKS || specs.len() != tracks.len() {
         return refused(EndError::Argument);
     }
-    match boxes_of(alloc, frames, normal, specs) {
+    match boxes_of(alloc, shape, specs) {
         Ok(boxes) => {
             let Boxes {
                 normal,

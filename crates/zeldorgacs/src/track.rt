@@ -19,7 +19,9 @@ pub struct TrackInfo {
     pub released: u64,
 }
 
-/// Writes the first of these samples, left and right in turn: how many frames were written, or a refusal.
+/// Releases the first of these samples (left and right in turn) as frames, at most 1024, as many as there is room for before the last cell.
+///
+/// Answers how many frames were released: 0 if the block is full, or there are none. -3 if the handle is closed or of another kind. -4 (dead) if INVALID is seen. -6 (limit) if there are frames, and 2^62 were released before. A refusal changes nothing of the track.
 #[unsafe(no_mangle)]
 pub extern "C" fn zeldorgacs_track_write(
     alloc: Global,
@@ -40,7 +42,9 @@ pub extern "C" fn zeldorgacs_track_write(
     answer
 }
 
-/// Sets the gains, each in 4.12, up to unity: 0, or a refusal.
+/// Sets the gains of the two sides, each in 4.12, from 0 to unity (0x1000).
+///
+/// Answers 0. -1 (argument) if one is above unity. -3 if the handle is closed or of another kind. A refusal changes nothing.
 #[unsafe(no_mangle)]
 pub extern "C" fn zeldorgacs_track_set_gains(
     alloc: Global,
@@ -71,7 +75,9 @@ fn tell(end: &mut TrackEnd, info: &mut TrackInfo) {
     };
 }
 
-/// What the normal mixer said of the track last, and the flags, of which DISABLED is cleared: 0, or a refusal, after which what stands there stays.
+/// What the normal mixer said of the track last, and the flags, of which DISABLED is cleared.
+///
+/// Answers 0. -3 if the handle is closed or of another kind, and then what is told stays.
 #[unsafe(no_mangle)]
 pub extern "C" fn zeldorgacs_track_status(
     alloc: Global,
@@ -92,7 +98,9 @@ pub extern "C" fn zeldorgacs_track_status(
     answer
 }
 
-/// The track plays from the next turn on, once the flushes asked for are seen: 0, or a refusal.
+/// The track plays from the next turn on, once the flushes asked for are seen.
+///
+/// Answers 0. -3 if the handle is closed or of another kind. -4 (dead) if INVALID is seen. -6 (limit) if 2^62 words of commands were sent before. -7 (full) if 64 commands are on their way. A refusal sends nothing.
 #[unsafe(no_mangle)]
 pub extern "C" fn zeldorgacs_track_start(alloc: Global, track: &mut Handle) -> i64 {
     let Some(mut kept) = taken(alloc, track) else {
@@ -106,7 +114,9 @@ pub extern "C" fn zeldorgacs_track_start(alloc: Global, track: &mut Handle) -> i
     answer
 }
 
-/// The track pauses: 0, or a refusal.
+/// The track pauses: what was written stays, and a start goes on from there.
+///
+/// Answers 0. -3 if the handle is closed or of another kind. -4 (dead) if INVALID is seen. -6 (limit) if 2^62 words of commands were sent before. -7 (full) if 64 commands are on their way. A refusal sends nothing.
 #[unsafe(no_mangle)]
 pub extern "C" fn zeldorgacs_track_pause(alloc: Global, track: &mut Handle) -> i64 {
     let Some(mut kept) = taken(alloc, track) else {
@@ -120,7 +130,9 @@ pub extern "C" fn zeldorgacs_track_pause(alloc: Global, track: &mut Handle) -> i
     answer
 }
 
-/// The track stops once all that was written is consumed: 0, or a refusal.
+/// The track stops once all that was written is consumed.
+///
+/// Answers 0. -3 if the handle is closed or of another kind. -4 (dead) if INVALID is seen. -6 (limit) if 2^62 words of commands were sent before, or 2^32 frames or more were written. -7 (full) if 64 commands are on their way. A refusal sends nothing.
 #[unsafe(no_mangle)]
 pub extern "C" fn zeldorgacs_track_stop(alloc: Global, track: &mut Handle) -> i64 {
     let Some(mut kept) = taken(alloc, track) else {
@@ -134,7 +146,9 @@ pub extern "C" fn zeldorgacs_track_stop(alloc: Global, track: &mut Handle) -> i6
     answer
 }
 
-/// What was written and not played yet is discarded: 0, or a refusal.
+/// What was written and not played yet is discarded, and the normal mixer is told of it.
+///
+/// Answers 0. -3 if the handle is closed or of another kind. -4 (dead) if INVALID is seen. -6 (limit) if 2^62 words of commands were sent before, or as many flushes were asked for as can be told apart. -7 (full) if 64 commands are on their way. What was written is discarded also if the answer is -4 or -7.
 #[unsafe(no_mangle)]
 pub extern "C" fn zeldorgacs_track_flush(alloc: Global, track: &mut Handle) -> i64 {
     let Some(mut kept) = taken(alloc, track) else {
@@ -148,7 +162,9 @@ pub extern "C" fn zeldorgacs_track_flush(alloc: Global, track: &mut Handle) -> i
     answer
 }
 
-/// The track ends: 0, or a refusal.
+/// The track ends, and never plays again.
+///
+/// Answers 0. -3 if the handle is closed or of another kind. -4 (dead) if INVALID is seen. -6 (limit) if 2^62 words of commands were sent before. -7 (full) if 64 commands are on their way. A refusal sends nothing.
 #[unsafe(no_mangle)]
 pub extern "C" fn zeldorgacs_track_remove(alloc: Global, track: &mut Handle) -> i64 {
     let Some(mut kept) = taken(alloc, track) else {
