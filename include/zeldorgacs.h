@@ -670,7 +670,8 @@ static inline int64_t zg_track_pause(zg_track *track)
 }
 
 /*
- * The track stops once all that was written is consumed: its info says drained then. ZG_E_LIMIT also if 2^32 frames or more were written.
+ * The track stops once all that was written is consumed: its info says drained then. One that was disabled for want of frames stops at once and isn't
+ * drained, so start it just before, if all is to be heard. ZG_E_LIMIT also if 2^32 frames or more were written.
  * 0; ZG_E_FULL, ZG_E_DEAD, ZG_E_LIMIT, ZG_E_HANDLE.
  */
 static inline int64_t zg_track_stop(zg_track *track)

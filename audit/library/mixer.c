@@ -51,6 +51,7 @@ static zg_normal normal;
 static zg_fast fast;
 
 static const zg_track_spec specs[TRACKS] = {{1, 0, ZG_UNITY, 8}, {0, 0, ZG_UNITY, 8}};
+static const zg_mixer_spec usual = {FRAMES, NORMAL, 1};
 static const int16_t written[6] = {1, -1, 2, -2, 3, -3};
 
 static void stop(const char *what, long long got)
@@ -72,11 +73,11 @@ static void stop(const char *what, long long got)
             stop(#call " asks malloc", asked);                  \
     } while (0)
 
-static int64_t open_with(uint32_t frames, uint32_t buffer, const zg_track_spec *of, size_t count)
+static int64_t open_with(const zg_mixer_spec *mixer, const zg_track_spec *of, size_t count)
 {
     asked = 0;
     inside = true;
-    int64_t answer = zg_mixer_open(frames, buffer, of, count, &normal, &fast, track);
+    int64_t answer = zg_mixer_open(mixer, of, count, &normal, &fast, track);
     inside = false;
     return answer;
 }
@@ -103,18 +104,18 @@ static bool is_closed(void)
 static void refusals(void)
 {
     zg_track_spec bad[TRACKS] = {specs[0], specs[1]};
-    static const uint32_t sizes[5][2] = {{0, 1}, {1025, 1}, {4, 0}, {4, 17}, {UINT32_MAX, UINT32_MAX}};
-    for (int i = 0; i < 5; i++)
-        if (open_with(sizes[i][0], sizes[i][1], specs, TRACKS) != ZG_E_ARGUMENT)
+    static const zg_mixer_spec wrong[8] = {{0, 1, 1}, {1025, 1, 1}, {4, 0, 1}, {4, 17, 1}, {4, 1, 0}, {4, 1, 100001}, {1024, 1, 2049}, {UINT32_MAX, UINT32_MAX, UINT32_MAX}};
+    for (int i = 0; i < 8; i++)
+        if (open_with(&wrong[i], specs, TRACKS) != ZG_E_ARGUMENT)
             stop("sizes that are taken", i);
-    if (open_with(FRAMES, NORMAL, specs, 0) != ZG_E_ARGUMENT || open_with(FRAMES, NORMAL, NULL, TRACKS) != ZG_E_ARGUMENT)
+    if (open_with(&usual, specs, 0) != ZG_E_ARGUMENT || open_with(&usual, NULL, TRACKS) != ZG_E_ARGUMENT || open_with(NULL, specs, TRACKS) != ZG_E_ARGUMENT || open_with(&usual, specs, ZG_MOST_TRACKS + 1) != ZG_E_ARGUMENT || open_with(&usual, specs, SIZE_MAX / 2) != ZG_E_ARGUMENT)
         stop("no tracks, or no specs", 0);
     bad[1].frames = 0;
-    if (open_with(FRAMES, NORMAL, bad, TRACKS) != ZG_E_ARGUMENT)
+    if (open_with(&usual, bad, TRACKS) != ZG_E_ARGUMENT)
         stop("a track of no frames", 0);
     bad[1] = specs[1];
     bad[0].scale = ZG_UNITY + 1;
-    if (open_with(FRAMES, NORMAL, bad, TRACKS) != ZG_E_ARGUMENT)
+    if (open_with(&usual, bad, TRACKS) != ZG_E_ARGUMENT)
         stop("a scale above unity", 0);
     if (live || !is_closed())
         stop("a refusal that leaves something", live);
@@ -123,7 +124,7 @@ static void refusals(void)
 static void out_of_memory(void)
 {
     for (fails_at = 1;; fails_at++) {
-        int64_t answer = open_with(FRAMES, NORMAL, specs, TRACKS);
+        int64_t answer = open_with(&usual, specs, TRACKS);
         if (answer == 0)
             break;
         if (answer != ZG_E_MEMORY || live || !is_closed())
@@ -141,8 +142,19 @@ static void closed_and_other(void)
     CALL(ZG_E_HANDLE, zg_normal_turn(&normal));
     CALL(ZG_E_HANDLE, zg_fast_cycle(&fast, samples, FRAMES));
     CALL(ZG_E_HANDLE, zg_track_start(&track[0]));
-    if (open_with(FRAMES, NORMAL, specs, TRACKS))
+    CALL(ZG_E_HANDLE, zg_normal_turns(&normal));
+    CALL(ZG_E_HANDLE, zg_fast_frames(&fast));
+    CALL(ZG_E_HANDLE, zg_normal_turn(NULL));
+    CALL(ZG_E_HANDLE, zg_fast_cycle(NULL, samples, FRAMES));
+    CALL(ZG_E_HANDLE, zg_track_write(NULL, samples, FRAMES));
+    if (open_with(&usual, specs, TRACKS))
         stop("an open", 0);
+    CALL(0, zg_normal_turns(&normal));
+    CALL(FRAMES, zg_fast_frames(&fast));
+    CALL(ZG_E_HANDLE, zg_normal_turn((zg_normal *)(void *)&fast));
+    CALL(ZG_E_HANDLE, zg_fast_cycle((zg_fast *)(void *)&normal, samples, FRAMES));
+    CALL(ZG_E_HANDLE, zg_client_write((zg_client *)(void *)&track[0], samples, FRAMES));
+    CALL(ZG_E_ARGUMENT, zeldorgacs_mixer_open(&usual, specs, TRACKS, &normal.handle, &fast.handle, &track[0].handle, TRACKS - 1));
     CALL(ZG_E_HANDLE, zg_track_start(other));
     CALL(ZG_E_HANDLE, zg_track_write(other, samples, FRAMES));
     CALL(ZG_E_HANDLE, zg_track_status(other, &info));
@@ -161,7 +173,7 @@ static void periods(long cycles)
     int16_t out[2 * FRAMES];
     static const int16_t both[2 * FRAMES] = {2, -2, 4, -4, 6, -6, 0, 0};
     zg_track_info info;
-    if (open_with(FRAMES, NORMAL, specs, TRACKS))
+    if (open_with(&usual, specs, TRACKS))
         stop("an open", 0);
     for (int i = 0; i < TRACKS; i++) {
         CALL(0, zg_track_start(&track[i]));
@@ -188,7 +200,7 @@ static void periods(long cycles)
 
 static void commands(void)
 {
-    if (open_with(FRAMES, NORMAL, specs, TRACKS))
+    if (open_with(&usual, specs, TRACKS))
         stop("an open", 0);
     for (int k = 1; k < 64; k++)
         CALL(0, zg_track_pause(&track[0])); /* the opening is the first command */

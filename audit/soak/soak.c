@@ -1,18 +1,23 @@
 /*
  * soak.c: a mixer that runs for long. Seven fast tracks and 24 by way of the normal mixer play, pause, stop, are flushed and start anew, in the same
- * lives, at random; a cycle of 64 frames each period, and a turn before each fourth. Beside each track goes a plain model: what was written and not
- * flushed is to be heard. In the end the sum of all samples that were mixed is the sum of those, each track has released and settled what the model says, no call
- * but the open and the closes has asked malloc for anything, and memory is what it was at the beginning. It is linked with --wrap for malloc, realloc
- * and free.
+ * lives, at random; a cycle of 64 frames each period, a turn before each fourth, and a log that is forgotten every 1,000 cycles. Beside each track
+ * goes a plain model: what was written and not flushed is to be heard. In the end the sum of all samples that were mixed is the sum of those, each
+ * track has released and settled what the model says, no call but the open and the closes has asked malloc for anything, and memory is what it was at
+ * the beginning. It is linked with --wrap for malloc, realloc and free. Over an archive that counts the words that it loads and stores
+ * (audit/soak/steps makes one) no cycle takes more steps than it may.
  *
- *     soak [CYCLES [SEED]]     1,000,000 cycles and the seed 1, if not said otherwise
+ *     soak [CYCLES [SEED]]     3,000,000 cycles and the seed 1, if not said otherwise
  */
 #include "zeldorgacs.h"
+#include <malloc.h>
 #include <stdbool.h>
 #include <stdio.h>
 #include <stdlib.h>
 
-enum { PERIOD = 64, NORMAL = 4, BUFFER = 1024, FAST = 7, TRACKS = 31, MOST = 256, LOUD = 1000, PATIENCE = 400, QUIET = 32 };
+enum { PERIOD = 64, NORMAL = 4, LOG = 1000, BUFFER = 1024, FAST = 7, TRACKS = 31, MOST = 256, LOUD = 1000, PATIENCE = 400, QUIET = 32 };
+
+/* The most words that a cycle of so many tracks loads and stores: af_fast's bound. */
+enum { MOST_STEPS = (FAST + 1) * PERIOD + 7 * FAST + 6 };
 
 /* What a client is at: it plays, is paused, waits until it has stopped, lets some periods pass, waits until what it wrote since is flushed. */
 typedef enum { PLAYS, PAUSED, STOPS, RESTS, FLUSHES } phase;
@@ -33,9 +38,13 @@ static zg_fast fast;
 static model of[TRACKS];
 static int64_t wanted[2], heard[2];
 static uint64_t seed = 1;
-static long asked, live;
+static long asked, live, bytes; /* calls of malloc and its like by the library, and the blocks and bytes that it has */
 static bool inside;
 static bool is_over;
+static uint64_t most_steps;
+
+/* The words that were loaded and stored so far, if the archive counts them. */
+extern uint64_t zeldorgacs_steps __attribute__((weak));
 
 void *__real_malloc(size_t size);
 void *__real_realloc(void *at, size_t size);
@@ -47,16 +56,19 @@ void *__wrap_malloc(size_t size)
     if (inside) {
         asked++;
         live += at != NULL;
+        bytes += (long)malloc_usable_size(at);
     }
     return at;
 }
 
 void *__wrap_realloc(void *at, size_t size)
 {
+    long before = (long)malloc_usable_size(at);
     void *got = __real_realloc(at, size);
     if (inside) {
         asked++;
         live += got && !at;
+        bytes += got ? (long)malloc_usable_size(got) - before : 0;
     }
     return got;
 }
@@ -66,6 +78,7 @@ void __wrap_free(void *at)
     if (inside && at) {
         asked++;
         live--;
+        bytes -= (long)malloc_usable_size(at);
     }
     __real_free(at);
 }
@@ -236,6 +249,19 @@ static void client(int i)
     }
 }
 
+/* A cycle, which takes no more steps than it may. */
+static int64_t cycle(int16_t *out)
+{
+    uint64_t before = &zeldorgacs_steps ? zeldorgacs_steps : 0;
+    int64_t answer = zg_fast_cycle(&fast, out, PERIOD);
+    uint64_t steps = &zeldorgacs_steps ? zeldorgacs_steps - before : 0;
+    if (steps > MOST_STEPS)
+        stop("steps of a cycle", (long long)steps);
+    if (steps > most_steps)
+        most_steps = steps;
+    return answer;
+}
+
 /* One period: a turn before each fourth, a step of each client, and a cycle. */
 static void period(long number)
 {
@@ -245,7 +271,7 @@ static void period(long number)
         stop("a turn", answer);
     for (int i = 0; i < TRACKS; i++)
         client(i);
-    answer = zg_fast_cycle(&fast, out, PERIOD);
+    answer = cycle(out);
     if (answer != ZG_MIXED && answer != ZG_IDLE && answer != ZG_COLD)
         stop("a cycle", answer);
     for (int k = 0; k < PERIOD && answer == ZG_MIXED; k++) {
@@ -256,10 +282,11 @@ static void period(long number)
 
 static void opens(void)
 {
+    static const zg_mixer_spec mixer = {PERIOD, NORMAL, LOG};
     zg_track_spec specs[TRACKS];
     for (int i = 0; i < TRACKS; i++)
         specs[i] = (zg_track_spec){i < FAST, 0, ZG_UNITY, BUFFER};
-    int64_t answer = zg_mixer_open(PERIOD, NORMAL, specs, TRACKS, &normal, &fast, track);
+    int64_t answer = zg_mixer_open(&mixer, specs, TRACKS, &normal, &fast, track);
     if (answer)
         stop("the open", answer);
     for (int i = 0; i < TRACKS; i++) {
@@ -301,42 +328,9 @@ static void closes(void)
     zg_fast_close(&fast);
 }
 
-int main(int words, char **word)
+/* What all tracks did, and what memory there was. */
+static void tells(long cycles, long had, const long *resident)
 {
-    long cycles = words > 1 ? strtol(word[1], NULL, 10) : 1000000;
-    seed = words > 2 ? strtoull(word[2], NULL, 10) * 2654435761u + 1 : 1;
-    inside = true;
-    opens();
-    inside = false;
-    long first = 0, at = pages();
-    inside = true;
-    asked = 0;
-    for (long k = 0; k < cycles; k++) {
-        if (k == cycles / 100) {
-            inside = false;
-            first = pages();
-            inside = true;
-        }
-        period(k);
-    }
-    is_over = true;
-    long last = cycles;
-    while (!all_rest())
-        period(last++);
-    for (int k = 0; k < QUIET; k++)
-        period(last++);
-    compares();
-    if (asked)
-        stop("calls that asked for memory", asked);
-    inside = false;
-    long now = pages();
-    if (now > first + 8)
-        stop("pages more than at the beginning", now - first);
-    inside = true;
-    closes();
-    inside = false;
-    if (live)
-        stop("blocks that are left", live);
     uint64_t released = 0, flushed = 0, stops_made = 0, flushes_made = 0;
     for (int i = 0; i < TRACKS; i++) {
         released += of[i].released;
@@ -344,6 +338,50 @@ int main(int words, char **word)
         stops_made += of[i].stops;
         flushes_made += of[i].flushes;
     }
-    printf("soak: %ld cycles of %d tracks: %llu frames written, %llu of them flushed in %llu flushes, all others heard: the sums are equal; %llu stops; pages: %ld at the open, %ld at a hundredth, %ld at the end\n", last, TRACKS, (unsigned long long)released, (unsigned long long)flushed, (unsigned long long)flushes_made, (unsigned long long)stops_made, at, first, now);
+    printf("soak: %ld cycles of %d tracks: %llu frames written, %llu of them flushed in %llu flushes, all others heard: the sums are equal; %llu stops\n", cycles, TRACKS, (unsigned long long)released,
+           (unsigned long long)flushed, (unsigned long long)flushes_made, (unsigned long long)stops_made);
+    printf("soak: the library had %ld bytes from the open to the end, and asked for no more; pages of the process: %ld at the open, %ld at half, %ld at the end\n", had, resident[0], resident[1], resident[2]);
+    if (most_steps)
+        printf("soak: at most %llu steps a cycle, which may take %d\n", (unsigned long long)most_steps, MOST_STEPS);
+}
+
+int main(int words, char **word)
+{
+    long most = words > 1 ? strtol(word[1], NULL, 10) : 3000000, last = most, resident[3];
+    seed = words > 2 ? strtoull(word[2], NULL, 10) * 2654435761u + 1 : 1;
+    inside = true;
+    opens();
+    inside = false;
+    resident[0] = resident[1] = pages();
+    long had = bytes;
+    asked = 0;
+    for (long k = 0; k < most; k++) {
+        if (k == most / 2)
+            resident[1] = pages();
+        inside = true;
+        period(k);
+        inside = false;
+    }
+    is_over = true;
+    inside = true;
+    while (!all_rest())
+        period(last++);
+    for (int k = 0; k < QUIET; k++)
+        period(last++);
+    compares();
+    inside = false;
+    resident[2] = pages();
+    if (asked)
+        stop("calls that asked for memory", asked);
+    if (bytes != had)
+        stop("bytes more than at the open", bytes - had);
+    if (resident[2] - resident[0] > had / 4096 + 8)
+        stop("pages more than the library asked for", resident[2] - resident[0]);
+    inside = true;
+    closes();
+    inside = false;
+    if (live || bytes)
+        stop("blocks that are left", live);
+    tells(last, had, resident);
     return 0;
 }

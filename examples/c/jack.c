@@ -83,12 +83,19 @@ static void wait_for(uint32_t frames)
     nanosleep(&time, NULL);
 }
 
+/* Sends a command, once there is room for it. */
+static void ask(zg_track *mine, int64_t (*command)(zg_track *))
+{
+    while (command(mine) == ZG_E_FULL && !atomic_load(&over))
+        wait_for(periods * period);
+}
+
 /* A track that was without frames for too long was disabled: it is started again, as AudioTrack does. */
 static void keep_on(zg_track *mine)
 {
     zg_track_info info;
     if (zg_track_status(mine, &info) == 0 && info.flags & ZG_DISABLED)
-        zg_track_start(mine);
+        ask(mine, zg_track_start);
 }
 
 /* A voice: it writes its tone, as it finds room, and removes its track once all of it was heard. */
@@ -99,7 +106,7 @@ static void *speak(void *place)
     int16_t samples[2 * CHUNK];
     zg_track_info info = {0};
     zg_track_set_gains(mine, ZG_UNITY / 2, ZG_UNITY / 2);
-    zg_track_start(mine);
+    ask(mine, zg_track_start);
     for (uint32_t at = 0; at < total && !atomic_load(&over);) {
         uint32_t count = total - at < CHUNK ? total - at : CHUNK;
         for (uint32_t i = 0; i < count; i++)
@@ -112,12 +119,12 @@ static void *speak(void *place)
         at += (uint32_t)written;
         keep_on(mine);
     }
-    keep_on(mine);
-    zg_track_stop(mine);
+    ask(mine, zg_track_start); /* if it was disabled by now, its last frames are heard all the same */
+    ask(mine, zg_track_stop);
     while (zg_track_status(mine, &info) == 0 && !info.drained && !atomic_load(&over))
         wait_for(BUFFER / 4);
     atomic_store(&drained[mine - voice], info.drained != 0);
-    zg_track_remove(mine);
+    ask(mine, zg_track_remove);
     return NULL;
 }
 

@@ -38,12 +38,19 @@ static void wait_a_while(long microseconds)
         sched_yield();
 }
 
+/* Sends a command, once there is room for it. */
+static void ask(zg_track *mine, int64_t (*command)(zg_track *))
+{
+    while (command(mine) == ZG_E_FULL && !atomic_load(&over))
+        wait_a_while(5000);
+}
+
 /* A track that was without frames for too long was disabled: it is started again, as AudioTrack does. */
 static void keep_on(zg_track *mine)
 {
     zg_track_info info;
     if (zg_track_status(mine, &info) == 0 && info.flags & ZG_DISABLED)
-        zg_track_start(mine);
+        ask(mine, zg_track_start);
 }
 
 /* A client: it writes its tone, as it finds room, and removes its track once all of it was heard. */
@@ -54,7 +61,7 @@ static void *client(void *place)
     int16_t samples[2 * PERIOD];
     zg_track_info info;
     zg_track_set_gains(mine, ZG_UNITY / 2, ZG_UNITY / 2);
-    zg_track_start(mine);
+    ask(mine, zg_track_start);
     for (uint32_t at = 0; at < total;) {
         for (uint32_t i = 0; i < PERIOD; i++)
             samples[2 * i] = samples[2 * i + 1] = (int16_t)(12000 * sin(2 * PI * tone * (at + i) / RATE));
@@ -66,11 +73,11 @@ static void *client(void *place)
         at += (uint32_t)written;
         keep_on(mine);
     }
-    keep_on(mine);
-    zg_track_stop(mine);
+    ask(mine, zg_track_start); /* if it was disabled by now, its last frames are heard all the same */
+    ask(mine, zg_track_stop);
     while (zg_track_status(mine, &info) == 0 && !info.drained && !atomic_load(&over))
         wait_a_while(5000);
-    zg_track_remove(mine);
+    ask(mine, zg_track_remove);
     return NULL;
 }
 
@@ -122,7 +129,7 @@ int main(int words, char **word)
     static const zg_track_spec specs[TRACKS] = {{1, 0, ZG_UNITY, BUFFER}, {0, 0, ZG_UNITY, BUFFER}}; /* one fast, one by way of the normal mixer */
     pthread_t thread[TRACKS + 1];
     if (words > 1)
-        total = (uint32_t)strtoul(word[1], NULL, 10) * RATE;
+        total = (uint32_t)(strtod(word[1], NULL) * RATE);
     has_clock = words < 3;
     static const zg_mixer_spec mixer = {PERIOD, NORMAL, 1};
     int64_t opened = zg_mixer_open(&mixer, specs, TRACKS, &normal, &fast, track);
