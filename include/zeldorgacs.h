@@ -108,7 +108,7 @@ enum {
 /*
  * What a mixer is: the frames of a cycle, 1 to ZG_MOST_PERIOD; the cycles of a normal buffer, 1 to ZG_MOST_NORMAL; and how many cycles the fast mixer's log
  * has before it forgets them and begins again, 1 to 100000 with at most 2^21 frames together. Nothing here reads that log, so 1 will do; its memory,
- * 128 bytes for each of its frames and some 200 for each of its cycles, is taken at the open.
+ * 128 bytes for each of its frames and some 1,400 for each of its cycles, is taken at the open.
  */
 typedef struct zg_mixer_spec {
     uint32_t frames;
