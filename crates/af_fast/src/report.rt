@@ -1,5 +1,6 @@
 //! What is reported of the slots after an entry.
-ghost use Rattle.std.specs.Prelude.{◌≡◌, ℕ, ◌<◌, true, Some, length, slice_set};
+ghost use Rattle.std.specs.Prelude.{◌≡◌, ℕ, ◌<◌, ◌≤◌, true, Some, length, slice_set};
+ghost use Rattle.std.specs.Int.{bit_at};
 ghost use Rattle.af_base.specs.Log.{slots};
 ghost use Rattle.af_model.specs.Reports.{no_slot, report_at, carried, counted_look, is_full, is_partial, is_empty, slot_report};
 ghost use Rattle.af_base.specs.declared.state.FastState.{FastState};
@@ -131,7 +132,15 @@ fn report_slot(
     reports[slot] = counted_look(asked, generation, seen, known, before);
 }
 
-/// The reports of the slots go on by an entry under a state, after one under the state before it.
+// How many slots there are up to the last one of a mask: it holds no later one.
+fn slots_in(mask: u32) -> usize
+    ensures few { result ≤ slots }
+    ensures rest { (i : ℕ) → result ≤ i → bit_at mask i ≡ 0 }
+{
+    (u32::BITS - mask.leading_zeros()) as usize
+}
+
+/// The reports of the slots go on by an entry under a state, after one under the state before it. It looks at no slot behind the last one of the state's mask.
 pub(crate) fn report_all(
     observer: &mut Observer<Server, StreamNames>,
     reports: &mut [SlotReport; SLOTS],
@@ -150,7 +159,8 @@ pub(crate) fn report_all(
     let Some(state) = state else {
         return;
     };
-    for slot in 0..SLOTS {
+    let used = slots_in(state.mask);
+    for slot in 0..used {
         report_slot(observer, reports, state, last, entry, slot, asked);
     }
 }

@@ -25,6 +25,8 @@ loop-slot-preserved c =
     record {
       same = c.report_slot.ensures.same ∙ i.same;
       state_is = i.state_is;
+      few = i.few;
+      rest = i.rest;
       whole = ap length is ∙ length-set c.loop-slot.reports slot report ∙ i.whole;
       each = (λ j lt.
           ap (λ (rs : List SlotReport). report_at rs j) is

@@ -1,4 +1,5 @@
 use Rattle.std.proofs.Common.{◌≡◌, ℕ, ◌≤◌, ◌<◌, Some, length}
+use Rattle.std.specs.Int.{bit_at}
 use Rattle.af_base.specs.Log.{slots}
 use Rattle.af_model.specs.Reports.{report_at, slot_report}
 use Rattle.af_fast.specs.Known.{known}
@@ -8,6 +9,8 @@ abbrev pub invariant-loop-slot : goal.invariant-loop-slot
 invariant-loop-slot l = record {
   same : l.observer ≡ l.fn.observer;
   state_is : l.state ≡ l.fn.observer.past.state;
+  few : l.used ≤ slots;
+  rest : (i : ℕ) → l.used ≤ i → bit_at l.state.mask i ≡ 0;
   whole : length l.reports ≡ slots;
   each : (i : ℕ) → i < l.slot → report_at l.reports i ≡ slot_report l.asked (Some l.state) l.last l.entry (known l.fn.observer i) i (report_at l.fn.reports i);
   behind : (i : ℕ) → l.slot ≤ i → report_at l.reports i ≡ report_at l.fn.reports i;
