@@ -14,13 +14,13 @@ use af_ends::EndError;
 use std::marker::Brand;
 use std::sync::ledger::{Blank, Ledger};
 
-/// How many frames a client releases at most.
+/// Once a client has released so many frames, it writes no more.
 const MOST_RELEASED: u64 = 0x4000_0000_0000_0000;
 
-/// The gain of unity.
+/// The gain of unity, in 4.12.
 const UNITY: u16 = 0x1000;
 
-// What an end tells of a write.
+// The answer of an end, by what its proxy wrote.
 fn told(wrote: Wrote) -> Result<u32, EndError>
     ensures { result ≡ told wrote }
 {
@@ -32,6 +32,7 @@ fn told(wrote: Wrote) -> Result<u32, EndError>
     }
 }
 
+// Writes the first of these frames.
 fn write_in<L: Ledger>(
     blank: Blank,
     block: &Block,
@@ -51,6 +52,7 @@ fn write_in<L: Ledger>(
     told(client.write(block, frames, &mut steps))
 }
 
+// Asks for one flush.
 fn flush_in<L: Ledger>(blank: Blank, block: &Block, client: &mut Client) -> u32
     requires ledger { (blank.name ≡ L.name) × (blank.parts ≡ L.parts) × (0 < blank.parts) }
     requires ready { IsStreamClient block.now client.old }
@@ -62,6 +64,7 @@ fn flush_in<L: Ledger>(blank: Blank, block: &Block, client: &mut Client) -> u32
     client.flush(block, &mut steps)
 }
 
+// Sets the word of two gains.
 fn gains_in<L: Ledger>(blank: Blank, block: &Block, client: &mut Client, word: u32)
     requires ledger { (blank.name ≡ L.name) × (blank.parts ≡ L.parts) × (0 < blank.parts) }
     requires ready { IsStreamClient block.now client.old }
@@ -73,6 +76,7 @@ fn gains_in<L: Ledger>(blank: Blank, block: &Block, client: &mut Client, word: u
     client.set_gains(block, word, &mut steps);
 }
 
+// Loads the status word.
 fn status_in<L: Ledger>(blank: Blank, block: &Block, client: &mut Client) -> u32
     requires ledger { (blank.name ≡ L.name) × (blank.parts ≡ L.parts) × (0 < blank.parts) }
     requires ready { IsStreamClient block.now client.old }
@@ -84,6 +88,7 @@ fn status_in<L: Ledger>(blank: Blank, block: &Block, client: &mut Client) -> u32
     client.status(block, &mut steps)
 }
 
+// Clears DISABLED, and answers the flags before.
 fn clear_in<L: Ledger>(blank: Blank, block: &Block, client: &mut Client) -> u32
     requires ledger { (blank.name ≡ L.name) × (blank.parts ≡ L.parts) × (0 < blank.parts) }
     requires ready { IsStreamClient block.now client.old }
@@ -95,7 +100,7 @@ fn clear_in<L: Ledger>(blank: Blank, block: &Block, client: &mut Client) -> u32
     client.clear_disabled(block, &mut steps)
 }
 
-// How many flushes a client of this block may ask for.
+// How many flushes a client of this block may ask for in all.
 fn flush_room(block: &Block) -> u32
     ensures { result ≡ most_flushes block.now.shape.wrap }
 {

@@ -23,6 +23,7 @@ fn told(sent: Sent) -> Result<(), CommandError>
     }
 }
 
+// Sends a command, of which there is room for one more in the count.
 fn send_in<L: Ledger>(
     blank: Blank,
     block: &Block,
