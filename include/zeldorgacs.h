@@ -612,7 +612,7 @@ static inline void zg_player_close(zg_player *player)
 }
 
 /*
- * MIXERS: what clients write on threads of their own comes out mixed. One thread makes the turns of the normal mixer, one every `normal` periods;
+ * MIXERS: what clients write on threads of their own comes out mixed. One thread makes the turns of the normal mixer, at least every `normal` periods;
  * another one, the period's callback, makes a cycle of the fast mixer each period. No call of either waits for a client, nor for the other.
  */
 
@@ -734,8 +734,9 @@ static inline void zg_track_close(zg_track *track)
 }
 
 /*
- * One turn of the normal mixer, to be made once every `normal` periods: it obeys the clients' commands, mixes the tracks that have no slot of the
- * fast mixer, and tells the fast mixer what to play. ZG_TURNED, ZG_TURN_MIXED, ZG_TURN_ENDED; ZG_E_LIMIT after 2^55 turns, ZG_E_HANDLE.
+ * One turn of the normal mixer, to be made every `normal` periods, or more often, as one that comes early doesn't mix: it obeys the clients' commands,
+ * mixes the tracks that have no slot of the fast mixer, and tells the fast mixer what to play.
+ * ZG_TURNED, ZG_TURN_MIXED, ZG_TURN_ENDED; ZG_E_LIMIT after 2^55 turns, ZG_E_HANDLE.
  */
 static inline int64_t zg_normal_turn(zg_normal *normal)
 {
