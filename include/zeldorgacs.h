@@ -96,7 +96,7 @@ enum {
     ZG_E_HANDLE = -3,   /* the handle is null, closed, or of another kind */
     ZG_E_DEAD = -4,     /* INVALID was seen: AudioTrack's DEAD_OBJECT */
     ZG_E_CORRUPT = -5,  /* this end is shut for good */
-    ZG_E_LIMIT = -6,    /* this end has counted as far as it can: 2^62 frames, 2^63 - 1 settings, or as many flushes as it can tell apart */
+    ZG_E_LIMIT = -6,    /* this end has counted as far as it can: 2^62 frames, 2^63 - 1 settings, as many flushes as it can tell apart; see the call */
     ZG_E_FULL = -7      /* 64 commands of the track are on their way: the normal mixer's next turn takes them */
 };
 
@@ -106,9 +106,9 @@ enum {
 #define ZG_MOST_TRACKS 32u
 
 /*
- * What a mixer is: the frames of a cycle, 1 to ZG_MOST_PERIOD; the cycles of a normal buffer, 1 to ZG_MOST_NORMAL; and how many cycles the fast mixer's log
- * has before it forgets them and begins again, 1 to 100000 with at most 2^21 frames together. Nothing here reads that log, so 1 will do; its memory,
- * 128 bytes for each of its frames and some 1,400 for each of its cycles, is taken at the open.
+ * What a mixer is: the frames of a cycle, 1 to ZG_MOST_PERIOD; the cycles of a normal buffer, 1 to ZG_MOST_NORMAL; and how many cycles the fast mixer's
+ * log has before it forgets them and begins again, 1 to 100000 with at most 2^21 frames together. Nothing here reads that log, so 1 will do; its
+ * memory, 128 bytes for each of its frames and some 1,400 for each of its cycles, is taken at the open.
  */
 typedef struct zg_mixer_spec {
     uint32_t frames;
@@ -764,7 +764,8 @@ static inline void zg_normal_close(zg_normal *normal)
 
 /*
  * One cycle of the fast mixer, to be made once a period: it writes the period's frames, or leaves them as they are. ZG_MIXED, ZG_IDLE, ZG_COLD, ZG_EXIT;
- * ZG_E_ARGUMENT if samples is null or frames isn't the mixer's, ZG_E_LIMIT after 2^32 - 1 cycles, ZG_E_HANDLE.
+ * ZG_E_ARGUMENT if samples is null or frames isn't the mixer's, ZG_E_HANDLE, and ZG_E_LIMIT once a whole log more could go beyond 2^32 - 1 cycles: that
+ * are 66 days of periods of 64 frames at 48 kHz.
  */
 static inline int64_t zg_fast_cycle(zg_fast *fast, int16_t *samples, size_t frames)
 {

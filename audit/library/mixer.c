@@ -101,24 +101,34 @@ static bool is_closed(void)
     return !memcmp(&normal, &none, sizeof none) && !memcmp(&fast, &none, sizeof none) && !memcmp(&track[0], &none, sizeof none) && !memcmp(&track[1], &none, sizeof none);
 }
 
-static void refusals(void)
+/* An open that is refused for its arguments. */
+static void refuses(const char *what, const zg_mixer_spec *mixer, const zg_track_spec *of, size_t count)
 {
-    zg_track_spec bad[TRACKS] = {specs[0], specs[1]};
-    static const zg_mixer_spec wrong[8] = {{0, 1, 1}, {1025, 1, 1}, {4, 0, 1}, {4, 17, 1}, {4, 1, 0}, {4, 1, 100001}, {1024, 1, 2049}, {UINT32_MAX, UINT32_MAX, UINT32_MAX}};
-    for (int i = 0; i < 8; i++)
-        if (open_with(&wrong[i], specs, TRACKS) != ZG_E_ARGUMENT)
-            stop("sizes that are taken", i);
-    if (open_with(&usual, specs, 0) != ZG_E_ARGUMENT || open_with(&usual, NULL, TRACKS) != ZG_E_ARGUMENT || open_with(NULL, specs, TRACKS) != ZG_E_ARGUMENT || open_with(&usual, specs, ZG_MOST_TRACKS + 1) != ZG_E_ARGUMENT || open_with(&usual, specs, SIZE_MAX / 2) != ZG_E_ARGUMENT)
-        stop("no tracks, or no specs", 0);
-    bad[1].frames = 0;
-    if (open_with(&usual, bad, TRACKS) != ZG_E_ARGUMENT)
-        stop("a track of no frames", 0);
-    bad[1] = specs[1];
-    bad[0].scale = ZG_UNITY + 1;
-    if (open_with(&usual, bad, TRACKS) != ZG_E_ARGUMENT)
-        stop("a scale above unity", 0);
+    int64_t answer = open_with(mixer, of, count);
+    if (answer != ZG_E_ARGUMENT)
+        stop(what, answer);
     if (live || !is_closed())
         stop("a refusal that leaves something", live);
+}
+
+static void refusals(void)
+{
+    static const zg_mixer_spec wrong[] = {{0, 1, 1}, {1025, 1, 1}, {4, 0, 1}, {4, 17, 1}, {4, 1, 0}, {4, 1, 100001}, {1024, 1, 2049}, {UINT32_MAX, UINT32_MAX, UINT32_MAX}};
+    zg_track_spec bad[TRACKS] = {specs[0], specs[1]};
+    for (size_t i = 0; i < sizeof wrong / sizeof *wrong; i++)
+        refuses("a shape that doesn't fit", &wrong[i], specs, TRACKS);
+    refuses("no shape", NULL, specs, TRACKS);
+    refuses("no specs", &usual, NULL, TRACKS);
+    refuses("no tracks", &usual, specs, 0);
+    refuses("a track too many", &usual, specs, ZG_MOST_TRACKS + 1);
+    refuses("a huge count", &usual, specs, SIZE_MAX / 2);
+    bad[1].frames = 0;
+    refuses("a track of no frames", &usual, bad, TRACKS);
+    bad[1].frames = ZG_MOST_BUFFER + 1;
+    refuses("a track of too many", &usual, bad, TRACKS);
+    bad[1] = specs[1];
+    bad[0].scale = ZG_UNITY + 1;
+    refuses("a scale above unity", &usual, bad, TRACKS);
 }
 
 static void out_of_memory(void)
