@@ -715,7 +715,8 @@ static inline int64_t zg_track_set_gains(zg_track *track, uint16_t left, uint16_
 }
 
 /*
- * Tells what is known of the track, and clears ZG_DISABLED. 0; ZG_E_ARGUMENT if info is null, ZG_E_HANDLE: then *info stays.
+ * Tells what is known of the track by the normal mixer's last turn, and clears ZG_DISABLED: a command is seen in it once `settled` counts that command.
+ * 0; ZG_E_ARGUMENT if info is null, ZG_E_HANDLE: then *info stays.
  */
 static inline int64_t zg_track_status(zg_track *track, zg_track_info *info)
 {

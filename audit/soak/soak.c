@@ -192,7 +192,7 @@ static void stops(int i)
     zg_track_info info = info_of(i);
     if (of[i].left-- == 0)
         stop("a track doesn't stop, and is in the state", info.life);
-    if (info.life == ZG_STOPPED && info.drained) {
+    if (info.life == ZG_STOPPED && info.drained && info.settled == (of[i].commands & 0xffffff)) {
         of[i].at = RESTS;
         of[i].left = QUIET;
     }
@@ -224,7 +224,7 @@ static void is_flushed(int i)
     zg_track_info info = info_of(i);
     if (of[i].left-- == 0)
         stop("a track isn't flushed, and is in the state", info.life);
-    if (info.life == ZG_FLUSHED)
+    if (info.life == ZG_FLUSHED && info.settled == (of[i].commands & 0xffffff))
         begins(i);
 }
 
