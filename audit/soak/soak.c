@@ -4,7 +4,7 @@
  * goes a plain model: what was written and not flushed is to be heard. In the end the sum of all samples that were mixed is the sum of those, each
  * track has released and settled what the model says, no call but the open and the closes has asked malloc for anything, and memory is what it was at
  * the beginning. It is linked with --wrap for malloc, realloc and free. Over an archive that counts the words that it loads and stores
- * (audit/soak/steps makes one) no cycle takes more steps than it may.
+ * (audit/library/unproved makes one) no cycle takes more steps than it may.
  *
  *     soak [CYCLES [SEED]]     3,000,000 cycles and the seed 1, if not said otherwise
  */

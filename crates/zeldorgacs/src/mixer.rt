@@ -3,7 +3,7 @@
 use crate::answers::refused;
 use crate::handle::Handle;
 use crate::kept::Kept;
-use crate::opened::put;
+use crate::opened::{boxed, put};
 use af_ends::EndError;
 use af_engine::{EngineTrack, MakeError, MixerSpec};
 use af_mixer_ends::{FastEnd, NormalEnd, TrackEnd, open_mixer};
@@ -75,14 +75,6 @@ fn open_ends(
         Ok(ends) => Ok(ends),
         Err(MakeError::Spec { .. }) => Err(EndError::Argument),
         Err(MakeError::Memory) => Err(EndError::Memory),
-    }
-}
-
-// A box with an end.
-fn boxed(alloc: Global, kept: Kept) -> Result<Box<Kept, Global>, EndError> {
-    match Box::new(alloc, kept) {
-        Ok(kept) => Ok(kept),
-        Err(_) => Err(EndError::Memory),
     }
 }
 

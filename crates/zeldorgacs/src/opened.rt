@@ -39,15 +39,34 @@ pub fn close(kept: Box<Kept, Global>) {
     }
 }
 
+/// A box with an end. Memory is the only refusal.
+pub fn boxed(alloc: Global, kept: Kept) -> Result<Box<Kept, Global>, EndError> {
+    match Box::new(alloc, kept) {
+        Ok(kept) => Ok(kept),
+        Err(_) => Err(EndError::Memory),
+    }
+}
+
+// Two boxes with two ends. Memory is the only refusal.
+fn both_boxed(
+    alloc: Global,
+    first: Kept,
+    second: Kept,
+) -> Result<(Box<Kept, Global>, Box<Kept, Global>), EndError> {
+    let one = boxed(alloc, first)?;
+    let other = boxed(alloc, second)?;
+    Ok((one, other))
+}
+
 /// Has two handles lead to two new ends, and answers 0. If an allocation is refused, the handles stay as they are, and the answer is -2 (out of memory).
 pub fn put_both(alloc: Global, first: &mut Handle, second: &mut Handle, ends: (Kept, Kept)) -> i64 {
-    let Ok(one) = Box::new(alloc, ends.0) else {
-        return refused(EndError::Memory);
-    };
-    let Ok(other) = Box::new(alloc, ends.1) else {
-        return refused(EndError::Memory);
-    };
-    put(alloc, first, one);
-    put(alloc, second, other);
-    0
+    let (one, other) = ends;
+    match both_boxed(alloc, one, other) {
+        Ok((one, other)) => {
+            put(alloc, first, one);
+            put(alloc, second, other);
+            0
+        }
+        Err(error) => refused(error),
+    }
 }
