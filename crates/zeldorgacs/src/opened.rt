@@ -47,21 +47,12 @@ pub fn boxed(alloc: Global, kept: Kept) -> Result<Box<Kept, Global>, EndError> {
     }
 }
 
-// Two boxes with two ends. Memory is the only refusal.
-fn both_boxed(
-    alloc: Global,
-    first: Kept,
-    second: Kept,
-) -> Result<(Box<Kept, Global>, Box<Kept, Global>), EndError> {
-    let one = boxed(alloc, first)?;
-    let other = boxed(alloc, second)?;
-    Ok((one, other))
-}
+/// Two new ends, each in a box, or why there are none.
+pub type Ends = Result<(Box<Kept, Global>, Box<Kept, Global>), EndError>;
 
-/// Has two handles lead to two new ends, and answers 0. If an allocation is refused, the handles stay as they are, and the answer is -2 (out of memory).
-pub fn put_both(alloc: Global, first: &mut Handle, second: &mut Handle, ends: (Kept, Kept)) -> i64 {
-    let (one, other) = ends;
-    match both_boxed(alloc, one, other) {
+/// Has two handles lead to two new ends, and answers 0. If the ends were refused, the handles stay as they are, and the answer is the number of the refusal.
+pub fn put_both(alloc: Global, first: &mut Handle, second: &mut Handle, ends: Ends) -> i64 {
+    match ends {
         Ok((one, other)) => {
             put(alloc, first, one);
             put(alloc, second, other);
