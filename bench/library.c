@@ -2,7 +2,8 @@
    library library FRAMES ROUNDS   by the calls of the library for C
    library cells FRAMES ROUNDS     by a ring of one producer and one consumer in C, with acquire and release, frame by frame
    library runs FRAMES ROUNDS      by the same ring, which copies by memcpy in at most two runs
-   library jack FRAMES ROUNDS      by JACK's ring buffer, if compiled with -DWITH_JACK */
+   library jack FRAMES ROUNDS      by JACK's ring buffer, if compiled with -DWITH_JACK
+   library mixer FRAMES ROUNDS     seven fast tracks of 8,192 frames are filled, and mixed by so many cycles of the library's mixer */
 #include "zeldorgacs.h"
 #include <stdatomic.h>
 #include <stdio.h>
@@ -70,15 +71,43 @@ static uint32_t put_jack(uint32_t n) { return jack_ringbuffer_write(ring, (const
 static uint32_t get_jack(uint32_t n) { return jack_ringbuffer_read(ring, (char *)into, n * sizeof *into) / sizeof *into; }
 #endif
 
-/* The rounds, by two calls: whether each moved all frames. */
-static int turns(uint32_t (*write)(uint32_t), uint32_t (*read)(uint32_t), uint32_t n, uint32_t rounds) {
-    uint32_t check = 0;
+static void fill_frames(void) {
     for (uint32_t i = 0; i < MOST; i++) {
         uint32_t word = i * 0x01234567u;
         frames[i] = (Frame){ (int16_t)(word & 0xffff), (int16_t)(word >> 16) };
     }
+}
+
+/* The rounds, by two calls: whether each moved all frames. */
+static int turns(uint32_t (*write)(uint32_t), uint32_t (*read)(uint32_t), uint32_t n, uint32_t rounds) {
+    uint32_t check = 0;
     for (uint32_t round = 0; round < rounds; round++) {
         if (write(n) != n || read(n) != n) return 1;
+        check = check * 31 ^ ((uint16_t)into[n - 1].left | (uint32_t)(uint16_t)into[n - 1].right << 16);
+    }
+    printf("%u\n", check);
+    return 0;
+}
+
+/* Seven fast tracks at unity, full of the frames, and so many cycles of them. */
+static int cycles(uint32_t n, uint32_t rounds) {
+    enum { TRACKS = 7 };
+    static zg_normal normal;
+    static zg_fast fast;
+    static zg_track track[TRACKS];
+    const zg_mixer_spec mixer = { n, 4, 1 };
+    zg_track_spec specs[TRACKS];
+    uint32_t check = 0;
+    for (int i = 0; i < TRACKS; i++) specs[i] = (zg_track_spec){ 1, 0, ZG_UNITY, ZG_MOST_BUFFER };
+    if (zg_mixer_open(&mixer, specs, TRACKS, &normal, &fast, track)) return 1;
+    for (int i = 0; i < TRACKS; i++) {
+        if (zg_track_start(&track[i])) return 1;
+        for (uint32_t at = 0; at < ZG_MOST_BUFFER; at += MOST)
+            if (zg_track_write(&track[i], (const int16_t *)frames, MOST) != MOST) return 1;
+    }
+    if (zg_normal_turn(&normal) != ZG_TURNED) return 1;
+    for (uint32_t round = 0; round < rounds; round++) {
+        if (zg_fast_cycle(&fast, (int16_t *)into, n) != ZG_MIXED) return 1;
         check = check * 31 ^ ((uint16_t)into[n - 1].left | (uint32_t)(uint16_t)into[n - 1].right << 16);
     }
     printf("%u\n", check);
@@ -88,6 +117,8 @@ static int turns(uint32_t (*write)(uint32_t), uint32_t (*read)(uint32_t), uint32
 int main(int words, char **word) {
     uint32_t n = words == 4 ? strtoul(word[2], 0, 10) : 0, rounds = words == 4 ? strtoul(word[3], 0, 10) : 0;
     if (n < 1 || n > MOST) { fprintf(stderr, "library WHAT FRAMES ROUNDS\n"); return 2; }
+    fill_frames();
+    if (!strcmp(word[1], "mixer")) return cycles(n, rounds);
     if (zg_stream_open(ROOM, &client, &server)) return 1;
     if (!strcmp(word[1], "library")) return turns(put_library, get_library, n, rounds);
     if (!strcmp(word[1], "cells")) return turns(put_cells, get_cells, n, rounds);

@@ -1,5 +1,5 @@
 /*
- * zeldorgacs.h: streams, recordings and static buffers of 16-bit PCM between two threads. C11 and C++17, x86-64 Linux.
+ * zeldorgacs.h: a mixer of 16-bit PCM, and streams, recordings and static buffers between two threads. C11 and C++17, x86-64 Linux.
  *
  * WORDS. A frame is two samples of 16 bits, left and right; samples stand left, right, left, right. Counts are of frames, never of samples or
  * bytes. A gain is 4.12: 0x1000 is unity. What two threads share is a pair of ends; each end is used by one thread, and none waits for the other.
@@ -7,6 +7,8 @@
  *   stream         zg_client, zg_server       AudioTrackClientProxy and AudioTrackServerProxy over one audio_track_cblk_t
  *   recording      zg_capture, zg_listener    RecordThread and AudioRecord: what finds no room is lost and counted
  *   static buffer  zg_setter, zg_player       StaticAudioTrackClientProxy and StaticAudioTrackServerProxy: a fixed sound with loops
+ *   mixer          zg_track (1 to 32),        AudioTrack of each client, MixerThread and FastMixer: what the clients write on threads of their own
+ *                  zg_normal, zg_fast         comes out mixed, period by period
  *
  * HANDLES. Each end lies behind a handle of two words, which begins as ZG_INIT: closed. An open call opens two, a close call closes one; what the
  * two ends share is freed with the second of them, whichever that is. Closing twice is harmless. Each call on a closed handle, or on one that
@@ -26,9 +28,9 @@
  *   - a stack with 16 KB to spare.
  *
  * WHAT IS CLAIMED. The library is proved up to the C boundary: each function of the archive, for all arguments that keep what you owe, is safe
- * (it reads and writes only what it may), returns, and does what the contract of the method behind it says (crates/af_ends), over every
- * interleaving of the two ends' steps. What a contract says of a call is in that call's comment here. That a handle, with the end behind it, may
- * go from one thread to another is proved too (Rust's Send).
+ * (it reads and writes only what it may), returns, and does what the contract of the method behind it says (crates/af_ends and
+ * crates/af_mixer_ends), over every interleaving of the ends' steps. What a contract says of a call is in that call's comment here. That a
+ * handle, with the end behind it, may go from one thread to another is proved too (Rust's Send).
  * Not proved: the program that calls; this header (a prototype that differs from the archive voids all, and the inline functions below, which
  * look for null pointers, are C); malloc; the compilers, which made the archive from the proved code; that a thread runs, and any time.
  */
@@ -67,6 +69,15 @@ typedef struct zg_setter {
 typedef struct zg_player {
     zg_handle handle;
 } zg_player;
+typedef struct zg_track {
+    zg_handle handle;
+} zg_track;
+typedef struct zg_normal {
+    zg_handle handle;
+} zg_normal;
+typedef struct zg_fast {
+    zg_handle handle;
+} zg_fast;
 
 /* A closed handle, of any kind. */
 #define ZG_INIT {{0, 0}}
@@ -85,7 +96,72 @@ enum {
     ZG_E_HANDLE = -3,   /* the handle is null, closed, or of another kind */
     ZG_E_DEAD = -4,     /* INVALID was seen: AudioTrack's DEAD_OBJECT */
     ZG_E_CORRUPT = -5,  /* this end is shut for good */
-    ZG_E_LIMIT = -6     /* this end has counted as far as it can: 2^62 frames, 2^63 - 1 settings, or as many flushes as it can tell apart */
+    ZG_E_LIMIT = -6,    /* this end has counted as far as it can: 2^62 frames, 2^63 - 1 settings, as many flushes as it can tell apart; see the call */
+    ZG_E_FULL = -7      /* 64 commands of the track are on their way: the normal mixer's next turn takes them */
+};
+
+/* The most frames of a cycle, cycles of a normal buffer, and tracks of a mixer. */
+#define ZG_MOST_PERIOD 1024u
+#define ZG_MOST_NORMAL 16u
+#define ZG_MOST_TRACKS 32u
+
+/*
+ * What a mixer is: the frames of a cycle, 1 to ZG_MOST_PERIOD; the cycles of a normal buffer, 1 to ZG_MOST_NORMAL; and how many cycles the fast mixer's
+ * log has before it forgets them and begins again, 1 to 100000 with at most 2^21 frames together. Nothing here reads that log, so 1 will do; its
+ * memory, 128 bytes for each of its frames and some 1,400 for each of its cycles, is taken at the open.
+ */
+typedef struct zg_mixer_spec {
+    uint32_t frames;
+    uint32_t normal;
+    uint32_t log;
+} zg_mixer_spec;
+
+/*
+ * What a track is: whether it asks for a slot of the fast mixer (AUDIO_OUTPUT_FLAG_FAST); whether its frames have one channel, the left; a scale of its
+ * gains in 4.12, up to ZG_UNITY; and the frames of its buffer, 1 to ZG_MOST_BUFFER.
+ */
+typedef struct zg_track_spec {
+    uint8_t fast;
+    uint8_t mono;
+    uint16_t scale;
+    uint32_t frames;
+} zg_track_spec;
+
+/* What the normal mixer said of a track in its last turn, and what the client knows. */
+typedef struct zg_track_info {
+    uint32_t life;     /* one of those below */
+    uint32_t drained;  /* 1 once a stop let all that was written be consumed, until a start */
+    uint32_t settled;  /* how many commands were obeyed, modulo 2^24: the opening is the first */
+    uint32_t flags;    /* ZG_UNDERRUN, ZG_INVALID, ZG_DISABLED, as they were before this call, which clears ZG_DISABLED */
+    uint64_t released; /* the frames written so far (framesReleased) */
+} zg_track_info;
+
+/* The life of a track (AudioFlinger's track states). */
+enum {
+    ZG_ABSENT = 0, /* before the first turn */
+    ZG_IDLE_TRACK = 1,
+    ZG_ACTIVE = 2,
+    ZG_PAUSING = 3,
+    ZG_PAUSED = 4,
+    ZG_RESUMING = 5,
+    ZG_STOPPING_1 = 6,
+    ZG_STOPPING_2 = 7,
+    ZG_STOPPED = 8,
+    ZG_FLUSHED = 9,
+    ZG_SHUT = 15
+};
+
+/* What a turn and a cycle answer. */
+enum {
+    ZG_TURNED = 0, /* a turn that didn't mix: nothing plays through the normal mixer, or the pipe is full */
+    ZG_TURN_MIXED = 1,
+    ZG_TURN_ENDED = 2 /* all tracks were removed, and the fast mixer knows */
+};
+enum {
+    ZG_MIXED = 0, /* the samples are written */
+    ZG_IDLE = 1,  /* nothing plays: the samples stay */
+    ZG_COLD = 2,  /* the first idle cycle after some that mixed: the samples stay */
+    ZG_EXIT = 3   /* the mixer has ended: the samples stay */
 };
 
 /* The flags of a stream (CBLK_UNDERRUN, CBLK_INVALID, CBLK_DISABLED). */
@@ -124,6 +200,19 @@ int64_t zeldorgacs_listener_total(zg_handle *listener);
 int64_t zeldorgacs_static_open(const int16_t *samples, size_t count, zg_handle *setter, zg_handle *player);
 int64_t zeldorgacs_setter_set(zg_handle *setter, uint32_t start, uint32_t end, uint32_t count);
 int64_t zeldorgacs_player_play(zg_handle *player, uint16_t left, uint16_t right, int16_t *samples, size_t count, int64_t *number);
+int64_t zeldorgacs_mixer_open(const zg_mixer_spec *mixer, const zg_track_spec *specs, size_t count, zg_handle *turns, zg_handle *cycles, zg_handle *tracks, size_t handles);
+int64_t zeldorgacs_track_write(zg_handle *track, const int16_t *samples, size_t count);
+int64_t zeldorgacs_track_start(zg_handle *track);
+int64_t zeldorgacs_track_pause(zg_handle *track);
+int64_t zeldorgacs_track_stop(zg_handle *track);
+int64_t zeldorgacs_track_flush(zg_handle *track);
+int64_t zeldorgacs_track_remove(zg_handle *track);
+int64_t zeldorgacs_track_set_gains(zg_handle *track, uint16_t left, uint16_t right);
+int64_t zeldorgacs_track_status(zg_handle *track, zg_track_info *info);
+int64_t zeldorgacs_normal_turn(zg_handle *normal);
+int64_t zeldorgacs_normal_turns(zg_handle *normal);
+int64_t zeldorgacs_fast_cycle(zg_handle *fast, int16_t *samples, size_t count);
+int64_t zeldorgacs_fast_frames(zg_handle *fast);
 void zeldorgacs_close(zg_handle *handle);
 
 /* What stands for the samples if there are none, so that the archive is given no null pointer. */
@@ -520,6 +609,189 @@ static inline void zg_player_close(zg_player *player)
 {
     if (player)
         zeldorgacs_close(&player->handle);
+}
+
+/*
+ * MIXERS: what clients write on threads of their own comes out mixed. One thread makes the turns of the normal mixer, at least every `normal` periods;
+ * another one, the period's callback, makes a cycle of the fast mixer each period. No call of either waits for a client, nor for the other.
+ */
+
+/*
+ * Opens a mixer, with as many tracks as there are specs, 1 to ZG_MOST_TRACKS, each with a handle. All tracks are opened: they are idle from the first
+ * turn on. The first 31 that ask for a slot of the fast mixer get one, and all others go by way of the normal mixer. What the handles led to is
+ * closed, and no two of them are one. What all share is freed with the last of these handles that is closed, whichever that is.
+ * 0; ZG_E_ARGUMENT if a number is out of range, or mixer or specs is null, ZG_E_MEMORY, ZG_E_HANDLE if a handle is null: then nothing has changed.
+ */
+static inline int64_t zg_mixer_open(const zg_mixer_spec *mixer, const zg_track_spec *specs, size_t count, zg_normal *turns, zg_fast *cycles, zg_track *tracks)
+{
+    if (!turns || !cycles || !tracks)
+        return ZG_E_HANDLE;
+    if (!mixer || !specs || count > ZG_MOST_TRACKS)
+        return ZG_E_ARGUMENT;
+    return zeldorgacs_mixer_open(mixer, specs, count, &turns->handle, &cycles->handle, &tracks->handle, count);
+}
+
+/*
+ * Writes the first of these frames, as many as there is room for before the end of the buffer: how many. 0 if the buffer is full (WOULD_BLOCK), or
+ * frames is 0. After a short count a second call may find room again, at the start of the buffer. Of a mono track the left samples are heard, on both sides.
+ * ZG_E_DEAD, ZG_E_LIMIT, ZG_E_HANDLE; ZG_E_ARGUMENT if samples is null and frames isn't 0. ZG_E_CORRUPT never comes.
+ */
+static inline int64_t zg_track_write(zg_track *track, const int16_t *samples, size_t frames)
+{
+    if (!track)
+        return ZG_E_HANDLE;
+    if (!frames)
+        samples = zg_no_samples();
+    if (!samples)
+        return ZG_E_ARGUMENT;
+    return zeldorgacs_track_write(&track->handle, samples, zg_samples_of(frames));
+}
+
+/*
+ * The track plays from the next turn on. After a flush it plays once that was seen.
+ * 0; ZG_E_FULL, ZG_E_DEAD, ZG_E_LIMIT, ZG_E_HANDLE.
+ */
+static inline int64_t zg_track_start(zg_track *track)
+{
+    if (!track)
+        return ZG_E_HANDLE;
+    return zeldorgacs_track_start(&track->handle);
+}
+
+/*
+ * The track pauses: what was written stays, and a start goes on from there.
+ * 0; ZG_E_FULL, ZG_E_DEAD, ZG_E_LIMIT, ZG_E_HANDLE.
+ */
+static inline int64_t zg_track_pause(zg_track *track)
+{
+    if (!track)
+        return ZG_E_HANDLE;
+    return zeldorgacs_track_pause(&track->handle);
+}
+
+/*
+ * The track stops once all that was written is consumed: its info says drained then. One that was disabled for want of frames stops at once and isn't
+ * drained, so start it just before, if all is to be heard. ZG_E_LIMIT also if 2^32 frames or more were written.
+ * 0; ZG_E_FULL, ZG_E_DEAD, ZG_E_LIMIT, ZG_E_HANDLE.
+ */
+static inline int64_t zg_track_stop(zg_track *track)
+{
+    if (!track)
+        return ZG_E_HANDLE;
+    return zeldorgacs_track_stop(&track->handle);
+}
+
+/*
+ * What was written and not played yet is discarded. If it answers ZG_E_FULL it is discarded none the less, and the call may be made again.
+ * 0; ZG_E_FULL, ZG_E_DEAD, ZG_E_LIMIT, ZG_E_HANDLE.
+ */
+static inline int64_t zg_track_flush(zg_track *track)
+{
+    if (!track)
+        return ZG_E_HANDLE;
+    return zeldorgacs_track_flush(&track->handle);
+}
+
+/*
+ * The track ends, and never plays again. Its handle is still to be closed.
+ * 0; ZG_E_FULL, ZG_E_DEAD, ZG_E_LIMIT, ZG_E_HANDLE.
+ */
+static inline int64_t zg_track_remove(zg_track *track)
+{
+    if (!track)
+        return ZG_E_HANDLE;
+    return zeldorgacs_track_remove(&track->handle);
+}
+
+/*
+ * Sets the gains of the two sides, each in 4.12, 0 to ZG_UNITY (setVolumeLR). The mixers apply them, each times the track's scale.
+ * 0; ZG_E_ARGUMENT if one is above unity, ZG_E_HANDLE.
+ */
+static inline int64_t zg_track_set_gains(zg_track *track, uint16_t left, uint16_t right)
+{
+    if (!track)
+        return ZG_E_HANDLE;
+    return zeldorgacs_track_set_gains(&track->handle, left, right);
+}
+
+/*
+ * Tells what is known of the track by the normal mixer's last turn, and clears ZG_DISABLED: a command is seen in it once `settled` counts that command.
+ * 0; ZG_E_ARGUMENT if info is null, ZG_E_HANDLE: then *info stays.
+ */
+static inline int64_t zg_track_status(zg_track *track, zg_track_info *info)
+{
+    if (!track)
+        return ZG_E_HANDLE;
+    if (!info)
+        return ZG_E_ARGUMENT;
+    return zeldorgacs_track_status(&track->handle, info);
+}
+
+/* Closes the handle, if it is open. It doesn't remove the track. */
+static inline void zg_track_close(zg_track *track)
+{
+    if (track)
+        zeldorgacs_close(&track->handle);
+}
+
+/*
+ * One turn of the normal mixer, to be made every `normal` periods, or more often, as one that comes early doesn't mix: it obeys the clients' commands,
+ * mixes the tracks that have no slot of the fast mixer, and tells the fast mixer what to play.
+ * ZG_TURNED, ZG_TURN_MIXED, ZG_TURN_ENDED; ZG_E_LIMIT after 2^55 turns, ZG_E_HANDLE.
+ */
+static inline int64_t zg_normal_turn(zg_normal *normal)
+{
+    if (!normal)
+        return ZG_E_HANDLE;
+    return zeldorgacs_normal_turn(&normal->handle);
+}
+
+/*
+ * How many turns it has made; or ZG_E_HANDLE.
+ */
+static inline int64_t zg_normal_turns(zg_normal *normal)
+{
+    if (!normal)
+        return ZG_E_HANDLE;
+    return zeldorgacs_normal_turns(&normal->handle);
+}
+
+/* Closes the handle, if it is open. */
+static inline void zg_normal_close(zg_normal *normal)
+{
+    if (normal)
+        zeldorgacs_close(&normal->handle);
+}
+
+/*
+ * One cycle of the fast mixer, to be made once a period: it writes the period's frames, or leaves them as they are. ZG_MIXED, ZG_IDLE, ZG_COLD, ZG_EXIT;
+ * ZG_E_ARGUMENT if samples is null or frames isn't the mixer's, ZG_E_HANDLE, and ZG_E_LIMIT once a whole log more could go beyond 2^32 - 1 cycles: that
+ * are 66 days of periods of 64 frames at 48 kHz.
+ */
+static inline int64_t zg_fast_cycle(zg_fast *fast, int16_t *samples, size_t frames)
+{
+    if (!fast)
+        return ZG_E_HANDLE;
+    if (!samples || frames > ZG_MOST_PERIOD)
+        return ZG_E_ARGUMENT;
+    return zeldorgacs_fast_cycle(&fast->handle, samples, 2 * frames);
+}
+
+/*
+ * The frames of a cycle; or ZG_E_HANDLE.
+ */
+static inline int64_t zg_fast_frames(zg_fast *fast)
+{
+    if (!fast)
+        return ZG_E_HANDLE;
+    return zeldorgacs_fast_frames(&fast->handle);
+}
+
+/* Closes the handle, if it is open. */
+static inline void zg_fast_close(zg_fast *fast)
+{
+    if (fast)
+        zeldorgacs_close(&fast->handle);
 }
 
 #ifdef __cplusplus

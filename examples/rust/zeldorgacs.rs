@@ -1,4 +1,4 @@
-//! The library for C from Rust: the ends of streams, recordings and static buffers as owned types, over `include/zeldorgacs.h`, whose words these are.
+//! The library for C from Rust: the ends of mixers, streams, recordings and static buffers as owned types, over `include/zeldorgacs.h`, whose words these are.
 //! Plain `rustc`, edition 2021, no crate: `mod zeldorgacs;`, and `-L native=FOLDER/lib -l static=zeldorgacs` for FOLDER of `./build library`.
 //!
 //! A frame is two samples, left and right. An end is open from its making to its drop, so no call here answers that a handle is closed. Each end may
@@ -8,8 +8,10 @@
 //! in a signal handler, nor in the child of a fork of a process with threads; a stack with 16 KB to spare. An end that is forgotten is never freed.
 #![allow(dead_code)] // a program needn't make each call
 
+use std::cell::UnsafeCell;
 use std::ffi::c_void;
 use std::fmt;
+use std::sync::Arc;
 
 /// A frame: left and right.
 pub type Frame = [i16; 2];
@@ -45,6 +47,8 @@ pub enum Error {
     Corrupt,
     /// This end has counted as far as it can.
     Limit,
+    /// 64 commands of the track are on their way: the normal mixer's next turn takes them.
+    Full,
 }
 
 impl fmt::Display for Error {
@@ -56,6 +60,7 @@ impl fmt::Display for Error {
             Error::Dead => "the stream is dead",
             Error::Corrupt => "this end is shut for good",
             Error::Limit => "this end has counted as far as it can",
+            Error::Full => "64 commands are on their way",
         })
     }
 }
@@ -71,6 +76,7 @@ fn answered(answer: i64) -> Result<u64, Error> {
         -4 => Err(Error::Dead),
         -5 => Err(Error::Corrupt),
         -6 => Err(Error::Limit),
+        -7 => Err(Error::Full),
         _ => Ok(u64::try_from(answer).expect("an answer that the header has")),
     }
 }
@@ -134,6 +140,27 @@ extern "C" {
         count: usize,
         number: *mut i64,
     ) -> i64;
+    fn zeldorgacs_mixer_open(
+        mixer: *const Mixer,
+        specs: *const TrackSpec,
+        count: usize,
+        turns: *mut Handle,
+        cycles: *mut Handle,
+        tracks: *mut Handle,
+        handles: usize,
+    ) -> i64;
+    fn zeldorgacs_track_write(track: *mut Handle, samples: *const i16, count: usize) -> i64;
+    fn zeldorgacs_track_start(track: *mut Handle) -> i64;
+    fn zeldorgacs_track_pause(track: *mut Handle) -> i64;
+    fn zeldorgacs_track_stop(track: *mut Handle) -> i64;
+    fn zeldorgacs_track_flush(track: *mut Handle) -> i64;
+    fn zeldorgacs_track_remove(track: *mut Handle) -> i64;
+    fn zeldorgacs_track_set_gains(track: *mut Handle, left: u16, right: u16) -> i64;
+    fn zeldorgacs_track_status(track: *mut Handle, info: *mut TrackInfo) -> i64;
+    fn zeldorgacs_normal_turn(normal: *mut Handle) -> i64;
+    fn zeldorgacs_normal_turns(normal: *mut Handle) -> i64;
+    fn zeldorgacs_fast_cycle(fast: *mut Handle, samples: *mut i16, count: usize) -> i64;
+    fn zeldorgacs_fast_frames(fast: *mut Handle) -> i64;
     fn zeldorgacs_close(handle: *mut Handle);
 }
 
@@ -434,5 +461,245 @@ impl Player {
             frames: answered(answer)? as usize,
             setting: answered(number)?,
         })
+    }
+}
+
+/// The most tracks of a mixer.
+pub const MOST_TRACKS: usize = 32;
+
+/// What a mixer is: zg_mixer_spec.
+#[repr(C)]
+#[derive(Clone, Copy, Debug, PartialEq, Eq)]
+pub struct Mixer {
+    /// The frames of a cycle, 1 to 1024.
+    pub frames: u32,
+    /// The cycles of a normal buffer, 1 to 16.
+    pub normal: u32,
+    /// How many cycles the fast mixer's log has before it forgets them: 1 will do, as nothing reads them.
+    pub log: u32,
+}
+
+/// What a track is: zg_track_spec.
+#[repr(C)]
+#[derive(Clone, Copy, Debug, PartialEq, Eq)]
+pub struct TrackSpec {
+    /// Whether it asks for a slot of the fast mixer.
+    pub fast: bool,
+    /// Whether its frames have one channel, the left.
+    pub mono: bool,
+    /// A scale of its gains in 4.12, up to `UNITY`.
+    pub scale: u16,
+    /// The frames of its buffer, 1 to `MOST_BUFFER`.
+    pub frames: u32,
+}
+
+/// What is known of a track: zg_track_info.
+#[repr(C)]
+#[derive(Clone, Copy, Debug, Default, PartialEq, Eq)]
+pub struct TrackInfo {
+    /// The number of its life, as the header has them: `ACTIVE`, `PAUSED`, `STOPPED`, `FLUSHED` and others.
+    pub life: u32,
+    /// 1 once a stop let all that was written be consumed, until a start.
+    pub drained: u32,
+    /// How many commands were obeyed, modulo 2^24: the opening is the first.
+    pub settled: u32,
+    /// The flags of the stream before the call, which clears `DISABLED`.
+    pub flags: u32,
+    /// The frames written so far.
+    pub released: u64,
+}
+
+/// A life: the track plays.
+pub const ACTIVE: u32 = 2;
+/// A life: the track is paused.
+pub const PAUSED: u32 = 4;
+/// A life: the track has stopped.
+pub const STOPPED: u32 = 8;
+/// A life: the track is flushed.
+pub const FLUSHED: u32 = 9;
+
+/// What a turn of the normal mixer was.
+#[derive(Clone, Copy, Debug, PartialEq, Eq)]
+pub enum Turn {
+    /// It didn't mix: nothing plays through it, or the pipe is full.
+    Turned,
+    /// It mixed a buffer.
+    Mixed,
+    /// All tracks were removed, and the fast mixer knows.
+    Ended,
+}
+
+/// What a cycle of the fast mixer was. Only Mixed writes the frames.
+#[derive(Clone, Copy, Debug, PartialEq, Eq)]
+pub enum Cycle {
+    Mixed,
+    /// Nothing plays.
+    Idle,
+    /// The first idle cycle after some that mixed.
+    Cold,
+    /// The mixer has ended.
+    Exit,
+}
+
+// The handles of a mixer's tracks, which lie side by side. Each is used by its track alone.
+struct Handles(Box<[UnsafeCell<Handle>]>);
+
+// SAFETY: as for an `End`; and each place is used by one `Track` alone, which takes it by `&mut`.
+unsafe impl Send for Handles {}
+unsafe impl Sync for Handles {}
+
+/// A track of a mixer: AudioTrack. Its drop closes it, and doesn't remove the track.
+pub struct Track {
+    handles: Arc<Handles>,
+    number: usize,
+}
+
+/// The normal mixer, one turn every `normal` periods: MixerThread.
+pub struct Normal(End);
+
+/// The fast mixer, one cycle a period: FastMixer.
+pub struct Fast(End);
+
+/// Opens a mixer with tracks of these specs, 1 to `MOST_TRACKS`, all of which are opened. Argument, Memory.
+pub fn open_mixer(mixer: Mixer, specs: &[TrackSpec]) -> Result<(Normal, Fast, Vec<Track>), Error> {
+    if specs.len() > MOST_TRACKS {
+        return Err(Error::Argument);
+    }
+    let closed = || {
+        UnsafeCell::new(Handle {
+            tag: 0,
+            at: std::ptr::null_mut(),
+        })
+    };
+    let handles = Arc::new(Handles(specs.iter().map(|_| closed()).collect()));
+    let tracks = (0..specs.len()).map(|number| Track {
+        handles: handles.clone(),
+        number,
+    });
+    let (tracks, mut normal, mut fast) = (tracks.collect(), End::closed(), End::closed());
+    // SAFETY: the specs are readable for the call, the handles are our own and no two of them one, and nobody else has the tracks' yet. An UnsafeCell
+    // of a handle is laid out as the handle.
+    answered(unsafe {
+        zeldorgacs_mixer_open(
+            &mixer,
+            specs.as_ptr(),
+            specs.len(),
+            normal.at(),
+            fast.at(),
+            handles.0.as_ptr().cast_mut().cast(),
+            specs.len(),
+        )
+    })?;
+    Ok((Normal(normal), Fast(fast), tracks))
+}
+
+impl Track {
+    fn at(&mut self) -> *mut Handle {
+        self.handles.0[self.number].get()
+    }
+
+    /// Writes the first of these frames, as many as there is room for before the end of the buffer: how many. Dead, Limit.
+    pub fn write(&mut self, frames: &[Frame]) -> Result<usize, Error> {
+        // SAFETY: the frames are readable for the call, and no pointer of a slice is null.
+        let count = answered(unsafe {
+            zeldorgacs_track_write(self.at(), frames.as_ptr().cast(), samples_of(frames))
+        })?;
+        Ok(count as usize)
+    }
+
+    /// Plays from the next turn on. Full, Dead, Limit, as each command below.
+    pub fn start(&mut self) -> Result<(), Error> {
+        // SAFETY: the handle is ours, as in each call below.
+        answered(unsafe { zeldorgacs_track_start(self.at()) })?;
+        Ok(())
+    }
+
+    /// Pauses: what was written stays, and a start goes on from there.
+    pub fn pause(&mut self) -> Result<(), Error> {
+        answered(unsafe { zeldorgacs_track_pause(self.at()) })?;
+        Ok(())
+    }
+
+    /// Stops once all that was written is consumed. Limit also if 2^32 frames or more were written.
+    pub fn stop(&mut self) -> Result<(), Error> {
+        answered(unsafe { zeldorgacs_track_stop(self.at()) })?;
+        Ok(())
+    }
+
+    /// Discards what was written and not played yet, also if the answer is Full.
+    pub fn flush(&mut self) -> Result<(), Error> {
+        answered(unsafe { zeldorgacs_track_flush(self.at()) })?;
+        Ok(())
+    }
+
+    /// Ends the track for good.
+    pub fn remove(&mut self) -> Result<(), Error> {
+        answered(unsafe { zeldorgacs_track_remove(self.at()) })?;
+        Ok(())
+    }
+
+    /// Sets the gains of the two sides, each in 4.12, 0 to `UNITY`. Argument.
+    pub fn set_gains(&mut self, left: u16, right: u16) -> Result<(), Error> {
+        answered(unsafe { zeldorgacs_track_set_gains(self.at(), left, right) })?;
+        Ok(())
+    }
+
+    /// What is known of the track. It clears `DISABLED`.
+    pub fn status(&mut self) -> Result<TrackInfo, Error> {
+        let mut info = TrackInfo::default();
+        // SAFETY: the handle is ours, and so is the place of what is told.
+        answered(unsafe { zeldorgacs_track_status(self.at(), &mut info) })?;
+        Ok(info)
+    }
+}
+
+impl Drop for Track {
+    fn drop(&mut self) {
+        // SAFETY: two words that only the library has written, or that are closed; the library frees what they lead to once.
+        unsafe { zeldorgacs_close(self.at()) }
+    }
+}
+
+impl Normal {
+    /// One turn. Limit after 2^55 of them.
+    pub fn turn(&mut self) -> Result<Turn, Error> {
+        // SAFETY: the handle is ours, as in the call below.
+        Ok(
+            match answered(unsafe { zeldorgacs_normal_turn(self.0.at()) })? {
+                0 => Turn::Turned,
+                1 => Turn::Mixed,
+                _ => Turn::Ended,
+            },
+        )
+    }
+
+    /// How many turns it has made.
+    pub fn turns(&mut self) -> Result<u64, Error> {
+        answered(unsafe { zeldorgacs_normal_turns(self.0.at()) })
+    }
+}
+
+impl Fast {
+    /// One cycle: Mixed if it wrote the frames. Argument if there are not as many as a cycle has, Limit after 2^32 - 1 cycles.
+    pub fn cycle(&mut self, frames: &mut [Frame]) -> Result<Cycle, Error> {
+        if frames.len() > MOST_FRAMES {
+            return Err(Error::Argument);
+        }
+        // SAFETY: the frames are writable for the call, and no pointer of a slice is null.
+        let answer = unsafe {
+            zeldorgacs_fast_cycle(self.0.at(), frames.as_mut_ptr().cast(), 2 * frames.len())
+        };
+        Ok(match answered(answer)? {
+            0 => Cycle::Mixed,
+            1 => Cycle::Idle,
+            2 => Cycle::Cold,
+            _ => Cycle::Exit,
+        })
+    }
+
+    /// The frames of a cycle.
+    pub fn frames(&mut self) -> Result<usize, Error> {
+        // SAFETY: the handle is ours.
+        Ok(answered(unsafe { zeldorgacs_fast_frames(self.0.at()) })? as usize)
     }
 }

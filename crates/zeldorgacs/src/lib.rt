@@ -1,4 +1,4 @@
-//! The ends of streams, recordings and static buffers, for C: thin exports over the ends of af_ends. Each export answers, whatever its handle is.
+//! The ends of streams, recordings, static buffers and mixers, for C: thin exports over the ends of af_ends and of af_mixer_ends. Each export answers, whatever its handle is.
 #![tactic(auto)]
 
 mod answers;
@@ -9,9 +9,12 @@ mod handle;
 mod kept;
 mod listener;
 mod loose;
+mod mixer;
+mod mixers;
 mod opened;
 mod opening;
 mod player;
 mod samples;
 mod server;
 mod setter;
+mod track;

@@ -33,18 +33,31 @@ pub fn close(kept: Box<Kept, Global>) {
         Kept::Listener(end) => drop(end.close()),
         Kept::Setter(end) => end.close(),
         Kept::Player(end) => drop(end.close()),
+        Kept::Track(end) => drop(end),
+        Kept::Normal(end) => drop(end),
+        Kept::Fast(end) => drop(end),
     }
 }
 
-/// Has two handles lead to two new ends, and answers 0. If an allocation is refused, the handles stay as they are, and the answer is -2 (out of memory).
-pub fn put_both(alloc: Global, first: &mut Handle, second: &mut Handle, ends: (Kept, Kept)) -> i64 {
-    let Ok(one) = Box::new(alloc, ends.0) else {
-        return refused(EndError::Memory);
-    };
-    let Ok(other) = Box::new(alloc, ends.1) else {
-        return refused(EndError::Memory);
-    };
-    put(alloc, first, one);
-    put(alloc, second, other);
-    0
+/// A box with an end. Memory is the only refusal.
+pub fn boxed(alloc: Global, kept: Kept) -> Result<Box<Kept, Global>, EndError> {
+    match Box::new(alloc, kept) {
+        Ok(kept) => Ok(kept),
+        Err(_) => Err(EndError::Memory),
+    }
+}
+
+/// Two new ends, each in a box, or why there are none.
+pub type Ends = Result<(Box<Kept, Global>, Box<Kept, Global>), EndError>;
+
+/// Has two handles lead to two new ends, and answers 0. If the ends were refused, the handles stay as they are, and the answer is the number of the refusal.
+pub fn put_both(alloc: Global, first: &mut Handle, second: &mut Handle, ends: Ends) -> i64 {
+    match ends {
+        Ok((one, other)) => {
+            put(alloc, first, one);
+            put(alloc, second, other);
+            0
+        }
+        Err(error) => refused(error),
+    }
 }

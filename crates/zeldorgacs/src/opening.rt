@@ -1,12 +1,19 @@
 //! How two ends are opened.
 
-use crate::answers::refused;
 use crate::handle::Handle;
 use crate::kept::Kept;
-use crate::opened::put_both;
+use crate::opened::{Ends, boxed, put_both};
 use crate::samples::all_frames_of;
 use af_ends::{EndError, MOST_FRAMES, open_record, open_static, open_stream};
 use std::alloc::Global;
+
+// The two ends of a stream.
+fn stream_ends(alloc: Global, frames: u32) -> Ends {
+    let (first, second) = open_stream(alloc, frames)?;
+    let client = boxed(alloc, Kept::Client(first))?;
+    let server = boxed(alloc, Kept::Server(second))?;
+    Ok((client, server))
+}
 
 /// Opens a stream of so many frames, from 1 to 8192. What the handles led to is closed.
 ///
@@ -18,13 +25,15 @@ pub extern "C" fn zeldorgacs_stream_open(
     client: &mut Handle,
     server: &mut Handle,
 ) -> i64 {
-    match open_stream(alloc, frames) {
-        Ok((first, second)) => {
-            let ends = (Kept::Client(first), Kept::Server(second));
-            put_both(alloc, client, server, ends)
-        }
-        Err(error) => refused(error),
-    }
+    put_both(alloc, client, server, stream_ends(alloc, frames))
+}
+
+// The two ends of a recording.
+fn record_ends(alloc: Global, frames: u32) -> Ends {
+    let (first, second) = open_record(alloc, frames)?;
+    let capture = boxed(alloc, Kept::Capture(first))?;
+    let listener = boxed(alloc, Kept::Listener(second))?;
+    Ok((capture, listener))
 }
 
 /// Opens a recording of so many frames, from 1 to 8192. What the handles led to is closed.
@@ -37,23 +46,19 @@ pub extern "C" fn zeldorgacs_record_open(
     capture: &mut Handle,
     listener: &mut Handle,
 ) -> i64 {
-    match open_record(alloc, frames) {
-        Ok((first, second)) => {
-            let ends = (Kept::Capture(first), Kept::Listener(second));
-            put_both(alloc, capture, listener, ends)
-        }
-        Err(error) => refused(error),
-    }
+    put_both(alloc, capture, listener, record_ends(alloc, frames))
 }
 
 // The two ends of a static buffer with these samples.
-fn static_ends(alloc: Global, samples: &[i16]) -> Result<(Kept, Kept), EndError> {
+fn static_ends(alloc: Global, samples: &[i16]) -> Ends {
     if samples.len() / 2 > MOST_FRAMES as usize {
         return Err(EndError::Argument);
     }
     let frames = all_frames_of(alloc, samples)?;
     let (first, second) = open_static(alloc, &frames)?;
-    Ok((Kept::Setter(first), Kept::Player(second)))
+    let setter = boxed(alloc, Kept::Setter(first))?;
+    let player = boxed(alloc, Kept::Player(second))?;
+    Ok((setter, player))
 }
 
 /// Opens a static buffer with a copy of these samples (left and right in turn), from 1 to 8192 frames. What the handles led to is closed.
@@ -66,8 +71,5 @@ pub extern "C" fn zeldorgacs_static_open(
     setter: &mut Handle,
     player: &mut Handle,
 ) -> i64 {
-    match static_ends(alloc, samples) {
-        Ok(ends) => put_both(alloc, setter, player, ends),
-        Err(error) => refused(error),
-    }
+    put_both(alloc, setter, player, static_ends(alloc, samples))
 }
