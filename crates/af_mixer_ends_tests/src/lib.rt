@@ -1,4 +1,4 @@
-//! Tests of the ends of a whole mixer: a period from a client to the sound, a log that is forgotten, each refusal, a life from its opening to its end, a mixer that runs for long, and all parties on threads of their own.
+//! Tests of the ends of a whole mixer: a period from a client to the sound, a log that is forgotten, each refusal, a life from its opening to its end, and all parties on threads of their own.
 #![tactic(auto)]
 
 #[cfg(test)]
@@ -7,7 +7,5 @@ mod life_tests;
 mod period_tests;
 #[cfg(test)]
 mod refusal_tests;
-#[cfg(test)]
-mod soak_tests;
 #[cfg(test)]
 mod thread_tests;
