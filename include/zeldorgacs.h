@@ -171,9 +171,9 @@ enum {
     ZG_DISABLED = 0x08  /* the server has disabled the stream: the client is to start it again */
 };
 
-/* The functions of the archive, which take no null pointer. Call them by way of those below, which look for that. */
+/* The functions of the archive, which take no null pointer, and frames as pairs of samples. Call them by way of those below, which look for null. */
 int64_t zeldorgacs_stream_open(uint32_t frames, zg_handle *client, zg_handle *server);
-int64_t zeldorgacs_client_write(zg_handle *client, const int16_t *samples, size_t count);
+int64_t zeldorgacs_client_write(zg_handle *client, const int16_t *samples, size_t frames);
 int64_t zeldorgacs_client_flush(zg_handle *client);
 int64_t zeldorgacs_client_set_gains(zg_handle *client, uint16_t left, uint16_t right);
 int64_t zeldorgacs_client_status(zg_handle *client);
@@ -181,7 +181,7 @@ int64_t zeldorgacs_client_clear_disabled(zg_handle *client);
 int64_t zeldorgacs_client_released(zg_handle *client);
 int64_t zeldorgacs_client_flushes(zg_handle *client);
 int64_t zeldorgacs_client_frames(zg_handle *client);
-int64_t zeldorgacs_server_read(zg_handle *server, int16_t *samples, size_t count, int64_t *flushed);
+int64_t zeldorgacs_server_read(zg_handle *server, int16_t *samples, size_t frames, int64_t *flushed);
 int64_t zeldorgacs_server_available(zg_handle *server, int64_t *flushed);
 int64_t zeldorgacs_server_gains(zg_handle *server);
 int64_t zeldorgacs_server_tally(zg_handle *server, uint32_t missing);
@@ -192,16 +192,16 @@ int64_t zeldorgacs_server_consumed(zg_handle *server);
 int64_t zeldorgacs_server_flush_seen(zg_handle *server);
 int64_t zeldorgacs_server_frames(zg_handle *server);
 int64_t zeldorgacs_record_open(uint32_t frames, zg_handle *capture, zg_handle *listener);
-int64_t zeldorgacs_capture_supply(zg_handle *capture, const int16_t *samples, size_t count);
+int64_t zeldorgacs_capture_supply(zg_handle *capture, const int16_t *samples, size_t frames);
 int64_t zeldorgacs_capture_supplied(zg_handle *capture);
 int64_t zeldorgacs_capture_overrun(zg_handle *capture);
-int64_t zeldorgacs_listener_read(zg_handle *listener, int16_t *samples, size_t count);
+int64_t zeldorgacs_listener_read(zg_handle *listener, int16_t *samples, size_t frames);
 int64_t zeldorgacs_listener_total(zg_handle *listener);
-int64_t zeldorgacs_static_open(const int16_t *samples, size_t count, zg_handle *setter, zg_handle *player);
+int64_t zeldorgacs_static_open(const int16_t *samples, size_t frames, zg_handle *setter, zg_handle *player);
 int64_t zeldorgacs_setter_set(zg_handle *setter, uint32_t start, uint32_t end, uint32_t count);
-int64_t zeldorgacs_player_play(zg_handle *player, uint16_t left, uint16_t right, int16_t *samples, size_t count, int64_t *number);
+int64_t zeldorgacs_player_play(zg_handle *player, uint16_t left, uint16_t right, int16_t *samples, size_t frames, int64_t *number);
 int64_t zeldorgacs_mixer_open(const zg_mixer_spec *mixer, const zg_track_spec *specs, size_t count, zg_handle *turns, zg_handle *cycles, zg_handle *tracks, size_t handles);
-int64_t zeldorgacs_track_write(zg_handle *track, const int16_t *samples, size_t count);
+int64_t zeldorgacs_track_write(zg_handle *track, const int16_t *samples, size_t frames);
 int64_t zeldorgacs_track_start(zg_handle *track);
 int64_t zeldorgacs_track_pause(zg_handle *track);
 int64_t zeldorgacs_track_stop(zg_handle *track);
@@ -211,7 +211,7 @@ int64_t zeldorgacs_track_set_gains(zg_handle *track, uint16_t left, uint16_t rig
 int64_t zeldorgacs_track_status(zg_handle *track, zg_track_info *info);
 int64_t zeldorgacs_normal_turn(zg_handle *normal);
 int64_t zeldorgacs_normal_turns(zg_handle *normal);
-int64_t zeldorgacs_fast_cycle(zg_handle *fast, int16_t *samples, size_t count);
+int64_t zeldorgacs_fast_cycle(zg_handle *fast, int16_t *samples, size_t frames);
 int64_t zeldorgacs_fast_frames(zg_handle *fast);
 void zeldorgacs_close(zg_handle *handle);
 
@@ -222,10 +222,10 @@ static inline int16_t *zg_no_samples(void)
     return none;
 }
 
-/* How many samples of so many frames one call is given. */
-static inline size_t zg_samples_of(size_t frames)
+/* How many of so many frames one call is given. */
+static inline size_t zg_first_of(size_t frames)
 {
-    return 2 * (frames < ZG_MOST_FRAMES ? frames : ZG_MOST_FRAMES);
+    return frames < ZG_MOST_FRAMES ? frames : ZG_MOST_FRAMES;
 }
 
 /*
@@ -256,7 +256,7 @@ static inline int64_t zg_client_write(zg_client *client, const int16_t *samples,
         samples = zg_no_samples();
     if (!samples)
         return ZG_E_ARGUMENT;
-    return zeldorgacs_client_write(&client->handle, samples, zg_samples_of(frames));
+    return zeldorgacs_client_write(&client->handle, samples, zg_first_of(frames));
 }
 
 /*
@@ -355,7 +355,7 @@ static inline int64_t zg_server_read(zg_server *server, int16_t *samples, size_t
         return ZG_E_ARGUMENT;
     if (!flushed)
         flushed = &nowhere;
-    return zeldorgacs_server_read(&server->handle, samples, zg_samples_of(frames), flushed);
+    return zeldorgacs_server_read(&server->handle, samples, zg_first_of(frames), flushed);
 }
 
 /*
@@ -485,7 +485,7 @@ static inline int64_t zg_capture_supply(zg_capture *capture, const int16_t *samp
         samples = zg_no_samples();
     if (!samples)
         return ZG_E_ARGUMENT;
-    return zeldorgacs_capture_supply(&capture->handle, samples, zg_samples_of(frames));
+    return zeldorgacs_capture_supply(&capture->handle, samples, zg_first_of(frames));
 }
 
 /*
@@ -527,7 +527,7 @@ static inline int64_t zg_listener_read(zg_listener *listener, int16_t *samples, 
         samples = zg_no_samples();
     if (!samples)
         return ZG_E_ARGUMENT;
-    return zeldorgacs_listener_read(&listener->handle, samples, zg_samples_of(frames));
+    return zeldorgacs_listener_read(&listener->handle, samples, zg_first_of(frames));
 }
 
 /*
@@ -561,7 +561,7 @@ static inline int64_t zg_static_open(const int16_t *samples, size_t frames, zg_s
         return ZG_E_HANDLE;
     if (!samples || frames > ZG_MOST_BUFFER)
         return ZG_E_ARGUMENT;
-    return zeldorgacs_static_open(samples, 2 * frames, &setter->handle, &player->handle);
+    return zeldorgacs_static_open(samples, frames, &setter->handle, &player->handle);
 }
 
 /*
@@ -601,7 +601,7 @@ static inline int64_t zg_player_play(zg_player *player, uint16_t left, uint16_t 
         return ZG_E_ARGUMENT;
     if (!number)
         number = &nowhere;
-    return zeldorgacs_player_play(&player->handle, left, right, samples, zg_samples_of(frames), number);
+    return zeldorgacs_player_play(&player->handle, left, right, samples, zg_first_of(frames), number);
 }
 
 /* Closes the handle, if it is open. */
@@ -644,7 +644,7 @@ static inline int64_t zg_track_write(zg_track *track, const int16_t *samples, si
         samples = zg_no_samples();
     if (!samples)
         return ZG_E_ARGUMENT;
-    return zeldorgacs_track_write(&track->handle, samples, zg_samples_of(frames));
+    return zeldorgacs_track_write(&track->handle, samples, zg_first_of(frames));
 }
 
 /*
@@ -774,7 +774,7 @@ static inline int64_t zg_fast_cycle(zg_fast *fast, int16_t *samples, size_t fram
         return ZG_E_HANDLE;
     if (!samples || frames > ZG_MOST_PERIOD)
         return ZG_E_ARGUMENT;
-    return zeldorgacs_fast_cycle(&fast->handle, samples, 2 * frames);
+    return zeldorgacs_fast_cycle(&fast->handle, samples, frames);
 }
 
 /*

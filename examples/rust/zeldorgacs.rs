@@ -81,9 +81,9 @@ fn answered(answer: i64) -> Result<u64, Error> {
     }
 }
 
-// How many samples of these frames one call is given.
-fn samples_of(frames: &[Frame]) -> usize {
-    2 * frames.len().min(MOST_FRAMES)
+// How many of these frames one call is given.
+fn first_of(frames: &[Frame]) -> usize {
+    frames.len().min(MOST_FRAMES)
 }
 
 // zg_handle: two words of the library's own.
@@ -93,10 +93,10 @@ struct Handle {
     at: *mut c_void,
 }
 
-// The functions of the archive, which take no null pointer.
+// The functions of the archive, which take no null pointer, and frames as pairs of samples.
 extern "C" {
     fn zeldorgacs_stream_open(frames: u32, client: *mut Handle, server: *mut Handle) -> i64;
-    fn zeldorgacs_client_write(client: *mut Handle, samples: *const i16, count: usize) -> i64;
+    fn zeldorgacs_client_write(client: *mut Handle, samples: *const i16, frames: usize) -> i64;
     fn zeldorgacs_client_flush(client: *mut Handle) -> i64;
     fn zeldorgacs_client_set_gains(client: *mut Handle, left: u16, right: u16) -> i64;
     fn zeldorgacs_client_status(client: *mut Handle) -> i64;
@@ -107,7 +107,7 @@ extern "C" {
     fn zeldorgacs_server_read(
         server: *mut Handle,
         samples: *mut i16,
-        count: usize,
+        frames: usize,
         flushed: *mut i64,
     ) -> i64;
     fn zeldorgacs_server_available(server: *mut Handle, flushed: *mut i64) -> i64;
@@ -120,14 +120,14 @@ extern "C" {
     fn zeldorgacs_server_flush_seen(server: *mut Handle) -> i64;
     fn zeldorgacs_server_frames(server: *mut Handle) -> i64;
     fn zeldorgacs_record_open(frames: u32, capture: *mut Handle, listener: *mut Handle) -> i64;
-    fn zeldorgacs_capture_supply(capture: *mut Handle, samples: *const i16, count: usize) -> i64;
+    fn zeldorgacs_capture_supply(capture: *mut Handle, samples: *const i16, frames: usize) -> i64;
     fn zeldorgacs_capture_supplied(capture: *mut Handle) -> i64;
     fn zeldorgacs_capture_overrun(capture: *mut Handle) -> i64;
-    fn zeldorgacs_listener_read(listener: *mut Handle, samples: *mut i16, count: usize) -> i64;
+    fn zeldorgacs_listener_read(listener: *mut Handle, samples: *mut i16, frames: usize) -> i64;
     fn zeldorgacs_listener_total(listener: *mut Handle) -> i64;
     fn zeldorgacs_static_open(
         samples: *const i16,
-        count: usize,
+        frames: usize,
         setter: *mut Handle,
         player: *mut Handle,
     ) -> i64;
@@ -137,7 +137,7 @@ extern "C" {
         left: u16,
         right: u16,
         samples: *mut i16,
-        count: usize,
+        frames: usize,
         number: *mut i64,
     ) -> i64;
     fn zeldorgacs_mixer_open(
@@ -149,7 +149,7 @@ extern "C" {
         tracks: *mut Handle,
         handles: usize,
     ) -> i64;
-    fn zeldorgacs_track_write(track: *mut Handle, samples: *const i16, count: usize) -> i64;
+    fn zeldorgacs_track_write(track: *mut Handle, samples: *const i16, frames: usize) -> i64;
     fn zeldorgacs_track_start(track: *mut Handle) -> i64;
     fn zeldorgacs_track_pause(track: *mut Handle) -> i64;
     fn zeldorgacs_track_stop(track: *mut Handle) -> i64;
@@ -159,7 +159,7 @@ extern "C" {
     fn zeldorgacs_track_status(track: *mut Handle, info: *mut TrackInfo) -> i64;
     fn zeldorgacs_normal_turn(normal: *mut Handle) -> i64;
     fn zeldorgacs_normal_turns(normal: *mut Handle) -> i64;
-    fn zeldorgacs_fast_cycle(fast: *mut Handle, samples: *mut i16, count: usize) -> i64;
+    fn zeldorgacs_fast_cycle(fast: *mut Handle, samples: *mut i16, frames: usize) -> i64;
     fn zeldorgacs_fast_frames(fast: *mut Handle) -> i64;
     fn zeldorgacs_close(handle: *mut Handle);
 }
@@ -232,7 +232,7 @@ impl Client {
     pub fn write(&mut self, frames: &[Frame]) -> Result<usize, Error> {
         // SAFETY: the frames are readable for the call, and no pointer of a slice is null.
         let count = answered(unsafe {
-            zeldorgacs_client_write(self.0.at(), frames.as_ptr().cast(), samples_of(frames))
+            zeldorgacs_client_write(self.0.at(), frames.as_ptr().cast(), first_of(frames))
         })?;
         Ok(count as usize)
     }
@@ -284,7 +284,7 @@ impl Server {
             zeldorgacs_server_read(
                 self.0.at(),
                 frames.as_mut_ptr().cast(),
-                samples_of(frames),
+                first_of(frames),
                 &mut flushed,
             )
         };
@@ -364,7 +364,7 @@ impl Capture {
     pub fn supply(&mut self, frames: &[Frame]) -> Result<usize, Error> {
         // SAFETY: the frames are readable for the call, and no pointer of a slice is null.
         let put = answered(unsafe {
-            zeldorgacs_capture_supply(self.0.at(), frames.as_ptr().cast(), samples_of(frames))
+            zeldorgacs_capture_supply(self.0.at(), frames.as_ptr().cast(), first_of(frames))
         })?;
         Ok(put as usize)
     }
@@ -386,7 +386,7 @@ impl Listener {
     pub fn read(&mut self, frames: &mut [Frame]) -> Result<usize, Error> {
         // SAFETY: the frames are writable for the call, and no pointer of a slice is null.
         let count = answered(unsafe {
-            zeldorgacs_listener_read(self.0.at(), frames.as_mut_ptr().cast(), samples_of(frames))
+            zeldorgacs_listener_read(self.0.at(), frames.as_mut_ptr().cast(), first_of(frames))
         })?;
         Ok(count as usize)
     }
@@ -423,7 +423,7 @@ pub fn open_static(frames: &[Frame]) -> Result<(Setter, Player), Error> {
     answered(unsafe {
         zeldorgacs_static_open(
             frames.as_ptr().cast(),
-            2 * frames.len(),
+            frames.len(),
             setter.at(),
             player.at(),
         )
@@ -453,7 +453,7 @@ impl Player {
                 left,
                 right,
                 frames.as_mut_ptr().cast(),
-                samples_of(frames),
+                first_of(frames),
                 &mut number,
             )
         };
@@ -602,7 +602,7 @@ impl Track {
     pub fn write(&mut self, frames: &[Frame]) -> Result<usize, Error> {
         // SAFETY: the frames are readable for the call, and no pointer of a slice is null.
         let count = answered(unsafe {
-            zeldorgacs_track_write(self.at(), frames.as_ptr().cast(), samples_of(frames))
+            zeldorgacs_track_write(self.at(), frames.as_ptr().cast(), first_of(frames))
         })?;
         Ok(count as usize)
     }
@@ -687,7 +687,7 @@ impl Fast {
         }
         // SAFETY: the frames are writable for the call, and no pointer of a slice is null.
         let answer = unsafe {
-            zeldorgacs_fast_cycle(self.0.at(), frames.as_mut_ptr().cast(), 2 * frames.len())
+            zeldorgacs_fast_cycle(self.0.at(), frames.as_mut_ptr().cast(), frames.len())
         };
         Ok(match answered(answer)? {
             0 => Cycle::Mixed,

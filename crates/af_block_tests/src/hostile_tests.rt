@@ -1,6 +1,6 @@
 //! A client and a server on two threads, on a stream block and a command block, that meet between their rounds. In each tenth run the client pokes.
 ghost use Rattle.std.specs.Prelude.{◌≡◌, ◌<◌, ◌≤◌, ◌^◌, IfOk};
-ghost use Rattle.af_model.specs.Merges.{IsStart};
+ghost use Rattle.af_merges.specs.Merges.{IsStart};
 ghost use Rattle.af_cblk.specs.Rule.{new_client, new_server};
 ghost use Rattle.af_cblk.specs.Sides.{client_made, server_made};
 ghost use Rattle.af_client.specs.Order.{IsClientOf};
@@ -12,7 +12,8 @@ use crate::sides::{Recorded, Side, meet};
 use af_base::{ClientEvent, Memory, ServerEvent, Steps};
 use af_cblk::{Block, ClientPass, ServerPass};
 use af_client::Client;
-use af_model::{TrackPoint, merge_check};
+use af_merges::merge_check;
+use af_model::TrackPoint;
 use af_server::Server;
 use std::alloc::Global;
 use std::marker::Brand;

@@ -1,6 +1,6 @@
 //! Small lists drawn at random: each answer is that of a search over all orders, one by one.
 ghost use Rattle.std.specs.Prelude.{◌<◌};
-ghost use Rattle.af_model.specs.Merges.{IsStart};
+ghost use Rattle.af_merges.specs.Merges.{IsStart};
 
 use crate::merge_plain::{Lists, some_order};
 use crate::merge_tests::decide;

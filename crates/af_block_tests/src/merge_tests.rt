@@ -1,10 +1,11 @@
 //! Cases of merges whose answers were worked out by hand.
 ghost use Rattle.std.specs.Prelude.{◌<◌, ◌≤◌, ◌^◌, IsTrue, length};
-ghost use Rattle.af_model.specs.Merges.{IsStart};
+ghost use Rattle.af_merges.specs.Merges.{IsStart};
 
 use crate::merge_plain::Lists;
 use af_base::{ClientEvent, HandEvent, Memory, ServerEvent};
-use af_model::{Merge, TrackPoint, merge_check};
+use af_merges::{Merge, merge_check};
+use af_model::TrackPoint;
 use std::alloc::Global;
 use std::test::Fail;
 

@@ -10,7 +10,7 @@ use Rattle.af_base.specs.declared.event.HandEvent.TheVariants as hand
 use Rattle.af_model.specs.declared.point.TrackPoint.{TrackPoint}
 use Rattle.af_model.specs.Point.{ClientMay, ServerMay, after_client, after_server, after_hand}
 use Rattle.af_model.specs.History.{Moment, by_client, by_server, by_hand, client_of, server_of, hand_of, after, met_in, clients_at, IsLegal}
-use Rattle.af_model.specs.Merges.{HasLegalOrder, Merged, with_pieces}
+use Rattle.af_merges.specs.Merges.{HasLegalOrder, Merged, with_pieces}
 use Rattle.af_judge.specs.Blocks.{Lists}
 use Rattle.af_judge.specs.Meetings.{AreMeetings, hand_of_own}
 

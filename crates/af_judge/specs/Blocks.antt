@@ -13,7 +13,7 @@ use Rattle.af_base.specs.declared.turn.CommandLook.{CommandLook}
 use Rattle.af_life.specs.Looks.{as_slot, command_events}
 use Rattle.af_life.specs.Obeys.{shows_command}
 use Rattle.af_model.specs.Cycles.{Listed, cycle_events, kept}
-use Rattle.af_model.specs.Merges.{HasLegalOrder}
+use Rattle.af_merges.specs.Merges.{HasLegalOrder}
 use Rattle.af_model.specs.History.{is_lawful}
 use Rattle.af_model.specs.Point.{start}
 use Rattle.af_model.specs.ServerCalls.{ServerKept, server_begins, server_keeps, server_kept, look_events}

@@ -9,7 +9,7 @@ use Rattle.af_base.specs.declared.seen.Seen.{Seen}
 use Rattle.af_base.specs.Sample.{packed_word}
 use Rattle.af_model.specs.declared.point.TrackPoint.{TrackPoint}
 use Rattle.af_model.specs.Cycles.{takes_shown}
-use Rattle.af_model.specs.Merges.{HasLegalOrder}
+use Rattle.af_merges.specs.Merges.{HasLegalOrder}
 use Rattle.af_model.specs.PipeHistory.{IsPutList, IsTakeList, releases_of}
 use Rattle.af_model.specs.Point.{wrapped}
 

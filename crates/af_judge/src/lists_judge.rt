@@ -1,11 +1,12 @@
 //! The lists of a block's parties, and whether they have a legal order.
 ghost use Rattle.std.specs.Prelude.{◌≡◌, ◌∷◌, [], ◌++◌, ◌↔◌, ◌≤◌, ◌^◌, length, IfOk, IsTrue, OnErr, OnOk};
-ghost use Rattle.af_model.specs.Merges.{HasLegalOrder};
+ghost use Rattle.af_merges.specs.Merges.{HasLegalOrder};
 ghost use Rattle.af_model.specs.Point.{start};
 
 use crate::look::start;
 use af_base::{ClientEvent, HandEvent, Memory, ServerEvent};
-use af_model::{Merge, Shape};
+use af_merges::Merge;
+use af_model::Shape;
 use std::alloc::Global;
 use std::marker::Model;
 

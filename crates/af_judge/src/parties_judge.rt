@@ -1,6 +1,6 @@
 //! The lists of a block's parties. A block without a hand is given one that only meets its client: it forbids nothing, and lets the search for an order forget what was before.
 ghost use Rattle.std.specs.Prelude.{◌≡◌, ◌∷◌, [], ◌++◌, ◌↔◌, length, IfOk, IsTrue, OnErr, OnOk};
-ghost use Rattle.af_model.specs.Merges.{HasLegalOrder};
+ghost use Rattle.af_merges.specs.Merges.{HasLegalOrder};
 ghost use Rattle.af_model.specs.Point.{start};
 
 use crate::lists_judge::ListsJudge;

@@ -1,13 +1,14 @@
 //! Whether what the two ends of the pipe did stands in some legal order, and whether the frames taken are those put.
 ghost use Rattle.std.specs.Prelude.{◌≡◌, ◌≢◌, ◌↔◌, ℕ, ◌+◌, ◌<◌, ◌≤◌, ◌^◌, ◌++◌, [], IsTrue, IfOk, OnOk, List, length, map, take};
 ghost use Rattle.af_base.specs.Sample.{packed_word};
-ghost use Rattle.af_model.specs.Merges.{HasLegalOrder};
+ghost use Rattle.af_merges.specs.Merges.{HasLegalOrder};
 ghost use Rattle.af_model.specs.PipeHistory.{releases_of};
 ghost use Rattle.af_model.specs.Point.{wrapped};
 ghost use Rattle.af_judge.specs.PipeKept.{HasPipeOrder, front_by_room, new_pipe, pipe_begins, saw_front, with_look, with_meeting, with_put};
 
 use af_base::{ClientEvent, Frame, HandEvent, Memory, Seen, ServerEvent};
-use af_model::{Merge, TrackPoint};
+use af_merges::Merge;
+use af_model::TrackPoint;
 use std::alloc::Global;
 use std::marker::Model;
 

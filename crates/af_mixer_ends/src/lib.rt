@@ -1,7 +1,6 @@
 //! The ends of a whole mixer that a program links: one for each track, the normal mixer's and the fast mixer's. Each owns its part and a share of what all work on, and each call is total: it tests at run time what the calls below it require, and refuses otherwise.
 #![tactic(auto)]
 
-mod client_calls;
 mod error;
 mod fast_end;
 mod normal_end;

@@ -6,14 +6,13 @@ ghost use Rattle.af_client.specs.Calls.{Releases};
 ghost use Rattle.af_ends.specs.Streams.{count_in, IsStreamClient, SetsGains, Writes};
 ghost use Rattle.af_mixer_ends.specs.Tracks.{FlushesTrack, IsCommandClient, IsTrackEnd, Sends, Stops, Tells, TellsWord, with_command, with_stream};
 
-use crate::client_calls::{
-    client_clear_disabled, client_flush, client_set_gains, client_status, client_write,
-};
 use crate::error::CommandError;
 use crate::sending::send;
 use af_base::Frame;
 use af_cblk::Block;
-use af_ends::EndError;
+use af_ends::{
+    EndError, client_clear_disabled, client_flush, client_set_gains, client_status, client_write,
+};
 use af_engine::{Shared, TrackEnds};
 use af_life::{FLUSH, PAUSE, REMOVE, START, STOP};
 use std::alloc::Global;

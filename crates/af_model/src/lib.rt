@@ -1,24 +1,18 @@
 //! The plain machines: what a block is after some events, and which orders of events are legal.
 #![tactic(auto)]
 
-mod events;
 mod journal;
-mod merging;
 mod mixing;
 mod newest;
 mod numbers;
-mod pieces;
 mod plain_calls;
 mod plain_places;
 mod plain_queue;
 mod point;
-mod search;
 mod shape;
 mod states;
-mod step;
 
 pub use journal::{Journal, Rounds};
-pub use merging::{Merge, merge_check};
 pub use mixing::{mix_entry, parts_of};
 pub use newest::{ReaderEvent, WriterEvent};
 pub use numbers::{know_calls, know_log, know_turn};

@@ -1,38 +1,27 @@
 //! The client of a stream.
 
 use crate::answers::{NO_HANDLE, counted, done, told};
+use crate::frames::first;
 use crate::handle::Handle;
 use crate::kept::Kept;
 use crate::opened::{put, taken};
-use crate::samples::{FEW_FRAMES, count_of, few_silent, fill, frames_of};
-use af_ends::{EndError, StreamClient};
+use af_base::Frame;
 use std::alloc::Global;
 
-// Writes the first frames of these samples, at most 1024, as many as there is room for.
-fn write(end: &mut StreamClient, samples: &[i16]) -> Result<u32, EndError> {
-    let count = count_of(samples);
-    if count > FEW_FRAMES {
-        return end.write(&frames_of(samples)[..count]);
-    }
-    let mut frames = few_silent();
-    fill(samples, &mut frames);
-    end.write(&frames[..count])
-}
-
-/// Writes the first frames of these samples (left and right in turn), at most 1024, as many as there is room for before the last cell.
+/// Writes the first of these frames, at most 1024, as many as there is room for before the last cell.
 ///
 /// Answers how many frames were written. -3 if the handle is closed or of another kind. -4 (dead) if INVALID is seen. -6 (limit) if there are frames to write, and 2^62 were released before. A refusal writes nothing.
 #[unsafe(no_mangle)]
 pub extern "C" fn zeldorgacs_client_write(
     alloc: Global,
     client: &mut Handle,
-    samples: &[i16],
+    frames: &[Frame],
 ) -> i64 {
     let Some(mut kept) = taken(alloc, client) else {
         return NO_HANDLE;
     };
     let answer = match &mut *kept {
-        Kept::Client(end) => told(write(end, samples)),
+        Kept::Client(end) => told(end.write(first(frames))),
         _ => NO_HANDLE,
     };
     put(alloc, client, kept);

@@ -4,10 +4,8 @@ use crate::answers::{NO_HANDLE, counted, refused};
 use crate::handle::Handle;
 use crate::kept::Kept;
 use crate::opened::{put, taken};
-use crate::samples::{MOST_FRAMES, put_frames, silence};
-use af_base::Cycle;
+use af_base::{Cycle, Frame};
 use af_ends::EndError;
-use af_mixer_ends::FastEnd;
 use af_normal::Turn;
 use std::alloc::Global;
 
@@ -61,34 +59,20 @@ fn cycle_number(cycle: Cycle) -> i64 {
     }
 }
 
-// One cycle into these samples, which stay if it didn't mix.
-fn cycle_into(end: &mut FastEnd, samples: &mut [i16]) -> Result<Cycle, EndError> {
-    let count = samples.len() / 2;
-    if count > MOST_FRAMES {
-        return Err(EndError::Argument);
-    }
-    let mut frames = silence();
-    let cycle = end.cycle(&mut frames[..count])?;
-    if cycle == Cycle::Mixed {
-        put_frames(&frames[..count], samples);
-    }
-    Ok(cycle)
-}
-
-/// One cycle of the fast mixer into these samples (left and right in turn), which have the frames of a cycle.
+/// One cycle of the fast mixer into these places, which are as many as a cycle has frames.
 ///
-/// Answers 0 if it mixed. Else the samples stay: 1 if it was idle, 2 if it was the cold one, 3 if the mixer has ended. -1 (argument) if there are not as many frames as a cycle has. -3 if the handle is closed or of another kind. -6 (limit) if a whole log more could go beyond 2^32 - 1 cycles. A refusal changes nothing.
+/// Answers 0 if it mixed. Else the places stay: 1 if it was idle, 2 if it was the cold one, 3 if the mixer has ended. -1 (argument) if there are not as many places as a cycle has frames. -3 if the handle is closed or of another kind. -6 (limit) if a whole log more could go beyond 2^32 - 1 cycles. A refusal changes nothing.
 #[unsafe(no_mangle)]
 pub extern "C" fn zeldorgacs_fast_cycle(
     alloc: Global,
     fast: &mut Handle,
-    samples: &mut [i16],
+    places: &mut [Frame],
 ) -> i64 {
     let Some(mut kept) = taken(alloc, fast) else {
         return NO_HANDLE;
     };
     let answer = match &mut *kept {
-        Kept::Fast(end) => match cycle_into(end, samples) {
+        Kept::Fast(end) => match end.cycle(places) {
             Ok(cycle) => cycle_number(cycle),
             Err(error) => refused(error),
         },

@@ -3,8 +3,8 @@
 use crate::handle::Handle;
 use crate::kept::Kept;
 use crate::opened::{Ends, boxed, put_both};
-use crate::samples::all_frames_of;
-use af_ends::{EndError, MOST_FRAMES, open_record, open_static, open_stream};
+use af_base::Frame;
+use af_ends::{open_record, open_static, open_stream};
 use std::alloc::Global;
 
 // The two ends of a stream.
@@ -49,27 +49,23 @@ pub extern "C" fn zeldorgacs_record_open(
     put_both(alloc, capture, listener, record_ends(alloc, frames))
 }
 
-// The two ends of a static buffer with these samples.
-fn static_ends(alloc: Global, samples: &[i16]) -> Ends {
-    if samples.len() / 2 > MOST_FRAMES as usize {
-        return Err(EndError::Argument);
-    }
-    let frames = all_frames_of(alloc, samples)?;
-    let (first, second) = open_static(alloc, &frames)?;
+// The two ends of a static buffer with these frames.
+fn static_ends(alloc: Global, frames: &[Frame]) -> Ends {
+    let (first, second) = open_static(alloc, frames)?;
     let setter = boxed(alloc, Kept::Setter(first))?;
     let player = boxed(alloc, Kept::Player(second))?;
     Ok((setter, player))
 }
 
-/// Opens a static buffer with a copy of these samples (left and right in turn), from 1 to 8192 frames. What the handles led to is closed.
+/// Opens a static buffer with a copy of these frames, from 1 to 8192. What the handles led to is closed.
 ///
 /// Answers 0. -1 (argument) if the number of frames is outside that range. -2 (memory) if an allocation was refused. A refusal changes nothing.
 #[unsafe(no_mangle)]
 pub extern "C" fn zeldorgacs_static_open(
     alloc: Global,
-    samples: &[i16],
+    frames: &[Frame],
     setter: &mut Handle,
     player: &mut Handle,
 ) -> i64 {
-    put_both(alloc, setter, player, static_ends(alloc, samples))
+    put_both(alloc, setter, player, static_ends(alloc, frames))
 }

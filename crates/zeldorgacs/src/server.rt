@@ -1,10 +1,10 @@
 //! The server of a stream.
 
 use crate::answers::{NO_HANDLE, counted, done, told};
+use crate::frames::first_places;
 use crate::handle::Handle;
 use crate::kept::Kept;
 use crate::opened::{put, taken};
-use crate::samples::{FEW_FRAMES, count_of, few_silent, put_frames, silence};
 use af_base::Frame;
 use af_ends::{EndError, Found, StreamServer};
 use std::alloc::Global;
@@ -17,26 +17,11 @@ fn flushed_by(found: Found) -> i64 {
     }
 }
 
-// Reads as many frames as are there and have room in the frames and in the samples, and writes what a flush discarded.
-fn read_by(
-    end: &mut StreamServer,
-    frames: &mut [Frame],
-    samples: &mut [i16],
-    flushed: &mut i64,
-) -> Result<u32, EndError> {
-    let most = count_of(samples).min(frames.len());
-    let found = end.read(&mut frames[..most])?;
-    put_frames(&frames[..found.frames as usize], samples);
+// Reads as many frames as are there and have a place, at most 1024, and writes what a flush discarded.
+fn read(end: &mut StreamServer, places: &mut [Frame], flushed: &mut i64) -> Result<u32, EndError> {
+    let found = end.read(first_places(places))?;
     *flushed = flushed_by(found);
     Ok(found.frames)
-}
-
-// Reads as many frames as are there and have room in the samples, at most 1024, and writes what a flush discarded.
-fn read(end: &mut StreamServer, samples: &mut [i16], flushed: &mut i64) -> Result<u32, EndError> {
-    if count_of(samples) > FEW_FRAMES {
-        return read_by(end, &mut silence(), samples, flushed);
-    }
-    read_by(end, &mut few_silent(), samples, flushed)
 }
 
 // How many frames are there. It writes what a flush discarded.
@@ -46,21 +31,21 @@ fn available(end: &mut StreamServer, flushed: &mut i64) -> Result<u32, EndError>
     Ok(found.frames)
 }
 
-/// Reads as many frames as are there and have room in the samples (left and right in turn), at most 1024. The samples behind them stay. `flushed` becomes the number of frames that a flush noticed by this call discarded, and -1 if it noticed none.
+/// Reads as many frames as are there and have a place, at most 1024. The places behind them stay. `flushed` becomes the number of frames that a flush noticed by this call discarded, and -1 if it noticed none.
 ///
-/// Answers how many frames were read, 0 if a flush was noticed. -3 if the handle is closed or of another kind. -5 (corrupt) if front and rear do not fit the block, in this call or in an earlier one. After a refusal `samples` and `flushed` are as before.
+/// Answers how many frames were read, 0 if a flush was noticed. -3 if the handle is closed or of another kind. -5 (corrupt) if front and rear do not fit the block, in this call or in an earlier one. After a refusal `places` and `flushed` are as before.
 #[unsafe(no_mangle)]
 pub extern "C" fn zeldorgacs_server_read(
     alloc: Global,
     server: &mut Handle,
-    samples: &mut [i16],
+    places: &mut [Frame],
     flushed: &mut i64,
 ) -> i64 {
     let Some(mut kept) = taken(alloc, server) else {
         return NO_HANDLE;
     };
     let answer = match &mut *kept {
-        Kept::Server(end) => told(read(end, samples, flushed)),
+        Kept::Server(end) => told(read(end, places, flushed)),
         _ => NO_HANDLE,
     };
     put(alloc, server, kept);

@@ -1,10 +1,11 @@
 //! The client of a track.
 
 use crate::answers::{NO_HANDLE, asked, done, told};
+use crate::frames::first;
 use crate::handle::Handle;
 use crate::kept::Kept;
 use crate::opened::{put, taken};
-use crate::samples::{count_of, frames_of};
+use af_base::Frame;
 use af_mixer_ends::TrackEnd;
 use std::alloc::Global;
 
@@ -19,23 +20,20 @@ pub struct TrackInfo {
     pub released: u64,
 }
 
-/// Releases the first of these samples (left and right in turn) as frames, at most 1024, as many as there is room for before the last cell.
+/// Releases the first of these frames, at most 1024, as many as there is room for before the last cell.
 ///
 /// Answers how many frames were released: 0 if the block is full, or there are none. -3 if the handle is closed or of another kind. -4 (dead) if INVALID is seen. -6 (limit) if there are frames, and 2^62 were released before. A refusal changes nothing of the track.
 #[unsafe(no_mangle)]
 pub extern "C" fn zeldorgacs_track_write(
     alloc: Global,
     track: &mut Handle,
-    samples: &[i16],
+    frames: &[Frame],
 ) -> i64 {
     let Some(mut kept) = taken(alloc, track) else {
         return NO_HANDLE;
     };
     let answer = match &mut *kept {
-        Kept::Track(end) => {
-            let frames = frames_of(samples);
-            told(end.write(&frames[..count_of(samples)]))
-        }
+        Kept::Track(end) => told(end.write(first(frames))),
         _ => NO_HANDLE,
     };
     put(alloc, track, kept);

@@ -1,4 +1,0 @@
-use Rattle.af_ends.proofs.stream_client.StreamClient.clear_disabled.Given as goal
-
-abbrev pub ghosts-clear_in : goal.ghosts-clear_in
-ghosts-clear_in a = record { name = a.blank.name; parts = a.blank.parts }

@@ -1,4 +1,0 @@
-use Rattle.af_ends.proofs.stream_client.StreamClient.write.Given as goal
-
-abbrev pub ghosts-write_in : goal.ghosts-write_in
-ghosts-write_in a = record { name = a.blank.name; parts = a.blank.parts }

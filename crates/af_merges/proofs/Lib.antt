@@ -1,0 +1,13 @@
+mod Mets
+mod Rising
+mod MetTests
+mod Levels
+mod EagerMets
+mod StageCounts
+mod Extends
+mod MayTests
+mod MetsInOrder
+mod OrderToTurns
+mod TurnsToOrder
+mod TurnsAndOrders
+pub mod Histories

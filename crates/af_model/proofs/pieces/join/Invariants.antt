@@ -1,7 +1,0 @@
-use Rattle.std.proofs.Common.{take}
-use Rattle.af_model.specs.Walks.{Collects}
-use Rattle.af_model.specs.Stages.{HasCount}
-use Rattle.af_model.proofs.pieces.join.Given as goal
-
-abbrev pub invariant-loop-stage : goal.invariant-loop-stage
-invariant-loop-stage l = Collects (HasCount l.number) (take l.stage-index l.starts) l.initial.now.items l.now.items

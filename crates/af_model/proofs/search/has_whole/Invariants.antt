@@ -1,7 +1,0 @@
-use Rattle.std.proofs.Common.{ℕ, ◌<◌, get_or}
-use Rattle.af_model.specs.declared.search.Stage.{Stage}
-use Rattle.af_model.specs.Stages.{lists_of, IsWhole}
-use Rattle.af_model.proofs.search.has_whole.Given as goal
-
-abbrev pub invariant-loop-stage : goal.invariant-loop-stage
-invariant-loop-stage l = (k : ℕ) (d : Stage) → k < l.stage-index → IsWhole (lists_of l.events) (get_or l.now k d) → ⊥
