@@ -19,6 +19,7 @@
  *
  * YOU OWE, and nothing checks:
  *   - the samples' pointer is good for as many frames as you say, or ZG_MOST_FRAMES if that is fewer: readable, and writable if the call writes them;
+ *   - what a call writes doesn't overlap what else it is given, and nobody else writes either during the call;
  *   - one call at a time for each handle. Another thread may go on with it once that is ordered: by a thread's start or join, a lock, or a
  *     sequentially consistent atomic;
  *   - nobody but this library reads, writes or copies the two words of an open handle, or writes what it allocated. An open handle that is
