@@ -1,9 +1,10 @@
 -- The open stages of lists are enough to go on from, when more events come.
-use Rattle.std.proofs.Common.{◌≡◌, ◌↔◌, ◌⊎◌, ℕ, zero, suc, ◌+◌, ◌<◌, ◌≤◌, List, [], ◌∷◌, ◌++◌, length, Some, None, Bool, true, false, cond, ◌&&◌, ◌||◌, ◌==◌, nat_le, refl, ap, ◌∙◌, sym, subst, inl, inr, arith, length-append}
+use Rattle.std.proofs.Common.{◌≡◌, ◌↔◌, ◌⊎◌, ℕ, zero, suc, ◌+◌, ◌<◌, ◌≤◌, List, [], ◌∷◌, ◌++◌, length, Some, None, Bool, true, false, cond, ◌&&◌, ◌||◌, ◌==◌, nat_le, refl, ap, ◌∙◌, sym, subst, inl, inr, arith, length-append, take, drop}
 use Rattle.std.specs.Option.{option_and_then}
 use Rattle.std.specs.List.{Contains, All, slice_get}
 use Rattle.std.proofs.lemmas.Option.{option_and_then_some, same_Some, cond_some, slice_get_within}
 use Rattle.std.proofs.lemmas.Bool.{cases_lt}
+use Rattle.std.proofs.lemmas.List.{take-append-drop, length-take-le}
 use Rattle.std.proofs.lemmas.Bool.Decides.{nat_tests}
 use Rattle.af_model.specs.declared.point.TrackPoint.{TrackPoint}
 use Rattle.af_base.specs.declared.event.ClientEvent.{ClientEvent}
@@ -17,7 +18,7 @@ use Rattle.af_merges.specs.Walks.{walk, IsReached}
 use Rattle.af_merges.specs.Stages.{Lists, Who, Client, Server, Hand, move, eager, is_met, kept, keeps_event, keeps_mets, with_client, with_server, with_hand, begin, IsWhole, HasWalk, InBounds}
 use Rattle.af_merges.specs.Merges.{IsStart}
 use Rattle.af_merges.specs.MergePieces.{knows_no_more, is_open, IsOpen, IsFrontier, IsAhead, names_at_least, joined}
-use Rattle.af_merges.specs.MergeSearch.{lists_in, MayStart, Afresh, GoesOn}
+use Rattle.af_merges.specs.MergeSearch.{lists_in, searched, AreThere, MayStart, Afresh, GoesOn}
 use Rattle.af_merges.specs.declared.pieces.Search.{Search}
 use Rattle.af_merges.proofs.Levels.{walk-push, walk-append}
 use Rattle.af_merges.proofs.StageCounts.{IsWithin, only_one}
@@ -121,7 +122,7 @@ lifts l cs ss hs Hand x y names within e =
       within = subst (IsWithin l) same (record { clients = within.clients; servers = within.servers; hands = omega arith });
     })
 
-lifts-walk : (l : Lists) (cs : List ClientEvent) (ss : List ServerEvent) (hs : List HandEvent) (ws : List Who) (x m : Stage)
+pub lifts-walk : (l : Lists) (cs : List ClientEvent) (ss : List ServerEvent) (hs : List HandEvent) (ws : List Who) (x m : Stage)
     → names_at_least (length l.client) hs ≡ true → IsWithin l x → walk (move l) ws x ≡ Some m → walk (move (joined l cs ss hs)) ws x ≡ Some m
 lifts-walk l cs ss hs [] x m names within e = e
 lifts-walk l cs ss hs (w ∷ ws) x m names within e =
@@ -328,21 +329,36 @@ HasWalk-at_frontier l from stages frontier = (
   (λ r. let p = frontier.complete r.0 r.1 r.2 (open-client l r.1 r.3.client) in (p.0, p.1, whole-ahead l r.1 p.0 p.2 r.3)),
 )
 
+-- what was searched and what came later are the lists
+whole_again : (s : Search) → joined (searched s) (drop s.clients s.client.items) (drop s.servers s.server.items) (drop s.hands s.hand.items) ≡ lists_in s
+whole_again s = λ i. record {
+  client = take-append-drop s.clients s.client.items i;
+  server = take-append-drop s.servers s.server.items i;
+  hand = take-append-drop s.hands s.hand.items i;
+}
+
+names-later : (s : Search) → AreThere s → names_at_least s.clients (drop s.hands s.hand.items) ≡ true
+    → names_at_least (length (take s.clients s.client.items)) (drop s.hands s.hand.items) ≡ true
+names-later s there names =
+    subst (λ (n : ℕ). names_at_least n (drop s.hands s.hand.items) ≡ true) (sym (length-take-le s.clients s.client.items there.clients)) names
+
 -- what was searched from stages that it may begin at is all of it
-pub IsFrontier-from_starts : (s : Search) (cs : List ClientEvent) (ss : List ServerEvent) (hs : List HandEvent) (starts found : List Stage)
-    → MayStart s hs starts → IsReached (eager (joined (lists_in s) cs ss hs)) (IsOpen (joined (lists_in s) cs ss hs)) starts found
-    → IsFrontier (joined (lists_in s) cs ss hs) s.from found
-IsFrontier-from_starts s cs ss hs starts found (Afresh e) reached =
-    IsFrontier-afresh (joined (lists_in s) cs ss hs) s.from found
-    (subst (λ (xs : List Stage). IsReached (eager (joined (lists_in s) cs ss hs)) (IsOpen (joined (lists_in s) cs ss hs)) xs found) e reached)
-IsFrontier-from_starts s cs ss hs starts found (GoesOn names frontier bounds) reached =
-    frontier_more (lists_in s) cs ss hs s.from starts found names frontier reached
+pub IsFrontier-from_starts : (s : Search) (starts found : List Stage)
+    → MayStart s starts → IsReached (eager (lists_in s)) (IsOpen (lists_in s)) starts found → IsFrontier (lists_in s) s.from found
+IsFrontier-from_starts s starts found (Afresh e) reached =
+    IsFrontier-afresh (lists_in s) s.from found
+    (subst (λ (xs : List Stage). IsReached (eager (lists_in s)) (IsOpen (lists_in s)) xs found) e reached)
+IsFrontier-from_starts s starts found (GoesOn there names frontier bounds) reached =
+    subst (λ (l : Lists). IsFrontier l s.from found) (whole_again s)
+    (frontier_more (searched s) (drop s.clients s.client.items) (drop s.servers s.server.items) (drop s.hands s.hand.items) s.from starts found
+    (names-later s there names) frontier
+    (subst (λ (l : Lists). IsReached (eager l) (IsOpen l) starts found) (sym (whole_again s)) reached))
 
 pub all_one : {X : Type 0} (P : X → Type 0) (x : X) → P x → All P (x ∷ [])
 all_one P x p zero d h = p
 all_one P x p (suc k) d h = absurd (omega arith)
 
-InBounds-more : (l : Lists) (cs : List ClientEvent) (ss : List ServerEvent) (hs : List HandEvent) (m : Stage)
+pub InBounds-more : (l : Lists) (cs : List ClientEvent) (ss : List ServerEvent) (hs : List HandEvent) (m : Stage)
     → names_at_least (length l.client) hs ≡ true → InBounds l m → InBounds (joined l cs ss hs) m
 InBounds-more l cs ss hs m names b = record {
   released = b.released;
@@ -373,10 +389,9 @@ InBounds-first l from p = record {
 }
 
 -- stages that the search begins with are in bounds
-pub All-InBounds-from_starts : (s : Search) (cs : List ClientEvent) (ss : List ServerEvent) (hs : List HandEvent) (starts : List Stage)
-    → MayStart s hs starts → IsStart s.from → All (InBounds (joined (lists_in s) cs ss hs)) starts
-All-InBounds-from_starts s cs ss hs starts (Afresh e) p =
-    let l = joined (lists_in s) cs ss hs in
-    subst (All (InBounds l)) (sym e) (all_one (InBounds l) (begin s.from) (InBounds-first l s.from p))
-All-InBounds-from_starts s cs ss hs starts (GoesOn names frontier bounds) p =
-    λ k d h. InBounds-more (lists_in s) cs ss hs _ names (bounds k d h)
+pub All-InBounds-from_starts : (s : Search) (starts : List Stage) → MayStart s starts → IsStart s.from → All (InBounds (lists_in s)) starts
+All-InBounds-from_starts s starts (Afresh e) p =
+    subst (All (InBounds (lists_in s))) (sym e) (all_one (InBounds (lists_in s)) (begin s.from) (InBounds-first (lists_in s) s.from p))
+All-InBounds-from_starts s starts (GoesOn there names frontier bounds) p =
+    subst (λ (l : Lists). All (InBounds l) starts) (whole_again s)
+    (λ k d h. InBounds-more (searched s) (drop s.clients s.client.items) (drop s.servers s.server.items) (drop s.hands s.hand.items) _ (names-later s there names) (bounds k d h))

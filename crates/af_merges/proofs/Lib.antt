@@ -5,6 +5,7 @@ mod Levels
 mod EagerMets
 mod StageCounts
 mod Extends
+mod OneOrder
 mod MayTests
 mod MetsInOrder
 mod OrderToTurns

@@ -4,4 +4,5 @@ pub mod Walks
 pub mod Rising
 pub mod Stages
 pub mod MergePieces
+pub mod OneOrder
 pub mod MergeSearch

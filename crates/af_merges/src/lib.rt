@@ -3,6 +3,7 @@
 
 mod events;
 mod merging;
+mod one_order;
 mod pieces;
 mod search;
 mod step;

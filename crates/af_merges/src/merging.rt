@@ -3,7 +3,7 @@ ghost use Rattle.std.specs.Prelude.{◌≡◌, ◌+◌, ◌^◌, ◌≤◌, ◌�
 ghost use Rattle.af_merges.specs.Merges.{HasLegalOrder, AreShort, IsStart, merged, with_pieces};
 
 use crate::events::Events;
-use crate::pieces::{Search, extend, has_order};
+use crate::pieces::{Search, extend, has_order, new_search};
 use crate::search::rises;
 use af_base::{ClientEvent, HandEvent, Memory, ServerEvent};
 use af_model::TrackPoint;
@@ -68,14 +68,7 @@ impl Merge {
     {
         Merge {
             alloc,
-            search: Search {
-                from: *from,
-                client: Vec::new(alloc),
-                server: Vec::new(alloc),
-                hand: Vec::new(alloc),
-                open: Vec::new(alloc),
-                known: false,
-            },
+            search: new_search(alloc, from),
             spent: false,
         }
     }

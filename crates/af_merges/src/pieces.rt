@@ -1,14 +1,16 @@
 //! The search for an order of lists that come piece by piece.
-ghost use Rattle.std.specs.Prelude.{◌≡◌, ◌∷◌, [], ◌+◌, ◌*◌, ◌<◌, ◌≤◌, ◌^◌, ◌↔◌, IfOk, IfSome, IsTrue, OnOk, OnErr, All, Contains, false, ◌==◌, ◌&&◌, length, true, if◌then◌else◌};
+ghost use Rattle.std.specs.Prelude.{◌≡◌, ◌∷◌, [], ◌+◌, ◌*◌, ◌<◌, ◌≤◌, ◌^◌, ◌↔◌, IfOk, IfSome, IsTrue, List, Some, None, OnOk, OnErr, All, Contains, false, ◌==◌, ◌&&◌, length, true, if◌then◌else◌};
 ghost use Rattle.af_merges.specs.Walks.{IsLevel, IsFoundBelow, IsReached, Collects};
 ghost use Rattle.af_merges.specs.Stages.{keeps_mets, move, eager, begin, lists_of, IsWhole, InBounds, AreShortLists, HasWalk, HasCount, count, total};
-ghost use Rattle.af_merges.specs.MergePieces.{knows_no_more, is_open, IsOpen, IsFrontier, names_at_least, joined};
-ghost use Rattle.af_merges.specs.MergeSearch.{Knows, MayStart, SameLists, GoOn, lists_in};
+ghost use Rattle.af_merges.specs.MergePieces.{knows_no_more, is_open, IsOpen, joined};
+ghost use Rattle.af_merges.specs.MergeSearch.{Knows, MayStart, IsOnAnOrder, SameLists, SameSearched, GoOn, lists_in};
 ghost use Rattle.af_merges.specs.Merges.{IsStart};
 
 use crate::events::Events;
+use crate::one_order::end_of_one_order;
 use crate::search::{
-    Stage, add, advance, event_at, has_whole, is_known, leave_one_of_each, names_each, rises,
+    Stage, add, advance, event_at, has_whole, is_known, later, leave_one_of_each, names_each,
+    rises, whole_of,
 };
 use af_base::{ClientEvent, HandEvent, ServerEvent};
 use af_model::TrackPoint;
@@ -139,6 +141,18 @@ fn settle(alloc: Global, events: &Events<'_>, starts: &[Stage]) -> Result<Vec<St
     Ok(found)
 }
 
+/// The stage before all events.
+fn first_stage(from: &TrackPoint) -> Stage
+    ensures { result ≡ begin from.now }
+{
+    Stage {
+        point: *from,
+        clients: 0,
+        servers: 0,
+        hands: 0,
+    }
+}
+
 /// Whether some order of the three lists is legal from that point.
 pub(crate) fn has_order(
     alloc: Global,
@@ -149,17 +163,12 @@ pub(crate) fn has_order(
     requires from { IsStart from.now }
     ensures { IfOk result (λ yes. IsTrue yes ↔ HasWalk (lists_of events.now) from.now) }
 {
-    let begin = Stage {
-        point: *from,
-        clients: 0,
-        servers: 0,
-        hands: 0,
-    };
+    let begin = first_stage(from);
     let found = settle(alloc, events, &[begin])?;
     Ok(has_whole(events, &found))
 }
 
-/// The lists so far, and the open stages of their orders, once `known`.
+/// The lists so far; once `known`, the open stages of orders of so many of their first events; and a stage at the end of one order of them all, if one was found.
 #[derive(Drop)]
 pub(crate) struct Search {
     pub from: TrackPoint,
@@ -168,29 +177,67 @@ pub(crate) struct Search {
     pub hand: Vec<HandEvent>,
     pub open: Vec<Stage>,
     pub known: bool,
+    pub clients: usize,
+    pub servers: usize,
+    pub hands: usize,
+    pub end: Option<Stage>,
 }
 
-/// Where the search begins: at the open stages, or afresh if a Met of the new events reaches back.
-fn starts(alloc: Global, search: &mut Search, hand: &[HandEvent]) -> Result<Vec<Stage>, AllocError>
+/// A search of no events.
+pub(crate) fn new_search(alloc: Global, from: &TrackPoint) -> Search
+    requires { IsStart from.now }
+    ensures from { result.from ≡ from.now }
+    ensures client { result.client.items ≡ [] }
+    ensures server { result.server.items ≡ [] }
+    ensures hand { result.hand.items ≡ [] }
+    ensures knows { Knows result }
+{
+    Search {
+        from: *from,
+        client: Vec::new(alloc),
+        server: Vec::new(alloc),
+        hand: Vec::new(alloc),
+        open: Vec::new(alloc),
+        known: false,
+        clients: 0,
+        servers: 0,
+        hands: 0,
+        end: Some(first_stage(from)),
+    }
+}
+
+/// Where the search begins: at the open stages, or afresh if a Met of the events that came later reaches back.
+fn starts(alloc: Global, search: &mut Search) -> Result<Vec<Stage>, AllocError>
     requires from { IsStart search.old.from }
     requires knows { Knows search.old }
-    ensures starts { IfOk result (λ starts. MayStart search.old hand.now starts.items) }
+    ensures starts { IfOk result (λ starts. MayStart search.old starts.items) }
     ensures same { SameLists search.old search.new }
-    ensures unknown { search.new.known ≡ false }
 {
-    if search.known && names_each(hand, search.client.len()) {
+    if search.known && names_each(later(&search.hand, search.hands), search.clients) {
         search.known = false;
         return Ok(std::mem::replace(&mut search.open, Vec::new(alloc)));
     }
     search.known = false;
     let mut starts = Vec::new(alloc);
-    starts.push(Stage {
-        point: search.from,
-        clients: 0,
-        servers: 0,
-        hands: 0,
-    })?;
+    starts.push(first_stage(&search.from))?;
     Ok(starts)
+}
+
+/// The end of the order that was found, if it stays one when these events of the hand come.
+fn end_of_old(search: &mut Search, hand: &[HandEvent]) -> Option<Stage>
+    requires { Knows search.old }
+    ensures end { IfSome result (λ m. (cs : List ClientEvent) → (ss : List ServerEvent) → IsOnAnOrder (joined (lists_in search.old) cs ss hand.now) search.old.from m) }
+    ensures same { SameLists search.old search.new }
+    ensures searched { SameSearched search.old search.new }
+    ensures none { search.new.end ≡ None }
+{
+    let end = search.end;
+    search.end = None;
+    if names_each(hand, search.client.len()) {
+        end
+    } else {
+        None
+    }
 }
 
 /// Adds a piece to each list. An `Err` may leave some of them added.
@@ -202,8 +249,8 @@ fn append(
 ) -> Result<(), AllocError>
     ensures lists { OnOk result (lists_in search.new ≡ joined (lists_in search.old) client.now server.now hand.now) }
     ensures front { GoOn (lists_in search.old) (lists_in search.new) }
-    ensures from { search.new.from ≡ search.old.from }
-    ensures known { search.new.known ≡ search.old.known }
+    ensures searched { SameSearched search.old search.new }
+    ensures end { search.new.end ≡ search.old.end }
 {
     search.client.extend_from_slice(client)?;
     search.server.extend_from_slice(server)?;
@@ -211,17 +258,47 @@ fn append(
     Ok(())
 }
 
-/// The open stages of the whole lists, from where the search may begin.
+/// The end of an order of all events that goes on from this stage, if the one that is tried is one.
+fn end_from(search: &Search, stage: &Stage) -> Option<Stage>
+    requires short { AreShortLists (lists_in search.now) }
+    requires stage { IsOnAnOrder (lists_in search.now) search.now.from stage.now }
+    ensures end { IfSome result (IsOnAnOrder (lists_in search.now) search.now.from) }
+    ensures whole { IfSome result (IsWhole (lists_in search.now)) }
+{
+    let events = Events {
+        client: &search.client,
+        server: &search.server,
+        hand: &search.hand,
+        rises: false,
+    };
+    end_of_one_order(&events, stage)
+}
+
+/// The same, if there is a stage.
+fn end_if(search: &Search, stage: Option<Stage>) -> Option<Stage>
+    requires short { AreShortLists (lists_in search.now) }
+    requires stage { IfSome stage (IsOnAnOrder (lists_in search.now) search.now.from) }
+    ensures end { IfSome result (IsOnAnOrder (lists_in search.now) search.now.from) }
+    ensures whole { IfSome result (IsWhole (lists_in search.now)) }
+{
+    match stage {
+        Some(stage) => end_from(search, &stage),
+        None => None,
+    }
+}
+
+/// The open stages of the whole lists, from where the search may begin; whether one is whole; and that one.
 fn found_from(
     alloc: Global,
     search: &Search,
     starts: Vec<Stage>,
-) -> Result<(Vec<Stage>, bool), AllocError>
+) -> Result<(Vec<Stage>, bool, Option<Stage>), AllocError>
     requires short { AreShortLists (lists_in search.now) }
     requires bounds { All (InBounds (lists_in search.now)) starts.items }
     ensures reached { IfOk result (λ r. IsReached (eager (lists_in search.now)) (IsOpen (lists_in search.now)) starts.items r.0.items) }
     ensures bounds { IfOk result (λ r. All (InBounds (lists_in search.now)) r.0.items) }
     ensures whole { IfOk result (λ r. IsTrue r.1 ↔ ((m : Stage) × Contains r.0.items m × IsWhole (lists_in search.now) m)) }
+    ensures end { IfOk result (λ r. IfSome r.2 (Contains r.0.items)) }
 {
     let events = Events {
         client: &search.client,
@@ -231,10 +308,31 @@ fn found_from(
     };
     let open = settle(alloc, &events, &starts)?;
     let whole = has_whole(&events, &open);
-    Ok((open, whole))
+    let end = whole_of(&events, &open);
+    Ok((open, whole, end))
 }
 
-/// Whether the lists with these pieces at their ends have a legal order. After an `Err` nothing is known, and some pieces may be added.
+/// Whether the lists have a legal order. Each order is looked for, and not one alone.
+fn search_on(alloc: Global, search: &mut Search) -> Result<bool, AllocError>
+    requires from { IsStart search.old.from }
+    requires knows { Knows search.old }
+    requires short { AreShortLists (lists_in search.old) }
+    ensures answer { IfOk result (λ yes. IsTrue yes ↔ HasWalk (lists_in search.old) search.old.from) }
+    ensures same { SameLists search.old search.new }
+    ensures knows { OnOk result (Knows search.new) }
+{
+    let begins = starts(alloc, search)?;
+    let (open, whole, end) = found_from(alloc, search, begins)?;
+    search.end = end;
+    search.open = open;
+    search.known = true;
+    search.clients = search.client.len();
+    search.servers = search.server.len();
+    search.hands = search.hand.len();
+    Ok(whole)
+}
+
+/// Whether the lists with these pieces at their ends have a legal order. After an `Err` some pieces may be added.
 fn go_on(
     alloc: Global,
     search: &mut Search,
@@ -248,16 +346,16 @@ fn go_on(
     ensures answer { IfOk result (λ yes. IsTrue yes ↔ HasWalk (joined (lists_in search.old) client.now server.now hand.now) search.old.from) }
     ensures lists { OnOk result (lists_in search.new ≡ joined (lists_in search.old) client.now server.now hand.now) }
     ensures from { search.new.from ≡ search.old.from }
-    ensures knows { Knows search.new }
+    ensures knows { OnOk result (Knows search.new) }
     ensures front { GoOn (lists_in search.old) (lists_in search.new) }
-    ensures unknown { OnErr result (search.new.known ≡ false) }
 {
-    let begins = starts(alloc, search, hand)?;
+    let old = end_of_old(search, hand);
     append(search, client, server, hand)?;
-    let (open, whole) = found_from(alloc, search, begins)?;
-    search.open = open;
-    search.known = true;
-    Ok(whole)
+    if let Some(end) = end_if(search, old) {
+        search.end = Some(end);
+        return Ok(true);
+    }
+    search_on(alloc, search)
 }
 
 /// Whether the lists with these pieces at their ends have a legal order. After an `Err` the lists are as before, and nothing is known.
@@ -285,6 +383,8 @@ pub(crate) fn extend(
         search.client.truncate(clients);
         search.server.truncate(servers);
         search.hand.truncate(hands);
+        search.known = false;
+        search.end = None;
     }
     answer
 }

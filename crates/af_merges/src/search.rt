@@ -89,7 +89,7 @@ pub(crate) fn event_at(hand: &[HandEvent], place: usize) -> Option<HandEvent>
     hand.get(place).copied()
 }
 
-fn later(hand: &[HandEvent], place: usize) -> &[HandEvent]
+pub(crate) fn later(hand: &[HandEvent], place: usize) -> &[HandEvent]
     requires { place ≤ length hand.now }
     ensures { result.now ≡ drop place hand.now }
 {
@@ -128,7 +128,7 @@ fn when(kept: bool, stage: Stage) -> Option<Stage>
     if kept { Some(stage) } else { None }
 }
 
-fn client_move(events: &Events<'_>, stage: &Stage) -> Option<Stage>
+pub(crate) fn client_move(events: &Events<'_>, stage: &Stage) -> Option<Stage>
     requires short { AreShortLists (lists_of events.now) }
     requires bounds { InBounds (lists_of events.now) stage.now }
     ensures value { result ≡ move (lists_of events.now) Client stage.now }
@@ -146,7 +146,7 @@ fn client_move(events: &Events<'_>, stage: &Stage) -> Option<Stage>
     )
 }
 
-fn server_move(events: &Events<'_>, stage: &Stage) -> Option<Stage>
+pub(crate) fn server_move(events: &Events<'_>, stage: &Stage) -> Option<Stage>
     requires short { AreShortLists (lists_of events.now) }
     requires bounds { InBounds (lists_of events.now) stage.now }
     ensures value { result ≡ move (lists_of events.now) Server stage.now }
@@ -161,7 +161,7 @@ fn server_move(events: &Events<'_>, stage: &Stage) -> Option<Stage>
     })
 }
 
-fn hand_move(events: &Events<'_>, stage: &Stage) -> Option<Stage>
+pub(crate) fn hand_move(events: &Events<'_>, stage: &Stage) -> Option<Stage>
     requires short { AreShortLists (lists_of events.now) }
     requires bounds { InBounds (lists_of events.now) stage.now }
     ensures value { result ≡ move (lists_of events.now) Hand stage.now }
@@ -197,7 +197,7 @@ pub(crate) fn leave_one_of_each(stages: &mut Vec<Stage>)
 }
 
 /// Whether the hand's next event is a Met that may stand here.
-fn met_is_next(events: &Events<'_>, stage: &Stage) -> bool
+pub(crate) fn met_is_next(events: &Events<'_>, stage: &Stage) -> bool
     requires bounds { InBounds (lists_of events.now) stage.now }
     requires short { AreShortLists (lists_of events.now) }
     ensures { result ≡ takes_met (lists_of events.now).hand stage.now }
@@ -288,16 +288,34 @@ pub(crate) fn advance(
     Ok(next)
 }
 
+/// Whether all events of the lists have stood.
+pub(crate) fn is_whole(events: &Events<'_>, stage: &Stage) -> bool
+    ensures { IsTrue result ↔ IsWhole (lists_of events.now) stage.now }
+{
+    stage.clients == events.client.len()
+        && stage.servers == events.server.len()
+        && stage.hands == events.hand.len()
+}
+
 pub(crate) fn has_whole(events: &Events<'_>, now: &[Stage]) -> bool
     ensures { IsTrue result ↔ ((m : Stage) × Contains now.now m × IsWhole (lists_of events.now) m) }
 {
     for stage in now {
-        if stage.clients == events.client.len()
-            && stage.servers == events.server.len()
-            && stage.hands == events.hand.len()
-        {
+        if is_whole(events, stage) {
             return true;
         }
     }
     false
+}
+
+/// One of these stages after which all events have stood, if there is one.
+pub(crate) fn whole_of(events: &Events<'_>, now: &[Stage]) -> Option<Stage>
+    ensures { IfSome result (Contains now.now) }
+{
+    for stage in now {
+        if is_whole(events, stage) {
+            return Some(*stage);
+        }
+    }
+    None
 }

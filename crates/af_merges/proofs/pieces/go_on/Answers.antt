@@ -1,45 +1,48 @@
-use Rattle.std.proofs.Common.{◌≡◌, ◌∙◌, ◌↔◌, subst, sym, IsTrue, All}
-use Rattle.std.specs.List.{Contains}
-use Rattle.af_merges.specs.declared.search.Stage.{Stage}
+use Rattle.std.proofs.Common.{◌∙◌, ◌↔◌, Some, IfOk, IsTrue, subst, sym, rules}
 use Rattle.af_model.specs.declared.point.TrackPoint.{TrackPoint}
-use Rattle.af_merges.specs.Walks.{IsReached}
-use Rattle.af_merges.specs.Stages.{Lists, eager, IsWhole, InBounds}
-use Rattle.af_merges.specs.MergePieces.{IsOpen, IsFrontier, joined}
+use Rattle.af_merges.specs.Stages.{Lists, HasWalk, AreShortLists}
+use Rattle.af_merges.specs.MergePieces.{joined}
 use Rattle.af_merges.specs.MergeSearch.{lists_in}
-use Rattle.af_merges.proofs.Extends.{IsFrontier-from_starts, All-InBounds-from_starts, HasWalk-at_frontier}
+use Rattle.af_merges.proofs.OneOrder.{after_pieces, knows_more, same_but_end, at_no_end, walk_by_one}
 use Rattle.af_merges.proofs.pieces.go_on.Goals as goal
 
--- the lists after the call are the joined ones
-abbrev lists_are : (c : goal.After-search-1) → lists_in c.append.new.search ≡ joined (lists_in c.args.search.now) c.args.client.now c.args.server.now c.args.hand.now
-lists_are c =
-    let same = c.in_ok-begins.ensures.same in
-    c.in_ok-append.ensures.lists ∙ (λ i. joined (record { client = (same.client i).items; server = (same.server i).items; hand = (same.hand i).items }) c.args.client.now c.args.server.now c.args.hand.now)
+pub end_if-requires-clause-stage : goal.end_if-requires-clause-stage
+end_if-requires-clause-stage c =
+    let s = c.args.search.now in
+    let more = after_pieces s c.end_of_old-old.new.search c.append.new.search c.args.client.now c.args.server.now c.args.hand.now c.end_of_old-old.ensures.same c.end_of_old-old.ensures.searched c.in_ok-append.ensures.lists c.in_ok-append.ensures.searched in
+    more.end c.end_of_old-old.result c.end_of_old-old.ensures.end
 
-frontier : (c : goal.After-search-1) → IsFrontier (joined (lists_in c.args.search.now) c.args.client.now c.args.server.now c.args.hand.now) c.args.search.now.from c.in_ok-open.open.items
-frontier c =
-    let reached = subst (λ (l : Lists). IsReached (eager l) (IsOpen l) c.in_ok-begins.begins.items c.in_ok-open.open.items) (lists_are c) c.in_ok-open.ensures.reached in
-    IsFrontier-from_starts c.args.search.now c.args.client.now c.args.server.now c.args.hand.now _ _ c.in_ok-begins.ensures.starts reached
+pub end_if-requires-clause-short : goal.end_if-requires-clause-short
+end_if-requires-clause-short c =
+    let s = c.args.search.now in
+    let more = after_pieces s c.end_of_old-old.new.search c.append.new.search c.args.client.now c.args.server.now c.args.hand.now c.end_of_old-old.ensures.same c.end_of_old-old.ensures.searched c.in_ok-append.ensures.lists c.in_ok-append.ensures.searched in
+    subst AreShortLists (sym more.lists) c.requires.short
+
+pub returns-in-Some-clause-answer : goal.returns-in-Some-clause-answer
+returns-in-Some-clause-answer c =
+    let s = c.args.search.now in
+    let more = after_pieces s c.end_of_old-old.new.search c.append.new.search c.args.client.now c.args.server.now c.args.hand.now c.end_of_old-old.ensures.same c.end_of_old-old.ensures.searched c.in_ok-append.ensures.lists c.in_ok-append.ensures.searched in
+    let walk = walk_by_one (lists_in c.append.new.search) c.append.new.search.from c.in-Some.end c.in-Some.ensures.end c.in-Some.ensures.whole in
+    let there = subst (λ (l : Lists). HasWalk l s.from) more.lists (subst (λ (p : TrackPoint). HasWalk (lists_in c.append.new.search) p) more.searched.from walk) in
+    ((λ _. there), (λ _. search rules))
+
+pub returns-in-Some-clause-knows : goal.returns-in-Some-clause-knows
+returns-in-Some-clause-knows c =
+    let s = c.args.search.now in
+    let more = after_pieces s c.end_of_old-old.new.search c.append.new.search c.args.client.now c.args.server.now c.args.hand.now c.end_of_old-old.ensures.same c.end_of_old-old.ensures.searched c.in_ok-append.ensures.lists c.in_ok-append.ensures.searched in
+    knows_more s (record c.append.new.search { end = Some c.in-Some.end }) c.args.client.now c.args.server.now c.args.hand.now more.lists
+    (same_but_end s c.append.new.search (Some c.in-Some.end) more.searched) c.in-Some.ensures.end c.requires.knows
+
+pub search_on-requires-clause-knows : goal.search_on-requires-clause-knows
+search_on-requires-clause-knows c =
+    let s = c.args.search.now in
+    let more = after_pieces s c.end_of_old-old.new.search c.append.new.search c.args.client.now c.args.server.now c.args.hand.now c.end_of_old-old.ensures.same c.end_of_old-old.ensures.searched c.in_ok-append.ensures.lists c.in_ok-append.ensures.searched in
+    knows_more s c.append.new.search c.args.client.now c.args.server.now c.args.hand.now more.lists more.searched
+    (at_no_end (lists_in c.append.new.search) c.append.new.search.from c.append.new.search.end (c.in_ok-append.ensures.end ∙ c.end_of_old-old.ensures.none)) c.requires.knows
 
 pub returns-clause-answer : goal.returns-clause-answer
 returns-clause-answer c =
-    let l = joined (lists_in c.args.search.now) c.args.client.now c.args.server.now c.args.hand.now in
-    let whole = subst (λ (l : Lists). IsTrue c.in_ok-open.whole ↔ ((m : Stage) × Contains c.in_ok-open.open.items m × IsWhole l m)) (lists_are c) c.in_ok-open.ensures.whole in
-    let order = HasWalk-at_frontier l c.args.search.now.from c.in_ok-open.open.items (frontier c) in
-    ((λ yes. order.0 (whole.0 yes)), (λ some. whole.1 (order.1 some)))
-
-pub returns-clause-knows : goal.returns-clause-knows
-returns-clause-knows c =
-    let from : c.append.new.search.from ≡ c.args.search.now.from = c.in_ok-append.ensures.from ∙ c.in_ok-begins.ensures.same.from in
-    record {
-      frontier = λ _. subst (λ (p : TrackPoint). IsFrontier (lists_in c.append.new.search) p c.in_ok-open.open.items) (sym from)
-          (subst (λ (l : Lists). IsFrontier l c.args.search.now.from c.in_ok-open.open.items) (sym (lists_are c)) (frontier c));
-      bounds = λ _. c.in_ok-open.ensures.bounds;
-    }
-
-pub found_from-requires-clause-bounds : goal.found_from-requires-clause-bounds
-found_from-requires-clause-bounds c =
-    let same = c.in_ok-begins.ensures.same in
-    let lists : lists_in c.append.new.search ≡ joined (lists_in c.args.search.now) c.args.client.now c.args.server.now c.args.hand.now =
-    c.in_ok-append.ensures.lists ∙ (λ i. joined (record { client = (same.client i).items; server = (same.server i).items; hand = (same.hand i).items }) c.args.client.now c.args.server.now c.args.hand.now) in
-    subst (λ (l : Lists). All (InBounds l) c.in_ok-begins.begins.items) (sym lists)
-    (All-InBounds-from_starts c.args.search.now c.args.client.now c.args.server.now c.args.hand.now _ c.in_ok-begins.ensures.starts c.requires.from)
+    let s = c.args.search.now in
+    let more = after_pieces s c.end_of_old-old.new.search c.append.new.search c.args.client.now c.args.server.now c.args.hand.now c.end_of_old-old.ensures.same c.end_of_old-old.ensures.searched c.in_ok-append.ensures.lists c.in_ok-append.ensures.searched in
+    subst (λ (p : TrackPoint). IfOk c.search_on.result (λ yes. IsTrue yes ↔ HasWalk (joined (lists_in s) c.args.client.now c.args.server.now c.args.hand.now) p)) more.searched.from
+    (subst (λ (l : Lists). IfOk c.search_on.result (λ yes. IsTrue yes ↔ HasWalk l c.append.new.search.from)) more.lists c.search_on.ensures.answer)
