@@ -2,7 +2,7 @@
  * jack.c: a client of JACK whose process callback is a cycle of the fast mixer. Two voices without ports, each on a thread of its own, write a tone
  * each to the library, which mixes them; JACK sees the sum, in two ports. So a cycle of JACK wakes one thread, however many voices there are.
  *
- *     jack [SECONDS]       two tones of 10 seconds, if not said otherwise
+ *     jack [SECONDS [CLIENT]]     two tones of 10 seconds, if not said otherwise, to the inputs of CLIENT in place of the sound card's
  *     gcc -std=c11 -I$library/include jack.c -L$library/lib -lzeldorgacs -ljack -lpthread -lm
  *
  * It needs a server that runs, whose period has ZG_MOST_PERIOD frames at most, and ends with 0 if both tones were heard to their ends.
@@ -29,7 +29,7 @@ static zg_normal normal = ZG_INIT;
 static zg_fast fast = ZG_INIT;
 static jack_port_t *port[2];
 static uint32_t period, rate, total, periods; /* the last: the periods of a normal buffer */
-static atomic_int over, said, peak;           /* said: the answer that stopped the callback, if one did */
+static atomic_int over, said, peak, late;     /* said: the answer that stopped the callback, if one did; late: waits that took twice their time */
 static atomic_ullong mixed;
 static atomic_int drained[VOICES];
 
@@ -80,7 +80,10 @@ static void wait_for(uint32_t frames)
 {
     uint64_t nanoseconds = 1000000000ull * frames / rate;
     struct timespec time = {(time_t)(nanoseconds / 1000000000u), (long)(nanoseconds % 1000000000u)};
+    jack_time_t before = jack_get_time();
     nanosleep(&time, NULL);
+    if (jack_get_time() - before > 2 * nanoseconds / 1000)
+        atomic_fetch_add(&late, 1);
 }
 
 /* Sends a command, once there is room for it. */
@@ -98,7 +101,7 @@ static void keep_on(zg_track *mine)
         ask(mine, zg_track_start);
 }
 
-/* A voice: it writes its tone, as it finds room, and removes its track once all of it was heard. */
+/* A voice: it fills its buffer, starts, writes its tone as it finds room, and removes its track once all of it was heard. */
 static void *speak(void *place)
 {
     zg_track *mine = place;
@@ -106,7 +109,6 @@ static void *speak(void *place)
     int16_t samples[2 * CHUNK];
     zg_track_info info = {0};
     zg_track_set_gains(mine, ZG_UNITY / 2, ZG_UNITY / 2);
-    ask(mine, zg_track_start);
     for (uint32_t at = 0; at < total && !atomic_load(&over);) {
         uint32_t count = total - at < CHUNK ? total - at : CHUNK;
         for (uint32_t i = 0; i < count; i++)
@@ -114,12 +116,14 @@ static void *speak(void *place)
         int64_t written = zg_track_write(mine, samples, count);
         if (written < 0)
             return NULL;
+        if (written == 0 && at == BUFFER)
+            ask(mine, zg_track_start);
         if (written == 0)
             wait_for(BUFFER / 4);
         at += (uint32_t)written;
         keep_on(mine);
     }
-    ask(mine, zg_track_start); /* if it was disabled by now, its last frames are heard all the same */
+    ask(mine, zg_track_start); /* if it was disabled by now, or all has fitted its buffer, its last frames are heard all the same */
     ask(mine, zg_track_stop);
     while (zg_track_status(mine, &info) == 0 && !info.drained && !atomic_load(&over))
         wait_for(BUFFER / 4);
@@ -128,14 +132,15 @@ static void *speak(void *place)
     return NULL;
 }
 
-/* The normal mixer's thread: a turn twice in the time of a normal buffer, so that the fast mixer never waits for one. A turn that comes early doesn't mix. */
+/* The normal mixer's thread: turns until the pipe is full, twice in the time of a normal buffer, so that the fast mixer never waits for one. */
 static void *turns(void *nothing)
 {
     while (!atomic_load(&over)) {
         int64_t answer = zg_normal_turn(&normal);
         if (answer < 0 || answer == ZG_TURN_ENDED)
             break;
-        wait_for(periods * period / 2);
+        if (answer != ZG_TURN_MIXED)
+            wait_for(periods * period / 2);
     }
     return nothing;
 }
@@ -156,18 +161,18 @@ static const char *open_mixer(jack_client_t *client)
     }
 }
 
-/* The two ports, and from then on the callback; what is heard goes to the first two inputs of the sound card, if it has any. Whether JACK did it. */
-static int join_in(jack_client_t *client)
+/* The two ports, and from then on the callback; what is heard goes to the first two inputs of those ports, or of the sound card, if it has any. Whether JACK did it. */
+static int join_in(jack_client_t *client, const char *ports)
 {
     port[0] = jack_port_register(client, "left", JACK_DEFAULT_AUDIO_TYPE, JackPortIsOutput, 0);
     port[1] = jack_port_register(client, "right", JACK_DEFAULT_AUDIO_TYPE, JackPortIsOutput, 0);
     jack_on_shutdown(client, gone, NULL);
     if (!port[0] || !port[1] || jack_set_process_callback(client, process, NULL) != 0 || jack_activate(client) != 0)
         return 0;
-    const char **cards = jack_get_ports(client, NULL, JACK_DEFAULT_AUDIO_TYPE, JackPortIsPhysical | JackPortIsInput);
-    for (int i = 0; cards && i < 2 && cards[i]; i++)
-        jack_connect(client, jack_port_name(port[i]), cards[i]);
-    jack_free(cards);
+    const char **inputs = jack_get_ports(client, ports, JACK_DEFAULT_AUDIO_TYPE, JackPortIsInput | (ports ? 0 : JackPortIsPhysical));
+    for (int i = 0; inputs && i < 2 && inputs[i]; i++)
+        jack_connect(client, jack_port_name(port[i]), inputs[i]);
+    jack_free(inputs);
     return 1;
 }
 
@@ -196,7 +201,7 @@ int main(int words, char **word)
     }
     const char *refused = open_mixer(client);
     total = (words > 1 ? (uint32_t)strtoul(word[1], NULL, 10) : 10) * rate;
-    if (!refused && !join_in(client))
+    if (!refused && !join_in(client, words > 2 ? word[2] : NULL))
         refused = "JACK takes no client";
     if (!refused)
         play();
@@ -209,7 +214,7 @@ int main(int words, char **word)
         puts(refused);
         return 1;
     }
-    printf("%llu frames mixed in periods of %u, peak %d; voices heard to their ends: %d; the callback stopped at %d\n", atomic_load(&mixed), (unsigned)period, atomic_load(&peak), drained[0] + drained[1],
-           atomic_load(&said));
+    printf("%llu frames mixed in periods of %u, peak %d; voices heard to their ends: %d; the callback stopped at %d; waits that took twice their time: %d\n", atomic_load(&mixed), (unsigned)period,
+           atomic_load(&peak), drained[0] + drained[1], atomic_load(&said), atomic_load(&late));
     return drained[0] && drained[1] && atomic_load(&said) == ZG_EXIT ? 0 : 1;
 }
