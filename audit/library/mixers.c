@@ -1,11 +1,13 @@
 /*
  * mixers.c: the calls of mixers that the lines of standard input tell, as `mixers` prints them: each is made and compared with what its line wants. No
- * call but an open and a close may ask malloc for anything. It is linked with --wrap for malloc, realloc and free.
+ * call but an open and a close may ask malloc for anything; in an open it fails at random, and then all is as before, to the byte. It is linked with
+ * --wrap for malloc, realloc and free.
  *
- *     mixers 100000 1 | ./mixers
+ *     mixers 1000000 1 | ./mixers
  */
 #include "zeldorgacs.h"
 #include <inttypes.h>
+#include <malloc.h>
 #include <stdbool.h>
 #include <stdio.h>
 #include <stdlib.h>
@@ -13,33 +15,53 @@
 
 enum { MOST = 1024, EDGE = 8 };
 
-static zg_track track[ZG_MOST_TRACKS];
-static zg_normal normal;
-static zg_fast fast;
+/* A mixer's handles: those whose calls the model makes, and those of a mixer beside. */
+struct ends {
+    zg_track track[ZG_MOST_TRACKS];
+    zg_normal normal;
+    zg_fast fast;
+};
+
+static struct ends our, spare;
 static uint32_t frames;
-static size_t count;
-static unsigned long line;
+static unsigned long line, failures;
 static int16_t buffer[2 * (MOST + EDGE)], was[2 * (MOST + EDGE)];
-static bool inside;
-static long asked, live;
+
+/* The calls of malloc, realloc and free by the library: one allocation of `odds` fails, and that of a place; 0 for none. */
+static bool inside, failed;
+static long asked, taken, held, place; /* taken: allocations; held: bytes */
+static uint64_t odds, chance;
 
 void *__real_malloc(size_t size);
 void *__real_realloc(void *at, size_t size);
 void __real_free(void *at);
 
+static bool fails(void)
+{
+    if (!inside)
+        return false;
+    chance = (chance * 1103515245 + 12345) % (1u << 31);
+    asked++;
+    if (++taken != place && (odds == 0 || (chance >> 8) % odds != 0))
+        return false;
+    failed = true;
+    return true;
+}
+
 void *__wrap_malloc(size_t size)
 {
-    void *at = __real_malloc(size);
-    asked += inside;
-    live += inside && at;
+    void *at = fails() ? NULL : __real_malloc(size);
+    held += inside ? (long)malloc_usable_size(at) : 0;
     return at;
 }
 
 void *__wrap_realloc(void *at, size_t size)
 {
+    if (fails())
+        return NULL;
+    long before = (long)malloc_usable_size(at);
     void *got = __real_realloc(at, size);
-    asked += inside;
-    live += inside && got && !at;
+    held += inside && got ? (long)malloc_usable_size(got) - before : 0;
     return got;
 }
 
@@ -47,7 +69,7 @@ void __wrap_free(void *at)
 {
     if (inside && at) {
         asked++;
-        live--;
+        held -= (long)malloc_usable_size(at);
     }
     __real_free(at);
 }
@@ -91,7 +113,45 @@ static void draw(uint64_t seed, size_t many)
     }
 }
 
-static void opens(void)
+/* An open in which memory may fail: then it says so. Whatever it refuses, nothing has changed. */
+static int64_t tries(struct ends *of, const zg_mixer_spec *mixer, const zg_track_spec *specs, size_t many, int64_t wanted)
+{
+    struct ends before = *of;
+    long held_before = held;
+    asked = taken = 0;
+    failed = false;
+    inside = true;
+    int64_t said = zg_mixer_open(mixer, specs, many, &of->normal, &of->fast, of->track);
+    inside = false;
+    same("an open", said, failed ? ZG_E_MEMORY : wanted);
+    if (said == 0)
+        return 0;
+    same("the handles after an open that failed", memcmp(&before, of, sizeof before), 0);
+    same("the bytes that are held after it", held, held_before);
+    failures += failed;
+    return said;
+}
+
+/* Closes all, each twice at times, in an order that a number tells. */
+static void close_all(struct ends *of, uint64_t seed)
+{
+    enum { ALL = ZG_MOST_TRACKS + 2 };
+    inside = true;
+    for (size_t i = 0; i < ALL; i++) {
+        size_t which = (i + seed) % ALL;
+        for (uint64_t times = 0; times <= seed % 2; times++)
+            if (which < ZG_MOST_TRACKS)
+                zg_track_close(&of->track[which]);
+            else if (which == ZG_MOST_TRACKS)
+                zg_normal_close(&of->normal);
+            else
+                zg_fast_close(&of->fast);
+    }
+    inside = false;
+}
+
+/* An open: again, until memory is there. Or one that fails in the midst, at a place up to the last allocation that a mixer beside takes. */
+static void opens(char letter)
 {
     zg_mixer_spec mixer;
     zg_track_spec specs[ZG_MOST_TRACKS + 1];
@@ -99,6 +159,7 @@ static void opens(void)
     mixer.normal = (uint32_t)number();
     mixer.log = (uint32_t)number();
     size_t many = (size_t)number();
+    uint64_t drawn = (uint64_t)number(), seed = (uint64_t)number();
     int64_t wanted = number();
     for (size_t i = 0; i < many; i++) {
         specs[i].fast = (uint8_t)number();
@@ -106,21 +167,33 @@ static void opens(void)
         specs[i].scale = (uint16_t)number();
         specs[i].frames = (uint32_t)number();
     }
-    inside = true;
-    int64_t said = zg_mixer_open(&mixer, specs, many, &normal, &fast, track);
-    inside = false;
-    same("an open", said, wanted);
+    chance = seed;
+    if (letter == 'm') {
+        long before = held;
+        tries(&spare, &mixer, specs, many, 0);
+        place = taken;
+        close_all(&spare, seed);
+        same("the bytes that a mixer beside leaves", held, before);
+    }
+    odds = drawn;
+    int64_t said = tries(&our, &mixer, specs, many, wanted);
+    place = 0;
+    for (int more = 2; said == ZG_E_MEMORY && wanted != ZG_E_MEMORY; more--) {
+        odds = more > 0 ? odds : 0;
+        said = tries(&our, &mixer, specs, many, wanted);
+    }
+    odds = 0;
+    same("an open in the end", said, wanted);
     if (said != 0)
         return;
     frames = mixer.frames;
-    count = many;
     begin();
-    same("the frames of a cycle", ended(zg_fast_frames(&fast)), frames);
+    same("the frames of a cycle", ended(zg_fast_frames(&our.fast)), frames);
 }
 
 static void writes(void)
 {
-    zg_track *to = &track[number()];
+    zg_track *to = &our.track[number()];
     size_t many = (size_t)number();
     draw((uint64_t)number(), many < MOST ? many : MOST);
     int64_t wanted = number();
@@ -130,7 +203,7 @@ static void writes(void)
 
 static void commands(char letter)
 {
-    zg_track *of = &track[number()];
+    zg_track *of = &our.track[number()];
     int64_t wanted = number(), said;
     begin();
     switch (letter) {
@@ -145,10 +218,17 @@ static void commands(char letter)
 
 static void tells(void)
 {
-    zg_track *of = &track[number()];
-    zg_track_info info;
+    zg_track *of = &our.track[number()];
+    zg_track_info info, before;
+    int64_t wanted = number();
+    memset(&info, 0x55, sizeof info);
+    before = info;
     begin();
-    same("a status", ended(zg_track_status(of, &info)), 0);
+    same("a status", ended(zg_track_status(of, &info)), wanted);
+    if (wanted < 0) {
+        same("what a closed track tells", memcmp(&before, &info, sizeof info), 0);
+        return;
+    }
     same("a life", info.life, number());
     same("drained", info.drained, number());
     same("the commands settled", info.settled, number());
@@ -158,7 +238,7 @@ static void tells(void)
 
 static void gains(void)
 {
-    zg_track *of = &track[number()];
+    zg_track *of = &our.track[number()];
     uint16_t left = (uint16_t)number(), right = (uint16_t)number();
     int64_t wanted = number();
     begin();
@@ -169,7 +249,7 @@ static void turns(void)
 {
     int64_t wanted = number();
     begin();
-    same("a turn", ended(zg_normal_turn(&normal)), wanted);
+    same("a turn", ended(zg_normal_turn(&our.normal)), wanted);
 }
 
 /* A cycle into the buffer, which stays if it isn't mixed. */
@@ -180,7 +260,7 @@ static void cycles(void)
     draw(line, MOST + EDGE);
     memcpy(was, buffer, sizeof was);
     begin();
-    int64_t said = ended(zg_fast_cycle(&fast, buffer, frames));
+    int64_t said = ended(zg_fast_cycle(&our.fast, buffer, frames));
     same("a cycle", said, wanted);
     size_t written = said == ZG_MIXED ? 2 * frames : 0;
     for (size_t i = 0; i < written; i += 2)
@@ -192,11 +272,11 @@ static void cycles(void)
 /* A call on no handle, on one of another kind, or on a closed one. */
 static void refused(void)
 {
-    zg_handle closed = {0, 0}, *of[3] = {NULL, &normal.handle, &closed};
+    zg_handle closed = {0, 0}, *of[3] = {NULL, &our.normal.handle, &closed};
     zg_track_info info;
     int64_t which = number(), how = number(), said = 0;
     if (how == 1 && which >= 9)
-        of[1] = which < 11 ? &track[0].handle : &fast.handle;
+        of[1] = which < 11 ? &our.track[0].handle : &our.fast.handle;
     zg_track *it = (zg_track *)(void *)of[how];
     begin();
     switch (which) {
@@ -222,26 +302,28 @@ static void wrong_length(void)
     size_t many = (size_t)number();
     int64_t wanted = number();
     begin();
-    same("a cycle of a wrong length", ended(zg_fast_cycle(&fast, buffer, many)), wanted);
+    same("a cycle of a wrong length", ended(zg_fast_cycle(&our.fast, buffer, many)), wanted);
 }
 
-/* Closes all, each twice at times, in an order that a number tells. */
+/* Closes one handle, so many times. */
 static void closes(void)
 {
-    uint64_t seed = (uint64_t)number();
+    int64_t which = number(), times = number();
     inside = true;
-    for (size_t i = 0; i < count + 2; i++) {
-        size_t which = (i + seed) % (count + 2);
-        for (uint64_t times = 0; times <= seed % 2; times++)
-            if (which < count)
-                zg_track_close(&track[which]);
-            else if (which == count)
-                zg_normal_close(&normal);
-            else
-                zg_fast_close(&fast);
-    }
+    for (; times > 0; times--)
+        if (which < ZG_MOST_TRACKS)
+            zg_track_close(&our.track[which]);
+        else if (which == ZG_MOST_TRACKS)
+            zg_normal_close(&our.normal);
+        else
+            zg_fast_close(&our.fast);
     inside = false;
-    same("the blocks that are left", live, 0);
+}
+
+static void closes_all(void)
+{
+    close_all(&our, (uint64_t)number());
+    same("the bytes that are left", held, 0);
 }
 
 int main(void)
@@ -250,7 +332,8 @@ int main(void)
     while (scanf(" %c", &letter) == 1) {
         line++;
         switch (letter) {
-        case 'o': opens(); break;
+        case 'o':
+        case 'm': opens(letter); break;
         case 'w': writes(); break;
         case 'i': tells(); break;
         case 'g': gains(); break;
@@ -258,11 +341,12 @@ int main(void)
         case 'c': cycles(); break;
         case 'q': refused(); break;
         case 'b': wrong_length(); break;
-        case 'x': closes(); break;
+        case 'k': closes(); break;
+        case 'x': closes_all(); break;
         default: commands(letter);
         }
     }
-    same("the blocks that are left", live, 0);
-    printf("%lu calls of mixers: each as the model has it\n", line);
+    same("the bytes that are left", held, 0);
+    printf("%lu calls of mixers, and %lu opens for which memory failed: each as the model has it\n", line, failures);
     return 0;
 }
