@@ -13,7 +13,7 @@ use crate::generating::generate;
 use crate::offline::{loop_file, record_file, verify_files};
 use crate::playing::play_script;
 use crate::render::render_script;
-use crate::tracing::trace_script;
+use crate::tracing::{TraceOutput, trace_script};
 use af_io::{Gate, Sink, Store, StoreError};
 use af_offline::{Ending, Refusal, Status, Stop};
 use af_words::{Request, request_of};
@@ -67,7 +67,15 @@ fn make<R: Threads + Sync, S: Store, G: Gate>(
             journal,
             log,
             room,
-        } => trace_script(rt, alloc, store, script, target, journal, log, room, gate),
+        } => {
+            let output = TraceOutput {
+                target,
+                journal,
+                log,
+                room,
+            };
+            trace_script(rt, alloc, store, script, &output, gate)
+        }
     }
 }
 

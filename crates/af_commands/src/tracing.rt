@@ -18,6 +18,15 @@ use af_rendering::Played;
 use std::alloc::Global;
 use std::thread::Threads;
 
+/// What a trace writes: the names of the sound, of the journal and of the log, and for how many notes the log has room.
+#[derive(Clone, Copy, Drop)]
+pub struct TraceOutput<'a> {
+    pub target: &'a str,
+    pub journal: &'a str,
+    pub log: &'a str,
+    pub room: u32,
+}
+
 /// Answers a play as `tell` does, and writes the text of its log after the journal if all parties have ended.
 fn tell_with_log<S: Store>(
     alloc: Global,
@@ -43,18 +52,15 @@ fn trace<R: Threads + Sync, S: Store, G: Gate>(
     alloc: Global,
     loaded: &Loaded,
     store: &mut S,
-    target: &str,
-    journal: &str,
-    log: &str,
-    room: u32,
+    output: &TraceOutput<'_>,
     gate: &G,
 ) -> Result<String, Stop>
     requires files { AreFilesFor loaded.now }
-    requires room { (1 ≤ room) × (room ≤ 1024) }
-    ensures made { S.told store.old → Makes result (Ok (trace_job target.now journal.now log.now room (loaded_view loaded.now))) (S.files store.old) (S.files store.new) }
+    requires room { (1 ≤ output.now.room) × (output.now.room ≤ 1024) }
+    ensures made { S.told store.old → Makes result (Ok (trace_job output.now.target.now output.now.journal.now output.now.log.now output.now.room (loaded_view loaded.now))) (S.files store.old) (S.files store.new) }
     ensures line { IfOk result (λ line. IsSomePlayLine (string_bytes line)) }
     ensures cause { HasFault (S.faults store.old) (S.faults store.new) result }
-    ensures words { (script : List ℕ) → SuitsRequest result (Trace script target.now journal.now log.now room) }
+    ensures words { (script : List ℕ) → SuitsRequest result (Trace script output.now.target.now output.now.journal.now output.now.log.now output.now.room) }
 {
     is_accepted(&loaded.script);
     what_follows_of_rounds();
@@ -62,11 +68,19 @@ fn trace<R: Threads + Sync, S: Store, G: Gate>(
     let piece = Piece {
         script: &loaded.script,
         files: &loaded.files,
-        name: target,
+        name: output.target,
     };
-    let played = af_playing::play_logged(rt, alloc, &piece, store, gate, room, &mut text);
+    let played = af_playing::play_logged(rt, alloc, &piece, store, gate, output.room, &mut text);
     let cycles = loaded.script.cycles();
-    let told = tell_with_log(alloc, store, journal, log, &text, cycles, &played);
+    let told = tell_with_log(
+        alloc,
+        store,
+        output.journal,
+        output.log,
+        &text,
+        cycles,
+        &played,
+    );
     drop(played);
     told
 }
@@ -77,18 +91,15 @@ pub fn trace_script<R: Threads + Sync, S: Store, G: Gate>(
     alloc: Global,
     store: &mut S,
     script: &str,
-    target: &str,
-    journal: &str,
-    log: &str,
-    room: u32,
+    output: &TraceOutput<'_>,
     gate: &G,
 ) -> Result<String, Stop>
-    requires { (1 ≤ room) × (room ≤ 1024) }
-    ensures made { S.told store.old → Makes result (trace_asked (S.files store.old) script.now target.now journal.now log.now room) (S.files store.old) (S.files store.new) }
+    requires { (1 ≤ output.now.room) × (output.now.room ≤ 1024) }
+    ensures made { S.told store.old → Makes result (trace_asked (S.files store.old) script.now output.now.target.now output.now.journal.now output.now.log.now output.now.room) (S.files store.old) (S.files store.new) }
     ensures line { IfOk result (λ line. IsSomePlayLine (string_bytes line)) }
     ensures cause { HasFault (S.faults store.old) (S.faults store.new) result }
-    ensures words { SuitsRequest result (Trace script.now target.now journal.now log.now room) }
+    ensures words { SuitsRequest result (Trace script.now output.now.target.now output.now.journal.now output.now.log.now output.now.room) }
 {
     let loaded = load_script(alloc, store, script)?;
-    trace(rt, alloc, &loaded, store, target, journal, log, room, gate)
+    trace(rt, alloc, &loaded, store, output, gate)
 }

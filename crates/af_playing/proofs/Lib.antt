@@ -9,6 +9,7 @@ pub mod RoundsOfAll
 pub mod GoingOn
 pub mod PlayAnswers
 pub mod StagesPlayed
+pub mod RoundsPlayed
 pub mod InTime
 pub mod KeptPlays
 pub mod ClientsSpelled

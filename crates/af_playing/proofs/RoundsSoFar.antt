@@ -1,9 +1,8 @@
 -- The rounds of a play that was cut off are legal one by one, up to the last meetings, and its sound is that of their journal.
 use Rattle.std.proofs.Common.{◌≡◌, ℕ, ◌+◌, ◌*◌, List, [], ◌∷◌, length, refl, sym, ap, subst, arith}
 use Rattle.af_base.specs.declared.frame.Frame.{Frame}
-use Rattle.af_base.specs.Log.{Logged}
 use Rattle.af_fast.specs.Mixer.{MixerState}
-use Rattle.af_model.specs.Journals.{JournalData, RoundNoted, RoundSeen, cycles_of, journal_of}
+use Rattle.af_model.specs.Journals.{JournalData, RoundNoted, cycles_of, journal_of}
 use Rattle.af_runs.specs.Blocks.{Marks}
 use Rattle.af_runs.specs.LegalRuns.{marks_of, session_of}
 use Rattle.af_runs.specs.Pcm.{journal_pcm}

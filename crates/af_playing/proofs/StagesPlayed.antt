@@ -1,5 +1,5 @@
 -- What a stage is, once its rounds were played.
-use Rattle.std.proofs.Common.{◌≡◌, ◌≤◌, ℕ, List, [], Result, Ok, Err, OnOk, length, false, true, sym, ap, subst, ◌∙◌}
+use Rattle.std.proofs.Common.{◌≡◌, ◌≤◌, ℕ, List, [], length, false, true, sym, ap, subst, ◌∙◌}
 use Rattle.af_base.specs.declared.frame.Frame.{Frame}
 use Rattle.af_link.specs.declared.links.Links.{Links}
 use Rattle.af_script.specs.Data.{ScriptData}
@@ -23,7 +23,7 @@ module _ (script : ScriptData) (shared : SharedState) (was : SessionState) (new 
   given = record { tracks = tracks; files = files }
 
   -- a stage on which all rounds were played is one that was played to its end, or to the end of the log
-  played_on : (cycles : ℕ) → cycles ≡ script.cycles → NotedOn links given (length s.rounds.rounds) was s → RunsOfAll given was s.rounds.rounds s.parties → (all_ended s.parties ≡ false → is_full s.parties ≡ true) → length s.rounds.rounds ≤ cycles → HasPlayed script files s
+  pub played_on : (cycles : ℕ) → cycles ≡ script.cycles → NotedOn links given (length s.rounds.rounds) was s → RunsOfAll given was s.rounds.rounds s.parties → (all_ended s.parties ≡ false → is_full s.parties ≡ true) → length s.rounds.rounds ≤ cycles → HasPlayed script files s
   played_on cycles are noted ran over few =
       let n : ℕ = length s.rounds.rounds in
       record {
@@ -43,8 +43,3 @@ module _ (script : ScriptData) (shared : SharedState) (was : SessionState) (new 
         frames = noted.frames ∙ frames_first script shared was new files;
         entries = noted.ready.together.fast.0.room.entries.0;
       }
-
-  pub has_played : {T E : Type 0} (r : Result T E) (cycles : ℕ) → cycles ≡ script.cycles → OnOk r (NotedOn links given (length s.rounds.rounds) was s) → OnOk r (RunsOfAll given was s.rounds.rounds s.parties) → OnOk r (all_ended s.parties ≡ false → is_full s.parties ≡ true)
-      → OnOk r (length s.rounds.rounds ≤ cycles) → OnOk r (HasPlayed script files s)
-  has_played (Ok x) cycles are noted ran over few = played_on cycles are noted ran over few
-  has_played (Err e) cycles are noted ran over few = tt

@@ -9,4 +9,4 @@ mod playing_of_all;
 pub use answering::PlayFault;
 pub use piece::Piece;
 pub use play_of_all::{play, play_logged};
-pub use playing_of_all::{have_ended, play_to_end};
+pub use playing_of_all::have_ended;

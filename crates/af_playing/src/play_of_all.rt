@@ -1,108 +1,25 @@
 //! A script's rounds from first to last, in which each party is on its own.
-ghost use Rattle.std.specs.Prelude.{◌≡◌, ◌≤◌, ℕ, List, [], Option, Some, Err, IfErr, IfOk, OnErr, OnOk};
-ghost use Rattle.af_io.specs.Causes.{HasCause};
-ghost use Rattle.af_io.specs.Files.{Files, LeavesFront, SetsFile};
-ghost use Rattle.af_model.specs.Journals.{RoundNoted};
+ghost use Rattle.std.specs.Prelude.{◌≡◌, ◌≤◌, ℕ, Option, Some, Err, IfErr, IfOk, OnErr, OnOk};
 ghost use Rattle.af_enough.specs.Enough.{HasEnoughCycles};
 ghost use Rattle.af_playing.specs.declared.answering.PlayFault.TheVariants.{Memory as MemoryFault};
 ghost use Rattle.af_playing.specs.InTime.{EndsInTime};
-ghost use Rattle.af_playing.specs.PlayedRuns.{AtLimit, HandedBack, HasStoreCause, LeavesRun, Plays};
-ghost use Rattle.af_playing.specs.PlayedStages.{HasPlayed};
+ghost use Rattle.af_playing.specs.PlayedRuns.{AtLimit, HandedBack, HasStoreCause};
 ghost use Rattle.af_playing.specs.Pieces.{given_by};
 ghost use Rattle.af_playing.specs.PlayKept.{AppendsLogOfPlay, IsCutPlay, IsDonePlay, KeepsFiles, KeepsPlay, TellsItsRun, TellsLogOf};
 ghost use Rattle.af_rendering.specs.Rendered.{HaveFiles};
-ghost use Rattle.af_rendering.specs.Stages.{IsNewStage};
-ghost use Rattle.af_side_by_side.specs.Logging.{BeginsLog, HasLogOf, LogsPlay};
-ghost use Rattle.af_tally.specs.Sound.{pcm_of};
+ghost use Rattle.af_side_by_side.specs.Logging.{BeginsLog, HasLogOf};
 
 use crate::answering::{PlayFault, answer};
 use crate::piece::Piece;
 use crate::playing_of_all::play_to_end;
 use af_audit::drained_tracks_have_reached_their_stop;
 use af_base::Memory;
-use af_io::{Gate, Pcm, Store, StoreError};
+use af_io::{Gate, Store};
 use af_rendering::{Played, Stage};
-use af_script::Script;
 use af_side_by_side::Logging;
 use std::alloc::Global;
 use std::mem::drop;
 use std::thread::Threads;
-
-// Plays all rounds of a script's new parties, into a file that is empty.
-fn play_rounds<R: Threads + Sync, S: Store, G: Gate>(
-    stage: &mut Stage,
-    rt: &R,
-    alloc: Global,
-    script: &Script,
-    files: &[Pcm],
-    store: &mut S,
-    name: &str,
-    logging: &mut Logging,
-    gate: &G,
-) -> Result<(), StoreError>
-    requires new { IsNewStage script.now stage.old }
-    requires files { HaveFiles (record { tracks = script.now.tracks; files = files.now }) }
-    requires log { (kept : Option ℕ) × LogsPlay kept stage.old.parties.fast [] logging.old }
-    ensures some { (played : List RoundNoted) × Plays script.now files.now played stage.new.parties }
-    ensures played { OnOk result (HasPlayed script.now files.now stage.new) }
-    ensures written { S.told store.old → (base : Files) → SetsFile base name.now (Some []) (S.files store.old) → OnOk result (SetsFile base name.now (Some (pcm_of script.now.frames stage.new.parties.fast.log)) (S.files store.new)) }
-    ensures left { S.told store.old → (base : Files) → SetsFile base name.now (Some []) (S.files store.old) → OnErr result (LeavesFront base name.now (pcm_of script.now.frames stage.new.parties.fast.log) (S.files store.new)) }
-    ensures tells { S.told store.old → S.told store.new }
-    ensures cause { HasCause (S.faults store.old) (S.faults store.new) result }
-    ensures log { (kept : Option ℕ) → LogsPlay kept stage.old.parties.fast [] logging.old → OnOk result (LogsPlay kept stage.new.parties.fast stage.new.rounds.rounds logging.new) }
-{
-    let Stage {
-        shared,
-        parties,
-        room,
-        rounds,
-    } = stage;
-    let links = shared.links();
-    let (cycles, tracks) = (script.cycles(), script.tracks());
-    play_to_end(
-        parties,
-        rt,
-        alloc,
-        &links,
-        cycles,
-        tracks,
-        files,
-        store,
-        name,
-        &mut room.buffer,
-        &mut room.bytes,
-        rounds,
-        &mut room.tally,
-        logging,
-        gate,
-    )
-}
-
-// Makes the file, and plays all rounds of a script's new parties.
-fn play_made<R: Threads + Sync, S: Store, G: Gate>(
-    stage: &mut Stage,
-    rt: &R,
-    alloc: Global,
-    script: &Script,
-    files: &[Pcm],
-    store: &mut S,
-    name: &str,
-    logging: &mut Logging,
-    gate: &G,
-) -> Result<(), StoreError>
-    requires new { IsNewStage script.now stage.old }
-    requires files { HaveFiles (record { tracks = script.now.tracks; files = files.now }) }
-    requires log { (kept : Option ℕ) × LogsPlay kept stage.old.parties.fast [] logging.old }
-    ensures played { OnOk result (HasPlayed script.now files.now stage.new) }
-    ensures written { S.told store.old → OnOk result (SetsFile (S.files store.old) name.now (Some (pcm_of script.now.frames stage.new.parties.fast.log)) (S.files store.new)) }
-    ensures left { S.told store.old → OnErr result (LeavesRun script.now files.now name.now (S.files store.old) (S.files store.new)) }
-    ensures tells { S.told store.old → S.told store.new }
-    ensures cause { HasCause (S.faults store.old) (S.faults store.new) result }
-    ensures log { (kept : Option ℕ) → LogsPlay kept stage.old.parties.fast [] logging.old → OnOk result (LogsPlay kept stage.new.parties.fast stage.new.rounds.rounds logging.new) }
-{
-    store.create(name)?;
-    play_rounds(stage, rt, alloc, script, files, store, name, logging, gate)
-}
 
 // Plays a script in rounds, with a log or without.
 fn play_with<R: Threads + Sync, S: Store, G: Gate>(
@@ -123,17 +40,7 @@ fn play_with<R: Threads + Sync, S: Store, G: Gate>(
 {
     drained_tracks_have_reached_their_stop();
     let mut stage = Stage::make(alloc, piece.script)?;
-    match play_made(
-        &mut stage,
-        rt,
-        alloc,
-        piece.script,
-        piece.files,
-        store,
-        piece.name,
-        logging,
-        gate,
-    ) {
+    match play_to_end(&mut stage, rt, alloc, piece, store, logging, gate) {
         Ok(()) => answer(stage, alloc, piece.script, piece.files),
         Err(error) => {
             drop(stage);

@@ -1,5 +1,5 @@
 -- What a session is played on: before its first turn, and once its rounds were noted.
-use Rattle.std.specs.Prelude.{◌≡◌, ℕ, ◌*◌, ◌<◌, ◌^◌, All, List, [], length}
+use Rattle.std.specs.Prelude.{◌≡◌, ◌*◌, ◌<◌, ◌≤◌, ◌^◌, All, List, [], length}
 use Rattle.af_base.specs.declared.frame.Frame.{Frame}
 use Rattle.af_link.specs.declared.links.Links.{Links}
 use Rattle.af_model.specs.JournalForm.{IsJournal, IsWhole}
@@ -7,23 +7,23 @@ use Rattle.af_model.specs.Journals.{RoundsNoted, journal_of}
 use Rattle.af_party.specs.Parties.{PartyState}
 use Rattle.af_script.specs.Data.{ScriptData}
 use Rattle.af_script.specs.Form.{IsScript}
-use Rattle.af_rendering.specs.declared.staging.Room.{Room}
 use Rattle.af_rendering.specs.declared.staging.Stage.{Stage}
 use Rattle.af_rendering.specs.Hostile.{PokesSpareEntries, PokesSpareOthers}
 use Rattle.af_session.specs.NewSession.{IsNewSession}
 use Rattle.af_rendering.specs.Rendered.{Renders}
+use Rattle.af_session.specs.Rooms.{IsNewRoom}
+use Rattle.af_session.specs.declared.room.Room.{Room}
 use Rattle.af_engine.specs.Shares.{AreLinksOf}
 use Rattle.af_session.specs.Shown.{shown_in}
-use Rattle.af_session.specs.Together.{AreTogether}
-use Rattle.af_tally.specs.Summaries.{Shown, nothing_shown}
+use Rattle.af_session.specs.Together.{AreTogether, SessionState}
+use Rattle.af_tally.specs.Summaries.{Shown}
 use Rattle.af_tally.specs.Tallies.{IsTally}
 
--- room for so many frames a cycle and for so many tracks, of which nothing was noted yet
-pub record IsNewRoom (frames tracks : ℕ) (room : Room) : Type 0 where
-  pub buffer : length room.buffer.items ≡ frames
-  pub bytes : room.bytes ≡ record { items = []; room = 256 * frames }
-  pub tally : IsTally (nothing_shown tracks) room.tally
-  pub released : room.released ≡ record { items = []; room = tracks }
+-- the buffer has the frames of a cycle of these parties, there is room for the bytes of four rounds, and those of three at most wait in it
+pub record HasRoomToWait (s : SessionState) (room : Room) : Type 0 where
+  pub buffer : length room.buffer.items ≡ s.fast.frames
+  pub bytes : 256 * s.fast.frames ≤ room.bytes.room
+  pub waits : length room.bytes.items ≤ 192 * s.fast.frames
 
 -- a new stage: the new parties of an accepted script with what they share, with new room, and no round
 pub record IsNewStage (script : ScriptData) (s : Stage) : Type 0 where

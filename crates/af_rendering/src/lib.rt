@@ -7,6 +7,6 @@ mod rendering;
 mod staging;
 
 pub use given_files::have_files;
-pub use playing::{play_all, send_out};
+pub use playing::send_out;
 pub use rendering::{Ends, Outcome, Played, hand_over, render};
-pub use staging::{Room, Stage};
+pub use staging::Stage;

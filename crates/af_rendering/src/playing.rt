@@ -5,21 +5,21 @@ ghost use Rattle.af_io.specs.Files.{Files, SetsFile, LeavesFront};
 ghost use Rattle.af_model.specs.Journals.{RoundNoted, RoundsNoted};
 ghost use Rattle.af_script.specs.Form.{IsTurn};
 ghost use Rattle.af_rendering.specs.FastSpared.{FastSparesSoFar};
-ghost use Rattle.af_session.specs.Noted.{NotesFrames, NotesNumbers};
 ghost use Rattle.af_rendering.specs.Rendered.{HoldsBut, PlaysTurns, Runs};
-ghost use Rattle.af_session.specs.Rounds.{IsReady, IsRound, round_told};
-ghost use Rattle.af_session.specs.Shown.{FollowsRound, HasPlaces};
+ghost use Rattle.af_rendering.specs.Stages.{HasRoomToWait};
+ghost use Rattle.af_session.specs.Rooms.{HasAdded, HasPlacesAt, HasRoundRoom, IsReadyOn, KeepsRoom, KeepsSizes, StaysInPlace, StaysReadyOn, given_of};
+ghost use Rattle.af_session.specs.Noted.{NotesFrames, NotesNumbers};
+ghost use Rattle.af_session.specs.Rounds.{IsRound, round_told};
+ghost use Rattle.af_session.specs.Shown.{FollowsRound};
 ghost use Rattle.af_tally.specs.Sound.{pcm_of};
 ghost use Rattle.af_tally.specs.Summaries.{nothing_shown};
 ghost use Rattle.af_tally.specs.Tallies.{IsTally};
 
-use af_base::{Frame, Items, Steps};
-use af_io::{Pcm, Store, StoreError};
-use af_link::Links;
+use af_base::{Items, Steps};
+use af_io::{Store, StoreError};
 use af_model::know_log;
-use af_script::{TrackSpec, TurnSpec};
-use af_session::{Parties, know_frames};
-use af_tally::Tally;
+use af_script::TurnSpec;
+use af_session::{Parties, Rig, Room, know_frames};
 use std::marker::Brand;
 use std::sync::ledger::{Blank, Ledger};
 
@@ -80,118 +80,92 @@ fn send_beyond<S: Store>(
 fn round_in<L: Ledger>(
     blank: Blank,
     parties: &mut Parties,
-    links: &Links<'_>,
+    rig: &Rig<'_, '_, '_>,
     turn: TurnSpec,
-    tracks: &[TrackSpec],
-    files: &[Pcm],
-    buffer: &mut [Frame],
-    bytes: &mut Items<u8>,
-    tally: &mut Tally,
+    room: &mut Room,
 )
     requires ledger { (blank.name ≡ L.name) × (blank.parts ≡ L.parts) × (0 < blank.parts) }
     requires turn { IsTurn (length parties.old.clients) turn }
-    requires buffer { length buffer.old ≡ parties.old.fast.frames }
-    requires room { length bytes.old.items + 64 * parties.old.fast.frames ≤ bytes.old.room }
-    requires ready { (n : ℕ) × (n < 100000) × IsReady links.now (record { tracks = tracks.now; files = files.now }) n parties.old }
-    requires places { (n : ℕ) × (n < 100000) × HasPlaces n (length parties.old.clients) (length parties.old.fast.log.entries) tally.old }
-    ensures ready { (n : ℕ) → IsReady links.now (record { tracks = tracks.now; files = files.now }) n parties.old → IsReady links.now (record { tracks = tracks.now; files = files.now }) (n + 1) parties.new }
-    ensures sizes { (parties.new.fast.frames ≡ parties.old.fast.frames) × (parties.new.fast.cycles ≡ parties.old.fast.cycles) }
-    ensures round { (r : RoundNoted) × (added : List ℕ) × (bytes.new ≡ record bytes.old { items = bytes.old.items ++ added }) × IsRound (record { tracks = tracks.now; files = files.now }) turn parties.old r added parties.new }
-    ensures sound { (before : List ℕ) → before ++ bytes.old.items ≡ pcm_of parties.old.fast.frames parties.old.fast.log → before ++ bytes.new.items ≡ pcm_of parties.old.fast.frames parties.new.fast.log }
-    ensures tally { FollowsRound (round_told turn parties.old parties.new) parties.old.fast parties.new.fast tally.old tally.new }
-    ensures places { (n : ℕ) → HasPlaces n (length parties.old.clients) (length parties.old.fast.log.entries) tally.old → HasPlaces (n + 1) (length parties.new.clients) (length parties.new.fast.log.entries) tally.new }
+    requires room { HasRoundRoom parties.old room.old }
+    requires ready { (n : ℕ) × (n < 100000) × IsReadyOn rig.now n parties.old }
+    ensures ready { StaysReadyOn rig.now parties.old parties.new }
+    ensures sizes { KeepsSizes parties.old.fast parties.new.fast }
+    ensures round { (r : RoundNoted) × (added : List ℕ) × HasAdded room.old added room.new × IsRound (given_of rig.now) turn parties.old r added parties.new }
+    ensures kept { KeepsRoom room.old room.new }
+    ensures tally { FollowsRound (round_told turn parties.old parties.new) parties.old.fast parties.new.fast room.old.tally room.new.tally }
+    ensures places { StaysInPlace parties.old parties.new room.old.tally room.new.tally }
 {
     let mut steps = Steps::<L>::start(blank);
-    parties.round(links, turn, tracks, files, buffer, bytes, tally, &mut steps);
+    parties.round(rig, turn, room, &mut steps);
 }
 
 // A round. Its bytes wait behind those of the rounds before it; all go out as one piece as soon as those of the next round might find no room.
 fn play_out<S: Store>(
     parties: &mut Parties,
-    links: &Links<'_>,
+    rig: &Rig<'_, '_, '_>,
     turn: TurnSpec,
-    tracks: &[TrackSpec],
-    files: &[Pcm],
+    room: &mut Room,
     store: &mut S,
     name: &str,
-    buffer: &mut [Frame],
-    bytes: &mut Items<u8>,
-    tally: &mut Tally,
 ) -> Result<(), StoreError>
     requires turn { IsTurn (length parties.old.clients) turn }
-    requires buffer { length buffer.old ≡ parties.old.fast.frames }
-    requires room { 256 * parties.old.fast.frames ≤ bytes.old.room }
-    requires waits { length bytes.old.items ≤ 192 * parties.old.fast.frames }
-    requires ready { (n : ℕ) × (n < 100000) × IsReady links.now (record { tracks = tracks.now; files = files.now }) n parties.old }
-    requires places { (n : ℕ) × (n < 100000) × HasPlaces n (length parties.old.clients) (length parties.old.fast.log.entries) tally.old }
-    ensures ready { (n : ℕ) → IsReady links.now (record { tracks = tracks.now; files = files.now }) n parties.old → IsReady links.now (record { tracks = tracks.now; files = files.now }) (n + 1) parties.new }
-    ensures sizes { (parties.new.fast.frames ≡ parties.old.fast.frames) × (bytes.new.room ≡ bytes.old.room) }
-    ensures waits { length bytes.new.items ≤ 192 * parties.new.fast.frames }
-    ensures round { (added : List ℕ) × IsRound (record { tracks = tracks.now; files = files.now }) turn parties.old (round_told turn parties.old parties.new) added parties.new × (pcm_of parties.old.fast.frames parties.old.fast.log ++ added ≡ pcm_of parties.old.fast.frames parties.new.fast.log) }
+    requires room { HasRoomToWait parties.old room.old }
+    requires ready { (n : ℕ) × (n < 100000) × IsReadyOn rig.now n parties.old }
+    requires places { (n : ℕ) × (n < 100000) × HasPlacesAt n parties.old room.old.tally }
+    ensures ready { StaysReadyOn rig.now parties.old parties.new }
+    ensures sizes { KeepsSizes parties.old.fast parties.new.fast }
+    ensures room { HasRoomToWait parties.new room.new }
+    ensures kept { KeepsRoom room.old room.new }
+    ensures round { (added : List ℕ) × IsRound (given_of rig.now) turn parties.old (round_told turn parties.old parties.new) added parties.new × (pcm_of parties.old.fast.frames parties.old.fast.log ++ added ≡ pcm_of parties.old.fast.frames parties.new.fast.log) }
     ensures frames { NotesFrames (round_told turn parties.old parties.new) }
     ensures numbers { NotesNumbers (round_told turn parties.old parties.new) }
-    ensures written { S.told store.old → (base : Files) → HoldsBut bytes.old.items base name.now (pcm_of parties.old.fast.frames parties.old.fast.log) (S.files store.old) → OnOk result (HoldsBut bytes.new.items base name.now (pcm_of parties.old.fast.frames parties.new.fast.log) (S.files store.new)) }
-    ensures left { S.told store.old → (base : Files) → HoldsBut bytes.old.items base name.now (pcm_of parties.old.fast.frames parties.old.fast.log) (S.files store.old) → OnErr result (LeavesFront base name.now (pcm_of parties.old.fast.frames parties.new.fast.log) (S.files store.new)) }
+    ensures written { S.told store.old → (base : Files) → HoldsBut room.old.bytes.items base name.now (pcm_of parties.old.fast.frames parties.old.fast.log) (S.files store.old) → OnOk result (HoldsBut room.new.bytes.items base name.now (pcm_of parties.old.fast.frames parties.new.fast.log) (S.files store.new)) }
+    ensures left { S.told store.old → (base : Files) → HoldsBut room.old.bytes.items base name.now (pcm_of parties.old.fast.frames parties.old.fast.log) (S.files store.old) → OnErr result (LeavesFront base name.now (pcm_of parties.old.fast.frames parties.new.fast.log) (S.files store.new)) }
     ensures tells { S.told store.old → S.told store.new }
     ensures cause { HasCause (S.faults store.old) (S.faults store.new) result }
-    ensures tally { FollowsRound (round_told turn parties.old parties.new) parties.old.fast parties.new.fast tally.old tally.new }
-    ensures places { (n : ℕ) → HasPlaces n (length parties.old.clients) (length parties.old.fast.log.entries) tally.old → HasPlaces (n + 1) (length parties.new.clients) (length parties.new.fast.log.entries) tally.new }
+    ensures tally { FollowsRound (round_told turn parties.old parties.new) parties.old.fast parties.new.fast room.old.tally room.new.tally }
+    ensures places { StaysInPlace parties.old parties.new room.old.tally room.new.tally }
 {
-    round_in::<Brand>(
-        Blank::new(1),
-        parties,
-        links,
-        turn,
-        tracks,
-        files,
-        buffer,
-        bytes,
-        tally,
-    );
+    round_in::<Brand>(Blank::new(1), parties, rig, turn, room);
     parties.know_round(turn);
-    send_beyond(store, name, bytes, MOST_WAITING * buffer.len())
+    let most = MOST_WAITING * room.buffer.len();
+    send_beyond(store, name, &mut room.bytes, most)
 }
 
 /// Plays these turns one after the other, each as a round after which all meet, and notes each in the tally. The bytes of the rounds' mixed cycles are added to the file in pieces of several rounds.
 ///
 /// What was played is a turn run of the script and its files. Its rounds, which nobody writes down, make a journal with the log. If the file held the sound of the fast mixer's log before, it does so again. After a fault of the store some first turns were played, and the file holds a front of their sound.
-pub fn play_all<S: Store>(
+pub(crate) fn play_all<S: Store>(
     parties: &mut Parties,
-    links: &Links<'_>,
+    rig: &Rig<'_, '_, '_>,
     turns: &[TurnSpec],
-    tracks: &[TrackSpec],
-    files: &[Pcm],
+    room: &mut Room,
     store: &mut S,
     name: &str,
-    buffer: &mut [Frame],
-    bytes: &mut Items<u8>,
-    tally: &mut Tally,
 ) -> Result<(), StoreError>
-    requires turns { All (IsTurn (length tracks.now)) turns.now }
+    requires turns { All (IsTurn (length rig.now.tracks.now)) turns.now }
     requires few { length turns.now ≤ 100000 }
-    requires buffer { length buffer.old ≡ parties.old.fast.frames }
-    requires room { 256 * parties.old.fast.frames ≤ bytes.old.room }
-    requires none { bytes.old.items ≡ [] }
-    requires ready { IsReady links.now (record { tracks = tracks.now; files = files.now }) 0 parties.old }
+    requires room { HasRoomToWait parties.old room.old }
+    requires none { room.old.bytes.items ≡ [] }
+    requires ready { IsReadyOn rig.now 0 parties.old }
     requires log { (parties.old.fast.log.entries ≡ []) × (parties.old.fast.log.frames ≡ []) }
-    requires tally { IsTally (nothing_shown (length tracks.now)) tally.old }
-    ensures ready { OnOk result (IsReady links.now (record { tracks = tracks.now; files = files.now }) (length turns.now) parties.new) }
-    ensures run { (n : ℕ) × (played : List RoundNoted) × Runs (record { tracks = tracks.now; files = files.now }) (take n turns.now) parties.old played parties.new }
-    ensures all { OnOk result ((rounds : RoundsNoted) × PlaysTurns (record { tracks = tracks.now; files = files.now }) turns.now parties.old rounds parties.new tally.new) }
+    requires tally { IsTally (nothing_shown (length rig.now.tracks.now)) room.old.tally }
+    ensures ready { OnOk result (IsReadyOn rig.now (length turns.now) parties.new) }
+    ensures run { (n : ℕ) × (played : List RoundNoted) × Runs (given_of rig.now) (take n turns.now) parties.old played parties.new }
+    ensures all { OnOk result ((rounds : RoundsNoted) × PlaysTurns (given_of rig.now) turns.now parties.old rounds parties.new room.new.tally) }
     ensures frames { OnOk result (parties.new.fast.frames ≡ parties.old.fast.frames) }
     ensures entries { FastSparesSoFar parties.old → OnOk result (FastSparesSoFar parties.new) }
+    ensures kept { KeepsRoom room.old room.new }
     ensures written { S.told store.old → (base : Files) → SetsFile base name.now (Some (pcm_of parties.old.fast.frames parties.old.fast.log)) (S.files store.old) → OnOk result (SetsFile base name.now (Some (pcm_of parties.old.fast.frames parties.new.fast.log)) (S.files store.new)) }
     ensures left { S.told store.old → (base : Files) → SetsFile base name.now (Some (pcm_of parties.old.fast.frames parties.old.fast.log)) (S.files store.old) → OnErr result (LeavesFront base name.now (pcm_of parties.old.fast.frames parties.new.fast.log) (S.files store.new)) }
     ensures tells { S.told store.old → S.told store.new }
     ensures cause { HasCause (S.faults store.old) (S.faults store.new) result }
 {
     for i in 0..turns.len() {
-        play_out(
-            parties, links, turns[i], tracks, files, store, name, buffer, bytes, tally,
-        )?;
+        play_out(parties, rig, turns[i], room, store, name)?;
     }
     let log = parties.fast.log();
     know_frames(log.frames());
     know_log(log);
-    send_waiting(store, name, bytes)
+    send_waiting(store, name, &mut room.bytes)
 }

@@ -23,7 +23,7 @@ use af_model::{Journal, Rounds};
 use af_normal::NormalMixer;
 use af_party::Party;
 use af_script::Script;
-use af_session::Parties;
+use af_session::{Parties, Rig};
 use af_tally::{Summary, Tally};
 use std::alloc::Global;
 use std::marker::Model;
@@ -179,19 +179,13 @@ impl Stage {
             ..
         } = self;
         let links = shared.links();
-        let (turns, tracks) = (script.turns(), script.tracks());
-        play_all(
-            parties,
-            &links,
-            turns,
+        let tracks = script.tracks();
+        let rig = Rig {
+            links,
             tracks,
             files,
-            store,
-            name,
-            &mut room.buffer,
-            &mut room.bytes,
-            &mut room.tally,
-        )
+        };
+        play_all(parties, &rig, script.turns(), room, store, name)
     }
 
     // Makes the file, and plays all turns of a script by its new parties.

@@ -1,24 +1,13 @@
 //! What a session is played on, made before its first turn.
-ghost use Rattle.af_script.specs.Bounds.{most_tracks};
-ghost use Rattle.std.specs.Prelude.{◌≡◌, ◌≤◌, IfOk, length};
-ghost use Rattle.af_rendering.specs.Stages.{IsNewRoom, IsNewStage};
+ghost use Rattle.std.specs.Prelude.{IfOk};
+ghost use Rattle.af_rendering.specs.Stages.{IsNewStage};
 
-use af_base::{Frame, Items, Memory};
+use af_base::Memory;
 use af_engine::Shared;
 use af_model::Rounds;
 use af_script::Script;
-use af_session::{Parties, make};
-use af_tally::Tally;
+use af_session::{Parties, Room, make};
 use std::alloc::Global;
-
-/// The room of a session: for the frames of a cycle, for the bytes of four rounds of the most cycles, for the tally of the tracks, and for a count of each track.
-#[derive(Drop)]
-pub struct Room {
-    pub buffer: Vec<Frame>,
-    pub bytes: Items<u8>,
-    pub tally: Tally,
-    pub released: Items<u64>,
-}
 
 /// The parties of a session with what they share, the room that their rounds need, and the rounds that were noted. Only a play notes rounds; a render notes none.
 #[derive(Drop)]
@@ -27,36 +16,6 @@ pub struct Stage {
     pub parties: Parties,
     pub room: Room,
     pub rounds: Rounds,
-}
-
-// So many silent frames.
-fn silence(alloc: Global, frames: usize) -> Result<Vec<Frame>, Memory>
-    requires { frames ≤ 1024 }
-    ensures { IfOk result (λ buffer. length buffer.items ≡ frames) }
-{
-    let mut buffer = Vec::with_capacity(alloc, frames)?;
-    buffer.resize(frames, Frame { left: 0, right: 0 })?;
-    Ok(buffer)
-}
-
-impl Room {
-    // The room for so many frames of a cycle and so many tracks. Memory is the only refusal.
-    fn make(alloc: Global, frames: usize, tracks: usize) -> Result<Self, Memory>
-        requires frames { frames ≤ 1024 }
-        requires tracks { tracks ≤ most_tracks }
-        ensures { IfOk result (IsNewRoom frames tracks) }
-    {
-        let buffer = silence(alloc, frames)?;
-        let bytes = Items::with_room(alloc, 256 * frames)?;
-        let tally = Tally::new(alloc, tracks)?;
-        let released = Items::with_room(alloc, tracks)?;
-        Ok(Room {
-            buffer,
-            bytes,
-            tally,
-            released,
-        })
-    }
 }
 
 impl Stage {

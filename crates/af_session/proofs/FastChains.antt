@@ -1,6 +1,6 @@
 -- How the cycles of a fast turn are a chain, from its beginning on.
 use Rattle.std.proofs.Common.{◌≡◌, ℕ, suc, ◌+◌, ◌-◌, ◌*◌, ◌<◌, ◌≤◌, if◌then◌else◌, Bool, true, false, true≢false, List, [], ◌∷◌, ◌++◌, length, refl, sym, ap, subst, ◌∙◌, append-nil, append_assoc, arith}
-use Rattle.std.proofs.Math.Nat.{add-zero}
+use Rattle.std.proofs.Math.Nat.{add-zero, mul-le-mul_right}
 use Rattle.std.proofs.lemmas.List.{length-append}
 use Rattle.std.proofs.lemmas.List.Concat.{flat_map-cons}
 use Rattle.af_base.specs.declared.frame.Frame.{Frame}
@@ -59,3 +59,12 @@ long_written answer out = by_mixed (is_mixed answer)
 pub put_behind : (a b c : Roomy ℕ) (front more : List ℕ) → b ≡ record a { items = a.items ++ front } → c ≡ record b { items = b.items ++ more } → c ≡ record a { items = a.items ++ (front ++ more) }
 put_behind a b c front more first second =
     second ∙ ap (λ (y : Roomy ℕ). record y { items = y.items ++ more }) first ∙ ap (λ (l : List ℕ). record a { items = l }) (append_assoc a.items front more)
+
+-- after fewer than all cycles there is room for the bytes of one more
+pub room_on : (bytes bytes' : Roomy ℕ) (added : List ℕ) (count i frames frames' : ℕ) → bytes' ≡ record bytes { items = bytes.items ++ added } → length added ≤ 4 * (i * frames) → i < count → frames' ≡ frames
+    → length bytes.items + 4 * (count * frames) ≤ bytes.room → length bytes'.items + 4 * (1 * frames') ≤ bytes'.room
+room_on bytes bytes' added count i frames frames' is few lt same room =
+    let long : length bytes'.items ≡ length bytes.items + length added = ap (λ (y : Roomy ℕ). length y.items) is ∙ length-append bytes.items added in
+    let wide : bytes'.room ≡ bytes.room = ap (λ (y : Roomy ℕ). y.room) is in
+    let fits : (i + 1) * frames ≤ count * frames = mul-le-mul_right frames (omega (arith, lt)) in
+    omega (arith, long, wide, fits, few, same, room)

@@ -12,3 +12,5 @@ pub mod NormalRounds
 pub mod MapMore
 pub mod Following
 pub mod FollowingRounds
+pub mod RoomsKept
+pub mod NotedOn

@@ -7,3 +7,4 @@ pub mod NewTracks
 pub mod NewSession
 pub mod Shown
 pub mod Ends
+pub mod Rooms

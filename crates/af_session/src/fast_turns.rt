@@ -1,18 +1,20 @@
 //! A turn of the fast mixer, the bytes that it mixes, and what its tally notes.
-ghost use Rattle.std.specs.Prelude.{◌≡◌, ℕ, ◌+◌, ◌-◌, ◌*◌, ◌<◌, ◌≤◌, ◌^◌, ◌++◌, false, true, List, length};
+ghost use Rattle.std.specs.Prelude.{◌≡◌, ℕ, ◌+◌, ◌-◌, ◌*◌, ◌<◌, ◌≤◌, ◌^◌, ◌++◌, false, true, length};
 ghost use Rattle.af_base.specs.Log.{slots, entry_at};
 ghost use Rattle.af_fast.specs.Mixer.{IsInOrder as IsFastInOrder, IsLinked};
 ghost use Rattle.af_fast.specs.Mixing.{MixesOnce};
 ghost use Rattle.af_model.specs.Cycles.{is_mixed};
 ghost use Rattle.af_session.specs.FastTurns.{IsCycle, Turned};
+ghost use Rattle.af_session.specs.Rooms.{CanCycle, CanMix, HasAdded, HasNotedOn, HasRoom, KeepsRoom, KeepsSizes};
 ghost use Rattle.af_session.specs.Shown.{Follows, HasPlaces, frames_written};
-ghost use Rattle.af_tally.specs.Sound.{IsWhole, pcm_of};
+ghost use Rattle.af_tally.specs.Sound.{IsWhole};
 ghost use Rattle.af_runs.specs.Pcm.{written};
 ghost use Rattle.af_tally.specs.Summaries.{Shown, with_entry, with_written};
 ghost use Rattle.af_tally.specs.Tallies.{IsTally, Keeps, most_looks};
 ghost use Rattle.af_session.specs.Together.{AreTogether};
 
 use crate::meetings::meet;
+use crate::room::Room;
 use af_base::{Cycle, FastState, Frame, Items, Steps};
 use af_fast::FastMixer;
 use af_link::Links;
@@ -28,8 +30,8 @@ pub fn is_mixed(cycle: Cycle) -> bool
     matches!(cycle, Cycle::Mixed)
 }
 
-/// Appends the bytes of a buffer, if it was mixed.
-pub fn push_written(cycle: Cycle, buffer: &[Frame], bytes: &mut Items<u8>)
+// Appends the bytes of a buffer, if it was mixed.
+fn push_written(cycle: Cycle, buffer: &[Frame], bytes: &mut Items<u8>)
     requires room { length bytes.old.items + 4 * length buffer.now ≤ bytes.old.room }
     ensures { bytes.new ≡ record bytes.old { items = bytes.old.items ++ written cycle buffer.now } }
 {
@@ -65,7 +67,10 @@ fn note_last(fast: &mut FastMixer, tally: &mut Tally)
     requires room { tally.old.looks + slots ≤ most_looks }
     requires cycles { tally.old.cycles < 2 ^ 32 }
     ensures same { fast.new ≡ fast.old }
-    ensures tally { (run : Shown) → IsTally run tally.old → IsTally (with_entry run (record { entry = entry_at fast.old.log.entries (length fast.old.log.entries - 1); state = fast.old.observer.current })) tally.new }
+    ensures tally { (run : Shown) → IsTally run tally.old → IsTally (with_entry run (record {
+      entry = entry_at fast.old.log.entries (length fast.old.log.entries - 1);
+      state = fast.old.observer.current;
+    })) tally.new }
     ensures keeps { Keeps slots 1 tally.old tally.new }
 {
     let state = state_polled(fast);
@@ -76,8 +81,8 @@ fn note_last(fast: &mut FastMixer, tally: &mut Tally)
     tally.note_entry(entry, state.as_ref());
 }
 
-/// The mix of a cycle. The entry that it adds is noted, with the state that it used and the frames that it writes. If it adds no entry nothing is noted.
-pub fn mix_noted<L: Ledger>(
+// The mix of a cycle. The entry that it adds is noted, with the state that it used and the frames that it writes. If it adds no entry nothing is noted.
+fn mix_noted<L: Ledger>(
     fast: &mut FastMixer,
     links: &Links<'_>,
     buffer: &mut [Frame],
@@ -97,7 +102,8 @@ pub fn mix_noted<L: Ledger>(
     ensures mixes { MixesOnce fast.old buffer.old result fast.new buffer.new }
     ensures length { length buffer.new ≡ length buffer.old }
     ensures tally { Follows fast.old fast.new tally.old tally.new }
-    ensures places { (n tracks : ℕ) → HasPlaces n tracks (length fast.old.log.entries) tally.old → HasPlaces n tracks (length fast.new.log.entries) tally.new }
+    ensures places { (n tracks : ℕ) → HasPlaces n tracks (length fast.old.log.entries) tally.old
+        → HasPlaces n tracks (length fast.new.log.entries) tally.new }
 {
     let entries = fast.log().len();
     let cycle = fast.mix(links, buffer, steps);
@@ -108,103 +114,79 @@ pub fn mix_noted<L: Ledger>(
     cycle
 }
 
-// One cycle: a poll, the meetings of all parties, and the mix. The mix is noted, and its bytes are appended.
+/// The mix of a cycle, after its poll. The entry that it adds is noted, with the state that it used and the frames that it writes, and its bytes are appended to those in the room. If it adds no entry nothing is noted.
+pub fn mix_in<L: Ledger>(
+    fast: &mut FastMixer,
+    links: &Links<'_>,
+    room: &mut Room,
+    steps: &mut Steps<L>,
+) -> Cycle
+    requires can { CanMix links.now fast.old }
+    requires room { HasRoom 1 fast.old room.old }
+    ensures can { CanCycle links.now fast.new }
+    ensures sizes { KeepsSizes fast.old fast.new }
+    ensures mixes { MixesOnce fast.old room.old.buffer.items result fast.new room.new.buffer.items }
+    ensures bytes { HasAdded room.old (written result room.new.buffer.items) room.new }
+    ensures noted { HasNotedOn fast.old fast.new room.old.tally room.new.tally }
+    ensures kept { KeepsRoom room.old room.new }
+{
+    let cycle = mix_noted(fast, links, &mut room.buffer, &mut room.tally, steps);
+    push_written(cycle, &room.buffer, &mut room.bytes);
+    cycle
+}
+
+// One cycle: a poll, the meetings of all parties, and the mix in the room.
 fn fast_cycle<L: Ledger>(
     clients: &mut [Party],
     normal: &mut NormalMixer,
     fast: &mut FastMixer,
     links: &Links<'_>,
-    buffer: &mut [Frame],
-    bytes: &mut Items<u8>,
-    tally: &mut Tally,
+    room: &mut Room,
     steps: &mut Steps<L>,
 ) -> Cycle
     requires together { AreTogether links.now (record { clients = clients.old; normal = normal.old; fast = fast.old }) }
     requires between { fast.old.adopted ≡ false }
-    requires buffer { length buffer.old ≡ fast.old.frames }
-    requires room { length bytes.old.items + 4 * fast.old.frames ≤ bytes.old.room }
     requires whole { IsWhole fast.old.log }
-    requires places { (n : ℕ) × (tracks : ℕ) × (n ≤ 100000) × HasPlaces n tracks (length fast.old.log.entries) tally.old }
+    requires room { HasRoom 1 fast.old room.old }
     ensures together { AreTogether links.now (record { clients = clients.new; normal = normal.new; fast = fast.new }) }
     ensures between { fast.new.adopted ≡ false }
-    ensures cycle { IsCycle (record { clients = clients.old; normal = normal.old; fast = fast.old }) buffer.old result (record { clients = clients.new; normal = normal.new; fast = fast.new }) buffer.new }
-    ensures bytes { bytes.new ≡ record bytes.old { items = bytes.old.items ++ written result buffer.new } }
-    ensures tally { Follows fast.old fast.new tally.old tally.new }
-    ensures places { (n tracks : ℕ) → HasPlaces n tracks (length fast.old.log.entries) tally.old → HasPlaces n tracks (length fast.new.log.entries) tally.new }
+    ensures cycle { IsCycle (record { clients = clients.old; normal = normal.old; fast = fast.old }) room.old.buffer.items result
+        (record { clients = clients.new; normal = normal.new; fast = fast.new }) room.new.buffer.items }
+    ensures bytes { HasAdded room.old (written result room.new.buffer.items) room.new }
+    ensures noted { HasNotedOn fast.old fast.new room.old.tally room.new.tally }
+    ensures kept { KeepsRoom room.old room.new }
 {
     fast.adopt(links, steps);
     meet(clients, normal, fast, links, steps);
-    let cycle = mix_noted(fast, links, buffer, tally, steps);
-    push_written(cycle, buffer, bytes);
-    cycle
+    mix_in(fast, links, room, steps)
 }
 
-// Up to so many cycles. The first that mixes nothing is the last.
-fn fast_cycles<L: Ledger>(
+/// The fast mixer's turn: up to `count` cycles, in each of which all parties meet between the poll and the mix. The first cycle that mixes nothing is the last. The bytes of each mix are appended to those in the room, which has room for all of them, and the tally notes each entry and what it wrote. It takes no memory.
+pub(crate) fn fast_turn<L: Ledger>(
     clients: &mut [Party],
     normal: &mut NormalMixer,
     fast: &mut FastMixer,
     links: &Links<'_>,
     count: u32,
-    buffer: &mut [Frame],
-    bytes: &mut Items<u8>,
-    tally: &mut Tally,
+    room: &mut Room,
     steps: &mut Steps<L>,
 )
     requires together { AreTogether links.now (record { clients = clients.old; normal = normal.old; fast = fast.old }) }
     requires between { fast.old.adopted ≡ false }
-    requires buffer { length buffer.old ≡ fast.old.frames }
-    requires room { length bytes.old.items + 4 * (count * fast.old.frames) ≤ bytes.old.room }
     requires whole { IsWhole fast.old.log }
-    requires places { (n : ℕ) × (tracks : ℕ) × (n ≤ 100000) × HasPlaces n tracks (length fast.old.log.entries) tally.old }
+    requires room { HasRoom count fast.old room.old }
     ensures together { AreTogether links.now (record { clients = clients.new; normal = normal.new; fast = fast.new }) }
     ensures between { fast.new.adopted ≡ false }
-    ensures sizes { (fast.new.frames ≡ fast.old.frames) × (fast.new.cycles ≡ fast.old.cycles) }
-    ensures turned { Turned count (record { clients = clients.old; normal = normal.old; fast = fast.old }) (record { clients = clients.new; normal = normal.new; fast = fast.new }) bytes.old bytes.new }
-    ensures tally { Follows fast.old fast.new tally.old tally.new }
-    ensures places { (n tracks : ℕ) → HasPlaces n tracks (length fast.old.log.entries) tally.old → HasPlaces n tracks (length fast.new.log.entries) tally.new }
+    ensures sizes { KeepsSizes fast.old fast.new }
+    ensures turned { Turned count (record { clients = clients.old; normal = normal.old; fast = fast.old })
+        (record { clients = clients.new; normal = normal.new; fast = fast.new }) room.old.bytes room.new.bytes }
+    ensures noted { HasNotedOn fast.old fast.new room.old.tally room.new.tally }
+    ensures kept { KeepsRoom room.old room.new }
 {
     for i in 0..count {
-        let cycle = fast_cycle(clients, normal, fast, links, buffer, bytes, tally, steps);
+        let cycle = fast_cycle(clients, normal, fast, links, room, steps);
         if !is_mixed(cycle) {
             return;
         }
     }
-}
-
-/// The fast mixer's turn: up to `count` cycles, in each of which all parties meet between the poll and the mix. The first cycle that mixes nothing is the last. The bytes of each mix are appended to `bytes`, which has room for all of them, and the tally notes each entry and what it wrote. It answers how many entries were added to the log, and takes no memory.
-///
-/// The bytes are the sound of the entries added, and the sound that the log had before stays: if `bytes`, behind what went out before, were the sound of the log, they are so again.
-pub fn fast_turn<L: Ledger>(
-    clients: &mut [Party],
-    normal: &mut NormalMixer,
-    fast: &mut FastMixer,
-    links: &Links<'_>,
-    count: u32,
-    buffer: &mut [Frame],
-    bytes: &mut Items<u8>,
-    tally: &mut Tally,
-    steps: &mut Steps<L>,
-) -> usize
-    requires together { AreTogether links.now (record { clients = clients.old; normal = normal.old; fast = fast.old }) }
-    requires between { fast.old.adopted ≡ false }
-    requires buffer { length buffer.old ≡ fast.old.frames }
-    requires room { length bytes.old.items + 4 * (count * fast.old.frames) ≤ bytes.old.room }
-    requires whole { IsWhole fast.old.log }
-    requires places { (n : ℕ) × (tracks : ℕ) × (n ≤ 100000) × HasPlaces n tracks (length fast.old.log.entries) tally.old }
-    ensures together { AreTogether links.now (record { clients = clients.new; normal = normal.new; fast = fast.new }) }
-    ensures between { fast.new.adopted ≡ false }
-    ensures sizes { (fast.new.frames ≡ fast.old.frames) × (fast.new.cycles ≡ fast.old.cycles) }
-    ensures whole { IsWhole fast.new.log }
-    ensures turned { Turned count (record { clients = clients.old; normal = normal.old; fast = fast.old }) (record { clients = clients.new; normal = normal.new; fast = fast.new }) bytes.old bytes.new }
-    ensures answer { length fast.old.log.entries + result ≡ length fast.new.log.entries }
-    ensures sound { (before : List ℕ) → before ++ bytes.old.items ≡ pcm_of fast.old.frames fast.old.log → before ++ bytes.new.items ≡ pcm_of fast.old.frames fast.new.log }
-    ensures tally { Follows fast.old fast.new tally.old tally.new }
-    ensures places { (n tracks : ℕ) → HasPlaces n tracks (length fast.old.log.entries) tally.old → HasPlaces n tracks (length fast.new.log.entries) tally.new }
-{
-    let start = fast.log().len();
-    fast_cycles(
-        clients, normal, fast, links, count, buffer, bytes, tally, steps,
-    );
-    fast.log().len() - start
 }

@@ -6,10 +6,14 @@ mod making;
 mod meetings;
 mod noting;
 mod parties;
+mod rig;
+mod room;
 mod rounds;
 mod tracks;
 
-pub use fast_turns::{fast_turn, is_mixed, mix_noted, push_written};
+pub use fast_turns::{is_mixed, mix_in};
 pub use making::make;
 pub use noting::{copied_turn, know_frames};
 pub use parties::Parties;
+pub use rig::Rig;
+pub use room::Room;

@@ -33,9 +33,12 @@ fn meet_party<L: Ledger>(
     ensures fast { IsFastInOrder fast.new × IsLinked links.now fast.new }
     ensures same_normal { normal.new ≡ record normal.old { streams = normal.new.streams; commands = normal.new.commands; hands = normal.new.hands } }
     ensures same_fast { fast.new ≡ record fast.old { observer = record fast.old.observer { items = fast.new.observer.items } } }
-    ensures met { let x = fast.old.observer.past.state in TrackMet (spot_of x (proxies_of normal.old fast.old) party.old.track) (spot_of x (proxies_of normal.new fast.new) party.old.track) party.old party.new }
-    ensures others { let x = fast.old.observer.past.state in (i : ℕ) → i ≢ party.old.track → spot_of x (proxies_of normal.new fast.new) i ≡ spot_of x (proxies_of normal.old fast.old) i }
-    ensures items { (k : ℕ) → slot_for fast.old.observer.past.state party.old.track ≢ Some k → at fast.new.observer.items k ≡ at fast.old.observer.items k }
+    ensures met { let x = fast.old.observer.past.state in TrackMet (spot_of x (proxies_of normal.old fast.old) party.old.track)
+        (spot_of x (proxies_of normal.new fast.new) party.old.track) party.old party.new }
+    ensures others { let x = fast.old.observer.past.state in (i : ℕ) → i ≢ party.old.track
+        → spot_of x (proxies_of normal.new fast.new) i ≡ spot_of x (proxies_of normal.old fast.old) i }
+    ensures items { (k : ℕ) → slot_for fast.old.observer.past.state party.old.track ≢ Some k
+        → at fast.new.observer.items k ≡ at fast.old.observer.items k }
 {
     let track = party.track;
     let Party {
@@ -58,7 +61,8 @@ pub(crate) fn meet<L: Ledger>(
 )
     requires { AreTogether links.now (record { clients = clients.old; normal = normal.old; fast = fast.old }) }
     ensures together { AreTogether links.now (record { clients = clients.new; normal = normal.new; fast = fast.new }) }
-    ensures met { Met (record { clients = clients.old; normal = normal.old; fast = fast.old }) (record { clients = clients.new; normal = normal.new; fast = fast.new }) }
+    ensures met { Met (record { clients = clients.old; normal = normal.old; fast = fast.old })
+        (record { clients = clients.new; normal = normal.new; fast = fast.new }) }
 {
     meet_ends(normal, fast, links, steps);
     for i in 0..clients.len() {

@@ -1,8 +1,7 @@
 -- The cycles of a turn of the fast mixer alone: how they are a chain, and what they add to the log and to the sound.
-use Rattle.std.proofs.Common.{◌≡◌, ℕ, zero, suc, ◌+◌, ◌-◌, ◌*◌, ◌<◌, ◌≤◌, Bool, true, false, true≢false, List, [], ◌++◌, length, refl, sym, ap, subst, ◌∙◌, append-nil, append_assoc, arith}
-use Rattle.std.proofs.Math.Nat.{add-zero, mul-le-mul_right}
+use Rattle.std.proofs.Common.{◌≡◌, ℕ, zero, suc, ◌+◌, ◌-◌, ◌<◌, Bool, true, false, true≢false, List, [], ◌++◌, refl, sym, ap, subst, ◌∙◌, append-nil, append_assoc, arith}
+use Rattle.std.proofs.Math.Nat.{add-zero}
 use Rattle.std.specs.Bool.{MatchBool}
-use Rattle.std.proofs.lemmas.List.{length-append}
 use Rattle.std.proofs.lemmas.List.Elements.{All-nil}
 use Rattle.af_base.specs.declared.log.Cycle.{Cycle}
 use Rattle.af_base.specs.Log.{Logged}
@@ -107,12 +106,3 @@ sounds_on links m m' bytes bytes' added before whole turned is same =
     ∙ sym (append_assoc before bytes.items added)
     ∙ ap (λ (l : List ℕ). l ++ added) same
     ∙ sym adds.grows.sound
-
--- after fewer than sixteen cycles there is room for the bytes of one more
-pub room_on : (bytes bytes' : Roomy ℕ) (added : List ℕ) (i frames frames' : ℕ) → bytes' ≡ record bytes { items = bytes.items ++ added } → length added ≤ 4 * (i * frames) → i < 16 → frames' ≡ frames
-    → length bytes.items + 64 * frames ≤ bytes.room → length bytes'.items + 4 * frames' ≤ bytes'.room
-room_on bytes bytes' added i frames frames' is few lt same room =
-    let long : length bytes'.items ≡ length bytes.items + length added = ap (λ (y : Roomy ℕ). length y.items) is ∙ length-append bytes.items added in
-    let wide : bytes'.room ≡ bytes.room = ap (λ (y : Roomy ℕ). y.room) is in
-    let fits : i * frames ≤ 15 * frames = mul-le-mul_right frames (omega (arith, lt)) in
-    omega (arith, long, wide, fits, few, same, room)

@@ -9,3 +9,4 @@ pub mod ScribeTurns
 pub mod LogRounds
 pub mod LogMeets
 pub mod LogEnds
+pub mod TurnsOfAll

@@ -1,18 +1,20 @@
 -- What all parties have for a round in which they make their turns at once, and what they leave.
-use Rattle.std.proofs.Common.{◌≡◌, ℕ, suc, ◌+◌, ◌<◌, ◌^◌, Bool, true, false, List, [], ◌∷◌, length, get_or, slice_get, Option, Some, None, MatchOption, IsSomeAnd, All, refl, sym, ap, subst, ◌∙◌, arith}
+use Rattle.std.proofs.Common.{◌≡◌, ℕ, suc, ◌+◌, ◌<◌, ◌^◌, Bool, true, false, List, [], ◌∷◌, length, get_or, slice_get, Option, Some, None, MatchOption, IsSomeAnd, All, Vec, refl, sym, ap, subst, ◌∙◌, arith}
 use Rattle.std.specs.Bool.{MatchBool}
 use Rattle.std.specs.List.{AllZip}
+use Rattle.std.specs.Vec.{with_items}
+use Rattle.std.proofs.lemmas.List.{with_items_is}
 use Rattle.std.proofs.lemmas.Option.{slice_get-get_or, slice_get_within}
 use Rattle.std.proofs.lemmas.Slice.Zip.{AllZip-right}
+use Rattle.af_session.specs.Rooms.{CanCycle}
 use Rattle.af_base.specs.Roomy.{Roomy}
-use Rattle.af_fast.specs.Mixer.{MixerState}
 use Rattle.af_life.specs.Kept.{Setup}
 use Rattle.af_link.specs.declared.links.Links.{Links}
 use Rattle.af_normal.specs.Meeting.{AreClientsOf}
 use Rattle.af_normal.specs.State.{NormalState, setup_of}
 use Rattle.af_party.specs.Parties.{PartyState}
 use Rattle.af_session.specs.Rounds.{Given, IsReady, file_at, ops_at}
-use Rattle.af_side_by_side.specs.SideBySide.{AllPlayed, CanCycle, CanMixOn, CanTurn, ClientPlayed, HasCycledOn, HasMixedOn, HasTurned, NormalPlayed, TurnPlayed}
+use Rattle.af_side_by_side.specs.SideBySide.{AllPlayed, CanMixOn, CanTurn, ClientPlayed, HasCycledOn, HasMixedOn, HasTurned, NormalPlayed, TurnPlayed}
 use Rattle.af_session.specs.Together.{SessionState}
 use Rattle.af_party.specs.Works.{CanWork}
 
@@ -42,6 +44,14 @@ zip_weaker R S f [] (y ∷ ys) zip = absurd zip
 zip_weaker R S f (x ∷ xs) [] zip = absurd zip
 zip_weaker R S f (x ∷ xs) (y ∷ ys) zip = (f x y zip.0, zip_weaker R S f xs ys zip.1)
 
+-- so are a list and what stands in a Vec behind what was written over it as a slice
+pub zip_back : {X Z : Type 0} (R : X → X → Type 0) (v : Vec X Z) (was xs ys : List X) → xs ≡ v.items → v.items ≡ was → AllZip R xs ys → AllZip R was (with_items v ys).items
+zip_back {X} R v was xs ys here is zip =
+    let long : length ys ≡ length xs = zip_long R xs ys zip in
+    let same : length xs ≡ length v.items = ap length here in
+    let back : (with_items v ys).items ≡ ys = with_items_is v ys (let o = v.ok.0 in omega arith) in
+    subst (λ (l : List X). AllZip R l (with_items v ys).items) (here ∙ is) (subst (AllZip R xs) (sym back) zip)
+
 -- ## Before the turns
 
 module _ (links : Links) (g : Given) (n : ℕ) (s : SessionState) (ready : IsReady links g n s) (few : n < 131072) where
@@ -63,8 +73,11 @@ module _ (links : Links) (g : Given) (n : ℕ) (s : SessionState) (ready : IsRea
   pub can_mix : CanMixOn links s.normal
   can_mix = record { order = ready.together.normal; few = omega (arith, ready.turns, few) }
 
-  pub few_clients : length s.clients < 2 ^ 31
+  few_clients : length s.clients < 2 ^ 31
   few_clients = let count = ready.together.count in let most = ready.together.normal.tied.sizes.few in omega arith
+
+  pub few_tracks : length g.tracks < 2 ^ 31
+  few_tracks = let same = ready.given.0 in let most = few_clients in omega arith
 
   pub can_cycle : CanCycle links s.fast
   can_cycle = record { linked = ready.together.fast.1; order = ready.together.fast.0; between = ready.between; whole = ready.whole }
@@ -79,42 +92,39 @@ same_setup m m' played = by_end m.ended played
     by_end true same = ap setup_of same
     by_end false turned = turned.1.setup
 
-module _ (links : Links) (g : Given) (n : ℕ) (s : SessionState) (ready : IsReady links g n s) (clients : List PartyState) (m : NormalState) (f : MixerState) (bytes bytes' : Roomy ℕ)
-    (turned : AllZip (HasTurned links g) s.clients clients) (mixed : HasMixedOn links s.normal m) (cycled : HasCycledOn links s.fast f bytes bytes') where
-  abbrev after : SessionState
-  after = record { clients = clients; normal = m; fast = f }
+module _ (links : Links) (g : Given) (s t : SessionState) (bytes bytes' : Roomy ℕ) (turned : AllZip (HasTurned links g) s.clients t.clients) (mixed : HasMixedOn links s.normal t.normal) (cycled : HasCycledOn links s.fast t.fast bytes bytes') where
+  was : (i : ℕ) (q : PartyState) → slice_get t.clients i ≡ Some q → (p : PartyState) × (slice_get s.clients i ≡ Some p) × HasTurned links g p q
+  was i q at = zip_at (HasTurned links g) s.clients t.clients i q turned at
 
-  was : (i : ℕ) (q : PartyState) → slice_get clients i ≡ Some q → (p : PartyState) × (slice_get s.clients i ≡ Some p) × HasTurned links g p q
-  was i q at = zip_at (HasTurned links g) s.clients clients i q turned at
+  long : length t.clients ≡ length s.clients
+  long = zip_long (HasTurned links g) s.clients t.clients turned
 
-  long : length clients ≡ length s.clients
-  long = zip_long (HasTurned links g) s.clients clients turned
+  module _ (n : ℕ) (ready : IsReady links g n s) where
+    tracks_long : length t.normal.tracks ≡ length s.normal.tracks
+    tracks_long =
+        let settings : length t.normal.settings ≡ length s.normal.settings = ap (λ (c : Setup). length c.settings) (same_setup s.normal t.normal mixed.played) in
+        sym mixed.order.tied.sizes.settings ∙ settings ∙ ready.together.normal.tied.sizes.settings
 
-  tracks_long : length m.tracks ≡ length s.normal.tracks
-  tracks_long =
-      let settings : length m.settings ≡ length s.normal.settings = ap (λ (c : Setup). length c.settings) (same_setup s.normal m mixed.played) in
-      sym mixed.order.tied.sizes.settings ∙ settings ∙ ready.together.normal.tied.sizes.settings
+    pub ready_of_all : IsReady links g (n + 1) t
+    ready_of_all = record {
+      together = record {
+        normal = mixed.order;
+        fast = (cycled.can.order, cycled.can.linked);
+        count = long ∙ ready.together.count ∙ sym tracks_long;
+        tracks = (λ i q at. let x = was i q at in x.2.track ∙ ready.together.tracks i x.0 x.1);
+        clients = (λ i q at. let x = was i q at in subst (λ (k : ℕ). AreClientsOf links k q.stream q.command) (x.2.track ∙ ready.together.tracks i x.0 x.1) x.2.clients);
+      };
+      between = cycled.can.between;
+      given = (ready.given.0 ∙ sym long, ready.given.1 ∙ sym long);
+      works = (λ i q at. let x = was i q at in subst (λ (k : ℕ). CanWork (ops_at g k) (length (file_at g k)) q) (ready.together.tracks i x.0 x.1) x.2.work);
+      few = (λ i q at. let x = was i q at in let old = ready.few i x.0 x.1 in let new = x.2.few in omega arith);
+      turns = (let old = ready.turns in let new = mixed.turns in omega arith);
+      whole = cycled.can.whole;
+    }
 
-  pub ready_of_all : IsReady links g (n + 1) after
-  ready_of_all = record {
-    together = record {
-      normal = mixed.order;
-      fast = (cycled.can.order, cycled.can.linked);
-      count = long ∙ ready.together.count ∙ sym tracks_long;
-      tracks = (λ i q at. let x = was i q at in x.2.track ∙ ready.together.tracks i x.0 x.1);
-      clients = (λ i q at. let x = was i q at in subst (λ (k : ℕ). AreClientsOf links k q.stream q.command) (x.2.track ∙ ready.together.tracks i x.0 x.1) x.2.clients);
-    };
-    between = cycled.can.between;
-    given = (ready.given.0 ∙ sym long, ready.given.1 ∙ sym long);
-    works = (λ i q at. let x = was i q at in subst (λ (k : ℕ). CanWork (ops_at g k) (length (file_at g k)) q) (ready.together.tracks i x.0 x.1) x.2.work);
-    few = (λ i q at. let x = was i q at in let old = ready.few i x.0 x.1 in let new = x.2.few in omega arith);
-    turns = (let old = ready.turns in let new = mixed.turns in omega arith);
-    whole = cycled.can.whole;
-  }
-
-  pub played_by_all : AllPlayed links g s after cycled.added
+  pub played_by_all : AllPlayed links g s t cycled.added
   played_by_all = record {
-    clients = zip_weaker (HasTurned links g) (ClientPlayed g) (λ p q h. h.played) s.clients clients turned;
+    clients = zip_weaker (HasTurned links g) (ClientPlayed g) (λ p q h. h.played) s.clients t.clients turned;
     normal = mixed.played;
     fast = cycled.played;
   }

@@ -1,3 +1,4 @@
 pub mod Alone
 pub mod SideBySide
 pub mod Logging
+pub mod TurnsInRoom

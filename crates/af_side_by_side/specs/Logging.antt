@@ -7,6 +7,7 @@ use Rattle.af_cblk.specs.Sides.{Made}
 use Rattle.af_fast.specs.Mixer.{MixerState}
 use Rattle.af_model.specs.Journals.{JournalData, RoundNoted, entries_of}
 use Rattle.af_nblog.specs.declared.entries.Note.{Note}
+use Rattle.af_nblog.specs.LogText.{log_text}
 use Rattle.af_nblog.specs.Notes.{note_of}
 use Rattle.af_nblog.specs.NoteEnds.{WriterState, ReaderState, AreInOrder, writer_made, reader_made, accepted, read}
 use Rattle.af_nblog.specs.NoteRounds.{EachRefusesLate, HasDrained, HasNoted, IsBetween}
@@ -166,6 +167,14 @@ pub record HasLogOf (frames room : ℕ) (j : JournalData) (l : LoggingState) : T
   pub between : IsBetween room rounds ends.writer ends.reader
   pub kept : l.auditor.notes.items ≡ read ends.reader
   pub space : length l.auditor.notes.items + room ≤ l.auditor.notes.room
+
+-- the auditor keeps all notes that were accepted, and so many were refused as before
+abbrev pub HasReadAll : WriterState → LoggingState → Type 0
+HasReadAll w l = (l.auditor.notes.items ≡ accepted w) × ((v : WriterState) × (l.scribe.end ≡ Some v) × (v.refused ≡ w.refused))
+
+-- the text of a log stands behind another text
+abbrev pub AppendsLog : WriterState → List ℕ → List ℕ → Type 0
+AppendsLog w text text' = text' ≡ text ++ log_text (accepted w) w.refused
 
 -- the log of a journal with this room is kept, or none is
 abbrev pub TellsLog : Option ℕ → ℕ → JournalData → LoggingState → Type 0

@@ -1,10 +1,10 @@
 -- A round of all parties at once: each makes its turn, and then all meet.
-use Rattle.std.specs.Prelude.{◌≡◌, ℕ, zero, suc, Bool, slice_index_or, ◌+◌, ◌-◌, ◌<◌, ◌≤◌, ◌^◌, ◌++◌, if◌then◌else◌, MatchBool, false, List, [], length, map, Option, Some, None}
+use Rattle.std.specs.Prelude.{◌≡◌, ℕ, zero, suc, Bool, slice_index_or, ◌+◌, ◌-◌, ◌<◌, ◌≤◌, ◌^◌, ◌++◌, if◌then◌else◌, MatchBool, List, [], length, map, Option, Some, None}
 use Rattle.std.specs.List.{AllZip}
 use Rattle.af_base.specs.declared.event.ClientCall.{ClientCall}
 use Rattle.af_base.specs.Roomy.{Roomy}
 use Rattle.af_base.specs.Turn.{Turn, turn_of}
-use Rattle.af_fast.specs.Mixer.{IsInOrder as IsFastInOrder, IsLinked, MixerState}
+use Rattle.af_fast.specs.Mixer.{MixerState}
 use Rattle.af_runs.specs.ClientTurns.{LegalClientTurn, after_calls}
 use Rattle.af_life.specs.Kept.{Outside}
 use Rattle.af_link.specs.declared.links.Links.{Links}
@@ -16,12 +16,11 @@ use Rattle.af_normal.specs.State.{NormalState}
 use Rattle.af_normal.specs.TurnMade.{TurnMade, answer_of}
 use Rattle.af_side_by_side.specs.Alone.{FastTurned}
 use Rattle.af_session.specs.Met.{Met}
+use Rattle.af_session.specs.Rooms.{CanCycle}
 use Rattle.af_party.specs.Parties.{PartyState, track_of}
 use Rattle.af_session.specs.Rounds.{Given, file_at, ops_at, with_ends}
-use Rattle.af_session.specs.Shown.{Follows, HasPlaces}
-use Rattle.af_tally.specs.Sound.{IsWhole, pcm_of}
+use Rattle.af_tally.specs.Sound.{pcm_of}
 use Rattle.af_tally.specs.Summaries.{Shown, with_calls, with_turn}
-use Rattle.af_tally.specs.Tallies.{Tallied}
 use Rattle.af_session.specs.Together.{AreTogether, SessionState}
 use Rattle.af_party.specs.Works.{CanWork}
 
@@ -99,13 +98,6 @@ pub record HasMixedOn (links : Links) (m m' : NormalState) : Type 0 where
   pub order : IsNormalInOrder links m'
   pub turns : m'.turns ≤ m.turns + 1
 
--- the fast mixer is in order, between two cycles, and its log is whole
-pub record CanCycle (links : Links) (m : MixerState) : Type 0 where
-  pub linked : IsLinked links m
-  pub order : IsFastInOrder m
-  pub between : m.adopted ≡ false
-  pub whole : IsWhole m.log
-
 -- The fast mixer made a turn, if it hadn't ended. The bytes of what it mixed were put behind others. If the bytes, behind those that went out before, were the sound of its log, they are so again
 pub record HasCycledOn (links : Links) (m m' : MixerState) (bytes bytes' : Roomy ℕ) : Type 0 where
   pub added : List ℕ
@@ -114,11 +106,6 @@ pub record HasCycledOn (links : Links) (m m' : MixerState) (bytes bytes' : Roomy
   pub can : CanCycle links m'
   pub sizes : (m'.frames ≡ m.frames) × (m'.cycles ≡ m.cycles)
   pub sound : (before : List ℕ) → before ++ bytes.items ≡ pcm_of m.frames m.log → before ++ bytes'.items ≡ pcm_of m.frames m'.log
-
--- A tally follows what the fast mixer does. It has the looks and the mixed cycles of the entries that the turn added
-pub record HasNotedOn (m m' : MixerState) (a b : Tallied) : Type 0 where
-  pub follows : Follows m m' a b
-  pub places : (n tracks : ℕ) → HasPlaces n tracks (length m.log.entries) a → HasPlaces n tracks (length m'.log.entries) b
 
 -- a run goes on by the calls of the first so many clients, by their places
 abbrev pub with_all_calls : List (List ClientCall) → ℕ → Shown → Shown

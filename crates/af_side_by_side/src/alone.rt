@@ -1,18 +1,17 @@
 //! A turn of the fast mixer while the other parties make theirs.
-ghost use Rattle.std.specs.Prelude.{◌≡◌, ◌+◌, ◌*◌, ◌≤◌, ◌++◌, ℕ, List, length};
+ghost use Rattle.std.specs.Prelude.{ℕ, List, length};
 ghost use Rattle.af_side_by_side.specs.Alone.{CyclesOn, CyclesOnce, most_cycles};
 ghost use Rattle.af_side_by_side.specs.Logging.{HasLogged, IsScribe};
-ghost use Rattle.af_side_by_side.specs.SideBySide.{CanCycle, HasCycledOn, HasNotedOn};
-ghost use Rattle.af_session.specs.Shown.{Follows, HasPlaces};
+ghost use Rattle.af_session.specs.Rooms.{CanCycle, HasAdded, HasNotedOn, HasRoom, KeepsRoom, KeepsSizes};
+ghost use Rattle.af_side_by_side.specs.TurnsInRoom.{FastLogged};
 ghost use Rattle.af_runs.specs.Pcm.{written};
 
 use crate::logging::Scribe;
-use af_base::{Cycle, Frame, Items, Steps};
+use af_base::{Cycle, Steps};
 use af_cblk::Block;
 use af_fast::FastMixer;
 use af_link::Links;
-use af_session::{is_mixed, mix_noted, push_written};
-use af_tally::Tally;
+use af_session::{Room, is_mixed, mix_in};
 use std::sync::ledger::Ledger;
 
 /// The most cycles of a turn.
@@ -22,54 +21,44 @@ const MOST_CYCLES: u32 = 16;
 fn cycle_once<L: Ledger>(
     fast: &mut FastMixer,
     links: &Links<'_>,
-    buffer: &mut [Frame],
-    bytes: &mut Items<u8>,
-    tally: &mut Tally,
+    room: &mut Room,
     steps: &mut Steps<L>,
 ) -> Cycle
     requires can { CanCycle links.now fast.old }
-    requires buffer { length buffer.old ≡ fast.old.frames }
-    requires room { length bytes.old.items + 4 * fast.old.frames ≤ bytes.old.room }
-    requires places { (n : ℕ) × (tracks : ℕ) × (n ≤ 100000) × HasPlaces n tracks (length fast.old.log.entries) tally.old }
+    requires room { HasRoom 1 fast.old room.old }
     ensures can { CanCycle links.now fast.new }
-    ensures cycle { CyclesOnce links.now fast.old result (written result buffer.new) fast.new }
-    ensures bytes { bytes.new ≡ record bytes.old { items = bytes.old.items ++ written result buffer.new } }
-    ensures tally { Follows fast.old fast.new tally.old tally.new }
-    ensures places { (n tracks : ℕ) → HasPlaces n tracks (length fast.old.log.entries) tally.old → HasPlaces n tracks (length fast.new.log.entries) tally.new }
+    ensures cycle { CyclesOnce links.now fast.old result (written result room.new.buffer.items) fast.new }
+    ensures bytes { HasAdded room.old (written result room.new.buffer.items) room.new }
+    ensures noted { HasNotedOn fast.old fast.new room.old.tally room.new.tally }
+    ensures kept { KeepsRoom room.old room.new }
 {
     fast.adopt(links, steps);
-    let cycle = mix_noted(fast, links, buffer, tally, steps);
-    push_written(cycle, buffer, bytes);
-    cycle
+    mix_in(fast, links, room, steps)
 }
 
 // One cycle, whose bytes are appended. Its entry is noted in the log, if one is kept.
 fn cycle_logged<L: Ledger>(
     fast: &mut FastMixer,
     links: &Links<'_>,
-    buffer: &mut [Frame],
-    bytes: &mut Items<u8>,
-    tally: &mut Tally,
+    room: &mut Room,
     log: &Option<Block>,
     scribe: &mut Scribe,
     steps: &mut Steps<L>,
 ) -> Cycle
     requires can { CanCycle links.now fast.old }
-    requires buffer { length buffer.old ≡ fast.old.frames }
-    requires room { length bytes.old.items + 4 * fast.old.frames ≤ bytes.old.room }
-    requires places { (n : ℕ) × (tracks : ℕ) × (n ≤ 100000) × HasPlaces n tracks (length fast.old.log.entries) tally.old }
+    requires room { HasRoom 1 fast.old room.old }
     requires log { IsScribe log.now (length fast.old.log.entries) scribe.old }
     ensures can { CanCycle links.now fast.new }
-    ensures cycle { CyclesOnce links.now fast.old result (written result buffer.new) fast.new }
-    ensures bytes { bytes.new ≡ record bytes.old { items = bytes.old.items ++ written result buffer.new } }
-    ensures tally { Follows fast.old fast.new tally.old tally.new }
-    ensures places { (n tracks : ℕ) → HasPlaces n tracks (length fast.old.log.entries) tally.old → HasPlaces n tracks (length fast.new.log.entries) tally.new }
+    ensures cycle { CyclesOnce links.now fast.old result (written result room.new.buffer.items) fast.new }
+    ensures bytes { HasAdded room.old (written result room.new.buffer.items) room.new }
+    ensures noted { HasNotedOn fast.old fast.new room.old.tally room.new.tally }
+    ensures kept { KeepsRoom room.old room.new }
     ensures scribe { IsScribe log.now (length fast.new.log.entries) scribe.new }
     ensures logged { HasLogged (length fast.old.log.entries) fast.new scribe.old scribe.new }
 {
     let entries = fast.log().len();
-    let frames = buffer.len() as u32;
-    let cycle = cycle_once(fast, links, buffer, bytes, tally, steps);
+    let frames = room.buffer.len() as u32;
+    let cycle = cycle_once(fast, links, room, steps);
     if fast.log().len() > entries {
         scribe.note_last(log, fast, frames, steps);
     }
@@ -80,56 +69,46 @@ fn cycle_logged<L: Ledger>(
 fn cycles_on<L: Ledger>(
     fast: &mut FastMixer,
     links: &Links<'_>,
-    buffer: &mut [Frame],
-    bytes: &mut Items<u8>,
-    tally: &mut Tally,
+    room: &mut Room,
     log: &Option<Block>,
     scribe: &mut Scribe,
     steps: &mut Steps<L>,
 )
     requires can { CanCycle links.now fast.old }
-    requires buffer { length buffer.old ≡ fast.old.frames }
-    requires room { length bytes.old.items + 64 * fast.old.frames ≤ bytes.old.room }
-    requires places { (n : ℕ) × (tracks : ℕ) × (n ≤ 100000) × HasPlaces n tracks (length fast.old.log.entries) tally.old }
+    requires room { HasRoom 16 fast.old room.old }
     requires log { IsScribe log.now (length fast.old.log.entries) scribe.old }
     ensures can { CanCycle links.now fast.new }
-    ensures sizes { (fast.new.frames ≡ fast.old.frames) × (fast.new.cycles ≡ fast.old.cycles) }
-    ensures turned { (added : List ℕ) × (bytes.new ≡ record bytes.old { items = bytes.old.items ++ added }) × CyclesOn links.now most_cycles fast.old added fast.new }
-    ensures tally { Follows fast.old fast.new tally.old tally.new }
-    ensures places { (n tracks : ℕ) → HasPlaces n tracks (length fast.old.log.entries) tally.old → HasPlaces n tracks (length fast.new.log.entries) tally.new }
+    ensures sizes { KeepsSizes fast.old fast.new }
+    ensures turned { (added : List ℕ) × HasAdded room.old added room.new × CyclesOn links.now most_cycles fast.old added fast.new }
+    ensures noted { HasNotedOn fast.old fast.new room.old.tally room.new.tally }
+    ensures kept { KeepsRoom room.old room.new }
     ensures scribe { IsScribe log.now (length fast.new.log.entries) scribe.new }
     ensures logged { HasLogged (length fast.old.log.entries) fast.new scribe.old scribe.new }
 {
     for i in 0..MOST_CYCLES {
-        let cycle = cycle_logged(fast, links, buffer, bytes, tally, log, scribe, steps);
+        let cycle = cycle_logged(fast, links, room, log, scribe, steps);
         if !is_mixed(cycle) {
             return;
         }
     }
 }
 
-/// The fast mixer's turn while the other parties make theirs: up to sixteen cycles, none if it has ended. The bytes of each mix are appended to `bytes`, which has room for all of them, and the tally notes each entry and what it wrote. If a log is kept each entry is noted in it too. It takes no memory.
+/// The fast mixer's turn while the other parties make theirs: up to sixteen cycles, none if it has ended. The bytes of each mix are appended to those in the room, and the tally notes each entry and what it wrote. If a log is kept each entry is noted in it too. It takes no memory.
 pub fn turn_alone<L: Ledger>(
     fast: &mut FastMixer,
     links: &Links<'_>,
-    buffer: &mut [Frame],
-    bytes: &mut Items<u8>,
-    tally: &mut Tally,
+    room: &mut Room,
     log: &Option<Block>,
     scribe: &mut Scribe,
     steps: &mut Steps<L>,
 )
     requires can { CanCycle links.now fast.old }
-    requires buffer { length buffer.old ≡ fast.old.frames }
-    requires room { length bytes.old.items + 64 * fast.old.frames ≤ bytes.old.room }
-    requires places { (n : ℕ) × (tracks : ℕ) × (n ≤ 100000) × HasPlaces n tracks (length fast.old.log.entries) tally.old }
+    requires room { HasRoom 16 fast.old room.old }
     requires log { IsScribe log.now (length fast.old.log.entries) scribe.old }
-    ensures turned { HasCycledOn links.now fast.old fast.new bytes.old bytes.new }
-    ensures noted { HasNotedOn fast.old fast.new tally.old tally.new }
+    ensures played { FastLogged links.now fast.old fast.new room.old room.new scribe.old scribe.new }
     ensures scribe { IsScribe log.now (length fast.new.log.entries) scribe.new }
-    ensures logged { HasLogged (length fast.old.log.entries) fast.new scribe.old scribe.new }
 {
     if !fast.has_exited() {
-        cycles_on(fast, links, buffer, bytes, tally, log, scribe, steps);
+        cycles_on(fast, links, room, log, scribe, steps);
     }
 }

@@ -1,11 +1,9 @@
 //! The log of a play, if one is kept: the end with which the fast mixer's party notes its entries, and the party that reads it.
-ghost use Rattle.std.specs.Prelude.{◌≡◌, ◌+◌, ◌-◌, ◌++◌, ◌<◌, ◌≤◌, ℕ, false, Some, None, IfOk, MatchOption, OnErr, length};
+ghost use Rattle.std.specs.Prelude.{◌≡◌, ◌+◌, ◌-◌, ◌<◌, ◌≤◌, ℕ, false, Some, None, IfOk, MatchOption, OnErr, OnOk, length};
 ghost use Rattle.af_base.specs.Log.{entry_at};
 ghost use Rattle.af_model.specs.JournalForm.{is_spent};
 ghost use Rattle.af_model.specs.Journals.{JournalData};
-ghost use Rattle.af_nblog.specs.LogText.{log_text};
-ghost use Rattle.af_nblog.specs.NoteEnds.{WriterState, accepted};
-ghost use Rattle.af_side_by_side.specs.Logging.{AreEnds, BeginsLog, HasAudited, HasLogged, HasLogOf, HasMetLog, IsAuditor, IsScribe};
+ghost use Rattle.af_side_by_side.specs.Logging.{AppendsLog, AreEnds, BeginsLog, HasAudited, HasLogged, HasLogOf, HasMetLog, HasReadAll, IsAuditor, IsScribe};
 
 use af_base::{Items, Memory, Steps};
 use af_cblk::Block;
@@ -124,7 +122,7 @@ impl Logging {
     fn finish<L: Ledger>(&mut self, blank: Blank)
         requires ledger { (blank.name ≡ L.name) × (blank.parts ≡ L.parts) × (0 < blank.parts) }
         requires told { (frames : ℕ) × (room : ℕ) × (journal : JournalData) × HasLogOf frames room journal self.old }
-        ensures { (frames room : ℕ) (journal : JournalData) (l : HasLogOf frames room journal self.old) → (self.new.auditor.notes.items ≡ accepted l.ends.writer) × ((w : WriterState) × (self.new.scribe.end ≡ Some w) × (w.refused ≡ l.ends.writer.refused)) }
+        ensures { (frames room : ℕ) (journal : JournalData) (l : HasLogOf frames room journal self.old) → HasReadAll l.ends.writer self.new }
     {
         self.auditor.read_in::<Brand>(Blank::new(1), &self.log);
         let mut steps = Steps::<L>::start(blank);
@@ -134,7 +132,7 @@ impl Logging {
     /// Drains what is left of a log, and appends its text. Memory is its only refusal; `text` is then as before.
     pub fn write(&mut self, alloc: Global, text: &mut Vec<u8>) -> Result<(), Memory>
         requires told { (frames : ℕ) × (room : ℕ) × (journal : JournalData) × HasLogOf frames room journal self.old }
-        ensures written { (frames room : ℕ) (journal : JournalData) (l : HasLogOf frames room journal self.old) → IfOk result (λ _. text.new.items ≡ text.old.items ++ log_text (accepted l.ends.writer) l.ends.writer.refused) }
+        ensures written { (n r : ℕ) (j : JournalData) (l : HasLogOf n r j self.old) → OnOk result (AppendsLog l.ends.writer text.old.items text.new.items) }
         ensures kept { OnErr result (text.new.items ≡ text.old.items) }
     {
         self.finish::<Brand>(Blank::new(1));

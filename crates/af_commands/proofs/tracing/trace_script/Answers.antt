@@ -12,11 +12,11 @@ returns-clause-made g c = λ told.
     let old = g.S.Store.files c.args.store.now in
     let mid = g.S.Store.files c.load_script.new.store in
     let new = g.S.Store.files c.trace.new.store in
-    let target = c.args.target.now in
-    let name = c.args.journal.now in
-    let job : Job = trace_job target name c.args.log.now c.args.room (loaded_view c.in_ok-loaded.loaded) in
-    let is : trace_asked old c.args.script.now target name c.args.log.now c.args.room ≡ Ok job =
-    ap (λ (r : Result Loaded Refusal). r >>= (λ l. Ok (trace_job target name c.args.log.now c.args.room l))) (c.in_ok-loaded.ensures.loaded told) in
+    let target = c.args.output.now.target.now in
+    let name = c.args.output.now.journal.now in
+    let job : Job = trace_job target name c.args.output.now.log.now c.args.output.now.room (loaded_view c.in_ok-loaded.loaded) in
+    let is : trace_asked old c.args.script.now target name c.args.output.now.log.now c.args.output.now.room ≡ Ok job =
+    ap (λ (r : Result Loaded Refusal). r >>= (λ l. Ok (trace_job target name c.args.output.now.log.now c.args.output.now.room l))) (c.in_ok-loaded.ensures.loaded told) in
     let made : Makes c.trace.result (Ok job) old new =
     subst (λ (files : Files). Makes c.trace.result (Ok job) files new) (files_are old mid (c.in_ok-loaded.ensures.same told)) (c.trace.ensures.made (c.in_ok-loaded.ensures.tells told)) in
     subst (λ (asked : Result Job Refusal). Makes c.trace.result asked old new) (sym is) made

@@ -34,12 +34,12 @@ returns-in-Err-clause-keeps g c =
 pub returns-in-Err-clause-files : goal.returns-in-Err-clause-files
 returns-in-Err-clause-files g c = λ told.
     let e = c.in-Err.error in
-    files_none c.args.piece.now.script.now c.args.piece.now.files.now c.args.piece.now.name.now (g.S.Store.files c.args.store.now) (g.S.Store.files c.play_made.new.store) (Err c.from.result) (fault_of e) (limits_not e) c.from.ensures
+    files_none c.args.piece.now.script.now c.args.piece.now.files.now c.args.piece.now.name.now (g.S.Store.files c.args.store.now) (g.S.Store.files c.play_to_end.new.store) (Err c.from.result) (fault_of e) (limits_not e) c.from.ensures
     (c.in-Err.ensures.left told)
 
 pub returns-in-Err-clause-cause : goal.returns-in-Err-clause-cause
 returns-in-Err-clause-cause g c =
-    cause_store (Err c.from.result) c.in-Err.error (g.S.Store.faults c.args.store.now) (g.S.Store.faults c.play_made.new.store) c.from.ensures c.in-Err.ensures.cause
+    cause_store (Err c.from.result) c.in-Err.error (g.S.Store.faults c.args.store.now) (g.S.Store.faults c.play_to_end.new.store) c.from.ensures c.in-Err.ensures.cause
 
 -- ## If all was played
 
@@ -47,31 +47,31 @@ pub returns-in-Ok-clause-keeps : goal.returns-in-Ok-clause-keeps
 returns-in-Ok-clause-keeps g c =
     let script = c.args.piece.now.script.now in
     let files = c.args.piece.now.files.now in
-    keeps script files c.play_made.new.stage c.answer.result c.in-Ok.ensures.played c.answer.ensures c.in_ok-stage.ensures.script_is (λ journal legal. c.drained_tracks_have_reached_their_stop.ensures script files journal c.in_ok-stage.ensures.script_is legal)
+    keeps script files c.play_to_end.new.stage c.answer.result c.in-Ok.ensures.played c.answer.ensures c.in_ok-stage.ensures.script_is (λ journal legal. c.drained_tracks_have_reached_their_stop.ensures script files journal c.in_ok-stage.ensures.script_is legal)
 
 pub returns-in-Ok-clause-files : goal.returns-in-Ok-clause-files
 returns-in-Ok-clause-files g c = λ told.
-    files_kept c.args.piece.now.script.now c.args.piece.now.files.now c.play_made.new.stage c.answer.result c.in-Ok.ensures.played c.answer.ensures c.args.piece.now.name.now (g.S.Store.files c.args.store.now) (g.S.Store.files c.play_made.new.store)
+    files_kept c.args.piece.now.script.now c.args.piece.now.files.now c.play_to_end.new.stage c.answer.result c.in-Ok.ensures.played c.answer.ensures c.args.piece.now.name.now (g.S.Store.files c.args.store.now) (g.S.Store.files c.play_to_end.new.store)
     (c.in-Ok.ensures.written told)
 
 pub returns-in-Ok-clause-cause : goal.returns-in-Ok-clause-cause
 returns-in-Ok-clause-cause g c =
-    cause_kept c.args.piece.now.script.now c.args.piece.now.files.now c.play_made.new.stage c.answer.result c.in-Ok.ensures.played c.answer.ensures c.in-Ok.field-0 (g.S.Store.faults c.args.store.now) (g.S.Store.faults c.play_made.new.store)
+    cause_kept c.args.piece.now.script.now c.args.piece.now.files.now c.play_to_end.new.stage c.answer.result c.in-Ok.ensures.played c.answer.ensures c.in-Ok.field-0 (g.S.Store.faults c.args.store.now) (g.S.Store.faults c.play_to_end.new.store)
     c.in-Ok.ensures.cause
 
 -- ## The log
 
-pub play_made-requires-clause-log : goal.play_made-requires-clause-log
-play_made-requires-clause-log g c = λ κs lives.
+pub play_to_end-requires-clause-log : goal.play_to_end-requires-clause-log
+play_to_end-requires-clause-log g c = λ κs lives.
     let fast = c.in_ok-stage.ensures.new.fast in
     (c.requires.log.0, c.requires.log.1 c.in_ok-stage.stage.parties.fast (ap (λ (m : MixerState). m.cycles) fast) (ap (λ (m : MixerState). m.log.entries) fast))
 
 pub returns-in-Ok-clause-log : goal.returns-in-Ok-clause-log
 returns-in-Ok-clause-log g c = λ kept begins.
-    let s = c.play_made.new.stage in
+    let s = c.play_to_end.new.stage in
     let have = c.in-Ok.ensures.played in
     let fast = c.in_ok-stage.ensures.new.fast in
     let first = begins c.in_ok-stage.stage.parties.fast (ap (λ (m : MixerState). m.cycles) fast) (ap (λ (m : MixerState). m.log.entries) fast) in
-    if_ok_one (λ (p : Played). p.journal ≡ journal_of s.rounds s.parties.fast.log) (λ (p : Played). TellsLog kept c.args.piece.now.script.now.frames p.journal c.play_made.new.logging) c.answer.result
-    (λ p journal. tells_log kept c.args.piece.now.script.now.frames s.parties.fast s.rounds p.journal c.play_made.new.logging (c.in-Ok.ensures.log kept first) have.noted.whole have.frames have.entries journal)
+    if_ok_one (λ (p : Played). p.journal ≡ journal_of s.rounds s.parties.fast.log) (λ (p : Played). TellsLog kept c.args.piece.now.script.now.frames p.journal c.play_to_end.new.logging) c.answer.result
+    (λ p journal. tells_log kept c.args.piece.now.script.now.frames s.parties.fast s.rounds p.journal c.play_to_end.new.logging (c.in-Ok.ensures.log kept first) have.noted.whole have.frames have.entries journal)
     c.answer.ensures.journal

@@ -1,209 +1,252 @@
-use Rattle.std.proofs.Common.{rules, ◌≡◌, ◌+◌, ◌<◌, ◌++◌, ◌∷◌, ℕ, List, [], Some, length, refl, sym, ap, subst, ◌∙◌, arith}
+use Rattle.std.proofs.Common.{◌≡◌, ◌+◌, ◌++◌, ℕ, List, [], Some, Ok, length, inr, sym, ap, subst, ◌∙◌, arith}
 use Rattle.std.specs.Prelude.{All}
-use Rattle.std.proofs.lemmas.List.{length-append}
-use Rattle.std.proofs.lemmas.Result.{IfOk-from_err}
 use Rattle.af_base.specs.Log.{Logged}
 use Rattle.af_base.specs.Sample.{IsFrame}
-use Rattle.af_base.specs.declared.state.FastState.{FastState}
-use Rattle.af_io.specs.Files.{SetsFile, LeavesFront}
-use Rattle.af_model.specs.Journals.{RoundsNoted, journal_of}
-use Rattle.af_rendering.specs.Hostile.{SparesSoFar}
-use Rattle.af_side_by_side.specs.Logging.{LogsPlay}
-use Rattle.af_playing.specs.PlayedRuns.{GoesOn, RunsOfAll}
+use Rattle.af_fast.specs.Mixer.{MixerState}
+use Rattle.af_io.specs.Causes.{HasCause}
+use Rattle.af_io.specs.Files.{LeavesFront, SetsFile}
+use Rattle.af_io.proofs.Steps.{LeavesFront-created}
+use Rattle.af_model.specs.Journals.{RoundNoted, RoundsNoted, cycles_of, journal_of}
 use Rattle.af_model.specs.Numbers.{HasRanges}
-use Rattle.af_session.specs.Rounds.{Given, IsReady}
-use Rattle.af_session.specs.Shown.{HasPlaces, shown_at}
-use Rattle.af_side_by_side.specs.SideBySide.{all_noted}
-use Rattle.af_tally.specs.Sound.{pcm_of}
-use Rattle.af_tally.specs.Tallies.{IsTally}
-use Rattle.af_session.specs.Together.{SessionState}
-use Rattle.af_playing.proofs.ExitSeen.{round_knows}
-use Rattle.af_rendering.proofs.FirstRound.{empty_first}
-use Rattle.af_playing.proofs.GoingOn.{few_so_far, goes_further}
+use Rattle.af_playing.specs.PlayedRuns.{GoesOn, LeavesRun}
+use Rattle.af_playing.proofs.RoundsPlayed.{has_played, fewer_left, leaves_more, plays_first, plays_more, ready_for, room_for, round_done, sound_more}
+use Rattle.af_playing.proofs.RoundsOfAll.{notes_of_all}
+use Rattle.af_playing.proofs.RunOfAll.{plays_none}
+use Rattle.af_rendering.proofs.FirstRound.{silent_first}
 use Rattle.af_rendering.proofs.JournalSound.{journal_form, journal_whole}
-use Rattle.af_rendering.proofs.NotedRounds.{cause_never, cause_on}
+use Rattle.af_rendering.proofs.NotedRounds.{cause_never, cause_on, few_noted, left_whole, then_memory}
 use Rattle.af_rendering.proofs.Outgoing.{on_err, stays_at}
-use Rattle.af_rendering.proofs.RoundForms.{AreNoted, noted_none}
-use Rattle.af_playing.proofs.RoundsLeft.{IsGoing, going_first}
-use Rattle.af_playing.proofs.RoundsOfAll.{noted_of_all}
-use Rattle.af_playing.proofs.RunOfAll.{knowing_first, run_of_more, run_of_none}
-use Rattle.af_rendering.proofs.ShownWhole.{places_first, tally_first}
-use Rattle.af_playing.proofs.SparedOfAll.{spares_of_all}
+use Rattle.af_session.specs.declared.room.Room.{Room}
+use Rattle.af_rendering.specs.declared.staging.Stage.{Stage}
+use Rattle.af_session.specs.Together.{SessionState}
+use Rattle.af_side_by_side.specs.Logging.{LogsPlay}
+use Rattle.af_session.specs.Rooms.{given_of}
+use Rattle.af_side_by_side.specs.SideBySide.{all_noted}
+use Rattle.af_session.specs.declared.rig.Rig.{Rig}
+use Rattle.af_tally.specs.Sound.{pcm_of}
 use Rattle.af_playing.proofs.playing_of_all.play_to_end.Goals as goal
 
-pub loop-alloc-init : goal.loop-alloc-init
-loop-alloc-init g c =
-    let given : Given = record { tracks = c.args.tracks.now; files = c.args.files.now } in
-    let was : SessionState = c.args.parties.now in
-    let tracks : ℕ = length c.args.tracks.now in
-    let new = c.requires.new in
-    let log = empty_first new.0 new.1 was new.2 [] in
-    let none : length c.args.rounds.now.rounds ≡ 0 = ap (λ (x : RoundsNoted). length x.rounds) c.requires.rounds in
+-- ## Before the first round
+
+pub returns-in_err-create-clause-left : goal.returns-in_err-create-clause-left
+returns-in_err-create-clause-left g c = λ told.
+    let p = c.args.piece.now in
+    let s = c.args.stage.now in
+    let old = g.S.Store.files c.args.store.now in
+    let new = g.S.Store.files c.create.new.self in
+    let sound : List ℕ = pcm_of p.script.now.frames s.parties.fast.log in
+    let front : LeavesFront old p.name.now sound new = LeavesFront-created (Unit {0}) c.in_err-create.field-0.0 p.name.now sound old new (c.in_err-create.ensures.created told) in
+    let left : LeavesRun p.script.now p.files.now p.name.now old new = inr ([], s.parties, plays_none p.script.now s.shared s.parties c.requires.new.new p.files.now, front) in
+    on_err c.from_residual.result left
+
+pub loop-room-init : goal.loop-room-init
+loop-room-init g c =
+    let p = c.args.piece.now in
+    let s = c.args.stage.now in
+    let rig : Rig = record { links = c.links-links.result; tracks = c.tracks-tracks.result; files = p.files } in
+    let rounds : s.rounds.rounds ≡ [] = ap (λ (x : RoundsNoted). x.rounds) c.requires.new.rounds in
     record {
-      ready = subst (λ (n : ℕ). IsReady c.args.links.now given n was) (sym none) c.requires.ready;
-      knowing = knowing_first new.0 new.1 was new.2;
-      few = omega (arith, none);
-      going = subst (λ (n : ℕ). IsGoing n was) (sym none) (going_first was);
-      run = subst (λ (x : RoundsNoted). RunsOfAll given was x.rounds was) (sym c.requires.rounds) (run_of_none given was);
-      tally = subst (λ (x : RoundsNoted). (first : FastState) → IsTally (shown_at first tracks x.rounds was.fast) c.args.tally.now) (sym c.requires.rounds) (tally_first tracks was.fast c.args.tally.now log.0 c.requires.tally);
-      places = subst (λ (n : ℕ). HasPlaces n (length was.clients) (length was.fast.log.entries) c.args.tally.now) (sym none)
-          (places_first tracks (length was.clients) (length was.fast.log.entries) c.args.tally.now (sym c.requires.ready.given.0) c.requires.tally);
-      noted = subst (λ (x : RoundsNoted). AreNoted tracks x was.fast.log) (sym c.requires.rounds) (noted_none tracks was.fast.log log.0 log.1);
-      spares = subst (λ (x : RoundsNoted). SparesSoFar [] was → SparesSoFar x.rounds was) (sym c.requires.rounds) (λ new. new);
-      log = (λ kept held. subst (λ (x : RoundsNoted). LogsPlay kept was.fast x.rounds c.args.logging.now) (sym c.requires.rounds) held);
-      sizes = (refl, refl, refl);
-      buffer = c.requires.buffer;
-      tells = (λ told. told);
-      stays = refl;
-      written = (λ told base set. set);
+      plays = plays_first p.script.now s c.requires.new rig c.tracks-tracks.ensures.value c.links-links.ensures c.requires.files;
+      log = (λ kept held. subst (λ (rs : List RoundNoted). LogsPlay kept s.parties.fast rs c.args.logging.now) (sym rounds) held);
+      tells = c.in_ok-create.ensures.tells;
+      stays = sym (stays_at (g.S.Store.faults c.args.store.now) (g.S.Store.faults c.create.new.self) c.in_ok-create.field-0 c.in_ok-create.ensures.cause);
+      written = (λ told. subst (λ (xs : List ℕ). SetsFile (g.S.Store.files c.args.store.now) p.name.now (Some xs) (g.S.Store.files c.create.new.self)) (sym (silent_first p.script.now s.shared s.parties c.requires.new.new [] p.script.now.frames))
+          (c.in_ok-create.ensures.created told));
     }
 
-pub loop-alloc-preserved : goal.loop-alloc-preserved
-loop-alloc-preserved g c =
-    let given : Given = record { tracks = c.args.tracks.now; files = c.args.files.now } in
-    let inv = c.loop-alloc.invariant in
-    let rounds : RoundsNoted = c.loop-alloc.rounds in
-    let i : ℕ = length rounds.rounds in
-    let now : SessionState = c.loop-alloc.parties in
-    let next : SessionState = c.noted_round_of_all.new.parties in
-    let frames : ℕ = c.args.parties.now.fast.frames in
-    let more = c.noted_round_of_all.new.bytes.items in
-    let then : List ℕ = pcm_of frames now.fast.log in
-    let grown : then ++ more ≡ pcm_of frames next.fast.log =
-    c.noted_round_of_all.ensures.sound then (ap (λ (n : ℕ). pcm_of n now.fast.log) (sym inv.sizes.0)) ∙ ap (λ (n : ℕ). pcm_of n next.fast.log) inv.sizes.0 in
-    let goes : GoesOn now = c.goes_on.ensures.yes c.loop-alloc-test.true in
-    let round = c.noted_round_of_all.ensures.round in
-    let noted = c.in_ok-noted_round_of_all.ensures.noted in
-    let room = inv.ready.together.fast.0.room.entries.0 in
-    let longer : length c.noted_round_of_all.new.rounds.rounds ≡ i + 1 = ap (λ (x : RoundsNoted). length x.rounds) noted ∙ length-append rounds.rounds (all_noted now next ∷ []) in
-    let few : i < now.fast.cycles = few_so_far i now room goes inv.going in
-    record {
-      ready = subst (λ (n : ℕ). IsReady c.args.links.now given n next) (sym longer) (c.noted_round_of_all.ensures.ready i inv.ready);
-      knowing = round_knows given now next (all_noted now next) more inv.knowing round;
-      few = omega (arith, longer, few, inv.sizes.1, c.requires.cycles);
-      going = subst (λ (n : ℕ). IsGoing n next) (sym longer) (goes_further given i now next (all_noted now next) more inv.knowing inv.ready.together.fast.0.keeps.exited_is room goes inv.going round);
-      run = subst (λ (x : RoundsNoted). RunsOfAll given c.args.parties.now x.rounds next) (sym noted)
-          (run_of_more given c.args.parties.now now next rounds.rounds inv.run goes (all_noted now next) more round grown);
-      tally = subst (λ (x : RoundsNoted). (first : FastState) → IsTally (shown_at first (length c.args.tracks.now) x.rounds next.fast) c.noted_round_of_all.new.tally) (sym noted)
-          (λ first. c.noted_round_of_all.ensures.tally first (length c.args.tracks.now) rounds.rounds (inv.tally first));
-      places = subst (λ (n : ℕ). HasPlaces n (length next.clients) (length next.fast.log.entries) c.noted_round_of_all.new.tally) (sym longer) (c.noted_round_of_all.ensures.places i inv.places);
-      noted = subst (λ (x : RoundsNoted). AreNoted (length c.args.tracks.now) x next.fast.log) (sym noted)
-          (noted_of_all c.args.links.now given i now inv.ready (all_noted now next) more next round c.in_ok-noted_round_of_all.ensures.frames rounds inv.noted);
-      spares = subst (λ (x : RoundsNoted). SparesSoFar [] c.args.parties.now → SparesSoFar x.rounds next) (sym noted)
-          (λ new. spares_of_all c.args.links.now given i now inv.ready next (c.noted_round_of_all.ensures.ready i inv.ready) more (all_noted now next) round rounds.rounds (inv.spares new));
-      log = (λ kept held. c.in_ok-noted_round_of_all.ensures.log kept (inv.log kept held));
-      sizes = (c.noted_round_of_all.ensures.sizes.0 ∙ inv.sizes.0, c.noted_round_of_all.ensures.sizes.1 ∙ inv.sizes.1, c.noted_round_of_all.ensures.sizes.2 ∙ inv.sizes.2);
-      buffer = search rules;
-      tells = (λ told. c.noted_round_of_all.ensures.tells (inv.tells told));
-      stays = sym (stays_at (g.S.Store.faults c.loop-alloc.store) (g.S.Store.faults c.noted_round_of_all.new.store) c.in_ok-noted_round_of_all.field-0 c.in_ok-noted_round_of_all.ensures.cause) ∙ inv.stays;
-      written = (λ told base set.
-          subst (λ (xs : List ℕ). SetsFile base c.args.name.now (Some xs) (g.S.Store.files c.noted_round_of_all.new.store)) grown
-          (c.in_ok-noted_round_of_all.ensures.written (inv.tells told) base then (inv.written told base set)));
-    }
-
-pub loop-alloc-smaller : goal.loop-alloc-smaller
-loop-alloc-smaller g c =
-    let inv = c.loop-alloc.invariant in
-    let rounds : RoundsNoted = c.loop-alloc.rounds in
-    let now : SessionState = c.loop-alloc.parties in
-    let next : SessionState = c.noted_round_of_all.new.parties in
-    let goes : GoesOn now = c.goes_on.ensures.yes c.loop-alloc-test.true in
-    let longer : length c.noted_round_of_all.new.rounds.rounds ≡ length rounds.rounds + 1 =
-    ap (λ (x : RoundsNoted). length x.rounds) c.in_ok-noted_round_of_all.ensures.noted ∙ length-append rounds.rounds (all_noted now next ∷ []) in
-    let few = few_so_far (length rounds.rounds) now inv.ready.together.fast.0.room.entries.0 goes inv.going in
-    omega (arith, longer, few, inv.sizes.1, c.requires.cycles)
+-- ## A round
 
 pub goes_on-requires : goal.goes_on-requires
-goes_on-requires g c = record { cycles = c.requires.cycles ∙ sym c.loop-alloc.invariant.sizes.1 }
+goes_on-requires g c = record { cycles = c.cycles.ensures.value ∙ sym (c.loop-room.invariant.plays.sizes.1 ∙ ap (λ (m : MixerState). m.cycles) c.requires.new.new.fast) }
 
-pub noted_round_of_all-requires-clause-ready : goal.noted_round_of_all-requires-clause-ready
-noted_round_of_all-requires-clause-ready g c = λ κs lives.
-    let inv = c.loop-alloc.invariant in
-    let rounds : RoundsNoted = c.loop-alloc.rounds in
-    let now : SessionState = c.loop-alloc.parties in
-    let goes : GoesOn now = c.goes_on.ensures.yes c.loop-alloc-test.true in
-    let order = inv.ready.together.fast.0.room in
-    let few = few_so_far (length rounds.rounds) now order.entries.0 goes inv.going in
-    (length rounds.rounds, omega (arith, few, order.sized.2), inv.ready)
+pub round_of_all-requires-clause-ready : goal.round_of_all-requires-clause-ready
+round_of_all-requires-clause-ready g c = λ κs lives.
+    let p = c.args.piece.now in
+    let s = c.args.stage.now in
+    let rig : Rig = record { links = c.links-links.result; tracks = c.tracks-tracks.result; files = p.files } in
+    let so = c.loop-room.invariant in
+    let noted : RoundsNoted = c.loop-room.rounds in
+    let now : SessionState = c.loop-room.parties in
+    let room : Room = c.loop-room.room in
+    let goes : GoesOn now = c.goes_on.ensures.yes c.loop-room-test.true in
+    ready_for p.script.now s c.requires.new rig c.tracks-tracks.ensures.value noted now room so.plays goes
 
-pub noted_round_of_all-requires-clause-count : goal.noted_round_of_all-requires-clause-count
-noted_round_of_all-requires-clause-count g c = λ κs lives. c.loop-alloc.invariant.noted.count
+pub round_of_all-requires-clause-room : goal.round_of_all-requires-clause-room
+round_of_all-requires-clause-room g c = λ κs lives.
+    let p = c.args.piece.now in
+    let s = c.args.stage.now in
+    let rig : Rig = record { links = c.links-links.result; tracks = c.tracks-tracks.result; files = p.files } in
+    let so = c.loop-room.invariant in
+    let noted : RoundsNoted = c.loop-room.rounds in
+    let now : SessionState = c.loop-room.parties in
+    let room : Room = c.loop-room.room in
+    let goes : GoesOn now = c.goes_on.ensures.yes c.loop-room-test.true in
+    room_for p.script.now s c.requires.new rig c.tracks-tracks.ensures.value noted now room so.plays goes c.clear.new.self c.clear.ensures
 
-pub noted_round_of_all-requires-clause-places : goal.noted_round_of_all-requires-clause-places
-noted_round_of_all-requires-clause-places g c = λ κs lives.
-    let inv = c.loop-alloc.invariant in
-    let rounds : RoundsNoted = c.loop-alloc.rounds in
-    let now : SessionState = c.loop-alloc.parties in
-    let goes : GoesOn now = c.goes_on.ensures.yes c.loop-alloc-test.true in
-    let order = inv.ready.together.fast.0.room in
-    let few = few_so_far (length rounds.rounds) now order.entries.0 goes inv.going in
-    (length rounds.rounds, omega (arith, few, order.sized.2), inv.places)
+pub round_of_all-requires-clause-log : goal.round_of_all-requires-clause-log
+round_of_all-requires-clause-log g c = λ κs lives. (c.requires.log.0, c.loop-room.rounds.rounds, c.loop-room.invariant.log c.requires.log.0 c.requires.log.1)
 
-pub noted_round_of_all-requires-clause-log : goal.noted_round_of_all-requires-clause-log
-noted_round_of_all-requires-clause-log g c = λ κs lives. (c.requires.log.0, c.loop-alloc.invariant.log c.requires.log.0 c.requires.log.1)
+pub note_all-requires-clause-more : goal.note_all-requires-clause-more
+note_all-requires-clause-more g c =
+    let p = c.args.piece.now in
+    let s = c.args.stage.now in
+    let rig : Rig = record { links = c.links-links.result; tracks = c.tracks-tracks.result; files = p.files } in
+    let so = c.loop-room.invariant in
+    let noted : RoundsNoted = c.loop-room.rounds in
+    let now : SessionState = c.loop-room.parties in
+    let room : Room = c.loop-room.room in
+    let goes : GoesOn now = c.goes_on.ensures.yes c.loop-room-test.true in
+    let call = c.round_of_all in
+    let next : SessionState = call.new.parties in
+    let did = call.ensures in
+    let done = round_done rig now next room call.new.room c.clear.new.self c.clear.ensures did.ready did.sizes did.round did.kept did.tally did.places did.sound in
+    let count : c.len-entries.result ≡ length now.fast.log.entries = c.len-entries.ensures ∙ ap (λ (l : Logged). length l.entries) c.log.ensures ∙ ap (λ (x : SessionState). length x.fast.log.entries) c.parties.view_is in
+    let ended : c.has_ended-had_ended.result ≡ now.normal.ended = c.has_ended-had_ended.ensures ∙ ap (λ (x : SessionState). x.normal.ended) c.parties.view_is in
+    let longer = (notes_of_all (given_of rig) now (all_noted now next) call.new.room.bytes.items next done.round).goes.longer in
+    omega (arith, count, longer)
 
-pub returns-in_err-noted_round_of_all : goal.returns-in_err-noted_round_of_all
-returns-in_err-noted_round_of_all g c = record {
-  ready = IfOk-from_err c.from_residual.result _ c.from_residual.ensures.0;
-  run = (let given : Given = record { tracks = c.args.tracks.now; files = c.args.files.now } in
-      let inv = c.loop-alloc.invariant in
-      let rounds : RoundsNoted = c.loop-alloc.rounds in
-      let now : SessionState = c.loop-alloc.parties in
-      let next : SessionState = c.noted_round_of_all.new.parties in
-      let frames : ℕ = c.args.parties.now.fast.frames in
-      let more = c.noted_round_of_all.new.bytes.items in
-      let then : List ℕ = pcm_of frames now.fast.log in
-      let grown : then ++ more ≡ pcm_of frames next.fast.log =
-      c.noted_round_of_all.ensures.sound then (ap (λ (n : ℕ). pcm_of n now.fast.log) (sym inv.sizes.0)) ∙ ap (λ (n : ℕ). pcm_of n next.fast.log) inv.sizes.0 in
-      let goes : GoesOn now = c.goes_on.ensures.yes c.loop-alloc-test.true in
-      (rounds.rounds ++ all_noted now next ∷ [], run_of_more given c.args.parties.now now next rounds.rounds inv.run goes (all_noted now next) more c.noted_round_of_all.ensures.round grown));
-  all = IfOk-from_err c.from_residual.result _ c.from_residual.ensures.0;
-  over = IfOk-from_err c.from_residual.result _ c.from_residual.ensures.0;
-  few = IfOk-from_err c.from_residual.result _ c.from_residual.ensures.0;
-  tracks = IfOk-from_err c.from_residual.result _ c.from_residual.ensures.0;
-  whole = IfOk-from_err c.from_residual.result _ c.from_residual.ensures.0;
-  form = IfOk-from_err c.from_residual.result _ c.from_residual.ensures.0;
-  tally = IfOk-from_err c.from_residual.result _ c.from_residual.ensures.0;
-  frames = IfOk-from_err c.from_residual.result _ c.from_residual.ensures.0;
-  spares = (λ new. IfOk-from_err c.from_residual.result _ c.from_residual.ensures.0);
-  written = (λ told base set. IfOk-from_err c.from_residual.result _ c.from_residual.ensures.0);
-  left = (λ told base set.
-      let inv = c.loop-alloc.invariant in
-      let now : SessionState = c.loop-alloc.parties in
-      let next : SessionState = c.noted_round_of_all.new.parties in
-      let frames : ℕ = c.args.parties.now.fast.frames in
-      let more = c.noted_round_of_all.new.bytes.items in
-      let then : List ℕ = pcm_of frames now.fast.log in
-      let grown : then ++ more ≡ pcm_of frames next.fast.log =
-      c.noted_round_of_all.ensures.sound then (ap (λ (n : ℕ). pcm_of n now.fast.log) (sym inv.sizes.0)) ∙ ap (λ (n : ℕ). pcm_of n next.fast.log) inv.sizes.0 in
-      let left : LeavesFront base c.args.name.now (pcm_of frames next.fast.log) (g.S.Store.files c.noted_round_of_all.new.store) =
-      subst (λ (xs : List ℕ). LeavesFront base c.args.name.now xs (g.S.Store.files c.noted_round_of_all.new.store)) grown
-      (c.in_err-noted_round_of_all.ensures.left (inv.tells told) base then (inv.written told base set)) in
-      on_err c.from_residual.result left);
-  tells = (λ told. c.noted_round_of_all.ensures.tells (c.loop-alloc.invariant.tells told));
-  cause = cause_on (g.S.Store.faults c.args.store.now) (g.S.Store.faults c.loop-alloc.store) (g.S.Store.faults c.noted_round_of_all.new.store) c.in_err-noted_round_of_all.field-0.0 c.from_residual.result c.loop-alloc.invariant.stays c.from_residual.ensures.1 c.in_err-noted_round_of_all.ensures.cause;
-  log = (λ kept held. IfOk-from_err c.from_residual.result _ c.from_residual.ensures.0);
-}
+pub note_all-requires-clause-few : goal.note_all-requires-clause-few
+note_all-requires-clause-few g c =
+    let p = c.args.piece.now in
+    let s = c.args.stage.now in
+    let rig : Rig = record { links = c.links-links.result; tracks = c.tracks-tracks.result; files = p.files } in
+    let so = c.loop-room.invariant in
+    let noted : RoundsNoted = c.loop-room.rounds in
+    let now : SessionState = c.loop-room.parties in
+    let room : Room = c.loop-room.room in
+    let goes : GoesOn now = c.goes_on.ensures.yes c.loop-room-test.true in
+    let call = c.round_of_all in
+    let next : SessionState = call.new.parties in
+    let did = call.ensures in
+    let done = round_done rig now next room call.new.room c.clear.new.self c.clear.ensures did.ready did.sizes did.round did.kept did.tally did.places did.sound in
+    let i : ℕ = length noted.rounds in
+    few_noted rig.links (given_of rig) i (i + 1) now next so.plays.ready (done.ready i so.plays.ready) (cycles_of noted.rounds) so.plays.form.count
+
+pub loop-room-preserved : goal.loop-room-preserved
+loop-room-preserved g c =
+    let p = c.args.piece.now in
+    let s = c.args.stage.now in
+    let rig : Rig = record { links = c.links-links.result; tracks = c.tracks-tracks.result; files = p.files } in
+    let so = c.loop-room.invariant in
+    let noted : RoundsNoted = c.loop-room.rounds in
+    let now : SessionState = c.loop-room.parties in
+    let room : Room = c.loop-room.room in
+    let goes : GoesOn now = c.goes_on.ensures.yes c.loop-room-test.true in
+    let call = c.round_of_all in
+    let next : SessionState = call.new.parties in
+    let did = call.ensures in
+    let done = round_done rig now next room call.new.room c.clear.new.self c.clear.ensures did.ready did.sizes did.round did.kept did.tally did.places did.sound in
+    let count : c.len-entries.result ≡ length now.fast.log.entries = c.len-entries.ensures ∙ ap (λ (l : Logged). length l.entries) c.log.ensures ∙ ap (λ (x : SessionState). length x.fast.log.entries) c.parties.view_is in
+    let ended : c.has_ended-had_ended.result ≡ now.normal.ended = c.has_ended-had_ended.ensures ∙ ap (λ (x : SessionState). x.normal.ended) c.parties.view_is in
+    let notes = c.in_ok-note_all.ensures.noted now ended count in
+    record {
+      plays = plays_more p.script.now s c.requires.new rig c.tracks-tracks.ensures.value noted now room so.plays goes next call.new.room done c.note_all.new.rounds notes (c.in_ok-note_all.ensures.frames now ended);
+      log = (λ kept held. subst (λ (x : RoundsNoted). LogsPlay kept next.fast x.rounds call.new.logging) (sym notes) (did.log kept noted.rounds (so.log kept held)));
+      tells = (λ told. c.send_out.ensures.tells (so.tells told));
+      stays = sym (stays_at (g.S.Store.faults c.loop-room.store) (g.S.Store.faults c.send_out.new.store) c.in_ok-send_out.field-0 c.in_ok-send_out.ensures.cause) ∙ so.stays;
+      written = (λ told.
+          let old = g.S.Store.files c.args.store.now in
+          let sound : List ℕ = pcm_of p.script.now.frames now.fast.log in
+          let grown : sound ++ c.as_slice.result.now ≡ pcm_of p.script.now.frames next.fast.log = ap (λ (xs : List ℕ). sound ++ xs) c.as_slice.ensures ∙ sound_more p.script.now s c.requires.new rig c.tracks-tracks.ensures.value noted now room so.plays goes next call.new.room done in
+          subst (λ (xs : List ℕ). SetsFile old p.name.now (Some xs) (g.S.Store.files c.send_out.new.store)) grown (c.in_ok-send_out.ensures.written (so.tells told) old sound (so.written told)));
+    }
+
+pub loop-room-smaller : goal.loop-room-smaller
+loop-room-smaller g c =
+    let p = c.args.piece.now in
+    let s = c.args.stage.now in
+    let rig : Rig = record { links = c.links-links.result; tracks = c.tracks-tracks.result; files = p.files } in
+    let so = c.loop-room.invariant in
+    let noted : RoundsNoted = c.loop-room.rounds in
+    let now : SessionState = c.loop-room.parties in
+    let room : Room = c.loop-room.room in
+    let goes : GoesOn now = c.goes_on.ensures.yes c.loop-room-test.true in
+    let call = c.round_of_all in
+    let next : SessionState = call.new.parties in
+    let did = call.ensures in
+    let done = round_done rig now next room call.new.room c.clear.new.self c.clear.ensures did.ready did.sizes did.round did.kept did.tally did.places did.sound in
+    let count : c.len-entries.result ≡ length now.fast.log.entries = c.len-entries.ensures ∙ ap (λ (l : Logged). length l.entries) c.log.ensures ∙ ap (λ (x : SessionState). length x.fast.log.entries) c.parties.view_is in
+    let ended : c.has_ended-had_ended.result ≡ now.normal.ended = c.has_ended-had_ended.ensures ∙ ap (λ (x : SessionState). x.normal.ended) c.parties.view_is in
+    fewer_left p.script.now s c.requires.new rig c.tracks-tracks.ensures.value noted now room so.plays goes next call.new.room done c.note_all.new.rounds (c.in_ok-note_all.ensures.noted now ended count) (c.in_ok-note_all.ensures.frames now ended)
+
+-- ## Where the store or memory failed
+
+pub returns-in_err-send_out-clause-left : goal.returns-in_err-send_out-clause-left
+returns-in_err-send_out-clause-left g c = λ told.
+    let p = c.args.piece.now in
+    let s = c.args.stage.now in
+    let rig : Rig = record { links = c.links-links.result; tracks = c.tracks-tracks.result; files = p.files } in
+    let so = c.loop-room.invariant in
+    let noted : RoundsNoted = c.loop-room.rounds in
+    let now : SessionState = c.loop-room.parties in
+    let room : Room = c.loop-room.room in
+    let goes : GoesOn now = c.goes_on.ensures.yes c.loop-room-test.true in
+    let call = c.round_of_all in
+    let next : SessionState = call.new.parties in
+    let did = call.ensures in
+    let done = round_done rig now next room call.new.room c.clear.new.self c.clear.ensures did.ready did.sizes did.round did.kept did.tally did.places did.sound in
+    let old = g.S.Store.files c.args.store.now in
+    let new = g.S.Store.files c.send_out.new.store in
+    let sound : List ℕ = pcm_of p.script.now.frames now.fast.log in
+    let grown : sound ++ c.as_slice.result.now ≡ pcm_of p.script.now.frames next.fast.log = ap (λ (xs : List ℕ). sound ++ xs) c.as_slice.ensures ∙ sound_more p.script.now s c.requires.new rig c.tracks-tracks.ensures.value noted now room so.plays goes next call.new.room done in
+    let front : LeavesFront old p.name.now (pcm_of p.script.now.frames next.fast.log) new = subst (λ (xs : List ℕ). LeavesFront old p.name.now xs new) grown (c.in_err-send_out.ensures.left (so.tells told) old sound (so.written told)) in
+    on_err c.from_residual-in_err-send_out.result (leaves_more p.script.now s c.requires.new rig c.tracks-tracks.ensures.value noted now room so.plays goes next call.new.room done p.name.now old new front)
+
+pub returns-in_err-send_out-clause-tells : goal.returns-in_err-send_out-clause-tells
+returns-in_err-send_out-clause-tells g c = λ told. c.send_out.ensures.tells (c.loop-room.invariant.tells told)
+
+pub returns-in_err-send_out-clause-cause : goal.returns-in_err-send_out-clause-cause
+returns-in_err-send_out-clause-cause g c =
+    cause_on (g.S.Store.faults c.args.store.now) (g.S.Store.faults c.loop-room.store) (g.S.Store.faults c.send_out.new.store) c.in_err-send_out.field-0.0 c.from_residual-in_err-send_out.result c.loop-room.invariant.stays c.from_residual-in_err-send_out.ensures.1 c.in_err-send_out.ensures.cause
+
+pub returns-in_err-note_all-clause-left : goal.returns-in_err-note_all-clause-left
+returns-in_err-note_all-clause-left g c = λ told.
+    let p = c.args.piece.now in
+    let s = c.args.stage.now in
+    let rig : Rig = record { links = c.links-links.result; tracks = c.tracks-tracks.result; files = p.files } in
+    let so = c.loop-room.invariant in
+    let noted : RoundsNoted = c.loop-room.rounds in
+    let now : SessionState = c.loop-room.parties in
+    let room : Room = c.loop-room.room in
+    let goes : GoesOn now = c.goes_on.ensures.yes c.loop-room-test.true in
+    let call = c.round_of_all in
+    let next : SessionState = call.new.parties in
+    let did = call.ensures in
+    let done = round_done rig now next room call.new.room c.clear.new.self c.clear.ensures did.ready did.sizes did.round did.kept did.tally did.places did.sound in
+    let old = g.S.Store.files c.args.store.now in
+    let new = g.S.Store.files c.send_out.new.store in
+    let sound : List ℕ = pcm_of p.script.now.frames now.fast.log in
+    let grown : sound ++ c.as_slice.result.now ≡ pcm_of p.script.now.frames next.fast.log = ap (λ (xs : List ℕ). sound ++ xs) c.as_slice.ensures ∙ sound_more p.script.now s c.requires.new rig c.tracks-tracks.ensures.value noted now room so.plays goes next call.new.room done in
+    let whole : SetsFile old p.name.now (Some (pcm_of p.script.now.frames next.fast.log)) new = subst (λ (xs : List ℕ). SetsFile old p.name.now (Some xs) new) grown (c.in_ok-send_out.ensures.written (so.tells told) old sound (so.written told)) in
+    on_err c.from_residual-in_err-note_all.result (leaves_more p.script.now s c.requires.new rig c.tracks-tracks.ensures.value noted now room so.plays goes next call.new.room done p.name.now old new (left_whole old new p.name.now (pcm_of p.script.now.frames next.fast.log) whole))
+
+pub returns-in_err-note_all-clause-tells : goal.returns-in_err-note_all-clause-tells
+returns-in_err-note_all-clause-tells g c = λ told. c.send_out.ensures.tells (c.loop-room.invariant.tells told)
+
+pub returns-in_err-note_all-clause-cause : goal.returns-in_err-note_all-clause-cause
+returns-in_err-note_all-clause-cause g c =
+    then_memory c.from_residual-in_err-note_all.result (g.S.Store.faults c.args.store.now) (g.S.Store.faults c.send_out.new.store) c.in_ok-send_out.field-0 c.from_residual-in_err-note_all.ensures.1
+    (subst (λ (n : ℕ). HasCause n (g.S.Store.faults c.send_out.new.store) (Ok c.in_ok-send_out.field-0)) c.loop-room.invariant.stays c.in_ok-send_out.ensures.cause)
+
+-- ## At the end
 
 pub returns : goal.returns
-returns g c = record {
-  ready = c.loop-alloc.invariant.ready;
-  run = (c.loop-alloc.rounds.rounds, c.loop-alloc.invariant.run);
-  all = c.loop-alloc.invariant.run;
-  over = c.goes_on.ensures.no c.loop-alloc-test.false;
-  few = c.loop-alloc.invariant.few;
-  tracks = c.loop-alloc.invariant.noted.tracks_are;
-  whole = (let samples : All IsFrame c.loop-alloc.parties.fast.log.frames = subst (All IsFrame) (c.frames.ensures ∙ ap (λ (l : Logged). l.frames) c.log-log.ensures ∙ ap (λ (s : SessionState). s.fast.log.frames) c.parties.view_is) c.know_frames.ensures in
-      journal_whole (length c.args.tracks.now) c.loop-alloc.rounds c.loop-alloc.parties.fast.log c.loop-alloc.invariant.noted samples);
-  form = (let samples : All IsFrame c.loop-alloc.parties.fast.log.frames = subst (All IsFrame) (c.frames.ensures ∙ ap (λ (l : Logged). l.frames) c.log-log.ensures ∙ ap (λ (s : SessionState). s.fast.log.frames) c.parties.view_is) c.know_frames.ensures in
-      let numbers : HasRanges (journal_of c.loop-alloc.rounds c.loop-alloc.parties.fast.log) = subst (λ (log : Logged). HasRanges (journal_of c.loop-alloc.rounds log)) (c.log-log.ensures ∙ ap (λ (s : SessionState). s.fast.log) c.parties.view_is) c.know_numbers.ensures in
-      journal_form (length c.args.tracks.now) c.loop-alloc.rounds c.loop-alloc.parties.fast.log c.loop-alloc.invariant.noted samples numbers);
-  tally = c.loop-alloc.invariant.tally;
-  frames = c.loop-alloc.invariant.sizes.0;
-  spares = (λ new. c.loop-alloc.invariant.spares new);
-  written = (λ told base set. c.loop-alloc.invariant.written told base set);
-  left = (λ told base set. tt);
-  tells = c.loop-alloc.invariant.tells;
-  cause = cause_never (g.S.Store.faults c.args.store.now) (g.S.Store.faults c.loop-alloc.store) tt c.loop-alloc.invariant.stays;
-  log = (λ kept held. c.loop-alloc.invariant.log kept held);
-}
+returns g c =
+    let p = c.args.piece.now in
+    let s = c.args.stage.now in
+    let rig : Rig = record { links = c.links-links.result; tracks = c.tracks-tracks.result; files = p.files } in
+    let so = c.loop-room.invariant in
+    let log : Logged = c.loop-room.parties.fast.log in
+    let samples : All IsFrame log.frames = subst (All IsFrame) (c.frames.ensures ∙ ap (λ (l : Logged). l.frames) c.log-log.ensures ∙ ap (λ (x : SessionState). x.fast.log.frames) c.parties-2.view_is) c.know_frames.ensures in
+    let numbers : HasRanges (journal_of c.loop-room.rounds log) = subst (λ (l : Logged). HasRanges (journal_of c.loop-room.rounds l)) (c.log-log.ensures ∙ ap (λ (x : SessionState). x.fast.log) c.parties-2.view_is) c.know_numbers.ensures in
+    let tracks : ℕ = length rig.tracks.now in
+    let end : Stage = record { shared = s.shared; parties = c.loop-room.parties; room = c.loop-room.room; rounds = c.loop-room.rounds } in
+    record {
+      played = has_played p.script.now s c.requires.new rig c.tracks-tracks.ensures.value end so.plays (journal_whole tracks c.loop-room.rounds log so.plays.form samples) (journal_form tracks c.loop-room.rounds log so.plays.form samples numbers)
+          (c.goes_on.ensures.no c.loop-room-test.false);
+      written = so.written;
+      left = (λ told. tt);
+      tells = so.tells;
+      cause = cause_never (g.S.Store.faults c.args.store.now) (g.S.Store.faults c.loop-room.store) tt so.stays;
+      log = so.log;
+    }

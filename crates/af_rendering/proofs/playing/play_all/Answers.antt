@@ -1,4 +1,4 @@
-use Rattle.std.proofs.Common.{rules, ◌≡◌, ◌+◌, ◌++◌, ℕ, List, [], length, refl, sym, ap, subst, ◌∙◌, arith}
+use Rattle.std.proofs.Common.{◌≡◌, ◌+◌, ◌++◌, ℕ, List, [], length, refl, sym, ap, subst, ◌∙◌, arith}
 use Rattle.std.specs.Prelude.{All}
 use Rattle.std.proofs.lemmas.List.{take_all}
 use Rattle.std.proofs.lemmas.Result.{IfOk-from_err}
@@ -9,6 +9,9 @@ use Rattle.af_io.specs.Files.{LeavesFront}
 use Rattle.af_model.specs.Numbers.{FitsEntry}
 use Rattle.af_script.specs.declared.op.TurnSpec.{TurnSpec}
 use Rattle.af_rendering.specs.Rendered.{HoldsBut}
+use Rattle.af_session.specs.Rooms.{given_of}
+use Rattle.af_base.specs.Roomy.{Roomy}
+use Rattle.af_session.proofs.RoomsKept.{kept_on}
 use Rattle.af_session.specs.Rounds.{Given, IsReady}
 use Rattle.af_session.specs.Together.{SessionState}
 use Rattle.af_tally.specs.Sound.{pcm_of}
@@ -23,20 +26,20 @@ use Rattle.af_rendering.proofs.playing.play_all.Goals as goal
 
 pub loop-i-init : goal.loop-i-init
 loop-i-init g c =
-    let given : Given = record { tracks = c.args.tracks.now; files = c.args.files.now } in
+    let given : Given = given_of c.args.rig.now in
     let was = c.args.parties.now in
-    let tracks : ℕ = length c.args.tracks.now in
+    let tracks : ℕ = length c.args.rig.now.tracks.now in
     record {
       ready = c.requires.ready;
-      far = ([], so_far_none given was c.args.tally.now c.requires.log.0 c.requires.log.1 c.requires.tally);
-      places = places_first tracks (length was.clients) (length was.fast.log.entries) c.args.tally.now (sym c.requires.ready.given.0) c.requires.tally;
+      far = ([], so_far_none given was c.args.room.now.tally c.requires.log.0 c.requires.log.1 c.requires.tally);
+      places = places_first tracks (length was.clients) (length was.fast.log.entries) c.args.room.now.tally (sym c.requires.ready.given.0) c.requires.tally;
       entries = (λ new. new);
-      sizes = (refl, refl);
-      buffer = c.requires.buffer;
-      waits = (let none = ap (λ (xs : List ℕ). length xs) c.requires.none in omega (arith, none));
+      frames = refl;
+      room = c.requires.room;
+      kept = record { buffer = refl; bytes = refl; released = refl };
       tells = (λ told. told);
       stays = refl;
-      written = (λ told base set. none_wait base (g.S.Store.files c.args.store.now) c.args.name.now (pcm_of was.fast.frames was.fast.log) c.args.bytes.now.items c.requires.none set);
+      written = (λ told base set. none_wait base (g.S.Store.files c.args.store.now) c.args.name.now (pcm_of was.fast.frames was.fast.log) c.args.room.now.bytes.items c.requires.none set);
     }
 
 pub play_out-requires-clause-ready : goal.play_out-requires-clause-ready
@@ -47,7 +50,7 @@ play_out-requires-clause-places g c = (c.loop-i.i, omega (arith, c.loop-i-test.t
 
 pub loop-i-preserved : goal.loop-i-preserved
 loop-i-preserved g c =
-    let given : Given = record { tracks = c.args.tracks.now; files = c.args.files.now } in
+    let given : Given = given_of c.args.rig.now in
     let inv = c.loop-i.invariant in
     let i = c.loop-i.i in
     let now = c.loop-i.parties in
@@ -56,28 +59,28 @@ loop-i-preserved g c =
     let out = c.play_out.ensures in
     let round = out.round in
     let grown : pcm_of frames now.fast.log ++ round.0 ≡ pcm_of frames next.fast.log =
-    subst (λ (n : ℕ). pcm_of n now.fast.log ++ round.0 ≡ pcm_of n next.fast.log) inv.sizes.0 round.2 in
-    let after : IsReady c.args.links.now given (i + 1) next = out.ready i inv.ready in
+    subst (λ (n : ℕ). pcm_of n now.fast.log ++ round.0 ≡ pcm_of n next.fast.log) inv.frames round.2 in
+    let after : IsReady c.args.rig.now.links given (i + 1) next = out.ready i inv.ready in
     record {
       ready = after;
-      far = (_, so_far_more c.args.links.now _ given c.args.turns.now i c.args.parties.now now next inv.far.0 c.loop-i.tally c.play_out.new.tally (omega (arith, c.loop-i-test.true, c.loop-i.auto.i-end)) inv.ready after inv.far.1 round.0 round.1 grown out.frames out.numbers out.tally);
+      far = (_, so_far_more c.args.rig.now.links _ given c.args.turns.now i c.args.parties.now now next inv.far.0 c.loop-i.room.tally c.play_out.new.room.tally (omega (arith, c.loop-i-test.true, c.loop-i.auto.i-end)) inv.ready after inv.far.1 round.0 round.1 grown out.frames out.numbers out.tally);
       places = out.places i inv.places;
-      entries = (λ new. fast_round_spares c.args.links.now given i now inv.ready next after round.0 (inv.entries new) _ _ round.1);
-      sizes = (out.sizes.0 ∙ inv.sizes.0, out.sizes.1 ∙ inv.sizes.1);
-      buffer = search rules;
-      waits = out.waits;
+      entries = (λ new. fast_round_spares c.args.rig.now.links given i now inv.ready next after round.0 (inv.entries new) _ _ round.1);
+      frames = out.sizes.0 ∙ inv.frames;
+      room = out.room;
+      kept = kept_on c.args.room.now c.loop-i.room c.play_out.new.room inv.kept out.kept;
       tells = (λ told. out.tells (inv.tells told));
       stays = sym (stays_at (g.S.Store.faults c.loop-i.store) (g.S.Store.faults c.play_out.new.store) c.in_ok-play_out.field-0 c.in_ok-play_out.ensures.cause) ∙ inv.stays;
       written = (λ told base set.
-          let held : HoldsBut c.loop-i.bytes.items base c.args.name.now (pcm_of now.fast.frames now.fast.log) (g.S.Store.files c.loop-i.store) =
-          subst (λ (n : ℕ). HoldsBut c.loop-i.bytes.items base c.args.name.now (pcm_of n now.fast.log) (g.S.Store.files c.loop-i.store)) (sym inv.sizes.0) (inv.written told base set) in
-          subst (λ (n : ℕ). HoldsBut c.play_out.new.bytes.items base c.args.name.now (pcm_of n next.fast.log) (g.S.Store.files c.play_out.new.store)) inv.sizes.0 (c.in_ok-play_out.ensures.written (inv.tells told) base held));
+          let held : HoldsBut c.loop-i.room.bytes.items base c.args.name.now (pcm_of now.fast.frames now.fast.log) (g.S.Store.files c.loop-i.store) =
+          subst (λ (n : ℕ). HoldsBut c.loop-i.room.bytes.items base c.args.name.now (pcm_of n now.fast.log) (g.S.Store.files c.loop-i.store)) (sym inv.frames) (inv.written told base set) in
+          subst (λ (n : ℕ). HoldsBut c.play_out.new.room.bytes.items base c.args.name.now (pcm_of n next.fast.log) (g.S.Store.files c.play_out.new.store)) inv.frames (c.in_ok-play_out.ensures.written (inv.tells told) base held));
     }
 
 pub returns-in_err-play_out : goal.returns-in_err-play_out
 returns-in_err-play_out g c = record {
   ready = IfOk-from_err c.from_residual.result _ c.from_residual.ensures.0;
-  run = (let given : Given = record { tracks = c.args.tracks.now; files = c.args.files.now } in
+  run = (let given : Given = given_of c.args.rig.now in
       let inv = c.loop-i.invariant in
       let i = c.loop-i.i in
       let now = c.loop-i.parties in
@@ -85,21 +88,22 @@ returns-in_err-play_out g c = record {
       let frames : ℕ = c.args.parties.now.fast.frames in
       let round = c.play_out.ensures.round in
       let grown : pcm_of frames now.fast.log ++ round.0 ≡ pcm_of frames next.fast.log =
-      subst (λ (n : ℕ). pcm_of n now.fast.log ++ round.0 ≡ pcm_of n next.fast.log) inv.sizes.0 round.2 in
+      subst (λ (n : ℕ). pcm_of n now.fast.log ++ round.0 ≡ pcm_of n next.fast.log) inv.frames round.2 in
       (i + 1, _, run_more _ given c.args.turns.now i c.args.parties.now now next inv.far.0 (omega (arith, c.loop-i-test.true, c.loop-i.auto.i-end)) inv.far.1.run _ round.0 round.1 grown));
   all = IfOk-from_err c.from_residual.result _ c.from_residual.ensures.0;
   frames = IfOk-from_err c.from_residual.result _ c.from_residual.ensures.0;
   entries = (λ new. IfOk-from_err c.from_residual.result _ c.from_residual.ensures.0);
+  kept = kept_on c.args.room.now c.loop-i.room c.play_out.new.room c.loop-i.invariant.kept c.play_out.ensures.kept;
   written = (λ told base set. IfOk-from_err c.from_residual.result _ c.from_residual.ensures.0);
   left = (λ told base set.
       let inv = c.loop-i.invariant in
       let now = c.loop-i.parties in
       let next = c.play_out.new.parties in
       let frames : ℕ = c.args.parties.now.fast.frames in
-      let held : HoldsBut c.loop-i.bytes.items base c.args.name.now (pcm_of now.fast.frames now.fast.log) (g.S.Store.files c.loop-i.store) =
-      subst (λ (n : ℕ). HoldsBut c.loop-i.bytes.items base c.args.name.now (pcm_of n now.fast.log) (g.S.Store.files c.loop-i.store)) (sym inv.sizes.0) (inv.written told base set) in
+      let held : HoldsBut c.loop-i.room.bytes.items base c.args.name.now (pcm_of now.fast.frames now.fast.log) (g.S.Store.files c.loop-i.store) =
+      subst (λ (n : ℕ). HoldsBut c.loop-i.room.bytes.items base c.args.name.now (pcm_of n now.fast.log) (g.S.Store.files c.loop-i.store)) (sym inv.frames) (inv.written told base set) in
       let left : LeavesFront base c.args.name.now (pcm_of frames next.fast.log) (g.S.Store.files c.play_out.new.store) =
-      subst (λ (n : ℕ). LeavesFront base c.args.name.now (pcm_of n next.fast.log) (g.S.Store.files c.play_out.new.store)) inv.sizes.0 (c.in_err-play_out.ensures.left (inv.tells told) base held) in
+      subst (λ (n : ℕ). LeavesFront base c.args.name.now (pcm_of n next.fast.log) (g.S.Store.files c.play_out.new.store)) inv.frames (c.in_err-play_out.ensures.left (inv.tells told) base held) in
       on_err c.from_residual.result left);
   tells = (λ told. c.play_out.ensures.tells (c.loop-i.invariant.tells told));
   cause = cause_on (g.S.Store.faults c.args.store.now) (g.S.Store.faults c.loop-i.store) (g.S.Store.faults c.play_out.new.store) c.in_err-play_out.field-0.0 c.from_residual.result c.loop-i.invariant.stays c.from_residual.ensures.1 c.in_err-play_out.ensures.cause;
@@ -107,24 +111,25 @@ returns-in_err-play_out g c = record {
 
 pub returns : goal.returns
 returns g c =
-    let given : Given = record { tracks = c.args.tracks.now; files = c.args.files.now } in
+    let given : Given = given_of c.args.rig.now in
     let inv = c.loop-i.invariant in
     let was = c.args.parties.now in
     let is = c.loop-i.parties in
     let r = c.send_waiting.result in
     let all : c.loop-i.i ≡ length c.args.turns.now = omega (arith, c.loop-i-test.false, c.loop-i.auto.i-end) in
-    let ready : IsReady c.args.links.now given (length c.args.turns.now) is = subst (λ (n : ℕ). IsReady c.args.links.now given n is) all inv.ready in
-    let far : SoFar given c.args.turns.now was inv.far.0 is c.loop-i.tally =
-    subst (λ (xs : List TurnSpec). SoFar given xs was inv.far.0 is c.loop-i.tally) (take_all c.loop-i.i c.args.turns.now (omega (arith, c.loop-i-test.false, c.loop-i.auto.i-end))) inv.far.1 in
+    let ready : IsReady c.args.rig.now.links given (length c.args.turns.now) is = subst (λ (n : ℕ). IsReady c.args.rig.now.links given n is) all inv.ready in
+    let far : SoFar given c.args.turns.now was inv.far.0 is c.loop-i.room.tally =
+    subst (λ (xs : List TurnSpec). SoFar given xs was inv.far.0 is c.loop-i.room.tally) (take_all c.loop-i.i c.args.turns.now (omega (arith, c.loop-i-test.false, c.loop-i.auto.i-end))) inv.far.1 in
     let log : c.log-log.result.now ≡ is.fast.log = c.log-log.ensures ∙ ap (λ (s : SessionState). s.fast.log) c.parties.view_is in
     let samples : All IsFrame is.fast.log.frames = subst (All IsFrame) (c.frames.ensures ∙ ap (λ (l : Logged). l.frames) log) c.know_frames.ensures in
     let entries : All FitsEntry is.fast.log.entries = subst (λ (l : Logged). All FitsEntry l.entries) log c.know_log.ensures in
     record {
       ready = on_ok r ready;
       run = (c.loop-i.i, inv.far.0, inv.far.1.run);
-      all = on_ok r (noted_of given inv.far.0, all_played c.args.links.now given (length c.args.turns.now) c.args.turns.now was inv.far.0 is c.loop-i.tally ready far samples entries);
-      frames = on_ok r inv.sizes.0;
+      all = on_ok r (noted_of given inv.far.0, all_played c.args.rig.now.links given (length c.args.turns.now) c.args.turns.now was inv.far.0 is c.loop-i.room.tally ready far samples entries);
+      frames = on_ok r inv.frames;
       entries = (λ new. on_ok r (inv.entries new));
+      kept = (let none = ap (λ (b : Roomy ℕ). b.room) c.send_waiting.ensures.none in record { buffer = inv.kept.buffer; bytes = none ∙ inv.kept.bytes; released = inv.kept.released });
       written = (λ told base set. c.send_waiting.ensures.written (inv.tells told) base (pcm_of was.fast.frames is.fast.log) (inv.written told base set));
       left = (λ told base set. c.send_waiting.ensures.left (inv.tells told) base (pcm_of was.fast.frames is.fast.log) (inv.written told base set));
       tells = (λ told. c.send_waiting.ensures.tells (inv.tells told));

@@ -1,4 +1,4 @@
-use Rattle.std.proofs.Common.{◌≡◌, ◌*◌, ◌≤◌, ℕ, List, Some, OnOk, OnErr, length, take, sym, ap, subst, arith}
+use Rattle.std.proofs.Common.{◌≡◌, ◌*◌, ◌≤◌, ℕ, List, Some, OnOk, OnErr, length, take, sym, ap, subst, ◌∙◌, arith}
 use Rattle.std.specs.Prelude.{All}
 use Rattle.af_base.specs.Roomy.{Roomy}
 use Rattle.af_io.specs.Files.{SetsFile, LeavesFront}
@@ -18,29 +18,25 @@ use Rattle.af_rendering.proofs.SparedEntries.{entries_first}
 use Rattle.af_rendering.proofs.StagesRun.{has_rendered, in_frames, silent_so_far}
 use Rattle.af_rendering.proofs.staging.Stage.play_turns.Goals as goal
 
+-- the rig has the tracks of the script
 pub play_all-requires-clause-turns : goal.play_all-requires-clause-turns
 play_all-requires-clause-turns g c =
-    let script : IsScript c.args.script.now = c.turns-turns.ensures.script in
-    subst (λ (x : List TrackSpec × List TurnSpec). All (IsTurn (length x.0)) x.1) (λ k. (sym c.tracks-tracks.ensures.value k, sym c.turns-turns.ensures.value k)) script.turns
+    let script : IsScript c.args.script.now = c.turns.ensures.script in
+    subst (λ (x : List TrackSpec × List TurnSpec). All (IsTurn (length x.0)) x.1) (λ k. (sym c.tracks-tracks.ensures.value k, sym c.turns.ensures.value k)) script.turns
 
 pub play_all-requires-clause-few : goal.play_all-requires-clause-few
 play_all-requires-clause-few g c =
-    let script : IsScript c.args.script.now = c.turns-turns.ensures.script in
-    subst (λ (x : List TurnSpec). length x ≤ 100000) (sym c.turns-turns.ensures.value) script.turn_count
-
-pub play_all-requires-clause-buffer : goal.play_all-requires-clause-buffer
-play_all-requires-clause-buffer g c =
-    let s = c.args.self.now in
-    let buffer = c.requires.new.room.buffer in
-    let same = frames_first c.args.script.now s.shared s.parties c.requires.new.new c.args.files.now in
-    omega (arith, same, buffer)
+    let script : IsScript c.args.script.now = c.turns.ensures.script in
+    subst (λ (x : List TurnSpec). length x ≤ 100000) (sym c.turns.ensures.value) script.turn_count
 
 pub play_all-requires-clause-room : goal.play_all-requires-clause-room
 play_all-requires-clause-room g c =
     let s = c.args.self.now in
-    let bytes : s.room.bytes.room ≡ 256 * c.args.script.now.frames = ap (λ (b : Roomy ℕ). b.room) c.requires.new.room.bytes in
+    let new = c.requires.new.room in
+    let bytes : s.room.bytes.room ≡ 256 * c.args.script.now.frames = ap (λ (b : Roomy ℕ). b.room) new.bytes in
+    let none : length s.room.bytes.items ≡ 0 = ap (λ (b : Roomy ℕ). length b.items) new.bytes in
     let same = frames_first c.args.script.now s.shared s.parties c.requires.new.new c.args.files.now in
-    omega (arith, same, bytes)
+    record { buffer = new.buffer ∙ sym same; bytes = omega (arith, same, bytes); waits = omega (arith, none) }
 
 pub play_all-requires-clause-ready : goal.play_all-requires-clause-ready
 play_all-requires-clause-ready g c =
@@ -67,7 +63,7 @@ returns-clause-some g c =
     let n : ℕ = c.play_all.ensures.run.0 in
     let played : List RoundNoted = c.play_all.ensures.run.1 in
     let runs : Runs (record { tracks = c.args.script.now.tracks; files = files }) (take n c.args.script.now.turns) was played is =
-    subst (λ (x : List TrackSpec × List TurnSpec). Runs (record { tracks = x.0; files = files }) (take n x.1) was played is) (λ k. (c.tracks-tracks.ensures.value k, c.turns-turns.ensures.value k)) c.play_all.ensures.run.2 in
+    subst (λ (x : List TrackSpec × List TurnSpec). Runs (record { tracks = x.0; files = files }) (take n x.1) was played is) (λ k. (c.tracks-tracks.ensures.value k, c.turns.ensures.value k)) c.play_all.ensures.run.2 in
     (n, (played, rendered c.args.script.now s.shared was c.requires.new.new files (take n c.args.script.now.turns) played is runs))
 
 pub returns-clause-rendered : goal.returns-clause-rendered
@@ -77,7 +73,7 @@ returns-clause-rendered g c =
     let script = c.args.script.now in
     let new = c.requires.new.new in
     let done = c.play_all.ensures in
-    has_rendered script s.shared was new c.args.files.now c.links-links.result c.tracks-tracks.result.now c.tracks-tracks.ensures.value (record { shared = _; parties = _; room = _; rounds = c.args.self.now.rounds }) c.requires.new.room.released c.turns-turns.result.now c.turns-turns.ensures.value c.play_all.result
+    has_rendered script s.shared was new c.args.files.now c.links-links.result c.tracks-tracks.result.now c.tracks-tracks.ensures.value (record { shared = _; parties = _; room = _; rounds = c.args.self.now.rounds }) (done.kept.released ∙ c.requires.new.room.released) c.turns.result.now c.turns.ensures.value c.play_all.result
     (spares_first script s.shared was new) done.ready done.all done.frames (done.entries (entries_first script s.shared was new))
 
 pub returns-clause-written : goal.returns-clause-written

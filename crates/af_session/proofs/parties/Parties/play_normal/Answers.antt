@@ -6,6 +6,7 @@ use Rattle.af_script.specs.declared.op.TurnSpec.TheVariants as spec
 use Rattle.af_normal.specs.declared.turn.Turn.{Turn as Answer}
 use Rattle.af_normal.specs.Order.{most_turns}
 use Rattle.af_normal.specs.TurnMade.{TurnMade}
+use Rattle.af_session.specs.Rooms.{given_of}
 use Rattle.af_session.specs.Rounds.{Given, IsReady, Turns, round_told}
 use Rattle.af_session.specs.Shown.{FollowsRound}
 use Rattle.af_tally.specs.Summaries.{Shown, with_turn}
@@ -18,17 +19,17 @@ use Rattle.af_session.proofs.parties.Parties.play_normal.Goals as goal
 
 pub returns-then-not-has_ended-clause-ready : goal.returns-then-not-has_ended-clause-ready
 returns-then-not-has_ended-clause-ready g c = λ n ready.
-    let given : Given = record { tracks = c.args.tracks.now; files = c.args.files.now } in
+    let given : Given = given_of c.args.rig.now in
     let was : SessionState = record { clients = c.self.inside.clients.items; normal = c.self.inside.normal; fast = c.self.inside.fast } in
-    let now : IsReady c.args.links.now given c.requires.ready.0 was = subst (IsReady c.args.links.now given c.requires.ready.0) (sym c.self.view_is) c.requires.ready.2 in
+    let now : IsReady c.args.rig.now.links given c.requires.ready.0 was = subst (IsReady c.args.rig.now.links given c.requires.ready.0) (sym c.self.view_is) c.requires.ready.2 in
     let few : was.normal.turns < most_turns = (let turns = now.turns in let rounds = c.requires.ready.1 in omega arith) in
-    ready_normal c.args.links.now given n was (subst (IsReady c.args.links.now given n) (sym c.self.view_is) ready) c.turn.new.self c.turn.ensures.order (c.turn.ensures.turns few) (c.turn.ensures.legal few).1.setup
+    ready_normal c.args.rig.now.links given n was (subst (IsReady c.args.rig.now.links given n) (sym c.self.view_is) ready) c.turn.new.self c.turn.ensures.order (c.turn.ensures.turns few) (c.turn.ensures.legal few).1.setup
 
 pub returns-then-not-has_ended-clause-turns : goal.returns-then-not-has_ended-clause-turns
 returns-then-not-has_ended-clause-turns g c =
-    let given : Given = record { tracks = c.args.tracks.now; files = c.args.files.now } in
+    let given : Given = given_of c.args.rig.now in
     let was : SessionState = record { clients = c.self.inside.clients.items; normal = c.self.inside.normal; fast = c.self.inside.fast } in
-    let now : IsReady c.args.links.now given c.requires.ready.0 was = subst (IsReady c.args.links.now given c.requires.ready.0) (sym c.self.view_is) c.requires.ready.2 in
+    let now : IsReady c.args.rig.now.links given c.requires.ready.0 was = subst (IsReady c.args.rig.now.links given c.requires.ready.0) (sym c.self.view_is) c.requires.ready.2 in
     let few : was.normal.turns < most_turns = (let turns = now.turns in let rounds = c.requires.ready.1 in omega arith) in
     let legal = c.turn.ensures.legal few in
     subst (λ (s : SessionState). (r : RoundNoted) × Turns given spec.Normal s r [] (record was { normal = c.turn.new.self })) c.self.view_is
@@ -37,7 +38,7 @@ returns-then-not-has_ended-clause-turns g c =
 
 pub returns-else-not-has_ended-clause-turns : goal.returns-else-not-has_ended-clause-turns
 returns-else-not-has_ended-clause-turns g c =
-    let given : Given = record { tracks = c.args.tracks.now; files = c.args.files.now } in
+    let given : Given = given_of c.args.rig.now in
     let was : SessionState = record { clients = c.self.inside.clients.items; normal = c.self.inside.normal; fast = c.self.inside.fast } in
     subst (λ (s : SessionState). (r : RoundNoted) × Turns given spec.Normal s r [] s) c.self.view_is
     (stays_ended given was (sym c.has_ended.ensures ∙ c.if-not-has_ended.false))

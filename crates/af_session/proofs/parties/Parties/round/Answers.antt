@@ -1,4 +1,5 @@
 use Rattle.std.proofs.Common.{◌+◌, ◌∙◌, sym, subst}
+use Rattle.af_session.specs.Rooms.{given_of}
 use Rattle.af_session.specs.Rounds.{Given, IsReady}
 use Rattle.af_session.proofs.FollowingRounds.{follows_round, places_round}
 use Rattle.af_session.proofs.Ready.{ready_ends}
@@ -9,16 +10,16 @@ meet_all-requires g c = record { ready = (c.requires.ready.0 + 1, c.play.ensures
 
 pub returns-clause-ready : goal.returns-clause-ready
 returns-clause-ready g c = λ n held.
-    let given : Given = record { tracks = c.args.tracks.now; files = c.args.files.now } in
-    subst (IsReady c.args.links.now given (n + 1)) (sym c.end_clients.ensures)
-    (ready_ends c.args.links.now given (n + 1) c.meet_all.new.self (c.meet_all.ensures.ready (n + 1) (c.play.ensures.ready n held)))
+    let given : Given = given_of c.args.rig.now in
+    subst (IsReady c.args.rig.now.links given (n + 1)) (sym c.end_clients.ensures)
+    (ready_ends c.args.rig.now.links given (n + 1) c.meet_all.new.self (c.meet_all.ensures.ready (n + 1) (c.play.ensures.ready n held)))
 
 pub returns-clause-tally : goal.returns-clause-tally
 returns-clause-tally g c =
     let n = c.requires.ready.0 in
     let before = c.play.ensures.ready n c.requires.ready.2 in
     let after = c.meet_all.ensures.ready (n + 1) before in
-    follows_round c.args.turn c.args.self.now c.play.new.self c.meet_all.new.self c.end_clients.new.self c.meet_all.ensures.met (sym after.given.0 ∙ before.given.0) c.end_clients.ensures c.args.tally.now c.play.new.tally
+    follows_round c.args.turn c.args.self.now c.play.new.self c.meet_all.new.self c.end_clients.new.self c.meet_all.ensures.met (sym after.given.0 ∙ before.given.0) c.end_clients.ensures c.args.room.now.tally c.play.new.room.tally
     before.together.fast.0 c.play.ensures.tally
 
 pub returns-clause-places : goal.returns-clause-places
@@ -26,7 +27,7 @@ returns-clause-places g c = λ rounds held.
     let n = c.requires.ready.0 in
     let before = c.play.ensures.ready n c.requires.ready.2 in
     let after = c.meet_all.ensures.ready (n + 1) before in
-    places_round c.args.turn c.args.self.now c.play.new.self c.meet_all.new.self c.end_clients.new.self c.meet_all.ensures.met (sym after.given.0 ∙ before.given.0) c.end_clients.ensures (rounds + 1) c.play.new.tally
+    places_round c.args.turn c.args.self.now c.play.new.self c.meet_all.new.self c.end_clients.new.self c.meet_all.ensures.met (sym after.given.0 ∙ before.given.0) c.end_clients.ensures (rounds + 1) c.play.new.room.tally
     (c.play.ensures.places rounds held)
 
 pub returns-clause-round : goal.returns-clause-round
@@ -44,6 +45,6 @@ returns-clause-round g c =
         turns = played.3;
         meets = c.meet_all.ensures.met;
         ends = c.end_clients.ensures;
-        together = record { links = c.args.links.now; before = c.requires.ready.2.together; turned = before.together; met = after.together };
+        together = record { links = c.args.rig.now.links; before = c.requires.ready.2.together; turned = before.together; met = after.together };
       },
     )
