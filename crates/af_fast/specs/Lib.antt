@@ -1,5 +1,4 @@
 pub mod Slots
-pub mod Tracks
 pub mod Heard
 pub mod Fits
 pub mod Mixer

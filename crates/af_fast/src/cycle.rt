@@ -6,7 +6,7 @@ ghost use Rattle.af_base.specs.Log.{slots};
 ghost use Rattle.af_model.specs.Cycles.{cycle_of, is_mixed};
 ghost use Rattle.af_fast.specs.Mixer.{IsInOrderAfter, IsLinked, IsSound, MixerState, StaysInOrder, is_over};
 ghost use Rattle.af_fast.specs.Mixing.{AddsCycleAfter, Adopts, MixesOnceAfter, Writes};
-ghost use Rattle.af_fast.specs.Tracks.{tracks_of};
+ghost use Rattle.af_model.specs.Tracks.{tracks_of};
 
 use crate::mixer::FastMixer;
 use af_base::{Command, Cycle, FastState, Frame, Steps};

@@ -13,7 +13,7 @@ ghost use Rattle.af_fast.specs.Fits.{stream_fits, NamesBlocks};
 ghost use Rattle.af_fast.specs.Mixer.{AreFew, IsInOrderAfter, IsLinked, IsSound, StaysInOrder, is_over, most_entries};
 ghost use Rattle.af_fast.specs.Mixing.{AddsCycleAfter, StoresReport, Writes, notes};
 ghost use Rattle.af_fast.specs.Slots.{PlaysSlots, SameEntries};
-ghost use Rattle.af_fast.specs.Tracks.{tracks_of};
+ghost use Rattle.af_model.specs.Tracks.{tracks_of};
 
 use crate::heard::mix_heard;
 use crate::mixer::FastMixer;

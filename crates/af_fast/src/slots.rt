@@ -9,7 +9,7 @@ ghost use Rattle.af_stateq.specs.Observes.{InOrder};
 ghost use Rattle.af_fast.specs.Fits.{stream_fits, NamesBlocks};
 ghost use Rattle.af_link.specs.PipeEnds.{out_made};
 ghost use Rattle.af_fast.specs.Slots.{IsMarked, LogsPipe, LogsSlot, PlaysSlots, SameEntries};
-ghost use Rattle.af_fast.specs.Tracks.{tracks_of};
+ghost use Rattle.af_model.specs.Tracks.{tracks_of};
 
 use crate::held::log_held;
 use crate::submix::play_pipe;

@@ -10,7 +10,7 @@ ghost use Rattle.af_stateq.specs.Observes.{InOrder};
 ghost use Rattle.af_fast.specs.Fits.{NamesBlocks, stream_fits};
 ghost use Rattle.af_fast.specs.Mixer.{IsInOrder, IsLinked, IsUnused};
 ghost use Rattle.af_fast_tests.specs.Ready.{IsReady};
-ghost use Rattle.af_fast.specs.Tracks.{tracks_of};
+ghost use Rattle.af_model.specs.Tracks.{tracks_of};
 
 use af_base::{
     Command, Cycle, CycleEntry, FastLog, Frame, Memory, Push, Report, SLOTS, Seen, SlotEntry,

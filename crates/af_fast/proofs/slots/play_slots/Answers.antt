@@ -8,7 +8,7 @@ use Rattle.af_model.proofs.EntrySlots.{with_slot}
 use Rattle.af_fast.specs.Slots.{LogsSlot, PlayedTo, PlaysSlots}
 use Rattle.af_fast.proofs.SlotSteps.{slot_step}
 use Rattle.af_fast.proofs.SlotsDone.{begins, ends, room_for, taken_few}
-use Rattle.af_fast.specs.Tracks.{tracks_below}
+use Rattle.af_model.specs.Tracks.{tracks_below}
 use Rattle.af_fast.proofs.Counted.{slot_counted, all_below}
 use Rattle.af_fast.proofs.slots.play_slots.Goals as goal
 

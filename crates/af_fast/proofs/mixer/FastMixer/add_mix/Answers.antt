@@ -13,7 +13,7 @@ use Rattle.af_link.specs.declared.names.StreamNames.{StreamNames}
 use Rattle.af_fast.specs.contracts.mixer.FastMixer.{the_view}
 use Rattle.af_fast.specs.Mixer.{MixerState, IsInOrderAfter, AreFew, is_over, most_entries}
 use Rattle.af_fast.specs.Mixing.{AddsCycleAfter, StoresReport, Writes, notes}
-use Rattle.af_fast.specs.Tracks.{tracks_of}
+use Rattle.af_model.specs.Tracks.{tracks_of}
 use Rattle.af_fast.proofs.Added.{Comes, current_state, few_counted, few_reports, log_open, mix_step, room_one}
 use Rattle.af_fast.proofs.Counted.{mixed_few}
 use Rattle.af_fast.proofs.mixer.FastMixer.add_mix.Goals as goal
