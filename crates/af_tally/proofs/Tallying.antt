@@ -1,7 +1,7 @@
 -- How a tally keeps up with a run that goes on.
 use Rattle.std.proofs.Common.{◌≡◌, ℕ, ◌+◌, ◌-◌, ◌^◌, ◌<◌, ◌≤◌, ◌&&◌, max, Bool, true, false, if◌then◌else◌, List, [], ◌∷◌, ◌++◌, length, map, set, inl, inr, refl, sym, ap, subst, ◌∙◌, arith}
 use Rattle.std.specs.Prelude.{sum, not, slice_index}
-use Rattle.std.specs.List.{flat_map, range_with_len}
+use Rattle.std.specs.List.{AllZip, flat_map, range_with_len}
 use Rattle.std.proofs.lemmas.List.{get_or-set_same, get_or-set_other, length-set, map-id, append-nil, length_push}
 use Rattle.std.proofs.lemmas.List.Sums.{sum_by-append, sum_by_push}
 use Rattle.std.proofs.lemmas.List.Concat.{flat_map-append}
@@ -16,6 +16,7 @@ use Rattle.af_base.specs.Log.{slots}
 use Rattle.af_base.specs.Mix.{peak_of}
 use Rattle.af_model.specs.Cycles.{is_mixed}
 use Rattle.af_tally.specs.declared.tally.TrackTally.{TrackTally}
+use Rattle.af_tally.specs.Steps.{AreFew, IsFew}
 use Rattle.af_tally.specs.Summaries.{EntryUsed, Shown, Look, calls_of, with_calls, with_entry, with_written, slot_looks, entry_looks, taken_by_look, taken_in, taken_by_entry, taken_of, dropped_by_look, dropped_in, dropped_by_entry, dropped_of, has_no_poke, is_poke, is_lawful, in_all, mixed_of, discarded_of, queued_of}
 use Rattle.af_tally.specs.Tallies.{Tallied, AddsLooks, Notes, IsWithin, IsTally, untouched, track_at, most_looks, after_looks, shown_of, mixed_by, discarded_by, queued_by}
 
@@ -53,7 +54,7 @@ adds_more xs ys a b c p q = record {
 
 -- no step
 pub notes_none : (t : Tallied) → Notes 0 [] t t
-notes_none t = record { tracks = adds_none t.tracks; cycles = refl; looks = omega arith; peak = refl }
+notes_none t = record { tracks = adds_none t.tracks; cycles = refl; looks = omega arith; peak = refl; steps = refl }
 
 -- one step after another
 pub notes_more : (m n : ℕ) (xs ys : List Look) (a b c : Tallied) → Notes m xs a b → Notes n ys b c → Notes (m + n) (xs ++ ys) a c
@@ -62,11 +63,12 @@ notes_more m n xs ys a b c p q = record {
   cycles = q.cycles ∙ p.cycles;
   looks = let first = p.looks in let second = q.looks in omega arith;
   peak = q.peak ∙ p.peak;
+  steps = q.steps ∙ p.steps;
 }
 
 -- a step in more places
 pub notes_wider : (m n : ℕ) (xs : List Look) (a b : Tallied) → m ≤ n → Notes m xs a b → Notes n xs a b
-notes_wider m n xs a b le p = record { tracks = p.tracks; cycles = p.cycles; looks = let first = p.looks in omega arith; peak = p.peak }
+notes_wider m n xs a b le p = record { tracks = p.tracks; cycles = p.cycles; looks = let first = p.looks in omega arith; peak = p.peak; steps = p.steps }
 
 -- the looks of one slot more
 pub one_slot_more : (entry : CycleEntry) (x : FastState) (k : ℕ) → flat_map (slot_looks entry x) (range_with_len 0 (k + 1)) ≡ flat_map (slot_looks entry x) (range_with_len 0 k) ++ slot_looks entry x k
@@ -88,9 +90,17 @@ entry_adds run used i = same_numbers (taken_of run i + taken_by_entry i used) (d
 abbrev pub counted : EntryUsed → ℕ
 counted used = if is_mixed used.entry.cycle then 1 else 0
 
--- by an entry
-pub entry_noted : (run : Shown) (used : EntryUsed) (a b c : Tallied) → Notes slots (entry_looks used) a b → c ≡ record b { cycles = b.cycles + counted used } → IsTally run a → IsTally (with_entry run used) c
-entry_noted run used a b c notes c_is is =
+-- two items that belong together may be put behind
+zip_push : {A B : Type 0} (R : A → B → Type 0) (xs : List A) (ys : List B) (x : A) (y : B) → AllZip R xs ys → R x y → AllZip R (xs ++ x ∷ []) (ys ++ y ∷ [])
+zip_push R [] [] x y z r = (r, tt)
+zip_push R [] (b ∷ ys) x y z r = absurd z
+zip_push R (a ∷ xs) [] x y z r = absurd z
+zip_push R (a ∷ xs) (b ∷ ys) x y z r = (z.0, zip_push R xs ys x y z.1 r)
+
+-- by an entry whose cycle took so many steps
+pub entry_noted : (run : Shown) (used : EntryUsed) (steps : ℕ) (a b c : Tallied) → Notes slots (entry_looks used) a b → c ≡ record b { cycles = b.cycles + counted used; steps = b.steps ++ steps ∷ [] }
+    → IsFew run.frames used steps → IsTally run a → IsTally (with_entry run used) c
+entry_noted run used steps a b c notes c_is few is =
     let tracks : c.tracks ≡ b.tracks = ap (λ (t : Tallied). t.tracks) c_is in
     let cycles : c.cycles ≡ b.cycles + counted used = ap (λ (t : Tallied). t.cycles) c_is in
     let looks : c.looks ≡ b.looks = ap (λ (t : Tallied). t.looks) c_is in
@@ -100,6 +110,8 @@ entry_noted run used a b c notes c_is is =
       cycles = let one = sum_by_push (λ (u : EntryUsed). counted u) run.entries used in omega (arith, notes.cycles, is.cycles, one);
       looks = let old = is.looks in let more = notes.looks in omega (arith, length_push run.entries used);
       peak = ap (λ (t : Tallied). t.peak) c_is ∙ notes.peak ∙ is.peak;
+      steps = let next = ap (λ (t : Tallied). t.steps) c_is ∙ ap (λ (ns : List ℕ). ns ++ steps ∷ []) notes.steps in
+          subst (λ (ns : List ℕ). AreFew (with_entry run used) ns) (sym next) (zip_push (IsFew run.frames) run.entries a.steps used steps is.steps few);
     }
 
 -- by calls of a client
@@ -125,6 +137,7 @@ calls_noted run a b track calls t lt t_is b_is is =
       cycles = ap (λ (x : Tallied). x.cycles) b_is ∙ is.cycles;
       looks = let before = is.looks in let same : b.looks ≡ a.looks = ap (λ (x : Tallied). x.looks) b_is in omega arith;
       peak = ap (λ (x : Tallied). x.peak) b_is ∙ is.peak;
+      steps = subst (λ (x : Tallied). AreFew run x.steps) (sym b_is) is.steps;
     }
 
 -- the peak of frames and more frames
@@ -133,13 +146,14 @@ peak_of-append [] ys = omega arith
 peak_of-append (x ∷ xs) ys = let more = peak_of-append xs ys in omega arith
 
 -- by frames written
-pub frames_noted : (run : Shown) (a b : Tallied) (frames : List Frame) → b.tracks ≡ a.tracks → b.cycles ≡ a.cycles → b.looks ≡ a.looks → b.peak ≡ max a.peak (peak_of frames) → IsTally run a → IsTally (with_written run frames) b
-frames_noted run a b frames tracks cycles looks peak is = record {
+pub frames_noted : (run : Shown) (a b : Tallied) (frames : List Frame) → b.tracks ≡ a.tracks → b.cycles ≡ a.cycles → b.looks ≡ a.looks → b.peak ≡ max a.peak (peak_of frames) → b.steps ≡ a.steps → IsTally run a → IsTally (with_written run frames) b
+frames_noted run a b frames tracks cycles looks peak steps is = record {
   count = ap length tracks ∙ is.count;
   each = λ i lt. ap (λ (t : List TrackTally). track_at t i) tracks ∙ is.each i lt;
   cycles = cycles ∙ is.cycles;
   looks = let old = is.looks in omega arith;
   peak = peak ∙ ap (λ (n : ℕ). max n (peak_of frames)) is.peak ∙ sym (peak_of-append run.written frames);
+  steps = subst (λ (ns : List ℕ). AreFew run ns) (sym steps) is.steps;
 }
 
 -- ## The summary

@@ -1,3 +1,4 @@
 pub mod Summaries
+pub mod Steps
 pub mod Tallies
 pub mod Sound

@@ -23,16 +23,17 @@ pub record EntryUsed : Type 0 where
   pub entry : CycleEntry
   pub state : Option FastState
 
--- what a run shows: the calls of each client, by the number of its track, the turns of the normal mixer, the entries of the fast mixer, and the frames written
+-- what a run shows: the frames of a cycle, the calls of each client, by the number of its track, the turns of the normal mixer, the entries of the fast mixer, and the frames written
 pub record Shown : Type 0 where
+  pub frames : ℕ
   pub calls : List (List ClientCall)
   pub turns : List Turn
   pub entries : List EntryUsed
   pub written : List Frame
 
--- a run of so many tracks before its first round
-abbrev pub nothing_shown : ℕ → Shown
-nothing_shown tracks = record { calls = replicate tracks []; turns = []; entries = []; written = [] }
+-- a run of so many frames a cycle and so many tracks before its first round
+abbrev pub nothing_shown : ℕ → ℕ → Shown
+nothing_shown frames tracks = record { frames = frames; calls = replicate tracks []; turns = []; entries = []; written = [] }
 
 -- the calls of the client of track i
 abbrev pub calls_of : Shown → ℕ → List ClientCall

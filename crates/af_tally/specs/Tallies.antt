@@ -4,14 +4,16 @@ use Rattle.af_base.specs.Log.{slots}
 use Rattle.af_base.specs.Mix.{peak_of}
 use Rattle.af_script.specs.Bounds.{most_tracks}
 use Rattle.af_tally.specs.declared.tally.TrackTally.{TrackTally}
+use Rattle.af_tally.specs.Steps.{AreFew}
 use Rattle.af_tally.specs.Summaries.{Shown, Look, taken_in, dropped_in, taken_of, dropped_of, is_lawful, mixed_cycles}
 
--- a tally: the numbers of each track, how many cycles were mixed, how many looks may have been noted, and the peak
+-- a tally: the numbers of each track, how many cycles were mixed, how many looks may have been noted, the peak, and the steps of each cycle
 pub record Tallied : Type 0 where
   pub tracks : List TrackTally
   pub cycles : ℕ
   pub looks : ℕ
   pub peak : ℕ
+  pub steps : List ℕ
 
 -- the looks that a tally has room for: more than those of the longest run
 abbrev pub most_looks : ℕ
@@ -51,6 +53,7 @@ pub record Notes (places : ℕ) (noted : List Look) (old new : Tallied) : Type 0
   pub cycles : new.cycles ≡ old.cycles
   pub looks : new.looks ≤ old.looks + places
   pub peak : new.peak ≡ old.peak
+  pub steps : new.steps ≡ old.steps
 
 -- A tally keeps its tracks, and has no more than so many looks and mixed cycles more
 pub record Keeps (places mixes : ℕ) (old new : Tallied) : Type 0 where
@@ -69,6 +72,7 @@ pub record IsTally (run : Shown) (t : Tallied) : Type 0 where
   pub cycles : t.cycles ≡ mixed_cycles run
   pub looks : t.looks ≤ slots * (length run.entries + length run.turns)
   pub peak : t.peak ≡ peak_of run.written
+  pub steps : AreFew run t.steps
 
 -- what counts of a track: nothing if it isn't lawful
 abbrev pub mixed_by : TrackTally → ℕ

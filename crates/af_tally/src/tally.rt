@@ -1,18 +1,23 @@
 //! What is counted of a run for its summary, as the run goes on.
-ghost use Rattle.std.specs.Prelude.{◌≡◌, ◌+◌, ◌<◌, ◌≤◌, ◌^◌, ◌&&◌, [], ◌∷◌, IfOk, All, if◌then◌else◌, length, max, option_copied};
+ghost use Rattle.std.specs.Prelude.{◌≡◌, ℕ, ◌+◌, ◌<◌, ◌≤◌, ◌^◌, ◌&&◌, [], ◌∷◌, ◌++◌, IfOk, All, if◌then◌else◌, length, max, option_copied};
 ghost use Rattle.af_base.specs.Log.{slots, count_seen};
 ghost use Rattle.af_base.specs.Mix.{peak_of};
 ghost use Rattle.af_base.specs.Turn.{turn_of};
 ghost use Rattle.af_model.specs.Cycles.{is_mixed};
 ghost use Rattle.af_script.specs.Bounds.{most_tracks};
+ghost use Rattle.af_tally.specs.Steps.{most_steps};
 ghost use Rattle.af_tally.specs.Summaries.{Shown, count_flushed, has_no_poke, is_poke, looks_by, nothing_shown, slot_looks, summary_of, turn_looks, with_calls, with_entry, with_turn, with_written};
 ghost use Rattle.af_tally.specs.Tallies.{IsTally, Keeps, Notes, discarded_by, mixed_by, most_looks, queued_by};
 
+use crate::costs::{Costs, no_costs};
 use crate::summary::Summary;
-use af_base::{ClientCall, Cycle, CycleEntry, FastState, Frame, Memory, SLOTS, Seen, TurnEntry};
+use af_base::{
+    ClientCall, Cycle, CycleEntry, FastState, Frame, Memory, SLOTS, Seen, Steps, TurnEntry,
+};
 use af_model::carries_item;
 use std::alloc::Global;
 use std::marker::Model;
+use std::sync::ledger::Ledger;
 
 /// What is counted of one track: the frames that were taken and those that were discarded, and whether no poke was performed on its blocks.
 #[derive(Clone, Copy, Debug, PartialEq, Eq)]
@@ -118,6 +123,7 @@ pub struct Tally {
     cycles: u64,
     looks: u64,
     peak: u32,
+    steps: Costs,
 }
 
 impl Model for Tally {
@@ -125,7 +131,7 @@ impl Model for Tally {
 
     ghost Value = { Tallied };
 
-    ghost view = { λ t. record { tracks = t.tracks.items; cycles = t.cycles; looks = t.looks; peak = t.peak } };
+    ghost view = { λ t. record { tracks = t.tracks.items; cycles = t.cycles; looks = t.looks; peak = t.peak; steps = t.steps.items } };
 
     ghost invariant = { λ t. IsSmall t.tracks.items t.looks };
 }
@@ -134,7 +140,7 @@ impl Tally {
     /// The tally of a run of so many tracks before its first round. Memory is its only refusal.
     pub fn new(alloc: Global, tracks: usize) -> Result<Tally, Memory>
         requires { tracks ≤ most_tracks }
-        ensures tally { IfOk result (λ t. IsTally (nothing_shown tracks) t) }
+        ensures tally { IfOk result (λ t. (frames : ℕ) → IsTally (nothing_shown frames tracks) t) }
         ensures empty { IfOk result (λ t. (length t.tracks ≡ tracks) × (t.looks ≡ 0) × (t.cycles ≡ 0)) }
     {
         let untouched = TrackTally {
@@ -147,6 +153,7 @@ impl Tally {
             cycles: 0,
             looks: 0,
             peak: 0,
+            steps: no_costs(),
         })
     }
 
@@ -179,15 +186,35 @@ impl Tally {
         }
     }
 
-    /// Notes an entry of the fast mixer with the state that it used, if it used one.
-    pub fn note_entry(&mut self, entry: &CycleEntry, state: Option<&FastState>)
+    /// Notes an entry of the fast mixer with the state that it used, if it used one, and with the steps that its cycle took.
+    pub fn note_entry<L: Ledger>(
+        &mut self,
+        entry: &CycleEntry,
+        state: Option<&FastState>,
+        steps: &Steps<L>,
+    )
         requires room { self.old.looks + slots ≤ most_looks }
         requires cycles { self.old.cycles < 2 ^ 32 }
-        ensures tally { (run : Shown) → IsTally run self.old → IsTally (with_entry run (record { entry = entry.now; state = option_copied state.entry })) self.new }
+        ensures tally { (run : Shown) → steps.now ≤ most_steps run.frames (option_copied state.entry) → IsTally run self.old → IsTally (with_entry run (record { entry = entry.now; state = option_copied state.entry })) self.new }
         ensures keeps { Keeps slots 1 self.old self.new }
     {
         self.note_state(entry, state);
         self.note_cycle(entry.cycle);
+        self.note_steps(steps);
+    }
+
+    // Notes the steps of a cycle more.
+    fn note_steps<L: Ledger>(&mut self, steps: &Steps<L>)
+        ensures { self.new ≡ record self.old { steps = self.old.steps ++ steps.now ∷ [] } }
+    {
+        self.steps = self.steps.and(steps);
+    }
+
+    /// The steps of all cycles that were noted, one after the other.
+    pub fn into_steps(self) -> Costs
+        ensures { result.items ≡ self.steps }
+    {
+        self.steps
     }
 
     // Notes what an entry shows: nothing if it used no state.

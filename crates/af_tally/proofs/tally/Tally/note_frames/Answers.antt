@@ -11,5 +11,5 @@ returns-clause-tally c = λ run is.
     let view = c.self.view_is in
     let peak : c.max-self-inside.result ≡ max now.peak (peak_of c.args.written.now) =
     c.max-self-inside.ensures ∙ (λ i. max (view i).peak (c.peak_of.ensures i)) in
-    frames_noted run now (record { tracks = inside.tracks.items; cycles = inside.cycles; looks = inside.looks; peak = c.max-self-inside.result }) c.args.written.now
-    (ap (λ (t : Tallied). t.tracks) view) (ap (λ (t : Tallied). t.cycles) view) (ap (λ (t : Tallied). t.looks) view) peak is
+    frames_noted run now (record { tracks = inside.tracks.items; cycles = inside.cycles; looks = inside.looks; peak = c.max-self-inside.result; steps = inside.steps.items }) c.args.written.now
+    (ap (λ (t : Tallied). t.tracks) view) (ap (λ (t : Tallied). t.cycles) view) (ap (λ (t : Tallied). t.looks) view) peak (ap (λ (t : Tallied). t.steps) view) is
