@@ -29,6 +29,7 @@ use Rattle.af_fast.specs.Mixing.{AddsCycle, Adopts, MixesOnce, Writes}
 use Rattle.af_session.specs.Met.{Met}
 use Rattle.af_session.specs.Shown.{Follows, HasPlaces, entries_written, entry_written, frames_written, shown_at, shows, use_of}
 use Rattle.af_tally.specs.Sound.{IsWhole}
+use Rattle.af_tally.specs.Steps.{most_steps}
 use Rattle.af_tally.specs.Summaries.{EntryUsed, Shown, with_entry, with_written}
 use Rattle.af_tally.specs.Tallies.{Tallied, IsTally, Keeps, most_looks}
 use Rattle.af_session.specs.Together.{SessionState}
@@ -163,6 +164,11 @@ written_stays len frames more (entry ∷ entries) all =
 
 -- ## A mix
 
+-- what a mixer shows has the frames of its cycles
+shown_frames : (first : FastState) (tracks : ℕ) (rounds : List RoundNoted) (m : MixerState) → (shown_at first tracks rounds m).frames ≡ m.frames
+unfolding shows
+shown_frames first tracks rounds m = refl
+
 -- a run with one entry more shows what it did, the entry and the frames of its mix
 shows_entry : (states : List FastState) (len tracks : ℕ) (calls : List (List (List ClientCall))) (turns : List (Option Turn)) (frames more : List Frame) (entries : List CycleEntry) (entry : CycleEntry) (state : Option FastState) (out : List Frame)
     → All (LieWithin frames) entries → state_of states entry.state ≡ state → entry_written len (frames ++ more) entry ≡ out
@@ -245,14 +251,17 @@ module _ (m m' : MixerState) (out out' : List Frame) (answer : Cycle) (mixes : M
     one_longer = ⊎_elim (λ (same : m' ≡ record m { adopted = false }). absurd (omega (arith, longer, still_long same)))
         (λ (x : (entry : CycleEntry) × (answer ≡ entry.cycle) × AddsCycle m m' entry × Writes m' entry out out'). added_long x.0 x.2) (mix_does m m' out out' answer mixes)
 
-    pub follows_added : (x y z : Tallied) → IsInOrder m → IsWhole m.log → length out ≡ m.frames → m'.frames ≡ m.frames
-        → ((run : Shown) → IsTally run x → IsTally (with_entry run (record { entry = entry_at m'.log.entries (length m'.log.entries - 1); state = m'.observer.current })) y)
+    pub follows_added : (x y z : Tallied) (steps : ℕ) → IsInOrder m → IsWhole m.log → length out ≡ m.frames → m'.frames ≡ m.frames → steps ≤ most_steps m.frames m.observer.current
+        → ((run : Shown) → steps ≤ most_steps run.frames m'.observer.current → IsTally run x → IsTally (with_entry run (record { entry = entry_at m'.log.entries (length m'.log.entries - 1); state = m'.observer.current })) y)
         → ((run : Shown) → IsTally run y → IsTally (with_written run (frames_written answer out')) z) → Follows m m' x z
-    follows_added x y z order whole long sizes first second head = ⊎_elim
+    follows_added x y z steps order whole long sizes few first second head = ⊎_elim
         (λ (same : m' ≡ record m { adopted = false }). absurd (omega (arith, longer, still_long same)))
         (λ (a : (entry : CycleEntry) × (answer ≡ entry.cycle) × AddsCycle m m' entry × Writes m' entry out out'). λ tracks rounds is.
         let run : Shown = shown_at head tracks rounds m in
-        let noted = second (with_entry run (record { entry = entry_at m'.log.entries (length m'.log.entries - 1); state = m'.observer.current })) (first run is) in
+        let same_state : m'.observer.current ≡ m.observer.current = ap (λ (o : Observes ServerState StreamNames). o.current) a.2.takes.observer in
+        let within : steps ≤ most_steps run.frames m'.observer.current =
+        subst (λ (x : ℕ × Option FastState). steps ≤ most_steps x.0 x.1) (λ i. (sym (shown_frames head tracks rounds m) i, sym same_state i)) few in
+        let noted = second (with_entry run (record { entry = entry_at m'.log.entries (length m'.log.entries - 1); state = m'.observer.current })) (first run within is) in
         let shown = shown_added head tracks rounds m m' a.0 out out' order whole long sizes a.2 a.3 in
         let same : with_written (with_entry run (record { entry = entry_at m'.log.entries (length m'.log.entries - 1); state = m'.observer.current })) (frames_written answer out') ≡ shown_at head tracks rounds m' =
         (λ i. with_written (with_entry run (record { entry = last_entry m m' a.0 a.2 i; state = m'.observer.current })) (frames_written (a.1 i) out')) ∙ sym shown in

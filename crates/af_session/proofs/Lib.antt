@@ -14,3 +14,4 @@ pub mod Following
 pub mod FollowingRounds
 pub mod RoomsKept
 pub mod NotedOn
+pub mod StepsUsed

@@ -31,7 +31,7 @@ StaysReadyOn rig s t = (n : ℕ) → IsReadyOn rig n s → IsReadyOn rig (n + 1)
 pub record IsNewRoom (frames tracks : ℕ) (room : Room) : Type 0 where
   pub buffer : length room.buffer.items ≡ frames
   pub bytes : room.bytes ≡ record { items = []; room = 256 * frames }
-  pub tally : IsTally (nothing_shown tracks) room.tally
+  pub tally : IsTally (nothing_shown frames tracks) room.tally
   pub released : room.released ≡ record { items = []; room = tracks }
 
 -- a room has the sizes that it had, and its counts

@@ -55,6 +55,7 @@ turns_over rounds = flat_map turn_in rounds
 -- what rounds with these calls and turns show of so many tracks, with the entries of a log that name these states
 unfoldable pub shows : (states : List FastState) (len tracks : ℕ) (calls : List (List (List ClientCall))) (turns : List (Option Turn)) (frames : List Frame) (entries : List CycleEntry) → Shown
 shows states len tracks calls turns frames entries = record {
+  frames = len;
   calls = map (calls_over calls) (range_with_len 0 tracks);
   turns = turns_over turns;
   entries = map (use_of states) entries;

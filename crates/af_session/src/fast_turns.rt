@@ -9,6 +9,7 @@ ghost use Rattle.af_session.specs.Rooms.{CanCycle, CanMix, HasAdded, HasNotedOn,
 ghost use Rattle.af_session.specs.Shown.{Follows, HasPlaces, frames_written};
 ghost use Rattle.af_tally.specs.Sound.{IsWhole};
 ghost use Rattle.af_runs.specs.Pcm.{written};
+ghost use Rattle.af_tally.specs.Steps.{most_steps};
 ghost use Rattle.af_tally.specs.Summaries.{Shown, with_entry, with_written};
 ghost use Rattle.af_tally.specs.Tallies.{IsTally, Keeps, most_looks};
 ghost use Rattle.af_session.specs.Together.{AreTogether};
@@ -21,7 +22,8 @@ use af_link::Links;
 use af_normal::NormalMixer;
 use af_party::Party;
 use af_tally::{Tally, push_pcm};
-use std::sync::ledger::Ledger;
+use std::marker::Brand;
+use std::sync::ledger::{Blank, Ledger};
 
 /// Whether a cycle mixes.
 pub fn is_mixed(cycle: Cycle) -> bool
@@ -60,14 +62,14 @@ fn note_written(kind: Cycle, buffer: &[Frame], tally: &mut Tally)
     }
 }
 
-// Notes the entry that was added last, with the state that it used.
-fn note_last(fast: &mut FastMixer, tally: &mut Tally)
+// Notes the entry that was added last, with the state that it used and the steps that its cycle took.
+fn note_last<L: Ledger>(fast: &mut FastMixer, tally: &mut Tally, steps: &Steps<L>)
     requires order { IsFastInOrder fast.old }
     requires some { 0 < length fast.old.log.entries }
     requires room { tally.old.looks + slots ≤ most_looks }
     requires cycles { tally.old.cycles < 2 ^ 32 }
     ensures same { fast.new ≡ fast.old }
-    ensures tally { (run : Shown) → IsTally run tally.old → IsTally (with_entry run (record {
+    ensures tally { (run : Shown) → steps.now ≤ most_steps run.frames fast.old.observer.current → IsTally run tally.old → IsTally (with_entry run (record {
       entry = entry_at fast.old.log.entries (length fast.old.log.entries - 1);
       state = fast.old.observer.current;
     })) tally.new }
@@ -78,10 +80,10 @@ fn note_last(fast: &mut FastMixer, tally: &mut Tally)
     let Some(entry) = log.entry(log.len() - 1) else {
         unreachable!()
     };
-    tally.note_entry(entry, state.as_ref());
+    tally.note_entry(entry, state.as_ref(), steps);
 }
 
-// The mix of a cycle. The entry that it adds is noted, with the state that it used and the frames that it writes. If it adds no entry nothing is noted.
+// The mix of a cycle, whose poll took two steps at most. The entry that it adds is noted, with the state that it used, the steps that the cycle took and the frames that it writes. If it adds no entry nothing is noted.
 fn mix_noted<L: Ledger>(
     fast: &mut FastMixer,
     links: &Links<'_>,
@@ -94,6 +96,7 @@ fn mix_noted<L: Ledger>(
     requires turn { fast.old.adopted ≡ true }
     requires buffer { length buffer.old ≡ fast.old.frames }
     requires whole { IsWhole fast.old.log }
+    requires poll { steps.old ≤ 2 }
     requires places { (n : ℕ) × (tracks : ℕ) × (n ≤ 100000) × HasPlaces n tracks (length fast.old.log.entries) tally.old }
     ensures linked { IsLinked links.now fast.new }
     ensures order { IsFastInOrder fast.new }
@@ -108,13 +111,13 @@ fn mix_noted<L: Ledger>(
     let entries = fast.log().len();
     let cycle = fast.mix(links, buffer, steps);
     if fast.log().len() > entries {
-        note_last(fast, tally);
+        note_last(fast, tally, steps);
         note_written(cycle, buffer, tally);
     }
     cycle
 }
 
-/// The mix of a cycle, after its poll. The entry that it adds is noted, with the state that it used and the frames that it writes, and its bytes are appended to those in the room. If it adds no entry nothing is noted.
+/// The mix of a cycle, after its poll, which took two steps at most. The entry that it adds is noted, with the state that it used, the steps that the cycle took and the frames that it writes, and its bytes are appended to those in the room. If it adds no entry nothing is noted.
 pub fn mix_in<L: Ledger>(
     fast: &mut FastMixer,
     links: &Links<'_>,
@@ -122,6 +125,7 @@ pub fn mix_in<L: Ledger>(
     steps: &mut Steps<L>,
 ) -> Cycle
     requires can { CanMix links.now fast.old }
+    requires poll { steps.old ≤ 2 }
     requires room { HasRoom 1 fast.old room.old }
     ensures can { CanCycle links.now fast.new }
     ensures sizes { KeepsSizes fast.old fast.new }
@@ -135,8 +139,9 @@ pub fn mix_in<L: Ledger>(
     cycle
 }
 
-// One cycle: a poll, the meetings of all parties, and the mix in the room.
-fn fast_cycle<L: Ledger>(
+// One cycle: a poll, the meetings of all parties, and the mix in the room. Its steps are counted by themselves, without those of the meetings.
+fn fast_cycle<L: Ledger, C: Ledger>(
+    blank: Blank,
     clients: &mut [Party],
     normal: &mut NormalMixer,
     fast: &mut FastMixer,
@@ -144,6 +149,7 @@ fn fast_cycle<L: Ledger>(
     room: &mut Room,
     steps: &mut Steps<L>,
 ) -> Cycle
+    requires ledger { (blank.name ≡ C.name) × (blank.parts ≡ C.parts) × (0 < blank.parts) }
     requires together { AreTogether links.now (record { clients = clients.old; normal = normal.old; fast = fast.old }) }
     requires between { fast.old.adopted ≡ false }
     requires whole { IsWhole fast.old.log }
@@ -156,9 +162,10 @@ fn fast_cycle<L: Ledger>(
     ensures noted { HasNotedOn fast.old fast.new room.old.tally room.new.tally }
     ensures kept { KeepsRoom room.old room.new }
 {
-    fast.adopt(links, steps);
+    let mut taken = Steps::<C>::start(blank);
+    fast.adopt(links, &mut taken);
     meet(clients, normal, fast, links, steps);
-    mix_in(fast, links, room, steps)
+    mix_in(fast, links, room, &mut taken)
 }
 
 /// The fast mixer's turn: up to `count` cycles, in each of which all parties meet between the poll and the mix. The first cycle that mixes nothing is the last. The bytes of each mix are appended to those in the room, which has room for all of them, and the tally notes each entry and what it wrote. It takes no memory.
@@ -184,7 +191,8 @@ pub(crate) fn fast_turn<L: Ledger>(
     ensures kept { KeepsRoom room.old room.new }
 {
     for i in 0..count {
-        let cycle = fast_cycle(clients, normal, fast, links, room, steps);
+        let blank = Blank::new(1);
+        let cycle = fast_cycle::<L, Brand>(blank, clients, normal, fast, links, room, steps);
         if !is_mixed(cycle) {
             return;
         }

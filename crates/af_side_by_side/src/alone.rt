@@ -1,5 +1,5 @@
 //! A turn of the fast mixer while the other parties make theirs.
-ghost use Rattle.std.specs.Prelude.{ℕ, List, length};
+ghost use Rattle.std.specs.Prelude.{◌≡◌, ◌<◌, ℕ, List, length};
 ghost use Rattle.af_side_by_side.specs.Alone.{CyclesOn, CyclesOnce, most_cycles};
 ghost use Rattle.af_side_by_side.specs.Logging.{HasLogged, IsScribe};
 ghost use Rattle.af_session.specs.Rooms.{CanCycle, HasAdded, HasNotedOn, HasRoom, KeepsRoom, KeepsSizes};
@@ -12,12 +12,13 @@ use af_cblk::Block;
 use af_fast::FastMixer;
 use af_link::Links;
 use af_session::{Room, is_mixed, mix_in};
-use std::sync::ledger::Ledger;
+use std::marker::Brand;
+use std::sync::ledger::{Blank, Ledger};
 
 /// The most cycles of a turn.
 const MOST_CYCLES: u32 = 16;
 
-// One cycle, whose bytes are appended.
+// One cycle, whose bytes are appended. No step was taken before it.
 fn cycle_once<L: Ledger>(
     fast: &mut FastMixer,
     links: &Links<'_>,
@@ -25,6 +26,7 @@ fn cycle_once<L: Ledger>(
     steps: &mut Steps<L>,
 ) -> Cycle
     requires can { CanCycle links.now fast.old }
+    requires first { steps.old ≡ 0 }
     requires room { HasRoom 1 fast.old room.old }
     ensures can { CanCycle links.now fast.new }
     ensures cycle { CyclesOnce links.now fast.old result (written result room.new.buffer.items) fast.new }
@@ -36,15 +38,16 @@ fn cycle_once<L: Ledger>(
     mix_in(fast, links, room, steps)
 }
 
-// One cycle, whose bytes are appended. Its entry is noted in the log, if one is kept.
+// One cycle, whose bytes are appended, and whose steps are counted by themselves. Its entry is noted in the log, if one is kept.
 fn cycle_logged<L: Ledger>(
+    blank: Blank,
     fast: &mut FastMixer,
     links: &Links<'_>,
     room: &mut Room,
     log: &Option<Block>,
     scribe: &mut Scribe,
-    steps: &mut Steps<L>,
 ) -> Cycle
+    requires ledger { (blank.name ≡ L.name) × (blank.parts ≡ L.parts) × (0 < blank.parts) }
     requires can { CanCycle links.now fast.old }
     requires room { HasRoom 1 fast.old room.old }
     requires log { IsScribe log.now (length fast.old.log.entries) scribe.old }
@@ -58,21 +61,21 @@ fn cycle_logged<L: Ledger>(
 {
     let entries = fast.log().len();
     let frames = room.buffer.len() as u32;
-    let cycle = cycle_once(fast, links, room, steps);
+    let mut steps = Steps::<L>::start(blank);
+    let cycle = cycle_once(fast, links, room, &mut steps);
     if fast.log().len() > entries {
-        scribe.note_last(log, fast, frames, steps);
+        scribe.note_last(log, fast, frames, &mut steps);
     }
     cycle
 }
 
 // Up to sixteen cycles. The first that mixes nothing is the last.
-fn cycles_on<L: Ledger>(
+fn cycles_on(
     fast: &mut FastMixer,
     links: &Links<'_>,
     room: &mut Room,
     log: &Option<Block>,
     scribe: &mut Scribe,
-    steps: &mut Steps<L>,
 )
     requires can { CanCycle links.now fast.old }
     requires room { HasRoom 16 fast.old room.old }
@@ -86,7 +89,8 @@ fn cycles_on<L: Ledger>(
     ensures logged { HasLogged (length fast.old.log.entries) fast.new scribe.old scribe.new }
 {
     for i in 0..MOST_CYCLES {
-        let cycle = cycle_logged(fast, links, room, log, scribe, steps);
+        let blank = Blank::new(1);
+        let cycle = cycle_logged::<Brand>(blank, fast, links, room, log, scribe);
         if !is_mixed(cycle) {
             return;
         }
@@ -94,13 +98,12 @@ fn cycles_on<L: Ledger>(
 }
 
 /// The fast mixer's turn while the other parties make theirs: up to sixteen cycles, none if it has ended. The bytes of each mix are appended to those in the room, and the tally notes each entry and what it wrote. If a log is kept each entry is noted in it too. It takes no memory.
-pub fn turn_alone<L: Ledger>(
+pub fn turn_alone(
     fast: &mut FastMixer,
     links: &Links<'_>,
     room: &mut Room,
     log: &Option<Block>,
     scribe: &mut Scribe,
-    steps: &mut Steps<L>,
 )
     requires can { CanCycle links.now fast.old }
     requires room { HasRoom 16 fast.old room.old }
@@ -109,6 +112,6 @@ pub fn turn_alone<L: Ledger>(
     ensures scribe { IsScribe log.now (length fast.new.log.entries) scribe.new }
 {
     if !fast.has_exited() {
-        cycles_on(fast, links, room, log, scribe, steps);
+        cycles_on(fast, links, room, log, scribe);
     }
 }

@@ -68,25 +68,6 @@ fn normal_turn<G: Gate>(normal: &mut NormalMixer, links: &Links<'_>, party: u32,
     normal_in::<Brand>(Blank::new(1), normal, links);
 }
 
-// A turn of the fast mixer, whose steps are counted by themselves.
-fn fast_in<L: Ledger>(
-    blank: Blank,
-    fast: &mut FastMixer,
-    links: &Links<'_>,
-    room: &mut Room,
-    log: &Option<Block>,
-    scribe: &mut Scribe,
-)
-    requires ledger { (blank.name ≡ L.name) × (blank.parts ≡ L.parts) × (0 < blank.parts) }
-    requires can { CanCycle links.now fast.old }
-    requires room { HasRoom 16 fast.old room.old }
-    requires log { IsScribe log.now (length fast.old.log.entries) scribe.old }
-    ensures { FastLogged links.now fast.old fast.new room.old room.new scribe.old scribe.new }
-{
-    let mut steps = Steps::<L>::start(blank);
-    turn_alone(fast, links, room, log, scribe, &mut steps);
-}
-
 // A turn of the fast mixer, the party of this number.
 fn fast_turn<G: Gate>(
     fast: &mut FastMixer,
@@ -105,7 +86,7 @@ fn fast_turn<G: Gate>(
     if !fast.has_exited() {
         gate.enter(party);
     }
-    fast_in::<Brand>(Blank::new(1), fast, links, room, log, scribe);
+    turn_alone(fast, links, room, log, scribe);
 }
 
 // Whether all of these clients have ended.

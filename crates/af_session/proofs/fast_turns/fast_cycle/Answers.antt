@@ -27,6 +27,7 @@ mix_in-requires g c =
     let fits = c.requires.room.bytes in
     record {
       can = record { linked = t.fast.1; order = t.fast.0; polled = kept.3 ∙ polled.3; whole = subst IsWhole (sym log) c.requires.whole };
+      poll = omega (arith, c.adopt.ensures.steps, c.start-taken.ensures);
       room = record {
         buffer = c.requires.room.buffer ∙ sym frames;
         bytes = omega (arith, frames, fits);

@@ -3,6 +3,7 @@ use Rattle.af_fast.specs.Mixer.{MixerState, IsInOrder}
 use Rattle.af_fast.specs.Mixing.{MixesOnce}
 use Rattle.af_session.specs.Shown.{Follows}
 use Rattle.af_session.proofs.Following.{follows_added, follows_still, places_kept}
+use Rattle.af_session.proofs.StepsUsed.{mixed_few}
 use Rattle.af_session.proofs.fast_turns.mix_noted.Goals as goal
 
 pub mix-cycle-requires-clause-order : goal.mix-cycle-requires-clause-order
@@ -30,8 +31,8 @@ returns-then-len-entries-clause-tally g c =
     let longer : length was.log.entries < length next.log.entries =
     omega (arith, c.if-len-entries.true, c.len-entries.ensures, ap (λ l. length l.entries) c.log.ensures, c.len.ensures, ap (λ l. length l.entries) c.log-2.ensures) in
     subst (λ (m : MixerState). Follows was m c.args.tally.now c.note_written.new.tally) (sym c.note_last.ensures.same)
-    (follows_added was next c.args.buffer.now c.mix-cycle.new.out c.mix-cycle.result (c.mix-cycle.ensures.mixes [] c.requires.order) longer c.args.tally.now c.note_last.new.tally c.note_written.new.tally c.requires.order c.requires.whole c.requires.buffer
-    c.mix-cycle.ensures.sizes.0 c.note_last.ensures.tally c.note_written.ensures.tally)
+    (follows_added was next c.args.buffer.now c.mix-cycle.new.out c.mix-cycle.result (c.mix-cycle.ensures.mixes [] c.requires.order) longer c.args.tally.now c.note_last.new.tally c.note_written.new.tally c.mix-cycle.new.steps c.requires.order c.requires.whole c.requires.buffer
+    c.mix-cycle.ensures.sizes.0 (mixed_few was c.args.steps.now c.mix-cycle.new.steps c.requires.order c.requires.poll c.mix-cycle.ensures.steps) c.note_last.ensures.tally c.note_written.ensures.tally)
 
 pub returns-else-len-entries-clause-tally : goal.returns-else-len-entries-clause-tally
 returns-else-len-entries-clause-tally g c =

@@ -13,7 +13,7 @@ use Rattle.af_side_by_side.proofs.ScribeTurns.{cycle_adds_up_to_one, no_shorter,
 use Rattle.af_side_by_side.proofs.alone.cycles_on.Goals as goal
 
 pub loop-i-init : goal.loop-i-init
-loop-i-init g c =
+loop-i-init c =
     let room : Room = c.args.room.now in
     let bytes : Roomy ℕ = room.bytes in
     record {
@@ -35,10 +35,10 @@ loop-i-init g c =
 -- ## A cycle
 
 pub cycle_logged-cycle-requires-clause-can : goal.cycle_logged-cycle-requires-clause-can
-cycle_logged-cycle-requires-clause-can g c = c.loop-i.invariant.can
+cycle_logged-cycle-requires-clause-can c = c.loop-i.invariant.can
 
 pub cycle_logged-cycle-requires-clause-room : goal.cycle_logged-cycle-requires-clause-room
-cycle_logged-cycle-requires-clause-room g c =
+cycle_logged-cycle-requires-clause-room c =
     let inv = c.loop-i.invariant in
     let held = c.requires.room.places in
     let few : c.loop-i.i < 16 = omega (arith, c.loop-i-test.true) in
@@ -49,10 +49,10 @@ cycle_logged-cycle-requires-clause-room g c =
     }
 
 pub cycle_logged-cycle-requires-clause-log : goal.cycle_logged-cycle-requires-clause-log
-cycle_logged-cycle-requires-clause-log g c = c.loop-i.invariant.scribe
+cycle_logged-cycle-requires-clause-log c = c.loop-i.invariant.scribe
 
 pub loop-i-preserved : goal.loop-i-preserved
-loop-i-preserved g c =
+loop-i-preserved c =
     let call = c.cycle_logged-cycle in
     let more : List ℕ = written call.result call.new.room.buffer.items in
     let inv = c.loop-i.invariant in
@@ -81,7 +81,7 @@ loop-i-preserved g c =
 -- ## After the last
 
 pub returns-then-not-is_mixed : goal.returns-then-not-is_mixed
-returns-then-not-is_mixed g c =
+returns-then-not-is_mixed c =
     let call = c.cycle_logged-cycle in
     let more : List ℕ = written call.result call.new.room.buffer.items in
     let inv = c.loop-i.invariant in
@@ -103,7 +103,7 @@ returns-then-not-is_mixed g c =
     }
 
 pub returns : goal.returns
-returns g c =
+returns c =
     let inv = c.loop-i.invariant in
     let so_far = inv.turn in
     let whole : c.loop-i.i ≡ most_cycles = omega arith in

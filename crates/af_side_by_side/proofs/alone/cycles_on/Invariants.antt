@@ -6,7 +6,7 @@ use Rattle.af_side_by_side.proofs.AloneTurns.{ComesTo}
 use Rattle.af_side_by_side.proofs.alone.cycles_on.Given as goal
 
 abbrev pub invariant-loop-i : goal.invariant-loop-i
-invariant-loop-i g l = record {
+invariant-loop-i l = record {
   can : CanCycle l.links l.fast;
   noted : HasNotedOn l.initial.fast l.fast l.initial.room.tally l.room.tally;
   sizes : KeepsSizes l.initial.fast l.fast;
@@ -16,3 +16,6 @@ invariant-loop-i g l = record {
   scribe : IsScribe l.log (length l.fast.log.entries) l.scribe;
   logged : HasLogged (length l.initial.fast.log.entries) l.fast l.initial.scribe l.scribe;
 }
+
+abbrev pub ghosts-cycle_logged : goal.ghosts-cycle_logged
+ghosts-cycle_logged a = record { name = a.blank.name; parts = a.blank.parts }

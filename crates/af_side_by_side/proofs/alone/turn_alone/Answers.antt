@@ -10,7 +10,7 @@ use Rattle.af_side_by_side.proofs.ScribeTurns.{noted_none}
 use Rattle.af_side_by_side.proofs.alone.turn_alone.Goals as goal
 
 pub returns-then-not-has_exited-clause-played : goal.returns-then-not-has_exited-clause-played
-returns-then-not-has_exited-clause-played g c =
+returns-then-not-has_exited-clause-played c =
     let m : MixerState = c.args.fast.now in
     let m' : MixerState = c.cycles_on.new.fast in
     let done = c.cycles_on.ensures.turned in
@@ -34,7 +34,7 @@ returns-then-not-has_exited-clause-played g c =
     }
 
 pub returns-else-not-has_exited-clause-played : goal.returns-else-not-has_exited-clause-played
-returns-else-not-has_exited-clause-played g c =
+returns-else-not-has_exited-clause-played c =
     let m : MixerState = c.args.fast.now in
     let bytes : Roomy ℕ = c.args.room.now.bytes in
     let over : m.exited ≡ true = sym c.has_exited.ensures ∙ c.if-not-has_exited.false in
