@@ -105,8 +105,8 @@ module _ (script : ScriptData) (first : Stage) (new : IsNewStage script first) (
   none : first.rounds ≡ record { tracks = tracks; rounds = [] }
   none = new.rounds ∙ ap (λ (ts : List TrackSpec). record { tracks = length ts; rounds = [] }) (sym here)
 
-  new_tally : IsTally (nothing_shown tracks) first.room.tally
-  new_tally = subst (λ (ts : List TrackSpec). IsTally (nothing_shown (length ts)) first.room.tally) (sym here) new.room.tally
+  new_tally : IsTally (nothing_shown first.parties.fast.frames tracks) first.room.tally
+  new_tally = subst (λ (x : ℕ × List TrackSpec). IsTally (nothing_shown x.0 (length x.1)) first.room.tally) (λ i. (sym frames i, sym here i)) new.room.tally
 
   pub plays_first : AreLinksOf first.shared rig.links → HaveFiles (record { tracks = script.tracks; files = rig.files.now }) → PlaysOn script first rig first.rounds first.parties first.room
   plays_first links have =
@@ -121,7 +121,7 @@ module _ (script : ScriptData) (first : Stage) (new : IsNewStage script first) (
         going = going_first was;
         run = run_of_none given was;
         tally = tally_first tracks was.fast first.room.tally log.0 new_tally;
-        places = places_first tracks (length was.clients) (length was.fast.log.entries) first.room.tally (sym ready.given.0) new_tally;
+        places = places_first was.fast.frames tracks (length was.clients) (length was.fast.log.entries) first.room.tally (sym ready.given.0) new_tally;
         form = noted_none tracks was.fast.log log.0 log.1;
         spares = spares_first script first.shared was new.new;
         sizes = (refl, refl);

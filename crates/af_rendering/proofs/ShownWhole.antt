@@ -40,19 +40,19 @@ use Rattle.af_rendering.proofs.JournalSound.{dealt, same_entries}
 -- ## At the start
 
 -- no rounds and an empty log show nothing
-shows_none : (states : List FastState) (len tracks : ℕ) (frames : List Frame) → shows states len tracks [] [] frames [] ≡ nothing_shown tracks
+shows_none : (states : List FastState) (len tracks : ℕ) (frames : List Frame) → shows states len tracks [] [] frames [] ≡ nothing_shown len tracks
 unfolding shows
 shows_none states len tracks frames =
     let filled : replicate tracks no_call ≡ map (calls_over []) (range_with_len 0 tracks) = fill_by_all (calls_over []) (replicate tracks no_call) tracks no_call (length-replicate tracks no_call) (λ k lt. empty_at tracks k) in
-    λ i. record { calls = sym filled i; turns = []; entries = []; written = [] }
+    λ i. record { frames = len; calls = sym filled i; turns = []; entries = []; written = [] }
 
-pub tally_first : (tracks : ℕ) (m : MixerState) (t : Tallied) → m.log.entries ≡ [] → IsTally (nothing_shown tracks) t → (first : FastState) → IsTally (shown_at first tracks [] m) t
+pub tally_first : (tracks : ℕ) (m : MixerState) (t : Tallied) → m.log.entries ≡ [] → IsTally (nothing_shown m.frames tracks) t → (first : FastState) → IsTally (shown_at first tracks [] m) t
 tally_first tracks m t none is = λ first.
     let states : List FastState = polled_states first m.observer.past.events in
     subst (λ (run : Shown). IsTally run t) (sym (ap (shows states m.frames tracks [] [] m.log.frames) none ∙ shows_none states m.frames tracks m.log.frames)) is
 
-pub places_first : (tracks clients entries : ℕ) (t : Tallied) → clients ≡ tracks → IsTally (nothing_shown tracks) t → HasPlaces 0 clients entries t
-places_first tracks clients entries t same is = record {
+pub places_first : (frames tracks clients entries : ℕ) (t : Tallied) → clients ≡ tracks → IsTally (nothing_shown frames tracks) t → HasPlaces 0 clients entries t
+places_first frames tracks clients entries t same is = record {
   tracks_are = is.count ∙ length-replicate tracks no_call ∙ sym same;
   looks = (let none = is.looks in omega arith);
   cycles = (let none = is.cycles in omega arith);

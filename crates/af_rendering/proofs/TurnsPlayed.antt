@@ -36,7 +36,7 @@ pub record SoFar (g : Given) (turns : List TurnSpec) (s : SessionState) (rounds 
   pub spares : SparesSoFar [] s → SparesSoFar rounds t
 
 -- no turns were played so far
-pub so_far_none : (g : Given) (s : SessionState) (tally : Tallied) → s.fast.log.entries ≡ [] → s.fast.log.frames ≡ [] → IsTally (nothing_shown (length g.tracks)) tally → SoFar g [] s [] s tally
+pub so_far_none : (g : Given) (s : SessionState) (tally : Tallied) → s.fast.log.entries ≡ [] → s.fast.log.frames ≡ [] → IsTally (nothing_shown s.fast.frames (length g.tracks)) tally → SoFar g [] s [] s tally
 so_far_none g s tally entries frames is = record {
   run = run_none g s;
   tally_is = tally_first (length g.tracks) s.fast tally entries is;

@@ -149,7 +149,7 @@ pub(crate) fn play_all<S: Store>(
     requires none { room.old.bytes.items ≡ [] }
     requires ready { IsReadyOn rig.now 0 parties.old }
     requires log { (parties.old.fast.log.entries ≡ []) × (parties.old.fast.log.frames ≡ []) }
-    requires tally { IsTally (nothing_shown (length rig.now.tracks.now)) room.old.tally }
+    requires tally { IsTally (nothing_shown parties.old.fast.frames (length rig.now.tracks.now)) room.old.tally }
     ensures ready { OnOk result (IsReadyOn rig.now (length turns.now) parties.new) }
     ensures run { (n : ℕ) × (played : List RoundNoted) × Runs (given_of rig.now) (take n turns.now) parties.old played parties.new }
     ensures all { OnOk result ((rounds : RoundsNoted) × PlaysTurns (given_of rig.now) turns.now parties.old rounds parties.new room.new.tally) }

@@ -32,7 +32,7 @@ loop-i-init g c =
     record {
       ready = c.requires.ready;
       far = ([], so_far_none given was c.args.room.now.tally c.requires.log.0 c.requires.log.1 c.requires.tally);
-      places = places_first tracks (length was.clients) (length was.fast.log.entries) c.args.room.now.tally (sym c.requires.ready.given.0) c.requires.tally;
+      places = places_first was.fast.frames tracks (length was.clients) (length was.fast.log.entries) c.args.room.now.tally (sym c.requires.ready.given.0) c.requires.tally;
       entries = (λ new. new);
       frames = refl;
       room = c.requires.room;

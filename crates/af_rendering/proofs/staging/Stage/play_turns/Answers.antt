@@ -52,7 +52,10 @@ pub play_all-requires-clause-log : goal.play_all-requires-clause-log
 play_all-requires-clause-log g c = let s = c.args.self.now in empty_first c.args.script.now s.shared s.parties c.requires.new.new c.args.files.now
 
 pub play_all-requires-clause-tally : goal.play_all-requires-clause-tally
-play_all-requires-clause-tally g c = subst (λ (ts : List TrackSpec). IsTally (nothing_shown (length ts)) c.args.self.now.room.tally) (sym c.tracks-tracks.ensures.value) c.requires.new.room.tally
+play_all-requires-clause-tally g c =
+    let s = c.args.self.now in
+    let frames = frames_first c.args.script.now s.shared s.parties c.requires.new.new c.args.files.now in
+    subst (λ (x : ℕ × List TrackSpec). IsTally (nothing_shown x.0 (length x.1)) s.room.tally) (λ i. (sym frames i, sym c.tracks-tracks.ensures.value i)) c.requires.new.room.tally
 
 pub returns-clause-some : goal.returns-clause-some
 returns-clause-some g c =
