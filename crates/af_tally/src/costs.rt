@@ -1,4 +1,4 @@
-//! How many steps each of some cycles took. It takes no memory, and its methods do nothing at run time.
+//! How many steps cycles took.
 ghost use Rattle.std.specs.Prelude.{◌≡◌, ℕ, List, [], ◌∷◌, ◌++◌};
 ghost use Rattle.std.specs.Borrow.{ftrue};
 
@@ -6,7 +6,7 @@ use af_base::Steps;
 use std::marker::Model;
 use std::sync::ledger::Ledger;
 
-/// The steps that cycles took, one after the other. Contracts read them as `items`.
+/// How many word steps each of some cycles took, one after the other. Contracts see them as `items`; it takes no memory, and what is done with it does nothing at run time.
 #[derive(Drop)]
 pub struct Costs {
     pub ghost items: { List ℕ },
@@ -16,7 +16,10 @@ impl Model for Costs {
     ghost also_owns = { λ _. ftrue };
 }
 
-/// Of no cycle so far.
+// It owns nothing.
+unsafe impl Send for Costs {}
+
+/// The steps of no cycle.
 pub fn no_costs() -> Costs
     ensures { result.items ≡ [] }
 {
@@ -24,9 +27,16 @@ pub fn no_costs() -> Costs
 }
 
 impl Costs {
-    /// With a cycle more, which took these steps.
+    /// The steps of one cycle more.
     pub fn and<L: Ledger>(&self, steps: &Steps<L>) -> Costs
         ensures { result.items ≡ self.now.items ++ steps.now ∷ [] }
+    {
+        Costs {}
+    }
+
+    /// The same steps.
+    pub fn again(&self) -> Costs
+        ensures { result.items ≡ self.now.items }
     {
         Costs {}
     }

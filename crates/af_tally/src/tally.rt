@@ -211,10 +211,10 @@ impl Tally {
     }
 
     /// The steps of all cycles that were noted, one after the other.
-    pub fn into_steps(self) -> Costs
-        ensures { result.items ≡ self.steps }
+    pub fn steps(&self) -> Costs
+        ensures { result.items ≡ self.now.steps }
     {
-        self.steps
+        self.steps.again()
     }
 
     // Notes what an entry shows: nothing if it used no state.
