@@ -20,7 +20,7 @@ use Rattle.af_playing.specs.declared.answering.PlayFault.TheVariants as fault
 use Rattle.af_rendering.specs.declared.rendering.Played.{Played}
 use Rattle.af_rendering.specs.declared.staging.Stage.{Stage}
 use Rattle.af_session.specs.Ends.{EndsState, ends_from}
-use Rattle.af_playing.specs.PlayKept.{Answers, IsCutPlay, IsDonePlay, KeepsFiles, KeepsPlay, TellsItsRun}
+use Rattle.af_playing.specs.PlayKept.{Answers, IsCutPlay, IsDonePlay, KeepsFiles, KeepsPlay, TellsItsRun, TookFew}
 use Rattle.af_playing.specs.PlayedRuns.{AtLimit, HandedBack, HandsBackRun, HasStoreCause, KeepsPromises, LeavesRun, all_ended, is_limit}
 use Rattle.af_playing.specs.PlayedAlone.{IsToldAlone}
 use Rattle.af_playing.specs.Spelled.{CallsStandOnce, NoneOlder, PushesStandOnce, ReleasedAsTold}
@@ -39,6 +39,7 @@ use Rattle.af_playing.proofs.RunPushed.{pushes_stand_once}
 use Rattle.af_playing.proofs.RunReleased.{released_as_told}
 use Rattle.af_playing.proofs.RunSpelled.{calls_stand_once}
 use Rattle.af_playing.proofs.ToldAlone.{alone_kept}
+use Rattle.af_rendering.proofs.ShownWhole.{steps_told}
 use Rattle.af_rendering.proofs.Spared.{spares_told}
 
 -- ## If nothing is handed back
@@ -55,6 +56,11 @@ module _ (script : ScriptData) (files : List (List Frame)) where
         run = off_limit {T = Played} (Err x) (TellsItsRun script files) never;
         enough = (λ enough. off_limit {T = Played} (Err x) (λ (j : JournalData) (e : EndsState). ⊥) never);
       }
+
+  -- nothing is promised of the steps then
+  pub steps_none : (steps : List ℕ) (r : Result Played PlayFault) (f : PlayFault) → is_limit f ≡ false → IsErrAnd r (λ x. x ≡ f) → HandedBack (TookFew script.frames steps) r
+  steps_none steps (Ok p) f calm is = absurd is
+  steps_none steps (Err x) f calm is = off_limit {T = Played} (Err x) (TookFew script.frames steps) (ap is_limit is ∙ calm)
 
   -- after an error that is no limit the file is left
   pub files_none : (name : List ℕ) (old new : Files) (r : Result Played PlayFault) (f : PlayFault) → is_limit f ≡ false → IsErrAnd r (λ x. x ≡ f) → LeavesRun script files name old new → KeepsFiles script files name old new r
@@ -126,6 +132,10 @@ module _ (script : ScriptData) (files : List (List Frame)) (s : Stage) (r : Resu
     kept = lists_kept (all_ended t) script files j (ends_from t) back;
   }
 
+  -- the steps that the tally noted are handed back
+  pub steps_kept : (steps : List ℕ) → steps ≡ s.room.tally.steps → HandedBack (TookFew script.frames steps) r
+  steps_kept steps same = handed_on (TookFew script.frames steps) (steps_told script.frames noted t.fast.log t.normal.mutator.past.events s.room.tally j (ends_from t) steps have.noted.whole refl refl have.noted.tally same)
+
   pub keeps : IsScript script → ((journal : JournalData) → IsLegalRun script files journal → EachDrainedTrackReachedItsStop script files journal) → KeepsPlay script files r
   keeps is law = record {
     done = if_ok_three (λ (p : Played). HandsBackRun true script files p.journal p.ends) (λ (p : Played). IsLegalRun script files p.journal) (λ (p : Played). p.summary ≡ summary_told script.frames p.journal p.ends) (IsDonePlay script files) r
@@ -194,6 +204,10 @@ module _ (script : ScriptData) (files : List (List Frame)) (played r : Result Pl
   pub keeps_on : IsHandedOn played r → KeepsPlay script files played → KeepsPlay script files r
   keeps_on (inl same) keeps = subst (KeepsPlay script files) (sym same) keeps
   keeps_on (inr (p, is, memory)) keeps = keeps_none script files r fault.Memory refl memory
+
+  pub steps_on : (steps : List ℕ) → IsHandedOn played r → HandedBack (TookFew script.frames steps) played → HandedBack (TookFew script.frames steps) r
+  steps_on steps (inl same) few = subst (HandedBack (TookFew script.frames steps)) (sym same) few
+  steps_on steps (inr (p, is, memory)) few = steps_none script files steps r fault.Memory refl memory
 
   pub files_on : (name : List ℕ) (old new : Files) → IsHandedOn played r → KeepsFiles script files name old new played → KeepsFiles script files name old new r
   files_on name old new (inl same) keeps = subst (KeepsFiles script files name old new) (sym same) keeps

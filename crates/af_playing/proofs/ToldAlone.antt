@@ -12,13 +12,13 @@ use Rattle.af_runs.specs.Sessions.{Session}
 use Rattle.af_script.specs.Data.{ScriptData}
 use Rattle.af_session.specs.Ends.{EndsState}
 use Rattle.af_session.specs.Rounds.{Given}
-use Rattle.af_session.specs.Shown.{released_by, shows}
+use Rattle.af_session.specs.Shown.{released_by, shows, shown_by}
 use Rattle.af_stateq.specs.Laws.{pushed_states}
 use Rattle.af_tally.specs.Summaries.{summary_of}
 use Rattle.af_rendering.specs.declared.rendering.Played.{Played}
 use Rattle.af_playing.specs.declared.answering.PlayFault.{PlayFault}
 use Rattle.af_playing.specs.declared.answering.PlayFault.TheVariants as fault
-use Rattle.af_playing.specs.PlayedAlone.{IsToldAlone}
+use Rattle.af_playing.specs.PlayedAlone.{IsToldAlone, shown_of_play}
 use Rattle.af_playing.specs.PlayedRuns.{AtLimit, HandedBack, HandsBackRun}
 use Rattle.af_playing.proofs.RunFollows.{Follows, client_words, new_follows, run_follows}
 use Rattle.af_playing.proofs.RunReleased.{AreInOrder, new_order, run_order}
@@ -60,11 +60,14 @@ module _ (ended : Bool) (script : ScriptData) (files : List (List Frame)) (j : J
   all_released : released_by e.clients ≡ map (λ (t : TrackTold). length t.stream.released) run.tracks
   all_released = same_maps e.clients run.tracks (h.count ∙ sym follows.long ∙ length-map run.tracks track_words) one_released
 
-  pub told_alone : IsToldAlone script files j e
-  told_alone =
+  shown_alone : shown_by script.frames j e.normal.mutator.past.events ≡ shown_of_play script files j
+  shown_alone =
       let seen = entries_of j.rounds in
       let states : pushed_states e.normal.mutator.past.events ≡ run.states = ap (λ (x : EndsState). pushed_states x.normal.mutator.past.events) h.ends_are ∙ follows.normal.pushed in
-      λ k. summary_of (shows (states k) script.frames j.tracks (map (λ r. r.calls) j.rounds) (map (λ r. r.turn) j.rounds) (frames_of seen) (map (λ x. x.entry) seen)) (all_released k)
+      λ k. shows (states k) script.frames j.tracks (map (λ r. r.calls) j.rounds) (map (λ r. r.turn) j.rounds) (frames_of seen) (map (λ x. x.entry) seen)
+
+  pub told_alone : IsToldAlone script files j e
+  told_alone = record { summary = λ k. summary_of (shown_alone k) (all_released k); shown = shown_alone }
 
 -- the summary of what a play hands back is that of its journal alone
 pub alone_kept : (script : ScriptData) (files : List (List Frame)) (r : Result Played PlayFault) → IfOk r (λ (p : Played). HandsBackRun true script files p.journal p.ends) → IfErr r (AtLimit (HandsBackRun false script files))

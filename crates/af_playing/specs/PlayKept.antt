@@ -19,6 +19,7 @@ use Rattle.af_side_by_side.specs.Logging.{IsLogOf, LoggingState, TellsLog}
 use Rattle.af_rendering.specs.Hostile.{PokesSpareOthers}
 use Rattle.af_playing.specs.PlayedRuns.{AtFault, AtLimit, HandedBack, HandsBackRun, KeepsPromises, LeavesRun, all_ended}
 use Rattle.af_session.specs.Shown.{shown_by, summary_told}
+use Rattle.af_tally.specs.Steps.{AreFew}
 use Rattle.af_told_law.specs.KeptEnds.{KeepsLists}
 use Rattle.af_playing.specs.PlayedAlone.{IsToldAlone}
 use Rattle.af_playing.specs.Spelled.{CallsStandOnce, NoneOlder, PushesStandOnce, ReleasedAsTold}
@@ -56,6 +57,10 @@ pub record TellsItsRun (script : ScriptData) (files : List (List Frame)) (journa
   pub never_older : NoneOlder journal
   pub spared : PokesSpareOthers (shown_by script.frames journal ends.normal.mutator.past.events)
   pub kept : KeepsLists (run_of script files journal) ends
+
+-- these are the steps of the cycles of the journal, one after the other, and each took no more than it may
+abbrev pub TookFew : ℕ → List ℕ → JournalData → EndsState → Type 0
+TookFew frames steps journal ends = AreFew (shown_by frames journal ends.normal.mutator.past.events) steps
 
 -- All that is promised of a play's answer: of one that is done, of one that was cut off, of the journal in both, and that a script with enough cycles is never cut off
 pub record KeepsPlay (script : ScriptData) (files : List (List Frame)) (result : Result Played PlayFault) : Type 0 where

@@ -5,7 +5,7 @@ ghost use Rattle.af_playing.specs.declared.answering.PlayFault.TheVariants.{Memo
 ghost use Rattle.af_playing.specs.InTime.{EndsInTime};
 ghost use Rattle.af_playing.specs.PlayedRuns.{AtLimit, HandedBack, HasStoreCause};
 ghost use Rattle.af_playing.specs.Pieces.{given_by};
-ghost use Rattle.af_playing.specs.PlayKept.{AppendsLogOfPlay, IsCutPlay, IsDonePlay, KeepsFiles, KeepsPlay, TellsItsRun, TellsLogOf};
+ghost use Rattle.af_playing.specs.PlayKept.{AppendsLogOfPlay, IsCutPlay, IsDonePlay, KeepsFiles, KeepsPlay, TellsItsRun, TellsLogOf, TookFew};
 ghost use Rattle.af_rendering.specs.Rendered.{HaveFiles};
 ghost use Rattle.af_side_by_side.specs.Logging.{BeginsLog, HasLogOf};
 
@@ -17,6 +17,7 @@ use af_base::Memory;
 use af_io::{Gate, Store};
 use af_rendering::{Played, Stage};
 use af_side_by_side::Logging;
+use af_tally::Costs;
 use std::alloc::Global;
 use std::mem::drop;
 use std::thread::Threads;
@@ -29,6 +30,7 @@ fn play_with<R: Threads + Sync, S: Store, G: Gate>(
     store: &mut S,
     logging: &mut Logging,
     gate: &G,
+    steps: &mut Costs,
 ) -> Result<Played, PlayFault>
     requires files { HaveFiles (given_by piece.now) }
     requires log { (kept : Option ℕ) × BeginsLog kept piece.now.script.now.cycles logging.old }
@@ -37,11 +39,15 @@ fn play_with<R: Threads + Sync, S: Store, G: Gate>(
     ensures tells { S.told store.old → S.told store.new }
     ensures cause { HasStoreCause (S.faults store.old) (S.faults store.new) result }
     ensures log { (kept : Option ℕ) → BeginsLog kept piece.now.script.now.cycles logging.old → TellsLogOf kept piece.now.script.now.frames result logging.new }
+    ensures steps { HandedBack (TookFew piece.now.script.now.frames steps.new.items) result }
 {
     drained_tracks_have_reached_their_stop();
     let mut stage = Stage::make(alloc, piece.script)?;
     match play_to_end(&mut stage, rt, alloc, piece, store, logging, gate) {
-        Ok(()) => answer(stage, alloc, piece.script, piece.files),
+        Ok(()) => {
+            *steps = stage.room.tally.steps();
+            answer(stage, alloc, piece.script, piece.files)
+        }
         Err(error) => {
             drop(stage);
             Err(PlayFault::from(error))
@@ -51,7 +57,7 @@ fn play_with<R: Threads + Sync, S: Store, G: Gate>(
 
 /// Plays a script in rounds. In each round every party that has not ended makes one turn, on a thread of its own if one can be made: each client, the normal mixer, and the fast mixer, which makes sixteen cycles, or fewer after one that isn't mixed. Then all parties meet. A party's turn begins at the gate, by the party's number: a client has the number of its track, and the mixers' numbers come behind those. The sound goes to the file of the piece, round by round. All blocks, logs and mixers are made before the file is; the rounds are noted as they are played. There are at most as many rounds as the script has cycles.
 ///
-/// Whatever the threads did, what was played is a run of the script and its files, of rounds of all parties, whose journal is handed back (`HandsBackRun`). Ok says that all parties have ended (`done`), CycleLimit that the log is full and some party has not (`limit`); so after each round but the last some party goes on and the log has room. With either answer the journal records its run (`run`): each client's calls and each state pushed stand in it once, in their order, each client has released as many frames as its calls put there, and no cycle uses a state older than one before it. The summary is that of the journal alone. The lists that the ends handed back keep are those of the run that the journal records: of the clients' proxies, of the queue's mutator, of the report's reader, of the pipe's end, and of the proxies that the normal mixer holds, if no poke was made. Whatever clients stored in their words, each track on whose blocks nothing was poked is spared: no call of its client was answered Corrupt, and no look of the normal mixer at its blocks was Shut. If the store shows its files, the file is the sound of the journal; after a fault no file has changed, or the file holds a front of the sound of some first rounds (`files`).
+/// Whatever the threads did, what was played is a run of the script and its files, of rounds of all parties, whose journal is handed back (`HandsBackRun`). Ok says that all parties have ended (`done`), CycleLimit that the log is full and some party has not (`limit`); so after each round but the last some party goes on and the log has room. With either answer the journal records its run (`run`): each client's calls and each state pushed stand in it once, in their order, each client has released as many frames as its calls put there, and no cycle uses a state older than one before it. The summary is that of the journal alone. The lists that the ends handed back keep are those of the run that the journal records: of the clients' proxies, of the queue's mutator, of the report's reader, of the pipe's end, and of the proxies that the normal mixer holds, if no poke was made. Whatever clients stored in their words, each track on whose blocks nothing was poked is spared: no call of its client was answered Corrupt, and no look of the normal mixer at its blocks was Shut. If the store shows its files, the file is the sound of the journal; after a fault no file has changed, or the file holds a front of the sound of some first rounds (`files`). `steps` gets the word steps that the cycles of the journal took, one after the other: each at most `(m + 1) * frames + 7 * m + 6` with m tracks in its state, without those of a note.
 ///
 /// By itself, whoever made it, the journal of Ok keeps the promises of a play that is done (`KeepsPromises`): it is that of a legal run of the script and its files, in which each frame that a client without a poke released was mixed once, in its place, was discarded by one flush that was noticed, or is still queued; nothing of such a track was found shut or corrupt; a track that is reported drained has reached the count of its last stop, at which its client had released so much; and what a client releases after it saw a START settled is discarded by a later flush alone. All that the normal mixer put into the pipe was taken from it and mixed. The journal after CycleLimit is that of a cut run, and CycleLimit never comes to a script whose tracks play through and whose cycles are enough by the rule (`enough`): whatever its threads do, its rounds can't come to the end of the log with a party still going (`in_time`), so what was played to its end is Ok. That the journal of Ok is legal is a law on plays, whatever the threads did: nothing judges that journal. The journal of CycleLimit is judged before it is handed back, so only if the script hasn't enough cycles. After such a play Memory may also stand for a journal that was judged not to be that of a cut run, or that is longer than the judge counts (131,072 turns of the normal mixer). No play has come to either. In all other cases Memory says that an allocation was refused. Store says that the store failed, and comes exactly if its count of faults rose (`cause`).
 pub fn play<R: Threads + Sync, S: Store, G: Gate>(
@@ -60,6 +66,7 @@ pub fn play<R: Threads + Sync, S: Store, G: Gate>(
     piece: &Piece<'_>,
     store: &mut S,
     gate: &G,
+    steps: &mut Costs,
 ) -> Result<Played, PlayFault>
     requires { HaveFiles (given_by piece.now) }
     ensures done { IfOk result (IsDonePlay piece.now.script.now piece.now.files.now) }
@@ -70,9 +77,10 @@ pub fn play<R: Threads + Sync, S: Store, G: Gate>(
     ensures files { S.told store.old → KeepsFiles piece.now.script.now piece.now.files.now piece.now.name.now (S.files store.old) (S.files store.new) result }
     ensures tells { S.told store.old → S.told store.new }
     ensures cause { HasStoreCause (S.faults store.old) (S.faults store.new) result }
+    ensures steps { HandedBack (TookFew piece.now.script.now.frames steps.new.items) result }
 {
     let mut logging = Logging::none(alloc)?;
-    play_with(rt, alloc, piece, store, &mut logging, gate)
+    play_with(rt, alloc, piece, store, &mut logging, gate, steps)
 }
 
 // If all parties have ended, drains what is left of a log, and appends its text. Memory if an allocation was refused: then `text` is as before. No other refusal comes.
@@ -108,7 +116,7 @@ fn hand_on(played: Result<Played, PlayFault>, told: Result<(), Memory>) -> Resul
     }
 }
 
-/// Plays a script as `play` does, with a log of notes, and refuses as `play` does. The fast mixer's party notes each entry that it adds, without waiting, in a log with room for `room` notes, 1 to 1024. A party more, whose number is behind that of the fast mixer, reads the log in each round until it sees no note left. If the answer is Ok, the text of the log is appended to `text`; else `text` is as before.
+/// Plays a script as `play` does, with a log of notes, and refuses as `play` does. The fast mixer's party notes each entry that it adds, without waiting, in a log with room for as many notes as the piece says, 1 to 1024. A party more, whose number is behind that of the fast mixer, reads the log in each round until it sees no note left. If the answer is Ok, the text of the log is appended to `text`; else `text` is as before.
 ///
 /// Whatever the threads did, each entry of the journal was noted in its place, and accepted or refused. A note was refused only if the notes accepted before it, in its round and in the round before, were at least as many as there is room for; so with room for 32 none was refused.
 pub fn play_logged<R: Threads + Sync, S: Store, G: Gate>(
@@ -117,11 +125,11 @@ pub fn play_logged<R: Threads + Sync, S: Store, G: Gate>(
     piece: &Piece<'_>,
     store: &mut S,
     gate: &G,
-    room: u32,
     text: &mut Vec<u8>,
+    steps: &mut Costs,
 ) -> Result<Played, PlayFault>
     requires files { HaveFiles (given_by piece.now) }
-    requires room { (1 ≤ room) × (room ≤ 1024) }
+    requires room { (1 ≤ piece.now.room) × (piece.now.room ≤ 1024) }
     ensures done { IfOk result (IsDonePlay piece.now.script.now piece.now.files.now) }
     ensures limit { IfErr result (AtLimit (IsCutPlay piece.now.script.now piece.now.files.now)) }
     ensures run { HandedBack (TellsItsRun piece.now.script.now piece.now.files.now) result }
@@ -130,11 +138,12 @@ pub fn play_logged<R: Threads + Sync, S: Store, G: Gate>(
     ensures files { S.told store.old → KeepsFiles piece.now.script.now piece.now.files.now piece.now.name.now (S.files store.old) (S.files store.new) result }
     ensures tells { S.told store.old → S.told store.new }
     ensures cause { HasStoreCause (S.faults store.old) (S.faults store.new) result }
-    ensures log { AppendsLogOfPlay piece.now.script.now.frames room result text.old.items text.new.items }
+    ensures log { AppendsLogOfPlay piece.now.script.now.frames piece.now.room result text.old.items text.new.items }
     ensures unchanged { OnErr result (text.new.items ≡ text.old.items) }
+    ensures steps { HandedBack (TookFew piece.now.script.now.frames steps.new.items) result }
 {
-    let mut logging = Logging::of(alloc, room, piece.script.cycles())?;
-    let played = play_with(rt, alloc, piece, store, &mut logging, gate);
+    let mut logging = Logging::of(alloc, piece.room, piece.script.cycles())?;
+    let played = play_with(rt, alloc, piece, store, &mut logging, gate, steps);
     let told = tell(&mut logging, alloc, &played, text);
     drop(logging);
     hand_on(played, told)

@@ -31,6 +31,7 @@ use Rattle.af_engine.specs.Shares.{SharedState}
 use Rattle.af_session.specs.Shown.{HasPlaces, calls_over, released_by, shown_at, shown_by, shown_in, shows, summary_told}
 use Rattle.af_tally.specs.declared.summary.Summary.{Summary}
 use Rattle.af_tally.specs.Summaries.{Shown, nothing_shown, summary_of}
+use Rattle.af_tally.specs.Steps.{AreFew}
 use Rattle.af_tally.specs.Tallies.{IsTally, Tallied}
 use Rattle.af_session.specs.Together.{SessionState}
 use Rattle.af_session.proofs.Following.{shows_more}
@@ -167,6 +168,13 @@ is_told len noted log events clients t summary j ends whole journal same pushed 
     sums (shown_in len noted log events) is
     ∙ ap (λ (run : Shown). summary_of run (released_by clients)) (sym (shown_journal len noted log events whole))
     ∙ (λ i. summary_of (shown_by len (sym journal i) (sym pushed i)) (released_by (sym same i)))
+
+-- the steps that a tally noted are those of the journal's cycles
+pub steps_told : (len : ℕ) (noted : RoundsNoted) (log : Logged) (events : List (MutatorEvent ServerState)) (t : Tallied) (j : JournalData) (ends : EndsState) (steps : List ℕ) → IsWhole noted log → j ≡ journal_of noted log
+    → ends.normal.mutator.past.events ≡ events → IsTally (shown_in len noted log events) t → steps ≡ t.steps → AreFew (shown_by len j ends.normal.mutator.past.events) steps
+steps_told len noted log events t j ends steps whole journal pushed is same =
+    subst (λ (ns : List ℕ). AreFew (shown_by len j ends.normal.mutator.past.events) ns) (sym same)
+    (subst (λ (run : Shown). AreFew run t.steps) (sym (shown_journal len noted log events whole) ∙ (λ i. shown_by len (sym journal i) (sym pushed i))) is.steps)
 
 -- a tally has as many tracks as rounds were noted of
 pub tally_tracks : (len : ℕ) (noted : RoundsNoted) (log : Logged) (events : List (MutatorEvent ServerState)) (t : Tallied) → IsTally (shown_in len noted log events) t → length t.tracks ≡ noted.tracks

@@ -16,6 +16,7 @@ use Rattle.af_engine.specs.Shares.{SharedState}
 use Rattle.af_session.specs.Shown.{shown_at, shown_by, summary_told}
 use Rattle.af_tally.specs.declared.summary.Summary.{Summary}
 use Rattle.af_tally.specs.Sound.{pcm_of}
+use Rattle.af_tally.specs.Steps.{AreFew}
 use Rattle.af_tally.specs.Tallies.{IsTally, Tallied}
 use Rattle.af_session.specs.Together.{SessionState}
 use Rattle.af_party.specs.Works.{frames_to_come}
@@ -83,9 +84,10 @@ pub record HandsBack (script : ScriptData) (files : List (List Frame)) (journal 
   pub ends_are : ends ≡ ends_from parties
   pub count : length ends.clients ≡ length script.tracks
 
--- What a render comes to, by its journal: the ends of the turn run, and the summary of the journal with them. Each track on whose blocks nothing was poked was spared, by the looks of either mixer
-pub record ComesTo (script : ScriptData) (files : List (List Frame)) (journal : JournalData) (summary : Summary) (ends : EndsState) : Type 0 where
+-- What a render comes to, by its journal: the ends of the turn run, the summary of the journal with them, and the steps that its cycles took, each no more than it may. Each track on whose blocks nothing was poked was spared, by the looks of either mixer
+pub record ComesTo (script : ScriptData) (files : List (List Frame)) (journal : JournalData) (summary : Summary) (ends : EndsState) (steps : List ℕ) : Type 0 where
   pub back : HandsBack script files journal ends
   pub summary_is : summary ≡ summary_told script.frames journal ends
+  pub few : AreFew (shown_by script.frames journal ends.normal.mutator.past.events) steps
   pub spared : PokesSpareOthers (shown_by script.frames journal ends.normal.mutator.past.events)
   pub entries : PokesSpareEntries (shown_by script.frames journal ends.normal.mutator.past.events)

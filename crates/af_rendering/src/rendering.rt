@@ -24,7 +24,7 @@ use af_normal::NormalMixer;
 use af_party::Party;
 use af_script::Script;
 use af_session::{Parties, Rig};
-use af_tally::{Summary, Tally};
+use af_tally::{Costs, Summary, Tally};
 use std::alloc::Global;
 use std::marker::Model;
 use std::mem::drop;
@@ -235,23 +235,27 @@ impl Stage {
 
 /// Plays the turns of a script one after the other, each as a round after which all parties meet, and writes the sound to the file of this name. All blocks, logs and mixers are made before the file is; from then on no memory is taken.
 ///
-/// What was played is a turn run of the script and its files. Its journal is nowhere written down. `played` says that there is one: its rounds are those of the run, and the summary is that of this journal. If the store says what its files hold, the file is the sound of this journal. Whatever clients stored in their words, each track on whose blocks nothing was poked is spared: no call of its client was answered Corrupt, and no look of either mixer at its blocks was Shut. After a fault of the store, or if an allocation was refused, no file has changed, or the file holds a front of the sound of some first turns.
+/// What was played is a turn run of the script and its files. Its journal is nowhere written down. `played` says that there is one: its rounds are those of the run, and the summary is that of this journal. `steps` gets the word steps that its cycles took, one after the other: each at most `(m + 1) * frames + 7 * m + 6` with m tracks in its state. If the store says what its files hold, the file is the sound of this journal. Whatever clients stored in their words, each track on whose blocks nothing was poked is spared: no call of its client was answered Corrupt, and no look of either mixer at its blocks was Shut. After a fault of the store, or if an allocation was refused, no file has changed, or the file holds a front of the sound of some first turns.
 pub fn render<S: Store>(
     alloc: Global,
     script: &Script,
     files: &[Pcm],
     store: &mut S,
     name: &str,
+    steps: &mut Costs,
 ) -> Result<Outcome, StoreError>
     requires { HaveFiles (record { tracks = script.now.tracks; files = files.now }) }
-    ensures played { IfOk result (λ o. (journal : JournalData) × ComesTo script.now files.now journal o.summary o.ends × (S.told store.old → SetsFile (S.files store.old) name.now (Some (journal_pcm script.now.frames journal)) (S.files store.new))) }
+    ensures played { IfOk result (λ o. (journal : JournalData) × ComesTo script.now files.now journal o.summary o.ends steps.new.items × (S.told store.old → SetsFile (S.files store.old) name.now (Some (journal_pcm script.now.frames journal)) (S.files store.new))) }
     ensures left { S.told store.old → OnErr result (LeavesSound script.now files.now name.now (S.files store.old) (S.files store.new)) }
     ensures tells { S.told store.old → S.told store.new }
     ensures cause { HasCause (S.faults store.old) (S.faults store.new) result }
 {
     let mut stage = Stage::make(alloc, script)?;
     match stage.play_new(script, files, store, name) {
-        Ok(()) => Ok(stage.close()),
+        Ok(()) => {
+            *steps = stage.room.tally.steps();
+            Ok(stage.close())
+        }
         Err(error) => {
             drop(stage);
             Err(error)

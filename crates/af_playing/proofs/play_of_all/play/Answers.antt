@@ -1,7 +1,7 @@
 use Rattle.std.proofs.Common.{None, inl, refl}
 use Rattle.af_playing.specs.declared.answering.PlayFault.TheVariants as fault
 use Rattle.af_playing.proofs.InTime.{ends_in_time}
-use Rattle.af_playing.proofs.KeptPlays.{files_none, keeps_none}
+use Rattle.af_playing.proofs.KeptPlays.{files_none, keeps_none, steps_none}
 use Rattle.af_playing.proofs.PlayCauses.{cause_memory}
 use Rattle.af_playing.proofs.play_of_all.play.Goals as goal
 
@@ -23,6 +23,7 @@ returns-in_err-logging g c =
       files = (λ told. files_none p.script.now p.files.now p.name.now old old c.from_residual.result fault.Memory refl c.from_residual.ensures.1 (inl (λ name. refl)));
       tells = (λ told. told);
       cause = cause_memory c.from_residual.result (g.S.Store.faults c.args.store.now) c.from_residual.ensures.1;
+      steps = steps_none p.script.now p.files.now c.args.steps.now.items c.from_residual.result fault.Memory refl c.from_residual.ensures.1;
     }
 
 -- what was played is handed back
@@ -38,4 +39,5 @@ returns g c =
       files = c.play_with.ensures.files;
       tells = c.play_with.ensures.tells;
       cause = c.play_with.ensures.cause;
+      steps = c.play_with.ensures.steps;
     }

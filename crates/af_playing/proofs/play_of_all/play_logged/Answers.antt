@@ -4,7 +4,7 @@ use Rattle.af_playing.specs.declared.answering.PlayFault.TheVariants as fault
 use Rattle.af_rendering.specs.declared.rendering.Played.{Played}
 use Rattle.af_side_by_side.specs.Logging.{BeginsLog, HasLogOf}
 use Rattle.af_playing.proofs.InTime.{ends_in_time}
-use Rattle.af_playing.proofs.KeptPlays.{IsHandedOn, cause_on, files_none, files_on, handed_by, keeps_none, keeps_on, kept_by, told_by}
+use Rattle.af_playing.proofs.KeptPlays.{IsHandedOn, cause_on, files_none, files_on, handed_by, keeps_none, keeps_on, kept_by, steps_none, steps_on, told_by}
 use Rattle.af_rendering.proofs.Outgoing.{on_err}
 use Rattle.af_playing.proofs.PlayCauses.{cause_memory}
 use Rattle.af_playing.proofs.PlayAnswers.{if_ok_one}
@@ -13,16 +13,16 @@ use Rattle.af_playing.proofs.play_of_all.play_logged.Goals as goal
 -- the log that was made begins with the script's cycles
 pub play_with-played-requires-clause-log : goal.play_with-played-requires-clause-log
 play_with-played-requires-clause-log g c = λ κs lives.
-    let begins = subst (λ (n : ℕ). BeginsLog (Some c.args.room) n c.in_ok-logging.logging) c.cycles.ensures.value c.in_ok-logging.ensures in
-    (Some c.args.room, begins)
+    let begins = subst (λ (n : ℕ). BeginsLog (Some c.args.piece.now.room) n c.in_ok-logging.logging) c.cycles.ensures.value c.in_ok-logging.ensures in
+    (Some c.args.piece.now.room, begins)
 
 pub tell-told-requires : goal.tell-told-requires
 tell-told-requires g c =
-    let begins = subst (λ (n : ℕ). BeginsLog (Some c.args.room) n c.in_ok-logging.logging) c.cycles.ensures.value c.in_ok-logging.ensures in
+    let begins = subst (λ (n : ℕ). BeginsLog (Some c.args.piece.now.room) n c.in_ok-logging.logging) c.cycles.ensures.value c.in_ok-logging.ensures in
     let logging = c.play_with-played.new.logging in
     record {
-      told = if_ok_one (λ (p : Played). HasLogOf c.args.piece.now.script.now.frames c.args.room p.journal logging) (λ (p : Played). (frames : ℕ) × (room : ℕ) × HasLogOf frames room p.journal logging) c.play_with-played.result
-          (λ p log. (c.args.piece.now.script.now.frames, c.args.room, log)) (c.play_with-played.ensures.log (Some c.args.room) begins);
+      told = if_ok_one (λ (p : Played). HasLogOf c.args.piece.now.script.now.frames c.args.piece.now.room p.journal logging) (λ (p : Played). (frames : ℕ) × (room : ℕ) × HasLogOf frames room p.journal logging) c.play_with-played.result
+          (λ p log. (c.args.piece.now.script.now.frames, c.args.piece.now.room, log)) (c.play_with-played.ensures.log (Some c.args.piece.now.room) begins);
     }
 
 -- an allocation for the log was refused
@@ -42,6 +42,7 @@ returns-in_err-logging g c =
       cause = cause_memory c.from_residual.result (g.S.Store.faults c.args.store.now) c.from_residual.ensures.1;
       log = IfOk-from_err c.from_residual.result _ c.from_residual.ensures.0;
       unchanged = on_err c.from_residual.result refl;
+      steps = steps_none p.script.now p.files.now c.args.steps.now.items c.from_residual.result fault.Memory refl c.from_residual.ensures.1;
     }
 
 -- what was played is handed back
@@ -51,7 +52,7 @@ returns g c =
     let told = c.tell-told in
     let played = c.play_with-played in
     let done = c.hand_on in
-    let begins = subst (λ (n : ℕ). BeginsLog (Some c.args.room) n c.in_ok-logging.logging) c.cycles.ensures.value c.in_ok-logging.ensures in
+    let begins = subst (λ (n : ℕ). BeginsLog (Some c.args.piece.now.room) n c.in_ok-logging.logging) c.cycles.ensures.value c.in_ok-logging.ensures in
     let handed : IsHandedOn played.result done.result = handed_by told.result played.result done.result done.ensures.same done.ensures.memory told.ensures.memory in
     let keeps = keeps_on p.script.now p.files.now played.result done.result handed played.ensures.keeps in
     record {
@@ -63,6 +64,7 @@ returns g c =
       files = (λ known. files_on p.script.now p.files.now played.result done.result p.name.now (g.S.Store.files c.args.store.now) (g.S.Store.files played.new.store) handed (played.ensures.files known));
       tells = played.ensures.tells;
       cause = cause_on p.script.now p.files.now played.result done.result (g.S.Store.faults c.args.store.now) (g.S.Store.faults played.new.store) handed played.ensures.cause;
-      log = told_by told.result played.result done.result done.ensures.same done.ensures.memory _ (told.ensures.log p.script.now.frames c.args.room (played.ensures.log (Some c.args.room) begins));
+      log = told_by told.result played.result done.result done.ensures.same done.ensures.memory _ (told.ensures.log p.script.now.frames c.args.piece.now.room (played.ensures.log (Some c.args.piece.now.room) begins));
+      steps = steps_on p.script.now p.files.now played.result done.result played.new.steps.items handed played.ensures.steps;
       unchanged = kept_by told.result played.result done.result done.ensures.same done.ensures.memory _ told.ensures.none told.ensures.unchanged;
     }

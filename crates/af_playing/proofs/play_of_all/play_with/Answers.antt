@@ -5,7 +5,7 @@ use Rattle.af_playing.specs.declared.answering.PlayFault.TheVariants as fault
 use Rattle.af_rendering.specs.declared.rendering.Played.{Played}
 use Rattle.af_side_by_side.specs.Logging.{TellsLog}
 use Rattle.af_playing.specs.PlayedRuns.{fault_of}
-use Rattle.af_playing.proofs.KeptPlays.{cause_kept, files_kept, files_none, keeps, keeps_none}
+use Rattle.af_playing.proofs.KeptPlays.{cause_kept, files_kept, files_none, keeps, keeps_none, steps_kept, steps_none}
 use Rattle.af_playing.proofs.LogTold.{tells_log}
 use Rattle.af_playing.proofs.PlayCauses.{cause_memory, cause_store}
 use Rattle.af_playing.proofs.PlayAnswers.{if_ok_one, limits_not}
@@ -24,6 +24,9 @@ returns-in_err-stage-clause-files g c = λ told.
 pub returns-in_err-stage-clause-cause : goal.returns-in_err-stage-clause-cause
 returns-in_err-stage-clause-cause g c = cause_memory c.from_residual.result (g.S.Store.faults c.args.store.now) c.from_residual.ensures.1
 
+pub returns-in_err-stage-clause-steps : goal.returns-in_err-stage-clause-steps
+returns-in_err-stage-clause-steps g c = steps_none c.args.piece.now.script.now c.args.piece.now.files.now c.args.steps.now.items c.from_residual.result fault.Memory refl c.from_residual.ensures.1
+
 -- ## If the store failed or an allocation was refused
 
 pub returns-in-Err-clause-keeps : goal.returns-in-Err-clause-keeps
@@ -40,6 +43,11 @@ returns-in-Err-clause-files g c = λ told.
 pub returns-in-Err-clause-cause : goal.returns-in-Err-clause-cause
 returns-in-Err-clause-cause g c =
     cause_store (Err c.from.result) c.in-Err.error (g.S.Store.faults c.args.store.now) (g.S.Store.faults c.play_to_end.new.store) c.from.ensures c.in-Err.ensures.cause
+
+pub returns-in-Err-clause-steps : goal.returns-in-Err-clause-steps
+returns-in-Err-clause-steps g c =
+    let e = c.in-Err.error in
+    steps_none c.args.piece.now.script.now c.args.piece.now.files.now c.args.steps.now.items (Err c.from.result) (fault_of e) (limits_not e) c.from.ensures
 
 -- ## If all was played
 
@@ -58,6 +66,10 @@ pub returns-in-Ok-clause-cause : goal.returns-in-Ok-clause-cause
 returns-in-Ok-clause-cause g c =
     cause_kept c.args.piece.now.script.now c.args.piece.now.files.now c.play_to_end.new.stage c.answer.result c.in-Ok.ensures.played c.answer.ensures c.in-Ok.field-0 (g.S.Store.faults c.args.store.now) (g.S.Store.faults c.play_to_end.new.store)
     c.in-Ok.ensures.cause
+
+pub returns-in-Ok-clause-steps : goal.returns-in-Ok-clause-steps
+returns-in-Ok-clause-steps g c =
+    steps_kept c.args.piece.now.script.now c.args.piece.now.files.now c.play_to_end.new.stage c.answer.result c.in-Ok.ensures.played c.answer.ensures c.steps.result.items c.steps.ensures
 
 -- ## The log
 

@@ -8,6 +8,7 @@ use Rattle.af_rendering.specs.Rendered.{LeavesSound}
 use Rattle.af_tally.specs.Sound.{pcm_of}
 use Rattle.af_runs.specs.Pcm.{journal_pcm}
 use Rattle.af_rendering.proofs.JournalSound.{journal_sounds}
+use Rattle.af_rendering.proofs.ShownWhole.{steps_told}
 use Rattle.af_rendering.proofs.Spared.{spares_told}
 use Rattle.af_rendering.proofs.SparedEntries.{entries_told}
 use Rattle.af_rendering.proofs.Outgoing.{calm_memory, calm_ok, cause_same, on_err}
@@ -58,6 +59,7 @@ returns-in-Ok-clause-played g c =
           count = ap (λ (e : EndsState). length e.clients) c.close.ensures.ends ∙ have.noted.count;
         };
         summary_is = c.close.ensures.summary c.args.script.now rounds have.noted;
+        few = steps_told frames rounds log events s.room.tally journal ends c.steps.result.items have.noted.whole refl pushed have.noted.tally c.steps.ensures;
         spared = spares_told frames rounds log events journal ends have.noted.whole refl pushed have.noted.spared;
         entries = entries_told frames rounds log events journal ends have.noted.whole refl pushed have.entries;
       },
