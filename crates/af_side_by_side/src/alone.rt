@@ -38,8 +38,38 @@ fn cycle_once<L: Ledger>(
     mix_in(fast, links, room, steps)
 }
 
-// One cycle, whose bytes are appended, and whose steps are counted by themselves. Its entry is noted in the log, if one is kept.
+// One cycle, whose bytes are appended. Its entry is noted in the log, if one is kept. No step was taken before it.
 fn cycle_logged<L: Ledger>(
+    fast: &mut FastMixer,
+    links: &Links<'_>,
+    room: &mut Room,
+    log: &Option<Block>,
+    scribe: &mut Scribe,
+    steps: &mut Steps<L>,
+) -> Cycle
+    requires can { CanCycle links.now fast.old }
+    requires first { steps.old ≡ 0 }
+    requires room { HasRoom 1 fast.old room.old }
+    requires log { IsScribe log.now (length fast.old.log.entries) scribe.old }
+    ensures can { CanCycle links.now fast.new }
+    ensures cycle { CyclesOnce links.now fast.old result (written result room.new.buffer.items) fast.new }
+    ensures bytes { HasAdded room.old (written result room.new.buffer.items) room.new }
+    ensures noted { HasNotedOn fast.old fast.new room.old.tally room.new.tally }
+    ensures kept { KeepsRoom room.old room.new }
+    ensures scribe { IsScribe log.now (length fast.new.log.entries) scribe.new }
+    ensures logged { HasLogged (length fast.old.log.entries) fast.new scribe.old scribe.new }
+{
+    let entries = fast.log().len();
+    let frames = room.buffer.len() as u32;
+    let cycle = cycle_once(fast, links, room, steps);
+    if fast.log().len() > entries {
+        scribe.note_last(log, fast, frames, steps);
+    }
+    cycle
+}
+
+// One cycle, whose bytes are appended, and whose steps are counted by themselves. Its entry is noted in the log, if one is kept.
+fn cycle_in<L: Ledger>(
     blank: Blank,
     fast: &mut FastMixer,
     links: &Links<'_>,
@@ -59,14 +89,8 @@ fn cycle_logged<L: Ledger>(
     ensures scribe { IsScribe log.now (length fast.new.log.entries) scribe.new }
     ensures logged { HasLogged (length fast.old.log.entries) fast.new scribe.old scribe.new }
 {
-    let entries = fast.log().len();
-    let frames = room.buffer.len() as u32;
     let mut steps = Steps::<L>::start(blank);
-    let cycle = cycle_once(fast, links, room, &mut steps);
-    if fast.log().len() > entries {
-        scribe.note_last(log, fast, frames, &mut steps);
-    }
-    cycle
+    cycle_logged(fast, links, room, log, scribe, &mut steps)
 }
 
 // Up to sixteen cycles. The first that mixes nothing is the last.
@@ -90,7 +114,7 @@ fn cycles_on(
 {
     for i in 0..MOST_CYCLES {
         let blank = Blank::new(1);
-        let cycle = cycle_logged::<Brand>(blank, fast, links, room, log, scribe);
+        let cycle = cycle_in::<Brand>(blank, fast, links, room, log, scribe);
         if !is_mixed(cycle) {
             return;
         }

@@ -17,5 +17,5 @@ invariant-loop-i l = record {
   logged : HasLogged (length l.initial.fast.log.entries) l.fast l.initial.scribe l.scribe;
 }
 
-abbrev pub ghosts-cycle_logged : goal.ghosts-cycle_logged
-ghosts-cycle_logged a = record { name = a.blank.name; parts = a.blank.parts }
+abbrev pub ghosts-cycle_in : goal.ghosts-cycle_in
+ghosts-cycle_in a = record { name = a.blank.name; parts = a.blank.parts }
