@@ -2,6 +2,7 @@
 use crate::shared::{failing_sink, words_of};
 use af_commands::run;
 use af_io::{MemStore, NoGate};
+use af_tally::no_costs;
 use std::alloc::Global;
 use std::process::Abort;
 use std::test::Fail;
@@ -67,7 +68,8 @@ fn expect_generated<R: Threads + Sync + Abort>(
     let words = words_of(alloc, "generate 0 s.toml out.pcm")?;
     let mut out = failing_sink(alloc, of_sink)?;
     let mut store = MemStore::new(alloc, [failing].to_vec(alloc)?);
-    let ended = run(rt, alloc, &words, &mut store, &mut out, &NoGate);
+    let mut steps = no_costs();
+    let ended = run(rt, alloc, &words, &mut store, &mut out, &NoGate, &mut steps);
     assert!(rt; ended.code() == status, "{failing}");
     assert!(rt; out.bytes() == line.as_bytes(), "{failing}");
     assert!(rt; length_of(&store, "out.pcm") == sound, "{failing}");

@@ -1,6 +1,7 @@
 //! What the tests share: words, a store and a sink in memory, and a run over them.
 use af_commands::run;
 use af_io::{MemSink, MemStore, NoGate};
+use af_tally::no_costs;
 use std::alloc::Global;
 use std::process::Abort;
 use std::test::Fail;
@@ -26,7 +27,8 @@ pub(crate) fn expect<R: Threads + Sync + Abort>(
     output: Option<&[u8]>,
 ) -> Result<(), Fail> {
     let words = words_of(alloc, words)?;
-    let ended = run(rt, alloc, &words, &mut store, &mut out, &NoGate);
+    let mut steps = no_costs();
+    let ended = run(rt, alloc, &words, &mut store, &mut out, &NoGate, &mut steps);
     assert!(rt; ended.code() == status, "{line}");
     assert!(rt; out.bytes() == line.as_bytes(), "{line}");
     assert!(rt; store.file("out.pcm") == output, "{line}");

@@ -2,6 +2,7 @@
 use crate::shared::{expect, failing_sink, given, sink, words_of};
 use af_commands::run;
 use af_io::{MemStore, NoGate};
+use af_tally::no_costs;
 use std::alloc::Global;
 use std::process::Abort;
 use std::test::Fail;
@@ -18,7 +19,8 @@ fn played<R: Threads + Sync + Abort>(rt: &R, alloc: Global) -> Result<MemStore, 
     let words = words_of(alloc, "play one.toml out.pcm out.txt")?;
     let mut store = given(alloc, 0, WHOLE, 8)?;
     let mut out = sink(alloc);
-    let ended = run(rt, alloc, &words, &mut store, &mut out, &NoGate);
+    let mut steps = no_costs();
+    let ended = run(rt, alloc, &words, &mut store, &mut out, &NoGate, &mut steps);
     assert!(rt; ended.code() == 0);
     Ok(store)
 }
@@ -33,7 +35,8 @@ fn expect_verdict<R: Threads + Sync + Abort>(
 ) -> Result<(), Fail> {
     let words = words_of(alloc, VERIFY)?;
     let mut out = sink(alloc);
-    let ended = run(rt, alloc, &words, &mut store, &mut out, &NoGate);
+    let mut steps = no_costs();
+    let ended = run(rt, alloc, &words, &mut store, &mut out, &NoGate, &mut steps);
     assert!(rt; ended.code() == status, "{line}");
     assert!(rt; out.bytes() == line.as_bytes(), "{line}");
     Ok(())

@@ -19,6 +19,7 @@ use Rattle.af_offline.specs.declared.status.Stop.{Stop}
 use Rattle.af_offline.specs.declared.status.Stop.TheVariants.{Refused, Over, Store, Memory}
 use Rattle.af_offline.specs.declared.status.Ending.TheVariants.{Limit, Judged}
 use Rattle.af_offline.specs.Asked.{◌>>=◌, then_cons, most_file, most_files, track_in, tracks_in, session_of, session_job, generated_job, Loaded, Job}
+use Rattle.af_commands.specs.Counted.{CountsOn}
 use Rattle.af_commands.specs.Ends.{Makes}
 use Rattle.af_offline.specs.Generated.{samples_of, samples_before, generated_file, generated_files, generated_frames}
 use Rattle.af_offline.specs.Loading.{loaded_view}
@@ -158,3 +159,15 @@ module _ (old : Files) (number : ℕ) (script target : List ℕ) (free : is_draw
       behind r new
       (subst (λ (files : Files). Makes r (Ok (session_job target loaded)) files new) there
       (subst (λ (one : Loaded). Makes r (Ok (session_job target one)) read new) is made))
+
+  -- the steps of what was played are those of what was asked for
+  steps_behind : (r : Result (String Global) Stop) (new : Files) (steps : List ℕ) → CountsOn r (Ok (session_job target loaded)) new steps → CountsOn r (Ok (generated_job number script target)) new steps
+  steps_behind (Ok line) new steps counts = counts
+  steps_behind (Err (Refused refusal)) new steps counts = tt
+  steps_behind (Err (Over (Limit cycles))) new steps counts = counts
+  steps_behind (Err (Over (Judged refusal))) new steps counts = tt
+  steps_behind (Err Store) new steps counts = tt
+  steps_behind (Err Memory) new steps counts = tt
+
+  pub Counts-session : (r : Result (String Global) Stop) (l : Loaded) (new : Files) (steps : List ℕ) → session_of mid generated_script ≡ Ok l → CountsOn r (Ok (session_job target l)) new steps → CountsOn r (Ok (generated_job number script target)) new steps
+  Counts-session r l new steps told counts = steps_behind r new steps (subst (λ (one : Loaded). CountsOn r (Ok (session_job target one)) new steps) (ap got (sym told ∙ told_here)) counts)

@@ -64,10 +64,10 @@ leaves_turns l accepted target old new (inr (n, t, (rounds, rendered), left)) = 
 
 -- ## What a render answers
 
-module _ (l : Loaded) (accepted : IsScript l.script) (follows : OfTurnRuns HoldsAtMeetingsAlone) (target : List ℕ) (told : Type 0) (old new : Files) where
+module _ (l : Loaded) (accepted : IsScript l.script) (follows : OfTurnRuns HoldsAtMeetingsAlone) (target : List ℕ) (told : Type 0) (old new : Files) (steps : List ℕ) where
   -- what a render into the target came to, by its journal
   abbrev Rendered : Outcome → Type 0
-  Rendered o = (journal : JournalData) × ComesTo l.script l.files journal o.summary o.ends × (told → SetsFile old target (Some (journal_pcm l.script.frames journal)) new)
+  Rendered o = (journal : JournalData) × ComesTo l.script l.files journal o.summary o.ends steps × (told → SetsFile old target (Some (journal_pcm l.script.frames journal)) new)
 
   pub some_line_told : (played : Result Outcome StoreError) (result : Result (String Global) Stop) → IfOk played Rendered → TellsRender played result → IfOk result (λ line. IsSomeSessionLine (string_bytes line))
   some_line_told (Ok o) (Ok line) came is = some_line l came.0 o.ends came.1.back o.summary came.1.summary_is accepted follows (string_bytes line) is

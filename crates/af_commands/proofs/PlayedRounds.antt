@@ -130,7 +130,7 @@ leaves_rounds l target old mid new left same = subst (λ (files : Files). Leaves
 
 module _ (l : Loaded) (accepted : IsScript l.script) (follows : OfRounds HoldsAtMeetings) (cycles : ℕ) where
   pub some_play_told : (played : Result Played PlayFault) (result : Result (String Global) Stop) → KeepsPlay l.script l.files played → Tells cycles played result → IfOk result (λ line. IsSomePlayLine (string_bytes line))
-  some_play_told (Ok p) (Ok line) keeps told = some_play_line l p.journal p.ends keeps.done.played (promises l accepted follows p keeps) p.summary (keeps.done.summary ∙ keeps.run.alone) (string_bytes line) told
+  some_play_told (Ok p) (Ok line) keeps told = some_play_line l p.journal p.ends keeps.done.played (promises l accepted follows p keeps) p.summary (keeps.done.summary ∙ keeps.run.alone.summary) (string_bytes line) told
   some_play_told (Err (fault.CycleLimit journal ends)) (Ok line) keeps none = absurd none
   some_play_told (Err fault.Store) (Ok line) keeps clash = let none : ⊥ = cc in absurd none
   some_play_told (Err fault.Memory) (Ok line) keeps clash = let none : ⊥ = cc in absurd none
@@ -139,7 +139,7 @@ module _ (l : Loaded) (accepted : IsScript l.script) (follows : OfRounds HoldsAt
   module _ (cycles_are : cycles ≡ l.script.cycles) (target name : List ℕ) (old mid new : Files) where
     pub Makes-told : (played : Result Played PlayFault) (result : Result (String Global) Stop) → KeepsPlay l.script l.files played → KeepsFiles l.script l.files target old mid played
         → Tells cycles played result → TellsText name played result mid new → Makes result (Ok (play_job target name l)) old new
-    Makes-told (Ok p) (Ok line) keeps kept told text = Makes-rounds l p.journal p.ends keeps.done.played (promises l accepted follows p keeps) p.summary (keeps.done.summary ∙ keeps.run.alone) target name old mid new kept.written text line told
+    Makes-told (Ok p) (Ok line) keeps kept told text = Makes-rounds l p.journal p.ends keeps.done.played (promises l accepted follows p keeps) p.summary (keeps.done.summary ∙ keeps.run.alone.summary) target name old mid new kept.written text line told
     Makes-told (Ok p) (Err (Refused refusal)) keeps kept none text = absurd none
     Makes-told (Ok p) (Err (Over over)) keeps kept none text = absurd none
     Makes-told (Ok p) (Err Store) keeps kept told text = inl (inr (inr (text_left true l p.journal p.ends keeps.done.played (promises l accepted follows p keeps) target name old mid kept.written new text)))

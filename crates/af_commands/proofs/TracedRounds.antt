@@ -98,7 +98,7 @@ module _ (l : Loaded) (accepted : IsScript l.script) (follows : OfRounds HoldsAt
         → AppendsLogOfPlay l.script.frames room played empty grown
         → Tells cycles played result → TellsTexts name log held played result mid new → Makes result (Ok (trace_job target name log room l)) old new
     Makes-logged (Ok p) (Ok line) keeps kept logged line_is (next, text, wrote) =
-        Makes-traced l room p.journal p.ends keeps.done.played (promises l accepted follows p keeps) logged.0 logged.1 logged.2 logged.4 target name log old mid next kept.written text p.summary (keeps.done.summary ∙ keeps.run.alone) new
+        Makes-traced l room p.journal p.ends keeps.done.played (promises l accepted follows p keeps) logged.0 logged.1 logged.2 logged.4 target name log old mid next kept.written text p.summary (keeps.done.summary ∙ keeps.run.alone.summary) new
         (subst (λ (xs : List ℕ). SetsFile next log (Some xs) new) (appended held grown empty (log_text logged.0 logged.1) held_is logged.3 none) wrote) line line_is
     Makes-logged (Ok p) (Err (Refused refusal)) keeps kept logged wrong texts = absurd wrong
     Makes-logged (Ok p) (Err (Over over)) keeps kept logged wrong texts = absurd wrong

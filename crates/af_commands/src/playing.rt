@@ -4,6 +4,7 @@ ghost use Rattle.af_io.specs.Causes.{HasCause};
 ghost use Rattle.af_io.specs.Files.{SetsFile, LeavesFront};
 ghost use Rattle.af_journal.specs.Texts.{text_of};
 ghost use Rattle.af_offline.specs.Asked.{play_asked, play_job};
+ghost use Rattle.af_commands.specs.Counted.{CountsOn};
 ghost use Rattle.af_commands.specs.Ends.{Makes};
 ghost use Rattle.af_offline.specs.Loading.{loaded_view, AreFilesFor};
 ghost use Rattle.af_commands.specs.Plays.{IsSomePlayLine};
@@ -19,8 +20,16 @@ use af_model::Journal;
 use af_offline::{Ending, Loaded, Stop, load_script, write_file};
 use af_playing::{Piece, PlayFault};
 use af_rendering::Played;
+use af_tally::Costs;
 use std::alloc::Global;
 use std::thread::Threads;
+
+/// What a play writes: the names of the sound and of the journal.
+#[derive(Clone, Copy, Drop)]
+pub struct PlayOutput<'a> {
+    pub target: &'a str,
+    pub journal: &'a str,
+}
 
 /// The text of a journal.
 fn text_of(alloc: Global, journal: &Journal) -> Result<Vec<u8>, Memory>
@@ -103,31 +112,33 @@ pub(crate) fn tell<S: Store>(
     }
 }
 
-/// Plays what was loaded, writes the journal, and answers the line of a run in which all parties have ended.
+/// Plays what was loaded, writes the journal, and answers the line of a run in which all parties have ended. `steps` gets the word steps of its cycles.
 fn play<R: Threads + Sync, S: Store, G: Gate>(
     rt: &R,
     alloc: Global,
     loaded: &Loaded,
     store: &mut S,
-    target: &str,
-    journal: &str,
+    output: &PlayOutput<'_>,
     gate: &G,
+    steps: &mut Costs,
 ) -> Result<String, Stop>
     requires { AreFilesFor loaded.now }
-    ensures made { S.told store.old → Makes result (Ok (play_job target.now journal.now (loaded_view loaded.now))) (S.files store.old) (S.files store.new) }
+    ensures made { S.told store.old → Makes result (Ok (play_job output.now.target.now output.now.journal.now (loaded_view loaded.now))) (S.files store.old) (S.files store.new) }
     ensures line { IfOk result (λ line. IsSomePlayLine (string_bytes line)) }
     ensures cause { HasFault (S.faults store.old) (S.faults store.new) result }
-    ensures words { (script : List ℕ) → SuitsRequest result (Play script target.now journal.now) }
+    ensures words { (script : List ℕ) → SuitsRequest result (Play script output.now.target.now output.now.journal.now) }
+    ensures steps { S.told store.old → CountsOn result (Ok (play_job output.now.target.now output.now.journal.now (loaded_view loaded.now))) (S.files store.new) steps.new.items }
 {
     is_accepted(&loaded.script);
     what_follows_of_rounds();
     let piece = Piece {
         script: &loaded.script,
         files: &loaded.files,
-        name: target,
+        name: output.target,
+        room: 0,
     };
-    let played = af_playing::play(rt, alloc, &piece, store, gate);
-    let told = tell(alloc, store, journal, loaded.script.cycles(), &played);
+    let played = af_playing::play(rt, alloc, &piece, store, gate, steps);
+    let told = tell(alloc, store, output.journal, loaded.script.cycles(), &played);
     drop(played);
     told
 }
@@ -138,15 +149,16 @@ pub fn play_script<R: Threads + Sync, S: Store, G: Gate>(
     alloc: Global,
     store: &mut S,
     script: &str,
-    target: &str,
-    journal: &str,
+    output: &PlayOutput<'_>,
     gate: &G,
+    steps: &mut Costs,
 ) -> Result<String, Stop>
-    ensures made { S.told store.old → Makes result (play_asked (S.files store.old) script.now target.now journal.now) (S.files store.old) (S.files store.new) }
+    ensures made { S.told store.old → Makes result (play_asked (S.files store.old) script.now output.now.target.now output.now.journal.now) (S.files store.old) (S.files store.new) }
     ensures line { IfOk result (λ line. IsSomePlayLine (string_bytes line)) }
     ensures cause { HasFault (S.faults store.old) (S.faults store.new) result }
-    ensures words { SuitsRequest result (Play script.now target.now journal.now) }
+    ensures words { SuitsRequest result (Play script.now output.now.target.now output.now.journal.now) }
+    ensures steps { S.told store.old → CountsOn result (play_asked (S.files store.old) script.now output.now.target.now output.now.journal.now) (S.files store.new) steps.new.items }
 {
     let loaded = load_script(alloc, store, script)?;
-    play(rt, alloc, &loaded, store, target, journal, gate)
+    play(rt, alloc, &loaded, store, output, gate, steps)
 }

@@ -1,6 +1,7 @@
 //! The command `trace`: a script's parties, played in rounds into a file, with the texts of their journal and of their log beside it.
 ghost use Rattle.std.specs.Prelude.{◌≡◌, ◌≤◌, ℕ, List, Ok, IfOk, string_bytes};
 ghost use Rattle.af_offline.specs.Asked.{trace_asked, trace_job};
+ghost use Rattle.af_commands.specs.Counted.{CountsOn};
 ghost use Rattle.af_commands.specs.Ends.{Makes};
 ghost use Rattle.af_offline.specs.Loading.{loaded_view, AreFilesFor};
 ghost use Rattle.af_commands.specs.Plays.{IsSomePlayLine};
@@ -15,6 +16,7 @@ use af_journal_laws::what_follows_of_rounds;
 use af_offline::{Loaded, Stop, load_script, write_file};
 use af_playing::{Piece, PlayFault};
 use af_rendering::Played;
+use af_tally::Costs;
 use std::alloc::Global;
 use std::thread::Threads;
 
@@ -54,6 +56,7 @@ fn trace<R: Threads + Sync, S: Store, G: Gate>(
     store: &mut S,
     output: &TraceOutput<'_>,
     gate: &G,
+    steps: &mut Costs,
 ) -> Result<String, Stop>
     requires files { AreFilesFor loaded.now }
     requires room { (1 ≤ output.now.room) × (output.now.room ≤ 1024) }
@@ -61,6 +64,7 @@ fn trace<R: Threads + Sync, S: Store, G: Gate>(
     ensures line { IfOk result (λ line. IsSomePlayLine (string_bytes line)) }
     ensures cause { HasFault (S.faults store.old) (S.faults store.new) result }
     ensures words { (script : List ℕ) → SuitsRequest result (Trace script output.now.target.now output.now.journal.now output.now.log.now output.now.room) }
+    ensures steps { S.told store.old → CountsOn result (Ok (trace_job output.now.target.now output.now.journal.now output.now.log.now output.now.room (loaded_view loaded.now))) (S.files store.new) steps.new.items }
 {
     is_accepted(&loaded.script);
     what_follows_of_rounds();
@@ -69,8 +73,9 @@ fn trace<R: Threads + Sync, S: Store, G: Gate>(
         script: &loaded.script,
         files: &loaded.files,
         name: output.target,
+        room: output.room,
     };
-    let played = af_playing::play_logged(rt, alloc, &piece, store, gate, output.room, &mut text);
+    let played = af_playing::play_logged(rt, alloc, &piece, store, gate, &mut text, steps);
     let cycles = loaded.script.cycles();
     let told = tell_with_log(
         alloc,
@@ -93,13 +98,15 @@ pub fn trace_script<R: Threads + Sync, S: Store, G: Gate>(
     script: &str,
     output: &TraceOutput<'_>,
     gate: &G,
+    steps: &mut Costs,
 ) -> Result<String, Stop>
     requires { (1 ≤ output.now.room) × (output.now.room ≤ 1024) }
     ensures made { S.told store.old → Makes result (trace_asked (S.files store.old) script.now output.now.target.now output.now.journal.now output.now.log.now output.now.room) (S.files store.old) (S.files store.new) }
     ensures line { IfOk result (λ line. IsSomePlayLine (string_bytes line)) }
     ensures cause { HasFault (S.faults store.old) (S.faults store.new) result }
     ensures words { SuitsRequest result (Trace script.now output.now.target.now output.now.journal.now output.now.log.now output.now.room) }
+    ensures steps { S.told store.old → CountsOn result (trace_asked (S.files store.old) script.now output.now.target.now output.now.journal.now output.now.log.now output.now.room) (S.files store.new) steps.new.items }
 {
     let loaded = load_script(alloc, store, script)?;
-    trace(rt, alloc, &loaded, store, output, gate)
+    trace(rt, alloc, &loaded, store, output, gate, steps)
 }

@@ -5,6 +5,7 @@ ghost use Rattle.af_io.specs.Causes.{HasCause};
 use crate::shared::{failing_sink, given, loud, numbered, sink, words_of};
 use af_commands::run;
 use af_io::{Load, MemStore, NoGate, Store, StoreError};
+use af_tally::no_costs;
 use std::alloc::Global;
 use std::process::Abort;
 use std::test::Fail;
@@ -153,7 +154,8 @@ fn is_verified<R: Threads + Sync + Abort>(
 ) -> Result<bool, Fail> {
     let words = words_of(alloc, "verify one.toml out.pcm out.txt")?;
     let mut out = sink(alloc);
-    Ok(run(rt, alloc, &words, files, &mut out, &NoGate).code() == 0)
+    let mut steps = no_costs();
+    Ok(run(rt, alloc, &words, files, &mut out, &NoGate, &mut steps).code() == 0)
 }
 
 /// What is left of OUT, JOURNAL and LOG. The sound is whole if each frame is heard once and in order, the journal if it is verified, and the log if its last line is there.
@@ -200,7 +202,8 @@ fn expect_play_failure<R: Threads + Sync + Abort>(
     let words = words_of(alloc, words)?;
     let mut out = failing_sink(alloc, of_sink)?;
     let mut store = one_fails(alloc, name, failing)?;
-    let ended = run(rt, alloc, &words, &mut store, &mut out, &NoGate).code();
+    let mut steps = no_costs();
+    let ended = run(rt, alloc, &words, &mut store, &mut out, &NoGate, &mut steps).code();
     assert!(rt; ended == status, "{name} {failing}");
     assert!(rt; is_begun(out.bytes(), line), "{name} {failing}");
     let found = lefts(rt, alloc, &mut store.files)?;

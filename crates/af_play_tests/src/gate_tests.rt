@@ -5,6 +5,7 @@ use af_io::{Gate, MemStore, Pcm, frames_of};
 use af_playing::{Piece, play};
 use af_rendering::have_files;
 use af_script::{Script, read};
+use af_tally::no_costs;
 use std::alloc::Global;
 use std::mem::drop;
 use std::process::Abort;
@@ -81,7 +82,8 @@ fn expect_run<R: Threads + Sync + Abort>(rt: &R, alloc: Global, other: u32) -> R
     let mut store = idle_store(alloc)?;
     let mut out = sink(alloc);
     let watch = Watch::new(other);
-    let ended = run(rt, alloc, &words, &mut store, &mut out, &watch);
+    let mut steps = no_costs();
+    let ended = run(rt, alloc, &words, &mut store, &mut out, &watch, &mut steps);
     assert!(rt; ended.code() == 0);
     assert!(rt; watch.met.load(Ordering::SeqCst) == 6);
     Ok(())
@@ -114,8 +116,10 @@ fn is_played<R: Threads + Sync>(
         script,
         files,
         name,
+        room: 0,
     };
-    let played = play(rt, alloc, &piece, &mut store, watch);
+    let mut steps = no_costs();
+    let played = play(rt, alloc, &piece, &mut store, watch, &mut steps);
     let is_whole = played.is_ok();
     drop(played);
     is_whole

@@ -2,6 +2,7 @@
 use crate::shared::{WHOLE, failing_sink, given, loud, words_of};
 use af_commands::run;
 use af_io::{MemStore, NoGate};
+use af_tally::no_costs;
 use std::alloc::Global;
 use std::process::Abort;
 use std::test::Fail;
@@ -51,7 +52,8 @@ fn expect_play<R: Threads + Sync + Abort>(
     let words = words_of(alloc, "play one.toml out.pcm out.txt")?;
     let mut out = failing_sink(alloc, sink_fails)?;
     let mut store = given(alloc, store_fails, script, 8)?;
-    let ended = run(rt, alloc, &words, &mut store, &mut out, &NoGate);
+    let mut steps = no_costs();
+    let ended = run(rt, alloc, &words, &mut store, &mut out, &NoGate, &mut steps);
     assert!(rt; ended.code() == want.status);
     assert!(rt; is_line(out.bytes(), want.line));
     assert!(rt; has_text(&store, want.text));

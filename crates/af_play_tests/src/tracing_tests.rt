@@ -2,6 +2,7 @@
 use crate::shared::{WHOLE, given, sink, words_of};
 use af_commands::run;
 use af_io::{MemStore, NoGate};
+use af_tally::no_costs;
 use std::alloc::Global;
 use std::process::Abort;
 use std::str;
@@ -47,7 +48,8 @@ fn expect_trace<R: Threads + Sync + Abort>(
     let words = words_of(alloc, words)?;
     let mut store = given(alloc, 0, WHOLE, 8)?;
     let mut out = sink(alloc);
-    let ended = run(rt, alloc, &words, &mut store, &mut out, &NoGate);
+    let mut steps = no_costs();
+    let ended = run(rt, alloc, &words, &mut store, &mut out, &NoGate, &mut steps);
     assert!(rt; ended.code() == 0);
     let (journal, log) = (text_in(&store, "out.txt"), text_in(&store, "log.txt"));
     assert!(rt; is_log(journal, log, most_refused));

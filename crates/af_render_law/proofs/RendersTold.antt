@@ -10,17 +10,17 @@ use Rattle.af_script.specs.Data.{ScriptData}
 use Rattle.af_script.specs.Form.{IsScript}
 use Rattle.af_session.specs.Ends.{EndsState}
 use Rattle.af_rendering.specs.Rendered.{HandsBack}
-use Rattle.af_session.specs.Shown.{summary_told}
+use Rattle.af_session.specs.Shown.{shown_by, summary_told}
 use Rattle.af_render_law.proofs.Chain.{FastTurnIsAStep, NormalTurnIsAStep}
 use Rattle.af_render_law.specs.Laws.{ToldBy}
-use Rattle.af_render_law.specs.RenderLaws.{RendersAreToldAlone, run_told, summary_alone}
+use Rattle.af_render_law.specs.RenderLaws.{RendersAreToldAlone, run_told, shown_alone, summary_alone}
 use Rattle.af_render_law.proofs.FastStep.{fast_turns_step}
 use Rattle.af_render_law.proofs.NormalStep.{normal_turns_step}
 use Rattle.af_told_law.specs.KeptEnds.{KeepsLists}
 use Rattle.af_told_law.proofs.EndsKept.{ends_keep_lists, own_at_home}
 use Rattle.af_told_law.proofs.PartsTold.{parts_told}
 use Rattle.af_render_law.proofs.RenderTold.{parties_counted, parties_told, turn_run}
-use Rattle.af_render_law.proofs.SummaryTold.{summary_is}
+use Rattle.af_render_law.proofs.SummaryTold.{shown_is, summary_is}
 
 module _ (script : ScriptData) (files : List (List Frame)) (j : JournalData) (ends : EndsState) (form : IsScript script) (back : HandsBack script files j ends) where
   abbrev s : Session
@@ -41,6 +41,9 @@ module _ (script : ScriptData) (files : List (List Frame)) (j : JournalData) (en
   pub render_summed : summary_told script.frames j ends ≡ summary_alone script files j
   render_summed = summary_is script files j ends back.parties back.ends_are told.told (parties_counted script files form normal fast j ends back)
 
+  pub render_shown : shown_by script.frames j ends.normal.mutator.past.events ≡ shown_alone script files j
+  render_shown = shown_is script files j ends back.parties back.ends_are told.told
+
   pub render_kept : KeepsLists (run_told script files j) ends
   render_kept =
       let run = run_told script files j in
@@ -48,4 +51,4 @@ module _ (script : ScriptData) (files : List (List Frame)) (j : JournalData) (en
       (ends_keep_lists s run told.deeds back.parties told.told (own_at_home s run told.deeds back.parties told.told told.saw))
 
 pub render_told : (script : ScriptData) (files : List (List Frame)) (j : JournalData) (ends : EndsState) → RendersAreToldAlone script files j ends
-render_told script files j ends form back = record { run = render_turns script files j ends form back; summary = render_summed script files j ends form back; kept = render_kept script files j ends form back }
+render_told script files j ends form back = record { run = render_turns script files j ends form back; summary = render_summed script files j ends form back; shown = render_shown script files j ends form back; kept = render_kept script files j ends form back }

@@ -10,11 +10,11 @@ use Rattle.af_runs.specs.Runs.{Run, TrackTold, told_at}
 use Rattle.af_runs.specs.Sessions.{Session}
 use Rattle.af_script.specs.Data.{ScriptData}
 use Rattle.af_session.specs.Ends.{EndsState, ends_from}
-use Rattle.af_session.specs.Shown.{released_by, shows, summary_told}
+use Rattle.af_session.specs.Shown.{released_by, shown_by, shows, summary_told}
 use Rattle.af_session.specs.Together.{SessionState}
 use Rattle.af_tally.specs.Summaries.{summary_of}
 use Rattle.af_render_law.proofs.Chain.{AreCounted}
-use Rattle.af_render_law.specs.RenderLaws.{run_told, summary_alone}
+use Rattle.af_render_law.specs.RenderLaws.{run_told, shown_alone, summary_alone}
 use Rattle.af_told_law.specs.Tells.{Tells}
 use Rattle.af_told_law.specs.Deeds.{Deeds}
 
@@ -32,6 +32,12 @@ module _ (s : Session) (run : Run) {d : Deeds} (x : SessionState) (told : Tells 
       let here : told_at run i ≡ t = get_or_from_slice_get run.tracks i t _ at in
       let client = (told.tracks i p is).client in
       counted i p is ∙ ap (λ (q : Track). length q.stream.released) (sym client) ∙ ap (λ (q : TrackTold). length q.stream.released) here)
+
+-- what the parties show is what the run shows
+pub shown_is : (script : ScriptData) (files : List (List Frame)) (j : JournalData) (ends : EndsState) (x : SessionState) {d : Deeds} → ends ≡ ends_from x → Tells (session_of script files) (run_told script files j) d x → shown_by script.frames j ends.normal.mutator.past.events ≡ shown_alone script files j
+shown_is script files j ends x is told =
+    ap (λ (e : EndsState). shown_by script.frames j e.normal.mutator.past.events) is
+    ∙ (λ i. let seen = entries_of j.rounds in shows (told.normal.states i) script.frames j.tracks (map (λ r. r.calls) j.rounds) (map (λ r. r.turn) j.rounds) (frames_of seen) (map (λ e. e.entry) seen))
 
 -- the summary by the parties is that by the run
 pub summary_is : (script : ScriptData) (files : List (List Frame)) (j : JournalData) (ends : EndsState) (x : SessionState) {d : Deeds} → ends ≡ ends_from x → Tells (session_of script files) (run_told script files j) d x → AreCounted x → summary_told script.frames j ends ≡ summary_alone script files j

@@ -1,9 +1,12 @@
 use Rattle.std.proofs.Common.{◌≡◌, Ok, subst}
-use Rattle.af_playing.specs.PlayKept.{KeepsPlay}
+use Rattle.af_playing.specs.PlayKept.{KeepsPlay, TellsItsRun}
+use Rattle.af_playing.specs.PlayedAlone.{IsToldAlone}
 use Rattle.af_offline.specs.Asked.{Loaded, play_job}
+use Rattle.af_commands.specs.Counted.{CountsOn}
 use Rattle.af_commands.specs.Ends.{Makes}
 use Rattle.af_offline.specs.Loading.{loaded_view}
 use Rattle.af_words.specs.Requests.{Play}
+use Rattle.af_commands.proofs.Counted.{Counts-told, alone_of}
 use Rattle.af_commands.proofs.PlayedFaults.{HasFault-told, SuitsRequest-told}
 use Rattle.af_commands.proofs.PlayedRounds.{Makes-told, some_play_told}
 use Rattle.af_commands.proofs.Served.{files_for}
@@ -21,8 +24,8 @@ returns-clause-made g c = λ told.
     let here : Loaded = record { script = c.args.loaded.now.script; files = c.deref.result.now } in
     let same : here ≡ loaded_view c.args.loaded.now = λ k. record { script = c.args.loaded.now.script; files = c.deref.ensures.value k } in
     let keeps : KeepsPlay here.script here.files c.play-played.result = record { done = p.done; limit = p.limit; run = p.run; enough = p.enough } in
-    subst (λ (l : Loaded). Makes c.tell-told.result (Ok (play_job c.args.target.now c.args.journal.now l)) old new) same
-    (Makes-told here c.is_accepted.ensures c.what_follows_of_rounds.ensures c.cycles.result c.cycles.ensures.value c.args.target.now c.args.journal.now old mid new c.play-played.result c.tell-told.result keeps (p.files told)
+    subst (λ (l : Loaded). Makes c.tell-told.result (Ok (play_job c.args.output.now.target.now c.args.output.now.journal.now l)) old new) same
+    (Makes-told here c.is_accepted.ensures c.what_follows_of_rounds.ensures c.cycles.result c.cycles.ensures.value c.args.output.now.target.now c.args.output.now.journal.now old mid new c.play-played.result c.tell-told.result keeps (p.files told)
     c.tell-told.ensures.told (c.tell-told.ensures.files (p.tells told)))
 
 pub returns-clause-line : goal.returns-clause-line
@@ -38,4 +41,16 @@ returns-clause-cause g c =
     c.play-played.ensures.cause c.tell-told.ensures.cause c.tell-told.ensures.told
 
 pub returns-clause-words : goal.returns-clause-words
-returns-clause-words g c = λ script. SuitsRequest-told c.cycles.result (Play script c.args.target.now c.args.journal.now) c.play-played.result c.tell-told.result tt c.tell-told.ensures.told
+returns-clause-words g c = λ script. SuitsRequest-told c.cycles.result (Play script c.args.output.now.target.now c.args.output.now.journal.now) c.play-played.result c.tell-told.result tt c.tell-told.ensures.told
+
+pub returns-clause-steps : goal.returns-clause-steps
+returns-clause-steps g c = λ told.
+    let mid = g.S.Store.files c.play-played.new.store in
+    let new = g.S.Store.files c.tell-told.new.store in
+    let p = c.play-played.ensures in
+    let here : Loaded = record { script = c.args.loaded.now.script; files = c.deref.result.now } in
+    let same : here ≡ loaded_view c.args.loaded.now = λ k. record { script = c.args.loaded.now.script; files = c.deref.ensures.value k } in
+    let alone = alone_of {P = TellsItsRun here.script here.files} {Q = IsToldAlone here.script here.files} (λ j e tells. tells.alone) c.play-played.result p.run in
+    subst (λ (l : Loaded). CountsOn c.tell-told.result (Ok (play_job c.args.output.now.target.now c.args.output.now.journal.now l)) new c.play-played.new.steps.items) same
+    (Counts-told here c.cycles.result c.args.output.now.target.now c.args.output.now.journal.now mid new c.play-played.new.steps.items c.play-played.result c.tell-told.result alone p.steps
+    c.tell-told.ensures.told (c.tell-told.ensures.files (p.tells told)))

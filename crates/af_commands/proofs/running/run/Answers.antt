@@ -3,10 +3,12 @@ use Rattle.af_io.specs.Files.{Appends}
 use Rattle.af_io.specs.declared.store.StoreError.{StoreError}
 use Rattle.af_offline.specs.Asked.{asked_of}
 use Rattle.af_offline.specs.declared.status.Status.{Status}
+use Rattle.af_commands.specs.Counted.{CountsSteps}
 use Rattle.af_commands.specs.Ends.{EndsAsAsked, Prints, PrintsOwnLine, Works}
 use Rattle.af_offline.specs.Line.{ending_text}
 use Rattle.af_offline.specs.Status.{JudgesWords}
 use Rattle.af_words.specs.Requests.{request_of}
+use Rattle.af_commands.proofs.Counted.{Counts-ended}
 use Rattle.af_commands.proofs.Left.{Works-done, EndsAsAsked-done}
 use Rattle.af_commands.proofs.Ended.{EndsAsAsked-ended, IsCutOff-ended, IsOver-ended, JudgesWords-ended, Prints-end_cut, Prints-ended, PrintsOwnLine-ended, Works-ended, end_asked, end_named, end_reached, end_unprinted}
 use Rattle.af_commands.proofs.running.run.Goals as goal
@@ -94,3 +96,12 @@ returns-in-Err-Memory-tell-clause-work g c = λ told.
     let a = c.in-Err-Over in
     IsCutOff-ended a.ending (asked_of (g.S.Store.files c.args.store.now) (map string_bytes c.args.words.now)) (g.S.Store.files c.args.store.now) (g.S.Store.files c.work.new.store)
     (end_reached (Unit {0}) a.field-0 a.ending a.field-0-is (asked_of (g.S.Store.files c.args.store.now) (map string_bytes c.args.words.now)) (g.S.Store.files c.args.store.now) (g.S.Store.files c.work.new.store) (a.ensures.rendered told))
+
+-- ---- the steps of the cycles
+
+pub returns-in-Ok-tell-clause-steps : goal.returns-in-Ok-tell-clause-steps
+returns-in-Ok-tell-clause-steps g c = λ told.
+    let a = c.in-Err-Over in
+    let asked = asked_of (g.S.Store.files c.args.store.now) (map string_bytes c.args.words.now) in
+    subst (λ (ended : Status). CountsSteps ended asked (g.S.Store.files c.work.new.store) c.work.new.steps.items) (sym c.from-in-Ok-tell.ensures)
+    (Counts-ended {T = Unit {0}} a.field-0 a.ending asked (g.S.Store.files c.work.new.store) c.work.new.steps.items a.field-0-is (a.ensures.steps told))

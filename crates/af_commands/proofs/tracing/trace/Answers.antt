@@ -1,9 +1,12 @@
 use Rattle.std.proofs.Common.{◌≡◌, Ok, subst}
-use Rattle.af_playing.specs.PlayKept.{KeepsPlay}
+use Rattle.af_playing.specs.PlayKept.{KeepsPlay, TellsItsRun}
+use Rattle.af_playing.specs.PlayedAlone.{IsToldAlone}
 use Rattle.af_offline.specs.Asked.{Loaded, trace_job}
+use Rattle.af_commands.specs.Counted.{CountsOn}
 use Rattle.af_commands.specs.Ends.{Makes}
 use Rattle.af_offline.specs.Loading.{loaded_view}
 use Rattle.af_words.specs.Requests.{Trace}
+use Rattle.af_commands.proofs.Counted.{Counts-logged, alone_of}
 use Rattle.af_commands.proofs.PlayedFaults.{HasFault-told, SuitsRequest-told}
 use Rattle.af_commands.proofs.PlayedRounds.{some_play_told}
 use Rattle.af_commands.proofs.TracedRounds.{Makes-logged}
@@ -42,3 +45,16 @@ returns-clause-cause g c =
 pub returns-clause-words : goal.returns-clause-words
 returns-clause-words g c = λ script.
     SuitsRequest-told c.cycles-cycles.result (Trace script c.args.output.now.target.now c.args.output.now.journal.now c.args.output.now.log.now c.args.output.now.room) c.play_logged-played.result c.tell_with_log-told.result tt c.tell_with_log-told.ensures.told
+
+pub returns-clause-steps : goal.returns-clause-steps
+returns-clause-steps g c = λ told.
+    let mid = g.S.Store.files c.play_logged-played.new.store in
+    let new = g.S.Store.files c.tell_with_log-told.new.store in
+    let p = c.play_logged-played.ensures in
+    let out = c.args.output.now in
+    let here : Loaded = record { script = c.args.loaded.now.script; files = c.deref.result.now } in
+    let same : here ≡ loaded_view c.args.loaded.now = λ k. record { script = c.args.loaded.now.script; files = c.deref.ensures.value k } in
+    let alone = alone_of {P = TellsItsRun here.script here.files} {Q = IsToldAlone here.script here.files} (λ j e tells. tells.alone) c.play_logged-played.result p.run in
+    subst (λ (l : Loaded). CountsOn c.tell_with_log-told.result (Ok (trace_job out.target.now out.journal.now out.log.now out.room l)) new c.play_logged-played.new.steps.items) same
+    (Counts-logged here c.cycles-cycles.result out.target.now out.journal.now mid new c.play_logged-played.new.steps.items out.log.now c.deref-2.result.now out.room c.play_logged-played.result c.tell_with_log-told.result alone p.steps
+    c.tell_with_log-told.ensures.told (c.tell_with_log-told.ensures.files (p.tells told)))

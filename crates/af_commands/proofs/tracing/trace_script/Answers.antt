@@ -1,10 +1,13 @@
-use Rattle.std.proofs.Common.{◌≡◌, Ok, Result, ap, subst, sym}
+use Rattle.std.proofs.Common.{◌≡◌, Ok, Result, String, ap, rules, subst, sym}
+use Rattle.std.specs.declared.alloc.Global.{Global}
 use Rattle.af_io.specs.Files.{Files}
 use Rattle.af_offline.specs.declared.status.Refusal.{Refusal}
-use Rattle.af_offline.specs.Asked.{◌>>=◌, Job, Loaded, trace_asked, trace_job}
+use Rattle.af_offline.specs.Asked.{◌>>=◌, Job, Loaded, loaded_of, trace_asked, trace_job}
+use Rattle.af_commands.specs.Counted.{CountsOn}
 use Rattle.af_commands.specs.Ends.{Makes}
 use Rattle.af_offline.specs.Loading.{loaded_view}
 use Rattle.af_offline.proofs.Chains.{files_are}
+use Rattle.af_commands.proofs.Counted.{Counts-stopped}
 use Rattle.af_commands.proofs.tracing.trace_script.Goals as goal
 
 pub returns-clause-made : goal.returns-clause-made
@@ -20,3 +23,18 @@ returns-clause-made g c = λ told.
     let made : Makes c.trace.result (Ok job) old new =
     subst (λ (files : Files). Makes c.trace.result (Ok job) files new) (files_are old mid (c.in_ok-loaded.ensures.same told)) (c.trace.ensures.made (c.in_ok-loaded.ensures.tells told)) in
     subst (λ (asked : Result Job Refusal). Makes c.trace.result asked old new) (sym is) made
+
+pub returns-in_err-loaded-clause-steps : goal.returns-in_err-loaded-clause-steps
+returns-in_err-loaded-clause-steps g c = λ told.
+    let old = g.S.Store.files c.args.store.now in
+    let none =
+    Counts-stopped {T = String Global} loaded_view c.in_err-loaded.field-0.0 (loaded_of old c.args.script.now) (trace_asked old c.args.script.now c.args.output.now.target.now c.args.output.now.journal.now c.args.output.now.log.now c.args.output.now.room) (g.S.Store.files c.load_script.new.store) c.args.steps.now.items (c.in_err-loaded.ensures.loaded told) in
+    search (rules, none)
+
+pub returns-clause-steps : goal.returns-clause-steps
+returns-clause-steps g c = λ told.
+    let old = g.S.Store.files c.args.store.now in
+    let new = g.S.Store.files c.trace.new.store in
+    let is : trace_asked old c.args.script.now c.args.output.now.target.now c.args.output.now.journal.now c.args.output.now.log.now c.args.output.now.room ≡ Ok (trace_job c.args.output.now.target.now c.args.output.now.journal.now c.args.output.now.log.now c.args.output.now.room (loaded_view c.in_ok-loaded.loaded)) =
+    ap (λ (r : Result Loaded Refusal). r >>= (λ l. Ok (trace_job c.args.output.now.target.now c.args.output.now.journal.now c.args.output.now.log.now c.args.output.now.room l))) (c.in_ok-loaded.ensures.loaded told) in
+    subst (λ (asked : Result Job Refusal). CountsOn c.trace.result asked new c.trace.new.steps.items) (sym is) (c.trace.ensures.steps (c.in_ok-loaded.ensures.tells told))

@@ -1,0 +1,171 @@
+-- The steps of the cycles of what a command played.
+use Rattle.std.proofs.Common.{◌≡◌, ◌≢◌, ℕ, Bool, true, false, if◌then◌else◌, List, Option, Some, Result, Ok, Err, IfOk, String, refl, sym, ap, subst, ◌∙◌}
+use Rattle.std.specs.Str.{bytes_eq}
+use Rattle.std.specs.declared.alloc.Global.{Global}
+use Rattle.std.proofs.lemmas.Slice.Eq.{bytes_eq-Decides}
+use Rattle.af_io.specs.Files.{Files, SetsFile}
+use Rattle.af_io.specs.declared.store.StoreError.{StoreError}
+use Rattle.af_io.specs.declared.store.StoreError.TheVariants as outside
+use Rattle.af_journal.specs.Texts.{text_of}
+use Rattle.af_model.specs.Journals.{JournalData}
+use Rattle.af_offline.specs.Asked.{◌>>=◌, Job, Loaded, play_job, session_job, trace_job}
+use Rattle.af_offline.specs.declared.status.Ending.{Ending}
+use Rattle.af_offline.specs.declared.status.Ending.TheVariants.{Limit, Judged}
+use Rattle.af_offline.specs.declared.status.Refusal.{Refusal}
+use Rattle.af_offline.specs.declared.status.Refusal.TheVariants.{Usage, Script, File}
+use Rattle.af_offline.specs.declared.status.Stop.{Stop}
+use Rattle.af_offline.specs.declared.status.Stop.TheVariants.{Refused, Over, Store, Memory}
+use Rattle.af_offline.specs.Status.{Meets, ended_status, status_of, stop_of}
+use Rattle.af_playing.specs.PlayKept.{TookFew}
+use Rattle.af_playing.specs.PlayedAlone.{IsToldAlone, shown_of_play}
+use Rattle.af_playing.specs.PlayedRuns.{HandedBack}
+use Rattle.af_playing.specs.declared.answering.PlayFault.{PlayFault}
+use Rattle.af_playing.specs.declared.answering.PlayFault.TheVariants as fault
+use Rattle.af_rendering.specs.Rendered.{ComesTo}
+use Rattle.af_rendering.specs.declared.rendering.Outcome.{Outcome}
+use Rattle.af_rendering.specs.declared.rendering.Played.{Played}
+use Rattle.af_render_law.specs.RenderLaws.{shown_alone}
+use Rattle.af_render_law.proofs.RendersTold.{render_told}
+use Rattle.af_runs.specs.Pcm.{journal_pcm}
+use Rattle.af_script.specs.Form.{IsScript}
+use Rattle.af_session.specs.Ends.{EndsState}
+use Rattle.af_tally.specs.Steps.{AreFew}
+use Rattle.af_tally.specs.Summaries.{Shown}
+use Rattle.af_commands.specs.Counted.{CountsAsked, CountsOn, CountsSteps, CountsWork}
+use Rattle.af_commands.specs.Told.{Tells, TellsRender, TellsText, TellsTexts}
+
+-- ## Files
+
+-- a file that was set holds what it was set to
+set_holds : (old new : Files) (name : List ℕ) (content : Option (List ℕ)) → SetsFile old name content new → new name ≡ content
+set_holds old new name content set = set name ∙ ap (λ (b : Bool). if b then content else old name) ((bytes_eq-Decides name name).1 refl)
+
+-- a file of another name stays
+other_stays : (old new : Files) (name other : List ℕ) (content : Option (List ℕ)) → name ≢ other → SetsFile old name content new → new other ≡ old other
+other_stays old new name other content apart set = by_test (bytes_eq name other) refl
+  where
+    by_test : (b : Bool) → bytes_eq name other ≡ b → new other ≡ old other
+    by_test true is = absurd (apart ((bytes_eq-Decides name other).0 is))
+    by_test false is = set other ∙ ap (λ (b : Bool). if b then content else old other) is
+
+-- ## Renders
+
+module _ (l : Loaded) (accepted : IsScript l.script) (target : List ℕ) (told : Type 0) (old new : Files) (steps : List ℕ) where
+  pub Counts-rendered : (played : Result Outcome StoreError) (result : Result (String Global) Stop) → told
+      → IfOk played (λ o. (journal : JournalData) × ComesTo l.script l.files journal o.summary o.ends steps × (told → SetsFile old target (Some (journal_pcm l.script.frames journal)) new))
+      → TellsRender played result → CountsOn result (Ok (session_job target l)) new steps
+  Counts-rendered (Ok o) (Ok line) tells came is =
+      let alone = render_told l.script l.files came.0 o.ends accepted came.1.back in
+      (came.0, alone.run, set_holds old new target (Some (journal_pcm l.script.frames came.0)) (came.2 tells), subst (λ (run : Shown). AreFew run steps) alone.shown came.1.few)
+  Counts-rendered (Ok o) (Err stop) tells came is = subst (λ (s : Stop). CountsOn {X = String Global} (Err s) (Ok (session_job target l)) new steps) (sym is) tt
+  Counts-rendered (Err outside.Failed) result tells came is = subst (λ (r : Result (String Global) Stop). CountsOn r (Ok (session_job target l)) new steps) (sym is) tt
+  Counts-rendered (Err outside.Memory) result tells came is = subst (λ (r : Result (String Global) Stop). CountsOn r (Ok (session_job target l)) new steps) (sym is) tt
+
+-- ## Plays
+
+-- the steps by a journal and the ends are those by the journal alone
+few_alone : (l : Loaded) (steps : List ℕ) (j : JournalData) (e : EndsState) → IsToldAlone l.script l.files j e → TookFew l.script.frames steps j e → AreFew (shown_of_play l.script l.files j) steps
+few_alone l steps j e alone few = subst (λ (run : Shown). AreFew run steps) alone.shown few
+
+module _ (l : Loaded) (cycles : ℕ) (target name : List ℕ) (old new : Files) (steps : List ℕ) where
+  pub Counts-told : (played : Result Played PlayFault) (result : Result (String Global) Stop) → HandedBack (IsToldAlone l.script l.files) played → HandedBack (TookFew l.script.frames steps) played
+      → Tells cycles played result → TellsText name played result old new → CountsOn result (Ok (play_job target name l)) new steps
+  Counts-told (Ok p) (Ok line) alone few told text = (p.journal, set_holds old new name (Some (text_of p.journal)) text, few_alone l steps p.journal p.ends alone few)
+  Counts-told (Ok p) (Err (Refused refusal)) alone few told text = tt
+  Counts-told (Ok p) (Err (Over over)) alone few none text = absurd none
+  Counts-told (Ok p) (Err Store) alone few told text = tt
+  Counts-told (Ok p) (Err Memory) alone few told text = tt
+  Counts-told (Err (fault.CycleLimit j e)) (Ok line) alone few none text = absurd none
+  Counts-told (Err (fault.CycleLimit j e)) (Err (Refused refusal)) alone few told text = tt
+  Counts-told (Err (fault.CycleLimit j e)) (Err (Over (Limit n))) alone few told text = (j, set_holds old new name (Some (text_of j)) text, few_alone l steps j e alone few)
+  Counts-told (Err (fault.CycleLimit j e)) (Err (Over (Judged refusal))) alone few told text = tt
+  Counts-told (Err (fault.CycleLimit j e)) (Err Store) alone few told text = tt
+  Counts-told (Err (fault.CycleLimit j e)) (Err Memory) alone few told text = tt
+  Counts-told (Err fault.Store) result alone few is same = subst (λ (r : Result (String Global) Stop). CountsOn r (Ok (play_job target name l)) new steps) (sym is) tt
+  Counts-told (Err fault.Memory) result alone few is same = subst (λ (r : Result (String Global) Stop). CountsOn r (Ok (play_job target name l)) new steps) (sym is) tt
+
+  module _ (log text : List ℕ) (room : ℕ) where
+    pub Counts-logged : (played : Result Played PlayFault) (result : Result (String Global) Stop) → HandedBack (IsToldAlone l.script l.files) played → HandedBack (TookFew l.script.frames steps) played
+        → Tells cycles played result → TellsTexts name log text played result old new → CountsOn result (Ok (trace_job target name log room l)) new steps
+    Counts-logged (Ok p) (Ok line) alone few told (mid, set, wrote) = (
+      p.journal,
+      (λ apart. other_stays mid new log name (Some text) apart wrote ∙ set_holds old mid name (Some (text_of p.journal)) set),
+      few_alone l steps p.journal p.ends alone few,
+    )
+    Counts-logged (Ok p) (Err (Refused refusal)) alone few told texts = tt
+    Counts-logged (Ok p) (Err (Over over)) alone few none texts = absurd none
+    Counts-logged (Ok p) (Err Store) alone few told texts = tt
+    Counts-logged (Ok p) (Err Memory) alone few told texts = tt
+    Counts-logged (Err (fault.CycleLimit j e)) (Ok line) alone few none texts = absurd none
+    Counts-logged (Err (fault.CycleLimit j e)) (Err (Refused refusal)) alone few told texts = tt
+    Counts-logged (Err (fault.CycleLimit j e)) (Err (Over (Limit n))) alone few told texts = (j, (λ apart. set_holds old new name (Some (text_of j)) texts), few_alone l steps j e alone few)
+    Counts-logged (Err (fault.CycleLimit j e)) (Err (Over (Judged refusal))) alone few told texts = tt
+    Counts-logged (Err (fault.CycleLimit j e)) (Err Store) alone few told texts = tt
+    Counts-logged (Err (fault.CycleLimit j e)) (Err Memory) alone few told texts = tt
+    Counts-logged (Err fault.Store) result alone few is same = subst (λ (r : Result (String Global) Stop). CountsOn r (Ok (trace_job target name log room l)) new steps) (sym is) tt
+    Counts-logged (Err fault.Memory) result alone few is same = subst (λ (r : Result (String Global) Stop). CountsOn r (Ok (trace_job target name log room l)) new steps) (sym is) tt
+
+-- what a handed back run tells is told alone
+pub alone_of : {P Q : JournalData → EndsState → Type 0} → ((j : JournalData) (e : EndsState) → P j e → Q j e) → (played : Result Played PlayFault) → HandedBack P played → HandedBack Q played
+alone_of f (Ok p) h = f p.journal p.ends h
+alone_of f (Err (fault.CycleLimit j e)) h = f j e h
+alone_of f (Err fault.Store) h = tt
+alone_of f (Err fault.Memory) h = tt
+
+-- ## Of what is asked for
+
+-- nothing is counted of a work without cycles, whatever it is bound to
+pub counts_none : {X : Type 0} (asked : Result X Refusal) (job : X → Job) (files : Files) (steps : List ℕ) → ((x : X) → CountsWork (job x).work (job x).target files steps) → CountsAsked (asked >>= (λ x. Ok (job x))) files steps
+counts_none (Ok x) job files steps each = each x
+counts_none (Err refusal) job files steps each = tt
+
+-- an answer counts if what was asked for does
+pub Counts-asked : {X : Type 0} (result : Result X Stop) (asked : Result Job Refusal) (files : Files) (steps : List ℕ) → CountsAsked asked files steps → CountsOn result asked files steps
+Counts-asked (Ok x) asked files steps counts = counts
+Counts-asked (Err (Refused refusal)) asked files steps counts = tt
+Counts-asked (Err (Over (Limit n))) asked files steps counts = counts
+Counts-asked (Err (Over (Judged refusal))) asked files steps counts = tt
+Counts-asked (Err Store) asked files steps counts = tt
+Counts-asked (Err Memory) asked files steps counts = tt
+
+-- ## Before anything was played
+
+-- a step that was refused, or stopped by the outside, is no end at a limit
+pub Counts-stopped : {X Y T : Type 0} (view : X → Y) (e : Stop) (told : Result Y Refusal) (asked : Result Job Refusal) (files : Files) (steps : List ℕ) → Meets view (Err e) told → CountsOn {X = T} (Err e) asked files steps
+Counts-stopped view (Refused refusal) told asked files steps is = tt
+Counts-stopped view (Over over) told asked files steps is = absurd is
+Counts-stopped view Store told asked files steps is = tt
+Counts-stopped view Memory told asked files steps is = tt
+
+-- nor is an error of the store
+pub Counts-store : {T : Type 0} (e : StoreError) (asked : Result Job Refusal) (files : Files) (steps : List ℕ) → CountsOn {X = T} (Err (stop_of e)) asked files steps
+Counts-store outside.Failed asked files steps = tt
+Counts-store outside.Memory asked files steps = tt
+
+-- what was counted before the line was printed is counted
+pub Counts-printed : {T : Type 0} (printed : Result T Stop) (asked : Result Job Refusal) (line : String Global) (files : Files) (steps : List ℕ) → CountsOn (Ok line) asked files steps → CountsOn printed asked files steps
+Counts-printed printed asked line files steps counts = Counts-asked printed asked files steps counts
+
+-- an answer whose work was stopped keeps what was counted
+pub Counts-kept : {T : Type 0} (e : Stop) (asked : Result Job Refusal) (files : Files) (steps : List ℕ) → CountsOn {X = String Global} (Err e) asked files steps → CountsOn {X = T} (Err e) asked files steps
+Counts-kept (Refused refusal) asked files steps counts = tt
+Counts-kept (Over (Limit n)) asked files steps counts = counts
+Counts-kept (Over (Judged refusal)) asked files steps counts = tt
+Counts-kept Store asked files steps counts = tt
+Counts-kept Memory asked files steps counts = tt
+
+-- ## By the status
+
+-- a work that is over leaves its count to the status
+pub Counts-ended : {T : Type 0} (e : Stop) (ending : Ending) (asked : Result Job Refusal) (files : Files) (steps : List ℕ) → e ≡ Over ending → CountsOn {X = T} (Err e) asked files steps → CountsSteps (ended_status ending) asked files steps
+Counts-ended {T} e ending asked files steps is counts = by_ending ending (subst (λ (s : Stop). CountsOn {X = T} (Err s) asked files steps) is counts)
+  where
+    by_ending : (over : Ending) → CountsOn {X = T} (Err (Over over)) asked files steps → CountsSteps (ended_status over) asked files steps
+    by_ending (Limit n) counted = counted
+    by_ending (Judged refusal) counted = tt
+
+-- nothing is counted of what is refused
+pub Counts-refused : (refusal : Refusal) (asked : Result Job Refusal) (files : Files) (steps : List ℕ) → CountsSteps (status_of refusal) asked files steps
+Counts-refused Usage asked files steps = tt
+Counts-refused (Script fault) asked files steps = tt
+Counts-refused (File fault) asked files steps = tt
