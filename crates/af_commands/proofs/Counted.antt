@@ -112,53 +112,20 @@ alone_of f (Err (fault.CycleLimit j e)) h = f j e h
 alone_of f (Err fault.Store) h = tt
 alone_of f (Err fault.Memory) h = tt
 
--- ## Of what is asked for
-
--- nothing is counted of a work without cycles, whatever it is bound to
-pub counts_none : {X : Type 0} (asked : Result X Refusal) (job : X → Job) (files : Files) (steps : List ℕ) → ((x : X) → CountsWork (job x).work (job x).target files steps) → CountsAsked (asked >>= (λ x. Ok (job x))) files steps
-counts_none (Ok x) job files steps each = each x
-counts_none (Err refusal) job files steps each = tt
-
--- an answer counts if what was asked for does
-pub Counts-asked : {X : Type 0} (result : Result X Stop) (asked : Result Job Refusal) (files : Files) (steps : List ℕ) → CountsAsked asked files steps → CountsOn result asked files steps
-Counts-asked (Ok x) asked files steps counts = counts
-Counts-asked (Err (Refused refusal)) asked files steps counts = tt
-Counts-asked (Err (Over (Limit n))) asked files steps counts = counts
-Counts-asked (Err (Over (Judged refusal))) asked files steps counts = tt
-Counts-asked (Err Store) asked files steps counts = tt
-Counts-asked (Err Memory) asked files steps counts = tt
-
 -- ## Before anything was played
 
 -- a step that was refused, or stopped by the outside, is no end at a limit
-pub Counts-stopped : {X Y T : Type 0} (view : X → Y) (e : Stop) (told : Result Y Refusal) (asked : Result Job Refusal) (files : Files) (steps : List ℕ) → Meets view (Err e) told → CountsOn {X = T} (Err e) asked files steps
-Counts-stopped view (Refused refusal) told asked files steps is = tt
-Counts-stopped view (Over over) told asked files steps is = absurd is
-Counts-stopped view Store told asked files steps is = tt
-Counts-stopped view Memory told asked files steps is = tt
-
--- nor is an error of the store
-pub Counts-store : {T : Type 0} (e : StoreError) (asked : Result Job Refusal) (files : Files) (steps : List ℕ) → CountsOn {X = T} (Err (stop_of e)) asked files steps
-Counts-store outside.Failed asked files steps = tt
-Counts-store outside.Memory asked files steps = tt
-
--- what was counted before the line was printed is counted
-pub Counts-printed : {T : Type 0} (printed : Result T Stop) (asked : Result Job Refusal) (line : String Global) (files : Files) (steps : List ℕ) → CountsOn (Ok line) asked files steps → CountsOn printed asked files steps
-Counts-printed printed asked line files steps counts = Counts-asked printed asked files steps counts
-
--- an answer whose work was stopped keeps what was counted
-pub Counts-kept : {T : Type 0} (e : Stop) (asked : Result Job Refusal) (files : Files) (steps : List ℕ) → CountsOn {X = String Global} (Err e) asked files steps → CountsOn {X = T} (Err e) asked files steps
-Counts-kept (Refused refusal) asked files steps counts = tt
-Counts-kept (Over (Limit n)) asked files steps counts = counts
-Counts-kept (Over (Judged refusal)) asked files steps counts = tt
-Counts-kept Store asked files steps counts = tt
-Counts-kept Memory asked files steps counts = tt
+pub Counts-stopped : {X Y : Type 0} (T : Type 0) (view : X → Y) (e : Stop) (told : Result Y Refusal) (asked : Result Job Refusal) (files : Files) (steps : List ℕ) → Meets view (Err e) told → CountsOn {X = T} (Err e) asked files steps
+Counts-stopped T view (Refused refusal) told asked files steps is = tt
+Counts-stopped T view (Over over) told asked files steps is = absurd is
+Counts-stopped T view Store told asked files steps is = tt
+Counts-stopped T view Memory told asked files steps is = tt
 
 -- ## By the status
 
 -- a work that is over leaves its count to the status
-pub Counts-ended : {T : Type 0} (e : Stop) (ending : Ending) (asked : Result Job Refusal) (files : Files) (steps : List ℕ) → e ≡ Over ending → CountsOn {X = T} (Err e) asked files steps → CountsSteps (ended_status ending) asked files steps
-Counts-ended {T} e ending asked files steps is counts = by_ending ending (subst (λ (s : Stop). CountsOn {X = T} (Err s) asked files steps) is counts)
+pub Counts-ended : (T : Type 0) (e : Stop) (ending : Ending) (asked : Result Job Refusal) (files : Files) (steps : List ℕ) → e ≡ Over ending → CountsOn {X = T} (Err e) asked files steps → CountsSteps (ended_status ending) asked files steps
+Counts-ended T e ending asked files steps is counts = by_ending ending (subst (λ (s : Stop). CountsOn {X = T} (Err s) asked files steps) is counts)
   where
     by_ending : (over : Ending) → CountsOn {X = T} (Err (Over over)) asked files steps → CountsSteps (ended_status over) asked files steps
     by_ending (Limit n) counted = counted

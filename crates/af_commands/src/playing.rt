@@ -138,7 +138,13 @@ fn play<R: Threads + Sync, S: Store, G: Gate>(
         room: 0,
     };
     let played = af_playing::play(rt, alloc, &piece, store, gate, steps);
-    let told = tell(alloc, store, output.journal, loaded.script.cycles(), &played);
+    let told = tell(
+        alloc,
+        store,
+        output.journal,
+        loaded.script.cycles(),
+        &played,
+    );
     drop(played);
     told
 }

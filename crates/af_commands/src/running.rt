@@ -39,9 +39,7 @@ fn make<R: Threads + Sync, S: Store, G: Gate>(
     ensures steps { S.told store.old → CountsOn result (job_of (S.files store.old) (request_view request.entry)) (S.files store.new) steps.new.items }
 {
     match request {
-        Request::Render { script, target } => {
-            render_script(alloc, store, script, target, steps)
-        }
+        Request::Render { script, target } => { render_script(alloc, store, script, target, steps) }
         Request::Record {
             input,
             target,

@@ -35,7 +35,7 @@ returns-clause-made g c = λ told.
 pub returns-in_err-loaded-clause-steps : goal.returns-in_err-loaded-clause-steps
 returns-in_err-loaded-clause-steps g c = λ told.
     let none =
-    Counts-stopped {T = String Global} loaded_view c.in_err-loaded.field-0.0 (session_of (g.S.Store.files c.write_session.new.store) c.in_ok-made.made) (Ok (generated_job c.args.number c.args.script.now c.args.target.now))
+    Counts-stopped (String Global) loaded_view c.in_err-loaded.field-0.0 (session_of (g.S.Store.files c.write_session.new.store) c.in_ok-made.made) (Ok (generated_job c.args.number c.args.script.now c.args.target.now))
     (g.S.Store.files c.load_files.new.store) c.args.steps.now.items (c.in_err-loaded.ensures.loaded (c.in_ok-made.ensures.tells told)) in
     search (rules, none)
 

@@ -35,7 +35,7 @@ pub returns-in_err-loaded-clause-steps : goal.returns-in_err-loaded-clause-steps
 returns-in_err-loaded-clause-steps g c = λ told.
     let asked = render_asked (g.S.Store.files c.args.store.now) c.args.script.now c.args.target.now in
     let none =
-    Counts-stopped {T = String Global} loaded_view c.in_err-loaded.field-0.0 (loaded_of (g.S.Store.files c.args.store.now) c.args.script.now) asked (g.S.Store.files c.load_script.new.store) c.args.steps.now.items (c.in_err-loaded.ensures.loaded told) in
+    Counts-stopped (String Global) loaded_view c.in_err-loaded.field-0.0 (loaded_of (g.S.Store.files c.args.store.now) c.args.script.now) asked (g.S.Store.files c.load_script.new.store) c.args.steps.now.items (c.in_err-loaded.ensures.loaded told) in
     search (rules, none)
 
 pub returns-clause-steps : goal.returns-clause-steps

@@ -104,4 +104,4 @@ returns-in-Ok-tell-clause-steps g c = λ told.
     let a = c.in-Err-Over in
     let asked = asked_of (g.S.Store.files c.args.store.now) (map string_bytes c.args.words.now) in
     subst (λ (ended : Status). CountsSteps ended asked (g.S.Store.files c.work.new.store) c.work.new.steps.items) (sym c.from-in-Ok-tell.ensures)
-    (Counts-ended {T = Unit {0}} a.field-0 a.ending asked (g.S.Store.files c.work.new.store) c.work.new.steps.items a.field-0-is (a.ensures.steps told))
+    (Counts-ended (Unit {0}) a.field-0 a.ending asked (g.S.Store.files c.work.new.store) c.work.new.steps.items a.field-0-is (a.ensures.steps told))

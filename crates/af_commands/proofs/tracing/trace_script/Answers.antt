@@ -28,7 +28,7 @@ pub returns-in_err-loaded-clause-steps : goal.returns-in_err-loaded-clause-steps
 returns-in_err-loaded-clause-steps g c = λ told.
     let old = g.S.Store.files c.args.store.now in
     let none =
-    Counts-stopped {T = String Global} loaded_view c.in_err-loaded.field-0.0 (loaded_of old c.args.script.now) (trace_asked old c.args.script.now c.args.output.now.target.now c.args.output.now.journal.now c.args.output.now.log.now c.args.output.now.room) (g.S.Store.files c.load_script.new.store) c.args.steps.now.items (c.in_err-loaded.ensures.loaded told) in
+    Counts-stopped (String Global) loaded_view c.in_err-loaded.field-0.0 (loaded_of old c.args.script.now) (trace_asked old c.args.script.now c.args.output.now.target.now c.args.output.now.journal.now c.args.output.now.log.now c.args.output.now.room) (g.S.Store.files c.load_script.new.store) c.args.steps.now.items (c.in_err-loaded.ensures.loaded told) in
     search (rules, none)
 
 pub returns-clause-steps : goal.returns-clause-steps
