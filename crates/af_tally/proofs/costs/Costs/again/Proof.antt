@@ -5,7 +5,7 @@ use base.Fml.{ftrue}
 use mir.Syntax.{named}
 use mir.Val.{Val, vptr, vstruct, vnil}
 use contract.Running.{tables}
-use types.Kit.{‵, raw, ◌⊛◌, ◌$◌, ◌∵◌, !, qed, keep, move, split, done, join, fjoin, fpack, feq_i, suffices}
+use types.Kit.{‵, raw, ◌⊛◌, ◌$◌, ◌∵◌, !, qed, keep, move, split, done, fjoin, fpack, feq_i, suffices}
 use types.Part.{agg}
 use types.Run.{enter, returns, no_more}
 use types.ByLocal.{alloc_all, pass_all, free_all, look_at, sets}

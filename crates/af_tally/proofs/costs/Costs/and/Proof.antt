@@ -7,7 +7,7 @@ use mir.Val.{Val, vptr, vstruct, vnil}
 use mir.MapTy.{inst_fn}
 use contract.Monad.{fact}
 use contract.Running.{tables}
-use types.Kit.{‵, raw, ◌⊛◌, ◌$◌, ◌∵◌, !, qed, keep, move, split, done, join, fjoin, fpack, feq_i, suffices}
+use types.Kit.{‵, raw, ◌⊛◌, ◌$◌, ◌∵◌, !, qed, keep, move, split, done, fjoin, fpack, feq_i, suffices}
 use types.Part.{agg}
 use types.Run.{enter, returns, no_more}
 use types.ByLocal.{alloc_all, pass_all, free_all, look_at, sets}
