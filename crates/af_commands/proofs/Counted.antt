@@ -8,14 +8,14 @@ use Rattle.af_io.specs.declared.store.StoreError.{StoreError}
 use Rattle.af_io.specs.declared.store.StoreError.TheVariants as outside
 use Rattle.af_journal.specs.Texts.{text_of}
 use Rattle.af_model.specs.Journals.{JournalData}
-use Rattle.af_offline.specs.Asked.{◌>>=◌, Job, Loaded, play_job, session_job, trace_job}
+use Rattle.af_offline.specs.Asked.{Job, Loaded, play_job, session_job, trace_job}
 use Rattle.af_offline.specs.declared.status.Ending.{Ending}
 use Rattle.af_offline.specs.declared.status.Ending.TheVariants.{Limit, Judged}
 use Rattle.af_offline.specs.declared.status.Refusal.{Refusal}
 use Rattle.af_offline.specs.declared.status.Refusal.TheVariants.{Usage, Script, File}
 use Rattle.af_offline.specs.declared.status.Stop.{Stop}
 use Rattle.af_offline.specs.declared.status.Stop.TheVariants.{Refused, Over, Store, Memory}
-use Rattle.af_offline.specs.Status.{Meets, ended_status, status_of, stop_of}
+use Rattle.af_offline.specs.Status.{Meets, ended_status, status_of}
 use Rattle.af_playing.specs.PlayKept.{TookFew}
 use Rattle.af_playing.specs.PlayedAlone.{IsToldAlone, shown_of_play}
 use Rattle.af_playing.specs.PlayedRuns.{HandedBack}
@@ -24,14 +24,13 @@ use Rattle.af_playing.specs.declared.answering.PlayFault.TheVariants as fault
 use Rattle.af_rendering.specs.Rendered.{ComesTo}
 use Rattle.af_rendering.specs.declared.rendering.Outcome.{Outcome}
 use Rattle.af_rendering.specs.declared.rendering.Played.{Played}
-use Rattle.af_render_law.specs.RenderLaws.{shown_alone}
 use Rattle.af_render_law.proofs.RendersTold.{render_told}
 use Rattle.af_runs.specs.Pcm.{journal_pcm}
 use Rattle.af_script.specs.Form.{IsScript}
 use Rattle.af_session.specs.Ends.{EndsState}
 use Rattle.af_tally.specs.Steps.{AreFew}
 use Rattle.af_tally.specs.Summaries.{Shown}
-use Rattle.af_commands.specs.Counted.{CountsAsked, CountsOn, CountsSteps, CountsWork}
+use Rattle.af_commands.specs.Counted.{CountsOn, CountsSteps}
 use Rattle.af_commands.specs.Told.{Tells, TellsRender, TellsText, TellsTexts}
 
 -- ## Files
