@@ -16,7 +16,8 @@ use Rattle.af_base.specs.Log.{slots}
 use Rattle.af_base.specs.Mix.{peak_of}
 use Rattle.af_model.specs.Cycles.{is_mixed}
 use Rattle.af_tally.specs.declared.tally.TrackTally.{TrackTally}
-use Rattle.af_tally.specs.Steps.{AreFew, IsFew}
+use Rattle.af_tally.specs.Noting.{with_note}
+use Rattle.af_tally.specs.Steps.{AreFew, IsFew, most_note, most_steps}
 use Rattle.af_tally.specs.Summaries.{EntryUsed, Shown, Look, calls_of, with_calls, with_entry, with_written, slot_looks, entry_looks, taken_by_look, taken_in, taken_by_entry, taken_of, dropped_by_look, dropped_in, dropped_by_entry, dropped_of, has_no_poke, is_poke, is_lawful, in_all, mixed_of, discarded_of, queued_of}
 use Rattle.af_tally.specs.Tallies.{Tallied, AddsLooks, Notes, IsWithin, IsTally, untouched, track_at, most_looks, after_looks, shown_of, mixed_by, discarded_by, queued_by}
 
@@ -98,8 +99,8 @@ zip_push R (a ∷ xs) [] x y z r = absurd z
 zip_push R (a ∷ xs) (b ∷ ys) x y z r = (z.0, zip_push R xs ys x y z.1 r)
 
 -- by an entry whose cycle took so many steps
-pub entry_noted : (run : Shown) (used : EntryUsed) (steps : ℕ) (a b c : Tallied) → Notes slots (entry_looks used) a b → c ≡ record b { cycles = b.cycles + counted used; steps = b.steps ++ steps ∷ [] }
-    → IsFew run.frames used steps → IsTally run a → IsTally (with_entry run used) c
+pub entry_noted : (run : Shown) (used : EntryUsed) (steps : ℕ) (a b c : Tallied) → Notes slots (entry_looks used) a b → c ≡ record b { cycles = b.cycles + counted used; steps = b.steps ++ (steps, 0) ∷ [] }
+    → steps ≤ most_steps run.frames used.state → IsTally run a → IsTally (with_entry run used) c
 entry_noted run used steps a b c notes c_is few is =
     let tracks : c.tracks ≡ b.tracks = ap (λ (t : Tallied). t.tracks) c_is in
     let cycles : c.cycles ≡ b.cycles + counted used = ap (λ (t : Tallied). t.cycles) c_is in
@@ -110,8 +111,9 @@ entry_noted run used steps a b c notes c_is few is =
       cycles = let one = sum_by_push (λ (u : EntryUsed). counted u) run.entries used in omega (arith, notes.cycles, is.cycles, one);
       looks = let old = is.looks in let more = notes.looks in omega (arith, length_push run.entries used);
       peak = ap (λ (t : Tallied). t.peak) c_is ∙ notes.peak ∙ is.peak;
-      steps = let next = ap (λ (t : Tallied). t.steps) c_is ∙ ap (λ (ns : List ℕ). ns ++ steps ∷ []) notes.steps in
-          subst (λ (ns : List ℕ). AreFew (with_entry run used) ns) (sym next) (zip_push (IsFew run.frames) run.entries a.steps used steps is.steps few);
+      steps =
+          let next : c.steps ≡ a.steps ++ (steps, 0) ∷ [] = ap (λ (t : Tallied). t.steps) c_is ∙ ap (λ (ns : List (ℕ × ℕ)). ns ++ (steps, 0) ∷ []) notes.steps in
+          subst (AreFew (with_entry run used)) (sym next) (zip_push (IsFew run.frames) run.entries a.steps used (steps, 0) is.steps (few, omega arith));
     }
 
 -- by calls of a client
@@ -153,8 +155,20 @@ frames_noted run a b frames tracks cycles looks peak steps is = record {
   cycles = cycles ∙ is.cycles;
   looks = let old = is.looks in omega arith;
   peak = peak ∙ ap (λ (n : ℕ). max n (peak_of frames)) is.peak ∙ sym (peak_of-append run.written frames);
-  steps = subst (λ (ns : List ℕ). AreFew run ns) (sym steps) is.steps;
+  steps = subst (AreFew run) (sym steps) is.steps;
 }
+
+-- the steps of a note may be put beside those of the last cycle
+note_told : (run : Shown) (entries : List EntryUsed) (costs : List (ℕ × ℕ)) (steps : ℕ) → steps ≤ most_note → AllZip (IsFew run.frames) entries costs → AllZip (IsFew run.frames) entries (with_note steps costs)
+note_told run [] [] steps few all = tt
+note_told run [] (cost ∷ costs) steps few all = absurd all
+note_told run (used ∷ entries) [] steps few all = absurd all
+note_told run (used ∷ entries) (cost ∷ []) steps few all = ((all.0.0, few), all.1)
+note_told run (used ∷ entries) (cost ∷ more ∷ costs) steps few all = (all.0, note_told run entries (more ∷ costs) steps few all.1)
+
+-- by the steps of a note
+pub note_noted : (run : Shown) (a b : Tallied) (steps : ℕ) → b ≡ record a { steps = with_note steps a.steps } → steps ≤ most_note → IsTally run a → IsTally run b
+note_noted run a b steps b_is few is = subst (IsTally run) (sym b_is) (record is { steps = note_told run run.entries a.steps steps few is.steps })
 
 -- ## The summary
 

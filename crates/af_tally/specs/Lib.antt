@@ -1,4 +1,5 @@
 pub mod Summaries
+pub mod Noting
 pub mod Steps
 pub mod Tallies
 pub mod Sound

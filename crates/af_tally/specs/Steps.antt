@@ -14,10 +14,14 @@ tracks_used (Some x) = tracks_of x
 abbrev pub most_steps : ℕ → Option FastState → ℕ
 most_steps frames state = (tracks_used state + 1) * frames + 7 * tracks_used state + 6
 
--- so many steps are no more than the cycle of this entry may take
-abbrev pub IsFew : ℕ → EntryUsed → ℕ → Type 0
-IsFew frames used steps = steps ≤ most_steps frames used.state
+-- the most steps that a note of an entry takes
+abbrev pub most_note : ℕ
+most_note = 10
 
--- these are the steps of the cycles of a run, one after the other, and each took no more than it may
-abbrev pub AreFew : Shown → List ℕ → Type 0
+-- these steps are no more than the cycle of this entry may take, and those of its note no more than a note may
+abbrev pub IsFew : ℕ → EntryUsed → ℕ × ℕ → Type 0
+IsFew frames used steps = (steps.0 ≤ most_steps frames used.state) × (steps.1 ≤ most_note)
+
+-- these are the steps of the cycles of a run, one after the other, each with those of its note, and none took more than it may
+abbrev pub AreFew : Shown → List (ℕ × ℕ) → Type 0
 AreFew run steps = AllZip (IsFew run.frames) run.entries steps

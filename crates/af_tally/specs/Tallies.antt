@@ -7,13 +7,13 @@ use Rattle.af_tally.specs.declared.tally.TrackTally.{TrackTally}
 use Rattle.af_tally.specs.Steps.{AreFew}
 use Rattle.af_tally.specs.Summaries.{Shown, Look, taken_in, dropped_in, taken_of, dropped_of, is_lawful, mixed_cycles}
 
--- a tally: the numbers of each track, how many cycles were mixed, how many looks may have been noted, the peak, and the steps of each cycle
+-- a tally: the numbers of each track, how many cycles were mixed, how many looks may have been noted, the peak, and the steps of each cycle with those of its note
 pub record Tallied : Type 0 where
   pub tracks : List TrackTally
   pub cycles : ℕ
   pub looks : ℕ
   pub peak : ℕ
-  pub steps : List ℕ
+  pub steps : List (ℕ × ℕ)
 
 -- the looks that a tally has room for: more than those of the longest run
 abbrev pub most_looks : ℕ

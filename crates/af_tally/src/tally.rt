@@ -5,7 +5,7 @@ ghost use Rattle.af_base.specs.Mix.{peak_of};
 ghost use Rattle.af_base.specs.Turn.{turn_of};
 ghost use Rattle.af_model.specs.Cycles.{is_mixed};
 ghost use Rattle.af_script.specs.Bounds.{most_tracks};
-ghost use Rattle.af_tally.specs.Steps.{most_steps};
+ghost use Rattle.af_tally.specs.Steps.{most_note, most_steps};
 ghost use Rattle.af_tally.specs.Summaries.{Shown, count_flushed, has_no_poke, is_poke, looks_by, nothing_shown, slot_looks, summary_of, turn_looks, with_calls, with_entry, with_turn, with_written};
 ghost use Rattle.af_tally.specs.Tallies.{IsTally, Keeps, Notes, discarded_by, mixed_by, most_looks, queued_by};
 
@@ -205,12 +205,21 @@ impl Tally {
 
     // Notes the steps of a cycle more.
     fn note_steps<L: Ledger>(&mut self, steps: &Steps<L>)
-        ensures { self.new ≡ record self.old { steps = self.old.steps ++ steps.now ∷ [] } }
+        ensures { self.new ≡ record self.old { steps = self.old.steps ++ (steps.now, 0) ∷ [] } }
     {
         self.steps = self.steps.and(steps);
     }
 
-    /// The steps of all cycles that were noted, one after the other.
+    /// Notes the steps that the note of the last entry in a log took.
+    pub fn note_noted<L: Ledger>(&mut self, steps: &Steps<L>)
+        requires few { steps.now ≤ most_note }
+        ensures tally { (run : Shown) → IsTally run self.old → IsTally run self.new }
+        ensures keeps { Keeps 0 0 self.old self.new }
+    {
+        self.steps = self.steps.noted(steps);
+    }
+
+    /// The steps of all cycles that were noted, one after the other, each with those of its note.
     pub fn steps(&self) -> Costs
         ensures { result.items ≡ self.now.steps }
     {

@@ -41,7 +41,7 @@ and_spec 𝓤 𝓛 𝓜 𝓡 wired L _ g d _ =
     (λ κs. (shr_vals, (shr_vals, tt))) (λ κs. (shr_Tells (named 0) κs.0 the_row, (shr_Tells (named 1) κs.1.0 (Steps.the_row L' g), tt))) (λ κs qs bounds a _ are.
     let u : Val = vptr a.0.ref_ptr.0 a.0.ref_ptr.1 in let v : Val = vptr a.1.0.ref_ptr.0 a.1.0.ref_ptr.1 in
     let y : W.Ghost = ((κs, qs, bounds, a, (u ∷ [], (v ∷ [], tt))), tt) in
-    let made : the_row.Denot = record { items = a.0.now.items ++ a.1.0.now ∷ [] } in
+    let made : the_row.Denot = record { items = a.0.now.items ++ (a.1.0.now, 0) ∷ [] } in
     qed 𝓛 ((raw (alive 𝓛 En.signature κs qs) ⊛ ‵ (owns (types_at En.signature.params κs) a y.0.4)) ∷ raw (fact 𝓤 _) ∷ ‵ ftrue ∷ []) ∵ keep ! (0 ∷ []) $ split ! $ keep ! (0 ∷ []) $
     enter ! 𝓣.C 𝓣.Λ fn (u ∷ v ∷ []) (W.post y) $ alloc_all ! (λ l. pass_all ! refl ((tt, tt), ((tt, tt), tt)) $
     sets ! (agg ! (no_more !)) refl (tt, tt) $
