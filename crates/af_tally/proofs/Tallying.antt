@@ -168,7 +168,7 @@ note_told run (used ∷ entries) (cost ∷ more ∷ costs) steps few all = (all.
 
 -- by the steps of a note
 pub note_noted : (run : Shown) (a b : Tallied) (steps : ℕ) → b ≡ record a { steps = with_note steps a.steps } → steps ≤ most_note → IsTally run a → IsTally run b
-note_noted run a b steps b_is few is = subst (IsTally run) (sym b_is) (record is { steps = note_told run run.entries a.steps steps few is.steps })
+note_noted run a b steps b_is few is = subst (IsTally run) (sym b_is) (record { count = is.count; each = is.each; cycles = is.cycles; looks = is.looks; peak = is.peak; steps = note_told run run.entries a.steps steps few is.steps })
 
 -- ## The summary
 
