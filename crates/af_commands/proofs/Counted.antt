@@ -49,7 +49,7 @@ other_stays old new name other content apart set = by_test (bytes_eq name other)
 
 -- ## Renders
 
-module _ (l : Loaded) (accepted : IsScript l.script) (target : List ℕ) (told : Type 0) (old new : Files) (steps : List ℕ) where
+module _ (l : Loaded) (accepted : IsScript l.script) (target : List ℕ) (told : Type 0) (old new : Files) (steps : List (ℕ × ℕ)) where
   pub Counts-rendered : (played : Result Outcome StoreError) (result : Result (String Global) Stop) → told
       → IfOk played (λ o. (journal : JournalData) × ComesTo l.script l.files journal o.summary o.ends steps × (told → SetsFile old target (Some (journal_pcm l.script.frames journal)) new))
       → TellsRender played result → CountsOn result (Ok (session_job target l)) new steps
@@ -63,10 +63,10 @@ module _ (l : Loaded) (accepted : IsScript l.script) (target : List ℕ) (told :
 -- ## Plays
 
 -- the steps by a journal and the ends are those by the journal alone
-few_alone : (l : Loaded) (steps : List ℕ) (j : JournalData) (e : EndsState) → IsToldAlone l.script l.files j e → TookFew l.script.frames steps j e → AreFew (shown_of_play l.script l.files j) steps
+few_alone : (l : Loaded) (steps : List (ℕ × ℕ)) (j : JournalData) (e : EndsState) → IsToldAlone l.script l.files j e → TookFew l.script.frames steps j e → AreFew (shown_of_play l.script l.files j) steps
 few_alone l steps j e alone few = subst (λ (run : Shown). AreFew run steps) alone.shown few
 
-module _ (l : Loaded) (cycles : ℕ) (target name : List ℕ) (old new : Files) (steps : List ℕ) where
+module _ (l : Loaded) (cycles : ℕ) (target name : List ℕ) (old new : Files) (steps : List (ℕ × ℕ)) where
   pub Counts-told : (played : Result Played PlayFault) (result : Result (String Global) Stop) → HandedBack (IsToldAlone l.script l.files) played → HandedBack (TookFew l.script.frames steps) played
       → Tells cycles played result → TellsText name played result old new → CountsOn result (Ok (play_job target name l)) new steps
   Counts-told (Ok p) (Ok line) alone few told text = (p.journal, set_holds old new name (Some (text_of p.journal)) text, few_alone l steps p.journal p.ends alone few)
@@ -114,7 +114,7 @@ alone_of f (Err fault.Memory) h = tt
 -- ## Before anything was played
 
 -- a step that was refused, or stopped by the outside, is no end at a limit
-pub Counts-stopped : {X Y : Type 0} (T : Type 0) (view : X → Y) (e : Stop) (told : Result Y Refusal) (asked : Result Job Refusal) (files : Files) (steps : List ℕ) → Meets view (Err e) told → CountsOn {X = T} (Err e) asked files steps
+pub Counts-stopped : {X Y : Type 0} (T : Type 0) (view : X → Y) (e : Stop) (told : Result Y Refusal) (asked : Result Job Refusal) (files : Files) (steps : List (ℕ × ℕ)) → Meets view (Err e) told → CountsOn {X = T} (Err e) asked files steps
 Counts-stopped T view (Refused refusal) told asked files steps is = tt
 Counts-stopped T view (Over over) told asked files steps is = absurd is
 Counts-stopped T view Store told asked files steps is = tt
@@ -123,7 +123,7 @@ Counts-stopped T view Memory told asked files steps is = tt
 -- ## By the status
 
 -- a work that is over leaves its count to the status
-pub Counts-ended : (T : Type 0) (e : Stop) (ending : Ending) (asked : Result Job Refusal) (files : Files) (steps : List ℕ) → e ≡ Over ending → CountsOn {X = T} (Err e) asked files steps → CountsSteps (ended_status ending) asked files steps
+pub Counts-ended : (T : Type 0) (e : Stop) (ending : Ending) (asked : Result Job Refusal) (files : Files) (steps : List (ℕ × ℕ)) → e ≡ Over ending → CountsOn {X = T} (Err e) asked files steps → CountsSteps (ended_status ending) asked files steps
 Counts-ended T e ending asked files steps is counts = by_ending ending (subst (λ (s : Stop). CountsOn {X = T} (Err s) asked files steps) is counts)
   where
     by_ending : (over : Ending) → CountsOn {X = T} (Err (Over over)) asked files steps → CountsSteps (ended_status over) asked files steps
@@ -131,7 +131,7 @@ Counts-ended T e ending asked files steps is counts = by_ending ending (subst (�
     by_ending (Judged refusal) counted = tt
 
 -- nothing is counted of what is refused
-pub Counts-refused : (refusal : Refusal) (asked : Result Job Refusal) (files : Files) (steps : List ℕ) → CountsSteps (status_of refusal) asked files steps
+pub Counts-refused : (refusal : Refusal) (asked : Result Job Refusal) (files : Files) (steps : List (ℕ × ℕ)) → CountsSteps (status_of refusal) asked files steps
 Counts-refused Usage asked files steps = tt
 Counts-refused (Script fault) asked files steps = tt
 Counts-refused (File fault) asked files steps = tt

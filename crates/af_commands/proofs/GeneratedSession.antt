@@ -161,7 +161,7 @@ module _ (old : Files) (number : ℕ) (script target : List ℕ) (free : is_draw
       (subst (λ (one : Loaded). Makes r (Ok (session_job target one)) read new) is made))
 
   -- the steps of what was played are those of what was asked for
-  steps_behind : (r : Result (String Global) Stop) (new : Files) (steps : List ℕ) → CountsOn r (Ok (session_job target loaded)) new steps → CountsOn r (Ok (generated_job number script target)) new steps
+  steps_behind : (r : Result (String Global) Stop) (new : Files) (steps : List (ℕ × ℕ)) → CountsOn r (Ok (session_job target loaded)) new steps → CountsOn r (Ok (generated_job number script target)) new steps
   steps_behind (Ok line) new steps counts = counts
   steps_behind (Err (Refused refusal)) new steps counts = tt
   steps_behind (Err (Over (Limit cycles))) new steps counts = counts
@@ -169,5 +169,5 @@ module _ (old : Files) (number : ℕ) (script target : List ℕ) (free : is_draw
   steps_behind (Err Store) new steps counts = tt
   steps_behind (Err Memory) new steps counts = tt
 
-  pub Counts-session : (r : Result (String Global) Stop) (l : Loaded) (new : Files) (steps : List ℕ) → session_of mid generated_script ≡ Ok l → CountsOn r (Ok (session_job target l)) new steps → CountsOn r (Ok (generated_job number script target)) new steps
+  pub Counts-session : (r : Result (String Global) Stop) (l : Loaded) (new : Files) (steps : List (ℕ × ℕ)) → session_of mid generated_script ≡ Ok l → CountsOn r (Ok (session_job target l)) new steps → CountsOn r (Ok (generated_job number script target)) new steps
   Counts-session r l new steps told counts = steps_behind r new steps (subst (λ (one : Loaded). CountsOn r (Ok (session_job target one)) new steps) (ap got (sym told ∙ told_here)) counts)

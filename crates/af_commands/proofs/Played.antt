@@ -64,7 +64,7 @@ leaves_turns l accepted target old new (inr (n, t, (rounds, rendered), left)) = 
 
 -- ## What a render answers
 
-module _ (l : Loaded) (accepted : IsScript l.script) (follows : OfTurnRuns HoldsAtMeetingsAlone) (target : List ℕ) (told : Type 0) (old new : Files) (steps : List ℕ) where
+module _ (l : Loaded) (accepted : IsScript l.script) (follows : OfTurnRuns HoldsAtMeetingsAlone) (target : List ℕ) (told : Type 0) (old new : Files) (steps : List (ℕ × ℕ)) where
   -- what a render into the target came to, by its journal
   abbrev Rendered : Outcome → Type 0
   Rendered o = (journal : JournalData) × ComesTo l.script l.files journal o.summary o.ends steps × (told → SetsFile old target (Some (journal_pcm l.script.frames journal)) new)

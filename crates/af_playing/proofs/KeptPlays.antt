@@ -58,7 +58,7 @@ module _ (script : ScriptData) (files : List (List Frame)) where
       }
 
   -- nothing is promised of the steps then
-  pub steps_none : (steps : List ℕ) (r : Result Played PlayFault) (f : PlayFault) → is_limit f ≡ false → IsErrAnd r (λ x. x ≡ f) → HandedBack (TookFew script.frames steps) r
+  pub steps_none : (steps : List (ℕ × ℕ)) (r : Result Played PlayFault) (f : PlayFault) → is_limit f ≡ false → IsErrAnd r (λ x. x ≡ f) → HandedBack (TookFew script.frames steps) r
   steps_none steps (Ok p) f calm is = absurd is
   steps_none steps (Err x) f calm is = off_limit {T = Played} (Err x) (TookFew script.frames steps) (ap is_limit is ∙ calm)
 
@@ -133,7 +133,7 @@ module _ (script : ScriptData) (files : List (List Frame)) (s : Stage) (r : Resu
   }
 
   -- the steps that the tally noted are handed back
-  pub steps_kept : (steps : List ℕ) → steps ≡ s.room.tally.steps → HandedBack (TookFew script.frames steps) r
+  pub steps_kept : (steps : List (ℕ × ℕ)) → steps ≡ s.room.tally.steps → HandedBack (TookFew script.frames steps) r
   steps_kept steps same = handed_on (TookFew script.frames steps) (steps_told script.frames noted t.fast.log t.normal.mutator.past.events s.room.tally j (ends_from t) steps have.noted.whole refl refl have.noted.tally same)
 
   pub keeps : IsScript script → ((journal : JournalData) → IsLegalRun script files journal → EachDrainedTrackReachedItsStop script files journal) → KeepsPlay script files r
@@ -205,7 +205,7 @@ module _ (script : ScriptData) (files : List (List Frame)) (played r : Result Pl
   keeps_on (inl same) keeps = subst (KeepsPlay script files) (sym same) keeps
   keeps_on (inr (p, is, memory)) keeps = keeps_none script files r fault.Memory refl memory
 
-  pub steps_on : (steps : List ℕ) → IsHandedOn played r → HandedBack (TookFew script.frames steps) played → HandedBack (TookFew script.frames steps) r
+  pub steps_on : (steps : List (ℕ × ℕ)) → IsHandedOn played r → HandedBack (TookFew script.frames steps) played → HandedBack (TookFew script.frames steps) r
   steps_on steps (inl same) few = subst (HandedBack (TookFew script.frames steps)) (sym same) few
   steps_on steps (inr (p, is, memory)) few = steps_none script files steps r fault.Memory refl memory
 

@@ -59,7 +59,7 @@ pub record TellsItsRun (script : ScriptData) (files : List (List Frame)) (journa
   pub kept : KeepsLists (run_of script files journal) ends
 
 -- these are the steps of the cycles of the journal, one after the other, and each took no more than it may
-abbrev pub TookFew : ℕ → List ℕ → JournalData → EndsState → Type 0
+abbrev pub TookFew : ℕ → List (ℕ × ℕ) → JournalData → EndsState → Type 0
 TookFew frames steps journal ends = AreFew (shown_by frames journal ends.normal.mutator.past.events) steps
 
 -- All that is promised of a play's answer: of one that is done, of one that was cut off, of the journal in both, and that a script with enough cycles is never cut off

@@ -170,10 +170,10 @@ is_told len noted log events clients t summary j ends whole journal same pushed 
     ∙ (λ i. summary_of (shown_by len (sym journal i) (sym pushed i)) (released_by (sym same i)))
 
 -- the steps that a tally noted are those of the journal's cycles
-pub steps_told : (len : ℕ) (noted : RoundsNoted) (log : Logged) (events : List (MutatorEvent ServerState)) (t : Tallied) (j : JournalData) (ends : EndsState) (steps : List ℕ) → IsWhole noted log → j ≡ journal_of noted log
+pub steps_told : (len : ℕ) (noted : RoundsNoted) (log : Logged) (events : List (MutatorEvent ServerState)) (t : Tallied) (j : JournalData) (ends : EndsState) (steps : List (ℕ × ℕ)) → IsWhole noted log → j ≡ journal_of noted log
     → ends.normal.mutator.past.events ≡ events → IsTally (shown_in len noted log events) t → steps ≡ t.steps → AreFew (shown_by len j ends.normal.mutator.past.events) steps
 steps_told len noted log events t j ends steps whole journal pushed is same =
-    subst (λ (ns : List ℕ). AreFew (shown_by len j ends.normal.mutator.past.events) ns) (sym same)
+    subst (AreFew (shown_by len j ends.normal.mutator.past.events)) (sym same)
     (subst (λ (run : Shown). AreFew run t.steps) (sym (shown_journal len noted log events whole) ∙ (λ i. shown_by len (sym journal i) (sym pushed i))) is.steps)
 
 -- a tally has as many tracks as rounds were noted of

@@ -85,7 +85,7 @@ pub record HandsBack (script : ScriptData) (files : List (List Frame)) (journal 
   pub count : length ends.clients ≡ length script.tracks
 
 -- What a render comes to, by its journal: the ends of the turn run, the summary of the journal with them, and the steps that its cycles took, each no more than it may. Each track on whose blocks nothing was poked was spared, by the looks of either mixer
-pub record ComesTo (script : ScriptData) (files : List (List Frame)) (journal : JournalData) (summary : Summary) (ends : EndsState) (steps : List ℕ) : Type 0 where
+pub record ComesTo (script : ScriptData) (files : List (List Frame)) (journal : JournalData) (summary : Summary) (ends : EndsState) (steps : List (ℕ × ℕ)) : Type 0 where
   pub back : HandsBack script files journal ends
   pub summary_is : summary ≡ summary_told script.frames journal ends
   pub few : AreFew (shown_by script.frames journal ends.normal.mutator.past.events) steps

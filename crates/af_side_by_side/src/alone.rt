@@ -1,10 +1,14 @@
 //! A turn of the fast mixer while the other parties make theirs.
-ghost use Rattle.std.specs.Prelude.{◌≡◌, ◌<◌, ℕ, List, length};
+ghost use Rattle.std.specs.Prelude.{◌≡◌, ◌-◌, ◌<◌, ◌≤◌, ℕ, List, false, length};
+ghost use Rattle.af_base.specs.Log.{entry_at};
+ghost use Rattle.af_model.specs.JournalForm.{is_spent};
 ghost use Rattle.af_side_by_side.specs.Alone.{CyclesOn, CyclesOnce, most_cycles};
 ghost use Rattle.af_side_by_side.specs.Logging.{HasLogged, IsScribe};
 ghost use Rattle.af_session.specs.Rooms.{CanCycle, HasAdded, HasNotedOn, HasRoom, KeepsRoom, KeepsSizes};
 ghost use Rattle.af_side_by_side.specs.TurnsInRoom.{FastLogged};
 ghost use Rattle.af_runs.specs.Pcm.{written};
+ghost use Rattle.af_tally.specs.Summaries.{Shown};
+ghost use Rattle.af_tally.specs.Tallies.{IsTally, Keeps};
 
 use crate::logging::Scribe;
 use af_base::{Cycle, Steps};
@@ -18,15 +22,15 @@ use std::sync::ledger::{Blank, Ledger};
 /// The most cycles of a turn.
 const MOST_CYCLES: u32 = 16;
 
-// One cycle, whose bytes are appended. No step was taken before it.
+// One cycle, whose bytes are appended, and whose steps are counted by themselves.
 fn cycle_once<L: Ledger>(
+    blank: Blank,
     fast: &mut FastMixer,
     links: &Links<'_>,
     room: &mut Room,
-    steps: &mut Steps<L>,
 ) -> Cycle
+    requires ledger { (blank.name ≡ L.name) × (blank.parts ≡ L.parts) × (0 < blank.parts) }
     requires can { CanCycle links.now fast.old }
-    requires first { steps.old ≡ 0 }
     requires room { HasRoom 1 fast.old room.old }
     ensures can { CanCycle links.now fast.new }
     ensures cycle { CyclesOnce links.now fast.old result (written result room.new.buffer.items) fast.new }
@@ -34,21 +38,46 @@ fn cycle_once<L: Ledger>(
     ensures noted { HasNotedOn fast.old fast.new room.old.tally room.new.tally }
     ensures kept { KeepsRoom room.old room.new }
 {
-    fast.adopt(links, steps);
-    mix_in(fast, links, room, steps)
+    let mut steps = Steps::<L>::start(blank);
+    fast.adopt(links, &mut steps);
+    mix_in(fast, links, room, &mut steps)
 }
 
-// One cycle, whose bytes are appended. Its entry is noted in the log, if one is kept. No step was taken before it.
-fn cycle_logged<L: Ledger>(
+// Notes the entry that the mixer added last, if a log is kept. The steps of the note are counted by themselves, and noted in the tally.
+fn note_in<L: Ledger>(
+    blank: Blank,
+    fast: &FastMixer,
+    frames: u32,
+    room: &mut Room,
+    log: &Option<Block>,
+    scribe: &mut Scribe,
+)
+    requires ledger { (blank.name ≡ L.name) × (blank.parts ≡ L.parts) × (0 < blank.parts) }
+    requires some { 0 < length fast.now.log.entries }
+    requires few { length fast.now.log.entries ≤ 100000 }
+    requires kept { is_spent (entry_at fast.now.log.entries (length fast.now.log.entries - 1)).cycle ≡ false }
+    requires frames { frames ≡ fast.now.frames }
+    requires scribe { IsScribe log.now (length fast.now.log.entries - 1) scribe.old }
+    ensures scribe { IsScribe log.now (length fast.now.log.entries) scribe.new }
+    ensures logged { HasLogged (length fast.now.log.entries - 1) fast.now scribe.old scribe.new }
+    ensures tally { (run : Shown) → IsTally run room.old.tally → IsTally run room.new.tally }
+    ensures keeps { Keeps 0 0 room.old.tally room.new.tally }
+    ensures room { room.new ≡ record room.old { tally = room.new.tally } }
+{
+    let mut steps = Steps::<L>::start(blank);
+    scribe.note_last(log, fast, frames, &mut steps);
+    room.tally.note_noted(&steps);
+}
+
+// One cycle, whose bytes are appended. Its entry is noted in the log, if one is kept.
+fn cycle_logged(
     fast: &mut FastMixer,
     links: &Links<'_>,
     room: &mut Room,
     log: &Option<Block>,
     scribe: &mut Scribe,
-    steps: &mut Steps<L>,
 ) -> Cycle
     requires can { CanCycle links.now fast.old }
-    requires first { steps.old ≡ 0 }
     requires room { HasRoom 1 fast.old room.old }
     requires log { IsScribe log.now (length fast.old.log.entries) scribe.old }
     ensures can { CanCycle links.now fast.new }
@@ -61,36 +90,11 @@ fn cycle_logged<L: Ledger>(
 {
     let entries = fast.log().len();
     let frames = room.buffer.len() as u32;
-    let cycle = cycle_once(fast, links, room, steps);
+    let cycle = cycle_once::<Brand>(Blank::new(1), fast, links, room);
     if fast.log().len() > entries {
-        scribe.note_last(log, fast, frames, steps);
+        note_in::<Brand>(Blank::new(1), fast, frames, room, log, scribe);
     }
     cycle
-}
-
-// One cycle, whose bytes are appended, and whose steps are counted by themselves. Its entry is noted in the log, if one is kept.
-fn cycle_in<L: Ledger>(
-    blank: Blank,
-    fast: &mut FastMixer,
-    links: &Links<'_>,
-    room: &mut Room,
-    log: &Option<Block>,
-    scribe: &mut Scribe,
-) -> Cycle
-    requires ledger { (blank.name ≡ L.name) × (blank.parts ≡ L.parts) × (0 < blank.parts) }
-    requires can { CanCycle links.now fast.old }
-    requires room { HasRoom 1 fast.old room.old }
-    requires log { IsScribe log.now (length fast.old.log.entries) scribe.old }
-    ensures can { CanCycle links.now fast.new }
-    ensures cycle { CyclesOnce links.now fast.old result (written result room.new.buffer.items) fast.new }
-    ensures bytes { HasAdded room.old (written result room.new.buffer.items) room.new }
-    ensures noted { HasNotedOn fast.old fast.new room.old.tally room.new.tally }
-    ensures kept { KeepsRoom room.old room.new }
-    ensures scribe { IsScribe log.now (length fast.new.log.entries) scribe.new }
-    ensures logged { HasLogged (length fast.old.log.entries) fast.new scribe.old scribe.new }
-{
-    let mut steps = Steps::<L>::start(blank);
-    cycle_logged(fast, links, room, log, scribe, &mut steps)
 }
 
 // Up to sixteen cycles. The first that mixes nothing is the last.
@@ -113,8 +117,7 @@ fn cycles_on(
     ensures logged { HasLogged (length fast.old.log.entries) fast.new scribe.old scribe.new }
 {
     for i in 0..MOST_CYCLES {
-        let blank = Blank::new(1);
-        let cycle = cycle_in::<Brand>(blank, fast, links, room, log, scribe);
+        let cycle = cycle_logged(fast, links, room, log, scribe);
         if !is_mixed(cycle) {
             return;
         }

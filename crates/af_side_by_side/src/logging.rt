@@ -3,6 +3,7 @@ ghost use Rattle.std.specs.Prelude.{◌≡◌, ◌+◌, ◌-◌, ◌<◌, ◌≤
 ghost use Rattle.af_base.specs.Log.{entry_at};
 ghost use Rattle.af_model.specs.JournalForm.{is_spent};
 ghost use Rattle.af_model.specs.Journals.{JournalData};
+ghost use Rattle.af_tally.specs.Steps.{most_note};
 ghost use Rattle.af_side_by_side.specs.Logging.{AppendsLog, AreEnds, BeginsLog, HasAudited, HasLogged, HasLogOf, HasMetLog, HasReadAll, IsAuditor, IsScribe};
 
 use af_base::{Items, Memory, Steps};
@@ -152,7 +153,7 @@ impl Scribe {
         }
     }
 
-    /// Notes the entry that the mixer added last, if a log is kept.
+    /// Notes the entry that the mixer added last, if a log is kept, in ten steps at most.
     pub(crate) fn note_last<L: Ledger>(
         &mut self,
         log: &Option<Block>,
@@ -167,6 +168,7 @@ impl Scribe {
         requires scribe { IsScribe log.now (length fast.now.log.entries - 1) self.old }
         ensures scribe { IsScribe log.now (length fast.now.log.entries) self.new }
         ensures logged { HasLogged (length fast.now.log.entries - 1) fast.now self.old self.new }
+        ensures steps { steps.new ≤ steps.old + most_note }
     {
         let Some(block) = log else {
             return;

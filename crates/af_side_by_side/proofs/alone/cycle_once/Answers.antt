@@ -22,7 +22,7 @@ mix_in-requires g c =
     let fits = c.requires.room.bytes in
     record {
       can = record { linked = c.adopt.ensures.linked; order = c.adopt.ensures.order [] c.requires.can.order; polled = polled.3; whole = subst IsWhole (sym polled.0) c.requires.can.whole };
-      poll = omega (arith, c.adopt.ensures.steps, c.requires.first);
+      poll = omega (arith, c.adopt.ensures.steps, c.start-steps.ensures);
       room = record {
         buffer = c.requires.room.buffer ∙ sym polled.1;
         bytes = omega (arith, polled.1, fits);

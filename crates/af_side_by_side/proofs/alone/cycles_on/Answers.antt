@@ -34,11 +34,11 @@ loop-i-init c =
 
 -- ## A cycle
 
-pub cycle_in-cycle-requires-clause-can : goal.cycle_in-cycle-requires-clause-can
-cycle_in-cycle-requires-clause-can c = c.loop-i.invariant.can
+pub cycle_logged-cycle-requires-clause-can : goal.cycle_logged-cycle-requires-clause-can
+cycle_logged-cycle-requires-clause-can c = c.loop-i.invariant.can
 
-pub cycle_in-cycle-requires-clause-room : goal.cycle_in-cycle-requires-clause-room
-cycle_in-cycle-requires-clause-room c =
+pub cycle_logged-cycle-requires-clause-room : goal.cycle_logged-cycle-requires-clause-room
+cycle_logged-cycle-requires-clause-room c =
     let inv = c.loop-i.invariant in
     let held = c.requires.room.places in
     let few : c.loop-i.i < 16 = omega (arith, c.loop-i-test.true) in
@@ -48,12 +48,12 @@ cycle_in-cycle-requires-clause-room c =
       places = (held.0, held.1, held.2, inv.noted.places held.0 held.1 held.3);
     }
 
-pub cycle_in-cycle-requires-clause-log : goal.cycle_in-cycle-requires-clause-log
-cycle_in-cycle-requires-clause-log c = c.loop-i.invariant.scribe
+pub cycle_logged-cycle-requires-clause-log : goal.cycle_logged-cycle-requires-clause-log
+cycle_logged-cycle-requires-clause-log c = c.loop-i.invariant.scribe
 
 pub loop-i-preserved : goal.loop-i-preserved
 loop-i-preserved c =
-    let call = c.cycle_in-cycle in
+    let call = c.cycle_logged-cycle in
     let more : List ℕ = written call.result call.new.room.buffer.items in
     let inv = c.loop-i.invariant in
     let so_far = inv.turn in
@@ -82,7 +82,7 @@ loop-i-preserved c =
 
 pub returns-then-not-is_mixed : goal.returns-then-not-is_mixed
 returns-then-not-is_mixed c =
-    let call = c.cycle_in-cycle in
+    let call = c.cycle_logged-cycle in
     let more : List ℕ = written call.result call.new.room.buffer.items in
     let inv = c.loop-i.invariant in
     let so_far = inv.turn in

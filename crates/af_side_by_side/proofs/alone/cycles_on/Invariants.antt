@@ -16,6 +16,3 @@ invariant-loop-i l = record {
   scribe : IsScribe l.log (length l.fast.log.entries) l.scribe;
   logged : HasLogged (length l.initial.fast.log.entries) l.fast l.initial.scribe l.scribe;
 }
-
-abbrev pub ghosts-cycle_in : goal.ghosts-cycle_in
-ghosts-cycle_in a = record { name = a.blank.name; parts = a.blank.parts }

@@ -1,11 +1,14 @@
-use Rattle.std.proofs.Common.{◌≡◌, ◌-◌, ◌++◌, ℕ, Some, List, length, refl, sym, ap, subst, ◌∙◌, arith, rules}
+use Rattle.std.proofs.Common.{◌≡◌, ◌-◌, ◌≤◌, ◌++◌, ℕ, Some, List, length, refl, sym, ap, subst, ◌∙◌, arith, rules}
 use Rattle.af_base.specs.declared.log.CycleEntry.{CycleEntry}
 use Rattle.af_base.specs.Log.{Logged, entry_at}
 use Rattle.af_fast.specs.Mixer.{MixerState}
 use Rattle.af_nblog.specs.declared.entries.Note.{Note}
 use Rattle.af_nblog.specs.Notes.{note_of}
-use Rattle.af_nblog.specs.NoteEnds.{NotedBy, WriterState, accepted, kept, writer_made}
+use Rattle.af_nblog.specs.declared.writing.Noted.{Noted}
+use Rattle.af_nblog.specs.declared.writing.Noted.TheVariants.{Sent, Refused}
+use Rattle.af_nblog.specs.NoteEnds.{NotedBy, WriterState, accepted, kept, note_steps, writer_made}
 use Rattle.af_side_by_side.specs.Logging.{HasLogged, ScribeState}
+use Rattle.af_tally.specs.Steps.{most_note}
 use Rattle.af_side_by_side.proofs.LogNotes.{at_last, logged_one}
 use Rattle.af_side_by_side.proofs.logging.Scribe.note_last.Goals as goal
 
@@ -29,3 +32,11 @@ returns-clause-logged g c =
     subst (λ (s : ScribeState). HasLogged first m s next) c.self.view_is
     (subst (λ o. HasLogged first m (record { end = o }) next) (sym c.in-Some-end.is)
     (w', refl, logged_one c.note.result first m w w' (entry_at es first) (at_last es first (omega arith)) (omega arith) by notes c.note.ensures.refused (c.note.ensures.made ∙ sym old)))
+
+-- a note takes ten steps at most
+few : (noted : Noted) → note_steps noted ≤ most_note
+few Sent = omega arith
+few (Refused sent known) = omega arith
+
+pub returns-clause-steps : goal.returns-clause-steps
+returns-clause-steps g c = let le = few c.note.result in omega (arith, c.note.ensures.steps)
