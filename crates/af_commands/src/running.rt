@@ -169,7 +169,7 @@ pub fn run<R: Threads + Sync, S: Store, O: Sink, G: Gate>(
     // If no count of faults rises, the answer is what is asked for: Done if the words fit and script and files are accepted. Memory may run out, and a play may be cut off at the limit of its script, but never if the script has enough cycles by the rule of docs/FORMATS.md.
     ensures complete { S.told store.old → (Rose (S.faults store.old) (S.faults store.new) → ⊥) → (Rose (O.faults out.old) (O.faults out.new) → ⊥)
         → EndsAsAsked result (asked_of (S.files store.old) (map string_bytes words.now)) }
-    // Each cycle of a render, of a play and of a trace that was done, or cut off at its limit, took at most (m + 1) * F + 7 * m + 6 word steps, with F frames and m tracks in the state that it used.
+    // Each cycle of a render, of a play and of a trace that was done, or cut off at its limit, took at most (m + 1) * F + 7 * m + 6 word steps, with F frames and m tracks in the state that it used, and its note in a log at most ten more.
     ensures steps { S.told store.old → CountsSteps result (asked_of (S.files store.old) (map string_bytes words.now)) (S.files store.new) steps.new.items }
 {
     match work(rt, alloc, words, store, out, gate, steps) {

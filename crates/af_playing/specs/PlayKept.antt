@@ -58,7 +58,7 @@ pub record TellsItsRun (script : ScriptData) (files : List (List Frame)) (journa
   pub spared : PokesSpareOthers (shown_by script.frames journal ends.normal.mutator.past.events)
   pub kept : KeepsLists (run_of script files journal) ends
 
--- these are the steps of the cycles of the journal, one after the other, and each took no more than it may
+-- these are the steps of the cycles of the journal, one after the other, each with those of its note, and none took more than it may
 abbrev pub TookFew : ℕ → List (ℕ × ℕ) → JournalData → EndsState → Type 0
 TookFew frames steps journal ends = AreFew (shown_by frames journal ends.normal.mutator.past.events) steps
 
