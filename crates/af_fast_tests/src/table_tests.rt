@@ -6,9 +6,10 @@ ghost use Rattle.af_link.specs.PipeEnds.{in_made};
 ghost use Rattle.af_fast_tests.specs.Ready.{AreClientsOf, AreLines, AreWaiting, IsLine, IsTable};
 
 use crate::tests::{
-    BEFORE, Ends, FRAMES, Pushing, Turned, attach, begin, detach, log_is, push_command, turn,
+    BEFORE, Ends, FRAMES, Pushing, Turned, attach, begin, detach, forget, log_is, push_command,
+    turn,
 };
-use af_base::{Command, Cycle, CycleEntry, FastLog, Frame, Memory, Push, SLOTS, Steps};
+use af_base::{Command, Cycle, CycleEntry, FastLog, Frame, Memory, Push, SLOTS, SlotReport, Steps};
 use af_cblk::Block;
 use af_client::{Client, Wrote};
 use af_link::{Links, PipeIn};
@@ -87,6 +88,10 @@ pub(crate) enum Step {
     Put {
         word: u32,
         count: usize,
+    },
+    /// Forgets a log that has so many entries.
+    Forget {
+        most: usize,
     },
     Cycle,
     Meet,
@@ -322,6 +327,10 @@ impl Table {
                 put_some(&mut self.ends.pipe, links, &frames[..count.min(8)], steps);
                 Told::Done
             }
+            Step::Forget { most } => {
+                forget(&mut self.ends, links, most);
+                Told::Done
+            }
             Step::Cycle => Told::Turned {
                 turned: turn(&mut self.ends, links, steps),
             },
@@ -425,6 +434,7 @@ fn plays_in<L: Ledger>(
     };
     let told = play_all(&mut table, &links, rows, entries, frames, &mut steps);
     drop(table);
+    drop(shared);
     Ok(told)
 }
 
