@@ -5,6 +5,7 @@ use af_base::{Memory, Steps};
 use af_latest::{Latest, Reader, Writer, latest, meet_latest};
 use std::alloc::Global;
 use std::marker::Brand;
+use std::mem::drop;
 use std::sync::ledger::{Blank, Ledger};
 use std::test::Fail;
 use std::thread;
@@ -23,6 +24,9 @@ fn loads_in_turn<L: Ledger>(alloc: Global, blank: Blank) -> Result<[u32; 4], Mem
     writer.store(&cell, &3, &mut steps);
     meet_latest(&cell, &mut writer, &mut reader, &mut steps);
     let last = reader.load(&cell, &mut steps);
+    drop(reader);
+    drop(writer);
+    drop(cell);
     Ok([first, second, third, last])
 }
 
@@ -47,6 +51,7 @@ fn store_all(cell: &Latest<u64>, mut writer: Writer<u64>)
     requires together { writer.cell ≡ cell.now }
 {
     store_by::<Brand>(cell, &mut writer, Blank::new(1));
+    drop(writer);
 }
 
 // Whether a number was loaded that is below the one before.
@@ -73,7 +78,9 @@ fn load_by<L: Ledger>(cell: &Latest<u64>, reader: &mut Reader<u64>, blank: Blank
 fn load_all(cell: &Latest<u64>, mut reader: Reader<u64>) -> bool
     requires together { reader.cell ≡ cell.now }
 {
-    load_by::<Brand>(cell, &mut reader, Blank::new(1))
+    let falls = load_by::<Brand>(cell, &mut reader, Blank::new(1));
+    drop(reader);
+    falls
 }
 
 #[test]

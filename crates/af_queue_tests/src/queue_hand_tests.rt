@@ -163,8 +163,15 @@ fn are_alike<L: Ledger>(
     requires parts { (blank.parts ≡ L.parts) × (0 < blank.parts) }
 {
     let mut steps = Steps::<L>::start(blank);
-    let mut plain = PlainQueue::new(alloc, 4)?;
-    let answers = plain.answer_each(alloc, calls_of(alloc, list)?)?;
+    let calls = calls_of(alloc, list)?;
+    let Ok(mut plain) = PlainQueue::new(alloc, 4) else {
+        drop(calls);
+        return Err(Memory);
+    };
+    let Ok(answers) = plain.answer_each(alloc, calls) else {
+        drop(plain);
+        return Err(Memory);
+    };
     let ends = new_ends_answer(alloc, list, &answers, &plain, &mut steps) == Ok(true);
     let start = start_answers(alloc, list, &answers, &mut steps) == Ok(true);
     let right = stand_at(&answers, wants);

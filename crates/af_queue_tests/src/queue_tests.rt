@@ -103,10 +103,14 @@ fn squashes<L: Ledger>(alloc: Global, blank: Blank) -> Result<bool, Memory>
         seen: 0,
         expected: 1,
     };
+    let last = mask_of(observer.current());
+    drop(observer);
+    drop(mutator);
+    drop(line);
     let pushes = [first, second, third]
         == [Push::Pushed { number: 1 }, busy, Push::Pushed { number: 2 }];
     let polls = [seen, next] == [Poll::New { number: 1 }, Poll::New { number: 2 }];
-    Ok(pushes && polls && mask == 3 && mask_of(observer.current()) == 15)
+    Ok(pushes && polls && mask == 3 && last == 15)
 }
 
 #[test]
