@@ -1,5 +1,5 @@
 //! One driver for the tests by calls: a table of steps, with what each of them answers.
-ghost use Rattle.std.specs.Prelude.{◌≡◌, ◌+◌, ◌<◌, ◌≤◌, ◌^◌, IfOk, IfSome, length, false};
+ghost use Rattle.std.specs.Prelude.{◌≡◌, ◌+◌, ◌<◌, ◌≤◌, ◌^◌, IfOk, IfSome, OnOk, length, false, []};
 ghost use Rattle.af_client.specs.Order.{IsClientOf};
 ghost use Rattle.af_link.specs.Names.{IsStreamOf};
 ghost use Rattle.af_link.specs.PipeEnds.{in_made};
@@ -393,19 +393,40 @@ pub(crate) fn line(alloc: Global, size: Size) -> Result<(Block, Client, Server),
 // The blocks of some sizes, their clients and their servers.
 type Lines = (Vec<Block>, Vec<Client>, Vec<Option<Server>>);
 
-fn lines(alloc: Global, sizes: &[Size]) -> Result<Lines, Memory>
-    ensures { IfOk result (λ r. AreLines r.0.items r.1.items r.2.items) }
+// Adds blocks of these sizes to empty lists, with their clients and servers.
+fn add_lines(
+    alloc: Global,
+    sizes: &[Size],
+    streams: &mut Vec<Block>,
+    clients: &mut Vec<Client>,
+    servers: &mut Vec<Option<Server>>,
+) -> Result<(), Memory>
+    requires { (streams.old.items ≡ []) × (clients.old.items ≡ []) × (servers.old.items ≡ []) }
+    ensures { OnOk result (AreLines streams.new.items clients.new.items servers.new.items) }
 {
-    let mut streams = Vec::new(alloc);
-    let mut clients = Vec::new(alloc);
-    let mut servers = Vec::new(alloc);
     for size in sizes {
         let (block, client, server) = line(alloc, *size)?;
         streams.push(block)?;
         clients.push(client)?;
         servers.push(Some(server))?;
     }
-    Ok((streams, clients, servers))
+    Ok(())
+}
+
+fn lines(alloc: Global, sizes: &[Size]) -> Result<Lines, Memory>
+    ensures { IfOk result (λ r. AreLines r.0.items r.1.items r.2.items) }
+{
+    let mut streams = Vec::new(alloc);
+    let mut clients = Vec::new(alloc);
+    let mut servers = Vec::new(alloc);
+    let added = add_lines(alloc, sizes, &mut streams, &mut clients, &mut servers);
+    if added.is_ok() {
+        return Ok((streams, clients, servers));
+    }
+    drop(servers);
+    drop(clients);
+    drop(streams);
+    Err(Memory)
 }
 
 // Makes the steps of a table over new blocks of these sizes.

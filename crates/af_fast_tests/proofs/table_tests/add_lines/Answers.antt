@@ -4,7 +4,7 @@ use Rattle.af_client.specs.Order.{ClientState}
 use Rattle.af_server.specs.Order.{ServerState}
 use Rattle.af_fast_tests.specs.Ready.{AreLines}
 use Rattle.af_fast_tests.proofs.Waiting.{lines_more}
-use Rattle.af_fast_tests.proofs.table_tests.lines.Goals as goal
+use Rattle.af_fast_tests.proofs.table_tests.add_lines.Goals as goal
 
 pub loop-size-preserved : goal.loop-size-preserved
 loop-size-preserved c =
