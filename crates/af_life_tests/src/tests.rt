@@ -79,11 +79,14 @@ const WALKS: [(u32, bool, &[LifeState; 10]); 16] = [
     (7, false, &STATES),
 ];
 
-#[test]
-fn every_command_at_every_state(rt: HostRuntime) {
-    for (code, member, wants) in &WALKS {
-        assert!(rt; goes_to(*code, *member, wants), "{code} {member}");
+// How many of these are so, up to the first that isn't.
+fn every_command_at_every_state() -> usize {
+    for (i, (code, member, wants)) in WALKS.iter().enumerate() {
+        if !goes_to(*code, *member, wants) {
+            return i;
+        }
     }
+    WALKS.len()
 }
 
 fn play(member: bool, drained: bool, retries: u32, stop_at: u64, state: LifeState) -> Life {
@@ -159,13 +162,14 @@ const REPORTS: [(LifeState, bool, Known, LifeState, bool); 12] = [
     (Absent, true, IDLE, Absent, true),
 ];
 
-#[test]
-fn each_row_of_a_report(rt: HostRuntime) {
+fn each_row_of_a_report() -> usize {
     for (i, (state, member, known, want, stays)) in REPORTS.iter().enumerate() {
         let (after, told) = life_in(*state, *member, false).on_report(*known);
-        let right = after.state == *want && after.member == *stays && !told && !after.ended;
-        assert!(rt; right, "row {i}");
+        if after.state != *want || after.member != *stays || told || after.ended {
+            return i;
+        }
     }
+    REPORTS.len()
 }
 
 const SHUT: Known = Known {
@@ -176,14 +180,16 @@ const SHUT: Known = Known {
     shut: true,
 };
 
-#[test]
-fn shut_and_ended_lives_leave(rt: HostRuntime) {
+fn shut_and_ended_lives_leave() -> usize {
     for (i, state) in STATES.iter().enumerate() {
         let gone = life_in(*state, false, true);
-        let shut = life_in(*state, true, false).on_report(SHUT) == (gone, false);
-        let ended = life_in(*state, true, true).on_report(known!(9, 0, 0, 1)) == (gone, false);
-        assert!(rt; shut && ended, "state {i}");
+        let shut = life_in(*state, true, false).on_report(SHUT);
+        let ended = life_in(*state, true, true).on_report(known!(9, 0, 0, 1));
+        if shut != (gone, false) || ended != (gone, false) {
+            return i;
+        }
     }
+    STATES.len()
 }
 
 // Retries before; full, partial and empty looks; then retries, member, and whether the track is to be disabled.
@@ -197,13 +203,14 @@ const RETRIES: [(u32, Known, u32, bool, bool); 7] = [
     (0, known!(0, 0, 0, 0), 0, true, false),
 ];
 
-#[test]
-fn retries_of_a_playing_member(rt: HostRuntime) {
+fn retries_of_a_playing_member() -> usize {
     for (i, (before, known, retries, member, told)) in RETRIES.iter().enumerate() {
         let after = play(*member, false, *retries, 0, Active);
-        let found = play(true, false, *before, 0, Active).on_report(*known);
-        assert!(rt; found == (after, *told), "row {i}");
+        if play(true, false, *before, 0, Active).on_report(*known) != (after, *told) {
+            return i;
+        }
     }
+    RETRIES.len()
 }
 
 // A status word has 24 bits for the commands settled: their count begins anew where these are full.
@@ -215,11 +222,26 @@ const WORDS: [(u64, u32); 5] = [
     (0x0100_0001, 0x100),
 ];
 
-#[test]
-fn a_status_word_begins_its_count_anew(rt: HostRuntime) {
-    for (settled, word) in &WORDS {
+fn a_status_word_begins_its_count_anew() -> usize {
+    for (i, (settled, word)) in WORDS.iter().enumerate() {
         let mut track = new_track();
         track.settled = *settled;
-        assert!(rt; track.status_word(false) == *word, "{settled}");
+        if track.status_word(false) != *word {
+            return i;
+        }
     }
+    WORDS.len()
+}
+
+// How many rows of each table are so: walks, reports, states, retries and words.
+#[test]
+fn all_rows_are_so(rt: HostRuntime) {
+    let found = [
+        every_command_at_every_state(),
+        each_row_of_a_report(),
+        shut_and_ended_lives_leave(),
+        retries_of_a_playing_member(),
+        a_status_word_begins_its_count_anew(),
+    ];
+    assert!(rt; found == [16, 12, 10, 7, 5], "{found:?}");
 }
