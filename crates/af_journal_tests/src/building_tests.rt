@@ -111,9 +111,8 @@ fn texts_are_read_and_come_back(rt: HostRuntime) -> Result<(), Fail> {
     let whole = lines_written(rt.alloc(), &script);
     let texts = texts_read(rt.alloc(), &script);
     drop(script);
-    assert!(rt; fronts == FRONTS.len(), "front {fronts}");
-    assert!(rt; whole == WHOLE.len(), "count {whole}");
-    assert!(rt; texts == TEXTS.len(), "text {texts}");
+    let all = (FRONTS.len(), WHOLE.len(), TEXTS.len());
+    assert!(rt; (fronts, whole, texts) == all, "{fronts} {whole} {texts}");
     Ok(())
 }
 

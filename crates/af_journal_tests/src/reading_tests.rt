@@ -192,8 +192,10 @@ fn each_damaged_line_is_found(rt: HostRuntime) -> Result<(), Fail> {
     let fronts = fronts_read(rt.alloc(), &script);
     let others = others_refused(&script);
     drop(script);
-    assert!(rt; damages == DAMAGES.len(), "damage {damages}");
-    assert!(rt; fronts == FRONTS.len(), "front {fronts}");
-    assert!(rt; others == OTHERS.len(), "text {others}");
+    let all = (DAMAGES.len(), FRONTS.len(), OTHERS.len());
+    assert!(rt;
+        (damages, fronts, others) == all,
+        "{damages} {fronts} {others}"
+    );
     Ok(())
 }

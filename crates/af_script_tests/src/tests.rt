@@ -194,24 +194,32 @@ fn is_told_with_many(
     is_told_with(alloc, from, text.as_str(), line)
 }
 
-#[test]
-fn each_fault(rt: HostRuntime) -> Result<(), Fail> {
-    for (from, to, line) in &CHANGES {
-        assert!(rt; is_told_with(rt.alloc(), from, to, line)?, "{from} to {to}");
+/// How many changes are read as they should, up to the first that isn't.
+fn changes_told(alloc: Global) -> Result<usize, Fail> {
+    for (i, (from, to, line)) in CHANGES.iter().enumerate() {
+        if !is_told_with(alloc, from, to, line)? {
+            return Ok(i);
+        }
     }
-    for (track, line) in &NO_TABLES {
-        assert!(rt; is_told_with(rt.alloc(), TRACK, track, line)?, "{track}");
-    }
-    Ok(())
+    Ok(CHANGES.len())
 }
 
-#[test]
-fn the_first_of_two_faults(rt: HostRuntime) -> Result<(), Fail> {
-    for pair in &PAIRS {
-        let (_, to, _, other_to, _) = pair;
-        assert!(rt; is_told_with_two(rt.alloc(), pair)?, "{to} and {other_to}");
+fn no_tables_told(alloc: Global) -> Result<usize, Fail> {
+    for (i, (track, line)) in NO_TABLES.iter().enumerate() {
+        if !is_told_with(alloc, TRACK, track, line)? {
+            return Ok(i);
+        }
     }
-    Ok(())
+    Ok(NO_TABLES.len())
+}
+
+fn pairs_told(alloc: Global) -> Result<usize, Fail> {
+    for (i, pair) in PAIRS.iter().enumerate() {
+        if !is_told_with_two(alloc, pair)? {
+            return Ok(i);
+        }
+    }
+    Ok(PAIRS.len())
 }
 
 /// What stands in the place of a part, what stands there so many times, what stands behind it, and what is read then.
@@ -220,12 +228,25 @@ const LISTS: [(&str, &str, usize, &str, &str); 2] = [
     ("'n', ", "'n', ", 99999, "", "limit turns 100001"),
 ];
 
-#[test]
-fn the_limits_of_lists(rt: HostRuntime) -> Result<(), Fail> {
-    for (from, part, times, end, line) in &LISTS {
-        let is_so = is_told_with_many(rt.alloc(), from, part, *times, end, line)?;
-        assert!(rt; is_so, "{line}");
+fn lists_told(alloc: Global) -> Result<usize, Fail> {
+    for (i, (from, part, times, end, line)) in LISTS.iter().enumerate() {
+        if !is_told_with_many(alloc, from, part, *times, end, line)? {
+            return Ok(i);
+        }
     }
+    Ok(LISTS.len())
+}
+
+/// How many rows of each table are read as they should: single changes, tracks that are no tables, two changes, and lists at their limits.
+#[test]
+fn each_fault(rt: HostRuntime) -> Result<(), Fail> {
+    let found = [
+        changes_told(rt.alloc())?,
+        no_tables_told(rt.alloc())?,
+        pairs_told(rt.alloc())?,
+        lists_told(rt.alloc())?,
+    ];
+    assert!(rt; found == [45, 3, 13, 2], "{found:?}");
     Ok(())
 }
 

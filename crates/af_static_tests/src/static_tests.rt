@@ -302,9 +302,11 @@ fn both_ends_in_one_hand(rt: HostRuntime) -> Result<(), Fail> {
     let mut hand = InHand::make(rt.alloc(), &frames)?;
     let mut out = [SILENCE; 2];
     let first = hand.play(Gains::clamped(0x1000_1000), &mut out);
-    assert!(rt; out == [frames[0], frames[1]]);
-    assert!(rt; hand.set(1, 0, 0) == 1);
+    let before = out;
+    let number = hand.set(1, 0, 0);
     let second = hand.play(Gains::clamped(0x1000_1000), &mut out);
+    drop(hand);
+    assert!(rt; before == [frames[0], frames[1]] && number == 1);
     assert!(rt; out == [frames[1], frames[2]]);
     assert!(rt; first.number == 0 && first.filled == 2 && first.shut == None);
     assert!(rt; second.number == 1 && second.filled == 2 && second.shut == None);
