@@ -1,13 +1,15 @@
 //! The calls of both proxies of a block, as the tests' tables name them.
-ghost use Rattle.std.specs.Prelude.{◌≡◌, ◌≤◌};
+ghost use Rattle.std.specs.Prelude.{◌≡◌, ◌≤◌, IfOk};
+ghost use Rattle.af_cblk.specs.Rule.{new_client, new_server};
 ghost use Rattle.af_cblk.specs.Sides.{client_made, server_made};
 ghost use Rattle.af_client.specs.Order.{IsClientOf};
 ghost use Rattle.af_server.specs.Order.{IsServerOf};
 
-use af_base::{Frame, Seen, Steps};
-use af_cblk::Block;
+use af_base::{Frame, Memory, Seen, Steps};
+use af_cblk::{Block, ClientPass, ServerPass};
 use af_client::{Client, Sent, Wrote};
 use af_server::{Look, Server};
+use std::alloc::Global;
 use std::sync::ledger::Ledger;
 
 // The most frames, commands and flushes of a test.
@@ -44,6 +46,23 @@ pub(crate) enum Answer {
     Done,
     // The call isn't one of this proxy, or not for this block.
     NotMade,
+}
+
+// A new block, whose flushes may carry their position.
+pub(crate) fn new_block(
+    alloc: Global,
+    frames: u32,
+    base: u32,
+    positional: bool,
+) -> Result<(Block, ClientPass, ServerPass), Memory>
+    requires { (1 ≤ frames) × (frames ≤ 8192) }
+    ensures made { IfOk result (λ r. (client_made r.1 ≡ r.0) × (server_made r.2 ≡ r.0)) }
+    ensures new { IfOk result (λ r. (r.1.part ≡ new_client r.0.shape) × (r.2.part ≡ new_server r.0.shape)) }
+{
+    if positional {
+        return Block::make_positional(alloc, frames, base);
+    }
+    Block::make(alloc, frames, base)
 }
 
 // The frame of a number.

@@ -1,6 +1,6 @@
 //! What a call's answer says that its proxy saw and did, and whether the answer has its cause.
 use crate::calls::{Answer, Call};
-use af_base::{ClientEvent, INVALID, Memory, Seen, ServerEvent};
+use af_base::{ClientEvent, INVALID, Seen, ServerEvent};
 use af_client::{Sent, Wrote};
 use af_server::Look;
 
@@ -21,39 +21,38 @@ pub(crate) fn position_of(base: u32, count: u64) -> u32 {
     base.wrapping_add((count % 0x1_0000_0000) as u32)
 }
 
-// Adds events to a list.
-pub(crate) fn note<E: Copy>(list: &mut Vec<E>, events: &[E]) -> Result<(), Memory> {
-    if list.extend_from_slice(events).is_err() {
-        return Err(Memory);
-    }
-    Ok(())
+// Adds events to a list, if there is memory for them.
+pub(crate) fn note<E: Copy>(list: &mut Vec<E>, events: &[E]) -> bool {
+    list.extend_from_slice(events).is_ok()
 }
 
 // ## The client
 
 // Flags without INVALID, and this front, were seen, and so many frames released.
-fn note_open(list: &mut Vec<ClientEvent>, front: u32, count: u32) -> Result<(), Memory> {
+fn note_open(list: &mut Vec<ClientEvent>, front: u32, count: u32) -> bool {
     let saw = ClientEvent::SawFlags { flags: 0 };
-    note(list, &[saw, ClientEvent::SawFront { front }])?;
-    if count == 0 {
-        return Ok(());
-    }
-    note(list, &[ClientEvent::Release { count }])
+    let released = [
+        saw,
+        ClientEvent::SawFront { front },
+        ClientEvent::Release { count },
+    ];
+    let shown = if count == 0 { 2 } else { 3 };
+    note(list, &released[..shown])
 }
 
-fn note_dead(list: &mut Vec<ClientEvent>, flags: u32) -> Result<(), Memory> {
+fn note_dead(list: &mut Vec<ClientEvent>, flags: u32) -> bool {
     note(list, &[ClientEvent::SawFlags { flags }])
 }
 
 // A proxy that was shut before steps no more.
-fn note_corrupt(list: &mut Vec<ClientEvent>, kept: &Kept, front: u32) -> Result<(), Memory> {
+fn note_corrupt(list: &mut Vec<ClientEvent>, kept: &Kept, front: u32) -> bool {
     match kept.shut {
         None => note_open(list, front, 0),
-        Some(_) => Ok(()),
+        Some(_) => true,
     }
 }
 
-fn note_wrote(list: &mut Vec<ClientEvent>, kept: &Kept, wrote: &Wrote) -> Result<(), Memory> {
+fn note_wrote(list: &mut Vec<ClientEvent>, kept: &Kept, wrote: &Wrote) -> bool {
     match *wrote {
         Wrote::Put { front, count, .. } => note_open(list, front, count),
         Wrote::Full { front } => note_open(list, front, 0),
@@ -62,7 +61,7 @@ fn note_wrote(list: &mut Vec<ClientEvent>, kept: &Kept, wrote: &Wrote) -> Result
     }
 }
 
-fn note_sent(list: &mut Vec<ClientEvent>, kept: &Kept, sent: &Sent) -> Result<(), Memory> {
+fn note_sent(list: &mut Vec<ClientEvent>, kept: &Kept, sent: &Sent) -> bool {
     match *sent {
         Sent::Sent { front } => note_open(list, front, 2),
         Sent::Full { front } => note_open(list, front, 0),
@@ -72,7 +71,7 @@ fn note_sent(list: &mut Vec<ClientEvent>, kept: &Kept, sent: &Sent) -> Result<()
 }
 
 // A call that answers a word.
-fn note_word(list: &mut Vec<ClientEvent>, call: &Call, word: u32) -> Result<(), Memory> {
+fn note_word(list: &mut Vec<ClientEvent>, call: &Call, word: u32) -> bool {
     match *call {
         Call::Flush => note(list, &[ClientEvent::Flush]),
         Call::Clear => note(list, &[ClientEvent::ClearFlags { old: word }]),
@@ -81,11 +80,11 @@ fn note_word(list: &mut Vec<ClientEvent>, call: &Call, word: u32) -> Result<(), 
 }
 
 // A call that answers nothing.
-fn note_stored(list: &mut Vec<ClientEvent>, call: &Call) -> Result<(), Memory> {
+fn note_stored(list: &mut Vec<ClientEvent>, call: &Call) -> bool {
     match *call {
         Call::Gains(word) => note(list, &[ClientEvent::SetGain { word }]),
         Call::Poke(word, value) => note(list, &[ClientEvent::Poke { word, value }]),
-        _ => Ok(()),
+        _ => true,
     }
 }
 
@@ -95,13 +94,13 @@ pub(crate) fn note_client(
     kept: &Kept,
     call: &Call,
     answer: &Answer,
-) -> Result<(), Memory> {
+) -> bool {
     match *answer {
         Answer::Wrote(wrote) => note_wrote(list, kept, &wrote),
         Answer::Sent(sent) => note_sent(list, kept, &sent),
         Answer::Word(word) => note_word(list, call, word),
         Answer::Done => note_stored(list, call),
-        _ => Ok(()),
+        _ => true,
     }
 }
 
@@ -181,7 +180,7 @@ pub(crate) fn client_has_cause(kept: &Kept, call: &Call, answer: &Answer) -> boo
 // ## The server
 
 // Adds what a look saw, and a drop or a take. Front is the server's own position, unless the client poked: then only the words of the answer are known.
-fn note_look(list: &mut Vec<ServerEvent>, kept: &Kept, look: &Look) -> Result<(), Memory> {
+fn note_look(list: &mut Vec<ServerEvent>, kept: &Kept, look: &Look) -> bool {
     let Look { flush, rear, seen } = *look;
     let front = match seen {
         Seen::Shut { front, .. } => front,
@@ -189,33 +188,33 @@ fn note_look(list: &mut Vec<ServerEvent>, kept: &Kept, look: &Look) -> Result<()
         _ => kept.position,
     };
     if kept.shut != None {
-        return Ok(());
+        return true;
     }
     let saw = [
         ServerEvent::SawFlush { flush },
         ServerEvent::SawRear { rear },
         ServerEvent::SawFront { front },
     ];
-    note(list, &saw)?;
+    let noted = note(list, &saw);
     match seen {
         Seen::Flushed { dropped } => {
             let to = front.wrapping_add(dropped);
-            note(list, &[ServerEvent::Drop { to }])
+            noted && note(list, &[ServerEvent::Drop { to }])
         }
-        _ => Ok(()),
+        _ => noted,
     }
 }
 
-fn note_take(list: &mut Vec<ServerEvent>, kept: &Kept, look: &Look) -> Result<(), Memory> {
-    note_look(list, kept, look)?;
+fn note_take(list: &mut Vec<ServerEvent>, kept: &Kept, look: &Look) -> bool {
+    let noted = note_look(list, kept, look);
     match look.seen {
-        Seen::Frames { count } => note(list, &[ServerEvent::Take { count }]),
-        _ => Ok(()),
+        Seen::Frames { count } => noted && note(list, &[ServerEvent::Take { count }]),
+        _ => noted,
     }
 }
 
 // A call that answers nothing.
-fn note_set(list: &mut Vec<ServerEvent>, call: &Call) -> Result<(), Memory> {
+fn note_set(list: &mut Vec<ServerEvent>, call: &Call) -> bool {
     match *call {
         Call::Tally(missing) => {
             let set = ServerEvent::SetFlags { bits: 1 };
@@ -223,7 +222,7 @@ fn note_set(list: &mut Vec<ServerEvent>, call: &Call) -> Result<(), Memory> {
         }
         Call::SetFlags(bits) => note(list, &[ServerEvent::SetFlags { bits }]),
         Call::SetStatus(word) => note(list, &[ServerEvent::SetStatus { word }]),
-        _ => Ok(()),
+        _ => true,
     }
 }
 
@@ -233,13 +232,13 @@ pub(crate) fn note_server(
     kept: &Kept,
     call: &Call,
     answer: &Answer,
-) -> Result<(), Memory> {
+) -> bool {
     match *answer {
         Answer::Saw(look) => note_look(list, kept, &look),
         Answer::Took(look, _) => note_take(list, kept, &look),
         Answer::Word(word) => note(list, &[ServerEvent::SawGain { word }]),
         Answer::Done => note_set(list, call),
-        _ => Ok(()),
+        _ => true,
     }
 }
 

@@ -1,22 +1,20 @@
 //! A client and a server on two threads, on a stream block and a command block, that meet between their rounds. In each tenth run the client pokes.
 ghost use Rattle.std.specs.Prelude.{◌≡◌, ◌<◌, ◌≤◌, ◌^◌, IfOk};
 ghost use Rattle.af_merges.specs.Merges.{IsStart};
-ghost use Rattle.af_cblk.specs.Rule.{new_client, new_server};
-ghost use Rattle.af_cblk.specs.Sides.{client_made, server_made};
 ghost use Rattle.af_client.specs.Order.{IsClientOf};
 ghost use Rattle.af_server.specs.Order.{IsServerOf};
 
-use crate::calls::Call;
-use crate::causes::note;
+use crate::calls::{Call, new_block};
 use crate::sides::{Recorded, Side, meet};
 use af_base::{ClientEvent, Memory, ServerEvent, Steps};
-use af_cblk::{Block, ClientPass, ServerPass};
+use af_cblk::Block;
 use af_client::Client;
 use af_merges::merge_check;
 use af_model::TrackPoint;
 use af_server::Server;
 use std::alloc::Global;
 use std::marker::Brand;
+use std::mem::drop;
 use std::sync::atomic::{AtomicU32, Ordering};
 use std::sync::ledger::{Blank, Ledger};
 use std::test::*;
@@ -69,25 +67,73 @@ fn start_together(here: &AtomicU32) {
     }
 }
 
+// The poke of a number, from a word on: each word and cell with each of six values.
+fn poke(block: &Block, first: u32, number: u32) -> Call {
+    let size = block.frames();
+    let values = [0, 1, size, size.wrapping_add(1), 0x8000_0000, 0xffff_ffff];
+    let words = 7 + block.cells();
+    let word = first.wrapping_add(number / 6) % words;
+    Call::Poke(word, values[(number % 6) as usize])
+}
+
+// What one side does in a round.
+#[derive(Clone, Copy)]
+enum Turns {
+    Client,
+    // The client's turns over and over, and after each a poke, from a word on.
+    Poking { first: u32, round: u32 },
+    Server,
+    // The server's turns over and over: fewer than those of a client that pokes, so that the command block is full at times.
+    BesidePokes,
+}
+
+impl Turns {
+    // How many turns these are.
+    fn count(self) -> u32 {
+        match self {
+            Turns::Client | Turns::Server => 8,
+            Turns::Poking { .. } => 2 * POKED_TURNS,
+            Turns::BesidePokes => POKED_TURNS / 16 * 8,
+        }
+    }
+
+    // The turn of a number.
+    fn turn(self, blocks: &Both<Block>, number: u32) -> (Call, Call) {
+        match self {
+            Turns::Client => CLIENT_TURNS[(number % 8) as usize],
+            Turns::Poking { .. } if number % 2 == 0 => CLIENT_TURNS[(number / 2 % 8) as usize],
+            Turns::Poking { first, round } => {
+                let number = round.wrapping_mul(POKED_TURNS).wrapping_add(number / 2);
+                (
+                    poke(&blocks.stream, first, number),
+                    poke(&blocks.command, first, number),
+                )
+            }
+            _ => SERVER_TURNS[(number % 8) as usize],
+        }
+    }
+}
+
 // Makes the calls in order, each on its block.
 fn play_all<S: Side, L: Ledger>(
     blank: Blank,
     blocks: &Both<Block>,
     mut sides: Both<S>,
-    calls: &[(Call, Call)],
-) -> Result<Both<S>, Memory>
+    turns: Turns,
+) -> Both<S>
     requires ledger { (blank.name ≡ L.name) × (blank.parts ≡ L.parts) × (0 < blank.parts) }
     requires stream { S.is_ready blocks.now.stream sides.stream }
     requires command { S.is_ready blocks.now.command sides.command }
-    ensures stream { IfOk result (λ s. S.is_ready blocks.now.stream s.stream) }
-    ensures command { IfOk result (λ s. S.is_ready blocks.now.command s.command) }
+    ensures stream { S.is_ready blocks.now.stream result.stream }
+    ensures command { S.is_ready blocks.now.command result.command }
 {
     let mut steps = Steps::<L>::start(blank);
-    for (on_stream, on_command) in calls {
-        sides.stream.play(&blocks.stream, on_stream, &mut steps)?;
-        sides.command.play(&blocks.command, on_command, &mut steps)?;
+    for number in 0..turns.count() {
+        let (on_stream, on_command) = turns.turn(blocks, number);
+        sides.stream.play(&blocks.stream, &on_stream, &mut steps);
+        sides.command.play(&blocks.command, &on_command, &mut steps);
     }
-    Ok(sides)
+    sides
 }
 
 // One thread of a round.
@@ -95,15 +141,15 @@ fn play_round<S: Side>(
     here: &AtomicU32,
     blocks: &Both<Block>,
     sides: Both<S>,
-    calls: &[(Call, Call)],
-) -> Result<Both<S>, Memory>
+    turns: Turns,
+) -> Both<S>
     requires stream { S.is_ready blocks.now.stream sides.stream }
     requires command { S.is_ready blocks.now.command sides.command }
-    ensures stream { IfOk result (λ s. S.is_ready blocks.now.stream s.stream) }
-    ensures command { IfOk result (λ s. S.is_ready blocks.now.command s.command) }
+    ensures stream { S.is_ready blocks.now.stream result.stream }
+    ensures command { S.is_ready blocks.now.command result.command }
 {
     start_together(here);
-    play_all::<S, Brand>(Blank::new(1), blocks, sides, calls)
+    play_all::<S, Brand>(Blank::new(1), blocks, sides, turns)
 }
 
 type Clients = Both<Recorded<Client, ClientEvent>>;
@@ -116,28 +162,27 @@ fn round<R: Threads + Sync>(
     blocks: &Both<Block>,
     clients: Clients,
     servers: Servers,
-    client_calls: &[(Call, Call)],
-    server_calls: &[(Call, Call)],
-) -> Result<(Clients, Servers), Memory>
+    ours: Turns,
+    theirs: Turns,
+) -> (Clients, Servers)
     requires clients { IsClientOf blocks.now.stream clients.stream.proxy × IsClientOf blocks.now.command clients.command.proxy }
     requires servers { IsServerOf blocks.now.stream servers.stream.proxy × IsServerOf blocks.now.command servers.command.proxy }
-    ensures clients { IfOk result (λ r. IsClientOf blocks.now.stream r.0.stream.proxy × IsClientOf blocks.now.command r.0.command.proxy) }
-    ensures servers { IfOk result (λ r. IsServerOf blocks.now.stream r.1.stream.proxy × IsServerOf blocks.now.command r.1.command.proxy) }
+    ensures clients { IsClientOf blocks.now.stream result.0.stream.proxy × IsClientOf blocks.now.command result.0.command.proxy }
+    ensures servers { IsServerOf blocks.now.stream result.1.stream.proxy × IsServerOf blocks.now.command result.1.command.proxy }
 {
     let here = AtomicU32::new(0);
     let at = &here;
-    let (clients, servers) = join(
+    join(
         rt,
-        move || -> Result<Clients, Memory>
+        move || -> Clients
             requires { IsClientOf blocks.now.stream clients.stream.proxy × IsClientOf blocks.now.command clients.command.proxy }
-            ensures { IfOk result (λ c. IsClientOf blocks.entry.now.stream c.stream.proxy × IsClientOf blocks.entry.now.command c.command.proxy) }
-        { play_round(at, blocks, clients, client_calls) },
-        move || -> Result<Servers, Memory>
+            ensures { IsClientOf blocks.entry.now.stream result.stream.proxy × IsClientOf blocks.entry.now.command result.command.proxy }
+        { play_round(at, blocks, clients, ours) },
+        move || -> Servers
             requires { IsServerOf blocks.now.stream servers.stream.proxy × IsServerOf blocks.now.command servers.command.proxy }
-            ensures { IfOk result (λ s. IsServerOf blocks.entry.now.stream s.stream.proxy × IsServerOf blocks.entry.now.command s.command.proxy) }
-        { play_round(at, blocks, servers, server_calls) },
-    );
-    Ok((clients?, servers?))
+            ensures { IsServerOf blocks.entry.now.stream result.stream.proxy × IsServerOf blocks.entry.now.command result.command.proxy }
+        { play_round(at, blocks, servers, theirs) },
+    )
 }
 
 // A block at its base.
@@ -167,13 +212,13 @@ fn has_causes_and_order(
     block: &Block,
     client: &Recorded<Client, ClientEvent>,
     server: &Recorded<Server, ServerEvent>,
-) -> Result<bool, Memory> {
+) -> bool {
     let sound = client.sound && server.sound;
     if client.poked || !sound {
-        return Ok(sound);
+        return sound;
     }
     if client.list.len() > 10_000 || server.list.len() > 10_000 {
-        return Ok(false);
+        return false;
     }
     let from = fresh(u64::from(block.base()), block.wrap());
     merge_check(
@@ -182,7 +227,7 @@ fn has_causes_and_order(
         server.list.as_slice(),
         &[],
         &from,
-    )
+    ) == Ok(true)
 }
 
 // The meetings after a round, and whether on each block the answers have their causes, and the lists an order.
@@ -191,18 +236,17 @@ fn meet_both(
     blocks: &Both<Block>,
     clients: &mut Clients,
     servers: &mut Servers,
-) -> Result<bool, Memory>
+) -> bool
     requires clients { IsClientOf blocks.now.stream clients.old.stream.proxy × IsClientOf blocks.now.command clients.old.command.proxy }
     requires servers { IsServerOf blocks.now.stream servers.old.stream.proxy × IsServerOf blocks.now.command servers.old.command.proxy }
     ensures clients { IsClientOf blocks.now.stream clients.new.stream.proxy × IsClientOf blocks.now.command clients.new.command.proxy }
     ensures servers { IsServerOf blocks.now.stream servers.new.stream.proxy × IsServerOf blocks.now.command servers.new.command.proxy }
 {
     let Both { stream, command } = blocks;
-    meet(stream, &mut clients.stream, &mut servers.stream)?;
-    meet(command, &mut clients.command, &mut servers.command)?;
-    let first = has_causes_and_order(alloc, stream, &clients.stream, &servers.stream)?;
-    let second = has_causes_and_order(alloc, command, &clients.command, &servers.command)?;
-    Ok(first && second)
+    meet(stream, &mut clients.stream, &mut servers.stream);
+    meet(command, &mut clients.command, &mut servers.command);
+    let first = has_causes_and_order(alloc, stream, &clients.stream, &servers.stream);
+    first && has_causes_and_order(alloc, command, &clients.command, &servers.command)
 }
 
 // A run: the frames and the base of its stream block, whether its flushes carry their position, and from which word on its client pokes, if it does.
@@ -214,49 +258,14 @@ struct Plan {
     poked: Option<u32>,
 }
 
-// The poke of a number, from a word on: each word and cell with each of six values.
-fn poke(block: &Block, first: u32, number: u32) -> Call {
-    let size = block.frames();
-    let values = [0, 1, size, size.wrapping_add(1), 0x8000_0000, 0xffff_ffff];
-    let words = 7 + block.cells();
-    let word = first.wrapping_add(number / 6) % words;
-    Call::Poke(word, values[(number % 6) as usize])
-}
-
-// The calls of a client's round: those of the table, and after each a poke.
-fn client_calls(
-    alloc: Global,
-    blocks: &Both<Block>,
-    plan: &Plan,
-    round: u32,
-) -> Result<Vec<(Call, Call)>, Memory> {
-    let mut calls = Vec::new(alloc);
-    let Some(first) = plan.poked else {
-        note(&mut calls, &CLIENT_TURNS)?;
-        return Ok(calls);
-    };
-    for turn in 0..POKED_TURNS {
-        let number = round.wrapping_mul(POKED_TURNS).wrapping_add(turn);
-        let pokes = (
-            poke(&blocks.stream, first, number),
-            poke(&blocks.command, first, number),
-        );
-        note(&mut calls, &[CLIENT_TURNS[(turn % 8) as usize], pokes])?;
+impl Plan {
+    // What client and server do in a round.
+    fn turns(&self, round: u32) -> (Turns, Turns) {
+        match self.poked {
+            None => (Turns::Client, Turns::Server),
+            Some(first) => (Turns::Poking { first, round }, Turns::BesidePokes),
+        }
     }
-    Ok(calls)
-}
-
-// The calls of a server's round. Beside a client that pokes it has fewer turns, so that the command block is full at times.
-fn server_calls(alloc: Global, plan: &Plan) -> Result<Vec<(Call, Call)>, Memory> {
-    let mut calls = Vec::new(alloc);
-    let times = match plan.poked {
-        None => 1,
-        Some(_) => POKED_TURNS / 16,
-    };
-    for _ in 0..times {
-        note(&mut calls, &SERVER_TURNS)?;
-    }
-    Ok(calls)
 }
 
 // All rounds of a run, with a meeting after each: whether the causes and the order hold after each.
@@ -267,38 +276,48 @@ fn rounds<R: Threads + Sync>(
     blocks: &Both<Block>,
     mut clients: Clients,
     mut servers: Servers,
-) -> Result<bool, Memory>
+) -> bool
     requires clients { IsClientOf blocks.now.stream clients.stream.proxy × IsClientOf blocks.now.command clients.command.proxy }
     requires servers { IsServerOf blocks.now.stream servers.stream.proxy × IsServerOf blocks.now.command servers.command.proxy }
 {
-    let theirs = server_calls(alloc, plan)?;
     let mut all = true;
     for number in 0..ROUNDS {
-        let ours = client_calls(alloc, blocks, plan, number)?;
-        (clients, servers) = round(
-            rt,
-            blocks,
-            clients,
-            servers,
-            ours.as_slice(),
-            theirs.as_slice(),
-        )?;
-        let holds = meet_both(alloc, blocks, &mut clients, &mut servers)?;
-        all = all && holds;
+        let (ours, theirs) = plan.turns(number);
+        (clients, servers) = round(rt, blocks, clients, servers, ours, theirs);
+        all = meet_both(alloc, blocks, &mut clients, &mut servers) && all;
     }
-    Ok(all)
+    drop(servers);
+    drop(clients);
+    all
 }
 
-// A new stream block.
-fn stream_block(alloc: Global, plan: &Plan) -> Result<(Block, ClientPass, ServerPass), Memory>
-    requires { (1 ≤ plan.now.frames) × (plan.now.frames ≤ 8192) }
-    ensures made { IfOk result (λ r. (client_made r.1 ≡ r.0) × (server_made r.2 ≡ r.0)) }
-    ensures new { IfOk result (λ r. (r.1.part ≡ new_client r.0.shape) × (r.2.part ≡ new_server r.0.shape)) }
+// A block and both of its proxies, whose calls are written down.
+#[derive(Drop)]
+struct Written {
+    block: Block,
+    client: Recorded<Client, ClientEvent>,
+    server: Recorded<Server, ServerEvent>,
+}
+
+fn new_written(
+    alloc: Global,
+    frames: u32,
+    base: u32,
+    positional: bool,
+    poked: bool,
+) -> Result<Written, Memory>
+    requires { (1 ≤ frames) × (frames ≤ 8192) }
+    ensures client { IfOk result (λ w. IsClientOf w.block w.client.proxy) }
+    ensures server { IfOk result (λ w. IsServerOf w.block w.server.proxy) }
 {
-    if plan.positional {
-        return Block::make_positional(alloc, plan.frames, plan.base);
-    }
-    Block::make(alloc, plan.frames, plan.base)
+    let (block, client, server) = new_block(alloc, frames, base, positional)?;
+    let client = Recorded::new(alloc, Client::with(client, &block), poked);
+    let server = Recorded::new(alloc, Server::with(server, &block), poked);
+    Ok(Written {
+        block,
+        client,
+        server,
+    })
 }
 
 // A run on two new blocks.
@@ -306,17 +325,26 @@ fn run<R: Threads + Sync>(rt: &R, alloc: Global, plan: &Plan) -> Result<bool, Me
     requires { (1 ≤ plan.now.frames) × (plan.now.frames ≤ 8192) }
 {
     let poked = plan.poked.is_some();
-    let (stream, stream_client, stream_server) = stream_block(alloc, plan)?;
-    let (command, client, server) = Block::make(alloc, 128, 0)?;
+    let stream = new_written(alloc, plan.frames, plan.base, plan.positional, poked)?;
+    let Ok(command) = new_written(alloc, 128, 0, false, poked) else {
+        drop(stream);
+        return Err(Memory);
+    };
     let clients = Both {
-        stream: Recorded::new(alloc, Client::with(stream_client, &stream), poked),
-        command: Recorded::new(alloc, Client::with(client, &command), poked),
+        stream: stream.client,
+        command: command.client,
     };
     let servers = Both {
-        stream: Recorded::new(alloc, Server::with(stream_server, &stream), poked),
-        command: Recorded::new(alloc, Server::with(server, &command), poked),
+        stream: stream.server,
+        command: command.server,
     };
-    rounds(rt, alloc, plan, &Both { stream, command }, clients, servers)
+    let blocks = Both {
+        stream: stream.block,
+        command: command.block,
+    };
+    let all = rounds(rt, alloc, plan, &blocks, clients, servers);
+    drop(blocks);
+    Ok(all)
 }
 
 // The plan of the run of a number. Each tenth pokes, and half of the runs have flushes that carry their position.
@@ -342,17 +370,10 @@ fn plan_of(number: u32) -> Plan
     }
 }
 
-fn all_runs<R: Threads + Sync>(rt: &R, alloc: Global) -> Result<bool, Memory> {
-    let mut all = true;
-    for number in 0..30 {
-        let holds = run(rt, alloc, &plan_of(number))?;
-        all = all && holds;
-    }
-    Ok(all)
-}
-
 #[test]
 fn each_answer_has_its_cause_and_the_lists_an_order(rt: HostRuntime) {
-    let found = all_runs(&rt, rt.alloc());
-    assert!(rt; found == Ok(true));
+    for number in 0..30 {
+        let found = run(&rt, rt.alloc(), &plan_of(number));
+        assert!(rt; found == Ok(true), "run {number}");
+    }
 }

@@ -82,33 +82,39 @@ impl Order {
         true
     }
 
-    fn hand(&mut self, event: &HandEvent) -> bool {
+    fn hand(&mut self, event: &HandEvent) {
         if let HandEvent::SetFlags { bits } = *event {
             self.point.flags |= bits;
         }
         if let Some(at) = self.at.get_mut(self.hands) {
             *at = self.clients as u64;
         }
-        true
     }
 
     /// Whether the next event of that party may stand, and it stands.
     fn turn(&mut self, lists: Lists<'_>, party: u32) -> bool {
         match party {
             0 => {
-                let stands = lists.0.get(self.clients).map_or(false, |e| self.client(e));
+                let Some(event) = lists.0.get(self.clients) else {
+                    return false;
+                };
                 self.clients = self.clients.wrapping_add(1);
-                stands
+                self.client(event)
             }
             1 => {
-                let stands = lists.1.get(self.servers).map_or(false, |e| self.server(e));
+                let Some(event) = lists.1.get(self.servers) else {
+                    return false;
+                };
                 self.servers = self.servers.wrapping_add(1);
-                stands
+                self.server(event)
             }
             _ => {
-                let stands = lists.2.get(self.hands).map_or(false, |e| self.hand(e));
+                let Some(event) = lists.2.get(self.hands) else {
+                    return false;
+                };
+                self.hand(event);
                 self.hands = self.hands.wrapping_add(1);
-                stands
+                true
             }
         }
     }
@@ -158,11 +164,11 @@ fn is_legal(lists: Lists<'_>, from: &TrackPoint, code: u32, turns: usize) -> boo
 
 /// Whether some order is legal, by trying all.
 pub(crate) fn some_order(lists: Lists<'_>, from: &TrackPoint) -> bool {
-    let turns = lists
-        .0
+    let (client, server, hand) = lists;
+    let turns = client
         .len()
-        .wrapping_add(lists.1.len())
-        .wrapping_add(lists.2.len());
+        .wrapping_add(server.len())
+        .wrapping_add(hand.len());
     let mut codes = 1u32;
     for _ in 0..turns {
         codes = codes.wrapping_mul(3);

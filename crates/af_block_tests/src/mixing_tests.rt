@@ -1,5 +1,6 @@
 use af_base::{Cycle, CycleEntry, FastLog, Frame, SLOTS, Seen, SlotEntry};
 use af_model::mix_entry;
+use std::mem::drop;
 use std::test::Fail;
 
 #[test]
@@ -52,6 +53,7 @@ fn an_entry_is_mixed_with_silence_for_missing_frames(rt: HostRuntime) -> Result<
     });
     let mut out = [Frame { left: 9, right: 9 }; 3];
     mix_entry(&log, 0, &mut out);
+    drop(log);
     let want = [
         Frame {
             left: 105,

@@ -1,20 +1,20 @@
 //! Frames through a block, from a client on one thread to a server on another.
-ghost use Rattle.std.specs.Prelude.{◌≡◌, ◌+◌, ◌++◌, ◌^◌, ◌<◌, ◌≤◌, true, [], map, take, length, vec_len, IfOk, ◌⊎◌};
+ghost use Rattle.std.specs.Prelude.{◌≡◌, ◌+◌, ◌++◌, ◌^◌, ◌<◌, ◌≤◌, true, [], map, take, length, vec_len, IfOk, OnOk, ◌⊎◌};
 ghost use Rattle.af_base.specs.Sample.{packed_word};
 ghost use Rattle.af_model.specs.Fates.{drops_none};
 ghost use Rattle.af_model.specs.History.{is_lawful};
-ghost use Rattle.af_cblk.specs.Rule.{new_client, new_server};
-ghost use Rattle.af_cblk.specs.Sides.{client_made, server_made};
 ghost use Rattle.af_client.specs.Order.{IsClientOf};
 ghost use Rattle.af_server.specs.Order.{IsServerOf};
 ghost use Rattle.af_block_tests.specs.Relay.{Sent, Received, count_of, IsFlushed};
 
+use crate::calls::new_block;
 use af_base::{Frame, Memory, Seen, Steps};
-use af_cblk::{Block, ClientPass, ServerPass};
+use af_cblk::Block;
 use af_client::{Client, Wrote};
 use af_server::Server;
 use std::alloc::Global;
 use std::marker::Brand;
+use std::mem::drop;
 use std::sync::ledger::{Blank, Ledger};
 use std::test::*;
 use std::thread::{Threads, join, yield_now};
@@ -157,22 +157,21 @@ fn lie_in_place(taken: &[Frame], at: u64) -> bool {
     true
 }
 
-// Takes frames, as far as its calls go. It answers them, whether no flush was noticed, and whether each frame lay in place and each new flush count was above the one before.
+// Takes frames, as far as its calls go. It answers whether no flush was noticed, and whether each frame lay in place and each new flush count was above the one before.
 fn receive_in<L: Ledger>(
     blank: Blank,
     block: &Block,
-    mut server: Server,
-    alloc: Global,
+    server: &mut Server,
+    all: &mut Vec<Frame>,
     total: u64,
-) -> Result<(Server, Vec<Frame>, bool, bool), Memory>
+) -> Result<(bool, bool), Memory>
     requires ledger { (blank.name ≡ L.name) × (blank.parts ≡ L.parts) × (0 < blank.parts) }
-    requires ready { IsServerOf block.now server }
-    requires new { (server.pass.part.frames ≡ []) × (server.pass.part.events ≡ []) }
-    ensures ready { IfOk result (λ r. IsServerOf block.now r.0) }
-    ensures received { IfOk result (λ r. Received r.2 r.1.items r.0.pass.part) }
+    requires ready { IsServerOf block.now server.old }
+    requires new { (server.old.pass.part.frames ≡ []) × (server.old.pass.part.events ≡ []) × (all.old.items ≡ []) }
+    ensures ready { OnOk result (IsServerOf block.now server.new) }
+    ensures received { IfOk result (λ r. Received r.0 all.new.items server.new.pass.part) }
 {
     let mut steps = Steps::<L>::start(blank);
-    let mut all = Vec::new(alloc);
     let mut clean = true;
     let mut in_place = true;
     for _ in 0..MOST {
@@ -182,7 +181,7 @@ fn receive_in<L: Ledger>(
             break;
         }
         let mut into = [Frame::unpack(0); 4];
-        match take_some(block, &mut server, &mut into, &mut steps) {
+        match take_some(block, server, &mut into, &mut steps) {
             Seen::Frames { count } => {
                 let taken = &into[..count as usize];
                 in_place = in_place && lie_in_place(taken, at);
@@ -197,12 +196,12 @@ fn receive_in<L: Ledger>(
             _ => yield_now(),
         }
     }
-    Ok((server, all, clean, in_place))
+    Ok((clean, in_place))
 }
 
 fn receive(
     block: &Block,
-    server: Server,
+    mut server: Server,
     alloc: Global,
     total: u64,
 ) -> Result<(Server, Vec<Frame>, bool, bool), Memory>
@@ -211,7 +210,15 @@ fn receive(
     ensures ready { IfOk result (λ r. IsServerOf block.now r.0) }
     ensures received { IfOk result (λ r. Received r.2 r.1.items r.0.pass.part) }
 {
-    receive_in::<Brand>(Blank::new(1), block, server, alloc, total)
+    let mut all = Vec::new(alloc);
+    let (clean, in_place) = receive_in::<Brand>(
+        Blank::new(1),
+        block,
+        &mut server,
+        &mut all,
+        total,
+    )?;
+    Ok((server, all, clean, in_place))
 }
 
 // Once both are back: if no flush was noticed, what was taken begins what was written.
@@ -233,17 +240,8 @@ fn compare_in<L: Ledger>(
 {
     let mut steps = Steps::<L>::start(blank);
     server.meet(block, client.pass(), &mut steps);
-}
-
-// A block of three frames, whose flushes may carry their position.
-fn block_of(alloc: Global, positional: bool) -> Result<(Block, ClientPass, ServerPass), Memory>
-    ensures made { IfOk result (λ r. (client_made r.1 ≡ r.0) × (server_made r.2 ≡ r.0)) }
-    ensures new { IfOk result (λ r. (r.1.part ≡ new_client r.0.shape) × (r.2.part ≡ new_server r.0.shape)) }
-{
-    if positional {
-        return Block::make_positional(alloc, 3, 0);
-    }
-    Block::make(alloc, 3, 0)
+    drop(server);
+    drop(client);
 }
 
 // What one thread took of the frames that another wrote: a beginning of them if no flush was noticed.
@@ -257,7 +255,7 @@ fn relay<R: Threads + Sync>(
     requires few { length frames.now ≤ 65536 }
     ensures { IfOk result (λ r. r.1 ≡ true → map packed_word r.0.items ≡ take (vec_len r.0) (map packed_word frames.now)) }
 {
-    let (block, client, server) = block_of(alloc, positional)?;
+    let (block, client, server) = new_block(alloc, 3, 0, positional)?;
     let shared = &block;
     let total = frames.len() as u64;
     let client = Client::with(client, shared);
@@ -273,8 +271,13 @@ fn relay<R: Threads + Sync>(
             ensures { IfOk result (λ r. IsServerOf shared.entry.now r.0 × Received r.2 r.1.items r.0.pass.part) }
         { receive(shared, server, alloc, total) },
     );
-    let (server, all, clean, in_place) = received?;
+    let Ok((server, all, clean, in_place)) = received else {
+        drop(client);
+        drop(block);
+        return Err(Memory);
+    };
     compare_in::<Brand>(Blank::new(1), &block, client, server, frames, &all, clean);
+    drop(block);
     Ok((all, clean, in_place))
 }
 
@@ -299,22 +302,18 @@ fn comes_in_place<R: Threads + Sync>(
     busy: bool,
 ) -> Result<bool, Memory> {
     let frames = numbered(alloc)?;
-    let (_, clean, in_place) = relay(rt, alloc, positional, frames.as_slice(), busy)?;
+    let relayed = relay(rt, alloc, positional, frames.as_slice(), busy);
+    drop(frames);
+    let (all, clean, in_place) = relayed?;
+    drop(all);
     Ok(in_place && (clean || busy))
 }
 
+// On a block of either kind, with a client that only writes, and with one that flushes too.
 #[test]
 fn frames_come_in_order_from_another_thread(rt: HostRuntime) {
-    for positional in &[false, true] {
-        let found = comes_in_place(&rt, rt.alloc(), *positional, false);
-        assert!(rt; found == Ok(true));
-    }
-}
-
-#[test]
-fn frames_stay_in_place_across_flushes(rt: HostRuntime) {
-    for positional in &[false, true] {
-        let found = comes_in_place(&rt, rt.alloc(), *positional, true);
-        assert!(rt; found == Ok(true));
+    for (positional, busy) in &[(false, false), (true, false), (false, true), (true, true)] {
+        let found = comes_in_place(&rt, rt.alloc(), *positional, *busy);
+        assert!(rt; found == Ok(true), "{positional} {busy}");
     }
 }

@@ -7,7 +7,7 @@ use crate::calls::{Call, ask_client, ask_server};
 use crate::causes::{
     Kept, client_has_cause, note, note_client, note_server, position_of, server_has_cause,
 };
-use af_base::{ClientEvent, Memory, ServerEvent, Steps};
+use af_base::{ClientEvent, ServerEvent, Steps};
 use af_cblk::Block;
 use af_client::Client;
 use af_server::Server;
@@ -15,7 +15,7 @@ use std::alloc::Global;
 use std::marker::Brand;
 use std::sync::ledger::{Blank, Ledger};
 
-// A proxy, with what its calls saw and did, oldest first, and whether each answer had its cause.
+// A proxy, with what its calls saw and did, oldest first, and whether each answer had its cause and was written down.
 #[derive(Drop)]
 pub(crate) struct Recorded<P, E> {
     pub proxy: P,
@@ -47,12 +47,7 @@ pub(crate) trait Side: Drop {
     ghost is_ready: { Made → Self → Type 0 };
 
     // Makes a call.
-    fn play<L: Ledger>(
-        &mut self,
-        block: &Block,
-        call: &Call,
-        steps: &mut Steps<L>,
-    ) -> Result<(), Memory>
+    fn play<L: Ledger>(&mut self, block: &Block, call: &Call, steps: &mut Steps<L>)
         requires { is_ready block.now self.old }
         ensures { is_ready block.now self.new };
 }
@@ -62,12 +57,7 @@ impl Side for Recorded<Client, ClientEvent> {
 
     ghost is_ready = { λ b s. IsClientOf b s.proxy };
 
-    fn play<L: Ledger>(
-        &mut self,
-        block: &Block,
-        call: &Call,
-        steps: &mut Steps<L>,
-    ) -> Result<(), Memory> {
+    fn play<L: Ledger>(&mut self, block: &Block, call: &Call, steps: &mut Steps<L>) {
         let kept = Kept {
             frames: block.frames(),
             cells: block.cells(),
@@ -78,8 +68,8 @@ impl Side for Recorded<Client, ClientEvent> {
             shut: self.proxy.shut(),
         };
         let answer = ask_client(block, &mut self.proxy, call, steps);
-        self.sound = self.sound && client_has_cause(&kept, call, &answer);
-        note_client(&mut self.list, &kept, call, &answer)
+        let noted = note_client(&mut self.list, &kept, call, &answer);
+        self.sound = self.sound && noted && client_has_cause(&kept, call, &answer);
     }
 }
 
@@ -88,12 +78,7 @@ impl Side for Recorded<Server, ServerEvent> {
 
     ghost is_ready = { λ b s. IsServerOf b s.proxy };
 
-    fn play<L: Ledger>(
-        &mut self,
-        block: &Block,
-        call: &Call,
-        steps: &mut Steps<L>,
-    ) -> Result<(), Memory> {
+    fn play<L: Ledger>(&mut self, block: &Block, call: &Call, steps: &mut Steps<L>) {
         let kept = Kept {
             frames: block.frames(),
             cells: block.cells(),
@@ -104,8 +89,8 @@ impl Side for Recorded<Server, ServerEvent> {
             shut: self.proxy.shut(),
         };
         let answer = ask_server(block, &mut self.proxy, call, steps);
-        self.sound = self.sound && server_has_cause(&kept, call, &answer);
-        note_server(&mut self.list, &kept, call, &answer)
+        let noted = note_server(&mut self.list, &kept, call, &answer);
+        self.sound = self.sound && noted && server_has_cause(&kept, call, &answer);
     }
 }
 
@@ -126,7 +111,7 @@ pub(crate) fn meet(
     block: &Block,
     client: &mut Recorded<Client, ClientEvent>,
     server: &mut Recorded<Server, ServerEvent>,
-) -> Result<(), Memory>
+)
     requires client { IsClientOf block.now client.old.proxy }
     requires server { IsServerOf block.now server.old.proxy }
     ensures client { IsClientOf block.now client.new.proxy }
@@ -135,6 +120,8 @@ pub(crate) fn meet(
     learn::<Brand>(Blank::new(1), block, &mut client.proxy, &mut server.proxy);
     let asked = client.list.len() as u64;
     let done = server.list.len() as u64;
-    note(&mut client.list, &[ClientEvent::Learn { count: done }])?;
-    note(&mut server.list, &[ServerEvent::Learn { count: asked }])
+    let learnt = note(&mut client.list, &[ClientEvent::Learn { count: done }]);
+    client.sound = client.sound && learnt;
+    let learnt = note(&mut server.list, &[ServerEvent::Learn { count: asked }]);
+    server.sound = server.sound && learnt;
 }

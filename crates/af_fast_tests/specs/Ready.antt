@@ -11,12 +11,12 @@ use Rattle.af_link.specs.Reports.{ReaderSide}
 use Rattle.af_link.specs.declared.links.Links.{Links}
 use Rattle.af_link.specs.declared.names.StreamNames.{StreamNames}
 use Rattle.af_fast.specs.Fits.{NamesBlocks}
-use Rattle.af_fast.specs.Mixer.{MixerState, IsInOrder, IsLinked}
+use Rattle.af_fast.specs.Mixer.{MixerState, IsSound, IsLinked}
 
 -- The ends are those of these links. The mixer is in order between two cycles of so many frames, and the mutator makes no edit
 pub record IsReady (links : Links) (frames : ℕ) (m : Mutates ServerState StreamNames) (f : MixerState) (r : ReaderSide) : Type 0 where
   pub linked : IsLinked links f
-  pub order : IsInOrder f
+  pub order : IsSound f
   pub turn : (f.adopted ≡ false) × (f.frames ≡ frames)
   pub names : NamesBlocks m.past.key links.streams.now
   pub queue : m.past.queue ≡ links.queue.now

@@ -3,7 +3,7 @@ ghost use Rattle.std.specs.Prelude.{◌≡◌, ◌<◌, [], ◌∷◌, IfOk};
 ghost use Rattle.af_cblk.specs.Sides.{hand_made};
 ghost use Rattle.af_link.specs.Names.{IsStreamOf};
 ghost use Rattle.af_link.specs.PipeEnds.{in_made};
-ghost use Rattle.af_fast.specs.Mixer.{IsInOrder, IsLinked};
+ghost use Rattle.af_fast.specs.Mixer.{IsLinked, IsSound};
 ghost use Rattle.af_client.specs.Order.{IsClientOf};
 ghost use Rattle.af_server.specs.Order.{IsServerOf};
 ghost use Rattle.af_fast_tests.specs.Ready.{IsReady};
@@ -17,6 +17,7 @@ use af_link::{Links, PipeIn, ReportReader, meet_pipe, meet_report};
 use af_server::Server;
 use std::alloc::Global;
 use std::marker::Brand;
+use std::mem::drop;
 use std::sync::ledger::{Blank, Ledger};
 use std::test::*;
 
@@ -46,7 +47,7 @@ fn meets_held<L: Ledger>(
     hand: &mut FlagHand,
     steps: &mut Steps<L>,
 ) -> bool
-    requires order { IsInOrder mixer.old × IsLinked links.now mixer.old }
+    requires order { IsSound mixer.old × IsLinked links.now mixer.old }
     requires one { links.now.streams.now ≡ block.now ∷ [] }
     requires block { IsClientOf block.now client.old × (hand_made hand.old ≡ block.now) }
     ensures linked { IsLinked links.now mixer.new }
@@ -59,7 +60,7 @@ fn meets_held<L: Ledger>(
 
 // One cycle mixes the proxy of the only track, which then meets its client, and the ends that the mixer lends meet. Answers whether the proxy was held, and one state polled.
 fn meets_over<L: Ledger>(
-    mut ends: Ends,
+    ends: &mut Ends,
     links: &Links<'_>,
     block: &Block,
     server: Server,
@@ -67,16 +68,16 @@ fn meets_over<L: Ledger>(
     hand: &mut FlagHand,
     steps: &mut Steps<L>,
 ) -> bool
-    requires ready { IsReady links.now 4 ends.mutator ends.mixer ends.reader }
-    requires new { ends.mutator.past.number ≡ 0 }
-    requires pipe { in_made ends.pipe ≡ links.now.pipe.now }
+    requires ready { IsReady links.now 4 ends.old.mutator ends.old.mixer ends.old.reader }
+    requires new { ends.old.mutator.past.number ≡ 0 }
+    requires pipe { in_made ends.old.pipe ≡ links.now.pipe.now }
     requires one { links.now.streams.now ≡ block.now ∷ [] }
     requires block { IsClientOf block.now client.old × (hand_made hand.old ≡ block.now) }
     requires stream { IsStreamOf links.now.streams.now 0 server }
 {
     attach(&mut ends.mutator, links, 1, false, 0x1000, 0, server);
     push_command(&mut ends.mutator, links, Command::MixWrite, steps);
-    turn(&mut ends, links, steps);
+    turn(ends, links, steps);
     let held = meets_held(&mut ends.mixer, links, block, client, hand, steps);
     meet_lent(
         &mut ends.mixer,
@@ -103,9 +104,11 @@ fn meets_on<L: Ledger>(
     requires block { IsClientOf block.now client.old × (hand_made hand.old ≡ block.now) }
     requires stream { IsStreamOf streams.now 0 server }
 {
-    let (shared, ends) = begin(alloc, streams, 2, 4)?;
+    let (shared, mut ends) = begin(alloc, streams, 2, 4)?;
     let links = shared.links(streams);
-    Ok(meets_over(ends, &links, block, server, client, hand, steps))
+    let met = meets_over(&mut ends, &links, block, server, client, hand, steps);
+    drop(ends);
+    Ok(met)
 }
 
 // A block with its proxies, and the hand that was split off the server.

@@ -422,6 +422,7 @@ impl Plain {
             | Step::Gains { track, .. }
             | Step::Flush { track }
             | Step::Poke { track, .. } => return self.track_does(track, step),
+            Step::Forget { .. } => return Ok(Told::Done),
             Step::Put { word, count } => {
                 self.pipe.put(part(&frames_of(word), 0, count))?;
                 return Ok(Told::Done);

@@ -3,6 +3,7 @@ use crate::plain_tests::Plain;
 use crate::table_tests::{Row, Size, Step, plays};
 use af_base::{Command, Memory, SLOTS};
 use std::alloc::Global;
+use std::mem::drop;
 use std::test::*;
 
 const CYCLES: u32 = 200;
@@ -25,14 +26,24 @@ const SCALES: [u16; 7] = [0x1000, 0x0e00, 0x0c01, 0x0a02, 0x0803, 0x0604, 0];
 
 // A run as it is made: what each step is to answer by the model, and the source of what the parties do.
 #[derive(Drop)]
-struct Run {
+pub(crate) struct Run {
     alloc: Global,
-    rows: Vec<Row>,
+    pub rows: Vec<Row>,
     plain: Plain,
     seed: u32,
 }
 
 impl Run {
+    // A run over blocks of these sizes, of which nothing was done.
+    pub(crate) fn new(alloc: Global, sizes: &[Size]) -> Result<Run, Memory> {
+        Ok(Run {
+            alloc,
+            rows: Vec::new(alloc),
+            plain: Plain::new(alloc, sizes)?,
+            seed: 1,
+        })
+    }
+
     // The next number.
     fn draw(&mut self) -> u32 {
         self.seed = self
@@ -47,14 +58,15 @@ impl Run {
         self.draw() << 16 | self.draw()
     }
 
-    fn does(&mut self, step: Step) -> Result<(), Memory> {
+    // Makes a step.
+    pub(crate) fn does(&mut self, step: Step) -> Result<(), Memory> {
         let told = self.plain.does(self.alloc, step)?;
         self.rows.push((step, told))?;
         Ok(())
     }
 
     // Attaches a track to the slot after its number.
-    fn attaches(&mut self, track: usize, mono: bool, scale: u16) -> Result<(), Memory> {
+    pub(crate) fn attaches(&mut self, track: usize, mono: bool, scale: u16) -> Result<(), Memory> {
         self.does(Step::Attach {
             slot: (track & 31) as u32 + 1,
             track: (track & 31) as u32,
@@ -119,46 +131,44 @@ impl Run {
         self.mutator(cycle)?;
         self.does(Step::Cycle)
     }
+
+    // All cycles, once each track was attached.
+    fn cycles(&mut self) -> Result<(), Memory> {
+        for track in 0..TRACKS {
+            self.attaches(track, track % 2 == 1, SCALES[track % 7])?;
+        }
+        for cycle in 0..CYCLES {
+            self.cycle(cycle)?;
+        }
+        Ok(())
+    }
 }
 
 // Blocks for all tracks.
-fn sizes(alloc: Global) -> Result<Vec<Size>, Memory> {
-    let mut sizes = Vec::new(alloc);
+fn sizes() -> [Size; TRACKS] {
+    let mut sizes = [Size { frames: 1, base: 0 }; TRACKS];
     for track in 0..TRACKS {
         let (frames, base) = SIZES[track % 7];
-        sizes.push(Size { frames, base })?;
+        sizes[track] = Size { frames, base };
     }
-    Ok(sizes)
+    sizes
 }
 
-// Whether each step of the run answered what the model does.
-fn runs(alloc: Global) -> Result<bool, Memory> {
-    let sizes = sizes(alloc)?;
-    let mut run = Run {
-        alloc,
-        rows: Vec::new(alloc),
-        plain: Plain::new(alloc, &sizes)?,
-        seed: 1,
-    };
-    for track in 0..TRACKS {
-        run.attaches(track, track % 2 == 1, SCALES[track % 7])?;
-    }
-    for cycle in 0..CYCLES {
-        run.cycle(cycle)?;
-    }
-    let plain = &run.plain;
-    let found = plays(
-        alloc,
-        CYCLES as usize,
-        &sizes,
-        &run.rows,
-        &plain.entries,
-        &plain.frames,
-    )?;
-    Ok(found == (run.rows.len(), true))
+// How many steps of the run did not answer what the model does, and whether the log is the model's.
+fn runs(alloc: Global) -> Result<(usize, bool), Memory> {
+    let sizes = sizes();
+    let mut run = Run::new(alloc, &sizes)?;
+    let made = run.cycles();
+    let (rows, entries, frames) = (&run.rows, &run.plain.entries, &run.plain.frames);
+    let found = plays(alloc, CYCLES as usize, &sizes, rows, entries, frames);
+    let steps = rows.len();
+    drop(run);
+    made?;
+    let (right, logged) = found?;
+    Ok((steps.wrapping_sub(right), logged))
 }
 
 #[test]
 fn a_long_run_is_that_of_the_plain_model(rt: HostRuntime) {
-    assert!(rt; runs(rt.alloc()) == Ok(true));
+    assert!(rt; runs(rt.alloc()) == Ok((0, true)));
 }

@@ -1,14 +1,15 @@
 //! One driver for the tests by calls: a table of steps, with what each of them answers.
-ghost use Rattle.std.specs.Prelude.{◌≡◌, ◌+◌, ◌<◌, ◌≤◌, ◌^◌, IfOk, IfSome, length, false};
+ghost use Rattle.std.specs.Prelude.{◌≡◌, ◌+◌, ◌<◌, ◌≤◌, ◌^◌, IfOk, IfSome, OnOk, length, false, []};
 ghost use Rattle.af_client.specs.Order.{IsClientOf};
 ghost use Rattle.af_link.specs.Names.{IsStreamOf};
 ghost use Rattle.af_link.specs.PipeEnds.{in_made};
 ghost use Rattle.af_fast_tests.specs.Ready.{AreClientsOf, AreLines, AreWaiting, IsLine, IsTable};
 
 use crate::tests::{
-    BEFORE, Ends, FRAMES, Pushing, Turned, attach, begin, detach, log_is, push_command, turn,
+    BEFORE, Ends, FRAMES, Pushing, Turned, attach, begin, detach, forget, log_is, push_command,
+    turn,
 };
-use af_base::{Command, Cycle, CycleEntry, FastLog, Frame, Memory, Push, SLOTS, Steps};
+use af_base::{Command, Cycle, CycleEntry, FastLog, Frame, Memory, Push, SLOTS, SlotReport, Steps};
 use af_cblk::Block;
 use af_client::{Client, Wrote};
 use af_link::{Links, PipeIn};
@@ -87,6 +88,10 @@ pub(crate) enum Step {
     Put {
         word: u32,
         count: usize,
+    },
+    /// Forgets a log that has so many entries.
+    Forget {
+        most: usize,
     },
     Cycle,
     Meet,
@@ -322,6 +327,10 @@ impl Table {
                 put_some(&mut self.ends.pipe, links, &frames[..count.min(8)], steps);
                 Told::Done
             }
+            Step::Forget { most } => {
+                forget(&mut self.ends, links, most);
+                Told::Done
+            }
             Step::Cycle => Told::Turned {
                 turned: turn(&mut self.ends, links, steps),
             },
@@ -384,19 +393,40 @@ pub(crate) fn line(alloc: Global, size: Size) -> Result<(Block, Client, Server),
 // The blocks of some sizes, their clients and their servers.
 type Lines = (Vec<Block>, Vec<Client>, Vec<Option<Server>>);
 
-fn lines(alloc: Global, sizes: &[Size]) -> Result<Lines, Memory>
-    ensures { IfOk result (λ r. AreLines r.0.items r.1.items r.2.items) }
+// Adds blocks of these sizes to empty lists, with their clients and servers.
+fn add_lines(
+    alloc: Global,
+    sizes: &[Size],
+    streams: &mut Vec<Block>,
+    clients: &mut Vec<Client>,
+    servers: &mut Vec<Option<Server>>,
+) -> Result<(), Memory>
+    requires { (streams.old.items ≡ []) × (clients.old.items ≡ []) × (servers.old.items ≡ []) }
+    ensures { OnOk result (AreLines streams.new.items clients.new.items servers.new.items) }
 {
-    let mut streams = Vec::new(alloc);
-    let mut clients = Vec::new(alloc);
-    let mut servers = Vec::new(alloc);
     for size in sizes {
         let (block, client, server) = line(alloc, *size)?;
         streams.push(block)?;
         clients.push(client)?;
         servers.push(Some(server))?;
     }
-    Ok((streams, clients, servers))
+    Ok(())
+}
+
+fn lines(alloc: Global, sizes: &[Size]) -> Result<Lines, Memory>
+    ensures { IfOk result (λ r. AreLines r.0.items r.1.items r.2.items) }
+{
+    let mut streams = Vec::new(alloc);
+    let mut clients = Vec::new(alloc);
+    let mut servers = Vec::new(alloc);
+    let added = add_lines(alloc, sizes, &mut streams, &mut clients, &mut servers);
+    if added.is_ok() {
+        return Ok((streams, clients, servers));
+    }
+    drop(servers);
+    drop(clients);
+    drop(streams);
+    Err(Memory)
 }
 
 // Makes the steps of a table over new blocks of these sizes.
@@ -425,6 +455,7 @@ fn plays_in<L: Ledger>(
     };
     let told = play_all(&mut table, &links, rows, entries, frames, &mut steps);
     drop(table);
+    drop(shared);
     Ok(told)
 }
 

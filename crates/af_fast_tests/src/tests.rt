@@ -8,7 +8,7 @@ ghost use Rattle.af_link.specs.Names.{IsStreamOf};
 ghost use Rattle.af_link.specs.PipeEnds.{in_made, out_made};
 ghost use Rattle.af_stateq.specs.Observes.{InOrder};
 ghost use Rattle.af_fast.specs.Fits.{NamesBlocks, stream_fits};
-ghost use Rattle.af_fast.specs.Mixer.{IsInOrder, IsLinked, IsUnused};
+ghost use Rattle.af_fast.specs.Mixer.{IsInOrder, IsLinked, IsSound, IsUnused};
 ghost use Rattle.af_fast_tests.specs.Ready.{IsReady};
 ghost use Rattle.af_model.specs.Tracks.{tracks_of};
 
@@ -28,6 +28,7 @@ use af_server::Server;
 use af_stateq::{Mutator, Observer, Queue, queue};
 use std::alloc::Global;
 use std::marker::Brand;
+use std::mem::drop;
 use std::sync::ledger::{Blank, Ledger};
 use std::test::*;
 
@@ -72,33 +73,46 @@ impl Shared {
     }
 }
 
-/// What joins two mixers, the ends that a test moves, and those of the fast mixer.
+/// What joins two mixers, and the ends that a test moves.
 #[derive(Drop)]
 struct Joints {
     shared: Shared,
     mutator: Pushing,
     reader: ReportReader,
     from: PipeIn,
+}
+
+/// The ends of the fast mixer.
+#[derive(Drop)]
+struct FastEnds {
     observer: Polling,
     writer: ReportWriter,
     to: PipeOut,
 }
 
 /// The joints of two mixers, over these blocks and a pipe of 64 frames. Nothing was done on any end.
-fn join(alloc: Global, streams: &[Block], frames: usize) -> Result<Joints, Memory>
+fn join(alloc: Global, streams: &[Block], frames: usize) -> Result<(Joints, FastEnds), Memory>
     requires frames { (1 ≤ frames) × (frames ≤ 16) }
-    ensures names { IfOk result (λ j. NamesBlocks j.mutator.past.key streams.now × NamesBlocks j.observer.past.key streams.now) }
-    ensures queue { IfOk result (λ j. (j.mutator.past.queue ≡ j.shared.queue) × (j.observer.past.queue ≡ j.shared.queue)) }
-    ensures report { IfOk result (λ j. (j.reader.cell ≡ j.shared.report) × (j.writer.cell ≡ j.shared.report)) }
-    ensures pipe { IfOk result (λ j. (in_made j.from ≡ j.shared.pipe) × (out_made j.to ≡ j.shared.pipe)) }
-    ensures unused { IfOk result (λ j. IsUnused j.observer j.writer j.to) }
-    ensures order { IfOk result (λ j. InOrder stream_fits j.observer) }
-    ensures mutator { IfOk result (λ j. (j.mutator.past.number ≡ 0) × (j.mutator.editing ≡ false)) }
+    ensures names { IfOk result (λ j. NamesBlocks j.0.mutator.past.key streams.now × NamesBlocks j.1.observer.past.key streams.now) }
+    ensures queue { IfOk result (λ j. (j.0.mutator.past.queue ≡ j.0.shared.queue) × (j.1.observer.past.queue ≡ j.0.shared.queue)) }
+    ensures report { IfOk result (λ j. (j.0.reader.cell ≡ j.0.shared.report) × (j.1.writer.cell ≡ j.0.shared.report)) }
+    ensures pipe { IfOk result (λ j. (in_made j.0.from ≡ j.0.shared.pipe) × (out_made j.1.to ≡ j.0.shared.pipe)) }
+    ensures unused { IfOk result (λ j. IsUnused j.1.observer j.1.writer j.1.to) }
+    ensures order { IfOk result (λ j. InOrder stream_fits j.1.observer) }
+    ensures mutator { IfOk result (λ j. (j.0.mutator.past.number ≡ 0) × (j.0.mutator.editing ≡ false)) }
 {
     let report = report(alloc)?;
-    let pipe = pipe(alloc, 64)?;
-    let queue = queue::<Server, StreamNames>(alloc, frames as u32, stream_names(streams))?;
-    Ok(Joints {
+    let Ok(pipe) = pipe(alloc, 64) else {
+        drop(report);
+        return Err(Memory);
+    };
+    let names = stream_names(streams);
+    let Ok(queue) = queue::<Server, StreamNames>(alloc, frames as u32, names) else {
+        drop(report);
+        drop(pipe);
+        return Err(Memory);
+    };
+    let joints = Joints {
         shared: Shared {
             queue: queue.0,
             pipe: pipe.0,
@@ -107,10 +121,13 @@ fn join(alloc: Global, streams: &[Block], frames: usize) -> Result<Joints, Memor
         mutator: queue.1,
         reader: report.2,
         from: pipe.1,
+    };
+    let fast = FastEnds {
         observer: queue.2,
         writer: report.1,
         to: pipe.2,
-    })
+    };
+    Ok((joints, fast))
 }
 
 /// A mixer of `cycles` entries and `frames` frames a cycle, with all other ends, over these blocks and a pipe of 64 frames.
@@ -129,15 +146,16 @@ pub(crate) fn begin(
     ensures order { IfOk result (λ r. IsInOrder r.1.mixer × (r.1.mixer.adopted ≡ false) × (r.1.mixer.frames ≡ frames)) }
     ensures mutator { IfOk result (λ r. (r.1.mutator.past.number ≡ 0) × (r.1.mutator.editing ≡ false)) }
 {
-    let joints = join(alloc, streams, frames)?;
-    let mixer = FastMixer::make(
-        alloc,
-        joints.observer,
-        joints.writer,
-        joints.to,
-        cycles,
-        frames,
-    )?;
+    let (joints, fast) = join(alloc, streams, frames)?;
+    let FastEnds {
+        observer,
+        writer,
+        to,
+    } = fast;
+    let Ok(mixer) = FastMixer::make(alloc, observer, writer, to, cycles, frames) else {
+        drop(joints);
+        return Err(Memory);
+    };
     let ends = Ends {
         mutator: joints.mutator,
         mixer,
@@ -224,11 +242,11 @@ pub(crate) fn one_cycle<L: Ledger>(
     steps: &mut Steps<L>,
 ) -> Cycle
     requires linked { IsLinked links.now mixer.old }
-    requires order { IsInOrder mixer.old }
+    requires order { IsSound mixer.old }
     requires turn { mixer.old.adopted ≡ false }
     requires frames { mixer.old.frames ≡ 4 }
     ensures linked { IsLinked links.now mixer.new }
-    ensures order { IsInOrder mixer.new }
+    ensures order { IsSound mixer.new }
     ensures turn { mixer.new.adopted ≡ false }
     ensures frames { mixer.new.frames ≡ 4 }
     ensures seven { tracks_of mixer.new.observer.past.state ≤ 7 → steps.new ≤ steps.old + 97 }
@@ -264,6 +282,31 @@ pub(crate) fn turn<L: Ledger>(ends: &mut Ends, links: &Links<'_>, steps: &mut St
     Turned { cycle, out, report }
 }
 
+// Forgets a log that has so many entries.
+fn forget_full(mixer: &mut FastMixer, links: &Links<'_>, most: usize)
+    requires linked { IsLinked links.now mixer.old }
+    requires order { IsSound mixer.old }
+    requires turn { (mixer.old.adopted ≡ false) × (mixer.old.frames ≡ 4) }
+    ensures linked { IsLinked links.now mixer.new }
+    ensures order { IsSound mixer.new }
+    ensures turn { (mixer.new.adopted ≡ false) × (mixer.new.frames ≡ 4) }
+{
+    let _streams = links.streams.len();
+    if mixer.log().len() >= most {
+        mixer.forget();
+    }
+}
+
+/// The mixer forgets its log, if it has so many entries.
+pub(crate) fn forget(ends: &mut Ends, links: &Links<'_>, most: usize)
+    requires ready { IsReady links.now 4 ends.old.mutator ends.old.mixer ends.old.reader }
+    ensures ready { IsReady links.now 4 ends.new.mutator ends.new.mixer ends.new.reader }
+    ensures same { ends.new.mutator ≡ ends.old.mutator }
+    ensures pipe { ends.new.pipe ≡ ends.old.pipe }
+{
+    forget_full(&mut ends.mixer, links, most);
+}
+
 pub(crate) const SILENCE: Frame = Frame { left: 0, right: 0 };
 
 pub(crate) const ABSENT: SlotEntry = SlotEntry {
@@ -285,27 +328,6 @@ pub(crate) fn still(state: u64, cycle: Cycle) -> CycleEntry {
     }
 }
 
-/// A slot at unity, on a block without flushes.
-pub(crate) fn at_unity(rear: u32, seen: Seen, first: usize) -> SlotEntry {
-    SlotEntry {
-        gains: 0x1000_1000,
-        flush: 0,
-        rear,
-        seen,
-        first,
-    }
-}
-
-/// The entry of a mix of slot 1 alone, at unity, if the pipe is empty.
-pub(crate) fn mixed_one(state: u64, slot: SlotEntry) -> CycleEntry {
-    let mut entry = still(state, Cycle::Mixed);
-    entry.slots[0] = at_unity(0, Seen::Empty, 0);
-    entry.slots[1] = slot;
-    entry.scales[0] = 0x1000;
-    entry.scales[1] = 0x1000;
-    entry
-}
-
 /// Whether these are the entries of a log, and these its frames.
 pub(crate) fn log_is(log: &FastLog, entries: &[CycleEntry], frames: &[Frame]) -> bool {
     let mut same = log.len() == entries.len();
@@ -313,24 +335,4 @@ pub(crate) fn log_is(log: &FastLog, entries: &[CycleEntry], frames: &[Frame]) ->
         same = same && log.entry(i) == Some(entry);
     }
     same && log.frames() == frames
-}
-
-/// The report after so many entries of a slot 1 of its first generation, without flushes.
-pub(crate) fn reported(cycle: u64, consumed: u64, partials: u32, empties: u32) -> Report {
-    let mut report = first_report();
-    report.cycle = cycle;
-    report.slots[1] = SlotReport {
-        consumed,
-        shut: false,
-        generation: 1,
-        flush_seen: 0,
-        fulls: 0,
-        partials,
-        empties,
-    };
-    report
-}
-
-pub(crate) fn outcome(cycle: Cycle, out: [Frame; 4], report: Report) -> Turned {
-    Turned { cycle, out, report }
 }

@@ -16,6 +16,7 @@ use af_link::Links;
 use af_server::Server;
 use std::alloc::Global;
 use std::marker::Brand;
+use std::mem::drop;
 use std::sync::ledger::{Blank, Ledger};
 use std::test::*;
 use std::thread::{Threads, join, yield_now};
@@ -61,13 +62,13 @@ fn goes_on(out: &[Frame; FRAMES], frames: &[Frame], from: usize, to: usize) -> b
 fn mix_in<L: Ledger>(
     blank: Blank,
     links: &Links<'_>,
-    mut mixer: FastMixer,
+    mixer: &mut FastMixer,
     frames: &[Frame],
 ) -> bool
     requires ledger { (blank.name ≡ L.name) × (blank.parts ≡ L.parts) × (0 < blank.parts) }
-    requires linked { IsLinked links.now mixer }
-    requires order { IsInOrder mixer }
-    requires turn { (mixer.adopted ≡ false) × (mixer.frames ≡ 16) }
+    requires linked { IsLinked links.now mixer.old }
+    requires order { IsInOrder mixer.old }
+    requires turn { (mixer.old.adopted ≡ false) × (mixer.old.frames ≡ 16) }
 {
     let mut steps = Steps::<L>::start(blank);
     let mut out = [BEFORE; FRAMES];
@@ -87,19 +88,21 @@ fn mix_in<L: Ledger>(
     right
 }
 
-fn mix_all(links: &Links<'_>, mixer: FastMixer, frames: &[Frame]) -> bool
+fn mix_all(links: &Links<'_>, mut mixer: FastMixer, frames: &[Frame]) -> bool
     requires linked { IsLinked links.now mixer }
     requires order { IsInOrder mixer }
     requires turn { (mixer.adopted ≡ false) × (mixer.frames ≡ 16) }
 {
-    mix_in::<Brand>(Blank::new(1), links, mixer, frames)
+    let right = mix_in::<Brand>(Blank::new(1), links, &mut mixer, frames);
+    drop(mixer);
+    right
 }
 
 // Writes the frames in order, as far as its calls go. It answers whether no call found the block dead or corrupt.
-fn write_in<L: Ledger>(blank: Blank, block: &Block, mut client: Client, frames: &[Frame]) -> bool
+fn write_in<L: Ledger>(blank: Blank, block: &Block, client: &mut Client, frames: &[Frame]) -> bool
     requires ledger { (blank.name ≡ L.name) × (blank.parts ≡ L.parts) × (0 < blank.parts) }
-    requires made { client_made client.pass ≡ block.now }
-    requires order { IsClientInOrder client }
+    requires made { client_made client.old.pass ≡ block.now }
+    requires order { IsClientInOrder client.old }
 {
     let mut steps = Steps::<L>::start(blank);
     let mut rest = frames;
@@ -116,11 +119,11 @@ fn write_in<L: Ledger>(blank: Blank, block: &Block, mut client: Client, frames: 
     true
 }
 
-fn write_all(block: &Block, client: Client, frames: &[Frame]) -> bool
+fn write_all(block: &Block, mut client: Client, frames: &[Frame]) -> bool
     requires made { client_made client.pass ≡ block.now }
     requires order { IsClientInOrder client }
 {
-    write_in::<Brand>(Blank::new(1), block, client, frames)
+    write_in::<Brand>(Blank::new(1), block, &mut client, frames)
 }
 
 // Attaches the proxy of the only track, and pushes the command to mix.
@@ -151,7 +154,15 @@ fn play_on_two<R: Threads + Sync>(
     requires mixer { IsLinked links.now ends.mixer × IsInOrder ends.mixer × (ends.mixer.adopted ≡ false) × (ends.mixer.frames ≡ 16) }
     requires client { (client_made client.pass ≡ block.now) × IsClientInOrder client }
 {
-    let mixer = ends.mixer;
+    let Ends {
+        mutator,
+        mixer,
+        reader,
+        pipe,
+    } = ends;
+    drop(mutator);
+    drop(reader);
+    drop(pipe);
     join(
         rt,
         move || -> bool
@@ -178,7 +189,9 @@ fn play<R: Threads + Sync, L: Ledger>(
     let (shared, mut ends) = begin(alloc, &streams, CYCLES, FRAMES)?;
     let links = shared.links(&streams);
     mix_only(&mut ends.mutator, &links, made.2, &mut steps);
-    Ok(play_on_two(rt, &links, ends, &streams[0], made.1, frames))
+    let played = play_on_two(rt, &links, ends, &streams[0], made.1, frames);
+    drop(shared);
+    Ok(played)
 }
 
 fn plays<R: Threads + Sync>(rt: &R, alloc: Global) -> Result<(bool, bool), Memory> {

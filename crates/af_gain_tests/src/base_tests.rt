@@ -58,33 +58,37 @@ fn one_sum_and_one_clamp(rt: HostRuntime) -> Result<(), Fail> {
     Ok(())
 }
 
-#[test]
-fn a_log_is_its_entries_and_frames(rt: HostRuntime) -> Result<(), Fail> {
-    let mut log = FastLog::with_room(rt.alloc(), 2, 4)?;
-    let slot = SlotEntry {
+const ENTRY: CycleEntry = CycleEntry {
+    state: 1,
+    cycle: Cycle::Mixed,
+    slots: [SlotEntry {
         gains: 0x1000_1000,
         flush: 0,
         rear: 2,
         seen: Seen::Frames { count: 2 },
         first: 0,
-    };
-    let entry = CycleEntry {
-        state: 1,
-        cycle: Cycle::Mixed,
-        slots: [slot; SLOTS],
-        scales: [0x1000; SLOTS],
-        mono: 2,
-    };
-    let frames = [Frame { left: 1, right: 2 }, Frame { left: 3, right: 4 }];
-    log.push_frames(&frames);
+    }; SLOTS],
+    scales: [0x1000; SLOTS],
+    mono: 2,
+};
+
+const FRAMES: [Frame; 2] = [Frame { left: 1, right: 2 }, Frame { left: 3, right: 4 }];
+
+/// Whether a log has one entry, and these frames.
+fn is_logged(log: &FastLog, entry: &CycleEntry, frames: &[Frame]) -> bool {
+    log.len() == 1
+        && log.entry(0) == Some(entry)
+        && log.entry(1).is_none()
+        && log.frames() == frames
+}
+
+#[test]
+fn a_log_is_its_entries_and_frames(rt: HostRuntime) -> Result<(), Fail> {
+    let mut log = FastLog::with_room(rt.alloc(), 2, 4)?;
+    let entry = ENTRY;
+    log.push_frames(&FRAMES);
     log.push(entry);
-    assert!(rt; log.len() == 1);
-    let Some(first) = log.entry(0) else {
-        return Err(Fail::new("no entry"));
-    };
-    assert!(rt; *first == entry);
-    assert!(rt; log.entry(1).is_none());
-    assert!(rt; log.frames() == frames.as_slice());
+    assert!(rt; is_logged(&log, &entry, &FRAMES));
     Ok(())
 }
 

@@ -3,6 +3,7 @@ use crate::reading_tests::{script, text_with};
 use af_base::{Cycle, Frame, Memory, Seen};
 use af_journal::{JournalFault, read, read_front, write};
 use af_model::Journal;
+use af_script::Script;
 use std::alloc::Global;
 use std::mem::drop;
 use std::test::Fail;
@@ -39,28 +40,26 @@ const FRONTS: [(&str, bool, usize); 8] = [
 ];
 
 // Whether a text is read for two tracks, and written as it was.
-fn comes_back(alloc: Global, text: &[u8]) -> Result<bool, Memory> {
-    let Ok(journal) = read(alloc, text, &script(alloc)?) else {
-        return Ok(false);
+fn comes_back(alloc: Global, script: &Script, text: &[u8]) -> bool {
+    let Ok(journal) = read(alloc, text, script) else {
+        return false;
     };
     let mut out = Vec::new(alloc);
-    write(alloc, &journal, &mut out)?;
-    Ok(journal.tracks() == 2 && out.as_slice() == text)
+    let written = write(alloc, &journal, &mut out).is_ok();
+    let told = journal.tracks() == 2;
+    drop(journal);
+    written && told && out.as_slice() == text
 }
 
-fn all_come_back(alloc: Global) -> Result<bool, Memory> {
-    for count in &WHOLE {
-        let text = text_with(alloc, *count, 30, "")?;
-        if !comes_back(alloc, text.as_bytes())? {
-            return Ok(false);
-        }
-    }
-    Ok(true)
+// Whether the first lines of the text of all kinds of line do.
+fn lines_come_back(alloc: Global, script: &Script, count: usize) -> Result<bool, Memory> {
+    let text = text_with(alloc, count, 30, "")?;
+    Ok(comes_back(alloc, script, text.as_bytes()))
 }
 
 // How many rounds a text has for the script, or else the number of its first bad line.
-fn outcome(alloc: Global, text: &str) -> Result<(usize, u64), Memory> {
-    match read(alloc, text.as_bytes(), &script(alloc)?) {
+fn outcome(alloc: Global, script: &Script, text: &str) -> Result<(usize, u64), Memory> {
+    match read(alloc, text.as_bytes(), script) {
         Ok(journal) => Ok((journal.rounds(), 0)),
         Err(JournalFault::Line { number }) => Ok((0, number)),
         Err(JournalFault::Memory) => Err(Memory),
@@ -68,33 +67,52 @@ fn outcome(alloc: Global, text: &str) -> Result<(usize, u64), Memory> {
 }
 
 // Whether all of a text is kept, and how many rounds are.
-fn kept(alloc: Global, text: &str) -> Result<(bool, usize), Memory> {
-    match read_front(alloc, text.as_bytes(), &script(alloc)?) {
+fn kept(alloc: Global, script: &Script, text: &str) -> Result<(bool, usize), Memory> {
+    match read_front(alloc, text.as_bytes(), script) {
         Ok(front) => Ok((front.whole, front.journal.rounds())),
         Err(_) => Err(Memory),
     }
 }
 
-#[test]
-fn a_text_is_kept_up_to_a_round_of_no_run(rt: HostRuntime) -> Result<(), Fail> {
-    for (text, whole, rounds) in FRONTS {
-        assert_eq!(rt; kept(rt.alloc(), text)?, (whole, rounds));
+// How many texts are kept so far, up to the first that isn't.
+fn fronts_kept(alloc: Global, script: &Script) -> usize {
+    for (i, (text, whole, rounds)) in FRONTS.iter().enumerate() {
+        if kept(alloc, script, text) != Ok((*whole, *rounds)) {
+            return i;
+        }
     }
-    Ok(())
+    FRONTS.len()
+}
+
+// How many counts of lines come back, up to the first that doesn't.
+fn lines_written(alloc: Global, script: &Script) -> usize {
+    for (i, count) in WHOLE.iter().enumerate() {
+        if lines_come_back(alloc, script, *count) != Ok(true) {
+            return i;
+        }
+    }
+    WHOLE.len()
+}
+
+// How many texts have those rounds, or that bad line, up to the first that hasn't.
+fn texts_read(alloc: Global, script: &Script) -> usize {
+    for (i, (text, rounds, number)) in TEXTS.iter().enumerate() {
+        if outcome(alloc, script, text) != Ok((*rounds, *number)) {
+            return i;
+        }
+    }
+    TEXTS.len()
 }
 
 #[test]
-fn each_kind_of_line_comes_back(rt: HostRuntime) -> Result<(), Fail> {
-    assert!(rt; all_come_back(rt.alloc())?);
-    Ok(())
-}
-
-#[test]
-fn texts_have_rounds_or_a_bad_line(rt: HostRuntime) -> Result<(), Fail> {
-    for (text, rounds, number) in &TEXTS {
-        let found = outcome(rt.alloc(), text)?;
-        assert!(rt; found == (*rounds, *number), "{text}");
-    }
+fn texts_are_read_and_come_back(rt: HostRuntime) -> Result<(), Fail> {
+    let script = script(rt.alloc())?;
+    let fronts = fronts_kept(rt.alloc(), &script);
+    let whole = lines_written(rt.alloc(), &script);
+    let texts = texts_read(rt.alloc(), &script);
+    drop(script);
+    let all = (FRONTS.len(), WHOLE.len(), TEXTS.len());
+    assert!(rt; (fronts, whole, texts) == all, "{fronts} {whole} {texts}");
     Ok(())
 }
 
@@ -138,19 +156,27 @@ fn tells_turn(journal: &Journal) -> bool {
     track.status == Some(258) && take.frames.as_slice() == [Frame { left: -1, right: 1 }].as_slice()
 }
 
-// Whether the journal of the whole text has all of that.
-fn text_is_told(alloc: Global) -> Result<bool, Memory> {
-    let text = text_with(alloc, 30, 30, "")?;
-    let Ok(journal) = read(alloc, text.as_bytes(), &script(alloc)?) else {
-        return Ok(false);
+// Whether the journal of a text has all of that.
+fn is_told(alloc: Global, script: &Script, text: &[u8]) -> bool {
+    let Ok(journal) = read(alloc, text, script) else {
+        return false;
     };
     let told = tells_rounds(&journal) && tells_entry(&journal) && tells_turn(&journal);
     drop(journal);
-    Ok(told)
+    told
+}
+
+// Whether the journal of the whole text does.
+fn text_is_told(alloc: Global, script: &Script) -> Result<bool, Memory> {
+    let text = text_with(alloc, 30, 30, "")?;
+    Ok(is_told(alloc, script, text.as_bytes()))
 }
 
 #[test]
 fn a_journal_says_what_its_text_said(rt: HostRuntime) -> Result<(), Fail> {
-    assert!(rt; text_is_told(rt.alloc())?);
+    let script = script(rt.alloc())?;
+    let told = text_is_told(rt.alloc(), &script);
+    drop(script);
+    assert!(rt; told == Ok(true));
     Ok(())
 }

@@ -3,6 +3,7 @@ use af_base::Memory;
 use af_journal::first_bad_line;
 use af_script::{Script, read};
 use std::alloc::Global;
+use std::mem::drop;
 use std::test::Fail;
 
 // A script of two tracks.
@@ -142,45 +143,59 @@ pub(crate) fn text_with(
     Ok(text)
 }
 
-fn all_damages_found(alloc: Global) -> Result<bool, Memory> {
-    let script = script(alloc)?;
-    for (place, line, number) in &DAMAGES {
-        let text = text_with(alloc, 30, *place, line)?;
-        if first_bad_line(text.as_bytes(), &script) != Some(*number) {
-            return Ok(false);
-        }
-    }
-    Ok(true)
+// The first bad line of the first lines of the text, with another line in one place.
+fn first_bad(
+    alloc: Global,
+    script: &Script,
+    count: usize,
+    place: usize,
+    line: &str,
+) -> Result<Option<u64>, Memory> {
+    let text = text_with(alloc, count, place, line)?;
+    Ok(first_bad_line(text.as_bytes(), script))
 }
 
-fn all_fronts_read(alloc: Global) -> Result<bool, Memory> {
-    let script = script(alloc)?;
-    for (count, number) in &FRONTS {
-        let text = text_with(alloc, *count, 30, "")?;
-        if first_bad_line(text.as_bytes(), &script) != *number {
-            return Ok(false);
+// How many damages are found, up to the first that isn't.
+fn damages_found(alloc: Global, script: &Script) -> usize {
+    for (i, (place, line, number)) in DAMAGES.iter().enumerate() {
+        if first_bad(alloc, script, 30, *place, line) != Ok(Some(*number)) {
+            return i;
         }
     }
-    Ok(true)
+    DAMAGES.len()
+}
+
+// How many fronts are read as they are, up to the first that isn't.
+fn fronts_read(alloc: Global, script: &Script) -> usize {
+    for (i, (count, number)) in FRONTS.iter().enumerate() {
+        if first_bad(alloc, script, *count, 30, "") != Ok(*number) {
+            return i;
+        }
+    }
+    FRONTS.len()
+}
+
+// How many of the other texts are refused at their line, up to the first that isn't.
+fn others_refused(script: &Script) -> usize {
+    for (i, (text, number)) in OTHERS.iter().enumerate() {
+        if first_bad_line(text, script) != Some(*number) {
+            return i;
+        }
+    }
+    OTHERS.len()
 }
 
 #[test]
 fn each_damaged_line_is_found(rt: HostRuntime) -> Result<(), Fail> {
-    assert!(rt; all_damages_found(rt.alloc())?);
-    Ok(())
-}
-
-#[test]
-fn each_front_is_read(rt: HostRuntime) -> Result<(), Fail> {
-    assert!(rt; all_fronts_read(rt.alloc())?);
-    Ok(())
-}
-
-#[test]
-fn ends_and_other_bytes_are_refused(rt: HostRuntime) -> Result<(), Fail> {
     let script = script(rt.alloc())?;
-    for (text, number) in &OTHERS {
-        assert!(rt; first_bad_line(text, &script) == Some(*number));
-    }
+    let damages = damages_found(rt.alloc(), &script);
+    let fronts = fronts_read(rt.alloc(), &script);
+    let others = others_refused(&script);
+    drop(script);
+    let all = (DAMAGES.len(), FRONTS.len(), OTHERS.len());
+    assert!(rt;
+        (damages, fronts, others) == all,
+        "{damages} {fronts} {others}"
+    );
     Ok(())
 }

@@ -10,6 +10,7 @@ use af_base::{
 };
 use af_life::{Heard, Holder, Known, LifeState, PlainMixer, Setting, TrackKept, turn_weight};
 use std::alloc::Global;
+use std::mem::drop;
 
 const ROOM: u32 = 4;
 
@@ -31,10 +32,13 @@ struct Step {
     ack: bool,
     push: Push,
     report: SlotReport,
-    first: [CommandLook; 3],
-    second: [CommandLook; 3],
-    wants: [Want; 2],
+    first: Looks,
+    second: Looks,
+    wants: (Want, Want),
 }
+
+// What a turn saw at the commands of a track.
+type Looks = (CommandLook, CommandLook, CommandLook);
 
 // What a turn leaves of a track.
 #[derive(Clone, Copy, PartialEq, Eq)]
@@ -47,57 +51,63 @@ struct Want {
     status: u32,
 }
 
-fn look(seen: Seen, code: u32, argument: u32) -> CommandLook {
-    CommandLook {
-        flush: 0,
-        rear: 0,
-        seen,
-        code,
-        argument,
-    }
+// A look at a track's commands.
+macro_rules! look {
+    ($seen:expr, $code:expr, $argument:expr) => {
+        CommandLook {
+            flush: 0,
+            rear: 0,
+            seen: $seen,
+            code: $code,
+            argument: $argument,
+        }
+    };
 }
 
-fn command(code: u32, argument: u32) -> CommandLook {
-    look(Seen::Frames { count: 2 }, code, argument)
+macro_rules! command {
+    ($code:expr, $argument:expr) => {
+        look!(Seen::Frames { count: 2 }, $code, $argument)
+    };
 }
 
-fn nothing() -> CommandLook {
-    look(Seen::Empty, 0, 0)
+const NOTHING: CommandLook = look!(Seen::Empty, 0, 0);
+
+const OPEN: CommandLook = command!(1, 0);
+
+const START: CommandLook = command!(2, 0);
+
+const REMOVE: CommandLook = command!(6, 0);
+
+const QUIET: Looks = (NOTHING, NOTHING, NOTHING);
+
+macro_rules! reported {
+    ($generation:expr, $consumed:expr, $empties:expr) => {
+        SlotReport {
+            consumed: $consumed,
+            shut: false,
+            generation: $generation,
+            flush_seen: 0,
+            fulls: 0,
+            partials: 0,
+            empties: $empties,
+        }
+    };
 }
 
-fn reported(generation: u64, consumed: u64, empties: u32) -> SlotReport {
-    SlotReport {
-        consumed,
-        shut: false,
-        generation,
-        flush_seen: 0,
-        fulls: 0,
-        partials: 0,
-        empties,
-    }
+macro_rules! left {
+    ($state:expr, $holder:expr, $slot:expr, $retries:expr, $settled:expr, $status:expr) => {
+        Want {
+            state: $state,
+            holder: $holder,
+            slot: $slot,
+            retries: $retries,
+            settled: $settled,
+            status: $status,
+        }
+    };
 }
 
-fn left(
-    state: LifeState,
-    holder: Holder,
-    slot: Option<u32>,
-    retries: u32,
-    settled: u64,
-    status: u32,
-) -> Want {
-    Want {
-        state,
-        holder,
-        slot,
-        retries,
-        settled,
-        status,
-    }
-}
-
-fn unheard() -> Want {
-    left(Absent, Home, None, 50, 0, 0)
-}
+const UNHEARD: Want = left!(Absent, Home, None, 50, 0, 0);
 
 fn is_wanted(track: TrackKept, want: Want) -> bool {
     let found = Want {
@@ -111,11 +121,11 @@ fn is_wanted(track: TrackKept, want: Want) -> bool {
     found == want
 }
 
-fn seen(alloc: Global, looks: [CommandLook; 3]) -> Result<TrackTurn, Memory> {
+fn seen(alloc: Global, looks: Looks) -> Result<TrackTurn, Memory> {
     let mut list = CommandLooks::with_room(alloc, 3)?;
-    list.push(looks[0]);
-    list.push(looks[1]);
-    list.push(looks[2]);
+    list.push(looks.0);
+    list.push(looks.1);
+    list.push(looks.2);
     Ok(TrackTurn {
         looks: list,
         status: None,
@@ -123,14 +133,23 @@ fn seen(alloc: Global, looks: [CommandLook; 3]) -> Result<TrackTurn, Memory> {
     })
 }
 
-fn entry_of(alloc: Global, step: Step) -> Result<TurnEntry, Memory> {
-    let mut entry = TurnEntry::with_room(alloc, 2, 0)?;
+fn entry_of(alloc: Global, step: &Step) -> Result<TurnEntry, Memory> {
+    let first = seen(alloc, step.first)?;
+    let Ok(second) = seen(alloc, step.second) else {
+        drop(first);
+        return Err(Memory);
+    };
+    let Ok(mut entry) = TurnEntry::with_room(alloc, 2, 0) else {
+        drop(first);
+        drop(second);
+        return Err(Memory);
+    };
     entry.ended = false;
     entry.room = ROOM;
     entry.ack = step.ack;
     entry.push = step.push;
-    entry.tracks.push(seen(alloc, step.first)?);
-    entry.tracks.push(seen(alloc, step.second)?);
+    entry.tracks.push(first);
+    entry.tracks.push(second);
     Ok(entry)
 }
 
@@ -152,203 +171,243 @@ fn new_mixer(alloc: Global) -> Result<PlainMixer, Memory>
 }
 
 // Makes a turn; whether it left what was wanted.
-fn turned(alloc: Global, mixer: &mut PlainMixer, step: Step) -> Result<bool, Memory>
+fn leaves(mixer: &mut PlainMixer, entry: &TurnEntry, step: &Step) -> bool
     requires { IsSmall mixer.old.turns mixer.old.setup mixer.old.kept }
-    ensures { IfOk result (λ so. IsSmall mixer.new.turns mixer.new.setup mixer.new.kept) }
+    ensures { IsSmall mixer.new.turns mixer.new.setup mixer.new.kept }
 {
-    let entry = entry_of(alloc, step)?;
-    let mut slots = [reported(0, 0, 0); SLOTS];
+    let mut slots = [reported!(0, 0, 0); SLOTS];
     slots[1] = step.report;
     let report = Report { cycle: 0, slots };
     let own = [NOTHING_HEARD; 3];
-    let few = entry.mixes.as_slice().len() <= 32 && turn_weight(&entry) <= 1;
+    let few = entry.mixes.as_slice().len() <= 32 && turn_weight(entry) <= 1;
     if !few || mixer.turns() >= 131072 || mixer.tracks().len() != own.len() {
-        return Ok(false);
+        return false;
     }
-    mixer.turn(&report, &own, &entry);
+    mixer.turn(&report, &own, entry);
     let tracks = mixer.tracks();
-    Ok(is_wanted(tracks[0], step.wants[0]) && is_wanted(tracks[1], step.wants[1]))
+    let (first, second) = step.wants;
+    is_wanted(tracks[0], first) && is_wanted(tracks[1], second)
 }
 
-// Makes some turns from the start; whether each left what was wanted.
-fn plays(alloc: Global, steps: &[Step]) -> Result<bool, Memory> {
-    let mut mixer = new_mixer(alloc)?;
-    for step in steps {
-        if !turned(alloc, &mut mixer, *step)? {
-            return Ok(false);
+// Makes turns; how many leave what is wanted, up to the first that doesn't.
+fn turns(alloc: Global, mixer: &mut PlainMixer, steps: &[Step]) -> Result<usize, Memory>
+    requires { IsSmall mixer.old.turns mixer.old.setup mixer.old.kept }
+{
+    for i in 0..steps.len() {
+        let entry = entry_of(alloc, &steps[i])?;
+        let left = leaves(mixer, &entry, &steps[i]);
+        drop(entry);
+        if !left {
+            return Ok(i);
         }
     }
-    Ok(true)
+    Ok(steps.len())
+}
+
+// Makes turns from the start.
+fn played(alloc: Global, steps: &[Step]) -> Result<usize, Memory> {
+    let mut mixer = new_mixer(alloc)?;
+    let played = turns(alloc, &mut mixer, steps);
+    drop(mixer);
+    played
 }
 
 // A turn in which only the first track has commands, and the second was never opened.
-fn alone(ack: bool, push: Push, report: SlotReport, first: [CommandLook; 3], wanted: Want) -> Step {
-    Step {
-        ack,
-        push,
-        report,
-        first,
-        second: [nothing(); 3],
-        wants: [wanted, unheard()],
-    }
-}
-
-fn opened() -> Step {
-    alone(
-        true,
-        Pushed { number: 1 },
-        reported(0, 0, 0),
-        [command(1, 0), command(2, 0), nothing()],
-        left(Active, Lent, Some(1), 50, 2, 514),
-    )
-}
-
-fn quiet(ack: bool, push: Push, report: SlotReport, wanted: Want) -> Step {
-    alone(ack, push, report, [nothing(); 3], wanted)
-}
-
-#[test]
-fn a_stop_waits_until_all_is_consumed(rt: HostRuntime) {
-    let steps = [
-        opened(),
-        alone(
-            true,
-            Clean,
-            reported(1, 2, 0),
-            [command(4, 3), nothing(), nothing()],
-            left(Stopping1, Lent, Some(1), 50, 3, 774),
-        ),
-        quiet(
-            true,
-            Clean,
-            reported(1, 2, 1),
-            left(Stopping1, Lent, Some(1), 50, 3, 774),
-        ),
-        quiet(
-            true,
-            Clean,
-            reported(1, 3, 1),
-            left(Stopping2, Lent, Some(1), 50, 3, 791),
-        ),
-        quiet(
-            true,
-            Pushed { number: 2 },
-            reported(1, 3, 2),
-            left(Stopped, Returning, Some(1), 50, 3, 792),
-        ),
-        quiet(
-            true,
-            Clean,
-            reported(1, 3, 2),
-            left(Stopped, Home, Some(1), 50, 3, 792),
-        ),
-    ];
-    assert!(rt; plays(rt.alloc(), &steps) == Ok(true));
-}
-
-#[test]
-fn empty_looks_of_this_attachment_cost_retries(rt: HostRuntime) {
-    let playing = |retries| left(Active, Lent, Some(1), retries, 2, 514);
-    let steps = [
-        opened(),
-        quiet(true, Clean, reported(0, 9, 7), playing(50)),
-        quiet(true, Clean, reported(1, 0, 1), playing(49)),
-        quiet(true, Clean, reported(1, 0, 4), playing(48)),
-        quiet(true, Clean, reported(1, 0, 4), playing(48)),
-    ];
-    assert!(rt; plays(rt.alloc(), &steps) == Ok(true));
-}
-
-// A detach that a push couldn't carry stands in the draft alone: the last state pushed still has the proxy, so an acknowledgement of it brings nothing.
-#[test]
-fn a_proxy_comes_home_once_no_pushed_state_has_it(rt: HostRuntime) {
-    let busy = Busy {
-        seen: 0,
-        expected: 1,
+macro_rules! alone {
+    ($ack:expr, $push:expr, $report:expr, $first:expr, $wanted:expr) => {
+        Step {
+            ack: $ack,
+            push: $push,
+            report: $report,
+            first: $first,
+            second: QUIET,
+            wants: ($wanted, UNHEARD),
+        }
     };
-    let gone = |holder| left(Active, holder, Some(1), 50, 3, 770);
-    let remove = [command(6, 0), nothing(), nothing()];
-    let steps = [
-        opened(),
-        alone(false, busy, reported(0, 0, 0), remove, gone(Returning)),
-        quiet(
-            true,
-            Pushed { number: 2 },
-            reported(1, 0, 0),
-            gone(Returning),
-        ),
-        quiet(true, Clean, reported(1, 0, 0), gone(Home)),
-    ];
-    assert!(rt; plays(rt.alloc(), &steps) == Ok(true));
 }
+
+macro_rules! quiet {
+    ($ack:expr, $push:expr, $report:expr, $wanted:expr) => {
+        alone!($ack, $push, $report, QUIET, $wanted)
+    };
+}
+
+const OPENED: Step = alone!(
+    true,
+    Pushed { number: 1 },
+    reported!(0, 0, 0),
+    (OPEN, START, NOTHING),
+    left!(Active, Lent, Some(1), 50, 2, 514)
+);
+
+// A stop waits until all is consumed.
+const STOPS: [Step; 6] = [
+    OPENED,
+    alone!(
+        true,
+        Clean,
+        reported!(1, 2, 0),
+        (command!(4, 3), NOTHING, NOTHING),
+        left!(Stopping1, Lent, Some(1), 50, 3, 774)
+    ),
+    quiet!(
+        true,
+        Clean,
+        reported!(1, 2, 1),
+        left!(Stopping1, Lent, Some(1), 50, 3, 774)
+    ),
+    quiet!(
+        true,
+        Clean,
+        reported!(1, 3, 1),
+        left!(Stopping2, Lent, Some(1), 50, 3, 791)
+    ),
+    quiet!(
+        true,
+        Pushed { number: 2 },
+        reported!(1, 3, 2),
+        left!(Stopped, Returning, Some(1), 50, 3, 792)
+    ),
+    quiet!(
+        true,
+        Clean,
+        reported!(1, 3, 2),
+        left!(Stopped, Home, Some(1), 50, 3, 792)
+    ),
+];
+
+macro_rules! playing {
+    ($retries:expr) => {
+        left!(Active, Lent, Some(1), $retries, 2, 514)
+    };
+}
+
+// Empty looks of this attachment cost retries.
+const EMPTIES: [Step; 5] = [
+    OPENED,
+    quiet!(true, Clean, reported!(0, 9, 7), playing!(50)),
+    quiet!(true, Clean, reported!(1, 0, 1), playing!(49)),
+    quiet!(true, Clean, reported!(1, 0, 4), playing!(48)),
+    quiet!(true, Clean, reported!(1, 0, 4), playing!(48)),
+];
+
+macro_rules! gone {
+    ($holder:expr) => {
+        left!(Active, $holder, Some(1), 50, 3, 770)
+    };
+}
+
+// A proxy comes home once no pushed state has it. A detach that a push couldn't carry stands in the draft alone: the last state pushed still has the proxy, so an acknowledgement of it brings nothing.
+const COMES_HOME: [Step; 4] = [
+    OPENED,
+    alone!(
+        false,
+        Busy {
+            seen: 0,
+            expected: 1,
+        },
+        reported!(0, 0, 0),
+        (REMOVE, NOTHING, NOTHING),
+        gone!(Returning)
+    ),
+    quiet!(
+        true,
+        Pushed { number: 2 },
+        reported!(1, 0, 0),
+        gone!(Returning)
+    ),
+    quiet!(true, Clean, reported!(1, 0, 0), gone!(Home)),
+];
 
 // The commands of one turn, and what they leave of the first track.
-#[test]
-fn commands_of_one_turn(rt: HostRuntime) {
-    let one = look(Seen::Frames { count: 1 }, 1, 0);
-    let shut = look(Seen::Shut { front: 9, rear: 0 }, 0, 0);
-    let (open, start, remove) = (command(1, 0), command(2, 0), command(6, 0));
-    let rows = [
-        // a start of a track that isn't there is settled as it is taken
-        (
-            [start, nothing(), open],
-            left(Absent, Home, None, 50, 1, 256),
-        ),
-        // a START of a flush count that was not seen is obeyed, and waits
-        (
-            [open, command(2, 3), open],
-            left(Active, Lent, Some(1), 50, 1, 258),
-        ),
-        // the looks go on after a remove
-        ([open, remove, start], left(Idle, Home, Some(1), 50, 3, 769)),
-        // a look that shows half a command ends them
-        ([open, one, start], left(Idle, Home, Some(1), 50, 1, 257)),
-        // a look that finds the block shut ends them
-        ([open, shut, start], left(Idle, Home, Some(1), 50, 1, 271)),
-        // a code that is no command's is settled
-        (
-            [open, command(9, 0), nothing()],
-            left(Idle, Home, Some(1), 50, 2, 513),
-        ),
-    ];
-    for (first, wanted) in &rows {
-        let steps = [alone(true, Clean, reported(0, 0, 0), *first, *wanted)];
-        assert!(rt; plays(rt.alloc(), &steps) == Ok(true));
-    }
+macro_rules! one_turn {
+    ($first:expr, $wanted:expr) => {
+        [alone!(true, Clean, reported!(0, 0, 0), $first, $wanted)]
+    };
 }
 
-// A slot is free as soon as its track has ended and its proxy is home, also in the middle of a turn; and a proxy that is still away keeps it.
+// A START of a track that isn't there is settled as it is taken.
+const EARLY: [Step; 1] = one_turn!(
+    (START, NOTHING, OPEN),
+    left!(Absent, Home, None, 50, 1, 256)
+);
+
+// A START of a flush count that was not seen is obeyed, and waits.
+const WAITS: [Step; 1] = one_turn!(
+    (OPEN, command!(2, 3), OPEN),
+    left!(Active, Lent, Some(1), 50, 1, 258)
+);
+
+// The looks go on after a remove.
+const GOES_ON: [Step; 1] = one_turn!(
+    (OPEN, REMOVE, START),
+    left!(Idle, Home, Some(1), 50, 3, 769)
+);
+
+// A look that shows half a command ends them.
+const HALF: [Step; 1] = one_turn!(
+    (OPEN, look!(Seen::Frames { count: 1 }, 1, 0), START),
+    left!(Idle, Home, Some(1), 50, 1, 257)
+);
+
+// A look that finds the block shut ends them.
+const SHUT: [Step; 1] = one_turn!(
+    (OPEN, look!(Seen::Shut { front: 9, rear: 0 }, 0, 0), START),
+    left!(Idle, Home, Some(1), 50, 1, 271)
+);
+
+// A code that is no command's is settled.
+const UNKNOWN: [Step; 1] = one_turn!(
+    (OPEN, command!(9, 0), NOTHING),
+    left!(Idle, Home, Some(1), 50, 2, 513)
+);
+
+const ENDED: Want = left!(Idle, Home, Some(1), 50, 2, 513);
+
+// A slot is free as soon as its track has ended and its proxy is home, also in the middle of a turn.
+const AT_ONCE: [Step; 1] = [Step {
+    ack: true,
+    push: Clean,
+    report: reported!(0, 0, 0),
+    first: (OPEN, REMOVE, NOTHING),
+    second: (OPEN, START, NOTHING),
+    wants: (ENDED, left!(Active, Lent, Some(1), 50, 2, 514)),
+}];
+
+// A proxy that is still away keeps the slot.
+const LATER: [Step; 2] = [
+    OPENED,
+    Step {
+        ack: true,
+        push: Pushed { number: 2 },
+        report: reported!(1, 0, 0),
+        first: (REMOVE, NOTHING, NOTHING),
+        second: (OPEN, START, NOTHING),
+        wants: (
+            left!(Active, Returning, Some(1), 50, 3, 770),
+            left!(Active, Lent, Some(2), 50, 2, 514),
+        ),
+    },
+];
+
+const SESSIONS: [(&str, &[Step]); 11] = [
+    ("a stop waits until all is consumed", &STOPS),
+    ("empty looks of this attachment cost retries", &EMPTIES),
+    ("a proxy comes home", &COMES_HOME),
+    ("an early start", &EARLY),
+    ("a start that waits", &WAITS),
+    ("commands behind a remove", &GOES_ON),
+    ("half a command", &HALF),
+    ("a shut block", &SHUT),
+    ("an unknown code", &UNKNOWN),
+    ("a slot given again at once", &AT_ONCE),
+    ("a slot that is kept", &LATER),
+];
+
 #[test]
-fn a_slot_is_given_again(rt: HostRuntime) {
-    let (open, start, remove) = (command(1, 0), command(2, 0), command(6, 0));
-    let gone = left(Idle, Home, Some(1), 50, 2, 513);
-    let second = |holder, slot| left(Active, holder, Some(slot), 50, 2, 514);
-    let at_once = Step {
-        second: [open, start, nothing()],
-        wants: [gone, second(Lent, 1)],
-        ..alone(
-            true,
-            Clean,
-            reported(0, 0, 0),
-            [open, remove, nothing()],
-            gone,
-        )
-    };
-    let away = left(Active, Returning, Some(1), 50, 3, 770);
-    let later = [
-        opened(),
-        Step {
-            second: [open, start, nothing()],
-            wants: [away, second(Lent, 2)],
-            ..alone(
-                true,
-                Pushed { number: 2 },
-                reported(1, 0, 0),
-                [remove, nothing(), nothing()],
-                away,
-            )
-        },
-    ];
-    assert!(rt; plays(rt.alloc(), &[at_once]) == Ok(true));
-    assert!(rt; plays(rt.alloc(), &later) == Ok(true));
+fn sessions_leave_what_is_wanted(rt: HostRuntime) {
+    for (name, steps) in &SESSIONS {
+        let found = played(rt.alloc(), steps);
+        assert!(rt; found == Ok(steps.len()), "{name}");
+    }
 }

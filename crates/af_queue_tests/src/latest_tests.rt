@@ -5,6 +5,7 @@ use af_base::{Memory, Steps};
 use af_latest::{Latest, Reader, Writer, latest, meet_latest};
 use std::alloc::Global;
 use std::marker::Brand;
+use std::mem::drop;
 use std::sync::ledger::{Blank, Ledger};
 use std::test::Fail;
 use std::thread;
@@ -23,22 +24,22 @@ fn loads_in_turn<L: Ledger>(alloc: Global, blank: Blank) -> Result<[u32; 4], Mem
     writer.store(&cell, &3, &mut steps);
     meet_latest(&cell, &mut writer, &mut reader, &mut steps);
     let last = reader.load(&cell, &mut steps);
+    drop(reader);
+    drop(writer);
+    drop(cell);
     Ok([first, second, third, last])
 }
 
 #[test]
-fn a_load_shows_the_last_store(rt: HostRuntime) -> Result<(), Fail> {
-    let Ok(found) = loads_in_turn::<Brand>(rt.alloc(), Blank::new(1)) else {
-        return Err(Fail::new("no memory"));
-    };
-    assert!(rt; found == [0, 2, 2, 3]);
-    Ok(())
+fn a_load_shows_the_last_store(rt: HostRuntime) {
+    let found = loads_in_turn::<Brand>(rt.alloc(), Blank::new(1));
+    assert!(rt; found == Ok([0, 2, 2, 3]));
 }
 
-fn store_by<L: Ledger>(cell: &Latest<u64>, mut writer: Writer<u64>, blank: Blank)
+fn store_by<L: Ledger>(cell: &Latest<u64>, writer: &mut Writer<u64>, blank: Blank)
     requires name { blank.name ≡ L.name }
     requires parts { (blank.parts ≡ L.parts) × (0 < blank.parts) }
-    requires together { writer.cell ≡ cell.now }
+    requires together { writer.old.cell ≡ cell.now }
 {
     let mut steps = Steps::<L>::start(blank);
     for i in 1..1001u64 {
@@ -46,17 +47,18 @@ fn store_by<L: Ledger>(cell: &Latest<u64>, mut writer: Writer<u64>, blank: Blank
     }
 }
 
-fn store_all(cell: &Latest<u64>, writer: Writer<u64>)
+fn store_all(cell: &Latest<u64>, mut writer: Writer<u64>)
     requires together { writer.cell ≡ cell.now }
 {
-    store_by::<Brand>(cell, writer, Blank::new(1));
+    store_by::<Brand>(cell, &mut writer, Blank::new(1));
+    drop(writer);
 }
 
 // Whether a number was loaded that is below the one before.
-fn load_by<L: Ledger>(cell: &Latest<u64>, mut reader: Reader<u64>, blank: Blank) -> bool
+fn load_by<L: Ledger>(cell: &Latest<u64>, reader: &mut Reader<u64>, blank: Blank) -> bool
     requires name { blank.name ≡ L.name }
     requires parts { (blank.parts ≡ L.parts) × (0 < blank.parts) }
-    requires together { reader.cell ≡ cell.now }
+    requires together { reader.old.cell ≡ cell.now }
 {
     let mut steps = Steps::<L>::start(blank);
     let mut last = 0;
@@ -73,10 +75,12 @@ fn load_by<L: Ledger>(cell: &Latest<u64>, mut reader: Reader<u64>, blank: Blank)
     falls
 }
 
-fn load_all(cell: &Latest<u64>, reader: Reader<u64>) -> bool
+fn load_all(cell: &Latest<u64>, mut reader: Reader<u64>) -> bool
     requires together { reader.cell ≡ cell.now }
 {
-    load_by::<Brand>(cell, reader, Blank::new(1))
+    let falls = load_by::<Brand>(cell, &mut reader, Blank::new(1));
+    drop(reader);
+    falls
 }
 
 #[test]

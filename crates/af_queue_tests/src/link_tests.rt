@@ -1,20 +1,24 @@
 //! The ends of the pipe and of the report on one thread, and both mixers' ends on two.
-ghost use Rattle.std.specs.Prelude.{◌≡◌, ◌<◌, ◌≤◌, IfOk, length};
+ghost use Rattle.std.specs.Prelude.{◌≡◌, ◌<◌, ◌≤◌, IfOk, length, true};
+ghost use Rattle.af_client.specs.Order.{IsClientOf};
 ghost use Rattle.af_link.specs.Linked.{AreLinked};
 ghost use Rattle.af_link.specs.PipeEnds.{in_made, out_made};
 ghost use Rattle.af_link.specs.Reports.{last_cycle};
+ghost use Rattle.af_server.specs.Order.{IsServerOf};
 
 use af_base::{Frame, Memory, Steps};
 use af_cblk::Block;
 use af_client::{Client, Wrote};
 use af_link::{
-    Links, PipeIn, PipeOut, Report, ReportReader, ReportWriter, StreamNames, first_report,
-    meet_all, meet_flag, meet_pipe, meet_report, meet_track, pipe, report, stream_names,
+    Links, PipeIn, PipeOut, Report, ReportCell, ReportReader, ReportWriter, StreamNames,
+    first_report, meet_all, meet_flag, meet_pipe, meet_report, meet_track, pipe, report,
+    stream_names,
 };
 use af_server::Server;
 use af_stateq::{Mutator, Observer, queue};
 use std::alloc::Global;
 use std::marker::Brand;
+use std::mem::drop;
 use std::sync::ledger::{Blank, Ledger};
 use std::thread::{self, Threads, yield_now};
 
@@ -68,25 +72,38 @@ fn pass_on<L: Ledger>(
     follow(&into[..count], next) && to.rear() == next.wrapping_add(count as u32)
 }
 
-// No frames, two, and three across the wrap, through a pipe of three frames.
-fn passes_frames<L: Ledger>(alloc: Global, blank: Blank) -> Result<bool, Memory>
+// No frames, two, and three across the wrap of a pipe of three frames.
+fn passes_all<L: Ledger>(
+    block: &Block,
+    from: &mut PipeIn,
+    to: &mut PipeOut,
+    steps: &mut Steps<L>,
+) -> [bool; 3]
+    requires made { (in_made from.old ≡ block.now) × (out_made to.old ≡ block.now) }
+{
+    let frames = [0, 1, 2, 3, 4].map(Frame::unpack);
+    let none = pass_on(block, from, to, &frames[..0], 0, steps);
+    let two = pass_on(block, from, to, &frames[..2], 0, steps);
+    let three = pass_on(block, from, to, &frames[2..], 2, steps);
+    meet_pipe(block, from, to, steps);
+    [none, two, three]
+}
+
+fn passes_frames<L: Ledger>(alloc: Global, blank: Blank) -> Result<[bool; 3], Memory>
     requires name { blank.name ≡ L.name }
     requires parts { (blank.parts ≡ L.parts) × (0 < blank.parts) }
 {
     let mut steps = Steps::<L>::start(blank);
-    let (block, mut from, mut to) = pipe(alloc, 3)?;
-    let frames = [0, 1, 2, 3, 4].map(Frame::unpack);
-    let none = pass_on(&block, &mut from, &mut to, &frames[..0], 0, &mut steps);
-    let two = pass_on(&block, &mut from, &mut to, &frames[..2], 0, &mut steps);
-    let three = pass_on(&block, &mut from, &mut to, &frames[2..], 2, &mut steps);
-    meet_pipe(&block, &mut from, &mut to, &mut steps);
-    Ok(none && two && three)
+    let mut made = pipe(alloc, 3)?;
+    let passed = passes_all(&made.0, &mut made.1, &mut made.2, &mut steps);
+    drop(made);
+    Ok(passed)
 }
 
 #[test]
 fn a_pipe_passes_frames_on(rt: HostRuntime) {
     let passed = passes_frames::<Brand>(rt.alloc(), Blank::new(1));
-    assert!(rt; passed == Ok(true));
+    assert!(rt; passed == Ok([true; 3]));
 }
 
 // The report of a cycle, with the cycle's number in its slots too.
@@ -108,19 +125,34 @@ fn is_whole(report: &Report) -> bool {
         .all(|slot| slot.consumed == report.cycle)
 }
 
+// The cycles of the reports that are loaded.
+fn loads_all<L: Ledger>(
+    cell: &ReportCell,
+    writer: &mut ReportWriter,
+    reader: &mut ReportReader,
+    steps: &mut Steps<L>,
+) -> [u64; 3]
+    requires made { (writer.old.cell ≡ cell.now) × (reader.old.cell ≡ cell.now) }
+    requires new { last_cycle writer.old.events ≡ 0 }
+{
+    let first = reader.load(cell, steps);
+    writer.store(cell, &report_of(1), steps);
+    writer.store(cell, &report_of(4), steps);
+    let second = reader.load(cell, steps);
+    meet_report(cell, writer, reader, steps);
+    let third = reader.load(cell, steps);
+    [first.cycle, second.cycle, third.cycle]
+}
+
 fn loads_reports<L: Ledger>(alloc: Global, blank: Blank) -> Result<[u64; 3], Memory>
     requires name { blank.name ≡ L.name }
     requires parts { (blank.parts ≡ L.parts) × (0 < blank.parts) }
 {
     let mut steps = Steps::<L>::start(blank);
-    let (cell, mut writer, mut reader) = report(alloc)?;
-    let first = reader.load(&cell, &mut steps);
-    writer.store(&cell, &report_of(1), &mut steps);
-    writer.store(&cell, &report_of(4), &mut steps);
-    let second = reader.load(&cell, &mut steps);
-    meet_report(&cell, &mut writer, &mut reader, &mut steps);
-    let third = reader.load(&cell, &mut steps);
-    Ok([first.cycle, second.cycle, third.cycle])
+    let mut made = report(alloc)?;
+    let loaded = loads_all(&made.0, &mut made.1, &mut made.2, &mut steps);
+    drop(made);
+    Ok(loaded)
 }
 
 #[test]
@@ -129,7 +161,27 @@ fn a_load_shows_the_newest_report(rt: HostRuntime) {
     assert!(rt; found == Ok([0, 4, 4]));
 }
 
-// A client, a server and a hand that meet while frames are written.
+// A client, a server and a hand that meet while frames are written: whether a frame was put, and the hand's flag seen.
+fn meet_each<L: Ledger>(
+    block: &Block,
+    client: &mut Client,
+    server: &mut Server,
+    steps: &mut Steps<L>,
+) -> bool
+    requires client { IsClientOf block.now client.old }
+    requires server { IsServerOf block.now server.old }
+    requires new { (client.old.released ≡ 0) × (server.old.pass.has_hand ≡ true) }
+{
+    let mut hand = server.hand(block, steps);
+    meet_track(client, server, block, steps);
+    let wrote = client.write(block, &[Frame::unpack(7)], steps);
+    meet_flag(client, &mut hand, block, steps);
+    block.set_disabled(&mut hand, steps);
+    meet_all(client, server, &mut hand, block, steps);
+    let disabled = client.clear_disabled(block, steps) == 8;
+    disabled && matches!(wrote, Wrote::Put { count: 1, .. })
+}
+
 fn meets<L: Ledger>(alloc: Global, blank: Blank) -> Result<bool, Memory>
     requires name { blank.name ≡ L.name }
     requires parts { (blank.parts ≡ L.parts) × (0 < blank.parts) }
@@ -138,15 +190,11 @@ fn meets<L: Ledger>(alloc: Global, blank: Blank) -> Result<bool, Memory>
     let (block, client, server) = Block::make(alloc, 4, 0)?;
     let mut client = Client::with(client, &block);
     let mut server = Server::with(server, &block);
-    let mut hand = server.hand(&block, &mut steps);
-    meet_track(&mut client, &mut server, &block, &mut steps);
-    let wrote = client.write(&block, &[Frame::unpack(7)], &mut steps);
-    meet_flag(&mut client, &mut hand, &block, &mut steps);
-    block.set_disabled(&mut hand, &mut steps);
-    meet_all(&mut client, &mut server, &mut hand, &block, &mut steps);
-    let disabled = client.clear_disabled(&block, &mut steps) == 8;
-    let put = matches!(wrote, Wrote::Put { count: 1, .. });
-    Ok(put && disabled)
+    let met = meet_each(&block, &mut client, &mut server, &mut steps);
+    drop(server);
+    drop(client);
+    drop(block);
+    Ok(met)
 }
 
 #[test]
@@ -162,13 +210,13 @@ const MOST: u32 = 1_000_000;
 fn take_in<L: Ledger>(
     blank: Blank,
     links: &Links<'_>,
-    mut to: PipeOut,
-    mut writer: ReportWriter,
+    to: &mut PipeOut,
+    writer: &mut ReportWriter,
     total: u32,
 ) -> bool
     requires ledger { (blank.name ≡ L.name) × (blank.parts ≡ L.parts) × (0 < blank.parts) }
-    requires made { (out_made to ≡ links.now.pipe.now) × (writer.cell ≡ links.now.report.now) }
-    requires new { last_cycle writer.events ≡ 0 }
+    requires made { (out_made to.old ≡ links.now.pipe.now) × (writer.old.cell ≡ links.now.report.now) }
+    requires new { last_cycle writer.old.events ≡ 0 }
 {
     let mut steps = Steps::<L>::start(blank);
     let mut into = [Frame::unpack(0); 64];
@@ -192,23 +240,16 @@ fn take_in<L: Ledger>(
     in_place
 }
 
-fn take_all(links: &Links<'_>, to: PipeOut, writer: ReportWriter, total: u32) -> bool
-    requires made { (out_made to ≡ links.now.pipe.now) × (writer.cell ≡ links.now.report.now) }
-    requires new { last_cycle writer.events ≡ 0 }
-{
-    take_in::<Brand>(Blank::new(1), links, to, writer, total)
-}
-
 // Puts these frames, up to 64 at once, and loads a report after each put. It answers whether each report was whole, and of no earlier cycle than the one before.
 fn put_in<L: Ledger>(
     blank: Blank,
     links: &Links<'_>,
-    mut from: PipeIn,
-    mut reader: ReportReader,
+    from: &mut PipeIn,
+    reader: &mut ReportReader,
     frames: &[Frame],
 ) -> bool
     requires ledger { (blank.name ≡ L.name) × (blank.parts ≡ L.parts) × (0 < blank.parts) }
-    requires made { (in_made from ≡ links.now.pipe.now) × (reader.cell ≡ links.now.report.now) }
+    requires made { (in_made from.old ≡ links.now.pipe.now) × (reader.old.cell ≡ links.now.report.now) }
 {
     let mut steps = Steps::<L>::start(blank);
     let mut rest = frames;
@@ -230,66 +271,66 @@ fn put_in<L: Ledger>(
     right
 }
 
-fn put_all(links: &Links<'_>, from: PipeIn, reader: ReportReader, frames: &[Frame]) -> bool
-    requires made { (in_made from ≡ links.now.pipe.now) × (reader.cell ≡ links.now.report.now) }
-{
-    put_in::<Brand>(Blank::new(1), links, from, reader, frames)
-}
-
-// What the fast mixer has of the shared objects, with its conditions on the links.
-fn run_fast(
-    links: &Links<'_>,
+// What the fast mixer has of the shared objects.
+#[derive(Drop)]
+struct FastEnds {
     observer: Observer<Server, StreamNames>,
     to: PipeOut,
     writer: ReportWriter,
-    total: u32,
-) -> bool
-    requires linked { AreLinked links.now observer.past.key observer.past.queue writer.cell (out_made to) }
-    requires new { last_cycle writer.events ≡ 0 }
-{
-    let held = observer.current().is_some();
-    take_all(links, to, writer, total) && !held
 }
 
-// What the normal mixer has of the shared objects, with its conditions on the links.
-fn run_normal(
-    links: &Links<'_>,
+// The fast mixer's side, with its conditions on the links.
+fn run_fast(links: &Links<'_>, mut ends: FastEnds, total: u32) -> bool
+    requires linked { AreLinked links.now ends.observer.past.key ends.observer.past.queue ends.writer.cell (out_made ends.to) }
+    requires new { last_cycle ends.writer.events ≡ 0 }
+{
+    let held = ends.observer.current().is_some();
+    let (to, writer) = (&mut ends.to, &mut ends.writer);
+    let in_place = take_in::<Brand>(Blank::new(1), links, to, writer, total);
+    drop(ends);
+    in_place && !held
+}
+
+// What the normal mixer has of the shared objects.
+#[derive(Drop)]
+struct NormalEnds {
     mutator: Mutator<Server, StreamNames>,
     from: PipeIn,
     reader: ReportReader,
-    frames: &[Frame],
-) -> bool
-    requires linked { AreLinked links.now mutator.past.key mutator.past.queue reader.cell (in_made from) }
+}
+
+// The normal mixer's side, with its conditions on the links.
+fn run_normal(links: &Links<'_>, mut ends: NormalEnds, frames: &[Frame]) -> bool
+    requires linked { AreLinked links.now ends.mutator.past.key ends.mutator.past.queue ends.reader.cell (in_made ends.from) }
 {
-    let free = mutator.is_free(1);
-    put_all(links, from, reader, frames) && free
+    let free = ends.mutator.is_free(1);
+    let (from, reader) = (&mut ends.from, &mut ends.reader);
+    let right = put_in::<Brand>(Blank::new(1), links, from, reader, frames);
+    drop(ends);
+    right && free
 }
 
 // Both mixers' ends on two threads.
 fn cross<R: Threads + Sync>(
     rt: &R,
     links: &Links<'_>,
-    ends: (Mutator<Server, StreamNames>, Observer<Server, StreamNames>),
-    sides: (PipeIn, PipeOut),
-    cells: (ReportWriter, ReportReader),
+    fast: FastEnds,
+    normal: NormalEnds,
     frames: &[Frame],
     total: u32,
 ) -> bool
-    requires fast { AreLinked links.now ends.1.past.key ends.1.past.queue cells.0.cell (out_made sides.1) }
-    requires new { last_cycle cells.0.events ≡ 0 }
-    requires normal { AreLinked links.now ends.0.past.key ends.0.past.queue cells.1.cell (in_made sides.0) }
+    requires fast { AreLinked links.now fast.observer.past.key fast.observer.past.queue fast.writer.cell (out_made fast.to) }
+    requires new { last_cycle fast.writer.events ≡ 0 }
+    requires normal { AreLinked links.now normal.mutator.past.key normal.mutator.past.queue normal.reader.cell (in_made normal.from) }
 {
-    let (mutator, observer) = ends;
-    let (from, to) = sides;
-    let (writer, reader) = cells;
     let (in_place, right) = thread::join(
         rt,
         move || -> bool
-            requires { AreLinked links.now observer.past.key observer.past.queue writer.cell (out_made to) × (last_cycle writer.events ≡ 0) }
-        { run_fast(links, observer, to, writer, total) },
+            requires { AreLinked links.now fast.observer.past.key fast.observer.past.queue fast.writer.cell (out_made fast.to) × (last_cycle fast.writer.events ≡ 0) }
+        { run_fast(links, fast, total) },
         move || -> bool
-            requires { AreLinked links.now mutator.past.key mutator.past.queue reader.cell (in_made from) }
-        { run_normal(links, mutator, from, reader, frames) },
+            requires { AreLinked links.now normal.mutator.past.key normal.mutator.past.queue normal.reader.cell (in_made normal.from) }
+        { run_normal(links, normal, frames) },
     );
     in_place && right
 }
@@ -302,34 +343,57 @@ fn cross_over<R: Threads + Sync>(
     frames: &[Frame],
     total: u32,
 ) -> Result<bool, Memory> {
-    let (report, writer, reader) = report(alloc)?;
-    let (pipe, from, to) = pipe(alloc, 256)?;
-    let names = stream_names(streams);
-    let (queue, mutator, observer) = queue::<Server, StreamNames>(alloc, 64, names)?;
+    let report = report(alloc)?;
+    let Ok(pipe) = pipe(alloc, 256) else {
+        drop(report);
+        return Err(Memory);
+    };
+    let Ok(queue) = queue::<Server, StreamNames>(alloc, 64, stream_names(streams)) else {
+        drop(report);
+        drop(pipe);
+        return Err(Memory);
+    };
+    let (cell, writer, reader) = report;
+    let (block, from, to) = pipe;
+    let (line, mutator, observer) = queue;
     let links = Links {
-        queue: &queue,
+        queue: &line,
         streams,
         commands: &[],
-        pipe: &pipe,
-        report: &report,
+        pipe: &block,
+        report: &cell,
     };
-    let ends = (mutator, observer);
-    Ok(cross(
-        rt,
-        &links,
-        ends,
-        (from, to),
-        (writer, reader),
-        frames,
-        total,
-    ))
+    let fast = FastEnds {
+        observer,
+        to,
+        writer,
+    };
+    let normal = NormalEnds {
+        mutator,
+        from,
+        reader,
+    };
+    let crossed = cross(rt, &links, fast, normal, frames, total);
+    drop(line);
+    drop(block);
+    drop(cell);
+    Ok(crossed)
 }
 
 // Both mixers' ends on two threads, with so many numbered frames, over one block.
 fn run_both<R: Threads + Sync>(rt: &R, alloc: Global, total: u32) -> Result<bool, Memory> {
     let frames = numbered(alloc, total)?;
-    let (stream, _client, _server) = Block::make(alloc, 64, 0)?;
-    cross_over(rt, alloc, &[stream], frames.as_slice(), total)
+    let Ok((stream, client, server)) = Block::make(alloc, 64, 0) else {
+        drop(frames);
+        return Err(Memory);
+    };
+    drop(client);
+    drop(server);
+    let streams = [stream];
+    let crossed = cross_over(rt, alloc, &streams, frames.as_slice(), total);
+    drop(streams);
+    drop(frames);
+    crossed
 }
 
 #[test]

@@ -1,15 +1,17 @@
 //! Lists of calls on the shared queue, each compared with the plain queue.
 ghost use Rattle.std.specs.Prelude.{◌≡◌, ◌<◌, All, IfOk, Option};
+ghost use Rattle.af_stateq.specs.Observes.{InOrder};
 ghost use Rattle.af_stateq.specs.OneHand.{CallFits};
 
-use crate::queue_tests::{ByNumber, Polling, Pushing};
+use crate::queue_tests::{ByNumber, Line, Polling, Pushing};
 use af_base::{Command, Memory, SLOTS, Steps};
 use af_model::PlainQueue;
 use af_stateq::{Poll, Push, QueueAnswer, QueueCall, answer_each, answer_from_start, queue};
 use std::alloc::Global;
 use std::marker::Brand;
+use std::mem::drop;
 use std::sync::ledger::{Blank, Ledger};
-use std::test::Fail;
+use std::test::*;
 
 // A call. The item of an attach is the number of its track.
 #[derive(Clone, Copy)]
@@ -83,29 +85,46 @@ fn ends_alike(mutator: &Pushing, observer: &mut Polling, plain: &PlainQueue<u32>
     alike
 }
 
-// The answers of the plain queue to a list, and the queue after them.
-fn plain_answers(
+// Whether two ends give these answers to a list, and are then the plain queue.
+fn ends_answer<L: Ledger>(
     alloc: Global,
+    line: &Line,
+    mutator: &mut Pushing,
+    observer: &mut Polling,
     list: &[Told],
-) -> Result<(Vec<QueueAnswer<u32>>, PlainQueue<u32>), Memory> {
+    wants: &[QueueAnswer<u32>],
+    plain: &PlainQueue<u32>,
+    steps: &mut Steps<L>,
+) -> Result<bool, Memory>
+    requires together { (mutator.old.past.queue ≡ line.now) × (observer.old.past.queue ≡ line.now) }
+    requires order { InOrder (λ key track item. item ≡ track) observer.old }
+{
     let calls = calls_of(alloc, list)?;
-    let mut plain = PlainQueue::new(alloc, 4)?;
-    let answers = plain.answer_each(alloc, calls)?;
-    Ok((answers, plain))
+    let answers = answer_each(alloc, line, mutator, observer, calls, steps)?;
+    Ok(answers.as_slice() == wants && ends_alike(mutator, observer, plain))
 }
 
-// Whether the two ends of a new queue give these answers to a list, and are then the plain queue.
-fn ends_answer<L: Ledger>(
+// Whether the two ends of a new queue do.
+fn new_ends_answer<L: Ledger>(
     alloc: Global,
     list: &[Told],
     wants: &[QueueAnswer<u32>],
     plain: &PlainQueue<u32>,
     steps: &mut Steps<L>,
 ) -> Result<bool, Memory> {
-    let calls = calls_of(alloc, list)?;
-    let (line, mut mutator, mut observer) = queue::<u32, ByNumber>(alloc, 4, ())?;
-    let answers = answer_each(alloc, &line, &mut mutator, &mut observer, calls, steps)?;
-    Ok(answers.as_slice() == wants && ends_alike(&mutator, &mut observer, plain))
+    let mut made = queue::<u32, ByNumber>(alloc, 4, ())?;
+    let answered = ends_answer(
+        alloc,
+        &made.0,
+        &mut made.1,
+        &mut made.2,
+        list,
+        wants,
+        plain,
+        steps,
+    );
+    drop(made);
+    answered
 }
 
 // Whether the answers from the start are these.
@@ -120,19 +139,45 @@ fn start_answers<L: Ledger>(
     Ok(answers.as_slice() == wants)
 }
 
-// The answers of a list from the start, if both functions give those of the plain queue, and the ends are then the plain queue.
-fn answers_of_both<L: Ledger>(
-    alloc: Global,
-    list: &[Told],
-    steps: &mut Steps<L>,
-) -> Result<Option<Vec<QueueAnswer<u32>>>, Memory> {
-    let (wants, plain) = plain_answers(alloc, list)?;
-    if !ends_answer(alloc, list, &wants, &plain, steps)?
-        || !start_answers(alloc, list, &wants, steps)?
-    {
-        return Ok(None);
+// The place of an answer in those of a list, and the answer.
+type Place = (usize, QueueAnswer<u32>);
+
+// Whether these answers stand at their places.
+fn stand_at(answers: &[QueueAnswer<u32>], wants: &[Place]) -> bool {
+    for (place, want) in wants {
+        if answers.get(*place) != Some(want) {
+            return false;
+        }
     }
-    Ok(Some(wants))
+    true
+}
+
+// Whether both functions give the answers of the plain queue to a list, and the ends are then the plain queue, if these are among its answers.
+fn are_alike<L: Ledger>(
+    alloc: Global,
+    blank: Blank,
+    list: &[Told],
+    wants: &[Place],
+) -> Result<bool, Memory>
+    requires name { blank.name ≡ L.name }
+    requires parts { (blank.parts ≡ L.parts) × (0 < blank.parts) }
+{
+    let mut steps = Steps::<L>::start(blank);
+    let calls = calls_of(alloc, list)?;
+    let Ok(mut plain) = PlainQueue::new(alloc, 4) else {
+        drop(calls);
+        return Err(Memory);
+    };
+    let Ok(answers) = plain.answer_each(alloc, calls) else {
+        drop(plain);
+        return Err(Memory);
+    };
+    let ends = new_ends_answer(alloc, list, &answers, &plain, &mut steps) == Ok(true);
+    let start = start_answers(alloc, list, &answers, &mut steps) == Ok(true);
+    let right = stand_at(&answers, wants);
+    drop(plain);
+    drop(answers);
+    Ok(ends && start && right)
 }
 
 // Edits A, B and C: each state is pushed once the one before is polled, and B and C are squashed.
@@ -180,60 +225,57 @@ const USED_AGAIN: [Told; 22] = [
     Told::Push,
 ];
 
-// Whether the answers at these places are those.
-fn stand_at(answers: &[QueueAnswer<u32>], places: &[usize], wants: &[QueueAnswer<u32>]) -> bool {
-    let mut right = true;
-    for (place, want) in places.iter().zip(wants.iter()) {
-        right = right && answers.get(*place) == Some(want);
-    }
-    right
+macro_rules! pushed {
+    ($place:expr, $push:expr) => {
+        ($place, QueueAnswer::Pushed { push: $push })
+    };
 }
 
-fn squashes<L: Ledger>(alloc: Global, steps: &mut Steps<L>) -> Result<bool, Memory> {
-    let Some(answers) = answers_of_both(alloc, &SQUASHED, steps)? else {
-        return Ok(false);
+macro_rules! polled {
+    ($place:expr, $number:expr) => {
+        (
+            $place,
+            QueueAnswer::Polled {
+                poll: Poll::New { number: $number },
+            },
+        )
     };
-    let busy = Push::Busy {
-        seen: 0,
-        expected: 1,
-    };
-    let wants = [
-        QueueAnswer::Pushed {
-            push: Push::Pushed { number: 1 },
-        },
-        QueueAnswer::Pushed { push: busy },
-        QueueAnswer::Polled {
-            poll: Poll::New { number: 1 },
-        },
-        QueueAnswer::Pushed {
-            push: Push::Pushed { number: 2 },
-        },
-        QueueAnswer::Polled {
-            poll: Poll::New { number: 2 },
-        },
-        QueueAnswer::Pushed { push: Push::Clean },
-    ];
-    Ok(stand_at(&answers, &[3, 7, 11, 12, 13, 14], &wants))
 }
 
-fn uses_again<L: Ledger>(alloc: Global, steps: &mut Steps<L>) -> Result<bool, Memory> {
-    let Some(answers) = answers_of_both(alloc, &USED_AGAIN, steps)? else {
-        return Ok(false);
-    };
-    let wants = [
+const SQUASHED_ANSWERS: [Place; 6] = [
+    pushed!(3, Push::Pushed { number: 1 }),
+    pushed!(
+        7,
+        Push::Busy {
+            seen: 0,
+            expected: 1,
+        }
+    ),
+    polled!(11, 1),
+    pushed!(12, Push::Pushed { number: 2 }),
+    polled!(13, 2),
+    pushed!(14, Push::Clean),
+];
+
+const AGAIN_ANSWERS: [Place; 6] = [
+    (
+        12,
         QueueAnswer::NotAllowed {
-            call: call_of(USED_AGAIN[12]),
+            call: QueueCall::Attach {
+                slot: 1,
+                mono: false,
+                scale: 0x1000,
+                track: 13,
+                item: 13,
+            },
         },
-        QueueAnswer::TakenBack { item: None },
-        QueueAnswer::Acked { acked: true },
-        QueueAnswer::TakenBack { item: Some(10) },
-        QueueAnswer::Done,
-        QueueAnswer::Pushed {
-            push: Push::Pushed { number: 3 },
-        },
-    ];
-    Ok(stand_at(&answers, &[12, 15, 16, 17, 19, 21], &wants))
-}
+    ),
+    (15, QueueAnswer::TakenBack { item: None }),
+    (16, QueueAnswer::Acked { acked: true }),
+    (17, QueueAnswer::TakenBack { item: Some(10) }),
+    (19, QueueAnswer::Done),
+    pushed!(21, Push::Pushed { number: 3 }),
+];
 
 // Few slots of all sizes, so that calls come to the same one often.
 const PLACES: [u32; 8] = [0, 1, 2, 7, 8, 16, 30, SLOTS as u32 - 1];
@@ -256,49 +298,34 @@ fn told_of(number: u32) -> Told {
     }
 }
 
-// So many calls in no order, from a linear congruential generator.
-fn mixed(alloc: Global, seed: u64, count: u32) -> Result<Vec<Told>, Memory> {
-    let mut list = Vec::new(alloc);
+// Calls in no order, from a linear congruential generator.
+fn mixed(seed: u64) -> [Told; 400] {
+    let mut list = [Told::Begin; 400];
     let mut state = seed;
-    for _call in 0..count {
+    for told in list.iter_mut() {
         state = state
             .wrapping_mul(6_364_136_223_846_793_005)
             .wrapping_add(1_442_695_040_888_963_407);
-        if list.push(told_of((state >> 33) as u32)).is_err() {
-            return Err(Memory);
-        }
+        *told = told_of((state >> 33) as u32);
     }
-    Ok(list)
+    list
 }
 
-fn mixes<L: Ledger>(alloc: Global, steps: &mut Steps<L>) -> Result<bool, Memory> {
-    for seed in 1..6 {
-        let list = mixed(alloc, seed, 400)?;
-        if answers_of_both(alloc, &list, steps)?.is_none() {
-            return Ok(false);
-        }
-    }
-    Ok(true)
-}
-
-fn all_alike<L: Ledger>(alloc: Global, blank: Blank) -> Result<[bool; 3], Memory>
-    requires name { blank.name ≡ L.name }
-    requires parts { (blank.parts ≡ L.parts) × (0 < blank.parts) }
-{
-    let mut steps = Steps::<L>::start(blank);
-    let steps = &mut steps;
-    Ok([
-        squashes(alloc, steps)?,
-        uses_again(alloc, steps)?,
-        mixes(alloc, steps)?,
-    ])
+// The list of a number, and what is known of its answers.
+fn list_is_alike(alloc: Global, number: u64) -> Result<bool, Memory> {
+    let random = mixed(number);
+    let (list, wants): (&[Told], &[Place]) = match number {
+        6 => (&SQUASHED, &SQUASHED_ANSWERS),
+        7 => (&USED_AGAIN, &AGAIN_ANSWERS),
+        _ => (&random, &[]),
+    };
+    are_alike::<Brand>(alloc, Blank::new(1), list, wants)
 }
 
 #[test]
-fn lists_of_calls_answer_as_the_plain_queue(rt: HostRuntime) -> Result<(), Fail> {
-    let Ok(alike) = all_alike::<Brand>(rt.alloc(), Blank::new(1)) else {
-        return Err(Fail::new("no memory"));
-    };
-    assert!(rt; alike == [true; 3]);
-    Ok(())
+fn lists_of_calls_answer_as_the_plain_queue(rt: HostRuntime) {
+    for number in 1..8 {
+        let found = list_is_alike(rt.alloc(), number);
+        assert!(rt; found == Ok(true), "list {number}");
+    }
 }

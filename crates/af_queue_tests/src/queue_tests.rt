@@ -1,16 +1,17 @@
 //! The state queue on one thread.
-ghost use Rattle.std.specs.Prelude.{◌≡◌, ◌<◌, ◌≤◌, ◌+◌, ◌^◌, false, true, Some};
+ghost use Rattle.std.specs.Prelude.{◌≡◌, ◌<◌, ◌≤◌, ◌+◌, ◌^◌, false, true, length, Some};
 ghost use Rattle.af_model.specs.StateQueue.{slots};
 ghost use Rattle.af_stateq.specs.Observes.{InOrder};
 ghost use Rattle.af_stateq.specs.Answers.{SameDraft};
 
-use af_base::{Command, FastState, Memory, Push, Steps};
+use af_base::{Command, FastState, Memory, Push, SLOTS, Steps};
 use af_model::carries_item;
 use af_stateq::{Fits, Mutator, Observer, Poll, Queue, queue};
 use std::alloc::Global;
 use std::marker::Brand;
+use std::mem::drop;
 use std::sync::ledger::{Blank, Ledger};
-use std::test::Fail;
+use std::test::*;
 
 /// An item is the number of its track.
 pub(crate) struct ByNumber;
@@ -102,165 +103,273 @@ fn squashes<L: Ledger>(alloc: Global, blank: Blank) -> Result<bool, Memory>
         seen: 0,
         expected: 1,
     };
+    let last = mask_of(observer.current());
+    drop(observer);
+    drop(mutator);
+    drop(line);
     let pushes = [first, second, third]
         == [Push::Pushed { number: 1 }, busy, Push::Pushed { number: 2 }];
     let polls = [seen, next] == [Poll::New { number: 1 }, Poll::New { number: 2 }];
-    Ok(pushes && polls && mask == 3 && mask_of(observer.current()) == 15)
+    Ok(pushes && polls && mask == 3 && last == 15)
 }
 
 #[test]
-fn edits_before_a_push_are_squashed(rt: HostRuntime) -> Result<(), Fail> {
-    let Ok(right) = squashes::<Brand>(rt.alloc(), Blank::new(1)) else {
-        return Err(Fail::new("no memory"));
-    };
-    assert!(rt; right);
-    Ok(())
+fn edits_before_a_push_are_squashed(rt: HostRuntime) {
+    assert!(rt; squashes::<Brand>(rt.alloc(), Blank::new(1)) == Ok(true));
 }
 
-// Pushes, and polls once.
-fn show<L: Ledger>(
+// A call on one of the ends, or a look at what it has.
+#[derive(Clone, Copy)]
+enum Call {
+    Attach { slot: u32, track: u32 },
+    Detach { slot: u32 },
+    Set { command: Command },
+    Push,
+    Acked,
+    TakeBack { slot: u32 },
+    Generation,
+    Poll,
+    Masks,
+}
+
+#[derive(Clone, Copy, PartialEq, Eq)]
+enum Answer {
+    Done,
+    Is { so: bool },
+    Pushed { push: Push },
+    Back { item: Option<u32> },
+    // The generation of slot 1.
+    Generation { number: u64 },
+    Polled { poll: Poll },
+    // The masks of the current and of the previous state.
+    Masks { current: u32, previous: u32 },
+}
+
+// What a call on the mutator answers.
+fn ask_mutator<L: Ledger>(
     line: &Line,
     mutator: &mut Pushing,
-    observer: &mut Polling,
+    call: Call,
     steps: &mut Steps<L>,
-) -> Poll
-    requires mutator { (mutator.old.editing ≡ false) × (mutator.old.past.queue ≡ line.now) × (mutator.old.past.number < 1000) }
-    requires observer { (observer.old.past.queue ≡ line.now) × (observer.old.past.number < 1000) }
+) -> Answer
+    requires ready { (mutator.old.editing ≡ false) × (mutator.old.past.queue ≡ line.now) × (mutator.old.past.number < 1000) }
+    ensures ready { (mutator.new.editing ≡ false) × (mutator.new.past.queue ≡ line.now) × (mutator.new.past.number ≤ mutator.old.past.number + 1) }
+{
+    match call {
+        Call::Attach { slot, track } if 1 <= slot && slot < SLOTS as u32 => Answer::Is {
+            so: attach(mutator, slot, track),
+        },
+        Call::Detach { slot } if 1 <= slot && slot < SLOTS as u32 => Answer::Is {
+            so: detach(mutator, slot),
+        },
+        Call::TakeBack { slot } if 1 <= slot && slot < SLOTS as u32 => Answer::Back {
+            item: mutator.take_back(slot),
+        },
+        Call::Set { command: next } => {
+            command(mutator, next);
+            Answer::Done
+        }
+        Call::Push => Answer::Pushed {
+            push: mutator.push(line, steps),
+        },
+        Call::Acked => Answer::Is {
+            so: mutator.acked(line, steps),
+        },
+        _ => Answer::Generation {
+            number: mutator.draft().slots[1].generation,
+        },
+    }
+}
+
+// What a call on the observer answers.
+fn ask_observer<L: Ledger>(
+    line: &Line,
+    observer: &mut Polling,
+    call: Call,
+    steps: &mut Steps<L>,
+) -> Answer
+    requires ready { (observer.old.past.queue ≡ line.now) × (observer.old.past.number < 1000) }
     requires order { InOrder (λ key track item. item ≡ track) observer.old }
-    ensures mutator { (mutator.new.editing ≡ false) × (mutator.new.past.queue ≡ mutator.old.past.queue) × (mutator.new.past.number ≤ mutator.old.past.number + 1) }
-    ensures observer { (observer.new.past.queue ≡ observer.old.past.queue) × (observer.new.past.number ≤ observer.old.past.number + 1) }
+    ensures ready { (observer.new.past.queue ≡ line.now) × (observer.new.past.number ≤ observer.old.past.number + 1) }
     ensures order { InOrder (λ key track item. item ≡ track) observer.new }
 {
-    mutator.push(line, steps);
-    observer.poll(line, steps)
+    match call {
+        Call::Poll => Answer::Polled {
+            poll: observer.poll(line, steps),
+        },
+        _ => Answer::Masks {
+            current: mask_of(observer.current()),
+            previous: mask_of(observer.previous()),
+        },
+    }
 }
 
-// Polls before the first state and after the second, each of which is polled before the next. Whether each poll answered what came, and the two states are then the last ones.
-fn two_come<L: Ledger>(
+// The place of the first call that answers something else than the rows say, if one does.
+fn first_wrong<L: Ledger>(
     line: &Line,
     mutator: &mut Pushing,
     observer: &mut Polling,
+    rows: &[(Call, Answer)],
     steps: &mut Steps<L>,
-) -> bool
+) -> Option<usize>
+    requires few { length rows.now ≤ 1000 }
     requires mutator { (mutator.old.editing ≡ false) × (mutator.old.past.queue ≡ line.now) × (mutator.old.past.number ≡ 0) }
     requires observer { (observer.old.past.queue ≡ line.now) × (observer.old.past.number ≡ 0) }
     requires order { InOrder (λ key track item. item ≡ track) observer.old }
-    ensures mutator { (mutator.new.editing ≡ false) × (mutator.new.past.queue ≡ mutator.old.past.queue) × (mutator.new.past.number ≤ 2) }
-    ensures observer { (observer.new.past.queue ≡ observer.old.past.queue) × (observer.new.past.number ≤ 4) }
-    ensures order { InOrder (λ key track item. item ≡ track) observer.new }
 {
-    let none = observer.poll(line, steps);
-    attach(mutator, 1, 10);
-    let first = show(line, mutator, observer, steps);
-    attach(mutator, 2, 11);
-    let second = show(line, mutator, observer, steps);
-    let (current, previous) = (mask_of(observer.current()), mask_of(observer.previous()));
-    let same = observer.poll(line, steps);
-    let polls = [none, first, second, same]
-        == [
-            Poll::Nothing,
-            Poll::New { number: 1 },
-            Poll::New { number: 2 },
-            Poll::Same,
-        ];
-    polls && current == 7 && previous == 3
+    for i in 0..rows.len() {
+        let (call, wanted) = rows[i];
+        let found = match call {
+            Call::Poll | Call::Masks => ask_observer(line, observer, call, steps),
+            _ => ask_mutator(line, mutator, call, steps),
+        };
+        if found != wanted {
+            return Some(i);
+        }
+    }
+    None
 }
 
-// Three states more, of which the last isn't polled, and what the push after it answers.
-fn push_over<L: Ledger>(
-    line: &Line,
-    mutator: &mut Pushing,
-    observer: &mut Polling,
-    steps: &mut Steps<L>,
-) -> Push
-    requires mutator { (mutator.old.editing ≡ false) × (mutator.old.past.queue ≡ line.now) × (mutator.old.past.number ≤ 2) }
-    requires observer { (observer.old.past.queue ≡ line.now) × (observer.old.past.number ≤ 4) }
-    requires order { InOrder (λ key track item. item ≡ track) observer.old }
-{
-    command(mutator, Command::Mix);
-    show(line, mutator, observer, steps);
-    command(mutator, Command::Write);
-    show(line, mutator, observer, steps);
-    command(mutator, Command::MixWrite);
-    mutator.push(line, steps);
-    command(mutator, Command::Exit);
-    mutator.push(line, steps)
-}
-
-// Five states, each polled before the next, and a sixth push before the fifth is polled.
-fn recycles<L: Ledger>(alloc: Global, blank: Blank) -> Result<bool, Memory>
+// The place of the first wrong answer on a new queue, and whether the observer then holds the item of a slot.
+fn first_wrong_of_new<L: Ledger>(
+    alloc: Global,
+    blank: Blank,
+    frames: u32,
+    slot: u32,
+    rows: &[(Call, Answer)],
+) -> Result<(Option<usize>, bool), Memory>
     requires name { blank.name ≡ L.name }
     requires parts { (blank.parts ≡ L.parts) × (0 < blank.parts) }
 {
-    let mut made = queue::<u32, ByNumber>(alloc, 4, ())?;
+    let mut made = queue::<u32, ByNumber>(alloc, frames, ())?;
     let mut steps = Steps::<L>::start(blank);
-    let two = two_come(&made.0, &mut made.1, &mut made.2, &mut steps);
-    let last = push_over(&made.0, &mut made.1, &mut made.2, &mut steps);
-    let busy = Push::Busy {
+    let rows = &rows[..rows.len().min(1000)];
+    let wrong = first_wrong(&made.0, &mut made.1, &mut made.2, rows, &mut steps);
+    let held = made.2.item(slot).is_some();
+    drop(made);
+    Ok((wrong, held))
+}
+
+macro_rules! is {
+    ($call:expr, $so:expr) => {
+        ($call, Answer::Is { so: $so })
+    };
+}
+
+macro_rules! attaches {
+    ($slot:expr, $track:expr, $so:expr) => {
+        is!(
+            Call::Attach {
+                slot: $slot,
+                track: $track,
+            },
+            $so
+        )
+    };
+}
+
+macro_rules! set {
+    ($command:expr) => {
+        (Call::Set { command: $command }, Answer::Done)
+    };
+}
+
+macro_rules! push {
+    ($push:expr) => {
+        (Call::Push, Answer::Pushed { push: $push })
+    };
+}
+
+macro_rules! pushes {
+    ($number:expr) => {
+        push!(Push::Pushed { number: $number })
+    };
+}
+
+macro_rules! poll {
+    ($poll:expr) => {
+        (Call::Poll, Answer::Polled { poll: $poll })
+    };
+}
+
+macro_rules! polls {
+    ($number:expr) => {
+        poll!(Poll::New { number: $number })
+    };
+}
+
+macro_rules! takes_back {
+    ($item:expr) => {
+        (Call::TakeBack { slot: 1 }, Answer::Back { item: $item })
+    };
+}
+
+// Five states, each polled before the next, and a sixth push before the fifth is polled: the fifth lies in the first cell.
+const RECYCLED: [(Call, Answer); 19] = [
+    poll!(Poll::Nothing),
+    attaches!(1, 10, true),
+    pushes!(1),
+    polls!(1),
+    attaches!(2, 11, true),
+    pushes!(2),
+    polls!(2),
+    (
+        Call::Masks,
+        Answer::Masks {
+            current: 7,
+            previous: 3,
+        },
+    ),
+    poll!(Poll::Same),
+    set!(Command::Mix),
+    pushes!(3),
+    polls!(3),
+    set!(Command::Write),
+    pushes!(4),
+    polls!(4),
+    set!(Command::MixWrite),
+    pushes!(5),
+    set!(Command::Exit),
+    push!(Push::Busy {
         seen: 4,
         expected: 1,
-    };
-    Ok(two && last == busy)
-}
-
-#[test]
-fn the_fifth_state_lies_in_the_first_cell(rt: HostRuntime) -> Result<(), Fail> {
-    let Ok(right) = recycles::<Brand>(rt.alloc(), Blank::new(1)) else {
-        return Err(Fail::new("no memory"));
-    };
-    assert!(rt; right);
-    Ok(())
-}
+    }),
+];
 
 // A slot is used again once its item was taken back.
-fn reuses<L: Ledger>(alloc: Global, blank: Blank) -> Result<bool, Memory>
-    requires name { blank.name ≡ L.name }
-    requires parts { (blank.parts ≡ L.parts) × (0 < blank.parts) }
-{
-    let (line, mut mutator, mut observer) = queue::<u32, ByNumber>(alloc, 1, ())?;
-    let mut steps = Steps::<L>::start(blank);
-    attach(&mut mutator, 1, 0);
-    let first = mutator.push(&line, &mut steps);
-    observer.poll(&line, &mut steps);
-    detach(&mut mutator, 1);
-    let second = mutator.push(&line, &mut steps);
-    let free = attach(&mut mutator, 1, 1);
-    attach(&mut mutator, 2, 1);
-    let third = mutator.push(&line, &mut steps);
-    let early = mutator.take_back(1);
-    observer.poll(&line, &mut steps);
-    let acked = mutator.acked(&line, &mut steps);
-    let back = mutator.take_back(1);
-    let fourth = mutator.push(&line, &mut steps);
-    let again = attach(&mut mutator, 1, 2);
-    observer.poll(&line, &mut steps);
-    let held = observer.item(2).is_some();
-    let busy = Push::Busy {
+const REUSED: [(Call, Answer); 16] = [
+    attaches!(1, 0, true),
+    pushes!(1),
+    polls!(1),
+    is!(Call::Detach { slot: 1 }, true),
+    pushes!(2),
+    attaches!(1, 1, false),
+    attaches!(2, 1, true),
+    push!(Push::Busy {
         seen: 1,
         expected: 2,
-    };
-    let pushes = [first, second, third, fourth]
-        == [
-            Push::Pushed { number: 1 },
-            Push::Pushed { number: 2 },
-            busy,
-            Push::Pushed { number: 3 },
-        ];
-    let items = early == None && back == Some(0);
-    let generation = mutator.draft().slots[1].generation;
-    Ok(
-        pushes
-            && items
-            && [free, acked, again, held] == [false, true, true, true]
-            && generation == 2,
-    )
-}
+    }),
+    takes_back!(None),
+    polls!(2),
+    is!(Call::Acked, true),
+    takes_back!(Some(0)),
+    pushes!(3),
+    attaches!(1, 2, true),
+    polls!(3),
+    (Call::Generation, Answer::Generation { number: 2 }),
+];
+
+// The frames of a state, a slot whose item the observer holds at the end, and the calls on the ends of the queue.
+const LISTS: [(&str, u32, u32, &[(Call, Answer)]); 2] = [
+    ("the fifth state lies in the first cell", 4, 1, &RECYCLED),
+    ("a slot is used again after the take back", 1, 2, &REUSED),
+];
 
 #[test]
-fn a_slot_is_used_again_after_the_take_back(rt: HostRuntime) -> Result<(), Fail> {
-    let Ok(right) = reuses::<Brand>(rt.alloc(), Blank::new(1)) else {
-        return Err(Fail::new("no memory"));
-    };
-    assert!(rt; right);
-    Ok(())
+fn the_ends_answer_as_the_tables_say(rt: HostRuntime) {
+    for (name, frames, slot, rows) in &LISTS {
+        let blank = Blank::new(1);
+        let found = first_wrong_of_new::<Brand>(rt.alloc(), blank, *frames, *slot, rows);
+        assert!(rt; found == Ok((None, true)), "{name}");
+    }
 }

@@ -3,30 +3,32 @@ ghost use Rattle.std.specs.Prelude.{◌≡◌, ◌<◌, ◌≤◌, ◌+◌, ◌^
 ghost use Rattle.af_stateq.specs.Observes.{InOrder};
 
 use crate::queue_tests::{ByNumber, Line, Polling, Pushing, attach, command, detach};
-use af_base::{Command, FastState, Push, SLOTS, Steps};
+use af_base::{Command, FastState, Memory, Push, SLOTS, Steps};
 use af_stateq::{Poll, queue};
+use std::alloc::Global;
 use std::marker::Brand;
+use std::mem::drop;
 use std::sync::Wait;
 use std::sync::ledger::{Blank, Ledger};
-use std::test::Fail;
-use std::thread;
+use std::test::*;
+use std::thread::{Threads, join, yield_now};
 
 // The last slot.
 const LAST: u32 = SLOTS as u32 - 1;
 
 // Pushes up to 1,000 states.
-fn push_by<L: Ledger>(line: &Line, mut mutator: Pushing, blank: Blank)
+fn push_by<L: Ledger>(line: &Line, mutator: &mut Pushing, blank: Blank)
     requires name { blank.name ≡ L.name }
     requires parts { (blank.parts ≡ L.parts) × (0 < blank.parts) }
-    requires ready { (mutator.past.queue ≡ line.now) × (mutator.editing ≡ false) × (mutator.past.number ≡ 0) }
+    requires ready { (mutator.old.past.queue ≡ line.now) × (mutator.old.editing ≡ false) × (mutator.old.past.number ≡ 0) }
 {
     let mut steps = Steps::<L>::start(blank);
     let mut pushed = 0u64;
     for _i in 0..1_000_000u32 {
-        command(&mut mutator, Command::Mix);
+        command(mutator, Command::Mix);
         match mutator.push(line, &mut steps) {
             Push::Pushed { number } => pushed = number,
-            _ => thread::yield_now(),
+            _ => yield_now(),
         }
         if pushed >= 1000 {
             break;
@@ -34,17 +36,11 @@ fn push_by<L: Ledger>(line: &Line, mut mutator: Pushing, blank: Blank)
     }
 }
 
-fn push_all(line: &Line, mutator: Pushing)
-    requires ready { (mutator.past.queue ≡ line.now) × (mutator.editing ≡ false) × (mutator.past.number ≡ 0) }
-{
-    push_by::<Brand>(line, mutator, Blank::new(1));
-}
-
 // Whether each New had the next number, over at most a million polls.
-fn poll_by<L: Ledger>(line: &Line, mut observer: Polling, blank: Blank) -> bool
+fn poll_by<L: Ledger>(line: &Line, observer: &mut Polling, blank: Blank) -> bool
     requires name { blank.name ≡ L.name }
     requires parts { (blank.parts ≡ L.parts) × (0 < blank.parts) }
-    requires ready { (observer.past.queue ≡ line.now) × InOrder (λ _ track item. item ≡ track) observer × (observer.past.number ≡ 0) }
+    requires ready { (observer.old.past.queue ≡ line.now) × InOrder (λ _ track item. item ≡ track) observer.old × (observer.old.past.number ≡ 0) }
 {
     let mut steps = Steps::<L>::start(blank);
     let mut last = 0u64;
@@ -55,7 +51,7 @@ fn poll_by<L: Ledger>(line: &Line, mut observer: Polling, blank: Blank) -> bool
                 right = right && last < number && number - last == 1;
                 last = number;
             }
-            _ => thread::yield_now(),
+            _ => yield_now(),
         }
         if last >= 1000 {
             break;
@@ -64,36 +60,11 @@ fn poll_by<L: Ledger>(line: &Line, mut observer: Polling, blank: Blank) -> bool
     right
 }
 
-fn poll_all(line: &Line, observer: Polling) -> bool
-    requires ready { (observer.past.queue ≡ line.now) × InOrder (λ _ track item. item ≡ track) observer × (observer.past.number ≡ 0) }
-{
-    poll_by::<Brand>(line, observer, Blank::new(1))
-}
-
-#[test]
-fn numbers_never_fall_and_skip_none(rt: HostRuntime) -> Result<(), Fail> {
-    let Ok((line, mutator, observer)) = queue::<u32, ByNumber>(rt.alloc(), 4, ()) else {
-        return Err(Fail::new("no memory"));
-    };
-    let line = &line;
-    let (_, right) = thread::join(
-        &rt,
-        move ||
-            requires { (mutator.past.queue ≡ line.now) × (mutator.editing ≡ false) × (mutator.past.number ≡ 0) }
-        { push_all(line, mutator) },
-        move || -> bool
-            requires { (observer.past.queue ≡ line.now) × InOrder (λ _ track item. item ≡ track) observer × (observer.past.number ≡ 0) }
-        { poll_all(line, observer) },
-    );
-    assert!(rt; right);
-    Ok(())
-}
-
 // Attaches and detaches all slots in turn, and takes items back. Whether each item taken back was that of its track, at most 7,000 of them.
-fn attach_by<L: Ledger>(line: &Line, mut mutator: Pushing, blank: Blank) -> bool
+fn attach_by<L: Ledger>(line: &Line, mutator: &mut Pushing, blank: Blank) -> bool
     requires name { blank.name ≡ L.name }
     requires parts { (blank.parts ≡ L.parts) × (0 < blank.parts) }
-    requires ready { (mutator.past.queue ≡ line.now) × (mutator.editing ≡ false) × (mutator.past.number ≡ 0) }
+    requires ready { (mutator.old.past.queue ≡ line.now) × (mutator.old.editing ≡ false) × (mutator.old.past.number ≡ 0) }
 {
     let mut steps = Steps::<L>::start(blank);
     let (mut right, mut taken) = (true, 0u32);
@@ -104,43 +75,37 @@ fn attach_by<L: Ledger>(line: &Line, mut mutator: Pushing, blank: Blank) -> bool
             right = right && item == track;
             taken = taken.saturating_add(1);
         }
-        if !attach(&mut mutator, slot, i) {
-            detach(&mut mutator, slot);
+        if !attach(mutator, slot, i) {
+            detach(mutator, slot);
         }
         if let Push::Busy { .. } = mutator.push(line, &mut steps) {
-            thread::yield_now();
+            yield_now();
         }
         if taken >= 7000 {
             break;
         }
     }
     for _i in 0..1_000_000u32 {
-        command(&mut mutator, Command::Exit);
+        command(mutator, Command::Exit);
         match mutator.push(line, &mut steps) {
             Push::Pushed { .. } => break,
-            _ => thread::yield_now(),
+            _ => yield_now(),
         }
     }
     right
 }
 
-fn attach_all(line: &Line, mutator: Pushing) -> bool
-    requires ready { (mutator.past.queue ≡ line.now) × (mutator.editing ≡ false) × (mutator.past.number ≡ 0) }
-{
-    attach_by::<Brand>(line, mutator, Blank::new(1))
-}
-
 // Polls until the command is Exit, at most so many times, and says whether the item then held in the last slot is that of its track.
-fn hold_by<L: Ledger>(line: &Line, mut observer: Polling, most: u32, blank: Blank) -> bool
+fn hold_by<L: Ledger>(line: &Line, observer: &mut Polling, most: u32, blank: Blank) -> bool
     requires name { blank.name ≡ L.name }
     requires parts { (blank.parts ≡ L.parts) × (0 < blank.parts) }
-    requires ready { (observer.past.queue ≡ line.now) × InOrder (λ _ track item. item ≡ track) observer × (observer.past.number ≡ 0) }
+    requires ready { (observer.old.past.queue ≡ line.now) × InOrder (λ _ track item. item ≡ track) observer.old × (observer.old.past.number ≡ 0) }
 {
     let mut steps = Steps::<L>::start(blank);
     for _i in 0..most {
         match observer.poll(line, &mut steps) {
             Poll::New { .. } => {}
-            _ => thread::yield_now(),
+            _ => yield_now(),
         }
         if command_of(observer.current()) == Command::Exit.code() {
             break;
@@ -163,66 +128,93 @@ fn command_of(state: Option<&FastState>) -> u32 {
     }
 }
 
-fn hold_all(line: &Line, observer: Polling, most: u32) -> bool
-    requires ready { (observer.past.queue ≡ line.now) × InOrder (λ _ track item. item ≡ track) observer × (observer.past.number ≡ 0) }
-{
-    hold_by::<Brand>(line, observer, most, Blank::new(1))
-}
-
-#[test]
-fn each_item_comes_back_as_it_was_given(rt: HostRuntime) -> Result<(), Fail> {
-    let Ok((line, mutator, observer)) = queue::<u32, ByNumber>(rt.alloc(), 4, ()) else {
-        return Err(Fail::new("no memory"));
-    };
-    let line = &line;
-    let (back, held) = thread::join(
-        &rt,
-        move || -> bool
-            requires { (mutator.past.queue ≡ line.now) × (mutator.editing ≡ false) × (mutator.past.number ≡ 0) }
-        { attach_all(line, mutator) },
-        move || -> bool
-            requires { (observer.past.queue ≡ line.now) × InOrder (λ _ track item. item ≡ track) observer × (observer.past.number ≡ 0) }
-        { hold_all(line, observer, 50_000_000) },
-    );
-    assert!(rt; back && held);
-    Ok(())
-}
-
 // Pushes two states, the second until it is acknowledged.
-fn wait_by<R: Wait, L: Ledger>(rt: &R, line: &Line, mut mutator: Pushing, blank: Blank) -> bool
+fn wait_by<R: Wait, L: Ledger>(rt: &R, line: &Line, mutator: &mut Pushing, blank: Blank) -> bool
     requires name { blank.name ≡ L.name }
     requires parts { (blank.parts ≡ L.parts) × (0 < blank.parts) }
-    requires ready { (mutator.past.queue ≡ line.now) × (mutator.editing ≡ false) × (mutator.past.number ≡ 0) }
+    requires ready { (mutator.old.past.queue ≡ line.now) × (mutator.old.editing ≡ false) × (mutator.old.past.number ≡ 0) }
 {
     let mut steps = Steps::<L>::start(blank);
-    command(&mut mutator, Command::Mix);
+    command(mutator, Command::Mix);
     mutator.push(line, &mut steps);
-    command(&mut mutator, Command::Exit);
+    command(mutator, Command::Exit);
     let answer = mutator.push_until_acked(rt, line, &mut steps);
     answer == Push::Pushed { number: 2 }
 }
 
-fn wait_all<R: Wait>(rt: &R, line: &Line, mutator: Pushing) -> bool
-    requires ready { (mutator.past.queue ≡ line.now) × (mutator.editing ≡ false) × (mutator.past.number ≡ 0) }
-{
-    wait_by::<R, Brand>(rt, line, mutator, Blank::new(1))
+// What the mutator does on its thread.
+#[derive(Clone, Copy)]
+enum Work {
+    Push,
+    Attach,
+    Wait,
 }
 
-#[test]
-fn a_push_waits_for_its_acknowledgement(rt: HostRuntime) -> Result<(), Fail> {
-    let Ok((line, mutator, observer)) = queue::<u32, ByNumber>(rt.alloc(), 4, ()) else {
-        return Err(Fail::new("no memory"));
+fn make_work<R: Wait>(rt: &R, line: &Line, mut mutator: Pushing, work: Work) -> bool
+    requires ready { (mutator.past.queue ≡ line.now) × (mutator.editing ≡ false) × (mutator.past.number ≡ 0) }
+{
+    let right = match work {
+        Work::Push => {
+            push_by::<Brand>(line, &mut mutator, Blank::new(1));
+            true
+        }
+        Work::Attach => attach_by::<Brand>(line, &mut mutator, Blank::new(1)),
+        Work::Wait => wait_by::<R, Brand>(rt, line, &mut mutator, Blank::new(1)),
     };
-    let (line, host) = (&line, &rt);
-    let (second, _) = thread::join(
-        &rt,
+    drop(mutator);
+    right
+}
+
+// What the observer does on its thread.
+#[derive(Clone, Copy)]
+enum Watch {
+    Poll,
+    // Polls at most so many times.
+    Hold { most: u32 },
+}
+
+fn keep_watch(line: &Line, mut observer: Polling, watch: Watch) -> bool
+    requires ready { (observer.past.queue ≡ line.now) × InOrder (λ _ track item. item ≡ track) observer × (observer.past.number ≡ 0) }
+{
+    let right = match watch {
+        Watch::Poll => poll_by::<Brand>(line, &mut observer, Blank::new(1)),
+        Watch::Hold { most } => hold_by::<Brand>(line, &mut observer, most, Blank::new(1)),
+    };
+    drop(observer);
+    right
+}
+
+// What the two ends of a new queue answer on two threads.
+fn on_two<R: Threads + Wait + Sync>(
+    rt: &R,
+    alloc: Global,
+    works: Work,
+    watches: Watch,
+) -> Result<(bool, bool), Memory> {
+    let (line, mutator, observer) = queue::<u32, ByNumber>(alloc, 4, ())?;
+    let line = &line;
+    Ok(join(
+        rt,
         move || -> bool
             requires { (mutator.past.queue ≡ line.now) × (mutator.editing ≡ false) × (mutator.past.number ≡ 0) }
-        { wait_all(host, line, mutator) },
+        { make_work(rt, line, mutator, works) },
         move || -> bool
             requires { (observer.past.queue ≡ line.now) × InOrder (λ _ track item. item ≡ track) observer × (observer.past.number ≡ 0) }
-        { hold_all(line, observer, 10_000_000) },
-    );
-    assert!(rt; second);
-    Ok(())
+        { keep_watch(line, observer, watches) },
+    ))
+}
+
+// Numbers never fall and skip none; each item comes back as it was given; a push waits for its acknowledgement.
+const PAIRS: [(&str, Work, Watch); 3] = [
+    ("numbers", Work::Push, Watch::Poll),
+    ("items", Work::Attach, Watch::Hold { most: 50_000_000 }),
+    ("a wait", Work::Wait, Watch::Hold { most: 10_000_000 }),
+];
+
+#[test]
+fn both_ends_answer_on_two_threads(rt: HostRuntime) {
+    for (name, works, watches) in &PAIRS {
+        let found = on_two(&rt, rt.alloc(), *works, *watches);
+        assert!(rt; found == Ok((true, true)), "{name}");
+    }
 }

@@ -7,6 +7,7 @@ use af_cblk::Block;
 use af_record::{Capture, Listener, make};
 use std::alloc::Global;
 use std::marker::Brand;
+use std::mem::drop;
 use std::sync::ledger::{Blank, Ledger};
 use std::test::*;
 use std::thread::{Threads, join, yield_now};
@@ -119,7 +120,11 @@ fn all_found<R: Threads + Sync>(rt: &R, alloc: Global) -> Result<bool, Memory> {
     );
     let (listener, next) = read(shared, listener, 1, next);
     let found = listener.total().wrapping_add(capture.overrun());
-    Ok(next.is_some() && found == 1_000_000 && capture.supplied() == found)
+    let supplied = capture.supplied();
+    drop(listener);
+    drop(capture);
+    drop(block);
+    Ok(next.is_some() && found == 1_000_000 && supplied == found)
 }
 
 #[test]

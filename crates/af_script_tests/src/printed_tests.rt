@@ -3,8 +3,9 @@ ghost use Rattle.std.specs.Prelude.{◌≤◌};
 
 use af_script::{Op, Script, TrackSpec, print, read};
 use std::alloc::Global;
-use std::process::Abort;
-use std::test::Fail;
+use std::fmt::Write;
+use std::mem::drop;
+use std::test::*;
 
 /// The ops without numbers.
 const WORDS: [&str; 6] = ["start", "pause", "stop", "flush", "drain", "yield"];
@@ -27,95 +28,116 @@ impl Source {
         (self.seed >> 8) % bound.max(1)
     }
 
-    /// An op of a track with a buffer of so many frames.
-    fn op(&mut self, alloc: Global, frames: u32) -> Result<String, Fail> {
-        Ok(match self.draw(10) {
-            0 => format!(in alloc; "gain {} {}", self.draw(65536), self.draw(65536))?,
-            1 | 2 => format!(in alloc; "write {}", 1 + self.draw(5000))?,
+    /// Adds an op of a track with a buffer of so many frames.
+    fn op(&mut self, text: &mut String, frames: u32) -> Result<(), Fail> {
+        let kind = self.draw(10);
+        match kind {
+            0 => add_item(text, "gain", Some(self.draw(65536)), Some(self.draw(65536))),
+            1 | 2 => add_item(text, "write", Some(1 + self.draw(5000)), None),
             3 => {
-                format!(in alloc;
-                    "poke stream {} {}",
-                    self.draw(frames.min(8192)),
-                    self.draw(1 << 24)
-                )?
+                let word = self.draw(frames.min(8192));
+                add_item(text, "poke stream", Some(word), Some(self.draw(1 << 24)))
             }
-            4 => format!(in alloc; "poke command {} {}", self.draw(135), self.draw(1 << 24))?,
+            4 => add_item(
+                text,
+                "poke command",
+                Some(self.draw(135)),
+                Some(self.draw(1 << 24)),
+            ),
             other => {
                 let word = WORDS.get(other as usize - 5).unwrap_or(&"yield");
-                String::from_str(alloc, word)?
+                add_item(text, word, None, None)
             }
-        })
+        }
     }
 
-    /// Items in quotes with commas behind them: `open` and so many other ops.
-    fn ops(&mut self, alloc: Global, frames: u32, count: u32) -> Result<String, Fail> {
-        let mut text = String::from_str(alloc, "'open', ")?;
+    /// Adds `open` and so many other ops, and maybe a `remove`.
+    fn ops(&mut self, text: &mut String, frames: u32, count: u32) -> Result<(), Fail> {
+        text.push_str("ops = ['open', ")?;
         for _ in 0..count {
-            let op = self.op(alloc, frames)?;
-            text.push_str(format!(in alloc; "'{op}', ")?.as_str())?;
+            self.op(text, frames)?;
         }
-        if self.draw(2) == 0 {
-            text.push_str("'remove'")?;
-        }
-        Ok(text)
+        let end = if self.draw(2) == 0 {
+            "'remove']\n"
+        } else {
+            "]\n"
+        };
+        Ok(text.push_str(end)?)
     }
 
-    /// A table of a track; version 2 has two keys more.
-    fn track(&mut self, alloc: Global, version: u32, number: u32) -> Result<String, Fail> {
+    /// Adds a table of a track; version 2 has two keys more.
+    fn track(&mut self, text: &mut String, version: u32, number: u32) -> Result<(), Fail> {
         let frames = 1 + self.draw(8192);
         let count = self.draw(20);
         let kind = if number < 7 && self.draw(2) == 0 {
-            "fast"
+            "[[track]]\nkind = 'fast'\n"
         } else {
-            "normal"
+            "[[track]]\nkind = 'normal'\n"
         };
-        let mut text = format!(in alloc;
-            "[[track]]\nkind = '{kind}'\nframes = {frames}\nchannels = {}\nfile = 't-{number}_{}'\nops = [{}]\n",
-            1 + self.draw(2),
-            self.draw(1000),
-            self.ops(alloc, frames, count)?
-        )?;
+        text.push_str(kind)?;
+        add_key(text, "frames", frames)?;
+        add_key(text, "channels", 1 + self.draw(2))?;
+        let file = self.draw(1000);
+        write!(text, "file = 't-{number}_{file}'\n")?;
+        self.ops(text, frames, count)?;
         if version == 2 {
-            text.push_str(format!(in alloc;
-                "base = {}\nscale = {}\n",
-                self.draw(1 << 24),
-                self.draw(4097)
-            )?
-            .as_str())?;
+            add_key(text, "base", self.draw(1 << 24))?;
+            add_key(text, "scale", self.draw(4097))?;
         }
-        Ok(text)
+        Ok(())
     }
 
-    /// The turns of a script, in quotes with commas behind them.
-    fn turns(&mut self, alloc: Global, tracks: u32) -> Result<String, Fail> {
-        let mut text = String::new(alloc);
+    /// Adds the turns of a script.
+    fn turns(&mut self, text: &mut String, tracks: u32) -> Result<(), Fail> {
+        text.push_str("turns = [")?;
         for _ in 0..self.draw(40) {
-            let turn = match self.draw(3) {
-                0 => format!(in alloc; "c {}", self.draw(tracks))?,
-                1 => String::from_str(alloc, "n")?,
-                _ => format!(in alloc; "f {}", 1 + self.draw(16))?,
+            let kind = self.draw(3);
+            let (word, number) = match kind {
+                0 => ("c", Some(self.draw(tracks))),
+                1 => ("n", None),
+                _ => ("f", Some(1 + self.draw(16))),
             };
-            text.push_str(format!(in alloc; "'{turn}', ")?.as_str())?;
+            add_item(text, word, number, None)?;
         }
-        Ok(text)
+        Ok(text.push_str("]\n")?)
     }
 
-    /// A script.
-    fn script(&mut self, alloc: Global) -> Result<String, Fail> {
+    /// Adds a script.
+    fn script(&mut self, text: &mut String) -> Result<(), Fail> {
         let version = 1 + self.draw(2);
         let tracks = 1 + self.draw(4);
-        let mut text = format!(in alloc;
-            "version = {version}\nframes = {}\nnormal = {}\ncycles = {}\nturns = [{}]\n",
-            1 + self.draw(1024),
-            1 + self.draw(16),
-            1000 + self.draw(1000),
-            self.turns(alloc, tracks)?
-        )?;
+        add_key(text, "version", version)?;
+        add_key(text, "frames", 1 + self.draw(1024))?;
+        add_key(text, "normal", 1 + self.draw(16))?;
+        add_key(text, "cycles", 1000 + self.draw(1000))?;
+        self.turns(text, tracks)?;
         for number in 0..tracks {
-            text.push_str(self.track(alloc, version, number)?.as_str())?;
+            self.track(text, version, number)?;
         }
-        Ok(text)
+        Ok(())
     }
+}
+
+/// Adds an op or a turn in quotes, with a comma behind it.
+fn add_item(
+    text: &mut String,
+    word: &str,
+    first: Option<u32>,
+    second: Option<u32>,
+) -> Result<(), Fail> {
+    text.push_str("'")?;
+    text.push_str(word)?;
+    for number in &[first, second] {
+        if let Some(number) = number {
+            write!(text, " {number}")?;
+        }
+    }
+    Ok(text.push_str("', ")?)
+}
+
+/// Adds a line of a key and its number.
+fn add_key(text: &mut String, key: &str, number: u32) -> Result<(), Fail> {
+    Ok(write!(text, "{key} = {number}\n")?)
 }
 
 /// Whether two tracks are the same.
@@ -129,6 +151,19 @@ fn is_same_track(one: &TrackSpec, other: &TrackSpec) -> bool {
         && one.ops.as_slice() == other.ops.as_slice()
 }
 
+/// Whether two lists of tracks are the same.
+fn are_same_tracks(ones: &[TrackSpec], others: &[TrackSpec]) -> bool {
+    if ones.len() != others.len() {
+        return false;
+    }
+    for i in 0..ones.len() {
+        if !is_same_track(&ones[i], &others[i]) {
+            return false;
+        }
+    }
+    true
+}
+
 /// Whether two scripts are the same.
 fn is_same(one: &Script, other: &Script) -> bool {
     one.version() == other.version()
@@ -136,12 +171,7 @@ fn is_same(one: &Script, other: &Script) -> bool {
         && one.normal() == other.normal()
         && one.cycles() == other.cycles()
         && one.turns() == other.turns()
-        && one.tracks().len() == other.tracks().len()
-        && one
-            .tracks()
-            .iter()
-            .zip(other.tracks().iter())
-            .all(|(track, read)| is_same_track(track, read))
+        && are_same_tracks(one.tracks(), other.tracks())
 }
 
 /// How many pokes a script has.
@@ -157,20 +187,41 @@ fn pokes_in(script: &Script) -> usize {
     pokes
 }
 
+/// How many pokes a script has, if it is the same once it was printed.
+fn pokes_again(alloc: Global, script: &Script) -> Option<usize> {
+    let mut bytes = Vec::new(alloc);
+    let printed = print(alloc, script, &mut bytes).is_ok();
+    let read = read(alloc, bytes.as_slice());
+    drop(bytes);
+    let again = read.ok()?;
+    let is_same = printed && is_same(script, &again);
+    let pokes = pokes_in(&again);
+    drop(again);
+    if is_same { Some(pokes) } else { None }
+}
+
+/// How many pokes the next script has, if it is the same once it was printed.
+fn next_pokes(alloc: Global, source: &mut Source) -> Result<Option<usize>, Fail> {
+    let mut text = String::new(alloc);
+    let made = source.script(&mut text);
+    let read = read(alloc, text.as_bytes());
+    drop(text);
+    made?;
+    let script = read.ok().ok_or("not read")?;
+    let pokes = pokes_again(alloc, &script);
+    drop(script);
+    Ok(pokes)
+}
+
 /// Three hundred scripts, each the same once it was printed.
 #[test]
 fn random_scripts_printed(rt: HostRuntime) -> Result<(), Fail> {
-    let alloc = rt.alloc();
     let mut source = Source { seed: 2026 };
     let mut pokes: usize = 0;
     for number in 0..300 {
-        let text = source.script(alloc)?;
-        let script = read(alloc, text.as_bytes()).ok().ok_or("not read")?;
-        let mut bytes = Vec::new(alloc);
-        print(alloc, &script, &mut bytes).ok().ok_or("not printed")?;
-        let again = read(alloc, bytes.as_slice()).ok().ok_or("not read again")?;
-        assert!(rt; is_same(&script, &again), "script {number}");
-        pokes = pokes.saturating_add(pokes_in(&again));
+        let found = next_pokes(rt.alloc(), &mut source)?;
+        assert!(rt; found.is_some(), "script {number}");
+        pokes = pokes.saturating_add(found.unwrap_or(0));
     }
     assert!(rt; pokes > 100);
     Ok(())

@@ -1,5 +1,6 @@
 use af_script::{Op, Script, TurnSpec, generated_script, print, read};
 use std::alloc::Global;
+use std::mem::drop;
 use std::test::Fail;
 
 /// A script with each op and each turn.
@@ -28,17 +29,16 @@ fn printed(alloc: Global, script: &Script) -> Result<String, Fail> {
     Ok(String::from_utf8(bytes).ok().ok_or("no text")?)
 }
 
-/// The text of the script that a text is.
-fn printed_again(alloc: Global, text: &str) -> Result<String, Fail> {
-    printed(alloc, &script_of(alloc, text)?)
+/// Whether that is the text of the script that a text is.
+fn is_printed(alloc: Global, text: &str, wanted: &str) -> Result<bool, Fail> {
+    let script = script_of(alloc, text)?;
+    Ok(printed(alloc, &script)?.as_str() == wanted)
 }
 
 #[test]
 fn the_text_of_a_script(rt: HostRuntime) -> Result<(), Fail> {
-    let alloc = rt.alloc();
     for text in &[FULL, PRINTED] {
-        let told = printed_again(alloc, text)?;
-        assert!(rt; told.as_str() == PRINTED, "{text}");
+        assert!(rt; is_printed(rt.alloc(), text, PRINTED)?, "{text}");
     }
     Ok(())
 }
@@ -71,18 +71,28 @@ fn has_ops(script: &Script, count: usize) -> bool {
     track.ops.as_slice().len() == count && track.ops.as_slice().last() == Some(&Op::Remove)
 }
 
-/// Whether a long track is printed with that end, and read again with so many ops and the same text.
-fn is_long(alloc: Global, waits: usize, end: &str, count: usize, ends: &str) -> Result<bool, Fail> {
-    let text = printed(alloc, &long_track(alloc, waits, end)?)?;
-    let again = script_of(alloc, text.as_str())?;
-    let right = text.as_str().ends_with(ends) && has_ops(&again, count);
-    Ok(right && printed(alloc, &again)?.as_str() == text.as_str())
+/// Whether that text is read again with so many ops and the same text.
+fn is_long(alloc: Global, text: &str, count: usize) -> Result<bool, Fail> {
+    let again = script_of(alloc, text)?;
+    Ok(has_ops(&again, count) && printed(alloc, &again)?.as_str() == text)
+}
+
+/// Whether the text of a long track has that end, and is read again with so many ops.
+fn ends_so(alloc: Global, waits: usize, end: &str, count: usize, ends: &str) -> Result<bool, Fail> {
+    let script = long_track(alloc, waits, end)?;
+    let text = printed(alloc, &script);
+    drop(script);
+    let text = text?;
+    let long = is_long(alloc, text.as_str(), count);
+    let ends_so = text.as_str().ends_with(ends);
+    drop(text);
+    Ok(long? && ends_so)
 }
 
 #[test]
 fn the_limit_of_ops(rt: HostRuntime) -> Result<(), Fail> {
     for (waits, end, count, ends) in &LONG {
-        let is_right = is_long(rt.alloc(), *waits, end, *count, ends)?;
+        let is_right = ends_so(rt.alloc(), *waits, end, *count, ends)?;
         assert!(rt; is_right, "{waits} {end}");
     }
     Ok(())
@@ -97,13 +107,21 @@ fn is_generated(script: &Script) -> bool {
         && script.tracks().len() == 8
 }
 
+/// Whether the generated script is printed and read again as it is.
+fn generated_is_printed(alloc: Global) -> Result<bool, Fail> {
+    let script = generated_script(alloc).ok().ok_or("no script")?;
+    let is_so = is_generated(&script);
+    let text = printed(alloc, &script);
+    drop(script);
+    let text = text?;
+    let again = is_printed(alloc, text.as_str(), text.as_str());
+    drop(text);
+    let again = again?;
+    Ok(is_so && again)
+}
+
 #[test]
 fn the_generated_script(rt: HostRuntime) -> Result<(), Fail> {
-    let alloc = rt.alloc();
-    let script = generated_script(alloc).ok().ok_or("no script")?;
-    assert!(rt; is_generated(&script));
-    let text = printed(alloc, &script)?;
-    let again = printed_again(alloc, text.as_str())?;
-    assert!(rt; again.as_str() == text.as_str());
+    assert!(rt; generated_is_printed(rt.alloc())?);
     Ok(())
 }

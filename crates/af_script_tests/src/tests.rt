@@ -2,8 +2,10 @@ use af_script::{Op, ReadError, Script, TurnSpec, print, read};
 use std::alloc::Global;
 use std::test::Fail;
 
-const HEAD: &str = "version = 1\nframes = 2\nnormal = 1\ncycles = 4\nturns = ['c 0', 'n', 'f 1']\n";
+const SCRIPT: &str =
+    "version = 1\nframes = 2\nnormal = 1\ncycles = 4\nturns = ['c 0', 'n', 'f 1']\n[[track]]\nkind = 'fast'\nframes = 8\nchannels = 2\nfile = 'tone.pcm'\nops = ['open', 'start', 'write 2']\n";
 
+/// The track of that script.
 const TRACK: &str =
     "[[track]]\nkind = 'fast'\nframes = 8\nchannels = 2\nfile = 'tone.pcm'\nops = ['open', 'start', 'write 2']\n";
 
@@ -131,31 +133,26 @@ const PAIRS: [(&str, &str, &str, &str, &str); 13] = [
     ("'n'", "'f 5'", "'f 1'", "'f 0'", "turn 2"),
 ];
 
-/// What stands in the place of the tracks, and what is read then.
+/// What stands in the place of the track, and what is read then.
 const NO_TABLES: [(&str, &str); 3] = [
     ("", "key 0 track"),
     ("track = []", "range 0 track 0"),
     ("track = [1]", "key 0 track"),
 ];
 
-/// What the bytes of a script are read as, in words.
-fn told(alloc: Global, text: &str) -> Result<String, Fail> {
-    match read(alloc, text.as_bytes()) {
-        Ok(script) => told_again(alloc, &script),
-        Err(ReadError::Fault(fault)) => Ok(format!(in alloc; "{fault}")?),
-        Err(ReadError::Memory) => Ok(String::from_str(alloc, "memory")?),
-    }
+/// Whether a script is read again once it is printed.
+fn is_read_again(alloc: Global, script: &Script) -> bool {
+    let mut bytes = Vec::new(alloc);
+    print(alloc, script, &mut bytes).is_ok() && read(alloc, bytes.as_slice()).is_ok()
 }
 
-/// What a script is read as once it is printed, in words.
-fn told_again(alloc: Global, script: &Script) -> Result<String, Fail> {
-    let mut bytes = Vec::new(alloc);
-    print(alloc, script, &mut bytes).ok().ok_or("not printed")?;
-    let line = match read(alloc, bytes.as_slice()) {
-        Ok(_) => "accepted",
-        Err(_) => "not read again",
-    };
-    Ok(String::from_str(alloc, line)?)
+/// Whether the bytes of a script are read as that, in words.
+fn is_told(alloc: Global, text: &str, line: &str) -> Result<bool, Fail> {
+    match read(alloc, text.as_bytes()) {
+        Ok(script) => Ok(line == "accepted" && is_read_again(alloc, &script)),
+        Err(ReadError::Fault(fault)) => Ok(format!(in alloc; "{fault}")?.as_str() == line),
+        Err(ReadError::Memory) => Ok(false),
+    }
 }
 
 /// A text with one part changed.
@@ -164,80 +161,92 @@ fn changed(alloc: Global, text: &str, from: &str, to: &str) -> Result<String, Fa
     Ok(format!(in alloc; "{front}{to}{back}")?)
 }
 
-/// A part a number of times.
-fn repeated(alloc: Global, part: &str, times: usize) -> Result<String, Fail> {
-    let mut text = String::new(alloc);
-    for _ in 0..times {
-        text.push_str(part)?;
-    }
-    Ok(text)
+/// Whether the script with one part changed is read as that.
+fn is_told_with(alloc: Global, from: &str, to: &str, line: &str) -> Result<bool, Fail> {
+    let text = changed(alloc, SCRIPT, from, to)?;
+    is_told(alloc, text.as_str(), line)
 }
 
-/// What a text with one part changed is read as.
-fn told_changed(alloc: Global, text: &str, from: &str, to: &str) -> Result<String, Fail> {
-    let text = changed(alloc, text, from, to)?;
-    told(alloc, text.as_str())
+/// Whether the script with two parts changed is read as that.
+fn is_told_with_two(
+    alloc: Global,
+    (from, to, other, other_to, line): &(&str, &str, &str, &str, &str),
+) -> Result<bool, Fail> {
+    let once = changed(alloc, SCRIPT, from, to)?;
+    let text = changed(alloc, once.as_str(), other, other_to)?;
+    is_told(alloc, text.as_str(), line)
 }
 
-/// What the script with one part changed is read as.
-fn told_with(alloc: Global, from: &str, to: &str) -> Result<String, Fail> {
-    let script = format!(in alloc; "{HEAD}{TRACK}")?;
-    told_changed(alloc, script.as_str(), from, to)
-}
-
-/// What the script is read as with a part so many times, and an end, in the place of another.
-fn told_with_many(
+/// Whether the script is read as that with a part so many times, and an end, in the place of another.
+fn is_told_with_many(
     alloc: Global,
     from: &str,
     part: &str,
     times: usize,
     end: &str,
-) -> Result<String, Fail> {
-    let mut text = repeated(alloc, part, times)?;
+    line: &str,
+) -> Result<bool, Fail> {
+    let mut text = String::new(alloc);
+    for _ in 0..times {
+        text.push_str(part)?;
+    }
     text.push_str(end)?;
-    told_with(alloc, from, text.as_str())
+    is_told_with(alloc, from, text.as_str(), line)
 }
 
+/// How many changes are read as they should, up to the first that isn't.
+fn changes_told(alloc: Global) -> Result<usize, Fail> {
+    for (i, (from, to, line)) in CHANGES.iter().enumerate() {
+        if !is_told_with(alloc, from, to, line)? {
+            return Ok(i);
+        }
+    }
+    Ok(CHANGES.len())
+}
+
+fn no_tables_told(alloc: Global) -> Result<usize, Fail> {
+    for (i, (track, line)) in NO_TABLES.iter().enumerate() {
+        if !is_told_with(alloc, TRACK, track, line)? {
+            return Ok(i);
+        }
+    }
+    Ok(NO_TABLES.len())
+}
+
+fn pairs_told(alloc: Global) -> Result<usize, Fail> {
+    for (i, pair) in PAIRS.iter().enumerate() {
+        if !is_told_with_two(alloc, pair)? {
+            return Ok(i);
+        }
+    }
+    Ok(PAIRS.len())
+}
+
+/// What stands in the place of a part, what stands there so many times, what stands behind it, and what is read then.
+const LISTS: [(&str, &str, usize, &str, &str); 2] = [
+    ("'write 2'", "'yield', ", 4094, "'remove'", "limit ops 4097"),
+    ("'n', ", "'n', ", 99999, "", "limit turns 100001"),
+];
+
+fn lists_told(alloc: Global) -> Result<usize, Fail> {
+    for (i, (from, part, times, end, line)) in LISTS.iter().enumerate() {
+        if !is_told_with_many(alloc, from, part, *times, end, line)? {
+            return Ok(i);
+        }
+    }
+    Ok(LISTS.len())
+}
+
+/// How many rows of each table are read as they should: single changes, tracks that are no tables, two changes, and lists at their limits.
 #[test]
 fn each_fault(rt: HostRuntime) -> Result<(), Fail> {
-    let alloc = rt.alloc();
-    for (from, to, line) in &CHANGES {
-        let told = told_with(alloc, from, to)?;
-        assert!(rt; told.as_str() == *line, "{from} to {to}");
-    }
-    Ok(())
-}
-
-#[test]
-fn tracks_that_are_no_tables(rt: HostRuntime) -> Result<(), Fail> {
-    let alloc = rt.alloc();
-    for (track, line) in &NO_TABLES {
-        let text = format!(in alloc; "{HEAD}{track}")?;
-        let told = told(alloc, text.as_str())?;
-        assert!(rt; told.as_str() == *line, "{track}");
-    }
-    Ok(())
-}
-
-#[test]
-fn the_first_of_two_faults(rt: HostRuntime) -> Result<(), Fail> {
-    let alloc = rt.alloc();
-    let script = format!(in alloc; "{HEAD}{TRACK}")?;
-    for (from, to, other, other_to, line) in &PAIRS {
-        let once = changed(alloc, script.as_str(), from, to)?;
-        let told = told_changed(alloc, once.as_str(), other, other_to)?;
-        assert!(rt; told.as_str() == *line, "{to} and {other_to}");
-    }
-    Ok(())
-}
-
-#[test]
-fn the_limits_of_lists(rt: HostRuntime) -> Result<(), Fail> {
-    let alloc = rt.alloc();
-    let ops = told_with_many(alloc, "'write 2'", "'yield', ", 4094, "'remove'")?;
-    assert!(rt; ops.as_str() == "limit ops 4097");
-    let turns = told_with_many(alloc, "'n', ", "'n', ", 99999, "")?;
-    assert!(rt; turns.as_str() == "limit turns 100001");
+    let found = [
+        changes_told(rt.alloc())?,
+        no_tables_told(rt.alloc())?,
+        pairs_told(rt.alloc())?,
+        lists_told(rt.alloc())?,
+    ];
+    assert!(rt; found == [45, 3, 13, 2], "{found:?}");
     Ok(())
 }
 
@@ -274,9 +283,7 @@ fn has_track(script: &Script) -> bool {
 
 #[test]
 fn the_parts_of_a_script(rt: HostRuntime) -> Result<(), Fail> {
-    let alloc = rt.alloc();
-    let text = format!(in alloc; "{HEAD}{TRACK}")?;
-    let script = read(alloc, text.as_bytes()).ok().ok_or("not read")?;
+    let script = read(rt.alloc(), SCRIPT.as_bytes()).ok().ok_or("not read")?;
     assert!(rt; has_sizes_and_turns(&script));
     assert!(rt; has_track(&script));
     Ok(())

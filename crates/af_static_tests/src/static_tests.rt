@@ -6,6 +6,7 @@ use af_base::{Frame, Gains, Memory, Steps};
 use af_static::{InHand, Player, Shared, Unrolled, make};
 use std::alloc::Global;
 use std::marker::Brand;
+use std::mem::drop;
 use std::sync::ledger::{Blank, Ledger};
 use std::test::Fail;
 
@@ -93,16 +94,21 @@ impl Plain {
     }
 }
 
-// So many frames, of which the first is 1 on both sides.
-pub(crate) fn counted(alloc: Global, count: i16) -> Result<Vec<Frame>, Memory> {
-    let mut frames = Vec::new(alloc);
-    for number in 1..=count {
-        frames.push(Frame {
+// How many frames a buffer has at most.
+pub(crate) const COUNT: usize = 2048;
+
+// Frames of which the first is 1 on both sides.
+pub(crate) fn counted() -> [Frame; COUNT] {
+    let mut frames = [SILENCE; COUNT];
+    let mut number = 0i16;
+    for frame in frames.iter_mut() {
+        number = number.wrapping_add(1);
+        *frame = Frame {
             left: number,
             right: number,
-        })?;
+        };
     }
-    Ok(frames)
+    frames
 }
 
 // One call at unity.
@@ -138,47 +144,55 @@ fn plays<L: Ledger>(
     right
 }
 
-// Whether one setting and then another is played as the model does.
+// Whether one setting and then another is played of 20 frames as the model does.
 fn both_play<L: Ledger>(
     alloc: Global,
     blank: Blank,
+    frames: &[Frame],
     first: Numbers,
     second: Numbers,
 ) -> Result<bool, Memory>
     requires ledger { (blank.name ≡ L.name) × (blank.parts ≡ L.parts) × (0 < blank.parts) }
 {
-    let frames = counted(alloc, 20)?;
     if frames.len() != 20 {
         return Ok(false);
     }
     let mut steps = Steps::<L>::start(blank);
-    let (shared, mut setter, mut player) = make(alloc, &frames)?;
+    let (shared, mut setter, mut player) = make(alloc, frames)?;
     let mut plain = NEW;
     setter.set(&shared, first.0, first.1, first.2, &mut steps);
     plain.adopt(20, first);
-    let before = plays(&shared, &mut player, &mut plain, &frames, &mut steps);
+    let before = plays(&shared, &mut player, &mut plain, frames, &mut steps);
     setter.set(&shared, second.0, second.1, second.2, &mut steps);
     if !plain.shut {
         plain.adopt(20, second);
     }
-    let after = plays(&shared, &mut player, &mut plain, &frames, &mut steps);
+    let after = plays(&shared, &mut player, &mut plain, frames, &mut steps);
+    drop(player);
+    drop(setter);
+    drop(shared);
     Ok(before && after)
 }
 
-fn all_play(alloc: Global, first: Numbers) -> Result<bool, Memory> {
-    let mut right = true;
+// How many settings are played so after one.
+fn played_after(alloc: Global, frames: &[Frame], first: Numbers) -> Result<usize, Memory> {
+    let mut right = 0usize;
     for second in &SETTINGS {
-        right = both_play::<Brand>(alloc, Blank::new(1), first, *second)? && right;
+        let played = both_play::<Brand>(alloc, Blank::new(1), frames, first, *second)?;
+        right = right.wrapping_add(usize::from(played));
     }
     Ok(right)
 }
 
 #[test]
-fn each_setting_after_each_plays_as_the_model(rt: HostRuntime) -> Result<(), Fail> {
+fn each_setting_after_each_plays_as_the_model(rt: HostRuntime) {
+    let all = counted();
+    let frames = &all[..20];
     for first in &SETTINGS {
-        assert!(rt; all_play(rt.alloc(), *first)?, "after {first:?}");
+        let (start, end, count) = *first;
+        let right = played_after(rt.alloc(), frames, *first);
+        assert!(rt; right == Ok(SETTINGS.len()), "after {start} {end} {count}");
     }
-    Ok(())
 }
 
 // The left samples.
@@ -204,23 +218,18 @@ fn five_calls<L: Ledger>(
         shut: None,
     };
     let (mut samples, mut answers) = ([[0; 8]; 5], [none; 5]);
-    let frames = counted(alloc, 20)?;
-    if frames.len() != 20 {
-        return Err(Memory);
-    }
     let mut steps = Steps::<L>::start(blank);
-    let (shared, mut setter, mut player) = make(alloc, &frames)?;
+    let (shared, mut setter, mut player) = make(alloc, &counted()[..20])?;
     setter.set(&shared, setting.0, setting.1, setting.2, &mut steps);
     for i in 0..5 {
         let (out, unrolled) = call(&shared, &mut player, &mut steps);
         samples[i] = lefts(&out);
         answers[i] = unrolled;
     }
+    drop(player);
+    drop(setter);
+    drop(shared);
     Ok((samples, answers))
-}
-
-fn five_of(alloc: Global, setting: Numbers) -> Result<([[i16; 8]; 5], [Unrolled; 5]), Memory> {
-    five_calls::<Brand>(alloc, Blank::new(1), setting)
 }
 
 // The samples of a loop that is played twice, and of the rest behind it.
@@ -232,39 +241,55 @@ const LOOPED: [[i16; 8]; 5] = [
     [19, 20, 0, 0, 0, 0, 0, 0],
 ];
 
-// What the last two calls answer.
-const ANSWERS: [Unrolled; 2] = [
-    Unrolled {
-        number: 1,
-        filled: 8,
-        shut: None,
+macro_rules! unrolled {
+    ($filled:expr, $shut:expr) => {
+        Unrolled {
+            number: 1,
+            filled: $filled,
+            shut: $shut,
+        }
+    };
+}
+
+const SHUT: Unrolled = unrolled!(0, Some((2, 17, 1)));
+
+// A setting, the samples that are played then, and what the calls answer, from one on.
+struct Case {
+    setting: Numbers,
+    samples: [[i16; 8]; 5],
+    from: usize,
+    answers: &'static [Unrolled],
+}
+
+// A loop is played twice and then the rest; one of fifteen frames shuts the player.
+const CASES: [Case; 2] = [
+    Case {
+        setting: (2, 18, 1),
+        samples: LOOPED,
+        from: 3,
+        answers: &[unrolled!(8, None), unrolled!(2, None)],
     },
-    Unrolled {
-        number: 1,
-        filled: 2,
-        shut: None,
+    Case {
+        setting: (2, 17, 1),
+        samples: [[0; 8]; 5],
+        from: 0,
+        answers: &[SHUT; 5],
     },
 ];
 
-#[test]
-fn a_loop_is_played_twice_and_then_the_rest(rt: HostRuntime) -> Result<(), Fail> {
-    let (samples, answers) = five_of(rt.alloc(), (2, 18, 1))?;
-    assert!(rt; samples == LOOPED);
-    assert!(rt; [answers[3], answers[4]] == ANSWERS);
-    Ok(())
+// Whether five calls under the setting of a case play and answer so.
+fn is_so(alloc: Global, case: &Case) -> Result<bool, Memory> {
+    let (samples, answers) = five_calls::<Brand>(alloc, Blank::new(1), case.setting)?;
+    Ok(samples == case.samples && &answers[case.from.min(5)..] == case.answers)
 }
 
 #[test]
-fn a_loop_of_fifteen_frames_shuts_the_player(rt: HostRuntime) -> Result<(), Fail> {
-    let (samples, answers) = five_of(rt.alloc(), (2, 17, 1))?;
-    let shut = Unrolled {
-        number: 1,
-        filled: 0,
-        shut: Some((2, 17, 1)),
-    };
-    assert!(rt; samples == [[0; 8]; 5]);
-    assert!(rt; answers == [shut; 5]);
-    Ok(())
+fn five_calls_of_two_loops(rt: HostRuntime) {
+    for case in &CASES {
+        let end = case.setting.1;
+        let found = is_so(rt.alloc(), case);
+        assert!(rt; found == Ok(true), "end {end}");
+    }
 }
 
 #[test]
@@ -277,9 +302,11 @@ fn both_ends_in_one_hand(rt: HostRuntime) -> Result<(), Fail> {
     let mut hand = InHand::make(rt.alloc(), &frames)?;
     let mut out = [SILENCE; 2];
     let first = hand.play(Gains::clamped(0x1000_1000), &mut out);
-    assert!(rt; out == [frames[0], frames[1]]);
-    assert!(rt; hand.set(1, 0, 0) == 1);
+    let before = out;
+    let number = hand.set(1, 0, 0);
     let second = hand.play(Gains::clamped(0x1000_1000), &mut out);
+    drop(hand);
+    assert!(rt; before == [frames[0], frames[1]] && number == 1);
     assert!(rt; out == [frames[1], frames[2]]);
     assert!(rt; first.number == 0 && first.filled == 2 && first.shut == None);
     assert!(rt; second.number == 1 && second.filled == 2 && second.shut == None);

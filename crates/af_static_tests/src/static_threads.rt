@@ -8,8 +8,9 @@ use af_base::{Frame, Memory, Steps};
 use af_static::{Player, Setter, Shared, make};
 use std::alloc::Global;
 use std::marker::Brand;
+use std::mem::drop;
 use std::sync::ledger::{Blank, Ledger};
-use std::test::Fail;
+use std::test::*;
 use std::thread::{Threads, join, yield_now};
 
 // The setting of a number.
@@ -19,10 +20,10 @@ fn numbers_of(number: u32) -> Numbers
     (number, number + 16 + number % 5, number)
 }
 
-fn set_in<L: Ledger>(blank: Blank, shared: &Shared, mut setter: Setter)
+fn set_in<L: Ledger>(blank: Blank, shared: &Shared, setter: &mut Setter)
     requires ledger { (blank.name ≡ L.name) × (blank.parts ≡ L.parts) × (0 < blank.parts) }
-    requires together { setter.cell ≡ shared.now.cell }
-    requires none { stores setter.events ≡ 0 }
+    requires together { setter.old.cell ≡ shared.now.cell }
+    requires none { stores setter.old.events ≡ 0 }
 {
     let mut steps = Steps::<L>::start(blank);
     for number in 1..1001u32 {
@@ -31,11 +32,12 @@ fn set_in<L: Ledger>(blank: Blank, shared: &Shared, mut setter: Setter)
     }
 }
 
-fn set_all(shared: &Shared, setter: Setter)
+fn set_all(shared: &Shared, mut setter: Setter)
     requires together { setter.cell ≡ shared.now.cell }
     requires none { stores setter.events ≡ 0 }
 {
-    set_in::<Brand>(Blank::new(1), shared, setter);
+    set_in::<Brand>(Blank::new(1), shared, &mut setter);
+    drop(setter);
 }
 
 // Whether a call's output is that of its setting, which is no older than the one before.
@@ -50,16 +52,16 @@ fn follows(plain: &mut Plain, frames: &[Frame], last: u64, number: u64, out: &[F
 }
 
 // Plays until the last setting was used. Whether each output is that of its setting, in rising order.
-fn play_in<L: Ledger>(blank: Blank, shared: &Shared, mut player: Player, frames: &[Frame]) -> bool
+fn play_in<L: Ledger>(blank: Blank, shared: &Shared, player: &mut Player, frames: &[Frame]) -> bool
     requires ledger { (blank.name ≡ L.name) × (blank.parts ≡ L.parts) × (0 < blank.parts) }
-    requires together { IsPlayerOf shared.now player }
+    requires together { IsPlayerOf shared.now player.old }
 {
     let mut steps = Steps::<L>::start(blank);
     let mut plain = NEW;
     let mut last = 0;
     let mut right = true;
     for _ in 0..1_000_000u32 {
-        let (out, unrolled) = call(shared, &mut player, &mut steps);
+        let (out, unrolled) = call(shared, player, &mut steps);
         right = follows(&mut plain, frames, last, unrolled.number, &out) && right;
         last = unrolled.number;
         if last >= 1000 {
@@ -70,17 +72,16 @@ fn play_in<L: Ledger>(blank: Blank, shared: &Shared, mut player: Player, frames:
     right
 }
 
-fn play_all(shared: &Shared, player: Player, frames: &[Frame]) -> bool
+fn play_all(shared: &Shared, mut player: Player, frames: &[Frame]) -> bool
     requires together { IsPlayerOf shared.now player }
 {
-    play_in::<Brand>(Blank::new(1), shared, player, frames)
+    let right = play_in::<Brand>(Blank::new(1), shared, &mut player, frames);
+    drop(player);
+    right
 }
 
 fn both<R: Threads + Sync>(rt: &R, alloc: Global) -> Result<bool, Memory> {
-    let frames = counted(alloc, 2048)?;
-    if frames.len() != 2048 {
-        return Ok(false);
-    }
+    let frames = counted();
     let (shared, setter, player) = make(alloc, &frames)?;
     let (shared, frames) = (&shared, frames.as_slice());
     let (_, right) = join(
@@ -96,7 +97,6 @@ fn both<R: Threads + Sync>(rt: &R, alloc: Global) -> Result<bool, Memory> {
 }
 
 #[test]
-fn each_output_is_that_of_its_setting(rt: HostRuntime) -> Result<(), Fail> {
-    assert!(rt; both(&rt, rt.alloc())?);
-    Ok(())
+fn each_output_is_that_of_its_setting(rt: HostRuntime) {
+    assert!(rt; both(&rt, rt.alloc()) == Ok(true));
 }

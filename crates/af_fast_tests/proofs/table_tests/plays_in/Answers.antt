@@ -1,4 +1,4 @@
-use Rattle.std.proofs.Common.{List, sym, subst, ◌∙◌, arith}
+use Rattle.std.proofs.Common.{List, [], sym, subst, ◌∙◌, arith}
 use Rattle.af_cblk.specs.Sides.{Made}
 use Rattle.af_fast_tests.specs.Ready.{AreClientsOf, AreWaiting}
 use Rattle.af_fast_tests.proofs.table_tests.plays_in.Goals as goal
@@ -17,7 +17,7 @@ play_all-told-requires g c =
           report_is = k.report.1 ∙ sym links.report;
           pipe_is = k.pipe.1 ∙ sym links.pipe;
         };
-        order = k.order.0;
+        order = record { earlier = []; order = k.order.0 };
         turn = (k.order.1, k.order.2);
         names = (k.names.0.0, k.names.0.1, k.names.0.2 ∙ c.deref.ensures.value ∙ sym streams);
         queue = k.queue.0 ∙ sym links.queue;

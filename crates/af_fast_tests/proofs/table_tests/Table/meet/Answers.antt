@@ -1,4 +1,4 @@
-use Rattle.std.proofs.Common.{ℕ, ◌≤◌, [], ap, sym, subst, ◌∙◌}
+use Rattle.std.proofs.Common.{ℕ, ◌≤◌, ap, sym, subst, ◌∙◌}
 use Rattle.af_fast.specs.Fits.{NamesBlocks}
 use Rattle.af_link.specs.PipeEnds.{in_made}
 use Rattle.af_fast_tests.proofs.table_tests.Table.meet.Goals as goal
@@ -10,7 +10,7 @@ returns g c =
     record {
       ready = record {
         linked = m.order.1;
-        order = m.order.0 [] r.order;
+        order = record { earlier = r.order.earlier; order = m.order.0 r.order.earlier r.order.order };
         turn = (ap (λ f. f.adopted) m.mixer ∙ r.turn.0, ap (λ f. f.frames) m.mixer ∙ r.turn.1);
         names = subst (λ k. NamesBlocks k c.args.links.now.streams.now) (sym (ap (λ x. x.past.key) m.others.0)) r.names;
         queue = ap (λ x. x.past.queue) m.others.0 ∙ r.queue;

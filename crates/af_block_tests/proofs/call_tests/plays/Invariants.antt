@@ -1,4 +1,0 @@
-use Rattle.af_block_tests.proofs.call_tests.plays.Given as goal
-
-abbrev pub ghosts-plays_in : goal.ghosts-plays_in
-ghosts-plays_in a = record { name = a.blank.name; parts = a.blank.parts }
