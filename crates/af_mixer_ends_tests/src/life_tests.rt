@@ -116,8 +116,8 @@ pub(crate) fn lives(mixer: &mut Mixer, steps: &[Step]) -> u32 {
 
 #[test]
 fn a_track_lives(rt: HostRuntime) {
-    assert!(rt; Trial::Life.with(rt.alloc(), &[FAST]) == Ok(11));
-    assert!(rt; Trial::Life.with(rt.alloc(), &[PLAIN]) == Ok(11));
+    assert_eq!(rt; Trial::Life.with(rt.alloc(), &[FAST]).unwrap_or(0), 11);
+    assert_eq!(rt; Trial::Life.with(rt.alloc(), &[PLAIN]).unwrap_or(0), 11);
 }
 
 // A track is opened and removed.
