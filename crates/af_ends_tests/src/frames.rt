@@ -1,6 +1,5 @@
 //! Numbered frames.
 use af_base::Frame;
-use af_ends::EndError;
 use std::alloc::Global;
 
 pub(crate) const NOTHING: Frame = Frame { left: 0, right: 0 };
@@ -14,13 +13,11 @@ pub(crate) fn number(frames: &mut [Frame], first: u32) {
     }
 }
 
-// So many frames with the numbers from 0 on as their words.
-pub(crate) fn numbered(alloc: Global, count: u32) -> Result<Vec<Frame>, EndError> {
+// So many frames with the numbers from 0 on as their words, or as many as there is memory for.
+pub(crate) fn numbered(alloc: Global, count: u32) -> Vec<Frame> {
     let mut frames = Vec::new(alloc);
     for word in 0..count {
-        if frames.push(Frame::unpack(word)).is_err() {
-            return Err(EndError::Memory);
-        }
+        let _added = frames.push(Frame::unpack(word));
     }
-    Ok(frames)
+    frames
 }

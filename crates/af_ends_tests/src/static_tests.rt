@@ -4,12 +4,13 @@ use af_base::Gains;
 use af_ends::{EndError, PlayerEnd, SetterEnd, open_static};
 use af_static::Unrolled;
 use std::alloc::Global;
+use std::mem::drop;
 use std::test::*;
 
 // The two ends of a buffer of the frames from 0 on.
 fn opened(alloc: Global, size: u32) -> Result<(SetterEnd, PlayerEnd), EndError> {
-    let frames = numbered(alloc, size)?;
-    open_static(alloc, frames.as_slice())
+    let frames = numbered(alloc, size);
+    open_static(alloc, &frames)
 }
 
 // Whether a call to two places at unity plays these words, of which so many frames are the buffer's, by the setting of this number.
@@ -26,17 +27,8 @@ fn plays(player: &mut PlayerEnd, words: &[u32; 2], filled: u32, number: u64) -> 
 }
 
 // Two calls, with a setting between them.
-fn two_calls(alloc: Global) -> Result<bool, EndError> {
-    let (mut setter, mut player) = opened(alloc, 6)?;
-    let first = plays(&mut player, &[0, 1], 2, 0);
-    let number = setter.set(5, 0, 0)?;
-    let second = plays(&mut player, &[5, 0], 1, 1);
-    Ok(first && number == 1 && second)
-}
-
-#[test]
-fn a_setting_is_played(rt: HostRuntime) {
-    assert!(rt; two_calls(rt.alloc()) == Ok(true));
+fn two_calls(setter: &mut SetterEnd, player: &mut PlayerEnd) -> bool {
+    plays(player, &[0, 1], 2, 0) && setter.set(5, 0, 0) == Ok(1) && plays(player, &[5, 0], 1, 1)
 }
 
 // Whether a call tells that this setting shut the player.
@@ -49,34 +41,84 @@ fn is_shut(player: &mut PlayerEnd, by: (u32, u32, u32)) -> bool {
 }
 
 // An invalid setting, a call, a valid one, and a call.
-fn shut(alloc: Global) -> Result<bool, EndError> {
-    let (mut setter, mut player) = opened(alloc, 3)?;
-    setter.set(9, 0, 0)?;
-    let first = is_shut(&mut player, (9, 0, 0));
-    setter.set(0, 0, 0)?;
-    let second = is_shut(&mut player, (9, 0, 0));
-    Ok(first && second)
+fn shuts(setter: &mut SetterEnd, player: &mut PlayerEnd) -> bool {
+    setter.set(9, 0, 0).is_ok()
+        && is_shut(player, (9, 0, 0))
+        && setter.set(0, 0, 0).is_ok()
+        && is_shut(player, (9, 0, 0))
+}
+
+// How many frames a call to so many places takes.
+fn filled(alloc: Global, player: &mut PlayerEnd, places: u32) -> Result<u32, EndError> {
+    let mut out = numbered(alloc, places);
+    match player.play(Gains::clamped(0), out.as_mut_slice()) {
+        Ok(told) => Ok(told.filled),
+        Err(error) => Err(error),
+    }
+}
+
+// What is tried with a new buffer.
+#[derive(Clone, Copy)]
+enum Trial {
+    TwoCalls,
+    Shut,
+    // A call to so many places, and how many frames it takes.
+    Places(u32, Result<u32, EndError>),
+}
+
+impl Trial {
+    // Whether it comes out with these ends.
+    fn holds(self, alloc: Global, setter: &mut SetterEnd, player: &mut PlayerEnd) -> bool {
+        match self {
+            Trial::TwoCalls => two_calls(setter, player),
+            Trial::Shut => shuts(setter, player),
+            Trial::Places(places, taken) => filled(alloc, player, places) == taken,
+        }
+    }
+
+    // Whether it comes out with a new buffer of so many frames, or why none was made.
+    fn tried(self, alloc: Global, size: u32) -> Result<bool, EndError> {
+        let (mut setter, mut player) = opened(alloc, size)?;
+        let so = self.holds(alloc, &mut setter, &mut player);
+        drop(setter);
+        drop(player);
+        Ok(so)
+    }
+
+    // Whether it comes out so, where a buffer that isn't made takes no frames.
+    fn with(self, alloc: Global, size: u32) -> bool {
+        match (self, self.tried(alloc, size)) {
+            (_, Ok(so)) => so,
+            (Trial::Places(_, taken), Err(error)) => taken == Err(error),
+            _ => false,
+        }
+    }
+}
+
+#[test]
+fn a_setting_is_played(rt: HostRuntime) {
+    assert!(rt; Trial::TwoCalls.with(rt.alloc(), 6));
 }
 
 #[test]
 fn an_invalid_setting_shuts_the_player(rt: HostRuntime) {
-    assert!(rt; shut(rt.alloc()) == Ok(true));
+    assert!(rt; Trial::Shut.with(rt.alloc(), 3));
 }
 
-// How many frames a call to so many places takes, of a buffer of so many.
-fn filled(alloc: Global, size: u32, places: u32) -> Result<u32, EndError> {
-    let (_, mut player) = opened(alloc, size)?;
-    let mut out = numbered(alloc, places)?;
-    let told = player.play(Gains::clamped(0), out.as_mut_slice())?;
-    Ok(told.filled)
-}
+// The frames of a buffer, the places of a call, and how many frames it takes.
+const PLACES: &[(u32, u32, Result<u32, EndError>)] = &[
+    (8_192, 0, Err(EndError::Argument)),
+    (8_192, 1_025, Err(EndError::Argument)),
+    (8_193, 1, Err(EndError::Argument)),
+    (0, 1, Err(EndError::Argument)),
+    (8_192, 1_024, Ok(1_024)),
+    (1, 2, Ok(1)),
+];
 
 #[test]
 fn places_and_sizes_are_refused(rt: HostRuntime) {
-    for (size, places) in &[(8_192, 0), (8_192, 1_025), (8_193, 1), (0, 1)] {
-        assert!(rt; filled(rt.alloc(), *size, *places) == Err(EndError::Argument));
-    }
-    for (size, places, count) in &[(8_192, 1_024, 1_024), (1, 2, 1)] {
-        assert!(rt; filled(rt.alloc(), *size, *places) == Ok(*count));
+    for (number, (size, places, taken)) in PLACES.iter().enumerate() {
+        let trial = Trial::Places(*places, *taken);
+        assert!(rt; trial.with(rt.alloc(), *size), "{number}");
     }
 }

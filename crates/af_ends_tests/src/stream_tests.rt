@@ -2,6 +2,7 @@
 use crate::stream_calls::{Answer, Call, ask_client, ask_server, is_client};
 use af_ends::{EndError, StreamClient, StreamServer, open_stream};
 use std::alloc::Global;
+use std::mem::drop;
 use std::test::*;
 
 // Whether the calls answer as the table says.
@@ -24,11 +25,12 @@ fn all_answer(
 }
 
 // The same on a new stream for four frames.
-fn answers(alloc: Global, table: &[(Call, Answer)]) -> bool {
-    let Ok((mut client, mut server)) = open_stream(alloc, 4) else {
-        return false;
-    };
-    all_answer(&mut client, &mut server, table)
+fn answers(alloc: Global, table: &[(Call, Answer)]) -> Result<bool, EndError> {
+    let (mut client, mut server) = open_stream(alloc, 4)?;
+    let so = all_answer(&mut client, &mut server, table);
+    drop(client);
+    drop(server);
+    Ok(so)
 }
 
 const THROUGH: &[(Call, Answer)] = &[
@@ -48,7 +50,7 @@ const THROUGH: &[(Call, Answer)] = &[
 
 #[test]
 fn frames_go_through(rt: HostRuntime) {
-    assert!(rt; answers(rt.alloc(), THROUGH));
+    assert!(rt; answers(rt.alloc(), THROUGH) == Ok(true));
 }
 
 const FLUSHED: &[(Call, Answer)] = &[
@@ -64,7 +66,7 @@ const FLUSHED: &[(Call, Answer)] = &[
 
 #[test]
 fn a_flush_discards_what_was_released_before_it(rt: HostRuntime) {
-    assert!(rt; answers(rt.alloc(), FLUSHED));
+    assert!(rt; answers(rt.alloc(), FLUSHED) == Ok(true));
 }
 
 const GAINS_AND_STATUS: &[(Call, Answer)] = &[
@@ -87,7 +89,7 @@ const GAINS_AND_STATUS: &[(Call, Answer)] = &[
 
 #[test]
 fn gains_and_status_cross_the_stream(rt: HostRuntime) {
-    assert!(rt; answers(rt.alloc(), GAINS_AND_STATUS));
+    assert!(rt; answers(rt.alloc(), GAINS_AND_STATUS) == Ok(true));
 }
 
 const FLAGS: &[(Call, Answer)] = &[
@@ -105,31 +107,49 @@ const FLAGS: &[(Call, Answer)] = &[
 
 #[test]
 fn flags_cross_the_stream(rt: HostRuntime) {
-    assert!(rt; answers(rt.alloc(), FLAGS));
+    assert!(rt; answers(rt.alloc(), FLAGS) == Ok(true));
+}
+
+// What an opening for so many frames answers.
+fn opens(alloc: Global, frames: u32) -> Result<(), EndError> {
+    let ends = open_stream(alloc, frames)?;
+    drop(ends);
+    Ok(())
 }
 
 #[test]
 fn sizes_are_refused(rt: HostRuntime) {
-    for frames in &[0, 8_193, 65_536, u32::MAX] {
-        assert!(rt; matches!(open_stream(rt.alloc(), *frames), Err(EndError::Argument)));
+    for frames in [0, 8_193, 65_536, u32::MAX] {
+        assert!(rt;
+            opens(rt.alloc(), frames) == Err(EndError::Argument),
+            "{frames}"
+        );
     }
-    for frames in &[1, 3, 8_192] {
-        assert!(rt; open_stream(rt.alloc(), *frames).is_ok());
+    for frames in [1, 3, 8_192] {
+        assert!(rt; opens(rt.alloc(), frames) == Ok(()), "{frames}");
     }
 }
 
-// How many flushes are answered until one is refused.
-fn flushes(alloc: Global, frames: u32) -> Result<u32, EndError> {
-    let (mut client, _) = open_stream(alloc, frames)?;
+// How many flushes are answered until one is refused for good.
+fn flush_all(client: &mut StreamClient) -> u32 {
     for _ in 0..1_000_000 {
         if client.flush().is_err() {
             break;
         }
     }
     match client.flush() {
-        Err(EndError::Limit) => Ok(client.flushes()),
-        _ => Ok(0),
+        Err(EndError::Limit) => client.flushes(),
+        _ => 0,
     }
+}
+
+// The same on a new stream.
+fn flushes(alloc: Global, frames: u32) -> Result<u32, EndError> {
+    let (mut client, server) = open_stream(alloc, frames)?;
+    let count = flush_all(&mut client);
+    drop(client);
+    drop(server);
+    Ok(count)
 }
 
 #[test]

@@ -4,8 +4,12 @@
 #[cfg(test)]
 mod life_tests;
 #[cfg(test)]
+mod mixers;
+#[cfg(test)]
 mod period_tests;
 #[cfg(test)]
 mod refusal_tests;
 #[cfg(test)]
 mod thread_tests;
+#[cfg(test)]
+mod trials;

@@ -1,15 +1,14 @@
 //! A life from its opening to its end.
-use crate::period_tests::{FAST, PLAIN, SILENCE, mixer_of};
+use crate::mixers::{FAST, Mixer, PLAIN, SILENCE};
+use crate::trials::Trial;
 use af_base::{Cycle, Frame};
-use af_engine::{EngineTrack, MakeError};
-use af_mixer_ends::{CommandError, FastEnd, NormalEnd, TrackEnd};
+use af_mixer_ends::{CommandError, TrackEnd};
 use af_normal::Turn;
-use std::alloc::Global;
 use std::test::*;
 
 // A command of a track.
 #[derive(Clone, Copy)]
-enum Ask {
+pub(crate) enum Ask {
     Nothing,
     Open,
     Start,
@@ -35,7 +34,7 @@ fn give(track: &mut TrackEnd, asked: Ask) -> Result<(), CommandError> {
 type Step = (Ask, i64, u32, bool);
 
 // A life. Before each step two frames with the next numbers are written.
-const LIFE: &[Step] = &[
+pub(crate) const LIFE: &[Step] = &[
     (Ask::Nothing, 0, 0, false),
     (Ask::Open, 0, 1, false),
     (Ask::Start, 01_02_03_04_05_06, 2, false),
@@ -50,11 +49,11 @@ const LIFE: &[Step] = &[
 ];
 
 // The samples but silence that are heard in a period, behind others, as digits in base 100.
-fn hear_one(normal: &mut NormalEnd, fast: &mut FastEnd, before: i64) -> i64 {
+fn hear_one(mixer: &mut Mixer, before: i64) -> i64 {
     let mut heard = before;
     let mut out = [SILENCE; 4];
-    let _turn = normal.turn();
-    let _cycle = fast.cycle(&mut out);
+    let _turn = mixer.normal.turn();
+    let _cycle = mixer.fast.cycle(&mut out);
     for frame in out {
         if frame.left != 0 {
             heard = heard.wrapping_mul(100).wrapping_add(i64::from(frame.left));
@@ -64,10 +63,10 @@ fn hear_one(normal: &mut NormalEnd, fast: &mut FastEnd, before: i64) -> i64 {
 }
 
 // The same of six periods.
-fn hear(normal: &mut NormalEnd, fast: &mut FastEnd) -> i64 {
+fn hear(mixer: &mut Mixer) -> i64 {
     let mut heard: i64 = 0;
     for _ in 0..6 {
-        heard = hear_one(normal, fast, heard);
+        heard = hear_one(mixer, heard);
     }
     heard
 }
@@ -79,34 +78,34 @@ fn frame_of(number: i16) -> Frame {
     }
 }
 
-// Whether a step comes to what it says. It writes the frames of these two numbers.
-fn comes_true(
-    normal: &mut NormalEnd,
-    fast: &mut FastEnd,
-    track: &mut TrackEnd,
-    step: &Step,
-    first: i16,
-) -> bool {
-    let (asked, wanted, life, drained) = *step;
+// The frames of two numbers are written to the first track, and a command is given to it.
+fn write_and_give(mixer: &mut Mixer, first: i16, asked: Ask) {
     let frames = [frame_of(first), frame_of(first.wrapping_add(1))];
-    let _count = track.write(&frames);
-    let _sent = give(track, asked);
-    let heard = hear(normal, fast);
-    let status = track.status();
-    heard == wanted && status.life == life && status.drained == drained
+    if let Some(track) = mixer.tracks.first_mut() {
+        let _count = track.write(&frames);
+        let _sent = give(track, asked);
+    }
 }
 
-// How many of these steps of the life of a track come to what they say, up to one that doesn't.
-fn steps_of(
-    normal: &mut NormalEnd,
-    fast: &mut FastEnd,
-    track: &mut TrackEnd,
-    steps: &[Step],
-) -> u32 {
+// Whether the first track is told this of its life.
+fn is_told(mixer: &mut Mixer, life: u32, drained: bool) -> bool {
+    match mixer.tracks.first_mut() {
+        Some(track) => {
+            let status = track.status();
+            status.life == life && status.drained == drained
+        }
+        None => false,
+    }
+}
+
+/// How many of these steps of a life of the first track come to what they say, up to one that doesn't.
+pub(crate) fn lives(mixer: &mut Mixer, steps: &[Step]) -> u32 {
     let mut count: u32 = 0;
     let mut first: i16 = 1;
-    for step in steps {
-        if !comes_true(normal, fast, track, step, first) {
+    for (asked, wanted, life, drained) in steps {
+        write_and_give(mixer, first, *asked);
+        let heard = hear(mixer);
+        if heard != *wanted || !is_told(mixer, *life, *drained) {
             break;
         }
         first = first.wrapping_add(2);
@@ -115,40 +114,43 @@ fn steps_of(
     count
 }
 
-// The same of a new track of this kind.
-fn lived(alloc: Global, kind: EngineTrack, steps: &[Step]) -> Result<u32, MakeError> {
-    let (mut normal, mut fast, mut tracks) = mixer_of(alloc, &[kind])?;
-    match tracks.first_mut() {
-        Some(track) => Ok(steps_of(&mut normal, &mut fast, track, steps)),
-        None => Ok(0),
-    }
-}
-
 #[test]
 fn a_track_lives(rt: HostRuntime) {
-    assert_eq!(rt; lived(rt.alloc(), FAST, LIFE), Ok(11));
-    assert_eq!(rt; lived(rt.alloc(), PLAIN, LIFE), Ok(11));
+    assert_eq!(rt; Trial::Life.with(rt.alloc(), &[FAST]).unwrap_or(0), 11);
+    assert_eq!(rt; Trial::Life.with(rt.alloc(), &[PLAIN]).unwrap_or(0), 11);
 }
 
-// Whether the mixers end once all tracks are removed.
-fn ends(alloc: Global) -> Result<bool, MakeError> {
-    let (mut normal, mut fast, mut tracks) = mixer_of(alloc, &[FAST, PLAIN])?;
+// A track is opened and removed.
+fn open_and_remove(track: &mut TrackEnd) {
+    let _opened = track.open();
+    let _removed = track.remove();
+}
+
+// What a turn and a cycle find: nothing while the mixer goes on, and then whether both have ended.
+fn found_end(mixer: &mut Mixer) -> Option<bool> {
     let mut out = [SILENCE; 4];
-    for track in tracks.iter_mut() {
-        let _opened = track.open();
-        let _removed = give(track, Ask::Remove);
+    let turn = mixer.normal.turn();
+    let cycle = mixer.fast.cycle(&mut out);
+    if turn != Turn::Ended {
+        return None;
+    }
+    Some(mixer.normal.has_ended() && cycle == Ok(Cycle::Exit))
+}
+
+/// Whether the mixers end once all tracks are removed.
+pub(crate) fn ends(mixer: &mut Mixer) -> bool {
+    for track in mixer.tracks.iter_mut() {
+        open_and_remove(track);
     }
     for _ in 0..10 {
-        let turn = normal.turn();
-        let cycle = fast.cycle(&mut out);
-        if turn == Turn::Ended {
-            return Ok(normal.has_ended() && cycle == Ok(Cycle::Exit));
+        if let Some(so) = found_end(mixer) {
+            return so;
         }
     }
-    Ok(false)
+    false
 }
 
 #[test]
 fn a_mixer_ends(rt: HostRuntime) {
-    assert!(rt; ends(rt.alloc()) == Ok(true));
+    assert!(rt; Trial::End.with(rt.alloc(), &[FAST, PLAIN]) == Ok(1));
 }

@@ -1,14 +1,17 @@
 -- What the parts that a test moves keep.
-use Rattle.std.specs.Prelude.{◌≡◌, ℕ, ◌≤◌, true, List, length, All, slice_get, Option, Some}
+use Rattle.std.specs.Prelude.{◌≡◌, ℕ, ◌*◌, ◌≤◌, true, List, [], length, All, slice_get, Option, Some}
 use Rattle.std.specs.List.{AllZip}
 use Rattle.af_base.specs.declared.report.Report.{Report}
 use Rattle.af_cblk.specs.Sides.{Made}
 use Rattle.af_client.specs.Order.{ClientState, IsClientOf}
 use Rattle.af_server.specs.Order.{ServerState, IsServerOf}
+use Rattle.af_model.specs.Draft.{initial}
+use Rattle.af_stateq.specs.Mutates.{Mutates, IsNewMutator}
 use Rattle.af_stateq.specs.Observes.{Observes, InOrder}
+use Rattle.af_link.specs.Linked.{AreLinked}
 use Rattle.af_link.specs.Names.{IsStreamOf}
-use Rattle.af_link.specs.PipeEnds.{OutSide, out_made}
-use Rattle.af_link.specs.Reports.{WriterSide, last_cycle}
+use Rattle.af_link.specs.PipeEnds.{InSide, OutSide, in_made, out_made}
+use Rattle.af_link.specs.Reports.{ReaderSide, WriterSide, last_cycle}
 use Rattle.af_link.specs.declared.links.Links.{Links}
 use Rattle.af_link.specs.declared.names.StreamNames.{StreamNames}
 use Rattle.af_normal.specs.Making.{TrackList}
@@ -35,6 +38,19 @@ pub record AreOthers (links : Links) (o : Observes ServerState StreamNames) (w :
   pub pipe_is : out_made p ≡ links.pipe.now
   pub streams_are : AreClients links.streams.now streams
   pub commands_are : AreClients links.commands.now commands
+
+-- the ends of both mixers are of these links, and nothing was done on them. The pipe holds four buffers
+pub record AreJoined (links : Links) (frames normal : ℕ) (mutator : Mutates ServerState StreamNames) (reader : ReaderSide) (from : InSide) (o : Observes ServerState StreamNames) (w : WriterSide) (p : OutSide) : Type 0 where
+  pub names : StreamNames
+  pub mutator_is : IsNewMutator names (initial frames) mutator
+  pub linked : AreLinked links mutator.past.key mutator.past.queue reader.cell (in_made from)
+  pub pipe_is : from.pass.part.shape.frames ≡ 4 * (normal * frames)
+  pub queue_is : o.past.queue ≡ links.queue.now
+  pub key : NamesBlocks o.past.key links.streams.now
+  pub polls : InOrder stream_fits o
+  pub report_is : w.cell ≡ links.report.now
+  pub cycle_is : last_cycle w.events ≡ last_cycle []
+  pub out_is : out_made p ≡ links.pipe.now
 
 -- the mixer is in order, and the ends of the other mixer and the clients are of these links
 pub record IsWorld (links : Links) (m : NormalState) (o : Observes ServerState StreamNames) (w : WriterSide) (p : OutSide) (last : Report) (streams commands : List ClientState) : Type 0 where

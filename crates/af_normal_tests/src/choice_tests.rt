@@ -1,282 +1,286 @@
-//! Turns at which the description leaves two readings: each test fails under the other one.
-use crate::table_tests::{
-    FAST, Kind, Row, busy, clears, done, ends, flushes, has_slot, mixes, plays, polls, pushed,
-    reports, saw, sends, turned_to, turns, writes,
-};
-use crate::tests::{Step, Told};
-use af_base::{Command, Memory, Push};
+//! Turns at which the description leaves two readings: each case fails under the other one.
+use crate::call_tests::underruns;
+use crate::rows::{BUSY_0, PUSH_1, PUSH_2, PUSH_3, PUSH_4, Row, TURNS};
+use crate::table_tests::{Case, FAST, Kind, NORMAL, Plan, first_wrong, plays};
+use af_base::{Command, Push};
 use af_life::{OPEN, PAUSE, REMOVE, START, STOP};
 use std::alloc::Global;
 use std::test::*;
 
-// A normal track of eight frames.
-const NORMAL: Kind = Kind {
-    fast: false,
-    mono: false,
-    frames: 8,
-    positional: false,
+// A normal track whose flushes carry their position.
+const PLACED: Kind = Kind {
+    positional: true,
+    ..NORMAL
 };
 
-// A rear of a block is stored out of turn.
-fn rear_is(command: bool, rear: u32) -> Row {
-    let track = 0;
-    done(Step::Poke {
-        track,
-        command,
-        rear,
-    })
-}
+const CHOICES: &[Case] = &[
+    Case {
+        what: "a slot is free within the turn",
+        kinds: &[FAST; 2],
+        sizes: (2, 1),
+        rows: &[
+            Row::Sends(0, OPEN, 0),
+            Row::Turns(0, Push::Clean, Some(257)),
+            Row::Saw(true, 8),
+            Row::Sends(0, REMOVE, 0),
+            Row::Sends(1, OPEN, 0),
+            Row::Sends(1, START, 0),
+            Row::Turns(1, PUSH_1, Some(514)),
+            Row::Polls(1),
+            Row::HasSlot(1, true, 1, 1),
+            Row::HasSlot(2, false, 0, 0),
+        ],
+    },
+    Case {
+        what: "a proxy returns by the push of its detach",
+        kinds: &[FAST],
+        sizes: (2, 1),
+        rows: &[
+            Row::Sends(0, OPEN, 0),
+            Row::Sends(0, START, 0),
+            Row::Turns(0, PUSH_1, Some(514)),
+            Row::Sends(0, REMOVE, 0),
+            Row::Turns(0, BUSY_0, Some(770)),
+            Row::Saw(false, 8),
+            Row::Polls(1),
+            Row::Turns(0, PUSH_2, None),
+            Row::Saw(true, 8),
+            Row::Polls(2),
+            Row::IsTold(Command::ColdIdle, 1),
+            Row::Turns(0, PUSH_3, None),
+            Row::Polls(3),
+            Row::IsTold(Command::Exit, 1),
+            Row::Ends,
+        ],
+    },
+    Case {
+        what: "a shut track stays drained",
+        kinds: &[FAST],
+        sizes: (2, 1),
+        rows: &[
+            Row::Sends(0, OPEN, 0),
+            Row::Sends(0, START, 0),
+            Row::Turns(0, PUSH_1, Some(514)),
+            Row::Polls(1),
+            Row::Sends(0, STOP, 0),
+            Row::Reports(1, 0, 0, [0, 1]),
+            Row::Turns(0, Push::Clean, Some(791)),
+            Row::Pokes(0, true, 1000),
+            Row::Turns(0, PUSH_2, Some(799)),
+            Row::Clears(0),
+        ],
+    },
+    Case {
+        what: "a start that is ignored is settled at once",
+        kinds: &[FAST],
+        sizes: (2, 1),
+        rows: &[
+            Row::Sends(0, START, 5),
+            Row::Sends(0, OPEN, 0),
+            Row::Turns(0, Push::Clean, Some(513)),
+            Row::Sends(0, REMOVE, 0),
+            Row::Sends(0, START, 5),
+            Row::Sends(0, PAUSE, 0),
+            Row::Turns(0, PUSH_1, Some(1281)),
+            Row::Polls(1),
+            Row::Ends,
+        ],
+    },
+    Case {
+        what: "half a command is not taken",
+        kinds: &[FAST],
+        sizes: (2, 1),
+        rows: &[
+            Row::Sends(0, OPEN, 0),
+            Row::Pokes(0, true, 3),
+            Row::Turns(0, Push::Clean, Some(257)),
+            Row::Turns(0, Push::Clean, None),
+            Row::Pokes(0, true, 4),
+            Row::Turns(0, Push::Clean, Some(513)),
+            Row::Turns(0, Push::Clean, None),
+        ],
+    },
+    Case {
+        what: "half a command is not taken",
+        kinds: &[FAST],
+        sizes: (2, 1),
+        rows: &[
+            Row::Sends(0, OPEN, 0),
+            Row::Turns(0, Push::Clean, Some(257)),
+            Row::Sends(0, START, 0),
+            Row::FlushesCommands(0),
+            Row::Turns(0, Push::Clean, None),
+            Row::Sends(0, PAUSE, 0),
+            Row::Turns(0, Push::Clean, Some(513)),
+        ],
+    },
+    Case {
+        what: "the command follows this turn",
+        kinds: &[FAST],
+        sizes: (2, 1),
+        rows: &[
+            Row::Sends(0, OPEN, 0),
+            Row::Sends(0, START, 0),
+            Row::Turns(0, PUSH_1, Some(514)),
+            Row::Polls(1),
+            Row::IsTold(Command::MixWrite, 0),
+            Row::Sends(0, PAUSE, 0),
+            Row::Turns(0, Push::Clean, Some(772)),
+            Row::Turns(0, PUSH_2, None),
+            Row::Polls(2),
+            Row::IsTold(Command::ColdIdle, 1),
+            Row::Sends(0, START, 0),
+            Row::Turns(0, PUSH_3, Some(1026)),
+            Row::Polls(3),
+            Row::IsTold(Command::MixWrite, 1),
+        ],
+    },
+    Case {
+        what: "the command follows this turn",
+        kinds: &[NORMAL],
+        sizes: (2, 1),
+        rows: &[
+            Row::Sends(0, OPEN, 0),
+            Row::Sends(0, START, 0),
+            Row::Mixes(0, PUSH_1, Some(514)),
+            Row::Saw(true, 8),
+            Row::Sends(0, REMOVE, 0),
+            Row::Polls(1),
+            Row::Turns(0, Push::Clean, Some(770)),
+            Row::Saw(true, 6),
+            Row::IsTold(Command::MixWrite, 0),
+        ],
+    },
+    Case {
+        what: "a flush of nothing is seen",
+        kinds: &[NORMAL],
+        sizes: (2, 1),
+        rows: &[
+            Row::Sends(0, OPEN, 0),
+            Row::Flushes(0),
+            Row::Sends(0, START, 1),
+            Row::Mixes(0, PUSH_1, Some(258)),
+            Row::Clears(0),
+            Row::Mixes(0, Push::Clean, Some(514)),
+            Row::Clears(1),
+            Row::Writes(0, 2),
+        ],
+    },
+    Case {
+        what: "a flush of nothing is seen",
+        kinds: &[PLACED],
+        sizes: (2, 1),
+        rows: &[
+            Row::Sends(0, OPEN, 0),
+            Row::Flushes(0),
+            Row::Sends(0, START, 1),
+            Row::Mixes(0, PUSH_1, Some(258)),
+            Row::Clears(0),
+            Row::Mixes(0, Push::Clean, Some(514)),
+            Row::Clears(1),
+            Row::Writes(0, 2),
+        ],
+    },
+    Case {
+        what: "a flush comes before the rear or after it",
+        kinds: &[PLACED],
+        sizes: (2, 1),
+        rows: &[
+            Row::Sends(0, OPEN, 0),
+            Row::Sends(0, START, 0),
+            Row::Mixes(0, PUSH_1, Some(514)),
+            Row::Flushes(0),
+            Row::Pokes(0, false, 1000),
+            Row::Mixes(0, Push::Clean, None),
+            Row::Turns(0, Push::Clean, Some(527)),
+        ],
+    },
+    Case {
+        what: "a flush comes before the rear or after it",
+        kinds: &[NORMAL],
+        sizes: (2, 1),
+        rows: &[
+            Row::Sends(0, OPEN, 0),
+            Row::Sends(0, START, 0),
+            Row::Mixes(0, PUSH_1, Some(514)),
+            Row::Flushes(0),
+            Row::Pokes(0, false, 1000),
+            Row::Mixes(0, Push::Clean, None),
+            Row::Mixes(0, Push::Clean, None),
+        ],
+    },
+];
 
-// The fast mixer is to do this, and was to rest so often.
-fn is_told(command: Command, cold: u64) -> Row {
-    (Step::Command, Told::Commanded { command, cold })
-}
-
-// A track that was never attached is removed, and the track after it opens in the same turn: it gets the same slot. The acknowledgement is looked at even if no push stands, and counts as seen.
 #[test]
-fn a_slot_is_free_within_the_turn(rt: HostRuntime) {
-    let rows = [
-        sends(0, OPEN, 0),
-        turns(0, Push::Clean, Some(257)),
-        saw(true, 8),
-        sends(0, REMOVE, 0),
-        sends(1, OPEN, 0),
-        sends(1, START, 0),
-        turns(1, pushed(1), Some(514)),
-        polls(1),
-        has_slot(1, true, 1, 1),
-        has_slot(2, false, 0, 0),
-    ];
-    assert!(rt; plays(rt.alloc(), &[FAST; 2], 2, 1, &rows) == Ok(true));
+fn each_turn_is_read_as_described(rt: HostRuntime) {
+    assert_eq!(rt; first_wrong(rt.alloc(), CHOICES), "");
 }
 
-// After a push that was Busy the detach stands in the draft alone: the next acknowledgement brings no proxy, and no Exit is pushed before the one after it.
-#[test]
-fn a_proxy_returns_by_the_push_of_its_detach(rt: HostRuntime) {
-    let rows = [
-        sends(0, OPEN, 0),
-        sends(0, START, 0),
-        turns(0, pushed(1), Some(514)),
-        sends(0, REMOVE, 0),
-        turns(0, busy(0), Some(770)),
-        saw(false, 8),
-        polls(1),
-        turns(0, pushed(2), None),
-        saw(true, 8),
-        polls(2),
-        is_told(Command::ColdIdle, 1),
-        turns(0, pushed(3), None),
-        polls(3),
-        is_told(Command::Exit, 1),
-        ends(),
-    ];
-    assert!(rt; plays(rt.alloc(), &[FAST], 2, 1, &rows) == Ok(true));
-}
+const BEGUN: &[Row] = &[
+    Row::Sends(0, OPEN, 0),
+    Row::Sends(0, START, 0),
+    Row::Turns(0, PUSH_1, Some(514)),
+    Row::Polls(1),
+];
 
-// A track that was drained is found shut at its commands: the word keeps the mark of drained and the settled count.
-#[test]
-fn a_shut_track_stays_drained(rt: HostRuntime) {
-    let rows = [
-        sends(0, OPEN, 0),
-        sends(0, START, 0),
-        turns(0, pushed(1), Some(514)),
-        polls(1),
-        sends(0, STOP, 0),
-        reports(1, 0, 0, [0, 1]),
-        turns(0, Push::Clean, Some(791)),
-        rear_is(true, 1000),
-        turns(0, pushed(2), Some(799)),
-        clears(0),
-    ];
-    assert!(rt; plays(rt.alloc(), &[FAST], 2, 1, &rows) == Ok(true));
-}
-
-// A START before the OPEN, and one after the REMOVE, wait for no flush. The looks go on after a REMOVE.
-#[test]
-fn a_start_that_is_ignored_is_settled_at_once(rt: HostRuntime) {
-    let rows = [
-        sends(0, START, 5),
-        sends(0, OPEN, 0),
-        turns(0, Push::Clean, Some(513)),
-        sends(0, REMOVE, 0),
-        sends(0, START, 5),
-        sends(0, PAUSE, 0),
-        turns(0, pushed(1), Some(1281)),
-        polls(1),
-        ends(),
-    ];
-    assert!(rt; plays(rt.alloc(), &[FAST], 2, 1, &rows) == Ok(true));
-}
-
-// One frame that a look shows at the commands isn't taken, and ends the looks: once its other half is there both are a command, one that there is not. What a flush drops there is never settled.
-#[test]
-fn half_a_command_is_not_taken(rt: HostRuntime) {
-    let rows = [
-        sends(0, OPEN, 0),
-        rear_is(true, 3),
-        turns(0, Push::Clean, Some(257)),
-        turns(0, Push::Clean, None),
-        rear_is(true, 4),
-        turns(0, Push::Clean, Some(513)),
-        turns(0, Push::Clean, None),
-    ];
-    assert!(rt; plays(rt.alloc(), &[FAST], 2, 1, &rows) == Ok(true));
-    let rows = [
-        sends(0, OPEN, 0),
-        turns(0, Push::Clean, Some(257)),
-        sends(0, START, 0),
-        done(Step::FlushCommands { track: 0 }),
-        turns(0, Push::Clean, None),
-        sends(0, PAUSE, 0),
-        turns(0, Push::Clean, Some(513)),
-    ];
-    assert!(rt; plays(rt.alloc(), &[FAST], 2, 1, &rows) == Ok(true));
-}
-
-// Fifty underruns in a row, of which each is reported, then the report of another attachment comes, and then that of before again: only the first of the three is news.
-fn reported_again(alloc: Global) -> Result<bool, Memory> {
-    let none = turns(0, Push::Clean, None);
-    let mut rows = vec![in alloc;
-        sends(0, OPEN, 0),
-        sends(0, START, 0),
-        turns(0, pushed(1), Some(514)),
-        polls(1),
-    ]?;
-    for empties in 1..50u32 {
-        rows.push(reports(1, 0, 0, [0, empties]))?;
-        rows.push(none)?;
-        rows.push(reports(0, 0, 0, [0, 0]))?;
-        rows.push(none)?;
-        rows.push(reports(1, 0, 0, [0, empties]))?;
-        rows.push(none)?;
+// Each of up to 49 underruns in a row is reported, then the report of another attachment comes, and then that of before again; behind each report comes a turn.
+fn reported_again() -> [Row; 294] {
+    let mut rows = [TURNS; 294];
+    let mut empties: u32 = 1;
+    for (i, row) in rows.iter_mut().enumerate() {
+        match i % 6 {
+            0 => *row = Row::Reports(1, 0, 0, [0, empties]),
+            2 => *row = Row::Reports(0, 0, 0, [0, 0]),
+            4 => {
+                *row = Row::Reports(1, 0, 0, [0, empties]);
+                empties = empties.wrapping_add(1);
+            }
+            _ => {}
+        }
     }
-    rows.push(clears(0))?;
-    rows.push(reports(1, 0, 0, [0, 50]))?;
-    rows.push((Step::Turn { track: 0 }, disabled(2)))?;
-    rows.push(clears(8))?;
-    plays(alloc, &[FAST], 1, 1, &rows)
+    rows
 }
 
-// What a turn answers for a track that it disabled, with the push of this number.
-fn disabled(number: u64) -> Told {
-    let (_, told) = turned_to(0, false, pushed(number), None);
-    match told {
-        Told::Turned { turn, status, .. } => Told::Turned {
-            turn,
-            status,
-            disabled: true,
-        },
-        other => other,
-    }
+// Fifty underruns in a row, of which only the first of three reports is news.
+const FIFTIETH: &[Row] = &[
+    Row::Clears(0),
+    Row::Reports(1, 0, 0, [0, 50]),
+    Row::TurnsOff(PUSH_2),
+    Row::Clears(8),
+];
+
+// A track had forty underruns, was paused and started again.
+const FORTY_BEFORE: &[Row] = &[
+    Row::Reports(1, 0, 0, [0, 40]),
+    TURNS,
+    Row::Sends(0, PAUSE, 0),
+    Row::Turns(0, Push::Clean, Some(772)),
+    Row::Turns(0, PUSH_2, None),
+    Row::Polls(2),
+    Row::Sends(0, START, 0),
+    Row::Turns(0, PUSH_3, Some(1026)),
+    Row::Polls(3),
+    Row::HasSlot(1, true, 0, 2),
+];
+
+// Those of the new attachment are counted from nothing: the fiftieth disables.
+const FIFTIETH_ANEW: &[Row] = &[Row::Reports(2, 0, 0, [0, 50]), Row::TurnsOff(PUSH_4)];
+
+// Whether fifty underruns in a row disable the track, though each is reported three times.
+fn is_reported_again(alloc: Global) -> bool {
+    let many = reported_again();
+    plays(alloc, &[FAST], 1, 1, Plan::Rows(&[BEGUN, &many, FIFTIETH]))
 }
 
-// A track had forty underruns, was paused and started again. Those of the new attachment are counted from nothing: the fiftieth disables.
-fn counted_anew(alloc: Global) -> Result<bool, Memory> {
-    let mut rows = vec![in alloc;
-        sends(0, OPEN, 0),
-        sends(0, START, 0),
-        turns(0, pushed(1), Some(514)),
-        polls(1),
-        reports(1, 0, 0, [0, 40]),
-        turns(0, Push::Clean, None),
-        sends(0, PAUSE, 0),
-        turns(0, Push::Clean, Some(772)),
-        turns(0, pushed(2), None),
-        polls(2),
-        sends(0, START, 0),
-        turns(0, pushed(3), Some(1026)),
-        polls(3),
-        has_slot(1, true, 0, 2),
-    ]?;
-    for empties in 1..50u32 {
-        rows.push(reports(2, 0, 0, [0, empties]))?;
-        rows.push(turns(0, Push::Clean, None))?;
-    }
-    rows.push(reports(2, 0, 0, [0, 50]))?;
-    rows.push((Step::Turn { track: 0 }, disabled(4)))?;
-    plays(alloc, &[FAST], 1, 1, &rows)
+// Whether the fiftieth underrun of a new attachment disables the track.
+fn is_counted_anew(alloc: Global) -> bool {
+    let many = underruns(2);
+    let rows = [BEGUN, FORTY_BEFORE, &many, FIFTIETH_ANEW];
+    plays(alloc, &[FAST], 1, 1, Plan::Rows(&rows))
 }
 
 #[test]
 fn counts_are_those_since_the_last_one_seen(rt: HostRuntime) {
-    assert!(rt; reported_again(rt.alloc()) == Ok(true));
-    assert!(rt; counted_anew(rt.alloc()) == Ok(true));
-}
-
-// The command is that of what this turn's edits leave: a track that stops leaves nothing to mix, and the fast mixer rests, once for each time; a new start has it mix again. The room is the one that the turn saw before its own buffer.
-#[test]
-fn the_command_follows_this_turn(rt: HostRuntime) {
-    let rows = [
-        sends(0, OPEN, 0),
-        sends(0, START, 0),
-        turns(0, pushed(1), Some(514)),
-        polls(1),
-        is_told(Command::MixWrite, 0),
-        sends(0, PAUSE, 0),
-        turns(0, Push::Clean, Some(772)),
-        turns(0, pushed(2), None),
-        polls(2),
-        is_told(Command::ColdIdle, 1),
-        sends(0, START, 0),
-        turns(0, pushed(3), Some(1026)),
-        polls(3),
-        is_told(Command::MixWrite, 1),
-    ];
-    assert!(rt; plays(rt.alloc(), &[FAST], 2, 1, &rows) == Ok(true));
-    let rows = [
-        sends(0, OPEN, 0),
-        sends(0, START, 0),
-        mixes(0, pushed(1), Some(514)),
-        saw(true, 8),
-        sends(0, REMOVE, 0),
-        polls(1),
-        turns(0, Push::Clean, Some(770)),
-        saw(true, 6),
-        is_told(Command::MixWrite, 0),
-    ];
-    assert!(rt; plays(rt.alloc(), &[NORMAL], 2, 1, &rows) == Ok(true));
-}
-
-// A flush that drops nothing is seen all the same, and counts as no underrun: the START that waits for it is settled in the next turn.
-#[test]
-fn a_flush_of_nothing_is_seen(rt: HostRuntime) {
-    for positional in &[false, true] {
-        let kind = Kind {
-            positional: *positional,
-            ..NORMAL
-        };
-        let rows = [
-            sends(0, OPEN, 0),
-            flushes(),
-            sends(0, START, 1),
-            mixes(0, pushed(1), Some(258)),
-            clears(0),
-            mixes(0, Push::Clean, Some(514)),
-            clears(1),
-            writes(0, 2),
-        ];
-        assert!(rt; plays(rt.alloc(), &[kind], 2, 1, &rows) == Ok(true));
-    }
-}
-
-// A flush and a rear out of reach are seen by one look: it finds the block shut if a flush carries its position, and else the flush, which drops all up to that rear.
-#[test]
-fn a_flush_comes_before_the_rear_or_after_it(rt: HostRuntime) {
-    for (positional, status) in &[(true, Some(527)), (false, None)] {
-        let kind = Kind {
-            positional: *positional,
-            ..NORMAL
-        };
-        let last = turned_to(0, !*positional, Push::Clean, *status);
-        let rows = [
-            sends(0, OPEN, 0),
-            sends(0, START, 0),
-            mixes(0, pushed(1), Some(514)),
-            flushes(),
-            rear_is(false, 1000),
-            mixes(0, Push::Clean, None),
-            last,
-        ];
-        assert!(rt; plays(rt.alloc(), &[kind], 2, 1, &rows) == Ok(true));
-    }
+    assert!(rt; is_reported_again(rt.alloc()));
+    assert!(rt; is_counted_anew(rt.alloc()));
 }

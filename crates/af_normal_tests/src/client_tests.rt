@@ -6,16 +6,16 @@ ghost use Rattle.af_server.specs.Order.{IsServerOf};
 ghost use Rattle.af_normal.specs.Meeting.{AreClientsOf};
 ghost use Rattle.af_party.specs.Works.{CanWork, IsFittingOp, flushes_to_come, frames_to_come};
 
+use crate::joints::{Joints, join};
 use af_base::{ClientCall, DISABLED, Frame, INVALID, Items, Memory, Seen, Steps};
 use af_cblk::Block;
 use af_client::Client as Proxy;
 use af_life::{OPEN, REMOVE, START, STOP};
-use af_link::{Links, ReportCell, StreamNames, pipe, report, stream_names};
+use af_link::Links;
 use af_party::Party;
 use af_runs::Client;
 use af_script::Op;
 use af_server::Server;
-use af_stateq::{Queue, queue};
 use std::alloc::Global;
 use std::marker::Brand;
 use std::mem::drop;
@@ -211,26 +211,6 @@ fn new_sides(alloc: Global, frames: u32) -> Result<Sides, Memory>
     })
 }
 
-// What a client's links have besides its blocks.
-#[derive(Drop)]
-struct Joints {
-    queue: Queue<Server, StreamNames>,
-    pipe: Block,
-    report: ReportCell,
-}
-
-// The shared objects of the mixers, which are none here.
-fn make_joints(alloc: Global, streams: &[Block]) -> Result<Joints, Memory> {
-    let report = report(alloc)?;
-    let pipe = pipe(alloc, 8)?;
-    let queue = queue::<Server, StreamNames>(alloc, 2, stream_names(streams))?;
-    Ok(Joints {
-        queue: queue.0,
-        pipe: pipe.0,
-        report: report.0,
-    })
-}
-
 // The sides of a client, and what its links have besides.
 #[derive(Drop)]
 struct Stage {
@@ -247,7 +227,10 @@ fn new_stage(alloc: Global, frames: u32) -> Result<Stage, Memory>
     ensures work { (ops : List OpSeen) (count : ℕ) → frames_to_come ops ≤ count → count ≤ 4194304 → flushes_to_come ops ≤ 4294967294 → ((stream command : ℕ) → All (IsFittingOp stream command) ops) → IfOk result (λ s. CanWork ops count s.sides.party) }
 {
     let sides = new_sides(alloc, frames)?;
-    let joints = make_joints(alloc, from_ref(&sides.stream))?;
+    let Ok(joints) = join(alloc, from_ref(&sides.stream), 2, 1) else {
+        drop(sides);
+        return Err(Memory);
+    };
     Ok(Stage { sides, joints })
 }
 
@@ -444,20 +427,17 @@ const BUSY: [Op; 70] = [Op::Gain { left: 1, right: 1 }; 70];
 const GAINS: [Step; 3] = [Step::Makes(64), Step::Makes(6), Step::Makes(0)];
 
 #[test]
-fn a_client_lives_and_drains(rt: HostRuntime) -> Result<(), Fail> {
-    assert!(rt; plays(rt.alloc(), 2, &LIFE, &[SILENCE; 3], &LIVES)?);
-    Ok(())
+fn a_client_lives_and_drains(rt: HostRuntime) {
+    assert!(rt; plays(rt.alloc(), 2, &LIFE, &[SILENCE; 3], &LIVES) == Ok(true));
 }
 
 #[test]
-fn a_client_ends_with_its_block(rt: HostRuntime) -> Result<(), Fail> {
-    assert!(rt; plays(rt.alloc(), 2, &DYING, &[SILENCE; 1], &DIES)?);
-    assert!(rt; plays(rt.alloc(), 2, &HOSTILE, &[SILENCE; 1], &POKES)?);
-    Ok(())
+fn a_client_ends_with_its_block(rt: HostRuntime) {
+    assert!(rt; plays(rt.alloc(), 2, &DYING, &[SILENCE; 1], &DIES) == Ok(true));
+    assert!(rt; plays(rt.alloc(), 2, &HOSTILE, &[SILENCE; 1], &POKES) == Ok(true));
 }
 
 #[test]
-fn a_turn_is_cut_after_64_calls(rt: HostRuntime) -> Result<(), Fail> {
-    assert!(rt; plays(rt.alloc(), 2, &BUSY, &[], &GAINS)?);
-    Ok(())
+fn a_turn_is_cut_after_64_calls(rt: HostRuntime) {
+    assert!(rt; plays(rt.alloc(), 2, &BUSY, &[], &GAINS) == Ok(true));
 }

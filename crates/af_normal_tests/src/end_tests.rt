@@ -4,15 +4,13 @@ ghost use Rattle.af_base.specs.Turn.{ended_turn, turn_of};
 ghost use Rattle.af_normal.specs.Order.{IsInOrder};
 ghost use Rattle.af_normal.specs.declared.turn.Turn.TheVariants.{Ended};
 
-use crate::table_tests::{FAST, begin, polls, pushed, sends, turns};
-use af_base::{Memory, Push, Steps, TurnEntry};
+use crate::rows::{PUSH_1, Row};
+use crate::table_tests::{FAST, Plan, plays};
+use af_base::{Push, Steps, TurnEntry};
 use af_life::{OPEN, REMOVE};
 use af_link::Links;
 use af_normal::{NormalMixer, Turn};
-use std::alloc::Global;
-use std::marker::Brand;
-use std::mem::drop;
-use std::sync::ledger::{Blank, Ledger};
+use std::sync::ledger::Ledger;
 use std::test::*;
 
 // A turn after the end: the mixer answers so again, and no list grows. The acknowledgement isn't loaded, and neither is the report or the room.
@@ -41,9 +39,14 @@ fn tells_the_end(entry: &TurnEntry) -> bool {
     entry.ended && entry.ack && none && nothing
 }
 
-// Whether the mixer ends by the next turn, and says so in that and in the one after it.
-fn stays_ended<L: Ledger>(mixer: &mut NormalMixer, links: &Links<'_>, steps: &mut Steps<L>) -> bool
+/// Whether the mixer ends by the next turn, and says so in that and in the one after it.
+pub(crate) fn stays_ended<L: Ledger>(
+    mixer: &mut NormalMixer,
+    links: &Links<'_>,
+    steps: &mut Steps<L>,
+) -> bool
     requires { IsInOrder links.now mixer.old }
+    ensures { IsInOrder links.now mixer.new }
 {
     if mixer.turns() >= 1000 || tells_the_end(mixer.last()) {
         return false;
@@ -56,30 +59,18 @@ fn stays_ended<L: Ledger>(mixer: &mut NormalMixer, links: &Links<'_>, steps: &mu
     first && tells_the_end(mixer.last())
 }
 
-fn ends_in<L: Ledger>(alloc: Global, blank: Blank) -> Result<bool, Memory>
-    requires name { blank.name ≡ L.name }
-    requires parts { (blank.parts ≡ L.parts) × (0 < blank.parts) }
-{
-    let mut steps = Steps::<L>::start(blank);
-    let (shared, parts) = begin(alloc, &[FAST; 2], 2, 1)?;
-    let links = shared.links();
-    let mut world = parts.join(alloc, &links, 2, 1)?;
-    let rows = [
-        sends(0, OPEN, 0),
-        sends(1, OPEN, 0),
-        turns(1, Push::Clean, Some(257)),
-        sends(0, REMOVE, 0),
-        sends(1, REMOVE, 0),
-        turns(1, pushed(1), Some(513)),
-        polls(1),
-    ];
-    let played = world.plays(&links, &rows, &mut steps);
-    let ended = played && stays_ended(&mut world.mixer, &links, &mut steps);
-    drop(world);
-    Ok(ended)
-}
+const ENDS: &[Row] = &[
+    Row::Sends(0, OPEN, 0),
+    Row::Sends(1, OPEN, 0),
+    Row::Turns(1, Push::Clean, Some(257)),
+    Row::Sends(0, REMOVE, 0),
+    Row::Sends(1, REMOVE, 0),
+    Row::Turns(1, PUSH_1, Some(513)),
+    Row::Polls(1),
+    Row::StaysEnded,
+];
 
 #[test]
 fn an_ended_turn_loads_nothing_and_tells_the_end(rt: HostRuntime) {
-    assert!(rt; ends_in::<Brand>(rt.alloc(), Blank::new(1)) == Ok(true));
+    assert!(rt; plays(rt.alloc(), &[FAST; 2], 2, 1, Plan::Rows(&[ENDS])));
 }

@@ -12,9 +12,13 @@ mod end_tests;
 #[cfg(test)]
 mod held_tests;
 #[cfg(test)]
+mod joints;
+#[cfg(test)]
 mod meeting_tests;
 #[cfg(test)]
 mod random_tests;
+#[cfg(test)]
+mod rows;
 #[cfg(test)]
 mod stream_tests;
 #[cfg(test)]

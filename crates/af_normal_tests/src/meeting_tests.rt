@@ -5,20 +5,16 @@ ghost use Rattle.af_cblk.specs.Sides.{hand_made};
 ghost use Rattle.af_normal.specs.Order.{IsInOrder};
 ghost use Rattle.af_normal_tests.specs.Testing.{AreClients, AreOthers, IsWorld};
 
-use crate::table_tests::{
-    FAST, Row, begin, clears, done, ends, has_slot, plays, polls, pushed, reports, saw, sends,
-    turns, writes,
-};
-use crate::tests::{Others, Step, Told, World};
-use af_base::{Memory, Push, Steps};
+use crate::rows::{PUSH_1, PUSH_2, PUSH_3, Row};
+use crate::table_tests::{FAST, Plan, plays};
+use crate::tests::{Others, World};
+use af_base::{Push, Steps};
 use af_cblk::Block;
 use af_client::Client;
 use af_life::{OPEN, PAUSE, REMOVE, START, STOP};
 use af_link::{Links, meet_flag};
 use af_normal::{NormalMixer, TrackHand};
-use std::alloc::Global;
-use std::marker::Brand;
-use std::sync::ledger::{Blank, Ledger};
+use std::sync::ledger::Ledger;
 use std::test::*;
 
 // The clients of a track meet its proxies; whether the stream proxy is home.
@@ -66,7 +62,7 @@ pub(crate) fn disables<L: Ledger>(
     clients: &mut [Client],
     track: usize,
     steps: &mut Steps<L>,
-) -> Told
+) -> bool
     requires order { IsInOrder links.now mixer.old }
     requires clients { AreClients links.now.streams.now clients.old }
     ensures order { IsInOrder links.now mixer.new }
@@ -74,13 +70,13 @@ pub(crate) fn disables<L: Ledger>(
 {
     let blocks = links.streams;
     if track >= 32 {
-        return Told::Done;
+        return false;
     }
     let Some(hand) = mixer.hand(track as u32) else {
-        return Told::Is { so: false };
+        return false;
     };
     tells(hand, &blocks[track], &mut clients[track], steps);
-    Told::Is { so: true }
+    true
 }
 
 // How many tracks the entry of the last turn has: none before the first turn and after the end.
@@ -97,12 +93,12 @@ impl World {
         links: &Links<'_>,
         track: usize,
         steps: &mut Steps<L>,
-    ) -> Told
-        requires { IsWorld links.now self.old.mixer self.old.others.observer self.old.others.writer self.old.others.pipe self.old.others.report self.old.others.streams.items self.old.others.commands.items }
-        ensures { IsWorld links.now self.new.mixer self.new.others.observer self.new.others.writer self.new.others.pipe self.new.others.report self.new.others.streams.items self.new.others.commands.items }
+    ) -> Option<bool>
+        requires { IsWorld links.now self.old.mixer self.old.others.observer self.old.others.ends.0 self.old.others.ends.1 self.old.others.report self.old.others.streams.items self.old.others.commands.items }
+        ensures { IsWorld links.now self.new.mixer self.new.others.observer self.new.others.ends.0 self.new.others.ends.1 self.new.others.report self.new.others.streams.items self.new.others.commands.items }
     {
         if track >= tracks_told(&self.mixer) {
-            return Told::Done;
+            return None;
         }
         let World { mixer, others } = self;
         let Others {
@@ -111,192 +107,85 @@ impl World {
             ..
         } = others;
         let so = clients_meet(mixer, links, streams, commands, track, steps);
-        Told::Is { so }
+        Some(so)
     }
 
-    // The ends of the two mixers meet.
-    fn ends_meet<L: Ledger>(self, links: &Links<'_>, steps: &mut Steps<L>) -> World
-        requires { IsWorld links.now self.mixer self.others.observer self.others.writer self.others.pipe self.others.report self.others.streams.items self.others.commands.items }
-        ensures { IsWorld links.now result.mixer result.others.observer result.others.writer result.others.pipe result.others.report result.others.streams.items result.others.commands.items }
+    /// The ends of the two mixers meet.
+    pub(crate) fn ends_meet<L: Ledger>(&mut self, links: &Links<'_>, steps: &mut Steps<L>)
+        requires { IsWorld links.now self.old.mixer self.old.others.observer self.old.others.ends.0 self.old.others.ends.1 self.old.others.report self.old.others.streams.items self.old.others.commands.items }
+        ensures { IsWorld links.now self.new.mixer self.new.others.observer self.new.others.ends.0 self.new.others.ends.1 self.new.others.report self.new.others.streams.items self.new.others.commands.items }
     {
-        let World { mut mixer, others } = self;
-        let Others {
-            mut observer,
-            writer,
-            pipe,
-            report,
-            streams,
-            commands,
-        } = others;
-        mixer.meet_queue(links, &mut observer, steps);
-        let mut ends = (writer, pipe);
-        mixer.meet_ends(links, &mut ends, steps);
-        let (writer, pipe) = ends;
-        World {
-            mixer,
-            others: Others {
-                observer,
-                writer,
-                pipe,
-                report,
-                streams,
-                commands,
-            },
-        }
+        let World { mixer, others } = self;
+        mixer.meet_queue(links, &mut others.observer, steps);
+        mixer.meet_ends(links, &mut others.ends, steps);
     }
-
-    /// Whether each step of a table answers what it should.
-    pub(crate) fn plays<L: Ledger>(
-        &mut self,
-        links: &Links<'_>,
-        rows: &[Row],
-        steps: &mut Steps<L>,
-    ) -> bool
-        requires { IsWorld links.now self.old.mixer self.old.others.observer self.old.others.writer self.old.others.pipe self.old.others.report self.old.others.streams.items self.old.others.commands.items }
-        ensures { IsWorld links.now self.new.mixer self.new.others.observer self.new.others.writer self.new.others.pipe self.new.others.report self.new.others.streams.items self.new.others.commands.items }
-    {
-        for (step, wanted) in rows {
-            let told = self.does(links, *step, steps);
-            if told != *wanted {
-                return false;
-            }
-        }
-        true
-    }
-}
-
-// The clients of the first track meet its proxies, whether the stream proxy is home or not.
-fn meets(so: bool) -> Row {
-    (Step::Meet { track: 0 }, Told::Is { so })
-}
-
-// The hand of the first track sets DISABLED, if it is there.
-fn disables_first(so: bool) -> Row {
-    (Step::Disable { track: 0 }, Told::Is { so })
 }
 
 // The stream proxy of a fast track is home, is lent, is returning, and is home again.
+const MEETINGS: &[Row] = &[
+    Row::Disables(0, false),
+    Row::Sends(0, OPEN, 0),
+    Row::Turns(0, Push::Clean, Some(257)),
+    Row::Meets(true),
+    Row::Sends(0, START, 0),
+    Row::Turns(0, PUSH_1, Some(514)),
+    Row::Meets(false),
+    Row::Polls(1),
+    Row::Meets(false),
+    Row::Writes(0, 4),
+    Row::Disables(0, true),
+    Row::Clears(8),
+    Row::Disables(0, true),
+    Row::Clears(8),
+    Row::Clears(0),
+    Row::Disables(1, false),
+    Row::Sends(0, PAUSE, 0),
+    Row::Turns(0, Push::Clean, Some(772)),
+    Row::Meets(false),
+    Row::Turns(0, PUSH_2, None),
+    Row::Meets(false),
+    Row::Polls(2),
+    Row::Meets(false),
+    Row::Turns(0, Push::Clean, None),
+    Row::Meets(true),
+    Row::Disables(0, true),
+    Row::Clears(8),
+    Row::Sends(0, REMOVE, 0),
+    Row::Turns(0, PUSH_3, Some(1028)),
+    Row::Meets(true),
+];
+
 #[test]
 fn clients_meet_the_proxies_that_are_home(rt: HostRuntime) {
-    let rows = [
-        disables_first(false),
-        sends(0, OPEN, 0),
-        turns(0, Push::Clean, Some(257)),
-        meets(true),
-        sends(0, START, 0),
-        turns(0, pushed(1), Some(514)),
-        meets(false),
-        polls(1),
-        meets(false),
-        writes(0, 4),
-        disables_first(true),
-        clears(8),
-        disables_first(true),
-        clears(8),
-        clears(0),
-        (Step::Disable { track: 1 }, Told::Is { so: false }),
-        sends(0, PAUSE, 0),
-        turns(0, Push::Clean, Some(772)),
-        meets(false),
-        turns(0, pushed(2), None),
-        meets(false),
-        polls(2),
-        meets(false),
-        turns(0, Push::Clean, None),
-        meets(true),
-        disables_first(true),
-        clears(8),
-        sends(0, REMOVE, 0),
-        turns(0, pushed(3), Some(1028)),
-        meets(true),
-    ];
-    assert!(rt; plays(rt.alloc(), &[FAST], 2, 1, &rows) == Ok(true));
-}
-
-// A world between the meetings of its ends, and whether each step so far answered what it should.
-#[derive(Drop)]
-struct Met {
-    world: World,
-    so: bool,
-}
-
-impl Met {
-    // All ends meet, and the steps of a table are made.
-    fn then<L: Ledger>(self, links: &Links<'_>, rows: &[Row], steps: &mut Steps<L>) -> Met
-        requires { IsWorld links.now self.world.mixer self.world.others.observer self.world.others.writer self.world.others.pipe self.world.others.report self.world.others.streams.items self.world.others.commands.items }
-        ensures { IsWorld links.now result.world.mixer result.world.others.observer result.world.others.writer result.world.others.pipe result.world.others.report result.world.others.streams.items result.world.others.commands.items }
-    {
-        let mut world = self.world.ends_meet(links, steps);
-        let so = world.plays(links, rows, steps);
-        Met {
-            world,
-            so: so && self.so,
-        }
-    }
-
-    // The world ends; what its steps answered stays.
-    fn told(self) -> bool
-        ensures { result ≡ self.so }
-    {
-        self.so
-    }
-}
-
-fn opens_and_starts() -> [Row; 5] {
-    [
-        sends(0, OPEN, 0),
-        sends(0, START, 0),
-        turns(0, pushed(1), Some(514)),
-        polls(1),
-        reports(1, 0, 0, [0, 1]),
-    ]
-}
-
-fn stops() -> [Row; 6] {
-    [
-        sends(0, STOP, 0),
-        turns(0, Push::Clean, Some(791)),
-        saw(true, 8),
-        turns(0, pushed(2), Some(792)),
-        polls(2),
-        reports(1, 0, 0, [0, 2]),
-    ]
-}
-
-fn is_removed() -> [Row; 5] {
-    [
-        has_slot(1, false, 0, 1),
-        sends(0, REMOVE, 0),
-        turns(0, pushed(3), Some(1048)),
-        polls(3),
-        ends(),
-    ]
+    assert!(rt; plays(rt.alloc(), &[FAST], 2, 1, Plan::Rows(&[MEETINGS])));
 }
 
 // All ends meet before the first turn, between turns, and once the mixer has ended.
-fn all_meet<L: Ledger>(world: World, links: &Links<'_>, steps: &mut Steps<L>) -> bool
-    requires { IsWorld links.now world.mixer world.others.observer world.others.writer world.others.pipe world.others.report world.others.streams.items world.others.commands.items }
-{
-    let made = Met { world, so: true };
-    made.then(links, &opens_and_starts(), steps)
-        .then(links, &stops(), steps)
-        .then(links, &is_removed(), steps)
-        .then(links, &[ends()], steps)
-        .told()
-}
-
-fn ends_meet_in<L: Ledger>(alloc: Global, blank: Blank) -> Result<bool, Memory>
-    requires name { blank.name ≡ L.name }
-    requires parts { (blank.parts ≡ L.parts) × (0 < blank.parts) }
-{
-    let mut steps = Steps::<L>::start(blank);
-    let (shared, parts) = begin(alloc, &[FAST], 2, 1)?;
-    let links = shared.links();
-    let world = parts.join(alloc, &links, 2, 1)?;
-    Ok(all_meet(world, &links, &mut steps))
-}
+const ALL_MEET: &[Row] = &[
+    Row::EndsMeet,
+    Row::Sends(0, OPEN, 0),
+    Row::Sends(0, START, 0),
+    Row::Turns(0, PUSH_1, Some(514)),
+    Row::Polls(1),
+    Row::Reports(1, 0, 0, [0, 1]),
+    Row::EndsMeet,
+    Row::Sends(0, STOP, 0),
+    Row::Turns(0, Push::Clean, Some(791)),
+    Row::Saw(true, 8),
+    Row::Turns(0, PUSH_2, Some(792)),
+    Row::Polls(2),
+    Row::Reports(1, 0, 0, [0, 2]),
+    Row::EndsMeet,
+    Row::HasSlot(1, false, 0, 1),
+    Row::Sends(0, REMOVE, 0),
+    Row::Turns(0, PUSH_3, Some(1048)),
+    Row::Polls(3),
+    Row::Ends,
+    Row::EndsMeet,
+    Row::Ends,
+];
 
 #[test]
 fn all_ends_meet_between_turns(rt: HostRuntime) {
-    assert!(rt; ends_meet_in::<Brand>(rt.alloc(), Blank::new(1)) == Ok(true));
+    assert!(rt; plays(rt.alloc(), &[FAST], 2, 1, Plan::Rows(&[ALL_MEET])));
 }

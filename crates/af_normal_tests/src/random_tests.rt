@@ -3,8 +3,9 @@ ghost use Rattle.std.specs.Prelude.{◌≡◌, ◌<◌, ◌≤◌, length, IfOk}
 ghost use Rattle.af_life.specs.Small.{IsSmall};
 ghost use Rattle.af_normal_tests.specs.Testing.{AreOthers, IsWorld};
 
-use crate::table_tests::{FAST, Kind, begin};
-use crate::tests::{Others, Step, World};
+use crate::rows::Row;
+use crate::table_tests::{FAST, Kind, Plan, plays};
+use crate::tests::{Others, World};
 use af_base::{FastState, Memory, NormalTake, Push, SLOTS, Seen, Steps, TurnEntry};
 use af_life::{
     FLUSH, Heard, Known, LifeState, OPEN, PAUSE, PlainMixer, REMOVE, START, STOP, Setting,
@@ -13,8 +14,8 @@ use af_life::{
 use af_link::{Links, no_slot};
 use af_model::{carries_item, first_state};
 use std::alloc::Global;
-use std::marker::Brand;
-use std::sync::ledger::{Blank, Ledger};
+use std::mem::drop;
+use std::sync::ledger::Ledger;
 use std::test::*;
 
 const TURNS: u32 = 300;
@@ -76,35 +77,24 @@ impl Source {
     }
 
     // What a client does before a turn.
-    fn client(&mut self, track: usize, turn: u32) -> Step {
+    fn client(&mut self, track: usize, turn: u32) -> Row {
         match self.draw(8) {
-            0..3 => Step::Send {
-                track,
-                code: self.code(),
-                argument: self.draw(4),
-            },
-            3..7 => Step::Write {
-                track,
-                count: self.draw(8) as usize,
-            },
-            _ if turn == 60 => Step::Poke {
-                track,
-                command: track % 2 == 0,
-                rear: 100_000,
-            },
-            _ => Step::Flush { track },
+            0..3 => Row::Sends(track, self.code(), self.draw(4)),
+            3..7 => Row::Writes(track, self.draw(8) as usize),
+            _ if turn == 60 => Row::Pokes(track, track % 2 == 0, 100_000),
+            _ => Row::Flushes(track),
         }
     }
 
     // What is reported next of a slot.
-    fn report(&mut self, others: &Others) -> Step {
+    fn report(&mut self, others: &Others) -> Row {
         let slot = self.draw(32) as usize;
         let mut report = no_slot();
         if let Some(last) = others.report.slots.get(slot) {
             report = *last;
         }
         let Some(state) = others.observer.current() else {
-            return Step::Report { slot, report };
+            return Row::ReportsAll(slot, report);
         };
         let has = slot < SLOTS && carries_item(state, slot);
         if has && report.generation != state.slots[slot].generation {
@@ -117,14 +107,14 @@ impl Source {
         report.partials = report.partials.wrapping_add(self.draw(9) / 8);
         report.empties = report.empties.wrapping_add(self.draw(2));
         report.shut = report.shut || self.once_in(256);
-        Step::Report { slot, report }
+        Row::ReportsAll(slot, report)
     }
 
-    // What the fast mixer does before a turn.
-    fn fast(&mut self, others: &Others) -> Step {
+    // What the fast mixer does before a turn. What it polls and hears may be anything.
+    fn fast(&mut self, others: &Others) -> Row {
         match self.draw(24) {
-            0 => Step::Poll,
-            1..3 => Step::Hear,
+            0 => Row::Polls(0),
+            1..3 => Row::Hears([0; 4]),
             _ => self.report(others),
         }
     }
@@ -264,14 +254,14 @@ fn moves<L: Ledger>(
     turn: u32,
     steps: &mut Steps<L>,
 )
-    requires { IsWorld links.now world.old.mixer world.old.others.observer world.old.others.writer world.old.others.pipe world.old.others.report world.old.others.streams.items world.old.others.commands.items }
-    ensures { IsWorld links.now world.new.mixer world.new.others.observer world.new.others.writer world.new.others.pipe world.new.others.report world.new.others.streams.items world.new.others.commands.items }
+    requires { IsWorld links.now world.old.mixer world.old.others.observer world.old.others.ends.0 world.old.others.ends.1 world.old.others.report world.old.others.streams.items world.old.others.commands.items }
+    ensures { IsWorld links.now world.new.mixer world.new.others.observer world.new.others.ends.0 world.new.others.ends.1 world.new.others.report world.new.others.streams.items world.new.others.commands.items }
 {
     for track in 0..TRACKS {
-        let step = source.client(track, turn);
-        world.does(links, step, steps);
-        let step = source.fast(&world.others);
-        world.does(links, step, steps);
+        let row = source.client(track, turn);
+        world.does(links, &row, steps);
+        let row = source.fast(&world.others);
+        world.does(links, &row, steps);
     }
 }
 
@@ -282,34 +272,20 @@ fn run<L: Ledger>(
     links: &Links<'_>,
     steps: &mut Steps<L>,
 ) -> bool
-    requires world { IsWorld links.now world.old.mixer world.old.others.observer world.old.others.writer world.old.others.pipe world.old.others.report world.old.others.streams.items world.old.others.commands.items }
+    requires world { IsWorld links.now world.old.mixer world.old.others.observer world.old.others.ends.0 world.old.others.ends.1 world.old.others.report world.old.others.streams.items world.old.others.commands.items }
     requires plain { IsSmall beside.old.plain.turns beside.old.plain.setup beside.old.plain.kept }
 {
     let mut source = Source { seed: 1 };
     for turn in 0..TURNS {
         moves(world, &mut source, links, turn, steps);
         let polled = beside.was_polled(&world.others);
-        world.does(links, Step::Turn { track: 0 }, steps);
+        world.does(links, &Row::Ends, steps);
         if !polled || !beside.turn(world) {
             return false;
         }
     }
     let again = attached_again(beside.plain.draft());
     beside.plain.pushed() > 20 && again > 5
-}
-
-// Some turns of a world that ends with them; whether each was that of the plain mixer.
-fn runs_out<L: Ledger>(
-    world: World,
-    beside: &mut Beside,
-    links: &Links<'_>,
-    steps: &mut Steps<L>,
-) -> bool
-    requires world { IsWorld links.now world.mixer world.others.observer world.others.writer world.others.pipe world.others.report world.others.streams.items world.others.commands.items }
-    requires plain { IsSmall beside.old.plain.turns beside.old.plain.setup beside.old.plain.kept }
-{
-    let mut world = world;
-    run(&mut world, beside, links, steps)
 }
 
 // How many slots were attached more than once.
@@ -359,32 +335,23 @@ fn new_beside(alloc: Global, kinds: &[Kind; TRACKS]) -> Result<Beside, Memory>
     })
 }
 
-// Whether each turn of the mixer over new blocks is that of the plain mixer.
-fn runs_beside<L: Ledger>(
+/// Whether each turn of a mixer of these kinds is that of the plain mixer.
+pub(crate) fn runs_beside<L: Ledger>(
     alloc: Global,
-    kinds: &[Kind; TRACKS],
-    beside: &mut Beside,
+    world: &mut World,
+    links: &Links<'_>,
     steps: &mut Steps<L>,
 ) -> Result<bool, Memory>
-    requires { IsSmall beside.old.plain.turns beside.old.plain.setup beside.old.plain.kept }
+    requires { IsWorld links.now world.old.mixer world.old.others.observer world.old.others.ends.0 world.old.others.ends.1 world.old.others.report world.old.others.streams.items world.old.others.commands.items }
 {
-    let (shared, parts) = begin(alloc, kinds, 2, 2)?;
-    let links = shared.links();
-    let world = parts.join(alloc, &links, 2, 2)?;
-    Ok(runs_out(world, beside, &links, steps))
-}
-
-fn runs_in<L: Ledger>(alloc: Global, blank: Blank) -> Result<bool, Memory>
-    requires name { blank.name ≡ L.name }
-    requires parts { (blank.parts ≡ L.parts) × (0 < blank.parts) }
-{
-    let mut steps = Steps::<L>::start(blank);
     let kinds = all_kinds();
     let mut beside = new_beside(alloc, &kinds)?;
-    runs_beside(alloc, &kinds, &mut beside, &mut steps)
+    let so = run(world, &mut beside, links, steps);
+    drop(beside);
+    Ok(so)
 }
 
 #[test]
 fn a_long_run_is_that_of_the_plain_mixer(rt: HostRuntime) {
-    assert!(rt; runs_in::<Brand>(rt.alloc(), Blank::new(1)) == Ok(true));
+    assert!(rt; plays(rt.alloc(), &all_kinds(), 2, 2, Plan::Beside));
 }

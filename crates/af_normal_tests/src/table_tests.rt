@@ -4,19 +4,18 @@ ghost use Rattle.af_link.specs.declared.links.Links.{Links as Linked};
 ghost use Rattle.af_normal.specs.Making.{AreNew};
 ghost use Rattle.af_normal_tests.specs.Testing.{AreLines, AreOthers, IsLine, IsWorld};
 
+use crate::joints::join;
+use crate::random_tests::runs_beside;
+use crate::rows::Row;
 use crate::stream_tests::new_block;
-use crate::tests::{NO_FRAME, Others, Step, Told, World};
-use af_base::{Frame, Memory, Push, Steps};
+use crate::tests::{Others, World};
+use af_base::{Memory, Steps};
 use af_cblk::Block;
 use af_client::Client;
-use af_link::{
-    Links, PipeIn, ReportCell, ReportReader, StreamNames, first_report, no_slot, pipe, report,
-    stream_names,
-};
-use af_model::Poll;
-use af_normal::{NormalMixer, TrackSetup, Tracks, Turn};
+use af_link::{Links, PipeIn, ReportCell, ReportReader, StreamNames, first_report};
+use af_normal::{NormalMixer, TrackSetup, Tracks};
 use af_server::Server;
-use af_stateq::{Mutator, Queue, queue};
+use af_stateq::{Mutator, Queue};
 use std::alloc::Global;
 use std::marker::Brand;
 use std::mem::drop;
@@ -38,6 +37,12 @@ pub(crate) const FAST: Kind = Kind {
     mono: false,
     frames: 8,
     positional: false,
+};
+
+/// The same by way of the normal mixer.
+pub(crate) const NORMAL: Kind = Kind {
+    fast: false,
+    ..FAST
 };
 
 /// What the parties of a test share.
@@ -162,33 +167,29 @@ pub(crate) fn begin(
     ensures { (links : Linked) → IfOk result (λ r. links.queue.now ≡ r.0.queue → links.streams.now ≡ r.0.streams.items → links.commands.now ≡ r.0.commands.items → links.pipe.now ≡ r.0.pipe → links.report.now ≡ r.0.report
         → AreNew links frames normal r.1.tracks r.1.mutator r.1.reader r.1.from
         × (length r.1.tracks.settings ≡ length kinds.now) × All (λ setting. setting.scale ≤ 4096) r.1.tracks.settings
-        × AreOthers links r.1.others.observer r.1.others.writer r.1.others.pipe r.1.others.report r.1.others.streams.items r.1.others.commands.items) }
+        × AreOthers links r.1.others.observer r.1.others.ends.0 r.1.others.ends.1 r.1.others.report r.1.others.streams.items r.1.others.commands.items) }
 {
-    let report = report(alloc)?;
-    let pipe = pipe(alloc, 4 * (normal * frames))?;
     let lines = make_lines(alloc, kinds)?;
-    let names = stream_names(&lines.streams);
-    let queue = queue::<Server, StreamNames>(alloc, frames, names)?;
+    let joints = join(alloc, &lines.streams, frames, normal)?;
     let shared = Shared {
-        queue: queue.0,
-        pipe: pipe.0,
-        report: report.0,
+        queue: joints.queue,
+        pipe: joints.pipe,
+        report: joints.report,
         streams: lines.streams,
         commands: lines.commands,
     };
     let others = Others {
-        observer: queue.2,
-        writer: report.1,
-        pipe: pipe.2,
+        observer: joints.observer,
+        ends: joints.ends,
         report: first_report(),
         streams: lines.clients,
         commands: lines.senders,
     };
     let parts = Parts {
         tracks: lines.tracks,
-        mutator: queue.1,
-        reader: report.2,
-        from: pipe.1,
+        mutator: joints.mutator,
+        reader: joints.reader,
+        from: joints.from,
         others,
     };
     Ok((shared, parts))
@@ -207,8 +208,8 @@ impl Parts {
         requires count { (1 ≤ length self.tracks.settings) × (length self.tracks.settings ≤ 32) }
         requires scales { All (λ setting. setting.scale ≤ 4096) self.tracks.settings }
         requires new { AreNew links.now frames normal self.tracks self.mutator self.reader self.from }
-        requires others { AreOthers links.now self.others.observer self.others.writer self.others.pipe self.others.report self.others.streams.items self.others.commands.items }
-        ensures { IfOk result (λ w. IsWorld links.now w.mixer w.others.observer w.others.writer w.others.pipe w.others.report w.others.streams.items w.others.commands.items) }
+        requires others { AreOthers links.now self.others.observer self.others.ends.0 self.others.ends.1 self.others.report self.others.streams.items self.others.commands.items }
+        ensures { IfOk result (λ w. IsWorld links.now w.mixer w.others.observer w.others.ends.0 w.others.ends.1 w.others.report w.others.streams.items w.others.commands.items) }
     {
         let Parts {
             tracks,
@@ -222,25 +223,64 @@ impl Parts {
     }
 }
 
-/// A step with what it is to answer.
-pub(crate) type Row = (Step, Told);
+/// What is played in a world.
+#[derive(Clone, Copy)]
+pub(crate) enum Plan<'a> {
+    /// The rows of these tables, one after the other.
+    Rows(&'a [&'a [Row]]),
+    /// A long run beside the plain mixer.
+    Beside,
+}
 
-// Whether each step of a table answers what it should.
-fn play_all<L: Ledger>(
+// Whether each row of a table is answered as it must be.
+fn play_rows<L: Ledger>(
     world: &mut World,
     links: &Links<'_>,
     rows: &[Row],
     steps: &mut Steps<L>,
 ) -> bool
-    requires { IsWorld links.now world.old.mixer world.old.others.observer world.old.others.writer world.old.others.pipe world.old.others.report world.old.others.streams.items world.old.others.commands.items }
+    requires { IsWorld links.now world.old.mixer world.old.others.observer world.old.others.ends.0 world.old.others.ends.1 world.old.others.report world.old.others.streams.items world.old.others.commands.items }
+    ensures { IsWorld links.now world.new.mixer world.new.others.observer world.new.others.ends.0 world.new.others.ends.1 world.new.others.report world.new.others.streams.items world.new.others.commands.items }
 {
-    for (step, wanted) in rows {
-        let told = world.does(links, *step, steps);
-        if told != *wanted {
+    for row in rows {
+        if !world.does(links, row, steps) {
             return false;
         }
     }
     true
+}
+
+// The same of each of some tables.
+fn play_all<L: Ledger>(
+    world: &mut World,
+    links: &Links<'_>,
+    tables: &[&[Row]],
+    steps: &mut Steps<L>,
+) -> bool
+    requires { IsWorld links.now world.old.mixer world.old.others.observer world.old.others.ends.0 world.old.others.ends.1 world.old.others.report world.old.others.streams.items world.old.others.commands.items }
+{
+    for rows in tables {
+        if !play_rows(world, links, rows, steps) {
+            return false;
+        }
+    }
+    true
+}
+
+// Whether a plan comes out.
+fn play_plan<L: Ledger>(
+    alloc: Global,
+    world: &mut World,
+    links: &Links<'_>,
+    plan: Plan<'_>,
+    steps: &mut Steps<L>,
+) -> bool
+    requires { IsWorld links.now world.old.mixer world.old.others.observer world.old.others.ends.0 world.old.others.ends.1 world.old.others.report world.old.others.streams.items world.old.others.commands.items }
+{
+    match plan {
+        Plan::Rows(tables) => play_all(world, links, tables, steps),
+        Plan::Beside => runs_beside(alloc, world, links, steps) == Ok(true),
+    }
 }
 
 fn plays_in<L: Ledger>(
@@ -249,7 +289,7 @@ fn plays_in<L: Ledger>(
     kinds: &[Kind],
     frames: u32,
     normal: u32,
-    rows: &[Row],
+    plan: Plan<'_>,
 ) -> Result<bool, Memory>
     requires name { blank.name ≡ L.name }
     requires parts { (blank.parts ≡ L.parts) × (0 < blank.parts) }
@@ -259,151 +299,48 @@ fn plays_in<L: Ledger>(
     let mut steps = Steps::<L>::start(blank);
     let (shared, parts) = begin(alloc, kinds, frames, normal)?;
     let links = shared.links();
-    let mut world = parts.join(alloc, &links, frames, normal)?;
-    let told = play_all(&mut world, &links, rows, &mut steps);
+    let Ok(mut world) = parts.join(alloc, &links, frames, normal) else {
+        drop(shared);
+        return Err(Memory);
+    };
+    let told = play_plan(alloc, &mut world, &links, plan, &mut steps);
     drop(world);
+    drop(shared);
     Ok(told)
 }
 
-// Whether each step of a table over new blocks answers what it should, for one to 32 tracks and up to 1,024 frames a cycle and 16 cycles a buffer.
+// Whether a plan comes out over new blocks, for one to 32 tracks and up to 1,024 frames a cycle and 16 cycles a buffer.
 pub(crate) fn plays(
     alloc: Global,
     kinds: &[Kind],
     frames: u32,
     normal: u32,
-    rows: &[Row],
-) -> Result<bool, Memory> {
+    plan: Plan<'_>,
+) -> bool {
     if kinds.is_empty() || kinds.len() > 32 {
-        return Ok(false);
+        return false;
     }
     let (frames, normal) = (frames.max(1).min(1024), normal.max(1).min(16));
-    plays_in::<Brand>(alloc, Blank::new(1), kinds, frames, normal, rows)
+    plays_in::<Brand>(alloc, Blank::new(1), kinds, frames, normal, plan) == Ok(true)
 }
 
-pub(crate) fn sends(track: usize, code: u32, argument: u32) -> Row {
-    let step = Step::Send {
-        track,
-        code,
-        argument,
-    };
-    (step, Told::Is { so: true })
+/// A case: what it shows, its tracks, the frames of a cycle and the cycles of a normal buffer, and its rows.
+#[derive(Clone, Copy)]
+pub(crate) struct Case {
+    pub what: &'static str,
+    pub kinds: &'static [Kind],
+    pub sizes: (u32, u32),
+    pub rows: &'static [Row],
 }
 
-pub(crate) fn done(step: Step) -> Row {
-    (step, Told::Done)
-}
-
-// A turn, and what it stores of a track.
-pub(crate) fn turned_to(track: usize, mixed: bool, pushed: Push, status: Option<u32>) -> Row {
-    let told = Told::Turned {
-        turn: Turn::Turned { mixed, pushed },
-        status,
-        disabled: false,
-    };
-    (Step::Turn { track }, told)
-}
-
-// A turn that puts no buffer.
-pub(crate) fn turns(track: usize, pushed: Push, status: Option<u32>) -> Row {
-    turned_to(track, false, pushed, status)
-}
-
-// A turn that puts a buffer.
-pub(crate) fn mixes(track: usize, pushed: Push, status: Option<u32>) -> Row {
-    turned_to(track, true, pushed, status)
-}
-
-// The mixer has ended.
-pub(crate) fn ends() -> Row {
-    let told = Told::Turned {
-        turn: Turn::Ended,
-        status: None,
-        disabled: false,
-    };
-    (Step::Turn { track: 0 }, told)
-}
-
-// The fast mixer polls this state.
-pub(crate) fn polls(number: u64) -> Row {
-    let poll = Poll::New { number };
-    (Step::Poll, Told::Polled { poll })
-}
-
-// The fast mixer has this of a slot.
-pub(crate) fn has_slot(slot: usize, carried: bool, track: u32, generation: u64) -> Row {
-    let told = Told::Slot {
-        carried,
-        track,
-        generation,
-    };
-    (Step::Slot { slot }, told)
-}
-
-// The fast mixer reports of slot 1: the frames consumed, the flushes seen, and the counts of full and of empty looks.
-pub(crate) fn reports(generation: u64, consumed: u64, flush_seen: u32, looks: [u32; 2]) -> Row {
-    let mut report = no_slot();
-    report.generation = generation;
-    report.consumed = consumed;
-    report.flush_seen = flush_seen;
-    [report.fulls, report.empties] = looks;
-    done(Step::Report { slot: 1, report })
-}
-
-pub(crate) fn writes(track: usize, count: usize) -> Row {
-    done(Step::Write { track, count })
-}
-
-pub(crate) fn flushes() -> Row {
-    done(Step::Flush { track: 0 })
-}
-
-pub(crate) fn clears(word: u32) -> Row {
-    (Step::Clear { track: 0 }, Told::Word { word })
-}
-
-pub(crate) fn status_is(word: u32) -> Row {
-    (Step::Status { track: 0 }, Told::Word { word })
-}
-
-pub(crate) fn pushed(number: u64) -> Push {
-    Push::Pushed { number }
-}
-
-// The push after the state of this number isn't acknowledged, which is seen as the last one.
-pub(crate) fn busy(seen: u32) -> Push {
-    Push::Busy {
-        seen,
-        expected: seen.wrapping_add(1),
+/// What the first case shows that doesn't come out; nothing if all do.
+pub(crate) fn first_wrong(alloc: Global, cases: &'static [Case]) -> &'static str {
+    for case in cases {
+        let (frames, normal) = case.sizes;
+        let plan = Plan::Rows(&[case.rows]);
+        if !plays(alloc, case.kinds, frames, normal, plan) {
+            return case.what;
+        }
     }
-}
-
-// The last turn saw this.
-pub(crate) fn saw(ack: bool, room: u32) -> Row {
-    (Step::Entry, Told::Entry { ack, room })
-}
-
-// A rear is stored out of turn.
-pub(crate) fn pokes(command: bool) -> Row {
-    done(Step::Poke {
-        track: 0,
-        command,
-        rear: 1000,
-    })
-}
-
-fn both(side: i16) -> Frame {
-    Frame {
-        left: side,
-        right: side,
-    }
-}
-
-// Four frames are heard, of which these are the samples of either side.
-pub(crate) fn heard(samples: [i16; 4]) -> Row {
-    let [a, b, c, d] = samples;
-    let told = Told::Heard {
-        count: 4,
-        frames: [both(a), both(b), both(c), both(d)],
-    };
-    (Step::Hear, told)
+    ""
 }

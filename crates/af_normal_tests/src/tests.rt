@@ -5,12 +5,14 @@ ghost use Rattle.af_link.specs.PipeEnds.{out_made};
 ghost use Rattle.af_link.specs.Reports.{last_cycle};
 ghost use Rattle.af_normal_tests.specs.Testing.{AreClients, AreOthers, IsWorld};
 
-use crate::held_tests::{command_of, plays_slot};
+use crate::end_tests::stays_ended;
+use crate::held_tests::{is_told, plays_slot};
 use crate::meeting_tests::disables;
-use af_base::{Command, FastTrack, Frame, Report, SLOTS, Seen, SlotReport, Steps, TurnEntry};
+use crate::rows::Row;
+use af_base::{Frame, Report, SLOTS, SlotReport, Steps, TurnEntry};
 use af_cblk::Block;
 use af_client::{Client, Sent};
-use af_link::{Links, PipeOut, ReportWriter, StreamNames};
+use af_link::{Links, PipeOut, ReportWriter, StreamNames, no_slot};
 use af_model::{Poll, carries_item};
 use af_normal::{NormalMixer, Turn};
 use af_server::Server;
@@ -21,8 +23,7 @@ use std::sync::ledger::Ledger;
 #[derive(Drop)]
 pub(crate) struct Others {
     pub observer: Observer<Server, StreamNames>,
-    pub writer: ReportWriter,
-    pub pipe: PipeOut,
+    pub ends: (ReportWriter, PipeOut),
     pub report: Report,
     pub streams: Vec<Client>,
     pub commands: Vec<Client>,
@@ -35,224 +36,138 @@ pub(crate) struct World {
     pub others: Others,
 }
 
-/// What a test does next. Frames are the first multiples of (1, 1).
-#[derive(Clone, Copy)]
-pub(crate) enum Step {
-    Send {
-        track: usize,
-        code: u32,
-        argument: u32,
-    },
-    Write {
-        track: usize,
-        count: usize,
-    },
-    Flush {
-        track: usize,
-    },
-    /// Flushes the command block.
-    FlushCommands {
-        track: usize,
-    },
-    /// Stores a rear out of turn.
-    Poke {
-        track: usize,
-        command: bool,
-        rear: u32,
-    },
-    /// Clears DISABLED, and answers the flags before.
-    Clear {
-        track: usize,
-    },
-    /// Answers the status word.
-    Status {
-        track: usize,
-    },
-    /// The fast mixer polls.
-    Poll,
-    /// The fast mixer plays a slot for so many frames, from one to four.
-    Play {
-        slot: usize,
-        count: usize,
-    },
-    /// The fast mixer reports this of a slot, and of the others what it did before.
-    Report {
-        slot: usize,
-        report: SlotReport,
-    },
-    /// The fast mixer takes four frames.
-    Hear,
-    /// Answers a slot of the state that the fast mixer has.
-    Slot {
-        slot: usize,
-    },
-    /// Answers what the fast mixer is to do, and the count of cold idles.
-    Command,
-    /// A track's clients meet its proxies; answers whether the stream proxy is home.
-    Meet {
-        track: usize,
-    },
-    /// DISABLED is set by the hand of a track, which meets the client; answers whether there is a hand.
-    Disable {
-        track: usize,
-    },
-    /// A turn of the mixer, and what it stored of a track.
-    Turn {
-        track: usize,
-    },
-    /// Answers whether the last turn saw the last push acknowledged, and the room that it saw.
-    Entry,
-}
-
-/// What a step answered.
-#[derive(Clone, Copy, PartialEq, Eq)]
-pub(crate) enum Told {
-    Done,
-    Is {
-        so: bool,
-    },
-    Word {
-        word: u32,
-    },
-    Polled {
-        poll: Poll,
-    },
-    Heard {
-        count: u32,
-        frames: [Frame; 4],
-    },
-    Played {
-        seen: Seen,
-        frames: [Frame; 4],
-    },
-    Commanded {
-        command: Command,
-        cold: u64,
-    },
-    Slot {
-        carried: bool,
-        track: u32,
-        generation: u64,
-    },
-    Turned {
-        turn: Turn,
-        status: Option<u32>,
-        disabled: bool,
-    },
-    Entry {
-        ack: bool,
-        room: u32,
-    },
-}
-
 /// Silence.
 pub(crate) const NO_FRAME: Frame = Frame { left: 0, right: 0 };
 
 // The first frames that a client writes.
-fn frames_written() -> [Frame; 8] {
-    let mut frames = [NO_FRAME; 8];
-    let mut next = 0u32;
-    for frame in frames.iter_mut() {
-        next = next.wrapping_add(0x0001_0001);
-        *frame = Frame::unpack(next);
+const WRITTEN: [Frame; 8] = [
+    Frame { left: 1, right: 1 },
+    Frame { left: 2, right: 2 },
+    Frame { left: 3, right: 3 },
+    Frame { left: 4, right: 4 },
+    Frame { left: 5, right: 5 },
+    Frame { left: 6, right: 6 },
+    Frame { left: 7, right: 7 },
+    Frame { left: 8, right: 8 },
+];
+
+/// Whether frames have these samples on either side.
+pub(crate) fn are_both(frames: &[Frame; 4], samples: &[i16; 4]) -> bool {
+    for (frame, sample) in frames.iter().zip(samples.iter()) {
+        if frame.left != *sample || frame.right != *sample {
+            return false;
+        }
     }
-    frames
+    true
 }
 
-// What a client does on one of its blocks.
+// Whether what a client does on one of its blocks is answered as it must be.
 fn client_does<L: Ledger>(
     client: &mut Client,
     block: &Block,
-    step: Step,
+    row: &Row,
     steps: &mut Steps<L>,
-) -> Told
+) -> bool
     requires { IsClientOf block.now client.old }
     ensures { IsClientOf block.now client.new }
 {
     let _wrap = block.wrap();
-    match step {
-        Step::Write { count, .. } if count >= 1 && client.released() < 100_000 => {
-            let frames = frames_written();
-            client.write(block, &frames[..count.min(8)], steps);
+    match *row {
+        Row::Writes(_, count) if count >= 1 && client.released() < 100_000 => {
+            client.write(block, &WRITTEN[..count.min(8)], steps);
+            true
         }
-        Step::Send { code, argument, .. }
+        Row::Sends(_, code, argument)
             if block.frames() == 128 && block.base() == 0 && client.released() < 100_000 => {
             let sent = client.send(block, code, argument, steps);
-            return Told::Is {
-                so: matches!(sent, Sent::Sent { .. }),
-            };
+            matches!(sent, Sent::Sent { .. })
         }
-        Step::Flush { .. } | Step::FlushCommands { .. } if client.flushes() < 60_000 => {
+        Row::Flushes(_) | Row::FlushesCommands(_) if client.flushes() < 60_000 => {
             client.flush(block, steps);
+            true
         }
-        Step::Poke { rear, .. } => client.poke(block, 1, rear, steps),
-        Step::Status { .. } => {
-            let word = client.status(block, steps);
-            return Told::Word { word };
+        Row::Pokes(_, _, rear) => {
+            client.poke(block, 1, rear, steps);
+            true
         }
+        Row::Status(word) => client.status(block, steps) == word,
+        Row::Clears(word) => client.clear_disabled(block, steps) == word,
         _ => {
-            let word = client.clear_disabled(block, steps);
-            return Told::Word { word };
+            client.clear_disabled(block, steps);
+            false
         }
     }
-    Told::Done
 }
 
-// What the client of a track does on one of its blocks.
+// The same of the client of a track.
 fn track_does<L: Ledger>(
     clients: &mut [Client],
     blocks: &[Block],
     track: usize,
-    step: Step,
+    row: &Row,
     steps: &mut Steps<L>,
-) -> Told
+) -> bool
     requires { AreClients blocks.now clients.old }
     ensures { AreClients blocks.now clients.new }
 {
     if track >= blocks.len() {
-        return Told::Done;
+        return false;
     }
-    client_does(&mut clients[track], &blocks[track], step, steps)
+    client_does(&mut clients[track], &blocks[track], row, steps)
 }
 
-// What a turn stored of a track.
-fn turned(entry: &TurnEntry, track: usize, turn: Turn) -> Told {
+// Whether a turn stored this of a track.
+fn is_stored(entry: &TurnEntry, track: usize, status: Option<u32>, disabled: bool) -> bool {
     match entry.tracks.as_slice().get(track) {
-        Some(seen) => Told::Turned {
-            turn,
-            status: seen.status,
-            disabled: seen.disabled,
-        },
-        None => Told::Turned {
-            turn,
-            status: None,
-            disabled: false,
-        },
+        Some(seen) => seen.status == status && seen.disabled == disabled,
+        None => status.is_none() && !disabled,
     }
 }
 
-// What the observer has of a slot.
-fn slot_of(observer: &Observer<Server, StreamNames>, slot: usize) -> Told {
+// Whether a turn answered so, and stored this.
+fn is_turned(entry: &TurnEntry, turn: Turn, row: &Row) -> bool {
+    match *row {
+        Row::Turns(track, pushed, status) => {
+            let mixed = false;
+            turn == Turn::Turned { mixed, pushed } && is_stored(entry, track, status, false)
+        }
+        Row::Mixes(track, pushed, status) => {
+            let mixed = true;
+            turn == Turn::Turned { mixed, pushed } && is_stored(entry, track, status, false)
+        }
+        Row::TurnsOff(pushed) => {
+            let mixed = false;
+            turn == Turn::Turned { mixed, pushed } && is_stored(entry, 0, None, true)
+        }
+        _ => turn == Turn::Ended && is_stored(entry, 0, None, false),
+    }
+}
+
+// Whether the observer has this of a slot.
+fn has_slot(
+    observer: &Observer<Server, StreamNames>,
+    slot: usize,
+    carried: bool,
+    track: u32,
+    generation: u64,
+) -> bool {
     let Some(state) = observer.current() else {
-        return Told::Done;
+        return false;
     };
     if slot >= SLOTS {
-        return Told::Done;
+        return false;
     }
-    let FastTrack {
-        track,
-        generation,
-        ..
-    } = state.slots[slot];
-    Told::Slot {
-        carried: carries_item(state, slot),
-        track,
-        generation,
-    }
+    let found = &state.slots[slot];
+    carries_item(state, slot) == carried && found.track == track && found.generation == generation
 }
 
-// Takes up to four frames out of the pipe.
-fn hears<L: Ledger>(pipe: &mut PipeOut, links: &Links<'_>, steps: &mut Steps<L>) -> Told
+// Takes up to four frames out of the pipe: whether these are four of these samples.
+fn hears<L: Ledger>(
+    pipe: &mut PipeOut,
+    links: &Links<'_>,
+    samples: &[i16; 4],
+    steps: &mut Steps<L>,
+) -> bool
     requires { out_made pipe.old ≡ links.now.pipe.now }
     ensures { out_made pipe.new ≡ links.now.pipe.now }
 {
@@ -261,7 +176,7 @@ fn hears<L: Ledger>(pipe: &mut PipeOut, links: &Links<'_>, steps: &mut Steps<L>)
     if count >= 1 {
         pipe.take(links.pipe, &mut frames[..count as usize], steps);
     }
-    Told::Heard { count, frames }
+    count == 4 && are_both(&frames, samples)
 }
 
 // Stores the report with this of a slot.
@@ -270,102 +185,116 @@ fn reports_slot<L: Ledger>(
     last: &mut Report,
     links: &Links<'_>,
     slot: usize,
-    report: SlotReport,
+    report: &SlotReport,
     steps: &mut Steps<L>,
-)
+) -> bool
     requires { (writer.old.cell ≡ links.now.report.now) × (last_cycle writer.old.events ≡ last.old.cycle) }
     ensures { (writer.new.cell ≡ links.now.report.now) × (last_cycle writer.new.events ≡ last.new.cycle) }
 {
     if slot >= SLOTS || last.cycle > 100_000 {
-        return;
+        return true;
     }
     last.cycle += 1;
-    last.slots[slot] = report;
+    last.slots[slot] = *report;
     writer.store(links.report, last, steps);
+    true
+}
+
+// What is reported of a slot by a row of few numbers.
+fn report_of(generation: u64, consumed: u64, flush_seen: u32, looks: [u32; 2]) -> SlotReport {
+    let mut report = no_slot();
+    report.generation = generation;
+    report.consumed = consumed;
+    report.flush_seen = flush_seen;
+    [report.fulls, report.empties] = looks;
+    report
 }
 
 impl Others {
-    // What the fast mixer does.
-    fn fast_does<L: Ledger>(&mut self, links: &Links<'_>, step: Step, steps: &mut Steps<L>) -> Told
-        requires { AreOthers links.now self.old.observer self.old.writer self.old.pipe self.old.report self.old.streams.items self.old.commands.items }
-        ensures { AreOthers links.now self.new.observer self.new.writer self.new.pipe self.new.report self.new.streams.items self.new.commands.items }
+    // Whether what the fast mixer does is answered as it must be.
+    fn fast_does<L: Ledger>(&mut self, links: &Links<'_>, row: &Row, steps: &mut Steps<L>) -> bool
+        requires { AreOthers links.now self.old.observer self.old.ends.0 self.old.ends.1 self.old.report self.old.streams.items self.old.commands.items }
+        ensures { AreOthers links.now self.new.observer self.new.ends.0 self.new.ends.1 self.new.report self.new.streams.items self.new.commands.items }
     {
-        match step {
-            Step::Poll if self.observer.number() < 100_000 => Told::Polled {
-                poll: self.observer.poll(links.queue, steps),
-            },
-            Step::Report { slot, report } => {
-                reports_slot(
-                    &mut self.writer,
-                    &mut self.report,
-                    links,
-                    slot,
-                    report,
-                    steps,
-                );
-                Told::Done
+        match row {
+            Row::Polls(number) if self.observer.number() < 100_000 => {
+                let polled = self.observer.poll(links.queue, steps);
+                polled == Poll::New { number: *number }
             }
-            Step::Hear => hears(&mut self.pipe, links, steps),
-            Step::Slot { slot } => slot_of(&self.observer, slot),
-            Step::Play { slot, count } => {
-                plays_slot(&mut self.observer, links, slot, count, steps)
+            Row::Reports(generation, consumed, flush_seen, looks) => {
+                let report = report_of(*generation, *consumed, *flush_seen, *looks);
+                reports_slot(&mut self.ends.0, &mut self.report, links, 1, &report, steps)
             }
-            Step::Command => command_of(&self.observer),
-            _ => Told::Done,
+            Row::ReportsAll(slot, report) => reports_slot(
+                &mut self.ends.0,
+                &mut self.report,
+                links,
+                *slot,
+                report,
+                steps,
+            ),
+            Row::Hears(samples) => hears(&mut self.ends.1, links, samples, steps),
+            Row::HasSlot(slot, carried, track, generation) => {
+                has_slot(&self.observer, *slot, *carried, *track, *generation)
+            }
+            Row::Plays(count, seen, samples) => {
+                plays_slot(&mut self.observer, links, *count, *seen, samples, steps)
+            }
+            Row::IsTold(command, cold) => is_told(&self.observer, *command, *cold),
+            _ => false,
         }
     }
 
-    // Makes a step that is none of the mixer's.
-    fn does<L: Ledger>(&mut self, links: &Links<'_>, step: Step, steps: &mut Steps<L>) -> Told
-        requires { AreOthers links.now self.old.observer self.old.writer self.old.pipe self.old.report self.old.streams.items self.old.commands.items }
-        ensures { AreOthers links.now self.new.observer self.new.writer self.new.pipe self.new.report self.new.streams.items self.new.commands.items }
+    // Whether a step that is none of the mixer's is answered as it must be.
+    fn does<L: Ledger>(&mut self, links: &Links<'_>, row: &Row, steps: &mut Steps<L>) -> bool
+        requires { AreOthers links.now self.old.observer self.old.ends.0 self.old.ends.1 self.old.report self.old.streams.items self.old.commands.items }
+        ensures { AreOthers links.now self.new.observer self.new.ends.0 self.new.ends.1 self.new.report self.new.streams.items self.new.commands.items }
     {
-        match step {
-            Step::Send { track, .. }
-            | Step::Status { track }
-            | Step::FlushCommands { track }
-            | Step::Poke {
-                track,
-                command: true,
-                ..
-            } => track_does(&mut self.commands, links.commands, track, step, steps),
-            Step::Write { track, .. }
-            | Step::Flush { track }
-            | Step::Poke { track, .. }
-            | Step::Clear { track } => {
-                track_does(&mut self.streams, links.streams, track, step, steps)
+        match *row {
+            Row::Sends(track, _, _) | Row::FlushesCommands(track) | Row::Pokes(track, true, _) => {
+                track_does(&mut self.commands, links.commands, track, row, steps)
             }
-            _ => self.fast_does(links, step, steps),
+            Row::Status(_) => track_does(&mut self.commands, links.commands, 0, row, steps),
+            Row::Writes(track, _) | Row::Flushes(track) | Row::Pokes(track, false, _) => {
+                track_does(&mut self.streams, links.streams, track, row, steps)
+            }
+            Row::Clears(_) => track_does(&mut self.streams, links.streams, 0, row, steps),
+            _ => self.fast_does(links, row, steps),
         }
     }
 }
 
 impl World {
-    /// Makes a step.
+    /// Whether a step is answered as it must be.
     pub(crate) fn does<L: Ledger>(
         &mut self,
         links: &Links<'_>,
-        step: Step,
+        row: &Row,
         steps: &mut Steps<L>,
-    ) -> Told
-        requires { IsWorld links.now self.old.mixer self.old.others.observer self.old.others.writer self.old.others.pipe self.old.others.report self.old.others.streams.items self.old.others.commands.items }
-        ensures { IsWorld links.now self.new.mixer self.new.others.observer self.new.others.writer self.new.others.pipe self.new.others.report self.new.others.streams.items self.new.others.commands.items }
+    ) -> bool
+        requires { IsWorld links.now self.old.mixer self.old.others.observer self.old.others.ends.0 self.old.others.ends.1 self.old.others.report self.old.others.streams.items self.old.others.commands.items }
+        ensures { IsWorld links.now self.new.mixer self.new.others.observer self.new.others.ends.0 self.new.others.ends.1 self.new.others.report self.new.others.streams.items self.new.others.commands.items }
     {
-        match step {
-            Step::Turn { track } if self.mixer.turns() < 100_000 => {
+        match *row {
+            Row::Turns(_, _, _) | Row::Mixes(_, _, _) | Row::TurnsOff(_) | Row::Ends => {
                 let turn = self.mixer.turn(links, steps);
-                turned(self.mixer.last(), track, turn)
+                is_turned(self.mixer.last(), turn, row)
             }
-            Step::Entry => Told::Entry {
-                ack: self.mixer.last().ack,
-                room: self.mixer.last().room,
-            },
-            Step::Meet { track } => self.meets(links, track, steps),
-            Step::Disable { track } => {
+            Row::Saw(ack, room) => {
+                let last = self.mixer.last();
+                last.ack == ack && last.room == room
+            }
+            Row::Meets(so) => self.meets(links, 0, steps) == Some(so),
+            Row::Disables(track, so) => {
                 let World { mixer, others } = self;
-                disables(mixer, links, &mut others.streams, track, steps)
+                disables(mixer, links, &mut others.streams, track, steps) == so
             }
-            _ => self.others.does(links, step, steps),
+            Row::EndsMeet => {
+                self.ends_meet(links, steps);
+                true
+            }
+            Row::StaysEnded => stays_ended(&mut self.mixer, links, steps),
+            _ => self.others.does(links, row, steps),
         }
     }
 }

@@ -3,39 +3,12 @@ use crate::shared::numbered;
 use af_io::MemStore;
 use af_offline::{Stop, judge, load_case};
 use std::alloc::Global;
-use std::process::Abort;
-use std::test::Fail;
+use std::mem::drop;
+use std::test::*;
 
 /// One track that plays two frames to their end, with more cycles than it can take.
 const WHOLE: &str =
     "version = 1\nframes = 2\nnormal = 1\ncycles = 2000\n[[track]]\nkind = \"fast\"\nframes = 8\nchannels = 2\nfile = \"in.pcm\"\nops = [\"open\", \"start\", \"write 2\", \"stop\", \"drain\", \"remove\"]\n";
-
-/// What is found in a store, or what stopped it.
-fn verified(alloc: Global, mut store: MemStore) -> Result<String, Stop> {
-    let case = load_case(alloc, &mut store, "one.toml", "out.pcm", "out.txt")?;
-    judge(alloc, &case)
-}
-
-/// The line of what was found.
-fn line_told(alloc: Global, found: Result<String, Stop>) -> Result<String, Fail> {
-    match found {
-        Ok(line) => Ok(line),
-        Err(Stop::Over(ending)) => Ok(format!(in alloc; "{ending}")?),
-        Err(_) => Ok(String::new(alloc)),
-    }
-}
-
-/// Verifies what is in a store.
-fn expect_verdict<R: Abort>(
-    rt: &R,
-    alloc: Global,
-    store: MemStore,
-    line: &str,
-) -> Result<(), Fail> {
-    let told = line_told(alloc, verified(alloc, store))?;
-    assert!(rt; told.as_str() == line, "{line}");
-    Ok(())
-}
 
 /// A journal of a play of that script: up to its first cycle, one quiet cycle of fifteen, what comes before eight more, and what comes behind them.
 const FIRST: &str =
@@ -89,21 +62,20 @@ const LATE_SESSION: Session<'static> = (LATE, 4, 128, 256);
 /// So many bytes of a journal, from a place on, replaced by a text, and what is found then.
 type Damage<'a> = (usize, usize, &'a str, &'a str);
 
-/// Adds a text so many times.
-fn add(text: &mut Vec<u8>, part: &str, times: usize) -> Result<(), Fail> {
+/// Adds a text so many times, or as often as there is memory for.
+fn add(text: &mut Vec<u8>, part: &str, times: usize) {
     for _ in 0..times {
-        text.extend_from_slice(part.as_bytes())?;
+        let _added = text.extend_from_slice(part.as_bytes());
     }
-    Ok(())
 }
 
 /// A text of parts, each so many times.
-fn text_of(alloc: Global, parts: &[(&str, usize)]) -> Result<Vec<u8>, Fail> {
+fn text_of(alloc: Global, parts: &[(&str, usize)]) -> Vec<u8> {
     let mut text = Vec::new(alloc);
     for (part, times) in parts {
-        add(&mut text, part, *times)?;
+        add(&mut text, part, *times);
     }
-    Ok(text)
+    text
 }
 
 /// The parts of the journal.
@@ -127,67 +99,105 @@ const LATE_PARTS: &[(&str, usize)] = &[
     (LEFT, 1),
 ];
 
-/// A text in which bytes are replaced.
-fn damaged(
-    alloc: Global,
-    whole: &[u8],
-    (place, length, new, _): Damage<'_>,
-) -> Result<Vec<u8>, Fail> {
+/// A text in which so many bytes from a place on are replaced.
+fn damaged(alloc: Global, whole: &[u8], place: usize, length: usize, new: &str) -> Vec<u8> {
     let mut text = Vec::new(alloc);
-    for (at, byte) in whole.iter().enumerate() {
-        if at == place {
-            add(&mut text, new, 1)?;
-        }
-        if at < place || at - place >= length {
-            text.push(*byte)?;
-        }
-    }
-    Ok(text)
+    let behind = place.saturating_add(length);
+    let _front = text.extend_from_slice(whole.get(..place).unwrap_or(&[]));
+    let _new = text.extend_from_slice(new.as_bytes());
+    let _rest = text.extend_from_slice(whole.get(behind..).unwrap_or(&[]));
+    text
 }
 
 /// The sound of a session: its frames, and before and behind them silence.
-fn sound_of(alloc: Global, (_, length, before, bytes): Session<'_>) -> Result<Vec<u8>, Fail> {
-    let frames = numbered(alloc, length)?;
+fn sound_of(alloc: Global, (_, length, before, bytes): Session<'_>) -> Vec<u8> {
+    let frames = numbered(alloc, length);
     let mut sound = Vec::new(alloc);
-    add(&mut sound, "\0", before)?;
-    sound.extend_from_slice(&frames)?;
-    let made = sound.len();
-    for _ in made..bytes {
-        sound.push(0)?;
-    }
-    Ok(sound)
+    add(&mut sound, "\0", before);
+    let _frames = sound.extend_from_slice(&frames);
+    drop(frames);
+    let rest = bytes.saturating_sub(sound.len());
+    add(&mut sound, "\0", rest);
+    sound
 }
 
-/// A store with a session, its sound and a journal.
-fn judged(alloc: Global, session: Session<'_>, journal: &[u8]) -> Result<MemStore, Fail> {
-    let sound = sound_of(alloc, session)?;
-    let file = numbered(alloc, session.1)?;
+/// Puts a session, its sound and a journal: whether there was memory.
+fn put(alloc: Global, store: &mut MemStore, session: Session<'_>, journal: &[u8]) -> bool {
+    let sound = sound_of(alloc, session);
+    let file = numbered(alloc, session.1);
+    let so = store.put("one.toml", session.0.as_bytes()).is_ok()
+        && store.put("in.pcm", &file).is_ok()
+        && store.put("out.pcm", &sound).is_ok()
+        && store.put("out.txt", journal).is_ok();
+    drop(sound);
+    drop(file);
+    so
+}
+
+/// What is found in a store, or what stopped it.
+fn verified(alloc: Global, store: &mut MemStore) -> Result<String, Stop> {
+    let case = load_case(alloc, store, "one.toml", "out.pcm", "out.txt")?;
+    let found = judge(alloc, &case);
+    drop(case);
+    found
+}
+
+/// The line of what was found, if there is memory.
+fn line_told(alloc: Global, found: Result<String, Stop>) -> String {
+    match found {
+        Ok(line) => line,
+        Err(Stop::Over(ending)) => { format!(in alloc; "{ending}").unwrap_or(String::new(alloc)) }
+        Err(_) => String::new(alloc),
+    }
+}
+
+/// Whether a line says that a journal is legal, or that it is refused for this.
+fn says(line: &str, found: &str) -> bool {
+    if found == "legal" {
+        return line == "legal\n";
+    }
+    match line.strip_prefix("refused: ") {
+        Some(rest) => rest.strip_suffix("\n") == Some(found),
+        None => false,
+    }
+}
+
+/// Whether this is found in a store.
+fn is_told(alloc: Global, store: &mut MemStore, found: &str) -> bool {
+    let line = line_told(alloc, verified(alloc, store));
+    let so = says(line.as_str(), found);
+    drop(line);
+    so
+}
+
+/// Whether this is found of a session with a journal.
+fn is_found(alloc: Global, session: Session<'_>, journal: &[u8], found: &str) -> bool {
     let mut store = MemStore::new(alloc, Vec::new(alloc));
-    store.put("one.toml", session.0.as_bytes())?;
-    store.put("in.pcm", &file)?;
-    store.put("out.pcm", &sound)?;
-    store.put("out.txt", journal)?;
-    Ok(store)
+    let so = put(alloc, &mut store, session, journal) && is_told(alloc, &mut store, found);
+    drop(store);
+    so
 }
 
-/// A sound and a journal, with what is found.
-const SOUNDS: &[(Session<'static>, &[(&str, usize)], &str)] = &[
-    (HEARD_SESSION, WHOLE_PARTS, "legal\n"),
-    ((WHOLE, 8, 0, 193), WHOLE_PARTS, "refused: pcm 192\n"),
-    (UNHEARD_SESSION, SILENT_PARTS, "legal\n"),
-    ((EMPTY, 0, 0, 129), SILENT_PARTS, "refused: pcm 128\n"),
-];
-
-/// The journals are legal, and with one byte more a sound is refused at its end.
-#[test]
-fn journals_are_legal(rt: HostRuntime) -> Result<(), Fail> {
-    let alloc = rt.alloc();
-    for (session, parts, line) in SOUNDS {
-        let journal = text_of(alloc, parts)?;
-        let store = judged(alloc, *session, &journal)?;
-        expect_verdict(&rt, alloc, store, line)?;
+/// How many damages of a session's journal are found as they must be, up to one that isn't.
+fn count_found(
+    alloc: Global,
+    session: Session<'_>,
+    parts: &[(&str, usize)],
+    damages: &[Damage<'_>],
+) -> usize {
+    let mut count: usize = 0;
+    let whole = text_of(alloc, parts);
+    for (place, length, new, found) in damages {
+        let journal = damaged(alloc, &whole, *place, *length, new);
+        let so = is_found(alloc, session, &journal, found);
+        drop(journal);
+        if !so {
+            break;
+        }
+        count = count.saturating_add(1);
     }
-    Ok(())
+    drop(whole);
+    count
 }
 
 /// Each kind of line damaged, one left out, and cuts before each round and behind the last; and what a damage that no reader can see leaves: a legal journal.
@@ -250,54 +260,49 @@ const REPORTS: &[Damage<'static>] = &[
     (1389, 8, "a 1 775\n", "round 2 party 2"),
 ];
 
-/// The line of a verdict.
-fn line_of(alloc: Global, found: &str) -> Result<String, Fail> {
-    if found == "legal" {
-        return Ok(String::from_str(alloc, "legal\n")?);
+/// A journal as it is, which is legal.
+const LEGAL: &[Damage<'static>] = &[(0, 0, "", "legal")];
+
+/// A journal as it is, with a byte of sound too much.
+const HEARD_LONGER: &[Damage<'static>] = &[(0, 0, "", "pcm 192")];
+
+const UNHEARD_LONGER: &[Damage<'static>] = &[(0, 0, "", "pcm 128")];
+
+/// What is found of a journal with each of some damages.
+type Case<'a> = (Session<'a>, &'a [Damage<'a>]);
+
+/// The journal is legal, with one byte more its sound is refused at its end, and so is each damage.
+const HEARD: &[Case<'static>] = &[
+    (HEARD_SESSION, LEGAL),
+    ((WHOLE, 8, 0, 193), HEARD_LONGER),
+    (HEARD_SESSION, DAMAGES),
+];
+
+/// The same of the other journal.
+const UNHEARD: &[Case<'static>] = &[
+    (UNHEARD_SESSION, LEGAL),
+    ((EMPTY, 0, 0, 129), UNHEARD_LONGER),
+    (UNHEARD_SESSION, CUTS),
+];
+
+#[test]
+fn damaged_journals(rt: HostRuntime) {
+    for (session, damages) in HEARD {
+        let found = count_found(rt.alloc(), *session, WHOLE_PARTS, damages);
+        assert!(rt; found == damages.len(), "{found}");
     }
-    Ok(format!(in alloc; "refused: {found}\n")?)
 }
 
-/// What is found in a session's journal with a damage.
-fn expect_damage<R: Abort>(
-    rt: &R,
-    alloc: Global,
-    session: Session<'_>,
-    whole: &[u8],
-    damage: Damage<'_>,
-) -> Result<(), Fail> {
-    let line = line_of(alloc, damage.3)?;
-    let text = damaged(alloc, whole, damage)?;
-    let store = judged(alloc, session, &text)?;
-    expect_verdict(rt, alloc, store, line.as_str())
-}
-
-/// What is found in a session's journal with each of some damages.
-fn expect_found<R: Abort>(
-    rt: &R,
-    alloc: Global,
-    session: Session<'_>,
-    parts: &[(&str, usize)],
-    damages: &[Damage<'_>],
-) -> Result<(), Fail> {
-    let whole = text_of(alloc, parts)?;
-    for damage in damages {
-        expect_damage(rt, alloc, session, &whole, *damage)?;
+#[test]
+fn silent_journals_that_are_cut(rt: HostRuntime) {
+    for (session, damages) in UNHEARD {
+        let found = count_found(rt.alloc(), *session, SILENT_PARTS, damages);
+        assert!(rt; found == damages.len(), "{found}");
     }
-    Ok(())
 }
 
 #[test]
-fn damaged_journals(rt: HostRuntime) -> Result<(), Fail> {
-    expect_found(&rt, rt.alloc(), HEARD_SESSION, WHOLE_PARTS, DAMAGES)
-}
-
-#[test]
-fn silent_journals_that_are_cut(rt: HostRuntime) -> Result<(), Fail> {
-    expect_found(&rt, rt.alloc(), UNHEARD_SESSION, SILENT_PARTS, CUTS)
-}
-
-#[test]
-fn reports_of_a_later_track(rt: HostRuntime) -> Result<(), Fail> {
-    expect_found(&rt, rt.alloc(), LATE_SESSION, LATE_PARTS, REPORTS)
+fn reports_of_a_later_track(rt: HostRuntime) {
+    let found = count_found(rt.alloc(), LATE_SESSION, LATE_PARTS, REPORTS);
+    assert!(rt; found == REPORTS.len(), "{found}");
 }

@@ -7,52 +7,51 @@ use af_offline::{Output, loop_output, record_output};
 use af_words::{Request, request_of};
 use std::alloc::Global;
 use std::collections::VecDeque;
-use std::process::Abort;
-use std::test::Fail;
+use std::mem::drop;
+use std::test::*;
 
 /// Up to so many frames of a queue are read.
-fn read_plain(queue: &mut VecDeque<u8>, count: usize, bytes: &mut Vec<u8>) -> Result<(), Fail> {
+fn read_plain(queue: &mut VecDeque<u8>, count: usize, bytes: &mut Vec<u8>) {
     for _ in 0..count {
         if let Some(number) = queue.pop_front() {
-            bytes.extend_from_slice(&[number, 0, number, 0])?;
+            let _added = bytes.extend_from_slice(&[number, 0, number, 0]);
         }
     }
-    Ok(())
 }
 
 /// What a recording of so many numbered frames reads, frame by frame.
-fn plain_record(alloc: Global, count: u8, sizes: (usize, usize, usize)) -> Result<Vec<u8>, Fail> {
+fn plain_record(alloc: Global, count: u8, sizes: (usize, usize, usize)) -> Vec<u8> {
     let (room, supply, read) = sizes;
     let mut queue = VecDeque::new(alloc);
     let mut bytes = Vec::new(alloc);
     for number in 1..=count {
         if queue.len() < room {
-            queue.push_back(number)?;
+            let _supplied = queue.push_back(number);
         }
         if usize::from(number) % supply.max(1) == 0 || number == count {
-            read_plain(&mut queue, read, &mut bytes)?;
+            read_plain(&mut queue, read, &mut bytes);
         }
     }
-    read_plain(&mut queue, room, &mut bytes)?;
-    Ok(bytes)
+    read_plain(&mut queue, room, &mut bytes);
+    drop(queue);
+    bytes
 }
 
-/// What calls of a loop play of so many numbered frames, frame by frame, and how many frames are taken.
+/// What calls of a loop play of so many numbered frames add to bytes, frame by frame: how many frames are taken.
 fn plain_loop(
-    alloc: Global,
+    bytes: &mut Vec<u8>,
     size: u32,
     (places, calls): (u32, u32),
     (start, end, count): (u32, u32, u32),
-) -> Result<(Vec<u8>, u32), Fail> {
+) -> u32 {
     let (mut position, mut left, mut filled) = (start, count, 0u32);
-    let mut bytes = Vec::new(alloc);
     for _ in 0..places.saturating_mul(calls) {
         if position >= size {
-            bytes.extend_from_slice(&[0; 4])?;
+            let _silence = bytes.extend_from_slice(&[0; 4]);
             continue;
         }
         let number = (position % 255) as u8 + 1;
-        bytes.extend_from_slice(&[number, 0, number, 0])?;
+        let _frame = bytes.extend_from_slice(&[number, 0, number, 0]);
         filled = filled.saturating_add(1);
         position += 1;
         if left > 0 && position == end {
@@ -60,49 +59,78 @@ fn plain_loop(
             left -= u32::from(left < u32::MAX);
         }
     }
-    Ok((bytes, filled))
+    filled
 }
 
 /// What is made of a file by a request, None if it asks for another command or memory ran out.
-fn output_of(alloc: Global, mut store: MemStore, request: Request<'_>) -> Option<Output>
+fn output_of(alloc: Global, store: &mut MemStore, request: Request<'_>) -> Option<Output>
     requires { IsSound request }
 {
     match request {
-        Request::Record { input, sizes, .. } => {
-            record_output(alloc, &mut store, input, sizes).ok()
-        }
-        Request::Loop { input, turns, .. } => loop_output(alloc, &mut store, input, turns).ok(),
+        Request::Record { input, sizes, .. } => record_output(alloc, store, input, sizes).ok(),
+        Request::Loop { input, turns, .. } => loop_output(alloc, store, input, turns).ok(),
         _ => None,
     }
 }
 
-/// What the words of a recording or a loop make of a file of so many bytes.
-fn output_over(alloc: Global, words: &str, length: usize) -> Result<Output, Fail> {
-    let file = numbered(alloc, length)?;
-    let words = words_of(alloc, words)?;
-    let request = request_of(alloc, &words)?.ok_or("no words")?;
-    let mut store = MemStore::new(alloc, Vec::new(alloc));
-    store.put("in.pcm", &file)?;
-    Ok(output_of(alloc, store, request).ok_or("no output")?)
+/// What words make of a file, None if they ask for another command or memory ran out.
+fn made(alloc: Global, store: &mut MemStore, words: &[String]) -> Option<Output> {
+    match request_of(alloc, words) {
+        Ok(Some(request)) => output_of(alloc, store, request),
+        _ => None,
+    }
 }
 
-/// Words over a file of so many bytes, the line, and the bytes that are made.
-fn expect_over<R: Abort>(
-    rt: &R,
-    alloc: Global,
-    words: &str,
-    length: usize,
-    line: &str,
-    bytes: &[u8],
-) -> Result<(), Fail> {
-    let output = output_over(alloc, words, length)?;
-    assert!(rt; output.line.as_str() == line, "{words}");
-    assert!(rt; output.bytes.as_slice() == bytes, "{words}");
-    Ok(())
+/// Whether this line and these bytes were made.
+fn is_made(output: Option<Output>, line: &str, bytes: &[u8]) -> Option<bool> {
+    let output = output?;
+    let so = output.line.as_str() == line && output.bytes.as_slice() == bytes;
+    drop(output);
+    Some(so)
+}
+
+/// Whether words over a file of so many bytes make this line and these bytes.
+fn makes(alloc: Global, words: &str, length: usize, line: &str, bytes: &[u8]) -> bool {
+    let words = words_of(alloc, words);
+    let file = numbered(alloc, length);
+    let mut store = MemStore::new(alloc, Vec::new(alloc));
+    let so = store.put("in.pcm", &file).is_ok()
+        && is_made(made(alloc, &mut store, &words), line, bytes) == Some(true);
+    drop(words);
+    drop(file);
+    drop(store);
+    so
+}
+
+// Adds a number in digits, or as many of them as there is memory for.
+fn add_number(text: &mut String, number: u32) {
+    let mut place: u32 = 1_000_000_000;
+    for _ in 0..10 {
+        if number >= place || place == 1 {
+            let digit = (number / place.max(1) % 10) as u8;
+            let _added = text.push(char::from(b'0' + digit));
+        }
+        place = place / 10;
+    }
+}
+
+/// A form in which `#` stands for the next of some numbers, or as much of it as there is memory for.
+fn filled(alloc: Global, form: &str, numbers: &[u32]) -> String {
+    let mut text = String::new(alloc);
+    let mut next: usize = 0;
+    for letter in form.chars() {
+        if letter == '#' {
+            add_number(&mut text, numbers.get(next).copied().unwrap_or(0));
+            next = next.saturating_add(1);
+        } else {
+            let _added = text.push(letter);
+        }
+    }
+    text
 }
 
 /// A recording: how many frames there are, the room of the block, and the sizes of a supply and of a read.
-type Recording = (u8, usize, usize, usize);
+type Recording = (u8, u32, u32, u32);
 
 /// No frame, one, a supply that ends early, odd and equal sizes, sizes larger than the file.
 const RECORDINGS: &[Recording] = &[
@@ -119,33 +147,31 @@ const RECORDINGS: &[Recording] = &[
     (40, 8192, 1024, 1024),
 ];
 
-/// The words of a recording.
-fn recording_words(alloc: Global, (_, room, supply, read): Recording) -> Result<String, Fail> {
-    Ok(format!(in alloc; "record in.pcm out.pcm {room} {supply} {read}")?)
-}
-
-/// The line of a recording of which so many frames are heard.
-fn recording_line(alloc: Global, count: u8, heard: usize) -> Result<String, Fail> {
-    let lost = usize::from(count).saturating_sub(heard);
-    Ok(format!(in alloc; "supplied {count} read {heard} lost {lost}\n")?)
-}
-
-/// A recording beside the plain one.
-fn expect_recording<R: Abort>(rt: &R, alloc: Global, recording: Recording) -> Result<(), Fail> {
-    let (count, room, supply, read) = recording;
-    let want = plain_record(alloc, count, (room, supply, read))?;
-    let line = recording_line(alloc, count, want.len() / 4)?;
-    let words = recording_words(alloc, recording)?;
+/// Whether a recording is as the plain one.
+fn is_recorded(alloc: Global, (count, room, supply, read): Recording) -> bool {
+    let want = plain_record(
+        alloc,
+        count,
+        (room as usize, supply as usize, read as usize),
+    );
+    let heard = u32::try_from(want.len() / 4).unwrap_or(0);
+    let lost = u32::from(count).saturating_sub(heard);
+    let words = filled(alloc, "record in.pcm out.pcm # # #", &[room, supply, read]);
+    let told = [u32::from(count), heard, lost];
+    let line = filled(alloc, "supplied # read # lost #\n", &told);
     let length = 4 * usize::from(count);
-    expect_over(rt, alloc, words.as_str(), length, line.as_str(), &want)
+    let so = makes(alloc, words.as_str(), length, line.as_str(), &want);
+    drop(want);
+    drop(words);
+    drop(line);
+    so
 }
 
 #[test]
-fn recordings_are_as_the_plain_one(rt: HostRuntime) -> Result<(), Fail> {
-    for recording in RECORDINGS {
-        expect_recording(&rt, rt.alloc(), *recording)?;
+fn recordings_are_as_the_plain_one(rt: HostRuntime) {
+    for (number, recording) in RECORDINGS.iter().enumerate() {
+        assert!(rt; is_recorded(rt.alloc(), *recording), "{number}");
     }
-    Ok(())
 }
 
 /// A loop of 20 frames: the frames of a call, the calls, the start, the end and the count, and whether its places fit the buffer.
@@ -170,32 +196,26 @@ const LOOPS: &[Loop] = &[
     (5, 3, u32::MAX, u32::MAX, u32::MAX, false),
 ];
 
-/// The words of a loop.
-fn loop_words(alloc: Global, played: Loop) -> Result<String, Fail> {
-    let (places, calls, start, end, count, _) = played;
-    Ok(format!(in alloc; "loop in.pcm out.pcm {places} {calls} {start} {end} {count}")?)
-}
-
-/// The line of a loop of which so many frames are taken.
-fn loop_line(alloc: Global, calls: u32, filled: u32, fits: bool) -> Result<String, Fail> {
-    let shut = u32::from(!fits);
-    Ok(format!(in alloc; "cycles {calls} filled {filled} shut {shut}\n")?)
-}
-
-/// A loop beside the plain one.
-fn expect_loop<R: Abort>(rt: &R, alloc: Global, played: Loop) -> Result<(), Fail> {
-    let (places, calls, start, end, count, fits) = played;
+/// Whether a loop is as the plain one.
+fn is_looped(alloc: Global, played: &Loop) -> bool {
+    let (places, calls, start, end, count, fits) = *played;
     let size = if fits { 20 } else { 0 };
-    let (want, filled) = plain_loop(alloc, size, (places, calls), (start, end, count))?;
-    let line = loop_line(alloc, calls, filled, fits)?;
-    let words = loop_words(alloc, played)?;
-    expect_over(rt, alloc, words.as_str(), 80, line.as_str(), &want)
+    let mut want = Vec::new(alloc);
+    let taken = plain_loop(&mut want, size, (places, calls), (start, end, count));
+    let numbers = [places, calls, start, end, count];
+    let words = filled(alloc, "loop in.pcm out.pcm # # # # #", &numbers);
+    let told = [calls, taken, u32::from(!fits)];
+    let line = filled(alloc, "cycles # filled # shut #\n", &told);
+    let so = makes(alloc, words.as_str(), 80, line.as_str(), &want);
+    drop(want);
+    drop(words);
+    drop(line);
+    so
 }
 
 #[test]
-fn loops_are_as_the_plain_one(rt: HostRuntime) -> Result<(), Fail> {
-    for played in LOOPS {
-        expect_loop(&rt, rt.alloc(), *played)?;
+fn loops_are_as_the_plain_one(rt: HostRuntime) {
+    for (number, played) in LOOPS.iter().enumerate() {
+        assert!(rt; is_looped(rt.alloc(), played), "{number}");
     }
-    Ok(())
 }

@@ -1,0 +1,7 @@
+use Rattle.af_normal_tests.specs.Testing.{IsWorld}
+use Rattle.af_normal_tests.proofs.table_tests.play_rows.Given as goal
+
+abbrev pub invariant-loop-row : goal.invariant-loop-row
+invariant-loop-row g l =
+    let o = l.world.others in
+    IsWorld l.links l.world.mixer o.observer o.ends.0 o.ends.1 o.report o.streams.items o.commands.items
