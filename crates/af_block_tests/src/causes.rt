@@ -28,63 +28,50 @@ pub(crate) fn note<E: Copy>(list: &mut Vec<E>, events: &[E]) -> bool {
 
 // ## The client
 
-// Flags without INVALID, and this front, were seen, and so many frames released.
-fn note_open(list: &mut Vec<ClientEvent>, front: u32, count: u32) -> bool {
-    let saw = ClientEvent::SawFlags { flags: 0 };
-    let released = [
-        saw,
-        ClientEvent::SawFront { front },
-        ClientEvent::Release { count },
-    ];
-    let shown = if count == 0 { 2 } else { 3 };
-    note(list, &released[..shown])
+// Up to three events.
+type ClientEvents = ([ClientEvent; 3], usize);
+
+fn no_event() -> ClientEvents {
+    ([ClientEvent::Flush; 3], 0)
 }
 
-fn note_dead(list: &mut Vec<ClientEvent>, flags: u32) -> bool {
-    note(list, &[ClientEvent::SawFlags { flags }])
+fn one_event(event: ClientEvent) -> ClientEvents {
+    ([event; 3], 1)
+}
+
+// Flags without INVALID, and this front, were seen, and so many frames released.
+fn open_events(front: u32, count: u32) -> ClientEvents {
+    let saw = ClientEvent::SawFlags { flags: 0 };
+    let released = ClientEvent::Release { count };
+    let shown = if count == 0 { 2 } else { 3 };
+    ([saw, ClientEvent::SawFront { front }, released], shown)
 }
 
 // A proxy that was shut before steps no more.
-fn note_corrupt(list: &mut Vec<ClientEvent>, kept: &Kept, front: u32) -> bool {
+fn corrupt_events(kept: &Kept, front: u32) -> ClientEvents {
     match kept.shut {
-        None => note_open(list, front, 0),
-        Some(_) => true,
+        None => open_events(front, 0),
+        Some(_) => no_event(),
     }
 }
 
-fn note_wrote(list: &mut Vec<ClientEvent>, kept: &Kept, wrote: &Wrote) -> bool {
-    match *wrote {
-        Wrote::Put { front, count, .. } => note_open(list, front, count),
-        Wrote::Full { front } => note_open(list, front, 0),
-        Wrote::Dead { flags } => note_dead(list, flags),
-        Wrote::Corrupt { front, .. } => note_corrupt(list, kept, front),
-    }
-}
-
-fn note_sent(list: &mut Vec<ClientEvent>, kept: &Kept, sent: &Sent) -> bool {
-    match *sent {
-        Sent::Sent { front } => note_open(list, front, 2),
-        Sent::Full { front } => note_open(list, front, 0),
-        Sent::Dead { flags } => note_dead(list, flags),
-        Sent::Corrupt { front, .. } => note_corrupt(list, kept, front),
-    }
-}
-
-// A call that answers a word.
-fn note_word(list: &mut Vec<ClientEvent>, call: &Call, word: u32) -> bool {
-    match *call {
-        Call::Flush => note(list, &[ClientEvent::Flush]),
-        Call::Clear => note(list, &[ClientEvent::ClearFlags { old: word }]),
-        _ => note(list, &[ClientEvent::SawStatus { word }]),
-    }
-}
-
-// A call that answers nothing.
-fn note_stored(list: &mut Vec<ClientEvent>, call: &Call) -> bool {
-    match *call {
-        Call::Gains(word) => note(list, &[ClientEvent::SetGain { word }]),
-        Call::Poke(word, value) => note(list, &[ClientEvent::Poke { word, value }]),
-        _ => true,
+// What a client's call saw and did.
+fn client_events(kept: &Kept, call: &Call, answer: &Answer) -> ClientEvents {
+    match (*call, *answer) {
+        (_, Answer::Wrote(Wrote::Put { front, count, .. })) => open_events(front, count),
+        (_, Answer::Wrote(Wrote::Full { front })) => open_events(front, 0),
+        (_, Answer::Wrote(Wrote::Dead { flags })) => one_event(ClientEvent::SawFlags { flags }),
+        (_, Answer::Wrote(Wrote::Corrupt { front, .. })) => corrupt_events(kept, front),
+        (_, Answer::Sent(Sent::Sent { front })) => open_events(front, 2),
+        (_, Answer::Sent(Sent::Full { front })) => open_events(front, 0),
+        (_, Answer::Sent(Sent::Dead { flags })) => one_event(ClientEvent::SawFlags { flags }),
+        (_, Answer::Sent(Sent::Corrupt { front, .. })) => corrupt_events(kept, front),
+        (Call::Flush, Answer::Word(_)) => one_event(ClientEvent::Flush),
+        (Call::Clear, Answer::Word(old)) => one_event(ClientEvent::ClearFlags { old }),
+        (_, Answer::Word(word)) => one_event(ClientEvent::SawStatus { word }),
+        (Call::Gains(word), Answer::Done) => one_event(ClientEvent::SetGain { word }),
+        (Call::Poke(word, value), Answer::Done) => one_event(ClientEvent::Poke { word, value }),
+        _ => no_event(),
     }
 }
 
@@ -95,13 +82,8 @@ pub(crate) fn note_client(
     call: &Call,
     answer: &Answer,
 ) -> bool {
-    match *answer {
-        Answer::Wrote(wrote) => note_wrote(list, kept, &wrote),
-        Answer::Sent(sent) => note_sent(list, kept, &sent),
-        Answer::Word(word) => note_word(list, call, word),
-        Answer::Done => note_stored(list, call),
-        _ => true,
-    }
+    let (events, count) = client_events(kept, call, answer);
+    note(list, &events[..count.min(3)])
 }
 
 // The words are those that shut the proxy before, or this call saw them outside the room.
@@ -179,50 +161,49 @@ pub(crate) fn client_has_cause(kept: &Kept, call: &Call, answer: &Answer) -> boo
 
 // ## The server
 
-// Adds what a look saw, and a drop or a take. Front is the server's own position, unless the client poked: then only the words of the answer are known.
-fn note_look(list: &mut Vec<ServerEvent>, kept: &Kept, look: &Look) -> bool {
+// Up to four events.
+type ServerEvents = ([ServerEvent; 4], usize);
+
+fn events_of(first: ServerEvent, second: ServerEvent, count: usize) -> ServerEvents {
+    ([first, second, first, first], count)
+}
+
+// What a look saw, and a drop or a take. Front is the server's own position, unless the client poked: then only the words of the answer are known.
+fn look_events(kept: &Kept, look: &Look, takes: bool) -> ServerEvents {
     let Look { flush, rear, seen } = *look;
     let front = match seen {
         Seen::Shut { front, .. } => front,
         Seen::Flushed { dropped } if kept.wrap == 0 => rear.wrapping_sub(dropped),
         _ => kept.position,
     };
-    if kept.shut != None {
-        return true;
-    }
+    let (last, count) = match seen {
+        Seen::Flushed { dropped } => {
+            let to = front.wrapping_add(dropped);
+            (ServerEvent::Drop { to }, 4)
+        }
+        Seen::Frames { count } if takes => (ServerEvent::Take { count }, 4),
+        _ => (ServerEvent::SawFront { front }, 3),
+    };
     let saw = [
         ServerEvent::SawFlush { flush },
         ServerEvent::SawRear { rear },
         ServerEvent::SawFront { front },
+        last,
     ];
-    let noted = note(list, &saw);
-    match seen {
-        Seen::Flushed { dropped } => {
-            let to = front.wrapping_add(dropped);
-            noted && note(list, &[ServerEvent::Drop { to }])
-        }
-        _ => noted,
-    }
+    (saw, if kept.shut == None { count } else { 0 })
 }
 
-fn note_take(list: &mut Vec<ServerEvent>, kept: &Kept, look: &Look) -> bool {
-    let noted = note_look(list, kept, look);
-    match look.seen {
-        Seen::Frames { count } => noted && note(list, &[ServerEvent::Take { count }]),
-        _ => noted,
-    }
-}
-
-// A call that answers nothing.
-fn note_set(list: &mut Vec<ServerEvent>, call: &Call) -> bool {
-    match *call {
-        Call::Tally(missing) => {
-            let set = ServerEvent::SetFlags { bits: 1 };
-            note(list, &[ServerEvent::Tally { missing }, set])
-        }
-        Call::SetFlags(bits) => note(list, &[ServerEvent::SetFlags { bits }]),
-        Call::SetStatus(word) => note(list, &[ServerEvent::SetStatus { word }]),
-        _ => true,
+// What a server's call saw and did.
+fn server_events(kept: &Kept, call: &Call, answer: &Answer) -> ServerEvents {
+    let set = ServerEvent::SetFlags { bits: 1 };
+    match (*call, *answer) {
+        (_, Answer::Saw(look)) => look_events(kept, &look, false),
+        (_, Answer::Took(look, _)) => look_events(kept, &look, true),
+        (_, Answer::Word(word)) => events_of(ServerEvent::SawGain { word }, set, 1),
+        (Call::Tally(missing), Answer::Done) => events_of(ServerEvent::Tally { missing }, set, 2),
+        (Call::SetFlags(bits), Answer::Done) => events_of(ServerEvent::SetFlags { bits }, set, 1),
+        (Call::SetStatus(word), Answer::Done) => events_of(ServerEvent::SetStatus { word }, set, 1),
+        _ => events_of(set, set, 0),
     }
 }
 
@@ -233,13 +214,8 @@ pub(crate) fn note_server(
     call: &Call,
     answer: &Answer,
 ) -> bool {
-    match *answer {
-        Answer::Saw(look) => note_look(list, kept, &look),
-        Answer::Took(look, _) => note_take(list, kept, &look),
-        Answer::Word(word) => note(list, &[ServerEvent::SawGain { word }]),
-        Answer::Done => note_set(list, call),
-        _ => true,
-    }
+    let (events, count) = server_events(kept, call, answer);
+    note(list, &events[..count.min(4)])
 }
 
 // How many flushes a flush word counts.
