@@ -7,11 +7,11 @@ use Rattle.af_base.specs.declared.frame.Frame.{Frame}
 use Rattle.af_life.specs.Kept.{is_home, track_at}
 use Rattle.af_model.specs.declared.shape.Shape.{Shape}
 use Rattle.af_model.specs.Journals.{JournalData, RoundSeen}
-use Rattle.af_model.specs.Spans.{Span, mixed_by, spans_of, waiting_at, mixed_in}
+use Rattle.af_model.specs.Spans.{Span, mixed_by, spans_of, queued}
 use Rattle.af_model.specs.History.{point}
 use Rattle.af_model.proofs.Discards.{discards-before}
 use Rattle.af_model.proofs.Logic.{both_left}
-use Rattle.af_model.proofs.OneFate.{one_fate, taken-mixed}
+use Rattle.af_model.proofs.OneFate.{one_fate, taken-mixed, mixed_in}
 use Rattle.af_runs.specs.Blocks.{BlockTold, HasBlockHistory, new_block}
 use Rattle.af_runs.specs.LegalRuns.{IsLegalRun, is_lawful_block, is_poke_on, marks_of, run_of, session_of}
 use Rattle.af_runs.specs.Runs.{Run, TrackTold, all_ended, calls_in, fast_ended, new_run, new_track, no_track, normal_party, told_at}
@@ -62,7 +62,7 @@ normal_ended s run all =
 -- ## The fates of a block
 
 -- what waits adds nothing to the frames mixed
-mixed_waiting : (released : List ℕ) (base : ℕ) (spans : List Span) (b : BlockTold) (h : HasBlockHistory b) → mixed_by released base (spans ++ waiting_at (point h) ∷ []) ≡ mixed_by released base spans
+mixed_waiting : (released : List ℕ) (base : ℕ) (spans : List Span) (b : BlockTold) (h : HasBlockHistory b) → mixed_by released base (spans ++ (record { fate = queued; from = (point h).consumed; to = (point h).released }) ∷ []) ≡ mixed_by released base spans
 mixed_waiting released base [] b h = refl
 mixed_waiting released base (x ∷ spans) b h = ap (λ l. mixed_in released base x ++ l) (mixed_waiting released base spans b h)
 

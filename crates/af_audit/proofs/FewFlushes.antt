@@ -13,7 +13,7 @@ use Rattle.af_runs.specs.declared.want.ClientCommand.TheVariants as command
 use Rattle.af_runs.specs.declared.want.Mode.{Mode}
 use Rattle.af_runs.specs.declared.want.Want.{Want}
 use Rattle.af_runs.specs.declared.want.Want.TheVariants as want
-use Rattle.af_runs.specs.Clients.{Client, after_answer, after_clear, after_put, after_send, after_sent, after_status, after_write, at_next_turn, begins, begun, ends, goes_on, is_active, is_last, is_stoppable, is_stopped, mode_after, more, only, rest_of, rested, settled_in, state_in, waits, wants_of}
+use Rattle.af_runs.specs.Clients.{Client, after_answer, after_clear, after_put, after_send, after_sent, after_status, after_write, at_next_turn, begins, begun, ends, goes_on, is_active, is_last, is_stoppable, is_stopped, mode_after, more, rest_of, rested, settled_in, state_in, waits, wants_of}
 use Rattle.af_runs.specs.ClientTurns.{AreCalls, IsMade, IsWanted, LegalClientTurn, Track, after_call, after_calls, answered, called, commands_sent, is_flush, is_of_commands, most_calls, released_by, wanted_of, with_call}
 use Rattle.af_judge.proofs.WantedNext.{first_due}
 use Rattle.af_audit.proofs.Booleans.{no}
@@ -34,7 +34,7 @@ flushes_due (w ∷ wants) = asks_flush w + flushes_due wants
 abbrev pub flushes_left : Client → ℕ
 flushes_left c = flushes_due c.due + length c.ops
 
-only_few : (b : Bool) (wants : List Want) → flushes_due wants ≤ 1 → flushes_due (only b wants) ≤ 1
+only_few : (b : Bool) (wants : List Want) → flushes_due wants ≤ 1 → flushes_due (if b then wants else []) ≤ 1
 only_few true wants h = h
 only_few false wants h = omega arith
 

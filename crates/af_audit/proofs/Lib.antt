@@ -84,3 +84,4 @@ pub mod CommandRounds
 pub mod SettledRounds
 pub mod DrainedTold
 pub mod SettledTold
+pub mod HeardMix

@@ -12,7 +12,7 @@ use Rattle.af_life.specs.Edits.{after_ack, must_leave, must_enter, let_go, lend,
 use Rattle.af_life.specs.Kept.{Setup, setting_of, slot_number, NormalKept, Learnt, track_at}
 use Rattle.af_life.specs.Plays.{after_takes}
 use Rattle.af_life.specs.Turn.{after_tracks, after_edits, turn_after}
-use Rattle.af_model.specs.Draft.{attached, renewed, commanded as with_command}
+use Rattle.af_model.specs.Draft.{attached, commanded as with_command}
 use Rattle.af_model.specs.StateQueue.{slot_of, no_track}
 
 -- no slot of the first has a later generation, and one of the same generation is the same
@@ -59,9 +59,9 @@ older_slot x y h = record {
     same i (inr q) e = sym q
 
 older_attached : (slot : ℕ) (mono : Bool) (scale track : ℕ) (x : FastState) → IsOlder x (attached slot mono scale track x)
-older_attached slot mono scale track x = older_slot x (attached slot mono scale track x) (λ i. by_place i (slot_set x.slots slot (renewed mono scale track (slot_of x slot)) i))
+older_attached slot mono scale track x = older_slot x (attached slot mono scale track x) (λ i. by_place i (slot_set x.slots slot (record { generation = (slot_of x slot).generation + 1; track = track; mono = mono; scale = scale }) i))
   where
-    by_place : (i : ℕ) → ((i ≡ slot) × (slot_of (attached slot mono scale track x) i ≡ renewed mono scale track (slot_of x slot))) ⊎ (slot_of (attached slot mono scale track x) i ≡ slot_of x i)
+    by_place : (i : ℕ) → ((i ≡ slot) × (slot_of (attached slot mono scale track x) i ≡ (record { generation = (slot_of x slot).generation + 1; track = track; mono = mono; scale = scale }))) ⊎ (slot_of (attached slot mono scale track x) i ≡ slot_of x i)
         → ((slot_of (attached slot mono scale track x) i).generation ≡ (slot_of x i).generation + 1) ⊎ (slot_of (attached slot mono scale track x) i ≡ slot_of x i)
     by_place i (inl p) = inl (ap (λ (t : FastTrack). t.generation) p.1 ∙ ap (λ (j : ℕ). (slot_of x j).generation + 1) (sym p.0))
     by_place i (inr q) = inr q

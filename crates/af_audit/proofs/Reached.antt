@@ -4,7 +4,7 @@ use Rattle.af_base.specs.declared.turn.CommandLook.{CommandLook}
 use Rattle.af_base.specs.Turn.{Turn}
 use Rattle.af_life.specs.declared.kept.Heard.{Heard}
 use Rattle.af_life.specs.declared.kept.TrackKept.{TrackKept}
-use Rattle.af_life.specs.Drained.{LifeStep, told, heard_of, cut, StoppedAt, look_steps, looks_steps, most_heard, track_steps}
+use Rattle.af_life.specs.Drained.{LifeStep, told, heard_of, cut, StoppedAt, looks_steps, most_heard, track_steps}
 use Rattle.af_life.specs.Heard.{learnt, heard, ready}
 use Rattle.af_life.specs.Kept.{Setup, NormalKept, Learnt, track_at, track_in}
 use Rattle.af_life.specs.Obeys.{slot_for, shows_command, is_shut, after_look, goes_on}
@@ -22,6 +22,7 @@ use Rattle.af_audit.proofs.Consumed.{consumed}
 use Rattle.af_audit.proofs.Growing.{run_told}
 use Rattle.af_audit.proofs.Heard.{TellsSo, from_played, heard_told, new_tells, tells_round, to_played}
 use Rattle.af_audit.proofs.Stopped.{AreTurns, Reaches, new_turns, round_drained, round_turns}
+use Rattle.af_life.proofs.Lives.{look_steps}
 
 -- ## What the steps heard
 

@@ -7,9 +7,10 @@ use Rattle.af_life.specs.declared.kept.TrackKept.{TrackKept}
 use Rattle.af_life.specs.declared.state.LifeState.{LifeState}
 use Rattle.af_life.specs.declared.state.LifeState.TheVariants.{Absent, Idle, Active, Pausing, Paused, Resuming, Stopping1, Stopping2, Stopped, Flushed}
 use Rattle.af_life.specs.declared.track.Life.{Life}
-use Rattle.af_life.specs.Serves.{settled_told, state_code, status_word}
+use Rattle.af_life.specs.Serves.{state_code, status_word}
 use Rattle.af_life.specs.State.{code_of}
 use Rattle.af_runs.specs.Clients.{settled_in}
+use Rattle.std.specs.Prelude.{◌%◌}
 
 -- ## A word
 
@@ -36,7 +37,7 @@ mark_low false = omega arith
 -- a track's status counts no more commands than it has settled
 pub status_settles : (shut : Bool) (s : TrackKept) → settled_in (status_word shut s) ≤ s.settled
 unfolding status_word
-status_settles shut s = subst (λ (n : ℕ). n ≤ s.settled) (sym (by (state_code shut s.life) (if s.life.drained then 16 else 0) (settled_told s) (state_low shut s.life) (mark_low s.life.drained))) (omega arith)
+status_settles shut s = subst (λ (n : ℕ). n ≤ s.settled) (sym (by (state_code shut s.life) (if s.life.drained then 16 else 0) (s.settled % 16777216) (state_low shut s.life) (mark_low s.life.drained))) (omega arith)
   where
     by : (state mark n : ℕ) → state ≤ 15 → mark ≤ 16 → (state + mark + 256 * n) / 256 ≡ n
     by state mark n a b =

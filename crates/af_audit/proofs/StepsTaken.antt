@@ -6,7 +6,7 @@ use Rattle.af_base.specs.declared.turn.CommandLook.{CommandLook}
 use Rattle.af_base.specs.Turn.{Turn, TrackSeen}
 use Rattle.af_life.specs.declared.kept.TrackKept.{TrackKept}
 use Rattle.af_life.specs.Commands.{starts}
-use Rattle.af_life.specs.Drained.{LifeStep, told, heard_of, cut, StoppedAt, life_of, look_steps, looks_steps, stops, track_steps}
+use Rattle.af_life.specs.Drained.{LifeStep, told, heard_of, cut, StoppedAt, life_of, looks_steps, stops, track_steps}
 use Rattle.af_life.specs.Heard.{heard, ready}
 use Rattle.af_life.specs.Kept.{Learnt, NormalKept, Setup, nothing_seen, track_at, track_in}
 use Rattle.af_life.specs.Looks.{words_taken}
@@ -17,6 +17,7 @@ use Rattle.af_model.proofs.Logic.{both_left}
 use Rattle.af_audit.specs.Drained.{commands_in, stop_number}
 use Rattle.af_audit.proofs.Booleans.{no}
 use Rattle.af_audit.proofs.StartWords.{words_join, words_of}
+use Rattle.af_life.proofs.Lives.{look_steps}
 
 -- ## The commands among steps
 

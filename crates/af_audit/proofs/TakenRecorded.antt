@@ -13,8 +13,12 @@ use Rattle.af_runs.specs.Sessions.{Session, cycle_frames, setup_of}
 use Rattle.af_judge.proofs.BlocksMeet.{met_at, met_many}
 use Rattle.af_judge.proofs.EachTrack.{each_at, each_long, told_each}
 use Rattle.af_judge.proofs.EntryTold.{cycle_beside}
-use Rattle.af_audit.specs.Fates.{recorded, recorded_by, recorded_by_all, recorded_by_turn, recorded_in}
+use Rattle.af_audit.specs.Fates.{recorded, recorded_by, recorded_by_all, recorded_by_turn}
 use Rattle.af_audit.proofs.CallsFollow.{calls_long, told_called}
+
+-- the frames of a track in a round: in the entries before the turn, in the turn, and in the entries after it
+abbrev pub recorded_in : Session → Run → RoundSeen → ℕ → List ℕ
+recorded_in s run round track = recorded_by_all s (with_calls round run) (early_of run round) track ++ recorded_by_turn round.turn track ++ recorded_by_all s (after_turn s run round) (late_of run round) track
 
 -- the words taken of a track
 abbrev taken_at : ℕ → Run → List ℕ

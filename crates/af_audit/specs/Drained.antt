@@ -44,14 +44,10 @@ sent_in run round track = sent_by_all (sides_of (told_at run track)) (calls_in r
 
 -- ## The commands that the mixer obeyed
 
--- the steps of a track's life after a turn of a round, the newest first: the commands that it obeyed, and what it heard of its server
-abbrev pub turn_steps : Session → Run → RoundSeen → Turn → ℕ → List LifeStep → List LifeStep
-turn_steps s run round e track before = let c = setup_of s in track_steps c (learnt (outside_of c (found_in s run round e) e)) run.normal e track before
-
 -- the steps of a track's life after a round, with its turn if it has one
 abbrev pub round_steps : Session → Run → RoundSeen → Option Turn → ℕ → List LifeStep → List LifeStep
 round_steps s run round None track before = before
-round_steps s run round (Some e) track before = turn_steps s run round e track before
+round_steps s run round (Some e) track before = let c = setup_of s in track_steps c (learnt (outside_of c (found_in s run round e) e)) run.normal e track before
 
 -- how many commands are among these steps
 abbrev pub commands_in : List LifeStep → ℕ

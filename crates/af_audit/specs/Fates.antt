@@ -34,14 +34,12 @@ abbrev pub recorded_by_turn : Option Turn → ℕ → List ℕ
 recorded_by_turn None track = []
 recorded_by_turn (Some e) track = going e (map packed_word (flat_map (λ take. take.frames) (takes_from e.mixes track)))
 
--- the frames of a track in a round: in the entries before the turn, in the turn, and in the entries after it
-abbrev pub recorded_in : Session → Run → RoundSeen → ℕ → List ℕ
-recorded_in s run round track = recorded_by_all s (with_calls round run) (early_of run round) track ++ recorded_by_turn round.turn track ++ recorded_by_all s (after_turn s run round) (late_of run round) track
-
--- the frames of a track in some rounds, one after the other
+-- the frames of a track in some rounds, one after the other: of each in the entries before the turn, in the turn, and in the entries after it
 abbrev pub recorded : Session → Run → List RoundSeen → ℕ → List ℕ
 recorded s run [] track = []
-recorded s run (round ∷ rounds) track = recorded_in s run round track ++ recorded s (after_round s run round) rounds track
+recorded s run (round ∷ rounds) track =
+    (recorded_by_all s (with_calls round run) (early_of run round) track ++ recorded_by_turn round.turn track
+    ++ recorded_by_all s (after_turn s run round) (late_of run round) track) ++ recorded s (after_round s run round) rounds track
 
 -- ## Noticed flushes
 

@@ -10,3 +10,4 @@ pub mod Drained
 pub mod Known
 pub mod Settled
 pub mod Emptied
+pub mod HeardTakes

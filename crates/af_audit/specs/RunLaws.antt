@@ -6,7 +6,7 @@ use Rattle.af_model.specs.Journals.{JournalData}
 use Rattle.af_script.specs.Data.{ScriptData}
 use Rattle.af_audit.specs.declared.verdict.Verdict.{Verdict}
 use Rattle.af_audit.specs.declared.verdict.Verdict.TheVariants.{Legal}
-use Rattle.af_runs.specs.LegalRuns.{session_of, run_of, IsLegalRun, IsRunSoFar}
+use Rattle.af_runs.specs.LegalRuns.{session_of, run_of, IsLegalRun, HasLegalRounds}
 use Rattle.af_runs.specs.Pcm.{journal_pcm}
 use Rattle.af_runs.specs.Runs.{all_ended}
 use Rattle.af_audit.specs.Verdicts.{IsVerdict}
@@ -27,4 +27,4 @@ OneVerdict script files j pcm = (a b : Verdict) → IsVerdict script files j pcm
 
 -- a run so far in which all parties have ended is a legal run
 abbrev pub LegalAtTheEnd : ScriptData → List (List Frame) → JournalData → Type 0
-LegalAtTheEnd script files j = IsRunSoFar script files j → all_ended (session_of script files) (run_of script files j) ≡ true → IsLegalRun script files j
+LegalAtTheEnd script files j = HasLegalRounds true script files j → all_ended (session_of script files) (run_of script files j) ≡ true → IsLegalRun script files j

@@ -88,13 +88,10 @@ pub record FirstDiffer (a b : List ℕ) (at : ℕ) : Type 0 where
 abbrev pub HasNoFault : ScriptData → List (List Frame) → JournalData → Type 0
 HasNoFault script files j = let s = session_of script files in AllClear s (marks_of j.rounds) (new_run s) j.rounds
 
--- the first fault of a journal is that of this party in this round
-abbrev pub HasFirstFault : ScriptData → List (List Frame) → JournalData → ℕ → ℕ → Type 0
-HasFirstFault script files j round party = let s = session_of script files in IsFirstFault false s (marks_of j.rounds) (new_run s) j.rounds round party
-
--- the verdict is right. It is never about a text
+-- The verdict is right: no party has a fault, the first fault is that of this party in this round, or the sound differs first at this byte. It is never about a text
 abbrev pub IsVerdict : ScriptData → List (List Frame) → JournalData → List ℕ → Verdict → Type 0
 IsVerdict script files j pcm Legal = HasNoFault script files j × (pcm ≡ journal_pcm script.frames j)
 IsVerdict script files j pcm (Refused (refused.Text line)) = ⊥
-IsVerdict script files j pcm (Refused (refused.Round round party)) = HasFirstFault script files j round party
+IsVerdict script files j pcm (Refused (refused.Round round party)) =
+    let s = session_of script files in IsFirstFault false s (marks_of j.rounds) (new_run s) j.rounds round party
 IsVerdict script files j pcm (Refused (refused.Pcm at)) = HasNoFault script files j × FirstDiffer (journal_pcm script.frames j) pcm at

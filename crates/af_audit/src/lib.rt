@@ -4,6 +4,7 @@
 mod differ;
 mod drained;
 mod emptied;
+mod entry_mix;
 mod judgement;
 mod run_judge;
 mod settled;

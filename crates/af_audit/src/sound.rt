@@ -1,14 +1,15 @@
 //! The sound of a journal, by its definition.
-ghost use Rattle.std.specs.Prelude.{◌≡◌, ◌<◌, ◌≤◌, ◌++◌, true, length, All, IfOk, OnOk, OnErr};
-ghost use Rattle.af_base.specs.Log.{entry_at, takes_of};
+ghost use Rattle.std.specs.Prelude.{◌≡◌, ℕ, ◌<◌, ◌≤◌, ◌++◌, true, length, slice_index_or, IfOk, OnOk, OnErr};
+ghost use Rattle.af_base.specs.Log.{count_seen, entry_at, entry_slot, slots, takes_of};
 ghost use Rattle.af_base.specs.Mix.{mix};
 ghost use Rattle.af_model.specs.Cycles.{is_mixed};
 ghost use Rattle.af_runs.specs.Pcm.{entries_pcm, entry_pcm, journal_pcm};
 
-use af_base::{Cycle, FastLog, Frame, Memory, Part};
-use af_gain::{Sum, mix};
+use crate::entry_mix::mix_heard;
+use af_base::{Cycle, CycleEntry, FastLog, Frame, Memory, SLOTS};
+use af_gain::Sum;
 use af_io::bytes_of;
-use af_model::{Journal, mix_entry, parts_of};
+use af_model::{Journal, mix_entry};
 use std::alloc::Global;
 
 // Whether an entry of a log is a mix.
@@ -22,12 +23,13 @@ fn is_mixed(log: &FastLog, index: usize) -> bool
     matches!(entry.cycle, Cycle::Mixed)
 }
 
-// Whether the kernel takes these parts: none is longer than what is asked for, or scaled beyond unity.
-fn are_fit(parts: &[Part<'_>], asked: usize) -> bool
-    ensures { result ≡ true → All (λ part. (length part.frames.now ≤ asked) × (part.scale ≤ 4096)) parts.now }
+// Whether the kernel takes what an entry records: no slot took more frames than are asked for, or is scaled beyond unity.
+fn is_fit(entry: &CycleEntry, asked: usize) -> bool
+    ensures within { result ≡ true → (i : ℕ) → i < slots → count_seen (entry_slot entry.now i).seen ≤ asked }
+    ensures scaled { result ≡ true → (i : ℕ) → i < slots → slice_index_or entry.now.scales i 0 ≤ 4096 }
 {
-    for part in parts {
-        if part.frames.len() > asked || part.scale > 4096 {
+    for slot in 0..SLOTS {
+        if entry.slots[slot].seen.count() as usize > asked || entry.scales[slot] > 4096 {
             return false;
         }
     }
@@ -45,9 +47,8 @@ fn mix_one(log: &FastLog, index: usize, sums: &mut [Sum], out: &mut [Frame])
     let Some(entry) = log.entry(index) else {
         unreachable!()
     };
-    let parts = parts_of(log.frames(), entry);
-    if are_fit(&parts, out.len()) {
-        mix(&parts, sums, out);
+    if is_fit(entry, out.len()) {
+        mix_heard(log.frames(), entry, sums, out);
     } else {
         mix_entry(log, index, out);
     }

@@ -8,7 +8,8 @@ use Rattle.af_io.specs.declared.store.StoreError.{StoreError}
 use Rattle.af_io.specs.declared.store.StoreError.TheVariants as outside
 use Rattle.af_journal.specs.Texts.{text_of}
 use Rattle.af_model.specs.Journals.{JournalData}
-use Rattle.af_offline.specs.Asked.{Job, Loaded, play_job, session_job, trace_job}
+use Rattle.af_runs.specs.Sessions.{Session as Loaded}
+use Rattle.af_offline.specs.Asked.{Job, play_job, session_job, trace_job}
 use Rattle.af_offline.specs.declared.status.Ending.{Ending}
 use Rattle.af_offline.specs.declared.status.Ending.TheVariants.{Limit, Judged}
 use Rattle.af_offline.specs.declared.status.Refusal.{Refusal}
@@ -17,7 +18,7 @@ use Rattle.af_offline.specs.declared.status.Stop.{Stop}
 use Rattle.af_offline.specs.declared.status.Stop.TheVariants.{Refused, Over, Store, Memory}
 use Rattle.af_offline.specs.Status.{Meets, ended_status, status_of}
 use Rattle.af_playing.specs.PlayKept.{TookFew}
-use Rattle.af_playing.specs.PlayedAlone.{IsToldAlone, shown_of_play}
+use Rattle.af_playing.specs.PlayedAlone.{IsToldAlone}
 use Rattle.af_playing.specs.PlayedRuns.{HandedBack}
 use Rattle.af_playing.specs.declared.answering.PlayFault.{PlayFault}
 use Rattle.af_playing.specs.declared.answering.PlayFault.TheVariants as fault
@@ -25,6 +26,8 @@ use Rattle.af_rendering.specs.Rendered.{ComesTo}
 use Rattle.af_rendering.specs.declared.rendering.Outcome.{Outcome}
 use Rattle.af_rendering.specs.declared.rendering.Played.{Played}
 use Rattle.af_render_law.proofs.RendersTold.{render_told}
+use Rattle.af_rendering.specs.Alone.{shown_from}
+use Rattle.af_runs.specs.LegalRuns.{run_of}
 use Rattle.af_runs.specs.Pcm.{journal_pcm}
 use Rattle.af_script.specs.Form.{IsScript}
 use Rattle.af_session.specs.Ends.{EndsState}
@@ -63,7 +66,7 @@ module _ (l : Loaded) (accepted : IsScript l.script) (target : List ℕ) (told :
 -- ## Plays
 
 -- the steps by a journal and the ends are those by the journal alone
-few_alone : (l : Loaded) (steps : List (ℕ × ℕ)) (j : JournalData) (e : EndsState) → IsToldAlone l.script l.files j e → TookFew l.script.frames steps j e → AreFew (shown_of_play l.script l.files j) steps
+few_alone : (l : Loaded) (steps : List (ℕ × ℕ)) (j : JournalData) (e : EndsState) → IsToldAlone l.script l.files j e → TookFew l.script.frames steps j e → AreFew (shown_from l.script j (run_of l.script l.files j)) steps
 few_alone l steps j e alone few = subst (λ (run : Shown). AreFew run steps) alone.shown few
 
 module _ (l : Loaded) (cycles : ℕ) (target name : List ℕ) (old new : Files) (steps : List (ℕ × ℕ)) where

@@ -18,16 +18,18 @@ use Rattle.af_offline.specs.declared.status.Refusal.{Refusal}
 use Rattle.af_offline.specs.declared.status.Stop.{Stop}
 use Rattle.af_offline.specs.declared.status.Stop.TheVariants.{Refused, Over, Store, Memory}
 use Rattle.af_offline.specs.declared.status.Ending.TheVariants.{Limit, Judged}
-use Rattle.af_offline.specs.Asked.{◌>>=◌, then_cons, most_file, most_files, track_in, tracks_in, session_of, session_job, generated_job, Loaded, Job}
+use Rattle.af_runs.specs.Sessions.{Session as Loaded}
+use Rattle.af_offline.specs.Asked.{◌>>=◌, most_file, track_in, tracks_in, session_of, session_job, generated_job, Job}
 use Rattle.af_commands.specs.Counted.{CountsOn}
 use Rattle.af_commands.specs.Ends.{Makes}
-use Rattle.af_offline.specs.Generated.{samples_of, samples_before, generated_file, generated_files, generated_frames}
+use Rattle.af_offline.specs.Generated.{generated_file, generated_files, generated_frames}
 use Rattle.af_offline.specs.Loading.{loaded_view}
 use Rattle.af_words.specs.Requests.{is_drawn}
 use Rattle.af_offline.specs.Status.{Meets}
 use Rattle.af_offline.proofs.Draws.{file_length}
 use Rattle.af_offline.proofs.Generated.{file_there}
-use Rattle.af_offline.proofs.Chains.{files_are}
+use Rattle.af_offline.proofs.Chains.{files_are, then_cons}
+use Rattle.std.specs.Prelude.{◌^◌}
 
 -- ## What the clients write
 
@@ -48,7 +50,7 @@ frames_of_track number track = frames_from (track % 2 == 0) (generated_file numb
 -- what a file must be for its track
 record IsFit (total : ℕ) (track : TrackSpec) (bytes : List ℕ) : Type 0 where
   short : nat_le (length bytes) most_file ≡ true
-  few : nat_le (total + length bytes) most_files ≡ true
+  few : nat_le (total + length bytes) (2 ^ 24) ≡ true
   even : (length bytes % frame_width track.mono == 0) ≡ true
   enough : nat_le (frames_to_come track.ops) (length (frames_from track.mono bytes)) ≡ true
 
@@ -56,7 +58,7 @@ track_found : (files : Files) (number total : ℕ) (track : TrackSpec) (bytes : 
 track_found files number total track bytes there fit = rw (there, fit.short, fit.few, fit.even, fit.enough) refl
 
 -- the width of a frame divides the length of a track's file, and the file has 100000 frames
-whole_frames : (bytes track : ℕ) → bytes ≡ 2 * samples_of track → ((bytes % frame_width (track % 2 == 0) == 0) ≡ true) × (bytes / frame_width (track % 2 == 0) ≡ 100000)
+whole_frames : (bytes track : ℕ) → bytes ≡ 2 * (100000 * (1 + track % 2)) → ((bytes % frame_width (track % 2 == 0) == 0) ≡ true) × (bytes / frame_width (track % 2 == 0) ≡ 100000)
 whole_frames bytes track is = go (track % 2 == 0) refl
   where
     go : (mono : Bool) → (track % 2 == 0) ≡ mono → ((bytes % frame_width mono == 0) ≡ true) × (bytes / frame_width mono ≡ 100000)
@@ -73,36 +75,36 @@ whole_frames bytes track is = go (track % 2 == 0) refl
         is_odd (inl even) other = let clash : true ≡ false = sym even.0 ∙ other in cc
         is_odd (inr odd) other = let no = odd.1 in omega (arith, no)
 
-file_fits : (number track : ℕ) → track < 8 → IsFit (2 * samples_before track) (generated_track track) (generated_file number track)
+file_fits : (number track : ℕ) → track < 8 → IsFit (2 * (100000 * (track + track / 2))) (generated_track track) (generated_file number track)
 unfolding generated_track
 file_fits number track few =
     let bytes : List ℕ = generated_file number track in
-    let long : length bytes ≡ 2 * samples_of track = file_length number track in
+    let long : length bytes ≡ 2 * (100000 * (1 + track % 2)) = file_length number track in
     let whole = whole_frames (length bytes) track long in
     let frames : length (frames_from (track % 2 == 0) bytes) ≡ 100000 = frames_count (track % 2 == 0) bytes ∙ whole.1 in
     record {
       short = le-leb (length bytes) most_file (omega (arith, long, few));
-      few = le-leb (2 * samples_before track + length bytes) most_files (omega (arith, long, few));
+      few = le-leb (2 * (100000 * (track + track / 2)) + length bytes) (2 ^ 24) (omega (arith, long, few));
       even = whole.0;
       enough = le-leb (frames_to_come generated_ops) (length (frames_from (track % 2 == 0) bytes)) (let asked = asked_frames in omega (arith, asked, frames));
     }
 
 -- a track's file is found
 track_there : (files : Files) (number track : ℕ) → files (generated_name track) ≡ Some (generated_file number track) → track < 8
-    → track_in files track (2 * samples_before track) (generated_track track) ≡ Ok (frames_of_track number track, 2 * samples_before track + length (generated_file number track))
+    → track_in files track (2 * (100000 * (track + track / 2))) (generated_track track) ≡ Ok (frames_of_track number track, 2 * (100000 * (track + track / 2)) + length (generated_file number track))
 unfolding generated_track
-track_there files number track there few = track_found files track (2 * samples_before track) (generated_track track) (generated_file number track) there (file_fits number track few)
+track_there files number track there few = track_found files track (2 * (100000 * (track + track / 2))) (generated_track track) (generated_file number track) there (file_fits number track few)
 
 -- the files of some tracks are found, one after another
 tracks_found : (files : Files) (number : ℕ) → ((track : ℕ) → track < 8 → files (generated_name track) ≡ Some (generated_file number track)) → (from count : ℕ) → from + count ≤ 8
-    → tracks_in files from (2 * samples_before from) (map generated_track (range_with_len from count)) ≡ Ok (map (frames_of_track number) (range_with_len from count))
+    → tracks_in files from (2 * (100000 * (from + from / 2))) (map generated_track (range_with_len from count)) ≡ Ok (map (frames_of_track number) (range_with_len from count))
 tracks_found files number there from zero le = refl
 tracks_found files number there from (suc count) le =
     let rest : List TrackSpec = map generated_track (range_with_len (from + 1) count) in
-    let after : ℕ = 2 * samples_before from + length (generated_file number from) in
-    let long : length (generated_file number from) ≡ 2 * samples_of from = file_length number from in
-    let next : after ≡ 2 * samples_before (from + 1) = omega (arith, long) in
-    let here : track_in files from (2 * samples_before from) (generated_track from) ≡ Ok (frames_of_track number from, after) = track_there files number from (there from (omega (arith, le))) (omega (arith, le)) in
+    let after : ℕ = 2 * (100000 * (from + from / 2)) + length (generated_file number from) in
+    let long : length (generated_file number from) ≡ 2 * (100000 * (1 + from % 2)) = file_length number from in
+    let next : after ≡ 2 * (100000 * ((from + 1) + (from + 1) / 2)) = omega (arith, long) in
+    let here : track_in files from (2 * (100000 * (from + from / 2))) (generated_track from) ≡ Ok (frames_of_track number from, after) = track_there files number from (there from (omega (arith, le))) (omega (arith, le)) in
     ap (λ (r : Result (List Frame × ℕ) Refusal). r >>= (λ one. then_cons one.0 (tracks_in files (from + 1) one.1 rest))) here
     ∙ ap (λ (total : ℕ). then_cons (frames_of_track number from) (tracks_in files (from + 1) total rest)) next
     ∙ ap (λ (r : Result (List (List Frame)) Refusal). then_cons (frames_of_track number from) r) (tracks_found files number there (from + 1) count (omega (arith, le)))

@@ -17,7 +17,8 @@ use Rattle.af_rendering.specs.Rendered.{ComesTo, HandsBack, LeavesSound}
 use Rattle.af_session.specs.Shown.{summary_told}
 use Rattle.af_runs.specs.Pcm.{journal_pcm}
 use Rattle.af_offline.specs.declared.status.Stop.{Stop}
-use Rattle.af_offline.specs.Asked.{Loaded, session_job}
+use Rattle.af_runs.specs.Sessions.{Session as Loaded}
+use Rattle.af_offline.specs.Asked.{session_job}
 use Rattle.af_commands.specs.Ends.{IsCutOff, IsMade, Makes}
 use Rattle.af_commands.specs.Sessions.{IsSession, IsSomeSessionLine, LeavesTurns, summary_line}
 use Rattle.af_commands.specs.Told.{TellsRender}

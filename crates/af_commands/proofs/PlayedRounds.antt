@@ -17,21 +17,22 @@ use Rattle.af_rendering.specs.declared.rendering.Played.{Played}
 use Rattle.af_session.specs.Ends.{EndsState}
 use Rattle.af_playing.specs.PlayedRuns.{HandsBackRun, IsLegalJournal, LeavesRun}
 use Rattle.af_playing.specs.PlayKept.{KeepsFiles, KeepsPlay}
-use Rattle.af_playing.specs.PlayedAlone.{summary_of_play}
 use Rattle.af_playing.proofs.RoundsSoFar.{are_rounds, sounds}
 use Rattle.af_runs.specs.Pcm.{journal_pcm}
 use Rattle.af_offline.specs.declared.status.Stop.{Stop}
 use Rattle.af_offline.specs.declared.status.Stop.TheVariants.{Refused, Over, Store, Memory}
 use Rattle.af_offline.specs.declared.status.Ending.{Ending}
 use Rattle.af_offline.specs.declared.status.Ending.TheVariants.{Limit}
-use Rattle.af_offline.specs.Asked.{Loaded, play_job}
+use Rattle.af_runs.specs.Sessions.{Session as Loaded}
+use Rattle.af_offline.specs.Asked.{play_job}
 use Rattle.af_commands.specs.Ends.{Makes}
 use Rattle.af_offline.specs.Line.{limit_text}
 use Rattle.af_commands.specs.Plays.{IsPlay, IsPlayed, IsSomePlayLine, LeavesRounds, LeavesText, run_line}
 use Rattle.af_commands.specs.Sessions.{summary_line}
 use Rattle.af_commands.specs.Told.{Tells, TellsText}
-use Rattle.af_offline.specs.Verified.{IsTextFor}
 use Rattle.af_offline.proofs.Chains.{files_are}
+use Rattle.af_rendering.specs.Alone.{summary_by}
+use Rattle.af_runs.specs.LegalRuns.{run_of}
 
 -- a legal journal, and what follows of it up to the meetings
 pub record IsKept (ended : Bool) (l : Loaded) (journal : JournalData) : Type 0 where
@@ -50,7 +51,7 @@ pub cut_short : (l : Loaded) (accepted : IsScript l.script) → OfRounds HoldsAt
 cut_short l accepted follows journal ends keeps = record { legal = (keeps.limit.cut_run, keeps.enough); met = follows true l.script l.files journal accepted keeps.limit.cut_run.rounds }
 
 -- the text of a run's journal is read as this journal alone
-pub read_alone : (ended : Bool) (l : Loaded) (journal : JournalData) (ends : EndsState) → HandsBackRun ended l.script l.files journal ends → IsTextFor l.script (text_of journal) journal
+pub read_alone : (ended : Bool) (l : Loaded) (journal : JournalData) (ends : EndsState) → HandsBackRun ended l.script l.files journal ends → IsOneReading (length l.script.tracks) (text_of journal) journal
 read_alone ended l journal ends back = subst (λ (tracks : ℕ). IsOneReading tracks (text_of journal) journal) (ap (λ (j : JournalData). j.tracks) back.journal_is) (read-back journal back.form)
 
 -- a journal has the rounds that were noted
@@ -95,7 +96,7 @@ module _ (ended : Bool) (l : Loaded) (journal : JournalData) (ends : EndsState) 
 
 -- ## A run in which all parties have ended
 
-module _ (l : Loaded) (journal : JournalData) (ends : EndsState) (back : HandsBackRun true l.script l.files journal ends) (legal : IsKept true l journal) (summary : Summary) (summary_is : summary ≡ summary_of_play l.script l.files journal) where
+module _ (l : Loaded) (journal : JournalData) (ends : EndsState) (back : HandsBackRun true l.script l.files journal ends) (legal : IsKept true l journal) (summary : Summary) (summary_is : summary ≡ summary_by l.script journal (run_of l.script l.files journal)) where
   pub line_told : (line : List ℕ) → line ≡ summary_line summary → line ≡ run_line true l.script l.files journal
   line_told line is = is ∙ ap summary_line summary_is
 

@@ -13,7 +13,8 @@ use Rattle.af_offline.proofs.BeyondFault.{legal_judged}
 use Rattle.af_script.specs.Data.{ScriptData}
 use Rattle.af_commands.specs.Plays.{IsPlay}
 use Rattle.af_commands.specs.PlaysJudged.{IsFoundLegal, PlayIsFoundLegal}
-use Rattle.af_offline.specs.Verified.{IsJudged, IsOfJournal}
+use Rattle.af_offline.specs.Verified.{IsJudged}
+use Rattle.af_journal.specs.Readings.{IsOneReading}
 
 module _ (script : ScriptData) (files : List (List Frame)) (bytes text line : List ℕ) (some : 0 < length script.tracks) (play : IsPlay true script files bytes text line) where
   -- the journal of the play is that of a legal run with this sound
@@ -25,7 +26,7 @@ module _ (script : ScriptData) (files : List (List Frame)) (bytes text line : Li
   whole = legal_judged script files play.journal legal.0
 
   -- what is found of the reading of the text is found of its journal
-  same_found : (found : Verdict) → IsOfJournal script files bytes text found → found ≡ Legal
+  same_found : (found : Verdict) → ((journal : JournalData) × IsOneReading (length script.tracks) text journal × IsVerdict script files (judged_of journal) bytes found) → found ≡ Legal
   same_found found (journal, reads, verdict) =
       one_verdict script files play.journal bytes found Legal (subst (λ (j : JournalData). IsVerdict script files j bytes found) (ap judged_of (play.read.only journal reads.reads) ∙ whole) verdict) legal
 

@@ -19,20 +19,22 @@ use Rattle.af_session.specs.Ends.{EndsState}
 use Rattle.af_side_by_side.specs.Logging.{IsLogOf}
 use Rattle.af_playing.specs.PlayedRuns.{HandsBackRun}
 use Rattle.af_playing.specs.PlayKept.{AppendsLogOfPlay, KeepsFiles, KeepsPlay}
-use Rattle.af_playing.specs.PlayedAlone.{summary_of_play}
 use Rattle.af_offline.specs.declared.status.Stop.{Stop}
 use Rattle.af_offline.specs.declared.status.Stop.TheVariants.{Refused, Over, Store, Memory}
 use Rattle.af_offline.specs.declared.status.Ending.{Ending}
 use Rattle.af_offline.specs.declared.status.Ending.TheVariants.{Limit}
-use Rattle.af_offline.specs.Asked.{Loaded, trace_job}
+use Rattle.af_runs.specs.Sessions.{Session as Loaded}
+use Rattle.af_offline.specs.Asked.{trace_job}
 use Rattle.af_commands.specs.Ends.{Makes}
 use Rattle.af_offline.specs.Line.{limit_text}
-use Rattle.af_commands.specs.Plays.{run_line}
+use Rattle.af_commands.specs.Plays.{run_line, LeavesPlay}
 use Rattle.af_commands.specs.Sessions.{summary_line}
 use Rattle.af_commands.specs.Told.{Tells, TellsTexts}
-use Rattle.af_commands.specs.Traces.{IsTrace, IsTraced, LeavesLog, LeavesTrace}
+use Rattle.af_commands.specs.Traces.{IsTrace, IsTraced, LeavesLog}
 use Rattle.af_offline.proofs.Chains.{files_are}
 use Rattle.af_commands.proofs.PlayedRounds.{IsKept, cut_short, is_play, leaves_rounds, line_told, played, promises, text_left}
+use Rattle.af_rendering.specs.Alone.{summary_by}
+use Rattle.af_runs.specs.LegalRuns.{run_of}
 
 -- a list that was empty holds what was appended to it
 appended : (held new empty more : List ℕ) → held ≡ new → new ≡ empty ++ more → empty ≡ [] → held ≡ more
@@ -69,7 +71,7 @@ module _ (l : Loaded) (room : ℕ) (journal : JournalData) (ends : EndsState) (b
       subst (λ (files : Files). LeavesFront files log told new) (sym both) left,
     )
 
-    pub Makes-traced : (summary : Summary) → summary ≡ summary_of_play l.script l.files journal → (new : Files) → SetsFile next log (Some told) new → (line : String Global) → string_bytes line ≡ summary_line summary → Makes (Ok line) (Ok (trace_job target name log room l)) old new
+    pub Makes-traced : (summary : Summary) → summary ≡ summary_by l.script journal (run_of l.script l.files journal) → (new : Files) → SetsFile next log (Some told) new → (line : String Global) → string_bytes line ≡ summary_line summary → Makes (Ok line) (Ok (trace_job target name log room l)) old new
     Makes-traced summary summary_is new wrote line is = traced (string_bytes line) new (line_told l journal ends back legal summary summary_is (string_bytes line) is) wrote
 
 -- ## If no log is written
@@ -87,7 +89,7 @@ module _ (l : Loaded) (accepted : IsScript l.script) (follows : OfRounds HoldsAt
   -- the journal is not whole, or the log is not
   trace_left : (p : Played) → KeepsPlay l.script l.files (Ok p) → SetsFile old target (Some (journal_pcm l.script.frames p.journal)) mid → (notes : List Note) (refused : ℕ) → IsLogOf l.script.frames room p.journal notes refused → (32 ≤ room → refused ≡ 0) → (held : List ℕ) → held ≡ log_text notes refused
       → LeavesFront mid name (text_of p.journal) new ⊎ ((next : Files) × SetsFile mid name (Some (text_of p.journal)) next × LeavesFront next log held new)
-      → LeavesTrace l.script l.files room target name log old new
+      → LeavesPlay l.script l.files target name old new ⊎ LeavesLog l.script l.files room target name log old new
   trace_left p keeps set notes refused log_of kept held is (inl left) = inl (inr (text_left true l p.journal p.ends keeps.done.played (promises l accepted follows p keeps) target name old mid set new left))
   trace_left p keeps set notes refused log_of kept held is (inr (next, text, left)) =
       inr (log_left l room p.journal p.ends keeps.done.played (promises l accepted follows p keeps) notes refused log_of kept target name log old mid next set text new

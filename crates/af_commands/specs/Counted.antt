@@ -10,8 +10,9 @@ use Rattle.af_offline.specs.declared.status.Status.{Status}
 use Rattle.af_offline.specs.declared.status.Status.TheVariants as status
 use Rattle.af_offline.specs.declared.status.Stop.{Stop}
 use Rattle.af_offline.specs.declared.status.Stop.TheVariants.{Over}
-use Rattle.af_playing.specs.PlayedAlone.{shown_of_play}
-use Rattle.af_render_law.specs.RenderLaws.{shown_alone}
+use Rattle.af_render_law.specs.RenderLaws.{run_told}
+use Rattle.af_rendering.specs.Alone.{shown_from}
+use Rattle.af_runs.specs.LegalRuns.{run_of}
 use Rattle.af_runs.specs.Pcm.{journal_pcm}
 use Rattle.af_runs.specs.TurnRuns.{IsTurnRun}
 use Rattle.af_tally.specs.Steps.{AreFew}
@@ -19,10 +20,10 @@ use Rattle.af_tally.specs.Steps.{AreFew}
 -- These are the steps of the cycles of one journal, one after the other, each with those of its note: of a turn run whose sound the output holds, or of the run whose journal's text stands in its file, unless the log was written over it. No cycle took more than it may
 abbrev pub CountsWork : Work → List ℕ → Files → List (ℕ × ℕ) → Type 0
 CountsWork (Exact bytes line) target files steps = Unit {0}
-CountsWork (Session script played) target files steps = (j : JournalData) × IsTurnRun script played j × (files target ≡ Some (journal_pcm script.frames j)) × AreFew (shown_alone script played j) steps
-CountsWork (Rounds script played journal) target files steps = (j : JournalData) × (files journal ≡ Some (text_of j)) × AreFew (shown_of_play script played j) steps
+CountsWork (Session script played) target files steps = (j : JournalData) × IsTurnRun script played j × (files target ≡ Some (journal_pcm script.frames j)) × AreFew (shown_from script j (run_told script played j)) steps
+CountsWork (Rounds script played journal) target files steps = (j : JournalData) × (files journal ≡ Some (text_of j)) × AreFew (shown_from script j (run_of script played j)) steps
 CountsWork (Judge script played pcm text) target files steps = Unit {0}
-CountsWork (Traced script played journal log room) target files steps = (j : JournalData) × (log ≢ journal → files journal ≡ Some (text_of j)) × AreFew (shown_of_play script played j) steps
+CountsWork (Traced script played journal log room) target files steps = (j : JournalData) × (log ≢ journal → files journal ≡ Some (text_of j)) × AreFew (shown_from script j (run_of script played j)) steps
 
 -- these are the steps of the cycles of what was asked for
 abbrev pub CountsAsked : Result Job Refusal → Files → List (ℕ × ℕ) → Type 0

@@ -19,7 +19,7 @@ use Rattle.af_offline.specs.Looped.{Rolls}
 use Rattle.af_words.specs.Requests.{Request, Render, Record, Loop, Generate, Play, Verify, Trace}
 use Rattle.af_offline.specs.Asked.{Job, Work, Exact, Session, Rounds, Judge, Traced}
 use Rattle.af_commands.specs.Plays.{IsPlayed, IsSomePlayLine, LeavesPlay}
-use Rattle.af_commands.specs.Traces.{IsTraced, LeavesTrace}
+use Rattle.af_commands.specs.Traces.{IsTraced, LeavesLog}
 use Rattle.af_commands.specs.Sessions.{IsSession, IsSomeSessionLine, LeavesTurns}
 use Rattle.af_offline.specs.Line.{counts_text, ending_text, legal_text, limit_text, rolls_text, refusal_text}
 use Rattle.af_offline.specs.Status.{status_of, SuitsEnding}
@@ -67,11 +67,7 @@ LeavesWork (Exact bytes line) target old new = LeavesFront old target bytes new
 LeavesWork (Session script files) target old new = LeavesTurns script files target old new
 LeavesWork (Rounds script files journal) target old new = LeavesPlay script files target journal old new
 LeavesWork (Judge script files pcm text) target old new = SameFiles old new
-LeavesWork (Traced script files journal log room) target old new = LeavesTrace script files room target journal log old new
-
--- the files that are made first were made up to a place; or they are whole, and the output is left as `LeavesWork` says
-abbrev pub LeavesJob : Job → Files → Files → Type 0
-LeavesJob job old new = LeavesFronts old job.first new ⊎ LeavesWork job.work job.target (with_files old job.first) new
+LeavesWork (Traced script files journal log room) target old new = LeavesPlay script files target journal old new ⊎ LeavesLog script files room target journal log old new
 
 -- the status of what is asked for
 abbrev pub asked_status : Result Job Refusal → Status
@@ -92,9 +88,9 @@ abbrev pub IsOver : Result Job Refusal → Files → Files → Type 0
 IsOver (Ok job) old new = (line : List ℕ) × IsOverWith job line old new
 IsOver (Err refusal) old new = SameFiles old new
 
--- the work was cut off while its files were made, or after that; if the work is refused, no file has changed
+-- The work was cut off: while the files that are made first were made, or, with these whole, while the output was, which `LeavesWork` says, or after that. If the work is refused, no file has changed
 abbrev pub IsCutOff : Result Job Refusal → Files → Files → Type 0
-IsCutOff (Ok job) old new = LeavesJob job old new ⊎ IsWritten job old new
+IsCutOff (Ok job) old new = (LeavesFronts old job.first new ⊎ LeavesWork job.work job.target (with_files old job.first) new) ⊎ IsWritten job old new
 IsCutOff (Err refusal) old new = SameFiles old new
 
 -- What becomes of the files. A fault of the outside, or an allocation that was refused, may cut the work off. The limit of its cycles may cut a play off. What is judged may be refused.

@@ -1,5 +1,5 @@
 -- What the rounds of all parties come to with a log: the sound, the texts of the journal and of the log, and the line. Also what such a play leaves if it stops.
-use Rattle.std.specs.Prelude.{◌≡◌, ◌⊎◌, ℕ, ◌≤◌, true, List, [], ◌∷◌}
+use Rattle.std.specs.Prelude.{◌≡◌, ℕ, ◌≤◌, true, List, [], ◌∷◌}
 use Rattle.af_base.specs.declared.frame.Frame.{Frame}
 use Rattle.af_io.specs.Files.{Files, LeavesFront}
 use Rattle.af_io.specs.Outputs.{SetsFiles, with_files}
@@ -7,7 +7,7 @@ use Rattle.af_nblog.specs.declared.entries.Note.{Note}
 use Rattle.af_nblog.specs.LogText.{log_text}
 use Rattle.af_script.specs.Data.{ScriptData}
 use Rattle.af_side_by_side.specs.Logging.{IsLogOf}
-use Rattle.af_commands.specs.Plays.{IsPlay, LeavesPlay}
+use Rattle.af_commands.specs.Plays.{IsPlay}
 
 -- the bytes, the journal's text and the line are of one run in which all parties have ended, and the log's text is that of a log of the same journal; with room for 32 notes none was refused
 pub record IsTrace (script : ScriptData) (files : List (List Frame)) (room : ℕ) (bytes text log line : List ℕ) : Type 0 where
@@ -29,7 +29,3 @@ abbrev pub LeavesLog : ScriptData → List (List Frame) → ℕ → List ℕ →
 LeavesLog script files room target journal log old new =
     (bytes : List ℕ) × (text : List ℕ) × (told : List ℕ) × (line : List ℕ) × IsTrace script files room bytes text told line
     × LeavesFront (with_files old (record { name = target; bytes = bytes } ∷ record { name = journal; bytes = text } ∷ [])) log told new
-
--- what a play with a log leaves if it stops
-abbrev pub LeavesTrace : ScriptData → List (List Frame) → ℕ → List ℕ → List ℕ → List ℕ → Files → Files → Type 0
-LeavesTrace script files room target journal log old new = LeavesPlay script files target journal old new ⊎ LeavesLog script files room target journal log old new

@@ -45,13 +45,9 @@ abbrev pub greatest_cost : ScriptData → List TrackSpec → ℕ
 greatest_cost script [] = 0
 greatest_cost script (track ∷ tracks) = max (track_cost script track) (greatest_cost script tracks)
 
--- the rounds that are enough
+-- the rounds that are enough, with sixteen cycles each
 abbrev pub enough_rounds : ScriptData → ℕ
 enough_rounds script = 16 + greatest_cost script script.tracks
-
--- the cycles that are enough: sixteen in each round
-abbrev pub enough_for : ScriptData → ℕ
-enough_for script = 16 * enough_rounds script
 
 -- each track plays through
 abbrev pub all_play_through : ScriptData → Bool
@@ -60,4 +56,4 @@ all_play_through script = list_all (λ track. play_through track.ops) script.tra
 -- a script whose tracks play through, with enough cycles
 pub record HasEnoughCycles (script : ScriptData) : Type 0 where
   pub form : all_play_through script ≡ true
-  pub enough : enough_for script ≤ script.cycles
+  pub enough : 16 * enough_rounds script ≤ script.cycles

@@ -3,7 +3,7 @@ ghost use Rattle.std.specs.Prelude.{◌≡◌, ◌+◌, ◌*◌, ◌≤◌, ◌<
 ghost use Rattle.std.specs.List.{sum_by};
 ghost use Rattle.af_script.specs.Bounds.{most_ops, most_buffer};
 ghost use Rattle.af_script.specs.Form.{IsScript, IsTrack};
-ghost use Rattle.af_enough.specs.Enough.{HasEnoughCycles, all_play_through, enough_for, goes_on, greatest_cost, is_ending, op_cost, play_through, portion, track_cost};
+ghost use Rattle.af_enough.specs.Enough.{HasEnoughCycles, all_play_through, goes_on, greatest_cost, is_ending, op_cost, play_through, portion, track_cost, enough_rounds};
 
 use af_script::{Op, Script, TrackSpec};
 
@@ -114,7 +114,7 @@ fn greatest_cost(script: &Script) -> u64
 /// The cycles that are enough for a script, if each of its tracks plays through: it is opened and started, then its gains and writes
 /// follow, at most 1024 gains directly one after another, then it is stopped, drained and removed. None if a track does something else.
 pub fn enough_cycles(script: &Script) -> Option<u64>
-    ensures value { result ≡ (if all_play_through script.now then Some (enough_for script.now) else None) }
+    ensures value { result ≡ (if all_play_through script.now then Some (16 * enough_rounds script.now) else None) }
     ensures enough { IfSome result (λ cycles. cycles ≤ script.now.cycles → HasEnoughCycles script.now) }
 {
     if all_play_through(script) {

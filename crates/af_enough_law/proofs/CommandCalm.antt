@@ -15,7 +15,7 @@ use Rattle.af_life.specs.Heard.{learnt, heard, ready}
 use Rattle.af_life.specs.Kept.{Setup, NormalKept, Outside, Learnt, track_at, track_in, nothing_seen}
 use Rattle.af_life.specs.Looks.{takes_command, command_events, did, all_command_events}
 use Rattle.af_life.specs.Obeys.{shows_command}
-use Rattle.af_life.specs.Serves.{settled_told, status_word, is_found_shut, stored_over, status_due, after_report, IsServed}
+use Rattle.af_life.specs.Serves.{status_word, is_found_shut, stored_over, status_due, after_report, IsServed}
 use Rattle.af_life.specs.State.{code_of}
 use Rattle.af_life.specs.TurnEvents.{tracks_at, invalid, status_events, command_events_of, command_list}
 use Rattle.af_life.proofs.Lives.{acked_len, not_yet}
@@ -100,7 +100,7 @@ word_state code settled false low = omega (arith, low)
 -- the word of a track that isn't shut says so
 word_calm : (s : TrackKept) → not (state_in (status_word false s) == 15) ≡ true
 unfolding status_word
-word_calm s = let small = code_small s.life.state in let is = word_state (code_of s.life.state) (settled_told s) s.life.drained small in let other : (state_in (status_word false s) == 15) ≡ false = search (arith, is, small) in ap not other
+word_calm s = let small = code_small s.life.state in let is = word_state (code_of s.life.state) (s.settled % 16777216) s.life.drained small in let other : (state_in (status_word false s) == 15) ≡ false = search (arith, is, small) in ap not other
 
 stored_calm : (last word : ℕ) → not (state_in word == 15) ≡ true → are_calm (status_events (stored_over last word)) ≡ true
 stored_calm last word calm = by (word == last)

@@ -13,7 +13,7 @@ use Rattle.af_runs.specs.declared.want.ClientCommand.TheVariants as command
 use Rattle.af_runs.specs.declared.want.Mode.{Mode}
 use Rattle.af_runs.specs.declared.want.Want.{Want}
 use Rattle.af_runs.specs.declared.want.Want.TheVariants as want
-use Rattle.af_runs.specs.Clients.{Client, only, wants_of, begins, begun, asked_first, rest_of, rested, at_next_turn, is_last, more, after_send, after_write, after_status, after_clear, after_answer}
+use Rattle.af_runs.specs.Clients.{Client, wants_of, begins, begun, asked_first, rest_of, rested, at_next_turn, is_last, more, after_send, after_write, after_status, after_clear, after_answer}
 use Rattle.af_runs.specs.ClientTurns.{Side, Track, is_of_commands, called, released_by, after_calls, LegalClientTurn, IsWanted, IsMade, with_call, commands_sent, wanted_of, after_call, AreCalls}
 
 -- ## Wants and ops that poke nothing
@@ -39,7 +39,7 @@ pub record IsPokeless (c : Client) : Type 0 where
   pub due : plain_wants c.due ≡ true
   pub ops : plain_ops c.ops ≡ true
 
-only_plain : (b : Bool) (wants : List Want) → plain_wants wants ≡ true → plain_wants (only b wants) ≡ true
+only_plain : (b : Bool) (wants : List Want) → plain_wants wants ≡ true → plain_wants (if b then wants else []) ≡ true
 only_plain true wants h = h
 only_plain false wants h = refl
 

@@ -8,7 +8,7 @@ use Rattle.af_life.specs.declared.track.Life.{Life}
 use Rattle.af_life.specs.Heard.{learnt, heard}
 use Rattle.af_life.specs.Kept.{track_at}
 use Rattle.af_life.specs.Reports.{by_report}
-use Rattle.af_life.specs.Serves.{settled_told, status_word}
+use Rattle.af_life.specs.Serves.{status_word}
 use Rattle.af_life.specs.State.{code_of}
 use Rattle.af_model.specs.Journals.{RoundSeen}
 use Rattle.af_runs.specs.Blocks.{Marks}
@@ -29,13 +29,14 @@ use Rattle.af_enough_law.proofs.SeesStopped.{SaysStopped, remove_sent}
 use Rattle.af_enough_law.proofs.StatusSaid.{look_says}
 use Rattle.af_enough_law.proofs.TakesAll.{CommandsMet}
 use Rattle.af_enough_law.proofs.Turning.{Stands}
+use Rattle.std.specs.Prelude.{◌%◌}
 
 -- ## The words of a stopped track
 
 says_word : (s : TrackKept) → code_of s.life.state ≡ 8 → s.life.drained ≡ true → 3 ≤ s.settled → s.settled ≤ 4 → SaysStopped (status_word false s)
 unfolding status_word
 says_word s code dry some few =
-    let word : status_word false s ≡ 8 + 16 + 256 * settled_told s = λ j. code j + (if dry j then 16 else 0) + 256 * settled_told s in
+    let word : status_word false s ≡ 8 + 16 + 256 * (s.settled % 16777216) = λ j. code j + (if dry j then 16 else 0) + 256 * (s.settled % 16777216) in
     subst SaysStopped (sym word) (record { state = omega arith; settled = omega (arith, some, few) })
 
 -- a stopped life stays stopped, whether or not it is removed

@@ -9,7 +9,6 @@ use Rattle.af_life.specs.declared.track.Life.{Life}
 use Rattle.af_life.specs.State.{is_among}
 use Rattle.af_life.specs.Commands.{Row, applies, by_command, commands, first_effect}
 use Rattle.af_life.specs.Obeys.{after_look, after_looks, are_due, ended, goes_on, is_shut, must_wait, obeyed, opens, shows_command, told}
-use Rattle.af_life.specs.Serves.{settled_told}
 use Rattle.af_entry_law.specs.Told.{life_told, track_told}
 
 pub no : {A : Type 0} → false ≡ true → A
@@ -124,7 +123,7 @@ module _ (given : Option ℕ) (f g : ℕ) where
 
   -- these looks make the same of both tracks, if they are due and a status word says of both that as many commands are settled
   abbrev Rest : ℕ → List CommandLook → Type 0
-  Rest n looks = (a b : TrackKept) → track_told a ≡ track_told b → are_due n given f looks a ≡ true → are_due n given g looks b ≡ true → settled_told (after_looks given f looks a) ≡ settled_told (after_looks given g looks b)
+  Rest n looks = (a b : TrackKept) → track_told a ≡ track_told b → are_due n given f looks a ≡ true → are_due n given g looks b ≡ true → ((after_looks given f looks a).settled % 16777216) ≡ ((after_looks given g looks b).settled % 16777216)
       → track_told (after_looks given f looks a) ≡ track_told (after_looks given g looks b)
 
   pub looks_same : (n : ℕ) (looks : List CommandLook) → Rest n looks
@@ -134,23 +133,23 @@ module _ (given : Option ℕ) (f g : ℕ) where
   looks_same (suc n) (look ∷ looks) a b same due due' count = by_next (λ x y at d d' c. looks_same n looks x y at d d' c) (after_look given f look a) (after_look given g look b) (look_together look a b same) due due' count
     where
       -- the looks behind a look make the same of both tracks
-      by_goes : Rest n looks → (p q : Bool) → p ≡ q → (x y : TrackKept) → track_told x ≡ track_told y → Due given n looks f p x → Due given n looks g q y → settled_told (left given looks f p x) ≡ settled_told (left given looks g q y) → track_told (left given looks f p x) ≡ track_told (left given looks g q y)
+      by_goes : Rest n looks → (p q : Bool) → p ≡ q → (x y : TrackKept) → track_told x ≡ track_told y → Due given n looks f p x → Due given n looks g q y → ((left given looks f p x).settled % 16777216) ≡ ((left given looks g q y).settled % 16777216) → track_told (left given looks f p x) ≡ track_told (left given looks g q y)
       by_goes rest true true e x y at d d' c = rest x y at d d' c
       by_goes rest false false e x y at d d' c = at
       by_goes rest true false e x y at d d' c = no (sym e)
       by_goes rest false true e x y at d d' c = no e
 
       -- if a track waits no look is left, so the other has settled one more
-      waiting : (h k : ℕ) (x y : TrackKept) → is_some x.awaits ≡ true → y.settled ≡ x.settled + 1 → Due given n looks h (goes_on look x) x → settled_told (left given looks h (goes_on look x) x) ≡ settled_told (left given looks k (goes_on look y) y) → ⊥
+      waiting : (h k : ℕ) (x y : TrackKept) → is_some x.awaits ≡ true → y.settled ≡ x.settled + 1 → Due given n looks h (goes_on look x) x → ((left given looks h (goes_on look x) x).settled % 16777216) ≡ ((left given looks k (goes_on look y) y).settled % 16777216) → ⊥
       waiting h k x y waits more d c =
           let off : goes_on look x ≡ false = stops look x waits in
           let none : looks ≡ [] = none_left looks (subst (λ (p : Bool). Due given n looks h p x) off d) in
-          let here : settled_told x ≡ settled_told (left given looks h (goes_on look x) x) = ap (λ (p : Bool). settled_told (left given looks h p x)) (sym off) in
-          let there : settled_told (left given looks k (goes_on look y) y) ≡ settled_told y = ap (λ (l : List CommandLook). settled_told (left given l k (goes_on look y) y)) none ∙ ap (λ (n : ℕ). n % 16777216) (either_way (goes_on look y) y) in
-          let all : settled_told x ≡ settled_told y = here ∙ c ∙ there in
+          let here : (x.settled % 16777216) ≡ ((left given looks h (goes_on look x) x).settled % 16777216) = ap (λ (p : Bool). ((left given looks h p x).settled % 16777216)) (sym off) in
+          let there : ((left given looks k (goes_on look y) y).settled % 16777216) ≡ (y.settled % 16777216) = ap (λ (l : List CommandLook). ((left given l k (goes_on look y) y).settled % 16777216)) none ∙ ap (λ (n : ℕ). n % 16777216) (either_way (goes_on look y) y) in
+          let all : (x.settled % 16777216) ≡ (y.settled % 16777216) = here ∙ c ∙ there in
           omega (arith, all, more)
 
-      by_next : Rest n looks → (x y : TrackKept) → Together x y → Due given n looks f (goes_on look x) x → Due given n looks g (goes_on look y) y → settled_told (left given looks f (goes_on look x) x) ≡ settled_told (left given looks g (goes_on look y) y)
+      by_next : Rest n looks → (x y : TrackKept) → Together x y → Due given n looks f (goes_on look x) x → Due given n looks g (goes_on look y) y → ((left given looks f (goes_on look x) x).settled % 16777216) ≡ ((left given looks g (goes_on look y) y).settled % 16777216)
           → track_told (left given looks f (goes_on look x) x) ≡ track_told (left given looks g (goes_on look y) y)
       by_next rest x y (inl at) d d' c = by_goes rest (goes_on look x) (goes_on look y) (ap (goes_on look) at) x y at d d' c
       by_next rest x y (inr (inl (waits, more))) d d' c = absurd (waiting f g x y waits more d c)

@@ -10,11 +10,12 @@ use Rattle.af_life.specs.Heard.{counts_in, heard, is_reached, is_reported, noted
 use Rattle.af_life.specs.Kept.{Learnt, Setup, is_home, nothing_seen, no_counts, seen_at, track_at}
 use Rattle.af_life.specs.Obeys.{after_looks, are_due, is_shut, slot_for}
 use Rattle.af_life.specs.Reports.{by_report}
-use Rattle.af_life.specs.Serves.{HasDueLooks, IsServed, LegalTrack, after_commands, after_part, is_found_shut, most_looks, served, served_to, settled_told, state_code, status_due, status_word, stored_over}
+use Rattle.af_life.specs.Serves.{HasDueLooks, IsServed, LegalTrack, after_commands, after_part, is_found_shut, most_looks, served, served_to, state_code, status_due, status_word, stored_over}
 use Rattle.af_entry_law.specs.Told.{life_told, track_told}
 use Rattle.af_entry_law.proofs.SameCommands.{looks_same, no, shut_ends}
 use Rattle.af_entry_law.proofs.SameReports.{reports_same, state_code_small, stored_tells, word_tells}
 use Rattle.af_entry_law.proofs.ToldLists.{same_at, same_set, same_slot, tracks_told}
+use Rattle.std.specs.Prelude.{◌%◌}
 
 -- ## What was heard
 
@@ -75,16 +76,16 @@ module _ (given : Option ℕ) (h k : Heard) (seen : TrackSeen) (a b : TrackKept)
   abbrev y : TrackKept
   y = after_commands given k looks b
 
-  tells : (state_code (is_found_shut h looks) (by_report h.known x.life) ≡ state_code (is_found_shut k looks) (by_report k.known y.life)) × (settled_told x ≡ settled_told y)
+  tells : (state_code (is_found_shut h looks) (by_report h.known x.life) ≡ state_code (is_found_shut k looks) (by_report k.known y.life)) × ((x.settled % 16777216) ≡ (y.settled % 16777216))
   unfolding status_word
-  tells = word_tells (state_code (is_found_shut h looks) (by_report h.known x.life)) (state_code (is_found_shut k looks) (by_report k.known y.life)) (by_report h.known x.life).drained (by_report k.known y.life).drained (settled_told x) (settled_told y)
+  tells = word_tells (state_code (is_found_shut h looks) (by_report h.known x.life)) (state_code (is_found_shut k looks) (by_report k.known y.life)) (by_report h.known x.life).drained (by_report k.known y.life).drained (x.settled % 16777216) (y.settled % 16777216)
       (state_code_small (is_found_shut h looks) (by_report h.known x.life)) (state_code_small (is_found_shut k looks) (by_report k.known y.life)) words
 
   commanded_same : track_told x ≡ track_told y
   commanded_same = by_waits (is_some a.awaits) (is_some b.awaits) (ap (λ (s : TrackKept). is_some s.awaits) same) is.looks is'.looks tells.1
     where
       by_waits : (p q : Bool) → p ≡ q → MatchBool p (looks ≡ []) (are_due most_looks given h.flush_seen looks a ≡ true) → MatchBool q (looks ≡ []) (are_due most_looks given k.flush_seen looks b ≡ true)
-          → settled_told (if p then a else after_looks given h.flush_seen looks a) ≡ settled_told (if q then b else after_looks given k.flush_seen looks b)
+          → ((if p then a else after_looks given h.flush_seen looks a).settled % 16777216) ≡ ((if q then b else after_looks given k.flush_seen looks b).settled % 16777216)
           → track_told (if p then a else after_looks given h.flush_seen looks a) ≡ track_told (if q then b else after_looks given k.flush_seen looks b)
       by_waits true true e due due' count = same
       by_waits false false e due due' count = looks_same given h.flush_seen k.flush_seen most_looks looks a b same due due' count

@@ -1,5 +1,5 @@
 -- The entry that a cycle adds is a legal one, and what it says was done.
-use Rattle.std.proofs.Common.{◌≡◌, ℕ, zero, suc, ◌+◌, ◌-◌, ◌*◌, ◌<◌, ◌≤◌, ◌==◌, ◌||◌, eq-eqb, MatchOption, option_copied, Bor, Bool, true, false, true≢false, List, [], ◌∷◌, ◌++◌, length, Option, Some, None, refl, sym, ap, subst, ◌∙◌, append-nil, length-append, if◌then◌else◌, arith}
+use Rattle.std.proofs.Common.{◌≡◌, ℕ, zero, suc, ◌+◌, ◌-◌, ◌*◌, ◌<◌, ◌≤◌, ◌==◌, ◌||◌, eq-eqb, fold, Bool, true, false, true≢false, List, [], ◌∷◌, ◌++◌, length, Option, Some, None, refl, sym, ap, subst, ◌∙◌, append-nil, length-append, if◌then◌else◌, arith}
 use Rattle.std.proofs.Math.Nat.{add-zero, suc-mul}
 use Rattle.af_base.specs.declared.frame.Frame.{Frame}
 use Rattle.af_base.specs.declared.log.Cycle.{Cycle}
@@ -7,19 +7,18 @@ use Rattle.af_base.specs.declared.log.Cycle.TheVariants as cycle
 use Rattle.af_base.specs.declared.log.CycleEntry.{CycleEntry}
 use Rattle.af_base.specs.declared.report.SlotReport.{SlotReport}
 use Rattle.af_base.specs.declared.state.FastState.{FastState}
-use Rattle.af_base.specs.Log.{slots}
+use Rattle.af_base.specs.Log.{slots, entry_at}
 use Rattle.af_model.specs.declared.newest.WriterEvent.TheVariants.{Store}
 use Rattle.af_model.specs.Cycles.{Mixes, state_of, cycle_of, is_mixed, still_entry, taken_before}
 use Rattle.af_model.specs.Reports.{IsNextReport, report_at, slot_report}
-use Rattle.af_server.specs.Order.{ServerState}
-use Rattle.af_stateq.specs.Observes.{Observes, InOrder}
+use Rattle.af_stateq.specs.Observes.{InOrder}
 use Rattle.af_stateq.specs.Shelved.{no_state}
-use Rattle.af_link.specs.declared.names.StreamNames.{StreamNames}
 use Rattle.af_fast.specs.Fits.{stream_fits}
 use Rattle.af_fast.specs.Known.{known}
 use Rattle.af_fast.specs.Mixer.{MixerState, IsInOrderAfter, AreFew, adopted_states, all_entries, is_over, most_entries}
 use Rattle.af_fast.specs.Mixing.{StoresReport, notes, AddsCycleAfter, Takes, Writes, MixesOnceAfter}
 use Rattle.af_fast.specs.Slots.{PlaysSlots, found}
+use Rattle.af_fast.proofs.LentState.{none_now}
 use Rattle.af_fast.proofs.HeldFacts.{some_same}
 use Rattle.af_fast.proofs.SlotsDone.{taken_few}
 use Rattle.af_fast.proofs.Noted.{IsPlayed, now, is_now, noted_order}
@@ -200,18 +199,29 @@ room_one m k goes =
 
 -- before the first state is pushed no state is current
 pub none_current : {earlier : List CycleEntry} (m : MixerState) → IsInOrderAfter earlier m → m.observer.past.number ≡ 0 → m.observer.current ≡ None
-none_current m k none = sym (k.observer.told.current no_state) ∙ ap (state_of (adopted_states m)) none
+none_current m k none = none_now m.observer k.observer none
 
-by_number : (n : ℕ) (now : Option FastState) (s x : FastState) → (n ≡ 0 → now ≡ None) → (0 < n → now ≡ Some s) → now ≡ Some x → x ≡ s
-by_number zero now s x none some is = let gone : None ≡ Some x = sym (none refl) ∙ is in cc
-by_number (suc n) now s x none some is = some_same x s (sym is ∙ some (omega arith))
+positive : (n : ℕ) → (n ≡ 0 → ⊥) → 0 < n
+positive zero never = absurd (never refl)
+positive (suc n) never = omega arith
 
--- the current state is the state adopted
-pub current_state : {earlier : List CycleEntry} (m : MixerState) (x : FastState) → IsInOrderAfter earlier m → m.observer.current ≡ Some x → x ≡ m.observer.past.state
-current_state m x k is = by_number m.observer.past.number m.observer.current m.observer.past.state x (none_current m k) k.observer.told.state is
+-- a state was adopted if a cycle mixes
+pub mixed_some : {earlier : List CycleEntry} (m : MixerState) → IsInOrderAfter earlier m → cycle.Mixed ≡ cycle_of m.cold m.observer.current → 0 < m.observer.past.number
+mixed_some m k mixed = positive m.observer.past.number (λ none. true≢false (ap is_mixed (mixed ∙ ap (cycle_of m.cold) (none_current m k none))))
 
--- the copy of what the observer lends is its current state
-pub current_copied : (o : Observes ServerState StreamNames) (lent : Option (Bor FastState)) (copied : Option FastState) → (o.past.number ≡ 0 → o.current ≡ None)
-    → MatchOption lent (o.past.number ≡ 0) (λ s. (0 < o.past.number) × (s.now ≡ o.past.state) × (o.current ≡ Some s.now)) → copied ≡ option_copied lent → copied ≡ o.current
-current_copied o None copied none lends same = same ∙ sym (none lends)
-current_copied o (Some s) copied none lends same = same ∙ sym lends.2
+-- the last of some entries is the last one that used a state
+last_from : (number : ℕ) (es : List CycleEntry) (n : ℕ) → length es ≡ suc n → fold (λ (number : ℕ) (entry : CycleEntry). entry.state) number es ≡ (entry_at es n).state
+last_from number [] n long = absurd (omega (arith, long))
+last_from number (e ∷ []) zero long = refl
+last_from number (e ∷ []) (suc n) long = absurd (omega (arith, long))
+last_from number (e ∷ d ∷ es) zero long = absurd (omega (arith, long))
+last_from number (e ∷ d ∷ es) (suc n) long = last_from e.state (d ∷ es) n (omega (arith, long))
+
+last_after : (number : ℕ) (earlier es : List CycleEntry) (n : ℕ) → length es ≡ suc n → fold (λ (number : ℕ) (entry : CycleEntry). entry.state) number (earlier ++ es) ≡ (entry_at es n).state
+last_after number [] es n long = last_from number es n long
+last_after number (e ∷ earlier) es n long = last_after e.state earlier es n long
+
+-- the state that the last entry used is the current one, if it has its number
+pub kept_so : {earlier : List CycleEntry} (m : MixerState) (n : ℕ) (e : CycleEntry) → IsInOrderAfter earlier m → length m.log.entries ≡ suc n → e ≡ entry_at m.log.entries n → e.state ≡ m.observer.past.number → m.last ≡ m.observer.current
+kept_so {earlier} m n e k long is same =
+    k.keeps.last_is ∙ ap (state_of (adopted_states m)) (last_after 0 earlier m.log.entries n long ∙ ap (λ (y : CycleEntry). y.state) (sym is) ∙ same) ∙ k.observer.told.current no_state

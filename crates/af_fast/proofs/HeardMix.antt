@@ -72,6 +72,25 @@ module _ (frames : List Frame) (entry : CycleEntry) where
   pub one_then : (i n : ℕ) → heard_takes frames entry i 1 ++ heard_takes frames entry (i + 1) n ≡ heard_takes frames entry i (suc n)
   one_then i n = one_case (count i == 0) (slot_take frames entry i) (heard_takes frames entry (i + 1) n)
 
+  -- slots that took no frames give no take that is heard
+  quiet_takes : (n i : ℕ) → ((j : ℕ) → i ≤ j → j < i + n → count j ≡ 0) → heard_takes frames entry i n ≡ []
+  quiet_takes zero i none = refl
+  quiet_takes (suc n) i none =
+      ap (λ (c : ℕ). if c == 0 then heard_takes frames entry (i + 1) n else slot_take frames entry i ∷ heard_takes frames entry (i + 1) n) (none i (omega arith) (omega arith))
+      ∙ quiet_takes n (i + 1) (λ j le lt. none j (omega (arith, le)) (omega (arith, lt)))
+
+  -- the takes of the first slots are all that are heard, if no later one took frames
+  few_takes : (k n i : ℕ) → k ≤ n → ((j : ℕ) → i + k ≤ j → j < i + n → count j ≡ 0) → heard_takes frames entry i k ≡ heard_takes frames entry i n
+  few_takes zero n i le none = sym (quiet_takes n i (λ j from to. none j (omega (arith, from)) to))
+  few_takes (suc k) zero i le none = absurd (omega (arith, le))
+  few_takes (suc k) (suc n) i le none =
+      ap (λ (ts : List Take). if count i == 0 then ts else slot_take frames entry i ∷ ts)
+      (few_takes k n (i + 1) (omega (arith, le)) (λ j from to. none j (omega (arith, from)) (omega (arith, to))))
+
+  -- the mix of the takes of the first slots is that of all takes, if no later slot took frames
+  pub mix_used : (used len : ℕ) → used ≤ slots → ((j : ℕ) → used ≤ j → j < slots → count j ≡ 0) → mix (heard_takes frames entry 0 used) len ≡ mix (takes_of frames entry) len
+  mix_used used len few none = ap (λ (ts : List Take). mix ts len) (few_takes used slots 0 few (λ j from to. none j (omega (arith, from)) (omega (arith, to)))) ∙ mix_all len
+
   -- each take that is heard fits a mix
   module _ (asked : ℕ) (within : (i : ℕ) → i < slots → count i ≤ asked) (scaled : (i : ℕ) → i < slots → slice_index_or entry.scales i 0 ≤ 4096) where
     abbrev Fits : Take → Type 0
@@ -88,7 +107,7 @@ module _ (frames : List Frame) (entry : CycleEntry) where
     all_fit zero i few = All-nil Fits
     all_fit (suc n) i few = case_fits (count i == 0) (slot_take frames entry i) (heard_takes frames entry (i + 1) n) (slot_fits i (omega (arith, few))) (all_fit n (i + 1) (omega (arith, few)))
 
-    pub parts_fit : (parts : List Part) → map take_of parts ≡ heard_takes frames entry 0 slots → All (λ (part : Part). (length part.frames.now ≤ asked) × (part.scale ≤ 4096)) parts
-    parts_fit parts are = λ k d lt.
-        let fits : All Fits (map take_of parts) = subst (All Fits) (sym are) (all_fit slots 0 (omega arith)) in
+    pub parts_fit : (used : ℕ) → used ≤ slots → (parts : List Part) → map take_of parts ≡ heard_takes frames entry 0 used → All (λ (part : Part). (length part.frames.now ≤ asked) × (part.scale ≤ 4096)) parts
+    parts_fit used few parts are = λ k d lt.
+        let fits : All Fits (map take_of parts) = subst (All Fits) (sym are) (all_fit used 0 (omega (arith, few))) in
         subst Fits (get_or-map take_of parts k d (take_of d) lt) (fits k (take_of d) (omega (arith, lt, length-map parts take_of)))

@@ -1,7 +1,9 @@
+mod LentState
 mod HeldFacts
 mod SlotSteps
 mod SlotsDone
 mod Counted
+mod Quiet
 mod HeardMix
 mod Parts
 mod Adopted

@@ -16,7 +16,7 @@ use Rattle.af_server.specs.Order.{ServerState}
 use Rattle.af_stateq.specs.Mutates.{at}
 use Rattle.af_stateq.specs.Observes.{Observes}
 use Rattle.af_link.specs.declared.names.StreamNames.{StreamNames}
-use Rattle.af_fast.specs.Slots.{LogsSlot, SlotPlayed, PlayedTo}
+use Rattle.af_fast.specs.Slots.{IsQuietFrom, LogsSlot, SlotPlayed, PlayedTo}
 
 below : (i j : ℕ) → j < suc i → (j < i) ⊎ (j ≡ i)
 below i j lt = elim (cases_eq j i) [ inl e ↦ inr e | inr other ↦ inl (omega (arith, other)) ]
@@ -58,6 +58,13 @@ module _ (asked : ℕ) (x : FastState) (place : ℕ) (o : Observes ServerState S
         quiet = (λ j some lt' no. elim (below i j lt') [ inl less ↦ p.quiet j some less no | inr e ↦ subst (λ j. (at o'.items j ≡ at o.items j) × (entry_slot entry' j ≡ absent)) (sym e) here ]);
         rest = (λ j le lt'. p.rest j (omega arith) lt');
       }
+
+  -- the slots are played further, over slots that have no track
+  pub rest_all : (o' : Observes ServerState StreamNames) (frames : List Frame) (entry' : CycleEntry) (n i : ℕ) → Played o' frames entry' i → 0 < i → i + n ≤ slots → IsQuietFrom x i → Played o' frames entry' (i + n)
+  rest_all o' frames entry' zero i p low few quiet = subst (Played o' frames entry') (let e : i ≡ i + 0 = omega arith in e) p
+  rest_all o' frames entry' (suc n) i p low few quiet =
+      subst (Played o' frames entry') (let e : suc i + n ≡ i + suc n = omega arith in e)
+      (rest_all o' frames entry' n (suc i) (rest_step o' frames entry' i p low (omega (arith, few)) (quiet i (omega arith))) (omega arith) (omega (arith, few)) (λ j le. quiet j (omega (arith, le))))
 
   -- the slots are played one further, over a slot that has a track
   module _ (o' o'' : Observes ServerState StreamNames) (frames frames'' : List Frame) (entry' : CycleEntry) (i : ℕ) (e : SlotEntry)

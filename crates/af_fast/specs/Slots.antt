@@ -82,6 +82,10 @@ pub record PlayedTo (asked : ℕ) (x : FastState) (place : ℕ) (o o' : Observes
   pub quiet : (j : ℕ) → 0 < j → j < i → carries x j ≡ false → (at o'.items j ≡ at o.items j) × (entry_slot entry' j ≡ absent)
   pub rest : (j : ℕ) → i ≤ j → j < slots → (at o'.items j ≡ at o.items j) × (entry_slot entry' j ≡ absent)
 
+-- the state has no track in this slot, or in a later one
+abbrev pub IsQuietFrom : FastState → ℕ → Type 0
+IsQuietFrom x used = (i : ℕ) → used ≤ i → carries x i ≡ false
+
 -- the entry of a mix before its slots are played
 pub record IsMarked (number : ℕ) (x : FastState) (entry : CycleEntry) : Type 0 where
   pub state : entry.state ≡ number

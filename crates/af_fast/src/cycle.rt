@@ -3,31 +3,16 @@ ghost use Rattle.std.specs.Prelude.{◌≡◌, ◌+◌, ◌*◌, ◌≤◌, true
 ghost use Rattle.af_base.specs.declared.log.Cycle.TheVariants as cycle;
 ghost use Rattle.af_base.specs.declared.log.CycleEntry.{CycleEntry};
 ghost use Rattle.af_base.specs.Log.{slots};
-ghost use Rattle.af_model.specs.Cycles.{cycle_of, is_mixed};
+ghost use Rattle.af_model.specs.Cycles.{is_mixed};
 ghost use Rattle.af_fast.specs.Mixer.{IsInOrderAfter, IsLinked, IsSound, MixerState, StaysInOrder, is_over};
 ghost use Rattle.af_fast.specs.Mixing.{AddsCycleAfter, Adopts, MixesOnceAfter, Writes};
 ghost use Rattle.af_model.specs.Tracks.{tracks_of};
 
+use crate::current::cycle_of;
 use crate::mixer::FastMixer;
-use af_base::{Command, Cycle, FastState, Frame, Steps};
+use af_base::{Cycle, Frame, Steps};
 use af_link::Links;
 use std::sync::ledger::Ledger;
-
-// What a cycle is by its state.
-fn cycle_of(done: u64, state: &Option<FastState>) -> Cycle
-    ensures { result ≡ cycle_of done state.now }
-{
-    let Some(state) = state else {
-        return Cycle::Idle;
-    };
-    match state.command {
-        Command::Exit => Cycle::Exit,
-        Command::ColdIdle if state.cold_gen == done => Cycle::Idle,
-        Command::ColdIdle => Cycle::Cold,
-        Command::MixWrite => Cycle::Mixed,
-        _ => Cycle::Idle,
-    }
-}
 
 // Whether a cycle mixes.
 fn is_mixed(cycle: Cycle) -> bool
@@ -96,13 +81,12 @@ impl FastMixer {
         ensures steps { let tracks = tracks_of self.old.observer.past.state in steps.new ≤ steps.old + (tracks + 1) * self.old.frames + 7 * tracks + 4 }
         ensures state { self.new.observer.past ≡ self.old.observer.past }
     {
-        let state = self.observer.current().copied();
-        let kind = cycle_of(self.cold, &state);
+        let kind = cycle_of(self.cold, &self.observer);
         if is_mixed(kind) {
-            self.add_mix(links, &state, out, steps);
+            self.add_mix(links, out, steps);
             return kind;
         }
-        self.add_still(links, &state, kind, steps);
+        self.add_still(links, kind, steps);
         kind
     }
 

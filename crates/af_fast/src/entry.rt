@@ -1,5 +1,5 @@
 //! How the entry of a cycle is made and noted.
-ghost use Rattle.std.specs.Prelude.{◌≡◌, ℕ, ◌+◌, ◌*◌, ◌<◌, ◌≤◌, ◌^◌, ◌++◌, ◌∷◌, [], Some, false, if◌then◌else◌, List, length};
+ghost use Rattle.std.specs.Prelude.{◌≡◌, ℕ, ◌+◌, ◌*◌, ◌<◌, ◌≤◌, ◌^◌, ◌++◌, ◌∷◌, [], true, false, if◌then◌else◌, List, length};
 ghost use Rattle.af_base.specs.Log.{slots, takes_of};
 ghost use Rattle.af_base.specs.Mix.{mix};
 ghost use Rattle.af_base.specs.declared.log.Cycle.TheVariants as cycle;
@@ -15,36 +15,40 @@ ghost use Rattle.af_fast.specs.Mixing.{AddsCycleAfter, StoresReport, Writes, not
 ghost use Rattle.af_fast.specs.Slots.{PlaysSlots, SameEntries};
 ghost use Rattle.af_model.specs.Tracks.{tracks_of};
 
+use crate::current::{cold_after, keep_current};
 use crate::heard::mix_heard;
 use crate::mixer::FastMixer;
 use crate::report::report_all;
 use crate::slots::{play_slots, still_entry};
-use af_base::{Cycle, CycleEntry, FastState, Frame, Steps};
+use af_base::{Cycle, CycleEntry, Frame, Steps};
 use af_link::Links;
 use std::sync::ledger::Ledger;
 
-// The cold generation performed last, after an entry under a state.
-fn cold_after(done: u64, cycle: Cycle, state: &Option<FastState>) -> u64
-    ensures { result ≡ (if is_cold cycle then cold_of state.now else done) }
-{
-    match (cycle, state) {
-        (Cycle::Cold, None) => 0,
-        (Cycle::Cold, Some(state)) => state.cold_gen,
-        _ => done,
-    }
-}
-
 impl FastMixer {
+    // Whether the last entry used the state adopted. It is known only of an entry that the log hasn't forgotten.
+    fn has_kept(&self) -> bool
+        requires { IsSound self.now }
+        ensures { result ≡ true → self.now.last ≡ self.now.observer.current }
+    {
+        let len = self.log.len();
+        if len == 0 {
+            return false;
+        }
+        match self.log.entry(len - 1) {
+            None => false,
+            Some(entry) => entry.state == self.observer.number(),
+        }
+    }
+
     /// The slots of a mix are played into its entry, and what they took is mixed.
     pub(crate) fn mix_slots<L: Ledger>(
         &mut self,
         links: &Links<'_>,
-        state: &FastState,
         entry: &mut CycleEntry,
         out: &mut [Frame],
         steps: &mut Steps<L>,
     )
-        requires state { state.now ≡ self.old.observer.past.state }
+        requires some { 0 < self.old.observer.past.number }
         requires order { InOrder stream_fits self.old.observer }
         requires names { NamesBlocks self.old.observer.past.key links.now.streams.now }
         requires made { out_made self.old.pipe ≡ links.now.pipe.now }
@@ -56,9 +60,9 @@ impl FastMixer {
         ensures made { out_made self.new.pipe ≡ links.now.pipe.now }
         ensures same { self.new ≡ (record self.old { observer = self.new.observer; pipe = self.new.pipe; log = self.new.log }) }
         ensures log { SameEntries self.old.log self.new.log }
-        ensures plays { PlaysSlots self.old.frames self.old.observer.past.number state.now self.old.observer self.new.observer self.old.pipe self.new.pipe self.old.log.frames self.new.log.frames entry.new }
+        ensures plays { PlaysSlots self.old.frames self.old.observer.past.number self.old.observer.past.state self.old.observer self.new.observer self.old.pipe self.new.pipe self.old.log.frames self.new.log.frames entry.new }
         ensures mixes { out.new ≡ mix (takes_of self.new.log.frames entry.new) (length out.old) }
-        ensures steps { steps.new ≤ steps.old + (self.old.frames + 3) + tracks_of state.now * (self.old.frames + 7) }
+        ensures steps { steps.new ≤ steps.old + (self.old.frames + 3) + tracks_of self.old.observer.past.state * (self.old.frames + 7) }
     {
         let FastMixer {
             observer,
@@ -69,26 +73,26 @@ impl FastMixer {
             ..
         } = self;
         let (_, pipe) = ends;
-        play_slots(observer, pipe, log, links, state, entry, buffer, steps);
-        mix_heard(log.frames(), entry, sums, out);
+        let used = play_slots(observer, pipe, log, links, entry, buffer, steps);
+        mix_heard(log.frames(), entry, used, sums, out);
     }
 
-    /// An entry under a state is added, and the report after it is stored.
+    /// An entry under the state adopted is added, and the report after it is stored. `kept` says that the entry before used that state.
     pub(crate) fn note<L: Ledger>(
         &mut self,
         links: &Links<'_>,
-        state: &Option<FastState>,
+        kept: bool,
         entry: &CycleEntry,
         steps: &mut Steps<L>,
     )
-        requires state { (x : FastState) → state.now ≡ Some x → x ≡ self.old.observer.past.state }
+        requires kept { kept ≡ true → self.old.last ≡ self.old.observer.current }
         requires order { InOrder stream_fits self.old.observer }
         requires cell { self.old.writer.cell ≡ links.now.report.now }
         requires room { length self.old.log.entries < self.old.log.room }
         requires later { last_cycle self.old.writer.events ≡ self.old.count }
         requires few { (self.old.count < most_entries) × AreFew most_entries self.old.reports }
-        ensures notes { self.new ≡ notes state.now entry.now self.new.writer self.new.reports self.old }
-        ensures reports { StoresReport state.now entry.now self.old self.new }
+        ensures notes { self.new ≡ notes self.old.observer.current entry.now self.new.writer self.new.reports self.old }
+        ensures reports { StoresReport self.old.observer.current entry.now self.old self.new }
         ensures cell { self.new.writer.cell ≡ self.old.writer.cell }
         ensures steps { steps.new ≡ steps.old + 1 }
     {
@@ -96,14 +100,14 @@ impl FastMixer {
         report_all(
             &mut self.observer,
             &mut self.report.slots,
-            state,
+            kept,
             &self.last,
             entry,
             self.frames,
         );
-        self.last = *state;
+        keep_current(&mut self.last, kept, &self.observer);
         self.exited = entry.cycle == Cycle::Exit;
-        self.cold = cold_after(self.cold, entry.cycle, state);
+        self.cold = cold_after(self.cold, entry.cycle, &self.observer);
         self.report.cycle += 1;
         self.ends.0.store(links.report, &self.report, steps);
     }
@@ -112,15 +116,13 @@ impl FastMixer {
     pub(crate) fn add_still<L: Ledger>(
         &mut self,
         links: &Links<'_>,
-        state: &Option<FastState>,
         kind: Cycle,
         steps: &mut Steps<L>,
     )
         requires linked { IsLinked links.now self.old }
         requires order { IsSound self.old }
         requires goes { is_over self.old ≡ false }
-        requires state { state.now ≡ self.old.observer.current }
-        requires kind { kind ≡ cycle_of self.old.cold state.now }
+        requires kind { kind ≡ cycle_of self.old.cold self.old.observer.current }
         requires still { is_mixed kind ≡ false }
         ensures linked { IsLinked links.now self.new }
         ensures order { StaysInOrder self.old self.new }
@@ -130,24 +132,23 @@ impl FastMixer {
         ensures steps { steps.new ≡ steps.old + 1 }
         ensures state { self.new.observer.past ≡ self.old.observer.past }
     {
+        let kept = self.has_kept();
         self.adopted = false;
         let entry = still_entry(self.observer.number(), kind);
-        self.note(links, state, &entry, steps);
+        self.note(links, kept, &entry, steps);
     }
 
     /// Adds the entry of a mix, and writes the mix.
     pub(crate) fn add_mix<L: Ledger>(
         &mut self,
         links: &Links<'_>,
-        state: &Option<FastState>,
         out: &mut [Frame],
         steps: &mut Steps<L>,
     )
         requires linked { IsLinked links.now self.old }
         requires order { IsSound self.old }
         requires goes { is_over self.old ≡ false }
-        requires state { state.now ≡ self.old.observer.current }
-        requires mixed { cycle.Mixed ≡ cycle_of self.old.cold state.now }
+        requires mixed { cycle.Mixed ≡ cycle_of self.old.cold self.old.observer.current }
         requires out { length out.old ≡ self.old.frames }
         ensures linked { IsLinked links.now self.new }
         ensures order { StaysInOrder self.old self.new }
@@ -158,10 +159,10 @@ impl FastMixer {
         ensures steps { let tracks = tracks_of self.old.observer.past.state in steps.new ≤ steps.old + (tracks + 1) * self.old.frames + 7 * tracks + 4 }
         ensures state { self.new.observer.past ≡ self.old.observer.past }
     {
+        let kept = self.has_kept();
         self.adopted = false;
-        let Some(pushed) = state else { unreachable!() };
         let mut entry = still_entry(self.observer.number(), Cycle::Mixed);
-        self.mix_slots(links, pushed, &mut entry, out, steps);
-        self.note(links, state, &entry, steps);
+        self.mix_slots(links, &mut entry, out, steps);
+        self.note(links, kept, &entry, steps);
     }
 }

@@ -33,13 +33,14 @@ fn slot_part<'a>(frames: &'a [Frame], entry: &CycleEntry, slot: usize) -> Part<'
 
 // Puts what a slot gives behind the first parts, if it took frames, and answers how many there are then.
 fn add_heard<'a>(
-    parts: &mut [Part<'a>; SLOTS],
+    parts: &mut [Part<'a>],
     heard: usize,
     frames: &'a [Frame],
     entry: &CycleEntry,
     slot: usize,
 ) -> usize
     requires slot { (heard ≤ slot) × (slot < slots) }
+    requires room { heard < length parts.old }
     ensures few { result ≤ slot + 1 }
     ensures takes { map take_of (take result parts.new) ≡ map take_of (take heard parts.old) ++ heard_takes frames.now entry.now slot 1 }
 {
@@ -50,25 +51,82 @@ fn add_heard<'a>(
     heard + 1
 }
 
-/// Writes the mix of an entry, from the frames of its log.
+// Puts what the slots before `used` give to the front of the parts, and answers how many took frames.
+fn add_all<'a>(
+    parts: &mut [Part<'a>],
+    frames: &'a [Frame],
+    entry: &CycleEntry,
+    used: usize,
+) -> usize
+    requires used { (used ≤ length parts.old) × (used ≤ slots) }
+    ensures few { result ≤ used }
+    ensures takes { map take_of (take result parts.new) ≡ heard_takes frames.now entry.now 0 used }
+{
+    let mut heard = 0;
+    for slot in 0..used {
+        heard = add_heard(parts, heard, frames, entry, slot);
+    }
+    heard
+}
+
+// What a slot gives that took no frames.
+fn silent<'a>() -> Part<'a> {
+    Part {
+        frames: &[],
+        mono: false,
+        gains: 0,
+        scale: 0,
+    }
+}
+
+// Writes the mix of an entry of few slots, whose parts are soon cleared.
+fn mix_few(frames: &[Frame], entry: &CycleEntry, used: usize, sums: &mut [Sum], out: &mut [Frame])
+    requires used { used ≤ 8 }
+    requires lengths { length sums.old ≡ length out.old }
+    requires within { (i : ℕ) → i < slots → count_seen (entry_slot entry.now i).seen ≤ length out.old }
+    requires scaled { (i : ℕ) → i < slots → slice_index_or entry.now.scales i 0 ≤ 4096 }
+    ensures { out.new ≡ mix (heard_takes frames.now entry.now 0 used) (length out.old) }
+{
+    let silent = silent();
+    let mut parts = [silent; 8];
+    let heard = add_all(&mut parts, frames, entry, used);
+    mix(&parts[..heard], sums, out);
+}
+
+// Writes the mix of an entry of any slots.
+fn mix_many(frames: &[Frame], entry: &CycleEntry, used: usize, sums: &mut [Sum], out: &mut [Frame])
+    requires used { used ≤ slots }
+    requires lengths { length sums.old ≡ length out.old }
+    requires within { (i : ℕ) → i < slots → count_seen (entry_slot entry.now i).seen ≤ length out.old }
+    requires scaled { (i : ℕ) → i < slots → slice_index_or entry.now.scales i 0 ≤ 4096 }
+    ensures { out.new ≡ mix (heard_takes frames.now entry.now 0 used) (length out.old) }
+{
+    let silent = silent();
+    let mut parts = [silent; SLOTS];
+    let heard = add_all(&mut parts, frames, entry, used);
+    mix(&parts[..heard], sums, out);
+}
+
+/// Writes the mix of an entry, from the frames of its log. From the slot `used` on no slot took frames.
 ///
 /// `sums` is scratch room of `out`'s length.
-pub(crate) fn mix_heard(frames: &[Frame], entry: &CycleEntry, sums: &mut [Sum], out: &mut [Frame])
+pub(crate) fn mix_heard(
+    frames: &[Frame],
+    entry: &CycleEntry,
+    used: usize,
+    sums: &mut [Sum],
+    out: &mut [Frame],
+)
+    requires used { used ≤ slots }
+    requires none { (i : ℕ) → used ≤ i → i < slots → count_seen (entry_slot entry.now i).seen ≡ 0 }
     requires lengths { length sums.old ≡ length out.old }
     requires within { (i : ℕ) → i < slots → count_seen (entry_slot entry.now i).seen ≤ length out.old }
     requires scaled { (i : ℕ) → i < slots → slice_index_or entry.now.scales i 0 ≤ 4096 }
     ensures { out.new ≡ mix (takes_of frames.now entry.now) (length out.old) }
 {
-    let silent = Part {
-        frames: &[],
-        mono: false,
-        gains: 0,
-        scale: 0,
-    };
-    let mut parts = [silent; SLOTS];
-    let mut heard = 0;
-    for slot in 0..SLOTS {
-        heard = add_heard(&mut parts, heard, frames, entry, slot);
+    if used <= 8 {
+        mix_few(frames, entry, used, sums, out);
+    } else {
+        mix_many(frames, entry, used, sums, out);
     }
-    mix(&parts[..heard], sums, out);
 }

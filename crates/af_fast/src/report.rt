@@ -1,8 +1,7 @@
 //! What is reported of the slots after an entry.
-ghost use Rattle.std.specs.Prelude.{◌≡◌, ℕ, ◌<◌, ◌≤◌, true, Some, length, slice_set};
-ghost use Rattle.std.specs.Int.{bit_at};
+ghost use Rattle.std.specs.Prelude.{◌≡◌, ℕ, ◌<◌, true, Some, if◌then◌else◌, length, slice_set};
 ghost use Rattle.af_base.specs.Log.{slots};
-ghost use Rattle.af_model.specs.Reports.{no_slot, report_at, carried, counted_look, is_full, is_partial, is_empty, slot_report};
+ghost use Rattle.af_model.specs.Reports.{no_slot, report_at, carried, counted_look, slot_report};
 ghost use Rattle.af_base.specs.declared.state.FastState.{FastState};
 ghost use Rattle.af_model.specs.StateQueue.{carries};
 ghost use Rattle.af_stateq.specs.Observes.{InOrder};
@@ -10,6 +9,7 @@ ghost use Rattle.af_fast.specs.Fits.{stream_fits};
 ghost use Rattle.af_fast.specs.Known.{known, known_of};
 ghost use Rattle.af_fast.specs.Mixer.{AreFew, most_entries};
 
+use crate::current::slots_in;
 use af_base::{CycleEntry, FastState, SLOTS, Seen, SlotReport};
 use af_link::{StreamNames, no_slot};
 use af_model::carries_item;
@@ -41,52 +41,20 @@ fn known_of(observer: &mut Observer<Server, StreamNames>, slot: usize) -> KnownN
     }
 }
 
-// Whether a look showed all that was asked for.
-fn is_full(asked: usize, seen: Seen) -> bool
-    ensures { result ≡ is_full asked seen }
-{
-    match seen {
-        Seen::Frames { count } => count as usize == asked,
-        _ => false,
-    }
-}
-
-// Whether a look showed some of what was asked for.
-fn is_partial(asked: usize, seen: Seen) -> bool
-    ensures { result ≡ is_partial asked seen }
-{
-    match seen {
-        Seen::Frames { count } => count as usize != asked,
-        _ => false,
-    }
-}
-
-// Whether a look showed nothing.
-fn is_empty(seen: Seen) -> bool
-    ensures { result ≡ is_empty seen }
-{
-    matches!(seen, Seen::Empty)
-}
-
 // A report goes on with one more look at a server of which this is known.
-fn counted_look(
-    asked: usize,
-    generation: u64,
-    seen: Seen,
-    known: KnownNow,
-    before: SlotReport,
-) -> SlotReport
-    requires few { (before.fulls < most_entries) × (before.partials < most_entries) × (before.empties < most_entries) }
-    ensures { result ≡ counted_look asked generation seen (known_of known) before }
+fn count_look(report: &mut SlotReport, asked: usize, generation: u64, seen: Seen, known: KnownNow)
+    requires few { (report.old.fulls < most_entries) × (report.old.partials < most_entries) × (report.old.empties < most_entries) }
+    ensures { report.new ≡ counted_look asked generation seen (known_of known) report.old }
 {
-    SlotReport {
-        consumed: known.consumed,
-        shut: known.shut,
-        generation,
-        flush_seen: known.flush_seen,
-        fulls: before.fulls + u32::from(is_full(asked, seen)),
-        partials: before.partials + u32::from(is_partial(asked, seen)),
-        empties: before.empties + u32::from(is_empty(seen)),
+    report.consumed = known.consumed;
+    report.shut = known.shut;
+    report.generation = generation;
+    report.flush_seen = known.flush_seen;
+    match seen {
+        Seen::Frames { count } if count as usize == asked => report.fulls += 1,
+        Seen::Frames { .. } => report.partials += 1,
+        Seen::Empty => report.empties += 1,
+        _ => {}
     }
 }
 
@@ -101,66 +69,80 @@ fn carried(state: &Option<FastState>, slot: usize) -> bool
     }
 }
 
-// The report of one slot goes on, if the state carries an item for it.
+// Whether the state before carries an item for a slot of the state adopted: it does if it is kept, since that is the same state.
+fn was_carried(kept: bool, last: &Option<FastState>, slot: usize) -> bool
+    requires slot { slot < slots }
+    requires kept { kept ≡ true → carried last.now slot ≡ true }
+    ensures { result ≡ carried last.now slot }
+{
+    kept || carried(last, slot)
+}
+
+// A report begins anew for an item that the state before didn't carry.
+fn begin_look(report: &mut SlotReport, was_carried: bool)
+    requires few { (report.old.fulls < most_entries) × (report.old.partials < most_entries) × (report.old.empties < most_entries) }
+    ensures few { (report.new.fulls < most_entries) × (report.new.partials < most_entries) × (report.new.empties < most_entries) }
+    ensures begins { report.new ≡ (if was_carried then report.old else no_slot) }
+{
+    if !was_carried {
+        *report = no_slot();
+    }
+}
+
+// The report of one slot goes on, if the state adopted carries an item for it.
 fn report_slot(
     observer: &mut Observer<Server, StreamNames>,
     reports: &mut [SlotReport; SLOTS],
-    state: &FastState,
+    kept: bool,
     last: &Option<FastState>,
     entry: &CycleEntry,
     slot: usize,
     asked: usize,
 )
     requires slot { slot < slots }
-    requires state { state.now ≡ observer.old.past.state }
+    requires some { 0 < observer.old.past.number }
     requires order { InOrder stream_fits observer.old }
+    requires kept { kept ≡ true → last.now ≡ observer.old.current }
     requires few { let before = report_at reports.old slot in (before.fulls < most_entries) × (before.partials < most_entries) × (before.empties < most_entries) }
     ensures same { observer.new ≡ observer.old }
-    ensures reports { reports.new ≡ slice_set reports.old slot (slot_report asked (Some state.now) last.now entry.now (known observer.old slot) slot (report_at reports.old slot)) }
+    ensures reports { reports.new ≡ slice_set reports.old slot (slot_report asked (Some observer.old.past.state) last.now entry.now (known observer.old slot) slot (report_at reports.old slot)) }
 {
+    let Some(state) = observer.current() else {
+        unreachable!()
+    };
     if !carries_item(state, slot) {
         return;
     }
-    let known = known_of(observer, slot);
     let generation = state.slots[slot].generation;
+    let known = known_of(observer, slot);
+    let goes_on = was_carried(kept, last, slot);
     let seen = entry.slots[slot].seen;
-    let before = if carried(last, slot) {
-        reports[slot]
-    } else {
-        no_slot()
-    };
-    reports[slot] = counted_look(asked, generation, seen, known, before);
+    let report = &mut reports[slot];
+    begin_look(report, goes_on);
+    count_look(report, asked, generation, seen, known);
 }
 
-// How many slots there are up to the last one of a mask: it holds no later one.
-fn slots_in(mask: u32) -> usize
-    ensures few { result ≤ slots }
-    ensures rest { (i : ℕ) → result ≤ i → bit_at mask i ≡ 0 }
-{
-    (u32::BITS - mask.leading_zeros()) as usize
-}
-
-/// The reports of the slots go on by an entry under a state, after one under the state before it. It looks at no slot behind the last one of the state's mask.
+/// The reports of the slots go on by an entry under the state adopted, after one under the state before it, which is the same if it is kept. It looks at no slot behind the last one of the state's mask.
 pub(crate) fn report_all(
     observer: &mut Observer<Server, StreamNames>,
     reports: &mut [SlotReport; SLOTS],
-    state: &Option<FastState>,
+    kept: bool,
     last: &Option<FastState>,
     entry: &CycleEntry,
     asked: usize,
 )
-    requires state { (x : FastState) → state.now ≡ Some x → x ≡ observer.old.past.state }
     requires order { InOrder stream_fits observer.old }
+    requires kept { kept ≡ true → last.now ≡ observer.old.current }
     requires few { AreFew most_entries reports.old }
     ensures same { observer.new ≡ observer.old }
     ensures whole { length reports.new ≡ slots }
-    ensures each { (i : ℕ) → i < slots → report_at reports.new i ≡ slot_report asked state.now last.now entry.now (known observer.old i) i (report_at reports.old i) }
+    ensures each { (i : ℕ) → i < slots → report_at reports.new i ≡ slot_report asked observer.old.current last.now entry.now (known observer.old i) i (report_at reports.old i) }
 {
-    let Some(state) = state else {
+    let Some(state) = observer.current() else {
         return;
     };
     let used = slots_in(state.mask);
     for slot in 0..used {
-        report_slot(observer, reports, state, last, entry, slot, asked);
+        report_slot(observer, reports, kept, last, entry, slot, asked);
     }
 }

@@ -8,10 +8,11 @@ ghost use Rattle.af_model.specs.StateQueue.{carries};
 ghost use Rattle.af_stateq.specs.Observes.{InOrder};
 ghost use Rattle.af_fast.specs.Fits.{stream_fits, NamesBlocks};
 ghost use Rattle.af_link.specs.PipeEnds.{out_made};
-ghost use Rattle.af_fast.specs.Slots.{IsMarked, LogsPipe, LogsSlot, PlaysSlots, SameEntries};
+ghost use Rattle.af_fast.specs.Slots.{IsMarked, IsQuietFrom, LogsPipe, LogsSlot, PlaysSlots, SameEntries};
 ghost use Rattle.af_model.specs.Tracks.{tracks_of};
 
-use crate::held::log_held;
+use crate::current::slots_in;
+use crate::held::{log_held, log_taken};
 use crate::submix::play_pipe;
 use af_base::{Cycle, CycleEntry, FastLog, FastState, Frame, SLOTS, Seen, SlotEntry, Steps};
 use af_cblk::Block;
@@ -73,13 +74,15 @@ fn mark_slot(entry: &mut CycleEntry, state: &FastState, slot: usize)
     }
 }
 
-/// Marks the entry of a mix before its slots are played, with the scales and the mono marks of its state.
-pub(crate) fn mark_entry(entry: &mut CycleEntry, state: &FastState)
+/// Marks the entry of a mix before its slots are played, with the scales and the mono marks of its state. From the slot `used` on the state has no track.
+fn mark_entry(entry: &mut CycleEntry, state: &FastState, used: usize)
     requires still { entry.old ≡ still_entry entry.old.state cycle.Mixed }
+    requires used { (1 ≤ used) × (used ≤ slots) }
+    requires quiet { IsQuietFrom state.now used }
     ensures { IsMarked entry.old.state state.now entry.new }
 {
     entry.scales[0] = 0x1000;
-    for slot in 1..SLOTS {
+    for slot in 1..used {
         mark_slot(entry, state, slot);
     }
 }
@@ -102,55 +105,56 @@ fn log_pipe<L: Ledger>(
 {
     let place = log.frames().len();
     let entry = play_pipe(pipe, block, place, buffer, steps);
-    log.push_frames(&buffer[..entry.seen.count() as usize]);
+    log_taken(log, buffer, entry.seen.count());
     entry
 }
 
-// Plays the track of a slot into the entry, if the state has one for it.
+// Plays the track of a slot into the entry, if the state adopted has one for it.
 fn play_slot<L: Ledger>(
     observer: &mut Observer<Server, StreamNames>,
     log: &mut FastLog,
     entry: &mut CycleEntry,
     streams: &[Block],
-    state: &FastState,
     slot: usize,
     buffer: &mut [Frame],
     steps: &mut Steps<L>,
 )
     requires slot { slot < slots }
-    requires state { state.now ≡ observer.old.past.state }
+    requires some { 0 < observer.old.past.number }
     requires order { InOrder stream_fits observer.old }
     requires names { NamesBlocks observer.old.past.key streams.now }
     requires buffer { (1 ≤ length buffer.old) × (length buffer.old < 2 ^ 32) }
     requires room { length log.old.frames + length buffer.old ≤ log.old.frame_room }
     ensures order { InOrder stream_fits observer.new }
-    ensures plays { carries state.now slot ≡ true → (slot_entry : SlotEntry)
+    ensures plays { carries observer.old.past.state slot ≡ true → (slot_entry : SlotEntry)
         × LogsSlot (length buffer.old) slot observer.old observer.new log.old.frames log.new.frames slot_entry
         × (entry.new ≡ record entry.old { slots = slice_set entry.old.slots slot slot_entry }) }
-    ensures rests { carries state.now slot ≡ false → (observer.new ≡ observer.old) × (log.new.frames ≡ log.old.frames) × (entry.new ≡ entry.old) }
+    ensures rests { carries observer.old.past.state slot ≡ false → (observer.new ≡ observer.old) × (log.new.frames ≡ log.old.frames) × (entry.new ≡ entry.old) }
     ensures log { SameEntries log.old log.new }
     ensures steps { steps.new ≤ steps.old + length buffer.old + 7 }
-    ensures none { carries state.now slot ≡ false → steps.new ≡ steps.old }
+    ensures none { carries observer.old.past.state slot ≡ false → steps.new ≡ steps.old }
 {
+    let Some(state) = observer.current() else {
+        unreachable!()
+    };
     if !carries_item(state, slot) {
         return;
     }
-    let track = state.slots[slot].track;
-    entry.slots[slot] = log_held(observer, log, streams, slot, track, buffer, steps);
+    let to = &mut entry.slots[slot];
+    log_held(observer, log, streams, slot, to, buffer, steps);
 }
 
-/// Plays all slots of a mix into its entry: the pipe, and then the tracks of the mask one after the other.
+/// Plays all slots of a mix into its entry: the pipe, and then the tracks of the mask one after the other. It answers how many slots there are up to the last one of the mask: no later one has a track.
 pub(crate) fn play_slots<L: Ledger>(
     observer: &mut Observer<Server, StreamNames>,
     pipe: &mut PipeOut,
     log: &mut FastLog,
     links: &Links<'_>,
-    state: &FastState,
     entry: &mut CycleEntry,
     buffer: &mut [Frame],
     steps: &mut Steps<L>,
-)
-    requires state { state.now ≡ observer.old.past.state }
+) -> usize
+    requires some { 0 < observer.old.past.number }
     requires order { InOrder stream_fits observer.old }
     requires names { NamesBlocks observer.old.past.key links.now.streams.now }
     requires made { out_made pipe.old ≡ links.now.pipe.now }
@@ -160,21 +164,19 @@ pub(crate) fn play_slots<L: Ledger>(
     ensures order { InOrder stream_fits observer.new }
     ensures made { out_made pipe.new ≡ links.now.pipe.now }
     ensures log { SameEntries log.old log.new }
-    ensures plays { PlaysSlots (length buffer.old) observer.old.past.number state.now observer.old observer.new pipe.old pipe.new log.old.frames log.new.frames entry.new }
-    ensures steps { steps.new ≤ steps.old + (length buffer.old + 3) + tracks_of state.now * (length buffer.old + 7) }
+    ensures plays { PlaysSlots (length buffer.old) observer.old.past.number observer.old.past.state observer.old observer.new pipe.old pipe.new log.old.frames log.new.frames entry.new }
+    ensures used { (1 ≤ result) × (result ≤ slots) }
+    ensures quiet { IsQuietFrom observer.old.past.state result }
+    ensures steps { steps.new ≤ steps.old + (length buffer.old + 3) + tracks_of observer.old.past.state * (length buffer.old + 7) }
 {
-    mark_entry(entry, state);
+    let Some(state) = observer.current() else {
+        unreachable!()
+    };
+    let used = slots_in(state.mask);
+    mark_entry(entry, state, used);
     entry.slots[0] = log_pipe(pipe, log, links.pipe, buffer, steps);
-    for slot in 1..SLOTS {
-        play_slot(
-            observer,
-            log,
-            entry,
-            links.streams,
-            state,
-            slot,
-            buffer,
-            steps,
-        );
+    for slot in 1..used {
+        play_slot(observer, log, entry, links.streams, slot, buffer, steps);
     }
+    used
 }

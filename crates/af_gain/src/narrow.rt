@@ -1,12 +1,12 @@
-//! Up to 15 takes, eight positions at a time, in sums of 32 bits: 15 full takes lie within 15 * 2^27 of 0.
-ghost use Rattle.std.specs.Prelude.{◌≡◌, ◌<◌, ◌≤◌, ◌+◌, ℕ, List, [], ◌∷◌, ◌++◌, length, map, All};
+//! Up to 15 takes, sixteen positions at a time, in sums of 32 bits: 15 full takes lie within 15 * 2^27 of 0.
+ghost use Rattle.std.specs.Prelude.{◌≡◌, ◌<◌, ◌≤◌, ◌+◌, ◌^◌, ℕ, List, [], ◌∷◌, ◌++◌, length, map, All};
 ghost use Rattle.af_base.specs.Gain.{gains_used};
 ghost use Rattle.af_base.specs.Part.{take_of};
 ghost use Rattle.af_base.specs.Mix.{Take, mix, frame_at, mixed_frame};
 ghost use Rattle.af_gain.specs.declared.sums.Sum.{Sum};
 ghost use Rattle.af_gain.specs.Sums.{IsWithin, IsHeard, added, mixed_of};
 ghost use Rattle.af_gain.specs.Narrow.{gain_lanes, lanes_of, AreFrom, AreGainsOf, AreMixedTo, IsHeardAs};
-ghost use Rattle.af_gain.specs.Eight.{AreEightOf};
+ghost use Rattle.af_gain.specs.Eight.{AreEightOf, AreSixteenOf};
 
 use crate::adding::heard_two;
 use crate::sums::gains_of;
@@ -20,6 +20,13 @@ pub(crate) struct Eight {
     second: i32x4,
     third: i32x4,
     fourth: i32x4,
+}
+
+/// The sums of sixteen positions.
+#[derive(Clone, Copy)]
+pub(crate) struct Sixteen {
+    low: Eight,
+    high: Eight,
 }
 
 /// The gains of each take at its scale.
@@ -82,6 +89,25 @@ fn with_frames(sums: Eight, frames: &[Frame], mono: bool, gains: Gains) -> Eight
     }
 }
 
+/// Sixteen sums, each with one more frame, by code of its own for mono.
+#[inline(always)]
+fn with_sixteen(sums: Sixteen, low: &[Frame], high: &[Frame], mono: bool, gains: Gains) -> Sixteen
+    requires { (8 ≤ length low.now) × (8 ≤ length high.now) }
+    ensures { (takes : List Take) (t : Take) (at : ℕ) → length takes < 15 → IsHeardAs t at low.now mono gains → IsHeardAs t (at + 8) high.now mono gains → AreSixteenOf takes at sums → AreSixteenOf (takes ++ t ∷ []) at result }
+{
+    if mono {
+        Sixteen {
+            low: with_eight(sums.low, low, true, gains),
+            high: with_eight(sums.high, high, true, gains),
+        }
+    } else {
+        Sixteen {
+            low: with_eight(sums.low, low, false, gains),
+            high: with_eight(sums.high, high, false, gains),
+        }
+    }
+}
+
 /// Eight frames from a place on. If the take ends before, silence follows.
 fn padded(frames: &[Frame], at: usize) -> [Frame; 8]
     ensures { AreFrom frames.now at result }
@@ -107,6 +133,40 @@ fn with_take(sums: Eight, part: Part<'_>, gains: Gains, at: usize) -> Eight
     }
 }
 
+/// Sixteen sums with one more take.
+#[inline(always)]
+fn with_whole(sums: Sixteen, part: Part<'_>, gains: Gains, at: usize) -> Sixteen
+    requires gains { gains ≡ gains_used part.gains part.scale }
+    requires unity { part.scale ≤ 4096 }
+    requires few { at < 2 ^ 63 }
+    ensures { (takes : List Take) → length takes < 15 → AreSixteenOf takes at sums → AreSixteenOf (takes ++ take_of part.entry ∷ []) at result }
+{
+    if at + 16 <= part.frames.len() {
+        let low = &part.frames[at..at + 8];
+        let high = &part.frames[at + 8..at + 16];
+        with_sixteen(sums, low, high, part.mono, gains)
+    } else {
+        Sixteen {
+            low: with_take(sums.low, part, gains, at),
+            high: with_take(sums.high, part, gains, at + 8),
+        }
+    }
+}
+
+/// Sums of no take.
+#[inline(always)]
+fn no_sums() -> Eight
+    ensures { (at : ℕ) → AreEightOf [] at result }
+{
+    let none = i32x4::from_array([0, 0, 0, 0]);
+    Eight {
+        first: none,
+        second: none,
+        third: none,
+        fourth: none,
+    }
+}
+
 /// The sums of all takes at eight positions.
 #[inline(always)]
 fn eight_sums(parts: &[Part<'_>], gains: &[Gains; 15], at: usize) -> Eight
@@ -115,15 +175,29 @@ fn eight_sums(parts: &[Part<'_>], gains: &[Gains; 15], at: usize) -> Eight
     requires gains { AreGainsOf (length parts.now) parts.now gains.now }
     ensures { AreEightOf (map take_of parts.now) at result }
 {
-    let none = i32x4::from_array([0, 0, 0, 0]);
-    let mut sums = Eight {
-        first: none,
-        second: none,
-        third: none,
-        fourth: none,
-    };
+    let mut sums = no_sums();
     for i in 0..parts.len() {
         sums = with_take(sums, parts[i], gains[i], at);
+    }
+    sums
+}
+
+/// The sums of all takes at sixteen positions.
+#[inline(always)]
+fn sixteen_sums(parts: &[Part<'_>], gains: &[Gains; 15], at: usize) -> Sixteen
+    requires few { length parts.now ≤ 15 }
+    requires fits { All (λ part. part.scale ≤ 4096) parts.now }
+    requires gains { AreGainsOf (length parts.now) parts.now gains.now }
+    requires place { at < 2 ^ 63 }
+    ensures { AreSixteenOf (map take_of parts.now) at result }
+{
+    let none = no_sums();
+    let mut sums = Sixteen {
+        low: none,
+        high: none,
+    };
+    for i in 0..parts.len() {
+        sums = with_whole(sums, parts[i], gains[i], at);
     }
     sums
 }
@@ -163,6 +237,18 @@ fn mixed_eight(sums: Eight) -> [Frame; 8]
     ]
 }
 
+/// Writes the frames that eight sums are mixed to, or the first so many of them.
+#[inline(always)]
+fn write_eight(sums: Eight, at: usize, count: usize, out: &mut [Frame])
+    requires inside { (count ≤ 8) × (at + count ≤ length out.old) }
+    ensures { (takes : List Take) → length takes ≤ 15 → AreEightOf takes at sums → AreMixedTo at takes out.old → AreMixedTo (at + count) takes out.new }
+{
+    let frames = mixed_eight(sums);
+    for k in 0..count {
+        out[at + k] = frames[k];
+    }
+}
+
 /// Writes the mix of the takes at up to eight positions.
 #[inline(always)]
 fn mix_eight(parts: &[Part<'_>], gains: &[Gains; 15], at: usize, count: usize, out: &mut [Frame])
@@ -172,9 +258,38 @@ fn mix_eight(parts: &[Part<'_>], gains: &[Gains; 15], at: usize, count: usize, o
     requires inside { (count ≤ 8) × (at + count ≤ length out.old) }
     ensures { AreMixedTo at (map take_of parts.now) out.old → AreMixedTo (at + count) (map take_of parts.now) out.new }
 {
-    let frames = mixed_eight(eight_sums(parts, gains, at));
-    for k in 0..count {
-        out[at + k] = frames[k];
+    write_eight(eight_sums(parts, gains, at), at, count, out);
+}
+
+/// Writes the mix of the takes at sixteen positions.
+#[inline(always)]
+fn mix_sixteen(parts: &[Part<'_>], gains: &[Gains; 15], at: usize, out: &mut [Frame])
+    requires few { length parts.now ≤ 15 }
+    requires fits { All (λ part. part.scale ≤ 4096) parts.now }
+    requires gains { AreGainsOf (length parts.now) parts.now gains.now }
+    requires inside { at + 16 ≤ length out.old }
+    ensures { AreMixedTo at (map take_of parts.now) out.old → AreMixedTo (at + 16) (map take_of parts.now) out.new }
+{
+    let sums = sixteen_sums(parts, gains, at);
+    write_eight(sums.low, at, 8, out);
+    write_eight(sums.high, at + 8, 8, out);
+}
+
+/// Writes the mix of the takes from a place on, at fewer than sixteen positions.
+fn mix_rest(parts: &[Part<'_>], gains: &[Gains; 15], at: usize, out: &mut [Frame])
+    requires few { length parts.now ≤ 15 }
+    requires fits { All (λ part. part.scale ≤ 4096) parts.now }
+    requires gains { AreGainsOf (length parts.now) parts.now gains.now }
+    requires inside { (at ≤ length out.old) × (length out.old < at + 16) }
+    ensures { AreMixedTo at (map take_of parts.now) out.old → AreMixedTo (length out.old) (map take_of parts.now) out.new }
+{
+    let left = out.len() - at;
+    let first = left.min(8);
+    if first > 0 {
+        mix_eight(parts, gains, at, first, out);
+    }
+    if left > 8 {
+        mix_eight(parts, gains, at + 8, left - 8, out);
     }
 }
 
@@ -185,11 +300,8 @@ pub(crate) fn mix_narrow(parts: &[Part<'_>], out: &mut [Frame])
     ensures { out.new ≡ mix (map take_of parts.now) (length out.old) }
 {
     let gains = gains_of_each(parts);
-    for eight in 0..out.len() / 8 {
-        mix_eight(parts, &gains, 8 * eight, 8, out);
+    for sixteen in 0..out.len() / 16 {
+        mix_sixteen(parts, &gains, 16 * sixteen, out);
     }
-    let whole = out.len() / 8 * 8;
-    if whole < out.len() {
-        mix_eight(parts, &gains, whole, out.len() - whole, out);
-    }
+    mix_rest(parts, &gains, out.len() / 16 * 16, out);
 }

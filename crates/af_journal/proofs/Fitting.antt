@@ -18,14 +18,14 @@ use Rattle.af_base.specs.Turn.{TakeSeen, TrackSeen, Turn, ended_turn}
 use Rattle.af_model.specs.Cycles.{IsSeen, is_mixed}
 use Rattle.af_model.specs.Journals.{EntrySeen, JournalData, RoundSeen, entries_of, slot_frames}
 use Rattle.af_model.specs.JournalForm.{AreEntries, IsAbsent, IsCommandLook, IsEntry, IsJournal, IsMixed, IsRound, IsTake, IsTurn, is_spent}
-use Rattle.af_model.specs.Numbers.{AreWords, FitCalls, FitEntries, FitsCall, FitsEntry, FitsLook, FitsRound, FitsSlot, FitsTake, FitsTrack, FitsTurn, seen_words}
+use Rattle.af_model.specs.Numbers.{AreWords, FitsCall, FitsEntry, FitsLook, FitsRound, FitsSlot, FitsTake, FitsTrack, FitsTurn, seen_words}
 use Rattle.af_model.proofs.NumbersFit.{absent_fits, still_fits}
 use Rattle.af_runs.specs.Fronts.{is_shown}
 use Rattle.af_journal.specs.declared.line.Line.TheVariants as line
 use Rattle.af_journal.specs.Lines.{Written, numbers}
 use Rattle.af_journal.specs.Ranges.{IsSeenText, IsWritten}
 use Rattle.af_journal.specs.Taken.{open_lines}
-use Rattle.af_journal.specs.Texts.{call_lines, client_lines, command_words, disabled_lines, each_from, entry_lines, fast_lines, lines_of, look_lines, round_lines, slot_lines, slots_lines, status_lines, take_lines, track_lines, turn_lines, turns_lines, words_after}
+use Rattle.af_journal.specs.Texts.{call_lines, client_lines, command_words, disabled_lines, each_from, entry_lines, fast_lines, look_lines, round_lines, slot_lines, slots_lines, status_lines, take_lines, track_lines, turn_lines, turns_lines, words_after}
 use Rattle.af_journal.proofs.Leaving.{fits-append}
 use Rattle.af_journal.proofs.Texts.{range-more}
 
@@ -80,32 +80,32 @@ frames_fit (f ∷ fs) = (bytes_few (cast_unsigned w16 f.left) (cast_unsigned w16
 
 -- ## Calls
 
-calls_fit : (calls : List ClientCall) → FitCalls calls → AreWritten (call_lines calls)
+calls_fit : (calls : List ClientCall) → All FitsCall calls → AreWritten (call_lines calls)
 calls_fit [] fit = tt
 calls_fit (c ∷ cs) fit = (All-head FitsCall c cs fit, calls_fit cs (All-tail FitsCall c cs fit))
 
-calls_told : (calls : List ClientCall) → AreWritten (call_lines calls) → FitCalls calls
+calls_told : (calls : List ClientCall) → AreWritten (call_lines calls) → All FitsCall calls
 calls_told [] fit = All-nil FitsCall
 calls_told (c ∷ cs) fit = All-cons FitsCall c cs fit.0 (calls_told cs fit.1)
 
-client_fits : (track : ℕ) (calls : List ClientCall) → track < 2 ^ 32 → FitCalls calls → AreWritten (client_lines track calls)
+client_fits : (track : ℕ) (calls : List ClientCall) → track < 2 ^ 32 → All FitsCall calls → AreWritten (client_lines track calls)
 client_fits track [] few fit = tt
 client_fits track (c ∷ cs) few fit = (few, calls_fit (c ∷ cs) fit)
 
-client_told : (track : ℕ) (calls : List ClientCall) → AreWritten (client_lines track calls) → FitCalls calls
+client_told : (track : ℕ) (calls : List ClientCall) → AreWritten (client_lines track calls) → All FitsCall calls
 client_told track [] fit = All-nil FitsCall
 client_told track (c ∷ cs) fit = calls_told (c ∷ cs) fit.1
 
-clients_fit : (track : ℕ) (clients : List (List ClientCall)) → track + length clients ≤ 2 ^ 32 → All FitCalls clients → AreWritten (each_from client_lines track clients)
+clients_fit : (track : ℕ) (clients : List (List ClientCall)) → track + length clients ≤ 2 ^ 32 → All (λ calls. All FitsCall calls) clients → AreWritten (each_from client_lines track clients)
 clients_fit track [] few fit = tt
 clients_fit track (c ∷ cs) few fit =
-    fits-append (client_lines track c) (each_from client_lines (track + 1) cs) (client_fits track c (omega arith) (All-head FitCalls c cs fit)) (clients_fit (track + 1) cs (omega arith) (All-tail FitCalls c cs fit))
+    fits-append (client_lines track c) (each_from client_lines (track + 1) cs) (client_fits track c (omega arith) (All-head (λ calls. All FitsCall calls) c cs fit)) (clients_fit (track + 1) cs (omega arith) (All-tail (λ calls. All FitsCall calls) c cs fit))
 
-clients_told : (track : ℕ) (clients : List (List ClientCall)) → AreWritten (each_from client_lines track clients) → All FitCalls clients
-clients_told track [] fit = All-nil FitCalls
+clients_told : (track : ℕ) (clients : List (List ClientCall)) → AreWritten (each_from client_lines track clients) → All (λ calls. All FitsCall calls) clients
+clients_told track [] fit = All-nil (λ calls. All FitsCall calls)
 clients_told track (c ∷ cs) fit =
     let parts = fits-split (client_lines track c) (each_from client_lines (track + 1) cs) fit in
-    All-cons FitCalls c cs (client_told track c parts.0) (clients_told (track + 1) cs parts.1)
+    All-cons (λ calls. All FitsCall calls) c cs (client_told track c parts.0) (clients_told (track + 1) cs parts.1)
 
 -- ## The tracks of a turn
 
@@ -344,22 +344,22 @@ entry_told place e is fit = by (is_mixed e.entry.cycle) refl fit.1
 abbrev FitsSeen : EntrySeen → Type 0
 FitsSeen e = FitsEntry e.entry
 
-entries_fit : (place : ℕ) (es : List EntrySeen) → AreEntries place es → FitEntries es → AreWritten (flat_map entry_lines es)
+entries_fit : (place : ℕ) (es : List EntrySeen) → AreEntries place es → All (λ e. FitsEntry e.entry) es → AreWritten (flat_map entry_lines es)
 entries_fit place [] are fit = tt
 entries_fit place (e ∷ es) are fit =
     fits-append (entry_lines e) (flat_map entry_lines es) (entry_fits place e are.0 (All-head FitsSeen e es fit)) (entries_fit (place + length e.frames) es are.3 (All-tail FitsSeen e es fit))
 
-entries_told : (place : ℕ) (es : List EntrySeen) → AreEntries place es → AreWritten (flat_map entry_lines es) → FitEntries es
+entries_told : (place : ℕ) (es : List EntrySeen) → AreEntries place es → AreWritten (flat_map entry_lines es) → All (λ e. FitsEntry e.entry) es
 entries_told place [] are fit = All-nil FitsSeen
 entries_told place (e ∷ es) are fit =
     let parts = fits-split (entry_lines e) (flat_map entry_lines es) fit in
     All-cons FitsSeen e es (entry_told place e are.0 parts.0) (entries_told (place + length e.frames) es are.3 parts.1)
 
-fast_fits : (place : ℕ) (es : List EntrySeen) → AreEntries place es → FitEntries es → AreWritten (fast_lines es)
+fast_fits : (place : ℕ) (es : List EntrySeen) → AreEntries place es → All (λ e. FitsEntry e.entry) es → AreWritten (fast_lines es)
 fast_fits place [] are fit = tt
 fast_fits place (e ∷ es) are fit = (tt, entries_fit place (e ∷ es) are fit)
 
-fast_told : (place : ℕ) (es : List EntrySeen) → AreEntries place es → AreWritten (fast_lines es) → FitEntries es
+fast_told : (place : ℕ) (es : List EntrySeen) → AreEntries place es → AreWritten (fast_lines es) → All (λ e. FitsEntry e.entry) es
 fast_told place [] are fit = All-nil FitsSeen
 fast_told place (e ∷ es) are fit = entries_told place (e ∷ es) are fit.1
 
@@ -410,7 +410,7 @@ rounds_told tracks place (r ∷ rs) are entries fit =
 -- ## A journal
 
 -- the numbers of its lines fit
-pub lines_fit : (j : JournalData) → IsJournal j → AreWritten (lines_of j)
+pub lines_fit : (j : JournalData) → IsJournal j → AreWritten (flat_map round_lines j.rounds)
 lines_fit j is = rounds_fit j.tracks 0 j.rounds (let few = is.numbers.tracks in omega arith) is.rounds is.entries is.numbers.rounds
 
 -- a journal is one whose lines tell numbers that fit

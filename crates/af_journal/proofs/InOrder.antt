@@ -14,7 +14,7 @@ use Rattle.af_journal.specs.Lines.{Written, numbers, words, spelled, with_lf}
 use Rattle.af_journal.specs.LineReading.{◌>>=◌, written_at}
 use Rattle.af_model.specs.Numbers.{AreWords}
 use Rattle.af_journal.specs.Ranges.{IsWritten}
-use Rattle.af_journal.specs.Readings.{BeginsOne, IsFirstBad, IsInOrder, after_all, ends, first_lines, first_refused, parts_of, refused_or, stage_after}
+use Rattle.af_journal.specs.Readings.{IsFirstBad, IsInOrder, after_all, ends, first_lines, first_refused, parts_of, refused_or, stage_after}
 use Rattle.af_journal.specs.Stages.{after_written, if_so, may_end}
 use Rattle.af_journal.specs.Texts.{text_of_lines}
 use Rattle.af_journal.proofs.Spelled.{Lacks, bind_some}
@@ -22,6 +22,10 @@ use Rattle.af_journal.proofs.Hex.{written-sound, written-again}
 use Rattle.af_journal.proofs.Lacking.{written_lacks}
 use Rattle.af_journal.proofs.Parts.{EachLacks, parts_lack, some_part, joined, join-append, parts_front}
 use Rattle.af_journal.proofs.StagesMet.{IsMet, written_met}
+
+-- some right text begins with these bytes
+abbrev BeginsOne : (List ℕ → Type 0) → List ℕ → Type 0
+BeginsOne IsRight front = (rest : List ℕ) × IsRight (front ++ rest)
 
 -- ## Whatever was taken can be completed
 

@@ -22,7 +22,7 @@ use Rattle.af_journal.specs.declared.stage.Stage.TheVariants as stage
 use Rattle.af_journal.specs.Lines.{Written, numbers}
 use Rattle.af_journal.specs.Readings.{AreInOrder, CanBeWritten, HasReading, IsInOrder}
 use Rattle.af_journal.specs.Stages.{after_line, after_shown, after_written, is_submix, may_be_slot, shows_submix}
-use Rattle.af_journal.specs.Texts.{client_lines, each_from, entry_lines, fast_lines, lines_of, round_lines, slot_lines, slots_lines, turns_lines, words_after}
+use Rattle.af_journal.specs.Texts.{client_lines, each_from, entry_lines, fast_lines, round_lines, slot_lines, slots_lines, turns_lines, words_after}
 use Rattle.af_journal.proofs.Entries.{taken-below}
 use Rattle.af_journal.proofs.Fitting.{is_seen, lines_fit, parted}
 use Rattle.af_journal.proofs.Texts.{range-more}
@@ -210,7 +210,7 @@ rounds_lead tracks place at (r ∷ rs) are entries p =
     (λ next q. rounds_lead tracks parts.later next rs (All-tail (IsRound tracks) r rs are) parts.others q)
 
 -- the lines of a journal are in order
-pub journal-in-order : (tracks : ℕ) (j : JournalData) → CanBeWritten tracks j → AreInOrder tracks (lines_of j)
+pub journal-in-order : (tracks : ℕ) (j : JournalData) → CanBeWritten tracks j → AreInOrder tracks (flat_map round_lines j.rounds)
 journal-in-order tracks j can =
     let rounds : All (IsRound tracks) j.rounds = subst (λ n. All (IsRound n) j.rounds) can.tracks_are can.form.rounds in
     let l = rounds_lead tracks 0 stage.Nothing j.rounds rounds can.form.entries (refl, refl) in
@@ -218,4 +218,4 @@ journal-in-order tracks j can =
 
 -- a text that has a reading is one of lines in order
 pub reading-in-order : (tracks : ℕ) (text : List ℕ) → HasReading tracks text → IsInOrder tracks text
-reading-in-order tracks text r = (lines_of r.0, journal-in-order tracks r.0 r.1.0, r.1.1)
+reading-in-order tracks text r = (flat_map round_lines r.0.rounds, journal-in-order tracks r.0 r.1.0, r.1.1)

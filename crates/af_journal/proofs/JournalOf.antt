@@ -20,13 +20,14 @@ use Rattle.af_model.specs.Numbers.{AreWords}
 use Rattle.af_journal.specs.Ranges.{IsLine, IsWritten}
 use Rattle.af_journal.specs.Readings.{AreInOrder, CanBeWritten, HasReading, IsInOrder, after_all}
 use Rattle.af_journal.specs.Stages.{after_call, after_clients, after_entry, after_fast, after_line, after_look, after_part, after_shown, after_slot, after_take, after_taken, after_turn, after_words, comes, if_so, is_call, is_next, is_round, may_be_slot, may_end}
-use Rattle.af_journal.specs.Texts.{lines_of, text_of_lines, words_after}
+use Rattle.af_journal.specs.Texts.{text_of_lines, words_after, round_lines}
 use Rattle.af_journal.proofs.Fitting.{is_journal}
 use Rattle.af_journal.proofs.Spelled.{bind_some, guard_some}
 use Rattle.af_journal.proofs.RoundsLeft.{both_true, frames_of_words, words_back, are_frames, count_frames, RoundsLeft, EntriesLeft, EntriesDue, FastLeft, TakesLeft, TakeLeft, TurnLeft, LookLeft, ClientsLeft, CallsLeft, CallDue, rounds_entries, rounds_fast, due_left, with_fast, with_round, clients_calls, with_call, first_call, with_client, fast_clients, with_ended}
 use Rattle.af_journal.proofs.LinesLeft.{with_turn, with_push, below, with_look, with_disabled, with_status, no_words, seen_is, with_take}
 use Rattle.af_journal.proofs.MixLeft.{SlotsLeft, SlotLeft, entries_slots, no_slot_words, with_slot}
 use Rattle.af_journal.proofs.EntriesLeft.{with_still, with_mix, Rest, next_of, zero_of, some_of, equal_of, not_first, frames_two, not_true, slot_may}
+use Rattle.std.specs.Prelude.{flat_map}
 
 module _ (tracks place : ℕ) (ws : List Written) where
   some_rest : (at next : Stage) → Some at ≡ Some next → Rest tracks place next ws → Rest tracks place at ws
@@ -349,7 +350,7 @@ pub order-is-rounds : (tracks place : ℕ) (ws : List Written) → AreInOrder tr
 order-is-rounds tracks place ws o = left tracks place stage.Nothing o.last ws o.numbers_fit o.follow o.ends
 
 -- lines in order are those of a journal
-pub order-is-journal : (tracks : ℕ) (ws : List Written) → tracks < 2 ^ 32 → AreInOrder tracks ws → (j : JournalData) × CanBeWritten tracks j × (ws ≡ lines_of j)
+pub order-is-journal : (tracks : ℕ) (ws : List Written) → tracks < 2 ^ 32 → AreInOrder tracks ws → (j : JournalData) × CanBeWritten tracks j × (ws ≡ flat_map round_lines j.rounds)
 order-is-journal tracks ws few o =
     let r = order-is-rounds tracks 0 ws o in (
       record { tracks = tracks; rounds = r.rounds },

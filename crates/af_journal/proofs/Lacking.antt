@@ -12,10 +12,11 @@ use Rattle.af_base.specs.declared.state.Push.{Push}
 use Rattle.af_base.specs.declared.state.Push.TheVariants as pushing
 use Rattle.af_journal.specs.declared.line.Line.{Line}
 use Rattle.af_journal.specs.declared.line.Line.TheVariants as line
-use Rattle.af_journal.specs.Lines.{Written, numbers, words, call_line, digit, hex_byte, hex_digit, hex_word, line_text, push_line, seen_text, spelled}
+use Rattle.af_journal.specs.Lines.{Written, numbers, words, call_line, hex_byte, hex_digit, hex_word, line_text, push_line, seen_text, spelled}
 use Rattle.af_model.specs.Numbers.{FitsCall, FitsPush}
 use Rattle.af_journal.specs.Ranges.{IsLine, IsSeenText, IsWritten}
 use Rattle.af_journal.proofs.Spelled.{Lacks, lacks-append, decimal_lacks, digit_small}
+use Rattle.af_model.specs.Reports.{one_if}
 
 wide : (n : ℕ) → n < 2 ^ 32 → n < 2 ^ 64
 wide n h = omega arith
@@ -38,7 +39,7 @@ three a b c h k l = and_more a (32 ∷ (decimal b ++ 32 ∷ decimal c)) (wide a 
 four : (a b c d : ℕ) → a < 2 ^ 32 → b < 2 ^ 32 → c < 2 ^ 32 → d < 2 ^ 32 → Lacks 10 (32 ∷ (decimal a ++ 32 ∷ (decimal b ++ 32 ∷ (decimal c ++ 32 ∷ decimal d))))
 four a b c d h k l m = and_more a (32 ∷ (decimal b ++ 32 ∷ (decimal c ++ 32 ∷ decimal d))) (wide a h) (three b c d k l m)
 
-yes_wide : (b : Bool) → digit b < 2 ^ 64
+yes_wide : (b : Bool) → one_if b < 2 ^ 64
 yes_wide b = omega (arith, digit_small b)
 
 seen_lacks : (s : Seen) → IsSeenText s → Lacks 10 (32 ∷ seen_text s)
@@ -61,7 +62,7 @@ call_lacks (call.SendFull a) f = (refl, (refl, one a f.0))
 call_lacks (call.SendDead a) f = (refl, (refl, one a f.0))
 call_lacks (call.SendCorrupt a b) f = (refl, (refl, two a b f.0 f.1.0))
 call_lacks (call.Status a) f = (refl, one a f.0)
-call_lacks (call.Poke command word value) f = (refl, and_more (digit command) (32 ∷ (decimal word ++ 32 ∷ decimal value)) (yes_wide command) (two word value f.0 f.1.0))
+call_lacks (call.Poke command word value) f = (refl, and_more (one_if command) (32 ∷ (decimal word ++ 32 ∷ decimal value)) (yes_wide command) (two word value f.0 f.1.0))
 
 push_lacks : (p : Push) → FitsPush p → Lacks 10 (push_line p)
 push_lacks pushing.Clean f = (refl, (refl, (refl, tt)))
@@ -72,7 +73,7 @@ line_lacks : (l : Line) → IsLine l → Lacks 10 (line_text l)
 line_lacks line.Round f = (refl, tt)
 line_lacks (line.Client track) f = (refl, one track f)
 line_lacks (line.Call answer) f = call_lacks answer f
-line_lacks (line.Turn room ack cycle) f = (refl, and_more room (32 ∷ (decimal (digit ack) ++ 32 ∷ decimal cycle)) (wide room f.0) (and_more (digit ack) (32 ∷ decimal cycle) (yes_wide ack) (last cycle f.1)))
+line_lacks (line.Turn room ack cycle) f = (refl, and_more room (32 ∷ (decimal (one_if ack) ++ 32 ∷ decimal cycle)) (wide room f.0) (and_more (one_if ack) (32 ∷ decimal cycle) (yes_wide ack) (last cycle f.1)))
 line_lacks line.Ended f = (refl, tt)
 line_lacks (line.Look track flush rear answer) f =
     (refl, (refl, lacks-append 10 (decimal track ++ 32 ∷ (decimal flush ++ 32 ∷ decimal rear)) (32 ∷ seen_text answer) (three track flush rear f.0.0 f.0.1.0 f.0.1.1.0).1 (seen_lacks answer f.1)))
@@ -87,10 +88,10 @@ line_lacks (line.Slot slot scale mono gains flush rear answer) f = (
   refl,
   (
     refl,
-    lacks-append 10 (decimal slot ++ 32 ∷ (decimal scale ++ 32 ∷ (decimal (digit mono) ++ 32 ∷ (decimal gains ++ 32 ∷ (decimal flush ++ 32 ∷ decimal rear))))) (32 ∷ seen_text answer)
-        (and_more slot (32 ∷ (decimal scale ++ 32 ∷ (decimal (digit mono) ++ 32 ∷ (decimal gains ++ 32 ∷ (decimal flush ++ 32 ∷ decimal rear))))) (omega (arith, f.0))
-        (and_more scale (32 ∷ (decimal (digit mono) ++ 32 ∷ (decimal gains ++ 32 ∷ (decimal flush ++ 32 ∷ decimal rear)))) (omega (arith, f.1))
-        (and_more (digit mono) (32 ∷ (decimal gains ++ 32 ∷ (decimal flush ++ 32 ∷ decimal rear))) (yes_wide mono) (three gains flush rear f.2.0 f.2.1.0 f.2.1.1.0)))).1
+    lacks-append 10 (decimal slot ++ 32 ∷ (decimal scale ++ 32 ∷ (decimal (one_if mono) ++ 32 ∷ (decimal gains ++ 32 ∷ (decimal flush ++ 32 ∷ decimal rear))))) (32 ∷ seen_text answer)
+        (and_more slot (32 ∷ (decimal scale ++ 32 ∷ (decimal (one_if mono) ++ 32 ∷ (decimal gains ++ 32 ∷ (decimal flush ++ 32 ∷ decimal rear))))) (omega (arith, f.0))
+        (and_more scale (32 ∷ (decimal (one_if mono) ++ 32 ∷ (decimal gains ++ 32 ∷ (decimal flush ++ 32 ∷ decimal rear)))) (omega (arith, f.1))
+        (and_more (one_if mono) (32 ∷ (decimal gains ++ 32 ∷ (decimal flush ++ 32 ∷ decimal rear))) (yes_wide mono) (three gains flush rear f.2.0 f.2.1.0 f.2.1.1.0)))).1
         (seen_lacks answer f.3),
   ),
 )

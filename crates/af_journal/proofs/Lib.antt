@@ -34,3 +34,6 @@ mod PokeLines
 mod MarkLines
 mod Beginnings
 mod Rows
+pub mod DigitLines
+pub mod RowLines
+pub mod WordNumbers

@@ -12,11 +12,12 @@ use Rattle.af_base.specs.declared.state.Push.TheVariants as pushing
 use Rattle.af_base.specs.Log.{slots}
 use Rattle.af_journal.specs.declared.line.Line.{Line}
 use Rattle.af_journal.specs.declared.line.Line.TheVariants as line
-use Rattle.af_journal.specs.Lines.{call_line, digit, line_text, push_line, seen_text}
+use Rattle.af_journal.specs.Lines.{call_line, line_text, push_line, seen_text}
 use Rattle.af_journal.specs.LineReading.{◌>>=◌, call_at, entry_at, line_at, look_at, marked_at, next_number, next_word, one_at, push_at, pushed_at, busy_at, seen_at, slot_at, slot_from, status_at, take_at, turn_at, turn_line_at, two_at, whole}
 use Rattle.af_model.specs.Numbers.{AreWords, FitsPush}
 use Rattle.af_journal.specs.Ranges.{IsLine, IsSeenText}
 use Rattle.af_journal.proofs.Spelled.{bind_some, either, whole_some, same_byte, number-sound, number-more, number-last, one-sound, one-again, two-sound, two-again, seen-sound, seen-again, yes_is, digit_small, digit_back, call-sound, call-again, first_of_line}
+use Rattle.af_model.specs.Reports.{one_if}
 
 pub record Spells (bytes : List ℕ) (l : Line) : Type 0 where
   pub spelled : bytes ≡ line_text l
@@ -58,11 +59,11 @@ turn-sound rest l e =
       fits = (omega (arith, r.fits), omega (arith, k.fits));
     })
 
-turn-again : (room : ℕ) (ack : Bool) (cycle : ℕ) → room < 2 ^ 32 → cycle < 2 ^ 64 → turn_at (after room (after (digit ack) (32 ∷ decimal cycle))) ≡ Some (line.Turn room ack cycle)
+turn-again : (room : ℕ) (ack : Bool) (cycle : ℕ) → room < 2 ^ 32 → cycle < 2 ^ 64 → turn_at (after room (after (one_if ack) (32 ∷ decimal cycle))) ≡ Some (line.Turn room ack cycle)
 unfolding turn_at
 turn-again room ack cycle h k =
-    rw (number-more (2 ^ 32 - 1) room (decimal (digit ack) ++ 32 ∷ decimal cycle) (omega arith) (lit< tt))
-    (rw (number-more 1 (digit ack) (decimal cycle) (digit_small ack) (lit< tt))
+    rw (number-more (2 ^ 32 - 1) room (decimal (one_if ack) ++ 32 ∷ decimal cycle) (omega arith) (lit< tt))
+    (rw (number-more 1 (one_if ack) (decimal cycle) (digit_small ack) (lit< tt))
     (rw (number-last (2 ^ 64 - 1) cycle (omega arith) (lit< tt)) (ap (λ b. Some (line.Turn room b cycle)) (digit_back ack))))
 
 look-sound : (rest : List ℕ) (l : Line) → look_at rest ≡ Some l → Spells (113 ∷ rest) l
@@ -216,7 +217,7 @@ entry-again state kind h k =
     rw (number-more (2 ^ 64 - 1) state (decimal kind) (omega arith) (lit< tt)) (rw (number-last 3 kind (omega arith) (lit< tt)) refl)
 
 slot_from-sound : (slot scale : ℕ) (mono : Bool) (rest : List ℕ) (l : Line) → slot_from slot scale mono rest ≡ Some l → slot < slots → scale < 2 ^ 16
-    → 122 ∷ after slot (after scale (after (digit mono) rest)) ≡ line_text l × IsLine l
+    → 122 ∷ after slot (after scale (after (one_if mono) rest)) ≡ line_text l × IsLine l
 unfolding slot_from
 slot_from-sound slot scale mono rest l e h k =
     let gains = bind_some (next_word rest) _ l e in
@@ -227,9 +228,9 @@ slot_from-sound slot scale mono rest l e h k =
     let f = number-sound (2 ^ 32 - 1) gains.0.1 flush.0 flush.1 in
     let r = number-sound (2 ^ 32 - 1) flush.0.1 rear.0 rear.1 in
     let s = seen-sound rear.0.1 answer.0 answer.1 in
-    subst (λ (l : Line). (122 ∷ after slot (after scale (after (digit mono) rest)) ≡ line_text l) × IsLine l) (same_Some _ _ answer.2) (
-      ap (λ l. 122 ∷ after slot (after scale (after (digit mono) l))) (g.spelled ∙ ap (after gains.0.0) (f.spelled ∙ ap (after flush.0.0) (r.spelled ∙ ap (after rear.0.0) s.spelled)))
-          ∙ ap (λ l. 122 ∷ 32 ∷ l) (sym (six_then (decimal slot) (decimal scale) (decimal (digit mono)) (decimal gains.0.0) (decimal flush.0.0) (decimal rear.0.0) (seen_text answer.0))),
+    subst (λ (l : Line). (122 ∷ after slot (after scale (after (one_if mono) rest)) ≡ line_text l) × IsLine l) (same_Some _ _ answer.2) (
+      ap (λ l. 122 ∷ after slot (after scale (after (one_if mono) l))) (g.spelled ∙ ap (after gains.0.0) (f.spelled ∙ ap (after flush.0.0) (r.spelled ∙ ap (after rear.0.0) s.spelled)))
+          ∙ ap (λ l. 122 ∷ 32 ∷ l) (sym (six_then (decimal slot) (decimal scale) (decimal (one_if mono)) (decimal gains.0.0) (decimal flush.0.0) (decimal rear.0.0) (seen_text answer.0))),
       (h, k, (omega (arith, g.fits), (omega (arith, f.fits), (omega (arith, r.fits), tt))), s.fits),
     )
 
@@ -249,13 +250,13 @@ slot-sound rest l e =
     }
 
 slot-again : (slot scale : ℕ) (mono : Bool) (gains flush rear : ℕ) (answer : Seen) → IsLine (line.Slot slot scale mono gains flush rear answer)
-    → slot_at (after slot (after scale (after (digit mono) (after gains (after flush (after rear (32 ∷ seen_text answer))))))) ≡ Some (line.Slot slot scale mono gains flush rear answer)
+    → slot_at (after slot (after scale (after (one_if mono) (after gains (after flush (after rear (32 ∷ seen_text answer))))))) ≡ Some (line.Slot slot scale mono gains flush rear answer)
 unfolding slot_at slot_from
 slot-again slot scale mono gains flush rear answer fit =
     let i = fit.0 in let s = fit.1 in let g = fit.2.0 in let f = fit.2.1.0 in let r = fit.2.1.1.0 in
-    rw (number-more (slots - 1) slot (decimal scale ++ after (digit mono) (after gains (after flush (after rear (32 ∷ seen_text answer))))) (omega arith) (lit< tt))
-    (rw (number-more (2 ^ 16 - 1) scale (decimal (digit mono) ++ after gains (after flush (after rear (32 ∷ seen_text answer)))) (omega arith) (lit< tt))
-    (rw (number-more 1 (digit mono) (decimal gains ++ after flush (after rear (32 ∷ seen_text answer))) (digit_small mono) (lit< tt))
+    rw (number-more (slots - 1) slot (decimal scale ++ after (one_if mono) (after gains (after flush (after rear (32 ∷ seen_text answer))))) (omega arith) (lit< tt))
+    (rw (number-more (2 ^ 16 - 1) scale (decimal (one_if mono) ++ after gains (after flush (after rear (32 ∷ seen_text answer)))) (omega arith) (lit< tt))
+    (rw (number-more 1 (one_if mono) (decimal gains ++ after flush (after rear (32 ∷ seen_text answer))) (digit_small mono) (lit< tt))
     (rw (number-more (2 ^ 32 - 1) gains (decimal flush ++ after rear (32 ∷ seen_text answer)) (omega arith) (lit< tt))
     (rw (number-more (2 ^ 32 - 1) flush (decimal rear ++ 32 ∷ seen_text answer) (omega arith) (lit< tt))
     (rw (number-more (2 ^ 32 - 1) rear (seen_text answer) (omega arith) (lit< tt))
@@ -354,4 +355,4 @@ line-again (line.Take track gains flush rear answer) f = ap (λ l. take_at (32 �
 line-again line.Fast f = refl
 line-again (line.Entry state kind) f = entry-again state kind f.0 f.1
 line-again (line.Slot slot scale mono gains flush rear answer) f =
-    ap (λ l. slot_at (32 ∷ l)) (six_then (decimal slot) (decimal scale) (decimal (digit mono)) (decimal gains) (decimal flush) (decimal rear) (seen_text answer)) ∙ slot-again slot scale mono gains flush rear answer f
+    ap (λ l. slot_at (32 ∷ l)) (six_then (decimal slot) (decimal scale) (decimal (one_if mono)) (decimal gains) (decimal flush) (decimal rear) (seen_text answer)) ∙ slot-again slot scale mono gains flush rear answer f

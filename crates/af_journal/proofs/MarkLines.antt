@@ -6,7 +6,6 @@ use Rattle.std.proofs.lemmas.List.{get_or-replicate, get_or_append_left, get_or_
 use Rattle.std.proofs.lemmas.Option.{same_Some}
 use Rattle.std.proofs.lemmas.List.Elements.{All-nil}
 use Rattle.af_base.specs.declared.event.ClientCall.{ClientCall}
-use Rattle.af_model.specs.Numbers.{FitCalls}
 use Rattle.af_runs.specs.LegalRuns.{is_poke_on}
 use Rattle.af_journal.specs.declared.line.Line.{Line}
 use Rattle.af_journal.specs.Lines.{Written, numbers, words, spelled}
@@ -19,6 +18,8 @@ use Rattle.af_journal.proofs.Leaving.{all-more}
 use Rattle.af_journal.proofs.LineLaws.{line-again}
 use Rattle.af_journal.proofs.OneText.{cut-line}
 use Rattle.af_journal.proofs.PokeLines.{or_both, or_nothing}
+use Rattle.std.specs.Prelude.{All}
+use Rattle.af_model.specs.Numbers.{FitsCall}
 
 -- ## The line that is noted
 
@@ -128,10 +129,10 @@ marks_end ws own rest streams commands s c m e =
 -- ## Clients
 
 -- the calls of one client more
-pub just-more : (n : ℕ) (poked : Bool → ℕ → Bool) (clients : List (List ClientCall)) (calls : List ClientCall) → PokeJust n poked clients → FitCalls calls → list_any (is_poke_on false) calls ≡ poked false n → list_any (is_poke_on true) calls ≡ poked true n → PokeJust (n + 1) poked (clients ++ calls ∷ [])
+pub just-more : (n : ℕ) (poked : Bool → ℕ → Bool) (clients : List (List ClientCall)) (calls : List ClientCall) → PokeJust n poked clients → All FitsCall calls → list_any (is_poke_on false) calls ≡ poked false n → list_any (is_poke_on true) calls ≡ poked true n → PokeJust (n + 1) poked (clients ++ calls ∷ [])
 just-more n poked clients calls j fit stream command = record {
   many = length-append clients (calls ∷ []) ∙ ap (λ k. k + 1) j.many;
-  numbers = all-more FitCalls clients calls j.numbers fit;
+  numbers = all-more (λ calls. All FitsCall calls) clients calls j.numbers fit;
   each = λ commands track lt. by_place commands track (cases_lt track n) lt;
 }
   where
@@ -147,7 +148,7 @@ just-more n poked clients calls j fit stream command = record {
         ap (list_any (is_poke_on commands)) (get_or_push clients calls [] track (omega (arith, is, many))) ∙ own commands ∙ ap (poked commands) is
 
 pub just-none : (poked : Bool → ℕ → Bool) → PokeJust 0 poked []
-just-none poked = record { many = refl; numbers = All-nil FitCalls; each = λ commands track lt. absurd (omega (arith, lt)) }
+just-none poked = record { many = refl; numbers = All-nil (λ calls. All FitsCall calls); each = λ commands track lt. absurd (omega (arith, lt)) }
 
 -- what was marked of none is poked just so
 pub marks_just : (tracks : ℕ) (ws : List Written) (streams commands s c : List Bool) (clients : List (List ClientCall)) → streams ≡ replicate tracks false → commands ≡ replicate tracks false → MarksAll false 0 ws streams s × MarksAll true 0 ws commands c

@@ -19,12 +19,13 @@ use Rattle.af_model.specs.Journals.{EntrySeen, slot_frames, taken_by}
 use Rattle.af_model.specs.JournalForm.{IsAbsent, IsMixed, IsSubmix}
 use Rattle.af_runs.specs.Fronts.{is_shown}
 use Rattle.af_journal.specs.declared.line.Line.TheVariants as line
-use Rattle.af_journal.specs.Lines.{Written, digit, numbers}
+use Rattle.af_journal.specs.Lines.{Written, numbers}
 use Rattle.af_journal.specs.Mixes.{SlotGot, lines_by, got_lines, IsGot, AreGots, frames_in, marks, mix_entry}
 use Rattle.af_journal.specs.Texts.{each_from, slot_lines, slots_lines, words_after}
 use Rattle.af_journal.proofs.Spelled.{digit_back, digit_small}
 use Rattle.af_journal.proofs.Texts.{each-next, range-more}
 use Rattle.af_journal.proofs.RoundsLeft.{many, length-many, pad_all, pad_to, EntriesLeft}
+use Rattle.af_model.specs.Reports.{one_if}
 
 -- ## Slots
 
@@ -144,11 +145,11 @@ lowest_of d v h = omega arith
 pub half_of : (d v : ℕ) → d ≤ 1 → (d + 2 * v) / 2 ≡ v
 half_of d v h = omega arith
 
-pub mark_at : (bs : List Bool) (i : ℕ) → i < length bs → bit_at (marks bs) i ≡ digit (get_or bs i false)
+pub mark_at : (bs : List Bool) (i : ℕ) → i < length bs → bit_at (marks bs) i ≡ one_if (get_or bs i false)
 unfolding marks
 mark_at [] i h = absurd (omega arith)
-mark_at (b ∷ bs) zero h = bit_at_lowest (digit b + 2 * marks bs) ∙ lowest_of (digit b) (marks bs) (digit_small b)
-mark_at (b ∷ bs) (suc i) h = bit_at-suc (digit b + 2 * marks bs) i ∙ ap (λ n. bit_at n i) (half_of (digit b) (marks bs) (digit_small b)) ∙ mark_at bs i (omega arith)
+mark_at (b ∷ bs) zero h = bit_at_lowest (one_if b + 2 * marks bs) ∙ lowest_of (one_if b) (marks bs) (digit_small b)
+mark_at (b ∷ bs) (suc i) h = bit_at-suc (one_if b + 2 * marks bs) i ∙ ap (λ n. bit_at n i) (half_of (one_if b) (marks bs) (digit_small b)) ∙ mark_at bs i (omega arith)
 
 pub marks_small : (bs : List Bool) → marks bs < 2 ^ length bs
 unfolding marks
@@ -219,11 +220,11 @@ module _ (state place : ℕ) (gs : List SlotGot) (count : length gs ≡ slots) (
   unfolding mix_entry got_at
   scale_is i h = get_or-map (λ (g : SlotGot). g.scale) gs i no_got 0 (omega (arith, count))
 
-  pub bit_is : (i : ℕ) → i < slots → bit_at (mix_entry state gs).mono i ≡ digit (got_at gs i).mono
+  pub bit_is : (i : ℕ) → i < slots → bit_at (mix_entry state gs).mono i ≡ one_if (got_at gs i).mono
   unfolding mix_entry got_at
   bit_is i h =
       let long = length-map gs (λ (g : SlotGot). g.mono) in
-      mark_at (map (λ (g : SlotGot). g.mono) gs) i (omega (arith, count, long)) ∙ ap digit (get_or-map (λ (g : SlotGot). g.mono) gs i no_got false (omega (arith, count)))
+      mark_at (map (λ (g : SlotGot). g.mono) gs) i (omega (arith, count, long)) ∙ ap one_if (get_or-map (λ (g : SlotGot). g.mono) gs i no_got false (omega (arith, count)))
 
   pub taken_is : (k : ℕ) → k ≤ slots → taken_before (mix_entry state gs) k ≡ length (frames_in (take k gs))
   taken_is zero h = refl
@@ -265,7 +266,7 @@ module _ (state place : ℕ) (gs : List SlotGot) (count : length gs ≡ slots) (
   mix_taken = ap (λ gs. length (frames_in gs)) (sym (take_all slots gs (omega (arith, count)))) ∙ sym (taken_is slots (omega arith))
 
   pub other_is : (i : ℕ) → i < slots → (((got_at gs i).slot ≡ absent) × ((got_at gs i).scale ≡ 0) × ((got_at gs i).mono ≡ false)) ⊎ IsSeen (got_at gs i).slot.seen → IsAbsent (mix_entry state gs) i ⊎ IsSeen (entry_slot (mix_entry state gs) i).seen
-  other_is i h (inl gone) = inl (slot_is i h ∙ gone.0, scale_is i h ∙ gone.1, bit_is i h ∙ ap digit gone.2)
+  other_is i h (inl gone) = inl (slot_is i h ∙ gone.0, scale_is i h ∙ gone.1, bit_is i h ∙ ap one_if gone.2)
   other_is i h (inr s) = inr (subst (λ (x : SlotEntry). IsSeen x.seen) (sym (slot_is i h)) s)
 
   pub mix_is : HeadFirst 0 gs → IsMixed place (mix_entry state gs)
@@ -274,7 +275,7 @@ module _ (state place : ℕ) (gs : List SlotGot) (count : length gs ≡ slots) (
     submix = (
       subst IsSubmix (sym (slot_is 0 (lit< tt))) (head_first gs (omega (arith, count)) first).0,
       scale_is 0 (lit< tt) ∙ (head_first gs (omega (arith, count)) first).1,
-      bit_is 0 (lit< tt) ∙ ap digit (head_first gs (omega (arith, count)) first).2,
+      bit_is 0 (lit< tt) ∙ ap one_if (head_first gs (omega (arith, count)) first).2,
     );
     others = λ i low h. other_is i h (got_is place gs i are (omega (arith, count))).other;
     placed = λ i h.

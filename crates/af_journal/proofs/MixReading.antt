@@ -16,7 +16,7 @@ use Rattle.af_model.specs.Cycles.{IsSeen, is_mixed, still_entry}
 use Rattle.af_model.specs.JournalForm.{is_spent}
 use Rattle.std.specs.Int.{bit_at}
 use Rattle.af_journal.specs.declared.line.Line.TheVariants as line
-use Rattle.af_journal.specs.Lines.{Written, digit, numbers}
+use Rattle.af_journal.specs.Lines.{Written, numbers}
 use Rattle.af_journal.specs.Mixes.{AreGots, IsGot, SlotGot, frames_in, got_lines, marks, mix_entry}
 use Rattle.af_journal.specs.Stages.{is_submix, shows_submix}
 use Rattle.af_journal.specs.Taken.{AddsEntry, Leaves, more_lines}
@@ -26,6 +26,7 @@ use Rattle.af_journal.proofs.EntriesLeft.{differ, slot_may, still_taken}
 use Rattle.af_journal.proofs.RoundsLeft.{both_true}
 use Rattle.af_journal.proofs.Spelled.{digit_back}
 use Rattle.af_journal.proofs.MixLeft.{HeadFirst, IsFirst, all_frames, bit_is, got_at, marks_small, mix_is, mix_lines, mix_taken, scale_is, shown_if, slot_is}
+use Rattle.af_model.specs.Reports.{one_if}
 
 -- what was read of a mix before a slot
 pub record IsMixFront (state place slot : ℕ) (before frames : List Frame) (start rest : List ℕ) (entry : CycleEntry) : Type 0 where
@@ -68,10 +69,10 @@ set_next f x gots g n count lt =
 marks-step : (x n m b p q : ℕ) → n ≡ m + b * p → q ≡ p * 2 → x + 2 * n ≡ x + 2 * m + b * q
 marks-step x n m b p q e h = let r : b * q ≡ b * p * 2 = ap (λ q. b * q) h ∙ sym (mul_assoc b p 2) in omega arith
 
-pub marks-more : (bs : List Bool) (b : Bool) → marks (bs ++ b ∷ []) ≡ marks bs + digit b * 2 ^ length bs
+pub marks-more : (bs : List Bool) (b : Bool) → marks (bs ++ b ∷ []) ≡ marks bs + one_if b * 2 ^ length bs
 unfolding marks
 marks-more [] b = omega arith
-marks-more (x ∷ xs) b = marks-step (digit x) (marks (xs ++ b ∷ [])) (marks xs) (digit b) (2 ^ length xs) (2 ^ length (x ∷ xs)) (marks-more xs b) (pow-suc 2 (length xs))
+marks-more (x ∷ xs) b = marks-step (one_if x) (marks (xs ++ b ∷ [])) (marks xs) (one_if b) (2 ^ length xs) (2 ^ length (x ∷ xs)) (marks-more xs b) (pow-suc 2 (length xs))
 
 -- the slots so far and one more
 pub are-more : (place : ℕ) (gots : List SlotGot) (g : SlotGot) → AreGots place gots → IsGot (place + length (frames_in gots)) g → AreGots place (gots ++ g ∷ [])
@@ -86,7 +87,7 @@ frames-more gots g = flat_map-append (λ (g : SlotGot). g.frames) gots (g ∷ []
 -- one slot more is read
 pub front-more : (state n : ℕ) (before frames more : List Frame) (start mid rest : List ℕ) (entry next : CycleEntry) (g : SlotGot) → IsMixFront state (length before) n before frames start mid entry → n < slots
     → IsGot (length frames) g → more ≡ frames ++ g.frames → Leaves mid (got_lines n g) rest
-    → next.slots ≡ slice_set entry.slots n g.slot → next.scales ≡ slice_set entry.scales n g.scale → next.mono ≡ entry.mono + digit g.mono * 2 ^ n → next.state ≡ entry.state → next.cycle ≡ entry.cycle
+    → next.slots ≡ slice_set entry.slots n g.slot → next.scales ≡ slice_set entry.scales n g.scale → next.mono ≡ entry.mono + one_if g.mono * 2 ^ n → next.state ≡ entry.state → next.cycle ≡ entry.cycle
     → IsMixFront state (length before) (n + 1) before more start rest next
 front-more state n before frames more start mid rest entry next g m lt is frames_are lines slots_are scales_are mono_is state_is cycle_is =
     let place : length frames ≡ length before + length (frames_in m.gots) = ap length m.frames_are ∙ length-append before (frames_in m.gots) in
@@ -99,10 +100,32 @@ front-more state n before frames more start mid rest entry next g m lt is frames
       lines = leaves-each got_lines start mid rest m.gots g n m.count m.lines lines;
       slots_are = slots_are ∙ ap (λ (l : List SlotEntry). slice_set l n g.slot) m.slots_are ∙ set_next (λ (g : SlotGot). g.slot) absent m.gots g n m.count lt;
       scales_are = scales_are ∙ ap (λ (l : List ℕ). slice_set l n g.scale) m.scales_are ∙ set_next (λ (g : SlotGot). g.scale) 0 m.gots g n m.count lt;
-      mono_is = mono_is ∙ ap (λ k. k + digit g.mono * 2 ^ n) m.mono_is ∙ ap (λ k. marks (map (λ (g : SlotGot). g.mono) m.gots) + digit g.mono * 2 ^ k) (sym bits) ∙ sym (marks-more (map (λ (g : SlotGot). g.mono) m.gots) g.mono)
+      mono_is = mono_is ∙ ap (λ k. k + one_if g.mono * 2 ^ n) m.mono_is ∙ ap (λ k. marks (map (λ (g : SlotGot). g.mono) m.gots) + one_if g.mono * 2 ^ k) (sym bits) ∙ sym (marks-more (map (λ (g : SlotGot). g.mono) m.gots) g.mono)
           ∙ ap marks (sym (map-more (λ (g : SlotGot). g.mono) m.gots g));
       others = (state_is ∙ m.others.0, cycle_is ∙ m.others.1);
     }
+
+-- an item behind some others that is set to what it is
+keep_next : {X : Type 0} (l : List X) (f : SlotGot → X) (x : X) (gots : List SlotGot) (n : ℕ) → length gots ≡ n → n < slots → l ≡ map f gots ++ replicate (slots - n) x → l ≡ slice_set l n x
+keep_next l f x gots n count lt is =
+    let one : slots - n ≡ suc (slots - (n + 1)) = omega arith in
+    let long : length (map f gots) ≡ n = length-map gots f ∙ count in
+    let whole : l ≡ map f gots ++ x ∷ replicate (slots - (n + 1)) x = is ∙ ap (λ k. map f gots ++ replicate k x) one in
+    whole ∙ (sym (set_behind (map f gots) (replicate (slots - (n + 1)) x) x x n long) ∙ ap (λ l. slice_set l n x) (sym whole))
+
+-- one slot more has no line
+pub front-skip : (state n : ℕ) (before frames : List Frame) (start rest : List ℕ) (entry : CycleEntry) → IsMixFront state (length before) n before frames start rest entry → n < slots → IsMixFront state (length before) (n + 1) before frames start rest entry
+front-skip state n before frames start rest entry m lt =
+    let none : SlotGot = record { slot = absent; scale = 0; mono = false; frames = [] } in
+    front-more state n before frames frames start rest rest entry entry none m lt (record { other = inl (refl, refl, refl); first = refl; count = refl; are = All-nil IsFrame }) (sym (append-nil frames)) (leaves-none rest)
+    (keep_next entry.slots (λ (g : SlotGot). g.slot) absent m.gots n m.count lt m.slots_are) (keep_next entry.scales (λ (g : SlotGot). g.scale) 0 m.gots n m.count lt m.scales_are) (omega arith) refl refl
+
+-- the same, by equal parts
+pub front-same : (state place n : ℕ) (before frames more : List Frame) (start rest left : List ℕ) (entry next : CycleEntry) → more ≡ frames → left ≡ rest → next ≡ entry
+    → IsMixFront state place n before frames start rest entry → IsMixFront state place n before more start left next
+front-same state place n before frames more start rest left entry next a b e m =
+    subst (λ (x : List Frame). IsMixFront state place n before x start left next) (sym a)
+    (subst (λ (x : List ℕ). IsMixFront state place n before frames start x next) (sym b) (subst (λ (x : CycleEntry). IsMixFront state place n before frames start rest x) (sym e) m))
 
 -- the marks so far lie below the slot's
 pub front-below : (state place n : ℕ) (before frames : List Frame) (start rest : List ℕ) (entry : CycleEntry) → IsMixFront state place n before frames start rest entry → entry.mono < 2 ^ n

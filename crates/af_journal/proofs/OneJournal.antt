@@ -9,7 +9,7 @@ use Rattle.af_model.specs.JournalForm.{AreEntries, IsRound, IsTurn}
 use Rattle.af_journal.specs.declared.line.Line.TheVariants as line
 use Rattle.af_journal.specs.Lines.{Written, numbers}
 use Rattle.af_journal.specs.Readings.{IsReadBack, Reads}
-use Rattle.af_journal.specs.Texts.{client_lines, each_from, entry_lines, fast_lines, lines_of, round_lines, take_lines, text_of, track_lines, turn_lines, turns_lines}
+use Rattle.af_journal.specs.Texts.{client_lines, each_from, entry_lines, fast_lines, round_lines, take_lines, text_of, track_lines, turn_lines, turns_lines}
 use Rattle.af_journal.proofs.Fitting.{lines_fit}
 use Rattle.af_journal.proofs.OneEntry.{AtRound, entries-one, round-from}
 use Rattle.af_journal.proofs.OneText.{FromOn, clients-numbered, each-one, others-same, same-lines}
@@ -143,7 +143,7 @@ rounds-one tracks place (x ∷ xs) (y ∷ ys) p q a b e =
 -- two journals of as many tracks have two texts
 pub one-reading : (tracks : ℕ) (text : List ℕ) (j k : JournalData) → Reads tracks text j → Reads tracks text k → j ≡ k
 one-reading tracks text j k p q =
-    let lines : lines_of j ≡ lines_of k = same-lines (lines_of j) (lines_of k) (lines_fit j p.0.form) (lines_fit k q.0.form) (sym p.1 ∙ q.1) in
+    let lines : flat_map round_lines j.rounds ≡ flat_map round_lines k.rounds = same-lines (flat_map round_lines j.rounds) (flat_map round_lines k.rounds) (lines_fit j p.0.form) (lines_fit k q.0.form) (sym p.1 ∙ q.1) in
     let jf = subst (λ n. All (IsRound n) j.rounds) p.0.tracks_are p.0.form.rounds in
     let kf = subst (λ n. All (IsRound n) k.rounds) q.0.tracks_are q.0.form.rounds in
     let rounds = rounds-one tracks 0 j.rounds k.rounds jf kf p.0.form.entries q.0.form.entries lines in

@@ -9,11 +9,12 @@ use Rattle.af_base.specs.declared.event.ClientCall.TheVariants as call
 use Rattle.af_base.specs.declared.seen.Seen.{Seen}
 use Rattle.af_base.specs.declared.seen.Seen.TheVariants as seen
 use Rattle.af_journal.specs.Digits.{number_at}
-use Rattle.af_journal.specs.Lines.{call_line, digit, seen_text}
+use Rattle.af_journal.specs.Lines.{call_line, seen_text}
 use Rattle.af_journal.specs.LineReading.{◌>>=◌, call_at, corrupt_at, frames_at, next_number, next_word, one_at, poke_at, put_at, seen_at, send_at, send_corrupt_at, sent_at, shown_at, three_at, two_at, up_to, whole, word_at}
 use Rattle.af_model.specs.Numbers.{AreWords, FitsCall}
 use Rattle.af_journal.specs.Ranges.{IsSeenText}
 use Rattle.af_journal.proofs.Decimal.{number_at-sound, number_at-decimal}
+use Rattle.af_model.specs.Reports.{one_if}
 
 -- ## Options
 
@@ -251,16 +252,16 @@ seen-again (seen.Shut a b) f = ap (λ (o : Option (ℕ × ℕ)). o >>= λ n. Som
 
 -- ## Yes or no
 
-pub yes_is : (n : ℕ) → n ≤ 1 → n ≡ digit (n == 1)
+pub yes_is : (n : ℕ) → n ≤ 1 → n ≡ one_if (n == 1)
 yes_is zero h = refl
 yes_is (suc zero) h = refl
 yes_is (suc (suc n)) h = absurd (omega arith)
 
-pub digit_small : (b : Bool) → digit b ≤ 1
+pub digit_small : (b : Bool) → one_if b ≤ 1
 digit_small true = omega arith
 digit_small false = omega arith
 
-pub digit_back : (b : Bool) → (digit b == 1) ≡ b
+pub digit_back : (b : Bool) → (one_if b == 1) ≡ b
 digit_back true = refl
 digit_back false = refl
 
@@ -343,11 +344,11 @@ call-sound mark rest c e =
     (λ e. either (mark == 116) _ _ c e (λ m f. one_call mark 116 rest call.Status c m f (λ n. refl) (λ n h. (h, tt)))
     (λ e. let g = guard_some (mark == 111) (poke_at rest) c e in under 111 rest c mark g.0 (poke-sound rest c g.1))))))))))
 
-poke-again : (command : Bool) (word value : ℕ) → word < 2 ^ 32 → value < 2 ^ 32 → poke_at (32 ∷ (decimal (digit command) ++ 32 ∷ (decimal word ++ 32 ∷ decimal value))) ≡ Some (call.Poke command word value)
+poke-again : (command : Bool) (word value : ℕ) → word < 2 ^ 32 → value < 2 ^ 32 → poke_at (32 ∷ (decimal (one_if command) ++ 32 ∷ (decimal word ++ 32 ∷ decimal value))) ≡ Some (call.Poke command word value)
 unfolding poke_at
 poke-again command word value h k =
-    ap (λ (o : Option (ℕ × List ℕ)). o >>= λ x. two_at x.1 >>= λ n. Some (call.Poke (x.0 == 1) n.0 n.1)) (number-more 1 (digit command) (decimal word ++ 32 ∷ decimal value) (digit_small command) (lit< tt))
-    ∙ ap (λ (o : Option (ℕ × ℕ)). o >>= λ n. Some (call.Poke (digit command == 1) n.0 n.1)) (two-again word value h k)
+    ap (λ (o : Option (ℕ × List ℕ)). o >>= λ x. two_at x.1 >>= λ n. Some (call.Poke (x.0 == 1) n.0 n.1)) (number-more 1 (one_if command) (decimal word ++ 32 ∷ decimal value) (digit_small command) (lit< tt))
+    ∙ ap (λ (o : Option (ℕ × ℕ)). o >>= λ n. Some (call.Poke (one_if command == 1) n.0 n.1)) (two-again word value h k)
     ∙ ap (λ b. Some (call.Poke b word value)) (digit_back command)
 
 abbrev of_one : (ℕ → ClientCall) → Option ℕ → Option ClientCall

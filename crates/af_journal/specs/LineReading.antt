@@ -1,5 +1,5 @@
 -- The line that some bytes spell, read from left to right: a mark, and then numbers with one space before each.
-use Rattle.std.specs.Prelude.{ℕ, ◌+◌, ◌-◌, ◌*◌, ◌^◌, List, [], ◌∷◌, Option, Some, None, Bool, nat_le, ◌&&◌, ◌==◌, if◌then◌else◌}
+use Rattle.std.specs.Prelude.{ℕ, ◌+◌, ◌-◌, ◌*◌, ◌^◌, List, [], ◌∷◌, Option, Some, None, Bool, true, nat_le, ◌&&◌, ◌==◌, if◌then◌else◌}
 use Rattle.std.specs.Int.{from_be_bytes, w32}
 use Rattle.af_base.specs.declared.event.ClientCall.{ClientCall}
 use Rattle.af_base.specs.declared.event.ClientCall.TheVariants as call
@@ -24,6 +24,15 @@ None >>= f = None
 abbrev pub word_at : List ℕ → List ℕ × List ℕ
 word_at [] = ([], [])
 word_at (c ∷ cs) = if c == 32 then ([], c ∷ cs) else (c ∷ (word_at cs).0, (word_at cs).1)
+
+-- a word ends here: at a space, or at the end
+abbrev pub ends_word : List ℕ → Bool
+ends_word [] = true
+ends_word (c ∷ cs) = c == 32
+
+-- a number, and what follows it
+abbrev pub beside : List ℕ → Option ℕ → Option (ℕ × List ℕ)
+beside after number = number >>= λ n. Some (n, after)
 
 -- a number up to a limit
 abbrev pub up_to : ℕ → List ℕ → Option ℕ

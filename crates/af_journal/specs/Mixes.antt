@@ -10,8 +10,9 @@ use Rattle.af_model.specs.Cycles.{IsSeen, place_of}
 use Rattle.af_runs.specs.Fronts.{is_shown}
 use Rattle.af_journal.specs.declared.fast_reading.SlotRead.{SlotRead}
 use Rattle.af_journal.specs.declared.line.Line.TheVariants as line
-use Rattle.af_journal.specs.Lines.{Written, digit, numbers}
+use Rattle.af_journal.specs.Lines.{Written, numbers}
 use Rattle.af_journal.specs.Texts.{words_after}
+use Rattle.af_model.specs.Reports.{one_if}
 
 -- a slot of a mix
 pub record SlotGot : Type 0 where
@@ -50,7 +51,7 @@ frames_in gs = flat_map (λ (g : SlotGot). g.frames) gs
 -- the number whose bits are these, the lowest first
 unfoldable pub marks : List Bool → ℕ
 marks [] = 0
-marks (b ∷ bs) = digit b + 2 * marks bs
+marks (b ∷ bs) = one_if b + 2 * marks bs
 
 -- the entry of a mix by a state with these slots
 unfoldable pub mix_entry : ℕ → List SlotGot → CycleEntry

@@ -2,11 +2,11 @@
 use Rattle.std.specs.Prelude.{◌≡◌, ℕ, ◌<◌, ◌==◌, ◌&&◌, ◌||◌, Bool, false, List, [], ◌∷◌, All, length, slice_index_or}
 use Rattle.std.specs.List.{list_any}
 use Rattle.af_base.specs.declared.event.ClientCall.{ClientCall}
-use Rattle.af_model.specs.Numbers.{FitCalls}
 use Rattle.af_runs.specs.LegalRuns.{is_poke_on}
 use Rattle.af_journal.specs.declared.line.Line.{Line}
 use Rattle.af_journal.specs.declared.line.Line.TheVariants as line
 use Rattle.af_journal.specs.Lines.{Written, numbers, words}
+use Rattle.af_model.specs.Numbers.{FitsCall}
 
 -- whose calls follow a line, if those of `own` came before it
 abbrev pub caller_after : ℕ → Line → ℕ
@@ -37,5 +37,5 @@ pub record MarksAll (commands : Bool) (own : ℕ) (ws : List Written) (marks new
 -- the calls of so many clients, whose numbers fit, poke just these blocks
 pub record PokeJust (tracks : ℕ) (poked : Bool → ℕ → Bool) (clients : List (List ClientCall)) : Type 0 where
   pub many : length clients ≡ tracks
-  pub numbers : All FitCalls clients
+  pub numbers : All (λ calls. All FitsCall calls) clients
   pub each : (commands : Bool) (track : ℕ) → track < tracks → list_any (is_poke_on commands) (slice_index_or clients track []) ≡ poked commands track

@@ -63,15 +63,11 @@ parts_of text = slice_split (λ byte. byte == 10) text
 abbrev pub first_lines : ℕ → List ℕ → List ℕ
 first_lines n text = flat_map with_lf (take n (parts_of text))
 
--- some right text begins with these bytes
-abbrev pub BeginsOne : (List ℕ → Type 0) → List ℕ → Type 0
-BeginsOne IsRight front = (rest : List ℕ) × IsRight (front ++ rest)
-
 -- The text isn't right. A right text begins with all lines before that number, counted from 1, and none with the line of that number too. It may be the last line, without its LF; or, if a further line is due, the number after the last
 pub record IsFirstBad (IsRight : List ℕ → Type 0) (text : List ℕ) (number : ℕ) : Type 0 where
   pub none : IsRight text → ⊥
-  pub above : (n : ℕ) → n < number → BeginsOne IsRight (first_lines n text)
-  pub here : number < length (parts_of text) → BeginsOne IsRight (first_lines number text) → ⊥
+  pub above : (n : ℕ) → n < number → (rest : List ℕ) × IsRight (first_lines n text ++ rest)
+  pub here : number < length (parts_of text) → ((rest : List ℕ) × IsRight (first_lines number text ++ rest)) → ⊥
   pub inside : (1 ≤ number) × (number ≤ length (parts_of text))
 
 -- why a text isn't read: its first bad line if it has no reading, and else that memory ran out

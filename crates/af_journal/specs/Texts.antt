@@ -93,19 +93,15 @@ turns_lines (Some e) = turn_lines e
 abbrev pub round_lines : RoundSeen → List Written
 round_lines round = numbers line.Round ∷ each_from client_lines 0 round.calls ++ turns_lines round.turn ++ fast_lines round.entries
 
--- all rounds
-abbrev pub lines_of : JournalData → List Written
-lines_of j = flat_map round_lines j.rounds
-
 -- ## The text
 
 -- the bytes of some lines, each with its LF
 abbrev pub text_of_lines : List Written → List ℕ
 text_of_lines lines = flat_map (λ l. with_lf (spelled l)) lines
 
--- the text of a journal
+-- the text of a journal: that of all its rounds
 abbrev pub text_of : JournalData → List ℕ
-text_of j = text_of_lines (lines_of j)
+text_of j = text_of_lines (flat_map round_lines j.rounds)
 
 -- a text goes on with some lines
 abbrev pub GoesOn : List ℕ → List Written → List ℕ → Type 0

@@ -224,25 +224,32 @@ fn build(alloc: Global, bytes: &[u8], tracks: u32, reach: Reach) -> Result<Front
     })
 }
 
+// Why a text isn't read: its first bad line, or, if it has none, that memory ran out.
+fn fault_of(bytes: &[u8], script: &Script) -> JournalFault
+    ensures { IsFaultOf (length script.now.tracks) bytes.now result }
+{
+    match first_bad_line(bytes, script) {
+        Some(number) => JournalFault::Line { number },
+        None => JournalFault::Memory,
+    }
+}
+
 /// Reads a journal's text, for as many tracks as the script has: the journal whose text it is.
 ///
-/// A text that has no reading is answered by the number of its first bad line, as `first_bad_line` gives it, and is known before any memory is taken. Memory comes only for a text that has one, if it was refused.
+/// A text that has no reading is answered by the number of its first bad line, as `first_bad_line` gives it, whatever memory there is. Memory comes only for a text that has one, if it was refused.
 pub fn read(alloc: Global, bytes: &[u8], script: &Script) -> Result<Journal, JournalFault>
     ensures journal { IfOk result (Reads (length script.now.tracks) bytes.now) }
     ensures only { IfOk result (λ journal. (other : JournalData) → Reads (length script.now.tracks) bytes.now other → other ≡ journal) }
     ensures fault { IfErr result (IsFaultOf (length script.now.tracks) bytes.now) }
 {
-    if let Some(number) = first_bad_line(bytes, script) {
-        return Err(JournalFault::Line { number });
-    }
     let tracks = script.tracks().len() as u32;
     let Ok(front) = build(alloc, bytes, tracks, reach_of_all()) else {
-        return Err(JournalFault::Memory);
+        return Err(fault_of(bytes, script));
     };
     if front.whole {
         Ok(front.journal)
     } else {
-        Err(JournalFault::Memory)
+        Err(fault_of(bytes, script))
     }
 }
 
@@ -258,13 +265,10 @@ fn read_to(
     ensures beyond { IfOk result (λ front. front.whole ≡ false → reach.cycles ≡ None → EndsBeyond reach.entries reach.looks front.journal) }
     ensures fault { IfErr result (IsFaultOf (length script.now.tracks) bytes.now) }
 {
-    if let Some(number) = first_bad_line(bytes, script) {
-        return Err(JournalFault::Line { number });
-    }
     let tracks = script.tracks().len() as u32;
     match build(alloc, bytes, tracks, reach) {
         Ok(front) => Ok(front),
-        Err(_) => Err(JournalFault::Memory),
+        Err(_) => Err(fault_of(bytes, script)),
     }
 }
 

@@ -2,7 +2,7 @@
 ghost use Rattle.std.specs.Prelude.{◌≡◌, ◌+◌, ◌*◌, ◌<◌, ◌≤◌, ◌^◌, IfSome};
 ghost use Rattle.std.specs.Option.{option_map};
 ghost use Rattle.af_journal.specs.Digits.{digit_at, digits_on, fitting, number_at};
-ghost use Rattle.af_journal.specs.LineReading.{next_number, next_word, one_at, three_at, two_at, up_to, word_at};
+ghost use Rattle.af_journal.specs.LineReading.{beside, ends_word, next_number, next_word, one_at, three_at, two_at, word_at};
 
 // The digit of a code.
 fn digit_of(byte: u8) -> Option<u64>
@@ -23,49 +23,41 @@ fn with_digit(value: u64, digit: u64) -> Option<u64>
     value.checked_mul(10)?.checked_add(digit)
 }
 
-// The number that goes on with these digits.
-fn more_digits(first: u64, rest: &[u8]) -> Option<u64>
-    ensures { result ≡ digits_on first rest.now }
+// Whether a word ends here: at a space, or at the end.
+fn ends_word(bytes: &[u8]) -> bool
+    ensures { result ≡ ends_word bytes.now }
+{
+    match bytes {
+        [] => true,
+        [first, ..] => *first == b' ',
+    }
+}
+
+// The number that goes on with the digits before the first space, and what stands from there on.
+fn digits_of(first: u64, bytes: &[u8]) -> Option<(u64, &[u8])>
+    ensures { option_map (λ r. (r.0, r.1.now)) result ≡ beside (word_at bytes.now).1 (digits_on first (word_at bytes.now).0) }
 {
     let mut value = first;
-    for byte in rest {
+    for (place, byte) in bytes.iter().enumerate() {
+        if *byte == b' ' {
+            return Some((value, &bytes[place..]));
+        }
         let digit = digit_of(*byte)?;
         value = with_digit(value, digit)?;
     }
-    Some(value)
+    Some((value, &[]))
 }
 
-// The number that a word spells: 0, or digits with no 0 in front.
-fn number_of(word: &[u8]) -> Option<u64>
-    ensures { result ≡ number_at word.now }
+// The number that the word before the first space spells, which is 0, or digits with no 0 in front; and what stands from there on.
+fn number_of(bytes: &[u8]) -> Option<(u64, &[u8])>
+    ensures { option_map (λ r. (r.0, r.1.now)) result ≡ beside (word_at bytes.now).1 (number_at (word_at bytes.now).0) }
 {
-    let (first, rest) = word.split_first()?;
+    let (first, rest) = bytes.split_first()?;
     let digit = digit_of(*first)?;
-    if digit == 0 && !rest.is_empty() {
+    if digit == 0 && !ends_word(rest) {
         return None;
     }
-    more_digits(digit, rest)
-}
-
-// The number that a word spells, up to a limit.
-fn number_up_to(word: &[u8], limit: u64) -> Option<u64>
-    ensures value { result ≡ up_to limit word.now }
-    ensures bound { IfSome result (λ n. n ≤ limit) }
-{
-    let number = number_of(word)?;
-    if number <= limit { Some(number) } else { None }
-}
-
-// What stands before the first space, and what from it on.
-fn word_of(bytes: &[u8]) -> (&[u8], &[u8])
-    ensures { (result.0.now, result.1.now) ≡ word_at bytes.now }
-{
-    for (place, byte) in bytes.iter().enumerate() {
-        if *byte == b' ' {
-            return (&bytes[..place], &bytes[place..]);
-        }
-    }
-    (bytes, &[])
+    digits_of(digit, rest)
 }
 
 /// A space and a number up to a limit, and what follows.
@@ -78,9 +70,12 @@ pub(crate) fn next_number(bytes: &[u8], limit: u64) -> Option<(u64, &[u8])>
     if *first != b' ' {
         return None;
     }
-    let (word, after) = word_of(rest);
-    let number = number_up_to(word, limit)?;
-    Some((number, after))
+    let (number, after) = number_of(rest)?;
+    if number <= limit {
+        Some((number, after))
+    } else {
+        None
+    }
 }
 
 /// A space and a number of 32 bits, and what follows.

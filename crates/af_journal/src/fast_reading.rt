@@ -4,12 +4,13 @@ ghost use Rattle.std.specs.Int.{bit_at};
 ghost use Rattle.af_base.specs.Log.{entry_slot, kind_of, slots};
 ghost use Rattle.af_model.specs.Cycles.{place_of, still_entry};
 ghost use Rattle.af_model.specs.Journals.{EntrySeen};
-ghost use Rattle.af_journal.specs.Lines.{digit, numbers};
+ghost use Rattle.af_journal.specs.Lines.{numbers};
 ghost use Rattle.af_journal.specs.Mixes.{AreGots, IsGot, SlotGot, frames_in, got_lines, got_of, mix_entry};
 ghost use Rattle.af_journal.specs.Ranges.{IsLine};
 ghost use Rattle.af_journal.specs.Stages.{is_submix};
 ghost use Rattle.af_journal.specs.Taken.{AddsEntries, AddsEntry, Leaves, more_lines};
 ghost use Rattle.af_journal.specs.Texts.{each_from, entry_lines, fast_lines};
+ghost use Rattle.af_model.specs.Reports.{one_if};
 
 use crate::left::{Left, Stop, next_line, read_frames};
 use crate::line::Line;
@@ -61,7 +62,7 @@ fn place_of(place: usize, seen: Seen) -> usize
     if seen.count() == 0 { 0 } else { place }
 }
 
-// Whether the line that stands first may be that of a slot, by its mark and the number of the slot.
+// Whether the line that stands first may be that of a slot, by its mark and the number of the slot. Most slots of a mix have no line, and no line is read for them.
 fn may_be_of(bytes: &[u8], slot: usize) -> bool {
     match bytes {
         [b'z', b' ', digit, b' ', ..] => usize::from(digit.wrapping_sub(b'0')) == slot,
@@ -70,18 +71,6 @@ fn may_be_of(bytes: &[u8], slot: usize) -> bool {
             tens * 10 + usize::from(second.wrapping_sub(b'0')) == slot
         }
         _ => false,
-    }
-}
-
-// The line that stands first, and what follows it, if it may be that of a slot. Most slots of a mix have no line, and no line is read for them.
-fn slot_line(bytes: &[u8], slot: usize) -> Option<(Line, &[u8])>
-    ensures line { IfSome result (λ r. Leaves bytes.now (numbers r.0 ∷ []) r.1.now) }
-    ensures fits { IfSome result (λ r. IsLine r.0) }
-{
-    if may_be_of(bytes, slot) {
-        next_line(bytes)
-    } else {
-        None
     }
 }
 
@@ -94,7 +83,7 @@ fn read_slot(
 ) -> Result<SlotRead, Stop>
     ensures { IfOk result (λ got. (taken : List Frame) × IsGot (length frames.old.items) (got_of got taken) × (frames.new.items ≡ frames.old.items ++ taken) × Leaves left.old.rest.now (got_lines slot (got_of got taken)) left.new.rest.now) }
 {
-    match slot_line(left.rest, slot) {
+    match next_line(left.rest) {
         Some(
             (
                 Line::Slot {
@@ -148,7 +137,7 @@ fn has_submix(entry: &CycleEntry) -> bool
 fn with_mark(mono: u32, slot: usize, mark: bool) -> u32
     requires slot { slot < slots }
     requires below { mono < 2 ^ slot }
-    ensures { result ≡ mono + digit mark * 2 ^ slot }
+    ensures { result ≡ mono + one_if mark * 2 ^ slot }
 {
     mono + (u32::from(mark) << slot)
 }
@@ -164,10 +153,12 @@ fn read_slots(
 {
     let mut entry = still_entry(state, Cycle::Mixed);
     for slot in 0..SLOTS {
-        let got = read_slot(alloc, left, frames, slot)?;
-        entry.slots[slot] = got.slot;
-        entry.scales[slot] = got.scale;
-        entry.mono = with_mark(entry.mono, slot, got.mono);
+        if may_be_of(left.rest, slot) {
+            let got = read_slot(alloc, left, frames, slot)?;
+            entry.slots[slot] = got.slot;
+            entry.scales[slot] = got.scale;
+            entry.mono = with_mark(entry.mono, slot, got.mono);
+        }
     }
     Ok(entry)
 }

@@ -1,7 +1,10 @@
 //! The lines of a text that are left to be read, one after the other.
-ghost use Rattle.std.specs.Prelude.{◌≡◌, ◌++◌, ◌∷◌, [], ◌<◌, ◌≤◌, length, map, flat_map, All, IfOk, IfSome};
+ghost use Rattle.std.specs.Prelude.{◌≡◌, ◌++◌, ◌∷◌, [], ◌<◌, ◌≤◌, true, length, map, flat_map, All, Some, IfOk, IfSome};
+ghost use Rattle.std.specs.List.{list_all};
 ghost use Rattle.af_base.specs.Sample.{IsFrame, packed_word};
+ghost use Rattle.af_journal.specs.Hexadecimal.{is_hex};
 ghost use Rattle.af_journal.specs.Lines.{hex_word, numbers, words};
+ghost use Rattle.af_journal.specs.Readings.{cut};
 ghost use Rattle.af_model.specs.Numbers.{AreWords};
 ghost use Rattle.af_journal.specs.Ranges.{IsLine};
 ghost use Rattle.af_journal.specs.Taken.{Leaves};
@@ -121,6 +124,35 @@ pub(crate) fn read_words(alloc: Global, left: &mut Left<'_>, count: u32) -> Resu
     Ok(words)
 }
 
+// So many digits that stand first, and what follows their LF.
+fn digits_first(bytes: &[u8], count: usize) -> Option<(&[u8], &[u8])>
+    ensures digits { IfSome result (λ r. (list_all is_hex r.0.now ≡ true) × (length r.0.now ≡ count)) }
+    ensures bytes { IfSome result (λ r. bytes.now ≡ r.0.now ++ 10 ∷ r.1.now) }
+{
+    if count > bytes.len() {
+        return None;
+    }
+    let (digits, rest) = bytes.split_at(count);
+    match rest {
+        [b'\n', after @ ..] if are_digits(digits) => Some((digits, after)),
+        _ => None,
+    }
+}
+
+// The digits of the line of frames that stands first, so many, and what follows it. Its LF isn't searched for.
+fn frame_digits(bytes: &[u8], count: usize) -> Option<(&[u8], &[u8])>
+    ensures digits { IfSome result (λ r. (list_all is_hex r.0.now ≡ true) × (length r.0.now ≡ count)) }
+    ensures line { IfSome result (λ r. cut bytes.now ≡ Some (104 ∷ 32 ∷ r.0.now, r.1.now)) }
+{
+    match bytes {
+        [b'h', b' ', rest @ ..] => {
+            let (digits, after) = digits_first(rest, count)?;
+            Some((digits, after))
+        }
+        _ => None,
+    }
+}
+
 /// The frames of a line of their own, so many; if none were taken there is no line.
 pub(crate) fn read_frames(alloc: Global, left: &mut Left<'_>, count: u32) -> Result<FrameList, Stop>
     ensures lines { IfOk result (λ frames. Leaves left.old.rest.now (words_after (map packed_word frames.items)) left.new.rest.now) }
@@ -130,15 +162,9 @@ pub(crate) fn read_frames(alloc: Global, left: &mut Left<'_>, count: u32) -> Res
     if count == 0 {
         return Ok(FrameList::with_room(alloc, 0)?);
     }
-    let Some((part, after)) = cut_line(left.rest) else {
+    let Some((digits, after)) = frame_digits(left.rest, 8 * count as usize) else {
         return Err(Stop::Order);
     };
-    let Some(digits) = digits_of(part) else {
-        return Err(Stop::Order);
-    };
-    if digits.len() != 8 * count as usize || !are_digits(digits) {
-        return Err(Stop::Order);
-    }
     let frames = frames_of(alloc, digits)?;
     left.rest = after;
     Ok(frames)

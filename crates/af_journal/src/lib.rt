@@ -14,6 +14,7 @@ mod packed;
 mod poked;
 mod reach;
 mod reading;
+mod row;
 mod stage;
 mod text;
 mod turn;

@@ -1,6 +1,7 @@
 //! One line of a journal's text.
 ghost use Rattle.std.specs.Prelude.{◌∷◌, [], Some};
-ghost use Rattle.af_journal.specs.Lines.{call_line, line_text, look_line, push_line, seen_text, slot_line, spaced, take_line, turn_line};
+ghost use Rattle.af_journal.specs.Lines.{call_line, line_text, push_line, seen_text, spaced};
+ghost use Rattle.af_journal.specs.declared.line.Line.TheVariants as mark;
 
 use af_base::{ClientCall, Push, Seen};
 use std::fmt;
@@ -170,7 +171,7 @@ impl fmt::Display for PushText {
 struct TurnText(u32, bool, u64);
 
 impl fmt::Display for TurnText {
-    ghost output = { λ n. Some (turn_line n.0 n.1 n.2) };
+    ghost output = { λ n. Some (line_text (mark.Turn n.0 n.1 n.2)) };
 
     fn fmt<W: fmt::Write>(&self, f: &mut fmt::Formatter<W>) -> fmt::Result {
         write!(f, "N {} {} {}", self.0, u32::from(self.1), self.2)
@@ -182,7 +183,7 @@ impl fmt::Display for TurnText {
 struct LookText(u32, u32, u32, Seen);
 
 impl fmt::Display for LookText {
-    ghost output = { λ n. Some (look_line n.0 n.1 n.2 n.3) };
+    ghost output = { λ n. Some (line_text (mark.Look n.0 n.1 n.2 n.3)) };
 
     fn fmt<W: fmt::Write>(&self, f: &mut fmt::Formatter<W>) -> fmt::Result {
         write!(
@@ -199,7 +200,7 @@ impl fmt::Display for LookText {
 struct TakeText(u32, u32, u32, u32, Seen);
 
 impl fmt::Display for TakeText {
-    ghost output = { λ n. Some (take_line n.0 n.1 n.2 n.3 n.4) };
+    ghost output = { λ n. Some (line_text (mark.Take n.0 n.1 n.2 n.3 n.4)) };
 
     fn fmt<W: fmt::Write>(&self, f: &mut fmt::Formatter<W>) -> fmt::Result {
         write!(
@@ -217,7 +218,7 @@ impl fmt::Display for TakeText {
 struct SlotText(u32, u16, bool, u32, u32, u32, Seen);
 
 impl fmt::Display for SlotText {
-    ghost output = { λ n. Some (slot_line n.0 n.1 n.2 n.3 n.4 n.5 n.6) };
+    ghost output = { λ n. Some (line_text (mark.Slot n.0 n.1 n.2 n.3 n.4 n.5 n.6)) };
 
     fn fmt<W: fmt::Write>(&self, f: &mut fmt::Formatter<W>) -> fmt::Result {
         write!(

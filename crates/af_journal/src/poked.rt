@@ -1,7 +1,6 @@
 //! Which blocks the rest of a text pokes.
-ghost use Rattle.std.specs.Prelude.{◌≡◌, ◌==◌, ◌||◌, ℕ, ◌<◌, List, false, true, if◌then◌else◌, IfOk, length, map, slice_index_or, None, Some};
+ghost use Rattle.std.specs.Prelude.{◌≡◌, ◌==◌, ◌||◌, ℕ, ◌<◌, List, false, true, if◌then◌else◌, IfOk, length, map, slice_index_or, None, Some, All};
 ghost use Rattle.std.specs.List.{AllByRecursion, list_any};
-ghost use Rattle.af_model.specs.Numbers.{FitCalls};
 ghost use Rattle.af_runs.specs.LegalRuns.{is_poke_on};
 ghost use Rattle.af_journal.specs.LineReading.{line_at};
 ghost use Rattle.af_journal.specs.Lines.{Written};
@@ -9,6 +8,7 @@ ghost use Rattle.af_journal.specs.declared.line.Line.{Line};
 ghost use Rattle.af_journal.specs.Pokes.{MarksAll, Notes, PokeJust, caller_after, is_poke_line, pokes};
 ghost use Rattle.af_journal.specs.Ranges.{IsWritten};
 ghost use Rattle.af_journal.specs.Texts.{text_of_lines};
+ghost use Rattle.af_model.specs.Numbers.{FitsCall};
 
 use crate::line::Line;
 use crate::line_reading::line_of;
@@ -85,7 +85,7 @@ fn mark_all(bytes: &[u8], streams: &mut [bool], commands: &mut [bool])
 
 // The calls that poke these blocks of a client.
 fn calls_of(alloc: Global, stream: bool, command: bool) -> Result<Vec<ClientCall>, Memory>
-    ensures numbers { IfOk result (λ calls. FitCalls calls.items) }
+    ensures numbers { IfOk result (λ calls. All FitsCall calls.items) }
     ensures stream { IfOk result (λ calls. list_any (is_poke_on false) calls.items ≡ stream) }
     ensures command { IfOk result (λ calls. list_any (is_poke_on true) calls.items ≡ command) }
 {

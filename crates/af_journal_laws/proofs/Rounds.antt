@@ -14,11 +14,12 @@ use Rattle.af_runs.specs.Rounds.{fills, LegalEntries, LegalRound, after_round, a
 use Rattle.af_runs.specs.Runs.{Run, calls_in, fast_ended, with_calls, with_cycle, with_cycles, with_poll}
 use Rattle.af_runs.specs.Sessions.{Session, setup_of, track_count}
 use Rattle.af_judge.proofs.EntriesFollow.{cycles_beside}
-use Rattle.af_audit.specs.Fates.{recorded, recorded_by, recorded_by_all, recorded_by_turn, recorded_in}
+use Rattle.af_audit.specs.Fates.{recorded, recorded_by, recorded_by_all, recorded_by_turn}
 use Rattle.af_audit.specs.Spared.{IsSpared, IsSparedIn, is_spared_by, is_spared_by_all, is_spared_by_turn}
 use Rattle.af_audit.proofs.Booleans.{neither, no}
 use Rattle.af_audit.proofs.EntryParts.{legal_parts}
 use Rattle.af_journal_laws.proofs.Steps.{Goes, goes_as, goes_both, goes_called, goes_ended, goes_loaded, goes_met, goes_mixed, goes_polled, goes_same, goes_then, goes_turned}
+use Rattle.af_audit.proofs.TakenRecorded.{recorded_in}
 
 -- ## What a legal round has
 

@@ -20,7 +20,7 @@ use Rattle.af_life.specs.Heard.{heard, learnt, ready}
 use Rattle.af_life.specs.Kept.{NormalKept, Outside, Setup, asked, is_home, nothing_seen, track_at, track_in}
 use Rattle.af_life.specs.Looks.{all_command_events, command_events, did, takes_command}
 use Rattle.af_life.specs.Obeys.{is_shut, shows_command, slot_for as given_for}
-use Rattle.af_life.specs.Serves.{IsServed, LegalTrack, after_report, is_found_shut, settled_told, status_word, stored_over}
+use Rattle.af_life.specs.Serves.{IsServed, LegalTrack, after_report, is_found_shut, status_word, stored_over}
 use Rattle.af_life.specs.State.{code_of}
 use Rattle.af_life.specs.Turn.{LegalTurn}
 use Rattle.af_life.specs.TurnEvents.{command_events_of, command_list, hand_list, invalid, mix_events, status_events, stream_list, takes_from, tracks_at}
@@ -47,6 +47,7 @@ use Rattle.af_audit.proofs.TrackStands.{hand-server, server-server, told_more}
 use Rattle.af_audit.proofs.StatusWords.{code_low}
 use Rattle.af_audit.proofs.TracksSeen.{seen_legal}
 use Rattle.af_audit.proofs.Booleans.{not_true}
+use Rattle.std.specs.Prelude.{◌%◌}
 
 -- neither the server nor the hand of a block set INVALID, and no status that was stored says 15
 pub record IsCalmBlock (b : BlockTold) : Type 0 where
@@ -128,7 +129,7 @@ state_told code settled false low = let same : code + 0 + 256 * settled ≡ (16 
 
 state_open : (s : TrackKept) → not (state_in (status_word false s) == 15) ≡ true
 unfolding status_word
-state_open s = ap (λ (n : ℕ). not (n == 15)) (state_told (code_of s.life.state) (settled_told s) s.life.drained (code_low s.life.state)) ∙ code_open s.life.state
+state_open s = ap (λ (n : ℕ). not (n == 15)) (state_told (code_of s.life.state) (s.settled % 16777216) s.life.drained (code_low s.life.state)) ∙ code_open s.life.state
 
 stored_open : (last word : ℕ) → not (state_in word == 15) ≡ true → list_all is_calm (status_events (stored_over last word)) ≡ true
 stored_open last word h = by (word == last)

@@ -26,11 +26,15 @@ use Rattle.af_audit.specs.Fates.{recorded_by, recorded_by_turn}
 use Rattle.af_audit.specs.Spared.{is_spared_by, is_spared_by_turn, none_corrupt_on}
 use Rattle.af_audit.proofs.Booleans.{neither, no, not_true}
 use Rattle.af_audit.proofs.FatesTold.{new_there}
-use Rattle.af_journal_laws.specs.Alone.{EachMetBlockIsSparedAlone, IsSparedAlone, IsSparedInTurn, is_spared_by_cycles, recorded_alone, recorded_by_cycles, recorded_in_turn}
+use Rattle.af_journal_laws.specs.Alone.{EachMetBlockIsSparedAlone, IsSparedAlone, IsSparedInTurn, is_spared_by_cycles, recorded_alone, recorded_by_cycles}
 use Rattle.af_journal_laws.proofs.AtMeetings.{HasHistoryMet, history_ends, history_new, spared_so}
 use Rattle.af_journal_laws.proofs.SparedMet.{forms_first}
 use Rattle.af_journal_laws.proofs.Rounds.{turn_legal, turn_rises}
 use Rattle.af_journal_laws.proofs.Steps.{Goes, goes_as, goes_both, goes_by, goes_ended, goes_loaded, goes_met, goes_mixed, goes_polled, goes_same, goes_then, goes_turned, track_called}
+
+-- the words recorded in a round: in its entries and in its turn, of which a round has no more than one kind
+abbrev recorded_in_turn : Session → Run → RoundSeen → ℕ → List ℕ
+recorded_in_turn s run round track = recorded_by_cycles s run round.entries track ++ recorded_by_turn round.turn track
 
 module _ (commands : Bool) (s : Session) (marks : Marks) (n : ℕ) where
   -- ## Entries

@@ -26,15 +26,12 @@ is_spared_by_cycles s run (e ∷ entries) track = is_spared_by s (met s (with_po
 
 -- ## Rounds
 
--- the words recorded in a round: in its entries and in its turn, of which a round has no more than one kind
-abbrev pub recorded_in_turn : Session → Run → RoundSeen → ℕ → List ℕ
-recorded_in_turn s run round track = recorded_by_cycles s run round.entries track ++ recorded_by_turn round.turn track
-
 -- the words recorded in some rounds, one after the other
 abbrev pub recorded_alone : Session → Run → List TurnSpec → List RoundSeen → ℕ → List ℕ
 recorded_alone s run [] rounds track = []
 recorded_alone s run (turn ∷ turns) [] track = []
-recorded_alone s run (turn ∷ turns) (round ∷ rounds) track = recorded_in_turn s run round track ++ recorded_alone s (with_ends (met_alone s run turn round)) turns rounds track
+recorded_alone s run (turn ∷ turns) (round ∷ rounds) track =
+    (recorded_by_cycles s run round.entries track ++ recorded_by_turn round.turn track) ++ recorded_alone s (with_ends (met_alone s run turn round)) turns rounds track
 
 -- a round spares a block: its client's calls and the turn spare it, and if it is a stream block the entries do
 pub record IsSparedInTurn (commands : Bool) (s : Session) (run : Run) (round : RoundSeen) (track : ℕ) : Type 0 where

@@ -9,7 +9,8 @@ use native.Mathlib.Decide.{ℕ_discrete}
 use Rattle.af_base.specs.declared.state.FastState.{FastState}
 use Rattle.af_base.specs.declared.state.FastTrack.{FastTrack}
 use Rattle.af_model.specs.StateQueue.{slots, no_track, slot_of, carries, IsState}
-use Rattle.af_model.specs.Draft.{attached, detached, initial, renewed}
+use Rattle.af_model.specs.Draft.{attached, detached, initial}
+use Rattle.std.specs.Prelude.{◌+◌}
 
 set_same : (n k : ℕ) → bit_at (bit_or n (2 ^ k)) k ≡ 1
 set_same n k = let a = bit_at_or n (2 ^ k) k in let b = bit_at-pow_same k in let c = bit_at-lt n k in omega arith
@@ -33,7 +34,7 @@ module _ (slot : ℕ) (mono : Bool) (scale track : ℕ) (x : FastState) (low : 1
   pub attached_else : (i : ℕ) → i ≢ slot → carries y i ≡ carries x i
   attached_else i ne = ap (λ b. not (i == 0) && (b == 1)) (set_other x.mask slot i ne)
 
-  pub slot_here : slot_of y slot ≡ renewed mono scale track (slot_of x slot)
+  pub slot_here : slot_of y slot ≡ (record { generation = (slot_of x slot).generation + 1; track = track; mono = mono; scale = scale })
   slot_here = get_or-set_same x.slots slot _ no_track (let w = state.whole in omega arith)
 
   pub slot_else : (i : ℕ) → i ≢ slot → slot_of y i ≡ slot_of x i

@@ -1,5 +1,5 @@
 -- A block has a history exactly if its lists have a legal order, as many words were released as the releases say, and each word taken was released at its place.
-use Rattle.std.proofs.Common.{◌≡◌, ℕ, zero, suc, ◌+◌, ◌-◌, ◌<◌, ◌≤◌, min, Bool, true, false, fold, List, [], ◌∷◌, ◌++◌, length, take, drop, All, Option, Some, None, slice_get, refl, sym, ap, ◌∙◌, subst, arith, true≢false, append_assoc, append-nil, unwrap_or, length-drop, length-take-le}
+use Rattle.std.proofs.Common.{◌≡◌, ℕ, suc, ◌+◌, ◌-◌, ◌<◌, ◌≤◌, min, Bool, true, false, fold, List, [], ◌∷◌, ◌++◌, length, take, drop, All, Some, None, slice_get, refl, sym, ap, ◌∙◌, subst, arith, true≢false, append_assoc, append-nil, length-drop, length-take-le}
 use Rattle.std.proofs.lemmas.List.{take_at, drop_at, take-append-drop}
 use Rattle.std.proofs.lemmas.List.Elements.{All-append, All-cons, All-head, All-nil, All-tail}
 use Rattle.std.proofs.lemmas.Grind.{fold-append}
@@ -25,6 +25,7 @@ use Rattle.af_judge.specs.declared.words_judge.Taken.{Taken}
 use Rattle.af_judge.specs.Blocks.{AllFollow, BlockJudged, FollowsLook, WholeTakes, saw_front, HasItsHistory, IsReleased, placed_from, raised_by, raised_in, taken_in}
 use Rattle.af_judge.specs.Servers.{most_counted}
 use Rattle.af_judge.proofs.BlockKept.{raised-more}
+use Rattle.af_judge.proofs.TakenRuns.{drop-here, released-placed, slice_get-inside}
 
 -- ## The words that takes cover, by the server's own count
 
@@ -200,32 +201,7 @@ all-within shape few n (by_server e ∷ order) h fit f most =
     (within-at shape n (server_kept shape (server_of order)) (after (start shape) order) _ e h.0 (in_turn shape order h.1) (counts_in shape few order h.1 fit g.0).count low)
 all-within shape few n (by_hand e ∷ order) h fit f most = all-within shape few n order h.1 fit f (let a = hand-raises (after (start shape) order) e in omega (arith, a, most))
 
--- ## Lists
-
-some-same : (x w : ℕ) → Some x ≡ Some w → x ≡ w
-some-same x w e = ap (λ (o : Option ℕ). unwrap_or o x) e
-
-abbrev head-of : ℕ → List ℕ → ℕ
-head-of d [] = d
-head-of d (x ∷ xs) = x
-
-head-same : {x y : ℕ} {xs ys : List ℕ} → x ∷ xs ≡ y ∷ ys → x ≡ y
-head-same {x} e = ap (head-of x) e
-
-tail-same : {x y : ℕ} {xs ys : List ℕ} → x ∷ xs ≡ y ∷ ys → xs ≡ ys
-tail-same e = ap (drop 1) e
-
 -- ## Words at their places
-
-slice_get-inside : (xs : List ℕ) (n w : ℕ) → slice_get xs n ≡ Some w → n < length xs
-slice_get-inside [] n w is = absurd (let e = is in let x : ⊥ = cc in x)
-slice_get-inside (x ∷ xs) zero w is = omega arith
-slice_get-inside (x ∷ xs) (suc n) w is = (let a = slice_get-inside xs n w is in omega (arith, a))
-
-drop-here : (xs : List ℕ) (n w : ℕ) → slice_get xs n ≡ Some w → drop n xs ≡ w ∷ drop (n + 1) xs
-drop-here [] n w is = absurd (let e = is in let x : ⊥ = cc in x)
-drop-here (x ∷ xs) zero w is = ap (λ (y : ℕ). y ∷ xs) (some-same x w is)
-drop-here (x ∷ xs) (suc n) w is = drop-here xs n w is ∙ ap (λ (m : ℕ). w ∷ drop m (x ∷ xs)) (let e : suc (n + 1) ≡ suc n + 1 = omega arith in e)
 
 -- the words at their places are those released there
 placed-released : (released : List ℕ) (place : ℕ) (words : List ℕ) → length released < most_counted → All (IsReleased released) (placed_from place words) → take (length words) (drop place released) ≡ words
@@ -237,22 +213,6 @@ placed-released released place (w ∷ words) short all =
     let there : slice_get released place ≡ Some w = subst (λ (n : ℕ). slice_get released n ≡ Some w) at here in
     ap (take (suc (length words))) (drop-here released place w there)
     ∙ ap (λ (ws : List ℕ). w ∷ ws) (placed-released released (place + 1) words short (All-tail (IsReleased released) t (placed_from (place + 1) words) all))
-
--- a list has an item at each place within it
-there-is : (xs : List ℕ) (n : ℕ) → n < length xs → (w : ℕ) × (slice_get xs n ≡ Some w)
-there-is [] n inside = absurd (let x : ⊥ = omega (arith, inside) in x)
-there-is (x ∷ xs) zero inside = (x, refl)
-there-is (x ∷ xs) (suc n) inside = there-is xs n (omega (arith, inside))
-
-released-placed : (released : List ℕ) (place : ℕ) (words : List ℕ) → length released < most_counted → place + length words ≤ length released → take (length words) (drop place released) ≡ words → All (IsReleased released) (placed_from place words)
-released-placed released place [] short within is = All-nil (IsReleased released)
-released-placed released place (w ∷ words) short within is =
-    let found = there-is released place (omega (arith, within)) in
-    let both : found.0 ∷ take (length words) (drop (place + 1) released) ≡ w ∷ words = ap (take (suc (length words))) (sym (drop-here released place found.0 found.1)) ∙ is in
-    let t : Taken = record { at = min most_counted place; word = w } in
-    let at : min most_counted place ≡ place = omega (arith, within, short) in
-    let here : IsReleased released t = subst (λ (n : ℕ). slice_get released n ≡ Some w) (sym at) (found.1 ∙ ap Some (head-same both)) in
-    All-cons (IsReleased released) t (placed_from (place + 1) words) here (released-placed released (place + 1) words short (omega (arith, within)) (tail-same both))
 
 -- ## All words taken
 

@@ -8,6 +8,9 @@ pub mod TurnCalls
 pub mod TrackKept
 pub mod BlockKept
 pub mod Placed
+pub mod TakenRuns
+pub mod FrameWords
+pub mod SlotsAdded
 pub mod Judging
 pub mod WantedNext
 pub mod CallKept

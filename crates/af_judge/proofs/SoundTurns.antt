@@ -19,7 +19,7 @@ use Rattle.af_model.specs.StateQueue.{IsState}
 use Rattle.af_base.specs.Turn.{TakeSeen}
 use Rattle.std.proofs.lemmas.List.Elements.{All-get_or}
 use Rattle.af_life.specs.Plays.{after_take, counted}
-use Rattle.af_life.specs.Kept.{new_track, no_setting, setting_of}
+use Rattle.af_life.specs.Kept.{new_track, setting_of}
 use Rattle.af_judge.proofs.DraftBits.{initial_state}
 use Rattle.af_judge.proofs.SoundSlots.{alone_set, set_each}
 use Rattle.af_life.proofs.Lives.{acked_len, served_len, edits_len}
@@ -77,7 +77,7 @@ sound_acked true m h = record {
 }
 
 pub scale_fits : (c : Setup) (i : ℕ) → All (λ (s : Setting). s.scale ≤ 4096) c.settings → i < length c.settings → (setting_of c i).scale ≤ 4096
-scale_fits c i all lt = All-get_or (λ (s : Setting). s.scale ≤ 4096) c.settings i no_setting lt all
+scale_fits c i all lt = All-get_or (λ (s : Setting). s.scale ≤ 4096) c.settings i (record { fast = false; mono = false; scale = 0 }) lt all
 
 -- a draft with another command carries the same tracks
 pub sound_ordered : (tracks : List TrackKept) (draft : FastState) (command : Command) → IsSound tracks draft → IsSound tracks (with_command command draft)

@@ -12,7 +12,7 @@ use Rattle.af_life.specs.TurnEvents.{takes_from}
 use Rattle.af_model.specs.Cycles.{Listed, LooksBy}
 use Rattle.af_model.specs.JournalForm.{TracksRise}
 use Rattle.af_runs.specs.Blocks.{Marks, listed}
-use Rattle.af_runs.specs.Found.{TurnFound, LegalTurnBy, take_front, outside_of, lawful_outside}
+use Rattle.af_runs.specs.Found.{TurnFound, LegalTurnBy, take_front, outside_of, outside_with}
 use Rattle.af_runs.specs.Fronts.{lawful_front}
 use Rattle.af_judge.specs.Servers.{front_judged}
 use Rattle.af_judge.specs.NormalLooks.{AllAnswer}
@@ -135,7 +135,7 @@ module _ (c : Setup) (marks : Marks) (f : TurnFound) (m : NormalKept) (e : Turn)
     -- a turn that has ended
     ended_so : e.ended ≡ true → (ends_now m e.ack ≡ true) × (e ≡ ended_turn) → LegalTurnBy c marks f m e
     ended_so ended h = record {
-      outside = lawful_outside c f e;
+      outside = outside_with lawful_front c f e;
       found = refl;
       streams = λ i lawful. refl;
       commands = λ i lawful. refl;

@@ -1,5 +1,5 @@
 -- What a judge keeps of a block, and what each step of its parties leaves.
-use Rattle.std.specs.Prelude.{◌≡◌, ℕ, ◌+◌, ◌≤◌, ◌^◌, min, Bool, true, false, if◌then◌else◌, is_some, List, [], ◌∷◌, ◌++◌, length, take, drop, All, Some, slice_get, fold}
+use Rattle.std.specs.Prelude.{◌≡◌, ℕ, ◌+◌, ◌≤◌, ◌^◌, min, Bool, true, false, if◌then◌else◌, is_some, List, [], ◌∷◌, ◌++◌, length, take, drop, flat_map, All, Some, slice_get, fold}
 use Rattle.af_base.specs.declared.event.ClientEvent.{ClientEvent}
 use Rattle.af_base.specs.declared.event.ClientEvent.TheVariants as client
 use Rattle.af_base.specs.declared.event.ServerEvent.{ServerEvent}
@@ -20,6 +20,7 @@ use Rattle.af_model.specs.ServerCalls.{ServerKept, server_begins, server_keeps, 
 use Rattle.af_runs.specs.Blocks.{BlockTold, client_list, hand_list, server_list}
 use Rattle.af_runs.specs.Fronts.{front_of}
 use Rattle.af_judge.specs.declared.server_judge.ServerJudge.{ServerJudge}
+use Rattle.af_judge.specs.declared.words_judge.Run.{Run}
 use Rattle.af_judge.specs.declared.words_judge.Taken.{Taken}
 use Rattle.af_judge.specs.Servers.{most_counted, server_at}
 
@@ -52,6 +53,29 @@ IsReleased released t = slice_get released t.at ≡ Some t.word
 abbrev pub placed_from : ℕ → List ℕ → List Taken
 placed_from place [] = []
 placed_from place (word ∷ words) = record { at = min most_counted place; word = word } ∷ placed_from (place + 1) words
+
+-- the words of a run, each with its place
+abbrev pub run_words : List ℕ → Run → List Taken
+run_words released r = placed_from r.at (take r.count (drop r.at released))
+
+abbrev pub runs_words : List ℕ → List Run → List Taken
+runs_words released runs = flat_map (run_words released) runs
+
+-- a run lies among the words released
+abbrev pub LiesWithin : List ℕ → Run → Type 0
+LiesWithin released r = r.at + r.count ≤ length released
+
+-- the run of these words, from a place on
+pub record IsRunOf (released : List ℕ) (at : ℕ) (words : List ℕ) (r : Run) : Type 0 where
+  pub place : r.at ≡ at
+  pub within : LiesWithin released r
+  pub words_are : words ≡ take r.count (drop r.at released)
+
+-- runs of words released, and words by themselves of which the first ones, so many, were released at their places
+pub record AreWords (released : List ℕ) (runs : List Run) (taken : List Taken) (known : ℕ) : Type 0 where
+  pub within : All (LiesWithin released) runs
+  pub few : known ≤ length taken
+  pub are : All (IsReleased released) (take known taken)
 
 -- ## The block
 

@@ -17,7 +17,7 @@ use crate::entry_judge::{cold_after, cycle_of, is_marked, is_mixed, is_submix};
 use crate::pipe_judge::PipeJudge;
 use crate::queue_judge::QueueJudge;
 use crate::server_judge::ServerJudge;
-use crate::slot_report::{Reporter, heard_of, is_shown, state_of};
+use crate::slot_report::{Reporter, is_shown, state_of};
 use crate::track_judge::TrackJudge;
 use af_base::{Cycle, CycleEntry, FastLog, FastState, Frame, Memory, Report, SLOTS, SlotEntry};
 use af_model::carries_item;
@@ -402,8 +402,7 @@ impl FastJudge {
         if self.entries() >= MOST_ENTRIES {
             return Err(Memory);
         }
-        let heard = heard_of(state, tracks);
-        self.told.add(states, &heard, entry);
+        self.told.add_played(states, state, tracks, entry);
         self.reports.push(self.told.report())?;
         self.cold = cold_after(self.cold, entry.cycle, state_of(states, entry.state));
         self.ended = ended_after(self.ended, entry.cycle);

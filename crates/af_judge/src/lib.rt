@@ -2,10 +2,12 @@
 #![tactic(auto)]
 
 mod block_judge;
+mod buffer_mix;
 mod client_judge;
 mod due_looks;
 mod entry_judge;
 mod fast_judge;
+mod frame_words;
 mod front;
 mod lists_judge;
 mod look;

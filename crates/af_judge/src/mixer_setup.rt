@@ -10,9 +10,10 @@ ghost use Rattle.af_life.specs.Plain.{learnt_of};
 ghost use Rattle.af_life.specs.Plays.{put_by, take_of, tracks_due};
 ghost use Rattle.af_life.specs.Serves.{LegalTrack, served, served_to};
 
+use crate::buffer_mix::mix_of;
 use crate::due_looks::{Ready, is_passed};
 use crate::takes_due::are_mixed_here;
-use af_base::{CommandLook, Frame, Memory, NormalTake, Part, Report, TrackTurn, plain_mix};
+use af_base::{CommandLook, Frame, Memory, NormalTake, Part, Report, TrackTurn};
 use af_life::{Heard, Setting, TrackKept, free_slot};
 use std::alloc::Global;
 use std::marker::Model;
@@ -203,10 +204,10 @@ impl MixerSetup {
         if takes.is_empty() {
             return Ok(Vec::new(alloc));
         }
-        let mut parts = Vec::new(alloc);
+        let mut parts = Vec::with_capacity(alloc, takes.len())?;
         for take in takes {
             parts.push(self.part(take))?;
         }
-        plain_mix(alloc, parts.as_slice(), self.asked() as usize)
+        mix_of(alloc, parts.as_slice(), self.asked() as usize)
     }
 }

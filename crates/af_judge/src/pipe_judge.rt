@@ -6,6 +6,7 @@ ghost use Rattle.af_model.specs.PipeHistory.{releases_of};
 ghost use Rattle.af_model.specs.Point.{wrapped};
 ghost use Rattle.af_judge.specs.PipeKept.{HasPipeOrder, front_by_room, new_pipe, pipe_begins, saw_front, with_look, with_meeting, with_put};
 
+use crate::frame_words::append;
 use af_base::{ClientEvent, Frame, HandEvent, Memory, Seen, ServerEvent};
 use af_merges::Merge;
 use af_model::TrackPoint;
@@ -84,17 +85,6 @@ fn wrapped(count: usize) -> u32
     ensures { result ≡ wrapped count }
 {
     (count % 0x1_0000_0000) as u32
-}
-
-// Adds the words of these frames. An `Err` may leave some of them added.
-fn append(words: &mut Vec<u32>, frames: &[Frame]) -> Result<(), Memory>
-    ensures words { OnOk result (words.new.items ≡ words.old.items ++ map packed_word frames.now) }
-    ensures grows { (more : List ℕ) × (words.new.items ≡ words.old.items ++ more) }
-{
-    for frame in frames {
-        words.push(frame.pack())?;
-    }
-    Ok(())
 }
 
 impl PipeJudge {

@@ -136,17 +136,6 @@ fn heard_in(tracks: &[TrackJudge], track: u32) -> Heard
     tracks[track as usize].stream.known()
 }
 
-/// What is known of the streams of the slots of a state.
-pub fn heard_of(state: &FastState, tracks: &[TrackJudge]) -> [Heard; SLOTS]
-    ensures { result ≡ heard_slots tracks.now state.now }
-{
-    let mut heard = [NOTHING_HEARD; SLOTS];
-    for slot in 0..SLOTS {
-        heard[slot] = heard_in(tracks, state.slots[slot].track);
-    }
-    heard
-}
-
 // What is known of a server of these.
 fn heard_from(servers: &[ServerJudge], track: u32) -> Heard
     ensures { (ss : List Listed) → servers.now ≡ map server_of ss → result ≡ known_by (server_in ss track) }
@@ -436,8 +425,8 @@ impl Reporter {
         )
     }
 
-    /// An entry is added whose looks were made, with what is known of the streams of the slots of its state.
-    pub fn add(&mut self, states: &[FastState], heard: &[Heard; SLOTS], entry: &CycleEntry)
+    // An entry is added whose looks were made, with what is known of the streams of the slots of its state.
+    fn add(&mut self, states: &[FastState], heard: &[Heard; SLOTS], entry: &CycleEntry)
         requires { self.old.report.cycle < 2 ^ 31 }
         ensures { self.new ≡ entry_added states.now (told_at_slot heard.now) entry.now self.old }
     {
@@ -446,6 +435,31 @@ impl Reporter {
         let mut slots = self.report.slots;
         for slot in 0..SLOTS {
             slots[slot] = self.slot(states, &state, &last, entry, heard[slot], slot);
+        }
+        self.report.slots = slots;
+        self.report.cycle += 1;
+        self.used = entry.state;
+    }
+
+    /// An entry is added whose looks were made, by what is known of the streams of the slots of this state. Of the streams of slots that aren't carried nothing is asked.
+    pub fn add_played(
+        &mut self,
+        states: &[FastState],
+        played: &FastState,
+        tracks: &[TrackJudge],
+        entry: &CycleEntry,
+    )
+        requires { self.old.report.cycle < 2 ^ 31 }
+        ensures { self.new ≡ entry_added states.now (told_at_slot (heard_slots tracks.now played.now)) entry.now self.old }
+    {
+        let state = self.state(states, entry.state);
+        let last = self.state(states, self.used);
+        let mut slots = self.report.slots;
+        for slot in 0..SLOTS {
+            if carries_item(&state, slot) {
+                let heard = heard_in(tracks, played.slots[slot].track);
+                slots[slot] = self.slot(states, &state, &last, entry, heard, slot);
+            }
         }
         self.report.slots = slots;
         self.report.cycle += 1;

@@ -1,9 +1,10 @@
 //! The words released on a block, and those taken.
-ghost use Rattle.std.specs.Prelude.{◌≡◌, ◌∷◌, [], ◌++◌, ◌↔◌, ◌<◌, ◌≤◌, ◌^◌, length, map, take, slice_get, Some, All, IsTrue, OnErr, OnOk};
+ghost use Rattle.std.specs.Prelude.{◌≡◌, ◌∷◌, [], ◌+◌, ◌++◌, ◌↔◌, ◌<◌, ◌≤◌, ◌^◌, length, map, take, drop, slice_get, Some, All, IfSome, IsTrue, OnErr, OnOk};
 ghost use Rattle.af_base.specs.Sample.{packed_word};
 ghost use Rattle.af_judge.specs.declared.words_judge.Taken.{Taken as TakenSeen};
-ghost use Rattle.af_judge.specs.Blocks.{IsReleased, placed_from};
+ghost use Rattle.af_judge.specs.Blocks.{IsReleased, IsRunOf, placed_from};
 
+use crate::frame_words::{append, are_words};
 use af_base::{Frame, Memory};
 use std::alloc::Global;
 use std::marker::Model;
@@ -15,23 +16,72 @@ pub struct Taken {
     pub word: u32,
 }
 
-/// The words released and those taken. The first words taken, so many, are known to be those released at their places.
+/// So many words, taken one after the other, that are those released from a place on.
+#[derive(Clone, Copy, Debug, PartialEq, Eq)]
+pub struct Run {
+    pub at: usize,
+    pub count: usize,
+}
+
+/// The words released and those taken. Words that were released when they were taken stand in runs, up to the first one that wasn't; from there on each stands by itself, and the first of these, so many, are known to be those released at their places.
 #[derive(Drop)]
 pub struct WordsJudge {
     released: Vec<u32>,
+    runs: Vec<Run>,
     taken: Vec<Taken>,
     known: usize,
 }
 
 impl Model for WordsJudge {
-    ghost use Rattle.std.specs.Prelude.{◌≤◌, length, take, All};
-    ghost use Rattle.af_judge.specs.Blocks.{IsReleased, Words};
+    ghost use Rattle.std.specs.Prelude.{◌++◌};
+    ghost use Rattle.af_judge.specs.Blocks.{AreWords, Words, runs_words};
 
     ghost Value = { Words };
 
-    ghost view = { λ w. record { released = w.released.items; taken = w.taken.items } };
+    ghost view = { λ w. record { released = w.released.items; taken = runs_words w.released.items w.runs.items ++ w.taken.items } };
 
-    ghost invariant = { λ w. (w.known ≤ length w.taken.items) × All (IsReleased w.released.items) (take w.known w.taken.items) };
+    ghost invariant = { λ w. AreWords w.released.items w.runs.items w.taken.items w.known };
+}
+
+// The word was released at its place.
+fn is_released(released: &[u32], taken: Taken) -> bool
+    ensures { IsTrue result ↔ IsReleased released.now taken }
+{
+    taken.at < released.len() as u64 && released[taken.at as usize] == taken.word
+}
+
+// The number of the first word taken that wasn't released at its place, or of all; so many are known.
+#[tactic(auto, using(crate::proofs::Placed::known_more))]
+fn unreleased(released: &[u32], taken: &[Taken], known: usize) -> usize
+    requires few { known ≤ length taken.now }
+    requires known { All (IsReleased released.now) (take known taken.now) }
+    ensures within { result ≤ length taken.now }
+    ensures known { All (IsReleased released.now) (take result taken.now) }
+    ensures ends { (t : TakenSeen) → slice_get taken.now result ≡ Some t → IsReleased released.now t → ⊥ }
+{
+    for at in known..taken.len() {
+        if !is_released(released, taken[at]) {
+            return at;
+        }
+    }
+    taken.len()
+}
+
+// The run of the words of these frames, from this place on; None if others were released there.
+fn run_of(released: &[u32], at: u64, frames: &[Frame]) -> Option<Run>
+    ensures { IfSome result (IsRunOf released.now at (map packed_word frames.now)) }
+{
+    let all = released.len() as u64;
+    let count = frames.len();
+    if at > all || count as u64 > all - at {
+        return None;
+    }
+    let at = at as usize;
+    if are_words(&released[at..at + count], frames) {
+        Some(Run { at, count })
+    } else {
+        None
+    }
 }
 
 impl WordsJudge {
@@ -41,6 +91,7 @@ impl WordsJudge {
     {
         WordsJudge {
             released: Vec::new(alloc),
+            runs: Vec::new(alloc),
             taken: Vec::new(alloc),
             known: 0,
         }
@@ -66,9 +117,7 @@ impl WordsJudge {
     pub fn release_frames(&mut self, frames: &[Frame]) -> Result<(), Memory>
         ensures { OnOk result (self.new ≡ record self.old { released = self.old.released ++ map packed_word frames.now }) }
     {
-        for frame in frames {
-            self.release(frame.pack())?;
-        }
+        append(&mut self.released, frames)?;
         Ok(())
     }
 
@@ -80,9 +129,9 @@ impl WordsJudge {
         Ok(())
     }
 
-    /// The words of these frames are taken, from this place on.
+    // The words of these frames are taken, from this place on, each by itself.
     #[tactic(auto, using(crate::proofs::Placed::placed_more))]
-    pub fn take_frames(&mut self, at: u64, frames: &[Frame]) -> Result<(), Memory>
+    fn take_each(&mut self, at: u64, frames: &[Frame]) -> Result<(), Memory>
         ensures { OnOk result (self.new ≡ record self.old { taken = self.old.taken ++ placed_from at (map packed_word frames.now) }) }
     {
         for (past, frame) in frames.iter().enumerate() {
@@ -91,33 +140,17 @@ impl WordsJudge {
         Ok(())
     }
 
-    // The word was released at its place.
-    fn is_released(&self, taken: Taken) -> bool
-        ensures { IsTrue result ↔ IsReleased self.now.released taken }
+    /// The words of these frames are taken, from this place on.
+    pub fn take_frames(&mut self, at: u64, frames: &[Frame]) -> Result<(), Memory>
+        ensures { OnOk result (self.new ≡ record self.old { taken = self.old.taken ++ placed_from at (map packed_word frames.now) }) }
     {
-        taken.at < self.released.len() as u64 && self.released[taken.at as usize] == taken.word
-    }
-
-    // How many words were taken.
-    fn taken(&self) -> usize
-        ensures { result ≡ length self.now.taken }
-    {
-        self.taken.len()
-    }
-
-    // The number of the first word taken that wasn't released at its place, or of all.
-    #[tactic(auto, using(crate::proofs::Placed::known_more))]
-    fn unreleased(&self) -> usize
-        ensures within { result ≤ length self.now.taken }
-        ensures known { All (IsReleased self.now.released) (take result self.now.taken) }
-        ensures ends { (t : TakenSeen) → slice_get self.now.taken result ≡ Some t → IsReleased self.now.released t → ⊥ }
-    {
-        for at in self.known..self.taken.len() {
-            if !self.is_released(self.taken[at]) {
-                return at;
-            }
+        if self.taken.is_empty()
+            && let Some(run) = run_of(&self.released, at, frames)
+        {
+            self.runs.push(run)?;
+            return Ok(());
         }
-        self.taken.len()
+        self.take_each(at, frames)
     }
 
     /// Whether each word taken was released at its place.
@@ -125,8 +158,8 @@ impl WordsJudge {
         ensures all { IsTrue result ↔ All (IsReleased self.new.released) self.new.taken }
         ensures same { self.new ≡ self.old }
     {
-        let all = self.taken();
-        let known = self.unreleased();
+        let all = self.taken.len();
+        let known = unreleased(&self.released, &self.taken, self.known);
         self.known = known;
         if known < all {
             return false;

@@ -24,7 +24,11 @@ use Rattle.af_life.specs.Edits.{comes_home, welcomed, after_ack, must_leave, mus
 use Rattle.af_life.specs.Plays.{after_take, after_takes}
 use Rattle.af_life.specs.Turn.{after_tracks, after_edits, turn_after}
 use Rattle.af_life.specs.TurnEvents.{tracks_at}
-use Rattle.af_life.specs.Drained.{LifeStep, told, heard_of, cut, life_of, look_steps, looks_steps, track_steps, Turned, kept_after, steps_of}
+use Rattle.af_life.specs.Drained.{LifeStep, told, heard_of, cut, life_of, looks_steps, track_steps, Turned, kept_after, steps_of}
+
+-- the step that a look makes
+abbrev pub look_steps : CommandLook → List LifeStep
+look_steps look = if shows_command look.seen then told look.code look.argument ∷ [] else if is_shut look.seen then cut ∷ [] else []
 
 abbrev pub life_at : List TrackKept → ℕ → Life
 life_at tracks i = (track_at tracks i).life

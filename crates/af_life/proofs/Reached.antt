@@ -1,6 +1,6 @@
 -- What a track that is reported drained has reached.
 use Rattle.std.proofs.Common.{◌≡◌, ℕ, ◌+◌, ◌*◌, ◌<◌, Bool, true, false, if◌then◌else◌, true≢false, sym, refl, ap, ◌∙◌, MatchBool, Option, Some, None, List, ◌∷◌, length, arith}
-use Rattle.std.specs.Prelude.{◌==◌}
+use Rattle.std.specs.Prelude.{◌==◌, ◌%◌}
 use Rattle.std.specs.Int.{bit_at}
 use Rattle.af_base.specs.Turn.{Turn, TrackSeen}
 use Rattle.af_life.specs.declared.state.LifeState.{LifeState}
@@ -13,7 +13,7 @@ use Rattle.af_life.specs.declared.kept.TrackKept.{TrackKept}
 use Rattle.af_life.specs.Kept.{Setup, NormalKept, Outside, track_at, track_in, nothing_seen}
 use Rattle.af_life.specs.Heard.{learnt, heard, ready}
 use Rattle.af_life.specs.Obeys.{slot_for}
-use Rattle.af_life.specs.Serves.{state_code, settled_told, status_word, is_found_shut, status_due, after_report, IsServed}
+use Rattle.af_life.specs.Serves.{state_code, status_word, is_found_shut, status_due, after_report, IsServed}
 use Rattle.af_life.specs.Turn.{LegalTurn, GoesOn}
 use Rattle.af_life.specs.TurnEvents.{tracks_at}
 use Rattle.af_life.specs.Drained.{reports_drained, Turned, life_of, kept_after, steps_of, DrainedIsReached}
@@ -72,7 +72,7 @@ module _ (c : Setup) (o : Outside) (m : NormalKept) (e : Turn) (i : ℕ) (is_dra
   unfolding has_mark status_word
   life_drained s is = let h : Heard = heard (learnt o) i s in let given : Option ℕ = slot_for c (tracks_at c (learnt o) m e i) i in let r : TrackKept = ready (learnt o) i s in
       let looks : List CommandLook = (track_in e i).looks in let shut : Bool = is_found_shut h looks in let after : TrackKept = after_report given h looks r in
-      marked (state_code shut after.life) (settled_told after) after.life.drained (state_low shut after.life)
+      marked (state_code shut after.life) (after.settled % 16777216) after.life.drained (state_low shut after.life)
       (stored_mark (status_due given h looks r == r.status) (status_due given h looks r) (sym (ap has_mark is.status) ∙ is_drained))
 
   -- it had not ended, and its life is drained after the report

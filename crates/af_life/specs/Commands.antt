@@ -21,14 +21,6 @@ row command states provided effect =
 abbrev pub anyway : Life → Bool
 anyway life = true
 
--- the track is in the mix
-abbrev pub member : Life → Bool
-member life = life.member
-
--- the track isn't in the mix
-abbrev pub no_member : Life → Bool
-no_member life = not life.member
-
 -- the life in another state
 abbrev pub in_state : LifeState → ℕ → Life → Life
 in_state state argument life = record life { state = state }
@@ -36,18 +28,6 @@ in_state state argument life = record life { state = state }
 -- the life in another state, in the mix, with all its retries, not drained
 abbrev pub started_in : LifeState → ℕ → Life → Life
 started_in state argument life = record life { state = state; member = true; drained = false; retries = 50 }
-
--- the life on its way to a stop, which is drained at the argument
-abbrev pub stopping_at : ℕ → Life → Life
-stopping_at argument life = record life { state = Stopping1; stop_at = argument }
-
--- the life, ended
-abbrev pub removed : ℕ → Life → Life
-removed argument life = record life { ended = true }
-
--- every state
-abbrev pub any_state : List LifeState
-any_state = Absent ∷ Idle ∷ Active ∷ Pausing ∷ Paused ∷ Resuming ∷ Stopping1 ∷ Stopping2 ∷ Stopped ∷ Flushed ∷ []
 
 -- every state but Absent
 abbrev pub opened : List LifeState
@@ -57,21 +37,17 @@ opened = Idle ∷ Active ∷ Pausing ∷ Paused ∷ Resuming ∷ Stopping1 ∷ S
 abbrev pub stoppable : List LifeState
 stoppable = Active ∷ Resuming ∷ Pausing ∷ Paused ∷ []
 
--- the states that a flush ends
-abbrev pub flushable : List LifeState
-flushable = Idle ∷ Pausing ∷ Paused ∷ Stopping1 ∷ Stopping2 ∷ Stopped ∷ Flushed ∷ []
-
--- the table: OPEN is 1, START 2, PAUSE 3, STOP 4, FLUSH 5 and REMOVE 6
+-- The table: OPEN is 1, START 2, PAUSE 3, STOP 4, FLUSH 5 and REMOVE 6. A STOP in the mix drains first, at its argument; a REMOVE ends a life in every state
 abbrev pub commands : List Row
 commands =
     row 1 (Absent ∷ []) anyway (in_state Idle)
     ∷ row 2 (Paused ∷ []) anyway (started_in Resuming)
     ∷ row 2 opened anyway (started_in Active)
     ∷ row 3 (Active ∷ Resuming ∷ []) anyway (in_state Pausing)
-    ∷ row 4 stoppable member stopping_at
-    ∷ row 4 stoppable no_member (in_state Stopped)
-    ∷ row 5 flushable anyway (in_state Flushed)
-    ∷ row 6 any_state anyway removed
+    ∷ row 4 stoppable (λ life. life.member) (λ argument life. record life { state = Stopping1; stop_at = argument })
+    ∷ row 4 stoppable (λ life. not life.member) (in_state Stopped)
+    ∷ row 5 (Idle ∷ Pausing ∷ Paused ∷ Stopping1 ∷ Stopping2 ∷ Stopped ∷ Flushed ∷ []) anyway (in_state Flushed)
+    ∷ row 6 (Absent ∷ opened) anyway (λ argument life. record life { ended = true })
     ∷ []
 
 -- the row is of this command, and its states and its condition fit the life

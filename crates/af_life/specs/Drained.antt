@@ -85,14 +85,12 @@ pub record DrainsInOrder (steps : List LifeStep) : Type 0 where
 abbrev pub Turned : Type 0
 Turned = Outside × Turn
 
--- the step that a look makes
-abbrev pub look_steps : CommandLook → List LifeStep
-look_steps look = if shows_command look.seen then told look.code look.argument ∷ [] else if is_shut look.seen then cut ∷ [] else []
-
 -- the steps of the looks up to one that ends them, after steps before, the newest first
 abbrev pub looks_steps : Option ℕ → ℕ → List CommandLook → TrackKept → List LifeStep → List LifeStep
 looks_steps given flush_seen [] s before = before
-looks_steps given flush_seen (look ∷ looks) s before = let t = after_look given flush_seen look s in let steps = look_steps look ++ before in
+looks_steps given flush_seen (look ∷ looks) s before =
+    let t = after_look given flush_seen look s in
+    let steps = (if shows_command look.seen then told look.code look.argument ∷ [] else if is_shut look.seen then cut ∷ [] else []) ++ before in
     if goes_on look t then looks_steps given flush_seen looks t steps else steps
 
 -- the steps of the track i in a turn, the newest first: its commands, and then the report

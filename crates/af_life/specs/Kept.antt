@@ -30,12 +30,9 @@ asked c = c.normal * c.frames
 abbrev pub pipe_size : Setup → ℕ
 pipe_size c = 4 * asked c
 
-abbrev pub no_setting : Setting
-no_setting = record { fast = false; mono = false; scale = 0 }
-
 -- what the track of a number is
 abbrev pub setting_of : Setup → ℕ → Setting
-setting_of c i = slice_index_or c.settings i no_setting
+setting_of c i = slice_index_or c.settings i (record { fast = false; mono = false; scale = 0 })
 
 -- ## What a turn leaves to the next
 

@@ -20,21 +20,9 @@ row applies effect = record { applies = applies; effect = effect; tells = λ kno
 abbrev pub among : List LifeState → Known → Life → Bool
 among states known life = is_among states life.state
 
--- all that was released before the stop is consumed
-abbrev pub all_consumed : Known → Life → Bool
-all_consumed known life = nat_le life.stop_at known.consumed
-
--- the block was shut
-abbrev pub shut : Known → Life → Bool
-shut known life = known.shut
-
--- the life has ended
-abbrev pub ended : Known → Life → Bool
-ended known life = life.ended
-
--- a stopping life of which all is consumed
+-- a stopping life of which all that was released before the stop is consumed
 abbrev pub done_stopping : Known → Life → Bool
-done_stopping known life = is_among (Stopping1 ∷ []) life.state && all_consumed known life
+done_stopping known life = is_among (Stopping1 ∷ []) life.state && nat_le life.stop_at known.consumed
 
 -- a member that plays
 abbrev pub playing : Known → Life → Bool
@@ -52,18 +40,6 @@ moved_to state known life = record life { state = state }
 abbrev pub out_of_the_mix : Known → Life → Life
 out_of_the_mix known life = record life { member = false }
 
--- the life ended, out of the mix
-abbrev pub shut_down : Known → Life → Life
-shut_down known life = record life { ended = true; member = false }
-
--- the life drained
-abbrev pub drained : Known → Life → Life
-drained known life = record life { state = Stopping2; drained = true }
-
--- the life stopped, out of the mix
-abbrev pub stopped : Known → Life → Life
-stopped known life = record life { state = Stopped; member = false }
-
 -- the retries that are left: all 50 again if a look showed frames, and then one less, down to 0, if a look showed none
 abbrev pub retries_after : Known → ℕ → ℕ
 retries_after known retries =
@@ -79,14 +55,14 @@ abbrev pub counted : Known → Life → Life
 counted known life =
     record life { retries = retries_after known life.retries; member = life.member && not (no_retries_left known life) }
 
--- the table
+-- the table: a block that was shut, a life that has ended, one that is draining, one that waits to, one that drained, a pause, a resumption, a member that plays, and the others
 abbrev pub reports : List Case
 reports =
-    row shut shut_down
-    ∷ row ended out_of_the_mix
-    ∷ row done_stopping drained
+    row (λ known life. known.shut) (λ known life. record life { ended = true; member = false })
+    ∷ row (λ known life. life.ended) out_of_the_mix
+    ∷ row done_stopping (λ known life. record life { state = Stopping2; drained = true })
     ∷ row (among (Stopping1 ∷ [])) unchanged
-    ∷ row (among (Stopping2 ∷ [])) stopped
+    ∷ row (among (Stopping2 ∷ [])) (λ known life. record life { state = Stopped; member = false })
     ∷ row (among (Pausing ∷ [])) (moved_to Paused)
     ∷ row (among (Resuming ∷ [])) (moved_to Active)
     ∷ record { applies = playing; effect = counted; tells = no_retries_left }

@@ -20,13 +20,9 @@ most_looks = 64
 abbrev pub state_code : Bool → Life → ℕ
 state_code shut life = if shut then 15 else code_of life.state
 
--- how many settled commands a status word says: it has 24 bits for them, and the count begins anew when these are full
-abbrev pub settled_told : TrackKept → ℕ
-settled_told s = s.settled % 16777216
-
--- the status word: the state, 16 if it is drained, and 256 for each command that is settled, modulo 2 ^ 32
+-- the status word: the state, 16 if it is drained, and 256 for each command that is settled; it has 24 bits for these, and the count begins anew when they are full
 unfoldable pub status_word : Bool → TrackKept → ℕ
-status_word shut s = state_code shut s.life + (if s.life.drained then 16 else 0) + 256 * settled_told s
+status_word shut s = state_code shut s.life + (if s.life.drained then 16 else 0) + 256 * (s.settled % 16777216)
 
 -- ## One track. `given` is the slot that an OPEN gives, `h` what the turn heard of the stream, and `s` the track once that was noted
 

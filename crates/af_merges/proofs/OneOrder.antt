@@ -1,6 +1,7 @@
 -- One order, step by step, and what stays of it when more events come.
-use Rattle.std.proofs.Common.{◌≡◌, ◌∙◌, List, [], ◌∷◌, ◌++◌, All, length, take, true, Option, Some, None, IfSome, refl, sym, subst, arith, length-append}
+use Rattle.std.proofs.Common.{◌≡◌, ◌∙◌, ◌+◌, Bool, if◌then◌else◌, List, [], ◌∷◌, ◌++◌, All, length, take, true, Option, Some, None, IfSome, slice_get, refl, sym, ap, subst, arith, length-append}
 use Rattle.std.specs.List.{Contains}
+use Rattle.std.specs.Option.{option_and_then}
 use Rattle.std.proofs.lemmas.List.{take-append-le, take_all}
 use Rattle.std.proofs.lemmas.List.Elements.{All-contains}
 use Rattle.af_base.specs.declared.event.ClientEvent.{ClientEvent}
@@ -9,7 +10,8 @@ use Rattle.af_base.specs.declared.event.HandEvent.{HandEvent}
 use Rattle.af_model.specs.declared.point.TrackPoint.{TrackPoint}
 use Rattle.af_merges.specs.declared.search.Stage.{Stage}
 use Rattle.af_merges.specs.declared.pieces.Search.{Search}
-use Rattle.af_merges.specs.Stages.{Lists, Who, begin, move, IsWhole, HasWalk, InBounds}
+use Rattle.af_merges.specs.Stages.{Client, Lists, Who, begin, kept, keeps_mets, move, with_client, IsWhole, HasWalk, InBounds}
+use Rattle.af_merges.specs.MergeSteps.{client_step}
 use Rattle.af_merges.specs.Merges.{IsStart}
 use Rattle.af_merges.specs.MergePieces.{IsFrontier, names_at_least, joined}
 use Rattle.af_merges.specs.MergeSearch.{Knows, IsOnAnOrder, AreThere, SameLists, SameSearched, lists_in, searched}
@@ -21,6 +23,15 @@ use Rattle.af_merges.proofs.Extends.{lifts-walk, InBounds-first, InBounds-more}
 pub is_next : (l : Lists) (w : Who) (m : Stage) (r : Option Stage) → r ≡ move l w m → IfSome r (IsNextOf l m)
 is_next l w m None e = tt
 is_next l w m (Some n) e = (w, sym e)
+
+-- a look of the client leaves the point as it is
+pub look_next : (l : Lists) (m : Stage) (e : ClientEvent) (k : Bool) (r : Option Stage) → slice_get l.client m.clients ≡ Some e → client_step m.point m.servers e ≡ Some m.point → k ≡ keeps_mets l.hand 0 (m.clients + 1) m.hands
+    → r ≡ (if k then Some (with_client m m.point) else None) → r ≡ move l Client m
+look_next l m e k r at step keeps is =
+    is
+    ∙ (ap (λ (b : Bool). if b then Some (with_client m m.point) else None) keeps
+    ∙ sym (ap (λ (o : Option ClientEvent). option_and_then (λ e. option_and_then (λ p. kept l.hand (with_client m p)) (client_step m.point m.servers e)) o) at
+    ∙ ap (λ (o : Option TrackPoint). option_and_then (λ p. kept l.hand (with_client m p)) o) step))
 
 pub leads_more : (l : Lists) (m n k : Stage) → LeadsTo l m n → IsNextOf l n k → LeadsTo l m k
 leads_more l m n k way next = (way.0 ++ next.0 ∷ [], walk-push (move l) way.0 next.0 m n k way.1 next.1)

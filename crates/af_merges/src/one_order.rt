@@ -5,27 +5,14 @@ ghost use Rattle.af_merges.specs.MergeSteps.{HasRoom};
 ghost use Rattle.af_merges.specs.OneOrder.{IsNextOf, LeadsTo};
 
 use crate::events::Events;
-use crate::search::{Stage, client_move, hand_move, is_whole, met_is_next, server_move};
-use crate::step::after_client;
+use crate::search::{
+    Stage, client_move, hand_move, is_whole, keeps_client, met_is_next, server_move, when,
+};
+use crate::step::{after_client, may_look};
 use af_base::{ClientEvent, ServerEvent};
 use af_model::TrackPoint;
 
 // Which event comes first is chosen so that an order is mostly found. Whatever is chosen, what is found is an order.
-
-/// Whether a client's event changes no point.
-fn only_looks(event: &ClientEvent) -> bool {
-    match *event {
-        ClientEvent::SawFlags { .. }
-        | ClientEvent::SawFront { .. }
-        | ClientEvent::SawStatus { .. }
-        | ClientEvent::Learn { .. } => true,
-        ClientEvent::Release { .. }
-        | ClientEvent::Flush
-        | ClientEvent::SetGain { .. }
-        | ClientEvent::ClearFlags { .. }
-        | ClientEvent::Poke { .. } => false,
-    }
-}
 
 /// Whether a server's event changes nothing that a client sees.
 fn is_hidden(event: &ServerEvent) -> bool {
@@ -43,7 +30,7 @@ fn is_hidden(event: &ServerEvent) -> bool {
     }
 }
 
-#[tactic(auto, using(crate::proofs::OneOrder::is_next))]
+/// A look of the client, if that is its next event. It changes no point.
 fn if_client_looks(events: &Events<'_>, stage: &Stage) -> Option<Stage>
     requires short { AreShortLists (lists_of events.now) }
     requires bounds { InBounds (lists_of events.now) stage.now }
@@ -51,11 +38,16 @@ fn if_client_looks(events: &Events<'_>, stage: &Stage) -> Option<Stage>
     ensures bounds { IfSome result (InBounds (lists_of events.now)) }
 {
     let event = events.client.get(stage.clients)?;
-    if only_looks(event) {
-        client_move(events, stage)
-    } else {
-        None
+    if !may_look(&stage.point, stage.servers as u64, event) {
+        return None;
     }
+    when(
+        keeps_client(events.hand, stage.clients, stage.hands, events.rises),
+        Stage {
+            clients: stage.clients + 1,
+            ..*stage
+        },
+    )
 }
 
 #[tactic(auto, using(crate::proofs::OneOrder::is_next))]

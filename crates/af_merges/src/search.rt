@@ -98,7 +98,7 @@ pub(crate) fn later(hand: &[HandEvent], place: usize) -> &[HandEvent]
 }
 
 /// Whether each Met is kept with one client event more. Only the events past the hand's next one can forbid it.
-fn keeps_client(hand: &[HandEvent], clients: usize, hands: usize, rises: bool) -> bool
+pub(crate) fn keeps_client(hand: &[HandEvent], clients: usize, hands: usize, rises: bool) -> bool
     requires told { rises ≡ true → rises_from 0 hand.now ≡ true }
     requires kept { keeps_mets hand.now 0 clients hands ≡ true }
     requires fits { clients + 1 < 2 ^ 64 }
@@ -121,7 +121,7 @@ pub(crate) fn keeps_hand(hand: &[HandEvent], clients: usize, hands: usize) -> bo
     is_known(event_at(hand, hands - 1), clients)
 }
 
-fn when(kept: bool, stage: Stage) -> Option<Stage>
+pub(crate) fn when(kept: bool, stage: Stage) -> Option<Stage>
     ensures value { result ≡ (if kept then Some stage else None) }
     ensures same { IfSome result (λ m. (m ≡ stage) × (kept ≡ true)) }
 {

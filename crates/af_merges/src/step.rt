@@ -1,5 +1,5 @@
 //! One event of a block's history as a step of a search.
-ghost use Rattle.std.specs.Prelude.{◌≡◌, bit_or, IfSome, if◌then◌else◌, Some, None};
+ghost use Rattle.std.specs.Prelude.{◌≡◌, true, bit_or, IfSome, if◌then◌else◌, Some, None};
 ghost use Rattle.af_model.specs.Point.{wrapped, flush_word as word_of_flushes, drop_end as end_of_drop, after_hand as after_hand_event};
 ghost use Rattle.af_merges.specs.MergeSteps.{HasRoom, ClientGrows, ServerGrows, client_step, server_step};
 
@@ -54,6 +54,25 @@ fn with_flags(point: &TrackPoint, bits: u32) -> TrackPoint
     TrackPoint {
         flags: point.flags | bits,
         ..*point
+    }
+}
+
+/// Whether a client's event is a look that is legal, with that many events of the server before it. A look changes no point.
+pub(crate) fn may_look(point: &TrackPoint, servers: u64, event: &ClientEvent) -> bool
+    ensures { result ≡ true → client_step point.now servers event.now ≡ Some point.now }
+{
+    match *event {
+        ClientEvent::SawFlags { flags } => {
+            if flags & INVALID == 0 {
+                point.flags & INVALID == 0
+            } else {
+                flags == point.flags
+            }
+        }
+        ClientEvent::SawFront { front } => front == wrapped_word(point.consumed),
+        ClientEvent::SawStatus { word } => word == point.status,
+        ClientEvent::Learn { count } => count <= servers,
+        _ => false,
     }
 }
 

@@ -14,6 +14,7 @@ use af_engine::{Engine, MakeError, MixerSpec, Shared, TrackEnds, make};
 use af_fast::FastMixer;
 use af_normal::NormalMixer;
 use std::alloc::Global;
+use std::mem::drop;
 use std::sync::Arc;
 
 // The end of a track, with a share of what is shared. Memory is the only refusal.
@@ -107,9 +108,22 @@ fn hand_out(
         normal,
         fast,
     } = engine;
-    let ends = track_ends(alloc, &shares.tracks, tracks)?;
-    let normal = normal_end(shares.normal, normal);
-    let fast = fast_end(shares.fast, fast, frames, cycles);
+    let Shares {
+        tracks: shared,
+        normal: first,
+        fast: second,
+    } = shares;
+    let ends = track_ends(alloc, &shared, tracks);
+    drop(shared);
+    let Ok(ends) = ends else {
+        drop(normal);
+        drop(fast);
+        drop(first);
+        drop(second);
+        return Err(Memory);
+    };
+    let normal = normal_end(first, normal);
+    let fast = fast_end(second, fast, frames, cycles);
     Ok((normal, fast, ends))
 }
 
@@ -124,7 +138,10 @@ fn share_out(
     requires { AreEnds shared frames cycles engine }
     ensures { IfOk result (λ r. Share shared engine r.0 r.1 r.2.items) }
 {
-    let shares = shares_of(alloc, shared)?;
+    let Ok(shares) = shares_of(alloc, shared) else {
+        drop(engine);
+        return Err(Memory);
+    };
     hand_out(alloc, shares, engine, frames, cycles)
 }
 
@@ -141,8 +158,8 @@ pub fn open_mixer(
 {
     let (shared, engine) = make(alloc, spec)?;
     let (frames, cycles) = (spec.frames as usize, spec.cycles as usize);
-    match share_out(alloc, shared, engine, frames, cycles) {
-        Ok(ends) => Ok(ends),
-        Err(_) => Err(MakeError::Memory),
-    }
+    let Ok(ends) = share_out(alloc, shared, engine, frames, cycles) else {
+        return Err(MakeError::Memory);
+    };
+    Ok(ends)
 }

@@ -6,9 +6,9 @@ use Rattle.af_base.specs.declared.event.HandEvent.{HandEvent}
 use Rattle.af_model.specs.declared.shape.Shape.{Shape}
 use Rattle.af_model.specs.History.{HasHistory, point}
 use Rattle.af_model.specs.Fates.{InTurn}
-use Rattle.af_model.specs.Spans.{Fate, mixed, discarded, queued, Span, spans_of, fates_of, Follow, frames_by, mixed_in, mixed_by, count_if, count_with}
+use Rattle.af_model.specs.Spans.{Fate, mixed, discarded, queued, Span, spans_of, fates_of, Follow, frames_by, mixed_by, count_if, count_with}
 use Rattle.af_model.proofs.Fates.{in_turn}
-use Rattle.af_model.proofs.OneFate.{spans_follow, fates_follow, taken-mixed}
+use Rattle.af_model.proofs.OneFate.{spans_follow, fates_follow, taken-mixed, mixed_in}
 
 one_of : (fate : Fate) (count : ℕ) → count_if mixed fate count + count_if discarded fate count + count_if queued fate count ≡ count
 one_of mixed count = omega arith

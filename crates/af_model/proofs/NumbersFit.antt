@@ -8,10 +8,10 @@ use Rattle.af_base.specs.declared.log.CycleEntry.{CycleEntry}
 use Rattle.af_base.specs.Log.{Logged, absent, slots}
 use Rattle.af_model.specs.Cycles.{still_entry}
 use Rattle.af_model.specs.Journals.{EntrySeen, RoundNoted, RoundsNoted, entries_seen, journal_of, rounds_seen, taken_by}
-use Rattle.af_model.specs.Numbers.{FitEntries, FitTurns, FitsEntry, FitsRound, FitsSlot, HasRanges}
+use Rattle.af_model.specs.Numbers.{FitTurns, FitsEntry, FitsRound, FitsSlot, HasRanges}
 
 -- the entries with their frames
-entries_fit : (frames : List Frame) (entries : List CycleEntry) → All FitsEntry entries → FitEntries (entries_seen frames entries)
+entries_fit : (frames : List Frame) (entries : List CycleEntry) → All FitsEntry entries → All (λ e. FitsEntry e.entry) (entries_seen frames entries)
 entries_fit frames [] all = All-nil (λ (e : EntrySeen). FitsEntry e.entry)
 entries_fit frames (e ∷ es) all =
     All-cons (λ (e : EntrySeen). FitsEntry e.entry) (record { entry = e; frames = take (taken_by e) frames }) (entries_seen (drop (taken_by e) frames) es)
@@ -22,7 +22,7 @@ abbrev pub FitsNoted : RoundNoted → Type 0
 FitsNoted r = FitTurns r.calls r.turn
 
 -- the rounds with their entries
-rounds_fit : (entries : List EntrySeen) (rounds : List RoundNoted) → FitEntries entries → All FitsNoted rounds → All FitsRound (rounds_seen entries rounds)
+rounds_fit : (entries : List EntrySeen) (rounds : List RoundNoted) → All (λ e. FitsEntry e.entry) entries → All FitsNoted rounds → All FitsRound (rounds_seen entries rounds)
 rounds_fit entries [] fit all = All-nil FitsRound
 rounds_fit entries (r ∷ rs) fit all =
     All-cons FitsRound (record { calls = r.calls; turn = r.turn; entries = take r.cycles entries }) (rounds_seen (drop r.cycles entries) rs)

@@ -14,8 +14,12 @@ use Rattle.af_model.specs.declared.point.TrackPoint.{TrackPoint}
 use Rattle.af_model.specs.Point.{start, ServerMay, after_client, after_server, after_hand}
 use Rattle.af_model.specs.History.{Moment, by_client, by_server, by_hand, after, IsLegal, with_taken, taken_of, HasHistory, point}
 use Rattle.af_model.specs.Fates.{InTurn}
-use Rattle.af_model.specs.Spans.{Span, covered_by, spans_of, waiting_at, fates_of, Follow, LiesIn, HasOneFate, mixed_in, mixed_by}
+use Rattle.af_model.specs.Spans.{Span, covered_by, spans_of, fates_of, Follow, HasOneFate, mixed_by, queued, frames_by}
 use Rattle.af_model.proofs.Fates.{in_turn, drop_low}
+
+-- the frames that a span mixes: those released at its positions, if its fate is to be mixed
+abbrev pub mixed_in : List ℕ → ℕ → Span → List ℕ
+mixed_in released base s = frames_by s.fate (take (s.to - s.from) (drop (s.from - base) released))
 
 follow_join : (from mid to : ℕ) (xs ys : List Span) → Follow from xs mid → Follow mid ys to → Follow from (xs ++ ys) to
 follow_join from mid to [] ys f g = subst (λ (z : ℕ). Follow z ys to) (sym f) g
@@ -74,7 +78,7 @@ one_place from to (x ∷ spans) f position low high =
       only = first inside;
     })
   where
-    first : position < x.to → (other : ℕ) (s : Span) → slice_get (x ∷ spans) other ≡ Some s → LiesIn s position → other ≡ 0
+    first : position < x.to → (other : ℕ) (s : Span) → slice_get (x ∷ spans) other ≡ Some s → ((s.from ≤ position) × (position < s.to)) → other ≡ 0
     first inside zero s is lies = refl
     first inside (suc other) s is lies = absurd (let r : x.to ≤ s.from = past x.to to spans f.2 other s is in let a = lies.0 in omega arith)
 
@@ -88,7 +92,7 @@ one_place from to (x ∷ spans) f position low high =
           only = others;
         }
       where
-        others : (other : ℕ) (s : Span) → slice_get (x ∷ spans) other ≡ Some s → LiesIn s position → other ≡ suc r.place
+        others : (other : ℕ) (s : Span) → slice_get (x ∷ spans) other ≡ Some s → ((s.from ≤ position) × (position < s.to)) → other ≡ suc r.place
         others zero s is lies = absurd (let e : x.to ≡ s.to = ap (λ (z : Span). z.to) (same_Some x s is) in let a = lies.1 in omega arith)
         others (suc other) s is lies = ap suc (r.only other s is lies)
 
@@ -126,7 +130,7 @@ module _ {shape : Shape} {ce : List ClientEvent} {cf : List ℕ} {se : List Serv
   pub fates_follow : Follow shape.base (fates_of h) (point h).released
   fates_follow =
       let turn : InTurn shape (point h) = in_turn shape h.order h.legal in
-      follow_join shape.base (point h).consumed (point h).released (spans_of shape h.order) (waiting_at (point h) ∷ []) (spans_follow shape h.order h.legal)
+      follow_join shape.base (point h).consumed (point h).released (spans_of shape h.order) ((record { fate = queued; from = (point h).consumed; to = (point h).released }) ∷ []) (spans_follow shape h.order h.legal)
       (refl, turn.within, refl)
 
   -- each frame that was released has one fate

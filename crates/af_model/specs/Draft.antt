@@ -1,7 +1,6 @@
 -- What the edits of a draft do to it.
 use Rattle.std.specs.Prelude.{ℕ, ◌+◌, ◌-◌, ◌^◌, ◌==◌, ◌&&◌, not, if◌then◌else◌, Bool, false, ◌∷◌, replicate, slice_set, bit_and, bit_or}
 use Rattle.af_base.specs.declared.state.FastState.{FastState}
-use Rattle.af_base.specs.declared.state.FastTrack.{FastTrack}
 use Rattle.af_base.specs.declared.state.Command.{Command}
 use Rattle.af_base.specs.declared.state.Command.TheVariants.{ColdIdle}
 use Rattle.af_base.specs.Command.{code_of}
@@ -12,21 +11,18 @@ abbrev pub initial : ℕ → FastState
 initial frames =
     record { slots = record { generation = 0; track = 0; mono = false; scale = 4096 } ∷ replicate (slots - 1) no_track; mask = 1; tracks_gen = 0; frames = frames; command = ColdIdle; cold_gen = 0 }
 
--- a slot with a new track: its generation rises
-abbrev pub renewed : Bool → ℕ → ℕ → FastTrack → FastTrack
-renewed mono scale track t = record { generation = t.generation + 1; track = track; mono = mono; scale = scale }
-
--- a slot is attached: it is active with its new track, and the tracks have changed once more
+-- a slot is attached: it is active with its new track, its generation rises, and the tracks have changed once more
 abbrev pub attached : ℕ → Bool → ℕ → ℕ → FastState → FastState
-attached slot mono scale track x = record x { slots = slice_set x.slots slot (renewed mono scale track (slot_of x slot)); mask = bit_or x.mask (2 ^ slot); tracks_gen = x.tracks_gen + 1 }
+attached slot mono scale track x = record x {
+  slots = slice_set x.slots slot (record { generation = (slot_of x slot).generation + 1; track = track; mono = mono; scale = scale });
+  mask = bit_or x.mask (2 ^ slot);
+  tracks_gen = x.tracks_gen + 1;
+}
 
 -- a slot is detached: it is not active, keeps its track and generation, and the tracks have changed once more
 abbrev pub detached : ℕ → FastState → FastState
 detached slot x = record x { mask = bit_and x.mask (2 ^ 32 - 1 - 2 ^ slot); tracks_gen = x.tracks_gen + 1 }
 
-abbrev pub is_cold_idle : Command → Bool
-is_cold_idle c = code_of c == code_of ColdIdle
-
 -- a command is set: a change to ColdIdle counts
 abbrev pub commanded : Command → FastState → FastState
-commanded c x = record x { command = c; cold_gen = (if is_cold_idle c && not (is_cold_idle x.command) then x.cold_gen + 1 else x.cold_gen) }
+commanded c x = record x { command = c; cold_gen = (if (code_of c == code_of ColdIdle) && not (code_of x.command == code_of ColdIdle) then x.cold_gen + 1 else x.cold_gen) }

@@ -12,7 +12,7 @@ use Rattle.af_base.specs.declared.state.Push.TheVariants as pushing
 use Rattle.af_base.specs.declared.turn.CommandLook.{CommandLook}
 use Rattle.af_base.specs.Log.{slots, entry_slot}
 use Rattle.af_base.specs.Turn.{TakeSeen, TrackSeen, Turn}
-use Rattle.af_model.specs.Journals.{EntrySeen, JournalData, RoundSeen}
+use Rattle.af_model.specs.Journals.{JournalData, RoundSeen}
 
 -- each number has 32 bits
 abbrev pub AreWords : List ℕ → Type 0
@@ -44,14 +44,6 @@ seen_words seen.Empty = []
 seen_words (seen.Flushed dropped) = dropped ∷ []
 seen_words (seen.Shut front rear) = front ∷ rear ∷ []
 
--- the numbers of a look at a command block
-abbrev pub look_words : CommandLook → List ℕ
-look_words l = l.flush ∷ l.rear ∷ l.code ∷ l.argument ∷ seen_words l.seen
-
--- the numbers of a slot
-abbrev pub slot_words : SlotEntry → List ℕ
-slot_words slot = slot.gains ∷ slot.flush ∷ slot.rear ∷ seen_words slot.seen
-
 -- ## All numbers
 
 -- the numbers of a call lie in their ranges
@@ -60,11 +52,11 @@ FitsCall c = AreWords (call_words c)
 
 -- the numbers of a look at a command block lie in their ranges
 abbrev pub FitsLook : CommandLook → Type 0
-FitsLook l = AreWords (look_words l)
+FitsLook l = AreWords (l.flush ∷ l.rear ∷ l.code ∷ l.argument ∷ seen_words l.seen)
 
 -- the numbers of a slot lie in their ranges
 abbrev pub FitsSlot : SlotEntry → Type 0
-FitsSlot slot = AreWords (slot_words slot)
+FitsSlot slot = AreWords (slot.gains ∷ slot.flush ∷ slot.rear ∷ seen_words slot.seen)
 
 -- the numbers of a take lie in their ranges
 abbrev pub FitsTake : TakeSeen → Type 0
@@ -95,21 +87,13 @@ pub record FitsEntry (entry : CycleEntry) : Type 0 where
   pub looks : (i : ℕ) → i < slots → FitsSlot (entry_slot entry i)
   pub scales : (i : ℕ) → i < slots → slice_index_or entry.scales i 0 < 2 ^ 16
 
--- the numbers of some calls lie in their ranges
-abbrev pub FitCalls : List ClientCall → Type 0
-FitCalls calls = All FitsCall calls
-
 -- the numbers of each client's calls in a round, and of its turn if there was one, lie in their ranges
 abbrev pub FitTurns : List (List ClientCall) → Option Turn → Type 0
-FitTurns calls turn = All FitCalls calls × MatchOption turn (Unit {0}) FitsTurn
-
--- the numbers of some entries lie in their ranges
-abbrev pub FitEntries : List EntrySeen → Type 0
-FitEntries entries = All (λ e. FitsEntry e.entry) entries
+FitTurns calls turn = All (λ calls. All FitsCall calls) calls × MatchOption turn (Unit {0}) FitsTurn
 
 -- the numbers of a round lie in their ranges
 abbrev pub FitsRound : RoundSeen → Type 0
-FitsRound round = FitTurns round.calls round.turn × FitEntries round.entries
+FitsRound round = FitTurns round.calls round.turn × All (λ e. FitsEntry e.entry) round.entries
 
 -- the numbers of a journal lie in their ranges
 pub record HasRanges (j : JournalData) : Type 0 where

@@ -20,6 +20,7 @@ pub record ServerKnown : Type 0 where
 abbrev pub no_slot : SlotReport
 no_slot = record { consumed = 0; shut = false; generation = 0; flush_seen = 0; fulls = 0; partials = 0; empties = 0 }
 
+-- 1 for yes and 0 for no
 abbrev pub one_if : Bool → ℕ
 one_if b = if b then 1 else 0
 

@@ -34,30 +34,22 @@ spans_of k (by_client e ∷ order) = spans_of k order
 spans_of k (by_server e ∷ order) = spans_of k order ++ covered_by (after (start k) order) e
 spans_of k (by_hand e ∷ order) = spans_of k order
 
--- the frames from what was consumed last up to what was released are queued
-abbrev pub waiting_at : TrackPoint → Span
-waiting_at p = record { fate = queued; from = p.consumed; to = p.released }
-
 -- what becomes of all frames that were released
 abbrev pub fates_of : {k : Shape} {client : List ClientEvent} {released : List ℕ} {server : List ServerEvent} {taken : List ℕ} {hand : List HandEvent} → HasHistory k client released server taken hand → List Span
-fates_of {k} h = spans_of k h.order ++ waiting_at (point h) ∷ []
+fates_of {k} h = spans_of k h.order ++ record { fate = queued; from = (point h).consumed; to = (point h).released } ∷ []
 
 -- the spans follow one another from one position to another, without gap or overlap
 abbrev pub Follow : ℕ → List Span → ℕ → Type 0
 Follow from [] to = from ≡ to
 Follow from (s ∷ spans) to = (s.from ≡ from) × (s.from ≤ s.to) × Follow s.to spans to
 
--- the position is one of the span's
-abbrev pub LiesIn : Span → ℕ → Type 0
-LiesIn s position = (s.from ≤ position) × (position < s.to)
-
 -- the position lies in one span, and in no other
 pub record HasOneFate (spans : List Span) (position : ℕ) : Type 0 where
   pub place : ℕ
   pub span : Span
   pub is_there : slice_get spans place ≡ Some span
-  pub lies : LiesIn span position
-  pub only : (other : ℕ) (s : Span) → slice_get spans other ≡ Some s → LiesIn s position → other ≡ place
+  pub lies : (span.from ≤ position) × (position < span.to)
+  pub only : (other : ℕ) (s : Span) → slice_get spans other ≡ Some s → (s.from ≤ position) × (position < s.to) → other ≡ place
 
 -- some frames, if their fate is to be mixed
 abbrev pub frames_by : Fate → List ℕ → List ℕ
@@ -65,13 +57,9 @@ frames_by mixed frames = frames
 frames_by discarded frames = []
 frames_by queued frames = []
 
--- the frames that a span mixes: those released at its positions, if its fate is to be mixed
-abbrev pub mixed_in : List ℕ → ℕ → Span → List ℕ
-mixed_in released base s = frames_by s.fate (take (s.to - s.from) (drop (s.from - base) released))
-
 -- the frames that all spans mix, in order
 abbrev pub mixed_by : List ℕ → ℕ → List Span → List ℕ
-mixed_by released base spans = flat_map (mixed_in released base) spans
+mixed_by released base spans = flat_map (λ s. frames_by s.fate (take (s.to - s.from) (drop (s.from - base) released))) spans
 
 -- a count, if the two fates are one, and else 0
 abbrev pub count_if : Fate → Fate → ℕ → ℕ

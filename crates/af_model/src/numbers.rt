@@ -2,7 +2,7 @@
 ghost use Rattle.std.specs.Prelude.{◌<◌, ◌^◌, All, MatchOption};
 ghost use Rattle.std.specs.Option.{option_map};
 ghost use Rattle.af_base.specs.Turn.{take_seen, track_seen, turn_of};
-ghost use Rattle.af_model.specs.Numbers.{AreWords, FitCalls, FitsCall, FitsEntry, FitsLook, FitsPush, FitsSlot, FitsTake, FitsTrack, FitsTurn, seen_words};
+ghost use Rattle.af_model.specs.Numbers.{AreWords, FitsCall, FitsEntry, FitsLook, FitsPush, FitsSlot, FitsTake, FitsTrack, FitsTurn, seen_words};
 
 use af_base::{
     ClientCall, CommandLook, CycleEntry, FastLog, NormalTake, Push, SLOTS, Seen, SlotEntry,
@@ -85,7 +85,7 @@ fn know_call(call: ClientCall)
 
 /// The words of some calls have 32 bits: each is read, and nothing is done with it.
 pub fn know_calls(calls: &[ClientCall])
-    ensures { FitCalls calls.now }
+    ensures { All FitsCall calls.now }
 {
     for i in 0..calls.len() {
         know_call(calls[i]);
@@ -94,7 +94,7 @@ pub fn know_calls(calls: &[ClientCall])
 
 /// The words of the calls of each client.
 pub(crate) fn know_clients(clients: &[Vec<ClientCall>])
-    ensures { All (λ calls. FitCalls calls.items) clients.now }
+    ensures { All (λ calls. All FitsCall calls.items) clients.now }
 {
     for i in 0..clients.len() {
         know_calls(clients[i].as_slice());

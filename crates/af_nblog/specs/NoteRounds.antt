@@ -12,28 +12,28 @@ use Rattle.af_nblog.specs.NoteFronts.{read_in}
 use Rattle.af_nblog.specs.NoteRears.{put_in}
 use Rattle.af_nblog.specs.NoteEnds.{WriterState, ReaderState, NotedBy, ReadBy, accepted, read}
 
--- ## Whether notes were accepted, round by round
+-- ## Whether notes were kept, round by round
 
--- how many notes of a round were accepted
+-- how many notes of a round were kept
 abbrev pub count_accepted : List Bool → ℕ
 count_accepted [] = 0
 count_accepted (true ∷ outcomes) = 1 + count_accepted outcomes
 count_accepted (false ∷ outcomes) = count_accepted outcomes
 
--- A note of a round is refused only if the notes accepted before it, in this round and in the round before, are at least as many as there is room for
+-- A note of a round is refused only if the notes kept before it, in this round and in the round before, are at least as many as there is room for
 abbrev pub RefusesLate : (room before : ℕ) → List Bool → Type 0
 RefusesLate room before [] = Unit {0}
 RefusesLate room before (true ∷ outcomes) = RefusesLate room (before + 1) outcomes
 RefusesLate room before (false ∷ outcomes) = (room ≤ before) × RefusesLate room before outcomes
 
--- each round refuses so late, if so many notes were accepted in the round before the first
+-- each round refuses so late, if so many notes were kept in the round before the first
 abbrev pub EachRefusesLate : (room before : ℕ) → List (List Bool) → Type 0
 EachRefusesLate room before [] = Unit {0}
 EachRefusesLate room before (round ∷ rounds) = RefusesLate room before round × EachRefusesLate room (count_accepted round) rounds
 
 -- ## The turns of a round
 
--- these notes were made one after the other, each accepted or refused
+-- these notes were made one after the other, each kept or refused
 abbrev pub HasNoted : ClientPart → List Bool → ClientPart → Type 0
 HasNoted p [] q = q ≡ p
 HasNoted p (true ∷ outcomes) q = (note : Note) × (mid : ClientPart) × NotedBy p note Sent mid × HasNoted mid outcomes q
@@ -61,7 +61,7 @@ told_puts told [] = told
 told_puts told (server.Learn count ∷ es) = told_puts count es
 told_puts told (_ ∷ es) = told_puts told es
 
--- how many notes were accepted in the last of these rounds, if there were so many in the round before the first
+-- how many notes were kept in the last of these rounds, if there were so many in the round before the first
 abbrev pub last_accepted : ℕ → List (List Bool) → ℕ
 last_accepted before [] = before
 last_accepted before (round ∷ rounds) = last_accepted (count_accepted round) rounds
@@ -73,7 +73,7 @@ pub record AreCounted (w : WriterState) (r : ReaderState) : Type 0 where
   pub whole_read : length r.pass.part.frames ≡ 8 * length (read r)
   pub read_is : read_in r.pass.part.events ≡ length (read r)
 
--- Between rounds, of which these were the outcomes: each end learnt all that the other did, the notes accepted before the last round have been read, and each refusal came late
+-- Between rounds, of which these were the outcomes: each end learnt all that the other did, the notes kept before the last round have been read, and each refusal came late
 pub record IsBetween (room : ℕ) (rounds : List (List Bool)) (w : WriterState) (r : ReaderState) : Type 0 where
   pub counted : AreCounted w r
   pub reads : length (read r) ≤ read_in (take (told_reads 0 w.pass.part.events) r.pass.part.events)

@@ -1,50 +1,30 @@
 -- What a note tells of an entry of the fast mixer's log, and the words that spell it.
-use Rattle.std.specs.Prelude.{ℕ, ◌+◌, ◌*◌, ◌/◌, ◌%◌, ◌^◌, ◌==◌, nat_lt, Bool, true, false, List, [], ◌∷◌}
+use Rattle.std.specs.Prelude.{ℕ, ◌+◌, ◌*◌, ◌/◌, ◌%◌, ◌^◌, nat_lt, Bool, false, List, [], ◌∷◌}
 use Rattle.std.specs.List.{count_by, slice_range}
 use Rattle.af_base.specs.Log.{kind_of, slots}
 use Rattle.af_base.specs.declared.log.CycleEntry.{CycleEntry}
-use Rattle.af_base.specs.declared.log.SlotEntry.{SlotEntry}
 use Rattle.af_base.specs.declared.seen.Seen.{Seen}
 use Rattle.af_base.specs.declared.seen.Seen.TheVariants as seen
+use Rattle.af_model.specs.Reports.{is_full, is_empty}
 use Rattle.af_nblog.specs.declared.entries.Note.{Note}
 
 -- ## The note of an entry
-
--- a look showed exactly so many frames
-abbrev pub is_full : ℕ → Seen → Bool
-is_full frames (seen.Frames count) = count == frames
-is_full frames _ = false
 
 -- a look showed fewer frames than so many
 abbrev pub is_partial : ℕ → Seen → Bool
 is_partial frames (seen.Frames count) = nat_lt count frames
 is_partial frames _ = false
 
--- a look showed that no frame is there
-abbrev pub is_empty : Seen → Bool
-is_empty seen.Empty = true
-is_empty _ = false
-
--- a slot showed frames for a whole cycle, fewer, or that no frame is there
-abbrev pub full_slot : ℕ → SlotEntry → Bool
-full_slot frames slot = is_full frames slot.seen
-
-abbrev pub partial_slot : ℕ → SlotEntry → Bool
-partial_slot frames slot = is_partial frames slot.seen
-
-abbrev pub empty_slot : SlotEntry → Bool
-empty_slot slot = is_empty slot.seen
-
--- The note of an entry at a place of the log, if a cycle has so many frames. It counts the slots but the first
+-- The note of an entry at a place of the log, if a cycle has so many frames. It counts the slots but the first: those that showed frames for a whole cycle, fewer, or that no frame is there
 abbrev pub note_of : ℕ → CycleEntry → ℕ → Note
 note_of place entry frames =
     record {
       place = place;
       state = entry.state;
       kind = kind_of entry.cycle;
-      fulls = count_by (full_slot frames) (slice_range entry.slots 1 slots);
-      partials = count_by (partial_slot frames) (slice_range entry.slots 1 slots);
-      empties = count_by empty_slot (slice_range entry.slots 1 slots);
+      fulls = count_by (λ slot. is_full frames slot.seen) (slice_range entry.slots 1 slots);
+      partials = count_by (λ slot. is_partial frames slot.seen) (slice_range entry.slots 1 slots);
+      empties = count_by (λ slot. is_empty slot.seen) (slice_range entry.slots 1 slots);
     }
 
 -- ## Its words

@@ -2,7 +2,8 @@
 ghost use Rattle.std.specs.Prelude.{◌≡◌, ◌≤◌, false, length};
 ghost use Rattle.std.specs.List.{count_by};
 ghost use Rattle.af_model.specs.JournalForm.{is_spent};
-ghost use Rattle.af_nblog.specs.Notes.{is_full, is_partial, is_empty, full_slot, partial_slot, empty_slot, note_of};
+ghost use Rattle.af_model.specs.Reports.{is_full, is_empty};
+ghost use Rattle.af_nblog.specs.Notes.{is_partial, note_of};
 
 use af_base::{CycleEntry, Seen, SlotEntry};
 
@@ -52,7 +53,7 @@ fn is_empty(seen: Seen) -> bool
 
 // How many of these slots showed exactly so many frames.
 fn count_fulls(slots: &[SlotEntry], frames: u32) -> usize
-    ensures value { result ≡ count_by (full_slot frames) slots.now }
+    ensures value { result ≡ count_by (λ slot. is_full frames slot.seen) slots.now }
     ensures few { result ≤ length slots.now }
 {
     slots
@@ -63,7 +64,7 @@ fn count_fulls(slots: &[SlotEntry], frames: u32) -> usize
 
 // How many of these slots showed fewer frames.
 fn count_partials(slots: &[SlotEntry], frames: u32) -> usize
-    ensures value { result ≡ count_by (partial_slot frames) slots.now }
+    ensures value { result ≡ count_by (λ slot. is_partial frames slot.seen) slots.now }
     ensures few { result ≤ length slots.now }
 {
     slots
@@ -74,7 +75,7 @@ fn count_partials(slots: &[SlotEntry], frames: u32) -> usize
 
 // How many of these slots showed no frame.
 fn count_empties(slots: &[SlotEntry]) -> usize
-    ensures value { result ≡ count_by empty_slot slots.now }
+    ensures value { result ≡ count_by (λ slot. is_empty slot.seen) slots.now }
     ensures few { result ≤ length slots.now }
 {
     slots.iter().filter(|slot| is_empty(slot.seen)).count()

@@ -11,9 +11,10 @@ use Rattle.af_base.specs.Mix.{Take, mix}
 use Rattle.af_base.specs.Part.{take_of as take_of_part, no_part}
 use Rattle.af_base.specs.Turn.{take_seen}
 use Rattle.af_life.specs.declared.kept.Setting.{Setting}
-use Rattle.af_life.specs.Kept.{Setup, asked, no_setting}
+use Rattle.af_life.specs.Kept.{Setup, asked}
 use Rattle.af_life.specs.Plays.{take_of, put_by}
 use Rattle.af_normal.specs.Sums.{Fits}
+use Rattle.std.specs.Prelude.{false}
 
 pub no_take : NormalTake
 no_take = record { track = 0; slot = absent; frames = record { items = []; room = 0 } }
@@ -65,4 +66,4 @@ module _ (settings : List Setting) (takes : List NormalTake) (parts : List Part)
       (λ k lt. let inside : k < length takes = omega (arith, few) in
       let f : Fits asked (length settings) (slice_index_or takes k no_take) = All-get_or (Fits asked (length settings)) takes k no_take inside fit in
       subst (FitsPart asked) (sym (each k inside) ∙ ap take_of_part (sym (get_or-take (length takes) parts k no_part inside)))
-      (f.short, All-get_or (λ (s : Setting). s.scale ≤ 4096) settings (slice_index_or takes k no_take).track no_setting f.track scales))
+      (f.short, All-get_or (λ (s : Setting). s.scale ≤ 4096) settings (slice_index_or takes k no_take).track (record { fast = false; mono = false; scale = 0 }) f.track scales))

@@ -16,7 +16,7 @@ use Rattle.af_life.specs.declared.kept.Setting.{Setting}
 use Rattle.af_life.specs.declared.kept.TrackKept.{TrackKept}
 use Rattle.af_life.specs.Heard.{known_by}
 use Rattle.af_life.specs.declared.kept.Heard.{Heard}
-use Rattle.af_life.specs.Kept.{Setup, track_at, nothing_heard, slot_number, is_home, setting_of, no_setting}
+use Rattle.af_life.specs.Kept.{Setup, track_at, nothing_heard, slot_number, is_home, setting_of}
 use Rattle.af_life.specs.Edits.{must_leave, must_enter, lent_by, entered}
 use Rattle.af_normal.specs.Editing.{LetsGo, Lends, lets_go, lends}
 use Rattle.af_normal.specs.Mixing.{stream_at}
@@ -32,7 +32,7 @@ no : {A : Type 0} → false ≡ true → A
 no h = absurd (true≢false (sym h))
 
 pub scale_fits : (c : Setup) (i : ℕ) → All (λ (s : Setting). s.scale ≤ 4096) c.settings → i < length c.settings → (setting_of c i).scale ≤ 4096
-scale_fits c i all lt = All-get_or (λ (s : Setting). s.scale ≤ 4096) c.settings i no_setting lt all
+scale_fits c i all lt = All-get_or (λ (s : Setting). s.scale ≤ 4096) c.settings i (record { fast = false; mono = false; scale = 0 }) lt all
 
 module _ (links : Links) (edits i : ℕ) (x : NormalState) (mutating : IsOpen links edits x) where
   abbrev s : TrackKept

@@ -4,8 +4,12 @@ use Rattle.af_io.specs.Files.{Files, SameFiles}
 use Rattle.af_offline.specs.declared.status.Refusal.{Refusal}
 use Rattle.af_offline.specs.declared.status.Stop.{Stop}
 use Rattle.af_offline.specs.declared.status.Stop.TheVariants.{Refused, Over, Store, Memory}
-use Rattle.af_offline.specs.Asked.{◌>>=◌, then_cons}
+use Rattle.af_offline.specs.Asked.{◌>>=◌}
 use Rattle.af_offline.specs.Status.{Meets}
+
+-- one more value before those of the steps that follow
+abbrev pub then_cons : {X : Type 0} → X → Result (List X) Refusal → Result (List X) Refusal
+then_cons x rest = rest >>= (λ xs. Ok (x ∷ xs))
 
 -- what was read so far before what follows
 abbrev pub behind : {X : Type 0} → List X → Result (List X) Refusal → Result (List X) Refusal

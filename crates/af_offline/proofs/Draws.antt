@@ -1,7 +1,8 @@
 -- One draw after another.
 use Rattle.std.proofs.Common.{◌≡◌, ℕ, zero, suc, ◌+◌, ◌*◌, List, [], ◌++◌, length, refl, sym, ap, ◌∙◌, arith, append_assoc, append-nil, add-one}
 use Rattle.af_base.specs.Sample.{sample_bytes}
-use Rattle.af_offline.specs.Generated.{next_draw, drawn, sample_of, drawn_bytes, samples_of, samples_before, generated_file}
+use Rattle.af_offline.specs.Generated.{next_draw, drawn, sample_of, drawn_bytes, generated_file}
+use Rattle.std.specs.Prelude.{◌%◌, ◌/◌}
 
 drawn-more : (x count : ℕ) → drawn x (suc count) ≡ next_draw (drawn x count)
 unfolding drawn
@@ -45,21 +46,21 @@ drawn_length x (suc count) =
     let more : length (drawn_bytes (next_draw x) count) ≡ 2 * count = drawn_length (next_draw x) count in
     omega (arith, more)
 
-pub file_length : (number track : ℕ) → length (generated_file number track) ≡ 2 * samples_of track
+pub file_length : (number track : ℕ) → length (generated_file number track) ≡ 2 * (100000 * (1 + track % 2))
 unfolding generated_file
-file_length number track = drawn_length (drawn number (samples_before track)) (samples_of track)
+file_length number track = drawn_length (drawn number (100000 * (track + track / 2))) (100000 * (1 + track % 2))
 
 -- the next track's file begins where a track's file ends
-drawn_track : (number track : ℕ) → drawn (drawn number (samples_before track)) (samples_of track) ≡ drawn number (samples_before (track + 1))
+drawn_track : (number track : ℕ) → drawn (drawn number (100000 * (track + track / 2))) (100000 * (1 + track % 2)) ≡ drawn number (100000 * ((track + 1) + (track + 1) / 2))
 drawn_track number track =
-    drawn_behind number (samples_before track) (samples_of track)
-    ∙ ap (drawn number) (let same : samples_before track + samples_of track ≡ samples_before (track + 1) = omega arith in same)
+    drawn_behind number (100000 * (track + track / 2)) (100000 * (1 + track % 2))
+    ∙ ap (drawn number) (let same : (100000 * (track + track / 2)) + (100000 * (1 + track % 2)) ≡ (100000 * ((track + 1) + (track + 1) / 2)) = omega arith in same)
 
 -- what is drawn from where the files before it ended is the track's file
-pub file_is : (number track state : ℕ) (bytes : List ℕ) → state ≡ drawn number (samples_before track) → bytes ≡ drawn_bytes state (samples_of track) → bytes ≡ generated_file number track
+pub file_is : (number track state : ℕ) (bytes : List ℕ) → state ≡ drawn number (100000 * (track + track / 2)) → bytes ≡ drawn_bytes state (100000 * (1 + track % 2)) → bytes ≡ generated_file number track
 unfolding generated_file
-file_is number track state bytes at is = is ∙ ap (λ (x : ℕ). drawn_bytes x (samples_of track)) at
+file_is number track state bytes at is = is ∙ ap (λ (x : ℕ). drawn_bytes x (100000 * (1 + track % 2))) at
 
 -- the state behind a track's file is where the next one begins
-pub state_is : (number track state after : ℕ) → state ≡ drawn number (samples_before track) → after ≡ drawn state (samples_of track) → after ≡ drawn number (samples_before (track + 1))
-state_is number track state after at is = is ∙ ap (λ (x : ℕ). drawn x (samples_of track)) at ∙ drawn_track number track
+pub state_is : (number track state after : ℕ) → state ≡ drawn number (100000 * (track + track / 2)) → after ≡ drawn state (100000 * (1 + track % 2)) → after ≡ drawn number (100000 * ((track + 1) + (track + 1) / 2))
+state_is number track state after at is = is ∙ ap (λ (x : ℕ). drawn x (100000 * (1 + track % 2))) at ∙ drawn_track number track

@@ -8,7 +8,11 @@ use Rattle.af_runs.specs.LegalRuns.{marks_of, session_of}
 use Rattle.af_runs.specs.Rounds.{after_round}
 use Rattle.af_runs.specs.Runs.{Run, fast_party, new_run}
 use Rattle.af_runs.specs.Sessions.{Session}
-use Rattle.af_audit.specs.Verdicts.{AreClear, HasFirstFault, IsClear, IsFirstFault, IsLeastWithout}
+use Rattle.af_audit.specs.Verdicts.{AreClear, IsClear, IsFirstFault, IsLeastWithout}
+
+-- the first fault of a journal is that of this party in this round
+abbrev HasFirstFault : ScriptData → List (List Frame) → JournalData → ℕ → ℕ → Type 0
+HasFirstFault script files j round party = let s = session_of script files in IsFirstFault false s (marks_of j.rounds) (new_run s) j.rounds round party
 
 -- the first of some rounds, and the others
 abbrev first_of : RoundSeen → List RoundSeen → RoundSeen

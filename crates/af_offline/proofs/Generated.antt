@@ -13,11 +13,19 @@ use Rattle.af_io.specs.Outputs.{NamedFile, with_files, SetsFiles, LeavesFronts}
 use Rattle.af_io.proofs.Outputs.{with_files-append, LeavesFronts-first, LeavesFronts-next, LeavesFronts-whole, SetsFiles-more}
 use Rattle.af_script.specs.Generated.{generated_name, generated_script}
 use Rattle.af_script.specs.Printing.{printed_script}
-use Rattle.af_offline.specs.Generated.{drawn_file, drawn_files, script_file, generated_file, generated_files}
+use Rattle.af_offline.specs.Generated.{drawn_files, generated_file, generated_files}
 use Rattle.af_words.specs.Requests.{is_drawn}
 use Rattle.af_words.proofs.DrawnNames.{none_is}
 
 -- ## Files that are written one after the other
+
+-- a track's file, with its name
+abbrev drawn_file : ℕ → ℕ → NamedFile
+drawn_file number track = record { name = generated_name track; bytes = generated_file number track }
+
+-- the text of the script, in a file of this name
+abbrev script_file : List ℕ → NamedFile
+script_file name = record { name = name; bytes = printed_script generated_script }
 
 pub drawn_files-none : (number : ℕ) → drawn_files number 0 ≡ []
 unfolding drawn_files

@@ -13,12 +13,13 @@ use Rattle.af_offline.specs.declared.status.Refusal.{Refusal}
 use Rattle.af_offline.specs.declared.status.Refusal.TheVariants.{File}
 use Rattle.af_offline.specs.declared.status.Role.TheVariants as role
 use Rattle.af_offline.specs.declared.status.Why.TheVariants.{Total}
-use Rattle.af_offline.specs.Asked.{◌>>=◌, counted, enough_of, frames_in, loaded, most_file, most_files, then_cons, track_in, tracks_in}
+use Rattle.af_offline.specs.Asked.{◌>>=◌, counted, enough_of, frames_in, loaded, most_file, track_in, tracks_in}
 use Rattle.af_offline.specs.declared.status.Stop.{Stop}
 use Rattle.af_offline.specs.declared.status.Stop.TheVariants.{Store, Memory}
 use Rattle.af_offline.specs.Loading.{file_view, AreServed, Serves}
 use Rattle.af_offline.specs.Status.{HasFault, Meets}
-use Rattle.af_offline.proofs.Chains.{Meets-stopped, behind, behind-more}
+use Rattle.af_offline.proofs.Chains.{Meets-stopped, behind, behind-more, then_cons}
+use Rattle.std.specs.Prelude.{◌^◌}
 
 -- ## Frames that are asked for
 
@@ -145,12 +146,12 @@ module _ (files : Files) (number total : ℕ) (track : TrackSpec) where
     abbrev by_test : Bool → Result (List Frame × ℕ) Refusal
     by_test few = (if few then Ok bytes else Err (File (record { role = role.Track number; why = Total (total + length bytes) }))) >>= framed number total track
 
-    here : track_in files number total track ≡ by_test (nat_le (total + length bytes) most_files)
+    here : track_in files number total track ≡ by_test (nat_le (total + length bytes) (2 ^ 24))
     here = ap (λ (r : Result (List ℕ) Refusal). r >>= counted number total >>= framed number total track) is
 
     -- the files are too many bytes
-    pub track_total : most_files < total + length bytes → track_in files number total track ≡ Err (File (record { role = role.Track number; why = Total (total + length bytes) }))
-    track_total lt = here ∙ ap by_test (lt-leb most_files (total + length bytes) lt)
+    pub track_total : 2 ^ 24 < total + length bytes → track_in files number total track ≡ Err (File (record { role = role.Track number; why = Total (total + length bytes) }))
+    track_total lt = here ∙ ap by_test (lt-leb (2 ^ 24) (total + length bytes) lt)
       where
         lt-leb : (a b : ℕ) → a < b → nat_le b a ≡ false
         lt-leb a b lt = go (nat_le b a) refl
@@ -159,9 +160,9 @@ module _ (files : Files) (number total : ℕ) (track : TrackSpec) where
             go true le = let none : b ≤ a = leb-true b a le in absurd (omega (arith, none, lt))
             go false le = le
 
-    module _ (few : total + length bytes ≤ most_files) where
+    module _ (few : total + length bytes ≤ 2 ^ 24) where
       kept : track_in files number total track ≡ framed number total track bytes
-      kept = here ∙ ap by_test (le-leb (total + length bytes) most_files few)
+      kept = here ∙ ap by_test (le-leb (total + length bytes) (2 ^ 24) few)
 
       -- the bytes of a track's file gave no frames
       pub track_unframed : (e : Stop) → Meets {X = List Frame} (λ pcm. pcm) (Err e) (frames_in number track.mono bytes) → Meets file_view (Err e) (track_in files number total track)

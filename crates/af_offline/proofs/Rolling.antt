@@ -10,7 +10,7 @@ use Rattle.af_static.specs.InStep.{HandState}
 use Rattle.af_static.specs.Loops.{at_first, is_valid, opening, shut_by}
 use Rattle.af_static.proofs.Calling.{setting_stays}
 use Rattle.af_words.specs.declared.request.Turns.{Turns}
-use Rattle.af_offline.specs.Looped.{call_under, calls_under, next_setting, setting_of}
+use Rattle.af_offline.specs.Looped.{calls_under, next_setting, setting_of}
 use Rattle.af_offline.proofs.Entries.{pcm_bytes-append}
 
 -- ---- one call
@@ -58,7 +58,7 @@ module _ (first : HandState) (places : ℕ) (kept : List ℕ) where
   pub on_again : (hand after : HandState) (had now : List ℕ) (out : List Frame) (i filled more : ℕ) (was is : Bool) → IsOn hand had i filled was
       → after.frames ≡ hand.frames → after.newest ≡ hand.newest → next_setting after ≡ next_setting hand
       → now ≡ had ++ pcm_bytes out
-      → ((calls : List Call) (played : List Frame) (count : ℕ) → CallsPlay hand.frames (standing_in first) calls played count (standing_in hand) → CallsPlay hand.frames (standing_in first) (calls ++ call_under hand.newest places ∷ []) (played ++ out) (count + more) (standing_in after))
+      → ((calls : List Call) (played : List Frame) (count : ℕ) → CallsPlay hand.frames (standing_in first) calls played count (standing_in hand) → CallsPlay hand.frames (standing_in first) (calls ++ (record { setting = hand.newest; gains = (4096, 4096); places = places }) ∷ []) (played ++ out) (count + more) (standing_in after))
       → is ≡ is_some (shut_by (length hand.frames) (next_setting hand))
       → IsOn after now (i + 1) (filled + more) is
   on_again hand after had now out i filled more was is on frames_stay newest_stays setting_on added goes_on shuts_now =
@@ -67,9 +67,10 @@ module _ (first : HandState) (places : ℕ) (kept : List ℕ) where
       let s = on.same_setting in
       let played : List Frame = outputs_of first.frames (standing_in first) (so_far i) in
       let next =
-      subst (λ (x : List Frame × Setting). (calls : List Call) (played : List Frame) (count : ℕ) → CallsPlay x.0 (standing_in first) calls played count (standing_in hand) → CallsPlay x.0 (standing_in first) (calls ++ call_under x.1 places ∷ []) (played ++ out) (count + more) (standing_in after))
+      subst (λ (x : List Frame × Setting). (calls : List Call) (played : List Frame) (count : ℕ) → CallsPlay x.0 (standing_in first) calls played count (standing_in hand) → CallsPlay x.0 (standing_in first) (calls ++ (record { setting = x.1; gains = (4096, 4096); places = places }) ∷ []) (played ++ out) (count + more) (standing_in after))
       (λ j. (f j, n j)) goes_on (so_far i) played filled (record { outputs = refl; filled = on.all_filled; standing = on.standing }) in
-      let one_more = replicate_more i (call_under first.newest places) in
+      let call : Call = record { setting = first.newest; gains = (4096, 4096); places = places } in
+      let one_more = replicate_more i call in
       record {
         same_frames = frames_stay ∙ f;
         same_newest = newest_stays ∙ n;

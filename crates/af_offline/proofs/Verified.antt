@@ -11,13 +11,13 @@ use Rattle.af_journal.specs.Beginnings.{IsFrontOf}
 use Rattle.af_journal.specs.declared.building.JournalFault.{JournalFault}
 use Rattle.af_journal.specs.declared.building.JournalFault.TheVariants as fault
 use Rattle.af_journal.specs.Judged.{EndsBeyond, judged_of, most_judged}
-use Rattle.af_journal.specs.Readings.{IsFaultOf}
+use Rattle.af_journal.specs.Readings.{IsFaultOf, IsOneReading}
 use Rattle.af_model.specs.Journals.{JournalData}
 use Rattle.af_offline.specs.Asked as asked
 use Rattle.af_offline.specs.declared.status.Ending.TheVariants as ending
 use Rattle.af_offline.specs.declared.status.Stop.{Stop}
 use Rattle.af_offline.specs.declared.status.Stop.TheVariants as stop
-use Rattle.af_offline.specs.Verified.{FoundTo, IsJudgedIn, IsOfJournal, IsUnread, JudgesTo, Tells, unread}
+use Rattle.af_offline.specs.Verified.{FoundTo, IsJudgedIn, IsUnread, JudgesTo, Tells, unread}
 use Rattle.af_script.specs.Data.{ScriptData}
 
 -- a text with this fault wasn't read
@@ -26,7 +26,7 @@ unread_told script text (fault.Line number) h = h
 unread_told script text fault.Memory h = tt
 
 -- what is found of the one reading of a text is what is found of the text
-pub judged : (c : asked.Case) (found : Verdict) → IsOfJournal c.loaded.script c.loaded.files c.pcm c.text found → IsJudgedIn c found
+pub judged : (c : asked.Case) (found : Verdict) → ((journal : JournalData) × IsOneReading (length c.loaded.script.tracks) c.text journal × IsVerdict c.loaded.script c.loaded.files (judged_of journal) c.pcm found) → IsJudgedIn c found
 judged c verdict.Legal h = h
 judged c (verdict.Refused (refused.Text line)) h = absurd h.2
 judged c (verdict.Refused (refused.Round round party)) h = h

@@ -10,6 +10,7 @@ use Rattle.af_script.specs.Generated.{generated_script}
 use Rattle.af_script.specs.Reading.{script_of}
 use Rattle.af_script.specs.declared.track.TrackSpec.{TrackSpec}
 use Rattle.af_script.specs.declared.fault.ScriptFault.{ScriptFault}
+use Rattle.af_runs.specs.Sessions.{Session as Loaded}
 use Rattle.af_party.specs.Works.{frames_to_come}
 use Rattle.af_offline.specs.declared.status.Refusal.{Refusal}
 use Rattle.af_offline.specs.declared.status.Refusal.TheVariants.{Usage, Script, File}
@@ -20,7 +21,7 @@ use Rattle.af_words.specs.declared.request.Sizes.{Sizes}
 use Rattle.af_words.specs.declared.request.Turns.{Turns}
 use Rattle.af_words.specs.Requests.{Request, Render, Record, Loop, Generate, Play, Verify, Trace, request_of}
 use Rattle.af_offline.specs.Recorded.{heard, recorded, counts_of}
-use Rattle.af_offline.specs.Looped.{most_buffer, looped, rolls_of}
+use Rattle.af_offline.specs.Looped.{looped, rolls_of}
 use Rattle.af_offline.specs.Generated.{generated_files, generated_frames}
 use Rattle.af_offline.specs.Line.{counts_text, rolls_text}
 
@@ -29,10 +30,6 @@ infixl 10 ◌>>=◌
 abbrev pub ◌>>=◌ : {X Y : Type 0} → Result X Refusal → (X → Result Y Refusal) → Result Y Refusal
 Ok x >>= next = next x
 Err refusal >>= next = Err refusal
-
--- one more value before those of the steps that follow
-abbrev pub then_cons : {X : Type 0} → X → Result (List X) Refusal → Result (List X) Refusal
-then_cons x rest = rest >>= (λ xs. Ok (x ∷ xs))
 
 -- what is to be made. `Exact`: these bytes and this line. `Session`: what the turns of a script come to with the frames of its tracks' files. `Rounds`: what its parties come to in rounds, with the journal in a file of this name. `Judge`: nothing, as a sound and the text of its journal are judged by a script and the frames of its tracks' files. `Traced`: what the parties come to in rounds, with the journal and the log in files of these names, and this room for the log
 pub data Work : Type 0 where
@@ -50,19 +47,9 @@ pub record Job : Type 0 where
 
 -- ## Files
 
--- the limits of a script, of a file and of all files, in bytes
-abbrev pub most_script : ℕ
-most_script = 2 ^ 20
-
+-- the limits of a file and of all files, in bytes
 abbrev pub most_file : ℕ
 most_file = 2 ^ 23
-
-abbrev pub most_files : ℕ
-most_files = 2 ^ 24
-
--- the limit of a journal
-abbrev pub most_journal : ℕ
-most_journal = 2 ^ 30
 
 -- a file of at most so many bytes
 abbrev pub loaded : Role → ℕ → Option (List ℕ) → Result (List ℕ) Refusal
@@ -72,7 +59,7 @@ loaded part limit (Some bytes) = if nat_le (length bytes) limit then Ok bytes el
 -- a file's bytes, if those of all files up to it are not too many
 abbrev pub counted : ℕ → ℕ → List ℕ → Result (List ℕ) Refusal
 counted number total bytes =
-    if nat_le (total + length bytes) most_files then Ok bytes else Err (File (record { role = role.Track number; why = Total (total + length bytes) }))
+    if nat_le (total + length bytes) (2 ^ 24) then Ok bytes else Err (File (record { role = role.Track number; why = Total (total + length bytes) }))
 
 -- the frames of a track's file, if its bytes are whole frames
 abbrev pub frames_in : ℕ → Bool → List ℕ → Result (List Frame) Refusal
@@ -100,19 +87,16 @@ track_in files number total track =
 -- the frames of the files of tracks, from a number on
 abbrev pub tracks_in : Files → ℕ → ℕ → List TrackSpec → Result (List (List Frame)) Refusal
 tracks_in files number total [] = Ok []
-tracks_in files number total (track ∷ rest) = track_in files number total track >>= (λ one. then_cons one.0 (tracks_in files (number + 1) one.1 rest))
+tracks_in files number total (track ∷ rest) =
+    track_in files number total track >>= (λ one. tracks_in files (number + 1) one.1 rest >>= (λ xs. Ok (one.0 ∷ xs)))
 
 -- a script, with the frames of its tracks' files
-pub record Loaded : Type 0 where
-  pub script : ScriptData
-  pub files : List (List Frame)
-
 abbrev pub session_of : Files → ScriptData → Result Loaded Refusal
 session_of files script = tracks_in files 0 0 script.tracks >>= (λ frames. Ok (record { script = script; files = frames }))
 
--- the script in a file, with the frames of its tracks' files
+-- the script in a file of at most 2 ^ 20 bytes, with the frames of its tracks' files
 abbrev pub loaded_of : Files → List ℕ → Result Loaded Refusal
-loaded_of files name = loaded role.Script most_script (files name) >>= (λ bytes. script_or (script_of bytes) >>= session_of files)
+loaded_of files name = loaded role.Script (2 ^ 20) (files name) >>= (λ bytes. script_or (script_of bytes) >>= session_of files)
 
 -- a script is played
 abbrev pub session_job : List ℕ → Loaded → Job
@@ -128,19 +112,11 @@ pub record Case : Type 0 where
   pub pcm : List ℕ
   pub text : List ℕ
 
--- a sound and the text of its journal are judged
-abbrev pub verify_job : List ℕ → Case → Job
-verify_job sound c = record { first = []; target = sound; work = Judge c.loaded.script c.loaded.files c.pcm c.text }
-
 -- a script is played in rounds, with its journal and its log in files of these names, and this room for the log
 abbrev pub trace_job : List ℕ → List ℕ → List ℕ → ℕ → Loaded → Job
 trace_job target journal log room l = record { first = []; target = target; work = Traced l.script l.files journal log room }
 
 -- ## Recordings and loops
-
--- the frames of a file that is recorded
-abbrev pub recorded_from : Files → List ℕ → Result (List Frame) Refusal
-recorded_from files input = loaded (role.Track 0) most_file (files input) >>= frames_in 0 false
 
 -- one frame or more
 abbrev pub some_frames : List Frame → Result (List Frame) Refusal
@@ -150,18 +126,6 @@ some_frames (frame ∷ frames) = Ok (frame ∷ frames)
 -- the frames of a stereo file that has some
 abbrev pub buffer_in : List ℕ → Result (List Frame) Refusal
 buffer_in bytes = frames_in 0 false bytes >>= some_frames
-
--- frames are recorded
-abbrev pub record_job : List ℕ → Sizes → List Frame → Job
-record_job target sizes frames = record { first = []; target = target; work = Exact (pcm_bytes (heard (recorded sizes frames))) (counts_text (counts_of sizes frames)) }
-
--- the frames of a file that is looped
-abbrev pub looped_from : Files → List ℕ → Result (List Frame) Refusal
-looped_from files input = loaded (role.Track 0) most_buffer (files input) >>= (λ bytes. buffer_in bytes)
-
--- frames are looped
-abbrev pub loop_job : List ℕ → Turns → List Frame → Job
-loop_job target turns frames = record { first = []; target = target; work = Exact (pcm_bytes (looped turns frames)) (rolls_text (rolls_of turns frames)) }
 
 -- ## Sessions that are generated
 
@@ -179,26 +143,32 @@ render_asked files script target = loaded_of files script >>= (λ l. Ok (session
 abbrev pub play_asked : Files → List ℕ → List ℕ → List ℕ → Result Job Refusal
 play_asked files script target journal = loaded_of files script >>= (λ l. Ok (play_job target journal l))
 
--- what is judged: a sound and a journal in files of these names, behind the script and its tracks' files
+-- what is judged: a sound and a journal, of at most 2 ^ 30 bytes, in files of these names, behind the script and its tracks' files
 abbrev pub case_of : Files → List ℕ → List ℕ → List ℕ → Result Case Refusal
 case_of files script sound journal =
-    loaded_of files script >>= (λ l. loaded role.Pcm most_file (files sound) >>= (λ pcm. loaded role.Journal most_journal (files journal) >>= (λ text.
+    loaded_of files script >>= (λ l. loaded role.Pcm most_file (files sound) >>= (λ pcm. loaded role.Journal (2 ^ 30) (files journal) >>= (λ text.
     Ok (record { loaded = l; pcm = pcm; text = text }))))
 
+-- what is made of a sound and the text of its journal: they are judged
 abbrev pub verify_asked : Files → List ℕ → List ℕ → List ℕ → Result Job Refusal
-verify_asked files script sound journal = case_of files script sound journal >>= (λ c. Ok (verify_job sound c))
+verify_asked files script sound journal =
+    case_of files script sound journal >>= (λ c. Ok (record { first = []; target = sound; work = Judge c.loaded.script c.loaded.files c.pcm c.text }))
 
 -- what is made of a script that is traced, for an output, a journal and a log of these names, and this room for the log
 abbrev pub trace_asked : Files → List ℕ → List ℕ → List ℕ → List ℕ → ℕ → Result Job Refusal
 trace_asked files script target journal log room = loaded_of files script >>= (λ l. Ok (trace_job target journal log room l))
 
--- what is made of a file that is recorded
+-- what is made of a file that is recorded: the bytes of its frames as they are heard, and the line of their counts
 abbrev pub record_asked : Files → List ℕ → List ℕ → Sizes → Result Job Refusal
-record_asked files input target sizes = recorded_from files input >>= (λ frames. Ok (record_job target sizes frames))
+record_asked files input target sizes =
+    loaded (role.Track 0) most_file (files input) >>= frames_in 0 false >>= (λ frames.
+    Ok (record { first = []; target = target; work = Exact (pcm_bytes (heard (recorded sizes frames))) (counts_text (counts_of sizes frames)) }))
 
--- what is made of a file that is looped
+-- what is made of a file that is looped, of at most 2 ^ 15 bytes, which are 8192 frames: the bytes that are heard, and the line of the rolls
 abbrev pub loop_asked : Files → List ℕ → List ℕ → Turns → Result Job Refusal
-loop_asked files input target turns = looped_from files input >>= (λ frames. Ok (loop_job target turns frames))
+loop_asked files input target turns =
+    loaded (role.Track 0) (2 ^ 15) (files input) >>= (λ bytes. buffer_in bytes) >>= (λ frames.
+    Ok (record { first = []; target = target; work = Exact (pcm_bytes (looped turns frames)) (rolls_text (rolls_of turns frames)) }))
 
 -- what a request asks for
 abbrev pub job_of : Files → Request → Result Job Refusal

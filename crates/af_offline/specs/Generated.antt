@@ -30,33 +30,17 @@ drawn_bytes x (suc count) = sample_bytes (sample_of (next_draw x)) ++ drawn_byte
 
 -- ## Files
 
--- the samples of a track's file: 100000 frames of one channel, or of two if its number is odd
-abbrev pub samples_of : ℕ → ℕ
-samples_of track = 100000 * (1 + track % 2)
-
--- the samples of the files before a track's
-abbrev pub samples_before : ℕ → ℕ
-samples_before track = 100000 * (track + track / 2)
-
--- the bytes of a track's file: the first file is drawn from the number on, and each from where the one before it ended
+-- the bytes of a track's file, of 100000 frames of one channel, or of two if its number is odd: the first file is drawn from the number on, and each from where the one before it ended
 unfoldable pub generated_file : ℕ → ℕ → List ℕ
-generated_file number track = drawn_bytes (drawn number (samples_before track)) (samples_of track)
-
--- a track's file, with its name
-abbrev pub drawn_file : ℕ → ℕ → NamedFile
-drawn_file number track = record { name = generated_name track; bytes = generated_file number track }
+generated_file number track = drawn_bytes (drawn number (100000 * (track + track / 2))) (100000 * (1 + track % 2))
 
 -- the files of some first tracks
 unfoldable pub drawn_files : ℕ → ℕ → List NamedFile
-drawn_files number tracks = map (drawn_file number) (range_with_len 0 tracks)
-
--- the text of the script, in a file of this name
-abbrev pub script_file : List ℕ → NamedFile
-script_file name = record { name = name; bytes = printed_script generated_script }
+drawn_files number tracks = map (λ track. record { name = generated_name track; bytes = generated_file number track }) (range_with_len 0 tracks)
 
 -- what is written before the session is played: the files of its eight tracks, and then its script
 abbrev pub generated_files : ℕ → List ℕ → List NamedFile
-generated_files number name = drawn_files number 8 ++ script_file name ∷ []
+generated_files number name = drawn_files number 8 ++ record { name = name; bytes = printed_script generated_script } ∷ []
 
 -- the frames of the tracks' files
 unfoldable pub generated_frames : ℕ → List (List Frame)

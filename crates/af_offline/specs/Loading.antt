@@ -6,14 +6,14 @@ use Rattle.af_script.specs.declared.op.Op.{Op}
 use Rattle.af_script.specs.declared.track.TrackSpec.{TrackSpec}
 use Rattle.af_offline.specs.declared.load.Loaded.{Loaded}
 use Rattle.af_offline.specs.declared.load.TrackFile.{TrackFile}
-use Rattle.af_offline.specs.Asked as asked
+use Rattle.af_runs.specs.Sessions.{Session}
 
 -- the frames of a file, and the bytes of the files up to it
 abbrev pub file_view : TrackFile → List Frame × ℕ
 file_view file = (file.pcm, file.total)
 
 -- a script, with the frames of its tracks' files
-abbrev pub loaded_view : Loaded → asked.Loaded
+abbrev pub loaded_view : Loaded → Session
 loaded_view l = record { script = l.script; files = l.files.items }
 
 -- a file has the frames that these ops write, and not too many

@@ -1,5 +1,5 @@
 -- A static buffer that is looped under one setting: calls of so many places, one after the other, at unity.
-use Rattle.std.specs.Prelude.{ℕ, ◌^◌, Bool, List, length, replicate, is_some, if◌then◌else◌}
+use Rattle.std.specs.Prelude.{ℕ, Bool, List, length, replicate, is_some, if◌then◌else◌}
 use Rattle.af_base.specs.declared.frame.Frame.{Frame}
 use Rattle.af_static.specs.declared.setting.Setting.{Setting}
 use Rattle.af_static.specs.Calls.{Call, filled_of, outputs_of, standing_in, unplayed}
@@ -7,21 +7,9 @@ use Rattle.af_static.specs.InStep.{HandState}
 use Rattle.af_static.specs.Loops.{is_valid, shut_by}
 use Rattle.af_words.specs.declared.request.Turns.{Turns}
 
--- the most bytes of a file that is looped: 8192 frames
-abbrev pub most_buffer : ℕ
-most_buffer = 2 ^ 15
-
--- unity on both sides
-abbrev pub unity : ℕ × ℕ
-unity = (4096, 4096)
-
--- a call at unity that finds a setting
-abbrev pub call_under : Setting → ℕ → Call
-call_under setting places = record { setting = setting; gains = unity; places = places }
-
--- so many calls of so many places that find one setting
+-- so many calls of so many places, at unity on both sides, that find one setting
 abbrev pub calls_under : Setting → ℕ → ℕ → List Call
-calls_under setting places calls = replicate calls (call_under setting places)
+calls_under setting places calls = replicate calls (record { setting = setting; gains = (4096, 4096); places = places })
 
 -- the one setting of a loop, which the first call sees
 abbrev pub setting_of : Turns → Setting

@@ -22,18 +22,10 @@ use Rattle.af_offline.specs.declared.status.Ending.TheVariants as ending
 use Rattle.af_offline.specs.declared.status.Stop.{Stop}
 use Rattle.af_offline.specs.declared.status.Stop.TheVariants.{Over, Memory}
 
--- a journal is the one reading of a text, for as many tracks as the script has
-abbrev pub IsTextFor : ScriptData → List ℕ → JournalData → Type 0
-IsTextFor script text journal = IsOneReading (length script.tracks) text journal
-
--- the text has one reading, and this is the verdict on the judged part of that journal and on the sound
-abbrev pub IsOfJournal : ScriptData → List (List Frame) → List ℕ → List ℕ → Verdict → Type 0
-IsOfJournal script files pcm text found = (journal : JournalData) × IsTextFor script text journal × IsVerdict script files (judged_of journal) pcm found
-
--- What is found of a sound and the text of its journal: the first bad line of a text without a reading, and else what is found of its journal
+-- What is found of a sound and the text of its journal: the first bad line of a text without a reading, and else the verdict on the judged part of its one reading and on the sound
 abbrev pub IsJudged : ScriptData → List (List Frame) → List ℕ → List ℕ → Verdict → Type 0
 IsJudged script files pcm text (verdict.Refused (refused.Text line)) = IsFirstBad (HasReading (length script.tracks)) text line
-IsJudged script files pcm text found = IsOfJournal script files pcm text found
+IsJudged script files pcm text found = (journal : JournalData) × IsOneReading (length script.tracks) text journal × IsVerdict script files (judged_of journal) pcm found
 
 -- how the command ends if a text wasn't read
 abbrev pub unread : JournalFault → Stop

@@ -1,12 +1,12 @@
 //! What is loaded before a session is played: the script, and the files of its tracks.
-ghost use Rattle.std.specs.Prelude.{◌≡◌, ◌*◌, ◌≤◌, ◌∷◌, [], All, Err, length, IfOk};
+ghost use Rattle.std.specs.Prelude.{◌≡◌, ◌*◌, ◌≤◌, ◌∷◌, [], All, Err, length, IfOk, ◌^◌};
 ghost use Rattle.af_io.specs.Files.{SameFiles};
 ghost use Rattle.af_io.specs.Pcm.{frame_width};
 ghost use Rattle.af_script.specs.Bounds.{most_tracks};
 ghost use Rattle.af_script.specs.Form.{IsTrack};
 ghost use Rattle.af_script.specs.Reading.{script_of};
 ghost use Rattle.af_party.specs.Works.{frames_to_come};
-ghost use Rattle.af_offline.specs.Asked.{enough_of, frames_in, loaded, loaded_of, most_files, script_or, session_of, track_in, tracks_in};
+ghost use Rattle.af_offline.specs.Asked.{enough_of, frames_in, loaded, loaded_of, script_or, session_of, track_in, tracks_in};
 ghost use Rattle.af_offline.specs.Loading.{file_view, loaded_view, AreFilesFor, AreServed, Serves};
 ghost use Rattle.af_offline.specs.Status.{HasFault, IsNoUsage, Meets};
 
@@ -160,10 +160,10 @@ fn load_track<S: Store>(
     bytes: &mut Vec<u8>,
 ) -> Result<TrackFile, Stop>
     requires track { IsTrack track.now }
-    requires total { total ≤ most_files }
+    requires total { total ≤ 2 ^ 24 }
     ensures file { S.told store.old → Meets file_view result (track_in (S.files store.old) number total track.now) }
     ensures serves { IfOk result (λ file. Serves track.now.ops file.pcm) }
-    ensures total { IfOk result (λ file. file.total ≤ most_files) }
+    ensures total { IfOk result (λ file. file.total ≤ 2 ^ 24) }
     ensures same { S.told store.old → SameFiles (S.files store.old) (S.files store.new) }
     ensures tells { S.told store.old → S.told store.new }
     ensures cause { HasFault (S.faults store.old) (S.faults store.new) result }

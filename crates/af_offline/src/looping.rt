@@ -8,7 +8,7 @@ ghost use Rattle.af_static.specs.Loops.{shut_by};
 ghost use Rattle.af_offline.specs.Asked.{buffer_in, loop_asked};
 ghost use Rattle.af_offline.specs.Asking.{output_job};
 ghost use Rattle.af_offline.specs.Line.{rolls_text};
-ghost use Rattle.af_offline.specs.Looped.{Rolls, call_under, calls_under, heard_in, looped, next_setting, rolls_from, rolls_of, setting_of};
+ghost use Rattle.af_offline.specs.Looped.{Rolls, calls_under, heard_in, looped, next_setting, rolls_from, rolls_of, setting_of};
 ghost use Rattle.af_words.specs.Asking.{AreTurns};
 ghost use Rattle.af_offline.specs.Rolled.{rolls_in};
 ghost use Rattle.af_offline.specs.Status.{HasFault, IsNoUsage, Meets};
@@ -68,7 +68,7 @@ fn play_once(
     ensures setting { OnOk result ((hand.new.newest ≡ hand.old.newest) × (next_setting hand.new ≡ next_setting hand.old)) }
     ensures bytes { OnOk result (bytes.new.items ≡ bytes.old.items ++ pcm_bytes places.new) }
     ensures played { IfOk result (λ unrolled. (first : Standing) (calls : List Call) (played : List Frame) (count : ℕ) → CallsPlay hand.old.frames first calls played count (standing_in hand.old)
-        → CallsPlay hand.old.frames first (calls ++ call_under hand.old.newest (length places.old) ∷ []) (played ++ places.new) (count + unrolled.filled) (standing_in hand.new)) }
+        → CallsPlay hand.old.frames first (calls ++ (record { setting = hand.old.newest; gains = (4096, 4096); places = length places.old }) ∷ []) (played ++ places.new) (count + unrolled.filled) (standing_in hand.new)) }
     ensures shut { IfOk result (λ unrolled. unrolled.shut ≡ shut_by (length hand.old.frames) (next_setting hand.old)) }
 {
     let unrolled = hand.play(Gains::clamped(UNITY), places);

@@ -17,7 +17,7 @@ use Rattle.af_script.specs.Form.{IsScript}
 use Rattle.af_script.specs.declared.op.TurnSpec.{TurnSpec}
 use Rattle.af_script.specs.declared.op.TurnSpec.TheVariants as makes
 use Rattle.af_runs.specs.Blocks.{BlockTold, Marks, meets, IsHistoryAsTold}
-use Rattle.af_runs.specs.Found.{TurnFound, LegalTurnBy, outside_of, lawful_outside}
+use Rattle.af_runs.specs.Found.{TurnFound, LegalTurnBy, outside_of, outside_with}
 use Rattle.af_runs.specs.Rounds.{IsFastTurn, loaded, turned}
 use Rattle.af_runs.specs.Runs.{Run, TrackTold, told_at, no_track, called, calls_in, found_before, with_turn, with_load, turned_track, commands_turned, stream_turned, stream_met, takes_part, track_met, met, fast_ended}
 use Rattle.af_runs.specs.Sessions.{Session, cycle_frames, setup_of}
@@ -32,6 +32,7 @@ use Rattle.af_one_turn_run.proofs.OneTurn.{IsBlockTold, IsTurnTold, IsBeforeTurn
 use Rattle.af_one_turn_run.proofs.Parts.{legal_parts}
 use Rattle.af_one_turn_run.proofs.RoundFollows.{told_legally, told_taken_of, told_frames, pipe_legal, RoundReady, RoundTold, RoundForm}
 use Rattle.af_one_turn_run.proofs.RunFollows.{met_follows, turn_follows}
+use Rattle.af_runs.specs.Fronts.{lawful_front}
 
 -- a track of a run of which each block meets
 met_track : (s : Session) (run : Run) (n : ℕ) → n < length run.tracks → told_at (met s run) n ≡ track_met s run n (told_at run n)
@@ -138,7 +139,7 @@ module _ (s : Session) (form : IsScript s.script) (marks : Marks) (lawful : (n :
     made = with_load e (with_turn s found e run)
 
     -- the turn is legal by the fronts of lawful blocks
-    legal_lawful : LegalTurn (setup_of s) (lawful_outside (setup_of s) found e) run.normal e
+    legal_lawful : LegalTurn (setup_of s) (outside_with lawful_front (setup_of s) found e) run.normal e
     legal_lawful = subst (λ o. LegalTurn (setup_of s) o run.normal e)
         (legal.found ∙ (λ i. record (outside_of (setup_of s) found e) { stream_front = λ n. legal.streams n (lawful n) i; command_fronts = λ n. legal.commands n (lawful_commands n) i })) legal.legal
 

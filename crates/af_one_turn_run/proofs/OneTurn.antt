@@ -25,7 +25,7 @@ use Rattle.af_model.specs.Reports.{no_report}
 use Rattle.af_model.specs.StateQueue as queued
 use Rattle.af_model.specs.StateQueue.{QueuePoint}
 use Rattle.af_runs.specs.Blocks.{BlockTold, listed}
-use Rattle.af_runs.specs.Found.{TurnFound, take_front, outside_of, lawful_outside}
+use Rattle.af_runs.specs.Found.{TurnFound, take_front, outside_of, outside_with}
 use Rattle.af_runs.specs.Fronts.{lawful_front}
 use Rattle.af_runs.specs.Runs.{Run, most_cycles, told_at, found_before, report_of, stream_turned, commands_turned, queue_turned, pipe_turned}
 use Rattle.af_runs.specs.Sessions.{Session, setup_of, cycle_frames}
@@ -56,7 +56,7 @@ module _ (s : Session) (run : Run) (many : ℕ) (frames : ℕ → List ℕ) wher
 
   -- a turn that is told: legal by what it found, of its form, and after it all is told in a legal order
   pub record IsTurnTold (e : Turn) : Type 0 where
-    pub legal : LegalTurn c (lawful_outside c (found e) e) m e
+    pub legal : LegalTurn c (outside_with lawful_front c (found e) e) m e
     pub form : e.ended ≡ false → IsOpenTurn many e
     pub streams : (i : ℕ) → i < many → IsBlockTold (frames i) (stream_turned c (outside_of c (found e) e) m e i (told_at run i).stream)
     pub commands : (i : ℕ) → i < many → IsBlockTold (told_at run i).commands.released (commands_turned c (outside_of c (found e) e) m e i (told_at run i).commands)
@@ -130,10 +130,10 @@ module _ (s : Session) (run : Run) (many : ℕ) (frames : ℕ → List ℕ) wher
       abbrev tracks : List TrackKept
       tracks = (after_ack a.ack m).tracks
 
-      goes_a : GoesOn c (lawful_outside c (found a) a) m a
+      goes_a : GoesOn c (outside_with lawful_front c (found a) a) m a
       goes_a = t.legal.goes_on goes
 
-      other_goes : GoesOn c (lawful_outside c (found b) b) m b
+      other_goes : GoesOn c (outside_with lawful_front c (found b) b) m b
       other_goes = u.legal.goes_on goes_b
 
       other_track : (i : ℕ) → i < many → LegalTrack c k (track_in b i) (served_to c k b.tracks tracks i) i
@@ -174,7 +174,7 @@ module _ (s : Session) (run : Run) (many : ℕ) (frames : ℕ → List ℕ) wher
     abbrev TakesTold : Turn → List TakeSeen → List TakeSeen → Type 0
     TakesTold e all takes = AllByRecursion (IsTakeTold frames (λ i. (told_at run i).stream.shape.base) (asked c) (λ i. listed (told_at run i).stream) (play_point e) (play_count e) all) takes
 
-    takes_told : (e : Turn) → IsTurnTold e → e.ended ≡ false → (takes : List TakeSeen) → AllByRecursion (LegalTake c (lawful_outside c (found e) e)) takes → All (IsTake many) takes → TakesTold e e.mixes takes
+    takes_told : (e : Turn) → IsTurnTold e → e.ended ≡ false → (takes : List TakeSeen) → AllByRecursion (LegalTake c (outside_with lawful_front c (found e) e)) takes → All (IsTake many) takes → TakesTold e e.mixes takes
     takes_told e t goes [] legal form = tt
     takes_told e t goes (take ∷ takes) legal form =
         let is = All-head (IsTake many) take takes form in

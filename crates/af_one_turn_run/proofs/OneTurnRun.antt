@@ -18,7 +18,7 @@ use Rattle.af_model.specs.declared.shape.Shape.{Shape}
 use Rattle.af_judge.proofs.StatesRuns.{kept_new}
 use Rattle.af_one_turn_run.specs.Growing.{takes_in}
 use Rattle.af_one_turn_run.specs.MetLast.{AllMetLast}
-use Rattle.af_one_turn_run.specs.NoPokes.{PlainOps, PlainTracks, HasNoPokes}
+use Rattle.af_one_turn_run.specs.NoPokes.{PlainOps, PlainTracks}
 use Rattle.af_one_turn_run.proofs.AllTold.{AllForms, all_told}
 use Rattle.af_one_turn_run.proofs.OneFast.{AreForms}
 use Rattle.af_one_turn_run.proofs.OneRounds.{AllTold, one_rounds}
@@ -56,7 +56,7 @@ plain_at [] n h = tt
 plain_at (track ∷ tracks) zero h = h.0
 plain_at (track ∷ tracks) (suc n) h = plain_at tracks n h.1
 
-pub new_plain : (s : Session) → HasNoPokes s.script → IsRunPlain (new_run s)
+pub new_plain : (s : Session) → PlainTracks s.script.tracks → IsRunPlain (new_run s)
 new_plain s h n low = subst IsTrackPlain (sym (new_at s n (let l = new_long s in omega (arith, l, low)))) (record { client = record { due = tt; ops = plain_at s.script.tracks n h }; stream = refl; commands = refl })
 
 -- ## The form of a journal
@@ -87,7 +87,7 @@ record Shown (script : ScriptData) (files : List (List Frame)) (form : IsScript 
   turns : AreTurns (session_of script files) all_marks (new_run (session_of script files)) script.turns j.rounds
   told : AllTold (session_of script files) form (length script.tracks) (file_words (session_of script files)) (new_run (session_of script files)) script.turns j.rounds
 
-shown : (script : ScriptData) (files : List (List Frame)) (form : IsScript script) (j : JournalData) → HasNoPokes script → IsTurnRun script files j → AllMetLast script files j → Shown script files form j
+shown : (script : ScriptData) (files : List (List Frame)) (form : IsScript script) (j : JournalData) → PlainTracks script.tracks → IsTurnRun script files j → AllMetLast script files j → Shown script files form j
 shown script files form j plain run met =
     let s = session_of script files in
     let many = length script.tracks in
@@ -100,7 +100,7 @@ shown script files form j plain run met =
     }
 
 -- two turn runs of one script without pokes, in each of which each stream proxy takes part in the last meeting, are the same journal
-pub one_turn_run : (script : ScriptData) (files : List (List Frame)) (j k : JournalData) → IsScript script → HasNoPokes script → IsTurnRun script files j → IsTurnRun script files k → AllMetLast script files j → AllMetLast script files k → j ≡ k
+pub one_turn_run : (script : ScriptData) (files : List (List Frame)) (j k : JournalData) → IsScript script → PlainTracks script.tracks → IsTurnRun script files j → IsTurnRun script files k → AllMetLast script files j → AllMetLast script files k → j ≡ k
 one_turn_run script files j k form plain run run_k met met_k =
     let s = session_of script files in
     let h = shown script files form j plain run met in

@@ -10,13 +10,13 @@ use Rattle.af_runs.specs.declared.want.ClientCommand.TheVariants as command
 use Rattle.af_runs.specs.declared.want.Mode.{Mode}
 use Rattle.af_runs.specs.declared.want.Want.{Want}
 use Rattle.af_runs.specs.declared.want.Want.TheVariants as want
-use Rattle.af_runs.specs.Clients.{Client, code_of, only, is_active, is_stoppable, is_stopped, wants_of, begins, begun, asked_first, next_want, rest_of, goes_on, ends, more, is_last, after_sent, after_send, after_put, after_write, state_in, settled_in, after_status, after_clear, after_answer, rested}
+use Rattle.af_runs.specs.Clients.{Client, code_of, is_active, is_stoppable, is_stopped, wants_of, begins, begun, asked_first, next_want, rest_of, goes_on, ends, more, is_last, after_sent, after_send, after_put, after_write, state_in, settled_in, after_status, after_clear, after_answer, rested}
 use Rattle.af_runs.specs.ClientTurns.{Track, argument_of, IsWanted, is_send, is_write, is_status, is_flush, is_clear, wanted_of, commands_sent, with_call, after_call, AreCalls}
 use Rattle.af_one_turn_run.specs.NoPokes.{is_poke_op, is_poke_want, is_poke_call, PlainOps, PlainWants, PlainCalls, IsPlain}
 
 -- ## Ops
 
-only_plain : (b : Bool) (wants : List Want) → PlainWants wants → PlainWants (only b wants)
+only_plain : (b : Bool) (wants : List Want) → PlainWants wants → PlainWants (if b then wants else [])
 only_plain true wants h = h
 only_plain false wants h = tt
 

@@ -6,8 +6,8 @@ use Rattle.af_script.specs.Data.{ScriptData}
 use Rattle.af_script.specs.Form.{IsScript}
 use Rattle.af_runs.specs.TurnRuns.{IsTurnRun}
 use Rattle.af_one_turn_run.specs.MetLast.{AllMetLast}
-use Rattle.af_one_turn_run.specs.NoPokes.{HasNoPokes}
+use Rattle.af_one_turn_run.specs.NoPokes.{PlainTracks}
 
 -- two turn runs of one script without pokes, in each of which each stream proxy takes part in the last meeting, are the same journal
 abbrev pub TurnRunsAreOne : ScriptData → List (List Frame) → JournalData → JournalData → Type 0
-TurnRunsAreOne script files j k = IsScript script → HasNoPokes script → IsTurnRun script files j → IsTurnRun script files k → AllMetLast script files j → AllMetLast script files k → j ≡ k
+TurnRunsAreOne script files j k = IsScript script → PlainTracks script.tracks → IsTurnRun script files j → IsTurnRun script files k → AllMetLast script files j → AllMetLast script files k → j ≡ k

@@ -2,7 +2,6 @@
 use Rattle.std.specs.Prelude.{◌≡◌, Bool, true, false, List, [], ◌∷◌}
 use Rattle.af_base.specs.declared.event.ClientCall.{ClientCall}
 use Rattle.af_base.specs.declared.event.ClientCall.TheVariants as call
-use Rattle.af_script.specs.Data.{ScriptData}
 use Rattle.af_script.specs.declared.op.Op.{Op}
 use Rattle.af_script.specs.declared.op.Op.TheVariants as op
 use Rattle.af_script.specs.declared.track.TrackSpec.{TrackSpec}
@@ -39,10 +38,6 @@ PlainCalls (a ∷ calls) = (is_poke_call a ≡ false) × PlainCalls calls
 abbrev pub PlainTracks : List TrackSpec → Type 0
 PlainTracks [] = Unit {0}
 PlainTracks (track ∷ tracks) = PlainOps track.ops × PlainTracks tracks
-
--- no op of the script is a poke
-abbrev pub HasNoPokes : ScriptData → Type 0
-HasNoPokes script = PlainTracks script.tracks
 
 -- a client that wants no poke, now or later
 pub record IsPlain (c : Client) : Type 0 where

@@ -11,7 +11,7 @@ use Rattle.af_runs.specs.declared.want.ClientCommand.TheVariants as command
 use Rattle.af_runs.specs.declared.want.Mode.{Mode}
 use Rattle.af_runs.specs.declared.want.Want.{Want}
 use Rattle.af_runs.specs.declared.want.Want.TheVariants as want
-use Rattle.af_runs.specs.Clients.{Client, after_answer, at_next_turn, begins, begun, is_active, is_stoppable, is_stopped, more, only, rested, settled_in, state_in, wants_of}
+use Rattle.af_runs.specs.Clients.{Client, after_answer, at_next_turn, begins, begun, is_active, is_stoppable, is_stopped, more, rested, settled_in, state_in, wants_of}
 use Rattle.af_runs.specs.ClientTurns.{asked_by}
 use Rattle.af_party.specs.Asking.{flushed_by, written_by}
 use Rattle.af_party.specs.Works.{IsFitting, IsFittingOp, flushes_due, flushes_to_come, frames_due, frames_to_come}
@@ -55,15 +55,15 @@ left_either s k x y false c d e one other = other
 
 -- ## An op is begun
 
-frames-only : (b : Bool) (wants : List Want) → frames_due wants ≡ 0 → frames_due (only b wants) ≡ 0
+frames-only : (b : Bool) (wants : List Want) → frames_due wants ≡ 0 → frames_due (if b then wants else []) ≡ 0
 frames-only true wants none = none
 frames-only false wants none = refl
 
-flushes-only : (b : Bool) (wants : List Want) → flushes_due (only b wants) ≤ flushes_due wants
+flushes-only : (b : Bool) (wants : List Want) → flushes_due (if b then wants else []) ≤ flushes_due wants
 flushes-only true wants = omega arith
 flushes-only false wants = omega arith
 
-fits-only : (s k : ℕ) (b : Bool) (wants : List Want) → All (IsFitting s k) wants → All (IsFitting s k) (only b wants)
+fits-only : (s k : ℕ) (b : Bool) (wants : List Want) → All (IsFitting s k) wants → All (IsFitting s k) (if b then wants else [])
 fits-only s k true wants h = h
 fits-only s k false wants h = All-nil (IsFitting s k)
 

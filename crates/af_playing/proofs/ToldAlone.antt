@@ -18,7 +18,8 @@ use Rattle.af_tally.specs.Summaries.{summary_of}
 use Rattle.af_rendering.specs.declared.rendering.Played.{Played}
 use Rattle.af_playing.specs.declared.answering.PlayFault.{PlayFault}
 use Rattle.af_playing.specs.declared.answering.PlayFault.TheVariants as fault
-use Rattle.af_playing.specs.PlayedAlone.{IsToldAlone, shown_of_play}
+use Rattle.af_rendering.specs.Alone.{shown_from}
+use Rattle.af_playing.specs.PlayedAlone.{IsToldAlone}
 use Rattle.af_playing.specs.PlayedRuns.{AtLimit, HandedBack, HandsBackRun}
 use Rattle.af_playing.proofs.RunFollows.{Follows, client_words, new_follows, run_follows}
 use Rattle.af_playing.proofs.RunReleased.{AreInOrder, new_order, run_order}
@@ -60,7 +61,7 @@ module _ (ended : Bool) (script : ScriptData) (files : List (List Frame)) (j : J
   all_released : released_by e.clients ≡ map (λ (t : TrackTold). length t.stream.released) run.tracks
   all_released = same_maps e.clients run.tracks (h.count ∙ sym follows.long ∙ length-map run.tracks track_words) one_released
 
-  shown_alone : shown_by script.frames j e.normal.mutator.past.events ≡ shown_of_play script files j
+  shown_alone : shown_by script.frames j e.normal.mutator.past.events ≡ shown_from script j run
   shown_alone =
       let seen = entries_of j.rounds in
       let states : pushed_states e.normal.mutator.past.events ≡ run.states = ap (λ (x : EndsState). pushed_states x.normal.mutator.past.events) h.ends_are ∙ follows.normal.pushed in

@@ -7,18 +7,8 @@ use Rattle.af_runs.specs.LegalRuns.{run_of}
 use Rattle.af_script.specs.Data.{ScriptData}
 use Rattle.af_session.specs.Ends.{EndsState}
 use Rattle.af_session.specs.Shown.{shown_by, summary_told}
-use Rattle.af_tally.specs.declared.summary.Summary.{Summary}
-use Rattle.af_tally.specs.Summaries.{Shown}
-
--- what the run shows that the journal records
-abbrev pub shown_of_play : ScriptData → List (List Frame) → JournalData → Shown
-shown_of_play script files j = shown_from script j (run_of script files j)
-
--- the summary of the run that the journal records
-abbrev pub summary_of_play : ScriptData → List (List Frame) → JournalData → Summary
-summary_of_play script files j = summary_by script j (run_of script files j)
 
 -- what a journal shows with these ends, and the summary, are those of the run that the journal records
 pub record IsToldAlone (script : ScriptData) (files : List (List Frame)) (j : JournalData) (ends : EndsState) : Type 0 where
-  pub summary : summary_told script.frames j ends ≡ summary_of_play script files j
-  pub shown : shown_by script.frames j ends.normal.mutator.past.events ≡ shown_of_play script files j
+  pub summary : summary_told script.frames j ends ≡ summary_by script j (run_of script files j)
+  pub shown : shown_by script.frames j ends.normal.mutator.past.events ≡ shown_from script j (run_of script files j)

@@ -13,7 +13,7 @@ use Rattle.af_rendering.specs.Rendered.{HandsBack}
 use Rattle.af_session.specs.Shown.{shown_by, summary_told}
 use Rattle.af_render_law.proofs.Chain.{FastTurnIsAStep, NormalTurnIsAStep}
 use Rattle.af_render_law.specs.Laws.{ToldBy}
-use Rattle.af_render_law.specs.RenderLaws.{RendersAreToldAlone, run_told, shown_alone, summary_alone}
+use Rattle.af_render_law.specs.RenderLaws.{RendersAreToldAlone, run_told}
 use Rattle.af_render_law.proofs.FastStep.{fast_turns_step}
 use Rattle.af_render_law.proofs.NormalStep.{normal_turns_step}
 use Rattle.af_told_law.specs.KeptEnds.{KeepsLists}
@@ -21,6 +21,7 @@ use Rattle.af_told_law.proofs.EndsKept.{ends_keep_lists, own_at_home}
 use Rattle.af_told_law.proofs.PartsTold.{parts_told}
 use Rattle.af_render_law.proofs.RenderTold.{parties_counted, parties_told, turn_run}
 use Rattle.af_render_law.proofs.SummaryTold.{shown_is, summary_is}
+use Rattle.af_rendering.specs.Alone.{shown_from, summary_by}
 
 module _ (script : ScriptData) (files : List (List Frame)) (j : JournalData) (ends : EndsState) (form : IsScript script) (back : HandsBack script files j ends) where
   abbrev s : Session
@@ -38,10 +39,10 @@ module _ (script : ScriptData) (files : List (List Frame)) (j : JournalData) (en
   told : ToldBy s (run_told script files j) back.parties
   told = parties_told script files form normal fast j ends back
 
-  pub render_summed : summary_told script.frames j ends ≡ summary_alone script files j
+  pub render_summed : summary_told script.frames j ends ≡ summary_by script j (run_told script files j)
   render_summed = summary_is script files j ends back.parties back.ends_are told.told (parties_counted script files form normal fast j ends back)
 
-  pub render_shown : shown_by script.frames j ends.normal.mutator.past.events ≡ shown_alone script files j
+  pub render_shown : shown_by script.frames j ends.normal.mutator.past.events ≡ shown_from script j (run_told script files j)
   render_shown = shown_is script files j ends back.parties back.ends_are told.told
 
   pub render_kept : KeepsLists (run_told script files j) ends

@@ -10,7 +10,7 @@ use Rattle.af_life.specs.declared.kept.TrackKept.{TrackKept}
 use Rattle.af_life.specs.declared.track.Known.{Known}
 use Rattle.af_life.specs.declared.track.Life.{Life}
 use Rattle.af_life.specs.Obeys.{shows_command, is_shut, ended, after_look, goes_on, after_looks, are_due}
-use Rattle.af_life.specs.Reports.{by_report, shut_down}
+use Rattle.af_life.specs.Reports.{by_report}
 use Rattle.af_life.specs.Serves.{most_looks, is_found_shut, IsServed, after_commands, after_part}
 use Rattle.af_judge.proofs.SoundLives.{grew_report}
 use Rattle.af_audit.proofs.Booleans.{no}
@@ -71,7 +71,7 @@ report_ends : (known : Known) (l : Life) → known.shut ≡ true → (by_report 
 unfolding by_report
 report_ends known l shut = by_shut known.shut _ shut
   where
-    by_shut : (b : Bool) (other : Life) → b ≡ true → (if b then shut_down known l else other).ended ≡ true
+    by_shut : (b : Bool) (other : Life) → b ≡ true → (if b then (record l { ended = true; member = false }) else other).ended ≡ true
     by_shut true other is = refl
     by_shut false other is = no is
 

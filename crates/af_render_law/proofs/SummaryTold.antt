@@ -14,9 +14,10 @@ use Rattle.af_session.specs.Shown.{released_by, shown_by, shows, summary_told}
 use Rattle.af_session.specs.Together.{SessionState}
 use Rattle.af_tally.specs.Summaries.{summary_of}
 use Rattle.af_render_law.proofs.Chain.{AreCounted}
-use Rattle.af_render_law.specs.RenderLaws.{run_told, shown_alone, summary_alone}
+use Rattle.af_render_law.specs.RenderLaws.{run_told}
 use Rattle.af_told_law.specs.Tells.{Tells}
 use Rattle.af_told_law.specs.Deeds.{Deeds}
+use Rattle.af_rendering.specs.Alone.{shown_from, summary_by}
 
 -- two lists give the same if each place does
 same_maps : (xs : List PartyState) (ts : List TrackTold) → length ts ≡ length xs → ((i : ℕ) (p : PartyState) (t : TrackTold) → slice_get xs i ≡ Some p → slice_get ts i ≡ Some t → p.stream.released ≡ length t.stream.released)
@@ -34,13 +35,13 @@ module _ (s : Session) (run : Run) {d : Deeds} (x : SessionState) (told : Tells 
       counted i p is ∙ ap (λ (q : Track). length q.stream.released) (sym client) ∙ ap (λ (q : TrackTold). length q.stream.released) here)
 
 -- what the parties show is what the run shows
-pub shown_is : (script : ScriptData) (files : List (List Frame)) (j : JournalData) (ends : EndsState) (x : SessionState) {d : Deeds} → ends ≡ ends_from x → Tells (session_of script files) (run_told script files j) d x → shown_by script.frames j ends.normal.mutator.past.events ≡ shown_alone script files j
+pub shown_is : (script : ScriptData) (files : List (List Frame)) (j : JournalData) (ends : EndsState) (x : SessionState) {d : Deeds} → ends ≡ ends_from x → Tells (session_of script files) (run_told script files j) d x → shown_by script.frames j ends.normal.mutator.past.events ≡ shown_from script j (run_told script files j)
 shown_is script files j ends x is told =
     ap (λ (e : EndsState). shown_by script.frames j e.normal.mutator.past.events) is
     ∙ (λ i. let seen = entries_of j.rounds in shows (told.normal.states i) script.frames j.tracks (map (λ r. r.calls) j.rounds) (map (λ r. r.turn) j.rounds) (frames_of seen) (map (λ e. e.entry) seen))
 
 -- the summary by the parties is that by the run
-pub summary_is : (script : ScriptData) (files : List (List Frame)) (j : JournalData) (ends : EndsState) (x : SessionState) {d : Deeds} → ends ≡ ends_from x → Tells (session_of script files) (run_told script files j) d x → AreCounted x → summary_told script.frames j ends ≡ summary_alone script files j
+pub summary_is : (script : ScriptData) (files : List (List Frame)) (j : JournalData) (ends : EndsState) (x : SessionState) {d : Deeds} → ends ≡ ends_from x → Tells (session_of script files) (run_told script files j) d x → AreCounted x → summary_told script.frames j ends ≡ summary_by script j (run_told script files j)
 summary_is script files j ends x is told counted =
     ap (summary_told script.frames j) is
     ∙ (λ i. let seen = entries_of j.rounds in summary_of (shows (told.normal.states i) script.frames j.tracks (map (λ r. r.calls) j.rounds) (map (λ r. r.turn) j.rounds) (frames_of seen) (map (λ e. e.entry) seen)) (released_told (session_of script files) (run_told script files j) x told counted i))

@@ -21,7 +21,7 @@ use Rattle.af_tally.specs.Sound.{pcm_of}
 use Rattle.af_told_law.proofs.LogDealt.{dealt_whole}
 use Rattle.af_told_law.proofs.LogMore.{all_asked, run_grows}
 use Rattle.af_told_law.proofs.PartsTold.{parts_told}
-use Rattle.af_render_law.specs.TurnsSoFar.{AreTurnsOf, first_turns}
+use Rattle.af_render_law.specs.TurnsSoFar.{AreTurnsOf}
 use Rattle.af_render_law.proofs.FastStep.{fast_turns_step}
 use Rattle.af_render_law.proofs.NormalStep.{normal_turns_step}
 use Rattle.af_render_law.proofs.RenderTold.{turns_seen}
@@ -33,7 +33,7 @@ first_asked zero turns = omega arith
 first_asked (suc n) [] = omega arith
 first_asked (suc n) (turn ∷ turns) = let more = first_asked n turns in omega (arith, more)
 
-first_script : (n : ℕ) (script : ScriptData) → IsScript script → IsScript (first_turns n script)
+first_script : (n : ℕ) (script : ScriptData) → IsScript script → IsScript (record script { turns = take n script.turns })
 first_script n script form = record {
   version = form.version;
   frames = form.frames;
@@ -87,7 +87,7 @@ module _ (script : ScriptData) (files : List (List Frame)) (n : ℕ) (rounds : L
 
   module _ (form : IsScript script) where
     abbrev first : ScriptData
-    first = first_turns n script
+    first = record script { turns = take n script.turns }
 
     abbrev s : Session
     s = session_of first files

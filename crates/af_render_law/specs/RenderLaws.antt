@@ -11,27 +11,17 @@ use Rattle.af_session.specs.Ends.{EndsState}
 use Rattle.af_rendering.specs.Rendered.{HandsBack}
 use Rattle.af_session.specs.Shown.{shown_by, summary_told}
 use Rattle.af_rendering.specs.Alone.{shown_from, summary_by}
-use Rattle.af_tally.specs.declared.summary.Summary.{Summary}
-use Rattle.af_tally.specs.Summaries.{Shown}
 use Rattle.af_told_law.specs.KeptEnds.{KeepsLists}
 
 -- the run after all turns of a script, as a journal tells it
 abbrev pub run_told : ScriptData → List (List Frame) → JournalData → Run
 run_told script files j = let s = session_of script files in run_alone s (new_run s) script.turns j.rounds
 
--- what a render shows by its journal alone, with the states pushed in the run after all turns
-abbrev pub shown_alone : ScriptData → List (List Frame) → JournalData → Shown
-shown_alone script files j = shown_from script j (run_told script files j)
-
--- the summary of a render by its journal alone: that of the run after all turns
-abbrev pub summary_alone : ScriptData → List (List Frame) → JournalData → Summary
-summary_alone script files j = summary_by script j (run_told script files j)
-
 -- What a render hands back: its journal is by itself a turn run of the script and its files, what it shows and the summary are those of the journal alone, and the lists that the ends keep are those of the run that it tells
 pub record IsToldAlone (script : ScriptData) (files : List (List Frame)) (j : JournalData) (ends : EndsState) : Type 0 where
   pub run : IsTurnRun script files j
-  pub summary : summary_told script.frames j ends ≡ summary_alone script files j
-  pub shown : shown_by script.frames j ends.normal.mutator.past.events ≡ shown_alone script files j
+  pub summary : summary_told script.frames j ends ≡ summary_by script j (run_told script files j)
+  pub shown : shown_by script.frames j ends.normal.mutator.past.events ≡ shown_from script j (run_told script files j)
   pub kept : KeepsLists (run_told script files j) ends
 
 abbrev pub RendersAreToldAlone : ScriptData → List (List Frame) → JournalData → EndsState → Type 0

@@ -1,15 +1,11 @@
 -- The turns of a script that were played before a render was cut off.
-use Rattle.std.specs.Prelude.{◌≡◌, ℕ, List, length, take}
+use Rattle.std.specs.Prelude.{◌≡◌, List, length}
 use Rattle.af_base.specs.declared.frame.Frame.{Frame}
 use Rattle.af_model.specs.Journals.{JournalData}
 use Rattle.af_runs.specs.LegalRuns.{marks_of, session_of}
 use Rattle.af_runs.specs.Runs.{new_run}
 use Rattle.af_runs.specs.TurnRuns.{AreTurns}
 use Rattle.af_script.specs.Data.{ScriptData}
-
--- a script of which only the first n turns are played
-abbrev pub first_turns : ℕ → ScriptData → ScriptData
-first_turns n script = record script { turns = take n script.turns }
 
 -- The rounds of a journal are the turns of a script, one by one: each is legal, and each event sees what all before it left
 pub record AreTurnsOf (script : ScriptData) (files : List (List Frame)) (j : JournalData) : Type 0 where

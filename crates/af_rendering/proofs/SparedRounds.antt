@@ -1,7 +1,7 @@
 -- Each round spares the tracks whose clients have not poked.
 use Rattle.std.proofs.Common.{◌≡◌, ◌≢◌, ℕ, zero, suc, ◌+◌, ◌<◌, ◌≤◌, ◌&&◌, Bool, true, false, true≢false, MatchBool, is_some, List, [], ◌∷◌, ◌++◌, length, map, slice_get, slice_set, get_or, Option, Some, None, refl, sym, ap, subst, ◌∙◌, ⊎_elim, arith}
 use Rattle.std.specs.Prelude.{slice_index_or}
-use Rattle.std.specs.List.{list_all}
+use Rattle.std.specs.List.{list_all, flat_map}
 use Rattle.std.proofs.lemmas.Bool.{cases_eq}
 use Rattle.std.proofs.lemmas.List.{get_or-set_same, get_or-set_other, length-replicate, map-append}
 use Rattle.std.proofs.lemmas.List.Folds.{list_all-append}
@@ -33,7 +33,7 @@ use Rattle.af_engine.specs.Met.{Spot, SpotMet, proxies_of, spot_of}
 use Rattle.af_session.specs.Met.{Met, TrackMet}
 use Rattle.af_party.specs.Parties.{PartyState, track_of}
 use Rattle.af_session.specs.Rounds.{Given, IsReady, IsRound, NormalTurned, fast_round, file_at, no_calls, normal_round, ops_at, still_round, with_ends}
-use Rattle.af_session.specs.Shown.{calls_over, turn_in, turns_over}
+use Rattle.af_session.specs.Shown.{calls_over, turn_in}
 use Rattle.af_tally.specs.Summaries.{has_no_poke}
 use Rattle.af_session.specs.Together.{SessionState}
 use Rattle.af_session.proofs.FollowingRounds.{EndsKeep, calls_more, empty_at, ends_keep, no_call, turns_more}
@@ -57,7 +57,7 @@ module _ (rounds : List RoundNoted) (r : RoundNoted) where
   more_calls i = ap (λ (xs : List (List (List ClientCall))). calls_over xs i) (map-append (λ (x : RoundNoted). x.calls) rounds (r ∷ [])) ∙ calls_more (map (λ (x : RoundNoted). x.calls) rounds) r.calls i
 
   more_turns : all_turns (rounds ++ r ∷ []) ≡ all_turns rounds ++ turn_in r.turn
-  more_turns = ap turns_over (map-append (λ (x : RoundNoted). x.turn) rounds (r ∷ [])) ∙ turns_more (map (λ (x : RoundNoted). x.turn) rounds) r.turn
+  more_turns = ap (λ rounds. flat_map turn_in rounds) (map-append (λ (x : RoundNoted). x.turn) rounds (r ∷ [])) ∙ turns_more (map (λ (x : RoundNoted). x.turn) rounds) r.turn
 
   apart : (i : ℕ) → has_no_poke (all_calls (rounds ++ r ∷ []) i) ≡ true → (has_no_poke (all_calls rounds i) && has_no_poke (calls_in_round r i)) ≡ true
   apart i calm = sym (list_all-append _ (all_calls rounds i) (calls_in_round r i)) ∙ sym (ap has_no_poke (more_calls i)) ∙ calm

@@ -1,6 +1,6 @@
 -- What pokes may do: shut their own track, and no other.
 use Rattle.std.specs.Prelude.{◌≡◌, ℕ, ◌<◌, ◌==◌, ◌&&◌, not, Bool, true, List, length, map, slice_get, Some}
-use Rattle.std.specs.List.{list_all}
+use Rattle.std.specs.List.{list_all, flat_map}
 use Rattle.af_base.specs.declared.event.ClientCall.{ClientCall}
 use Rattle.af_audit.specs.Spared.{none_corrupt}
 use Rattle.af_base.specs.Turn.{Turn}
@@ -9,7 +9,7 @@ use Rattle.af_life.specs.Obeys.{is_shut}
 use Rattle.af_model.specs.History.{is_lawful as is_tame}
 use Rattle.af_model.specs.Journals.{RoundNoted}
 use Rattle.af_party.specs.Parties.{PartyState}
-use Rattle.af_session.specs.Shown.{calls_over, turns_over}
+use Rattle.af_session.specs.Shown.{calls_over, turn_in}
 use Rattle.af_tally.specs.Summaries.{EntryUsed, Look, Shown, calls_of, entry_looks, has_no_poke, is_lawful, turn_looks}
 use Rattle.af_session.specs.Together.{SessionState}
 
@@ -50,7 +50,7 @@ all_calls rounds i = calls_over (map (λ r. r.calls) rounds) i
 
 -- all turns of the normal mixer in some rounds
 abbrev pub all_turns : List RoundNoted → List Turn
-all_turns rounds = turns_over (map (λ r. r.turn) rounds)
+all_turns rounds = flat_map turn_in (map (λ r. r.turn) rounds)
 
 -- In these rounds each track was spared whose client poked nothing, and the lists of such a client hold no poke
 pub record SparesSoFar (rounds : List RoundNoted) (s : SessionState) : Type 0 where

@@ -8,7 +8,8 @@ use Rattle.af_runs.specs.declared.want.Mode.{Mode}
 use Rattle.af_runs.specs.declared.want.Want.TheVariants as want
 use Rattle.af_runs.specs.Kept.{WritesLast}
 use Rattle.af_runs.specs.declared.want.Want.{Want}
-use Rattle.af_runs.specs.Clients.{Client, begins, begun, is_active, is_stoppable, is_stopped, only, wants_of}
+use Rattle.af_runs.specs.Clients.{Client, begins, begun, is_active, is_stoppable, is_stopped, wants_of}
+use Rattle.std.specs.Prelude.{if◌then◌else◌}
 
 -- what is begun hangs on the mode and on what is handed on alone
 pub begins-same : (c : Client) (due wants : List Want) (left ops : List Op) → begins (record c { due = due; ops = left }) wants ops ≡ begins c wants ops
@@ -21,7 +22,7 @@ pub begun-next : (c : Client) (o : Op) (ops : List Op) → c.due ≡ [] → c.op
 begun-next c o ops none next = begins-same c (wants_of c.mode o) (wants_of c.mode o) ops ops ∙ sym (ap (λ due. begins c due c.ops) none ∙ ap (begins c []) next)
 
 -- nothing is wanted after a write
-only-last : (b : Bool) (wants : List Want) → WritesLast wants → WritesLast (only b wants)
+only-last : (b : Bool) (wants : List Want) → WritesLast wants → WritesLast (if b then wants else [])
 only-last true wants last = last
 only-last false wants last = tt
 

@@ -24,7 +24,7 @@ use Rattle.af_model.specs.Cycles.{still_entry}
 use Rattle.af_model.specs.History.{Moment, by_client, by_server, by_hand}
 use Rattle.af_model.specs.Journals.{EntrySeen, RoundSeen, JournalData, taken_by}
 use Rattle.af_model.specs.JournalForm.{IsJournal, IsRound, IsCommandLook, IsTake}
-use Rattle.af_model.specs.Numbers.{FitCalls, FitsCall, FitsEntry, FitsLook, FitsRound, FitsTake, FitsTrack, FitsTurn, HasRanges}
+use Rattle.af_model.specs.Numbers.{FitsCall, FitsEntry, FitsLook, FitsRound, FitsTake, FitsTrack, FitsTurn, HasRanges}
 use Rattle.af_model.proofs.NumbersFit.{still_fits}
 use Rattle.af_model.specs.Order.{one, two}
 use Rattle.af_model.specs.declared.states.MutatorEvent.TheVariants as mutator
@@ -36,12 +36,13 @@ use Rattle.af_script.specs.Data.{ScriptData}
 use Rattle.af_script.specs.Ops.{cells_of}
 use Rattle.af_script.specs.declared.op.Op.TheVariants as op
 use Rattle.af_runs.specs.Blocks.{HasBlockHistory, listed}
-use Rattle.af_runs.specs.Found.{outside_of, lawful_outside}
-use Rattle.af_runs.specs.LegalRuns.{IsCutRun, IsRunSoFar, marks_of, session_of, run_of}
+use Rattle.af_runs.specs.Found.{outside_of, outside_with}
+use Rattle.af_runs.specs.LegalRuns.{IsCutRun, marks_of, session_of, run_of, HasLegalRounds}
 use Rattle.af_runs.specs.Rounds.{LegalEntry, LegalRound, LegalFastTurn, LegalNormalTurn, TrackHistories, SharedHistories, found_in, met_after, all_played}
 use Rattle.af_runs.specs.Runs.{Run, new_run, told_at, sides_of, state_for, stream_of, last_report, with_calls, with_poll, with_mix, with_turn, with_load, met, with_ends, all_ended}
 use Rattle.af_runs.specs.ClientTurns.{LegalClientTurn}
 use Rattle.af_runs.specs.Sessions.{Session, setup_of}
+use Rattle.af_runs.specs.Fronts.{lawful_front}
 
 abbrev script : ScriptData
 script = record { version = 1; frames = 1; normal = 1; cycles = 1; tracks = record { fast = true; frames = 2; mono = false; base = 0; scale = 4096; file = []; ops = op.OpenTrack ∷ op.Write 3 ∷ op.Remove ∷ [] } ∷ []; turns = [] }
@@ -86,7 +87,7 @@ abbrev HasCommandLooks : TrackSeen → Type 0
 HasCommandLooks t = All IsCommandLook t.looks
 
 -- the numbers of the calls
-calls_fit : FitCalls (call.Sent 0 1 0 ∷ call.Put 0 2 ∷ call.Full 0 ∷ [])
+calls_fit : All FitsCall (call.Sent 0 1 0 ∷ call.Put 0 2 ∷ call.Full 0 ∷ [])
 calls_fit = All-from_recursion FitsCall (call.Sent 0 1 0 ∷ call.Put 0 2 ∷ call.Full 0 ∷ []) ((lit< tt, (lit< tt, (lit< tt, tt))), ((lit< tt, (lit< tt, tt)), ((lit< tt, tt), tt)))
 
 -- those of the turn
@@ -104,7 +105,7 @@ numbers : HasRanges journal
 numbers = record {
   tracks = lit< tt;
   rounds = All-cons FitsRound round [] (
-    (All-cons FitCalls (call.Sent 0 1 0 ∷ call.Put 0 2 ∷ call.Full 0 ∷ []) [] calls_fit (All-nil FitCalls), turn_fits),
+    (All-cons (λ calls. All FitsCall calls) (call.Sent 0 1 0 ∷ call.Put 0 2 ∷ call.Full 0 ∷ []) [] calls_fit (All-nil (λ calls. All FitsCall calls)), turn_fits),
     All-cons (λ (e : EntrySeen). FitsEntry e.entry) entry [] (still_fits 0 cycle.Idle (lit< tt)) (All-nil (λ (e : EntrySeen). FitsEntry e.entry)),
   ) (All-nil FitsRound);
 }
@@ -154,7 +155,7 @@ turn_legal : LegalTurn (setup_of session) outside start.normal turn
 turn_legal = record { ends = refl; still = λ none. absurd (true≢false (sym none)); goes_on = λ going. turn_goes_on }
 
 -- no front is open
-same_fronts : (track : ℕ) → outside.command_fronts track ≡ (lawful_outside (setup_of session) (found_in session start round turn) turn).command_fronts track
+same_fronts : (track : ℕ) → outside.command_fronts track ≡ (outside_with lawful_front (setup_of session) (found_in session start round turn) turn).command_fronts track
 unfolding cells_of with_calls with_poll with_mix
 same_fronts zero = refl
 same_fronts (suc track) = refl
@@ -262,7 +263,7 @@ round_legal = record {
   histories = record { blocks = only (TrackHistories session after) (record { stream = λ took_part tame. stream_history; commands = λ took_part tame. command_history }); shared = shared };
 }
 
-so_far : IsRunSoFar script files journal
+so_far : HasLegalRounds true script files journal
 so_far = record { tracks = refl; form = form; rounds = (round_legal, tt) }
 
 log_full : length (run_of script files journal).entries ≡ 1

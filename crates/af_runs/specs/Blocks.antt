@@ -80,10 +80,6 @@ meets b = server_does (server.Learn (length (client_list b)) ∷ []) (client_doe
 abbrev pub meets_flag : BlockTold → BlockTold
 meets_flag b = hand_does (hand.Met (length (client_list b)) ∷ []) b
 
--- all three meet: first client and server, then client and hand
-abbrev pub meets_all : BlockTold → BlockTold
-meets_all b = meets_flag (meets b)
-
 -- ## History
 
 -- the lists of the parties stand in some legal order, by which the frames taken are those released at their places

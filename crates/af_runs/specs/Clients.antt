@@ -51,18 +51,14 @@ is_stoppable mode.Active = true
 is_stoppable mode.Paused = true
 is_stoppable _ = false
 
--- these wants, if this holds
-abbrev pub only : Bool → List Want → List Want
-only b wants = if b then wants else []
-
 -- what an op wants in a mode, in this order. An op that wants nothing is done at once
 abbrev pub wants_of : Mode → Op → List Want
 wants_of m op.OpenTrack = want.Send command.Open ∷ []
-wants_of m op.Start = only (not (is_active m)) (want.Send command.Start ∷ want.Settled ∷ [])
-wants_of m op.Pause = only (is_active m) (want.Send command.Pause ∷ [])
-wants_of m op.Stop = only (is_stoppable m) (want.Send command.Stop ∷ [])
-wants_of m op.Flush = only (not (is_active m)) (want.Flush ∷ want.Send command.Flush ∷ [])
-wants_of m op.Drain = only (is_stopped m) (want.Drained ∷ [])
+wants_of m op.Start = if not (is_active m) then want.Send command.Start ∷ want.Settled ∷ [] else []
+wants_of m op.Pause = if is_active m then want.Send command.Pause ∷ [] else []
+wants_of m op.Stop = if is_stoppable m then want.Send command.Stop ∷ [] else []
+wants_of m op.Flush = if not (is_active m) then want.Flush ∷ want.Send command.Flush ∷ [] else []
+wants_of m op.Drain = if is_stopped m then want.Drained ∷ [] else []
 wants_of m op.Remove = want.Send command.Remove ∷ []
 wants_of m op.Yield = want.Rest ∷ []
 wants_of m (op.Gain left right) = want.Gain left right ∷ []

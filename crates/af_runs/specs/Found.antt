@@ -35,14 +35,10 @@ outside_with front c f e = record {
 abbrev pub outside_of : Setup → TurnFound → Turn → Outside
 outside_of c f e = outside_with front_of c f e
 
--- what a turn sees beside its entry, on blocks without a poke
-abbrev pub lawful_outside : Setup → TurnFound → Turn → Outside
-lawful_outside c f e = outside_with lawful_front c f e
-
 -- The turn follows from what was kept and from what it found. On a lawful block each front that an answer leaves open is the server's own, and on another it may be any
 pub record LegalTurnBy (c : Setup) (marks : Marks) (f : TurnFound) (m : NormalKept) (e : Turn) : Type 0 where
   pub outside : Outside
   pub found : outside ≡ record (outside_of c f e) { stream_front = outside.stream_front; command_fronts = outside.command_fronts }
-  pub streams : (track : ℕ) → marks.streams track ≡ true → outside.stream_front track ≡ (lawful_outside c f e).stream_front track
-  pub commands : (track : ℕ) → marks.commands track ≡ true → outside.command_fronts track ≡ (lawful_outside c f e).command_fronts track
+  pub streams : (track : ℕ) → marks.streams track ≡ true → outside.stream_front track ≡ (outside_with lawful_front c f e).stream_front track
+  pub commands : (track : ℕ) → marks.commands track ≡ true → outside.command_fronts track ≡ (outside_with lawful_front c f e).command_fronts track
   pub legal : LegalTurn c outside m e

@@ -54,7 +54,7 @@ LegalRounds cut s marks run (round ∷ rounds) = LegalRound cut s marks run roun
 
 -- ## Journals
 
--- a journal of the script's tracks, each round of which is legal
+-- A journal of the script's tracks, each round of which is legal: a run so far. If it may be cut off, the last turn of the fast mixer may have ended since the log is full. After no round before the last have all parties ended
 pub record HasLegalRounds (cut : Bool) (script : ScriptData) (files : List (List Frame)) (j : JournalData) : Type 0 where
   pub tracks : j.tracks ≡ length script.tracks
   pub form : IsJournal j
@@ -65,12 +65,8 @@ pub record IsLegalRun (script : ScriptData) (files : List (List Frame)) (j : Jou
   pub rounds : HasLegalRounds false script files j
   pub ends : all_ended (session_of script files) (run_of script files j) ≡ true
 
--- a run so far: after no round before the last have all parties ended, and the last turn of the fast mixer may have ended since the log is full
-abbrev pub IsRunSoFar : ScriptData → List (List Frame) → JournalData → Type 0
-IsRunSoFar script files j = HasLegalRounds true script files j
-
 -- a cut run: after the last round, and after none before it, the log is full, and some party hasn't ended
 pub record IsCutRun (script : ScriptData) (files : List (List Frame)) (j : JournalData) : Type 0 where
-  pub rounds : IsRunSoFar script files j
+  pub rounds : HasLegalRounds true script files j
   pub full : length (run_of script files j).entries ≡ script.cycles
   pub going : all_ended (session_of script files) (run_of script files j) ≡ false

@@ -26,7 +26,7 @@ use Rattle.af_model.specs.Reports.{ServerKnown, slot_report, no_report, report_a
 use Rattle.af_model.specs.ServerCalls.{flushes_by}
 use Rattle.af_model.specs.StateQueue.{slot_of, carries}
 use Rattle.af_script.specs.Ops.{power_above}
-use Rattle.af_runs.specs.Blocks.{BlockTold, new_block, client_list, listed, client_does, server_does, hand_does, took, meets, meets_flag, meets_all}
+use Rattle.af_runs.specs.Blocks.{BlockTold, new_block, client_list, listed, client_does, server_does, hand_does, took, meets, meets_flag}
 use Rattle.af_runs.specs.Clients.{Client, new_client, ends}
 use Rattle.af_runs.specs.ClientTurns.{Side, Track, after_calls}
 use Rattle.af_runs.specs.Found.{TurnFound, outside_of}
@@ -104,13 +104,13 @@ sides_of t = record { file = t.file; client = t.client; stream = side_of t.strea
 abbrev pub with_side : Side → BlockTold → BlockTold
 with_side side b = record (client_does (drop (length (client_list b)) side.events) b) { released = side.released }
 
--- a track whose client's sides have become these
-abbrev pub with_sides : Track → TrackTold → TrackTold
-with_sides after t = record t { client = after.client; stream = with_side after.stream t.stream; commands = with_side after.commands t.commands }
-
 -- a track whose client made these calls in a turn
 abbrev pub called : List ClientCall → TrackTold → TrackTold
-called calls t = with_sides (after_calls (sides_of t) calls) t
+called calls t = let after = after_calls (sides_of t) calls in record t {
+  client = after.client;
+  stream = with_side after.stream t.stream;
+  commands = with_side after.commands t.commands;
+}
 
 -- the calls of a track's client in a round
 abbrev pub calls_in : RoundSeen → ℕ → List ClientCall
@@ -185,15 +185,13 @@ next_report s run entry = record { cycle = length run.entries + 1; slots = map (
 abbrev pub with_looks : Session → EntrySeen → Run → Run
 with_looks s e run = record (each_track (mixed_track s (state_for s run e.entry.state) e) run) { pipe = mixed_pipe e run.pipe }
 
--- the entry is added, and the report stored
-abbrev pub with_report : Session → CycleEntry → Run → Run
-with_report s entry run =
-    let report = next_report s run entry in
-    record run { entries = run.entries ++ entry ∷ []; reports = run.reports ++ report ∷ []; report = run.report ++ one (Store report) ∷ [] }
-
--- the fast mixer's entry after its poll: its looks, and the report
+-- the fast mixer's entry after its poll: its looks; then the entry is added, and the report stored
 unfoldable pub with_mix : Session → EntrySeen → Run → Run
-with_mix s e run = with_report s e.entry (with_looks s e run)
+with_mix s e run = let looked = with_looks s e run in let report = next_report s looked e.entry in record looked {
+  entries = looked.entries ++ e.entry ∷ [];
+  reports = looked.reports ++ report ∷ [];
+  report = looked.report ++ one (Store report) ∷ [];
+}
 
 -- a whole cycle
 abbrev pub with_cycle : Session → Run → EntrySeen → Run
@@ -295,9 +293,9 @@ holds s run track =
 abbrev pub takes_part : Session → Run → ℕ → Bool
 takes_part s run track = is_home (track_at run.normal.tracks track).holder || holds s run track
 
--- A stream block after a meeting, in which its proxy takes part or not, and its hand once it is there
+-- A stream block after a meeting, in which its proxy takes part or not, and its hand once it is there: if all three meet, first client and server, then client and hand
 abbrev pub stream_met : Bool → Bool → BlockTold → BlockTold
-stream_met true true b = meets_all b
+stream_met true true b = meets_flag (meets b)
 stream_met true false b = meets b
 stream_met false true b = meets_flag b
 stream_met false false b = b

@@ -1,10 +1,10 @@
 -- What holds of the values that steps find.
 use Rattle.std.proofs.Common.{◌≡◌, ℕ, suc, ◌+◌, ◌≤◌, ◌&&◌, nat_le, ℤ, pos, negsuc, Bool, true, false, List, ◌∷◌, length, Option, Some, None, Result, Ok, Err, refl, ap, arith, if◌then◌else◌}
-use Rattle.std.specs.Prelude.{All, IfSome, ok_or, option_and_then, option_map}
+use Rattle.std.specs.Prelude.{All, IfSome, ok_or, option_and_then, option_map, ◌==◌}
 use Rattle.std.proofs.lemmas.Bool.Decides.{nat_tests}
 use Rattle.std.proofs.lemmas.List.Elements.{All-nil, All-cons}
 use Rattle.toml.specs.Data.{Data, Items, no_items, item, Members, as_integer}
-use Rattle.af_script.specs.Text.{within, is_number, number_within, after, number_after, is_space, pair_within, pair_after}
+use Rattle.af_script.specs.Text.{within, is_number, number_within, after, number_after, pair_within, pair_after}
 use Rattle.std.specs.List.{before_first, after_first}
 use Rattle.std.specs.Str.Parse.{digits_value}
 use Rattle.af_script.specs.Tree.{value_at, count_of}
@@ -109,5 +109,5 @@ pair-holds first second (Some left) (Some right) ha hb = (ha.1, hb.1)
 pub pair_after-holds : (word : List ℕ) (first second : ℕ) (text : List ℕ) → IfSome (pair_after word first second text) (AreIn first second)
 pair_after-holds word first second text =
     and_then-holds (AreIn first second) (after word text) (pair_within first second)
-    (λ rest. pair-holds first second (number_within 0 first (before_first is_space rest)) (number_within 0 second (after_first is_space rest))
-    (number_within-holds 0 first (before_first is_space rest)) (number_within-holds 0 second (after_first is_space rest)))
+    (λ rest. pair-holds first second (number_within 0 first (before_first (λ c. c == 32) rest)) (number_within 0 second (after_first (λ c. c == 32) rest))
+    (number_within-holds 0 first (before_first (λ c. c == 32) rest)) (number_within-holds 0 second (after_first (λ c. c == 32) rest)))

@@ -12,7 +12,7 @@ use Rattle.toml_writer.specs.Text.{is_control, has, needs_escape, quotes_after, 
 use Rattle.af_script.specs.Bounds.{most_tracks}
 use Rattle.af_script.specs.Text.{is_name_byte, begins_name, is_name}
 use Rattle.af_script.specs.Form.{HasOpNumbers, IsTurn}
-use Rattle.af_script.specs.Printing.{pair_text, op_text, turn_text, kind_text, quoted}
+use Rattle.af_script.specs.Printing.{op_text, turn_text, kind_text, quoted}
 use Rattle.af_script.specs.declared.op.Op.{Op}
 use Rattle.af_script.specs.declared.op.Op.TheVariants.{OpenTrack, Start, Pause, Stop, Flush, Drain, Remove, Yield, Gain, Write, Poke}
 use Rattle.af_script.specs.declared.op.TurnSpec.{TurnSpec}
@@ -137,7 +137,7 @@ name-word s name = all-word is_name_byte name-byte s (and_parts _ (list_all is_n
 append-word : (s t : List ℕ) → IsWord s → IsWord t → IsWord (s ++ t)
 append-word s t here there = list_all-append is_word_byte s t ∙ rw (here, there) refl
 
-pair-word : (word : List ℕ) (l r : ℕ) → IsWord word → l < 2 ^ 64 → r < 2 ^ 64 → IsWord (pair_text word l r)
+pair-word : (word : List ℕ) (l r : ℕ) → IsWord word → l < 2 ^ 64 → r < 2 ^ 64 → IsWord (word ++ (decimal l ++ (codes " " ++ decimal r)))
 unfolding is_word_byte
 pair-word word l r is small_l small_r =
     append-word word (decimal l ++ (codes " " ++ decimal r)) is (append-word (decimal l) (codes " " ++ decimal r) (decimal-word l small_l) (append-word (codes " ") (decimal r) refl (decimal-word r small_r)))

@@ -10,10 +10,10 @@ use Rattle.std.proofs.lemmas.Fmt.{first_decimal, digits_decimal, digits_value-de
 use Rattle.std.proofs.lemmas.List.{take_at, drop_at}
 use Rattle.std.proofs.Math.Nat.{pow-le-pow_right}
 use Rattle.af_script.specs.Bounds.{most_gain, most_write, most_value, most_fast, most_tracks, header_words, command_frames}
-use Rattle.af_script.specs.Text.{has_no_leading_zero, within, number_within, is_space, pair_within}
+use Rattle.af_script.specs.Text.{has_no_leading_zero, within, number_within, pair_within}
 use Rattle.af_script.specs.Ops.{power_above, cells_of, words_of, gain_of, write_of, poke_stream, poke_command, op_of, client_of, fast_of, turn_of}
 use Rattle.af_script.specs.Form.{HasOpNumbers, IsTurn}
-use Rattle.af_script.specs.Printing.{pair_text, op_text, turn_text}
+use Rattle.af_script.specs.Printing.{op_text, turn_text}
 use Rattle.af_script.specs.declared.op.Op.{Op}
 use Rattle.af_script.specs.declared.op.Op.TheVariants.{OpenTrack, Start, Pause, Stop, Flush, Drain, Remove, Yield, Gain, Write, Poke}
 use Rattle.af_script.specs.declared.op.TurnSpec.{TurnSpec}
@@ -47,28 +47,28 @@ number_within-decimal low high n l h small =
 apart : (c : ℕ) → is_ascii_digit c ≡ true → (c == 32) ≡ false
 apart c digit = grind (arith, nat_tests)
 
-space_at : (ds rest : List ℕ) → list_all is_ascii_digit ds ≡ true → position_or_len is_space (ds ++ 32 ∷ rest) ≡ length ds
+space_at : (ds rest : List ℕ) → list_all is_ascii_digit ds ≡ true → position_or_len (λ c. c == 32) (ds ++ 32 ∷ rest) ≡ length ds
 space_at [] rest all = refl
 space_at (c ∷ ds) rest all =
     let (here, more) = and_parts (is_ascii_digit c) (list_all is_ascii_digit ds) all in
-    let e : position_or_len is_space (ds ++ 32 ∷ rest) ≡ length ds = space_at ds rest more in
+    let e : position_or_len (λ c. c == 32) (ds ++ 32 ∷ rest) ≡ length ds = space_at ds rest more in
     rw (apart c here) (omega arith)
 
 drop_past : (ds : List ℕ) (c : ℕ) (rest : List ℕ) → drop (suc (length ds)) (ds ++ c ∷ rest) ≡ rest
 drop_past [] c rest = refl
 drop_past (d ∷ ds) c rest = drop_past ds c rest
 
-front : (ds rest : List ℕ) → list_all is_ascii_digit ds ≡ true → before_first is_space (ds ++ 32 ∷ rest) ≡ ds
+front : (ds rest : List ℕ) → list_all is_ascii_digit ds ≡ true → before_first (λ c. c == 32) (ds ++ 32 ∷ rest) ≡ ds
 front ds rest all = ap (λ n. take n (ds ++ 32 ∷ rest)) (space_at ds rest all) ∙ take_at ds (32 ∷ rest) (length ds) refl
 
-back : (ds rest : List ℕ) → list_all is_ascii_digit ds ≡ true → after_first is_space (ds ++ 32 ∷ rest) ≡ rest
+back : (ds rest : List ℕ) → list_all is_ascii_digit ds ≡ true → after_first (λ c. c == 32) (ds ++ 32 ∷ rest) ≡ rest
 back ds rest all = ap (λ n. drop (n + 1) (ds ++ 32 ∷ rest)) (space_at ds rest all) ∙ ap (λ n. drop n (ds ++ 32 ∷ rest)) (add-one (length ds)) ∙ drop_past ds 32 rest
 
-pair_by : (first second l r : ℕ) (text left right : List ℕ) → before_first is_space text ≡ left → after_first is_space text ≡ right → number_within 0 first left ≡ Some l → number_within 0 second right ≡ Some r → pair_within first second text ≡ Some (l, r)
+pair_by : (first second l r : ℕ) (text left right : List ℕ) → before_first (λ c. c == 32) text ≡ left → after_first (λ c. c == 32) text ≡ right → number_within 0 first left ≡ Some l → number_within 0 second right ≡ Some r → pair_within first second text ≡ Some (l, r)
 pair_by first second l r text left right is_left is_right here there =
-    let e : number_within 0 first (before_first is_space text) ≡ Some l = ap (number_within 0 first) is_left ∙ here in
-    let f : number_within 0 second (after_first is_space text) ≡ Some r = ap (number_within 0 second) is_right ∙ there in
-    ap (option_and_then (λ m. option_map (λ n. (m, n)) (number_within 0 second (after_first is_space text)))) e
+    let e : number_within 0 first (before_first (λ c. c == 32) text) ≡ Some l = ap (number_within 0 first) is_left ∙ here in
+    let f : number_within 0 second (after_first (λ c. c == 32) text) ≡ Some r = ap (number_within 0 second) is_right ∙ there in
+    ap (option_and_then (λ m. option_map (λ n. (m, n)) (number_within 0 second (after_first (λ c. c == 32) text)))) e
     ∙ ap (option_map (λ n. (l, n))) f
 
 pair_within-decimals : (first second l r : ℕ) → l ≤ first → r ≤ second → l < 2 ^ 64 → r < 2 ^ 64 → pair_within first second (decimal l ++ 32 ∷ decimal r) ≡ Some (l, r)

@@ -34,10 +34,7 @@ most_base = 4294967295
 abbrev pub unity_scale : ℕ
 unity_scale = 4096
 
--- the bytes of a name, the ops of a track and the turns of a script as they are written
-abbrev pub most_name : ℕ
-most_name = 64
-
+-- the ops of a track and the turns of a script as they are written
 abbrev pub most_ops : ℕ
 most_ops = 4096
 

@@ -13,10 +13,6 @@ use Rattle.af_script.specs.declared.fault.KeyId.TheVariants as key
 
 -- ## Words
 
--- a word and two numbers, with one space between them
-abbrev pub pair_text : List ℕ → ℕ → ℕ → List ℕ
-pair_text word first second = word ++ (decimal first ++ (codes " " ++ decimal second))
-
 -- an op
 abbrev pub op_text : Op → List ℕ
 op_text OpenTrack = codes "open"
@@ -27,10 +23,10 @@ op_text Flush = codes "flush"
 op_text Drain = codes "drain"
 op_text Remove = codes "remove"
 op_text Yield = codes "yield"
-op_text (Gain left right) = pair_text (codes "gain ") left right
+op_text (Gain left right) = codes "gain " ++ (decimal left ++ (codes " " ++ decimal right))
 op_text (Write count) = codes "write " ++ decimal count
-op_text (Poke false word value) = pair_text (codes "poke stream ") word value
-op_text (Poke true word value) = pair_text (codes "poke command ") word value
+op_text (Poke false word value) = codes "poke stream " ++ (decimal word ++ (codes " " ++ decimal value))
+op_text (Poke true word value) = codes "poke command " ++ (decimal word ++ (codes " " ++ decimal value))
 
 -- a turn
 abbrev pub turn_text : TurnSpec → List ℕ

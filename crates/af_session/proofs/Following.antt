@@ -27,13 +27,18 @@ use Rattle.af_link.specs.declared.names.StreamNames.{StreamNames}
 use Rattle.af_fast.specs.Mixer.{IsInOrder, MixerState, is_over}
 use Rattle.af_fast.specs.Mixing.{AddsCycle, Adopts, MixesOnce, Writes}
 use Rattle.af_session.specs.Met.{Met}
-use Rattle.af_session.specs.Shown.{Follows, HasPlaces, entries_written, entry_written, frames_written, shown_at, shows, use_of}
+use Rattle.af_session.specs.Shown.{Follows, HasPlaces, frames_written, shown_at, shows, use_of}
 use Rattle.af_tally.specs.Sound.{IsWhole}
 use Rattle.af_tally.specs.Steps.{most_steps}
 use Rattle.af_tally.specs.Summaries.{EntryUsed, Shown, with_entry, with_written}
 use Rattle.af_tally.specs.Tallies.{Tallied, IsTally, Keeps, most_looks}
 use Rattle.af_session.specs.Together.{SessionState}
 use Rattle.af_tally.proofs.Sounding.{takes_stay}
+use Rattle.std.specs.List.{flat_map}
+
+-- the frames that an entry wrote, at this length of a cycle: those of its mix, from the frames of its log
+abbrev entry_written : ℕ → List Frame → CycleEntry → List Frame
+entry_written len frames entry = frames_written entry.cycle (mix (takes_of frames entry) len)
 
 -- ## States
 
@@ -154,11 +159,11 @@ entry_written_stays len frames more entry within = same_written entry.cycle (mix
     (λ mixed. ap (λ (takes : List Take). mix takes len) (takes_stay frames more entry within mixed))
 
 -- frames that are added to a log leave the frames that all its entries wrote as they were
-written_stays : (len : ℕ) (frames more : List Frame) (entries : List CycleEntry) → All (LieWithin frames) entries → entries_written len (frames ++ more) entries ≡ entries_written len frames entries
+written_stays : (len : ℕ) (frames more : List Frame) (entries : List CycleEntry) → All (LieWithin frames) entries → flat_map (entry_written len (frames ++ more)) entries ≡ flat_map (entry_written len frames) entries
 written_stays len frames more [] all = refl
 written_stays len frames more (entry ∷ entries) all =
     flat_map-cons (entry_written len (frames ++ more)) entry entries
-    ∙ ap (λ (out : List Frame). out ++ entries_written len (frames ++ more) entries) (entry_written_stays len frames more entry (All-head (LieWithin frames) entry entries all))
+    ∙ ap (λ (out : List Frame). out ++ flat_map (entry_written len (frames ++ more)) entries) (entry_written_stays len frames more entry (All-head (LieWithin frames) entry entries all))
     ∙ ap (λ (out : List Frame). entry_written len frames entry ++ out) (written_stays len frames more entries (All-tail (LieWithin frames) entry entries all))
     ∙ sym (flat_map-cons (entry_written len frames) entry entries)
 
@@ -178,10 +183,10 @@ shows_entry states len tracks calls turns frames more entries entry state out wi
     let before : Shown = shows states len tracks calls turns frames entries in
     let used : map (use_of states) (entries ++ entry ∷ []) ≡ before.entries ++ record { entry = entry; state = state } ∷ [] =
     map-append (use_of states) entries (entry ∷ []) ∙ (λ i. map (use_of states) entries ++ record { entry = entry; state = is i } ∷ []) in
-    let alone : entries_written len (frames ++ more) (entry ∷ []) ≡ out = flat_map-cons (entry_written len (frames ++ more)) entry [] ∙ append-nil (entry_written len (frames ++ more) entry) ∙ wrote in
-    let written : entries_written len (frames ++ more) (entries ++ entry ∷ []) ≡ before.written ++ out =
+    let alone : flat_map (entry_written len (frames ++ more)) (entry ∷ []) ≡ out = flat_map-cons (entry_written len (frames ++ more)) entry [] ∙ append-nil (entry_written len (frames ++ more) entry) ∙ wrote in
+    let written : flat_map (entry_written len (frames ++ more)) (entries ++ entry ∷ []) ≡ before.written ++ out =
     flat_map-append (entry_written len (frames ++ more)) entries (entry ∷ [])
-    ∙ ap (λ (xs : List Frame). entries_written len (frames ++ more) entries ++ xs) alone
+    ∙ ap (λ (xs : List Frame). flat_map (entry_written len (frames ++ more)) entries ++ xs) alone
     ∙ ap (λ (xs : List Frame). xs ++ out) (written_stays len frames more entries within) in
     λ i. record before { entries = used i; written = written i }
 

@@ -1,7 +1,7 @@
 -- How what a run shows follows the rounds.
 use Rattle.std.proofs.Common.{◌≡◌, ◌≢◌, ℕ, zero, suc, ◌+◌, ◌-◌, ◌<◌, ◌≤◌, Bool, true, false, if◌then◌else◌, List, [], ◌∷◌, ◌++◌, length, length-set, map, option_map, replicate, slice_get, slice_set, Option, Some, None, refl, sym, ap, subst, ◌∙◌, ⊎_elim, append-nil, arith}
 use Rattle.std.specs.Prelude.{slice_index_or}
-use Rattle.std.specs.List.{range_with_len}
+use Rattle.std.specs.List.{range_with_len, flat_map}
 use Rattle.std.proofs.lemmas.Bool.{cases_eq}
 use Rattle.std.proofs.lemmas.List.{get_or-set_same, get_or-set_other, length-map, length-replicate, map-append}
 use Rattle.std.proofs.lemmas.List.Concat.{flat_map-append, flat_map-cons}
@@ -24,7 +24,7 @@ use Rattle.af_script.specs.declared.op.TurnSpec.TheVariants as spec
 use Rattle.af_session.specs.Met.{Met}
 use Rattle.af_party.specs.Parties.{PartyState}
 use Rattle.af_session.specs.Rounds.{calls_in, client_round, end_party, fast_round, normal_round, round_told, still_round, with_ends}
-use Rattle.af_session.specs.Shown.{Follows, FollowsRound, HasPlaces, calls_over, shown_at, shows, turn_in, turns_over}
+use Rattle.af_session.specs.Shown.{Follows, FollowsRound, HasPlaces, calls_over, shown_at, shows, turn_in}
 use Rattle.af_tally.specs.Summaries.{Shown, with_calls, with_turn}
 use Rattle.af_tally.specs.Tallies.{IsTally, Keeps, Tallied}
 use Rattle.af_session.specs.Together.{SessionState}
@@ -59,12 +59,12 @@ calls_still calls n tracks = map_same (calls_over (calls ++ replicate n [] ∷ [
     (λ i lt. calls_more calls (replicate n []) i ∙ ap (λ (xs : List ClientCall). calls_over calls i ++ xs) (empty_at n i) ∙ append-nil (calls_over calls i))
 
 -- the turns of one round more are the turns before and that of the round
-pub turns_more : (turns : List (Option Turn)) (turn : Option Turn) → turns_over (turns ++ turn ∷ []) ≡ turns_over turns ++ turn_in turn
-turns_more turns turn = flat_map-append turn_in turns (turn ∷ []) ∙ ap (λ (xs : List Turn). turns_over turns ++ xs) (flat_map-cons turn_in turn [] ∙ append-nil (turn_in turn))
+pub turns_more : (turns : List (Option Turn)) (turn : Option Turn) → flat_map turn_in (turns ++ turn ∷ []) ≡ flat_map turn_in turns ++ turn_in turn
+turns_more turns turn = flat_map-append turn_in turns (turn ∷ []) ∙ ap (λ (xs : List Turn). flat_map turn_in turns ++ xs) (flat_map-cons turn_in turn [] ∙ append-nil (turn_in turn))
 
 -- a round without a turn leaves the turns as they are
-pub turns_still : (turns : List (Option Turn)) → turns_over (turns ++ None ∷ []) ≡ turns_over turns
-turns_still turns = turns_more turns None ∙ append-nil (turns_over turns)
+pub turns_still : (turns : List (Option Turn)) → flat_map turn_in (turns ++ None ∷ []) ≡ flat_map turn_in turns
+turns_still turns = turns_more turns None ∙ append-nil (flat_map turn_in turns)
 
 module _ (states : List FastState) (len tracks : ℕ) (calls : AllCalls) (turns : List (Option Turn)) (frames : List Frame) (entries : List CycleEntry) (n : ℕ) where
   -- a round in which nothing was done leaves what the run shows

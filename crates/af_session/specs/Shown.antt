@@ -31,14 +31,6 @@ use_of states entry = record { entry = entry; state = state_of states entry.stat
 abbrev pub frames_written : Cycle → List Frame → List Frame
 frames_written cycle out = if is_mixed cycle then out else []
 
--- the frames that an entry wrote, at this length of a cycle: those of its mix, from the frames of its log
-abbrev pub entry_written : ℕ → List Frame → CycleEntry → List Frame
-entry_written len frames entry = frames_written entry.cycle (mix (takes_of frames entry) len)
-
--- the frames that some entries wrote, one after the other
-abbrev pub entries_written : ℕ → List Frame → List CycleEntry → List Frame
-entries_written len frames entries = flat_map (entry_written len frames) entries
-
 -- all calls of the client of track i, by the calls of each round
 abbrev pub calls_over : List (List (List ClientCall)) → ℕ → List ClientCall
 calls_over rounds i = flat_map (λ calls. slice_index_or calls i []) rounds
@@ -48,18 +40,14 @@ abbrev pub turn_in : Option Turn → List Turn
 turn_in None = []
 turn_in (Some turn) = turn ∷ []
 
--- the turns of all rounds
-abbrev pub turns_over : List (Option Turn) → List Turn
-turns_over rounds = flat_map turn_in rounds
-
--- what rounds with these calls and turns show of so many tracks, with the entries of a log that name these states
+-- what rounds with these calls and turns show of so many tracks, with the entries of a log that name these states; an entry wrote, at this length of a cycle, the frames of its mix, from the frames of the log
 unfoldable pub shows : (states : List FastState) (len tracks : ℕ) (calls : List (List (List ClientCall))) (turns : List (Option Turn)) (frames : List Frame) (entries : List CycleEntry) → Shown
 shows states len tracks calls turns frames entries = record {
   frames = len;
   calls = map (calls_over calls) (range_with_len 0 tracks);
-  turns = turns_over turns;
+  turns = flat_map turn_in turns;
   entries = map (use_of states) entries;
-  written = entries_written len frames entries;
+  written = flat_map (λ entry. frames_written entry.cycle (mix (takes_of frames entry) len)) entries;
 }
 
 -- ## Of a journal

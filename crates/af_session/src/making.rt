@@ -15,6 +15,7 @@ use af_base::Memory;
 use af_engine::{Engine, MakeError, MixerSpec, Shared};
 use af_script::Script;
 use std::alloc::Global;
+use std::mem::drop;
 
 // The ends of the mixer that a script asks for. Memory is its only refusal.
 fn make_ends(alloc: Global, script: &Script) -> Result<(Shared, Engine), Memory>
@@ -47,7 +48,12 @@ pub fn make(alloc: Global, script: &Script) -> Result<(Shared, Parties), Memory>
         normal,
         fast,
     } = ends;
-    let clients = new_clients(alloc, tracks)?;
+    let Ok(clients) = new_clients(alloc, tracks) else {
+        drop(shared);
+        drop(normal);
+        drop(fast);
+        return Err(Memory);
+    };
     let parties = Parties {
         clients,
         normal,

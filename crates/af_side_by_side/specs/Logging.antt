@@ -27,7 +27,7 @@ count_refused [] = 0
 count_refused (true ∷ outcomes) = count_refused outcomes
 count_refused (false ∷ outcomes) = 1 + count_refused outcomes
 
--- The log of a journal: each entry of each round was noted, and accepted or refused. The notes are those of the entries accepted, in order, and a refusal came late
+-- The log of a journal: each entry of each round was noted, and kept or refused. The notes are those of the entries kept, in order, and a refusal came late
 pub record IsLogOf (frames room : ℕ) (j : JournalData) (notes : List Note) (refused : ℕ) : Type 0 where
   pub outcomes : List (List Bool)
   pub each : map length outcomes ≡ map (λ r. length r.entries) j.rounds

@@ -6,7 +6,7 @@ use native.Mathlib.Decide.{ℕ_discrete}
 use Rattle.af_base.specs.declared.state.FastTrack.{FastTrack}
 use Rattle.af_base.specs.declared.state.Command.{Command}
 use Rattle.af_model.specs.StateQueue.{slots, slot_of, carries, AreOf, FitAt}
-use Rattle.af_model.specs.Draft.{attached, detached, renewed}
+use Rattle.af_model.specs.Draft.{attached, detached}
 use Rattle.af_stateq.specs.Shelved.{nothing}
 use Rattle.af_stateq.specs.Ends.{Pushes, saw, pushes}
 use Rattle.af_stateq.specs.Mutates.{Mutates, at, is_out, InSlot, SlotIn, InDraft, IsJoined}
@@ -39,7 +39,7 @@ module _ {P K : Type 0} (fits : K → ℕ → P → Type 0) (m : Mutates P K) (d
       abbrev attaches : Mutates P K
       attaches = record m { draft = attached slot mono scale track m.draft; edited = true; pending = set m.pending slot (Some item); out = set m.out slot true }
 
-      here : slot_of attaches.draft slot ≡ renewed mono scale track (slot_of m.draft slot)
+      here : slot_of attaches.draft slot ≡ (record { generation = (slot_of m.draft slot).generation + 1; track = track; mono = mono; scale = scale })
       here = slot_here slot mono scale track m.draft low lt d.state
 
       else_ : (i : ℕ) → i ≢ slot → slot_of attaches.draft i ≡ slot_of m.draft i

@@ -1,5 +1,5 @@
 //! The two ends on the table: each call is one word step, with the cells and the shelves that change hands by it.
-ghost use Rattle.std.specs.Prelude.{◌≡◌, ◌+◌, ◌^◌, ◌<◌, true, false, Some};
+ghost use Rattle.std.specs.Prelude.{◌≡◌, ◌+◌, ◌^◌, ◌<◌, true, false, if◌then◌else◌, is_some, None, Some};
 ghost use Rattle.af_model.specs.StateQueue.{AreOf, FitAt};
 ghost use Rattle.af_stateq.specs.Shelved.{word, nothing, IsMutator, IsObserver};
 ghost use Rattle.af_stateq.specs.Ends.{Pushes, Polls, SawAcked, pushes, acknowledged, Looked};
@@ -109,30 +109,36 @@ impl<P: Drop, N: Fits<P>> MutatorEnd<P, N> {
 }
 
 impl<P: Drop, N: Fits<P>> ObserverEnd<P, N> {
-    /// One look at next. If there is a new state it takes that state, with the items that came with it.
+    /// One look at next, which answers whether there is a new state. If there is one that state becomes the current one, the one before it the previous one, and the items that came with it are taken.
     pub fn look<L: Ledger>(
         &mut self,
         queue: &Queue<P, N>,
+        current: &mut Option<FastState>,
+        previous: &mut Option<FastState>,
         items: &mut Vec<Option<P>>,
         steps: &mut Steps<L>,
-    ) -> Option<FastState>
+    ) -> bool
         requires together { self.old.queue ≡ queue.now }
         requires room { self.old.number < 2 ^ 62 }
         requires due { self.old.due ≡ false }
         requires empty { items.old.items ≡ nothing }
-        ensures seen { Looked N.fits self.old items.old.items result self.new items.new.items }
+        ensures seen { Looked N.fits self.old items.old.items (if result then current.new else None) self.new items.new.items }
+        ensures moved { result ≡ true → (is_some current.new ≡ true) × (previous.new ≡ current.old) }
+        ensures same { result ≡ false → (current.new ≡ current.old) × (previous.new ≡ previous.old) }
         ensures steps { steps.new ≡ steps.old + 1 }
     {
         let shared = &queue.table.shared;
         steps.tick();
         let seen = shared.load::<SeeNext<N>>(&mut self.seat, 0);
         if seen == word_of(self.number) {
-            return None;
+            return false;
         }
         exchange(queue, &mut self.seat, items);
-        let state = self.seat.slot_mut(shared, (self.number % 4) as usize).state;
+        *previous = *current;
+        let cell = self.seat.slot_mut(shared, (self.number % 4) as usize);
+        *current = Some(cell.state);
         self.due = true;
-        Some(state)
+        true
     }
 
     /// Acknowledges the state that the observer took, and gives items back with it.

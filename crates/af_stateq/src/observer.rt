@@ -69,17 +69,17 @@ impl<P: Drop, N: Fits<P>> Observer<P, N> {
             items,
             moving,
         } = self;
-        let Some(state) = end.look(queue, moving, steps) else {
+        let found = end.look(queue, current, previous, moving, steps);
+        if !found {
             return if end.number == 0 {
                 Poll::Nothing
             } else {
                 Poll::Same
             };
-        };
-        settle(&state, items, moving);
+        }
+        let Some(state) = current else { unreachable!() };
+        settle(state, items, moving);
         end.acknowledge(queue, moving, steps);
-        *previous = *current;
-        *current = Some(state);
         Poll::New { number: end.number }
     }
 

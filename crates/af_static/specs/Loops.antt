@@ -5,10 +5,6 @@ use Rattle.af_base.specs.Mix.{Take, frame_at, mix}
 use Rattle.af_static.specs.declared.setting.Setting.{Setting}
 use Rattle.af_static.specs.declared.head.Head.{Head}
 
--- this count means jumps without end
-abbrev pub endless : ℕ
-endless = 4294967295
-
 -- the content of the cell before any setting was made: from the first frame to the last, with no loop
 abbrev pub opening : Setting
 opening = record { number = 0; start = 0; end = 0; count = 0 }
@@ -25,23 +21,19 @@ is_valid n s = if s.count == 0 then nat_le s.start n else nat_le (s.start + 16) 
 abbrev pub shut_by : ℕ → Setting → Option (ℕ × ℕ × ℕ)
 shut_by n s = if is_valid n s then None else Some (s.start, s.end, s.count)
 
--- where a new loop begins: a position that lies in it is kept
-abbrev pub kept_in : Setting → ℕ → ℕ
-kept_in s position = if nat_le s.start position && nat_lt position s.end then position else s.start
-
--- the head under a new setting
+-- the head under a new setting: a position that lies in the new loop is kept
 abbrev pub adopted : Setting → Head → Head
 adopted s h = if s.count == 0
     then record { position = s.start; start = 0; end = 0; left = 0 }
-    else record { position = kept_in s h.position; start = s.start; end = s.end; left = s.count }
+    else record { position = (if nat_le s.start h.position && nat_lt h.position s.end then h.position else s.start); start = s.start; end = s.end; left = s.count }
 
 -- the head when a call has seen a setting, by the one that the last call saw: only a new one that is valid changes it
 abbrev pub heard : ℕ → Setting → Head → Setting → Head
 heard n last h s = if is_valid n s && not (s.number == last.number) then adopted s h else h
 
--- one jump is spent, unless the jumps have no end
+-- one jump is spent, unless the jumps have no end: this is what the count 4294967295 means
 abbrev pub spent : ℕ → ℕ
-spent left = if left == endless then left else left - 1
+spent left = if left == 4294967295 then left else left - 1
 
 -- at the end of a loop with jumps left the head goes to its start
 abbrev pub jumped : Head → Head

@@ -1,5 +1,5 @@
-ghost use Rattle.std.specs.Prelude.{◌≡◌, ◌+◌, ◌<◌, ◌≤◌, true};
-ghost use Rattle.af_static.specs.Loops.{adopted, at_first, heard, is_valid, jumped, kept_in, longest_row, moved, spent, IsRow, IsSound};
+ghost use Rattle.std.specs.Prelude.{◌≡◌, ◌+◌, ◌<◌, ◌≤◌, true, nat_le, nat_lt, ◌&&◌, if◌then◌else◌};
+ghost use Rattle.af_static.specs.Loops.{adopted, at_first, heard, is_valid, jumped, longest_row, moved, spent, IsRow, IsSound};
 
 use crate::setting::Setting;
 
@@ -26,7 +26,7 @@ pub(crate) fn first_head() -> Head
 
 /// Where a new loop begins: a position that lies in it is kept.
 fn kept_in(setting: Setting, position: usize) -> usize
-    ensures { result ≡ kept_in setting position }
+    ensures { result ≡ (if nat_le setting.start position && nat_lt position setting.end then position else setting.start) }
 {
     if setting.start as usize <= position && position < setting.end as usize {
         position

@@ -13,7 +13,7 @@ use Rattle.af_model.specs.History.{HasHistory, is_lawful}
 use Rattle.af_model.specs.declared.shape.Shape.{Shape}
 use Rattle.af_normal.specs.Meeting.{Meets, MeetsAll, client_knows}
 use Rattle.af_party.specs.Parties.{side_of_proxy}
-use Rattle.af_runs.specs.Blocks.{BlockTold, HasBlockHistory, client_list, hand_list, meets, meets_all, meets_flag, server_list}
+use Rattle.af_runs.specs.Blocks.{BlockTold, HasBlockHistory, client_list, hand_list, meets, meets_flag, server_list}
 use Rattle.af_runs.specs.ClientTurns.{Side}
 use Rattle.af_runs.specs.Runs.{side_of}
 use Rattle.af_server.specs.Order.{ServerState}
@@ -57,7 +57,7 @@ module _ (b : BlockTold) (deed : List ServerEvent) (c d : ClientState) (s t : Se
   }
 
 -- the hand meets the client once the server has
-pub hand_after : (b : BlockTold) (c : ClientState) (h g : HandSide) → side_of b ≡ side_of_proxy c → h.part.events ≡ hand_list b → g.part ≡ hand_met h.part (length c.pass.part.events + 1) → g.part.events ≡ hand_list (meets_all b)
+pub hand_after : (b : BlockTold) (c : ClientState) (h g : HandSide) → side_of b ≡ side_of_proxy c → h.part.events ≡ hand_list b → g.part ≡ hand_met h.part (length c.pass.part.events + 1) → g.part.events ≡ hand_list (meets_flag (meets b))
 hand_after b c h g side told is =
     let more : length (client_list b ++ client.Learn (length (server_list b)) ∷ []) ≡ length (client_list b) + 1 = length-append (client_list b) (client.Learn (length (server_list b)) ∷ []) in
     let met : length c.pass.part.events + 1 ≡ length (client_list b ++ client.Learn (length (server_list b)) ∷ []) = (λ j. length ((sym (ap (λ (y : Side). y.events) side)) j) + 1) ∙ sym more in
@@ -91,21 +91,21 @@ module _ (b : BlockTold) (deed : List ServerEvent) (did : DeedTold b deed) (c d 
 -- ## With the hand
 
 module _ (b : BlockTold) (deed : List ServerEvent) (did : DeedTold b deed) (c d : ClientState) (s t : ServerState) (h g : HandSide) (side : side_of b ≡ side_of_proxy c) (told : TellsServer (done_on b deed) s) (hand_told : h.part.events ≡ hand_list b) (m : MeetsAll (client_made c.pass) s t c d h g) where
-  pub all_side : side_of (meets_all b) ≡ side_of_proxy d
+  pub all_side : side_of (meets_flag (meets b)) ≡ side_of_proxy d
   all_side = side_met b deed c d s t side told did.alike.long m.client
 
-  pub all_server : TellsServer (done_on (meets_all b) (met_deed b deed)) t
+  pub all_server : TellsServer (done_on (meets_flag (meets b)) (met_deed b deed)) t
   all_server = let met = server_met b deed c d s t side told (ap (λ (y : ServerState). y.pass.part) m.server) in record { shape = met.shape; events = met.events; taken = met.taken }
 
-  pub all_did : DeedTold (meets_all b) (met_deed b deed)
+  pub all_did : DeedTold (meets_flag (meets b)) (met_deed b deed)
   all_did = let met = did_met b deed did in record { alike = met.alike; own = met.own }
 
-  pub all_hand : g.part.events ≡ hand_list (meets_all b)
+  pub all_hand : g.part.events ≡ hand_list (meets_flag (meets b))
   all_hand = hand_after b c h g side hand_told m.hand
 
-  pub all_history : deed ≡ server_list b → is_lawful (client_list (meets_all b)) ≡ true → HasBlockHistory (meets_all b)
+  pub all_history : deed ≡ server_list b → is_lawful (client_list (meets_flag (meets b))) ≡ true → HasBlockHistory (meets_flag (meets b))
   all_history list lawful =
-      history_told (meets_all b) (met_deed b deed) d t g.part.events all_side all_server (ap (λ (es : List ServerEvent). met_deed b es) list) all_hand
+      history_told (meets_flag (meets b)) (met_deed b deed) d t g.part.events all_side all_server (ap (λ (es : List ServerEvent). met_deed b es) list) all_hand
       (subst (λ (k : Shape). HasHistory k d.pass.part.events d.pass.part.frames t.pass.part.events t.pass.part.frames g.part.events) (sym (ap (λ (y : ClientState). y.pass.part.shape) m.client))
       (m.history (client_tame c d s m.client (ap (λ (y : Side). is_lawful y.events) (sym all_side) ∙ lawful))))
 

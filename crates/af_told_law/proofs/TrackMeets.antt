@@ -22,7 +22,7 @@ use Rattle.af_normal.specs.Meeting.{MeetsStream}
 use Rattle.af_normal.specs.Mixing.{stream_at}
 use Rattle.af_normal.specs.State.{NormalState}
 use Rattle.af_party.specs.Parties.{PartyState, side_of_proxy}
-use Rattle.af_runs.specs.Blocks.{BlockTold, HasBlockHistory, client_list, hand_list, meets, meets_all, server_list}
+use Rattle.af_runs.specs.Blocks.{BlockTold, HasBlockHistory, client_list, hand_list, meets, server_list, meets_flag}
 use Rattle.af_runs.specs.ClientTurns.{Track}
 use Rattle.af_runs.specs.Runs.{Run, met, side_of, stream_met, takes_part, told_at, track_met}
 use Rattle.af_runs.specs.Sessions.{Session, track_count}
@@ -199,7 +199,7 @@ module _ (s : Session) (run : Run) {d : Deeds} (links : Links) (a b : SessionSta
         by_parts true true e (part_is ∙ ap (λ (z : Bool). z || is_some (slot_for (polled a b m) i)) (home_is (Some p) is)) (handed_is (Some g) some) (record {
           side = all_side stream_told deed did c e p met.0 g met.1 side mine hand_so met.4;
           told = record {
-            home = there_is (done_on (meets_all stream_told) (met_deed stream_told deed)) (stream_at b.normal.streams i) met.0 met.2 (all_server stream_told deed did c e p met.0 g met.1 side mine hand_so met.4);
+            home = there_is (done_on (meets_flag (meets stream_told)) (met_deed stream_told deed)) (stream_at b.normal.streams i) met.0 met.2 (all_server stream_told deed did c e p met.0 g met.1 side mine hand_so met.4);
             away = (λ gone. absurd (not_away (Some p) p is refl gone));
             hand = events_are b.normal.hands i (Some met.1) (now ∙ met.3) ∙ all_hand stream_told deed did c e p met.0 g met.1 side mine hand_so met.4;
           };
@@ -229,8 +229,8 @@ module _ (s : Session) (run : Run) {d : Deeds} (links : Links) (a b : SessionSta
           by_parts true true e (part_is ∙ (λ k. home_is None is k || is_some (found k))) (handed_is (Some g) some) (record {
             side = all_side stream_told deed did c e p met.0 g g' side mine hand_so met.2;
             told = record {
-              home = none_there (done_on (meets_all stream_told) (met_deed stream_told deed)) (stream_at b.normal.streams i) gone';
-              away = (λ gone. as_now (done_on (meets_all stream_told) (met_deed stream_told deed)) (held_met a b m i (slot_number (track_at a.normal.tracks i)) (done_on (meets_all stream_told) (met_deed stream_told deed)) j met.0 found met.1 (all_server stream_told deed did c e p met.0 g g' side mine hand_so met.2)));
+              home = none_there (done_on (meets_flag (meets stream_told)) (met_deed stream_told deed)) (stream_at b.normal.streams i) gone';
+              away = (λ gone. as_now (done_on (meets_flag (meets stream_told)) (met_deed stream_told deed)) (held_met a b m i (slot_number (track_at a.normal.tracks i)) (done_on (meets_flag (meets stream_told)) (met_deed stream_told deed)) j met.0 found met.1 (all_server stream_told deed did c e p met.0 g g' side mine hand_so met.2)));
               hand = events_are b.normal.hands i (Some g') some' ∙ all_hand stream_told deed did c e p met.0 g g' side mine hand_so met.2;
             };
             handed = ap is_some some' ∙ sym (handed_is (Some g) some);

@@ -24,7 +24,7 @@ use Rattle.af_life.specs.declared.kept.Holder.TheVariants.{Home}
 use Rattle.af_life.specs.declared.kept.Setting.{Setting}
 use Rattle.af_life.specs.declared.kept.TrackKept.{TrackKept}
 use Rattle.af_life.specs.Edits.{after_ack, must_enter, welcomed}
-use Rattle.af_life.specs.Kept.{Setup, NormalKept, is_home, no_setting, nothing_heard, number_of, setting_of, slot_number, track_at}
+use Rattle.af_life.specs.Kept.{Setup, NormalKept, is_home, nothing_heard, number_of, setting_of, slot_number, track_at}
 use Rattle.af_life.specs.TurnEvents.{takes_from}
 use Rattle.af_life.proofs.Lives.{served_len}
 use Rattle.af_normal.specs.LegalTurned.{home_stream, in_queue}
@@ -43,7 +43,7 @@ use Rattle.af_told_law.proofs.PushPlaces.{PutOn, put_on}
 use Rattle.af_told_law.proofs.TurnSteps.{back, done, k, kept_l, mix, mutated_z, mutator_l, mutator_s, out_s, put_s, put_y, setup_s, sound_s, still_s, streams_l, tied_l, turns}
 
 -- no scale is above 1, also if there is no track
-scale_at : (settings : List Setting) → All (λ (s : Setting). s.scale ≤ 4096) settings → (i : ℕ) → (slice_index_or settings i no_setting).scale ≤ 4096
+scale_at : (settings : List Setting) → All (λ (s : Setting). s.scale ≤ 4096) settings → (i : ℕ) → (slice_index_or settings i (record { fast = false; mono = false; scale = 0 })).scale ≤ 4096
 scale_at [] all i = omega arith
 scale_at (s ∷ settings) all zero = All-head (λ (t : Setting). t.scale ≤ 4096) s settings all
 scale_at (s ∷ settings) all (suc i) = scale_at settings (All-tail (λ (t : Setting). t.scale ≤ 4096) s settings all) i

@@ -20,7 +20,7 @@ use Rattle.af_life.specs.Heard.{heard, ready}
 use Rattle.af_life.specs.Kept.{Setup, asked, NormalKept, Learnt, new_track, nothing_seen, seen_at, track_at, track_in, is_home, is_lent}
 use Rattle.af_life.specs.Obeys.{slot_for, shows_command, is_shut, ended, obeyed, after_look, goes_on, after_looks, are_due}
 use Rattle.af_life.specs.Plays.{counted, after_take, after_takes}
-use Rattle.af_life.specs.Reports.{shut_down, by_report}
+use Rattle.af_life.specs.Reports.{by_report}
 use Rattle.af_life.specs.Serves.{is_found_shut, after_commands, after_part, HasDueLooks, IsServed, served, served_to, LegalTrack}
 use Rattle.af_life.specs.Turn.{after_tracks, after_edits, turn_after}
 use Rattle.af_life.specs.TurnEvents.{tracks_at}
@@ -86,7 +86,7 @@ report_ends : (known : Known) (life : Life) → known.shut ≡ true → (by_repo
 unfolding by_report
 report_ends known life is = first known.shut _ is
   where
-    first : (b : Bool) (l : Life) → b ≡ true → (if b then shut_down known life else l).ended ≡ true
+    first : (b : Bool) (l : Life) → b ≡ true → (if b then (record life { ended = true; member = false }) else l).ended ≡ true
     first true l is = refl
     first false l is = no is
 

@@ -32,10 +32,6 @@ abbrev pub are_four_names : List ℕ → List ℕ → List ℕ → List ℕ → 
 are_four_names first second third fourth =
     (((are_three_names first second third && is_name fourth) && not (bytes_eq first fourth)) && not (bytes_eq second fourth)) && not (bytes_eq third fourth)
 
--- for how many notes a log has room
-abbrev pub room_of : List ℕ → Option ℕ
-room_of text = number_within 1 1024 text
-
 -- the sizes that these words spell: room for 1 to 8192 frames, and 1 to 1024 frames in each supply and each read
 abbrev pub sizes_of : List ℕ → List ℕ → List ℕ → Option Sizes
 sizes_of room supply read =
@@ -55,10 +51,6 @@ is_drawn name = list_any (λ track. bytes_eq name (generated_name track)) (range
 abbrev pub free_names : List ℕ → List ℕ → Option (List ℕ × List ℕ)
 free_names first second = if is_drawn first || is_drawn second then None else two_names first second
 
--- the number of a session
-abbrev pub number_of : List ℕ → Option ℕ
-number_of text = number_within 0 2147483647 text
-
 -- `render SCRIPT OUT`
 abbrev pub render_request : List (List ℕ) → Option Request
 render_request (script ∷ target ∷ []) = option_map (λ names. Render names.0 names.1) (two_names script target)
@@ -76,9 +68,9 @@ loop_request (input ∷ target ∷ places ∷ calls ∷ start ∷ end ∷ count 
     option_and_then (λ names. option_map (λ turns. Loop names.0 names.1 turns) (turns_of places calls start end count)) (two_names input target)
 loop_request words = None
 
--- `generate NUMBER SCRIPT OUT`
+-- `generate NUMBER SCRIPT OUT`, with the number of a session
 abbrev pub generate_request : List (List ℕ) → Option Request
-generate_request (number ∷ script ∷ target ∷ []) = option_and_then (λ n. option_map (λ names. Generate n names.0 names.1) (free_names script target)) (number_of number)
+generate_request (number ∷ script ∷ target ∷ []) = option_and_then (λ n. option_map (λ names. Generate n names.0 names.1) (free_names script target)) (number_within 0 2147483647 number)
 generate_request words = None
 
 -- `play SCRIPT OUT JOURNAL`
@@ -91,9 +83,9 @@ abbrev pub verify_request : List (List ℕ) → Option Request
 verify_request (script ∷ sound ∷ journal ∷ []) = if are_three_names script sound journal then Some (Verify script sound journal) else None
 verify_request words = None
 
--- `trace SCRIPT OUT JOURNAL LOG ROOM`
+-- `trace SCRIPT OUT JOURNAL LOG ROOM`, with room for 1 to 1024 notes
 abbrev pub trace_request : List (List ℕ) → Option Request
-trace_request (script ∷ target ∷ journal ∷ log ∷ room ∷ []) = if are_four_names script target journal log then option_map (λ n. Trace script target journal log n) (room_of room) else None
+trace_request (script ∷ target ∷ journal ∷ log ∷ room ∷ []) = if are_four_names script target journal log then option_map (λ n. Trace script target journal log n) (number_within 1 1024 room) else None
 trace_request words = None
 
 -- the command and its words

@@ -8,8 +8,9 @@ ghost use Rattle.af_words.specs.Asking.{request_view, IsSound};
 ghost use Rattle.af_words.specs.Asking.{AreSizes};
 ghost use Rattle.af_words.specs.Dash.{begins_dash};
 ghost use Rattle.af_words.specs.Asking.{AreTurns};
-ghost use Rattle.af_words.specs.Requests.{is_drawn, are_three_names, are_four_names, room_of, free_names, number_of, request_of, sizes_of, turns_of, two_names};
+ghost use Rattle.af_words.specs.Requests.{is_drawn, are_three_names, are_four_names, free_names, request_of, sizes_of, turns_of, two_names};
 ghost use Rattle.af_words.specs.Words.{needed, command_words, with_rules, bare_words, render_words, record_words, loop_words, generate_words, play_words, verify_words, trace_words, player_words, render_met, record_met, loop_met, generate_met, play_met, verify_met, trace_met, matched_request};
+ghost use Rattle.af_script.specs.Text.{number_within};
 
 use crate::request::{Request, Sizes, Turns};
 use af_script::{GENERATED_TRACKS, generated_name, is_name, number_within};
@@ -208,7 +209,7 @@ fn free_names<'a>(first: &'a str, second: &'a str) -> Option<(&'a str, &'a str)>
 
 /// The number of a session that a word spells.
 fn number_of(word: &str) -> Option<u32>
-    ensures value { result ≡ number_of word.now }
+    ensures value { result ≡ number_within 0 2147483647 word.now }
     ensures bound { IfSome result (λ number. number < 2 ^ 31) }
 {
     number_within(word, 0, 2147483647)
@@ -239,7 +240,7 @@ fn are_four_names(first: &str, second: &str, third: &str, fourth: &str) -> bool
 
 /// For how many notes a log has room, by the word that spells it.
 fn room_of(word: &str) -> Option<u32>
-    ensures value { result ≡ room_of word.now }
+    ensures value { result ≡ number_within 1 1024 word.now }
     ensures bound { IfSome result (λ room. (1 ≤ room) × (room ≤ 1024)) }
 {
     number_within(word, 1, 1024)

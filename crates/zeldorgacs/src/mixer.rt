@@ -8,6 +8,7 @@ use af_ends::EndError;
 use af_engine::{EngineTrack, MakeError, MixerSpec};
 use af_mixer_ends::{FastEnd, NormalEnd, TrackEnd, open_mixer};
 use std::alloc::Global;
+use std::mem::drop;
 
 /// How many tracks a mixer has at most.
 const MOST_TRACKS: usize = 32;
@@ -96,9 +97,21 @@ fn track_boxes(alloc: Global, tracks: Vec<TrackEnd>) -> Result<Vec<Box<Kept, Glo
 // Boxes with the ends of a mixer of these tracks.
 fn boxes_of(alloc: Global, shape: &MixerShape, specs: &[TrackSpec]) -> Result<Boxes, EndError> {
     let (turns, cycles, ends) = open_ends(alloc, shape, specs)?;
-    let tracks = track_boxes(alloc, ends)?;
-    let normal = boxed(alloc, Kept::Normal(turns))?;
-    let fast = boxed(alloc, Kept::Fast(cycles))?;
+    let Ok(tracks) = track_boxes(alloc, ends) else {
+        drop(turns);
+        drop(cycles);
+        return Err(EndError::Memory);
+    };
+    let Ok(normal) = boxed(alloc, Kept::Normal(turns)) else {
+        drop(tracks);
+        drop(cycles);
+        return Err(EndError::Memory);
+    };
+    let Ok(fast) = boxed(alloc, Kept::Fast(cycles)) else {
+        drop(tracks);
+        drop(normal);
+        return Err(EndError::Memory);
+    };
     Ok(Boxes {
         normal,
         fast,

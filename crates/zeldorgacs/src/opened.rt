@@ -41,10 +41,10 @@ pub fn close(kept: Box<Kept, Global>) {
 
 /// A box with an end. Memory is the only refusal.
 pub fn boxed(alloc: Global, kept: Kept) -> Result<Box<Kept, Global>, EndError> {
-    match Box::new(alloc, kept) {
-        Ok(kept) => Ok(kept),
-        Err(_) => Err(EndError::Memory),
-    }
+    let Ok(kept) = Box::new(alloc, kept) else {
+        return Err(EndError::Memory);
+    };
+    Ok(kept)
 }
 
 /// Two new ends, each in a box, or why there are none.

@@ -1,5 +1,6 @@
 use Rattle.std.proofs.Common.{◌≡◌, Ok, subst}
-use Rattle.af_offline.specs.Asked.{Loaded, session_job}
+use Rattle.af_runs.specs.Sessions.{Session as Loaded}
+use Rattle.af_offline.specs.Asked.{session_job}
 use Rattle.af_commands.specs.Counted.{CountsOn}
 use Rattle.af_commands.specs.Ends.{Makes}
 use Rattle.af_offline.specs.Loading.{loaded_view}

@@ -1,7 +1,8 @@
 use Rattle.std.proofs.Common.{◌≡◌, Ok, subst}
+use Rattle.af_runs.specs.Sessions.{Session as Loaded}
 use Rattle.af_playing.specs.PlayKept.{KeepsPlay, TellsItsRun}
 use Rattle.af_playing.specs.PlayedAlone.{IsToldAlone}
-use Rattle.af_offline.specs.Asked.{Loaded, trace_job}
+use Rattle.af_offline.specs.Asked.{trace_job}
 use Rattle.af_commands.specs.Counted.{CountsOn}
 use Rattle.af_commands.specs.Ends.{Makes}
 use Rattle.af_offline.specs.Loading.{loaded_view}

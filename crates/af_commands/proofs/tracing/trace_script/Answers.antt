@@ -2,7 +2,8 @@ use Rattle.std.proofs.Common.{◌≡◌, Ok, Result, String, ap, rules, subst, s
 use Rattle.std.specs.declared.alloc.Global.{Global}
 use Rattle.af_io.specs.Files.{Files}
 use Rattle.af_offline.specs.declared.status.Refusal.{Refusal}
-use Rattle.af_offline.specs.Asked.{◌>>=◌, Job, Loaded, loaded_of, trace_asked, trace_job}
+use Rattle.af_runs.specs.Sessions.{Session as Loaded}
+use Rattle.af_offline.specs.Asked.{◌>>=◌, Job, loaded_of, trace_asked, trace_job}
 use Rattle.af_commands.specs.Counted.{CountsOn}
 use Rattle.af_commands.specs.Ends.{Makes}
 use Rattle.af_offline.specs.Loading.{loaded_view}

@@ -1,41 +1,9 @@
-use Rattle.std.proofs.Common.{◌≡◌, ℕ, suc, ◌+◌, ◌-◌, ◌≤◌, ◌++◌, List, [], length, map, take, All, refl, sym, ap, subst, ◌∙◌, append_assoc, append-nil, arith}
-use Rattle.af_base.specs.declared.plain.Part.{Part}
-use Rattle.af_base.specs.Log.{slots}
-use Rattle.af_base.specs.Mix.{Take, mix}
-use Rattle.af_base.specs.Part.{take_of}
-use Rattle.af_fast.specs.Heard.{heard_takes}
-use Rattle.af_fast.proofs.HeardMix.{mix_all, one_then, parts_fit}
+use Rattle.std.proofs.Common.{length, ◌∙◌}
+use Rattle.af_fast.proofs.HeardMix.{mix_used}
 use Rattle.af_fast.proofs.heard.mix_heard.Goals as goal
 
--- the takes that are heard after one slot more was looked at
-grown : (here one rest next all : List Take) → here ++ one ≡ next → one ++ rest ≡ all → next ++ rest ≡ here ++ all
-grown here one rest next all added then = ap (λ (ts : List Take). ts ++ rest) (sym added) ∙ append_assoc here one rest ∙ ap (λ (ts : List Take). here ++ ts) then
+pub returns-then-used-le8 : goal.returns-then-used-le8
+returns-then-used-le8 c = c.mix_few.ensures ∙ mix_used c.args.frames.now c.args.entry.now c.args.used (length c.args.out.now) c.requires.used c.requires.none
 
-pub loop-slot-preserved : goal.loop-slot-preserved
-loop-slot-preserved c =
-    let i : ℕ = c.loop-slot.slot in
-    let n : ℕ = slots - (i + 1) in
-    let here : List Take = map take_of (take c.loop-slot.heard c.loop-slot.parts) in
-    let left : suc n ≡ slots - i = omega arith in
-    let then = one_then c.args.frames.now c.args.entry.now i n ∙ ap (heard_takes c.args.frames.now c.args.entry.now i) left in
-    record {
-      few = c.add_heard-heard.ensures.few;
-      takes = grown here (heard_takes c.args.frames.now c.args.entry.now i 1) (heard_takes c.args.frames.now c.args.entry.now (i + 1) n) (map take_of (take c.add_heard-heard.result c.add_heard-heard.new.parts)) (heard_takes c.args.frames.now c.args.entry.now i (slots - i)) (sym c.add_heard-heard.ensures.takes) then
-          ∙ c.loop-slot.invariant.takes;
-    }
-
--- the takes that are heard are all there are, once all slots were looked at
-all_are : (takes all : List Take) (rest : ℕ → List Take) (i : ℕ) → i ≡ slots → rest slots ≡ [] → takes ++ rest i ≡ all → takes ≡ all
-all_are takes all rest i last none are = sym (append-nil takes) ∙ ap (λ (ts : List Take). takes ++ ts) (sym none ∙ ap rest (sym last)) ∙ are
-
-pub mix-requires-clause-fits : goal.mix-requires-clause-fits
-mix-requires-clause-fits c =
-    let heard : List Part = take c.loop-slot.heard c.loop-slot.parts in
-    let are = all_are (map take_of heard) (heard_takes c.args.frames.now c.args.entry.now 0 slots) (λ k. heard_takes c.args.frames.now c.args.entry.now k (slots - k)) c.loop-slot.slot (omega arith) refl c.loop-slot.invariant.takes in
-    subst (λ (n : ℕ). All (λ (part : Part). (length part.frames.now ≤ n) × (part.scale ≤ 4096)) heard) (sym c.requires.lengths) (parts_fit c.args.frames.now c.args.entry.now (length c.args.out.now) c.requires.within c.requires.scaled heard are)
-
-pub returns : goal.returns
-returns c =
-    let heard : List Part = take c.loop-slot.heard c.loop-slot.parts in
-    let are = all_are (map take_of heard) (heard_takes c.args.frames.now c.args.entry.now 0 slots) (λ k. heard_takes c.args.frames.now c.args.entry.now k (slots - k)) c.loop-slot.slot (omega arith) refl c.loop-slot.invariant.takes in
-    c.mix.ensures ∙ ap (λ (ts : List Take). mix ts (length c.args.out.now)) are ∙ mix_all c.args.frames.now c.args.entry.now (length c.args.out.now)
+pub returns-else-used-le8 : goal.returns-else-used-le8
+returns-else-used-le8 c = c.mix_many.ensures ∙ mix_used c.args.frames.now c.args.entry.now c.args.used (length c.args.out.now) c.requires.used c.requires.none

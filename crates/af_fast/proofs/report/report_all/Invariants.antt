@@ -8,10 +8,11 @@ use Rattle.af_fast.proofs.report.report_all.Given as goal
 abbrev pub invariant-loop-slot : goal.invariant-loop-slot
 invariant-loop-slot l = record {
   same : l.observer ≡ l.fn.observer;
-  state_is : l.state ≡ l.fn.observer.past.state;
+  some : 0 < l.fn.observer.past.number;
+  current_is : l.fn.observer.current ≡ Some l.fn.observer.past.state;
   few : l.used ≤ slots;
-  rest : (i : ℕ) → l.used ≤ i → bit_at l.state.mask i ≡ 0;
+  rest : (i : ℕ) → l.used ≤ i → bit_at l.fn.observer.past.state.mask i ≡ 0;
   whole : length l.reports ≡ slots;
-  each : (i : ℕ) → i < l.slot → report_at l.reports i ≡ slot_report l.asked (Some l.state) l.last l.entry (known l.fn.observer i) i (report_at l.fn.reports i);
+  each : (i : ℕ) → i < l.slot → report_at l.reports i ≡ slot_report l.asked (Some l.fn.observer.past.state) l.last l.entry (known l.fn.observer i) i (report_at l.fn.reports i);
   behind : (i : ℕ) → l.slot ≤ i → report_at l.reports i ≡ report_at l.fn.reports i;
 }

@@ -1,9 +1,11 @@
-use Rattle.std.proofs.Common.{◌≡◌, ℕ, suc, ◌+◌, ap, subst, refl, ◌∙◌, length, length-set, slice_set, slice_index_or, arith}
+use Rattle.std.proofs.Common.{◌≡◌, ℕ, suc, ◌+◌, ◌-◌, sym, ap, subst, refl, ◌∙◌, length, length-set, slice_set, slice_index_or, arith}
 use Rattle.std.proofs.lemmas.List.{get_or-set_same, get_or-set_other, get_or-replicate}
 use Rattle.std.proofs.lemmas.List.Edits.{fill_by_more}
 use Rattle.af_base.specs.declared.log.CycleEntry.{CycleEntry}
 use Rattle.af_base.specs.Log.{slots}
 use Rattle.af_model.specs.Cycles.{is_mixed, mono_marks, mix_scale}
+use Rattle.af_fast.specs.Slots.{IsQuietFrom}
+use Rattle.af_fast.proofs.Quiet.{marks_stay, scales_all}
 use Rattle.af_fast.proofs.slots.mark_entry.Goals as goal
 
 pub loop-slot-init : goal.loop-slot-init
@@ -41,12 +43,14 @@ loop-slot-preserved c =
 pub returns : goal.returns
 returns c =
     let i = c.loop-slot.invariant in
-    let all : c.loop-slot.slot ≡ slots = omega arith in
+    let slot : ℕ = c.loop-slot.slot in
+    let quiet : IsQuietFrom c.args.state.now slot = (λ j le. c.requires.quiet j (omega (arith, le))) in
+    let all : slot + (slots - slot) ≡ slots = omega (arith, c.requires.used) in
     record {
       state = i.state;
       mixed = i.mixed;
       absent_all = i.absent_all;
       whole = i.whole;
-      scales = (λ j lt. i.scales j (omega arith));
-      mono = i.mono ∙ ap (mono_marks c.args.state.now) all;
+      scales = scales_all c.args.state.now c.loop-slot.entry.scales slot i.low quiet i.scales i.unmarked;
+      mono = i.mono ∙ sym (marks_stay c.args.state.now (slots - slot) slot quiet) ∙ ap (mono_marks c.args.state.now) all;
     }

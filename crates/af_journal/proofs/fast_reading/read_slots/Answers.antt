@@ -1,9 +1,13 @@
-use Rattle.std.proofs.Common.{rules, ◌≡◌, refl, sym, subst, ℕ, ◌<◌, length}
+use Rattle.std.proofs.Common.{rules, ◌≡◌, ◌∙◌, ◌+◌, sym, ap, subst, ℕ, ◌<◌, List, Vec, Global, length}
+use Rattle.af_base.specs.declared.frame.Frame.{Frame}
 use Rattle.af_base.specs.declared.log.CycleEntry.{CycleEntry}
 use Rattle.af_base.specs.Log.{slots}
-use Rattle.af_journal.proofs.MixReading.{IsMixFront, front-below, front-more, front-none, mix-whole}
-use Rattle.af_journal.specs.Mixes.{got_of}
+use Rattle.af_journal.proofs.MixReading.{IsMixFront, front-below, front-more, front-none, front-same, front-skip, mix-whole}
+use Rattle.af_journal.specs.declared.left.Left.{Left}
+use Rattle.af_journal.specs.Mixes.{got_lines, got_of}
+use Rattle.af_journal.specs.Taken.{Leaves}
 use Rattle.af_journal.proofs.fast_reading.read_slots.Goals as goal
+use Rattle.af_journal.proofs.fast_reading.read_slots.Goals.{then-may_be_of+in_ok-got, else-may_be_of}
 
 pub loop-slot-init : goal.loop-slot-init
 loop-slot-init c =
@@ -15,11 +19,24 @@ with_mark-requires c = record { slot = search rules; below = front-below c.args.
 
 pub loop-slot-preserved : goal.loop-slot-preserved
 loop-slot-preserved c =
-    let got = c.in_ok-got.got in
-    let read = c.in_ok-got.ensures in
-    let lt : c.loop-slot.slot < slots = search rules in
-    front-more c.args.state c.loop-slot.slot c.args.frames.now.items c.loop-slot.frames.items c.read_slot.new.frames.items c.args.left.now.rest.now c.loop-slot.left.rest.now c.read_slot.new.left.rest.now c.loop-slot.entry _ (got_of got read.0)
-    c.loop-slot.invariant lt read.1 read.2 read.3 refl refl c.with_mark.ensures refl refl
+    let before = c.args.frames.now.items in
+    let start = c.args.left.now.rest.now in
+    let l = c.loop-slot in
+    let n = c.if-may_be_of in
+    let lt : l.slot < slots = search rules in
+    elim n.branch [
+      | then-may_be_of+in_ok-got w ↦
+          let read = w.in_ok-got.ensures in
+          let g = got_of w.in_ok-got.got read.0 in
+          let rest = ap (λ (x : Left). x.rest.now) w.left-is in
+          front-more c.args.state l.slot before l.frames.items n.frames.items start l.left.rest.now n.left.rest.now l.entry n.entry g
+          l.invariant lt read.1 (ap (λ (v : Vec Frame Global). v.items) w.frames-is ∙ read.2) (subst (λ (r : List ℕ). Leaves l.left.rest.now (got_lines l.slot g) r) (sym rest) read.3)
+          (ap (λ (e : CycleEntry). e.slots) w.entry-is) (ap (λ (e : CycleEntry). e.scales) w.entry-is) (ap (λ (e : CycleEntry). e.mono) w.entry-is ∙ w.with_mark.ensures) (ap (λ (e : CycleEntry). e.state) w.entry-is) (ap (λ (e : CycleEntry). e.cycle) w.entry-is)
+      | else-may_be_of w ↦
+          front-same c.args.state (length before) (l.slot + 1) before l.frames.items n.frames.items start l.left.rest.now n.left.rest.now l.entry n.entry
+          (ap (λ (v : Vec Frame Global). v.items) w.frames-is) (ap (λ (x : Left). x.rest.now) w.left-is) w.entry-is
+          (front-skip c.args.state l.slot before l.frames.items start l.left.rest.now l.entry l.invariant lt)
+    ]
 
 pub returns : goal.returns
 returns c =

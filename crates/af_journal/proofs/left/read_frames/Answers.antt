@@ -1,4 +1,4 @@
-use Rattle.std.proofs.Common.{rules, ◌≡◌, ◌∙◌, ◌∷◌, ◌≤◌, Some, length, map, refl, sym, arith}
+use Rattle.std.proofs.Common.{rules, ◌≡◌, ◌∙◌, ◌∷◌, ◌≤◌, ◌*◌, Some, length, map, refl, sym, arith}
 use Rattle.std.specs.List.{flat_map}
 use Rattle.std.proofs.lemmas.List.{length-map, take_all}
 use Rattle.af_base.specs.Sample.{packed_word}
@@ -10,14 +10,13 @@ use Rattle.af_journal.proofs.left.read_frames.Goals as goal
 pub returns-clause-lines : goal.returns-clause-lines
 returns-clause-lines c =
     let bytes = c.args.left.now.rest.now in
-    let part = c.in-Some.part.now in
     let after = c.in-Some.after.now in
-    let digits = c.in-Some-digits_of.digits.now in
+    let digits = c.in-Some.digits.now in
     let frames = c.in_ok-frames.frames.items in
     let are = c.in_ok-frames.ensures in
     let ws = map packed_word frames in
-    let front : cut bytes ≡ Some (part, after) = search rules in
-    let marked : part ≡ 104 ∷ 32 ∷ digits = search rules in
+    let front : cut bytes ≡ Some (104 ∷ 32 ∷ digits, after) = search rules in
     let spelled : digits ≡ flat_map hex_word ws = sym (are.words ∙ take_all (length digits) digits (omega arith)) in
-    let some : 1 ≤ length ws = omega (arith, length-map frames packed_word, are.count, c.if-digits-count.false, c.if-count-eq0.false) in
-    leaves-frames bytes after ws ws refl some (leaves-words bytes part after digits ws front marked spelled some are.fits)
+    let long : length digits ≡ 8 * c.args.count = search rules in
+    let some : 1 ≤ length ws = omega (arith, length-map frames packed_word, are.count, long, c.if-count-eq0.false) in
+    leaves-frames bytes after ws ws refl some (leaves-words bytes (104 ∷ 32 ∷ digits) after digits ws front refl spelled some are.fits)

@@ -3,7 +3,8 @@ use Rattle.af_io.specs.Files.{Files}
 use Rattle.af_script.specs.Data.{ScriptData}
 use Rattle.af_script.specs.Reading.{script_of}
 use Rattle.af_offline.specs.declared.status.Refusal.{Refusal}
-use Rattle.af_offline.specs.Asked.{◌>>=◌, Loaded, loaded_of, script_or, session_of}
+use Rattle.af_runs.specs.Sessions.{Session as Loaded}
+use Rattle.af_offline.specs.Asked.{◌>>=◌, loaded_of, script_or, session_of}
 use Rattle.af_offline.specs.Loading.{loaded_view}
 use Rattle.af_offline.specs.Status.{Meets}
 use Rattle.af_offline.proofs.Chains.{files_are}

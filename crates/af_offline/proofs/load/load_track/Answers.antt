@@ -2,7 +2,7 @@ use Rattle.std.proofs.Common.{◌≡◌, ◌∙◌, ◌+◌, ◌≤◌, ◌<◌,
 use Rattle.af_base.specs.declared.frame.Frame.{Frame}
 use Rattle.af_script.specs.declared.op.Op.{Op}
 use Rattle.af_party.specs.Works.{frames_to_come}
-use Rattle.af_offline.specs.Asked.{enough_of, frames_in, loaded, most_file, most_files, track_in}
+use Rattle.af_offline.specs.Asked.{enough_of, frames_in, loaded, most_file, track_in}
 use Rattle.af_offline.specs.Loading.{file_view}
 use Rattle.af_offline.specs.Status.{Meets}
 use Rattle.af_offline.specs.declared.load.TrackFile.{TrackFile}
@@ -13,6 +13,7 @@ use Rattle.af_offline.specs.declared.status.Why.TheVariants.{Total}
 use Rattle.af_offline.proofs.Chains.{passed_on}
 use Rattle.af_offline.proofs.Loads.{track_done, track_short, track_total, track_unframed, track_unloaded}
 use Rattle.af_offline.proofs.load.load_track.Goals as goal
+use Rattle.std.specs.Prelude.{◌^◌}
 
 pub returns-in_err-load_into-clause-file : goal.returns-in_err-load_into-clause-file
 returns-in_err-load_into-clause-file g c = λ told.
@@ -34,7 +35,7 @@ returns-then-total-gt-MOST_FILES-clause-file g c = λ told.
     let bytes = c.load_into.new.bytes.items in
     let is : loaded (role.Track number) most_file (files track.file) ≡ Ok bytes = subst (λ (name : List ℕ). loaded (role.Track number) most_file (files name) ≡ Ok bytes) c.as_str-name.ensures.text (c.in_ok-load_into.ensures.loaded told) in
     let size : c.len.result ≡ length bytes = omega (arith, c.len.ensures, c.load_into.new.bytes.ok.0) in
-    let over : most_files < total + length bytes = omega (arith, c.if-total-gt-MOST_FILES.true, size) in
+    let over : 2 ^ 24 < total + length bytes = omega (arith, c.if-total-gt-MOST_FILES.true, size) in
     let why : track_in files number total track ≡ Err (File (record { role = role.Track number; why = Total (total + c.len.result) })) =
     track_total files number total track bytes is over ∙ ap (λ (n : ℕ). Err (File (record { role = role.Track number; why = Total (total + n) }))) (sym size) in
     subst (λ (s : Stop). Meets {X = TrackFile} file_view (Err s) (track_in files number total track)) (sym c.file_fault.ensures) why
@@ -49,7 +50,7 @@ returns-in_err-pcm-clause-file g c = λ told.
     let e = c.in_err-pcm.field-0.0 in
     let is : loaded (role.Track number) most_file (files track.file) ≡ Ok bytes = subst (λ (name : List ℕ). loaded (role.Track number) most_file (files name) ≡ Ok bytes) c.as_str-name.ensures.text (c.in_ok-load_into.ensures.loaded told) in
     let size : c.len.result ≡ length bytes = omega (arith, c.len.ensures, c.load_into.new.bytes.ok.0) in
-    let few : total + length bytes ≤ most_files = omega (arith, c.if-total-gt-MOST_FILES.false, size) in
+    let few : total + length bytes ≤ 2 ^ 24 = omega (arith, c.if-total-gt-MOST_FILES.false, size) in
     let here : Meets (λ (pcm : List Frame). pcm) (Err e) (frames_in number track.mono bytes) =
     subst (λ (xs : List ℕ). Meets (λ (pcm : List Frame). pcm) (Err e) (frames_in number track.mono xs)) c.deref.ensures.value c.in_err-pcm.ensures.frames in
     passed_on (λ r. Meets file_view r (track_in files number total track)) c.from_residual-in_err-pcm.result e (track_unframed files number total track bytes is few e here) c.from_residual-in_err-pcm.ensures.1
@@ -64,7 +65,7 @@ returns-in_err-pcm-2-clause-file g c = λ told.
     let e = c.in_err-pcm-2.field-0.0 in
     let is : loaded (role.Track number) most_file (files track.file) ≡ Ok bytes = subst (λ (name : List ℕ). loaded (role.Track number) most_file (files name) ≡ Ok bytes) c.as_str-name.ensures.text (c.in_ok-load_into.ensures.loaded told) in
     let size : c.len.result ≡ length bytes = omega (arith, c.len.ensures, c.load_into.new.bytes.ok.0) in
-    let few : total + length bytes ≤ most_files = omega (arith, c.if-total-gt-MOST_FILES.false, size) in
+    let few : total + length bytes ≤ 2 ^ 24 = omega (arith, c.if-total-gt-MOST_FILES.false, size) in
     let pcm = c.in_ok-pcm.pcm in
     let frames : frames_in number track.mono bytes ≡ Ok pcm = subst (λ (xs : List ℕ). frames_in number track.mono xs ≡ Ok pcm) c.deref.ensures.value c.in_ok-pcm.ensures.frames in
     let here : Meets (λ (all : List Frame). all) (Err e) (enough_of number (frames_to_come track.ops) pcm) =
@@ -80,7 +81,7 @@ returns-clause-file g c = λ told.
     let bytes = c.load_into.new.bytes.items in
     let is : loaded (role.Track number) most_file (files track.file) ≡ Ok bytes = subst (λ (name : List ℕ). loaded (role.Track number) most_file (files name) ≡ Ok bytes) c.as_str-name.ensures.text (c.in_ok-load_into.ensures.loaded told) in
     let size : c.len.result ≡ length bytes = omega (arith, c.len.ensures, c.load_into.new.bytes.ok.0) in
-    let few : total + length bytes ≤ most_files = omega (arith, c.if-total-gt-MOST_FILES.false, size) in
+    let few : total + length bytes ≤ 2 ^ 24 = omega (arith, c.if-total-gt-MOST_FILES.false, size) in
     let pcm = c.in_ok-pcm.pcm in
     let all = c.in_ok-pcm-2.pcm in
     let frames : frames_in number track.mono bytes ≡ Ok pcm = subst (λ (xs : List ℕ). frames_in number track.mono xs ≡ Ok pcm) c.deref.ensures.value c.in_ok-pcm.ensures.frames in

@@ -1,9 +1,10 @@
 use Rattle.std.proofs.Common.{◌≡◌, ◌≤◌, drop, take}
 use Rattle.af_io.specs.Files.{SameFiles}
-use Rattle.af_offline.specs.Asked.{most_files, tracks_in}
+use Rattle.af_offline.specs.Asked.{tracks_in}
 use Rattle.af_offline.proofs.Chains.{behind}
 use Rattle.af_offline.specs.Loading.{AreServed}
 use Rattle.af_offline.proofs.load.load_tracks.Given as goal
+use Rattle.std.specs.Prelude.{◌^◌}
 
 abbrev pub invariant-loop-number : goal.invariant-loop-number
 invariant-loop-number g l = record {
@@ -11,6 +12,6 @@ invariant-loop-number g l = record {
   same : g.S.Store.told l.fn.store → SameFiles (g.S.Store.files l.fn.store) (g.S.Store.files l.store);
   tells : g.S.Store.told l.fn.store → g.S.Store.told l.store;
   stays : g.S.Store.faults l.store ≡ g.S.Store.faults l.fn.store;
-  total : l.total ≤ most_files;
+  total : l.total ≤ 2 ^ 24;
   have : AreServed (take l.number l.tracks) l.files.items;
 }

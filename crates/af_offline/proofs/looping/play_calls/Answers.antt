@@ -1,7 +1,6 @@
 use Rattle.std.proofs.Common.{◌≡◌, ℕ, ◌+◌, ◌<◌, [], ◌∷◌, ◌++◌, is_some, length, sym, ap, subst, ◌∙◌, arith}
 use Rattle.af_static.specs.Calls.{CallsPlay, standing_in}
 use Rattle.af_static.specs.InStep.{HandState}
-use Rattle.af_offline.specs.Looped.{call_under}
 use Rattle.af_offline.proofs.Rolling.{on_again}
 use Rattle.af_offline.proofs.looping.play_calls.Goals as goal
 
@@ -18,7 +17,7 @@ loop-rolled-preserved c =
       on = on_again first (length c.args.places.now) c.args.bytes.now.items hand after c.loop-rolled.bytes.items c.play_once.new.bytes.items c.play_once.new.places
           c.loop-rolled.rolled.cycles c.loop-rolled.rolled.filled c.from.result c.loop-rolled.rolled.is_shut c.is_some.result
           invariant.on once.buffer.0 once.setting.0 once.setting.1 once.bytes
-          (λ calls played count had. subst (λ (x : ℕ × ℕ). CallsPlay hand.frames (standing_in first) (calls ++ call_under hand.newest x.0 ∷ []) (played ++ c.play_once.new.places) (count + x.1) (standing_in after))
+          (λ calls played count had. subst (λ (x : ℕ × ℕ). CallsPlay hand.frames (standing_in first) (calls ++ (record { setting = hand.newest; gains = (4096, 4096); places = x.0 }) ∷ []) (played ++ c.play_once.new.places) (count + x.1) (standing_in after))
           (λ i. (same i, sym c.from.ensures i)) (once.played (standing_in first) calls played count had))
           (c.is_some.ensures ∙ ap is_some once.shut);
       places = once.buffer.1 ∙ same;

@@ -4,7 +4,6 @@ use Rattle.af_static.specs.Loops.{shut_by}
 use Rattle.af_static.specs.declared.setting.Setting.{Setting}
 use Rattle.af_static.specs.declared.ends.Unrolled.{Unrolled}
 use Rattle.af_offline.proofs.Rolling.{used_is, next_setting-stays}
-use Rattle.af_offline.specs.Looped.{unity}
 use Rattle.af_offline.proofs.looping.play_once.Goals as goal
 
 pub returns-clause-setting : goal.returns-clause-setting
@@ -15,7 +14,7 @@ returns-clause-setting c =
 pub returns-clause-played : goal.returns-clause-played
 returns-clause-played c first calls played count was =
     let hand = c.args.hand.now in
-    let at_unity : c.clamped.result ≡ unity = c.clamped.ensures in
+    let at_unity : c.clamped.result ≡ (4096, 4096) = c.clamped.ensures in
     subst (λ (gains : ℕ × ℕ). CallsPlay hand.frames first (calls ++ record { setting = hand.newest; gains = gains; places = length c.args.places.now } ∷ []) (played ++ c.play-unrolled.new.out) (count + c.play-unrolled.result.filled) (standing_in c.play-unrolled.new.self))
     at_unity (c.play-unrolled.ensures.played first calls played count was)
 

@@ -1,22 +1,17 @@
 use Rattle.std.proofs.Common.{true≢false, refl, sym, ap, subst, ◌∙◌}
 use Rattle.af_model.specs.Cycles.{cycle_of, is_mixed}
-use Rattle.af_fast.specs.contracts.mixer.FastMixer.{the_view}
 use Rattle.af_fast.specs.Mixer.{MixerState, IsInOrderAfter}
-use Rattle.af_fast.proofs.Added.{current_copied, mixed_is, none_current}
+use Rattle.af_fast.proofs.Added.{mixed_is}
 use Rattle.af_fast.proofs.mixer.FastMixer.add_cycle.Goals as goal
 
-pub add_mix-requires-clause-state : goal.add_mix-requires-clause-state
-add_mix-requires-clause-state g c =
-    let m : MixerState = the_view c.self.inside in
-    current_copied m.observer c.current.result c.copied-state.result (none_current m (subst (IsInOrderAfter c.requires.order.earlier) (sym c.self.view_is) c.requires.order.order)) c.current.ensures c.copied-state.ensures ∙ ap (λ (y : MixerState). y.observer.current) c.self.view_is
+pub cycle_of-kind-requires : goal.cycle_of-kind-requires
+cycle_of-kind-requires g c = (subst (IsInOrderAfter c.requires.order.earlier) (sym c.self.view_is) c.requires.order.order).observer
 
 pub add_mix-requires-clause-mixed : goal.add_mix-requires-clause-mixed
-add_mix-requires-clause-mixed g c = sym (mixed_is c.cycle_of-kind.result (sym c.is_mixed.ensures ∙ c.if-is_mixed.true)) ∙ c.cycle_of-kind.ensures ∙ ap (λ (y : MixerState). cycle_of y.cold c.copied-state.result) c.self.view_is
+add_mix-requires-clause-mixed g c = sym (mixed_is c.cycle_of-kind.result (sym c.is_mixed.ensures ∙ c.if-is_mixed.true)) ∙ c.cycle_of-kind.ensures ∙ ap (λ (y : MixerState). cycle_of y.cold y.observer.current) c.self.view_is
 
-pub add_still-requires-clause-state : goal.add_still-requires-clause-state
-add_still-requires-clause-state g c =
-    let m : MixerState = the_view c.self.inside in
-    current_copied m.observer c.current.result c.copied-state.result (none_current m (subst (IsInOrderAfter c.requires.order.earlier) (sym c.self.view_is) c.requires.order.order)) c.current.ensures c.copied-state.ensures ∙ ap (λ (y : MixerState). y.observer.current) c.self.view_is
+pub add_still-requires-clause-kind : goal.add_still-requires-clause-kind
+add_still-requires-clause-kind g c = c.cycle_of-kind.ensures ∙ ap (λ (y : MixerState). cycle_of y.cold y.observer.current) c.self.view_is
 
 pub returns-then-is_mixed-clause-adds : goal.returns-then-is_mixed-clause-adds
 returns-then-is_mixed-clause-adds g c = λ earlier k.

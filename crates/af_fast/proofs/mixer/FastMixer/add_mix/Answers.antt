@@ -14,7 +14,7 @@ use Rattle.af_fast.specs.contracts.mixer.FastMixer.{the_view}
 use Rattle.af_fast.specs.Mixer.{MixerState, IsInOrderAfter, AreFew, is_over, most_entries}
 use Rattle.af_fast.specs.Mixing.{AddsCycleAfter, StoresReport, Writes, notes}
 use Rattle.af_model.specs.Tracks.{tracks_of}
-use Rattle.af_fast.proofs.Added.{Comes, current_state, few_counted, few_reports, log_open, mix_step, room_one}
+use Rattle.af_fast.proofs.Added.{Comes, mixed_some, few_counted, few_reports, log_open, mix_step, room_one}
 use Rattle.af_fast.proofs.Counted.{mixed_few}
 use Rattle.af_fast.proofs.mixer.FastMixer.add_mix.Goals as goal
 
@@ -24,7 +24,7 @@ mix_slots-requires g c =
     let k = subst (IsInOrderAfter c.requires.order.earlier) (sym c.self.view_is) c.requires.order.order in
     let goes : is_over m ≡ false = ap is_over c.self.view_is ∙ c.requires.goes in
     record {
-      state = current_state m c.in-Some.pushed k (ap (λ (y : MixerState). y.observer.current) c.self.view_is ∙ sym c.requires.state ∙ c.in-Some.is);
+      some = mixed_some m k (c.requires.mixed ∙ ap (λ (y : MixerState). cycle_of y.cold y.observer.current) (sym c.self.view_is));
       order = k.observer;
       names = search (rules);
       made = search (rules);
@@ -42,9 +42,10 @@ note-requires g c =
     let mixed = c.mix_slots.ensures in
     let same = sym mixed.same in
     record {
-      state = (λ x is.
-          current_state m x k (ap (λ (y : MixerState). y.observer.current) c.self.view_is ∙ sym c.requires.state ∙ is)
-          ∙ sym (ap (λ (y : Observes ServerState StreamNames). y.past.state) mixed.plays.same));
+      kept = (λ yes.
+          ap (λ (y : MixerState). y.last) mixed.same
+          ∙ subst (λ (y : MixerState). y.last ≡ y.observer.current) (sym c.self.view_is) (c.has_kept-kept.ensures yes)
+          ∙ sym (ap (λ (y : Observes ServerState StreamNames). y.current) mixed.plays.same));
       order = mixed.order;
       cell = search (rules);
       room = omega (arith, log_open m k goes, k.room.entries, ap length mixed.log.0, mixed.log.1);
@@ -55,15 +56,16 @@ note-requires g c =
 pub returns : goal.returns
 returns g c =
     let m : MixerState = the_view c.self.inside in
-    let x : FastState = c.in-Some.pushed in
+    let x : FastState = m.observer.past.state in
     let k = subst (IsInOrderAfter c.requires.order.earlier) (sym c.self.view_is) c.requires.order.order in
     let goes : is_over m ≡ false = ap is_over c.self.view_is ∙ c.requires.goes in
-    let current_is : m.observer.current ≡ Some x = ap (λ (y : MixerState). y.observer.current) c.self.view_is ∙ sym c.requires.state ∙ c.in-Some.is in
-    let kind_is : cycle.Mixed ≡ cycle_of m.cold (Some x) =
-    c.requires.mixed ∙ ap (λ (y : MixerState). cycle_of y.cold c.args.state.now) (sym c.self.view_is) ∙ ap (cycle_of m.cold) c.in-Some.is in
+    let kind_now : cycle.Mixed ≡ cycle_of m.cold m.observer.current = c.requires.mixed ∙ ap (λ (y : MixerState). cycle_of y.cold y.observer.current) (sym c.self.view_is) in
+    let current_is : m.observer.current ≡ Some x = k.observer.told.state (mixed_some m k kind_now) in
+    let kind_is : cycle.Mixed ≡ cycle_of m.cold (Some x) = kind_now ∙ ap (cycle_of m.cold) current_is in
     let mixed = c.mix_slots.ensures in
-    let noted = subst (λ (y : Option FastState). c.note.new.self ≡ notes y c.mix_slots.new.entry c.note.new.self.writer c.note.new.self.reports c.mix_slots.new.self) c.in-Some.is c.note.ensures.notes in
-    let stored = subst (λ (y : Option FastState). StoresReport y c.mix_slots.new.entry c.mix_slots.new.self c.note.new.self) c.in-Some.is c.note.ensures.reports in
+    let current_still : c.mix_slots.new.self.observer.current ≡ Some x = ap (λ (y : Observes ServerState StreamNames). y.current) mixed.plays.same ∙ current_is in
+    let noted = subst (λ (y : Option FastState). c.note.new.self ≡ notes y c.mix_slots.new.entry c.note.new.self.writer c.note.new.self.reports c.mix_slots.new.self) current_still c.note.ensures.notes in
+    let stored = subst (λ (y : Option FastState). StoresReport y c.mix_slots.new.entry c.mix_slots.new.self c.note.new.self) current_still c.note.ensures.reports in
     let comes : (earlier : List CycleEntry) → IsInOrderAfter earlier c.args.self.now → Comes earlier m c.note.new.self cycle.Mixed c.mix_slots.new.entry =
     (λ earlier o. mix_step earlier m c.mix_slots.new.self c.note.new.self c.mix_slots.new.entry x cycle.Mixed (subst (IsInOrderAfter earlier) (sym c.self.view_is) o) goes current_is kind_is refl mixed.same mixed.order mixed.log mixed.plays noted stored) in
     let writes : Writes c.note.new.self c.mix_slots.new.entry c.args.out.now c.mix_slots.new.out =
@@ -77,8 +79,7 @@ returns g c =
           subst (λ (y : MixerState). (entry : CycleEntry) × (cycle.Mixed ≡ entry.cycle) × AddsCycleAfter earlier y c.note.new.self entry × Writes c.note.new.self entry c.args.out.now c.mix_slots.new.out) c.self.view_is
           (c.mix_slots.new.entry, (comes earlier o).1, (comes earlier o).2, writes));
       length = search (rules);
-      steps = subst (λ (y : FastState × MixerState). c.note.new.steps ≤ c.args.steps.now + (tracks_of y.0 + 1) * y.1.frames + 7 * tracks_of y.0 + 4)
-          (λ i. ((current_state m x k current_is ∙ ap (λ (y : MixerState). y.observer.past.state) c.self.view_is) i, c.self.view_is i))
+      steps = subst (λ (y : MixerState). c.note.new.steps ≤ c.args.steps.now + (tracks_of y.observer.past.state + 1) * y.frames + 7 * tracks_of y.observer.past.state + 4) c.self.view_is
           (mixed_few (tracks_of x) m.frames c.args.steps.now c.mix_slots.new.steps c.note.new.steps mixed.steps c.note.ensures.steps);
       state = ap (λ (y : MixerState). y.observer.past) c.note.ensures.notes ∙ ap (λ (y : Observes ServerState StreamNames). y.past) mixed.plays.same ∙ ap (λ (y : MixerState). y.observer.past) c.self.view_is;
     }

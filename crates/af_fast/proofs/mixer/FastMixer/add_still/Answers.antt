@@ -1,11 +1,10 @@
-use Rattle.std.proofs.Common.{rules, ◌≡◌, Option, List, false, sym, ap, subst, ◌∙◌, arith}
+use Rattle.std.proofs.Common.{rules, ◌≡◌, List, false, sym, ap, subst, ◌∙◌, arith}
 use Rattle.af_base.specs.declared.log.CycleEntry.{CycleEntry}
-use Rattle.af_base.specs.declared.state.FastState.{FastState}
 use Rattle.af_model.specs.Cycles.{cycle_of, still_entry}
 use Rattle.af_fast.specs.contracts.mixer.FastMixer.{the_view}
 use Rattle.af_fast.specs.Mixer.{MixerState, IsInOrderAfter, is_over}
-use Rattle.af_fast.specs.Mixing.{AddsCycleAfter, StoresReport, notes}
-use Rattle.af_fast.proofs.Added.{Comes, current_state, few_counted, few_reports, log_open, still_step}
+use Rattle.af_fast.specs.Mixing.{AddsCycleAfter}
+use Rattle.af_fast.proofs.Added.{Comes, few_counted, few_reports, log_open, still_step}
 use Rattle.af_fast.proofs.mixer.FastMixer.add_still.Goals as goal
 
 pub note-requires : goal.note-requires
@@ -15,7 +14,7 @@ note-requires g c =
     let goes : is_over m ≡ false = ap is_over c.self.view_is ∙ c.requires.goes in
     let linked = c.requires.linked in
     record {
-      state = (λ x is. current_state m x k (ap (λ (y : MixerState). y.observer.current) c.self.view_is ∙ sym c.requires.state ∙ is));
+      kept = (λ same. subst (λ (y : MixerState). y.last ≡ y.observer.current) (sym c.self.view_is) (c.has_kept-kept.ensures same));
       order = k.observer;
       cell = ap (λ (y : MixerState). y.writer.cell) c.self.view_is ∙ linked.report_is;
       room = omega (arith, log_open m k goes, k.room.entries);
@@ -28,14 +27,11 @@ pub returns : goal.returns
 returns g c =
     let m : MixerState = the_view c.self.inside in
     let goes : is_over m ≡ false = ap is_over c.self.view_is ∙ c.requires.goes in
-    let current_is : c.args.state.now ≡ m.observer.current = c.requires.state ∙ sym (ap (λ (y : MixerState). y.observer.current) c.self.view_is) in
     let kind_is : c.args.kind ≡ cycle_of m.cold m.observer.current =
-    c.requires.kind ∙ ap (λ (y : MixerState). cycle_of y.cold c.args.state.now) (sym c.self.view_is) ∙ ap (cycle_of m.cold) current_is in
+    c.requires.kind ∙ ap (λ (y : MixerState). cycle_of y.cold y.observer.current) (sym c.self.view_is) in
     let entry_is : c.still_entry-entry.result ≡ still_entry m.observer.past.number c.args.kind = c.still_entry-entry.ensures ∙ ap (λ n. still_entry n c.args.kind) c.number.ensures in
-    let noted = subst (λ (y : Option FastState). c.note.new.self ≡ notes y c.still_entry-entry.result c.note.new.self.writer c.note.new.self.reports (record m { adopted = false })) current_is c.note.ensures.notes in
-    let stored = subst (λ (y : Option FastState). StoresReport y c.still_entry-entry.result (record m { adopted = false }) c.note.new.self) current_is c.note.ensures.reports in
     let comes : (earlier : List CycleEntry) → IsInOrderAfter earlier c.args.self.now → Comes earlier m c.note.new.self c.args.kind c.still_entry-entry.result =
-    (λ earlier k. still_step earlier m c.note.new.self c.still_entry-entry.result c.args.kind (subst (IsInOrderAfter earlier) (sym c.self.view_is) k) goes kind_is c.requires.still entry_is noted stored) in
+    (λ earlier k. still_step earlier m c.note.new.self c.still_entry-entry.result c.args.kind (subst (IsInOrderAfter earlier) (sym c.self.view_is) k) goes kind_is c.requires.still entry_is c.note.ensures.notes c.note.ensures.reports) in
     record {
       linked = search (rules);
       order = (λ earlier k. (comes earlier k).0);

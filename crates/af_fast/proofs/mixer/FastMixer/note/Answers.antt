@@ -13,5 +13,5 @@ returns-clause-reports g c = record {
   whole = c.report_all.ensures.whole;
   each = (λ i lt.
       c.report_all.ensures.each i lt
-      ∙ ap (λ (y : MixerState). slot_report y.frames c.args.state.now y.last c.args.entry.now (known y.observer i) i (report_at y.reports i)) c.self.view_is);
+      ∙ ap (λ (y : MixerState). slot_report y.frames y.observer.current y.last c.args.entry.now (known y.observer i) i (report_at y.reports i)) c.self.view_is);
 }

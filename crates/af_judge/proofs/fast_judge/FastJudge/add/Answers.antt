@@ -12,8 +12,8 @@ returns c =
     let heard = heard_slots c.args.tracks.now c.args.state.now in
     let view = c.self.view_is in
     let told_is : c.self.inside.told ≡ v.told = ap (λ (f : FastKept). f.told) view in
-    let told : c.add.new.self ≡ entry_added states (told_at_slot heard) entry v.told =
-    c.add.ensures ∙ (ap (λ h. entry_added states (told_at_slot h) entry c.self.inside.told) c.heard_of-heard.ensures ∙ ap (λ (t : Telling). entry_added states (told_at_slot heard) entry t) told_is) in
+    let told : c.add_played.new.self ≡ entry_added states (told_at_slot heard) entry v.told =
+    c.add_played.ensures ∙ ap (λ (t : Telling). entry_added states (told_at_slot heard) entry t) told_is in
     let last : c.report.result ≡ (entry_added states (told_at_slot heard) entry v.told).report = c.report.ensures ∙ ap (λ (t : Telling). t.report) told in
     let reports : c.push.new.self.items ≡ v.reports ++ (entry_added states (told_at_slot heard) entry v.told).report ∷ [] =
     c.in_ok-push.ensures.items ∙ (λ j. (ap (λ (f : FastKept). f.reports) view j) ++ last j ∷ []) in

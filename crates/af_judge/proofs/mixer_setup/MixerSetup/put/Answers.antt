@@ -12,7 +12,7 @@ use Rattle.af_judge.proofs.mixer_setup.MixerSetup.put.Goals as goal
 
 pub returns : goal.returns
 returns c =
-    let P : List Frame → Type 0 = λ x. IfOk c.plain_mix.result (λ frames. frames.items ≡ x) in
+    let P : List Frame → Type 0 = λ x. IfOk c.mix_of.result (λ frames. frames.items ≡ x) in
     subst P (put_is c.args.self.now c.args.takes.now c.as_slice.result.now c.asked.result
     (ap (λ (xs : List Part). map part_of xs) c.as_slice.ensures.value ∙ c.loop-take.invariant ∙ ap (λ (xs : List NormalTake). map (λ (t : NormalTake). take_of c.args.self.now (take_seen t)) xs) (take_all c.loop-take.take-index c.args.takes.now c.loop-take-test.false))
-    c.asked.ensures (sym c.is_empty.ensures ∙ c.if-is_empty.false)) c.plain_mix.ensures
+    c.asked.ensures (sym c.is_empty.ensures ∙ c.if-is_empty.false)) c.mix_of.ensures
