@@ -59,6 +59,11 @@ impl Watch {
 }
 
 impl Gate for Watch {
+    /// One for each of the four parties.
+    fn threads(&self) -> u32 {
+        4
+    }
+
     fn enter(&self, party: u32) {
         if party == 0 {
             self.wait(&self.first_turns, &self.other_turns);

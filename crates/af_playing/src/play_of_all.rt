@@ -55,7 +55,7 @@ fn play_with<R: Threads + Sync, S: Store, G: Gate>(
     }
 }
 
-/// Plays a script in rounds. In each round every party that has not ended makes one turn, on a thread of its own if one can be made: each client, the normal mixer, and the fast mixer, which makes sixteen cycles, or fewer after one that isn't mixed. Then all parties meet. A party's turn begins at the gate, by the party's number: a client has the number of its track, and the mixers' numbers come behind those. The sound goes to the file of the piece, round by round. All blocks, logs and mixers are made before the file is; the rounds are noted as they are played. There are at most as many rounds as the script has cycles.
+/// Plays a script in rounds. In each round every party that has not ended makes one turn: each client, the normal mixer, and the fast mixer, which makes sixteen cycles, or fewer after one that isn't mixed. They make them at the same time, on as many threads as the gate says at most, if threads can be made. Then all parties meet. A party's turn begins at the gate, by the party's number: a client has the number of its track, and the mixers' numbers come behind those. The sound goes to the file of the piece, round by round. All blocks, logs and mixers are made before the file is; the rounds are noted as they are played. There are at most as many rounds as the script has cycles.
 ///
 /// Whatever the threads did, what was played is a run of the script and its files, of rounds of all parties, whose journal is handed back (`HandsBackRun`). Ok says that all parties have ended (`done`), CycleLimit that the log is full and some party has not (`limit`); so after each round but the last some party goes on and the log has room. With either answer the journal records its run (`run`): each client's calls and each state pushed stand in it once, in their order, each client has released as many frames as its calls put there, and no cycle uses a state older than one before it. The summary is that of the journal alone. The lists that the ends handed back keep are those of the run that the journal records: of the clients' proxies, of the queue's mutator, of the report's reader, of the pipe's end, and of the proxies that the normal mixer holds, if no poke was made. Whatever clients stored in their words, each track on whose blocks nothing was poked is spared: no call of its client was answered Corrupt, and no look of the normal mixer at its blocks was Shut. If the store shows its files, the file is the sound of the journal; after a fault no file has changed, or the file holds a front of the sound of some first rounds (`files`). `steps` gets the word steps that the cycles of the journal took, one after the other: each at most `(m + 1) * frames + 7 * m + 6` with m tracks in its state, and its note in a log at most ten.
 ///
@@ -138,8 +138,7 @@ pub fn play_logged<R: Threads + Sync, S: Store, G: Gate>(
     ensures files { S.told store.old → KeepsFiles piece.now.script.now piece.now.files.now piece.now.name.now (S.files store.old) (S.files store.new) result }
     ensures tells { S.told store.old → S.told store.new }
     ensures cause { HasStoreCause (S.faults store.old) (S.faults store.new) result }
-    ensures log { AppendsLogOfPlay piece.now.script.now.frames piece.now.room result text.old.items text.new.items }
-    ensures unchanged { OnErr result (text.new.items ≡ text.old.items) }
+    ensures log { AppendsLogOfPlay piece.now.script.now.frames piece.now.room result text.old.items text.new.items × OnErr result (text.new.items ≡ text.old.items) }
     ensures steps { HandedBack (TookFew piece.now.script.now.frames steps.new.items) result }
 {
     let mut logging = Logging::of(alloc, piece.room, piece.script.cycles())?;

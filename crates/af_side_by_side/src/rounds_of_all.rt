@@ -14,7 +14,7 @@ ghost use Rattle.af_tally.specs.Summaries.{Shown};
 ghost use Rattle.af_tally.specs.Tallies.{IsTally, Keeps};
 
 use crate::logging::Logging;
-use crate::side_by_side::{clients_turns, mixers_turns};
+use crate::side_by_side::{Start, clients_turns, have_ended, mixers_turns};
 use af_base::Steps;
 use af_fast::FastMixer;
 use af_io::Gate;
@@ -26,16 +26,18 @@ use std::marker::Brand;
 use std::sync::ledger::{Blank, Ledger};
 use std::thread::{Threads, join_mut};
 
-/// The threads of a round, and the gate that each party passes.
-#[derive(Clone, Copy, Drop)]
-struct Start<'a, 'b, R, G> {
-    rt: &'a R,
-    gate: &'b G,
+// How many of these threads the mixers get, and the party that reads the log if one is kept: half of them, but not more than there are such parties.
+fn threads_of_mixers(threads: u32, logging: &Logging) -> u32
+    ensures { result ≤ threads }
+{
+    let parties = if logging.log.is_some() { 3 } else { 2 };
+    let half = threads / 2;
+    if half < parties { half } else { parties }
 }
 
-// The turns of these parties at the same time, each on a thread of its own if one can be made: the clients, then the normal mixer, then the fast mixer, and the party that reads the log if one is kept, divided in halves. The bytes of what the fast mixer mixed are appended to those in the room. It takes no memory.
+// The turns of these parties at the same time, on at most as many threads as there may be: the clients, then the normal mixer, then the fast mixer, and the party that reads the log if one is kept. Clients that have all ended need no thread. The bytes of what the fast mixer mixed are appended to those in the room. It takes no memory.
 fn turns_at_once<R: Threads + Sync, G: Gate>(
-    start: Start<'_, '_, R, G>,
+    start: &Start<'_, '_, R, G>,
     clients: &mut [Party],
     normal: &mut NormalMixer,
     fast: &mut FastMixer,
@@ -49,18 +51,25 @@ fn turns_at_once<R: Threads + Sync, G: Gate>(
     ensures clients { AllZip (HasTurned rig.now.links (given_of rig.now)) clients.old clients.new }
     ensures mixers { MixersPlayed rig.now.links normal.old normal.new fast.old fast.new room.old room.new logging.old logging.new }
 {
-    let Start { rt, gate } = start;
+    if start.threads < 2 || have_ended(clients) {
+        clients_turns(start, clients, rig);
+        mixers_turns(start, normal, fast, rig, room, logging);
+        return;
+    }
+    let &Start { rt, gate, threads } = start;
+    let few = threads_of_mixers(threads, logging);
+    let others = threads - few;
     join_mut(
         rt,
         &mut ||
             requires { IsSync R.row × All (CanTurn rig.now.links (given_of rig.now)) clients.now }
             ensures { AllZip (HasTurned rig.entry.now.links (given_of rig.entry.now)) clients.entry.now clients.exit.now }
-        { clients_turns(rt, clients, rig, gate) },
+        { clients_turns(&Start::of(rt, gate, others), clients, rig) },
         &mut ||
             requires { IsSync R.row × CanPlayMixers rig.now.links normal.now fast.now room.now logging.now × (length rig.now.tracks.now < 2 ^ 31) }
             ensures { MixersPlayed rig.entry.now.links normal.entry.now normal.exit.now fast.entry.now fast.exit.now
                 room.entry.now room.exit.now logging.entry.now logging.exit.now }
-        { mixers_turns(rt, normal, fast, rig, room, logging, gate) },
+        { mixers_turns(&Start::of(rt, gate, few), normal, fast, rig, room, logging) },
     );
 }
 
@@ -85,8 +94,8 @@ fn all_turns<R: Threads + Sync, G: Gate>(
         normal,
         fast,
     } = parties;
-    let start = Start { rt, gate };
-    turns_at_once(start, clients, normal, fast, rig, room, logging);
+    let start = Start::of(rt, gate, gate.threads());
+    turns_at_once(&start, clients, normal, fast, rig, room, logging);
 }
 
 // Notes the calls of each client, and the turn of the normal mixer if the mixer hadn't ended.
@@ -123,7 +132,7 @@ fn meet_in<L: Ledger>(
     logging.meet(&mut steps);
 }
 
-/// A round of all parties: each that hasn't ended makes one turn, on a thread of its own if one can be made, and then all meet. Once the normal mixer has ended every client has. The bytes of what the fast mixer mixed are appended to those in the room, which has room for those of sixteen cycles. If a log is kept a party of its own reads it in each round, and its two ends meet with the others. It takes no memory.
+/// A round of all parties: each that hasn't ended makes one turn, at the same time as the others on at most as many threads as the gate says, and then all meet. Once the normal mixer has ended every client has. The bytes of what the fast mixer mixed are appended to those in the room, which has room for those of sixteen cycles. If a log is kept a party of its own reads it in each round, and its two ends meet with the others. It takes no memory.
 ///
 /// Each turn is a legal one by what its party saw, and after the meetings the lists of each two that met have a history. If the bytes that went out before, and those in the room behind them, were the sound of the fast mixer's log, they are so again.
 pub fn round_of_all<R: Threads + Sync, G: Gate>(

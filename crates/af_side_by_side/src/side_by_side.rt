@@ -1,4 +1,4 @@
-//! The turns of all parties at once: each on a thread of its own if threads can be made.
+//! The turns of all parties at once, on so many threads, if threads can be made.
 ghost use Rattle.std.specs.Prelude.{◌≡◌, ◌+◌, ◌<◌, ◌^◌, length, All};
 ghost use Rattle.std.specs.List.{AllZip, list_all};
 ghost use Rattle.std.specs.Thread.{IsSync};
@@ -20,6 +20,21 @@ use af_session::{Rig, Room};
 use std::marker::Brand;
 use std::sync::ledger::{Blank, Ledger};
 use std::thread::{Threads, join_mut};
+
+/// The threads of a round, the gate that each party passes, and on how many threads at most its turns go on at the same time.
+#[derive(Drop)]
+pub(crate) struct Start<'a, 'b, R, G> {
+    pub(crate) rt: &'a R,
+    pub(crate) gate: &'b G,
+    pub(crate) threads: u32,
+}
+
+impl<'a, 'b, R, G> Start<'a, 'b, R, G> {
+    /// These threads, this gate, and so many threads at most.
+    pub(crate) fn of(rt: &'a R, gate: &'b G, threads: u32) -> Self {
+        Start { rt, gate, threads }
+    }
+}
 
 // A client's turn, whose steps are counted by themselves.
 fn client_in<L: Ledger>(blank: Blank, client: &mut Party, rig: &Rig<'_, '_, '_>)
@@ -89,52 +104,86 @@ fn fast_turn<G: Gate>(
     turn_alone(fast, links, room, log, scribe);
 }
 
-// Whether all of these clients have ended.
-fn have_ended(clients: &[Party]) -> bool
+/// Whether all of these clients have ended.
+pub(crate) fn have_ended(clients: &[Party]) -> bool
     ensures { result ≡ list_all (λ p. p.client.ended) clients.now }
 {
     clients.iter().all(|client| client.has_ended())
 }
 
-/// The turns of some clients, on threads of their own. Those that have ended need none: if a half has only such clients, both halves go on one thread.
+/// The turns of some clients, one half of them at the same time as the other, if there may be two threads. Clients that have ended need none: if a half has only such clients, both halves go on one thread.
 #[cycle(clients)]
 pub(crate) fn clients_turns<R: Threads + Sync, G: Gate>(
-    rt: &R,
+    start: &Start<'_, '_, R, G>,
     clients: &mut [Party],
     rig: &Rig<'_, '_, '_>,
-    gate: &G,
 )
     requires { All (CanTurn rig.now.links (given_of rig.now)) clients.old }
     ensures { AllZip (HasTurned rig.now.links (given_of rig.now)) clients.old clients.new }
 {
     match clients {
         [] => {}
-        [client] => client_turn(client, rig, gate),
+        [client] => client_turn(client, rig, start.gate),
         _ => {
             let (front, back) = clients.split_at_mut(clients.len() / 2);
-            if have_ended(front) || have_ended(back) {
-                clients_turns(rt, front, rig, gate);
-                clients_turns(rt, back, rig, gate);
+            if start.threads < 2 || have_ended(front) || have_ended(back) {
+                clients_turns(start, front, rig);
+                clients_turns(start, back, rig);
                 return;
             }
+            let &Start { rt, gate, threads } = start;
+            let few = threads / 2;
+            let others = threads - few;
             join_mut(
                 rt,
                 &mut ||
                     requires { IsSync R.row × All (CanTurn rig.now.links (given_of rig.now)) front.now }
                     ensures { AllZip (HasTurned rig.entry.now.links (given_of rig.entry.now)) front.entry.now front.exit.now }
-                { clients_turns(rt, front, rig, gate) },
+                { clients_turns(&Start::of(rt, gate, few), front, rig) },
                 &mut ||
                     requires { IsSync R.row × All (CanTurn rig.now.links (given_of rig.now)) back.now }
                     ensures { AllZip (HasTurned rig.entry.now.links (given_of rig.entry.now)) back.entry.now back.exit.now }
-                { clients_turns(rt, back, rig, gate) },
+                { clients_turns(&Start::of(rt, gate, others), back, rig) },
             );
         }
     }
 }
 
-// The turns of the fast mixer and of the party that reads its log, each on a thread of its own. The reading party has the number behind the mixer's.
+// The turns of the fast mixer and of the party that reads its log at the same time. The reading party has the number behind the mixer's.
 fn fast_and_auditor<R: Threads + Sync, G: Gate>(
-    rt: &R,
+    start: &Start<'_, '_, R, G>,
+    fast: &mut FastMixer,
+    links: &Links<'_>,
+    room: &mut Room,
+    logging: &mut Logging,
+    party: u32,
+)
+    requires can { CanPlayFast links.now fast.old room.old logging.old }
+    requires party { party < 2 ^ 31 + 1 }
+    ensures { FastAudited links.now fast.old fast.new room.old room.new logging.old logging.new }
+{
+    let Logging {
+        log,
+        scribe,
+        auditor,
+    } = logging;
+    let last = party + 1;
+    let &Start { rt, gate, .. } = start;
+    join_mut(
+        rt,
+        &mut ||
+            requires { CanCycle links.now fast.now × HasRoom 16 fast.now room.now × IsScribe log.now (length fast.now.log.entries) scribe.now }
+            ensures { FastLogged links.entry.now fast.entry.now fast.exit.now room.entry.now room.exit.now scribe.entry.now scribe.exit.now }
+        { fast_turn(fast, links, room, log, scribe, party, gate) },
+        &mut ||
+            requires { IsAuditor log.now auditor.now }
+            ensures { HasAudited auditor.entry.now auditor.exit.now }
+        { auditor.turn(log, last, gate) },
+    );
+}
+
+// The turns of the fast mixer and of the party that reads its log, one after the other.
+fn fast_then_auditor<G: Gate>(
     fast: &mut FastMixer,
     links: &Links<'_>,
     room: &mut Room,
@@ -151,51 +200,38 @@ fn fast_and_auditor<R: Threads + Sync, G: Gate>(
         scribe,
         auditor,
     } = logging;
-    let last = party + 1;
-    join_mut(
-        rt,
-        &mut ||
-            requires { CanCycle links.now fast.now × HasRoom 16 fast.now room.now × IsScribe log.now (length fast.now.log.entries) scribe.now }
-            ensures { FastLogged links.entry.now fast.entry.now fast.exit.now room.entry.now room.exit.now scribe.entry.now scribe.exit.now }
-        { fast_turn(fast, links, room, log, scribe, party, gate) },
-        &mut ||
-            requires { IsAuditor log.now auditor.now }
-            ensures { HasAudited auditor.entry.now auditor.exit.now }
-        { auditor.turn(log, last, gate) },
-    );
+    fast_turn(fast, links, room, log, scribe, party, gate);
+    auditor.turn(log, party + 1, gate);
 }
 
-// The turns of the fast mixer and, if a log is kept, of the party that reads it.
+// The turns of the fast mixer and, if a log is kept, of the party that reads it, at the same time if there may be two threads and the mixer hasn't ended.
 fn fast_and_log<R: Threads + Sync, G: Gate>(
-    rt: &R,
+    start: &Start<'_, '_, R, G>,
     fast: &mut FastMixer,
     links: &Links<'_>,
     room: &mut Room,
     logging: &mut Logging,
     party: u32,
-    gate: &G,
 )
     requires can { CanPlayFast links.now fast.old room.old logging.old }
     requires party { party < 2 ^ 31 + 1 }
     ensures { FastAudited links.now fast.old fast.new room.old room.new logging.old logging.new }
 {
-    if logging.log.is_none() {
-        let Logging { log, scribe, .. } = logging;
-        fast_turn(fast, links, room, log, scribe, party, gate);
+    if start.threads < 2 || fast.has_exited() || logging.log.is_none() {
+        fast_then_auditor(fast, links, room, logging, party, start.gate);
         return;
     }
-    fast_and_auditor(rt, fast, links, room, logging, party, gate);
+    fast_and_auditor(start, fast, links, room, logging, party);
 }
 
-/// The turns of both mixers, each on a thread of its own. Their parties have the numbers behind those of the clients, of which each track has one.
+/// The turns of both mixers, at the same time if there may be two threads and neither has ended. Their parties have the numbers behind those of the clients, of which each track has one.
 pub(crate) fn mixers_turns<R: Threads + Sync, G: Gate>(
-    rt: &R,
+    start: &Start<'_, '_, R, G>,
     normal: &mut NormalMixer,
     fast: &mut FastMixer,
     rig: &Rig<'_, '_, '_>,
     room: &mut Room,
     logging: &mut Logging,
-    gate: &G,
 )
     requires can { CanPlayMixers rig.now.links normal.old fast.old room.old logging.old }
     requires few { length rig.now.tracks.now < 2 ^ 31 }
@@ -204,6 +240,13 @@ pub(crate) fn mixers_turns<R: Threads + Sync, G: Gate>(
     let links = &rig.links;
     let party = rig.tracks.len() as u32;
     let last = party + 1;
+    if start.threads < 2 || normal.has_ended() || fast.has_exited() {
+        normal_turn(normal, links, party, start.gate);
+        fast_and_log(start, fast, links, room, logging, last);
+        return;
+    }
+    let &Start { rt, gate, threads } = start;
+    let others = threads - 1;
     join_mut(
         rt,
         &mut ||
@@ -213,6 +256,15 @@ pub(crate) fn mixers_turns<R: Threads + Sync, G: Gate>(
         &mut ||
             requires { IsSync R.row × CanPlayFast links.now fast.now room.now logging.now × (last < 2 ^ 31 + 1) }
             ensures { FastAudited links.entry.now fast.entry.now fast.exit.now room.entry.now room.exit.now logging.entry.now logging.exit.now }
-        { fast_and_log(rt, fast, links, room, logging, last, gate) },
+        {
+            fast_and_log(
+                &Start::of(rt, gate, others),
+                fast,
+                links,
+                room,
+                logging,
+                last,
+            )
+        },
     );
 }

@@ -28,7 +28,7 @@ returns-clause-made g c = λ told.
     let keeps : KeepsPlay here.script here.files c.play_logged-played.result = record { done = p.done; limit = p.limit; run = p.run; enough = p.enough } in
     subst (λ (l : Loaded). Makes c.tell_with_log-told.result (Ok (trace_job c.args.output.now.target.now c.args.output.now.journal.now c.args.output.now.log.now c.args.output.now.room l)) old new) same
     (Makes-logged here c.is_accepted.ensures c.what_follows_of_rounds.ensures c.args.output.now.room c.args.output.now.target.now c.args.output.now.journal.now c.args.output.now.log.now old mid new c.deref-2.result.now c.play_logged-played.new.text.items c.new-text.result.items c.deref-2.ensures.value c.new-text.ensures.items
-    c.cycles-cycles.result c.cycles-cycles.ensures.value c.play_logged-played.result c.tell_with_log-told.result keeps (p.files told) p.log
+    c.cycles-cycles.result c.cycles-cycles.ensures.value c.play_logged-played.result c.tell_with_log-told.result keeps (p.files told) p.log.0
     c.tell_with_log-told.ensures.told (c.tell_with_log-told.ensures.files (p.tells told)))
 
 pub returns-clause-line : goal.returns-clause-line

@@ -40,8 +40,7 @@ returns-in_err-logging g c =
       files = (λ told. files_none p.script.now p.files.now p.name.now old old c.from_residual.result fault.Memory refl c.from_residual.ensures.1 (inl (λ name. refl)));
       tells = (λ told. told);
       cause = cause_memory c.from_residual.result (g.S.Store.faults c.args.store.now) c.from_residual.ensures.1;
-      log = IfOk-from_err c.from_residual.result _ c.from_residual.ensures.0;
-      unchanged = on_err c.from_residual.result refl;
+      log = (IfOk-from_err c.from_residual.result _ c.from_residual.ensures.0, on_err c.from_residual.result refl);
       steps = steps_none p.script.now p.files.now c.args.steps.now.items c.from_residual.result fault.Memory refl c.from_residual.ensures.1;
     }
 
@@ -64,7 +63,9 @@ returns g c =
       files = (λ known. files_on p.script.now p.files.now played.result done.result p.name.now (g.S.Store.files c.args.store.now) (g.S.Store.files played.new.store) handed (played.ensures.files known));
       tells = played.ensures.tells;
       cause = cause_on p.script.now p.files.now played.result done.result (g.S.Store.faults c.args.store.now) (g.S.Store.faults played.new.store) handed played.ensures.cause;
-      log = told_by told.result played.result done.result done.ensures.same done.ensures.memory _ (told.ensures.log p.script.now.frames c.args.piece.now.room (played.ensures.log (Some c.args.piece.now.room) begins));
+      log = (
+        told_by told.result played.result done.result done.ensures.same done.ensures.memory _ (told.ensures.log p.script.now.frames c.args.piece.now.room (played.ensures.log (Some c.args.piece.now.room) begins)),
+        kept_by told.result played.result done.result done.ensures.same done.ensures.memory _ told.ensures.none told.ensures.unchanged,
+      );
       steps = steps_on p.script.now p.files.now played.result done.result played.new.steps.items handed played.ensures.steps;
-      unchanged = kept_by told.result played.result done.result done.ensures.same done.ensures.memory _ told.ensures.none told.ensures.unchanged;
     }
