@@ -1,4 +1,4 @@
-//! Tests of the player's commands, over files and a sink in memory: how runs end, what a generated session writes, and what is verified.
+//! Tests of the commands: which words fit, what is recorded, looped, generated and found of journals, how each command ends, and what it leaves when its outside fails.
 #![tactic(auto)]
 
 #[cfg(test)]
@@ -8,6 +8,14 @@ mod failing_tests;
 #[cfg(test)]
 mod generating_tests;
 #[cfg(test)]
+mod judging_tests;
+#[cfg(test)]
+mod plain_tests;
+#[cfg(test)]
 mod shared;
 #[cfg(test)]
 mod verifying_tests;
+#[cfg(test)]
+mod words;
+#[cfg(test)]
+mod words_tests;

@@ -1,4 +1,4 @@
-//! Tests of the ends: each call and each refusal as tables, and two threads over a stream, a recording and a static buffer.
+//! Tests of the ends that the library hands out, of streams, recordings, static buffers and whole mixers: each call and each refusal as tables, lives from their opening to their end, and all parties on threads of their own.
 #![tactic(auto)]
 
 #[cfg(test)]
@@ -6,7 +6,17 @@ mod closing_tests;
 #[cfg(test)]
 mod frames;
 #[cfg(test)]
+mod life_tests;
+#[cfg(test)]
+mod mixer_thread_tests;
+#[cfg(test)]
+mod mixers;
+#[cfg(test)]
+mod period_tests;
+#[cfg(test)]
 mod record_tests;
+#[cfg(test)]
+mod refusal_tests;
 #[cfg(test)]
 mod static_tests;
 #[cfg(test)]
@@ -15,3 +25,5 @@ mod stream_calls;
 mod stream_tests;
 #[cfg(test)]
 mod thread_tests;
+#[cfg(test)]
+mod trials;

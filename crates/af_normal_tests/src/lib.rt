@@ -1,4 +1,4 @@
-//! Tests of the normal mixer and of the parties of its clients: tables of cases, random runs, meetings and ends.
+//! Tests of the normal mixer and of the ends of a whole mixer.
 #![tactic(auto)]
 
 #[cfg(test)]
@@ -13,6 +13,8 @@ mod end_tests;
 mod held_tests;
 #[cfg(test)]
 mod joints;
+#[cfg(test)]
+mod making_tests;
 #[cfg(test)]
 mod meeting_tests;
 #[cfg(test)]

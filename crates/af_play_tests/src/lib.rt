@@ -1,4 +1,4 @@
-//! Tests of plays and traces, through the player's commands: what is the same however the turns of the parties fall.
+//! Tests of sound, through the player's commands: what renders leave, and what is the same of plays and traces however the turns of the parties fall.
 #![tactic(auto)]
 
 #[cfg(test)]
@@ -6,8 +6,14 @@ mod failing_tests;
 #[cfg(test)]
 mod gate_tests;
 #[cfg(test)]
+mod mix_tests;
+#[cfg(test)]
 mod playing_tests;
 #[cfg(test)]
+mod session_tests;
+#[cfg(test)]
 mod shared;
+#[cfg(test)]
+mod sounds;
 #[cfg(test)]
 mod tracing_tests;

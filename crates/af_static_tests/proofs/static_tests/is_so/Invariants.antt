@@ -1,4 +1,0 @@
-use Rattle.af_static_tests.proofs.static_tests.is_so.Given as goal
-
-abbrev pub ghosts-five_calls : goal.ghosts-five_calls
-ghosts-five_calls a = record { name = a.blank.name; parts = a.blank.parts }

@@ -1,4 +1,0 @@
-use Rattle.af_static_tests.proofs.static_threads.set_all.Given as goal
-
-abbrev pub ghosts-set_in : goal.ghosts-set_in
-ghosts-set_in a = record { name = a.blank.name; parts = a.blank.parts }
