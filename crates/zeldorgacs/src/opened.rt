@@ -39,12 +39,17 @@ pub fn close(kept: Box<Kept, Global>) {
     }
 }
 
+// A box with a value of any type, so that the proof need not walk through all that an end may be. Memory is the only refusal.
+fn in_box<T: Drop>(alloc: Global, value: T) -> Result<Box<T, Global>, EndError> {
+    match Box::new(alloc, value) {
+        Ok(value) => Ok(value),
+        Err(_) => Err(EndError::Memory),
+    }
+}
+
 /// A box with an end. Memory is the only refusal.
 pub fn boxed(alloc: Global, kept: Kept) -> Result<Box<Kept, Global>, EndError> {
-    let Ok(kept) = Box::new(alloc, kept) else {
-        return Err(EndError::Memory);
-    };
-    Ok(kept)
+    in_box(alloc, kept)
 }
 
 /// Two new ends, each in a box, or why there are none.
