@@ -8,6 +8,7 @@ use Rattle.af_base.specs.declared.state.Push.{Push}
 use Rattle.af_base.specs.declared.state.Push.TheVariants.{Pushed, Clean, Busy}
 use Rattle.af_base.specs.declared.turn.CommandLook.{CommandLook}
 use Rattle.af_base.specs.Turn.{Turn, TrackSeen, TakeSeen}
+use Rattle.af_life.proofs.Basics.{at_new, set_each, welcomed_at}
 use Rattle.af_life.specs.declared.kept.Heard.{Heard}
 use Rattle.af_life.specs.declared.kept.Holder.TheVariants.{Home, Returning}
 use Rattle.af_life.specs.declared.kept.TrackKept.{TrackKept}
@@ -19,8 +20,6 @@ use Rattle.af_life.specs.Plays.{after_take, after_takes, counted}
 use Rattle.af_life.specs.Serves.{after_part, served, served_to}
 use Rattle.af_life.specs.Turn.{after_tracks, after_edits, turn_after}
 use Rattle.af_model.specs.Draft.{commanded as with_command}
-use Rattle.af_judge.proofs.SoundSlots.{set_each}
-use Rattle.af_judge.proofs.SoundTurns.{welcomed_at, at_new}
 use Rattle.af_audit.proofs.Measure.{AreAttached, Measure}
 
 either_at : (b : Bool) (s t : TrackKept) (h : Heard) → s.at_attach ≡ h → t.at_attach ≡ h → (if b then s else t).at_attach ≡ h

@@ -1,12 +1,11 @@
 -- What is kept of the tracks of a run follows the calls of a round.
 use Rattle.std.proofs.Common.{◌≡◌, ℕ, ◌<◌, List, length, Option, arith, sym, subst, ◌∙◌}
 use Rattle.std.specs.Prelude.{slice_index_or}
+use Rattle.af_judge.proofs.Basics.{each_long, there_is, told_each}
 use Rattle.af_judge.specs.declared.track_judge.TrackJudge.{TrackJudge}
 use Rattle.af_judge.specs.NormalTold.{IsTrackAt}
 use Rattle.af_judge.specs.RunTold.{IsServedTrack, KeepsTracks}
 use Rattle.af_judge.specs.Tracks.{IsTrackOf}
-use Rattle.af_judge.proofs.EachTrack.{each_long, told_each}
-use Rattle.af_judge.proofs.NormalTells.{there_is}
 use Rattle.af_judge.proofs.ServedCalls.{track_called}
 use Rattle.af_judge.proofs.TracksTold.{keeps_of, turn_told}
 use Rattle.af_model.specs.Journals.{RoundSeen}

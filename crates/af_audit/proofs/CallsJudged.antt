@@ -1,10 +1,12 @@
 -- The calls of a round are judged one client after the other.
-use Rattle.std.proofs.Common.{◌≡◌, ◌⊎◌, inl, inr, ℕ, ◌+◌, ◌<◌, ◌≤◌, Bool, true, false, MatchBool, List, [], length, map, set, Option, Some, None, IfSome, arith, sym, subst, ◌∙◌}
+use Rattle.std.proofs.Common.{◌≡◌, inl, inr, ℕ, ◌+◌, ◌<◌, ◌≤◌, Bool, true, false, MatchBool, List, [], length, map, set, Option, Some, None, IfSome, arith, sym, subst, ◌∙◌}
 use Rattle.std.specs.Prelude.{slice_index_or}
-use Rattle.std.proofs.lemmas.List.{length-set, get_or-set_same, get_or-set_other, get_or_default}
+use Rattle.std.proofs.lemmas.List.{length-set, get_or-set_same, get_or-set_other}
+use Rattle.af_base.proofs.Basics.{all_more, below_or_at}
 use Rattle.af_base.specs.declared.event.ClientCall.{ClientCall}
 use Rattle.af_base.specs.declared.frame.Frame.{Frame}
 use Rattle.af_base.specs.Sample.{packed_word}
+use Rattle.af_judge.proofs.Basics.{same_track}
 use Rattle.af_judge.specs.declared.track_judge.TrackJudge.{TrackJudge}
 use Rattle.af_judge.specs.NormalTold.{IsTrackAt}
 use Rattle.af_judge.specs.Tracks.{KeepsTrack, SameServers}
@@ -13,7 +15,6 @@ use Rattle.af_runs.specs.Sessions.{no_spec}
 use Rattle.af_script.specs.declared.op.Op.{Op}
 use Rattle.af_script.specs.declared.track.TrackSpec.{TrackSpec}
 use Rattle.af_audit.specs.RunKept.{AreSides, CallsJudged, LeastBelow, found_after}
-use Rattle.af_audit.proofs.LeastOnes.{all_more}
 
 pub no_calls : (specs : List TrackSpec) (files : List (List Frame)) (calls : ℕ → List ClientCall) (tracks : List TrackJudge) → CallsJudged 0 specs files calls tracks tracks None
 no_calls specs files calls tracks = record {
@@ -22,13 +23,6 @@ no_calls specs files calls tracks = record {
   turns = λ run sides i lt. absurd (omega (arith, lt));
   kept = λ run sides i k lt. absurd (omega (arith, lt));
 }
-
-pub less_or : (i n : ℕ) → i < n + 1 → (i < n) ⊎ (i ≡ n)
-less_or i n lt = grind (arith, lt)
-
--- a list has one track at a place
-pub one-track : (tracks : List TrackJudge) (i : ℕ) (t u : TrackJudge) → IsTrackAt tracks i t → IsTrackAt tracks i u → t ≡ u
-one-track tracks i t u a b = a.1 ∙ (get_or_default tracks i t u a.0 ∙ sym b.1)
 
 -- the track at a place is the one that was put there
 pub put-track : (tracks : List TrackJudge) (i : ℕ) (k u : TrackJudge) → IsTrackAt (set tracks i k) i u → u ≡ k
@@ -65,9 +59,6 @@ TurnAnswer t k legal ops file calls = (u : Track) → u.file ≡ file → KeepsT
 pub moved_answer : (t k : TrackJudge) (legal : Bool) (o p : List Op) (f g : List ℕ) (x y : List ClientCall) → o ≡ p → f ≡ g → x ≡ y → TurnAnswer t k legal o f x → TurnAnswer t k legal p g y
 moved_answer t k legal o p f g x y a b d h = subst (λ (n : List Op). TurnAnswer t k legal n g y) a (subst (λ (n : List ℕ). TurnAnswer t k legal o n y) b (subst (λ (n : List ClientCall). TurnAnswer t k legal o f n) d h))
 
-pub here-at : (tracks : List TrackJudge) (i : ℕ) (d : TrackJudge) → i < length tracks → IsTrackAt tracks i (slice_index_or tracks i d)
-here-at tracks i d lt = (lt, get_or_default tracks i d (slice_index_or tracks i d) lt)
-
 module _ (specs : List TrackSpec) (files : List (List Frame)) (calls : ℕ → List ClientCall) (before now : List TrackJudge) (at : ℕ) (t k : TrackJudge) (here : IsTrackAt now at t) where
   -- what the turn of the client at this place answers
   Answers : Bool → Type 0
@@ -78,13 +69,13 @@ module _ (specs : List TrackSpec) (files : List (List Frame)) (calls : ℕ → L
       → ((u : Track) → u.file ≡ map packed_word (slice_index_or files at []) → KeepsTrack (slice_index_or specs at no_spec).ops t u → MatchBool legal (LegalClientTurn u (calls at) × KeepsTrack (slice_index_or specs at no_spec).ops k (after_calls u (calls at))) (LegalClientTurn u (calls at) → ⊥))
       → next ≡ found_after found legal at → CallsJudged (at + 1) specs files calls before (set now at k) next
   more legal found next many h same answers least = record {
-    servers = λ i u v lt a b. elim (less_or i at lt) [
+    servers = λ i u v lt a b. elim (below_or_at i at lt) [
       | inl less ↦ h.servers i u v less a (other-track now at i k v (λ e. omega (arith, less, e)) b)
       | inr is ↦ servers_here u v (subst (λ n. IsTrackAt before n u) is a) (subst (λ n. IsTrackAt (set now at k) n v) is b)
     ];
     others = λ i u low a. h.others i u (omega (arith, low)) (other-track now at i k u (λ e. omega (arith, low, e)) a);
     turns = λ run sides. subst (LeastBelow (λ i. LegalClientTurn (run i) (calls i)) (at + 1)) (sym least) (least_after (λ i. LegalClientTurn (run i) (calls i)) at found legal (h.turns run sides) (legal_here run sides legal (answers (run at) (sides.file at inside) (sides.kept at t before_here))));
-    kept = λ run sides i v lt a legal_turn. elim (less_or i at lt) [
+    kept = λ run sides i v lt a legal_turn. elim (below_or_at i at lt) [
       | inl less ↦ h.kept run sides i v less (other-track now at i k v (λ e. omega (arith, less, e)) a) legal_turn
       | inr is ↦ subst (λ n. KeepsTrack (slice_index_or specs n no_spec).ops v (after_calls (run n) (calls n))) (sym is)
           (subst (λ x. KeepsTrack (slice_index_or specs at no_spec).ops x (after_calls (run at) (calls at))) (sym (put-track now at k v (subst (λ n. IsTrackAt (set now at k) n v) is a)))
@@ -99,7 +90,7 @@ module _ (specs : List TrackSpec) (files : List (List Frame)) (calls : ℕ → L
       before_here = h.others at t (let x : at ≤ at = omega arith in x) here
 
       servers_here : (u v : TrackJudge) → IsTrackAt before at u → IsTrackAt (set now at k) at v → SameServers u v
-      servers_here u v a b = subst (λ x. SameServers x v) (one-track before at t u before_here a) (subst (λ x. SameServers t x) (sym (put-track now at k v b)) same)
+      servers_here u v a b = subst (λ x. SameServers x v) (same_track before at t u before_here a) (subst (λ x. SameServers t x) (sym (put-track now at k v b)) same)
 
       legal_here : (run : ℕ → Track) → AreSides specs files before run → (b : Bool) → MatchBool b (LegalClientTurn (run at) (calls at) × KeepsTrack (slice_index_or specs at no_spec).ops k (after_calls (run at) (calls at))) (LegalClientTurn (run at) (calls at) → ⊥) → MatchBool b (LegalClientTurn (run at) (calls at)) (LegalClientTurn (run at) (calls at) → ⊥)
       legal_here run sides true x = x.0

@@ -2,10 +2,11 @@
 use Rattle.std.proofs.Common.{◌≡◌, ℕ, ◌-◌, ◌<◌, not, Bool, true, false, true≢false, if◌then◌else◌, is_some, fold, MatchBool, MatchOption, List, [], ◌∷◌, Option, Some, None, refl, sym, ap, ◌∙◌, subst}
 use Rattle.std.proofs.lemmas.Grind.{fold-append}
 use Rattle.std.proofs.lemmas.Option.{none-some}
+use Rattle.af_base.proofs.Basics.{both_true}
 use Rattle.af_base.specs.declared.event.ClientCall.{ClientCall}
 use Rattle.af_base.specs.declared.event.ClientCall.TheVariants as call
 use Rattle.af_base.specs.declared.event.ClientEvent.{ClientEvent}
-use Rattle.af_model.proofs.Logic.{both_are, outside-some}
+use Rattle.af_model.proofs.Logic.{outside-some}
 use Rattle.af_model.specs.ClientCalls.{ClientAnswers, ClientKept, client_begins, client_call_events, client_keeps, client_kept, filled_by}
 use Rattle.af_model.specs.Point.{wrapped}
 use Rattle.af_runs.specs.ClientTurns.{AnswersOn, AreCalls, IsMade, LegalClientTurn, Side, Track, after_call, after_calls, asked_by, called, is_of_commands, most_calls, released_by, with_call}
@@ -108,7 +109,7 @@ unshut_calls commands left t [] are fine = (fine, refl)
 unshut_calls commands left t (answer ∷ calls) are fine =
     let rest = unshut_calls commands (left - 1) (after_call t answer) calls are.4 fine in
     let one = unshut_made t are.1 answer commands are.3 (same_sides commands t answer rest.0) in
-    (one.0, both_are (not (is_corrupt_on commands answer)) (none_corrupt_on commands calls) (ap not one.1) rest.1)
+    (one.0, both_true (not (is_corrupt_on commands answer)) (none_corrupt_on commands calls) (ap not one.1) rest.1)
 
 all_sides : (commands : Bool) (t : Track) (calls : List ClientCall) → IsOpen commands (after_calls t calls) → IsOpen commands (fold after_call t calls)
 all_sides true t calls h = h

@@ -8,8 +8,10 @@ use Rattle.af_base.specs.declared.event.ServerEvent.TheVariants as server
 use Rattle.af_base.specs.declared.seen.Seen.{Seen}
 use Rattle.af_base.specs.declared.seen.Seen.TheVariants as seen
 use Rattle.af_base.specs.declared.turn.CommandLook.{CommandLook}
+use Rattle.af_judge.proofs.Basics.{legal_cut}
 use Rattle.af_life.specs.Looks.{LegalLooks, all_command_events, as_slot, command_events, takes_command}
 use Rattle.af_life.specs.Obeys.{shows_command}
+use Rattle.af_model.proofs.Basics.{flushes-append, three}
 use Rattle.af_model.specs.declared.point.TrackPoint.{TrackPoint}
 use Rattle.af_model.specs.declared.shape.Shape.{Shape}
 use Rattle.af_model.specs.Cycles.{Listed, LooksBy, kept}
@@ -21,9 +23,8 @@ use Rattle.af_model.proofs.Fates.{drops_more, in_turn, taken_begins}
 use Rattle.af_runs.specs.Fronts.{front_of, fronts_by}
 use Rattle.af_judge.proofs.LooksAnswer.{Alike, looks_alike, step_alike}
 use Rattle.af_audit.specs.Fates.{ComesByFlush, DropsByFlush, SeesNewFlush}
-use Rattle.af_audit.proofs.Drops.{legal_cut, server_cut}
-use Rattle.af_audit.proofs.DropsNoticed.{drops_join, none_dropped, saw_new, three_more}
-use Rattle.af_audit.proofs.FewFlushes.{flushes_join}
+use Rattle.af_audit.proofs.Drops.{server_cut}
+use Rattle.af_audit.proofs.DropsNoticed.{drops_join, none_dropped, saw_new}
 use Rattle.af_audit.proofs.Flushes.{flushes_rise, flushes_told, new_above}
 use Rattle.af_model.proofs.Counts.{flushes_are}
 
@@ -48,7 +49,7 @@ module _ (k : Shape) where
     looked : (x : Seen) → x ≡ look_at k (server_kept k ys).flush 2 look.flush look.rear front → DropsByFlush k ys (look_events x look.flush look.rear told ++ takes_command look)
     looked (seen.Flushed dropped) is =
         let new : look.flush ≢ (server_kept k ys).flush = saw_new k (server_kept k ys).flush 2 look.flush look.rear front dropped is in
-        (tt, (tt, (tt, (record { before = ys; flush = look.flush; rear = look.rear; front = told; look = three_more ys _ _ _; is_new = new }, none_dropped k (seen_all ++ _ ∷ []) (takes_command look) (takes_none look)))))
+        (tt, (tt, (tt, (record { before = ys; flush = look.flush; rear = look.rear; front = told; look = three ys _ _ _; is_new = new }, none_dropped k (seen_all ++ _ ∷ []) (takes_command look) (takes_none look)))))
     looked (seen.Frames count) is = (tt, (tt, (tt, none_dropped k seen_all (takes_command look) (takes_none look))))
     looked seen.Empty is = (tt, (tt, (tt, none_dropped k seen_all (takes_command look) (takes_none look))))
     looked (seen.Shut f r) is = (tt, (tt, (tt, none_dropped k seen_all (takes_command look) (takes_none look))))
@@ -114,7 +115,7 @@ module _ (k : Shape) (narrow : k.wrap ≤ 32768) where
 
   never_drops : (order : List Moment) → IsLegal (start k) order → flushes_of (client_of order) ≡ 0 → DropsByFlush k [] (server_of order) → drops_none (server_of order) ≡ true
   never_drops [] legal calm noticed = refl
-  never_drops (by_client e ∷ order) legal calm noticed = never_drops order legal.1 (let j = flushes_join (client_of order) (e ∷ []) in omega (arith, j, calm)) noticed
+  never_drops (by_client e ∷ order) legal calm noticed = never_drops order legal.1 (let j = flushes-append (client_of order) (e ∷ []) in omega (arith, j, calm)) noticed
   never_drops (by_server e ∷ order) legal calm noticed =
       let r = drops_split k [] (server_of order) e noticed in
       drops_more (server_of order) e (keeps_so order e legal.1 calm r.1) (never_drops order legal.1 calm r.0)

@@ -9,6 +9,7 @@ use Rattle.af_base.specs.declared.seen.Seen.{Seen}
 use Rattle.af_base.specs.declared.seen.Seen.TheVariants as seen
 use Rattle.af_base.specs.declared.turn.CommandLook.{CommandLook}
 use Rattle.af_base.specs.Turn.{Turn}
+use Rattle.af_judge.proofs.Basics.{each_at, each_long, met_many, told_each}
 use Rattle.af_life.specs.declared.kept.TrackKept.{TrackKept}
 use Rattle.af_life.specs.Heard.{heard, learnt}
 use Rattle.af_life.specs.Kept.{Learnt, NormalKept, Outside, Setup, track_at, track_in}
@@ -17,6 +18,7 @@ use Rattle.af_life.specs.Obeys.{shows_command}
 use Rattle.af_life.specs.Turn.{LegalTurn, turn_after}
 use Rattle.af_life.specs.TurnEvents.{command_list, invalid, status_events, tracks_at}
 use Rattle.af_life.proofs.Lives.{turn_len}
+use Rattle.af_model.proofs.Basics.{flushes-append}
 use Rattle.af_model.specs.declared.shape.Shape.{Shape}
 use Rattle.af_model.specs.ClientCalls.{client_call_events, client_kept}
 use Rattle.af_model.specs.Cycles.{Listed, kept}
@@ -32,16 +34,14 @@ use Rattle.af_runs.specs.Fronts.{front_of, fronts_by}
 use Rattle.af_runs.specs.Runs.{Run, TrackTold, called, calls_in, each_track, commands_turned, met, no_track, sides_of, told_at, turned_track, with_calls, with_cycles, with_ends, with_load, with_turn}
 use Rattle.af_runs.specs.Rounds.{loaded, turned}
 use Rattle.af_runs.specs.Sessions.{Session, command_shape, setup_of}
-use Rattle.af_judge.proofs.BlocksMeet.{met_at, met_many}
+use Rattle.af_judge.proofs.BlocksMeet.{met_at}
 use Rattle.af_judge.proofs.BlocksTold.{client-server, server-client}
-use Rattle.af_judge.proofs.EachTrack.{each_at, each_long, told_each}
 use Rattle.af_judge.proofs.EntriesFollow.{cycles_beside}
 use Rattle.af_judge.proofs.LooksAnswer.{alike}
 use Rattle.af_judge.proofs.TracksTold.{sides_called}
 use Rattle.af_audit.specs.Fates.{DropsByFlush}
 use Rattle.af_audit.proofs.CommandDrops.{looks_drop}
 use Rattle.af_audit.proofs.DropsNoticed.{drops_join, none_dropped}
-use Rattle.af_audit.proofs.FewFlushes.{flushes_join}
 use Rattle.af_audit.proofs.SentWords.{SentSo, ends_so, turn_sends}
 use Rattle.af_audit.proofs.StartWords.{seen_more}
 use Rattle.af_audit.proofs.StartsSettled.{SettledSo}
@@ -95,7 +95,7 @@ calm_call t answer h = by_side (is_of_commands answer) refl
     by_side true is =
         let shut = is_some (client_kept t.commands.shape.frames t.commands.shape.base t.commands.events).shut in
         let a = call_calm shut answer is in
-        let j = flushes_join t.commands.events (client_call_events shut answer) in
+        let j = flushes-append t.commands.events (client_call_events shut answer) in
         omega (arith, a, j, h)
     by_side false is = h
 
@@ -225,7 +225,7 @@ met_so most b c s h = record {
   drops = drops_join b.shape [] (server_list b) (server.Learn (length (client_list b)) ∷ []) h.drops (tt, tt);
   shape = h.shape;
   sent = h.sent;
-  calm = (let j = flushes_join (client_list b) (client.Learn (length (server_list b)) ∷ []) in let a = h.calm in omega (arith, j, a));
+  calm = (let j = flushes-append (client_list b) (client.Learn (length (server_list b)) ∷ []) in let a = h.calm in omega (arith, j, a));
 }
 
 ended_so : (most : ℕ) (b : BlockTold) (c : Client) (s : TrackKept) → CommandsSo most b c s → CommandsSo most b (ends c) s

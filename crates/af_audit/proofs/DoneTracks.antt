@@ -1,22 +1,24 @@
 -- What changes no track that is done with, and when a draft says Exit.
 use Rattle.std.proofs.Common.{◌≡◌, ℕ, zero, suc, ◌==◌, ◌&&◌, ◌||◌, not, Bool, true, false, if◌then◌else◌, is_some, sym, refl, ap, subst, ◌∙◌, List, [], ◌∷◌, length, map, filter, fold, slice_set, eqb-true, eq-eqb}
 use Rattle.std.specs.List.{AllByRecursion, list_any, range_with_len}
+use Rattle.af_base.proofs.Basics.{no, rest_enters}
 use Rattle.af_base.specs.declared.state.Command.{Command}
 use Rattle.af_base.specs.declared.state.Command.TheVariants.{ColdIdle, Exit, MixWrite}
 use Rattle.af_base.specs.declared.state.FastState.{FastState}
 use Rattle.af_base.specs.Command.{code_of}
 use Rattle.af_base.specs.Turn.{Turn, TrackSeen, TakeSeen}
+use Rattle.af_judge.proofs.Basics.{if_true, not_lent}
+use Rattle.af_model.proofs.Basics.{both_first}
 use Rattle.af_model.specs.Draft.{commanded as with_command}
 use Rattle.af_life.specs.declared.kept.Holder.{Holder}
 use Rattle.af_life.specs.declared.kept.Holder.TheVariants.{Home, Lent, Returning}
 use Rattle.af_life.specs.declared.kept.TrackKept.{TrackKept}
-use Rattle.af_life.specs.Kept.{Setup, asked, pipe_size, NormalKept, Learnt, track_at, plays, is_home, is_lent, is_returning}
+use Rattle.af_life.specs.Kept.{Setup, asked, pipe_size, NormalKept, Learnt, track_at, plays, is_home, is_returning}
 use Rattle.af_life.specs.Serves.{served, served_to}
 use Rattle.af_life.specs.Edits.{welcomed, after_ack, is_exit, must_leave, must_enter, let_go, lend, edited, edited_to, is_over, next_command, ordered, commanded_by, mutated}
 use Rattle.af_life.specs.Plays.{after_take, is_mixed_here, mixed_here}
 use Rattle.af_life.specs.Turn.{after_tracks, after_edits}
-use Rattle.af_model.proofs.Logic.{both_left, both_right}
-pub use Rattle.af_audit.proofs.Booleans.{no}
+use Rattle.af_model.proofs.Logic.{both_right}
 
 -- a track is done with: its life has ended and its proxy is home
 pub record IsDone (s : TrackKept) : Type 0 where
@@ -28,8 +30,8 @@ pub record IsDone (s : TrackKept) : Type 0 where
 over_done : (tracks : List TrackKept) → is_over tracks ≡ true → AllByRecursion IsDone tracks
 over_done [] h = tt
 over_done (s ∷ tracks) h =
-    let one = both_left (s.life.ended && is_home s.holder) (is_over tracks) h in
-    (record { ended = both_left s.life.ended (is_home s.holder) one; home = both_right s.life.ended (is_home s.holder) one }, over_done tracks (both_right (s.life.ended && is_home s.holder) (is_over tracks) h))
+    let one = both_first (s.life.ended && is_home s.holder) (is_over tracks) h in
+    (record { ended = both_first s.life.ended (is_home s.holder) one; home = both_right s.life.ended (is_home s.holder) one }, over_done tracks (both_right (s.life.ended && is_home s.holder) (is_over tracks) h))
 
 -- putting back a track as it was leaves the list as it was
 set_same : (tracks : List TrackKept) (i : ℕ) (s : TrackKept) → AllByRecursion IsDone tracks → (IsDone (track_at tracks i) → s ≡ track_at tracks i) → slice_set tracks i s ≡ tracks
@@ -50,11 +52,6 @@ not_returning Home e = refl
 not_returning Lent e = no e
 not_returning Returning e = no e
 
-not_lent : (h : Holder) → is_home h ≡ true → is_lent h ≡ false
-not_lent Home e = refl
-not_lent Lent e = no e
-not_lent Returning e = no e
-
 welcomed_same : (last : FastState) (s : TrackKept) → IsDone s → welcomed last s ≡ s
 unfolding welcomed
 welcomed_same last s done = simp (not_returning s.holder done.home) refl
@@ -66,10 +63,6 @@ all_welcomed last (s ∷ tracks) done = ap (λ (x : TrackKept). x ∷ map (welco
 acked_same : (ack : Bool) (m : NormalKept) → AllByRecursion IsDone m.tracks → after_ack ack m ≡ m
 acked_same true m done = ap (λ (l : List TrackKept). record m { tracks = l }) (all_welcomed m.last m.tracks done)
 acked_same false m done = refl
-
-if_true : (b : Bool) (s t : TrackKept) → b ≡ true → (if b then s else t) ≡ s
-if_true true s t e = refl
-if_true false s t e = no e
 
 served_same : (c : Setup) (k : Learnt) (seen : List TrackSeen) (tracks : List TrackKept) (i : ℕ) → AllByRecursion IsDone tracks → served_to c k seen tracks i ≡ tracks
 unfolding served
@@ -93,15 +86,10 @@ record StaysOut (s : TrackKept) : Type 0 where
   pub leaves : must_leave s ≡ false
   pub enters : must_enter s ≡ false
 
-and_none : (a b c : Bool) → c ≡ false → (a && (b && c)) ≡ false
-and_none true true c e = e
-and_none true false c e = refl
-and_none false b c e = refl
-
 done_stays_out : (s : TrackKept) → IsDone s → StaysOut s
 done_stays_out s done = record {
   leaves = ap (λ (b : Bool). b && not (plays s.life)) (not_lent s.holder done.home);
-  enters = and_none (is_home s.holder) (is_some s.slot) (plays s.life) (done_plays s done);
+  enters = rest_enters (is_home s.holder) (is_some s.slot) (plays s.life) (done_plays s done);
 }
 
 all_stay_out : (tracks : List TrackKept) (i : ℕ) → AllByRecursion IsDone tracks → StaysOut (track_at tracks i)

@@ -2,8 +2,10 @@
 use Rattle.std.proofs.Common.{◌≡◌, ℕ, ◌<◌, Bool, true, false, All, List, [], ◌∷◌, ◌++◌, refl, sym, subst, take, ap, arith}
 use Rattle.std.specs.List.{list_any}
 use Rattle.std.proofs.lemmas.List.Elements.{All-head, All-tail}
+use Rattle.af_base.proofs.Basics.{neither}
 use Rattle.af_base.specs.declared.frame.Frame.{Frame}
 use Rattle.af_life.specs.Drained.{LifeStep}
+use Rattle.af_model.proofs.Basics.{not_true}
 use Rattle.af_model.proofs.Logic.{both_right}
 use Rattle.af_model.specs.JournalForm.{IsRound}
 use Rattle.af_model.specs.Journals.{JournalData, RoundSeen}
@@ -23,7 +25,6 @@ use Rattle.af_audit.proofs.CommandDrops.{taken_first}
 use Rattle.af_audit.proofs.SettledRounds.{SettlesSo, new_settles, round_settles}
 use Rattle.af_model.specs.declared.shape.Shape.{Shape}
 use Rattle.af_audit.proofs.StopSent.{SentSo, stop_sent}
-use Rattle.af_audit.proofs.Booleans.{neither, not_true}
 
 -- what is kept of a track whose command block has no poke
 pub record SendsSo (s : Session) (n : ℕ) (run : Run) (steps : List LifeStep) (sent : List Sent) : Type 0 where

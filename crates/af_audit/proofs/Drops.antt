@@ -1,12 +1,14 @@
 -- After a meeting at which the server had seen so many flushes, what the client releases is dropped only by a look that sees more.
 use Rattle.std.proofs.Common.{◌≡◌, ◌≢◌, ◌⊎◌, inl, inr, ℕ, ◌+◌, ◌<◌, ◌≤◌, ◌||◌, Bool, true, false, fold, List, [], ◌∷◌, ◌++◌, length, get_or, refl, sym, ap, ◌∙◌, subst, arith, append_assoc, append-nil, length-append}
 use Rattle.std.proofs.lemmas.Grind.{fold-append}
+use Rattle.af_base.proofs.Basics.{no}
 use Rattle.af_base.specs.declared.event.ClientEvent.{ClientEvent}
 use Rattle.af_base.specs.declared.event.ClientEvent.TheVariants as client
 use Rattle.af_base.specs.declared.event.ServerEvent.{ServerEvent}
 use Rattle.af_base.specs.declared.event.ServerEvent.TheVariants as server
 use Rattle.af_base.specs.declared.event.HandEvent.{HandEvent}
 use Rattle.af_base.specs.declared.event.HandEvent.TheVariants as hand
+use Rattle.af_judge.proofs.Basics.{client_append, legal_cut, server_append}
 use Rattle.af_model.specs.declared.point.TrackPoint.{TrackPoint}
 use Rattle.af_model.specs.declared.shape.Shape.{Shape}
 use Rattle.af_model.specs.Point.{start, drop_end, after_client, after_server, after_hand}
@@ -17,7 +19,6 @@ use Rattle.af_audit.specs.Fates.{ComesByFlush, DropsByFlush, SeesNewFlush}
 use Rattle.af_audit.specs.Known.{sees_more, most_seen}
 use Rattle.af_audit.specs.Settled.{DropsAbove, DiscardsAbove}
 use Rattle.af_audit.proofs.Flushes.{new_above, flushes_rise}
-use Rattle.af_audit.proofs.Booleans.{no}
 
 tail_of : {X : Type 0} → List X → List X
 tail_of [] = []
@@ -93,23 +94,6 @@ server_cut (by_server x ∷ order) xs e rest is = elim (last_cases (server_of or
 ]
 server_cut (by_client x ∷ order) xs e rest is = later (by_client x) order (server_cut order xs e rest is)
 server_cut (by_hand x ∷ order) xs e rest is = later (by_hand x) order (server_cut order xs e rest is)
-
--- each event of a legal order is legal where it stands
-pub legal_cut : (p : TrackPoint) (late : List Moment) (m : Moment) (early : List Moment) → IsLegal p (late ++ m ∷ early) → May p early m × IsLegal p early
-legal_cut p [] m early l = l
-legal_cut p (x ∷ late) m early l = legal_cut p late m early l.1
-
-pub server_append : (late early : List Moment) → server_of (late ++ early) ≡ server_of early ++ server_of late
-server_append [] early = sym (append-nil (server_of early))
-server_append (by_client e ∷ late) early = server_append late early
-server_append (by_server e ∷ late) early = ap (λ z. z ++ e ∷ []) (server_append late early) ∙ append_assoc (server_of early) (server_of late) (e ∷ [])
-server_append (by_hand e ∷ late) early = server_append late early
-
-pub client_append : (late early : List Moment) → client_of (late ++ early) ≡ client_of early ++ client_of late
-client_append [] early = sym (append-nil (client_of early))
-client_append (by_client e ∷ late) early = ap (λ z. z ++ e ∷ []) (client_append late early) ∙ append_assoc (client_of early) (client_of late) (e ∷ [])
-client_append (by_server e ∷ late) early = client_append late early
-client_append (by_hand e ∷ late) early = client_append late early
 
 -- ## What was released
 

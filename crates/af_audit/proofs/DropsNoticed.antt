@@ -1,28 +1,29 @@
 -- Each drop of a server that looks by its list belongs to a flush that was noticed.
-use Rattle.std.proofs.Common.{◌≡◌, ◌≢◌, ◌⊎◌, inl, inr, ℕ, ◌+◌, ◌-◌, ◌<◌, ◌==◌, ◌&&◌, ◌||◌, not, Bool, true, false, cond, if◌then◌else◌, is_some, MatchOption, Option, Some, None, List, [], ◌∷◌, ◌++◌, flat_map, refl, sym, ap, ◌∙◌, subst, append-nil, append_assoc, eqb-true, eq-eqb, arith}
+use Rattle.std.proofs.Common.{◌≡◌, ◌≢◌, ◌⊎◌, inl, inr, ℕ, ◌+◌, ◌-◌, ◌==◌, ◌&&◌, ◌||◌, not, Bool, true, false, cond, if◌then◌else◌, is_some, MatchOption, Option, Some, None, List, [], ◌∷◌, ◌++◌, flat_map, refl, sym, ap, ◌∙◌, subst, append-nil, append_assoc, eqb-true, eq-eqb, arith}
 use Rattle.std.specs.List.{AllByRecursion}
-use Rattle.std.proofs.lemmas.Bool.Decides.{nat_tests}
 use Rattle.std.proofs.lemmas.Grind.{fold-append}
+use Rattle.af_base.proofs.Basics.{no}
 use Rattle.af_base.specs.declared.event.ServerEvent.{ServerEvent}
 use Rattle.af_base.specs.declared.event.ServerEvent.TheVariants as server
 use Rattle.af_base.specs.declared.log.SlotEntry.{SlotEntry}
 use Rattle.af_base.specs.declared.seen.Seen.{Seen}
 use Rattle.af_base.specs.declared.seen.Seen.TheVariants as seen
 use Rattle.af_base.specs.Turn.{Turn, TakeSeen}
+use Rattle.af_judge.proofs.Basics.{nothing_from, tally_none}
 use Rattle.af_life.specs.declared.kept.TrackKept.{TrackKept}
 use Rattle.af_life.specs.Heard.{learnt}
 use Rattle.af_life.specs.Kept.{Setup, asked, NormalKept, Outside, track_at, track_in, is_home}
 use Rattle.af_life.specs.Plays.{LegalTake}
 use Rattle.af_life.specs.Turn.{LegalTurn}
 use Rattle.af_life.specs.TurnEvents.{invalid, mix_events, stream_list, takes_from}
+use Rattle.af_model.proofs.Basics.{both_first, three}
 use Rattle.af_model.specs.declared.shape.Shape.{Shape}
-use Rattle.af_model.specs.Cycles.{Listed, LooksBy, after_look, cycle_events, kept, tally}
+use Rattle.af_model.specs.Cycles.{Listed, LooksBy, after_look, cycle_events, kept}
 use Rattle.af_model.specs.Fates.{keeps_all, drops_none}
 use Rattle.af_model.specs.JournalForm.{TracksRise}
 use Rattle.af_model.specs.ServerCalls.{server_begins, server_keeps, server_kept, look_at, look_events, is_noticed}
-use Rattle.af_model.proofs.Logic.{both_left, both_right}
+use Rattle.af_model.proofs.Logic.{both_right}
 use Rattle.af_audit.specs.Fates.{DropsByFlush, ComesByFlush}
-use Rattle.af_audit.proofs.Booleans.{no}
 
 -- ## More events
 
@@ -49,7 +50,7 @@ may_keep k before (server.Learn count) h = tt
 -- events without a drop need no flush
 pub none_dropped : (k : Shape) (before es : List ServerEvent) → drops_none es ≡ true → DropsByFlush k before es
 none_dropped k before [] none = tt
-none_dropped k before (e ∷ es) none = (may_keep k before e (both_left (keeps_all e) (drops_none es) none), none_dropped k (before ++ e ∷ []) es (both_right (keeps_all e) (drops_none es) none))
+none_dropped k before (e ∷ es) none = (may_keep k before e (both_first (keeps_all e) (drops_none es) none), none_dropped k (before ++ e ∷ []) es (both_right (keeps_all e) (drops_none es) none))
 
 -- ## A look
 
@@ -60,7 +61,7 @@ is_flushed _ = false
 new_by : (k : Shape) (new : Bool) (asked flush rear front dropped : ℕ) (noticed shut same : Bool) (count : ℕ) → noticed ≡ (new && (k.wrap == 0 || not shut))
     → is_flushed (if noticed then seen.Flushed dropped else if shut then seen.Shut front rear else if same then seen.Empty else seen.Frames count) ≡ true → new ≡ true
 unfolding is_flushed
-new_by k new asked flush rear front dropped true shut same count is h = both_left new _ (sym is)
+new_by k new asked flush rear front dropped true shut same count is h = both_first new _ (sym is)
 new_by k new asked flush rear front dropped false true same count is h = no h
 new_by k new asked flush rear front dropped false false true count is h = no h
 new_by k new asked flush rear front dropped false false false count is h = no h
@@ -71,16 +72,6 @@ unfolding is_flushed
 saw_new k kept asked flush rear front dropped is same =
     let new : not (flush == kept) ≡ true = new_by k (not (flush == kept)) asked flush rear front _ (is_noticed k (not (flush == kept)) rear front) _ _ _ refl (sym (ap is_flushed is)) in
     no (ap not (sym (eq-eqb flush kept same)) ∙ new)
-
-pub three_more : (xs : List ServerEvent) (a b c : ServerEvent) → ((xs ++ a ∷ []) ++ b ∷ []) ++ c ∷ [] ≡ xs ++ a ∷ b ∷ c ∷ []
-three_more xs a b c = append_assoc (xs ++ a ∷ []) (b ∷ []) (c ∷ []) ∙ append_assoc xs (a ∷ []) (b ∷ c ∷ [])
-
-tally_none : (missing : ℕ) → drops_none (tally missing) ≡ true
-tally_none missing = by_zero (missing == 0)
-  where
-    by_zero : (b : Bool) → drops_none (if b then [] else server.Tally missing ∷ server.SetFlags 1 ∷ []) ≡ true
-    by_zero true = refl
-    by_zero false = refl
 
 -- the events of a cycle or of a take, by a look that answers by what the list before says
 module _ (asked : ℕ) (s : Listed) (before : List ServerEvent) (slot : SlotEntry) (front told : ℕ) (still : (server_kept s.shape before).flush ≡ (kept s).flush) where
@@ -104,7 +95,7 @@ module _ (asked : ℕ) (s : Listed) (before : List ServerEvent) (slot : SlotEntr
   looked : (x : Seen) → x ≡ look_at s.shape (kept s).flush asked slot.flush slot.rear front → DropsByFlush s.shape start (look_events x slot.flush slot.rear told ++ after_look asked false x)
   looked (seen.Flushed dropped) is =
       let new : slot.flush ≢ (server_kept s.shape start).flush = λ same. saw_new s.shape (kept s).flush asked slot.flush slot.rear front dropped is (same ∙ same_flush) in
-      (tt, (tt, (tt, (record { before = start; flush = slot.flush; rear = slot.rear; front = told; look = three_more start _ _ _; is_new = new }, tt))))
+      (tt, (tt, (tt, (record { before = start; flush = slot.flush; rear = slot.rear; front = told; look = three start _ _ _; is_new = new }, tt))))
   looked (seen.Frames count) is = (tt, (tt, (tt, none_dropped s.shape seen_all (after_look asked false (seen.Frames count)) (after_none false (seen.Frames count)))))
   looked seen.Empty is = (tt, (tt, (tt, none_dropped s.shape seen_all (after_look asked false seen.Empty) (after_none false seen.Empty))))
   looked (seen.Shut f r) is = (tt, (tt, (tt, none_dropped s.shape seen_all (after_look asked false (seen.Shut f r)) (after_none false (seen.Shut f r)))))
@@ -123,14 +114,6 @@ pub cycle_drops : (asked : ℕ) (s : Listed) (slot : SlotEntry) (front told : �
 cycle_drops asked s slot front told by = drops_cycled asked s s.events slot front told refl by
 
 -- ## A turn
-
--- no take is of a track whose number is below those of all takes
-nothing_from : (low : ℕ) (takes : List TakeSeen) (i : ℕ) → TracksRise low takes → i < low → takes_from takes i ≡ []
-nothing_from low [] i rise lt = refl
-nothing_from low (t ∷ takes) i rise lt =
-    let r = rise.0 in
-    let other : (t.track == i) ≡ false = grind (arith, nat_tests, r, lt) in
-    ap (λ (b : Bool). cond b (t ∷ takes_from takes i) (takes_from takes i)) other ∙ nothing_from (t.track + 1) takes i rise.1 (omega (arith, r, lt))
 
 -- the one take of a track
 pub record OneTake (P : TakeSeen → Type 0) (i : ℕ) (takes : List TakeSeen) : Type 0 where

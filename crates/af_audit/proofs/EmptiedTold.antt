@@ -7,6 +7,7 @@ use Rattle.af_base.specs.declared.event.ClientEvent.TheVariants as client
 use Rattle.af_base.specs.declared.frame.Frame.{Frame}
 use Rattle.af_base.specs.Sample.{packed_word}
 use Rattle.af_base.specs.Turn.{TakeSeen, Turn}
+use Rattle.af_judge.proofs.Basics.{ends_pipe}
 use Rattle.af_life.specs.Edits.{is_exit}
 use Rattle.af_life.specs.Kept.{pipe_size}
 use Rattle.af_life.specs.Plays.{put_by}
@@ -28,7 +29,7 @@ use Rattle.af_audit.proofs.FatesTold.{normal_ended}
 use Rattle.af_audit.proofs.MixerEnds.{EndsHome, new_ends}
 use Rattle.af_audit.proofs.MixerRounds.{mixed_none, round_ends, said_ended, said_without, saw_room}
 use Rattle.af_audit.proofs.PipeDrains.{all_taken}
-use Rattle.af_audit.proofs.PipeRounds.{RoundFlows, ended_pipe, round_flows, turn_events, turn_words}
+use Rattle.af_audit.proofs.PipeRounds.{RoundFlows, round_flows, turn_events, turn_words}
 
 -- the frames taken begin those put, and if the draft says Exit they are no fewer
 record Empties (run : Run) : Type 0 where
@@ -50,7 +51,7 @@ module _ (cut : Bool) (s : Session) (form : IsScript s.script) (marks : Marks) (
   after = after_round s run round
 
   history : HasPipeTold (pipe_size (setup_of s)) after.pipe
-  history = subst (HasPipeTold (pipe_size (setup_of s))) (sym (ended_pipe (met_after s run round))) legal.histories.shared.pipe
+  history = subst (HasPipeTold (pipe_size (setup_of s))) (sym (ends_pipe (met_after s run round))) legal.histories.shared.pipe
 
   flows : RoundFlows s run round
   flows = round_flows s run round

@@ -5,12 +5,12 @@ use Rattle.std.proofs.lemmas.Bool.Decides.{nat_tests}
 use Rattle.std.proofs.lemmas.List.FromFn.{get_or-map-range_with_len, length-map-range_with_len}
 use Rattle.af_base.specs.declared.frame.Frame.{Frame}
 use Rattle.af_life.specs.Kept.{is_home, track_at}
+use Rattle.af_model.proofs.Basics.{both_first, not_true}
 use Rattle.af_model.specs.declared.shape.Shape.{Shape}
 use Rattle.af_model.specs.Journals.{JournalData, RoundSeen}
 use Rattle.af_model.specs.Spans.{Span, mixed_by, spans_of, queued}
 use Rattle.af_model.specs.History.{point}
 use Rattle.af_model.proofs.Discards.{discards-before}
-use Rattle.af_model.proofs.Logic.{both_left}
 use Rattle.af_model.proofs.OneFate.{one_fate, taken-mixed, mixed_in}
 use Rattle.af_runs.specs.Blocks.{BlockTold, HasBlockHistory, new_block}
 use Rattle.af_runs.specs.LegalRuns.{IsLegalRun, is_lawful_block, is_poke_on, marks_of, run_of, session_of}
@@ -23,7 +23,6 @@ use Rattle.af_audit.proofs.MixerEnds.{all_home, new_ends}
 use Rattle.af_audit.proofs.RunStands.{RunStands, rounds_stand}
 use Rattle.af_audit.proofs.TakenRecorded.{taken_recorded}
 use Rattle.af_audit.proofs.TrackStands.{TrackStands}
-use Rattle.af_audit.proofs.Booleans.{not_true}
 use Rattle.af_audit.proofs.OneVerdict.{each_ended}
 
 -- ## Before the first round
@@ -92,4 +91,4 @@ track_has_fates script files j legal track low lawful =
 
 -- each frame has one fate by the end of a legal run
 pub frames-have-fates : (script : ScriptData) (files : List (List Frame)) (j : JournalData) → IsLegalRun script files j → EachFrameHasOneFate script files j
-frames-have-fates script files j legal track low lawful = track_has_fates script files j legal track low (both_left (is_lawful_block false j.rounds track) (is_lawful_block true j.rounds track) lawful)
+frames-have-fates script files j legal track low lawful = track_has_fates script files j legal track low (both_first (is_lawful_block false j.rounds track) (is_lawful_block true j.rounds track) lawful)

@@ -1,9 +1,10 @@
 -- A client flushes no more often than it has ops.
 use Rattle.std.specs.Prelude.{MatchBool, bit_and}
-use Rattle.std.proofs.Common.{◌≡◌, ℕ, ◌+◌, ◌-◌, ◌≤◌, ◌==◌, ◌&&◌, ◌||◌, nat_le, not, Bool, true, false, if◌then◌else◌, is_some, fold, List, [], ◌∷◌, ◌++◌, length, Option, Some, None, refl, sym, ap, arith}
+use Rattle.std.proofs.Common.{◌≡◌, ℕ, ◌+◌, ◌-◌, ◌≤◌, ◌==◌, ◌&&◌, ◌||◌, nat_le, not, Bool, true, false, if◌then◌else◌, is_some, fold, List, [], ◌∷◌, length, Option, Some, None, refl, sym, ap, arith}
+use Rattle.af_base.proofs.Basics.{no}
 use Rattle.af_base.specs.declared.event.ClientCall.{ClientCall}
 use Rattle.af_base.specs.declared.event.ClientCall.TheVariants as call
-use Rattle.af_base.specs.declared.event.ClientEvent.{ClientEvent}
+use Rattle.af_model.proofs.Basics.{flushes-append}
 use Rattle.af_model.specs.History.{flushes_of}
 use Rattle.af_model.specs.ClientCalls.{client_call_events, client_events_of, client_kept}
 use Rattle.af_script.specs.declared.op.Op.{Op}
@@ -16,7 +17,6 @@ use Rattle.af_runs.specs.declared.want.Want.TheVariants as want
 use Rattle.af_runs.specs.Clients.{Client, after_answer, after_clear, after_put, after_send, after_sent, after_status, after_write, at_next_turn, begins, begun, ends, goes_on, is_active, is_last, is_stoppable, is_stopped, mode_after, more, rest_of, rested, settled_in, state_in, waits, wants_of}
 use Rattle.af_runs.specs.ClientTurns.{AreCalls, IsMade, IsWanted, LegalClientTurn, Track, after_call, after_calls, answered, called, commands_sent, is_flush, is_of_commands, most_calls, released_by, wanted_of, with_call}
 use Rattle.af_judge.proofs.WantedNext.{first_due}
-use Rattle.af_audit.proofs.Booleans.{no}
 
 -- ## What is still to be done
 
@@ -190,10 +190,6 @@ call_flushes false (call.SendCorrupt front rear) = refl
 call_flushes shut (call.Status word) = refl
 call_flushes shut (call.Poke in_command word value) = refl
 
-pub flushes_join : (xs ys : List ClientEvent) → flushes_of (xs ++ ys) ≡ flushes_of xs + flushes_of ys
-flushes_join [] ys = omega arith
-flushes_join (x ∷ xs) ys = let a = flushes_join xs ys in omega (arith, a)
-
 -- a call that is wanted flushes only if a flush is wanted
 wanted_flush : (t : Track) (w : Want) (answer : ClientCall) → IsWanted t w answer → flushes_by_call answer ≤ asks_flush w
 wanted_flush t w (call.Put front count) is = omega arith
@@ -230,7 +226,7 @@ stream_flushes t answer = by_side (is_of_commands answer)
     by_side true = omega arith
     by_side false =
         let shut = (client_kept t.stream.shape.frames t.stream.shape.base t.stream.events).shut in
-        let a = flushes_join t.stream.events (client_events_of t.stream.shape.frames t.stream.shape.base t.stream.events answer) in
+        let a = flushes-append t.stream.events (client_events_of t.stream.shape.frames t.stream.shape.base t.stream.events answer) in
         let c = call_flushes (is_some shut) answer in
         omega (arith, a, c)
 

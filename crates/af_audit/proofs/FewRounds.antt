@@ -6,9 +6,11 @@ use Rattle.af_base.specs.declared.event.ServerEvent.{ServerEvent}
 use Rattle.af_base.specs.declared.state.FastState.{FastState}
 use Rattle.af_base.specs.Log.{entry_slot}
 use Rattle.af_base.specs.Turn.{Turn}
+use Rattle.af_judge.proofs.Basics.{each_long, met_many, told_each}
 use Rattle.af_life.specs.Heard.{learnt}
 use Rattle.af_life.specs.Kept.{NormalKept, Outside, Setup}
 use Rattle.af_life.specs.TurnEvents.{hand_list, stream_list, tracks_at}
+use Rattle.af_model.proofs.Basics.{flushes-append}
 use Rattle.af_model.specs.Cycles.{cycle_events}
 use Rattle.af_model.specs.History.{flushes_of}
 use Rattle.af_model.specs.Journals.{EntrySeen, RoundSeen}
@@ -21,11 +23,10 @@ use Rattle.af_runs.specs.LegalRuns.{LegalRounds, run_from}
 use Rattle.af_runs.specs.Rounds.{LegalRound, after_round, after_turn, all_played, before_turn, early_of, found_in, late_of, loaded, met_after, turned}
 use Rattle.af_runs.specs.Runs.{Run, TrackTold, called, calls_in, each_track, mixed_track, met, played, sides_of, slot_for, state_for, stream_met, takes_part, told_at, turned_track, with_calls, with_cycle, with_cycles, with_ends, with_load, with_mix, with_poll, with_turn}
 use Rattle.af_runs.specs.Sessions.{Session, cycle_frames, setup_of, track_count}
-use Rattle.af_judge.proofs.BlocksMeet.{met_at, met_many}
+use Rattle.af_judge.proofs.BlocksMeet.{met_at}
 use Rattle.af_judge.proofs.BlocksTold.{hand-client, server-client}
-use Rattle.af_judge.proofs.EachTrack.{each_long, told_each}
 use Rattle.af_judge.proofs.TracksTold.{sides_called}
-use Rattle.af_audit.proofs.FewFlushes.{all_flushes, flushes_join, flushes_left, turn_few}
+use Rattle.af_audit.proofs.FewFlushes.{all_flushes, flushes_left, turn_few}
 
 -- ## A track
 
@@ -50,8 +51,8 @@ turned_same : (c : Setup) (o : Outside) (m : NormalKept) (e : Turn) (n : ℕ) (t
 turned_same c o m e n t = ap (λ m. m + flushes_left t.client) (served_same t.stream (stream_list c o e (tracks_at c (learnt o) m e n) n) (hand_list e n))
 
 met_same : (there hands : Bool) (b : BlockTold) → flushes_of (client_list (stream_met there hands b)) ≡ flushes_of (client_list b)
-met_same true true b = let a = flushes_join (client_list b) (client.Learn (length (server_list b)) ∷ []) in omega (arith, a)
-met_same true false b = let a = flushes_join (client_list b) (client.Learn (length (server_list b)) ∷ []) in omega (arith, a)
+met_same true true b = let a = flushes-append (client_list b) (client.Learn (length (server_list b)) ∷ []) in omega (arith, a)
+met_same true false b = let a = flushes-append (client_list b) (client.Learn (length (server_list b)) ∷ []) in omega (arith, a)
 met_same false true b = refl
 met_same false false b = refl
 

@@ -1,15 +1,14 @@
 -- What a client does to its stream block: it releases the frames of its file from the first on, and if none of its calls pokes the block its list has no poke.
 use Rattle.std.proofs.Common.{◌≡◌, ℕ, zero, suc, ◌+◌, Bool, true, false, if◌then◌else◌, is_some, fold, List, [], ◌∷◌, ◌++◌, take, drop, length, refl, sym, ap, ◌∙◌, subst, append-nil, take-add}
 use Rattle.std.specs.List.{list_any}
+use Rattle.af_base.proofs.Basics.{neither, no}
 use Rattle.af_base.specs.declared.event.ClientCall.{ClientCall}
 use Rattle.af_base.specs.declared.event.ClientCall.TheVariants as call
-use Rattle.af_base.specs.declared.event.ClientEvent.{ClientEvent}
+use Rattle.af_model.proofs.Basics.{both_lawful}
 use Rattle.af_model.specs.ClientCalls.{client_call_events, client_events_of, client_kept}
-use Rattle.af_model.specs.History.{is_lawful, is_tame}
-use Rattle.af_model.proofs.Logic.{both_are, both_left, both_right}
+use Rattle.af_model.specs.History.{is_lawful}
 use Rattle.af_runs.specs.ClientTurns.{Track, after_call, after_calls, called, is_of_commands, released_by}
 use Rattle.af_runs.specs.LegalRuns.{is_poke_on}
-use Rattle.af_audit.proofs.Booleans.{neither, no}
 
 -- ## The first words of a file
 
@@ -33,10 +32,6 @@ begins_more : (file words : List ℕ) (count : ℕ) → words ≡ take (length w
 begins_more file words count is = ap (λ l. l ++ take count (drop (length words) file)) is ∙ sym (take-add (length words) count file)
 
 -- ## Lists without a poke
-
-pub lawful_join : (xs ys : List ClientEvent) → is_lawful xs ≡ true → is_lawful ys ≡ true → is_lawful (xs ++ ys) ≡ true
-lawful_join [] ys h g = g
-lawful_join (x ∷ xs) ys h g = both_are (is_tame x) (is_lawful (xs ++ ys)) (both_left (is_tame x) (is_lawful xs) h) (lawful_join xs ys (both_right (is_tame x) (is_lawful xs) h) g)
 
 -- the events of a call on the stream block that doesn't poke it
 call_lawful : (shut : Bool) (answer : ClientCall) → is_of_commands answer ≡ false → is_poke_on false answer ≡ false → is_lawful (client_call_events shut answer) ≡ true
@@ -90,7 +85,7 @@ after_one t answer calm h = by_side (is_of_commands answer) refl
     by_side true is = record { begins = h.begins; tame = h.tame }
     by_side false is = record {
       begins = call_begins t answer is h.begins;
-      tame = lawful_join t.stream.events (client_events_of t.stream.shape.frames t.stream.shape.base t.stream.events answer) h.tame (call_lawful (is_some (client_kept t.stream.shape.frames t.stream.shape.base t.stream.events).shut) answer is calm);
+      tame = both_lawful t.stream.events (client_events_of t.stream.shape.frames t.stream.shape.base t.stream.events answer) h.tame (call_lawful (is_some (client_kept t.stream.shape.frames t.stream.shape.base t.stream.events).shut) answer is calm);
     }
 
 after_all : (t : Track) (calls : List ClientCall) → list_any (is_poke_on false) calls ≡ false → IsFromFile t → IsFromFile (fold after_call t calls)

@@ -2,7 +2,7 @@
 use Rattle.std.specs.List.{range_with_len}
 use Rattle.std.specs.Prelude.{find, unwrap_or}
 use Rattle.std.proofs.Common.{◌≡◌, ℕ, zero, suc, ◌+◌, ◌<◌, ◌≤◌, Bool, true, false, if◌then◌else◌, is_some, Option, Some, None, refl, sym, ap, ◌∙◌, subst, arith}
-use Rattle.af_audit.proofs.Booleans.{no}
+use Rattle.af_base.proofs.Basics.{no}
 
 -- a number that is found passes, and lies in the range
 pub record FoundAt (p : ℕ → Bool) (a n k : ℕ) : Type 0 where

@@ -1,27 +1,24 @@
 -- In a history the server's looks see ever more flushes: each look that notices a new flush saw more than any before it.
-use Rattle.std.proofs.Common.{◌≡◌, ◌≢◌, ℕ, zero, suc, ◌+◌, ◌*◌, ◌/◌, ◌%◌, ◌<◌, ◌≤◌, ◌==◌, if◌then◌else◌, Bool, true, false, List, [], ◌∷◌, ◌++◌, refl, sym, ap, ◌∙◌, subst, arith, eqb-true}
+use Rattle.std.proofs.Common.{◌≡◌, ◌≢◌, ℕ, ◌+◌, ◌*◌, ◌/◌, ◌%◌, ◌<◌, ◌≤◌, ◌==◌, if◌then◌else◌, Bool, true, false, List, [], ◌∷◌, ◌++◌, refl, sym, ap, ◌∙◌, subst, arith, eqb-true}
 use Rattle.std.proofs.lemmas.Grind.{fold-append}
 use Rattle.std.proofs.lemmas.Nat.{div-mul-add}
 use Rattle.std.proofs.Math.Nat.{mul-le-mul_left, mod-lt, mod-eq_of_lt}
+use Rattle.af_base.proofs.Basics.{positive_is}
 use Rattle.af_base.specs.declared.event.ClientEvent.{ClientEvent}
 use Rattle.af_base.specs.declared.event.ClientEvent.TheVariants as client
 use Rattle.af_base.specs.declared.event.ServerEvent.{ServerEvent}
 use Rattle.af_base.specs.declared.event.ServerEvent.TheVariants as server
 use Rattle.af_base.specs.declared.event.HandEvent.{HandEvent}
 use Rattle.af_base.specs.declared.event.HandEvent.TheVariants as hand
+use Rattle.af_model.proofs.Basics.{hand_flush, no_flush, none_as}
 use Rattle.af_model.specs.declared.point.TrackPoint.{TrackPoint}
 use Rattle.af_model.specs.declared.shape.Shape.{Shape}
 use Rattle.af_model.specs.Point.{wrapped, start, flush_number, ServerMay, after_client, after_server, after_hand}
 use Rattle.af_model.specs.History.{Moment, by_client, by_server, by_hand, server_of, after, IsLegal}
 use Rattle.af_model.specs.ServerCalls.{ServerKept, server_begins, server_keeps, server_kept, flushes_by}
 use Rattle.af_audit.specs.Known.{sees_more, most_seen}
-use Rattle.af_audit.proofs.Booleans.{no}
 
 -- ## Flush words
-
-positive : (w : ℕ) → (w == 0) ≡ false → 0 < w
-positive zero e = no (sym e)
-positive (suc w) e = omega arith
 
 -- a flush word says how many flushes there were, if they are few
 pub flushes_told : (wrap flushes position : ℕ) → wrap ≤ 32768 → flushes ≤ 65536 → flushes_by wrap (flush_number wrap flushes position) ≡ flushes
@@ -30,18 +27,10 @@ flushes_told wrap flushes position narrow few = by_wrap (wrap == 0) refl
     by_wrap : (b : Bool) → (wrap == 0) ≡ b → (if b then (if b then flushes else wrapped (flushes * wrap + position % wrap)) else (if b then flushes else wrapped (flushes * wrap + position % wrap)) / wrap) ≡ flushes
     by_wrap true e = refl
     by_wrap false e =
-        let inside : position % wrap < wrap = mod-lt position (positive wrap e) in
+        let inside : position % wrap < wrap = mod-lt position (positive_is wrap e) in
         let small : flushes * wrap ≤ flushes * 32768 = mul-le-mul_left flushes narrow in
         let whole : wrapped (flushes * wrap + position % wrap) ≡ flushes * wrap + position % wrap = mod-eq_of_lt (omega (arith, inside, small, few, narrow)) in
         ap (λ n. n / wrap) whole ∙ div-mul-add flushes wrap (position % wrap) inside
-
--- before any flush the flush word is 0
-none_as : (w : ℕ) (b : Bool) → (w == 0) ≡ b → 0 ≡ (if b then 0 else wrapped (0 * w + 0 % w))
-none_as w true e = refl
-none_as w false e =
-    let place : 0 % w ≡ 0 = mod-eq_of_lt (positive w e) in
-    let zero_is : 0 * w + 0 ≡ 0 = omega arith in
-    sym (ap (λ (z : ℕ). wrapped (0 * w + z)) place ∙ ap wrapped zero_is)
 
 -- ## What was seen
 
@@ -79,22 +68,6 @@ more_flushes p (client.SawFront front) = omega arith
 more_flushes p (client.SawStatus word) = omega arith
 more_flushes p (client.Poke word value) = omega arith
 more_flushes p (client.Learn count) = omega arith
-
-no_flush : (p : TrackPoint) (e : ServerEvent) → (after_server p e).flushes ≡ p.flushes
-no_flush p (server.SawGain word) = refl
-no_flush p (server.SawFlush flush) = refl
-no_flush p (server.SawRear rear) = refl
-no_flush p (server.SawFront front) = refl
-no_flush p (server.Drop to) = refl
-no_flush p (server.Take count) = refl
-no_flush p (server.Tally missing) = refl
-no_flush p (server.SetFlags bits) = refl
-no_flush p (server.SetStatus word) = refl
-no_flush p (server.Learn count) = refl
-
-hand_flush : (p : TrackPoint) (e : HandEvent) → (after_hand p e).flushes ≡ p.flushes
-hand_flush p (hand.SetFlags bits) = refl
-hand_flush p (hand.Met count) = refl
 
 pub flushes_rise : (p : TrackPoint) (late early : List Moment) → (after p early).flushes ≤ (after p (late ++ early)).flushes
 flushes_rise p [] early = omega arith

@@ -12,6 +12,7 @@ use Rattle.af_base.specs.declared.state.FastState.{FastState}
 use Rattle.af_base.specs.Log.{entry_slot}
 use Rattle.af_base.specs.Sample.{packed_word}
 use Rattle.af_base.specs.Turn.{Turn}
+use Rattle.af_judge.proofs.Basics.{each_long, met_many, told_each}
 use Rattle.af_life.specs.Heard.{learnt}
 use Rattle.af_life.specs.Kept.{NormalKept, Outside, Setup, track_in}
 use Rattle.af_life.specs.Looks.{words_taken}
@@ -28,8 +29,7 @@ use Rattle.af_runs.specs.LegalRuns.{run_from}
 use Rattle.af_runs.specs.Rounds.{after_round, after_turn, all_played, before_turn, early_of, found_in, late_of, loaded, met_after, turned}
 use Rattle.af_runs.specs.Runs.{Run, TrackTold, called, calls_in, each_track, mixed_track, met, played, sides_of, slot_for, state_for, stream_met, takes_part, told_at, turned_track, with_calls, with_cycle, with_cycles, with_ends, with_load, with_mix, with_poll, with_turn}
 use Rattle.af_runs.specs.Sessions.{Session, cycle_frames, setup_of}
-use Rattle.af_judge.proofs.BlocksMeet.{met_at, met_many}
-use Rattle.af_judge.proofs.EachTrack.{each_long, told_each}
+use Rattle.af_judge.proofs.BlocksMeet.{met_at}
 
 -- ## Blocks
 

@@ -1,7 +1,7 @@
 -- The verdict is Legal exactly for a legal run and its PCM.
-use Rattle.std.specs.Prelude.{◌≡◌, ℕ, ◌<◌, ◌≤◌, ◌==◌, nat_lt, Bool, true, false, MatchBool, List, [], ◌∷◌, refl}
+use Rattle.std.specs.Prelude.{◌≡◌, ℕ, ◌<◌, ◌==◌, nat_lt, Bool, true, false, MatchBool, List, [], ◌∷◌, refl}
 use Rattle.std.proofs.Common.{arith, subst}
-use Rattle.std.proofs.lemmas.Bool.Decides.{nat_tests}
+use Rattle.af_base.proofs.Basics.{below_is, is_below, is_not_below, itself}
 use Rattle.af_base.specs.declared.frame.Frame.{Frame}
 use Rattle.af_model.specs.Journals.{RoundSeen, JournalData}
 use Rattle.af_script.specs.Data.{ScriptData}
@@ -23,29 +23,17 @@ where_false A {B} b e h = subst (λ (x : Bool). MatchBool x A B) e h
 either : {A B : Type 0} (b : Bool) → (b ≡ true → A) → (b ≡ false → B) → MatchBool b A B
 either {A} {B} b one other = elim b as (λ x. (x ≡ true → A) → (x ≡ false → B) → MatchBool x A B) [ true ↦ λ f g. f refl | false ↦ λ f g. g refl ] one other
 
-below : (m n : ℕ) → m < n → nat_lt m n ≡ true
-below m n h = grind (arith, nat_tests, h)
-
-not_below : (m n : ℕ) → n ≤ m → nat_lt m n ≡ false
-not_below m n h = grind (arith, nat_tests, h)
-
-is_below : (m n : ℕ) → nat_lt m n ≡ true → m < n
-is_below m n h = grind (arith, nat_tests, h)
-
-same : (n : ℕ) → (n == n) ≡ true
-same n = grind (arith, nat_tests)
-
 -- a client is clear, if the party of its number is
 pub client_part : (cut : Bool) (s : Session) (marks : Marks) (run : Run) (round : RoundSeen) (track : ℕ) → track < track_count s → IsClear cut s marks run round track → ClientIsClear s run round track
-client_part cut s marks run round track h clear = where_true _ (nat_lt track (normal_party s)) (below track (track_count s) h) clear
+client_part cut s marks run round track h clear = where_true _ (nat_lt track (normal_party s)) (is_below track (track_count s) h) clear
 
 -- the normal mixer is clear, if its party is
 pub normal_part : (cut : Bool) (s : Session) (marks : Marks) (run : Run) (round : RoundSeen) → IsClear cut s marks run round (normal_party s) → NormalIsClear s marks run round
-normal_part cut s marks run round clear = where_true _ (normal_party s == normal_party s) (same (normal_party s)) (where_false _ (nat_lt (normal_party s) (normal_party s)) (not_below (normal_party s) (normal_party s) (omega arith)) clear)
+normal_part cut s marks run round clear = where_true _ (normal_party s == normal_party s) (itself (normal_party s)) (where_false _ (nat_lt (normal_party s) (normal_party s)) (is_not_below (normal_party s) (normal_party s) (omega arith)) clear)
 
 -- the fast mixer is clear, if its party is
 pub fast_part : (cut : Bool) (s : Session) (marks : Marks) (run : Run) (round : RoundSeen) → IsClear cut s marks run round (fast_party s) → FastIsClear cut s marks run round
-fast_part cut s marks run round clear = where_false _ (fast_party s == normal_party s) (one_more (normal_party s)) (where_false _ (nat_lt (fast_party s) (normal_party s)) (not_below (fast_party s) (normal_party s) (omega arith)) clear)
+fast_part cut s marks run round clear = where_false _ (fast_party s == normal_party s) (one_more (normal_party s)) (where_false _ (nat_lt (fast_party s) (normal_party s)) (is_not_below (fast_party s) (normal_party s) (omega arith)) clear)
 
 -- a round in which every party is clear is legal
 pub round_legal : (cut : Bool) (s : Session) (marks : Marks) (run : Run) (round : RoundSeen) → 0 < track_count s → AreClear cut s marks run round → LegalRound cut s marks run round
@@ -63,7 +51,7 @@ round_legal cut s marks run round some clear =
 pub round_clear : (cut : Bool) (s : Session) (marks : Marks) (run : Run) (round : RoundSeen) → LegalRound cut s marks run round → (party : ℕ) → IsClear cut s marks run round party
 round_clear cut s marks run round legal party =
     either (nat_lt party (normal_party s))
-    (λ e. record { going = λ first. legal.follows.going; turn = legal.turns.clients party (is_below party (track_count s) e); histories = legal.histories.blocks party (is_below party (track_count s) e) })
+    (λ e. record { going = λ first. legal.follows.going; turn = legal.turns.clients party (below_is party (track_count s) e); histories = legal.histories.blocks party (below_is party (track_count s) e) })
     (λ e. either (party == normal_party s) (λ e. record { turn = legal.turns.normal; histories = legal.histories.shared }) (λ e. record { turn = legal.turns.fast; within = legal.follows.within; room = legal.follows.room }))
 
 rounds_legal : (s : Session) (marks : Marks) (run : Run) (rounds : List RoundSeen) → 0 < track_count s → AllClear s marks run rounds → LegalRounds false s marks run rounds × (all_ended s (run_from s run rounds) ≡ true)

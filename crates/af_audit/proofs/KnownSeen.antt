@@ -6,14 +6,14 @@ use Rattle.af_base.specs.declared.event.ClientEvent.TheVariants as client
 use Rattle.af_base.specs.declared.event.ServerEvent.{ServerEvent}
 use Rattle.af_base.specs.declared.event.ServerEvent.TheVariants as server
 use Rattle.af_base.specs.declared.event.HandEvent.{HandEvent}
-use Rattle.af_base.specs.declared.event.HandEvent.TheVariants as hand
+use Rattle.af_judge.proofs.Basics.{legal_cut, server_append, status_client, status_hand}
 use Rattle.af_model.specs.declared.point.TrackPoint.{TrackPoint}
 use Rattle.af_model.specs.declared.shape.Shape.{Shape}
-use Rattle.af_model.specs.Point.{start, after_client, after_server, after_hand}
+use Rattle.af_model.specs.Point.{start, after_server}
 use Rattle.af_model.specs.History.{HasHistory, IsLegal, Moment, by_client, by_server, by_hand, server_of, after}
 use Rattle.af_model.specs.ServerCalls.{ServerKept, flushes_by, is_noticed, server_begins, server_keeps, server_kept}
 use Rattle.af_audit.specs.Known.{sees_more, most_seen}
-use Rattle.af_audit.proofs.Drops.{client_cut, legal_cut, server_append}
+use Rattle.af_audit.proofs.Drops.{client_cut}
 
 -- ## The flush count of a server
 
@@ -61,21 +61,6 @@ pub record Stores (word : ℕ) (es : List ServerEvent) : Type 0 where
   pub before : List ServerEvent
   pub later : List ServerEvent
   pub whole : es ≡ before ++ server.SetStatus word ∷ later
-
-status_client : (p : TrackPoint) (e : ClientEvent) → (after_client p e).status ≡ p.status
-status_client p (client.Release count) = refl
-status_client p client.Flush = refl
-status_client p (client.SetGain word) = refl
-status_client p (client.ClearFlags old) = refl
-status_client p (client.SawFlags flags) = refl
-status_client p (client.SawFront front) = refl
-status_client p (client.SawStatus word) = refl
-status_client p (client.Poke word value) = refl
-status_client p (client.Learn count) = refl
-
-status_hand : (p : TrackPoint) (e : HandEvent) → (after_hand p e).status ≡ p.status
-status_hand p (hand.SetFlags bits) = refl
-status_hand p (hand.Met count) = refl
 
 stores_more : (word : ℕ) (es : List ServerEvent) (e : ServerEvent) → (word ≡ 0) ⊎ Stores word es → (word ≡ 0) ⊎ Stores word (es ++ e ∷ [])
 stores_more word es e (inl none) = inl none

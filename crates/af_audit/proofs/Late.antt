@@ -1,8 +1,10 @@
 -- Entries that follow without the state that a turn pushes show no more of a track than they do with it.
 use Rattle.std.proofs.Common.{◌≡◌, ◌⊎◌, inl, inr, ℕ, ◌<◌, ◌≤◌, ◌==◌, ◌&&◌, Bool, true, ◌++◌, length, Option, Some, None, refl, sym, ap, ◌∙◌, subst, eqb-true, eq-eqb, arith}
+use Rattle.af_base.proofs.Basics.{both as both-true}
 use Rattle.af_base.specs.declared.state.FastState.{FastState}
 use Rattle.af_base.specs.declared.state.FastTrack.{FastTrack}
 use Rattle.af_base.specs.Log.{slots, entry_slot}
+use Rattle.af_judge.proofs.Basics.{told_each}
 use Rattle.af_model.specs.Cycles.{Listed, cycle_events}
 use Rattle.af_model.specs.Journals.{EntrySeen}
 use Rattle.af_model.specs.StateQueue.{slot_of, carries}
@@ -11,8 +13,7 @@ use Rattle.af_runs.specs.Fronts.{front_of, is_shown}
 use Rattle.af_runs.specs.Runs.{Run, TrackTold, told_at, state_for, slot_for, plays, played, mixed_track, with_poll, with_mix, with_cycle}
 use Rattle.af_runs.specs.Sessions.{Session, cycle_frames}
 use Rattle.af_judge.specs.Entries.{CarriesApart}
-use Rattle.af_judge.proofs.EachTrack.{told_each}
-use Rattle.af_judge.proofs.EntryTracks.{both-true, plays_track}
+use Rattle.af_judge.proofs.EntryTracks.{plays_track}
 use Rattle.af_audit.proofs.Growing.{grows_cycle, run_told}
 use Rattle.af_audit.proofs.TrackStands.{server-server}
 use Rattle.af_audit.proofs.Measure.{Measure, of_run, of_server}

@@ -1,14 +1,14 @@
 -- What the list of a track's server shows by the end of a round, if its entries follow without the turn.
 use Rattle.std.proofs.Common.{◌≡◌, inl, ℕ, suc, ◌+◌, ◌<◌, ◌≤◌, if◌then◌else◌, Bool, true, false, List, [], ◌∷◌, ◌++◌, length, drop, Some, refl, sym, ap, ◌∙◌, subst, append-nil, arith}
 use Rattle.std.specs.List.{prefix_len}
-use Rattle.std.specs.Prelude.{nat_le}
-use Rattle.std.proofs.lemmas.Bool.Decides.{nat_tests}
 use Rattle.std.proofs.lemmas.Grind.{fold-append}
 use Rattle.std.proofs.lemmas.List.{take-append-drop}
+use Rattle.af_base.proofs.Basics.{beyond_is}
 use Rattle.af_base.specs.declared.event.ServerEvent.{ServerEvent}
 use Rattle.af_base.specs.declared.state.FastState.{FastState}
 use Rattle.af_base.specs.Log.{slots}
 use Rattle.af_base.specs.Turn.{Turn}
+use Rattle.af_judge.proofs.Basics.{each_at}
 use Rattle.af_life.specs.Heard.{learnt}
 use Rattle.af_life.specs.Kept.{Setup, Outside}
 use Rattle.af_life.specs.Turn.{after_edits}
@@ -23,7 +23,6 @@ use Rattle.af_runs.specs.Sessions.{Session, cycle_frames, setup_of}
 use Rattle.af_runs.specs.Told.{state_at, is_pushed}
 use Rattle.af_judge.specs.Entries.{CarriesApart}
 use Rattle.af_judge.specs.StatesKept.{SameSlots}
-use Rattle.af_judge.proofs.EachTrack.{each_at}
 use Rattle.af_judge.proofs.StatesKept.{at_last}
 use Rattle.af_audit.proofs.Growing.{run_told, grows_turned}
 use Rattle.af_audit.proofs.TrackStands.{hand-server, server-server}
@@ -39,16 +38,13 @@ pub untold_is : (s : Session) (run : Run) (round : RoundSeen) → untold s run r
 untold_is s run round = ap (λ (es : List EntrySeen). with_cycles s es (with_calls round run)) (sym (take-append-drop (early_count run round) round.entries))
     ∙ fold-append _ (with_calls round run) (early_of run round) (late_of run round)
 
-not_early : (k n : ℕ) → nat_le k n ≡ false → n < k
-not_early k n h = grind (arith, nat_tests, h)
-
 pub first_late : (run : Run) (es : List EntrySeen) → FirstLate (length run.states) (drop (prefix_len (is_early run) es) es)
 first_late run [] = tt
 first_late run (e ∷ es) = by (is_early run e) refl (first_late run es)
   where
     by : (b : Bool) → is_early run e ≡ b → FirstLate (length run.states) (drop (prefix_len (is_early run) es) es) → FirstLate (length run.states) (drop (if b then 1 + prefix_len (is_early run) es else 0) (e ∷ es))
     by true is rest = subst (λ (n : ℕ). FirstLate (length run.states) (drop n (e ∷ es))) (let q : suc (prefix_len (is_early run) es) ≡ 1 + prefix_len (is_early run) es = omega arith in q) rest
-    by false is rest = not_early e.entry.state (length run.states) is
+    by false is rest = beyond_is e.entry.state (length run.states) is
 
 module _ (measure : Measure) where
   -- ## From before a turn to after it

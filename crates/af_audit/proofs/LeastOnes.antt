@@ -1,21 +1,15 @@
 -- The least party at fault, by what is found of a round.
-use Rattle.std.proofs.Common.{◌≡◌, ◌⊎◌, inl, inr, ℕ, suc, ◌+◌, ◌<◌, ◌≤◌, Bool, true, false, true≢false, List, [], ◌∷◌, nat_lt, if◌then◌else◌, unwrap_or, Option, Some, None, arith, refl, sym, ap, subst, ◌∙◌}
+use Rattle.std.proofs.Common.{◌≡◌, ℕ, suc, ◌+◌, ◌<◌, ◌≤◌, Bool, true, false, true≢false, List, [], ◌∷◌, nat_lt, if◌then◌else◌, unwrap_or, Option, Some, None, arith, refl, sym, ap, ◌∙◌}
 use Rattle.std.proofs.lemmas.Bool.Decides.{nat_tests}
 use Rattle.af_audit.specs.declared.run_judge.Found.{Found}
 use Rattle.af_audit.specs.RunKept.{FindsFaults, LeastBelow, least_found, least_mixer, least_party, lesser}
 use Rattle.af_audit.specs.Verdicts.{AreClear, IsClear, IsFirstFault, IsLeastWithout}
+use Rattle.af_base.proofs.Basics.{all_more}
 use Rattle.af_model.specs.Journals.{RoundSeen}
 use Rattle.af_runs.specs.Blocks.{Marks}
 use Rattle.af_runs.specs.Rounds.{after_round}
 use Rattle.af_runs.specs.Runs.{Run, fast_party, has_ended}
 use Rattle.af_runs.specs.Sessions.{Session}
-
--- what holds below a number and of that number holds below the next one
-pub all_more : (Holds : ℕ → Type 0) (n : ℕ) → ((i : ℕ) → i < n → Holds i) → Holds n → (i : ℕ) → i < n + 1 → Holds i
-all_more Holds n all h i lt = elim (at_or i n lt) [ inl less ↦ all i less | inr same ↦ subst Holds (sym same) h ]
-  where
-    at_or : (i n : ℕ) → i < n + 1 → (i < n) ⊎ (i ≡ n)
-    at_or i n lt = grind (arith, lt)
 
 -- the least number below a bound is the least one up to the number before
 pub least_without : (Holds : ℕ → Type 0) (last i : ℕ) → LeastBelow Holds (last + 1) (Some i) → IsLeastWithout Holds last i

@@ -1,3 +1,4 @@
+pub mod Basics
 pub mod Booleans
 pub mod FirstFound
 pub mod JudgedExactly

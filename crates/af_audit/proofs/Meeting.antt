@@ -5,13 +5,14 @@ use Rattle.af_base.specs.declared.event.ClientEvent.{ClientEvent}
 use Rattle.af_base.specs.declared.event.ClientEvent.TheVariants as client
 use Rattle.af_base.specs.declared.event.HandEvent.TheVariants as hand
 use Rattle.af_base.specs.declared.event.ServerEvent.TheVariants as server
+use Rattle.af_judge.proofs.Basics.{client_append, server_append, told_each}
+use Rattle.af_model.proofs.Basics.{lawful_first}
 use Rattle.af_model.specs.declared.point.TrackPoint.{TrackPoint}
 use Rattle.af_model.specs.declared.shape.Shape.{Shape}
 use Rattle.af_model.specs.Point.{start, ClientMay}
 use Rattle.af_model.specs.History.{Moment, by_client, by_server, by_hand, client_of, server_of, after, flushes_of, is_tame, is_lawful, IsLegal}
 use Rattle.af_model.specs.Journals.{RoundSeen}
 use Rattle.af_model.proofs.Counts.{flushes_are, lawful_more}
-use Rattle.af_model.proofs.Logic.{both_are, both_left, both_right}
 use Rattle.af_runs.specs.Blocks.{BlockTold, HasBlockHistory, Marks, client_list, meets, server_list}
 use Rattle.af_runs.specs.Clients.{ends}
 use Rattle.af_runs.specs.LegalRuns.{run_from}
@@ -19,11 +20,10 @@ use Rattle.af_runs.specs.Rounds.{LegalRound, after_round, all_played, met_after}
 use Rattle.af_runs.specs.Runs.{Run, TrackTold, each_track, met, stream_met, takes_part, told_at, with_ends}
 use Rattle.af_runs.specs.Sessions.{Session, track_count}
 use Rattle.af_judge.proofs.BlocksMeet.{met_at}
-use Rattle.af_judge.proofs.EachTrack.{told_each}
 use Rattle.af_audit.specs.Fates.{DropsByFlush}
 use Rattle.af_audit.specs.Known.{most_seen}
 use Rattle.af_audit.specs.Settled.{DiscardsAbove}
-use Rattle.af_audit.proofs.Drops.{client_append, met-discards, released_in, released_told, put_by, puts, server_append}
+use Rattle.af_audit.proofs.Drops.{met-discards, released_in, released_told, put_by, puts}
 use Rattle.af_audit.proofs.Grown.{Grows, grows_twice, grows_none, ends_grow, meet_grows, played_grow, rounds_grow}
 
 -- ## No poke
@@ -45,10 +45,6 @@ legal_lawful p [] l = refl
 legal_lawful p (by_client e ∷ order) l = lawful_more (client_of order) e (may_tame (after p order) (length (server_of order)) e l.0) (legal_lawful p order l.1)
 legal_lawful p (by_server e ∷ order) l = legal_lawful p order l.1
 legal_lawful p (by_hand e ∷ order) l = legal_lawful p order l.1
-
-lawful_front : (xs ys : List ClientEvent) → is_lawful (xs ++ ys) ≡ true → is_lawful xs ≡ true
-lawful_front [] ys h = refl
-lawful_front (x ∷ xs) ys h = both_are (is_tame x) (is_lawful xs) (both_left (is_tame x) _ h) (lawful_front xs ys (both_right (is_tame x) _ h))
 
 -- ## A block at its meeting
 
@@ -100,7 +96,7 @@ module _ (b last : BlockTold) (g : Grows (meets b) last) (h : HasBlockHistory la
 pub grown_tame : (a last : BlockTold) → Grows a last → HasBlockHistory last → is_lawful (client_list a) ≡ true
 grown_tame a last g h =
     let list : client_of h.order ≡ client_list a ++ client_of g.more = h.client_is ∙ ap client_of g.told ∙ client_append g.more a.told in
-    lawful_front (client_list a) (client_of g.more) (subst (λ (es : List ClientEvent). is_lawful es ≡ true) list (legal_lawful (start last.shape) h.order h.legal))
+    lawful_first (client_list a) (client_of g.more) (subst (λ (es : List ClientEvent). is_lawful es ≡ true) list (legal_lawful (start last.shape) h.order h.legal))
 
 -- ## A run
 

@@ -2,13 +2,15 @@
 use Rattle.std.proofs.Common.{◌≡◌, ◌↔◌, inl, inr, ℕ, ◌+◌, ◌<◌, ◌≤◌, Bool, true, false, true≢false, IsTrue, nat_lt, if◌then◌else◌, MatchBool, List, length, set, Option, Some, None, arith, refl, sym, subst, ◌∙◌}
 use Rattle.std.proofs.lemmas.Bool.{ltb-false, ltb-true}
 use Rattle.std.proofs.lemmas.List.{get_or-set_other, get_or-set_same, length-set}
+use Rattle.af_base.proofs.Basics.{below_or_at}
+use Rattle.af_judge.proofs.Basics.{same_track}
 use Rattle.af_judge.specs.declared.track_judge.TrackJudge.{TrackJudge}
 use Rattle.af_judge.specs.BlocksMet.{AreShort, BothKeep, blocks_met}
 use Rattle.af_judge.specs.NormalTold.{IsTrackAt}
 use Rattle.af_audit.specs.declared.run_judge.RunJudge.{RunJudge}
 use Rattle.af_audit.specs.MeetingsJudged.{Keeps, TracksMet, is_there}
 use Rattle.af_audit.specs.RunKept.{LeastBelow, found_after, lesser}
-use Rattle.af_audit.proofs.CallsJudged.{least_after, less_or, one-track, other-track, put-track}
+use Rattle.af_audit.proofs.CallsJudged.{least_after, other-track, put-track}
 use Rattle.af_audit.proofs.LeastOnes.{least_same}
 
 -- no track has met
@@ -32,11 +34,11 @@ module _ (j : RunJudge) (before now : List TrackJudge) (at : ℕ) (t k : TrackJu
   pub one_met : (found next : Option ℕ) (right : Bool) → TracksMet j at before now found → k ≡ blocks_met (is_there j at) j.normal.handed t → AreShort (is_there j at) k → IsTrue right ↔ BothKeep (is_there j at) k → next ≡ found_after found right at
       → TracksMet j (at + 1) before (set now at k) next
   one_met found next right h met short answer is = record {
-    met = λ i u v lt a b. elim (less_or i at lt) [
+    met = λ i u v lt a b. elim (below_or_at i at lt) [
       | inl less ↦ h.met i u v less a (other-track now at i k v (λ e. omega (arith, less, e)) b)
       | inr same ↦ met_here u v i same a b
     ];
-    short = λ i v lt b. elim (less_or i at lt) [
+    short = λ i v lt b. elim (below_or_at i at lt) [
       | inl less ↦ h.short i v less (other-track now at i k v (λ e. omega (arith, less, e)) b)
       | inr same ↦ subst (λ n. AreShort (is_there j n) v) (sym same) (subst (AreShort (is_there j at)) (sym (put-track now at k v (subst (λ n. IsTrackAt (set now at k) n v) same b))) short)
     ];
@@ -50,7 +52,7 @@ module _ (j : RunJudge) (before now : List TrackJudge) (at : ℕ) (t k : TrackJu
     where
       met_here : (u v : TrackJudge) (i : ℕ) → i ≡ at → IsTrackAt before i u → IsTrackAt (set now at k) i v → v ≡ blocks_met (is_there j i) j.normal.handed u
       met_here u v i same a b =
-          let first : t ≡ u = one-track before at t u (h.others at t (let x : at ≤ at = omega arith in x) here) (subst (λ n. IsTrackAt before n u) same a) in
+          let first : t ≡ u = same_track before at t u (h.others at t (let x : at ≤ at = omega arith in x) here) (subst (λ n. IsTrackAt before n u) same a) in
           put-track now at k v (subst (λ n. IsTrackAt (set now at k) n v) same b) ∙ (met ∙ (λ z. blocks_met (is_there j (sym same z)) j.normal.handed (first z)))
 
       keeps_here : (b : Bool) → IsTrue b ↔ BothKeep (is_there j at) k → MatchBool b (Keeps j (set now at k) at) (Keeps j (set now at k) at → ⊥)

@@ -1,6 +1,7 @@
 -- The turn of the normal mixer in a legal round, the mixer that it finds, and the one that the round leaves.
 use Rattle.std.specs.Prelude.{MatchBool, MatchOption}
 use Rattle.std.proofs.Common.{◌≡◌, Bool, true, false, if◌then◌else◌, is_some, Option, Some, None, refl, sym, ap, ◌∙◌, subst}
+use Rattle.af_base.proofs.Basics.{no}
 use Rattle.af_base.specs.Turn.{Turn}
 use Rattle.af_life.specs.Heard.{learnt}
 use Rattle.af_life.specs.Kept.{NormalKept}
@@ -13,7 +14,6 @@ use Rattle.af_runs.specs.Rounds.{LegalRound, after_round, after_turn, before_tur
 use Rattle.af_runs.specs.Runs.{Run, each_track, met, with_calls, with_cycles, with_ends, with_load, with_turn}
 use Rattle.af_runs.specs.Sessions.{Session, setup_of}
 use Rattle.af_judge.proofs.EntriesFollow.{cycles_beside}
-use Rattle.af_audit.proofs.Booleans.{no}
 
 module _ (s : Session) (run : Run) (round : RoundSeen) where
   pub before_normal : (before_turn s run round).normal ≡ run.normal

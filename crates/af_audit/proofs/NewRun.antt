@@ -1,6 +1,7 @@
 -- What is kept before the first round is kept of the run before it.
 use Rattle.std.proofs.Common.{◌≡◌, ℕ, ◌<◌, Bool, List, [], length, arith, refl, sym, ap, subst, ◌∙◌}
-use Rattle.std.proofs.lemmas.List.FromFn.{get_or-map-range_with_len, length-map-range_with_len}
+use Rattle.std.proofs.lemmas.List.FromFn.{length-map-range_with_len}
+use Rattle.af_judge.proofs.Basics.{new_at}
 use Rattle.af_judge.specs.declared.track_judge.TrackJudge.{TrackJudge}
 use Rattle.af_judge.specs.Blocks.{BlockJudged, IsBlockOf, new_judged}
 use Rattle.af_judge.specs.RunTold.{IsServedBlock, IsServedTrack, KeepsTracks}
@@ -21,7 +22,7 @@ use Rattle.af_model.specs.Journals.{RoundSeen}
 use Rattle.af_runs.specs.Blocks.{new_block}
 use Rattle.af_runs.specs.LegalRuns.{marks_of}
 use Rattle.af_model.specs.ClientCalls as list
-use Rattle.af_runs.specs.Runs.{TrackTold, new_run, new_track, no_track, pipe_cells, sides_of, told_at}
+use Rattle.af_runs.specs.Runs.{TrackTold, new_run, new_track, pipe_cells, sides_of}
 use Rattle.af_runs.specs.Sessions.{Session, command_shape, setup_of, spec_of, stream_shape, track_count}
 use Rattle.af_script.specs.Form.{IsScript}
 use Rattle.af_audit.specs.declared.run_judge.RunJudge.{RunJudge}
@@ -32,9 +33,6 @@ use Rattle.af_audit.proofs.TrackThere.{track_there}
 -- a block on which nothing was done
 served_new : (shape : Shape) (lawful : Bool) → IsServedBlock (new_judged shape lawful) (new_block shape)
 served_new shape lawful = record { shape = refl; server = refl; hand = refl; taken = refl; whole = refl; follow = tt }
-
-told_new : (s : Session) (i : ℕ) → i < track_count s → told_at (new_run s) i ≡ new_track s i
-told_new s i lt = get_or-map-range_with_len (new_track s) 0 (track_count s) i i no_track lt (omega arith)
 
 -- a new track is kept of the run's
 new_served : (s : Session) (rounds : List RoundSeen) (i : ℕ) (t : TrackJudge) → IsNewTrack s.script rounds i t → IsServedTrack (marks_of rounds) i t (new_track s i)
@@ -58,15 +56,15 @@ pub new_keeps : (s : Session) (rounds : List RoundSeen) (tracks : List TrackJudg
 new_keeps s rounds tracks many new = record {
   many = many ∙ sym (length-map-range_with_len (new_track s) 0 (track_count s));
   all = many;
-  served = λ i t at. let lt : i < track_count s = (let a = at.0 in omega (arith, a, many)) in subst (IsServedTrack (marks_of rounds) i t) (sym (told_new s i lt)) (new_served s rounds i t (new i t lt at));
-  whole = λ i t at yes. let lt : i < track_count s = (let a = at.0 in omega (arith, a, many)) in subst (IsTrackOf (spec_of s i).ops t) (sym (told_new s i lt)) (new_whole s rounds i t (new i t lt at));
+  served = λ i t at. let lt : i < track_count s = (let a = at.0 in omega (arith, a, many)) in subst (IsServedTrack (marks_of rounds) i t) (sym (new_at s i lt)) (new_served s rounds i t (new i t lt at));
+  whole = λ i t at yes. let lt : i < track_count s = (let a = at.0 in omega (arith, a, many)) in subst (IsTrackOf (spec_of s i).ops t) (sym (new_at s i lt)) (new_whole s rounds i t (new i t lt at));
 }
 
 -- each new track is fit
 pub new_fit : (s : Session) (rounds : List RoundSeen) (tracks : List TrackJudge) → length tracks ≡ track_count s → AreNewTracks s.script rounds (track_count s) tracks → AreFit s (new_run s)
 new_fit s rounds tracks many new = λ i lt.
     let a = track_there tracks i (let x : i < length tracks = omega (arith, lt, many) in x) in
-    subst (λ (t : TrackTold). IsFit s i (sides_of t)) (sym (told_new s i lt)) (let h = new i a.0 lt a.1 in record { file = refl; spelled = record { stream = list.begins; commands = list.begins }; stream = h.few; commands = omega arith })
+    subst (λ (t : TrackTold). IsFit s i (sides_of t)) (sym (new_at s i lt)) (let h = new i a.0 lt a.1 in record { file = refl; spelled = record { stream = list.begins; commands = list.begins }; stream = h.few; commands = omega arith })
 
 -- what is kept before the first round is kept of the run before it
 pub new_kept : (s : Session) (rounds : List RoundSeen) (j : RunJudge) (tracks : List TrackJudge) → IsScript s.script → IsJudged j.normal → IsNewJudge s.script j → length tracks ≡ track_count s → AreNewTracks s.script rounds (track_count s) tracks → KeepsRun s (marks_of rounds) j tracks (new_run s)

@@ -3,6 +3,7 @@ use Rattle.std.specs.Prelude.{◌≡◌, ◌⊎◌, ℕ, zero, suc, ◌+◌, ◌
 use Rattle.std.specs.List.{list_all, range_with_len}
 use Rattle.std.proofs.Common.{arith, subst, sym, ap, ◌∙◌, inl, inr}
 use Rattle.af_base.specs.declared.frame.Frame.{Frame}
+use Rattle.af_model.proofs.Basics.{both_first}
 use Rattle.af_model.specs.Journals.{RoundSeen, JournalData}
 use Rattle.af_script.specs.Data.{ScriptData}
 use Rattle.af_audit.specs.declared.verdict.Verdict.TheVariants.{Legal, Refused}
@@ -15,7 +16,7 @@ use Rattle.af_audit.specs.RunLaws.{OneVerdict}
 use Rattle.af_runs.specs.Runs.{Run, new_run, has_ended, all_ended, fast_party}
 use Rattle.af_runs.specs.Sessions.{Session}
 use Rattle.af_audit.specs.Verdicts.{AllClear, IsClear, IsFirstFault, IsLeastWithout, FirstDiffer}
-use Rattle.af_model.proofs.Logic.{both_left, both_right}
+use Rattle.af_model.proofs.Logic.{both_right}
 
 -- two numbers, of which neither is less
 order_of : (m n : ℕ) → (m < n) ⊎ ((n < m) ⊎ (m ≡ n))
@@ -28,7 +29,7 @@ one_least Holds last p q a b = elim (order_of p q) [ inl less ↦ absurd (a.fail
 -- each number of a range passes, if all do
 passes : (P : ℕ → Bool) (from count i : ℕ) → list_all P (range_with_len from count) ≡ true → i < count → P (from + i) ≡ true
 passes P from zero i h low = absurd (omega (arith, low))
-passes P from (suc count) zero h low = subst (λ n. P n ≡ true) (omega arith) (both_left (P from) _ h)
+passes P from (suc count) zero h low = subst (λ n. P n ≡ true) (omega arith) (both_first (P from) _ h)
 passes P from (suc count) (suc i) h low = subst (λ n. P n ≡ true) (omega arith) (passes P (from + 1) count i (both_right (P from) _ h) (omega (arith, low)))
 
 -- if all parties have ended, each of them has

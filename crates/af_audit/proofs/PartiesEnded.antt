@@ -4,6 +4,7 @@ use Rattle.std.specs.Prelude.{is_none, is_some, not}
 use Rattle.std.specs.List.{list_all, range_with_len}
 use Rattle.std.proofs.lemmas.Bool.Decides.{nat_tests}
 use Rattle.std.proofs.lemmas.List as lists
+use Rattle.af_base.proofs.Basics.{never_true}
 use Rattle.af_judge.specs.declared.track_judge.TrackJudge.{TrackJudge}
 use Rattle.af_judge.specs.RunTold.{KeepsTracks}
 use Rattle.af_runs.specs.Blocks.{Marks}
@@ -15,7 +16,6 @@ use Rattle.af_audit.specs.RunKept.{LeastBelow, client_ended, party_ended}
 use Rattle.af_audit.proofs.LeastOnes.{least_same}
 use Rattle.af_audit.proofs.OneVerdict.{each_ended}
 use Rattle.af_audit.proofs.TrackThere.{track_there}
-use Rattle.af_audit.proofs.Booleans.{never_true}
 
 -- all numbers of a range pass, if each does
 range_all : (P : ℕ → Bool) (from count : ℕ) → ((i : ℕ) → i < count → P (from + i) ≡ true) → list_all P (range_with_len from count) ≡ true

@@ -2,13 +2,11 @@
 use Rattle.std.proofs.Common.{◌≡◌, ℕ, zero, suc, ◌*◌, ◌/◌, ◌^◌, ◌≤◌, ◌<◌, max, Bool, true, false, nat_le, if◌then◌else◌, refl, sym, ap, ◌∙◌, arith, inl, inr}
 use Rattle.std.specs.Int.{IsPowerOfTwo}
 use Rattle.std.proofs.lemmas.Bool.{cases_lt, leb-false, leb-true}
-use Rattle.std.proofs.Math.Nat.{mul-le-mul, pow-le-pow_right, pow-succ'}
+use Rattle.std.proofs.Math.Nat.{mul-le-mul, pow-succ'}
+use Rattle.af_base.proofs.Basics.{le-power}
 use Rattle.af_script.specs.Data.{ScriptData}
 use Rattle.af_script.specs.Form.{IsScript}
 use Rattle.af_script.specs.Ops.{power_above}
-
-le-power : (j k : ℕ) → j ≤ k → 2 ^ j ≤ 2 ^ k
-le-power j k le = pow-le-pow_right (omega arith) le
 
 -- if a power of two is enough and its half isn't, it is the least one
 power_next : (k j n : ℕ) → n ≤ 2 ^ j → 2 ^ j / 2 < max 1 n → j ≤ k → 2 ^ j ≡ power_above k n

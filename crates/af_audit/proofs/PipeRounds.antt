@@ -7,16 +7,16 @@ use Rattle.af_base.specs.declared.event.ServerEvent.TheVariants as server
 use Rattle.af_base.specs.Log.{entry_slot}
 use Rattle.af_base.specs.Sample.{packed_word}
 use Rattle.af_base.specs.Turn.{Turn}
+use Rattle.af_judge.proofs.Basics.{calls_pipe, ends_pipe, loaded_pipe}
 use Rattle.af_life.specs.Plays.{put_by}
 use Rattle.af_life.specs.TurnEvents.{going, pipe_list}
 use Rattle.af_model.specs.Cycles.{is_mixed, takes_shown}
 use Rattle.af_model.specs.Journals.{EntrySeen, RoundSeen, slot_frames}
 use Rattle.af_model.specs.Order.{two, ones, twos}
 use Rattle.af_model.specs.Point.{wrapped}
-use Rattle.af_runs.specs.Clients.{ends}
 use Rattle.af_runs.specs.Found.{TurnFound}
-use Rattle.af_runs.specs.Rounds.{after_round, after_turn, all_played, before_turn, early_of, found_in, late_of, loaded, met_after, turned}
-use Rattle.af_runs.specs.Runs.{Run, each_track, met, pipe_cells, with_calls, with_cycle, with_cycles, with_ends, with_load, with_mix, with_poll, with_turn}
+use Rattle.af_runs.specs.Rounds.{after_round, after_turn, all_played, before_turn, early_of, found_in, late_of, met_after, turned}
+use Rattle.af_runs.specs.Runs.{Run, met, pipe_cells, with_calls, with_cycle, with_cycles, with_mix, with_poll, with_turn}
 use Rattle.af_runs.specs.Sessions.{Session, setup_of}
 use Rattle.af_runs.specs.Told.{PipeTold}
 use Rattle.af_judge.proofs.QueueSteps.{ones_met, ones_more, ones_stay}
@@ -74,15 +74,6 @@ turned_flows s found (Some e) run = record { list = ones_more run.pipe.told (tur
 
 -- ## The round
 
-called_pipe : (round : RoundSeen) (run : Run) → (with_calls round run).pipe ≡ run.pipe
-unfolding with_calls
-called_pipe round run = refl
-
-loaded_pipe : (o : Option Turn) (run : Run) → (loaded o run).pipe ≡ run.pipe
-unfolding with_load
-loaded_pipe None run = refl
-loaded_pipe (Some e) run = refl
-
 met_list : (s : Session) (run : Run) → ones (met s run).pipe.told ≡ ones run.pipe.told ++ client.Learn (length (twos run.pipe.told)) ∷ []
 unfolding met
 met_list s run = ones_met run.pipe.told (client.Learn (length (twos run.pipe.told))) (server.Learn (length (ones run.pipe.told)))
@@ -90,14 +81,6 @@ met_list s run = ones_met run.pipe.told (client.Learn (length (twos run.pipe.tol
 met_words : (s : Session) (run : Run) → ((met s run).pipe.put ≡ run.pipe.put) × ((met s run).pipe.taken ≡ run.pipe.taken)
 unfolding met
 met_words s run = (refl, refl)
-
-pub ended_pipe : (run : Run) → (with_ends run).pipe ≡ run.pipe
-unfolding with_ends
-ended_pipe run = by run.normal.ended
-  where
-    by : (b : Bool) → (if b then each_track (λ track t. record t { client = ends t.client }) run else run).pipe ≡ run.pipe
-    by true = refl
-    by false = refl
 
 -- what a round does: its turn, and a meeting
 pub record RoundFlows (s : Session) (run : Run) (round : RoundSeen) : Type 0 where
@@ -117,7 +100,7 @@ module _ (s : Session) (run : Run) (round : RoundSeen) where
   played = all_played s run round
 
   early_flows : Flows run.pipe before.pipe [] []
-  early_flows = subst (λ (p : PipeTold). Flows p before.pipe [] []) (called_pipe round run) (cycles_flow s (early_of run round) (with_calls round run))
+  early_flows = subst (λ (p : PipeTold). Flows p before.pipe [] []) (calls_pipe round run) (cycles_flow s (early_of run round) (with_calls round run))
 
   played_is : played.pipe ≡ late.pipe
   played_is = loaded_pipe round.turn late
@@ -140,14 +123,14 @@ module _ (s : Session) (run : Run) (round : RoundSeen) where
       record {
         learnt = length (twos played.pipe.told);
         list =
-            ap (λ (p : PipeTold). ones p.told) (ended_pipe (met_after s run round)) ∙ met_list s played
+            ap (λ (p : PipeTold). ones p.told) (ends_pipe (met_after s run round)) ∙ met_list s played
             ∙ ap (λ (l : List ClientEvent). l ++ client.Learn (length (twos played.pipe.told)) ∷ [])
             (ap (λ (p : PipeTold). ones p.told) played_is ∙ rest.list ∙ append-nil (ones (after_turn s run round).pipe.told) ∙ turn.list ∙ (λ i. list_before i ++ events_same round.turn i));
-        put = ap (λ (p : PipeTold). p.put) (ended_pipe (met_after s run round)) ∙ words.0 ∙ ap (λ (p : PipeTold). p.put) played_is ∙ rest.put ∙ append-nil (after_turn s run round).pipe.put ∙ turn.put
+        put = ap (λ (p : PipeTold). p.put) (ends_pipe (met_after s run round)) ∙ words.0 ∙ ap (λ (p : PipeTold). p.put) played_is ∙ rest.put ∙ append-nil (after_turn s run round).pipe.put ∙ turn.put
             ∙ ap (λ (l : List ℕ). l ++ turn_words s round.turn) put_before;
         grows = (let a = early_flows.grows in let b = turn.grows in let c = rest.grows in
             let d = ap (λ (p : PipeTold). length p.taken) played_is in
             let e = ap length words.1 in
-            let f = ap (λ (p : PipeTold). length p.taken) (ended_pipe (met_after s run round)) in
+            let f = ap (λ (p : PipeTold). length p.taken) (ends_pipe (met_after s run round)) in
             omega (arith, a, b, c, d, e, f));
       }

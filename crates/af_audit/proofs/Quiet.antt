@@ -2,10 +2,12 @@
 use Rattle.std.specs.List.{AllByRecursion, range_with_len, flat_map}
 use Rattle.std.proofs.Common.{◌≡◌, inl, inr, ℕ, zero, suc, ◌==◌, ◌&&◌, not, if◌then◌else◌, is_some, Bool, true, false, List, [], ◌∷◌, ◌++◌, length, map, refl, sym, ap, ◌∙◌, subst, eqb-true, arith}
 use Rattle.std.specs.Prelude.{slice_set, filter, nat_le}
+use Rattle.af_base.proofs.Basics.{no}
 use Rattle.af_base.specs.declared.state.Command.{Command}
 use Rattle.af_base.specs.declared.state.FastState.{FastState}
 use Rattle.af_base.specs.Command.{code_of}
 use Rattle.af_base.specs.Turn.{Turn, TrackSeen, TakeSeen}
+use Rattle.af_life.proofs.Basics.{at_set, slot_of_away}
 use Rattle.af_life.specs.declared.kept.Holder.TheVariants.{Returning}
 use Rattle.af_life.specs.declared.kept.TrackKept.{TrackKept}
 use Rattle.af_life.specs.Edits.{after_ack, must_leave, must_enter, let_go, lend, lent_by, entered, edited, edited_to, ordered, mutated}
@@ -20,9 +22,8 @@ use Rattle.af_life.proofs.Lives.{not_yet}
 use Rattle.af_model.specs.Draft.{commanded as with_command}
 use Rattle.af_model.specs.Cycles.{cycle_events}
 use Rattle.af_judge.proofs.SoundLives.{goes_served}
-use Rattle.af_judge.proofs.SoundSlots.{at_set, sound_served, slot_of_away}
+use Rattle.af_judge.proofs.SoundSlots.{sound_served}
 use Rattle.af_judge.proofs.SoundTurns.{sound_acked}
-use Rattle.af_audit.proofs.Booleans.{no}
 
 abbrev HasSlot : ℕ → List TrackKept → Type 0
 HasSlot n tracks = is_some (track_at tracks n).slot ≡ true

@@ -1,5 +1,6 @@
 -- In a legal round each track that is reported drained has reached its STOP's count by the round's end.
-use Rattle.std.proofs.Common.{◌≡◌, ℕ, ◌<◌, ◌≤◌, if◌then◌else◌, is_some, max, Bool, true, false, List, [], ◌∷◌, ◌++◌, Option, Some, None, refl, arith}
+use Rattle.std.proofs.Common.{◌≡◌, ℕ, ◌<◌, ◌≤◌, if◌then◌else◌, is_some, Bool, true, false, List, [], ◌∷◌, ◌++◌, Option, Some, None, refl, arith}
+use Rattle.af_base.proofs.Basics.{max_le}
 use Rattle.af_base.specs.declared.turn.CommandLook.{CommandLook}
 use Rattle.af_base.specs.Turn.{Turn}
 use Rattle.af_life.specs.declared.kept.Heard.{Heard}
@@ -45,9 +46,6 @@ looks_heard n given flush_seen (look ∷ looks) s before h =
     let steps : List LifeStep = look_steps look ++ before in
     either_heard (goes_on look t) n (looks_steps given flush_seen looks t steps) steps (looks_heard n given flush_seen looks t steps (look_heard n look before h)) (look_heard n look before h)
 
-both_low : (a b n : ℕ) → a ≤ n → b ≤ n → max a b ≤ n
-both_low a b n h g = omega (arith, h, g)
-
 pub steps_heard : (c : Setup) (k : Learnt) (m : NormalKept) (e : Turn) (i n : ℕ) (before : List LifeStep) → (heard k i (track_at (tracks_at c k m e i) i)).known.consumed ≤ n → most_heard before ≤ n → most_heard (track_steps c k m e i before) ≤ n
 unfolding track_steps
 steps_heard c k m e i n before now h =
@@ -59,7 +57,7 @@ steps_heard c k m e i n before now h =
     let rest : List LifeStep = if is_some r.awaits then before else looks in
     either_heard e.ended n before (if s.life.ended then before else heard_of x.known ∷ rest) h
     (either_heard s.life.ended n before (heard_of x.known ∷ rest) h
-    (both_low x.known.consumed (most_heard rest) n now (either_heard (is_some r.awaits) n before looks h (looks_heard n (slot_for c tracks i) x.flush_seen (track_in e i).looks r before h))))
+    (max_le x.known.consumed (most_heard rest) n now (either_heard (is_some r.awaits) n before looks h (looks_heard n (slot_for c tracks i) x.flush_seen (track_in e i).looks r before h))))
 
 -- ## A round
 

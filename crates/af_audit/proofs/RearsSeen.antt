@@ -1,6 +1,7 @@
 -- In a history a server that sees each front right after a rear is never shut; and servers that look as a journal says do so.
 use Rattle.std.proofs.Common.{◌≡◌, ◌⊎◌, inl, inr, ℕ, ◌+◌, ◌-◌, ◌≤◌, ◌==◌, nat_lt, Bool, true, false, if◌then◌else◌, is_some, fold, Option, Some, None, List, [], ◌∷◌, ◌++◌, refl, sym, ap, ◌∙◌, subst, arith}
 use Rattle.std.proofs.lemmas.Grind.{fold-append}
+use Rattle.af_base.proofs.Basics.{is_not_below, no}
 use Rattle.af_base.specs.declared.event.ClientEvent.{ClientEvent}
 use Rattle.af_base.specs.declared.event.ClientEvent.TheVariants as client
 use Rattle.af_base.specs.declared.event.HandEvent.{HandEvent}
@@ -20,12 +21,11 @@ use Rattle.af_model.specs.Point.{wrapped, start, ServerMay, after_client, after_
 use Rattle.af_model.specs.Room.{ahead, outside}
 use Rattle.af_model.specs.ServerCalls.{ServerKept, drops_of, is_noticed, look_events, server_begins, server_keeps, server_kept}
 use Rattle.af_model.proofs.Fates.{in_turn}
-use Rattle.af_model.proofs.Logic.{ahead-between, nat_lt-no}
+use Rattle.af_model.proofs.Logic.{ahead-between}
 use Rattle.af_model.proofs.RoomKept.{AllFit, AllFollowRear, FollowsRear, fit_split, room_in, saw_rear}
 use Rattle.af_runs.specs.Blocks.{BlockTold, HasBlockHistory, client_list, server_list}
 use Rattle.af_model.proofs.RoomKept.{all_fit}
 use Rattle.af_judge.specs.Tracks.{IsSpelled}
-use Rattle.af_audit.proofs.Booleans.{no}
 
 module _ (shape : Shape) where
   -- ## Lists
@@ -80,7 +80,7 @@ module _ (shape : Shape) where
     outside_none : (consumed released : ℕ) → consumed ≤ released → released ≤ consumed + shape.frames → outside shape.frames (wrapped consumed) (wrapped released) ≡ None
     outside_none consumed released low high =
         let e : ahead (wrapped consumed) (wrapped released) ≡ released - consumed = ahead-between consumed released low (omega arith) in
-        let f : nat_lt shape.frames (ahead (wrapped consumed) (wrapped released)) ≡ false = nat_lt-no _ _ (omega arith) in
+        let f : nat_lt shape.frames (ahead (wrapped consumed) (wrapped released)) ≡ false = is_not_below _ _ (omega arith) in
         ap (λ (b : Bool). if b then Some (wrapped consumed, wrapped released) else None) f
 
     -- the server isn't shut, and knows the rear seen last, behind which nothing was consumed

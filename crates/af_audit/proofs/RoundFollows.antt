@@ -8,6 +8,7 @@ use Rattle.af_base.specs.declared.frame.Frame.{Frame}
 use Rattle.af_base.specs.declared.log.CycleEntry.{CycleEntry}
 use Rattle.af_base.specs.declared.state.FastState.{FastState}
 use Rattle.af_base.specs.Turn.{Turn}
+use Rattle.af_judge.proofs.Basics.{calls_states}
 use Rattle.af_model.specs.Journals.{EntrySeen, RoundSeen}
 use Rattle.af_judge.specs.declared.track_judge.TrackJudge.{TrackJudge}
 use Rattle.af_judge.specs.EntriesTold.{AreFormed, Playing, entries_leave, playing}
@@ -18,7 +19,6 @@ use Rattle.af_judge.specs.SharedTold.{BesideQueue, QueueGoes, QueueOf}
 use Rattle.af_judge.proofs.EntriesFollow.{KeepsPlaying, cycles_beside, entries_in, entries_keep}
 use Rattle.af_judge.proofs.EntryTold.{fits_same}
 use Rattle.af_judge.proofs.FastBeside.{calls_same, fast_round, fast_same, loaded_same}
-use Rattle.af_judge.proofs.FastClear.{calls_states}
 use Rattle.af_judge.proofs.JournalEntries.{formed_front}
 use Rattle.af_judge.proofs.QueueRun.{goes_called, queue_loaded}
 use Rattle.af_judge.proofs.SharedEntries.{AreOfPushed, entries_beside, entries_go, entries_queue}

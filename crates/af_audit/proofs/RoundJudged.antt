@@ -3,6 +3,7 @@ use Rattle.std.specs.Prelude.{◌↔◌, MatchBool}
 use Rattle.std.proofs.Common.{◌≡◌, ℕ, ◌+◌, ◌<◌, ◌≤◌, ◌==◌, ◌&&◌, ◌||◌, zero, suc, drop, nat_lt, Bool, true, false, true≢false, IsTrue, List, [], length, Option, None, arith, refl, sym, ap, subst, ◌∙◌}
 use Rattle.std.proofs.lemmas.Bool.Decides.{nat_tests}
 use Rattle.af_base.specs.declared.report.Report.{Report}
+use Rattle.af_judge.proofs.Basics.{met_normal as met-normal, same_track}
 use Rattle.af_model.specs.Journals.{EntrySeen, RoundSeen}
 use Rattle.af_judge.specs.declared.track_judge.TrackJudge.{TrackJudge}
 use Rattle.af_judge.specs.BlocksMet.{AreShort, BothKeep, blocks_met}
@@ -16,7 +17,6 @@ use Rattle.af_judge.specs.StatesKept.{StatesKept}
 use Rattle.af_judge.proofs.BlocksMeet.{track_judged, tracks_met}
 use Rattle.af_judge.proofs.FastBeside.{ends_same, fast_met, fast_same}
 use Rattle.af_judge.proofs.FastClear.{IsFastLegal, round_used}
-use Rattle.af_judge.proofs.NormalTells.{same_track}
 use Rattle.af_judge.proofs.QueueRun.{goes_ended}
 use Rattle.af_judge.proofs.SharedFollows.{beside_ended, beside_met, queue_met_so, shared_judged}
 use Rattle.af_life.specs.Kept.{NormalKept, is_home, track_at}
@@ -100,10 +100,6 @@ module _ (s : Session) (marks : Marks) (round : RoundSeen) (run : Run) (W : ℕ 
   met_keep all = tracks_met s marks W played after (all_played s run round) tracks all many met-is
 
 -- ## The round
-
-met-normal : (s : Session) (run : Run) → (met s run).normal ≡ run.normal
-unfolding met
-met-normal s run = refl
 
 -- the late entries of a legal turn of the fast mixer are legal
 late_legal : (cut : Bool) (s : Session) (marks : Marks) (run : Run) (round : RoundSeen) → LegalFastTurn cut s marks run round → LegalEntries s marks (after_turn s run round) (late_of run round)

@@ -1,11 +1,12 @@
 -- The parts of a journal's round: its turn has its form, and its entries stand in the log.
-use Rattle.std.proofs.Common.{◌≡◌, ℕ, zero, suc, ◌+◌, ◌<◌, ◌≤◌, List, [], ◌∷◌, Option, Some, None, option_map, IfSome, MatchOption, length, map, take, slice_index_or, length-append, arith, sym, ap, subst, ◌∙◌}
+use Rattle.std.proofs.Common.{◌≡◌, ℕ, ◌+◌, ◌<◌, ◌≤◌, List, Option, Some, None, option_map, IfSome, MatchOption, length, map, take, arith, sym, ap, subst, ◌∙◌}
 use Rattle.std.proofs.lemmas.List.{length-map}
 use Rattle.std.proofs.lemmas.List.Elements.{All-get_or}
 use Rattle.af_base.specs.Turn.{Turn}
 use Rattle.af_base.specs.declared.log.CycleEntry.{CycleEntry}
-use Rattle.af_model.specs.Journals.{EntrySeen, JournalData, RoundSeen, entries_of, no_round, round_at}
+use Rattle.af_model.specs.Journals.{EntrySeen, JournalData, entries_of, no_round, round_at}
 use Rattle.af_model.specs.JournalForm.{IsJournal, IsRound, IsTurn}
+use Rattle.af_runs.proofs.Basics.{entries_inside}
 
 turn_form : (j : JournalData) (i : ℕ) (e : Turn) → IsJournal j → i < length j.rounds → Some e ≡ (round_at j i).turn → IsTurn j.tracks e
 turn_form j i e form lt is = subst (λ (o : Option Turn). MatchOption o (Unit {0}) (IsTurn j.tracks)) (sym is) (All-get_or (IsRound j.tracks) j.rounds i no_round lt form.rounds).turn
@@ -13,15 +14,6 @@ turn_form j i e form lt is = subst (λ (o : Option Turn). MatchOption o (Unit {0
 pub turn_told : {X : Type 0} (view : X → Turn) (j : JournalData) (i : ℕ) (o : Option X) → IsJournal j → i < length j.rounds → option_map view o ≡ (round_at j i).turn → IfSome o (λ e. IsTurn j.tracks (view e))
 turn_told view j i None form lt is = tt
 turn_told view j i (Some e) form lt is = turn_form j i (view e) form lt is
-
-entries_inside : (rounds : List RoundSeen) (i : ℕ) → i < length rounds → length (entries_of (take i rounds)) + length (slice_index_or rounds i no_round).entries ≤ length (entries_of rounds)
-entries_inside [] i lt = absurd (omega (arith, lt))
-entries_inside (r ∷ rs) zero lt = let both = length-append r.entries (entries_of rs) in omega (arith, both)
-entries_inside (r ∷ rs) (suc i) lt =
-    let rest = entries_inside rs i (omega (arith, lt)) in
-    let both = length-append r.entries (entries_of rs) in
-    let front = length-append r.entries (entries_of (take i rs)) in
-    omega (arith, rest, both, front)
 
 pub within_rounds : (j : JournalData) (i first count : ℕ) → i < length j.rounds → first ≡ length (entries_of (take i j.rounds)) → count ≡ length (round_at j i).entries → first + count ≤ length (entries_of j.rounds)
 within_rounds j i first count lt first_is count_is = let inside = entries_inside j.rounds i lt in omega (arith, inside, first_is, count_is)

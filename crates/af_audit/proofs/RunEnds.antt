@@ -2,6 +2,7 @@
 use Rattle.std.specs.Prelude.{◌≡◌, ◌<◌, ℕ, suc, ◌+◌, ◌==◌, ◌||◌, nat_lt, Bool, true, false, MatchBool, if◌then◌else◌, List, [], ◌∷◌, ◌++◌, fold, length, refl}
 use Rattle.std.proofs.Common.{subst, sym, ap, ◌∙◌, arith, length-append, inl, inr}
 use Rattle.std.proofs.lemmas.Bool.Decides.{nat_tests}
+use Rattle.af_audit.proofs.Basics.{seen_map}
 use Rattle.af_base.specs.declared.frame.Frame.{Frame}
 use Rattle.af_base.specs.declared.log.CycleEntry.{CycleEntry}
 use Rattle.af_base.specs.declared.log.Cycle.TheVariants as cycle
@@ -42,12 +43,6 @@ last-exit Last [] mixed found = mixed
 last-exit Last (e ∷ []) mixed found = exit-not_mixed e.entry found
 last-exit Last (e ∷ next ∷ es) mixed found = (mixed.0, last-exit Last (next ∷ es) mixed.1 (subst (λ b. fold (λ found entry. found || is_exit entry.cycle) b (bare (next ∷ es)) ≡ true) (mixed-no_exit e.entry mixed.0) found))
 
--- if one property implies another, mixed entries with a last one of the first are such with a last one of the second
-but-map : (P Q : EntrySeen → Type 0) (es : List EntrySeen) → ((e : EntrySeen) → P e → Q e) → AreMixedBut P es → AreMixedBut Q es
-but-map P Q [] f mixed = mixed
-but-map P Q (e ∷ []) f mixed = f e mixed
-but-map P Q (e ∷ next ∷ es) f mixed = (mixed.0, but-map P Q (next ∷ es) f mixed.1)
-
 -- ## Without a cut
 
 none_below : (n : ℕ) → nat_lt (n + 1) n ≡ false
@@ -84,7 +79,7 @@ ends-uncut s run round ended going full turn =
     let on : has_exit (run.entries ++ bare round.entries) ≡ true = subst (λ es. has_exit es ≡ true) (round-entries s run round) ended in
     let from : fold (λ found entry. found || is_exit entry.cycle) (has_exit run.entries) (bare round.entries) ≡ true = sym (exits-append false run.entries (bare round.entries)) ∙ on in
     let exits = subst (λ b. fold (λ found entry. found || is_exit entry.cycle) b (bare round.entries) ≡ true) going from in
-    (turn.0, but-map _ _ round.entries (λ e still. inr (inl still)) (last-exit _ round.entries turn.1 exits))
+    (turn.0, seen_map _ _ round.entries (λ e still. inr (inl still)) (last-exit _ round.entries turn.1 exits))
 
 pub rounds-uncut : (s : Session) (marks : Marks) (run : Run) (rounds : List RoundSeen) → LegalRounds true s marks run rounds → all_ended s (run_from s run rounds) ≡ true → LegalRounds false s marks run rounds
 rounds-uncut s marks run [] legal ends = tt

@@ -1,10 +1,11 @@
 -- By what is kept of it a run may end exactly if it may.
 use Rattle.std.specs.Prelude.{◌≡◌, ◌↔◌, ℕ, ◌+◌, ◌==◌, Bool, true, false, not, IsTrue, List, length, Option, is_some}
-use Rattle.std.proofs.Common.{arith, ap, sym, ◌∙◌}
-use Rattle.std.proofs.lemmas.Bool.Decides.{nat_tests}
+use Rattle.std.proofs.Common.{ap, sym, ◌∙◌}
+use Rattle.af_base.proofs.Basics.{equal_is, is_equal}
 use Rattle.af_base.specs.declared.report.Report.{Report}
 use Rattle.af_judge.specs.declared.track_judge.TrackJudge.{TrackJudge}
 use Rattle.af_life.specs.Kept.{NormalKept}
+use Rattle.af_model.proofs.Basics.{not_true}
 use Rattle.af_runs.specs.Blocks.{Marks}
 use Rattle.af_runs.specs.Runs.{Run, all_ended}
 use Rattle.af_runs.specs.Sessions.{Session}
@@ -12,13 +13,6 @@ use Rattle.af_audit.specs.declared.run_judge.RunJudge.{RunJudge}
 use Rattle.af_audit.specs.RunKept.{KeepsRun, LeastBelow, party_ended}
 use Rattle.af_audit.specs.Verdicts.{MayEnd}
 use Rattle.af_audit.proofs.PartiesEnded.{all_is, none_of}
-use Rattle.af_audit.proofs.Booleans.{not_true}
-
-is_same : (m n : ℕ) → (m == n) ≡ true → m ≡ n
-is_same m n h = grind (arith, nat_tests, h)
-
-same_is : (m n : ℕ) → m ≡ n → (m == n) ≡ true
-same_is m n h = grind (arith, nat_tests, h)
 
 goes_on : (b : Bool) → b ≡ false → not b ≡ true
 goes_on b h = ap not h
@@ -37,6 +31,6 @@ module _ (s : Session) (marks : Marks) (j : RunJudge) (tracks : List TrackJudge)
   -- a run may end cut off if the log is full and some party hasn't ended
   pub cut_ends : (count : ℕ) (answer : Bool) → count ≡ j.fast.told.report.cycle → IsTrue answer ↔ (IsTrue (count == j.cycles) × IsTrue (not over)) → IsTrue answer ↔ MayEnd true s run
   cut_ends count answer count_is both = (
-    (λ h. let b = both.0 h in (sym (count_is ∙ told-so) ∙ (is_same count j.cycles b.0 ∙ keeps.cycles), over-so ∙ not_true over b.1)),
-    (λ h. both.1 (same_is count j.cycles ((count_is ∙ told-so) ∙ (h.0 ∙ sym keeps.cycles)), goes_on over (sym over-so ∙ h.1))),
+    (λ h. let b = both.0 h in (sym (count_is ∙ told-so) ∙ (equal_is count j.cycles b.0 ∙ keeps.cycles), over-so ∙ not_true over b.1)),
+    (λ h. both.1 (is_equal count j.cycles ((count_is ∙ told-so) ∙ (h.0 ∙ sym keeps.cycles)), goes_on over (sym over-so ∙ h.1))),
   )

@@ -1,14 +1,16 @@
 -- What holds of a track and of the normal mixer through the legal rounds of a run.
 use Rattle.std.specs.Prelude.{MatchOption}
 use Rattle.std.specs.List.{list_any}
-use Rattle.std.proofs.Common.{◌≡◌, inl, inr, ℕ, ◌<◌, ◌==◌, ◌&&◌, ◌||◌, Bool, true, false, if◌then◌else◌, unwrap_or, List, [], ◌∷◌, length, All, Option, Some, None, refl, sym, ap, ◌∙◌, subst, eqb-true, arith}
+use Rattle.std.proofs.Common.{◌≡◌, inl, inr, ℕ, ◌<◌, ◌==◌, ◌&&◌, ◌||◌, Bool, true, false, if◌then◌else◌, List, [], ◌∷◌, length, All, Option, Some, None, refl, sym, ap, ◌∙◌, subst, eqb-true, arith}
 use Rattle.std.proofs.lemmas.List.{get_or-replicate}
 use Rattle.std.proofs.lemmas.List.Elements.{All-head, All-tail}
+use Rattle.af_base.proofs.Basics.{both, neither, no}
 use Rattle.af_base.specs.declared.log.CycleEntry.{CycleEntry}
 use Rattle.af_base.specs.declared.log.SlotEntry.{SlotEntry}
 use Rattle.af_base.specs.declared.state.FastState.{FastState}
 use Rattle.af_base.specs.Log.{absent, entry_slot, slots}
 use Rattle.af_base.specs.Turn.{Turn}
+use Rattle.af_judge.proofs.Basics.{each_at, each_long, met_many, told_each}
 use Rattle.af_life.specs.Kept.{NormalKept, Outside, is_home, track_at}
 use Rattle.af_model.specs.Cycles.{LooksBy, cycle_of, is_mixed, state_of, still_entry}
 use Rattle.af_model.specs.JournalForm.{IsRound, IsTurn, TracksRise}
@@ -22,18 +24,15 @@ use Rattle.af_runs.specs.LegalRuns.{LegalRounds, is_poke_on, run_from}
 use Rattle.af_runs.specs.Rounds.{fills, LegalEntries, LegalEntry, LegalRound, after_round, after_turn, all_played, before_turn, early_of, found_in, late_of, loaded, met_after, turned}
 use Rattle.af_runs.specs.Runs.{Run, TrackTold, calls_in, each_track, fast_ended, holds, mixed_track, no_track, plays, met, slot_for, state_for, takes_part, told_at, turned_track, with_calls, with_cycle, with_cycles, with_ends, with_load, with_mix, with_poll, with_turn}
 use Rattle.af_runs.specs.Sessions.{Session, cycle_frames, file_words, setup_of, track_count}
-use Rattle.af_runs.specs.Told.{state_at}
-use Rattle.af_judge.proofs.BlocksMeet.{met_at, met_many}
-use Rattle.af_judge.proofs.EachTrack.{each_at, each_long, told_each}
+use Rattle.af_judge.proofs.BlocksMeet.{met_at}
 use Rattle.af_judge.proofs.EntryTold.{cycle_beside}
-use Rattle.af_judge.proofs.EntryTracks.{both-true, plays_track}
+use Rattle.af_judge.proofs.EntryTracks.{plays_track}
 use Rattle.af_audit.proofs.CallsFollow.{calls_long, told_called}
 use Rattle.af_audit.proofs.MixerEnds.{EndsHome}
 use Rattle.af_audit.proofs.MixerRounds.{round_ends}
 use Rattle.af_audit.proofs.EntryParts.{legal_parts}
 use Rattle.af_audit.proofs.MixerTurns.{before_normal, turn_legal}
 use Rattle.af_audit.proofs.TrackStands.{TrackStands, stands_called, stands_ended, stands_met, stands_mixed, stands_turned}
-use Rattle.af_audit.proofs.Booleans.{neither, no}
 use Rattle.af_audit.proofs.FirstFound.{found_at}
 use Rattle.af_runs.proofs.StatesFor.{state_known}
 
@@ -69,8 +68,8 @@ module _ (s : Session) (marks : Marks) (r : Run) (e : EntrySeen) (legal : LegalE
   pub entry_looks : slot_for x e.entry n ≡ Some i → Looks
   entry_looks found =
       let at = found_at (plays_track x e.entry n) 0 slots i found in
-      let here = both-true (plays x e.entry i) ((slot_of x i).track == n) at.holds in
-      let plays_it = both-true (carries x i) (is_shown (entry_slot e.entry i).seen) here.0 in
+      let here = both (plays x e.entry i) ((slot_of x i).track == n) at.holds in
+      let plays_it = both (carries x i) (is_shown (entry_slot e.entry i).seen) here.0 in
       slot_looks (let h = at.high in omega (arith, h)) plays_it.0 plays_it.1 (eqb-true (slot_of x i).track n here.1)
 
 -- ## The steps of a round

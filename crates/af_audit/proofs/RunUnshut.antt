@@ -2,10 +2,11 @@
 use Rattle.std.proofs.Common.{◌≡◌, ℕ, ◌<◌, Bool, true, false, if◌then◌else◌, List, [], ◌∷◌, length, All, Option, Some, None, refl, sym, ◌∙◌, subst, arith}
 use Rattle.std.specs.List.{list_any}
 use Rattle.std.proofs.lemmas.List.Elements.{All-head, All-tail}
+use Rattle.af_base.proofs.Basics.{both_true, neither}
 use Rattle.af_base.specs.declared.state.FastState.{FastState}
 use Rattle.af_base.specs.Turn.{Turn}
+use Rattle.af_judge.proofs.Basics.{each_at, each_long, met_many, told_each}
 use Rattle.af_life.specs.Kept.{NormalKept}
-use Rattle.af_model.proofs.Logic.{both_are}
 use Rattle.af_model.specs.JournalForm.{IsRound, TracksRise}
 use Rattle.af_model.specs.Journals.{EntrySeen, RoundSeen}
 use Rattle.af_runs.specs.Blocks.{Marks}
@@ -16,8 +17,7 @@ use Rattle.af_runs.specs.LegalRuns.{LegalRounds, is_poke_on, run_from}
 use Rattle.af_runs.specs.Rounds.{LegalEntries, LegalEntry, LegalRound, after_round, after_turn, all_played, before_turn, early_of, found_in, late_of, loaded, met_after, turned}
 use Rattle.af_runs.specs.Runs.{Run, TrackTold, calls_in, each_track, met, mixed_track, no_track, sides_of, state_for, takes_part, told_at, turned_track, with_calls, with_cycle, with_cycles, with_ends, with_load, with_mix, with_poll, with_turn}
 use Rattle.af_runs.specs.Sessions.{Session, setup_of, track_count}
-use Rattle.af_judge.proofs.BlocksMeet.{met_at, met_many}
-use Rattle.af_judge.proofs.EachTrack.{each_at, each_long, told_each}
+use Rattle.af_judge.proofs.BlocksMeet.{met_at}
 use Rattle.af_judge.proofs.EntriesFollow.{cycles_beside}
 use Rattle.af_judge.proofs.EntryTold.{cycle_beside}
 use Rattle.af_audit.specs.Spared.{IsSpared, IsSparedIn, is_spared_by, is_spared_by_all, is_spared_by_turn, is_spared_in_turn, none_corrupt_on}
@@ -25,7 +25,6 @@ use Rattle.af_audit.proofs.CallsFollow.{calls_long, told_called}
 use Rattle.af_audit.proofs.RunStands.{entry_looks, fast_parts, rises}
 use Rattle.af_audit.proofs.MixerTurns.{before_normal, turn_legal}
 use Rattle.af_audit.proofs.TrackUnshut.{IsTrim, IsUnshut, trim_called, trim_ended, trim_met, trim_mixed, trim_turned, unshut_called, unshut_ended, unshut_met, unshut_mixed, unshut_turned}
-use Rattle.af_audit.proofs.Booleans.{neither}
 
 -- From one run to another the track is kept trim; and if the proxies of its block aren't shut in the second, they aren't in the first, and the block is spared
 pub record Spares (commands : Bool) (n : ℕ) (a b : Run) (Spared : Type 0) : Type 0 where
@@ -75,7 +74,7 @@ module _ (commands : Bool) (s : Session) (marks : Marks) (n : ℕ) where
   spares_cycles [] run low legal = spares_as commands n run run (Unit {0}) _ (λ u on. refl) (spares_same commands n run run low refl)
   spares_cycles (e ∷ es) run low legal =
       let one = spares_cycle run e low legal.0 in
-      spares_as commands n run (with_cycles s es (with_cycle s run e)) _ _ (λ both on. both_are (is_spared_by s (with_poll s e.entry.state run) e n) (is_spared_by_all s (with_cycle s run e) es n) (both.0 on) (both.1 on))
+      spares_as commands n run (with_cycles s es (with_cycle s run e)) _ _ (λ both on. both_true (is_spared_by s (with_poll s e.entry.state run) e n) (is_spared_by_all s (with_cycle s run e) es n) (both.0 on) (both.1 on))
       (spares_both commands n run (with_cycle s run e) (with_cycles s es (with_cycle s run e)) _ _ one (spares_cycles es (with_cycle s run e) one.there legal.1))
 
   spares_turn : (f : TurnFound) (e : Turn) (m : NormalKept) (run : Run) → n < length run.tracks → f.streams n ≡ (told_at run n).stream → f.commands n ≡ (told_at run n).commands → run.normal ≡ m → TracksRise 0 e.mixes

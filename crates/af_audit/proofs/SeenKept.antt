@@ -4,10 +4,10 @@ use Rattle.std.proofs.Common.{◌≡◌, ℕ, zero, suc, ◌+◌, ◌*◌, ◌^�
 use Rattle.std.specs.List.{list_any}
 use Rattle.std.proofs.lemmas.List.Elements.{All-get_or}
 use Rattle.std.proofs.Math.Pow.{pow_mono}
+use Rattle.af_model.proofs.Basics.{both_first, not_true}
 use Rattle.af_model.specs.History.{flushes_of}
 use Rattle.af_model.specs.JournalForm.{IsRound}
 use Rattle.af_model.specs.Journals.{RoundSeen}
-use Rattle.af_model.proofs.Logic.{both_left}
 use Rattle.af_runs.specs.Blocks.{HasBlockHistory, Marks, client_list, server_list}
 use Rattle.af_runs.specs.LegalRuns.{LegalRounds, is_lawful_block, is_lawful_track, is_poke_on, run_from}
 use Rattle.af_runs.specs.Rounds.{LegalRound, after_round, all_played}
@@ -17,7 +17,6 @@ use Rattle.af_script.specs.Form.{IsScript, IsTrack}
 use Rattle.af_script.specs.Ops.{cells_of, power_above}
 use Rattle.af_script.specs.declared.track.TrackSpec.{TrackSpec}
 use Rattle.af_audit.specs.Fates.{DropsByFlush}
-use Rattle.af_audit.proofs.Booleans.{not_true}
 use Rattle.af_audit.proofs.FatesTold.{new_stands, new_there, told_new}
 use Rattle.af_audit.specs.Known.{most_seen}
 use Rattle.af_audit.specs.Settled.{DiscardsAbove}
@@ -95,7 +94,7 @@ module _ (cut : Bool) (s : Session) (marks : Marks) (tracks : ℕ) (rounds : Lis
   -- its server drops only behind looks that saw a new flush
   noticed : DropsByFlush (told_at last track).stream.shape [] (server_list (told_at last track).stream)
   noticed = (rounds_stand cut s marks tracks track rounds (new_run s) low forms legal
-      (not_true (list_any (λ (round : RoundSeen). list_any (is_poke_on false) (calls_in round track)) rounds) (both_left (is_lawful_block false rounds track) (is_lawful_block true rounds track) lawful))
+      (not_true (list_any (λ (round : RoundSeen). list_any (is_poke_on false) (calls_in round track)) rounds) (both_first (is_lawful_block false rounds track) (is_lawful_block true rounds track) lawful))
       (new_stands s track low)).stands.track.drops
 
   pub seen-kept : IsScript s.script → (count : ℕ) → takes_part s (all_played s run round) track ≡ true

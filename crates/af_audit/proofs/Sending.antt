@@ -1,9 +1,11 @@
 -- The commands that a client sends: their words are those that it releases on its command block, and a STOP carries the number of frames released before it.
 use Rattle.std.proofs.Common.{◌≡◌, ℕ, ◌-◌, ◌==◌, ◌&&◌, MatchBool, Bool, true, false, fold, List, [], ◌∷◌, ◌++◌, length, refl, sym, ap, ◌∙◌, subst, append-nil, append_assoc, eqb-true, arith}
+use Rattle.af_base.proofs.Basics.{no}
 use Rattle.af_base.specs.declared.event.ClientCall.{ClientCall}
 use Rattle.af_base.specs.declared.event.ClientCall.TheVariants as call
+use Rattle.af_model.proofs.Basics.{both_first}
 use Rattle.af_model.specs.Point.{wrapped}
-use Rattle.af_model.proofs.Logic.{both_left, both_right}
+use Rattle.af_model.proofs.Logic.{both_right}
 use Rattle.af_runs.specs.ClientTurns.{AreCalls, IsWanted, LegalClientTurn, Track, after_call, after_calls, argument_of, most_calls}
 use Rattle.af_runs.specs.Clients.{code_of}
 use Rattle.af_runs.specs.declared.want.ClientCommand.{ClientCommand}
@@ -11,7 +13,6 @@ use Rattle.af_runs.specs.declared.want.ClientCommand.TheVariants as command
 use Rattle.af_runs.specs.declared.want.Want.{Want}
 use Rattle.af_runs.specs.declared.want.Want.TheVariants as want
 use Rattle.af_audit.specs.Drained.{Sent, sent_by, sent_by_all}
-use Rattle.af_audit.proofs.Booleans.{no}
 
 -- ## The words of commands
 
@@ -72,12 +73,12 @@ turn_sends t calls = calls_released t calls
 -- ## Wants
 
 send_right : (t : Track) (sending : ClientCommand) (code argument : ℕ) → ((code == code_of sending) && (argument == argument_of t sending)) ≡ true → code ≡ 4 → argument ≡ wrapped (length t.stream.released)
-send_right t command.Open code argument h is = absurd (let e : code ≡ 1 = eqb-true code 1 (both_left _ _ h) in omega (arith, e, is))
-send_right t command.Start code argument h is = absurd (let e : code ≡ 2 = eqb-true code 2 (both_left _ _ h) in omega (arith, e, is))
-send_right t command.Pause code argument h is = absurd (let e : code ≡ 3 = eqb-true code 3 (both_left _ _ h) in omega (arith, e, is))
+send_right t command.Open code argument h is = absurd (let e : code ≡ 1 = eqb-true code 1 (both_first _ _ h) in omega (arith, e, is))
+send_right t command.Start code argument h is = absurd (let e : code ≡ 2 = eqb-true code 2 (both_first _ _ h) in omega (arith, e, is))
+send_right t command.Pause code argument h is = absurd (let e : code ≡ 3 = eqb-true code 3 (both_first _ _ h) in omega (arith, e, is))
 send_right t command.Stop code argument h is = eqb-true argument (wrapped (length t.stream.released)) (both_right _ _ h)
-send_right t command.Flush code argument h is = absurd (let e : code ≡ 5 = eqb-true code 5 (both_left _ _ h) in omega (arith, e, is))
-send_right t command.Remove code argument h is = absurd (let e : code ≡ 6 = eqb-true code 6 (both_left _ _ h) in omega (arith, e, is))
+send_right t command.Flush code argument h is = absurd (let e : code ≡ 5 = eqb-true code 5 (both_first _ _ h) in omega (arith, e, is))
+send_right t command.Remove code argument h is = absurd (let e : code ≡ 6 = eqb-true code 6 (both_first _ _ h) in omega (arith, e, is))
 
 abbrev pub is_sent : ClientCall → Bool
 is_sent (call.Sent front code argument) = true

@@ -1,10 +1,12 @@
 -- What a client of a script sends: an OPEN first, and nothing after a REMOVE.
 use Rattle.std.specs.Prelude.{MatchBool}
 use Rattle.std.proofs.Common.{◌≡◌, ◌⊎◌, inl, inr, ℕ, ◌-◌, ◌≤◌, ◌==◌, ◌&&◌, ◌||◌, Bool, true, false, if◌then◌else◌, is_some, fold, List, [], ◌∷◌, ◌++◌, length, Option, Some, None, refl, sym, ap, ◌∙◌, subst, append-nil, eqb-true, length-append, arith}
+use Rattle.af_base.proofs.Basics.{no}
 use Rattle.af_base.specs.declared.event.ClientCall.{ClientCall}
 use Rattle.af_base.specs.declared.event.ClientCall.TheVariants as call
+use Rattle.af_judge.proofs.Basics.{begins_ended}
 use Rattle.af_life.specs.declared.command.TheConstants.{OPEN, REMOVE}
-use Rattle.af_model.proofs.Logic.{both_left}
+use Rattle.af_model.proofs.Basics.{both_first}
 use Rattle.af_script.specs.Ops.{are_whole}
 use Rattle.af_script.specs.declared.op.Op.{Op}
 use Rattle.af_script.specs.declared.op.Op.TheVariants as op
@@ -15,7 +17,6 @@ use Rattle.af_runs.specs.declared.want.Want.TheVariants as want
 use Rattle.af_runs.specs.Clients.{Client, after_answer, asked_first, at_next_turn, begins, begun, code_of, ends, new_client, rest_of, rested, wants_of}
 use Rattle.af_runs.specs.ClientTurns.{AreCalls, IsWanted, LegalClientTurn, Track, after_call, after_calls, answered, argument_of, called, commands_sent, is_of_commands, is_send, most_calls, released_by, wanted_of, with_call}
 use Rattle.af_audit.proofs.StartWords.{words_of, words_join, OpensFirst, NoneRemoves, RemovesLast, none_join, removes_more, opens_more}
-use Rattle.af_audit.proofs.Booleans.{no}
 use Rattle.af_audit.proofs.Sending.{is_sent}
 
 -- ## The words of a call
@@ -47,11 +48,6 @@ words_sent t (call.Flush count) = sym (append-nil t.commands.released)
 words_sent t (call.Gain word) = sym (append-nil t.commands.released)
 
 -- ## Clients
-
-begins_ended : (c : Client) (wants : List Want) (ops : List Op) → (begins c wants ops).ended ≡ c.ended
-begins_ended c (w ∷ wants) ops = refl
-begins_ended c [] [] = refl
-begins_ended c [] (o ∷ ops) = begins_ended c (wants_of c.mode o) ops
 
 begins_waiting : (c : Client) (b : Bool) (wants : List Want) (ops : List Op) → (begins (record c { waiting = b }) wants ops).due ≡ (begins c wants ops).due
 begins_waiting c b (w ∷ wants) ops = refl
@@ -101,11 +97,11 @@ other : (code a b : ℕ) → code ≡ a → (a == b) ≡ false → (code == b) �
 other code a b is apart = ap (λ (n : ℕ). n == b) is ∙ apart
 
 sending_fine : (sending : ClientCommand) (wants : List Want) (c : Client) (n front code argument asked : ℕ) → ((code == code_of sending) && (argument == asked)) ≡ true → SentFine ((code, argument) ∷ []) (after_answer n (want.Send sending) wants c (call.Sent front code argument))
-sending_fine command.Open wants c n front code argument asked is = inl (other code 1 6 (eqb-true code 1 (both_left (code == 1) (argument == asked) is)) refl)
-sending_fine command.Start wants c n front code argument asked is = inl (other code 2 6 (eqb-true code 2 (both_left (code == 2) (argument == asked) is)) refl)
-sending_fine command.Pause wants c n front code argument asked is = inl (other code 3 6 (eqb-true code 3 (both_left (code == 3) (argument == asked) is)) refl)
-sending_fine command.Stop wants c n front code argument asked is = inl (other code 4 6 (eqb-true code 4 (both_left (code == 4) (argument == asked) is)) refl)
-sending_fine command.Flush wants c n front code argument asked is = inl (other code 5 6 (eqb-true code 5 (both_left (code == 5) (argument == asked) is)) refl)
+sending_fine command.Open wants c n front code argument asked is = inl (other code 1 6 (eqb-true code 1 (both_first (code == 1) (argument == asked) is)) refl)
+sending_fine command.Start wants c n front code argument asked is = inl (other code 2 6 (eqb-true code 2 (both_first (code == 2) (argument == asked) is)) refl)
+sending_fine command.Pause wants c n front code argument asked is = inl (other code 3 6 (eqb-true code 3 (both_first (code == 3) (argument == asked) is)) refl)
+sending_fine command.Stop wants c n front code argument asked is = inl (other code 4 6 (eqb-true code 4 (both_first (code == 4) (argument == asked) is)) refl)
+sending_fine command.Flush wants c n front code argument asked is = inl (other code 5 6 (eqb-true code 5 (both_first (code == 5) (argument == asked) is)) refl)
 sending_fine command.Remove wants c n front code argument asked is = inr refl
 
 sent_fine : (t : Track) (w : Want) (wants : List Want) (c : Client) (n front code argument : ℕ) → IsWanted t w (call.Sent front code argument) → SentFine ((code, argument) ∷ []) (after_answer n w wants c (call.Sent front code argument))
@@ -142,7 +138,7 @@ OpenAnswered n c answer =
     ((argument : ℕ) × (sent_by answer ≡ (OPEN, argument) ∷ [])) ⊎ ((sent_by answer ≡ []) × ((d.ended ≡ true) ⊎ (d.due ≡ c.due)))
 
 open_answered : (n argument : ℕ) (c : Client) (answer : ClientCall) → is_send OPEN argument answer ≡ true → OpenAnswered n c answer
-open_answered n argument c (call.Sent front code given) is = inl (given, ap (λ (k : ℕ). (k, given) ∷ []) (eqb-true code 1 (both_left (code == 1) (given == argument) is)))
+open_answered n argument c (call.Sent front code given) is = inl (given, ap (λ (k : ℕ). (k, given) ∷ []) (eqb-true code 1 (both_first (code == 1) (given == argument) is)))
 open_answered n argument c (call.SendFull front) is = inr (refl, inr refl)
 open_answered n argument c (call.SendDead flags) is = inr (refl, inl refl)
 open_answered n argument c (call.SendCorrupt front rear) is = inr (refl, inl refl)

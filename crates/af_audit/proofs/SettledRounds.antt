@@ -4,7 +4,9 @@ use Rattle.std.specs.List.{list_any}
 use Rattle.std.specs.Prelude.{All}
 use Rattle.std.proofs.lemmas.List.{length-map, length-replicate}
 use Rattle.std.proofs.lemmas.List.Elements.{All-get_or, All-head, All-tail}
+use Rattle.af_base.proofs.Basics.{neither}
 use Rattle.af_base.specs.Turn.{Turn}
+use Rattle.af_life.proofs.Basics.{at_new}
 use Rattle.af_life.specs.declared.kept.TrackKept.{TrackKept}
 use Rattle.af_life.specs.Heard.{heard, learnt}
 use Rattle.af_life.specs.Kept.{Learnt, NormalKept, new_normal, new_track as new_mixed, track_at}
@@ -19,7 +21,6 @@ use Rattle.af_runs.specs.Runs.{Run, TrackTold, calls_in, new_run, new_track, tol
 use Rattle.af_runs.specs.Sessions.{Session, no_spec, setup_of, spec_of, spec_setting, track_count}
 use Rattle.af_script.specs.Form.{IsScript, IsTrack}
 use Rattle.af_judge.proofs.EntriesFollow.{cycles_beside}
-use Rattle.af_judge.proofs.SoundTurns.{at_new}
 use Rattle.af_audit.specs.Known.{most_seen}
 use Rattle.af_audit.proofs.CommandRounds.{CommandsAt, CommandsSo, at_more, calls_at, cycles_at, ends_at, loaded_at, met_at_so, turned_at}
 use Rattle.af_audit.proofs.Drops.{most_grows}
@@ -33,7 +34,6 @@ use Rattle.af_audit.proofs.Heard.{TellsSo, from_played, heard_told, new_tells, t
 use Rattle.af_audit.proofs.Measure.{Measure, of_run}
 use Rattle.af_audit.proofs.MixerTurns.{before_normal, turn_legal}
 use Rattle.af_audit.proofs.TrackUnshut.{IsTrim}
-use Rattle.af_audit.proofs.Booleans.{neither}
 
 -- how many flushes a server has seen
 abbrev pub flushes : Measure

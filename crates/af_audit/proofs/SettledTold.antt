@@ -9,9 +9,11 @@ use Rattle.af_base.specs.declared.event.ClientEvent.TheVariants as client
 use Rattle.af_base.specs.declared.event.ServerEvent.{ServerEvent}
 use Rattle.af_base.specs.declared.frame.Frame.{Frame}
 use Rattle.af_base.specs.Turn.{Turn}
+use Rattle.af_judge.proofs.Basics.{each_at, told_each}
 use Rattle.af_life.specs.declared.command.TheConstants.{START}
 use Rattle.af_life.specs.declared.kept.TrackKept.{TrackKept}
 use Rattle.af_life.specs.Kept.{track_at}
+use Rattle.af_model.proofs.Basics.{not_true}
 use Rattle.af_model.specs.declared.shape.Shape.{Shape}
 use Rattle.af_model.specs.History.{HasHistory, is_lawful}
 use Rattle.af_model.specs.JournalForm.{IsRound}
@@ -29,7 +31,6 @@ use Rattle.af_runs.specs.Sessions.{Session, setup_of, track_count}
 use Rattle.af_script.specs.Data.{ScriptData}
 use Rattle.af_script.specs.Form.{IsScript}
 use Rattle.af_judge.proofs.BlocksMeet.{met_at}
-use Rattle.af_judge.proofs.EachTrack.{each_at, told_each}
 use Rattle.af_judge.proofs.EntriesFollow.{cycles_beside}
 use Rattle.af_judge.proofs.TracksTold.{sides_called}
 use Rattle.af_audit.specs.Known.{most_seen}
@@ -49,7 +50,6 @@ use Rattle.af_audit.proofs.Growing.{grows_calls, grows_cycles}
 use Rattle.af_audit.proofs.Measure.{of_run}
 use Rattle.af_audit.proofs.TrackUnshut.{trim_called}
 use Rattle.af_audit.proofs.TurnSees.{HasSeenSettled, turn-sees}
-use Rattle.af_audit.proofs.Booleans.{not_true}
 
 -- ## A block that has met
 

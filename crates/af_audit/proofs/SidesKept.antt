@@ -8,10 +8,10 @@ use Rattle.af_base.specs.declared.state.FastState.{FastState}
 use Rattle.af_base.specs.Log.{entry_slot}
 use Rattle.af_base.specs.Sample.{packed_word}
 use Rattle.af_base.specs.Turn.{TakeSeen, Turn}
+use Rattle.af_judge.proofs.Basics.{each_at, each_long, met_many, shape_met, told_each}
 use Rattle.af_judge.specs.Tracks.{AreSpelled}
-use Rattle.af_judge.proofs.BlocksMeet.{met_at, met_many, track_spelled}
+use Rattle.af_judge.proofs.BlocksMeet.{met_at, track_spelled}
 use Rattle.af_judge.proofs.BlocksTold.{hand-client, server-client}
-use Rattle.af_judge.proofs.EachTrack.{each_at, each_long, told_each}
 use Rattle.af_judge.proofs.EntriesFollow.{cycles_beside}
 use Rattle.af_judge.proofs.EntryTold.{cycle_beside}
 use Rattle.af_judge.proofs.Spelled.{spelled_turn}
@@ -28,7 +28,7 @@ use Rattle.af_runs.specs.ClientTurns.{LegalClientTurn, Side, Track, after_calls}
 use Rattle.af_runs.specs.Found.{TurnFound, outside_of}
 use Rattle.af_runs.specs.Fronts.{front_of}
 use Rattle.af_runs.specs.Rounds.{after_round, after_turn, all_played, before_turn, early_of, found_in, late_of, loaded, turned}
-use Rattle.af_runs.specs.Runs.{Run, TrackTold, called, calls_in, each_track, met, mixed_track, no_track, played, side_of, sides_of, slot_for, state_for, stream_met, takes_part, told_at, turned_track, with_calls, with_cycle, with_cycles, with_ends, with_load, with_mix, with_poll, with_turn}
+use Rattle.af_runs.specs.Runs.{Run, TrackTold, called, calls_in, each_track, met, mixed_track, no_track, played, side_of, sides_of, slot_for, state_for, takes_part, told_at, turned_track, with_calls, with_cycle, with_cycles, with_ends, with_load, with_mix, with_poll, with_turn}
 use Rattle.af_runs.specs.Sessions.{Session, cycle_frames, setup_of}
 use Rattle.af_audit.specs.RunKept.{IsFit, IsLegalCaller}
 use Rattle.af_audit.proofs.CallsFollow.{calls_long, told_called}
@@ -140,12 +140,6 @@ module _ (s : Session) (run : Run) (round : RoundSeen) where
       let turn = fit-turned s (before_turn s run round) (found_in s run round) round.turn n (let m = before-many in omega (arith, low, m)) early in
       let late = fit-cycles s (late_of run round) (after_turn s run round) n (let m = after-many in omega (arith, low, m)) turn in
       fit-loaded s (with_cycles s (late_of run round) (after_turn s run round)) round.turn n late
-
-pub shape_met : (there hands : Bool) (b : BlockTold) → (stream_met there hands b).shape ≡ b.shape
-shape_met true true b = refl
-shape_met true false b = refl
-shape_met false true b = refl
-shape_met false false b = refl
 
 fit-met : (s : Session) (run : Run) (n : ℕ) → n < length run.tracks → FitAt s run n → FitAt s (met s run) n
 fit-met s run n low h =

@@ -3,6 +3,8 @@ use Rattle.std.proofs.Common.{◌≡◌, ℕ, ◌<◌, Bool, true, false, if◌t
 use Rattle.std.specs.List.{list_any}
 use Rattle.std.proofs.lemmas.List.Elements.{All-get_or}
 use Rattle.af_base.specs.declared.frame.Frame.{Frame}
+use Rattle.af_judge.proofs.Basics.{each_long, met_many, told_each}
+use Rattle.af_model.proofs.Basics.{not_true}
 use Rattle.af_model.proofs.RoomKept.{never_corrupt, never_shut}
 use Rattle.af_model.specs.ClientCalls as list
 use Rattle.af_model.specs.Journals.{JournalData, RoundSeen}
@@ -15,8 +17,6 @@ use Rattle.af_runs.specs.Runs.{Run, TrackTold, calls_in, each_track, new_run, ne
 use Rattle.af_runs.specs.Sessions.{Session, command_shape, no_spec, track_count}
 use Rattle.af_script.specs.Data.{ScriptData}
 use Rattle.af_script.specs.Form.{IsScript, IsTrack}
-use Rattle.af_judge.proofs.EachTrack.{each_long, told_each}
-use Rattle.af_judge.proofs.BlocksMeet.{met_many}
 use Rattle.af_audit.specs.RunKept.{IsFit}
 use Rattle.af_audit.specs.Spared.{EachLawfulBlockIsSpared, IsSpared}
 use Rattle.af_audit.proofs.FatesTold.{new_history, new_there, told_new, track_has_fates}
@@ -24,7 +24,6 @@ use Rattle.af_audit.proofs.RearsSeen.{server_unshut}
 use Rattle.af_audit.proofs.RunUnshut.{Spares, spares_rounds}
 use Rattle.af_audit.proofs.SidesKept.{fit_round, played_many}
 use Rattle.af_audit.proofs.TrackUnshut.{IsTrim, IsUnshut}
-use Rattle.af_audit.proofs.Booleans.{not_true}
 
 -- ## What is kept of a run
 

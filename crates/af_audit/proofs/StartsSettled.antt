@@ -3,8 +3,10 @@ use Rattle.std.specs.Prelude.{MatchBool, nat_lt, nat_le}
 use Rattle.std.specs.List.{AllByRecursion}
 use Rattle.std.proofs.Common.{◌≡◌, ◌⊎◌, inl, inr, ℕ, zero, suc, ◌+◌, ◌≤◌, ◌==◌, ◌&&◌, not, Bool, true, false, true≢false, if◌then◌else◌, is_some, List, [], ◌∷◌, ◌++◌, length, Option, Some, None, refl, sym, ap, ◌∙◌, subst, append-nil, append_assoc, eqb-true, eq-eqb, length-append, arith}
 use Rattle.std.proofs.lemmas.Bool.Decides.{nat_tests}
+use Rattle.af_base.proofs.Basics.{never_true, no, none_of, not_below_is}
 use Rattle.af_base.specs.declared.report.SlotReport.{SlotReport}
 use Rattle.af_base.specs.declared.turn.CommandLook.{CommandLook}
+use Rattle.af_life.proofs.Basics.{ready_life}
 use Rattle.af_life.specs.declared.command.TheConstants.{OPEN, START, REMOVE}
 use Rattle.af_life.specs.declared.kept.Heard.{Heard}
 use Rattle.af_life.specs.declared.kept.TrackKept.{TrackKept}
@@ -20,11 +22,10 @@ use Rattle.af_life.specs.Obeys.{after_look, after_looks, are_due, commanded, end
 use Rattle.af_life.specs.Reports.{by_report}
 use Rattle.af_life.specs.Serves.{HasDueLooks, after_part, most_looks, served, status_due}
 use Rattle.af_life.specs.State.{is_among}
-use Rattle.af_model.proofs.Logic.{both_left}
 use Rattle.af_judge.proofs.SoundLives.{grew_command, grew_report, is_absent, opened as opened_life}
 use Rattle.af_audit.proofs.StartWords.{IsOrderly, NoneRemoves, OpensFirst, StartsSeen, none_before, none_split, orderly_front, seen_join, words_join, words_of}
-use Rattle.af_audit.proofs.Booleans.{no, never_true}
 use Rattle.af_audit.proofs.StepsTaken.{look_words, no_more}
+use Rattle.af_model.proofs.Basics.{both_first}
 
 -- ## What is settled
 
@@ -57,7 +58,7 @@ keeps_row (r ∷ rows) code argument l all = by (applies r code l) refl all.0 (k
   where
     by : (b : Bool) → applies r code l ≡ b → ((r.command == code) ≡ false) ⊎ ((r.effect argument l).ended ≡ l.ended) → (first_effect rows code argument l).ended ≡ l.ended → (if b then r.effect argument l else first_effect rows code argument l).ended ≡ l.ended
     by false is h rest = rest
-    by true is (inl apart) rest = no (sym apart ∙ both_left (r.command == code) _ is)
+    by true is (inl apart) rest = no (sym apart ∙ both_first (r.command == code) _ is)
     by true is (inr same) rest = same
 
 turned : (n k : ℕ) → (n == k) ≡ false → (k == n) ≡ false
@@ -79,26 +80,6 @@ lives_on code argument l apart lives = by l.ended refl
 opened_or : (x : LifeState) → is_among (Absent ∷ []) x ≡ false → is_among opened x ≡ true
 opened_or Absent h = no (sym h)
 opened_or state h = refl
-
-not_below : (a b : ℕ) → nat_lt a b ≡ false → b ≤ a
-not_below a b h = grind (arith, nat_tests, h)
-
-none_waits : (o : Option ℕ) → is_some o ≡ false → o ≡ None
-none_waits None h = refl
-none_waits (Some n) h = no (sym h)
-
-either_life : (b : Bool) (s t : TrackKept) (l : Life) → s.life ≡ l → t.life ≡ l → (if b then s else t).life ≡ l
-either_life true s t l e f = e
-either_life false s t l e f = f
-
--- before its looks a turn leaves a life as it was
-ready_life : (k : Learnt) (i : ℕ) (s : TrackKept) → (ready k i s).life ≡ s.life
-unfolding noted settled_at
-ready_life k i s =
-    let r : SlotReport = slot_reported k s in
-    let t : TrackKept = noted r s in
-    let first : t.life ≡ s.life = either_life (is_home s.holder) (record s { own = no_counts }) (if is_reported r s then record s { reported = counts_in r } else s) s.life refl (either_life (is_reported r s) (record s { reported = counts_in r }) s s.life refl refl) in
-    either_life (is_reached (heard k i s).flush_seen t.awaits) (record t { awaits = None; settled = t.settled + 1 }) t s.life first first
 
 module _ (most least : ℕ) where
   either_so : (taken : List ℕ) (b : Bool) (s t : TrackKept) → SettledSo most least taken s → SettledSo most least taken t → SettledSo most least taken (if b then s else t)
@@ -122,7 +103,7 @@ module _ (most least : ℕ) where
         let among : is_among opened life.state ≡ true = opened_or life.state there in
         let e : starts code life ≡ true = (λ i. two i && (not (lives i) && among i)) in
         let n : nat_lt flush_seen argument ≡ false = sym (ap (λ (b : Bool). b && nat_lt flush_seen argument) e) ∙ waits in
-        let below = not_below flush_seen argument n in
+        let below = not_below_is flush_seen argument n in
         omega (arith, below, low)
 
     module _ (taken : List ℕ) (s : TrackKept) (g : Going taken s) (code argument : ℕ) where
@@ -178,7 +159,7 @@ module _ (most least : ℕ) where
       waits_so : must_wait flush_seen code argument s.life ≡ true → SettledSo most least (taken ++ code ∷ argument ∷ []) (record (told given code argument s) { awaits = Some argument })
       unfolding starts
       waits_so waits =
-          let is : code ≡ START = eqb-true code 2 (both_left (code == 2) _ (both_left (starts code s.life) _ waits)) in
+          let is : code ≡ START = eqb-true code 2 (both_first (code == 2) _ (both_first (starts code s.life) _ waits)) in
           record {
             done = done;
             taken_are = ap (λ (l : List ℕ). l ++ code ∷ argument ∷ []) base ∙ ap (λ (k : ℕ). words_of done ++ k ∷ argument ∷ []) is ∙ sym (words_join done ((START, argument) ∷ []));
@@ -278,7 +259,7 @@ module _ (most least : ℕ) where
     where
       by : (b : Bool) → is_some s.awaits ≡ b → MatchBool b (looks ≡ []) (are_due most_looks given h.flush_seen looks s ≡ true) → SettledSo most least (taken ++ words_taken looks) (if b then s else after_looks given h.flush_seen looks s)
       by true is none = subst (λ (l : List ℕ). SettledSo most least l s) (sym (ap (λ (ls : List CommandLook). taken ++ words_taken ls) none ∙ append-nil taken)) so
-      by false is due = looks_so h.flush_seen low given most_looks looks taken s due (record { so = so; still = none_waits s.awaits is; lives = λ none. lives })
+      by false is due = looks_so h.flush_seen low given most_looks looks taken s due (record { so = so; still = none_of s.awaits is; lives = λ none. lives })
 
   -- the commands of track i, once those before it were served
   pub served_so : (c : Setup) (k : Learnt) (looks : List CommandLook) (tracks : List TrackKept) (i : ℕ) (taken : List ℕ) → (let s = track_at tracks i in s.life.ended ≡ false → (heard k i s).flush_seen ≤ most → HasDueLooks (slot_for c tracks i) (heard k i s).flush_seen looks (ready k i s)

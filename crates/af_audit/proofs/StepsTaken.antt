@@ -2,6 +2,7 @@
 use Rattle.std.specs.Prelude.{MatchBool}
 use Rattle.std.proofs.Common.{◌≡◌, ◌⊎◌, inl, inr, ℕ, zero, suc, ◌+◌, ◌==◌, Bool, true, false, if◌then◌else◌, is_some, List, [], ◌∷◌, ◌++◌, length, slice_get, Option, Some, refl, sym, ap, ◌∙◌, append-nil, append_assoc, length-append, eqb-true, arith}
 use Rattle.std.proofs.lemmas.Option.{none-some}
+use Rattle.af_base.proofs.Basics.{no}
 use Rattle.af_base.specs.declared.turn.CommandLook.{CommandLook}
 use Rattle.af_base.specs.Turn.{Turn, TrackSeen}
 use Rattle.af_life.specs.declared.kept.TrackKept.{TrackKept}
@@ -13,11 +14,10 @@ use Rattle.af_life.specs.Looks.{words_taken}
 use Rattle.af_life.specs.Obeys.{after_look, are_due, goes_on, is_shut, shows_command, slot_for}
 use Rattle.af_life.specs.Serves.{IsServed, LegalTrack, most_looks}
 use Rattle.af_life.specs.TurnEvents.{going, tracks_at}
-use Rattle.af_model.proofs.Logic.{both_left}
 use Rattle.af_audit.specs.Drained.{commands_in, stop_number}
-use Rattle.af_audit.proofs.Booleans.{no}
 use Rattle.af_audit.proofs.StartWords.{words_join, words_of}
 use Rattle.af_life.proofs.Lives.{look_steps}
+use Rattle.af_model.proofs.Basics.{both_first}
 
 -- ## The commands among steps
 
@@ -139,6 +139,6 @@ stop_told count (told code argument ∷ steps) h = by_stop (stops code (life_of 
         → (StoppedAt count steps → slice_get (told_in steps) (stop_number steps) ≡ Some (4, count))
         → slice_get (told_in steps ++ (code, argument) ∷ []) (if b then commands_in steps else stop_number steps) ≡ Some (4, count)
     by_stop true is same before =
-        let code_is : code ≡ 4 = eqb-true code 4 (both_left (code == 4) _ is) in
+        let code_is : code ≡ 4 = eqb-true code 4 (both_first (code == 4) _ is) in
         ap (slice_get (told_in steps ++ (code, argument) ∷ [])) (sym (count_told steps)) ∙ last_at (told_in steps) (code, argument) ∙ (λ j. Some (code_is j, same j))
     by_stop false is h before = by_start (starts code (life_of steps)) h before

@@ -12,6 +12,7 @@ use Rattle.af_life.specs.Heard.{learnt}
 use Rattle.af_life.specs.Kept.{NormalKept, Outside, Setup}
 use Rattle.af_life.specs.Turn.{LegalTurn}
 use Rattle.af_life.specs.TurnEvents.{hand_list, stream_list, tracks_at}
+use Rattle.af_model.proofs.Basics.{both_lawful}
 use Rattle.af_model.specs.Cycles.{Listed, LooksBy, cycle_events}
 use Rattle.af_model.specs.History.{Moment, by_hand, by_server, is_lawful, server_of}
 use Rattle.af_model.specs.JournalForm.{TracksRise}
@@ -27,7 +28,7 @@ use Rattle.af_judge.proofs.BlocksTold.{client-server, hand-client, server-client
 use Rattle.af_judge.proofs.TracksTold.{sides_called}
 use Rattle.af_audit.specs.Fates.{DropsByFlush}
 use Rattle.af_audit.proofs.DropsNoticed.{cycle_drops, drops_more, turn_drops}
-use Rattle.af_audit.proofs.FileReleased.{IsFromFile, calls_from_file, lawful_join}
+use Rattle.af_audit.proofs.FileReleased.{IsFromFile, calls_from_file}
 
 -- what holds of the stream block of a track of this file
 pub record TrackStands (file : List ℕ) (t : TrackTold) : Type 0 where
@@ -96,12 +97,12 @@ module _ (file : List ℕ) where
   pub stands_met : (there hands : Bool) (t : TrackTold) → TrackStands file t → TrackStands file (record t { stream = stream_met there hands t.stream; commands = meets t.commands })
   stands_met true true t h = record {
     file_is = h.file_is;
-    client = record { begins = h.client.begins; tame = lawful_join (client_list t.stream) (client.Learn (length (server_list t.stream)) ∷ []) h.client.tame refl };
+    client = record { begins = h.client.begins; tame = both_lawful (client_list t.stream) (client.Learn (length (server_list t.stream)) ∷ []) h.client.tame refl };
     drops = drops_more t.stream.shape (server_list t.stream) _ h.drops (tt, tt);
   }
   stands_met true false t h = record {
     file_is = h.file_is;
-    client = record { begins = h.client.begins; tame = lawful_join (client_list t.stream) (client.Learn (length (server_list t.stream)) ∷ []) h.client.tame refl };
+    client = record { begins = h.client.begins; tame = both_lawful (client_list t.stream) (client.Learn (length (server_list t.stream)) ∷ []) h.client.tame refl };
     drops = drops_more t.stream.shape (server_list t.stream) _ h.drops (tt, tt);
   }
   stands_met false true t h = record { file_is = h.file_is; client = record { begins = h.client.begins; tame = h.client.tame }; drops = h.drops }

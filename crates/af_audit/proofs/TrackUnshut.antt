@@ -3,6 +3,7 @@ use Rattle.std.proofs.Common.{◌≡◌, inl, inr, ◌⊎◌, ℕ, ◌≤◌, �
 use Rattle.std.specs.List.{AllByRecursion, list_all, list_any}
 use Rattle.std.proofs.lemmas.Grind.{fold-append}
 use Rattle.std.proofs.lemmas.List.{get_or_past}
+use Rattle.af_base.proofs.Basics.{both_true, neither, no}
 use Rattle.af_base.specs.declared.event.ClientCall.{ClientCall}
 use Rattle.af_base.specs.declared.event.ClientCall.TheVariants as call
 use Rattle.af_base.specs.declared.event.ClientEvent.{ClientEvent}
@@ -22,7 +23,7 @@ use Rattle.af_life.specs.Obeys.{is_shut}
 use Rattle.af_life.specs.Plays.{LegalTake}
 use Rattle.af_life.specs.Turn.{LegalTurn}
 use Rattle.af_life.specs.TurnEvents.{command_events_of, command_list, hand_list, invalid, mix_events, status_events, stream_list, takes_from, tracks_at}
-use Rattle.af_model.proofs.Logic.{both_are}
+use Rattle.af_model.proofs.Basics.{both_lawful, kept_more}
 use Rattle.af_model.proofs.RoomKept.{AllFollowRear}
 use Rattle.af_model.specs.ClientCalls.{ClientKept, client_begins, client_call_events, client_events_of, client_keeps, client_kept}
 use Rattle.af_model.specs.Cycles.{LooksBy, cycle_events, kept}
@@ -46,13 +47,11 @@ use Rattle.af_judge.proofs.TracksTold.{sides_called}
 use Rattle.af_audit.specs.Spared.{is_spared_in_turn, none_corrupt_on}
 use Rattle.af_audit.proofs.CallsUnshut.{IsOpen, unshut_turn}
 use Rattle.af_audit.proofs.DropsNoticed.{OneTake, one_take}
-use Rattle.af_audit.proofs.FileReleased.{lawful_join}
-use Rattle.af_audit.proofs.LooksUnshut.{kept_more, shut_after, unshut_cycle, unshut_looks}
+use Rattle.af_audit.proofs.LooksUnshut.{shut_after, unshut_cycle, unshut_looks}
 use Rattle.af_audit.proofs.RearsSeen.{FollowAnywhere, cycle_follows, rear_join}
 use Rattle.af_audit.proofs.SidesKept.{sides_mixed, sides_turned}
 use Rattle.af_audit.proofs.TrackStands.{hand-server, server-server, told_more}
 use Rattle.af_audit.proofs.TracksSeen.{looks_legal}
-use Rattle.af_audit.proofs.Booleans.{neither, no}
 
 -- the stream's server sees each front right after a rear; and if the block is the command block, nothing was poked on it
 pub record IsTrim (commands : Bool) (t : TrackTold) : Type 0 where
@@ -94,7 +93,7 @@ tame_call : (t : Track) (answer : ClientCall) → is_poke_on true answer ≡ fal
 tame_call t answer calm h = by_side (is_of_commands answer) refl
   where
     by_side : (b : Bool) → is_of_commands answer ≡ b → is_lawful (let u : Track = if b then record t { commands = turns.called answer (released_by t answer) t.commands } else record t { stream = turns.called answer (released_by t answer) t.stream } in u.commands.events) ≡ true
-    by_side true is = lawful_join t.commands.events (client_events_of t.commands.shape.frames t.commands.shape.base t.commands.events answer) h (call_lawful (is_some (client_kept t.commands.shape.frames t.commands.shape.base t.commands.events).shut) answer calm is)
+    by_side true is = both_lawful t.commands.events (client_events_of t.commands.shape.frames t.commands.shape.base t.commands.events answer) h (call_lawful (is_some (client_kept t.commands.shape.frames t.commands.shape.base t.commands.events).shut) answer calm is)
     by_side false is = h
 
 tame_calls : (t : Track) (calls : List ClientCall) → list_any (is_poke_on true) calls ≡ false → is_lawful t.commands.events ≡ true → is_lawful (fold after_call t calls).commands.events ≡ true
@@ -225,7 +224,7 @@ module _ (c : Setup) (f : TurnFound) (m : NormalKept) (e : Turn) (o : Outside) (
           let events = cycle_events (asked c) (listed stream) one.take.slot (front_of (asked c) (listed stream) one.take.slot) in
           let alone : shut_after stream.shape (kept (listed stream)) (events ++ []) ≡ None = subst (λ takes. shut_after stream.shape (kept (listed stream)) (mixes takes) ≡ None) one.is fine in
           let r = unshut_cycle (asked c) (listed stream) one.take.slot (o.stream_front one.take.track) by (subst (λ es. shut_after stream.shape (kept (listed stream)) es ≡ None) (append-nil events) alone) in
-          (r.0, ap none_shut one.is ∙ both_are (not (is_shut one.take.slot.seen)) true (ap not r.1) refl)
+          (r.0, ap none_shut one.is ∙ both_true (not (is_shut one.take.slot.seen)) true (ap not r.1) refl)
 
   -- events behind others that leave what is kept
   behind : (k : Shape) (x : ServerKept) (es more : List ServerEvent) → fold (server_keeps k) x es ≡ x → shut_after k x (es ++ more) ≡ shut_after k x more
@@ -363,7 +362,7 @@ module _ (commands there hands : Bool) (t : TrackTold) where
   pub trim_met : IsTrim commands t → IsTrim commands all_met
   trim_met h = record {
     rears = rears_met there hands t.stream h.rears;
-    tame = λ on. lawful_join (client_list t.commands) (client.Learn (length (server_list t.commands)) ∷ []) (h.tame on) refl;
+    tame = λ on. both_lawful (client_list t.commands) (client.Learn (length (server_list t.commands)) ∷ []) (h.tame on) refl;
     shape = h.shape;
   }
 

@@ -3,6 +3,7 @@ use Rattle.std.proofs.Common.{◌≡◌, ◌⊎◌, inl, inr, ℕ, ◌+◌, ◌<
 use Rattle.std.specs.Prelude.{slice_index_or}
 use Rattle.std.proofs.lemmas.List.{get_or_append_left}
 use Rattle.std.proofs.Math.Seq.{get_or-append_seam}
+use Rattle.af_base.proofs.Basics.{below_or_at}
 use Rattle.af_judge.specs.declared.track_judge.TrackJudge.{TrackJudge}
 use Rattle.af_judge.specs.Blocks.{new_judged}
 use Rattle.af_judge.specs.Tracks.{KeepsTrack}
@@ -15,7 +16,6 @@ use Rattle.af_script.specs.Data.{ScriptData}
 use Rattle.af_script.specs.declared.op.Op.{Op}
 use Rattle.af_script.specs.declared.track.TrackSpec.{TrackSpec}
 use Rattle.af_audit.specs.RunKept.{AreNewTracks, IsNewTrack}
-use Rattle.af_audit.proofs.CallsJudged.{less_or}
 
 -- a track is made by its spec
 record Made (k : TrackJudge) (version : ℕ) (spec : TrackSpec) (stream commands : Bool) : Type 0 where
@@ -46,7 +46,7 @@ pub none_made : (script : ScriptData) (rounds : List RoundSeen) (tracks : List T
 none_made script rounds tracks i t lt = absurd (omega (arith, lt))
 
 pub made_more : (script : ScriptData) (rounds : List RoundSeen) (at : ℕ) (tracks : List TrackJudge) (k : TrackJudge) → length tracks ≡ at → AreNewTracks script rounds at tracks → IsNewTrack script rounds at k → AreNewTracks script rounds (at + 1) (tracks ++ k ∷ [])
-made_more script rounds at tracks k many are new i t below here = by_place (less_or i at below)
+made_more script rounds at tracks k many are new i t below here = by_place (below_or_at i at below)
   where
     by_place : (i < at) ⊎ (i ≡ at) → IsNewTrack script rounds i t
     by_place (inl lt) =

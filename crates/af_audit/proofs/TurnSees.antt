@@ -1,7 +1,8 @@
 -- What a client's calls leave of its side of the command block: the list and the words grow.
-use Rattle.std.proofs.Common.{◌≡◌, ℕ, zero, suc, ◌+◌, ◌*◌, ◌<◌, Bool, true, false, is_some, if◌then◌else◌, fold, List, [], ◌∷◌, ◌++◌, Some, refl, sym, ap, ◌∙◌, subst, append-nil, append_assoc}
+use Rattle.std.proofs.Common.{◌≡◌, ℕ, ◌+◌, ◌*◌, ◌<◌, Bool, true, false, if◌then◌else◌, fold, List, [], ◌∷◌, ◌++◌, Some, refl, sym, ap, ◌∙◌, subst, append-nil, append_assoc}
 use Rattle.std.specs.Prelude.{slice_get}
 use Rattle.std.proofs.lemmas.Grind.{fold-append}
+use Rattle.af_base.proofs.Basics.{get_front}
 use Rattle.af_base.specs.declared.event.ClientCall.{ClientCall}
 use Rattle.af_base.specs.declared.event.ClientCall.TheVariants as call
 use Rattle.af_base.specs.declared.event.ClientEvent.{ClientEvent}
@@ -11,7 +12,6 @@ use Rattle.af_model.specs.ClientCalls.{client_events_of}
 use Rattle.af_runs.specs.Clients.{settled_in}
 use Rattle.af_runs.specs.ClientTurns.{Side, Track, after_call, after_calls, called, is_of_commands, released_by}
 use Rattle.af_audit.specs.Settled.{IsStart, SeesSettled}
-use Rattle.af_audit.proofs.Booleans.{no}
 
 -- a side with more events and more words
 record Longer (a b : Side) : Type 0 where
@@ -41,12 +41,6 @@ call_longer t answer = by_side (is_of_commands answer)
 calls_longer : (t : Track) (calls : List ClientCall) → Longer t.commands (fold after_call t calls).commands
 calls_longer t [] = longer_none t.commands
 calls_longer t (answer ∷ calls) = longer_twice t.commands (after_call t answer).commands (fold after_call (after_call t answer) calls).commands (call_longer t answer) (calls_longer (after_call t answer) calls)
-
--- an item of a list stands there with more behind it
-get_front : (xs ys : List ℕ) (at value : ℕ) → slice_get xs at ≡ Some value → slice_get (xs ++ ys) at ≡ Some value
-get_front [] ys at value is = no (ap is_some is)
-get_front (x ∷ xs) ys zero value is = is
-get_front (x ∷ xs) ys (suc at) value is = get_front xs ys at value is
 
 -- After a turn in which a client saw a START settled, the status stands in its list, and the START among the words that it sent
 pub record HasSeenSettled (c : Side) (count : ℕ) : Type 0 where

@@ -2,14 +2,16 @@
 use Rattle.std.proofs.Common.{◌≡◌, ℕ, zero, suc, ◌+◌, ◌≤◌, true, ◌⊎◌, inl, inr, MatchOption, Option, None, Some, List, [], ◌∷◌, ◌++◌, length, take, drop, map, refl, sym, ap, ◌∙◌, subst, length-take-le}
 use Rattle.std.proofs.Math.Seq.{take-append-add}
 use Rattle.std.proofs.lemmas.List.{take-append-drop, map-append}
+use Rattle.af_base.proofs.Basics.{both_true}
 use Rattle.af_base.specs.declared.frame.Frame.{Frame}
 use Rattle.af_base.specs.declared.event.ServerEvent.{ServerEvent}
 use Rattle.af_base.specs.declared.seen.Seen.{Seen}
 use Rattle.af_base.specs.declared.seen.Seen.TheVariants as seen
 use Rattle.af_base.specs.Sample.{packed_word}
+use Rattle.af_model.proofs.Basics.{both_first}
 use Rattle.af_model.specs.Fates.{keeps_all, drops_none}
 use Rattle.af_model.specs.ServerCalls.{look_at, look_events, shown_by}
-use Rattle.af_model.proofs.Logic.{both_left, both_right, both_are}
+use Rattle.af_model.proofs.Logic.{both_right}
 use Rattle.af_block_tests.specs.Relay.{IsFlushed}
 use Rattle.af_server.specs.Looks.{Looks}
 use Rattle.af_server.specs.declared.look.Look.{Look}
@@ -17,7 +19,7 @@ use Rattle.af_server.specs.Order.{ServerState}
 
 pub drops_join : (xs ys : List ServerEvent) → drops_none xs ≡ true → drops_none ys ≡ true → drops_none (xs ++ ys) ≡ true
 drops_join [] ys a b = b
-drops_join (x ∷ xs) ys a b = both_are (keeps_all x) _ (both_left (keeps_all x) (drops_none xs) a) (drops_join xs ys (both_right (keeps_all x) (drops_none xs) a) b)
+drops_join (x ∷ xs) ys a b = both_true (keeps_all x) _ (both_first (keeps_all x) (drops_none xs) a) (drops_join xs ys (both_right (keeps_all x) (drops_none xs) a) b)
 
 look_drops : (es : List ServerEvent) (shows : Seen) (flush rear front : ℕ) → drops_none es ≡ true → IsFlushed shows ⊎ (drops_none (es ++ look_events shows flush rear front) ≡ true)
 look_drops es (seen.Flushed dropped) flush rear front clean = inl tt

@@ -1,12 +1,13 @@
 -- Flush words, the positions that they carry, and what a server knows of flushes.
 use Rattle.std.proofs.Common.{◌≡◌, ◌≢◌, ℕ, zero, suc, ◌+◌, ◌-◌, ◌*◌, ◌/◌, ◌%◌, ◌^◌, ◌<◌, ◌≤◌, max, Bool, true, false, true≢false, not, ◌||◌, ◌==◌, if◌then◌else◌, refl, sym, ap, ◌∙◌, arith, mod-lt, mod-eq_of_lt, eq-eqb, ne_eqb, lt_of_not-le}
 use Rattle.std.proofs.Math.Nat.{mul-add-mod_self_right, mod-add-mod, add-mul, div-le_self, le-div_iff_mul-le}
+use Rattle.af_base.proofs.Basics.{is_below, is_not_below}
+use Rattle.af_model.proofs.Basics.{none_as}
 use mathlib.Core.Logic.{dite}
 use native.Mathlib.Decide.{dec_le}
 use Rattle.af_model.specs.declared.shape.Shape.{Shape}
 use Rattle.af_model.specs.Point.{wrapped, flush_number}
 use Rattle.af_model.specs.ServerCalls.{flush_position, past_front}
-use Rattle.af_model.proofs.Logic.{nat_lt-yes, nat_lt-no}
 use Rattle.af_cblk.specs.declared.view.ClientPart.{ClientPart}
 use Rattle.af_cblk.specs.Parts.{ahead, released, flush_amount}
 use Rattle.af_cblk.specs.Shape.{most_flushes}
@@ -23,15 +24,6 @@ flush_placed w n at placed = ap (λ (b : Bool). if b then n else wrapped (n * w 
 positive : (w : ℕ) → w ≢ 0 → 0 < w
 positive zero placed = absurd (placed refl)
 positive (suc w) placed = omega arith
-
--- before any flush the word is 0
-none_as : (w : ℕ) (b : Bool) → (w == 0) ≡ b → 0 ≡ (if b then 0 else wrapped (0 * w + 0 % w))
-none_as w true e = refl
-none_as w false e =
-    let placed : w ≢ 0 = (λ z. true≢false (sym (eq-eqb w 0 z) ∙ e)) in
-    let place : 0 % w ≡ 0 = mod-eq_of_lt (positive w placed) in
-    let zero_is : 0 * w + 0 ≡ 0 = omega arith in
-    sym (ap (λ (z : ℕ). wrapped (0 * w + z)) place ∙ ap wrapped zero_is)
 
 pub flush_none : (w : ℕ) → 0 ≡ flush_number w 0 0
 flush_none w = none_as w (w == 0) refl
@@ -99,12 +91,12 @@ flush_position-is w m n D R turns some small low high =
 past_later : (C D : ℕ) → C ≤ D → D ≤ C + 65536 → past_front (wrapped C) (wrapped D) ≡ D - C
 past_later C D low high =
     let e : ahead (wrapped C) (wrapped D) ≡ D - C = between C D low high in
-    ap (λ (b : Bool). if b then ahead (wrapped C) (wrapped D) else 0) (nat_lt-yes (ahead (wrapped C) (wrapped D)) (2 ^ 31) (omega arith)) ∙ e
+    ap (λ (b : Bool). if b then ahead (wrapped C) (wrapped D) else 0) (is_below (ahead (wrapped C) (wrapped D)) (2 ^ 31) (omega arith)) ∙ e
 
 past_before : (C D : ℕ) → D < C → C ≤ D + 65536 → past_front (wrapped C) (wrapped D) ≡ 0
 past_before C D low high =
     let far : 2 ^ 31 ≤ ahead (wrapped C) (wrapped D) = omega arith in
-    ap (λ (b : Bool). if b then ahead (wrapped C) (wrapped D) else 0) (nat_lt-no (ahead (wrapped C) (wrapped D)) (2 ^ 31) far)
+    ap (λ (b : Bool). if b then ahead (wrapped C) (wrapped D) else 0) (is_not_below (ahead (wrapped C) (wrapped D)) (2 ^ 31) far)
 
 -- where a drop ends: at the position of the flush, or, if that lies before what is consumed, there
 pub drop_word : (w m n D R C N : ℕ) → m * w ≡ 2 ^ 32 → 0 < w → w ≤ 65536 → N + N < w → D ≤ R → R ≤ C + N → C ≤ D + N

@@ -4,9 +4,9 @@ use Rattle.std.proofs.lemmas.Nat.{or_of_32}
 use Rattle.af_base.specs.declared.event.ClientEvent.TheVariants as client
 use Rattle.af_base.specs.declared.event.ServerEvent.TheVariants as server
 use Rattle.af_base.specs.declared.event.HandEvent.TheVariants as hand
+use Rattle.af_model.proofs.Basics.{at_few}
 use Rattle.af_model.specs.History.{point}
 use Rattle.af_model.proofs.Grows.{client_adds}
-use Rattle.af_model.proofs.Counts.{clients_at_most}
 use Rattle.af_model.specs.declared.shape.Shape.{Shape}
 use Rattle.af_cblk.specs.declared.view.ClientPart.{ClientPart}
 use Rattle.af_cblk.specs.declared.view.ServerPart.{ServerPart}
@@ -53,5 +53,5 @@ module _ (k : Shape) (words : List ℕ) (c : ClientPart) (s : ServerPart) (h : H
 
   pub hand_meets : Stands k (set words 0 (at words 0)) c s (hand_met h (length c.events))
   hand_meets =
-      quiet_hand k words (set words 0 (at words 0)) c s h i (hand.Met (length c.events)) (i.mets, (let a = clients_at_most i.history.order in let b = ap length i.history.client_is in omega arith)) (let b = ap length i.history.client_is in omega arith) refl
+      quiet_hand k words (set words 0 (at words 0)) c s h i (hand.Met (length c.events)) (i.mets, (let a = at_few i.history.order in let b = ap length i.history.client_is in omega arith)) (let b = ap length i.history.client_is in omega arith) refl
       (i.tally, same_word 0 words ∙ i.words_are, i.tally_is, i.small)

@@ -1,5 +1,6 @@
 -- What a client's pass keeps beside its seat.
 use Rattle.std.proofs.Common.{◌≡◌, ℕ, ◌+◌, true, List, [], ◌∷◌, ◌++◌, length, refl, sym, ap, ◌∙◌, arith}
+use Rattle.af_model.proofs.Basics.{flushes-append}
 use Rattle.atomic_table.specs.Table.{Me}
 use Rattle.af_base.specs.declared.event.ClientEvent.{ClientEvent}
 use Rattle.af_base.specs.declared.event.ClientEvent.TheVariants as client
@@ -9,10 +10,6 @@ use Rattle.af_model.specs.History.{flush_in, flushes_of}
 use Rattle.af_cblk.specs.declared.view.ClientPart.{ClientPart}
 use Rattle.af_cblk.specs.declared.view.View.{View}
 use Rattle.af_cblk.specs.Parts.{released, rear_stored, client_met}
-
-pub flushes-append : (xs ys : List ClientEvent) → flushes_of (xs ++ ys) ≡ flushes_of xs + flushes_of ys
-flushes-append [] ys = (let e : flushes_of ys ≡ 0 + flushes_of ys = omega arith in e)
-flushes-append (x ∷ xs) ys = let r = flushes-append xs ys in omega arith
 
 -- one event more
 pub flushes-one : (es : List ClientEvent) (e : ClientEvent) (n : ℕ) → flush_in e ≡ n → flushes_of (es ++ e ∷ []) ≡ flushes_of es + n

@@ -1,5 +1,6 @@
 -- Steps that change no position, if the client has not poked.
-use Rattle.std.proofs.Common.{max, ◌≡◌, ◌≢◌, ℕ, ◌+◌, ◌≤◌, List, [], ◌∷◌, ◌++◌, length, get_or, set, sym, ap, ◌∙◌, subst, arith, length-append, append_assoc}
+use Rattle.std.proofs.Common.{◌≡◌, ◌≢◌, ℕ, ◌+◌, ◌≤◌, List, [], ◌∷◌, ◌++◌, length, get_or, set, sym, ap, ◌∙◌, subst, arith, length-append, append_assoc}
+use Rattle.af_base.proofs.Basics.{max_le}
 use Rattle.af_base.specs.declared.event.ClientEvent.{ClientEvent}
 use Rattle.af_base.specs.declared.event.ServerEvent.{ServerEvent}
 use Rattle.af_model.specs.declared.point.TrackPoint.{TrackPoint}
@@ -27,9 +28,6 @@ turn_of {k} i = in_turn k i.history.order i.history.legal
 -- what was met stays behind
 pub longer : (order : List Moment) (e : ClientEvent) → met_in order ≤ length (client_of order) → met_in order ≤ length (client_of order ++ e ∷ [])
 longer order e h = let l : length (client_of order ++ e ∷ []) ≡ length (client_of order) + 1 = length-append (client_of order) (e ∷ []) in omega arith
-
-pub both_fit : (a b n : ℕ) → a ≤ n → b ≤ n → max a b ≤ n
-both_fit a b n x y = omega arith
 
 -- ## Steps that change no position
 
@@ -118,7 +116,7 @@ module _ (k : Shape) (words words' : List ℕ) (c : ClientPart) (s : ServerPart)
         words_are = now.1;
         tally_is = now.2;
         small = now.3;
-        mets = both_fit (met_by e) (met_in i.history.order) (length (client_of i.history.order)) few i.mets;
+        mets = max_le (met_by e) (met_in i.history.order) (length (client_of i.history.order)) few i.mets;
         learnt = i.learnt;
         flushed = flushed_at p same;
         flush_known = flush_known_at p same;

@@ -1,5 +1,6 @@
 -- A step of one seat keeps the rule if it keeps what the rule says of the parts.
-use Rattle.std.proofs.Common.{◌≡◌, ℕ, zero, suc, ◌≢◌, ◌⊎◌, true, false, true≢false, List, [], ◌∷◌, ◌++◌, length, get_or, set, sym, refl, ap, ◌∙◌, subst, inl, inr, ⊎_elim, append_assoc, append-nil}
+use Rattle.std.proofs.Common.{◌≡◌, ℕ, zero, suc, ◌≢◌, ◌⊎◌, true, false, true≢false, List, [], ◌∷◌, ◌++◌, length, get_or, set, sym, refl, ap, ◌∙◌, subst, inl, inr, ⊎_elim, append-nil}
+use Rattle.af_cblk.proofs.Basics.{goes_on}
 use mathlib.Core.Option.{some, some-injective, some-ne-none}
 use lib.ListN.{get_elem?}
 use Rattle.atomic_table.specs.Table.{Me, keeps, Allows, Splits, Joins}
@@ -16,10 +17,6 @@ use Rattle.af_cblk.specs.Rule.{StartsWith, Stands, Parties, Sits, HandKnows, Hol
 -- what the rule says of the words, if the client has not poked
 abbrev pub Lawfully : Shape → List ℕ → ClientPart → ServerPart → HandPart → Type 0
 Lawfully k words c s h = is_lawful c.events ≡ true → Stands k words c s h
-
--- a list that goes on from one goes on from what that one goes on from
-goes_on : (a b c : List ServerEvent) → StartsWith b a → StartsWith c b → StartsWith c a
-goes_on a b c f g = (f.0 ++ g.0, sym (append_assoc a f.0 g.0) ∙ ap (λ (l : List ServerEvent). l ++ g.0) f.1 ∙ g.1)
 
 abbrev Others : ℕ → Parties → Parties → Type 0
 Others id a b = (by : ℕ) (v : View) → by ≢ id → Sits a by v → Sits b by v

@@ -5,10 +5,10 @@ use Rattle.af_base.specs.declared.event.ClientCall.{ClientCall}
 use Rattle.af_base.specs.declared.event.ClientCall.TheVariants as call
 use Rattle.af_base.specs.declared.event.ClientEvent.{ClientEvent}
 use Rattle.af_base.specs.declared.event.ClientEvent.TheVariants as client
+use Rattle.af_model.proofs.Basics.{both_lawful, flushes-append, lawful_first}
 use Rattle.af_model.specs.Point.{wrapped}
-use Rattle.af_model.specs.History.{is_tame, is_lawful, flush_in, flushes_of}
+use Rattle.af_model.specs.History.{is_lawful, flush_in, flushes_of}
 use Rattle.af_model.specs.ClientCalls.{ClientKept, client_keeps, client_begins, client_kept, client_events_of, client_call_events, IsClientList, begins, calls, meets}
-use Rattle.af_model.proofs.Logic.{both_left, both_right, both_are}
 use Rattle.af_model.proofs.Counts.{lawful_before}
 use Rattle.af_cblk.specs.declared.view.ClientPart.{ClientPart}
 use Rattle.af_model.specs.declared.shape.Shape.{Shape}
@@ -16,14 +16,8 @@ use Rattle.af_cblk.specs.Parts.{client_flushed, released, client_did, client_met
 use Rattle.af_base.specs.declared.event.ServerEvent.{ServerEvent}
 use Rattle.af_cblk.specs.Rule.{new_client}
 use Rattle.af_cblk.specs.Sides.{ClientSide}
-use Rattle.af_cblk.proofs.Passes.{flushes-append}
 use Rattle.af_client.specs.Order.{ClientState, Keeps, client_kept_of, IsInOrder}
 use Rattle.af_client.specs.Calls.{Answers}
-
--- what is lawful began so
-pub lawful_first : (xs ys : List ClientEvent) → is_lawful (xs ++ ys) ≡ true → is_lawful xs ≡ true
-lawful_first [] ys h = refl
-lawful_first (x ∷ xs) ys h = both_are (is_tame x) (is_lawful xs) (both_left (is_tame x) _ h) (lawful_first xs ys (both_right (is_tame x) _ h))
 
 -- nothing was done yet
 pub new_keeps : (k : Shape) (p : ClientPart) (rear : ℕ) → p ≡ new_client k → rear ≡ k.base → rear < 2 ^ 32 → Keeps p rear 0 0 None
@@ -156,10 +150,6 @@ abbrev pub IsPoke : ClientCall → Type 0
 IsPoke (call.Poke command word value) = Unit {0}
 IsPoke _ = ⊥
 
-both : (es more : List ClientEvent) → is_lawful es ≡ true → is_lawful more ≡ true → is_lawful (es ++ more) ≡ true
-both [] more a b = b
-both (e ∷ es) more a b = both_are (is_tame e) _ (both_left (is_tame e) (is_lawful es) a) (both es more (both_right (is_tame e) (is_lawful es) a) b)
-
 tame_look : (was : Bool) (front : ℕ) → is_lawful (if was then [] else client.SawFlags 0 ∷ client.SawFront front ∷ []) ≡ true
 tame_look true front = refl
 tame_look false front = refl
@@ -181,4 +171,4 @@ tame_call was (call.Poke command word value) calm = absurd (calm tt)
 
 -- a call that is no poke leaves a lawful list lawful
 pub lawful_call : (frames base : ℕ) (es : List ClientEvent) (answer : ClientCall) → (IsPoke answer → ⊥) → is_lawful es ≡ true → is_lawful (es ++ client_events_of frames base es answer) ≡ true
-lawful_call frames base es answer calm ok = both es _ ok (tame_call (is_some (client_kept frames base es).shut) answer calm)
+lawful_call frames base es answer calm ok = both_lawful es _ ok (tame_call (is_some (client_kept frames base es).shut) answer calm)

@@ -1,6 +1,7 @@
 -- What a look at flags and front leaves in order.
 use Rattle.std.proofs.Common.{◌≡◌, ℕ, ◌+◌, ◌-◌, ◌%◌, ◌^◌, ◌<◌, ◌≤◌, Bool, true, if◌then◌else◌, bit_and, MatchOption, Option, Some, None, is_some, List, [], ◌∷◌, ◌++◌, length, take, map, refl, sym, ap, ◌∙◌, subst, arith, append_assoc, length-append, length-take-le, mod-lt, eq-eqb}
 use Rattle.std.proofs.lemmas.List.{take-map, length-map}
+use Rattle.af_base.proofs.Basics.{none_more}
 use Rattle.af_base.specs.declared.frame.Frame.{Frame}
 use Rattle.af_base.specs.declared.event.ClientCall.{ClientCall}
 use Rattle.af_base.specs.declared.event.ClientEvent.{ClientEvent}
@@ -37,9 +38,6 @@ shut_outside c words k is =
 
 abbrev pub SameCounts : ClientState → ClientState → Type 0
 SameCounts c d = (d.rear ≡ c.rear) × (d.flushes ≡ c.flushes) × (d.released ≡ c.released)
-
-none_more : (n : ℕ) → n ≡ n + 0
-none_more n = omega arith
 
 pub dead_keeps : (c d : ClientState) (asked flags : ℕ) (answer : ClientCall) → IsInOrder c → Answers c asked answer
     → client_events_of c.pass.part.shape.frames c.pass.part.shape.base c.pass.part.events answer ≡ client.SawFlags flags ∷ []

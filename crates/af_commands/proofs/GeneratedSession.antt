@@ -5,6 +5,7 @@ use Rattle.std.specs.declared.alloc.Global.{Global}
 use Rattle.std.proofs.lemmas.Bool.{le-leb, eqb-true, eq-eqb}
 use Rattle.std.proofs.lemmas.Bool.Decides.{eqb_tells}
 use Rattle.af_base.specs.declared.frame.Frame.{Frame}
+use Rattle.af_io.proofs.Basics.{files_are}
 use Rattle.af_io.specs.Files.{Files, SameFiles}
 use Rattle.af_io.specs.Outputs.{with_files, SetsFiles}
 use Rattle.af_io.specs.Pcm.{frames_from, frame_width}
@@ -28,7 +29,7 @@ use Rattle.af_words.specs.Requests.{is_drawn}
 use Rattle.af_offline.specs.Status.{Meets}
 use Rattle.af_offline.proofs.Draws.{file_length}
 use Rattle.af_offline.proofs.Generated.{file_there}
-use Rattle.af_offline.proofs.Chains.{files_are, then_cons}
+use Rattle.af_offline.proofs.Chains.{then_cons}
 use Rattle.std.specs.Prelude.{◌^◌}
 
 -- ## What the clients write

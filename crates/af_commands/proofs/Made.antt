@@ -1,6 +1,7 @@
 -- What a command makes, and what it leaves behind if it stops.
 use Rattle.std.proofs.Common.{◌≡◌, ℕ, List, ◌++◌, Some, Result, Ok, Err, String, string_bytes, sym, ap, subst, inl, inr}
 use Rattle.std.specs.declared.alloc.Global.{Global}
+use Rattle.af_io.proofs.Basics.{files_are}
 use Rattle.af_io.specs.Files.{Files, SameFiles, SetsFile, LeavesFront}
 use Rattle.af_io.specs.Outputs.{with_files}
 use Rattle.af_io.proofs.Outputs.{LeavesFronts-none}
@@ -10,7 +11,6 @@ use Rattle.af_offline.specs.declared.outputs.Output.{Output}
 use Rattle.af_offline.specs.declared.status.Refusal.{Refusal}
 use Rattle.af_offline.specs.declared.status.Stop.{Stop}
 use Rattle.af_offline.specs.declared.status.Stop.TheVariants.{Refused, Over, Store, Memory}
-use Rattle.af_offline.proofs.Chains.{files_are}
 use Rattle.af_offline.specs.Asked.{◌>>=◌, Job}
 use Rattle.af_offline.specs.Asking.{output_job}
 use Rattle.af_commands.specs.Ends.{LeavesWork, IsOver, IsCutOff, Makes, Renders, PrintsFront, PrintsWhole, PrintsCut}

@@ -7,6 +7,7 @@ use Rattle.af_io.specs.declared.store.StoreError.TheVariants as outside
 use Rattle.af_model.specs.Journals.{JournalData}
 use Rattle.af_playing.specs.declared.answering.PlayFault.{PlayFault}
 use Rattle.af_playing.specs.declared.answering.PlayFault.TheVariants as fault
+use Rattle.af_rendering.proofs.Basics.{not_failed}
 use Rattle.af_rendering.specs.declared.rendering.Outcome.{Outcome}
 use Rattle.af_rendering.specs.declared.rendering.Played.{Played}
 use Rattle.af_session.specs.Ends.{EndsState}
@@ -43,9 +44,6 @@ not_cut journal ends h = let e : ⊥ = cc in e
 
 not_memory : IsErrOf {T = Played} {E = PlayFault} (Err fault.Memory) fault.Store → ⊥
 not_memory h = let e : ⊥ = cc in e
-
-not_failed : {T : Type 0} (x : T) → IsErrOf {T = T} {E = StoreError} (Ok x) outside.Failed → ⊥
-not_failed {T} x h = let e : ⊥ = cc in e
 
 no_failed : {T : Type 0} → IsErrOf {T = T} {E = StoreError} (Err outside.Memory) outside.Failed → ⊥
 no_failed {T} h = let e : ⊥ = cc in e

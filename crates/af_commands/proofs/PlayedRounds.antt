@@ -1,15 +1,17 @@
 -- A script that was played in rounds, its journal and its line.
-use Rattle.std.proofs.Common.{◌≡◌, ◌∙◌, ◌≤◌, ℕ, suc, Bool, true, false, List, [], ◌∷◌, Some, Ok, Err, IfOk, Result, String, drop, length, string_bytes, ap, arith, inl, inr, refl, subst, sym}
+use Rattle.std.proofs.Common.{◌≡◌, ◌∙◌, ◌≤◌, ℕ, Bool, true, false, List, Some, Ok, Err, IfOk, Result, String, length, string_bytes, ap, arith, inl, inr, refl, subst, sym}
 use Rattle.std.specs.declared.alloc.Global.{Global}
+use Rattle.af_io.proofs.Basics.{files_are}
 use Rattle.af_io.specs.Files.{Files, SameFiles, SetsFile, LeavesFront}
 use Rattle.af_io.specs.Outputs.{with_file}
 use Rattle.af_journal_laws.specs.Laws.{HoldsAtMeetings}
 use Rattle.af_journal_laws.proofs.AllHolds.{OfRounds}
+use Rattle.af_model.proofs.Basics.{same_rounds}
 use Rattle.af_script.specs.Form.{IsScript}
 use Rattle.af_journal.specs.Readings.{IsOneReading}
 use Rattle.af_journal.specs.Texts.{text_of}
 use Rattle.af_journal.proofs.OneJournal.{read-back}
-use Rattle.af_model.specs.Journals.{EntrySeen, JournalData, RoundNoted, entries_seen, journal_of, rounds_seen}
+use Rattle.af_model.specs.Journals.{JournalData, entries_seen, journal_of, rounds_seen}
 use Rattle.af_tally.specs.declared.summary.Summary.{Summary}
 use Rattle.af_playing.specs.declared.answering.PlayFault.{PlayFault}
 use Rattle.af_playing.specs.declared.answering.PlayFault.TheVariants as fault
@@ -30,7 +32,6 @@ use Rattle.af_offline.specs.Line.{limit_text}
 use Rattle.af_commands.specs.Plays.{IsPlay, IsPlayed, IsSomePlayLine, LeavesRounds, LeavesText, run_line}
 use Rattle.af_commands.specs.Sessions.{summary_line}
 use Rattle.af_commands.specs.Told.{Tells, TellsText}
-use Rattle.af_offline.proofs.Chains.{files_are}
 use Rattle.af_rendering.specs.Alone.{summary_by}
 use Rattle.af_runs.specs.LegalRuns.{run_of}
 
@@ -53,11 +54,6 @@ cut_short l accepted follows journal ends keeps = record { legal = (keeps.limit.
 -- the text of a run's journal is read as this journal alone
 pub read_alone : (ended : Bool) (l : Loaded) (journal : JournalData) (ends : EndsState) → HandsBackRun ended l.script l.files journal ends → IsOneReading (length l.script.tracks) (text_of journal) journal
 read_alone ended l journal ends back = subst (λ (tracks : ℕ). IsOneReading tracks (text_of journal) journal) (ap (λ (j : JournalData). j.tracks) back.journal_is) (read-back journal back.form)
-
--- a journal has the rounds that were noted
-same_rounds : (entries : List EntrySeen) (rounds : List RoundNoted) → length (rounds_seen entries rounds) ≡ length rounds
-same_rounds entries [] = refl
-same_rounds entries (r ∷ rs) = ap suc (same_rounds (drop r.cycles entries) rs)
 
 module _ (ended : Bool) (l : Loaded) (journal : JournalData) (ends : EndsState) (back : HandsBackRun ended l.script l.files journal ends) (legal : IsKept ended l journal) where
   abbrev bytes : List ℕ

@@ -1,6 +1,7 @@
 -- A script that was played in rounds with a log: its journal, its log and its line.
 use Rattle.std.proofs.Common.{◌≡◌, ◌∙◌, ◌⊎◌, ℕ, ◌≤◌, true, false, List, [], ◌∷◌, ◌++◌, Some, Ok, Err, Result, String, string_bytes, ap, inl, inr, refl, subst, sym}
 use Rattle.std.specs.declared.alloc.Global.{Global}
+use Rattle.af_io.proofs.Basics.{files_are}
 use Rattle.af_io.specs.Files.{Files, SetsFile, LeavesFront}
 use Rattle.af_io.specs.Outputs.{with_file, with_files}
 use Rattle.af_journal.specs.Texts.{text_of}
@@ -31,7 +32,6 @@ use Rattle.af_commands.specs.Plays.{run_line, LeavesPlay}
 use Rattle.af_commands.specs.Sessions.{summary_line}
 use Rattle.af_commands.specs.Told.{Tells, TellsTexts}
 use Rattle.af_commands.specs.Traces.{IsTrace, IsTraced, LeavesLog}
-use Rattle.af_offline.proofs.Chains.{files_are}
 use Rattle.af_commands.proofs.PlayedRounds.{IsKept, cut_short, is_play, leaves_rounds, line_told, played, promises, text_left}
 use Rattle.af_rendering.specs.Alone.{summary_by}
 use Rattle.af_runs.specs.LegalRuns.{run_of}

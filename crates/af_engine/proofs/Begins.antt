@@ -1,11 +1,13 @@
 -- The ends of a new mixer: they are new, in order, and belong together.
-use Rattle.std.proofs.Common.{◌≡◌, ℕ, zero, suc, ◌<◌, ◌≤◌, true, false, List, [], ◌∷◌, length, map, replicate, Option, Some, refl, sym, ap, ◌∙◌, subst, arith}
-use Rattle.std.specs.Prelude.{All, slice_get, unwrap_or}
+use Rattle.std.proofs.Common.{◌≡◌, ℕ, suc, ◌<◌, ◌≤◌, true, false, List, [], ◌∷◌, length, map, replicate, Some, refl, sym, ap, ◌∙◌, subst, arith}
+use Rattle.std.specs.Prelude.{All, slice_get}
 use Rattle.std.proofs.lemmas.List.{length-replicate}
 use Rattle.std.proofs.lemmas.List.Elements.{All-map}
 use Rattle.std.proofs.lemmas.Option.{slice_get_within}
+use Rattle.af_base.proofs.Basics.{some_same}
 use Rattle.af_cblk.specs.Sides.{Made}
 use Rattle.af_cblk.specs.declared.view.ClientPart.{ClientPart}
+use Rattle.af_normal.proofs.Basics.{within}
 use Rattle.af_server.specs.Order.{ServerState}
 use Rattle.af_link.specs.Linked.{AreLinked}
 use Rattle.af_link.specs.Names.{IsStreamOf}
@@ -29,9 +31,6 @@ use Rattle.af_engine.specs.NewEngine.{IsNewEngine, tracks_of}
 use Rattle.af_engine.specs.NewTracks.{AreNewTracks, IsNewTrack}
 use Rattle.af_engine.specs.Shares.{SharedState, AreLinksOf}
 
-same_one : {X : Type 0} (x y : X) → Some x ≡ Some y → x ≡ y
-same_one x y e = ap (λ (o : Option _). unwrap_or o x) e
-
 -- ## The settings
 
 -- the settings are those of the specs, if they are so place by place
@@ -42,7 +41,7 @@ settings_by [] (s ∷ specs) long each = absurd (omega arith)
 settings_by (x ∷ xs) [] long each = absurd (omega arith)
 settings_by (x ∷ xs) (s ∷ specs) long each =
     let first = each 0 (omega arith) in
-    let head : x ≡ setting_of s = same_one x (setting_of first.0) first.2 ∙ ap setting_of (same_one first.0 s (sym first.1)) in
+    let head : x ≡ setting_of s = some_same x (setting_of first.0) first.2 ∙ ap setting_of (some_same first.0 s (sym first.1)) in
     let rest : xs ≡ map setting_of specs = settings_by xs specs (omega arith) (λ i lt. let there = each (suc i) (omega arith) in (there.0, there.1, there.2)) in
     λ i. head i ∷ rest i
 
@@ -56,19 +55,13 @@ scales_fit specs settings same each = subst (All (λ (s : Setting). s.scale ≤ 
 
 -- ## The proxies
 
--- a place that has a stream proxy lies within the list of the stream proxies
-within : (streams : List (Option ServerState)) (i : ℕ) (s : ServerState) → stream_at streams i ≡ Some s → i < length streams
-within [] i s here = absurd (cc)
-within (x ∷ streams) zero s here = omega arith
-within (x ∷ streams) (suc i) s here = let rest = within streams i s here in omega arith
-
 module _ (specs : List EngineTrack) (shared : SharedState) (clients : List TrackEnds) (tracks : TrackList) (ts : AreNewTracks IsNewTrack (length specs) specs shared.streams shared.commands clients tracks) (links : Links) (l : AreLinksOf shared links) where
   -- the stream proxies are of the links' blocks, and have their hands
   streams_of : (i : ℕ) (s : ServerState) → stream_at tracks.streams i ≡ Some s → IsStreamOf links.streams.now i s × (s.pass.has_hand ≡ true)
   streams_of i s here =
       let one = ts.each i (omega (arith, within tracks.streams i s here, ts.lists.1)) in
       let line = one.new.stream_line in
-      let is : one.setup.stream ≡ s = same_one one.setup.stream s (sym one.proxy_at ∙ here) in
+      let is : one.setup.stream ≡ s = some_same one.setup.stream s (sym one.proxy_at ∙ here) in
       let P : ServerState → Type 0 = λ x. IsStreamOf links.streams.now i x × (x.pass.has_hand ≡ true) in
       subst P is (record { made = ap (λ (b : List Made). slice_get b i) l.streams_are ∙ one.stream_at_place ∙ ap (λ (b : Made). Some b) (sym line.server_is.0); in_order = line.server_is.1 }, line.server_new.whole)
 
@@ -76,7 +69,7 @@ module _ (specs : List EngineTrack) (shared : SharedState) (clients : List Track
   commands_of i s here =
       let one = ts.each i (omega (arith, slice_get_within tracks.commands i s here, ts.lists.2)) in
       let line = one.new.command_line in
-      let is : one.setup.command ≡ s = same_one one.setup.command s (sym one.control_at ∙ here) in
+      let is : one.setup.command ≡ s = some_same one.setup.command s (sym one.control_at ∙ here) in
       subst (IsStreamOf links.commands.now i) is (record { made = ap (λ (b : List Made). slice_get b i) l.commands_are ∙ one.command_at ∙ ap (λ (b : Made). Some b) (sym line.server_is.0); in_order = line.server_is.1 })
 
   -- the client of each track has its place, and the proxies of its two blocks
@@ -85,7 +78,7 @@ module _ (specs : List EngineTrack) (shared : SharedState) (clients : List Track
       let one = ts.each i (omega (arith, slice_get_within clients i p here, ts.parties)) in
       let stream = one.new.stream_line in
       let command = one.new.command_line in
-      let is : one.party ≡ p = same_one one.party p (sym one.party_at ∙ here) in
+      let is : one.party ≡ p = some_same one.party p (sym one.party_at ∙ here) in
       let P : TrackEnds → Type 0 = λ x. (x.track ≡ i) × AreClientsOf links i x.stream x.command in
       subst P is (
         one.new.place_is,

@@ -1,10 +1,11 @@
 -- The client of a stream whose proxy isn't home meets what is there.
-use Rattle.std.proofs.Common.{◌≡◌, ◌≢◌, ℕ, ◌<◌, true, true≢false, is_some, List, length, slice_get, slice_index_or, Option, Some, None, refl, sym, ap, subst, ◌∙◌, get_or-set_same, get_or-set_other, arith}
+use Rattle.std.proofs.Common.{◌≡◌, ◌≢◌, ℕ, ◌<◌, true, List, length, slice_get, slice_index_or, Option, Some, None, refl, sym, ap, subst, ◌∙◌, get_or-set_same, get_or-set_other, arith}
 use Rattle.std.proofs.lemmas.Option.{get_or_from_slice_get, same_Some}
 use Rattle.af_cblk.specs.Parts.{hand_met}
 use Rattle.af_cblk.specs.Rule.{StartsWith}
 use Rattle.af_cblk.specs.Sides.{HandSide, Made, client_made, hand_made, server_made}
 use Rattle.af_client.specs.Order.{ClientState, IsInOrder as IsClientInOrder}
+use Rattle.af_engine.proofs.Basics.{some_of}
 use Rattle.af_fast.specs.Meets.{AreOfBlockOf, MeetsHeld, server_met}
 use Rattle.af_fast.specs.Mixer.{MixerState, IsInOrder as IsFastInOrder, IsLinked}
 use Rattle.af_link.specs.Names.{IsStreamOf}
@@ -26,10 +27,6 @@ pub record MeetsThere (f : MixerState) (track : ℕ) (c : ClientState) (h : Hand
   pub same : f' ≡ record f { observer = record f.observer { items = f'.observer.items } }
   pub met : let slot = slot_for f.observer.past.state track in MeetsAway (client_made c.pass) (item_at f.observer.items slot) h c (item_at f'.observer.items slot) h' c'
   pub others : (k : ℕ) → slot_for f.observer.past.state track ≢ Some k → at f'.observer.items k ≡ at f.observer.items k
-
-some_of : (o : Option ServerState) → is_some o ≡ true → (s : ServerState) × (o ≡ Some s)
-some_of None e = absurd (true≢false (sym e))
-some_of (Some s) e = (s, refl)
 
 module _ (links : Links) (f : MixerState) (track slot : ℕ) (c : ClientState) (h : HandSide) (order : IsFastInOrder f × IsLinked links f) (stream : (slice_get links.streams.now track ≡ Some (client_made c.pass)) × IsClientInOrder c)
     (hand : hand_made h ≡ client_made c.pass) (found : slot_for f.observer.past.state track ≡ Some slot) where

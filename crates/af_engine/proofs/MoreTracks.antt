@@ -1,8 +1,9 @@
 -- One track more, each with its parts at its place.
-use Rattle.std.proofs.Common.{◌≡◌, ℕ, zero, suc, ◌+◌, ◌<◌, ◌⊎◌, inl, inr, List, [], ◌∷◌, ◌++◌, length, Some, None, refl, sym, ap, ◌∙◌, subst, arith}
+use Rattle.std.proofs.Common.{◌≡◌, ℕ, ◌+◌, ◌<◌, ◌⊎◌, inl, inr, List, [], ◌∷◌, ◌++◌, length, Some, None, sym, ap, ◌∙◌, subst, arith}
 use Rattle.std.specs.Prelude.{slice_get}
 use Rattle.std.proofs.lemmas.Bool.{cases_eq}
 use Rattle.std.proofs.lemmas.List.{length-append, get_or_append_left, get_or_at}
+use Rattle.af_base.proofs.Basics.{at_before, at_last}
 use Rattle.af_cblk.specs.Sides.{Made}
 use Rattle.af_normal.specs.Making.{TrackList, setting_of, with_track}
 use Rattle.af_normal.specs.declared.make.TrackSetup.{TrackSetup}
@@ -17,19 +18,6 @@ no_tracks New specs streams commands clients tracks no_streams no_commands no_cl
   lists = (ap (λ (t : TrackList). length t.settings) none, ap (λ (t : TrackList). length t.streams) none, ap (λ (t : TrackList). length t.commands) none);
   each = λ i lt. absurd (omega (arith, lt));
 }
-
--- an item put behind a list is its last one
-pub at_last : {X : Type 0} (xs : List X) (x : X) (n : ℕ) → length xs ≡ n → slice_get (xs ++ x ∷ []) n ≡ Some x
-at_last [] x zero long = refl
-at_last [] x (suc n) long = absurd (omega arith)
-at_last (y ∷ xs) x zero long = absurd (omega arith)
-at_last (y ∷ xs) x (suc n) long = at_last xs x n (omega arith)
-
--- the items of a list stand at their places if others are put behind
-pub at_before : {X : Type 0} (xs ys : List X) (i : ℕ) (x : X) → slice_get xs i ≡ Some x → slice_get (xs ++ ys) i ≡ Some x
-at_before [] ys i x here = absurd (cc)
-at_before (y ∷ xs) ys zero x here = here
-at_before (y ∷ xs) ys (suc i) x here = at_before xs ys i x here
 
 module _ {S P : Type 0} (New : ℕ → S → Made → Made → P → TrackSetup → Type 0) (n : ℕ) (specs : List S) (streams commands : List Made) (clients : List P) (tracks : TrackList) (before : AreNewTracks New n specs streams commands clients tracks)
     (spec : S) (stream command : Made) (p : P) (t : TrackSetup) (here : slice_get specs n ≡ Some spec) (new : New n spec stream command p t) where

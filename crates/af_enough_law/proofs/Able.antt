@@ -1,13 +1,15 @@
 -- A track that has two retries isn't disabled by a legal turn, whatever its looks take.
 use Rattle.std.proofs.Common.{◌≡◌, ℕ, ◌+◌, ◌-◌, ◌<◌, ◌≤◌, ◌==◌, ◌&&◌, ◌||◌, nat_lt, if◌then◌else◌, Bool, true, false, is_some, Option, MatchBool, List, [], ◌∷◌, length, refl, ap, ◌∙◌, arith}
 use Rattle.std.specs.List.{AllByRecursion}
+use Rattle.af_base.proofs.Basics.{and_none, either_false}
 use Rattle.af_base.specs.declared.turn.CommandLook.{CommandLook}
 use Rattle.af_base.specs.Turn.{Turn, TrackSeen}
+use Rattle.af_life.proofs.Basics.{ready_life}
 use Rattle.af_life.specs.declared.kept.TrackKept.{TrackKept}
 use Rattle.af_life.specs.declared.track.Known.{Known}
 use Rattle.af_life.specs.declared.track.Life.{Life}
 use Rattle.af_life.specs.Commands.{Row, commands, by_command, first_effect as effect_of}
-use Rattle.af_life.specs.Heard.{learnt, heard, ready, noted, slot_reported, settled_at, is_reached}
+use Rattle.af_life.specs.Heard.{learnt, heard, ready}
 use Rattle.af_life.specs.Kept.{Setup, NormalKept, Outside, Learnt, track_at, track_in, nothing_seen}
 use Rattle.af_life.specs.Obeys.{must_wait, ended, shows_command, is_shut, after_look, obeyed, goes_on, after_looks, commanded}
 use Rattle.af_life.specs.Reports.{Case, reports, first_effect as life_by, by_report, first_told, told_by_report, no_retries_left, runs_dry}
@@ -15,14 +17,10 @@ use Rattle.af_life.specs.Serves.{IsServed}
 use Rattle.af_life.specs.Turn.{GoesOn}
 use Rattle.af_enough_law.specs.Courses.{told_words}
 use Rattle.af_enough_law.specs.TrackTurns.{TrackTurned}
-use Rattle.af_enough_law.proofs.Following.{greeted_in, greeted_alike, noted_alike, legal_greeted}
+use Rattle.af_enough_law.proofs.Following.{greeted_in, greeted_alike, legal_greeted}
 use Rattle.af_enough_law.proofs.Served.{track_turned}
 
 -- ## What a report says
-
-either_false : (b x y : Bool) → x ≡ false → y ≡ false → (if b then x else y) ≡ false
-either_false true x y e f = e
-either_false false x y e f = f
 
 rows_tell : (known : Known) (l : Life) (rows : List Case) → AllByRecursion (λ (row : Case). row.tells known l ≡ false) rows → first_told rows known l ≡ false
 rows_tell known l [] h = refl
@@ -41,10 +39,6 @@ none_told known l two = one_left (nat_lt 0 known.fulls || nat_lt 0 known.partial
 pub untold : (known : Known) (l : Life) → 2 ≤ l.retries → told_by_report known l ≡ false
 unfolding told_by_report
 untold known l two = rows_tell known l reports (refl, (refl, (refl, (refl, (refl, (refl, (refl, (none_told known l two, (refl, (refl, (refl, tt)))))))))))
-
-and_none : (b d : Bool) → d ≡ false → (b && d) ≡ false
-and_none true d e = e
-and_none false d e = refl
 
 -- a life with two retries doesn't run dry
 pub wet_any : (known : Known) (l : Life) → 2 ≤ l.retries → runs_dry known l ≡ false
@@ -96,15 +90,6 @@ module _ (n : ℕ) (few : n ≤ 50) where
   commanded_keeps given flush_seen looks s has = either_kept (is_some s.awaits) s (after_looks given flush_seen looks s) has (looks_keep given flush_seen looks s has)
 
 -- ## The turn
-
-either_life : (b : Bool) (s t : TrackKept) (l : Life) → s.life ≡ l → t.life ≡ l → (if b then s else t).life ≡ l
-either_life true s t l e f = e
-either_life false s t l e f = f
-
--- what is noted leaves the life
-pub ready_life : (k : Learnt) (i : ℕ) (s : TrackKept) → (ready k i s).life ≡ s.life
-unfolding settled_at
-ready_life k i s = let r : TrackKept = noted (slot_reported k s) s in let same = (noted_alike (slot_reported k s) s).life in either_life (is_reached (heard k i s).flush_seen r.awaits) _ r s.life same same
 
 able_served : (given : Option ℕ) (k : Learnt) (i : ℕ) (seen : TrackSeen) (s : TrackKept) (b : Bool) → MatchBool b (seen ≡ nothing_seen) (IsServed given (heard k i s) seen (ready k i s)) → 2 ≤ s.life.retries → seen.disabled ≡ false
 able_served given k i seen s true none two = ap (λ (x : TrackSeen). x.disabled) none

@@ -1,8 +1,8 @@
 -- A round of the middle keeps what makes each track have two retries.
-use Rattle.std.proofs.Common.{◌≡◌, ◌⊎◌, ℕ, ◌+◌, ◌^◌, ◌≤◌, ◌<◌, ◌&&◌, not, is_some, Bool, true, false, true≢false, All, Option, Some, None, length, refl, sym, ap, ◌∙◌, arith}
+use Rattle.std.proofs.Common.{◌≡◌, ◌⊎◌, ℕ, ◌+◌, ◌^◌, ◌≤◌, ◌<◌, ◌&&◌, not, is_some, Bool, true, false, true≢false, All, None, length, refl, sym, ap, ◌∙◌, arith}
 use Rattle.af_base.specs.declared.state.FastTrack.{FastTrack}
-use Rattle.af_life.specs.declared.kept.Holder.{Holder}
-use Rattle.af_life.specs.declared.kept.Holder.TheVariants.{Home, Lent, Returning}
+use Rattle.af_enough_law.proofs.Basics.{stays_home}
+use Rattle.af_judge.proofs.Basics.{not_lent}
 use Rattle.af_life.specs.declared.kept.Setting.{Setting}
 use Rattle.af_life.specs.declared.track.Life.{Life}
 use Rattle.af_life.specs.Heard.{learnt}
@@ -23,7 +23,7 @@ use Rattle.af_enough_law.specs.NormalRounds.{TurnMade}
 use Rattle.af_enough_law.proofs.CalmTracks.{CalmTurn}
 use Rattle.af_enough_law.proofs.Carrying.{lent_is}
 use Rattle.af_enough_law.proofs.CommandsGo.{commands_of, opens_after}
-use Rattle.af_enough_law.proofs.Ends.{order_turn, greeted_home}
+use Rattle.af_enough_law.proofs.Ends.{order_turn}
 use Rattle.af_enough_law.proofs.HomeKept.{HomeAble, home_able}
 use Rattle.af_enough_law.proofs.HomeSees.{home_sees}
 use Rattle.af_enough_law.proofs.HomeStill.{HasNone}
@@ -37,7 +37,7 @@ use Rattle.af_enough_law.proofs.PipeKept.{PipeKept, IsSized, room_kept}
 use Rattle.af_enough_law.proofs.SessionRounds.{turn_of, turn_runs}
 use Rattle.af_enough_law.proofs.StatesHold.{last_holds, states_hold}
 use Rattle.af_enough_law.proofs.TrackAble as can
-use Rattle.af_enough_law.proofs.TrackAble.{TrackAble, InMiddle, near_flows}
+use Rattle.af_enough_law.proofs.TrackAble.{TrackAble, InMiddle}
 use Rattle.af_enough_law.proofs.TrackCarried.{TrackCarried, able}
 use Rattle.af_enough_law.proofs.TrackGives.{home_parts}
 
@@ -51,11 +51,6 @@ two_plays count k l is (drained retries) = absurd (let z : ⊥ = omega (arith, i
 two_plays count k l is (stopped_life retries) = absurd (let z : ⊥ = omega (arith, is) in z)
 two_plays count k l is (over life e) = absurd (let z : ⊥ = omega (arith, is) in z)
 
-home_away : (h : Holder) → is_home h ≡ true → is_lent h ≡ false
-home_away Home e = refl
-home_away Lent e = absurd (true≢false (sym e))
-home_away Returning e = refl
-
 -- a draft has nothing of a track without a slot
 pub none_drafted : (m : NormalKept) (i : ℕ) → IsInOrder m → (track_at m.tracks i).slot ≡ None → HasNone i m.draft
 none_drafted m i order none j low carried same =
@@ -63,10 +58,7 @@ none_drafted m i order none j low carried same =
     let o = order.owned j low carried in
     let at = lent_carried m o.owner order.sound o.lent in
     let owner : o.owner ≡ i = sym at.1 ∙ ap (λ (n : ℕ). (slot_of m.draft n).track) o.slot_is ∙ same in
-    true≢false (sym o.lent ∙ ap (λ (n : ℕ). is_lent (track_at m.tracks n).holder) owner ∙ home_away (track_at m.tracks i).holder home)
-
-pub same_slot : (a b : ℕ) → Some a ≡ Some b → a ≡ b
-same_slot a b e = ap (λ (o : Option ℕ). elim o as (λ _. ℕ) [ None ↦ a | Some x ↦ x ]) e
+    true≢false (sym o.lent ∙ ap (λ (n : ℕ). is_lent (track_at m.tracks n).holder) owner ∙ not_lent (track_at m.tracks i).holder home)
 
 module _ (s : Session) (marks : Marks) (scales : All (λ (x : Setting). x.scale ≤ 4096) (setup_of s).settings) (long : length (setup_of s).settings ≡ track_count s) (small : s.script.normal ≤ 16) (sizes : IsSized s) (run : Run) (round : RoundSeen) (legal : LegalRound false s marks run round) (c : SessionCarried s run)
     (next : RoundSeen) (legal_next : LegalRound false s marks (after_round s run round) next) (i most total : ℕ) (named : i < track_count s) (lawful : marks.commands i ≡ true) (two : 2 ≤ (track_at run.normal.tracks i).life.retries) (pipe : plays (track_at run.normal.tracks i).life ≡ true → PipeKept s run) (some_buffer : 1 ≤ buffer_of s)
@@ -112,7 +104,7 @@ module _ (s : Session) (marks : Marks) (scales : All (λ (x : Setting). x.scale 
         (room_kept s marks scales long run round legal c sizes k) here in
         let home : is_home (track_at run.normal.tracks i).holder ≡ true = (c.stands.order.sound.slotted i).homely (ap is_some none) in
         can.home p.slot_then (last_holds s marks scales long run round legal c (HasNone i) k.some out (draft_none slot_turned))
-        (home_able s marks run round i t legal (spec_of s i).frames (spec_of s i).base kept r st (kept.met alive low) plays_on (greeted_home t.turn.ack run.normal.last (track_at run.normal.tracks i) home) alive seen m.past m.most total m.stands under some_N some_buffer few h)
+        (home_able s marks run round i t legal (spec_of s i).frames (spec_of s i).base kept r st (kept.met alive low) plays_on (stays_home t.turn.ack run.normal.last (track_at run.normal.tracks i) home) alive seen m.past m.most total m.stands under some_N some_buffer few h)
 
     -- a track that is lent goes on able
     pub lent_goes : (slot : ℕ) (item : FastTrack) (track : TrackCarried run i most total) (l : LentCarried s run i slot item) → HeardOf run i slot → LentAble run i slot → TrackAble after i

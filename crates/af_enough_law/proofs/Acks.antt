@@ -6,6 +6,7 @@ use Rattle.af_base.specs.declared.state.FastState.{FastState}
 use Rattle.af_base.specs.declared.state.Push.{Push}
 use Rattle.af_base.specs.declared.state.Push.TheVariants.{Pushed, Clean, Busy}
 use Rattle.af_base.specs.Turn.{Turn}
+use Rattle.af_enough_law.proofs.Basics.{before_normal}
 use Rattle.af_life.specs.Edits.{LegalPush}
 use Rattle.af_life.specs.Heard.{learnt}
 use Rattle.af_life.specs.Kept.{Setup, NormalKept, Learnt}
@@ -34,7 +35,6 @@ use Rattle.af_enough_law.proofs.Drafts.{after_pushes}
 use Rattle.af_enough_law.proofs.FastPolls.{turn_met}
 use Rattle.af_enough_law.proofs.FastShows.{stands-more}
 use Rattle.af_enough_law.proofs.FastSteps.{cycle_queue, observed-ones, mutated-more, mutated-ones}
-use Rattle.af_enough_law.proofs.NormalRounds.{before_normal}
 use Rattle.af_enough_law.proofs.SeenShared.{ack_seen}
 
 -- ## Acknowledgements rise

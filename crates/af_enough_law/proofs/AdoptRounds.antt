@@ -1,8 +1,11 @@
 -- The round in which the fast mixer comes to have a proxy at the latest: the last state pushed before it plays the track, which stays lent. The proxy takes part in its meeting, and from there on it is carried as one that flows.
 use Rattle.std.proofs.Common.{◌≡◌, ◌⊎◌, inl, inr, ℕ, ◌≤◌, ◌<◌, ◌==◌, unwrap_or, is_some, if◌then◌else◌, Bool, true, false, true≢false, All, Option, Some, List, [], ◌++◌, length, length-append, refl, sym, ap, ◌∙◌, subst, arith, eqb-true}
+use Rattle.af_base.proofs.Basics.{or_right, within_or_beyond}
 use Rattle.af_base.specs.declared.report.SlotReport.{SlotReport}
 use Rattle.af_base.specs.declared.state.FastState.{FastState}
 use Rattle.af_base.specs.declared.state.FastTrack.{FastTrack}
+use Rattle.af_enough_law.proofs.Basics.{state_there}
+use Rattle.af_judge.proofs.Basics.{ends_part}
 use Rattle.af_life.specs.declared.kept.Heard.{Heard}
 use Rattle.af_life.specs.declared.kept.Holder.TheVariants.{Lent}
 use Rattle.af_life.specs.declared.kept.Setting.{Setting}
@@ -13,6 +16,7 @@ use Rattle.af_life.specs.Turn.{turn_after}
 use Rattle.af_model.specs.Cycles.{state_of}
 use Rattle.af_model.specs.Journals.{RoundSeen}
 use Rattle.af_model.specs.Reports.{report_at}
+use Rattle.af_runs.proofs.Basics.{state_more}
 use Rattle.af_runs.specs.Blocks.{Marks, client_list, server_list}
 use Rattle.af_runs.specs.Rounds.{LegalRound, before_turn, after_turn, met_after, after_round}
 use Rattle.af_runs.specs.Runs.{Run, told_at, with_calls, with_cycles, report_of, takes_part, holds, load_of}
@@ -26,23 +30,19 @@ use Rattle.af_enough_law.proofs.AwayRounds.{AwayTurn}
 use Rattle.af_enough_law.proofs.Commanding.{le_cases}
 use Rattle.af_enough_law.proofs.EntryCounts.{found_within, round_high}
 use Rattle.af_enough_law.proofs.FastKnows.{knows_released}
-use Rattle.af_enough_law.proofs.FastMixes.{state_more}
 use Rattle.af_enough_law.proofs.FastPolls.{round_states, turn_more}
 use Rattle.af_enough_law.proofs.FastReports.{plays_reported}
-use Rattle.af_enough_law.proofs.FastRounds.{ends_part}
 use Rattle.af_enough_law.proofs.Following.{greeted_in, greeted_alike}
 use Rattle.af_enough_law.proofs.Foreseen.{Foreseen, part_seen}
 use Rattle.af_enough_law.proofs.Generations.{Attached, greeted_lent, greeted_same}
 use Rattle.af_enough_law.proofs.HomeRounds.{IsNamed}
 use Rattle.af_enough_law.proofs.LastStates.{round_last}
 use Rattle.af_enough_law.proofs.Lending.{IsLending, WasOpen, lent_still, busy_same, free_plays}
-use Rattle.af_enough_law.proofs.LentFlows.{state_there}
-use Rattle.af_enough_law.proofs.LentRounds.{LentCarried, holds_by, or_last, state_last, draft_item}
+use Rattle.af_enough_law.proofs.LentRounds.{LentCarried, holds_by, state_last, draft_item}
 use Rattle.af_enough_law.proofs.LentTurns.{turn_leaves}
 use Rattle.af_enough_law.proofs.MeetReports.{SaysOpenOf, NamesTrack}
 use Rattle.af_enough_law.proofs.MeetRounds.{Meeting, meets_open}
 use Rattle.af_enough_law.proofs.QueueRounds.{acks_states}
-use Rattle.af_enough_law.proofs.RestTurns.{low_or}
 use Rattle.af_enough_law.proofs.SessionRounds.{turn_of, turn_runs, states_few}
 use Rattle.af_enough_law.proofs.StreamCalm.{IsQuiet}
 use Rattle.af_enough_law.proofs.TrackGoes.{CalmStream}
@@ -108,7 +108,7 @@ module _ (s : Session) (marks : Marks) (scales : All (λ (x : Setting). x.scale 
 
   -- a state that the turn pushes plays the track
   pub pushed_plays : (k : ℕ) (x : FastState) → length run.states < k → state_of after.states k ≡ Some x → Plays slot item x
-  pushed_plays k x above is = by (low_or k (length after.states))
+  pushed_plays k x above is = by (within_or_beyond k (length after.states))
     where
       by : (k ≤ length after.states) ⊎ (length after.states < k) → Plays slot item x
       by (inr far) = absurd (true≢false (sym (ap is_some is) ∙ ap is_some (state_beyond after.states k far)))
@@ -142,7 +142,7 @@ module _ (s : Session) (marks : Marks) (scales : All (λ (x : Setting). x.scale 
       let high = round_high s run round c.stands.adopted in
       let x = state_there after.states after.current (omega (arith, low, some)) high in
       let p = states_play.1 after.current x.0 low x.1 in
-      or_last (is_home (track_at after.normal.tracks i).holder) (holds s after i) (holds_by s after i slot item x.0 l.low track_is x.1 p)
+      or_right (is_home (track_at after.normal.tracks i).holder) (holds s after i) (holds_by s after i slot item x.0 l.low track_is x.1 p)
 
   pub adopted_met : takes_part s (met_after s run round) i ≡ true
   adopted_met = sym (ends_part s (met_after s run round) i) ∙ adopted_part

@@ -2,6 +2,7 @@
 use Rattle.std.proofs.Common.{◌≡◌, ◌⊎◌, inl, inr, ℕ, zero, suc, ◌+◌, ◌-◌, ◌*◌, ◌%◌, ◌/◌, ◌^◌, ◌≤◌, ◌<◌, ◌==◌, nat_le, Bool, true, false, List, [], ◌∷◌, ◌++◌, min, fold, refl, sym, ap, ◌∙◌, subst, arith, true≢false, Some, if◌then◌else◌, bit_and}
 use Rattle.std.proofs.lemmas.List.{append-nil}
 use Rattle.std.proofs.Math.Nat.{div-add-mod, mul-mod_right, add-mod_right, mod-lt}
+use Rattle.af_base.proofs.Basics.{some_same}
 use Rattle.af_base.specs.declared.event.ClientCall.{ClientCall}
 use Rattle.af_base.specs.declared.event.ClientCall.TheVariants as call
 use Rattle.af_model.specs.Point.{wrapped}
@@ -17,7 +18,7 @@ use Rattle.af_runs.specs.Clients.{Client, begun, more, next_want, after_answer}
 use Rattle.af_runs.specs.ClientTurns.{Track, IsMade, AnswersOn, with_call, commands_sent, wanted_of, after_call, AreCalls}
 use Rattle.af_enough_law.specs.Playing.{IsWay, Doing, opening, starting, settling, setting, writing, clearing, clearing_more, stopping, draining, removing, way_ops, way_frames, IsFair, AreFair, position, SeesFrom, AllSeeFrom}
 use Rattle.af_enough_law.proofs.Doing.{at, codes_of, next_op, put_of, sent_of, sent_is, write_is, clear_is, put_least}
-use Rattle.af_enough_law.proofs.Turning.{words_of, words_append, codes_append, spoken_after, position_after, shape_after, wanted_first, some_same, client_after, none_some, Left, Came, still, call_made, turn_came}
+use Rattle.af_enough_law.proofs.Turning.{words_of, words_append, codes_append, spoken_after, position_after, shape_after, wanted_first, client_after, none_some, Left, Came, still, call_made, turn_came}
 
 -- ## Numbers
 

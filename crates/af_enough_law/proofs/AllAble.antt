@@ -2,6 +2,7 @@
 use Rattle.std.proofs.Common.{◌≡◌, ◌⊎◌, inl, inr, ℕ, zero, suc, ◌+◌, ◌^◌, ◌≤◌, ◌<◌, if◌then◌else◌, is_some, Bool, true, false, true≢false, All, Option, Some, None, List, length, refl, sym, ap, ◌∙◌, subst, arith}
 use Rattle.std.proofs.lemmas.List.{length-map}
 use Rattle.std.proofs.lemmas.List.Elements.{All-get_or}
+use Rattle.af_base.proofs.Basics.{same_slot}
 use Rattle.af_base.specs.declared.frame.Frame.{Frame}
 use Rattle.af_life.specs.declared.kept.Setting.{Setting}
 use Rattle.af_life.specs.declared.track.Life.{Life}
@@ -20,7 +21,7 @@ use Rattle.af_judge.proofs.StatesRuns.{scales_of}
 use Rattle.af_enough_law.specs.Courses.{course, told_words}
 use Rattle.af_enough_law.specs.Nearing.{buffer_of}
 use Rattle.af_enough_law.specs.NormalRounds.{TurnMade}
-use Rattle.af_enough_law.proofs.AbleKept.{home_goes, lent_goes, same_slot}
+use Rattle.af_enough_law.proofs.AbleKept.{home_goes, lent_goes}
 use Rattle.af_enough_law.proofs.Carrying.{TrackIs, slotless, lent, stopped, gone_over, track_on}
 use Rattle.af_enough_law.proofs.CourseGoes.{CourseGone}
 use Rattle.af_enough_law.proofs.Following.{greeted_in}

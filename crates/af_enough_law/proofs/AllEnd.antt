@@ -2,9 +2,9 @@
 use Rattle.std.proofs.Common.{◌≡◌, ℕ, zero, suc, ◌+◌, ◌<◌, ◌≤◌, ◌==◌, ◌&&◌, nat_lt, if◌then◌else◌, Bool, true, false, List, [], ◌∷◌, length, refl, sym, ap, ◌∙◌, arith}
 use Rattle.std.specs.List.{range_with_len, list_all}
 use Rattle.std.proofs.lemmas.Bool.Decides.{nat_tests}
+use Rattle.af_judge.proofs.Basics.{told_each}
 use Rattle.af_life.specs.Kept.{NormalKept}
 use Rattle.af_model.specs.Journals.{RoundSeen}
-use Rattle.af_judge.proofs.EachTrack.{told_each}
 use Rattle.af_judge.proofs.StatesRuns.{ends_same}
 use Rattle.af_runs.specs.Clients.{ends}
 use Rattle.af_runs.specs.LegalRuns.{run_from}

@@ -1,9 +1,11 @@
 -- A client that flushes nothing sends no command but a STOP with an argument.
-use Rattle.std.proofs.Common.{◌≡◌, ℕ, ◌-◌, ◌==◌, ◌&&◌, ◌||◌, Bool, true, false, true≢false, List, [], ◌∷◌, ◌++◌, fold, refl, sym, ap, ◌∙◌}
+use Rattle.std.proofs.Common.{◌≡◌, ℕ, ◌-◌, ◌==◌, ◌&&◌, ◌||◌, Bool, true, false, List, [], ◌∷◌, ◌++◌, fold, refl, sym, ap, ◌∙◌}
+use Rattle.af_base.proofs.Basics.{both_true, no}
 use Rattle.af_base.specs.declared.event.ClientCall.{ClientCall}
 use Rattle.af_base.specs.declared.event.ClientCall.TheVariants as call
+use Rattle.af_model.proofs.Basics.{both_first}
 use Rattle.af_model.specs.History.{flushes_of}
-use Rattle.af_model.proofs.Logic.{both_left, both_right, both_are}
+use Rattle.af_model.proofs.Logic.{both_right}
 use Rattle.af_runs.specs.Clients.{code_of}
 use Rattle.af_runs.specs.ClientTurns.{Track, IsWanted, argument_of, after_call, AreCalls}
 use Rattle.af_runs.specs.declared.want.ClientCommand.{ClientCommand}
@@ -27,10 +29,7 @@ all_argued (one ∷ sent) = is_argued one && all_argued sent
 
 argued_join : (xs ys : List (ℕ × ℕ)) → all_argued xs ≡ true → all_argued ys ≡ true → all_argued (xs ++ ys) ≡ true
 argued_join [] ys a b = b
-argued_join (x ∷ xs) ys a b = both_are (is_argued x) (all_argued (xs ++ ys)) (both_left (is_argued x) (all_argued xs) a) (argued_join xs ys (both_right (is_argued x) (all_argued xs) a) b)
-
-no : {A : Type 0} → false ≡ true → A
-no e = absurd (true≢false (sym e))
+argued_join (x ∷ xs) ys a b = both_true (is_argued x) (all_argued (xs ++ ys)) (both_first (is_argued x) (all_argued xs) a) (argued_join xs ys (both_right (is_argued x) (all_argued xs) a) b)
 
 -- the commands that a client sent are such
 pub record AreArgued (t : Track) : Type 0 where
@@ -47,7 +46,7 @@ without code argument c n h none = by (code == 4) (argument == 0) (ap (λ (m : �
     by false false e = no e
 
 stops : (code argument n : ℕ) → ((code == 4) && (argument == n)) ≡ true → all_argued ((code, argument) ∷ []) ≡ true
-stops code argument n h = by (code == 4) (argument == 0) (both_left (code == 4) (argument == n) h)
+stops code argument n h = by (code == 4) (argument == 0) (both_first (code == 4) (argument == n) h)
   where
     by : (a b : Bool) → a ≡ true → ((a || b) && true) ≡ true
     by true b e = refl

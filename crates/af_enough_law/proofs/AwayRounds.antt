@@ -5,6 +5,7 @@ use Rattle.af_base.specs.declared.event.ClientEvent.TheVariants as client
 use Rattle.af_base.specs.declared.event.ServerEvent.{ServerEvent}
 use Rattle.af_base.specs.declared.event.ServerEvent.TheVariants as server
 use Rattle.af_base.specs.Turn.{Turn}
+use Rattle.af_enough_law.proofs.Basics.{taken-append}
 use Rattle.af_life.specs.Kept.{track_at, track_in}
 use Rattle.af_model.specs.declared.shape.Shape.{Shape}
 use Rattle.af_model.specs.Journals.{RoundSeen}
@@ -27,7 +28,6 @@ use Rattle.af_enough_law.proofs.HandCalm.{round_hands}
 use Rattle.af_enough_law.proofs.HomeRounds.{keeps_of}
 use Rattle.af_enough_law.proofs.RunStreams.{Grows, grows_no, grows_on, round_grows}
 use Rattle.af_enough_law.proofs.RunTracks.{round_blocks}
-use Rattle.af_enough_law.proofs.SeenBlocks.{frames_taken-append}
 use Rattle.af_enough_law.proofs.SentCourse.{sent_course}
 use Rattle.af_enough_law.proofs.StreamCalm.{IsQuiet}
 use Rattle.af_enough_law.proofs.TrackCarried.{TrackCarried}
@@ -221,7 +221,7 @@ remains_first run i most total c = record {
 pub renewed : (s : Session) (run : Run) (round : RoundSeen) (i most total : ℕ) → i < length run.tracks → takes_part s (met_after s run round) i ≡ true → (c : AwayTrack (after_round s run round) i most total) → (fresh : TrackCarried (after_round s run round) i most total) × (fresh.on ≡ c.on)
 renewed s run round i most total low part c =
     let lists = stream_lists s run round i low part in
-    let taken = frames_taken-append lists.did (server.Learn lists.count ∷ []) in
+    let taken = taken-append lists.did (server.Learn lists.count ∷ []) in
     let whole = ap frames_taken lists.server in (
       record {
         known_stream = lists.did;

@@ -3,6 +3,7 @@ use Rattle.std.proofs.Common.{◌≡◌, ℕ, ◌+◌, ◌≤◌, Bool, true, fa
 use Rattle.af_base.specs.declared.event.ClientEvent.{ClientEvent}
 use Rattle.af_base.specs.declared.event.ClientEvent.TheVariants as client
 use Rattle.af_base.specs.declared.event.ServerEvent.{ServerEvent}
+use Rattle.af_enough_law.proofs.Basics.{put-append, taken-append}
 use Rattle.af_life.specs.Kept.{track_in}
 use Rattle.af_model.specs.declared.shape.Shape.{Shape}
 use Rattle.af_model.specs.ClientCalls.{client_kept}
@@ -22,7 +23,7 @@ use Rattle.af_enough_law.specs.Seen.{frames_put, frames_taken}
 use Rattle.af_enough_law.proofs.CalmTracks.{CalmTrack, CalmTurn, stream_lists, stream_quiet, hands_calm, spelled_then, pokeless_then, flushless_then}
 use Rattle.af_enough_law.proofs.Fair.{position_is, calm_drops}
 use Rattle.af_enough_law.proofs.FairTurns.{stream_grows}
-use Rattle.af_enough_law.proofs.FastShows.{Setting, put-append}
+use Rattle.af_enough_law.proofs.FastShows.{Setting}
 use Rattle.af_enough_law.proofs.Flushless.{unflushed_none}
 use Rattle.af_enough_law.proofs.RunStreams.{round_grows}
 use Rattle.af_enough_law.proofs.RunTracks.{round_blocks}
@@ -36,10 +37,6 @@ pub record BlockNumbers (s : Session) (run : Run) (round : RoundSeen) (i : ℕ) 
   pub takes : frames_taken (server_list (told_at run i).stream) ≤ frames_taken (server_list (told_at (after_round s run round) i).stream)
   pub within : frames_taken (server_list (told_at (after_round s run round) i).stream) ≤ frames_put (client_list (told_at (after_round s run round) i).stream)
   pub fits : frames_put (client_list (told_at (after_round s run round) i).stream) ≤ frames_taken (server_list (told_at (after_round s run round) i).stream) + (told_at run i).stream.shape.frames
-
-taken-append : (xs ys : List ServerEvent) → frames_taken (xs ++ ys) ≡ frames_taken xs + frames_taken ys
-taken-append [] ys = omega arith
-taken-append (x ∷ xs) ys = let rest = taken-append xs ys in omega arith
 
 module _ (cut : Bool) (s : Session) (marks : Marks) (run : Run) (round : RoundSeen) (i : ℕ) (t : TurnMade s marks run round) (turn : CalmTurn s marks run round i t) (legal : LegalRound cut s marks run round)
     (known_stream known_commands : List ServerEvent) (calm : CalmTrack run i known_stream known_commands) (able : (track_in t.turn i).disabled ≡ false) where

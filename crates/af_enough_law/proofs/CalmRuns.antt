@@ -4,9 +4,9 @@ use Rattle.std.proofs.lemmas.List.Elements.{All-get_or}
 use Rattle.af_base.specs.declared.event.ClientCall.{ClientCall}
 use Rattle.af_base.specs.declared.event.ServerEvent.{ServerEvent}
 use Rattle.af_base.specs.declared.frame.Frame.{Frame}
+use Rattle.af_judge.proofs.Basics.{new_at}
 use Rattle.af_life.specs.Kept.{track_in}
 use Rattle.af_model.specs.ClientCalls as list
-use Rattle.af_model.specs.ClientCalls.{client_kept, client_keeps, client_begins}
 use Rattle.af_model.specs.Journals.{RoundSeen}
 use Rattle.af_script.specs.Data.{ScriptData}
 use Rattle.af_script.specs.Form.{IsTrack, IsScript}
@@ -25,7 +25,7 @@ use Rattle.af_enough_law.specs.FastFlows.{IsOpen}
 use Rattle.af_enough_law.proofs.CalmTracks.{CalmTrack, CalmTurn, calm_round, calm_then, known_stream_then, known_commands_then}
 use Rattle.af_enough_law.proofs.ClientRounds.{fair_round}
 use Rattle.af_enough_law.proofs.FlushlessRuns.{begins_flushless}
-use Rattle.af_enough_law.proofs.RunBegins.{begins_pokeless, new_at}
+use Rattle.af_enough_law.proofs.RunBegins.{begins_pokeless}
 use Rattle.af_enough_law.proofs.StreamCalm.{IsQuiet}
 use Rattle.af_enough_law.proofs.Turning.{Stands, on, gone_for_good}
 

@@ -6,6 +6,7 @@ use Rattle.af_base.specs.declared.event.ClientEvent.TheVariants as client
 use Rattle.af_base.specs.declared.event.ServerEvent.{ServerEvent}
 use Rattle.af_base.specs.declared.event.ServerEvent.TheVariants as server
 use Rattle.af_base.specs.Turn.{Turn}
+use Rattle.af_enough_law.proofs.Basics.{part_met, put-append, taken-append}
 use Rattle.af_life.specs.Heard.{learnt, heard}
 use Rattle.af_life.specs.Kept.{NormalKept, track_in}
 use Rattle.af_life.specs.Looks.{words_taken}
@@ -17,7 +18,7 @@ use Rattle.af_runs.specs.Blocks.{BlockTold, Marks, client_list, server_list, han
 use Rattle.af_runs.specs.ClientTurns.{Track, after_call}
 use Rattle.af_runs.specs.Found.{TurnFound}
 use Rattle.af_runs.specs.Rounds.{LegalRound, found_in, all_played, met_after, after_round}
-use Rattle.af_runs.specs.Runs.{Run, TrackTold, told_at, sides_of, called, calls_in, met, stream_met, takes_part}
+use Rattle.af_runs.specs.Runs.{Run, TrackTold, told_at, sides_of, called, calls_in, stream_met, takes_part}
 use Rattle.af_runs.specs.Sessions.{Session, track_count}
 use Rattle.af_judge.specs.Tracks.{AreSpelled, IsSpelled}
 use Rattle.af_judge.proofs.TracksTold.{shapes_called}
@@ -31,7 +32,7 @@ use Rattle.af_enough_law.proofs.ClientRounds.{CalmRound}
 use Rattle.af_enough_law.proofs.CommandCalm.{commands_calm}
 use Rattle.af_enough_law.proofs.CommandRounds.{commands_told, commands_open, words_follow, words_begin}
 use Rattle.af_enough_law.proofs.FairTurns.{IsKnown, stream_grows, words_counted}
-use Rattle.af_enough_law.proofs.FastShows.{Setting, taken-append}
+use Rattle.af_enough_law.proofs.FastShows.{Setting}
 use Rattle.af_enough_law.proofs.Flushless.{IsFlushlessTrack, unflushed_none}
 use Rattle.af_enough_law.proofs.Following.{greeted_in}
 use Rattle.af_enough_law.proofs.HandCalm.{round_hands}
@@ -42,7 +43,6 @@ use Rattle.af_enough_law.proofs.RunLists.{side_lists, command_lists}
 use Rattle.af_enough_law.proofs.RunStreams.{round_grows}
 use Rattle.af_enough_law.proofs.RunTame.{played_client_list, round_pokeless}
 use Rattle.af_enough_law.proofs.RunTracks.{commands_by, played_track, round_blocks, round_commands, met_track}
-use Rattle.af_enough_law.proofs.SeenBlocks.{frames_put-append}
 use Rattle.af_enough_law.proofs.StreamCalm.{IsQuiet}
 
 -- ## What is carried from round to round
@@ -78,10 +78,6 @@ pub record CalmTurn (s : Session) (marks : Marks) (run : Run) (round : RoundSeen
   pub unshut : (greeted_in run.normal t.turn i).life.ended ≡ false → (heard (learnt t.by.outside) i (greeted_in run.normal t.turn i)).known.shut ≡ false
 
 -- ## The lists of a stream block after a round
-
-part_met : (s : Session) (run : Run) (i : ℕ) → takes_part s (met s run) i ≡ takes_part s run i
-unfolding met
-part_met s run i = refl
 
 tail_lists : (there hands : Bool) (b : BlockTold) → there ≡ true → (client_list (stream_met there hands b) ≡ client_list b ++ client.Learn (length (server_list b)) ∷ []) × (server_list (stream_met there hands b) ≡ server_list b ++ server.Learn (length (client_list b)) ∷ [])
 tail_lists true true b h = (refl, refl)
@@ -262,7 +258,7 @@ module _ (cut : Bool) (s : Session) (marks : Marks) (run : Run) (round : RoundSe
       let said = (fold after_call (sides_of (told_at run i)) (calls_in round i)).commands.events in
       let commands_is : client_list u.commands ≡ said ++ client.Learn (length commands.did) ∷ [] = commands.client ∙ ap (λ (es : List ClientEvent). es ++ client.Learn (length commands.did) ∷ []) commands.said_is in
       let counted = words_fold (sides_of (told_at run i)) (calls_in round i) fair calm.words in
-      let put = frames_put-append said (client.Learn (length commands.did) ∷ []) in
+      let put = put-append said (client.Learn (length commands.did) ∷ []) in
       let listed : frames_put (client_list u.commands) ≡ frames_put (said ++ client.Learn (length commands.did) ∷ []) = ap frames_put commands_is in
       let released = ap length (round_released s run round i turn.low) in
       record {

@@ -1,13 +1,14 @@
 -- What is carried of the session and of each track holds before the first round, but for what the mixers learn at a meeting.
-use Rattle.std.proofs.Common.{◌≡◌, ℕ, zero, suc, ◌+◌, ◌<◌, is_some, true, true≢false, Some, List, [], ◌∷◌, length, refl, sym, ap, ◌∙◌, subst, arith}
+use Rattle.std.proofs.Common.{◌≡◌, ℕ, ◌+◌, ◌<◌, true, true≢false, List, [], ◌∷◌, length, refl, sym, ap, ◌∙◌, subst, arith}
 use Rattle.std.proofs.lemmas.List.{length-map}
 use Rattle.std.proofs.lemmas.List.{length-replicate}
 use Rattle.af_base.specs.declared.frame.Frame.{Frame}
-use Rattle.af_base.specs.declared.state.FastState.{FastState}
+use Rattle.af_enough_law.proofs.Basics.{none_exit}
+use Rattle.af_judge.proofs.Basics.{new_at, new_long}
+use Rattle.af_life.proofs.Basics.{at_new}
 use Rattle.af_life.specs.declared.kept.TrackKept.{TrackKept}
 use Rattle.af_life.specs.Kept.{track_at, new_track}
 use Rattle.af_life.specs.Serves.{status_word}
-use Rattle.af_model.specs.Cycles.{state_of}
 use Rattle.af_script.specs.Data.{ScriptData}
 use Rattle.af_script.specs.Form.{IsScript}
 use Rattle.af_runs.specs.Blocks.{server_list}
@@ -17,12 +18,12 @@ use Rattle.af_runs.specs.declared.want.Mode.TheVariants as mode
 use Rattle.af_runs.specs.declared.want.Want.TheVariants as want
 use Rattle.af_runs.specs.Clients.{begun}
 use Rattle.af_runs.specs.LegalRuns.{session_of}
-use Rattle.af_runs.specs.Runs.{Run, new_run, told_at, sides_of}
+use Rattle.af_runs.specs.Runs.{new_run, told_at, sides_of}
 use Rattle.af_runs.specs.Runs as runs
 use Rattle.af_runs.specs.Sessions.{Session, spec_of, track_count, setup_of, spec_setting, cycle_frames}
 use Rattle.af_enough.specs.Enough.{all_play_through}
 use Rattle.af_judge.proofs.DraftBits.{initial_none}
-use Rattle.af_judge.proofs.SoundTurns.{at_new, sound_new}
+use Rattle.af_judge.proofs.SoundTurns.{sound_new}
 use Rattle.af_enough_law.specs.Carried.{SessionStands}
 use Rattle.af_enough_law.specs.Courses.{absent, Follows}
 use Rattle.af_enough_law.specs.Seen.{last_status, frames_taken}
@@ -35,7 +36,7 @@ use Rattle.af_enough_law.proofs.FastLoads.{new_reports}
 use Rattle.af_enough_law.proofs.Items.{items_new}
 use Rattle.af_enough_law.proofs.LastStates.{new_last}
 use Rattle.af_enough_law.proofs.QueueRounds.{new_stands}
-use Rattle.af_enough_law.proofs.RunBegins.{Plays, track_plays, first_doing, new_at, new_long}
+use Rattle.af_enough_law.proofs.RunBegins.{Plays, track_plays, first_doing}
 use Rattle.af_enough_law.specs.Playing.{position, way_ops, way_frames}
 use Rattle.af_enough_law.proofs.TrackCarried.{TrackCarried}
 use Rattle.af_enough_law.proofs.Turning.{on}
@@ -43,10 +44,6 @@ use Rattle.af_enough_law.proofs.Turning.{on}
 -- a session has as many settings as tracks
 pub settings_long : (s : Session) → length (setup_of s).settings ≡ track_count s
 settings_long s = length-map s.script.tracks spec_setting
-
-none_exit : (k : ℕ) (x : FastState) → state_of [] k ≡ Some x → ⊥
-none_exit zero x is = true≢false (sym (ap is_some is))
-none_exit (suc k) x is = true≢false (sym (ap is_some is))
 
 -- the session before the first round
 pub begins_session : (s : Session) → SessionStands s (new_run s)

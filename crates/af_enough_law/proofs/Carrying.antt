@@ -1,5 +1,6 @@
 -- What is carried of a run whose tracks play through: of the session, and of each track without a slot, lent, stopped or over. A legal round keeps it, while not all is over.
-use Rattle.std.proofs.Common.{◌≡◌, ◌⊎◌, inl, inr, ℕ, ◌+◌, ◌≤◌, ◌<◌, ◌==◌, Bool, true, false, true≢false, All, Some, None, List, [], ◌∷◌, ◌++◌, length, refl, sym, ap, ◌∙◌, arith}
+use Rattle.std.proofs.Common.{◌≡◌, ◌⊎◌, inl, inr, ℕ, ◌+◌, ◌≤◌, ◌<◌, Bool, true, false, true≢false, All, Some, None, List, [], ◌∷◌, ◌++◌, length, refl, sym, ap, ◌∙◌, arith}
+use Rattle.af_base.proofs.Basics.{not_zero}
 use Rattle.af_base.specs.declared.state.FastTrack.{FastTrack}
 use Rattle.af_base.specs.Log.{slots}
 use Rattle.af_life.specs.declared.kept.Holder.{Holder}
@@ -51,9 +52,6 @@ pub data TrackIs (s : Session) (run : Run) (i most total : ℕ) : Type 0 where
 pub record Carried (s : Session) (run : Run) (most total : ℕ → ℕ) : Type 0 where
   pub session : SessionCarried s run
   pub tracks : (i : ℕ) → i < track_count s → TrackIs s run i (most i) (total i)
-
-not_zero : (n : ℕ) → 1 ≤ n → (n == 0) ≡ false
-not_zero n some = search (arith, some)
 
 pub lent_is : (h : Holder) → is_lent h ≡ true → h ≡ Lent
 lent_is Home e = absurd (true≢false (sym e))

@@ -1,22 +1,18 @@
 -- A legal round after which the normal mixer goes on leaves the client of a track that plays through on its way.
-use Rattle.std.proofs.Common.{◌≡◌, ℕ, zero, suc, ◌&&◌, ◌||◌, ◌<◌, Bool, true, false, true≢false, List, [], ◌∷◌, ◌++◌, length, fold, refl, sym, ap, ◌∙◌, subst, arith, if◌then◌else◌, ◌==◌, MatchBool}
+use Rattle.std.proofs.Common.{◌≡◌, ℕ, ◌&&◌, ◌||◌, ◌<◌, Bool, true, false, true≢false, List, [], ◌∷◌, ◌++◌, length, fold, refl, sym, ap, ◌∙◌, subst, arith, if◌then◌else◌, ◌==◌, MatchBool}
 use Rattle.std.proofs.lemmas.Grind.{fold-append}
 use Rattle.af_base.specs.declared.event.ClientCall.{ClientCall}
 use Rattle.af_base.specs.declared.event.ClientEvent.{ClientEvent}
 use Rattle.af_base.specs.declared.event.ClientEvent.TheVariants as client
 use Rattle.af_base.specs.declared.event.ServerEvent.{ServerEvent}
-use Rattle.af_base.specs.Command.{code_of}
-use Rattle.af_base.specs.declared.state.Command.{Command}
-use Rattle.af_base.specs.declared.state.Push.{Push}
-use Rattle.af_base.specs.declared.state.Push.TheVariants.{Pushed, Clean, Busy}
 use Rattle.af_base.specs.Turn.{Turn}
-use Rattle.af_life.specs.Edits.{after_ack, is_exit, must_leave, must_enter, let_go, lend, edited, edited_to, next_command, ordered, mutated, after_push}
+use Rattle.af_enough_law.proofs.Basics.{ack_ended, edits_ended, ordered_ended, push_ended}
+use Rattle.af_life.specs.Edits.{after_ack, is_exit, edited_to, next_command, mutated, after_push}
 use Rattle.af_life.specs.Heard.{learnt}
-use Rattle.af_life.specs.Kept.{Setup, pipe_size, NormalKept, Learnt, track_at, track_in}
+use Rattle.af_life.specs.Kept.{Setup, pipe_size, NormalKept, Learnt, track_in}
 use Rattle.af_life.specs.Plays.{after_takes}
 use Rattle.af_life.specs.Turn.{after_tracks, after_edits, turn_after}
 use Rattle.af_model.specs.declared.shape.Shape.{Shape}
-use Rattle.af_model.specs.Draft.{commanded as with_command}
 use Rattle.af_model.specs.ClientCalls.{ClientKept, client_kept, client_keeps, client_begins}
 use Rattle.af_model.specs.Journals.{RoundSeen}
 use Rattle.af_runs.specs.Blocks.{Marks}
@@ -54,42 +50,11 @@ pub client_after : (s : Session) (run : Run) (round : RoundSeen) (i : ℕ) → i
 client_after s run round i low going =
     ap (λ (r : Run). (told_at r i).client) (still_met (met_after s run round) going) ∙ ap (λ (t : TrackTold). t.client) (met_track s run round i low) ∙ played_client s run round i (told_at run i)
 
--- a legal turn that goes on leaves a mixer that has not ended
-edit_ended : (c : Setup) (k : Learnt) (i : ℕ) (m : NormalKept) → (edited c k i m).ended ≡ m.ended
-unfolding edited let_go lend
-edit_ended c k i m = by (must_leave (track_at m.tracks i)) (must_enter (track_at m.tracks i))
-  where
-    by : (b d : Bool) → (if b then let_go i m else if d then lend c i (k.own i) m else m).ended ≡ m.ended
-    by true d = refl
-    by false true = refl
-    by false false = refl
-
-edits_ended : (c : Setup) (k : Learnt) (m : NormalKept) (n : ℕ) → (edited_to c k m n).ended ≡ m.ended
-edits_ended c k m zero = refl
-edits_ended c k m (suc n) = edit_ended c k n (edited_to c k m n) ∙ edits_ended c k m n
-
-ordered_ended : (command : Command) (m : NormalKept) → (ordered command m).ended ≡ m.ended
-unfolding ordered
-ordered_ended command m = by (code_of command == code_of m.draft.command)
-  where
-    by : (b : Bool) → (if b then m else record m { draft = with_command command m.draft; dirty = true }).ended ≡ m.ended
-    by true = refl
-    by false = refl
-
-ack_ended : (ack : Bool) (m : NormalKept) → (after_ack ack m).ended ≡ m.ended
-ack_ended true m = refl
-ack_ended false m = refl
-
 edits_going : (c : Setup) (k : Learnt) (e : Turn) (m : NormalKept) → (after_edits c k e m).ended ≡ m.ended
 unfolding mutated
 edits_going c k e m = let x : NormalKept = after_tracks c k e (after_ack e.ack m) in
     ordered_ended (next_command (is_exit (edited_to c k x (length x.tracks)).draft) (edited_to c k x (length x.tracks)).tracks e.room (pipe_size c)) (edited_to c k x (length x.tracks))
     ∙ edits_ended c k x (length x.tracks) ∙ ack_ended e.ack m
-
-push_ended : (push : Push) (m : NormalKept) → (after_push push m).ended ≡ m.ended
-push_ended (Pushed number) m = refl
-push_ended Clean m = refl
-push_ended (Busy seen expected) m = refl
 
 turn_going : (c : Setup) (k : Learnt) (m : NormalKept) (e : Turn) → e.ended ≡ false → m.ended ≡ false → (turn_after c k m e).ended ≡ false
 unfolding turn_after

@@ -3,6 +3,7 @@ use Rattle.std.proofs.Common.{◌≡◌, ℕ, suc, ◌+◌, ◌^◌, ◌≤◌, 
 use Rattle.af_base.specs.declared.event.ClientEvent.{ClientEvent}
 use Rattle.af_base.specs.declared.event.ClientEvent.TheVariants as client
 use Rattle.af_base.specs.declared.event.ServerEvent.{ServerEvent}
+use Rattle.af_judge.proofs.Basics.{begins_ended}
 use Rattle.af_model.specs.ClientCalls as list
 use Rattle.af_model.specs.Journals.{RoundSeen}
 use Rattle.af_script.specs.declared.op.Op.{Op}
@@ -27,7 +28,7 @@ use Rattle.af_enough_law.proofs.Pokeless.{IsPokelessTrack}
 use Rattle.af_enough_law.proofs.RunLists.{side_lists, command_lists, command_history}
 use Rattle.af_enough_law.proofs.RunTame.{played_client_list, round_pokeless}
 use Rattle.af_enough_law.proofs.RunTracks.{played_track, round_blocks, met_track}
-use Rattle.af_enough_law.proofs.Turning.{Left, Stands, begins_ended, turn_stands}
+use Rattle.af_enough_law.proofs.Turning.{Left, Stands, turn_stands}
 
 -- in a meeting in which the server takes part the client learns how much it did
 tail_met : (there hands : Bool) (b : BlockTold) → there ≡ true → client_list (stream_met there hands b) ≡ client_list b ++ client.Learn (length (server_list b)) ∷ []

@@ -1,5 +1,6 @@
 -- A legal round leaves the server of a command block calm, if no look finds it shut and the stream isn't heard to be.
 use Rattle.std.proofs.Common.{◌≡◌, ℕ, ◌+◌, ◌*◌, ◌%◌, ◌<◌, ◌==◌, ◌&&◌, ◌||◌, not, if◌then◌else◌, Bool, true, false, true≢false, Option, Some, None, MatchBool, is_some, List, [], ◌∷◌, ◌++◌, length, refl, sym, ap, ◌∙◌, arith}
+use Rattle.af_base.proofs.Basics.{both_true}
 use Rattle.af_base.specs.declared.event.ServerEvent.{ServerEvent}
 use Rattle.af_base.specs.declared.event.ServerEvent.TheVariants as server
 use Rattle.af_base.specs.declared.seen.Seen.{Seen}
@@ -19,11 +20,12 @@ use Rattle.af_life.specs.Serves.{status_word, is_found_shut, stored_over, status
 use Rattle.af_life.specs.State.{code_of}
 use Rattle.af_life.specs.TurnEvents.{tracks_at, invalid, status_events, command_events_of, command_list}
 use Rattle.af_life.proofs.Lives.{acked_len, not_yet}
+use Rattle.af_model.proofs.Basics.{both_first}
 use Rattle.af_model.specs.Cycles.{Listed, kept}
 use Rattle.af_model.specs.Fates.{keeps_all, drops_none}
 use Rattle.af_model.specs.Journals.{RoundSeen}
 use Rattle.af_model.specs.ServerCalls.{look_events, drops_of}
-use Rattle.af_model.proofs.Logic.{both_left, both_right, both_are}
+use Rattle.af_model.proofs.Logic.{both_right}
 use Rattle.af_runs.specs.Blocks.{Marks, server_list}
 use Rattle.af_runs.specs.Clients.{state_in}
 use Rattle.af_runs.specs.Found.{outside_of}
@@ -44,7 +46,7 @@ use Rattle.af_enough_law.proofs.StreamCalm.{calm_join}
 
 drops_split : (xs ys : List ServerEvent) → drops_none (xs ++ ys) ≡ true → (drops_none xs ≡ true) × (drops_none ys ≡ true)
 drops_split [] ys h = (refl, h)
-drops_split (x ∷ xs) ys h = let rest = drops_split xs ys (both_right (keeps_all x) (drops_none (xs ++ ys)) h) in (both_are (keeps_all x) (drops_none xs) (both_left (keeps_all x) (drops_none (xs ++ ys)) h) rest.0, rest.1)
+drops_split (x ∷ xs) ys h = let rest = drops_split xs ys (both_right (keeps_all x) (drops_none (xs ++ ys)) h) in (both_true (keeps_all x) (drops_none xs) (both_first (keeps_all x) (drops_none (xs ++ ys)) h) rest.0, rest.1)
 
 -- events that are calm if they drop nothing
 abbrev CalmUndropped : List ServerEvent → Type 0
@@ -107,7 +109,7 @@ stored_calm last word calm = by (word == last)
   where
     by : (b : Bool) → are_calm (status_events (if b then None else Some word)) ≡ true
     by true = refl
-    by false = both_are (not (state_in word == 15)) true calm refl
+    by false = both_true (not (state_in word == 15)) true calm refl
 
 track_status_calm : (given : Option ℕ) (h : Heard) (seen : TrackSeen) (s r : TrackKept) (b : Bool) → s.life.ended ≡ b → MatchBool b (seen ≡ nothing_seen) (IsServed given h seen r) → none_shut seen.looks ≡ true → (b ≡ false → h.known.shut ≡ false)
     → are_calm (status_events seen.status) ≡ true

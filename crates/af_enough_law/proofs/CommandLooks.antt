@@ -1,12 +1,14 @@
 -- What the looks of a turn take of a command block.
-use Rattle.std.proofs.Common.{◌≡◌, ℕ, zero, suc, ◌+◌, ◌-◌, ◌≤◌, ◌==◌, ◌&&◌, ◌||◌, not, nat_lt, min, if◌then◌else◌, is_some, Bool, true, false, true≢false, Option, Some, None, List, [], ◌∷◌, ◌++◌, length, take, fold, MatchOption, refl, sym, ap, ◌∙◌, subst, arith, append_assoc, append-nil, eqb-true, eq-eqb}
+use Rattle.std.proofs.Common.{◌≡◌, ℕ, zero, suc, ◌+◌, ◌-◌, ◌≤◌, ◌==◌, ◌&&◌, not, nat_lt, min, if◌then◌else◌, is_some, Bool, true, false, true≢false, Option, Some, None, List, [], ◌∷◌, ◌++◌, length, take, fold, MatchOption, refl, sym, ap, ◌∙◌, subst, arith, append_assoc, append-nil, eqb-true, eq-eqb}
 use Rattle.std.proofs.lemmas.Grind.{fold-append}
+use Rattle.af_base.proofs.Basics.{either_none, is_not_below}
 use Rattle.af_base.specs.declared.event.ClientEvent.{ClientEvent}
 use Rattle.af_base.specs.declared.event.ServerEvent.{ServerEvent}
 use Rattle.af_base.specs.declared.event.ServerEvent.TheVariants as server
 use Rattle.af_base.specs.declared.seen.Seen.{Seen}
 use Rattle.af_base.specs.declared.seen.Seen.TheVariants as seen
 use Rattle.af_base.specs.declared.turn.CommandLook.{CommandLook}
+use Rattle.af_enough_law.proofs.Basics.{old_word, put-append, taken-append}
 use Rattle.af_life.specs.Looks.{as_slot, command_events, takes_command, did, all_command_events, LegalLooks, words_taken}
 use Rattle.af_life.specs.Obeys.{shows_command, is_shut}
 use Rattle.af_model.specs.declared.shape.Shape.{Shape}
@@ -14,11 +16,11 @@ use Rattle.af_model.specs.Cycles.{Listed, LooksBy, kept}
 use Rattle.af_model.specs.Fates.{drops_none}
 use Rattle.af_model.specs.Point.{wrapped}
 use Rattle.af_model.specs.Room.{ahead, outside}
-use Rattle.af_model.specs.ServerCalls.{ServerKept, is_noticed, dropped_by, server_keeps, server_begins, server_kept, look_at, look_events, drops_of}
-use Rattle.af_model.proofs.Logic.{nat_lt-no, ahead-between}
+use Rattle.af_model.specs.ServerCalls.{ServerKept, is_noticed, server_keeps, server_begins, server_kept, look_at, look_events, drops_of}
+use Rattle.af_model.proofs.Logic.{ahead-between}
 use Rattle.af_enough_law.specs.Courses.{none_shut, is_ended}
 use Rattle.af_enough_law.specs.Seen.{Stands, frames_put, frames_taken}
-use Rattle.af_enough_law.proofs.FastShows.{Setting, setting_moment, Words, put-append, taken-append, none-append, stands-more, put-front}
+use Rattle.af_enough_law.proofs.FastShows.{Setting, setting_moment, Words, none-append, stands-more, put-front}
 
 -- ## The words of a look
 
@@ -54,11 +56,6 @@ words_at k cs all before flush rear front behind h whole none =
 
 -- ## The answer
 
-old_word : (k : Shape) (kept asked flush rear front : ℕ) → flush ≡ kept
-    → look_at k kept asked flush rear front ≡ (if nat_lt k.frames (ahead front rear) then seen.Shut front rear else if rear == front then seen.Empty else seen.Frames (min asked (ahead front rear)))
-old_word k kept asked flush rear front same =
-    ap (λ (b : Bool). if not b && (k.wrap == 0 || not (nat_lt k.frames (ahead front rear))) then seen.Flushed (dropped_by k.wrap flush rear front) else if nat_lt k.frames (ahead front rear) then seen.Shut front rear else if rear == front then seen.Empty else seen.Frames (min asked (ahead front rear))) (eq-eqb flush kept same)
-
 -- the answer of a look for a command, if so many frames were released and consumed
 pub data Shown (consumed released : ℕ) : Seen → Type 0 where
   empty : released ≡ consumed → Shown consumed released seen.Empty
@@ -91,7 +88,7 @@ same_by c r false e low high =
 shown_at : (k : Shape) (flush kept_flush rear front c r : ℕ) → k.frames ≤ 65536 → flush ≡ kept_flush → front ≡ wrapped c → rear ≡ wrapped r → c ≤ r → r ≤ c + k.frames → Shown c r (look_at k kept_flush 2 flush rear front)
 shown_at k flush kept_flush rear front c r few same front_is rear_is low high =
     let a : ahead (wrapped c) (wrapped r) ≡ r - c = ahead-between c r low (omega arith) in
-    let fits : nat_lt k.frames (ahead (wrapped c) (wrapped r)) ≡ false = nat_lt-no k.frames (ahead (wrapped c) (wrapped r)) (omega arith) in
+    let fits : nat_lt k.frames (ahead (wrapped c) (wrapped r)) ≡ false = is_not_below k.frames (ahead (wrapped c) (wrapped r)) (omega arith) in
     subst (λ (x : Seen). Shown c r x) (sym (old_word k kept_flush 2 flush rear front same ∙ (λ i. answer (front_is i) (rear_is i)) ∙ ap (λ (b : Bool). if b then seen.Shut (wrapped c) (wrapped r) else if wrapped r == wrapped c then seen.Empty else seen.Frames (min 2 (ahead (wrapped c) (wrapped r)))) fits))
     (same_by c r (wrapped r == wrapped c) refl low (omega arith))
   where
@@ -111,14 +108,10 @@ pub record LookTaken (k : Shape) (cs : List ClientEvent) (before : List ServerEv
 abbrev three : CommandLook → ℕ → List ServerEvent
 three look front = server.SawFlush look.flush ∷ server.SawRear look.rear ∷ server.SawFront front ∷ []
 
-either_none : (b : Bool) (o : Option (ℕ × ℕ)) → o ≡ None → (if b then None else o) ≡ None
-either_none true o is = refl
-either_none false o is = is
-
 open_words : (frames c r : ℕ) → frames ≤ 65536 → c ≤ r → r ≤ c + frames → outside frames (wrapped c) (wrapped r) ≡ None
 open_words frames c r few low high =
     let e : ahead (wrapped c) (wrapped r) ≡ r - c = ahead-between c r low (omega arith) in
-    ap (λ (b : Bool). if b then Some (wrapped c, wrapped r) else None) (nat_lt-no frames (ahead (wrapped c) (wrapped r)) (omega arith))
+    ap (λ (b : Bool). if b then Some (wrapped c, wrapped r) else None) (is_not_below frames (ahead (wrapped c) (wrapped r)) (omega arith))
 
 -- a server after the words of a look, and a take
 after_shut : (k : Shape) (before : List ServerEvent) (look : CommandLook) (front c r : ℕ) (takes : List ServerEvent) → ((s : ServerKept) → s.shut ≡ None → (fold (server_keeps k) s takes).shut ≡ None) → k.frames ≤ 65536 → front ≡ wrapped c → look.rear ≡ wrapped r → c ≤ r → r ≤ c + k.frames

@@ -1,6 +1,8 @@
 -- What a round does to a command block.
 use Rattle.std.proofs.Common.{◌+◌, ◌≤◌, ◌≡◌, ℕ, ◌<◌, Option, Some, None, List, [], ◌∷◌, ◌++◌, length, take, drop, refl, sym, ap, ◌∙◌, subst, arith, append_assoc, append-nil, length-append, if◌then◌else◌, fold, Bool, true, false}
 use Rattle.std.proofs.Math.Seq.{take-append_seam}
+use Rattle.af_enough_law.proofs.Basics.{before_normal, put-append, taken-append}
+use Rattle.af_judge.proofs.Basics.{each_at, told_each}
 use Rattle.af_life.specs.Looks.{all_command_events, LegalLooks}
 use Rattle.af_model.specs.ServerCalls.{ServerKept, server_keeps, server_begins, server_kept}
 use Rattle.af_life.specs.Looks.{words_taken}
@@ -37,9 +39,8 @@ use Rattle.af_enough_law.specs.NormalRounds.{TurnMade}
 use Rattle.af_enough_law.specs.Seen.{frames_put, frames_taken}
 use Rattle.af_enough_law.proofs.FastFlows.{Later}
 use Rattle.af_enough_law.proofs.FastRounds.{calls_length, cycles_length, turned_length, loaded_told, loaded_tracks}
-use Rattle.af_enough_law.proofs.FastShows.{put-append, Setting, taken-append, none-append}
-use Rattle.af_enough_law.proofs.FastSteps.{server_does-server, server_does-client, client_does-client, client_does-server, each_at, told_each, cycle_length, cycle_track}
-use Rattle.af_enough_law.proofs.NormalRounds.{before_normal}
+use Rattle.af_enough_law.proofs.FastShows.{Setting, none-append}
+use Rattle.af_enough_law.proofs.FastSteps.{server_does-server, server_does-client, client_does-client, client_does-server, cycle_length, cycle_track}
 
 abbrev commands_of : Run → ℕ → BlockTold
 commands_of run i = (told_at run i).commands

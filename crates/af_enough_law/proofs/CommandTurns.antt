@@ -18,11 +18,6 @@ use Rattle.af_enough_law.specs.Seen.{Stands, frames_put, frames_taken}
 use Rattle.af_enough_law.proofs.CommandLooks.{server_of, words_at, one_look, all_looks, LooksTaken, events_open}
 use Rattle.af_enough_law.proofs.FastShows.{Setting, Words}
 
-both : (a b : Bool) → (a && b) ≡ true → (a ≡ true) × (b ≡ true)
-both true true e = (refl, refl)
-both true false e = absurd (true≢false (sym e))
-both false b e = absurd (true≢false (sym e))
-
 -- what a server that drops nothing has consumed
 own_consumed : (k : Shape) (es : List ServerEvent) → drops_none es ≡ true → (s : ServerKept) → (fold (server_keeps k) s es).consumed ≡ s.consumed + frames_taken es
 own_consumed k [] none s = omega arith

@@ -7,16 +7,17 @@ use Rattle.af_base.specs.declared.event.ServerEvent.TheVariants as server
 use Rattle.af_base.specs.declared.seen.Seen.{Seen}
 use Rattle.af_base.specs.declared.seen.Seen.TheVariants as seen
 use Rattle.af_base.specs.declared.turn.CommandLook.{CommandLook}
+use Rattle.af_enough_law.proofs.Basics.{put-append, taken-append}
 use Rattle.af_life.specs.declared.kept.TrackKept.{TrackKept}
 use Rattle.af_life.specs.Looks.{as_slot, takes_command, command_events, did, all_command_events, LegalLooks}
 use Rattle.af_life.specs.Obeys.{shows_command, after_look, goes_on, are_due}
+use Rattle.af_model.proofs.Basics.{both_first}
 use Rattle.af_model.specs.declared.shape.Shape.{Shape}
 use Rattle.af_model.specs.Cycles.{Listed}
 use Rattle.af_model.specs.ServerCalls.{look_events, server_kept}
-use Rattle.af_model.proofs.Logic.{both_left, both_right}
+use Rattle.af_model.proofs.Logic.{both_right}
 use Rattle.af_enough_law.specs.Seen.{put_by, frames_put, frames_taken, are_calm}
 use Rattle.af_enough_law.proofs.Looking.{IsServed, IsKnownTo, some_place, kept_at, look_shows}
-use Rattle.af_enough_law.proofs.SeenBlocks.{frames_put-append, frames_taken-append}
 
 -- each release is of two frames
 abbrev pub is_pair : ClientEvent → Bool
@@ -29,7 +30,7 @@ are_pairs (e ∷ es) = is_pair e && are_pairs es
 
 pub pairs_split : (xs ys : List ClientEvent) → are_pairs (xs ++ ys) ≡ true → are_pairs xs ≡ true
 pairs_split [] ys h = refl
-pairs_split (x ∷ xs) ys h = let rest = pairs_split xs ys (both_right (is_pair x) (are_pairs (xs ++ ys)) h) in let first = both_left (is_pair x) (are_pairs (xs ++ ys)) h in (λ i. first i && rest i)
+pairs_split (x ∷ xs) ys h = let rest = pairs_split xs ys (both_right (is_pair x) (are_pairs (xs ++ ys)) h) in let first = both_first (is_pair x) (are_pairs (xs ++ ys)) h in (λ i. first i && rest i)
 
 even_one : (e : ClientEvent) → is_pair e ≡ true → (m : ℕ) × (put_by e ≡ 2 * m)
 even_one (client.Release count) h = (1, (let two : count ≡ 2 = search (arith, h) in omega arith))
@@ -45,7 +46,7 @@ even_one (client.Learn n) h = (0, refl)
 pub even_put : (es : List ClientEvent) → are_pairs es ≡ true → (m : ℕ) × (frames_put es ≡ 2 * m)
 even_put [] h = (0, refl)
 even_put (e ∷ es) h =
-    let first = even_one e (both_left (is_pair e) (are_pairs es) h) in
+    let first = even_one e (both_first (is_pair e) (are_pairs es) h) in
     let rest = even_put es (both_right (is_pair e) (are_pairs es) h) in
     let a = first.1 in
     let b = rest.1 in
@@ -68,7 +69,7 @@ NoneWait given flush_seen (look ∷ looks) s = let t = after_look given flush_se
 
 module _ (k : Shape) (se : List ServerEvent) (known : List ClientEvent) (b : IsServed k se known) (calm : are_calm se ≡ true) (pairs : are_pairs b.client ≡ true) where
   known_least : frames_put known ≤ frames_put b.client
-  known_least = let split = frames_put-append known b.later in let all : frames_put b.client ≡ frames_put (known ++ b.later) = ap frames_put b.knows in omega arith
+  known_least = let split = put-append known b.later in let all : frames_put b.client ≡ frames_put (known ++ b.later) = ap frames_put b.knows in omega arith
 
   -- the events of a look that shows a command, and of one that shows none
   events_command : (before : List ServerEvent) (look : CommandLook) (front : ℕ) (shut : Option (ℕ × ℕ)) (answer : Seen) → shut ≡ None → answer ≡ seen.Frames 2
@@ -91,7 +92,7 @@ module _ (k : Shape) (se : List ServerEvent) (known : List ClientEvent) (b : IsS
   pub all_taken : (n : ℕ) (given : Option ℕ) (flush_seen : ℕ) (looks : List CommandLook) (fronts : List ℕ) (s : TrackKept) (before rest : List ServerEvent) (m : ℕ) → IsKnownTo known before → frames_taken before ≡ 2 * m → frames_put b.client ≤ frames_taken before + 2 * n
       → LegalLooks (record { shape = k; events = before }) looks fronts → are_due n given flush_seen looks s ≡ true → NoneWait given flush_seen looks s
       → se ≡ (before ++ all_command_events (record { shape = k; events = before }) looks fronts) ++ rest → frames_put known ≤ frames_taken (before ++ all_command_events (record { shape = k; events = before }) looks fronts)
-  all_taken zero given flush_seen [] [] s before rest m learnt even room legal due waits is = let least = known_least in let split = frames_taken-append before [] in omega arith
+  all_taken zero given flush_seen [] [] s before rest m learnt even room legal due waits is = let least = known_least in let split = taken-append before [] in omega arith
   all_taken zero given flush_seen [] (front ∷ fronts) s before rest m learnt even room legal due waits is = absurd legal
   all_taken zero given flush_seen (look ∷ looks) fronts s before rest m learnt even room legal due waits is = absurd (true≢false (sym due))
   all_taken (suc n) given flush_seen [] fronts s before rest m learnt even room legal due waits is = absurd (true≢false (sym due))
@@ -116,7 +117,7 @@ module _ (k : Shape) (se : List ServerEvent) (known : List ClientEvent) (b : IsS
             let last : (length looks == 0) ≡ true = sym (ap (λ (c : Bool). if c then are_due n given flush_seen looks (after_look given flush_seen look s) else length looks == 0) stops) ∙ due in
             let over : later ≡ [] = ap (λ (l : List CommandLook). all_command_events (did here events) l fronts) (none_left looks (search (arith, last))) in
             let counted : frames_taken (before ++ (events ++ later)) ≡ frames_taken (before ++ server.SawFlush look.flush ∷ server.SawRear look.rear ∷ server.SawFront front ∷ []) = λ i. frames_taken (before ++ (all i ++ over i)) in
-            let split = frames_taken-append before (server.SawFlush look.flush ∷ server.SawRear look.rear ∷ server.SawFront front ∷ []) in
+            let split = taken-append before (server.SawFlush look.flush ∷ server.SawRear look.rear ∷ server.SawFront front ∷ []) in
             let least = shows.known_put in
             omega (arith, counted, split, least, none)
         | inr some ↦
@@ -128,7 +129,7 @@ module _ (k : Shape) (se : List ServerEvent) (known : List ClientEvent) (b : IsS
             let t = after_look given flush_seen look s in
             let goes : goes_on look t ≡ true = λ i. shows_command (answer i) && not (waits.0 i) in
             let next : are_due n given flush_seen looks t ≡ true = sym (ap (λ (c : Bool). if c then are_due n given flush_seen looks t else length looks == 0) goes) ∙ due in
-            let split = frames_taken-append before (server.SawFlush look.flush ∷ server.SawRear look.rear ∷ server.SawFront front ∷ server.Take 2 ∷ []) in
+            let split = taken-append before (server.SawFlush look.flush ∷ server.SawRear look.rear ∷ server.SawFront front ∷ server.Take 2 ∷ []) in
             let more : frames_taken (before ++ events) ≡ frames_taken before + 2 = ap (λ (z : List ServerEvent). frames_taken (before ++ z)) all ∙ split in
             let rec = all_taken n given flush_seen looks fronts t (before ++ events) rest (m + 1) (learnt_more before events learnt) (omega (arith, more, even)) (omega (arith, more, room)) legal.2 next waits.1
             (is ∙ ap (λ (z : List ServerEvent). z ++ rest) (sym (append_assoc before events later))) in

@@ -5,6 +5,7 @@ use Rattle.af_base.specs.declared.event.ClientEvent.{ClientEvent}
 use Rattle.af_base.specs.declared.event.ClientEvent.TheVariants as client
 use Rattle.af_base.specs.declared.event.ServerEvent.{ServerEvent}
 use Rattle.af_base.specs.declared.event.ServerEvent.TheVariants as server
+use Rattle.af_enough_law.proofs.Basics.{put-append}
 use Rattle.af_life.specs.Heard.{learnt, heard}
 use Rattle.af_life.specs.Kept.{track_in}
 use Rattle.af_life.specs.Looks.{words_taken}
@@ -37,7 +38,6 @@ use Rattle.af_enough_law.proofs.RunLists.{side_lists, command_lists}
 use Rattle.af_enough_law.proofs.RunStreams.{round_grows}
 use Rattle.af_enough_law.proofs.RunTame.{played_client_list, round_pokeless}
 use Rattle.af_enough_law.proofs.RunTracks.{played_track, round_blocks, met_track}
-use Rattle.af_enough_law.proofs.SeenBlocks.{frames_put-append}
 
 -- ## What is carried of a command block
 
@@ -201,7 +201,7 @@ module _ (cut : Bool) (s : Session) (marks : Marks) (run : Run) (round : RoundSe
       let said = (fold after_call (sides_of (told_at run i)) (calls_in round i)).commands.events in
       let commands_is : client_list u.commands ≡ said ++ client.Learn (length commands.did) ∷ [] = commands.client ∙ ap (λ (es : List ClientEvent). es ++ client.Learn (length commands.did) ∷ []) commands.said_is in
       let counted = words_fold (sides_of (told_at run i)) (calls_in round i) fair calm.words in
-      let put = frames_put-append said (client.Learn (length commands.did) ∷ []) in
+      let put = put-append said (client.Learn (length commands.did) ∷ []) in
       let listed : frames_put (client_list u.commands) ≡ frames_put (said ++ client.Learn (length commands.did) ∷ []) = ap frames_put commands_is in
       let released = ap length (round_released s run round i turn.low) in
       record {

@@ -1,6 +1,8 @@
 -- A legal round leaves a track on its course.
-use Rattle.std.proofs.Common.{◌≡◌, ◌⊎◌, inl, inr, ℕ, zero, suc, ◌+◌, ◌*◌, ◌≤◌, ◌<◌, ◌&&◌, ◌||◌, Bool, true, false, true≢false, None, List, length, MatchBool, sym, ap, ◌∙◌, subst, arith}
+use Rattle.std.proofs.Common.{◌≡◌, ◌⊎◌, inl, inr, ℕ, ◌+◌, ◌*◌, ◌≤◌, ◌<◌, ◌&&◌, ◌||◌, Bool, true, false, None, List, length, sym, ap, ◌∙◌, subst, arith}
+use Rattle.af_base.proofs.Basics.{by_false}
 use Rattle.af_base.specs.Turn.{Turn}
+use Rattle.af_enough_law.proofs.Basics.{course_long}
 use Rattle.af_life.specs.declared.kept.TrackKept.{TrackKept}
 use Rattle.af_life.specs.declared.track.Life.{Life}
 use Rattle.af_life.specs.Edits.{is_exit}
@@ -22,14 +24,6 @@ use Rattle.af_enough_law.proofs.Following.{GoesFar, greeted_in, greeted_alike, f
 use Rattle.af_enough_law.proofs.Coursing.{course_starts}
 use Rattle.af_enough_law.proofs.Served.{track_turned}
 use Rattle.af_enough_law.proofs.Told.{served_ends}
-
-pub course_long : (count told more : ℕ) → length (course count told more) ≡ 2 * more
-course_long count told zero = omega arith
-course_long count told (suc more) = let l = course_long count (suc told) more in omega arith
-
-by_false : (A B : Type 0) (b : Bool) → b ≡ false → MatchBool b A B → B
-by_false A B true e m = absurd (true≢false e)
-by_false A B false e m = m
 
 -- the looks of a turn at a track for which no START waits end with one that shows no command, if they take commands of a course
 pub looks_end : (count j more : ℕ) (c : Setup) (o : Outside) (m : NormalKept) (e : Turn) (i : ℕ) → i < length m.tracks → e.ended ≡ false → GoesOn c o m e → (track_at m.tracks i).awaits ≡ None → (track_at m.tracks i).life.ended ≡ false → j + more ≤ 4

@@ -1,7 +1,10 @@
 -- The words that a client sent are those of a course.
 use Rattle.std.proofs.Common.{◌≡◌, ℕ, zero, suc, ◌+◌, ◌-◌, ◌*◌, ◌≤◌, ◌==◌, if◌then◌else◌, ◌||◌, Bool, true, false, List, [], ◌∷◌, ◌++◌, length, length-append, get_or, take, refl, sym, ap, ◌∙◌, arith, eqb-true}
 use Rattle.std.proofs.Math.Seq.{take-append_seam}
-use Rattle.af_model.proofs.Logic.{both_left, both_right}
+use Rattle.af_base.proofs.Basics.{take_most}
+use Rattle.af_enough_law.proofs.Basics.{course_long}
+use Rattle.af_model.proofs.Basics.{both_first}
+use Rattle.af_model.proofs.Logic.{both_right}
 use Rattle.af_enough_law.specs.Courses.{code_at, argument_at, course}
 use Rattle.af_enough_law.proofs.Argued.{is_argued, all_argued}
 use Rattle.af_enough_law.proofs.Doing.{codes_of}
@@ -32,7 +35,7 @@ words_course count told zero (one ∷ sent) codes argued stop = absurd (let e = 
 words_course count told (suc more) [] codes argued stop = absurd (let e = ap length codes in omega arith)
 words_course count told (suc more) (one ∷ sent) codes argued stop =
     let code : one.0 ≡ code_at told = ap (λ (l : List ℕ). get_or l 0 0) codes in
-    let first : is_argued one ≡ true = both_left (is_argued one) (all_argued sent) argued in
+    let first : is_argued one ≡ true = both_first (is_argued one) (all_argued sent) argued in
     let argument : one.1 ≡ argument_at count told = by told code first stop in
     let rest : words_of sent ≡ course count (suc told) more = words_course count (suc told) more sent (ap codes_tail codes) (both_right (is_argued one) (all_argued sent) argued) (λ low high. later told stop low (omega (arith, high))) in
     λ j. code j ∷ argument j ∷ rest j
@@ -69,13 +72,9 @@ next_words count j more before words first whole =
     cancel [] ys zs e = e
     cancel (x ∷ xs) ys zs e = cancel xs ys zs (ap codes_tail e)
 
-course_size : (count told more : ℕ) → length (course count told more) ≡ 2 * more
-course_size count told zero = omega arith
-course_size count told (suc more) = let l = course_size count (suc told) more in omega arith
-
 -- a front of a course with so many words is that of so many commands
 pub course_front : (count told a b : ℕ) → take (2 * a) (course count told (a + b)) ≡ course count told a
-course_front count told a b = let size : 2 * a ≡ length (course count told a) = sym (course_size count told a) in
+course_front count told a b = let size : 2 * a ≡ length (course count told a) = sym (course_long count told a) in
     ap (take (2 * a)) (course_join count told a b) ∙ ap (λ (n : ℕ). take n (course count told a ++ course count (told + a) b)) size ∙ take-append_seam (course count told a) (course count (told + a) b)
 
 -- ## What a turn takes of a course
@@ -85,17 +84,12 @@ take_same zero xs = refl
 take_same (suc n) [] = refl
 take_same (suc n) (x ∷ xs) = ap (λ (ys : List ℕ). x ∷ ys) (take_same n xs)
 
-take_most : (n : ℕ) (xs : List ℕ) → length (take n xs) ≤ length xs
-take_most zero xs = omega arith
-take_most (suc n) [] = omega arith
-take_most (suc n) (x ∷ xs) = let l = take_most n xs in omega arith
-
 -- Words that are taken after those of so many commands, if all that were taken begin a course, are those of its next commands
 pub taken_words : (count j more k n : ℕ) (before words released : List ℕ) → released ≡ course count 0 k → before ≡ course count 0 j → before ++ words ≡ take n released → length words ≡ 2 * more → (words ≡ course count j more) × (j + more ≤ k)
 taken_words count j more k n before words released all first whole size =
     let a = length-append before words in
-    let b = ap length first ∙ course_size count 0 j in
-    let c = ap length all ∙ course_size count 0 k in
+    let b = ap length first ∙ course_long count 0 j in
+    let c = ap length all ∙ course_long count 0 k in
     let most = take_most n released in
     let long : length (take n released) ≡ 2 * (j + more) = let e = ap length whole in omega arith in
     let within : j + more ≤ k = omega arith in

@@ -1,5 +1,6 @@
 -- How a track that plays through lives.
 use Rattle.std.proofs.Common.{◌≡◌, ℕ, zero, suc, ◌+◌, ◌-◌, ◌<◌, ◌≤◌, ◌==◌, ◌&&◌, ◌||◌, not, nat_le, nat_lt, Bool, true, false, min, refl, sym, ap, ◌∙◌, subst, arith, true≢false, Option, if◌then◌else◌}
+use Rattle.af_base.proofs.Basics.{and_none, not_zero}
 use Rattle.af_life.specs.declared.kept.TrackKept.{TrackKept}
 use Rattle.af_life.specs.declared.state.LifeState.TheVariants.{Active, Stopping1, Stopping2}
 use Rattle.af_life.specs.declared.track.Known.{Known}
@@ -10,9 +11,6 @@ use Rattle.af_life.specs.Reports.{by_report, runs_dry, retries_after, told_by_re
 use Rattle.af_life.specs.Kept.{plays}
 use Rattle.af_life.specs.State.{code_of}
 use Rattle.af_enough_law.specs.Courses.{told_all, starts_at_once, code_at, argument_at, course, life_in, Course, absent, idle, playing, stopping, drained, stopped, over, stage, is_heard}
-
-no : {A : Type 0} → false ≡ true → A
-no h = absurd (true≢false (sym h))
 
 -- ## A command
 
@@ -90,17 +88,10 @@ retries_same known retries none few = let e : nat_lt 0 known.empties ≡ false =
     by_seen true false e = few
     by_seen false false e = omega arith
 
-not_zero : (n : ℕ) → 1 ≤ n → (n == 0) ≡ false
-not_zero n some = search (arith, some)
-
-and_false : (b d : Bool) → d ≡ false → (b && d) ≡ false
-and_false true d e = e
-and_false false d e = refl
-
 -- a life runs dry only if none are left
 pub wet_while : (known : Known) (l : Life) → 1 ≤ retries_after known l.retries → runs_dry known l ≡ false
 unfolding runs_dry
-wet_while known l some = and_false (not known.shut && not l.ended) _ (and_false _ _ (and_false (nat_lt 0 known.empties) _ (not_zero (retries_after known l.retries) some)))
+wet_while known l some = and_none (not known.shut && not l.ended) _ (and_none _ _ (and_none (nat_lt 0 known.empties) _ (not_zero (retries_after known l.retries) some)))
 
 -- two or more are enough
 pub wet_by_two : (known : Known) (l : Life) → 2 ≤ l.retries → l.retries ≤ 50 → runs_dry known l ≡ false

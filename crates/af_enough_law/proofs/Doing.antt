@@ -1,7 +1,9 @@
 -- A client whose ops play through goes on to, by each fair answer.
 use Rattle.std.proofs.Common.{◌≡◌, ◌⊎◌, inl, inr, ℕ, zero, suc, ◌+◌, ◌-◌, ◌≤◌, ◌==◌, Bool, true, false, List, [], ◌∷◌, ◌++◌, map, refl, sym, ap, ◌∙◌, subst, arith, true≢false, if◌then◌else◌}
+use Rattle.af_base.proofs.Basics.{equal_is, no}
 use Rattle.af_base.specs.declared.event.ClientCall.{ClientCall}
 use Rattle.af_base.specs.declared.event.ClientCall.TheVariants as call
+use Rattle.af_model.proofs.Basics.{both_first}
 use Rattle.af_script.specs.declared.op.Op.{Op}
 use Rattle.af_script.specs.declared.op.Op.TheVariants as op
 use Rattle.af_runs.specs.declared.want.ClientCommand.TheVariants as command
@@ -11,16 +13,10 @@ use Rattle.af_runs.specs.declared.want.Want.{Want}
 use Rattle.af_runs.specs.declared.want.Want.TheVariants as want
 use Rattle.af_runs.specs.Clients.{Client, begun, state_in, more, after_answer}
 use Rattle.af_runs.specs.ClientTurns.{Track, side_of, is_send, is_write, is_status, is_clear, AnswersOn, IsMade}
-use Rattle.af_model.proofs.Logic.{both_left, both_right}
+use Rattle.af_model.proofs.Logic.{both_right}
 use Rattle.af_enough_law.specs.Playing.{IsWay, Doing, opening, starting, settling, setting, writing, clearing, clearing_more, stopping, draining, removing, due_ops, due_frames, way_ops, way_frames, IsFair}
 
 -- ## Which answers come
-
-no : {A : Type 0} → false ≡ true → A
-no e = absurd (true≢false (sym e))
-
-equal_is : (a b : ℕ) → (a == b) ≡ true → a ≡ b
-equal_is a b e = search (arith, e)
 
 -- a send that is answered fairly was sent
 pub sent_is : (code argument : ℕ) (answer : ClientCall) → is_send code argument answer ≡ true → IsFair answer → (front : ℕ) × (sent_code : ℕ) × (sent_argument : ℕ) × (answer ≡ call.Sent front sent_code sent_argument) × (sent_code ≡ code) × (sent_argument ≡ argument)
@@ -31,7 +27,7 @@ sent_is code argument (call.Corrupt front rear) h fair = no h
 sent_is code argument (call.Cleared flags) h fair = no h
 sent_is code argument (call.Flush count) h fair = no h
 sent_is code argument (call.Gain word) h fair = no h
-sent_is code argument (call.Sent front sent_code sent_argument) h fair = (front, sent_code, sent_argument, refl, equal_is sent_code code (both_left (sent_code == code) (sent_argument == argument) h), equal_is sent_argument argument (both_right (sent_code == code) (sent_argument == argument) h))
+sent_is code argument (call.Sent front sent_code sent_argument) h fair = (front, sent_code, sent_argument, refl, equal_is sent_code code (both_first (sent_code == code) (sent_argument == argument) h), equal_is sent_argument argument (both_right (sent_code == code) (sent_argument == argument) h))
 sent_is code argument (call.SendFull front) h fair = absurd fair
 sent_is code argument (call.SendDead flags) h fair = absurd fair
 sent_is code argument (call.SendCorrupt front rear) h fair = absurd fair

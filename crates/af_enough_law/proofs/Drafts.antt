@@ -2,12 +2,14 @@
 use Rattle.std.proofs.Common.{◌≡◌, ◌⊎◌, inl, inr, ℕ, zero, suc, ◌+◌, ◌<◌, ◌==◌, ◌&&◌, ◌||◌, not, Bool, true, false, List, [], ◌∷◌, length, fold, refl, sym, ap, ◌∙◌, subst, arith, true≢false, Option, Some, None, is_some, if◌then◌else◌}
 use Rattle.std.specs.Prelude.{slice_set}
 use Rattle.std.specs.List.{list_any}
+use Rattle.af_base.proofs.Basics.{by_test, no}
 use Rattle.af_base.specs.Command.{code_of}
 use Rattle.af_base.specs.declared.state.Command.{Command}
 use Rattle.af_base.specs.declared.state.FastState.{FastState}
 use Rattle.af_base.specs.declared.state.Push.{Push}
 use Rattle.af_base.specs.declared.state.Push.TheVariants.{Pushed, Clean, Busy}
 use Rattle.af_base.specs.Turn.{Turn, TakeSeen}
+use Rattle.af_judge.proofs.Basics.{push_draft, push_tracks}
 use Rattle.af_life.specs.declared.kept.Heard.{Heard}
 use Rattle.af_life.specs.declared.kept.Holder.{Holder}
 use Rattle.af_life.specs.declared.kept.Holder.TheVariants.{Home, Lent, Returning}
@@ -26,15 +28,8 @@ use Rattle.af_life.specs.Plays.{after_take, after_takes, counted}
 use Rattle.af_life.specs.Turn.{after_tracks, after_edits, turn_after, GoesOn}
 use Rattle.af_enough_law.specs.TrackTurns.{attended, Edited, stays, leaves, enters, TrackTurned}
 use Rattle.af_enough_law.specs.Drafts.{next_holder, IsLatest, PushMade}
-use Rattle.af_enough_law.proofs.Served.{track_turned, pushed_tracks, ordered_tracks}
+use Rattle.af_enough_law.proofs.Served.{track_turned, ordered_tracks}
 use Rattle.af_enough_law.proofs.Following.{greeted_in}
-
-no : {A : Type 0} → false ≡ true → A
-no h = absurd (true≢false (sym h))
-
-by_test : {A : Type 0} (P : A → Type 0) (b : Bool) (x y : A) → (b ≡ true → P x) → (b ≡ false → P y) → P (if b then x else y)
-by_test P true x y f g = f refl
-by_test P false x y f g = g refl
 
 -- ## The holders
 
@@ -130,11 +125,6 @@ takes_any asked [] tracks = (refl, refl)
 takes_any asked (take ∷ takes) tracks = let more = takes_any asked takes (after_take asked tracks take) in let one = take_any tracks take.track (record (track_at tracks take.track) { own = counted asked take.slot.seen (track_at tracks take.track).own }) refl refl in
     (more.0 ∙ one.0, more.1 ∙ one.1)
 
-pub pushed_draft : (push : Push) (m : NormalKept) → (after_push push m).draft ≡ m.draft
-pushed_draft (Pushed number) m = refl
-pushed_draft Clean m = refl
-pushed_draft (Busy seen expected) m = refl
-
 abbrev by_facts : Bool → Bool → Bool → Bool → Command
 by_facts whole exits over heard = if exits || (over && whole) then Exit else if heard || not whole then MixWrite else ColdIdle
 
@@ -159,7 +149,7 @@ command_turned c k m e runs =
     exit_same = ap (λ (x : Command). code_of x == code_of Exit) (edits_command c k served_m (length served_m.tracks)) ∙ ap is_exit (ack_draft e.ack)
 
     pushed : (after_push e.push (after_edits c k e m)).tracks ≡ edits_m.tracks
-    pushed = pushed_tracks e.push (after_edits c k e m) ∙ ordered_tracks c k e.room served_m
+    pushed = push_tracks e.push (after_edits c k e m) ∙ ordered_tracks c k e.room served_m
 
     takes_same : (list_any (λ (s : TrackKept). plays s.life) (fold (after_take (buffer c)) (after_push e.push (after_edits c k e m)).tracks e.mixes) ≡ list_any (λ (s : TrackKept). plays s.life) (after_push e.push (after_edits c k e m)).tracks) × (is_over (fold (after_take (buffer c)) (after_push e.push (after_edits c k e m)).tracks e.mixes) ≡ is_over (after_push e.push (after_edits c k e m)).tracks)
     takes_same = takes_any (buffer c) e.mixes (after_push e.push (after_edits c k e m)).tracks
@@ -171,7 +161,7 @@ command_turned c k m e runs =
     over_same = takes_same.1 ∙ ap is_over pushed
 
     goes : code_of (after_push e.push (after_edits c k e m)).draft.command ≡ code_of (next_command (is_exit m.draft) (after_takes c e.mixes (after_push e.push (after_edits c k e m))).tracks e.room (pipe_size c))
-    goes = ap (λ (x : FastState). code_of x.command) (pushed_draft e.push (after_edits c k e m))
+    goes = ap (λ (x : FastState). code_of x.command) (push_draft e.push (after_edits c k e m))
         ∙ ordered_code (next_command (is_exit edits_m.draft) edits_m.tracks e.room (pipe_size c)) edits_m
         ∙ (λ i. code_of (by_facts (e.room == pipe_size c) (exit_same i) (sym over_same i) (sym heard_same i)))
 

@@ -1,10 +1,12 @@
 -- A client sends its third command only after it has seen a status that says that two are settled, whatever it is answered.
-use Rattle.std.proofs.Common.{◌≡◌, ◌⊎◌, inl, inr, ℕ, zero, suc, ◌*◌, ◌-◌, ◌/◌, ◌≤◌, ◌==◌, ◌&&◌, ◌||◌, nat_le, not, if◌then◌else◌, Bool, true, false, true≢false, MatchBool, Some, None, List, [], ◌∷◌, ◌++◌, length, take, fold, refl, sym, ap, ◌∙◌, subst, arith, append_assoc, append-nil, length-append, eqb-true, Option}
+use Rattle.std.proofs.Common.{◌≡◌, ◌⊎◌, inl, inr, ℕ, zero, suc, ◌*◌, ◌-◌, ◌/◌, ◌≤◌, ◌==◌, ◌&&◌, ◌||◌, nat_le, not, if◌then◌else◌, Bool, true, false, MatchBool, Some, None, List, [], ◌∷◌, ◌++◌, length, take, fold, refl, sym, ap, ◌∙◌, subst, arith, append_assoc, append-nil, length-append, eqb-true, Option}
+use Rattle.af_base.proofs.Basics.{no, some_same}
 use Rattle.af_base.specs.declared.event.ClientCall.{ClientCall}
 use Rattle.af_base.specs.declared.event.ClientCall.TheVariants as call
 use Rattle.af_base.specs.declared.event.ClientEvent.{ClientEvent}
 use Rattle.af_base.specs.declared.event.ClientEvent.TheVariants as client
-use Rattle.af_model.proofs.Logic.{both_left}
+use Rattle.af_enough_law.proofs.Basics.{put-append}
+use Rattle.af_model.proofs.Basics.{both_first, both_first as both_left}
 use Rattle.af_script.specs.declared.op.Op.{Op}
 use Rattle.af_script.specs.declared.op.Op.TheVariants as op
 use Rattle.af_runs.specs.Clients.{Client, settled_in, state_in, begins, begun, next_want, rest_of, rested, wants_of, at_next_turn, after_answer}
@@ -16,11 +18,7 @@ use Rattle.af_runs.specs.declared.want.Want.{Want}
 use Rattle.af_runs.specs.declared.want.Want.TheVariants as want
 use Rattle.af_enough_law.specs.Seen.{frames_put}
 use Rattle.af_enough_law.proofs.FairTurns.{commands_grow}
-use Rattle.af_enough_law.proofs.SeenBlocks.{frames_put-append}
-use Rattle.af_enough_law.proofs.Turning.{none_some, some_same}
-
-no : {A : Type 0} → false ≡ true → A
-no e = absurd (true≢false (sym e))
+use Rattle.af_enough_law.proofs.Turning.{none_some}
 
 -- none of these commands is a STOP
 abbrev pub no_stop : List ℕ → Bool
@@ -127,7 +125,7 @@ record Sends (t u : Track) (c : Client) (sent : ℕ) : Type 0 where
 
 still_put : (b : Bool) (xs : List ClientEvent) (n front : ℕ) → frames_put xs ≡ n → frames_put (xs ++ (if b then [] else client.SawFlags 0 ∷ client.SawFront front ∷ [])) ≡ n
 still_put true xs n front put = ap frames_put (append-nil xs) ∙ put
-still_put false xs n front put = (let a = frames_put-append xs (client.SawFlags 0 ∷ client.SawFront front ∷ []) in omega (arith, a, put))
+still_put false xs n front put = (let a = put-append xs (client.SawFlags 0 ∷ client.SawFront front ∷ []) in omega (arith, a, put))
 
 code_other : (code n : ℕ) → (code == n) ≡ true → (n == 4) ≡ false → (code == 4) ≡ false
 code_other code n e other = ap (λ (c : ℕ). c == 4) (eqb-true code n e) ∙ other
@@ -136,7 +134,7 @@ early_sent : (t : Track) (c : Client) (sent : ℕ) (front code argument : ℕ) �
 early_sent t c sent front code argument e put long none other is = early (record {
   sent = suc sent;
   client = subst (λ (x : Client). Early (begun x) (suc sent)) (sym is) e;
-  put = (let a = frames_put-append t.commands.events (client.SawFlags 0 ∷ client.SawFront front ∷ client.Release 2 ∷ []) in omega (arith, a, put));
+  put = (let a = put-append t.commands.events (client.SawFlags 0 ∷ client.SawFront front ∷ client.Release 2 ∷ []) in omega (arith, a, put));
   long = (let a = length-append t.commands.released (code ∷ argument ∷ []) in omega (arith, a, long));
   stopless = stop_append t.commands.released code argument sent long none other;
 })
@@ -146,7 +144,7 @@ module _ (t : Track) (sent : ℕ) (put : frames_put t.commands.events ≡ 2 * se
   same_words xs u c is e events nothing words = early (record {
     sent = sent;
     client = subst (λ (x : Client). Early (begun x) sent) (sym is) e;
-    put = (let a = ap frames_put events in let b = frames_put-append t.commands.events xs in omega (arith, a, b, nothing, put));
+    put = (let a = ap frames_put events in let b = put-append t.commands.events xs in omega (arith, a, b, nothing, put));
     long = ap length (words ∙ append-nil t.commands.released) ∙ long;
     stopless = ap no_stop (words ∙ append-nil t.commands.released) ∙ none;
   })
@@ -155,10 +153,6 @@ none_if : (b : Bool) (front : ℕ) → frames_put (if b then [] else client.SawF
 none_if true front = refl
 none_if false front = refl
 
-both_parts : (a b : Bool) → (a && b) ≡ true → a ≡ true
-both_parts true b e = refl
-both_parts false b e = no e
-
 early_call : (t : Track) (w : Want) (answer : ClientCall) (c : Client) (sent : ℕ) → Early c sent → begun t.client ≡ c → wanted_of t ≡ Some w → IsMade t w answer → frames_put t.commands.events ≡ 2 * sent → length t.commands.released ≡ 2 * sent → no_stop t.commands.released ≡ true → Comes (after_call t answer)
 early_call t w answer _ _ (opening x d ops) is wanted made put long none = by answer (subst (λ (w : Want). IsWanted t w answer) same made.0) (client_is t w answer wanted ∙ ap (λ (w : Want). after_answer (commands_sent (with_call t answer)) w (rest_of (begun t.client).due) (begun t.client) answer) same ∙ ap (λ (c : Client). after_answer (commands_sent (with_call t answer)) (want.Send command.Open) (rest_of c.due) c answer) is)
   where
@@ -166,7 +160,7 @@ early_call t w answer _ _ (opening x d ops) is wanted made put long none = by an
     same = some_same w (want.Send command.Open) (sym (first_want (x || d) (Some (want.Send command.Open)) w (ap (λ (c : Client). next_want c) (sym is) ∙ wanted)))
 
     by : (answer : ClientCall) → IsWanted t (want.Send command.Open) answer → (after_call t answer).client ≡ after_answer (commands_sent (with_call t answer)) (want.Send command.Open) [] (held x d (want.Send command.Open ∷ []) (op.Start ∷ ops) mode.Idle) answer → Comes (after_call t answer)
-    by (call.Sent front code argument) h e = early_sent t _ 0 front code argument (starting x d ops) put long none (code_other code 1 (both_parts (code == 1) _ h) refl) e
+    by (call.Sent front code argument) h e = early_sent t _ 0 front code argument (starting x d ops) put long none (code_other code 1 (both_first (code == 1) _ h) refl) e
     by (call.SendFull front) h e = same_words t 0 put long none (client.SawFlags 0 ∷ client.SawFront front ∷ []) _ _ e (opening true d ops) refl refl refl
     by (call.SendDead flags) h e = same_words t 0 put long none (client.SawFlags flags ∷ []) _ _ e (opening x true ops) refl refl refl
     by (call.SendCorrupt front rear) h e = same_words t 0 put long none _ _ _ e (opening x true ops) refl (none_if _ front) refl
@@ -185,7 +179,7 @@ early_call t w answer _ _ (starting x d ops) is wanted made put long none = by a
     same = some_same w (want.Send command.Start) (sym (first_want (x || d) (Some (want.Send command.Start)) w (ap (λ (c : Client). next_want c) (sym is) ∙ wanted)))
 
     by : (answer : ClientCall) → IsWanted t (want.Send command.Start) answer → (after_call t answer).client ≡ after_answer (commands_sent (with_call t answer)) (want.Send command.Start) (want.Settled ∷ []) (held x d (want.Send command.Start ∷ want.Settled ∷ []) ops mode.Idle) answer → Comes (after_call t answer)
-    by (call.Sent front code argument) h e = early_sent t _ 1 front code argument (settling x d ops) put long none (code_other code 2 (both_parts (code == 2) _ h) refl) e
+    by (call.Sent front code argument) h e = early_sent t _ 1 front code argument (settling x d ops) put long none (code_other code 2 (both_first (code == 2) _ h) refl) e
     by (call.SendFull front) h e = same_words t 1 put long none (client.SawFlags 0 ∷ client.SawFront front ∷ []) _ _ e (starting true d ops) refl refl refl
     by (call.SendDead flags) h e = same_words t 1 put long none (client.SawFlags flags ∷ []) _ _ e (starting x true ops) refl refl refl
     by (call.SendCorrupt front rear) h e = same_words t 1 put long none _ _ _ e (starting x true ops) refl (none_if _ front) refl
@@ -297,7 +291,7 @@ met_comes t u n events words same (late l) = late (late_on t u (client.Learn n �
 met_comes t u n events words same (early e) = early (record {
   sent = e.sent;
   client = by same;
-  put = (let a = ap frames_put events in let b = frames_put-append t.commands.events (client.Learn n ∷ []) in let p = e.put in omega (arith, a, b, p));
+  put = (let a = ap frames_put events in let b = put-append t.commands.events (client.Learn n ∷ []) in let p = e.put in omega (arith, a, b, p));
   long = ap length words ∙ e.long;
   stopless = ap no_stop words ∙ e.stopless;
 })

@@ -1,20 +1,24 @@
 -- A turn before which no status said that two commands were settled takes no more than two, whatever their client is answered.
 use Rattle.std.proofs.Common.{◌≡◌, ◌⊎◌, inl, inr, ℕ, zero, suc, ◌≤◌, ◌&&◌, nat_le, Bool, true, List, [], ◌∷◌, ◌++◌, length, take, fold, get_or, refl, sym, ap, ◌∙◌, subst, arith}
+use Rattle.af_base.proofs.Basics.{both_true}
 use Rattle.af_base.specs.declared.event.ClientEvent.{ClientEvent}
 use Rattle.af_base.specs.declared.event.ClientEvent.TheVariants as client
 use Rattle.af_base.specs.declared.event.HandEvent.{HandEvent}
 use Rattle.af_base.specs.declared.event.ServerEvent.{ServerEvent}
 use Rattle.af_base.specs.declared.event.ServerEvent.TheVariants as server
+use Rattle.af_enough_law.proofs.Basics.{taken-append}
+use Rattle.af_judge.proofs.Basics.{legal_cut, server_append}
+use Rattle.af_model.proofs.Basics.{both_first}
 use Rattle.af_model.specs.declared.shape.Shape.{Shape}
 use Rattle.af_model.specs.Fates.{drops_none}
 use Rattle.af_model.specs.History.{by_client, server_of, IsLegal, HasHistory}
 use Rattle.af_model.specs.Point.{start}
 use Rattle.af_model.proofs.Fates.{in_turn}
-use Rattle.af_model.proofs.Logic.{both_left, both_right, both_are}
+use Rattle.af_model.proofs.Logic.{both_right}
 use Rattle.af_runs.specs.Clients.{Client, settled_in}
 use Rattle.af_enough_law.specs.Seen.{frames_put, frames_taken, status_by, last_status}
 use Rattle.af_enough_law.proofs.EarlyCalls.{no_stop, Early, opening, starting, settling, SawSettled}
-use Rattle.af_enough_law.proofs.SeenBlocks.{client_cut, legal_cut, server_append, frames_taken-append, released_is, consumed_is, drops_split, status_is}
+use Rattle.af_enough_law.proofs.SeenBlocks.{client_cut, released_is, consumed_is, drops_split, status_is}
 
 -- no status among these says that more than one command is settled
 abbrev pub is_low : ServerEvent → Bool
@@ -27,7 +31,7 @@ are_low (e ∷ es) = is_low e && are_low es
 
 pub low_append : (xs ys : List ServerEvent) → are_low xs ≡ true → are_low ys ≡ true → are_low (xs ++ ys) ≡ true
 low_append [] ys a b = b
-low_append (x ∷ xs) ys a b = both_are (is_low x) (are_low (xs ++ ys)) (both_left (is_low x) (are_low xs) a) (low_append xs ys (both_right (is_low x) (are_low xs) a) b)
+low_append (x ∷ xs) ys a b = both_true (is_low x) (are_low (xs ++ ys)) (both_first (is_low x) (are_low xs) a) (low_append xs ys (both_right (is_low x) (are_low xs) a) b)
 
 low_one : (e : ServerEvent) (word : ℕ) → is_low e ≡ true → settled_in word ≤ 1 → settled_in (status_by word e) ≤ 1
 low_one (server.SetStatus next) word low few = search (arith, low)
@@ -44,7 +48,7 @@ low_one (server.Learn n) word low few = few
 -- the last status of each front says no more
 front_low : (xs ys : List ServerEvent) (word : ℕ) → are_low (xs ++ ys) ≡ true → settled_in word ≤ 1 → settled_in (fold status_by word xs) ≤ 1
 front_low [] ys word low few = few
-front_low (x ∷ xs) ys word low few = front_low xs ys (status_by word x) (both_right (is_low x) (are_low (xs ++ ys)) low) (low_one x word (both_left (is_low x) (are_low (xs ++ ys)) low) few)
+front_low (x ∷ xs) ys word low few = front_low xs ys (status_by word x) (both_right (is_low x) (are_low (xs ++ ys)) low) (low_one x word (both_first (is_low x) (are_low (xs ++ ys)) low) few)
 
 -- events that leave each status word, or all leave the same one
 data Stores (es : List ServerEvent) : Type 0 where
@@ -121,9 +125,9 @@ module _ (k : Shape) (cs : List ClientEvent) (released : List ℕ) (ss : List Se
           absurd (let z : ⊥ = omega (arith, few, same, two) in z)
       by early late parts word front (inr f) =
           let a = ap frames_taken parts in
-          let b = frames_taken-append early late in
+          let b = taken-append early late in
           let c = ap frames_taken f.2 in
-          let d = frames_taken-append f.0 late in
+          let d = taken-append f.0 late in
           omega (arith, a, b, c, d, free, front)
 
 pub early_few : (c : Client) (sent : ℕ) → Early c sent → sent ≤ 2
@@ -138,7 +142,7 @@ stop_take zero words h = refl
 stop_take (suc n) [] h = refl
 stop_take (suc zero) (code ∷ words) h = refl
 stop_take (suc (suc n)) (code ∷ []) h = refl
-stop_take (suc (suc n)) (code ∷ argument ∷ words) h = both_are _ (no_stop (take n words)) (both_left _ (no_stop words) h) (stop_take n words (both_right _ (no_stop words) h))
+stop_take (suc (suc n)) (code ∷ argument ∷ words) h = both_true _ (no_stop (take n words)) (both_first _ (no_stop words) h) (stop_take n words (both_right _ (no_stop words) h))
 
 pub short_take : (m n : ℕ) (xs : List ℕ) → length (take n xs) ≤ m → take n xs ≡ take n (take m xs)
 short_take m zero xs few = refl

@@ -1,15 +1,11 @@
 -- From the Exit that is ordered to the ends of both mixers.
-use Rattle.std.proofs.Common.{None, ◌≡◌, ◌⊎◌, inl, inr, ℕ, zero, suc, ◌==◌, ◌+◌, ◌≤◌, Bool, true, false, All, List, [], ◌∷◌, length, if◌then◌else◌, refl, sym, ap, ◌∙◌, subst, arith}
+use Rattle.std.proofs.Common.{None, ◌≡◌, ◌⊎◌, inl, inr, ℕ, suc, ◌+◌, ◌≤◌, Bool, true, false, All, List, [], ◌∷◌, length, if◌then◌else◌, refl, sym, ap, ◌∙◌, subst, arith}
 use Rattle.af_base.specs.Turn.{Turn}
+use Rattle.af_enough_law.proofs.Basics.{ack_ended, before_normal, edits_ended, ordered_ended, push_ended}
 use Rattle.af_life.specs.declared.kept.Setting.{Setting}
-use Rattle.af_life.specs.Edits.{after_ack, is_exit, must_leave, must_enter, let_go, lend, edited, edited_to, next_command, ordered, mutated, after_push}
-use Rattle.af_base.specs.Command.{code_of}
-use Rattle.af_base.specs.declared.state.Command.{Command}
-use Rattle.af_base.specs.declared.state.Push.{Push}
-use Rattle.af_base.specs.declared.state.Push.TheVariants.{Pushed, Clean, Busy}
-use Rattle.af_model.specs.Draft.{commanded as with_command}
+use Rattle.af_life.specs.Edits.{after_ack, is_exit, edited_to, next_command, ordered, mutated, after_push}
 use Rattle.af_life.specs.Heard.{learnt}
-use Rattle.af_life.specs.Kept.{Setup, pipe_size, Learnt, track_at, NormalKept}
+use Rattle.af_life.specs.Kept.{Setup, pipe_size, Learnt, NormalKept}
 use Rattle.af_life.specs.Turn.{after_tracks, after_edits, turn_after}
 use Rattle.af_life.specs.Plays.{after_takes}
 use Rattle.af_life.proofs.Lives.{turn_len}
@@ -39,7 +35,7 @@ use Rattle.af_enough_law.proofs.FastFound.{cycle_current}
 use Rattle.af_enough_law.proofs.FastLearns.{learns_states}
 use Rattle.af_enough_law.proofs.FastReports.{calls_same, turned_same}
 use Rattle.af_enough_law.proofs.LastStates.{exit_adopted, exit_there, round_last, round_entries, round_going}
-use Rattle.af_enough_law.proofs.NormalRounds.{turn_made, before_normal, after_normal}
+use Rattle.af_enough_law.proofs.NormalRounds.{turn_made, after_normal}
 use Rattle.af_enough_law.proofs.QueueRounds.{states_still, queue_stands, knows_by, knows_acked}
 
 -- ## A fast mixer that has ended stays so
@@ -69,27 +65,6 @@ closing_done s marks run round legal c = record {
 if_ended : (b : Bool) (x y : NormalKept) (r : Bool) → x.ended ≡ r → y.ended ≡ r → (if b then x else y).ended ≡ r
 if_ended true x y r f g = f
 if_ended false x y r f g = g
-
-edit_ended : (c : Setup) (k : Learnt) (i : ℕ) (m : NormalKept) → (edited c k i m).ended ≡ m.ended
-unfolding edited let_go lend
-edit_ended c k i m = if_ended (must_leave (track_at m.tracks i)) (let_go i m) (if must_enter (track_at m.tracks i) then lend c i (k.own i) m else m) m.ended refl (if_ended (must_enter (track_at m.tracks i)) (lend c i (k.own i) m) m m.ended refl refl)
-
-edits_ended : (c : Setup) (k : Learnt) (m : NormalKept) (n : ℕ) → (edited_to c k m n).ended ≡ m.ended
-edits_ended c k m zero = refl
-edits_ended c k m (suc n) = edit_ended c k n (edited_to c k m n) ∙ edits_ended c k m n
-
-ordered_ended : (x : Command) (m : NormalKept) → (ordered x m).ended ≡ m.ended
-unfolding ordered
-ordered_ended x m = if_ended (code_of x == code_of m.draft.command) m (record m { draft = with_command x m.draft; dirty = true }) m.ended refl refl
-
-push_ended : (push : Push) (m : NormalKept) → (after_push push m).ended ≡ m.ended
-push_ended (Pushed number) m = refl
-push_ended Clean m = refl
-push_ended (Busy seen expected) m = refl
-
-ack_ended : (ack : Bool) (m : NormalKept) → (after_ack ack m).ended ≡ m.ended
-ack_ended true m = refl
-ack_ended false m = refl
 
 kept_ended : (c : Setup) (k : Learnt) (e : Turn) (m : NormalKept) → (after_push e.push (after_edits c k e m)).ended ≡ m.ended
 unfolding mutated

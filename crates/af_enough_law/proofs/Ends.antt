@@ -1,16 +1,20 @@
 -- A turn once every life has ended: no proxy is lent, the draft carries nothing, and what is acknowledged comes home.
-use Rattle.std.proofs.Common.{◌≡◌, ◌⊎◌, inl, inr, ℕ, zero, suc, ◌<◌, ◌≤◌, ◌&&◌, not, Bool, true, false, true≢false, All, List, [], ◌∷◌, length, is_some, if◌then◌else◌, refl, sym, ap, ◌∙◌, arith}
+use Rattle.std.proofs.Common.{◌≡◌, ◌⊎◌, inl, inr, ℕ, suc, ◌<◌, ◌≤◌, ◌&&◌, not, Bool, true, false, true≢false, All, List, [], ◌∷◌, length, is_some, refl, sym, ap, ◌∙◌, arith}
+use Rattle.af_base.proofs.Basics.{below_or_not, no}
 use Rattle.af_base.specs.declared.state.FastState.{FastState}
 use Rattle.af_base.specs.Log.{slots}
 use Rattle.af_base.specs.Turn.{Turn}
+use Rattle.af_enough_law.proofs.Basics.{stays_home as greeted_home}
+use Rattle.af_judge.proofs.Basics.{if_true}
+use Rattle.af_life.proofs.Basics.{out_of}
 use Rattle.af_life.specs.declared.kept.Holder.{Holder}
 use Rattle.af_life.specs.declared.kept.Holder.TheVariants.{Home, Lent, Returning}
 use Rattle.af_life.specs.declared.kept.Setting.{Setting}
 use Rattle.af_life.specs.declared.kept.TrackKept.{TrackKept}
 use Rattle.af_life.specs.declared.track.Life.{Life}
-use Rattle.af_life.specs.Edits.{comes_home, welcomed, is_over}
+use Rattle.af_life.specs.Edits.{is_over}
 use Rattle.af_life.specs.Heard.{learnt, heard, ready}
-use Rattle.af_life.specs.Kept.{Setup, NormalKept, Outside, Learnt, track_at, track_in, plays, is_home, is_lent, is_returning, slot_number, new_track}
+use Rattle.af_life.specs.Kept.{Setup, NormalKept, Outside, Learnt, track_at, track_in, plays, is_home, is_lent, is_returning, slot_number}
 use Rattle.af_life.specs.Serves.{after_part}
 use Rattle.af_life.specs.Sound.{IsSlotted}
 use Rattle.af_life.specs.Turn.{turn_after, GoesOn}
@@ -20,21 +24,14 @@ use Rattle.af_model.specs.StateQueue.{carries}
 use Rattle.af_enough_law.specs.Drafts.{next_holder, is_busy, PushMade}
 use Rattle.af_enough_law.specs.Ends.{AllOver, NoneLent, AllHome, CarriesNone, IsInOrder, Rests}
 use Rattle.af_enough_law.specs.Owned.{AreOwned}
-use Rattle.af_enough_law.specs.TrackTurns.{greeted, attended}
+use Rattle.af_enough_law.specs.TrackTurns.{attended}
 use Rattle.af_enough_law.proofs.Drafts.{holder_turned, turn_pushes}
 use Rattle.af_enough_law.proofs.Following.{greeted_in, greeted_alike, edited_alike}
 use Rattle.af_enough_law.proofs.Orders.{come}
 use Rattle.af_enough_law.proofs.Owned.{owned_turn}
 use Rattle.af_enough_law.proofs.Served.{track_turned}
 
-no : {A : Type 0} → false ≡ true → A
-no h = absurd (true≢false (sym h))
-
 -- ## The lives
-
-pub attended_same : (b : Bool) (s t : TrackKept) → b ≡ true → (if b then s else t) ≡ s
-attended_same true s t is = refl
-attended_same false s t is = no is
 
 -- a life that has ended stays as it is
 pub over_stays : (c : Setup) (k : Learnt) (m : NormalKept) (e : Turn) (i : ℕ) → i < length m.tracks → e.ended ≡ false → (track_at m.tracks i).life.ended ≡ true → (track_at (turn_after c k m e).tracks i).life.ended ≡ true
@@ -43,7 +40,7 @@ over_stays c k m e i lt runs over =
     let g : TrackKept = greeted_in m e i in
     let life : g.life ≡ (track_at m.tracks i).life = (greeted_alike e.ack m.last (track_at m.tracks i)).life in
     let ended : g.life.ended ≡ true = ap (λ (l : Life). l.ended) life ∙ over in
-    let same : attended t.given k i (track_in e i).looks g ≡ g = attended_same g.life.ended g (after_part t.given (heard k i g) (track_in e i).looks (ready k i g)) ended in
+    let same : attended t.given k i (track_in e i).looks g ≡ g = if_true g.life.ended g (after_part t.given (heard k i g) (track_in e i).looks (ready k i g)) ended in
     ap (λ (s : TrackKept). s.life.ended) t.after ∙ ap (λ (l : Life). l.ended) (edited_alike (k.own i) (attended t.given k i (track_in e i).looks g) t.edited t.edit).life ∙ ap (λ (s : TrackKept). s.life.ended) same ∙ ended
 
 pub over_turn : (c : Setup) (k : Learnt) (m : NormalKept) (e : Turn) → e.ended ≡ false → AllOver m.tracks → AllOver (turn_after c k m e).tracks
@@ -70,26 +67,12 @@ stays_home false Home is = refl
 stays_home slot Lent is = no is
 stays_home slot Returning is = no is
 
-pub out_of : (tracks : List TrackKept) (i : ℕ) → length tracks ≤ i → track_at tracks i ≡ new_track
-out_of [] i far = refl
-out_of (s ∷ tracks) zero far = absurd (let z : ⊥ = omega (arith, far) in z)
-out_of (s ∷ tracks) (suc i) far = out_of tracks i (omega (arith, far))
-
-pub within_or : (a b : ℕ) → (a < b) ⊎ (b ≤ a)
-within_or a zero = inr (omega arith)
-within_or zero (suc b) = inl (omega arith)
-within_or (suc a) (suc b) = by (within_or a b)
-  where
-    by : (a < b) ⊎ (b ≤ a) → (suc a < suc b) ⊎ (suc b ≤ suc a)
-    by (inl h) = inl (omega (arith, h))
-    by (inr h) = inr (omega (arith, h))
-
 holder_silent : (c : Setup) (k : Learnt) (m : NormalKept) (e : Turn) (i : ℕ) → i < length m.tracks → e.ended ≡ false → (track_at (turn_after c k m e).tracks i).life.ended ≡ true
     → (let t = track_at (turn_after c k m e).tracks i in t.holder ≡ next_holder false (is_some t.slot) (greeted_in m e i).holder)
 holder_silent c k m e i lt runs over = let t : TrackKept = track_at (turn_after c k m e).tracks i in holder_turned c k m e i lt runs ∙ ap (λ (b : Bool). next_holder b (is_some t.slot) (greeted_in m e i).holder) (silent t.life over)
 
 pub none_lent : (c : Setup) (k : Learnt) (m : NormalKept) (e : Turn) → e.ended ≡ false → AllOver (turn_after c k m e).tracks → NoneLent (turn_after c k m e).tracks
-none_lent c k m e runs over i = by (within_or i (length m.tracks))
+none_lent c k m e runs over i = by (below_or_not i (length m.tracks))
   where
     by : (i < length m.tracks) ⊎ (length m.tracks ≤ i) → is_lent (track_at (turn_after c k m e).tracks i).holder ≡ false
     by (inl lt) = let long = turn_len c k m e in ap is_lent (holder_silent c k m e i lt runs (over i (omega (arith, lt, long)))) ∙ unlent (is_some (track_at (turn_after c k m e).tracks i).slot) (greeted_in m e i).holder
@@ -136,15 +119,6 @@ home_or : (h : Holder) → is_lent h ≡ false → (is_home h ≡ true) ⊎ (is_
 home_or Home none = inl refl
 home_or Lent none = absurd (true≢false none)
 home_or Returning none = inr refl
-
-pub greeted_home : (ack : Bool) (last : FastState) (s : TrackKept) → is_home s.holder ≡ true → is_home (greeted ack last s).holder ≡ true
-unfolding welcomed
-greeted_home false last s home = home
-greeted_home true last s home = by (comes_home last s)
-  where
-    by : (b : Bool) → is_home (if b then record s { holder = Home } else s).holder ≡ true
-    by true = refl
-    by false = home
 
 slot_low : (s : TrackKept) → IsSlotted s → is_returning s.holder ≡ true → slot_number s < slots
 slot_low s slotted returning = by (is_some s.slot) refl

@@ -4,6 +4,7 @@ use Rattle.std.specs.Prelude.{max, min}
 use Rattle.std.proofs.lemmas.Bool.{leb-true}
 use Rattle.std.proofs.lemmas.List.{take-append-drop}
 use Rattle.af_base.specs.Turn.{Turn}
+use Rattle.af_judge.proofs.Basics.{calls_states}
 use Rattle.af_model.specs.Journals.{EntrySeen, RoundSeen}
 use Rattle.af_runs.specs.Blocks.{Marks}
 use Rattle.af_runs.specs.Rounds.{LegalRound, early_count, early_of, late_of, before_turn, found_in, after_turn, all_played, met_after, after_round}
@@ -13,7 +14,7 @@ use Rattle.af_enough_law.specs.FastFlows.{CountsReports, KnowsReports}
 use Rattle.af_enough_law.proofs.FastCurrent.{rest_current, turn_current}
 use Rattle.af_enough_law.proofs.FastFound.{adds_one, calls_current, cycle_current}
 use Rattle.af_enough_law.proofs.FastLoads.{loads_new}
-use Rattle.af_enough_law.proofs.FastPolls.{calls_states, before_states, round_states, turn_more}
+use Rattle.af_enough_law.proofs.FastPolls.{before_states, round_states, turn_more}
 use Rattle.af_enough_law.proofs.FastReports.{calls_same, turned_same, loaded_same, met_same, ends_same}
 use Rattle.af_enough_law.proofs.FastSteps.{cycle_states, cycles_states}
 

@@ -1,6 +1,7 @@
 -- The Exit of the normal mixer: it stays in the draft, is pushed once, and ends the mixer when it is seen acknowledged.
 use Rattle.std.proofs.Common.{◌≡◌, ℕ, zero, suc, ◌<◌, ◌≤◌, ◌==◌, ◌&&◌, ◌||◌, not, Bool, true, false, true≢false, List, length, is_some, if◌then◌else◌, refl, sym, ap, ◌∙◌, arith}
 use Rattle.std.specs.List.{list_any}
+use Rattle.af_base.proofs.Basics.{no, rest_enters}
 use Rattle.af_base.specs.Command.{code_of}
 use Rattle.af_base.specs.declared.state.Command.{Command}
 use Rattle.af_base.specs.declared.state.Command.TheVariants.{ColdIdle, Exit, MixWrite}
@@ -8,6 +9,7 @@ use Rattle.af_base.specs.declared.state.FastState.{FastState}
 use Rattle.af_base.specs.declared.state.Push.{Push}
 use Rattle.af_base.specs.declared.state.Push.TheVariants.{Pushed, Clean, Busy}
 use Rattle.af_base.specs.Turn.{Turn}
+use Rattle.af_judge.proofs.Basics.{if_true}
 use Rattle.af_life.specs.declared.kept.TrackKept.{TrackKept}
 use Rattle.af_life.specs.Edits.{after_ack, is_exit, is_over, must_leave, must_enter, let_go, lend, edited, edited_to, next_command, ordered, mutated, after_push, LegalPush}
 use Rattle.af_model.specs.Draft.{commanded as with_command}
@@ -28,14 +30,11 @@ use Rattle.af_life.specs.Obeys.{slot_for}
 use Rattle.af_life.specs.TurnEvents.{tracks_at}
 use Rattle.af_enough_law.specs.Ends.{Rests}
 use Rattle.af_enough_law.specs.TrackTurns.{greeted}
-use Rattle.af_enough_law.proofs.Ends.{silent, attended_same}
+use Rattle.af_enough_law.proofs.Ends.{silent}
 use Rattle.af_enough_law.proofs.Following.{greeted_alike}
 use Rattle.af_enough_law.proofs.Served.{served_here}
 use Rattle.std.proofs.Common.{Option}
 use Rattle.af_enough_law.proofs.Drafts.{command_turned}
-
-no : {A : Type 0} → false ≡ true → A
-no h = absurd (true≢false (sym h))
 
 -- ## It stays
 
@@ -106,11 +105,6 @@ exit_pushed_once c o m e goes idle is clean =
 rest_leaves : (h : Holder) (b : Bool) → is_lent h ≡ false → (is_lent h && b) ≡ false
 rest_leaves h b is = ap (λ (x : Bool). x && b) is
 
-rest_enters : (a b p : Bool) → p ≡ false → (a && (b && p)) ≡ false
-rest_enters true true p is = is
-rest_enters true false p is = refl
-rest_enters false b p is = refl
-
 greeted_unlent : (ack : Bool) (last : FastState) (s : TrackKept) → is_lent s.holder ≡ false → is_lent (greeted ack last s).holder ≡ false
 unfolding welcomed
 greeted_unlent false last s is = is
@@ -128,7 +122,7 @@ rests_served c k m e rests i lt =
     let g : TrackKept = greeted e.ack m.last s in
     let over : g.life.ended ≡ true = ap (λ (l : Life). l.ended) (greeted_alike e.ack m.last s).life ∙ rests.over i lt in
     let given : Option ℕ = slot_for c (tracks_at c k m e i) i in
-    (served_here c k e m i lt ∙ attended_same g.life.ended g (after_part given (heard k i g) (track_in e i).looks (ready k i g)) over, over)
+    (served_here c k e m i lt ∙ if_true g.life.ended g (after_part given (heard k i g) (track_in e i).looks (ready k i g)) over, over)
 
 pub rests_idle : (c : Setup) (k : Learnt) (m : NormalKept) (e : Turn) → Rests m → AreIdle (after_tracks c k e (after_ack e.ack m)).tracks
 rests_idle c k m e rests i lt =
@@ -138,7 +132,7 @@ rests_idle c k m e rests i lt =
     let g : TrackKept = greeted e.ack m.last s in
     let over : g.life.ended ≡ true = ap (λ (l : Life). l.ended) (greeted_alike e.ack m.last s).life ∙ rests.over i lt' in
     let given : Option ℕ = slot_for c (tracks_at c k m e i) i in
-    let same : track_at (after_tracks c k e (after_ack e.ack m)).tracks i ≡ g = served_here c k e m i lt' ∙ attended_same g.life.ended g (after_part given (heard k i g) (track_in e i).looks (ready k i g)) over in (
+    let same : track_at (after_tracks c k e (after_ack e.ack m)).tracks i ≡ g = served_here c k e m i lt' ∙ if_true g.life.ended g (after_part given (heard k i g) (track_in e i).looks (ready k i g)) over in (
       ap must_leave same ∙ rest_leaves g.holder (not (plays g.life)) (greeted_unlent e.ack m.last s (rests.none i)),
       ap must_enter same ∙ rest_enters (is_home g.holder) (is_some g.slot) (plays g.life) (silent g.life over),
     )

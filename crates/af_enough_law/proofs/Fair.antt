@@ -2,12 +2,15 @@
 use Rattle.std.proofs.Common.{◌≡◌, ◌⊎◌, inl, inr, ℕ, ◌+◌, ◌≤◌, ◌<◌, ◌==◌, not, Bool, true, false, List, [], ◌∷◌, ◌++◌, length, fold, get_or, refl, sym, ap, ◌∙◌, subst, arith, append_assoc, true≢false, None, is_some, bit_and, bit_or, MatchBool}
 use Rattle.std.proofs.lemmas.List.{append-nil}
 use Rattle.std.proofs.lemmas.Grind.{fold-append}
+use Rattle.af_base.proofs.Basics.{both_true}
 use Rattle.af_base.specs.declared.event.ClientEvent.{ClientEvent}
 use Rattle.af_base.specs.declared.event.ClientEvent.TheVariants as client
 use Rattle.af_base.specs.declared.event.HandEvent.{HandEvent}
 use Rattle.af_base.specs.declared.event.HandEvent.TheVariants as hand
 use Rattle.af_base.specs.declared.event.ServerEvent.{ServerEvent}
 use Rattle.af_base.specs.declared.event.ServerEvent.TheVariants as server
+use Rattle.af_judge.proofs.Basics.{legal_cut, server_append}
+use Rattle.af_model.proofs.Basics.{both_first, not_true}
 use Rattle.af_model.specs.declared.point.TrackPoint.{TrackPoint}
 use Rattle.af_model.specs.declared.shape.Shape.{Shape}
 use Rattle.af_model.specs.ClientCalls.{client_keeps, client_begins, client_kept, IsInvalid, filled_by, IsClientList}
@@ -16,11 +19,11 @@ use Rattle.af_model.specs.History.{Moment, by_client, by_server, by_hand, client
 use Rattle.af_model.specs.Point.{wrapped, start, ClientMay, after_client, after_server, after_hand}
 use Rattle.af_model.specs.Room.{outside}
 use Rattle.af_model.proofs.Fates.{in_turn}
-use Rattle.af_model.proofs.Logic.{both_left, both_right, both_are, outside-some}
+use Rattle.af_model.proofs.Logic.{both_right, outside-some}
 use Rattle.af_model.proofs.RoomKept.{AllFit, fit_split, all_fit, room_in}
 use Rattle.af_runs.specs.Clients.{state_in}
 use Rattle.af_enough_law.specs.Seen.{Stands, frames_put, taken_by, frames_taken, status_by, last_status, is_calm, are_calm, is_hand_calm, are_hands_calm}
-use Rattle.af_enough_law.proofs.SeenBlocks.{client_cut, legal_cut, server_append, client_learnt, consumed_is, released_is, status_is}
+use Rattle.af_enough_law.proofs.SeenBlocks.{client_cut, client_learnt, consumed_is, released_is, status_is}
 
 pub hand_append : (late early : List Moment) → hand_of (late ++ early) ≡ hand_of early ++ hand_of late
 hand_append [] early = sym (append-nil (hand_of early))
@@ -32,11 +35,11 @@ hand_append (by_hand e ∷ late) early = ap (λ z. z ++ e ∷ []) (hand_append l
 
 pub calm_split : (xs ys : List ServerEvent) → are_calm (xs ++ ys) ≡ true → (are_calm xs ≡ true) × (are_calm ys ≡ true)
 calm_split [] ys h = (refl, h)
-calm_split (x ∷ xs) ys h = let rest = calm_split xs ys (both_right (is_calm x) (are_calm (xs ++ ys)) h) in (both_are (is_calm x) (are_calm xs) (both_left (is_calm x) (are_calm (xs ++ ys)) h) rest.0, rest.1)
+calm_split (x ∷ xs) ys h = let rest = calm_split xs ys (both_right (is_calm x) (are_calm (xs ++ ys)) h) in (both_true (is_calm x) (are_calm xs) (both_first (is_calm x) (are_calm (xs ++ ys)) h) rest.0, rest.1)
 
 pub hands_split : (xs ys : List HandEvent) → are_hands_calm (xs ++ ys) ≡ true → (are_hands_calm xs ≡ true) × (are_hands_calm ys ≡ true)
 hands_split [] ys h = (refl, h)
-hands_split (x ∷ xs) ys h = let rest = hands_split xs ys (both_right (is_hand_calm x) (are_hands_calm (xs ++ ys)) h) in (both_are (is_hand_calm x) (are_hands_calm xs) (both_left (is_hand_calm x) (are_hands_calm (xs ++ ys)) h) rest.0, rest.1)
+hands_split (x ∷ xs) ys h = let rest = hands_split xs ys (both_right (is_hand_calm x) (are_hands_calm (xs ++ ys)) h) in (both_true (is_hand_calm x) (are_hands_calm xs) (both_first (is_hand_calm x) (are_hands_calm (xs ++ ys)) h) rest.0, rest.1)
 
 calm_keeps : (e : ServerEvent) → is_calm e ≡ true → keeps_all e ≡ true
 calm_keeps (server.SawGain word) h = refl
@@ -52,11 +55,7 @@ calm_keeps (server.Learn n) h = refl
 
 pub calm_drops : (es : List ServerEvent) → are_calm es ≡ true → drops_none es ≡ true
 calm_drops [] h = refl
-calm_drops (e ∷ es) h = both_are (keeps_all e) (drops_none es) (calm_keeps e (both_left (is_calm e) (are_calm es) h)) (calm_drops es (both_right (is_calm e) (are_calm es) h))
-
-not_not : (b : Bool) → not b ≡ true → b ≡ false
-not_not true h = absurd (true≢false (sym h))
-not_not false h = refl
+calm_drops (e ∷ es) h = both_true (keeps_all e) (drops_none es) (calm_keeps e (both_first (is_calm e) (are_calm es) h)) (calm_drops es (both_right (is_calm e) (are_calm es) h))
 
 calm_status : (w : ℕ) (e : ServerEvent) → is_calm e ≡ true → (state_in w == 15) ≡ false → (state_in (status_by w e) == 15) ≡ false
 calm_status w (server.SawGain word) h low = low
@@ -67,13 +66,13 @@ calm_status w (server.Drop to) h low = low
 calm_status w (server.Take count) h low = low
 calm_status w (server.Tally missing) h low = low
 calm_status w (server.SetFlags bits) h low = low
-calm_status w (server.SetStatus word) h low = not_not (state_in word == 15) h
+calm_status w (server.SetStatus word) h low = not_true (state_in word == 15) h
 calm_status w (server.Learn n) h low = low
 
 -- no calm status says that a track was shut
 pub status_calm : (w : ℕ) (es : List ServerEvent) → are_calm es ≡ true → (state_in w == 15) ≡ false → (state_in (fold status_by w es) == 15) ≡ false
 status_calm w [] h low = low
-status_calm w (e ∷ es) h low = status_calm (status_by w e) es (both_right (is_calm e) (are_calm es) h) (calm_status w e (both_left (is_calm e) (are_calm es) h) low)
+status_calm w (e ∷ es) h low = status_calm (status_by w e) es (both_right (is_calm e) (are_calm es) h) (calm_status w e (both_first (is_calm e) (are_calm es) h) low)
 
 -- no flag but UNDERRUN is set
 abbrev pub IsQuiet : ℕ → Type 0
@@ -117,8 +116,8 @@ quiet_hand p (hand.Met count) h q = q
 pub quiet_in : (k : Shape) (order : List Moment) → are_calm (server_of order) ≡ true → are_hands_calm (hand_of order) ≡ true → IsQuiet (after (start k) order).flags
 quiet_in k [] calm hands = inl refl
 quiet_in k (by_client e ∷ order) calm hands = quiet_client (after (start k) order) e (quiet_in k order calm hands)
-quiet_in k (by_server e ∷ order) calm hands = let c = calm_split (server_of order) (e ∷ []) calm in quiet_server (after (start k) order) e (both_left (is_calm e) true c.1) (quiet_in k order c.0 hands)
-quiet_in k (by_hand e ∷ order) calm hands = let c = hands_split (hand_of order) (e ∷ []) hands in quiet_hand (after (start k) order) e (both_left (is_hand_calm e) true c.1) (quiet_in k order calm c.0)
+quiet_in k (by_server e ∷ order) calm hands = let c = calm_split (server_of order) (e ∷ []) calm in quiet_server (after (start k) order) e (both_first (is_calm e) true c.1) (quiet_in k order c.0 hands)
+quiet_in k (by_hand e ∷ order) calm hands = let c = hands_split (hand_of order) (e ∷ []) hands in quiet_hand (after (start k) order) e (both_first (is_hand_calm e) true c.1) (quiet_in k order calm c.0)
 
 -- a front of a list that is longer took more
 tail_of : {X : Type 0} → List X → List X

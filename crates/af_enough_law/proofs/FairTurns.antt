@@ -1,13 +1,15 @@
 -- A turn of a client on calm blocks is fair.
-use Rattle.std.proofs.Common.{◌≡◌, ◌⊎◌, inl, inr, ℕ, ◌+◌, ◌-◌, ◌*◌, ◌≤◌, ◌<◌, ◌==◌, Bool, true, false, List, [], ◌∷◌, ◌++◌, length, fold, refl, sym, ap, ◌∙◌, subst, arith, append_assoc, length-append, true≢false, Option, Some, None, is_some, if◌then◌else◌}
+use Rattle.std.proofs.Common.{◌≡◌, ◌⊎◌, inl, inr, ℕ, ◌+◌, ◌-◌, ◌*◌, ◌≤◌, ◌<◌, ◌==◌, Bool, true, false, List, [], ◌∷◌, ◌++◌, length, fold, refl, sym, ap, ◌∙◌, subst, arith, append_assoc, length-append, Option, Some, None, is_some, if◌then◌else◌}
 use Rattle.std.proofs.lemmas.List.{append-nil}
 use Rattle.std.specs.Prelude.{MatchOption}
+use Rattle.af_base.proofs.Basics.{no, some_same}
 use Rattle.af_base.specs.declared.event.ClientCall.{ClientCall}
 use Rattle.af_base.specs.declared.event.ClientCall.TheVariants as call
 use Rattle.af_base.specs.declared.event.ClientEvent.{ClientEvent}
 use Rattle.af_base.specs.declared.event.ClientEvent.TheVariants as client
 use Rattle.af_base.specs.declared.event.HandEvent.{HandEvent}
 use Rattle.af_base.specs.declared.event.ServerEvent.{ServerEvent}
+use Rattle.af_enough_law.proofs.Basics.{put-append}
 use Rattle.af_model.specs.declared.shape.Shape.{Shape}
 use Rattle.af_model.specs.ClientCalls.{client_kept, client_events_of, IsOutside, filled_by, IsClientList}
 use Rattle.af_model.specs.History.{HasHistory}
@@ -24,8 +26,7 @@ use Rattle.af_enough_law.specs.Playing.{Doing, opening, starting, settling, sett
 use Rattle.af_enough_law.proofs.Advancing.{ahead-far}
 use Rattle.af_enough_law.proofs.Doing.{at, codes_sent, codes_of, status_is, clear_is}
 use Rattle.af_enough_law.proofs.Fair.{no_dead, cleared_calm, no_corrupt, front_at, status_at, unshut, position_is, calm_split, status_calm}
-use Rattle.af_enough_law.proofs.SeenBlocks.{frames_put-append}
-use Rattle.af_enough_law.proofs.Turning.{shape_after, words_of, wanted_first, some_same, none_some, none_waiting, none_ended, Left, Came, still, blocked, gone, call_made}
+use Rattle.af_enough_law.proofs.Turning.{shape_after, words_of, wanted_first, none_some, none_waiting, none_ended, Left, Came, still, blocked, gone, call_made}
 
 -- a block whose lists have a history and stay calm, of whose server's events these were known
 pub record IsCalm (k : Shape) (ce : List ClientEvent) (known : List ServerEvent) : Type 0 where
@@ -89,9 +90,6 @@ words_long [] = refl
 words_long (c ∷ sent) = let rest = words_long sent in omega arith
 
 -- ## One call
-
-no : {A : Type 0} → false ≡ true → A
-no e = absurd (true≢false (sym e))
 
 -- no answer is outside the room
 outside_not : (k : Shape) (ce : List ClientEvent) (known : List ServerEvent) (c : IsCalm k ce known) (events tail : List ClientEvent) (front rear : ℕ) (kept : Option (ℕ × ℕ)) → (client_kept k.frames k.base events).shut ≡ kept
@@ -255,13 +253,13 @@ words_counted t (call.Cleared flags) fair is = is
 words_counted t (call.Flush count) fair is = absurd fair
 words_counted t (call.Gain word) fair is = is
 words_counted t (call.Sent front code argument) fair is =
-    let a = frames_put-append t.commands.events (client.SawFlags 0 ∷ client.SawFront front ∷ client.Release 2 ∷ []) in
+    let a = put-append t.commands.events (client.SawFlags 0 ∷ client.SawFront front ∷ client.Release 2 ∷ []) in
     let b = length-append t.commands.released (code ∷ argument ∷ []) in
     omega arith
 words_counted t (call.SendFull front) fair is = absurd fair
 words_counted t (call.SendDead flags) fair is = absurd fair
 words_counted t (call.SendCorrupt front rear) fair is = absurd fair
-words_counted t (call.Status word) fair is = let a = frames_put-append t.commands.events (client.SawStatus word ∷ []) in let b = length-append t.commands.released [] in omega arith
+words_counted t (call.Status word) fair is = let a = put-append t.commands.events (client.SawStatus word ∷ []) in let b = length-append t.commands.released [] in omega arith
 words_counted t (call.Poke in_command word value) fair is = absurd fair
 
 pub codes_long : (sent : List (ℕ × ℕ)) (codes : List ℕ) → codes_of sent ≡ codes → length (words_of sent) ≡ 2 * length codes

@@ -3,11 +3,12 @@ use Rattle.std.proofs.Common.{◌≡◌, ℕ, ◌+◌, min, is_some, true, false
 use Rattle.af_base.specs.declared.event.ServerEvent.{ServerEvent}
 use Rattle.af_base.specs.declared.event.ServerEvent.TheVariants as server
 use Rattle.af_base.specs.declared.state.FastTrack.{FastTrack}
+use Rattle.af_model.proofs.Basics.{both_first}
 use Rattle.af_model.specs.declared.shape.Shape.{Shape}
 use Rattle.af_model.specs.Cycles.{kept}
 use Rattle.af_model.specs.Fates.{keeps_all, drops_none}
 use Rattle.af_model.specs.ServerCalls.{ServerKept, server_keeps, server_begins}
-use Rattle.af_model.proofs.Logic.{both_left, both_right}
+use Rattle.af_model.proofs.Logic.{both_right}
 use Rattle.af_runs.specs.Blocks.{BlockTold, server_list, listed}
 use Rattle.af_runs.specs.Runs.{Run, told_at}
 use Rattle.af_enough_law.specs.Seen.{taken_by, frames_taken}
@@ -28,7 +29,7 @@ keeps_taken k s (server.Learn n) h = omega arith
 kept_taken : (k : Shape) (s : ServerKept) (es : List ServerEvent) → drops_none es ≡ true → (fold (server_keeps k) s es).consumed ≡ s.consumed + frames_taken es
 kept_taken k s [] none = omega arith
 kept_taken k s (e ∷ es) none =
-    let now = keeps_taken k s e (both_left (keeps_all e) (drops_none es) none) in
+    let now = keeps_taken k s e (both_first (keeps_all e) (drops_none es) none) in
     let rest = kept_taken k (server_keeps k s e) es (both_right (keeps_all e) (drops_none es) none) in
     omega arith
 

@@ -1,27 +1,25 @@
 -- The fast mixer ends in a round before which an Exit was pushed last.
-use Rattle.std.proofs.Common.{◌≡◌, ◌⊎◌, inl, inr, ℕ, ◌+◌, ◌≤◌, ◌||◌, Bool, true, false, Some, List, [], ◌∷◌, ◌++◌, length, refl, sym, ap, ◌∙◌, subst, arith, length-append}
+use Rattle.std.proofs.Common.{◌≡◌, ◌⊎◌, inl, inr, ℕ, ◌+◌, ◌≤◌, ◌||◌, Bool, true, false, Some, List, [], ◌∷◌, ◌++◌, length, sym, ap, ◌∙◌, subst, arith, length-append}
 use Rattle.std.proofs.lemmas.Grind.{fold-append}
 use Rattle.std.proofs.lemmas.List.{take-append-drop}
+use Rattle.af_base.proofs.Basics.{or_true}
 use Rattle.af_base.specs.declared.log.CycleEntry.{CycleEntry}
 use Rattle.af_base.specs.declared.state.Command.TheVariants.{Exit}
 use Rattle.af_base.specs.declared.state.FastState.{FastState}
+use Rattle.af_judge.proofs.Basics.{calls_states}
 use Rattle.af_model.specs.Cycles.{state_of, cycle_by, cycle_of, cold_done, has_exit, is_exit}
 use Rattle.af_model.specs.Journals.{EntrySeen, RoundSeen}
+use Rattle.af_runs.proofs.Basics.{state_more}
 use Rattle.af_runs.specs.Blocks.{Marks}
 use Rattle.af_runs.specs.Rounds.{LegalEntry, LegalEntries, LegalRound, early_count, early_of, late_of, before_turn, found_in, after_turn, all_played, met_after, after_round}
 use Rattle.af_runs.specs.Runs.{Run, with_calls, with_poll, with_cycle, with_cycles, fast_ended}
 use Rattle.af_runs.specs.Sessions.{Session}
 use Rattle.af_enough_law.specs.FastFlows.{AllUse, KnowsStates}
 use Rattle.af_enough_law.proofs.FastFound.{cycle_current}
-use Rattle.af_enough_law.proofs.FastMixes.{state_more}
-use Rattle.af_enough_law.proofs.FastPolls.{calls_states, fast_parts, parts_use, turn_more}
+use Rattle.af_enough_law.proofs.FastPolls.{fast_parts, parts_use, turn_more}
 use Rattle.af_enough_law.proofs.FastReports.{turned_same, loaded_same, met_same, ends_same}
 use Rattle.af_enough_law.proofs.FastSteps.{cycle_states}
 use Rattle.af_enough_law.proofs.QueueRounds.{some_entry, some_part}
-
-or_true : (b : Bool) → (b || true) ≡ true
-or_true true = refl
-or_true false = refl
 
 pub exit_added : (entries : List CycleEntry) (entry : CycleEntry) → (is_exit entry.cycle ≡ true) ⊎ (has_exit entries ≡ true) → has_exit (entries ++ entry ∷ []) ≡ true
 exit_added entries entry h = fold-append (λ (found : Bool) (x : CycleEntry). found || is_exit x.cycle) false entries (entry ∷ []) ∙ by h

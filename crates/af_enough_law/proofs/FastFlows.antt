@@ -3,19 +3,19 @@ use Rattle.std.proofs.Common.{◌≡◌, ◌⊎◌, inl, inr, ℕ, ◌+◌, ◌�
 use Rattle.af_base.specs.declared.event.ClientEvent.{ClientEvent}
 use Rattle.af_base.specs.declared.event.ServerEvent.{ServerEvent}
 use Rattle.af_base.specs.declared.event.ServerEvent.TheVariants as server
-use Rattle.af_base.specs.declared.seen.Seen.{Seen}
 use Rattle.af_base.specs.declared.seen.Seen.TheVariants as seen
 use Rattle.af_base.specs.declared.state.FastState.{FastState}
 use Rattle.af_base.specs.declared.state.FastTrack.{FastTrack}
 use Rattle.af_base.specs.Log.{slots, entry_slot, count_seen}
 use Rattle.af_model.specs.declared.shape.Shape.{Shape}
-use Rattle.af_model.specs.Cycles.{IsSeen, Listed, LooksBy, cycle_events}
+use Rattle.af_model.specs.Cycles.{Listed, LooksBy, cycle_events}
 use Rattle.af_model.specs.Fates.{drops_none}
 use Rattle.af_model.specs.Journals.{EntrySeen}
 use Rattle.af_model.specs.ServerCalls.{server_kept}
 use Rattle.af_model.specs.StateQueue.{slot_of}
+use Rattle.af_runs.proofs.Basics.{shown_if}
 use Rattle.af_runs.specs.Blocks.{BlockTold, Marks, client_list, server_list, listed}
-use Rattle.af_runs.specs.Fronts.{front_of, is_shown}
+use Rattle.af_runs.specs.Fronts.{front_of}
 use Rattle.af_runs.specs.Rounds.{LegalEntry, LegalEntries}
 use Rattle.af_runs.specs.Runs.{Run, TrackTold, told_at, slot_for, played, mixed_track, state_for, with_poll, with_cycle, with_cycles}
 use Rattle.af_runs.specs.Sessions.{Session, cycle_frames}
@@ -83,13 +83,6 @@ pub record PlaysTrack (s : Session) (run : Run) (e : EntrySeen) (track i : ℕ) 
   pub looks : LooksBy (cycle_frames s) (listed (told_at run track).stream) (entry_slot e.entry i) front
   pub stream : (told_at (with_cycle s run e) track).stream ≡ played (cycle_frames s) e i (told_at run track).stream
 
-pub shown_of : (answer : Seen) → IsSeen answer → is_shown answer ≡ true
-shown_of seen.Absent is = absurd is
-shown_of (seen.Frames count) is = refl
-shown_of seen.Empty is = refl
-shown_of (seen.Flushed dropped) is = refl
-shown_of (seen.Shut front rear) is = refl
-
 pub plays_track : (s : Session) (marks : Marks) (run : Run) (e : EntrySeen) (track i : ℕ) (item : FastTrack) → i < slots → item.track ≡ track → track < length run.tracks → LegalEntry s marks (with_poll s e.entry.state run) e
     → Uses (Plays i item) run.states e.entry.state → PlaysTrack s run e track i
 unfolding with_poll
@@ -105,7 +98,7 @@ plays_track s marks run e track i item low is there legal uses =
     let found : (slot_of (state_for s now e.entry.state) i).track ≡ track = ap (λ (y : FastState). (slot_of y i).track) same ∙ track_is in
     let looks : LooksBy (cycle_frames s) (listed (told_at run track).stream) (entry_slot e.entry i) slot.front =
     subst (λ (n : ℕ). LooksBy (cycle_frames s) (listed (told_at run n).stream) (entry_slot e.entry i) slot.front) found slot.looks in
-    let only = slot_only x e track i low p.carried track_is (λ j less carried same. p.only j less carried (same ∙ sym is)) (shown_of (entry_slot e.entry i).seen looks.0) in
+    let only = slot_only x e track i low p.carried track_is (λ j less carried same. p.only j less carried (same ∙ sym is)) (shown_if (entry_slot e.entry i).seen looks.0) in
     record {
       front = slot.front;
       looks = looks;

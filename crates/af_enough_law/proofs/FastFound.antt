@@ -1,6 +1,7 @@
 -- The report that a turn finds: it is told by the entries of the round without the state that the turn pushes, and goes on from the one before the round all the same.
 use Rattle.std.proofs.Common.{◌≡◌, ◌⊎◌, inl, inr, ℕ, ◌≤◌, ◌<◌, ◌||◌, ◌&&◌, if◌then◌else◌, unwrap_or, is_some, Bool, true, false, Option, Some, None, List, [], ◌∷◌, ◌++◌, length, length-append, refl, sym, ap, ◌∙◌, subst, arith, append_assoc, append-nil}
 use Rattle.std.proofs.lemmas.List.{take-append-drop}
+use Rattle.af_base.proofs.Basics.{or_true}
 use Rattle.af_base.specs.declared.log.CycleEntry.{CycleEntry}
 use Rattle.af_base.specs.declared.report.Report.{Report}
 use Rattle.af_base.specs.declared.report.SlotReport.{SlotReport}
@@ -9,6 +10,7 @@ use Rattle.af_base.specs.declared.seen.Seen.TheVariants as seen
 use Rattle.af_base.specs.declared.state.FastState.{FastState}
 use Rattle.af_base.specs.declared.state.FastTrack.{FastTrack}
 use Rattle.af_base.specs.Log.{slots, entry_slot}
+use Rattle.af_judge.proofs.Basics.{calls_states, ends_part}
 use Rattle.af_model.specs.Cycles.{Listed, cycle_events, kept, state_of, last_used}
 use Rattle.af_model.specs.Draft.{initial}
 use Rattle.af_model.specs.Journals.{EntrySeen, RoundSeen}
@@ -24,8 +26,8 @@ use Rattle.af_runs.specs.Told.{state_at}
 use Rattle.af_enough_law.specs.FastFlows.{AllUse, AllStates, Plays, slot_told, IsTold, LastCarries, IsShown, AllShown, Since, FlowsIn, HasItem}
 use Rattle.af_enough_law.proofs.FastFlows.{cycle_later, later_both, Later, entries_take, cycles_later, plays_track, Lies, lies_before, entry_look}
 use Rattle.af_enough_law.proofs.FastReports.{slot_counts, last_more, calls_same, slot_same, last_same, told_same, known_quiet}
-use Rattle.af_enough_law.proofs.FastPolls.{calls_states, parts_use, fast_parts, use-append, turn_more}
-use Rattle.af_enough_law.proofs.FastRounds.{Quiet, over, ends_part}
+use Rattle.af_enough_law.proofs.FastPolls.{parts_use, fast_parts, use-append, turn_more}
+use Rattle.af_enough_law.proofs.FastRounds.{Quiet, over}
 use Rattle.af_enough_law.proofs.FastTakes.{flowed, quiet_none, quiet_unshut}
 use Rattle.af_enough_law.proofs.FastSince.{Adds, known_more, since_number}
 use Rattle.af_enough_law.proofs.FastSteps.{cycle_states, cycle_length, cycle_track, mixed_stream, played_server, slot_only}
@@ -49,10 +51,6 @@ use Rattle.af_life.specs.Kept.{NormalKept}
 pub cycle_current : (s : Session) (run : Run) (e : EntrySeen) → ((with_cycle s run e).current ≡ (with_poll s e.entry.state run).current) × ((with_cycle s run e).entries ≡ run.entries ++ e.entry ∷ [])
 unfolding with_poll with_mix
 cycle_current s run e = (refl, refl)
-
-or_true : (b : Bool) → (b || true) ≡ true
-or_true true = refl
-or_true false = refl
 
 -- the slot of an entry whose state counts as one that carries it, if its look is shown
 next_found : (s : Session) (run : Run) (entry : CycleEntry) (before : List SlotReport) (i : ℕ) (x : FastState) → state_for s run entry.state ≡ x → carries x i ≡ true → is_shown (entry_slot entry i).seen ≡ true → carries (state_for s run (last_used run.entries)) i ≡ true

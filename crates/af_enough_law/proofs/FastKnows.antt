@@ -1,11 +1,13 @@
 -- What the fast mixer knows after a round.
-use Rattle.std.proofs.Common.{◌≡◌, ℕ, ◌<◌, Bool, true, false, List, [], ◌∷◌, ◌++◌, length, take, refl, sym, ap, ◌∙◌, subst, arith, length-append}
+use Rattle.std.proofs.Common.{◌≡◌, ℕ, ◌<◌, Bool, true, false, List, [], ◌∷◌, ◌++◌, length, take, sym, ap, ◌∙◌, subst, arith, length-append}
 use Rattle.std.proofs.Math.Seq.{take-append_seam}
 use Rattle.af_base.specs.declared.event.ClientEvent.{ClientEvent}
 use Rattle.af_base.specs.declared.event.ClientEvent.TheVariants as client
 use Rattle.af_base.specs.declared.event.HandEvent.TheVariants as hand
 use Rattle.af_base.specs.declared.event.ServerEvent.{ServerEvent}
 use Rattle.af_base.specs.declared.event.ServerEvent.TheVariants as server
+use Rattle.af_enough_law.proofs.Basics.{part_met, put-append}
+use Rattle.af_judge.proofs.Basics.{ends_part, told_each}
 use Rattle.af_model.specs.Journals.{RoundSeen}
 use Rattle.af_runs.specs.Blocks.{BlockTold, client_list, server_list, client_does, meets, meets_flag}
 use Rattle.af_runs.specs.Rounds.{all_played, met_after, after_round}
@@ -13,9 +15,8 @@ use Rattle.af_runs.specs.Runs.{Run, TrackTold, told_at, takes_part, stream_met, 
 use Rattle.af_runs.specs.Sessions.{Session}
 use Rattle.af_enough_law.specs.Seen.{frames_put}
 use Rattle.af_enough_law.specs.FastFlows.{KnowsReleased}
-use Rattle.af_enough_law.proofs.FastRounds.{ends_part, over, all_length}
-use Rattle.af_enough_law.proofs.FastShows.{put-append}
-use Rattle.af_enough_law.proofs.FastSteps.{server_does-server, server_does-client, client_does-client, client_does-server, hand_does-client, hand_does-server, told_each}
+use Rattle.af_enough_law.proofs.FastRounds.{over, all_length}
+use Rattle.af_enough_law.proofs.FastSteps.{server_does-server, server_does-client, client_does-client, client_does-server, hand_does-client, hand_does-server}
 
 -- ## What was released
 
@@ -46,10 +47,6 @@ met_knows true b =
     (hand_does-client (hand.Met (length (client_list (meets b))) ∷ []) (meets b) ∙ meets_client b) (hand_does-server (hand.Met (length (client_list (meets b))) ∷ []) (meets b) ∙ meets_server b)
 met_knows false b = knows_by (client_list b) (server_list b) (length (server_list b)) (meets b) (meets_client b) (meets_server b)
 
-met_part : (s : Session) (run : Run) (track : ℕ) → takes_part s (met s run) track ≡ takes_part s run track
-unfolding met
-met_part s run track = refl
-
 met_knows_at : (s : Session) (run : Run) (track : ℕ) → track < length run.tracks → takes_part s run track ≡ true → KnowsReleased (told_at (met s run) track).stream
 unfolding met
 met_knows_at s run track low part =
@@ -61,5 +58,5 @@ pub knows_released : (s : Session) (run : Run) (round : RoundSeen) (track : ℕ)
 knows_released s run round track low part =
     let all = all_length s run round in
     let at_met : takes_part s (met_after s run round) track ≡ true = sym (ends_part s (met_after s run round) track) ∙ part in
-    let at_end : takes_part s (all_played s run round) track ≡ true = sym (met_part s (all_played s run round) track) ∙ at_met in
+    let at_end : takes_part s (all_played s run round) track ≡ true = sym (part_met s (all_played s run round) track) ∙ at_met in
     subst KnowsReleased (sym (over s run round track low).whole) (met_knows_at s (all_played s run round) track (omega (arith, all, low)) at_end)

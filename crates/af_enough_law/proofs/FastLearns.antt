@@ -7,6 +7,7 @@ use Rattle.af_base.specs.declared.state.FastState.{FastState}
 use Rattle.af_base.specs.declared.state.Push.{Push}
 use Rattle.af_base.specs.declared.state.Push.TheVariants.{Pushed, Clean, Busy}
 use Rattle.af_base.specs.Turn.{Turn, ended_turn}
+use Rattle.af_enough_law.proofs.Basics.{before_normal}
 use Rattle.af_life.specs.Kept.{Setup, NormalKept, Outside}
 use Rattle.af_life.specs.Heard.{learnt}
 use Rattle.af_life.specs.Turn.{after_edits}
@@ -108,22 +109,6 @@ turned_counts s marks found first run (Some e) same legal next counts = by first
     by : (b : Bool) → first.normal.ended ≡ b → MatchBool b (Some e ≡ None) (LegalTurnBy (setup_of s) marks (found e) first.normal e) → CountsStates s (with_turn s (found e) e run)
     by true is none = absurd (true≢false (ap is_some none))
     by false is l = turn_counts_states s (found e) e run (ap (λ (m : NormalKept). m.ended) same ∙ is) (λ gone. still_none e (l.legal.still gone)) next counts
-
-calls_normal : (round : RoundSeen) (run : Run) → (with_calls round run).normal ≡ run.normal
-unfolding with_calls
-calls_normal round run = refl
-
-cycle_normal : (s : Session) (run : Run) (e : EntrySeen) → (with_cycle s run e).normal ≡ run.normal
-unfolding with_poll with_mix
-cycle_normal s run e = refl
-
-cycles_normal : (s : Session) (es : List EntrySeen) (run : Run) → (with_cycles s es run).normal ≡ run.normal
-cycles_normal s [] run = refl
-cycles_normal s (e ∷ es) run = cycles_normal s es (with_cycle s run e) ∙ cycle_normal s run e
-
--- the mixer at its turn is the one before the round
-pub before_normal : (s : Session) (run : Run) (round : RoundSeen) → (before_turn s run round).normal ≡ run.normal
-before_normal s run round = cycles_normal s (early_of run round) (with_calls round run) ∙ calls_normal round run
 
 pub met_queue : (s : Session) (run : Run) → (met s run).queue ≡ run.queue ++ one (mutator.Learn (length (twos run.queue))) ∷ two (observer.Learn (length (ones run.queue))) ∷ []
 unfolding met

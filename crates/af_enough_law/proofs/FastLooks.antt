@@ -3,65 +3,26 @@ use Rattle.std.proofs.Common.{◌≡◌, ℕ, ◌+◌, ◌*◌, ◌%◌, ◌≤�
 use Rattle.std.proofs.Math.Nat.{zero-mod}
 use Rattle.std.proofs.lemmas.Grind.{fold-append}
 use Rattle.af_base.specs.declared.event.ClientEvent.{ClientEvent}
-use Rattle.af_base.specs.declared.event.ClientEvent.TheVariants as client
 use Rattle.af_base.specs.declared.event.HandEvent.{HandEvent}
-use Rattle.af_base.specs.declared.event.HandEvent.TheVariants as hand
 use Rattle.af_base.specs.declared.event.ServerEvent.{ServerEvent}
 use Rattle.af_base.specs.declared.event.ServerEvent.TheVariants as server
+use Rattle.af_enough_law.proofs.Basics.{flush_none}
+use Rattle.af_judge.proofs.Basics.{client_append, legal_cut}
+use Rattle.af_model.proofs.Basics.{flushes-append}
 use Rattle.af_model.specs.declared.point.TrackPoint.{TrackPoint}
 use Rattle.af_model.specs.declared.shape.Shape.{Shape}
 use Rattle.af_model.specs.ClientCalls.{client_begins, IsClientList}
 use Rattle.af_model.specs.Fates.{drops_none}
-use Rattle.af_model.specs.History.{Moment, by_client, by_server, by_hand, client_of, server_of, after, flush_in, flushes_of, IsLegal, HasHistory}
-use Rattle.af_model.specs.Point.{wrapped, start, flush_number, flush_word, ServerMay, after_client, after_server, after_hand}
+use Rattle.af_model.specs.History.{Moment, by_client, by_server, by_hand, client_of, server_of, after, flushes_of, IsLegal, HasHistory}
+use Rattle.af_model.specs.Point.{wrapped, start, flush_number, flush_word, ServerMay}
 use Rattle.af_model.specs.ServerCalls.{ServerKept, server_keeps, server_begins, server_kept}
 use Rattle.af_model.proofs.Counts.{flushes_are}
 use Rattle.af_model.proofs.Fates.{in_turn}
 use Rattle.af_model.proofs.RoomKept.{AllFit, all_fit, fit_split, room_in}
 use Rattle.af_enough_law.specs.Seen.{Stands, frames_put, frames_taken}
-use Rattle.af_enough_law.proofs.SeenBlocks.{server_cut, legal_cut, server_learnt, client_append, released_is, consumed_is}
-
-flushes-append : (xs ys : List ClientEvent) → flushes_of (xs ++ ys) ≡ flushes_of xs + flushes_of ys
-flushes-append [] ys = omega arith
-flushes-append (x ∷ xs) ys = let rest = flushes-append xs ys in omega arith
+use Rattle.af_enough_law.proofs.SeenBlocks.{server_cut, server_learnt, released_is, consumed_is}
 
 -- ## Without flushes
-
-flush_at_client : (p : TrackPoint) (e : ClientEvent) → flush_in e ≡ 0 → (after_client p e).flush_at ≡ p.flush_at
-flush_at_client p (client.Release count) none = refl
-flush_at_client p client.Flush none = absurd (omega (arith, none))
-flush_at_client p (client.SetGain word) none = refl
-flush_at_client p (client.ClearFlags old) none = refl
-flush_at_client p (client.SawFlags flags) none = refl
-flush_at_client p (client.SawFront front) none = refl
-flush_at_client p (client.SawStatus word) none = refl
-flush_at_client p (client.Poke word value) none = refl
-flush_at_client p (client.Learn n) none = refl
-
-flush_at_server : (p : TrackPoint) (e : ServerEvent) → (after_server p e).flush_at ≡ p.flush_at
-flush_at_server p (server.SawGain word) = refl
-flush_at_server p (server.SawFlush flush) = refl
-flush_at_server p (server.SawRear rear) = refl
-flush_at_server p (server.SawFront front) = refl
-flush_at_server p (server.Drop to) = refl
-flush_at_server p (server.Take count) = refl
-flush_at_server p (server.Tally missing) = refl
-flush_at_server p (server.SetFlags bits) = refl
-flush_at_server p (server.SetStatus word) = refl
-flush_at_server p (server.Learn n) = refl
-
-flush_at_hand : (p : TrackPoint) (e : HandEvent) → (after_hand p e).flush_at ≡ p.flush_at
-flush_at_hand p (hand.SetFlags bits) = refl
-flush_at_hand p (hand.Met n) = refl
-
--- nothing was flushed
-flush_at_none : (k : Shape) (order : List Moment) → flushes_of (client_of order) ≡ 0 → (after (start k) order).flush_at ≡ 0
-flush_at_none k [] none = refl
-flush_at_none k (by_client e ∷ order) none =
-    let both = flushes-append (client_of order) (e ∷ []) in
-    flush_at_client (after (start k) order) e (omega arith) ∙ flush_at_none k order (omega arith)
-flush_at_none k (by_server e ∷ order) none = flush_at_server (after (start k) order) e ∙ flush_at_none k order none
-flush_at_none k (by_hand e ∷ order) none = flush_at_hand (after (start k) order) e ∙ flush_at_none k order none
 
 number_none : (wrap : ℕ) (b : Bool) → (if b then 0 else wrapped (0 * wrap + 0 % wrap)) ≡ 0
 number_none wrap true = refl
@@ -70,7 +31,7 @@ number_none wrap false = ap wrapped (let z : 0 % wrap ≡ 0 = zero-mod wrap in l
 -- if the client never flushed, the flush word is 0
 flush_word_none : (k : Shape) (order : List Moment) → flushes_of (client_of order) ≡ 0 → flush_word (after (start k) order) ≡ 0
 flush_word_none k order none =
-    ap (λ (x : ℕ × ℕ). flush_number (after (start k) order).wrap x.0 x.1) (λ i. ((flushes_are k order ∙ none) i, flush_at_none k order none i)) ∙ number_none (after (start k) order).wrap ((after (start k) order).wrap == 0)
+    ap (λ (x : ℕ × ℕ). flush_number (after (start k) order).wrap x.0 x.1) (λ i. ((flushes_are k order ∙ none) i, flush_none k order none i)) ∙ number_none (after (start k) order).wrap ((after (start k) order).wrap == 0)
 
 keeps_flush : (k : Shape) (kept : ServerKept) (p : TrackPoint) (n : ℕ) (e : ServerEvent) → ServerMay p n e → flush_word p ≡ 0 → kept.flush ≡ 0 → (server_keeps k kept e).flush ≡ 0
 keeps_flush k kept p n (server.SawGain word) may none is = is

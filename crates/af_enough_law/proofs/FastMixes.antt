@@ -1,32 +1,23 @@
 -- If the states that a round may use mix, each of its entries is Mixed.
-use Rattle.std.proofs.Common.{◌≡◌, ◌⊎◌, inl, inr, ℕ, zero, suc, ◌≤◌, true, false, true≢false, Option, Some, List, [], ◌∷◌, ◌++◌, length, refl, sym, ap, ◌∙◌, subst, arith, append-nil}
+use Rattle.std.proofs.Common.{◌≡◌, ◌⊎◌, inl, inr, ℕ, ◌≤◌, true, false, true≢false, Option, Some, List, [], ◌∷◌, ◌++◌, length, sym, ap, ◌∙◌, subst, arith, append-nil}
 use Rattle.std.proofs.lemmas.List.{take-append-drop}
 use Rattle.af_base.specs.declared.log.Cycle.{Cycle}
 use Rattle.af_base.specs.declared.state.Command.TheVariants.{MixWrite}
 use Rattle.af_base.specs.declared.state.FastState.{FastState}
+use Rattle.af_enough_law.proofs.Basics.{state_there}
+use Rattle.af_judge.proofs.Basics.{calls_states}
 use Rattle.af_model.specs.Cycles.{state_of, cycle_by, cycle_of, cold_done, is_mixed}
 use Rattle.af_model.specs.Journals.{EntrySeen, RoundSeen}
+use Rattle.af_runs.proofs.Basics.{state_more}
 use Rattle.af_runs.specs.Blocks.{Marks}
 use Rattle.af_runs.specs.Rounds.{AreMixedBut, LegalEntry, LegalEntries, LegalRound, early_count, early_of, late_of, after_turn, after_round}
 use Rattle.af_runs.specs.Runs.{Run, with_calls, with_poll, with_cycle, fast_ended}
 use Rattle.af_runs.specs.Sessions.{Session}
 use Rattle.af_enough_law.specs.FastFlows.{KnowsStates, AllUse, AllStates, AllMixed, MixesAll}
 use Rattle.af_enough_law.proofs.FastSteps.{cycle_states}
-use Rattle.af_enough_law.proofs.FastPolls.{MoreStates, calls_states, round_states, turn_more, parts_use, fast_parts}
+use Rattle.af_enough_law.proofs.FastPolls.{MoreStates, round_states, turn_more, parts_use, fast_parts}
 
 -- ## States by their numbers
-
-pub state_more : (xs ys : List FastState) (k : ℕ) → k ≤ length xs → state_of (xs ++ ys) k ≡ state_of xs k
-state_more xs ys zero low = refl
-state_more [] ys (suc k) low = absurd (omega (arith, low))
-state_more (x ∷ xs) ys (suc zero) low = refl
-state_more (x ∷ xs) ys (suc (suc k)) low = state_more xs ys (suc k) (omega (arith, low))
-
-state_there : (xs : List FastState) (k : ℕ) → 1 ≤ k → k ≤ length xs → (x : FastState) × (state_of xs k ≡ Some x)
-state_there xs zero low high = absurd (omega (arith, low))
-state_there [] (suc k) low high = absurd (omega (arith, high))
-state_there (x ∷ xs) (suc zero) low high = (x, refl)
-state_there (x ∷ xs) (suc (suc k)) low high = state_there xs (suc k) (omega arith) (omega (arith, high))
 
 -- the state that an entry uses
 pub record Uses (P : FastState → Type 0) (states : List FastState) (k : ℕ) : Type 0 where

@@ -5,6 +5,7 @@ use Rattle.std.proofs.lemmas.List.{take-append-le, take-append-drop}
 use Rattle.std.proofs.lemmas.Grind.{fold-append}
 use Rattle.af_base.specs.declared.state.FastState.{FastState}
 use Rattle.af_base.specs.Turn.{Turn}
+use Rattle.af_judge.proofs.Basics.{calls_states, ends_states, loaded_states, met_states}
 use Rattle.af_model.specs.declared.states.MutatorEvent.{MutatorEvent}
 use Rattle.af_model.specs.declared.states.MutatorEvent.TheVariants as mutator
 use Rattle.af_model.specs.declared.states.ObserverEvent.{ObserverEvent}
@@ -15,10 +16,9 @@ use Rattle.af_model.specs.Order.{Event, one, two, ones, twos, Legal}
 use Rattle.af_model.specs.StateQueue as queued
 use Rattle.af_model.specs.StateQueue.{MutatorPoint, QueuePoint, mutator_start, mutator_next, mutated}
 use Rattle.af_runs.specs.Blocks.{Marks}
-use Rattle.af_runs.specs.Clients.{ends}
 use Rattle.af_runs.specs.Found.{TurnFound}
 use Rattle.af_runs.specs.Rounds.{IsFastTurn, LegalEntry, LegalEntries, LegalRound, early_of, late_of, before_turn, found_in, turned, after_turn, loaded, all_played, met_after, after_round}
-use Rattle.af_runs.specs.Runs.{Run, with_calls, with_poll, with_mix, with_cycle, with_cycles, with_turn, with_load, with_ends, met, each_track, fast_ended, most_cycles}
+use Rattle.af_runs.specs.Runs.{Run, with_calls, with_poll, with_mix, with_cycle, with_cycles, with_turn, with_load, met, fast_ended, most_cycles}
 use Rattle.af_runs.specs.Sessions.{Session, cycle_frames}
 use Rattle.af_runs.specs.Told.{Item, QueueTold, state_at, items_of, poll_events, HasQueueHistory}
 use Rattle.af_enough_law.specs.Seen.{Stands}
@@ -211,10 +211,6 @@ entries_new s marks known n number high (e ∷ es) run final k learnt g within l
 
 -- ## The states over a round
 
-pub calls_states : (round : RoundSeen) (run : Run) → (with_calls round run).states ≡ run.states
-unfolding with_calls
-calls_states round run = refl
-
 -- a run with more states
 pub record MoreStates (run later : Run) : Type 0 where
   pub more : List FastState
@@ -231,22 +227,6 @@ turned_states s found (Some e) run = turn_states s (found e) e run
 load_states : (e : Turn) (run : Run) → (with_load e run).states ≡ run.states
 unfolding with_load
 load_states e run = refl
-
-loaded_states : (o : Option Turn) (run : Run) → (loaded o run).states ≡ run.states
-loaded_states None run = refl
-loaded_states (Some e) run = load_states e run
-
-met_states : (s : Session) (run : Run) → (met s run).states ≡ run.states
-unfolding met
-met_states s run = refl
-
-ends_states : (run : Run) → (with_ends run).states ≡ run.states
-unfolding with_ends
-ends_states run = by run.normal.ended (each_track (λ track t. record t { client = ends t.client }) run) refl
-  where
-    by : (b : Bool) (x : Run) → x.states ≡ run.states → (if b then x else run).states ≡ run.states
-    by true x same = same
-    by false x same = refl
 
 -- the states after the turn are those after the round
 pub round_states : (s : Session) (run : Run) (round : RoundSeen) → (after_round s run round).states ≡ (after_turn s run round).states

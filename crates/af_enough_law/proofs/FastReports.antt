@@ -1,5 +1,5 @@
 -- What the reports of a round tell of a slot.
-use Rattle.std.proofs.Common.{◌≡◌, ◌⊎◌, inl, inr, ℕ, zero, suc, ◌+◌, ◌≤◌, ◌<◌, ◌==◌, ◌||◌, not, if◌then◌else◌, is_some, Bool, true, false, true≢false, Option, Some, None, List, [], ◌∷◌, ◌++◌, length, refl, sym, ap, ◌∙◌, arith, append-nil, append_assoc, length-append, min}
+use Rattle.std.proofs.Common.{◌≡◌, ◌⊎◌, inl, inr, ℕ, zero, suc, ◌+◌, ◌≤◌, ◌<◌, ◌==◌, ◌||◌, not, if◌then◌else◌, is_some, Bool, true, false, Option, Some, None, List, [], ◌∷◌, ◌++◌, length, refl, sym, ap, ◌∙◌, arith, append-nil, append_assoc, length-append, min}
 use Rattle.std.proofs.lemmas.Grind.{fold-append}
 use Rattle.std.proofs.lemmas.List.{take-append-drop}
 use Rattle.std.proofs.lemmas.List.FromFn.{get_or-map-range_with_len}
@@ -11,6 +11,7 @@ use Rattle.af_base.specs.declared.seen.Seen.TheVariants as seen
 use Rattle.af_base.specs.declared.state.FastState.{FastState}
 use Rattle.af_base.specs.declared.state.FastTrack.{FastTrack}
 use Rattle.af_base.specs.Log.{slots, entry_slot, count_seen}
+use Rattle.af_judge.proofs.Basics.{calls_states}
 use Rattle.af_model.specs.Cycles.{state_of, last_used}
 use Rattle.af_model.specs.Journals.{EntrySeen, RoundSeen}
 use Rattle.af_model.specs.Reports.{ServerKnown, no_slot, one_if, is_full, is_partial, is_empty, counted_look, slot_report, no_report, report_at}
@@ -21,6 +22,7 @@ use Rattle.af_model.specs.ServerCalls.{ServerKept, server_keeps, server_begins, 
 use Rattle.af_base.specs.declared.event.ServerEvent.{ServerEvent}
 use Rattle.af_base.specs.declared.event.ServerEvent.TheVariants as server
 use Rattle.af_base.specs.Turn.{Turn}
+use Rattle.af_runs.proofs.Basics.{state_some}
 use Rattle.af_runs.specs.Clients.{ends}
 use Rattle.af_runs.specs.Found.{TurnFound}
 use Rattle.af_runs.specs.Rounds.{LegalRound, early_count, early_of, late_of, before_turn, found_in, turned, after_turn, loaded, all_played, met_after, after_round}
@@ -30,7 +32,7 @@ use Rattle.af_runs.specs.Sessions.{Session, cycle_frames}
 use Rattle.af_enough_law.specs.FastFlows.{AllUse, AllStates, Plays, slot_told, IsTold, LastCarries, heard_by, silent_by, heard_in, silent_in, Counted, FlowsIn, Flowed, Reported, taken_in, IsShown, AllShown, frames_left_in, KnowsStates}
 use Rattle.af_enough_law.specs.Seen.{frames_put}
 use Rattle.af_enough_law.proofs.FastMixes.{Uses, uses_of, mixes_all, early_states, late_states}
-use Rattle.af_enough_law.proofs.FastPolls.{turned_states, calls_states, parts_use}
+use Rattle.af_enough_law.proofs.FastPolls.{turned_states, parts_use}
 use Rattle.af_enough_law.proofs.FastRounds.{Quiet, over, loaded_told}
 use Rattle.af_enough_law.proofs.FastSteps.{cycle_states}
 use Rattle.af_runs.proofs.StatesFor.{state_known}
@@ -197,12 +199,6 @@ ends_same run = by run.normal.ended (each_track (λ track t. record t { client =
     by : (b : Bool) (x : Run) → SameReports run x → SameReports run (if b then x else run)
     by true x same = same
     by false x same = same_by run run refl refl refl
-
-state_some : (xs ys : List FastState) (k : ℕ) (x : FastState) → state_of xs k ≡ Some x → state_of (xs ++ ys) k ≡ Some x
-state_some xs ys zero x is = absurd (true≢false (sym (ap is_some is)))
-state_some [] ys (suc k) x is = absurd (true≢false (sym (ap is_some is)))
-state_some (y ∷ xs) ys (suc zero) x is = is
-state_some (y ∷ xs) ys (suc (suc k)) x is = state_some xs ys (suc k) x is
 
 pub last_same : (run later : Run) (i : ℕ) → SameReports run later → LastCarries run i → LastCarries later i
 last_same run later i g l = record {

@@ -6,6 +6,8 @@ use Rattle.af_base.specs.declared.event.ServerEvent.{ServerEvent}
 use Rattle.af_base.specs.declared.event.ServerEvent.TheVariants as server
 use Rattle.af_base.specs.Turn.{Turn}
 use Rattle.af_base.specs.declared.event.HandEvent.TheVariants as hand
+use Rattle.af_enough_law.proofs.Basics.{load_told}
+use Rattle.af_judge.proofs.Basics.{each_at, each_long, met_many, told_each}
 use Rattle.af_life.specs.Heard.{learnt}
 use Rattle.af_life.specs.TurnEvents.{tracks_at, hand_list, stream_list}
 use Rattle.af_life.specs.Kept.{Setup, NormalKept, Outside}
@@ -18,7 +20,7 @@ use Rattle.af_runs.specs.Rounds.{early_of, late_of, before_turn, found_in, turne
 use Rattle.af_runs.specs.Runs.{Run, TrackTold, told_at, each_track, sides_of, with_side, called, calls_in, with_calls, with_cycle, with_cycles, turned_track, stream_turned, with_turn, with_load, stream_met, takes_part, track_met, met, with_ends}
 use Rattle.af_runs.specs.Sessions.{Session, setup_of}
 use Rattle.af_enough_law.proofs.FastFlows.{Later, later_same, cycles_later}
-use Rattle.af_enough_law.proofs.FastSteps.{server_does-server, server_does-client, client_does-client, client_does-server, hand_does-client, hand_does-server, each_long, each_at, told_each, cycle_length}
+use Rattle.af_enough_law.proofs.FastSteps.{server_does-server, server_does-client, client_does-client, client_does-server, hand_does-client, hand_does-server, cycle_length}
 
 -- ## Steps that add no look
 
@@ -90,10 +92,6 @@ pub loaded_tracks : (o : Option Turn) (run : Run) → (loaded o run).tracks ≡ 
 loaded_tracks None run = refl
 loaded_tracks (Some e) run = load_tracks e run
 
-load_told : (e : Turn) (run : Run) (track : ℕ) → told_at (with_load e run) track ≡ told_at run track
-unfolding with_load
-load_told e run track = refl
-
 pub loaded_told : (o : Option Turn) (run : Run) (track : ℕ) → told_at (loaded o run) track ≡ told_at run track
 loaded_told None run track = refl
 loaded_told (Some e) run track = load_told e run track
@@ -136,10 +134,6 @@ met_quiet s run track low =
     subst (λ (t : TrackTold). Quiet (told_at run track).stream t.stream) (sym (told_each (track_met s run) run track low))
     (stream_quiet (takes_part s run track) run.handed (told_at run track).stream)
 
-pub met_length : (s : Session) (run : Run) → length (met s run).tracks ≡ length run.tracks
-unfolding met
-met_length s run = each_long (track_met s run) 0 run.tracks
-
 -- ## The ends of a round
 
 ends_by : (b : Bool) (run : Run) (track : ℕ) → track < length run.tracks → (told_at (if b then each_track (λ track t. record t { client = ends t.client }) run else run) track).stream ≡ (told_at run track).stream
@@ -153,10 +147,6 @@ ends_stream run track low = ends_by run.normal.ended run track low
 part_by : (s : Session) (b : Bool) (run : Run) (track : ℕ) → takes_part s (if b then each_track (λ track t. record t { client = ends t.client }) run else run) track ≡ takes_part s run track
 part_by s true run track = refl
 part_by s false run track = refl
-
-pub ends_part : (s : Session) (run : Run) (track : ℕ) → takes_part s (with_ends run) track ≡ takes_part s run track
-unfolding with_ends
-ends_part s run track = part_by s run.normal.ended run track
 
 -- ## All that a round does to a block
 
@@ -179,7 +169,7 @@ over s run round track low =
     let late : Run = with_cycles s (late_of run round) (after_turn s run round) in
     let d = cycles_length s (late_of run round) (after_turn s run round) in
     let e = ap length (loaded_tracks round.turn late) in
-    let f = met_length s (all_played s run round) in
+    let f = met_many s (all_played s run round) in
     record {
       calls = calls_quiet round run track low;
       early = cycles_later s (early_of run round) (with_calls round run) track (omega (arith, a, low));

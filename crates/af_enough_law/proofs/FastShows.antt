@@ -1,7 +1,8 @@
 -- What a look of the fast mixer takes, if it is told in a history of a block that was never flushed.
-use Rattle.std.proofs.Common.{◌≡◌, ◌⊎◌, inl, inr, ℕ, zero, suc, ◌+◌, ◌-◌, ◌≤◌, ◌<◌, ◌==◌, ◌&&◌, ◌||◌, not, nat_lt, min, if◌then◌else◌, is_some, Bool, true, false, true≢false, Option, Some, None, List, [], ◌∷◌, ◌++◌, length, take, fold, MatchOption, refl, sym, ap, ◌∙◌, subst, arith, append_assoc, eqb-true, eq-eqb}
+use Rattle.std.proofs.Common.{◌≡◌, ◌⊎◌, inl, inr, ℕ, zero, suc, ◌+◌, ◌-◌, ◌≤◌, ◌<◌, ◌==◌, ◌&&◌, not, nat_lt, min, if◌then◌else◌, is_some, Bool, true, false, true≢false, Option, Some, None, List, [], ◌∷◌, ◌++◌, length, take, fold, MatchOption, refl, sym, ap, ◌∙◌, subst, arith, append_assoc, eqb-true}
 use Rattle.std.proofs.lemmas.Bool.Decides.{nat_tests}
 use Rattle.std.proofs.lemmas.Grind.{fold-append}
+use Rattle.af_base.proofs.Basics.{both_true, either_none, is_not_below}
 use Rattle.af_base.specs.declared.event.ClientEvent.{ClientEvent}
 use Rattle.af_base.specs.declared.event.HandEvent.{HandEvent}
 use Rattle.af_base.specs.declared.event.ServerEvent.{ServerEvent}
@@ -10,6 +11,9 @@ use Rattle.af_base.specs.declared.log.SlotEntry.{SlotEntry}
 use Rattle.af_base.specs.declared.seen.Seen.{Seen}
 use Rattle.af_base.specs.declared.seen.Seen.TheVariants as seen
 use Rattle.af_base.specs.Log.{count_seen}
+use Rattle.af_enough_law.proofs.Basics.{old_word, put-append, taken-append}
+use Rattle.af_judge.proofs.Basics.{tally_none}
+use Rattle.af_model.proofs.Basics.{both_first}
 use Rattle.af_model.specs.declared.shape.Shape.{Shape}
 use Rattle.af_model.specs.ClientCalls.{IsClientList}
 use Rattle.af_model.specs.Cycles.{IsSeen, Listed, LooksBy, kept, tally, after_look, cycle_events}
@@ -17,9 +21,9 @@ use Rattle.af_model.specs.Fates.{keeps_all, drops_none}
 use Rattle.af_model.specs.History.{flushes_of, HasHistory}
 use Rattle.af_model.specs.Point.{wrapped}
 use Rattle.af_model.specs.Room.{ahead, outside}
-use Rattle.af_model.specs.ServerCalls.{ServerKept, is_noticed, dropped_by, server_keeps, server_begins, server_kept, look_at, look_events}
+use Rattle.af_model.specs.ServerCalls.{ServerKept, is_noticed, server_keeps, server_begins, server_kept, look_at, look_events}
 use Rattle.af_model.specs.Spelled.{own_front}
-use Rattle.af_model.proofs.Logic.{both_left, both_right, both_are, nat_lt-no, ahead-between}
+use Rattle.af_model.proofs.Logic.{both_right, ahead-between}
 use Rattle.af_runs.specs.Fronts.{behind, is_own_inside, front_of}
 use Rattle.af_enough_law.specs.Seen.{Stands, frames_put, frames_taken}
 use Rattle.af_enough_law.specs.FastFlows.{IsShown}
@@ -27,17 +31,9 @@ use Rattle.af_enough_law.proofs.FastLooks.{Moments, moment}
 
 -- ## Lists
 
-pub put-append : (xs ys : List ClientEvent) → frames_put (xs ++ ys) ≡ frames_put xs + frames_put ys
-put-append [] ys = omega arith
-put-append (x ∷ xs) ys = let rest = put-append xs ys in omega arith
-
-pub taken-append : (xs ys : List ServerEvent) → frames_taken (xs ++ ys) ≡ frames_taken xs + frames_taken ys
-taken-append [] ys = omega arith
-taken-append (x ∷ xs) ys = let rest = taken-append xs ys in omega arith
-
 pub none-append : (xs ys : List ServerEvent) → drops_none xs ≡ true → drops_none ys ≡ true → drops_none (xs ++ ys) ≡ true
 none-append [] ys h t = t
-none-append (x ∷ xs) ys h t = both_are (keeps_all x) (drops_none (xs ++ ys)) (both_left (keeps_all x) (drops_none xs) h) (none-append xs ys (both_right (keeps_all x) (drops_none xs) h) t)
+none-append (x ∷ xs) ys h t = both_true (keeps_all x) (drops_none (xs ++ ys)) (both_first (keeps_all x) (drops_none xs) h) (none-append xs ys (both_right (keeps_all x) (drops_none xs) h) t)
 
 pub stands-more : {X : Type 0} (x : X) (xs ys : List X) → Stands x xs → Stands x (xs ++ ys)
 stands-more x xs ys s = record { before = s.before; behind = s.behind ++ ys; whole = ap (λ l. l ++ ys) s.whole ∙ append_assoc s.before (x ∷ s.behind) ys }
@@ -130,15 +126,10 @@ pub record Look (k : Shape) (asked : ℕ) (cs : List ClientEvent) (before : List
   pub within : frames_taken before + count_seen answer ≤ frames_put cs
   pub reaches : (n : ℕ) → Stands (server.Learn n) before → (count_seen answer ≡ asked) ⊎ (frames_put (take n cs) ≤ frames_taken before + count_seen answer)
 
--- the server is open after a look that saw these words
-either_none : (b : Bool) (o : Option (ℕ × ℕ)) → o ≡ None → (if b then None else o) ≡ None
-either_none true o is = refl
-either_none false o is = is
-
 open_words : (frames c r : ℕ) → frames ≤ 65536 → c ≤ r → r ≤ c + frames → outside frames (wrapped c) (wrapped r) ≡ None
 open_words frames c r few low high =
     let e : ahead (wrapped c) (wrapped r) ≡ r - c = ahead-between c r low (omega arith) in
-    ap (λ (b : Bool). if b then Some (wrapped c, wrapped r) else None) (nat_lt-no frames (ahead (wrapped c) (wrapped r)) (omega arith))
+    ap (λ (b : Bool). if b then Some (wrapped c, wrapped r) else None) (is_not_below frames (ahead (wrapped c) (wrapped r)) (omega arith))
 
 -- what the kept server is after some events, of which none is a look
 abbrev same_shut : Shape → List ServerEvent → Type 0
@@ -150,13 +141,6 @@ tally_shut k missing s is = by (missing == 0)
     by : (b : Bool) → (fold (server_keeps k) s (if b then [] else server.Tally missing ∷ server.SetFlags 1 ∷ [])).shut ≡ None
     by true = is
     by false = is
-
-tally_none : (missing : ℕ) → drops_none (tally missing) ≡ true
-tally_none missing = by (missing == 0)
-  where
-    by : (b : Bool) → drops_none (if b then [] else server.Tally missing ∷ server.SetFlags 1 ∷ []) ≡ true
-    by true = refl
-    by false = refl
 
 tally_taken : (missing : ℕ) → frames_taken (tally missing) ≡ 0
 tally_taken missing = by (missing == 0)
@@ -172,12 +156,6 @@ look_shut k cs before gains flush rear front behind few w rest =
     ap (λ (s : ServerKept). s.shut) (fold-append (server_keeps k) (server_begins k) before (server.SawGain gains ∷ server.SawFlush flush ∷ server.SawRear rear ∷ server.SawFront front ∷ behind))
     ∙ rest _ (either_none (is_noticed k (not (flush == (server_kept k before).flush)) rear front) (outside k.frames front rear)
     (ap (λ (x : ℕ × ℕ). outside k.frames x.0 x.1) (λ i. (w.front_is i, w.rear_is i)) ∙ open_words k.frames w.consumed w.released few w.low w.high))
-
--- a look by an old flush word
-old_word : (k : Shape) (kept asked flush rear front : ℕ) → flush ≡ kept
-    → look_at k kept asked flush rear front ≡ (if nat_lt k.frames (ahead front rear) then seen.Shut front rear else if rear == front then seen.Empty else seen.Frames (min asked (ahead front rear)))
-old_word k kept asked flush rear front same =
-    ap (λ (b : Bool). if not b && (k.wrap == 0 || not (nat_lt k.frames (ahead front rear))) then seen.Flushed (dropped_by k.wrap flush rear front) else if nat_lt k.frames (ahead front rear) then seen.Shut front rear else if rear == front then seen.Empty else seen.Frames (min asked (ahead front rear))) (eq-eqb flush kept same)
 
 abbrev is_flushed : Seen → Bool
 is_flushed (seen.Flushed dropped) = true

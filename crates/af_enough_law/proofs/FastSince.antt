@@ -10,6 +10,7 @@ use Rattle.af_base.specs.declared.report.SlotReport.{SlotReport}
 use Rattle.af_base.specs.declared.state.FastState.{FastState}
 use Rattle.af_base.specs.declared.state.FastTrack.{FastTrack}
 use Rattle.af_base.specs.Log.{slots}
+use Rattle.af_judge.proofs.Basics.{calls_states}
 use Rattle.af_model.specs.declared.shape.Shape.{Shape}
 use Rattle.af_model.specs.Journals.{EntrySeen, RoundSeen}
 use Rattle.af_model.specs.Reports.{no_report, report_at}
@@ -21,7 +22,7 @@ use Rattle.af_enough_law.specs.FastFlows.{AllUse, AllStates, Plays, slot_told, I
 use Rattle.af_enough_law.proofs.FastFlows.{Later, cycle_later}
 use Rattle.af_enough_law.proofs.FastMixes.{uses_of, early_states, late_states}
 use Rattle.af_enough_law.proofs.FastReports.{EntryTold, entry_told, last_more, same_both, calls_same, turned_same, loaded_same, met_same, ends_same, last_same, slot_same, told_same, known_same, known_quiet}
-use Rattle.af_enough_law.proofs.FastPolls.{calls_states, parts_use, use-append}
+use Rattle.af_enough_law.proofs.FastPolls.{parts_use, use-append}
 use Rattle.af_enough_law.proofs.FastRounds.{over}
 use Rattle.af_runs.specs.Blocks.{Marks}
 use Rattle.af_runs.specs.Rounds.{LegalRound, early_count, early_of, late_of, before_turn, found_in, after_turn, all_played, met_after, after_round}

@@ -1,12 +1,12 @@
 -- What an entry of the fast mixer changes of a run.
 use Rattle.std.proofs.Common.{◌≡◌, ℕ, zero, suc, ◌+◌, ◌≤◌, ◌<◌, ◌==◌, ◌&&◌, if◌then◌else◌, Bool, true, false, true≢false, Option, Some, None, List, [], ◌∷◌, ◌++◌, length, map, fold, refl, sym, ap, ◌∙◌, arith, append_assoc, append-nil, eqb-true, eq-eqb}
-use Rattle.std.specs.Prelude.{slice_index_or}
 use Rattle.std.specs.List.{find, range_with_len}
 use Rattle.af_base.specs.declared.event.ClientEvent.{ClientEvent}
 use Rattle.af_base.specs.declared.event.HandEvent.{HandEvent}
 use Rattle.af_base.specs.declared.event.ServerEvent.{ServerEvent}
 use Rattle.af_base.specs.declared.state.FastState.{FastState}
 use Rattle.af_base.specs.Log.{slots, entry_slot}
+use Rattle.af_judge.proofs.Basics.{each_long, told_each}
 use Rattle.af_model.specs.declared.states.MutatorEvent.{MutatorEvent}
 use Rattle.af_model.specs.declared.states.ObserverEvent.{ObserverEvent}
 use Rattle.af_model.specs.Cycles.{cycle_events}
@@ -16,7 +16,7 @@ use Rattle.af_model.specs.Order.{one, two, ones, twos}
 use Rattle.af_model.specs.StateQueue.{slot_of, carries}
 use Rattle.af_runs.specs.Blocks.{BlockTold, client_list, server_list, listed, server_does, client_does, hand_does, Marks}
 use Rattle.af_runs.specs.Fronts.{front_of, is_shown}
-use Rattle.af_runs.specs.Runs.{Run, TrackTold, no_track, told_at, each_from, each_track, plays, slot_for, played, mixed_track, state_for, with_poll, with_mix, with_cycle, with_cycles}
+use Rattle.af_runs.specs.Runs.{Run, TrackTold, told_at, plays, slot_for, played, mixed_track, state_for, with_poll, with_mix, with_cycle, with_cycles}
 use Rattle.af_runs.specs.Sessions.{Session, cycle_frames}
 use Rattle.af_runs.specs.Told.{Item, QueueTold, poll_events, mutator_does, observer_does}
 use Rattle.af_runs.specs.Rounds.{LegalEntry}
@@ -106,21 +106,6 @@ mutated-ones es [] = only es
     only (e ∷ es) = ap (λ l. e ∷ l) (only es)
 mutated-ones es (one a ∷ told) = ap (λ l. a ∷ l) (mutated-ones es told)
 mutated-ones es (two b ∷ told) = mutated-ones es told
-
--- ## Tracks
-
-pub each_long : (change : ℕ → TrackTold → TrackTold) (m : ℕ) (ts : List TrackTold) → length (each_from change m ts) ≡ length ts
-each_long change m [] = refl
-each_long change m (t ∷ ts) = ap suc (each_long change (m + 1) ts)
-
-pub each_at : (change : ℕ → TrackTold → TrackTold) (m : ℕ) (ts : List TrackTold) (n j : ℕ) (d : TrackTold) → n < length ts → m + n ≡ j → slice_index_or (each_from change m ts) n d ≡ change j (slice_index_or ts n d)
-each_at change m [] n j d lt is = absurd (let z : ⊥ = omega (arith, lt) in z)
-each_at change m (t ∷ ts) zero j d lt is = ap (λ (k : ℕ). change k t) (let e : m ≡ j = omega (arith, is) in e)
-each_at change m (t ∷ ts) (suc n) j d lt is = each_at change (m + 1) ts n j d (omega (arith, lt)) (omega (arith, is))
-
--- the track of a number after each was changed
-pub told_each : (change : ℕ → TrackTold → TrackTold) (run : Run) (n : ℕ) → n < length run.tracks → told_at (each_track change run) n ≡ change n (told_at run n)
-told_each change run n lt = each_at change 0 run.tracks n n no_track lt (omega arith)
 
 -- ## The slot that plays a track
 

@@ -6,6 +6,8 @@ use Rattle.af_base.specs.declared.event.ServerEvent.{ServerEvent}
 use Rattle.af_base.specs.declared.event.ServerEvent.TheVariants as server
 use Rattle.af_base.specs.declared.event.ClientEvent.{ClientEvent}
 use Rattle.af_base.specs.declared.state.FastTrack.{FastTrack}
+use Rattle.af_enough_law.proofs.Basics.{asked_in-append, asked_is, taken-append}
+use Rattle.af_judge.proofs.Basics.{calls_states, ends_part}
 use Rattle.af_model.specs.declared.shape.Shape.{Shape}
 use Rattle.af_model.specs.ClientCalls.{IsClientList}
 use Rattle.af_model.specs.Fates.{drops_none}
@@ -21,9 +23,9 @@ use Rattle.af_enough_law.specs.Seen.{Stands, frames_put, frames_taken}
 use Rattle.af_enough_law.specs.FastFlows.{taken_in, asked_in, AllShown, frames_left_in, FlowsIn, Flowed}
 use Rattle.af_enough_law.proofs.FastFlows.{Later, later_both, Lies, lies_before, entries_take}
 use Rattle.af_enough_law.proofs.FastMixes.{early_states, late_states, mixes_all}
-use Rattle.af_enough_law.proofs.FastPolls.{calls_states, parts_use, fast_parts}
-use Rattle.af_enough_law.proofs.FastRounds.{Quiet, over, ends_part}
-use Rattle.af_enough_law.proofs.FastShows.{Setting, stands-more, taken-append, none-append}
+use Rattle.af_enough_law.proofs.FastPolls.{parts_use, fast_parts}
+use Rattle.af_enough_law.proofs.FastRounds.{Quiet, over}
+use Rattle.af_enough_law.proofs.FastShows.{Setting, stands-more, none-append}
 use Rattle.af_enough_law.proofs.SeenBlocks.{released_is, consumed_is}
 
 -- ## Sums
@@ -32,17 +34,9 @@ taken_in-append : (i : ℕ) (xs ys : List EntrySeen) → taken_in i (xs ++ ys) �
 taken_in-append i [] ys = omega arith
 taken_in-append i (x ∷ xs) ys = let rest = taken_in-append i xs ys in omega arith
 
-asked_in-append : (asked : ℕ) (xs ys : List EntrySeen) → asked_in asked (xs ++ ys) ≡ asked_in asked xs + asked_in asked ys
-asked_in-append asked [] ys = omega arith
-asked_in-append asked (x ∷ xs) ys = let rest = asked_in-append asked xs ys in omega arith
-
 shown-append : (i : ℕ) (xs ys : List EntrySeen) → AllShown i xs → AllShown i ys → AllShown i (xs ++ ys)
 shown-append i [] ys h t = t
 shown-append i (x ∷ xs) ys h t = (h.0, shown-append i xs ys h.1 t)
-
-asked_is : (asked : ℕ) (es : List EntrySeen) → asked_in asked es ≡ length es * asked
-asked_is asked [] = omega arith
-asked_is asked (e ∷ es) = let rest = asked_is asked es in grind arith
 
 -- ## Steps without a look
 

@@ -1,5 +1,6 @@
 -- In its first whole turn a client that plays through sends OPEN and START.
 use Rattle.std.proofs.Common.{◌≡◌, ◌⊎◌, inl, inr, ℕ, ◌+◌, ◌-◌, ◌≤◌, Some, None, List, [], ◌∷◌, length, length-append, fold, sym, ap, ◌∙◌, subst, arith}
+use Rattle.af_base.proofs.Basics.{some_same}
 use Rattle.af_base.specs.declared.event.ClientCall.{ClientCall}
 use Rattle.af_base.specs.declared.event.ClientCall.TheVariants as call
 use Rattle.af_script.specs.declared.op.Op.{Op}
@@ -14,7 +15,7 @@ use Rattle.af_runs.specs.declared.want.Want.{Want}
 use Rattle.af_runs.specs.declared.want.Want.TheVariants as want
 use Rattle.af_enough_law.specs.Playing.{IsFair, AreFair}
 use Rattle.af_enough_law.proofs.Doing.{at, sent_is, sent_of}
-use Rattle.af_enough_law.proofs.Turning.{some_same, none_some, client_after, words_of, spoken_after}
+use Rattle.af_enough_law.proofs.Turning.{none_some, client_after, words_of, spoken_after}
 
 -- fair calls leave no fewer words sent
 pub released_on : (t : Track) (calls : List ClientCall) → AreFair calls → length t.commands.released ≤ length (fold after_call t calls).commands.released

@@ -2,6 +2,7 @@
 use Rattle.std.proofs.Common.{◌≡◌, ◌⊎◌, inl, inr, ℕ, zero, suc, ◌+◌, ◌-◌, ◌*◌, ◌^◌, ◌≤◌, ◌<◌, min, Bool, true, false, true≢false, List, [], ◌∷◌, length, fold, refl, sym, ap, ◌∙◌, subst, arith}
 use Rattle.af_base.specs.declared.event.ClientCall.{ClientCall}
 use Rattle.af_base.specs.declared.event.ServerEvent.{ServerEvent}
+use Rattle.af_judge.proofs.Basics.{begins_ended}
 use Rattle.af_life.specs.Kept.{track_in}
 use Rattle.af_model.specs.declared.shape.Shape.{Shape}
 use Rattle.af_model.specs.Journals.{RoundSeen}
@@ -31,7 +32,7 @@ use Rattle.af_enough_law.proofs.FairTurns.{codes_long}
 use Rattle.af_enough_law.proofs.RunStreams.{round_grows}
 use Rattle.af_enough_law.proofs.Started.{turn_past}
 use Rattle.af_enough_law.proofs.TrackGoes.{same_position, made_of}
-use Rattle.af_enough_law.proofs.Turning.{words_of, Left, Stands, on, gone_for_good, Came, begins_ended, stands_after, turn_whole}
+use Rattle.af_enough_law.proofs.Turning.{words_of, Left, Stands, on, gone_for_good, Came, stands_after, turn_whole}
 
 -- ## What is left
 

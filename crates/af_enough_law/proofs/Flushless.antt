@@ -1,12 +1,15 @@
 -- A client none of whose ops is a flush, a pause or a poke flushes nothing, whatever is answered.
 use Rattle.std.proofs.Common.{◌≡◌, ℕ, arith, ◌-◌, ◌==◌, ◌&&◌, ◌||◌, MatchBool, Bool, true, false, List, [], ◌∷◌, ◌++◌, fold, refl, sym, ap, ◌∙◌, subst, true≢false, Option, Some, None, if◌then◌else◌, bit_and}
+use Rattle.af_base.proofs.Basics.{both_true, no, none_some}
 use Rattle.af_base.specs.declared.event.ClientCall.{ClientCall}
 use Rattle.af_base.specs.declared.event.ClientCall.TheVariants as call
 use Rattle.af_base.specs.declared.event.ClientEvent.{ClientEvent}
+use Rattle.af_judge.proofs.Basics.{some_is}
+use Rattle.af_model.proofs.Basics.{both_first}
 use Rattle.af_model.specs.ClientCalls.{client_call_events, client_events_of}
 use Rattle.af_base.specs.declared.event.ClientEvent.TheVariants as client
 use Rattle.af_model.specs.History.{flush_in, flushes_of}
-use Rattle.af_model.proofs.Logic.{both_left, both_right, both_are}
+use Rattle.af_model.proofs.Logic.{both_right}
 use Rattle.af_script.specs.declared.op.Op.{Op}
 use Rattle.af_script.specs.declared.op.Op.TheVariants as op
 use Rattle.af_runs.specs.declared.want.ClientCommand.{ClientCommand}
@@ -40,7 +43,7 @@ unflushed_zero (client.Learn n) h = refl
 
 pub unflushed_none : (es : List ClientEvent) → are_unflushed es ≡ true → flushes_of es ≡ 0
 unflushed_none [] h = refl
-unflushed_none (e ∷ es) h = let a = unflushed_zero e (both_left (is_unflushed e) (are_unflushed es) h) in let b = unflushed_none es (both_right (is_unflushed e) (are_unflushed es) h) in omega arith
+unflushed_none (e ∷ es) h = let a = unflushed_zero e (both_first (is_unflushed e) (are_unflushed es) h) in let b = unflushed_none es (both_right (is_unflushed e) (are_unflushed es) h) in omega arith
 
 -- ## Wants and ops that flush, pause and poke nothing
 
@@ -90,7 +93,7 @@ op_plain m (op.Poke in_command word value) h = absurd (true≢false (sym h))
 begins_plain : (c : Client) (wants : List Want) (ops : List Op) → plain_wants wants ≡ true → plain_ops ops ≡ true → IsFlushless (begins c wants ops)
 begins_plain c (w ∷ wants) ops d o = record { due = d; ops = o }
 begins_plain c [] [] d o = record { due = refl; ops = refl }
-begins_plain c [] (o ∷ ops) d p = begins_plain c (wants_of c.mode o) ops (op_plain c.mode o (both_left (is_plain_op o) (plain_ops ops) p)) (both_right (is_plain_op o) (plain_ops ops) p)
+begins_plain c [] (o ∷ ops) d p = begins_plain c (wants_of c.mode o) ops (op_plain c.mode o (both_first (is_plain_op o) (plain_ops ops) p)) (both_right (is_plain_op o) (plain_ops ops) p)
 
 pub begun_plain : (c : Client) → IsFlushless c → IsFlushless (begun c)
 begun_plain c h = begins_plain c c.due c.ops h.due h.ops
@@ -205,9 +208,6 @@ abbrev pub is_poke_call : ClientCall → Bool
 is_poke_call (call.Poke in_command word value) = true
 is_poke_call _ = false
 
-no : {A : Type 0} → false ≡ true → A
-no e = absurd (true≢false (sym e))
-
 pub poke_not : (t : Track) (w : Want) (in_command : Bool) (word value : ℕ) → is_plain_want w ≡ true → IsWanted t w (call.Poke in_command word value) → ⊥
 poke_not t (want.Send sending) b word value plain made = no made
 poke_not t want.Settled b word value plain made = no made
@@ -261,7 +261,7 @@ call_unflushed t w (call.Poke in_command word value) s plain made = absurd (poke
 
 pub unflushed_append : (xs ys : List ClientEvent) → are_unflushed xs ≡ true → are_unflushed ys ≡ true → are_unflushed (xs ++ ys) ≡ true
 unflushed_append [] ys a b = b
-unflushed_append (x ∷ xs) ys a b = both_are (is_unflushed x) (are_unflushed (xs ++ ys)) (both_left (is_unflushed x) (are_unflushed xs) a) (unflushed_append xs ys (both_right (is_unflushed x) (are_unflushed xs) a) b)
+unflushed_append (x ∷ xs) ys a b = both_true (is_unflushed x) (are_unflushed (xs ++ ys)) (both_first (is_unflushed x) (are_unflushed xs) a) (unflushed_append xs ys (both_right (is_unflushed x) (are_unflushed xs) a) b)
 
 -- a track whose client wants no flush, and has not flushed
 pub record IsFlushlessTrack (t : Track) : Type 0 where
@@ -269,16 +269,10 @@ pub record IsFlushlessTrack (t : Track) : Type 0 where
   pub stream : are_unflushed t.stream.events ≡ true
   pub commands : are_unflushed t.commands.events ≡ true
 
-none_some : {X A : Type 0} (x : X) → None ≡ Some x → A
-none_some x e = absurd (true≢false (ap (λ (z : Option _). elim z as (λ _. Bool) [ None ↦ true | Some y ↦ false ]) e))
-
-some_is : (x y : Want) → Some x ≡ Some y → x ≡ y
-some_is x y e = ap (λ (o : Option Want). elim o as (λ _. Want) [ None ↦ x | Some z ↦ z ]) e
-
 first_plain : (due : List Want) (w : Want) → plain_wants due ≡ true → asked_first due ≡ Some w → is_plain_want w ≡ true
 first_plain [] w h e = none_some w e
 first_plain (want.Rest ∷ wants) w h e = none_some w e
-first_plain (want.Send sending ∷ wants) w h e = ap is_plain_want (sym (some_is (want.Send sending) w e)) ∙ both_left (is_plain_want (want.Send sending)) (plain_wants wants) h
+first_plain (want.Send sending ∷ wants) w h e = ap is_plain_want (sym (some_is (want.Send sending) w e)) ∙ both_first (is_plain_want (want.Send sending)) (plain_wants wants) h
 first_plain (want.Settled ∷ wants) w h e = ap is_plain_want (sym (some_is want.Settled w e))
 first_plain (want.Drained ∷ wants) w h e = ap is_plain_want (sym (some_is want.Drained w e))
 first_plain (want.Flush ∷ wants) w h e = no h

@@ -1,6 +1,7 @@
 -- In a run of a script whose tracks play through no client flushes.
 use Rattle.std.proofs.Common.{◌≡◌, ℕ, ◌+◌, ◌<◌, Bool, true, List, [], ◌∷◌, length, refl, sym, ap, ◌∙◌, subst, arith}
 use Rattle.af_base.specs.declared.frame.Frame.{Frame}
+use Rattle.af_judge.proofs.Basics.{new_at, new_long}
 use Rattle.af_model.specs.Journals.{RoundSeen}
 use Rattle.af_script.specs.Data.{ScriptData}
 use Rattle.af_script.specs.Form.{IsScript}
@@ -12,7 +13,7 @@ use Rattle.af_runs.specs.Runs.{new_run, told_at, sides_of}
 use Rattle.af_enough.specs.Enough.{all_play_through}
 use Rattle.af_enough_law.specs.Playing.{IsWay}
 use Rattle.af_enough_law.proofs.Flushless.{plain_ops, IsFlushlessTrack}
-use Rattle.af_enough_law.proofs.RunBegins.{track_plays, new_at, new_long}
+use Rattle.af_enough_law.proofs.RunBegins.{track_plays}
 use Rattle.af_enough_law.proofs.RunFlushless.{rounds_flushless}
 
 way_unflushed : (gains : ℕ) (ops : List Op) → IsWay gains ops → plain_ops ops ≡ true

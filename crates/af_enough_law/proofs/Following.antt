@@ -1,5 +1,6 @@
 -- A turn leaves a track on its course.
 use Rattle.std.proofs.Common.{◌≡◌, ℕ, zero, suc, ◌+◌, ◌*◌, ◌%◌, ◌<◌, ◌≤◌, Bool, true, false, List, [], ◌∷◌, length, refl, sym, ap, ◌∙◌, subst, arith, true≢false, Option, MatchBool, if◌then◌else◌}
+use Rattle.af_base.proofs.Basics.{by_false}
 use Rattle.af_base.specs.declared.report.SlotReport.{SlotReport}
 use Rattle.af_base.specs.declared.state.FastState.{FastState}
 use Rattle.af_base.specs.Turn.{Turn, TrackSeen}
@@ -82,10 +83,6 @@ told_settled given count k zero s = omega arith
 told_settled given count k (suc more) s = told_settled given count (suc k) more _ ∙ omega arith
 
 -- ## Its part of the turn
-
-pub by_false : (A B : Type 0) (b : Bool) → b ≡ false → MatchBool b A B → B
-by_false A B true e m = absurd (true≢false e)
-by_false A B false e m = m
 
 pub by_true : (A B : Type 0) (b : Bool) → b ≡ true → MatchBool b A B → A
 by_true A B true e m = m

@@ -5,6 +5,7 @@ use Rattle.af_base.specs.declared.report.Report.{Report}
 use Rattle.af_base.specs.declared.report.SlotReport.{SlotReport}
 use Rattle.af_base.specs.declared.state.FastTrack.{FastTrack}
 use Rattle.af_base.specs.Log.{slots, entry_slot}
+use Rattle.af_judge.proofs.Basics.{calls_states}
 use Rattle.af_model.specs.Journals.{EntrySeen, RoundSeen}
 use Rattle.af_model.specs.Reports.{report_at}
 use Rattle.af_runs.specs.Blocks.{Marks}
@@ -14,7 +15,7 @@ use Rattle.af_runs.specs.Sessions.{Session, cycle_frames}
 use Rattle.af_enough_law.specs.FastFlows.{AllUse, Plays, AllShown, LastCarries, IsTold, Since, FlowsIn, slot_told, heard_by, heard_in, HasItem}
 use Rattle.af_enough_law.proofs.FastFound.{FoundNow, found_next, found_told, adds_one, calls_current, use-up, found_first}
 use Rattle.af_enough_law.proofs.FastMixes.{uses_of, early_states}
-use Rattle.af_enough_law.proofs.FastPolls.{calls_states, parts_use, use-append, turn_more}
+use Rattle.af_enough_law.proofs.FastPolls.{parts_use, use-append, turn_more}
 use Rattle.af_enough_law.proofs.FastReports.{heard_one, last_more, reported, calls_same, slot_same, last_same, told_same, known_quiet}
 use Rattle.af_enough_law.proofs.FastRounds.{over}
 use Rattle.af_enough_law.proofs.FastSince.{Adds, AllReports, since_number}

@@ -2,6 +2,7 @@
 use Rattle.std.proofs.Common.{◌≡◌, ◌⊎◌, inl, inr, ℕ, ◌+◌, ◌*◌, ◌^◌, ◌≤◌, ◌<◌, ◌==◌, Bool, true, false, true≢false, MatchBool, List, [], ◌∷◌, length, fold, sym, ap, ◌∙◌, arith}
 use Rattle.af_base.specs.declared.event.ClientCall.{ClientCall}
 use Rattle.af_base.specs.declared.event.ServerEvent.{ServerEvent}
+use Rattle.af_judge.proofs.Basics.{begins_ended}
 use Rattle.af_life.specs.Kept.{track_in}
 use Rattle.af_model.specs.Journals.{RoundSeen}
 use Rattle.af_script.specs.declared.op.Op.{Op}
@@ -25,7 +26,7 @@ use Rattle.af_enough_law.proofs.Doing.{at, codes_sent, codes_of}
 use Rattle.af_enough_law.proofs.FairTurns.{codes_long}
 use Rattle.af_enough_law.proofs.GainTurns.{writes, stops, nears, gain_calls}
 use Rattle.af_enough_law.proofs.TrackGoes.{goes_by, same_position}
-use Rattle.af_enough_law.proofs.Turning.{Left, Stands, on, gone_for_good, words_of, begins_ended, turn_whole, wanted_first, none_some, next_cut, begins_rested}
+use Rattle.af_enough_law.proofs.Turning.{Left, Stands, on, gone_for_good, words_of, turn_whole, wanted_first, none_some, next_cut, begins_rested}
 
 pub data GainRound (run : Run) (s : Session) (round : RoundSeen) (i : ℕ) : Type 0 where
   fed : frames_taken (server_list (told_at run i).stream) + 1 ≤ frames_put (client_list (told_at (after_round s run round) i).stream) → GainRound run s round i

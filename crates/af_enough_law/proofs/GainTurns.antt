@@ -1,6 +1,7 @@
 -- A turn of a client among its gains and writes brings it to a write, or does 64 of the gains ahead of it.
 use Rattle.std.proofs.Common.{◌≡◌, inl, inr, ℕ, suc, ◌+◌, ◌-◌, ◌*◌, ◌%◌, ◌^◌, ◌≤◌, ◌<◌, ◌==◌, min, Bool, true, true≢false, if◌then◌else◌, bit_and, Some, List, [], ◌∷◌, length, fold, refl, sym, ap, ◌∙◌, subst, arith, length-append}
 use Rattle.std.proofs.Math.Nat.{mod-lt}
+use Rattle.af_base.proofs.Basics.{some_same}
 use Rattle.af_base.specs.declared.event.ClientCall.{ClientCall}
 use Rattle.af_base.specs.declared.event.ClientCall.TheVariants as call
 use Rattle.af_model.specs.Point.{wrapped}
@@ -20,7 +21,7 @@ use Rattle.af_enough_law.proofs.Advancing.{IsBlock, full_fills, positions_rise, 
 use Rattle.af_enough_law.proofs.Doing.{at, next_op, sent_of, sent_is, write_is, clear_is, codes_sent}
 use Rattle.af_enough_law.proofs.SeesStopped.{spoken_long}
 use Rattle.af_enough_law.proofs.Started.{next_started}
-use Rattle.af_enough_law.proofs.Turning.{words_of, shape_after, wanted_first, some_same, none_some, client_after, spoken_after, position_after}
+use Rattle.af_enough_law.proofs.Turning.{words_of, shape_after, wanted_first, none_some, client_after, spoken_after, position_after}
 
 -- ## How many gains there are at most
 

@@ -1,5 +1,6 @@
 -- The hand of a stream block stays calm in a round whose turn doesn't disable the track.
 use Rattle.std.proofs.Common.{◌≡◌, ℕ, ◌<◌, if◌then◌else◌, Bool, true, false, true≢false, Option, Some, None, List, [], ◌∷◌, ◌++◌, length, map, fold, drop, refl, sym, ap, ◌∙◌, append_assoc, append-nil}
+use Rattle.af_base.proofs.Basics.{both_true}
 use Rattle.af_base.specs.declared.event.HandEvent.{HandEvent}
 use Rattle.af_base.specs.declared.event.HandEvent.TheVariants as hand
 use Rattle.af_base.specs.declared.event.ServerEvent.{ServerEvent}
@@ -8,10 +9,11 @@ use Rattle.af_base.specs.Turn.{Turn}
 use Rattle.af_life.specs.Heard.{learnt}
 use Rattle.af_life.specs.Kept.{NormalKept, track_in}
 use Rattle.af_life.specs.TurnEvents.{tracks_at, hand_list as disables, stream_list}
+use Rattle.af_model.proofs.Basics.{both_first}
 use Rattle.af_model.specs.Cycles.{cycle_events}
 use Rattle.af_model.specs.History.{Moment, by_server, by_hand, hand_of}
 use Rattle.af_model.specs.Journals.{EntrySeen, RoundSeen}
-use Rattle.af_model.proofs.Logic.{both_left, both_right, both_are}
+use Rattle.af_model.proofs.Logic.{both_right}
 use Rattle.af_runs.specs.Blocks.{BlockTold, client_list, hand_list, listed, hand_does}
 use Rattle.af_runs.specs.ClientTurns.{after_calls}
 use Rattle.af_runs.specs.Found.{TurnFound, outside_of}
@@ -36,7 +38,7 @@ hand-hand told (e ∷ es) = hand-hand (by_hand e ∷ told) es ∙ append_assoc (
 
 pub hands_join : (xs ys : List HandEvent) → are_hands_calm xs ≡ true → are_hands_calm ys ≡ true → are_hands_calm (xs ++ ys) ≡ true
 hands_join [] ys a b = b
-hands_join (x ∷ xs) ys a b = both_are (is_hand_calm x) (are_hands_calm (xs ++ ys)) (both_left (is_hand_calm x) (are_hands_calm xs) a) (hands_join xs ys (both_right (is_hand_calm x) (are_hands_calm xs) a) b)
+hands_join (x ∷ xs) ys a b = both_true (is_hand_calm x) (are_hands_calm (xs ++ ys)) (both_first (is_hand_calm x) (are_hands_calm xs) a) (hands_join xs ys (both_right (is_hand_calm x) (are_hands_calm xs) a) b)
 
 abbrev Calm : BlockTold → Type 0
 Calm b = are_hands_calm (hand_list b) ≡ true

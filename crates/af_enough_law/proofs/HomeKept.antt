@@ -3,6 +3,7 @@ use Rattle.std.proofs.Common.{◌≡◌, ◌⊎◌, inl, inr, ℕ, zero, suc, �
 use Rattle.af_base.specs.declared.event.ServerEvent.TheVariants as server
 use Rattle.af_base.specs.Log.{count_seen}
 use Rattle.af_base.specs.Turn.{TakeSeen}
+use Rattle.af_enough_law.proofs.Basics.{taken-append}
 use Rattle.af_life.specs.declared.kept.Counts.{Counts}
 use Rattle.af_life.specs.Heard.{learnt, slot_reported}
 use Rattle.af_life.specs.Kept.{NormalKept, track_at, is_home}
@@ -18,7 +19,6 @@ use Rattle.af_enough_law.specs.Nearing.{IsPast, buffer_of, calls_ahead, calls_le
 use Rattle.af_enough_law.specs.NormalRounds.{TurnMade}
 use Rattle.af_enough_law.specs.Seen.{frames_put, frames_taken}
 use Rattle.af_enough_law.proofs.FairTurns.{codes_long}
-use Rattle.af_enough_law.proofs.FastShows.{taken-append}
 use Rattle.af_enough_law.proofs.Following.{greeted_in, greeted_alike}
 use Rattle.af_enough_law.proofs.GainRounds.{fed, sent, fewer, gain_round}
 use Rattle.af_enough_law.proofs.GainTurns.{calls_few}

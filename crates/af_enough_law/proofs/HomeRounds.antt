@@ -1,6 +1,8 @@
 -- A legal round keeps what is carried of a track whose proxy is home before and after it: so of each track without a slot.
 use Rattle.std.proofs.Common.{◌≡◌, ℕ, ◌≤◌, ◌<◌, ◌||◌, is_some, Bool, true, false, None, List, length, sym, ap, ◌∙◌}
 use Rattle.af_base.specs.declared.event.ServerEvent.{ServerEvent}
+use Rattle.af_enough_law.proofs.Basics.{stays_home}
+use Rattle.af_judge.proofs.Basics.{ends_part}
 use Rattle.af_life.specs.Kept.{track_at, is_home}
 use Rattle.af_life.specs.Sound.{IsSlotted}
 use Rattle.af_model.specs.Journals.{RoundSeen}
@@ -11,8 +13,6 @@ use Rattle.af_runs.specs.Sessions.{Session, track_count}
 use Rattle.af_enough_law.specs.NormalRounds.{TurnMade}
 use Rattle.af_enough_law.proofs.CalmTracks.{CalmTrack}
 use Rattle.af_enough_law.proofs.CommandsGo.{OpenTurn}
-use Rattle.af_enough_law.proofs.Ends.{greeted_home}
-use Rattle.af_enough_law.proofs.FastRounds.{ends_part}
 use Rattle.af_enough_law.proofs.Foreseen.{KeepsTo, part_seen, home_unshut}
 use Rattle.af_enough_law.proofs.TrackCarried.{TrackCarried, TrackGone, track_gone}
 
@@ -38,7 +38,7 @@ module _ (cut : Bool) (s : Session) (marks : Marks) (run : Run) (round : RoundSe
   home_carried home after =
       let part = home_part s run round i after in
       let seen = part_seen cut s marks run round t i named.low named.named legal (keeps_of run i c.known_stream c.known_commands c.calm) part in
-      let greeted = greeted_home t.turn.ack run.normal.last (track_at run.normal.tracks i) home in
+      let greeted = stays_home t.turn.ack run.normal.last (track_at run.normal.tracks i) home in
       let turn : OpenTurn s marks run round i t = record {
         low = named.low;
         named = named.named;

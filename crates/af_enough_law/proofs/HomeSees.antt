@@ -1,8 +1,11 @@
 -- A turn's look at a track without a slot is all that a round takes of it.
-use Rattle.std.proofs.Common.{◌≡◌, ◌⊎◌, inl, inr, ℕ, ◌+◌, ◌≤◌, nat_le, true, false, List, [], ◌∷◌, ◌++◌, length, ap, ◌∙◌, arith}
+use Rattle.std.proofs.Common.{◌≡◌, ◌⊎◌, inl, inr, ℕ, ◌+◌, ◌≤◌, true, false, List, [], ◌∷◌, ◌++◌, length, ap, ◌∙◌, arith}
+use Rattle.af_base.proofs.Basics.{is_within}
 use Rattle.af_base.specs.declared.event.ServerEvent.{ServerEvent}
 use Rattle.af_base.specs.declared.event.ServerEvent.TheVariants as server
 use Rattle.af_base.specs.Log.{count_seen}
+use Rattle.af_enough_law.proofs.Basics.{taken-append}
+use Rattle.af_judge.proofs.Basics.{calls_states}
 use Rattle.af_life.specs.Kept.{track_at, track_in}
 use Rattle.af_life.specs.Plays.{is_mixed_here}
 use Rattle.af_model.specs.Journals.{RoundSeen}
@@ -17,15 +20,11 @@ use Rattle.af_enough_law.specs.NormalRounds.{TurnMade}
 use Rattle.af_enough_law.specs.Seen.{frames_put, frames_taken}
 use Rattle.af_enough_law.proofs.CalmTracks.{CalmTrack, CalmTurn}
 use Rattle.af_enough_law.proofs.FastMixes.{early_states, late_states}
-use Rattle.af_enough_law.proofs.FastPolls.{calls_states, parts_use}
+use Rattle.af_enough_law.proofs.FastPolls.{parts_use}
 use Rattle.af_enough_law.proofs.FastRounds.{Quiet, over, calls_length}
-use Rattle.af_enough_law.proofs.FastShows.{taken-append}
 use Rattle.af_enough_law.proofs.HomeKept.{HomeSeen}
 use Rattle.af_enough_law.proofs.HomeStill.{HasNone, entries_still}
 use Rattle.af_enough_law.proofs.HomeTakes.{HomeLook, home_look}
-
-le_true : (a b : ℕ) → a ≤ b → nat_le a b ≡ true
-le_true a b le = search (arith, le)
 
 quiet_taken : (b later : BlockTold) → Quiet b later → frames_taken (server_list later) ≡ frames_taken (server_list b)
 quiet_taken b later q = by q.is_later.events q.rests q.is_later.server
@@ -39,7 +38,7 @@ module _ (s : Session) (marks : Marks) (run : Run) (round : RoundSeen) (i : ℕ)
     (going : fast_ended run ≡ false) (states : KnowsStates s run) (none : AllStates run (after_round s run round) (HasNone i)) where
   pub home_sees : buffer_of s ≤ t.turn.room → is_mixed_here (track_at (after_round s run round).normal.tracks i) ≡ true → HomeSeen s marks run round i t
   home_sees room here =
-      let look : HomeLook false s marks run round i t turn legal known_stream known_commands calm able open_looks knows = home_look false s marks run round i t turn legal known_stream known_commands calm able open_looks knows (le_true (buffer_of s) t.turn.room room) here in
+      let look : HomeLook false s marks run round i t turn legal known_stream known_commands calm able open_looks knows = home_look false s marks run round i t turn legal known_stream known_commands calm able open_looks knows (is_within (buffer_of s) t.turn.room room) here in
       let v = over s run round i turn.low in
       let uses = parts_use s marks run round legal going states in
       let first = early_states s run round in

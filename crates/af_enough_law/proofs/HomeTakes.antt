@@ -1,16 +1,20 @@
 -- What a round takes of a track that the normal mixer mixes: if the pipe has room for a buffer, a buffer, or all that was in its block before the round.
-use Rattle.std.proofs.Common.{◌≡◌, ◌⊎◌, inl, inr, ℕ, zero, suc, ◌+◌, ◌≤◌, ◌<◌, ◌==◌, ◌&&◌, ◌||◌, nat_le, if◌then◌else◌, Bool, true, false, true≢false, Option, List, [], ◌∷◌, ◌++◌, length, map, filter, take, fold, refl, sym, ap, ◌∙◌, subst, arith, append_assoc, append-nil, eq-eqb}
-use Rattle.std.proofs.lemmas.List.{length-set, take-append-le}
+use Rattle.std.proofs.Common.{◌≡◌, ◌⊎◌, inl, inr, ℕ, zero, suc, ◌+◌, ◌≤◌, ◌<◌, ◌==◌, ◌&&◌, ◌||◌, nat_le, if◌then◌else◌, Bool, true, false, true≢false, Option, List, [], ◌∷◌, ◌++◌, length, map, filter, take, refl, sym, ap, ◌∙◌, subst, arith, append_assoc, append-nil, eq-eqb}
+use Rattle.std.proofs.lemmas.List.{take-append-le}
 use Rattle.std.specs.List.{range_with_len, list_any, flat_map}
+use Rattle.af_base.proofs.Basics.{both_true}
 use Rattle.af_base.specs.declared.event.ClientEvent.{ClientEvent}
 use Rattle.af_base.specs.declared.event.ServerEvent.{ServerEvent}
 use Rattle.af_base.specs.Log.{count_seen}
 use Rattle.af_base.specs.Turn.{Turn, TakeSeen}
+use Rattle.af_enough_law.proofs.Basics.{before_normal, taken-append}
+use Rattle.af_judge.proofs.Basics.{push_tracks}
+use Rattle.af_life.proofs.Basics.{takes_len}
 use Rattle.af_life.specs.declared.kept.TrackKept.{TrackKept}
 use Rattle.af_life.specs.Heard.{learnt}
 use Rattle.af_life.specs.Kept.{Setup, asked as buffer, NormalKept, Outside, Learnt, track_at, track_in, is_home}
 use Rattle.af_life.specs.Edits.{after_push}
-use Rattle.af_life.specs.Plays.{is_mixed_here, mixed_here, after_take, after_takes, LegalTake}
+use Rattle.af_life.specs.Plays.{is_mixed_here, mixed_here, after_takes, LegalTake}
 use Rattle.af_life.specs.Turn.{GoesOn, after_edits, turn_after}
 use Rattle.af_life.specs.TurnEvents.{tracks_at, invalid, hand_list, stream_list, takes_from, mix_events}
 use Rattle.af_life.proofs.Lives.{turn_len}
@@ -33,15 +37,14 @@ use Rattle.af_enough_law.proofs.CalmTracks.{CalmTrack, CalmTurn}
 use Rattle.af_enough_law.proofs.Fair.{calm_drops}
 use Rattle.af_enough_law.proofs.FastFlows.{Later, later_both}
 use Rattle.af_enough_law.proofs.FastRounds.{over, calls_length, cycles_length}
-use Rattle.af_enough_law.proofs.FastShows.{Setting, Look, slot_look, stands-more, taken-append}
+use Rattle.af_enough_law.proofs.FastShows.{Setting, Look, slot_look, stands-more}
 use Rattle.af_enough_law.proofs.FastSteps.{server_does-server, hand_does-server}
 use Rattle.af_enough_law.proofs.Foreseen.{Foreseen, part_seen, early_quiet}
 use Rattle.af_enough_law.proofs.HomeRounds.{keeps_of}
 use Rattle.af_enough_law.proofs.NearHears.{early_taken}
-use Rattle.af_enough_law.proofs.NormalRounds.{before_normal}
 use Rattle.af_enough_law.proofs.RoundCalm.{OnlyTake, track_takes, never_invalid, home_open, known_open}
 use Rattle.af_enough_law.proofs.RunTracks.{turn_track}
-use Rattle.af_enough_law.proofs.Served.{own_all, pushed_tracks}
+use Rattle.af_enough_law.proofs.Served.{own_all}
 use Rattle.af_enough_law.proofs.StreamCalm.{IsQuiet}
 
 -- ## A take of the track is due
@@ -81,29 +84,21 @@ any_at p a (suc n) i low high is = by (a == i) refl (λ above. any_at p (a + 1) 
 any_below : (p : ℕ → Bool) (n i : ℕ) → i < n → p i ≡ true → list_any p (range_with_len 0 n) ≡ true
 any_below p n i low is = any_at p 0 n i (omega arith) (omega (arith, low)) is
 
-both : (a b : Bool) → a ≡ true → b ≡ true → (a && b) ≡ true
-both true b e f = f
-both false b e f = absurd (true≢false (sym e))
-
 due_some : (c : Setup) (o : Outside) (m : NormalKept) (e : Turn) (i : ℕ) → GoesOn c o m e → nat_le (buffer c) e.room ≡ true → i < length (after_edits c (learnt o) e m).tracks → is_mixed_here (track_at (after_edits c (learnt o) e m).tracks i) ≡ true → takes_from e.mixes i ≡ [] → ⊥
 due_some c o m e i goes room low here none =
     let tracks : List TrackKept = (after_edits c (learnt o) e m).tracks in
     let p : ℕ → Bool = λ j. is_mixed_here (track_at tracks j) in
     let due : map (λ take. take.track) e.mixes ≡ filter p (range_with_len 0 (length tracks)) = goes.due ∙ ap (λ (b : Bool). if b then mixed_here tracks else []) room in
     let nothing : list_any (λ take. take.track == i) e.mixes ≡ false = none_filter (λ take. take.track == i) e.mixes none in
-    let some : list_any (λ j. p j && (j == i)) (range_with_len 0 (length tracks)) ≡ true = any_below (λ j. p j && (j == i)) (length tracks) i low (both (p i) (i == i) here (eq-eqb i i refl)) in
+    let some : list_any (λ j. p j && (j == i)) (range_with_len 0 (length tracks)) ≡ true = any_below (λ j. p j && (j == i)) (length tracks) i low (both_true (p i) (i == i) here (eq-eqb i i refl)) in
     true≢false (sym some ∙ sym (any_filter (λ j. j == i) p (range_with_len 0 (length tracks))) ∙ ap (list_any (λ j. j == i)) (sym due) ∙ any_map (λ j. j == i) e.mixes ∙ nothing)
-
-takes_len : (asked : ℕ) (takes : List TakeSeen) (tracks : List TrackKept) → length (fold (after_take asked) tracks takes) ≡ length tracks
-takes_len asked [] tracks = refl
-takes_len asked (t ∷ takes) tracks = takes_len asked takes (after_take asked tracks t) ∙ length-set tracks t.track _
 
 -- the mix changes nothing of which tracks are mixed here
 mixed_same : (c : Setup) (k : Learnt) (m : NormalKept) (e : Turn) (i : ℕ) → e.ended ≡ false → i < length m.tracks → (i < length (after_edits c k e m).tracks) × (is_mixed_here (track_at (turn_after c k m e).tracks i) ≡ is_mixed_here (track_at (after_edits c k e m).tracks i))
 unfolding turn_after
 mixed_same c k m e i runs low =
     let x : NormalKept = after_edits c k e m in
-    let pushed = pushed_tracks e.push x in
+    let pushed = push_tracks e.push x in
     let after = ap (λ (b : Bool). length (if b then record m { ended = true } else after_takes c e.mixes (after_push e.push x)).tracks) runs in
     let whole = turn_len c k m e in
     let mixed = takes_len (buffer c) e.mixes (after_push e.push x).tracks in

@@ -1,11 +1,13 @@
 -- The draft has the item of each track whose proxy is not at home.
 use Rattle.std.proofs.Common.{◌≡◌, ◌≢◌, inl, inr, ℕ, zero, suc, ◌≤◌, ◌&&◌, if◌then◌else◌, Bool, true, false, true≢false, All, Option, List, [], ◌∷◌, length, fold, refl, sym, ap, ◌∙◌, subst, arith}
+use Rattle.af_base.proofs.Basics.{no}
 use Rattle.af_base.specs.declared.state.Command.{Command}
 use Rattle.af_base.specs.declared.state.FastState.{FastState}
 use Rattle.af_base.specs.declared.state.FastTrack.{FastTrack}
 use Rattle.af_base.specs.declared.state.Push.{Push}
 use Rattle.af_base.specs.declared.state.Push.TheVariants.{Pushed, Clean, Busy}
 use Rattle.af_base.specs.Turn.{Turn, TrackSeen, TakeSeen}
+use Rattle.af_life.proofs.Basics.{at_new, each_set, set_each, welcomed_at}
 use Rattle.af_life.specs.declared.kept.Holder.{Holder}
 use Rattle.af_life.specs.declared.kept.Holder.TheVariants.{Home, Lent, Returning}
 use Rattle.af_life.specs.declared.kept.Setting.{Setting}
@@ -21,14 +23,11 @@ use Rattle.af_life.proofs.Lives.{acked_len, served_len}
 use Rattle.af_model.specs.Draft.{commanded as with_command}
 use Rattle.af_model.specs.StateQueue.{slot_of}
 use Rattle.af_judge.proofs.DraftBits.{slot_here, slot_else}
-use Rattle.af_judge.proofs.SoundEdits.{each_set, apart, comer_slot, comer_holds, comer_inside}
+use Rattle.af_judge.proofs.SoundEdits.{apart, comer_slot, comer_holds, comer_inside}
 use Rattle.af_judge.proofs.SoundLives.{Goes, goes_served}
-use Rattle.af_judge.proofs.SoundSlots.{set_each, sound_served}
-use Rattle.af_judge.proofs.SoundTurns.{welcomed_at, sound_acked, sound_edits, at_new}
+use Rattle.af_judge.proofs.SoundSlots.{sound_served}
+use Rattle.af_judge.proofs.SoundTurns.{sound_acked, sound_edits}
 use Rattle.af_enough_law.specs.Items.{IsItem, AreItems}
-
-no : {A : Type 0} → false ≡ true → A
-no h = absurd (true≢false (sym h))
 
 -- a track with the same holder, slot and generation
 same_item : (c : Setup) (draft : FastState) (i : ℕ) (s t : TrackKept) → t.holder ≡ s.holder → (is_home s.holder ≡ false → t.slot ≡ s.slot) → t.generation ≡ s.generation → IsItem c draft i s → IsItem c draft i t

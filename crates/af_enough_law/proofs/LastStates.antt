@@ -1,7 +1,8 @@
 -- The state pushed last, and that the fast mixer goes on until an Exit is pushed.
-use Rattle.std.proofs.Common.{◌≡◌, ◌⊎◌, inl, inr, ℕ, zero, suc, ◌<◌, ◌≤◌, ◌==◌, ◌||◌, unwrap_or, Bool, true, false, true≢false, Option, Some, None, List, [], ◌∷◌, ◌++◌, length, refl, sym, ap, ◌∙◌, subst, arith, append-nil, if◌then◌else◌}
+use Rattle.std.proofs.Common.{◌≡◌, ◌⊎◌, inl, inr, ℕ, ◌<◌, ◌≤◌, ◌==◌, ◌||◌, unwrap_or, Bool, true, false, true≢false, Option, Some, None, List, [], ◌∷◌, ◌++◌, length, refl, sym, ap, ◌∙◌, subst, arith, append-nil, if◌then◌else◌}
 use Rattle.std.specs.Prelude.{MatchBool, MatchOption}
 use Rattle.std.proofs.lemmas.Grind.{fold-append}
+use Rattle.af_base.proofs.Basics.{within_or_beyond}
 use Rattle.af_base.specs.Command.{code_of}
 use Rattle.af_base.specs.Turn.{Turn}
 use Rattle.af_base.specs.declared.log.Cycle.TheVariants as cycle
@@ -11,6 +12,8 @@ use Rattle.af_base.specs.declared.state.Command.TheVariants.{Initial, HotIdle, C
 use Rattle.af_base.specs.declared.state.FastState.{FastState}
 use Rattle.af_base.specs.declared.state.Push.{Push}
 use Rattle.af_base.specs.declared.state.Push.TheVariants.{Pushed, Clean, Busy}
+use Rattle.af_enough_law.proofs.Basics.{before_normal}
+use Rattle.af_judge.proofs.Basics.{calls_states}
 use Rattle.af_life.specs.Edits.{after_push}
 use Rattle.af_life.specs.Edits as edits
 use Rattle.af_life.specs.Heard.{learnt}
@@ -20,6 +23,7 @@ use Rattle.af_life.specs.Turn.{after_edits, turn_after}
 use Rattle.af_model.specs.Cycles.{state_of, cycle_by, cycle_of, cold_done, has_exit, is_exit}
 use Rattle.af_model.specs.Draft.{initial}
 use Rattle.af_model.specs.Journals.{EntrySeen, RoundSeen}
+use Rattle.af_runs.proofs.Basics.{state_more}
 use Rattle.af_runs.specs.Blocks.{Marks}
 use Rattle.af_runs.specs.Found.{LegalTurnBy, outside_of}
 use Rattle.af_runs.specs.Rounds.{LegalEntry, LegalEntries, LegalRound, early_of, late_of, before_turn, found_in, after_turn, all_played, met_after, after_round}
@@ -30,11 +34,10 @@ use Rattle.af_enough_law.specs.EndPhases.{NoExits}
 use Rattle.af_enough_law.proofs.Drafts.{after_pushes}
 use Rattle.af_enough_law.proofs.FastCurrent.{legal_parts, rest_current}
 use Rattle.af_enough_law.proofs.FastFound.{cycle_current}
-use Rattle.af_enough_law.proofs.FastMixes.{state_more}
-use Rattle.af_enough_law.proofs.FastPolls.{calls_states, before_states, round_states, turn_more}
+use Rattle.af_enough_law.proofs.FastPolls.{before_states, round_states, turn_more}
 use Rattle.af_enough_law.proofs.FastReports.{calls_same, turned_same, loaded_same, met_same, ends_same}
 use Rattle.af_enough_law.proofs.FastSteps.{cycle_states}
-use Rattle.af_enough_law.proofs.NormalRounds.{before_normal, after_normal, turn_made}
+use Rattle.af_enough_law.proofs.NormalRounds.{after_normal, turn_made}
 use Rattle.af_enough_law.proofs.QueueRounds.{current_of, states_turned, states_still}
 
 -- ## The last state
@@ -184,15 +187,6 @@ exit_at : (a b : Bool) → a ≡ false → (a || b) ≡ true → b ≡ true
 exit_at true b off h = absurd (true≢false off)
 exit_at false b off h = h
 
-within : (a b : ℕ) → (a ≤ b) ⊎ (b < a)
-within zero b = inl (omega arith)
-within (suc a) zero = inr (omega arith)
-within (suc a) (suc b) = by (within a b)
-  where
-    by : (a ≤ b) ⊎ (b < a) → (suc a ≤ suc b) ⊎ (suc b < suc a)
-    by (inl low) = inl (omega (arith, low))
-    by (inr far) = inr (omega (arith, far))
-
 abbrev NoneUpTo : ℕ → List FastState → Type 0
 NoneUpTo n states = (k : ℕ) (x : FastState) → k ≤ n → state_of states k ≡ Some x → edits.is_exit x ≡ false
 
@@ -200,7 +194,7 @@ entries_adopt : (s : Session) (marks : Marks) (n : ℕ) (es : List EntrySeen) (r
 entries_adopt s marks n [] run legal none going ended = absurd (true≢false (sym ended ∙ going))
 entries_adopt s marks n (e ∷ []) run legal none going ended =
     let exits : is_exit e.entry.cycle ≡ true = exit_at (has_exit run.entries) (is_exit e.entry.cycle) going (sym (ap has_exit (cycle_current s run e).1 ∙ added run.entries e.entry) ∙ ended) in
-    by exits (within e.entry.state n)
+    by exits (within_or_beyond e.entry.state n)
   where
     by : is_exit e.entry.cycle ≡ true → (e.entry.state ≤ n) ⊎ (n < e.entry.state) → n < (with_cycle s run e).current
     by exits (inl low) = absurd (true≢false (sym exits ∙ entry_goes s marks run e legal.0 (λ x is. none e.entry.state x low is)))

@@ -1,12 +1,14 @@
 -- A track whose proxy leaves in the round in which it is adopted at the latest, and that was drained, is a stopped one then.
 use Rattle.std.proofs.Common.{◌≡◌, ◌⊎◌, inl, inr, ℕ, ◌+◌, ◌≤◌, ◌<◌, is_some, Bool, true, false, true≢false, All, Some, List, [], ◌∷◌, ◌++◌, length, length-append, take-append-drop, refl, sym, ap, ◌∙◌, subst, arith}
 use Rattle.af_base.specs.declared.state.FastTrack.{FastTrack}
+use Rattle.af_judge.proofs.Basics.{calls_states}
 use Rattle.af_life.specs.declared.kept.Setting.{Setting}
 use Rattle.af_life.specs.declared.track.Life.{Life}
 use Rattle.af_life.specs.Kept.{track_at, plays, is_home, is_lent, is_returning, number_of}
 use Rattle.af_life.specs.declared.kept.Holder.TheVariants.{Returning}
 use Rattle.af_model.specs.Cycles.{state_of, last_used}
 use Rattle.af_model.specs.Journals.{EntrySeen, RoundSeen}
+use Rattle.af_runs.proofs.Basics.{state_more}
 use Rattle.af_runs.specs.Blocks.{Marks, client_list, server_list}
 use Rattle.af_runs.specs.Rounds.{LegalRound, early_of, late_of, early_count, before_turn, found_in, after_turn, all_played, met_after, after_round}
 use Rattle.af_runs.specs.Runs.{Run, told_at, takes_part, with_calls, with_cycles}
@@ -21,8 +23,7 @@ use Rattle.af_enough_law.proofs.AwayKeeps.{StaysOpen, open_then, away_turn}
 use Rattle.af_enough_law.proofs.AwayRounds.{AwayTurn, AwayTrack, AwayRounds, AwayBack, away_of, away_before, away_back, away_carried}
 use Rattle.af_enough_law.proofs.Carrying.{TrackIs, stopped}
 use Rattle.af_enough_law.proofs.CommandsGo.{commands_of}
-use Rattle.af_enough_law.proofs.FastMixes.{state_more}
-use Rattle.af_enough_law.proofs.FastPolls.{round_states, turn_more, calls_states, fast_parts}
+use Rattle.af_enough_law.proofs.FastPolls.{round_states, turn_more, fast_parts}
 use Rattle.af_enough_law.proofs.FastReports.{SameReports, turned_same, loaded_same, met_same, ends_same, same_both}
 use Rattle.af_enough_law.proofs.Foreseen.{Foreseen, part_seen, home_unshut}
 use Rattle.af_enough_law.proofs.HomeRounds.{IsNamed, home_part}

@@ -1,7 +1,9 @@
 -- The round in which a proxy leaves that the last state plays, whether the fast mixer had it before or not: its turn doesn't hear that the stream is shut.
 use Rattle.std.proofs.Common.{◌≡◌, ◌⊎◌, inl, inr, ℕ, ◌≤◌, ◌<◌, unwrap_or, is_some, Bool, true, false, true≢false, All, Option, Some, length, refl, sym, ap, ◌∙◌, subst, arith}
+use Rattle.af_base.proofs.Basics.{within_or_beyond}
 use Rattle.af_base.specs.declared.state.FastState.{FastState}
 use Rattle.af_base.specs.declared.state.FastTrack.{FastTrack}
+use Rattle.af_judge.proofs.Basics.{ends_part}
 use Rattle.af_life.specs.declared.kept.Heard.{Heard}
 use Rattle.af_life.specs.declared.kept.Holder.TheVariants.{Returning}
 use Rattle.af_life.specs.declared.kept.Setting.{Setting}
@@ -25,7 +27,6 @@ use Rattle.af_enough_law.proofs.AwayKeeps.{StaysOpen, open_then, away_turn}
 use Rattle.af_enough_law.proofs.AwayRounds.{AwayTurn}
 use Rattle.af_enough_law.proofs.Commanding.{le_cases}
 use Rattle.af_enough_law.proofs.EntryCounts.{found_within}
-use Rattle.af_enough_law.proofs.FastRounds.{ends_part}
 use Rattle.af_enough_law.proofs.Following.{greeted_in, greeted_alike}
 use Rattle.af_enough_law.proofs.Foreseen.{Foreseen, part_seen}
 use Rattle.af_enough_law.proofs.Generations.{Attached, greeted_lent, greeted_same, attached_stays}
@@ -41,7 +42,6 @@ use Rattle.af_enough_law.proofs.Lookahead.{Coming, held_on, passed, greeted_comi
 use Rattle.af_enough_law.proofs.MeetReports.{SaysOpenOf, NamesTrack}
 use Rattle.af_enough_law.proofs.MeetRounds.{Meeting, meets_open}
 use Rattle.af_enough_law.proofs.QueueRounds.{acks_states, queue_stands}
-use Rattle.af_enough_law.proofs.RestTurns.{low_or}
 use Rattle.af_enough_law.proofs.SessionRounds.{turn_of, turn_runs, push_of, states_few}
 use Rattle.af_enough_law.proofs.Slots.{slot_stays}
 use Rattle.af_enough_law.proofs.StartRounds.{PushedLast}
@@ -99,7 +99,7 @@ module _ (s : Session) (marks : Marks) (scales : All (λ (x : Setting). x.scale 
 
   -- a state that the turn pushes has nothing of the track
   pub out_pushed : (m : ℕ) (y : FastState) → length run.states < m → state_of after.states m ≡ Some y → IsOut slot i y
-  out_pushed m y above is = by (low_or m (length after.states))
+  out_pushed m y above is = by (within_or_beyond m (length after.states))
     where
       some_is : (x y : FastState) → Some x ≡ Some y → x ≡ y
       some_is x y e = ap (λ (o : Option FastState). unwrap_or o x) e

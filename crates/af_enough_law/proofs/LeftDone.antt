@@ -1,8 +1,10 @@
 -- The round in which a lent track leaves makes it a stopped one, whose proxy is on its way.
-use Rattle.std.proofs.Common.{◌≡◌, ◌⊎◌, inl, inr, ℕ, zero, suc, ◌≤◌, ◌<◌, unwrap_or, is_some, Bool, true, false, true≢false, All, Option, Some, List, [], ◌++◌, length, length-append, refl, sym, ap, ◌∙◌, subst, arith}
+use Rattle.std.proofs.Common.{◌≡◌, ◌⊎◌, inl, inr, ℕ, zero, suc, ◌≤◌, ◌<◌, is_some, Bool, true, false, true≢false, All, Some, List, [], ◌++◌, length, length-append, refl, sym, ap, ◌∙◌, subst, arith}
 use Rattle.af_base.specs.declared.event.ClientEvent.{ClientEvent}
 use Rattle.af_base.specs.declared.state.FastState.{FastState}
 use Rattle.af_base.specs.declared.state.FastTrack.{FastTrack}
+use Rattle.af_enough_law.proofs.Basics.{some_is}
+use Rattle.af_judge.proofs.Basics.{ends_part}
 use Rattle.af_life.specs.declared.kept.Holder.TheVariants.{Returning}
 use Rattle.af_life.specs.declared.kept.Setting.{Setting}
 use Rattle.af_life.specs.declared.state.LifeState.TheVariants.{Active}
@@ -12,6 +14,7 @@ use Rattle.af_life.specs.Kept.{NormalKept, track_at, plays, is_lent}
 use Rattle.af_model.specs.declared.shape.Shape.{Shape}
 use Rattle.af_model.specs.Cycles.{state_of}
 use Rattle.af_model.specs.Journals.{RoundSeen}
+use Rattle.af_runs.proofs.Basics.{state_more}
 use Rattle.af_runs.specs.Blocks.{Marks, client_list, server_list}
 use Rattle.af_runs.specs.Rounds.{LegalRound, met_after, after_round}
 use Rattle.af_runs.specs.Runs.{Run, told_at, takes_part}
@@ -26,10 +29,8 @@ use Rattle.af_enough_law.proofs.Commanding.{le_cases}
 use Rattle.af_enough_law.proofs.CourseGoes.{CourseGone}
 use Rattle.af_enough_law.proofs.Coursing.{course_plays}
 use Rattle.af_enough_law.proofs.Fair.{calm_drops}
-use Rattle.af_enough_law.proofs.FastMixes.{state_more}
 use Rattle.af_enough_law.proofs.FastPolls.{round_states, turn_more}
 use Rattle.af_enough_law.proofs.FastReports.{reported}
-use Rattle.af_enough_law.proofs.FastRounds.{ends_part}
 use Rattle.af_enough_law.proofs.Flushless.{unflushed_none}
 use Rattle.af_enough_law.proofs.Foreseen.{part_seen, KeepsTo}
 use Rattle.af_enough_law.proofs.Generations.{attached_stays}
@@ -47,9 +48,6 @@ use Rattle.af_enough_law.proofs.StreamHistories.{part_stream}
 use Rattle.af_enough_law.proofs.TrackCarried.{TrackCarried}
 use Rattle.af_enough_law.proofs.TrackGoes.{CalmStream}
 use Rattle.af_runs.proofs.StatesFor.{state_beyond}
-
-some_is : (x y : FastState) → Some x ≡ Some y → x ≡ y
-some_is x y e = ap (λ (o : Option FastState). unwrap_or o x) e
 
 -- a track that took two commands or more and isn't to be heard took three
 told_three : (count told : ℕ) (l : Life) → 2 ≤ told → Course count told l → plays l ≡ false → 3 ≤ told

@@ -1,6 +1,7 @@
 -- The entries of a round in which a track leaves: those of the state before play it, and those of the state that the turn pushes don't touch it. The report that the turn finds says that its server is open.
 use Rattle.std.proofs.Common.{◌≡◌, ◌⊎◌, inl, inr, ℕ, zero, suc, ◌+◌, ◌≤◌, ◌<◌, ◌==◌, ◌&&◌, ◌||◌, if◌then◌else◌, is_some, Bool, true, false, true≢false, Option, Some, None, List, [], ◌∷◌, ◌++◌, length, refl, sym, ap, ◌∙◌, subst, arith, append_assoc, append-nil, eqb-true}
 use Rattle.std.specs.List.{find, range_with_len}
+use Rattle.af_base.proofs.Basics.{three}
 use Rattle.af_base.specs.declared.event.ClientEvent.{ClientEvent}
 use Rattle.af_base.specs.declared.event.ServerEvent.{ServerEvent}
 use Rattle.af_base.specs.declared.log.CycleEntry.{CycleEntry}
@@ -10,6 +11,7 @@ use Rattle.af_base.specs.declared.report.SlotReport.{SlotReport}
 use Rattle.af_base.specs.declared.state.FastState.{FastState}
 use Rattle.af_base.specs.declared.state.FastTrack.{FastTrack}
 use Rattle.af_base.specs.Log.{slots, entry_slot}
+use Rattle.af_enough_law.proofs.Basics.{state_there}
 use Rattle.af_model.specs.declared.shape.Shape.{Shape}
 use Rattle.af_model.specs.Cycles.{Listed, LooksBy, state_of, last_used, is_mixed, cycle_events}
 use Rattle.af_model.specs.Journals.{EntrySeen}
@@ -31,7 +33,6 @@ use Rattle.af_enough_law.proofs.FastReports.{entry_told, slot_counts, last_more}
 use Rattle.af_enough_law.proofs.FastShows.{Setting, Look, slot_look}
 use Rattle.af_enough_law.proofs.FastSince.{Adds}
 use Rattle.af_enough_law.proofs.FastSteps.{cycle_states, cycle_length, cycle_track, mixed_stream, played_server, slot_only, cycle_draft}
-use Rattle.af_enough_law.proofs.LentFlows.{state_there}
 use Rattle.af_enough_law.proofs.StreamCalm.{IsQuiet, LiesIn, lies_earlier, calm_join, calm_cycle, still_shows}
 use Rattle.af_runs.proofs.StatesFor.{polled_known, polled_waits, state_beyond}
 
@@ -47,12 +48,6 @@ find_none p a (suc n) out = by (p a) refl (find_none p (a + 1) n (λ j low is. o
     by : (b : Bool) → p a ≡ b → find p (range_with_len (a + 1) n) ≡ None → (if b then Some a else find p (range_with_len (a + 1) n)) ≡ None
     by true is rest = absurd (out a (omega arith) is)
     by false is rest = rest
-
-three : (a b c : Bool) → ((a && b) && c) ≡ true → (a ≡ true) × (b ≡ true) × (c ≡ true)
-three true true true e = (refl, refl, refl)
-three true true false e = absurd (true≢false (sym e))
-three true false c e = absurd (true≢false (sym e))
-three false b c e = absurd (true≢false (sym e))
 
 -- ## An entry that doesn't touch the track
 

@@ -6,18 +6,19 @@ use Rattle.af_base.specs.declared.report.SlotReport.{SlotReport}
 use Rattle.af_base.specs.declared.state.FastState.{FastState}
 use Rattle.af_base.specs.declared.state.FastTrack.{FastTrack}
 use Rattle.af_base.specs.Log.{slots}
+use Rattle.af_judge.proofs.Basics.{calls_states}
 use Rattle.af_model.specs.declared.shape.Shape.{Shape}
 use Rattle.af_model.specs.Cycles.{state_of}
 use Rattle.af_model.specs.Journals.{EntrySeen, RoundSeen}
 use Rattle.af_model.specs.Reports.{report_at}
+use Rattle.af_runs.proofs.Basics.{state_more}
 use Rattle.af_runs.specs.Blocks.{Marks, server_list, listed}
 use Rattle.af_runs.specs.Rounds.{LegalRound, early_count, early_of, late_of, before_turn, found_in, after_turn, all_played, met_after, after_round}
 use Rattle.af_runs.specs.Runs.{Run, told_at, report_of, with_calls, with_cycle, with_cycles, fast_ended}
 use Rattle.af_runs.specs.Sessions.{Session}
 use Rattle.af_enough_law.specs.FastFlows.{KnowsStates, Plays, IsTold, slot_told}
 use Rattle.af_enough_law.proofs.FastFound.{calls_current}
-use Rattle.af_enough_law.proofs.FastMixes.{state_more}
-use Rattle.af_enough_law.proofs.FastPolls.{calls_states, fast_parts, parts_use, round_states, turn_more}
+use Rattle.af_enough_law.proofs.FastPolls.{fast_parts, parts_use, round_states, turn_more}
 use Rattle.af_enough_law.proofs.FastReports.{calls_same, turned_same, loaded_same, met_same, ends_same, slot_same, told_same, known_quiet}
 use Rattle.af_enough_law.proofs.FastRounds.{over}
 use Rattle.af_enough_law.proofs.FastSince.{Adds, AllReports, since_number}

@@ -1,9 +1,10 @@
 -- The round in which a lent track leaves: all that its client is answered is fair, and the track is on its course after it.
-use Rattle.std.proofs.Common.{◌≡◌, ◌⊎◌, inl, inr, ℕ, zero, suc, ◌*◌, ◌≤◌, ◌<◌, unwrap_or, Bool, true, false, true≢false, All, Option, Some, List, [], ◌∷◌, ◌++◌, length, refl, sym, ap, ◌∙◌, subst, arith}
+use Rattle.std.proofs.Common.{◌≡◌, ◌⊎◌, inl, inr, ℕ, ◌≤◌, ◌<◌, unwrap_or, Bool, true, false, true≢false, All, Option, Some, List, [], ◌∷◌, ◌++◌, length, refl, sym, ap, ◌∙◌, subst, arith}
 use Rattle.af_base.specs.declared.event.ClientEvent.{ClientEvent}
 use Rattle.af_base.specs.declared.event.ClientEvent.TheVariants as client
 use Rattle.af_base.specs.declared.state.FastTrack.{FastTrack}
 use Rattle.af_base.specs.Turn.{Turn, TrackSeen}
+use Rattle.af_enough_law.proofs.Basics.{course_long}
 use Rattle.af_life.specs.declared.kept.Holder.TheVariants.{Returning}
 use Rattle.af_life.specs.declared.kept.Setting.{Setting}
 use Rattle.af_life.specs.declared.kept.TrackKept.{TrackKept}
@@ -57,10 +58,6 @@ heard_told count told l (stopping retries) heard = inr refl
 heard_told count told l (drained retries) heard = inr refl
 heard_told count told l (stopped retries) heard = inr refl
 heard_told count told l (over life e) heard = absurd (true≢false (sym heard ∙ silent life e))
-
-pub course_long : (count told more : ℕ) → length (course count told more) ≡ 2 * more
-course_long count told zero = omega arith
-course_long count told (suc more) = let l = course_long count (suc told) more in omega arith
 
 said_of : (k : Shape) (said after : List ClientEvent) → MayLearn said after → CalmStream k after [] → CalmStream k said []
 said_of k said _ still h = h

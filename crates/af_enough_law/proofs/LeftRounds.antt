@@ -1,8 +1,11 @@
 -- The round in which a lent track leaves: it hears that its stream is open, all that its client is answered is fair, and it is on its course after it. What isn't told by the history of this round is told by that of the next one.
-use Rattle.std.proofs.Common.{◌≡◌, ◌⊎◌, inl, inr, ℕ, zero, suc, ◌≤◌, ◌<◌, ◌&&◌, if◌then◌else◌, unwrap_or, is_some, Bool, true, false, true≢false, All, Option, Some, List, [], ◌∷◌, length, refl, sym, ap, ◌∙◌, subst, arith}
+use Rattle.std.proofs.Common.{◌≡◌, ◌⊎◌, inl, inr, ℕ, ◌≤◌, ◌<◌, if◌then◌else◌, unwrap_or, is_some, Bool, true, false, true≢false, All, Option, Some, length, refl, sym, ap, ◌∙◌, subst, arith}
+use Rattle.af_base.proofs.Basics.{within_or_beyond}
 use Rattle.af_base.specs.declared.report.SlotReport.{SlotReport}
 use Rattle.af_base.specs.declared.state.FastState.{FastState}
 use Rattle.af_base.specs.declared.state.FastTrack.{FastTrack}
+use Rattle.af_enough_law.proofs.Basics.{not_over}
+use Rattle.af_judge.proofs.Basics.{ends_part}
 use Rattle.af_life.specs.declared.kept.Holder.TheVariants.{Lent, Returning}
 use Rattle.af_life.specs.declared.kept.Setting.{Setting}
 use Rattle.af_life.specs.declared.kept.TrackKept.{TrackKept}
@@ -27,7 +30,6 @@ use Rattle.af_enough_law.proofs.CommandsGo.{OpenTurn}
 use Rattle.af_enough_law.proofs.Drafts.{holder_turned}
 use Rattle.af_enough_law.proofs.Ends.{silent}
 use Rattle.af_enough_law.proofs.EntryCounts.{found_within}
-use Rattle.af_enough_law.proofs.FastRounds.{ends_part}
 use Rattle.af_enough_law.proofs.Following.{greeted_in, greeted_alike}
 use Rattle.af_enough_law.proofs.Foreseen.{Foreseen, KeepsTo, keeps_to, part_seen}
 use Rattle.af_enough_law.proofs.Generations.{greeted_lent, greeted_same}
@@ -40,26 +42,11 @@ use Rattle.af_enough_law.proofs.LentTurns.{turn_leaves}
 use Rattle.af_enough_law.proofs.Lookahead.{Coming, missed, greeted_coming, home_then, seen_before, ended_then}
 use Rattle.af_enough_law.proofs.Orders.{lent_carried}
 use Rattle.af_enough_law.proofs.QueueRounds.{queue_stands}
-use Rattle.af_enough_law.proofs.RestTurns.{low_or}
 use Rattle.af_enough_law.proofs.SessionRounds.{turn_of, turn_runs, push_of, states_few, session_carried}
 use Rattle.af_enough_law.proofs.Slots.{slot_stays}
 use Rattle.af_enough_law.proofs.TrackCarried.{TrackCarried}
 use Rattle.af_enough_law.proofs.TurnLives.{shut_turned}
 use Rattle.af_runs.proofs.StatesFor.{state_beyond}
-
--- not all is over while a proxy is away
-pub some_away : (tracks : List TrackKept) (i : ℕ) → i < length tracks → is_home (track_at tracks i).holder ≡ false → is_over tracks ≡ false
-some_away [] i low away = absurd (let z : ⊥ = omega (arith, low) in z)
-some_away (s ∷ tracks) zero low away = ap (λ (b : Bool). (s.life.ended && b) && is_over tracks) away ∙ gone s.life.ended (is_over tracks)
-  where
-    gone : (b d : Bool) → ((b && false) && d) ≡ false
-    gone true d = refl
-    gone false d = refl
-some_away (s ∷ tracks) (suc i) low away = and_last (s.life.ended && is_home s.holder) (is_over tracks) (some_away tracks i (omega (arith, low)) away)
-  where
-    and_last : (b d : Bool) → d ≡ false → (b && d) ≡ false
-    and_last true d e = e
-    and_last false d e = refl
 
 -- a draft has nothing of a track that is returning
 pub draft_out : (m : NormalKept) (i slot : ℕ) → IsInOrder m → (track_at m.tracks i).holder ≡ Returning → slot_number (track_at m.tracks i) ≡ slot → IsOut slot i m.draft
@@ -121,14 +108,14 @@ module _ (s : Session) (marks : Marks) (scales : All (λ (x : Setting). x.scale 
   there_then = let a = session.stands.kept in omega (arith, a, named)
     where
       over : is_over after.normal.tracks ≡ false
-      over = some_away after.normal.tracks i (let a = ap (λ (m : NormalKept). length m.tracks) t.after in let b = turn_len (setup_of s) (learnt t.by.outside) run.normal t.turn in let d = there in omega (arith, a, b, d)) (ap is_home left.1)
+      over = not_over after.normal.tracks i (let a = ap (λ (m : NormalKept). length m.tracks) t.after in let b = turn_len (setup_of s) (learnt t.by.outside) run.normal t.turn in let d = there in omega (arith, a, b, d)) (ap is_home left.1)
 
       session : SessionCarried s after
       session = session_carried s marks scales long run round legal c.stands over
 
   -- the session goes on
   pub session : SessionCarried s after
-  session = session_carried s marks scales long run round legal c.stands (some_away after.normal.tracks i there_then (ap is_home left.1))
+  session = session_carried s marks scales long run round legal c.stands (not_over after.normal.tracks i there_then (ap is_home left.1))
 
   pub flowing : Flowing s run i slot item
   flowing = record {
@@ -151,7 +138,7 @@ module _ (s : Session) (marks : Marks) (scales : All (λ (x : Setting). x.scale 
 
   -- a state that the turn pushes has nothing of the track
   pub out_pushed : (m : ℕ) (y : FastState) → length run.states < m → state_of after.states m ≡ Some y → IsOut slot i y
-  out_pushed m y above is = by (low_or m (length after.states))
+  out_pushed m y above is = by (within_or_beyond m (length after.states))
     where
       some_is : (x y : FastState) → Some x ≡ Some y → x ≡ y
       some_is x y e = ap (λ (o : Option FastState). unwrap_or o x) e

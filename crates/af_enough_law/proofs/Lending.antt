@@ -6,6 +6,7 @@ use Rattle.af_base.specs.declared.state.Command.TheVariants.{MixWrite}
 use Rattle.af_base.specs.declared.state.Push.{Push}
 use Rattle.af_base.specs.declared.state.Push.TheVariants.{Pushed, Clean, Busy}
 use Rattle.af_base.specs.Log.{slots}
+use Rattle.af_enough_law.proofs.Basics.{stays_home}
 use Rattle.af_life.specs.declared.kept.Heard.{Heard}
 use Rattle.af_life.specs.declared.kept.Holder.TheVariants.{Home, Lent}
 use Rattle.af_life.specs.declared.kept.Setting.{Setting}
@@ -33,7 +34,6 @@ use Rattle.af_enough_law.specs.NormalRounds.{TurnMade}
 use Rattle.af_enough_law.specs.TrackTurns.{attended, Edited, stays, leaves, enters, TrackTurned}
 use Rattle.af_enough_law.proofs.Drafts.{holder_turned, attended_holder}
 use Rattle.af_enough_law.proofs.EndRounds.{order_round}
-use Rattle.af_enough_law.proofs.Ends.{greeted_home}
 use Rattle.af_enough_law.proofs.Following.{greeted_in}
 use Rattle.af_enough_law.proofs.Generations.{attached_stays, lent_plays}
 use Rattle.af_enough_law.proofs.Items.{items_turn}
@@ -141,7 +141,7 @@ module _ (s : Session) (marks : Marks) (scales : All (λ (x : Setting). x.scale 
       lent_next = ap (λ (m : NormalKept). (track_at m.tracks i).holder) (sym t.after) ∙ lent
 
       greeted : (greeted_in run.normal t.turn i).holder ≡ Home
-      greeted = home_is (greeted_in run.normal t.turn i).holder (greeted_home t.turn.ack run.normal.last (track_at run.normal.tracks i) home)
+      greeted = home_is (greeted_in run.normal t.turn i).holder (stays_home t.turn.ack run.normal.last (track_at run.normal.tracks i) home)
 
       not_lent : is_lent (track_at run.normal.tracks i).holder ≡ false
       not_lent = ap is_lent (home_is (track_at run.normal.tracks i).holder home)
@@ -187,7 +187,7 @@ module _ (s : Session) (marks : Marks) (scales : All (λ (x : Setting). x.scale 
   open_now home lent own =
       ap (λ (m : NormalKept). (track_at m.tracks i).at_attach.known.shut) t.after
       ∙ ap (λ (h : Heard). h.known.shut) (attach_turned (setup_of s) (learnt t.by.outside) run.normal t.turn i there (track_turned (setup_of s) (learnt t.by.outside) run.normal t.turn i there goes)
-      (home_is (greeted_in run.normal t.turn i).holder (greeted_home t.turn.ack run.normal.last (track_at run.normal.tracks i) home)) (ap (λ (m : NormalKept). (track_at m.tracks i).holder) (sym t.after) ∙ lent))
+      (home_is (greeted_in run.normal t.turn i).holder (stays_home t.turn.ack run.normal.last (track_at run.normal.tracks i) home)) (ap (λ (m : NormalKept). (track_at m.tracks i).holder) (sym t.after) ∙ lent))
       ∙ own
 
   pub open_still : (track_at run.normal.tracks i).holder ≡ Lent → WasOpen run i → WasOpen after i

@@ -1,7 +1,9 @@
 -- The retries of a lent track that plays, in numbers: a round keeps what makes them two at least.
 use Rattle.std.proofs.Common.{◌≡◌, ◌⊎◌, inl, inr, ℕ, zero, suc, ◌+◌, ◌*◌, ◌^◌, ◌≤◌, ◌<◌, false, [], ◌∷◌, length, ap, arith}
+use Rattle.af_base.proofs.Basics.{below_or_not}
 use Rattle.af_base.specs.declared.event.ServerEvent.TheVariants as server
 use Rattle.af_base.specs.declared.state.FastTrack.{FastTrack}
+use Rattle.af_enough_law.proofs.Basics.{taken-append}
 use Rattle.af_life.specs.declared.kept.Counts.{Counts}
 use Rattle.af_life.specs.Heard.{learnt, slot_reported}
 use Rattle.af_life.specs.Kept.{track_at}
@@ -18,13 +20,12 @@ use Rattle.af_enough_law.specs.Seen.{frames_put, frames_taken}
 use Rattle.af_enough_law.proofs.CourseGoes.{OnCourse}
 use Rattle.af_enough_law.proofs.FairTurns.{codes_long}
 use Rattle.af_enough_law.proofs.FastReports.{heard_some}
-use Rattle.af_enough_law.proofs.FastShows.{taken-append}
 use Rattle.af_enough_law.proofs.Following.{greeted_in}
 use Rattle.af_enough_law.proofs.FoundCounts.{shown_looks}
 use Rattle.af_enough_law.proofs.GainRounds.{fed, sent, fewer, gain_round}
 use Rattle.af_enough_law.proofs.GainTurns.{calls_few}
 use Rattle.af_enough_law.proofs.LentFlows.{LentGone}
-use Rattle.af_enough_law.proofs.LentHears.{IsUnheard, HearsFrames, looks_noted, less_or, by_report}
+use Rattle.af_enough_law.proofs.LentHears.{IsUnheard, HearsFrames, looks_noted, by_report}
 use Rattle.af_enough_law.proofs.LentRounds.{LentCarried, HeardOf}
 use Rattle.af_enough_law.proofs.Nearing.{StreamRound, StreamMet, TrackRound, BlockKept, calm_turn, numbers}
 use Rattle.af_enough_law.proofs.NearRounds.{known_of}
@@ -61,7 +62,7 @@ module _ (s : Session) (marks : Marks) (run : Run) (round : RoundSeen) (i most t
 
   -- frames that the round took are heard of by its turn, or told of by its last report and not heard of yet
   hears_in : 1 ≤ heard_in slot round.entries → HearsFrames s marks run round i t ⊎ IsUnheard after i slot
-  hears_in some = by (less_or (looks_noted (track_at run.normal.tracks i)) (shown_looks (slot_reported (learnt t.by.outside) (greeted_in run.normal t.turn i))))
+  hears_in some = by (below_or_not (looks_noted (track_at run.normal.tracks i)) (shown_looks (slot_reported (learnt t.by.outside) (greeted_in run.normal t.turn i))))
     where
       by : (looks_noted (track_at run.normal.tracks i) < shown_looks (slot_reported (learnt t.by.outside) (greeted_in run.normal t.turn i))) ⊎ (shown_looks (slot_reported (learnt t.by.outside) (greeted_in run.normal t.turn i)) ≤ looks_noted (track_at run.normal.tracks i))
           → HearsFrames s marks run round i t ⊎ IsUnheard (after_round s run round) i slot
@@ -102,7 +103,7 @@ module _ (s : Session) (marks : Marks) (run : Run) (round : RoundSeen) (i most t
       ]
     where
       le_or : (a b : ℕ) → (a < b) ⊎ (b ≤ a)
-      le_or a b = less_or a b
+      le_or a b = below_or_not a b
 
       by_left : (frames_taken (server_list (told_at (after_round s run round) i).stream) < frames_put (client_list (told_at (after_round s run round) i).stream)) ⊎ (frames_put (client_list (told_at (after_round s run round) i).stream) ≤ frames_taken (server_list (told_at (after_round s run round) i).stream))
           → frames_taken (server_list (told_at run i).stream) + 1 ≤ frames_put (client_list (told_at (after_round s run round) i).stream) → k + 4 ≤ (track_at (after_round s run round).normal.tracks i).life.retries → LentAble (after_round s run round) i slot

@@ -1,8 +1,10 @@
 -- What is carried of a track whose proxy is lent is kept by a round that leaves it lent.
-use Rattle.std.proofs.Common.{◌≡◌, ℕ, zero, suc, ◌≤◌, ◌<◌, ◌&&◌, not, is_some, Bool, true, false, true≢false, All, Some, List, [], ◌∷◌, length, length-append, refl, sym, ap, ◌∙◌, subst, arith}
+use Rattle.std.proofs.Common.{◌≡◌, ℕ, ◌≤◌, ◌<◌, ◌&&◌, not, is_some, Bool, true, false, true≢false, All, length, length-append, refl, sym, ap, ◌∙◌, subst, arith}
+use Rattle.af_base.proofs.Basics.{or_right}
 use Rattle.af_base.specs.declared.report.SlotReport.{SlotReport}
-use Rattle.af_base.specs.declared.state.FastState.{FastState}
 use Rattle.af_base.specs.declared.state.FastTrack.{FastTrack}
+use Rattle.af_enough_law.proofs.Basics.{state_there}
+use Rattle.af_judge.proofs.Basics.{ends_part}
 use Rattle.af_life.specs.declared.kept.Counts.{Counts}
 use Rattle.af_life.specs.declared.kept.Holder.TheVariants.{Lent}
 use Rattle.af_life.specs.declared.kept.Setting.{Setting}
@@ -10,7 +12,6 @@ use Rattle.af_life.specs.declared.kept.TrackKept.{TrackKept}
 use Rattle.af_life.specs.declared.track.Life.{Life}
 use Rattle.af_life.specs.Heard.{learnt, slot_reported, counts_in}
 use Rattle.af_life.specs.Kept.{NormalKept, Learnt, track_at, plays, is_home, slot_number, number_of}
-use Rattle.af_model.specs.Cycles.{state_of}
 use Rattle.af_model.specs.Journals.{RoundSeen}
 use Rattle.af_model.specs.Reports.{report_at}
 use Rattle.af_runs.specs.Blocks.{Marks, client_list, server_list}
@@ -28,7 +29,6 @@ use Rattle.af_enough_law.proofs.FastFound.{FoundFor, found_pushed}
 use Rattle.af_enough_law.proofs.FastKnows.{knows_released}
 use Rattle.af_enough_law.proofs.FastPolls.{round_states, turn_more}
 use Rattle.af_enough_law.proofs.FastReports.{reported}
-use Rattle.af_enough_law.proofs.FastRounds.{ends_part}
 use Rattle.af_enough_law.proofs.FastTakes.{flowed}
 use Rattle.af_enough_law.proofs.Flushless.{unflushed_none}
 use Rattle.af_enough_law.proofs.Following.{greeted_in, greeted_alike}
@@ -37,19 +37,12 @@ use Rattle.af_enough_law.proofs.FoundCounts.{shown_looks, found_most}
 use Rattle.af_enough_law.proofs.Generations.{greeted_lent, greeted_same}
 use Rattle.af_enough_law.proofs.HeardFresh.{reported_turned}
 use Rattle.af_enough_law.proofs.HomeRounds.{keeps_of}
-use Rattle.af_enough_law.proofs.LentRounds.{LentCarried, HeardOf, holds_by, or_last, heard_away, states_play, last_then, slot_then, item_then, heard_then, low_run, there, runs, draft_item}
+use Rattle.af_enough_law.proofs.LentRounds.{LentCarried, HeardOf, holds_by, heard_away, states_play, last_then, slot_then, item_then, heard_then, low_run, there, runs, draft_item}
 use Rattle.af_enough_law.proofs.LentTurns.{turn_leaves}
 use Rattle.af_enough_law.proofs.QueueRounds.{acks_states}
 use Rattle.af_enough_law.proofs.SessionRounds.{turn_of}
 use Rattle.af_enough_law.proofs.StreamHistories.{part_stream}
 use Rattle.af_enough_law.proofs.TrackCarried.{TrackCarried, TrackGone, track_gone}
-
--- a number that was pushed has its state
-pub state_there : (xs : List FastState) (k : ℕ) → 1 ≤ k → k ≤ length xs → (x : FastState) × (state_of xs k ≡ Some x)
-state_there xs zero low high = absurd (let z : ⊥ = omega (arith, low) in z)
-state_there [] (suc k) low high = absurd (let z : ⊥ = omega (arith, high) in z)
-state_there (x ∷ xs) (suc zero) low high = (x, refl)
-state_there (x ∷ xs) (suc (suc k)) low high = state_there xs (suc k) (omega arith) (omega (arith, high))
 
 -- what a round makes of a track that stays lent: all is carried on, it flows, and the report that the turn finds goes on from the one before the round
 pub record LentGone (s : Session) (marks : Marks) (run : Run) (round : RoundSeen) (i most total slot : ℕ) (item : FastTrack) (t : TurnMade s marks run round) (told : ℕ) : Type 0 where
@@ -103,7 +96,7 @@ module _ (s : Session) (marks : Marks) (scales : All (λ (x : Setting). x.scale 
       let high = round_high s run round c.stands.adopted in
       let x = state_there after.states after.current (omega (arith, first, some)) high in
       let p = (states_play s marks scales long run round legal c i most total named lawful track two slot item l stays).1 after.current x.0 first x.1 in
-      or_last (is_home (track_at after.normal.tracks i).holder) (holds s after i) (holds_by s after i slot item x.0 l.low track_is x.1 p)
+      or_right (is_home (track_at after.normal.tracks i).holder) (holds s after i) (holds_by s after i slot item x.0 l.low track_is x.1 p)
 
   -- the track flows
   pub flows : FlowsIn s run round i slot item

@@ -1,5 +1,6 @@
 -- A lent track hears of the frames that were taken of it in the turn of the same round, or in the next one.
-use Rattle.std.proofs.Common.{◌≡◌, ◌⊎◌, inl, inr, ℕ, ◌+◌, ◌≤◌, ◌<◌, ◌||◌, nat_lt, Bool, true, false, refl, sym, ap, ◌∙◌, arith}
+use Rattle.std.proofs.Common.{◌≡◌, ◌⊎◌, inl, inr, ℕ, ◌+◌, ◌≤◌, ◌<◌, ◌||◌, nat_lt, true, false, sym, ap, ◌∙◌, arith}
+use Rattle.af_base.proofs.Basics.{below_or_not}
 use Rattle.af_base.specs.declared.state.FastTrack.{FastTrack}
 use Rattle.af_life.specs.declared.kept.Counts.{Counts}
 use Rattle.af_life.specs.declared.kept.TrackKept.{TrackKept}
@@ -32,13 +33,6 @@ IsUnheard run i slot = looks_noted (track_at run.normal.tracks i) < shown_looks 
 abbrev pub HearsFrames : (s : Session) (marks : Marks) (run : Run) (round : RoundSeen) (i : ℕ) → TurnMade s marks run round → Type 0
 HearsFrames s marks run round i t = (let h = heard (learnt t.by.outside) i (greeted_in run.normal t.turn i) in nat_lt 0 h.known.fulls || nat_lt 0 h.known.partials) ≡ true
 
-pub less_or : (a b : ℕ) → (a < b) ⊎ (b ≤ a)
-less_or a b = by (nat_lt a b) refl
-  where
-    by : (x : Bool) → nat_lt a b ≡ x → (a < b) ⊎ (b ≤ a)
-    by true e = inl (search (arith, e))
-    by false e = inr (search (arith, e))
-
 module _ (s : Session) (marks : Marks) (run : Run) (round : RoundSeen) (i most total slot : ℕ) (item : FastTrack) (t : TurnMade s marks run round) (told : ℕ) (l : LentCarried s run i slot item) (gone : LentGone s marks run round i most total slot item t told) where
   abbrev g : TrackKept
   g = greeted_in run.normal t.turn i
@@ -58,7 +52,7 @@ module _ (s : Session) (marks : Marks) (run : Run) (round : RoundSeen) (i most t
 
   -- frames that were left before the round are heard of by its turn, or are told of by its last report and not heard of yet
   pub hears_taken : HeardOf run i slot → 1 ≤ cycle_frames s → 1 ≤ frames_left_in (told_at run i).stream → HearsFrames s marks run round i t ⊎ IsUnheard (after_round s run round) i slot
-  hears_taken before some left = by (less_or (looks_noted (track_at run.normal.tracks i)) (shown_looks (slot_reported (learnt t.by.outside) g)))
+  hears_taken before some left = by (below_or_not (looks_noted (track_at run.normal.tracks i)) (shown_looks (slot_reported (learnt t.by.outside) g)))
     where
       by : (looks_noted (track_at run.normal.tracks i) < shown_looks (slot_reported (learnt t.by.outside) g)) ⊎ (shown_looks (slot_reported (learnt t.by.outside) g) ≤ looks_noted (track_at run.normal.tracks i)) → HearsFrames s marks run round i t ⊎ IsUnheard (after_round s run round) i slot
       by (inl less) = inl (by_report less)

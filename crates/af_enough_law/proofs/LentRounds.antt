@@ -1,14 +1,15 @@
 -- A track whose proxy is lent, and stays so in a round, flows in it, and all that is carried of it is carried on.
 use Rattle.std.proofs.Common.{◌≡◌, ◌⊎◌, inl, inr, ℕ, zero, suc, ◌+◌, ◌≤◌, ◌<◌, ◌==◌, ◌&&◌, ◌||◌, not, if◌then◌else◌, unwrap_or, is_some, Bool, true, false, true≢false, All, Option, Some, List, [], ◌∷◌, ◌++◌, length, length-append, refl, sym, ap, ◌∙◌, subst, arith, eq-eqb}
 use Rattle.std.specs.List.{list_any, range_with_len}
+use Rattle.af_base.proofs.Basics.{or_right, within_or_beyond}
 use Rattle.af_base.specs.declared.report.SlotReport.{SlotReport}
 use Rattle.af_base.specs.declared.state.FastState.{FastState}
 use Rattle.af_base.specs.declared.state.FastTrack.{FastTrack}
 use Rattle.af_base.specs.declared.state.Command.TheVariants.{MixWrite}
 use Rattle.af_base.specs.Log.{slots}
+use Rattle.af_life.proofs.Basics.{lent_away}
 use Rattle.af_life.specs.declared.kept.Heard.{Heard}
-use Rattle.af_life.specs.declared.kept.Holder.{Holder}
-use Rattle.af_life.specs.declared.kept.Holder.TheVariants.{Home, Lent, Returning}
+use Rattle.af_life.specs.declared.kept.Holder.TheVariants.{Lent}
 use Rattle.af_life.specs.declared.kept.Setting.{Setting}
 use Rattle.af_life.specs.declared.kept.TrackKept.{TrackKept}
 use Rattle.af_life.specs.declared.track.Life.{Life}
@@ -21,6 +22,7 @@ use Rattle.af_model.specs.Cycles.{state_of}
 use Rattle.af_model.specs.Draft.{initial}
 use Rattle.af_model.specs.Journals.{RoundSeen}
 use Rattle.af_model.specs.StateQueue.{slot_of, carries}
+use Rattle.af_runs.proofs.Basics.{state_more}
 use Rattle.af_runs.specs.Blocks.{Marks, client_list}
 use Rattle.af_runs.specs.Rounds.{LegalRound, after_round}
 use Rattle.af_runs.specs.Runs.{Run, told_at, holds}
@@ -35,13 +37,11 @@ use Rattle.af_enough_law.specs.Items.{AreItems, item_of}
 use Rattle.af_enough_law.specs.NormalRounds.{TurnMade}
 use Rattle.af_enough_law.proofs.Commanding.{le_cases}
 use Rattle.af_enough_law.proofs.Ends.{order_turn}
-use Rattle.af_enough_law.proofs.FastMixes.{state_more}
 use Rattle.af_enough_law.proofs.FastPolls.{round_states, turn_more}
 use Rattle.af_enough_law.proofs.Generations.{attached_stays, lent_plays}
 use Rattle.af_enough_law.proofs.Items.{items_turn}
 use Rattle.af_enough_law.proofs.LastStates.{round_last}
 use Rattle.af_enough_law.proofs.Orders.{lent_carried, mix_is, orders_mix}
-use Rattle.af_enough_law.proofs.RestTurns.{low_or}
 use Rattle.af_enough_law.proofs.SessionRounds.{turn_of, turn_runs, push_of, states_few}
 use Rattle.af_enough_law.proofs.Slots.{IsOpened, slot_stays}
 use Rattle.af_enough_law.proofs.TrackCarried.{TrackCarried}
@@ -49,11 +49,6 @@ use Rattle.af_enough_law.proofs.TrackGoes.{CalmStream}
 use Rattle.af_runs.proofs.StatesFor.{state_beyond}
 
 -- ## The draft
-
-lent_away : (h : Holder) → is_lent h ≡ true → is_home h ≡ false
-lent_away Home e = absurd (true≢false (sym e))
-lent_away Lent e = refl
-lent_away Returning e = absurd (true≢false (sym e))
 
 -- the draft has the item of each track that is lent in its slot, and in no other
 pub draft_has : (c : Setup) (m : NormalKept) (i : ℕ) → IsInOrder m → AreItems c m → is_lent (track_at m.tracks i).holder ≡ true → HasItem (slot_number (track_at m.tracks i)) (item_of c i (track_at m.tracks i)) m.draft
@@ -80,17 +75,13 @@ draft_item s run i slot item order items lent slot_is item_is =
 
 -- ## The state adopted
 
-pub or_last : (x y : Bool) → y ≡ true → (x || y) ≡ true
-or_last true y e = refl
-or_last false y e = e
-
 any_from : (p : ℕ → Bool) (a n i : ℕ) → a ≤ i → i < a + n → p i ≡ true → list_any p (range_with_len a n) ≡ true
 any_from p a zero i low high is = absurd (let z : ⊥ = omega (arith, low, high) in z)
 any_from p a (suc n) i low high is = by (le_cases a i low) (λ above. any_from p (a + 1) n i (omega (arith, above)) (omega (arith, high)) is)
   where
     by : (i ≡ a) ⊎ (a < i) → (a < i → list_any p (range_with_len (a + 1) n) ≡ true) → (p a || list_any p (range_with_len (a + 1) n)) ≡ true
     by (inl same) later = ap (λ (x : Bool). x || list_any p (range_with_len (a + 1) n)) (ap p (sym same) ∙ is)
-    by (inr above) later = or_last (p a) (list_any p (range_with_len (a + 1) n)) (later above)
+    by (inr above) later = or_right (p a) (list_any p (range_with_len (a + 1) n)) (later above)
 
 -- if the state adopted last plays a track, its proxy takes part in the meeting
 pub holds_by : (s : Session) (run : Run) (track slot : ℕ) (item : FastTrack) (x : FastState) → slot < slots → item.track ≡ track → state_of run.states run.current ≡ Some x → Plays slot item x → holds s run track ≡ true
@@ -231,7 +222,7 @@ module _ (s : Session) (marks : Marks) (scales : All (λ (x : Setting). x.scale 
       some_is x y e = ap (λ (o : Option FastState). unwrap_or o x) e
 
       within : (k : ℕ) (x : FastState) → state_of after.states k ≡ Some x → k ≤ length after.states
-      within k x is = by_place (low_or k (length after.states))
+      within k x is = by_place (within_or_beyond k (length after.states))
         where
           by_place : (k ≤ length after.states) ⊎ (length after.states < k) → k ≤ length after.states
           by_place (inl low) = low

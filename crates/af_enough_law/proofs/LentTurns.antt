@@ -3,6 +3,8 @@ use Rattle.std.proofs.Common.{◌≡◌, ℕ, zero, suc, ◌+◌, ◌<◌, ◌==
 use Rattle.std.specs.List.{range_with_len, flat_map}
 use Rattle.af_base.specs.declared.event.ServerEvent.{ServerEvent}
 use Rattle.af_base.specs.Turn.{Turn, TakeSeen}
+use Rattle.af_enough_law.proofs.Basics.{before_normal}
+use Rattle.af_judge.proofs.Basics.{push_tracks}
 use Rattle.af_life.specs.declared.kept.Holder.{Holder}
 use Rattle.af_life.specs.declared.kept.TrackKept.{TrackKept}
 use Rattle.af_life.specs.Edits.{after_ack, after_push}
@@ -22,9 +24,8 @@ use Rattle.af_runs.specs.Sessions.{Session, setup_of}
 use Rattle.af_enough_law.specs.NormalRounds.{TurnMade}
 use Rattle.af_enough_law.proofs.FastSteps.{server_does-server, hand_does-server}
 use Rattle.af_enough_law.proofs.Following.{greeted_in}
-use Rattle.af_enough_law.proofs.NormalRounds.{before_normal}
 use Rattle.af_enough_law.proofs.RunTracks.{before_long, turn_track}
-use Rattle.af_enough_law.proofs.Served.{greeted_at, own_all, ordered_tracks, pushed_tracks}
+use Rattle.af_enough_law.proofs.Served.{greeted_at, own_all, ordered_tracks}
 
 -- ## No take
 
@@ -69,10 +70,10 @@ slot_edited c k m e i lt runs =
     let a = acked_len e.ack m in
     let b = served_len c k e.tracks (after_ack e.ack m).tracks (length (after_ack e.ack m).tracks) in
     let d = edits_len c k served_m (length served_m.tracks) in
-    let f = ap length (pushed_tracks e.push x ∙ ordered_tracks c k e.room served_m) in
+    let f = ap length (push_tracks e.push x ∙ ordered_tracks c k e.room served_m) in
     ap (λ (b : Bool). (track_at (if b then record m { ended = true } else after_takes c e.mixes (after_push e.push x)).tracks i).slot) runs
     ∙ ap (λ (s : TrackKept). s.slot) (own_all (buffer c) e.mixes (after_push e.push x).tracks i (omega (arith, lt, a, b, d, f)))
-    ∙ ap (λ (xs : List TrackKept). (track_at xs i).slot) (pushed_tracks e.push x)
+    ∙ ap (λ (xs : List TrackKept). (track_at xs i).slot) (push_tracks e.push x)
 
 -- ## The round
 

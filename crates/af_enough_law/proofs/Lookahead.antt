@@ -1,5 +1,6 @@
 -- A proxy that missed the meeting after the round in which it was detached comes home in the next one: what was done to its stream in the one is told by the history of the other.
 use Rattle.std.proofs.Common.{◌≡◌, ◌⊎◌, inl, inr, ℕ, ◌≤◌, ◌<◌, ◌&&◌, if◌then◌else◌, is_some, Bool, true, false, true≢false, All, Some, length, refl, sym, ap, ◌∙◌, subst, arith}
+use Rattle.af_base.proofs.Basics.{or_right}
 use Rattle.af_base.specs.declared.state.FastState.{FastState}
 use Rattle.af_base.specs.declared.state.FastTrack.{FastTrack}
 use Rattle.af_base.specs.Log.{slots}
@@ -12,6 +13,7 @@ use Rattle.af_life.specs.Turn.{turn_after}
 use Rattle.af_model.specs.Cycles.{state_of}
 use Rattle.af_model.specs.Journals.{RoundSeen}
 use Rattle.af_model.specs.StateQueue.{carries}
+use Rattle.af_runs.proofs.Basics.{state_more}
 use Rattle.af_runs.specs.Blocks.{Marks}
 use Rattle.af_runs.specs.Rounds.{LegalRound, after_round}
 use Rattle.af_runs.specs.Runs.{Run, told_at, takes_part, holds}
@@ -27,13 +29,12 @@ use Rattle.af_enough_law.proofs.Drafts.{holder_turned}
 use Rattle.af_enough_law.proofs.Ends.{over_stays, silent}
 use Rattle.af_enough_law.proofs.EntryCounts.{round_high}
 use Rattle.af_enough_law.proofs.FastFlows.{Later, later_both}
-use Rattle.af_enough_law.proofs.FastMixes.{state_more}
 use Rattle.af_enough_law.proofs.FastPolls.{round_states, turn_more}
 use Rattle.af_enough_law.proofs.FastRounds.{over}
 use Rattle.af_enough_law.proofs.Following.{greeted_in}
 use Rattle.af_enough_law.proofs.Foreseen.{Foreseen, KeepsTo, part_seen, seen_earlier}
 use Rattle.af_enough_law.proofs.HomeRounds.{home_part}
-use Rattle.af_enough_law.proofs.LentRounds.{holds_by, or_last}
+use Rattle.af_enough_law.proofs.LentRounds.{holds_by}
 use Rattle.af_enough_law.proofs.Orders.{come}
 use Rattle.af_enough_law.proofs.QueueRounds.{acks_states, knows_by, queue_stands}
 use Rattle.af_enough_law.proofs.SessionRounds.{turn_of, turn_runs, push_of, states_few}
@@ -60,7 +61,7 @@ module _ (s : Session) (marks : Marks) (scales : All (λ (x : Setting). x.scale 
       let whole = round_states s run round ∙ (turn_more s run round).whole in
       let is : state_of after.states after.current ≡ Some run.normal.last =
       ap (λ (n : ℕ). state_of after.states n) at ∙ ap (λ l. state_of l (length run.states)) whole ∙ state_more run.states (turn_more s run round).more (length run.states) (omega arith) ∙ last in
-      or_last (is_home (track_at after.normal.tracks i).holder) (holds s after i) (holds_by s after i slot item run.normal.last low is_track is plays_last)
+      or_right (is_home (track_at after.normal.tracks i).holder) (holds s after i) (holds_by s after i slot item run.normal.last low is_track is plays_last)
 
   -- if another state was adopted, it is the one that the turn pushed: it is known to be acknowledged
   pub passed : carries after.normal.draft slot ≡ false → length run.states < after.current → Coming after slot

@@ -1,7 +1,10 @@
 -- What a turn makes of a life by words of some kind.
 use Rattle.std.proofs.Common.{◌≡◌, ◌⊎◌, inl, inr, ℕ, ◌≤◌, ◌<◌, ◌==◌, ◌&&◌, ◌||◌, nat_le, not, if◌then◌else◌, is_some, Bool, true, false, true≢false, Option, List, [], ◌∷◌, ◌++◌, length, refl, sym, ap, ◌∙◌, subst, arith, eqb-true}
+use Rattle.af_base.proofs.Basics.{both_true, no}
 use Rattle.af_base.specs.declared.turn.CommandLook.{CommandLook}
 use Rattle.af_base.specs.Turn.{Turn}
+use Rattle.af_judge.proofs.Basics.{report_ends}
+use Rattle.af_life.proofs.Basics.{ready_life}
 use Rattle.af_life.specs.declared.kept.TrackKept.{TrackKept}
 use Rattle.af_life.specs.declared.state.LifeState.TheVariants.{Absent, Idle, Active, Stopping1, Stopping2, Stopped}
 use Rattle.af_life.specs.declared.track.Known.{Known}
@@ -13,21 +16,18 @@ use Rattle.af_life.specs.Looks.{words_taken}
 use Rattle.af_life.specs.Obeys.{told, must_wait, ended, shows_command, is_shut, after_look, obeyed, goes_on, after_looks, commanded}
 use Rattle.af_life.specs.Reports.{by_report}
 use Rattle.af_life.specs.Turn.{turn_after}
-use Rattle.af_model.proofs.Logic.{both_left, both_right, both_are}
+use Rattle.af_model.proofs.Basics.{both_first}
+use Rattle.af_model.proofs.Logic.{both_right}
 use Rattle.af_enough_law.specs.Courses.{Course, absent, idle, playing, stopping, drained, stopped, over, life_in}
 use Rattle.af_enough_law.specs.TrackTurns.{TrackTurned}
-use Rattle.af_enough_law.proofs.Able.{ready_life}
 use Rattle.af_enough_law.proofs.EarlyCalls.{no_stop}
 use Rattle.af_enough_law.proofs.Ends.{silent}
 use Rattle.af_enough_law.proofs.Following.{greeted_in, greeted_alike}
 use Rattle.af_enough_law.proofs.OverTracks.{over_life}
 use Rattle.af_enough_law.proofs.RoamingCalls.{no_start}
-use Rattle.af_enough_law.proofs.SentPlain.{is_course_code, plain_words, InPlay, is_over, plays_on, stops_on, command_in, ends_shut}
+use Rattle.af_enough_law.proofs.SentPlain.{is_course_code, plain_words, InPlay, is_over, plays_on, stops_on, command_in}
 use Rattle.af_enough_law.proofs.Served.{track_turned}
 use Rattle.af_enough_law.proofs.TurnLives.{life_turned, in_turned, shut_turned}
-
-no : {A : Type 0} → false ≡ true → A
-no e = absurd (true≢false (sym e))
 
 -- ## Words of some kind
 
@@ -43,7 +43,7 @@ either_is P false s t h g = g
 -- what such commands and an end keep of a life, looks that show no other commands keep
 module _ (ok : ℕ → Bool) (P : Life → Type 0) (gone : (l : Life) → l.ended ≡ true → P l) (next : (code argument : ℕ) (l : Life) → ok code ≡ true → P l → P (by_command code argument l)) where
   first_words : (b : Bool) (code argument : ℕ) (words : List ℕ) → all_codes ok ((if b then code ∷ argument ∷ [] else []) ++ words) ≡ true → (b ≡ true → ok code ≡ true) × (all_codes ok words ≡ true)
-  first_words true code argument words h = ((λ e. both_left (ok code) (all_codes ok words) h), both_right (ok code) (all_codes ok words) h)
+  first_words true code argument words h = ((λ e. both_first (ok code) (all_codes ok words) h), both_right (ok code) (all_codes ok words) h)
   first_words false code argument words h = ((λ e. no e), h)
 
   look_keeps : (given : Option ℕ) (flush_seen : ℕ) (look : CommandLook) (s : TrackKept) → (shows_command look.seen ≡ true → ok look.code ≡ true) → P s.life → P (after_look given flush_seen look s).life
@@ -131,7 +131,7 @@ unstopped_plays P on known l u h = by known.shut refl
     calm _ (active_on d r s) p = member _ d _ s p
 
     by : (b : Bool) → known.shut ≡ b → P (by_report known l)
-    by true shut = no (sym (not_both (by_report known l).member (by_report known l).ended (ends_shut known l shut)) ∙ h)
+    by true shut = no (sym (not_both (by_report known l).member (by_report known l).ended (report_ends known l shut)) ∙ h)
     by false open_is = subst (λ (b : Bool). P (by_report (record known { shut = b }) l)) (sym open_is) (calm l u (ap (λ (b : Bool). plays (by_report (record known { shut = b }) l)) (sym open_is) ∙ h))
 
 -- plain words without a STOP
@@ -139,7 +139,7 @@ pub plain_unstopping : (words : List ℕ) → plain_words words ≡ true → no_
 plain_unstopping [] p n = refl
 plain_unstopping (x ∷ []) p n = refl
 plain_unstopping (code ∷ argument ∷ words) p n =
-    both_are (is_unstopping code) (all_codes is_unstopping words) (one (code == 1) (code == 2) (code == 4) (code == 6) (both_left (is_course_code code) (plain_words words) p) (both_left (not (code == 4)) (no_stop words) n))
+    both_true (is_unstopping code) (all_codes is_unstopping words) (one (code == 1) (code == 2) (code == 4) (code == 6) (both_first (is_course_code code) (plain_words words) p) (both_first (not (code == 4)) (no_stop words) n))
     (plain_unstopping words (both_right (is_course_code code) (plain_words words) p) (both_right (not (code == 4)) (no_stop words) n))
   where
     one : (a b c d : Bool) → (a || b || c || d) ≡ true → not c ≡ true → (a || b || d) ≡ true
@@ -214,13 +214,13 @@ played_report known l u h = by known.shut refl
     calm _ (stops_on d r s) p = stops (nat_le s known.consumed) d r s
 
     by : (b : Bool) → known.shut ≡ b → InPlay (by_report known l) ⊎ IsDrained (by_report known l)
-    by true shut = no (sym (not_both (by_report known l).member (by_report known l).ended (ends_shut known l shut)) ∙ h)
+    by true shut = no (sym (not_both (by_report known l).member (by_report known l).ended (report_ends known l shut)) ∙ h)
     by false open_is = subst (λ (b : Bool). InPlay (by_report (record known { shut = b }) l) ⊎ IsDrained (by_report (record known { shut = b }) l)) (sym open_is) (calm l u (ap (λ (b : Bool). plays (by_report (record known { shut = b }) l)) (sym open_is) ∙ h))
 
 plain_all : (words : List ℕ) → plain_words words ≡ true → all_codes is_course_code words ≡ true
 plain_all [] p = refl
 plain_all (x ∷ []) p = refl
-plain_all (code ∷ argument ∷ words) p = both_are (is_course_code code) (all_codes is_course_code words) (both_left (is_course_code code) (plain_words words) p) (plain_all words (both_right (is_course_code code) (plain_words words) p))
+plain_all (code ∷ argument ∷ words) p = both_true (is_course_code code) (all_codes is_course_code words) (both_first (is_course_code code) (plain_words words) p) (plain_all words (both_right (is_course_code code) (plain_words words) p))
 
 -- a life that plays after a turn that takes plain words is in play
 pub played_turned : (c : Setup) (k : Learnt) (m : NormalKept) (e : Turn) (i : ℕ) → i < length m.tracks → e.ended ≡ false → (track_at m.tracks i).life.ended ≡ false → plain_words (words_taken (track_in e i).looks) ≡ true → InPlay (track_at m.tracks i).life
@@ -269,14 +269,14 @@ emptied_report known l u = by known.shut refl
     calm _ (stopped_on d r s) = (stopped_on d r s, refl)
 
     by : (b : Bool) → known.shut ≡ b → Emptied (by_report known l) × (plays (by_report known l) ≡ false)
-    by true shut = let over_is = ends_shut known l shut in (is_gone _ over_is, silent (by_report known l) over_is)
+    by true shut = let over_is = report_ends known l shut in (is_gone _ over_is, silent (by_report known l) over_is)
     by false open_is = subst (λ (b : Bool). Emptied (by_report (record known { shut = b }) l) × (plays (by_report (record known { shut = b }) l) ≡ false)) (sym open_is) (calm l u)
 
 plain_ending : (words : List ℕ) → plain_words words ≡ true → no_start words ≡ true → all_codes is_ending words ≡ true
 plain_ending [] p n = refl
 plain_ending (x ∷ []) p n = refl
 plain_ending (code ∷ argument ∷ words) p n =
-    both_are (is_ending code) (all_codes is_ending words) (one (code == 1) (code == 2) (code == 4) (code == 6) (both_left (is_course_code code) (plain_words words) p) (both_left (not (code == 2)) (no_start words) n))
+    both_true (is_ending code) (all_codes is_ending words) (one (code == 1) (code == 2) (code == 4) (code == 6) (both_first (is_course_code code) (plain_words words) p) (both_first (not (code == 2)) (no_start words) n))
     (plain_ending words (both_right (is_course_code code) (plain_words words) p) (both_right (not (code == 2)) (no_start words) n))
   where
     one : (a b c d : Bool) → (a || b || c || d) ≡ true → not b ≡ true → (a || c || d) ≡ true

@@ -2,6 +2,7 @@
 use Rattle.std.proofs.Common.{◌≡◌, ◌⊎◌, inl, inr, ℕ, ◌+◌, ◌-◌, ◌*◌, ◌%◌, ◌≤◌, ◌<◌, ◌==◌, ◌&&◌, ◌||◌, not, nat_lt, Bool, true, false, List, [], ◌∷◌, ◌++◌, length, min, max, get_or, refl, sym, ap, ◌∙◌, subst, arith, append_assoc, true≢false, Option, None, if◌then◌else◌, MatchOption}
 use Rattle.std.proofs.lemmas.List.{append-nil}
 use Rattle.std.proofs.lemmas.Grind.{fold-append}
+use Rattle.af_base.proofs.Basics.{is_not_below}
 use Rattle.af_base.specs.declared.event.ClientEvent.{ClientEvent}
 use Rattle.af_base.specs.declared.event.ClientEvent.TheVariants as client
 use Rattle.af_base.specs.declared.event.HandEvent.{HandEvent}
@@ -11,64 +12,27 @@ use Rattle.af_base.specs.declared.event.ServerEvent.TheVariants as server
 use Rattle.af_base.specs.declared.log.SlotEntry.{SlotEntry}
 use Rattle.af_base.specs.declared.seen.Seen.{Seen}
 use Rattle.af_base.specs.declared.seen.Seen.TheVariants as seen
+use Rattle.af_enough_law.proofs.Basics.{flush_none, put-append}
+use Rattle.af_judge.proofs.Basics.{client_append, legal_cut}
+use Rattle.af_model.proofs.Basics.{flushes-append}
 use Rattle.af_model.specs.declared.point.TrackPoint.{TrackPoint}
 use Rattle.af_model.specs.declared.shape.Shape.{Shape}
 use Rattle.af_model.specs.ClientCalls.{client_begins, IsClientList}
 use Rattle.af_model.specs.Cycles.{LooksBy}
 use Rattle.af_model.specs.Fates.{drops_none}
-use Rattle.af_model.specs.History.{Moment, by_client, by_server, by_hand, client_of, server_of, flush_in, flushes_of, after, IsLegal, HasHistory}
+use Rattle.af_model.specs.History.{Moment, by_client, by_server, by_hand, client_of, server_of, flushes_of, after, IsLegal, HasHistory}
 use Rattle.af_model.specs.Point.{wrapped, start, flush_word, ServerMay, after_client, after_server, after_hand}
 use Rattle.af_model.specs.Room.{ahead, outside}
 use Rattle.af_model.specs.ServerCalls.{ServerKept, is_noticed, server_keeps, server_begins, server_kept, look_at}
 use Rattle.af_model.proofs.Counts.{flushes_are}
 use Rattle.af_model.proofs.Fates.{in_turn}
-use Rattle.af_model.proofs.Logic.{nat_lt-no, ahead-between, outside-none}
+use Rattle.af_model.proofs.Logic.{ahead-between, outside-none}
 use Rattle.af_model.proofs.RoomKept.{AllFit, fit_split, all_fit, room_in}
 use Rattle.af_enough_law.specs.Seen.{Stands, put_by, frames_put, frames_taken, are_calm}
 use Rattle.af_enough_law.proofs.Fair.{calm_split, calm_drops}
-use Rattle.af_enough_law.proofs.SeenBlocks.{server_cut, legal_cut, client_append, server_learnt, frames_put-append, consumed_is, released_is}
+use Rattle.af_enough_law.proofs.SeenBlocks.{server_cut, server_learnt, consumed_is, released_is}
 
 -- ## Without flushes
-
-pub flushes_split : (xs ys : List ClientEvent) → flushes_of (xs ++ ys) ≡ flushes_of xs + flushes_of ys
-flushes_split [] ys = omega arith
-flushes_split (x ∷ xs) ys = let rest = flushes_split xs ys in omega arith
-
--- the position of a flush is 0 if there was none
-flush_client : (p : TrackPoint) (e : ClientEvent) → flush_in e ≡ 0 → (after_client p e).flush_at ≡ p.flush_at
-flush_client p (client.Release count) h = refl
-flush_client p client.Flush h = absurd (omega arith)
-flush_client p (client.SetGain word) h = refl
-flush_client p (client.ClearFlags old) h = refl
-flush_client p (client.SawFlags flags) h = refl
-flush_client p (client.SawFront front) h = refl
-flush_client p (client.SawStatus word) h = refl
-flush_client p (client.Poke word value) h = refl
-flush_client p (client.Learn n) h = refl
-
-flush_server : (p : TrackPoint) (e : ServerEvent) → (after_server p e).flush_at ≡ p.flush_at
-flush_server p (server.SawGain word) = refl
-flush_server p (server.SawFlush flush) = refl
-flush_server p (server.SawRear rear) = refl
-flush_server p (server.SawFront front) = refl
-flush_server p (server.Drop to) = refl
-flush_server p (server.Take count) = refl
-flush_server p (server.Tally missing) = refl
-flush_server p (server.SetFlags bits) = refl
-flush_server p (server.SetStatus word) = refl
-flush_server p (server.Learn n) = refl
-
-flush_hand : (p : TrackPoint) (e : HandEvent) → (after_hand p e).flush_at ≡ p.flush_at
-flush_hand p (hand.SetFlags bits) = refl
-flush_hand p (hand.Met n) = refl
-
-flush_none : (k : Shape) (order : List Moment) → flushes_of (client_of order) ≡ 0 → (after (start k) order).flush_at ≡ 0
-flush_none k [] none = refl
-flush_none k (by_client e ∷ order) none =
-    let split = flushes_split (client_of order) (e ∷ []) in
-    flush_client (after (start k) order) e (omega arith) ∙ flush_none k order (omega arith)
-flush_none k (by_server e ∷ order) none = flush_server (after (start k) order) e ∙ flush_none k order none
-flush_none k (by_hand e ∷ order) none = flush_hand (after (start k) order) e ∙ flush_none k order none
 
 number_none : (wrap flushes position : ℕ) (flat : Bool) → flushes ≡ 0 → position ≡ 0 → (if flat then flushes else wrapped (flushes * wrap + position % wrap)) ≡ 0
 number_none wrap flushes position true f p = f
@@ -142,7 +106,7 @@ module _ (k : Shape) (few : k.frames ≤ 65536) where
   pub keeps_in : (order : List Moment) → IsLegal (start k) order → AllFit k (client_begins k.base) None (client_of order) → flushes_of (client_of order) ≡ 0 → Keeps (server_kept k (server_of order)) (after (start k) order)
   keeps_in [] l fit none = record { flush = refl; old = refl; rear = refl; unshut = refl; low = omega arith }
   keeps_in (by_client e ∷ order) l fit none =
-      let split = flushes_split (client_of order) (e ∷ []) in
+      let split = flushes-append (client_of order) (e ∷ []) in
       keeps_client _ (after (start k) order) e (keeps_in order l.1 (fit_split k (client_begins k.base) None (client_of order) (e ∷ []) fit).0 (omega arith))
   keeps_in (by_server e ∷ order) l fit none =
       let turn = in_turn k order l.1 in
@@ -215,7 +179,7 @@ module _ (k : Shape) (se : List ServerEvent) (known : List ClientEvent) (b : IsS
 
   -- what holds at a place of the server's list
   pub unflushed_at : (xs : List ServerEvent) (p : Place xs) → flushes_of (client_of p.order) ≡ 0
-  unflushed_at xs p = let split = flushes_split (client_of p.order) p.more in let all : flushes_of (client_of p.order ++ p.more) ≡ 0 = ap flushes_of (sym p.client) ∙ b.unflushed in omega arith
+  unflushed_at xs p = let split = flushes-append (client_of p.order) p.more in let all : flushes_of (client_of p.order ++ p.more) ≡ 0 = ap flushes_of (sym p.client) ∙ b.unflushed in omega arith
 
   pub fit_in : (xs : List ServerEvent) (p : Place xs) → AllFit k (client_begins k.base) None (client_of p.order)
   fit_in xs p = (fit_split k (client_begins k.base) None (client_of p.order) p.more (subst (λ (es : List ClientEvent). AllFit k (client_begins k.base) None es) p.client (all_fit k b.client b.spelled))).0
@@ -297,7 +261,7 @@ module _ (k : Shape) (se : List ServerEvent) (known : List ClientEvent) (b : IsS
       let far : ahead front slot.rear ≡ p.rear_seen - p.consumed = (λ i. ahead (at_front.1 i) (rear_is i)) ∙ ahead-between p.consumed p.rear_seen low (omega (arith, high, room, few)) in
       let quiet : is_noticed k (not (slot.flush == (server_kept k before).flush)) slot.rear front ≡ false =
       ap (λ (c : Bool). not c && (k.wrap == 0 || not (nat_lt k.frames (ahead front slot.rear)))) (let z : (slot.flush == (server_kept k before).flush) ≡ true = (λ i. flush_none i == kept.flush i) in z) in
-      let inside : nat_lt k.frames (ahead front slot.rear) ≡ false = nat_lt-no k.frames (ahead front slot.rear) (omega (arith, far, high, room)) in
+      let inside : nat_lt k.frames (ahead front slot.rear) ≡ false = is_not_below k.frames (ahead front slot.rear) (omega (arith, far, high, room)) in
       let shown : slot.seen ≡ look_at k (server_kept k before).flush asked slot.flush slot.rear front =
       subst (λ (o : Option (ℕ × ℕ)). MatchOption o (slot.seen ≡ look_at k (server_kept k before).flush asked slot.flush slot.rear front)
       (λ words. (slot.seen ≡ seen.Shut words.0 words.1) × (slot.flush ≡ (server_kept k before).flush) × (slot.rear ≡ words.1))) kept.unshut looks.1 in
@@ -339,7 +303,7 @@ module _ (k : Shape) (se : List ServerEvent) (known : List ClientEvent) (b : IsS
       let far : ahead front slot.rear ≡ put - taken = (λ i. ahead (front_is i) (rear_is i)) ∙ ahead-between (k.base + taken) (k.base + put) (omega (arith, low)) (omega (arith, near, few)) ∙ omega arith in
       let quiet : is_noticed k (not (slot.flush == (server_kept k before).flush)) slot.rear front ≡ false =
       ap (λ (c : Bool). not c && (k.wrap == 0 || not (nat_lt k.frames (ahead front slot.rear)))) (let z : (slot.flush == (server_kept k before).flush) ≡ true = (λ i. flush_none i == kept.flush i) in z) in
-      let inside : nat_lt k.frames (ahead front slot.rear) ≡ false = nat_lt-no k.frames (ahead front slot.rear) (omega (arith, far, near)) in
+      let inside : nat_lt k.frames (ahead front slot.rear) ≡ false = is_not_below k.frames (ahead front slot.rear) (omega (arith, far, near)) in
       let shown : slot.seen ≡ look_at k (server_kept k before).flush asked slot.flush slot.rear front =
       subst (λ (o : Option (ℕ × ℕ)). MatchOption o (slot.seen ≡ look_at k (server_kept k before).flush asked slot.flush slot.rear front)
       (λ words. (slot.seen ≡ seen.Shut words.0 words.1) × (slot.flush ≡ (server_kept k before).flush) × (slot.rear ≡ words.1))) kept.unshut looks.1 in
@@ -351,7 +315,7 @@ module _ (k : Shape) (se : List ServerEvent) (known : List ClientEvent) (b : IsS
           whole = at_rear.0.server ∙ ap (λ (es : List ServerEvent). es ++ flush_event ∷ []) s.whole ∙ append_assoc s.before (server.Learn (length known) ∷ s.behind) (flush_event ∷ []);
         })
       ] in
-      let whole = frames_put-append (client_of order) at_rear.0.more in
+      let whole = put-append (client_of order) at_rear.0.more in
       let all : frames_put b.client ≡ frames_put (client_of order ++ at_rear.0.more) = ap frames_put at_rear.0.client in
       record {
         put = put;

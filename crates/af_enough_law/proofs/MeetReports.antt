@@ -7,6 +7,7 @@ use Rattle.af_base.specs.declared.report.SlotReport.{SlotReport}
 use Rattle.af_base.specs.declared.state.FastState.{FastState}
 use Rattle.af_base.specs.declared.state.FastTrack.{FastTrack}
 use Rattle.af_base.specs.Log.{slots, entry_slot}
+use Rattle.af_enough_law.proofs.Basics.{state_there}
 use Rattle.af_model.specs.declared.shape.Shape.{Shape}
 use Rattle.af_model.specs.Cycles.{Listed, state_of, last_used}
 use Rattle.af_model.specs.Journals.{EntrySeen}
@@ -28,7 +29,6 @@ use Rattle.af_enough_law.proofs.FastShows.{Setting}
 use Rattle.af_enough_law.proofs.FastSince.{Adds}
 use Rattle.af_enough_law.proofs.FastSteps.{cycle_length, cycle_states, cycle_track, mixed_stream, slot_only, cycle_draft}
 use Rattle.af_enough_law.proofs.LeftEntries.{IsOut, slot_none, track_still, shows_nothing, HasOrOut}
-use Rattle.af_enough_law.proofs.LentFlows.{state_there}
 use Rattle.af_enough_law.proofs.StreamCalm.{IsQuiet, LiesIn, lies_earlier, entries_quiet}
 use Rattle.af_runs.proofs.StatesFor.{polled_known, polled_pushed, polled_waits}
 

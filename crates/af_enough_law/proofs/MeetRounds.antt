@@ -5,6 +5,7 @@ use Rattle.af_base.specs.declared.event.ServerEvent.{ServerEvent}
 use Rattle.af_base.specs.declared.state.FastState.{FastState}
 use Rattle.af_base.specs.declared.state.FastTrack.{FastTrack}
 use Rattle.af_base.specs.Log.{slots}
+use Rattle.af_judge.proofs.Basics.{calls_states}
 use Rattle.af_model.specs.declared.shape.Shape.{Shape}
 use Rattle.af_model.specs.Cycles.{state_of}
 use Rattle.af_model.specs.Draft.{initial}
@@ -13,6 +14,7 @@ use Rattle.af_model.specs.Reports.{report_at}
 use Rattle.af_model.specs.ServerCalls.{server_kept}
 use Rattle.af_model.specs.StateQueue.{slot_of, carries}
 use Rattle.af_judge.proofs.DraftBits.{initial_none}
+use Rattle.af_runs.proofs.Basics.{state_more}
 use Rattle.af_runs.specs.Blocks.{Marks, server_list, listed}
 use Rattle.af_runs.specs.Rounds.{LegalEntries, LegalRound, early_of, late_of, early_count, before_turn, after_turn, all_played, found_in, met_after, after_round}
 use Rattle.af_runs.specs.Runs.{Run, told_at, with_calls, with_cycle, with_cycles, known_of, report_of, fast_ended}
@@ -20,10 +22,9 @@ use Rattle.af_runs.specs.Sessions.{Session, cycle_frames}
 use Rattle.af_enough_law.specs.FastFlows.{KnowsStates, slot_told, HasItem}
 use Rattle.af_enough_law.proofs.FastFlows.{cycles_later}
 use Rattle.af_enough_law.proofs.FastFound.{calls_current}
-use Rattle.af_enough_law.proofs.FastMixes.{state_more}
 use Rattle.af_enough_law.proofs.FastReports.{SameReports, calls_same, turned_same, loaded_same, met_same, ends_same, same_both, slot_same}
 use Rattle.af_enough_law.proofs.FastRounds.{over}
-use Rattle.af_enough_law.proofs.FastPolls.{round_states, calls_states, turn_more, parts_use, fast_parts}
+use Rattle.af_enough_law.proofs.FastPolls.{round_states, turn_more, parts_use, fast_parts}
 use Rattle.af_enough_law.proofs.FastShows.{Setting}
 use Rattle.af_enough_law.proofs.FastSince.{Adds, since_number}
 use Rattle.af_enough_law.proofs.FastSteps.{cycle_length, cycle_states, entry_pushed}

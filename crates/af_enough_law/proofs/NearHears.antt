@@ -3,6 +3,7 @@ use Rattle.std.proofs.Common.{◌≡◌, ℕ, ◌*◌, ◌≤◌, ◌<◌, min, 
 use Rattle.std.proofs.Math.Nat.{mul-le-mul_left}
 use Rattle.af_base.specs.declared.report.SlotReport.{SlotReport}
 use Rattle.af_base.specs.declared.state.FastTrack.{FastTrack}
+use Rattle.af_enough_law.proofs.Basics.{stays_home, taken-append}
 use Rattle.af_life.specs.declared.kept.Heard.{Heard}
 use Rattle.af_life.specs.declared.kept.TrackKept.{TrackKept}
 use Rattle.af_life.specs.Heard.{learnt, heard_by, heard_with, heard_at_home, heard_elsewhere, grown, counts_in, slot_reported}
@@ -19,13 +20,11 @@ use Rattle.af_enough_law.specs.FastFlows.{Flowed, IsOpen, slot_told}
 use Rattle.af_enough_law.specs.Nearing.{RoundFlows}
 use Rattle.af_enough_law.specs.NormalRounds.{TurnMade}
 use Rattle.af_enough_law.specs.Seen.{frames_taken}
-use Rattle.af_enough_law.proofs.Ends.{greeted_home}
 use Rattle.af_enough_law.proofs.Fair.{calm_drops}
 use Rattle.af_enough_law.proofs.FastConsumed.{told_open, open_consumed}
 use Rattle.af_enough_law.proofs.FastFlows.{Later}
 use Rattle.af_enough_law.proofs.FastFound.{FoundFor}
 use Rattle.af_enough_law.proofs.FastRounds.{over}
-use Rattle.af_enough_law.proofs.FastShows.{taken-append}
 use Rattle.af_enough_law.proofs.Following.{greeted_in}
 use Rattle.af_enough_law.proofs.Foreseen.{Foreseen, early_quiet}
 use Rattle.af_enough_law.proofs.Generations.{greeted_same, greeted_lent}
@@ -89,7 +88,7 @@ pub home_hears : (cut : Bool) (s : Session) (marks : Marks) (run : Run) (round :
 home_hears cut s marks run round i t low legal seen quiet home =
     let g : TrackKept = greeted_in run.normal t.turn i in
     let b : BlockTold = (told_at (before_turn s run round) i).stream in
-    let is = home_is ((learnt t.by.outside).own i) (slot_reported (learnt t.by.outside) g) g (greeted_home t.turn.ack run.normal.last (track_at run.normal.tracks i) home) in
+    let is = home_is ((learnt t.by.outside).own i) (slot_reported (learnt t.by.outside) g) g (stays_home t.turn.ack run.normal.last (track_at run.normal.tracks i) home) in
     let own : ((learnt t.by.outside).own i).known.consumed ≡ min 9223372036854775807 (kept (listed b)).consumed = ap (λ (l : Learnt). (l.own i).known.consumed) t.sees in
     let o = over s run round i low in
     let early = early_quiet cut s marks run round i low legal seen quiet in

@@ -1,7 +1,10 @@
 -- A round brings a track nearer to the end of its life by a round, and keeps what is carried of its blocks.
 use Rattle.std.proofs.Common.{◌≡◌, ◌⊎◌, inl, inr, ℕ, zero, suc, ◌+◌, ◌*◌, ◌^◌, ◌≤◌, ◌<◌, min, Bool, true, false, true≢false, List, [], ◌∷◌, length, refl, sym, ap, ◌∙◌, subst, arith}
+use Rattle.af_base.proofs.Basics.{few_or_two}
 use Rattle.af_base.specs.declared.event.ServerEvent.{ServerEvent}
 use Rattle.af_base.specs.declared.event.ServerEvent.TheVariants as server
+use Rattle.af_enough_law.proofs.Basics.{taken-append}
+use Rattle.af_judge.proofs.Basics.{ends_part}
 use Rattle.af_life.specs.declared.track.Life.{Life}
 use Rattle.af_life.specs.Kept.{track_at}
 use Rattle.af_model.specs.declared.shape.Shape.{Shape}
@@ -17,10 +20,8 @@ use Rattle.af_enough_law.specs.Seen.{frames_put, frames_taken}
 use Rattle.af_enough_law.proofs.CalmTracks.{CalmTrack, stream_lists}
 use Rattle.af_enough_law.proofs.CommandsGo.{CalmCommands, OpenTurn}
 use Rattle.af_enough_law.proofs.FastKnows.{knows_released}
-use Rattle.af_enough_law.proofs.FastRounds.{ends_part}
-use Rattle.af_enough_law.proofs.FastShows.{taken-append}
 use Rattle.af_enough_law.proofs.FlowRounds.{InFlow, FlowCame, sent, sends, fell, flow_round, stop_sent}
-use Rattle.af_enough_law.proofs.Nearing.{Nearing, over, removed, stopped, drained, emptied, stopping, flowing, StreamRound, TrackRound, StreamMet, BlockCounts, BlockKept, low_or_high, drains_by, due_falls, over_then, rises, removes, stops, reports, numbers, calm_turn, sent_by}
+use Rattle.af_enough_law.proofs.Nearing.{Nearing, over, removed, stopped, drained, emptied, stopping, flowing, StreamRound, TrackRound, StreamMet, BlockCounts, BlockKept, drains_by, due_falls, over_then, rises, removes, stops, reports, numbers, calm_turn, sent_by}
 use Rattle.af_enough_law.proofs.RunStreams.{round_grows}
 use Rattle.af_enough_law.proofs.StopCounts.{stop_within, counts_round}
 use Rattle.af_enough_law.proofs.RemoveRounds.{told_three, removes_round}
@@ -93,7 +94,7 @@ module _ (cut : Bool) (s : Session) (marks : Marks) (run : Run) (round : RoundSe
       -- a life that has not ended had not before, and was no further
       met_then : life_then.ended ≡ false → stage life_then ≤ 1 → (d : Bool) → life.ended ≡ d → StreamMet (after_round s run round) i
       met_then alive few true ended = absurd (true≢false (sym (over_then cut s marks run round i t legal N base kept r ended) ∙ alive))
-      met_then alive few false going = by (low_or_high (stage life))
+      met_then alive few false going = by (few_or_two (stage life))
         where
           made : StreamRound s marks run round i t → StreamMet (after_round s run round) i
           made st = let l = stream_lists s run round i r.turn.low st.part in record { did = l.did; count = l.count; server = l.server; said = _; client = l.client; released = knows_released s run round i r.turn.low (ends_part s (met_after s run round) i ∙ st.part) }
@@ -126,7 +127,7 @@ module _ (cut : Bool) (s : Session) (marks : Marks) (run : Run) (round : RoundSe
     ]
 
     empties : (n : ℕ) → life.ended ≡ false → 6 ≤ length b.commands.released → 1 ≤ stage life → frames_put (client_list b.stream) ≤ frames_taken (server_list b.stream) → 3 ≤ n → Then n
-    empties n alive six one all le = unless_over n (λ going. by going (low_or_high (stage life)))
+    empties n alive six one all le = unless_over n (λ going. by going (few_or_two (stage life)))
       where
         by : life_then.ended ≡ false → (stage life ≤ 1) ⊎ (2 ≤ stage life) → Then n
         by going (inr high) = drains n alive six high (omega (arith, le))
@@ -140,7 +141,7 @@ module _ (cut : Bool) (s : Session) (marks : Marks) (run : Run) (round : RoundSe
             ]
 
     stops_on : (n : ℕ) → life.ended ≡ false → 6 ≤ length b.commands.released → (d : ℕ) → frames_put (client_list b.stream) ≤ frames_taken (server_list b.stream) + q * suc d → suc d + 3 ≤ n → Then n
-    stops_on n alive six d fits le = unless_over n (λ going. by going (low_or_high (stage life)))
+    stops_on n alive six d fits le = unless_over n (λ going. by going (few_or_two (stage life)))
       where
         fewer : (d : ℕ) → frames_put (client_list u.stream) ≤ frames_taken (server_list u.stream) + q * d → suc d + 3 ≤ n → Then n
         fewer zero fits le = elim (stops cut s marks run round i t legal N base kept r alive six) as (λ _. Then n) [
@@ -172,7 +173,7 @@ module _ (cut : Bool) (s : Session) (marks : Marks) (run : Run) (round : RoundSe
     stops_from n alive six (suc d) one fits le = stops_on n alive six d fits le
 
     flows_on : (n most due m : ℕ) → life.ended ≡ false → InFlow run i q most total due → due ≤ q * m → frames_put (client_list b.stream) ≤ frames_taken (server_list b.stream) + q * full → m + full + 4 ≤ n → Then n
-    flows_on n most due m alive f portions fits le = unless_over n (λ going. by going (low_or_high (stage life)))
+    flows_on n most due m alive f portions fits le = unless_over n (λ going. by going (few_or_two (stage life)))
       where
         by : life_then.ended ≡ false → (stage life ≤ 1) ⊎ (2 ≤ stage life) → Then n
         by going (inr high) =

@@ -1,5 +1,7 @@
 -- What the last round of a track's start leaves, in which its proxy took part in the meeting.
 use Rattle.std.proofs.Common.{◌≡◌, ℕ, ◌+◌, ◌≤◌, Bool, true, List, length, ap, ◌∙◌, subst, arith}
+use Rattle.af_enough_law.proofs.Basics.{course_long}
+use Rattle.af_judge.proofs.Basics.{ends_part}
 use Rattle.af_life.specs.Kept.{track_at}
 use Rattle.af_model.specs.Journals.{RoundSeen}
 use Rattle.af_script.specs.declared.op.Op.{Op}
@@ -12,9 +14,7 @@ use Rattle.af_enough_law.specs.Playing.{way_ops, way_frames}
 use Rattle.af_enough_law.proofs.BlockNumbers.{BlockNumbers, block_numbers}
 use Rattle.af_enough_law.proofs.CalmTracks.{stream_lists}
 use Rattle.af_enough_law.proofs.CommandsGo.{CalmCommands, OpenTurn, commands_of}
-use Rattle.af_enough_law.proofs.CourseRounds.{course_long}
 use Rattle.af_enough_law.proofs.FastKnows.{knows_released}
-use Rattle.af_enough_law.proofs.FastRounds.{ends_part}
 use Rattle.af_enough_law.proofs.MiddleEnds.{StartsTrack}
 use Rattle.af_enough_law.proofs.Nearing.{BlockCounts, BlockKept}
 use Rattle.af_enough_law.proofs.NearRounds.{counts_kept}

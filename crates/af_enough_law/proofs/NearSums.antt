@@ -6,6 +6,7 @@ use Rattle.std.proofs.lemmas.List.Sums.{sum_by-cons}
 use Rattle.std.proofs.lemmas.List.Elements.{All-get_or}
 use Rattle.std.proofs.Math.Nat.{mul-le-mul_left}
 use Rattle.af_base.specs.declared.frame.Frame.{Frame}
+use Rattle.af_judge.proofs.Basics.{new_at}
 use Rattle.af_script.specs.Data.{ScriptData}
 use Rattle.af_script.specs.declared.op.Op.{Op}
 use Rattle.af_script.specs.declared.op.Op.TheVariants as op
@@ -22,7 +23,7 @@ use Rattle.af_enough_law.specs.Playing.{IsWay, way_ops, way_frames}
 use Rattle.af_enough_law.specs.Seen.{frames_taken}
 use Rattle.af_enough_law.proofs.Flows.{way_rounds, way_within, way_costs, portions}
 use Rattle.af_enough_law.proofs.Nearing.{BlockCounts}
-use Rattle.af_enough_law.proofs.RunBegins.{Plays, new_at}
+use Rattle.af_enough_law.proofs.RunBegins.{Plays}
 use Rattle.af_enough_law.proofs.StopCounts.{StopCounts}
 
 -- ## Portions

@@ -4,6 +4,7 @@ use Rattle.af_base.specs.declared.event.ClientEvent.{ClientEvent}
 use Rattle.af_base.specs.declared.event.ClientEvent.TheVariants as client
 use Rattle.af_base.specs.declared.event.ServerEvent.{ServerEvent}
 use Rattle.af_base.specs.declared.event.ServerEvent.TheVariants as server
+use Rattle.af_enough_law.proofs.Basics.{course_long}
 use Rattle.af_life.specs.declared.kept.Heard.{Heard}
 use Rattle.af_life.specs.declared.track.Life.{Life}
 use Rattle.af_life.specs.Heard.{learnt, heard}
@@ -25,7 +26,6 @@ use Rattle.af_enough_law.proofs.BlockNumbers.{BlockNumbers, block_numbers}
 use Rattle.af_enough_law.proofs.CalmTracks.{CalmTrack, CalmTurn, round_released}
 use Rattle.af_enough_law.proofs.CommandsGo.{CalmCommands, OpenTurn}
 use Rattle.af_enough_law.proofs.CourseGoes.{OnCourse, CourseGone}
-use Rattle.af_enough_law.proofs.CourseRounds.{course_long}
 use Rattle.af_enough_law.proofs.Coursing.{stage_reported}
 use Rattle.af_enough_law.proofs.FlowRounds.{InFlow}
 use Rattle.af_enough_law.proofs.Following.{greeted_in, greeted_alike}
@@ -121,11 +121,6 @@ course_stops count k l low high (stopping_life retries) = inr (omega arith)
 course_stops count k l low high (drained_life retries) = inr (omega arith)
 course_stops count k l low high (stopped_life retries) = inr (omega arith)
 course_stops count k l low high (has_ended life e) = inl e
-
-pub low_or_high : (n : ℕ) → (n ≤ 1) ⊎ (2 ≤ n)
-low_or_high zero = inl (omega arith)
-low_or_high (suc zero) = inl (omega arith)
-low_or_high (suc (suc n)) = inr (omega arith)
 
 -- in numbers: a portion less is in a block in which nothing is put
 pub drains_by : (N Q q put taken taken' d : ℕ) → q ≡ min N Q → put ≤ taken + q * suc d → taken + min (put - taken) Q ≤ taken' → put ≤ taken' + q * d

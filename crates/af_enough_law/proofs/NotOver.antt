@@ -2,6 +2,7 @@
 use Rattle.std.proofs.Common.{◌≡◌, ℕ, ◌+◌, ◌≤◌, true, false, true≢false, List, ◌++◌, length, take, drop, sym, ap, ◌∙◌, subst, arith, length-append, length-drop}
 use Rattle.std.proofs.lemmas.List.{take-append-drop}
 use Rattle.af_base.specs.declared.frame.Frame.{Frame}
+use Rattle.af_judge.proofs.Basics.{new_long}
 use Rattle.af_model.specs.Journals.{RoundSeen}
 use Rattle.af_runs.specs.Blocks.{Marks}
 use Rattle.af_runs.specs.LegalRuns.{session_of, run_from, LegalRounds}
@@ -14,7 +15,6 @@ use Rattle.af_enough_law.specs.Ending.{StillGoes}
 use Rattle.af_enough_law.specs.Ends.{AllOver}
 use Rattle.af_enough_law.proofs.AllEnd.{rounds_end}
 use Rattle.af_enough_law.proofs.EndWithin.{both_end}
-use Rattle.af_enough_law.proofs.RunBegins.{new_long}
 
 -- A run of a script has ended ten rounds after every life has
 pub run_ends : (s : Session) (marks : Marks) → IsScript s.script → (rounds more : List RoundSeen) → LegalRounds false s marks (new_run s) (rounds ++ more) → AllOver (run_from s (new_run s) rounds).normal.tracks → 10 ≤ length more → all_ended s (run_from s (new_run s) (rounds ++ more)) ≡ true

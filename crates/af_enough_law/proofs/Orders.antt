@@ -1,17 +1,19 @@
 -- Which command a turn leaves in the draft, and which slots the draft carries.
 use Rattle.std.proofs.Common.{◌≡◌, ℕ, zero, suc, ◌==◌, ◌&&◌, ◌||◌, not, if◌then◌else◌, Bool, true, false, true≢false, List, [], ◌∷◌, refl, sym, ap, ◌∙◌, ◌<◌, ◌≤◌, All, subst, arith, length, is_some}
 use Rattle.std.specs.List.{list_any}
+use Rattle.af_base.proofs.Basics.{and_none, no, or_right}
 use Rattle.af_base.specs.Command.{code_of}
 use Rattle.af_base.specs.declared.state.Command.{Command}
 use Rattle.af_base.specs.declared.state.Command.TheVariants.{Initial, HotIdle, ColdIdle, Idle, Exit, Mix, Write, MixWrite}
 use Rattle.af_base.specs.Turn.{Turn}
+use Rattle.af_judge.proofs.Basics.{or_left}
+use Rattle.af_life.proofs.Basics.{lent_away}
 use Rattle.af_life.specs.declared.kept.TrackKept.{TrackKept}
 use Rattle.af_life.specs.Edits.{is_exit, is_over, next_command, welcomed, comes_home}
 use Rattle.af_life.specs.Kept.{Setup, pipe_size, NormalKept, Learnt, track_at, plays, is_home, is_lent, is_returning, slot_number}
 use Rattle.af_life.specs.Sound.{IsSound}
 use Rattle.af_life.specs.Turn.{turn_after}
 use Rattle.af_model.specs.StateQueue.{carries, slot_of}
-use Rattle.af_judge.proofs.SoundEdits.{lent_away}
 use Rattle.af_base.specs.declared.state.FastState.{FastState}
 use Rattle.af_life.specs.declared.kept.Holder.TheVariants.{Home, Lent}
 use Rattle.af_life.specs.declared.kept.Setting.{Setting}
@@ -28,17 +30,6 @@ use Rattle.af_enough_law.specs.TrackTurns.{greeted}
 use Rattle.af_enough_law.proofs.Drafts.{command_turned, holder_turned}
 use Rattle.af_enough_law.proofs.Following.{greeted_in}
 
-no : {A : Type 0} → false ≡ true → A
-no h = absurd (true≢false (sym h))
-
-or_right : (a b : Bool) → b ≡ true → (a || b) ≡ true
-or_right true b e = refl
-or_right false b e = e
-
-and_right : (a b : Bool) → b ≡ false → (a && b) ≡ false
-and_right true b e = e
-and_right false b e = refl
-
 -- some track is to be heard
 any_at : (tracks : List TrackKept) (i : ℕ) → plays (track_at tracks i).life ≡ true → list_any (λ (s : TrackKept). plays s.life) tracks ≡ true
 any_at [] i e = no e
@@ -54,7 +45,7 @@ lives false ended home e = no e
 not_over : (tracks : List TrackKept) (i : ℕ) → plays (track_at tracks i).life ≡ true → is_over tracks ≡ false
 not_over [] i e = no e
 not_over (s ∷ tracks) zero e = ap (λ (b : Bool). b && is_over tracks) (lives s.life.member s.life.ended (is_home s.holder) e)
-not_over (s ∷ tracks) (suc i) e = and_right (s.life.ended && is_home s.holder) (is_over tracks) (not_over tracks i e)
+not_over (s ∷ tracks) (suc i) e = and_none (s.life.ended && is_home s.holder) (is_over tracks) (not_over tracks i e)
 
 by_facts : (exits over heard whole : Bool) → Command
 by_facts exits over heard whole = if exits || (over && whole) then Exit else if heard || not whole then MixWrite else ColdIdle
@@ -71,10 +62,6 @@ unfolding by_facts
 mixes_by true over heard whole a b c = absurd (true≢false a)
 mixes_by false true heard whole a b c = absurd (true≢false b)
 mixes_by false false heard whole a b c = ap (λ (x : Bool). if x then MixWrite else ColdIdle) c
-
-or_left : (a b : Bool) → a ≡ true → (a || b) ≡ true
-or_left true b e = refl
-or_left false b e = no e
 
 facts_are : (exits : Bool) (tracks : List TrackKept) (room size : ℕ) → next_command exits tracks room size ≡ by_facts exits (is_over tracks) (list_any (λ (s : TrackKept). plays s.life) tracks) (room == size)
 unfolding next_command by_facts

@@ -1,6 +1,7 @@
 -- A track that is over: its life has ended.
 use Rattle.std.proofs.Common.{◌≡◌, ℕ, ◌≤◌, ◌<◌, Bool, true, false, length, ap, ◌∙◌, arith}
 use Rattle.af_base.specs.Turn.{Turn}
+use Rattle.af_judge.proofs.Basics.{if_true}
 use Rattle.af_life.specs.declared.kept.TrackKept.{TrackKept}
 use Rattle.af_life.specs.declared.track.Life.{Life}
 use Rattle.af_life.specs.Heard.{learnt, heard, ready}
@@ -16,7 +17,6 @@ use Rattle.af_enough_law.specs.Courses.{Course, absent, idle, playing, stopping,
 use Rattle.af_enough_law.specs.NormalRounds.{TurnMade}
 use Rattle.af_enough_law.specs.TrackTurns.{attended, TrackTurned}
 use Rattle.af_enough_law.proofs.CourseGoes.{OnCourse}
-use Rattle.af_enough_law.proofs.Ends.{attended_same}
 use Rattle.af_enough_law.proofs.Following.{greeted_in, greeted_alike, edited_alike}
 use Rattle.af_enough_law.proofs.Served.{track_turned}
 use Rattle.af_enough_law.proofs.Turning.{Stands}
@@ -34,7 +34,7 @@ over_life c k m e i lt runs gone =
     let g : TrackKept = greeted_in m e i in
     let first = greeted_alike e.ack m.last (track_at m.tracks i) in
     let ended : g.life.ended ≡ true = ap (λ (l : Life). l.ended) first.life ∙ gone in
-    let same : attended t.given k i (track_in e i).looks g ≡ g = attended_same g.life.ended g (after_part t.given (heard k i g) (track_in e i).looks (ready k i g)) ended in
+    let same : attended t.given k i (track_in e i).looks g ≡ g = if_true g.life.ended g (after_part t.given (heard k i g) (track_in e i).looks (ready k i g)) ended in
     ap (λ (x : TrackKept). x.life) t.after ∙ (edited_alike (k.own i) (attended t.given k i (track_in e i).looks g) t.edited t.edit).life ∙ ap (λ (x : TrackKept). x.life) same ∙ first.life
 
 pub over_on : (cut : Bool) (s : Session) (marks : Marks) (run : Run) (round : RoundSeen) (t : TurnMade s marks run round) (i : ℕ) → i < length run.tracks → i < track_count s → i < length run.normal.tracks → t.turn.ended ≡ false → LegalRound cut s marks run round → IsOver run i → IsOver (after_round s run round) i

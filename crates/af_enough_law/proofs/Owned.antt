@@ -2,11 +2,13 @@
 use Rattle.std.proofs.Common.{◌≡◌, ◌≢◌, inl, inr, ℕ, zero, suc, ◌≤◌, ◌&&◌, not, if◌then◌else◌, Bool, true, false, true≢false, All, List, [], ◌∷◌, length, map, fold, refl, sym, ap, ◌∙◌, subst, arith, ⊎_elim}
 use Rattle.std.specs.Prelude.{slice_set}
 use Rattle.std.proofs.lemmas.Bool.{cases_eq}
+use Rattle.af_base.proofs.Basics.{no}
 use Rattle.af_base.specs.declared.state.Command.{Command}
 use Rattle.af_base.specs.declared.state.FastState.{FastState}
 use Rattle.af_base.specs.declared.state.Push.{Push}
 use Rattle.af_base.specs.declared.state.Push.TheVariants.{Pushed, Clean, Busy}
 use Rattle.af_base.specs.Turn.{Turn, TrackSeen, TakeSeen}
+use Rattle.af_life.proofs.Basics.{at_here, at_other, at_set, lent_away, welcomed_at}
 use Rattle.af_life.specs.declared.kept.Holder.{Holder}
 use Rattle.af_life.specs.declared.kept.Holder.TheVariants.{Home, Lent, Returning}
 use Rattle.af_life.specs.declared.kept.Setting.{Setting}
@@ -21,14 +23,11 @@ use Rattle.af_life.proofs.Lives.{acked_len, served_len}
 use Rattle.af_model.specs.Draft.{detached, commanded as with_command}
 use Rattle.af_model.specs.StateQueue.{carries}
 use Rattle.af_judge.proofs.DraftBits.{attached_else, detached_here, detached_else}
-use Rattle.af_judge.proofs.SoundEdits.{at_here, at_other, comer_slot, comer_inside, leaver_slot, lent_away}
+use Rattle.af_judge.proofs.SoundEdits.{comer_slot, comer_inside, leaver_slot}
 use Rattle.af_judge.proofs.SoundLives.{goes_served}
-use Rattle.af_judge.proofs.SoundSlots.{at_set, sound_served}
-use Rattle.af_judge.proofs.SoundTurns.{welcomed_at, sound_acked, sound_edits}
+use Rattle.af_judge.proofs.SoundSlots.{sound_served}
+use Rattle.af_judge.proofs.SoundTurns.{sound_acked, sound_edits}
 use Rattle.af_enough_law.specs.Owned.{AreOwned}
-
-no : {A : Type 0} → false ≡ true → A
-no h = absurd (true≢false (sym h))
 
 -- each lent track stays lent with its slot
 abbrev StayLent : List TrackKept → List TrackKept → Type 0

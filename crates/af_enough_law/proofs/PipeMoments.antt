@@ -6,17 +6,18 @@ use Rattle.af_base.specs.declared.event.ClientEvent.TheVariants as client
 use Rattle.af_base.specs.declared.event.ServerEvent.{ServerEvent}
 use Rattle.af_base.specs.declared.event.ServerEvent.TheVariants as server
 use Rattle.af_base.specs.declared.seen.Seen.TheVariants as seen
+use Rattle.af_enough_law.proofs.Basics.{put-append, taken-append}
 use Rattle.af_life.specs.TurnEvents.{front_by_room}
 use Rattle.af_model.specs.Cycles.{shown, takes_shown}
 use Rattle.af_model.specs.Order.{Event, one, two, ones, twos, Legal, after, HasOrder}
 use Rattle.af_model.specs.PipeHistory as piped
-use Rattle.af_model.specs.PipeHistory.{PipePoint, room_by}
+use Rattle.af_model.specs.PipeHistory.{PipePoint}
 use Rattle.af_model.specs.Point.{wrapped}
 use Rattle.af_model.specs.Room.{ahead}
 use Rattle.af_model.proofs.Logic.{ahead-between}
 use Rattle.af_model.proofs.Splits.{split_at, ones_append, legal_at}
 use Rattle.af_enough_law.specs.Seen.{Stands, frames_put, frames_taken}
-use Rattle.af_enough_law.proofs.FastShows.{put-append, taken-append, put-front}
+use Rattle.af_enough_law.proofs.FastShows.{put-front}
 use Rattle.af_enough_law.proofs.SeenShared.{puts_counted, takes_counted, puts_take_none, takes_put_none, put_more, put_same, taken_more, taken_same}
 use Rattle.af_enough_law.proofs.Standing.{swap_order, ones_swap, twos_swap, swap_legal, legal_swapped, next_swapped, learnt_before}
 

@@ -15,6 +15,8 @@ use Rattle.af_base.specs.declared.state.FastState.{FastState}
 use Rattle.af_base.specs.Log.{entry_slot}
 use Rattle.af_base.specs.Mix.{mixed_frame}
 use Rattle.af_base.specs.Turn.{Turn, TakeSeen}
+use Rattle.af_enough_law.proofs.Basics.{asked_in-append, asked_is, put-append, taken-append}
+use Rattle.af_judge.proofs.Basics.{calls_pipe, ends_pipe, loaded_pipe}
 use Rattle.af_life.specs.Kept.{Setup, asked, pipe_size}
 use Rattle.af_life.specs.Plays.{put_by, take_of}
 use Rattle.af_life.specs.TurnEvents.{front_by_room, pipe_list}
@@ -25,16 +27,15 @@ use Rattle.af_model.specs.PipeHistory.{releases_of}
 use Rattle.af_model.specs.Point.{wrapped}
 use Rattle.af_model.specs.Room.{ahead}
 use Rattle.af_runs.specs.Blocks.{Marks}
-use Rattle.af_runs.specs.Clients.{ends}
 use Rattle.af_runs.specs.Found.{TurnFound, LegalTurnBy}
-use Rattle.af_runs.specs.Rounds.{LegalEntry, LegalEntries, LegalRound, early_count, early_of, late_of, before_turn, found_in, turned, after_turn, loaded, all_played, met_after, after_round}
-use Rattle.af_runs.specs.Runs.{Run, each_track, pipe_cells, mixed_pipe, with_calls, with_poll, with_mix, with_cycle, with_cycles, with_turn, with_load, met, with_ends, fast_ended}
+use Rattle.af_runs.specs.Rounds.{LegalEntry, LegalEntries, LegalRound, early_count, early_of, late_of, before_turn, found_in, turned, after_turn, all_played, met_after, after_round}
+use Rattle.af_runs.specs.Runs.{Run, pipe_cells, mixed_pipe, with_calls, with_poll, with_mix, with_cycle, with_cycles, with_turn, with_load, met, fast_ended}
 use Rattle.af_runs.specs.Sessions.{Session, setup_of, cycle_frames}
 use Rattle.af_runs.specs.Told.{PipeTold}
 use Rattle.af_enough_law.specs.Seen.{Stands, frames_put, frames_taken}
 use Rattle.af_enough_law.specs.FastFlows.{AllMixed, MixesAll, asked_in}
 use Rattle.af_enough_law.specs.PipeFlows.{pipe_put, pipe_taken, in_pipe, KnowsPipe, put_in, PipeFlowed, RoomSeen}
-use Rattle.af_enough_law.proofs.FastShows.{put-append, taken-append, stands-more}
+use Rattle.af_enough_law.proofs.FastShows.{stands-more}
 use Rattle.af_enough_law.proofs.PipeMoments.{History, pipe_look, pipe_low, pipe_words, pipe_room, pipe_room_most}
 
 -- ## Lists of the pipe
@@ -215,17 +216,9 @@ turned_puts : (s : Session) (found : Turn → TurnFound) (o : Option Turn) (run 
 turned_puts s found None run = record { puts = []; list = sym (append-nil (ones run.pipe.told)); sum = refl; same = refl }
 turned_puts s found (Some e) run = turn_puts s (found e) e run
 
-calls_pipe : (round : RoundSeen) (run : Run) → (with_calls round run).pipe ≡ run.pipe
-unfolding with_calls
-calls_pipe round run = refl
-
 load_pipe : (e : Turn) (run : Run) → (with_load e run).pipe ≡ run.pipe
 unfolding with_load
 load_pipe e run = refl
-
-loaded_pipe : (o : Option Turn) (run : Run) → (loaded o run).pipe ≡ run.pipe
-loaded_pipe None run = refl
-loaded_pipe (Some e) run = load_pipe e run
 
 met_pipe : (s : Session) (run : Run) → (met s run).pipe.told ≡ run.pipe.told ++ one (client.Learn (length (twos run.pipe.told))) ∷ two (server.Learn (length (ones run.pipe.told))) ∷ []
 unfolding met
@@ -234,14 +227,6 @@ met_pipe s run = refl
 met_put : (s : Session) (run : Run) → (met s run).pipe.put ≡ run.pipe.put
 unfolding met
 met_put s run = refl
-
-ends_pipe : (run : Run) → (with_ends run).pipe ≡ run.pipe
-unfolding with_ends
-ends_pipe run = by run.normal.ended (each_track (λ track t. record t { client = ends t.client }) run) refl
-  where
-    by : (b : Bool) (x : Run) → x.pipe ≡ run.pipe → (if b then x else run).pipe ≡ run.pipe
-    by true x same = same
-    by false x same = refl
 
 -- ## The round
 
@@ -303,14 +288,6 @@ pipe_sums s run round =
       late = goes_low (after_turn s run round).pipe (with_cycles s (late_of run round) (after_turn s run round)).pipe (cycles_go s (late_of run round) (after_turn s run round));
       end = omega arith;
     }
-
-asked_is : (asked : ℕ) (es : List EntrySeen) → asked_in asked es ≡ length es * asked
-asked_is asked [] = omega arith
-asked_is asked (e ∷ es) = let rest = asked_is asked es in grind arith
-
-asked_in-append : (asked : ℕ) (xs ys : List EntrySeen) → asked_in asked (xs ++ ys) ≡ asked_in asked xs + asked_in asked ys
-asked_in-append asked [] ys = omega arith
-asked_in-append asked (x ∷ xs) ys = let rest = asked_in-append asked xs ys in omega arith
 
 mixed-split : (xs ys : List EntrySeen) → AllMixed (xs ++ ys) → AllMixed xs × AllMixed ys
 mixed-split [] ys h = (tt, h)

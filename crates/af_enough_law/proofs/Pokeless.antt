@@ -1,11 +1,14 @@
 -- A client none of whose ops is a poke makes no poke, whatever is answered.
 use Rattle.std.proofs.Common.{◌≡◌, ℕ, ◌-◌, ◌==◌, ◌&&◌, ◌||◌, MatchBool, Bool, true, false, List, [], ◌∷◌, ◌++◌, fold, refl, sym, ap, ◌∙◌, subst, true≢false, Option, Some, None, if◌then◌else◌, bit_and}
+use Rattle.af_base.proofs.Basics.{no, none_some}
 use Rattle.af_base.specs.declared.event.ClientCall.{ClientCall}
 use Rattle.af_base.specs.declared.event.ClientCall.TheVariants as call
 use Rattle.af_base.specs.declared.event.ClientEvent.{ClientEvent}
+use Rattle.af_judge.proofs.Basics.{some_is}
+use Rattle.af_model.proofs.Basics.{both_first, both_lawful}
 use Rattle.af_model.specs.ClientCalls.{client_call_events, client_events_of}
-use Rattle.af_model.specs.History.{is_tame, is_lawful}
-use Rattle.af_model.proofs.Logic.{both_left, both_right, both_are}
+use Rattle.af_model.specs.History.{is_lawful}
+use Rattle.af_model.proofs.Logic.{both_right}
 use Rattle.af_script.specs.declared.op.Op.{Op}
 use Rattle.af_script.specs.declared.op.Op.TheVariants as op
 use Rattle.af_runs.specs.declared.want.ClientCommand.{ClientCommand}
@@ -59,7 +62,7 @@ op_plain m (op.Poke in_command word value) h = absurd (true≢false (sym h))
 begins_plain : (c : Client) (wants : List Want) (ops : List Op) → plain_wants wants ≡ true → plain_ops ops ≡ true → IsPokeless (begins c wants ops)
 begins_plain c (w ∷ wants) ops d o = record { due = d; ops = o }
 begins_plain c [] [] d o = record { due = refl; ops = refl }
-begins_plain c [] (o ∷ ops) d p = begins_plain c (wants_of c.mode o) ops (op_plain c.mode o (both_left (is_plain_op o) (plain_ops ops) p)) (both_right (is_plain_op o) (plain_ops ops) p)
+begins_plain c [] (o ∷ ops) d p = begins_plain c (wants_of c.mode o) ops (op_plain c.mode o (both_first (is_plain_op o) (plain_ops ops) p)) (both_right (is_plain_op o) (plain_ops ops) p)
 
 pub begun_plain : (c : Client) → IsPokeless c → IsPokeless (begun c)
 begun_plain c h = begins_plain c c.due c.ops h.due h.ops
@@ -174,9 +177,6 @@ abbrev pub is_poke_call : ClientCall → Bool
 is_poke_call (call.Poke in_command word value) = true
 is_poke_call _ = false
 
-no : {A : Type 0} → false ≡ true → A
-no e = absurd (true≢false (sym e))
-
 pub poke_not : (t : Track) (w : Want) (in_command : Bool) (word value : ℕ) → is_plain_want w ≡ true → IsWanted t w (call.Poke in_command word value) → ⊥
 poke_not t (want.Send sending) b word value plain made = no made
 poke_not t want.Settled b word value plain made = no made
@@ -211,21 +211,11 @@ call_tame t w (call.Poke in_command word value) s plain made = absurd (poke_not 
 
 -- ## A turn
 
-pub lawful_append : (xs ys : List ClientEvent) → is_lawful xs ≡ true → is_lawful ys ≡ true → is_lawful (xs ++ ys) ≡ true
-lawful_append [] ys a b = b
-lawful_append (x ∷ xs) ys a b = both_are (is_tame x) (is_lawful (xs ++ ys)) (both_left (is_tame x) (is_lawful xs) a) (lawful_append xs ys (both_right (is_tame x) (is_lawful xs) a) b)
-
 -- a track whose client wants no poke, and has not poked
 pub record IsPokelessTrack (t : Track) : Type 0 where
   pub client : IsPokeless t.client
   pub stream : is_lawful t.stream.events ≡ true
   pub commands : is_lawful t.commands.events ≡ true
-
-none_some : {X A : Type 0} (x : X) → None ≡ Some x → A
-none_some x e = absurd (true≢false (ap (λ (z : Option _). elim z as (λ _. Bool) [ None ↦ true | Some y ↦ false ]) e))
-
-some_is : (x y : Want) → Some x ≡ Some y → x ≡ y
-some_is x y e = ap (λ (o : Option Want). elim o as (λ _. Want) [ None ↦ x | Some z ↦ z ]) e
 
 first_plain : (due : List Want) (w : Want) → plain_wants due ≡ true → asked_first due ≡ Some w → is_plain_want w ≡ true
 first_plain [] w h e = none_some w e
@@ -261,8 +251,8 @@ answered_plain t answer (Some wanted) h = let b = begun_plain t.client h in answ
 
 call_sides : (b : Bool) (t : Track) (s c : Side) (es fs : List ClientEvent) → s.events ≡ t.stream.events ++ es → c.events ≡ t.commands.events ++ fs → is_lawful es ≡ true → is_lawful fs ≡ true → IsPokelessTrack t
     → let u = (if b then record t { commands = c } else record t { stream = s }) in (is_lawful u.stream.events ≡ true) × (is_lawful u.commands.events ≡ true)
-call_sides true t s c es fs is js a d h = (h.stream, ap is_lawful js ∙ lawful_append t.commands.events fs h.commands d)
-call_sides false t s c es fs is js a d h = (ap is_lawful is ∙ lawful_append t.stream.events es h.stream a, h.commands)
+call_sides true t s c es fs is js a d h = (h.stream, ap is_lawful js ∙ both_lawful t.commands.events fs h.commands d)
+call_sides false t s c es fs is js a d h = (ap is_lawful is ∙ both_lawful t.stream.events es h.stream a, h.commands)
 
 pub call_pokeless : (t : Track) (w : Want) (answer : ClientCall) → IsPokelessTrack t → wanted_of t ≡ Some w → IsMade t w answer → IsPokelessTrack (after_call t answer)
 unfolding answered_by

@@ -9,6 +9,7 @@ use Rattle.af_base.specs.declared.state.FastState.{FastState}
 use Rattle.af_base.specs.Turn.{Turn, TakeSeen}
 use Rattle.af_base.specs.declared.state.Push.{Push}
 use Rattle.af_base.specs.declared.state.Push.TheVariants.{Pushed, Clean, Busy}
+use Rattle.af_enough_law.proofs.Basics.{before_normal}
 use Rattle.af_life.specs.Edits.{after_push}
 use Rattle.af_life.specs.Heard.{learnt}
 use Rattle.af_life.specs.Kept.{Setup, NormalKept, Learnt}
@@ -33,7 +34,7 @@ use Rattle.af_enough_law.proofs.FastCurrent.{round_current, rest_current, turn_c
 use Rattle.af_enough_law.proofs.FastLearns.{met_queue, on_twos, on_ones, ends_queue, loaded_queue}
 use Rattle.af_enough_law.proofs.FastPolls.{fast_parts, parts_use, before_states, round_states}
 use Rattle.af_enough_law.proofs.Drafts.{after_pushes}
-use Rattle.af_enough_law.proofs.NormalRounds.{before_normal, after_normal, turn_made}
+use Rattle.af_enough_law.proofs.NormalRounds.{after_normal, turn_made}
 use Rattle.af_enough_law.proofs.FastSteps.{cycle_queue, mutated-more}
 
 -- ## What is acknowledged

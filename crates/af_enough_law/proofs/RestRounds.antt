@@ -1,5 +1,6 @@
 -- A round of a resting mixer that orders no Exit: what was lent comes nearer to home, and the pipe drains.
 use Rattle.std.proofs.Common.{◌≡◌, ◌⊎◌, inl, inr, ℕ, zero, suc, ◌-◌, ◌*◌, ◌<◌, ◌≤◌, ◌==◌, ◌||◌, not, unwrap_or, Bool, true, false, true≢false, All, Option, Some, List, length, is_some, refl, sym, ap, ◌∙◌, arith, eq-eqb}
+use Rattle.af_base.proofs.Basics.{below_or_not}
 use Rattle.af_base.specs.Command.{code_of}
 use Rattle.af_base.specs.declared.state.Command.{Command}
 use Rattle.af_base.specs.declared.state.Command.TheVariants.{ColdIdle, MixWrite}
@@ -27,7 +28,6 @@ use Rattle.af_enough_law.specs.Underway.{IsIdle, Underway}
 use Rattle.af_enough_law.proofs.Acks.{turn_sees_ack}
 use Rattle.af_enough_law.proofs.EndPhases.{known_unless}
 use Rattle.af_enough_law.proofs.EndPipe.{drains, rests_puts, stays_drained}
-use Rattle.af_enough_law.proofs.Ends.{within_or}
 use Rattle.af_enough_law.proofs.EndRounds.{home_on, home_round, orders_round, rests_on, same_states, unpushed}
 use Rattle.af_enough_law.proofs.FastMixes.{mixes_all}
 use Rattle.af_enough_law.proofs.LastStates.{LastIs}
@@ -60,7 +60,7 @@ HomeWithin (suc (suc (suc (suc n)))) run = Unit {0}
 -- ## The states
 
 state_within : (states : List FastState) (k : ℕ) (x : FastState) → state_of states k ≡ Some x → k ≤ length states
-state_within states k x is = by (within_or (length states) k)
+state_within states k x is = by (below_or_not (length states) k)
   where
     by : (length states < k) ⊎ (k ≤ length states) → k ≤ length states
     by (inl far) = absurd (true≢false (sym (ap is_some is) ∙ ap is_some (state_beyond states k far)))

@@ -1,9 +1,11 @@
 -- A resting mixer whose command stays pushes nothing; and no Exit is among the states until one is pushed last.
-use Rattle.std.proofs.Common.{◌≡◌, ◌⊎◌, inl, inr, ℕ, zero, suc, ◌+◌, ◌<◌, ◌≤◌, unwrap_or, Bool, true, false, true≢false, Option, ◌++◌, length, if◌then◌else◌, sym, ap, ◌∙◌, arith, eq-eqb, is_some}
+use Rattle.std.proofs.Common.{◌≡◌, ◌⊎◌, inl, inr, ℕ, ◌+◌, ◌<◌, ◌≤◌, unwrap_or, Bool, true, false, true≢false, Option, ◌++◌, length, if◌then◌else◌, sym, ap, ◌∙◌, arith, eq-eqb, is_some}
+use Rattle.af_base.proofs.Basics.{within_or_beyond}
 use Rattle.af_base.specs.Command.{code_of}
 use Rattle.af_base.specs.declared.state.Command.{Command}
 use Rattle.af_base.specs.declared.state.FastState.{FastState}
 use Rattle.af_base.specs.Turn.{Turn}
+use Rattle.af_judge.proofs.Basics.{push_draft}
 use Rattle.af_life.specs.Edits.{after_ack, is_exit, next_command, ordered, mutated, after_push}
 use Rattle.af_life.specs.Heard.{learnt}
 use Rattle.af_life.specs.Kept.{Setup, pipe_size, NormalKept, Outside, Learnt}
@@ -12,6 +14,7 @@ use Rattle.af_life.specs.Turn.{after_tracks, after_edits, turn_after, GoesOn}
 use Rattle.af_model.specs.Cycles.{state_of}
 use Rattle.af_model.specs.Draft.{initial}
 use Rattle.af_model.specs.Journals.{RoundSeen}
+use Rattle.af_runs.proofs.Basics.{state_more}
 use Rattle.af_runs.specs.Rounds.{after_round}
 use Rattle.af_runs.specs.Runs.{Run}
 use Rattle.af_runs.specs.Sessions.{Session, cycle_frames}
@@ -19,9 +22,8 @@ use Rattle.af_runs.specs.Told.{is_pushed}
 use Rattle.af_enough_law.specs.Drafts.{is_busy}
 use Rattle.af_enough_law.specs.EndPhases.{NoExits}
 use Rattle.af_enough_law.specs.Ends.{Rests}
-use Rattle.af_enough_law.proofs.Drafts.{ordered_code, pushed_draft}
+use Rattle.af_enough_law.proofs.Drafts.{ordered_code}
 use Rattle.af_enough_law.proofs.Exits.{AreIdle, ack_kept, clean_by, clean_free, edits_none, ordered_same, rests_idle}
-use Rattle.af_enough_law.proofs.FastMixes.{state_more}
 use Rattle.af_enough_law.proofs.FastPolls.{round_states, turn_more}
 use Rattle.af_enough_law.proofs.LastStates.{LastIs}
 use Rattle.af_runs.proofs.StatesFor.{state_beyond}
@@ -31,7 +33,7 @@ use Rattle.af_runs.proofs.StatesFor.{state_beyond}
 pub draft_after_turn : (c : Setup) (k : Learnt) (m : NormalKept) (e : Turn) → e.ended ≡ false → (turn_after c k m e).draft ≡ (after_edits c k e m).draft
 unfolding turn_after
 draft_after_turn c k m e runs =
-    ap (λ (b : Bool). (if b then record m { ended = true } else after_takes c e.mixes (after_push e.push (after_edits c k e m))).draft) runs ∙ pushed_draft e.push (after_edits c k e m)
+    ap (λ (b : Bool). (if b then record m { ended = true } else after_takes c e.mixes (after_push e.push (after_edits c k e m))).draft) runs ∙ push_draft e.push (after_edits c k e m)
 
 rests_edits : (c : Setup) (k : Learnt) (room : ℕ) (m : NormalKept) → AreIdle m.tracks → mutated c k room m ≡ ordered (next_command (is_exit m.draft) m.tracks room (pipe_size c)) m
 unfolding mutated
@@ -59,18 +61,9 @@ module _ (c : Setup) (o : Outside) (m : NormalKept) (e : Turn) (runs : e.ended �
 
 -- ## Exits
 
-pub low_or : (a b : ℕ) → (a ≤ b) ⊎ (b < a)
-low_or zero b = inl (omega arith)
-low_or (suc a) zero = inr (omega arith)
-low_or (suc a) (suc b) = by (low_or a b)
-  where
-    by : (a ≤ b) ⊎ (b < a) → (suc a ≤ suc b) ⊎ (suc b < suc a)
-    by (inl low) = inl (omega (arith, low))
-    by (inr far) = inr (omega (arith, far))
-
 -- a round that pushes no Exit leaves none among the states
 pub no_exits_round : (s : Session) (run : Run) (round : RoundSeen) → NoExits run.states → LastIs s (after_round s run round) → is_exit (after_round s run round).normal.last ≡ false → length (after_round s run round).states ≤ length run.states + 1 → NoExits (after_round s run round).states
-no_exits_round s run round none last going few k x is = by (low_or k (length run.states)) (low_or k (length after.states))
+no_exits_round s run round none last going few k x is = by (within_or_beyond k (length run.states)) (within_or_beyond k (length after.states))
   where
     after : Run
     after = after_round s run round

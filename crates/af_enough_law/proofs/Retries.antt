@@ -1,5 +1,6 @@
 -- A track with two retries or more isn't disabled, and a turn takes one at most.
 use Rattle.std.proofs.Common.{◌≡◌, ℕ, zero, suc, ◌+◌, ◌≤◌, ◌<◌, ◌&&◌, ◌||◌, not, nat_lt, Bool, true, false, true≢false, Option, None, MatchBool, List, length, refl, sym, ap, ◌∙◌, subst, arith, if◌then◌else◌}
+use Rattle.af_base.proofs.Basics.{and_none}
 use Rattle.af_base.specs.Turn.{Turn, TrackSeen}
 use Rattle.af_life.specs.declared.kept.Heard.{Heard}
 use Rattle.af_life.specs.declared.kept.TrackKept.{TrackKept}
@@ -27,10 +28,6 @@ use Rattle.af_enough_law.proofs.Served.{track_turned}
 use Rattle.af_enough_law.proofs.Told.{disabled_told}
 
 -- ## Which lives run dry
-
-and_none : (b d : Bool) → d ≡ false → (b && d) ≡ false
-and_none true d e = e
-and_none false d e = refl
 
 -- a life on its course doesn't run dry if it has two retries while it plays
 pub wet_course : (count k : ℕ) (known : Known) (l : Life) → Course count k l → (k ≡ 2 → 2 ≤ l.retries) → runs_dry known l ≡ false

@@ -4,6 +4,8 @@ use Rattle.std.proofs.lemmas.List.{get_or-replicate}
 use Rattle.af_base.specs.declared.report.SlotReport.{SlotReport}
 use Rattle.af_base.specs.declared.state.FastState.{FastState}
 use Rattle.af_base.specs.Log.{slots}
+use Rattle.af_enough_law.proofs.Basics.{before_normal}
+use Rattle.af_judge.proofs.Basics.{calls_states}
 use Rattle.af_life.specs.declared.kept.Setting.{Setting}
 use Rattle.af_life.specs.Heard.{learnt}
 use Rattle.af_life.specs.Kept.{NormalKept, Learnt}
@@ -21,9 +23,8 @@ use Rattle.af_runs.specs.Told.{is_pushed}
 use Rattle.af_enough_law.specs.Carried.{SessionStands}
 use Rattle.af_enough_law.specs.FastFlows.{slot_told}
 use Rattle.af_enough_law.specs.NormalRounds.{TurnMade}
-use Rattle.af_enough_law.proofs.FastPolls.{round_states, before_states, calls_states}
+use Rattle.af_enough_law.proofs.FastPolls.{round_states, before_states}
 use Rattle.af_enough_law.proofs.FastReports.{SameReports, calls_same, turned_same, loaded_same, met_same, ends_same, same_both, slot_same}
-use Rattle.af_enough_law.proofs.NormalRounds.{before_normal}
 use Rattle.af_enough_law.proofs.QueueRounds.{states_turned}
 use Rattle.af_enough_law.proofs.RestTurns.{draft_after_turn}
 use Rattle.af_enough_law.proofs.SessionRounds.{turn_of, turn_runs}

@@ -1,8 +1,10 @@
 -- A client that plays through sends no START after its STOP, whatever it is answered.
-use Rattle.std.proofs.Common.{◌≡◌, ◌⊎◌, inl, inr, ℕ, zero, suc, ◌+◌, ◌-◌, ◌==◌, ◌&&◌, ◌||◌, nat_le, not, if◌then◌else◌, bit_and, Bool, true, false, true≢false, MatchBool, Some, None, List, [], ◌∷◌, ◌++◌, length, take, fold, refl, sym, ap, ◌∙◌, subst, append-nil, eqb-true}
+use Rattle.std.proofs.Common.{◌≡◌, ◌⊎◌, inl, inr, ℕ, zero, suc, ◌+◌, ◌-◌, ◌==◌, ◌&&◌, ◌||◌, nat_le, not, if◌then◌else◌, bit_and, Bool, true, false, MatchBool, Some, None, List, [], ◌∷◌, ◌++◌, length, take, fold, refl, sym, ap, ◌∙◌, subst, append-nil, eqb-true}
+use Rattle.af_base.proofs.Basics.{both_true, no, some_same}
 use Rattle.af_base.specs.declared.event.ClientCall.{ClientCall}
 use Rattle.af_base.specs.declared.event.ClientCall.TheVariants as call
-use Rattle.af_model.proofs.Logic.{both_left, both_right, both_are}
+use Rattle.af_model.proofs.Basics.{both_first}
+use Rattle.af_model.proofs.Logic.{both_right}
 use Rattle.af_script.specs.declared.op.Op.{Op}
 use Rattle.af_script.specs.declared.op.Op.TheVariants as op
 use Rattle.af_runs.specs.Clients.{Client, settled_in, state_in, begun, next_want, rest_of, rested, at_next_turn, after_answer}
@@ -14,10 +16,7 @@ use Rattle.af_runs.specs.declared.want.Want.TheVariants as want
 use Rattle.af_enough_law.specs.Playing.{IsWay}
 use Rattle.af_enough_law.proofs.EarlyCalls.{no_stop, held, begun_held, client_is}
 use Rattle.af_enough_law.proofs.SentPlain.{even_words}
-use Rattle.af_enough_law.proofs.Turning.{none_some, some_same}
-
-no : {A : Type 0} → false ≡ true → A
-no e = absurd (true≢false (sym e))
+use Rattle.af_enough_law.proofs.Turning.{none_some}
 
 -- ## Words
 
@@ -34,7 +33,7 @@ ends_calm _ = true
 calm_none : (words : List ℕ) → no_stop words ≡ true → ends_calm words ≡ true
 calm_none [] h = refl
 calm_none (x ∷ []) h = refl
-calm_none (code ∷ argument ∷ words) h = by (code == 4) (both_left (not (code == 4)) (no_stop words) h) (calm_none words (both_right (not (code == 4)) (no_stop words) h))
+calm_none (code ∷ argument ∷ words) h = by (code == 4) (both_first (not (code == 4)) (no_stop words) h) (calm_none words (both_right (not (code == 4)) (no_stop words) h))
   where
     by : (b : Bool) → not b ≡ true → ends_calm words ≡ true → (if b then no_start words else ends_calm words) ≡ true
     by true n c = no n
@@ -44,12 +43,12 @@ calm_none (code ∷ argument ∷ words) h = by (code == 4) (both_left (not (code
 stop_more : (xs : List ℕ) (code argument : ℕ) → even_words xs ≡ true → no_stop xs ≡ true → (code == 4) ≡ false → no_stop (xs ++ code ∷ argument ∷ []) ≡ true
 stop_more [] code argument even none other = ap (λ (b : Bool). not b && true) other
 stop_more (x ∷ []) code argument even none other = no even
-stop_more (x ∷ y ∷ xs) code argument even none other = both_are (not (x == 4)) (no_stop (xs ++ code ∷ argument ∷ [])) (both_left (not (x == 4)) (no_stop xs) none) (stop_more xs code argument even (both_right (not (x == 4)) (no_stop xs) none) other)
+stop_more (x ∷ y ∷ xs) code argument even none other = both_true (not (x == 4)) (no_stop (xs ++ code ∷ argument ∷ [])) (both_first (not (x == 4)) (no_stop xs) none) (stop_more xs code argument even (both_right (not (x == 4)) (no_stop xs) none) other)
 
 start_more : (xs : List ℕ) (code argument : ℕ) → even_words xs ≡ true → no_start xs ≡ true → (code == 2) ≡ false → no_start (xs ++ code ∷ argument ∷ []) ≡ true
 start_more [] code argument even none other = ap (λ (b : Bool). not b && true) other
 start_more (x ∷ []) code argument even none other = no even
-start_more (x ∷ y ∷ xs) code argument even none other = both_are (not (x == 2)) (no_start (xs ++ code ∷ argument ∷ [])) (both_left (not (x == 2)) (no_start xs) none) (start_more xs code argument even (both_right (not (x == 2)) (no_start xs) none) other)
+start_more (x ∷ y ∷ xs) code argument even none other = both_true (not (x == 2)) (no_start (xs ++ code ∷ argument ∷ [])) (both_first (not (x == 2)) (no_start xs) none) (start_more xs code argument even (both_right (not (x == 2)) (no_start xs) none) other)
 
 calm_stop : (xs : List ℕ) (code argument : ℕ) → even_words xs ≡ true → no_stop xs ≡ true → ends_calm (xs ++ code ∷ argument ∷ []) ≡ true
 calm_stop [] code argument even none = by (code == 4)
@@ -58,7 +57,7 @@ calm_stop [] code argument even none = by (code == 4)
     by true = refl
     by false = refl
 calm_stop (x ∷ []) code argument even none = no even
-calm_stop (x ∷ y ∷ xs) code argument even none = by (x == 4) (both_left (not (x == 4)) (no_stop xs) none) (calm_stop xs code argument even (both_right (not (x == 4)) (no_stop xs) none))
+calm_stop (x ∷ y ∷ xs) code argument even none = by (x == 4) (both_first (not (x == 4)) (no_stop xs) none) (calm_stop xs code argument even (both_right (not (x == 4)) (no_stop xs) none))
   where
     by : (b : Bool) → not b ≡ true → ends_calm (xs ++ code ∷ argument ∷ []) ≡ true → (if b then no_start (xs ++ code ∷ argument ∷ []) else ends_calm (xs ++ code ∷ argument ∷ [])) ≡ true
     by true n rest = no n
@@ -89,7 +88,7 @@ calm_take (suc (suc n)) (code ∷ argument ∷ words) h = by (code == 4) h (calm
     start_take (suc n) [] h = refl
     start_take (suc zero) (code ∷ words) h = refl
     start_take (suc (suc n)) (code ∷ []) h = refl
-    start_take (suc (suc n)) (code ∷ argument ∷ words) h = both_are (not (code == 2)) (no_start (take n words)) (both_left (not (code == 2)) (no_start words) h) (start_take n words (both_right (not (code == 2)) (no_start words) h))
+    start_take (suc (suc n)) (code ∷ argument ∷ words) h = both_true (not (code == 2)) (no_start (take n words)) (both_first (not (code == 2)) (no_start words) h) (start_take n words (both_right (not (code == 2)) (no_start words) h))
 
     by : (b : Bool) → (if b then no_start words else ends_calm words) ≡ true → (ends_calm words ≡ true → ends_calm (take n words) ≡ true) → (if b then no_start (take n words) else ends_calm (take n words)) ≡ true
     by true h rest = start_take n words h
@@ -219,7 +218,7 @@ data SendAnswer (code : ℕ) : ClientCall → Type 0 where
   corrupt : (front rear : ℕ) → SendAnswer code (call.SendCorrupt front rear)
 
 send_answer : (code argument : ℕ) (answer : ClientCall) → is_send code argument answer ≡ true → SendAnswer code answer
-send_answer code argument (call.Sent front c a) h = subst (λ (x : ℕ). SendAnswer code (call.Sent front x a)) (sym (eqb-true c code (both_left (c == code) (a == argument) h))) (sent front a)
+send_answer code argument (call.Sent front c a) h = subst (λ (x : ℕ). SendAnswer code (call.Sent front x a)) (sym (eqb-true c code (both_first (c == code) (a == argument) h))) (sent front a)
 send_answer code argument (call.SendFull front) h = full front
 send_answer code argument (call.SendDead flags) h = dead flags
 send_answer code argument (call.SendCorrupt front rear) h = corrupt front rear

@@ -7,6 +7,8 @@ use Rattle.af_base.specs.declared.event.ServerEvent.{ServerEvent}
 use Rattle.af_base.specs.declared.event.ServerEvent.TheVariants as server
 use Rattle.af_base.specs.declared.turn.CommandLook.{CommandLook}
 use Rattle.af_base.specs.Turn.{Turn, TakeSeen, TrackSeen}
+use Rattle.af_enough_law.proofs.Basics.{before_normal}
+use Rattle.af_judge.proofs.Basics.{each_at}
 use Rattle.af_life.specs.declared.kept.TrackKept.{TrackKept}
 use Rattle.af_life.specs.Heard.{learnt, heard, heard_by, heard_at_home, heard_elsewhere, slot_reported}
 use Rattle.af_life.specs.Kept.{Setup, asked as buffer, NormalKept, Outside, Learnt, track_at, track_in, is_home}
@@ -29,8 +31,7 @@ use Rattle.af_enough_law.specs.Courses.{none_shut}
 use Rattle.af_enough_law.proofs.FastFlows.{Later}
 use Rattle.af_enough_law.proofs.FastRounds.{Quiet, over, calls_length, cycles_length}
 use Rattle.af_enough_law.proofs.FastShows.{Setting}
-use Rattle.af_enough_law.proofs.FastSteps.{each_at, server_does-server, hand_does-server}
-use Rattle.af_enough_law.proofs.NormalRounds.{before_normal}
+use Rattle.af_enough_law.proofs.FastSteps.{server_does-server, hand_does-server}
 use Rattle.af_enough_law.proofs.StreamCalm.{IsQuiet, LiesIn, lies_earlier, look_quiet, calm_join, entries_quiet}
 
 -- ## The take of a track

@@ -1,10 +1,12 @@
 -- The first round finds each client at its first op, and no block poked.
 use Rattle.std.proofs.Common.{◌≡◌, ℕ, zero, suc, ◌+◌, ◌<◌, nat_lt, Bool, true, List, [], ◌∷◌, length, get_or, refl, sym, ap, ◌∙◌, subst, arith, true≢false}
 use Rattle.std.specs.List.{list_all, AllByRecursion}
-use Rattle.std.proofs.lemmas.List.FromFn.{get_or-map-range_with_len, length-map-range_with_len}
 use Rattle.std.proofs.lemmas.List.Elements.{All-get_or, recursion_from_All}
+use Rattle.af_base.proofs.Basics.{below_is}
 use Rattle.af_base.specs.declared.frame.Frame.{Frame}
-use Rattle.af_model.proofs.Logic.{both_left, both_right}
+use Rattle.af_judge.proofs.Basics.{new_at, new_long}
+use Rattle.af_model.proofs.Basics.{both_first}
+use Rattle.af_model.proofs.Logic.{both_right}
 use Rattle.af_script.specs.Data.{ScriptData}
 use Rattle.af_script.specs.Form.{HasOpNumbers, IsTrack, IsScript}
 use Rattle.af_script.specs.declared.op.Op.{Op}
@@ -17,8 +19,8 @@ use Rattle.af_runs.specs.Clients.{new_client, begun}
 use Rattle.af_model.specs.Journals.{RoundSeen}
 use Rattle.af_runs.specs.Blocks.{Marks}
 use Rattle.af_runs.specs.LegalRuns.{session_of, LegalRounds, run_from}
-use Rattle.af_runs.specs.Runs.{new_run, new_track, told_at, sides_of}
-use Rattle.af_runs.specs.Sessions.{Session, no_spec, spec_of, track_count}
+use Rattle.af_runs.specs.Runs.{new_run, told_at, sides_of}
+use Rattle.af_runs.specs.Sessions.{no_spec, spec_of}
 use Rattle.af_enough.specs.Enough.{goes_on, play_through, all_play_through}
 use Rattle.af_enough_law.specs.Playing.{IsWay, Doing, opening}
 use Rattle.af_enough_law.proofs.Doing.{at}
@@ -27,12 +29,9 @@ use Rattle.af_enough_law.proofs.Pokeless.{plain_ops, IsPokelessTrack}
 
 -- ## The ops of a track
 
-less_is : (a b : ℕ) → nat_lt a b ≡ true → a < b
-less_is a b h = search (arith, h)
-
 -- ops that go on to their end, with the numbers of ops
 pub way_of : (frames gains : ℕ) (ops : List Op) → goes_on gains ops ≡ true → AllByRecursion (HasOpNumbers frames) ops → IsWay gains ops
-way_of frames gains (op.Gain left right ∷ ops) h n = (less_is gains 1024 (both_left (nat_lt gains 1024) (goes_on (gains + 1) ops) h), way_of frames (gains + 1) ops (both_right (nat_lt gains 1024) (goes_on (gains + 1) ops) h) n.1)
+way_of frames gains (op.Gain left right ∷ ops) h n = (below_is gains 1024 (both_first (nat_lt gains 1024) (goes_on (gains + 1) ops) h), way_of frames (gains + 1) ops (both_right (nat_lt gains 1024) (goes_on (gains + 1) ops) h) n.1)
 way_of frames gains (op.Write count ∷ ops) h n = (n.0.0, way_of frames 0 ops h n.1)
 way_of frames gains (op.Stop ∷ op.Drain ∷ op.Remove ∷ []) h n = tt
 way_of frames gains _ h n = absurd (true≢false (sym h))
@@ -58,7 +57,7 @@ plays_of frames _ h n = absurd (true≢false (sym h))
 
 all_at : {X : Type 0} (test : X → Bool) (xs : List X) (i : ℕ) (d : X) → list_all test xs ≡ true → i < length xs → test (get_or xs i d) ≡ true
 all_at test [] i d h lt = absurd (omega arith)
-all_at test (x ∷ xs) zero d h lt = both_left (test x) (list_all test xs) h
+all_at test (x ∷ xs) zero d h lt = both_first (test x) (list_all test xs) h
 all_at test (x ∷ xs) (suc i) d h lt = all_at test xs i d (both_right (test x) (list_all test xs) h) (omega arith)
 
 -- each track of a script with enough cycles plays through
@@ -68,13 +67,6 @@ track_plays script files i is through lt =
     let ops = all_at (λ (t : TrackSpec). play_through t.ops) script.tracks i no_spec through lt in
     let numbers = (All-get_or IsTrack script.tracks i no_spec lt is.tracks).numbers in
     plays_of track.frames track.ops ops (recursion_from_All (HasOpNumbers track.frames) track.ops numbers)
-
--- the track of a number in a new run
-pub new_at : (s : Session) (i : ℕ) → i < track_count s → told_at (new_run s) i ≡ new_track s i
-new_at s i lt = get_or-map-range_with_len (new_track s) 0 (track_count s) i i _ lt (omega arith)
-
-pub new_long : (s : Session) → length (new_run s).tracks ≡ track_count s
-new_long s = length-map-range_with_len (new_track s) 0 (track_count s)
 
 -- the client of a track in a new run opens the track first
 unfoldable pub first_doing : (ops : List Op) → Plays ops → (rest : List Op) × (begun (new_client ops) ≡ at (want.Send command.Open ∷ []) (op.Start ∷ rest) mode.Idle) × Doing (want.Send command.Open ∷ []) (op.Start ∷ rest) mode.Idle

@@ -1,9 +1,11 @@
 -- In a run of a script whose tracks play through each block is lawful, by the marks of the whole journal.
-use Rattle.std.proofs.Common.{◌≡◌, ℕ, ◌-◌, ◌<◌, ◌||◌, not, Bool, true, false, MatchBool, List, [], ◌∷◌, length, refl, ap, arith, true≢false}
+use Rattle.std.proofs.Common.{◌≡◌, ℕ, ◌-◌, ◌<◌, not, Bool, true, false, MatchBool, List, [], ◌∷◌, length, refl, ap, arith}
 use Rattle.std.specs.List.{list_any}
+use Rattle.af_base.proofs.Basics.{neither_is}
 use Rattle.af_base.specs.declared.event.ClientCall.{ClientCall}
 use Rattle.af_base.specs.declared.event.ClientCall.TheVariants as call
 use Rattle.af_base.specs.declared.frame.Frame.{Frame}
+use Rattle.af_judge.proofs.Basics.{new_long}
 use Rattle.af_model.specs.Journals.{RoundSeen}
 use Rattle.af_script.specs.Data.{ScriptData}
 use Rattle.af_script.specs.Form.{IsScript}
@@ -16,7 +18,7 @@ use Rattle.af_runs.specs.Runs.{Run, new_run, told_at, sides_of, calls_in}
 use Rattle.af_runs.specs.Sessions.{Session, track_count}
 use Rattle.af_enough.specs.Enough.{all_play_through}
 use Rattle.af_enough_law.proofs.Pokeless.{is_plain_want, IsPokelessTrack, poke_not, wanted_plain, call_pokeless}
-use Rattle.af_enough_law.proofs.RunBegins.{new_long, begins_pokeless}
+use Rattle.af_enough_law.proofs.RunBegins.{begins_pokeless}
 use Rattle.af_enough_law.proofs.RunTame.{round_pokeless}
 use Rattle.af_enough_law.proofs.RunTracks.{round_long}
 
@@ -49,14 +51,10 @@ not_on false t w (call.SendCorrupt front rear) plain made = refl
 not_on false t w (call.Status word) plain made = refl
 not_on false t w (call.Poke in_command word value) plain made = absurd (poke_not t w in_command word value plain made)
 
-none_or : (a b : Bool) → a ≡ false → b ≡ false → (a || b) ≡ false
-none_or true b h g = absurd (true≢false h)
-none_or false b h g = g
-
 calls_free : (on : Bool) (left : ℕ) (t : Track) (calls : List ClientCall) → IsPokelessTrack t → AreCalls left t calls → list_any (is_poke_on on) calls ≡ false
 calls_free on left t [] h made = refl
 calls_free on left t (answer ∷ calls) h made =
-    none_or (is_poke_on on answer) (list_any (is_poke_on on) calls) (not_on on t made.1 answer (wanted_plain t made.1 h.client made.2) made.3.0)
+    neither_is (is_poke_on on answer) (list_any (is_poke_on on) calls) (not_on on t made.1 answer (wanted_plain t made.1 h.client made.2) made.3.0)
     (calls_free on (left - 1) (after_call t answer) calls (call_pokeless t made.1 answer h made.2 made.3) made.4)
 
 turn_free : (on b : Bool) (t : Track) (calls : List ClientCall) → IsPokelessTrack t → MatchBool b (calls ≡ []) (AreCalls 64 t calls) → list_any (is_poke_on on) calls ≡ false
@@ -68,7 +66,7 @@ pub rounds_free : (on cut : Bool) (s : Session) (marks : Marks) (run : Run) (rou
     → list_any (λ round. list_any (is_poke_on on) (calls_in round i)) rounds ≡ false
 rounds_free on cut s marks run [] i lt there legal h = refl
 rounds_free on cut s marks run (round ∷ rounds) i lt there legal h =
-    none_or (list_any (is_poke_on on) (calls_in round i)) (list_any (λ r. list_any (is_poke_on on) (calls_in r i)) rounds)
+    neither_is (list_any (is_poke_on on) (calls_in round i)) (list_any (λ r. list_any (is_poke_on on) (calls_in r i)) rounds)
     (turn_free on (told_at run i).client.ended (sides_of (told_at run i)) (calls_in round i) h (legal.0.turns.clients i there))
     (rounds_free on cut s marks (after_round s run round) rounds i (let long = round_long s run round in omega arith) there legal.1 (round_pokeless s run round cut marks i lt there legal.0 h))
 

@@ -5,6 +5,7 @@ use Rattle.af_base.specs.Turn.{Turn}
 use Rattle.af_life.specs.Heard.{learnt}
 use Rattle.af_life.specs.Kept.{NormalKept}
 use Rattle.af_life.specs.TurnEvents.{tracks_at, hand_list, stream_list}
+use Rattle.af_model.proofs.Basics.{both_lawful}
 use Rattle.af_model.specs.Cycles.{cycle_events}
 use Rattle.af_model.specs.History.{is_lawful}
 use Rattle.af_model.specs.Journals.{EntrySeen, RoundSeen}
@@ -19,7 +20,7 @@ use Rattle.af_runs.specs.Runs.{Run, TrackTold, told_at, sides_of, called, calls_
 use Rattle.af_runs.specs.Sessions.{Session, cycle_frames, setup_of, track_count}
 use Rattle.af_judge.proofs.BlocksTold.{server-client, hand-client}
 use Rattle.af_enough_law.proofs.FairTurns.{stream_grows}
-use Rattle.af_enough_law.proofs.Pokeless.{IsPokeless, IsPokelessTrack, lawful_append, turn_pokeless}
+use Rattle.af_enough_law.proofs.Pokeless.{IsPokeless, IsPokelessTrack, turn_pokeless}
 use Rattle.af_enough_law.proofs.RunLists.{side_lists, command_lists}
 use Rattle.af_enough_law.proofs.RunTracks.{mixed_by, turned_by, played_track, round_blocks, round_client, round_long, met_track}
 
@@ -55,8 +56,8 @@ module _ (s : Session) where
 
     -- a meeting adds what was learnt, or nothing
     met_list : (there hands : Bool) (b : BlockTold) → is_lawful (client_list b) ≡ true → is_lawful (client_list (stream_met there hands b)) ≡ true
-    met_list true true b h = lawful_append (client_list b) (client.Learn (length (server_list b)) ∷ []) h refl
-    met_list true false b h = lawful_append (client_list b) (client.Learn (length (server_list b)) ∷ []) h refl
+    met_list true true b h = both_lawful (client_list b) (client.Learn (length (server_list b)) ∷ []) h refl
+    met_list true false b h = both_lawful (client_list b) (client.Learn (length (server_list b)) ∷ []) h refl
     met_list false true b h = h
     met_list false false b h = h
 
@@ -73,7 +74,7 @@ module _ (s : Session) where
     lawful_commands : (i : ℕ) → i < length run.tracks → is_lawful (fold after_call (sides_of (told_at run i)) (calls_in round i)).commands.events ≡ true → is_lawful (client_list (told_at (after_round s run round) i).commands) ≡ true
     lawful_commands i lt h =
         let l = command_lists s run round i lt in
-        ap is_lawful l.client ∙ lawful_append l.said (client.Learn (length l.did) ∷ []) (ap is_lawful l.said_is ∙ h) refl
+        ap is_lawful l.client ∙ both_lawful l.said (client.Learn (length l.did) ∷ []) (ap is_lawful l.said_is ∙ h) refl
 
     -- a track that has not poked doesn't in a legal round
     pub round_pokeless : (cut : Bool) (marks : Marks) (i : ℕ) → i < length run.tracks → i < track_count s → LegalRound cut s marks run round → IsPokelessTrack (sides_of (told_at run i)) → IsPokelessTrack (sides_of (told_at (after_round s run round) i))

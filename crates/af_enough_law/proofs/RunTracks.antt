@@ -2,6 +2,7 @@
 use Rattle.std.proofs.Common.{◌≡◌, ◌⊎◌, inl, inr, ℕ, ◌<◌, Bool, true, false, List, [], ◌∷◌, length, refl, ap, ◌∙◌, arith, Option, Some, None, if◌then◌else◌}
 use Rattle.af_base.specs.declared.state.FastState.{FastState}
 use Rattle.af_base.specs.Turn.{Turn}
+use Rattle.af_judge.proofs.Basics.{each_long, met_many, told_each}
 use Rattle.af_life.specs.Kept.{NormalKept}
 use Rattle.af_model.specs.Journals.{EntrySeen, RoundSeen}
 use Rattle.af_runs.specs.Blocks.{BlockTold, meets}
@@ -10,8 +11,7 @@ use Rattle.af_runs.specs.Found.{TurnFound, outside_of}
 use Rattle.af_runs.specs.Rounds.{early_of, late_of, before_turn, after_turn, turned, found_in, all_played, loaded, met_after, after_round}
 use Rattle.af_runs.specs.Runs.{Run, TrackTold, told_at, each_track, called, calls_in, with_calls, state_for, with_poll, slot_for, played, mixed_track, with_looks, with_mix, with_cycle, with_cycles, with_turn, turned_track, commands_turned, with_load, track_met, with_ends}
 use Rattle.af_runs.specs.Sessions.{Session, cycle_frames, setup_of}
-use Rattle.af_judge.proofs.EachTrack.{each_long, told_each}
-use Rattle.af_judge.proofs.BlocksMeet.{met_at, met_many}
+use Rattle.af_judge.proofs.BlocksMeet.{met_at}
 
 -- ## Calls
 

@@ -1,20 +1,22 @@
 -- What was learnt of a block is seen.
-use Rattle.std.proofs.Common.{◌≡◌, ◌⊎◌, inl, inr, ℕ, ◌+◌, ◌≤◌, true, List, [], ◌∷◌, ◌++◌, length, get_or, refl, sym, ap, ◌∙◌, subst, arith, append_assoc, length-append, true≢false}
-use Rattle.std.proofs.lemmas.List.{append-nil}
+use Rattle.std.proofs.Common.{◌≡◌, ◌⊎◌, inl, inr, ℕ, ◌+◌, ◌≤◌, true, List, [], ◌∷◌, ◌++◌, length, get_or, refl, sym, ap, ◌∙◌, subst, arith, length-append, true≢false}
 use Rattle.std.proofs.lemmas.Grind.{fold-append}
+use Rattle.af_base.proofs.Basics.{both_true}
 use Rattle.af_base.specs.declared.event.ClientEvent.{ClientEvent}
 use Rattle.af_base.specs.declared.event.ClientEvent.TheVariants as client
 use Rattle.af_base.specs.declared.event.HandEvent.{HandEvent}
-use Rattle.af_base.specs.declared.event.HandEvent.TheVariants as hand
 use Rattle.af_base.specs.declared.event.ServerEvent.{ServerEvent}
 use Rattle.af_base.specs.declared.event.ServerEvent.TheVariants as server
+use Rattle.af_enough_law.proofs.Basics.{put-append, taken-append}
+use Rattle.af_judge.proofs.Basics.{client_append, hand_puts, legal_cut, server_append, server_put, status_client, status_hand}
+use Rattle.af_model.proofs.Basics.{both_first, client_taken}
 use Rattle.af_model.specs.declared.point.TrackPoint.{TrackPoint}
 use Rattle.af_model.specs.declared.shape.Shape.{Shape}
 use Rattle.af_model.specs.Fates.{keeps_all, drops_none}
-use Rattle.af_model.specs.History.{Moment, by_client, by_server, by_hand, client_of, server_of, after, May, IsLegal, HasHistory}
-use Rattle.af_model.specs.Point.{wrapped, start, ClientMay, ServerMay, after_client, after_server, after_hand}
-use Rattle.af_model.proofs.Logic.{both_left, both_right, both_are}
-use Rattle.af_model.proofs.OneFate.{same_consumed, hand_consumed}
+use Rattle.af_model.specs.History.{Moment, by_client, by_server, by_hand, client_of, server_of, after, IsLegal, HasHistory}
+use Rattle.af_model.specs.Point.{wrapped, start, ClientMay, ServerMay, after_client, after_server}
+use Rattle.af_model.proofs.Logic.{both_right}
+use Rattle.af_model.proofs.OneFate.{hand_consumed}
 use Rattle.af_enough_law.specs.Seen.{Stands, Sees, put_by, frames_put, taken_by, frames_taken, status_by, last_status, FrontIsSeen, StatusIsSeen, BlockRearIsSeen}
 
 tail_of : {X : Type 0} → List X → List X
@@ -62,23 +64,6 @@ server_cut (by_server x ∷ order) xs e rest is = elim (last_cases (server_of or
 ]
 server_cut (by_client x ∷ order) xs e rest is = later (by_client x) order (server_cut order xs e rest is)
 server_cut (by_hand x ∷ order) xs e rest is = later (by_hand x) order (server_cut order xs e rest is)
-
--- each event of a legal order is legal where it stands
-pub legal_cut : (p : TrackPoint) (late : List Moment) (m : Moment) (early : List Moment) → IsLegal p (late ++ m ∷ early) → May p early m × IsLegal p early
-legal_cut p [] m early l = l
-legal_cut p (x ∷ late) m early l = legal_cut p late m early l.1
-
-pub server_append : (late early : List Moment) → server_of (late ++ early) ≡ server_of early ++ server_of late
-server_append [] early = sym (append-nil (server_of early))
-server_append (by_client e ∷ late) early = server_append late early
-server_append (by_server e ∷ late) early = ap (λ z. z ++ e ∷ []) (server_append late early) ∙ append_assoc (server_of early) (server_of late) (e ∷ [])
-server_append (by_hand e ∷ late) early = server_append late early
-
-pub client_append : (late early : List Moment) → client_of (late ++ early) ≡ client_of early ++ client_of late
-client_append [] early = sym (append-nil (client_of early))
-client_append (by_client e ∷ late) early = ap (λ z. z ++ e ∷ []) (client_append late early) ∙ append_assoc (client_of early) (client_of late) (e ∷ [])
-client_append (by_server e ∷ late) early = client_append late early
-client_append (by_hand e ∷ late) early = client_append late early
 
 -- what a client learnt stands before
 pub client_learnt : (p : TrackPoint) (order : List Moment) (n : ℕ) → IsLegal p order → Stands (client.Learn n) (client_of order) → n ≤ length (server_of order)
@@ -145,42 +130,18 @@ put_next p (client.SawStatus word) = omega arith
 put_next p (client.Poke word value) = omega arith
 put_next p (client.Learn n) = omega arith
 
-server_puts : (p : TrackPoint) (e : ServerEvent) → (after_server p e).released ≡ p.released
-server_puts p (server.SawGain word) = refl
-server_puts p (server.SawFlush flush) = refl
-server_puts p (server.SawRear rear) = refl
-server_puts p (server.SawFront front) = refl
-server_puts p (server.Drop to) = refl
-server_puts p (server.Take count) = refl
-server_puts p (server.Tally missing) = refl
-server_puts p (server.SetFlags bits) = refl
-server_puts p (server.SetStatus word) = refl
-server_puts p (server.Learn n) = refl
-
-hand_puts : (p : TrackPoint) (e : HandEvent) → (after_hand p e).released ≡ p.released
-hand_puts p (hand.SetFlags bits) = refl
-hand_puts p (hand.Met n) = refl
-
-pub frames_put-append : (xs ys : List ClientEvent) → frames_put (xs ++ ys) ≡ frames_put xs + frames_put ys
-frames_put-append [] ys = omega arith
-frames_put-append (x ∷ xs) ys = let rest = frames_put-append xs ys in omega arith
-
-pub frames_taken-append : (xs ys : List ServerEvent) → frames_taken (xs ++ ys) ≡ frames_taken xs + frames_taken ys
-frames_taken-append [] ys = omega arith
-frames_taken-append (x ∷ xs) ys = let rest = frames_taken-append xs ys in omega arith
-
 -- the frames released are those that the client's list puts
 pub released_is : (k : Shape) (order : List Moment) → (after (start k) order).released ≡ k.base + frames_put (client_of order)
 released_is k [] = omega arith
 released_is k (by_client e ∷ order) =
-    let before = released_is k order in let now = put_next (after (start k) order) e in let more = frames_put-append (client_of order) (e ∷ []) in omega arith
-released_is k (by_server e ∷ order) = server_puts (after (start k) order) e ∙ released_is k order
+    let before = released_is k order in let now = put_next (after (start k) order) e in let more = put-append (client_of order) (e ∷ []) in omega arith
+released_is k (by_server e ∷ order) = server_put (after (start k) order) e ∙ released_is k order
 released_is k (by_hand e ∷ order) = hand_puts (after (start k) order) e ∙ released_is k order
 
 pub drops_split : (xs ys : List ServerEvent) → drops_none (xs ++ ys) ≡ true → (drops_none xs ≡ true) × (drops_none ys ≡ true)
 drops_split [] ys h = (refl, h)
 drops_split (x ∷ xs) ys h = let rest = drops_split xs ys (both_right (keeps_all x) (drops_none (xs ++ ys)) h) in
-    (both_are (keeps_all x) (drops_none xs) (both_left (keeps_all x) (drops_none (xs ++ ys)) h) rest.0, rest.1)
+    (both_true (keeps_all x) (drops_none xs) (both_first (keeps_all x) (drops_none (xs ++ ys)) h) rest.0, rest.1)
 
 taken_next : (p : TrackPoint) (e : ServerEvent) → keeps_all e ≡ true → (after_server p e).consumed ≡ p.consumed + taken_by e
 taken_next p (server.SawGain word) h = omega arith
@@ -197,12 +158,12 @@ taken_next p (server.Learn n) h = omega arith
 -- if nothing is dropped, the frames consumed are those that the server's list takes
 pub consumed_is : (k : Shape) (order : List Moment) → drops_none (server_of order) ≡ true → (after (start k) order).consumed ≡ k.base + frames_taken (server_of order)
 consumed_is k [] none = omega arith
-consumed_is k (by_client e ∷ order) none = same_consumed (after (start k) order) e ∙ consumed_is k order none
+consumed_is k (by_client e ∷ order) none = client_taken (after (start k) order) e ∙ consumed_is k order none
 consumed_is k (by_server e ∷ order) none =
     let split = drops_split (server_of order) (e ∷ []) none in
     let before = consumed_is k order split.0 in
-    let now = taken_next (after (start k) order) e (both_left (keeps_all e) true split.1) in
-    let more = frames_taken-append (server_of order) (e ∷ []) in
+    let now = taken_next (after (start k) order) e (both_first (keeps_all e) true split.1) in
+    let more = taken-append (server_of order) (e ∷ []) in
     omega arith
 consumed_is k (by_hand e ∷ order) none = hand_consumed (after (start k) order) e ∙ consumed_is k order none
 
@@ -218,27 +179,12 @@ status_next p (server.SetFlags bits) = refl
 status_next p (server.SetStatus word) = refl
 status_next p (server.Learn n) = refl
 
-client_status : (p : TrackPoint) (e : ClientEvent) → (after_client p e).status ≡ p.status
-client_status p (client.Release count) = refl
-client_status p client.Flush = refl
-client_status p (client.SetGain word) = refl
-client_status p (client.ClearFlags old) = refl
-client_status p (client.SawFlags flags) = refl
-client_status p (client.SawFront front) = refl
-client_status p (client.SawStatus word) = refl
-client_status p (client.Poke word value) = refl
-client_status p (client.Learn n) = refl
-
-hand_status : (p : TrackPoint) (e : HandEvent) → (after_hand p e).status ≡ p.status
-hand_status p (hand.SetFlags bits) = refl
-hand_status p (hand.Met n) = refl
-
 -- the status is the last one stored
 pub status_is : (k : Shape) (order : List Moment) → (after (start k) order).status ≡ last_status (server_of order)
 status_is k [] = refl
-status_is k (by_client e ∷ order) = client_status (after (start k) order) e ∙ status_is k order
+status_is k (by_client e ∷ order) = status_client (after (start k) order) e ∙ status_is k order
 status_is k (by_server e ∷ order) = status_next (after (start k) order) e ∙ ap (λ w. status_by w e) (status_is k order) ∙ sym (fold-append status_by 0 (server_of order) (e ∷ []))
-status_is k (by_hand e ∷ order) = hand_status (after (start k) order) e ∙ status_is k order
+status_is k (by_hand e ∷ order) = status_hand (after (start k) order) e ∙ status_is k order
 
 -- ## What is seen
 

@@ -1,8 +1,10 @@
 -- A client that has sent its STOP, and sees in its turn that its track is stopped, sends its REMOVE in it.
 use Rattle.std.proofs.Common.{◌≡◌, inl, inr, ℕ, ◌+◌, ◌-◌, ◌*◌, ◌≤◌, ◌==◌, ◌&&◌, ◌||◌, not, nat_le, true, false, Some, List, [], ◌∷◌, ◌++◌, length, fold, sym, ap, ◌∙◌, subst, arith, length-append, if◌then◌else◌}
 use Rattle.std.proofs.lemmas.List.{append-nil}
+use Rattle.af_base.proofs.Basics.{some_same}
 use Rattle.af_base.specs.declared.event.ClientCall.{ClientCall}
 use Rattle.af_base.specs.declared.event.ClientCall.TheVariants as call
+use Rattle.af_judge.proofs.Basics.{begins_ended}
 use Rattle.af_script.specs.declared.op.Op.{Op}
 use Rattle.af_script.specs.declared.op.Op.TheVariants as op
 use Rattle.af_runs.specs.declared.want.ClientCommand.TheVariants as command
@@ -15,7 +17,7 @@ use Rattle.af_runs.specs.ClientTurns.{Track, IsMade, with_call, commands_sent, w
 use Rattle.af_enough_law.specs.Playing.{Doing, opening, starting, settling, setting, writing, clearing, clearing_more, stopping, draining, removing, AreFair}
 use Rattle.af_enough_law.proofs.Doing.{at, codes_sent, sent_of, sent_is, status_is}
 use Rattle.af_enough_law.proofs.FairTurns.{codes_long}
-use Rattle.af_enough_law.proofs.Turning.{Stands, on, gone_for_good, words_of, some_same, none_some, client_after, begins_ended, spoken_after}
+use Rattle.af_enough_law.proofs.Turning.{Stands, on, gone_for_good, words_of, none_some, client_after, spoken_after}
 
 -- the status word says that the track has stopped, with its STOP settled
 pub record SaysStopped (word : ℕ) : Type 0 where

@@ -1,5 +1,7 @@
 -- The words that a client on its way sent are the first of a course, and which STOP it is doesn't change.
-use Rattle.std.proofs.Common.{◌≡◌, ℕ, zero, suc, ◌*◌, ◌≤◌, ◌<◌, List, [], ◌∷◌, ◌++◌, length, get_or, take, refl, sym, ap, ◌∙◌, arith, length-append}
+use Rattle.std.proofs.Common.{◌≡◌, ℕ, zero, suc, ◌≤◌, ◌<◌, List, [], ◌∷◌, ◌++◌, length, get_or, take, refl, sym, ap, ◌∙◌, arith, length-append}
+use Rattle.af_base.proofs.Basics.{take_most}
+use Rattle.af_enough_law.proofs.Basics.{course_long}
 use Rattle.af_life.specs.declared.kept.TrackKept.{TrackKept}
 use Rattle.af_life.specs.declared.track.Life.{Life}
 use Rattle.af_script.specs.declared.op.Op.{Op}
@@ -83,15 +85,6 @@ sixth count zero h words = absurd (let z : ⊥ = omega (arith, h) in z)
 sixth count (suc zero) h words = absurd (let z : ⊥ = omega (arith, h) in z)
 sixth count (suc (suc zero)) h words = absurd (let z : ⊥ = omega (arith, h) in z)
 
-course_long : (count told more : ℕ) → length (course count told more) ≡ 2 * more
-course_long count told zero = omega arith
-course_long count told (suc more) = let l = course_long count (suc told) more in omega arith
-
-take_short : (n : ℕ) (xs : List ℕ) → length (take n xs) ≤ length xs
-take_short zero xs = omega arith
-take_short (suc n) [] = omega arith
-take_short (suc n) (x ∷ xs) = let l = take_short n xs in omega arith
-
 pub with_none : (count k : ℕ) → 3 ≤ k → get_or (course count 0 k) 5 0 ≡ count
 with_none count (suc (suc (suc k))) h = refl
 with_none count zero h = absurd (let z : ⊥ = omega (arith, h) in z)
@@ -105,7 +98,7 @@ same_stop before after told k n words some is =
     let b = course_long after 0 k in
     let c = length-append (course before 0 told) words in
     let d = ap length is in
-    let e = take_short n (course after 0 k) in
+    let e = take_most n (course after 0 k) in
     let long : 3 ≤ k = omega (arith, a, b, c, d, e, some) in
     let low : 5 < length (take n (course after 0 k)) = omega (arith, a, c, d, some) in
     sym (sixth before told some words) ∙ ap (λ (l : List ℕ). get_or l 5 0) is ∙ get_take n 5 0 (course after 0 k) low ∙ with_none after k long

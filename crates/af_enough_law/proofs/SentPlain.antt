@@ -1,5 +1,6 @@
 -- A client that flushes and pauses nothing sends no command but those of a course, whatever it is answered; and these keep a track that plays in the mix, or end it.
-use Rattle.std.proofs.Common.{◌≡◌, ◌⊎◌, inl, inr, ℕ, zero, suc, ◌-◌, ◌≤◌, ◌==◌, ◌&&◌, ◌||◌, nat_le, not, if◌then◌else◌, is_some, Bool, true, false, true≢false, MatchBool, Option, List, [], ◌∷◌, ◌++◌, take, fold, refl, sym, ap, ◌∙◌, subst, append-nil, eqb-true}
+use Rattle.std.proofs.Common.{◌≡◌, ◌⊎◌, inl, inr, ℕ, zero, suc, ◌-◌, ◌≤◌, ◌==◌, ◌&&◌, ◌||◌, nat_le, not, if◌then◌else◌, is_some, Bool, true, false, MatchBool, Option, List, [], ◌∷◌, ◌++◌, take, fold, refl, sym, ap, ◌∙◌, subst, append-nil, eqb-true}
+use Rattle.af_base.proofs.Basics.{both_true, no}
 use Rattle.af_base.specs.declared.event.ClientCall.{ClientCall}
 use Rattle.af_base.specs.declared.event.ClientCall.TheVariants as call
 use Rattle.af_base.specs.declared.turn.CommandLook.{CommandLook}
@@ -12,7 +13,8 @@ use Rattle.af_life.specs.Kept.{plays}
 use Rattle.af_life.specs.Looks.{words_taken}
 use Rattle.af_life.specs.Obeys.{told, must_wait, ended, shows_command, is_shut, after_look, obeyed, goes_on, after_looks, commanded}
 use Rattle.af_life.specs.Reports.{by_report}
-use Rattle.af_model.proofs.Logic.{both_left, both_right, both_are}
+use Rattle.af_model.proofs.Basics.{both_first}
+use Rattle.af_model.proofs.Logic.{both_right}
 use Rattle.af_runs.specs.Clients.{code_of}
 use Rattle.af_runs.specs.ClientTurns.{Track, LegalClientTurn, IsWanted, after_call, AreCalls}
 use Rattle.af_runs.specs.declared.want.ClientCommand.{ClientCommand}
@@ -23,9 +25,6 @@ use Rattle.af_enough_law.specs.Courses.{code_at, course, life_in}
 use Rattle.af_enough_law.proofs.Able.{none_told}
 use Rattle.af_enough_law.proofs.Coursing.{ended_same}
 use Rattle.af_enough_law.proofs.Flushless.{is_plain_want, IsFlushlessTrack, wanted_plain, call_flushless}
-
-no : {A : Type 0} → false ≡ true → A
-no e = absurd (true≢false (sym e))
 
 -- ## Words
 
@@ -43,7 +42,7 @@ plain_take zero words h = refl
 plain_take (suc n) [] h = refl
 plain_take (suc zero) (code ∷ words) h = refl
 plain_take (suc (suc n)) (code ∷ []) h = refl
-plain_take (suc (suc n)) (code ∷ argument ∷ words) h = both_are (is_course_code code) (plain_words (take n words)) (both_left (is_course_code code) (plain_words words) h) (plain_take n words (both_right (is_course_code code) (plain_words words) h))
+plain_take (suc (suc n)) (code ∷ argument ∷ words) h = both_true (is_course_code code) (plain_words (take n words)) (both_first (is_course_code code) (plain_words words) h) (plain_take n words (both_right (is_course_code code) (plain_words words) h))
 
 -- what follows so many commands is plain
 pub plain_tail : (count told more : ℕ) (words : List ℕ) → plain_words (course count told more ++ words) ≡ true → plain_words words ≡ true
@@ -78,9 +77,9 @@ pub course_plain : (count told more : ℕ) → ArePlain (course count told more)
 course_plain count told more = record { even = even_course count told more; plain = plain_course count told more }
 
 plain_join : (xs : List ℕ) (code argument : ℕ) → even_words xs ≡ true → plain_words xs ≡ true → is_course_code code ≡ true → (even_words (xs ++ code ∷ argument ∷ []) ≡ true) × (plain_words (xs ++ code ∷ argument ∷ []) ≡ true)
-plain_join [] code argument e p h = (refl, both_are (is_course_code code) true h refl)
+plain_join [] code argument e p h = (refl, both_true (is_course_code code) true h refl)
 plain_join (x ∷ []) code argument e p h = no e
-plain_join (x ∷ y ∷ xs) code argument e p h = let rest = plain_join xs code argument e (both_right (is_course_code x) (plain_words xs) p) h in (rest.0, both_are (is_course_code x) (plain_words (xs ++ code ∷ argument ∷ [])) (both_left (is_course_code x) (plain_words xs) p) rest.1)
+plain_join (x ∷ y ∷ xs) code argument e p h = let rest = plain_join xs code argument e (both_right (is_course_code x) (plain_words xs) p) h in (rest.0, both_true (is_course_code x) (plain_words (xs ++ code ∷ argument ∷ [])) (both_first (is_course_code x) (plain_words xs) p) rest.1)
 
 with_none : (xs : List ℕ) → ArePlain xs → ArePlain (xs ++ [])
 with_none xs h = subst ArePlain (sym (append-nil xs)) h
@@ -99,7 +98,7 @@ is_sent _ = false
 
 sent_plain : (t : Track) (w : Want) (front code argument : ℕ) → is_plain_want w ≡ true → IsWanted t w (call.Sent front code argument) → is_course_code code ≡ true
 unfolding is_sent
-sent_plain t (want.Send sending) front code argument plain made = ap is_course_code (eqb-true code (code_of sending) (both_left (code == code_of sending) _ made)) ∙ code_plain sending plain
+sent_plain t (want.Send sending) front code argument plain made = ap is_course_code (eqb-true code (code_of sending) (both_first (code == code_of sending) _ made)) ∙ code_plain sending plain
 sent_plain t want.Settled front code argument plain made = no made
 sent_plain t want.Drained front code argument plain made = no made
 sent_plain t want.Flush front code argument plain made = no made
@@ -108,7 +107,7 @@ sent_plain t (want.Write count) front code argument plain made = no made
 sent_plain t want.Clear front code argument plain made = no made
 sent_plain t (want.Poke in_command word value) front code argument plain made = no (sym (ap is_sent made))
 sent_plain t want.Rest front code argument plain made = absurd made
-sent_plain t want.Leave front code argument plain made = ap is_course_code (eqb-true code (code_of command.Remove) (both_left (code == code_of command.Remove) _ made))
+sent_plain t want.Leave front code argument plain made = ap is_course_code (eqb-true code (code_of command.Remove) (both_first (code == code_of command.Remove) _ made))
 
 call_plain : (t : Track) (w : Want) (answer : ClientCall) → is_plain_want w ≡ true → IsWanted t w answer → ArePlain t.commands.released → ArePlain (after_call t answer).commands.released
 call_plain t w (call.Put front count) plain made h = h
@@ -169,7 +168,7 @@ either_in false s t h g = g
 
 -- the words of a look, and of those after it
 look_words : (b : Bool) (code argument : ℕ) (words : List ℕ) → plain_words ((if b then code ∷ argument ∷ [] else []) ++ words) ≡ true → (b ≡ true → is_course_code code ≡ true) × (plain_words words ≡ true)
-look_words true code argument words h = ((λ e. both_left (is_course_code code) (plain_words words) h), both_right (is_course_code code) (plain_words words) h)
+look_words true code argument words h = ((λ e. both_first (is_course_code code) (plain_words words) h), both_right (is_course_code code) (plain_words words) h)
 look_words false code argument words h = ((λ e. no e), h)
 
 look_in : (given : Option ℕ) (flush_seen : ℕ) (look : CommandLook) (s : TrackKept) → (shows_command look.seen ≡ true → is_course_code look.code ≡ true) → InPlay s.life → InPlay (after_look given flush_seen look s).life
@@ -215,8 +214,3 @@ reported_in known l (stops_on drained retries stop_at) two = inr (by (nat_le sto
 
 pub stays_in : (known : Known) (l : Life) → known.shut ≡ false → InPlay l → 2 ≤ l.retries → ((by_report known l).ended ≡ true) ⊎ (plays (by_report known l) ≡ true)
 stays_in known l unshut h two = subst (λ (b : Bool). ((by_report (record known { shut = b }) l).ended ≡ true) ⊎ (plays (by_report (record known { shut = b }) l) ≡ true)) (sym unshut) (reported_in known l h two)
-
--- a report that hears that its stream is shut ends the life
-pub ends_shut : (known : Known) (l : Life) → known.shut ≡ true → (by_report known l).ended ≡ true
-unfolding by_report
-ends_shut known l shut = ap (λ (b : Bool). (by_report (record known { shut = b }) l).ended) shut

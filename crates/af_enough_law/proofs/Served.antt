@@ -4,10 +4,11 @@ use Rattle.std.specs.Prelude.{slice_set}
 use Rattle.std.proofs.lemmas.List.{length-set}
 use Rattle.std.proofs.lemmas.Grind.{get_or-set_at}
 use Rattle.std.proofs.lemmas.Bool.{cases_eq}
-use Rattle.af_base.specs.declared.state.Push.{Push}
-use Rattle.af_base.specs.declared.state.Push.TheVariants.{Pushed, Clean, Busy}
+use Rattle.af_base.proofs.Basics.{by_test}
 use Rattle.af_base.specs.declared.turn.CommandLook.{CommandLook}
 use Rattle.af_base.specs.Turn.{Turn, TakeSeen, TrackSeen}
+use Rattle.af_judge.proofs.Basics.{push_tracks}
+use Rattle.af_life.proofs.Basics.{at_here, at_other, welcomed_at}
 use Rattle.af_life.specs.declared.kept.TrackKept.{TrackKept}
 use Rattle.af_life.specs.Edits.{after_ack, must_leave, must_enter, let_go, lend, edited, edited_to, ordered, mutated, after_push, entered, lent_by}
 use Rattle.af_life.specs.Kept.{Setup, asked as buffer, NormalKept, Learnt, track_at, new_track, seen_at, track_in}
@@ -18,8 +19,6 @@ use Rattle.af_life.specs.Serves.{served, served_to}
 use Rattle.af_life.specs.Turn.{after_tracks, after_edits, turn_after}
 use Rattle.af_life.specs.TurnEvents.{tracks_at}
 use Rattle.af_life.proofs.Lives.{acked_len, served_len, edits_len, not_yet}
-use Rattle.af_judge.proofs.SoundEdits.{at_here, at_other}
-use Rattle.af_judge.proofs.SoundTurns.{welcomed_at}
 use Rattle.af_enough_law.specs.TrackTurns.{greeted, attended, Edited, stays, leaves, enters, own_after, TrackTurned}
 
 -- ## The acknowledgement and the part of the track
@@ -43,10 +42,6 @@ then_on c k turns tracks (suc n) i lt le = elim (cases_eq i n) as (λ x. track_a
 ]
 
 -- ## The edits
-
-by_test : {A : Type 0} (P : A → Type 0) (b : Bool) (x y : A) → (b ≡ true → P x) → (b ≡ false → P y) → P (if b then x else y)
-by_test P true x y f g = f refl
-by_test P false x y f g = g refl
 
 -- what the edit of its own number makes of a track
 edited_here : (c : Setup) (k : Learnt) (i : ℕ) (m : NormalKept) → i < length m.tracks → Edited (k.own i) (track_at m.tracks i) (track_at (edited c k i m).tracks i)
@@ -88,11 +83,6 @@ pub ordered_tracks : (c : Setup) (k : Learnt) (room : ℕ) (m : NormalKept) → 
 unfolding mutated ordered
 ordered_tracks c k room m = by_test (λ (n : NormalKept). n.tracks ≡ (edited_to c k m (length m.tracks)).tracks) _ _ _ (λ e. refl) (λ e. refl)
 
-pub pushed_tracks : (push : Push) (m : NormalKept) → (after_push push m).tracks ≡ m.tracks
-pushed_tracks (Pushed number) m = refl
-pushed_tracks Clean m = refl
-pushed_tracks (Busy seen expected) m = refl
-
 -- ## The looks of the mix
 
 own_here : (asked : ℕ) (tracks : List TrackKept) (take : TakeSeen) (i : ℕ) → i < length tracks
@@ -127,7 +117,7 @@ track_turned c k m e i lt runs =
     let served_m : NormalKept = after_tracks c k e (after_ack e.ack m) in
     let long : length served_m.tracks ≡ length m.tracks = served_len c k e.tracks (after_ack e.ack m).tracks (length (after_ack e.ack m).tracks) ∙ acked_len e.ack m in
     let there : length (edited_to c k served_m (length served_m.tracks)).tracks ≡ length m.tracks = edits_len c k served_m (length served_m.tracks) ∙ long in
-    let pushed : (after_push e.push (after_edits c k e m)).tracks ≡ (edited_to c k served_m (length served_m.tracks)).tracks = pushed_tracks e.push (after_edits c k e m) ∙ ordered_tracks c k e.room served_m in
+    let pushed : (after_push e.push (after_edits c k e m)).tracks ≡ (edited_to c k served_m (length served_m.tracks)).tracks = push_tracks e.push (after_edits c k e m) ∙ ordered_tracks c k e.room served_m in
     let same : length (after_push e.push (after_edits c k e m)).tracks ≡ length (edited_to c k served_m (length served_m.tracks)).tracks = ap (λ (xs : List TrackKept). length xs) pushed in
     record {
       given = slot_for c (tracks_at c k m e i) i;

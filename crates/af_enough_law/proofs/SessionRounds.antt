@@ -1,6 +1,7 @@
 -- What is carried of the whole session holds before the first round and after each legal round that leaves some track a life.
 use Rattle.std.proofs.Common.{◌≡◌, ◌⊎◌, inl, inr, ℕ, zero, suc, ◌+◌, ◌≤◌, ◌<◌, ◌==◌, ◌&&◌, ◌||◌, not, if◌then◌else◌, Bool, true, false, true≢false, All, List, [], ◌∷◌, ◌++◌, length, length-append, refl, sym, ap, ◌∙◌, subst, arith}
 use Rattle.std.specs.List.{list_any}
+use Rattle.af_base.proofs.Basics.{true_or_false}
 use Rattle.af_base.specs.declared.state.Command.{Command}
 use Rattle.af_base.specs.declared.state.Command.TheVariants.{ColdIdle, Exit, MixWrite}
 use Rattle.af_base.specs.declared.state.Push.{Push}
@@ -70,13 +71,9 @@ draft_on c k m e runs going over =
     let tracks : List TrackKept = (turn_after c k m e).tracks in
     ap (λ (n : ℕ). n == code_of Exit) (command_turned c k m e runs) ∙ goes_by (is_exit m.draft) (is_over tracks) (list_any (λ (s : TrackKept). plays s.life) tracks) (e.room == pipe_size c) going over
 
-busy_or_not : (b : Bool) → (b ≡ true) ⊎ (b ≡ false)
-busy_or_not true = inl refl
-busy_or_not false = inr refl
-
 -- while the draft is no Exit the last state is none
 last_on : (m after : NormalKept) (push : Push) → PushMade m after push → is_exit m.last ≡ false → is_exit after.draft ≡ false → is_exit after.last ≡ false
-last_on m after push made last draft = by (busy_or_not (is_busy push))
+last_on m after push made last draft = by (true_or_false (is_busy push))
   where
     by : (is_busy push ≡ true) ⊎ (is_busy push ≡ false) → is_exit after.last ≡ false
     by (inl busy) = ap is_exit (made.busy busy).3 ∙ last

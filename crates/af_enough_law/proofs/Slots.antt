@@ -1,8 +1,10 @@
 -- The slot of a track that was opened stays.
 use Rattle.std.proofs.Common.{◌≡◌, ◌⊎◌, inl, inr, ℕ, ◌<◌, ◌==◌, ◌&&◌, not, if◌then◌else◌, is_some, Bool, true, false, true≢false, Option, None, List, [], ◌∷◌, length, refl, sym, ap, ◌∙◌, subst}
 use Rattle.std.specs.List.{AllByRecursion}
+use Rattle.af_base.proofs.Basics.{and_none}
 use Rattle.af_base.specs.declared.turn.CommandLook.{CommandLook}
 use Rattle.af_base.specs.Turn.{Turn}
+use Rattle.af_life.proofs.Basics.{ready_life}
 use Rattle.af_life.specs.declared.kept.TrackKept.{TrackKept}
 use Rattle.af_life.specs.declared.state.LifeState.TheVariants.{Absent}
 use Rattle.af_life.specs.declared.track.Life.{Life}
@@ -16,7 +18,6 @@ use Rattle.af_life.specs.Turn.{turn_after}
 use Rattle.af_life.specs.TurnEvents.{tracks_at}
 use Rattle.af_enough_law.specs.Courses.{Course, absent, idle, playing, stopping, drained, stopped, over}
 use Rattle.af_enough_law.specs.TrackTurns.{attended, TrackTurned}
-use Rattle.af_enough_law.proofs.Able.{ready_life}
 use Rattle.af_enough_law.proofs.Following.{greeted_in, greeted_alike, edited_alike, noted_alike}
 use Rattle.af_enough_law.proofs.Served.{track_turned}
 
@@ -25,10 +26,6 @@ use Rattle.af_enough_law.proofs.Served.{track_turned}
 -- an OPEN does nothing any more
 abbrev pub IsOpened : Life → Type 0
 IsOpened l = (not l.ended && is_among (Absent ∷ []) l.state) ≡ false
-
-and_none : (b d : Bool) → d ≡ false → (b && d) ≡ false
-and_none true d e = e
-and_none false d e = refl
 
 either_opened : (b : Bool) (x y : Life) → IsOpened x → IsOpened y → IsOpened (if b then x else y)
 either_opened true x y h g = h

@@ -1,7 +1,11 @@
 -- After the first four rounds of a run of a script whose tracks play through, the session is carried, and each track is started.
 use Rattle.std.proofs.Common.{◌≡◌, ◌⊎◌, inl, inr, ℕ, ◌+◌, ◌*◌, ◌%◌, ◌≤◌, ◌<◌, if◌then◌else◌, MatchBool, Bool, true, false, All, Some, None, List, [], ◌∷◌, length, sym, ap, ◌∙◌, subst, arith}
+use Rattle.af_base.proofs.Basics.{few_or_two, true_or_false}
 use Rattle.af_base.specs.declared.frame.Frame.{Frame}
 use Rattle.af_base.specs.Log.{slots}
+use Rattle.af_enough_law.proofs.Basics.{course_long}
+use Rattle.af_judge.proofs.Basics.{new_at}
+use Rattle.af_life.proofs.Basics.{at_new}
 use Rattle.af_life.specs.declared.kept.Holder.TheVariants.{Home, Lent}
 use Rattle.af_life.specs.declared.kept.Setting.{Setting}
 use Rattle.af_life.specs.declared.kept.TrackKept.{TrackKept}
@@ -13,7 +17,6 @@ use Rattle.af_model.specs.Journals.{RoundSeen}
 use Rattle.af_script.specs.Data.{ScriptData}
 use Rattle.af_script.specs.Form.{IsScript}
 use Rattle.af_script.specs.declared.op.Op.{Op}
-use Rattle.af_judge.proofs.SoundTurns.{at_new}
 use Rattle.af_judge.proofs.StatesRuns.{scales_of}
 use Rattle.af_runs.specs.Blocks.{Marks, client_list, server_list}
 use Rattle.af_runs.specs.Clients.{Client, begun, settled_in}
@@ -40,16 +43,15 @@ use Rattle.af_enough_law.proofs.EndRounds.{order_round}
 use Rattle.af_enough_law.proofs.FirstCalls.{first_of, first_turn}
 use Rattle.af_enough_law.proofs.HomeRounds.{IsNamed, slotless_carried}
 use Rattle.af_enough_law.proofs.LeftEarly.{named_by, lent_heard, left_silent}
-use Rattle.af_enough_law.proofs.LeftGoes.{course_long}
 use Rattle.af_enough_law.proofs.LookedLives.{course_unstopped}
 use Rattle.af_enough_law.proofs.RipeRounds.{IsRipe, new_ripe, round_ripe}
 use Rattle.af_enough_law.proofs.RoamingCalls.{Roams, IsRoaming, opening as opens_first}
-use Rattle.af_enough_law.proofs.RunBegins.{Plays, track_plays, new_at}
+use Rattle.af_enough_law.proofs.RunBegins.{Plays, track_plays}
 use Rattle.af_enough_law.proofs.SessionRounds.{turn_of, turn_runs, push_of, session_carried}
 use Rattle.af_enough_law.proofs.SentPlain.{even_words}
 use Rattle.af_enough_law.proofs.Slots.{slotless_stays}
 use Rattle.af_enough_law.proofs.StartLent.{retries_round, lent_two}
-use Rattle.af_enough_law.proofs.StartRun.{started_on, from_home, lent_or_not, bool_cases, few_or_two, slot_or_none}
+use Rattle.af_enough_law.proofs.StartRun.{started_on, from_home, lent_or_not, slot_or_none}
 use Rattle.af_enough_law.proofs.StartTracks.{numbers, stays_or_lent, home_gone, home_fair, home_knows, home_stopped}
 use Rattle.af_enough_law.proofs.TrackCarried.{TrackCarried, TrackGone}
 
@@ -286,7 +288,7 @@ module _ (script : ScriptData) (files : List (List Frame)) (marks : Marks) (form
 
     -- a track that the first turn lends already: its push isn't busy
     lent_track : (track_at one.normal.tracks i).holder ≡ Lent → Starts four
-    lent_track lents = by (bool_cases (is_busy t.turn.push)) (lent_or_not (track_at two.normal.tracks i).holder)
+    lent_track lents = by (true_or_false (is_busy t.turn.push)) (lent_or_not (track_at two.normal.tracks i).holder)
       where
         by : (is_busy t.turn.push ≡ true) ⊎ (is_busy t.turn.push ≡ false) → ((track_at two.normal.tracks i).holder ≡ Lent) ⊎ (is_lent (track_at two.normal.tracks i).holder ≡ false) → Starts four
         by (inl busy) two_is = let some = ((push_of s marks scales long run r.first r.legal.0 begins).busy busy).1 in absurd (let z : ⊥ = omega (arith, some) in z)
@@ -302,7 +304,7 @@ module _ (script : ScriptData) (files : List (List Frame)) (marks : Marks) (form
 
     -- Each track is started
     pub start_track : Starts four
-    start_track = by (bool_cases (setting_of (setup_of s) i).fast) (stays_or_lent s marks scales long i named (lawful i named) run r.first r.legal.0 begins most total track few home)
+    start_track = by (true_or_false (setting_of (setup_of s) i).fast) (stays_or_lent s marks scales long i named (lawful i named) run r.first r.legal.0 begins most total track few home)
       where
         by : ((setting_of (setup_of s) i).fast ≡ true) ⊎ ((setting_of (setup_of s) i).fast ≡ false) → ((track_at one.normal.tracks i).holder ≡ Home) ⊎ ((track_at one.normal.tracks i).holder ≡ Lent) → Starts four
         by (inr slow) place = slow_track slow

@@ -1,5 +1,7 @@
 -- What a round leaves of a track whose START was settled before it: it starts to flow, or is on its way out, and has what makes its retries two at least.
 use Rattle.std.proofs.Common.{◌≡◌, ◌⊎◌, inl, inr, ℕ, ◌+◌, ◌≤◌, ◌<◌, Bool, true, false, true≢false, All, None, List, length, refl, sym, ap, ◌∙◌, arith}
+use Rattle.af_enough_law.proofs.Basics.{course_long}
+use Rattle.af_judge.proofs.Basics.{ends_part}
 use Rattle.af_life.specs.declared.kept.Setting.{Setting}
 use Rattle.af_life.specs.declared.track.Life.{Life}
 use Rattle.af_life.specs.Kept.{track_at, plays, is_lent}
@@ -15,8 +17,6 @@ use Rattle.af_enough_law.specs.NormalRounds.{TurnMade}
 use Rattle.af_enough_law.specs.Playing.{way_ops, way_frames}
 use Rattle.af_enough_law.proofs.Carrying.{TrackIs, slotless, lent, stopped, gone_over, lent_is}
 use Rattle.af_enough_law.proofs.CourseGoes.{CourseGone}
-use Rattle.af_enough_law.proofs.CourseRounds.{course_long}
-use Rattle.af_enough_law.proofs.FastRounds.{ends_part}
 use Rattle.af_enough_law.proofs.HomeKept.{home_fresh}
 use Rattle.af_enough_law.proofs.HomeStill.{HasNone}
 use Rattle.af_enough_law.proofs.LeftGoes.{left_gone}

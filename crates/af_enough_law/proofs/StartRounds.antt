@@ -4,6 +4,7 @@ use Rattle.af_base.specs.declared.report.SlotReport.{SlotReport}
 use Rattle.af_base.specs.declared.state.FastTrack.{FastTrack}
 use Rattle.af_base.specs.Log.{slots}
 use Rattle.af_base.specs.Turn.{Turn}
+use Rattle.af_enough_law.proofs.Basics.{stays_home}
 use Rattle.af_life.specs.declared.kept.Heard.{Heard}
 use Rattle.af_life.specs.declared.kept.Holder.TheVariants.{Lent}
 use Rattle.af_life.specs.declared.kept.Setting.{Setting}
@@ -27,7 +28,6 @@ use Rattle.af_enough_law.specs.NormalRounds.{TurnMade}
 use Rattle.af_enough_law.proofs.AdoptRounds.{away_heard}
 use Rattle.af_enough_law.proofs.AwayKeeps.{StaysOpen, away_turn, looks_open}
 use Rattle.af_enough_law.proofs.AwayRounds.{AwayTurn}
-use Rattle.af_enough_law.proofs.Ends.{greeted_home}
 use Rattle.af_enough_law.proofs.EntryCounts.{found_within}
 use Rattle.af_enough_law.proofs.FastRounds.{over, calls_length, cycles_length}
 use Rattle.af_enough_law.proofs.Following.{greeted_in, greeted_alike}
@@ -170,7 +170,7 @@ module _ (s : Session) (marks : Marks) (scales : All (λ (x : Setting). x.scale 
 
     module _ (home : is_home (track_at run.normal.tracks i).holder ≡ true) where
       greeted : is_home g.holder ≡ true
-      greeted = greeted_home t.turn.ack run.normal.last (track_at run.normal.tracks i) home
+      greeted = stays_home t.turn.ack run.normal.last (track_at run.normal.tracks i) home
 
       unshut : (heard (learnt t.by.outside) i g).known.shut ≡ false
       unshut = home_unshut false s marks run round i numbers.low legal seen t quiet greeted

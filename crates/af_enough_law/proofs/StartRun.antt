@@ -1,6 +1,8 @@
 -- What a track is after the first four rounds of a run.
-use Rattle.std.proofs.Common.{◌≡◌, ◌⊎◌, inl, inr, ℕ, zero, suc, ◌≤◌, ◌<◌, Bool, true, false, All, Option, Some, None, length, refl, ap, arith}
+use Rattle.std.proofs.Common.{◌≡◌, ◌⊎◌, inl, inr, ℕ, ◌≤◌, ◌<◌, true, false, All, Option, Some, None, length, refl, ap, arith}
+use Rattle.af_base.proofs.Basics.{true_or_false}
 use Rattle.af_base.specs.Log.{slots}
+use Rattle.af_enough_law.proofs.Basics.{not_over}
 use Rattle.af_life.specs.declared.kept.Holder.{Holder}
 use Rattle.af_life.specs.declared.kept.Holder.TheVariants.{Home, Lent, Returning}
 use Rattle.af_life.specs.declared.kept.Setting.{Setting}
@@ -22,7 +24,6 @@ use Rattle.af_enough_law.proofs.EarlyRounds.{Spoken, spoken_of, Unsettled, spoke
 use Rattle.af_enough_law.proofs.EarlyCalls.{no_stop}
 use Rattle.af_enough_law.proofs.HomeRounds.{IsNamed}
 use Rattle.af_enough_law.proofs.LeftEarly.{named_by, many_then, lent_heard, still_heard, left_silent, left_back}
-use Rattle.af_enough_law.proofs.LeftRounds.{some_away}
 use Rattle.af_enough_law.proofs.LookedLives.{IsDrained, Emptied, empty_life, Unstopped, course_unstopped}
 use Rattle.af_enough_law.proofs.RipeRounds.{IsRipe}
 use Rattle.af_enough_law.proofs.RoamingCalls.{IsRoaming}
@@ -32,11 +33,6 @@ use Rattle.af_enough_law.proofs.StartLent.{retries_round, lent_two, lent_three, 
 use Rattle.af_enough_law.proofs.StartTracks.{numbers, stays_or_lent, home_gone, home_stopped}
 use Rattle.af_enough_law.proofs.TakenRounds.{all_sent}
 use Rattle.af_enough_law.proofs.TrackCarried.{TrackCarried, TrackGone}
-
--- whether the next push of a mixer that has pushed nothing may be busy
-first_free : (b : Bool) → (b ≡ true → ⊥) → b ≡ false
-first_free true never = absurd (never refl)
-first_free false never = refl
 
 -- a life that took fewer than two commands hasn't ended
 pub few_lives : (count told : ℕ) {l : _} → Course count told l → told ≤ 1 → l.ended ≡ false
@@ -48,19 +44,10 @@ few_lives count told (drained retries) few = absurd (let z : ⊥ = omega (arith,
 few_lives count told (is_stopped retries) few = absurd (let z : ⊥ = omega (arith, few) in z)
 few_lives count told (over life e) few = absurd (let z : ⊥ = omega (arith, few) in z)
 
-pub few_or_two : (n : ℕ) → (n ≤ 1) ⊎ (2 ≤ n)
-few_or_two zero = inl (omega arith)
-few_or_two (suc zero) = inl (omega arith)
-few_or_two (suc (suc n)) = inr (omega arith)
-
 pub lent_or_not : (h : Holder) → (h ≡ Lent) ⊎ (is_lent h ≡ false)
 lent_or_not Home = inr refl
 lent_or_not Lent = inl refl
 lent_or_not Returning = inr refl
-
-pub bool_cases : (b : Bool) → (b ≡ true) ⊎ (b ≡ false)
-bool_cases true = inl refl
-bool_cases false = inr refl
 
 pub slot_or_none : (o : Option ℕ) → (o ≡ None) ⊎ ((n : ℕ) × (o ≡ Some n))
 slot_or_none None = inl refl
@@ -158,7 +145,7 @@ module _ (s : Session) (marks : Marks) (scales : All (λ (x : Setting). x.scale 
 
             -- if the fourth round takes the proxy back, the life has ended, or was drained
             left_four : is_busy t.turn.push ≡ true → (track_at three_run.normal.tracks i).holder ≡ Lent → is_lent (track_at four_run.normal.tracks i).holder ≡ false → TrackIs s four_run i most total
-            left_four busy lents_three gone = by (played_then false s marks (after_round s run second) third i t_three legal_third named_two goes_three spoken_two (plays_alive (track_at (after_round s run second).normal.tracks i).life heard_two) play_two (still_heard s marks scales long (after_round s run second) third legal_third c_two.stands i named lents lents_three)) (bool_cases (track_at four_run.normal.tracks i).life.ended)
+            left_four busy lents_three gone = by (played_then false s marks (after_round s run second) third i t_three legal_third named_two goes_three spoken_two (plays_alive (track_at (after_round s run second).normal.tracks i).life heard_two) play_two (still_heard s marks scales long (after_round s run second) third legal_third c_two.stands i named lents lents_three)) (true_or_false (track_at four_run.normal.tracks i).life.ended)
               where
                 spoken_three : Spoken three_run i
                 spoken_three = spoken_then false s marks (after_round s run second) third i t_three legal_third named_two goes_three spoken_two
@@ -184,7 +171,7 @@ module _ (s : Session) (marks : Marks) (scales : All (λ (x : Setting). x.scale 
                     away_four = ap is_home (left_back s marks scales long three_run fourth legal_fourth c_three.stands i named lents_three gone)
 
                     c_four : SessionCarried s four_run
-                    c_four = session_carried s marks scales long three_run fourth legal_fourth c_three.stands (some_away four_run.normal.tracks i (many_then s marks scales long three_run fourth legal_fourth c_three.stands i named) away_four)
+                    c_four = session_carried s marks scales long three_run fourth legal_fourth c_three.stands (not_over four_run.normal.tracks i (many_then s marks scales long three_run fourth legal_fourth c_three.stands i named) away_four)
 
                     five_then : plays (track_at (after_round s four_run fifth).normal.tracks i).life ≡ false
                     five_then = (emptied_then false s marks four_run fifth i (turn_of s marks scales long four_run fifth legal_fifth c_four.stands) legal_fifth (named_by s marks scales long four_run fifth legal_fifth c_four.stands i named lawful) (turn_runs s marks scales long four_run fifth legal_fifth c_four.stands)
@@ -194,7 +181,7 @@ module _ (s : Session) (marks : Marks) (scales : All (λ (x : Setting). x.scale 
                     has_stopped = left_three_is s marks scales long i named lawful run second legal c.stands most total track home ripe (omega (arith, some)) lents third legal_third c c_two fourth legal_fourth c_three busy lents_three gone c_four fifth legal_fifth five_then (let a = some_three in omega (arith, retries_round s marks scales long three_run fourth legal_fourth c_three.stands i 6 named (omega arith) some_three)) four_then.1 alive four_then.0
 
           lent_then : (track_at (after_round s run second).normal.tracks i).holder ≡ Lent → TrackIs s four_run i most total
-          lent_then lents = by (bool_cases (is_busy t.turn.push)) (lent_or_not (track_at three_run.normal.tracks i).holder)
+          lent_then lents = by (true_or_false (is_busy t.turn.push)) (lent_or_not (track_at three_run.normal.tracks i).holder)
             where
               by_four : is_busy t.turn.push ≡ true → (track_at three_run.normal.tracks i).holder ≡ Lent → ((track_at four_run.normal.tracks i).holder ≡ Lent) ⊎ (is_lent (track_at four_run.normal.tracks i).holder ≡ false) → TrackIs s four_run i most total
               by_four busy lents_three (inl lents_four) =

@@ -1,6 +1,7 @@
 -- A track mixed by the normal mixer has sent its START after one round, and after one more it is settled.
 use Rattle.std.proofs.Common.{◌≡◌, ◌⊎◌, inl, inr, ℕ, ◌*◌, ◌≤◌, ◌<◌, Bool, true, false, All, None, List, [], ◌∷◌, length, fold, refl, ap, ◌∙◌, arith}
 use Rattle.af_base.specs.declared.event.ClientCall.{ClientCall}
+use Rattle.af_enough_law.proofs.Basics.{course_long}
 use Rattle.af_life.specs.declared.kept.Setting.{Setting}
 use Rattle.af_life.specs.Kept.{track_at}
 use Rattle.af_model.specs.Journals.{RoundSeen}
@@ -20,7 +21,6 @@ use Rattle.af_enough_law.specs.Playing.{AreFair, Doing, opening, starting, settl
 use Rattle.af_enough_law.proofs.CalmTracks.{round_released}
 use Rattle.af_enough_law.proofs.Carrying.{TrackIs, slotless, lent, stopped, gone_over, track_on}
 use Rattle.af_enough_law.proofs.CommandsGo.{commands_of}
-use Rattle.af_enough_law.proofs.CourseRounds.{course_long}
 use Rattle.af_enough_law.proofs.Doing.{at, codes_sent}
 use Rattle.af_enough_law.proofs.FairTurns.{codes_long}
 use Rattle.af_enough_law.proofs.FirstCalls.{released_on, first_turn, second_turn}

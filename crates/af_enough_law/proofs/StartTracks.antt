@@ -1,6 +1,7 @@
 -- A track in its first four rounds: it is home, then lent, and carried as one that flows in the fourth at the latest; or it stays home without a slot.
-use Rattle.std.proofs.Common.{◌≡◌, ◌⊎◌, inl, inr, ℕ, zero, suc, ◌≤◌, ◌<◌, ◌==◌, ◌&&◌, if◌then◌else◌, is_some, Bool, true, false, true≢false, All, Some, length, refl, sym, ap, ◌∙◌, subst, arith}
+use Rattle.std.proofs.Common.{◌≡◌, ◌⊎◌, inl, inr, ℕ, ◌≤◌, ◌<◌, ◌&&◌, if◌then◌else◌, is_some, Bool, true, false, true≢false, All, Some, length, refl, sym, ap, ◌∙◌, subst, arith}
 use Rattle.af_base.specs.declared.state.FastTrack.{FastTrack}
+use Rattle.af_enough_law.proofs.Basics.{stays_home}
 use Rattle.af_life.specs.declared.kept.Holder.{Holder}
 use Rattle.af_life.specs.declared.kept.Holder.TheVariants.{Home, Lent}
 use Rattle.af_life.specs.declared.kept.Setting.{Setting}
@@ -26,7 +27,6 @@ use Rattle.af_enough_law.proofs.Carrying.{TrackIs, stopped}
 use Rattle.af_enough_law.proofs.CommandsGo.{commands_of}
 use Rattle.af_enough_law.proofs.Drafts.{holder_turned}
 use Rattle.af_enough_law.proofs.EndRounds.{order_round}
-use Rattle.af_enough_law.proofs.Ends.{greeted_home}
 use Rattle.af_enough_law.proofs.Following.{greeted_in}
 use Rattle.af_enough_law.proofs.Foreseen.{part_seen, home_unshut}
 use Rattle.af_enough_law.proofs.HomeRounds.{IsNamed, keeps_of, home_part, home_carried}
@@ -44,10 +44,6 @@ home_or_lent heard slot h is = by (slot && heard) is
     by : (b : Bool) → h ≡ (if b then Lent else Home) → (h ≡ Home) ⊎ (h ≡ Lent)
     by true e = inr e
     by false e = inl e
-
-some_not : (n : ℕ) → 1 ≤ n → (n == 0) ≡ false
-some_not zero some = absurd (let z : ⊥ = omega (arith, some) in z)
-some_not (suc n) some = search arith
 
 -- a track that has a slot and is home isn't to be heard
 home_silent : (heard slot : Bool) → Home ≡ next_holder heard slot Home → slot ≡ true → heard ≡ false
@@ -86,7 +82,7 @@ module _ (s : Session) (marks : Marks) (scales : All (λ (x : Setting). x.scale 
         subst (λ (m : NormalKept). (track_at m.tracks i).holder ≡ next_holder (plays (track_at m.tracks i).life) (is_some (track_at m.tracks i).slot) Home) (sym t.after)
         (holder_turned (setup_of s) (learnt t.by.outside) run.normal t.turn i numbers.there goes
         ∙ ap (next_holder (plays (track_at (turn_after (setup_of s) (learnt t.by.outside) run.normal t.turn).tracks i).life) (is_some (track_at (turn_after (setup_of s) (learnt t.by.outside) run.normal t.turn).tracks i).slot))
-        (home_is (greeted_in run.normal t.turn i).holder (greeted_home t.turn.ack run.normal.last (track_at run.normal.tracks i) home)))
+        (home_is (greeted_in run.normal t.turn i).holder (stays_home t.turn.ack run.normal.last (track_at run.normal.tracks i) home)))
 
     -- the proxy is home or lent after the round
     pub stays_or_lent : ((track_at after.normal.tracks i).holder ≡ Home) ⊎ ((track_at after.normal.tracks i).holder ≡ Lent)
@@ -105,7 +101,7 @@ module _ (s : Session) (marks : Marks) (scales : All (λ (x : Setting). x.scale 
       home_fair =
           let part = home_part s run round i (ap is_home stays) in
           let seen = part_seen false s marks run round t i numbers.low named legal (keeps_of run i track.known_stream track.known_commands track.calm) part in
-          let greeted = greeted_home t.turn.ack run.normal.last (track_at run.normal.tracks i) home in
+          let greeted = stays_home t.turn.ack run.normal.last (track_at run.normal.tracks i) home in
           fair false s marks run round i most total t legal (record {
             low = numbers.low;
             named = named;

@@ -1,6 +1,7 @@
 -- A client whose START was seen to be settled stays past its start in each fair turn.
 use Rattle.std.proofs.Common.{◌≤◌, ◌&&◌, ◌++◌, not, nat_le, ◌≡◌, ◌⊎◌, inl, inr, ℕ, zero, suc, ◌-◌, ◌==◌, ◌||◌, Bool, true, false, true≢false, Some, None, List, [], ◌∷◌, length, fold, refl, sym, ap, ◌∙◌, subst, arith, if◌then◌else◌}
 use Rattle.std.proofs.lemmas.List.{append-nil}
+use Rattle.af_base.proofs.Basics.{some_same}
 use Rattle.af_base.specs.declared.event.ClientCall.{ClientCall}
 use Rattle.af_base.specs.declared.event.ClientCall.TheVariants as call
 use Rattle.af_script.specs.declared.op.Op.{Op}
@@ -15,7 +16,7 @@ use Rattle.af_runs.specs.ClientTurns.{Track, IsMade, with_call, commands_sent, w
 use Rattle.af_enough_law.specs.Playing.{IsWay, Doing, opening, starting, settling, setting, writing, clearing, clearing_more, stopping, draining, removing, IsFair, AreFair}
 use Rattle.af_enough_law.specs.Nearing.{is_started, IsPast}
 use Rattle.af_enough_law.proofs.Doing.{at, waiting_at, sent_of, next_op, sent_is, status_is, write_is, clear_is}
-use Rattle.af_enough_law.proofs.Turning.{words_of, spoken_after, wanted_first, some_same, none_some, none_waiting, none_ended, client_after, next_ended, next_cut, rested_at, begins_rested}
+use Rattle.af_enough_law.proofs.Turning.{words_of, spoken_after, wanted_first, none_some, none_waiting, none_ended, client_after, next_ended, next_cut, rested_at, begins_rested}
 
 -- a client within a turn that is past its start: it goes on, it waits, or it has ended
 data Past (c : Client) : Type 0 where

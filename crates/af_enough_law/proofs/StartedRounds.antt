@@ -3,6 +3,7 @@ use Rattle.std.proofs.Common.{◌≡◌, inl, ℕ, ◌+◌, ◌*◌, ◌%◌, �
 use Rattle.af_base.specs.declared.event.ClientCall.{ClientCall}
 use Rattle.af_base.specs.declared.event.ClientCall.TheVariants as call
 use Rattle.af_base.specs.declared.event.ServerEvent.{ServerEvent}
+use Rattle.af_judge.proofs.Basics.{begins_ended}
 use Rattle.af_life.specs.declared.kept.TrackKept.{TrackKept}
 use Rattle.af_life.specs.Kept.{track_at}
 use Rattle.af_life.specs.Serves.{state_code, status_word}
@@ -27,7 +28,7 @@ use Rattle.af_enough_law.proofs.FairTurns.{codes_long}
 use Rattle.af_enough_law.proofs.Started.{turn_past, turn_starts}
 use Rattle.af_enough_law.proofs.StatusSaid.{look_says}
 use Rattle.af_enough_law.proofs.TakesAll.{CommandsMet}
-use Rattle.af_enough_law.proofs.Turning.{Stands, on, gone_for_good, begins_ended, next_ended, turn_whole}
+use Rattle.af_enough_law.proofs.Turning.{Stands, on, gone_for_good, next_ended, turn_whole}
 
 -- the status word says how many commands are settled, if they are few
 settled_least : (s : TrackKept) → s.settled ≤ 4 → s.settled ≤ settled_in (status_word false s)

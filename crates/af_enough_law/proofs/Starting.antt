@@ -1,6 +1,7 @@
 -- What holds after each of the first rounds, while not all is over.
 use Rattle.std.proofs.Common.{◌≡◌, ◌⊎◌, inl, inr, ℕ, ◌+◌, ◌≤◌, ◌<◌, Bool, true, false, All, List, length, refl, ap, arith}
 use Rattle.af_base.specs.declared.frame.Frame.{Frame}
+use Rattle.af_life.proofs.Basics.{at_new}
 use Rattle.af_life.specs.declared.kept.Setting.{Setting}
 use Rattle.af_life.specs.declared.kept.TrackKept.{TrackKept}
 use Rattle.af_life.specs.Edits.{is_over}
@@ -13,7 +14,6 @@ use Rattle.af_runs.specs.LegalRuns.{session_of}
 use Rattle.af_runs.specs.Rounds.{LegalRound, after_round}
 use Rattle.af_runs.specs.Runs.{Run, new_run}
 use Rattle.af_runs.specs.Sessions.{Session, track_count, setup_of, spec_of}
-use Rattle.af_judge.proofs.SoundTurns.{at_new}
 use Rattle.af_judge.proofs.StatesRuns.{scales_of}
 use Rattle.af_enough.specs.Enough.{all_play_through}
 use Rattle.af_enough_law.specs.Carried.{SessionStands, SessionCarried}

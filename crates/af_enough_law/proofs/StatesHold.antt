@@ -1,5 +1,6 @@
 -- What holds of the last state before a round and of the draft that its turn leaves holds of all states that the round may use.
 use Rattle.std.proofs.Common.{◌≡◌, ◌⊎◌, inl, inr, ℕ, ◌≤◌, ◌<◌, unwrap_or, is_some, Bool, true, false, true≢false, All, Option, Some, List, ◌++◌, length, length-append, refl, sym, ap, ◌∙◌, subst, arith}
+use Rattle.af_base.proofs.Basics.{within_or_beyond}
 use Rattle.af_base.specs.declared.state.FastState.{FastState}
 use Rattle.af_life.specs.declared.kept.Setting.{Setting}
 use Rattle.af_life.specs.Heard.{learnt}
@@ -7,6 +8,7 @@ use Rattle.af_life.specs.Kept.{NormalKept}
 use Rattle.af_life.specs.Turn.{turn_after}
 use Rattle.af_model.specs.Cycles.{state_of}
 use Rattle.af_model.specs.Journals.{RoundSeen}
+use Rattle.af_runs.proofs.Basics.{state_more}
 use Rattle.af_runs.specs.Blocks.{Marks}
 use Rattle.af_runs.specs.Rounds.{LegalRound, after_round}
 use Rattle.af_runs.specs.Runs.{Run}
@@ -16,11 +18,9 @@ use Rattle.af_enough_law.specs.Drafts.{is_busy, PushMade}
 use Rattle.af_enough_law.specs.FastFlows.{AllStates}
 use Rattle.af_enough_law.specs.NormalRounds.{TurnMade}
 use Rattle.af_enough_law.proofs.Commanding.{le_cases}
-use Rattle.af_enough_law.proofs.FastMixes.{state_more}
 use Rattle.af_enough_law.proofs.FastPolls.{round_states, turn_more}
 use Rattle.af_enough_law.proofs.LastStates.{round_last}
 use Rattle.af_enough_law.proofs.LentRounds.{state_last}
-use Rattle.af_enough_law.proofs.RestTurns.{low_or}
 use Rattle.af_enough_law.proofs.SessionRounds.{turn_of, push_of, states_few}
 use Rattle.af_runs.proofs.StatesFor.{state_beyond}
 
@@ -61,7 +61,7 @@ module _ (s : Session) (marks : Marks) (scales : All (λ (x : Setting). x.scale 
       some_is x y e = ap (λ (o : Option FastState). unwrap_or o x) e
 
       within : (k : ℕ) (x : FastState) → state_of after.states k ≡ Some x → k ≤ length after.states
-      within k x is = by_place (low_or k (length after.states))
+      within k x is = by_place (within_or_beyond k (length after.states))
         where
           by_place : (k ≤ length after.states) ⊎ (length after.states < k) → k ≤ length after.states
           by_place (inl low) = low

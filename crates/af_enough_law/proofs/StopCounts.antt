@@ -1,10 +1,12 @@
 -- The argument of a STOP is no more than the frames that its client has put.
-use Rattle.std.proofs.Common.{◌≡◌, ℕ, zero, suc, ◌+◌, ◌-◌, ◌^◌, ◌≤◌, ◌<◌, ◌==◌, ◌&&◌, Bool, true, false, true≢false, Option, Some, None, MatchBool, List, [], ◌∷◌, ◌++◌, length, fold, get_or, take, drop, refl, sym, ap, ◌∙◌, subst, arith, length-append, append-nil, is_some, if◌then◌else◌}
+use Rattle.std.proofs.Common.{◌≡◌, ℕ, zero, suc, ◌+◌, ◌-◌, ◌^◌, ◌≤◌, ◌<◌, ◌==◌, ◌&&◌, Bool, true, false, Option, Some, None, MatchBool, List, [], ◌∷◌, ◌++◌, length, fold, get_or, take, drop, refl, sym, ap, ◌∙◌, subst, arith, length-append, append-nil, is_some, if◌then◌else◌}
+use Rattle.af_base.proofs.Basics.{no}
 use Rattle.af_base.specs.declared.event.ClientCall.{ClientCall}
 use Rattle.af_base.specs.declared.event.ClientCall.TheVariants as call
 use Rattle.af_base.specs.declared.event.ClientEvent.{ClientEvent}
 use Rattle.af_base.specs.declared.event.ClientEvent.TheVariants as client
 use Rattle.af_base.specs.Turn.{Turn}
+use Rattle.af_enough_law.proofs.Basics.{put-append}
 use Rattle.af_life.specs.Kept.{NormalKept}
 use Rattle.af_model.specs.ClientCalls.{client_kept}
 use Rattle.af_model.specs.History.{flushes_of}
@@ -29,7 +31,6 @@ use Rattle.af_enough_law.proofs.CommandsGo.{MayLearn, still, learns, may_learn}
 use Rattle.af_enough_law.proofs.Doing.{put_of, sent_of}
 use Rattle.af_enough_law.proofs.Flushless.{IsFlushlessTrack, call_flushless, unflushed_none}
 use Rattle.af_enough_law.proofs.RunTracks.{mixed_by, turned_by, played_track, round_blocks, met_track}
-use Rattle.af_enough_law.proofs.SeenBlocks.{frames_put-append}
 use Rattle.af_enough_law.proofs.SentCourse.{with_none}
 use Rattle.af_enough_law.proofs.Turning.{words_of, words_append}
 
@@ -70,34 +71,31 @@ stop_within t count k h is some =
 
 -- ## One call
 
-no : {A : Type 0} → false ≡ true → A
-no e = absurd (true≢false (sym e))
-
 is_sent : ClientCall → Bool
 is_sent (call.Sent front code argument) = true
 is_sent _ = false
 
 -- a look that may have been of no cell puts nothing
 look_put : (shut : Bool) (events : List ClientEvent) (front : ℕ) → frames_put (events ++ (if shut then [] else client.SawFlags 0 ∷ client.SawFront front ∷ [])) ≡ frames_put events + 0
-look_put true events front = let a = frames_put-append events [] in omega arith
-look_put false events front = let a = frames_put-append events (client.SawFlags 0 ∷ client.SawFront front ∷ []) in omega arith
+look_put true events front = let a = put-append events [] in omega arith
+look_put false events front = let a = put-append events (client.SawFlags 0 ∷ client.SawFront front ∷ []) in omega arith
 
 -- what a call puts on the stream's list
 put_counted : (t : Track) (answer : ClientCall) → frames_put (after_call t answer).stream.events ≡ frames_put t.stream.events + put_of answer
-put_counted t (call.Put front count) = let a = frames_put-append t.stream.events (client.SawFlags 0 ∷ client.SawFront front ∷ client.Release count ∷ []) in omega arith
-put_counted t (call.Full front) = let a = frames_put-append t.stream.events (client.SawFlags 0 ∷ client.SawFront front ∷ []) in omega arith
-put_counted t (call.Dead flags) = let a = frames_put-append t.stream.events (client.SawFlags flags ∷ []) in omega arith
+put_counted t (call.Put front count) = let a = put-append t.stream.events (client.SawFlags 0 ∷ client.SawFront front ∷ client.Release count ∷ []) in omega arith
+put_counted t (call.Full front) = let a = put-append t.stream.events (client.SawFlags 0 ∷ client.SawFront front ∷ []) in omega arith
+put_counted t (call.Dead flags) = let a = put-append t.stream.events (client.SawFlags flags ∷ []) in omega arith
 put_counted t (call.Corrupt front rear) = look_put (is_some (client_kept t.stream.shape.frames t.stream.shape.base t.stream.events).shut) t.stream.events front
-put_counted t (call.Cleared flags) = let a = frames_put-append t.stream.events (client.ClearFlags flags ∷ []) in omega arith
-put_counted t (call.Flush count) = let a = frames_put-append t.stream.events (client.Flush ∷ []) in omega arith
-put_counted t (call.Gain word) = let a = frames_put-append t.stream.events (client.SetGain word ∷ []) in omega arith
+put_counted t (call.Cleared flags) = let a = put-append t.stream.events (client.ClearFlags flags ∷ []) in omega arith
+put_counted t (call.Flush count) = let a = put-append t.stream.events (client.Flush ∷ []) in omega arith
+put_counted t (call.Gain word) = let a = put-append t.stream.events (client.SetGain word ∷ []) in omega arith
 put_counted t (call.Sent front code argument) = omega arith
 put_counted t (call.SendFull front) = omega arith
 put_counted t (call.SendDead flags) = omega arith
 put_counted t (call.SendCorrupt front rear) = omega arith
 put_counted t (call.Status word) = omega arith
 put_counted t (call.Poke true word value) = omega arith
-put_counted t (call.Poke false word value) = let a = frames_put-append t.stream.events (client.Poke word value ∷ []) in omega arith
+put_counted t (call.Poke false word value) = let a = put-append t.stream.events (client.Poke word value ∷ []) in omega arith
 
 take_few : (n : ℕ) (xs : List ℕ) → length (take n xs) ≤ n
 take_few zero xs = omega arith
@@ -207,7 +205,7 @@ calls_counted left t (answer ∷ calls) flushless h made =
 
 put_same : (said after : List ClientEvent) → MayLearn said after → frames_put after ≡ frames_put said
 put_same said _ still = refl
-put_same said _ (learns n) = let a = frames_put-append said (client.Learn n ∷ []) in omega arith
+put_same said _ (learns n) = let a = put-append said (client.Learn n ∷ []) in omega arith
 
 module _ (s : Session) where
   mixed_once : (e : EntrySeen) (t : TrackTold) (o : Option ℕ) → let u : TrackTold = elim o as (λ o. TrackTold) [ None ↦ t | Some i ↦ record t { stream = played (cycle_frames s) e i t.stream } ] in u.stream.released ≡ t.stream.released

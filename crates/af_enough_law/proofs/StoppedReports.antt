@@ -5,6 +5,8 @@ use Rattle.af_base.specs.declared.report.Report.{Report}
 use Rattle.af_base.specs.declared.report.SlotReport.{SlotReport}
 use Rattle.af_base.specs.declared.state.FastState.{FastState}
 use Rattle.af_base.specs.Log.{slots, entry_slot}
+use Rattle.af_enough_law.proofs.Basics.{state_there}
+use Rattle.af_judge.proofs.Basics.{calls_states}
 use Rattle.af_model.specs.Cycles.{state_of}
 use Rattle.af_model.specs.Journals.{EntrySeen, RoundSeen}
 use Rattle.af_model.specs.Reports.{report_at}
@@ -16,13 +18,12 @@ use Rattle.af_runs.specs.Runs.{Run, state_for, last_report, report_of, with_call
 use Rattle.af_runs.specs.Sessions.{Session}
 use Rattle.af_enough_law.specs.FastFlows.{AllUse, KnowsStates, slot_told}
 use Rattle.af_enough_law.proofs.FastFound.{adds_one}
-use Rattle.af_enough_law.proofs.FastPolls.{calls_states, before_states, round_states, fast_parts, parts_use}
+use Rattle.af_enough_law.proofs.FastPolls.{before_states, round_states, fast_parts, parts_use}
 use Rattle.af_enough_law.proofs.FastReports.{slot_counts, last_more, calls_same, turned_same, loaded_same, met_same, ends_same, slot_same}
 use Rattle.af_enough_law.proofs.FastSince.{Adds, since_number}
 use Rattle.af_enough_law.proofs.FastSteps.{cycle_states}
 use Rattle.af_enough_law.proofs.LeftEntries.{IsOut, next_kept, next_unshown, shows_nothing}
 use Rattle.af_enough_law.proofs.LeftFound.{cycles_append, adds_both}
-use Rattle.af_enough_law.proofs.LentFlows.{state_there}
 use Rattle.af_runs.proofs.StatesFor.{polled_known}
 
 -- the states from this number on have nothing of the track

@@ -1,9 +1,12 @@
 -- A round of a stopped track: its turn doesn't hear that its stream is shut, wherever its proxy is, and leaves the proxy in such a place. What isn't told by the history of this round is told by that of the next one.
-use Rattle.std.proofs.Common.{◌≡◌, ◌⊎◌, inl, inr, ℕ, ◌≤◌, ◌<◌, ◌==◌, unwrap_or, is_some, Bool, true, false, true≢false, All, Option, Some, ◌++◌, length, length-append, refl, sym, ap, ◌∙◌, subst, arith}
+use Rattle.std.proofs.Common.{◌≡◌, ◌⊎◌, inl, inr, ℕ, ◌≤◌, ◌<◌, ◌==◌, is_some, Bool, true, false, true≢false, All, Some, ◌++◌, length, length-append, refl, sym, ap, ◌∙◌, subst, arith}
+use Rattle.af_base.proofs.Basics.{within_or_beyond}
 use Rattle.af_base.specs.declared.report.SlotReport.{SlotReport}
 use Rattle.af_base.specs.declared.state.FastState.{FastState}
 use Rattle.af_base.specs.declared.state.FastTrack.{FastTrack}
 use Rattle.af_base.specs.Log.{slots}
+use Rattle.af_enough_law.proofs.Basics.{not_over, some_is, stays_home}
+use Rattle.af_judge.proofs.Basics.{ends_part}
 use Rattle.af_life.specs.declared.kept.Holder.TheVariants.{Home, Returning}
 use Rattle.af_life.specs.declared.kept.Setting.{Setting}
 use Rattle.af_life.specs.declared.kept.TrackKept.{TrackKept}
@@ -15,6 +18,7 @@ use Rattle.af_model.specs.Cycles.{state_of}
 use Rattle.af_model.specs.Journals.{RoundSeen}
 use Rattle.af_model.specs.Reports.{report_at}
 use Rattle.af_model.specs.StateQueue.{carries}
+use Rattle.af_runs.proofs.Basics.{state_more}
 use Rattle.af_runs.specs.Blocks.{Marks}
 use Rattle.af_runs.specs.Rounds.{LegalRound, met_after, after_round}
 use Rattle.af_runs.specs.Runs.{Run, told_at, with_calls, with_cycles, report_of, takes_part, load_of}
@@ -30,23 +34,20 @@ use Rattle.af_enough_law.proofs.CommandsGo.{OpenTurn}
 use Rattle.af_enough_law.proofs.Commanding.{le_cases}
 use Rattle.af_enough_law.proofs.Drafts.{holder_turned}
 use Rattle.af_enough_law.proofs.EndRounds.{order_round}
-use Rattle.af_enough_law.proofs.Ends.{greeted_home, silent}
+use Rattle.af_enough_law.proofs.Ends.{silent}
 use Rattle.af_enough_law.proofs.EntryCounts.{found_within}
-use Rattle.af_enough_law.proofs.FastMixes.{state_more}
 use Rattle.af_enough_law.proofs.FastPolls.{round_states, turn_more}
-use Rattle.af_enough_law.proofs.FastRounds.{ends_part}
 use Rattle.af_enough_law.proofs.Following.{greeted_in, greeted_alike}
 use Rattle.af_enough_law.proofs.Foreseen.{Foreseen, KeepsTo, keeps_to, part_seen, seen_earlier}
 use Rattle.af_enough_law.proofs.Generations.{greeted_same, attached_away}
 use Rattle.af_enough_law.proofs.LastStates.{round_last}
 use Rattle.af_enough_law.proofs.LeftEntries.{IsOut, SaysOpen}
 use Rattle.af_enough_law.proofs.LeftFound.{Flowing, FoundOpen, found_open}
-use Rattle.af_enough_law.proofs.LeftRounds.{some_away, draft_out}
+use Rattle.af_enough_law.proofs.LeftRounds.{draft_out}
 use Rattle.af_enough_law.proofs.LentRounds.{heard_away, state_last}
 use Rattle.af_enough_law.proofs.LentTurns.{turn_leaves}
 use Rattle.af_enough_law.proofs.Lookahead.{Coming, missed, greeted_coming, home_then, seen_before, ended_then, round_later}
 use Rattle.af_enough_law.proofs.QueueRounds.{queue_stands}
-use Rattle.af_enough_law.proofs.RestTurns.{low_or}
 use Rattle.af_enough_law.proofs.SessionRounds.{turn_of, turn_runs, push_of, states_few, session_carried}
 use Rattle.af_enough_law.proofs.Slots.{course_opened, slot_stays}
 use Rattle.af_enough_law.proofs.StoppedPlaces.{Place, at_home, comes, waits, unpushed, home_is, greeted_or, greeted_stays}
@@ -57,9 +58,6 @@ use Rattle.af_runs.proofs.StatesFor.{state_beyond}
 
 not_zero : (n : ℕ) → 3 ≤ n → (n == 0) ≡ false
 not_zero n some = search (arith, some)
-
-some_is : (x y : FastState) → Some x ≡ Some y → x ≡ y
-some_is x y e = ap (λ (o : Option FastState). unwrap_or o x) e
 
 module _ (s : Session) (marks : Marks) (scales : All (λ (x : Setting). x.scale ≤ 4096) (setup_of s).settings) (long : length (setup_of s).settings ≡ track_count s) (run : Run) (round : RoundSeen) (legal : LegalRound false s marks run round) (c : SessionCarried s run)
     (i most total : ℕ) (named : i < track_count s) (lawful : marks.commands i ≡ true) (z : StoppedCarried run i most total) (two : 2 ≤ (track_at run.normal.tracks i).life.retries)
@@ -131,7 +129,7 @@ module _ (s : Session) (marks : Marks) (scales : All (λ (x : Setting). x.scale 
 
     -- what the turn pushes has nothing of the track
     pushed_out : (m : ℕ) (y : FastState) → n < m → state_of after.states m ≡ Some y → IsOut slot i y
-    pushed_out m y above is = by (low_or m (length after.states))
+    pushed_out m y above is = by (within_or_beyond m (length after.states))
       where
         by_push : (b : Bool) → is_busy t.turn.push ≡ b → n < length after.states → IsOut slot i after.normal.last
         by_push true busy more =
@@ -221,7 +219,7 @@ module _ (s : Session) (marks : Marks) (scales : All (λ (x : Setting). x.scale 
       there_then = let a = ap (λ (m : NormalKept). length m.tracks) t.after in let b = turn_len (setup_of s) (learnt t.by.outside) run.normal t.turn in let d = there in omega (arith, a, b, d)
 
       session : SessionCarried s after
-      session = session_carried s marks scales long run round legal c.stands (some_away after.normal.tracks i there_then (ap is_home back_then))
+      session = session_carried s marks scales long run round legal c.stands (not_over after.normal.tracks i there_then (ap is_home back_then))
 
       flowing : Foreseen (told_at after i).stream → Flowing s run i slot item
       flowing seen = record {
@@ -299,7 +297,7 @@ module _ (s : Session) (marks : Marks) (scales : All (λ (x : Setting). x.scale 
   }
 
   pub place_gone : Place s run i slot item → PlaceGone
-  place_gone (at_home home) = home_gone (home_is g.holder (greeted_home t.turn.ack run.normal.last (track_at run.normal.tracks i) (ap is_home home)))
+  place_gone (at_home home) = home_gone (home_is g.holder (stays_home t.turn.ack run.normal.last (track_at run.normal.tracks i) (ap is_home home)))
   place_gone (comes back coming) = home_gone (greeted_coming s marks scales long run round legal c i named slot coming (ap is_returning back) (ap number_of slot_is))
   place_gone (waits back same some out says) = by (greeted_or t.turn.ack run.normal.last (track_at run.normal.tracks i) back)
     where

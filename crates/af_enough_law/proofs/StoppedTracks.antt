@@ -3,6 +3,7 @@ use Rattle.std.proofs.Common.{◌≡◌, inl, ℕ, ◌≤◌, ◌<◌, unwrap_or
 use Rattle.af_base.specs.declared.event.ClientEvent.{ClientEvent}
 use Rattle.af_base.specs.declared.event.ServerEvent.{ServerEvent}
 use Rattle.af_base.specs.Turn.{Turn}
+use Rattle.af_enough_law.proofs.Basics.{part_met}
 use Rattle.af_life.specs.declared.kept.Holder.TheVariants.{Home}
 use Rattle.af_life.specs.declared.kept.Setting.{Setting}
 use Rattle.af_life.specs.declared.kept.TrackKept.{TrackKept}
@@ -13,7 +14,7 @@ use Rattle.af_model.specs.Journals.{RoundSeen}
 use Rattle.af_runs.specs.Blocks.{BlockTold, Marks, client_list, server_list, hand_list}
 use Rattle.af_runs.specs.ClientTurns.{after_call}
 use Rattle.af_runs.specs.Rounds.{LegalRound, all_played, met_after, after_round}
-use Rattle.af_runs.specs.Runs.{Run, TrackTold, told_at, sides_of, calls_in, stream_met, takes_part, met}
+use Rattle.af_runs.specs.Runs.{Run, TrackTold, told_at, sides_of, calls_in, stream_met, takes_part}
 use Rattle.af_runs.specs.Sessions.{Session, track_count, setup_of}
 use Rattle.af_enough_law.specs.Carried.{SessionCarried}
 use Rattle.af_enough_law.specs.Courses.{none_shut}
@@ -65,10 +66,6 @@ met_still : (there hands : Bool) (b : BlockTold) → there ≡ false → client_
 met_still true hands b e = absurd (true≢false e)
 met_still false true b e = refl
 met_still false false b e = refl
-
-part_met : (s : Session) (run : Run) (i : ℕ) → takes_part s (met s run) i ≡ takes_part s run i
-unfolding met
-part_met s run i = refl
 
 pub missed_said : (s : Session) (run : Run) (round : RoundSeen) (i : ℕ) → i < length run.tracks → takes_part s (met_after s run round) i ≡ false → client_list (told_at (after_round s run round) i).stream ≡ said_by run round i
 missed_said s run round i low none =

@@ -2,6 +2,7 @@
 use Rattle.std.proofs.Common.{◌≡◌, ℕ, zero, suc, ◌+◌, ◌-◌, ◌≤◌, ◌<◌, ◌==◌, ◌&&◌, if◌then◌else◌, Bool, true, false, true≢false, Option, Some, None, List, [], ◌∷◌, ◌++◌, length, refl, sym, ap, ◌∙◌, subst, arith, append_assoc, eqb-true, is_some}
 use Rattle.std.proofs.lemmas.List.{get_or-replicate}
 use Rattle.std.specs.List.{find, range_with_len}
+use Rattle.af_base.proofs.Basics.{both_true, three}
 use Rattle.af_base.specs.declared.event.ClientEvent.{ClientEvent}
 use Rattle.af_base.specs.declared.event.ServerEvent.{ServerEvent}
 use Rattle.af_base.specs.declared.event.ServerEvent.TheVariants as server
@@ -12,12 +13,13 @@ use Rattle.af_base.specs.declared.seen.Seen.{Seen}
 use Rattle.af_base.specs.declared.seen.Seen.TheVariants as seen
 use Rattle.af_base.specs.declared.state.FastState.{FastState}
 use Rattle.af_base.specs.Log.{slots, absent, entry_slot}
+use Rattle.af_model.proofs.Basics.{both_first}
 use Rattle.af_model.specs.declared.shape.Shape.{Shape}
 use Rattle.af_model.specs.Cycles.{Listed, LooksBy, kept, state_of, cycle_of, is_mixed, still_entry, tally, after_look, cycle_events}
 use Rattle.af_model.specs.Journals.{EntrySeen}
 use Rattle.af_model.specs.ServerCalls.{server_kept, look_events}
 use Rattle.af_model.specs.StateQueue.{slot_of, carries}
-use Rattle.af_model.proofs.Logic.{both_left, both_right, both_are}
+use Rattle.af_model.proofs.Logic.{both_right}
 use Rattle.af_runs.specs.Blocks.{BlockTold, Marks, server_list, listed}
 use Rattle.af_runs.specs.Fronts.{front_of, is_shown}
 use Rattle.af_runs.specs.Rounds.{LegalEntry, LegalEntries}
@@ -35,7 +37,7 @@ use Rattle.af_runs.proofs.StatesFor.{state_known}
 
 pub calm_join : (xs ys : List ServerEvent) → are_calm xs ≡ true → are_calm ys ≡ true → are_calm (xs ++ ys) ≡ true
 calm_join [] ys a b = b
-calm_join (x ∷ xs) ys a b = both_are (is_calm x) (are_calm (xs ++ ys)) (both_left (is_calm x) (are_calm xs) a) (calm_join xs ys (both_right (is_calm x) (are_calm xs) a) b)
+calm_join (x ∷ xs) ys a b = both_true (is_calm x) (are_calm (xs ++ ys)) (both_first (is_calm x) (are_calm xs) a) (calm_join xs ys (both_right (is_calm x) (are_calm xs) a) b)
 
 calm_tally : (missing : ℕ) → are_calm (tally missing) ≡ true
 calm_tally missing = by (missing == 0)
@@ -102,12 +104,6 @@ find_holds p a (suc n) k e = by_first (p a) refl (find_holds p (a + 1) n k) e
     by_first true is later f = let same : a ≡ k = ap number_in f in record { holds = subst (λ (j : ℕ). p j ≡ true) same is; low = omega arith; high = omega arith }
     by_first false is later f = let more = later f in let l = more.low in let m = more.high in record { holds = more.holds; low = omega arith; high = omega arith }
 
-and_three : (a b c : Bool) → ((a && b) && c) ≡ true → (a ≡ true) × (b ≡ true) × (c ≡ true)
-and_three true true true e = (refl, refl, refl)
-and_three true true false e = absurd (true≢false (sym e))
-and_three true false c e = absurd (true≢false (sym e))
-and_three false b c e = absurd (true≢false (sym e))
-
 -- an entry that isn't mixed shows nothing in any slot
 pub still_shows : (entry : CycleEntry) (i : ℕ) → i < slots → entry ≡ still_entry entry.state entry.cycle → is_shown (entry_slot entry i).seen ≡ true → ⊥
 still_shows entry i low is shown =
@@ -129,7 +125,7 @@ slot_looks s marks run e track i legal is =
     let now = with_poll s e.entry.state run in
     let x = state_for s now e.entry.state in
     let at = find_holds (λ j. plays x e.entry j && ((slot_of x j).track == track)) 0 slots i is in
-    let parts = and_three (carries x i) (is_shown (entry_slot e.entry i).seen) ((slot_of x i).track == track) at.holds in
+    let parts = three (carries x i) (is_shown (entry_slot e.entry i).seen) ((slot_of x i).track == track) at.holds in
     let low : i < slots = at.high in
     by_state (state_of now.states e.entry.state) refl x refl low parts.0 parts.1 (eqb-true (slot_of x i).track track parts.2)
   where

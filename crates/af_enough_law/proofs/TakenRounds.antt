@@ -1,5 +1,6 @@
 -- A round takes all commands of a track on its course that were sent before it.
 use Rattle.std.proofs.Common.{◌≡◌, ℕ, ◌≤◌, Bool, true, false, ◌++◌, length, length-append, take, sym, ap, ◌∙◌, subst, arith}
+use Rattle.af_enough_law.proofs.Basics.{course_long}
 use Rattle.af_life.specs.Kept.{track_at, track_in}
 use Rattle.af_life.specs.Looks.{words_taken}
 use Rattle.af_model.specs.History.{flushes_of}
@@ -21,7 +22,6 @@ use Rattle.af_enough_law.proofs.CourseRounds.{course_ends}
 use Rattle.af_enough_law.proofs.Flushless.{unflushed_none}
 use Rattle.af_enough_law.proofs.Foreseen.{KeepsTo, keeps_to}
 use Rattle.af_enough_law.proofs.HomeRounds.{IsNamed}
-use Rattle.af_enough_law.proofs.LeftGoes.{course_long}
 use Rattle.af_enough_law.proofs.RunTracks.{round_blocks}
 use Rattle.af_enough_law.proofs.SentCourse.{follows_any}
 

@@ -4,6 +4,7 @@ use Rattle.af_base.specs.declared.event.ClientEvent.{ClientEvent}
 use Rattle.af_base.specs.declared.event.ClientEvent.TheVariants as client
 use Rattle.af_base.specs.declared.event.ServerEvent.{ServerEvent}
 use Rattle.af_base.specs.declared.event.ServerEvent.TheVariants as server
+use Rattle.af_enough_law.proofs.Basics.{course_long}
 use Rattle.af_life.specs.Kept.{track_at, track_in}
 use Rattle.af_life.specs.Looks.{words_taken}
 use Rattle.af_model.specs.History.{flushes_of}
@@ -20,7 +21,7 @@ use Rattle.af_enough_law.specs.Seen.{frames_taken}
 use Rattle.af_enough_law.proofs.CommandRounds.{commands_known, commands_taken, words_counted}
 use Rattle.af_enough_law.proofs.CommandsGo.{CalmCommands, OpenTurn, same_commands, few_after, pokeless_after, flushless_after, spelled_after, words_after}
 use Rattle.af_enough_law.proofs.CourseGoes.{OnCourse, CourseGone}
-use Rattle.af_enough_law.proofs.CourseRounds.{looks_end, course_long}
+use Rattle.af_enough_law.proofs.CourseRounds.{looks_end}
 use Rattle.af_enough_law.proofs.Flushless.{unflushed_none}
 use Rattle.af_enough_law.proofs.RunLists.{command_lists}
 

@@ -1,6 +1,7 @@
 -- A track takes the words that a turn's looks take.
-use Rattle.std.proofs.Common.{◌⊎◌, inl, inr, ◌*◌, ◌≡◌, ℕ, zero, suc, ◌+◌, ◌==◌, ◌&&◌, ◌||◌, not, nat_lt, Bool, true, false, List, [], ◌∷◌, ◌++◌, length, refl, sym, ap, ◌∙◌, subst, arith, true≢false, Option, Some, None, is_some, MatchBool, if◌then◌else◌, ◌≤◌}
+use Rattle.std.proofs.Common.{◌⊎◌, inl, inr, ◌*◌, ◌≡◌, ℕ, zero, suc, ◌+◌, ◌==◌, ◌&&◌, ◌||◌, not, nat_lt, Bool, true, false, List, [], ◌∷◌, ◌++◌, length, refl, sym, ap, ◌∙◌, subst, arith, Option, Some, None, is_some, if◌then◌else◌, ◌≤◌}
 use Rattle.std.specs.List.{list_any}
+use Rattle.af_base.proofs.Basics.{both, by_false, no, or_nothing}
 use Rattle.af_base.specs.declared.report.SlotReport.{SlotReport}
 use Rattle.af_base.specs.declared.turn.CommandLook.{CommandLook}
 use Rattle.af_base.specs.Turn.{TrackSeen}
@@ -16,18 +17,7 @@ use Rattle.af_life.specs.Serves.{most_looks, is_found_shut, after_part, IsServed
 use Rattle.af_life.specs.Reports.{by_report, told_by_report}
 use Rattle.af_enough_law.specs.Courses.{told_all, starts_at_once, none_shut, is_ended, reported_by}
 use Rattle.af_enough_law.specs.TrackTurns.{attended}
-
-no : {A : Type 0} → false ≡ true → A
-no h = absurd (true≢false (sym h))
-
-both : (a b : Bool) → (a && b) ≡ true → (a ≡ true) × (b ≡ true)
-both true true e = (refl, refl)
-both true false e = no e
-both false b e = no e
-
-off : (b : Bool) → not b ≡ true → b ≡ false
-off true e = no e
-off false e = refl
+use Rattle.af_model.proofs.Basics.{not_true}
 
 -- a START without a flush count doesn't wait
 no_wait : (flush_seen code argument : ℕ) (life : Life) → not ((code == 2) && not (argument == 0)) ≡ true → must_wait flush_seen code argument life ≡ false
@@ -94,7 +84,7 @@ module _ (given : Option ℕ) (flush_seen : ℕ) where
   looks_told n [] s idle open_is fine due = refl
   looks_told zero (look ∷ looks) s idle open_is fine due = no due
   looks_told (suc n) (look ∷ looks) s idle open_is fine due = let parts = both _ _ open_is in
-      look_first n look looks s (shows_command look.seen) refl idle (off (is_shut look.seen) parts.0) fine due (λ t idle_then fine_then due_then. looks_told n looks t idle_then parts.1 fine_then due_then)
+      look_first n look looks s (shows_command look.seen) refl idle (not_true (is_shut look.seen) parts.0) fine due (λ t idle_then fine_then due_then. looks_told n looks t idle_then parts.1 fine_then due_then)
 
   ends_first : (n : ℕ) (look : CommandLook) (looks : List CommandLook) (s : TrackKept) (b : Bool) → shows_command look.seen ≡ b → s.awaits ≡ None → is_shut look.seen ≡ false
       → starts_at_once ((if b then look.code ∷ look.argument ∷ [] else []) ++ words_taken looks) ≡ true → due_first n look looks (after_look given flush_seen look s) ≡ true
@@ -119,17 +109,13 @@ module _ (given : Option ℕ) (flush_seen : ℕ) where
   due_ends (suc n) [] s idle open_is fine due = no due
   due_ends zero (look ∷ looks) s idle open_is fine due = no due
   due_ends (suc n) (look ∷ looks) s idle open_is fine due = let parts = both _ _ open_is in
-      ends_first n look looks s (shows_command look.seen) refl idle (off (is_shut look.seen) parts.0) fine due (λ t idle_then fine_then due_then. due_ends n looks t idle_then parts.1 fine_then due_then)
+      ends_first n look looks s (shows_command look.seen) refl idle (not_true (is_shut look.seen) parts.0) fine due (λ t idle_then fine_then due_then. due_ends n looks t idle_then parts.1 fine_then due_then)
 
 -- ## A track's part of the turn
 
 no_shut : (looks : List CommandLook) → none_shut looks ≡ true → list_any (λ (look : CommandLook). is_shut look.seen) looks ≡ false
 no_shut [] e = refl
-no_shut (look ∷ looks) e = let parts = both _ _ e in ap (λ (b : Bool). b || list_any (λ (look : CommandLook). is_shut look.seen) looks) (off (is_shut look.seen) parts.0) ∙ no_shut looks parts.1
-
-or_none : (b d : Bool) → d ≡ false → (b || d) ≡ b
-or_none true d e = refl
-or_none false d e = e
+no_shut (look ∷ looks) e = let parts = both _ _ e in ap (λ (b : Bool). b || list_any (λ (look : CommandLook). is_shut look.seen) looks) (not_true (is_shut look.seen) parts.0) ∙ no_shut looks parts.1
 
 noted_idle : (r : SlotReport) (s : TrackKept) → s.awaits ≡ None → (noted r s).awaits ≡ None
 unfolding noted
@@ -139,12 +125,8 @@ ready_idle : (k : Learnt) (i : ℕ) (s : TrackKept) → s.awaits ≡ None → re
 unfolding settled_at
 ready_idle k i s idle = ap (λ (o : Option ℕ). let t = noted (slot_reported k s) s in if is_reached (heard k i s).flush_seen o then record t { awaits = None; settled = t.settled + 1 } else t) (noted_idle (slot_reported k s) s idle)
 
-by_idle : (A B : Type 0) (b : Bool) → b ≡ false → MatchBool b A B → B
-by_idle A B true e m = absurd (true≢false e)
-by_idle A B false e m = m
-
 idle_due : (given : Option ℕ) (flush_seen : ℕ) (looks : List CommandLook) (s : TrackKept) → s.awaits ≡ None → HasDueLooks given flush_seen looks s → are_due most_looks given flush_seen looks s ≡ true
-idle_due given flush_seen looks s idle due = by_idle (looks ≡ []) (are_due most_looks given flush_seen looks s ≡ true) (is_some s.awaits) (ap (λ (o : Option ℕ). is_some o) idle) due
+idle_due given flush_seen looks s idle due = by_false (looks ≡ []) (are_due most_looks given flush_seen looks s ≡ true) (is_some s.awaits) (ap (λ (o : Option ℕ). is_some o) idle) due
 
 abbrev with_report : Heard → Bool → TrackKept → TrackKept
 with_report h shut s = let t = record s { life = by_report h.known s.life } in record t { status = status_word shut t }
@@ -163,7 +145,7 @@ attended_told given k i seen s lives idle open_is fine served =
     ap (λ (b : Bool). if b then s else after_part given h seen.looks (ready k i s)) lives
     ∙ ap (after_part given h seen.looks) ready_is
     ∙ ap (λ (t : TrackKept). with_report h (is_found_shut h seen.looks) t) told_is
-    ∙ ap (λ (b : Bool). with_report h b (told_all given (words_taken seen.looks) r)) (or_none h.known.shut _ (no_shut seen.looks open_is))
+    ∙ ap (λ (b : Bool). with_report h b (told_all given (words_taken seen.looks) r)) (or_nothing h.known.shut _ (no_shut seen.looks open_is))
 
 -- The looks of a track that lives end with one that shows no command, or take the words of as many commands as a turn makes looks
 pub served_ends : (given : Option ℕ) (k : Learnt) (i : ℕ) (seen : TrackSeen) (s : TrackKept) → s.awaits ≡ None → none_shut seen.looks ≡ true → starts_at_once (words_taken seen.looks) ≡ true

@@ -1,5 +1,8 @@
 -- What is carried of a track makes each round bring it nearer to its end: without a slot if the round takes what it may, and else always.
-use Rattle.std.proofs.Common.{◌≡◌, ◌⊎◌, inl, inr, ℕ, ◌≤◌, ◌<◌, ◌==◌, ◌&&◌, not, nat_le, is_some, Bool, true, false, true≢false, All, None, length, refl, sym, ap, ◌∙◌, arith}
+use Rattle.std.proofs.Common.{◌≡◌, ◌⊎◌, inl, inr, ℕ, ◌≤◌, ◌<◌, ◌&&◌, not, is_some, Bool, true, false, true≢false, All, None, length, refl, sym, ap, ◌∙◌, arith}
+use Rattle.af_base.proofs.Basics.{is_within, not_zero}
+use Rattle.af_enough_law.proofs.Basics.{stays_home}
+use Rattle.af_judge.proofs.Basics.{ends_part}
 use Rattle.af_life.specs.declared.kept.Setting.{Setting}
 use Rattle.af_life.specs.declared.track.Life.{Life}
 use Rattle.af_life.specs.Heard.{learnt}
@@ -19,10 +22,8 @@ use Rattle.af_enough_law.specs.NormalRounds.{TurnMade}
 use Rattle.af_enough_law.proofs.Carrying.{TrackIs, slotless, lent, stopped, gone_over, lent_is}
 use Rattle.af_enough_law.proofs.CalmTracks.{CalmTurn}
 use Rattle.af_enough_law.proofs.CommandsGo.{OpenTurn, commands_of, opens_after}
-use Rattle.af_enough_law.proofs.Ends.{greeted_home}
 use Rattle.af_enough_law.proofs.EndRounds.{order_round}
 use Rattle.af_enough_law.proofs.Fair.{calm_drops}
-use Rattle.af_enough_law.proofs.FastRounds.{ends_part}
 use Rattle.af_enough_law.proofs.Foreseen.{Foreseen, part_seen, home_unshut}
 use Rattle.af_enough_law.proofs.HomeTakes.{home_takes}
 use Rattle.af_enough_law.proofs.HomeRounds.{IsNamed, keeps_of, home_part, slotless_carried}
@@ -48,12 +49,6 @@ use Rattle.af_enough_law.proofs.TrackCarried.{TrackCarried, TrackGone, able}
 abbrev pub HomeFlows : Session → Run → RoundSeen → ℕ → Type 0
 HomeFlows s run round i = (track_at run.normal.tracks i).slot ≡ None → (track_at run.normal.tracks i).life.ended ≡ false → (track_at (after_round s run round).normal.tracks i).life.ended ≡ false
     → stage (track_at run.normal.tracks i).life ≤ 1 → RoundFlows s run round i
-
-not_zero : (n : ℕ) → 1 ≤ n → (n == 0) ≡ false
-not_zero n some = search (arith, some)
-
-le_true : (a b : ℕ) → a ≤ b → nat_le a b ≡ true
-le_true a b le = search (arith, le)
 
 module _ (s : Session) (marks : Marks) (scales : All (λ (x : Setting). x.scale ≤ 4096) (setup_of s).settings) (long : length (setup_of s).settings ≡ track_count s) (few : s.script.normal ≤ 16) (sizes : IsSized s) (run : Run) (round : RoundSeen) (legal : LegalRound false s marks run round) (c : SessionCarried s run)
     (next : RoundSeen) (legal_next : LegalRound false s marks (after_round s run round) next) where
@@ -100,7 +95,7 @@ module _ (s : Session) (marks : Marks) (scales : All (λ (x : Setting). x.scale 
           there = numbers.there;
           lawful = lawful;
           runs = runs;
-          unshut = λ alive. home_unshut false s marks run round i numbers.low legal seen t track.calm.stream (greeted_home t.turn.ack run.normal.last (track_at run.normal.tracks i) home);
+          unshut = λ alive. home_unshut false s marks run round i numbers.low legal seen t track.calm.stream (stays_home t.turn.ack run.normal.last (track_at run.normal.tracks i) home);
         };
         part = part;
         hears = home_hears false s marks run round i t numbers.low legal seen track.calm.stream home;
@@ -158,7 +153,7 @@ module _ (s : Session) (marks : Marks) (scales : All (λ (x : Setting). x.scale 
       let heard = heard_then false s marks run round i most total t p.turn track gone.gone (omega (arith, settled, started)) alive going low in
       let here : is_mixed_here (track_at after.normal.tracks i) ≡ true = (λ j. not (is_some (p.slot_then j)) && plays (track_at after.normal.tracks i).life) ∙ heard in
       home_takes false s marks run round i t calm_turn legal track.known_stream track.known_commands track.calm (able false s marks run round i most total t legal p.turn p.part track two)
-      (opens_after false s marks run round i t legal track.known_commands commands p.turn).0 (kept.met alive low).released (le_true (buffer_of s) t.turn.room (room_kept s marks scales long run round legal c sizes (pipe now))) here
+      (opens_after false s marks run round i t legal track.known_commands commands p.turn).0 (kept.met alive low).released (is_within (buffer_of s) t.turn.room (room_kept s marks scales long run round legal c sizes (pipe now))) here
   home_flows i most total N base named lawful two (lent slot item track l) kept pipe none alive going low = absurd (true≢false (sym (ap is_some l.slot_is) ∙ ap is_some none))
   home_flows i most total N base named lawful two (stopped slot item low' item_is slot_is z place) kept pipe none alive going low = absurd (true≢false (sym (ap is_some slot_is) ∙ ap is_some none))
   home_flows i most total N base named lawful two (gone_over h) kept pipe none alive going low = absurd (true≢false (sym h.life ∙ alive))

@@ -4,6 +4,7 @@ use Rattle.af_base.specs.declared.event.ClientCall.{ClientCall}
 use Rattle.af_base.specs.declared.event.ClientEvent.{ClientEvent}
 use Rattle.af_base.specs.declared.event.ClientEvent.TheVariants as client
 use Rattle.af_base.specs.declared.event.ServerEvent.{ServerEvent}
+use Rattle.af_judge.proofs.Basics.{begins_ended}
 use Rattle.af_model.specs.declared.shape.Shape.{Shape}
 use Rattle.af_model.specs.ClientCalls.{client_kept}
 use Rattle.af_model.specs.Journals.{RoundSeen}
@@ -30,7 +31,7 @@ use Rattle.af_enough_law.proofs.FairTurns.{IsCalm, IsKnown, fair_turn}
 use Rattle.af_enough_law.proofs.Flushless.{IsFlushlessTrack}
 use Rattle.af_enough_law.proofs.RunLists.{command_lists, command_history}
 use Rattle.af_enough_law.proofs.RunStreams.{round_grows}
-use Rattle.af_enough_law.proofs.Turning.{Left, Stands, on, gone_for_good, begins_ended, next_ended, turn_stands, words_of}
+use Rattle.af_enough_law.proofs.Turning.{Left, Stands, on, gone_for_good, next_ended, turn_stands, words_of}
 
 -- the client's list of a stream block begins one that has a calm history, of whose server so much was known
 pub record CalmStream (k : Shape) (said : List ClientEvent) (known : List ServerEvent) : Type 0 where

@@ -1,6 +1,8 @@
 -- The life that a turn leaves of a track that lived: that of its commands and its report.
 use Rattle.std.proofs.Common.{◌≡◌, ◌⊎◌, ℕ, ◌≤◌, ◌<◌, if◌then◌else◌, Bool, true, false, true≢false, Option, length, refl, sym, ap, ◌∙◌, subst, arith}
 use Rattle.af_base.specs.Turn.{Turn}
+use Rattle.af_judge.proofs.Basics.{report_ends}
+use Rattle.af_life.proofs.Basics.{ready_life}
 use Rattle.af_life.specs.declared.kept.TrackKept.{TrackKept}
 use Rattle.af_life.specs.declared.track.Life.{Life}
 use Rattle.af_life.specs.Heard.{learnt, heard, ready}
@@ -11,9 +13,9 @@ use Rattle.af_life.specs.Reports.{by_report}
 use Rattle.af_life.specs.Serves.{IsServed, after_part}
 use Rattle.af_life.specs.Turn.{GoesOn, turn_after}
 use Rattle.af_enough_law.specs.TrackTurns.{attended, TrackTurned}
-use Rattle.af_enough_law.proofs.Able.{ready_life, commanded_keeps}
+use Rattle.af_enough_law.proofs.Able.{commanded_keeps}
 use Rattle.af_enough_law.proofs.Following.{greeted_in, greeted_alike, edited_alike, legal_greeted, by_true}
-use Rattle.af_enough_law.proofs.SentPlain.{plain_words, InPlay, commanded_in, stays_in, ends_shut}
+use Rattle.af_enough_law.proofs.SentPlain.{plain_words, InPlay, commanded_in, stays_in}
 use Rattle.af_enough_law.proofs.Served.{track_turned}
 
 module _ (c : Setup) (k : Learnt) (m : NormalKept) (e : Turn) (i : ℕ) (lt : i < length m.tracks) (runs : e.ended ≡ false) where
@@ -38,7 +40,7 @@ module _ (c : Setup) (k : Learnt) (m : NormalKept) (e : Turn) (i : ℕ) (lt : i 
 
   -- a track that hears that its stream is shut has ended
   pub shut_turned : g.life.ended ≡ false → (heard k i g).known.shut ≡ true → (track_at (turn_after c k m e).tracks i).life.ended ≡ true
-  shut_turned alive shut = ap (λ (l : Life). l.ended) (life_turned alive) ∙ ends_shut (heard k i g).known told_life shut
+  shut_turned alive shut = ap (λ (l : Life). l.ended) (life_turned alive) ∙ report_ends (heard k i g).known told_life shut
 
   -- a track that plays, takes plain words and hears that its stream is open plays on, or has ended
   pub in_turned : g.life.ended ≡ false → (heard k i g).known.shut ≡ false → plain_words (words_taken (track_in e i).looks) ≡ true → InPlay g.life → 2 ≤ g.life.retries

@@ -2,9 +2,11 @@
 use Rattle.std.proofs.Common.{◌≡◌, ◌⊎◌, inl, inr, ℕ, ◌+◌, ◌-◌, ◌≤◌, ◌==◌, ◌||◌, Bool, true, false, List, [], ◌∷◌, ◌++◌, length, fold, refl, sym, ap, ◌∙◌, subst, arith, true≢false, Option, Some, None, if◌then◌else◌}
 use Rattle.std.proofs.lemmas.List.{append-nil}
 use Rattle.std.proofs.lemmas.Grind.{fold-append}
+use Rattle.af_base.proofs.Basics.{some_same}
 use Rattle.af_base.specs.declared.event.ClientCall.{ClientCall}
 use Rattle.af_base.specs.declared.event.ClientCall.TheVariants as call
 use Rattle.af_base.specs.declared.event.ClientEvent.{ClientEvent}
+use Rattle.af_judge.proofs.Basics.{begins_ended}
 use Rattle.af_model.specs.ClientCalls.{client_keeps, client_begins, client_kept}
 use Rattle.af_script.specs.declared.op.Op.{Op}
 use Rattle.af_runs.specs.declared.want.Mode.{Mode}
@@ -66,9 +68,6 @@ wanted_first _ _ _ (clearing_more count ops some way) = (_, _, refl, refl)
 wanted_first _ _ _ stopping = (_, _, refl, refl)
 wanted_first _ _ _ draining = (_, _, refl, refl)
 wanted_first _ _ _ removing = (_, _, refl, refl)
-
-pub some_same : {X : Type 0} (x y : X) → Some x ≡ Some y → x ≡ y
-some_same x y e = ap (λ o. elim o as (λ _. _) [ None ↦ x | Some z ↦ z ]) e
 
 answered_by : (t : Track) (answer : ClientCall) (o : Option Want) → Client
 answered_by t answer o = elim o as (λ o. Client) [ None ↦ t.client | Some wanted ↦ after_answer (commands_sent (with_call t answer)) wanted (rest_of (begun t.client).due) (begun t.client) answer ]
@@ -159,11 +158,6 @@ pub begins_waiting : (c : Client) (wants : List Want) (ops : List Op) → (begin
 begins_waiting c (w ∷ wants) ops = refl
 begins_waiting c [] [] = refl
 begins_waiting c [] (o ∷ ops) = begins_waiting c (wants_of c.mode o) ops
-
-pub begins_ended : (c : Client) (wants : List Want) (ops : List Op) → (begins c wants ops).ended ≡ c.ended
-begins_ended c (w ∷ wants) ops = refl
-begins_ended c [] [] = refl
-begins_ended c [] (o ∷ ops) = begins_ended c (wants_of c.mode o) ops
 
 pub begins_rested : (c : Client) (b : Bool) (wants : List Want) (ops : List Op) → begins (record c { waiting = b }) wants ops ≡ record (begins c wants ops) { waiting = b }
 begins_rested c b (w ∷ wants) ops = refl

@@ -1,9 +1,10 @@
 -- Until the Exit is ordered both mixers go on: it holds before the first round, and after each legal round that leaves no Exit in the draft; and none is ordered before all is over.
-use Rattle.std.proofs.Common.{◌≡◌, ◌⊎◌, inl, inr, ℕ, zero, suc, ◌+◌, ◌<◌, ◌≤◌, ◌==◌, ◌&&◌, ◌||◌, not, if◌then◌else◌, Bool, true, false, true≢false, All, List, [], ◌∷◌, length, Some, is_some, refl, sym, ap, ◌∙◌, subst, arith, eqb-true}
+use Rattle.std.proofs.Common.{◌≡◌, ◌⊎◌, inl, inr, ℕ, zero, suc, ◌+◌, ◌<◌, ◌≤◌, ◌==◌, ◌&&◌, ◌||◌, not, if◌then◌else◌, Bool, true, false, true≢false, All, List, [], ◌∷◌, length, refl, sym, ap, ◌∙◌, subst, arith, eqb-true}
 use Rattle.std.proofs.lemmas.List.{length-replicate}
+use Rattle.af_base.proofs.Basics.{and_none}
 use Rattle.af_base.specs.Command.{code_of}
 use Rattle.af_base.specs.declared.state.Command.TheVariants.{ColdIdle, Exit, MixWrite}
-use Rattle.af_base.specs.declared.state.FastState.{FastState}
+use Rattle.af_enough_law.proofs.Basics.{none_exit, not_over}
 use Rattle.af_life.specs.declared.kept.Setting.{Setting}
 use Rattle.af_life.specs.declared.kept.TrackKept.{TrackKept}
 use Rattle.af_life.specs.Edits.{is_exit, is_over, next_command}
@@ -13,7 +14,6 @@ use Rattle.af_life.specs.Turn.{turn_after}
 use Rattle.af_life.proofs.Lives.{turn_len}
 use Rattle.af_judge.proofs.DraftBits.{initial_none}
 use Rattle.af_judge.proofs.SoundTurns.{sound_new}
-use Rattle.af_model.specs.Cycles.{state_of}
 use Rattle.af_model.specs.Journals.{RoundSeen}
 use Rattle.af_runs.specs.Blocks.{Marks}
 use Rattle.af_runs.specs.Rounds.{LegalRound, after_round}
@@ -39,10 +39,6 @@ use Rattle.af_enough_law.proofs.Unheard.{some_heard, unheard_puts}
 
 -- ## Before the first round
 
-none_there : (k : ℕ) (x : FastState) → state_of [] k ≡ Some x → ⊥
-none_there zero x is = true≢false (ap is_some (sym is))
-none_there (suc k) x is = true≢false (ap is_some (sym is))
-
 pub new_underway : (s : Session) → Underway s (new_run s)
 new_underway s = record {
   order = record {
@@ -59,7 +55,7 @@ new_underway s = record {
   going = refl;
   draft = refl;
   none = refl;
-  exits = λ k x is. absurd (none_there k x is);
+  exits = λ k x is. absurd (none_exit k x is);
   within = omega arith;
   pipe = inl refl;
   command = inr (refl, refl);
@@ -103,26 +99,11 @@ no_exit_yet tracks room size off = by (is_over tracks && (room == size)) (some_h
     by false true is = refl
     by false false is = refl
 
-and_false : (a b : Bool) → b ≡ false → (a && b) ≡ false
-and_false true b is = is
-and_false false b is = refl
-
 -- not all is over while some life hasn't ended
 pub alive_over : (tracks : List TrackKept) (i : ℕ) → i < length tracks → (track_at tracks i).life.ended ≡ false → is_over tracks ≡ false
 alive_over [] i lt is = absurd (let z : ⊥ = omega (arith, lt) in z)
 alive_over (s ∷ tracks) zero lt is = ap (λ (b : Bool). (b && is_home s.holder) && is_over tracks) is
-alive_over (s ∷ tracks) (suc i) lt is = and_false (s.life.ended && is_home s.holder) (is_over tracks) (alive_over tracks i (omega (arith, lt)) is)
-
--- not all is over while some proxy isn't home
-pub away_over : (tracks : List TrackKept) (i : ℕ) → i < length tracks → is_home (track_at tracks i).holder ≡ false → is_over tracks ≡ false
-away_over [] i lt is = absurd (let z : ⊥ = omega (arith, lt) in z)
-away_over (s ∷ tracks) zero lt is = first s.life.ended (is_home s.holder) is
-  where
-    first : (a b : Bool) → b ≡ false → ((a && b) && is_over tracks) ≡ false
-    first true true is = absurd (true≢false is)
-    first true false is = refl
-    first false b is = refl
-away_over (s ∷ tracks) (suc i) lt is = and_false (s.life.ended && is_home s.holder) (is_over tracks) (away_over tracks i (omega (arith, lt)) is)
+alive_over (s ∷ tracks) (suc i) lt is = and_none (s.life.ended && is_home s.holder) (is_over tracks) (alive_over tracks i (omega (arith, lt)) is)
 
 -- ## A round
 
@@ -222,8 +203,8 @@ module _ (s : Session) (marks : Marks) (scales : All (λ (x : Setting). x.scale 
 
   -- a round that leaves a proxy that isn't home orders no Exit
   pub underway_away : (i : ℕ) → i < length after.normal.tracks → is_home (track_at after.normal.tracks i).holder ≡ false → Underway s after
-  underway_away i lt away = underway_round (unordered (ap (λ (b : Bool). b && (t.turn.room == pipe_size (setup_of s))) (away_over after.normal.tracks i lt away)))
+  underway_away i lt away = underway_round (unordered (ap (λ (b : Bool). b && (t.turn.room == pipe_size (setup_of s))) (not_over after.normal.tracks i lt away)))
 
   -- a round whose turn doesn't see the whole room orders no Exit
   pub underway_room : (t.turn.room == pipe_size (setup_of s)) ≡ false → Underway s after
-  underway_room off = underway_round (unordered (and_false (is_over after.normal.tracks) (t.turn.room == pipe_size (setup_of s)) off))
+  underway_room off = underway_round (unordered (and_none (is_over after.normal.tracks) (t.turn.room == pipe_size (setup_of s)) off))

@@ -1,6 +1,7 @@
 -- A turn that leaves no track to be heard puts nothing into the pipe.
-use Rattle.std.proofs.Common.{◌≡◌, ℕ, zero, suc, ◌&&◌, ◌||◌, not, nat_le, Bool, true, false, true≢false, List, [], ◌∷◌, length, map, filter, is_some, if◌then◌else◌, refl, sym, ap, ◌∙◌, arith}
+use Rattle.std.proofs.Common.{◌≡◌, ℕ, zero, suc, ◌||◌, not, nat_le, Bool, true, false, List, [], ◌∷◌, length, map, filter, is_some, if◌then◌else◌, refl, sym, ap, ◌∙◌, arith}
 use Rattle.std.specs.List.{range_with_len, list_any}
+use Rattle.af_base.proofs.Basics.{and_none, neither}
 use Rattle.af_base.specs.Turn.{Turn, TakeSeen}
 use Rattle.af_life.specs.declared.kept.TrackKept.{TrackKept}
 use Rattle.af_life.specs.Heard.{learnt}
@@ -25,14 +26,10 @@ some_heard tracks = list_any (λ (s : TrackKept). plays s.life) tracks
 
 -- ## Tracks
 
-or_none : (a b : Bool) → (a || b) ≡ false → (a ≡ false) × (b ≡ false)
-or_none true b is = absurd (true≢false is)
-or_none false b is = (refl, is)
-
 unheard_at : (tracks : List TrackKept) (i : ℕ) → some_heard tracks ≡ false → plays (track_at tracks i).life ≡ false
 unheard_at [] i none = refl
-unheard_at (s ∷ tracks) zero none = (or_none (plays s.life) (some_heard tracks) none).0
-unheard_at (s ∷ tracks) (suc i) none = unheard_at tracks i (or_none (plays s.life) (some_heard tracks) none).1
+unheard_at (s ∷ tracks) zero none = (neither (plays s.life) (some_heard tracks) none).0
+unheard_at (s ∷ tracks) (suc i) none = unheard_at tracks i (neither (plays s.life) (some_heard tracks) none).1
 
 -- if every life has ended, none is to be heard
 pub over_unheard : (tracks : List TrackKept) → AllOver tracks → some_heard tracks ≡ false
@@ -44,10 +41,6 @@ over_unheard (s ∷ tracks) over = ap (λ (b : Bool). b || some_heard tracks) (s
 none_of : (p : ℕ → Bool) (xs : List ℕ) → ((i : ℕ) → p i ≡ false) → filter p xs ≡ []
 none_of p [] h = refl
 none_of p (x ∷ xs) h = ap (λ (b : Bool). if b then x ∷ filter p xs else filter p xs) (h x) ∙ none_of p xs h
-
-quiet : (a b : Bool) → b ≡ false → (a && b) ≡ false
-quiet true b is = is
-quiet false b is = refl
 
 no_takes : (takes : List TakeSeen) → map (λ (take : TakeSeen). take.track) takes ≡ [] → takes ≡ []
 no_takes [] is = refl
@@ -67,7 +60,7 @@ unheard_due c k m e runs none = ap (λ (l : List ℕ). if nat_le (buffer c) e.ro
     same = ap (λ (x : NormalKept). mixed_here x.tracks) (goes_on_so c k m e runs) ∙ due_after (buffer c) e.mixes e.push (after_edits c k e m)
 
     here : mixed_here tracks ≡ []
-    here = none_of (λ i. is_mixed_here (track_at tracks i)) (range_with_len 0 (length tracks)) (λ i. quiet (not (is_some (track_at tracks i).slot)) (plays (track_at tracks i).life) (unheard_at tracks i none))
+    here = none_of (λ i. is_mixed_here (track_at tracks i)) (range_with_len 0 (length tracks)) (λ i. and_none (not (is_some (track_at tracks i).slot)) (plays (track_at tracks i).life) (unheard_at tracks i none))
 
 -- a turn that leaves no track to be heard puts nothing
 pub unheard_puts : (s : Session) (marks : Marks) (run : Run) (round : RoundSeen) (t : TurnMade s marks run round) → (t.turn.ended ≡ false → some_heard (after_round s run round).normal.tracks ≡ false) → put_in s round.turn ≡ 0

@@ -1,7 +1,7 @@
 -- What the looks at its command block make of a track, by what entries tell.
-use Rattle.std.proofs.Common.{◌≡◌, ◌⊎◌, ℕ, zero, suc, ◌+◌, ◌%◌, ◌==◌, ◌&&◌, ◌||◌, not, Bool, true, false, true≢false, if◌then◌else◌, is_some, inl, inr, List, [], ◌∷◌, length, Option, Some, eqb-true, refl, sym, ap, subst, ◌∙◌, arith}
+use Rattle.std.proofs.Common.{◌≡◌, ◌⊎◌, ℕ, zero, suc, ◌+◌, ◌%◌, ◌==◌, ◌&&◌, ◌||◌, not, Bool, true, false, if◌then◌else◌, is_some, inl, inr, List, [], ◌∷◌, length, Option, Some, eqb-true, refl, sym, ap, subst, ◌∙◌, arith}
 use Rattle.std.specs.List.{AllByRecursion, list_any}
-use Rattle.af_base.specs.declared.seen.Seen.{Seen}
+use Rattle.af_base.proofs.Basics.{no}
 use Rattle.af_base.specs.declared.seen.Seen.TheVariants as seen
 use Rattle.af_base.specs.declared.turn.CommandLook.{CommandLook}
 use Rattle.af_life.specs.declared.kept.TrackKept.{TrackKept}
@@ -10,9 +10,7 @@ use Rattle.af_life.specs.State.{is_among}
 use Rattle.af_life.specs.Commands.{Row, applies, by_command, commands, first_effect}
 use Rattle.af_life.specs.Obeys.{after_look, after_looks, are_due, ended, goes_on, is_shut, must_wait, obeyed, opens, shows_command, told}
 use Rattle.af_entry_law.specs.Told.{life_told, track_told}
-
-pub no : {A : Type 0} → false ≡ true → A
-no h = absurd (true≢false (sym h))
+use Rattle.af_runs.proofs.Basics.{shut_shows}
 
 -- ## A command
 
@@ -157,20 +155,13 @@ module _ (given : Option ℕ) (f g : ℕ) where
 
 -- ## A look that finds the block shut
 
-shut_shows_none : (x : Seen) → is_shut x ≡ true → shows_command x ≡ false
-shut_shows_none (seen.Shut front rear) shut = refl
-shut_shows_none seen.Absent shut = refl
-shut_shows_none seen.Empty shut = refl
-shut_shows_none (seen.Flushed dropped) shut = refl
-shut_shows_none (seen.Frames count) shut = no shut
-
 module _ (given : Option ℕ) (f : ℕ) where
   shut_ends_it : (look : CommandLook) (s : TrackKept) → is_shut look.seen ≡ true → (after_look given f look s).life.ended ≡ true
   unfolding after_look
-  shut_ends_it look s shut = λ j. (if shut_shows_none look.seen shut j then obeyed given f look.code look.argument s else if shut j then ended s else s).life.ended
+  shut_ends_it look s shut = λ j. (if shut_shows look.seen shut j then obeyed given f look.code look.argument s else if shut j then ended s else s).life.ended
 
   shut_stops : (look : CommandLook) (t : TrackKept) → is_shut look.seen ≡ true → goes_on look t ≡ false
-  shut_stops look t shut = ap (λ (b : Bool). b && not (is_some t.awaits)) (shut_shows_none look.seen shut)
+  shut_stops look t shut = ap (λ (b : Bool). b && not (is_some t.awaits)) (shut_shows look.seen shut)
 
   -- a look that finds the block shut ends the track
   pub shut_ends : (n : ℕ) (looks : List CommandLook) (s : TrackKept) → are_due n given f looks s ≡ true → list_any (λ (look : CommandLook). is_shut look.seen) looks ≡ true → (after_looks given f looks s).life.ended ≡ true

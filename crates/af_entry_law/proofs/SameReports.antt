@@ -1,6 +1,7 @@
 -- What a report makes of a life, by what entries tell.
 use Rattle.std.proofs.Common.{◌≡◌, ℕ, ◌+◌, ◌*◌, ◌<◌, ◌==◌, ◌||◌, not, nat_le, Bool, true, false, if◌then◌else◌, Some, None, refl, sym, subst, ◌∙◌, eqb-true, arith}
 use Rattle.std.proofs.lemmas.Option.{none-some, same_Some}
+use Rattle.af_base.proofs.Basics.{no}
 use Rattle.af_life.specs.declared.state.LifeState.{LifeState}
 use Rattle.af_life.specs.declared.state.LifeState.TheVariants.{Absent, Idle, Active, Pausing, Paused, Resuming, Stopping1, Stopping2, Stopped, Flushed}
 use Rattle.af_life.specs.declared.track.Known.{Known}
@@ -9,7 +10,6 @@ use Rattle.af_life.specs.State.{code_of}
 use Rattle.af_life.specs.Reports.{by_report, told_by_report}
 use Rattle.af_life.specs.Serves.{state_code, stored_over}
 use Rattle.af_entry_law.specs.Told.{life_told}
-use Rattle.af_entry_law.proofs.SameCommands.{no}
 
 -- ## The status word
 

@@ -1,6 +1,7 @@
 -- What a turn makes of its tracks, by what entries tell.
 use Rattle.std.proofs.Common.{◌≡◌, ℕ, zero, suc, ◌+◌, ◌<◌, Bool, true, false, true≢false, if◌then◌else◌, is_some, MatchBool, List, [], Option, Some, None, refl, sym, ap, subst, ◌∙◌, arith}
 use Rattle.std.specs.List.{list_any}
+use Rattle.af_base.proofs.Basics.{no}
 use Rattle.af_base.specs.declared.report.SlotReport.{SlotReport}
 use Rattle.af_base.specs.declared.turn.CommandLook.{CommandLook}
 use Rattle.af_base.specs.Turn.{TrackSeen}
@@ -12,7 +13,7 @@ use Rattle.af_life.specs.Obeys.{after_looks, are_due, is_shut, slot_for}
 use Rattle.af_life.specs.Reports.{by_report}
 use Rattle.af_life.specs.Serves.{HasDueLooks, IsServed, LegalTrack, after_commands, after_part, is_found_shut, most_looks, served, served_to, state_code, status_due, status_word, stored_over}
 use Rattle.af_entry_law.specs.Told.{life_told, track_told}
-use Rattle.af_entry_law.proofs.SameCommands.{looks_same, no, shut_ends}
+use Rattle.af_entry_law.proofs.SameCommands.{looks_same, shut_ends}
 use Rattle.af_entry_law.proofs.SameReports.{reports_same, state_code_small, stored_tells, word_tells}
 use Rattle.af_entry_law.proofs.ToldLists.{same_at, same_set, same_slot, tracks_told}
 use Rattle.std.specs.Prelude.{◌%◌}

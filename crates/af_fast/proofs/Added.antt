@@ -1,6 +1,7 @@
 -- The entry that a cycle adds is a legal one, and what it says was done.
-use Rattle.std.proofs.Common.{◌≡◌, ℕ, zero, suc, ◌+◌, ◌-◌, ◌*◌, ◌<◌, ◌≤◌, ◌==◌, ◌||◌, eq-eqb, fold, Bool, true, false, true≢false, List, [], ◌∷◌, ◌++◌, length, Option, Some, None, refl, sym, ap, subst, ◌∙◌, append-nil, length-append, if◌then◌else◌, arith}
+use Rattle.std.proofs.Common.{◌≡◌, ℕ, zero, suc, ◌+◌, ◌-◌, ◌*◌, ◌<◌, ◌≤◌, ◌==◌, eq-eqb, fold, Bool, true, false, true≢false, List, [], ◌∷◌, ◌++◌, length, Option, Some, None, refl, sym, ap, subst, ◌∙◌, append-nil, length-append, if◌then◌else◌, arith}
 use Rattle.std.proofs.Math.Nat.{add-zero, suc-mul}
+use Rattle.af_base.proofs.Basics.{neither, some_same}
 use Rattle.af_base.specs.declared.frame.Frame.{Frame}
 use Rattle.af_base.specs.declared.log.Cycle.{Cycle}
 use Rattle.af_base.specs.declared.log.Cycle.TheVariants as cycle
@@ -19,7 +20,6 @@ use Rattle.af_fast.specs.Mixer.{MixerState, IsInOrderAfter, AreFew, adopted_stat
 use Rattle.af_fast.specs.Mixing.{StoresReport, notes, AddsCycleAfter, Takes, Writes, MixesOnceAfter}
 use Rattle.af_fast.specs.Slots.{PlaysSlots, found}
 use Rattle.af_fast.proofs.LentState.{none_now}
-use Rattle.af_fast.proofs.HeldFacts.{some_same}
 use Rattle.af_fast.proofs.SlotsDone.{taken_few}
 use Rattle.af_fast.proofs.Noted.{IsPlayed, now, is_now, noted_order}
 
@@ -30,17 +30,12 @@ mixed_is cycle.Cold e = absurd (true≢false (sym e))
 mixed_is cycle.Exit e = absurd (true≢false (sym e))
 mixed_is (cycle.Spent n) e = absurd (true≢false (sym e))
 
-either : (a b : Bool) → (a || b) ≡ false → (a ≡ false) × (b ≡ false)
-either false false e = (refl, refl)
-either true b e = absurd (true≢false e)
-either false true e = absurd (true≢false e)
-
 still_runs : (m : MixerState) → is_over m ≡ false → m.exited ≡ false
-still_runs m goes = (either m.exited (length m.log.entries == m.cycles) goes).0
+still_runs m goes = (neither m.exited (length m.log.entries == m.cycles) goes).0
 
 pub log_open : {earlier : List CycleEntry} (m : MixerState) → IsInOrderAfter earlier m → is_over m ≡ false → length m.log.entries < m.cycles
 log_open m k goes =
-    let apart : length m.log.entries ≡ m.cycles → ⊥ = (λ e. true≢false (sym (eq-eqb (length m.log.entries) m.cycles e) ∙ (either m.exited (length m.log.entries == m.cycles) goes).1)) in
+    let apart : length m.log.entries ≡ m.cycles → ⊥ = (λ e. true≢false (sym (eq-eqb (length m.log.entries) m.cycles e) ∙ (neither m.exited (length m.log.entries == m.cycles) goes).1)) in
     omega (arith, apart, k.room.entries)
 
 module _ (earlier : List CycleEntry) (m n l : MixerState) (entry : CycleEntry) (k : IsInOrderAfter earlier m) (open_log : length m.log.entries < m.cycles) (runs : m.exited ≡ false) (played : IsPlayed m n)
@@ -158,7 +153,7 @@ still_step earlier m l entry answer k goes answer_is dry is noted r =
 pub adds_so : {earlier : List CycleEntry} (m m' : MixerState) (out out' : List Frame) (answer : Cycle) → is_over m ≡ false → (entry : CycleEntry) × (answer ≡ entry.cycle) × AddsCycleAfter earlier m m' entry × Writes m' entry out out'
     → MixesOnceAfter earlier m out answer m' out'
 adds_so m m' out out' answer goes added =
-    let parts = either m.exited (length m.log.entries == m.cycles) goes in
+    let parts = neither m.exited (length m.log.entries == m.cycles) goes in
     record {
       exited = (λ over. absurd (true≢false (sym over ∙ parts.0)));
       spent = (λ _ full. absurd (true≢false (sym (eq-eqb (length m.log.entries) m.cycles full) ∙ parts.1)));

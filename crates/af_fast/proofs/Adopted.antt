@@ -2,13 +2,14 @@
 use Rattle.std.proofs.Common.{◌≡◌, ℕ, ◌+◌, Bool, true, false, true≢false, List, [], ◌∷◌, ◌++◌, length, Option, Some, None, refl, sym, ap, subst, ◌∙◌, arith}
 use Rattle.af_base.specs.declared.log.CycleEntry.{CycleEntry}
 use Rattle.af_base.specs.declared.state.FastState.{FastState}
+use Rattle.af_model.proofs.Basics.{same_before}
 use Rattle.af_model.specs.declared.states.ObserverEvent.{ObserverEvent}
 use Rattle.af_model.specs.declared.states.ObserverEvent.TheVariants.{SawNext, Ack}
 use Rattle.af_model.specs.declared.states.ObserverEvent.TheVariants as observer
 use Rattle.af_model.specs.declared.plain_calls.Poll.{Poll}
 use Rattle.af_model.specs.declared.plain_calls.Poll.TheVariants.{Nothing, Same, New}
 use Rattle.af_model.specs.Cycles.{state_of, last_used, cold_done}
-use Rattle.af_model.proofs.UsedStates.{state_of-before, cold_done-before, UseUpTo-more}
+use Rattle.af_model.proofs.UsedStates.{cold_done-before, UseUpTo-more}
 use Rattle.af_server.specs.Order.{ServerState}
 use Rattle.af_stateq.specs.Answers.{WasPolled}
 use Rattle.af_stateq.specs.Laws.{polled_states}
@@ -79,7 +80,7 @@ module _ (earlier : List CycleEntry) where
         keeps = record {
           exited_is = k.keeps.exited_is;
           cold_is = k.keeps.cold_is ∙ sym (cold_done-before xs x (all m) (UseUpTo-more (last_used (all m)) (length xs) (all m) (omega (arith, long)) u.used)) ∙ ap (λ (ys : List FastState). cold_done ys (all m)) (sym states);
-          last_is = k.keeps.last_is ∙ sym (state_of-before xs x (last_used (all m)) (omega (arith, long))) ∙ ap (λ (ys : List FastState). state_of ys (last_used (all m))) (sym states);
+          last_is = k.keeps.last_is ∙ sym (same_before xs x (last_used (all m)) (omega (arith, long))) ∙ ap (λ (ys : List FastState). state_of ys (last_used (all m))) (sym states);
         };
         reports = k.reports;
         forgotten = k.forgotten;

@@ -10,13 +10,10 @@ use Rattle.af_base.specs.declared.log.CycleEntry.{CycleEntry}
 use Rattle.af_base.specs.declared.plain.Part.{Part}
 use Rattle.af_base.specs.Gain.{left_half, right_half, gain_used}
 use Rattle.af_base.specs.Log.{slots, count_seen, entry_slot, slot_take, takes_of}
-use Rattle.af_base.specs.Mix.{Take, frame_at, right_sample, silence, left_part, right_part, left_sum, right_sum, mixed_frame, mixed_sample, mix}
+use Rattle.af_base.specs.Mix.{Take, frame_at, right_sample, left_part, right_part, left_sum, right_sum, mixed_frame, mixed_sample, mix}
 use Rattle.af_base.specs.Part.{take_of}
 use Rattle.af_fast.specs.Heard.{heard_takes}
-
-silent_right : (mono : Bool) (z : ℤ) → right_sample mono silence *ℤ z ≡ pos 0
-silent_right true z = zero-*ℤ z
-silent_right false z = zero-*ℤ z
+use Rattle.af_gain.proofs.Basics.{silent_right}
 
 module _ (frames : List Frame) (entry : CycleEntry) where
   abbrev count : ℕ → ℕ

@@ -1,8 +1,9 @@
 -- The proxies that the observer holds, as one of them is played.
-use Rattle.std.proofs.Common.{◌≡◌, ℕ, ◌<◌, ◌⊎◌, inl, inr, List, length, length-set, Option, Some, None, is_some, unwrap_or, slice_set, slice_index_or, sym, ap, subst, ◌∙◌, arith}
+use Rattle.std.proofs.Common.{◌≡◌, ℕ, ◌<◌, ◌⊎◌, inl, inr, List, length, length-set, Option, Some, None, is_some, slice_set, slice_index_or, sym, ap, subst, ◌∙◌, arith}
 use Rattle.std.proofs.lemmas.Bool.{cases_eq}
 use Rattle.std.proofs.lemmas.List.{get_or-set_same, get_or-set_other, get_or-replicate}
 use Rattle.std.proofs.lemmas.Option.{slice_get_within, get_or_from_slice_get}
+use Rattle.af_base.proofs.Basics.{some_same}
 use Rattle.af_base.specs.Log.{slots}
 use Rattle.af_model.specs.StateQueue.{slot_of, carries, has}
 use Rattle.af_cblk.specs.Sides.{Made, server_made}
@@ -14,9 +15,6 @@ use Rattle.af_link.specs.Names.{IsStreamOf}
 use Rattle.af_link.specs.declared.names.StreamNames.{StreamNames}
 use Rattle.af_fast.specs.Fits.{stream_fits, NamesBlocks}
 use Rattle.af_fast.specs.Mixer.{CarriesNone}
-
-pub some_same : {X : Type 0} (x y : X) → Some x ≡ Some y → x ≡ y
-some_same x y e = ap (λ o. unwrap_or o x) e
 
 -- an observer that holds no items has a state that carries none
 pub begins_bare : (o : Observes ServerState StreamNames) → InOrder stream_fits o → o.items ≡ nothing → o.past.number ≡ 0 → CarriesNone o.past.state

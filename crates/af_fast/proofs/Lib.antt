@@ -1,3 +1,4 @@
+pub mod Basics
 mod LentState
 mod HeldFacts
 mod SlotSteps

@@ -4,6 +4,7 @@ use Rattle.af_base.specs.declared.log.CycleEntry.{CycleEntry}
 use Rattle.af_base.specs.declared.report.Report.{Report}
 use Rattle.af_base.specs.declared.report.SlotReport.{SlotReport}
 use Rattle.af_base.specs.declared.state.FastState.{FastState}
+use Rattle.af_fast.proofs.Basics.{last_of-learn}
 use Rattle.af_model.specs.declared.newest.WriterEvent.{WriterEvent}
 use Rattle.af_model.specs.declared.newest.WriterEvent.TheVariants.{Store}
 use Rattle.af_model.specs.declared.newest.WriterEvent.TheVariants as writes
@@ -11,7 +12,7 @@ use Rattle.af_model.specs.declared.states.ObserverEvent.{ObserverEvent}
 use Rattle.af_model.specs.declared.states.ObserverEvent.TheVariants.{SawNext, Ack}
 use Rattle.af_model.specs.declared.states.ObserverEvent.TheVariants as observes
 use Rattle.af_model.specs.Reports.{no_report}
-use Rattle.af_latest.specs.Laws.{last_of, stores}
+use Rattle.af_latest.specs.Laws.{stores}
 use Rattle.af_server.specs.Order.{ServerState}
 use Rattle.af_stateq.specs.Laws.{polled_states}
 use Rattle.af_stateq.specs.Observes.{InOrder}
@@ -20,12 +21,6 @@ use Rattle.af_stateq.proofs.Told.{order_learns}
 use Rattle.af_fast.specs.Fits.{stream_fits}
 use Rattle.af_fast.specs.Meets.{Others, mixer_met}
 use Rattle.af_fast.specs.Mixer.{MixerState, KeepsEntries, Reported, IsInOrderAfter, all_entries}
-
--- what a writer learns stores nothing
-last_of-learn : (x : Report) (ws : List (WriterEvent Report)) (k : ℕ) → last_of x (ws ++ writes.Learn k ∷ []) ≡ last_of x ws
-last_of-learn x [] k = refl
-last_of-learn x (Store y ∷ ws) k = last_of-learn y ws k
-last_of-learn x (writes.Learn c ∷ ws) k = last_of-learn x ws k
 
 stores-learn : (ws : List (WriterEvent Report)) (k : ℕ) → stores (ws ++ writes.Learn k ∷ []) ≡ stores ws
 stores-learn [] k = refl

@@ -8,11 +8,12 @@ use Rattle.af_base.specs.declared.report.SlotReport.{SlotReport}
 use Rattle.af_base.specs.declared.seen.Seen.{Seen}
 use Rattle.af_base.specs.declared.state.FastState.{FastState}
 use Rattle.af_base.specs.Log.{slots, entry_slot}
+use Rattle.af_model.proofs.Basics.{one_few}
 use Rattle.af_model.specs.declared.newest.WriterEvent.{WriterEvent}
 use Rattle.af_model.specs.declared.newest.WriterEvent.TheVariants.{Store}
 use Rattle.af_model.specs.declared.newest.WriterEvent.TheVariants as writes
 use Rattle.af_model.specs.Cycles.{state_of, last_used, is_exit, is_cold, cold_of, cold_done, UseUpTo}
-use Rattle.af_model.specs.Reports.{ServerKnown, no_slot, no_report, report_at, one_if, is_full, is_partial, is_empty, counted_look, carried, slot_report}
+use Rattle.af_model.specs.Reports.{ServerKnown, no_slot, no_report, report_at, is_full, is_partial, is_empty, counted_look, carried, slot_report}
 use Rattle.af_model.specs.StateQueue.{carries, slot_of}
 use Rattle.af_model.proofs.UsedStates.{last_used-push, has_exit-push, cold_done-push, UseUpTo-push, UseUpTo-more}
 use Rattle.af_latest.specs.Laws.{last_of, stores}
@@ -35,10 +36,6 @@ stores-push : (ws : List (WriterEvent Report)) (r : Report) → stores (ws ++ St
 stores-push [] r = refl
 stores-push (Store y ∷ ws) r = let e = stores-push ws r in omega (arith, e)
 stores-push (writes.Learn c ∷ ws) r = stores-push ws r
-
-one_few : (b : Bool) → one_if b ≤ 1
-one_few true = omega arith
-one_few false = omega arith
 
 -- a count grows by one at most
 abbrev IsFew : ℕ → SlotReport → Type 0

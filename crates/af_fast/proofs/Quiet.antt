@@ -1,18 +1,15 @@
 -- The slots behind the last one of a state's mask: none has a track.
-use Rattle.std.proofs.Common.{◌≡◌, inl, inr, ℕ, zero, suc, ◌+◌, ◌^◌, ◌≤◌, ◌<◌, ◌==◌, ◌&&◌, not, ne_eqb, Bool, true, false, if◌then◌else◌, List, slice_index_or, refl, sym, ap, ◌∙◌, arith}
+use Rattle.std.proofs.Common.{◌≡◌, inl, inr, ℕ, zero, suc, ◌+◌, ◌^◌, ◌≤◌, ◌<◌, ◌==◌, ◌&&◌, not, ne_eqb, Bool, false, if◌then◌else◌, List, slice_index_or, sym, ap, ◌∙◌, arith}
 use Rattle.std.proofs.lemmas.Bool.{cases_lt}
 use Rattle.std.specs.Int.{bit_at}
 use Rattle.std.specs.Int.Bits.{bit_or, or_zero_r}
+use Rattle.af_base.proofs.Basics.{and_false}
 use Rattle.af_base.specs.declared.state.FastState.{FastState}
 use Rattle.af_base.specs.Log.{slots}
 use Rattle.af_model.specs.Cycles.{mix_scale, mono_marks}
 use Rattle.af_model.specs.StateQueue.{carries, slot_of, IsState}
 use Rattle.af_model.specs.Tracks.{tracks_below}
 use Rattle.af_fast.specs.Slots.{IsQuietFrom}
-
-and_false : (b : Bool) → (b && false) ≡ false
-and_false true = refl
-and_false false = refl
 
 -- no slot behind a mask has a track
 pub quiet_from : (x : FastState) (used : ℕ) → ((i : ℕ) → used ≤ i → bit_at x.mask i ≡ 0) → IsQuietFrom x used

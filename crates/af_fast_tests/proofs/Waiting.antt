@@ -1,10 +1,11 @@
 -- The proxies that wait for a slot.
-use Rattle.std.proofs.Common.{◌≡◌, ℕ, zero, suc, ◌<◌, ◌⊎◌, inl, inr, List, [], ◌∷◌, ◌++◌, length, take, Option, Some, None, IfSome, slice_set, slice_get, refl, sym, ap, subst, ◌∙◌, arith}
+use Rattle.std.proofs.Common.{◌≡◌, ℕ, zero, suc, ◌<◌, ◌⊎◌, inl, inr, List, [], ◌∷◌, ◌++◌, length, take, Option, Some, None, IfSome, slice_set, refl, sym, ap, subst, ◌∙◌, arith}
 use Rattle.std.proofs.lemmas.Bool.{cases_eq}
 use Rattle.std.proofs.lemmas.List.{get_or-set_same, get_or-set_other, length-append}
 use Rattle.std.proofs.Math.Seq.{take-append_seam}
 use Rattle.af_cblk.specs.Sides.{Made}
 use Rattle.af_client.specs.Order.{ClientState, IsClientOf}
+use Rattle.af_fast.proofs.Basics.{one_of}
 use Rattle.af_server.specs.Order.{ServerState, IsServerOf}
 use Rattle.af_stateq.specs.Mutates.{at}
 use Rattle.af_link.specs.Names.{IsStreamOf}
@@ -19,10 +20,6 @@ one_taken blocks servers track o gone lt waiting = record { each = (λ i s is. b
     by_place : (i : ℕ) (s : ServerState) → at (slice_set servers track o) i ≡ Some s → (i ≡ track) ⊎ (i ≡ track → ⊥) → IsStreamOf blocks i s
     by_place i s is (inl e) = let none : None ≡ Some s = sym gone ∙ sym (get_or-set_same servers track o None lt) ∙ ap (at (slice_set servers track o)) (sym e) ∙ is in cc
     by_place i s is (inr other) = waiting.each i s (sym (get_or-set_other servers track i o None other) ∙ is)
-
--- a server of the block of a place
-one_waits : (blocks : List Made) (i : ℕ) (b : Made) (x s : ServerState) → slice_get blocks i ≡ Some b → IsServerOf b x → Some x ≡ Some s → IsStreamOf blocks i s
-one_waits blocks i b x s here of is = subst (λ (t : ServerState). IsStreamOf blocks i t) (same_Some x s is) (record { made = here ∙ ap (λ (m : Made). Some m) (sym of.0); in_order = of.1 })
 
 -- the proxy that was taken is of the block of its place
 pub one_given : (blocks : List Made) (servers : List (Option ServerState)) (track : ℕ) (o : Option ServerState) → AreWaiting blocks servers → at servers track ≡ o → IfSome o (λ s. IsStreamOf blocks track s)
@@ -42,7 +39,7 @@ one_put blocks servers track x of lt waiting = record { each = (λ i s is. by_pl
 -- one block more, with its server
 more_waits : (blocks : List Made) (servers : List (Option ServerState)) (b : Made) (x : ServerState) → length blocks ≡ length servers → IsServerOf b x → AreWaiting blocks servers
     → (i : ℕ) (s : ServerState) → at (servers ++ Some x ∷ []) i ≡ Some s → IsStreamOf (blocks ++ b ∷ []) i s
-more_waits [] [] b x long of waiting zero s is = one_waits (b ∷ []) 0 b x s refl of is
+more_waits [] [] b x long of waiting zero s is = one_of (b ∷ []) 0 b x s refl of is
 more_waits [] [] b x long of waiting (suc i) s is = cc
 more_waits [] (t ∷ ts) b x long of waiting i s is = absurd (omega (arith, long))
 more_waits (c ∷ bs) [] b x long of waiting i s is = absurd (omega (arith, long))

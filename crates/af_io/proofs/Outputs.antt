@@ -1,11 +1,8 @@
 -- Files that are made one after the other.
-use Rattle.std.proofs.Common.{◌≡◌, List, ℕ, [], ◌∷◌, ◌++◌, Some, refl, sym, ◌∙◌, inl, inr, subst}
+use Rattle.std.proofs.Common.{◌≡◌, List, [], ◌∷◌, ◌++◌, Some, refl, sym, inl, inr, subst}
+use Rattle.af_io.proofs.Basics.{files_are}
 use Rattle.af_io.specs.Files.{Files, SameFiles, SetsFile, LeavesFront}
 use Rattle.af_io.specs.Outputs.{NamedFile, with_file, with_files, SetsFiles, LeavesFronts}
-
--- files of which none has changed
-files_same : (old new : Files) → SameFiles old new → new ≡ old
-files_same old new same = λ i name. same name i
 
 -- nothing was made
 pub LeavesFronts-none : (old : Files) (files : List NamedFile) (new : Files) → SameFiles old new → LeavesFronts old files new
@@ -41,10 +38,10 @@ with_files-append old (made ∷ first) rest = with_files-append (with_file old m
 -- one more file was made
 pub SetsFiles-more : (old : Files) (done : List NamedFile) (mid : Files) (next : NamedFile) (new : Files) → SetsFiles old done mid → SetsFile mid next.name (Some next.bytes) new → SetsFiles old (done ++ next ∷ []) new
 SetsFiles-more old done mid next new before set =
-    let here : SetsFile (with_files old done) next.name (Some next.bytes) new = subst (λ (files : Files). SetsFile files next.name (Some next.bytes) new) (files_same (with_files old done) mid before) set in
+    let here : SetsFile (with_files old done) next.name (Some next.bytes) new = subst (λ (files : Files). SetsFile files next.name (Some next.bytes) new) (files_are (with_files old done) mid before) set in
     subst (λ (files : Files). SameFiles files new) (sym (with_files-append old done (next ∷ []))) here
 
 -- the next file may not be whole
 pub LeavesFronts-next : (old : Files) (done : List NamedFile) (mid : Files) (next : NamedFile) (rest : List NamedFile) (new : Files) → SetsFiles old done mid → LeavesFront mid next.name next.bytes new → LeavesFronts old (done ++ next ∷ rest) new
 LeavesFronts-next old done mid next rest new before left =
-    LeavesFronts-at old done next rest new (subst (λ (files : Files). LeavesFront files next.name next.bytes new) (files_same (with_files old done) mid before) left)
+    LeavesFronts-at old done next rest new (subst (λ (files : Files). LeavesFront files next.name next.bytes new) (files_are (with_files old done) mid before) left)

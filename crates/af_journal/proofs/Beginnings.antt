@@ -9,6 +9,7 @@ use Rattle.std.proofs.lemmas.Bool.Decides.{nat_tests}
 use Rattle.af_base.specs.declared.event.ClientCall.{ClientCall}
 use Rattle.af_base.specs.declared.frame.Frame.{Frame}
 use Rattle.af_base.specs.declared.log.CycleEntry.{CycleEntry}
+use Rattle.af_journal.proofs.Basics.{fit-append}
 use Rattle.af_model.specs.Journals.{EntrySeen, JournalData, RoundSeen, RoundsNoted, entries_of, frames_of}
 use Rattle.af_model.specs.JournalForm.{AreEntries, IsRound}
 use Rattle.af_model.specs.Numbers.{FitsEntry}
@@ -32,7 +33,7 @@ use Rattle.af_journal.proofs.Fitting.{is_journal, round_fits}
 use Rattle.af_journal.proofs.InOrder.{FollowsFrom}
 use Rattle.af_journal.proofs.JournalOf.{left}
 use Rattle.af_journal.proofs.Judged.{fits-parts, further_left, lawful-same, rounds_fit}
-use Rattle.af_journal.proofs.Leaving.{fits-append, leaves-as, leaves-then}
+use Rattle.af_journal.proofs.Leaving.{leaves-as, leaves-then}
 use Rattle.af_journal.proofs.OneJournal.{one-reading}
 use Rattle.af_journal.proofs.PokeLines.{entries-poke, in-place, none-beyond, one-for_all, past-end}
 use Rattle.af_journal.proofs.RoundsLeft.{EntriesLeft, RoundsLeft}
@@ -156,7 +157,7 @@ module _ (tracks : ℕ) (few : tracks < 2 ^ 32) (reach : Reach) (text rest : Lis
       record {
         rounds_are = kept ++ q ∷ [];
         taken_are = taken-more tracks kept q noted next entries entries frames frames taken adds;
-        fits = subst (AllByRecursion IsWritten) (sym more_lines) (fits-append (flat_map round_lines kept) (round_lines q) own_fits (round_fits tracks 0 q (omega (arith, few)) p.form (subst (AreEntries 0) (sym p.still) tt) p.numbers));
+        fits = subst (AllByRecursion IsWritten) (sym more_lines) (fit-append (flat_map round_lines kept) (round_lines q) own_fits (round_fits tracks 0 q (omega (arith, few)) p.form (subst (AreEntries 0) (sym p.still) tt) p.numbers));
         front = record {
           reading = reading all all_form all_each all_lines;
           reads = reads all all_form all_each all_lines;

@@ -5,6 +5,7 @@ use Rattle.std.proofs.lemmas.Option.{option_and_then_some, same_Some}
 use Rattle.std.proofs.lemmas.Fmt.{decimal_digit, decimal_step, decimal_by_steps}
 use Rattle.std.proofs.lemmas.Bool.Decides.{nat_tests}
 use Rattle.std.specs.Fmt.{decimal}
+use Rattle.af_base.proofs.Basics.{positive_is}
 use Rattle.af_journal.specs.Digits.{digit_at, fitting, digits_on, after_digit, number_at}
 
 -- a digit, and what it stands for
@@ -24,12 +25,9 @@ not_first : (b : Bool) (o : Option ℕ) (n : ℕ) → cond b None o ≡ Some n �
 not_first true o n e = cc
 not_first false o n e = (refl, e)
 
-positive : (d : ℕ) → (d == 0) ≡ false → 0 < d
-positive d h = grind (arith, nat_tests)
-
 not_zero : (d : ℕ) (o : Option ℕ) (n : ℕ) → (if d == 0 then None else o) ≡ Some n → (0 < d) × (o ≡ Some n)
 not_zero d o n e =
-    let both = not_first (d == 0) o n e in (positive d both.0, both.1)
+    let both = not_first (d == 0) o n e in (positive_is d both.0, both.1)
 
 zero_not : (d : ℕ) (o : Option ℕ) → 0 < d → (if d == 0 then None else o) ≡ o
 zero_not d o h = let f : (d == 0) ≡ false = grind (arith, nat_tests) in ap (λ b. cond b None o) f

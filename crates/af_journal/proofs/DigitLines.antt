@@ -2,10 +2,10 @@
 use Rattle.std.specs.List.{list_all}
 use Rattle.std.proofs.Common.{◌≡◌, ℕ, ◌==◌, Bool, true, false, cond, List, [], ◌∷◌, ◌++◌, Option, Some, refl, ap, ◌∙◌, subst}
 use Rattle.std.proofs.lemmas.Bool.{eqb-true}
+use Rattle.af_base.proofs.Basics.{both}
 use Rattle.af_journal.specs.Hexadecimal.{is_hex}
 use Rattle.af_journal.specs.LineReading.{◌>>=◌}
 use Rattle.af_journal.specs.Readings.{cut}
-use Rattle.af_journal.proofs.RoundsLeft.{both_true}
 
 -- a digit is no LF
 hex-no-lf : (c : ℕ) → is_hex c ≡ true → (c == 10) ≡ false
@@ -18,7 +18,7 @@ hex-no-lf c is = by (c == 10) refl where
 pub cut-digits : (digits rest : List ℕ) → list_all is_hex digits ≡ true → cut (digits ++ 10 ∷ rest) ≡ Some (digits, rest)
 cut-digits [] rest all = refl
 cut-digits (c ∷ cs) rest all =
-    let b = both_true (is_hex c) (list_all is_hex cs) all in
+    let b = both (is_hex c) (list_all is_hex cs) all in
     ap (λ t. cond t (Some ([], cs ++ 10 ∷ rest)) (cut (cs ++ 10 ∷ rest) >>= λ r. Some (c ∷ r.0, r.1))) (hex-no-lf c b.0)
     ∙ ap (λ (o : Option (List ℕ × List ℕ)). o >>= λ r. Some (c ∷ r.0, r.1)) (cut-digits cs rest b.1)
 

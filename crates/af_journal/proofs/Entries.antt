@@ -4,10 +4,8 @@ use Rattle.std.specs.Int.{bit_at}
 use Rattle.std.specs.List.{flat_map, range_with_len}
 use Rattle.std.proofs.lemmas.List.{append_assoc, length-append, length-drop, drop-append-le, drop-drop, drop-map, drop_at, take-append-le, take-map, take_at}
 use Rattle.std.proofs.lemmas.List.Elements.{All-nil, All-cons}
-use mathlib.Core.Logic.{dite}
-use native.Mathlib.Decide.{ℕ_discrete}
+use Rattle.af_runs.proofs.Basics.{taken_up}
 use Rattle.af_base.specs.declared.frame.Frame.{Frame}
-use Rattle.af_base.specs.declared.log.CycleEntry.{CycleEntry}
 use Rattle.af_base.specs.Log.{count_seen, entry_slot, frames_taken, kind_of, slots}
 use Rattle.af_base.specs.Sample.{packed_word}
 use Rattle.af_model.specs.Cycles.{is_mixed, taken_before}
@@ -34,20 +32,7 @@ round-entries (r ∷ rs) (suc i) lt = let before = entries_of (take i rs) in let
     ∙ ap (λ l. take count (drop (length before) l)) (drop_at r.entries (entries_of rs) (length r.entries) refl)
     ∙ round-entries rs i (omega arith)
 
--- the entries of a round end within those of all rounds
-pub round-ends : (rounds : List RoundSeen) (i : ℕ) → i < length rounds → length (entries_of (take i rounds)) + length (slice_index_or rounds i no_round).entries ≤ length (entries_of rounds)
-round-ends [] i lt = absurd (omega arith)
-round-ends (r ∷ rs) zero lt = let e = length-append r.entries (entries_of rs) in omega arith
-round-ends (r ∷ rs) (suc i) lt = let e = length-append r.entries (entries_of rs) in let f = length-append r.entries (entries_of (take i rs)) in let h = round-ends rs i (omega arith) in omega arith
-
 -- ## Where a slot's frames stand
-
--- the frames of the first slots, and those of one more, are among those of all
-pub taken-below : (entry : CycleEntry) (i n : ℕ) → i < n → taken_before entry i + count_seen (entry_slot entry i).seen ≤ taken_before entry n
-taken-below entry i zero lt = absurd (omega arith)
-taken-below entry i (suc n) lt = dite (ℕ_discrete i n)
-    (λ e. subst (λ k. taken_before entry k + count_seen (entry_slot entry k).seen ≤ taken_before entry n + count_seen (entry_slot entry n).seen) (sym e) (omega arith))
-    (λ ne. let h = taken-below entry i n (omega arith) in omega arith)
 
 -- some frames in the midst of a list
 middle : (before here rest : List Frame) (at count : ℕ) → at + count ≤ length here → take count (drop (length before + at) (before ++ (here ++ rest))) ≡ take count (drop at here)
@@ -96,7 +81,7 @@ module _ (before rest : List Frame) (place : ℕ) (e : EntrySeen) (whole : lengt
   -- a slot's frames end within those of its entry
   ends : (i : ℕ) → i < slots → taken_before e.entry i + count_seen (entry_slot e.entry i).seen ≤ length e.frames
   unfolding taken_by
-  ends i lt = subst (λ n. taken_before e.entry i + count_seen (entry_slot e.entry i).seen ≤ n) (sym whole) (taken-below e.entry i slots lt)
+  ends i lt = subst (λ n. taken_before e.entry i + count_seen (entry_slot e.entry i).seen ≤ n) (sym whole) (taken_up e.entry i slots lt)
 
   same-frames : IsMixed place e.entry → (i : ℕ) → i < slots → frames_taken all (entry_slot e.entry i) ≡ slot_frames e i
   same-frames m i lt = let slot = entry_slot e.entry i in let count = count_seen slot.seen in let at = taken_before e.entry i in

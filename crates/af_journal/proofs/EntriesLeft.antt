@@ -1,15 +1,17 @@
 -- What an entry adds to what is left of a journal's text, and what a slot that may come keeps.
-use Rattle.std.proofs.Common.{◌≡◌, ℕ, zero, suc, ◌+◌, ◌<◌, ◌≤◌, ◌==◌, ◌&&◌, nat_le, nat_lt, not, List, [], ◌∷◌, ◌++◌, length, Option, Some, None, Bool, true, false, cond, refl, ap, ◌∙◌, sym, subst, arith}
+use Rattle.std.proofs.Common.{◌≡◌, ℕ, zero, suc, ◌+◌, ◌<◌, ◌≤◌, ◌==◌, ◌&&◌, nat_le, nat_lt, not, List, [], ◌∷◌, ◌++◌, length, Some, None, Bool, true, false, cond, refl, ap, ◌∙◌, sym, subst, arith}
 use Rattle.std.specs.List.{flat_map}
 use Rattle.std.proofs.lemmas.List.{get_or-replicate}
 use Rattle.std.proofs.lemmas.List.Elements.{All-nil}
 use Rattle.std.proofs.lemmas.Bool.Decides.{nat_tests}
+use Rattle.af_base.proofs.Basics.{both, equal_is, not_zero, some_is, zero_is}
 use Rattle.af_base.specs.declared.log.Cycle.{Cycle}
 use Rattle.af_base.specs.declared.log.SlotEntry.{SlotEntry}
 use Rattle.af_base.specs.declared.seen.Seen.{Seen}
 use Rattle.af_base.specs.declared.seen.Seen.TheVariants as seen
 use Rattle.af_base.specs.Log.{absent, count_seen, entry_slot, kind_of, slots}
 use Rattle.af_base.specs.Sample.{IsFrame}
+use Rattle.af_model.proofs.Basics.{not_true}
 use Rattle.af_model.specs.Cycles.{IsSeen, is_mixed, shown, still_entry, taken_before}
 use Rattle.af_model.specs.Journals.{EntrySeen, entries_of, taken_by}
 use Rattle.af_model.specs.JournalForm.{AreEntries, IsEntry, is_spent}
@@ -19,7 +21,7 @@ use Rattle.af_journal.specs.declared.stage.Stage.TheVariants as stage
 use Rattle.af_journal.specs.Lines.{Written, numbers}
 use Rattle.af_journal.specs.Stages.{is_next, is_submix, shows_submix}
 use Rattle.af_journal.specs.Texts.{each_from, entry_lines, round_lines, slots_lines}
-use Rattle.af_journal.proofs.RoundsLeft.{both_true, RoundsLeft, EntriesLeft, EntriesDue, FastLeft, TakesLeft, TakeLeft, TurnLeft, LookLeft, ClientsLeft, CallsLeft, CallDue}
+use Rattle.af_journal.proofs.RoundsLeft.{RoundsLeft, EntriesLeft, EntriesDue, FastLeft, TakesLeft, TakeLeft, TurnLeft, LookLeft, ClientsLeft, CallsLeft, CallDue}
 use Rattle.af_journal.specs.Mixes.{got_lines, frames_in, mix_entry}
 use Rattle.af_journal.proofs.MixLeft.{SlotsLeft, SlotLeft, all_frames, mix_lines, mix_taken, mix_is}
 
@@ -89,35 +91,19 @@ Rest tracks place stage.Entries ws = EntriesLeft tracks place ws
 pub next_of : (tracks low track : ℕ) → is_next tracks low track ≡ true → (low ≤ track) × (track < tracks)
 next_of tracks low track e = grind (arith, nat_tests)
 
-pub zero_of : (n : ℕ) → (n == 0) ≡ true → n ≡ 0
-zero_of n e = grind (arith, nat_tests)
-
-pub some_of : (n : ℕ) → (n == 0) ≡ false → 1 ≤ n
-some_of n e = grind (arith, nat_tests)
-
-pub equal_of : (n m : ℕ) → (n == m) ≡ true → n ≡ m
-equal_of n m e = grind (arith, nat_tests)
-
-pub not_first : {A : Type 0} (b : Bool) (r : Option A) (y : A) → cond b None r ≡ Some y → (b ≡ false) × (r ≡ Some y)
-not_first true r y e = cc
-not_first false r y e = (refl, e)
-
 pub refused : {A : Type 0} (b : Bool) (y : A) → cond b None None ≡ Some y → ⊥
 refused true y e = cc
 refused false y e = cc
 
 pub frames_two : (s : Seen) → (count_seen s == 2) ≡ true → s ≡ seen.Frames 2
 frames_two seen.Absent e = cc
-frames_two (seen.Frames n) e = ap seen.Frames (equal_of n 2 e)
+frames_two (seen.Frames n) e = ap seen.Frames (equal_is n 2 e)
 frames_two seen.Empty e = cc
 frames_two (seen.Flushed n) e = cc
 frames_two (seen.Shut a b) e = cc
 
-pub some_not : (n : ℕ) → 1 ≤ n → (n == 0) ≡ false
-some_not n h = grind (arith, nat_tests)
-
 pub no_frames : (n : ℕ) → 1 ≤ n → seen.Frames n ≡ shown n
-no_frames n h = ap (λ b. cond b seen.Empty (seen.Frames n)) (sym (some_not n h))
+no_frames n h = ap (λ b. cond b seen.Empty (seen.Frames n)) (sym (not_zero n h))
 
 pub as_shown : (s : Seen) → IsSeen s → shows_submix s ≡ true → s ≡ shown (count_seen s)
 as_shown seen.Absent h e = absurd h
@@ -125,10 +111,6 @@ as_shown (seen.Frames n) h e = no_frames n h
 as_shown seen.Empty h e = refl
 as_shown (seen.Flushed n) h e = cc
 as_shown (seen.Shut a b) h e = cc
-
-pub not_true : (b : Bool) → not b ≡ true → b ≡ false
-not_true true e = cc
-not_true false e = refl
 
 -- what a slot that may come keeps
 pub record SlotMay (low i scale gains flush : ℕ) (mono : Bool) (answer : Seen) : Type 0 where
@@ -142,20 +124,20 @@ slot_order low i a b = grind (arith, nat_tests)
 pub slot_may : (low i scale gains flush : ℕ) (mono : Bool) (answer : Seen) (b : Bool) → (low == 0) ≡ b → IsSeen answer
     → cond b ((i == 0) && is_submix scale mono gains flush answer) (nat_le low i && nat_lt i 32) ≡ true → SlotMay low i scale gains flush mono answer
 slot_may low i scale gains flush mono answer true z s e =
-    let zero_low : low ≡ 0 = zero_of low z in
-    let a = both_true (i == 0) (is_submix scale mono gains flush answer) e in
-    let b = both_true (scale == 4096) (not mono && ((gains == 268439552) && ((flush == 0) && shows_submix answer))) a.1 in
-    let c = both_true (not mono) ((gains == 268439552) && ((flush == 0) && shows_submix answer)) b.1 in
-    let d = both_true (gains == 268439552) ((flush == 0) && shows_submix answer) c.1 in
-    let f = both_true (flush == 0) (shows_submix answer) d.1 in
-    let zero_i : i ≡ 0 = zero_of i a.0 in
+    let zero_low : low ≡ 0 = zero_is low z in
+    let a = both (i == 0) (is_submix scale mono gains flush answer) e in
+    let b = both (scale == 4096) (not mono && ((gains == 268439552) && ((flush == 0) && shows_submix answer))) a.1 in
+    let c = both (not mono) ((gains == 268439552) && ((flush == 0) && shows_submix answer)) b.1 in
+    let d = both (gains == 268439552) ((flush == 0) && shows_submix answer) c.1 in
+    let f = both (flush == 0) (shows_submix answer) d.1 in
+    let zero_i : i ≡ 0 = zero_is i a.0 in
     record {
       from_low = omega arith;
       inside = omega arith;
-      unity = λ _. (zero_i, equal_of gains 268439552 d.0, zero_of flush f.0, as_shown answer s f.1, equal_of scale 4096 b.0, not_true mono c.0);
+      unity = λ _. (zero_i, equal_is gains 268439552 d.0, zero_is flush f.0, as_shown answer s f.1, equal_is scale 4096 b.0, not_true mono c.0);
     }
 slot_may low i scale gains flush mono answer false z s e =
-    let a = both_true (nat_le low i) (nat_lt i 32) e in
+    let a = both (nat_le low i) (nat_lt i 32) e in
     let o = slot_order low i a.0 a.1 in
-    let some : 1 ≤ low = some_of low z in
+    let some : 1 ≤ low = some_is low z in
     record { from_low = o.0; inside = o.1; unity = λ h. absurd (omega arith) }

@@ -3,6 +3,7 @@ use Rattle.std.proofs.Common.{◌≡◌, ℕ, ◌+◌, ◌≤◌, List, [], ◌�
 use Rattle.std.specs.List.{flat_map}
 use Rattle.std.proofs.lemmas.List.{length-map}
 use Rattle.std.proofs.lemmas.List.Concat.{flat_map-append}
+use Rattle.af_base.proofs.Basics.{map_last}
 use Rattle.af_base.specs.declared.frame.Frame.{Frame}
 use Rattle.af_base.specs.declared.log.CycleEntry.{CycleEntry}
 use Rattle.af_base.specs.Log.{kind_of}
@@ -12,7 +13,7 @@ use Rattle.af_journal.specs.declared.line.Line.TheVariants as line
 use Rattle.af_journal.specs.Lines.{numbers}
 use Rattle.af_journal.specs.Taken.{AddsEntries, AddsEntry, Leaves, more_lines}
 use Rattle.af_journal.specs.Texts.{entry_lines, fast_lines}
-use Rattle.af_journal.proofs.Leaving.{leaves-as, leaves-then, map-more}
+use Rattle.af_journal.proofs.Leaving.{leaves-as, leaves-then}
 
 -- entries keep their form as others follow
 pub entries-append : (place : ℕ) (es more : List EntrySeen) → AreEntries place es → AreEntries (place + length (frames_of es)) more → AreEntries place (es ++ more)
@@ -31,7 +32,7 @@ adds-more entries es frames fs next seen e a b =
     let place : length fs ≡ length frames + length (frames_of seen) = ap length a.frames_are ∙ length-append frames (frames_of seen) in
     let form : IsEntry (length frames + length (frames_of seen)) e.entry = subst (λ n. IsEntry n e.entry) place b.form in
     record {
-      entries_are = ap (λ l. l ++ e.entry ∷ []) a.entries_are ∙ append_assoc entries (map (λ (e : EntrySeen). e.entry) seen) (e.entry ∷ []) ∙ ap (λ l. entries ++ l) (sym (map-more (λ (e : EntrySeen). e.entry) seen e));
+      entries_are = ap (λ l. l ++ e.entry ∷ []) a.entries_are ∙ append_assoc entries (map (λ (e : EntrySeen). e.entry) seen) (e.entry ∷ []) ∙ ap (λ l. entries ++ l) (sym (map_last (λ (e : EntrySeen). e.entry) seen e));
       frames_are = b.frames_are ∙ ap (λ l. l ++ e.frames) a.frames_are ∙ append_assoc frames (frames_of seen) e.frames
           ∙ ap (λ l. frames ++ l) (ap (λ l. frames_of seen ++ l) (sym (append-nil e.frames)) ∙ sym (flat_map-append (λ (e : EntrySeen). e.frames) seen (e ∷ [])));
       form = entries-append (length frames) seen (e ∷ []) a.form (form, b.count, b.samples, tt);

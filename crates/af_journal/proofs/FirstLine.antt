@@ -4,13 +4,13 @@ use Rattle.std.specs.List.{list_any, slice_range}
 use Rattle.std.proofs.lemmas.Bool.{cases_lt}
 use Rattle.std.proofs.lemmas.List.Folds.{list_any_at}
 use Rattle.std.proofs.lemmas.Simd.{get_or-chunk, length-chunk}
+use Rattle.af_base.proofs.Basics.{equal_is}
 use Rattle.af_journal.specs.LineReading.{◌>>=◌}
 use Rattle.af_journal.specs.Readings.{cut}
-use Rattle.af_journal.proofs.Spelled.{same_byte}
 
 -- another byte
 other_by : (x : ℕ) (b : Bool) → (x == 10) ≡ b → (x ≡ 10 → ⊥) → (x == 10) ≡ false
-other_by x true e h = absurd (h (same_byte x 10 e))
+other_by x true e h = absurd (h (equal_is x 10 e))
 other_by x false e h = e
 
 other : (x : ℕ) → (x ≡ 10 → ⊥) → (x == 10) ≡ false

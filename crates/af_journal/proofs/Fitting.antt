@@ -15,18 +15,19 @@ use Rattle.af_base.specs.declared.turn.CommandLook.{CommandLook}
 use Rattle.af_base.specs.Log.{count_seen, entry_slot, kind_of, slots}
 use Rattle.af_base.specs.Sample.{packed_word}
 use Rattle.af_base.specs.Turn.{TakeSeen, TrackSeen, Turn, ended_turn}
+use Rattle.af_journal.proofs.Basics.{fit-append}
 use Rattle.af_model.specs.Cycles.{IsSeen, is_mixed}
 use Rattle.af_model.specs.Journals.{EntrySeen, JournalData, RoundSeen, entries_of, slot_frames}
 use Rattle.af_model.specs.JournalForm.{AreEntries, IsAbsent, IsCommandLook, IsEntry, IsJournal, IsMixed, IsRound, IsTake, IsTurn, is_spent}
 use Rattle.af_model.specs.Numbers.{AreWords, FitsCall, FitsEntry, FitsLook, FitsRound, FitsSlot, FitsTake, FitsTrack, FitsTurn, seen_words}
 use Rattle.af_model.proofs.NumbersFit.{absent_fits, still_fits}
+use Rattle.af_runs.proofs.Basics.{shown_if}
 use Rattle.af_runs.specs.Fronts.{is_shown}
 use Rattle.af_journal.specs.declared.line.Line.TheVariants as line
 use Rattle.af_journal.specs.Lines.{Written, numbers}
 use Rattle.af_journal.specs.Ranges.{IsSeenText, IsWritten}
 use Rattle.af_journal.specs.Taken.{open_lines}
 use Rattle.af_journal.specs.Texts.{call_lines, client_lines, command_words, disabled_lines, each_from, entry_lines, fast_lines, look_lines, round_lines, slot_lines, slots_lines, status_lines, take_lines, track_lines, turn_lines, turns_lines, words_after}
-use Rattle.af_journal.proofs.Leaving.{fits-append}
 use Rattle.af_journal.proofs.Texts.{range-more}
 
 -- the numbers of some lines fit
@@ -39,14 +40,6 @@ fits-split [] more all = (tt, all)
 fits-split (w ∷ ws) more all = let rest = fits-split ws more all.1 in ((all.0, rest.0), rest.1)
 
 -- ## Looks and words
-
--- what a look showed is shown
-pub is_seen : (s : Seen) → IsSeen s → is_shown s ≡ true
-is_seen seen.Absent p = absurd p
-is_seen (seen.Frames count) p = refl
-is_seen seen.Empty p = refl
-is_seen (seen.Flushed dropped) p = refl
-is_seen (seen.Shut front rear) p = refl
 
 seen_fits : (s : Seen) → IsSeen s → AreWords (seen_words s) → IsSeenText s
 seen_fits seen.Absent is fits = absurd is
@@ -99,7 +92,7 @@ client_told track (c ∷ cs) fit = calls_told (c ∷ cs) fit.1
 clients_fit : (track : ℕ) (clients : List (List ClientCall)) → track + length clients ≤ 2 ^ 32 → All (λ calls. All FitsCall calls) clients → AreWritten (each_from client_lines track clients)
 clients_fit track [] few fit = tt
 clients_fit track (c ∷ cs) few fit =
-    fits-append (client_lines track c) (each_from client_lines (track + 1) cs) (client_fits track c (omega arith) (All-head (λ calls. All FitsCall calls) c cs fit)) (clients_fit (track + 1) cs (omega arith) (All-tail (λ calls. All FitsCall calls) c cs fit))
+    fit-append (client_lines track c) (each_from client_lines (track + 1) cs) (client_fits track c (omega arith) (All-head (λ calls. All FitsCall calls) c cs fit)) (clients_fit (track + 1) cs (omega arith) (All-tail (λ calls. All FitsCall calls) c cs fit))
 
 clients_told : (track : ℕ) (clients : List (List ClientCall)) → AreWritten (each_from client_lines track clients) → All (λ calls. All FitsCall calls) clients
 clients_told track [] fit = All-nil (λ calls. All FitsCall calls)
@@ -135,7 +128,7 @@ look_told track l is fits =
 looks_fit : (track : ℕ) (ls : List CommandLook) → track < 2 ^ 32 → All IsCommandLook ls → All FitsLook ls → AreWritten (flat_map (look_lines track) ls)
 looks_fit track [] few are fit = tt
 looks_fit track (l ∷ ls) few are fit =
-    fits-append (look_lines track l) (flat_map (look_lines track) ls) (look_fits track l few (All-head IsCommandLook l ls are) (All-head FitsLook l ls fit))
+    fit-append (look_lines track l) (flat_map (look_lines track) ls) (look_fits track l few (All-head IsCommandLook l ls are) (All-head FitsLook l ls fit))
     (looks_fit track ls few (All-tail IsCommandLook l ls are) (All-tail FitsLook l ls fit))
 
 looks_told : (track : ℕ) (ls : List CommandLook) → All IsCommandLook ls → AreWritten (flat_map (look_lines track) ls) → All FitsLook ls
@@ -162,8 +155,8 @@ HasLooks t = All IsCommandLook t.looks
 
 track_fits : (track : ℕ) (t : TrackSeen) → track < 2 ^ 32 → HasLooks t → FitsTrack t → AreWritten (track_lines track t)
 track_fits track t few are fits =
-    fits-append (flat_map (look_lines track) t.looks ++ disabled_lines track t.disabled) (status_lines track t.status)
-    (fits-append (flat_map (look_lines track) t.looks) (disabled_lines track t.disabled) (looks_fit track t.looks few are fits.looks) (disabled_fits track t.disabled few))
+    fit-append (flat_map (look_lines track) t.looks ++ disabled_lines track t.disabled) (status_lines track t.status)
+    (fit-append (flat_map (look_lines track) t.looks) (disabled_lines track t.disabled) (looks_fit track t.looks few are fits.looks) (disabled_fits track t.disabled few))
     (status_fits track t.status few fits.status)
 
 track_told : (track : ℕ) (t : TrackSeen) → HasLooks t → AreWritten (track_lines track t) → FitsTrack t
@@ -177,7 +170,7 @@ track_told track t are fit =
 tracks_fit : (track : ℕ) (ts : List TrackSeen) → track + length ts ≤ 2 ^ 32 → All HasLooks ts → All FitsTrack ts → AreWritten (each_from track_lines track ts)
 tracks_fit track [] few are fit = tt
 tracks_fit track (t ∷ ts) few are fit =
-    fits-append (track_lines track t) (each_from track_lines (track + 1) ts) (track_fits track t (omega arith) (All-head HasLooks t ts are) (All-head FitsTrack t ts fit))
+    fit-append (track_lines track t) (each_from track_lines (track + 1) ts) (track_fits track t (omega arith) (All-head HasLooks t ts are) (All-head FitsTrack t ts fit))
     (tracks_fit (track + 1) ts (omega arith) (All-tail HasLooks t ts are) (All-tail FitsTrack t ts fit))
 
 tracks_told : (track : ℕ) (ts : List TrackSeen) → All HasLooks ts → AreWritten (each_from track_lines track ts) → All FitsTrack ts
@@ -197,7 +190,7 @@ take_told t fits = (fits.0.0.0, (fits.0.0.1.0, (fits.0.0.1.1.0, (fits.0.0.1.1.1.
 takes_fit : (tracks : ℕ) (ts : List TakeSeen) → All (IsTake tracks) ts → All FitsTake ts → AreWritten (flat_map take_lines ts)
 takes_fit tracks [] are fit = tt
 takes_fit tracks (t ∷ ts) are fit =
-    fits-append (take_lines t) (flat_map take_lines ts) (take_fits tracks t (All-head (IsTake tracks) t ts are) (All-head FitsTake t ts fit)) (takes_fit tracks ts (All-tail (IsTake tracks) t ts are) (All-tail FitsTake t ts fit))
+    fit-append (take_lines t) (flat_map take_lines ts) (take_fits tracks t (All-head (IsTake tracks) t ts are) (All-head FitsTake t ts fit)) (takes_fit tracks ts (All-tail (IsTake tracks) t ts are) (All-tail FitsTake t ts fit))
 
 takes_told : (ts : List TakeSeen) → AreWritten (flat_map take_lines ts) → All FitsTake ts
 takes_told [] fit = All-nil FitsTake
@@ -218,7 +211,7 @@ turn_fits tracks e few (inl ended) fits = subst (λ (e : Turn). AreWritten (turn
 turn_fits tracks e few (inr went) fits =
     subst AreWritten (sym (open_is e went.open_is)) (
       (fits.room, fits.cycle),
-      fits-append (each_from track_lines 0 e.tracks) (numbers (line.Pushed e.push) ∷ flat_map take_lines e.mixes)
+      fit-append (each_from track_lines 0 e.tracks) (numbers (line.Pushed e.push) ∷ flat_map take_lines e.mixes)
           (tracks_fit 0 e.tracks (let h = went.each in omega arith) went.looks fits.tracks)
           (fits.push, takes_fit tracks e.mixes went.takes fits.takes),
     )
@@ -276,7 +269,7 @@ module _ (place : ℕ) (e : EntrySeen) (m : IsMixed place e.entry) where
       by (inl gone) = subst (λ (b : Bool). AreWritten (lines_if i b)) (sym (ap (λ (s : SlotEntry). is_shown s.seen) gone.0)) tt
       by (inr is) =
           let own = fits.looks i lt in
-          subst (λ (b : Bool). AreWritten (lines_if i b)) (sym (is_seen (seen_at i) is)) (
+          subst (λ (b : Bool). AreWritten (lines_if i b)) (sym (shown_if (seen_at i) is)) (
             (lt, fits.scales i lt, (own.0, (own.1.0, (own.1.1.0, tt))), seen_fits (seen_at i) is own.1.1.1),
             words_fit (map packed_word (slot_frames e i)) (frames_fit (slot_frames e i)),
           )
@@ -286,7 +279,7 @@ module _ (place : ℕ) (e : EntrySeen) (m : IsMixed place e.entry) where
   slots_fit (suc n) few fits =
       let more : flat_map (slot_lines e) (range_with_len 0 (suc n)) ≡ flat_map (slot_lines e) (range_with_len 0 n) ++ slot_lines e n =
       ap (λ (k : ℕ). flat_map (slot_lines e) (range_with_len 0 k)) (let one : suc n ≡ n + 1 = omega arith in one) ∙ range-more (slot_lines e) n in
-      subst AreWritten (sym more) (fits-append (flat_map (slot_lines e) (range_with_len 0 n)) (slot_lines e n) (slots_fit n (omega arith) fits) (slot_fits n (omega arith) fits))
+      subst AreWritten (sym more) (fit-append (flat_map (slot_lines e) (range_with_len 0 n)) (slot_lines e n) (slots_fit n (omega arith) fits) (slot_fits n (omega arith) fits))
 
   -- what the line of a slot tells of its numbers
   abbrev Tells : ℕ → Type 0
@@ -300,7 +293,7 @@ module _ (place : ℕ) (e : EntrySeen) (m : IsMixed place e.entry) where
   slot_told i (inl gone) fit = (subst FitsSlot (sym gone.0) absent_fits, subst (λ (n : ℕ). n < 2 ^ 16) (sym gone.1) (lit< tt))
   slot_told i (inr is) fit =
       let lines : AreWritten (line_of i ∷ words_after (map packed_word (slot_frames e i))) =
-      subst (λ (b : Bool). AreWritten (cond b (line_of i ∷ words_after (map packed_word (slot_frames e i))) [])) (is_seen (seen_at i) is) fit in
+      subst (λ (b : Bool). AreWritten (cond b (line_of i ∷ words_after (map packed_word (slot_frames e i))) [])) (shown_if (seen_at i) is) fit in
       line_told i lines.0
 
   slots_told : (n : ℕ) → n ≤ slots → AreWritten (flat_map (slot_lines e) (range_with_len 0 n)) → (i : ℕ) → i < n → Tells i
@@ -347,7 +340,7 @@ FitsSeen e = FitsEntry e.entry
 entries_fit : (place : ℕ) (es : List EntrySeen) → AreEntries place es → All (λ e. FitsEntry e.entry) es → AreWritten (flat_map entry_lines es)
 entries_fit place [] are fit = tt
 entries_fit place (e ∷ es) are fit =
-    fits-append (entry_lines e) (flat_map entry_lines es) (entry_fits place e are.0 (All-head FitsSeen e es fit)) (entries_fit (place + length e.frames) es are.3 (All-tail FitsSeen e es fit))
+    fit-append (entry_lines e) (flat_map entry_lines es) (entry_fits place e are.0 (All-head FitsSeen e es fit)) (entries_fit (place + length e.frames) es are.3 (All-tail FitsSeen e es fit))
 
 entries_told : (place : ℕ) (es : List EntrySeen) → AreEntries place es → AreWritten (flat_map entry_lines es) → All (λ e. FitsEntry e.entry) es
 entries_told place [] are fit = All-nil FitsSeen
@@ -382,8 +375,8 @@ parties r = each_from client_lines 0 r.calls ++ turns_lines r.turn
 pub round_fits : (tracks place : ℕ) (r : RoundSeen) → tracks ≤ 2 ^ 32 → IsRound tracks r → AreEntries place r.entries → FitsRound r → AreWritten (round_lines r)
 round_fits tracks place r few is are fits = (
   tt,
-  fits-append (parties r) (fast_lines r.entries)
-      (fits-append (each_from client_lines 0 r.calls) (turns_lines r.turn) (clients_fit 0 r.calls (let h = is.calls in omega arith) fits.0.0) (turns_fit tracks r.turn few is.turn fits.0.1))
+  fit-append (parties r) (fast_lines r.entries)
+      (fit-append (each_from client_lines 0 r.calls) (turns_lines r.turn) (clients_fit 0 r.calls (let h = is.calls in omega arith) fits.0.0) (turns_fit tracks r.turn few is.turn fits.0.1))
       (fast_fits place r.entries are fits.1),
 )
 
@@ -397,7 +390,7 @@ rounds_fit : (tracks place : ℕ) (rs : List RoundSeen) → tracks ≤ 2 ^ 32 �
 rounds_fit tracks place [] few are entries fit = tt
 rounds_fit tracks place (r ∷ rs) few are entries fit =
     let p = parted place r.entries (entries_of rs) entries in
-    fits-append (round_lines r) (flat_map round_lines rs) (round_fits tracks place r few (All-head (IsRound tracks) r rs are) p.own (All-head FitsRound r rs fit))
+    fit-append (round_lines r) (flat_map round_lines rs) (round_fits tracks place r few (All-head (IsRound tracks) r rs are) p.own (All-head FitsRound r rs fit))
     (rounds_fit tracks p.later rs few (All-tail (IsRound tracks) r rs are) p.others (All-tail FitsRound r rs fit))
 
 rounds_told : (tracks place : ℕ) (rs : List RoundSeen) → All (IsRound tracks) rs → AreEntries place (entries_of rs) → AreWritten (flat_map round_lines rs) → All FitsRound rs

@@ -1,16 +1,17 @@
 -- Packed words are read exactly if they are spelled.
-use Rattle.std.proofs.Common.{◌≡◌, ℕ, zero, suc, ◌+◌, ◌*◌, ◌/◌, ◌%◌, ◌<◌, ◌^◌, List, [], ◌∷◌, ◌++◌, Option, Some, None, Bool, true, false, ◌==◌, cond, get_or, refl, ap, ◌∙◌, sym, subst, arith, lit<}
+use Rattle.std.proofs.Common.{◌≡◌, ℕ, ◌+◌, ◌*◌, ◌/◌, ◌%◌, ◌<◌, ◌^◌, List, [], ◌∷◌, ◌++◌, Option, Some, None, Bool, true, false, ◌==◌, cond, refl, ap, ◌∙◌, sym, subst, arith}
 use Rattle.std.specs.List.{flat_map}
 use Rattle.std.specs.Int.{from_be_bytes, to_be_bytes, byte_at as byte_of, w32}
 use Rattle.std.proofs.lemmas.Nat.{be_bytes_4, from_be_bytes-to_be_bytes_4}
 use Rattle.std.proofs.lemmas.Option.{none-some, same_Some}
 use Rattle.std.proofs.lemmas.Bool.Decides.{nat_tests}
+use Rattle.af_base.proofs.Basics.{byte_small, equal_is, small}
 use Rattle.af_journal.specs.Lines.{Written, numbers, words, spelled, hex_byte, hex_digit, hex_word, line_text}
 use Rattle.af_journal.specs.declared.line.Line.{Line}
 use Rattle.af_journal.specs.LineReading.{◌>>=◌, byte_at, hex_at, call_at, marked_at, turn_line_at, packed_at, some_words, words_after_mark, words_at, written_at, line_at}
 use Rattle.af_model.specs.Numbers.{AreWords}
 use Rattle.af_journal.specs.Ranges.{IsWritten}
-use Rattle.af_journal.proofs.Spelled.{bind_some, guard_some, same_byte}
+use Rattle.af_journal.proofs.Spelled.{bind_some, guard_some}
 use Rattle.af_journal.proofs.LineLaws.{line-sound, line-again}
 
 -- ## Digits and bytes
@@ -48,13 +49,6 @@ byte-again x h =
 
 -- ## Words
 
-small : (p q r s : ℕ) → p < 256 → q < 256 → r < 256 → s < 256 → (i : ℕ) → get_or (p ∷ q ∷ r ∷ s ∷ []) i 0 < 256
-small p q r s a b c d zero = a
-small p q r s a b c d (suc zero) = b
-small p q r s a b c d (suc (suc zero)) = c
-small p q r s a b c d (suc (suc (suc zero))) = d
-small p q r s a b c d (suc (suc (suc (suc i)))) = lit< tt
-
 word_is : (p q r s w : ℕ) → p < 256 → q < 256 → r < 256 → s < 256 → from_be_bytes w32 (p ∷ q ∷ r ∷ s ∷ []) ≡ w → (to_be_bytes w32 w ≡ p ∷ q ∷ r ∷ s ∷ []) × (w < 2 ^ 32)
 word_is p q r s w a b c d e = (be_bytes_4 (p ∷ q ∷ r ∷ s ∷ []) w refl (small p q r s a b c d) (sym e), omega arith)
 
@@ -77,10 +71,6 @@ packed-sound a b c d e f g h w is =
           ∙ ap (flat_map hex_byte) (sym bytes.0),
       bytes.1,
     )
-
-byte_small : (w k : ℕ) → byte_of k w < 256
-byte_small w zero = omega arith
-byte_small w (suc k) = grind arith
 
 packed-again : (w : ℕ) → w < 2 ^ 32
     → packed_at (hex_digit (byte_of 3 w / 16)) (hex_digit (byte_of 3 w % 16)) (hex_digit (byte_of 2 w / 16)) (hex_digit (byte_of 2 w % 16)) (hex_digit (byte_of 1 w / 16)) (hex_digit (byte_of 1 w % 16)) (hex_digit (byte_of 0 w / 16)) (hex_digit (byte_of 0 w % 16)) ≡ Some w
@@ -135,7 +125,7 @@ words_of-sound mark (c ∷ digits) ws m e =
     let g = guard_some (c == 32) (words_at digits >>= some_words) ws e in
     let us = bind_some (words_at digits) some_words ws g.1 in
     let s = words-sound digits us.0 us.1 in
-    some_sound mark (c ∷ digits) us.0 ws us.2 (ap (λ m. m ∷ c ∷ digits) (same_byte mark 104 m) ∙ ap (λ c. 104 ∷ c ∷ digits) (same_byte c 32 g.0) ∙ ap (λ l. 104 ∷ 32 ∷ l) s.spelled) s.fits
+    some_sound mark (c ∷ digits) us.0 ws us.2 (ap (λ m. m ∷ c ∷ digits) (equal_is mark 104 m) ∙ ap (λ c. 104 ∷ c ∷ digits) (equal_is c 32 g.0) ∙ ap (λ l. 104 ∷ 32 ∷ l) s.spelled) s.fits
 
 written_by : (mark : ℕ) (rest : List ℕ) (b : Bool) (w : Written) → (mark == 104) ≡ b
     → cond b (words_after_mark rest >>= λ ws. Some (words ws)) (marked_at mark rest >>= λ l. Some (numbers l)) ≡ Some w → SpellsWritten (mark ∷ rest) w
@@ -159,7 +149,7 @@ no_h rest = refl
 number_by : (mark : ℕ) (rest : List ℕ) (l : Line) (b : Bool) → (mark == 104) ≡ b → marked_at mark rest ≡ Some l
     → cond b (words_after_mark rest >>= λ ws. Some (words ws)) (marked_at mark rest >>= λ l. Some (numbers l)) ≡ Some (numbers l)
 number_by mark rest l true m e =
-    let none : marked_at mark rest ≡ None = ap (λ m. marked_at m rest) (same_byte mark 104 m) ∙ no_h rest in
+    let none : marked_at mark rest ≡ None = ap (λ m. marked_at m rest) (equal_is mark 104 m) ∙ no_h rest in
     absurd (none-some l (sym none ∙ e))
 number_by mark rest l false m e = ap (λ (o : Option Line). o >>= λ l. Some (numbers l)) e
 

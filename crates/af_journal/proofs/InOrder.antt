@@ -3,10 +3,11 @@ use Rattle.std.proofs.Common.{◌≡◌, ℕ, zero, suc, ◌+◌, ◌<◌, ◌�
 use Rattle.std.specs.List.{flat_map, join_with_byte, AllByRecursion}
 use Rattle.std.proofs.lemmas.List.Concat.{flat_map-append}
 use Rattle.std.proofs.lemmas.Option.{none-some, same_Some}
-use Rattle.std.proofs.lemmas.Bool.Decides.{nat_tests}
+use Rattle.af_base.proofs.Basics.{itself, not_zero}
 use Rattle.af_base.specs.declared.event.ClientCall.TheVariants as call
 use Rattle.af_base.specs.declared.seen.Seen.TheVariants as seen
 use Rattle.af_base.specs.declared.state.Push.TheVariants as pushing
+use Rattle.af_journal.proofs.Basics.{fit-append}
 use Rattle.af_journal.specs.declared.line.Line.TheVariants as line
 use Rattle.af_journal.specs.declared.stage.Stage.{Stage}
 use Rattle.af_journal.specs.declared.stage.Stage.TheVariants as stage
@@ -35,10 +36,6 @@ all-append tracks (w ∷ xs) ys at next e =
     let x = bind_some (after_written tracks at w) (λ next. after_all tracks next xs) next e in
     ap (λ o. o >>= λ next. after_all tracks next (xs ++ ys)) x.1 ∙ all-append tracks xs ys x.0 next x.2
 
-fit-append : (xs ys : List Written) → AllByRecursion IsWritten xs → AllByRecursion IsWritten ys → AllByRecursion IsWritten (xs ++ ys)
-fit-append [] ys p q = q
-fit-append (x ∷ xs) ys p q = (p.0, fit-append xs ys p.1 q)
-
 -- lines that lead from a stage to an end
 record Ending (tracks : ℕ) (at : Stage) : Type 0 where
   ws : List Written
@@ -65,12 +62,6 @@ some_zeros : (n : ℕ) → 1 ≤ n → IsWritten (words (zeros n))
 unfolding zeros
 some_zeros zero h = absurd (omega arith)
 some_zeros (suc n) h = (lit< tt, zeros_are n)
-
-itself : (n : ℕ) → (n == n) ≡ true
-itself n = grind (arith, nat_tests)
-
-some_low : (n : ℕ) → 1 ≤ n → (n == 0) ≡ false
-some_low n h = grind (arith, nat_tests)
 
 due_is : (n : ℕ) → (length (zeros n) == n) ≡ true
 due_is n = ap (λ m. m == n) (length-zeros n) ∙ itself n
@@ -113,7 +104,7 @@ ending tracks (stage.Slot due low) met = record {
   fit = (some_zeros due met.0, tt);
   end = stage.Mixed low;
   follow = ap (λ b. if_so b (stage.Mixed low) >>= λ next. Some next) (due_is due);
-  may = ap not (some_low low met.1);
+  may = ap not (not_zero low met.1);
 }
 ending tracks stage.Entries met = here tracks stage.Entries refl
 

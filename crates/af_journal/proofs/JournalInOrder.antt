@@ -5,6 +5,7 @@ use Rattle.std.specs.List.{flat_map, range_with_len}
 use Rattle.std.proofs.lemmas.List.{length-map, length-drop, length-take-le}
 use Rattle.std.proofs.lemmas.List.Elements.{All-head, All-tail}
 use Rattle.std.proofs.lemmas.Bool.Decides.{nat_tests}
+use Rattle.af_base.proofs.Basics.{not_zero}
 use Rattle.af_base.specs.declared.log.Cycle.{Cycle}
 use Rattle.af_base.specs.declared.log.Cycle.TheVariants as cycle
 use Rattle.af_base.specs.declared.seen.Seen.{Seen}
@@ -15,6 +16,7 @@ use Rattle.af_base.specs.Turn.{Turn}
 use Rattle.af_model.specs.Cycles.{IsSeen, is_mixed, shown, taken_before}
 use Rattle.af_model.specs.Journals.{EntrySeen, JournalData, RoundSeen, entries_of, slot_frames, taken_by}
 use Rattle.af_model.specs.JournalForm.{AreEntries, IsAbsent, IsEntry, IsMixed, IsRound, IsTurn, is_spent}
+use Rattle.af_runs.proofs.Basics.{shown_if, taken_up}
 use Rattle.af_runs.specs.Fronts.{is_shown}
 use Rattle.af_journal.specs.declared.line.Line.TheVariants as line
 use Rattle.af_journal.specs.declared.stage.Stage.{Stage}
@@ -23,8 +25,7 @@ use Rattle.af_journal.specs.Lines.{Written, numbers}
 use Rattle.af_journal.specs.Readings.{AreInOrder, CanBeWritten, HasReading, IsInOrder}
 use Rattle.af_journal.specs.Stages.{after_line, after_shown, after_written, is_submix, may_be_slot, shows_submix}
 use Rattle.af_journal.specs.Texts.{client_lines, each_from, entry_lines, fast_lines, round_lines, slot_lines, slots_lines, turns_lines, words_after}
-use Rattle.af_journal.proofs.Entries.{taken-below}
-use Rattle.af_journal.proofs.Fitting.{is_seen, lines_fit, parted}
+use Rattle.af_journal.proofs.Fitting.{lines_fit, parted}
 use Rattle.af_journal.proofs.Texts.{range-more}
 use Rattle.af_journal.proofs.TurnsInOrder.{Leads, none, and_on, first, if_true, AtRound, AtFast, IsDue, AtClients, clients_fast, clients_lead, shown_words, turn_leads}
 
@@ -56,15 +57,12 @@ of_mix i stage.Fast p = absurd p
 of_mix i (stage.Slot due low) p = absurd p
 of_mix i stage.Entries p = absurd p
 
-not_low : (low : ℕ) → 1 ≤ low → (low == 0) ≡ false
-not_low low h = grind (arith, nat_tests)
-
 slot_next : (low i : ℕ) → low ≤ i → i < 32 → (nat_le low i && nat_lt i 32) ≡ true
 slot_next low i h k = grind (arith, nat_tests)
 
 may_slot : (low i scale : ℕ) (mono : Bool) (gains flush : ℕ) (answer : Seen) → 1 ≤ low → low ≤ i → i < 32 → may_be_slot low i scale mono gains flush answer ≡ true
 may_slot low i scale mono gains flush answer s h k =
-    ap (λ b. cond b ((i == 0) && is_submix scale mono gains flush answer) (nat_le low i && nat_lt i 32)) (not_low low s) ∙ slot_next low i h k
+    ap (λ b. cond b ((i == 0) && is_submix scale mono gains flush answer) (nat_le low i && nat_lt i 32)) (not_zero low s) ∙ slot_next low i h k
 
 submix_is : (scale : ℕ) (mono : Bool) (gains flush : ℕ) (answer : Seen) → scale ≡ 4096 → mono ≡ false → gains ≡ 268439552 → flush ≡ 0 → shows_submix answer ≡ true → is_submix scale mono gains flush answer ≡ true
 submix_is scale mono gains flush answer a b c d e =
@@ -87,7 +85,7 @@ module _ (tracks place : ℕ) (e : EntrySeen) (whole : length e.frames ≡ taken
   unfolding taken_by
   words_of_slot i lt =
       let before = taken_before e.entry i in let count = count_seen (entry_slot e.entry i).seen in
-      let below : before + count ≤ taken_before e.entry slots = taken-below e.entry i slots lt in
+      let below : before + count ≤ taken_before e.entry slots = taken_up e.entry i slots lt in
       let long = length-drop before e.frames in
       length-map (slot_frames e i) packed_word ∙ length-take-le count (drop before e.frames) (omega (arith, below, whole, long))
 
@@ -126,7 +124,7 @@ module _ (tracks place : ℕ) (e : EntrySeen) (whole : length e.frames ≡ taken
       (ap (λ at. after_written tracks at (slot_of i)) o.is
       ∙ if_true (may_be_slot o.low i (slice_index_or e.entry.scales i 0) (bit_at e.entry.mono i == 1) slot.gains slot.flush slot.seen) (after_shown i slot.seen)
       (may_slot o.low i (slice_index_or e.entry.scales i 0) (bit_at e.entry.mono i == 1) slot.gains slot.flush slot.seen o.some o.up_to lt))
-      (is_seen slot.seen seen_is)
+      (shown_if slot.seen seen_is)
 
   first_slots : (n : ℕ) → n < slots → Leads tracks (stage.Mixed 0) (flat_map (slot_lines e) (range_with_len 0 (n + 1))) (AtSlot (n + 1))
   first_slots zero lt = subst (λ ws. Leads tracks (stage.Mixed 0) ws (AtSlot 1)) (sym (range-more (slot_lines e) 0)) submix_leads
@@ -151,8 +149,8 @@ mix_entry : (tracks : ℕ) (at : Stage) → AtSlot 32 at → AtEntry tracks at
 mix_entry tracks at p =
     let o = of_mix 32 at p in
     subst (AtEntry tracks) (sym o.is) (
-      λ state kind. ap (λ b. cond b None (Some (cond (kind == 0) (stage.Mixed 0) stage.Entries))) (not_low o.low o.some),
-      (ap (λ b. cond b None (Some (stage.Clients 0))) (not_low o.low o.some), ap not (not_low o.low o.some)),
+      λ state kind. ap (λ b. cond b None (Some (cond (kind == 0) (stage.Mixed 0) stage.Entries))) (not_zero o.low o.some),
+      (ap (λ b. cond b None (Some (stage.Clients 0))) (not_zero o.low o.some), ap not (not_zero o.low o.some)),
     )
 
 still_leads : (tracks : ℕ) (at : Stage) (state kind : ℕ) → after_line tracks at (line.Entry state kind) ≡ Some stage.Entries → Leads tracks at (numbers (line.Entry state kind) ∷ []) (AtEntry tracks)

@@ -3,11 +3,13 @@ use Rattle.std.proofs.Common.{◌≡◌, inl, inr, ℕ, zero, suc, ◌+◌, ◌<
 use Rattle.std.specs.List.{AllByRecursion}
 use Rattle.std.proofs.lemmas.List.Elements.{All-nil}
 use Rattle.std.proofs.lemmas.Option.{same_Some}
+use Rattle.af_base.proofs.Basics.{below_is, both, equal_is, not_first, some_is, zero_is}
 use Rattle.af_base.specs.declared.log.Cycle.TheVariants as cycle
 use Rattle.af_base.specs.declared.seen.Seen.{Seen}
 use Rattle.af_base.specs.declared.turn.CommandLook.{CommandLook}
 use Rattle.af_base.specs.Log.{count_seen}
 use Rattle.af_base.specs.Sample.{packed_word}
+use Rattle.af_model.proofs.Basics.{not_true}
 use Rattle.af_model.specs.Cycles.{IsSeen}
 use Rattle.af_model.specs.Journals.{JournalData}
 use Rattle.af_model.specs.JournalForm.{IsRound, IsTake}
@@ -23,10 +25,10 @@ use Rattle.af_journal.specs.Stages.{after_call, after_clients, after_entry, afte
 use Rattle.af_journal.specs.Texts.{text_of_lines, words_after, round_lines}
 use Rattle.af_journal.proofs.Fitting.{is_journal}
 use Rattle.af_journal.proofs.Spelled.{bind_some, guard_some}
-use Rattle.af_journal.proofs.RoundsLeft.{both_true, frames_of_words, words_back, are_frames, count_frames, RoundsLeft, EntriesLeft, EntriesDue, FastLeft, TakesLeft, TakeLeft, TurnLeft, LookLeft, ClientsLeft, CallsLeft, CallDue, rounds_entries, rounds_fast, due_left, with_fast, with_round, clients_calls, with_call, first_call, with_client, fast_clients, with_ended}
-use Rattle.af_journal.proofs.LinesLeft.{with_turn, with_push, below, with_look, with_disabled, with_status, no_words, seen_is, with_take}
+use Rattle.af_journal.proofs.RoundsLeft.{frames_of_words, words_back, are_frames, count_frames, RoundsLeft, EntriesLeft, EntriesDue, FastLeft, TakesLeft, TakeLeft, TurnLeft, LookLeft, ClientsLeft, CallsLeft, CallDue, rounds_entries, rounds_fast, due_left, with_fast, with_round, clients_calls, with_call, first_call, with_client, fast_clients, with_ended}
+use Rattle.af_journal.proofs.LinesLeft.{with_turn, with_push, with_look, with_disabled, with_status, no_words, seen_is, with_take}
 use Rattle.af_journal.proofs.MixLeft.{SlotsLeft, SlotLeft, entries_slots, no_slot_words, with_slot}
-use Rattle.af_journal.proofs.EntriesLeft.{with_still, with_mix, Rest, next_of, zero_of, some_of, equal_of, not_first, frames_two, not_true, slot_may}
+use Rattle.af_journal.proofs.EntriesLeft.{with_still, with_mix, Rest, next_of, frames_two, slot_may}
 use Rattle.std.specs.Prelude.{flat_map}
 
 module _ (tracks place : ℕ) (ws : List Written) where
@@ -129,20 +131,20 @@ module _ (tracks place : ℕ) (ws : List Written) where
       → TurnLeft tracks low part place (numbers (line.Look track flush rear answer) ∷ ws)
   look_step low part track flush rear answer next s e r =
       let g = so_rest (nat_lt track tracks && comes track 0 low part) (after_look track answer) next e r in
-      let p = both_true (nat_lt track tracks) (comes track 0 low part) g.0 in
-      look_by low part track flush rear answer (count_seen answer == 2) refl s p.1 (below track tracks p.0) g.1
+      let p = both (nat_lt track tracks) (comes track 0 low part) g.0 in
+      look_by low part track flush rear answer (count_seen answer == 2) refl s p.1 (below_is track tracks p.0) g.1
 
   disabled_step : (low part track : ℕ) (next : Stage) → if_so (nat_lt track tracks && comes track 1 low part) (stage.Turn track 2) ≡ Some next → Rest tracks place next ws → TurnLeft tracks low part place (numbers (line.Disabled track) ∷ ws)
   disabled_step low part track next e r =
       let g = so_rest (nat_lt track tracks && comes track 1 low part) (stage.Turn track 2) next e r in
-      let p = both_true (nat_lt track tracks) (comes track 1 low part) g.0 in
-      with_disabled tracks low part track place ws p.1 (below track tracks p.0) g.1
+      let p = both (nat_lt track tracks) (comes track 1 low part) g.0 in
+      with_disabled tracks low part track place ws p.1 (below_is track tracks p.0) g.1
 
   status_step : (low part track word : ℕ) (next : Stage) → if_so (nat_lt track tracks && comes track 2 low part) (stage.Turn (track + 1) 0) ≡ Some next → Rest tracks place next ws → TurnLeft tracks low part place (numbers (line.Status track word) ∷ ws)
   status_step low part track word next e r =
       let g = so_rest (nat_lt track tracks && comes track 2 low part) (stage.Turn (track + 1) 0) next e r in
-      let p = both_true (nat_lt track tracks) (comes track 2 low part) g.0 in
-      with_status tracks low part track word place ws p.1 (below track tracks p.0) g.1
+      let p = both (nat_lt track tracks) (comes track 2 low part) g.0 in
+      with_status tracks low part track word place ws p.1 (below_is track tracks p.0) g.1
 
   part_step : (low part : ℕ) (l : Line) (next : Stage) → IsLine l → after_part tracks low part l ≡ Some next → Rest tracks place next ws → TurnLeft tracks low part place (numbers l ∷ ws)
   part_step low part line.Round next fit e r = cc
@@ -161,7 +163,7 @@ module _ (tracks place : ℕ) (ws : List Written) where
 
   -- a take, with or without words
   take_by : (count low : ℕ) (b : Bool) → (count == 0) ≡ b → Rest tracks place (cond b (stage.Takes low) (stage.Take count low)) ws → TakeLeft tracks count low place ws
-  take_by count low true z r = subst (λ n. TakeLeft tracks n low place ws) (sym (zero_of count z)) (no_words tracks low place ws r)
+  take_by count low true z r = subst (λ n. TakeLeft tracks n low place ws) (sym (zero_is count z)) (no_words tracks low place ws r)
   take_by count low false z r = r
 
   fast_takes : (low : ℕ) (rest : List Written) → FastLeft tracks place rest → TakesLeft tracks low place rest
@@ -197,7 +199,7 @@ module _ (tracks place : ℕ) (ws : List Written) where
   still_by state (suc (suc (suc (suc kind)))) z h l = absurd (omega arith)
 
   entry_by : (state kind : ℕ) (b : Bool) → (kind == 0) ≡ b → kind < 4 → Rest tracks place (cond b (stage.Mixed 0) stage.Entries) ws → EntriesDue tracks place (numbers (line.Entry state kind) ∷ ws)
-  entry_by state kind true z h r = subst (λ n. EntriesDue tracks place (numbers (line.Entry state n) ∷ ws)) (sym (zero_of kind z)) (with_mix tracks place state ws r)
+  entry_by state kind true z h r = subst (λ n. EntriesDue tracks place (numbers (line.Entry state n) ∷ ws)) (sym (zero_is kind z)) (with_mix tracks place state ws r)
   entry_by state kind false z h r = still_by state kind z h r
 
   fast_step : (l : Line) (next : Stage) → IsLine l → after_fast l ≡ Some next → Rest tracks place next ws → EntriesDue tracks place (numbers l ∷ ws)
@@ -232,7 +234,7 @@ module _ (tracks place : ℕ) (ws : List Written) where
 
   -- a slot, with or without words
   slot_by : (count low : ℕ) (b : Bool) → (count == 0) ≡ b → Rest tracks place (cond b (stage.Mixed low) (stage.Slot count low)) ws → SlotLeft tracks count low place ws
-  slot_by count low true z r = subst (λ n. SlotLeft tracks n low place ws) (sym (zero_of count z)) (no_slot_words tracks low place ws r)
+  slot_by count low true z r = subst (λ n. SlotLeft tracks n low place ws) (sym (zero_is count z)) (no_slot_words tracks low place ws r)
   slot_by count low false z r = r
 
   one_slot : (low i scale gains flush rear : ℕ) (mono : Bool) (answer : Seen) (next : Stage) → IsSeen answer → if_so (may_be_slot low i scale mono gains flush answer) (after_shown i answer) ≡ Some next → Rest tracks place next ws
@@ -245,7 +247,7 @@ module _ (tracks place : ℕ) (ws : List Written) where
   past_slots : (low : ℕ) (l : Line) (next : Stage) → IsLine l → cond (low == 0) None (after_entry l) ≡ Some next → Rest tracks place next ws → SlotsLeft tracks low place (numbers l ∷ ws)
   past_slots low l next fit e r =
       let n = not_first (low == 0) (after_entry l) next e in
-      entries_slots tracks low place (numbers l ∷ ws) (some_of low n.0) (entry_step l next fit n.1 r)
+      entries_slots tracks low place (numbers l ∷ ws) (some_is low n.0) (entry_step l next fit n.1 r)
 
   slot_step : (low : ℕ) (l : Line) (next : Stage) → IsLine l → after_slot low l ≡ Some next → Rest tracks place next ws → SlotsLeft tracks low place (numbers l ∷ ws)
   slot_step low line.Round next fit e r = past_slots low line.Round next fit e r
@@ -294,16 +296,16 @@ look_left : (tracks place track : ℕ) (ws : List Written) (us : List ℕ) → (
 look_left tracks place track ws [] e t = cc
 look_left tracks place track ws (a ∷ []) e t = cc
 look_left tracks place track ws (a ∷ b ∷ []) e t = record { code = a; argument = b; rest = ws; turn = t; lines = refl }
-look_left tracks place track ws (a ∷ b ∷ c ∷ us) e t = absurd (let n = equal_of (length (a ∷ b ∷ c ∷ us)) 2 e in omega arith)
+look_left tracks place track ws (a ∷ b ∷ c ∷ us) e t = absurd (let n = equal_is (length (a ∷ b ∷ c ∷ us)) 2 e in omega arith)
 
 words_step : (tracks place : ℕ) (ws : List Written) (at : Stage) (us : List ℕ) (next : Stage) → IsWritten (words us) → after_words at (length us) ≡ Some next → Rest tracks (after_place at place (length us)) next ws → Rest tracks place at (words us ∷ ws)
 words_step tracks place ws (stage.Look track) us next fit e r = let g = so_rest tracks place ws (length us == 2) (stage.Turn track 0) next e r in look_left tracks place track ws us g.0 g.1
 words_step tracks place ws (stage.Take due low) us next fit e r =
     let g = so_rest tracks place ws (length us == due) (stage.Takes low) next e r in
-    record { fs = frames_of_words us; count = count_frames us ∙ equal_of (length us) due g.0; are = are_frames us (fit_words us fit); rest = ws; takes = g.1; lines = words_left [] ws us fit }
+    record { fs = frames_of_words us; count = count_frames us ∙ equal_is (length us) due g.0; are = are_frames us (fit_words us fit); rest = ws; takes = g.1; lines = words_left [] ws us fit }
 words_step tracks place ws (stage.Slot due low) us next fit e r =
     let g = so_rest tracks (place + length us) ws (length us == due) (stage.Mixed low) next e r in
-    let same = equal_of (length us) due g.0 in
+    let same = equal_is (length us) due g.0 in
     record { fs = frames_of_words us; count = count_frames us ∙ same; are = are_frames us (fit_words us fit); rest = ws; slots = subst (λ n. SlotsLeft tracks low (place + n) ws) same g.1; lines = words_left [] ws us fit }
 words_step tracks place ws stage.Nothing us next fit e r = cc
 words_step tracks place ws (stage.Clients low) us next fit e r = cc
@@ -331,7 +333,7 @@ at_end tracks place (stage.Takes low) may = fast_takes tracks place [] low [] (r
 at_end tracks place (stage.Take due low) may = cc
 at_end tracks place stage.Turned may = rounds_fast tracks place [] (no_rounds tracks place)
 at_end tracks place stage.Fast may = cc
-at_end tracks place (stage.Mixed low) may = entries_slots tracks low place [] (some_of low (not_true (low == 0) may)) (rounds_entries tracks place [] (no_rounds tracks place))
+at_end tracks place (stage.Mixed low) may = entries_slots tracks low place [] (some_is low (not_true (low == 0) may)) (rounds_entries tracks place [] (no_rounds tracks place))
 at_end tracks place (stage.Slot due low) may = cc
 at_end tracks place stage.Entries may = rounds_entries tracks place [] (no_rounds tracks place)
 

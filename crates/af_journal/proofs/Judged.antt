@@ -4,8 +4,9 @@ use Rattle.std.specs.List.{AllByRecursion, flat_map, list_any}
 use Rattle.std.specs.Option.{option_map}
 use Rattle.std.proofs.lemmas.List.{take_all, take_at, length-map}
 use Rattle.std.proofs.lemmas.List.Elements.{All-cons, All-head, All-nil, All-tail}
-use Rattle.std.proofs.lemmas.Bool.Decides.{nat_tests}
+use Rattle.af_base.proofs.Basics.{neither, not_below_is}
 use Rattle.af_base.specs.Turn.{TrackSeen, Turn}
+use Rattle.af_journal.proofs.Basics.{fit-append}
 use Rattle.af_model.specs.Journals.{EntrySeen, RoundSeen, entries_of}
 use Rattle.af_model.specs.JournalForm.{IsCommandLook, IsRound, IsTurn}
 use Rattle.af_runs.specs.LegalRuns.{is_lawful_block, is_poke_on, marks_of}
@@ -15,7 +16,6 @@ use Rattle.af_journal.specs.declared.line.Line.TheVariants as line
 use Rattle.af_journal.specs.Lines.{Written, numbers}
 use Rattle.af_journal.specs.Ranges.{IsWritten}
 use Rattle.af_journal.specs.Texts.{each_from, entry_lines, fast_lines, look_lines, round_lines, take_lines, track_lines, turns_lines, client_lines, disabled_lines, status_lines}
-use Rattle.af_journal.proofs.Leaving.{fits-append}
 
 -- ## Lists
 
@@ -55,21 +55,14 @@ pub any-map : {X Y : Type 0} (p : Y → Bool) (f : X → Y) (xs : List X) → li
 any-map p f [] = refl
 any-map p f (x ∷ xs) = ap (λ b. p (f x) || b) (any-map p f xs)
 
-both_false : (a b : Bool) → (a || b) ≡ false → (a ≡ false) × (b ≡ false)
-both_false true b e = cc
-both_false false b e = (refl, e)
-
-not_less : (n m : ℕ) → nat_lt n m ≡ false → m ≤ n
-not_less n m e = grind (arith, nat_tests, e)
-
 -- ## Nothing is left out
 
 module _ (most looks : ℕ) (few : looks < most) where
   tracks_whole : (ts : List TrackSeen) → list_any (λ (t : TrackSeen). nat_lt looks (length t.looks)) (map (first_looks most) ts) ≡ false → map (first_looks most) ts ≡ ts
   tracks_whole [] e = refl
   tracks_whole (t ∷ ts) e =
-      let b = both_false (nat_lt looks (length (take most t.looks))) (list_any (λ (t : TrackSeen). nat_lt looks (length t.looks)) (map (first_looks most) ts)) e in
-      let short : length (take most t.looks) ≤ looks = not_less looks (length (take most t.looks)) b.0 in
+      let b = neither (nat_lt looks (length (take most t.looks))) (list_any (λ (t : TrackSeen). nat_lt looks (length t.looks)) (map (first_looks most) ts)) e in
+      let short : length (take most t.looks) ≤ looks = not_below_is looks (length (take most t.looks)) b.0 in
       let own : take most t.looks ≡ t.looks = whole_take most t.looks (omega (arith, short, few)) in
       (λ k. record { looks = own k; status = t.status; disabled = t.disabled } ∷ tracks_whole ts b.1 k)
 
@@ -80,8 +73,8 @@ module _ (most looks : ℕ) (few : looks < most) where
 -- a round that has no more entries and looks than so many is whole
 pub round_whole : (most entries looks : ℕ) → entries < most → looks < most → (r : RoundSeen) → is_beyond entries looks (first_of_round most r) ≡ false → first_of_round most r ≡ r
 round_whole most entries looks few_entries few_looks r e =
-    let b = both_false (nat_lt entries (length (take most r.entries))) (has_more looks (option_map (first_of_turn most) r.turn)) e in
-    let short : length (take most r.entries) ≤ entries = not_less entries (length (take most r.entries)) b.0 in
+    let b = neither (nat_lt entries (length (take most r.entries))) (has_more looks (option_map (first_of_turn most) r.turn)) e in
+    let short : length (take most r.entries) ≤ entries = not_below_is entries (length (take most r.entries)) b.0 in
     let own : take most r.entries ≡ r.entries = whole_take most r.entries (omega (arith, short, few_entries)) in
     (λ k. record { calls = r.calls; turn = turn_whole most looks few_looks r.turn b.1 k; entries = own k })
 
@@ -121,7 +114,7 @@ fits-parts (w ∷ ws) more all = let rest = fits-parts ws more all.1 in ((all.0,
 flat-fits : {X : Type 0} (f : X → List Written) (n : ℕ) (xs : List X) → AreFit (flat_map f xs) → AreFit (flat_map f (take n xs))
 flat-fits f zero xs fit = tt
 flat-fits f (suc n) [] fit = tt
-flat-fits f (suc n) (x ∷ xs) fit = let p = fits-parts (f x) (flat_map f xs) fit in fits-append (f x) (flat_map f (take n xs)) p.0 (flat-fits f n xs p.1)
+flat-fits f (suc n) (x ∷ xs) fit = let p = fits-parts (f x) (flat_map f xs) fit in fit-append (f x) (flat_map f (take n xs)) p.0 (flat-fits f n xs p.1)
 
 fast_fits : (n : ℕ) (es : List EntrySeen) → AreFit (fast_lines es) → AreFit (fast_lines (take n es))
 fast_fits zero es fit = tt
@@ -133,13 +126,13 @@ track_fits most n t fit =
     let p = fits-parts (flat_map (look_lines n) t.looks ++ disabled_lines n t.disabled) (status_lines n t.status) fit in
     let q = fits-parts (flat_map (look_lines n) t.looks) (disabled_lines n t.disabled) p.0 in
     let looks = flat_map (look_lines n) (take most t.looks) in
-    fits-append (looks ++ disabled_lines n t.disabled) (status_lines n t.status) (fits-append looks (disabled_lines n t.disabled) (flat-fits (look_lines n) most t.looks q.0) q.1) p.1
+    fit-append (looks ++ disabled_lines n t.disabled) (status_lines n t.status) (fit-append looks (disabled_lines n t.disabled) (flat-fits (look_lines n) most t.looks q.0) q.1) p.1
 
 tracks_fit : (most n : ℕ) (ts : List TrackSeen) → AreFit (each_from track_lines n ts) → AreFit (each_from track_lines n (map (first_looks most) ts))
 tracks_fit most n [] fit = tt
 tracks_fit most n (t ∷ ts) fit =
     let p = fits-parts (track_lines n t) (each_from track_lines (n + 1) ts) fit in
-    fits-append (track_lines n (first_looks most t)) (each_from track_lines (n + 1) (map (first_looks most) ts)) (track_fits most n t p.0) (tracks_fit most (n + 1) ts p.1)
+    fit-append (track_lines n (first_looks most t)) (each_from track_lines (n + 1) (map (first_looks most) ts)) (track_fits most n t p.0) (tracks_fit most (n + 1) ts p.1)
 
 turn_by : (most : ℕ) (e : Turn) (b : Bool)
     → AreFit (cond b (numbers line.Ended ∷ []) (numbers (line.Turn e.room e.ack e.cycle) ∷ each_from track_lines 0 e.tracks ++ numbers (line.Pushed e.push) ∷ flat_map take_lines e.mixes))
@@ -148,7 +141,7 @@ turn_by most e true fit = fit
 turn_by most e false fit =
     let more = numbers (line.Pushed e.push) ∷ flat_map take_lines e.mixes in
     let p = fits-parts (each_from track_lines 0 e.tracks) more fit.1 in
-    (fit.0, fits-append (each_from track_lines 0 (map (first_looks most) e.tracks)) more (tracks_fit most 0 e.tracks p.0) p.1)
+    (fit.0, fit-append (each_from track_lines 0 (map (first_looks most) e.tracks)) more (tracks_fit most 0 e.tracks p.0) p.1)
 
 turns_fit : (most : ℕ) (turn : Option Turn) → AreFit (turns_lines turn) → AreFit (turns_lines (option_map (first_of_turn most) turn))
 turns_fit most None fit = tt
@@ -160,13 +153,13 @@ round_fit most r fit =
     let clients = each_from client_lines 0 r.calls in
     let p = fits-parts (clients ++ turns_lines r.turn) (fast_lines r.entries) fit.1 in
     let q = fits-parts clients (turns_lines r.turn) p.0 in
-    (tt, fits-append (clients ++ turns_lines first.turn) (fast_lines first.entries) (fits-append clients (turns_lines first.turn) q.0 (turns_fit most r.turn q.1)) (fast_fits most r.entries p.1))
+    (tt, fit-append (clients ++ turns_lines first.turn) (fast_lines first.entries) (fit-append clients (turns_lines first.turn) q.0 (turns_fit most r.turn q.1)) (fast_fits most r.entries p.1))
 
 pub rounds_fit : (most : ℕ) (rounds : List RoundSeen) → AreFit (flat_map round_lines rounds) → AreFit (flat_map round_lines (map (first_of_round most) rounds))
 rounds_fit most [] fit = tt
 rounds_fit most (r ∷ rounds) fit =
     let p = fits-parts (round_lines r) (flat_map round_lines rounds) fit in
-    fits-append (round_lines (first_of_round most r)) (flat_map round_lines (map (first_of_round most) rounds)) (round_fit most r p.0) (rounds_fit most rounds p.1)
+    fit-append (round_lines (first_of_round most r)) (flat_map round_lines (map (first_of_round most) rounds)) (round_fit most r p.0) (rounds_fit most rounds p.1)
 
 pub rounds_form : (most tracks : ℕ) (rounds : List RoundSeen) → All (IsRound tracks) rounds → All (IsRound tracks) (map (first_of_round most) rounds)
 rounds_form most tracks [] all = All-nil (IsRound tracks)
@@ -199,8 +192,8 @@ module _ (most looks : ℕ) (few : looks ≤ most) where
   tracks_within : (ts : List TrackSeen) → list_any (λ (t : TrackSeen). nat_lt looks (length t.looks)) ts ≡ false → map (first_looks most) ts ≡ ts
   tracks_within [] e = refl
   tracks_within (t ∷ ts) e =
-      let b = both_false (nat_lt looks (length t.looks)) (list_any (λ (t : TrackSeen). nat_lt looks (length t.looks)) ts) e in
-      let short : length t.looks ≤ looks = not_less looks (length t.looks) b.0 in
+      let b = neither (nat_lt looks (length t.looks)) (list_any (λ (t : TrackSeen). nat_lt looks (length t.looks)) ts) e in
+      let short : length t.looks ≤ looks = not_below_is looks (length t.looks) b.0 in
       let own : take most t.looks ≡ t.looks = take_all most t.looks (omega (arith, short, few)) in
       (λ k. record { looks = own k; status = t.status; disabled = t.disabled } ∷ tracks_within ts b.1 k)
 
@@ -210,7 +203,7 @@ module _ (most looks : ℕ) (few : looks ≤ most) where
 
 pub round_within : (most entries looks : ℕ) → entries ≤ most → looks ≤ most → (r : RoundSeen) → is_beyond entries looks r ≡ false → first_of_round most r ≡ r
 round_within most entries looks few_entries few_looks r e =
-    let b = both_false (nat_lt entries (length r.entries)) (has_more looks r.turn) e in
-    let short : length r.entries ≤ entries = not_less entries (length r.entries) b.0 in
+    let b = neither (nat_lt entries (length r.entries)) (has_more looks r.turn) e in
+    let short : length r.entries ≤ entries = not_below_is entries (length r.entries) b.0 in
     let own : take most r.entries ≡ r.entries = take_all most r.entries (omega (arith, short, few_entries)) in
     (λ k. record { calls = r.calls; turn = turn_within most looks few_looks r.turn b.1 k; entries = own k })

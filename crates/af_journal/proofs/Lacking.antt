@@ -1,9 +1,10 @@
 -- No line has an LF in it.
-use Rattle.std.proofs.Common.{◌≡◌, ℕ, zero, suc, ◌/◌, ◌%◌, ◌<◌, ◌^◌, List, [], ◌∷◌, ◌++◌, Bool, false, ◌==◌, refl, arith, lit<}
+use Rattle.std.proofs.Common.{◌≡◌, ℕ, ◌/◌, ◌%◌, ◌<◌, ◌^◌, List, [], ◌∷◌, ◌++◌, Bool, false, ◌==◌, refl, arith, lit<}
 use Rattle.std.specs.List.{flat_map}
 use Rattle.std.specs.Int.{byte_at}
 use Rattle.std.specs.Fmt.{decimal}
 use Rattle.std.proofs.lemmas.Bool.Decides.{nat_tests}
+use Rattle.af_base.proofs.Basics.{byte_small}
 use Rattle.af_base.specs.declared.event.ClientCall.{ClientCall}
 use Rattle.af_base.specs.declared.event.ClientCall.TheVariants as call
 use Rattle.af_base.specs.declared.seen.Seen.{Seen}
@@ -13,9 +14,10 @@ use Rattle.af_base.specs.declared.state.Push.TheVariants as pushing
 use Rattle.af_journal.specs.declared.line.Line.{Line}
 use Rattle.af_journal.specs.declared.line.Line.TheVariants as line
 use Rattle.af_journal.specs.Lines.{Written, numbers, words, call_line, hex_byte, hex_digit, hex_word, line_text, push_line, seen_text, spelled}
+use Rattle.af_model.proofs.Basics.{one_few}
 use Rattle.af_model.specs.Numbers.{FitsCall, FitsPush}
 use Rattle.af_journal.specs.Ranges.{IsLine, IsSeenText, IsWritten}
-use Rattle.af_journal.proofs.Spelled.{Lacks, lacks-append, decimal_lacks, digit_small}
+use Rattle.af_journal.proofs.Spelled.{Lacks, lacks-append, decimal_lacks}
 use Rattle.af_model.specs.Reports.{one_if}
 
 wide : (n : ℕ) → n < 2 ^ 32 → n < 2 ^ 64
@@ -40,7 +42,7 @@ four : (a b c d : ℕ) → a < 2 ^ 32 → b < 2 ^ 32 → c < 2 ^ 32 → d < 2 ^ 
 four a b c d h k l m = and_more a (32 ∷ (decimal b ++ 32 ∷ (decimal c ++ 32 ∷ decimal d))) (wide a h) (three b c d k l m)
 
 yes_wide : (b : Bool) → one_if b < 2 ^ 64
-yes_wide b = omega (arith, digit_small b)
+yes_wide b = omega (arith, one_few b)
 
 seen_lacks : (s : Seen) → IsSeenText s → Lacks 10 (32 ∷ seen_text s)
 seen_lacks seen.Absent f = absurd f
@@ -103,10 +105,6 @@ digit_lacks d h = grind (arith, nat_tests)
 
 byte_lacks : (x : ℕ) → x < 256 → Lacks 10 (hex_byte x)
 byte_lacks x h = (digit_lacks (x / 16) (omega arith), (digit_lacks (x % 16) (omega arith), tt))
-
-byte_small : (w k : ℕ) → byte_at k w < 256
-byte_small w zero = omega arith
-byte_small w (suc k) = grind arith
 
 word_lacks : (w : ℕ) → Lacks 10 (hex_word w)
 unfolding hex_word

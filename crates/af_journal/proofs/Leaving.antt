@@ -1,11 +1,12 @@
 -- What a reader leaves of a text, line by line.
-use Rattle.std.proofs.Common.{◌≡◌, ℕ, ◌+◌, ◌<◌, ◌≤◌, ◌^◌, ◌==◌, cond, subst, List, [], ◌∷◌, ◌++◌, length, map, drop, get_or, Some, refl, ap, ◌∙◌, sym, arith, All, append_assoc, append-nil, length-append}
-use Rattle.std.specs.List.{AllByRecursion, flat_map}
+use Rattle.std.proofs.Common.{◌≡◌, ℕ, ◌+◌, ◌<◌, ◌≤◌, ◌^◌, ◌==◌, cond, subst, List, [], ◌∷◌, ◌++◌, length, drop, get_or, Some, refl, ap, ◌∙◌, sym, arith, All, append_assoc, append-nil, length-append}
+use Rattle.std.specs.List.{flat_map}
 use Rattle.std.proofs.lemmas.List.Concat.{flat_map-append}
 use Rattle.std.proofs.lemmas.List.Elements.{All-append, All-cons, All-nil}
 use Rattle.af_base.specs.declared.seen.Seen.{Seen}
 use Rattle.af_base.specs.declared.turn.CommandLook.{CommandLook}
 use Rattle.af_base.specs.Log.{count_seen}
+use Rattle.af_journal.proofs.Basics.{fit-append}
 use Rattle.af_journal.specs.declared.line.Line.{Line}
 use Rattle.af_journal.specs.declared.line.Line.TheVariants as line
 use Rattle.af_journal.specs.Lines.{Written, hex_word, numbers, words, spelled, with_lf}
@@ -20,11 +21,6 @@ use Rattle.af_journal.proofs.LineLaws.{line-sound}
 use Rattle.af_journal.proofs.Parts.{cut-sound}
 use Rattle.af_journal.proofs.Texts.{each-more, text-append}
 
--- lines whose numbers fit, and more of them
-pub fits-append : (first more : List Written) → AllByRecursion IsWritten first → AllByRecursion IsWritten more → AllByRecursion IsWritten (first ++ more)
-fits-append [] more one two = two
-fits-append (w ∷ ws) more one two = (one.0, fits-append ws more one.1 two)
-
 -- no lines
 pub leaves-none : (a : List ℕ) → Leaves a [] a
 leaves-none a = record { text = refl; fits = tt }
@@ -33,7 +29,7 @@ leaves-none a = record { text = refl; fits = tt }
 pub leaves-then : (a b d : List ℕ) (first more : List Written) → Leaves a first b → Leaves b more d → Leaves a (first ++ more) d
 leaves-then a b d first more one two = record {
   text = one.text ∙ ap (λ l. text_of_lines first ++ l) two.text ∙ sym (append_assoc (text_of_lines first) (text_of_lines more) d) ∙ ap (λ l. l ++ d) (sym (text-append first more));
-  fits = fits-append first more one.fits two.fits;
+  fits = fit-append first more one.fits two.fits;
 }
 
 -- equal lines leave the same
@@ -134,10 +130,6 @@ leaves-each f a b d xs x n count one two =
 
 pub all-more : {X : Type 0} (P : X → Type 0) (xs : List X) (x : X) → All P xs → P x → All P (xs ++ x ∷ [])
 all-more P xs x all p = All-append P xs (x ∷ []) all (All-cons P x [] p (All-nil P))
-
-pub map-more : {X Y : Type 0} (f : X → Y) (xs : List X) (x : X) → map f (xs ++ x ∷ []) ≡ map f xs ++ f x ∷ []
-map-more f [] x = refl
-map-more f (y ∷ ys) x = ap (λ l. f y ∷ l) (map-more f ys x)
 
 -- a look and its words
 pub leaves-look : (a b d : List ℕ) (track own flush rear : ℕ) (answer : Seen) (l : CommandLook) → own ≡ track → (l.flush ≡ flush) × (l.rear ≡ rear) × (l.seen ≡ answer)

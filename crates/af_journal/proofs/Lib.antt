@@ -1,3 +1,4 @@
+pub mod Basics
 mod Texts
 mod Entries
 mod Decimal

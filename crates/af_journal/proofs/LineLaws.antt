@@ -4,6 +4,7 @@ use Rattle.std.proofs.lemmas.Option.{same_Some}
 use Rattle.std.proofs.lemmas.Fmt.{decimal_digit}
 use Rattle.std.proofs.lemmas.Bool.Decides.{nat_tests}
 use Rattle.std.specs.Fmt.{decimal}
+use Rattle.af_base.proofs.Basics.{equal_is}
 use Rattle.af_base.specs.declared.event.ClientCall.{ClientCall}
 use Rattle.af_base.specs.declared.event.ClientCall.TheVariants as call
 use Rattle.af_base.specs.declared.seen.Seen.{Seen}
@@ -14,9 +15,10 @@ use Rattle.af_journal.specs.declared.line.Line.{Line}
 use Rattle.af_journal.specs.declared.line.Line.TheVariants as line
 use Rattle.af_journal.specs.Lines.{call_line, line_text, push_line, seen_text}
 use Rattle.af_journal.specs.LineReading.{◌>>=◌, call_at, entry_at, line_at, look_at, marked_at, next_number, next_word, one_at, push_at, pushed_at, busy_at, seen_at, slot_at, slot_from, status_at, take_at, turn_at, turn_line_at, two_at, whole}
+use Rattle.af_model.proofs.Basics.{one_few}
 use Rattle.af_model.specs.Numbers.{AreWords, FitsPush}
 use Rattle.af_journal.specs.Ranges.{IsLine, IsSeenText}
-use Rattle.af_journal.proofs.Spelled.{bind_some, either, whole_some, same_byte, number-sound, number-more, number-last, one-sound, one-again, two-sound, two-again, seen-sound, seen-again, yes_is, digit_small, digit_back, call-sound, call-again, first_of_line}
+use Rattle.af_journal.proofs.Spelled.{bind_some, either, whole_some, number-sound, number-more, number-last, one-sound, one-again, two-sound, two-again, seen-sound, seen-again, yes_is, digit_back, call-sound, call-again, first_of_line}
 use Rattle.af_model.specs.Reports.{one_if}
 
 pub record Spells (bytes : List ℕ) (l : Line) : Type 0 where
@@ -63,7 +65,7 @@ turn-again : (room : ℕ) (ack : Bool) (cycle : ℕ) → room < 2 ^ 32 → cycle
 unfolding turn_at
 turn-again room ack cycle h k =
     rw (number-more (2 ^ 32 - 1) room (decimal (one_if ack) ++ 32 ∷ decimal cycle) (omega arith) (lit< tt))
-    (rw (number-more 1 (one_if ack) (decimal cycle) (digit_small ack) (lit< tt))
+    (rw (number-more 1 (one_if ack) (decimal cycle) (one_few ack) (lit< tt))
     (rw (number-last (2 ^ 64 - 1) cycle (omega arith) (lit< tt)) (ap (λ b. Some (line.Turn room b cycle)) (digit_back ack))))
 
 look-sound : (rest : List ℕ) (l : Line) → look_at rest ≡ Some l → Spells (113 ∷ rest) l
@@ -162,10 +164,10 @@ is_two n h a b = grind (arith, nat_tests)
 kind_of_push : (n : ℕ) (more rest : List ℕ) (p : Push) (a b : Bool) → (n == 0) ≡ a → (n == 1) ≡ b → n ≤ 2 → rest ≡ after n more
     → cond a (whole more pushing.Clean) (cond b (pushed_at more) (busy_at more)) ≡ Some p → SpellsPush (80 ∷ rest) p
 kind_of_push n more rest p true b i j h r e =
-    let z : n ≡ 0 = same_byte n 0 i in let w = whole_some more pushing.Clean p e in
+    let z : n ≡ 0 = equal_is n 0 i in let w = whole_some more pushing.Clean p e in
     subst (SpellsPush (80 ∷ rest)) w.1 (record { spelled = kind_is 0 rest [] (lit< tt) (r ∙ ap (λ n. after n more) z ∙ ap (after 0) w.0); fits = tt })
 kind_of_push n more rest p false true i j h r e =
-    as_pushed rest (80 ∷ 32 ∷ 49 ∷ more) p (kind_is 1 rest more (lit< tt) (r ∙ ap (λ n. after n more) (same_byte n 1 j))) (pushed-sound more p e)
+    as_pushed rest (80 ∷ 32 ∷ 49 ∷ more) p (kind_is 1 rest more (lit< tt) (r ∙ ap (λ n. after n more) (equal_is n 1 j))) (pushed-sound more p e)
 kind_of_push n more rest p false false i j h r e =
     as_pushed rest (80 ∷ 32 ∷ 50 ∷ more) p (kind_is 2 rest more (lit< tt) (r ∙ ap (λ n. after n more) (is_two n h i j))) (busy-sound more p e)
 
@@ -256,7 +258,7 @@ slot-again slot scale mono gains flush rear answer fit =
     let i = fit.0 in let s = fit.1 in let g = fit.2.0 in let f = fit.2.1.0 in let r = fit.2.1.1.0 in
     rw (number-more (slots - 1) slot (decimal scale ++ after (one_if mono) (after gains (after flush (after rear (32 ∷ seen_text answer))))) (omega arith) (lit< tt))
     (rw (number-more (2 ^ 16 - 1) scale (decimal (one_if mono) ++ after gains (after flush (after rear (32 ∷ seen_text answer)))) (omega arith) (lit< tt))
-    (rw (number-more 1 (one_if mono) (decimal gains ++ after flush (after rear (32 ∷ seen_text answer))) (digit_small mono) (lit< tt))
+    (rw (number-more 1 (one_if mono) (decimal gains ++ after flush (after rear (32 ∷ seen_text answer))) (one_few mono) (lit< tt))
     (rw (number-more (2 ^ 32 - 1) gains (decimal flush ++ after rear (32 ∷ seen_text answer)) (omega arith) (lit< tt))
     (rw (number-more (2 ^ 32 - 1) flush (decimal rear ++ 32 ∷ seen_text answer) (omega arith) (lit< tt))
     (rw (number-more (2 ^ 32 - 1) rear (seen_text answer) (omega arith) (lit< tt))
@@ -267,17 +269,17 @@ slot-again slot scale mono gains flush rear answer fit =
 alone : (mark code : ℕ) (rest : List ℕ) (x l : Line) → (mark == code) ≡ true → whole rest x ≡ Some l → code ∷ [] ≡ line_text x → IsLine x → Spells (mark ∷ rest) l
 alone mark code rest x l m e text fit =
     let w = whole_some rest x l e in
-    subst (Spells (mark ∷ rest)) w.1 (record { spelled = ap (λ m. m ∷ rest) (same_byte mark code m) ∙ ap (λ r. code ∷ r) w.0 ∙ text; fits = fit })
+    subst (Spells (mark ∷ rest)) w.1 (record { spelled = ap (λ m. m ∷ rest) (equal_is mark code m) ∙ ap (λ r. code ∷ r) w.0 ∙ text; fits = fit })
 
 one_line : (mark code : ℕ) (rest : List ℕ) (f : ℕ → Line) (l : Line) → (mark == code) ≡ true → (one_at rest >>= λ n. Some (f n)) ≡ Some l
     → ((n : ℕ) → code ∷ 32 ∷ decimal n ≡ line_text (f n)) → ((n : ℕ) → n < 2 ^ 32 → IsLine (f n)) → Spells (mark ∷ rest) l
 one_line mark code rest f l m e text fit =
     let n = bind_some (one_at rest) _ l e in
     let o = one-sound rest n.0 n.1 in
-    subst (Spells (mark ∷ rest)) (same_Some _ _ n.2) (record { spelled = ap (λ m. m ∷ rest) (same_byte mark code m) ∙ ap (λ l. code ∷ l) o.0 ∙ text n.0; fits = fit n.0 o.1 })
+    subst (Spells (mark ∷ rest)) (same_Some _ _ n.2) (record { spelled = ap (λ m. m ∷ rest) (equal_is mark code m) ∙ ap (λ l. code ∷ l) o.0 ∙ text n.0; fits = fit n.0 o.1 })
 
 marked : (mark code : ℕ) (rest : List ℕ) (l : Line) → (mark == code) ≡ true → Spells (code ∷ rest) l → Spells (mark ∷ rest) l
-marked mark code rest l m s = record { spelled = ap (λ m. m ∷ rest) (same_byte mark code m) ∙ s.spelled; fits = s.fits }
+marked mark code rest l m s = record { spelled = ap (λ m. m ∷ rest) (equal_is mark code m) ∙ s.spelled; fits = s.fits }
 
 push_of-sound : (rest : List ℕ) (l : Line) → (push_at rest >>= λ push. Some (line.Pushed push)) ≡ Some l → Spells (80 ∷ rest) l
 push_of-sound rest l e =

@@ -1,5 +1,5 @@
 -- What a line of a turn adds to what is left of a journal's text.
-use Rattle.std.proofs.Common.{◌≡◌, inr, ℕ, zero, suc, ◌+◌, ◌-◌, ◌<◌, ◌≤◌, nat_lt, List, [], ◌∷◌, ◌++◌, length, map, Some, None, Bool, true, false, refl, ap, ◌∙◌, sym, subst, arith, All, append_assoc, append-nil}
+use Rattle.std.proofs.Common.{◌≡◌, inr, ℕ, zero, suc, ◌+◌, ◌-◌, ◌<◌, ◌≤◌, List, [], ◌∷◌, ◌++◌, length, map, Some, None, Bool, true, false, refl, ap, ◌∙◌, sym, subst, arith, All, append_assoc, append-nil}
 use Rattle.std.specs.List.{flat_map}
 use Rattle.std.proofs.lemmas.List.{length-append}
 use Rattle.std.proofs.lemmas.List.Elements.{All-cons, All-head, All-nil, All-tail}
@@ -98,9 +98,6 @@ comes_low track part low low_part e = grind (arith, nat_tests)
 
 pub comes_part : (track part low low_part : ℕ) → comes track part low low_part ≡ true → low ≡ track → low_part ≤ part
 comes_part track part low low_part e h = grind (arith, nat_tests)
-
-pub below : (track tracks : ℕ) → nat_lt track tracks ≡ true → track < tracks
-below track tracks e = grind (arith, nat_tests)
 
 -- the first of the tracks that are left, if there is one
 pub record First (ts : List TrackSeen) : Type 0 where

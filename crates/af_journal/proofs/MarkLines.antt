@@ -1,10 +1,11 @@
 -- The lines of a text are noted one after the other.
-use Rattle.std.proofs.Common.{◌≡◌, ◌⊎◌, inl, inr, ℕ, ◌+◌, ◌<◌, ◌≤◌, ◌==◌, ◌&&◌, ◌||◌, Bool, true, false, cond, replicate, List, [], ◌∷◌, ◌++◌, length, slice_index_or, Option, Some, None, Result, Ok, Err, IfOk, refl, ap, ◌∙◌, sym, subst, arith, length-append}
+use Rattle.std.proofs.Common.{◌≡◌, ◌⊎◌, inl, inr, ℕ, ◌+◌, ◌<◌, ◌≤◌, ◌==◌, ◌&&◌, ◌||◌, Bool, true, false, cond, replicate, List, [], ◌∷◌, ◌++◌, length, slice_index_or, Option, Some, None, refl, ap, ◌∙◌, sym, subst, arith, length-append}
 use Rattle.std.specs.List.{AllByRecursion, list_any}
 use Rattle.std.proofs.lemmas.Bool.{cases_lt}
 use Rattle.std.proofs.lemmas.List.{get_or-replicate, get_or_append_left, get_or_push, length-replicate}
 use Rattle.std.proofs.lemmas.Option.{same_Some}
 use Rattle.std.proofs.lemmas.List.Elements.{All-nil}
+use Rattle.af_base.proofs.Basics.{or_both, or_false}
 use Rattle.af_base.specs.declared.event.ClientCall.{ClientCall}
 use Rattle.af_runs.specs.LegalRuns.{is_poke_on}
 use Rattle.af_journal.specs.declared.line.Line.{Line}
@@ -17,7 +18,6 @@ use Rattle.af_journal.specs.Texts.{text_of_lines}
 use Rattle.af_journal.proofs.Leaving.{all-more}
 use Rattle.af_journal.proofs.LineLaws.{line-again}
 use Rattle.af_journal.proofs.OneText.{cut-line}
-use Rattle.af_journal.proofs.PokeLines.{or_both, or_nothing}
 use Rattle.std.specs.Prelude.{All}
 use Rattle.af_model.specs.Numbers.{FitsCall}
 
@@ -118,7 +118,7 @@ marks_more ws own next rest part after streams commands s c s' c' m e n =
     (subst (λ part. IsNoted (line_at part) own next s c s' c') o.spells n)
 
 some-all : (commands : Bool) (own : ℕ) (ws : List Written) (marks now : List Bool) → MarksSome commands own ws [] marks now → MarksAll commands 0 ws marks now
-some-all commands own ws marks now m = record { many = m.many; each = λ track lt. sym (or_nothing (slice_index_or now track false)) ∙ m.each track lt }
+some-all commands own ws marks now m = record { many = m.many; each = λ track lt. sym (or_false (slice_index_or now track false)) ∙ m.each track lt }
 
 -- all lines were noted
 pub marks_end : (ws : List Written) (own : ℕ) (rest : List ℕ) (streams commands s c : List Bool) → MarksLeft own ws rest streams commands s c → cut rest ≡ None → MarksAll false 0 ws streams s × MarksAll true 0 ws commands c
@@ -165,8 +165,3 @@ marks_just tracks ws streams commands s c clients none also marks j =
     by_block : (block : Bool) (track : ℕ) → track < tracks → length streams ≡ tracks → length commands ≡ tracks → slice_index_or (cond block c s) track false ≡ pokes block track 0 ws
     by_block false track lt long long_too = marks.0.each track (omega (arith, lt, long)) ∙ ap (λ b. b || pokes false track 0 ws) (unset streams track none lt)
     by_block true track lt long long_too = marks.1.each track (omega (arith, lt, long_too)) ∙ ap (λ b. b || pokes true track 0 ws) (unset commands track also lt)
-
--- what is said of each answer
-pub on_ok : {V E : Type 0} (P Q : V → Type 0) (r : Result V E) → ((v : V) → P v → Q v) → IfOk r P → IfOk r Q
-on_ok P Q (Ok v) f h = f v h
-on_ok P Q (Err e) f h = tt

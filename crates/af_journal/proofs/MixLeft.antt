@@ -14,15 +14,17 @@ use Rattle.af_base.specs.declared.seen.Seen.{Seen}
 use Rattle.af_base.specs.declared.seen.Seen.TheVariants as seen
 use Rattle.af_base.specs.Log.{absent, count_seen, entry_slot, slots}
 use Rattle.af_base.specs.Sample.{IsFrame, packed_word}
+use Rattle.af_model.proofs.Basics.{one_few}
 use Rattle.af_model.specs.Cycles.{IsSeen, place_of, shown, taken_before}
 use Rattle.af_model.specs.Journals.{EntrySeen, slot_frames, taken_by}
 use Rattle.af_model.specs.JournalForm.{IsAbsent, IsMixed, IsSubmix}
+use Rattle.af_runs.proofs.Basics.{shown_if}
 use Rattle.af_runs.specs.Fronts.{is_shown}
 use Rattle.af_journal.specs.declared.line.Line.TheVariants as line
 use Rattle.af_journal.specs.Lines.{Written, numbers}
 use Rattle.af_journal.specs.Mixes.{SlotGot, lines_by, got_lines, IsGot, AreGots, frames_in, marks, mix_entry}
 use Rattle.af_journal.specs.Texts.{each_from, slot_lines, slots_lines, words_after}
-use Rattle.af_journal.proofs.Spelled.{digit_back, digit_small}
+use Rattle.af_journal.proofs.Spelled.{digit_back}
 use Rattle.af_journal.proofs.Texts.{each-next, range-more}
 use Rattle.af_journal.proofs.RoundsLeft.{many, length-many, pad_all, pad_to, EntriesLeft}
 use Rattle.af_model.specs.Reports.{one_if}
@@ -76,13 +78,6 @@ none_first l = refl
 pub no_first : (low n : ℕ) → 1 ≤ low → HeadFirst low (many n no_got)
 no_first low zero h = tt
 no_first low (suc n) h = λ z. absurd (omega arith)
-
-pub shown_if : (s : Seen) → IsSeen s → is_shown s ≡ true
-shown_if seen.Absent p = absurd p
-shown_if (seen.Frames count) p = refl
-shown_if seen.Empty p = refl
-shown_if (seen.Flushed dropped) p = refl
-shown_if (seen.Shut front rear) p = refl
 
 pub pad_gots : (place k : ℕ) (gs : List SlotGot) → AreGots place gs → AreGots place (many k no_got ++ gs)
 pad_gots place zero gs are = are
@@ -148,13 +143,13 @@ half_of d v h = omega arith
 pub mark_at : (bs : List Bool) (i : ℕ) → i < length bs → bit_at (marks bs) i ≡ one_if (get_or bs i false)
 unfolding marks
 mark_at [] i h = absurd (omega arith)
-mark_at (b ∷ bs) zero h = bit_at_lowest (one_if b + 2 * marks bs) ∙ lowest_of (one_if b) (marks bs) (digit_small b)
-mark_at (b ∷ bs) (suc i) h = bit_at-suc (one_if b + 2 * marks bs) i ∙ ap (λ n. bit_at n i) (half_of (one_if b) (marks bs) (digit_small b)) ∙ mark_at bs i (omega arith)
+mark_at (b ∷ bs) zero h = bit_at_lowest (one_if b + 2 * marks bs) ∙ lowest_of (one_if b) (marks bs) (one_few b)
+mark_at (b ∷ bs) (suc i) h = bit_at-suc (one_if b + 2 * marks bs) i ∙ ap (λ n. bit_at n i) (half_of (one_if b) (marks bs) (one_few b)) ∙ mark_at bs i (omega arith)
 
 pub marks_small : (bs : List Bool) → marks bs < 2 ^ length bs
 unfolding marks
 marks_small [] = lit< tt
-marks_small (b ∷ bs) = let p = pow-suc 2 (length bs) in let h = marks_small bs in let d = digit_small b in omega arith
+marks_small (b ∷ bs) = let p = pow-suc 2 (length bs) in let h = marks_small bs in let d = one_few b in omega arith
 
 unfoldable pub got_at : List SlotGot → ℕ → SlotGot
 got_at gs i = slice_index_or gs i no_got

@@ -4,6 +4,7 @@ use Rattle.std.proofs.Math.Nat.{mul_assoc, pow-suc}
 use Rattle.std.proofs.lemmas.List.{length-map}
 use Rattle.std.proofs.lemmas.List.Elements.{All-nil}
 use Rattle.std.proofs.lemmas.List.Concat.{flat_map-append}
+use Rattle.af_base.proofs.Basics.{both, map_last}
 use Rattle.af_base.specs.declared.frame.Frame.{Frame}
 use Rattle.af_base.specs.declared.log.Cycle.{Cycle}
 use Rattle.af_base.specs.declared.log.Cycle.TheVariants as cycle
@@ -21,12 +22,12 @@ use Rattle.af_journal.specs.Mixes.{AreGots, IsGot, SlotGot, frames_in, got_lines
 use Rattle.af_journal.specs.Stages.{is_submix, shows_submix}
 use Rattle.af_journal.specs.Taken.{AddsEntry, Leaves, more_lines}
 use Rattle.af_journal.specs.Texts.{each_from, slots_lines, words_after}
-use Rattle.af_journal.proofs.Leaving.{leaves-as, leaves-each, leaves-none, leaves-then, map-more}
+use Rattle.af_journal.proofs.Leaving.{leaves-as, leaves-each, leaves-none, leaves-then}
 use Rattle.af_journal.proofs.EntriesLeft.{differ, slot_may, still_taken}
-use Rattle.af_journal.proofs.RoundsLeft.{both_true}
 use Rattle.af_journal.proofs.Spelled.{digit_back}
-use Rattle.af_journal.proofs.MixLeft.{HeadFirst, IsFirst, all_frames, bit_is, got_at, marks_small, mix_is, mix_lines, mix_taken, scale_is, shown_if, slot_is}
+use Rattle.af_journal.proofs.MixLeft.{HeadFirst, IsFirst, all_frames, bit_is, got_at, marks_small, mix_is, mix_lines, mix_taken, scale_is, slot_is}
 use Rattle.af_model.specs.Reports.{one_if}
+use Rattle.af_runs.proofs.Basics.{shown_if}
 
 -- what was read of a mix before a slot
 pub record IsMixFront (state place slot : ℕ) (before frames : List Frame) (start rest : List ℕ) (entry : CycleEntry) : Type 0 where
@@ -63,7 +64,7 @@ set_next f x gots g n count lt =
     ap (λ k. slice_set (map f gots ++ replicate k x) n (f g)) one
     ∙ set_behind (map f gots) (replicate (slots - (n + 1)) x) x (f g) n long
     ∙ sym (append_assoc (map f gots) (f g ∷ []) (replicate (slots - (n + 1)) x))
-    ∙ ap (λ l. l ++ replicate (slots - (n + 1)) x) (sym (map-more f gots g))
+    ∙ ap (λ l. l ++ replicate (slots - (n + 1)) x) (sym (map_last f gots g))
 
 -- the marks of one slot more
 marks-step : (x n m b p q : ℕ) → n ≡ m + b * p → q ≡ p * 2 → x + 2 * n ≡ x + 2 * m + b * q
@@ -101,7 +102,7 @@ front-more state n before frames more start mid rest entry next g m lt is frames
       slots_are = slots_are ∙ ap (λ (l : List SlotEntry). slice_set l n g.slot) m.slots_are ∙ set_next (λ (g : SlotGot). g.slot) absent m.gots g n m.count lt;
       scales_are = scales_are ∙ ap (λ (l : List ℕ). slice_set l n g.scale) m.scales_are ∙ set_next (λ (g : SlotGot). g.scale) 0 m.gots g n m.count lt;
       mono_is = mono_is ∙ ap (λ k. k + one_if g.mono * 2 ^ n) m.mono_is ∙ ap (λ k. marks (map (λ (g : SlotGot). g.mono) m.gots) + one_if g.mono * 2 ^ k) (sym bits) ∙ sym (marks-more (map (λ (g : SlotGot). g.mono) m.gots) g.mono)
-          ∙ ap marks (sym (map-more (λ (g : SlotGot). g.mono) m.gots g));
+          ∙ ap marks (sym (map_last (λ (g : SlotGot). g.mono) m.gots g));
       others = (state_is ∙ m.others.0, cycle_is ∙ m.others.1);
     }
 
@@ -166,10 +167,10 @@ seen-first place g is shows = by is.other where
 
 submix-shows : (scale gains flush : ℕ) (mono : Bool) (answer : Seen) → is_submix scale mono gains flush answer ≡ true → shows_submix answer ≡ true
 submix-shows scale gains flush mono answer e =
-    let b = both_true (scale == 4096) (not mono && ((gains == 268439552) && ((flush == 0) && shows_submix answer))) e in
-    let c = both_true (not mono) ((gains == 268439552) && ((flush == 0) && shows_submix answer)) b.1 in
-    let d = both_true (gains == 268439552) ((flush == 0) && shows_submix answer) c.1 in
-    (both_true (flush == 0) (shows_submix answer) d.1).1
+    let b = both (scale == 4096) (not mono && ((gains == 268439552) && ((flush == 0) && shows_submix answer))) e in
+    let c = both (not mono) ((gains == 268439552) && ((flush == 0) && shows_submix answer)) b.1 in
+    let d = both (gains == 268439552) ((flush == 0) && shows_submix answer) c.1 in
+    (both (flush == 0) (shows_submix answer) d.1).1
 
 first-is : (place : ℕ) (g : SlotGot) → IsGot place g → is_submix g.scale g.mono g.slot.gains g.slot.flush g.slot.seen ≡ true → IsFirst g
 first-is place g is e =

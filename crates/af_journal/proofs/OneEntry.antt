@@ -8,6 +8,7 @@ use Rattle.std.proofs.lemmas.List.{ext_get_or, length-drop, length-map, length-t
 use Rattle.std.proofs.lemmas.List.Elements.{All-cons, All-drop, All-nil, All-take}
 use Rattle.std.proofs.lemmas.List.FromFn.{get_or-map-range_with_len, length-map-range_with_len}
 use Rattle.std.proofs.lemmas.Nat.Bits.{bit_at-lt, bit_at-suc, bit_at_lowest}
+use Rattle.af_base.proofs.Basics.{no_items, some_is}
 use Rattle.af_base.specs.declared.log.Cycle.{Cycle}
 use Rattle.af_base.specs.declared.log.Cycle.TheVariants as cycle
 use Rattle.af_base.specs.declared.log.SlotEntry.{SlotEntry}
@@ -18,14 +19,13 @@ use Rattle.af_base.specs.Sample.{IsFrame, packed_word}
 use Rattle.af_model.specs.Cycles.{IsSeen, is_mixed, place_of, shown, still_entry, taken_before}
 use Rattle.af_model.specs.Journals.{EntrySeen, slot_frames, taken_by}
 use Rattle.af_model.specs.JournalForm.{AreEntries, IsAbsent, IsEntry, IsMixed, is_spent}
+use Rattle.af_runs.proofs.Basics.{shown_if, taken_up}
 use Rattle.af_runs.specs.Fronts.{is_shown}
 use Rattle.af_journal.specs.declared.line.Line.TheVariants as line
 use Rattle.af_journal.specs.Lines.{Written, numbers}
 use Rattle.af_journal.specs.Mixes.{SlotGot, got_lines, lines_by}
 use Rattle.af_journal.specs.Texts.{each_from, entry_lines, slot_lines, slots_lines, words_after}
-use Rattle.af_journal.proofs.EntriesLeft.{some_of, still_taken}
-use Rattle.af_journal.proofs.Entries.{taken-below}
-use Rattle.af_journal.proofs.MixLeft.{shown_if}
+use Rattle.af_journal.proofs.EntriesLeft.{still_taken}
 use Rattle.af_journal.proofs.OneText.{FromOn, IsNumbered, each-one, first-same, from-less, others-same, words-one}
 use Rattle.af_journal.proofs.OneTurn.{same-frames}
 
@@ -64,10 +64,6 @@ same-slot i g h e = let p = ap slot_in e in record {
   answer = ap (λ (x : SlotGot). x.slot.seen) p;
 }
 
-nil-of : {X : Type 0} (xs : List X) → length xs ≡ 0 → xs ≡ []
-nil-of [] e = refl
-nil-of (x ∷ xs) e = absurd (omega arith)
-
 shown-lines : (i : ℕ) (g : SlotGot) (r : List Written) → IsSeen g.slot.seen → got_lines i g ++ r ≡ own_line i g ∷ (words_after (map packed_word g.frames) ++ r)
 unfolding own_line
 shown-lines i g r s = ap (λ b. cond b (own_line i g ∷ words_after (map packed_word g.frames)) [] ++ r) (shown_if g.slot.seen s)
@@ -86,8 +82,8 @@ got-one n g h r s p q rf sf e = by p.other q.other where
 
   by : ((g.slot ≡ absent) × (g.scale ≡ 0) × (g.mono ≡ false)) ⊎ IsSeen g.slot.seen → ((h.slot ≡ absent) × (h.scale ≡ 0) × (h.mono ≡ false)) ⊎ IsSeen h.slot.seen → (g ≡ h) × (r ≡ s)
   by (inl a) (inl b) =
-      let none = nil-of g.frames (p.count ∙ ap (λ (s : SlotEntry). count_seen s.seen) a.0) in
-      let gone = nil-of h.frames (q.count ∙ ap (λ (s : SlotEntry). count_seen s.seen) b.0) in (
+      let none = no_items g.frames (p.count ∙ ap (λ (s : SlotEntry). count_seen s.seen) a.0) in
+      let gone = no_items h.frames (q.count ∙ ap (λ (s : SlotEntry). count_seen s.seen) b.0) in (
         (λ k. record { slot = (a.0 ∙ sym b.0) k; scale = (a.1 ∙ sym b.1) k; mono = (a.2 ∙ sym b.2) k; frames = (none ∙ sym gone) k }),
         sym (absent-lines n g r a.0) ∙ e ∙ absent-lines n h s b.0,
       )
@@ -126,7 +122,7 @@ slots-each e i (suc n) = ap (λ l. slot_lines e i ++ l) (slots-each e (i + 1) n)
 
 seen-by : (n : ℕ) (b : Bool) (s : Seen) → (n == 0) ≡ b → s ≡ cond b seen.Empty (seen.Frames n) → IsSeen s
 seen-by n true s is e = subst IsSeen (sym e) tt
-seen-by n false s is e = subst IsSeen (sym e) (some_of n is)
+seen-by n false s is e = subst IsSeen (sym e) (some_is n is)
 
 seen-shown : (n : ℕ) (s : Seen) → s ≡ shown n → IsSeen s
 seen-shown n s e = seen-by n (n == 0) s refl e
@@ -143,7 +139,7 @@ module _ (place : ℕ) (e : EntrySeen) (m : IsMixed place e.entry) (count : leng
   told-is : (i : ℕ) → i < slots → IsTold (told_at e i)
   unfolding told_at taken_by
   told-is i h =
-      let below = taken-below e.entry i slots h in
+      let below = taken_up e.entry i slots h in
       let rest = length-drop (taken_before e.entry i) e.frames in
       record {
         other = told-other i h;
@@ -277,8 +273,8 @@ mix-one place e f r s state cyc m n ec fc ea fa rf sf same =
 still-one : (e f : EntrySeen) → e.entry.state ≡ f.entry.state → e.entry.cycle ≡ f.entry.cycle → e.entry ≡ still_entry e.entry.state e.entry.cycle → f.entry ≡ still_entry f.entry.state f.entry.cycle
     → length e.frames ≡ taken_by e.entry → length f.frames ≡ taken_by f.entry → e ≡ f
 still-one e f state cyc p q ec fc =
-    let none = nil-of e.frames (ec ∙ ap taken_by p ∙ sym (still_taken e.entry.state e.entry.cycle)) in
-    let gone = nil-of f.frames (fc ∙ ap taken_by q ∙ sym (still_taken f.entry.state f.entry.cycle)) in
+    let none = no_items e.frames (ec ∙ ap taken_by p ∙ sym (still_taken e.entry.state e.entry.cycle)) in
+    let gone = no_items f.frames (fc ∙ ap taken_by q ∙ sym (still_taken f.entry.state f.entry.cycle)) in
     let entry : e.entry ≡ f.entry = p ∙ (λ k. still_entry (state k) (cyc k)) ∙ sym q in
     λ k. record { entry = entry k; frames = (none ∙ sym gone) k }
 

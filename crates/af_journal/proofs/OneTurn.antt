@@ -1,12 +1,11 @@
 -- A turn is told by no lines but its own.
-use Rattle.std.proofs.Common.{◌≡◌, inl, inr, ℕ, ℤ, ◌+◌, ◌*◌, ◌/◌, ◌%◌, ◌<◌, List, [], ◌∷◌, ◌++◌, length, map, Bool, true, false, cond, refl, ap, ◌∙◌, sym, arith, All, append_assoc}
+use Rattle.std.proofs.Common.{◌≡◌, inl, inr, ℕ, ◌+◌, ◌*◌, ◌/◌, ◌%◌, ◌<◌, List, [], ◌∷◌, ◌++◌, length, map, Bool, true, false, cond, refl, ap, ◌∙◌, sym, arith, All, append_assoc}
 use Rattle.std.specs.Int.{cast_signed, cast_unsigned, w16}
-use Rattle.std.specs.Prelude.{FitsSigned}
 use Rattle.std.specs.List.{flat_map}
-use Rattle.std.proofs.Math.Facts.{Fits-of_z}
 use Rattle.std.proofs.lemmas.Int.{to_z-of_z}
 use Rattle.std.proofs.lemmas.List.{length-map}
 use Rattle.std.proofs.lemmas.List.Elements.{All-head, All-tail}
+use Rattle.af_base.proofs.Basics.{few}
 use Rattle.af_base.specs.declared.frame.Frame.{Frame}
 use Rattle.af_base.specs.declared.seen.Seen.{Seen}
 use Rattle.af_base.specs.declared.seen.Seen.TheVariants as seen
@@ -27,12 +26,9 @@ halves-same : (a b c d : ℕ) → a < 65536 → b < 65536 → c < 65536 → d < 
     → a % 256 + 256 * (a / 256 % 256 + 256 * (b % 256 + 256 * (b / 256 % 256 + 256 * 0))) ≡ c % 256 + 256 * (c / 256 % 256 + 256 * (d % 256 + 256 * (d / 256 % 256 + 256 * 0))) → (a ≡ c) × (b ≡ d)
 halves-same a b c d ha hb hc hd e = (omega arith, omega arith)
 
-small-half : (z : ℤ) → FitsSigned w16 z → cast_unsigned w16 z < 65536
-small-half z f = (Fits-of_z f).fits
-
 same-frame : (f g : Frame) → IsFrame f → IsFrame g → packed_word f ≡ packed_word g → f ≡ g
 same-frame f g p q e =
-    let h = halves-same (cast_unsigned w16 f.left) (cast_unsigned w16 f.right) (cast_unsigned w16 g.left) (cast_unsigned w16 g.right) (small-half f.left p.left) (small-half f.right p.right) (small-half g.left q.left) (small-half g.right q.right) e in
+    let h = halves-same (cast_unsigned w16 f.left) (cast_unsigned w16 f.right) (cast_unsigned w16 g.left) (cast_unsigned w16 g.right) (few f.left p.left) (few f.right p.right) (few g.left q.left) (few g.right q.right) e in
     let left : f.left ≡ g.left = sym (to_z-of_z w16 f.left p.left) ∙ ap (cast_signed w16) h.0 ∙ to_z-of_z w16 g.left q.left in
     let right : f.right ≡ g.right = sym (to_z-of_z w16 f.right p.right) ∙ ap (cast_signed w16) h.1 ∙ to_z-of_z w16 g.right q.right in
     λ k. record { left = left k; right = right k }

@@ -3,11 +3,12 @@ use Rattle.std.proofs.Common.{◌≡◌, ℕ, zero, suc, ◌+◌, ◌<◌, List,
 use Rattle.std.specs.List.{flat_map, onto_first, AllByRecursion, All, join_with_byte}
 use Rattle.std.proofs.lemmas.List.Splits.{slice_split_at, slice_split_none, join_with_byte-slice_split}
 use Rattle.std.proofs.lemmas.Option.{same_Some}
+use Rattle.af_base.proofs.Basics.{equal_is}
 use Rattle.af_journal.specs.declared.stage.Stage.{Stage}
 use Rattle.af_journal.specs.Lines.{with_lf}
 use Rattle.af_journal.specs.LineReading.{◌>>=◌}
 use Rattle.af_journal.specs.Readings.{cut, first_refused, parts_of, refused_or, stage_after}
-use Rattle.af_journal.proofs.Spelled.{Lacks, bind_some, same_byte}
+use Rattle.af_journal.proofs.Spelled.{Lacks, bind_some}
 
 abbrev pub EachLacks : List (List ℕ) → Type 0
 EachLacks ps = AllByRecursion (Lacks 10) ps
@@ -28,7 +29,7 @@ cut_head : (c : ℕ) (cs : List ℕ) (t : Bool) (r : List ℕ × List ℕ) → (
     → ((r' : List ℕ × List ℕ) → cut cs ≡ Some r' → Cut cs r') → Cut (c ∷ cs) r
 cut_head c cs true r is e rest =
     let same : ◌≡◌ {A = List ℕ × List ℕ} ([], cs) r = same_Some _ _ e in
-    subst (λ (r : List ℕ × List ℕ). Cut (c ∷ cs) r) same (record { whole = ap (λ x. x ∷ cs) (same_byte c 10 is); front = tt })
+    subst (λ (r : List ℕ × List ℕ). Cut (c ∷ cs) r) same (record { whole = ap (λ x. x ∷ cs) (equal_is c 10 is); front = tt })
 cut_head c cs false r is e rest =
     let x = bind_some (cut cs) (λ r. Some (c ∷ r.0, r.1)) r e in
     let p = rest x.0 x.1 in

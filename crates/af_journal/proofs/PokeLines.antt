@@ -4,6 +4,7 @@ use Rattle.std.specs.List.{AllByRecursion, flat_map, list_any, range_with_len}
 use Rattle.std.proofs.lemmas.Bool.Decides.{nat_tests}
 use Rattle.std.proofs.lemmas.List.Elements.{All-head, All-tail}
 use Rattle.std.proofs.lemmas.List.Folds.{list_any-append}
+use Rattle.af_base.proofs.Basics.{and_false, or_both, or_false}
 use Rattle.af_base.specs.declared.event.ClientCall.{ClientCall}
 use Rattle.af_base.specs.declared.turn.CommandLook.{CommandLook}
 use Rattle.af_base.specs.Log.{entry_slot, slots}
@@ -20,18 +21,6 @@ use Rattle.af_journal.specs.Pokes.{pokes}
 use Rattle.af_journal.specs.Texts.{call_lines, client_lines, command_words, disabled_lines, each_from, entry_lines, fast_lines, look_lines, round_lines, slot_lines, slots_lines, status_lines, take_lines, track_lines, turn_lines, turns_lines, words_after}
 
 -- ## Two values
-
-pub or_nothing : (x : Bool) → (x || false) ≡ x
-or_nothing true = refl
-or_nothing false = refl
-
-pub and_nothing : (x : Bool) → (x && false) ≡ false
-and_nothing true = refl
-and_nothing false = refl
-
-pub or_both : (x y z : Bool) → ((x || y) || z) ≡ (x || (y || z))
-or_both true y z = refl
-or_both false y z = refl
 
 -- one of two under a condition, or a third
 one_of : (b x y z : Bool) → ((b && x) || ((b && y) || z)) ≡ ((b && (x || y)) || z)
@@ -130,26 +119,26 @@ module _ (commands : Bool) (track : ℕ) where
   -- a line that is no client's and no call
   past-one : (own : ℕ) (x : Written) (ws : List Written) → IsQuiet x → poke own (x ∷ ws) ≡ poke own ws
   past-one own (words us) ws q = refl
-  past-one own (numbers line.Round) ws q = ap (λ b. b || poke own ws) (and_nothing (own == track))
+  past-one own (numbers line.Round) ws q = ap (λ b. b || poke own ws) (and_false (own == track))
   past-one own (numbers (line.Client n)) ws q = absurd q
   past-one own (numbers (line.Call answer)) ws q = absurd q
-  past-one own (numbers (line.Turn room ack cycle)) ws q = ap (λ b. b || poke own ws) (and_nothing (own == track))
-  past-one own (numbers line.Ended) ws q = ap (λ b. b || poke own ws) (and_nothing (own == track))
-  past-one own (numbers (line.Look n flush rear answer)) ws q = ap (λ b. b || poke own ws) (and_nothing (own == track))
-  past-one own (numbers (line.Disabled n)) ws q = ap (λ b. b || poke own ws) (and_nothing (own == track))
-  past-one own (numbers (line.Status n word)) ws q = ap (λ b. b || poke own ws) (and_nothing (own == track))
-  past-one own (numbers (line.Pushed push)) ws q = ap (λ b. b || poke own ws) (and_nothing (own == track))
-  past-one own (numbers (line.Take n gains flush rear answer)) ws q = ap (λ b. b || poke own ws) (and_nothing (own == track))
-  past-one own (numbers line.Fast) ws q = ap (λ b. b || poke own ws) (and_nothing (own == track))
-  past-one own (numbers (line.Entry state kind)) ws q = ap (λ b. b || poke own ws) (and_nothing (own == track))
-  past-one own (numbers (line.Slot i scale mono gains flush rear answer)) ws q = ap (λ b. b || poke own ws) (and_nothing (own == track))
+  past-one own (numbers (line.Turn room ack cycle)) ws q = ap (λ b. b || poke own ws) (and_false (own == track))
+  past-one own (numbers line.Ended) ws q = ap (λ b. b || poke own ws) (and_false (own == track))
+  past-one own (numbers (line.Look n flush rear answer)) ws q = ap (λ b. b || poke own ws) (and_false (own == track))
+  past-one own (numbers (line.Disabled n)) ws q = ap (λ b. b || poke own ws) (and_false (own == track))
+  past-one own (numbers (line.Status n word)) ws q = ap (λ b. b || poke own ws) (and_false (own == track))
+  past-one own (numbers (line.Pushed push)) ws q = ap (λ b. b || poke own ws) (and_false (own == track))
+  past-one own (numbers (line.Take n gains flush rear answer)) ws q = ap (λ b. b || poke own ws) (and_false (own == track))
+  past-one own (numbers line.Fast) ws q = ap (λ b. b || poke own ws) (and_false (own == track))
+  past-one own (numbers (line.Entry state kind)) ws q = ap (λ b. b || poke own ws) (and_false (own == track))
+  past-one own (numbers (line.Slot i scale mono gains flush rear answer)) ws q = ap (λ b. b || poke own ws) (and_false (own == track))
 
   past-quiet : (own : ℕ) (xs ws : List Written) → AreQuiet xs → poke own (xs ++ ws) ≡ poke own ws
   past-quiet own [] ws q = refl
   past-quiet own (x ∷ xs) ws q = past-one own x (xs ++ ws) q.0 ∙ past-quiet own xs ws q.1
 
   past-calls : (own : ℕ) (calls : List ClientCall) (ws : List Written) → poke own (call_lines calls ++ ws) ≡ (((own == track) && has_poke calls) || poke own ws)
-  past-calls own [] ws = ap (λ b. b || poke own ws) (sym (and_nothing (own == track)))
+  past-calls own [] ws = ap (λ b. b || poke own ws) (sym (and_false (own == track)))
   past-calls own (c ∷ calls) ws =
       ap (λ b. ((own == track) && is_poke_on commands c) || b) (past-calls own calls ws)
       ∙ one_of (own == track) (is_poke_on commands c) (has_poke calls) (poke own ws)
@@ -162,12 +151,12 @@ module _ (commands : Bool) (track : ℕ) where
   past-clients : (b : Bool) (ws : List Written) → ((own : ℕ) → poke own ws ≡ b) → (own n : ℕ) (clients : List (List ClientCall)) → poke own (each_from client_lines n clients ++ ws) ≡ (hits n clients || b)
   past-clients b ws h own n [] = h own
   past-clients b ws h own n ([] ∷ clients) =
-      past-clients b ws h own (n + 1) clients ∙ ap (λ x. (x || hits (n + 1) clients) || b) (sym (and_nothing (n == track)))
+      past-clients b ws h own (n + 1) clients ∙ ap (λ x. (x || hits (n + 1) clients) || b) (sym (and_false (n == track)))
   past-clients b ws h own n ((c ∷ calls) ∷ clients) =
       let own_calls = call_lines (c ∷ calls) in
       let others = each_from client_lines (n + 1) clients in
       let hit = (n == track) && has_poke (c ∷ calls) in
-      ap (λ x. x || poke n ((own_calls ++ others) ++ ws)) (and_nothing (own == track))
+      ap (λ x. x || poke n ((own_calls ++ others) ++ ws)) (and_false (own == track))
       ∙ ap (poke n) (append_assoc own_calls others ws)
       ∙ past-calls n (c ∷ calls) (others ++ ws)
       ∙ ap (λ x. hit || x) (past-clients b ws h n (n + 1) clients)
@@ -206,7 +195,7 @@ module _ (commands : Bool) (track : ℕ) where
   hits-at n zero (calls ∷ clients) e =
       ap (λ b. (b && has_poke calls) || hits (n + 1) clients) (same-number n (omega (arith, e)))
       ∙ ap (λ b. has_poke calls || b) (hits-past (n + 1) clients (omega (arith, e)))
-      ∙ or_nothing (has_poke calls)
+      ∙ or_false (has_poke calls)
   hits-at n (suc k) (calls ∷ clients) e =
       ap (λ b. (b && has_poke calls) || hits (n + 1) clients) (other-number n (λ same. omega (arith, e, same)))
       ∙ hits-at (n + 1) k clients (omega (arith, e))
@@ -242,7 +231,7 @@ module _ (commands : Bool) (track : ℕ) where
 
   -- a round pokes the block as these rounds do
   pub one-for_all : (r : RoundSeen) (rounds : List RoundSeen) → list_any (is_poke_on commands) (calls_in r track) ≡ list_any (λ round. list_any (is_poke_on commands) (calls_in round track)) rounds → is_lawful_block commands (r ∷ []) track ≡ is_lawful_block commands rounds track
-  one-for_all r rounds e = ap not (or_nothing (in_round r) ∙ e)
+  one-for_all r rounds e = ap not (or_false (in_round r) ∙ e)
 
   -- rounds may be left out if one that pokes the block as they do comes in their place
   pub in-place : (first rounds others : List RoundSeen) → is_lawful_block commands rounds track ≡ is_lawful_block commands others track → is_lawful_block commands (first ++ rounds) track ≡ is_lawful_block commands (first ++ others) track

@@ -1,5 +1,5 @@
 -- What is left of a journal's text at a stage, and what a round's mark or a client's line before it adds.
-use Rattle.std.proofs.Common.{◌≡◌, inl, ℕ, zero, suc, ◌+◌, ◌-◌, ◌*◌, ◌/◌, ◌%◌, ◌<◌, ◌≤◌, ◌^◌, ◌&&◌, List, [], ◌∷◌, ◌++◌, length, map, Option, Some, None, Bool, true, false, MatchOption, refl, ap, ◌∙◌, sym, arith, All, append_assoc}
+use Rattle.std.proofs.Common.{◌≡◌, inl, ℕ, zero, suc, ◌+◌, ◌-◌, ◌*◌, ◌/◌, ◌%◌, ◌<◌, ◌≤◌, ◌^◌, List, [], ◌∷◌, ◌++◌, length, map, Option, Some, None, false, MatchOption, refl, ap, ◌∙◌, sym, arith, All, append_assoc}
 use Rattle.std.specs.Int.{cast_signed, cast_unsigned, w16}
 use Rattle.std.specs.List.{flat_map}
 use Rattle.std.proofs.Math.Facts.{sfits_to_z}
@@ -46,10 +46,6 @@ pad_to f x none low n xs h = pad f x none low (n - low) xs ∙ ap (λ m. each_fr
 pub all-many : {X : Type 0} (P : X → Type 0) (n : ℕ) (x : X) (xs : List X) → P x → All P xs → All P (many n x ++ xs)
 all-many P zero x xs p q = q
 all-many P (suc n) x xs p q = All-cons P x (many n x ++ xs) p (all-many P n x xs p q)
-
-pub both_true : (x y : Bool) → (x && y) ≡ true → (x ≡ true) × (y ≡ true)
-both_true true y e = (refl, e)
-both_true false y e = cc
 
 -- ## Frames
 

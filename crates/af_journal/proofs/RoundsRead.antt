@@ -5,6 +5,7 @@ use Rattle.std.proofs.lemmas.List.{drop_at, length-map, map-append, take_at}
 use Rattle.std.proofs.lemmas.List.Concat.{flat_map-append}
 use Rattle.std.proofs.lemmas.Bool.Decides.{nat_tests}
 use Rattle.std.proofs.lemmas.List.Elements.{All-nil}
+use Rattle.af_base.proofs.Basics.{map_last}
 use Rattle.af_base.specs.declared.event.ClientCall.{ClientCall}
 use Rattle.af_base.specs.declared.frame.Frame.{Frame}
 use Rattle.af_base.specs.declared.log.CycleEntry.{CycleEntry}
@@ -23,7 +24,7 @@ use Rattle.af_journal.specs.declared.reach.End.TheVariants as why
 use Rattle.af_journal.specs.declared.reach.Reach.{Reach}
 use Rattle.af_journal.specs.declared.reach.RoundRead.{RoundRead}
 use Rattle.af_journal.proofs.Judged.{round_whole, rounds_few}
-use Rattle.af_journal.proofs.Leaving.{all-more, leaves-as, leaves-more, leaves-none, leaves-then, map-more}
+use Rattle.af_journal.proofs.Leaving.{all-more, leaves-as, leaves-more, leaves-none, leaves-then}
 use Rattle.af_journal.proofs.Texts.{text-append}
 use Rattle.af_journal.specs.Ranges.{IsWritten}
 use Rattle.af_journal.proofs.Fitting.{is_journal}
@@ -33,7 +34,7 @@ use Rattle.af_journal.proofs.Fitting.{is_journal}
 -- one call more is read
 pub leaves-call : (a b d : List ℕ) (calls : List ClientCall) (call : ClientCall) → Leaves a (call_lines calls) b → Leaves b (numbers (line.Call call) ∷ []) d → Leaves a (call_lines (calls ++ call ∷ [])) d
 leaves-call a b d calls call one two =
-    leaves-as a d (call_lines calls ++ numbers (line.Call call) ∷ []) (call_lines (calls ++ call ∷ [])) (sym (map-more (λ (call : ClientCall). numbers (line.Call call)) calls call)) (leaves-then a b d (call_lines calls) (numbers (line.Call call) ∷ []) one two)
+    leaves-as a d (call_lines calls ++ numbers (line.Call call) ∷ []) (call_lines (calls ++ call ∷ [])) (sym (map_last (λ (call : ClientCall). numbers (line.Call call)) calls call)) (leaves-then a b d (call_lines calls) (numbers (line.Call call) ∷ []) one two)
 
 -- a client that made calls
 pub leaves-client : (a b d : List ℕ) (track own : ℕ) (calls : List ClientCall) → own ≡ track → 1 ≤ length calls → Leaves a (numbers (line.Client own) ∷ []) b → Leaves b (call_lines calls) d → Leaves a (client_lines track calls) d
@@ -122,7 +123,7 @@ taken-more tracks rounds r noted next entries es frames fs t a =
     let place : length frames ≡ length (frames_of (entries_of rounds)) = ap length t.frames_are in
     record {
       noted_are = a.noted_are ∙ ap (λ (n : RoundsNoted). record { tracks = n.tracks; rounds = n.rounds ++ noted_of r ∷ [] }) t.noted_are
-          ∙ ap (λ (l : List RoundNoted). record { tracks = tracks; rounds = l }) (sym (map-more noted_of rounds r));
+          ∙ ap (λ (l : List RoundNoted). record { tracks = tracks; rounds = l }) (sym (map_last noted_of rounds r));
       entries_are = a.added.entries_are ∙ ap (λ l. l ++ map (λ (e : EntrySeen). e.entry) r.entries) t.entries_are ∙ sym (map-append (λ (e : EntrySeen). e.entry) (entries_of rounds) r.entries) ∙ ap (map (λ (e : EntrySeen). e.entry)) (sym all);
       frames_are = a.added.frames_are ∙ ap (λ l. l ++ frames_of r.entries) t.frames_are ∙ sym (flat_map-append (λ (e : EntrySeen). e.frames) (entries_of rounds) r.entries) ∙ ap frames_of (sym all);
       form = all-more (IsRound tracks) rounds r t.form a.form;
@@ -208,7 +209,7 @@ module _ (tracks : ℕ) (reach : Reach) (few : (reach.entries < reach.kept) × (
   equal_is n m e = grind (arith, nat_tests, e)
 
   all_whole : read.beyond ≡ false → map first (r.rounds ++ s.round ∷ []) ≡ r.rounds ++ s.round ∷ []
-  all_whole not = map-more first r.rounds s.round ∙ (λ k. r.ends k ++ round_whole reach.kept reach.entries reach.looks few.0 few.1 s.round (sym beyond ∙ not) k ∷ [])
+  all_whole not = map_last first r.rounds s.round ∙ (λ k. r.ends k ++ round_whole reach.kept reach.entries reach.looks few.0 few.1 s.round (sym beyond ∙ not) k ∷ [])
 
   ends : (at : End) → EndsBy reach.cycles read at → AreUpTo reach (r.rounds ++ s.round ∷ []) at
   ends why.Last by = all_whole by
@@ -226,7 +227,7 @@ module _ (tracks : ℕ) (reach : Reach) (few : (reach.entries < reach.kept) × (
   pub read-more : (at : End) → EndsBy reach.cycles read at → AreRead tracks reach start at next es fs after
   read-more at by = record {
     rounds = r.rounds ++ s.round ∷ [];
-    taken = subst (λ (l : List RoundSeen). AreTaken tracks l next es fs) (sym (map-more first r.rounds s.round)) (taken-more tracks (map first r.rounds) (first s.round) noted next entries es frames fs r.taken s.adds);
+    taken = subst (λ (l : List RoundSeen). AreTaken tracks l next es fs) (sym (map_last first r.rounds s.round)) (taken-more tracks (map first r.rounds) (first s.round) noted next entries es frames fs r.taken s.adds);
     form = all-more (IsRound tracks) r.rounds s.round r.form s.form;
     lines = leaves-more round_lines start before after r.rounds s.round r.lines (leaves-round before mid after s.round one s.lines);
     ends = ends at by;

@@ -4,6 +4,7 @@ use Rattle.std.proofs.lemmas.Option.{same_Some}
 use Rattle.std.proofs.lemmas.Fmt.{decimal_by_steps}
 use Rattle.std.proofs.lemmas.Bool.Decides.{nat_tests}
 use Rattle.std.specs.Fmt.{decimal}
+use Rattle.af_base.proofs.Basics.{equal_is, is_within, not_first, not_zero, some_is}
 use Rattle.af_base.specs.declared.event.ClientCall.{ClientCall}
 use Rattle.af_base.specs.declared.event.ClientCall.TheVariants as call
 use Rattle.af_base.specs.declared.seen.Seen.{Seen}
@@ -11,6 +12,7 @@ use Rattle.af_base.specs.declared.seen.Seen.TheVariants as seen
 use Rattle.af_journal.specs.Digits.{number_at}
 use Rattle.af_journal.specs.Lines.{call_line, seen_text}
 use Rattle.af_journal.specs.LineReading.{◌>>=◌, call_at, corrupt_at, frames_at, next_number, next_word, one_at, poke_at, put_at, seen_at, send_at, send_corrupt_at, sent_at, shown_at, three_at, two_at, up_to, whole, word_at}
+use Rattle.af_model.proofs.Basics.{one_few}
 use Rattle.af_model.specs.Numbers.{AreWords, FitsCall}
 use Rattle.af_journal.specs.Ranges.{IsSeenText}
 use Rattle.af_journal.proofs.Decimal.{number_at-sound, number_at-decimal}
@@ -34,12 +36,6 @@ either false x y z e f g = g e
 pub whole_some : {A : Type 0} (bytes : List ℕ) (x y : A) → whole bytes x ≡ Some y → (bytes ≡ []) × (x ≡ y)
 whole_some [] x y e = (refl, same_Some _ _ e)
 whole_some (c ∷ cs) x y e = cc
-
-pub same_byte : (c b : ℕ) → (c == b) ≡ true → c ≡ b
-same_byte c b h = grind (arith, nat_tests)
-
-itself : (b : ℕ) → (b == b) ≡ true
-itself b = grind (arith, nat_tests)
 
 -- ## Bytes that a line lacks
 
@@ -92,9 +88,6 @@ word-last (c ∷ cs) p =
 within : (m n limit : ℕ) → m ≡ n → nat_le m limit ≡ true → n ≤ limit
 within m n limit same h = grind (arith, nat_tests)
 
-is_within : (n limit : ℕ) → n ≤ limit → nat_le n limit ≡ true
-is_within n limit h = grind (arith, nat_tests)
-
 up_to-sound : (limit : ℕ) (word : List ℕ) (n : ℕ) → up_to limit word ≡ Some n → (word ≡ decimal n) × (n ≤ limit)
 up_to-sound limit word n e =
     let x = bind_some (number_at word) (λ n. if nat_le n limit then Some n else None) n e in
@@ -121,7 +114,7 @@ number-sound limit (c ∷ cs) r e =
     let u = up_to-sound limit (word_at cs).0 n.0 n.1 in
     let same : ◌≡◌ {A = ℕ × List ℕ} (n.0, (word_at cs).1) r = same_Some _ _ n.2 in
     subst (Number limit (c ∷ cs)) same (record {
-      spelled = ap (λ x. x ∷ cs) (same_byte c 32 g.0) ∙ ap (λ l. 32 ∷ l) (sym (word-joined cs) ∙ ap (λ l. l ++ (word_at cs).1) u.0);
+      spelled = ap (λ x. x ∷ cs) (equal_is c 32 g.0) ∙ ap (λ l. 32 ∷ l) (sym (word-joined cs) ∙ ap (λ l. l ++ (word_at cs).1) u.0);
       fits = u.1;
     })
 
@@ -189,18 +182,8 @@ pub record SpellsSeen (bytes : List ℕ) (s : Seen) : Type 0 where
   pub spelled : bytes ≡ seen_text s
   pub fits : IsSeenText s
 
-not_first : {A : Type 0} (b : Bool) (r : Option A) (y : A) → cond b None r ≡ Some y → (b ≡ false) × (r ≡ Some y)
-not_first true r y e = cc
-not_first false r y e = (refl, e)
-
-pub positive : (n : ℕ) → (n == 0) ≡ false → 1 ≤ n
-positive n h = grind (arith, nat_tests)
-
-not_zero : (n : ℕ) → 1 ≤ n → (n == 0) ≡ false
-not_zero n h = grind (arith, nat_tests)
-
 some_frames : (n : ℕ) (s : Seen) → (if n == 0 then None else Some (seen.Frames n)) ≡ Some s → (1 ≤ n) × (seen.Frames n ≡ s)
-some_frames n s e = let g = not_first (n == 0) (Some (seen.Frames n)) s e in (positive n g.0, same_Some _ _ g.1)
+some_frames n s e = let g = not_first (n == 0) (Some (seen.Frames n)) s e in (some_is n g.0, same_Some _ _ g.1)
 
 shown-sound : (mark : ℕ) (rest : List ℕ) (s : Seen) → shown_at mark rest ≡ Some s → SpellsSeen (mark ∷ rest) s
 unfolding shown_at frames_at
@@ -210,21 +193,21 @@ shown-sound mark rest s e =
     let n = bind_some (one_at rest) _ s f in
     let o = one-sound rest n.0 n.1 in
     let g = some_frames n.0 s n.2 in
-    subst (SpellsSeen (mark ∷ rest)) g.1 (record { spelled = ap (λ m. m ∷ rest) (same_byte mark 102 m) ∙ ap (λ l. 102 ∷ l) o.0; fits = (g.0, o.1) }))
+    subst (SpellsSeen (mark ∷ rest)) g.1 (record { spelled = ap (λ m. m ∷ rest) (equal_is mark 102 m) ∙ ap (λ l. 102 ∷ l) o.0; fits = (g.0, o.1) }))
     (λ e. either (mark == 101) _ _ s e
     (λ m f.
     let w = whole_some rest seen.Empty s f in
-    subst (SpellsSeen (mark ∷ rest)) w.1 (record { spelled = ap (λ m. m ∷ rest) (same_byte mark 101 m) ∙ ap (λ l. 101 ∷ l) w.0; fits = tt }))
+    subst (SpellsSeen (mark ∷ rest)) w.1 (record { spelled = ap (λ m. m ∷ rest) (equal_is mark 101 m) ∙ ap (λ l. 101 ∷ l) w.0; fits = tt }))
     (λ e. either (mark == 108) _ _ s e
     (λ m f.
     let n = bind_some (one_at rest) _ s f in
     let o = one-sound rest n.0 n.1 in
-    subst (SpellsSeen (mark ∷ rest)) (same_Some _ _ n.2) (record { spelled = ap (λ m. m ∷ rest) (same_byte mark 108 m) ∙ ap (λ l. 108 ∷ l) o.0; fits = o.1 }))
+    subst (SpellsSeen (mark ∷ rest)) (same_Some _ _ n.2) (record { spelled = ap (λ m. m ∷ rest) (equal_is mark 108 m) ∙ ap (λ l. 108 ∷ l) o.0; fits = o.1 }))
     (λ e.
     let g = guard_some (mark == 120) (two_at rest >>= λ words. Some (seen.Shut words.0 words.1)) s e in
     let n = bind_some (two_at rest) _ s g.1 in
     let o = two-sound rest n.0 n.1 in
-    subst (SpellsSeen (mark ∷ rest)) (same_Some _ _ n.2) (record { spelled = ap (λ m. m ∷ rest) (same_byte mark 120 g.0) ∙ ap (λ l. 120 ∷ l) o.0; fits = o.1 }))))
+    subst (SpellsSeen (mark ∷ rest)) (same_Some _ _ n.2) (record { spelled = ap (λ m. m ∷ rest) (equal_is mark 120 g.0) ∙ ap (λ l. 120 ∷ l) o.0; fits = o.1 }))))
 
 pub record AfterSpace (bytes : List ℕ) (s : Seen) : Type 0 where
   pub spelled : bytes ≡ 32 ∷ seen_text s
@@ -237,7 +220,7 @@ seen-sound (c ∷ []) s e = cc
 seen-sound (c ∷ mark ∷ rest) s e =
     let g = guard_some (c == 32) (shown_at mark rest) s e in
     let t = shown-sound mark rest s g.1 in
-    record { spelled = ap (λ c. c ∷ mark ∷ rest) (same_byte c 32 g.0) ∙ ap (λ l. 32 ∷ l) t.spelled; fits = t.fits }
+    record { spelled = ap (λ c. c ∷ mark ∷ rest) (equal_is c 32 g.0) ∙ ap (λ l. 32 ∷ l) t.spelled; fits = t.fits }
 
 frames_are : (n : ℕ) → 1 ≤ n → (if n == 0 then None else Some (seen.Frames n)) ≡ Some (seen.Frames n)
 frames_are n h = ap (λ b. cond b None (Some (seen.Frames n))) (not_zero n h)
@@ -257,10 +240,6 @@ yes_is zero h = refl
 yes_is (suc zero) h = refl
 yes_is (suc (suc n)) h = absurd (omega arith)
 
-pub digit_small : (b : Bool) → one_if b ≤ 1
-digit_small true = omega arith
-digit_small false = omega arith
-
 pub digit_back : (b : Bool) → (one_if b == 1) ≡ b
 digit_back true = refl
 digit_back false = refl
@@ -277,7 +256,7 @@ one_call : (mark code : ℕ) (rest : List ℕ) (f : ℕ → ClientCall) (c : Cli
 one_call mark code rest f c m e text fit =
     let n = bind_some (one_at rest) _ c e in
     let o = one-sound rest n.0 n.1 in
-    subst (SpellsCall (mark ∷ rest)) (same_Some _ _ n.2) (record { spelled = ap (λ m. m ∷ rest) (same_byte mark code m) ∙ ap (λ l. code ∷ l) o.0 ∙ text n.0; fits = fit n.0 o.1 })
+    subst (SpellsCall (mark ∷ rest)) (same_Some _ _ n.2) (record { spelled = ap (λ m. m ∷ rest) (equal_is mark code m) ∙ ap (λ l. code ∷ l) o.0 ∙ text n.0; fits = fit n.0 o.1 })
 
 -- a call of two
 two_call : (mark code : ℕ) (rest : List ℕ) (f : ℕ → ℕ → ClientCall) (c : ClientCall) → (mark == code) ≡ true → (two_at rest >>= λ n. Some (f n.0 n.1)) ≡ Some c
@@ -285,10 +264,10 @@ two_call : (mark code : ℕ) (rest : List ℕ) (f : ℕ → ℕ → ClientCall) 
 two_call mark code rest f c m e text fit =
     let n = bind_some (two_at rest) _ c e in
     let o = two-sound rest n.0 n.1 in
-    subst (SpellsCall (mark ∷ rest)) (same_Some _ _ n.2) (record { spelled = ap (λ m. m ∷ rest) (same_byte mark code m) ∙ ap (λ l. code ∷ l) o.0 ∙ text n.0.0 n.0.1; fits = fit n.0.0 n.0.1 o.1 })
+    subst (SpellsCall (mark ∷ rest)) (same_Some _ _ n.2) (record { spelled = ap (λ m. m ∷ rest) (equal_is mark code m) ∙ ap (λ l. code ∷ l) o.0 ∙ text n.0.0 n.0.1; fits = fit n.0.0 n.0.1 o.1 })
 
 under : (code : ℕ) (rest : List ℕ) (c : ClientCall) → (mark : ℕ) → (mark == code) ≡ true → SpellsCall (code ∷ rest) c → SpellsCall (mark ∷ rest) c
-under code rest c mark m s = record { spelled = ap (λ m. m ∷ rest) (same_byte mark code m) ∙ s.spelled; fits = s.fits }
+under code rest c mark m s = record { spelled = ap (λ m. m ∷ rest) (equal_is mark code m) ∙ s.spelled; fits = s.fits }
 
 sent-sound : (rest : List ℕ) (c : ClientCall) → sent_at rest ≡ Some c → SpellsCall (115 ∷ rest) c
 unfolding sent_at
@@ -307,15 +286,15 @@ send-sound (mark ∷ rest) c e =
     either (mark == 117) _ _ c e
     (λ m f.
     let n = bind_some (one_at rest) _ c f in let o = one-sound rest n.0 n.1 in
-    subst (SpellsCall (115 ∷ mark ∷ rest)) (same_Some _ _ n.2) (behind_s mark rest (call.SendFull n.0) (117 ∷ 32 ∷ decimal n.0) (ap (λ m. m ∷ rest) (same_byte mark 117 m) ∙ ap (λ l. 117 ∷ l) o.0) refl (o.1, tt)))
+    subst (SpellsCall (115 ∷ mark ∷ rest)) (same_Some _ _ n.2) (behind_s mark rest (call.SendFull n.0) (117 ∷ 32 ∷ decimal n.0) (ap (λ m. m ∷ rest) (equal_is mark 117 m) ∙ ap (λ l. 117 ∷ l) o.0) refl (o.1, tt)))
     (λ e. either (mark == 100) _ _ c e
     (λ m f.
     let n = bind_some (one_at rest) _ c f in let o = one-sound rest n.0 n.1 in
-    subst (SpellsCall (115 ∷ mark ∷ rest)) (same_Some _ _ n.2) (behind_s mark rest (call.SendDead n.0) (100 ∷ 32 ∷ decimal n.0) (ap (λ m. m ∷ rest) (same_byte mark 100 m) ∙ ap (λ l. 100 ∷ l) o.0) refl (o.1, tt)))
+    subst (SpellsCall (115 ∷ mark ∷ rest)) (same_Some _ _ n.2) (behind_s mark rest (call.SendDead n.0) (100 ∷ 32 ∷ decimal n.0) (ap (λ m. m ∷ rest) (equal_is mark 100 m) ∙ ap (λ l. 100 ∷ l) o.0) refl (o.1, tt)))
     (λ e. either (mark == 120) _ _ c e
     (λ m f.
     let n = bind_some (two_at rest) _ c f in let o = two-sound rest n.0 n.1 in
-    subst (SpellsCall (115 ∷ mark ∷ rest)) (same_Some _ _ n.2) (behind_s mark rest (call.SendCorrupt n.0.0 n.0.1) (120 ∷ 32 ∷ (decimal n.0.0 ++ 32 ∷ decimal n.0.1)) (ap (λ m. m ∷ rest) (same_byte mark 120 m) ∙ ap (λ l. 120 ∷ l) o.0) refl o.1))
+    subst (SpellsCall (115 ∷ mark ∷ rest)) (same_Some _ _ n.2) (behind_s mark rest (call.SendCorrupt n.0.0 n.0.1) (120 ∷ 32 ∷ (decimal n.0.0 ++ 32 ∷ decimal n.0.1)) (ap (λ m. m ∷ rest) (equal_is mark 120 m) ∙ ap (λ l. 120 ∷ l) o.0) refl o.1))
     (λ e. sent-sound (mark ∷ rest) c e)))
 
 poke-sound : (rest : List ℕ) (c : ClientCall) → poke_at rest ≡ Some c → SpellsCall (111 ∷ rest) c
@@ -347,7 +326,7 @@ call-sound mark rest c e =
 poke-again : (command : Bool) (word value : ℕ) → word < 2 ^ 32 → value < 2 ^ 32 → poke_at (32 ∷ (decimal (one_if command) ++ 32 ∷ (decimal word ++ 32 ∷ decimal value))) ≡ Some (call.Poke command word value)
 unfolding poke_at
 poke-again command word value h k =
-    ap (λ (o : Option (ℕ × List ℕ)). o >>= λ x. two_at x.1 >>= λ n. Some (call.Poke (x.0 == 1) n.0 n.1)) (number-more 1 (one_if command) (decimal word ++ 32 ∷ decimal value) (digit_small command) (lit< tt))
+    ap (λ (o : Option (ℕ × List ℕ)). o >>= λ x. two_at x.1 >>= λ n. Some (call.Poke (x.0 == 1) n.0 n.1)) (number-more 1 (one_if command) (decimal word ++ 32 ∷ decimal value) (one_few command) (lit< tt))
     ∙ ap (λ (o : Option (ℕ × ℕ)). o >>= λ n. Some (call.Poke (one_if command == 1) n.0 n.1)) (two-again word value h k)
     ∙ ap (λ b. Some (call.Poke b word value)) (digit_back command)
 

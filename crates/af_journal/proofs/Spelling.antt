@@ -1,5 +1,5 @@
 -- Hexadecimal digits that are read in rows.
-use Rattle.std.proofs.Common.{◌≡◌, ℕ, zero, suc, ◌+◌, ◌*◌, ◌/◌, ◌%◌, ◌<◌, ◌≤◌, ◌^◌, ◌==◌, ◌&&◌, List, [], ◌∷◌, ◌++◌, Option, Some, None, Bool, true, false, cond, length, map, take, get_or, option_map, refl, ap, ◌∙◌, sym, subst, arith, lit<}
+use Rattle.std.proofs.Common.{◌≡◌, ℕ, suc, ◌+◌, ◌*◌, ◌/◌, ◌%◌, ◌<◌, ◌≤◌, ◌^◌, ◌==◌, ◌&&◌, List, [], ◌∷◌, ◌++◌, Option, Some, None, Bool, true, false, cond, length, map, take, get_or, option_map, refl, ap, ◌∙◌, sym, subst, arith}
 use Rattle.std.specs.Int.{from_be_bytes, to_be_bytes, w32}
 use Rattle.std.specs.List.{flat_map, list_all}
 use Rattle.std.specs.Option.{is_some}
@@ -8,13 +8,14 @@ use Rattle.std.proofs.lemmas.List.Concat.{flat_map-append}
 use Rattle.std.proofs.lemmas.List.Folds.{list_all-append, list_all_at}
 use Rattle.std.proofs.lemmas.Bool.Decides.{nat_tests}
 use Rattle.std.proofs.lemmas.Nat.{be_bytes_4}
+use Rattle.af_base.proofs.Basics.{map_last, small}
 use Rattle.af_base.specs.declared.frame.Frame.{Frame}
 use Rattle.af_base.specs.Sample.{IsFrame, packed_word}
 use Rattle.af_model.specs.Numbers.{AreWords}
 use Rattle.af_journal.specs.Hexadecimal.{AreSpelled, is_hex}
 use Rattle.af_journal.specs.Lines.{hex_byte, hex_digit, hex_word}
 use Rattle.af_journal.specs.LineReading.{◌>>=◌, byte_at, hex_at, packed_at, words_at}
-use Rattle.af_journal.proofs.Leaving.{all-more, map-more, words-fit}
+use Rattle.af_journal.proofs.Leaving.{all-more, words-fit}
 
 -- ## One digit
 
@@ -51,14 +52,6 @@ pair-digits high low a b small p q = λ i. (ap hex_digit (high_of high low small
 pub pair-at : (xs : List ℕ) (byte at k n : ℕ) → hex_byte byte ≡ get_or xs (at + 2 * k) 0 ∷ get_or xs (at + 2 * k + 1) 0 ∷ [] → at + 2 * k ≡ n → hex_byte byte ≡ get_or xs n 0 ∷ get_or xs (n + 1) 0 ∷ []
 pair-at xs byte at k n e is = e ∙ ap (λ m. get_or xs m 0 ∷ get_or xs (m + 1) 0 ∷ []) is
 
--- the bytes of a word that was made of them
-small : (p q r s : ℕ) → p < 256 → q < 256 → r < 256 → s < 256 → (i : ℕ) → get_or (p ∷ q ∷ r ∷ s ∷ []) i 0 < 256
-small p q r s a b c d zero = a
-small p q r s a b c d (suc zero) = b
-small p q r s a b c d (suc (suc zero)) = c
-small p q r s a b c d (suc (suc (suc zero))) = d
-small p q r s a b c d (suc (suc (suc (suc i)))) = lit< tt
-
 pub word-bytes : (p q r s w : ℕ) → p < 256 → q < 256 → r < 256 → s < 256 → w ≡ from_be_bytes w32 (p ∷ q ∷ r ∷ s ∷ []) → to_be_bytes w32 w ≡ p ∷ q ∷ r ∷ s ∷ []
 word-bytes p q r s w a b c d e = be_bytes_4 (p ∷ q ∷ r ∷ s ∷ []) w refl (small p q r s a b c d) e
 
@@ -93,7 +86,7 @@ taken-word xs before n m p q r s is le was a b d e =
 -- the digits of one frame more
 more-digits : (frames : List Frame) (f : Frame) → flat_map hex_word (map packed_word (frames ++ f ∷ [])) ≡ flat_map hex_word (map packed_word frames) ++ hex_word (packed_word f)
 more-digits frames f =
-    ap (flat_map hex_word) (map-more packed_word frames f)
+    ap (flat_map hex_word) (map_last packed_word frames f)
     ∙ flat_map-append hex_word (map packed_word frames) (packed_word f ∷ [])
     ∙ ap (λ l. flat_map hex_word (map packed_word frames) ++ l) (append-nil (hex_word (packed_word f)))
 
@@ -115,7 +108,7 @@ spelled-more xs frames f n m p q r s is le was bytes frame small a b d e = recor
       ∙ sym (taken-word xs (flat_map hex_word (map packed_word frames)) n m p q r s is le (sym was.words) a b d e);
   count = omega (arith, was.count, length-append frames (f ∷ []));
   samples = all-more IsFrame frames f was.samples frame;
-  fits = subst AreWords (sym (map-more packed_word frames f)) (words-fit (map packed_word frames) (packed_word f) was.fits small);
+  fits = subst AreWords (sym (map_last packed_word frames f)) (words-fit (map packed_word frames) (packed_word f) was.fits small);
 }
 
 -- ## How many words there are

@@ -1,7 +1,7 @@
 -- The stages that a reader meets: words that are due are some, and the submix stands before a slot's words.
 use Rattle.std.proofs.Common.{◌≡◌, ℕ, ◌+◌, ◌≤◌, ◌==◌, ◌&&◌, nat_lt, length, Option, Some, None, Bool, true, false, cond, refl, subst, arith}
 use Rattle.std.proofs.lemmas.Option.{same_Some}
-use Rattle.std.proofs.lemmas.Bool.Decides.{nat_tests}
+use Rattle.af_base.proofs.Basics.{some_is}
 use Rattle.af_base.specs.Log.{count_seen}
 use Rattle.af_journal.specs.declared.line.Line.{Line}
 use Rattle.af_journal.specs.declared.line.Line.TheVariants as line
@@ -19,16 +19,13 @@ IsMet (stage.Take due low) = 1 ≤ due
 IsMet (stage.Slot due low) = (1 ≤ due) × (1 ≤ low)
 IsMet _ = Unit {0}
 
-pub some_due : (n : ℕ) → (n == 0) ≡ false → 1 ≤ n
-some_due n h = grind (arith, nat_tests)
-
 pub taken-by : (b : Bool) (count track : ℕ) → (count == 0) ≡ b → IsMet (cond b (stage.Takes (track + 1)) (stage.Take count (track + 1)))
 taken-by true count track e = tt
-taken-by false count track e = some_due count e
+taken-by false count track e = some_is count e
 
 pub shown-by : (b : Bool) (count i : ℕ) → (count == 0) ≡ b → IsMet (cond b (stage.Mixed (i + 1)) (stage.Slot count (i + 1)))
 shown-by true count i e = tt
-shown-by false count i e = (some_due count e, omega arith)
+shown-by false count i e = (some_is count e, omega arith)
 
 pub looked-by : (b : Bool) (track : ℕ) → IsMet (cond b (stage.Look track) (stage.Turn track 0))
 looked-by true track = tt

@@ -4,6 +4,7 @@ use Rattle.std.specs.List.{flat_map}
 use Rattle.std.proofs.lemmas.List.{length-map}
 use Rattle.std.proofs.lemmas.List.Elements.{All-head, All-tail}
 use Rattle.std.proofs.lemmas.Bool.Decides.{nat_tests}
+use Rattle.af_base.proofs.Basics.{is_equal}
 use Rattle.af_base.specs.declared.event.ClientCall.{ClientCall}
 use Rattle.af_base.specs.declared.turn.CommandLook.{CommandLook}
 use Rattle.af_base.specs.Log.{count_seen}
@@ -243,21 +244,18 @@ pub no_words : (ws : List ℕ) (count : ℕ) → (count == 0) ≡ true → lengt
 no_words [] count z e = refl
 no_words (w ∷ ws) count z e = absurd (let h : count ≡ 0 = grind (arith, nat_tests) in omega arith)
 
-pub is_count : (n count : ℕ) → n ≡ count → (n == count) ≡ true
-is_count n count e = grind (arith, nat_tests)
-
 pub not_none : (count : ℕ) → (count == 0) ≡ false → 0 ≡ count → ⊥
 not_none count z e = grind (arith, nat_tests)
 
 pub taken_words : (tracks count low : ℕ) (ws : List ℕ) (b : Bool) → (count == 0) ≡ b → length ws ≡ count → after_all tracks (cond b (stage.Takes low) (stage.Take count low)) (words_after ws) ≡ Some (stage.Takes low)
 taken_words tracks count low ws true z e = ap (λ ws. after_all tracks (stage.Takes low) (words_after ws)) (no_words ws count z e)
 taken_words tracks count low [] false z e = absurd (not_none count z e)
-taken_words tracks count low (w ∷ ws) false z e = ap (λ b. if_so b (stage.Takes low) >>= λ next. Some next) (is_count (length (w ∷ ws)) count e)
+taken_words tracks count low (w ∷ ws) false z e = ap (λ b. if_so b (stage.Takes low) >>= λ next. Some next) (is_equal (length (w ∷ ws)) count e)
 
 pub shown_words : (tracks count low : ℕ) (ws : List ℕ) (b : Bool) → (count == 0) ≡ b → length ws ≡ count → after_all tracks (cond b (stage.Mixed low) (stage.Slot count low)) (words_after ws) ≡ Some (stage.Mixed low)
 shown_words tracks count low ws true z e = ap (λ ws. after_all tracks (stage.Mixed low) (words_after ws)) (no_words ws count z e)
 shown_words tracks count low [] false z e = absurd (not_none count z e)
-shown_words tracks count low (w ∷ ws) false z e = ap (λ b. if_so b (stage.Mixed low) >>= λ next. Some next) (is_count (length (w ∷ ws)) count e)
+shown_words tracks count low (w ∷ ws) false z e = ap (λ b. if_so b (stage.Mixed low) >>= λ next. Some next) (is_equal (length (w ∷ ws)) count e)
 
 pub takes_lead : (tracks low : ℕ) (ts : List TakeSeen) → All (IsTake tracks) ts → TracksRise low ts → Leads tracks (stage.Takes low) (flat_map take_lines ts) (AtFast tracks)
 takes_lead tracks low [] are rise = none tracks (stage.Takes low) (AtFast tracks) (refl, (refl, refl))

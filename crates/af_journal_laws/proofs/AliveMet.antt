@@ -4,12 +4,15 @@ use Rattle.std.specs.List.{list_all, list_any}
 use Rattle.std.proofs.Common.{◌≡◌, ◌⊎◌, inl, inr, ℕ, ◌<◌, ◌≤◌, ◌==◌, ◌&&◌, Bool, true, false, if◌then◌else◌, fold, List, ◌∷◌, ◌++◌, length, All, Option, Some, None, refl, sym, ap, ◌∙◌, subst, eqb-true, arith}
 use Rattle.std.proofs.lemmas.Bool.Decides.{nat_tests}
 use Rattle.std.proofs.lemmas.List.Elements.{All-head, All-tail}
+use Rattle.af_base.proofs.Basics.{both_true, neither, no}
 use Rattle.af_base.specs.declared.frame.Frame.{Frame}
 use Rattle.af_base.specs.Turn.{Turn}
+use Rattle.af_judge.proofs.Basics.{told_each}
 use Rattle.af_life.specs.Heard.{heard, learnt}
 use Rattle.af_life.specs.Kept.{track_at}
 use Rattle.af_life.specs.TurnEvents.{tracks_at}
-use Rattle.af_model.proofs.Logic.{both_are, both_left, both_right}
+use Rattle.af_model.proofs.Basics.{both_first, not_true}
+use Rattle.af_model.proofs.Logic.{both_right}
 use Rattle.af_model.specs.JournalForm.{IsRound}
 use Rattle.af_model.specs.Journals.{EntrySeen, JournalData, RoundSeen}
 use Rattle.af_runs.specs.Blocks.{Marks}
@@ -24,11 +27,9 @@ use Rattle.af_script.specs.Data.{ScriptData}
 use Rattle.af_script.specs.Form.{IsScript}
 use Rattle.af_script.specs.declared.op.TurnSpec.{TurnSpec}
 use Rattle.af_script.specs.declared.op.TurnSpec.TheVariants as makes
-use Rattle.af_judge.proofs.EachTrack.{told_each}
 use Rattle.af_judge.proofs.EntriesFollow.{cycles_beside}
 use Rattle.af_audit.specs.Fates.{recorded}
 use Rattle.af_audit.specs.Spared.{IsSpared, IsSparedIn, is_spared_by_turn, none_corrupt_on}
-use Rattle.af_audit.proofs.Booleans.{neither, no, not_true}
 use Rattle.af_audit.proofs.EntryParts.{legal_parts}
 use Rattle.af_audit.proofs.FatesTold.{new_there, told_new}
 use Rattle.af_audit.proofs.Growing.{run_told, track_told}
@@ -63,7 +64,7 @@ IsAlive n round = none_dead (calls_in round n) ≡ true
 
 -- no call of a track's client shows that the track was shut in these rounds and one more, if none does in either
 none_more : (n : ℕ) (round : RoundSeen) (rounds : List RoundSeen) → (none_dead (calls_in round n) ≡ true) × NoneDead n rounds → NoneDead n (round ∷ rounds)
-none_more n round rounds both = both_are (none_dead (calls_in round n)) (list_all (λ round. none_dead (calls_in round n)) rounds) both.0 both.1
+none_more n round rounds both = both_true (none_dead (calls_in round n)) (list_all (λ round. none_dead (calls_in round n)) rounds) both.0 both.1
 
 -- ## Rounds of all parties
 
@@ -273,7 +274,7 @@ met-calls-live cut script files j is legal now later begins n low part lawful =
     let s = session_of script files in
     let marks = marks_of j.rounds in
     let run : Run = run_from s (new_run s) now in
-    let stream = both_left (is_lawful_block false now n) (is_lawful_block true now n) lawful in
+    let stream = both_first (is_lawful_block false now n) (is_lawful_block true now n) lawful in
     let commands = both_right (is_lawful_block false now n) (is_lawful_block true now n) lawful in
     let forms = forms_first j.tracks now later (subst (All (IsRound j.tracks)) begins legal.form.rounds) in
     let rounds = legal_first cut s marks now later (new_run s) (subst (LegalRounds cut s marks (new_run s)) begins legal.rounds) in
@@ -298,7 +299,7 @@ met-calls-live-alone script files j is run_is now later begins n low part lawful
     let s = session_of script files in
     let marks = marks_of j.rounds in
     let run : Run = run_alone s (new_run s) script.turns now in
-    let stream = both_left (is_lawful_block false now n) (is_lawful_block true now n) lawful in
+    let stream = both_first (is_lawful_block false now n) (is_lawful_block true now n) lawful in
     let commands = both_right (is_lawful_block false now n) (is_lawful_block true now n) lawful in
     let forms = forms_first j.tracks now later (subst (All (IsRound j.tracks)) begins run_is.form.rounds) in
     let are = subst (AreTurns s marks (new_run s) script.turns) begins run_is.turns in

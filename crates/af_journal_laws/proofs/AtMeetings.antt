@@ -1,5 +1,6 @@
 -- What is known of a track's block at a meeting of both its proxies: it has a history, so neither proxy is shut.
 use Rattle.std.proofs.Common.{◌≡◌, inl, ℕ, ◌<◌, Bool, true, false, if◌then◌else◌, List, length, refl, sym, ap, subst}
+use Rattle.af_judge.proofs.Basics.{told_each}
 use Rattle.af_model.proofs.RoomKept.{never_corrupt, never_shut}
 use Rattle.af_model.specs.declared.shape.Shape.{Shape}
 use Rattle.af_model.specs.ServerCalls.{server_begins}
@@ -8,7 +9,6 @@ use Rattle.af_runs.specs.Clients.{ends}
 use Rattle.af_runs.specs.Runs.{Run, TrackTold, each_track, new_run, sides_of, told_at, with_ends}
 use Rattle.af_runs.specs.Sessions.{Session, command_shape, file_words, spec_of, stream_shape, track_count}
 use Rattle.af_script.specs.Form.{IsScript}
-use Rattle.af_judge.proofs.EachTrack.{told_each}
 use Rattle.af_audit.specs.RunKept.{IsFit}
 use Rattle.af_audit.proofs.FatesTold.{new_history, told_new}
 use Rattle.af_audit.proofs.FileReleased.{begins_none}

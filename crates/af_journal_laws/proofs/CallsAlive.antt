@@ -2,15 +2,15 @@
 use Rattle.std.proofs.Common.{◌≡◌, ℕ, ◌-◌, ◌==◌, not, Bool, true, false, if◌then◌else◌, is_some, fold, MatchBool, List, [], ◌∷◌, refl, ap, subst, eqb-true}
 use Rattle.std.specs.Prelude.{bit_and}
 use Rattle.std.specs.List.{list_all}
+use Rattle.af_base.proofs.Basics.{both_true}
 use Rattle.af_base.specs.declared.event.ClientCall.{ClientCall}
 use Rattle.af_base.specs.declared.event.ClientCall.TheVariants as call
 use Rattle.af_base.specs.declared.event.ClientEvent.{ClientEvent}
-use Rattle.af_model.proofs.Logic.{both_are, both_left}
+use Rattle.af_model.proofs.Basics.{both_first, not_true}
 use Rattle.af_model.specs.ClientCalls.{ClientAnswers, client_call_events, client_kept}
 use Rattle.af_runs.specs.Clients.{state_in}
 use Rattle.af_runs.specs.ClientTurns.{Side, AnswersOn, AreCalls, IsMade, LegalClientTurn, Track, after_call, after_calls, asked_by, called, is_of_commands, most_calls, released_by}
 use Rattle.af_runs.specs.declared.want.Want.{Want}
-use Rattle.af_audit.proofs.Booleans.{not_true}
 use Rattle.af_journal_laws.specs.Alive.{is_dead, none_dead}
 use Rattle.af_journal_laws.proofs.FlagsCalm.{all_left, all_right, is_valid}
 
@@ -22,9 +22,9 @@ IsValid t = (list_all is_valid t.stream.events ≡ true) × (list_all is_valid t
 
 -- a call that shows that the track was shut saw INVALID or 15
 shows_dead : (frames cells base : ℕ) (es : List ClientEvent) (asked : ℕ) (was : Bool) (answer : ClientCall) → ClientAnswers frames cells base es asked answer → list_all is_valid (client_call_events was answer) ≡ true → is_dead answer ≡ false
-shows_dead frames cells base es asked was (call.Dead flags) a fine = absurd (a.1 (eqb-true (bit_and flags 4) 0 (both_left (bit_and flags 4 == 0) true fine)))
-shows_dead frames cells base es asked was (call.SendDead flags) a fine = absurd (a.1 (eqb-true (bit_and flags 4) 0 (both_left (bit_and flags 4 == 0) true fine)))
-shows_dead frames cells base es asked was (call.Status word) a fine = not_true (state_in word == 15) (both_left (not (state_in word == 15)) true fine)
+shows_dead frames cells base es asked was (call.Dead flags) a fine = absurd (a.1 (eqb-true (bit_and flags 4) 0 (both_first (bit_and flags 4 == 0) true fine)))
+shows_dead frames cells base es asked was (call.SendDead flags) a fine = absurd (a.1 (eqb-true (bit_and flags 4) 0 (both_first (bit_and flags 4 == 0) true fine)))
+shows_dead frames cells base es asked was (call.Status word) a fine = not_true (state_in word == 15) (both_first (not (state_in word == 15)) true fine)
 shows_dead frames cells base es asked was (call.Put front count) a fine = refl
 shows_dead frames cells base es asked was (call.Full front) a fine = refl
 shows_dead frames cells base es asked was (call.Corrupt front rear) a fine = refl
@@ -60,7 +60,7 @@ alive_calls left t [] are fine = (fine, refl)
 alive_calls left t (answer ∷ calls) are fine =
     let rest = alive_calls (left - 1) (after_call t answer) calls are.4 fine in
     let one = alive_made t are.1 answer are.3 rest.0 in
-    (one.0, both_are (not (is_dead answer)) (none_dead calls) (ap not one.1) rest.1)
+    (one.0, both_true (not (is_dead answer)) (none_dead calls) (ap not one.1) rest.1)
 
 pub alive_turn : (t : Track) (calls : List ClientCall) → LegalClientTurn t calls → IsValid (after_calls t calls) → IsValid t × (none_dead calls ≡ true)
 alive_turn t calls legal fine = by_ended t.client.ended legal

@@ -3,12 +3,14 @@ use Rattle.std.specs.List.{list_any}
 use Rattle.std.proofs.Common.{◌≡◌, ℕ, ◌<◌, ◌≤◌, Bool, true, false, fold, List, [], ◌∷◌, ◌++◌, take, All, Option, Some, None, refl, sym, ap, ◌∙◌, subst, arith}
 use Rattle.std.proofs.lemmas.List.Elements.{All-head, All-tail}
 use Rattle.std.proofs.lemmas.Option.{none-some}
+use Rattle.af_base.proofs.Basics.{neither, no}
 use Rattle.af_base.specs.declared.frame.Frame.{Frame}
 use Rattle.af_base.specs.Turn.{Turn}
 use Rattle.af_life.specs.Drained.{IsDrainedBy, LifeStep, StoppedAt, most_heard}
 use Rattle.af_life.specs.Heard.{learnt}
 use Rattle.af_life.specs.Kept.{NormalKept}
 use Rattle.af_life.specs.Turn.{turn_after}
+use Rattle.af_model.proofs.Basics.{not_true}
 use Rattle.af_model.proofs.Logic.{both_right}
 use Rattle.af_model.specs.JournalForm.{IsRound}
 use Rattle.af_model.specs.Journals.{EntrySeen, JournalData, RoundSeen}
@@ -25,7 +27,6 @@ use Rattle.af_script.specs.Form.{IsScript}
 use Rattle.af_script.specs.declared.op.TurnSpec.{TurnSpec}
 use Rattle.af_script.specs.declared.op.TurnSpec.TheVariants as makes
 use Rattle.af_audit.specs.Drained.{HasReachedStop, Sent, consumed_of, says_drained, sent_in}
-use Rattle.af_audit.proofs.Booleans.{neither, no, not_true}
 use Rattle.af_audit.proofs.CommandDrops.{taken_first}
 use Rattle.af_audit.proofs.Consumed.{consumed}
 use Rattle.af_audit.proofs.DrainedTold.{AreCalm, new_sends, rounds-drained}

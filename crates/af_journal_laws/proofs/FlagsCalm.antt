@@ -3,6 +3,7 @@ use Rattle.std.proofs.Common.{◌≡◌, ◌⊎◌, inl, inr, ℕ, ◌-◌, ◌=
 use Rattle.std.specs.Prelude.{bit_and, bit_or}
 use Rattle.std.specs.List.{list_all}
 use Rattle.std.proofs.lemmas.List.Folds.{list_all-append}
+use Rattle.af_base.proofs.Basics.{both_true}
 use Rattle.af_base.specs.declared.event.ClientEvent.{ClientEvent}
 use Rattle.af_base.specs.declared.event.ClientEvent.TheVariants as client
 use Rattle.af_base.specs.declared.event.HandEvent.{HandEvent}
@@ -13,7 +14,8 @@ use Rattle.af_base.specs.declared.log.SlotEntry.{SlotEntry}
 use Rattle.af_base.specs.declared.seen.Seen.{Seen}
 use Rattle.af_base.specs.declared.seen.Seen.TheVariants as seen
 use Rattle.af_life.specs.Obeys.{is_shut}
-use Rattle.af_model.proofs.Logic.{both_are, both_left, both_right}
+use Rattle.af_model.proofs.Basics.{both_first}
+use Rattle.af_model.proofs.Logic.{both_right}
 use Rattle.af_model.specs.Cycles.{Listed, after_look, cycle_events, kept, tally}
 use Rattle.af_model.specs.History.{Moment, by_client, by_hand, by_server, client_of, hand_of, server_of, after, IsLegal}
 use Rattle.af_model.specs.Point.{ClientMay, after_client, after_hand, after_server, start}
@@ -43,10 +45,10 @@ is_valid _ = true
 
 -- two lists of which all items pass make one list of which all items pass
 pub all_join : {A : Type 0} (p : A → Bool) (xs ys : List A) → list_all p xs ≡ true → list_all p ys ≡ true → list_all p (xs ++ ys) ≡ true
-all_join p xs ys h g = list_all-append p xs ys ∙ both_are (list_all p xs) (list_all p ys) h g
+all_join p xs ys h g = list_all-append p xs ys ∙ both_true (list_all p xs) (list_all p ys) h g
 
 pub all_left : {A : Type 0} (p : A → Bool) (xs ys : List A) → list_all p (xs ++ ys) ≡ true → list_all p xs ≡ true
-all_left p xs ys h = both_left (list_all p xs) (list_all p ys) (sym (list_all-append p xs ys) ∙ h)
+all_left p xs ys h = both_first (list_all p xs) (list_all p ys) (sym (list_all-append p xs ys) ∙ h)
 
 pub all_right : {A : Type 0} (p : A → Bool) (xs ys : List A) → list_all p (xs ++ ys) ≡ true → list_all p ys ≡ true
 all_right p xs ys h = both_right (list_all p xs) (list_all p ys) (sym (list_all-append p xs ys) ∙ h)
@@ -151,13 +153,13 @@ calm_in p [] zero legal servers hands = (zero, refl)
 calm_in p (by_client e ∷ order) zero legal servers hands =
     let h = calm_in p order zero legal.1 servers hands in
     let one = client_calm (after p order) _ e legal.0 h.0 in
-    (one.0, all_join is_valid (client_of order) (e ∷ []) h.1 (both_are (is_valid e) true one.1 refl))
+    (one.0, all_join is_valid (client_of order) (e ∷ []) h.1 (both_true (is_valid e) true one.1 refl))
 calm_in p (by_server e ∷ order) zero legal servers hands =
     let h = calm_in p order zero legal.1 (all_left is_calm (server_of order) (e ∷ []) servers) hands in
-    (server_calm (after p order) e (both_left (is_calm e) true (all_right is_calm (server_of order) (e ∷ []) servers)) h.0, h.1)
+    (server_calm (after p order) e (both_first (is_calm e) true (all_right is_calm (server_of order) (e ∷ []) servers)) h.0, h.1)
 calm_in p (by_hand e ∷ order) zero legal servers hands =
     let h = calm_in p order zero legal.1 servers (all_left is_calm_hand (hand_of order) (e ∷ []) hands) in
-    (hand_calm (after p order) e (both_left (is_calm_hand e) true (all_right is_calm_hand (hand_of order) (e ∷ []) hands)) h.0, h.1)
+    (hand_calm (after p order) e (both_first (is_calm_hand e) true (all_right is_calm_hand (hand_of order) (e ∷ []) hands)) h.0, h.1)
 
 -- the client of a block whose server and hand are calm sees neither INVALID nor 15
 pub valid_by_history : (b : BlockTold) → HasBlockHistory b → list_all is_calm (server_list b) ≡ true → list_all is_calm_hand (hand_list b) ≡ true → list_all is_valid (client_list b) ≡ true

@@ -3,6 +3,7 @@ use Rattle.std.proofs.Common.{◌≡◌, ℕ, ◌<◌, Bool, true, false, if◌t
 use Rattle.std.specs.List.{list_any}
 use Rattle.af_base.specs.declared.state.FastState.{FastState}
 use Rattle.af_base.specs.Turn.{Turn}
+use Rattle.af_judge.proofs.Basics.{each_at, told_each}
 use Rattle.af_life.specs.Heard.{heard, learnt}
 use Rattle.af_life.specs.Kept.{NormalKept, track_at}
 use Rattle.af_life.specs.TurnEvents.{tracks_at}
@@ -17,7 +18,6 @@ use Rattle.af_runs.specs.Rounds.{LegalEntry, loaded}
 use Rattle.af_runs.specs.Runs.{Run, TrackTold, called, calls_in, each_track, met, mixed_track, no_track, sides_of, state_for, takes_part, told_at, track_met, turned_track, with_calls, with_ends, with_load, with_mix, with_poll, with_turn}
 use Rattle.af_runs.specs.Sessions.{Session, setup_of}
 use Rattle.af_judge.proofs.BlocksMeet.{met_at}
-use Rattle.af_judge.proofs.EachTrack.{each_at, told_each}
 use Rattle.af_audit.specs.Spared.{is_spared_by, is_spared_in_turn}
 use Rattle.af_audit.proofs.SidesKept.{sides_mixed, sides_turned}
 use Rattle.af_audit.proofs.TrackUnshut.{IsTrim, IsUnshut}

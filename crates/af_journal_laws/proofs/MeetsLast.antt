@@ -1,8 +1,9 @@
 -- In the last meeting of a legal run each stream proxy takes part, so that what holds at each meeting holds of the whole journal.
-use Rattle.std.proofs.Common.{◌≡◌, ℕ, ◌||◌, Bool, true, false, List, [], ◌∷◌, refl, sym, append-nil}
+use Rattle.std.proofs.Common.{◌≡◌, ℕ, Bool, true, false, List, [], ◌∷◌, refl, sym, append-nil}
 use Rattle.af_base.specs.declared.frame.Frame.{Frame}
+use Rattle.af_judge.proofs.Basics.{or_left}
 use Rattle.af_life.specs.Kept.{is_home, track_at}
-use Rattle.af_model.proofs.Logic.{both_left}
+use Rattle.af_model.proofs.Basics.{both_first}
 use Rattle.af_model.specs.Journals.{JournalData, RoundSeen}
 use Rattle.af_runs.specs.Blocks.{Marks}
 use Rattle.af_runs.specs.LegalRuns.{IsLegalRun, LegalRounds, is_lawful_block, marks_of, run_from, run_of, session_of}
@@ -10,7 +11,6 @@ use Rattle.af_runs.specs.Rounds.{after_round}
 use Rattle.af_runs.specs.Runs.{Run, holds, new_run, takes_part}
 use Rattle.af_runs.specs.Sessions.{Session, setup_of}
 use Rattle.af_script.specs.Data.{ScriptData}
-use Rattle.af_audit.proofs.Booleans.{no}
 use Rattle.af_audit.proofs.FatesTold.{normal_ended}
 use Rattle.af_audit.proofs.MixerEnds.{EndsHome, all_home, new_ends}
 use Rattle.af_audit.proofs.MixerRounds.{round_ends}
@@ -22,10 +22,6 @@ rounds_home cut s marks [] run legal h = h
 rounds_home cut s marks (round ∷ rounds) run legal h = rounds_home cut s marks rounds (after_round s run round) legal.1 (round_ends cut s marks run round legal.0 h)
 
 -- ## The last meeting
-
-or_left : (a b : Bool) → a ≡ true → (a || b) ≡ true
-or_left true b e = refl
-or_left false b e = no e
 
 meets-last : (script : ScriptData) (files : List (List Frame)) (j : JournalData) → IsLegalRun script files j → EachProxyMeetsLast script files j
 meets-last script files j legal track low =
@@ -47,7 +43,7 @@ holds-to-the-end script files j legal =
     record {
       last = last;
       spared = (λ spared commands track low lawful. spared j.rounds [] (sym (append-nil j.rounds)) commands track low (meets_so commands s run track (last track low)) lawful);
-      fates = (λ fates track low lawful. fates j.rounds [] (sym (append-nil j.rounds)) track low (last track low) (both_left (is_lawful_block false j.rounds track) (is_lawful_block true j.rounds track) lawful));
+      fates = (λ fates track low lawful. fates j.rounds [] (sym (append-nil j.rounds)) track low (last track low) (both_first (is_lawful_block false j.rounds track) (is_lawful_block true j.rounds track) lawful));
       drained = (λ drained. drained j.rounds [] (sym (append-nil j.rounds)));
       settled = (λ settled. settled j.rounds [] (sym (append-nil j.rounds)));
     }

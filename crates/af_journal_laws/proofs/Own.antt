@@ -2,6 +2,7 @@
 use Rattle.std.proofs.Common.{◌≡◌, ℕ, ◌<◌, ◌≤◌, ◌==◌, Bool, true, false, if◌then◌else◌, length, Option, Some, None, refl, sym, ap, subst, eqb-true, arith, []}
 use Rattle.af_base.specs.declared.state.FastState.{FastState}
 use Rattle.af_base.specs.Turn.{Turn}
+use Rattle.af_judge.proofs.Basics.{each_long, told_each}
 use Rattle.af_life.specs.Kept.{track_at}
 use Rattle.af_model.specs.Journals.{EntrySeen, RoundSeen}
 use Rattle.af_runs.specs.Blocks.{Marks}
@@ -9,7 +10,6 @@ use Rattle.af_runs.specs.ClientTurns.{LegalClientTurn}
 use Rattle.af_runs.specs.Runs.{Run, TrackTold, called, calls_in, found_before, met, mixed_track, played, sides_of, slot_for, state_for, told_at, with_ends, with_load, with_mix, with_poll, with_turn}
 use Rattle.af_runs.specs.Sessions.{Session, cycle_frames}
 use Rattle.af_runs.specs.TurnRuns.{calls_alone}
-use Rattle.af_judge.proofs.EachTrack.{each_long, told_each}
 use Rattle.af_judge.proofs.TracksTold.{sides_called}
 use Rattle.af_audit.proofs.CommandRounds.{CommandsAt, CommandsSo, called_so}
 use Rattle.af_audit.proofs.FewFlushes.{all_flushes, turn_few}

@@ -3,8 +3,8 @@ use Rattle.std.specs.Prelude.{MatchBool, MatchOption, []}
 use Rattle.std.specs.List.{list_any}
 use Rattle.std.proofs.Common.{◌≡◌, inl, inr, ℕ, ◌<◌, ◌&&◌, Bool, true, false, is_some, List, ◌∷◌, ◌++◌, length, All, Option, Some, None, refl, sym, ap, ◌∙◌, subst}
 use Rattle.std.proofs.lemmas.List.Elements.{All-head, All-tail}
+use Rattle.af_base.proofs.Basics.{both_true, neither, no}
 use Rattle.af_base.specs.Turn.{Turn}
-use Rattle.af_model.proofs.Logic.{both_are}
 use Rattle.af_model.specs.JournalForm.{IsRound, IsTurn, TracksRise}
 use Rattle.af_model.specs.Journals.{EntrySeen, RoundSeen}
 use Rattle.af_runs.specs.Blocks.{Marks}
@@ -16,7 +16,6 @@ use Rattle.af_runs.specs.Sessions.{Session, setup_of, track_count}
 use Rattle.af_judge.proofs.EntriesFollow.{cycles_beside}
 use Rattle.af_audit.specs.Fates.{recorded, recorded_by, recorded_by_all, recorded_by_turn}
 use Rattle.af_audit.specs.Spared.{IsSpared, IsSparedIn, is_spared_by, is_spared_by_all, is_spared_by_turn}
-use Rattle.af_audit.proofs.Booleans.{neither, no}
 use Rattle.af_audit.proofs.EntryParts.{legal_parts}
 use Rattle.af_journal_laws.proofs.Steps.{Goes, goes_as, goes_both, goes_called, goes_ended, goes_loaded, goes_met, goes_mixed, goes_polled, goes_same, goes_then, goes_turned}
 use Rattle.af_audit.proofs.TakenRecorded.{recorded_in}
@@ -50,7 +49,7 @@ module _ (commands : Bool) (s : Session) (marks : Marks) (n : ℕ) where
       let here = recorded_by s polled e n in
       let later = recorded_by_all s after es n in
       goes_as commands s n run (with_cycles s es after) (([] ++ here) ++ later) (here ++ later) _ _ refl
-      (λ all on. both_are (is_spared_by s polled e n) (is_spared_by_all s after es n) (all.0.1 on) (all.1 on))
+      (λ all on. both_true (is_spared_by s polled e n) (is_spared_by_all s after es n) (all.0.1 on) (all.1 on))
       (goes_both commands s n run after (with_cycles s es after) ([] ++ here) later _ _ (goes_both commands s n run polled after [] here _ _ one two) rest)
 
 -- ## A round

@@ -2,9 +2,11 @@
 use Rattle.std.specs.Prelude.{MatchBool, MatchOption, []}
 use Rattle.std.proofs.Common.{◌≡◌, ◌⊎◌, inl, inr, ℕ, ◌<◌, ◌==◌, Bool, true, false, if◌then◌else◌, List, ◌++◌, length, Option, Some, None, refl, sym, ap, ◌∙◌, subst, eqb-true, append-nil, arith}
 use Rattle.std.proofs.lemmas.Bool.Decides.{nat_tests}
+use Rattle.af_base.proofs.Basics.{no}
 use Rattle.af_base.specs.declared.event.ClientCall.{ClientCall}
 use Rattle.af_base.specs.declared.state.FastState.{FastState}
 use Rattle.af_base.specs.Turn.{Turn}
+use Rattle.af_judge.proofs.Basics.{each_at, each_long, met_many, told_each}
 use Rattle.af_life.specs.Drained.{LifeStep}
 use Rattle.af_life.specs.Heard.{learnt}
 use Rattle.af_life.specs.Kept.{track_in}
@@ -21,10 +23,8 @@ use Rattle.af_runs.specs.Sessions.{Session, cycle_frames, setup_of}
 use Rattle.af_runs.specs.TurnRuns.{IsMadeBy, OnlyCalls, calls_alone, made_alone, met_alone}
 use Rattle.af_script.specs.declared.op.TurnSpec.{TurnSpec}
 use Rattle.af_script.specs.declared.op.TurnSpec.TheVariants as makes
-use Rattle.af_judge.proofs.BlocksMeet.{met_at, met_many}
-use Rattle.af_judge.proofs.EachTrack.{each_at, each_long, told_each}
+use Rattle.af_judge.proofs.BlocksMeet.{met_at}
 use Rattle.af_audit.specs.Drained.{Sent, sent_by_all, sent_in}
-use Rattle.af_audit.proofs.Booleans.{no}
 use Rattle.af_audit.proofs.Sending.{right_join, turn_right, turn_sends, words_join, words_sent}
 use Rattle.af_audit.proofs.SentTold.{commands_at}
 use Rattle.af_audit.proofs.StepsTaken.{turn_told}

@@ -3,11 +3,14 @@ use Rattle.std.specs.List.{list_any}
 use Rattle.std.proofs.Common.{◌≡◌, ◌⊎◌, inl, inr, ℕ, ◌<◌, ◌≤◌, ◌==◌, Bool, true, false, if◌then◌else◌, List, [], ◌∷◌, ◌++◌, length, All, refl, sym, ap, ◌∙◌, subst, eqb-true, arith}
 use Rattle.std.proofs.lemmas.Bool.Decides.{nat_tests}
 use Rattle.std.proofs.lemmas.List.Elements.{All-head, All-tail}
+use Rattle.af_base.proofs.Basics.{neither, no}
 use Rattle.af_base.specs.declared.event.ClientCall.{ClientCall}
 use Rattle.af_base.specs.declared.event.ClientCall.TheVariants as call
 use Rattle.af_base.specs.declared.frame.Frame.{Frame}
+use Rattle.af_judge.proofs.Basics.{told_each}
 use Rattle.af_life.specs.Kept.{track_at}
-use Rattle.af_model.proofs.Logic.{both_left, both_right}
+use Rattle.af_model.proofs.Basics.{both_first, not_true}
+use Rattle.af_model.proofs.Logic.{both_right}
 use Rattle.af_model.specs.History.{flushes_of}
 use Rattle.af_model.specs.JournalForm.{IsRound}
 use Rattle.af_model.specs.Journals.{JournalData, RoundSeen}
@@ -22,11 +25,9 @@ use Rattle.af_script.specs.Form.{IsScript}
 use Rattle.af_script.specs.declared.op.TurnSpec.{TurnSpec}
 use Rattle.af_script.specs.declared.op.TurnSpec.TheVariants as makes
 use Rattle.af_judge.proofs.BlocksMeet.{met_at}
-use Rattle.af_judge.proofs.EachTrack.{told_each}
 use Rattle.af_judge.proofs.TracksTold.{sides_called}
 use Rattle.af_audit.specs.Fates.{DropsByFlush}
 use Rattle.af_audit.specs.Settled.{DiscardsAbove, SeesSettled}
-use Rattle.af_audit.proofs.Booleans.{neither, no, not_true}
 use Rattle.af_audit.proofs.Drops.{released_in}
 use Rattle.af_audit.proofs.FatesTold.{new_there}
 use Rattle.af_audit.proofs.FewRounds.{HasFew}
@@ -167,7 +168,7 @@ settled-so-far-alone script files j is run_is now later begins n low lawful h =
     let s : Session = session_of script files in
     let marks : Marks = marks_of j.rounds in
     let last : Run = run_alone s (new_run s) script.turns now in
-    let stream = both_left (is_lawful_block false now n) (is_lawful_block true now n) lawful in
+    let stream = both_first (is_lawful_block false now n) (is_lawful_block true now n) lawful in
     let commands = both_right (is_lawful_block false now n) (is_lawful_block true now n) lawful in
     let forms = forms_first j.tracks now later (subst (All (IsRound j.tracks)) begins run_is.form.rounds) in
     let are = subst (AreTurns s marks (new_run s) script.turns) begins run_is.turns in

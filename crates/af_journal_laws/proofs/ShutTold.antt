@@ -1,6 +1,7 @@
 -- Whether a server was ever shut, as far as its list says: a report, and what a mixer hears, say no more. In a history it never was.
 use Rattle.std.proofs.Common.{◌≡◌, ℕ, ◌≤◌, ◌||◌, Bool, true, false, is_some, fold, List, [], ◌∷◌, ◌++◌, None, refl, sym, ap, ◌∙◌, subst, arith}
 use Rattle.std.proofs.lemmas.Grind.{fold-append}
+use Rattle.af_base.proofs.Basics.{or_assoc}
 use Rattle.af_base.specs.declared.event.ServerEvent.{ServerEvent}
 use Rattle.af_model.specs.declared.shape.Shape.{Shape}
 use Rattle.af_model.specs.ClientCalls.{client_begins}
@@ -30,10 +31,6 @@ or_twice false c = refl
 or_self : (b : Bool) → b ≡ (b || b)
 or_self true = refl
 or_self false = refl
-
-or_assoc : (a b c : Bool) → (a || (b || c)) ≡ ((a || b) || c)
-or_assoc true b c = refl
-or_assoc false b c = refl
 
 ever_more : (k : Shape) (kept : ServerKept) (es more : List ServerEvent) → ever_shut k kept (es ++ more) ≡ (ever_shut k kept es || ever_shut k (fold (server_keeps k) kept es) more)
 ever_more k kept [] [] = or_self (is_some kept.shut)

@@ -3,6 +3,8 @@ use Rattle.std.specs.List.{list_any}
 use Rattle.std.proofs.Common.{◌≡◌, ℕ, ◌<◌, Bool, true, false, List, [], ◌∷◌, ◌++◌, length, All, subst, ◌∙◌, arith}
 use Rattle.std.proofs.lemmas.List.Elements.{All-cons, All-head, All-nil, All-tail}
 use Rattle.af_base.specs.declared.frame.Frame.{Frame}
+use Rattle.af_judge.proofs.Basics.{met_many}
+use Rattle.af_model.proofs.Basics.{not_true}
 use Rattle.af_model.specs.JournalForm.{IsRound}
 use Rattle.af_model.specs.Journals.{JournalData, RoundSeen}
 use Rattle.af_runs.specs.Blocks.{Marks}
@@ -12,10 +14,8 @@ use Rattle.af_runs.specs.Runs.{Run, calls_in, new_run}
 use Rattle.af_runs.specs.Sessions.{Session, track_count}
 use Rattle.af_script.specs.Data.{ScriptData}
 use Rattle.af_script.specs.Form.{IsScript}
-use Rattle.af_judge.proofs.BlocksMeet.{met_many}
 use Rattle.af_audit.specs.Fates.{recorded}
 use Rattle.af_audit.specs.Spared.{IsSpared}
-use Rattle.af_audit.proofs.Booleans.{not_true}
 use Rattle.af_audit.proofs.FatesTold.{new_there}
 use Rattle.af_audit.proofs.SparedTold.{ends_many}
 use Rattle.af_audit.proofs.SidesKept.{played_many}

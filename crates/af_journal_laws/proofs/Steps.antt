@@ -6,6 +6,7 @@ use Rattle.af_base.specs.declared.state.FastState.{FastState}
 use Rattle.af_base.specs.Log.{entry_slot}
 use Rattle.af_base.specs.Sample.{packed_word}
 use Rattle.af_base.specs.Turn.{Turn}
+use Rattle.af_judge.proofs.Basics.{each_at, each_long, met_many, shape_met, told_each}
 use Rattle.af_life.specs.Kept.{NormalKept, Outside}
 use Rattle.af_life.specs.Obeys.{is_shut}
 use Rattle.af_model.specs.Cycles.{LooksBy}
@@ -20,13 +21,12 @@ use Rattle.af_runs.specs.Rounds.{LegalEntry, loaded}
 use Rattle.af_runs.specs.Runs.{Run, TrackTold, called, calls_in, each_track, met, mixed_track, no_track, played, sides_of, slot_for, state_for, takes_part, told_at, track_met, turned_track, with_calls, with_ends, with_load, with_mix, with_poll, with_turn}
 use Rattle.af_runs.specs.Sessions.{Session, cycle_frames, file_words, setup_of}
 use Rattle.af_judge.specs.Tracks.{AreSpelled}
-use Rattle.af_judge.proofs.BlocksMeet.{met_at, met_many, track_spelled}
-use Rattle.af_judge.proofs.EachTrack.{each_at, each_long, told_each}
+use Rattle.af_judge.proofs.BlocksMeet.{met_at, track_spelled}
 use Rattle.af_audit.specs.Fates.{recorded_by, recorded_by_turn}
 use Rattle.af_audit.specs.RunKept.{IsFit}
 use Rattle.af_audit.specs.Spared.{is_spared_by, is_spared_in_turn, none_corrupt_on}
 use Rattle.af_audit.proofs.RunStands.{entry_looks}
-use Rattle.af_audit.proofs.SidesKept.{fit_called, shape_met, sides_mixed, sides_turned}
+use Rattle.af_audit.proofs.SidesKept.{fit_called, sides_mixed, sides_turned}
 use Rattle.af_audit.proofs.TakenRecorded.{taken_met}
 use Rattle.af_audit.proofs.TrackStands.{TrackStands, stands_called, stands_ended, stands_met, stands_mixed, stands_turned}
 use Rattle.af_audit.proofs.TrackUnshut.{IsTrim, IsUnshut, trim_called, trim_ended, trim_met, trim_mixed, trim_turned, unshut_called, unshut_ended, unshut_met, unshut_mixed, unshut_turned}

@@ -3,6 +3,7 @@ use Rattle.std.proofs.Common.{◌≡◌, ◌⊎◌, inl, inr, ℕ, ◌+◌, ◌*
 use Rattle.std.specs.List.{list_all, list_any}
 use Rattle.std.proofs.lemmas.List.Concat.{flat_map-cons}
 use Rattle.std.proofs.lemmas.Nat.{mod-mul-add}
+use Rattle.af_base.proofs.Basics.{both_true}
 use Rattle.af_base.specs.declared.event.ClientCall.{ClientCall}
 use Rattle.af_base.specs.declared.event.ClientEvent.{ClientEvent}
 use Rattle.af_base.specs.declared.event.HandEvent.{HandEvent}
@@ -24,7 +25,8 @@ use Rattle.af_life.specs.Serves.{IsServed, LegalTrack, after_report, is_found_sh
 use Rattle.af_life.specs.State.{code_of}
 use Rattle.af_life.specs.Turn.{LegalTurn}
 use Rattle.af_life.specs.TurnEvents.{command_events_of, command_list, hand_list, invalid, mix_events, status_events, stream_list, takes_from, tracks_at}
-use Rattle.af_model.proofs.Logic.{both_are, both_left, both_right}
+use Rattle.af_model.proofs.Basics.{both_first, not_true}
+use Rattle.af_model.proofs.Logic.{both_right}
 use Rattle.af_model.specs.Cycles.{Listed, cycle_events, kept}
 use Rattle.af_model.specs.History.{Moment, by_hand, by_server, hand_of}
 use Rattle.af_model.specs.Journals.{EntrySeen}
@@ -46,7 +48,6 @@ use Rattle.af_journal_laws.proofs.FlagsCalm.{all_join, all_left, calm_look, cycl
 use Rattle.af_audit.proofs.TrackStands.{hand-server, server-server, told_more}
 use Rattle.af_audit.proofs.StatusWords.{code_low}
 use Rattle.af_audit.proofs.TracksSeen.{seen_legal}
-use Rattle.af_audit.proofs.Booleans.{not_true}
 use Rattle.std.specs.Prelude.{◌%◌}
 
 -- neither the server nor the hand of a block set INVALID, and no status that was stored says 15
@@ -107,7 +108,7 @@ calm_mixed s x e n t spared h = by_slot (slot_for x e.entry n) spared
 
 none_any : {A : Type 0} (p : A → Bool) (xs : List A) → list_all (λ x. not (p x)) xs ≡ true → list_any p xs ≡ false
 none_any p [] h = refl
-none_any p (x ∷ xs) h = ap (λ (b : Bool). b || list_any p xs) (not_true (p x) (both_left (not (p x)) _ h)) ∙ none_any p xs (both_right (not (p x)) _ h)
+none_any p (x ∷ xs) h = ap (λ (b : Bool). b || list_any p xs) (not_true (p x) (both_first (not (p x)) _ h)) ∙ none_any p xs (both_right (not (p x)) _ h)
 
 -- no state has the code of a track that was shut
 code_open : (state : LifeState) → not (code_of state == 15) ≡ true
@@ -136,7 +137,7 @@ stored_open last word h = by (word == last)
   where
     by : (same : Bool) → list_all is_calm (status_events (if same then None else Some word)) ≡ true
     by true = refl
-    by false = both_are (not (state_in word == 15)) true h refl
+    by false = both_true (not (state_in word == 15)) true h refl
 
 -- what looks do to the command block
 calm_look_of : (l : Listed) (look : CommandLook) (front : ℕ) → list_all is_calm (command_events l look front) ≡ true
@@ -223,7 +224,7 @@ module _ (c : Setup) (f : TurnFound) (m : NormalKept) (e : Turn) (o : Outside) (
   calm_takes (take ∷ takes) h =
       let f = λ (take : TakeSeen). cycle_events (asked c) (told.streams n) take.slot (told.stream_front n) in
       ap (list_all is_calm) (flat_map-cons f take takes)
-      ∙ all_join is_calm (f take) (flat_map f takes) (cycle_calm (asked c) (told.streams n) take.slot (told.stream_front n) (not_true (is_shut take.slot.seen) (both_left (not (is_shut take.slot.seen)) _ h))) (calm_takes takes (both_right (not (is_shut take.slot.seen)) _ h))
+      ∙ all_join is_calm (f take) (flat_map f takes) (cycle_calm (asked c) (told.streams n) take.slot (told.stream_front n) (not_true (is_shut take.slot.seen) (both_first (not (is_shut take.slot.seen)) _ h))) (calm_takes takes (both_right (not (is_shut take.slot.seen)) _ h))
 
   calm_list : list_all is_calm (stream_list c told e tracks n) ≡ true
   calm_list = by_end e.ended

@@ -4,9 +4,11 @@ use Rattle.std.specs.List.{list_any}
 use Rattle.std.proofs.Common.{◌≡◌, ◌⊎◌, inl, inr, ℕ, ◌<◌, ◌==◌, Bool, true, false, if◌then◌else◌, fold, List, ◌∷◌, ◌++◌, length, All, Option, Some, None, refl, sym, ap, ◌∙◌, subst, eqb-true, append-nil, arith}
 use Rattle.std.proofs.lemmas.Bool.Decides.{nat_tests}
 use Rattle.std.proofs.lemmas.List.Elements.{All-head, All-tail}
+use Rattle.af_base.proofs.Basics.{both_true, neither, no}
 use Rattle.af_base.specs.declared.frame.Frame.{Frame}
 use Rattle.af_base.specs.Turn.{Turn}
-use Rattle.af_model.proofs.Logic.{both_are}
+use Rattle.af_judge.proofs.Basics.{each_long, told_each}
+use Rattle.af_model.proofs.Basics.{not_true}
 use Rattle.af_model.specs.JournalForm.{IsRound}
 use Rattle.af_model.specs.Journals.{EntrySeen, JournalData, RoundSeen}
 use Rattle.af_runs.specs.Blocks.{Marks}
@@ -21,10 +23,8 @@ use Rattle.af_script.specs.Data.{ScriptData}
 use Rattle.af_script.specs.Form.{IsScript}
 use Rattle.af_script.specs.declared.op.TurnSpec.{TurnSpec}
 use Rattle.af_script.specs.declared.op.TurnSpec.TheVariants as makes
-use Rattle.af_judge.proofs.EachTrack.{each_long, told_each}
 use Rattle.af_audit.specs.Fates.{recorded_by, recorded_by_turn}
 use Rattle.af_audit.specs.Spared.{is_spared_by, is_spared_by_turn, none_corrupt_on}
-use Rattle.af_audit.proofs.Booleans.{neither, no, not_true}
 use Rattle.af_audit.proofs.FatesTold.{new_there}
 use Rattle.af_journal_laws.specs.Alone.{EachMetBlockIsSparedAlone, IsSparedAlone, IsSparedInTurn, is_spared_by_cycles, recorded_alone, recorded_by_cycles}
 use Rattle.af_journal_laws.proofs.AtMeetings.{HasHistoryMet, history_ends, history_new, spared_so}
@@ -53,7 +53,7 @@ module _ (commands : Bool) (s : Session) (marks : Marks) (n : ℕ) where
       let later = recorded_by_cycles s after es n in
       let to_before = goes_then commands s n run polled before [] (Unit {0}) one two in
       goes_as commands s n run (fold (cycle_alone s) after es) (([] ++ here) ++ later) (here ++ later) _ _ refl
-      (λ all on. both_are (is_spared_by s before e n) (is_spared_by_cycles s after es n) (all.0.1 on) (all.1 on))
+      (λ all on. both_true (is_spared_by s before e n) (is_spared_by_cycles s after es n) (all.0.1 on) (all.1 on))
       (goes_both commands s n run after (fold (cycle_alone s) after es) ([] ++ here) later _ _ (goes_both commands s n run before after [] here _ _ to_before three) rest)
 
   -- ## Calls

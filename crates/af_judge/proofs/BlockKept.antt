@@ -2,6 +2,7 @@
 use Rattle.std.specs.Prelude.{◌≡◌, ℕ, ◌+◌, ◌&&◌, min, Bool, true, false, List, [], ◌∷◌, ◌++◌, refl}
 use Rattle.std.proofs.Common.{ap, sym, ◌∙◌, subst, arith}
 use Rattle.std.proofs.lemmas.Grind.{fold-append}
+use Rattle.af_base.proofs.Basics.{and_true}
 use Rattle.af_base.specs.declared.event.ClientEvent.{ClientEvent}
 use Rattle.af_model.specs.History.{is_lawful, is_tame}
 use Rattle.af_model.specs.ServerCalls.{server_kept}
@@ -15,13 +16,9 @@ and-assoc : (a b c : Bool) → (a && (b && c)) ≡ ((a && b) && c)
 and-assoc true b c = refl
 and-assoc false b c = refl
 
-and-true : (a : Bool) → (a && true) ≡ a
-and-true true = refl
-and-true false = refl
-
 -- a list with one event more is lawful, if it was and the event is no poke
 pub lawful-more : (events : List ClientEvent) (e : ClientEvent) → is_lawful (events ++ e ∷ []) ≡ (is_lawful events && is_tame e)
-lawful-more [] e = and-true (is_tame e)
+lawful-more [] e = and_true (is_tame e)
 lawful-more (x ∷ events) e = ap (λ (b : Bool). is_tame x && b) (lawful-more events e) ∙ and-assoc (is_tame x) (is_lawful events) (is_tame e)
 
 pub raised-more : (events : List ClientEvent) (e : ClientEvent) → raised_in (events ++ e ∷ []) ≡ raised_in events + raised_by e

@@ -6,6 +6,7 @@ use Rattle.std.proofs.lemmas.List.{get_or_default}
 use Rattle.af_base.specs.declared.event.ClientEvent.{ClientEvent}
 use Rattle.af_base.specs.declared.event.ClientEvent.TheVariants as client
 use Rattle.af_base.specs.declared.state.FastState.{FastState}
+use Rattle.af_judge.proofs.Basics.{met_many, shape_met}
 use Rattle.af_life.specs.Kept.{NormalKept, is_home, track_at}
 use Rattle.af_model.specs.ClientCalls.{client_begins, client_keeps}
 use Rattle.af_model.specs.History.{flush_in, flushes_of}
@@ -32,10 +33,6 @@ use Rattle.af_judge.proofs.StepsTold.{stream_kept}
 
 -- ## Tracks changed by their numbers
 
-each-long : (change : ℕ → TrackTold → TrackTold) (number : ℕ) (ts : List TrackTold) → length (each_from change number ts) ≡ length ts
-each-long change number [] = refl
-each-long change number (t ∷ ts) = ap (λ n. suc n) (each-long change (number + 1) ts)
-
 each-at : (change : ℕ → TrackTold → TrackTold) (number i : ℕ) (ts : List TrackTold) (d e : TrackTold) → i < length ts → get_or (each_from change number ts) i d ≡ change (number + i) (get_or ts i e)
 each-at change number i [] d e low = absurd (omega (arith, low))
 each-at change number zero (t ∷ ts) d e low = ap (λ n. change n t) (let z : number ≡ number + 0 = omega arith in z)
@@ -45,10 +42,6 @@ each-at change number (suc i) (t ∷ ts) d e low = each-at change (number + 1) i
 pub met_at : (s : Session) (run : Run) (n : ℕ) → n < length run.tracks → told_at (met s run) n ≡ track_met s run n (told_at run n)
 unfolding met
 met_at s run n low = each-at (track_met s run) 0 n run.tracks no_track no_track low ∙ ap (λ i. track_met s run i (told_at run n)) (let z : 0 + n ≡ n = omega arith in z)
-
-pub met_many : (s : Session) (run : Run) → length (met s run).tracks ≡ length run.tracks
-unfolding met
-met_many s run = each-long (track_met s run) 0 run.tracks
 
 -- ## A track
 
@@ -93,12 +86,6 @@ spelled-track false false b h = record { stream = spelled_met false false b.stre
 pub track_spelled : (s : Session) (run : Run) (n : ℕ) → n < length run.tracks → AreSpelled (sides_of (told_at run n)) → AreSpelled (sides_of (told_at (met s run) n))
 track_spelled s run n low h = subst (λ b. AreSpelled (sides_of b)) (sym (met_at s run n low)) (spelled-track (takes_part s run n) run.handed (told_at run n) h)
 
-stream-shape : (there hands : Bool) (b : BlockTold) → (stream_met there hands b).shape ≡ b.shape
-stream-shape true true b = refl
-stream-shape true false b = refl
-stream-shape false true b = refl
-stream-shape false false b = refl
-
 -- the answers for both blocks of a track are those of the run
 pub track_judged : (s : Session) (run : Run) (n : ℕ) (ops : List Op) (t : TrackJudge) → n < length run.tracks → IsTrackOf ops t (told_at run n) → AreSpelled (sides_of (told_at run n))
     → (told_at run n).stream.shape.frames ≤ 65536 → (told_at run n).commands.shape.frames ≤ 65536
@@ -111,7 +98,7 @@ track_judged s run n ops t low h spelled few also short =
     let c : TrackTold = record b { stream = stream_met there run.handed b.stream; commands = meets b.commands } in
     let now = track_meets ops there run.handed t b h in
     let spells = spelled-track there run.handed b spelled in
-    let one = history_judged there k.stream c.stream now.stream (subst (λ x. x.frames ≤ 65536) (sym (stream-shape there run.handed b.stream)) few) spells.stream short.0 in
+    let one = history_judged there k.stream c.stream now.stream (subst (λ x. x.frames ≤ 65536) (sym (shape_met there run.handed b.stream)) few) spells.stream short.0 in
     let two = history_judged true k.commands c.commands now.commands also spells.commands short.1 in
     let at : told_at (met s run) n ≡ c = met_at s run n low in (
       (λ a. record { stream = subst (λ x. KeepsHistory there x.stream) (sym at) (one.0 a.0); commands = subst (λ x. KeepsHistory true x.commands) (sym at) (two.0 a.1) }),
@@ -133,7 +120,7 @@ served-track s marks n ops there hands t b h w = record {
   commands = served_of (parties_met true false t.commands) (meets b.commands) w.commands;
   lawful_stream = h.lawful_stream ∙ sym (lawful-same there hands t.stream);
   lawful_commands = h.lawful_commands;
-  wrap_stream = subst (λ x. x.wrap ≤ 2 ^ 31) (sym (stream-shape there hands b.stream)) h.wrap_stream;
+  wrap_stream = subst (λ x. x.wrap ≤ 2 ^ 31) (sym (shape_met there hands b.stream)) h.wrap_stream;
   wrap_commands = h.wrap_commands;
 }
 

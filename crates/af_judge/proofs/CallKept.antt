@@ -1,20 +1,14 @@
 -- A call that was judged is one of the track's turn, and what is kept follows the track.
-use Rattle.std.specs.Prelude.{◌≡◌, ℕ, ◌/◌, List, length, Option, Some, None}
+use Rattle.std.specs.Prelude.{◌≡◌, ℕ, ◌/◌, List, length, Some}
 use Rattle.std.proofs.Common.{ap, sym, ◌∙◌, subst}
 use Rattle.af_base.specs.declared.event.ClientCall.{ClientCall}
+use Rattle.af_runs.proofs.Basics.{answer-some}
 use Rattle.af_script.specs.declared.op.Op.{Op}
-use Rattle.af_runs.specs.declared.want.Want.{Want}
 use Rattle.af_runs.specs.Clients.{Client, after_answer, begun, next_want, rest_of}
-use Rattle.af_runs.specs.ClientTurns.{Track, after_call, answered, commands_sent, wanted_of, with_call}
+use Rattle.af_runs.specs.ClientTurns.{Track, after_call, commands_sent, wanted_of, with_call}
 use Rattle.af_judge.specs.Judging.{CallMade, ClientJudged, IsKeptOf, IsNoCall, MadeBy, SidesKept, sides_called, sides_kept}
 use Rattle.af_judge.specs.Tracks.{IsCallOf}
 use Rattle.af_judge.proofs.Judging.{made-by, sides_kept-called}
-
--- the client after a call that was wanted
-answer-some : (t : Track) (answer : ClientCall) (wanted : Want) → wanted_of t ≡ Some wanted
-    → answered t answer ≡ after_answer (commands_sent (with_call t answer)) wanted (rest_of (begun t.client).due) (begun t.client) answer
-answer-some t answer wanted is =
-    ap (λ (o : Option Want). elim o as (λ x. Client) [ None ↦ t.client | Some w ↦ after_answer (commands_sent (with_call t answer)) w (rest_of (begun t.client).due) (begun t.client) answer ]) is
 
 -- a call that was judged so is one of the track
 pub call_of : (ops : List Op) (file : ℕ) (answer : ClientCall) (j k : ClientJudged) (t : Track) → IsKeptOf ops j t → CallMade ops file answer j k → IsCallOf t answer

@@ -1,7 +1,8 @@
 -- A turn of the normal mixer, whatever it saw, keeps what holds of the slots that the draft and the last state carry.
-use Rattle.std.proofs.Common.{◌≡◌, ◌≢◌, ℕ, zero, suc, ◌<◌, ◌≤◌, ◌&&◌, not, Bool, true, false, if◌then◌else◌, true≢false, is_some, sym, refl, ap, subst, ◌∙◌, inl, inr, List, [], ◌∷◌, length, fold, All, ⊎_elim, Option, None, Some, ◌+◌, arith}
+use Rattle.std.proofs.Common.{◌≡◌, ◌≢◌, ℕ, zero, suc, ◌<◌, ◌≤◌, ◌&&◌, not, Bool, true, false, if◌then◌else◌, true≢false, is_some, sym, refl, ap, subst, ◌∙◌, inl, inr, List, [], ◌∷◌, length, fold, All, ⊎_elim, Option, Some, ◌+◌, arith}
 use Rattle.std.specs.Prelude.{slice_set}
 use Rattle.std.proofs.lemmas.Bool.{cases_eq}
+use Rattle.af_base.proofs.Basics.{and_false, both, no}
 use Rattle.af_base.specs.Log.{slots}
 use Rattle.af_base.specs.declared.state.Command.{Command}
 use Rattle.af_base.specs.declared.state.FastState.{FastState}
@@ -9,12 +10,14 @@ use Rattle.af_base.specs.declared.state.FastTrack.{FastTrack}
 use Rattle.af_base.specs.declared.state.Push.{Push}
 use Rattle.af_base.specs.declared.state.Push.TheVariants.{Pushed, Clean, Busy}
 use Rattle.af_base.specs.Turn.{Turn, TakeSeen, TrackSeen}
+use Rattle.af_judge.proofs.Basics.{some_number}
+use Rattle.af_life.proofs.Basics.{at_here, at_other, at_set, away_holds, inside, lent_away, scale_fits, sound_ordered, welcomed_at}
 use Rattle.af_life.specs.declared.kept.Holder.{Holder}
 use Rattle.af_life.specs.declared.kept.Holder.TheVariants.{Home, Lent, Returning}
 use Rattle.af_life.specs.declared.kept.Setting.{Setting}
 use Rattle.af_life.specs.declared.kept.TrackKept.{TrackKept}
 use Rattle.af_life.specs.declared.kept.Heard.{Heard}
-use Rattle.af_life.specs.Edits.{after_ack, after_push, comes_home, edited, edited_to, entered, lend, lent_by, let_go, must_enter, must_leave, mutated, ordered, welcomed}
+use Rattle.af_life.specs.Edits.{after_ack, after_push, edited, edited_to, entered, lend, lent_by, let_go, must_enter, must_leave, mutated, ordered}
 use Rattle.af_life.specs.Kept.{Learnt, NormalKept, Setup, asked, is_home, is_lent, is_returning, new_normal, number_of, seen_at, setting_of, slot_number, track_at}
 use Rattle.af_life.specs.Obeys.{holds, slot_for}
 use Rattle.af_life.specs.Plays.{after_take, after_takes}
@@ -27,18 +30,11 @@ use Rattle.af_model.specs.StateQueue.{carries, slot_of}
 use Rattle.af_judge.specs.Entries.{CarriesApart, CarriesWithin}
 use Rattle.af_judge.specs.StatesKept.{Carried, CarriesBy, IsAway, IsLent, SameSlots}
 use Rattle.af_judge.proofs.DraftBits.{attached_else, detached_else, detached_here, initial_none, slot_else, slot_here}
-use Rattle.af_judge.proofs.SoundEdits.{at_here, at_other, comer_holds, comer_home, comer_inside, comer_slot, inside, lent_away, leaver_slot, sound_go, sound_lend}
+use Rattle.af_judge.proofs.SoundEdits.{comer_holds, comer_home, comer_inside, comer_slot, leaver_slot, sound_go, sound_lend}
 use Rattle.af_judge.proofs.SoundLives.{Goes, goes_served}
-use Rattle.af_judge.proofs.SoundSlots.{at_set, away_holds, sound_served}
-use Rattle.af_judge.proofs.SoundTurns.{scale_fits, sound_acked, sound_new, sound_ordered, sound_takes, welcomed_at}
-
-no : {A : Type 0} → false ≡ true → A
-no h = absurd (true≢false (sym h))
-
-both : (a b : Bool) → (a && b) ≡ true → (a ≡ true) × (b ≡ true)
-both true true e = (refl, refl)
-both true false e = no e
-both false b e = no e
+use Rattle.af_judge.proofs.SoundSlots.{sound_served}
+use Rattle.af_judge.proofs.SoundTurns.{sound_acked, sound_new, sound_takes}
+use Rattle.af_runs.proofs.Basics.{stays_out}
 
 -- ## Tracks that stay away
 
@@ -98,18 +94,10 @@ record IsKnown (m : NormalKept) (x : FastState) : Type 0 where
 
 -- ## The acknowledgement
 
-stays_out : (last : FastState) (s : TrackKept) → comes_home last s ≡ false → welcomed last s ≡ s
-unfolding welcomed
-stays_out last s e = ap (λ (b : Bool). if b then record s { holder = Home } else s) e
-
 lent_no_return : (h : Holder) → is_lent h ≡ true → is_returning h ≡ false
 lent_no_return Home e = no e
 lent_no_return Lent e = refl
 lent_no_return Returning e = no e
-
-and_false : (b : Bool) → (b && false) ≡ false
-and_false true = refl
-and_false false = refl
 
 pub carried_acked : (ack : Bool) (m : NormalKept) → Carried m → Carried (after_ack ack m)
 carried_acked false m c = c
@@ -150,10 +138,6 @@ other_track tracks n i k slot ne e = ne (sym (ap number_of slot) ∙ ap (λ (j :
 
 other_place : (tracks : List TrackKept) (n i : ℕ) → is_home (track_at tracks n).holder ≡ false → is_home (track_at tracks i).holder ≡ true → n ≢ i
 other_place tracks n i away home e = true≢false (sym home ∙ ap (λ (j : ℕ). is_home (track_at tracks j).holder) (sym e) ∙ away)
-
-some_number : (o : Option ℕ) → is_some o ≡ true → o ≡ Some (number_of o)
-some_number None e = no e
-some_number (Some k) e = refl
 
 -- a track leaves
 module _ (m : NormalKept) (c : Carried m) (i : ℕ) (leaves : must_leave (track_at m.tracks i) ≡ true) where

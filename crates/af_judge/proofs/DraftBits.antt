@@ -1,9 +1,9 @@
 -- The slots that a draft carries, before any edit and after one.
-use Rattle.std.proofs.Common.{◌≡◌, ◌≢◌, ℕ, zero, suc, refl, ◌-◌, ◌^◌, ◌<◌, ◌≤◌, ◌==◌, ◌&&◌, not, true, false, Bool, bit_and, bit_or, ap, sym, ◌∙◌, subst, arith, length-set, eq-eqb, ne_eqb, w32}
+use Rattle.std.proofs.Common.{◌≡◌, ◌≢◌, ℕ, zero, suc, refl, ◌-◌, ◌^◌, ◌<◌, ◌≤◌, ◌==◌, ◌&&◌, not, true, false, Bool, bit_and, bit_or, ap, sym, ◌∙◌, subst, arith, length-set, eq-eqb, ne_eqb}
 use Rattle.std.specs.Int.{bit_at}
-use Rattle.std.proofs.lemmas.Nat.{one_shl}
-use Rattle.std.proofs.lemmas.Nat.Bits.{bit_at_or, bit_at-pow_same, bit_at-pow_other, bit_at-lt, bit_at_clear_same, bit_at_clear_other, bit_at-suc, bit_at-zero}
+use Rattle.std.proofs.lemmas.Nat.Bits.{bit_at-suc, bit_at-zero}
 use Rattle.std.proofs.lemmas.List.{get_or-set_same, get_or-set_other, get_or-replicate}
+use Rattle.af_base.proofs.Basics.{clear_other, clear_same, set_other, set_same}
 use mathlib.Core.Logic.{dite}
 use native.Mathlib.Decide.{ℕ_discrete}
 use Rattle.af_base.specs.declared.state.FastState.{FastState}
@@ -11,18 +11,6 @@ use Rattle.af_base.specs.declared.state.FastTrack.{FastTrack}
 use Rattle.af_model.specs.StateQueue.{slots, no_track, slot_of, carries, IsState}
 use Rattle.af_model.specs.Draft.{attached, detached, initial}
 use Rattle.std.specs.Prelude.{◌+◌}
-
-set_same : (n k : ℕ) → bit_at (bit_or n (2 ^ k)) k ≡ 1
-set_same n k = let a = bit_at_or n (2 ^ k) k in let b = bit_at-pow_same k in let c = bit_at-lt n k in omega arith
-
-set_other : (n k i : ℕ) → i ≢ k → bit_at (bit_or n (2 ^ k)) i ≡ bit_at n i
-set_other n k i ne = let a = bit_at_or n (2 ^ k) i in let b = bit_at-pow_other k i ne in omega arith
-
-clear_same : (n k : ℕ) → k < 32 → bit_at (bit_and n (2 ^ 32 - 1 - 2 ^ k)) k ≡ 0
-clear_same n k lt = subst (λ m. bit_at (bit_and n (2 ^ 32 - 1 - m)) k ≡ 0) (one_shl k 32 lt) (bit_at_clear_same w32 n k lt)
-
-clear_other : (n k i : ℕ) → k < 32 → i < 32 → i ≢ k → bit_at (bit_and n (2 ^ 32 - 1 - 2 ^ k)) i ≡ bit_at n i
-clear_other n k i lt li ne = subst (λ m. bit_at (bit_and n (2 ^ 32 - 1 - m)) i ≡ bit_at n i) (one_shl k 32 lt) (bit_at_clear_other w32 n k lt i li ne)
 
 module _ (slot : ℕ) (mono : Bool) (scale track : ℕ) (x : FastState) (low : 1 ≤ slot) (lt : slot < slots) (state : IsState x) where
   abbrev y : FastState

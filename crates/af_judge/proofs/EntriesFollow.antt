@@ -1,5 +1,5 @@
 -- What is kept of a run follows some entries, which are right exactly if they are legal.
-use Rattle.std.proofs.Common.{◌≡◌, ◌↔◌, ℕ, ◌+◌, refl, sym, ap, ◌∙◌, subst, map, List, [], ◌∷◌, ◌++◌, append-nil, append_assoc, arith}
+use Rattle.std.proofs.Common.{◌≡◌, ◌↔◌, ℕ, ◌+◌, sym, ap, ◌∙◌, subst, map, List, [], ◌∷◌, ◌++◌, append-nil, append_assoc, arith}
 use Rattle.std.specs.List.{sum_by}
 use Rattle.std.proofs.lemmas.List.Sums.{sum_by-append, sum_by-cons}
 use Rattle.af_base.specs.declared.frame.Frame.{Frame}
@@ -9,9 +9,10 @@ use Rattle.af_base.specs.declared.state.FastState.{FastState}
 use Rattle.af_life.specs.Kept.{NormalKept}
 use Rattle.af_model.specs.JournalForm.{IsEntry}
 use Rattle.af_model.specs.Journals.{EntrySeen, taken_by}
+use Rattle.af_runs.proofs.Basics.{cycle_entries}
 use Rattle.af_runs.specs.Blocks.{Marks}
 use Rattle.af_runs.specs.Rounds.{LegalEntries, LegalEntry}
-use Rattle.af_runs.specs.Runs.{Run, frames_before, with_cycle, with_cycles, with_mix, with_poll}
+use Rattle.af_runs.specs.Runs.{Run, frames_before, with_cycle, with_cycles, with_poll}
 use Rattle.af_runs.specs.Sessions.{Session}
 use Rattle.af_judge.specs.Entries.{FastOf, StandsIn}
 use Rattle.af_judge.specs.EntriesTold.{AreEntriesRight, AreFormed, IsRightAfter, Playing, entries_leave, entry_leaves}
@@ -23,10 +24,6 @@ abbrev pub entries_in : List EntrySeen → List CycleEntry
 entries_in es = map (λ e. e.entry) es
 
 -- ## The log of a run
-
-pub cycle_entries : (s : Session) (run : Run) (e : EntrySeen) → (with_cycle s run e).entries ≡ run.entries ++ e.entry ∷ []
-unfolding with_mix with_poll
-cycle_entries s run e = refl
 
 pub cycles_entries : (s : Session) (es : List EntrySeen) (run : Run) → (with_cycles s es run).entries ≡ run.entries ++ entries_in es
 cycles_entries s [] run = sym (append-nil run.entries)

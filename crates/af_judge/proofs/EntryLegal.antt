@@ -2,17 +2,17 @@
 use Rattle.std.specs.Prelude.{slice_get, MatchOption}
 use Rattle.std.proofs.Common.{◌≡◌, ◌↔◌, ℕ, zero, suc, ◌+◌, ◌^◌, ◌<◌, ◌≤◌, ◌==◌, nat_le, Bool, true, false, true≢false, if◌then◌else◌, is_some, unwrap_or, refl, sym, ap, ◌∙◌, subst, List, [], ◌∷◌, ◌++◌, length, map, Option, Some, None, eqb-true, arith}
 use Rattle.std.proofs.lemmas.List.{append_cancel_left}
+use Rattle.af_base.proofs.Basics.{both as both-true}
 use Rattle.af_base.specs.declared.event.ServerEvent.{ServerEvent}
 use Rattle.af_base.specs.declared.event.ServerEvent.TheVariants as server
 use Rattle.af_base.specs.declared.frame.Frame.{Frame}
 use Rattle.af_base.specs.declared.log.SlotEntry.{SlotEntry}
 use Rattle.af_base.specs.declared.report.Report.{Report}
-use Rattle.af_base.specs.declared.seen.Seen.{Seen}
 use Rattle.af_base.specs.declared.seen.Seen.TheVariants as seen
 use Rattle.af_base.specs.declared.state.FastState.{FastState}
 use Rattle.af_base.specs.Log.{slots, entry_slot}
 use Rattle.af_base.specs.Sample.{packed_word}
-use Rattle.af_model.specs.Cycles.{Found, IsSeen, Listed, LooksBy, Mixes, TrackSlot, after_look, cycle_events, cold_done, cycle_of, is_mixed, kept, state_of, submix_slot, takes_shown}
+use Rattle.af_model.specs.Cycles.{Found, Listed, LooksBy, Mixes, TrackSlot, after_look, cycle_events, cold_done, cycle_of, is_mixed, kept, state_of, submix_slot, takes_shown}
 use Rattle.af_model.specs.JournalForm.{IsEntry}
 use Rattle.af_model.specs.Journals.{EntrySeen, slot_frames}
 use Rattle.af_model.specs.Order.{Event, one, two, twos}
@@ -20,6 +20,7 @@ use Rattle.af_model.specs.Point.{wrapped}
 use Rattle.af_model.specs.ServerCalls.{look_at, look_events}
 use Rattle.af_model.specs.StateQueue.{carries, slot_of}
 use Rattle.af_base.specs.declared.event.ClientEvent.{ClientEvent}
+use Rattle.af_runs.proofs.Basics.{shown_if}
 use Rattle.af_runs.specs.Blocks.{Marks, listed}
 use Rattle.af_runs.specs.Fronts.{is_shown, lawful_front}
 use Rattle.af_runs.specs.Rounds.{LegalEntry, found_for}
@@ -33,7 +34,7 @@ use Rattle.af_judge.specs.Entries.{CarriesApart, CarriesWithin, FastOf, StreamsO
 use Rattle.af_judge.specs.FastKept.{FastKept, FollowsTold, IsEntryRight, IsLookRight, fast_polled, IsMixRight, slots_played}
 use Rattle.af_judge.specs.Reporting.{state_in}
 use Rattle.af_judge.specs.Servers.{LooksRightly, front_judged}
-use Rattle.af_judge.proofs.EntryTracks.{both-true, not_played, plays_track}
+use Rattle.af_judge.proofs.EntryTracks.{not_played, plays_track}
 use Rattle.af_judge.proofs.LooksExactly.{rightly}
 
 -- ## Fronts that lists tell
@@ -80,13 +81,6 @@ pub there : (tracks : List TrackJudge) (i : ℕ) → i < length tracks → There
 there [] i lt = absurd (let z : ⊥ = omega (arith, lt) in z)
 there (t ∷ tracks) zero lt = record { track = t; is = refl }
 there (t ∷ tracks) (suc i) lt = let rest = there tracks i (omega (arith, lt)) in record { track = rest.track; is = rest.is }
-
-seen-shown : (sight : Seen) → IsSeen sight → is_shown sight ≡ true
-seen-shown seen.Absent h = absurd h
-seen-shown (seen.Frames count) h = refl
-seen-shown seen.Empty h = refl
-seen-shown (seen.Flushed dropped) h = refl
-seen-shown (seen.Shut front rear) h = refl
 
 module _ (s : Session) (marks : Marks) (r : Run) (e : EntrySeen) (f : FastKept) (frames : List Frame) (tracks : List TrackJudge) (earlier : List Report) (fast : FastOf s earlier r f) (drafts : f.told.draft ≡ r.normal.draft) (streams : StreamsOf marks r tracks) (form : IsEntry (frames_before r) e.entry) where
   abbrev asked : ℕ
@@ -253,7 +247,7 @@ module _ (s : Session) (marks : Marks) (r : Run) (e : EntrySeen) (f : FastKept) 
       tracks_right = λ i low mixed carried.
           let m = mixes-of l mixed in
           let look = m.tracks i low carried in (
-            seen-shown (entry_slot e.entry i).seen look.looks.0,
+            shown_if (entry_slot e.entry i).seen look.looks.0,
             subst (λ (a : ℕ). IsLookRight a (entry_slot e.entry i) (slot_of x i).track (slots_played a x frames e.entry i tracks)) (sym fast.asked)
                 (look-from apart within i low carried (here-is apart within i low carried) (slot-rightly apart within i low carried (l.after.servers i).events look (λ lawful. l.lawful mixed i low carried lawful))),
           );

@@ -1,17 +1,18 @@
 -- The stream blocks of all tracks follow an entry as the run tells it.
-use Rattle.std.specs.Prelude.{slice_get, slice_set, slice_index_or}
-use Rattle.std.proofs.Common.{◌≡◌, ℕ, zero, suc, ◌+◌, ◌^◌, ◌<◌, ◌≤◌, Bool, true, false, if◌then◌else◌, unwrap_or, refl, sym, ap, ◌∙◌, subst, List, [], ◌∷◌, length, length-set, map, Option, Some, None, arith}
+use Rattle.std.specs.Prelude.{slice_get, slice_set}
+use Rattle.std.proofs.Common.{◌≡◌, ℕ, zero, suc, ◌^◌, ◌<◌, ◌≤◌, Bool, true, false, if◌then◌else◌, unwrap_or, refl, sym, ap, ◌∙◌, subst, List, length, length-set, map, Option, Some, None, arith}
 use Rattle.std.proofs.lemmas.Option.{get_or_from_slice_get, slice_get-get_or, slice_get_within}
 use Rattle.af_base.specs.declared.frame.Frame.{Frame}
 use Rattle.af_base.specs.declared.log.CycleEntry.{CycleEntry}
 use Rattle.af_base.specs.declared.state.FastState.{FastState}
 use Rattle.af_base.specs.Log.{slots, entry_slot, frames_taken}
 use Rattle.af_base.specs.Sample.{packed_word}
+use Rattle.af_judge.proofs.Basics.{each_at, each_long}
 use Rattle.af_model.specs.declared.shape.Shape.{Shape}
 use Rattle.af_model.specs.Journals.{EntrySeen}
 use Rattle.af_model.specs.StateQueue.{slot_of}
 use Rattle.af_runs.specs.Blocks.{BlockTold, Marks}
-use Rattle.af_runs.specs.Runs.{Run, TrackTold, each_from, mixed_track, no_track, played, plays, sides_of, slot_for, state_for, told_at, with_looks}
+use Rattle.af_runs.specs.Runs.{Run, TrackTold, mixed_track, no_track, played, plays, sides_of, slot_for, state_for, told_at, with_looks}
 use Rattle.af_runs.specs.Sessions.{Session, cycle_frames, spec_of}
 use Rattle.af_judge.specs.declared.track_judge.TrackJudge.{TrackJudge}
 use Rattle.af_judge.specs.Blocks.{BlockJudged, IsBlockOf, played_told}
@@ -23,15 +24,6 @@ use Rattle.af_judge.specs.RunTold.{IsServedBlock, IsServedTrack, KeepsTracks}
 use Rattle.af_judge.specs.Tracks.{IsTrackOf}
 use Rattle.af_judge.proofs.EntryLegal.{there}
 use Rattle.af_judge.proofs.EntryTracks.{mixed_sides, track_mixed}
-
-pub each-long : (change : ℕ → TrackTold → TrackTold) (m : ℕ) (ts : List TrackTold) → length (each_from change m ts) ≡ length ts
-each-long change m [] = refl
-each-long change m (t ∷ ts) = ap suc (each-long change (m + 1) ts)
-
-pub each-at : (change : ℕ → TrackTold → TrackTold) (m : ℕ) (ts : List TrackTold) (n j : ℕ) (d : TrackTold) → n < length ts → m + n ≡ j → slice_index_or (each_from change m ts) n d ≡ change j (slice_index_or ts n d)
-each-at change m [] n j d lt is = absurd (let z : ⊥ = omega (arith, lt) in z)
-each-at change m (t ∷ ts) zero j d lt is = ap (λ (k : ℕ). change k t) (let e : m ≡ j = omega (arith, is) in e)
-each-at change m (t ∷ ts) (suc n) j d lt is = each-at change (m + 1) ts n j d (omega (arith, lt)) (omega (arith, is))
 
 changed-long : (n : ℕ) (change : BlockJudged → BlockJudged) (tracks : List TrackJudge) → length (stream_changed n change tracks) ≡ length tracks
 changed-long n change tracks = by_there (slice_get tracks n)
@@ -52,7 +44,7 @@ played-long asked x frames entry (suc k) tracks = by_case (plays x entry k) ∙ 
 
 -- the number of tracks is as it was
 pub looks_long : (s : Session) (r : Run) (e : EntrySeen) → length (with_looks s e r).tracks ≡ length r.tracks
-looks_long s r e = each-long (mixed_track s (state_for s r e.entry.state) e) 0 r.tracks
+looks_long s r e = each_long (mixed_track s (state_for s r e.entry.state) e) 0 r.tracks
 
 -- a track of a number, and the other way
 pub track_there : (tracks : List TrackJudge) (n : ℕ) (t : TrackJudge) → IsTrackAt tracks n t → slice_get tracks n ≡ Some t
@@ -98,7 +90,7 @@ module _ (s : Session) (marks : Marks) (W : ℕ → Type 0) (r : Run) (e : Entry
       subst (Mixed s r e n tracks) same (record {
         before = old.track;
         at = track_at_place tracks n old.track old.is;
-        told = each-at (mixed_track s x e) 0 r.tracks n n no_track (omega (arith, low, m)) (omega arith);
+        told = each_at (mixed_track s x e) 0 r.tracks n n no_track (omega (arith, low, m)) (omega arith);
         client = mixed.client;
         commands = mixed.commands;
         lawful = mixed.lawful;

@@ -11,14 +11,16 @@ use Rattle.af_base.specs.declared.report.Report.{Report}
 use Rattle.af_base.specs.declared.state.FastState.{FastState}
 use Rattle.af_base.specs.Log.{entry_at}
 use Rattle.af_base.specs.Turn.{Turn}
+use Rattle.af_judge.proofs.Basics.{calls_states, ends_states, loaded_states, met_states}
 use Rattle.af_model.specs.Cycles.{UseUpTo}
 use Rattle.af_model.specs.Journals.{EntrySeen, RoundSeen, taken_by}
 use Rattle.af_model.proofs.UsedStates.{UseUpTo-more, UseUpTo-push}
+use Rattle.af_runs.proofs.Basics.{calls-entries, loaded-entries, met-entries, turned-entries}
 use Rattle.af_runs.specs.Blocks.{Marks}
 use Rattle.af_runs.specs.Clients.{ends}
-use Rattle.af_runs.specs.Rounds.{IsFastTurn, LegalEntries, LegalFastTurn, after_round, after_turn, all_played, before_turn, early_count, early_of, fills, found_in, is_early, late_of, loaded, turned}
+use Rattle.af_runs.specs.Rounds.{IsFastTurn, LegalEntries, LegalFastTurn, after_round, after_turn, all_played, before_turn, early_count, early_of, fills, found_in, is_early, late_of, turned}
 use Rattle.af_runs.specs.Found.{TurnFound, outside_of}
-use Rattle.af_runs.specs.Runs.{Run, each_track, fast_ended, frames_before, met, pushed_by, with_calls, with_cycle, with_cycles, with_ends, with_load, with_poll, with_turn}
+use Rattle.af_runs.specs.Runs.{Run, fast_ended, frames_before, met, pushed_by, with_calls, with_cycle, with_cycles, with_ends, with_poll, with_turn}
 use Rattle.af_runs.specs.Sessions.{Session, setup_of}
 use Rattle.af_judge.specs.Entries.{FastOf}
 use Rattle.af_judge.specs.EntriesTold.{AreEntriesRight, AreFormed, MayEnter, Playing}
@@ -31,19 +33,6 @@ use Rattle.af_judge.proofs.JournalEntries.{formed_front, formed_rest}
 
 -- ## What a round leaves of the log and of the states
 
-calls-entries : (round : RoundSeen) (run : Run) → (with_calls round run).entries ≡ run.entries
-unfolding with_calls
-calls-entries round run = refl
-
-pub calls_states : (round : RoundSeen) (run : Run) → (with_calls round run).states ≡ run.states
-unfolding with_calls
-calls_states round run = refl
-
-turned-entries : (s : Session) (found : Turn → TurnFound) (o : Option Turn) (run : Run) → (turned s found o run).entries ≡ run.entries
-unfolding with_turn
-turned-entries s found None run = refl
-turned-entries s found (Some e) run = refl
-
 -- a turn pushes a state or doesn't
 turned-states : (s : Session) (found : Turn → TurnFound) (o : Option Turn) (run : Run) → length run.states ≤ length (turned s found o run).states
 unfolding with_turn
@@ -52,32 +41,6 @@ turned-states s found (Some e) run =
     let c = setup_of s in
     let l = length-append run.states (pushed_by c (outside_of c (found e) e) run.normal e) in
     omega (arith, l)
-
-loaded-entries : (o : Option Turn) (run : Run) → (loaded o run).entries ≡ run.entries
-unfolding with_load
-loaded-entries None run = refl
-loaded-entries (Some e) run = refl
-
-loaded-states : (o : Option Turn) (run : Run) → (loaded o run).states ≡ run.states
-unfolding with_load
-loaded-states None run = refl
-loaded-states (Some e) run = refl
-
-met-entries : (s : Session) (run : Run) → (met s run).entries ≡ run.entries
-unfolding met
-met-entries s run = refl
-
-met-states : (s : Session) (run : Run) → (met s run).states ≡ run.states
-unfolding met
-met-states s run = refl
-
-ends-states : (run : Run) → (with_ends run).states ≡ run.states
-unfolding with_ends
-ends-states run = by_end run.normal.ended
-  where
-    by_end : (b : Bool) → (if b then each_track (λ track t. record t { client = ends t.client }) run else run).states ≡ run.states
-    by_end true = refl
-    by_end false = refl
 
 ends-entries : (run : Run) → (with_ends run).entries ≡ run.entries
 ends-entries run = let e = ends_same run in e.entries
@@ -103,7 +66,7 @@ module _ (s : Session) (run : Run) (round : RoundSeen) where
   round_entries = ends-entries (met s (all_played s run round)) ∙ (met-entries s (all_played s run round) ∙ played-entries)
 
   pub round_states : (after_round s run round).states ≡ (with_cycles s (late_of run round) (after_turn s run round)).states
-  round_states = ends-states (met s (all_played s run round)) ∙ (met-states s (all_played s run round) ∙ loaded-states round.turn (with_cycles s (late_of run round) (after_turn s run round)))
+  round_states = ends_states (met s (all_played s run round)) ∙ (met_states s (all_played s run round) ∙ loaded_states round.turn (with_cycles s (late_of run round) (after_turn s run round)))
 
 -- ## No entry names a state that isn't pushed yet
 

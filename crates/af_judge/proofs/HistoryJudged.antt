@@ -7,19 +7,20 @@ use Rattle.af_base.specs.declared.event.ClientEvent.{ClientEvent}
 use Rattle.af_base.specs.declared.event.ClientEvent.TheVariants as client
 use Rattle.af_base.specs.declared.event.ServerEvent.{ServerEvent}
 use Rattle.af_base.specs.declared.event.ServerEvent.TheVariants as server
-use Rattle.af_base.specs.declared.event.HandEvent.{HandEvent}
 use Rattle.af_base.specs.declared.event.HandEvent.TheVariants as hand
+use Rattle.af_judge.proofs.Basics.{hand_puts, server_put}
+use Rattle.af_model.proofs.Basics.{client_taken}
 use Rattle.af_model.specs.declared.point.TrackPoint.{TrackPoint}
 use Rattle.af_model.specs.declared.shape.Shape.{Shape}
 use Rattle.af_model.specs.Fates.{InTurn}
 use Rattle.af_model.specs.History.{HasHistory, IsLegal, Moment, after, by_client, by_hand, by_server, client_of, server_of, taken_of, with_taken}
-use Rattle.af_model.specs.Point.{ServerMay, after_client, after_hand, after_server, drop_end, start, wrapped}
+use Rattle.af_model.specs.Point.{ServerMay, after_client, after_server, drop_end, start, wrapped}
 use Rattle.af_model.specs.Room.{ahead}
 use Rattle.af_model.specs.ClientCalls.{IsClientList, client_begins}
 use Rattle.af_model.specs.ServerCalls.{ServerKept, server_begins, server_keeps, server_kept}
 use Rattle.af_model.proofs.Fates.{drop_low, drop_released, in_turn}
 use Rattle.af_model.proofs.Logic.{ahead-between}
-use Rattle.af_model.proofs.OneFate.{hand_consumed, same_consumed}
+use Rattle.af_model.proofs.OneFate.{hand_consumed}
 use Rattle.af_model.proofs.RoomKept.{AllFit, all_fit, fit_split, room_in}
 use Rattle.af_judge.specs.declared.words_judge.Taken.{Taken}
 use Rattle.af_judge.specs.Blocks.{AllFollow, BlockJudged, FollowsLook, WholeTakes, saw_front, HasItsHistory, IsReleased, placed_from, raised_by, raised_in, taken_in}
@@ -56,22 +57,6 @@ client-raises p (client.SawStatus word) = (let x : p.released ≡ p.released + 0
 client-raises p (client.Poke word value) = (let x : p.released ≡ p.released + 0 = omega arith in x)
 client-raises p (client.Learn count) = (let x : p.released ≡ p.released + 0 = omega arith in x)
 
-server-raises : (p : TrackPoint) (e : ServerEvent) → (after_server p e).released ≡ p.released
-server-raises p (server.SawGain word) = refl
-server-raises p (server.SawFlush flush) = refl
-server-raises p (server.SawRear rear) = refl
-server-raises p (server.SawFront front) = refl
-server-raises p (server.Drop to) = refl
-server-raises p (server.Take count) = refl
-server-raises p (server.Tally missing) = refl
-server-raises p (server.SetFlags bits) = refl
-server-raises p (server.SetStatus word) = refl
-server-raises p (server.Learn count) = refl
-
-hand-raises : (p : TrackPoint) (e : HandEvent) → (after_hand p e).released ≡ p.released
-hand-raises p (hand.SetFlags bits) = refl
-hand-raises p (hand.Met client) = refl
-
 released-in : (shape : Shape) (order : List Moment) → (after (start shape) order).released ≡ shape.base + raised_in (client_of order)
 released-in shape [] = (let x : shape.base ≡ shape.base + 0 = omega arith in x)
 released-in shape (by_client e ∷ order) =
@@ -79,8 +64,8 @@ released-in shape (by_client e ∷ order) =
     let b = released-in shape order in
     let c = raised-more (client_of order) e in
     omega (arith, a, b, c)
-released-in shape (by_server e ∷ order) = server-raises (after (start shape) order) e ∙ released-in shape order
-released-in shape (by_hand e ∷ order) = hand-raises (after (start shape) order) e ∙ released-in shape order
+released-in shape (by_server e ∷ order) = server_put (after (start shape) order) e ∙ released-in shape order
+released-in shape (by_hand e ∷ order) = hand_puts (after (start shape) order) e ∙ released-in shape order
 
 -- ## How much was consumed
 
@@ -127,7 +112,7 @@ module _ (shape : Shape) (few : shape.frames ≤ 65536) where
       → Counts (server_kept shape (server_of order)) (fold saw_front false (server_of order)) (after (start shape) order)
   counts_in [] h fit f = record { count = (let e : shape.base + 0 ≡ shape.base = omega arith in e); front_is = (λ e. absurd (true≢false (sym e))) }
   counts_in (by_client e ∷ order) h fit f =
-      kept_counts _ _ (after (start shape) order) _ (same_consumed (after (start shape) order) e) (counts_in order h.1 (fit_split shape (client_begins shape.base) None (client_of order) (e ∷ []) fit).0 f)
+      kept_counts _ _ (after (start shape) order) _ (client_taken (after (start shape) order) e) (counts_in order h.1 (fit_split shape (client_begins shape.base) None (client_of order) (e ∷ []) fit).0 f)
   counts_in (by_server e ∷ order) h fit f =
       let g = follow_split false (server_of order) (e ∷ []) f in
       let now = server_counts _ _ (after (start shape) order) _ e h.0 g.1.0 (in_turn shape order h.1) (room_in shape few order h.1 fit).fits (counts_in order h.1 fit g.0) in
@@ -196,10 +181,10 @@ all-within shape few n (by_client e ∷ order) h fit f most =
     all-within shape few n order h.1 (fit_split shape (client_begins shape.base) None (client_of order) (e ∷ []) fit).0 f (let a = client-raises (after (start shape) order) e in omega (arith, a, most))
 all-within shape few n (by_server e ∷ order) h fit f most =
     let g = follow_split false (server_of order) (e ∷ []) f in
-    let low : (after (start shape) order).released ≤ shape.base + n = (let a = server-raises (after (start shape) order) e in omega (arith, a, most)) in
+    let low : (after (start shape) order).released ≤ shape.base + n = (let a = server_put (after (start shape) order) e in omega (arith, a, most)) in
     within-more shape n (server_begins shape) (server_of order) e (all-within shape few n order h.1 fit g.0 low)
     (within-at shape n (server_kept shape (server_of order)) (after (start shape) order) _ e h.0 (in_turn shape order h.1) (counts_in shape few order h.1 fit g.0).count low)
-all-within shape few n (by_hand e ∷ order) h fit f most = all-within shape few n order h.1 fit f (let a = hand-raises (after (start shape) order) e in omega (arith, a, most))
+all-within shape few n (by_hand e ∷ order) h fit f most = all-within shape few n order h.1 fit f (let a = hand_puts (after (start shape) order) e in omega (arith, a, most))
 
 -- ## Words at their places
 

@@ -2,7 +2,6 @@
 use Rattle.std.proofs.Common.{◌≡◌, ◌⊎◌, inl, inr, ℕ, zero, suc, ◌+◌, ◌<◌, ◌≤◌, ◌==◌, Bool, true, false, if◌then◌else◌, refl, sym, ap, ◌∙◌, subst, map, List, [], ◌∷◌, ◌++◌, length, take, drop, append_assoc, append-nil, length-append, eqb-true, arith}
 use Rattle.std.specs.List.{sum_by}
 use Rattle.std.specs.Prelude.{slice_index_or}
-use Rattle.std.proofs.lemmas.Bool.{cases_eq}
 use Rattle.std.proofs.lemmas.List.{drop-append-le, drop-map, get_or-replicate, length-drop, length-take-le, take-append-drop, take-append-le, take-map}
 use Rattle.std.proofs.lemmas.List.Sums.{sum_by-cons}
 use Rattle.std.proofs.Math.Seq.{drop-append-add, drop-append_seam, take-append_seam}
@@ -15,17 +14,9 @@ use Rattle.af_model.specs.JournalForm.{AreEntries, IsEntry, IsJournal}
 use Rattle.af_model.specs.Journals.{EntrySeen, JournalData, RoundSeen, entries_of, frames_of, no_round, round_at, slot_frames, taken_by}
 use Rattle.af_judge.specs.Entries.{StandsIn}
 use Rattle.af_judge.specs.EntriesTold.{AreFormed}
+use Rattle.af_runs.proofs.Basics.{taken_up}
 
 -- ## The slots of an entry
-
--- the frames of an entry hold those of each slot
-slot-inside : (entry : CycleEntry) (i n : ℕ) → i < n → taken_before entry i + count_seen (entry_slot entry i).seen ≤ taken_before entry n
-slot-inside entry i zero lt = absurd (omega (arith, lt))
-slot-inside entry i (suc n) lt = by_case (cases_eq i n) (λ low. slot-inside entry i n low)
-  where
-    by_case : (i ≡ n) ⊎ (i ≡ n → ⊥) → (i < n → taken_before entry i + count_seen (entry_slot entry i).seen ≤ taken_before entry n) → taken_before entry i + count_seen (entry_slot entry i).seen ≤ taken_before entry (suc n)
-    by_case (inl same) more = subst (λ (k : ℕ). taken_before entry i + count_seen (entry_slot entry i).seen ≤ taken_before entry k + count_seen (entry_slot entry k).seen) same (omega arith)
-    by_case (inr apart) more = let low = more (omega (arith, lt, apart)) in omega (arith, low)
 
 -- a slot took nothing, or its frames begin where the log was and those before it end
 slot-placed : (place : ℕ) (entry : CycleEntry) → IsEntry place entry → (i : ℕ) → i < slots → (count_seen (entry_slot entry i).seen ≡ 0) ⊎ ((entry_slot entry i).first ≡ place + taken_before entry i)
@@ -57,7 +48,7 @@ stands-so pre post e form long = record {
 }
   where
     inside : (i : ℕ) → i < slots → taken_before e.entry i + count_seen (entry_slot e.entry i).seen ≤ length e.frames
-    inside i low = let all = slot-inside e.entry i slots low in omega (arith, all, long)
+    inside i low = let all = taken_up e.entry i slots low in omega (arith, all, long)
 
     by_place : (i : ℕ) → taken_before e.entry i + count_seen (entry_slot e.entry i).seen ≤ length e.frames
         → (count_seen (entry_slot e.entry i).seen ≡ 0) ⊎ ((entry_slot e.entry i).first ≡ length pre + taken_before e.entry i) → frames_taken (pre ++ (e.frames ++ post)) (entry_slot e.entry i) ≡ slot_frames e i

@@ -1,12 +1,13 @@
 -- What a judge keeps decides the answers of a client's calls, and follows them.
 use Rattle.std.specs.Prelude.{◌≡◌, ◌↔◌, ℕ, ◌+◌, Bool, true, false, if◌then◌else◌, is_some, fold, min, drop, List, [], ◌∷◌, ◌++◌, length, refl}
-use Rattle.std.proofs.Common.{ap, sym, subst, ◌∙◌, arith, length-append, length-drop}
+use Rattle.std.proofs.Common.{ap, sym, subst, ◌∙◌, length-append, length-drop}
 use Rattle.std.proofs.lemmas.List.{length-take}
 use Rattle.af_base.specs.declared.event.ClientCall.{ClientCall}
 use Rattle.af_base.specs.declared.event.ClientCall.TheVariants as call
 use Rattle.af_base.specs.declared.event.ClientEvent.{ClientEvent}
+use Rattle.af_model.proofs.Basics.{flushes-append}
 use Rattle.af_model.specs.ClientCalls.{ClientKept, client_keeps, client_begins, client_kept, client_call_events}
-use Rattle.af_model.specs.History.{flush_in, flushes_of}
+use Rattle.af_model.specs.History.{flushes_of}
 use Rattle.af_runs.specs.declared.want.ClientCommand.{ClientCommand}
 use Rattle.af_runs.specs.declared.want.ClientCommand.TheVariants as command
 use Rattle.af_runs.specs.declared.want.Want.{Want}
@@ -34,10 +35,6 @@ answers-by b asked (call.Poke command word value) = refl
 fold-more : (frames : ℕ) (k : ClientKept) (xs ys : List ClientEvent) → fold (client_keeps frames) k (xs ++ ys) ≡ fold (client_keeps frames) (fold (client_keeps frames) k xs) ys
 fold-more frames k [] ys = refl
 fold-more frames k (x ∷ xs) ys = fold-more frames (client_keeps frames k x) xs ys
-
-flushes-more : (xs ys : List ClientEvent) → flushes_of (xs ++ ys) ≡ flushes_of xs + flushes_of ys
-flushes-more [] ys = omega arith
-flushes-more (x ∷ xs) ys = ap (λ n. flush_in x + n) (flushes-more xs ys) ∙ omega arith
 
 -- how many flushes and words a call adds
 flushes-call : (shut : Bool) (answer : ClientCall) → flushes_of (client_call_events shut answer) ≡ flushes_asked answer
@@ -67,7 +64,7 @@ side_kept-called b answer words =
     let shut : Bool = is_some (client_kept b.shape.frames b.shape.base b.events).shut in
     kept-parts _ _ refl
     (fold-more b.shape.frames (client_begins b.shape.base) b.events (client_call_events shut answer))
-    (flushes-more b.events (client_call_events shut answer) ∙ ap (λ n. flushes_of b.events + n) (flushes-call shut answer))
+    (flushes-append b.events (client_call_events shut answer) ∙ ap (λ n. flushes_of b.events + n) (flushes-call shut answer))
     (length-append b.released words)
 
 -- ## The call that is wanted

@@ -1,9 +1,11 @@
 -- If a look answers by some front, it answers by the one that its answer gives.
 use Rattle.std.proofs.Common.{◌≡◌, ℕ, ◌+◌, ◌-◌, ◌%◌, ◌^◌, ◌<◌, ◌≤◌, ◌==◌, ◌&&◌, ◌||◌, not, min, nat_lt, Bool, true, false, true≢false, if◌then◌else◌, refl, sym, ap, ◌∙◌, subst, eqb-true, mod-lt, arith}
 use Rattle.std.proofs.lemmas.Bool.Decides.{nat_tests}
+use Rattle.af_base.proofs.Basics.{below_is, both, is_not_below, not_below_is}
 use Rattle.af_base.specs.declared.log.SlotEntry.{SlotEntry}
 use Rattle.af_base.specs.declared.seen.Seen.{Seen}
 use Rattle.af_base.specs.declared.seen.Seen.TheVariants as seen
+use Rattle.af_judge.proofs.Basics.{ahead_behind, ahead_itself, ahead_word, ahead_wrapped}
 use Rattle.af_model.specs.declared.shape.Shape.{Shape}
 use Rattle.af_model.specs.Cycles.{IsSeen}
 use Rattle.af_model.specs.Point.{wrapped}
@@ -13,42 +15,13 @@ use Rattle.af_runs.specs.Fronts.{behind, front_by_answer, flushed_front}
 
 -- ## Words
 
-ahead_behind : (count p : ℕ) → count < 2 ^ 32 → ahead (behind p count) p ≡ count
-ahead_behind count p small = omega (arith, small)
-
 behind_ahead : (f p : ℕ) → behind p (ahead f p) ≡ wrapped f
 behind_ahead f p = omega arith
-
-ahead_wrapped : (f p : ℕ) → ahead (wrapped f) p ≡ ahead f p
-ahead_wrapped f p = omega arith
-
-ahead_itself : (p : ℕ) → ahead p p ≡ 0
-ahead_itself p = omega arith
-
-ahead_small : (f p : ℕ) → ahead f p < 2 ^ 32
-ahead_small f p = omega arith
 
 behind_far : (count p : ℕ) → 0 < count → count ≤ 2 ^ 31 → 2 ^ 31 ≤ ahead p (behind p count)
 behind_far count p some few = omega (arith, some, few)
 
 -- ## Tests
-
-pub both : (a b : Bool) → (a && b) ≡ true → (a ≡ true) × (b ≡ true)
-both true b e = (refl, e)
-both false b e = absurd (true≢false (sym e))
-
-pub un_not : (b : Bool) → not b ≡ true → b ≡ false
-un_not true e = absurd (true≢false (sym e))
-un_not false e = refl
-
-not_less : (a b : ℕ) → b ≤ a → nat_lt a b ≡ false
-not_less a b le = grind (arith, nat_tests, le)
-
-at_most : (a b : ℕ) → nat_lt a b ≡ false → b ≤ a
-at_most a b e = grind (arith, nat_tests, e)
-
-is_less : (a b : ℕ) → nat_lt a b ≡ true → a < b
-is_less a b e = grind (arith, nat_tests, e)
 
 differs : (a b : ℕ) → (a ≡ b → ⊥) → (a == b) ≡ false
 differs a b other = by_case (a == b) refl
@@ -84,13 +57,13 @@ module _ (k : Shape) (few : k.wrap ≤ 2 ^ 31) (old asked flush rear : ℕ) wher
   frames_by : (f count : ℕ) → is_noticed k (not (flush == old)) rear f ≡ false → nat_lt k.frames (ahead f rear) ≡ false → count ≡ min asked (ahead f rear) → 1 ≤ count
       → look_at k old asked flush rear (behind rear count) ≡ seen.Frames count
   frames_by f count noticed inside is some =
-      let small = ahead_small f rear in
+      let small = ahead_word f rear in
       let back : ahead (behind rear count) rear ≡ count = ahead_behind count rear (omega (arith, is, small)) in
-      let low = at_most k.frames (ahead f rear) inside in
+      let low = not_below_is k.frames (ahead f rear) inside in
       let other : rear ≡ behind rear count → ⊥ = λ e. let z = ahead_itself rear in let w : ahead rear rear ≡ count = ap (λ (g : ℕ). ahead g rear) e ∙ back in omega (arith, z, w, some) in
       open_so (behind rear count) false false
       (ap (λ (b : Bool). b && (k.wrap == 0 || not (nat_lt k.frames (ahead (behind rear count) rear)))) (noticed_new (not (flush == old)) (k.wrap == 0) (nat_lt k.frames (ahead f rear)) noticed inside))
-      (not_less k.frames (ahead (behind rear count) rear) (omega (arith, back, low, is)))
+      (is_not_below k.frames (ahead (behind rear count) rear) (omega (arith, back, low, is)))
       (differs rear (behind rear count) other)
       ∙ ap seen.Frames (let a : min asked (ahead (behind rear count) rear) ≡ count = omega (arith, back, is) in a)
 
@@ -98,7 +71,7 @@ module _ (k : Shape) (few : k.wrap ≤ 2 ^ 31) (old asked flush rear : ℕ) wher
   plain_flush : (f d : ℕ) → (k.wrap == 0) ≡ true → is_noticed k (not (flush == old)) rear f ≡ true → d ≡ dropped_by k.wrap flush rear f → look_at k old asked flush rear (flushed_front k.wrap flush rear d) ≡ seen.Flushed d
   plain_flush f d zero_wrap noticed is =
       let far : d ≡ ahead f rear = is ∙ ap (λ (b : Bool). if b then ahead f rear else past_front f (flush_position k.wrap flush rear)) zero_wrap in
-      let small = ahead_small f rear in
+      let small = ahead_word f rear in
       let back : ahead (behind rear d) rear ≡ d = ahead_behind d rear (omega (arith, far, small)) in
       ap (λ (b : Bool). look_at k old asked flush rear (if b then behind rear d else if d == 0 then rear else behind (flush_position k.wrap flush rear) d)) zero_wrap
       ∙ flushed_so (behind rear d) d
@@ -110,7 +83,7 @@ module _ (k : Shape) (few : k.wrap ≤ 2 ^ 31) (old asked flush rear : ℕ) wher
   none_past x low = by_case (nat_lt (ahead rear (wrapped (rear + (2 ^ 32 - x)))) (2 ^ 31)) refl
     where
       by_case : (b : Bool) → nat_lt (ahead rear (wrapped (rear + (2 ^ 32 - x)))) (2 ^ 31) ≡ b → (if b then ahead rear (wrapped (rear + (2 ^ 32 - x))) else 0) ≡ 0
-      by_case true e = let near = is_less (ahead rear (wrapped (rear + (2 ^ 32 - x)))) (2 ^ 31) e in omega (arith, low, near)
+      by_case true e = let near = below_is (ahead rear (wrapped (rear + (2 ^ 32 - x)))) (2 ^ 31) e in omega (arith, low, near)
       by_case false e = refl
 
   -- a flush that drops nothing
@@ -119,7 +92,7 @@ module _ (k : Shape) (few : k.wrap ≤ 2 ^ 31) (old asked flush rear : ℕ) wher
       let z = ahead_itself rear in
       flushed_so rear 0
       (ap (λ (b : Bool). b && (k.wrap == 0 || not (nat_lt k.frames (ahead rear rear)))) (both _ _ noticed).0
-      ∙ ap (λ (b : Bool). b || not (nat_lt k.frames (ahead rear rear))) wraps ∙ ap not (not_less k.frames (ahead rear rear) (omega (arith, z))))
+      ∙ ap (λ (b : Bool). b || not (nat_lt k.frames (ahead rear rear))) wraps ∙ ap not (is_not_below k.frames (ahead rear rear) (omega (arith, z))))
       (ap (λ (b : Bool). if b then ahead rear rear else past_front rear (flush_position k.wrap flush rear)) wraps ∙ none_past (ahead flush rear % k.wrap) low)
 
   -- a flush that drops frames up to its position

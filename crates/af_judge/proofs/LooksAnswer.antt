@@ -1,6 +1,7 @@
 -- Looks at a command block are legal by some fronts exactly if each answers by the front by which it is judged.
 use Rattle.std.proofs.Common.{◌≡◌, ℕ, ◌+◌, ◌^◌, ◌≤◌, ◌==◌, ◌&&◌, ◌||◌, not, min, nat_lt, Bool, true, false, true≢false, if◌then◌else◌, is_some, fold, refl, sym, ap, ◌∙◌, subst, List, [], ◌∷◌, ◌++◌, Option, Some, None, arith}
 use Rattle.std.specs.Prelude.{MatchOption}
+use Rattle.af_base.proofs.Basics.{both}
 use Rattle.af_base.specs.declared.event.ServerEvent.{ServerEvent}
 use Rattle.af_base.specs.declared.event.ServerEvent.TheVariants as server
 use Rattle.af_base.specs.declared.log.SlotEntry.{SlotEntry}
@@ -9,6 +10,7 @@ use Rattle.af_base.specs.declared.seen.Seen.TheVariants as seen
 use Rattle.af_base.specs.declared.turn.CommandLook.{CommandLook}
 use Rattle.af_life.specs.Looks.{as_slot, command_events, takes_command}
 use Rattle.af_life.specs.Obeys.{shows_command}
+use Rattle.af_model.proofs.Basics.{not_true}
 use Rattle.af_model.specs.declared.shape.Shape.{Shape}
 use Rattle.af_model.specs.Cycles.{Listed, kept, IsSeen, LooksBy}
 use Rattle.af_model.specs.Point.{wrapped}
@@ -16,7 +18,7 @@ use Rattle.af_model.specs.Room.{ahead, outside}
 use Rattle.af_model.specs.ServerCalls.{ServerKept, server_keeps, server_begins, server_kept, is_noticed, dropped_by, look_at, look_events}
 use Rattle.af_model.specs.Spelled.{own_front}
 use Rattle.af_runs.specs.Fronts.{front_by_answer, front_of, leaves_open, is_own_inside}
-use Rattle.af_judge.proofs.LookFront.{answers_so, flushed_so, open_so, both, noticed_new, un_not}
+use Rattle.af_judge.proofs.LookFront.{answers_so, flushed_so, open_so, noticed_new}
 
 -- ## Servers that differ at most in the front that they saw last
 
@@ -113,7 +115,7 @@ module _ (k : Shape) where
 
   -- if the server's own front lies in the block
   inside_so : (t : Listed) (rear : ℕ) → is_own_inside t rear ≡ true → nat_lt t.shape.frames (ahead (own_front t.shape (kept t)) rear) ≡ false
-  inside_so t rear e = un_not (nat_lt t.shape.frames (ahead (own_front t.shape (kept t)) rear)) e
+  inside_so t rear e = not_true (nat_lt t.shape.frames (ahead (own_front t.shape (kept t)) rear)) e
 
   -- the server's own front, if the answer leaves it open
   own_tells : (a : ServerKept) (asked flush rear g : ℕ) (s : Seen) → leaves_open k asked s ≡ true → nat_lt k.frames (ahead g rear) ≡ false → (f : ℕ) → Tells k a flush rear f s → Tells k a flush rear g s

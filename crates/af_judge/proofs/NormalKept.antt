@@ -12,6 +12,7 @@ use Rattle.af_base.specs.declared.turn.TrackTurn.{TrackTurn}
 use Rattle.af_base.specs.Mix.{Take, mix}
 use Rattle.af_base.specs.Part.{take_of as part_of}
 use Rattle.af_base.specs.Turn.{Turn, TakeSeen, TrackSeen, take_seen, track_seen}
+use Rattle.af_judge.proofs.Basics.{push_draft}
 use Rattle.af_life.specs.declared.kept.TrackKept.{TrackKept}
 use Rattle.af_life.specs.Kept.{Setup, NormalKept, Learnt, asked, slot_number, seen_at, track_at}
 use Rattle.af_life.specs.Edits.{comes_home, welcomed, after_ack, after_push}
@@ -26,7 +27,7 @@ use Rattle.af_model.specs.JournalForm.{IsTake, IsTurn, TracksRise}
 use Rattle.af_runs.specs.Told.{is_pushed}
 use Rattle.af_judge.specs.NormalChanges.{is_edited}
 use Rattle.af_judge.specs.NormalJudged.{NormalJudged, IsJudged}
-use Rattle.af_judge.proofs.TurnEdits.{turn_changes, push_draft, due_after}
+use Rattle.af_judge.proofs.TurnEdits.{turn_changes, due_after}
 
 -- ## What is put into the pipe
 

@@ -9,6 +9,7 @@ use Rattle.af_base.specs.declared.log.SlotEntry.{SlotEntry}
 use Rattle.af_base.specs.declared.report.Report.{Report}
 use Rattle.af_base.specs.declared.seen.Seen.TheVariants as seen
 use Rattle.af_base.specs.Turn.{Turn, TakeSeen, TrackSeen}
+use Rattle.af_judge.proofs.Basics.{same_track, there_is}
 use Rattle.af_life.specs.declared.kept.Heard.{Heard}
 use Rattle.af_life.specs.declared.kept.TrackKept.{TrackKept}
 use Rattle.af_life.specs.Edits.{after_ack}
@@ -26,7 +27,6 @@ use Rattle.af_judge.specs.NormalTold.{IsTrackAt, AllTold, LooksRight, IsRightTak
 use Rattle.af_judge.specs.NormalTurns.{Begins, Serves}
 use Rattle.af_judge.specs.Servers.{LooksRightly}
 use Rattle.af_judge.proofs.NormalKept.{both_so}
-use Rattle.af_judge.proofs.NormalTells.{same_track, there_is}
 
 -- ## A take is right after the other parts of the turn if it was before them
 

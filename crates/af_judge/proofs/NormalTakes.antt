@@ -6,21 +6,18 @@ use Rattle.std.proofs.lemmas.List.{take_more}
 use Rattle.std.proofs.lemmas.List.Sums.{fold-append}
 use Rattle.std.proofs.lemmas.List.Elements.{filter-append}
 use Rattle.std.proofs.lemmas.Bool.Decides.{nat_tests}
+use Rattle.af_base.proofs.Basics.{map_last}
 use Rattle.af_base.specs.declared.turn.NormalTake.{NormalTake}
 use Rattle.af_base.specs.Turn.{TakeSeen, take_seen}
+use Rattle.af_judge.proofs.Basics.{same_track, there_is}
 use Rattle.af_life.specs.TurnEvents.{takes_from}
 use Rattle.af_model.specs.JournalForm.{TracksRise}
 use Rattle.af_judge.specs.declared.track_judge.TrackJudge.{TrackJudge}
 use Rattle.af_judge.specs.NormalTold.{IsTrackAt, IsTaken, AreTaken, IsRightTake, take_told}
 use Rattle.af_judge.proofs.NormalKept.{both_so}
-use Rattle.af_judge.proofs.NormalTells.{same_track, there_is}
 use Rattle.af_judge.proofs.TurnExactly.{others_of}
 
 -- ## Lists
-
-map_last : {A B : Type 0} (f : A → B) (xs : List A) (x : A) → map f (xs ++ x ∷ []) ≡ map f xs ++ f x ∷ []
-map_last f [] x = refl
-map_last f (y ∷ xs) x = ap (λ ys. f y ∷ ys) (map_last f xs x)
 
 all_last : {A : Type 0} (P : A → Type 0) (xs : List A) (x : A) → AllByRecursion P (xs ++ x ∷ []) ↔ (AllByRecursion P xs × P x)
 all_last P [] x = ((λ h. (tt, h.0)), (λ h. (h.1, tt)))

@@ -2,10 +2,11 @@
 use Rattle.std.proofs.Common.{◌≡◌, ◌↔◌, ℕ, ◌+◌, ◌<◌, ◌&&◌, Bool, true, false, IsTrue, nat_lt, if◌then◌else◌, refl, sym, ap, ◌∙◌, subst, List, length, arith}
 use Rattle.std.specs.Prelude.{slice_set, slice_index_or}
 use Rattle.std.proofs.lemmas.List as lists
-use Rattle.std.proofs.lemmas.List.{get_or_default, get_or-set_other, length-set}
+use Rattle.std.proofs.lemmas.List.{get_or-set_other, length-set}
 use Rattle.std.proofs.lemmas.Grind.{get_or-set_at}
 use Rattle.std.proofs.lemmas.Bool.Decides.{nat_tests}
 use Rattle.af_base.specs.Turn.{Turn, TrackSeen}
+use Rattle.af_judge.proofs.Basics.{same_track, there_is}
 use Rattle.af_life.specs.declared.kept.Heard.{Heard}
 use Rattle.af_life.specs.declared.kept.TrackKept.{TrackKept}
 use Rattle.af_life.specs.Edits.{after_ack, welcomed}
@@ -19,18 +20,11 @@ use Rattle.af_judge.proofs.NormalKept.{acked_is, both_so}
 
 -- ## The track of a number
 
-pub same_track : (ts : List TrackJudge) (i : ℕ) (t u : TrackJudge) → IsTrackAt ts i t → IsTrackAt ts i u → t ≡ u
-same_track ts i t u at other = at.1 ∙ get_or_default ts i t u at.0 ∙ sym other.1
-
 pub set_here : (ts : List TrackJudge) (i : ℕ) (u : TrackJudge) → i < length ts → IsTrackAt (slice_set ts i u) i u
 set_here ts i u lt = ((let l = length-set ts i u in omega (arith, l, lt)), sym (get_or-set_at ts i i u u refl lt))
 
 pub set_elsewhere : (ts : List TrackJudge) (i n : ℕ) (u t : TrackJudge) → (n ≡ i → ⊥) → IsTrackAt ts n t → IsTrackAt (slice_set ts i u) n t
 set_elsewhere ts i n u t other at = ((let l = length-set ts i u in let b = at.0 in omega (arith, l, b)), at.1 ∙ sym (get_or-set_other ts i n u t other))
-
--- there is a track at each place
-pub there_is : (ts : List TrackJudge) (i : ℕ) (t : TrackJudge) → i < length ts → IsTrackAt ts i (slice_index_or ts i t)
-there_is ts i t lt = (lt, get_or_default ts i t (slice_index_or ts i t) lt)
 
 -- ## What a turn finds
 

@@ -1,14 +1,12 @@
 -- Which counts are open, by those that were open before the last step.
 use Rattle.std.specs.Prelude.{◌↔◌, IsTrue, slice_get, slice_index_or, slice_set}
 use Rattle.std.proofs.Common.{◌≡◌, ◌⊎◌, ◌≢◌, inl, inr, ℕ, zero, suc, ◌+◌, ◌<◌, ◌≤◌, Bool, true, false, fold, List, [], ◌∷◌, ◌++◌, length, take, replicate, Some, refl, sym, ap, subst, ◌∙◌, arith, true≢false}
-use Rattle.std.proofs.lemmas.List.{get_or-set_same, get_or-set_other, take_more}
-use Rattle.std.proofs.lemmas.Option.{slice_get_within, slice_get_cases, get_or_from_slice_get}
+use Rattle.std.proofs.lemmas.List.{get_or-set_same, get_or-set_other}
+use Rattle.std.proofs.lemmas.Option.{slice_get_cases}
+use Rattle.af_base.proofs.Basics.{below_or_at, take_step}
 use Rattle.af_model.specs.Order.{Event, one, two}
 use Rattle.af_judge.specs.TwoEnds.{Ends, ends_after, HasEndsOrder, AreOpen}
 use Rattle.af_judge.proofs.TwoEnds.{reach_none, reach_one, reach_two, back_none, back_first, back_both}
-
-below_or_at : (i n : ℕ) → i < n + 1 → (i < n) ⊎ (i ≡ n)
-below_or_at i n h = grind arith
 
 -- ## A loop that opens counts
 
@@ -79,9 +77,6 @@ take_none (x ∷ xs) = refl
 fold-snoc : {X Y : Type 0} (f : Y → X → Y) (y : Y) (xs : List X) (x : X) → fold f y (xs ++ x ∷ []) ≡ f (fold f y xs) x
 fold-snoc f y [] x = refl
 fold-snoc f y (z ∷ xs) x = fold-snoc f (f y z) xs x
-
-take_step : {A : Type 0} (xs : List A) (i : ℕ) (a : A) → slice_get xs i ≡ Some a → take (i + 1) xs ≡ take i xs ++ a ∷ []
-take_step xs i a is = take_more xs i a (slice_get_within xs i a is) ∙ ap (λ x. take i xs ++ x ∷ []) (get_or_from_slice_get xs i a a is)
 
 -- only the first count is open before any step
 begun : (n i : ℕ) → IsTrue (slice_index_or (true ∷ replicate n false) i false) ↔ (i ≡ 0)

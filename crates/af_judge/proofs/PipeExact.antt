@@ -5,20 +5,23 @@ use Rattle.std.specs.List.{list_all}
 use Rattle.std.proofs.lemmas.Grind.{fold-append}
 use Rattle.std.proofs.lemmas.List.{append-nil}
 use Rattle.std.proofs.lemmas.List.Folds.{list_all-append}
+use Rattle.af_base.proofs.Basics.{none_more}
 use Rattle.af_base.specs.declared.event.ClientEvent.{ClientEvent}
 use Rattle.af_base.specs.declared.event.ClientEvent.TheVariants as client
 use Rattle.af_base.specs.declared.event.ServerEvent.{ServerEvent}
 use Rattle.af_base.specs.declared.event.ServerEvent.TheVariants as server
+use Rattle.af_judge.proofs.Basics.{server_put}
+use Rattle.af_model.proofs.Basics.{both_first, client_taken, keeps}
 use Rattle.af_model.specs.declared.shape.Shape.{Shape}
 use Rattle.af_model.specs.declared.point.TrackPoint.{TrackPoint}
 use Rattle.af_model.specs.Point.{wrapped, after_client, after_server}
 use Rattle.af_model.specs.History.{Moment, by_client, by_server, by_hand, client_of, server_of, hand_of, after, IsLegal}
-use Rattle.af_model.specs.Fates.{keeps_all, drops_none}
+use Rattle.af_model.specs.Fates.{drops_none}
 use Rattle.af_model.specs.Order.{Event, one, two, ones, twos, Legal}
 use Rattle.af_model.specs.PipeHistory.{PipePoint, legal, next, HasPipeHistory, IsTakeList, is_taking}
 use Rattle.af_model.specs.PipeHistory as pipe
 use Rattle.af_model.proofs.Fates.{begins}
-use Rattle.af_model.proofs.Logic.{both_left, both_right}
+use Rattle.af_model.proofs.Logic.{both_right}
 use Rattle.af_model.proofs.PipeOrders.{pipe_history}
 use Rattle.af_judge.specs.PipeKept.{AreEnds, HasPipeOrder, PipeKept, pipe_begins, put_by, put_in, taken_by, taken_in}
 
@@ -30,9 +33,6 @@ put_more events e = fold-append (λ (sofar : ℕ) (x : ClientEvent). sofar + put
 taken_more : (events : List ServerEvent) (e : ServerEvent) → taken_in (events ++ e ∷ []) ≡ taken_in events + taken_by e
 taken_more events e = fold-append (λ (sofar : ℕ) (x : ServerEvent). sofar + taken_by x) 0 events (e ∷ [])
 
-none_more : (n : ℕ) → n ≡ n + 0
-none_more n = omega arith
-
 client_put : (p : TrackPoint) (e : ClientEvent) → (after_client p e).released ≡ p.released + put_by e
 client_put p (client.Release count) = refl
 client_put p client.Flush = none_more p.released
@@ -43,29 +43,6 @@ client_put p (client.SawFront front) = none_more p.released
 client_put p (client.SawStatus word) = none_more p.released
 client_put p (client.Poke word value) = none_more p.released
 client_put p (client.Learn count) = none_more p.released
-
-server_put : (p : TrackPoint) (e : ServerEvent) → (after_server p e).released ≡ p.released
-server_put p (server.SawGain word) = refl
-server_put p (server.SawFlush flush) = refl
-server_put p (server.SawRear rear) = refl
-server_put p (server.SawFront front) = refl
-server_put p (server.Drop to) = refl
-server_put p (server.Take count) = refl
-server_put p (server.Tally missing) = refl
-server_put p (server.SetFlags bits) = refl
-server_put p (server.SetStatus word) = refl
-server_put p (server.Learn count) = refl
-
-client_taken : (p : TrackPoint) (e : ClientEvent) → (after_client p e).consumed ≡ p.consumed
-client_taken p (client.Release count) = refl
-client_taken p client.Flush = refl
-client_taken p (client.SetGain word) = refl
-client_taken p (client.ClearFlags old) = refl
-client_taken p (client.SawFlags flags) = refl
-client_taken p (client.SawFront front) = refl
-client_taken p (client.SawStatus word) = refl
-client_taken p (client.Poke word value) = refl
-client_taken p (client.Learn count) = refl
 
 server_taken : (p : TrackPoint) (e : ServerEvent) → is_taking e ≡ true → (after_server p e).consumed ≡ p.consumed + taken_by e
 server_taken p (server.SawGain word) is = none_more p.consumed
@@ -88,7 +65,7 @@ released_after (by_hand e ∷ order) none = let long : length (hand_of order ++ 
 taking_before : (events : List ServerEvent) (e : ServerEvent) → IsTakeList (events ++ e ∷ []) → IsTakeList events × (is_taking e ≡ true)
 taking_before events e takes =
     let whole : (list_all is_taking events && list_all is_taking (e ∷ [])) ≡ true = sym (list_all-append is_taking events (e ∷ [])) ∙ takes in
-    (both_left _ _ whole, both_left (is_taking e) true (both_right (list_all is_taking events) _ whole))
+    (both_first _ _ whole, both_first (is_taking e) true (both_right (list_all is_taking events) _ whole))
 
 consumed_after : (order : List Moment) → hand_of order ≡ [] → IsTakeList (server_of order) → (after pipe_begins order).consumed ≡ taken_in (server_of order)
 consumed_after [] none takes = refl
@@ -98,21 +75,9 @@ consumed_after (by_server e ∷ order) none takes =
     server_taken (after pipe_begins order) e before.1 ∙ (ap (λ n. n + taken_by e) (consumed_after order none before.0) ∙ sym (taken_more (server_of order) e))
 consumed_after (by_hand e ∷ order) none takes = let long : length (hand_of order ++ e ∷ []) ≡ 0 = ap length none in absurd (omega (arith, length-append (hand_of order) (e ∷ [])))
 
-keeps : (e : ServerEvent) → is_taking e ≡ true → keeps_all e ≡ true
-keeps (server.SawRear rear) is = refl
-keeps (server.SawFront front) is = refl
-keeps (server.Take count) is = refl
-keeps (server.Learn count) is = refl
-keeps (server.SawGain word) is = refl
-keeps (server.SawFlush flush) is = refl
-keeps (server.Drop to) is = is
-keeps (server.Tally missing) is = refl
-keeps (server.SetFlags bits) is = refl
-keeps (server.SetStatus word) is = refl
-
 all_kept : (es : List ServerEvent) → IsTakeList es → drops_none es ≡ true
 all_kept [] is = refl
-all_kept (e ∷ es) is = ap (λ b. b && drops_none es) (keeps e (both_left (is_taking e) _ is)) ∙ all_kept es (both_right (is_taking e) _ is)
+all_kept (e ∷ es) is = ap (λ b. b && drops_none es) (keeps e (both_first (is_taking e) _ is)) ∙ all_kept es (both_right (is_taking e) _ is)
 
 -- the sizes of the pipe's block
 abbrev shape_of : PipeKept → Shape

@@ -1,21 +1,23 @@
 -- What is kept of the queue follows a run from step to step, and each meeting is judged exactly.
 use Rattle.std.specs.Prelude.{if◌then◌else◌, ◌==◌, ◌↔◌}
 use Rattle.std.specs.List.{list_any}
-use Rattle.std.proofs.Common.{◌≡◌, ℕ, zero, suc, ◌+◌, ◌-◌, ◌<◌, ◌≤◌, ◌||◌, Bool, true, false, List, [], ◌∷◌, ◌++◌, fold, length, Option, Some, unwrap_or, refl, sym, ap, ◌∙◌, subst, arith, append_assoc, append-nil, length-append}
+use Rattle.std.proofs.Common.{◌≡◌, ℕ, suc, ◌+◌, ◌-◌, ◌<◌, ◌≤◌, ◌||◌, Bool, true, false, List, [], ◌∷◌, ◌++◌, fold, length, Option, unwrap_or, refl, sym, ap, ◌∙◌, subst, arith, append_assoc, append-nil, length-append}
 use Rattle.std.proofs.lemmas.Bool.{ne_eqb}
 use Rattle.std.proofs.lemmas.Grind.{fold-append}
 use Rattle.std.proofs.lemmas.List.Folds.{list_any-append}
+use Rattle.af_base.proofs.Basics.{or_both}
 use Rattle.af_base.specs.declared.state.FastState.{FastState}
 use Rattle.af_base.specs.declared.state.Push.{Push}
+use Rattle.af_model.proofs.Basics.{state_next}
 use Rattle.af_model.specs.declared.states.MutatorEvent.{MutatorEvent}
 use Rattle.af_model.specs.declared.states.MutatorEvent.TheVariants as mutator
 use Rattle.af_model.specs.declared.states.ObserverEvent.{ObserverEvent}
 use Rattle.af_model.specs.declared.states.ObserverEvent.TheVariants as observer
-use Rattle.af_model.specs.Cycles.{state_of}
 use Rattle.af_model.specs.Draft.{initial}
 use Rattle.af_model.specs.Order.{one, two, ones, twos, after, HasOrder}
 use Rattle.af_model.specs.StateQueue as queued
 use Rattle.af_model.specs.StateQueue.{MutatorPoint, ObserverPoint, QueuePoint}
+use Rattle.af_runs.proofs.Basics.{state_more}
 use Rattle.af_runs.specs.Told.{HasQueueHistory, Item, QueueTold, is_look_at, is_pushed, items_of, mutator_does, observer_does, poll_events, queue_met, state_at, was_seen}
 use Rattle.af_judge.specs.declared.queue_judge.MutatorStep.{MutatorStep}
 use Rattle.af_judge.specs.declared.queue_judge.MutatorStep.TheVariants as steps
@@ -124,26 +126,9 @@ stays_lost states told q es ls h = record {
 
 -- ## Turns
 
--- the states pushed before are the same
-states_same : (states more : List FastState) (k : ℕ) → k ≤ length states → state_of (states ++ more) k ≡ state_of states k
-states_same states [] k low = ap (λ l. state_of l k) (append-nil states)
-states_same [] (x ∷ more) zero low = refl
-states_same [] (x ∷ more) (suc k) low = absurd (omega (arith, low))
-states_same (s ∷ states) (x ∷ more) zero low = refl
-states_same (s ∷ states) (x ∷ more) (suc zero) low = refl
-states_same (s ∷ states) (x ∷ more) (suc (suc k)) low = states_same states (x ∷ more) (suc k) (omega (arith, low))
-
--- the one pushed is the next
-state_next : (states : List FastState) (x : FastState) → state_of (states ++ x ∷ []) (length states + 1) ≡ Some x
-state_next states x = subst (λ n. state_of (states ++ x ∷ []) n ≡ Some x) (let e : suc (length states) ≡ length states + 1 = omega arith in e) (next states)
-  where
-    next : (states : List FastState) → state_of (states ++ x ∷ []) (suc (length states)) ≡ Some x
-    next [] = refl
-    next (s ∷ states) = next states
-
 pub states_before : (frames : ℕ) (states more : List FastState) (state : ℕ → FastState) → AreStates frames (states ++ more) state → AreStates frames states state
 states_before frames states more state are =
-    λ k low. are k (let e = length-append states more in omega (arith, e, low)) ∙ ap (λ (o : Option FastState). unwrap_or o (initial frames)) (states_same states more k low)
+    λ k low. are k (let e = length-append states more in omega (arith, e, low)) ∙ ap (λ (o : Option FastState). unwrap_or o (initial frames)) (state_more states more k low)
 
 -- the states that a push adds
 abbrev pub pushed_if : Bool → FastState → List FastState
@@ -152,10 +137,6 @@ pushed_if pushes draft = if pushes then draft ∷ [] else []
 pushed_many : (pushes : Bool) (draft : FastState) → length (pushed_if pushes draft) ≡ one_pushed pushes
 pushed_many true draft = refl
 pushed_many false draft = refl
-
-or_assoc : (a b c : Bool) → ((a || b) || c) ≡ (a || (b || c))
-or_assoc true b c = refl
-or_assoc false b c = refl
 
 seen_by_zero : (last : ℕ) (seen w : Bool) → seen ≡ ((last == 0) || w) → last ≡ 0 → seen ≡ true
 seen_by_zero last seen w is e = is ∙ ap (λ n. (n == 0) || w) e
@@ -216,8 +197,8 @@ module _ (frames : ℕ) (states : List FastState) (current : ℕ) (told : QueueT
       ∙ sym (λ j. ne_eqb (last + 1) 0 (λ e. omega (arith, e)) j || none_more (last + 1) (omega arith) j)
   seen_then false is =
       seen_still last (was || (looked last ack == last)) push draft again sent is
-      ∙ (or_assoc was (looked last ack == last) (list_any (is_look_at last) (push_told last push draft again sent))
-      ∙ (or_assoc (last == 0) (was_seen last told) ((looked last ack == last) || list_any (is_look_at last) (push_told last push draft again sent))
+      ∙ (or_both was (looked last ack == last) (list_any (is_look_at last) (push_told last push draft again sent))
+      ∙ (or_both (last == 0) (was_seen last told) ((looked last ack == last) || list_any (is_look_at last) (push_told last push draft again sent))
       ∙ (ap (λ b. (last == 0) || b) (sym (seen_more last)) ∙ ap (λ n. (n == 0) || was_seen n (mutator_does turn_events told)) (let e : last ≡ last + 0 = omega arith in e))))
 
   -- a turn with its look and its push

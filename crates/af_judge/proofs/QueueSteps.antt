@@ -3,6 +3,7 @@ use Rattle.std.specs.Prelude.{◌≢◌, if◌then◌else◌, ◌==◌}
 use Rattle.std.specs.List.{list_any}
 use Rattle.std.proofs.Common.{◌≡◌, inl, inr, ℕ, zero, suc, ◌+◌, ◌-◌, ◌<◌, ◌≤◌, ◌&&◌, ◌||◌, not, Bool, true, false, true≢false, List, [], ◌∷◌, ◌++◌, fold, map, Option, Some, None, refl, sym, ap, ◌∙◌, subst, arith, eq-eqb}
 use Rattle.std.proofs.lemmas.Bool.{ne_eqb, eqb-true}
+use Rattle.af_base.proofs.Basics.{or_nothing, or_right}
 use Rattle.af_base.specs.declared.state.FastState.{FastState}
 use Rattle.af_base.specs.declared.state.Push.{Push}
 use Rattle.af_base.specs.declared.state.Push.TheVariants as pushing
@@ -249,23 +250,15 @@ pub none_before : (last : ℕ) (seen more : Bool) → (last ≡ 0 → seen ≡ t
 none_before zero seen more h = ap (λ b. (zero - 1 == zero) && not (b || more)) (h refl)
 none_before (suc n) seen more h = ap (λ b. b && not (seen || more)) (not_before n)
 
-or_true : (b c : Bool) → c ≡ true → (b || c) ≡ true
-or_true true c h = refl
-or_true false c h = h
-
-or_false : (b c : Bool) → c ≡ false → (b || c) ≡ b
-or_false true c h = refl
-or_false false c h = h
-
 -- the look before a push
 tells_again : (last : ℕ) (ack seen : Bool) (back : List (Option Item)) → (last ≡ 0 → ⊥) → (if not ack then brought_if last last seen back else []) ≡ brought_if last last (seen || (looked last ack == last)) back
 tells_again last true seen back some =
-    sym (ap (λ b. if (last == last) && not b then back else []) (or_true seen (last == last) (eq-eqb last last refl)) ∙ none (last == last))
+    sym (ap (λ b. if (last == last) && not b then back else []) (or_right seen (last == last) (eq-eqb last last refl)) ∙ none (last == last))
   where
     none : (b : Bool) → (if b && not true then back else []) ≡ []
     none true = refl
     none false = refl
-tells_again last false seen back some = ap (λ b. brought_if last last b back) (sym (or_false seen (last - 1 == last) (ne_eqb (last - 1) last (λ e. some (omega (arith, e))))))
+tells_again last false seen back some = ap (λ b. brought_if last last b back) (sym (or_nothing seen (last - 1 == last) (ne_eqb (last - 1) last (λ e. some (omega (arith, e))))))
 
 -- the push of a turn, after its first look
 pub tells_push : (state : ℕ → FastState) (last : ℕ) (ack seen : Bool) (push : Push) (draft : FastState) (back sent : List (Option Item)) → (last ≡ 0 → seen ≡ true) → back ≡ items_of (state (last - 1)) (state last)
@@ -330,8 +323,8 @@ looked_low last false = omega arith
 -- whether the last state was seen, after a turn that pushes none, and after one that does
 pub seen_still : (last : ℕ) (seen : Bool) (push : Push) (draft : FastState) (again sent : List (Option Item)) → is_pushed push ≡ false
     → seen_after last seen (push_steps last push) ≡ (seen || list_any (is_look_at last) (push_told last push draft again sent))
-seen_still last seen pushing.Clean draft again sent h = sym (or_false seen false refl)
-seen_still last seen (pushing.Busy x y) draft again sent h = ap (λ b. seen || b) (sym (or_false (last - 1 == last) false refl))
+seen_still last seen pushing.Clean draft again sent h = sym (or_nothing seen false refl)
+seen_still last seen (pushing.Busy x y) draft again sent h = ap (λ b. seen || b) (sym (or_nothing (last - 1 == last) false refl))
 seen_still last seen (pushing.Pushed number) draft again sent h = absurd (true≢false h)
 
 pub seen_pushed : (last : ℕ) (seen : Bool) (push : Push) → is_pushed push ≡ true → seen_after last seen (push_steps last push) ≡ false

@@ -1,20 +1,13 @@
 -- A test over the numbers of a range, with one more.
 use Rattle.std.specs.List.{range_with_len, list_any}
-use Rattle.std.proofs.Common.{◌≡◌, ℕ, zero, suc, ◌+◌, ◌||◌, Bool, true, false, refl, ap, ◌∙◌, arith}
-
-or_same : (a : Bool) → (a || false) ≡ a
-or_same true = refl
-or_same false = refl
-
-or_apart : (a b c : Bool) → (a || (b || c)) ≡ ((a || b) || c)
-or_apart true b c = refl
-or_apart false b c = refl
+use Rattle.std.proofs.Common.{◌≡◌, ℕ, zero, suc, ◌+◌, ◌||◌, Bool, ap, ◌∙◌, arith}
+use Rattle.af_base.proofs.Basics.{or_assoc, or_false}
 
 any_next : (p : ℕ → Bool) (a n : ℕ) → list_any p (range_with_len a (suc n)) ≡ (list_any p (range_with_len a n) || p (a + n))
-any_next p a zero = or_same (p a) ∙ ap p (let e : a ≡ a + 0 = omega arith in e)
+any_next p a zero = or_false (p a) ∙ ap p (let e : a ≡ a + 0 = omega arith in e)
 any_next p a (suc n) =
     ap (λ b. p a || b) (any_next p (a + 1) n)
-    ∙ (or_apart (p a) (list_any p (range_with_len (a + 1) n)) (p (a + 1 + n))
+    ∙ (or_assoc (p a) (list_any p (range_with_len (a + 1) n)) (p (a + 1 + n))
     ∙ ap (λ k. (p a || list_any p (range_with_len (a + 1) n)) || p k) (let e : a + 1 + n ≡ a + suc n = omega arith in e))
 
 pub any_more : (p : ℕ → Bool) (n : ℕ) → list_any p (range_with_len 0 (n + 1)) ≡ (list_any p (range_with_len 0 n) || p n)

@@ -1,15 +1,16 @@
 -- The report that a turn of the normal mixer finds is the one that the judge has.
 use Rattle.std.specs.Prelude.{slice_index_or, max, min}
 use Rattle.std.proofs.Common.{◌≡◌, ◌⊎◌, inl, inr, ℕ, suc, ◌+◌, ◌-◌, ◌<◌, ◌≤◌, ◌==◌, Bool, false, if◌then◌else◌, ne_eqb, refl, sym, ap, ◌∙◌, fold, List, [], ◌∷◌, ◌++◌, append_assoc, append-nil, length, take, drop, length-append, arith}
-use Rattle.std.proofs.lemmas.Bool.{cases_lt}
 use Rattle.std.proofs.lemmas.Grind.{fold-append}
 use Rattle.std.proofs.lemmas.List.{get_or-append_right, get_or_append_left, get_or_default, get_or_past, length-map, length-take, take-append-drop, take-map, take_all}
+use Rattle.af_base.proofs.Basics.{within_or_beyond}
 use Rattle.af_base.specs.declared.frame.Frame.{Frame}
 use Rattle.af_base.specs.declared.log.CycleEntry.{CycleEntry}
 use Rattle.af_base.specs.declared.report.Report.{Report}
 use Rattle.af_base.specs.Turn.{Turn}
 use Rattle.af_model.specs.Journals.{EntrySeen, RoundSeen}
 use Rattle.af_model.specs.Reports.{no_report}
+use Rattle.af_runs.proofs.Basics.{calls-entries}
 use Rattle.af_runs.specs.Blocks.{Marks}
 use Rattle.af_runs.specs.Rounds.{before_turn, early_count, found_in, late_of}
 use Rattle.af_runs.specs.Runs.{Run, last_report, next_report, report_of, with_calls, with_cycle, with_cycles, with_looks, with_mix, with_poll}
@@ -21,13 +22,6 @@ use Rattle.af_judge.specs.Foresight.{Foreseen, entries_foreseen, foreseen, serve
 use Rattle.af_judge.proofs.EntriesFollow.{KeepsPlaying, cycles_entries, entries_in, entries_keep}
 use Rattle.af_judge.proofs.ForeseenTold.{entries_foreseen_told}
 use Rattle.af_judge.proofs.JournalEntries.{formed_front}
-
-up-to : (a b : ℕ) → (a ≤ b) ⊎ (b < a)
-up-to a b = by_order (cases_lt b a)
-  where
-    by_order : (b < a) ⊎ (a ≤ b) → (a ≤ b) ⊎ (b < a)
-    by_order (inl h) = inr h
-    by_order (inr h) = inl h
 
 -- ## Lists of reports
 
@@ -155,7 +149,7 @@ module _ (s : Session) (marks : Marks) (W : ℕ → Type 0) (earlier : List Repo
         omega (arith, l, t, a, e, x, y)
 
   still-to-come : (number n : ℕ) → length run.reports < number → n ≡ min (length late) (number - length run.reports) → report_of all number ≡ (entries_foreseen run.states (take n (entries_in late)) (foreseen (servers_at p.tracks) p.fast.told)).told.report
-  still-to-come number n far count = by_count (up-to (number - length run.reports) (length late))
+  still-to-come number n far count = by_count (within_or_beyond (number - length run.reports) (length late))
     where
       by_count : (number - length run.reports ≤ length late) ⊎ (length late < number - length run.reports) → report_of all number ≡ (entries_foreseen run.states (take n (entries_in late)) (foreseen (servers_at p.tracks) p.fast.told)).told.report
       by_count (inl inside) =
@@ -182,7 +176,7 @@ module _ (s : Session) (marks : Marks) (W : ℕ → Type 0) (earlier : List Repo
       let f = keeps.fast in
       let many : length run.reports ≡ length earlier + length p.fast.reports = ap (λ (rs : List Report). length rs) f.reports ∙ length-append earlier p.fast.reports in
       let long = length-map late (λ (e : EntrySeen). e.entry) in
-      by_number first cycle many long (up-to number (length earlier)) (up-to number (length run.reports))
+      by_number first cycle many long (within_or_beyond number (length earlier)) (within_or_beyond number (length run.reports))
     where
       by_number : p.fast.before.cycle ≡ length earlier → p.fast.told.report.cycle ≡ length run.reports → length run.reports ≡ length earlier + length p.fast.reports → length (entries_in late) ≡ length late
           → (number ≤ length earlier) ⊎ (length earlier < number) → (number ≤ length run.reports) ⊎ (length run.reports < number) → r ≡ report_of all (max (length earlier) number)
@@ -204,10 +198,6 @@ module _ (s : Session) (marks : Marks) (W : ℕ → Type 0) (earlier : List Repo
 calls-reports : (round : RoundSeen) (run : Run) → (with_calls round run).reports ≡ run.reports
 unfolding with_calls
 calls-reports round run = refl
-
-calls-entries : (round : RoundSeen) (run : Run) → (with_calls round run).entries ≡ run.entries
-unfolding with_calls
-calls-entries round run = refl
 
 -- what is told before the turn, with the late entries of the round still to come, is what the turn finds
 pub report_found : (s : Session) (marks : Marks) (W : ℕ → Type 0) (frames : List Frame) (p : Playing) (run : Run) (round : RoundSeen) (place : ℕ) (e : Turn) (r : Report) → AreNumbered run → AreFormed frames place (late_of run round)

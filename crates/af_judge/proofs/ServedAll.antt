@@ -1,8 +1,7 @@
 -- The tracks served so far, one after the other.
-use Rattle.std.proofs.Common.{◌≡◌, ◌↔◌, ℕ, suc, ◌+◌, ◌<◌, Bool, true, false, IsTrue, nat_lt, refl, sym, ap, ◌∙◌, subst, List, length, map, arith}
+use Rattle.std.proofs.Common.{◌≡◌, ◌↔◌, ℕ, suc, ◌<◌, Bool, IsTrue, sym, ap, ◌∙◌, subst, List, length, map, arith}
 use Rattle.std.specs.Prelude.{slice_set, slice_index_or}
 use Rattle.std.proofs.lemmas.List as lists
-use Rattle.std.proofs.lemmas.Bool.Decides.{nat_tests}
 use Rattle.af_base.specs.declared.turn.CommandLook.{CommandLook}
 use Rattle.af_base.specs.declared.turn.TrackTurn.{TrackTurn}
 use Rattle.af_base.specs.Turn.{TrackSeen, track_seen}
@@ -18,14 +17,6 @@ seen_is turns i t there is = lists.get_or-map track_seen turns i t nothing_seen 
 -- how many looks a turn made at the track of a number
 pub looks_are : (turns : List TrackTurn) (i : ℕ) (t : TrackTurn) (looks : List CommandLook) → i < length turns → t ≡ slice_index_or turns i t → looks ≡ t.looks.items → length looks ≡ length (seen_at (map track_seen turns) i).looks
 looks_are turns i t looks there is of = ap (λ (ls : List CommandLook). length ls) of ∙ sym (ap (λ (x : TrackSeen). length x.looks) (seen_is turns i t there is))
-
--- what holds of those before the next one and of that one holds of all up to it
-pub one_more : (P : ℕ → Type 0) (i : ℕ) → ((j : ℕ) → j < i → P j) → P i → (j : ℕ) → j < i + 1 → P j
-one_more P i all p j lt = by_case (nat_lt j i) refl
-  where
-    by_case : (b : Bool) → nat_lt j i ≡ b → P j
-    by_case true is = all j (grind (arith, nat_tests, is))
-    by_case false is = let same : i ≡ j = grind (arith, nat_tests, is, lt) in subst P same p
 
 -- `now` are the tracks once the first ones were served
 module _ (c : Setup) (k : Learnt) (seen : List TrackSeen) (tracks now : List TrackKept) (i : ℕ) (so_far : now ≡ served_to c k seen tracks i) where

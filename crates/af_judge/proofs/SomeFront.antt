@@ -1,16 +1,17 @@
 -- A look that answers right by some front answers right by the one that its answer gives.
 use Rattle.std.proofs.Common.{◌≡◌, ◌↔◌, IsTrue, ℕ, ◌+◌, ◌-◌, ◌%◌, ◌<◌, ◌≤◌, ◌^◌, ◌==◌, ◌&&◌, ◌||◌, not, nat_lt, min, Bool, true, false, if◌then◌else◌, MatchOption, Option, Some, None, refl, sym, ap, ◌∙◌, subst, arith, eqb-true, ne_eqb, mod-lt}
 use Rattle.std.proofs.lemmas.Bool.{eqb-false}
-use Rattle.std.proofs.lemmas.Bool.Decides.{nat_tests}
+use Rattle.af_base.proofs.Basics.{and_true, is_not_below, not_below_is, or_true}
 use Rattle.af_base.specs.declared.log.SlotEntry.{SlotEntry}
 use Rattle.af_base.specs.declared.seen.Seen.{Seen}
 use Rattle.af_base.specs.declared.seen.Seen.TheVariants as seen
+use Rattle.af_judge.proofs.Basics.{ahead_word, ahead_wrapped}
+use Rattle.af_model.proofs.Basics.{both_first}
 use Rattle.af_model.specs.declared.shape.Shape.{Shape}
 use Rattle.af_model.specs.Cycles.{IsSeen, Listed, LooksBy, kept}
 use Rattle.af_model.specs.Point.{wrapped}
 use Rattle.af_model.specs.Room.{ahead}
 use Rattle.af_model.specs.ServerCalls.{dropped_by, flush_position, is_noticed, look_at, past_front}
-use Rattle.af_model.proofs.Logic.{nat_lt-no, both_left}
 use Rattle.af_judge.specs.Servers.{LooksRightly, front_judged}
 use Rattle.af_runs.specs.Fronts.{behind, flushed_front, front_by_answer}
 
@@ -24,14 +25,8 @@ ahead-behind to count word few = omega arith
 behind-ahead : (front to : ℕ) → to < 2 ^ 32 → behind to (ahead front to) ≡ wrapped front
 behind-ahead front to word = omega arith
 
-ahead-wrapped : (front to : ℕ) → ahead (wrapped front) to ≡ ahead front to
-ahead-wrapped front to = omega arith
-
 ahead-same : (to : ℕ) → to < 2 ^ 32 → ahead to to ≡ 0
 ahead-same to word = omega arith
-
-ahead-word : (front to : ℕ) → ahead front to < 2 ^ 32
-ahead-word front to = omega arith
 
 word-of : (n : ℕ) → wrapped n < 2 ^ 32
 word-of n = omega arith
@@ -46,9 +41,6 @@ past-before rear x word few = grind arith
 -- a place in a wrap
 place-few : (x wrap : ℕ) → wrap ≤ 2 ^ 31 → (wrap ≡ 0 → ⊥) → x % wrap < 2 ^ 31
 place-few x wrap few some = let r : x % wrap < wrap = mod-lt x (let e = some in omega (arith, e)) in omega (arith, r, few)
-
-not-below : (a b : ℕ) → nat_lt a b ≡ false → b ≤ a
-not-below a b h = grind (arith, nat_tests)
 
 -- ## The looks
 
@@ -79,7 +71,7 @@ flat-flush k kept asked flush rear front word flat noticed =
     let d : dropped_by k.wrap flush rear front ≡ ahead front rear = ap (λ (b : Bool). if b then ahead front rear else past_front front (flush_position k.wrap flush rear)) flat in
     let front_is : flushed_front k.wrap flush rear (dropped_by k.wrap flush rear front) ≡ other =
     ap (λ (b : Bool). if b then behind rear (dropped_by k.wrap flush rear front) else if dropped_by k.wrap flush rear front == 0 then rear else behind (flush_position k.wrap flush rear) (dropped_by k.wrap flush rear front)) flat ∙ ap (behind rear) d in
-    let near : ahead other rear ≡ ahead front rear = ahead-behind rear (ahead front rear) word (ahead-word front rear) in
+    let near : ahead other rear ≡ ahead front rear = ahead-behind rear (ahead front rear) word (ahead_word front rear) in
     let dropped : dropped_by k.wrap flush rear other ≡ dropped_by k.wrap flush rear front =
     ap (λ (b : Bool). if b then ahead other rear else past_front other (flush_position k.wrap flush rear)) flat ∙ (near ∙ sym d) in
     ap (look_at k kept asked flush rear) front_is ∙ flushes-so k kept asked flush rear other (dropped_by k.wrap flush rear front) (noticed-same k (not (flush == kept)) rear front other near ∙ noticed) dropped
@@ -88,13 +80,10 @@ past-by : (b : Bool) (x : ℕ) → ((if b then x else 0) ≡ 0 → ⊥) → (if 
 past-by true x some = refl
 past-by false x some = absurd (some refl)
 
-and-new : (new b : Bool) → (new && b) ≡ true → new ≡ true
-and-new new b h = both_left new b h
-
 -- a look at a block whose flush words carry positions, if nothing is dropped
 none-dropped : (k : Shape) (kept asked flush rear : ℕ) → rear < 2 ^ 32 → ahead flush rear % k.wrap < 2 ^ 31 → (k.wrap == 0) ≡ false → not (flush == kept) ≡ true → look_at k kept asked flush rear rear ≡ seen.Flushed 0
 none-dropped k kept asked flush rear word few placed new =
-    let inside : nat_lt k.frames (ahead rear rear) ≡ false = ap (nat_lt k.frames) (ahead-same rear word) ∙ nat_lt-no k.frames 0 (omega arith) in
+    let inside : nat_lt k.frames (ahead rear rear) ≡ false = ap (nat_lt k.frames) (ahead-same rear word) ∙ is_not_below k.frames 0 (omega arith) in
     let noticed : is_noticed k (not (flush == kept)) rear rear ≡ true = ap (λ (b : Bool × Bool × Bool). b.0 && (b.1 || not b.2)) (λ i. (new i, placed i, inside i)) in
     let dropped : dropped_by k.wrap flush rear rear ≡ 0 =
     ap (λ (b : Bool). if b then ahead rear rear else past_front rear (flush_position k.wrap flush rear)) placed ∙ past-before rear (ahead flush rear % k.wrap) word few in
@@ -107,15 +96,15 @@ some-dropped k kept asked flush rear front placed noticed some =
     let to = flush_position k.wrap flush rear in
     let far : past_front front to ≡ ahead front to = past-by (nat_lt (ahead front to) (2 ^ 31)) (ahead front to) some in
     let front_is : behind to (past_front front to) ≡ wrapped front = ap (behind to) far ∙ behind-ahead front to (position-word k.wrap flush rear) in
-    let near : is_noticed k (not (flush == kept)) rear (wrapped front) ≡ true = noticed-same k (not (flush == kept)) rear front (wrapped front) (ahead-wrapped front rear) ∙ noticed in
+    let near : is_noticed k (not (flush == kept)) rear (wrapped front) ≡ true = noticed-same k (not (flush == kept)) rear front (wrapped front) (ahead_wrapped front rear) ∙ noticed in
     let dropped : dropped_by k.wrap flush rear (wrapped front) ≡ past_front front to =
-    ap (λ (b : Bool). if b then ahead (wrapped front) rear else past_front (wrapped front) to) placed ∙ ap (λ (n : ℕ). if nat_lt n (2 ^ 31) then n else 0) (ahead-wrapped front to) in
+    ap (λ (b : Bool). if b then ahead (wrapped front) rear else past_front (wrapped front) to) placed ∙ ap (λ (n : ℕ). if nat_lt n (2 ^ 31) then n else 0) (ahead_wrapped front to) in
     ap (look_at k kept asked flush rear) front_is ∙ flushes-so k kept asked flush rear (wrapped front) (past_front front to) near dropped
 
 placed-by : (none : Bool) (k : Shape) (kept asked flush rear front dropped : ℕ) → (dropped == 0) ≡ none → dropped ≡ past_front front (flush_position k.wrap flush rear) → rear < 2 ^ 32 → ahead flush rear % k.wrap < 2 ^ 31 → (k.wrap == 0) ≡ false
     → is_noticed k (not (flush == kept)) rear front ≡ true → look_at k kept asked flush rear (if none then rear else behind (flush_position k.wrap flush rear) dropped) ≡ seen.Flushed dropped
 placed-by true k kept asked flush rear front dropped none is word few placed noticed =
-    none-dropped k kept asked flush rear word few placed (both_left (not (flush == kept)) (k.wrap == 0 || not (nat_lt k.frames (ahead front rear))) noticed) ∙ ap seen.Flushed (sym (eqb-true dropped 0 none))
+    none-dropped k kept asked flush rear word few placed (both_first (not (flush == kept)) (k.wrap == 0 || not (nat_lt k.frames (ahead front rear))) noticed) ∙ ap seen.Flushed (sym (eqb-true dropped 0 none))
 placed-by false k kept asked flush rear front dropped none is word few placed noticed =
     let P : ℕ → Type 0 = λ d. look_at k kept asked flush rear (behind (flush_position k.wrap flush rear) d) ≡ seen.Flushed d in
     subst P (sym is) (some-dropped k kept asked flush rear front placed noticed (λ zero. eqb-false dropped 0 none (is ∙ zero)))
@@ -134,14 +123,6 @@ flush-by : (flat : Bool) (k : Shape) (kept asked flush rear front : ℕ) → rea
 flush-by true k kept asked flush rear front word few flat noticed = flat-flush k kept asked flush rear front word flat noticed
 flush-by false k kept asked flush rear front word few flat noticed = placed-flush k kept asked flush rear front word (few flat) flat noticed
 
-or-true : (b : Bool) → (b || true) ≡ true
-or-true true = refl
-or-true false = refl
-
-and-true : (b : Bool) → (b && true) ≡ b
-and-true true = refl
-and-true false = refl
-
 -- a look that shows frames does so by the front that lies so many before the rear
 frames-again : (k : Shape) (kept asked flush rear front : ℕ) → rear < 2 ^ 32 → is_noticed k (not (flush == kept)) rear front ≡ false → nat_lt k.frames (ahead front rear) ≡ false → 1 ≤ min asked (ahead front rear)
     → look_at k kept asked flush rear (behind rear (min asked (ahead front rear))) ≡ seen.Frames (min asked (ahead front rear))
@@ -149,12 +130,12 @@ frames-again k kept asked flush rear front word noticed out some =
     let new = not (flush == kept) in
     let count = min asked (ahead front rear) in
     let other = behind rear count in
-    let near : ahead other rear ≡ count = ahead-behind rear count word (let a = ahead-word front rear in omega (arith, a)) in
+    let near : ahead other rear ≡ count = ahead-behind rear count word (let a = ahead_word front rear in omega (arith, a)) in
     let old : new ≡ false =
-    sym (and-true new) ∙ (ap (λ (b : Bool). new && b) (sym (or-true (k.wrap == 0))) ∙ (ap (λ (b : Bool). new && (k.wrap == 0 || not b)) (sym out) ∙ noticed)) in
+    sym (and_true new) ∙ (ap (λ (b : Bool). new && b) (sym (or_true (k.wrap == 0))) ∙ (ap (λ (b : Bool). new && (k.wrap == 0 || not b)) (sym out) ∙ noticed)) in
     let unnoticed : is_noticed k new rear other ≡ false = ap (λ (b : Bool). b && (k.wrap == 0 || not (nat_lt k.frames (ahead other rear)))) old in
-    let fits : ahead front rear ≤ k.frames = not-below k.frames (ahead front rear) out in
-    let inside : nat_lt k.frames (ahead other rear) ≡ false = nat_lt-no k.frames (ahead other rear) (let n = near in omega (arith, n, fits)) in
+    let fits : ahead front rear ≤ k.frames = not_below_is k.frames (ahead front rear) out in
+    let inside : nat_lt k.frames (ahead other rear) ≡ false = is_not_below k.frames (ahead other rear) (let n = near in omega (arith, n, fits)) in
     let apart : (rear == other) ≡ false = ne_eqb rear other (λ same. let z : ahead other rear ≡ 0 = ap (λ (n : ℕ). ahead n rear) (sym same) ∙ ahead-same rear word in omega (arith, z, near, some)) in
     frames-so k kept asked flush rear other count unnoticed inside apart (ap (min asked) near ∙ (let e : min asked count ≡ count = omega arith in e))
 

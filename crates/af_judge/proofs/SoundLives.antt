@@ -1,8 +1,10 @@
 -- What a track's part of a turn changes of its life and of its slot.
-use Rattle.std.proofs.Common.{◌≡◌, ℕ, ◌==◌, ◌&&◌, ◌⊎◌, not, Bool, true, false, if◌then◌else◌, true≢false, is_some, sym, refl, ap, ◌∙◌, inl, inr, List, [], ◌∷◌, Option, arith}
+use Rattle.std.proofs.Common.{◌≡◌, ℕ, ◌==◌, ◌⊎◌, Bool, true, false, if◌then◌else◌, true≢false, is_some, sym, refl, ap, ◌∙◌, inl, inr, List, [], ◌∷◌, Option}
 use Rattle.std.specs.List.{AllByRecursion}
+use Rattle.af_base.proofs.Basics.{equal_turned, never_true, no}
 use Rattle.af_base.specs.declared.report.SlotReport.{SlotReport}
 use Rattle.af_base.specs.declared.turn.CommandLook.{CommandLook}
+use Rattle.af_life.proofs.Basics.{all_three, picks}
 use Rattle.af_life.specs.declared.state.LifeState.TheVariants.{Absent}
 use Rattle.af_life.specs.declared.track.Known.{Known}
 use Rattle.af_life.specs.declared.track.Life.{Life}
@@ -26,9 +28,6 @@ is_absent l = is_among (Absent ∷ []) l.state
 pub record Grew (l t : Life) : Type 0 where
   pub ended : l.ended ≡ true → t.ended ≡ true
   pub absent : is_absent t ≡ true → is_absent l ≡ true
-
-no : {A : Type 0} → false ≡ true → A
-no h = absurd (true≢false (sym h))
 
 same : (l : Life) → Grew l l
 same l = record { ended = (λ h. h); absent = (λ h. h) }
@@ -105,26 +104,11 @@ grew_report known l = by_case reports known l (
   ),
 )
 
-all_three : (b c d : Bool) → (b && (not c && d)) ≡ true → (b ≡ true) × (c ≡ false) × (d ≡ true)
-all_three true false true e = (refl, refl, refl)
-all_three true false false e = no e
-all_three true true d e = no e
-all_three false c d e = no e
-
-picks : (b c d : Bool) (l x y : Life) → b ≡ false → c ≡ true → d ≡ true → (if b then l else if c && (d && true) then x else y) ≡ x
-picks true c d l x y e f g = absurd (true≢false e)
-picks false false d l x y e f g = no f
-picks false true false l x y e f g = no g
-picks false true true l x y e f g = refl
-
-turned : (n k : ℕ) → (n == k) ≡ true → (k == n) ≡ true
-turned n k e = grind arith
-
 -- an OPEN of a life that is not there yet: it is there then
 pub opened : (code argument : ℕ) (l : Life) → opens code l ≡ true → (is_absent l ≡ true) × (is_absent (by_command code argument l) ≡ false)
 unfolding by_command
 opened code argument l e = let parts = all_three (code == 1) l.ended (is_absent l) e in
-    (parts.2, ap is_absent (picks l.ended (1 == code) (is_absent l) l _ _ parts.1 (turned code 1 parts.0) parts.2))
+    (parts.2, ap is_absent (picks l.ended (1 == code) (is_absent l) l _ _ parts.1 (equal_turned code 1 parts.0) parts.2))
 
 -- ## Tracks
 
@@ -142,10 +126,6 @@ pub record Goes (given : Option ℕ) (s t : TrackKept) : Type 0 where
   pub generation : t.generation ≡ s.generation
   pub life : Grew s.life t.life
   pub slot : (t.slot ≡ s.slot) ⊎ IsGiven given s t
-
-false_by : (b : Bool) → (b ≡ true → ⊥) → b ≡ false
-false_by true f = absurd (f refl)
-false_by false f = refl
 
 module _ (given : Option ℕ) where
   pub still_unopened : (s t : TrackKept) → Goes given s t → Unopened s → Unopened t
@@ -168,7 +148,7 @@ module _ (given : Option ℕ) where
         | inr j ↦ inr (ap is_some (sym e) ∙ j.0, j.1, j.2)
       ]
       | inr i ↦ elim h.slot as (λ x. (u.slot ≡ s.slot) ⊎ IsGiven given s u) [
-        | inl f ↦ inr (i.0, f ∙ i.1, false_by (is_absent u.life) (λ a. true≢false (sym (h.life.absent a) ∙ i.2)))
+        | inl f ↦ inr (i.0, f ∙ i.1, never_true (is_absent u.life) (λ a. true≢false (sym (h.life.absent a) ∙ i.2)))
         | inr j ↦ inr (i.0, j.1, j.2)
       ]
     ];

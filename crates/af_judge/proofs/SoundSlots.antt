@@ -1,10 +1,13 @@
 -- Serving the tracks keeps what holds of their slots.
-use Rattle.std.proofs.Common.{◌≡◌, ℕ, zero, suc, ◌+◌, ◌<◌, ◌≤◌, ◌==◌, ◌&&◌, ◌||◌, ◌⊎◌, not, Bool, true, false, if◌then◌else◌, true≢false, is_some, sym, refl, ap, subst, ◌∙◌, inl, inr, List, [], ◌∷◌, Option, Some, None, arith}
+use Rattle.std.proofs.Common.{◌≡◌, ℕ, zero, suc, ◌+◌, ◌<◌, ◌≤◌, ◌&&◌, ◌⊎◌, not, Bool, true, false, if◌then◌else◌, true≢false, is_some, sym, refl, ap, subst, ◌∙◌, inl, inr, List, Option, Some, None, arith}
 use Rattle.std.specs.Prelude.{slice_set}
 use Rattle.std.specs.List.{find, list_any, range_with_len}
+use Rattle.af_base.proofs.Basics.{no}
 use Rattle.af_base.specs.declared.state.FastState.{FastState}
 use Rattle.af_base.specs.Log.{slots}
 use Rattle.af_base.specs.Turn.{TrackSeen}
+use Rattle.af_life.proofs.Basics.{at_set, has_slot, none_holds, not_ended, set_each, slot_is}
+use Rattle.af_model.proofs.Basics.{not_true}
 use Rattle.af_model.specs.StateQueue.{carries, slot_of}
 use Rattle.af_life.specs.declared.kept.Holder.{Holder}
 use Rattle.af_life.specs.declared.kept.Holder.TheVariants.{Home, Lent, Returning}
@@ -15,14 +18,7 @@ use Rattle.af_life.specs.Serves.{served, served_to}
 use Rattle.af_life.specs.Sound.{IsSlotted, IsDrafted, AreAlone, IsSound}
 use Rattle.af_judge.proofs.SoundLives.{Goes, goes_served}
 
-no : {A : Type 0} → false ≡ true → A
-no h = absurd (true≢false (sym h))
-
 -- ## A free slot
-
-or_false : (a b : Bool) → (a || b) ≡ false → (a ≡ false) × (b ≡ false)
-or_false true b e = absurd (true≢false e)
-or_false false b e = (refl, e)
 
 abbrev Found : (ℕ → Bool) → ℕ → ℕ → ℕ → Type 0
 Found p a n k = (p k ≡ true) × (a ≤ k) × (k < a + n)
@@ -35,18 +31,6 @@ found p a (suc n) k e = by_first (p a) refl (found p (a + 1) n k) e
     by_first true is later f = let same : a ≡ k = ap number_of f in (subst (λ (j : ℕ). p j ≡ true) same is, omega arith, omega arith)
     by_first false is later f = let more = later f in (more.0, (let l = more.1 in omega arith), (let l = more.2 in omega arith))
 
-none_holds : (k : ℕ) (tracks : List TrackKept) → list_any (holds k) tracks ≡ false → (j : ℕ) → holds k (track_at tracks j) ≡ false
-none_holds k [] e j = refl
-none_holds k (s ∷ tracks) e zero = neither.0
-  where
-    neither : (holds k s ≡ false) × (list_any (holds k) tracks ≡ false)
-    neither = or_false (holds k s) (list_any (holds k) tracks) e
-none_holds k (s ∷ tracks) e (suc j) = none_holds k tracks (or_false (holds k s) (list_any (holds k) tracks) e).1 j
-
-not_true : (b : Bool) → not b ≡ true → b ≡ false
-not_true true e = no e
-not_true false e = refl
-
 -- the slot that an OPEN gives is one for tracks, and no track has it
 pub given_free : (c : Setup) (tracks : List TrackKept) (i k : ℕ) → slot_for c tracks i ≡ Some k → (1 ≤ k) × (k < slots) × ((j : ℕ) → holds k (track_at tracks j) ≡ false)
 given_free c tracks i k e = by_fast (setting_of c i).fast e
@@ -57,24 +41,6 @@ given_free c tracks i k e = by_fast (setting_of c i).fast e
     by_fast false f = no (ap is_some f)
 
 -- ## One track is replaced
-
--- a track that is set stands at its place, and the others are as they were
-pub at_set : (tracks : List TrackKept) (i : ℕ) (s : TrackKept) (j : ℕ) → ((j ≡ i) × (track_at (slice_set tracks i s) j ≡ s)) ⊎ (track_at (slice_set tracks i s) j ≡ track_at tracks j)
-at_set [] i s j = inr refl
-at_set (t ∷ tracks) zero s zero = inl (refl, refl)
-at_set (t ∷ tracks) zero s (suc j) = inr refl
-at_set (t ∷ tracks) (suc i) s zero = inr refl
-at_set (t ∷ tracks) (suc i) s (suc j) = elim (at_set tracks i s j) as (λ x. ((suc j ≡ suc i) × (track_at (slice_set tracks i s) j ≡ s)) ⊎ (track_at (slice_set tracks i s) j ≡ track_at tracks j)) [
-  | inl p ↦ inl (ap suc p.0, p.1)
-  | inr q ↦ inr q
-]
-
--- a fact of each track by its number
-pub set_each : (P : ℕ → TrackKept → Type 0) (tracks : List TrackKept) (i : ℕ) (s : TrackKept) → P i s → ((j : ℕ) → P j (track_at tracks j)) → (j : ℕ) → P j (track_at (slice_set tracks i s) j)
-set_each P tracks i s here all j = elim (at_set tracks i s j) as (λ x. P j (track_at (slice_set tracks i s) j)) [
-  | inl p ↦ subst (P j) (sym p.1) (subst (λ (n : ℕ). P n s) (sym p.0) here)
-  | inr q ↦ subst (P j) (sym q) (all j)
-]
 
 -- the track has no slot but one that it had, or that no track had
 abbrev pub TakesNone : List TrackKept → ℕ → TrackKept → Type 0
@@ -99,53 +65,7 @@ alone_set tracks i s alone new a b k ha hb = elim (at_set tracks i s a) as (λ x
       | inr f ↦ no (sym (f j) ∙ there)
     ]
 
--- ## Who has a slot
-
-eq_of : (n k : ℕ) → (n == k) ≡ true → n ≡ k
-eq_of n k e = grind arith
-
-is_eq : (n k : ℕ) → n ≡ k → (n == k) ≡ true
-is_eq n k e = grind arith
-
-three : (a b c : Bool) → (a && b && not c) ≡ true → (a ≡ true) × (b ≡ true) × (c ≡ false)
-three true true false e = (refl, refl, refl)
-three true true true e = no e
-three true false c e = no e
-three false b c e = no e
-
-all_of : (a b c : Bool) → a ≡ true → b ≡ true → c ≡ false → (a && b && not c) ≡ true
-all_of true true false e f g = refl
-all_of true true true e f g = absurd (true≢false g)
-all_of true false c e f g = no f
-all_of false b c e f g = no e
-
-pub has_slot : (k : ℕ) (s : TrackKept) → holds k s ≡ true → (is_some s.slot ≡ true) × (slot_number s ≡ k) × ((s.life.ended && is_home s.holder) ≡ false)
-has_slot k s h = let parts = three (is_some s.slot) (slot_number s == k) (s.life.ended && is_home s.holder) h in (parts.0, eq_of (slot_number s) k parts.1, parts.2)
-
-pub slot_is : (k : ℕ) (s : TrackKept) → is_some s.slot ≡ true → slot_number s ≡ k → (s.life.ended && is_home s.holder) ≡ false → holds k s ≡ true
-slot_is k s some number here = all_of (is_some s.slot) (slot_number s == k) (s.life.ended && is_home s.holder) some (is_eq (slot_number s) k number) here
-
-both_false : (a b : Bool) → b ≡ false → (a && b) ≡ false
-both_false true b e = e
-both_false false b e = refl
-
-some_by : (b : Bool) → (b ≡ false → ⊥) → b ≡ true
-some_by true f = refl
-some_by false f = absurd (f refl)
-
--- a track that isn't home has a slot
-pub slot_of_away : (s : TrackKept) → IsSlotted s → is_home s.holder ≡ false → is_some s.slot ≡ true
-slot_of_away s slotted away = some_by (is_some s.slot) (λ none. true≢false (sym (slotted.homely none) ∙ away))
-
-pub away_holds : (s : TrackKept) → IsSlotted s → is_home s.holder ≡ false → holds (slot_number s) s ≡ true
-away_holds s slotted away = slot_is (slot_number s) s (slot_of_away s slotted away) refl (both_false s.life.ended (is_home s.holder) away)
-
 -- ## Serving
-
-not_ended : (b e h : Bool) → (e ≡ true → b ≡ true) → (b && h) ≡ false → (e && h) ≡ false
-not_ended b false h f g = refl
-not_ended true true h f g = g
-not_ended false true h f g = no (f refl)
 
 module _ (c : Setup) (tracks : List TrackKept) (i : ℕ) (s t : TrackKept) (is : track_at tracks i ≡ s) (goes : Goes (slot_for c tracks i) s t) where
   -- whoever holds a slot then held it before, or it was free

@@ -1,10 +1,12 @@
 -- A turn of the plain mixer keeps what holds of its slots and its draft, whatever it saw.
-use Rattle.std.proofs.Common.{◌≡◌, ℕ, zero, suc, ◌<◌, ◌≤◌, ◌&&◌, Bool, true, false, if◌then◌else◌, true≢false, sym, refl, ap, subst, ◌∙◌, List, [], ◌∷◌, length, map, fold, inl, replicate, All, arith}
+use Rattle.std.proofs.Common.{◌≡◌, ℕ, zero, suc, ◌≤◌, Bool, true, false, if◌then◌else◌, true≢false, sym, refl, ap, subst, ◌∙◌, List, [], ◌∷◌, length, fold, inl, replicate, All, arith}
+use Rattle.af_base.proofs.Basics.{and_none, no}
 use Rattle.af_base.specs.declared.state.Command.{Command}
 use Rattle.af_base.specs.declared.state.FastState.{FastState}
 use Rattle.af_base.specs.declared.state.Push.{Push}
 use Rattle.af_base.specs.declared.state.Push.TheVariants.{Pushed, Clean, Busy}
 use Rattle.af_base.specs.Turn.{Turn}
+use Rattle.af_life.proofs.Basics.{at_new, either, has_slot, returning_away, scale_fits, set_each, slot_is, sound_ordered, welcomed_at}
 use Rattle.af_life.specs.declared.kept.Holder.TheVariants.{Home}
 use Rattle.af_life.specs.declared.kept.Setting.{Setting}
 use Rattle.af_life.specs.declared.kept.TrackKept.{TrackKept}
@@ -14,40 +16,19 @@ use Rattle.af_life.specs.Edits.{comes_home, welcomed, after_ack, must_leave, mus
 use Rattle.af_life.specs.Plays.{after_takes}
 use Rattle.af_life.specs.Sound.{IsSlotted, IsDrafted, IsSound}
 use Rattle.af_life.specs.Turn.{after_tracks, after_edits, turn_after}
-use Rattle.af_model.specs.Draft.{initial, commanded as with_command}
+use Rattle.af_model.proofs.Basics.{both_first}
+use Rattle.af_model.specs.Draft.{initial}
 use Rattle.af_model.specs.StateQueue.{IsState}
 use Rattle.af_base.specs.Turn.{TakeSeen}
-use Rattle.std.proofs.lemmas.List.Elements.{All-get_or}
 use Rattle.af_life.specs.Plays.{after_take, counted}
-use Rattle.af_life.specs.Kept.{new_track, setting_of}
+use Rattle.af_life.specs.Kept.{new_track}
 use Rattle.af_judge.proofs.DraftBits.{initial_state}
-use Rattle.af_judge.proofs.SoundSlots.{alone_set, set_each}
+use Rattle.af_judge.proofs.SoundSlots.{alone_set}
 use Rattle.af_life.proofs.Lives.{acked_len, served_len, edits_len}
-use Rattle.af_judge.proofs.SoundEdits.{returning_away, comer_inside, sound_go, sound_lend}
-use Rattle.af_judge.proofs.SoundSlots.{has_slot, slot_is, sound_served}
-
-no : {A : Type 0} → false ≡ true → A
-no h = absurd (true≢false (sym h))
+use Rattle.af_judge.proofs.SoundEdits.{comer_inside, sound_go, sound_lend}
+use Rattle.af_judge.proofs.SoundSlots.{sound_served}
 
 -- ## What comes home
-
-pub welcomed_at : (last : FastState) (tracks : List TrackKept) (i : ℕ) → track_at (map (welcomed last) tracks) i ≡ welcomed last (track_at tracks i)
-unfolding welcomed
-welcomed_at last [] i = refl
-welcomed_at last (s ∷ tracks) zero = refl
-welcomed_at last (s ∷ tracks) (suc i) = welcomed_at last tracks i
-
-either : (P : TrackKept → Type 0) (b : Bool) (s t : TrackKept) → (b ≡ true → P s) → P t → P (if b then s else t)
-either P true s t f p = f refl
-either P false s t f p = p
-
-first : (a b : Bool) → (a && b) ≡ true → a ≡ true
-first true b e = refl
-first false b e = no e
-
-both_false : (a b : Bool) → b ≡ false → (a && b) ≡ false
-both_false true b e = e
-both_false false b e = refl
 
 module _ (last draft : FastState) (i : ℕ) (s : TrackKept) where
   welcomed_slotted : IsSlotted s → IsSlotted (welcomed last s)
@@ -62,7 +43,7 @@ module _ (last draft : FastState) (i : ℕ) (s : TrackKept) where
   unfolding welcomed
   welcomed_holds k = either (λ t. holds k t ≡ true → holds k s ≡ true) (comes_home last s) (record s { holder = Home }) s
       (λ e h. let parts = has_slot k (record s { holder = Home }) h in
-      slot_is k s parts.0 parts.1 (both_false s.life.ended (is_home s.holder) (returning_away s.holder (first (is_returning s.holder) _ e))))
+      slot_is k s parts.0 parts.1 (and_none s.life.ended (is_home s.holder) (returning_away s.holder (both_first (is_returning s.holder) _ e))))
       (λ h. h)
 
 pub sound_acked : (ack : Bool) (m : NormalKept) → IsSound m.tracks m.draft → IsSound (after_ack ack m).tracks (after_ack ack m).draft
@@ -74,18 +55,6 @@ sound_acked true m h = record {
       (welcomed_holds m.last m.draft i (track_at m.tracks i) k (sym (ap (holds k) (welcomed_at m.last m.tracks i)) ∙ a))
       (welcomed_holds m.last m.draft j (track_at m.tracks j) k (sym (ap (holds k) (welcomed_at m.last m.tracks j)) ∙ b)));
   state = h.state;
-}
-
-pub scale_fits : (c : Setup) (i : ℕ) → All (λ (s : Setting). s.scale ≤ 4096) c.settings → i < length c.settings → (setting_of c i).scale ≤ 4096
-scale_fits c i all lt = All-get_or (λ (s : Setting). s.scale ≤ 4096) c.settings i (record { fast = false; mono = false; scale = 0 }) lt all
-
--- a draft with another command carries the same tracks
-pub sound_ordered : (tracks : List TrackKept) (draft : FastState) (command : Command) → IsSound tracks draft → IsSound tracks (with_command command draft)
-sound_ordered tracks draft command h = record {
-  slotted = h.slotted;
-  drafted = (λ i. record { lent = (h.drafted i).lent; returning = (h.drafted i).returning; own = (h.drafted i).own });
-  alone = h.alone;
-  state = record { whole = h.state.whole; submix = h.state.submix; scaled = h.state.scaled };
 }
 
 -- ## The looks that count
@@ -155,12 +124,7 @@ module _ (c : Setup) (scales : All (λ (s : Setting). s.scale ≤ 4096) c.settin
   unfolding turn_after
   sound_turn m e few h = by_bool e.ended (record m { ended = true }) _ (λ f. h) (λ f. goes_sound m e few h)
 
--- ## Before the first turn
-
-pub at_new : (n i : ℕ) → track_at (replicate n new_track) i ≡ new_track
-at_new zero i = refl
-at_new (suc n) zero = refl
-at_new (suc n) (suc i) = at_new n i
+-- ## Before the both_first turn
 
 pub new_sound : (n frames : ℕ) (draft : FastState) → draft ≡ initial frames → IsSound (replicate n new_track) draft
 new_sound n frames draft e = record {
@@ -170,6 +134,6 @@ new_sound n frames draft e = record {
   state = subst IsState (sym e) (initial_state frames);
 }
 
--- the mixer is sound before the first turn
+-- the mixer is sound before the both_first turn
 pub sound_new : (c : Setup) → Sound (new_normal c)
 sound_new c = new_sound (length c.settings) c.frames (new_normal c).draft refl

@@ -1,17 +1,20 @@
 -- The states that a normal mixer of a run pushed fit, whatever it did.
-use Rattle.std.proofs.Common.{◌≡◌, ℕ, zero, suc, ◌+◌, ◌<◌, ◌≤◌, true, false, if◌then◌else◌, true≢false, sym, refl, ap, subst, ◌∙◌, inl, inr, List, [], ◌∷◌, ◌++◌, length, All, append-nil, ⊎_elim, Option, Some, unwrap_or, arith}
+use Rattle.std.proofs.Common.{◌≡◌, ℕ, zero, suc, ◌+◌, ◌<◌, ◌≤◌, false, if◌then◌else◌, sym, refl, ap, subst, ◌∙◌, inl, inr, List, [], ◌∷◌, ◌++◌, length, All, append-nil, ⊎_elim, Option, Some, unwrap_or, arith}
 use Rattle.std.proofs.lemmas.Bool.{cases_eq, cases_lt}
 use Rattle.std.proofs.lemmas.List.{length-append, length-map, length-replicate}
+use Rattle.af_base.proofs.Basics.{no}
 use Rattle.af_base.specs.declared.state.FastState.{FastState}
 use Rattle.af_base.specs.declared.state.Push.{Push}
 use Rattle.af_base.specs.declared.state.Push.TheVariants.{Pushed, Clean, Busy}
 use Rattle.af_base.specs.Turn.{Turn}
+use Rattle.af_life.proofs.Basics.{takes_len}
 use Rattle.af_life.specs.declared.kept.Setting.{Setting}
 use Rattle.af_life.specs.Edits.{after_push}
 use Rattle.af_life.specs.Kept.{Learnt, NormalKept, Setup, asked, new_normal, new_track}
 use Rattle.af_life.specs.Plays.{after_takes}
 use Rattle.af_life.specs.Turn.{after_edits, turn_after}
-use Rattle.af_life.proofs.Lives.{takes_len, turn_len}
+use Rattle.af_life.proofs.Lives.{turn_len}
+use Rattle.af_model.proofs.Basics.{same_before}
 use Rattle.af_model.specs.Cycles.{state_of}
 use Rattle.af_model.specs.Draft.{initial}
 use Rattle.af_model.specs.JournalForm.{IsTurn}
@@ -27,17 +30,7 @@ use Rattle.af_judge.proofs.NormalKept.{goes_on_so, rests_so}
 use Rattle.af_judge.proofs.StatesAt.{state_outside}
 use Rattle.af_judge.proofs.TurnEdits.{turn_changes}
 
-no : {A : Type 0} → false ≡ true → A
-no h = absurd (true≢false (sym h))
-
 -- ## One state more
-
--- the states before it are as they were
-same_before : (xs : List FastState) (x : FastState) (k : ℕ) → k ≤ length xs → state_of (xs ++ x ∷ []) k ≡ state_of xs k
-same_before xs x zero le = refl
-same_before [] x (suc k) le = absurd (let f : ⊥ = omega (arith, le) in f)
-same_before (y ∷ xs) x (suc zero) le = refl
-same_before (y ∷ xs) x (suc (suc k)) le = same_before xs x (suc k) (omega (arith, le))
 
 -- the new state has the next number
 last_there : (xs : List FastState) (x : FastState) → state_of (xs ++ x ∷ []) (suc (length xs)) ≡ Some x

@@ -1,8 +1,9 @@
 -- Words that are taken in runs: those released from a place on.
-use Rattle.std.proofs.Common.{◌≡◌, ℕ, zero, suc, ◌+◌, ◌<◌, ◌≤◌, min, List, [], ◌∷◌, ◌++◌, length, take, drop, All, Option, Some, slice_get, refl, sym, ap, ◌∙◌, subst, arith, append-nil, unwrap_or, length-append, length-drop, length-take-le}
+use Rattle.std.proofs.Common.{◌≡◌, ℕ, zero, suc, ◌+◌, ◌<◌, ◌≤◌, min, List, [], ◌∷◌, ◌++◌, length, take, drop, All, Some, slice_get, refl, sym, ap, ◌∙◌, subst, arith, append-nil, length-append, length-drop, length-take-le}
 use Rattle.std.proofs.lemmas.List.{drop-append-le, take-append-le, take_all}
 use Rattle.std.proofs.lemmas.List.Concat.{flat_map-append}
 use Rattle.std.proofs.lemmas.List.Elements.{All-append, All-cons, All-head, All-nil, All-tail}
+use Rattle.af_base.proofs.Basics.{get_front, same_slot}
 use Rattle.af_judge.specs.declared.words_judge.Run.{Run}
 use Rattle.af_judge.specs.declared.words_judge.Taken.{Taken}
 use Rattle.af_judge.specs.Blocks.{AreWords, IsReleased, IsRunOf, LiesWithin, placed_from, run_words, runs_words}
@@ -10,9 +11,6 @@ use Rattle.af_judge.specs.Servers.{most_counted}
 use Rattle.af_judge.proofs.Placed.{all_ends}
 
 -- ## Lists
-
-some-same : (x w : ℕ) → Some x ≡ Some w → x ≡ w
-some-same x w e = ap (λ (o : Option ℕ). unwrap_or o x) e
 
 abbrev head-of : ℕ → List ℕ → ℕ
 head-of d [] = d
@@ -33,7 +31,7 @@ slice_get-inside (x ∷ xs) (suc n) w is = (let a = slice_get-inside xs n w is i
 
 pub drop-here : (xs : List ℕ) (n w : ℕ) → slice_get xs n ≡ Some w → drop n xs ≡ w ∷ drop (n + 1) xs
 drop-here [] n w is = absurd (let e = is in let x : ⊥ = cc in x)
-drop-here (x ∷ xs) zero w is = ap (λ (y : ℕ). y ∷ xs) (some-same x w is)
+drop-here (x ∷ xs) zero w is = ap (λ (y : ℕ). y ∷ xs) (same_slot x w is)
 drop-here (x ∷ xs) (suc n) w is = drop-here xs n w is ∙ ap (λ (m : ℕ). w ∷ drop m (x ∷ xs)) (let e : suc (n + 1) ≡ suc n + 1 = omega arith in e)
 
 -- a list has an item at each place within it
@@ -54,15 +52,10 @@ released-placed released place (w ∷ words) short within is =
 
 -- ## Words released later
 
-get-more : (xs more : List ℕ) (n w : ℕ) → slice_get xs n ≡ Some w → slice_get (xs ++ more) n ≡ Some w
-get-more [] more n w is = absurd (let e = is in let x : ⊥ = cc in x)
-get-more (x ∷ xs) more zero w is = is
-get-more (x ∷ xs) more (suc n) w is = get-more xs more n w is
-
 released-more : (released more : List ℕ) (taken : List Taken) → All (IsReleased released) taken → All (IsReleased (released ++ more)) taken
 released-more released more [] all = All-nil (IsReleased (released ++ more))
 released-more released more (t ∷ taken) all =
-    All-cons (IsReleased (released ++ more)) t taken (get-more released more t.at t.word (All-head (IsReleased released) t taken all)) (released-more released more taken (All-tail (IsReleased released) t taken all))
+    All-cons (IsReleased (released ++ more)) t taken (get_front released more t.at t.word (All-head (IsReleased released) t taken all)) (released-more released more taken (All-tail (IsReleased released) t taken all))
 
 run-stays : (released more : List ℕ) (r : Run) → LiesWithin released r → run_words (released ++ more) r ≡ run_words released r
 run-stays released more r within =

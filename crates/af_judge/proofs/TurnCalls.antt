@@ -1,10 +1,11 @@
 -- Calls that are made one after the other, and the turn that they are.
-use Rattle.std.proofs.Common.{◌≡◌, inl, inr, ℕ, zero, suc, ◌-◌, ◌<◌, ◌≤◌, ◌||◌, Bool, true, false, MatchBool, fold, List, [], ◌∷◌, ◌++◌, length, take, get_or, None, refl, sym, subst, arith}
+use Rattle.std.proofs.Common.{◌≡◌, inl, inr, ℕ, zero, suc, ◌-◌, ◌<◌, ◌≤◌, Bool, true, false, MatchBool, fold, List, [], ◌∷◌, ◌++◌, length, take, get_or, None, refl, sym, subst, arith}
 use Rattle.std.proofs.lemmas.Grind.{fold-append}
+use Rattle.af_base.proofs.Basics.{or_right}
 use Rattle.af_base.specs.declared.event.ClientCall.{ClientCall}
+use Rattle.af_runs.proofs.Basics.{halted_none}
 use Rattle.af_runs.specs.ClientTurns.{AreCalls, LegalClientTurn, Track, after_call, most_calls, wanted_of}
 use Rattle.af_judge.specs.Tracks.{AreMade, Ends, IsCallOf}
-use Rattle.af_judge.proofs.WantedNext.{halted_none}
 
 -- one call more is made
 pub made_more : (t : Track) (calls : List ClientCall) (answer : ClientCall) → AreMade t calls → IsCallOf (fold after_call t calls) answer → AreMade t (calls ++ answer ∷ [])
@@ -47,12 +48,8 @@ from_calls left t (c ∷ calls) h =
       ends = (elim r.ends [ inl e ↦ inl (let a = h.0 in omega (arith, e, a)) | inr none ↦ inr none ]);
     }
 
-or-true : (a b : Bool) → b ≡ true → (a || b) ≡ true
-or-true true b h = refl
-or-true false b h = h
-
 ended-none : (t : Track) → t.client.ended ≡ true → wanted_of t ≡ None
-ended-none t h = halted_none t.client (or-true t.client.waiting t.client.ended h)
+ended-none t h = halted_none t.client (or_right t.client.waiting t.client.ended h)
 
 none-made : (t : Track) (calls : List ClientCall) → wanted_of t ≡ None → AreMade t calls → calls ≡ []
 none-made t [] none h = refl

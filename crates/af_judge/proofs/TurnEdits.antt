@@ -3,17 +3,18 @@ use Rattle.std.proofs.Common.{◌≡◌, ℕ, zero, suc, ◌+◌, ◌≤◌, ◌
 use Rattle.std.specs.Prelude.{slice_set}
 use Rattle.std.specs.List.{filter, range_with_len}
 use Rattle.std.proofs.lemmas.Bool.Decides.{nat_tests}
+use Rattle.af_base.proofs.Basics.{or_false, or_true}
 use Rattle.af_base.specs.declared.state.Command.{Command}
 use Rattle.af_base.specs.declared.state.Push.{Push}
-use Rattle.af_base.specs.declared.state.Push.TheVariants.{Pushed, Clean, Busy}
 use Rattle.af_base.specs.Command.{code_of}
 use Rattle.af_base.specs.Turn.{Turn, TakeSeen}
+use Rattle.af_judge.proofs.Basics.{push_tracks}
+use Rattle.af_life.proofs.Basics.{takes_len}
 use Rattle.af_life.specs.declared.kept.TrackKept.{TrackKept}
 use Rattle.af_life.specs.Kept.{Setup, NormalKept, Learnt, pipe_size, track_at}
 use Rattle.af_life.specs.Edits.{after_ack, is_exit, must_leave, must_enter, let_go, lend, edited, edited_to, next_command, ordered, mutated, after_push}
 use Rattle.af_life.specs.Plays.{is_mixed_here, mixed_here, after_take}
 use Rattle.af_life.specs.Turn.{after_tracks, after_edits}
-use Rattle.af_life.proofs.Lives.{takes_len}
 use Rattle.af_judge.specs.NormalChanges.{is_edited}
 
 -- the tracks of `x` may have been edited since `m`, but not its command
@@ -27,14 +28,6 @@ record Edits (m x : NormalKept) : Type 0 where
 either : (P : NormalKept → Type 0) (b : Bool) (x y : NormalKept) → P x → P y → P (if b then x else y)
 either P true x y p q = p
 either P false x y p q = q
-
-or_true : (b : Bool) → (b || true) ≡ true
-or_true true = refl
-or_true false = refl
-
-or_false : (b : Bool) → (b || false) ≡ b
-or_false true = refl
-or_false false = refl
 
 below : (m n : ℕ) → m ≤ n → nat_lt m (n + 1) ≡ true
 below m n le = grind (arith, nat_tests, le)
@@ -112,17 +105,6 @@ turn_changes c k e m = by_ack e.ack
     by_ack false = let x = edits_change c k e.room (after_tracks c k e m) in record { dirty = x.dirty; pushed = x.pushed; last = x.last }
 
 -- ## The push and the takes
-
--- what a push leaves as it is
-pub push_draft : (push : Push) (x : NormalKept) → (after_push push x).draft ≡ x.draft
-push_draft (Pushed number) x = refl
-push_draft Clean x = refl
-push_draft (Busy seen expected) x = refl
-
-pub push_tracks : (push : Push) (x : NormalKept) → (after_push push x).tracks ≡ x.tracks
-push_tracks (Pushed number) x = refl
-push_tracks Clean x = refl
-push_tracks (Busy seen expected) x = refl
 
 -- a count of looks changes nothing of which tracks are mixed here
 set_here : (tracks : List TrackKept) (j : ℕ) (s : TrackKept) (i : ℕ) → is_mixed_here s ≡ is_mixed_here (track_at tracks j) → is_mixed_here (track_at (slice_set tracks j s) i) ≡ is_mixed_here (track_at tracks i)

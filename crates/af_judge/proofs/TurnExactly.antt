@@ -1,8 +1,9 @@
 -- A turn is right as it is judged exactly if it is legal by what it found.
-use Rattle.std.proofs.Common.{◌≡◌, ◌↔◌, ℕ, ◌+◌, ◌^◌, ◌<◌, ◌≤◌, ◌==◌, nat_lt, Bool, true, false, true≢false, MatchBool, cond, refl, sym, ap, ◌∙◌, subst, List, [], ◌∷◌, length, eq-eqb, arith}
+use Rattle.std.proofs.Common.{◌≡◌, ◌↔◌, ℕ, ◌+◌, ◌^◌, ◌<◌, ◌≤◌, nat_lt, Bool, true, false, true≢false, MatchBool, cond, refl, sym, ap, ◌∙◌, subst, List, [], ◌∷◌, length, eq-eqb, arith}
 use Rattle.std.specs.List.{AllByRecursion}
 use Rattle.std.proofs.lemmas.Bool.Decides.{nat_tests}
 use Rattle.std.proofs.Math.ListN.{get_or-eq_default}
+use Rattle.af_base.proofs.Basics.{less_differs}
 use Rattle.af_base.specs.declared.log.SlotEntry.{SlotEntry}
 use Rattle.af_base.specs.Turn.{Turn, TakeSeen, TrackSeen, ended_turn}
 use Rattle.af_life.specs.Kept.{Setup, NormalKept, Outside, asked, track_in, nothing_seen}
@@ -21,15 +22,12 @@ use Rattle.af_judge.proofs.LooksExactly.{LegalBy, looks_exactly, judged_so, righ
 
 -- ## The first take of a track, if the tracks of takes rise
 
-differs : (a b : ℕ) → a < b → (a == b) ≡ false
-differs a b lt = grind (arith, nat_tests, lt)
-
 -- the takes of a track are the first one, if it is the track's, and those of the rest
 pub first_of : (t : TakeSeen) (rest : List TakeSeen) → takes_from (t ∷ rest) t.track ≡ t ∷ takes_from rest t.track
 first_of t rest = ap (λ (b : Bool). cond b (t ∷ takes_from rest t.track) (takes_from rest t.track)) (eq-eqb t.track t.track refl)
 
 pub others_of : (t : TakeSeen) (rest : List TakeSeen) (n : ℕ) → t.track < n → takes_from (t ∷ rest) n ≡ takes_from rest n
-others_of t rest n lt = ap (λ (b : Bool). cond b (t ∷ takes_from rest n) (takes_from rest n)) (differs t.track n lt)
+others_of t rest n lt = ap (λ (b : Bool). cond b (t ∷ takes_from rest n) (takes_from rest n)) (less_differs t.track n lt)
 
 module _ (front : Listed → SlotEntry → ℕ) where
   pub first_front : (s : Listed) (t : TakeSeen) (all rest : List TakeSeen) → takes_from all t.track ≡ takes_from (t ∷ rest) t.track → take_front front s (takes_from all t.track) ≡ front s t.slot

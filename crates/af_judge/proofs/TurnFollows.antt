@@ -6,6 +6,7 @@ use Rattle.std.proofs.lemmas.List.{get_or_default, length-map}
 use Rattle.std.proofs.Math.ListN.{get_or-eq_default}
 use Rattle.af_base.specs.declared.event.ClientEvent.{ClientEvent}
 use Rattle.af_base.specs.Turn.{TakeSeen, Turn, ended_turn}
+use Rattle.af_judge.proofs.Basics.{each_at, each_long}
 use Rattle.af_life.specs.declared.kept.TrackKept.{TrackKept}
 use Rattle.af_life.specs.Edits.{after_ack}
 use Rattle.af_life.specs.Heard.{heard, known_by, learnt}
@@ -29,7 +30,6 @@ use Rattle.af_judge.specs.RunTold.{IsServedBlock, IsServedTrack, KeepsTracks, No
 use Rattle.af_judge.specs.Tracks.{IsTrackOf}
 use Rattle.af_judge.specs.TurnJudged.{FoundIn, TurnJudged}
 use Rattle.af_judge.proofs.BlocksTold.{hand-client, server-client}
-use Rattle.af_judge.proofs.EntryStreams.{each-at, each-long}
 use Rattle.af_judge.proofs.NormalKept.{rests_so}
 use Rattle.af_judge.proofs.TurnLegal.{element, learnt_same, opens, right_legal}
 use Rattle.af_judge.proofs.TurnServed.{commands_after, commands_mark, commands_served, stream_after, stream_mark, stream_served}
@@ -131,10 +131,10 @@ module _ (s : Session) (marks : Marks) (W : ℕ → Type 0) (run : Run) (f : Tur
       tracks_now = refl
 
       long_now : length (with_turn s f e run).tracks ≡ length run.tracks
-      long_now = ap (λ (ts : List TrackTold). length ts) tracks_now ∙ each-long (turned_track c o m e) 0 run.tracks
+      long_now = ap (λ (ts : List TrackTold). length ts) tracks_now ∙ each_long (turned_track c o m e) 0 run.tracks
 
       told_now : (n : ℕ) → n < length tracks → told_at (with_turn s f e run) n ≡ turned_track (setup_of s) (outside_of (setup_of s) f e) run.normal e n (told_at run n)
-      told_now n lt = ap (λ (ts : List TrackTold). slice_index_or ts n no_track) tracks_now ∙ each-at (turned_track c o m e) 0 run.tracks n n no_track (let l = keeps.many in omega (arith, l, lt)) (omega arith)
+      told_now n lt = ap (λ (ts : List TrackTold). slice_index_or ts n no_track) tracks_now ∙ each_at (turned_track c o m e) 0 run.tracks n n no_track (let l = keeps.many in omega (arith, l, lt)) (omega arith)
 
       -- ## A turn that went on
 

@@ -1,7 +1,6 @@
 -- What a judge notes of a turn in the blocks of a track is what the turn told of them in the run.
-use Rattle.std.proofs.Common.{◌≡◌, ◌⊎◌, ℕ, ◌+◌, ◌<◌, ◌==◌, ◌&&◌, not, Bool, true, false, cond, if◌then◌else◌, is_some, fold, map, refl, sym, ap, ◌∙◌, subst, List, [], ◌∷◌, ◌++◌, length, Option, Some, None, inl, inr, nat_lt, eqb-true, append_assoc, append-nil, arith}
+use Rattle.std.proofs.Common.{◌≡◌, ◌⊎◌, ℕ, ◌+◌, ◌==◌, ◌&&◌, not, Bool, true, false, cond, if◌then◌else◌, is_some, fold, map, refl, sym, ap, ◌∙◌, subst, List, [], ◌∷◌, ◌++◌, length, Option, Some, None, inl, inr, nat_lt, eqb-true, append_assoc, append-nil, arith}
 use Rattle.std.specs.List.{AllByRecursion, flat_map}
-use Rattle.std.proofs.lemmas.Bool.Decides.{nat_tests}
 use Rattle.std.proofs.lemmas.List.{length-map}
 use Rattle.af_base.specs.declared.event.HandEvent.TheVariants as hand
 use Rattle.af_base.specs.declared.event.ServerEvent.{ServerEvent}
@@ -12,6 +11,7 @@ use Rattle.af_base.specs.declared.turn.CommandLook.{CommandLook}
 use Rattle.af_base.specs.Log.{count_seen}
 use Rattle.af_base.specs.Sample.{packed_word}
 use Rattle.af_base.specs.Turn.{TakeSeen}
+use Rattle.af_judge.proofs.Basics.{nothing_from}
 use Rattle.af_life.specs.Looks.{as_slot, command_events, did, all_command_events, words_taken}
 use Rattle.af_life.specs.Obeys.{shows_command}
 use Rattle.af_life.specs.TurnEvents.{status_events, takes_from}
@@ -140,13 +140,6 @@ record Lonely (P : TakeSeen → Type 0) (takes : List TakeSeen) : Type 0 where
   take : TakeSeen
   is : takes ≡ take ∷ []
   holds : P take
-
-nothing_from : (low : ℕ) (takes : List TakeSeen) (i : ℕ) → TracksRise low takes → i < low → takes_from takes i ≡ []
-nothing_from low [] i rise lt = refl
-nothing_from low (t ∷ takes) i rise lt =
-    let r = rise.0 in
-    let other : (t.track == i) ≡ false = grind (arith, nat_tests, r, lt) in
-    ap (λ (b : Bool). cond b (t ∷ takes_from takes i) (takes_from takes i)) other ∙ nothing_from (t.track + 1) takes i rise.1 (omega (arith, r, lt))
 
 lonely : (P : TakeSeen → Type 0) (low : ℕ) (takes : List TakeSeen) (i : ℕ) → TracksRise low takes → AllByRecursion P takes → (takes_from takes i ≡ []) ⊎ Lonely P (takes_from takes i)
 lonely P low [] i rise all = inl refl

@@ -1,42 +1,15 @@
 -- What a client is found to want next, and what a call makes of it.
-use Rattle.std.specs.Prelude.{◌≡◌, ℕ, ◌/◌, ◌||◌, Bool, true, false, if◌then◌else◌, List, [], ◌∷◌, Option, Some, None, unwrap_or, refl}
+use Rattle.std.specs.Prelude.{◌≡◌, ℕ, ◌/◌, ◌||◌, Bool, true, false, if◌then◌else◌, List, [], ◌∷◌, Option, Some, None}
 use Rattle.std.proofs.Common.{ap, sym, ◌∙◌, subst}
 use Rattle.af_base.specs.declared.event.ClientCall.{ClientCall}
+use Rattle.af_judge.proofs.Basics.{some_is}
+use Rattle.af_runs.proofs.Basics.{end_begun}
 use Rattle.af_script.specs.declared.op.Op.{Op}
 use Rattle.af_runs.specs.declared.want.Want.{Want}
 use Rattle.af_runs.specs.declared.want.Want.TheVariants as want
-use Rattle.af_runs.specs.Clients.{Client, after_answer, asked_first, at_next_turn, begins, begun, next_want, rest_of, rested, wants_of}
+use Rattle.af_runs.specs.Clients.{Client, after_answer, asked_first, at_next_turn, begins, begun, next_want, rest_of}
 use Rattle.af_runs.specs.Kept.{client_of}
 use Rattle.af_judge.specs.Judging.{CallMade, ClientJudged, FindsNext, IsNoCall, MadeBy, sides_called}
-
-begins-halts : (c : Client) (wants : List Want) (ops : List Op) → ((begins c wants ops).waiting || (begins c wants ops).ended) ≡ (c.waiting || c.ended)
-begins-halts c (w ∷ wants) ops = refl
-begins-halts c [] [] = refl
-begins-halts c [] (o ∷ ops) = begins-halts c (wants_of c.mode o) ops
-
-halts-none : (c : Client) → (c.waiting || c.ended) ≡ true → next_want c ≡ None
-halts-none c h = let P : Bool → Option Want = λ b. if b then None else asked_first c.due in ap P h
-
--- a client that waits or has ended wants nothing
-pub halted_none : (c : Client) → (c.waiting || c.ended) ≡ true → next_want (begun c) ≡ None
-halted_none c h = halts-none (begun c) (begins-halts c c.due c.ops ∙ h)
-
-begins-again : (c : Client) (wants : List Want) (ops : List Op) → begun (begins c wants ops) ≡ begins c wants ops
-begins-again c (w ∷ wants) ops = refl
-begins-again c [] [] = refl
-begins-again c [] (o ∷ ops) = begins-again c (wants_of c.mode o) ops
-
--- an op that was begun is begun
-begun_again : (c : Client) → begun (begun c) ≡ begun c
-begun_again c = begins-again c c.due c.ops
-
--- the end of a turn of a client that goes on
-goes-end : (c : Client) → (c.waiting || c.ended) ≡ false → at_next_turn false c ≡ (let d = begun c in record d { due = rested d.due })
-goes-end c h = ap (λ (b : Bool). if b || false then record c { waiting = false } else (let d = begun c in record d { due = rested d.due })) h
-
--- the end of the turn is the same after the next op was begun
-end_begun : (c : Client) → (c.waiting || c.ended) ≡ false → at_next_turn false (begun c) ≡ at_next_turn false c
-end_begun c h = goes-end (begun c) (begins-halts c c.due c.ops ∙ h) ∙ (ap (λ (d : Client). let r : Client = record d { due = rested d.due } in r) (begun_again c) ∙ sym (goes-end c h))
 
 -- what is wanted, as the program finds it
 pub finds_next : (o : Option Want) (c d : Client) → o ≡ next_want d → d ≡ begun c → (c.waiting || c.ended) ≡ false → FindsNext c o d
@@ -48,21 +21,18 @@ finds_next (Some w) c d is begins goes = (ap next_want (sym begins) ∙ sym is, 
 some-none : (A : Type 0) (w : Want) → ◌≡◌ {A = Option Want} None (Some w) → A
 some-none A w e = absurd (cc)
 
-some-same : (v w : Want) → Some v ≡ Some w → v ≡ w
-some-same v w e = ap (λ (o : Option Want). unwrap_or o v) e
-
 first_asked : (due : List Want) (w : Want) → asked_first due ≡ Some w → due ≡ w ∷ rest_of due
 first_asked [] w e = some-none _ w e
 first_asked (want.Rest ∷ wants) w e = some-none _ w e
-first_asked (want.Send sending ∷ wants) w e = ap (λ v. v ∷ wants) (some-same (want.Send sending) w e)
-first_asked (want.Settled ∷ wants) w e = ap (λ v. v ∷ wants) (some-same want.Settled w e)
-first_asked (want.Drained ∷ wants) w e = ap (λ v. v ∷ wants) (some-same want.Drained w e)
-first_asked (want.Flush ∷ wants) w e = ap (λ v. v ∷ wants) (some-same want.Flush w e)
-first_asked (want.Gain left right ∷ wants) w e = ap (λ v. v ∷ wants) (some-same (want.Gain left right) w e)
-first_asked (want.Write count ∷ wants) w e = ap (λ v. v ∷ wants) (some-same (want.Write count) w e)
-first_asked (want.Clear ∷ wants) w e = ap (λ v. v ∷ wants) (some-same want.Clear w e)
-first_asked (want.Poke on word value ∷ wants) w e = ap (λ v. v ∷ wants) (some-same (want.Poke on word value) w e)
-first_asked (want.Leave ∷ wants) w e = ap (λ v. v ∷ wants) (some-same want.Leave w e)
+first_asked (want.Send sending ∷ wants) w e = ap (λ v. v ∷ wants) (some_is (want.Send sending) w e)
+first_asked (want.Settled ∷ wants) w e = ap (λ v. v ∷ wants) (some_is want.Settled w e)
+first_asked (want.Drained ∷ wants) w e = ap (λ v. v ∷ wants) (some_is want.Drained w e)
+first_asked (want.Flush ∷ wants) w e = ap (λ v. v ∷ wants) (some_is want.Flush w e)
+first_asked (want.Gain left right ∷ wants) w e = ap (λ v. v ∷ wants) (some_is (want.Gain left right) w e)
+first_asked (want.Write count ∷ wants) w e = ap (λ v. v ∷ wants) (some_is (want.Write count) w e)
+first_asked (want.Clear ∷ wants) w e = ap (λ v. v ∷ wants) (some_is want.Clear w e)
+first_asked (want.Poke on word value ∷ wants) w e = ap (λ v. v ∷ wants) (some_is (want.Poke on word value) w e)
+first_asked (want.Leave ∷ wants) w e = ap (λ v. v ∷ wants) (some_is want.Leave w e)
 
 asks-by : (b : Bool) (due : List Want) (w : Want) → (if b then None else asked_first due) ≡ Some w → asked_first due ≡ Some w
 asks-by true due w e = some-none _ w e
@@ -80,7 +50,7 @@ no_call_unwanted ops answer j d finds wanted is made = some-none ⊥ wanted (sym
 
 -- what is wanted is another call, or the call answers wrong
 pub no_call_made : (ops : List Op) (answer : ClientCall) (j : ClientJudged) (d : Client) (w : Want) → FindsNext (client_of ops j.client) (Some w) d → (MadeBy j.sides w answer → ⊥) → IsNoCall ops answer j
-no_call_made ops answer j d w finds none wanted is made = none (subst (λ v. MadeBy j.sides v answer) (sym (some-same w wanted (sym finds.0 ∙ is))) made)
+no_call_made ops answer j d w finds none wanted is made = none (subst (λ v. MadeBy j.sides v answer) (sym (some_is w wanted (sym finds.0 ∙ is))) made)
 
 -- the call was made
 pub call_made : (ops : List Op) (file : ℕ) (answer : ClientCall) (j k : ClientJudged) (d : Client) (w : Want) → FindsNext (client_of ops j.client) (Some w) d → MadeBy j.sides w answer → k.sides ≡ sides_called file answer j.sides

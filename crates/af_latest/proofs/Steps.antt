@@ -1,5 +1,6 @@
 -- Each step of the cell keeps its rule.
-use Rattle.std.proofs.Common.{◌≡◌, ℕ, ◌+◌, ◌%◌, ◌<◌, ◌≤◌, Bool, true, false, true≢false, List, [], ◌∷◌, ◌++◌, length, set, get_or, sym, refl, ap, ◌∙◌, subst, arith, length-set, length-append, Some, unwrap_or}
+use Rattle.std.proofs.Common.{◌≡◌, ℕ, ◌+◌, ◌%◌, ◌<◌, ◌≤◌, Bool, true, false, true≢false, List, [], ◌∷◌, ◌++◌, length, set, get_or, sym, refl, ap, ◌∙◌, subst, arith, length-set, length-append, Some}
+use Rattle.af_base.proofs.Basics.{some_same}
 use mathlib.Core.Option.{none, some}
 use lib.ListN.{get_elem?}
 use Rattle.atomic_table.specs.Table.{State, step, Act, keeps, takes, gives, chain, carried_after, Valid, stepped, Allows}
@@ -23,9 +24,6 @@ use Rattle.af_latest.specs.Rule.{code, has_writing, writing, has_reading, readin
 pub code_mod : (k : ℕ) (f : Bool) → k < 3 → code k f % 4 ≡ k
 code_mod k true h = omega arith
 code_mod k false h = omega arith
-
-some_injective : {T : Type 0} (x y : T) → Some x ≡ Some y → x ≡ y
-some_injective x y e = ap (λ o. unwrap_or o x) e
 
 module _ {T : Type 0} where
   pub last_load : (n : ℕ) (es : List (ReaderEvent T)) (m : ℕ) (x : T) → last_number n (es ++ Load m x ∷ []) ≡ m
@@ -330,7 +328,7 @@ module _ {T : Type 0} (first : T) where
         meets s k id v here w_ok r_ok m.1,
         (
           (λ x e. subst (λ (q : T × Writing T × Reading T). HasHistory q.0 q.1.events q.2.events × HasHistory q.0 (q.1.events ++ writes.Learn (length q.2.events) ∷ []) (q.2.events ++ reads.Learn (length q.1.events) ∷ []))
-              (λ i. (some_injective first x (sym k.first_is ∙ ap (λ (y : Writing T). y.first) w_is ∙ e) i, w_is i, r_is i)) (k.stands.history, (met_stands s k id v here w_ok r_ok).history)),
+              (λ i. (some_same first x (sym k.first_is ∙ ap (λ (y : Writing T). y.first) w_is ∙ e) i, w_is i, r_is i)) (k.stands.history, (met_stands s k id v here w_ok r_ok).history)),
           λ i. (
             record v {
               writing = record (w_is i) { events = (w_is i).events ++ writes.Learn (length (r_is i).events) ∷ [] };

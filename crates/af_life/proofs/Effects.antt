@@ -1,6 +1,7 @@
 -- What each command and each report makes of the way to a stop, case by case.
 use Rattle.std.proofs.Common.{◌≡◌, ℕ, zero, suc, ◌<◌, ◌≤◌, Bool, true, false, if◌then◌else◌, true≢false, sym, refl, ap, ◌∙◌, ◌⊎◌, inl, inr, arith}
 use Rattle.std.specs.Prelude.{◌==◌, ◌&&◌, not, nat_le}
+use Rattle.af_base.proofs.Basics.{less_differs, no}
 use Rattle.af_life.specs.State.{is_among}
 use Rattle.af_life.specs.declared.state.LifeState.{LifeState}
 use Rattle.af_life.specs.declared.state.LifeState.TheVariants.{Absent, Active, Pausing, Paused, Resuming, Stopping1, Stopping2}
@@ -26,9 +27,6 @@ pub record ReportEffect (known : Known) (l t : Life) : Type 0 where
 abbrev life_in : LifeState → Bool → Bool → Bool → ℕ → ℕ → Life
 life_in state member ended drained retries stop_at = record { state = state; member = member; ended = ended; drained = drained; retries = retries; stop_at = stop_at }
 
-no : {A : Type 0} → false ≡ true → A
-no h = absurd (true≢false (sym h))
-
 -- ## A command
 
 abbrev Told : ℕ → ℕ → Life → Type 0
@@ -43,10 +41,6 @@ unmoved stops starts argument l t s1 s2 e = record {
   rests = (λ g h. (s1, ap is_at_rest e ∙ h));
 }
 
--- a code that is no command's
-far : (k n : ℕ) → k < n → (k == n) ≡ false
-far k n h = grind arith
-
 far' : (k n : ℕ) → k < n → (n == k) ≡ false
 far' k n h = grind arith
 
@@ -56,7 +50,7 @@ chain : (c1 c2 c3 c4 c5 c6 : Bool) → c1 ≡ false → c2 ≡ false → c3 ≡ 
 chain c1 c2 c3 c4 c5 c6 e1 e2 e3 e4 e5 e6 l a b c d e f g h x1 x2 x3 x4 x5 x6 x7 x8 = simp (e1, e2, e3, e4, e5, e6) refl
 
 idle_code : (code argument : ℕ) (l : Life) → 6 < code → first_effect commands code argument l ≡ l
-idle_code code argument l h = chain (1 == code) (2 == code) (3 == code) (4 == code) (5 == code) (6 == code) (far 1 code (omega arith)) (far 2 code (omega arith)) (far 3 code (omega arith)) (far 4 code (omega arith)) (far 5 code (omega arith)) (far 6 code h) l _ _ _ _ _ _ _ _ _ _ _ _ _ _ _ _
+idle_code code argument l h = chain (1 == code) (2 == code) (3 == code) (4 == code) (5 == code) (6 == code) (less_differs 1 code (omega arith)) (less_differs 2 code (omega arith)) (less_differs 3 code (omega arith)) (less_differs 4 code (omega arith)) (less_differs 5 code (omega arith)) (less_differs 6 code h) l _ _ _ _ _ _ _ _ _ _ _ _ _ _ _ _
 
 either_way : (b : Bool) (l t : Life) → t ≡ l → (if b then l else t) ≡ l
 either_way true l t e = refl

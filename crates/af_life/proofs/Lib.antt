@@ -1,3 +1,4 @@
+pub mod Basics
 mod Effects
 mod Drains
 pub mod Lives

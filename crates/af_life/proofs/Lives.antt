@@ -9,6 +9,7 @@ use Rattle.af_base.specs.declared.turn.CommandLook.{CommandLook}
 use Rattle.af_base.specs.Turn.{Turn, TrackSeen, TakeSeen}
 use Rattle.af_base.specs.declared.state.Push.{Push}
 use Rattle.af_base.specs.declared.state.Push.TheVariants.{Pushed, Clean, Busy}
+use Rattle.af_life.proofs.Basics.{either_life as either_track, ready_life, takes_len}
 use Rattle.af_life.specs.declared.track.Life.{Life}
 use Rattle.af_life.specs.Commands.{by_command}
 use Rattle.af_life.specs.Reports.{by_report}
@@ -16,7 +17,7 @@ use Rattle.af_life.specs.declared.kept.Holder.TheVariants.{Home}
 use Rattle.af_life.specs.declared.kept.Heard.{Heard}
 use Rattle.af_life.specs.declared.kept.TrackKept.{TrackKept}
 use Rattle.af_life.specs.Kept.{Setup, asked, NormalKept, Learnt, track_at, new_track, seen_at, track_in, is_home}
-use Rattle.af_life.specs.Heard.{learnt, heard, slot_reported, noted, is_reported, is_reached, settled_at, ready}
+use Rattle.af_life.specs.Heard.{learnt, heard, noted, is_reported, ready}
 use Rattle.af_base.specs.declared.report.SlotReport.{SlotReport}
 use Rattle.af_life.specs.Obeys.{slot_for, must_wait, shows_command, is_shut, obeyed, after_look, goes_on, after_looks, commanded}
 use Rattle.af_life.specs.Serves.{served, served_to, after_commands, after_report, after_part}
@@ -87,18 +88,9 @@ takes_keep asked (take ∷ takes) tracks i = takes_keep asked takes (after_take 
 
 -- ## What a track's part of the turn makes of its life
 
-either_track : (b : Bool) (s t : TrackKept) (l : Life) → s.life ≡ l → t.life ≡ l → (if b then s else t).life ≡ l
-either_track true s t l e f = e
-either_track false s t l e f = f
-
 noted_keeps : (r : SlotReport) (s : TrackKept) → (noted r s).life ≡ s.life
 unfolding noted
 noted_keeps r s = either_track (is_home s.holder) _ _ s.life refl (either_track (is_reported r s) _ _ s.life refl refl)
-
-ready_keeps : (k : Learnt) (i : ℕ) (s : TrackKept) → (ready k i s).life ≡ s.life
-unfolding settled_at
-ready_keeps k i s = let r : SlotReport = slot_reported k s in let t : TrackKept = noted r s in
-    either_track (is_reached (heard k i s).flush_seen t.awaits) _ t s.life (noted_keeps r s) (noted_keeps r s)
 
 -- the same way on both tracks
 both_ways : (b : Bool) (s t : TrackKept) (steps more : List LifeStep) → s.life ≡ life_of steps → t.life ≡ life_of more → (if b then s else t).life ≡ life_of (if b then steps else more)
@@ -140,7 +132,7 @@ served_step c k looks tracks i before eq =
     let r : TrackKept = ready k i s in
     let h : Heard = heard k i s in
     let commands : (after_commands (slot_for c tracks i) h looks r).life ≡ life_of (if is_some r.awaits then before else looks_steps (slot_for c tracks i) h.flush_seen looks r before) =
-    commands_step (slot_for c tracks i) h.flush_seen looks r before (ready_keeps k i s ∙ eq) in
+    commands_step (slot_for c tracks i) h.flush_seen looks r before (ready_life k i s ∙ eq) in
     both_ways s.life.ended s _ before _ eq (ap (by_report h.known) commands)
 
 -- ## All tracks
@@ -222,10 +214,6 @@ push_len (Pushed number) m = refl
 push_len Clean m = refl
 push_len (Busy seen expected) m = refl
 
-pub takes_len : (asked : ℕ) (takes : List TakeSeen) (tracks : List TrackKept) → length (fold (after_take asked) tracks takes) ≡ length tracks
-takes_len asked [] tracks = refl
-takes_len asked (take ∷ takes) tracks = takes_len asked takes (after_take asked tracks take) ∙ length-set tracks take.track _
-
 pub turn_len : (c : Setup) (k : Learnt) (m : NormalKept) (e : Turn) → length (turn_after c k m e).tracks ≡ length m.tracks
 unfolding turn_after
 turn_len c k m e = either_len e.ended (record m { ended = true }) _ (length m.tracks) refl
@@ -257,5 +245,5 @@ report_step c k m e i before runs lives eq =
     let s : TrackKept = track_at tracks i in
     let r : TrackKept = ready k i s in
     let here : s.life ≡ life_of before = ap (λ (s : TrackKept). s.life) (not_yet c k e.tracks (after_ack e.ack m).tracks i i (omega arith)) ∙ ack_keeps e.ack m i ∙ eq in
-    ap (by_report (heard k i s).known) (commands_step (slot_for c tracks i) (heard k i s).flush_seen (track_in e i).looks r before (ready_keeps k i s ∙ here))
+    ap (by_report (heard k i s).known) (commands_step (slot_for c tracks i) (heard k i s).flush_seen (track_in e i).looks r before (ready_life k i s ∙ here))
     ∙ sym (gone_on e.ended s.life.ended before _ runs lives)

@@ -2,6 +2,7 @@
 use Rattle.std.proofs.Common.{◌≡◌, ℕ, ◌+◌, ◌*◌, ◌<◌, Bool, true, false, if◌then◌else◌, true≢false, sym, refl, ap, ◌∙◌, MatchBool, Option, Some, None, List, ◌∷◌, length, arith}
 use Rattle.std.specs.Prelude.{◌==◌, ◌%◌}
 use Rattle.std.specs.Int.{bit_at}
+use Rattle.af_base.proofs.Basics.{not_both}
 use Rattle.af_base.specs.Turn.{Turn, TrackSeen}
 use Rattle.af_life.specs.declared.state.LifeState.{LifeState}
 use Rattle.af_life.specs.declared.state.LifeState.TheVariants.{Absent, Idle, Active, Pausing, Paused, Resuming, Stopping1, Stopping2, Stopped, Flushed}
@@ -52,9 +53,6 @@ stored_mark : (b : Bool) (word : ℕ) → has_mark (if b then None else Some wor
 unfolding has_mark
 stored_mark true word h = absurd (true≢false (sym h))
 stored_mark false word h = h
-
-not_both : (b : Bool) → b ≡ true → b ≡ false → ⊥
-not_both b e f = true≢false (sym e ∙ f)
 
 module _ (c : Setup) (o : Outside) (m : NormalKept) (e : Turn) (i : ℕ) (is_drained : reports_drained (track_in e i) ≡ true) where
   -- a track that was passed over reports nothing

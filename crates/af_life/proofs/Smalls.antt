@@ -10,7 +10,8 @@ use Rattle.af_base.specs.declared.state.FastTrack.{FastTrack}
 use Rattle.af_base.specs.declared.turn.CommandLook.{CommandLook}
 use Rattle.af_base.specs.Log.{slots}
 use Rattle.af_base.specs.Turn.{TrackSeen, TakeSeen}
-use Rattle.af_model.specs.Reports.{one_if, is_full, is_partial, is_empty}
+use Rattle.af_model.proofs.Basics.{one_few}
+use Rattle.af_model.specs.Reports.{is_full, is_partial, is_empty}
 use Rattle.af_model.specs.StateQueue.{slot_of, no_track}
 use Rattle.af_life.specs.declared.kept.Heard.{Heard}
 use Rattle.af_life.specs.declared.kept.TrackKept.{TrackKept}
@@ -214,16 +215,12 @@ module _ (n m : ℕ) where
 
 -- ## The looks of the mix
 
-at_most_one : (b : Bool) → one_if b ≤ 1
-at_most_one true = omega arith
-at_most_one false = omega arith
-
 take_small : (n m asked : ℕ) (take : TakeSeen) (tracks : List TrackKept) → AreSmall n m tracks → AreSmall n (m + 1) (after_take asked tracks take)
 take_small n m asked take tracks small = set_all (IsSmallTrack n (m + 1)) tracks take.track _ (λ (i : ℕ). weaker n m n (m + 1) (track_at tracks i) (omega arith) (omega arith) (small i)) (
     let s = small take.track in
-    let f = at_most_one (is_full asked take.slot.seen) in
-    let p = at_most_one (is_partial asked take.slot.seen) in
-    let e = at_most_one (is_empty take.slot.seen) in
+    let f = one_few (is_full asked take.slot.seen) in
+    let p = one_few (is_partial asked take.slot.seen) in
+    let e = one_few (is_empty take.slot.seen) in
     record { settled = s.settled; own = ((let a = s.own.0 in omega arith), (let a = s.own.1 in omega arith), (let a = s.own.2 in omega arith)); slot = s.slot })
 
 pub takes_small : (n m asked : ℕ) (takes : List TakeSeen) (tracks : List TrackKept) → AreSmall n m tracks → AreSmall n (m + length takes) (fold (after_take asked) tracks takes)

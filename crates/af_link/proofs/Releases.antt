@@ -1,6 +1,7 @@
 -- A put is one release, or two.
-use Rattle.std.proofs.Common.{◌≡◌, ℕ, ◌-◌, ◌%◌, ◌<◌, ◌≤◌, ◌==◌, min, nat_le, Bool, true, false, if◌then◌else◌, List, [], ◌∷◌, ◌++◌, length, take, drop, map, sym, ap, ◌∙◌, arith, append_assoc, length-take-le}
+use Rattle.std.proofs.Common.{◌≡◌, ℕ, ◌-◌, ◌%◌, ◌<◌, ◌≤◌, min, nat_le, Bool, if◌then◌else◌, List, [], ◌∷◌, ◌++◌, length, take, drop, map, sym, ap, ◌∙◌, arith, append_assoc, length-take-le}
 use Rattle.std.proofs.lemmas.List.{length-drop, map-append, take_all, take-append-drop}
+use Rattle.af_base.proofs.Basics.{is_beyond, is_within, not_zero}
 use Rattle.af_base.specs.declared.frame.Frame.{Frame}
 use Rattle.af_base.specs.declared.event.ClientEvent.{ClientEvent}
 use Rattle.af_base.specs.declared.event.ClientEvent.TheVariants as client
@@ -14,26 +15,17 @@ use Rattle.af_client.proofs.Opened.{same_end}
 use Rattle.af_client.specs.Calls.{PutOn}
 use Rattle.af_link.specs.PipeEnds.{HasPut}
 
-some-left : (n : ℕ) → 1 ≤ n → (n == 0) ≡ false
-some-left n some = search arith
-
-fits : (a b : ℕ) → a ≤ b → nat_le a b ≡ true
-fits a b le = search arith
-
-beyond : (a b : ℕ) → b < a → nat_le a b ≡ false
-beyond a b lt = search arith
-
 releases-one : (cells put n : ℕ) → 1 ≤ n → n ≤ cells - put % cells → releases_of cells put n ≡ client.Release n ∷ []
 releases-one cells put n some le =
     let left : ℕ = cells - put % cells in
-    ap (λ (b : Bool). if b then [] else if nat_le n left then client.Release n ∷ [] else client.Release left ∷ client.Release (n - left) ∷ []) (some-left n some)
-    ∙ ap (λ (b : Bool). if b then client.Release n ∷ [] else client.Release left ∷ client.Release (n - left) ∷ []) (fits n left le)
+    ap (λ (b : Bool). if b then [] else if nat_le n left then client.Release n ∷ [] else client.Release left ∷ client.Release (n - left) ∷ []) (not_zero n some)
+    ∙ ap (λ (b : Bool). if b then client.Release n ∷ [] else client.Release left ∷ client.Release (n - left) ∷ []) (is_within n left le)
 
 releases-two : (cells put n : ℕ) → cells - put % cells < n → releases_of cells put n ≡ client.Release (cells - put % cells) ∷ client.Release (n - (cells - put % cells)) ∷ []
 releases-two cells put n lt =
     let left : ℕ = cells - put % cells in
-    ap (λ (b : Bool). if b then [] else if nat_le n left then client.Release n ∷ [] else client.Release left ∷ client.Release (n - left) ∷ []) (some-left n (omega arith))
-    ∙ ap (λ (b : Bool). if b then client.Release n ∷ [] else client.Release left ∷ client.Release (n - left) ∷ []) (beyond n left lt)
+    ap (λ (b : Bool). if b then [] else if nat_le n left then client.Release n ∷ [] else client.Release left ∷ client.Release (n - left) ∷ []) (not_zero n (omega arith))
+    ∙ ap (λ (b : Bool). if b then client.Release n ∷ [] else client.Release left ∷ client.Release (n - left) ∷ []) (is_beyond n left lt)
 
 -- the frames of a put, cut where the index reaches the number of cells
 module _ (cells put m : ℕ) (frames before behind : List Frame) (some : 1 ≤ length frames) (m_is : m ≡ min (length frames) (cells - put % cells)) (front : before ≡ take m frames) (back : behind ≡ drop m frames) where

@@ -5,6 +5,7 @@ use Rattle.std.specs.List.{slice_get}
 use Rattle.std.proofs.lemmas.Option.{option_and_then_some, same_Some, cond_some, slice_get_within}
 use Rattle.std.proofs.lemmas.Bool.{cases_lt}
 use Rattle.std.proofs.lemmas.Bool.Decides.{nat_tests}
+use Rattle.af_base.proofs.Basics.{both_true}
 use Rattle.af_base.specs.declared.event.HandEvent.{HandEvent}
 use Rattle.af_base.specs.declared.event.HandEvent.TheVariants as hand
 use Rattle.af_merges.specs.declared.search.Stage.{Stage}
@@ -15,7 +16,6 @@ use Rattle.af_merges.specs.Stages.{Lists, Who, Client, Server, Hand, move, eager
 use Rattle.af_merges.specs.MergePieces.{IsAhead}
 use Rattle.af_merges.proofs.Levels.{walk-append}
 use Rattle.std.proofs.lemmas.Bool.{and_parts}
-use Rattle.af_model.proofs.Logic.{both_are}
 
 by_test : (b : Bool) (l : Lists) (w : Who) (m n : Stage) → cond b (hand_only l w m) (move l w m) ≡ Some n → move l w m ≡ Some n
 by_test false l w m n e = e
@@ -46,7 +46,7 @@ keeps-mix (hand.SetFlags bits ∷ hs) place i j h k p q a b = keeps-mix hs (plac
 keeps-mix (hand.Met known ∷ hs) place i j h k p q a b =
     let x = and_parts (keeps_event (hand.Met known) place j h) (keeps_mets hs (place + 1) j h) a in
     let y = and_parts (keeps_event (hand.Met known) place i k) (keeps_mets hs (place + 1) i k) b in
-    both_are _ (keeps_mets hs (place + 1) j k) (mix known place i j h k p q x.0 y.0) (keeps-mix hs (place + 1) i j h k p q x.1 y.1)
+    both_true _ (keeps_mets hs (place + 1) j k) (mix known place i j h k p q x.0 y.0) (keeps-mix hs (place + 1) i j h k p q x.1 y.1)
 
 pub ahead-itself : (l : Lists) (m : Stage) → keeps_mets l.hand 0 m.clients m.hands ≡ true → m.hands ≤ length l.hand → IsAhead l m m
 ahead-itself l m k w = record { point = refl; clients = refl; servers = refl; hands = omega arith; mets = λ p a b. absurd (omega arith); kept = k; within = w }

@@ -6,6 +6,7 @@ use Rattle.std.proofs.lemmas.Option.{option_and_then_some, same_Some, cond_some,
 use Rattle.std.proofs.lemmas.Bool.{cases_lt}
 use Rattle.std.proofs.lemmas.List.{take-append-drop, length-take-le}
 use Rattle.std.proofs.lemmas.Bool.Decides.{nat_tests}
+use Rattle.af_base.proofs.Basics.{all_one, at_before, both_true, equal_is, is_equal}
 use Rattle.af_model.specs.declared.point.TrackPoint.{TrackPoint}
 use Rattle.af_base.specs.declared.event.ClientEvent.{ClientEvent}
 use Rattle.af_base.specs.declared.event.ServerEvent.{ServerEvent}
@@ -24,13 +25,7 @@ use Rattle.af_merges.proofs.Levels.{walk-push, walk-append}
 use Rattle.af_merges.proofs.StageCounts.{IsWithin, only_one}
 use Rattle.af_merges.proofs.EagerMets.{eager-walk, follows-walk, ahead-itself}
 use Rattle.std.proofs.lemmas.Bool.{and_parts}
-use Rattle.af_model.proofs.Logic.{both_are}
 use Rattle.af_merges.proofs.Mets.{keeps-append}
-
-get_front : {X : Type 0} (xs ys : List X) (i : ℕ) (x : X) → slice_get xs i ≡ Some x → slice_get (xs ++ ys) i ≡ Some x
-get_front [] ys i x e = cc
-get_front (z ∷ xs) ys zero x e = e
-get_front (z ∷ xs) ys (suc i) x e = get_front xs ys i x e
 
 get_back : {X : Type 0} (xs ys : List X) (i : ℕ) (x : X) → i < length xs → slice_get (xs ++ ys) i ≡ Some x → slice_get xs i ≡ Some x
 get_back [] ys i x h e = absurd (omega arith)
@@ -41,7 +36,7 @@ pub keeps-front : (a b : List HandEvent) (place i k : ℕ) → keeps_mets (a ++ 
 keeps-front [] b place i k e = refl
 keeps-front (h ∷ a) b place i k e =
     let both = and_parts (keeps_event h place i k) (keeps_mets (a ++ b) (place + 1) i k) e in
-    both_are (keeps_event h place i k) (keeps_mets a (place + 1) i k) both.0 (keeps-front a b (place + 1) i k both.1)
+    both_true (keeps_event h place i k) (keeps_mets a (place + 1) i k) both.0 (keeps-front a b (place + 1) i k both.1)
 
 new-met : (known n i k place : ℕ) → nat_le n known ≡ true → i ≤ n → k ≤ place
     → ((nat_le k (place + 1) || nat_le known i) && (nat_le i known || nat_le place k)) ≡ true
@@ -53,7 +48,7 @@ keeps-new n [] place i k names p q = refl
 keeps-new n (hand.SetFlags bits ∷ hs) place i k names p q = keeps-new n hs (place + 1) i k names p (omega arith)
 keeps-new n (hand.Met known ∷ hs) place i k names p q =
     let both = and_parts (nat_le n known) (names_at_least n hs) names in
-    both_are _ (keeps_mets hs (place + 1) i k) (new-met known n i k place both.0 p q) (keeps-new n hs (place + 1) i k both.1 p (omega arith))
+    both_true _ (keeps_mets hs (place + 1) i k) (new-met known n i k place both.0 p q) (keeps-new n hs (place + 1) i k both.1 p (omega arith))
 
 old-met : (known i k place : ℕ) → place < k → ((nat_le (k + 1) (place + 1) || nat_le known i) && (nat_le i known || nat_le place (k + 1))) ≡ true → nat_le known i ≡ true
 old-met known i k place h e = grind (arith, nat_tests)
@@ -64,14 +59,14 @@ knows-kept [] place i k h e = refl
 knows-kept (hand.SetFlags bits ∷ hs) place i k h e = knows-kept hs (place + 1) i k (omega arith) e
 knows-kept (hand.Met known ∷ hs) place i k h e =
     let both = and_parts (keeps_event (hand.Met known) place i (k + 1)) (keeps_mets hs (place + 1) i (k + 1)) e in
-    both_are _ (knows_no_more hs i) (old-met known i k place (omega arith) both.0) (knows-kept hs (place + 1) i k (omega arith) both.1)
+    both_true _ (knows_no_more hs i) (old-met known i k place (omega arith) both.0) (knows-kept hs (place + 1) i k (omega arith) both.1)
 
 pub knows-front : (a b : List HandEvent) (i : ℕ) → knows_no_more (a ++ b) i ≡ true → knows_no_more a i ≡ true
 knows-front [] b i e = refl
 knows-front (hand.SetFlags bits ∷ a) b i e = knows-front a b i e
 knows-front (hand.Met known ∷ a) b i e =
     let both = and_parts (nat_le known i) (knows_no_more (a ++ b) i) e in
-    both_are (nat_le known i) (knows_no_more a i) both.0 (knows-front a b i both.1)
+    both_true (nat_le known i) (knows_no_more a i) both.0 (knows-front a b i both.1)
 
 -- a step that can be made can still be made when more events have come
 pub record Lifts (l : Lists) (cs : List ClientEvent) (ss : List ServerEvent) (hs : List HandEvent) (w : Who) (x y : Stage) : Type 0 where
@@ -96,7 +91,7 @@ lifts l cs ss hs Client x y names within e =
     let same : with_client x p ≡ y = (cond_some _ _ _ g).1 in
     record {
       legal =
-          ap (option_and_then (λ e. option_and_then (λ p. kept (l.hand ++ hs) (with_client x p)) (client_step x.point x.servers e))) (get_front l.client cs x.clients v at)
+          ap (option_and_then (λ e. option_and_then (λ p. kept (l.hand ++ hs) (with_client x p)) (client_step x.point x.servers e))) (at_before l.client cs x.clients v at)
           ∙ (ap (option_and_then (λ p. kept (l.hand ++ hs) (with_client x p))) is ∙ kept-more l hs (with_client x p) y names g (omega arith) within.hands);
       within = subst (IsWithin l) same (record { clients = omega arith; servers = within.servers; hands = within.hands });
     }))
@@ -107,7 +102,7 @@ lifts l cs ss hs Server x y names within e =
     let in_range : x.servers < length l.server = slice_get_within l.server x.servers v at in
     let same : with_server x p ≡ y = same_Some _ _ g in
     record {
-      legal = ap (option_and_then (λ e. option_and_then (λ p. Some (with_server x p)) (server_step x.point x.clients e))) (get_front l.server ss x.servers v at) ∙ f;
+      legal = ap (option_and_then (λ e. option_and_then (λ p. Some (with_server x p)) (server_step x.point x.clients e))) (at_before l.server ss x.servers v at) ∙ f;
       within = subst (IsWithin l) same (record { clients = within.clients; servers = omega arith; hands = within.hands });
     }))
 lifts l cs ss hs Hand x y names within e =
@@ -117,7 +112,7 @@ lifts l cs ss hs Hand x y names within e =
     let same : with_hand x (after_hand x.point v) ≡ y = (cond_some _ _ _ g).1 in
     record {
       legal =
-          ap (option_and_then (λ e. kept (l.hand ++ hs) (with_hand x (after_hand x.point e)))) (get_front l.hand hs x.hands v at)
+          ap (option_and_then (λ e. kept (l.hand ++ hs) (with_hand x (after_hand x.point e)))) (at_before l.hand hs x.hands v at)
           ∙ kept-more l hs (with_hand x (after_hand x.point v)) y names g within.clients (omega arith);
       within = subst (IsWithin l) same (record { clients = within.clients; servers = within.servers; hands = omega arith });
     })
@@ -148,9 +143,6 @@ or_cases true b c h = inl refl
 or_cases false true c h = inr (inl refl)
 or_cases false false c h = inr (inr h)
 
-same_is : (a b : ℕ) → a ≡ b → (a == b) ≡ true
-same_is a b h = grind (arith, nat_tests)
-
 -- a step of the longer lists from a stage of the shorter ones: a step of the shorter ones, or one from an open stage
 abbrev pub Drops : Lists → Who → Stage → Stage → Type 0
 Drops l w x y = (move l w x ≡ Some y) ⊎ (is_open l x ≡ true)
@@ -161,13 +153,13 @@ kept-front a b m y e =
     ap (λ t. cond t (Some m) None) (keeps-front a b 0 m.clients m.hands was.0) ∙ ap Some was.1
 
 open-client : (l : Lists) (x : Stage) → x.clients ≡ length l.client → is_open l x ≡ true
-open-client l x h = or_first (x.clients == length l.client) _ _ (same_is _ _ h)
+open-client l x h = or_first (x.clients == length l.client) _ _ (is_equal _ _ h)
 
 open-server : (l : Lists) (x : Stage) → x.servers ≡ length l.server → is_open l x ≡ true
-open-server l x h = or_second (x.clients == length l.client) (x.servers == length l.server) _ (same_is _ _ h)
+open-server l x h = or_second (x.clients == length l.client) (x.servers == length l.server) _ (is_equal _ _ h)
 
 open-hand : (l : Lists) (x : Stage) → x.hands ≡ length l.hand → knows_no_more l.hand x.clients ≡ true → is_open l x ≡ true
-open-hand l x h k = or_third (x.clients == length l.client) (x.servers == length l.server) _ (both_are (x.hands == length l.hand) _ (same_is _ _ h) k)
+open-hand l x h k = or_third (x.clients == length l.client) (x.servers == length l.server) _ (both_true (x.hands == length l.hand) _ (is_equal _ _ h) k)
 
 drops : (l : Lists) (cs : List ClientEvent) (ss : List ServerEvent) (hs : List HandEvent) (w : Who) (x y : Stage)
     → IsWithin l x → move (joined l cs ss hs) w x ≡ Some y → Drops l w x y
@@ -200,20 +192,17 @@ drops l cs ss hs Hand x y within e =
           inr (open-hand l x (omega (arith, within.hands)) (knows-kept l.hand 0 x.clients x.hands (omega arith) all))
     ])
 
-is_same : (a b : ℕ) → (a == b) ≡ true → a ≡ b
-is_same a b h = grind (arith, nat_tests)
-
 -- an old stage that is open for the longer lists was open before
 open-old : (l : Lists) (cs : List ClientEvent) (ss : List ServerEvent) (hs : List HandEvent) (m : Stage)
     → IsWithin l m → is_open (joined l cs ss hs) m ≡ true → is_open l m ≡ true
 open-old l cs ss hs m within still =
     elim (or_cases (m.clients == length (l.client ++ cs)) (m.servers == length (l.server ++ ss)) _ still) [
-      | inl a ↦ open-client l m (omega (arith, within.clients, is_same _ _ a, length-append l.client cs))
+      | inl a ↦ open-client l m (omega (arith, within.clients, equal_is _ _ a, length-append l.client cs))
       | inr other ↦ elim other [
-        | inl a ↦ open-server l m (omega (arith, within.servers, is_same _ _ a, length-append l.server ss))
+        | inl a ↦ open-server l m (omega (arith, within.servers, equal_is _ _ a, length-append l.server ss))
         | inr a ↦
             let both = and_parts (m.hands == length (l.hand ++ hs)) (knows_no_more (l.hand ++ hs) m.clients) a in
-            open-hand l m (omega (arith, within.hands, is_same _ _ both.0, length-append l.hand hs)) (knows-front l.hand hs m.clients both.1)
+            open-hand l m (omega (arith, within.hands, equal_is _ _ both.0, length-append l.hand hs)) (knows-front l.hand hs m.clients both.1)
       ]
     ]
 
@@ -224,7 +213,7 @@ first-met known place = grind (arith, nat_tests)
 pub keeps_first : (hs : List HandEvent) (place : ℕ) → keeps_mets hs place 0 0 ≡ true
 keeps_first [] place = refl
 keeps_first (hand.SetFlags bits ∷ hs) place = keeps_first hs (place + 1)
-keeps_first (hand.Met known ∷ hs) place = both_are _ (keeps_mets hs (place + 1) 0 0) (first-met known place) (keeps_first hs (place + 1))
+keeps_first (hand.Met known ∷ hs) place = both_true _ (keeps_mets hs (place + 1) 0 0) (first-met known place) (keeps_first hs (place + 1))
 
 met-front : (a b : List HandEvent) (p : ℕ) → p < length a → is_met (slice_get a p) ≡ true → is_met (slice_get (a ++ b) p) ≡ true
 met-front [] b p h m = absurd (omega arith)
@@ -235,12 +224,12 @@ met-front (x ∷ a) b (suc p) h m = met-front a b p (omega arith) m
 open-ahead : (l : Lists) (m n : Stage) → IsAhead l m n → is_open l m ≡ true → is_open l n ≡ true
 open-ahead l m n ahead still =
     elim (or_cases (m.clients == length l.client) (m.servers == length l.server) _ still) [
-      | inl a ↦ open-client l n (ahead.clients ∙ is_same _ _ a)
+      | inl a ↦ open-client l n (ahead.clients ∙ equal_is _ _ a)
       | inr other ↦ elim other [
-        | inl a ↦ open-server l n (ahead.servers ∙ is_same _ _ a)
+        | inl a ↦ open-server l n (ahead.servers ∙ equal_is _ _ a)
         | inr a ↦
             let both = and_parts (m.hands == length l.hand) (knows_no_more l.hand m.clients) a in
-            open-hand l n (omega (arith, ahead.hands, ahead.within, is_same _ _ both.0)) (subst (λ i. knows_no_more l.hand i ≡ true) (sym ahead.clients) both.1)
+            open-hand l n (omega (arith, ahead.hands, ahead.within, equal_is _ _ both.0)) (subst (λ i. knows_no_more l.hand i ≡ true) (sym ahead.clients) both.1)
       ]
     ]
 
@@ -353,10 +342,6 @@ IsFrontier-from_starts s starts found (GoesOn there names frontier bounds) reach
     (frontier_more (searched s) (drop s.clients s.client.items) (drop s.servers s.server.items) (drop s.hands s.hand.items) s.from starts found
     (names-later s there names) frontier
     (subst (λ (l : Lists). IsReached (eager l) (IsOpen l) starts found) (sym (whole_again s)) reached))
-
-pub all_one : {X : Type 0} (P : X → Type 0) (x : X) → P x → All P (x ∷ [])
-all_one P x p zero d h = p
-all_one P x p (suc k) d h = absurd (omega arith)
 
 pub InBounds-more : (l : Lists) (cs : List ClientEvent) (ss : List ServerEvent) (hs : List HandEvent) (m : Stage)
     → names_at_least (length l.client) hs ≡ true → InBounds l m → InBounds (joined l cs ss hs) m

@@ -6,7 +6,7 @@ use Rattle.std.proofs.lemmas.Option.{option_and_then_some, same_Some, MatchOptio
 use Rattle.std.proofs.lemmas.List.{take_more}
 use Rattle.std.proofs.lemmas.List.Elements.{Contains-get_or, Contains-append_left, Contains-push, Contains-push_cases, All-contains}
 use Rattle.std.proofs.lemmas.Bool.{cases_lt}
-use Rattle.std.proofs.lemmas.Bool.Decides.{nat_tests}
+use Rattle.af_base.proofs.Basics.{is_equal}
 use Rattle.af_merges.specs.Walks.{walk, IsNext, IsLevel, IsFoundBelow, IsReached, Collects, Adds, Spreads, HasSame}
 
 -- one step more at the end of a walk
@@ -64,9 +64,6 @@ no_steps : {W M : Type 0} (step : W → M → Option M) (ws : List W) (s m : M) 
 no_steps step [] s m l e = same_Some _ _ e
 no_steps step (w ∷ ws) s m l e = absurd (omega arith)
 
-same_is : (a b : ℕ) → a ≡ b → (a == b) ≡ true
-same_is a b h = grind (arith, nat_tests)
-
 -- the starts of the least size
 pub level-first : {W M : Type 0} (step : W → M → Option M) (size : M → ℕ) (starts now : List M) (n : ℕ) → Enlarges step size
     → All (λ s. n ≤ size s) starts → Collects (λ s. (size s == n) ≡ true) starts [] now → IsLevel step size starts n now
@@ -79,7 +76,7 @@ level-first step size starts now n more least collects = record {
   complete = λ s ws m c e k.
       let none : length ws ≡ 0 = omega (arith, size-walk step size more ws s m e, All-contains (λ s. n ≤ size s) starts s least c, k) in
       let same : s ≡ m = no_steps step ws s m none e in
-      subst (Contains now) same (collects.has s c (same_is _ _ (ap size same ∙ k)));
+      subst (Contains now) same (collects.has s c (is_equal _ _ (ap size same ∙ k)));
 }
 
 -- one size further
@@ -98,7 +95,7 @@ level-more step size starts now next new n more level is collects = record {
       elim (ends ws) [
         | Empty none ↦
             let same : s ≡ m = no_steps step ws s m (ap length none) e in
-            subst (Contains new) same (collects.has s c (same_is _ _ (ap size same ∙ k)))
+            subst (Contains new) same (collects.has s c (is_equal _ _ (ap size same ∙ k)))
         | Last front w is_last ↦
             let t = walk-split step front w s m (ap (λ v. walk step v s) (sym is_last) ∙ e) in
             let low : size t.0 ≡ n = omega (arith, more w t.0 m t.2, k) in
@@ -210,7 +207,3 @@ level-same step size starts now new n level same = record {
 
 pub All-same : {M : Type 0} (P : M → Type 0) (old new : List M) → HasSame old new → All P old → All P new
 All-same P old new same all k d h = All-contains P old _ all (same.only (get_or new k d) (Contains-get_or new k d h))
-
-pub no_items : {X : Type 0} (xs : List X) → length xs ≡ 0 → xs ≡ []
-no_items [] h = refl
-no_items (x ∷ xs) h = absurd (omega arith)

@@ -1,13 +1,13 @@
 -- What the Mets of a list ask, and what has stood in an order.
 use Rattle.std.proofs.Common.{◌≡◌, ℕ, ◌+◌, ◌≤◌, max, List, [], ◌∷◌, ◌++◌, length, true, ◌&&◌, ◌||◌, nat_le, refl, subst, arith}
 use Rattle.std.proofs.lemmas.Bool.Decides.{nat_tests}
+use Rattle.af_base.proofs.Basics.{both_true, is_within, max_le, within_is}
 use Rattle.af_base.specs.declared.event.HandEvent.{HandEvent}
 use Rattle.af_base.specs.declared.event.HandEvent.TheVariants as hand
 use Rattle.af_model.specs.History.{Moment, by_client, by_server, by_hand, hand_of, met_by, met_in}
 use Rattle.af_merges.specs.Stages.{keeps_event, keeps_mets}
 use Rattle.af_merges.specs.MergePieces.{names_at_least, knows_no_more}
 use Rattle.std.proofs.lemmas.Bool.{and_parts}
-use Rattle.af_model.proofs.Logic.{both_are, le_is, is_le}
 use Rattle.af_merges.proofs.Mets.{keeps-append}
 use Rattle.af_merges.proofs.MetTests.{past}
 use Rattle.af_merges.proofs.Extends.{keeps-front, knows-front}
@@ -29,7 +29,7 @@ keeps-stood (hand.SetFlags bits ∷ hs) place i k h e = keeps-stood hs (place + 
 keeps-stood (hand.Met known ∷ hs) place i k h e =
     let both = and_parts (keeps_event (hand.Met known) place i k) (keeps_mets hs (place + 1) i k) e in
     let know = and_parts (nat_le known i) (knows_no_more hs i) h in
-    both_are _ (keeps_mets hs (place + 1) i (k + 1)) (met-stood known place i k know.0 both.0) (keeps-stood hs (place + 1) i k know.1 both.1)
+    both_true _ (keeps_mets hs (place + 1) i (k + 1)) (met-stood known place i k know.0 both.0) (keeps-stood hs (place + 1) i k know.1 both.1)
 
 -- one more event of the hand, if what was met before it has stood
 pub hand-more : (a b : List HandEvent) (i : ℕ) → knows_no_more a i ≡ true → keeps_mets (a ++ b) 0 i (length a) ≡ true → keeps_mets (a ++ b) 0 i (length a + 1) ≡ true
@@ -43,21 +43,18 @@ max_left a b i h = omega arith
 pub max_right : (a b i : ℕ) → max a b ≤ i → b ≤ i
 max_right a b i h = omega arith
 
-pub max_le : (a b i : ℕ) → a ≤ i → b ≤ i → max a b ≤ i
-max_le a b i h k = omega arith
-
 -- the last event beside the ones before it
 pub knows-push : (hs : List HandEvent) (e : HandEvent) (i : ℕ) → knows_no_more hs i ≡ true → met_by e ≤ i → knows_no_more (hs ++ e ∷ []) i ≡ true
 knows-push [] (hand.SetFlags bits) i h m = refl
-knows-push [] (hand.Met known) i h m = both_are (nat_le known i) true (is_le known i m) refl
+knows-push [] (hand.Met known) i h m = both_true (nat_le known i) true (is_within known i m) refl
 knows-push (hand.SetFlags bits ∷ hs) e i h m = knows-push hs e i h m
 knows-push (hand.Met known ∷ hs) e i h m =
     let both = and_parts (nat_le known i) (knows_no_more hs i) h in
-    both_are (nat_le known i) (knows_no_more (hs ++ e ∷ []) i) both.0 (knows-push hs e i both.1 m)
+    both_true (nat_le known i) (knows_no_more (hs ++ e ∷ []) i) both.0 (knows-push hs e i both.1 m)
 
 pub knows-end : (hs : List HandEvent) (e : HandEvent) (i : ℕ) → knows_no_more (hs ++ e ∷ []) i ≡ true → met_by e ≤ i
 knows-end [] (hand.SetFlags bits) i h = omega arith
-knows-end [] (hand.Met known) i h = le_is known i (and_parts (nat_le known i) true h).0
+knows-end [] (hand.Met known) i h = within_is known i (and_parts (nat_le known i) true h).0
 knows-end (hand.SetFlags bits ∷ hs) e i h = knows-end hs e i h
 knows-end (hand.Met known ∷ hs) e i h = knows-end hs e i (and_parts (nat_le known i) (knows_no_more (hs ++ e ∷ []) i) h).1
 
@@ -78,12 +75,12 @@ met-known (by_hand e ∷ order) i h =
 pub names-zero : (hs : List HandEvent) → names_at_least 0 hs ≡ true
 names-zero [] = refl
 names-zero (hand.SetFlags bits ∷ hs) = names-zero hs
-names-zero (hand.Met known ∷ hs) = both_are (nat_le 0 known) (names_at_least 0 hs) (is_le 0 known (omega arith)) (names-zero hs)
+names-zero (hand.Met known ∷ hs) = both_true (nat_le 0 known) (names_at_least 0 hs) (is_within 0 known (omega arith)) (names-zero hs)
 
 pub names-fewer : (hs : List HandEvent) (i j : ℕ) → i ≤ j → names_at_least j hs ≡ true → names_at_least i hs ≡ true
 names-fewer [] i j h e = refl
 names-fewer (hand.SetFlags bits ∷ hs) i j h e = names-fewer hs i j h e
 names-fewer (hand.Met known ∷ hs) i j h e =
     let both = and_parts (nat_le j known) (names_at_least j hs) e in
-    let low : i ≤ known = let b = le_is j known both.0 in omega arith in
-    both_are (nat_le i known) (names_at_least i hs) (is_le i known low) (names-fewer hs i j h both.1)
+    let low : i ≤ known = let b = within_is j known both.0 in omega arith in
+    both_true (nat_le i known) (names_at_least i hs) (is_within i known low) (names-fewer hs i j h both.1)

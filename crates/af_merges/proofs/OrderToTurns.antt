@@ -2,10 +2,12 @@
 use Rattle.std.proofs.Common.{◌≡◌, ℕ, zero, suc, ◌+◌, ◌≤◌, List, [], ◌∷◌, ◌++◌, length, drop, Some, None, true, cond, nat_le, refl, ap, ◌∙◌, sym, subst, arith, append_assoc, append-nil, length-append}
 use Rattle.std.specs.Option.{option_and_then}
 use Rattle.std.specs.List.{slice_get}
+use Rattle.af_base.proofs.Basics.{at_seam, both_true, is_within}
 use Rattle.af_base.specs.declared.event.ClientEvent.{ClientEvent}
 use Rattle.af_base.specs.declared.event.ServerEvent.{ServerEvent}
 use Rattle.af_base.specs.declared.event.HandEvent.{HandEvent}
 use Rattle.af_base.specs.declared.event.HandEvent.TheVariants as hand
+use Rattle.af_model.proofs.Basics.{hand_met}
 use Rattle.af_model.specs.declared.point.TrackPoint.{TrackPoint}
 use Rattle.af_merges.specs.declared.search.Stage.{Stage}
 use Rattle.af_model.specs.Point.{HandMay, after_client, after_server, after_hand}
@@ -16,7 +18,6 @@ use Rattle.af_merges.specs.Walks.{walk}
 use Rattle.af_merges.specs.Stages.{Lists, Who, Client, Server, Hand, move, kept, keeps_mets, with_client, with_server, with_hand, begin, HasWalk}
 use Rattle.af_merges.specs.MergePieces.{names_at_least}
 use Rattle.std.proofs.lemmas.Bool.{and_parts}
-use Rattle.af_model.proofs.Logic.{both_are, is_le}
 use Rattle.af_merges.proofs.MetTests.{client-kept}
 use Rattle.af_merges.proofs.MayTests.{client_legal-may, server_legal-may}
 use Rattle.af_merges.proofs.Levels.{walk-push}
@@ -35,7 +36,7 @@ names_later n (h ∷ hs) = names_at_least n hs ≡ true
 names-both : (n : ℕ) (hs : List HandEvent) → names_next n hs → names_later n hs → names_at_least n hs ≡ true
 names-both n [] a b = refl
 names-both n (hand.SetFlags bits ∷ hs) a b = b
-names-both n (hand.Met known ∷ hs) a b = both_are (nat_le n known) (names_at_least n hs) (and_parts (nat_le n known) true a).0 b
+names-both n (hand.Met known ∷ hs) a b = both_true (nat_le n known) (names_at_least n hs) (and_parts (nat_le n known) true a).0 b
 
 names-drop : (a b : List HandEvent) (n d : ℕ) → d ≡ length a + 1 → names_later n b → names_at_least n (drop d (a ++ b)) ≡ true
 names-drop a b n zero e h = absurd (omega arith)
@@ -47,14 +48,9 @@ later-fewer : (i j : ℕ) (hs : List HandEvent) → i ≤ j → names_later j hs
 later-fewer i j [] h e = tt
 later-fewer i j (x ∷ hs) h e = names-fewer hs i j h e
 
--- what a legal event of the hand asks
-hand_met : (clients met at : ℕ) (e : HandEvent) → HandMay clients met at e → met ≤ clients
-hand_met clients met at (hand.SetFlags bits) may = may
-hand_met clients met at (hand.Met known) may = may.0
-
 hand_next : (clients met at : ℕ) (e : HandEvent) → HandMay clients met at e → names_at_least at (e ∷ []) ≡ true
 hand_next clients met at (hand.SetFlags bits) may = refl
-hand_next clients met at (hand.Met known) may = both_are (nat_le at known) true (is_le at known may.1) refl
+hand_next clients met at (hand.Met known) may = both_true (nat_le at known) true (is_within at known may.1) refl
 
 -- what is to come of the three lists after the order
 record IsRest (l : Lists) (order : List Moment) (cs : List ClientEvent) (ss : List ServerEvent) (hs : List HandEvent) : Type 0 where
@@ -64,12 +60,8 @@ record IsRest (l : Lists) (order : List Moment) (cs : List ClientEvent) (ss : Li
   pub next : names_next (clients_at order) hs
   pub later : names_later (length (client_of order)) hs
 
-get-at : {X : Type 0} (xs : List X) (x : X) (ys : List X) → slice_get (xs ++ x ∷ ys) (length xs) ≡ Some x
-get-at [] x ys = refl
-get-at (z ∷ xs) x ys = get-at xs x ys
-
 get-in : {X : Type 0} (xs : List X) (x : X) (ys all : List X) → xs ++ x ∷ ys ≡ all → slice_get all (length xs) ≡ Some x
-get-in {X = X} xs x ys all e = ap (λ (l : List X). slice_get l (length xs)) (sym e) ∙ get-at xs x ys
+get-in {X = X} xs x ys all e = ap (λ (l : List X). slice_get l (length xs)) (sym e) ∙ at_seam xs x ys
 
 abbrev stage_of : TrackPoint → List Moment → Stage
 stage_of p order =

@@ -1,12 +1,12 @@
 -- If the Mets of a list rise, all name at least what the first one names.
 use Rattle.std.proofs.Common.{◌≡◌, ℕ, zero, suc, List, [], ◌∷◌, drop, Bool, true, false, ◌&&◌, nat_le, refl, arith}
 use Rattle.std.proofs.lemmas.Bool.Decides.{nat_tests}
+use Rattle.af_base.proofs.Basics.{both_true}
 use Rattle.af_base.specs.declared.event.HandEvent.{HandEvent}
 use Rattle.af_base.specs.declared.event.HandEvent.TheVariants as hand
 use Rattle.af_merges.specs.MergePieces.{names_at_least}
 use Rattle.af_merges.specs.Rising.{rises_from, first_names}
 use Rattle.std.proofs.lemmas.Bool.{and_parts}
-use Rattle.af_model.proofs.Logic.{both_are}
 
 lower : (a b c : ℕ) → nat_le a b ≡ true → nat_le b c ≡ true → nat_le a c ≡ true
 lower a b c p q = grind (arith, nat_tests)
@@ -17,7 +17,7 @@ names-rising (hand.SetFlags bits ∷ hs) n low p r = names-rising hs n low p r
 names-rising (hand.Met known ∷ hs) n low p r =
     let both = and_parts (nat_le low known) (rises_from known hs) r in
     let here = lower n low known p both.0 in
-    both_are (nat_le n known) (names_at_least n hs) here (names-rising hs n known here both.1)
+    both_true (nat_le n known) (names_at_least n hs) here (names-rising hs n known here both.1)
 
 and_first : (a b : Bool) → (a ≡ true → b ≡ true) → (a && b) ≡ a
 and_first true b h = h refl
@@ -35,7 +35,7 @@ rises-lower [] low high p r = refl
 rises-lower (hand.SetFlags bits ∷ hs) low high p r = rises-lower hs low high p r
 rises-lower (hand.Met known ∷ hs) low high p r =
     let both = and_parts (nat_le high known) (rises_from known hs) r in
-    both_are (nat_le low known) (rises_from known hs) (lower low high known p both.0) both.1
+    both_true (nat_le low known) (rises_from known hs) (lower low high known p both.0) both.1
 
 zero_le : (n : ℕ) → nat_le 0 n ≡ true
 zero_le n = grind (arith, nat_tests)

@@ -2,10 +2,11 @@
 use Rattle.std.proofs.Common.{◌≡◌, ℕ, zero, suc, ◌+◌, ◌<◌, ◌≤◌, List, [], ◌∷◌, ◌++◌, length, take, drop, Some, true, ◌&&◌, ◌||◌, nat_le, refl, ap, ◌∙◌, sym, subst, arith}
 use Rattle.std.specs.Option.{option_and_then}
 use Rattle.std.specs.List.{slice_get}
-use Rattle.std.proofs.lemmas.Option.{option_and_then_some, same_Some, cond_some, slice_get_within, get_or_from_slice_get}
-use Rattle.std.proofs.lemmas.List.{take_more, take-append-drop}
+use Rattle.std.proofs.lemmas.Option.{option_and_then_some, same_Some, cond_some, slice_get_within}
+use Rattle.std.proofs.lemmas.List.{take-append-drop}
 use Rattle.std.proofs.Math.Seq.{take-length}
 use Rattle.std.proofs.lemmas.Bool.Decides.{nat_tests}
+use Rattle.af_base.proofs.Basics.{both_true, take_step, within_is}
 use Rattle.af_base.specs.declared.event.ClientEvent.{ClientEvent}
 use Rattle.af_base.specs.declared.event.ServerEvent.{ServerEvent}
 use Rattle.af_base.specs.declared.event.HandEvent.{HandEvent}
@@ -20,7 +21,6 @@ use Rattle.af_merges.specs.Walks.{walk}
 use Rattle.af_merges.specs.Stages.{Lists, Who, Client, Server, Hand, move, kept, keeps_event, keeps_mets, with_client, with_server, with_hand, begin, HasWalk}
 use Rattle.af_merges.specs.MergePieces.{names_at_least, knows_no_more}
 use Rattle.std.proofs.lemmas.Bool.{and_parts}
-use Rattle.af_model.proofs.Logic.{both_are, le_is}
 use Rattle.af_merges.proofs.MayTests.{client_may-legal, server_may-legal}
 use Rattle.af_merges.proofs.MetsInOrder.{met-known, names-zero}
 use Rattle.af_merges.proofs.Extends.{keeps_first, keeps-front, knows-kept}
@@ -32,7 +32,7 @@ names-at (x ∷ hs) n (suc k) known e h = names-at hs n k known e h
 names-at (hand.SetFlags bits ∷ hs) n zero known e h = cc
 names-at (hand.Met met ∷ hs) n zero known e h =
     let same : met ≡ known = cc in
-    subst (λ m. n ≤ m) same (le_is n met (and_parts (nat_le n met) (names_at_least n hs) h).0)
+    subst (λ m. n ≤ m) same (within_is n met (and_parts (nat_le n met) (names_at_least n hs) h).0)
 
 ahead-met : (known place i k : ℕ) → k < place → ((nat_le k (place + 1) || nat_le known i) && (nat_le i known || nat_le place k)) ≡ true → nat_le i known ≡ true
 ahead-met known place i k h e = grind (arith, nat_tests)
@@ -42,7 +42,7 @@ names-ahead [] place i k h e = refl
 names-ahead (hand.SetFlags bits ∷ hs) place i k h e = names-ahead hs (place + 1) i k (omega arith) e
 names-ahead (hand.Met known ∷ hs) place i k h e =
     let both = and_parts (keeps_event (hand.Met known) place i k) (keeps_mets hs (place + 1) i k) e in
-    both_are (nat_le i known) (names_at_least i hs) (ahead-met known place i k h both.0) (names-ahead hs (place + 1) i k (omega arith) both.1)
+    both_true (nat_le i known) (names_at_least i hs) (ahead-met known place i k h both.0) (names-ahead hs (place + 1) i k (omega arith) both.1)
 
 -- if each Met is kept, those past the hand's next event name no fewer client events than have stood
 names-past : (hs : List HandEvent) (place i k d : ℕ) → place + d ≡ k + 1 → keeps_mets hs place i k ≡ true → names_at_least i (drop d hs) ≡ true
@@ -68,10 +68,6 @@ record HasReached (l : Lists) (p : TrackPoint) (m : Stage) : Type 0 where
   pub hands : m.hands ≤ length l.hand
   pub kept : keeps_mets l.hand 0 m.clients m.hands ≡ true
   pub names : names_at_least (clients_at order) (drop m.hands l.hand) ≡ true
-
-take_next : {X : Type 0} (xs : List X) (i : ℕ) (x : X) → slice_get xs i ≡ Some x → take (i + 1) xs ≡ take i xs ++ x ∷ []
-take_next xs i x h =
-    take_more xs i x (slice_get_within xs i x h) ∙ ap (λ y. take i xs ++ y ∷ []) (get_or_from_slice_get xs i x x h)
 
 length_take : {X : Type 0} (n : ℕ) (xs : List X) → n ≤ length xs → length (take n xs) ≡ n
 length_take zero xs h = refl
@@ -100,7 +96,7 @@ stands l p Client m n s e =
       order = by_client v ∷ s.order;
       legal = (client_moved v _ _ _ _ s.point (stood l p m s).1 may, s.legal);
       point = ap (λ x. after_client x v) s.point ∙ here.1;
-      client = ap (λ xs. xs ++ v ∷ []) s.client ∙ sym (take_next l.client m.clients v at);
+      client = ap (λ xs. xs ++ v ∷ []) s.client ∙ sym (take_step l.client m.clients v at);
       server = s.server;
       hand = s.hand;
       clients = omega arith;
@@ -121,7 +117,7 @@ stands l p Server m n s e =
       legal = (server_moved v _ _ _ _ s.point (stood l p m s).0 may, s.legal);
       point = ap (λ x. after_server x v) s.point ∙ here.1;
       client = s.client;
-      server = ap (λ xs. xs ++ v ∷ []) s.server ∙ sym (take_next l.server m.servers v at);
+      server = ap (λ xs. xs ++ v ∷ []) s.server ∙ sym (take_step l.server m.servers v at);
       hand = s.hand;
       clients = s.clients;
       servers = omega arith;
@@ -153,7 +149,7 @@ stands l p Hand m n s e =
       point = ap (λ x. after_hand x v) s.point;
       client = s.client;
       server = s.server;
-      hand = ap (λ xs. xs ++ v ∷ []) s.hand ∙ sym (take_next l.hand m.hands v at);
+      hand = ap (λ xs. xs ++ v ∷ []) s.hand ∙ sym (take_step l.hand m.hands v at);
       clients = s.clients;
       servers = s.servers;
       hands = omega arith;

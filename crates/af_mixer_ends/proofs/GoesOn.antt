@@ -1,5 +1,6 @@
 -- A cycle for which the log has room answers no Spent.
-use Rattle.std.proofs.Common.{◌≡◌, inl, inr, ℕ, ◌≤◌, ◌==◌, ◌||◌, eqb-true, Bool, true, false, true≢false, if◌then◌else◌, Option, Some, None, Ok, List, length, refl, sym, ap, ◌∙◌, subst, arith}
+use Rattle.std.proofs.Common.{◌≡◌, inl, inr, ℕ, ◌≤◌, ◌==◌, eqb-true, Bool, true, false, true≢false, if◌then◌else◌, Option, Some, None, Ok, List, length, refl, sym, ap, ◌∙◌, subst, arith}
+use Rattle.af_base.proofs.Basics.{neither_is, never_true}
 use Rattle.af_base.specs.declared.frame.Frame.{Frame}
 use Rattle.af_base.specs.declared.log.Cycle.{Cycle}
 use Rattle.af_base.specs.declared.log.Cycle.TheVariants as cycle
@@ -41,15 +42,6 @@ exit : is_spent cycle.Exit ≡ false
 unfolding is_spent
 exit = refl
 
-is_open : (a b : Bool) → a ≡ false → b ≡ false → (a || b) ≡ false
-is_open false false e f = refl
-is_open true b e f = absurd (true≢false e)
-is_open false true e f = absurd (true≢false f)
-
-apart : (b : Bool) → (b ≡ true → ⊥) → b ≡ false
-apart true never = absurd (never refl)
-apart false never = refl
-
 -- Where room was made the log isn't full
 pub has_room : (m x : MixerState) → 1 ≤ m.cycles → MakesRoom m true x → IsFull x → ⊥
 has_room m x some (inl r) full = r.0 (subst IsFull r.1 full)
@@ -71,7 +63,7 @@ module _ (m m' : MixerState) (out out' : List Frame) (answer : Cycle) (n : ℕ) 
   by_exit : (b : Bool) → m.exited ≡ b → ⊥
   by_exit true over = unlike (ap is_spent (once.exited (ap (λ (x : MixerState). x.exited) c.1.same ∙ over)).0 ∙ exit)
   by_exit false runs =
-      let goes : is_over mid ≡ false = is_open mid.exited (length mid.log.entries == mid.cycles) (ap (λ (x : MixerState). x.exited) c.1.same ∙ runs) (apart (length mid.log.entries == mid.cycles) (λ full. not_full runs (eqb-true (length mid.log.entries) mid.cycles full))) in
+      let goes : is_over mid ≡ false = neither_is mid.exited (length mid.log.entries == mid.cycles) (ap (λ (x : MixerState). x.exited) c.1.same ∙ runs) (never_true (length mid.log.entries == mid.cycles) (λ full. not_full runs (eqb-true (length mid.log.entries) mid.cycles full))) in
       let added = once.adds goes in
       unlike (ap is_spent added.1 ∙ ap is_spent added.2.legal.what ∙ not_spent (cold_done (adopted_states mid) (all_entries sound.earlier mid)) (state_of (adopted_states mid) added.0.state))
 

@@ -1,5 +1,5 @@
 -- The ends of a new mixer are in order.
-use Rattle.std.proofs.Common.{◌≡◌, ℕ, ◌<◌, List, [], ◌∷◌, ◌++◌, length, map, slice_get, Some, refl, sym, ap, ◌∙◌, subst}
+use Rattle.std.proofs.Common.{◌≡◌, ℕ, ◌<◌, List, [], ◌∷◌, ◌++◌, length, slice_get, Some, refl, sym, ap, ◌∙◌, subst}
 use Rattle.af_cblk.specs.declared.view.ClientPart.{ClientPart}
 use Rattle.af_cblk.specs.Sides.{Made}
 use Rattle.af_engine.specs.declared.ends.TrackEnds.{TrackEnds}
@@ -21,10 +21,6 @@ use Rattle.af_mixer_ends.proofs.Moves.{links_of, lead}
 pub at_middle : {X : Type 0} (xs ys : List X) (x : X) → slice_get (xs ++ x ∷ ys) (length xs) ≡ Some x
 at_middle [] ys x = refl
 at_middle (y ∷ xs) ys x = at_middle xs ys x
-
-pub map_more : {X Y : Type 0} (f : X → Y) (xs : List X) (x : X) → map f (xs ++ x ∷ []) ≡ map f xs ++ f x ∷ []
-map_more f [] x = refl
-map_more f (y ∷ xs) x = ap (λ (l : List _). f y ∷ l) (map_more f xs x)
 
 module _ (spec : MixerSpec) (s : SharedState) (e : EngineState) (fits : IsMixerSpec spec) (new : IsNewEngine spec s e) (together : (links : Links) → AreLinksOf s links → AreTogether links e) where
   normal_end : IsNormalEnd s e.normal

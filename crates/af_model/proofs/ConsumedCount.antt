@@ -7,6 +7,7 @@ use Rattle.af_base.specs.declared.event.ServerEvent.TheVariants as server
 use Rattle.af_base.specs.declared.event.HandEvent.{HandEvent}
 use Rattle.af_base.specs.declared.seen.Seen.{Seen}
 use Rattle.af_base.specs.declared.seen.Seen.TheVariants as seen
+use Rattle.af_model.proofs.Basics.{client_taken}
 use Rattle.af_model.specs.declared.shape.Shape.{Shape}
 use Rattle.af_model.specs.declared.point.TrackPoint.{TrackPoint}
 use Rattle.af_model.specs.Point.{wrapped, start, drop_end, ServerMay, after_server}
@@ -18,7 +19,7 @@ use Rattle.af_model.specs.ServerCalls.{ServerKept, server_keeps, server_begins, 
 use Rattle.af_model.specs.Spelled.{SeesOwn, AllSeeOwn}
 use Rattle.af_model.proofs.Fates.{in_turn, drop_low, drop_released}
 use Rattle.af_model.proofs.RoomKept.{AllFit, fit_split, all_fit, room_in}
-use Rattle.af_model.proofs.OneFate.{same_consumed, hand_consumed}
+use Rattle.af_model.proofs.OneFate.{hand_consumed}
 use Rattle.af_model.proofs.Logic.{ahead-between}
 
 -- the last event saw front
@@ -100,7 +101,7 @@ module _ (shape : Shape) (few : shape.frames ≤ 65536) where
       → Counts (server_kept shape (server_of order)) (fold saw_front false (server_of order)) (after (start shape) order)
   counts_in [] h fit f = record { count = (let e : shape.base + 0 ≡ shape.base = omega arith in e); front_is = (λ e. absurd (true≢false (sym e))) }
   counts_in (by_client e ∷ order) h fit f =
-      kept_counts _ _ (after (start shape) order) _ (same_consumed (after (start shape) order) e) (counts_in order h.1 (fit_split shape (client_begins shape.base) None (client_of order) (e ∷ []) fit).0 f)
+      kept_counts _ _ (after (start shape) order) _ (client_taken (after (start shape) order) e) (counts_in order h.1 (fit_split shape (client_begins shape.base) None (client_of order) (e ∷ []) fit).0 f)
   counts_in (by_server e ∷ order) h fit f =
       let g = follow_split false (server_of order) (e ∷ []) f in
       let now = server_counts _ _ (after (start shape) order) _ e h.0 g.1.0 (in_turn shape order h.1) (room_in shape few order h.1 fit).fits (counts_in order h.1 fit g.0) in

@@ -1,21 +1,19 @@
 -- What the client's list alone tells of the point.
-use Rattle.std.proofs.Common.{◌≡◌, ℕ, ◌+◌, true, true≢false, List, [], ◌∷◌, ◌++◌, length, length-append, ◌≤◌, refl, sym, ap, ◌∙◌, arith}
+use Rattle.std.proofs.Common.{◌≡◌, ℕ, ◌+◌, true, true≢false, List, [], ◌∷◌, ◌++◌, refl, sym, ap, ◌∙◌, arith}
+use Rattle.af_base.proofs.Basics.{both_true}
 use Rattle.af_base.specs.declared.event.ClientEvent.{ClientEvent}
 use Rattle.af_base.specs.declared.event.ClientEvent.TheVariants as client
-use Rattle.af_base.specs.declared.event.ServerEvent.{ServerEvent}
-use Rattle.af_base.specs.declared.event.ServerEvent.TheVariants as server
-use Rattle.af_base.specs.declared.event.HandEvent.{HandEvent}
-use Rattle.af_base.specs.declared.event.HandEvent.TheVariants as hand
+use Rattle.af_model.proofs.Basics.{both_first, hand_flush, no_flush}
 use Rattle.af_model.specs.declared.shape.Shape.{Shape}
 use Rattle.af_model.specs.declared.point.TrackPoint.{TrackPoint}
-use Rattle.af_model.specs.Point.{start, after_client, after_server, after_hand}
-use Rattle.af_model.specs.History.{Moment, by_client, by_server, by_hand, client_of, clients_at, after, is_tame, is_lawful, flush_in, flushes_of}
-use Rattle.af_model.proofs.Logic.{both_left, both_right, both_are}
+use Rattle.af_model.specs.Point.{start, after_client}
+use Rattle.af_model.specs.History.{Moment, by_client, by_server, by_hand, client_of, after, is_tame, is_lawful, flush_in, flushes_of}
+use Rattle.af_model.proofs.Logic.{both_right}
 
 -- what was lawful with an event more was lawful before
 pub lawful_before : (es : List ClientEvent) (e : ClientEvent) → is_lawful (es ++ e ∷ []) ≡ true → is_lawful es ≡ true
 lawful_before [] e h = refl
-lawful_before (x ∷ es) e h = both_are (is_tame x) (is_lawful es) (both_left (is_tame x) _ h) (lawful_before es e (both_right (is_tame x) _ h))
+lawful_before (x ∷ es) e h = both_true (is_tame x) (is_lawful es) (both_first (is_tame x) _ h) (lawful_before es e (both_right (is_tame x) _ h))
 
 pub poke_is_not : (es : List ClientEvent) (word value : ℕ) → is_lawful (es ++ client.Poke word value ∷ []) ≡ true → ⊥
 poke_is_not [] word value h = true≢false (sym h)
@@ -36,36 +34,14 @@ flushes_client p (client.SawStatus word) = omega arith
 flushes_client p (client.Poke word value) = omega arith
 flushes_client p (client.Learn count) = omega arith
 
-flushes_server : (p : TrackPoint) (e : ServerEvent) → (after_server p e).flushes ≡ p.flushes
-flushes_server p (server.SawGain word) = refl
-flushes_server p (server.SawFlush flush) = refl
-flushes_server p (server.SawRear rear) = refl
-flushes_server p (server.SawFront front) = refl
-flushes_server p (server.Drop to) = refl
-flushes_server p (server.Take count) = refl
-flushes_server p (server.Tally missing) = refl
-flushes_server p (server.SetFlags bits) = refl
-flushes_server p (server.SetStatus word) = refl
-flushes_server p (server.Learn count) = refl
-
-flushes_hand : (p : TrackPoint) (e : HandEvent) → (after_hand p e).flushes ≡ p.flushes
-flushes_hand p (hand.SetFlags bits) = refl
-flushes_hand p (hand.Met client) = refl
-
 -- the flush count is the number of the client's flushes
 pub flushes_are : (shape : Shape) (order : List Moment) → (after (start shape) order).flushes ≡ flushes_of (client_of order)
 flushes_are shape [] = refl
 flushes_are shape (by_client e ∷ order) = flushes_client (after (start shape) order) e ∙ ap (λ n. n + flush_in e) (flushes_are shape order) ∙ sym (flushes-snoc (client_of order) e)
-flushes_are shape (by_server e ∷ order) = flushes_server (after (start shape) order) e ∙ flushes_are shape order
-flushes_are shape (by_hand e ∷ order) = flushes_hand (after (start shape) order) e ∙ flushes_are shape order
+flushes_are shape (by_server e ∷ order) = no_flush (after (start shape) order) e ∙ flushes_are shape order
+flushes_are shape (by_hand e ∷ order) = hand_flush (after (start shape) order) e ∙ flushes_are shape order
 
 -- a list stays lawful with an event that is no poke
 pub lawful_more : (es : List ClientEvent) (e : ClientEvent) → is_tame e ≡ true → is_lawful es ≡ true → is_lawful (es ++ e ∷ []) ≡ true
-lawful_more [] e tame h = both_are (is_tame e) true tame refl
-lawful_more (x ∷ es) e tame h = both_are (is_tame x) _ (both_left (is_tame x) _ h) (lawful_more es e tame (both_right (is_tame x) _ h))
-
-pub clients_at_most : (order : List Moment) → clients_at order ≤ length (client_of order)
-clients_at_most [] = omega arith
-clients_at_most (by_client e ∷ order) = let r = clients_at_most order in let l : length (client_of order ++ e ∷ []) ≡ length (client_of order) + 1 = length-append (client_of order) (e ∷ []) in omega arith
-clients_at_most (by_server e ∷ order) = clients_at_most order
-clients_at_most (by_hand e ∷ order) = omega arith
+lawful_more [] e tame h = both_true (is_tame e) true tame refl
+lawful_more (x ∷ es) e tame h = both_true (is_tame x) _ (both_first (is_tame x) _ h) (lawful_more es e tame (both_right (is_tame x) _ h))

@@ -13,6 +13,7 @@ use Rattle.af_base.specs.declared.state.Command.{Command}
 use Rattle.af_base.specs.declared.state.Command.TheVariants.{ColdIdle, Exit, MixWrite}
 use Rattle.af_base.specs.declared.state.FastState.{FastState}
 use Rattle.af_base.specs.Log.{slots, entry_slot, count_seen}
+use Rattle.af_model.proofs.Basics.{mixes_state}
 use Rattle.af_model.specs.Cycles.{IsSeen, state_of, cold_done, cycle_by, cycle_of, shown, SubmixSlot, is_mono, mono_marks, Found, Mixes, is_mixed, LegalCycle}
 use Rattle.af_model.specs.JournalForm.{IsSubmix, IsMixed, IsAbsent, is_spent, IsEntry}
 use Rattle.af_model.specs.StateQueue.{slot_of, carries}
@@ -33,11 +34,6 @@ unspent_by done cold _ = refl
 unspent : (done : ℕ) (state : Option FastState) → is_spent (cycle_of done state) ≡ false
 unspent done None = refl
 unspent done (Some x) = unspent_by done x.cold_gen x.command
-
--- a mix has a state
-state_to_mix : (done : ℕ) (state : Option FastState) → is_mixed (cycle_of done state) ≡ true → (x : FastState) × (state ≡ Some x)
-state_to_mix done None mixed = absurd (true≢false (sym mixed))
-state_to_mix done (Some x) mixed = (x, refl)
 
 -- ## The marks
 
@@ -107,7 +103,7 @@ pub entry_form : (asked : ℕ) (states : List FastState) (entries : List CycleEn
 entry_form asked states entries place before after entry legal = record {
   kept = ap is_spent legal.what ∙ unspent (cold_done states entries) (state_of states entry.state);
   mixes = (λ mixed.
-      let state = state_to_mix (cold_done states entries) (state_of states entry.state) (sym (ap is_mixed legal.what) ∙ mixed) in
+      let state = mixes_state (cold_done states entries) (state_of states entry.state) (sym (ap is_mixed legal.what) ∙ mixed) in
       mix_form asked state.0 place before after entry (legal.mixes state.0 state.1 mixed));
   still = legal.still;
 }

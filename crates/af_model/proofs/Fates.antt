@@ -1,17 +1,19 @@
 -- If nothing was dropped, what was taken begins what was released.
 use Rattle.std.proofs.Common.{◌≡◌, ◌≢◌, ℕ, ◌+◌, ◌-◌, ◌≤◌, ◌==◌, if◌then◌else◌, max, Bool, eq-eqb, ne_eqb, eqb-true, false, true, true≢false, ◌&&◌, List, [], ◌∷◌, ◌++◌, take, drop, refl, sym, ap, ◌∙◌, subst, arith, take-add}
+use Rattle.af_base.proofs.Basics.{both_true}
 use Rattle.af_base.specs.declared.event.ClientEvent.{ClientEvent}
 use Rattle.af_base.specs.declared.event.ClientEvent.TheVariants as client
 use Rattle.af_base.specs.declared.event.ServerEvent.{ServerEvent}
 use Rattle.af_base.specs.declared.event.ServerEvent.TheVariants as server
 use Rattle.af_base.specs.declared.event.HandEvent.{HandEvent}
 use Rattle.af_base.specs.declared.event.HandEvent.TheVariants as hand
+use Rattle.af_model.proofs.Basics.{both_first}
 use Rattle.af_model.specs.declared.shape.Shape.{Shape}
 use Rattle.af_model.specs.declared.point.TrackPoint.{TrackPoint}
 use Rattle.af_model.specs.Point.{start, drop_end, ServerMay, after_client, after_server, after_hand}
 use Rattle.af_model.specs.History.{Moment, by_client, by_server, by_hand, server_of, after, IsLegal, with_taken, taken_of, HasHistory}
 use Rattle.af_model.specs.Fates.{keeps_all, drops_none, InTurn}
-use Rattle.af_model.proofs.Logic.{both_left, both_right, both_are}
+use Rattle.af_model.proofs.Logic.{both_right}
 
 -- for wrap 0 a drop consumes all that the last rear showed
 pub drop_flat : (p : TrackPoint) → p.wrap ≡ 0 → drop_end p ≡ p.rear_seen
@@ -81,8 +83,8 @@ in_turn shape (by_server e ∷ order) h = server_turn shape _ _ e h.0 (in_turn s
 in_turn shape (by_hand e ∷ order) h = hand_turn shape _ e (in_turn shape order h.1)
 
 before_it : (es : List ServerEvent) (e : ServerEvent) → drops_none (es ++ e ∷ []) ≡ true → (drops_none es ≡ true) × (keeps_all e ≡ true)
-before_it [] e h = (refl, both_left (keeps_all e) true h)
-before_it (x ∷ es) e h = let r = before_it es e (both_right (keeps_all x) _ h) in let x' : keeps_all x ≡ true = both_left (keeps_all x) _ h in (ap (λ b. b && drops_none es) x' ∙ r.0, r.1)
+before_it [] e h = (refl, both_first (keeps_all e) true h)
+before_it (x ∷ es) e h = let r = before_it es e (both_right (keeps_all x) _ h) in let x' : keeps_all x ≡ true = both_first (keeps_all x) _ h in (ap (λ b. b && drops_none es) x' ∙ r.0, r.1)
 
 module _ (frames : List ℕ) (shape : Shape) where
   -- what was taken is what was released up to the position consumed
@@ -135,5 +137,5 @@ taken_begins shape ce cf se sf he h none =
 
 -- an event that drops nothing adds no drop
 pub drops_more : (es : List ServerEvent) (e : ServerEvent) → keeps_all e ≡ true → drops_none es ≡ true → drops_none (es ++ e ∷ []) ≡ true
-drops_more [] e k h = both_are (keeps_all e) true k refl
-drops_more (x ∷ es) e k h = both_are (keeps_all x) _ (both_left (keeps_all x) _ h) (drops_more es e k (both_right (keeps_all x) _ h))
+drops_more [] e k h = both_true (keeps_all e) true k refl
+drops_more (x ∷ es) e k h = both_true (keeps_all x) _ (both_first (keeps_all x) _ h) (drops_more es e k (both_right (keeps_all x) _ h))

@@ -1,13 +1,13 @@
 -- How the entries of a log are dealt out to the rounds of a journal.
 use Rattle.std.proofs.Common.{◌≡◌, ℕ, zero, suc, ◌+◌, ◌-◌, ◌<◌, ◌≤◌, List, [], ◌∷◌, ◌++◌, length, map, take, drop, slice_index_or, refl, ap, sym, ◌∙◌, arith}
-use Rattle.std.specs.List.{flat_map}
-use Rattle.std.proofs.lemmas.List.{length-append, length-take-le, length-drop, take-append-drop, take_all}
+use Rattle.std.proofs.lemmas.List.{length-append, length-take-le, length-drop}
 use Rattle.std.proofs.lemmas.List.Elements.{All-get_or}
 use Rattle.af_base.specs.Log.{Logged}
 use Rattle.af_base.specs.declared.log.CycleEntry.{CycleEntry}
 use Rattle.af_base.specs.declared.frame.Frame.{Frame}
+use Rattle.af_model.proofs.Basics.{same_rounds}
 use Rattle.af_model.specs.declared.journal.Round.{Round}
-use Rattle.af_model.specs.Journals.{EntrySeen, RoundNoted, RoundsNoted, RoundSeen, journal_of, cycles_of, entries_of, entries_seen, no_round, rounds_seen, taken_by}
+use Rattle.af_model.specs.Journals.{EntrySeen, RoundNoted, RoundsNoted, journal_of, cycles_of, entries_of, entries_seen, no_round, rounds_seen, taken_by}
 use Rattle.af_model.specs.JournalForm.{IsJournal, IsRound}
 use Rattle.af_model.specs.Noting.{Follow, none_noted, round_noted}
 
@@ -15,15 +15,6 @@ use Rattle.af_model.specs.Noting.{Follow, none_noted, round_noted}
 pub same-entries : (frames : List Frame) (entries : List CycleEntry) → map (λ x. x.entry) (entries_seen frames entries) ≡ entries
 same-entries frames [] = refl
 same-entries frames (e ∷ es) = ap (λ l. e ∷ l) (same-entries (drop (taken_by e) frames) es)
-
-pub same-length : (frames : List Frame) (entries : List CycleEntry) → length (entries_seen frames entries) ≡ length entries
-same-length frames [] = refl
-same-length frames (e ∷ es) = ap suc (same-length (drop (taken_by e) frames) es)
-
--- there are as many rounds as were noted
-pub same-rounds : (entries : List EntrySeen) (rounds : List RoundNoted) → length (rounds_seen entries rounds) ≡ length rounds
-same-rounds entries [] = refl
-same-rounds entries (r ∷ rs) = ap suc (same-rounds (drop r.cycles entries) rs)
 
 -- a round keeps its calls and its turn
 pub same-calls : (entries : List EntrySeen) (rounds : List RoundNoted) (i : ℕ) → (slice_index_or (rounds_seen entries rounds) i no_round).calls ≡ (slice_index_or rounds i none_noted).calls
@@ -56,13 +47,6 @@ first-count entries (r ∷ rs) (suc i) enough = let rest = rounds_seen (drop r.c
     let here = length-take-le r.cycles entries (omega arith) in
     let there = first-count (drop r.cycles entries) rs i (left-over entries r rs enough) in omega arith
 
--- all entries are dealt out if the rounds have as many
-pub all-dealt : (entries : List EntrySeen) (rounds : List RoundNoted) → cycles_of rounds ≡ length entries → entries_of (rounds_seen entries rounds) ≡ entries
-all-dealt [] [] same = refl
-all-dealt (e ∷ es) [] same = absurd (omega arith)
-all-dealt entries (r ∷ rs) same = let left = length-drop r.cycles entries in
-    ap (λ l. take r.cycles entries ++ l) (all-dealt (drop r.cycles entries) rs (omega arith)) ∙ take-append-drop r.cycles entries
-
 -- the place of a round's first entry is the number of entries before it
 pub first-place : (at : ℕ) (rounds : List Round) (i : ℕ) (other : Round) → Follow at rounds → i < length rounds → (slice_index_or rounds i other).first ≡ at + cycles_of (take i (map round_noted rounds))
 first-place at [] i other follow lt = absurd (omega arith)
@@ -74,14 +58,9 @@ pub follow-more : (at : ℕ) (rounds : List Round) (r : Round) → Follow at rou
 follow-more at [] r follow first = let e : r.first ≡ at = omega arith in (e, tt)
 follow-more at (x ∷ xs) r follow first = (follow.0, follow-more (at + x.cycles) xs r follow.1 (omega arith))
 
--- one round more has its entries beside theirs
-pub cycles-more : (rounds : List RoundNoted) (r : RoundNoted) → cycles_of (rounds ++ r ∷ []) ≡ cycles_of rounds + r.cycles
-cycles-more [] r = omega arith
-cycles-more (x ∷ xs) r = let e = cycles-more xs r in omega arith
-
 -- each round that was noted has the calls of each track
 pub each-has-calls : (noted : RoundsNoted) (log : Logged) → IsJournal (journal_of noted log) → (i : ℕ) → i < length noted.rounds → length (slice_index_or noted.rounds i none_noted).calls ≡ noted.tracks
 each-has-calls noted log form i inside = let entries = entries_seen log.frames log.entries in let seen = rounds_seen entries noted.rounds in
-    let there : i < length seen = let e = same-rounds entries noted.rounds in omega arith in
+    let there : i < length seen = let e = same_rounds entries noted.rounds in omega arith in
     let whole : IsRound noted.tracks (slice_index_or seen i no_round) = All-get_or (IsRound noted.tracks) seen i no_round there form.rounds in
     ap length (sym (same-calls entries noted.rounds i)) ∙ whole.calls

@@ -1,6 +1,6 @@
 -- What other proofs use again and again: Booleans, tests of order, and words that lie near or outside a block.
-use Rattle.std.proofs.Common.{◌≡◌, ℕ, ◌+◌, ◌-◌, ◌<◌, ◌≤◌, Bool, true, false, true≢false, ◌&&◌, nat_le, nat_lt, if◌then◌else◌, MatchOption, Option, Some, None, fold, List, [], ◌∷◌, refl, sym, ap, arith}
-use Rattle.std.proofs.lemmas.Bool.Decides.{nat_tests}
+use Rattle.std.proofs.Common.{◌≡◌, ℕ, ◌+◌, ◌-◌, ◌<◌, ◌≤◌, Bool, true, false, true≢false, ◌&&◌, nat_lt, if◌then◌else◌, MatchOption, Option, Some, None, fold, List, [], ◌∷◌, refl, sym, ap, arith}
+use Rattle.af_base.proofs.Basics.{is_below, is_not_below}
 use Rattle.af_base.specs.declared.event.ClientEvent.{ClientEvent}
 use Rattle.af_base.specs.declared.event.ClientEvent.TheVariants as client
 use Rattle.af_base.specs.declared.event.ServerEvent.{ServerEvent}
@@ -13,33 +13,11 @@ use Rattle.af_model.specs.ServerCalls.{ServerKept, is_noticed, server_keeps}
 
 -- ## Two tests at once
 
-pub both_left : (a b : Bool) → (a && b) ≡ true → a ≡ true
-both_left true b e = refl
-both_left false b e = e
-
 pub both_right : (a b : Bool) → (a && b) ≡ true → b ≡ true
 both_right true b e = e
 both_right false b e = absurd (true≢false (sym e))
 
-pub both_are : (a b : Bool) → a ≡ true → b ≡ true → (a && b) ≡ true
-both_are true b x y = y
-both_are false b x y = x
-
 -- ## Order
-
--- a test that passes
-pub le_is : (a b : ℕ) → nat_le a b ≡ true → a ≤ b
-le_is a b h = grind (arith, nat_tests)
-
--- the test passes
-pub is_le : (a b : ℕ) → a ≤ b → nat_le a b ≡ true
-is_le a b h = grind (arith, nat_tests)
-
-pub nat_lt-yes : (a b : ℕ) → a < b → nat_lt a b ≡ true
-nat_lt-yes a b lt = search arith
-
-pub nat_lt-no : (a b : ℕ) → b ≤ a → nat_lt a b ≡ false
-nat_lt-no a b le = search arith
 
 -- between two positions that are near, the words tell how far
 pub ahead-between : (a b : ℕ) → a ≤ b → b ≤ a + 65536 → ahead (wrapped a) (wrapped b) ≡ b - a
@@ -48,10 +26,10 @@ ahead-between a b low high = omega arith
 -- ## Words that do not fit a block
 
 pub outside-none : (frames front rear : ℕ) → ahead front rear ≤ frames → outside frames front rear ≡ None
-outside-none frames front rear le = ap (λ (b : Bool). if b then Some (front, rear) else None) (nat_lt-no frames (ahead front rear) le)
+outside-none frames front rear le = ap (λ (b : Bool). if b then Some (front, rear) else None) (is_not_below frames (ahead front rear) le)
 
 pub outside-some : (frames front rear : ℕ) → frames < ahead front rear → outside frames front rear ≡ Some (front, rear)
-outside-some frames front rear lt = ap (λ (b : Bool). if b then Some (front, rear) else None) (nat_lt-yes frames (ahead front rear) lt)
+outside-some frames front rear lt = ap (λ (b : Bool). if b then Some (front, rear) else None) (is_below frames (ahead front rear) lt)
 
 -- the words that shut a proxy do not fit the block
 abbrev pub LieOutside : ℕ → Option (ℕ × ℕ) → Type 0

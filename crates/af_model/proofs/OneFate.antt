@@ -1,17 +1,17 @@
 -- Each frame that was released is mixed once, discarded once, or still queued.
 use Rattle.std.proofs.Common.{◌≡◌, ℕ, zero, suc, ◌+◌, ◌-◌, ◌<◌, ◌≤◌, Some, List, [], ◌∷◌, ◌++◌, take, drop, slice_get, refl, sym, ap, ◌∙◌, subst, arith, append_assoc, append-nil, lt_of_not-le}
 use Rattle.std.proofs.lemmas.Option.{none-some, same_Some}
+use Rattle.af_model.proofs.Basics.{client_taken}
 use mathlib.Core.Logic.{dite}
 use native.Mathlib.Decide.{dec_le}
 use Rattle.af_base.specs.declared.event.ClientEvent.{ClientEvent}
-use Rattle.af_base.specs.declared.event.ClientEvent.TheVariants as client
 use Rattle.af_base.specs.declared.event.ServerEvent.{ServerEvent}
 use Rattle.af_base.specs.declared.event.ServerEvent.TheVariants as server
 use Rattle.af_base.specs.declared.event.HandEvent.{HandEvent}
 use Rattle.af_base.specs.declared.event.HandEvent.TheVariants as hand
 use Rattle.af_model.specs.declared.shape.Shape.{Shape}
 use Rattle.af_model.specs.declared.point.TrackPoint.{TrackPoint}
-use Rattle.af_model.specs.Point.{start, ServerMay, after_client, after_server, after_hand}
+use Rattle.af_model.specs.Point.{start, ServerMay, after_server, after_hand}
 use Rattle.af_model.specs.History.{Moment, by_client, by_server, by_hand, after, IsLegal, with_taken, taken_of, HasHistory, point}
 use Rattle.af_model.specs.Fates.{InTurn}
 use Rattle.af_model.specs.Spans.{Span, covered_by, spans_of, fates_of, Follow, HasOneFate, mixed_by, queued, frames_by}
@@ -24,17 +24,6 @@ mixed_in released base s = frames_by s.fate (take (s.to - s.from) (drop (s.from 
 follow_join : (from mid to : ℕ) (xs ys : List Span) → Follow from xs mid → Follow mid ys to → Follow from (xs ++ ys) to
 follow_join from mid to [] ys f g = subst (λ (z : ℕ). Follow z ys to) (sym f) g
 follow_join from mid to (x ∷ xs) ys f g = (f.0, f.1, follow_join x.to mid to xs ys f.2 g)
-
-pub same_consumed : (p : TrackPoint) (e : ClientEvent) → (after_client p e).consumed ≡ p.consumed
-same_consumed p (client.Release count) = refl
-same_consumed p client.Flush = refl
-same_consumed p (client.SetGain word) = refl
-same_consumed p (client.ClearFlags old) = refl
-same_consumed p (client.SawFlags flags) = refl
-same_consumed p (client.SawFront front) = refl
-same_consumed p (client.SawStatus word) = refl
-same_consumed p (client.Poke word value) = refl
-same_consumed p (client.Learn count) = refl
 
 pub hand_consumed : (p : TrackPoint) (e : HandEvent) → (after_hand p e).consumed ≡ p.consumed
 hand_consumed p (hand.SetFlags bits) = refl
@@ -54,7 +43,7 @@ covers shape p others (server.Learn count) may turn = refl
 
 pub spans_follow : (shape : Shape) (order : List Moment) → IsLegal (start shape) order → Follow shape.base (spans_of shape order) (after (start shape) order).consumed
 spans_follow shape [] h = refl
-spans_follow shape (by_client e ∷ order) h = subst (λ (z : ℕ). Follow shape.base (spans_of shape order) z) (sym (same_consumed (after (start shape) order) e)) (spans_follow shape order h.1)
+spans_follow shape (by_client e ∷ order) h = subst (λ (z : ℕ). Follow shape.base (spans_of shape order) z) (sym (client_taken (after (start shape) order) e)) (spans_follow shape order h.1)
 spans_follow shape (by_server e ∷ order) h =
     follow_join shape.base _ _ (spans_of shape order) _ (spans_follow shape order h.1) (covers shape (after (start shape) order) _ e h.0 (in_turn shape order h.1))
 spans_follow shape (by_hand e ∷ order) h = subst (λ (z : ℕ). Follow shape.base (spans_of shape order) z) (sym (hand_consumed (after (start shape) order) e)) (spans_follow shape order h.1)

@@ -6,36 +6,24 @@ use Rattle.af_base.specs.declared.event.ClientEvent.{ClientEvent}
 use Rattle.af_base.specs.declared.event.ClientEvent.TheVariants as client
 use Rattle.af_base.specs.declared.event.ServerEvent.{ServerEvent}
 use Rattle.af_base.specs.declared.event.ServerEvent.TheVariants as server
+use Rattle.af_model.proofs.Basics.{both_first, keeps}
 use Rattle.af_model.specs.declared.shape.Shape.{Shape}
 use Rattle.af_model.specs.declared.point.TrackPoint.{TrackPoint}
 use Rattle.af_model.specs.Point.{wrapped, ClientMay, ServerMay, after_client, after_server}
 use Rattle.af_model.specs.Point.{start as block_start}
 use Rattle.af_model.specs.History.{Moment, by_client, by_server, by_hand, client_of, server_of, hand_of, IsLegal, HasHistory}
 use Rattle.af_model.specs.History.{after as block_after}
-use Rattle.af_model.specs.Fates.{InTurn, keeps_all, drops_none}
+use Rattle.af_model.specs.Fates.{InTurn, drops_none}
 use Rattle.af_model.specs.Order.{Event, one, two, ones, twos, Legal, after}
 use Rattle.af_model.specs.PipeHistory.{PipePoint, start, room_by, legal, next, HasPipeHistory, PutKept, nothing_put, may_put, after_put, IsPutList, put_kept, is_taking, IsTakeList}
 use Rattle.af_model.proofs.Fates.{in_turn, begins}
 use Rattle.af_model.proofs.Orders.{ones_one, ones_two, twos_one, twos_two, after_end, legal_end}
 use Rattle.af_model.proofs.Splits.{legal_at}
-use Rattle.af_model.proofs.Logic.{both_left, both_right, ahead-between}
-
--- an end that takes drops nothing
-keeps : (e : ServerEvent) → is_taking e ≡ true → keeps_all e ≡ true
-keeps (server.SawRear rear) is = refl
-keeps (server.SawFront front) is = refl
-keeps (server.Take count) is = refl
-keeps (server.Learn count) is = refl
-keeps (server.SawGain word) is = refl
-keeps (server.SawFlush flush) is = refl
-keeps (server.Drop to) is = is
-keeps (server.Tally missing) is = refl
-keeps (server.SetFlags bits) is = refl
-keeps (server.SetStatus word) is = refl
+use Rattle.af_model.proofs.Logic.{both_right, ahead-between}
 
 all_kept : (es : List ServerEvent) → IsTakeList es → drops_none es ≡ true
 all_kept [] is = refl
-all_kept (e ∷ es) is = let here : is_taking e ≡ true = both_left (is_taking e) _ is in ap (λ b. b && drops_none es) (keeps e here) ∙ all_kept es (both_right (is_taking e) _ is)
+all_kept (e ∷ es) is = let here : is_taking e ≡ true = both_first (is_taking e) _ is in ap (λ b. b && drops_none es) (keeps e here) ∙ all_kept es (both_right (is_taking e) _ is)
 
 -- the order of both ends, oldest first
 abbrev events_of : List Moment → List (Event ClientEvent ServerEvent)
@@ -166,8 +154,8 @@ module _ (shape : Shape) (size : ℕ) (few : size ≤ 65536) (from_zero : shape.
       }
   agrees (by_server e ∷ order) h none puts takes =
       let whole : (list_all is_taking (server_of order) && list_all is_taking (e ∷ [])) ≡ true = sym (list_all-append is_taking (server_of order) (e ∷ [])) ∙ takes in
-      let before = both_left _ _ whole in
-      let here : is_taking e ≡ true = both_left (is_taking e) true (both_right (list_all is_taking (server_of order)) _ whole) in
+      let before = both_first _ _ whole in
+      let here : is_taking e ≡ true = both_first (is_taking e) true (both_right (list_all is_taking (server_of order)) _ whole) in
       let a = agrees order h.1 none puts before in
       let n : ℕ = length (client_of order) in
       let m : ℕ = length (server_of order) in

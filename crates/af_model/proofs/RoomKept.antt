@@ -1,6 +1,7 @@
 -- In a history whose client's list is spelled by its calls, neither proxy ever sees the other outside the room.
 use Rattle.std.proofs.Common.{◌⊎◌, inl, inr, true≢false, ◌≡◌, ℕ, ◌+◌, ◌-◌, ◌<◌, ◌≤◌, min, Bool, true, false, if◌then◌else◌, MatchOption, Option, Some, None, is_some, nat_lt, fold, List, [], ◌∷◌, ◌++◌, refl, sym, ap, ◌∙◌, subst, arith}
 use Rattle.std.proofs.lemmas.Grind.{fold-append}
+use Rattle.af_base.proofs.Basics.{is_not_below}
 use Rattle.af_base.specs.declared.event.ClientCall.{ClientCall}
 use Rattle.af_base.specs.declared.event.ClientCall.TheVariants as call
 use Rattle.af_base.specs.declared.event.ClientEvent.{ClientEvent}
@@ -21,7 +22,7 @@ use Rattle.af_base.specs.declared.seen.Seen.TheVariants as seen
 use Rattle.af_model.specs.ServerCalls.{ServerKept, is_noticed, server_keeps, server_begins, server_kept, look_at, drops_of, IsServerList, LooksInOrder}
 use Rattle.af_model.specs.ServerCalls as list
 use Rattle.af_model.proofs.Fates.{in_turn, drop_low}
-use Rattle.af_model.proofs.Logic.{nat_lt-no, ahead-between}
+use Rattle.af_model.proofs.Logic.{ahead-between}
 
 module _ (shape : Shape) where
   -- the front that the last event saw, if it saw one
@@ -155,7 +156,7 @@ module _ (shape : Shape) where
     outside_none : (consumed released : ℕ) → consumed ≤ released → released ≤ consumed + shape.frames → outside shape.frames (wrapped consumed) (wrapped released) ≡ None
     outside_none consumed released low high =
         let e : ahead (wrapped consumed) (wrapped released) ≡ released - consumed = ahead-between consumed released low (omega arith) in
-        let f : nat_lt shape.frames (ahead (wrapped consumed) (wrapped released)) ≡ false = nat_lt-no _ _ (omega arith) in
+        let f : nat_lt shape.frames (ahead (wrapped consumed) (wrapped released)) ≡ false = is_not_below _ _ (omega arith) in
         ap (λ (b : Bool). if b then Some (wrapped consumed, wrapped released) else None) f
 
     released_fits : (o : Option ℕ) (consumed released count front : ℕ) → o ≡ Some front → ahead front (wrapped released) + count ≤ shape.frames → consumed ≤ released

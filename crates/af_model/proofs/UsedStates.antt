@@ -1,24 +1,10 @@
 -- The states that the entries of a log used, as entries and states are added.
-use Rattle.std.proofs.Common.{◌≡◌, ℕ, zero, suc, ◌+◌, ◌≤◌, ◌||◌, Bool, false, if◌then◌else◌, fold, Option, Some, List, [], ◌∷◌, ◌++◌, length, refl, ap, ◌∙◌, arith}
+use Rattle.std.proofs.Common.{◌≡◌, ℕ, ◌+◌, ◌≤◌, ◌||◌, Bool, false, if◌then◌else◌, fold, Option, List, [], ◌∷◌, ◌++◌, length, refl, ap, ◌∙◌, arith}
 use Rattle.std.proofs.lemmas.Grind.{fold-append}
 use Rattle.af_base.specs.declared.log.CycleEntry.{CycleEntry}
 use Rattle.af_base.specs.declared.state.FastState.{FastState}
+use Rattle.af_model.proofs.Basics.{same_before}
 use Rattle.af_model.specs.Cycles.{state_of, last_used, has_exit, is_exit, is_cold, cold_of, cold_done, UseUpTo}
-
--- the states before a further one keep their numbers
-pub state_of-before : (xs : List FastState) (x : FastState) (k : ℕ) → k ≤ length xs → state_of (xs ++ x ∷ []) k ≡ state_of xs k
-state_of-before xs x zero few = refl
-state_of-before [] x (suc k) few = absurd (omega arith)
-state_of-before (y ∷ xs) x (suc zero) few = refl
-state_of-before (y ∷ xs) x (suc (suc k)) few = state_of-before xs x (suc k) (omega arith)
-
--- the new state has the next number
-pub state_of-newest : (xs : List FastState) (x : FastState) → state_of (xs ++ x ∷ []) (length xs + 1) ≡ Some x
-state_of-newest [] x = refl
-state_of-newest (y ∷ xs) x =
-    let next : suc (length xs) + 1 ≡ suc (suc (length xs)) = omega arith in
-    let here : suc (length xs) ≡ length xs + 1 = omega arith in
-    ap (state_of (y ∷ xs ++ x ∷ [])) next ∙ ap (state_of (xs ++ x ∷ [])) here ∙ state_of-newest xs x
 
 pub last_used-push : (es : List CycleEntry) (e : CycleEntry) → last_used (es ++ e ∷ []) ≡ e.state
 last_used-push es e = fold-append (λ (number : ℕ) (entry : CycleEntry). entry.state) 0 es (e ∷ [])
@@ -37,7 +23,7 @@ module _ (xs : List FastState) (x : FastState) where
   cold-before : (done : ℕ) (es : List CycleEntry) → UseUpTo (length xs) es → fold (performed (xs ++ x ∷ [])) done es ≡ fold (performed xs) done es
   cold-before done [] up = refl
   cold-before done (e ∷ es) up =
-      ap (λ (d : ℕ). fold (performed (xs ++ x ∷ [])) d es) (ap (λ (o : Option FastState). if is_cold e.cycle then cold_of o else done) (state_of-before xs x e.state up.0))
+      ap (λ (d : ℕ). fold (performed (xs ++ x ∷ [])) d es) (ap (λ (o : Option FastState). if is_cold e.cycle then cold_of o else done) (same_before xs x e.state up.0))
       ∙ cold-before (performed xs done e) es up.1
 
   pub cold_done-before : (es : List CycleEntry) → UseUpTo (length xs) es → cold_done (xs ++ x ∷ []) es ≡ cold_done xs es

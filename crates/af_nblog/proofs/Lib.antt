@@ -1,3 +1,4 @@
+pub mod Basics
 pub mod Spelling
 mod Releases
 pub mod Noting

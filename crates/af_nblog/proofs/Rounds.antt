@@ -9,6 +9,7 @@ use Rattle.af_base.specs.declared.event.ClientEvent.TheVariants as client
 use Rattle.af_base.specs.declared.event.ServerEvent.{ServerEvent}
 use Rattle.af_base.specs.declared.event.ServerEvent.TheVariants as server
 use Rattle.af_model.specs.declared.shape.Shape.{Shape}
+use Rattle.af_nblog.proofs.Basics.{last_of}
 use Rattle.af_nblog.specs.declared.entries.Note.{Note}
 use Rattle.af_cblk.specs.declared.view.ClientPart.{ClientPart}
 use Rattle.af_cblk.specs.declared.view.ServerPart.{ServerPart}
@@ -98,10 +99,6 @@ rears_behind size puts (_ ∷ first) es told taken low all le s = rears_behind s
 each_more : (room before : ℕ) (rounds : List (List Bool)) (round : List Bool) → EachRefusesLate room before rounds → RefusesLate room (last_accepted before rounds) round → EachRefusesLate room before (rounds ++ round ∷ [])
 each_more room before [] round each late = (late, tt)
 each_more room before (r ∷ rounds) round each late = (each.0, each_more room (count_accepted r) rounds round each.1 late)
-
-last_accepted-append : (before : ℕ) (rounds : List (List Bool)) (round : List Bool) → last_accepted before (rounds ++ round ∷ []) ≡ count_accepted round
-last_accepted-append before [] round = refl
-last_accepted-append before (r ∷ rounds) round = last_accepted-append (count_accepted r) rounds round
 
 -- what a list's front has, if all of it has it
 front_takes : (xs ys : List ServerEvent) → list_all takes_note (xs ++ ys) ≡ true → list_all takes_note xs ≡ true
@@ -226,7 +223,7 @@ module _ (size room : ℕ) (rounds : List (List Bool)) (round : List Bool) (note
         puts = told_all_puts;
         late = each_more room 0 rounds round before.late late;
         drained =
-            let a = last_accepted-append 0 rounds round in
+            let a = last_of 0 rounds round in
             let b = left in
             let c = read_more in
             let d = accepted_more in

@@ -4,6 +4,7 @@ use Rattle.std.proofs.lemmas.List.{length-reverse, reverse-append, reverse-rever
 use Rattle.std.proofs.lemmas.List.Elements.{All-append, All-nil, All-head, All-tail, All-push}
 use Rattle.std.proofs.lemmas.Option.{slice_get_within}
 use Rattle.std.proofs.lemmas.Bool.{cases_eq}
+use Rattle.af_base.proofs.Basics.{at_last, some_same}
 use Rattle.af_base.specs.declared.turn.NormalTake.{NormalTake}
 use Rattle.af_base.specs.declared.turn.TrackTurn.{TrackTurn}
 use Rattle.af_base.specs.Roomy.{Roomy}
@@ -61,21 +62,11 @@ module _ (i : ℕ) (x y : NormalState) (h : Hands i x y) where
   pub hands_other : (k : ℕ) → k ≢ i → stream_at y.streams k ≡ stream_at x.streams k
   hands_other k ne = ap (λ (z : NormalState). stream_at z.streams k) h.leaves ∙ get_or-set_other x.streams i k _ None ne
 
--- the last of a list
-get_last : {A : Type 0} (xs : List A) (a : A) (n : ℕ) → length xs ≡ n → slice_get (xs ++ a ∷ []) n ≡ Some a
-get_last [] a zero e = refl
-get_last [] a (suc n) e = absurd (omega arith)
-get_last (x ∷ xs) a zero e = absurd (omega arith)
-get_last (x ∷ xs) a (suc n) e = get_last xs a n (omega arith)
-
 -- the items before the last one stay
 get_before : {A : Type 0} (xs : List A) (a : A) (n : ℕ) → n < length xs → slice_get (xs ++ a ∷ []) n ≡ slice_get xs n
 get_before [] a n lt = absurd (omega arith)
 get_before (x ∷ xs) a zero lt = refl
 get_before (x ∷ xs) a (suc n) lt = get_before xs a n (omega arith)
-
-one_of : {A : Type 0} (a b : A) → Some a ≡ Some b → a ≡ b
-one_of a b e = cc
 
 -- each hand so far is of its track's block
 abbrev pub HandsOf : List Made → List HandSide → Type 0
@@ -88,8 +79,8 @@ hand_more blocks i x y count whole of h = λ k flag at.
     let inside : k < length (x.hands ++ hand_of h.stream ∷ []) = slice_get_within (x.hands ++ hand_of h.stream ∷ []) k flag here in
     ⊎_elim
     (λ (e : k ≡ i).
-    let is : flag ≡ hand_of h.stream = one_of flag (hand_of h.stream) (sym here ∙ ap (λ (n : ℕ). slice_get (x.hands ++ hand_of h.stream ∷ []) n) e ∙ get_last x.hands (hand_of h.stream) i count) in
-    let same : whole.stream ≡ h.stream = one_of whole.stream h.stream (sym whole.is_home ∙ h.is_home) in
+    let is : flag ≡ hand_of h.stream = some_same flag (hand_of h.stream) (sym here ∙ ap (λ (n : ℕ). slice_get (x.hands ++ hand_of h.stream ∷ []) n) e ∙ at_last x.hands (hand_of h.stream) i count) in
+    let same : whole.stream ≡ h.stream = some_same whole.stream h.stream (sym whole.is_home ∙ h.is_home) in
     ap (λ (n : ℕ). slice_get blocks n) e ∙ whole.fits.made ∙ ap (λ (s : ServerState). Some (hand_made (hand_of s))) same ∙ ap (λ (f : HandSide). Some (hand_made f)) (sym is))
     (λ (ne : k ≢ i).
     let lt : k < length x.hands = omega (arith, inside, length-append x.hands (hand_of h.stream ∷ []), count) in

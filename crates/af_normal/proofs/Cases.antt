@@ -1,10 +1,6 @@
 -- Cases of what a test or an option decides.
-use Rattle.std.proofs.Common.{◌≡◌, ◌≢◌, ◌==◌, length, true≢false, ℕ, suc, zero, Bool, true, false, MatchBool, Option, Some, None, MatchOption, List, [], ◌∷◌, slice_get, slice_set, refl, ap, sym, ◌∙◌, ◌≤◌, subst, arith}
+use Rattle.std.proofs.Common.{◌≡◌, ◌≢◌, ◌==◌, length, true≢false, Bool, true, false, MatchBool, Option, Some, None, MatchOption, List, [], ◌∷◌, refl, sym, ◌∙◌, ◌≤◌, subst, arith}
 use Rattle.std.proofs.lemmas.Bool.{eqb-true, eq-eqb}
-
-pub by_test : (b : Bool) (P Q R : Type 0) → (P → R) → (Q → R) → MatchBool b P Q → R
-by_test true P Q R f g m = f m
-by_test false P Q R f g m = g m
 
 pub by_item : {A : Type 0} (o : Option A) (P : Type 0) (Q : A → Type 0) (R : Type 0) → (P → R) → ((a : A) → Q a → R) → MatchOption o P Q → R
 by_item None P Q R f g m = f m
@@ -15,14 +11,6 @@ on_true b P Q e p = subst (λ (x : Bool). MatchBool x P Q) (sym e) p
 
 pub on_false : (b : Bool) (P Q : Type 0) → b ≡ false → Q → MatchBool b P Q
 on_false b P Q e q = subst (λ (x : Bool). MatchBool x P Q) (sym e) q
-
--- the other elements of a list stay
-pub get_set_other : {A : Type 0} (xs : List A) (i k : ℕ) (a : A) → k ≢ i → slice_get (slice_set xs i a) k ≡ slice_get xs k
-get_set_other [] i k a ne = refl
-get_set_other (x ∷ xs) zero zero a ne = absurd (ne refl)
-get_set_other (x ∷ xs) zero (suc k) a ne = refl
-get_set_other (x ∷ xs) (suc i) zero a ne = refl
-get_set_other (x ∷ xs) (suc i) (suc k) a ne = get_set_other xs i k a (λ e. ne (ap suc e))
 
 pub where_true : (b : Bool) (P R Q : Type 0) → (P → R) → MatchBool b P Q → MatchBool b R Q
 where_true true P R Q f m = f m

@@ -3,6 +3,7 @@ use Rattle.std.proofs.Common.{◌≡◌, ℕ, ◌<◌, ◌≢◌, Bool, true, fa
 use Rattle.std.proofs.lemmas.Bool.{cases_eq}
 use Rattle.std.proofs.lemmas.List.{get_or-map, length-map}
 use Rattle.std.proofs.Math.Seq.{map-set_same}
+use Rattle.af_base.proofs.Basics.{by_bool}
 use Rattle.af_base.specs.declared.turn.NormalTake.{NormalTake}
 use Rattle.af_base.specs.Turn.{take_seen}
 use Rattle.af_cblk.specs.Sides.{Made}
@@ -22,10 +23,6 @@ passed asked i x e = subst (λ (b : Bool). MatchBool b (TakesOf asked i x x) (x 
 
 pub taken : (asked i : ℕ) (x y : Mixing) → is_mixed_here (track_at x.tracks i) ≡ true → TakesOf asked i x y → MixesTrack asked i x y
 taken asked i x y e t = subst (λ (b : Bool). MatchBool b (TakesOf asked i x y) (y ≡ x)) (sym e) t
-
-by_bool : (b : Bool) (P Q R : Type 0) → (P → R) → (Q → R) → MatchBool b P Q → R
-by_bool true P Q R f g m = f m
-by_bool false P Q R f g m = g m
 
 module _ (asked i : ℕ) (x y : Mixing) where
   pub by_track : (R : Type 0) → (TakesOf asked i x y → R) → (y ≡ x → R) → MixesTrack asked i x y → R

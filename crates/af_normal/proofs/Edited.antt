@@ -1,5 +1,6 @@
 -- What the edit of one track leaves.
 use Rattle.std.proofs.Common.{Bool, true, false, if◌then◌else◌, ◌==◌, ◌≡◌, ℕ, zero, suc, List, Option, length, refl, sym, ap, ◌∙◌, length-set}
+use Rattle.af_base.proofs.Basics.{by_bool}
 use Rattle.af_base.specs.declared.state.Command.{Command}
 use Rattle.af_base.specs.Command.{code_of}
 use Rattle.af_model.specs.Draft.{commanded as with_command}
@@ -12,13 +13,12 @@ use Rattle.af_life.specs.Kept.{track_at}
 use Rattle.af_normal.specs.Editing.{LetsGo, Lends}
 use Rattle.af_normal.specs.Mutating.{EditsAll, EditsTo, EditsTrack, begun, commands, due_command, finished}
 use Rattle.af_normal.specs.State.{NormalState}
-use Rattle.af_normal.proofs.Cases.{by_test}
 
 -- the tracks are as many as before
 pub edited_long : (i : ℕ) (x y : NormalState) → EditsTrack i x y → length y.tracks ≡ length x.tracks
-edited_long i x y e = by_test (must_leave (track_at x.tracks i)) (LetsGo i x y) _ (length y.tracks ≡ length x.tracks)
+edited_long i x y e = by_bool (must_leave (track_at x.tracks i)) (LetsGo i x y) _ (length y.tracks ≡ length x.tracks)
     (λ l. ap (λ (z : NormalState). length z.tracks) l ∙ length-set x.tracks i _)
-    (λ m. by_test (must_enter (track_at x.tracks i)) (Lends i x y) (y ≡ x) (length y.tracks ≡ length x.tracks)
+    (λ m. by_bool (must_enter (track_at x.tracks i)) (Lends i x y) (y ≡ x) (length y.tracks ≡ length x.tracks)
     (λ l. ap (λ (z : NormalState). length z.tracks) l.2 ∙ length-set x.tracks i _)
     (λ l. ap (λ (z : NormalState). length z.tracks) l) m) e
 
@@ -27,9 +27,9 @@ abbrev pub OnlyEdits : NormalState → NormalState → Type 0
 OnlyEdits x y = y ≡ record x { tracks = y.tracks; streams = y.streams; mutator = y.mutator }
 
 pub edit_only : (i : ℕ) (x y : NormalState) → EditsTrack i x y → OnlyEdits x y
-edit_only i x y e = by_test (must_leave (track_at x.tracks i)) (LetsGo i x y) _ (OnlyEdits x y)
+edit_only i x y e = by_bool (must_leave (track_at x.tracks i)) (LetsGo i x y) _ (OnlyEdits x y)
     (λ l. only l)
-    (λ m. by_test (must_enter (track_at x.tracks i)) (Lends i x y) (y ≡ x) (OnlyEdits x y) (λ l. only l.2) (λ l. only l) m) e
+    (λ m. by_bool (must_enter (track_at x.tracks i)) (Lends i x y) (y ≡ x) (OnlyEdits x y) (λ l. only l.2) (λ l. only l) m) e
   where
     only : {tracks : List TrackKept} {streams : List (Option ServerState)} {mutator : Mutates ServerState StreamNames} → y ≡ record x { tracks = tracks; streams = streams; mutator = mutator } → OnlyEdits x y
     only l = l ∙ sym (ap (λ (z : NormalState). record x { tracks = z.tracks; streams = z.streams; mutator = z.mutator }) l)
@@ -47,9 +47,9 @@ all_only room x y e =
 
 -- no change to cold idle is counted
 pub edit_colds : (i : ℕ) (x y : NormalState) → EditsTrack i x y → y.mutator.draft.cold_gen ≡ x.mutator.draft.cold_gen
-edit_colds i x y e = by_test (must_leave (track_at x.tracks i)) (LetsGo i x y) _ (y.mutator.draft.cold_gen ≡ x.mutator.draft.cold_gen)
+edit_colds i x y e = by_bool (must_leave (track_at x.tracks i)) (LetsGo i x y) _ (y.mutator.draft.cold_gen ≡ x.mutator.draft.cold_gen)
     (λ l. ap (λ (z : NormalState). z.mutator.draft.cold_gen) l)
-    (λ m. by_test (must_enter (track_at x.tracks i)) (Lends i x y) (y ≡ x) (y.mutator.draft.cold_gen ≡ x.mutator.draft.cold_gen)
+    (λ m. by_bool (must_enter (track_at x.tracks i)) (Lends i x y) (y ≡ x) (y.mutator.draft.cold_gen ≡ x.mutator.draft.cold_gen)
     (λ l. ap (λ (z : NormalState). z.mutator.draft.cold_gen) l.2) (λ l. ap (λ (z : NormalState). z.mutator.draft.cold_gen) l) m) e
 
 pub edits_colds : (n : ℕ) (x y : NormalState) → EditsTo n x y → y.mutator.draft.cold_gen ≡ x.mutator.draft.cold_gen

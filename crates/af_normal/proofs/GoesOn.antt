@@ -1,8 +1,9 @@
 -- What each step of a turn that goes on asks for, by the steps before it.
-use Rattle.std.proofs.Common.{◌≡◌, ℕ, zero, suc, ◌∷◌, None, ◌+◌, ◌*◌, ◌^◌, ◌<◌, ◌≤◌, All, false, List, [], length, Option, Some, sym, ap, subst, ◌∙◌, arith}
+use Rattle.std.proofs.Common.{◌≡◌, ℕ, ◌+◌, ◌*◌, ◌^◌, ◌<◌, ◌≤◌, All, false, List, [], length, Option, Some, sym, ap, subst, ◌∙◌, arith}
 use Rattle.af_base.specs.declared.report.Report.{Report}
 use Rattle.af_base.specs.declared.state.Push.{Push}
 use Rattle.af_cblk.specs.Sides.{Made}
+use Rattle.af_normal.proofs.Basics.{within}
 use Rattle.af_server.specs.Order.{ServerState}
 use Rattle.af_link.specs.Names.{IsStreamOf}
 use Rattle.af_normal.specs.Mixing.{stream_at}
@@ -24,14 +25,6 @@ use Rattle.af_normal.proofs.OrderTurn.{going_learnt, served_mutator, served_tied
 -- a buffer has frames
 pub some_asked : (frames normal : ℕ) → 1 ≤ frames → 1 ≤ normal → 1 ≤ normal * frames
 some_asked frames normal f n = grind arith
-
-within : (streams : List (Option ServerState)) (i : ℕ) (s : ServerState) → stream_at streams i ≡ Some s → i < length streams
-within [] i s e = absurd (none_some e)
-  where
-    none_some : None ≡ Some s → ⊥
-    none_some e = cc
-within (o ∷ streams) zero s e = omega arith
-within (o ∷ streams) (suc i) s e = let l = within streams i s e in omega arith
 
 -- the proxies that are home are of their blocks, each by its number
 pub all_streams_of : (blocks : List Made) (streams : List (Option ServerState)) → length streams ≤ length blocks → AreServersOf blocks streams → (i : ℕ) (s : ServerState) → stream_at streams i ≡ Some s → IsStreamOf blocks i s

@@ -2,6 +2,7 @@
 use Rattle.std.proofs.Common.{◌≡◌, ℕ, zero, suc, ◌+◌, ◌==◌, ◌&&◌, Bool, true, false, if◌then◌else◌, MatchBool, sym, refl, ap, subst, ◌∙◌, List, [], ◌∷◌, ◌++◌, length, Option, Some, arith}
 use Rattle.std.specs.Prelude.{slice_get, slice_set, map, ◌⊎◌}
 use Rattle.std.proofs.lemmas.Option.{none-some}
+use Rattle.af_base.proofs.Basics.{zero_is}
 use Rattle.af_base.specs.declared.event.ClientEvent.TheVariants as client
 use Rattle.af_base.specs.declared.event.HandEvent.{HandEvent}
 use Rattle.af_base.specs.declared.state.Push.{Push}
@@ -60,12 +61,9 @@ all_silent (suc n) x y none (z, before, h) = let b : Silent x z = all_silent n x
   lists = (λ i. ap (λ (w : NormalState). listed_at (stream_at w.streams i)) h.leaves ∙ listed_set z.streams n h.stream h.is_home i ∙ b.lists i);
 }
 
-is_none : (n : ℕ) → (n == 0) ≡ true → n ≡ 0
-is_none n e = grind arith
-
 none_there : (hands : List HandSide) → (length hands == 0) ≡ true → hands ≡ []
 none_there [] e = refl
-none_there (h ∷ hands) e = let l : length (h ∷ hands) ≡ 0 = is_none (length (h ∷ hands)) e in absurd (omega arith)
+none_there (h ∷ hands) e = let l : length (h ∷ hands) ≡ 0 = zero_is (length (h ∷ hands)) e in absurd (omega arith)
 
 -- what a turn leaves before the acknowledgement: the kept value, the command proxies, the ends and all lists are as they were
 pub record BegunBy (x y : NormalState) : Type 0 where

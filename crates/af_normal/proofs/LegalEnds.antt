@@ -12,6 +12,7 @@ use Rattle.af_base.specs.declared.event.ServerEvent.{ServerEvent}
 use Rattle.af_base.specs.Command.{code_of}
 use Rattle.af_base.specs.Log.{slots}
 use Rattle.af_base.specs.Turn.{Turn, TakeSeen}
+use Rattle.af_life.proofs.Basics.{slot_of_away}
 use Rattle.af_model.specs.Cycles.{cycle_events}
 use Rattle.af_model.specs.Draft.{commanded as with_command}
 use Rattle.af_cblk.specs.declared.view.ClientPart.{ClientPart}
@@ -47,7 +48,6 @@ use Rattle.af_normal.proofs.OrderStages.{Added, acked_list}
 use Rattle.af_normal.proofs.OrderTurn.{edited_mutated, served_mutator, served_tied, served_open}
 use Rattle.af_normal.proofs.LegalLent.{Lent, all_lent}
 use Rattle.af_normal.proofs.OrderEdits.{comer_inside, comer_home}
-use Rattle.af_normal.proofs.OrderSlots.{slot_of_away}
 
 -- ## The push
 

@@ -4,6 +4,7 @@ use Rattle.std.specs.Prelude.{slice_get}
 use Rattle.std.specs.List.{flat_map}
 use Rattle.std.proofs.lemmas.Bool.{cases_lt}
 use Rattle.std.proofs.lemmas.Option.{slice_get_within}
+use Rattle.af_base.proofs.Basics.{some_same}
 use Rattle.af_base.specs.declared.event.HandEvent.{HandEvent}
 use Rattle.af_base.specs.declared.event.ServerEvent.{ServerEvent}
 use Rattle.af_base.specs.declared.report.Report.{Report}
@@ -32,9 +33,6 @@ use Rattle.af_normal.proofs.LegalPlays.{StreamTakes, mix_of, words_of}
 use Rattle.af_normal.proofs.OrderServed.{stay_put}
 use Rattle.af_normal.proofs.OrderStages.{acked_same}
 use Rattle.af_normal.proofs.OrderTurn.{told_served, edited_mutated, seen_past}
-
-same_proxy : {X : Type 0} (r q : X) → Some r ≡ Some q → r ≡ q
-same_proxy r q e = cc
 
 -- past the end of the list there is no proxy
 beyond : (streams : List (Option ServerState)) (i : ℕ) → length streams ≤ i → stream_at streams i ≡ None
@@ -114,7 +112,7 @@ module _ (links : Links) (t : ℕ) (x : NormalState) (ack : Bool) (report : Repo
       let there : slice_get l.commands i ≡ Some r = ap (λ (rs : List ServerState). slice_get rs i) commands_l ∙ is in
       let lt : i < length l.tracks = (let w = slice_get_within l.commands i r there in let n = (going_l links t x ack report room push y made).tied.sizes.commands_are in omega arith) in
       let part = (done links t x ack report room push y made).parts i lt in
-      let same : part.command ≡ r = same_proxy part.command r (sym part.has_command ∙ there) in (
+      let same : part.command ≡ r = some_same part.command r (sym part.has_command ∙ there) in (
         part.command',
         ap (λ (rs : List ServerState). slice_get rs i) commands_y ∙ part.has_command',
         subst (λ (d : ServerState × Listed × List TrackKept). Adds d.0 (all_command_events d.1 (seen_at ts i).looks ((done links t x ack report room push y made).fronts i) ++ invalid ks (seen_at ts i) d.2 i ++ status_events (seen_at ts i).status) (words_taken (seen_at ts i).looks) part.command')
@@ -126,8 +124,8 @@ module _ (links : Links) (t : ℕ) (x : NormalState) (ack : Bool) (report : Repo
       let there : slice_get l.commands i ≡ Some r = ap (λ (rs : List ServerState). slice_get rs i) commands_l ∙ is in
       let lt : i < length l.tracks = (let w = slice_get_within l.commands i r there in let n = (going_l links t x ack report room push y made).tied.sizes.commands_are in omega arith) in
       let part = (done links t x ack report room push y made).parts i lt in
-      let same : part.command ≡ r = same_proxy part.command r (sym part.has_command ∙ there) in
-      let same' : part.command' ≡ v = same_proxy part.command' v (sym (ap (λ (rs : List ServerState). slice_get rs i) commands_y ∙ part.has_command') ∙ is') in
+      let same : part.command ≡ r = some_same part.command r (sym part.has_command ∙ there) in
+      let same' : part.command' ≡ v = some_same part.command' v (sym (ap (λ (rs : List ServerState). slice_get rs i) commands_y ∙ part.has_command') ∙ is') in
       subst (λ (d : ServerState × ServerState). d.1.pass.has_hand ≡ d.0.pass.has_hand) (λ j. (same j, same' j)) part.whole
 
   abbrev Events : Option HandSide → List HandEvent
@@ -181,7 +179,7 @@ module _ (links : Links) (t : ℕ) (x : NormalState) (ack : Bool) (report : Repo
 
       by_learnt : (f : Option ServerState) → stream_at l.streams i ≡ f → StreamAdds f (invalid ks (seen_at ts i) (served_to cs ks ts l.tracks i) i) (Some r) → GoesOnFrom (listed_at (stream_at l.streams i)) (Invalid i) r
       by_learnt None e a = absurd (true≢false (ap is_some a))
-      by_learnt (Some r0) was (r1, a, is_r) = let same : r1 ≡ r = same_proxy r1 r (sym is_r) in (
+      by_learnt (Some r0) was (r1, a, is_r) = let same : r1 ≡ r = some_same r1 r (sym is_r) in (
         ap (λ (w : ServerState). w.pass.part.events) (sym same) ∙ a.list
             ∙ ap (λ (tracks : List TrackKept). r0.pass.part.events ++ invalid ks (seen_at ts i) tracks i) (at_is i)
             ∙ ap (λ (es : List ServerEvent). r0.pass.part.events ++ es) (taken_if (is_home (track_at (tracks_at cs ks (kept_of x) e i) i).holder) (invalid ks (seen_at ts i) (tracks_at cs ks (kept_of x) e i) i) (home_is (ap is_some was)))
@@ -205,7 +203,7 @@ module _ (links : Links) (t : ℕ) (x : NormalState) (ack : Bool) (report : Repo
           ∙ sym ((going_l links t x ack report room push y made).tied.proxies.there i inside) ∙ ap is_some none))
       by_stream (Some r) was =
           let part = (done links t x ack report room push y made).parts i inside in
-          let same : part.flag ≡ h = same_proxy part.flag h (sym part.has_flag ∙ there) in
+          let same : part.flag ≡ h = some_same part.flag h (sym part.has_flag ∙ there) in
           subst (λ (d : Option ServerState × HandSide). StartsWith (listed_at d.0).events d.1.known) (λ j. (sym was j, same j))
           (part.recalled r was (λ none. some (ap (λ (tracks : List TrackKept). invalid ks (seen_at ts i) tracks i) (sym (at_is i)) ∙ none)))
 
@@ -239,7 +237,7 @@ module _ (links : Links) (t : ℕ) (x : NormalState) (ack : Bool) (report : Repo
       from_played : (f : Option ServerState) → stream_at p.streams i ≡ f → StreamTakes f (Mixes i) (words_of (takes_from (mixing_of q).takes i)) (stream_at q.streams i) → GoesOnFrom (o.streams i) (stream_list cs o e (tracks_at cs ks (kept_of x) e i) i) v
       from_played None e a = absurd (true≢false (ap is_some (sym there ∙ a)))
       from_played (Some r) pushed (w, adds, is_w) =
-          let same : w ≡ v = same_proxy w v (sym is_w ∙ there) in
+          let same : w ≡ v = some_same w v (sym is_w ∙ there) in
           let edited : stream_at z.streams i ≡ Some r = sym (ap (λ (n : NormalState). stream_at n.streams i) (p_same links t x ack report room push y made)) ∙ pushed in
           ⊎_elim
           (λ (f : stream_at z.streams i ≡ stream_at s.streams i). from_served r (sym f ∙ edited) pushed (subst (Adds r (Mixes i) (words_of (takes_from (mixing_of q).takes i))) same adds))

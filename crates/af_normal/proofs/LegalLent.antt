@@ -3,6 +3,7 @@ use Rattle.std.proofs.Common.{◌≡◌, ◌≢◌, ℕ, zero, suc, ◌+◌, ◌
 use Rattle.std.specs.Prelude.{slice_set}
 use Rattle.std.proofs.lemmas.Bool.{cases_eq}
 use Rattle.af_base.specs.Log.{slots}
+use Rattle.af_life.proofs.Basics.{at_here, at_other, away_holds}
 use Rattle.af_server.specs.Order.{ServerState}
 use Rattle.af_server.specs.Slot.{listed}
 use Rattle.af_stateq.specs.Mutates.{at}
@@ -18,8 +19,7 @@ use Rattle.af_normal.specs.Mixing.{stream_at}
 use Rattle.af_normal.specs.Mutating.{EditsTrack, EditsTo}
 use Rattle.af_normal.specs.Order.{IsOpen}
 use Rattle.af_normal.specs.State.{NormalState, setup_of, kept_of}
-use Rattle.af_normal.proofs.OrderEdits.{at_here, at_other, apart, leaver_away, comer_slot, comer_inside, comer_holds}
-use Rattle.af_normal.proofs.OrderSlots.{away_holds}
+use Rattle.af_normal.proofs.OrderEdits.{apart, leaver_away, comer_slot, comer_inside, comer_holds}
 use Rattle.af_normal.proofs.OrderStages.{edited_open}
 
 module _ (links : Links) (edits : ℕ) (x : NormalState) (begins : IsOpen links edits x) (wide : length x.mutator.pending ≡ slots) where

@@ -1,20 +1,8 @@
 -- Lists and functions of numbers, changed at one place or at the end.
-use Rattle.std.proofs.Common.{◌≡◌, ◌≢◌, ℕ, zero, suc, ◌+◌, ◌<◌, ◌==◌, Bool, if◌then◌else◌, refl, ap, ◌∙◌, List, [], ◌∷◌, ◌++◌, length, Some, eq-eqb, ne_eqb, arith}
-use Rattle.std.specs.Prelude.{slice_set, slice_get}
+use Rattle.std.proofs.Common.{◌≡◌, ◌≢◌, ℕ, suc, ◌+◌, ◌==◌, Bool, if◌then◌else◌, refl, ap, ◌∙◌, List, [], ◌∷◌, ◌++◌, eq-eqb, ne_eqb, arith}
 use Rattle.std.specs.List.{filter, range_with_len, AllByRecursion}
 use Rattle.std.proofs.lemmas.List.Elements.{filter-append}
-
-pub get_set_same : {X : Type 0} (xs : List X) (i : ℕ) (x : X) → i < length xs → slice_get (slice_set xs i x) i ≡ Some x
-get_set_same [] i x lt = absurd (omega arith)
-get_set_same (y ∷ xs) zero x lt = refl
-get_set_same (y ∷ xs) (suc i) x lt = get_set_same xs i x (omega arith)
-
-pub get_set_other : {X : Type 0} (xs : List X) (i j : ℕ) (x : X) → j ≢ i → slice_get (slice_set xs i x) j ≡ slice_get xs j
-get_set_other [] i j x ne = refl
-get_set_other (y ∷ xs) zero zero x ne = absurd (ne refl)
-get_set_other (y ∷ xs) zero (suc j) x ne = refl
-get_set_other (y ∷ xs) (suc i) zero x ne = refl
-get_set_other (y ∷ xs) (suc i) (suc j) x ne = get_set_other xs i j x (λ e. ne (ap suc e))
+use Rattle.af_base.proofs.Basics.{range_end}
 
 -- the function with another value at one place
 abbrev pub upd : {X : Type 0} → (ℕ → X) → ℕ → X → ℕ → X
@@ -25,10 +13,6 @@ upd_same f i x = ap (λ (b : Bool). if b then x else f i) (eq-eqb i i refl)
 
 pub upd_other : {X : Type 0} (f : ℕ → X) (i : ℕ) (x : X) (j : ℕ) → j ≢ i → upd f i x j ≡ f j
 upd_other f i x j ne = ap (λ (b : Bool). if b then x else f j) (ne_eqb j i ne)
-
-range_end : (a n : ℕ) → range_with_len a (suc n) ≡ range_with_len a n ++ (a + n) ∷ []
-range_end a zero = ap (λ (k : ℕ). k ∷ []) (omega arith)
-range_end a (suc n) = ap (λ (ks : List ℕ). a ∷ ks) (range_end (a + 1) n) ∙ ap (λ (k : ℕ). a ∷ range_with_len (a + 1) n ++ k ∷ []) (omega arith)
 
 -- the numbers that pass a test, with one number more
 pub filter_end : (p : ℕ → Bool) (n : ℕ) → filter p (range_with_len 0 (suc n)) ≡ filter p (range_with_len 0 n) ++ (if p n then n ∷ [] else [])

@@ -4,6 +4,7 @@ use Rattle.std.specs.Prelude.{slice_set, slice_get}
 use Rattle.std.proofs.lemmas.Bool.{cases_eq}
 use Rattle.std.proofs.lemmas.List.{set-get_or}
 use Rattle.std.proofs.lemmas.Option.{slice_get_within}
+use Rattle.af_base.proofs.Basics.{get_set_other, get_set_same}
 use Rattle.af_base.specs.declared.event.ServerEvent.{ServerEvent}
 use Rattle.af_base.specs.declared.event.ServerEvent.TheVariants as server
 use Rattle.af_base.specs.declared.turn.CommandLook.{CommandLook}
@@ -17,7 +18,7 @@ use Rattle.af_life.specs.Heard.{heard}
 use Rattle.af_life.specs.Looks.{all_command_events, LegalLooks, words_taken}
 use Rattle.af_life.specs.Serves.{is_found_shut, served, served_to, with_served, LegalTrack}
 use Rattle.af_life.specs.TurnEvents.{invalid, status_events}
-use Rattle.af_normal.proofs.LegalLists.{get_set_same, get_set_other, upd, upd_same, upd_other}
+use Rattle.af_normal.proofs.LegalLists.{upd, upd_same, upd_other}
 use Rattle.af_normal.specs.Mixing.{stream_at}
 use Rattle.af_normal.specs.Serving.{Adds, StreamAdds, HandAdds, Recalls, Serving, ServesOne, ServesTrack, ServesTo, disabled_events, shut_events}
 

@@ -4,6 +4,7 @@ use Rattle.std.specs.Prelude.{slice_get}
 use Rattle.std.proofs.lemmas.List.{length-replicate, length-map, nil_from_length}
 use Rattle.std.proofs.lemmas.List.Elements.{All-get_or, All-nil}
 use Rattle.std.proofs.lemmas.Option.{slice_get_within}
+use Rattle.af_base.proofs.Basics.{no}
 use Rattle.af_base.specs.declared.state.FastState.{FastState}
 use Rattle.af_base.specs.declared.turn.NormalTake.{NormalTake}
 use Rattle.af_base.specs.declared.turn.TrackTurn.{TrackTurn}
@@ -12,6 +13,7 @@ use Rattle.af_base.specs.Log.{slots}
 use Rattle.af_base.specs.Roomy.{Roomy}
 use Rattle.af_base.specs.Turn.{Turn, turn_of, ended_turn, track_seen, take_seen}
 use Rattle.af_cblk.specs.Sides.{HandSide}
+use Rattle.af_life.proofs.Basics.{at_new}
 use Rattle.af_model.specs.Draft.{initial}
 use Rattle.af_model.specs.StateQueue.{IsState}
 use Rattle.af_server.specs.Order.{ServerState}
@@ -23,7 +25,7 @@ use Rattle.af_link.specs.declared.links.Links.{Links}
 use Rattle.af_link.specs.declared.names.StreamNames.{StreamNames}
 use Rattle.af_life.specs.declared.kept.Setting.{Setting}
 use Rattle.af_life.specs.declared.kept.TrackKept.{TrackKept}
-use Rattle.af_life.specs.Kept.{Setup, new_normal, new_track, track_at, is_home}
+use Rattle.af_life.specs.Kept.{Setup, new_normal, new_track, is_home}
 use Rattle.af_life.specs.Obeys.{holds}
 use Rattle.af_life.specs.Serves.{most_looks}
 use Rattle.af_life.specs.Small.{AreUpTo, IsSmall}
@@ -35,14 +37,6 @@ use Rattle.af_normal.specs.AllMixed.{HasFrames, HasTakes}
 use Rattle.af_normal.specs.Order.{AreThere, HasTurns, IsTied, IsInOrder}
 use Rattle.af_normal.specs.Ready.{HaveRoom}
 use Rattle.af_normal.specs.State.{NormalState, kept_of}
-
-no : {A : Type 0} → false ≡ true → A
-no h = absurd (true≢false (sym h))
-
-at_new : (n i : ℕ) → track_at (replicate n new_track) i ≡ new_track
-at_new zero i = refl
-at_new (suc n) zero = refl
-at_new (suc n) (suc i) = at_new n i
 
 none_out : (n k : ℕ) → is_out (replicate n false) k ≡ false
 none_out zero k = refl

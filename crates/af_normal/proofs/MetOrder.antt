@@ -2,6 +2,7 @@
 use Rattle.std.proofs.Common.{◌≡◌, ◌≢◌, ℕ, zero, suc, ◌<◌, ◌⊎◌, inl, inr, true, true≢false, is_some, sym, refl, ap, subst, ◌∙◌, List, length, length-set, slice_get, Option, Some, None, ⊎_elim, get_or-set_other, arith}
 use Rattle.std.proofs.lemmas.Bool.{cases_eq}
 use Rattle.std.proofs.lemmas.List.{nil_from_length}
+use Rattle.af_base.proofs.Basics.{get_set_other, some_same}
 use Rattle.af_cblk.specs.Sides.{HandSide, Made, client_made, hand_made}
 use Rattle.af_client.specs.Order.{ClientState}
 use Rattle.af_server.specs.Order.{ServerState}
@@ -16,8 +17,6 @@ use Rattle.af_normal.specs.Meeting.{AreOf, MeetsStream, MeetsTrack, ends_met, qu
 use Rattle.af_normal.specs.Mixing.{stream_at}
 use Rattle.af_normal.specs.Order.{IsInOrder}
 use Rattle.af_normal.specs.State.{NormalState}
-use Rattle.af_normal.proofs.LegalLists.{get_set_other}
-use Rattle.af_normal.proofs.MetTrack.{one_of}
 
 module _ (links : Links) (m : NormalState) (o : IsInOrder links m) where
   pub ends_order : (w : WriterSide) (out : OutSide) → IsInOrder links (ends_met m w out)
@@ -84,7 +83,7 @@ module _ (links : Links) (x : NormalState) (o : IsInOrder links x) (i : ℕ) (in
     -- a proxy that met its client alone has its hand still
     still_whole : (b : Made) (s : Option ServerState) (t : Option ServerState) (g : Option HandSide) → ((r : ServerState) → s ≡ Some r → r.pass.has_hand ≡ true) → MeetsStream b s None c t g d → (r : ServerState) → t ≡ Some r → r.pass.has_hand ≡ true
     still_whole b None t g whole m r is = absurd (true≢false (sym (ap is_some (sym m.0 ∙ is))))
-    still_whole b (Some s) t g whole m r is = ap (λ (w : ServerState). w.pass.has_hand) (sym (one_of m.0 r (sym m.1 ∙ is)) ∙ m.3.server) ∙ whole s refl
+    still_whole b (Some s) t g whole m r is = ap (λ (w : ServerState). w.pass.has_hand) (sym (some_same m.0 r (sym m.1 ∙ is)) ∙ m.3.server) ∙ whole s refl
 
     pub met_order : IsInOrder links (record x { streams = streams; commands = commands; hands = hands })
     met_order = record {

@@ -2,16 +2,13 @@
 use Rattle.std.proofs.Common.{◌≡◌, ◌≢◌, ℕ, ◌<◌, List, length, slice_get, slice_set, slice_index_or, Option, Some, None, refl, sym, ap, subst, ◌∙◌, get_or-set_same, arith}
 use Rattle.std.proofs.lemmas.Option.{slice_get-get_or, slice_get_within, slice_get_past, get_or_from_slice_get}
 use Rattle.std.proofs.lemmas.List.{get_or_default}
+use Rattle.af_base.proofs.Basics.{get_set_same, some_same}
 use Rattle.af_cblk.specs.Sides.{HandSide, Made, client_made, hand_made, server_made}
 use Rattle.af_client.specs.Order.{ClientState, IsClientOf}
 use Rattle.af_server.specs.Order.{ServerState, IsServerOf}
 use Rattle.af_link.specs.Names.{IsStreamOf}
 use Rattle.af_link.specs.declared.links.Links.{Links}
 use Rattle.af_normal.specs.Meeting.{AreClientsOf, AreOf, Meets, MeetsStream, MeetsTrack}
-use Rattle.af_normal.proofs.LegalLists.{get_set_same}
-
-pub one_of : {A : Type 0} (a b : A) → Some a ≡ Some b → a ≡ b
-one_of a b e = cc
 
 module _ (links : Links) (i : ℕ) (streams : List (Option ServerState)) (commands : List ServerState) (hands : List HandSide) (stream command : ClientState)
     (own : AreOf links i streams commands hands) (clients : AreClientsOf links i stream command) (wide : i < length streams) (long : i < length commands) where
@@ -32,18 +29,18 @@ module _ (links : Links) (i : ℕ) (streams : List (Option ServerState)) (comman
   pub command_ready : (b : Made) (d : ServerState) → IsClientOf (slice_index_or links.commands.now i b) command × IsServerOf (slice_index_or links.commands.now i b) (slice_index_or commands i d)
   command_ready b d = let of : IsStreamOf links.commands.now i (slice_index_or commands i d) = own.command_is (slice_index_or commands i d) (slice_get-get_or commands i d long) in (
     (sym (command_block b), clients.in_order.1),
-    (one_of (server_made (slice_index_or commands i d).pass) (client_made command.pass) (sym of.made ∙ clients.command_is) ∙ sym (command_block b), of.in_order),
+    (some_same (server_made (slice_index_or commands i d).pass) (client_made command.pass) (sym of.made ∙ clients.command_is) ∙ sym (command_block b), of.in_order),
   )
 
   pub stream_ready : (b : Made) (d : Option ServerState) (s : ServerState) → slice_index_or streams i d ≡ Some s → IsServerOf (slice_index_or links.streams.now i b) s
   stream_ready b d s e = let of : IsStreamOf links.streams.now i s = own.stream_is s (get_or_default streams i None d wide ∙ e) in
-      (one_of (server_made s.pass) (client_made stream.pass) (sym of.made ∙ clients.stream_is) ∙ sym (stream_block b), of.in_order)
+      (some_same (server_made s.pass) (client_made stream.pass) (sym of.made ∙ clients.stream_is) ∙ sym (stream_block b), of.in_order)
 
   pub client_ready : (b : Made) → IsClientOf (slice_index_or links.streams.now i b) stream
   client_ready b = (sym (stream_block b), clients.in_order.0)
 
   pub hand_ready : (b : Made) (h : HandSide) → slice_get hands i ≡ Some h → hand_made h ≡ slice_index_or links.streams.now i b
-  hand_ready b h e = one_of (hand_made h) (client_made stream.pass) (sym (own.flag_is h e) ∙ clients.stream_is) ∙ sym (stream_block b)
+  hand_ready b h e = some_same (hand_made h) (client_made stream.pass) (sym (own.flag_is h e) ∙ clients.stream_is) ∙ sym (stream_block b)
 
   -- ## Afterwards
 
@@ -52,7 +49,7 @@ module _ (links : Links) (i : ℕ) (streams : List (Option ServerState)) (comman
       (stream_is : (s : ServerState) → stream' ≡ Some s → IsServerOf (slice_index_or links.streams.now i sb) s) (client_is : IsClientOf (slice_index_or links.streams.now i sb) c) where
     pub own_after : (hands' : List HandSide) → ((h : HandSide) → slice_get hands' i ≡ Some h → hand_made h ≡ slice_index_or links.streams.now i sb) → AreOf links i (slice_set streams i stream') (slice_set commands i command') hands'
     own_after hands' flags = record {
-      command_is = (λ s e. let is : command' ≡ s = one_of command' s (sym (get_set_same commands i command' long) ∙ e) in
+      command_is = (λ s e. let is : command' ≡ s = some_same command' s (sym (get_set_same commands i command' long) ∙ e) in
           subst (IsStreamOf links.commands.now i) is (record { made = slice_get-get_or links.commands.now i cb command_within ∙ ap (λ (m : Made). Some m) (sym commands_are.1.0); in_order = commands_are.1.1 }));
       stream_is = (λ s e. let of : IsServerOf (slice_index_or links.streams.now i sb) s = stream_is s (sym (get_or-set_same streams i stream' None wide) ∙ e) in
           record { made = slice_get-get_or links.streams.now i sb stream_within ∙ ap (λ (m : Made). Some m) (sym of.0); in_order = of.1 });

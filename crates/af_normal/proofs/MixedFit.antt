@@ -2,13 +2,13 @@
 use Rattle.std.proofs.Common.{◌≡◌, ℕ, zero, suc, ◌<◌, ◌≤◌, List, [], ◌∷◌, length, map, All, slice_index_or, sym, ap, subst, ◌∙◌, length-append, arith}
 use Rattle.std.proofs.lemmas.List.{get_or-map, length-map}
 use Rattle.std.proofs.lemmas.List.Elements.{All-nil, All-push, All-weaker, All-from_get_or, All-get_or}
+use Rattle.af_base.proofs.Basics.{by_bool}
 use Rattle.af_base.specs.declared.turn.NormalTake.{NormalTake}
 use Rattle.af_base.specs.Turn.{TakeSeen, take_seen}
 use Rattle.af_life.specs.Kept.{track_at}
 use Rattle.af_life.specs.Plays.{is_mixed_here}
 use Rattle.af_normal.specs.Mixing.{Mixing, MixesTo, TakesOf}
 use Rattle.af_normal.specs.Sums.{Fits}
-use Rattle.af_normal.proofs.Cases.{by_test}
 use Rattle.af_normal.proofs.Given.{no_take}
 
 -- a take of one of so many tracks, no longer than the buffer
@@ -35,7 +35,7 @@ one_more asked n x y h t = subst (AreTaken asked (suc n)) (sym (ap (λ (z : Mixi
 
 pub mixed_fit : (asked n : ℕ) (x y : Mixing) → x.takes ≡ [] → MixesTo asked n x y → AreTaken asked n y.takes
 mixed_fit asked zero x y none m = subst (AreTaken asked 0) (sym (ap (λ (z : Mixing). z.takes) m ∙ none)) (record { few = omega arith; fit = All-nil (FitsSeen asked 0) })
-mixed_fit asked (suc n) x y none m = by_test (is_mixed_here (track_at m.0.tracks n)) (TakesOf asked n m.0 y) (y ≡ m.0) (AreTaken asked (suc n) y.takes)
+mixed_fit asked (suc n) x y none m = by_bool (is_mixed_here (track_at m.0.tracks n)) (TakesOf asked n m.0 y) (y ≡ m.0) (AreTaken asked (suc n) y.takes)
     (λ t. one_more asked n m.0 y (mixed_fit asked n x m.0 none m.1) t)
     (λ e. subst (AreTaken asked (suc n)) (sym (ap (λ (z : Mixing). z.takes) e)) (more asked n m.0.takes (mixed_fit asked n x m.0 none m.1)))
     m.2

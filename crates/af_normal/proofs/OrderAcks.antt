@@ -3,9 +3,11 @@ use Rattle.std.proofs.Common.{◌≡◌, ◌≢◌, ℕ, zero, suc, ◌<◌, ◌
 use Rattle.std.specs.Prelude.{slice_set}
 use Rattle.std.proofs.lemmas.Bool.{cases_eq}
 use Rattle.std.proofs.lemmas.List.{ext_get_or, get_or-map, length-map}
+use Rattle.af_base.proofs.Basics.{never_true, no}
 use Rattle.af_base.specs.declared.state.FastState.{FastState}
 use Rattle.af_base.specs.Log.{slots}
 use Rattle.af_cblk.specs.Sides.{Made}
+use Rattle.af_life.proofs.Basics.{at_here, at_other, away_holds, inside, returning_away, slot_of_away}
 use Rattle.af_model.specs.StateQueue.{carries, slot_of}
 use Rattle.af_server.specs.Order.{ServerState}
 use Rattle.af_stateq.specs.Mutates.{InSlot, InDraft, at, is_out}
@@ -20,16 +22,8 @@ use Rattle.af_normal.specs.Mixing.{stream_at}
 use Rattle.af_normal.specs.Order.{AreThere, IsTied}
 use Rattle.af_normal.specs.State.{NormalState, kept_of}
 use Rattle.af_normal.specs.Turning.{stream_fits}
-use Rattle.af_normal.proofs.OrderEdits.{returning_away, sound_home, away_slot, apart, inside, at_here, at_other}
-use Rattle.af_normal.proofs.OrderSlots.{away_holds, slot_of_away}
+use Rattle.af_normal.proofs.OrderEdits.{sound_home, away_slot, apart}
 use Rattle.af_normal.proofs.OrderOut.{out_same, out_less}
-
-no : {A : Type 0} → false ≡ true → A
-no h = absurd (true≢false (sym h))
-
-false_by : (b : Bool) → (b ≡ true → ⊥) → b ≡ false
-false_by true f = absurd (f refl)
-false_by false f = refl
 
 -- ## One track
 
@@ -59,7 +53,7 @@ module _ (links : Links) (x : NormalState) (tied : IsTied links x) (held : InDra
       away = returning_away (track_at x.tracks i).holder r
 
       by_last : (b : Bool) → carries last (slot_at i) ≡ b → is_some (at x.mutator.returned (slot_at i)) ≡ not b
-      by_last true e = false_by (is_some (at x.mutator.returned (slot_at i))) (λ some. true≢false (sym e ∙ ((one_slot (slot_at i) (away_slot (kept_of x) tied.sound i away).1).rests some).1))
+      by_last true e = never_true (is_some (at x.mutator.returned (slot_at i))) (λ some. true≢false (sym e ∙ ((one_slot (slot_at i) (away_slot (kept_of x) tied.sound i away).1).rests some).1))
       by_last false e = (one_slot (slot_at i) (away_slot (kept_of x) tied.sound i away).1).found (tied.out.of_track i away) ((tied.sound.drafted i).returning r) e (inl clear)
 
   -- the proxy that comes is the track's own

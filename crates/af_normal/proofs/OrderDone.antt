@@ -7,6 +7,7 @@ use Rattle.af_base.specs.declared.state.FastState.{FastState}
 use Rattle.af_base.specs.declared.state.Push.{Push}
 use Rattle.af_base.specs.Turn.{TakeSeen}
 use Rattle.af_cblk.specs.Sides.{Made}
+use Rattle.af_life.proofs.Basics.{at_set, set_each, takes_len}
 use Rattle.af_server.specs.Order.{ServerState}
 use Rattle.af_link.specs.Names.{IsStreamOf}
 use Rattle.af_link.specs.declared.links.Links.{Links}
@@ -14,7 +15,6 @@ use Rattle.af_life.specs.declared.kept.TrackKept.{TrackKept}
 use Rattle.af_life.specs.Kept.{asked, track_at, is_home}
 use Rattle.af_life.specs.Plays.{after_take, counted}
 use Rattle.af_life.specs.Sound.{IsSlotted, IsDrafted, IsSound}
-use Rattle.af_life.proofs.Lives.{takes_len}
 use Rattle.af_normal.specs.Mixing.{stream_at}
 use Rattle.af_normal.specs.Order.{AreThere, IsTied}
 use Rattle.af_normal.specs.State.{NormalState, setup_of}
@@ -22,7 +22,7 @@ use Rattle.af_normal.specs.TurnMade.{mixing_of}
 use Rattle.af_normal.proofs.LegalMade.{IsMade, PlaysBy, mix, p_tied}
 use Rattle.af_normal.proofs.LegalPlays.{StreamTakes}
 use Rattle.af_normal.proofs.OrderServed.{StaysPut, out_put}
-use Rattle.af_normal.proofs.OrderSlots.{at_set, set_each, alone_set}
+use Rattle.af_normal.proofs.OrderSlots.{alone_set}
 
 -- ## The looks that count
 

@@ -1,72 +1,23 @@
 -- The edits of the draft keep what holds of slots and draft.
-use Rattle.std.proofs.Common.{◌≡◌, ◌≢◌, ℕ, zero, suc, ◌<◌, ◌≤◌, ◌&&◌, not, Bool, true, false, true≢false, is_some, sym, refl, ap, subst, ◌∙◌, inl, List, [], ◌∷◌, length, ⊎_elim, get_or-set_same, get_or-set_other, arith}
+use Rattle.std.proofs.Common.{◌≡◌, ◌≢◌, ℕ, ◌<◌, ◌≤◌, ◌&&◌, not, Bool, true, false, true≢false, sym, refl, ap, subst, ◌∙◌, inl, length}
 use Rattle.std.specs.Prelude.{slice_set}
-use Rattle.std.proofs.lemmas.Bool.{cases_eq}
+use Rattle.af_base.proofs.Basics.{and_none, both, no, none_and}
 use Rattle.af_base.specs.declared.state.FastState.{FastState}
 use Rattle.af_base.specs.declared.state.FastTrack.{FastTrack}
 use Rattle.af_base.specs.Log.{slots}
+use Rattle.af_life.proofs.Basics.{away_holds, each_set, has_slot, inside, lent_away, returning_away, set_each, slot_is, slot_of_away}
+use Rattle.af_model.proofs.Basics.{not_true}
 use Rattle.af_model.specs.Draft.{detached}
 use Rattle.af_model.specs.StateQueue.{carries, slot_of}
 use Rattle.af_stateq.proofs.Bits.{attached_here, attached_else, slot_here, slot_else, attached_state, detached_here, detached_else, detached_state}
 use Rattle.af_life.specs.declared.kept.Heard.{Heard}
-use Rattle.af_life.specs.declared.kept.Holder.{Holder}
-use Rattle.af_life.specs.declared.kept.Holder.TheVariants.{Home, Lent, Returning}
+use Rattle.af_life.specs.declared.kept.Holder.TheVariants.{Home, Returning}
 use Rattle.af_life.specs.declared.kept.TrackKept.{TrackKept}
-use Rattle.af_life.specs.Kept.{Setup, NormalKept, track_at, new_track, slot_number, is_home, is_lent, is_returning, setting_of}
+use Rattle.af_life.specs.Kept.{Setup, NormalKept, track_at, slot_number, is_home, setting_of}
 use Rattle.af_life.specs.Obeys.{holds}
 use Rattle.af_life.specs.Edits.{must_leave, must_enter, entered, lent_by}
 use Rattle.af_life.specs.Sound.{IsSlotted, IsDrafted, IsSound}
-use Rattle.af_normal.proofs.OrderSlots.{alone_set, has_slot, slot_is, slot_of_away, away_holds, set_each}
-
-no : {A : Type 0} → false ≡ true → A
-no h = absurd (true≢false (sym h))
-
-both : (a b : Bool) → (a && b) ≡ true → (a ≡ true) × (b ≡ true)
-both true true e = (refl, refl)
-both true false e = no e
-both false b e = no e
-
-false_of : (b : Bool) → not b ≡ true → b ≡ false
-false_of true e = no e
-false_of false e = refl
-
--- a track that has a slot is one of the list
-pub inside : (tracks : List TrackKept) (i : ℕ) → is_some (track_at tracks i).slot ≡ true → i < length tracks
-inside [] i e = no e
-inside (s ∷ tracks) zero e = omega arith
-inside (s ∷ tracks) (suc i) e = let l : i < length tracks = inside tracks i e in omega arith
-
-pub at_here : (tracks : List TrackKept) (i : ℕ) (s : TrackKept) → i < length tracks → track_at (slice_set tracks i s) i ≡ s
-at_here tracks i s lt = get_or-set_same tracks i s new_track lt
-
-pub at_other : (tracks : List TrackKept) (i : ℕ) (s : TrackKept) (j : ℕ) → j ≢ i → track_at (slice_set tracks i s) j ≡ track_at tracks j
-at_other tracks i s j ne = get_or-set_other tracks i j s new_track ne
-
--- a fact of each track, if one of the list was replaced
-pub each_set : (P : ℕ → TrackKept → Type 0) (tracks : List TrackKept) (i : ℕ) (s : TrackKept) → i < length tracks → P i s → ((j : ℕ) → j ≢ i → P j (track_at tracks j)) → (j : ℕ) → P j (track_at (slice_set tracks i s) j)
-each_set P tracks i s lt here others j = ⊎_elim
-    (λ (e : j ≡ i). subst (λ (n : ℕ). P n (track_at (slice_set tracks i s) n)) (sym e) (subst (P i) (sym (at_here tracks i s lt)) here))
-    (λ (ne : j ≢ i). subst (P j) (sym (at_other tracks i s j ne)) (others j ne))
-    (cases_eq j i)
-
--- a proxy that is lent or returning isn't home
-pub lent_away : (h : Holder) → is_lent h ≡ true → is_home h ≡ false
-lent_away Home e = no e
-lent_away Lent e = refl
-lent_away Returning e = no e
-
-pub returning_away : (h : Holder) → is_returning h ≡ true → is_home h ≡ false
-returning_away Home e = no e
-returning_away Lent e = no e
-returning_away Returning e = refl
-
-both_false : (a b : Bool) → b ≡ false → (a && b) ≡ false
-both_false true b e = e
-both_false false b e = refl
-
-false_both : (a b : Bool) → a ≡ false → (a && b) ≡ false
-false_both true b e = absurd (true≢false e)
-false_both false b e = refl
+use Rattle.af_normal.proofs.OrderSlots.{alone_set}
 
 module _ (m : NormalKept) (sound : IsSound m.tracks m.draft) where
   -- the slot of a track that isn't home
@@ -96,7 +47,7 @@ module _ (m : NormalKept) (sound : IsSound m.tracks m.draft) where
     drafted = set_each (IsDrafted m.draft) m.tracks i (record (track_at m.tracks i) { holder = Home }) (record { lent = no; returning = no; own = (λ h. absurd (true≢false h)) }) sound.drafted;
     alone = alone_set m.tracks i (record (track_at m.tracks i) { holder = Home }) sound.alone
         (λ (k : ℕ) h. let parts = has_slot k (record (track_at m.tracks i) { holder = Home }) h in
-        inl (slot_is k (track_at m.tracks i) parts.0 parts.1 (both_false (track_at m.tracks i).life.ended (is_home (track_at m.tracks i).holder) away)));
+        inl (slot_is k (track_at m.tracks i) parts.0 parts.1 (and_none (track_at m.tracks i).life.ended (is_home (track_at m.tracks i).holder) away)));
     state = sound.state;
   }
 
@@ -131,7 +82,7 @@ module _ (m : NormalKept) (sound : IsSound m.tracks m.draft) where
           )));
       alone = alone_set m.tracks i (record (track_at m.tracks i) { holder = Returning }) sound.alone
           (λ (k : ℕ) h. let parts = has_slot k (record (track_at m.tracks i) { holder = Returning }) h in
-          inl (slot_is k (track_at m.tracks i) parts.0 parts.1 (both_false (track_at m.tracks i).life.ended (is_home (track_at m.tracks i).holder) leaver_away)));
+          inl (slot_is k (track_at m.tracks i) parts.0 parts.1 (and_none (track_at m.tracks i).life.ended (is_home (track_at m.tracks i).holder) leaver_away)));
       state = detached_state (slot_number (track_at m.tracks i)) m.draft leaver_slot.0 leaver_slot.1 sound.state;
     }
 
@@ -148,10 +99,10 @@ module _ (m : NormalKept) (sound : IsSound m.tracks m.draft) where
     comer_inside = inside m.tracks i (both _ _ (both _ _ enters).1).0
 
     comer_lives : (track_at m.tracks i).life.ended ≡ false
-    comer_lives = false_of (track_at m.tracks i).life.ended (both (track_at m.tracks i).life.member _ (both _ _ (both _ _ enters).1).1).1
+    comer_lives = not_true (track_at m.tracks i).life.ended (both (track_at m.tracks i).life.member _ (both _ _ (both _ _ enters).1).1).1
 
     comer_open : ((track_at m.tracks i).life.ended && is_home (track_at m.tracks i).holder) ≡ false
-    comer_open = false_both (track_at m.tracks i).life.ended (is_home (track_at m.tracks i).holder) comer_lives
+    comer_open = none_and (track_at m.tracks i).life.ended (is_home (track_at m.tracks i).holder) comer_lives
 
     pub comer_holds : holds (slot_number (track_at m.tracks i)) (track_at m.tracks i) ≡ true
     comer_holds = slot_is (slot_number (track_at m.tracks i)) (track_at m.tracks i) (both _ _ (both _ _ enters).1).0 refl comer_open

@@ -1,10 +1,11 @@
 -- An edit of the draft keeps the order.
-use Rattle.std.proofs.Common.{◌≡◌, ◌≢◌, ℕ, ◌+◌, ◌<◌, ◌≤◌, ◌^◌, Bool, true, false, true≢false, is_some, MatchBool, sym, refl, ap, subst, ◌∙◌, List, length, length-set, All, Option, Some, None, ⊎_elim, get_or-set_same, get_or-set_other, arith}
+use Rattle.std.proofs.Common.{◌≡◌, ◌≢◌, ℕ, ◌+◌, ◌<◌, ◌≤◌, ◌^◌, Bool, true, false, true≢false, is_some, MatchBool, sym, refl, ap, subst, ◌∙◌, List, length, length-set, Option, Some, None, ⊎_elim, get_or-set_same, get_or-set_other, arith}
 use Rattle.std.specs.Prelude.{slice_set}
 use Rattle.std.proofs.lemmas.Bool.{cases_eq}
-use Rattle.std.proofs.lemmas.List.Elements.{All-get_or}
+use Rattle.af_base.proofs.Basics.{no}
 use Rattle.af_base.specs.declared.state.FastTrack.{FastTrack}
 use Rattle.af_base.specs.Log.{slots}
+use Rattle.af_life.proofs.Basics.{at_here, at_other, scale_fits}
 use Rattle.af_model.specs.StateQueue.{slot_of, no_track}
 use Rattle.af_server.specs.Order.{ServerState}
 use Rattle.af_server.specs.Slot.{listed}
@@ -12,11 +13,10 @@ use Rattle.af_stateq.specs.Mutates.{is_out}
 use Rattle.af_link.specs.Names.{IsStreamOf}
 use Rattle.af_link.specs.declared.links.Links.{Links}
 use Rattle.af_life.specs.declared.kept.Holder.TheVariants.{Returning}
-use Rattle.af_life.specs.declared.kept.Setting.{Setting}
 use Rattle.af_life.specs.declared.kept.TrackKept.{TrackKept}
 use Rattle.af_life.specs.Heard.{known_by}
 use Rattle.af_life.specs.declared.kept.Heard.{Heard}
-use Rattle.af_life.specs.Kept.{Setup, track_at, nothing_heard, slot_number, is_home, setting_of}
+use Rattle.af_life.specs.Kept.{track_at, nothing_heard, slot_number, is_home, setting_of}
 use Rattle.af_life.specs.Edits.{must_leave, must_enter, lent_by, entered}
 use Rattle.af_normal.specs.Editing.{LetsGo, Lends, lets_go, lends}
 use Rattle.af_normal.specs.Mixing.{stream_at}
@@ -25,14 +25,8 @@ use Rattle.af_cblk.specs.Sides.{Made}
 use Rattle.af_normal.specs.Mutating.{EditsTrack, MayEnter, IsEditable}
 use Rattle.af_normal.specs.Order.{AreThere, HasSizes, IsOpen}
 use Rattle.af_normal.specs.State.{NormalState, setup_of, kept_of}
-use Rattle.af_normal.proofs.OrderEdits.{at_here, at_other, leaver_away, leaver_slot, leaver_carried, leaver_inside, sound_go, comer_slot, comer_home, comer_inside, comer_holds, sound_lend, apart}
+use Rattle.af_normal.proofs.OrderEdits.{leaver_away, leaver_slot, leaver_carried, leaver_inside, sound_go, comer_slot, comer_home, comer_inside, comer_holds, sound_lend, apart}
 use Rattle.af_normal.proofs.OrderOut.{out_moved, out_more}
-
-no : {A : Type 0} → false ≡ true → A
-no h = absurd (true≢false (sym h))
-
-pub scale_fits : (c : Setup) (i : ℕ) → All (λ (s : Setting). s.scale ≤ 4096) c.settings → i < length c.settings → (setting_of c i).scale ≤ 4096
-scale_fits c i all lt = All-get_or (λ (s : Setting). s.scale ≤ 4096) c.settings i (record { fast = false; mono = false; scale = 0 }) lt all
 
 module _ (links : Links) (edits i : ℕ) (x : NormalState) (mutating : IsOpen links edits x) where
   abbrev s : TrackKept

@@ -2,17 +2,15 @@
 use Rattle.std.proofs.Common.{◌≡◌, ◌≢◌, ℕ, ◌<◌, Bool, true, false, true≢false, sym, ap, subst, ◌∙◌, List, length, length-set, ⊎_elim, get_or-set_same, get_or-set_other, arith}
 use Rattle.std.specs.Prelude.{slice_set}
 use Rattle.std.proofs.lemmas.Bool.{cases_eq}
+use Rattle.af_base.proofs.Basics.{no}
 use Rattle.af_base.specs.Log.{slots}
+use Rattle.af_life.proofs.Basics.{at_here, at_other, away_holds}
 use Rattle.af_stateq.specs.Mutates.{is_out}
 use Rattle.af_life.specs.declared.kept.TrackKept.{TrackKept}
 use Rattle.af_life.specs.Kept.{NormalKept, track_at, slot_number, is_home}
 use Rattle.af_life.specs.Sound.{IsSound}
 use Rattle.af_normal.specs.Order.{IsOut}
-use Rattle.af_normal.proofs.OrderSlots.{away_holds}
-use Rattle.af_normal.proofs.OrderEdits.{at_here, at_other, apart}
-
-no : {A : Type 0} → false ≡ true → A
-no h = absurd (true≢false (sym h))
+use Rattle.af_normal.proofs.OrderEdits.{apart}
 
 module _ (out : List Bool) (k : ℕ) (b : Bool) where
   pub out_here : k < length out → is_out (slice_set out k b) k ≡ b

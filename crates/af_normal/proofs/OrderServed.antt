@@ -5,6 +5,7 @@ use Rattle.std.proofs.lemmas.Option.{slice_get_within}
 use Rattle.af_base.specs.declared.event.ServerEvent.{ServerEvent}
 use Rattle.af_base.specs.declared.state.FastState.{FastState}
 use Rattle.af_base.specs.Turn.{TrackSeen}
+use Rattle.af_life.proofs.Basics.{at_set}
 use Rattle.af_server.specs.Order.{ServerState}
 use Rattle.af_stateq.specs.Mutates.{is_out}
 use Rattle.af_link.specs.declared.links.Links.{Links}
@@ -23,7 +24,7 @@ use Rattle.af_normal.specs.TurnMade.{ServesAll}
 use Rattle.af_normal.specs.Turning.{learnt_by}
 use Rattle.af_base.specs.declared.report.Report.{Report}
 use Rattle.af_normal.proofs.OrderLives.{Goes, goes_served}
-use Rattle.af_normal.proofs.OrderSlots.{at_set, sound_served}
+use Rattle.af_normal.proofs.OrderSlots.{sound_served}
 use Rattle.af_normal.proofs.LegalServed.{ServedTo}
 
 -- a proxy is where it was, and one that is away keeps its slot

@@ -1,10 +1,12 @@
 -- A turn of the plain mixer keeps what holds of its slots and its draft, whatever it saw.
-use Rattle.std.proofs.Common.{◌≡◌, ℕ, zero, suc, ◌≤◌, ◌&&◌, Bool, true, false, if◌then◌else◌, true≢false, sym, refl, ap, subst, ◌∙◌, List, [], ◌∷◌, length, map, All, arith}
+use Rattle.std.proofs.Common.{◌≡◌, ℕ, zero, suc, ◌≤◌, Bool, true, false, if◌then◌else◌, true≢false, sym, refl, ap, subst, ◌∙◌, length, All, arith}
+use Rattle.af_base.proofs.Basics.{and_none, no}
 use Rattle.af_base.specs.declared.state.Command.{Command}
 use Rattle.af_base.specs.declared.state.FastState.{FastState}
 use Rattle.af_base.specs.declared.state.Push.{Push}
 use Rattle.af_base.specs.declared.state.Push.TheVariants.{Pushed, Clean, Busy}
 use Rattle.af_base.specs.Turn.{Turn}
+use Rattle.af_life.proofs.Basics.{either, has_slot, returning_away, scale_fits, slot_is, sound_ordered, welcomed_at}
 use Rattle.af_life.specs.declared.kept.Holder.TheVariants.{Home}
 use Rattle.af_life.specs.declared.kept.Setting.{Setting}
 use Rattle.af_life.specs.declared.kept.TrackKept.{TrackKept}
@@ -15,35 +17,13 @@ use Rattle.af_life.specs.Plays.{after_takes}
 use Rattle.af_life.specs.Sound.{IsSlotted, IsDrafted, IsSound}
 use Rattle.af_life.specs.Turn.{after_tracks, after_edits, turn_after}
 use Rattle.af_life.proofs.Lives.{acked_len, served_len, edits_len}
+use Rattle.af_model.proofs.Basics.{both_first}
 use Rattle.af_normal.proofs.Made.{new_sound}
 use Rattle.af_normal.proofs.OrderDone.{sound_takes}
-use Rattle.af_normal.proofs.OrderEdits.{returning_away, comer_inside, sound_go, sound_lend}
-use Rattle.af_normal.proofs.OrderOpen.{scale_fits}
-use Rattle.af_normal.proofs.OrderSlots.{has_slot, slot_is, sound_served}
-use Rattle.af_normal.proofs.OrderStages.{sound_ordered}
-
-no : {A : Type 0} → false ≡ true → A
-no h = absurd (true≢false (sym h))
+use Rattle.af_normal.proofs.OrderEdits.{comer_inside, sound_go, sound_lend}
+use Rattle.af_normal.proofs.OrderSlots.{sound_served}
 
 -- ## What comes home
-
-welcomed_at : (last : FastState) (tracks : List TrackKept) (i : ℕ) → track_at (map (welcomed last) tracks) i ≡ welcomed last (track_at tracks i)
-unfolding welcomed
-welcomed_at last [] i = refl
-welcomed_at last (s ∷ tracks) zero = refl
-welcomed_at last (s ∷ tracks) (suc i) = welcomed_at last tracks i
-
-either : (P : TrackKept → Type 0) (b : Bool) (s t : TrackKept) → (b ≡ true → P s) → P t → P (if b then s else t)
-either P true s t f p = f refl
-either P false s t f p = p
-
-first : (a b : Bool) → (a && b) ≡ true → a ≡ true
-first true b e = refl
-first false b e = no e
-
-both_false : (a b : Bool) → b ≡ false → (a && b) ≡ false
-both_false true b e = e
-both_false false b e = refl
 
 module _ (last draft : FastState) (i : ℕ) (s : TrackKept) where
   welcomed_slotted : IsSlotted s → IsSlotted (welcomed last s)
@@ -58,7 +38,7 @@ module _ (last draft : FastState) (i : ℕ) (s : TrackKept) where
   unfolding welcomed
   welcomed_holds k = either (λ t. holds k t ≡ true → holds k s ≡ true) (comes_home last s) (record s { holder = Home }) s
       (λ e h. let parts = has_slot k (record s { holder = Home }) h in
-      slot_is k s parts.0 parts.1 (both_false s.life.ended (is_home s.holder) (returning_away s.holder (first (is_returning s.holder) _ e))))
+      slot_is k s parts.0 parts.1 (and_none s.life.ended (is_home s.holder) (returning_away s.holder (both_first (is_returning s.holder) _ e))))
       (λ h. h)
 
 pub sound_acked : (ack : Bool) (m : NormalKept) → IsSound m.tracks m.draft → IsSound (after_ack ack m).tracks (after_ack ack m).draft
@@ -121,6 +101,6 @@ module _ (c : Setup) (scales : All (λ (s : Setting). s.scale ≤ 4096) c.settin
   unfolding turn_after
   sound_turn m e few h = by_bool e.ended (record m { ended = true }) _ (λ f. h) (λ f. goes_sound m e few h)
 
--- the mixer is sound before the first turn
+-- the mixer is sound before the both_first turn
 pub sound_new : (c : Setup) → Sound (new_normal c)
 sound_new c = new_sound (length c.settings) c.frames (new_normal c).draft refl

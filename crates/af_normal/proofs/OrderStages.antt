@@ -3,10 +3,10 @@ use Rattle.std.proofs.Common.{◌≡◌, ℕ, zero, suc, ◌+◌, ◌<◌, ◌�
 use Rattle.af_base.specs.Command.{code_of}
 use Rattle.af_base.specs.declared.report.Report.{Report}
 use Rattle.af_base.specs.declared.state.Command.{Command}
-use Rattle.af_base.specs.declared.state.FastState.{FastState}
 use Rattle.af_base.specs.declared.state.Push.{Push}
 use Rattle.af_base.specs.declared.state.Push.TheVariants.{Pushed, Clean, Busy}
 use Rattle.af_cblk.specs.Sides.{Made}
+use Rattle.af_life.proofs.Basics.{returning_away, sound_ordered}
 use Rattle.af_model.specs.declared.states.MutatorEvent.TheVariants as mutator
 use Rattle.af_model.specs.Draft.{commanded as with_command}
 use Rattle.af_model.specs.StateQueue.{slot_of, word}
@@ -16,10 +16,8 @@ use Rattle.af_stateq.specs.Ends.{Pushes as Past, saw}
 use Rattle.af_stateq.specs.Mutates.{Mutates, IsJoined}
 use Rattle.af_link.specs.declared.links.Links.{Links}
 use Rattle.af_link.specs.declared.names.StreamNames.{StreamNames}
-use Rattle.af_life.specs.declared.kept.TrackKept.{TrackKept}
 use Rattle.af_life.specs.Kept.{track_at, slot_number, is_returning}
 use Rattle.af_life.specs.Edits.{after_ack}
-use Rattle.af_life.specs.Sound.{IsSound}
 use Rattle.af_life.specs.TurnEvents.{number_seen}
 use Rattle.af_normal.specs.Coming.{WelcomesTo}
 use Rattle.af_normal.specs.Mutating.{EditsTo, EditsAll, Pushes, begun, commands, finished, due_command}
@@ -29,7 +27,7 @@ use Rattle.af_normal.specs.Order.{IsTied, IsOpen}
 use Rattle.af_normal.specs.State.{NormalState, kept_of}
 use Rattle.af_normal.specs.Turning.{SeesAck, Learns, with_mutator}
 use Rattle.af_normal.proofs.OrderAcks.{welcomed_kept, welcomed_tied, welcomed_same, Brings, welcomed_brings}
-use Rattle.af_normal.proofs.OrderEdits.{away_slot, returning_away}
+use Rattle.af_normal.proofs.OrderEdits.{away_slot}
 use Rattle.af_normal.proofs.OrderOpen.{edit_keeps}
 
 -- ## The acknowledgement
@@ -142,15 +140,6 @@ tied_learnt links report room x y tied l = subst (IsTied links) (sym l.same) (re
 })
 
 -- ## The mutation
-
--- a draft with another command carries the same tracks
-pub sound_ordered : (tracks : List TrackKept) (draft : FastState) (command : Command) → IsSound tracks draft → IsSound tracks (with_command command draft)
-sound_ordered tracks draft command h = record {
-  slotted = h.slotted;
-  drafted = (λ i. record { lent = (h.drafted i).lent; returning = (h.drafted i).returning; own = (h.drafted i).own });
-  alone = h.alone;
-  state = record { whole = h.state.whole; submix = h.state.submix; scaled = h.state.scaled };
-}
 
 module _ (links : Links) (edits : ℕ) where
   -- the mutation stays open after the first tracks were edited

@@ -1,8 +1,9 @@
 -- The stages of a turn in a row: what each leaves, and that its numbers stay small.
-use Rattle.std.proofs.Common.{◌≡◌, inl, inr, ℕ, zero, suc, ◌*◌, ◌<◌, ◌≤◌, ◌^◌, ◌==◌, ◌&&◌, not, Bool, true, false, if◌then◌else◌, true≢false, is_some, MatchBool, sym, refl, ap, subst, ◌∙◌, List, [], ◌∷◌, length, map, All, Option, Some, None, arith}
+use Rattle.std.proofs.Common.{◌≡◌, inl, inr, ℕ, zero, suc, ◌*◌, ◌<◌, ◌≤◌, ◌^◌, ◌&&◌, not, Bool, true, false, true≢false, is_some, MatchBool, sym, refl, ap, subst, ◌∙◌, List, [], ◌∷◌, length, map, All, Option, Some, None, arith}
 use Rattle.std.specs.Prelude.{slice_get}
 use Rattle.std.proofs.lemmas.List.Elements.{All-from_get_or}
 use Rattle.std.proofs.lemmas.Bool.{cases_lt}
+use Rattle.af_life.proofs.Basics.{due_len}
 use Rattle.af_life.specs.TurnEvents.{invalid}
 use Rattle.af_base.specs.declared.report.Report.{Report}
 use Rattle.af_base.specs.declared.state.Push.{Push}
@@ -19,7 +20,7 @@ use Rattle.af_link.specs.declared.names.StreamNames.{StreamNames}
 use Rattle.af_life.specs.declared.kept.TrackKept.{TrackKept}
 use Rattle.af_life.specs.Heard.{known_by, ready, heard}
 use Rattle.af_life.specs.Kept.{Setup, NormalKept, Learnt, track_at, new_track, seen_at, nothing_seen, plays}
-use Rattle.af_life.specs.Obeys.{after_look, goes_on, are_due, slot_for}
+use Rattle.af_life.specs.Obeys.{are_due, slot_for}
 use Rattle.af_life.specs.Serves.{served_to, LegalTrack, IsServed, most_looks}
 use Rattle.af_life.specs.Edits.{mutated}
 use Rattle.af_life.specs.Small.{IsSmall, AreUpTo, most_tracks}
@@ -42,20 +43,6 @@ use Rattle.af_normal.proofs.OwnLooks.{IsFew, acked_few, all_few, mutated_few}
 use Rattle.af_normal.proofs.OrderStages.{acked_kept, tied_acked, acked_same, tied_learnt, opened, tied_edited, tied_pushed}
 
 -- ## No more looks than are due
-
-none_left : (n : ℕ) → (n == 0) ≡ true → n ≡ 0
-none_left n e = grind arith
-
-by_next : (b : Bool) (n k : ℕ) (due : Bool) → (due ≡ true → k ≤ n) → (if b then due else k == 0) ≡ true → suc k ≤ suc n
-by_next true n k due more f = let l : k ≤ n = more f in omega arith
-by_next false n k due more f = let l : k ≡ 0 = none_left k f in omega arith
-
-due_len : (given : Option ℕ) (flush_seen n : ℕ) (looks : List CommandLook) (s : TrackKept) → are_due n given flush_seen looks s ≡ true → length looks ≤ n
-due_len given flush_seen zero [] s e = omega arith
-due_len given flush_seen zero (look ∷ looks) s e = absurd (true≢false (sym e))
-due_len given flush_seen (suc n) [] s e = absurd (true≢false (sym e))
-due_len given flush_seen (suc n) (look ∷ looks) s e = by_next (goes_on look (after_look given flush_seen look s)) n (length looks) (are_due n given flush_seen looks (after_look given flush_seen look s))
-    (due_len given flush_seen n looks (after_look given flush_seen look s)) e
 
 module _ (c : Setup) (k : Learnt) (seen : TrackSeen) (tracks : List TrackKept) (i : ℕ) where
   pub few_looks : LegalTrack c k seen tracks i → length seen.looks ≤ 64

@@ -2,12 +2,15 @@
 use Rattle.std.proofs.Common.{◌≡◌, ◌≢◌, ℕ, zero, suc, ◌<◌, ◌≤◌, ◌&&◌, not, Bool, true, false, true≢false, if◌then◌else◌, is_some, MatchBool, refl, sym, ap, subst, ◌∙◌, List, [], ◌∷◌, length, Option, ⊎_elim, get_or-set_same, arith}
 use Rattle.std.specs.Prelude.{map, slice_set}
 use Rattle.std.proofs.lemmas.Bool.{cases_eq, cases_lt}
+use Rattle.af_base.proofs.Basics.{no}
 use Rattle.af_base.specs.declared.report.SlotReport.{SlotReport}
 use Rattle.af_base.specs.declared.seen.Seen.{Seen}
 use Rattle.af_base.specs.declared.state.FastState.{FastState}
 use Rattle.af_base.specs.declared.turn.CommandLook.{CommandLook}
 use Rattle.af_base.specs.Turn.{TrackSeen}
-use Rattle.af_model.specs.Reports.{one_if, is_full, is_partial, is_empty}
+use Rattle.af_life.proofs.Basics.{out_of, set_each}
+use Rattle.af_model.proofs.Basics.{one_few}
+use Rattle.af_model.specs.Reports.{is_full, is_partial, is_empty}
 use Rattle.af_life.specs.declared.kept.Counts.{Counts}
 use Rattle.af_life.specs.declared.kept.Heard.{Heard}
 use Rattle.af_life.specs.declared.kept.Holder.{Holder}
@@ -25,7 +28,6 @@ use Rattle.af_life.proofs.Smalls.{set_all}
 use Rattle.af_normal.specs.Mixing.{Mixing, TakesOf, MixesTo}
 use Rattle.af_normal.specs.Order.{HaveFewLooks}
 use Rattle.af_normal.proofs.DueTracks.{other_track}
-use Rattle.af_normal.proofs.OrderSlots.{set_each}
 
 -- a track that may be mixed has no look yet that wasn't told
 abbrev pub IsTold : TrackKept → Type 0
@@ -116,11 +118,6 @@ module _ (c : Setup) (k : Learnt) (looks : List CommandLook) (tracks : List Trac
 
 -- ## All tracks
 
-track_past : (tracks : List TrackKept) (j : ℕ) → length tracks ≤ j → track_at tracks j ≡ new_track
-track_past [] j le = refl
-track_past (s ∷ tracks) zero le = absurd (omega arith)
-track_past (s ∷ tracks) (suc j) le = track_past tracks j (omega arith)
-
 module _ (c : Setup) (k : Learnt) (seen : List TrackSeen) (tracks : List TrackKept) (few : HaveFewLooks tracks) where
   abbrev now : ℕ → List TrackKept
   now n = served_to c k seen tracks n
@@ -144,7 +141,7 @@ module _ (c : Setup) (k : Learnt) (seen : List TrackSeen) (tracks : List TrackKe
   pub all_few : (j : ℕ) → IsFew (track_at (served_to c k seen tracks (length tracks)) j)
   all_few j = ⊎_elim
       (λ (lt : j < length tracks). let h = first_few (length tracks) (omega arith) j in (h.0, h.1 lt))
-      (λ (le : length tracks ≤ j). subst IsFew (sym (track_past (now (length tracks)) j (let l = served_len c k seen tracks (length tracks) in omega (arith, l, le)))) (none_told 1, λ h g. none_told 0))
+      (λ (le : length tracks ≤ j). subst IsFew (sym (out_of (now (length tracks)) j (let l = served_len c k seen tracks (length tracks) in omega (arith, l, le)))) (none_told 1, λ h g. none_told 0))
       (cases_lt j (length tracks))
 
 -- ## The acknowledgement, the edits and the command
@@ -170,9 +167,6 @@ either_few : (b : Bool) (x y : NormalKept) → AreFew x → AreFew y → AreFew 
 either_few true x y h g = h
 either_few false x y h g = g
 
-no : {A : Type 0} → false ≡ true → A
-no e = absurd (true≢false (sym e))
-
 go_few : (i : ℕ) (x : NormalKept) → AreFew x → AreFew (let_go i x)
 unfolding let_go
 go_few i x h = set_all IsFew x.tracks i _ h ((h i).0, λ e g. no e)
@@ -196,12 +190,8 @@ mutated_few c k room x h = let edits : AreFew (edited_to c k x (length x.tracks)
 
 -- ## The mix
 
-one_low : (b : Bool) → one_if b ≤ 1
-one_low true = omega arith
-one_low false = omega arith
-
 counted_one : (asked : ℕ) (answer : Seen) (own : Counts) → AreUpTo 0 own → AreUpTo 1 (counted asked answer own)
-counted_one asked answer own none = let a = one_low (is_full asked answer) in let b = one_low (is_partial asked answer) in let d = one_low (is_empty answer) in
+counted_one asked answer own none = let a = one_few (is_full asked answer) in let b = one_few (is_partial asked answer) in let d = one_few (is_empty answer) in
     (omega (arith, a, none.0), omega (arith, b, none.1), omega (arith, d, none.2))
 
 -- a track that is mixed here has no slot, and has not ended

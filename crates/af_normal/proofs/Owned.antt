@@ -1,24 +1,17 @@
 -- The proxies and the hand of one track, found by its number and put back.
-use Rattle.std.proofs.Common.{◌≡◌, ℕ, zero, suc, ◌<◌, List, [], ◌∷◌, length, slice_get, slice_set, slice_index_or, Option, Some, None, refl, sym, ap, subst, ◌∙◌, length-set, get_or-set_same, arith}
+use Rattle.std.proofs.Common.{◌≡◌, ℕ, ◌<◌, List, length, slice_get, slice_set, slice_index_or, Option, Some, None, sym, ap, subst, ◌∙◌, length-set, get_or-set_same, arith}
 use Rattle.std.proofs.lemmas.Option.{slice_get-get_or}
 use Rattle.std.proofs.lemmas.List.{get_or_default}
+use Rattle.af_base.proofs.Basics.{get_set_same, some_same}
 use Rattle.af_cblk.specs.Sides.{HandSide, Made, hand_made, server_made}
 use Rattle.af_server.specs.Order.{ServerState, IsServerOf}
 use Rattle.af_link.specs.Names.{IsStreamOf}
 use Rattle.af_link.specs.declared.links.Links.{Links}
 use Rattle.af_normal.specs.Ready.{AreOwn}
 
-one_of : {A : Type 0} (a b : A) → Some a ≡ Some b → a ≡ b
-one_of a b e = cc
-
-get_set_same : {A : Type 0} (xs : List A) (i : ℕ) (a : A) → i < length xs → slice_get (slice_set xs i a) i ≡ Some a
-get_set_same [] i a lt = absurd (omega arith)
-get_set_same (x ∷ xs) zero a lt = refl
-get_set_same (x ∷ xs) (suc i) a lt = get_set_same xs i a (omega arith)
-
 -- the block of a number, whatever stands for one that isn't there
 block_is : (blocks : List Made) (i : ℕ) (m d : Made) → i < length blocks → slice_get blocks i ≡ Some m → m ≡ slice_index_or blocks i d
-block_is blocks i m d lt e = one_of m (slice_index_or blocks i d) (sym e ∙ slice_get-get_or blocks i d lt)
+block_is blocks i m d lt e = some_same m (slice_index_or blocks i d) (sym e ∙ slice_get-get_or blocks i d lt)
 
 module _ (links : Links) (streams : List (Option ServerState)) (commands : List ServerState) (hands : List HandSide) (i : ℕ) (own : AreOwn links streams commands hands i) (long : i < length streams) where
   pub command_of : (d : ServerState) (b : Made) → IsServerOf (slice_index_or links.commands.now i b) (slice_index_or commands i d)
@@ -38,9 +31,9 @@ module _ (links : Links) (streams : List (Option ServerState)) (commands : List 
     own_after = record {
       blocks = own.blocks;
       there = (omega (arith, own.there.0, length-set commands i command), omega (arith, own.there.1, length-set hands i hand));
-      command_is = λ s e. let is : command ≡ s = one_of command s (sym (get_set_same commands i command own.there.0) ∙ e) in
+      command_is = λ s e. let is : command ≡ s = some_same command s (sym (get_set_same commands i command own.there.0) ∙ e) in
           subst (IsStreamOf links.commands.now i) is (record { made = slice_get-get_or links.commands.now i cb own.blocks.0 ∙ ap (λ (m : Made). Some m) (sym command_is.0); in_order = command_is.1 });
-      flag_is = λ h e. let is : hand ≡ h = one_of hand h (sym (get_set_same hands i hand own.there.1) ∙ e) in
+      flag_is = λ h e. let is : hand ≡ h = some_same hand h (sym (get_set_same hands i hand own.there.1) ∙ e) in
           slice_get-get_or links.streams.now i sb own.blocks.1 ∙ ap (λ (m : Made). Some m) (sym hand_is) ∙ ap (λ (g : HandSide). Some (hand_made g)) is;
       stream_is = λ s e. let of : IsServerOf (slice_index_or links.streams.now i sb) s = stream_is s (sym (get_or-set_same streams i stream None long) ∙ e) in
           record { made = slice_get-get_or links.streams.now i sb own.blocks.1 ∙ ap (λ (m : Made). Some m) (sym of.0); in_order = of.1 };

@@ -3,6 +3,8 @@ use Rattle.std.proofs.Common.{◌++◌, reverse, ⊎_elim, get_or-set_same, ◌�
 use Rattle.af_base.specs.declared.report.Report.{Report}
 use Rattle.std.proofs.lemmas.Bool.{cases_eq}
 use Rattle.af_cblk.specs.Sides.{HandSide, server_made}
+use Rattle.af_life.proofs.Basics.{returning_away, slot_of_away}
+use Rattle.af_normal.proofs.Basics.{one_of}
 use Rattle.af_server.specs.Order.{ServerState}
 use Rattle.af_link.specs.Names.{IsStreamOf}
 use Rattle.af_link.specs.declared.links.Links.{Links}
@@ -18,8 +20,6 @@ use Rattle.af_normal.specs.TurnMade.{IsServable}
 use Rattle.af_normal.specs.Turning.{Begins, HandsTo, Hands, HasHands, HasWhole, Learns, without_hand}
 use Rattle.af_normal.proofs.Beginning.{HandsOf, hand_more, hands_same, hands_long, hands_other, takes_back, turns_back}
 use Rattle.af_normal.proofs.Cases.{none_of_zero, some_of_other}
-use Rattle.af_normal.proofs.OrderEdits.{returning_away}
-use Rattle.af_normal.proofs.OrderSlots.{slot_of_away}
 
 -- ## The tracks may be served
 
@@ -57,9 +57,6 @@ record Handed (links : Links) (n : ℕ) (x y : NormalState) : Type 0 where
   pub of : (k : ℕ) (s : ServerState) → stream_at y.streams k ≡ Some s → IsStreamOf links.streams.now k s
   pub there : (k : ℕ) → is_some (stream_at y.streams k) ≡ is_some (stream_at x.streams k)
   pub later : (k : ℕ) → n ≤ k → stream_at y.streams k ≡ stream_at x.streams k
-
-one_of : (a b : ServerState) → Some a ≡ Some b → a ≡ b
-one_of a b e = cc
 
 module _ (links : Links) (x : NormalState) (tied : IsTied links x) (none : x.hands ≡ []) (whole : (i : ℕ) → i < length x.tracks → HasWhole links.streams.now i x.streams) where
   whole_at : (i : ℕ) (y : NormalState) → Handed links i x y → i < length x.tracks → HasWhole links.streams.now i y.streams

@@ -1,6 +1,7 @@
 -- What one track's part of a turn changes, and what it leaves.
 use Rattle.std.proofs.Common.{◌≡◌, ◌≢◌, ℕ, ◌+◌, [], ◌∷◌, ◌++◌, length, length-append, slice_get, Option, Some, None, refl, sym, ap, subst, ◌∙◌, get_or-set_other, length-set, arith}
 use Rattle.std.proofs.lemmas.List.Elements.{All-push}
+use Rattle.af_base.proofs.Basics.{by_bool, get_set_other}
 use Rattle.af_base.specs.declared.turn.TrackTurn.{TrackTurn}
 use Rattle.af_base.specs.Roomy.{Roomy}
 use Rattle.af_server.specs.Order.{ServerState}
@@ -13,7 +14,6 @@ use Rattle.af_normal.specs.Order.{HasTurns}
 use Rattle.af_normal.specs.Ready.{AreOwn, HaveRoom}
 use Rattle.af_normal.specs.Turning.{listed_at}
 use Rattle.af_normal.specs.Serving.{known_at, Serving, ServesOne, ServesTrack}
-use Rattle.af_normal.proofs.Cases.{by_test, get_set_other}
 
 -- nothing but what belongs to the track i is another, and the lists keep their lengths
 pub record OnlyAt (i : ℕ) (x y : Serving) : Type 0 where
@@ -52,7 +52,7 @@ module _ (c : Setup) (k : Learnt) (i : ℕ) (x y : Serving) where
   }
 
   pub only_at : ServesTrack c k i x y → OnlyAt i x y
-  only_at s = by_test (track_at x.tracks i).life.ended _ _ (OnlyAt i x y) (none_only _) one_only s
+  only_at s = by_bool (track_at x.tracks i).life.ended _ _ (OnlyAt i x y) (none_only _) one_only s
 
 -- what belongs to another track is of its blocks still
 pub other_own : (links : Links) (i k : ℕ) (x y : Serving) → OnlyAt i x y → k ≢ i → AreOwn links x.streams x.commands x.hands k → AreOwn links y.streams y.commands y.hands k

@@ -1,6 +1,7 @@
 -- What the return of one proxy changes, and what it leaves.
 use Rattle.std.proofs.Common.{◌≡◌, ◌≢◌, ℕ, ◌<◌, ◌≤◌, true, true≢false, length, slice_set, sym, ap, subst, ◌∙◌, ⊎_elim, get_or-set_other, get_or-set_same, length-set}
 use Rattle.std.proofs.lemmas.Bool.{cases_eq}
+use Rattle.af_base.proofs.Basics.{by_bool}
 use Rattle.af_base.specs.Log.{slots}
 use Rattle.af_server.specs.Order.{ServerState}
 use Rattle.af_stateq.specs.Mutates.{at}
@@ -9,14 +10,14 @@ use Rattle.af_life.specs.declared.kept.TrackKept.{TrackKept}
 use Rattle.af_life.specs.Kept.{is_returning, slot_number, track_at, new_track}
 use Rattle.af_normal.specs.Coming.{HaveSlots, Welcomes, has_back, takes_back}
 use Rattle.af_normal.specs.State.{NormalState}
-use Rattle.af_normal.proofs.Cases.{by_test, by_item}
+use Rattle.af_normal.proofs.Cases.{by_item}
 
 module _ (i : ℕ) (x y : NormalState) where
   abbrev asks : NormalState
   asks = record x { mutator = takes_back (slot_number (track_at x.tracks i)) x.mutator }
 
   pub by_return : (R : Type 0) → (y ≡ asks → R) → ((server : ServerState) → y ≡ has_back i server asks → R) → (y ≡ x → R) → Welcomes i x y → R
-  by_return R f g h w = by_test (is_returning (track_at x.tracks i).holder) _ _ R
+  by_return R f g h w = by_bool (is_returning (track_at x.tracks i).holder) _ _ R
       (λ m. by_item (at x.mutator.returned (slot_number (track_at x.tracks i))) _ _ R f g m) h w
 
   pub welcomed_long : Welcomes i x y → (length y.tracks ≡ length x.tracks) × (length y.streams ≡ length x.streams)

@@ -1,10 +1,12 @@
 -- The blocks of a test's tracks, with their clients and their servers.
-use Rattle.std.proofs.Common.{◌≡◌, ℕ, zero, suc, ◌+◌, ◌≤◌, true, List, [], ◌∷◌, ◌++◌, length, All, Option, Some, refl, sym, ap, subst, ◌∙◌, arith}
-use Rattle.std.specs.Prelude.{slice_get, unwrap_or}
+use Rattle.std.proofs.Common.{◌≡◌, ℕ, zero, suc, ◌+◌, ◌≤◌, true, List, [], ◌∷◌, ◌++◌, length, Option, Some, refl, subst, arith}
+use Rattle.std.specs.Prelude.{slice_get}
 use Rattle.std.proofs.lemmas.List.{length-append}
 use Rattle.std.proofs.lemmas.List.Elements.{All-append}
+use Rattle.af_base.proofs.Basics.{all_one, some_same}
 use Rattle.af_cblk.specs.Sides.{Made}
 use Rattle.af_client.specs.Order.{ClientState, IsClientOf}
+use Rattle.af_fast.proofs.Basics.{one_of}
 use Rattle.af_server.specs.Order.{ServerState, IsServerOf}
 use Rattle.af_link.specs.Names.{IsStreamOf}
 use Rattle.af_life.specs.declared.kept.Setting.{Setting}
@@ -13,13 +15,6 @@ use Rattle.af_normal.specs.Mixing.{stream_at}
 use Rattle.af_normal_tests.specs.Testing.{AreLines, IsLine}
 use Rattle.af_normal.specs.declared.make.TrackSetup.{TrackSetup}
 use Rattle.af_normal_tests.proofs.Zips.{zip_push}
-
-same_one : {X : Type 0} (x y : X) → Some x ≡ Some y → x ≡ y
-same_one x y e = ap (λ o. unwrap_or o x) e
-
--- a server of the block of a place
-one_of : (blocks : List Made) (i : ℕ) (b : Made) (x s : ServerState) → slice_get blocks i ≡ Some b → IsServerOf b x → Some x ≡ Some s → IsStreamOf blocks i s
-one_of blocks i b x s here of is = subst (λ (t : ServerState). IsStreamOf blocks i t) (same_one x s is) (record { made = here ∙ ap (λ (m : Made). Some m) (sym of.0); in_order = of.1 })
 
 -- one block more, with a stream proxy
 more_streams : (blocks : List Made) (streams : List (Option ServerState)) (b : Made) (x : ServerState) → length blocks ≡ length streams → IsServerOf b x
@@ -51,14 +46,10 @@ more_commands (c ∷ bs) (t ∷ ts) b x long of each (suc i) s is =
 more_hold : (P : ServerState → Type 0) (streams : List (Option ServerState)) (x : ServerState) → P x
     → ((i : ℕ) (s : ServerState) → stream_at streams i ≡ Some s → P s)
     → (i : ℕ) (s : ServerState) → stream_at (streams ++ Some x ∷ []) i ≡ Some s → P s
-more_hold P [] x p each zero s is = subst P (same_one x s is) p
+more_hold P [] x p each zero s is = subst P (some_same x s is) p
 more_hold P [] x p each (suc i) s is = cc
 more_hold P (t ∷ ts) x p each zero s is = each 0 s is
 more_hold P (t ∷ ts) x p each (suc i) s is = more_hold P ts x p (λ j. each (suc j)) i s is
-
-one_all : {X : Type 0} (P : X → Type 0) (x : X) → P x → All P (x ∷ [])
-one_all P x p zero d lt = p
-one_all P x p (suc k) d lt = absurd (omega arith)
 
 -- a track more
 pub lines_more : (n : ℕ) (streams commands : List Made) (clients senders : List ClientState) (tracks : TrackList) (block control : Made) (client sender : ClientState) (t : TrackSetup)
@@ -74,7 +65,7 @@ lines_more n streams commands clients senders tracks block control client sender
   );
   clients_are = zip_push IsClientOf streams clients block client lines.clients_are stream.client_is;
   senders_are = zip_push IsClientOf commands senders control sender lines.senders_are command.client_is;
-  scales = All-append (λ (setting : Setting). setting.scale ≤ 4096) tracks.settings (setting_of t ∷ []) lines.scales (one_all (λ (setting : Setting). setting.scale ≤ 4096) (setting_of t) scale);
+  scales = All-append (λ (setting : Setting). setting.scale ≤ 4096) tracks.settings (setting_of t ∷ []) lines.scales (all_one (λ (setting : Setting). setting.scale ≤ 4096) (setting_of t) scale);
   streams_of = more_streams streams tracks.streams block t.stream (omega (arith, lines.long.0, lines.long.3)) stream.server_is lines.streams_of;
   hands_of = more_hold (λ (s : ServerState). s.pass.has_hand ≡ true) tracks.streams t.stream stream.whole lines.hands_of;
   commands_of = more_commands commands tracks.commands control t.command (omega (arith, lines.long.1, lines.long.4)) command.server_is lines.commands_of;

@@ -1,12 +1,9 @@
 -- The ends of the other mixer after a meeting.
-use Rattle.std.proofs.Common.{◌≡◌, ℕ, ◌++◌, List, [], ◌∷◌, length, refl, ap, ◌∙◌}
+use Rattle.std.proofs.Common.{List, length, refl, ap, ◌∙◌}
 use Rattle.af_base.specs.declared.report.Report.{Report}
 use Rattle.af_client.specs.Order.{ClientState}
-use Rattle.af_latest.specs.Laws.{last_of}
+use Rattle.af_fast.proofs.Basics.{last_of-learn}
 use Rattle.af_model.specs.Reports.{no_report}
-use Rattle.af_model.specs.declared.newest.WriterEvent.{WriterEvent}
-use Rattle.af_model.specs.declared.newest.WriterEvent.TheVariants.{Store}
-use Rattle.af_model.specs.declared.newest.WriterEvent.TheVariants as writes
 use Rattle.af_server.specs.Order.{ServerState}
 use Rattle.af_stateq.specs.Observes.{Observes}
 use Rattle.af_stateq.proofs.Told.{order_learns}
@@ -18,12 +15,6 @@ use Rattle.af_normal.specs.Meeting.{observer_met, out_met, writer_met}
 use Rattle.af_normal.specs.State.{NormalState}
 use Rattle.af_normal_tests.specs.Testing.{AreOthers}
 use Rattle.af_normal.specs.Turning.{stream_fits}
-
--- what a writer learns stores nothing
-last_of-learn : (x : Report) (ws : List (WriterEvent Report)) (k : ℕ) → last_of x (ws ++ writes.Learn k ∷ []) ≡ last_of x ws
-last_of-learn x [] k = refl
-last_of-learn x (Store y ∷ ws) k = last_of-learn y ws k
-last_of-learn x (writes.Learn c ∷ ws) k = last_of-learn x ws k
 
 pub others_met : (links : Links) (m n : NormalState) (o : Observes ServerState StreamNames) (w : WriterSide) (p : OutSide) (last : Report) (streams commands : List ClientState)
     → AreOthers links o w p last streams commands → AreOthers links (observer_met m o) (writer_met n w) (out_met n p) last streams commands

@@ -1,16 +1,17 @@
 -- A round that has more entries than a turn of the fast mixer, or whose turn has more looks at a track than one of the normal mixer, is some party's fault. So nothing of a legal journal is left out when it is judged, and the fault of a front that ends behind such a round is in one of its rounds.
-use Rattle.std.proofs.Common.{◌≡◌, ℕ, zero, suc, ◌<◌, ◌≤◌, ◌==◌, ◌&&◌, ◌||◌, nat_lt, Bool, true, false, if◌then◌else◌, MatchBool, MatchOption, List, [], ◌∷◌, ◌++◌, length, map, is_some, Option, Some, None, refl, ap, ◌∙◌, sym, subst, arith, length-append}
+use Rattle.std.proofs.Common.{◌≡◌, ℕ, zero, suc, ◌<◌, ◌≤◌, ◌&&◌, ◌||◌, nat_lt, Bool, true, false, MatchBool, MatchOption, List, [], ◌∷◌, ◌++◌, length, map, is_some, Option, Some, None, refl, ap, ◌∙◌, sym, subst, arith, length-append}
 use Rattle.std.specs.List.{list_any}
 use Rattle.std.proofs.lemmas.Bool.{true≢false}
-use Rattle.std.proofs.lemmas.Bool.Decides.{nat_tests}
+use Rattle.af_base.proofs.Basics.{is_not_below}
 use Rattle.af_base.specs.declared.frame.Frame.{Frame}
 use Rattle.af_base.specs.declared.turn.CommandLook.{CommandLook}
 use Rattle.af_base.specs.Turn.{TrackSeen, Turn}
+use Rattle.af_life.proofs.Basics.{due_len}
 use Rattle.af_life.specs.declared.kept.TrackKept.{TrackKept}
 use Rattle.af_life.specs.Kept.{Learnt, NormalKept, Setup, nothing_seen, seen_at, track_at}
 use Rattle.af_life.specs.Heard.{heard, learnt, ready}
 use Rattle.af_life.specs.Edits.{after_ack}
-use Rattle.af_life.specs.Obeys.{after_look, are_due, goes_on, slot_for}
+use Rattle.af_life.specs.Obeys.{are_due, goes_on, slot_for}
 use Rattle.af_life.specs.Serves.{IsServed, LegalTrack, most_looks, served_to}
 use Rattle.af_model.specs.Journals.{EntrySeen, JournalData, RoundSeen}
 use Rattle.af_script.specs.Data.{ScriptData}
@@ -31,20 +32,6 @@ use Rattle.af_offline.specs.Verified.{Tells}
 
 -- ## No more looks than are due
 
-none_left : (n : ℕ) → (n == 0) ≡ true → n ≡ 0
-none_left n e = grind arith
-
-by_next : (b : Bool) (n k : ℕ) (due : Bool) → (due ≡ true → k ≤ n) → (if b then due else k == 0) ≡ true → suc k ≤ suc n
-by_next true n k due more f = let l : k ≤ n = more f in omega arith
-by_next false n k due more f = let l : k ≡ 0 = none_left k f in omega arith
-
-due_len : (given : Option ℕ) (flush_seen n : ℕ) (looks : List CommandLook) (s : TrackKept) → are_due n given flush_seen looks s ≡ true → length looks ≤ n
-due_len given flush_seen zero [] s e = omega arith
-due_len given flush_seen zero (look ∷ looks) s e = absurd (true≢false (sym e))
-due_len given flush_seen (suc n) [] s e = absurd (true≢false (sym e))
-due_len given flush_seen (suc n) (look ∷ looks) s e =
-    by_next (goes_on look (after_look given flush_seen look s)) n (length looks) (are_due n given flush_seen looks (after_look given flush_seen look s)) (due_len given flush_seen n looks (after_look given flush_seen look s)) e
-
 module _ (c : Setup) (k : Learnt) (seen : TrackSeen) (tracks : List TrackKept) (i : ℕ) where
   few_looks : LegalTrack c k seen tracks i → length seen.looks ≤ 64
   few_looks legal = by_ended (track_at tracks i).life.ended legal
@@ -59,14 +46,11 @@ module _ (c : Setup) (k : Learnt) (seen : TrackSeen) (tracks : List TrackKept) (
 
 -- ## A round that has more entries or looks than a legal one
 
-not_more : (n m : ℕ) → m ≤ n → nat_lt n m ≡ false
-not_more n m h = grind (arith, nat_tests, h)
-
 -- if each track has few looks, none has more
 none_more : (looks : ℕ) (ts : List TrackSeen) → ((i : ℕ) → i < length ts → length (seen_at ts i).looks ≤ looks) → list_any (λ (t : TrackSeen). nat_lt looks (length t.looks)) ts ≡ false
 none_more looks [] few = refl
 none_more looks (t ∷ ts) few =
-    ap (λ b. b || list_any (λ (t : TrackSeen). nat_lt looks (length t.looks)) ts) (not_more looks (length t.looks) (few 0 (omega arith)))
+    ap (λ b. b || list_any (λ (t : TrackSeen). nat_lt looks (length t.looks)) ts) (is_not_below looks (length t.looks) (few 0 (omega arith)))
     ∙ none_more looks ts (λ i h. few (suc i) (omega (arith, h)))
 
 turn_few : (c : Setup) (marks : Marks) (f : TurnFound) (m : NormalKept) (e : Turn) → LegalTurnBy c marks f m e → (b : Bool) → e.ended ≡ b → has_more 64 (Some e) ≡ false
@@ -90,7 +74,7 @@ clear_within cut s marks run round clear =
     let fast : FastIsClear cut s marks run round = fast_part cut s marks run round (clear (fast_party s) (omega arith)) in
     let normal : NormalIsClear s marks run round = normal_part cut s marks run round (clear (normal_party s) (omega arith)) in
     let entries : length round.entries ≤ 16 = fast_few round.entries (cut && fills s run round) (LegalEntries s marks (with_calls round run) (early_of run round)) (LegalEntries s marks (after_turn s run round) (late_of run round)) (fast_ended run) fast.turn in
-    ap (λ b. b || has_more 64 round.turn) (not_more 16 (length round.entries) entries) ∙ normal_few (setup_of s) marks (found_in s run round) run.normal round.turn run.normal.ended normal.turn
+    ap (λ b. b || has_more 64 round.turn) (is_not_below 16 (length round.entries) entries) ∙ normal_few (setup_of s) marks (found_in s run round) run.normal round.turn run.normal.ended normal.turn
 
 -- ## What is judged of a legal journal
 

@@ -1,6 +1,5 @@
 -- Steps and lists that are read one by one, up to the first refusal.
 use Rattle.std.proofs.Common.{◌≡◌, List, [], ◌∷◌, ◌++◌, Result, Ok, Err, IsErrAnd, refl, ap, sym, subst, append_assoc}
-use Rattle.af_io.specs.Files.{Files, SameFiles}
 use Rattle.af_offline.specs.declared.status.Refusal.{Refusal}
 use Rattle.af_offline.specs.declared.status.Stop.{Stop}
 use Rattle.af_offline.specs.declared.status.Stop.TheVariants.{Refused, Over, Store, Memory}
@@ -40,7 +39,3 @@ Meets-memory view (Err stop) told is = subst (λ (s : Stop). Meets view (Err s) 
 pub passed_on : {X : Type 0} (P : Result X Stop → Type 0) (r : Result X Stop) (e : Stop) → P (Err e) → IsErrAnd r (λ s. s ≡ e) → P r
 passed_on P (Ok x) e p is = absurd is
 passed_on {X} P (Err stop) e p is = subst (λ (s : Stop). P (Err s)) (sym is) p
-
--- files of which none has changed
-pub files_are : (old mid : Files) → SameFiles old mid → mid ≡ old
-files_are old mid same = λ i name. same name i

@@ -1,12 +1,12 @@
 -- In a turn run in which each stream proxy takes part in the last meeting all rounds are told.
-use Rattle.std.proofs.Common.{◌≡◌, ℕ, ◌<◌, Bool, true, false, if◌then◌else◌, List, [], ◌∷◌, length, refl, sym, ap, ◌∙◌, subst, arith}
+use Rattle.std.proofs.Common.{◌≡◌, ℕ, ◌<◌, true, List, [], ◌∷◌, length, sym, ap, ◌∙◌, subst, arith}
+use Rattle.af_judge.proofs.Basics.{ends_part}
 use Rattle.af_model.specs.History.{taken_of}
 use Rattle.af_model.specs.Journals.{RoundSeen}
 use Rattle.af_script.specs.Form.{IsScript}
 use Rattle.af_script.specs.declared.op.TurnSpec.{TurnSpec}
 use Rattle.af_runs.specs.Blocks.{Marks, is_tame, IsHistoryAsTold}
-use Rattle.af_runs.specs.Clients.{ends}
-use Rattle.af_runs.specs.Runs.{Run, TrackTold, told_at, each_track, takes_part, with_ends}
+use Rattle.af_runs.specs.Runs.{Run, TrackTold, told_at, takes_part, with_ends}
 use Rattle.af_runs.specs.Sessions.{Session, track_count, file_words}
 use Rattle.af_runs.specs.TurnRuns.{met_alone, run_alone, AreTurns}
 use Rattle.af_one_turn_run.proofs.FileWords.{taken_of_file}
@@ -26,15 +26,6 @@ block_of_file file t is h =
       legal = legal;
       taken = sym (taken_of_file b.shape file (length b.released) b.told legal (told_frames b h).within) ∙ ap (λ (ws : List ℕ). taken_of ws b.shape b.told) (sym is.first) ∙ told_taken_of b h;
     }
-
--- the ends leave it open who takes part
-ends_part : (s : Session) (run : Run) (n : ℕ) → takes_part s (with_ends run) n ≡ takes_part s run n
-unfolding with_ends
-ends_part s run n = by_end run.normal.ended
-  where
-    by_end : (b : Bool) → takes_part s (if b then each_track (λ track t. record t { client = ends t.client }) run else run) n ≡ takes_part s run n
-    by_end true = refl
-    by_end false = refl
 
 module _ (s : Session) (form : IsScript s.script) (many : ℕ) (marks : Marks) where
   -- each round has its form

@@ -3,6 +3,7 @@ use Rattle.std.proofs.Common.{◌≡◌, inl, inr, ℕ, zero, suc, ◌+◌, ◌<
 use Rattle.std.specs.List.{range_with_len}
 use Rattle.std.proofs.lemmas.Bool.{cases_eq}
 use Rattle.std.proofs.lemmas.List.{ext_get_or, length-take, length-drop, take_all, map-append}
+use Rattle.af_base.proofs.Basics.{both}
 use Rattle.af_base.specs.declared.log.CycleEntry.{CycleEntry}
 use Rattle.af_base.specs.declared.log.SlotEntry.{SlotEntry}
 use Rattle.af_base.specs.declared.state.FastState.{FastState}
@@ -13,7 +14,6 @@ use Rattle.af_model.specs.Journals.{EntrySeen, slot_frames}
 use Rattle.af_model.specs.StateQueue.{slot_of, carries}
 use Rattle.af_runs.specs.Runs.{plays, slot_for}
 use Rattle.af_judge.specs.Entries.{CarriesApart}
-use Rattle.af_judge.proofs.EntryTracks.{both-true}
 use Rattle.af_one_turn_run.proofs.Parts.{take-add}
 use Rattle.af_one_turn_run.proofs.OneFrames.{one_frames}
 use Rattle.af_one_turn_run.proofs.OneTakes.{bare_slot}
@@ -32,7 +32,7 @@ find_only p a (suc n) k holds only low high = by_first (p a) refl (λ ne. find_o
 pub slot_found : (x : FastState) (entry : CycleEntry) (i : ℕ) → CarriesApart x → i < slots → carries x i ≡ true → plays x entry i ≡ true → slot_for x entry (slot_of x i).track ≡ Some i
 slot_found x entry i apart low carried here =
     find_only (λ j. plays x entry j && ((slot_of x j).track == (slot_of x i).track)) 0 slots i (both_yes (plays x entry i) _ here (same_yes (slot_of x i).track))
-    (λ j lt p. let two = both-true (plays x entry j) ((slot_of x j).track == (slot_of x i).track) p in apart j i (omega (arith, lt)) low (both-true (carries x j) _ two.0).0 carried (eqb-true (slot_of x j).track (slot_of x i).track two.1))
+    (λ j lt p. let two = both (plays x entry j) ((slot_of x j).track == (slot_of x i).track) p in apart j i (omega (arith, lt)) low (both (carries x j) _ two.0).0 carried (eqb-true (slot_of x j).track (slot_of x i).track two.1))
     (omega arith) (omega (arith, low))
   where
     both_yes : (a b : Bool) → a ≡ true → b ≡ true → (a && b) ≡ true

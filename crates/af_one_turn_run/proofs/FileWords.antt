@@ -7,11 +7,12 @@ use Rattle.af_base.specs.declared.event.ServerEvent.{ServerEvent}
 use Rattle.af_base.specs.declared.event.ServerEvent.TheVariants as server
 use Rattle.af_base.specs.declared.event.HandEvent.{HandEvent}
 use Rattle.af_base.specs.declared.event.HandEvent.TheVariants as hand
+use Rattle.af_judge.proofs.Basics.{hand_puts, server_put}
 use Rattle.af_model.specs.declared.point.TrackPoint.{TrackPoint}
 use Rattle.af_model.specs.declared.shape.Shape.{Shape}
 use Rattle.af_model.specs.History.{Moment, by_client, by_server, by_hand, client_of, after, IsLegal, with_taken, taken_of}
 use Rattle.af_model.specs.Point.{start, ServerMay, after_client, after_server, after_hand}
-use Rattle.af_one_turn_run.proofs.TakenWords.{same_released, from_base}
+use Rattle.af_one_turn_run.proofs.TakenWords.{from_base}
 
 -- ## Positions
 
@@ -21,10 +22,6 @@ client_raises p client.Flush = omega arith
 client_raises p (client.SetGain word) = omega arith
 client_raises p (client.ClearFlags old) = omega arith
 client_raises p e = omega arith
-
-hand_same : (p : TrackPoint) (e : HandEvent) → (after_hand p e).released ≡ p.released
-hand_same p (hand.SetFlags bits) = refl
-hand_same p (hand.Met client) = refl
 
 client_rear : (p : TrackPoint) (e : ClientEvent) → (after_client p e).rear_seen ≡ p.rear_seen
 client_rear p (client.Release count) = refl
@@ -52,7 +49,7 @@ rear_within : (k : Shape) (told : List Moment) → (after (start k) told).rear_s
 rear_within k [] = omega arith
 rear_within k (by_client e ∷ told) = let p = after (start k) told in let r = rear_within k told in let s = client_rear p e in let m = client_raises p e in omega (arith, r, s, m)
 rear_within k (by_server e ∷ told) = server_rear (after (start k) told) e (rear_within k told)
-rear_within k (by_hand e ∷ told) = let p = after (start k) told in let r = rear_within k told in let s = hand_rear p e in let m = hand_same p e in omega (arith, r, s, m)
+rear_within k (by_hand e ∷ told) = let p = after (start k) told in let r = rear_within k told in let s = hand_rear p e in let m = hand_puts p e in omega (arith, r, s, m)
 
 -- ## What is taken
 
@@ -64,10 +61,10 @@ of_file c count m file few =
 pub taken_of_file : (k : Shape) (file : List ℕ) (m : ℕ) (told : List Moment) → IsLegal (start k) told → (after (start k) told).released ≤ k.base + m → taken_of (take m file) k told ≡ taken_of file k told
 taken_of_file k file m [] l few = refl
 taken_of_file k file m (by_client e ∷ told) l few = let r = client_raises (after (start k) told) e in taken_of_file k file m told l.1 (omega (arith, r, few))
-taken_of_file k file m (by_hand e ∷ told) l few = let r = hand_same (after (start k) told) e in taken_of_file k file m told l.1 (omega (arith, r, few))
+taken_of_file k file m (by_hand e ∷ told) l few = let r = hand_puts (after (start k) told) e in taken_of_file k file m told l.1 (omega (arith, r, few))
 taken_of_file k file m (by_server e ∷ told) l few =
     let p = after (start k) told in
-    let r = same_released p e in
+    let r = server_put p e in
     let within : p.released ≤ k.base + m = omega (arith, r, few) in
     by_event e l.0 within ∙ ap (λ t. with_taken file k.base p t e) (taken_of_file k file m told l.1 within)
   where

@@ -1,7 +1,8 @@
 -- A want has one answer at a point.
-use Rattle.std.proofs.Common.{◌≡◌, ℕ, ◌+◌, ◌<◌, ◌≤◌, ◌==◌, nat_lt, nat_le, Bool, true, false, true≢false, is_some, List, [], ◌∷◌, Option, Some, None, refl, sym, ap, ◌∙◌, subst, arith, eqb-true, ne_eqb, eq-eqb, if◌then◌else◌}
-use Rattle.std.specs.Prelude.{bit_and, MatchBool, MatchOption}
+use Rattle.std.proofs.Common.{◌≡◌, ℕ, ◌+◌, ◌<◌, ◌≤◌, ◌==◌, nat_le, Bool, true, false, true≢false, is_some, List, [], ◌∷◌, Option, Some, None, refl, sym, ap, ◌∙◌, subst, arith, eqb-true, ne_eqb, eq-eqb, if◌then◌else◌}
+use Rattle.std.specs.Prelude.{bit_and, MatchOption}
 use Rattle.std.proofs.lemmas.Bool.Decides.{nat_tests}
+use Rattle.af_base.proofs.Basics.{both, by_false, is_below, is_beyond, is_not_below, is_within}
 use Rattle.af_base.specs.declared.event.ClientCall.{ClientCall}
 use Rattle.af_base.specs.declared.event.ClientCall.TheVariants as call
 use Rattle.af_base.specs.declared.event.ClientEvent.{ClientEvent}
@@ -15,30 +16,13 @@ use Rattle.af_runs.specs.declared.want.Want.{Want}
 use Rattle.af_runs.specs.declared.want.Want.TheVariants as want
 use Rattle.af_runs.specs.Clients.{code_of}
 use Rattle.af_runs.specs.ClientTurns.{Side, Track, argument_of, is_of_commands, side_of, is_send, is_write, is_status, is_flush, is_clear, AnswersOn, IsMade}
-use Rattle.af_judge.proofs.EntryTracks.{both-true}
 use Rattle.af_one_turn_run.specs.Answers.{call_by, room_by, is_valid, written_by, written, sent_by, sent, sent_on, written_on, answer_to}
 use Rattle.af_one_turn_run.specs.Seeing.{ClientSees}
 
 -- ## Tests
 
-lt_yes : (a b : ℕ) → a < b → nat_lt a b ≡ true
-lt_yes a b h = grind (arith, nat_tests, h)
-
-lt_no : (a b : ℕ) → b ≤ a → nat_lt a b ≡ false
-lt_no a b h = grind (arith, nat_tests, h)
-
-le_yes : (a b : ℕ) → a ≤ b → nat_le a b ≡ true
-le_yes a b h = grind (arith, nat_tests, h)
-
-le_no : (a b : ℕ) → b < a → nat_le a b ≡ false
-le_no a b h = grind (arith, nat_tests, h)
-
 eq_no : (a b : ℕ) → b < a → (a == b) ≡ false
 eq_no a b h = grind (arith, nat_tests, h)
-
-by_false : (A B : Type 0) (b : Bool) → b ≡ false → MatchBool b A B → B
-by_false A B true is h = absurd (true≢false is)
-by_false A B false is h = h
 
 -- ## Writes and sends
 
@@ -83,36 +67,36 @@ module _ (frames cells base : ℕ) (events : List ClientEvent) (p : TrackPoint) 
   written_so : (asked : ℕ) (answer : ClientCall) → is_write answer ≡ true → ClientAnswers frames cells base events asked answer → Sees answer → answer ≡ written frames cells kept asked p
   written_so asked (call.Put front count) is h sees =
       (λ i. call.Put (sees.1.0 i) (h.2 i)) ∙ (λ i. call.Put (wrapped p.consumed) (put_count frames cells kept (sees.1.0 i) asked))
-      ∙ (λ i. room_by (sym (lt_yes (filled_by kept (wrapped p.consumed)) frames (subst (λ f. filled_by kept f < frames) sees.1.0 h.0.1)) i) (filled_by kept (wrapped p.consumed) == frames) (call.Put (wrapped p.consumed) (put_count frames cells kept (wrapped p.consumed) asked)) (call.Full (wrapped p.consumed)) (call.Corrupt (wrapped p.consumed) (wrapped kept.position)))
+      ∙ (λ i. room_by (sym (is_below (filled_by kept (wrapped p.consumed)) frames (subst (λ f. filled_by kept f < frames) sees.1.0 h.0.1)) i) (filled_by kept (wrapped p.consumed) == frames) (call.Put (wrapped p.consumed) (put_count frames cells kept (wrapped p.consumed) asked)) (call.Full (wrapped p.consumed)) (call.Corrupt (wrapped p.consumed) (wrapped kept.position)))
       ∙ valid call.Corrupt (written_by frames cells kept asked (wrapped p.consumed)) (call.Dead p.flags) h.0.0 sees.0
   written_so asked (call.Full front) is h sees =
       let full : filled_by kept (wrapped p.consumed) ≡ frames = subst (λ f. filled_by kept f ≡ frames) sees.1.0 h.1 in
       ap call.Full sees.1.0
-      ∙ (λ i. room_by (sym (lt_no (filled_by kept (wrapped p.consumed)) frames (omega (arith, full))) i) (sym (eq-eqb (filled_by kept (wrapped p.consumed)) frames full) i) (call.Put (wrapped p.consumed) (put_count frames cells kept (wrapped p.consumed) asked)) (call.Full (wrapped p.consumed)) (call.Corrupt (wrapped p.consumed) (wrapped kept.position)))
+      ∙ (λ i. room_by (sym (is_not_below (filled_by kept (wrapped p.consumed)) frames (omega (arith, full))) i) (sym (eq-eqb (filled_by kept (wrapped p.consumed)) frames full) i) (call.Put (wrapped p.consumed) (put_count frames cells kept (wrapped p.consumed) asked)) (call.Full (wrapped p.consumed)) (call.Corrupt (wrapped p.consumed) (wrapped kept.position)))
       ∙ valid call.Corrupt (written_by frames cells kept asked (wrapped p.consumed)) (call.Dead p.flags) h.0 sees.0
   written_so asked (call.Dead flags) is h sees = ap call.Dead (flags_dead flags h.1 sees) ∙ dead_now call.Corrupt (written_by frames cells kept asked (wrapped p.consumed)) (call.Dead p.flags) h.0 (λ zero. h.1 (ap (λ f. bit_and f 4) (flags_dead flags h.1 sees) ∙ zero))
   written_so asked (call.Corrupt front rear) is h sees =
       corrupt_so call.Corrupt front rear (written_by frames cells kept asked) (call.Dead p.flags)
-      (λ f past. λ i. room_by (sym (lt_no (filled_by kept f) frames (omega (arith, past))) i) (sym (eq_no (filled_by kept f) frames past) i) (call.Put f (put_count frames cells kept f asked)) (call.Full f) (call.Corrupt f (wrapped kept.position)))
+      (λ f past. λ i. room_by (sym (is_not_below (filled_by kept f) frames (omega (arith, past))) i) (sym (eq_no (filled_by kept f) frames past) i) (call.Put f (put_count frames cells kept f asked)) (call.Full f) (call.Corrupt f (wrapped kept.position)))
       h (saw_both (is_some kept.shut) front sees)
   written_so asked answer is h sees = absurd (true≢false (sym is))
 
   -- a send has one answer
   sent_so : (asked code argument : ℕ) (answer : ClientCall) → is_send code argument answer ≡ true → ClientAnswers frames cells base events asked answer → Sees answer → answer ≡ sent frames kept code argument p
   sent_so asked code argument (call.Sent front sent_code sent_argument) is h sees =
-      (λ i. call.Sent (sees.1.0 i) (eqb-true sent_code code (both-true (sent_code == code) (sent_argument == argument) is).0 i) (eqb-true sent_argument argument (both-true (sent_code == code) (sent_argument == argument) is).1 i))
-      ∙ (λ i. room_by (sym (le_yes (filled_by kept (wrapped p.consumed) + 2) frames (subst (λ f. filled_by kept f + 2 ≤ frames) sees.1.0 h.1)) i) (nat_le (filled_by kept (wrapped p.consumed)) frames) (call.Sent (wrapped p.consumed) code argument) (call.SendFull (wrapped p.consumed)) (call.SendCorrupt (wrapped p.consumed) (wrapped kept.position)))
+      (λ i. call.Sent (sees.1.0 i) (eqb-true sent_code code (both (sent_code == code) (sent_argument == argument) is).0 i) (eqb-true sent_argument argument (both (sent_code == code) (sent_argument == argument) is).1 i))
+      ∙ (λ i. room_by (sym (is_within (filled_by kept (wrapped p.consumed) + 2) frames (subst (λ f. filled_by kept f + 2 ≤ frames) sees.1.0 h.1)) i) (nat_le (filled_by kept (wrapped p.consumed)) frames) (call.Sent (wrapped p.consumed) code argument) (call.SendFull (wrapped p.consumed)) (call.SendCorrupt (wrapped p.consumed) (wrapped kept.position)))
       ∙ valid call.SendCorrupt (sent_by frames kept code argument (wrapped p.consumed)) (call.SendDead p.flags) h.0 sees.0
   sent_so asked code argument (call.SendFull front) is h sees =
       let few : filled_by kept (wrapped p.consumed) ≤ frames = subst (λ f. filled_by kept f ≤ frames) sees.1.0 h.1.0 in
       let full : frames < filled_by kept (wrapped p.consumed) + 2 = subst (λ f. frames < filled_by kept f + 2) sees.1.0 h.1.1 in
       ap call.SendFull sees.1.0
-      ∙ (λ i. room_by (sym (le_no (filled_by kept (wrapped p.consumed) + 2) frames full) i) (sym (le_yes (filled_by kept (wrapped p.consumed)) frames few) i) (call.Sent (wrapped p.consumed) code argument) (call.SendFull (wrapped p.consumed)) (call.SendCorrupt (wrapped p.consumed) (wrapped kept.position)))
+      ∙ (λ i. room_by (sym (is_beyond (filled_by kept (wrapped p.consumed) + 2) frames full) i) (sym (is_within (filled_by kept (wrapped p.consumed)) frames few) i) (call.Sent (wrapped p.consumed) code argument) (call.SendFull (wrapped p.consumed)) (call.SendCorrupt (wrapped p.consumed) (wrapped kept.position)))
       ∙ valid call.SendCorrupt (sent_by frames kept code argument (wrapped p.consumed)) (call.SendDead p.flags) h.0 sees.0
   sent_so asked code argument (call.SendDead flags) is h sees = ap call.SendDead (flags_dead flags h.1 sees) ∙ dead_now call.SendCorrupt (sent_by frames kept code argument (wrapped p.consumed)) (call.SendDead p.flags) h.0 (λ zero. h.1 (ap (λ f. bit_and f 4) (flags_dead flags h.1 sees) ∙ zero))
   sent_so asked code argument (call.SendCorrupt front rear) is h sees =
       corrupt_so call.SendCorrupt front rear (sent_by frames kept code argument) (call.SendDead p.flags)
-      (λ f past. λ i. room_by (sym (le_no (filled_by kept f + 2) frames (omega (arith, past))) i) (sym (le_no (filled_by kept f) frames past) i) (call.Sent f code argument) (call.SendFull f) (call.SendCorrupt f (wrapped kept.position)))
+      (λ f past. λ i. room_by (sym (is_beyond (filled_by kept f + 2) frames (omega (arith, past))) i) (sym (is_beyond (filled_by kept f) frames past) i) (call.Sent f code argument) (call.SendFull f) (call.SendCorrupt f (wrapped kept.position)))
       h (saw_both (is_some kept.shut) front sees)
   sent_so asked code argument answer is h sees = absurd (true≢false (sym is))
 

@@ -1,6 +1,6 @@
 -- An entry of the fast mixer is determined by what the stream blocks, the queue and the pipe tell.
-use Rattle.std.proofs.Common.{◌≡◌, ◌⊎◌, inl, inr, ℕ, zero, suc, ◌+◌, ◌<◌, ◌&&◌, Bool, true, false, true≢false, if◌then◌else◌, is_some, unwrap_or, map, List, [], ◌∷◌, ◌++◌, replicate, take, drop, length, All, Option, Some, None, refl, sym, ap, ◌∙◌, subst, arith, length-append}
-use Rattle.std.specs.Prelude.{slice_index_or, MatchOption}
+use Rattle.std.proofs.Common.{◌≡◌, ◌⊎◌, inl, inr, ℕ, zero, suc, ◌+◌, ◌<◌, ◌&&◌, Bool, true, false, true≢false, if◌then◌else◌, is_some, map, List, [], ◌∷◌, ◌++◌, take, drop, length, All, Option, Some, None, refl, sym, ap, ◌∙◌, subst, arith, length-append}
+use Rattle.std.specs.Prelude.{MatchOption}
 use Rattle.std.proofs.lemmas.List.{ext_get_or, append_cancel_left, length-map, drop_at, drop-take}
 use Rattle.std.proofs.lemmas.Bool.{cases_eq}
 use Rattle.af_base.specs.declared.event.ServerEvent.{ServerEvent}
@@ -9,12 +9,12 @@ use Rattle.af_base.specs.declared.frame.Frame.{Frame}
 use Rattle.af_base.specs.declared.log.Cycle.{Cycle}
 use Rattle.af_base.specs.declared.log.CycleEntry.{CycleEntry}
 use Rattle.af_base.specs.declared.log.SlotEntry.{SlotEntry}
-use Rattle.af_base.specs.declared.seen.Seen.{Seen}
 use Rattle.af_base.specs.declared.seen.Seen.TheVariants as seen
 use Rattle.af_base.specs.declared.state.FastState.{FastState}
 use Rattle.af_base.specs.Log.{slots, absent, entry_slot, count_seen}
 use Rattle.af_base.specs.Sample.{packed_word, IsFrame}
-use Rattle.af_model.specs.Cycles.{IsSeen, Listed, LooksBy, Mixes, after_look, cycle_events, cold_done, cycle_of, is_mixed, kept, state_of, submix_slot, takes_shown, still_entry, taken_before}
+use Rattle.af_judge.proofs.Basics.{each_at}
+use Rattle.af_model.specs.Cycles.{Listed, LooksBy, Mixes, after_look, cycle_events, cold_done, cycle_of, is_mixed, kept, state_of, submix_slot, takes_shown, still_entry, taken_before}
 use Rattle.af_model.specs.History.{client_of, after}
 use Rattle.af_model.specs.Journals.{EntrySeen, slot_frames}
 use Rattle.af_model.specs.Order.{two, twos, Legal, after as after_both}
@@ -23,14 +23,14 @@ use Rattle.af_model.specs.Point.{start, wrapped}
 use Rattle.af_model.specs.ServerCalls.{look_at, look_events}
 use Rattle.af_model.specs.StateQueue.{slot_of, carries}
 use Rattle.af_life.specs.Kept.{pipe_size}
+use Rattle.af_runs.proofs.Basics.{absent_at, shown_if}
 use Rattle.af_runs.specs.Blocks.{BlockTold, Marks, listed}
-use Rattle.af_runs.specs.Fronts.{front_of, is_shown, lawful_front}
+use Rattle.af_runs.specs.Fronts.{front_of, lawful_front}
 use Rattle.af_runs.specs.Rounds.{LegalEntry, found_for}
 use Rattle.af_runs.specs.Runs.{Run, TrackTold, told_at, no_track, frames_before, mixed_track, played, plays, slot_for, state_for, stream_of, with_mix}
 use Rattle.af_runs.specs.Sessions.{Session, cycle_frames, setup_of}
-use Rattle.af_runs.specs.Told.{PipeTold, state_at}
+use Rattle.af_runs.specs.Told.{PipeTold}
 use Rattle.af_runs.proofs.StatesFor.{state_known}
-use Rattle.af_judge.proofs.EachTrack.{each_at}
 use Rattle.af_judge.proofs.EntryLegal.{twos-more}
 use Rattle.af_judge.specs.Entries.{CarriesApart, CarriesWithin}
 use Rattle.af_one_turn_run.specs.Taking.{IsTakenOf}
@@ -62,24 +62,11 @@ same_answer asked s slot f g same by = (by.0, by_shut (kept s).shut same by.1)
     by_shut None is h = subst (λ (n : ℕ). slot.seen ≡ look_at s.shape (kept s).flush asked slot.flush slot.rear n) (ap fourth_front is) h
     by_shut (Some words) is h = h
 
-seen_shown : (sight : Seen) → IsSeen sight → is_shown sight ≡ true
-seen_shown seen.Absent h = absurd h
-seen_shown (seen.Frames count) h = refl
-seen_shown seen.Empty h = refl
-seen_shown (seen.Flushed dropped) h = refl
-seen_shown (seen.Shut front rear) h = refl
-
--- an entry without a mix takes nothing
-all_absent : (n i : ℕ) → slice_index_or (replicate n absent) i absent ≡ absent
-all_absent zero i = refl
-all_absent (suc n) zero = refl
-all_absent (suc n) (suc i) = all_absent n i
-
 still_none : (state : ℕ) (cycle : Cycle) (n : ℕ) → taken_before (still_entry state cycle) n ≡ 0
 still_none state cycle zero = refl
 still_none state cycle (suc n) =
     let before = still_none state cycle n in
-    let here = ap (λ (z : SlotEntry). count_seen z.seen) (all_absent slots n) in
+    let here = ap (λ (z : SlotEntry). count_seen z.seen) (absent_at slots n) in
     omega (arith, before, here)
 
 no_frames : (frames : List Frame) → length frames ≡ 0 → frames ≡ []
@@ -139,7 +126,7 @@ module _ (s : Session) (marks : Marks) (lawful : (n : ℕ) → marks.streams n �
     slot_plays i low carried =
         let n = (slot_of x i).track in
         let few : n < length r.tracks = (let m = h.tracks in let w = h.within i low carried in omega (arith, m, w)) in
-        let here : plays x e.entry i ≡ true = λ j. carried j && seen_shown (entry_slot e.entry i).seen (slot_looks i low carried).0 j in
+        let here : plays x e.entry i ≡ true = λ j. carried j && shown_if (entry_slot e.entry i).seen (slot_looks i low carried).0 j in
         let found : slot_for x e.entry n ≡ Some i = slot_found x e.entry i h.apart low carried here in
         ap (λ (z : TrackTold). z.stream) (each_at (mixed_track s (state_for s r e.entry.state) e) 0 r.tracks n n no_track few (omega arith) ∙ ap (λ (z : FastState). mixed_track s z e n (told_at r n)) state)
         ∙ ap (λ (o : Option ℕ). (elim o as (λ o. TrackTold) [ None ↦ told_at r n | Some i ↦ record (told_at r n) { stream = played asked e i (told_at r n).stream } ]).stream) found

@@ -4,6 +4,7 @@ use Rattle.std.proofs.lemmas.Bool.{cases_eq}
 use Rattle.std.proofs.lemmas.List.{ext_get_or}
 use Rattle.std.proofs.lemmas.Nat.{mul-le}
 use Rattle.af_base.specs.Turn.{Turn}
+use Rattle.af_judge.proofs.Basics.{each_at, each_long}
 use Rattle.af_life.specs.Kept.{pipe_size}
 use Rattle.af_life.specs.Turn.{LegalTurn}
 use Rattle.af_model.specs.Draft.{initial}
@@ -22,7 +23,6 @@ use Rattle.af_runs.specs.Rounds.{IsFastTurn, loaded, turned}
 use Rattle.af_runs.specs.Runs.{Run, TrackTold, told_at, no_track, called, calls_in, found_before, with_turn, with_load, turned_track, commands_turned, stream_turned, stream_met, takes_part, track_met, met, fast_ended}
 use Rattle.af_runs.specs.Sessions.{Session, cycle_frames, setup_of}
 use Rattle.af_runs.specs.TurnRuns.{cycle_alone, calls_alone, met_alone, OnlyCalls, LegalAlone, IsMadeBy}
-use Rattle.af_judge.proofs.EachTrack.{each_at, each_long}
 use Rattle.af_one_turn_run.specs.Taking.{IsTakenOf}
 use Rattle.af_one_turn_run.specs.Told.{IsToldLegally, IsTrackLegal}
 use Rattle.af_one_turn_run.proofs.Growing.{grows_met, legal_before, told_before}

@@ -1,9 +1,9 @@
 -- A script without pokes has one turn run that ends with all stream proxies met.
-use Rattle.std.proofs.Common.{◌≡◌, ℕ, zero, suc, ◌+◌, ◌<◌, true, List, [], ◌∷◌, ◌++◌, length, All, refl, sym, ◌∙◌, subst, arith}
+use Rattle.std.proofs.Common.{◌≡◌, ℕ, zero, suc, ◌+◌, true, List, [], ◌∷◌, ◌++◌, length, All, refl, sym, ◌∙◌, subst, arith}
 use Rattle.std.specs.Prelude.{slice_index_or}
-use Rattle.std.proofs.lemmas.List.FromFn.{get_or-map-range_with_len, length-map-range_with_len}
 use Rattle.std.proofs.lemmas.List.Elements.{All-head, All-tail}
 use Rattle.af_base.specs.declared.frame.Frame.{Frame}
+use Rattle.af_judge.proofs.Basics.{new_at, new_long}
 use Rattle.af_model.specs.JournalForm.{IsRound, AreEntries}
 use Rattle.af_model.specs.Journals.{EntrySeen, RoundSeen, JournalData, entries_of, taken_by}
 use Rattle.af_script.specs.Data.{ScriptData}
@@ -11,7 +11,7 @@ use Rattle.af_script.specs.Form.{IsScript}
 use Rattle.af_script.specs.declared.track.TrackSpec.{TrackSpec}
 use Rattle.af_runs.specs.Blocks.{Marks, new_block, IsHistoryAsTold}
 use Rattle.af_runs.specs.LegalRuns.{session_of, marks_of}
-use Rattle.af_runs.specs.Runs.{TrackTold, told_at, no_track, new_run, new_track}
+use Rattle.af_runs.specs.Runs.{TrackTold, new_run}
 use Rattle.af_runs.specs.Sessions.{Session, no_spec, track_count, file_words}
 use Rattle.af_runs.specs.TurnRuns.{AreTurns, IsTurnRun}
 use Rattle.af_model.specs.declared.shape.Shape.{Shape}
@@ -27,13 +27,6 @@ use Rattle.af_one_turn_run.proofs.RoundFollows.{RoundReady}
 use Rattle.af_one_turn_run.proofs.RunFiles.{IsOfFile, AreOfFiles}
 
 -- ## Before the first round
-
--- each track of a number is new
-new_at : (s : Session) (n : ℕ) → n < track_count s → told_at (new_run s) n ≡ new_track s n
-new_at s n low = get_or-map-range_with_len (new_track s) 0 (track_count s) n n no_track low (omega arith)
-
-new_long : (s : Session) → length (new_run s).tracks ≡ track_count s
-new_long s = length-map-range_with_len (new_track s) 0 (track_count s)
 
 -- a block on which nothing was done has its history as told
 new_history : (k : Shape) → IsHistoryAsTold (new_block k)

@@ -1,5 +1,5 @@
 -- In a turn run of a script without pokes no block is poked.
-use Rattle.std.proofs.Common.{◌≡◌, ◌⊎◌, inl, inr, ℕ, ◌<◌, ◌≤◌, ◌==◌, ◌&&◌, ◌||◌, not, Bool, true, false, true≢false, MatchBool, if◌then◌else◌, is_some, fold, map, List, [], ◌∷◌, ◌++◌, drop, length, Option, Some, None, refl, sym, ap, ◌∙◌, subst, arith, eqb-true}
+use Rattle.std.proofs.Common.{◌≡◌, ◌⊎◌, inl, inr, ℕ, ◌<◌, ◌≤◌, ◌==◌, ◌&&◌, ◌||◌, not, Bool, true, false, true≢false, MatchBool, if◌then◌else◌, is_some, fold, map, List, [], ◌∷◌, drop, length, Option, Some, None, refl, sym, ap, ◌∙◌, subst, arith, eqb-true}
 use Rattle.std.specs.Prelude.{slice_index_or}
 use Rattle.std.specs.List.{list_any}
 use Rattle.std.proofs.lemmas.Bool.{cases_eq, cases_lt}
@@ -11,8 +11,10 @@ use Rattle.af_base.specs.declared.event.HandEvent.{HandEvent}
 use Rattle.af_base.specs.declared.event.ServerEvent.{ServerEvent}
 use Rattle.af_base.specs.Log.{entry_slot}
 use Rattle.af_base.specs.Turn.{Turn}
+use Rattle.af_judge.proofs.Basics.{each_at, each_long}
 use Rattle.af_life.specs.Heard.{learnt}
 use Rattle.af_life.specs.TurnEvents.{hand_list, stream_list, command_list, tracks_at}
+use Rattle.af_model.proofs.Basics.{both_lawful}
 use Rattle.af_model.specs.ClientCalls.{client_kept, client_call_events}
 use Rattle.af_model.specs.Cycles.{cycle_events}
 use Rattle.af_model.specs.History.{Moment, by_client, by_server, by_hand, client_of, is_tame as is_tame_event, is_lawful}
@@ -30,7 +32,6 @@ use Rattle.af_runs.specs.Rounds.{loaded, turned}
 use Rattle.af_runs.specs.Runs.{Run, TrackTold, told_at, no_track, each_from, each_track, sides_of, called, calls_in, mixed_track, played, slot_for, state_for, with_poll, with_mix, with_turn, with_load, turned_track, found_before, stream_met, takes_part, track_met, met, with_ends}
 use Rattle.af_runs.specs.Sessions.{Session, cycle_frames, setup_of}
 use Rattle.af_runs.specs.TurnRuns.{cycle_alone, calls_alone, made_alone, IsMadeBy, AreTurns}
-use Rattle.af_judge.proofs.EachTrack.{each_at, each_long}
 use Rattle.af_one_turn_run.specs.NoPokes.{is_poke_call, PlainCalls, IsPlain}
 use Rattle.af_one_turn_run.specs.Told.{told_more}
 use Rattle.af_one_turn_run.proofs.AllTold.{AllForms, AllTame}
@@ -39,14 +40,6 @@ use Rattle.af_one_turn_run.proofs.OneClientTurn.{only_on, call_events, calls_eve
 use Rattle.af_one_turn_run.proofs.PlainClients.{either_plain, begun_plain, rested_plain, turn_plain}
 
 -- ## Lists without pokes
-
-both_lawful : (xs ys : List ClientEvent) → is_lawful xs ≡ true → is_lawful ys ≡ true → is_lawful (xs ++ ys) ≡ true
-both_lawful [] ys h g = g
-both_lawful (x ∷ xs) ys h g = by_first (is_tame_event x) h (λ r. both_lawful xs ys r g)
-  where
-    by_first : (b : Bool) → (b && is_lawful xs) ≡ true → (is_lawful xs ≡ true → is_lawful (xs ++ ys) ≡ true) → (b && is_lawful (xs ++ ys)) ≡ true
-    by_first true h more = more h
-    by_first false h more = h
 
 client_lawful : (told : List Moment) (es : List ClientEvent) → is_lawful (client_of told) ≡ true → is_lawful es ≡ true → is_lawful (client_of (told_more told (map by_client es))) ≡ true
 client_lawful told [] h g = h

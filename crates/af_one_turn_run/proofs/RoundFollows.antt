@@ -1,6 +1,7 @@
 -- What each round of a turn run keeps, and what is told at its end.
 use Rattle.std.proofs.Common.{◌≡◌, ℕ, ◌+◌, ◌<◌, Bool, true, false, MatchOption, if◌then◌else◌, fold, List, [], ◌∷◌, length, Option, Some, None, refl, sym, ap, ◌∙◌, subst, arith}
 use Rattle.af_base.specs.Turn.{Turn}
+use Rattle.af_judge.proofs.Basics.{each_at}
 use Rattle.af_life.specs.Kept.{pipe_size}
 use Rattle.af_model.specs.History.{IsLegal, after, taken_of}
 use Rattle.af_model.specs.JournalForm.{IsTurn, IsRound}
@@ -18,7 +19,6 @@ use Rattle.af_runs.specs.Runs.{Run, TrackTold, told_at, no_track, each_track, fo
 use Rattle.af_runs.specs.Sessions.{Session, track_count, cycle_frames, setup_of}
 use Rattle.af_runs.specs.Told.{PipeTold, IsQueueAsTold, IsReportAsTold, IsPipeAsTold}
 use Rattle.af_runs.specs.TurnRuns.{cycle_alone, calls_alone, made_alone, met_alone}
-use Rattle.af_judge.proofs.EachTrack.{each_at}
 use Rattle.af_judge.proofs.StatesRuns.{RunKept, SameNormal, kept_beside, kept_turn, met_same, load_same, ends_same}
 use Rattle.af_one_turn_run.specs.Growing.{IsCounted}
 use Rattle.af_one_turn_run.specs.Taking.{IsTakenOf, HasFrames}

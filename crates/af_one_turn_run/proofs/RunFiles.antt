@@ -5,6 +5,7 @@ use Rattle.std.proofs.lemmas.List.{take_min, length-take}
 use Rattle.af_base.specs.declared.event.ClientCall.{ClientCall}
 use Rattle.af_base.specs.declared.event.ClientCall.TheVariants as call
 use Rattle.af_base.specs.Turn.{Turn}
+use Rattle.af_judge.proofs.Basics.{each_at, each_long}
 use Rattle.af_model.specs.Journals.{EntrySeen, RoundSeen}
 use Rattle.af_script.specs.declared.op.TurnSpec.{TurnSpec}
 use Rattle.af_script.specs.declared.op.TurnSpec.TheVariants as makes
@@ -16,7 +17,6 @@ use Rattle.af_runs.specs.Runs.{Run, TrackTold, told_at, no_track, each_from, eac
 use Rattle.af_runs.specs.Sessions.{Session, cycle_frames, setup_of, file_words}
 use Rattle.af_runs.specs.TurnRuns.{cycle_alone, calls_alone, made_alone, met_alone}
 use Rattle.af_one_turn_run.proofs.Parts.{take-add}
-use Rattle.af_judge.proofs.EachTrack.{each_at, each_long}
 
 -- the words are the first ones of a file
 abbrev pub IsFirst : List ℕ → List ℕ → Type 0

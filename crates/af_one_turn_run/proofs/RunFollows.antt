@@ -9,6 +9,7 @@ use Rattle.af_base.specs.declared.event.ServerEvent.TheVariants as server
 use Rattle.af_base.specs.Log.{slots, entry_slot}
 use Rattle.af_base.specs.Sample.{packed_word}
 use Rattle.af_base.specs.Turn.{Turn}
+use Rattle.af_judge.proofs.Basics.{each_at, each_long}
 use Rattle.af_life.specs.Heard.{learnt}
 use Rattle.af_life.specs.TurnEvents.{hand_list, stream_list, tracks_at}
 use Rattle.af_model.specs.Cycles.{taken_before, cycle_events, is_mixed, takes_shown}
@@ -26,7 +27,6 @@ use Rattle.af_runs.specs.Fronts.{front_of}
 use Rattle.af_runs.specs.Runs.{Run, TrackTold, told_at, no_track, each_from, each_track, sides_of, called, calls_in, mixed_track, played, plays, slot_for, state_for, with_poll, with_mix, with_turn, with_load, turned_track, stream_met, track_met, met, takes_part, with_ends}
 use Rattle.af_runs.specs.Sessions.{Session, cycle_frames, setup_of}
 use Rattle.af_runs.specs.TurnRuns.{cycle_alone, calls_alone}
-use Rattle.af_judge.proofs.EachTrack.{each_at, each_long}
 use Rattle.af_one_turn_run.specs.Growing.{Grows, IsCounted}
 use Rattle.af_one_turn_run.proofs.Counting.{counted_played, counted_turn}
 use Rattle.af_one_turn_run.proofs.Growing.{more_then, grows_not, grows_then, grows_met, takes_more, client_takes}

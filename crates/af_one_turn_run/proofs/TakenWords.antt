@@ -7,6 +7,7 @@ use Rattle.af_base.specs.declared.event.ServerEvent.{ServerEvent}
 use Rattle.af_base.specs.declared.event.ServerEvent.TheVariants as server
 use Rattle.af_base.specs.declared.event.HandEvent.{HandEvent}
 use Rattle.af_base.specs.declared.event.HandEvent.TheVariants as hand
+use Rattle.af_judge.proofs.Basics.{server_put}
 use Rattle.af_model.specs.declared.point.TrackPoint.{TrackPoint}
 use Rattle.af_model.specs.declared.shape.Shape.{Shape}
 use Rattle.af_model.specs.History.{Moment, by_client, by_server, by_hand, after, with_taken, taken_of}
@@ -52,20 +53,9 @@ from_base k (by_client e ∷ told) = from_client k.base (after (start k) told) e
 from_base k (by_server e ∷ told) = from_server k.base (after (start k) told) e (from_base k told)
 from_base k (by_hand e ∷ told) = from_hand k.base (after (start k) told) e (from_base k told)
 
--- a server releases nothing
-pub same_released : (p : TrackPoint) (e : ServerEvent) → (after_server p e).released ≡ p.released
-same_released p (server.SawFlush flush) = refl
-same_released p (server.SawRear rear) = refl
-same_released p (server.Drop to) = refl
-same_released p (server.Take count) = refl
-same_released p (server.Tally missing) = refl
-same_released p (server.SetFlags bits) = refl
-same_released p (server.SetStatus word) = refl
-same_released p e = refl
-
 pub frames_after : (frames : List ℕ) (base : ℕ) (p : TrackPoint) (es : List ServerEvent) → HasFrames frames base p → HasFrames frames base (after_servers p es)
 frames_after frames base p [] h = h
-frames_after frames base p (e ∷ es) h = frames_after frames base (after_server p e) es (record { places = from_server base p e h.places; within = (let w = h.within in let s = same_released p e in omega (arith, w, s)) })
+frames_after frames base p (e ∷ es) h = frames_after frames base (after_server p e) es (record { places = from_server base p e h.places; within = (let w = h.within in let s = server_put p e in omega (arith, w, s)) })
 
 -- ## What is taken
 

@@ -1,11 +1,12 @@
 -- The calls of a turn, one after the other.
-use Rattle.std.proofs.Common.{◌≡◌, ◌⊎◌, inl, inr, ℕ, ◌-◌, ◌≤◌, ◌||◌, Bool, true, false, if◌then◌else◌, MatchBool, fold, List, [], ◌∷◌, ◌++◌, length, Option, Some, None, refl, ap, sym, ◌∙◌, subst, arith}
+use Rattle.std.proofs.Common.{◌≡◌, ◌⊎◌, inl, inr, ℕ, ◌-◌, ◌≤◌, ◌||◌, Bool, true, false, MatchBool, fold, List, [], ◌∷◌, ◌++◌, length, Option, Some, None, refl, ap, sym, ◌∙◌, subst, arith}
+use Rattle.af_base.proofs.Basics.{or_right}
 use Rattle.af_base.specs.declared.event.ClientCall.{ClientCall}
 use Rattle.af_base.specs.declared.event.ClientCall.TheVariants as call
-use Rattle.af_script.specs.declared.op.Op.{Op}
+use Rattle.af_runs.proofs.Basics.{answer-some, end_begun, halted_none}
 use Rattle.af_runs.specs.declared.want.Want.{Want}
 use Rattle.af_runs.specs.declared.want.Want.TheVariants as want
-use Rattle.af_runs.specs.Clients.{Client, after_answer, asked_first, at_next_turn, begins, begun, next_want, rest_of, rested, wants_of}
+use Rattle.af_runs.specs.Clients.{Client, after_answer, at_next_turn, begins, begun, next_want, rest_of}
 use Rattle.af_runs.specs.ClientTurns.{AreCalls, IsMade, IsWanted, LegalClientTurn, Track, after_call, answered, asked_by, commands_sent, most_calls, side_of, wanted_of, with_call}
 use Rattle.af_party.specs.Asking.{flushed_by, written_by}
 use Rattle.af_party.specs.Turning.{WantsNext}
@@ -43,22 +44,6 @@ made_calls left t u (c ∷ calls) made few ends = (
 
 -- ## A client that has ended
 
-begins-halts : (c : Client) (wants : List Want) (ops : List Op) → ((begins c wants ops).waiting || (begins c wants ops).ended) ≡ (c.waiting || c.ended)
-begins-halts c (w ∷ wants) ops = refl
-begins-halts c [] [] = refl
-begins-halts c [] (o ∷ ops) = begins-halts c (wants_of c.mode o) ops
-
-halts-none : (c : Client) → (c.waiting || c.ended) ≡ true → next_want c ≡ None
-halts-none c h = let P : Bool → Option Want = λ b. if b then None else asked_first c.due in ap P h
-
--- a client that waits or has ended wants nothing
-pub halted_none : (c : Client) → (c.waiting || c.ended) ≡ true → next_want (begun c) ≡ None
-halted_none c h = halts-none (begun c) (begins-halts c c.due c.ops ∙ h)
-
-or-true : (a b : Bool) → b ≡ true → (a || b) ≡ true
-or-true true b h = refl
-or-true false b h = h
-
 none-made : (t : Track) (calls : List ClientCall) → wanted_of t ≡ None → AreCalls most_calls t calls → calls ≡ []
 none-made t [] none h = refl
 none-made t (c ∷ calls) none h = absurd (let e = none in let f = h.2 in let x : ⊥ = cc in x)
@@ -69,26 +54,9 @@ legal-by false t calls made none = made
 
 -- the turn is legal
 pub legal_turn : (t : Track) (calls : List ClientCall) → AreCalls most_calls t calls → LegalClientTurn t calls
-legal_turn t calls made = legal-by t.client.ended t calls made (λ h. none-made t calls (halted_none t.client (or-true t.client.waiting t.client.ended h)) made)
+legal_turn t calls made = legal-by t.client.ended t calls made (λ h. none-made t calls (halted_none t.client (or_right t.client.waiting t.client.ended h)) made)
 
 -- ## The end of a turn
-
-begins-again : (c : Client) (wants : List Want) (ops : List Op) → begun (begins c wants ops) ≡ begins c wants ops
-begins-again c (w ∷ wants) ops = refl
-begins-again c [] [] = refl
-begins-again c [] (o ∷ ops) = begins-again c (wants_of c.mode o) ops
-
--- an op that was begun is begun
-pub begun_again : (c : Client) → begun (begun c) ≡ begun c
-begun_again c = begins-again c c.due c.ops
-
--- the end of a turn of a client that goes on
-goes-end : (c : Client) → (c.waiting || c.ended) ≡ false → at_next_turn false c ≡ (let d = begun c in record d { due = rested d.due })
-goes-end c h = ap (λ (b : Bool). if b || false then record c { waiting = false } else (let d = begun c in record d { due = rested d.due })) h
-
--- the end of a turn is the same after the next op was begun
-pub end_begun : (c : Client) → (c.waiting || c.ended) ≡ false → at_next_turn false (begun c) ≡ at_next_turn false c
-end_begun c h = goes-end (begun c) (begins-halts c c.due c.ops ∙ h) ∙ ap (λ (d : Client). let r : Client = record d { due = rested d.due } in r) (begun_again c) ∙ sym (goes-end c h)
 
 -- the next want of a client, as the program finds it
 pub wants_next : (o : Option Want) (c d : Client) → o ≡ next_want d → d ≡ begun c → (c.waiting || c.ended) ≡ false → WantsNext c o d
@@ -96,11 +64,6 @@ wants_next None c d is begins goes = (ap next_want (sym begins) ∙ sym is, ap (
 wants_next (Some w) c d is begins goes = (ap next_want (sym begins) ∙ sym is, begins)
 
 -- ## A call, as the program notes it
-
-answer-some : (t : Track) (answer : ClientCall) (wanted : Want) → wanted_of t ≡ Some wanted
-    → answered t answer ≡ after_answer (commands_sent (with_call t answer)) wanted (rest_of (begun t.client).due) (begun t.client) answer
-answer-some t answer wanted is =
-    ap (λ (o : Option Want). elim o as (λ x. Client) [ None ↦ t.client | Some w ↦ after_answer (commands_sent (with_call t answer)) w (rest_of (begun t.client).due) (begun t.client) answer ]) is
 
 -- u is the track of the sides after the call, with any client, and c the client that the program notes
 pub call_noted : (t u : Track) (answer : ClientCall) (wanted : Want) (sent : ℕ) (c : Client) → wanted_of t ≡ Some wanted → u ≡ with_call t answer → sent ≡ commands_sent u

@@ -1,6 +1,7 @@
 -- What a turn of the normal mixer does to the slot of a track whose proxy is away: it stays in the draft as it was, or leaves it.
-use Rattle.std.proofs.Common.{◌≡◌, ℕ, zero, suc, ◌<◌, ◌≤◌, ◌==◌, ◌&&◌, ◌||◌, not, if◌then◌else◌, is_some, Bool, true, false, All, Option, None, Some, List, [], ◌∷◌, length, refl, sym, ap, ◌∙◌, subst, arith}
+use Rattle.std.proofs.Common.{◌≡◌, ℕ, zero, suc, ◌<◌, ◌≤◌, ◌==◌, ◌&&◌, ◌||◌, not, if◌then◌else◌, is_some, Bool, true, false, All, List, [], ◌∷◌, length, refl, sym, ap, ◌∙◌, subst, arith}
 use Rattle.std.specs.List.{AllByRecursion, list_any}
+use Rattle.af_base.proofs.Basics.{and_none, no}
 use Rattle.af_base.specs.declared.log.Cycle.TheVariants as cycle
 use Rattle.af_base.specs.declared.state.Command.{Command}
 use Rattle.af_base.specs.declared.state.Command.TheVariants.{Initial, HotIdle, ColdIdle, Idle, Exit, Mix, Write, MixWrite}
@@ -8,12 +9,14 @@ use Rattle.af_base.specs.declared.state.FastState.{FastState}
 use Rattle.af_base.specs.Command.{code_of}
 use Rattle.af_base.specs.Log.{slots}
 use Rattle.af_base.specs.Turn.{Turn}
+use Rattle.af_enough_law.proofs.Basics.{not_over, stays_home}
+use Rattle.af_life.proofs.Basics.{away_holds, lent_away, slot_of_away}
 use Rattle.af_life.specs.declared.kept.Holder.{Holder}
 use Rattle.af_life.specs.declared.kept.Holder.TheVariants.{Home, Lent, Returning}
 use Rattle.af_life.specs.declared.kept.Setting.{Setting}
 use Rattle.af_life.specs.declared.kept.TrackKept.{TrackKept}
 use Rattle.af_life.specs.declared.state.LifeState.TheVariants.{Absent}
-use Rattle.af_life.specs.Edits.{after_ack, comes_home, is_exit, is_over, next_command, welcomed}
+use Rattle.af_life.specs.Edits.{after_ack, is_exit, is_over, next_command}
 use Rattle.af_life.specs.Kept.{Setup, pipe_size, NormalKept, Learnt, track_at, plays, is_home, is_lent, slot_number, number_of}
 use Rattle.af_life.specs.Obeys.{holds}
 use Rattle.af_life.specs.Sound.{IsSound}
@@ -24,10 +27,8 @@ use Rattle.af_model.specs.Cycles.{cycle_by}
 use Rattle.af_model.specs.StateQueue.{slot_of, carries}
 use Rattle.af_judge.specs.StatesKept.{Carried, CarriesBy, IsLent}
 use Rattle.af_judge.proofs.Carried.{carried_turn, draft_stays}
-use Rattle.af_judge.proofs.SoundEdits.{lent_away}
-use Rattle.af_judge.proofs.SoundSlots.{away_holds, slot_of_away}
 use Rattle.af_judge.proofs.SoundTurns.{sound_acked}
-use Rattle.af_audit.proofs.DoneTracks.{IsDone, no}
+use Rattle.af_audit.proofs.DoneTracks.{IsDone}
 use Rattle.af_enough_law.specs.Drafts.{next_holder}
 use Rattle.af_enough_law.specs.TrackTurns.{greeted}
 use Rattle.af_enough_law.proofs.Drafts.{command_turned, holder_turned}
@@ -38,16 +39,6 @@ use Rattle.af_enough_law.proofs.Slots.{IsOpened, slot_stays}
 use Rattle.af_play_law.specs.AwaySlots.{SlotStaysAway}
 
 -- ## Small lemmas
-
--- a proxy that is home stays there at the acknowledgement
-stays_home : (ack : Bool) (last : FastState) (s : TrackKept) → is_home s.holder ≡ true → is_home (greeted ack last s).holder ≡ true
-unfolding welcomed
-stays_home false last s home = home
-stays_home true last s home = by (comes_home last s)
-  where
-    by : (b : Bool) → is_home (if b then record s { holder = Home } else s).holder ≡ true
-    by true = refl
-    by false = home
 
 -- a proxy that is away after the acknowledgement was away before
 was_away : (ack : Bool) (last : FastState) (s : TrackKept) → is_home (greeted ack last s).holder ≡ false → is_home s.holder ≡ false
@@ -71,14 +62,6 @@ lent_next true slot Lent away lent = (refl, refl)
 lent_next false slot Lent away lent = no lent
 lent_next heard slot Returning away lent = no lent
 
-and_none : (a b : Bool) → b ≡ false → (a && b) ≡ false
-and_none true b off = off
-and_none false b off = refl
-
-some_number : (o : Option ℕ) → is_some o ≡ true → o ≡ Some (number_of o)
-some_number None e = no e
-some_number (Some k) e = refl
-
 any_at : (p : TrackKept → Bool) (tracks : List TrackKept) (i : ℕ) → i < length tracks → p (track_at tracks i) ≡ true → list_any p tracks ≡ true
 any_at p [] i low on = absurd (omega (arith, low))
 any_at p (s ∷ tracks) zero low on = ap (λ (b : Bool). b || list_any p tracks) on
@@ -92,16 +75,6 @@ done_at : (tracks : List TrackKept) (i : ℕ) → i < length tracks → AllByRec
 done_at [] i low done = absurd (omega (arith, low))
 done_at (s ∷ tracks) zero low done = done.0
 done_at (s ∷ tracks) (suc i) low done = done_at tracks i (omega (arith, low)) done.1
-
-and_home : (ended home rest : Bool) → home ≡ false → ((ended && home) && rest) ≡ false
-and_home true home rest off = ap (λ (b : Bool). b && rest) off
-and_home false home rest off = refl
-
--- while a proxy is away not all is over
-not_over : (tracks : List TrackKept) (i : ℕ) → i < length tracks → is_home (track_at tracks i).holder ≡ false → is_over tracks ≡ false
-not_over [] i low away = absurd (omega (arith, low))
-not_over (s ∷ tracks) zero low away = and_home s.life.ended (is_home s.holder) (is_over tracks) away
-not_over (s ∷ tracks) (suc i) low away = and_none (s.life.ended && is_home s.holder) (is_over tracks) (not_over tracks i (omega (arith, low)) away)
 
 -- the number of a mix is that of a mix alone
 mix_by : (command : Command) → code_of command ≡ code_of MixWrite → (done cold : ℕ) → cycle_by done cold command ≡ cycle.Mixed

@@ -1,16 +1,13 @@
 -- What the clients' calls and the early entries of a round leave of a run: the command blocks as the calls left them, and what is known of the queue.
-use Rattle.std.proofs.Common.{◌≡◌, ℕ, zero, suc, ◌+◌, List, [], ◌∷◌, Option, Some, None, refl, ap, ◌∙◌}
+use Rattle.std.proofs.Common.{◌≡◌, ℕ, zero, suc, ◌+◌, List, [], ◌∷◌, refl, ap, ◌∙◌}
 use Rattle.std.specs.Prelude.{slice_index_or}
 use Rattle.std.specs.List.{list_any}
-use Rattle.af_base.specs.declared.state.FastState.{FastState}
-use Rattle.af_model.specs.declared.states.MutatorEvent.{MutatorEvent}
-use Rattle.af_model.specs.declared.states.ObserverEvent.{ObserverEvent}
 use Rattle.af_model.specs.Journals.{EntrySeen, RoundSeen}
-use Rattle.af_model.specs.Order.{one, two, ones}
 use Rattle.af_normal.specs.State.{NormalState}
-use Rattle.af_runs.specs.Runs.{Run, TrackTold, each_from, mixed_track, no_track, played, slot_for, state_for, told_at, with_calls, with_cycle, with_cycles, with_mix, with_poll}
-use Rattle.af_runs.specs.Sessions.{Session, cycle_frames}
-use Rattle.af_runs.specs.Told.{Item, QueueTold, is_look_at, observer_does}
+use Rattle.af_runs.specs.Runs.{Run, TrackTold, each_from, mixed_track, no_track, state_for, told_at, with_calls, with_cycle, with_cycles, with_mix, with_poll}
+use Rattle.af_runs.specs.Sessions.{Session}
+use Rattle.af_runs.specs.Told.{is_look_at}
+use Rattle.af_told_law.proofs.Basics.{commands_stay, ones_observed}
 use Rattle.af_told_law.specs.QueueTurned.{QueueKnown}
 use Rattle.af_told_law.proofs.KnownSteps.{Quiet, known_same, quiet_then}
 
@@ -22,32 +19,19 @@ at_commands change same [] n i = refl
 at_commands change same (t ∷ ts) n zero = same n t
 at_commands change same (t ∷ ts) n (suc i) = at_commands change same ts (n + 1) i
 
-mixed_commands : (s : Session) (x : FastState) (e : EntrySeen) (n : ℕ) (t : TrackTold) → (mixed_track s x e n t).commands ≡ t.commands
-mixed_commands s x e n t = by_slot (slot_for x e.entry n)
-  where
-    by_slot : (o : Option ℕ) → (elim o as (λ o. TrackTold) [ None ↦ t | Some k ↦ record t { stream = played (cycle_frames s) e k t.stream } ]).commands ≡ t.commands
-    by_slot None = refl
-    by_slot (Some k) = refl
-
 poll_commands : (s : Session) (k : ℕ) (run : Run) (i : ℕ) → (told_at (with_poll s k run) i).commands ≡ (told_at run i).commands
 unfolding with_poll
 poll_commands s k run i = refl
 
 mix_commands : (s : Session) (e : EntrySeen) (run : Run) (i : ℕ) → (told_at (with_mix s e run) i).commands ≡ (told_at run i).commands
 unfolding with_mix
-mix_commands s e run i = at_commands (mixed_track s (state_for s run e.entry.state) e) (mixed_commands s (state_for s run e.entry.state) e) run.tracks 0 i
+mix_commands s e run i = at_commands (mixed_track s (state_for s run e.entry.state) e) (commands_stay s (state_for s run e.entry.state) e) run.tracks 0 i
 
 pub cycles_commands : (s : Session) (es : List EntrySeen) (run : Run) (i : ℕ) → (told_at (with_cycles s es run) i).commands ≡ (told_at run i).commands
 cycles_commands s [] run i = refl
 cycles_commands s (e ∷ es) run i = cycles_commands s es (with_cycle s run e) i ∙ mix_commands s e (with_poll s e.entry.state run) i ∙ poll_commands s e.entry.state run i
 
 -- ## The queue
-
-ones_observed : (told : QueueTold) (es : List (ObserverEvent Item)) → ones (observer_does es told) ≡ ones told
-ones_observed [] [] = refl
-ones_observed [] (e ∷ es) = ones_observed [] es
-ones_observed (one a ∷ told) es = ap (λ (l : List (MutatorEvent Item)). a ∷ l) (ones_observed told es)
-ones_observed (two b ∷ told) es = ones_observed told es
 
 quiet_poll : (s : Session) (k : ℕ) (run : Run) → Quiet run (with_poll s k run)
 unfolding with_poll

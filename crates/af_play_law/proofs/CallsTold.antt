@@ -2,6 +2,7 @@
 use Rattle.std.proofs.Common.{◌≡◌, ℕ, suc, ◌+◌, ◌<◌, ◌==◌, Bool, if◌then◌else◌, List, [], ◌∷◌, ◌++◌, length, length-append, append_assoc, Some, slice_get, slice_set, refl, sym, ap, subst, ◌∙◌, arith}
 use Rattle.std.specs.List.{AllZip}
 use Rattle.std.proofs.lemmas.Bool.{eq-eqb, ne_eqb}
+use Rattle.af_base.proofs.Basics.{at_seam}
 use Rattle.af_base.specs.declared.event.ClientCall.{ClientCall}
 use Rattle.af_model.specs.Journals.{RoundSeen}
 use Rattle.af_party.specs.Parties.{PartyState, track_of}
@@ -17,11 +18,6 @@ use Rattle.af_told_law.specs.Tells.{Tells, given_of}
 use Rattle.af_told_law.proofs.ClientTold.{client_told}
 
 -- ## Lists
-
--- the element behind a beginning
-at_seam : {X : Type 0} (front : List X) (x : X) (rest : List X) → slice_get (front ++ x ∷ rest) (length front) ≡ Some x
-at_seam [] x rest = refl
-at_seam (y ∷ front) x rest = at_seam front x rest
 
 -- another element in the place behind a beginning
 set_seam : {X : Type 0} (front : List X) (x y : X) (rest : List X) → slice_set (front ++ x ∷ rest) (length front) y ≡ front ++ y ∷ rest

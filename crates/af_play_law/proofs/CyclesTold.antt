@@ -1,8 +1,10 @@
 -- The cycles of a turn whose polls all find the last state pushed are told, one after the other.
-use Rattle.std.proofs.Common.{◌≡◌, ℕ, ◌<◌, ◌≤◌, List, [], ◌∷◌, ◌++◌, length, append-nil, append_assoc, Some, sym, ap, subst, ◌∙◌, arith}
+use Rattle.std.proofs.Common.{◌≡◌, ℕ, ◌<◌, ◌≤◌, List, [], ◌∷◌, length, append-nil, Some, sym, ap, subst, ◌∙◌, arith}
 use Rattle.std.specs.Prelude.{slice_get}
 use Rattle.std.proofs.lemmas.Option.{same_Some}
+use Rattle.af_base.proofs.Basics.{some_at}
 use Rattle.af_base.specs.declared.event.ServerEvent.{ServerEvent}
+use Rattle.af_cblk.proofs.Basics.{goes_on}
 use Rattle.af_cblk.specs.Rule.{StartsWith}
 use Rattle.af_cblk.specs.Sides.{Made, client_made}
 use Rattle.af_fast.specs.Mixer.{MixerState}
@@ -25,21 +27,17 @@ use Rattle.af_stateq.specs.Observes.{Observes}
 use Rattle.af_session.specs.Together.{AreTogether, SessionState}
 use Rattle.af_told_law.specs.Deeds.{Deeds, GoOn, SawOwnBy, SawOwnOf}
 use Rattle.af_told_law.specs.Tells.{Tells}
-use Rattle.af_told_law.proofs.AllMeet.{some_at}
 use Rattle.af_told_law.proofs.MixLooks.{own_split}
 use Rattle.af_play_law.proofs.Cycled.{CyclesAre, OneAdded}
 use Rattle.af_play_law.proofs.OneCycle.{CycleShown, CycleTold, MayCycle, cycle_told, same_polled}
 
 -- ## The servers go on
 
-starts_then : (a b c : List ServerEvent) → StartsWith b a → StartsWith c b → StartsWith c a
-starts_then a b c f g = (f.0 ++ g.0, sym (append_assoc a f.0 g.0) ∙ ap (λ (l : List ServerEvent). l ++ g.0) f.1 ∙ g.1)
-
 pub go_none : (d : Deeds) → GoOn d d
 go_none d = record { streams = (λ i. ([], append-nil (d.streams i))); commands = (λ i. ([], append-nil (d.commands i))) }
 
 pub go_then : (a b c : Deeds) → GoOn a b → GoOn b c → GoOn a c
-go_then a b c f g = record { streams = (λ i. starts_then (a.streams i) (b.streams i) (c.streams i) (f.streams i) (g.streams i)); commands = (λ i. starts_then (a.commands i) (b.commands i) (c.commands i) (f.commands i) (g.commands i)) }
+go_then a b c f g = record { streams = (λ i. goes_on (a.streams i) (b.streams i) (c.streams i) (f.streams i) (g.streams i)); commands = (λ i. goes_on (a.commands i) (b.commands i) (c.commands i) (f.commands i) (g.commands i)) }
 
 -- a server that saw its own fronts did so before
 pub saw_first : (k : Shape) (es first : List ServerEvent) → StartsWith es first → SawOwnOf k es → SawOwnOf k first

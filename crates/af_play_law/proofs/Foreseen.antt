@@ -2,10 +2,10 @@
 use Rattle.std.proofs.Common.{◌≡◌, ◌⊎◌, ⊎_elim, ℕ, suc, ◌+◌, ◌<◌, ◌≤◌, ◌||◌, ◌&&◌, Bool, true, false, true≢false, if◌then◌else◌, All, List, [], ◌∷◌, ◌++◌, length, length-append, drop, Some, refl, sym, ap, subst, ◌∙◌, arith}
 use Rattle.std.specs.Bool.{MatchBool}
 use Rattle.std.specs.List.{AllByRecursion, prefix_len}
-use Rattle.std.specs.Prelude.{max, nat_le}
-use Rattle.std.proofs.lemmas.Bool.Decides.{nat_tests}
+use Rattle.std.specs.Prelude.{max}
 use Rattle.std.proofs.lemmas.Grind.{fold-append}
 use Rattle.std.proofs.lemmas.List.{take-append-drop}
+use Rattle.af_base.proofs.Basics.{beyond_is}
 use Rattle.af_base.specs.declared.log.CycleEntry.{CycleEntry}
 use Rattle.af_base.specs.declared.report.Report.{Report}
 use Rattle.af_base.specs.Turn.{Turn, turn_of}
@@ -26,6 +26,7 @@ use Rattle.af_model.specs.StateQueue.{HasHistory}
 use Rattle.af_normal.specs.LegalTurned.{IsLegal}
 use Rattle.af_normal.specs.State.{NormalState, kept_of, setup_of as mixer_setup}
 use Rattle.af_normal.specs.TurnMade.{TurnMade, answer_of}
+use Rattle.af_runs.proofs.Basics.{calls-entries}
 use Rattle.af_runs.specs.Blocks.{Marks}
 use Rattle.af_runs.specs.Found.{LegalTurnBy, TurnFound}
 use Rattle.af_runs.specs.Rounds.{before_turn, early_count, early_of, found_in, is_early, late_of}
@@ -64,9 +65,6 @@ no_marks = record { streams = λ i. false; commands = λ i. false }
 none_asked : (run : Run) (d : Deeds) → SawOwnBy no_marks run d
 none_asked run d = record { streams = (λ i low on. absurd (true≢false (sym on))); commands = (λ i low on. absurd (true≢false (sym on))) }
 
-not_early : (k n : ℕ) → nat_le k n ≡ false → n < k
-not_early k n h = grind (arith, nat_tests, h)
-
 -- the first late entry is of a state that wasn't pushed before the round
 first_late : (run : Run) (es : List EntrySeen) → FirstLate (length run.states) (drop (prefix_len (is_early run) es) es)
 first_late run [] = tt
@@ -74,11 +72,7 @@ first_late run (e ∷ es) = by (is_early run e) refl (first_late run es)
   where
     by : (b : Bool) → is_early run e ≡ b → FirstLate (length run.states) (drop (prefix_len (is_early run) es) es) → FirstLate (length run.states) (drop (if b then 1 + prefix_len (is_early run) es else 0) (e ∷ es))
     by true is rest = subst (λ (n : ℕ). FirstLate (length run.states) (drop n (e ∷ es))) (let q : suc (prefix_len (is_early run) es) ≡ 1 + prefix_len (is_early run) es = omega arith in q) rest
-    by false is rest = not_early e.entry.state (length run.states) is
-
-calls_entries : (round : RoundSeen) (run : Run) → (with_calls round run).entries ≡ run.entries
-unfolding with_calls
-calls_entries round run = refl
+    by false is rest = beyond_is e.entry.state (length run.states) is
 
 module _ (links : Links) (s : Session) (run : Run) (d : Deeds) (x u z : SessionState) (bytes : List ℕ) (round : RoundSeen) (stands : PlayStands s run d x) (w : RoundPlayed links s x u z bytes round) where
   abbrev n : NormalState
@@ -224,7 +218,7 @@ module _ (links : Links) (s : Session) (run : Run) (d : Deeds) (x u z : SessionS
     number_is =
         let first = w.before.fast.0.reports.many in
         let entries = ap (λ (es : List CycleEntry). length es) stands.told.fast.entries in
-        let called = ap (λ (es : List CycleEntry). length es) (calls_entries round run) in
+        let called = ap (λ (es : List CycleEntry). length es) (calls-entries round run) in
         let low = loads_here.known_all in
         let number = loaded.0 in
         let some = loads_here.stored in

@@ -4,6 +4,7 @@ use Rattle.std.specs.Prelude.{slice_index_or, unwrap_or}
 use Rattle.std.proofs.lemmas.Bool.{cases_lt}
 use Rattle.std.proofs.lemmas.List.{map-append}
 use Rattle.std.proofs.lemmas.List.FromFn.{get_or-map-range_with_len}
+use Rattle.af_base.proofs.Basics.{no}
 use Rattle.af_base.specs.declared.log.CycleEntry.{CycleEntry}
 use Rattle.af_base.specs.declared.report.Report.{Report}
 use Rattle.af_base.specs.declared.report.SlotReport.{SlotReport}
@@ -12,13 +13,16 @@ use Rattle.af_base.specs.declared.seen.Seen.TheVariants as seen
 use Rattle.af_base.specs.declared.state.FastState.{FastState}
 use Rattle.af_base.specs.declared.state.FastTrack.{FastTrack}
 use Rattle.af_base.specs.Log.{entry_slot, slots}
+use Rattle.af_judge.proofs.Basics.{told_each}
 use Rattle.af_life.specs.Kept.{NormalKept}
-use Rattle.af_model.specs.Cycles.{IsSeen, cold_done, cycle_of, is_mixed, last_used, state_of}
+use Rattle.af_model.proofs.Basics.{same_before, state_next}
+use Rattle.af_model.specs.Cycles.{cold_done, cycle_of, is_mixed, last_used, state_of}
 use Rattle.af_model.specs.Draft.{initial}
 use Rattle.af_model.specs.Journals.{EntrySeen}
 use Rattle.af_model.specs.Reports.{ServerKnown, counted_look, no_report, no_slot, report_at}
 use Rattle.af_model.specs.StateQueue.{carries, slot_of}
-use Rattle.af_model.proofs.UsedStates.{last_used-push, state_of-before, state_of-newest}
+use Rattle.af_model.proofs.UsedStates.{last_used-push}
+use Rattle.af_runs.proofs.Basics.{cycle_entries, shown_if}
 use Rattle.af_runs.specs.Blocks.{Marks, listed}
 use Rattle.af_runs.specs.Fronts.{is_shown}
 use Rattle.af_runs.specs.Rounds.{LegalEntries, LegalEntry}
@@ -26,12 +30,9 @@ use Rattle.af_runs.specs.Runs.{Run, TrackTold, known_of, last_report, mixed_trac
 use Rattle.af_runs.specs.Sessions.{Session, cycle_frames}
 use Rattle.af_runs.specs.Told.{state_at}
 use Rattle.af_runs.proofs.StatesFor.{polled_known, polled_waits, state_beyond, state_pushed, state_waits}
-use Rattle.af_judge.proofs.EachTrack.{told_each}
-use Rattle.af_judge.proofs.EntriesFollow.{cycle_entries}
 use Rattle.af_judge.proofs.EntryTold.{cycle_beside}
 use Rattle.af_audit.proofs.Late.{PlaysAt, listed_played, played_listed, plays_at, plays_none}
 use Rattle.af_audit.proofs.LateRuns.{FirstLate, carried_some, shown_carried}
-use Rattle.af_audit.proofs.Booleans.{no}
 use Rattle.af_play_law.specs.AwaySlots.{SlotStaysAway}
 
 -- ## Lists of reports
@@ -84,13 +85,6 @@ either_none true true r none = refl
 either_none true false r none = none
 either_none false true r none = sym none
 either_none false false r none = refl
-
-shown_if : (sight : Seen) → IsSeen sight → is_shown sight ≡ true
-shown_if seen.Absent h = absurd h
-shown_if (seen.Frames count) h = refl
-shown_if seen.Empty h = refl
-shown_if (seen.Flushed dropped) h = refl
-shown_if (seen.Shut front rear) h = refl
 
 -- what is told of a slot of a state, which may not be known yet
 abbrev slot_by : ℕ → Bool → Bool → Seen → ℕ → ServerKnown → Bool → SlotReport → SlotReport
@@ -162,7 +156,7 @@ module _ (s : Session) (marks : Marks) (xs : List FastState) (x y : FastState) (
 
   module _ (e : EntrySeen) (p q : Run) (h : Alike xs x y i slot p q) (number : e.entry.state ≡ length xs + 1) (legal : LegalEntry s marks (with_poll s e.entry.state q) e) where
     newest : state_of q.states e.entry.state ≡ Some y
-    newest = (λ j. state_of (h.states_also j) (number j)) ∙ state_of-newest xs y
+    newest = (λ j. state_of (h.states_also j) (number j)) ∙ state_next xs y
 
     far : length p.states < e.entry.state
     far = (let l = ap (λ (zs : List FastState). length zs) h.states in omega (arith, l, number))
@@ -264,7 +258,7 @@ module _ (s : Session) (marks : Marks) (xs : List FastState) (x y : FastState) (
             ap (state_for s (with_poll s e.entry.state p)) is ∙ state_pushed s (with_poll s e.entry.state p) n one (omega (arith, few_first, within)) ∙ ap (λ (zs : List FastState). state_at (cycle_frames s) zs n) (poll_states p e.entry.state ∙ h.states) in
             let second : second_before ≡ state_at (cycle_frames s) (xs ++ y ∷ []) n =
             ap (state_for s (with_poll s e.entry.state q)) (used ∙ is) ∙ state_pushed s (with_poll s e.entry.state q) n one (omega (arith, few_second, long, within)) ∙ ap (λ (zs : List FastState). state_at (cycle_frames s) zs n) (poll_states q e.entry.state ∙ h.states_also) in
-            let same : state_at (cycle_frames s) (xs ++ y ∷ []) n ≡ state_at (cycle_frames s) xs n = ap (λ (o : Option FastState). unwrap_or o (initial (cycle_frames s))) (state_of-before xs y n (omega (arith, within))) in
+            let same : state_at (cycle_frames s) (xs ++ y ∷ []) n ≡ state_at (cycle_frames s) xs n = ap (λ (o : Option FastState). unwrap_or o (initial (cycle_frames s))) (same_before xs y n (omega (arith, within))) in
             ap (λ (z : FastState). carries z slot) (first ∙ sym same ∙ sym second)
         some n is one (inr beyond) =
             let at : n ≡ e.entry.state = omega (arith, few, is, beyond, number) in

@@ -6,6 +6,7 @@ use Rattle.af_base.specs.declared.report.Report.{Report}
 use Rattle.af_base.specs.declared.state.FastState.{FastState}
 use Rattle.af_base.specs.Log.{slots}
 use Rattle.af_base.specs.Turn.{Turn}
+use Rattle.af_judge.proofs.Basics.{each_at, each_long}
 use Rattle.af_life.specs.declared.kept.Setting.{Setting}
 use Rattle.af_life.specs.declared.kept.TrackKept.{TrackKept}
 use Rattle.af_life.specs.Edits.{after_ack, is_exit}
@@ -24,7 +25,6 @@ use Rattle.af_runs.specs.Runs.{Run, TrackTold, last_report, no_track, report_of,
 use Rattle.af_runs.specs.Sessions.{Session, setup_of}
 use Rattle.af_runs.specs.Told.{is_pushed}
 use Rattle.af_judge.specs.StatesKept.{Carried}
-use Rattle.af_judge.proofs.EachTrack.{each_at, each_long}
 use Rattle.af_audit.proofs.DoneTracks.{IsDone}
 use Rattle.af_audit.proofs.LateRuns.{FirstLate}
 use Rattle.af_audit.proofs.Quiet.{stream_quiet}

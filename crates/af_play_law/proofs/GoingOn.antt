@@ -1,11 +1,12 @@
 -- If some party of a session goes on, some party of the run that tells it does; so if all of the run have ended, all of the session have.
-use Rattle.std.proofs.Common.{◌≡◌, ℕ, zero, suc, ◌+◌, ◌<◌, ◌==◌, ◌&&◌, nat_lt, Bool, true, false, true≢false, if◌then◌else◌, List, [], ◌∷◌, Some, slice_get, refl, sym, ap, ◌∙◌, arith}
+use Rattle.std.proofs.Common.{◌≡◌, ℕ, zero, suc, ◌+◌, ◌<◌, ◌==◌, ◌&&◌, nat_lt, Bool, true, false, true≢false, if◌then◌else◌, Some, slice_get, sym, ap, ◌∙◌, arith}
 use Rattle.std.specs.List.{list_all, range_with_len}
 use Rattle.std.proofs.lemmas.Bool.{and_parts, false_from_ne_true}
 use Rattle.std.proofs.lemmas.Bool.Decides.{nat_tests}
 use Rattle.std.proofs.lemmas.Option.{slice_get_within}
 use Rattle.af_life.specs.Kept.{NormalKept}
 use Rattle.af_party.specs.Parties.{PartyState}
+use Rattle.af_play_law.proofs.Basics.{clients_all}
 use Rattle.af_runs.specs.ClientTurns.{Track}
 use Rattle.af_runs.specs.Runs.{Run, all_ended, fast_ended, fast_party, has_ended, told_at}
 use Rattle.af_runs.specs.Sessions.{Session, track_count}
@@ -21,10 +22,6 @@ range_pass P from (suc count) all zero low = ap P (let same : from + 0 ≡ from 
 range_pass P from (suc count) all (suc i) low =
     ap P (let same : from + suc i ≡ (from + 1) + i = omega arith in same)
     ∙ range_pass P (from + 1) count (and_parts (P from) (list_all P (range_with_len (from + 1) count)) all).1 i (omega (arith, low))
-
-clients_pass : (ps : List PartyState) → ((i : ℕ) (p : PartyState) → slice_get ps i ≡ Some p → p.client.ended ≡ true) → list_all (λ (p : PartyState). p.client.ended) ps ≡ true
-clients_pass [] each = refl
-clients_pass (p ∷ ps) each = (λ j. each 0 p refl j && clients_pass ps (λ i q is. each (suc i) q is) j)
 
 module _ (s : Session) (run : Run) (d : Deeds) (x : SessionState) (told : Tells s run d x) where
   module _ (all : all_ended s run ≡ true) where
@@ -56,7 +53,7 @@ module _ (s : Session) (run : Run) (d : Deeds) (x : SessionState) (told : Tells 
         ∙ sym (ap (λ (b : Bool). choice b (i == track_count s) i) below) ∙ party i (omega (arith, low))
 
     pub over : all_over x ≡ true
-    over = λ j. normal_over j && (fast_over j && clients_pass x.clients client_over j)
+    over = λ j. normal_over j && (fast_over j && clients_all x.clients client_over j)
 
   pub still_going : all_over x ≡ false → all_ended s run ≡ false
   still_going goes = false_from_ne_true (all_ended s run) (λ all. true≢false (sym (over all) ∙ goes))

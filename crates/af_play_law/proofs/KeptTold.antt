@@ -1,5 +1,6 @@
 -- The ends of a play keep the lists of the run that its rounds tell: each proxy that is home at the end met its client in the last round.
 use Rattle.std.proofs.Common.{◌≡◌, ℕ, ◌<◌, true, false, is_some, List, [], ◌∷◌, length, Some, sym, ap, subst, ◌∙◌, arith}
+use Rattle.af_judge.proofs.Basics.{met_many, or_left}
 use Rattle.af_life.specs.declared.kept.TrackKept.{TrackKept}
 use Rattle.af_life.specs.Kept.{NormalKept, is_home, track_at}
 use Rattle.af_link.specs.declared.links.Links.{Links}
@@ -17,11 +18,10 @@ use Rattle.af_session.specs.Ends.{ends_from}
 use Rattle.af_session.specs.Rounds.{with_ends}
 use Rattle.af_session.specs.Together.{SessionState}
 use Rattle.af_session.proofs.FollowingRounds.{ends_keep}
-use Rattle.af_judge.proofs.BlocksMeet.{met_at, met_many}
+use Rattle.af_judge.proofs.BlocksMeet.{met_at}
 use Rattle.af_told_law.specs.Deeds.{Deeds, SawOwnOf}
 use Rattle.af_told_law.specs.KeptEnds.{KeepsLists, SawAtHome}
 use Rattle.af_told_law.specs.Tells.{Tells}
-use Rattle.af_told_law.proofs.AllMeet.{tame_before}
 use Rattle.af_told_law.proofs.EndsKept.{ends_keep_lists}
 use Rattle.af_told_law.proofs.NewTold.{no_deeds}
 use Rattle.af_told_law.proofs.TrackMeets.{tracks_are}
@@ -30,12 +30,13 @@ use Rattle.af_play_law.specs.PlayRuns.{PlaysOn}
 use Rattle.af_play_law.specs.RoundPlayed.{HearsForeseen, PlayStands, RoundPlayed}
 use Rattle.af_play_law.specs.Rounds.{RoundStands}
 use Rattle.af_play_law.proofs.Foreseen.{hears_foreseen}
-use Rattle.af_play_law.proofs.PlayEnds.{after_normal, or_left}
+use Rattle.af_play_law.proofs.PlayEnds.{after_normal}
 use Rattle.af_play_law.proofs.PlayTold.{holds_first}
 use Rattle.af_play_law.proofs.RoundLoaded.{told_loaded}
 use Rattle.af_play_law.proofs.RoundMarked.{ends_at}
 use Rattle.af_play_law.proofs.RoundMet.{shapes_behind}
 use Rattle.af_play_law.proofs.StandsAfter.{round_stands}
+use Rattle.af_turn_law.proofs.Basics.{tame_met}
 
 -- a block that wasn't poked up to the end of a round wasn't before its meetings
 module _ (s : Session) (played : Run) (i : ℕ) (low : i < length played.tracks) where
@@ -43,11 +44,11 @@ module _ (s : Session) (played : Run) (i : ℕ) (low : i < length played.tracks)
   low_met = let m = met_many s played in omega (arith, low, m)
 
   stream_before : is_tame (told_at (run_ends (met s played)) i).stream ≡ true → is_tame (told_at played i).stream ≡ true
-  stream_before tame = tame_before (takes_part s played i) played.handed (told_at played i).stream
+  stream_before tame = tame_met (takes_part s played i) played.handed (told_at played i).stream
       (ap (λ (t : TrackTold). is_tame t.stream) (sym (met_at s played i low)) ∙ ap is_tame (sym (ends_at (met s played) i low_met).0) ∙ tame)
 
   commands_before : is_tame (told_at (run_ends (met s played)) i).commands ≡ true → is_tame (told_at played i).commands ≡ true
-  commands_before tame = tame_before true false (told_at played i).commands
+  commands_before tame = tame_met true false (told_at played i).commands
       (ap (λ (t : TrackTold). is_tame t.commands) (sym (met_at s played i low)) ∙ ap is_tame (sym (ends_at (met s played) i low_met).1) ∙ tame)
 
 module _ (links : Links) (s : Session) (run : Run) (d : Deeds) (x u z : SessionState) (bytes : List ℕ) (round : RoundSeen) (stands : PlayStands s run d x) (w : RoundPlayed links s x u z bytes round) (hears : HearsForeseen s run x u round) where

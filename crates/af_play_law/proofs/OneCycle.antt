@@ -1,7 +1,5 @@
 -- A cycle of the fast mixer whose poll finds the last state pushed is told: the run with its entry tells the session, and the entry is legal by marks on whose blocks each front seen is a server's own.
-use Rattle.std.proofs.Common.{◌≡◌, ℕ, ◌+◌, ◌<◌, ◌≤◌, true, false, true≢false, List, [], ◌∷◌, ◌++◌, length, Option, Some, None, refl, sym, ap, subst, ◌∙◌, arith}
-use Rattle.std.specs.Prelude.{slice_index_or}
-use Rattle.std.proofs.lemmas.List.{append_cancel_left}
+use Rattle.std.proofs.Common.{◌≡◌, ℕ, ◌+◌, ◌<◌, ◌≤◌, true, false, true≢false, [], ◌∷◌, ◌++◌, length, Option, Some, None, refl, sym, ap, subst, ◌∙◌, arith}
 use Rattle.af_base.specs.declared.log.CycleEntry.{CycleEntry}
 use Rattle.af_base.specs.declared.state.FastState.{FastState}
 use Rattle.af_fast.specs.Mixer.{MixerState, adopted_states, is_over}
@@ -25,6 +23,7 @@ use Rattle.af_stateq.specs.Ends.{Polls, acknowledged, took}
 use Rattle.af_stateq.specs.Observes.{Observes}
 use Rattle.af_rendering.specs.Leads.{LeadAway}
 use Rattle.af_session.specs.Together.{AreTogether, SessionState}
+use Rattle.af_told_law.proofs.Basics.{same_last}
 use Rattle.af_told_law.specs.Deeds.{Deeds, GoOn, SawOwnBy}
 use Rattle.af_told_law.specs.MixLaws.{TookCounted, entry_told}
 use Rattle.af_told_law.specs.Tells.{FindsLast, Leaves, Tells}
@@ -111,10 +110,6 @@ pub record CycleTold (links : Links) (s : Session) (run : Run) (d : Deeds) (y : 
   pub goes : GoOn d deeds
   pub may : MayCycle links s (with_cycle s run e) deeds (record y { fast = g })
   pub legal : (marks : Marks) → SawOwnBy marks (with_poll s e.entry.state run) deeds → LegalEntry s marks (with_poll s e.entry.state run) e
-
--- the last of two lists that are the same up to it
-same_last : (xs : List CycleEntry) (a b : CycleEntry) → xs ++ a ∷ [] ≡ xs ++ b ∷ [] → a ≡ b
-same_last xs a b is = ap (λ (l : List CycleEntry). slice_index_or l 0 a) (append_cancel_left xs (a ∷ []) (b ∷ []) is)
 
 module _ (links : Links) (s : Session) (run : Run) (d : Deeds) (y : SessionState) (may : MayCycle links s run d y) (e : EntrySeen) (g : MixerState) (one : OneAdded links y.fast e g) (shown : CycleShown y.normal y.fast one.once.polled g) where
   abbrev p : MixerState

@@ -1,9 +1,12 @@
 -- Once all parties of a play have ended each stream proxy is home, so it met behind each round: the rounds are legal by all marks.
-use Rattle.std.proofs.Common.{◌≡◌, ℕ, ◌||◌, Bool, true, false, true≢false, if◌then◌else◌, List, [], ◌∷◌, refl, sym, ap, subst, ◌∙◌}
+use Rattle.std.proofs.Common.{◌≡◌, ℕ, Bool, true, false, List, [], ◌∷◌, sym, ap, subst, ◌∙◌}
 use Rattle.std.specs.Bool.{MatchBool}
 use Rattle.std.proofs.lemmas.Bool.{and_from}
 use Rattle.af_audit.proofs.MixerEnds.{EndsHome, all_home, turn_ends}
+use Rattle.af_base.proofs.Basics.{or_right}
+use Rattle.af_enough_law.proofs.Basics.{ends_normal}
 use Rattle.af_enough_law.proofs.FewerMarks.{legal_for_less}
+use Rattle.af_judge.proofs.Basics.{met_normal, or_left}
 use Rattle.af_life.specs.Heard.{learnt}
 use Rattle.af_life.specs.Kept.{NormalKept, is_home, track_at}
 use Rattle.af_model.specs.Journals.{RoundSeen}
@@ -13,7 +16,7 @@ use Rattle.af_runs.specs.Blocks.{Marks}
 use Rattle.af_runs.specs.Clients.{ends}
 use Rattle.af_runs.specs.LegalRuns.{LegalRounds, run_from}
 use Rattle.af_runs.specs.Rounds.{after_round, all_played}
-use Rattle.af_runs.specs.Runs.{Run, each_track, holds, met, takes_part, with_ends}
+use Rattle.af_runs.specs.Runs.{Run, holds, met, takes_part, with_ends}
 use Rattle.af_runs.specs.Sessions.{Session}
 use Rattle.af_runs.proofs.RunGrows.{AreFewer}
 use Rattle.af_session.specs.Rounds as parties
@@ -38,32 +41,12 @@ plays_home s marks (round ∷ rounds) x t (links, u, z, bytes, goes, free, w, re
 
 -- ## The last meetings
 
-met_normal : (s : Session) (run : Run) → (met s run).normal ≡ run.normal
-unfolding met
-met_normal s run = refl
-
-ends_normal : (run : Run) → (with_ends run).normal ≡ run.normal
-unfolding with_ends
-ends_normal run = by_end run.normal.ended
-  where
-    by_end : (b : Bool) → (if b then each_track (λ track t. record t { client = ends t.client }) run else run).normal ≡ run.normal
-    by_end true = refl
-    by_end false = refl
-
 pub after_normal : (s : Session) (run : Run) (round : RoundSeen) → (after_round s run round).normal ≡ (all_played s run round).normal
 after_normal s run round = ends_normal (met s (all_played s run round)) ∙ met_normal s (all_played s run round)
 
 -- all stream proxies of a mixer are home
 abbrev pub AllHome : NormalKept → Type 0
 AllHome m = (i : ℕ) → is_home (track_at m.tracks i).holder ≡ true
-
-pub or_left : (a b : Bool) → a ≡ true → (a || b) ≡ true
-or_left true b e = refl
-or_left false b e = absurd (true≢false (sym e))
-
-or_right : (a b : Bool) → b ≡ true → (a || b) ≡ true
-or_right true b e = refl
-or_right false b e = e
 
 module _ (s : Session) where
   -- each stream proxy takes part in the meeting behind which it is home

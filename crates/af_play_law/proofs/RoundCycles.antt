@@ -1,8 +1,8 @@
 -- The clients' turns and the early entries of a round of all parties are told, and what the polls of the round show of the normal mixer's turn.
-use Rattle.std.proofs.Common.{◌≡◌, ◌⊎◌, inl, inr, ℕ, suc, ◌+◌, Bool, true, false, map, drop, List, [], ◌∷◌, ◌++◌, length, refl, sym, ap, subst, ◌∙◌, arith}
+use Rattle.std.proofs.Common.{◌≡◌, ◌⊎◌, inl, inr, ℕ, ◌+◌, Bool, true, false, map, drop, List, [], ◌∷◌, ◌++◌, length, refl, sym, ap, subst, ◌∙◌, arith}
 use Rattle.std.specs.Bool.{MatchBool}
-use Rattle.std.specs.List.{AllZip}
 use Rattle.std.proofs.Math.Seq.{drop-append_seam}
+use Rattle.af_base.proofs.Basics.{zip_long}
 use Rattle.af_base.specs.Log.{Logged}
 use Rattle.af_fast.specs.Mixer.{IsInOrder as IsFastInOrder, MixerState}
 use Rattle.af_link.specs.declared.links.Links.{Links}
@@ -34,12 +34,6 @@ use Rattle.af_play_law.proofs.RoundTurn.{first_same}
 use Rattle.af_play_law.proofs.RoundTurned.{Later, history_turned, later_turned, none_late, saw_turned}
 use Rattle.af_play_law.proofs.TurnGrows.{legal_grows, still_grows}
 use Rattle.af_told_law.proofs.KnownSteps.{Quiet, quiet_then}
-
-zip_long : {X : Type 0} (R : X → X → Type 0) (xs ys : List X) → AllZip R xs ys → length ys ≡ length xs
-zip_long R [] [] z = refl
-zip_long R [] (y ∷ ys) z = absurd z
-zip_long R (x ∷ xs) [] z = absurd z
-zip_long R (x ∷ xs) (y ∷ ys) z = ap suc (zip_long R xs ys z.1)
 
 module _ (links : Links) (s : Session) (run : Run) (d : Deeds) (x u z : SessionState) (bytes : List ℕ) (round : RoundSeen) (stands : PlayStands s run d x) (w : RoundPlayed links s x u z bytes round) where
   -- ## The clients

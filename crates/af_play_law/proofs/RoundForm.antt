@@ -1,17 +1,19 @@
 -- The entries that a turn of the fast mixer added are those of a turn: each but the last is Mixed, and there are as many as it may make, or the last isn't Mixed, or the log is full.
-use Rattle.std.proofs.Common.{◌≡◌, ◌⊎◌, inl, inr, ⊎_elim, ℕ, zero, suc, ◌<◌, ◌≤◌, ◌==◌, ◌||◌, Bool, true, false, true≢false, List, [], ◌∷◌, ◌++◌, length, map, append-nil, append_assoc, refl, sym, ap, subst, ◌∙◌, arith}
+use Rattle.std.proofs.Common.{◌≡◌, ◌⊎◌, inl, inr, ⊎_elim, ℕ, zero, suc, ◌<◌, ◌≤◌, ◌==◌, ◌||◌, Bool, true, false, List, [], ◌∷◌, ◌++◌, length, map, append-nil, append_assoc, refl, sym, ap, subst, ◌∙◌, arith}
 use Rattle.std.proofs.lemmas.Bool.{eqb-true}
 use Rattle.std.proofs.lemmas.List.{length-map}
+use Rattle.af_audit.proofs.Basics.{seen_map}
 use Rattle.af_base.specs.declared.log.Cycle.{Cycle}
 use Rattle.af_base.specs.declared.log.Cycle.TheVariants as cycle
 use Rattle.af_base.specs.declared.log.CycleEntry.{CycleEntry}
 use Rattle.af_fast.specs.Mixer.{MixerState}
 use Rattle.af_link.specs.declared.links.Links.{Links}
-use Rattle.af_model.specs.Cycles.{has_exit, is_exit, is_mixed}
+use Rattle.af_model.specs.Cycles.{has_exit, is_mixed}
 use Rattle.af_model.specs.Journals.{EntrySeen}
 use Rattle.af_model.proofs.UsedStates.{has_exit-push}
 use Rattle.af_runs.specs.Rounds.{AreMixedBut, IsFastTurn}
 use Rattle.af_side_by_side.specs.Alone.{CyclesOn, CyclesOnce}
+use Rattle.af_told_law.proofs.Basics.{no_exit}
 
 -- ## Forms
 
@@ -55,19 +57,7 @@ form_seen P [] b = b
 form_seen P (e ∷ []) b = b
 form_seen P (e ∷ next ∷ es) b = (b.0, form_seen P (next ∷ es) b.1)
 
-seen_map : (P Q : EntrySeen → Type 0) (es : List EntrySeen) → ((e : EntrySeen) → P e → Q e) → AreMixedBut P es → AreMixedBut Q es
-seen_map P Q [] h b = b
-seen_map P Q (e ∷ []) h b = h e b
-seen_map P Q (e ∷ next ∷ es) h b = (b.0, seen_map P Q (next ∷ es) h b.1)
-
 -- ## Cycles
-
-no_exit : (c : Cycle) → is_mixed c ≡ true → is_exit c ≡ false
-no_exit cycle.Mixed e = refl
-no_exit cycle.Idle e = absurd (true≢false (sym e))
-no_exit cycle.Cold e = absurd (true≢false (sym e))
-no_exit cycle.Exit e = absurd (true≢false (sym e))
-no_exit (cycle.Spent n) e = absurd (true≢false (sym e))
 
 -- what one cycle of a mixer that hasn't exited did: none with a full log, or one entry
 abbrev pub OnceDid : MixerState → Cycle → MixerState → Type 0

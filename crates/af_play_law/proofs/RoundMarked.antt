@@ -1,6 +1,8 @@
 -- A round of all parties that pokes no lawful block leaves the lawful blocks of its run unpoked.
 use Rattle.std.proofs.Common.{◌≡◌, ℕ, ◌<◌, ◌≤◌, ◌==◌, Bool, true, false, if◌then◌else◌, List, length, Some, slice_get, refl, sym, ap, subst, ◌∙◌, arith}
 use Rattle.std.proofs.lemmas.Bool.{eq-eqb}
+use Rattle.af_base.proofs.Basics.{some_at}
+use Rattle.af_judge.proofs.Basics.{each_long, met_many, told_each}
 use Rattle.af_model.specs.History.{is_lawful}
 use Rattle.af_model.specs.Journals.{RoundSeen}
 use Rattle.af_party.specs.Parties.{PartyState}
@@ -11,16 +13,15 @@ use Rattle.af_runs.specs.Runs.{Run, TrackTold, called, calls_in, each_track, met
 use Rattle.af_runs.specs.Sessions.{Session, track_count}
 use Rattle.af_runs.specs.TurnRuns.{calls_alone}
 use Rattle.af_script.specs.declared.op.TurnSpec.TheVariants as makes
-use Rattle.af_judge.proofs.BlocksMeet.{met_at, met_many}
-use Rattle.af_judge.proofs.EachTrack.{each_long, told_each}
+use Rattle.af_judge.proofs.BlocksMeet.{met_at}
 use Rattle.af_session.specs.Together.{SessionState}
 use Rattle.af_told_law.specs.Deeds.{Deeds}
 use Rattle.af_told_law.specs.Marked.{IsMarkedRun, IsRoundMarked, IsTrackMarked}
 use Rattle.af_told_law.specs.Sizes.{IsSmallRun}
 use Rattle.af_told_law.specs.Tells.{Tells}
-use Rattle.af_told_law.proofs.AllMeet.{some_at, tame_before}
 use Rattle.af_told_law.proofs.MarkedRuns.{round_marked}
 use Rattle.af_told_law.proofs.TameRuns.{met_marked}
+use Rattle.af_turn_law.proofs.Basics.{tame_met}
 
 -- the calls of all clients are those of each
 calls_at : (round : RoundSeen) (run : Run) (i : ℕ) → i < length run.tracks → told_at (with_calls round run) i ≡ called (calls_in round i) (told_at run i)
@@ -70,13 +71,13 @@ module _ (marks : Marks) (s : Session) (run : Run) (round : RoundSeen) (free : I
   stream_called on =
       let last : is_tame (told_at (met s one) i).stream ≡ true = ap is_tame (sym (ends_at (met s one) i met_low).0) ∙ after_one.stream on in
       let before : is_tame (stream_met (takes_part s one i) one.handed (told_at one i).stream) ≡ true = ap (λ (t : TrackTold). is_tame t.stream) (sym (met_at s one i one_low)) ∙ last in
-      ap (λ (t : TrackTold). is_tame t.stream) (sym (call_at round run i low)) ∙ tame_before (takes_part s one i) one.handed (told_at one i).stream before
+      ap (λ (t : TrackTold). is_tame t.stream) (sym (call_at round run i low)) ∙ tame_met (takes_part s one i) one.handed (told_at one i).stream before
 
   commands_called : marks.commands i ≡ true → is_tame (called (calls_in round i) (told_at run i)).commands ≡ true
   commands_called on =
       let last : is_tame (told_at (met s one) i).commands ≡ true = ap is_tame (sym (ends_at (met s one) i met_low).1) ∙ after_one.commands on in
       let before : is_tame (stream_met true false (told_at one i).commands) ≡ true = ap (λ (t : TrackTold). is_tame t.commands) (sym (met_at s one i one_low)) ∙ last in
-      ap (λ (t : TrackTold). is_tame t.commands) (sym (call_at round run i low)) ∙ tame_before true false (told_at one i).commands before
+      ap (λ (t : TrackTold). is_tame t.commands) (sym (call_at round run i low)) ∙ tame_met true false (told_at one i).commands before
 
 -- ## The round
 

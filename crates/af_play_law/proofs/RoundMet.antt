@@ -1,11 +1,12 @@
 -- The meetings at the end of a round of all parties: each front that a server saw which took part in them is its own, so that the lists have their histories and each turn of the round is legal.
-use Rattle.std.proofs.Common.{◌≡◌, ℕ, zero, suc, ◌+◌, ◌<◌, ◌≤◌, ◌==◌, ◌&&◌, ◌||◌, Bool, true, false, true≢false, if◌then◌else◌, is_some, fold, map, drop, List, [], ◌∷◌, ◌++◌, length, length-append, append-nil, Option, Some, None, slice_get, refl, sym, ap, subst, ◌∙◌, arith}
+use Rattle.std.proofs.Common.{◌≡◌, ℕ, zero, suc, ◌+◌, ◌<◌, ◌≤◌, ◌==◌, ◌&&◌, ◌||◌, Bool, true, false, true≢false, if◌then◌else◌, is_some, map, drop, List, [], ◌∷◌, ◌++◌, length, length-append, append-nil, Option, Some, None, slice_get, refl, sym, ap, subst, ◌∙◌, arith}
 use Rattle.std.specs.Bool.{MatchBool}
 use Rattle.std.specs.List.{AllZip, list_any, range_with_len}
 use Rattle.std.proofs.lemmas.Bool.{eq-eqb}
 use Rattle.std.proofs.lemmas.List.{append_cancel_left, length-map}
 use Rattle.std.proofs.lemmas.Option.{none-some, same_Some}
 use Rattle.std.proofs.Math.Seq.{drop-append_seam}
+use Rattle.af_base.proofs.Basics.{some_at}
 use Rattle.af_base.specs.declared.event.ServerEvent.{ServerEvent}
 use Rattle.af_base.specs.declared.event.ServerEvent.TheVariants as server
 use Rattle.af_base.specs.declared.event.ClientCall.{ClientCall}
@@ -13,13 +14,12 @@ use Rattle.af_base.specs.declared.log.CycleEntry.{CycleEntry}
 use Rattle.af_base.specs.Log.{slots}
 use Rattle.af_cblk.specs.Rule.{StartsWith}
 use Rattle.af_fast.specs.Mixer.{MixerState}
+use Rattle.af_judge.proofs.Basics.{each_long, met_many, shape_met, told_each}
 use Rattle.af_life.specs.Kept.{NormalKept, is_home, track_at}
 use Rattle.af_link.specs.declared.links.Links.{Links}
 use Rattle.af_model.specs.declared.shape.Shape.{Shape}
 use Rattle.af_model.specs.History.{is_lawful}
 use Rattle.af_model.specs.Journals.{EntrySeen, RoundSeen, entries_seen}
-use Rattle.af_model.specs.ServerCalls.{ServerKept, server_begins, server_keeps}
-use Rattle.af_model.specs.Spelled.{AllSeeOwn}
 use Rattle.af_model.specs.StateQueue.{carries, slot_of}
 use Rattle.af_normal.specs.Mixing.{stream_at}
 use Rattle.af_party.specs.Parties.{PartyState, track_of}
@@ -29,8 +29,7 @@ use Rattle.af_runs.specs.ClientTurns.{LegalClientTurn, Track}
 use Rattle.af_runs.specs.Rounds.{AreLegalTurns, IsFastTurn, LegalEntries, LegalFastTurn, MayFollow, after_round, after_turn, all_played, before_turn, early_of, fills, late_of}
 use Rattle.af_runs.specs.Runs.{Run, TrackTold, all_ended, calls_in, each_track, met, sides_of, takes_part, told_at, with_calls, with_cycles, with_ends}
 use Rattle.af_runs.specs.Sessions.{Session, track_count}
-use Rattle.af_judge.proofs.BlocksMeet.{met_at, met_many}
-use Rattle.af_judge.proofs.EachTrack.{each_long, told_each}
+use Rattle.af_judge.proofs.BlocksMeet.{met_at}
 use Rattle.af_server.specs.Order.{ServerState}
 use Rattle.af_rendering.specs.Leads.{LeadAway}
 use Rattle.af_engine.specs.Met.{item_at}
@@ -39,15 +38,16 @@ use Rattle.af_session.specs.Rounds as parties
 use Rattle.af_session.specs.Together.{SessionState}
 use Rattle.af_side_by_side.specs.Alone.{CyclesOn, most_cycles}
 use Rattle.af_side_by_side.specs.SideBySide.{ClientPlayed}
+use Rattle.af_told_law.proofs.Basics.{own_met}
 use Rattle.af_told_law.specs.Deeds.{Deeds, GoOn, MetTold, SawOwnBy, SawOwnOf, deeds_met, done_on, met_deed}
 use Rattle.af_told_law.specs.Own.{SawOwn, SeesOwn}
 use Rattle.af_told_law.specs.Sizes.{IsSmallRun, IsTrackSmall}
 use Rattle.af_told_law.specs.Tells.{Tells, TellsServer, given_of, held_slot}
-use Rattle.af_told_law.proofs.AllMeet.{met_histories, some_at, tells_met}
+use Rattle.af_told_law.proofs.AllMeet.{met_histories, tells_met}
 use Rattle.af_told_law.proofs.EndsTold.{ends_told}
 use Rattle.af_told_law.proofs.MeetsShow.{meetings_show}
 use Rattle.af_told_law.proofs.SlotHeld.{found_carries, is_held}
-use Rattle.af_told_law.proofs.TameRuns.{small_told, stream_shape}
+use Rattle.af_told_law.proofs.TameRuns.{small_told}
 use Rattle.af_play_law.specs.Rounds.{RoundIsTold}
 use Rattle.af_play_law.specs.RoundPlayed.{HearsForeseen, PlayStands, RoundPlayed}
 use Rattle.af_play_law.proofs.AfterTurn.{late_told, turn_told}
@@ -65,15 +65,6 @@ zip_at R [] ys i x y z is also = absurd (none-some x is)
 zip_at R (a ∷ xs) [] i x y z is also = absurd z
 zip_at {X} R (a ∷ xs) (b ∷ ys) zero x y z is also = subst (λ (q : X × X). R q.0 q.1) (λ j. (same_Some a x is j, same_Some b y also j)) z.0
 zip_at R (a ∷ xs) (b ∷ ys) (suc i) x y z is also = zip_at R xs ys i x y z.1 is also
-
--- if each front of two parts of a list is the server's own, so is each of the list
-own_join : (k : Shape) (kept : ServerKept) (xs ys : List ServerEvent) → AllSeeOwn k kept xs → AllSeeOwn k (fold (server_keeps k) kept xs) ys → AllSeeOwn k kept (xs ++ ys)
-own_join k kept [] ys a b = b
-own_join k kept (x ∷ xs) ys a b = (a.0, own_join k (server_keeps k kept x) xs ys a.1 b)
-
--- a meeting sees no front
-own_met : (b : BlockTold) (deed : List ServerEvent) → SawOwnOf b.shape deed → SawOwnOf b.shape (met_deed b deed)
-own_met b deed saw = own_join b.shape (server_begins b.shape) deed (server.Learn (length (client_list b)) ∷ []) saw (tt, tt)
 
 -- a proxy that did this saw its own fronts by its list
 own_list : (b : BlockTold) (deed : List ServerEvent) (t : ServerState) → TellsServer (done_on b deed) t → SawOwn t → SawOwnOf b.shape deed
@@ -94,7 +85,7 @@ met_shapes : (s : Session) (run : Run) → length run.tracks ≡ track_count s �
 met_shapes s run many = record {
   before = many;
   after = met_many s run ∙ many;
-  streams = (λ i low. ap (λ (t : TrackTold). t.stream.shape) (met_at s run i (omega (arith, many, low))) ∙ stream_shape (takes_part s run i) run.handed (told_at run i).stream);
+  streams = (λ i low. ap (λ (t : TrackTold). t.stream.shape) (met_at s run i (omega (arith, many, low))) ∙ shape_met (takes_part s run i) run.handed (told_at run i).stream);
   commands = (λ i low. ap (λ (t : TrackTold). t.commands.shape) (met_at s run i (omega (arith, many, low))));
 }
 

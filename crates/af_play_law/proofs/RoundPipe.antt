@@ -16,6 +16,7 @@ use Rattle.af_base.specs.declared.state.FastState.{FastState}
 use Rattle.af_base.specs.Log.{count_seen, entry_slot, slots}
 use Rattle.af_base.specs.Log as log
 use Rattle.af_base.specs.Sample.{packed_word}
+use Rattle.af_enough_law.proofs.Basics.{taken-append}
 use Rattle.af_fast.specs.Mixer.{MixerState}
 use Rattle.af_fast.specs.Mixing.{Takes}
 use Rattle.af_fast.specs.Slots.{found}
@@ -26,7 +27,6 @@ use Rattle.af_model.specs.Order.{Event, after, one, two, twos}
 use Rattle.af_model.specs.PipeHistory.{HasPipeHistory, PipePoint, legal, next, releases_of, room_by, start}
 use Rattle.af_model.specs.Point.{wrapped}
 use Rattle.af_enough_law.specs.Seen.{frames_taken}
-use Rattle.af_enough_law.proofs.SeenBlocks.{frames_taken-append}
 use Rattle.af_enough_law.proofs.SeenShared.{taken_more, taken_same}
 use Rattle.af_one_turn_run.proofs.EntrySlots.{taken_rise}
 use Rattle.af_engine.specs.Met.{EndsMet}
@@ -115,7 +115,7 @@ took_mixed f g x entry takes mixes took = by_mixed (is_mixed entry.cycle) refl
         let words = length-map mine packed_word in
         let long = slot_long g.log.frames entry (length f.log.frames) (m.placed 0 (omega arith)) takes.total in
         let events = ap (λ (l : List ServerEvent). frames_taken l) m.submix.list in
-        let counted = frames_taken-append f.pipe.pass.part.events more in
+        let counted = taken-append f.pipe.pass.part.events more in
         let shown = takes_count slot.seen in
         omega (arith, frames, sum, words, long, events, counted, shown, took)
 

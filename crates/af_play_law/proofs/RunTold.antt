@@ -1,6 +1,7 @@
 -- The rounds of a play are told one after the other: each is legal up to the last meetings of the streams.
-use Rattle.std.proofs.Common.{◌≡◌, ◌⊎◌, inl, inr, ⊎_elim, ℕ, ◌<◌, ◌||◌, Bool, true, false, true≢false, List, [], ◌∷◌, refl, sym, subst, arith}
+use Rattle.std.proofs.Common.{◌≡◌, ◌⊎◌, ⊎_elim, ℕ, ◌<◌, ◌||◌, true, false, true≢false, List, [], ◌∷◌, refl, sym, subst, arith}
 use Rattle.std.proofs.lemmas.Bool.{and_parts}
+use Rattle.af_base.proofs.Basics.{either}
 use Rattle.af_link.specs.declared.links.Links.{Links}
 use Rattle.af_model.specs.declared.shape.Shape.{Shape}
 use Rattle.af_model.specs.Journals.{RoundSeen}
@@ -25,10 +26,6 @@ use Rattle.af_play_law.proofs.RoundLoaded.{told_loaded}
 use Rattle.af_play_law.proofs.RoundMarked.{marked_after, marked_played}
 use Rattle.af_play_law.proofs.RoundMet.{same_played, shapes_behind, small_played}
 use Rattle.af_play_law.proofs.StandsAfter.{round_stands}
-
-either : (a b : Bool) → (a || b) ≡ true → (a ≡ true) ⊎ (b ≡ true)
-either true b e = inl refl
-either false b e = inr e
 
 module _ (s : Session) (marks : Marks) where
   -- one round, and what follows it

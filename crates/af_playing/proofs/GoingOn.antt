@@ -1,20 +1,17 @@
 -- When a run of all parties goes on, and how many rounds it can have made by then.
-use Rattle.std.proofs.Common.{◌≡◌, ℕ, suc, ◌+◌, ◌<◌, ◌≤◌, ◌&&◌, Bool, true, true≢false, List, [], ◌∷◌, length, slice_get, Some, refl, sym, ap, ◌∙◌, arith}
+use Rattle.std.proofs.Common.{◌≡◌, ℕ, ◌+◌, ◌<◌, ◌≤◌, ◌&&◌, Bool, true, true≢false, List, length, sym, ap, ◌∙◌, arith}
 use Rattle.std.specs.List.{list_all}
 use Rattle.std.proofs.lemmas.Bool.{eqb-false}
 use Rattle.af_model.specs.Cycles.{has_exit}
 use Rattle.af_model.specs.Journals.{RoundNoted}
 use Rattle.af_party.specs.Parties.{PartyState}
+use Rattle.af_play_law.proofs.Basics.{clients_all}
 use Rattle.af_playing.specs.PlayedRuns.{GoesOn, all_ended}
 use Rattle.af_session.specs.Rounds.{Given}
 use Rattle.af_side_by_side.specs.SideBySide.{IsRoundOfAll}
 use Rattle.af_session.specs.Together.{SessionState}
 use Rattle.af_playing.proofs.ExitSeen.{Knowing}
 use Rattle.af_playing.proofs.RoundsLeft.{AllEnded, IsGoing, has_ended, has_entries, going_on}
-
-clients_all : (ps : List PartyState) → ((i : ℕ) (p : PartyState) → slice_get ps i ≡ Some p → p.client.ended ≡ true) → list_all (λ (p : PartyState). p.client.ended) ps ≡ true
-clients_all [] each = refl
-clients_all (p ∷ ps) each = ap (λ (b : Bool). b && list_all (λ (q : PartyState). q.client.ended) ps) (each 0 p refl) ∙ clients_all ps (λ i q at. each (suc i) q at)
 
 -- if every party has ended, `all_ended` says so
 whole_end : (s : SessionState) → AllEnded s → all_ended s ≡ true

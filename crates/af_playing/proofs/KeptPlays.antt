@@ -5,6 +5,7 @@ use Rattle.af_audit.proofs.EmptiedTold.{pipe-is-emptied}
 use Rattle.af_audit.proofs.FatesTold.{frames-have-fates}
 use Rattle.af_audit.proofs.SettledTold.{settled}
 use Rattle.af_audit.proofs.SparedTold.{lawful-blocks-are-spared}
+use Rattle.af_base.proofs.Basics.{on_ok}
 use Rattle.af_base.specs.declared.frame.Frame.{Frame}
 use Rattle.af_base.specs.declared.want.Memory.{Memory}
 use Rattle.af_playing.proofs.InTime.{never_cut_off}
@@ -34,7 +35,7 @@ use Rattle.af_rendering.proofs.JournalSound.{journal_sounds}
 use Rattle.af_playing.proofs.ListsKept.{lists_kept}
 use Rattle.af_playing.proofs.NeverOlder.{none_older}
 use Rattle.af_playing.proofs.PlayCauses.{cause_behind}
-use Rattle.af_playing.proofs.PlayAnswers.{at_fault, cause_cut, cut_by, cut_off, handed, handed_two, hands_back, if_ok_always, if_ok_one, if_ok_three, leaves, limit_two, never_limited, off_limit}
+use Rattle.af_playing.proofs.PlayAnswers.{at_fault, cause_cut, cut_by, cut_off, handed, handed_two, hands_back, if_ok_always, if_ok_three, leaves, limit_two, never_limited, off_limit}
 use Rattle.af_playing.proofs.RunPushed.{pushes_stand_once}
 use Rattle.af_playing.proofs.RunReleased.{released_as_told}
 use Rattle.af_playing.proofs.RunSpelled.{calls_stand_once}
@@ -156,7 +157,7 @@ module _ (script : ScriptData) (files : List (List Frame)) (s : Stage) (r : Resu
 
     pub files_kept : KeepsFiles script files name old new r
     files_kept = record {
-      written = if_ok_one (λ (p : Played). p.journal ≡ j) (λ (p : Played). SetsFile old name (Some (journal_pcm script.frames p.journal)) new) r
+      written = on_ok (λ (p : Played). p.journal ≡ j) (λ (p : Played). SetsFile old name (Some (journal_pcm script.frames p.journal)) new) r
           (λ p journal. subst (λ (x : JournalData). SetsFile old name (Some (journal_pcm script.frames x)) new) (sym journal) sounds) a.journal;
       cut = cut_off (λ (x : JournalData) (e : EndsState). SetsFile old name (Some (journal_pcm script.frames x)) new) r (all_ended t ≡ false) j (ends_from t) (λ ended. sounds) a.cut;
       left = at_fault r (LeavesRun script files name old new) left;

@@ -1,5 +1,6 @@
 -- An Exit that was polled is the last state pushed, and the look after a meeting sees it acknowledged.
-use Rattle.std.proofs.Common.{◌≡◌, ℕ, zero, suc, ◌+◌, ◌-◌, ◌<◌, ◌≤◌, ◌==◌, ◌&&◌, ◌||◌, Bool, true, false, true≢false, if◌then◌else◌, sym, refl, ap, ◌∙◌, List, [], ◌∷◌, ◌++◌, length, append_assoc, Option, Some, None, is_some, unwrap_or, arith}
+use Rattle.std.proofs.Common.{◌≡◌, ℕ, zero, suc, ◌+◌, ◌-◌, ◌<◌, ◌≤◌, ◌==◌, ◌&&◌, ◌||◌, Bool, true, false, if◌then◌else◌, sym, refl, ap, ◌∙◌, List, [], ◌∷◌, ◌++◌, length, append_assoc, Option, Some, None, is_some, unwrap_or, arith}
+use Rattle.af_base.proofs.Basics.{no, or_true}
 use Rattle.af_base.specs.declared.log.Cycle.TheVariants as cycle
 use Rattle.af_base.specs.declared.state.Command.{Command}
 use Rattle.af_base.specs.declared.state.Command.TheVariants.{Initial, HotIdle, ColdIdle, Idle, Exit, Mix, Write, MixWrite}
@@ -18,14 +19,12 @@ use Rattle.af_life.specs.Heard.{learnt}
 use Rattle.af_life.specs.Plays.{after_takes}
 use Rattle.af_life.specs.Turn.{after_edits, turn_after, LegalTurn}
 use Rattle.af_life.specs.TurnEvents.{number_seen}
+use Rattle.af_runs.proofs.Basics.{state_some}
 use Rattle.af_stateq.specs.Laws.{pushed_states, polled_states}
 use Rattle.af_stateq.specs.Observes.{AreTold}
 use Rattle.af_stateq.proofs.Exact.{sees_the_ack}
 use Rattle.af_stateq.proofs.Prefix.{polled_in_order}
 use Rattle.af_playing.proofs.PushedRuns.{NoneExits, EndsWith, PushedRuns}
-
-no : {A : Type 0} → false ≡ true → A
-no h = absurd (true≢false (sym h))
 
 -- ## What an Exit was answered by
 
@@ -52,14 +51,6 @@ exit_state done (Some x) h = (x, refl, by_command x.command h)
 
 nothing_is : {A : Type 0} {x : FastState} → None ≡ Some x → A
 nothing_is h = no (ap is_some h)
-
--- the state of a number is that of the same number in a longer list
-state_of_front : (xs ys : List FastState) (k : ℕ) (x : FastState) → state_of xs k ≡ Some x → state_of (xs ++ ys) k ≡ Some x
-state_of_front [] ys zero x e = nothing_is e
-state_of_front [] ys (suc k) x e = nothing_is e
-state_of_front (y ∷ xs) ys zero x e = nothing_is e
-state_of_front (y ∷ xs) ys (suc zero) x e = e
-state_of_front (y ∷ xs) ys (suc (suc k)) x e = state_of_front xs ys (suc k) x e
 
 -- an Exit among states of which only the last may say so is the last
 exit_is_last : (earlier : List FastState) (last x : FastState) (k : ℕ) → NoneExits earlier → state_of (earlier ++ last ∷ []) k ≡ Some x → is_exit x ≡ true → (k ≡ length earlier + 1) × (last ≡ x)
@@ -93,7 +84,7 @@ module _ {P : Type 0} where
       → now ≡ Some x → is_exit x ≡ true → PushedRuns count last (pushed_states ms) → IsLastExit n count last
   current_exit first y x ms os n count last now before h told is exit runs =
       let polled = polled_in_order first ms os h in
-      let there : state_of (pushed_states ms) n ≡ Some x = ap (λ (l : List FastState). state_of l n) polled.2 ∙ state_of_front (polled_states first os) polled.0 n x (told.current first ∙ is) in
+      let there : state_of (pushed_states ms) n ≡ Some x = ap (λ (l : List FastState). state_of l n) polled.2 ∙ state_some (polled_states first os) polled.0 n x (told.current first ∙ is) in
       last_exit count n last x (pushed_states ms) runs there exit
 
   -- ## The look after a meeting
@@ -111,10 +102,6 @@ module _ {P : Type 0} where
 ack_seen : (m : NormalKept) (ack : Bool) → 0 < m.pushed → number_seen m ack ≡ m.pushed → ack ≡ true
 ack_seen m true some is = refl
 ack_seen m false some is = absurd (let e : m.pushed - 1 ≡ m.pushed = is in omega arith)
-
-or_true : (b : Bool) → (b || true) ≡ true
-or_true true = refl
-or_true false = refl
 
 -- a turn that finds the number of a last state that says Exit ends the mixer
 pub turn_ends : (c : Setup) (o : Outside) (m : NormalKept) (e : Turn) (n : ℕ) → LegalTurn c o m e → IsLastExit n m.pushed m.last → number_seen m e.ack ≡ n → (turn_after c (learnt o) m e).ended ≡ true

@@ -1,3 +1,4 @@
+pub mod Basics
 pub mod PlayCauses
 pub mod LogTold
 pub mod PushedRuns

@@ -6,13 +6,14 @@ use Rattle.std.proofs.lemmas.List.Concat.{flat_map-cons}
 use Rattle.std.proofs.lemmas.List.Elements.{All-head, All-tail}
 use Rattle.af_base.specs.Log.{Logged}
 use Rattle.af_fast.specs.Mixer.{MixerState}
+use Rattle.af_model.proofs.Basics.{same_length}
 use Rattle.af_model.specs.JournalForm.{IsWhole}
 use Rattle.af_model.specs.Journals.{EntrySeen, JournalData, RoundNoted, RoundSeen, RoundsNoted, cycles_of, entries_of, entries_seen, journal_of, rounds_seen}
 use Rattle.af_nblog.specs.NoteRounds.{count_accepted}
 use Rattle.af_nblog.proofs.Refusals.{none_refused}
 use Rattle.af_side_by_side.specs.Alone.{most_cycles}
 use Rattle.af_side_by_side.specs.Logging.{LoggingState, LogsPlay, TellsLog, count_refused, notes_kept}
-use Rattle.af_rendering.proofs.JournalSound.{dealt, same_entries, same_length}
+use Rattle.af_rendering.proofs.JournalSound.{dealt, same_entries}
 use Rattle.af_side_by_side.proofs.LogNotes.{refused_more}
 
 -- each round of a journal has the entries that its round was noted with

@@ -7,6 +7,8 @@ use Rattle.af_io.specs.declared.store.StoreError.{StoreError}
 use Rattle.af_io.specs.declared.store.StoreError.TheVariants as store
 use Rattle.af_model.specs.JournalForm.{IsJournal}
 use Rattle.af_model.specs.Journals.{JournalData, RoundsNoted, journal_of}
+use Rattle.af_playing.proofs.Basics.{no_want}
+use Rattle.af_rendering.proofs.Basics.{no_fault}
 use Rattle.af_runs.specs.LegalRuns.{IsCutRun}
 use Rattle.af_script.specs.Data.{ScriptData}
 use Rattle.af_session.specs.Ends.{EndsState, ends_from}
@@ -20,10 +22,6 @@ use Rattle.af_rendering.proofs.NotedRounds.{left_whole}
 use Rattle.af_playing.proofs.PlayCauses.{cause_ok}
 
 -- ## Answers
-
-pub if_ok_one : {T E : Type 0} (A B : T → Type 0) (r : Result T E) → ((x : T) → A x → B x) → IfOk r A → IfOk r B
-if_ok_one A B (Ok x) f a = f x a
-if_ok_one A B (Err e) f a = tt
 
 pub if_ok_always : {T E : Type 0} (P : Type 0) (r : Result T E) → P → IfOk r (λ _. P)
 if_ok_always P (Ok x) p = p
@@ -141,12 +139,6 @@ module _ {T : Type 0} (r : Result T PlayFault) where
 
 no_store : {T : Type 0} (j : JournalData) (e : EndsState) → IsErrOf {T = T} {E = PlayFault} (Err (fault.CycleLimit j e)) fault.Store → ⊥
 no_store {T} j e h = let x : ⊥ = cc in x
-
-no_want : {T : Type 0} → IsErrOf {T = T} {E = PlayFault} (Err fault.Memory) fault.Store → ⊥
-no_want {T} h = let x : ⊥ = cc in x
-
-no_fault : (x : Unit {0}) → IsErrOf {T = Unit {0}} {E = StoreError} (Ok x) store.Failed → ⊥
-no_fault x h = let e : ⊥ = cc in e
 
 -- an answer that is an error comes if not all had ended: the play was cut off, with this journal and these ends, or an allocation was refused
 abbrev pub IsCut : Result Played PlayFault → Type 0 → JournalData → EndsState → Type 0

@@ -3,13 +3,11 @@ use Rattle.std.proofs.Common.{◌≡◌, ℕ, Result, Ok, Err, IsErrAnd, IsErrOf
 use Rattle.af_io.specs.Causes.{HasCause}
 use Rattle.af_io.specs.declared.store.StoreError.{StoreError}
 use Rattle.af_io.specs.declared.store.StoreError.TheVariants as store
+use Rattle.af_playing.proofs.Basics.{no_want}
 use Rattle.af_playing.specs.declared.answering.PlayFault.{PlayFault}
 use Rattle.af_playing.specs.declared.answering.PlayFault.TheVariants as fault
 use Rattle.af_playing.specs.PlayedRuns.{HasStoreCause, fault_of}
-use Rattle.af_rendering.proofs.Outgoing.{no_fault, other_error}
-
-other_fault : {T : Type 0} → IsErrOf {T = T} {E = PlayFault} (Err fault.Memory) fault.Store → ⊥
-other_fault {T} h = let e : ⊥ = cc in e
+use Rattle.af_rendering.proofs.Basics.{no_fault, other_error}
 
 not_err : {T : Type 0} (x : T) (f : PlayFault) → IsErrOf {T = T} {E = PlayFault} (Ok x) f → ⊥
 not_err x f h = let e : ⊥ = cc in e
@@ -18,7 +16,7 @@ not_err x f h = let e : ⊥ = cc in e
 by_memory : {T : Type 0} (f : PlayFault) (n : ℕ) → f ≡ fault.Memory → HasStoreCause {T = T} n n (Err f)
 by_memory {T} f n is =
     subst (λ (x : PlayFault). HasStoreCause {T = T} n n (Err x)) (sym is)
-    (record { later = omega arith; failed = (λ h. absurd (other_fault {T = T} h)); only = (λ lt. absurd (omega (arith, lt))) })
+    (record { later = omega arith; failed = (λ h. absurd (no_want {T = T} h)); only = (λ lt. absurd (omega (arith, lt))) })
 
 pub cause_memory : {T : Type 0} (r : Result T PlayFault) (n : ℕ) → IsErrAnd r (λ f. f ≡ fault.Memory) → HasStoreCause n n r
 cause_memory (Ok x) n is = absurd is
@@ -29,7 +27,7 @@ by_store : {T : Type 0} (e : StoreError) (before now : ℕ) → HasCause {T = Un
 by_store {T} store.Failed before now cause = record { later = cause.later; failed = (λ h. cause.failed refl); only = (λ lt. refl) }
 by_store {T} store.Memory before now cause = record {
   later = cause.later;
-  failed = (λ h. absurd (other_fault {T = T} h));
+  failed = (λ h. absurd (no_want {T = T} h));
   only = (λ lt. absurd (other_error (cause.only lt)));
 }
 
@@ -50,6 +48,6 @@ pub cause_behind : {T : Type 0} (r : Result T PlayFault) (played : T) (before no
 cause_behind (Ok x) played before now cause is = absurd is
 cause_behind {T} (Err f) played before now cause is = subst (λ (x : PlayFault). HasStoreCause {T = T} before now (Err x)) (sym is) (record {
   later = cause.later;
-  failed = (λ h. absurd (other_fault {T = T} h));
+  failed = (λ h. absurd (no_want {T = T} h));
   only = (λ lt. absurd (not_err {T = T} played fault.Store (cause.only lt)));
 })

@@ -1,6 +1,7 @@
 -- What a mixer pushed: no state before the last one says Exit.
-use Rattle.std.proofs.Common.{◌≡◌, ℕ, zero, suc, ◌+◌, ◌<◌, ◌==◌, ◌&&◌, ◌||◌, Bool, true, false, true≢false, if◌then◌else◌, sym, refl, ap, subst, ◌∙◌, List, [], ◌∷◌, ◌++◌, length, length-append, append-nil, Option, arith}
+use Rattle.std.proofs.Common.{◌≡◌, ℕ, zero, suc, ◌+◌, ◌<◌, ◌==◌, ◌&&◌, ◌||◌, Bool, true, false, if◌then◌else◌, sym, refl, ap, subst, ◌∙◌, List, [], ◌∷◌, ◌++◌, length, length-append, append-nil, Option, arith}
 use Rattle.std.specs.List.{AllByRecursion}
+use Rattle.af_base.proofs.Basics.{no}
 use Rattle.af_base.specs.declared.state.FastState.{FastState}
 use Rattle.af_base.specs.declared.state.Push.{Push}
 use Rattle.af_base.specs.declared.state.Push.TheVariants.{Pushed, Clean, Busy}
@@ -15,9 +16,6 @@ use Rattle.af_life.specs.Turn.{after_edits, turn_after, LegalTurn}
 use Rattle.af_life.specs.TurnEvents.{mutator_list, push_list, number_seen}
 use Rattle.af_stateq.specs.Laws.{pushed_states}
 use Rattle.af_rendering.proofs.Quiet.{IsQuiet, mutated_none, push_clean}
-
-no : {A : Type 0} → false ≡ true → A
-no h = absurd (true≢false (sym h))
 
 -- none of these states says Exit
 abbrev pub NoneExits : List FastState → Type 0

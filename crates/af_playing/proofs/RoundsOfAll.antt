@@ -2,6 +2,7 @@
 use Rattle.std.proofs.Common.{◌≡◌, ℕ, zero, suc, Bool, true, false, if◌then◌else◌, MatchOption, List, [], ◌∷◌, ◌++◌, length, Some, None, refl, sym, ap, subst, ◌∙◌, arith}
 use Rattle.std.specs.Bool.{MatchBool}
 use Rattle.std.proofs.lemmas.List.{length-map}
+use Rattle.af_base.proofs.Basics.{zip_long}
 use Rattle.af_base.specs.declared.log.Cycle.{Cycle}
 use Rattle.af_base.specs.declared.state.FastState.{FastState}
 use Rattle.af_base.specs.Log.{Logged}
@@ -28,7 +29,6 @@ use Rattle.af_session.specs.Together.{SessionState}
 use Rattle.af_session.proofs.FollowingRounds.{ends_keep}
 use Rattle.af_session.proofs.FastAdds.{polled_keeps}
 use Rattle.af_rendering.proofs.LogGoes.{Goes, goes_not, goes_then, mix_goes}
-use Rattle.af_side_by_side.proofs.ReadyOfAll.{zip_long}
 use Rattle.af_rendering.proofs.RoundForms.{AreNoted, Notes, noted_more}
 use Rattle.af_rendering.proofs.ShownWhole.{AreInStep, in_step_met, in_step_new, tally_pushed}
 

@@ -3,10 +3,10 @@ use Rattle.std.proofs.Common.{◌≡◌, ℕ, zero, suc, ◌+◌, ◌<◌, Bool,
 use Rattle.std.specs.Prelude.{slice_index_or}
 use Rattle.std.specs.List.{list_all}
 use Rattle.std.proofs.lemmas.Option.{none-some, same_Some, slice_get-get_or, slice_get_within}
+use Rattle.af_base.proofs.Basics.{both_true}
 use Rattle.af_base.specs.Turn.{Turn, turn_of}
 use Rattle.af_runs.specs.ClientTurns.{after_calls}
 use Rattle.af_link.specs.declared.links.Links.{Links}
-use Rattle.af_model.proofs.Logic.{both_are}
 use Rattle.af_model.specs.Journals.{RoundNoted}
 use Rattle.af_server.specs.Order.{ServerState}
 use Rattle.af_audit.specs.Spared.{none_corrupt}
@@ -87,7 +87,7 @@ module _ (links : Links) (g : Given) (n : ℕ) (s : SessionState) (before : IsRe
         let inside : i < length s.normal.commands = omega (arith, lt, before.together.normal.tied.sizes.commands_are) in
         let first : ServerState = get_or s.normal.commands i command.0 in
         let spares = turn_spares links s.normal turned.normal before.together.normal o legal i lt first command.0 (slice_get-get_or s.normal.commands i command.0 inside) command.1 command.2 stream in
-        both_are (is_spared_in_turn i e) true spares refl
+        both_true (is_spared_in_turn i e) true spares refl
 
     turn_spared : list_all (is_spared_in_turn i) (turn_in r.turn) ≡ true
     turn_spared = ap (λ (y : RoundNoted). list_all (is_spared_in_turn i) (turn_in y.turn)) round.told ∙ by_ended s.normal.ended round.plays.normal

@@ -3,11 +3,12 @@ use Rattle.std.proofs.Common.{◌≡◌, ℕ, ◌+◌, ◌*◌, ◌%◌, ◌==�
 use Rattle.std.specs.List.{list_all}
 use Rattle.std.proofs.lemmas.Grind.{fold-append}
 use Rattle.std.proofs.lemmas.List.Folds.{list_all-append}
-use Rattle.af_base.specs.declared.event.ClientEvent.{ClientEvent}
+use Rattle.af_base.proofs.Basics.{both_true}
 use Rattle.af_base.specs.declared.event.ServerEvent.{ServerEvent}
 use Rattle.af_base.specs.declared.event.ServerEvent.TheVariants as server
 use Rattle.af_base.specs.declared.seen.Seen.{Seen}
 use Rattle.af_base.specs.declared.seen.Seen.TheVariants as seen
+use Rattle.af_model.proofs.Basics.{both_first, flushes-append}
 use Rattle.af_model.specs.declared.shape.Shape.{Shape}
 use Rattle.af_model.specs.declared.point.TrackPoint.{TrackPoint}
 use Rattle.af_model.specs.Point.{wrapped, start, ServerMay}
@@ -15,28 +16,25 @@ use Rattle.af_model.specs.History.{Moment, by_client, by_server, by_hand, client
 use Rattle.af_model.specs.ServerCalls.{ServerKept, server_keeps, server_begins, server_kept, look_at, drops_of, look_events, IsServerList, begins, looks, takes, reads_gains, tallies, sets_flags, sets_status, rests, meets}
 use Rattle.af_model.proofs.Counts.{flushes_are}
 use Rattle.af_model.proofs.Fates.{in_turn}
-use Rattle.af_model.proofs.Logic.{both_left, both_right, both_are}
+use Rattle.af_model.proofs.Logic.{both_right}
 use Rattle.af_record.specs.History.{is_reading, is_calm}
+use Rattle.af_server.proofs.Basics.{no_drop}
 
 -- a list of two parts
 module _ (f : ServerEvent → Bool) (xs ys : List ServerEvent) where
   pub all_first : list_all f (xs ++ ys) ≡ true → list_all f xs ≡ true
-  all_first all = both_left (list_all f xs) (list_all f ys) (sym (list_all-append f xs ys) ∙ all)
+  all_first all = both_first (list_all f xs) (list_all f ys) (sym (list_all-append f xs ys) ∙ all)
 
   pub all_second : list_all f (xs ++ ys) ≡ true → list_all f ys ≡ true
   all_second all = both_right (list_all f xs) (list_all f ys) (sym (list_all-append f xs ys) ∙ all)
 
   pub all_both : list_all f xs ≡ true → list_all f ys ≡ true → list_all f (xs ++ ys) ≡ true
-  all_both first second = list_all-append f xs ys ∙ both_are (list_all f xs) (list_all f ys) first second
+  all_both first second = list_all-append f xs ys ∙ both_true (list_all f xs) (list_all f ys) first second
 
 -- a flush word seen is 0
 abbrev pub is_zero : ServerEvent → Bool
 is_zero (server.SawFlush flush) = flush == 0
 is_zero _ = true
-
-flushes-append : (xs ys : List ClientEvent) → flushes_of (xs ++ ys) ≡ flushes_of xs + flushes_of ys
-flushes-append [] ys = omega arith
-flushes-append (x ∷ xs) ys = let e = flushes-append xs ys in omega arith
 
 module _ (shape : Shape) (flat : shape.wrap ≡ 0) where
   sees_zero : (p : TrackPoint) (others : ℕ) (e : ServerEvent) → ServerMay p others e → p.wrap ≡ 0 → p.flushes ≡ 0 → is_zero e ≡ true
@@ -61,16 +59,10 @@ module _ (shape : Shape) (flat : shape.wrap ≡ 0) where
   all_zero (by_server e ∷ order) h none =
       let t = in_turn shape order h.1 in
       let here = sees_zero (after (start shape) order) _ e h.0 (t.wrap_is ∙ flat) (flushes_are shape order ∙ none) in
-      all_both is_zero (server_of order) (e ∷ []) (all_zero order h.1 none) (both_are (is_zero e) true here refl)
+      all_both is_zero (server_of order) (e ∷ []) (all_zero order h.1 none) (both_true (is_zero e) true here refl)
   all_zero (by_hand e ∷ order) h none = all_zero order h.1 none
 
 -- ## Nothing is dropped
-
--- a look that sees the flush word 0, if 0 was kept, drops nothing
-no_drop : (b d : Bool) (front rear count : ℕ) → drops_of (if b then seen.Shut front rear else if d then seen.Empty else seen.Frames count) front ≡ []
-no_drop true d front rear count = refl
-no_drop false true front rear count = refl
-no_drop false false front rear count = refl
 
 -- what a list tells of the flush word, and of drops
 record StaysCalm (k : Shape) (events : List ServerEvent) : Type 0 where
@@ -99,7 +91,7 @@ module _ (k : Shape) where
 
   flush-calm : (kept : ServerKept) (es : List ServerEvent) → list_all is_calm es ≡ true → kept.flush ≡ 0 → (fold (server_keeps k) kept es).flush ≡ 0
   flush-calm kept [] calm none = none
-  flush-calm kept (e ∷ es) calm none = flush-calm (server_keeps k kept e) es (both_right (is_calm e) _ calm) (flush-quiet kept e (both_left (is_calm e) _ calm) none)
+  flush-calm kept (e ∷ es) calm none = flush-calm (server_keeps k kept e) es (both_right (is_calm e) _ calm) (flush-quiet kept e (both_first (is_calm e) _ calm) none)
 
   -- a calm list keeps the flush word 0
   pub kept_zero : (es : List ServerEvent) → list_all is_calm es ≡ true → (server_kept k es).flush ≡ 0
@@ -116,7 +108,7 @@ module _ (k : Shape) where
   stays_calm shown events (looks es before asked flush rear front list unshut some) reads zeros =
       let shows : Seen = look_at k (server_kept k es).flush asked flush rear front in
       let on = stays_calm before es list (all_first is_reading es (look_events shows flush rear front) reads) (all_first is_zero es (look_events shows flush rear front) zeros) in
-      let unflushed : flush ≡ 0 = eqb-true flush 0 (both_left (flush == 0) _ (all_second is_zero es (look_events shows flush rear front) zeros)) in
+      let unflushed : flush ≡ 0 = eqb-true flush 0 (both_first (flush == 0) _ (all_second is_zero es (look_events shows flush rear front) zeros)) in
       more_calm es (look_events shows flush rear front) on.calm (look_all flush rear front (drops_of shows front) unflushed (looks_calm (server_kept k es).flush asked flush rear front on.flush_is unflushed))
   stays_calm shown events (takes es count list) reads zeros =
       let on = stays_calm (Some count) es list (all_first is_reading es (server.Take count ∷ []) reads) (all_first is_zero es (server.Take count ∷ []) zeros) in

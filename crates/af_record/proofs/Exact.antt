@@ -3,6 +3,7 @@ use Rattle.std.proofs.Common.{◌≡◌, inl, inr, ℕ, zero, suc, ◌+◌, ◌-
 use Rattle.std.proofs.Common.{length-drop, length-take}
 use Rattle.std.proofs.lemmas.List.{drop-take, drop_at}
 use Rattle.std.proofs.Math.Seq.{take-append_seam}
+use Rattle.af_base.proofs.Basics.{is_not_below}
 use Rattle.af_base.specs.declared.event.ClientEvent.{ClientEvent}
 use Rattle.af_base.specs.declared.event.ClientEvent.TheVariants as client
 use Rattle.af_base.specs.declared.event.ServerEvent.{ServerEvent}
@@ -11,13 +12,14 @@ use Rattle.af_base.specs.declared.seen.Seen.TheVariants as seen
 use Rattle.af_base.specs.Log.{count_seen}
 use Rattle.std.specs.List.{list_all}
 use Rattle.std.proofs.lemmas.List.Folds.{list_all-append}
+use Rattle.af_model.proofs.Basics.{both_first}
 use Rattle.af_model.specs.declared.shape.Shape.{Shape}
 use Rattle.af_server.specs.Order.{server_kept_of}
 use Rattle.af_model.specs.Point.{wrapped}
 use Rattle.af_model.specs.Room.{ahead}
 use Rattle.af_model.specs.PipeHistory.{room_by}
 use Rattle.af_model.specs.ServerCalls.{look_at, drops_of}
-use Rattle.af_model.proofs.Logic.{ahead-between, nat_lt-no, both_left, both_right}
+use Rattle.af_model.proofs.Logic.{ahead-between, both_right}
 use Rattle.af_record.specs.Ends.{SeesTaken}
 use Rattle.af_cblk.specs.declared.view.ClientPart.{ClientPart}
 use Rattle.af_cblk.specs.declared.view.ServerPart.{ServerPart}
@@ -177,23 +179,23 @@ shown_as false false places front rear fits same = refl
 shown_rest : (k : Shape) (kept places flush rear front : ℕ) → kept ≡ 0 → flush ≡ 0 → front < 2 ^ 32 → ahead front rear ≤ k.frames → count_seen (look_at k kept places flush rear front) ≡ min places (ahead front rear)
 shown_rest k kept places flush rear front none unflushed low fits =
     ap (λ (x : ℕ × ℕ). count_seen (look_at k x.0 places x.1 rear front)) (λ i. (none i, unflushed i))
-    ∙ shown_as (nat_lt k.frames (ahead front rear)) (rear == front) places front rear (nat_lt-no k.frames (ahead front rear) fits) (λ d. let e = eqb-true rear front d in omega arith)
+    ∙ shown_as (nat_lt k.frames (ahead front rear)) (rear == front) places front rear (is_not_below k.frames (ahead front rear) fits) (λ d. let e = eqb-true rear front d in omega arith)
 
 -- ## What nothing disturbs
 
 alive_first : (xs ys : List ClientEvent) → list_all is_alive (xs ++ ys) ≡ true → list_all is_alive xs ≡ true
-alive_first xs ys all = both_left (list_all is_alive xs) (list_all is_alive ys) (sym (list_all-append is_alive xs ys) ∙ all)
+alive_first xs ys all = both_first (list_all is_alive xs) (list_all is_alive ys) (sym (list_all-append is_alive xs ys) ∙ all)
 
 -- these flags don't have INVALID
 alive_at : (xs ys : List ClientEvent) (flags : ℕ) → list_all is_alive (xs ++ client.SawFlags flags ∷ ys) ≡ true → bit_and flags 4 ≡ 0
 alive_at xs ys flags all =
     let behind : list_all is_alive (client.SawFlags flags ∷ ys) ≡ true = both_right (list_all is_alive xs) _ (sym (list_all-append is_alive xs (client.SawFlags flags ∷ ys)) ∙ all) in
-    eqb-true (bit_and flags 4) 0 (both_left (bit_and flags 4 == 0) _ behind)
+    eqb-true (bit_and flags 4) 0 (both_first (bit_and flags 4 == 0) _ behind)
 
 never_dead : (es : List ClientEvent) → list_all is_alive es ≡ true → last_dead false es ≡ false
 never_dead [] all = refl
 never_dead (client.SawFlags flags ∷ es) all =
-    ap (λ (b : Bool). last_dead (not b) es) (both_left (bit_and flags 4 == 0) _ all) ∙ never_dead es (both_right (bit_and flags 4 == 0) _ all)
+    ap (λ (b : Bool). last_dead (not b) es) (both_first (bit_and flags 4 == 0) _ all) ∙ never_dead es (both_right (bit_and flags 4 == 0) _ all)
 never_dead (client.Release count ∷ es) all = never_dead es all
 never_dead (client.Flush ∷ es) all = never_dead es all
 never_dead (client.SetGain word ∷ es) all = never_dead es all
@@ -233,7 +235,7 @@ looked_at s t places count unshut read calm =
     let whole : list_all is_calm ((s.events ++ words) ++ takes_of count) ≡ true = ap (list_all is_calm) (sym r.3.1) ∙ calm in
     let first : list_all is_calm (s.events ++ words) ≡ true = all_first is_calm (s.events ++ words) (takes_of count) whole in
     let kept : keeps ≡ 0 = kept_zero s.shape s.events (all_first is_calm s.events words first) in
-    let unflushed : flush ≡ 0 = eqb-true flush 0 (both_left (flush == 0) _ (all_second is_calm s.events words first)) in
+    let unflushed : flush ≡ 0 = eqb-true flush 0 (both_first (flush == 0) _ (all_second is_calm s.events words first)) in
     let none : drops ≡ [] = looks_calm s.shape keeps places flush rear front kept unflushed in
     record {
       flush = flush;

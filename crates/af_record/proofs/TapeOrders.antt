@@ -5,6 +5,7 @@ use Rattle.af_base.specs.declared.event.ClientEvent.{ClientEvent}
 use Rattle.af_base.specs.declared.event.ClientEvent.TheVariants as client
 use Rattle.af_base.specs.declared.event.ServerEvent.{ServerEvent}
 use Rattle.af_base.specs.declared.event.ServerEvent.TheVariants as server
+use Rattle.af_model.proofs.Basics.{both_first}
 use Rattle.af_model.specs.declared.shape.Shape.{Shape}
 use Rattle.af_model.specs.declared.point.TrackPoint.{TrackPoint}
 use Rattle.af_model.specs.Point.{wrapped, ClientMay, ServerMay, after_client, after_server}
@@ -18,7 +19,7 @@ use Rattle.af_model.specs.ServerCalls.{IsServerList}
 use Rattle.af_model.proofs.Fates.{in_turn, begins}
 use Rattle.af_model.proofs.Orders.{ones_one, ones_two, twos_one, twos_two, after_end, legal_end}
 use Rattle.af_model.proofs.Splits.{legal_at}
-use Rattle.af_model.proofs.Logic.{both_left, both_right, ahead-between}
+use Rattle.af_model.proofs.Logic.{both_right, ahead-between}
 use Rattle.af_record.specs.History.{legal, HasTapeHistory, may_supply, IsSupplyList, IsReadList, is_alive, is_calm}
 use Rattle.af_record.proofs.Calm.{is_zero, all_first, all_second, all_zero, drops_nothing}
 
@@ -64,7 +65,7 @@ calm_keeps (server.SetStatus word) is = refl
 
 all_kept : (es : List ServerEvent) → list_all is_calm es ≡ true → drops_none es ≡ true
 all_kept [] is = refl
-all_kept (e ∷ es) is = ap (λ b. b && drops_none es) (calm_keeps e (both_left (is_calm e) _ is)) ∙ all_kept es (both_right (is_calm e) _ is)
+all_kept (e ∷ es) is = ap (λ b. b && drops_none es) (calm_keeps e (both_first (is_calm e) _ is)) ∙ all_kept es (both_right (is_calm e) _ is)
 
 -- ## The order of both ends, oldest first
 
@@ -215,7 +216,7 @@ module _ (shape : Shape) (size : ℕ) (few : size ≤ 65536) (from_zero : shape.
         room = subst (λ (k : PutKept). TapeHasRoom size k (block_after (block_start shape) (by_client e ∷ order))) (sym (after_end (may_supply size) after_put nothing_put (client_of order) e)) step.room;
       }
   agrees (by_server e ∷ order) h none puts takes =
-      let here : is_calm e ≡ true = both_left (is_calm e) true (all_second is_calm (server_of order) (e ∷ []) takes) in
+      let here : is_calm e ≡ true = both_first (is_calm e) true (all_second is_calm (server_of order) (e ∷ []) takes) in
       let a = agrees order h.1 none puts (all_first is_calm (server_of order) (e ∷ []) takes) in
       let n : ℕ = length (client_of order) in
       let m : ℕ = length (server_of order) in

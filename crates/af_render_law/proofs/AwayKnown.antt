@@ -1,6 +1,7 @@
 -- After the meetings of all parties the hands know what the proxies that missed them had done.
 use Rattle.std.proofs.Common.{◌≡◌, ℕ, ◌<◌, true, List, length, slice_get, Option, Some, None, sym, ap, ◌∙◌, subst, arith}
 use Rattle.std.proofs.lemmas.Option.{none-some, same_Some, slice_get_within}
+use Rattle.af_base.proofs.Basics.{some_at}
 use Rattle.af_base.specs.declared.state.FastState.{FastState}
 use Rattle.af_cblk.specs.Sides.{HandSide, client_made}
 use Rattle.af_client.specs.Order.{ClientState}
@@ -20,7 +21,6 @@ use Rattle.af_session.proofs.FollowingRounds.{ends_keep}
 use Rattle.af_rendering.proofs.MetOpen.{clients_ended}
 use Rattle.af_render_law.specs.Aware.{KnowsAway}
 use Rattle.af_told_law.specs.Tells.{held_slot}
-use Rattle.af_told_law.proofs.AllMeet.{some_at}
 use Rattle.af_told_law.proofs.TrackMeets.{tracks_are}
 
 -- the history that the hand's meeting with the client gave

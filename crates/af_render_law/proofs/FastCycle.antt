@@ -1,7 +1,5 @@
 -- A cycle of the fast mixer is told once it is known that each front that a server saw is its own.
 use Rattle.std.proofs.Common.{List, None, [], ap, arith, false, length, subst, sym, ℕ, ◌++◌, ◌<◌, ◌∙◌, ◌∷◌, ◌≡◌}
-use Rattle.std.specs.Prelude.{slice_index_or}
-use Rattle.std.proofs.lemmas.List.{append_cancel_left}
 use Rattle.af_base.specs.declared.frame.Frame.{Frame}
 use Rattle.af_base.specs.declared.log.Cycle.{Cycle}
 use Rattle.af_base.specs.declared.log.CycleEntry.{CycleEntry}
@@ -22,6 +20,7 @@ use Rattle.af_stateq.specs.Observes.{Observes}
 use Rattle.af_session.specs.FastTurns.{IsCycle}
 use Rattle.af_rendering.specs.Leads.{InStep, LeadAway}
 use Rattle.af_session.specs.Together.{AreTogether, SessionState}
+use Rattle.af_told_law.proofs.Basics.{same_last}
 use Rattle.af_told_law.specs.Sizes.{AreSmall}
 use Rattle.af_told_law.specs.Marked.{IsMarkedRun}
 use Rattle.af_told_law.specs.MixLaws.{MixesAreTold, entry_told}
@@ -37,10 +36,6 @@ use Rattle.af_runs.specs.ClientTurns.{Track}
 use Rattle.af_engine.specs.Met.{slot_for}
 use Rattle.af_render_law.proofs.OwnKept.{mixed_many, mixed_same, saw_met, saw_now, saw_polled, saw_sides}
 use Rattle.af_told_law.specs.Deeds.{Deeds, SawOwnBy, SawOwnOf, deeds_met, tame_marks}
-
--- the last of two lists that are the same up to it
-same_last : (xs : List CycleEntry) (a b : CycleEntry) → xs ++ a ∷ [] ≡ xs ++ b ∷ [] → a ≡ b
-same_last xs a b is = ap (λ (l : List CycleEntry). slice_index_or l 0 a) (append_cancel_left xs (a ∷ []) (b ∷ []) is)
 
 -- a mix changes nothing of what stands between two turns
 pub between_mixed : (x : SessionState) (g : MixerState) → g.observer.past ≡ x.fast.observer.past → IsBetween x → IsBetween (record x { fast = g })

@@ -3,6 +3,8 @@ use Rattle.std.proofs.Common.{◌≡◌, ◌⊎◌, inl, inr, ℕ, zero, suc, �
 use Rattle.std.specs.Prelude.{slice_index_or}
 use Rattle.std.specs.List.{flat_map, range_with_len}
 use Rattle.af_base.specs.Turn.{Turn, TakeSeen}
+use Rattle.af_judge.proofs.Basics.{each_long, told_each}
+use Rattle.af_life.proofs.Basics.{at_new, slot_of_away}
 use Rattle.af_life.specs.declared.kept.TrackKept.{TrackKept}
 use Rattle.af_life.specs.Edits.{after_ack}
 use Rattle.af_life.specs.Heard.{learnt}
@@ -23,9 +25,7 @@ use Rattle.af_runs.specs.Rounds.{LegalEntry, LegalTurnIn, loaded, turned}
 use Rattle.af_runs.specs.Runs.{Run, TrackTold, new_run, new_track, no_track, told_at, each_from, each_track, called, calls_in, sides_of, state_for, mixed_track, turned_track, track_met, with_poll, with_mix, with_turn, with_load, with_ends, found_before, met, takes_part, fast_ended}
 use Rattle.af_runs.specs.Sessions.{Session, setup_of, track_count}
 use Rattle.af_runs.specs.TurnRuns.{IsMadeBy, LegalAlone, calls_alone, cycle_alone, made_alone, met_alone, turn_alone}
-use Rattle.af_judge.proofs.EachTrack.{each_long, told_each}
-use Rattle.af_judge.proofs.SoundSlots.{slot_of_away}
-use Rattle.af_judge.proofs.SoundTurns.{Sound, at_new}
+use Rattle.af_judge.proofs.SoundTurns.{Sound}
 use Rattle.af_render_law.proofs.InvalidBlocks.{StreamUnset, unset_new, unset_called, unset_met, unset_mixed, unset_turned}
 use Rattle.af_render_law.proofs.MixedOpen.{entry_looked}
 use Rattle.af_turn_law.specs.Acting.{SawNoInvalid}

@@ -2,6 +2,7 @@
 use Rattle.std.proofs.Common.{◌≡◌, ℕ, zero, suc, ◌+◌, ◌<◌, ◌==◌, ◌&&◌, not, Bool, true, false, if◌then◌else◌, is_some, map, List, [], ◌++◌, Option, Some, None, refl, sym, ap, ◌∙◌, subst, eqb-true, arith}
 use Rattle.std.specs.List.{find, range_with_len}
 use Rattle.std.proofs.lemmas.List.{get_or-replicate}
+use Rattle.af_base.proofs.Basics.{no}
 use Rattle.af_base.specs.declared.event.ServerEvent.{ServerEvent}
 use Rattle.af_base.specs.declared.log.CycleEntry.{CycleEntry}
 use Rattle.af_base.specs.declared.log.SlotEntry.{SlotEntry}
@@ -9,6 +10,7 @@ use Rattle.af_base.specs.declared.state.FastState.{FastState}
 use Rattle.af_base.specs.Log.{absent, entry_slot, slots}
 use Rattle.af_life.specs.Kept.{number_of}
 use Rattle.af_life.specs.Obeys.{is_shut}
+use Rattle.af_model.proofs.Basics.{both_first}
 use Rattle.af_model.specs.ClientCalls.{client_kept}
 use Rattle.af_model.specs.Cycles.{LooksBy, cycle_events, cycle_of, is_mixed, kept, state_of, still_entry}
 use Rattle.af_model.specs.History.{by_server}
@@ -21,9 +23,8 @@ use Rattle.af_runs.specs.Fronts.{front_of, is_shown}
 use Rattle.af_runs.specs.Rounds.{LegalEntry}
 use Rattle.af_runs.specs.Runs.{Run, TrackTold, mixed_track, no_track, played, plays, slot_for, state_for, told_at}
 use Rattle.af_runs.specs.Sessions.{Session, cycle_frames}
-use Rattle.af_model.proofs.Logic.{both_left, both_right}
+use Rattle.af_model.proofs.Logic.{both_right}
 use Rattle.af_judge.proofs.BlocksTold.{server-client}
-use Rattle.af_audit.proofs.Booleans.{no}
 use Rattle.af_audit.proofs.SidesKept.{sides_mixed}
 use Rattle.af_audit.proofs.TrackStands.{server-server, told_more}
 use Rattle.af_audit.proofs.TrackUnshut.{IsUnshut, unshut_mixed}
@@ -70,8 +71,8 @@ module _ (s : Session) (marks : Marks) (r : Run) (e : EntrySeen) (legal : LegalE
   pub entry_looked : slot_for x e.entry n ≡ Some i → Looked s e i (told_at r n).stream
   entry_looked found =
       let at = found_at (λ j. plays x e.entry j && ((slot_of x j).track == n)) 0 slots i found in
-      let here = both_left (plays x e.entry i) ((slot_of x i).track == n) at.0 in
-      slot_looked (let h = at.1 in omega (arith, h)) (both_left (carries x i) (is_shown (entry_slot e.entry i).seen) here) (both_right (carries x i) (is_shown (entry_slot e.entry i).seen) here)
+      let here = both_first (plays x e.entry i) ((slot_of x i).track == n) at.0 in
+      slot_looked (let h = at.1 in omega (arith, h)) (both_first (carries x i) (is_shown (entry_slot e.entry i).seen) here) (both_right (carries x i) (is_shown (entry_slot e.entry i).seen) here)
       (eqb-true (slot_of x i).track n (both_right (plays x e.entry i) ((slot_of x i).track == n) at.0))
 
 -- ## What the look leaves

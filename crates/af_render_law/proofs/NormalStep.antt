@@ -4,6 +4,7 @@ use Rattle.std.proofs.lemmas.Option.{same_Some}
 use Rattle.std.specs.Prelude.{slice_index_or}
 use Rattle.std.proofs.lemmas.Bool.{MatchBool-at_false}
 use Rattle.af_base.specs.Turn.{Turn, turn_of}
+use Rattle.af_enough_law.proofs.Basics.{load_told as same_track}
 use Rattle.af_life.specs.Kept.{NormalKept}
 use Rattle.af_link.specs.declared.links.Links.{Links}
 use Rattle.af_link.specs.declared.names.StreamNames.{StreamNames}
@@ -54,11 +55,6 @@ use Rattle.af_told_law.specs.Deeds.{Deeds, SawOwnBy, tame_marks}
 -- one turn more is counted
 made_turns : (x y : NormalState) → TurnMade (answer_of (turn_of y.entry)) x y → y.turns ≡ x.turns + 1
 made_turns x y made = turns_made (answer_of (turn_of y.entry)) x y made
-
--- a load changes no track
-same_track : (e : Turn) (run : Run) (i : ℕ) → told_at (with_load e run) i ≡ told_at run i
-unfolding with_load
-same_track e run i = refl
 
 same_many : (e : Turn) (run : Run) → length (with_load e run).tracks ≡ length run.tracks
 unfolding with_load

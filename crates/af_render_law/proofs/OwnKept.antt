@@ -2,15 +2,18 @@
 use Rattle.std.proofs.Common.{◌≡◌, inl, inr, ℕ, ◌<◌, ◌≤◌, ◌==◌, ◌&&◌, not, Bool, true, false, true≢false, if◌then◌else◌, is_some, fold, List, [], ◌∷◌, ◌++◌, length, slice_get, Option, Some, None, refl, sym, ap, ◌∙◌, subst, append-nil, arith}
 use Rattle.std.specs.List.{flat_map}
 use Rattle.std.specs.Prelude.{drop}
+use Rattle.af_base.proofs.Basics.{some_at}
 use Rattle.af_base.specs.declared.event.ServerEvent.{ServerEvent}
 use Rattle.af_base.specs.declared.event.ServerEvent.TheVariants as server
 use Rattle.af_base.specs.Turn.{TakeSeen, Turn, turn_of}
+use Rattle.af_judge.proofs.Basics.{each_long, met_many, told_each}
 use Rattle.af_life.specs.declared.kept.TrackKept.{TrackKept}
 use Rattle.af_life.specs.Heard.{heard, learnt}
 use Rattle.af_life.specs.Kept.{NormalKept, Outside, Setup, asked, is_home, track_at, track_in}
 use Rattle.af_life.specs.Serves.{is_found_shut}
 use Rattle.af_life.specs.TurnEvents.{invalid, mix_events, takes_from, tracks_at}
 use Rattle.af_link.specs.declared.links.Links.{Links}
+use Rattle.af_model.proofs.Basics.{lawful_first}
 use Rattle.af_model.specs.declared.shape.Shape.{Shape}
 use Rattle.af_model.specs.Cycles.{cycle_events}
 use Rattle.af_model.specs.History.{is_lawful}
@@ -28,39 +31,30 @@ use Rattle.af_runs.specs.Rounds.{HaveHistories}
 use Rattle.af_runs.specs.Runs.{Run, TrackTold, called, calls_in, each_track, met, mixed_track, side_of, sides_of, state_for, stream_met, takes_part, told_at, with_ends, with_load, with_mix, with_poll, with_side}
 use Rattle.af_runs.specs.Sessions.{Session}
 use Rattle.af_runs.specs.TurnRuns.{calls_alone}
-use Rattle.af_judge.proofs.BlocksMeet.{met_at, met_many}
+use Rattle.af_judge.proofs.BlocksMeet.{met_at}
 use Rattle.af_judge.proofs.BlocksTold.{client-client}
-use Rattle.af_judge.proofs.EachTrack.{each_long, told_each}
 use Rattle.af_judge.proofs.EntryTracks.{mixed_sides}
 use Rattle.af_server.specs.Order.{ServerState}
 use Rattle.af_engine.specs.Met.{item_at}
 use Rattle.af_session.specs.Met.{Met}
 use Rattle.af_session.specs.Rounds as parties
 use Rattle.af_session.specs.Together.{AreTogether, SessionState}
+use Rattle.af_told_law.proofs.Basics.{own_join, own_met}
+use Rattle.af_turn_law.proofs.Basics.{tame_met}
 use Rattle.af_turn_law.proofs.MixedHome.{mixed_home}
 use Rattle.af_render_law.specs.Laws.{ToldBy}
 use Rattle.af_told_law.specs.Deeds.{Deeds, MetTold, SawOwnBy, SawOwnOf, deeds_met, done_on, met_deed, stream_by, tame_marks}
 use Rattle.af_told_law.specs.Own.{SawOwn, SeesOwn}
 use Rattle.af_told_law.specs.Tells.{Tells, TellsServer, held_slot}
-use Rattle.af_told_law.proofs.AllMeet.{met_histories, some_at, tame_before, tells_met}
+use Rattle.af_told_law.proofs.AllMeet.{met_histories, tells_met}
 use Rattle.af_told_law.proofs.EndsTold.{ends_told}
 use Rattle.af_told_law.proofs.SlotHeld.{found_carries}
-use Rattle.af_told_law.proofs.TameRuns.{lawful_before}
 
 -- ## Lists
-
--- if each front of two parts of a list is the server's own, so is each of the list
-own_join : (k : Shape) (kept : ServerKept) (xs ys : List ServerEvent) → AllSeeOwn k kept xs → AllSeeOwn k (fold (server_keeps k) kept xs) ys → AllSeeOwn k kept (xs ++ ys)
-own_join k kept [] ys a b = b
-own_join k kept (x ∷ xs) ys a b = (a.0, own_join k (server_keeps k kept x) xs ys a.1 b)
 
 -- a proxy that did this saw its own fronts by its list
 own_list : (b : BlockTold) (deed : List ServerEvent) (t : ServerState) → TellsServer (done_on b deed) t → SawOwn t → SawOwnOf b.shape deed
 own_list b deed t told saw = subst (λ (y : Shape × List ServerEvent). SawOwnOf y.0 y.1) (λ j. (told.shape j, told.events j)) saw
-
--- a meeting sees no front
-own_met : (b : BlockTold) (deed : List ServerEvent) → SawOwnOf b.shape deed → SawOwnOf b.shape (met_deed b deed)
-own_met b deed saw = own_join b.shape (server_begins b.shape) deed (server.Learn (length (client_list b)) ∷ []) saw (tt, tt)
 
 -- ## After a turn, whose meetings show what their servers saw
 
@@ -123,8 +117,8 @@ saw_met s run d h = record { streams = streams; commands = commands }
     inside i low = let n = met_many s run in omega (arith, low, n)
 
     by_part : (part there : Bool) (b : BlockTold) (deed : List ServerEvent) → (is_tame b ≡ true → SawOwnOf b.shape deed) → is_tame (stream_met part there b) ≡ true → SawOwnOf (stream_met part there b).shape (if part then met_deed b deed else deed)
-    by_part true true b deed saw tame = own_met b deed (saw (tame_before true true b tame))
-    by_part true false b deed saw tame = own_met b deed (saw (tame_before true false b tame))
+    by_part true true b deed saw tame = own_met b deed (saw (tame_met true true b tame))
+    by_part true false b deed saw tame = own_met b deed (saw (tame_met true false b tame))
     by_part false true b deed saw tame = saw tame
     by_part false false b deed saw tame = saw tame
 
@@ -169,7 +163,7 @@ saw_calls run d i round h = record { streams = streams; commands = commands }
     inside n low = let many = each_long change 0 run.tracks in omega (arith, low, many)
 
     side : (b : BlockTold) (deed : List ServerEvent) (with : Side) → (is_tame b ≡ true → SawOwnOf b.shape deed) → is_tame (with_side with b) ≡ true → SawOwnOf (with_side with b).shape deed
-    side b deed with saw now = saw (lawful_before (client_list b) (drop (length (client_list b)) with.events) (sym (ap is_lawful (client-client b.told (drop (length (client_list b)) with.events))) ∙ now))
+    side b deed with saw now = saw (lawful_first (client_list b) (drop (length (client_list b)) with.events) (sym (ap is_lawful (client-client b.told (drop (length (client_list b)) with.events))) ∙ now))
 
     stream_by_track : (own : Bool) (t : TrackTold) (deed : List ServerEvent) → (is_tame t.stream ≡ true → SawOwnOf t.stream.shape deed) → is_tame (if own then called (calls_in round i) t else t).stream ≡ true → SawOwnOf (if own then called (calls_in round i) t else t).stream.shape deed
     stream_by_track true t deed saw = side t.stream deed (after_calls (sides_of t) (calls_in round i)).stream saw

@@ -2,6 +2,7 @@
 use Rattle.std.proofs.Common.{◌≡◌, ℕ, ◌<◌, ◌==◌, Bool, true, false, if◌then◌else◌, fold, List, [], ◌∷◌, length, refl, sym, ap, ◌∙◌, subst, arith, eqb-true, ◌≤◌}
 use Rattle.std.specs.Prelude.{slice_index_or}
 use Rattle.af_base.specs.Turn.{Turn}
+use Rattle.af_judge.proofs.Basics.{each_long, told_each}
 use Rattle.af_life.specs.Heard.{learnt}
 use Rattle.af_life.specs.TurnEvents.{tracks_at, stream_list}
 use Rattle.af_model.specs.JournalForm.{TracksRise}
@@ -13,7 +14,6 @@ use Rattle.af_runs.specs.Found.{LegalTurnBy, outside_of}
 use Rattle.af_runs.specs.Runs.{Run, TrackTold, no_track, told_at, each_from, each_track, called, calls_in, sides_of, state_for, mixed_track, turned_track, track_met, with_poll, with_mix, with_turn, with_load, with_ends, found_before, met, takes_part}
 use Rattle.af_runs.specs.Sessions.{Session, track_count, setup_of}
 use Rattle.af_runs.specs.TurnRuns.{cycle_alone, calls_alone, LegalAlone}
-use Rattle.af_judge.proofs.EachTrack.{each_long, told_each}
 use Rattle.af_turn_law.specs.Acting.{ActsWhereMet}
 use Rattle.af_turn_law.proofs.RunBlocks.{part_at, PlaysParts, alone_pushed, holds_played}
 use Rattle.af_turn_law.proofs.RunPolls.{AllFind, same_current}

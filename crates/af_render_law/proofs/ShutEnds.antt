@@ -1,27 +1,18 @@
 -- A track that a turn finds shut has ended after its part of the turn.
 use Rattle.std.proofs.Common.{◌≡◌, ℕ, zero, suc, ◌==◌, ◌&&◌, ◌||◌, not, Bool, true, false, true≢false, MatchBool, if◌then◌else◌, is_some, List, [], ◌∷◌, length, Option, refl, sym, ap, ◌∙◌, arith, eqb-true}
 use Rattle.std.specs.List.{list_any}
-use Rattle.af_base.specs.declared.seen.Seen.{Seen}
+use Rattle.af_base.proofs.Basics.{no}
 use Rattle.af_base.specs.declared.seen.Seen.TheVariants as seen
 use Rattle.af_base.specs.declared.turn.CommandLook.{CommandLook}
 use Rattle.af_base.specs.Turn.{TrackSeen}
+use Rattle.af_judge.proofs.Basics.{report_ends}
 use Rattle.af_life.specs.declared.kept.Heard.{Heard}
 use Rattle.af_life.specs.declared.kept.TrackKept.{TrackKept}
-use Rattle.af_life.specs.declared.track.Known.{Known}
-use Rattle.af_life.specs.declared.track.Life.{Life}
 use Rattle.af_life.specs.Obeys.{shows_command, is_shut, ended, after_look, goes_on, after_looks, are_due}
 use Rattle.af_life.specs.Reports.{by_report}
 use Rattle.af_life.specs.Serves.{most_looks, is_found_shut, IsServed, after_commands, after_part}
 use Rattle.af_judge.proofs.SoundLives.{grew_report}
-use Rattle.af_audit.proofs.Booleans.{no}
-
--- a look that finds the block shut shows no command
-shut_shows : (answer : Seen) → is_shut answer ≡ true → shows_command answer ≡ false
-shut_shows (seen.Shut front rear) h = refl
-shut_shows seen.Absent h = no h
-shut_shows seen.Empty h = no h
-shut_shows (seen.Frames count) h = no h
-shut_shows (seen.Flushed dropped) h = no h
+use Rattle.af_runs.proofs.Basics.{shut_shows}
 
 ends_by : (command shut : Bool) (obeyed s : TrackKept) → command ≡ false → shut ≡ true → (if command then obeyed else if shut then ended s else s).life.ended ≡ true
 ends_by true shut obeyed s f g = absurd (true≢false f)
@@ -66,14 +57,6 @@ module _ (given : Option ℕ) (flush_seen : ℕ) where
       by_shut : (b : Bool) → is_shut look.seen ≡ b → (b || list_any (λ (look : CommandLook). is_shut look.seen) looks) ≡ true → Ends n looks t → (if goes_on look t then after_looks given flush_seen looks t else t).life.ended ≡ true
       by_shut true is any rest = stops (goes_on look t) (ap (λ b. b && not (is_some t.awaits)) (shut_shows look.seen is)) is
       by_shut false is any rest = later (goes_on look t) due any rest
-
-report_ends : (known : Known) (l : Life) → known.shut ≡ true → (by_report known l).ended ≡ true
-unfolding by_report
-report_ends known l shut = by_shut known.shut _ shut
-  where
-    by_shut : (b : Bool) (other : Life) → b ≡ true → (if b then (record l { ended = true; member = false }) else other).ended ≡ true
-    by_shut true other is = refl
-    by_shut false other is = no is
 
 pub found_ends : (given : Option ℕ) (h : Heard) (seen : TrackSeen) (s : TrackKept) → IsServed given h seen s → is_found_shut h seen.looks ≡ true → (after_part given h seen.looks s).life.ended ≡ true
 unfolding after_part

@@ -1,6 +1,7 @@
 -- Of a track that a turn of the normal mixer finds shut as its stream proxy comes home, the client has not seen INVALID: the hand knew the proxy's list when it last met the client, and INVALID isn't in it.
 use Rattle.std.proofs.Common.{◌≡◌, ◌≢◌, ◌⊎◌, inl, inr, ℕ, zero, suc, ◌<◌, ◌≤◌, ◌||◌, ◌&&◌, ◌==◌, Bool, true, false, true≢false, is_some, List, [], ◌∷◌, length, slice_get, Option, Some, None, refl, sym, ap, subst, ◌∙◌, arith}
 use Rattle.std.specs.List.{list_any, range_with_len}
+use Rattle.af_base.proofs.Basics.{neither, some_at}
 use Rattle.af_base.specs.declared.event.HandEvent.{HandEvent}
 use Rattle.af_base.specs.declared.event.ServerEvent.{ServerEvent}
 use Rattle.af_base.specs.Log.{slots}
@@ -28,13 +29,11 @@ use Rattle.af_runs.specs.Runs.{Run, takes_part, told_at}
 use Rattle.af_runs.specs.Sessions.{Session, setup_of}
 use Rattle.af_engine.specs.Met.{item_at}
 use Rattle.af_session.specs.Together.{AreTogether, SessionState}
-use Rattle.af_audit.proofs.Booleans.{neither}
 use Rattle.af_judge.proofs.SoundTurns.{sound_acked}
 use Rattle.af_turn_law.specs.Acting.{FindsShutUnseen, SawNoInvalid}
 use Rattle.af_render_law.specs.Aware.{KnowsAway}
 use Rattle.af_told_law.specs.Comers.{ComersTell}
 use Rattle.af_told_law.specs.Tells.{Tells, held_slot}
-use Rattle.af_told_law.proofs.AllMeet.{some_at}
 use Rattle.af_render_law.proofs.InvalidKept.{InvalidKept, away_unset}
 use Rattle.af_told_law.proofs.LegalAlike.{invalid_same}
 use Rattle.af_render_law.proofs.NoInvalid.{HandSetNoInvalid, SetNoInvalid, set_first, unseen}

@@ -1,6 +1,7 @@
 -- What a track's part of a turn makes of a track that isn't there yet or has a slot.
-use Rattle.std.proofs.Common.{◌≡◌, ◌⊎◌, inl, inr, ℕ, ◌&&◌, Bool, true, false, true≢false, if◌then◌else◌, is_some, List, [], ◌∷◌, Option, refl, sym, ap, ◌∙◌}
+use Rattle.std.proofs.Common.{◌≡◌, ◌⊎◌, inl, inr, ℕ, Bool, true, false, if◌then◌else◌, is_some, List, [], ◌∷◌, Option, refl, sym, ap, ◌∙◌}
 use Rattle.std.specs.List.{AllByRecursion}
+use Rattle.af_base.proofs.Basics.{no, none_and}
 use Rattle.af_base.specs.declared.report.SlotReport.{SlotReport}
 use Rattle.af_base.specs.declared.turn.CommandLook.{CommandLook}
 use Rattle.af_life.specs.declared.kept.Heard.{Heard}
@@ -14,7 +15,6 @@ use Rattle.af_life.specs.Obeys.{slot_for, opens, told, must_wait, shows_command,
 use Rattle.af_life.specs.Reports.{Case, reports, first_effect as report_effect, by_report}
 use Rattle.af_life.specs.Serves.{after_part, served}
 use Rattle.af_judge.proofs.SoundLives.{is_absent, Grew, grew_command, grew_report, opened}
-use Rattle.af_audit.proofs.Booleans.{no}
 
 -- a life that isn't there yet isn't in the mix
 abbrev pub IsOut : Life → Type 0
@@ -46,13 +46,9 @@ command_out : (code argument : ℕ) (l : Life) → IsOut l → IsOut (by_command
 unfolding by_command
 command_out code argument l h = either_out l.ended l (command_effect commands code argument l) h (by_row commands code argument l h (no, (no, (no, (no, (no, (no, (no, (h, tt)))))))))
 
-and_false : (a b : Bool) → a ≡ false → (a && b) ≡ false
-and_false true b h = absurd (true≢false h)
-and_false false b h = refl
-
 report_out : (known : Known) (l : Life) → IsOut l → IsOut (by_report known l)
 unfolding by_report
-report_out known l h = by_case reports known l h ((λ a. refl), ((λ a. refl), (no, (h, (no, (no, (no, ((λ a. and_false l.member _ (h a)), (h, ((λ a. refl), (h, tt)))))))))))
+report_out known l h = by_case reports known l h ((λ a. refl), ((λ a. refl), (no, (h, (no, (no, (no, ((λ a. none_and l.member _ (h a)), (h, ((λ a. refl), (h, tt)))))))))))
 
 -- ## A track's part of the turn
 

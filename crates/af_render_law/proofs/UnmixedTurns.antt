@@ -6,9 +6,11 @@ use Rattle.std.proofs.lemmas.Bool.{cases_eq}
 use Rattle.std.proofs.lemmas.Grind.{get_or-set_at}
 use Rattle.std.proofs.lemmas.List.{get_or-set_other}
 use Rattle.std.proofs.lemmas.List.Elements.{All-nil, All-head, All-tail, filter_passes}
+use Rattle.af_base.proofs.Basics.{never_true, no}
 use Rattle.af_base.specs.declared.event.ServerEvent.TheVariants as server
 use Rattle.af_base.specs.declared.state.FastState.{FastState}
 use Rattle.af_base.specs.Turn.{Turn, TakeSeen, TrackSeen}
+use Rattle.af_judge.proofs.Basics.{push_tracks}
 use Rattle.af_life.specs.declared.kept.Holder.TheVariants.{Home}
 use Rattle.af_life.specs.declared.kept.TrackKept.{TrackKept}
 use Rattle.af_life.specs.declared.track.Life.{Life}
@@ -22,8 +24,6 @@ use Rattle.af_life.specs.Turn.{after_tracks, after_edits, turn_after}
 use Rattle.af_life.specs.TurnEvents.{tracks_at, invalid, takes_from}
 use Rattle.af_life.proofs.Lives.{acked_len, not_yet, served_len}
 use Rattle.af_judge.proofs.SoundLives.{is_absent}
-use Rattle.af_judge.proofs.TurnEdits.{push_tracks}
-use Rattle.af_audit.proofs.Booleans.{never_true, no}
 use Rattle.af_render_law.proofs.ShutEnds.{found_ends}
 use Rattle.af_render_law.proofs.Unmixed.{IsOut, IsUnmixed, Unmixed, Moves, moves_served}
 

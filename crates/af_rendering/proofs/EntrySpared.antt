@@ -1,16 +1,16 @@
 -- An entry of the fast mixer spares a track if the proxies that the mixer holds for it are not shut after the entry.
-use Rattle.std.proofs.Common.{◌≡◌, ◌≢◌, ⊎_elim, ℕ, zero, suc, ◌+◌, ◌<◌, ◌==◌, ◌&&◌, not, Bool, true, false, true≢false, if◌then◌else◌, List, [], ◌∷◌, ◌++◌, slice_get, replicate, Option, Some, None, refl, sym, ap, subst, ◌∙◌, eqb-true, arith}
-use Rattle.std.specs.Prelude.{slice_index_or}
+use Rattle.std.proofs.Common.{◌≡◌, ◌≢◌, ⊎_elim, ℕ, zero, suc, ◌+◌, ◌<◌, ◌==◌, ◌&&◌, not, Bool, true, false, true≢false, if◌then◌else◌, List, [], ◌∷◌, ◌++◌, slice_get, Option, Some, None, refl, sym, ap, subst, ◌∙◌, eqb-true, arith}
 use Rattle.std.specs.List.{flat_map, range_with_len}
 use Rattle.std.proofs.lemmas.Bool.{cases_eq}
 use Rattle.std.proofs.lemmas.List.Concat.{flat_map-cons}
 use Rattle.std.proofs.lemmas.List.Folds.{list_all-append}
 use Rattle.std.proofs.lemmas.Option.{none-some, same_Some}
+use Rattle.af_base.proofs.Basics.{both_true}
 use Rattle.af_base.specs.declared.event.ServerEvent.{ServerEvent}
 use Rattle.af_base.specs.declared.log.CycleEntry.{CycleEntry}
 use Rattle.af_base.specs.declared.log.SlotEntry.{SlotEntry}
 use Rattle.af_base.specs.declared.state.FastState.{FastState}
-use Rattle.af_base.specs.Log.{absent, entry_slot, slots}
+use Rattle.af_base.specs.Log.{entry_slot, slots}
 use Rattle.af_cblk.specs.Sides.{Made, server_made}
 use Rattle.af_fast.specs.Mixer.{IsInOrder, MixerState}
 use Rattle.af_fast.specs.Mixing.{AddsCycle}
@@ -18,11 +18,12 @@ use Rattle.af_fast.specs.Slots.{SlotPlayed}
 use Rattle.af_life.specs.Obeys.{is_shut}
 use Rattle.af_link.specs.Names.{IsStreamOf}
 use Rattle.af_link.specs.declared.names.StreamNames.{StreamNames}
-use Rattle.af_model.proofs.Logic.{both_are}
+use Rattle.af_model.proofs.Basics.{kept_more}
 use Rattle.af_model.specs.Cycles.{cycle_events, is_mixed, state_of}
 use Rattle.af_model.specs.ServerCalls.{ServerKept, server_kept}
 use Rattle.af_model.specs.StateQueue.{carries, slot_of}
 use Rattle.af_model.specs.declared.shape.Shape.{Shape}
+use Rattle.af_runs.proofs.Basics.{absent_at}
 use Rattle.af_server.specs.Order.{ServerState, server_kept_of}
 use Rattle.af_server.specs.Slot.{listed}
 use Rattle.af_stateq.specs.Laws.{polled_states}
@@ -32,7 +33,7 @@ use Rattle.af_stateq.specs.Observes.{Observes}
 use Rattle.af_stateq.specs.Ends.{Polls}
 use Rattle.af_rendering.specs.Hostile.{none_shut}
 use Rattle.af_tally.specs.Summaries.{entry_looks, looks_by, slot_looks}
-use Rattle.af_rendering.proofs.OpenLooks.{kept_more, open_cycle}
+use Rattle.af_rendering.proofs.OpenLooks.{open_cycle}
 
 -- ## The looks of an entry
 
@@ -42,7 +43,7 @@ module _ (i : ℕ) (entry : CycleEntry) (x : FastState) where
   one_slot k fine = by_mask (carries x k) refl
     where
       by_track : (b : Bool) → ((slot_of x k).track == i) ≡ b → carries x k ≡ true → (not (b && is_shut (entry_slot entry k).seen) && true) ≡ true
-      by_track true is on = both_are (not (is_shut (entry_slot entry k).seen)) true (ap not (fine on (eqb-true (slot_of x k).track i is))) refl
+      by_track true is on = both_true (not (is_shut (entry_slot entry k).seen)) true (ap not (fine on (eqb-true (slot_of x k).track i is))) refl
       by_track false is on = refl
 
       by_mask : (b : Bool) → carries x k ≡ b → none_shut i (if b then record { track = (slot_of x k).track; seen = (entry_slot entry k).seen } ∷ [] else []) ≡ true
@@ -54,7 +55,7 @@ module _ (i : ℕ) (entry : CycleEntry) (x : FastState) where
   all_slots a (suc n) fine =
       ap (none_shut i) (flat_map-cons (slot_looks entry x) a (range_with_len (a + 1) n))
       ∙ list_all-append _ (slot_looks entry x a) (flat_map (slot_looks entry x) (range_with_len (a + 1) n))
-      ∙ both_are (none_shut i (slot_looks entry x a)) _ (one_slot a (fine a (omega arith)))
+      ∙ both_true (none_shut i (slot_looks entry x a)) _ (one_slot a (fine a (omega arith)))
       (all_slots (a + 1) n (λ k lt. fine k (omega (arith, lt))))
 
   pub looks_spared : ((k : ℕ) → k < slots → carries x k ≡ true → (slot_of x k).track ≡ i → is_shut (entry_slot entry k).seen ≡ false) → none_shut i (looks_by entry (Some x)) ≡ true
@@ -66,11 +67,6 @@ unfolding looks_by
 no_looks i entry = refl
 
 -- ## A cycle
-
-absent_at : (n k : ℕ) → slice_index_or (replicate n absent) k absent ≡ absent
-absent_at zero k = refl
-absent_at (suc n) zero = refl
-absent_at (suc n) (suc k) = absent_at n k
 
 -- the proxies held for the track are not shut
 abbrev pub AreUnshut : ℕ → MixerState → Type 0

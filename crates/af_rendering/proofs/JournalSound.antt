@@ -1,11 +1,11 @@
 -- The form and the sound of the journal of a run.
-use Rattle.std.proofs.Common.{◌≡◌, ℕ, suc, All, List, [], ◌∷◌, ◌++◌, length, map, take, drop, refl, sym, ap, subst, ◌∙◌, arith}
-use Rattle.std.proofs.lemmas.List.{length-drop, take-append-drop}
+use Rattle.std.proofs.Common.{◌≡◌, ℕ, All, List, [], ◌∷◌, length, map, take, drop, refl, sym, ap, subst, ◌∙◌}
 use Rattle.std.proofs.lemmas.List.Elements.{All-cons, All-head, All-nil, All-tail}
 use Rattle.af_base.specs.declared.frame.Frame.{Frame}
 use Rattle.af_base.specs.declared.log.CycleEntry.{CycleEntry}
 use Rattle.af_base.specs.Log.{Logged}
 use Rattle.af_base.specs.Sample.{IsFrame}
+use Rattle.af_model.proofs.Basics.{all_dealt, same_length}
 use Rattle.af_model.specs.Journals.{EntrySeen, RoundNoted, RoundsNoted, cycles_of, entries_of, entries_seen, frames_of, journal_of, rounds_seen, taken_by}
 use Rattle.af_model.specs.JournalForm.{AreEntries, IsJournal, IsRound, IsWhole}
 use Rattle.af_model.specs.Numbers.{HasRanges}
@@ -17,17 +17,6 @@ use Rattle.af_rendering.proofs.RoundForms.{AreNoted, IsNoted}
 pub same_entries : (frames : List Frame) (entries : List CycleEntry) → map (λ (x : EntrySeen). x.entry) (entries_seen frames entries) ≡ entries
 same_entries frames [] = refl
 same_entries frames (e ∷ es) = ap (λ (l : List CycleEntry). e ∷ l) (same_entries (drop (taken_by e) frames) es)
-
-pub same_length : (frames : List Frame) (entries : List CycleEntry) → length (entries_seen frames entries) ≡ length entries
-same_length frames [] = refl
-same_length frames (e ∷ es) = ap suc (same_length (drop (taken_by e) frames) es)
-
--- all entries are dealt out if the rounds have as many
-all_dealt : (entries : List EntrySeen) (rounds : List RoundNoted) → cycles_of rounds ≡ length entries → entries_of (rounds_seen entries rounds) ≡ entries
-all_dealt [] [] same = refl
-all_dealt (e ∷ es) [] same = absurd (omega arith)
-all_dealt entries (r ∷ rs) same = let left = length-drop r.cycles entries in
-    ap (λ (l : List EntrySeen). take r.cycles entries ++ l) (all_dealt (drop r.cycles entries) rs (omega arith)) ∙ take-append-drop r.cycles entries
 
 -- the entries of the journal are those of the log
 pub dealt : (noted : RoundsNoted) (log : Logged) → cycles_of noted.rounds ≡ length log.entries → entries_of (journal_of noted log).rounds ≡ entries_seen log.frames log.entries

@@ -1,7 +1,8 @@
 -- Which tracks the slots of states lead to, through a turn of the normal mixer: each leads to a track whose proxy isn't home.
-use Rattle.std.proofs.Common.{◌≡◌, ◌≢◌, ℕ, zero, suc, ◌<◌, ◌≤◌, ◌&&◌, ◌⊎◌, not, Bool, true, false, true≢false, if◌then◌else◌, List, [], ◌∷◌, length, map, refl, sym, ap, subst, ◌∙◌, ⊎_elim, arith}
+use Rattle.std.proofs.Common.{◌≡◌, ◌≢◌, ℕ, zero, suc, ◌<◌, ◌≤◌, ◌&&◌, ◌⊎◌, not, Bool, true, false, true≢false, if◌then◌else◌, List, length, map, refl, sym, ap, subst, ◌∙◌, ⊎_elim, arith}
 use Rattle.std.specs.Prelude.{All, slice_set}
 use Rattle.std.proofs.lemmas.Bool.{cases_eq}
+use Rattle.af_base.proofs.Basics.{no}
 use Rattle.af_base.specs.declared.state.Command.{Command}
 use Rattle.af_base.specs.declared.state.FastState.{FastState}
 use Rattle.af_base.specs.declared.state.FastTrack.{FastTrack}
@@ -10,6 +11,7 @@ use Rattle.af_base.specs.declared.state.Push.TheVariants.{Busy, Clean, Pushed}
 use Rattle.af_base.specs.Log.{slots}
 use Rattle.af_base.specs.Turn.{Turn}
 use Rattle.af_fast.specs.Mixer.{CarriesNone}
+use Rattle.af_life.proofs.Basics.{at_here, at_set, lent_away, welcomed_at}
 use Rattle.af_life.specs.declared.kept.Heard.{Heard}
 use Rattle.af_life.specs.declared.kept.Holder.{Holder}
 use Rattle.af_life.specs.declared.kept.Holder.TheVariants.{Home, Lent, Returning}
@@ -24,15 +26,13 @@ use Rattle.af_life.proofs.Lives.{acked_len, served_len}
 use Rattle.af_model.specs.Draft.{detached}
 use Rattle.af_model.specs.StateQueue.{carries, slot_of}
 use Rattle.af_normal.proofs.OrderDone.{stays_all}
-use Rattle.af_normal.proofs.OrderEdits.{at_here, comer_inside, comer_slot, leaver_slot, lent_away}
+use Rattle.af_normal.proofs.OrderEdits.{comer_inside, comer_slot, leaver_slot}
 use Rattle.af_normal.proofs.OrderServed.{StaysPut, stay_put}
-use Rattle.af_normal.proofs.OrderSlots.{at_set, sound_served}
+use Rattle.af_normal.proofs.OrderSlots.{sound_served}
 use Rattle.af_normal.proofs.OrderSound.{Sound, sound_acked, sound_edits}
+use Rattle.af_runs.proofs.Basics.{stays_out}
 use Rattle.af_stateq.proofs.Bits.{attached_else, detached_else, detached_here, slot_else, slot_here}
 use Rattle.af_rendering.specs.Leads.{LeadAway, LeadLent, Leads}
-
-no : {A : Type 0} → false ≡ true → A
-no h = absurd (true≢false (sym h))
 
 -- the track of a slot of a state
 abbrev led : FastState → ℕ → ℕ
@@ -48,16 +48,6 @@ module _ (tracks now : List TrackKept) (put : (j : ℕ) → StaysPut (track_at t
   lent_put x h k lt on = let old = h k lt on in let p = put (led x k) in (ap is_lent p.0 ∙ old.0, ap number_of (p.1 (lent_away (track_at tracks (led x k)).holder old.0)) ∙ old.1)
 
 -- ## What comes home
-
-welcomed_at : (last : FastState) (tracks : List TrackKept) (i : ℕ) → track_at (map (welcomed last) tracks) i ≡ welcomed last (track_at tracks i)
-unfolding welcomed
-welcomed_at last [] i = refl
-welcomed_at last (s ∷ tracks) zero = refl
-welcomed_at last (s ∷ tracks) (suc i) = welcomed_at last tracks i
-
-stays_welcomed : (last : FastState) (s : TrackKept) → comes_home last s ≡ false → welcomed last s ≡ s
-unfolding welcomed
-stays_welcomed last s e = ap (λ (b : Bool). if b then record s { holder = Home } else s) e
 
 carried_stays : (last : FastState) (s : TrackKept) → carries last (slot_number s) ≡ true → comes_home last s ≡ false
 carried_stays last s on = by_returning (is_returning s.holder) (carries last (slot_number s)) on
@@ -81,14 +71,14 @@ module _ (last : FastState) (tracks : List TrackKept) where
   away_acked h k lt on =
       let old = h k lt on in
       let s : TrackKept = track_at tracks (led last k) in
-      let same : track_at (map (welcomed last) tracks) (led last k) ≡ s = welcomed_at last tracks (led last k) ∙ stays_welcomed last s (carried_stays last s (ap (carries last) old.1 ∙ on)) in
+      let same : track_at (map (welcomed last) tracks) (led last k) ≡ s = welcomed_at last tracks (led last k) ∙ stays_out last s (carried_stays last s (ap (carries last) old.1 ∙ on)) in
       (ap (λ (t : TrackKept). is_home t.holder) same ∙ old.0, ap slot_number same ∙ old.1)
 
   lent_acked : (x : FastState) → LeadLent x tracks → LeadLent x (map (welcomed last) tracks)
   lent_acked x h k lt on =
       let old = h k lt on in
       let s : TrackKept = track_at tracks (led x k) in
-      let same : track_at (map (welcomed last) tracks) (led x k) ≡ s = welcomed_at last tracks (led x k) ∙ stays_welcomed last s (lent_stays last s old.0) in
+      let same : track_at (map (welcomed last) tracks) (led x k) ≡ s = welcomed_at last tracks (led x k) ∙ stays_out last s (lent_stays last s old.0) in
       (ap (λ (t : TrackKept). is_lent t.holder) same ∙ old.0, ap slot_number same ∙ old.1)
 
 -- the observer's state is the last one, or carries nothing yet

@@ -1,3 +1,4 @@
+pub mod Basics
 pub mod Quiet
 pub mod RunMore
 pub mod Outgoing

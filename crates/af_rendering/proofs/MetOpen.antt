@@ -9,6 +9,7 @@ use Rattle.af_cblk.specs.Parts.{server_did}
 use Rattle.af_cblk.specs.Sides.{HandSide, Made, client_made}
 use Rattle.af_client.proofs.Kept.{kept-more}
 use Rattle.af_client.specs.Order.{ClientState, client_kept_of}
+use Rattle.af_model.proofs.Basics.{kept_more}
 use Rattle.af_model.proofs.Counts.{lawful_before, lawful_more}
 use Rattle.af_model.specs.ClientCalls.{ClientKept}
 use Rattle.af_model.specs.History.{is_lawful}
@@ -20,7 +21,6 @@ use Rattle.af_session.specs.Met.{Met, TrackMet}
 use Rattle.af_party.specs.Parties.{PartyState}
 use Rattle.af_session.specs.Rounds.{end_party, with_ends}
 use Rattle.af_session.specs.Together.{SessionState}
-use Rattle.af_rendering.proofs.OpenLooks.{kept_more}
 
 -- ## Clients
 

@@ -1,5 +1,5 @@
 -- A round that is noted: what its noting needs, and what is left if memory runs out.
-use Rattle.std.proofs.Common.{◌≡◌, ℕ, ◌+◌, ◌<◌, ◌≤◌, ◌^◌, List, length, Some, Result, Ok, Err, IsErrAnd, IsErrOf, sym, subst, ◌∙◌, inr, arith}
+use Rattle.std.proofs.Common.{◌≡◌, ℕ, ◌+◌, ◌<◌, ◌≤◌, ◌^◌, List, length, Some, Result, Ok, Err, IsErrAnd, sym, subst, ◌∙◌, inr, arith}
 use Rattle.std.proofs.lemmas.List.{take_all}
 use Rattle.af_io.specs.Causes.{HasCause}
 use Rattle.af_io.specs.Files.{Files, SetsFile, LeavesFront}
@@ -7,6 +7,7 @@ use Rattle.af_io.specs.declared.store.StoreError.{StoreError}
 use Rattle.af_io.specs.declared.store.StoreError.TheVariants as store
 use Rattle.af_link.specs.declared.links.Links.{Links}
 use Rattle.af_model.specs.Journals.{RoundNoted}
+use Rattle.af_rendering.proofs.Basics.{no_fault, other_error}
 use Rattle.af_script.specs.Form.{IsTurn}
 use Rattle.af_script.specs.declared.op.TurnSpec.{TurnSpec}
 use Rattle.af_session.specs.Rounds.{Given, IsReady, IsRound, round_told}
@@ -44,12 +45,6 @@ module _ (links : Links) (g : Given) (n m : ℕ) (s t : SessionState) (ready : I
 -- if all that is to go out is in a file, the file holds a front of it
 pub left_whole : (base new : Files) (name whole : List ℕ) → SetsFile base name (Some whole) new → LeavesFront base name whole new
 left_whole base new name whole set = inr (length whole, subst (λ (xs : List ℕ). SetsFile base name (Some xs) new) (sym (take_all (length whole) whole (omega arith))) set)
-
-other_error : IsErrOf {T = Unit {0}} {E = StoreError} (Err store.Memory) store.Failed → ⊥
-other_error h = let e : ⊥ = cc in e
-
-no_fault : (x : Unit {0}) → IsErrOf {T = Unit {0}} {E = StoreError} (Ok x) store.Failed → ⊥
-no_fault x h = let e : ⊥ = cc in e
 
 by_memory : (e : StoreError) (before now : ℕ) (x : Unit {0}) → e ≡ store.Memory → HasCause {T = Unit {0}} before now (Ok x) → HasCause {T = Unit {0}} before now (Err e)
 by_memory e before now x is cause = subst (λ (y : StoreError). HasCause {T = Unit {0}} before now (Err y)) (sym is)

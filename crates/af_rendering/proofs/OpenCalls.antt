@@ -1,10 +1,12 @@
 -- A client that was never shut answered no Corrupt, and one that poked nothing stays lawful.
 use Rattle.std.proofs.Common.{◌≡◌, ℕ, ◌-◌, ◌<◌, not, Bool, true, false, true≢false, if◌then◌else◌, is_some, fold, MatchBool, MatchOption, List, [], ◌∷◌, Option, Some, None, refl, sym, ap, ◌∙◌}
 use Rattle.std.proofs.lemmas.Option.{none-some}
+use Rattle.af_base.proofs.Basics.{both_true}
 use Rattle.af_base.specs.declared.event.ClientCall.{ClientCall}
 use Rattle.af_base.specs.declared.event.ClientCall.TheVariants as call
 use Rattle.af_base.specs.declared.event.ClientEvent.{ClientEvent}
-use Rattle.af_model.proofs.Logic.{both_are, both_left, both_right, outside-some}
+use Rattle.af_model.proofs.Basics.{both_first, not_true}
+use Rattle.af_model.proofs.Logic.{both_right, outside-some}
 use Rattle.af_model.specs.ClientCalls.{ClientAnswers, ClientKept, client_call_events, client_keeps, client_kept, filled_by}
 use Rattle.af_model.specs.History.{is_lawful}
 use Rattle.af_model.specs.Point.{wrapped}
@@ -86,7 +88,7 @@ open_calls left t [] are fine = (fine, refl)
 open_calls left t (answer ∷ calls) are fine =
     let rest = open_calls (left - 1) (after_call t answer) calls are.4 fine in
     let one = open_made t are.1 answer are.3 rest.0 in
-    (one.0, both_are (not (is_corrupt answer)) (none_corrupt calls) (ap not one.1) rest.1)
+    (one.0, both_true (not (is_corrupt answer)) (none_corrupt calls) (ap not one.1) rest.1)
 
 pub open_turn : (t : Track) (calls : List ClientCall) → LegalClientTurn t calls → AreOpen (after_calls t calls) → none_corrupt calls ≡ true
 open_turn t calls legal fine = by_ended t.client.ended legal
@@ -117,14 +119,10 @@ module _ (t : Track) (answer : ClientCall) (calm : is_poke answer ≡ false) whe
   tame_by true tame = (tame.0, lawful_call t.commands.shape.frames t.commands.shape.base t.commands.events answer (calm_call answer calm) tame.1)
   tame_by false tame = (lawful_call t.stream.shape.frames t.stream.shape.base t.stream.events answer (calm_call answer calm) tame.0, tame.1)
 
-false_by : (b : Bool) → not b ≡ true → b ≡ false
-false_by true e = sym e
-false_by false e = refl
-
 tame_calls : (t : Track) (calls : List ClientCall) → has_no_poke calls ≡ true → AreTame t → AreTame (fold after_call t calls)
 tame_calls t [] calm tame = tame
 tame_calls t (answer ∷ calls) calm tame =
-    let calm_one : is_poke answer ≡ false = false_by (is_poke answer) (both_left (not (is_poke answer)) (has_no_poke calls) calm) in
+    let calm_one : is_poke answer ≡ false = not_true (is_poke answer) (both_first (not (is_poke answer)) (has_no_poke calls) calm) in
     let one : AreTame (with_call t answer) = tame_by t answer calm_one (is_of_commands answer) tame in
     tame_calls (after_call t answer) calls (both_right (not (is_poke answer)) (has_no_poke calls) calm) (one.0, one.1)
 

@@ -3,6 +3,7 @@ use Rattle.std.proofs.Common.{◌≡◌, ℕ, ◌-◌, ◌==◌, not, nat_lt, Bo
 use Rattle.std.specs.List.{list_all}
 use Rattle.std.proofs.lemmas.Grind.{fold-append}
 use Rattle.std.proofs.lemmas.Option.{none-some}
+use Rattle.af_base.proofs.Basics.{both_true}
 use Rattle.af_base.specs.declared.event.ServerEvent.{ServerEvent}
 use Rattle.af_base.specs.declared.event.ServerEvent.TheVariants as server
 use Rattle.af_base.specs.declared.log.SlotEntry.{SlotEntry}
@@ -11,15 +12,11 @@ use Rattle.af_base.specs.declared.seen.Seen.TheVariants as seen
 use Rattle.af_base.specs.declared.turn.CommandLook.{CommandLook}
 use Rattle.af_life.specs.Looks.{LegalLooks, all_command_events, as_slot, command_events, did, takes_command}
 use Rattle.af_life.specs.Obeys.{is_shut, shows_command}
-use Rattle.af_model.proofs.Logic.{both_are}
+use Rattle.af_model.proofs.Basics.{kept_more}
 use Rattle.af_model.specs.Cycles.{Listed, LooksBy, after_look, cycle_events, kept, tally}
 use Rattle.af_model.specs.Room.{ahead, outside}
-use Rattle.af_model.specs.ServerCalls.{ServerKept, is_noticed, look_at, look_events, server_begins, server_keeps, server_kept}
+use Rattle.af_model.specs.ServerCalls.{ServerKept, is_noticed, look_at, look_events, server_keeps, server_kept}
 use Rattle.af_model.specs.declared.shape.Shape.{Shape}
-
--- what a list says, after further events
-pub kept_more : (k : Shape) (es more : List ServerEvent) → server_kept k (es ++ more) ≡ fold (server_keeps k) (server_kept k es) more
-kept_more k es more = fold-append (server_keeps k) (server_begins k) es more
 
 -- ## One look
 
@@ -134,4 +131,4 @@ open_commands s (look ∷ looks) (front ∷ fronts) legal fine =
     let after = open_commands (did s events) looks fronts legal.2 (subst (λ (es : List ServerEvent). (server_kept s.shape es).shut ≡ None) (sym (append_assoc s.events events rest)) fine) in
     let here : shut_after s.shape (kept s) events ≡ None = sym (ap (λ (x : ServerKept). x.shut) (kept_more s.shape s.events events)) ∙ after.0 in
     let one = open_look 2 s (as_slot look) front legal.0 [] (takes_command look) (λ k. refl) (stay_taken s.shape look) (λ k. refl) here in
-    (one.0, both_are (not (is_shut look.seen)) (list_all (λ (l : CommandLook). not (is_shut l.seen)) looks) (ap not one.1) after.1)
+    (one.0, both_true (not (is_shut look.seen)) (list_all (λ (l : CommandLook). not (is_shut l.seen)) looks) (ap not one.1) after.1)

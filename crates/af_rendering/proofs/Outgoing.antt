@@ -5,6 +5,7 @@ use Rattle.af_io.specs.Files.{Files, SetsFile, LeavesFront, AppendsTo}
 use Rattle.af_io.specs.declared.store.StoreError.{StoreError}
 use Rattle.af_io.specs.declared.store.StoreError.TheVariants as store
 use Rattle.af_io.proofs.Steps.{SetsFile-adds, AddsFront-append, LeavesFront-added}
+use Rattle.af_rendering.proofs.Basics.{no_fault, not_failed, other_error}
 
 -- ## Pieces
 
@@ -28,9 +29,6 @@ nothing_sent base new name out (x ∷ xs) none set = absurd (omega arith)
 same_count : (a b : ℕ) → a ≤ b → (a < b → ⊥) → a ≡ b
 same_count a b le never = omega (arith, le, never)
 
-pub no_fault : (x : Unit {0}) → IsErrOf {T = Unit {0}} {E = StoreError} (Ok x) store.Failed → ⊥
-no_fault x h = let e : ⊥ = cc in e
-
 -- a call that answered Ok left the count of faults
 pub stays_at : (before now : ℕ) (x : Unit {0}) → HasCause {T = Unit {0}} before now (Ok x) → before ≡ now
 stays_at before now x cause = same_count before now cause.later (λ rose. no_fault x (cause.only rose))
@@ -41,9 +39,6 @@ then_cause before mid now x r first next = subst (λ (n : ℕ). HasCause n now r
 
 -- ## Causes in a render
 
-pub other_error : IsErrOf {T = Unit {0}} {E = StoreError} (Err store.Memory) store.Failed → ⊥
-other_error h = let e : ⊥ = cc in e
-
 no_failed : {T : Type 0} → IsErrOf {T = T} {E = StoreError} (Err store.Memory) store.Failed → ⊥
 no_failed {T} h = let e : ⊥ = cc in e
 
@@ -53,9 +48,6 @@ calm_memory (Ok x) n is = absurd is
 calm_memory {T} (Err e) n is =
     subst (λ (x : StoreError). HasCause {T = T} n n (Err x)) (sym is)
     (record { later = omega arith; failed = (λ h. absurd (no_failed {T = T} h)); only = (λ lt. absurd (omega (arith, lt))) })
-
-not_failed : {T : Type 0} (x : T) → IsErrOf {T = T} {E = StoreError} (Ok x) store.Failed → ⊥
-not_failed {T} x h = let e : ⊥ = cc in e
 
 -- a render that went well has the cause of a call that went well
 pub calm_ok : {T : Type 0} (played : T) (x : Unit {0}) (before now : ℕ) → HasCause {T = Unit {0}} before now (Ok x) → HasCause {T = T} before now (Ok played)

@@ -1,6 +1,7 @@
 -- A mixer whose draft says Exit does no more: its turns change no track, and once it pushed the Exit they push nothing.
 use Rattle.std.proofs.Common.{◌≡◌, ℕ, zero, suc, ◌==◌, Bool, true, false, if◌then◌else◌, sym, refl, ap, subst, ◌∙◌, List, length}
 use Rattle.std.specs.List.{AllByRecursion}
+use Rattle.af_base.proofs.Basics.{no}
 use Rattle.af_base.specs.declared.state.Command.{Command}
 use Rattle.af_base.specs.declared.state.Command.TheVariants.{Exit}
 use Rattle.af_base.specs.declared.state.Push.{Push}
@@ -13,7 +14,7 @@ use Rattle.af_life.specs.Heard.{learnt}
 use Rattle.af_life.specs.Edits.{after_ack, is_exit, must_leave, must_enter, let_go, lend, edited, edited_to, next_command, ordered, mutated, after_push, LegalPush}
 use Rattle.af_life.specs.Plays.{after_takes}
 use Rattle.af_life.specs.Turn.{after_tracks, after_edits, turn_after, GoesOn, LegalTurn}
-use Rattle.af_audit.proofs.DoneTracks.{IsDone, exit_when_over, no, ordered_over, quiet_edits, takes_done}
+use Rattle.af_audit.proofs.DoneTracks.{IsDone, exit_when_over, ordered_over, quiet_edits, takes_done}
 
 -- a draft that says Exit has only tracks that are done with, and after a push of an Exit there is nothing to push
 pub record IsQuiet (m : NormalKept) : Type 0 where

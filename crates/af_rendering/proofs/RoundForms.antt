@@ -11,6 +11,7 @@ use Rattle.af_base.specs.Turn.{Turn}
 use Rattle.af_life.specs.Turn.{LegalTurn}
 use Rattle.af_life.proofs.TurnForms.{turn_form}
 use Rattle.af_link.specs.declared.links.Links.{Links}
+use Rattle.af_model.proofs.Basics.{cycles_more}
 use Rattle.af_model.specs.Journals.{RoundNoted, RoundsNoted, cycles_of}
 use Rattle.af_model.specs.JournalForm.{IsTurn}
 use Rattle.af_model.proofs.EntriesMore.{AreWhole, none_whole}
@@ -98,10 +99,6 @@ noted_none tracks log entries frames = record {
   count = ap length (sym entries);
   form = (λ samples. subst (λ (x : List Frame × List CycleEntry). AreWhole 0 x.0 x.1) (λ k. (sym frames k, sym entries k)) (none_whole 0));
 }
-
-cycles_more : (rounds : List RoundNoted) (r : RoundNoted) → cycles_of (rounds ++ r ∷ []) ≡ cycles_of rounds + r.cycles
-cycles_more [] r = omega arith
-cycles_more (x ∷ xs) r = let more = cycles_more xs r in omega arith
 
 -- one more round was noted
 pub noted_more : (s : SessionState) (r : RoundNoted) (noted : RoundsNoted) (log : Logged) → AreNoted (length s.clients) noted s.fast.log → Notes s r log → NotesFrames r → length s.normal.tracks ≡ length s.clients

@@ -1,13 +1,14 @@
 -- What is noted of a round is what the parties before it and after it show.
-use Rattle.std.proofs.Common.{◌≡◌, ℕ, ◌-◌, ◌<◌, Bool, true, false, if◌then◌else◌, MatchBool, List, [], length, map, option_map, slice_get, get_or, Option, Some, None, refl, sym, ap, ◌∙◌, arith}
+use Rattle.std.proofs.Common.{◌≡◌, ℕ, ◌-◌, ◌<◌, Bool, true, false, if◌then◌else◌, MatchBool, List, [], length, map, slice_get, get_or, Some, refl, sym, ap, ◌∙◌, arith}
 use Rattle.std.proofs.lemmas.List.{length-map, length-set}
 use Rattle.std.proofs.lemmas.Option.{slice_get-get_or, slice_get-map, slice_get_within}
+use Rattle.af_base.proofs.Basics.{get_set_same}
 use Rattle.af_base.specs.Log.{Logged}
 use Rattle.af_base.specs.Turn.{Turn, turn_of}
 use Rattle.af_model.specs.Journals.{RoundNoted}
-use Rattle.af_normal.proofs.LegalLists.{get_set_same}
 use Rattle.af_script.specs.declared.op.TurnSpec.{TurnSpec}
 use Rattle.af_script.specs.declared.op.TurnSpec.TheVariants as spec
+use Rattle.af_session.proofs.Basics.{calls_end}
 use Rattle.af_session.specs.FastTurns.{IsFastTurn}
 use Rattle.af_party.specs.Parties.{PartyState}
 use Rattle.af_session.specs.Rounds.{Given, IsRound, NormalTurned, calls_in, client_round, end_party, fast_round, normal_round, round_told, still_round}
@@ -26,10 +27,6 @@ normal_ended m false = refl
 long_ended : (m : SessionState) (ended : Bool) → length (if ended then record m { clients = map end_party m.clients } else m).clients ≡ length m.clients
 long_ended m true = length-map m.clients end_party
 long_ended m false = refl
-
-calls_end : (o : Option PartyState) → calls_in (option_map end_party o) ≡ calls_in o
-calls_end None = refl
-calls_end (Some p) = refl
 
 calls_ended : (m : SessionState) (i : ℕ) (ended : Bool) → calls_in (slice_get (if ended then record m { clients = map end_party m.clients } else m).clients i) ≡ calls_in (slice_get m.clients i)
 calls_ended m i true = ap calls_in (slice_get-map end_party m.clients i) ∙ calls_end (slice_get m.clients i)

@@ -3,6 +3,7 @@ use Rattle.std.proofs.Common.{◌≡◌, ℕ, zero, suc, ◌<◌, ◌==◌, ◌|
 use Rattle.std.specs.List.{list_all}
 use Rattle.std.proofs.lemmas.List.Folds.{list_all-append}
 use Rattle.std.proofs.lemmas.Option.{none-some, same_Some}
+use Rattle.af_base.proofs.Basics.{both_true}
 use Rattle.af_base.specs.declared.log.Cycle.{Cycle}
 use Rattle.af_base.specs.declared.log.CycleEntry.{CycleEntry}
 use Rattle.af_base.specs.declared.state.FastState.{FastState}
@@ -12,7 +13,6 @@ use Rattle.af_fast.specs.Mixer.{IsInOrder, MixerState, is_over}
 use Rattle.af_fast.specs.Mixing.{AddsCycle, Writes}
 use Rattle.af_life.specs.Kept.{NormalKept}
 use Rattle.af_link.specs.declared.names.StreamNames.{StreamNames}
-use Rattle.af_model.proofs.Logic.{both_are}
 use Rattle.af_model.specs.Cycles.{is_mixed}
 use Rattle.af_model.specs.declared.plain_calls.Poll.{Poll}
 use Rattle.af_model.specs.declared.plain_calls.Poll.TheVariants.{Nothing, Same, New}
@@ -315,7 +315,7 @@ module _ (kept : NormalKept) (s next : SessionState) (answer : Cycle) (bytes : L
       spares_more old first =
           ap (list_all (is_spared_in_entry i)) (entries_more first)
           ∙ list_all-append (is_spared_in_entry i) (entries_at first s.fast) (record { entry = adds.0; state = next.fast.observer.current } ∷ [])
-          ∙ both_are (list_all (is_spared_in_entry i) (entries_at first s.fast)) _ (old first) (both_are (is_spared_in_entry i (record { entry = adds.0; state = next.fast.observer.current })) true spares_one refl)
+          ∙ both_true (list_all (is_spared_in_entry i) (entries_at first s.fast)) _ (old first) (both_true (is_spared_in_entry i (record { entry = adds.0; state = next.fast.observer.current })) true spares_one refl)
 
       unshut_polled : (q : PartyState) → slice_get met.clients i ≡ Some q → AreUnshut i w.cycle.polled
       unshut_polled q is = unshut_met polled met cycle.meets i q is (unshut_before met.fast next.fast adds.0 adds.2 cycle.order.1 cycle.order.2 goes.names (names_met ∙ key_same ∙ goes.key) i unshut)

@@ -3,14 +3,15 @@ use Rattle.std.proofs.Common.{◌≡◌, ◌≢◌, ℕ, ◌+◌, ◌<◌, ◌�
 use Rattle.std.specs.List.{list_all}
 use Rattle.std.proofs.lemmas.Bool.{and_from, and_parts, cases_eq, eqb-true}
 use Rattle.std.proofs.lemmas.Option.{none-some, same_Some, slice_get_within}
+use Rattle.af_base.proofs.Basics.{get_set_other, get_set_same}
 use Rattle.af_base.specs.declared.event.ClientCall.{ClientCall}
 use Rattle.af_base.specs.declared.state.FastState.{FastState}
 use Rattle.af_base.specs.Log.{slots}
 use Rattle.af_base.specs.Turn.{Turn}
 use Rattle.af_cblk.specs.Sides.{HandSide, Made, client_made}
-use Rattle.af_client.proofs.Kept.{lawful_first}
 use Rattle.af_client.specs.Order.{ClientState}
 use Rattle.af_fast.specs.Mixer.{IsInOrder, MixerState}
+use Rattle.af_model.proofs.Basics.{lawful_first}
 use Rattle.af_runs.specs.ClientTurns.{Track, after_call, after_calls, called, is_of_commands, released_by}
 use Rattle.af_life.specs.Kept.{NormalKept, is_home, slot_number, track_at}
 use Rattle.af_link.specs.declared.links.Links.{Links}
@@ -23,7 +24,6 @@ use Rattle.af_model.specs.StateQueue.{HasHistory, carries, observed, slot_of}
 use Rattle.af_normal.specs.Meeting.{MeetsStream}
 use Rattle.af_normal.specs.Mixing.{stream_at}
 use Rattle.af_normal.specs.State.{NormalState, kept_of}
-use Rattle.af_normal.proofs.LegalLists.{get_set_same, get_set_other}
 use Rattle.af_script.specs.declared.op.TurnSpec.{TurnSpec}
 use Rattle.af_script.specs.declared.op.TurnSpec.TheVariants as spec
 use Rattle.af_server.specs.Order.{IsInOrder as IsServerInOrder, ServerState, server_kept_of}

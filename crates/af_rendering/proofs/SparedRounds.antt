@@ -6,23 +6,24 @@ use Rattle.std.proofs.lemmas.Bool.{cases_eq}
 use Rattle.std.proofs.lemmas.List.{get_or-set_same, get_or-set_other, length-replicate, map-append}
 use Rattle.std.proofs.lemmas.List.Folds.{list_all-append}
 use Rattle.std.proofs.lemmas.Option.{same_Some, slice_get-get_or, slice_get_cases, slice_get_within}
+use Rattle.af_base.proofs.Basics.{both_true, get_set_other, get_set_same}
 use Rattle.af_base.specs.declared.event.ClientCall.{ClientCall}
 use Rattle.af_base.specs.declared.frame.Frame.{Frame}
 use Rattle.af_base.specs.declared.log.Cycle.{Cycle}
 use Rattle.af_base.specs.Turn.{Turn}
 use Rattle.af_cblk.specs.Sides.{client_made}
 use Rattle.af_client.specs.Order.{ClientState, IsInOrder as IsClientInOrder, client_kept_of}
+use Rattle.af_model.proofs.Basics.{both_first}
 use Rattle.af_runs.specs.ClientTurns.{after_calls}
 use Rattle.af_life.specs.declared.kept.TrackKept.{TrackKept}
 use Rattle.af_life.specs.Kept.{is_home, track_at}
 use Rattle.af_link.specs.declared.links.Links.{Links}
-use Rattle.af_model.proofs.Logic.{both_are, both_left, both_right}
+use Rattle.af_model.proofs.Logic.{both_right}
 use Rattle.af_model.specs.Cycles.{is_mixed}
 use Rattle.af_model.specs.History.{is_lawful}
 use Rattle.af_model.specs.Journals.{RoundNoted}
 use Rattle.af_normal.specs.Mixing.{stream_at}
 use Rattle.af_normal.specs.State.{NormalState}
-use Rattle.af_normal.proofs.LegalLists.{get_set_same, get_set_other}
 use Rattle.af_script.specs.declared.op.TurnSpec.{TurnSpec}
 use Rattle.af_script.specs.declared.op.TurnSpec.TheVariants as spec
 use Rattle.af_server.specs.Order.{IsInOrder as IsServerInOrder, ServerState, server_kept_of}
@@ -63,7 +64,7 @@ module _ (rounds : List RoundNoted) (r : RoundNoted) where
   apart i calm = sym (list_all-append _ (all_calls rounds i) (calls_in_round r i)) ∙ sym (ap has_no_poke (more_calls i)) ∙ calm
 
   calm_before : (i : ℕ) → has_no_poke (all_calls (rounds ++ r ∷ []) i) ≡ true → has_no_poke (all_calls rounds i) ≡ true
-  calm_before i calm = both_left (has_no_poke (all_calls rounds i)) (has_no_poke (calls_in_round r i)) (apart i calm)
+  calm_before i calm = both_first (has_no_poke (all_calls rounds i)) (has_no_poke (calls_in_round r i)) (apart i calm)
 
   calm_here : (i : ℕ) → has_no_poke (all_calls (rounds ++ r ∷ []) i) ≡ true → has_no_poke (calls_in_round r i) ≡ true
   calm_here i calm = both_right (has_no_poke (all_calls rounds i)) (has_no_poke (calls_in_round r i)) (apart i calm)
@@ -78,8 +79,8 @@ module _ (rounds : List RoundNoted) (r : RoundNoted) where
         let was = round.tame i q is in
         let old = before.spared i lt (calm_before i calm) in
         let new = round.spared i was.0 q was.1 is (before.tame i was.0 was.1 (calm_before i calm)) (still_tame i q is calm) in (
-          ap none_corrupt (more_calls i) ∙ list_all-append _ (all_calls rounds i) (calls_in_round r i) ∙ both_are (none_corrupt (all_calls rounds i)) _ old.0 new.0,
-          ap (list_all (is_spared_in_turn i)) more_turns ∙ list_all-append (is_spared_in_turn i) (all_turns rounds) (turn_in r.turn) ∙ both_are (list_all (is_spared_in_turn i) (all_turns rounds)) _ old.1 new.1,
+          ap none_corrupt (more_calls i) ∙ list_all-append _ (all_calls rounds i) (calls_in_round r i) ∙ both_true (none_corrupt (all_calls rounds i)) _ old.0 new.0,
+          ap (list_all (is_spared_in_turn i)) more_turns ∙ list_all-append (is_spared_in_turn i) (all_turns rounds) (turn_in r.turn) ∙ both_true (list_all (is_spared_in_turn i) (all_turns rounds)) _ old.1 new.1,
         )
 
     -- the tracks are spared so far after one round more
@@ -314,7 +315,7 @@ module _ (links : Links) (g : Given) (n : ℕ) (s : SessionState) (before : IsRe
                   let inside : i < length s.normal.commands = omega (arith, lt, before.together.normal.tied.sizes.commands_are) in
                   let first : ServerState = get_or s.normal.commands i command.0 in
                   let spares = turn_spares links s.normal turned.normal before.together.normal one.outside one.legal i lt first command.0 (slice_get-get_or s.normal.commands i command.0 inside) command.1 command.2 stream in
-                  both_are (is_spared_in_turn i e) true (ap (is_spared_in_turn i) one.told ∙ spares) refl),
+                  both_true (is_spared_in_turn i e) true (ap (is_spared_in_turn i) one.told ∙ spares) refl),
             ));
           })
 

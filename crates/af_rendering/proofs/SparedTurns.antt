@@ -4,6 +4,7 @@ use Rattle.std.specs.List.{AllByRecursion, flat_map, list_all}
 use Rattle.std.proofs.lemmas.Grind.{fold-append}
 use Rattle.std.proofs.lemmas.List.Concat.{flat_map-cons}
 use Rattle.std.proofs.lemmas.Option.{same_Some}
+use Rattle.af_base.proofs.Basics.{both_true}
 use Rattle.af_base.specs.declared.event.ServerEvent.{ServerEvent}
 use Rattle.af_base.specs.declared.event.ServerEvent.TheVariants as server
 use Rattle.af_base.specs.declared.state.Push.{Push}
@@ -19,7 +20,8 @@ use Rattle.af_life.specs.Obeys.{is_shut}
 use Rattle.af_life.specs.Plays.{LegalTake, after_take, after_takes, is_mixed_here}
 use Rattle.af_life.specs.Turn.{GoesOn, after_edits, after_tracks, turn_after}
 use Rattle.af_life.specs.TurnEvents.{command_events_of, command_list, going, invalid, mix_events, status_events, stream_list, takes_from, tracks_at}
-use Rattle.af_model.proofs.Logic.{both_are, both_left, both_right}
+use Rattle.af_model.proofs.Basics.{both_first, kept_more, not_true}
+use Rattle.af_model.proofs.Logic.{both_right}
 use Rattle.af_model.specs.Cycles.{Listed, LooksBy, cycle_events, kept}
 use Rattle.af_model.specs.ServerCalls.{ServerKept, server_keeps, server_kept}
 use Rattle.af_model.specs.declared.shape.Shape.{Shape}
@@ -41,11 +43,7 @@ use Rattle.af_server.specs.Slot.{listed}
 use Rattle.af_rendering.specs.Hostile.{is_spared_in_turn, none_shut}
 use Rattle.af_tally.specs.Summaries.{take_look, turn_looks}
 use Rattle.af_rendering.proofs.OneTake.{one_take, taken_is_due}
-use Rattle.af_rendering.proofs.OpenLooks.{kept_more, open_commands, open_cycle, shut_after}
-
-false_of : (b : Bool) → not b ≡ true → b ≡ false
-false_of true e = sym e
-false_of false e = refl
+use Rattle.af_rendering.proofs.OpenLooks.{open_commands, open_cycle, shut_after}
 
 -- ## The command block
 
@@ -85,9 +83,9 @@ module _ (c : Setup) (o : Outside) (m : NormalKept) (e : Turn) (goes : GoesOn c 
 -- the takes of one track, among those of a turn
 module _ (i : ℕ) (t : TakeSeen) (taken : List TakeSeen) (others : Bool) (rest : list_all (λ (x : TakeSeen). not (is_shut x.slot.seen)) taken ≡ true → others ≡ true) where
   look_by : (b : Bool) → (t.track == i) ≡ b → list_all (λ (x : TakeSeen). not (is_shut x.slot.seen)) (if b then t ∷ taken else taken) ≡ true → (not ((t.track == i) && is_shut t.slot.seen) && others) ≡ true
-  look_by true is h = both_are (not ((t.track == i) && is_shut t.slot.seen)) others
-      (ap (λ (b : Bool). not (b && is_shut t.slot.seen)) is ∙ both_left (not (is_shut t.slot.seen)) _ h) (rest (both_right (not (is_shut t.slot.seen)) _ h))
-  look_by false is h = both_are (not ((t.track == i) && is_shut t.slot.seen)) others (ap (λ (b : Bool). not (b && is_shut t.slot.seen)) is) (rest h)
+  look_by true is h = both_true (not ((t.track == i) && is_shut t.slot.seen)) others
+      (ap (λ (b : Bool). not (b && is_shut t.slot.seen)) is ∙ both_first (not (is_shut t.slot.seen)) _ h) (rest (both_right (not (is_shut t.slot.seen)) _ h))
+  look_by false is h = both_true (not ((t.track == i) && is_shut t.slot.seen)) others (ap (λ (b : Bool). not (b && is_shut t.slot.seen)) is) (rest h)
 
 looks_from : (i : ℕ) (takes : List TakeSeen) → list_all (λ (t : TakeSeen). not (is_shut t.slot.seen)) (takes_from takes i) ≡ true → none_shut i (map take_look takes) ≡ true
 looks_from i [] all = refl
@@ -123,7 +121,7 @@ module _ (c : Setup) (o : Outside) (i : ℕ) (s : Listed) (is : o.streams i ≡ 
       let looks = legal.0.1.looks in
       let looks_here = subst (λ (x : ℕ × Listed). LooksBy (asked c) x.1 t.slot (o.stream_front x.0)) (λ j. (legal.0.0 j, (ap o.streams legal.0.0 ∙ is) j)) looks in
       let found = open_cycle (asked c) s t.slot (o.stream_front i) looks_here (sym whole ∙ fine) in
-      both_are (not (is_shut t.slot.seen)) true (ap not found.1) refl
+      both_true (not (is_shut t.slot.seen)) true (ap not found.1) refl
 
 keeps_flags : (shape : Shape) (b d : Bool) (k : ServerKept) → (shut_after shape k (if b then (if d then server.SetFlags 4 ∷ [] else []) else []) ≡ k.shut) × (fold (server_keeps shape) k (if b then (if d then server.SetFlags 4 ∷ [] else []) else []) ≡ k)
 keeps_flags shape true true k = (refl, refl)
@@ -219,7 +217,7 @@ module _ (links : Links) (x y : NormalState) (order : IsInOrder links x) (o : Ou
           let edited : NormalKept = after_edits c (learnt o) e m in
           let due : is_mixed_here (track_at edited.tracks i) ≡ true =
           taken_is_due (λ (j : ℕ). is_mixed_here (track_at edited.tracks j)) (length edited.tracks) i e.mixes (nat_le (asked c) e.room) goes.due (let many : length (takes_from e.mixes i) ≡ length (t ∷ ts) = ap length some in omega (arith, many)) in
-          let none : is_some (track_at edited.tracks i).slot ≡ false = false_of (is_some (track_at edited.tracks i).slot) (both_left (not (is_some (track_at edited.tracks i).slot)) _ due) in
+          let none : is_some (track_at edited.tracks i).slot ≡ false = not_true (is_some (track_at edited.tracks i).slot) (both_first (not (is_some (track_at edited.tracks i).slot)) _ due) in
           let homely : is_home (track_at edited.tracks i).holder ≡ true = (edits_sound.slotted i).homely none in
           ap (λ (ts : List TrackKept). is_home (track_at ts i).holder) (turned_tracks ended)
           ∙ ap is_home (stays_all (asked c) edited.draft e.mixes (after_push e.push edited).tracks i).0
@@ -229,7 +227,7 @@ module _ (links : Links) (x y : NormalState) (order : IsInOrder links x) (o : Ou
   -- the turn spares the track, if its command proxy isn't shut, nor its stream's if that is home
   pub turn_spares : (s t : ServerState) → slice_get x.commands i ≡ Some s → slice_get y.commands i ≡ Some t → (server_kept_of t.pass.part).shut ≡ None
       → (is_home (track_at y.tracks i).holder ≡ true → (u : ServerState) × (stream_at y.streams i ≡ Some u) × ((server_kept_of u.pass.part).shut ≡ None)) → is_spared_in_turn i e ≡ true
-  turn_spares s t was is fine home = both_are (list_all (λ (l : CommandLook). not (is_shut l.seen)) (track_in e i).looks) (none_shut i (turn_looks e)) (commands_spared s t was is fine) (by_takes (takes_from e.mixes i) refl)
+  turn_spares s t was is fine home = both_true (list_all (λ (l : CommandLook). not (is_shut l.seen)) (track_in e i).looks) (none_shut i (turn_looks e)) (commands_spared s t was is fine) (by_takes (takes_from e.mixes i) refl)
     where
       by_takes : (ts : List TakeSeen) → takes_from e.mixes i ≡ ts → none_shut i (turn_looks e) ≡ true
       by_takes [] none = looks_from i e.mixes (ap (list_all (λ (t : TakeSeen). not (is_shut t.slot.seen))) none)

@@ -1,3 +1,4 @@
+pub mod Basics
 mod Begun
 pub mod RunGrows
 pub mod RoundEntries

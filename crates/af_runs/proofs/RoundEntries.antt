@@ -1,49 +1,30 @@
 -- A round adds just its entries to a run, and its states to those pushed.
-use Rattle.std.specs.Prelude.{◌≡◌, ℕ, zero, suc, Bool, true, false, if◌then◌else◌, List, [], ◌∷◌, ◌++◌, map, take, drop, Option, Some, None, refl}
+use Rattle.std.specs.Prelude.{◌≡◌, ℕ, zero, suc, Bool, true, false, if◌then◌else◌, List, [], ◌∷◌, ◌++◌, map, take, drop, refl}
 use Rattle.std.proofs.Common.{sym, ap, ◌∙◌, append-nil, append_assoc}
 use Rattle.af_base.specs.declared.log.CycleEntry.{CycleEntry}
 use Rattle.af_base.specs.Turn.{Turn}
 use Rattle.af_model.specs.Journals.{EntrySeen, RoundSeen}
+use Rattle.af_runs.proofs.Basics.{calls-entries, cycle_entries, loaded-entries, met-entries, turned-entries}
 use Rattle.af_runs.specs.Found.{TurnFound}
-use Rattle.af_runs.specs.Rounds.{early_count, early_of, late_of, before_turn, after_turn, turned, found_in, all_played, loaded, after_round}
-use Rattle.af_runs.specs.Runs.{Run, with_calls, with_poll, with_mix, with_cycle, with_cycles, with_turn, with_load, with_ends, met}
+use Rattle.af_runs.specs.Rounds.{early_count, early_of, late_of, before_turn, after_turn, found_in, all_played, after_round}
+use Rattle.af_runs.specs.Runs.{Run, with_calls, with_cycle, with_cycles, with_turn, with_load, with_ends, met}
 use Rattle.af_runs.specs.Sessions.{Session}
 
 -- the entries of a round, without their frames
 abbrev pub bare : List EntrySeen → List CycleEntry
 bare es = map (λ e. e.entry) es
 
-calls-entries : (round : RoundSeen) (run : Run) → (with_calls round run).entries ≡ run.entries
-unfolding with_calls
-calls-entries round run = refl
-
-cycle-entries : (s : Session) (run : Run) (e : EntrySeen) → (with_cycle s run e).entries ≡ run.entries ++ e.entry ∷ []
-unfolding with_mix with_poll
-cycle-entries s run e = refl
-
 cycles-entries : (s : Session) (es : List EntrySeen) (run : Run) → (with_cycles s es run).entries ≡ run.entries ++ bare es
 cycles-entries s [] run = sym (append-nil run.entries)
-cycles-entries s (e ∷ es) run = cycles-entries s es (with_cycle s run e) ∙ (ap (λ xs. xs ++ bare es) (cycle-entries s run e) ∙ append_assoc run.entries (e.entry ∷ []) (bare es))
+cycles-entries s (e ∷ es) run = cycles-entries s es (with_cycle s run e) ∙ (ap (λ xs. xs ++ bare es) (cycle_entries s run e) ∙ append_assoc run.entries (e.entry ∷ []) (bare es))
 
 turn-entries : (s : Session) (found : TurnFound) (e : Turn) (run : Run) → (with_turn s found e run).entries ≡ run.entries
 unfolding with_turn
 turn-entries s found e run = refl
 
-turned-entries : (s : Session) (found : Turn → TurnFound) (o : Option Turn) (run : Run) → (turned s found o run).entries ≡ run.entries
-turned-entries s found None run = refl
-turned-entries s found (Some e) run = turn-entries s (found e) e run
-
 load-entries : (e : Turn) (run : Run) → (with_load e run).entries ≡ run.entries
 unfolding with_load
 load-entries e run = refl
-
-loaded-entries : (o : Option Turn) (run : Run) → (loaded o run).entries ≡ run.entries
-loaded-entries None run = refl
-loaded-entries (Some e) run = load-entries e run
-
-met-entries : (s : Session) (run : Run) → (met s run).entries ≡ run.entries
-unfolding met
-met-entries s run = refl
 
 -- one of two runs with the same entries
 either-entries : (b : Bool) (x y : Run) → x.entries ≡ y.entries → (if b then x else y).entries ≡ y.entries

@@ -1,8 +1,8 @@
 -- What the items of arrays are read as: the faults of their places in order, or what they mean.
-use Rattle.std.proofs.Common.{◌≡◌, ℕ, suc, ◌+◌, ◌==◌, ◌&&◌, nat_le, Bool, true, false, List, [], ◌∷◌, ◌++◌, length, map, Option, Some, None, Result, Ok, Err, refl, sym, ap, ◌∙◌, if◌then◌else◌, arith}
+use Rattle.std.proofs.Common.{◌≡◌, ℕ, suc, ◌+◌, ◌==◌, ◌&&◌, nat_le, Bool, true, false, List, [], ◌∷◌, ◌++◌, length, map, Option, Some, None, Result, Ok, Err, refl, sym, ap, ◌∙◌, if◌then◌else◌}
 use Rattle.std.specs.Prelude.{ok_or, option_and_then, is_some, unwrap_or}
 use Rattle.std.specs.List.{cons_option}
-use Rattle.std.proofs.lemmas.Bool.Decides.{nat_tests}
+use Rattle.af_base.proofs.Basics.{both, not_none}
 use Rattle.toml.specs.Data.{Data, Items, no_items, item, as_str}
 use Rattle.af_script.specs.Bounds.{most_ops, most_turns}
 use Rattle.af_script.specs.Ops.{or_else, op_of, op_at, may_stand, in_place, closed, turn_of, fast_cycles}
@@ -43,10 +43,6 @@ length-cons : {X : Type 0} (o : Option X) (xs : List X) (n : ℕ) → is_some o 
 length-cons None xs n some len = cc
 length-cons (Some x) xs n some len = ap suc len
 
-both : (a b : Bool) → (a && b) ≡ true → (a ≡ true) × (b ≡ true)
-both true b h = (refl, h)
-both false b h = cc
-
 -- as many of the type as there are items
 pub length-picked : {X : Type 0} (as_type : Data → Option X) (items : Items) → all_are as_type items ≡ true → length (picked as_type items) ≡ count_of items
 length-picked as_type no_items all = refl
@@ -83,9 +79,6 @@ turn-tied tracks i d text is =
 some_ops : (track frames : ℕ) (texts : List (List ℕ)) (n : ℕ) → length texts ≡ suc n → ops_places track frames texts ≡ each_place (op_place track frames (length texts)) 0 texts
 some_ops track frames [] n len = cc
 some_ops track frames (text ∷ rest) n len = refl
-
-not_none : (n : ℕ) → (suc n == 0) ≡ false
-not_none n = grind (arith, nat_tests)
 
 ops-counted : (track frames : ℕ) (d : Data) (rest : Items) → all_are as_str (item d rest) ≡ true → ops_in track frames (item d rest) ≡ judged (or_else (unless (nat_le (count_of (item d rest)) most_ops) (fault.Limit limit.Ops (count_of (item d rest)))) (first_of (each_place (op_place track frames (count_of (item d rest))) 0 (picked as_str (item d rest))))) (closed (map (op_meant frames) (picked as_str (item d rest))))
 ops-counted track frames d rest all =

@@ -1,5 +1,5 @@
 -- The forms of ops and turns that were read.
-use Rattle.std.proofs.Common.{◌≡◌, ℕ, suc, ◌+◌, ◌-◌, ◌==◌, ◌≤◌, ◌<◌, ◌&&◌, ◌++◌, not, nat_le, Bool, true, false, List, [], ◌∷◌, length, length-append, codes, Option, Some, None, Result, Ok, Err, refl, ap, subst, ◌∙◌, arith, if◌then◌else◌}
+use Rattle.std.proofs.Common.{◌≡◌, ℕ, ◌+◌, ◌-◌, ◌==◌, ◌≤◌, ◌<◌, ◌&&◌, ◌++◌, not, nat_le, Bool, true, false, List, [], ◌∷◌, length, length-append, codes, Option, Some, None, Result, Ok, Err, refl, ap, subst, ◌∙◌, arith, if◌then◌else◌}
 use Rattle.std.specs.Prelude.{All, IfSome, option_and_then}
 use Rattle.std.specs.Str.{bytes_eq}
 use Rattle.std.proofs.lemmas.Bool.Decides.{nat_tests}
@@ -97,9 +97,6 @@ if-cons false o xs ys = refl
 closed-cons : (o : Op) (ops : List Op) → is_remove o ≡ false → closed (o ∷ ops) ≡ o ∷ closed ops
 closed-cons o [] other = rw other refl
 closed-cons o (next ∷ rest) other = if-cons (ends_with_remove (next ∷ rest)) o (next ∷ rest) ((next ∷ rest) ++ Remove ∷ [])
-
-not_first : (i : ℕ) → (suc i == 0) ≡ false
-not_first i = grind (arith, nat_tests)
 
 last_alone : (i count : ℕ) (rest : List Op) → (not (i == 0) && (i + 1 == count)) ≡ true → i + 1 + length rest ≡ count → rest ≡ []
 last_alone i count [] stands len = refl

@@ -1,27 +1,23 @@
 -- The printed text of a script is read as that script.
-use Rattle.std.proofs.Common.{◌≡◌, ◌⊎◌, inl, inr, ℕ, zero, suc, ◌+◌, ◌-◌, ◌*◌, ◌^◌, ◌<◌, ◌≤◌, ◌==◌, ◌&&◌, not, nat_le, Bool, true, false, List, [], ◌∷◌, ◌++◌, length, take, flat_map, codes, decimal, pos, Option, Some, None, Result, Ok, Err, All, refl, sym, ap, ◌∙◌, subst, arith, if◌then◌else◌, IsUtf8, length-append}
+use Rattle.std.proofs.Common.{◌≡◌, ℕ, suc, ◌+◌, ◌-◌, ◌*◌, ◌≤◌, ◌==◌, ◌&&◌, nat_le, Bool, true, false, List, [], ◌∷◌, length, pos, Some, Result, Ok, All, refl, sym, ap, ◌∙◌, subst, arith}
 use Rattle.std.specs.Prelude.{ok_or, option_and_then}
 use Rattle.std.specs.Str.{is_utf8}
-use Rattle.std.proofs.lemmas.Bool.{cases_lt}
 use Rattle.std.proofs.lemmas.Bool.Decides.{nat_tests}
-use Rattle.std.proofs.lemmas.List.{take_all}
 use Rattle.std.proofs.lemmas.List.Elements.{All-head, All-tail, All-take}
-use Rattle.toml.specs.Data.{Data, string, integer, array, table, Items, no_items, item, Members, as_str, as_table}
-use Rattle.toml.specs.Parse.{parse_document}
+use Rattle.af_base.proofs.Basics.{is_within, positive_not_zero}
+use Rattle.toml.specs.Data.{string, Items, as_str, as_table}
 use Rattle.af_script.specs.Bounds.{most_version, most_frames, most_normal, most_cycles, most_product, most_tracks, most_buffer, most_base, unity_scale, most_ops, most_turns}
 use Rattle.af_script.specs.Text.{is_name}
-use Rattle.af_script.specs.Tree.{key_text, tree_of, count_of, all_are, array_of}
-use Rattle.af_script.specs.Ops.{op_of, op_at, in_place, may_stand, is_remove, ends_with_remove, closed, end_with_remove, are_whole, turn_of, fast_cycles}
+use Rattle.af_script.specs.Tree.{tree_of, count_of, all_are}
+use Rattle.af_script.specs.Ops.{in_place, may_stand, closed, fast_cycles}
 use Rattle.af_script.specs.Form.{HasOpNumbers, IsTrack, IsTurn, IsScript}
 use Rattle.af_script.specs.Data.{ScriptData}
 use Rattle.af_script.specs.Results.{◌>>=◌}
-use Rattle.af_script.specs.Reading.{in_range, fast_word, name_if, some_tables, top_numbers, track_items as tables_in, turn_items, shape_in, name_in, op_items, number_or, each_in, op_in, ops_in, track_in, track_item, turn_in, paid_turns, turns_in, parts_in, script_in, script_of}
-use Rattle.af_script.specs.Printing.{op_text, turn_text, kind_text, channels_of, written_ops, quoted, array_text, pair_line, number_line, text_line, source_text, use_text, track_text, top_text, printed_script}
+use Rattle.af_script.specs.Reading.{in_range, fast_word, top_numbers, track_items as tables_in, turn_items, shape_in, name_in, op_items, number_or, each_in, op_in, ops_in, track_in, track_item, turn_in, paid_turns, turns_in, parts_in, script_in, script_of}
+use Rattle.af_script.specs.Printing.{op_text, turn_text, kind_text, channels_of, written_ops, printed_script}
 use Rattle.af_script.specs.declared.op.Op.{Op}
-use Rattle.af_script.specs.declared.op.Op.TheVariants.{OpenTrack, Start, Pause, Stop, Flush, Drain, Remove, Yield, Gain, Write, Poke}
 use Rattle.af_script.specs.declared.op.TurnSpec.{TurnSpec}
 use Rattle.af_script.specs.declared.track.TrackSpec.{TrackSpec}
-use Rattle.af_script.specs.declared.script.TopNumbers.{TopNumbers}
 use Rattle.af_script.specs.declared.fault.ScriptFault.{ScriptFault}
 use Rattle.af_script.specs.declared.fault.ScriptFault.TheVariants as fault
 use Rattle.af_script.specs.declared.fault.KeyId.{KeyId}
@@ -91,18 +87,12 @@ ops-read track frames count i (op ∷ ops) all (here, more) =
     (op-read track frames count i op (All-head (HasOpNumbers frames) op ops all) here)
     (ops-read track frames count (i + 1) ops (All-tail (HasOpNumbers frames) op ops all) more)
 
-not_none : (n : ℕ) → 0 < n → (n == 0) ≡ false
-not_none n some = grind (arith, nat_tests)
-
-few_test : (n most : ℕ) → n ≤ most → nat_le n most ≡ true
-few_test n most few = grind (arith, nat_tests)
-
 written-read : (track frames : ℕ) (ops written : List Op) → All (HasOpNumbers frames) written → Stands ops written → ops_in track frames (text_items op_text written) ≡ Ok ops
 written-read track frames ops written all is =
     let items : Items = text_items op_text written in
     let count : count_of items ≡ length written = count-texts op_text written in
-    let e : (count_of items == 0) ≡ false = rw count (not_none (length written) is.some) in
-    let f : nat_le (count_of items) most_ops ≡ true = rw count (few_test (length written) most_ops is.few) in
+    let e : (count_of items == 0) ≡ false = rw count (positive_not_zero (length written) is.some) in
+    let f : nat_le (count_of items) most_ops ≡ true = rw count (is_within (length written) most_ops is.few) in
     let stand : StandFrom (count_of items) 0 written = subst (λ (n : ℕ). StandFrom n 0 written) (sym count) is.stand in
     let g : each_in (op_in track frames (count_of items)) 0 items ≡ Ok written = ops-read track frames (count_of items) 0 written all stand in
     rw (e, f) (step_is (each_in (op_in track frames (count_of items)) 0 items) written (λ os. Ok (closed os)) g ∙ ap Ok is.closes)
@@ -204,8 +194,8 @@ module _ (s : ScriptData) (is : IsScript s) where
       let count : count_of (track_items s.tracks) ≡ length s.tracks = count-tables s.tracks in
       let some : 1 ≤ length s.tracks = is.track_count.0 in
       let few : length s.tracks ≤ most_tracks = is.track_count.1 in
-      let f : nat_le 1 (count_of (track_items s.tracks)) ≡ true = rw count (few_test 1 (length s.tracks) some) in
-      let g : nat_le (count_of (track_items s.tracks)) most_tracks ≡ true = rw count (few_test (length s.tracks) most_tracks few) in
+      let f : nat_le 1 (count_of (track_items s.tracks)) ≡ true = rw count (is_within 1 (length s.tracks) some) in
+      let g : nat_le (count_of (track_items s.tracks)) most_tracks ≡ true = rw count (is_within (length s.tracks) most_tracks few) in
       rw (e, f, g) refl
 
   turn_texts-read : turn_items (script_tree s) ≡ Ok (text_items turn_text s.turns)
@@ -213,7 +203,7 @@ module _ (s : ScriptData) (is : IsScript s) where
 
   parts-read : parts_in (record { version = s.version; frames = s.frames; normal = s.normal; cycles = s.cycles }) (track_items s.tracks) (text_items turn_text s.turns) ≡ Ok s
   parts-read =
-      let e : nat_le (s.cycles * s.frames) most_product ≡ true = few_test (s.cycles * s.frames) most_product is.product in
+      let e : nat_le (s.cycles * s.frames) most_product ≡ true = is_within (s.cycles * s.frames) most_product is.product in
       rw e (step_is (each_in track_item 0 (track_items s.tracks)) s.tracks
       (λ tracks. turns_in (length tracks) s.cycles (text_items turn_text s.turns) >>= (λ turns.
       Ok (record { version = s.version; frames = s.frames; normal = s.normal; cycles = s.cycles; tracks = tracks; turns = turns }))) (tracks-read 0 s.tracks is.tracks)

@@ -2,6 +2,7 @@
 use Rattle.std.proofs.Common.{◌≡◌, ℕ, ◌+◌, ◌*◌, ◌≤◌, ◌<◌, ◌==◌, ◌&&◌, nat_le, Bool, true, false, List, length, Option, Some, None, Result, Ok, Err, refl, subst, arith, if◌then◌else◌}
 use Rattle.std.specs.Prelude.{All, IfSome, ok_or, option_and_then, pos}
 use Rattle.std.proofs.lemmas.Bool.Decides.{nat_tests}
+use Rattle.af_base.proofs.Basics.{within_is}
 use Rattle.toml.specs.Data.{Data, Items, Members, as_str, as_table}
 use Rattle.af_script.specs.Bounds.{most_version, most_frames, most_normal, most_cycles, most_product, most_tracks, most_buffer, most_base, unity_scale, most_turns}
 use Rattle.af_script.specs.Text.{is_name}
@@ -148,19 +149,16 @@ record AreRead (tracks : ℕ) (turns : List TurnSpec) : Type 0 where
   count : length turns ≤ most_turns
   each : All (IsTurn tracks) turns
 
-le_test : (a b : ℕ) → nat_le a b ≡ true → a ≤ b
-le_test a b e = grind (arith, nat_tests)
-
 turns-hold : (tracks cycles : ℕ) (items : Items) → 0 < tracks → Holds (AreTurns tracks cycles) (turns_in tracks cycles items)
 turns-hold tracks cycles items some =
     test_holds (AreTurns tracks cycles) (nat_le (count_of items) most_turns) (each_in (turn_in tracks) 0 items >>= paid_turns cycles) (fault.Limit limit.Turns (count_of items))
-    (λ few. let bound : count_of items ≤ most_turns = le_test (count_of items) most_turns few in
+    (λ few. let bound : count_of items ≤ most_turns = within_is (count_of items) most_turns few in
     then_holds (AreRead tracks) (AreTurns tracks cycles) (each_in (turn_in tracks) 0 items) (paid_turns cycles)
     (both-hold (λ (turns : List TurnSpec). length turns ≡ count_of items) (All (IsTurn tracks)) (AreRead tracks) (each_in (turn_in tracks) 0 items)
     (each-length (turn_in tracks) 0 items) (each-holds (IsTurn tracks) (turn_in tracks) (λ i d. turn_in-holds tracks i d some) 0 items)
     (λ turns len all. record { count = omega (arith, bound, len); each = all }))
     (λ turns h. test_holds (AreTurns tracks cycles) (nat_le (fast_cycles turns) cycles) (Ok turns) (fault.Limit limit.Asked (fast_cycles turns))
-    (λ paid. record { count = h.count; each = h.each; asked = le_test (fast_cycles turns) cycles paid })))
+    (λ paid. record { count = h.count; each = h.each; asked = within_is (fast_cycles turns) cycles paid })))
 
 -- the script
 pub script-keeps : (tree : Members) (top : TopNumbers) (tables texts : Items) (specs : List TrackSpec) (turns : List TurnSpec) → top_numbers tree ≡ Ok top → track_items tree ≡ Ok tables → each_in track_item 0 tables ≡ Ok specs → turns_in (length specs) top.cycles texts ≡ Ok turns → top.cycles * top.frames ≤ most_product

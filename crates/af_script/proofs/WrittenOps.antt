@@ -3,6 +3,7 @@ use Rattle.std.proofs.Common.{◌≡◌, ◌⊎◌, inl, inr, ℕ, zero, suc, �
 use Rattle.std.proofs.lemmas.Bool.{cases_lt}
 use Rattle.std.proofs.lemmas.Bool.Decides.{nat_tests}
 use Rattle.std.proofs.lemmas.List.{take_all, length-take-le}
+use Rattle.af_base.proofs.Basics.{positive_not_zero}
 use Rattle.af_script.specs.Bounds.{most_ops}
 use Rattle.af_script.specs.Ops.{may_stand, is_remove, ends_with_remove, closed, end_with_remove, are_whole}
 use Rattle.af_script.specs.Printing.{written_ops}
@@ -36,9 +37,6 @@ abbrev pub StandFrom : ℕ → ℕ → List Op → Type 0
 StandFrom count i [] = Unit {0}
 StandFrom count i (op ∷ ops) = (may_stand (i == 0) (i + 1 == count) op ≡ true) × StandFrom count (i + 1) ops
 
-later : (i : ℕ) → 0 < i → (i == 0) ≡ false
-later i some = grind (arith, nat_tests)
-
 same : (i count : ℕ) → i + 1 ≡ count → (i + 1 == count) ≡ true
 same i count e = grind (arith, nat_tests)
 
@@ -50,11 +48,11 @@ whole-stand count i (op ∷ ops) some len ends = by op ops len ends (kinds op) (
     by : (op : Op) (ops : List Op) → i + length (op ∷ ops) ≡ count → end_with_remove (op ∷ ops) ≡ true → Kinds op → (end_with_remove ops ≡ true → StandFrom count (i + 1) ops) → StandFrom count i (op ∷ ops)
     by op ops len ends (inl e) next = absurd (let wrong : false ≡ true = subst (λ (o : Op). end_with_remove (o ∷ ops) ≡ true) e ends in cc)
     by op [] len ends (inr (inl e)) next =
-        let f : may_stand (i == 0) (i + 1 == count) Remove ≡ true = rw (later i some, same i count (omega arith)) refl in
+        let f : may_stand (i == 0) (i + 1 == count) Remove ≡ true = rw (positive_not_zero i some, same i count (omega arith)) refl in
         (subst (λ (o : Op). may_stand (i == 0) (i + 1 == count) o ≡ true) (sym e) f, tt)
     by op (o ∷ ops) len ends (inr (inl e)) next = absurd (let wrong : false ≡ true = subst (λ (p : Op). end_with_remove (p ∷ o ∷ ops) ≡ true) e ends in cc)
     by op ops len ends (inr (inr k)) next =
-        (k.stands (i == 0) (i + 1 == count) ∙ ap not (later i some), next (sym (k.goes ops) ∙ ends))
+        (k.stands (i == 0) (i + 1 == count) ∙ ap not (positive_not_zero i some), next (sym (k.goes ops) ∙ ends))
 
 -- all but the last of such a list
 front-stand : (count i k : ℕ) (ops : List Op) → 0 < i → length ops ≡ suc k → end_with_remove ops ≡ true → StandFrom count i (take k ops)
@@ -67,7 +65,7 @@ front-stand count i (suc k) (op ∷ ops) some len ends = by op ops len ends (kin
     by op [] len ends (inr (inl e)) next = absurd (omega arith)
     by op (o ∷ ops) len ends (inr (inl e)) next = absurd (let wrong : false ≡ true = subst (λ (p : Op). end_with_remove (p ∷ o ∷ ops) ≡ true) e ends in cc)
     by op ops len ends (inr (inr k')) next =
-        (k'.stands (i == 0) (i + 1 == count) ∙ ap not (later i some), next (sym (k'.goes ops) ∙ ends))
+        (k'.stands (i == 0) (i + 1 == count) ∙ ap not (positive_not_zero i some), next (sym (k'.goes ops) ∙ ends))
 
 record Cut (ops front : List Op) : Type 0 where
   back : front ++ Remove ∷ [] ≡ ops

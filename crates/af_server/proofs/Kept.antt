@@ -1,10 +1,10 @@
 -- Lists that calls spell, and the values that they give.
-use Rattle.std.proofs.Common.{◌≡◌, Bool, true, false, if◌then◌else◌, ◌==◌, ◌/◌, ℕ, ◌+◌, ◌≤◌, min, arith, Option, Some, None, MatchOption, fold, List, [], ◌∷◌, ◌++◌, refl, sym, ap, ◌∙◌, subst, append_assoc}
+use Rattle.std.proofs.Common.{◌≡◌, Bool, true, false, if◌then◌else◌, ◌==◌, ◌/◌, ℕ, ◌+◌, ◌≤◌, min, arith, Option, Some, None, MatchOption, List, [], ◌∷◌, ◌++◌, refl, sym, ap, ◌∙◌, subst, append_assoc}
 use Rattle.std.proofs.Math.Nat.{zero-div}
-use Rattle.std.proofs.lemmas.Grind.{fold-append}
 use Rattle.af_base.specs.declared.event.ServerEvent.{ServerEvent}
 use Rattle.af_base.specs.declared.event.ServerEvent.TheVariants as server
-use Rattle.af_model.specs.ServerCalls.{ServerKept, server_keeps, server_begins, server_kept, IsServerList, flushes_by, begins, tallies, rests, meets}
+use Rattle.af_model.proofs.Basics.{kept_more}
+use Rattle.af_model.specs.ServerCalls.{ServerKept, server_keeps, IsServerList, flushes_by, begins, tallies, rests, meets}
 use Rattle.af_cblk.specs.declared.view.ServerPart.{ServerPart}
 use Rattle.af_model.specs.declared.shape.Shape.{Shape}
 use Rattle.af_cblk.specs.Parts.{server_did}
@@ -30,10 +30,6 @@ new_keeps k s front new =
     subst (λ (x : ServerPart). Keeps x 0 0 front None 0 None) (sym new) (
     record { spelled = begins; flush_is = refl; seen_is = refl; flushes_is = no_flushes k.wrap; settled = (λ _. refl); consumed_is = refl; shut_is = refl; ready = tt })
 
--- the values that a list gives, after further events
-pub kept-more : (shape : Shape) (es more : List ServerEvent) → server_kept shape (es ++ more) ≡ fold (server_keeps shape) (server_kept shape es) more
-kept-more shape es more = fold-append (server_keeps shape) (server_begins shape) es more
-
 -- the list goes on, and gives the kept values of before
 same_values : (s t : ServerPart) (flush flushes front : ℕ) (shown shown' : Option ℕ) (consumed : ℕ) (shut : Option (ℕ × ℕ)) → Keeps s flush flushes front shown consumed shut
     → server_kept_of t ≡ server_kept_of s → (t.flush ≡ s.flush) × (t.noticed ≡ s.noticed) × (t.shape ≡ s.shape) → IsServerList t.shape shown' t.events
@@ -54,7 +50,7 @@ same_values s t flush flushes front shown shown' consumed shut k now same list r
 quiet : (s : ServerPart) (flush flushes front : ℕ) (shown : Option ℕ) (consumed : ℕ) (shut : Option (ℕ × ℕ)) (e : ServerEvent) → Keeps s flush flushes front shown consumed shut
     → server_keeps s.shape (server_kept_of s) e ≡ server_kept_of s → IsServerList s.shape None (s.events ++ e ∷ []) → Keeps (server_did s e) flush flushes front None consumed shut
 quiet s flush flushes front shown consumed shut e k same list =
-    same_values s (server_did s e) flush flushes front shown None consumed shut k (kept-more s.shape s.events (e ∷ []) ∙ same) (refl, refl, refl) list tt
+    same_values s (server_did s e) flush flushes front shown None consumed shut k (kept_more s.shape s.events (e ∷ []) ∙ same) (refl, refl, refl) list tt
 
 -- a call with one such event, on a value that was opened
 pub word_keeps : (c i : ServerState) (pass : ServerSide) (e : ServerEvent) → IsInOrder c → server_keeps c.pass.part.shape (server_kept_of c.pass.part) e ≡ server_kept_of c.pass.part
@@ -74,7 +70,7 @@ tally_keeps c i mid pass missing k some opened first second =
     let list : IsServerList s.shape None (s.events ++ server.Tally missing ∷ server.SetFlags 1 ∷ []) = tallies s.events c.shown missing k.spelled some in
     let same : (s.events ++ server.Tally missing ∷ []) ++ server.SetFlags 1 ∷ [] ≡ s.events ++ server.Tally missing ∷ server.SetFlags 1 ∷ [] = append_assoc s.events (server.Tally missing ∷ []) (server.SetFlags 1 ∷ []) in
     let kept : server_kept_of (server_did t (server.SetFlags 1)) ≡ server_kept_of s =
-    kept-more s.shape (s.events ++ server.Tally missing ∷ []) (server.SetFlags 1 ∷ []) ∙ kept-more s.shape s.events (server.Tally missing ∷ []) in
+    kept_more s.shape (s.events ++ server.Tally missing ∷ []) (server.SetFlags 1 ∷ []) ∙ kept_more s.shape s.events (server.Tally missing ∷ []) in
     let done : Keeps (server_did t (server.SetFlags 1)) c.flush c.flushes c.front None c.consumed c.shut =
     same_values s (server_did t (server.SetFlags 1)) c.flush c.flushes c.front c.shown None c.consumed c.shut k kept (refl, refl, refl) (subst (λ (es : List ServerEvent). IsServerList s.shape None es) (sym same) list) tt in
     let there : Keeps (server_did (server_did i.pass.part (server.Tally missing)) (server.SetFlags 1)) i.flush i.flushes i.front None i.consumed i.shut =
@@ -106,6 +102,6 @@ pub met_keeps : (s t : ServerPart) (flush flushes front : ℕ) (shown : Option �
     → t ≡ server_did s (server.Learn count) → Keeps t flush flushes front shown consumed shut
 met_keeps s t flush flushes front shown consumed shut count k is =
     let u : ServerPart = server_did s (server.Learn count) in
-    let now : server_kept_of u ≡ server_kept_of s = kept-more s.shape s.events (server.Learn count ∷ []) in
+    let now : server_kept_of u ≡ server_kept_of s = kept_more s.shape s.events (server.Learn count ∷ []) in
     subst (λ (x : ServerPart). Keeps x flush flushes front shown consumed shut) (sym is)
     (same_values s u flush flushes front shown shown consumed shut k now (refl, refl, refl) (meets s.events shown count k.spelled) (still_ready s front shown (server.Learn count) k.ready))

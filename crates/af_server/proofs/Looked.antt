@@ -4,6 +4,7 @@ use Rattle.af_base.specs.declared.event.ServerEvent.{ServerEvent}
 use Rattle.af_base.specs.declared.event.ServerEvent.TheVariants as server
 use Rattle.af_base.specs.declared.seen.Seen.{Seen}
 use Rattle.af_base.specs.declared.seen.Seen.TheVariants as seen
+use Rattle.af_model.proofs.Basics.{kept_more, three}
 use Rattle.af_model.specs.declared.shape.Shape.{Shape}
 use Rattle.std.proofs.lemmas.Option.{none-some}
 use Rattle.af_model.specs.Point.{wrapped}
@@ -13,9 +14,10 @@ use Rattle.af_model.proofs.Logic.{LieOutside, server_outside}
 use Rattle.af_cblk.specs.declared.view.ServerPart.{ServerPart}
 use Rattle.af_cblk.specs.Parts.{front_stored, dropped, took, drop_front, MayStoreFront}
 use Rattle.af_cblk.proofs.Numbers.{ahead_of, ahead_is}
+use Rattle.af_server.proofs.Basics.{no_drop}
 use Rattle.af_server.specs.Order.{ServerState, Keeps, IsReady, server_kept_of, counted, IsInOrder}
 use Rattle.af_server.specs.Looks.{shut_of, saw_all, stored_front}
-use Rattle.af_server.proofs.Kept.{kept-more, fewer}
+use Rattle.af_server.proofs.Kept.{fewer}
 
 -- ## What a look shows
 
@@ -30,20 +32,12 @@ pub look-flushed : (shape : Shape) (kept asked flush rear front : ℕ) → is_no
     → look_at shape kept asked flush rear front ≡ seen.Flushed (dropped_by shape.wrap flush rear front)
 look-flushed shape kept asked flush rear front new = ap (λ (b : Bool). if b then seen.Flushed (dropped_by shape.wrap flush rear front) else judged shape asked rear front) new
 
-no_drops : (b d : Bool) (front rear count : ℕ) → drops_of (if b then seen.Shut front rear else if d then seen.Empty else seen.Frames count) front ≡ []
-no_drops true d front rear count = refl
-no_drops false true front rear count = refl
-no_drops false false front rear count = refl
-
 shut_as : (b d : Bool) (front rear count : ℕ) → shut_of (if b then seen.Shut front rear else if d then seen.Empty else seen.Frames count) ≡ (if b then Some (front, rear) else None)
 shut_as true d front rear count = refl
 shut_as false true front rear count = refl
 shut_as false false front rear count = refl
 
 -- ## Lists
-
-three : (es : List ServerEvent) (a b d : ServerEvent) → ((es ++ a ∷ []) ++ b ∷ []) ++ d ∷ [] ≡ es ++ a ∷ b ∷ d ∷ []
-three es a b d = append_assoc (es ++ a ∷ []) (b ∷ []) (d ∷ []) ∙ append_assoc es (a ∷ []) (b ∷ d ∷ [])
 
 four : (es : List ServerEvent) (a b d e : ServerEvent) → (((es ++ a ∷ []) ++ b ∷ []) ++ d ∷ []) ++ e ∷ [] ≡ es ++ a ∷ b ∷ d ∷ e ∷ []
 four es a b d e = ap (λ (l : List ServerEvent). l ++ e ∷ []) (three es a b d) ∙ append_assoc es (a ∷ b ∷ d ∷ []) (e ∷ [])
@@ -109,7 +103,7 @@ discard_keeps c d asked flush rear front k unshut some new part flush_is flushes
     let spelled : IsServerList shape None (s.events ++ more) =
     subst (λ (sight : Seen). IsServerList shape (shown_by sight) (s.events ++ look_events sight flush rear front)) (look-flushed shape kept.flush asked flush rear front now) (
     looks s.events c.shown asked flush rear front k.spelled (sym k.shut_is ∙ unshut) some) in
-    let gives : server_kept shape (dropped t to).events ≡ fold (server_keeps shape) kept more = ap (server_kept shape) events ∙ kept-more shape s.events more in
+    let gives : server_kept shape (dropped t to).events ≡ fold (server_keeps shape) kept more = ap (server_kept shape) events ∙ kept_more shape s.events more in
     let done : Keeps (dropped t to) flush (flushes_by shape.wrap flush) d.front None (counted (c.consumed + count)) None =
     record {
       spelled = subst (λ (es : List ServerEvent). IsServerList shape None es) (sym events) spelled;
@@ -161,13 +155,13 @@ judge_keeps c d asked flush rear front k unshut some none is flush_is flushes_is
     let shows_is : look_at shape c.flush asked flush rear front ≡ sight = look-judged shape c.flush asked flush rear front none in
     let more : List ServerEvent = server.SawFlush flush ∷ server.SawRear rear ∷ server.SawFront front ∷ [] in
     let events : t.events ≡ s.events ++ more = three s.events (server.SawFlush flush) (server.SawRear rear) (server.SawFront front) in
-    let drops : drops_of sight front ≡ [] = no_drops out (rear == front) front rear (min asked (ahead front rear)) in
+    let drops : drops_of sight front ≡ [] = no_drop out (rear == front) front rear (min asked (ahead front rear)) in
     let looked : IsServerList shape (shown_by sight) (s.events ++ look_events sight flush rear front) =
     subst (λ (x : Seen). IsServerList shape (shown_by x) (s.events ++ look_events x flush rear front)) (look-judged shape kept.flush asked flush rear front quiet) (
     looks s.events c.shown asked flush rear front k.spelled (sym k.shut_is ∙ unshut) some) in
     let spelled : IsServerList shape (shown_by sight) (s.events ++ more) =
     subst (λ (l : List ServerEvent). IsServerList shape (shown_by sight) (s.events ++ server.SawFlush flush ∷ server.SawRear rear ∷ server.SawFront front ∷ l)) drops looked in
-    let gives : server_kept shape t.events ≡ fold (server_keeps shape) kept more = ap (server_kept shape) events ∙ kept-more shape s.events more in
+    let gives : server_kept shape t.events ≡ fold (server_keeps shape) kept more = ap (server_kept shape) events ∙ kept_more shape s.events more in
     let settled : out ≡ false → t.noticed ≡ false = (λ fits.
     noticed_is s flush rear front true (k.settled unshut) (ap (λ (n : ℕ). flush == n) k.seen_is ∙ same_as (flush == kept.flush) (shape.wrap == 0) out quiet fits)) in
     let ready : out ≡ false → IsReady t front (min asked (ahead front rear)) = (λ fits.

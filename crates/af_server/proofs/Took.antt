@@ -1,13 +1,14 @@
 -- What a take leaves in order.
 use Rattle.std.proofs.Common.{◌≡◌, ◌≢◌, ℕ, ◌+◌, ◌%◌, ◌^◌, ◌≤◌, ◌<◌, Bool, true, false, true≢false, if◌then◌else◌, Option, Some, None, List, [], ◌∷◌, ◌++◌, length, take, refl, sym, ap, ◌∙◌, subst, arith}
 use Rattle.af_base.specs.declared.event.ServerEvent.TheVariants as server
+use Rattle.af_model.proofs.Basics.{kept_more}
 use Rattle.af_model.specs.Room.{ahead}
 use Rattle.af_model.specs.ServerCalls.{ServerKept, IsServerList, flushes_by, takes}
 use Rattle.af_cblk.specs.declared.view.ServerPart.{ServerPart}
 use Rattle.af_cblk.specs.Parts.{front_stored, dropped, took, SawInOrder, MayStoreFront}
 use Rattle.af_cblk.proofs.Numbers.{ahead_of}
 use Rattle.af_server.specs.Order.{ServerState, Keeps, IsReady, server_kept_of, counted, IsInOrder}
-use Rattle.af_server.proofs.Kept.{kept-more, fewer}
+use Rattle.af_server.proofs.Kept.{fewer}
 
 -- ## Front raised by what was loaded
 
@@ -48,7 +49,7 @@ pub take_keeps : (c : ServerState) (q : ServerPart) (front n consumed : ℕ) (wo
 take_keeps c q front n consumed words k shown is count =
     let s : ServerPart = c.pass.part in
     let now : server_kept_of (record s { events = s.events ++ server.Take n ∷ []; frames = s.frames ++ words; front = front; fresh = false; flush_fresh = false; rear_fresh = false; loaded = [] }) ≡ (record (server_kept_of s) { consumed = (server_kept_of s).consumed + n }) =
-    kept-more s.shape s.events (server.Take n ∷ []) in
+    kept_more s.shape s.events (server.Take n ∷ []) in
     subst (λ (x : ServerPart). Keeps x c.flush c.flushes c.front None consumed c.shut) (sym is) (
     record {
       spelled = takes s.events n (subst (λ (o : Option ℕ). IsServerList s.shape o s.events) shown k.spelled);

@@ -4,6 +4,7 @@ use Rattle.std.specs.Prelude.{All}
 use Rattle.std.proofs.lemmas.List.Elements.{All-map}
 use Rattle.std.proofs.lemmas.List.{length-map}
 use Rattle.std.proofs.lemmas.Option.{none-some, same_Some, slice_get-map, slice_get_within, get_or_from_slice_get}
+use Rattle.af_base.proofs.Basics.{some_at}
 use Rattle.af_cblk.specs.Sides.{Made}
 use Rattle.af_client.specs.Order.{ClientState}
 use Rattle.af_engine.specs.declared.ends.TrackEnds.{TrackEnds}
@@ -33,7 +34,6 @@ use Rattle.af_server.specs.Order.{ServerState}
 use Rattle.af_session.specs.NewSession.{IsNewSession, IsSpecOf, tracks_of}
 use Rattle.af_session.specs.NewTracks.{AreNewClients, AreNewTracks, IsClientOf, IsNewTrack, engine_track}
 use Rattle.af_session.specs.Together.{AreTogether, SessionState}
-use Rattle.af_session.proofs.NewClients.{some_at}
 use Rattle.af_session.proofs.NewWork.{new_party}
 use Rattle.af_session.proofs.Sizes.{command_shape_is, stream_shape_is}
 

@@ -1,7 +1,7 @@
 -- What the cycles of a fast turn add to the log and to the sound.
-use Rattle.std.proofs.Common.{◌≡◌, ℕ, zero, suc, ◌+◌, ◌<◌, ◌≤◌, ◌==◌, ◌||◌, if◌then◌else◌, ne_eqb, Bool, true, false, true≢false, All, List, [], ◌∷◌, ◌++◌, length, Option, Some, None, refl, sym, ap, subst, ◌∙◌, append-nil, append_assoc, eqb-true, arith}
-use mathlib.Core.Logic.{dite}
-use native.Mathlib.Decide.{ℕ_discrete}
+use Rattle.std.proofs.Common.{◌≡◌, ℕ, zero, suc, ◌+◌, ◌≤◌, ◌==◌, ◌||◌, if◌then◌else◌, ne_eqb, Bool, true, false, true≢false, All, List, [], ◌∷◌, ◌++◌, length, refl, sym, ap, subst, ◌∙◌, append-nil, append_assoc, eqb-true, arith}
+use Rattle.af_model.proofs.Basics.{mixes_state}
+use Rattle.af_runs.proofs.Basics.{taken_up}
 use Rattle.std.proofs.lemmas.List.{length-append}
 use Rattle.std.proofs.lemmas.List.Concat.{flat_map-cons}
 use Rattle.std.proofs.lemmas.List.Elements.{All-append, All-cons, All-nil}
@@ -14,7 +14,7 @@ use Rattle.af_base.specs.Mix.{mix}
 use Rattle.af_base.specs.Roomy.{Roomy}
 use Rattle.af_base.specs.Sample.{pcm_bytes}
 use Rattle.af_runs.specs.Pcm.{LieWithin, entries_pcm, entry_pcm, written}
-use Rattle.af_model.specs.Cycles.{cold_done, cycle_of, is_mixed, state_of, taken_before}
+use Rattle.af_model.specs.Cycles.{cold_done, is_mixed, state_of, taken_before}
 use Rattle.af_fast.specs.Mixer.{MixerState, adopted_states, is_over}
 use Rattle.af_fast.specs.Mixing.{AddsCycle, Adopts, MixesOnce, Writes}
 use Rattle.af_session.specs.FastTurns.{IsCycle, IsFastTurn, TurnAdds, Turned, WritesCycle}
@@ -25,13 +25,6 @@ use Rattle.af_tally.proofs.Sounding.{log_grows, grows_not, grows_on, same_if}
 
 -- ## Where the frames of a new entry stand
 
--- the frames that the first slots took, and those of one slot more, are among the frames of all slots
-taken_below : (entry : CycleEntry) (i n : ℕ) → i < n → taken_before entry i + count_seen (entry_slot entry i).seen ≤ taken_before entry n
-taken_below entry i zero lt = absurd (omega arith)
-taken_below entry i (suc n) lt = dite (ℕ_discrete i n)
-    (λ e. subst (λ k. taken_before entry k + count_seen (entry_slot entry k).seen ≤ taken_before entry n + count_seen (entry_slot entry n).seen) (sym e) (omega arith))
-    (λ ne. let h = taken_below entry i n (omega arith) in omega arith)
-
 -- a slot names the place of its frames, or 0 if it took none: it ends no later than its frames do
 ends_within : (place count first high : ℕ) → first ≡ (if count == 0 then 0 else place) → place + count ≤ high → first + count ≤ high
 ends_within place zero first high is le = omega (arith, is)
@@ -40,18 +33,13 @@ ends_within place (suc n) first high is le =
     let there : first ≡ place = is ∙ ap (λ (b : Bool). if b then 0 else place) some in
     omega (arith, there)
 
--- a cycle that mixes has a state
-mixes_state : (done : ℕ) (state : Option FastState) → is_mixed (cycle_of done state) ≡ true → (x : FastState) × (state ≡ Some x)
-mixes_state done None mixed = absurd (true≢false (sym mixed))
-mixes_state done (Some x) mixed = (x, refl)
-
 -- the frames of an entry that a cycle adds lie in the log
 added_within : (m m' : MixerState) (entry : CycleEntry) → AddsCycle m m' entry → LieWithin m'.log.frames entry
 added_within m m' entry a mixed i lt =
     let xs : List FastState = adopted_states m in
     let x = mixes_state (cold_done xs m.log.entries) (state_of xs entry.state) (sym (ap is_mixed a.legal.what) ∙ mixed) in
     let placed = (a.legal.mixes x.0 x.1 mixed).placed i lt in
-    let below = taken_below entry i slots lt in
+    let below = taken_up entry i slots lt in
     ends_within (length m.log.frames + taken_before entry i) (count_seen (entry_slot entry i).seen) (entry_slot entry i).first (length m'.log.frames) placed (omega (arith, below, a.takes.total))
 
 -- ## One cycle

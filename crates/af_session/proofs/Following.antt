@@ -1,5 +1,5 @@
 -- How what a run shows follows the cycles of the fast mixer.
-use Rattle.std.proofs.Common.{◌≡◌, ℕ, zero, suc, ◌+◌, ◌-◌, ◌^◌, ◌<◌, ◌≤◌, ◌==◌, ◌||◌, ◌⊎◌, inl, inr, ⊎_elim, eqb-true, if◌then◌else◌, Bool, true, false, All, List, [], ◌∷◌, ◌++◌, length, map, Option, Some, None, refl, sym, ap, subst, ◌∙◌, append-nil, append_assoc, arith}
+use Rattle.std.proofs.Common.{◌≡◌, ℕ, ◌+◌, ◌-◌, ◌^◌, ◌<◌, ◌≤◌, ◌==◌, ◌||◌, ◌⊎◌, inl, inr, ⊎_elim, eqb-true, if◌then◌else◌, Bool, true, false, All, List, [], ◌∷◌, ◌++◌, length, map, Option, Some, None, refl, sym, ap, subst, ◌∙◌, append-nil, append_assoc, arith}
 use Rattle.std.proofs.lemmas.List.{map-append, length_push, get_or_push}
 use Rattle.std.proofs.lemmas.List.Concat.{flat_map-append, flat_map-cons}
 use Rattle.std.proofs.lemmas.List.Elements.{All-head, All-tail}
@@ -11,6 +11,7 @@ use Rattle.af_base.specs.declared.state.FastState.{FastState}
 use Rattle.af_base.specs.Log.{slots, entry_at, no_entry, takes_of}
 use Rattle.af_base.specs.Mix.{Take, mix}
 use Rattle.af_base.specs.Turn.{Turn}
+use Rattle.af_runs.proofs.Basics.{state_more}
 use Rattle.af_runs.specs.Pcm.{LieWithin}
 use Rattle.af_model.specs.declared.plain_calls.Poll.{Poll}
 use Rattle.af_model.specs.declared.plain_calls.Poll.TheVariants.{Nothing, Same, New}
@@ -42,18 +43,11 @@ entry_written len frames entry = frames_written entry.cycle (mix (takes_of frame
 
 -- ## States
 
--- a state keeps its number if more states follow
-pub state_of-front : (xs more : List FastState) (k : ℕ) → k ≤ length xs → state_of (xs ++ more) k ≡ state_of xs k
-state_of-front xs more zero few = refl
-state_of-front [] more (suc k) few = absurd (omega arith)
-state_of-front (x ∷ xs) more (suc zero) few = refl
-state_of-front (x ∷ xs) more (suc (suc k)) few = state_of-front xs more (suc k) (omega arith)
-
 -- entries that name none of the later states use the same states if more follow
 pub uses_stay : (xs more : List FastState) (n : ℕ) (entries : List CycleEntry) → n ≤ length xs → UseUpTo n entries → map (use_of (xs ++ more)) entries ≡ map (use_of xs) entries
 uses_stay xs more n [] few up = refl
 uses_stay xs more n (entry ∷ entries) few up =
-    let here : state_of (xs ++ more) entry.state ≡ state_of xs entry.state = state_of-front xs more entry.state (let le = up.0 in omega arith) in
+    let here : state_of (xs ++ more) entry.state ≡ state_of xs entry.state = state_more xs more entry.state (let le = up.0 in omega arith) in
     λ i. record { entry = entry; state = here i } ∷ uses_stay xs more n entries few up.1 i
 
 -- events behind others add the states that they poll

@@ -1,5 +1,5 @@
 -- How what a run shows follows the rounds.
-use Rattle.std.proofs.Common.{◌≡◌, ◌≢◌, ℕ, zero, suc, ◌+◌, ◌-◌, ◌<◌, ◌≤◌, Bool, true, false, if◌then◌else◌, List, [], ◌∷◌, ◌++◌, length, length-set, map, option_map, replicate, slice_get, slice_set, Option, Some, None, refl, sym, ap, subst, ◌∙◌, ⊎_elim, append-nil, arith}
+use Rattle.std.proofs.Common.{◌≡◌, ◌≢◌, ℕ, zero, suc, ◌+◌, ◌-◌, ◌<◌, ◌≤◌, Bool, true, false, if◌then◌else◌, List, [], ◌∷◌, ◌++◌, length, length-set, map, replicate, slice_get, slice_set, Option, Some, None, refl, sym, ap, subst, ◌∙◌, ⊎_elim, append-nil, arith}
 use Rattle.std.specs.Prelude.{slice_index_or}
 use Rattle.std.specs.List.{range_with_len, flat_map}
 use Rattle.std.proofs.lemmas.Bool.{cases_eq}
@@ -7,6 +7,7 @@ use Rattle.std.proofs.lemmas.List.{get_or-set_same, get_or-set_other, length-map
 use Rattle.std.proofs.lemmas.List.Concat.{flat_map-append, flat_map-cons}
 use Rattle.std.proofs.lemmas.List.FromFn.{fill_by_all, get_or-map-range_with_len, length-map-range_with_len}
 use Rattle.std.proofs.lemmas.Option.{slice_get-map, slice_get_cases}
+use Rattle.af_base.proofs.Basics.{get_set_same}
 use Rattle.af_base.specs.declared.event.ClientCall.{ClientCall}
 use Rattle.af_base.specs.declared.frame.Frame.{Frame}
 use Rattle.af_base.specs.declared.log.CycleEntry.{CycleEntry}
@@ -15,10 +16,10 @@ use Rattle.af_base.specs.declared.turn.TurnEntry.{TurnEntry}
 use Rattle.af_base.specs.Log.{slots}
 use Rattle.af_base.specs.Turn.{Turn, turn_of}
 use Rattle.af_model.specs.Journals.{RoundNoted}
+use Rattle.af_session.proofs.Basics.{calls_end}
 use Rattle.af_stateq.specs.Laws.{polled_states}
 use Rattle.af_fast.specs.Mixer.{IsInOrder, MixerState}
 use Rattle.af_normal.specs.State.{NormalState}
-use Rattle.af_normal.proofs.LegalLists.{get_set_same}
 use Rattle.af_script.specs.declared.op.TurnSpec.{TurnSpec}
 use Rattle.af_script.specs.declared.op.TurnSpec.TheVariants as spec
 use Rattle.af_session.specs.Met.{Met}
@@ -195,11 +196,6 @@ calls_met a b met long i = ⊎_elim
     (λ (none : (length a.clients ≤ i) × (slice_get a.clients i ≡ None)). ap calls_in (met.tracks.rest i none.0).1)
     (slice_get_cases a.clients i).1
 
--- the end of a client leaves its calls as they are
-calls_ended : (o : Option PartyState) → calls_in (option_map end_party o) ≡ calls_in o
-calls_ended None = refl
-calls_ended (Some p) = refl
-
 -- the parties, of which the clients have ended if the normal mixer has
 abbrev ended_if : Bool → SessionState → SessionState
 ended_if b s = if b then record s { clients = map end_party s.clients } else s
@@ -213,7 +209,7 @@ pub record EndsKeep (s t : SessionState) : Type 0 where
 
 -- ending the clients, or not ending them, leaves the calls and the mixers as they are
 ends_keep_if : (b : Bool) (s : SessionState) → EndsKeep s (ended_if b s)
-ends_keep_if true s = record { calls = (λ i. ap calls_in (slice_get-map end_party s.clients i) ∙ calls_ended (slice_get s.clients i)); normal = refl; fast = refl; long = length-map s.clients end_party }
+ends_keep_if true s = record { calls = (λ i. ap calls_in (slice_get-map end_party s.clients i) ∙ calls_end (slice_get s.clients i)); normal = refl; fast = refl; long = length-map s.clients end_party }
 ends_keep_if false s = record { calls = (λ i. refl); normal = refl; fast = refl; long = refl }
 
 -- the ends of a round leave the calls and the mixers as they are

@@ -1,3 +1,4 @@
+pub mod Basics
 pub mod MetStays
 pub mod MetTracks
 pub mod FastAdds

@@ -1,22 +1,16 @@
 -- The clients of the ends of a mixer.
-use Rattle.std.proofs.Common.{◌≡◌, ℕ, zero, suc, ◌<◌, ◌⊎◌, inl, inr, List, [], ◌∷◌, ◌++◌, length, slice_get, Some, refl, sym, ◌∙◌, subst, arith}
+use Rattle.std.proofs.Common.{◌≡◌, ℕ, ◌<◌, ◌⊎◌, inl, inr, List, [], ◌∷◌, ◌++◌, length, slice_get, Some, refl, sym, ◌∙◌, subst, arith}
 use Rattle.std.proofs.lemmas.Bool.{cases_eq}
 use Rattle.std.proofs.lemmas.List.{length-append}
 use Rattle.std.proofs.lemmas.Option.{none-some, same_Some, slice_get_within}
+use Rattle.af_base.proofs.Basics.{at_before, at_last, some_at}
 use Rattle.af_engine.specs.declared.ends.TrackEnds.{TrackEnds}
-use Rattle.af_engine.proofs.MoreTracks.{at_before, at_last}
 use Rattle.af_party.specs.Parties.{PartyState}
 use Rattle.af_session.specs.NewTracks.{AreNewClients, IsClientOf}
 
 -- without ends there are no clients
 pub no_clients : AreNewClients [] []
 no_clients = record { count = refl; each = λ i e p none at. absurd (none-some e none) }
-
--- a list has an item at each place below its length
-pub some_at : {X : Type 0} (xs : List X) (i : ℕ) → i < length xs → (x : X) × (slice_get xs i ≡ Some x)
-some_at [] i lt = absurd (omega (arith, lt))
-some_at (x ∷ xs) zero lt = (x, refl)
-some_at (x ∷ xs) (suc i) lt = some_at xs i (omega (arith, lt))
 
 -- one client more, with its ends
 module _ (ends : List TrackEnds) (clients : List PartyState) (e : TrackEnds) (p : PartyState) (before : AreNewClients ends clients) (one : IsClientOf e p) where

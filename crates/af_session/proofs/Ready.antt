@@ -3,6 +3,7 @@ use Rattle.std.proofs.Common.{◌≡◌, ◌≢◌, ℕ, zero, suc, ◌+◌, ◌
 use Rattle.std.proofs.lemmas.List.{length-map}
 use Rattle.std.proofs.lemmas.Bool.{cases_eq}
 use Rattle.std.proofs.lemmas.Option.{none-some, same_Some, slice_get-map, slice_get_within, slice_get_cases}
+use Rattle.af_base.proofs.Basics.{get_set_other, get_set_same}
 use Rattle.af_base.specs.declared.log.Cycle.{Cycle}
 use Rattle.af_client.specs.Order.{ClientState}
 use Rattle.af_link.specs.declared.links.Links.{Links}
@@ -11,7 +12,6 @@ use Rattle.af_model.specs.Cycles.{is_mixed}
 use Rattle.af_normal.specs.Meeting.{AreClientsOf}
 use Rattle.af_normal.specs.Order.{IsInOrder as IsNormalInOrder}
 use Rattle.af_normal.specs.State.{NormalState, setup_of}
-use Rattle.af_normal.proofs.LegalLists.{get_set_same, get_set_other}
 use Rattle.af_script.specs.declared.op.Op.{Op}
 use Rattle.af_session.specs.FastTurns.{IsFastTurn, WritesCycle}
 use Rattle.af_engine.specs.Met.{proxies_of, spot_of}

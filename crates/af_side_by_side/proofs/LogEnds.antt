@@ -1,9 +1,10 @@
 -- What is read of a log behind the last meeting.
-use Rattle.std.proofs.Common.{◌≡◌, ℕ, ◌≤◌, Bool, Option, Some, List, [], ◌∷◌, ◌++◌, length, refl, sym, ap, subst, ◌∙◌, append-nil, arith, length-append}
+use Rattle.std.proofs.Common.{◌≡◌, ℕ, ◌≤◌, Option, Some, List, [], ◌∷◌, ◌++◌, length, refl, sym, ap, subst, ◌∙◌, append-nil, arith, length-append}
 use Rattle.af_model.specs.Journals.{JournalData}
+use Rattle.af_nblog.proofs.Basics.{last_of}
 use Rattle.af_nblog.specs.declared.entries.Note.{Note}
 use Rattle.af_nblog.specs.NoteEnds.{WriterState, ReaderState, AreInOrder, accepted, read}
-use Rattle.af_nblog.specs.NoteRounds.{HasDrained, count_accepted, last_accepted}
+use Rattle.af_nblog.specs.NoteRounds.{HasDrained}
 use Rattle.af_side_by_side.specs.Logging.{AuditorState, HasAudited, HasEnds, HasLogOf, HasMetLog, IsAuditor, LoggingState}
 
 -- the auditor can read what is left
@@ -11,11 +12,6 @@ pub can_finish : (frames room : ℕ) (j : JournalData) (l : LoggingState) → Ha
 can_finish frames room j l h =
     subst (λ o. IsAuditor o l.auditor) (sym h.ends.log)
     (h.ends.reader, h.ends.auditor, h.ends.made.1, (let space = h.space in let is = h.room_is in omega (arith, space, is)), h.kept)
-
--- how many notes the last of some rounds accepted
-last_of : (before : ℕ) (rounds : List (List Bool)) (round : List Bool) → last_accepted before (rounds ++ round ∷ []) ≡ count_accepted round
-last_of before [] round = refl
-last_of before (first ∷ rounds) round = last_of (count_accepted first) rounds round
 
 -- if as many notes were read as were accepted, they are the same notes
 none_left : (xs ys : List Note) → AreInOrder xs ys → length xs ≤ length ys → ys ≡ xs

@@ -1,7 +1,8 @@
 -- What a journal notes of a round of all parties is the same after the meetings.
-use Rattle.std.proofs.Common.{◌≡◌, ℕ, ◌-◌, ◌<◌, if◌then◌else◌, Bool, true, false, List, [], ◌∷◌, length, map, option_map, slice_get, Some, None, refl, sym, ap, ◌∙◌, ⊎_elim, arith}
+use Rattle.std.proofs.Common.{◌≡◌, ℕ, ◌-◌, ◌<◌, if◌then◌else◌, Bool, true, false, List, [], ◌∷◌, length, map, option_map, slice_get, Some, None, refl, sym, ap, ◌∙◌, arith}
 use Rattle.std.proofs.lemmas.List.{length-map, same_lists}
-use Rattle.std.proofs.lemmas.Option.{get_or_from_slice_get, slice_get_cases, slice_get-map, slice_get_within}
+use Rattle.std.proofs.lemmas.Option.{get_or_from_slice_get, slice_get-map, slice_get_within}
+use Rattle.af_base.proofs.Basics.{some_at}
 use Rattle.af_base.specs.declared.event.ClientCall.{ClientCall}
 use Rattle.af_base.specs.Log.{Logged}
 use Rattle.af_base.specs.Turn.{turn_of}
@@ -17,15 +18,11 @@ use Rattle.af_session.proofs.FastAdds.{met_keeps}
 abbrev calls_of : PartyState → List ClientCall
 calls_of p = p.calls.items
 
--- a list has an item at each place below its length
-found : {X : Type 0} (xs : List X) (i : ℕ) → i < length xs → (x : X) × (slice_get xs i ≡ Some x)
-found xs i lt = ⊎_elim (λ h. (h.0, h.2)) (λ h. absurd (omega (arith, lt, h.0))) (slice_get_cases xs i).1
-
 -- two lists of values are the same if the items at the same places have the same value
 same_map : {X Y : Type 0} (f : X → Y) (xs ys : List X) → length ys ≡ length xs → ((i : ℕ) (x y : X) → slice_get xs i ≡ Some x → slice_get ys i ≡ Some y → f y ≡ f x) → map f ys ≡ map f xs
 same_map f xs ys long each = same_lists (map f ys) (map f xs) (length-map ys f ∙ long ∙ sym (length-map xs f)) (λ k d lt.
-    let x = found xs k (omega (arith, lt, length-map ys f, long)) in
-    let y = found ys k (omega (arith, lt, length-map ys f)) in
+    let x = some_at xs k (omega (arith, lt, length-map ys f, long)) in
+    let y = some_at ys k (omega (arith, lt, length-map ys f)) in
     get_or_from_slice_get (map f ys) k (f y.0) d (slice_get-map f ys k ∙ ap (option_map f) y.1)
     ∙ each k x.0 y.0 x.1 y.1
     ∙ sym (get_or_from_slice_get (map f xs) k (f x.0) d (slice_get-map f xs k ∙ ap (option_map f) x.1)))

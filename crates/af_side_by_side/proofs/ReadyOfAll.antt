@@ -1,11 +1,12 @@
 -- What all parties have for a round in which they make their turns at once, and what they leave.
-use Rattle.std.proofs.Common.{◌≡◌, ℕ, suc, ◌+◌, ◌<◌, ◌^◌, Bool, true, false, List, [], ◌∷◌, length, get_or, slice_get, Option, Some, None, MatchOption, IsSomeAnd, All, Vec, refl, sym, ap, subst, ◌∙◌, arith}
+use Rattle.std.proofs.Common.{◌≡◌, ℕ, ◌+◌, ◌<◌, ◌^◌, Bool, true, false, List, [], ◌∷◌, length, get_or, slice_get, Option, Some, None, MatchOption, IsSomeAnd, All, Vec, refl, sym, ap, subst, ◌∙◌, arith}
 use Rattle.std.specs.Bool.{MatchBool}
 use Rattle.std.specs.List.{AllZip}
 use Rattle.std.specs.Vec.{with_items}
 use Rattle.std.proofs.lemmas.List.{with_items_is}
 use Rattle.std.proofs.lemmas.Option.{slice_get-get_or, slice_get_within}
 use Rattle.std.proofs.lemmas.Slice.Zip.{AllZip-right}
+use Rattle.af_base.proofs.Basics.{zip_long}
 use Rattle.af_session.specs.Rooms.{CanCycle}
 use Rattle.af_base.specs.Roomy.{Roomy}
 use Rattle.af_life.specs.Kept.{Setup}
@@ -29,13 +30,6 @@ some_and (Some x) P h = (x, refl, h)
 pub zip_at : {X : Type 0} (R : X → X → Type 0) (xs ys : List X) (i : ℕ) (y : X) → AllZip R xs ys → slice_get ys i ≡ Some y → (x : X) × (slice_get xs i ≡ Some x) × R x y
 zip_at {X} R xs ys i y zip at =
     some_and (slice_get xs i) (λ x. R x y) (subst (λ (o : Option X). MatchOption o (Unit {0}) (λ z. IsSomeAnd (slice_get xs i) (λ x. R x z))) at (AllZip-right R xs ys zip i))
-
--- lists that are related place by place are as long as each other
-pub zip_long : {X : Type 0} (R : X → X → Type 0) (xs ys : List X) → AllZip R xs ys → length ys ≡ length xs
-zip_long R [] [] zip = refl
-zip_long R [] (y ∷ ys) zip = absurd zip
-zip_long R (x ∷ xs) [] zip = absurd zip
-zip_long R (x ∷ xs) (y ∷ ys) zip = ap suc (zip_long R xs ys zip.1)
 
 -- lists that are related by one relation are related by each relation that follows from it
 pub zip_weaker : {X : Type 0} (R S : X → X → Type 0) → ((x y : X) → R x y → S x y) → (xs ys : List X) → AllZip R xs ys → AllZip S xs ys

@@ -1,12 +1,13 @@
 -- What the mutator has after a look at the acknowledgement.
 use Rattle.std.proofs.Common.{◌≡◌, ◌≢◌, ℕ, zero, suc, ◌<◌, ◌==◌, ◌&&◌, not, if◌then◌else◌, true, false, Bool, List, [], ◌∷◌, length, Option, None, is_some, replicate, refl, ap, sym, ◌∙◌, subst, arith, eq-eqb, ne_eqb}
 use Rattle.std.proofs.lemmas.List.{get_or-replicate}
+use Rattle.af_base.proofs.Basics.{never_true, not_both}
 use Rattle.af_model.specs.StateQueue.{slots, has}
 use Rattle.af_stateq.specs.Shelved.{word, nothing}
 use Rattle.af_stateq.specs.Ends.{Pushes, saw, SawAcked}
 use Rattle.af_stateq.specs.Mutates.{Mutates, at, InDraft, SlotIn, IsJoined}
 use Rattle.af_stateq.specs.Answers.{SeesIt, SeesOlder, SameDraft}
-use Rattle.af_stateq.proofs.Slots.{not_true, not_both, stay_one}
+use Rattle.af_stateq.proofs.Slots.{stay_one}
 use Rattle.af_stateq.proofs.Edits.{both_are, look_keeps, join_keeps}
 
 -- a list of shelves that are all empty
@@ -37,7 +38,7 @@ module _ {P K : Type 0} (fits : K → ℕ → P → Type 0) (m : Mutates P K) (d
     not_hit = ne_eqb seen (word m.past.number) miss
 
     not_clear : m.past.clear ≡ false
-    not_clear = not_true m.past.clear (λ c. not_both (seen == word m.past.number) (s.6 c) not_hit)
+    not_clear = never_true m.past.clear (λ c. not_both (seen == word m.past.number) (s.6 c) not_hit)
 
     none_came : (past ≡ saw s.0 [] m.past) × (came ≡ nothing)
     none_came = s.4 (ap (λ b. not m.past.clear && b) not_hit ∙ ap (λ b. not b && false) not_clear)

@@ -1,5 +1,6 @@
 -- Each step of the queue is allowed, and tells what its caller relies on.
 use Rattle.std.proofs.Common.{◌≡◌, ◌≢◌, ℕ, ◌+◌, ◌<◌, ◌==◌, ◌&&◌, not, if◌then◌else◌, Bool, true, false, true≢false, List, [], ◌∷◌, ◌++◌, length, set, get_or, sym, refl, ap, ◌∙◌, subst, arith, Some, None, Option, eq-eqb, ne_eqb}
+use Rattle.af_base.proofs.Basics.{and_false, some_same}
 use mathlib.Core.Option as maybe
 use lib.ListN.{get_elem?}
 use Rattle.std.proofs.lemmas.List.{drop-set-lt}
@@ -11,14 +12,13 @@ use Rattle.af_stateq.specs.declared.rule.Basis.{Basis}
 use Rattle.af_stateq.specs.declared.view.View.{View}
 use Rattle.af_stateq.specs.declared.view.Mutating.{Mutating}
 use Rattle.af_stateq.specs.declared.view.Observing.{Observing}
-use Rattle.af_model.specs.declared.states.MutatorEvent.TheVariants.{Push, SawAck}
 use Rattle.af_model.specs.declared.states.MutatorEvent.TheVariants as mutator
 use Rattle.af_model.specs.declared.states.ObserverEvent.TheVariants.{SawNext, Ack}
 use Rattle.af_model.specs.declared.states.ObserverEvent.TheVariants as observer
 use Rattle.af_model.specs.StateQueue.{slots, AreOf, AllFit, FitAt, brought, HasHistory}
 use Rattle.af_stateq.proofs.Acts.{takes_all, gives_all, carried_takes, takes_else, length_takes, takes_valid, gives_valid, carried_gives, gives_else, same_shelves}
 use Rattle.af_stateq.specs.Shelved.{cell, word, cells, shelves, items_on, Phase, quiet, shown, taken, known_by, InPhase, Kept, Seated, saw_mutating, brings, saw_ack, push_mutating, pushed, saw_next, acked, met}
-use Rattle.af_stateq.proofs.Steps.{word_differs, apart, small, many, and_false, some_same, m_is, o_is, next_found, ack_found, Now, ack_m, ack_view, ack_point, looks, push_view, at_rest, shows, same_view, nothing_new, new_view, is_new, ackd_view, acks, met_view, met_stands, meets}
+use Rattle.af_stateq.proofs.Steps.{word_differs, apart, small, many, m_is, o_is, next_found, ack_found, Now, ack_m, ack_view, ack_point, looks, push_view, at_rest, shows, same_view, nothing_new, new_view, is_new, ackd_view, acks, met_view, met_stands, meets}
 
 module _ {P K : Type 0} (fits : K → ℕ → P → Type 0) (basis : Basis K) where
   abbrev St : Type 0

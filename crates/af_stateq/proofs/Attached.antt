@@ -1,6 +1,8 @@
 -- A call leaves an attached item with the mutator, unless it is a push.
 use Rattle.std.proofs.Common.{◌≡◌, ◌⊎◌, inl, inr, ℕ, ◌+◌, ◌<◌, ◌&&◌, not, Bool, true, false, List, Option, Some, None, is_some, slice_set, sym, ap, ◌∙◌, arith}
 use Rattle.std.proofs.lemmas.List.{get_or-set_same, get_or-set_other}
+use Rattle.af_base.proofs.Basics.{both, not_both}
+use Rattle.af_model.proofs.Basics.{not_true}
 use mathlib.Core.Logic.{dite}
 use native.Mathlib.Decide.{ℕ_discrete}
 use Rattle.af_base.specs.declared.state.Push.{Push as PushAnswer}
@@ -15,7 +17,7 @@ use Rattle.af_stateq.specs.Observes.{Observes}
 use Rattle.af_stateq.specs.Answers.{shows, WasPushed, WasAcked}
 use Rattle.af_stateq.specs.OneHand.{ready_of, Made}
 use Rattle.af_stateq.specs.Attached.{IsAttached, IsCarried, StaysUntilPushed}
-use Rattle.af_stateq.proofs.Slots.{and_one, not_false, not_both, on_shelf}
+use Rattle.af_stateq.proofs.Slots.{on_shelf}
 
 module _ {P K : Type 0} (fits : K → ℕ → P → Type 0) (m : Mutates P K) (o : Observes P K) (d : InDraft fits m) (i : ℕ) (p : P) (lt : i < slots) (here : IsAttached m i p) where
   abbrev Remains : Mutates P K → Type 0
@@ -56,8 +58,8 @@ module _ {P K : Type 0} (fits : K → ℕ → P → Type 0) (m : Mutates P K) (o
   stays_by call.Begin a m' o' on w = stays m' (ap (λ (z : Mutates P K). z.pending) w.1)
   stays_by (call.SetCommand c) a m' o' on w = stays m' (ap (λ (z : Mutates P K). z.pending) w.1)
   stays_by (call.Attach slot mono scale track item) a m' o' on w =
-      let free = and_one _ _ (and_one _ _ (and_one _ _ (and_one _ _ on).0).0).0 in
-      attached slot item m' (on_shelf slot (and_one _ _ free.0).1).1 (not_false _ free.1) (ap (λ (z : Mutates P K). z.pending) w.1)
+      let free = both _ _ (both _ _ (both _ _ (both _ _ on).0).0).0 in
+      attached slot item m' (on_shelf slot (both _ _ free.0).1).1 (not_true _ free.1) (ap (λ (z : Mutates P K). z.pending) w.1)
   stays_by (call.Detach slot) a m' o' on w = detached slot m' (ap (λ (z : Mutates P K). z.pending) w.1) (ap (λ (z : Mutates P K). z.returned) w.1)
   stays_by (call.End did_modify) a m' o' on w = stays m' (ap (λ (z : Mutates P K). z.pending) w.1)
   stays_by call.Push a m' o' on w = pushed w.0 w.1 w.2 m' w.4

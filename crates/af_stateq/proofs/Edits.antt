@@ -1,6 +1,7 @@
 -- Each call of the mutator keeps what always holds of its draft.
 use Rattle.std.proofs.Common.{◌≡◌, ◌≢◌, ℕ, ◌+◌, ◌<◌, ◌≤◌, ◌&&◌, not, if◌then◌else◌, true, false, true≢false, Bool, List, [], length, set, Option, Some, None, is_some, IfSome, bit_and, bit_or, ◌-◌, ◌^◌, refl, ap, sym, ◌∙◌, subst, arith, length-set}
 use Rattle.std.proofs.lemmas.List.{get_or-set_same, get_or-set_other, get_or-replicate, length-replicate}
+use Rattle.af_base.proofs.Basics.{not_both}
 use mathlib.Core.Logic.{dite}
 use native.Mathlib.Decide.{ℕ_discrete}
 use Rattle.af_base.specs.declared.state.FastTrack.{FastTrack}
@@ -11,7 +12,7 @@ use Rattle.af_stateq.specs.Shelved.{nothing}
 use Rattle.af_stateq.specs.Ends.{Pushes, saw, pushes}
 use Rattle.af_stateq.specs.Mutates.{Mutates, at, is_out, InSlot, SlotIn, InDraft, IsJoined}
 use Rattle.af_stateq.specs.Answers.{shows}
-use Rattle.af_stateq.proofs.Slots.{kept, attach_one, detach_one, take_one, join_one, push_one, not_both}
+use Rattle.af_stateq.proofs.Slots.{kept, attach_one, detach_one, take_one, join_one, push_one}
 use Rattle.af_stateq.proofs.Bits.{attached_here, attached_else, slot_here, slot_else, attached_state, detached_here, detached_else, detached_state}
 
 pub both_are : (a b : Bool) → (a && not b) ≡ true → (a ≡ true) × (b ≡ false)

@@ -1,5 +1,6 @@
 -- The item of a slot has one holder at each moment.
 use Rattle.std.proofs.Common.{◌≡◌, ◌≢◌, ℕ, ◌+◌, ◌<◌, ◌≤◌, ◌==◌, ◌&&◌, not, if◌then◌else◌, Bool, true, false, true≢false, List, [], ◌∷◌, Option, Some, None, is_some, refl, ap, sym, ◌∙◌, subst, arith, eq-eqb, ne_eqb}
+use Rattle.af_base.proofs.Basics.{never_true, not_both}
 use mathlib.Core.Logic.{dite}
 use native.Mathlib.Decide.{ℕ_discrete}
 use Rattle.af_base.specs.declared.state.FastState.{FastState}
@@ -13,7 +14,7 @@ use Rattle.af_model.specs.Order.{Event, one, two, Legal}
 use Rattle.af_model.specs.StateQueue.{slots, carries, QueuePoint, start, legal, next}
 use Rattle.af_stateq.specs.Mutates.{at}
 use Rattle.af_stateq.specs.Laws.{Holder, in_hand, going, held, coming, given_to, may_pass, passed, OneHolder}
-use Rattle.af_stateq.proofs.Slots.{not_true, not_both, both_ways}
+use Rattle.af_stateq.proofs.Slots.{both_ways}
 
 module _ {P : Type 0} where
   -- the holder, by whether the last state is acknowledged, carries the slot, the one before it does, the mutator saw that, and nothing is due, and by the items on their way out and back
@@ -193,7 +194,7 @@ module _ {P : Type 0} where
         let u = t.due (λ e. l.0.1 (l.0.0 ∙ e)) in
         let k_is : k ≡ p.mutator.pushed = l.0.0 ∙ u.0 in
         let ne : p.observer.acked ≢ p.mutator.pushed = λ e. (let b = u.1 in omega arith) in
-        let c : p.mutator.clear ≡ false = not_true p.mutator.clear (λ e. ne (t.cleared e)) in
+        let c : p.mutator.clear ≡ false = never_true p.mutator.clear (λ e. ne (t.cleared e)) in
         let has : is_some (at items i) ≡ (carries p.mutator.before i && not (carries p.mutator.last i)) = l.0.2.1 i lt in
         let now = where_at p false false false (ne_eqb p.observer.acked p.mutator.pushed ne) c (ne_eqb p.observer.due 0 (λ e. l.0.1 (l.0.0 ∙ e))) in
         moves p (two (Ack k items)) es

@@ -2,6 +2,8 @@
 use Rattle.std.proofs.Common.{◌≡◌, ℕ, ◌+◌, ◌<◌, ◌==◌, ◌&&◌, ◌||◌, not, if◌then◌else◌, Bool, true, false, List, [], ◌∷◌, ◌++◌, Option, Some, None, is_some, slice_set, refl, ap, sym, ◌∙◌, subst, arith, eq-eqb, ne_eqb, append_assoc, length-set}
 use Rattle.std.proofs.lemmas.List.{map-set, set-get_or}
 use Rattle.std.proofs.Math.Seq.{map-set_same}
+use Rattle.af_base.proofs.Basics.{both as and_one}
+use Rattle.af_model.proofs.Basics.{not_true}
 use mathlib.Core.Logic.{dite}
 use native.Mathlib.Decide.{ℕ_discrete}
 use Rattle.af_base.specs.declared.state.Push.{Push as PushAnswer}
@@ -30,7 +32,7 @@ use Rattle.af_stateq.specs.Mutates.{Mutates, at, is_out, InDraft}
 use Rattle.af_stateq.specs.Observes.{Observes}
 use Rattle.af_stateq.specs.Answers.{shows, WasPushed, WasAcked, WasPolled, sees_same}
 use Rattle.af_stateq.specs.OneHand.{AreAt, HaveMet, plain_of, Agrees, ready_of, Made, Tried, items_going, items_coming}
-use Rattle.af_stateq.proofs.Slots.{both_ways, none_back, not_false, and_one, on_shelf}
+use Rattle.af_stateq.proofs.Slots.{both_ways, none_back, on_shelf}
 use Rattle.af_stateq.proofs.InPlaces.{is_placed-left, is_placed-let_go, attach_at, detach_at, take_at}
 use Rattle.af_stateq.proofs.EndEvents.{look_is_exact, ack_is_exact}
 use Rattle.af_stateq.proofs.EndMoves.{Each, set_each, out_is, sees_it, sees_nothing, sees_older, shows_it, looks, takes, meets}
@@ -227,7 +229,7 @@ module _ {P K : Type 0} (fits : K → ℕ → P → Type 0) (m : Mutates P K) (o
     made_call (call.SetCommand c) a m' o' w on h = kept_as m o places here (call.SetCommand c) a m' o' _ _ o w.0 w.1 w.2 (places, record { in_step = here.in_step; whole = here.whole; out = here.out; each = here.each }, refl)
     made_call (call.Attach slot mono scale track item) a m' o' w on h =
         let free = and_one _ _ (and_one _ _ (and_one _ _ (and_one _ _ on).0).0).0 in
-        kept_as m o places here (call.Attach slot mono scale track item) a m' o' _ _ o w.0 w.1 w.2 (attach_call slot mono scale track item (on_shelf slot (and_one _ _ free.0).1).1 (not_false _ free.1))
+        kept_as m o places here (call.Attach slot mono scale track item) a m' o' _ _ o w.0 w.1 w.2 (attach_call slot mono scale track item (on_shelf slot (and_one _ _ free.0).1).1 (not_true _ free.1))
     made_call (call.Detach slot) a m' o' w on h =
         let active = and_one _ _ (and_one _ _ on).0 in
         kept_as m o places here (call.Detach slot) a m' o' _ _ o w.0 w.1 w.2 (detach_call slot (on_shelf slot (and_one _ _ active.0).1).1 active.1)

@@ -1,14 +1,11 @@
 -- After a poll the observer has the item of each slot that is on, and gives back those of slots that went off.
 use Rattle.std.proofs.Common.{◌≡◌, ℕ, ◌<◌, ◌&&◌, ◌||◌, not, if◌then◌else◌, Bool, true, false, List, length, Option, Some, is_some, refl, ap, sym, ◌∙◌, subst}
+use Rattle.af_base.proofs.Basics.{and_true}
 use Rattle.af_base.specs.declared.state.FastState.{FastState}
 use Rattle.af_base.specs.declared.state.FastTrack.{FastTrack}
 use Rattle.af_model.specs.StateQueue.{slots, carries, slot_of, has, AreOf, FitAt, IsState}
 use Rattle.af_stateq.specs.Mutates.{at}
 use Rattle.af_stateq.specs.Observes.{IsSettled}
-
-and_true : (b : Bool) → (b && true) ≡ b
-and_true true = refl
-and_true false = refl
 
 module _ {P : Type 0} where
   held_one : (a b : Bool) (r it it' : Option P) → is_some r ≡ (a && not b) → is_some it ≡ b → it' ≡ (if ((a && not b) || not a) then r else it) → is_some it' ≡ a

@@ -1,21 +1,12 @@
 -- How the facts of one slot fare when it is attached, detached, taken back, pushed, or its item comes back.
 use Rattle.std.proofs.Common.{◌≡◌, ℕ, ◌<◌, ◌≤◌, ◌&&◌, ⊎_elim, inl, inr, not, if◌then◌else◌, Bool, true, false, true≢false, Option, Some, None, is_some, refl, ap, sym, ◌∙◌, subst}
 use Rattle.std.proofs.lemmas.Bool.{ltb-true, leb-true}
+use Rattle.af_base.proofs.Basics.{and_true, both, never_true, not_both}
 use Rattle.af_base.specs.declared.state.FastTrack.{FastTrack}
+use Rattle.af_model.proofs.Basics.{not_true as not_false}
 use Rattle.af_model.specs.StateQueue.{slots}
 use Rattle.af_model.specs.PlainQueue.{is_shelf}
 use Rattle.af_stateq.specs.Mutates.{InSlot}
-
-pub not_true : (b : Bool) → (b ≡ true → ⊥) → b ≡ false
-not_true true n = absurd (n refl)
-not_true false n = refl
-
-pub not_both : (b : Bool) → b ≡ true → b ≡ false → ⊥
-not_both b t f = true≢false (sym t ∙ f)
-
-pub not_false : (b : Bool) → not b ≡ true → b ≡ false
-not_false true e = absurd (true≢false (sym e))
-not_false false e = refl
 
 and_not : (b : Bool) → false ≡ (b && not b)
 and_not true = refl
@@ -25,17 +16,9 @@ pub both_ways : {X : Type 0} (b : Bool) → (b ≡ true → X) → (b ≡ false 
 both_ways true y n = y refl
 both_ways false y n = n refl
 
-and_right : (x : Bool) → (x && true) ≡ x
-and_right true = refl
-and_right false = refl
-
-pub and_one : (a b : Bool) → (a && b) ≡ true → (a ≡ true) × (b ≡ true)
-and_one true b e = (refl, e)
-and_one false b e = absurd (true≢false (sym e))
-
 -- a slot that has a shelf
 pub on_shelf : (slot : ℕ) → is_shelf slot ≡ true → (1 ≤ slot) × (slot < slots)
-on_shelf slot e = let t = and_one _ _ e in (leb-true 1 slot t.0, ltb-true slot slots t.1)
+on_shelf slot e = let t = both _ _ e in (leb-true 1 slot t.0, ltb-true slot slots t.1)
 
 module _ {P : Type 0} (clear d l b : Bool) (t tl tb : FastTrack) (p r : Option P) (o : Bool) where
   abbrev Here : Type 0
@@ -57,7 +40,7 @@ module _ {P : Type 0} (clear d l b : Bool) (t tl tb : FastTrack) (p r : Option P
     }
 
     pub none_back : d ≡ true → is_some r ≡ false
-    none_back on = not_true (is_some r) (λ e. not_both d on (s.rests e).0)
+    none_back on = never_true (is_some r) (λ e. not_both d on (s.rests e).0)
 
     pub detach_one : d ≡ true → InSlot clear false l b t tl tb None p o
     detach_one on = record {
@@ -76,9 +59,9 @@ module _ {P : Type 0} (clear d l b : Bool) (t tl tb : FastTrack) (p r : Option P
       comes = λ f e g. let c = s.comes f e g in (c.0, refl, c.2);
       rests = λ e. absurd (true≢false (sym e));
       clean = λ e. both_ways (is_some r)
-          (λ y. let q = s.rests y in (q.0, refl, q.1, λ f. not_true b (λ h. not_both (is_some r) y (s.comes f h q.1).1)))
-          (λ n. let c = s.clean (sym (and_right o) ∙ sym (ap (λ x. o && not x) n) ∙ e) in (c.0, refl, c.2, c.3));
-      found = λ e f g h. let t = and_one o (not (is_some r)) e in absurd (not_both (is_some r) (s.found t.0 f g h) (not_false (is_some r) t.1));
+          (λ y. let q = s.rests y in (q.0, refl, q.1, λ f. never_true b (λ h. not_both (is_some r) y (s.comes f h q.1).1)))
+          (λ n. let c = s.clean (sym (and_true o) ∙ sym (ap (λ x. o && not x) n) ∙ e) in (c.0, refl, c.2, c.3));
+      found = λ e f g h. let t = both o (not (is_some r)) e in absurd (not_both (is_some r) (s.found t.0 f g h) (not_false (is_some r) t.1));
     }
 
     -- the item that the last push took off came back
@@ -88,7 +71,7 @@ module _ {P : Type 0} (clear d l b : Bool) (t tl tb : FastTrack) (p r : Option P
       stays = s.stays;
       comes = λ x. absurd (true≢false x);
       rests = λ h. both_ways (is_some came)
-          (λ y. let q = and_one b (not l) (sym is ∙ y) in ((s.comes f q.0 (not_false l q.1)).0, not_false l q.1))
+          (λ y. let q = both b (not l) (sym is ∙ y) in ((s.comes f q.0 (not_false l q.1)).0, not_false l q.1))
           (λ n. s.rests (sym (ap is_some (e ∙ ap (λ x. if x then came else r) n)) ∙ h));
       clean = λ x. let c = s.clean x in let n : is_some came ≡ false = is ∙ ap (λ y. y && not l) (c.3 f) in
           (c.0, ap is_some (e ∙ ap (λ y. if y then came else r) n) ∙ c.1, c.2, λ y. absurd (true≢false y));
@@ -105,7 +88,7 @@ module _ {P : Type 0} (clear d l b : Bool) (t tl tb : FastTrack) (p r : Option P
     push_one y = record {
       pends = and_not d;
       stays = λ _. refl;
-      comes = λ _ e g. (g, not_true (is_some r) (λ h. not_both l e (s.rests h).1), s.stays e);
+      comes = λ _ e g. (g, never_true (is_some r) (λ h. not_both l e (s.rests h).1), s.stays e);
       rests = λ e. ((s.rests e).0, (s.rests e).0);
       clean = λ e. let c = s.clean e in (c.0, c.1, c.0, λ _. c.2);
       found = λ x g _ h. ⊎_elim (λ z. absurd (true≢false (sym z))) (λ z. s.found x g z (inl y)) h;

@@ -1,5 +1,5 @@
 -- Each step of the queue keeps its rule.
-use Rattle.std.proofs.Common.{◌≡◌, ◌≢◌, ℕ, ◌+◌, ◌<◌, ◌≤◌, ◌==◌, ◌&&◌, if◌then◌else◌, Bool, true, false, true≢false, List, [], ◌∷◌, ◌++◌, length, map, drop, set, get_or, sym, refl, ap, ◌∙◌, subst, arith, length-set, length-append, Some, None, Option, unwrap_or, eq-eqb, ne_eqb}
+use Rattle.std.proofs.Common.{◌≡◌, ◌≢◌, ℕ, ◌+◌, ◌<◌, ◌≤◌, ◌==◌, if◌then◌else◌, Bool, true, false, true≢false, List, [], ◌∷◌, ◌++◌, length, map, drop, set, get_or, sym, refl, ap, ◌∙◌, subst, arith, length-set, length-append, Some, None, Option, eq-eqb, ne_eqb}
 use mathlib.Core.Option as maybe
 use mathlib.Core.Logic.{dite}
 use native.Mathlib.Decide.{ℕ_discrete}
@@ -43,15 +43,8 @@ small k = omega arith
 pub no_cell : (k : ℕ) → 4 ≢ cell k
 no_cell k e = let l = small k in omega arith
 
-pub and_false : (b : Bool) → (b && false) ≡ false
-and_false true = refl
-and_false false = refl
-
 same_cell : (c : ℕ) → cell (c + 3) ≡ cell ((c + 1) + 2)
 same_cell c = omega arith
-
-pub some_same : {T : Type 0} (x y : T) → Some x ≡ Some y → x ≡ y
-some_same x y e = ap (λ o. unwrap_or o x) e
 
 -- there are as many shelves as items
 pub many : {P : Type 0} (ys : List (Slot P)) (n : ℕ) → length (items_on ys) ≡ n → length ys ≡ n

@@ -3,11 +3,11 @@ use Rattle.std.proofs.Common.{◌≡◌, ℕ, ◌+◌, ◌-◌, List, [], ◌∷
 use Rattle.std.proofs.lemmas.List.{append-nil}
 use Rattle.std.proofs.lemmas.List.Sums.{fold-append}
 use Rattle.af_base.specs.declared.state.FastState.{FastState}
+use Rattle.af_model.proofs.Basics.{same_before, state_next}
 use Rattle.af_model.specs.declared.states.ObserverEvent.{ObserverEvent}
 use Rattle.af_model.specs.declared.states.ObserverEvent.TheVariants.{SawNext, Ack}
 use Rattle.af_model.specs.declared.states.ObserverEvent.TheVariants as observer
 use Rattle.af_model.specs.Cycles.{state_of}
-use Rattle.af_model.proofs.UsedStates.{state_of-before, state_of-newest}
 use Rattle.af_model.specs.StateQueue.{ObserverPoint, observer_start, observer_next, observed}
 use Rattle.af_stateq.specs.Laws.{polled_states}
 use Rattle.af_stateq.specs.Observes.{Observes, InOrder, AreTold}
@@ -53,9 +53,9 @@ module _ {P : Type 0} where
         subst (λ (l : List (ObserverEvent P)). AreTold l (n + 1) x (Some x) current) (sym (append_assoc es (SawNext (n + 1) (Some x) came ∷ []) (Ack (n + 1) back ∷ []))) record {
           acked = acked_more es two;
           counted = λ y. ap length (states y) ∙ length-append (polled_states y es) (x ∷ []) ∙ ap (λ k. k + 1) (t.counted y);
-          current = λ y. ap (λ (xs : List FastState). state_of xs (n + 1)) (states y) ∙ ap (λ k. state_of (polled_states y es ++ x ∷ []) (k + 1)) (sym (t.counted y)) ∙ state_of-newest (polled_states y es) x;
+          current = λ y. ap (λ (xs : List FastState). state_of xs (n + 1)) (states y) ∙ ap (λ k. state_of (polled_states y es ++ x ∷ []) (k + 1)) (sym (t.counted y)) ∙ state_next (polled_states y es) x;
           previous = λ y. let e : (n + 1) - 1 ≡ n = omega arith in let c = t.counted y in
-              ap (λ (xs : List FastState). state_of xs ((n + 1) - 1)) (states y) ∙ ap (state_of (polled_states y es ++ x ∷ [])) e ∙ state_of-before (polled_states y es) x n (omega arith) ∙ t.current y;
+              ap (λ (xs : List FastState). state_of xs ((n + 1) - 1)) (states y) ∙ ap (state_of (polled_states y es ++ x ∷ [])) e ∙ same_before (polled_states y es) x n (omega arith) ∙ t.current y;
           state = λ _. refl;
         }
 

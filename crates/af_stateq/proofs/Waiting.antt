@@ -1,5 +1,6 @@
 -- Pushes and looks that wait.
 use Rattle.std.proofs.Common.{◌≡◌, ◌≢◌, ℕ, zero, suc, ◌+◌, ◌-◌, ◌<◌, ◌==◌, true, false, List, [], ◌∷◌, ◌++◌, replicate, refl, ap, sym, ◌∙◌, subst, arith, append_assoc, append-nil}
+use Rattle.af_base.proofs.Basics.{not_both}
 use mathlib.Core.Logic.{dite}
 use native.Mathlib.Decide.{ℕ_discrete}
 use Rattle.af_base.specs.declared.state.Push.{Push}
@@ -10,7 +11,6 @@ use Rattle.af_stateq.specs.Shelved.{word}
 use Rattle.af_stateq.specs.Ends.{saw}
 use Rattle.af_stateq.specs.Mutates.{Mutates}
 use Rattle.af_stateq.specs.Answers.{SeesOlder, WasPushed, waited, UntilPushed}
-use Rattle.af_stateq.proofs.Slots.{not_both}
 
 replicate-end : {X : Type 0} (n : ℕ) (x : X) → replicate n x ++ x ∷ [] ≡ replicate (suc n) x
 replicate-end zero x = refl

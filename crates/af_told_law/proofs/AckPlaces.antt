@@ -5,6 +5,7 @@ use Rattle.std.proofs.lemmas.Bool.{cases_eq}
 use Rattle.std.proofs.lemmas.List.{append_cancel_left, set-get_or}
 use Rattle.std.proofs.lemmas.Option.{none-some}
 use Rattle.af_base.specs.Log.{slots}
+use Rattle.af_model.proofs.Basics.{not_true}
 use Rattle.af_model.specs.declared.states.MutatorEvent.TheVariants as mutator
 use Rattle.af_model.specs.StateQueue.{AreOf, carries, word}
 use Rattle.af_server.specs.Order.{ServerState}
@@ -22,6 +23,7 @@ use Rattle.af_normal.specs.State.{NormalState, kept_of}
 use Rattle.af_normal.specs.Turning.{SeesAck, with_mutator}
 use Rattle.af_normal.proofs.OrderStages.{acked_list}
 use Rattle.af_normal.proofs.Welcomed.{by_return}
+use Rattle.af_told_law.proofs.Basics.{item_within}
 use Rattle.af_told_law.proofs.EditPlaces.{item_set}
 
 abbrev Items : Type 0
@@ -42,11 +44,6 @@ pub none_set : (items : List (Option ServerState)) (k : ℕ) → at (slice_set i
 none_set [] k = refl
 none_set (o ∷ items) zero = refl
 none_set (o ∷ items) (suc k) = none_set items k
-
-pub item_within : (items : List (Option ServerState)) (k : ℕ) (t : ServerState) → at items k ≡ Some t → k < length items
-item_within [] k t e = absurd (none-some _ e)
-item_within (o ∷ items) zero t e = omega arith
-item_within (o ∷ items) (suc k) t e = let l : k < length items = item_within items k t e in omega arith
 
 -- an item in hand came, or was there if none came
 pub came : (items before after : List (Option ServerState)) (k : ℕ) (t : ServerState) → at after k ≡ (if is_some (at items k) then at items k else at before k) → at after k ≡ Some t → (at items k ≡ Some t) ⊎ ((at before k ≡ Some t) × (at items k ≡ None))
@@ -178,10 +175,6 @@ unpending : (items now : List (Option ServerState)) (k : ℕ) → now ≡ items 
 unpending items now k same true b is off = absurd (true≢false off)
 unpending items now k same false b is off = none_by (at items k) (ap (λ (list : List (Option ServerState)). is_some (at list k)) (sym same) ∙ is)
 
-off_by : (b : Bool) → not b ≡ true → b ≡ false
-off_by true e = absurd (true≢false (sym e))
-off_by false e = refl
-
 on_by : (b : Bool) → not b ≡ false → b ≡ true
 on_by true e = refl
 on_by false e = absurd (true≢false e)
@@ -222,7 +215,7 @@ module _ (links : Links) (x y : NormalState) (tied : IsTied links x) where
     unwaited = (λ k low off on none. let there : is_some (at sees.acked.0 k) ≡ true = (sees.acked.3.1 off).1 k low ∙ both_so (carries x.mutator.past.before k) (carries x.mutator.past.last k) on none in
         let rests = (sees.held.each k low).rests (ap is_some (sees.acked.2 k low) ∙ ap (λ (b : Bool). is_some (if b then at sees.acked.0 k else at x.mutator.returned k)) there ∙ there) in
         unpending x.mutator.pending sees.mutator.pending k (ap (λ (m : Mutates ServerState StreamNames). m.pending) sees.acked.1) _ _ (sees.held.each k low).pends rests.0);
-    brings = (λ e. sees.acked.3.1 (off_by x.mutator.past.clear e));
+    brings = (λ e. sees.acked.3.1 (not_true x.mutator.past.clear e));
     none = (λ e. sees.acked.3.0 (on_by x.mutator.past.clear e));
     rests = (λ k low some. last_is k ((sees.held.each k low).rests (ap is_some (sees.acked.2 k low) ∙ second_some (at sees.acked.0 k) (at x.mutator.returned k) some)).1);
     comes = (λ k low some. last_is k ((sees.held.each k low).rests (ap is_some (sees.acked.2 k low) ∙ first_some (at sees.acked.0 k) (at x.mutator.returned k) some)).1);

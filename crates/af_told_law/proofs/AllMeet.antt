@@ -1,34 +1,22 @@
 -- After the meetings of all parties the run after its meetings tells the session, and its lists have their histories.
-use Rattle.std.proofs.Common.{Bool, List, Some, [], ap, arith, false, is_some, length, refl, slice_get, subst, suc, sym, true, zero, ℕ, ◌<◌, ◌∙◌, ◌∷◌, ◌≡◌}
+use Rattle.std.proofs.Common.{List, Some, ap, arith, false, is_some, length, refl, slice_get, subst, sym, true, ℕ, ◌<◌, ◌∙◌, ◌≡◌}
 use Rattle.std.proofs.lemmas.Option.{slice_get_within}
+use Rattle.af_base.proofs.Basics.{some_at}
+use Rattle.af_judge.proofs.Basics.{met_many}
 use Rattle.af_life.specs.declared.kept.TrackKept.{TrackKept}
 use Rattle.af_link.specs.declared.links.Links.{Links}
 use Rattle.af_party.specs.Parties.{PartyState}
 use Rattle.af_runs.specs.Rounds.{HaveHistories, KeepsHistory, TrackHistories}
-use Rattle.af_runs.specs.Runs.{Run, TrackTold, met, stream_met, takes_part, told_at, track_met}
+use Rattle.af_runs.specs.Runs.{Run, TrackTold, met, takes_part, told_at, track_met}
 use Rattle.af_runs.specs.Sessions.{Session, track_count}
-use Rattle.af_judge.proofs.BlocksMeet.{met_at, met_many}
+use Rattle.af_judge.proofs.BlocksMeet.{met_at}
 use Rattle.af_session.specs.Met.{Met}
 use Rattle.af_session.specs.Together.{AreTogether, SessionState}
 use Rattle.af_told_law.specs.Tells.{Tells, TellsNormal, TellsTrack}
 use Rattle.af_told_law.proofs.SharedMeets.{fast_met, kept_met, shared_histories, shared_met}
 use Rattle.af_told_law.proofs.TrackMeets.{commands_history, stream_now, track_now, tracks_are}
-use Rattle.af_base.specs.declared.event.ClientEvent.TheVariants as client
 use Rattle.af_told_law.specs.Deeds.{Deeds, MetTold, deeds_met}
-use Rattle.af_told_law.proofs.TameRuns.{lawful_before}
-use Rattle.af_runs.specs.Blocks.{BlockTold, client_list, is_tame, server_list}
-
-pub some_at : {X : Type 0} (xs : List X) (i : ℕ) → i < length xs → (x : X) × (slice_get xs i ≡ Some x)
-some_at [] i low = absurd (omega (arith, low))
-some_at (x ∷ xs) zero low = (x, refl)
-some_at (x ∷ xs) (suc i) low = some_at xs i (omega (arith, low))
-
--- a block that wasn't poked up to a meeting wasn't before
-pub tame_before : (part there : Bool) (b : BlockTold) → is_tame (stream_met part there b) ≡ true → is_tame b ≡ true
-tame_before true true b = lawful_before (client_list b) (client.Learn (length (server_list b)) ∷ [])
-tame_before true false b = lawful_before (client_list b) (client.Learn (length (server_list b)) ∷ [])
-tame_before false true b = λ tame. tame
-tame_before false false b = λ tame. tame
+use Rattle.af_turn_law.proofs.Basics.{tame_met}
 
 module _ (links : Links) (s : Session) (run : Run) {d : Deeds} (a b : SessionState) (together : AreTogether links a) (still : AreTogether links b) (h : Tells s run d a) (m : Met a b) where
   as_many : length b.clients ≡ length a.clients
@@ -64,8 +52,8 @@ module _ (links : Links) (s : Session) (run : Run) {d : Deeds} (a b : SessionSta
         let both : KeepsHistory (takes_part s (met s run) i) (told_at (met s run) i).stream × KeepsHistory true (told_at (met s run) i).commands =
         subst (λ (y : TrackTold). KeepsHistory (takes_part s (met s run) i) y.stream × KeepsHistory true y.commands) (sym told_is) (
           (λ part tame.
-              (stream_now s run links a b together h m i low before.0 after.0 before.1 t).history (lists.streams i low (sym same_part ∙ part) (tame_before (takes_part s run i) run.handed (told_at run i).stream tame)) (sym same_part ∙ part) tame),
-          (λ part tame. commands_history s run links a b together h m i low before.0 after.0 before.1 t (lists.commands i low (tame_before true false (told_at run i).commands tame)) tame),
+              (stream_now s run links a b together h m i low before.0 after.0 before.1 t).history (lists.streams i low (sym same_part ∙ part) (tame_met (takes_part s run i) run.handed (told_at run i).stream tame)) (sym same_part ∙ part) tame),
+          (λ part tame. commands_history s run links a b together h m i low before.0 after.0 before.1 t (lists.commands i low (tame_met true false (told_at run i).commands tame)) tame),
         ) in
         record { stream = both.0; commands = both.1 }
 

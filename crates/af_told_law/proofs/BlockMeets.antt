@@ -9,6 +9,7 @@ use Rattle.af_cblk.specs.Parts.{hand_met, server_did}
 use Rattle.af_cblk.specs.Sides.{HandSide, client_made}
 use Rattle.af_cblk.specs.declared.view.ServerPart.{ServerPart}
 use Rattle.af_client.specs.Order.{ClientState}
+use Rattle.af_model.proofs.Basics.{lawful_first}
 use Rattle.af_model.specs.History.{HasHistory, is_lawful}
 use Rattle.af_model.specs.declared.shape.Shape.{Shape}
 use Rattle.af_normal.specs.Meeting.{Meets, MeetsAll, client_knows}
@@ -20,7 +21,6 @@ use Rattle.af_server.specs.Order.{ServerState}
 use Rattle.af_engine.specs.Met.{MeetsFlag}
 use Rattle.af_told_law.specs.Tells.{TellsServer}
 use Rattle.af_told_law.proofs.KeptAlike.{met_alike}
-use Rattle.af_told_law.proofs.TameRuns.{lawful_before}
 use Rattle.af_cblk.specs.declared.view.HandPart.{HandPart}
 use Rattle.af_model.specs.ServerCalls.{server_begins}
 use Rattle.af_told_law.specs.Deeds.{DeedTold, done_on, met_deed}
@@ -70,7 +70,7 @@ hand_alone b c h g side told is =
 
 -- a client that is lawful after it met was lawful before
 client_tame : (c d : ClientState) (s : ServerState) → d ≡ client_knows c s → is_lawful d.pass.part.events ≡ true → is_lawful c.pass.part.events ≡ true
-client_tame c d s is lawful = lawful_before c.pass.part.events (client.Learn (length s.pass.part.events) ∷ []) (sym (ap (λ (y : ClientState). is_lawful y.pass.part.events) is) ∙ lawful)
+client_tame c d s is lawful = lawful_first c.pass.part.events (client.Learn (length s.pass.part.events) ∷ []) (sym (ap (λ (y : ClientState). is_lawful y.pass.part.events) is) ∙ lawful)
 
 -- ## A client and a server
 

@@ -2,13 +2,14 @@
 use Rattle.std.proofs.Common.{Bool, List, Some, ap, arith, if◌then◌else◌, inl, inr, length, length-set, refl, slice_get, slice_set, subst, sym, ℕ, ◌<◌, ◌==◌, ◌∙◌, ◌≡◌, ◌⊎◌}
 use Rattle.std.proofs.lemmas.Bool.{cases_eq, eq-eqb, ne_eqb}
 use Rattle.std.proofs.lemmas.Option.{same_Some, slice_get_within}
+use Rattle.af_base.proofs.Basics.{get_set_other, get_set_same}
 use Rattle.af_base.specs.declared.event.ClientCall.{ClientCall}
 use Rattle.af_base.specs.declared.event.ServerEvent.{ServerEvent}
 use Rattle.af_fast.specs.Mixer.{MixerState}
+use Rattle.af_judge.proofs.Basics.{each_long, told_each}
 use Rattle.af_model.specs.Journals.{RoundSeen}
 use Rattle.af_model.specs.declared.shape.Shape.{Shape}
 use Rattle.af_normal.specs.State.{NormalState}
-use Rattle.af_normal.proofs.LegalLists.{get_set_other, get_set_same}
 use Rattle.af_party.specs.Parties.{PartyState, track_of}
 use Rattle.af_runs.specs.Blocks.{BlockTold, client_list, hand_list, server_list}
 use Rattle.af_runs.specs.ClientTurns.{Track, after_calls, Side}
@@ -16,7 +17,6 @@ use Rattle.af_runs.specs.Runs.{Run, TrackTold, called, calls_in, sides_of, told_
 use Rattle.af_runs.specs.Sessions.{Session}
 use Rattle.af_runs.specs.TurnRuns.{calls_alone}
 use Rattle.af_judge.proofs.BlocksTold.{client-hand, client-server}
-use Rattle.af_judge.proofs.EachTrack.{each_long, told_each}
 use Rattle.af_judge.proofs.TracksTold.{sides_called}
 use Rattle.af_session.specs.Rounds.{ClientTurned, file_at, ops_at}
 use Rattle.af_session.specs.Together.{SessionState}

@@ -2,8 +2,10 @@
 use Rattle.std.proofs.Common.{◌≡◌, ◌≢◌, ⊎_elim, ℕ, ◌<◌, ◌&&◌, not, Bool, true, false, true≢false, if◌then◌else◌, is_some, List, [], ◌∷◌, ◌++◌, length, Option, Some, None, refl, sym, ap, subst, ◌∙◌, arith}
 use Rattle.std.proofs.lemmas.Bool.{and_parts, cases_eq}
 use Rattle.std.proofs.lemmas.Option.{same_Some}
+use Rattle.af_base.proofs.Basics.{some_at}
 use Rattle.af_base.specs.declared.state.FastState.{FastState}
 use Rattle.af_base.specs.Turn.{Turn, turn_of}
+use Rattle.af_life.proofs.Basics.{returning_away, welcomed_at}
 use Rattle.af_life.specs.declared.kept.Holder.TheVariants.{Home}
 use Rattle.af_life.specs.declared.kept.TrackKept.{TrackKept}
 use Rattle.af_life.specs.Edits.{after_ack, comes_home, welcomed}
@@ -15,12 +17,11 @@ use Rattle.af_model.specs.StateQueue.{HasHistory, carries, slot_of}
 use Rattle.af_normal.specs.LegalTurned.{IsLegal, home_stream, in_hand}
 use Rattle.af_normal.specs.Mixing.{stream_at}
 use Rattle.af_normal.specs.State.{NormalState, kept_of}
-use Rattle.af_normal.proofs.OrderEdits.{away_slot, returning_away}
+use Rattle.af_normal.proofs.OrderEdits.{away_slot}
 use Rattle.af_runs.specs.Runs.{Run, told_at}
 use Rattle.af_runs.specs.Sessions.{Session}
 use Rattle.af_server.specs.Order.{ServerState}
 use Rattle.af_stateq.specs.Mutates.{at}
-use Rattle.af_judge.proofs.SoundTurns.{welcomed_at}
 use Rattle.af_engine.specs.Met.{slot_for}
 use Rattle.af_session.specs.Together.{AreTogether, SessionState}
 use Rattle.af_told_law.specs.Between.{StandsBefore}
@@ -28,7 +29,6 @@ use Rattle.af_told_law.specs.Comers.{ComersTell, ComesBy}
 use Rattle.af_told_law.specs.Places.{StreamsGo}
 use Rattle.af_told_law.specs.Tells.{Tells, TellsServer, held_slot, is_coming, items_given}
 use Rattle.af_told_law.proofs.AckPlaces.{none_by}
-use Rattle.af_told_law.proofs.AllMeet.{some_at}
 use Rattle.af_told_law.proofs.ComersTold.{comers_told}
 use Rattle.af_told_law.proofs.LooksTurned.{all_polled, back_coming, back_given, back_same, coming_parts}
 use Rattle.af_told_law.proofs.SlotHeld.{found_carries, found_track}

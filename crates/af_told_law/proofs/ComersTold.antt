@@ -1,5 +1,6 @@
 -- The stream proxies that come home in a turn of the normal mixer tell their blocks, if it is known how they come.
 use Rattle.std.proofs.Common.{◌≡◌, ℕ, ◌<◌, ◌&&◌, Bool, true, false, true≢false, if◌then◌else◌, is_some, List, length, Option, Some, None, refl, sym, ◌∙◌, arith}
+use Rattle.af_base.proofs.Basics.{some_at}
 use Rattle.af_base.specs.Turn.{Turn}
 use Rattle.af_life.specs.declared.kept.Holder.{Holder}
 use Rattle.af_life.specs.declared.kept.Holder.TheVariants.{Home, Lent, Returning}
@@ -13,7 +14,6 @@ use Rattle.af_stateq.specs.Mutates.{at}
 use Rattle.af_session.specs.Together.{SessionState}
 use Rattle.af_told_law.specs.Comers.{ComersTell, ComesBy}
 use Rattle.af_told_law.specs.Tells.{Tells, TellsAway, TellsServer}
-use Rattle.af_told_law.proofs.AllMeet.{some_at}
 use Rattle.af_told_law.specs.Deeds.{Deeds, done_on}
 
 -- what is there if one of two is taken, by whether the first is there

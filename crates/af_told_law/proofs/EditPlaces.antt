@@ -4,6 +4,7 @@ use Rattle.std.specs.Prelude.{slice_set}
 use Rattle.std.proofs.lemmas.Bool.{cases_eq, cases_lt}
 use Rattle.std.proofs.lemmas.Option.{none-some}
 use Rattle.af_base.specs.Log.{slots}
+use Rattle.af_life.proofs.Basics.{at_here, at_other, away_holds, set_each}
 use Rattle.af_server.specs.Order.{ServerState}
 use Rattle.af_server.specs.Slot.{listed}
 use Rattle.af_stateq.specs.Mutates.{at}
@@ -18,8 +19,7 @@ use Rattle.af_normal.specs.Editing.{LetsGo, Lends, lets_go, lends}
 use Rattle.af_normal.specs.Mixing.{stream_at}
 use Rattle.af_normal.specs.Mutating.{EditsTrack, EditsTo}
 use Rattle.af_normal.specs.State.{NormalState, setup_of, kept_of}
-use Rattle.af_normal.proofs.OrderEdits.{at_here, at_other, apart, leaver_away, sound_go, comer_slot, comer_inside, comer_holds, sound_lend}
-use Rattle.af_normal.proofs.OrderSlots.{away_holds, set_each}
+use Rattle.af_normal.proofs.OrderEdits.{apart, leaver_away, sound_go, comer_slot, comer_inside, comer_holds, sound_lend}
 
 -- an item that stands after one was written is that one, or stood before
 pub item_set : (items : List (Option ServerState)) (k : ℕ) (v : Option ServerState) (j : ℕ) (t : ServerState) → at (slice_set items k v) j ≡ Some t → ((j ≡ k) × (v ≡ Some t)) ⊎ (at items j ≡ Some t)

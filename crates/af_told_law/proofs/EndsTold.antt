@@ -3,18 +3,18 @@ use Rattle.std.proofs.Common.{◌≡◌, ℕ, ◌<◌, Bool, true, false, if◌t
 use Rattle.std.proofs.lemmas.List.{length-map}
 use Rattle.std.proofs.lemmas.Option.{same_Some, slice_get-map, slice_get_within}
 use Rattle.std.specs.Option.{option_map}
+use Rattle.af_base.proofs.Basics.{some_at}
+use Rattle.af_judge.proofs.Basics.{each_long, told_each}
 use Rattle.af_life.specs.Kept.{NormalKept}
 use Rattle.af_party.specs.Parties.{PartyState}
 use Rattle.af_runs.specs.Clients.{ends}
 use Rattle.af_runs.specs.ClientTurns.{Track}
 use Rattle.af_runs.specs.Runs.{Run, TrackTold, each_track, told_at, with_ends}
 use Rattle.af_runs.specs.Sessions.{Session}
-use Rattle.af_judge.proofs.EachTrack.{each_long, told_each}
 use Rattle.af_session.specs.Rounds.{end_party}
 use Rattle.af_session.specs.Rounds as parties
 use Rattle.af_session.specs.Together.{SessionState}
 use Rattle.af_told_law.specs.Tells.{Tells, TellsTrack}
-use Rattle.af_told_law.proofs.AllMeet.{some_at}
 use Rattle.af_told_law.specs.Deeds.{Deeds}
 
 module _ (s : Session) (run : Run) {d : Deeds} (x : SessionState) (h : Tells s run d x) where

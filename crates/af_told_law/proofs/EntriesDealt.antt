@@ -7,8 +7,8 @@ use Rattle.std.proofs.lemmas.List.Sums.{sum_by-append}
 use Rattle.af_base.specs.declared.frame.Frame.{Frame}
 use Rattle.af_base.specs.declared.log.CycleEntry.{CycleEntry}
 use Rattle.af_base.specs.Log.{Logged}
+use Rattle.af_model.proofs.Basics.{same_length}
 use Rattle.af_model.specs.Journals.{EntrySeen, entries_seen, taken_by}
-use Rattle.af_rendering.proofs.JournalSound.{same_length}
 use Rattle.af_told_law.proofs.LogMore.{GrowsBy, entries_grown}
 
 sum_first : (e : CycleEntry) (es : List CycleEntry) → sum_by taken_by (e ∷ es) ≡ taken_by e + sum_by taken_by es

@@ -1,5 +1,5 @@
 -- The frames that the slots of an entry took are those by which the journal tells it.
-use Rattle.std.proofs.Common.{◌≡◌, ◌⊎◌, inl, inr, ℕ, zero, suc, ◌+◌, ◌-◌, ◌<◌, ◌≤◌, Bool, if◌then◌else◌, take, drop, List, sym, ap, ◌∙◌, subst, arith}
+use Rattle.std.proofs.Common.{◌≡◌, ◌⊎◌, inl, inr, ℕ, ◌+◌, ◌-◌, ◌<◌, ◌≤◌, Bool, if◌then◌else◌, take, drop, List, sym, ap, ◌∙◌, arith}
 use Rattle.std.proofs.lemmas.Bool.{cases_eq, ne_eqb}
 use Rattle.std.proofs.lemmas.List.{drop-drop, drop-take, take-take}
 use Rattle.af_base.specs.declared.frame.Frame.{Frame}
@@ -7,16 +7,8 @@ use Rattle.af_base.specs.declared.log.CycleEntry.{CycleEntry}
 use Rattle.af_base.specs.Log.{count_seen, entry_slot, frames_taken, slots}
 use Rattle.af_model.specs.Cycles.{place_of, taken_before}
 use Rattle.af_model.specs.Journals.{slot_frames, taken_by}
+use Rattle.af_runs.proofs.Basics.{taken_up}
 use Rattle.af_told_law.specs.MixLaws.{entry_told}
-
--- a slot took no more than the slots up to a later one
-taken_up : (entry : CycleEntry) (i n : ℕ) → i < n → taken_before entry i + count_seen (entry_slot entry i).seen ≤ taken_before entry n
-taken_up entry i zero low = absurd (omega (arith, low))
-taken_up entry i (suc n) low = by_last (cases_eq i n) (λ below. taken_up entry i n below)
-  where
-    by_last : (i ≡ n) ⊎ (i ≡ n → ⊥) → (i < n → taken_before entry i + count_seen (entry_slot entry i).seen ≤ taken_before entry n) → taken_before entry i + count_seen (entry_slot entry i).seen ≤ taken_before entry n + count_seen (entry_slot entry n).seen
-    by_last (inl e) before = subst (λ (k : ℕ). taken_before entry k + count_seen (entry_slot entry k).seen ≤ taken_before entry n + count_seen (entry_slot entry n).seen) (sym e) (omega arith)
-    by_last (inr ne) before = let b = before (omega (arith, low, ne)) in omega (arith, b)
 
 module _ (frames : List Frame) (entry : CycleEntry) (place i : ℕ) (first : (entry_slot entry i).first ≡ place_of (place + taken_before entry i) (entry_slot entry i).seen) where
   abbrev count : ℕ

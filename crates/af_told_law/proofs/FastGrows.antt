@@ -1,5 +1,5 @@
 -- What the cycles of a fast turn leave of the mixer that went on: its log grows.
-use Rattle.std.proofs.Common.{◌≡◌, ℕ, zero, suc, ◌+◌, ◌<◌, ◌≤◌, ◌||◌, Bool, true, false, true≢false, List, [], ◌∷◌, ◌++◌, length, length-append, append-nil, append_assoc, refl, sym, ap, ◌∙◌, arith}
+use Rattle.std.proofs.Common.{◌≡◌, ℕ, zero, suc, ◌+◌, ◌<◌, ◌≤◌, ◌||◌, Bool, true, false, List, [], ◌∷◌, ◌++◌, length, length-append, append-nil, append_assoc, refl, sym, ap, ◌∙◌, arith}
 use Rattle.std.proofs.lemmas.Bool.{ne_eqb}
 use Rattle.std.proofs.lemmas.Grind.{fold-append}
 use Rattle.af_base.specs.declared.frame.Frame.{Frame}
@@ -12,13 +12,7 @@ use Rattle.af_fast.specs.Mixing.{AddsCycle, Writes}
 use Rattle.af_model.specs.Cycles.{has_exit, is_exit, is_mixed, taken_before}
 use Rattle.af_session.specs.FastTurns.{IsCycle, IsFastTurn, WritesCycle}
 use Rattle.af_session.specs.Together.{SessionState}
-
-not_exit : (c : Cycle) → is_mixed c ≡ true → is_exit c ≡ false
-not_exit cycle.Mixed e = refl
-not_exit cycle.Idle e = refl
-not_exit cycle.Cold e = refl
-not_exit cycle.Exit e = absurd (true≢false (sym e))
-not_exit (cycle.Spent n) e = refl
+use Rattle.af_told_law.proofs.Basics.{no_exit}
 
 -- a mixer that hasn't ended, whose log has room
 pub goes_on : (m : MixerState) → m.exited ≡ false → length m.log.entries < m.cycles → is_over m ≡ false
@@ -60,7 +54,7 @@ module _ (x next : SessionState) (out out' : List Frame) (answer : Cycle) (c : I
       ∙ ap has_exit adds.2.entries
       ∙ fold-append (λ (found : Bool) (entry : CycleEntry). found || is_exit entry.cycle) false c.met.fast.log.entries (adds.0 ∷ [])
       ∙ (λ j. adds.2.legal.runs j || is_exit (sym adds.1 j))
-      ∙ not_exit answer is
+      ∙ no_exit answer is
 
   pub still_room : (left : ℕ) → length x.fast.log.entries + suc left ≤ x.fast.cycles → length next.fast.log.entries + left ≤ next.fast.cycles
   still_room left room =

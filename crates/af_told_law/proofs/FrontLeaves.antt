@@ -1,9 +1,11 @@
 -- What a look leaves of its server is the same by each front by which it may have answered so.
-use Rattle.std.proofs.Common.{◌≡◌, ℕ, ◌^◌, ◌<◌, ◌≤◌, ◌==◌, ◌&&◌, ◌||◌, not, min, nat_lt, Bool, true, false, true≢false, if◌then◌else◌, Some, None, refl, sym, ap, ◌∙◌, subst, eqb-true, arith}
-use Rattle.std.proofs.lemmas.Bool.Decides.{nat_tests}
+use Rattle.std.proofs.Common.{◌≡◌, ℕ, ◌^◌, ◌==◌, ◌&&◌, ◌||◌, not, min, nat_lt, Bool, true, false, true≢false, if◌then◌else◌, Some, None, refl, sym, ap, ◌∙◌, subst, eqb-true, arith}
+use Rattle.af_base.proofs.Basics.{both, is_not_below, not_below_is}
 use Rattle.af_base.specs.declared.log.SlotEntry.{SlotEntry}
 use Rattle.af_base.specs.declared.seen.Seen.{Seen}
 use Rattle.af_base.specs.declared.seen.Seen.TheVariants as seen
+use Rattle.af_judge.proofs.Basics.{ahead_behind, ahead_itself, ahead_word}
+use Rattle.af_model.proofs.Basics.{not_true}
 use Rattle.af_model.specs.declared.shape.Shape.{Shape}
 use Rattle.af_model.specs.Cycles.{Listed, kept}
 use Rattle.af_model.specs.Point.{wrapped}
@@ -11,29 +13,14 @@ use Rattle.af_model.specs.Room.{ahead, outside}
 use Rattle.af_model.specs.ServerCalls.{dropped_by, flush_position, is_noticed, look_at, past_front}
 use Rattle.af_model.specs.Spelled.{own_front}
 use Rattle.af_runs.specs.Fronts.{behind, flushed_front, front_by_answer, front_of, is_own_inside, leaves_open}
-use Rattle.af_judge.proofs.LookFront.{both, noticed_new, un_not}
+use Rattle.af_judge.proofs.LookFront.{noticed_new}
 
 -- both fronts are noticed alike, and if they aren't noticed both lie alike in the block
 abbrev pub Leaves : Shape → (old flush rear f g : ℕ) → Type 0
 Leaves k old flush rear f g = (is_noticed k (not (flush == old)) rear f ≡ is_noticed k (not (flush == old)) rear g) × (is_noticed k (not (flush == old)) rear f ≡ false → outside k.frames f rear ≡ outside k.frames g rear)
 
-not_over : (a b : ℕ) → b ≤ a → nat_lt a b ≡ false
-not_over a b le = grind (arith, nat_tests, le)
-
-at_most : (a b : ℕ) → nat_lt a b ≡ false → b ≤ a
-at_most a b e = grind (arith, nat_tests, e)
-
-ahead_word : (f p : ℕ) → ahead f p < 2 ^ 32
-ahead_word f p = omega arith
-
-ahead_behind : (count p : ℕ) → count < 2 ^ 32 → ahead (behind p count) p ≡ count
-ahead_behind count p small = omega (arith, small)
-
 ahead_back : (f p r : ℕ) → ahead (behind p (ahead f p)) r ≡ ahead f r
 ahead_back f p r = (let b : behind p (ahead f p) ≡ wrapped f = omega arith in ap (λ (g : ℕ). ahead g r) b) ∙ (let e : ahead (wrapped f) r ≡ ahead f r = omega arith in e)
-
-ahead_itself : (p : ℕ) → ahead p p ≡ 0
-ahead_itself p = omega arith
 
 module _ (k : Shape) (old asked : ℕ) (slot : SlotEntry) (f : ℕ) (answers : slot.seen ≡ look_at k old asked slot.flush slot.rear f) where
   abbrev new : Bool
@@ -105,11 +92,11 @@ module _ (k : Shape) (old asked : ℕ) (slot : SlotEntry) (f : ℕ) (answers : s
       by_near : (b : Bool) → (k.wrap == 0) ≡ false → nat_lt (ahead f at) (2 ^ 31) ≡ b → ((if b then ahead f at else 0) == 0) ≡ false → Same (behind at (if b then ahead f at else 0))
       by_near true placed e some =
           let fits : (false || not (nat_lt k.frames (ahead f slot.rear))) ≡ true = ap (λ (b : Bool). b || not (nat_lt k.frames (ahead f slot.rear))) (sym placed) ∙ (both _ _ on).1 in
-          notice_inside (behind at (ahead f at)) on (ap (nat_lt k.frames) (ahead_back f at slot.rear) ∙ un_not _ fits)
+          notice_inside (behind at (ahead f at)) on (ap (nat_lt k.frames) (ahead_back f at slot.rear) ∙ not_true _ fits)
       by_near false placed e some = absurd (true≢false some)
 
       by_some : (c : Bool) → (k.wrap == 0) ≡ false → (past_front f at == 0) ≡ c → Same (if c then slot.rear else behind at (past_front f at))
-      by_some true placed is = notice_inside slot.rear on (ap (nat_lt k.frames) (ahead_itself slot.rear) ∙ not_over k.frames 0 (omega arith))
+      by_some true placed is = notice_inside slot.rear on (ap (nat_lt k.frames) (ahead_itself slot.rear) ∙ is_not_below k.frames 0 (omega arith))
       by_some false placed is = by_near (nat_lt (ahead f at) (2 ^ 31)) placed refl is
 
       by_wrap : (b : Bool) → (k.wrap == 0) ≡ b → Same (flushed_front k.wrap slot.flush slot.rear (dropped_by k.wrap slot.flush slot.rear f))
@@ -125,8 +112,8 @@ module _ (k : Shape) (old asked : ℕ) (slot : SlotEntry) (f : ℕ) (answers : s
       (λ off inside.
       let small = ahead_word f slot.rear in
       let back : ahead (behind slot.rear (min asked (ahead f slot.rear))) slot.rear ≡ min asked (ahead f slot.rear) = ahead_behind (min asked (ahead f slot.rear)) slot.rear (omega (arith, small)) in
-      let low = at_most k.frames (ahead f slot.rear) inside in
-      both_inside (behind slot.rear (min asked (ahead f slot.rear))) off inside (not_over k.frames (ahead (behind slot.rear (min asked (ahead f slot.rear))) slot.rear) (omega (arith, back, low))))
+      let low = not_below_is k.frames (ahead f slot.rear) inside in
+      both_inside (behind slot.rear (min asked (ahead f slot.rear))) off inside (is_not_below k.frames (ahead (behind slot.rear (min asked (ahead f slot.rear))) slot.rear) (omega (arith, back, low))))
 
 -- the front that a journal tells leaves the same
 pub told_leaves : (asked : ℕ) (s : Listed) (slot : SlotEntry) (f : ℕ) → slot.seen ≡ look_at s.shape (kept s).flush asked slot.flush slot.rear f → Leaves s.shape (kept s).flush slot.flush slot.rear f (front_of asked s slot)
@@ -136,7 +123,7 @@ told_leaves asked s slot f answers = by_open (leaves_open s.shape asked slot.see
         → Leaves s.shape (kept s).flush slot.flush slot.rear f (if leaves_open s.shape asked slot.seen && is_own_inside s slot.rear then own_front s.shape (kept s) else front_by_answer s.shape slot)
     by_open true true opens inside =
         subst (λ (c : Bool). Leaves s.shape (kept s).flush slot.flush slot.rear f (if c then own_front s.shape (kept s) else front_by_answer s.shape slot)) (sym (λ j. opens j && inside j))
-        (open_leaves s.shape (kept s).flush asked slot f answers (own_front s.shape (kept s)) opens (un_not _ inside))
+        (open_leaves s.shape (kept s).flush asked slot f answers (own_front s.shape (kept s)) opens (not_true _ inside))
     by_open true false opens inside =
         subst (λ (c : Bool). Leaves s.shape (kept s).flush slot.flush slot.rear f (if c then own_front s.shape (kept s) else front_by_answer s.shape slot)) (sym (λ j. opens j && inside j))
         (answer_leaves s.shape (kept s).flush asked slot f answers)

@@ -4,6 +4,8 @@ use Rattle.std.specs.Prelude.{slice_set}
 use Rattle.af_base.specs.declared.state.Command.{Command}
 use Rattle.af_base.specs.Command.{code_of}
 use Rattle.af_base.specs.Turn.{TakeSeen, Turn}
+use Rattle.af_judge.proofs.Basics.{push_tracks}
+use Rattle.af_life.proofs.Basics.{at_set}
 use Rattle.af_life.specs.declared.kept.Holder.TheVariants.{Returning}
 use Rattle.af_life.specs.declared.kept.TrackKept.{TrackKept}
 use Rattle.af_life.specs.Edits.{after_ack, after_push, edited, edited_to, entered, lend, lent_by, let_go, must_enter, must_leave, mutated, ordered}
@@ -12,9 +14,7 @@ use Rattle.af_life.specs.Plays.{after_take, after_takes}
 use Rattle.af_life.specs.Sound.{IsSound}
 use Rattle.af_life.specs.Turn.{after_edits, after_tracks, turn_after}
 use Rattle.af_model.specs.Draft.{commanded as with_command}
-use Rattle.af_judge.proofs.SoundSlots.{at_set}
 use Rattle.af_judge.proofs.SoundTurns.{sound_acked}
-use Rattle.af_judge.proofs.TurnEdits.{push_tracks}
 use Rattle.af_told_law.proofs.TurnAlike.{served_holder}
 
 -- the proxy of a track is home

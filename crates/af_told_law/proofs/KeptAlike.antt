@@ -6,11 +6,12 @@ use Rattle.af_base.specs.declared.event.ServerEvent.TheVariants as server
 use Rattle.af_base.specs.declared.log.SlotEntry.{SlotEntry}
 use Rattle.af_base.specs.declared.seen.Seen.{Seen}
 use Rattle.af_base.specs.declared.seen.Seen.TheVariants as seen
+use Rattle.af_model.proofs.Basics.{kept_more}
 use Rattle.af_model.specs.declared.shape.Shape.{Shape}
 use Rattle.af_model.specs.Cycles.{IsSeen, Listed, LooksBy, after_look, cycle_events, kept}
 use Rattle.af_model.specs.Point.{wrapped}
 use Rattle.af_model.specs.Room.{ahead, outside}
-use Rattle.af_model.specs.ServerCalls.{ServerKept, is_noticed, look_at, look_events, server_begins, server_keeps, server_kept}
+use Rattle.af_model.specs.ServerCalls.{ServerKept, is_noticed, look_at, look_events, server_keeps, server_kept}
 use Rattle.af_runs.specs.Fronts.{front_of}
 use Rattle.af_told_law.specs.Alike.{TellAlike, bare}
 use Rattle.af_told_law.proofs.FrontLeaves.{Leaves, told_leaves}
@@ -18,10 +19,6 @@ use Rattle.af_told_law.proofs.FrontLeaves.{Leaves, told_leaves}
 -- lists that are the same tell alike
 pub same_alike : (k : Shape) (xs ys : List ServerEvent) → xs ≡ ys → TellAlike k xs ys
 same_alike k xs ys is = record { kept = ap (λ (es : List ServerEvent). bare (server_kept k es)) is; long = ap (λ (es : List ServerEvent). length es) is }
-
--- what a list tells after further events
-pub kept_more : (k : Shape) (es more : List ServerEvent) → server_kept k (es ++ more) ≡ fold (server_keeps k) (server_kept k es) more
-kept_more k es more = fold-append (server_keeps k) (server_begins k) es more
 
 -- a meeting tells nothing
 pub met_alike : (k : Shape) (xs ys : List ServerEvent) (n : ℕ) → TellAlike k xs ys → TellAlike k (xs ++ server.Learn n ∷ []) (ys ++ server.Learn n ∷ [])

@@ -7,6 +7,7 @@ use Rattle.af_base.specs.declared.turn.CommandLook.{CommandLook}
 use Rattle.af_base.specs.Turn.{TakeSeen}
 use Rattle.af_life.specs.Looks.{LegalLooks, all_command_events, as_slot, command_events, did, takes_command}
 use Rattle.af_life.specs.Obeys.{shows_command}
+use Rattle.af_model.proofs.Basics.{kept_more}
 use Rattle.af_model.specs.declared.shape.Shape.{Shape}
 use Rattle.af_model.specs.Cycles.{Listed, LooksBy, cycle_events, kept}
 use Rattle.af_model.specs.ServerCalls.{ServerKept, look_events}
@@ -14,7 +15,7 @@ use Rattle.af_runs.specs.Found.{take_front}
 use Rattle.af_runs.specs.Fronts.{front_of, fronts_by}
 use Rattle.af_told_law.specs.Alike.{TellAlike, bare}
 use Rattle.af_told_law.proofs.FrontLeaves.{Leaves, told_leaves}
-use Rattle.af_told_law.proofs.KeptAlike.{NoDrops, answers, kept_more, looks_alike, some_long, some_look, told_alike, undropped_alike}
+use Rattle.af_told_law.proofs.KeptAlike.{NoDrops, answers, looks_alike, some_long, some_look, told_alike, undropped_alike}
 
 -- ## The same events
 

@@ -2,6 +2,7 @@
 use Rattle.std.proofs.Common.{◌≡◌, ℕ, ◌-◌, ◌<◌, ◌==◌, ◌||◌, Bool, true, false, if◌then◌else◌, fold, inr, List, [], ◌∷◌, ◌++◌, length, refl, sym, ap, subst, ◌∙◌, arith}
 use Rattle.std.specs.List.{list_any}
 use Rattle.std.proofs.lemmas.List.Folds.{list_any-append}
+use Rattle.af_base.proofs.Basics.{or_false}
 use Rattle.af_base.specs.declared.state.FastState.{FastState}
 use Rattle.af_model.specs.declared.states.MutatorEvent.{MutatorEvent}
 use Rattle.af_model.specs.declared.states.MutatorEvent.TheVariants as mutator
@@ -20,6 +21,7 @@ use Rattle.af_engine.specs.Shares.{SharedState}
 use Rattle.af_session.specs.Together.{SessionState}
 use Rattle.af_base.specs.declared.frame.Frame.{Frame}
 use Rattle.af_runs.specs.LegalRuns.{session_of}
+use Rattle.af_told_law.proofs.Basics.{ones_observed}
 use Rattle.af_told_law.specs.QueueTurned.{QueueKnown, ReportMet}
 
 abbrev Looks : QueueTold → QueueTold → Type 0
@@ -36,20 +38,10 @@ known_same frames run after m n states looks clear before known = record {
 
 -- ## Looks in a list
 
-ones_observed : (told : QueueTold) (es : List (ObserverEvent Item)) → ones (observer_does es told) ≡ ones told
-ones_observed [] [] = refl
-ones_observed [] (e ∷ es) = ones_observed [] es
-ones_observed (one a ∷ told) es = ap (λ (l : List (MutatorEvent Item)). a ∷ l) (ones_observed told es)
-ones_observed (two b ∷ told) es = ones_observed told es
-
 ones_met : (told : QueueTold) (c d : ℕ) → ones (told ++ one (mutator.Learn c) ∷ two (observer.Learn d) ∷ []) ≡ ones told ++ mutator.Learn c ∷ []
 ones_met [] c d = refl
 ones_met (one a ∷ told) c d = ap (λ (l : List (MutatorEvent Item)). a ∷ l) (ones_met told c d)
 ones_met (two b ∷ told) c d = ones_met told c d
-
-or_false : (b : Bool) → (b || false) ≡ b
-or_false true = refl
-or_false false = refl
 
 looks_met : (told : QueueTold) → Looks told (queue_met told)
 looks_met told k = ap (list_any (is_look_at k)) (ones_met told _ _) ∙ list_any-append (is_look_at k) (ones told) (mutator.Learn _ ∷ []) ∙ or_false (was_seen k told)

@@ -1,3 +1,4 @@
+pub mod Basics
 pub mod NewTold
 pub mod ClientTold
 pub mod BlockMeets

@@ -2,13 +2,14 @@
 use Rattle.std.proofs.Common.{◌≡◌, ℕ, ◌<◌, ◌==◌, not, Bool, true, false, true≢false, if◌then◌else◌, fold, is_some, map, List, [], ◌∷◌, ◌++◌, drop, take, length, Option, Some, None, refl, sym, ap, ◌∙◌, arith, eqb-true}
 use Rattle.std.specs.List.{list_any}
 use Rattle.std.proofs.lemmas.List.FromFn.{get_or-map-range_with_len, length-map-range_with_len}
-use Rattle.af_audit.proofs.Booleans.{neither, not_true}
+use Rattle.af_base.proofs.Basics.{neither}
 use Rattle.af_base.specs.declared.event.ClientCall.{ClientCall}
 use Rattle.af_base.specs.declared.event.ClientCall.TheVariants as call
 use Rattle.af_base.specs.declared.event.ClientEvent.{ClientEvent}
 use Rattle.af_base.specs.Turn.{Turn}
 use Rattle.af_life.specs.Heard.{learnt}
 use Rattle.af_life.specs.TurnEvents.{command_list, hand_list, stream_list, tracks_at}
+use Rattle.af_model.proofs.Basics.{both_lawful, not_true}
 use Rattle.af_model.specs.ClientCalls.{client_call_events, client_kept}
 use Rattle.af_model.specs.History.{Moment, by_hand, is_lawful}
 use Rattle.af_model.specs.Journals.{EntrySeen, RoundNoted, RoundSeen, rounds_seen}
@@ -28,7 +29,7 @@ use Rattle.af_script.specs.declared.op.TurnSpec.{TurnSpec}
 use Rattle.af_script.specs.declared.op.TurnSpec.TheVariants as makes
 use Rattle.af_told_law.specs.Sizes.{IsSmallRun}
 use Rattle.af_told_law.specs.Marked.{AreRoundsMarked, IsMarkedRun, IsRoundMarked, IsTrackMarked}
-use Rattle.af_told_law.proofs.TameRuns.{both_lawful, each_keeps_at, met_marked, mix_marked, poll_marked}
+use Rattle.af_told_law.proofs.TameRuns.{each_keeps_at, met_marked, mix_marked, poll_marked}
 
 -- ## Calls
 

@@ -1,6 +1,7 @@
 -- What meetings show of the servers that took part: each front that they saw is their own.
 use Rattle.std.proofs.Common.{◌≡◌, ℕ, ◌+◌, ◌<◌, ◌≤◌, true, false, true≢false, is_some, List, [], ◌∷◌, ◌++◌, length, slice_get, Option, Some, None, refl, sym, ap, ◌∙◌, subst, arith}
 use Rattle.std.proofs.lemmas.Option.{none-some, same_Some, slice_get_within}
+use Rattle.af_base.proofs.Basics.{some_at}
 use Rattle.af_base.specs.declared.event.ClientEvent.{ClientEvent}
 use Rattle.af_base.specs.declared.event.HandEvent.{HandEvent}
 use Rattle.af_base.specs.declared.event.ServerEvent.{ServerEvent}
@@ -31,7 +32,6 @@ use Rattle.af_session.specs.Together.{AreTogether, SessionState}
 use Rattle.af_stateq.specs.Mutates.{at}
 use Rattle.af_told_law.specs.Sizes.{AreSmall}
 use Rattle.af_told_law.specs.Own.{SawOwn, SeesOwn}
-use Rattle.af_told_law.proofs.AllMeet.{some_at}
 use Rattle.af_told_law.proofs.SlotHeld.{found_carries, found_track}
 use Rattle.af_told_law.proofs.TrackMeets.{tracks_are}
 

@@ -6,6 +6,7 @@ use Rattle.std.proofs.lemmas.Option.{none-some, same_Some}
 use Rattle.af_base.specs.declared.state.FastState.{FastState}
 use Rattle.af_base.specs.Log.{slots}
 use Rattle.af_cblk.specs.Sides.{Made, server_made}
+use Rattle.af_engine.proofs.Basics.{some_of}
 use Rattle.af_fast.specs.Mixer.{MixerState}
 use Rattle.af_life.specs.declared.kept.TrackKept.{TrackKept}
 use Rattle.af_life.specs.Kept.{is_home, new_track, slot_number, track_at}
@@ -22,10 +23,6 @@ use Rattle.af_told_law.proofs.SlotHeld.{found_carries, found_track, none_carries
 
 abbrev Watching : Type 0
 Watching = Observes ServerState StreamNames
-
-one_there : (o : Option ServerState) → is_some o ≡ true → (p : ServerState) × (o ≡ Some p)
-one_there None e = absurd (true≢false (sym e))
-one_there (Some p) e = (p, refl)
 
 module _ (links : Links) (x : SessionState) (g : MixerState) (together : AreTogether links x) (after : AreTogether links (record x { fast = g })) (lead : LeadAway x.fast.observer.past.state x.normal.tracks) (same : g.observer ≡ record x.fast.observer { items = g.observer.items }) where
   abbrev state : FastState
@@ -62,7 +59,7 @@ module _ (links : Links) (x : SessionState) (g : MixerState) (together : AreToge
 
   -- the proxy of a slot after the mix
   pub held_after : (k : ℕ) → k < slots → carries state k ≡ true → (p : ServerState) × (at g.observer.items k ≡ Some p)
-  held_after k low carried = one_there (at g.observer.items k) (after.fast.0.observer.held k low ∙ ap (λ (z : FastState). carries z k) state_same ∙ carried)
+  held_after k low carried = some_of (at g.observer.items k) (after.fast.0.observer.held k low ∙ ap (λ (z : FastState). carries z k) state_same ∙ carried)
 
   pub order_after : (k : ℕ) (p : ServerState) → k < slots → at g.observer.items k ≡ Some p → IsInOrder p
   order_after k p low item = let names = after.fast.1.names in (after.fast.0.observer.fit names.0 names.1 k p low item).in_order

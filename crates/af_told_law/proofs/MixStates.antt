@@ -13,6 +13,7 @@ use Rattle.af_model.specs.Cycles.{UseUpTo, cold_done, cold_of, is_cold, last_use
 use Rattle.af_model.specs.Order.{Event, Legal, one, two, twos}
 use Rattle.af_model.specs.StateQueue.{HasHistory, QueuePoint, legal, next, start}
 use Rattle.af_normal.specs.State.{NormalState}
+use Rattle.af_runs.proofs.Basics.{state_more}
 use Rattle.af_runs.specs.Runs.{Run, state_for}
 use Rattle.af_runs.specs.Sessions.{Session}
 use Rattle.af_runs.proofs.StatesFor.{state_adopted}
@@ -20,7 +21,6 @@ use Rattle.af_server.specs.Order.{ServerState}
 use Rattle.af_stateq.specs.Laws.{polled_states}
 use Rattle.af_stateq.specs.Shelved.{no_state}
 use Rattle.af_stateq.proofs.Prefix.{polled_in_order}
-use Rattle.af_session.proofs.Following.{state_of-front}
 use Rattle.af_told_law.specs.Tells.{TellsFast, TellsNormal}
 
 -- ## States polled
@@ -60,7 +60,7 @@ cold_front : (xs more : List FastState) (n done : ℕ) (entries : List CycleEntr
 cold_front xs more n done [] few up = refl
 cold_front xs more n done (entry ∷ entries) few up =
     cold_front xs more n (cold_after (xs ++ more) done entry) entries few up.1
-    ∙ ap (λ (o : Option FastState). fold (cold_after xs) (if is_cold entry.cycle then cold_of o else done) entries) (state_of-front xs more entry.state (let le = up.0 in omega (arith, le, few)))
+    ∙ ap (λ (o : Option FastState). fold (cold_after xs) (if is_cold entry.cycle then cold_of o else done) entries) (state_more xs more entry.state (let le = up.0 in omega (arith, le, few)))
 
 -- ## In a session
 
@@ -77,7 +77,7 @@ module _ (s : Session) (run : Run) (n : NormalState) (f : MixerState) (order : I
   few_adopted = let l : length run.states ≡ length (adopted_states f) + length prefix.0 = ap length prefix.1 ∙ length-append (adopted_states f) prefix.0 in omega (arith, l)
 
   pub same_state : (k : ℕ) → k ≤ f.observer.past.number → state_of run.states k ≡ state_of (adopted_states f) k
-  same_state k low = ap (λ (xs : List FastState). state_of xs k) prefix.1 ∙ state_of-front (adopted_states f) prefix.0 k (let m = many in omega (arith, low, m))
+  same_state k low = ap (λ (xs : List FastState). state_of xs k) prefix.1 ∙ state_more (adopted_states f) prefix.0 k (let m = many in omega (arith, low, m))
 
   pub same_cold : cold_done run.states run.entries ≡ cold_done (adopted_states f) run.entries
   same_cold =

@@ -4,6 +4,7 @@ use Rattle.std.specs.List.{range_with_len}
 use Rattle.std.specs.Prelude.{slice_index_or}
 use Rattle.std.proofs.lemmas.Bool.{cases_lt}
 use Rattle.std.proofs.lemmas.List.{get_or-replicate, get_or_past, length-replicate}
+use Rattle.af_base.proofs.Basics.{and_off}
 use Rattle.af_base.specs.declared.log.CycleEntry.{CycleEntry}
 use Rattle.af_base.specs.declared.log.SlotEntry.{SlotEntry}
 use Rattle.af_base.specs.declared.state.FastState.{FastState}
@@ -38,10 +39,6 @@ none_found p a (suc n) all = ap (λ (b : Bool). if b then Some a else find p (ra
 
 absent_all : (k : ℕ) → slice_index_or (replicate slots absent) k absent ≡ absent
 absent_all k = ⊎_elim (λ (low : k < slots). get_or-replicate slots k absent absent low) (λ (high : slots ≤ k). get_or_past (replicate slots absent) k absent (let l : length (replicate slots absent) ≡ slots = length-replicate slots absent in omega (arith, l, high))) (cases_lt k slots)
-
-and_off : (a b c : Bool) → b ≡ false → ((a && b) && c) ≡ false
-and_off true b c off = ap (λ (d : Bool). d && c) off
-and_off false b c off = refl
 
 -- a track is as it was after an entry that mixes nothing
 pub track_still : (s : Session) (x : FastState) (e : EntrySeen) (i : ℕ) (t : TrackTold) → e.entry ≡ still_entry e.entry.state e.entry.cycle → mixed_track s x e i t ≡ t

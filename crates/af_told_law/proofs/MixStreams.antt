@@ -2,8 +2,8 @@
 use Rattle.std.proofs.Common.{◌≡◌, ℕ, zero, suc, ◌+◌, ◌<◌, ◌==◌, ◌&&◌, not, nat_lt, Bool, true, false, true≢false, if◌then◌else◌, find, fold, is_some, map, List, [], ◌∷◌, ◌++◌, length, Option, Some, None, refl, sym, ap, ◌∙◌, subst, arith, append_assoc, append-nil}
 use Rattle.std.specs.List.{range_with_len}
 use Rattle.std.proofs.lemmas.Option.{none-some}
+use Rattle.af_base.proofs.Basics.{range_end}
 use Rattle.af_base.specs.declared.event.ServerEvent.{ServerEvent}
-use Rattle.af_base.specs.declared.seen.Seen.{Seen}
 use Rattle.af_base.specs.declared.seen.Seen.TheVariants as seen
 use Rattle.af_base.specs.declared.state.FastState.{FastState}
 use Rattle.af_base.specs.Log.{entry_slot, slots}
@@ -14,11 +14,12 @@ use Rattle.af_fast.specs.Slots.{SlotPlayed}
 use Rattle.af_life.specs.Kept.{is_home, slot_number, track_at}
 use Rattle.af_link.specs.declared.links.Links.{Links}
 use Rattle.af_link.specs.declared.names.StreamNames.{StreamNames}
-use Rattle.af_model.specs.Cycles.{IsSeen, LooksBy, cycle_events, is_mixed}
+use Rattle.af_model.specs.Cycles.{LooksBy, cycle_events, is_mixed}
 use Rattle.af_model.specs.History.{Moment, by_server, hand_of, server_of}
 use Rattle.af_model.specs.Journals.{EntrySeen}
 use Rattle.af_model.specs.StateQueue.{carries, slot_of, observed}
 use Rattle.af_normal.specs.Mixing.{stream_at}
+use Rattle.af_runs.proofs.Basics.{shown_if}
 use Rattle.af_runs.specs.Blocks.{BlockTold}
 use Rattle.af_runs.specs.Blocks as told_of
 use Rattle.af_runs.specs.Fronts.{front_of, is_shown}
@@ -36,7 +37,7 @@ use Rattle.af_told_law.specs.Tells.{SawTold, TellsAway, TellsServer, TellsStream
 use Rattle.af_told_law.proofs.KeptAlike.{cycle_told_alike}
 use Rattle.af_told_law.proofs.MixLooks.{front_own, list_grown, list_own, looks_real, real_list}
 use Rattle.af_told_law.proofs.MixSlots.{shape_same}
-use Rattle.af_told_law.proofs.SlotHeld.{found_carries, found_track, range_end}
+use Rattle.af_told_law.proofs.SlotHeld.{found_carries, found_track}
 use Rattle.af_told_law.proofs.TrackMeets.{none_there, there_is}
 use Rattle.af_normal.specs.State.{NormalState}
 use Rattle.af_cblk.specs.Rule.{StartsWith}
@@ -62,13 +63,6 @@ first_found p x i (suc n) same =
     ap (find p) (range_end 0 n ∙ ap (λ (k : ℕ). range_with_len 0 n ++ k ∷ []) (let z : 0 + n ≡ n = omega arith in z))
     ∙ find_end p (range_with_len 0 n) n
     ∙ (λ j. or_else (first_found p x i n (λ k low. same k (omega (arith, low))) j) (if same n (omega arith) j then Some n else None))
-
-shown_so : (seen : Seen) → IsSeen seen → is_shown seen ≡ true
-shown_so seen.Absent h = absurd h
-shown_so (seen.Frames count) h = refl
-shown_so seen.Empty h = refl
-shown_so (seen.Flushed dropped) h = refl
-shown_so (seen.Shut front rear) h = refl
 
 -- ## A block after some events of its server
 
@@ -114,7 +108,7 @@ module _ (links : Links) (x : SessionState) (g : MixerState) (together : AreToge
     where
       by_carried : (c : Bool) → carries state k ≡ c → (plays state e.entry k && ((slot_of state k).track == i)) ≡ is_slot_of state i k
       by_carried true is =
-          let shown : is_shown (entry_slot e.entry k).seen ≡ true = shown_so (entry_slot e.entry k).seen (slot_played k low is).plays.looks.0 in
+          let shown : is_shown (entry_slot e.entry k).seen ≡ true = shown_if (entry_slot e.entry k).seen (slot_played k low is).plays.looks.0 in
           (λ j. (is j && shown j) && ((slot_of state k).track == i)) ∙ sym (λ j. is j && ((slot_of state k).track == i))
       by_carried false is = (λ j. (is j && is_shown (entry_slot e.entry k).seen) && ((slot_of state k).track == i)) ∙ sym (λ j. is j && ((slot_of state k).track == i))
 

@@ -1,6 +1,7 @@
 -- A mix is told by the run: the run with it tells the session, and its entry is legal by marks on whose blocks each front seen is the server's own.
 use Rattle.std.proofs.Common.{Bool, List, None, Option, Some, [], ap, append-nil, arith, false, if◌then◌else◌, inl, inr, length, refl, slice_get, subst, sym, true, true≢false, ℕ, ⊎_elim, ◌++◌, ◌<◌, ◌∙◌, ◌≡◌, ◌≤◌, ◌⊎◌}
 use Rattle.std.proofs.lemmas.Option.{slice_get_within}
+use Rattle.af_base.proofs.Basics.{some_at}
 use Rattle.af_base.specs.declared.frame.Frame.{Frame}
 use Rattle.af_base.specs.declared.log.Cycle.{Cycle}
 use Rattle.af_base.specs.declared.log.CycleEntry.{CycleEntry}
@@ -11,6 +12,7 @@ use Rattle.af_fast.specs.Known.{known, known_at}
 use Rattle.af_fast.specs.Mixer.{MixerState}
 use Rattle.af_fast.specs.Mixing.{AddsCycle}
 use Rattle.af_fast.specs.Slots.{SlotPlayed}
+use Rattle.af_judge.proofs.Basics.{each_long, told_each}
 use Rattle.af_link.specs.declared.links.Links.{Links}
 use Rattle.af_model.specs.Cycles.{LooksBy, TrackSlot, cycle_events, is_mixed}
 use Rattle.af_model.specs.Journals.{EntrySeen}
@@ -20,10 +22,8 @@ use Rattle.af_runs.specs.Blocks.{BlockTold, Marks, server_list}
 use Rattle.af_runs.specs.Blocks as told_of
 use Rattle.af_runs.specs.Fronts.{lawful_front}
 use Rattle.af_runs.specs.Rounds.{LegalEntry}
-use Rattle.af_runs.specs.Runs.{Run, TrackTold, known_of, mixed_pipe, mixed_track, next_report, played, state_for, stream_of, told_at, with_looks, with_mix}
-use Rattle.af_runs.specs.Runs as run_of
+use Rattle.af_runs.specs.Runs.{Run, TrackTold, known_of, mixed_pipe, mixed_track, next_report, state_for, stream_of, told_at, with_looks, with_mix}
 use Rattle.af_runs.specs.Sessions.{Session, cycle_frames}
-use Rattle.af_judge.proofs.EachTrack.{each_long, told_each}
 use Rattle.af_judge.proofs.EntryTracks.{mixed_sides}
 use Rattle.af_server.specs.Order.{ServerState}
 use Rattle.std.proofs.lemmas.Bool.{cases_lt}
@@ -32,9 +32,9 @@ use Rattle.af_stateq.specs.Mutates.{at}
 use Rattle.af_rendering.specs.Leads.{LeadAway}
 use Rattle.af_engine.specs.Met.{item_at, slot_for}
 use Rattle.af_session.specs.Together.{AreTogether, SessionState}
+use Rattle.af_told_law.proofs.Basics.{commands_stay}
 use Rattle.af_told_law.specs.MixLaws.{PipeTells, MixIsTold, TookCounted, entry_added}
 use Rattle.af_told_law.specs.Tells.{IsFresh, SawTold, Tells, TellsCommands, TellsServer, TellsTrack}
-use Rattle.af_told_law.proofs.AllMeet.{some_at}
 use Rattle.af_told_law.proofs.MixCounted as counted
 use Rattle.af_told_law.proofs.MixEnds.{fast_mixed, normal_mixed, pipe_still, shared_mixed}
 use Rattle.af_told_law.proofs.MixKnown.{block_known}
@@ -52,14 +52,6 @@ use Rattle.af_link.specs.PipeEnds.{SeesTaken}
 use Rattle.af_cblk.specs.Rule.{StartsWith}
 use Rattle.af_told_law.proofs.SlotHeld.{found_carries, found_track}
 use Rattle.af_told_law.specs.Deeds.{DeedTold, Deeds, GoOn, SawOwnBy, SawOwnOf, done_on}
-
--- the commands of a track are as they were
-commands_stay : (s : Session) (x : FastState) (e : EntrySeen) (i : ℕ) (t : TrackTold) → (mixed_track s x e i t).commands ≡ t.commands
-commands_stay s x e i t = by_slot (run_of.slot_for x e.entry i)
-  where
-    by_slot : (o : Option ℕ) → (elim o as (λ o. TrackTold) [ None ↦ t | Some k ↦ record t { stream = played (cycle_frames s) e k t.stream } ]).commands ≡ t.commands
-    by_slot None = refl
-    by_slot (Some k) = refl
 
 -- how the parties stand before a mix to g, after the poll of its cycle
 record MayMix (links : Links) (s : Session) (run : Run) (d : Deeds) (x : SessionState) (g : MixerState) : Type 0 where

@@ -1,14 +1,16 @@
 -- A new session is told by the run before the first round.
-use Rattle.std.proofs.Common.{◌≡◌, ℕ, zero, suc, ◌<◌, true, true≢false, is_some, length, map, replicate, List, [], slice_get, Some, refl, sym, ap, ◌∙◌, subst, arith}
+use Rattle.std.proofs.Common.{◌≡◌, ℕ, ◌<◌, true, true≢false, is_some, length, map, List, [], slice_get, Some, refl, sym, ap, ◌∙◌, subst, arith}
 use Rattle.std.proofs.lemmas.List.{get_or-replicate}
-use Rattle.std.proofs.lemmas.List.FromFn.{get_or-map-range_with_len, length-map-range_with_len}
+use Rattle.std.proofs.lemmas.List.FromFn.{length-map-range_with_len}
 use Rattle.std.proofs.lemmas.Option.{get_or_from_slice_get, same_Some, slice_get_within}
 use Rattle.af_base.specs.declared.frame.Frame.{Frame}
 use Rattle.af_cblk.specs.declared.view.ClientPart.{ClientPart}
 use Rattle.af_cblk.specs.declared.view.ServerPart.{ServerPart}
 use Rattle.af_cblk.specs.Sides.{HandSide}
+use Rattle.af_judge.proofs.Basics.{new_at}
+use Rattle.af_life.proofs.Basics.{at_new}
 use Rattle.af_life.specs.declared.kept.TrackKept.{TrackKept}
-use Rattle.af_life.specs.Kept.{NormalKept, is_home, new_track as first_kept, track_at}
+use Rattle.af_life.specs.Kept.{NormalKept, is_home, track_at}
 use Rattle.af_model.specs.declared.shape.Shape.{Shape}
 use Rattle.af_normal.specs.LegalTurned.{hand_events}
 use Rattle.af_normal.specs.State.{NormalState}
@@ -16,7 +18,7 @@ use Rattle.af_fast.specs.Mixer.{MixerState}
 use Rattle.af_party.specs.Parties.{PartyState, track_of}
 use Rattle.af_runs.specs.Blocks.{new_block}
 use Rattle.af_runs.specs.LegalRuns.{session_of}
-use Rattle.af_runs.specs.Runs.{TrackTold, new_run, new_track, no_track, sides_of, told_at}
+use Rattle.af_runs.specs.Runs.{TrackTold, new_run, new_track, sides_of, told_at}
 use Rattle.af_runs.specs.Sessions.{Session, command_shape, spec_of, stream_shape, track_count, no_spec, spec_setting}
 use Rattle.af_script.specs.Data.{ScriptData}
 use Rattle.af_script.specs.declared.op.Op.{Op}
@@ -37,16 +39,6 @@ use Rattle.af_base.specs.Log.{slots}
 use Rattle.af_model.specs.Reports.{no_slot}
 use Rattle.af_told_law.specs.Deeds.{DeedTold, Deeds, done_on}
 
--- a track of a new run
-told_new : (s : Session) (i : ℕ) → i < track_count s → told_at (new_run s) i ≡ new_track s i
-told_new s i lt = get_or-map-range_with_len (new_track s) 0 (track_count s) i i no_track lt (omega arith)
-
--- each track of a new mixer is as none that is there
-as_first : (n i : ℕ) → track_at (replicate n first_kept) i ≡ first_kept
-as_first zero i = refl
-as_first (suc n) zero = refl
-as_first (suc n) (suc i) = as_first n i
-
 -- a server that has done nothing
 server_new : (shape : Shape) (s : ServerState) → IsNewServer shape s → TellsServer (done_on (new_block shape) []) s
 server_new shape s new = record { shape = ap (λ (p : ServerPart). p.shape) new.part; events = ap (λ (p : ServerPart). p.events) new.part; taken = ap (λ (p : ServerPart). p.frames) new.part }
@@ -64,7 +56,7 @@ module _ (script : ScriptData) (files : List (List Frame)) (shared : SharedState
   here = session_of script files
 
   all_home : (i : ℕ) → is_home (track_at x.normal.tracks i).holder ≡ true
-  all_home i = ap (λ (t : TrackKept). is_home t.holder) (ap (λ (k : NormalKept). track_at k.tracks i) new.kept ∙ as_first (length (map spec_setting script.tracks)) i)
+  all_home i = ap (λ (t : TrackKept). is_home t.holder) (ap (λ (k : NormalKept). track_at k.tracks i) new.kept ∙ at_new (length (map spec_setting script.tracks)) i)
 
   no_hands : x.normal.hands ≡ []
   no_hands = ap (λ (m : NormalState). m.hands) new.normal.is
@@ -102,7 +94,7 @@ module _ (script : ScriptData) (files : List (List Frame)) (shared : SharedState
         (record { server = server_new command_shape at_place.setup.command at_place.new.command_line.server_new; whole = at_place.new.command_line.server_new.whole; none = refl })
 
     track_told : TellsTrack here x.normal x.fast no_deeds i (told_at (new_run here) i) p
-    track_told = subst (λ (t : TrackTold). TellsTrack here x.normal x.fast no_deeds i t p) (sym (told_new here i below))
+    track_told = subst (λ (t : TrackTold). TellsTrack here x.normal x.fast no_deeds i t p) (sym (new_at here i below))
         (record { client = client_told; stream = stream_told; commands = commands_told; did = record { stream = did_new (new_track here i).stream.shape; commands = did_new command_shape } })
 
   shared_told : TellsShared here (new_run here) x.normal x.fast

@@ -1,7 +1,9 @@
 -- What a legal turn of a session's normal mixer saw is what its run has found.
 use Rattle.std.proofs.Common.{Bool, None, Option, Some, ap, arith, false, if◌then◌else◌, is_some, length, not, refl, slice_get, subst, sym, true, true≢false, ℕ, ◌&&◌, ◌++◌, ◌<◌, ◌∙◌, ◌≡◌}
+use Rattle.af_base.proofs.Basics.{some_at}
 use Rattle.af_base.specs.declared.state.FastState.{FastState}
 use Rattle.af_base.specs.Turn.{Turn, turn_of}
+use Rattle.af_life.proofs.Basics.{welcomed_at}
 use Rattle.af_life.specs.declared.kept.Holder.TheVariants.{Home}
 use Rattle.af_life.specs.declared.kept.TrackKept.{TrackKept}
 use Rattle.af_life.specs.Edits.{after_ack, welcomed}
@@ -24,11 +26,9 @@ use Rattle.af_runs.specs.Sessions.{Session, setup_of}
 use Rattle.af_server.specs.Order.{ServerState}
 use Rattle.af_server.specs.Slot.{listed}
 use Rattle.af_session.specs.Together.{AreTogether, SessionState}
-use Rattle.af_judge.proofs.SoundTurns.{welcomed_at}
 use Rattle.af_told_law.specs.Comers.{ComersTell}
 use Rattle.af_told_law.specs.Outsides.{AreAlike, FindsBlocks, HeardAlike, IsFound, ListAlike, LooksTold, SawCommands, SawStream, TakeTold}
 use Rattle.af_told_law.specs.Tells.{Tells, TellsServer}
-use Rattle.af_told_law.proofs.AllMeet.{some_at}
 use Rattle.af_told_law.proofs.FoundLegal.{found_alike, found_legal}
 use Rattle.af_told_law.proofs.TurnFronts.{commands_told, stream_told}
 use Rattle.af_model.specs.ServerCalls.{server_begins}

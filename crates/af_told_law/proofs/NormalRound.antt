@@ -4,6 +4,7 @@ use Rattle.std.proofs.lemmas.Option.{slice_get_within}
 use Rattle.af_base.specs.declared.event.HandEvent.{HandEvent}
 use Rattle.af_base.specs.Turn.{Turn, turn_of}
 use Rattle.af_cblk.specs.Sides.{HandSide}
+use Rattle.af_judge.proofs.Basics.{each_at, each_long}
 use Rattle.af_life.specs.Heard.{learnt}
 use Rattle.af_life.specs.Kept.{Learnt, NormalKept, Outside, Setup}
 use Rattle.af_life.specs.Edits.{after_push}
@@ -18,7 +19,6 @@ use Rattle.af_normal.specs.LegalTurned.{IsLegal}
 use Rattle.af_normal.specs.State.{NormalState, kept_of, setup_of as mixer_setup}
 use Rattle.af_normal.specs.TurnMade.{TurnMade, answer_of}
 use Rattle.af_party.specs.Parties.{PartyState}
-use Rattle.af_judge.proofs.EachTrack.{each_at, each_long}
 use Rattle.af_runs.specs.Blocks.{Marks}
 use Rattle.af_runs.specs.Found.{LegalTurnBy, TurnFound, outside_of}
 use Rattle.af_runs.specs.Runs.{Run, TrackTold, no_track, pipe_cells, sides_of, told_at, turned_track, with_turn}

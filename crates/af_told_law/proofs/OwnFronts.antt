@@ -2,11 +2,13 @@
 use Rattle.std.proofs.Common.{◌≡◌, ℕ, ◌+◌, ◌^◌, ◌==◌, ◌&&◌, ◌||◌, not, min, nat_lt, Bool, true, false, true≢false, if◌then◌else◌, is_some, Option, Some, None, List, [], ◌∷◌, ◌++◌, refl, sym, ap, ◌∙◌, subst, eqb-true, arith}
 use Rattle.std.specs.Prelude.{MatchOption}
 use Rattle.std.proofs.lemmas.Bool.{eqb-false}
+use Rattle.af_base.proofs.Basics.{both}
 use Rattle.af_base.specs.declared.event.ServerEvent.{ServerEvent}
 use Rattle.af_base.specs.declared.event.ServerEvent.TheVariants as server
 use Rattle.af_base.specs.declared.log.SlotEntry.{SlotEntry}
 use Rattle.af_base.specs.declared.seen.Seen.{Seen}
 use Rattle.af_base.specs.declared.seen.Seen.TheVariants as seen
+use Rattle.af_model.proofs.Basics.{not_true}
 use Rattle.af_model.specs.declared.shape.Shape.{Shape}
 use Rattle.af_model.specs.Cycles.{Listed, LooksBy, after_look, cycle_events, kept}
 use Rattle.af_model.specs.Point.{wrapped}
@@ -14,7 +16,6 @@ use Rattle.af_model.specs.Room.{ahead}
 use Rattle.af_model.specs.ServerCalls.{dropped_by, flush_position, is_noticed, look_at, look_events, past_front}
 use Rattle.af_model.specs.Spelled.{AllSeeOwn, own_front}
 use Rattle.af_runs.specs.Fronts.{behind, flushed_front, front_by_answer, front_of, is_own_inside, lawful_front, leaves_open}
-use Rattle.af_judge.proofs.LookFront.{both, un_not}
 
 back_to : (f p : ℕ) → f ≡ wrapped f → behind p (ahead f p) ≡ f
 back_to f p word = (let b : behind p (ahead f p) ≡ wrapped f = omega arith in b) ∙ sym word
@@ -89,7 +90,7 @@ module _ (k : Shape) (old asked : ℕ) (slot : SlotEntry) (f : ℕ) (word : f �
     where
       fits : (wrapless out : Bool) → (wrapless || not out) ≡ true → not wrapless ≡ true → out ≡ false
       fits true out a b = absurd (true≢false (sym b))
-      fits false out a b = un_not out a
+      fits false out a b = not_true out a
 
 -- a look that saw its server's own front saw the one that a journal tells, and the one of a lawful block
 pub own_told : (asked : ℕ) (s : Listed) (slot : SlotEntry) (f : ℕ) → slot.seen ≡ look_at s.shape (kept s).flush asked slot.flush slot.rear f → f ≡ own_front s.shape (kept s) → (front_of asked s slot ≡ f) × (lawful_front asked s slot ≡ f)

@@ -1,9 +1,9 @@
 -- The pipe of a new session has as many cells as the run tells.
-use Rattle.std.proofs.Common.{◌≡◌, ℕ, zero, suc, ◌*◌, ◌/◌, ◌^◌, ◌≤◌, ◌<◌, max, Bool, true, false, nat_le, if◌then◌else◌, List, refl, sym, ap, subst, ◌∙◌, arith, inl, inr}
+use Rattle.std.proofs.Common.{◌≡◌, ℕ, zero, suc, ◌/◌, ◌^◌, ◌≤◌, ◌<◌, max, Bool, true, false, nat_le, if◌then◌else◌, List, refl, sym, ap, subst, ◌∙◌, arith, inl, inr}
 use Rattle.std.specs.Int.{IsNextPowerOfTwo}
 use Rattle.std.proofs.lemmas.Bool.{cases_lt}
 use Rattle.std.proofs.lemmas.Bool.Decides.{nat_tests}
-use Rattle.std.proofs.Math.Nat.{pow-le-pow_right, pow-succ'}
+use Rattle.af_base.proofs.Basics.{half, le-power}
 use Rattle.af_base.specs.declared.frame.Frame.{Frame}
 use Rattle.af_cblk.specs.declared.view.ClientPart.{ClientPart}
 use Rattle.af_runs.specs.LegalRuns.{session_of}
@@ -16,12 +16,6 @@ use Rattle.af_engine.specs.Shares.{SharedState}
 use Rattle.af_session.specs.Together.{SessionState}
 
 -- ## The least power of two that is not below a number
-
-le-power : (j k : ℕ) → j ≤ k → 2 ^ j ≤ 2 ^ k
-le-power j k le = pow-le-pow_right (omega arith) le
-
-half : (k : ℕ) → 2 ^ suc k / 2 ≡ 2 ^ k
-half k = let twice : 2 ^ suc k ≡ 2 * 2 ^ k = pow-succ' 2 k in omega (arith, twice)
 
 mutual_step : (k j n : ℕ) (test : Bool) → nat_le n (2 ^ k) ≡ test → j ≤ suc k → n ≤ 2 ^ j → 2 ^ j / 2 < max 1 n → (j ≤ k → power_above k n ≡ 2 ^ j) → (if test then power_above k n else 2 ^ suc k) ≡ 2 ^ j
 mutual_step k j n true is le above half_below below =

@@ -1,9 +1,10 @@
 -- A poll that takes the last state pushed leaves each proxy that is away where the run tells it.
-use Rattle.std.proofs.Common.{◌≡◌, ℕ, zero, suc, ◌+◌, ◌<◌, ◌==◌, ◌&&◌, ◌||◌, not, Bool, true, false, true≢false, if◌then◌else◌, is_some, map, List, [], ◌∷◌, ◌++◌, length, Option, Some, None, refl, sym, ap, ◌∙◌, subst, arith, append_assoc}
+use Rattle.std.proofs.Common.{◌≡◌, ℕ, ◌+◌, ◌<◌, ◌==◌, ◌&&◌, ◌||◌, not, Bool, true, false, true≢false, if◌then◌else◌, is_some, map, List, [], ◌∷◌, ◌++◌, Option, Some, None, refl, sym, ap, ◌∙◌, subst, arith, append_assoc}
 use Rattle.std.proofs.lemmas.Bool.{and_parts, eq-eqb, le-ltb, lt-ltb, ne_eqb, not-true}
 use Rattle.std.proofs.lemmas.Grind.{fold-append}
 use Rattle.std.proofs.lemmas.List.{map-append}
 use Rattle.std.proofs.lemmas.Option.{none-some}
+use Rattle.af_base.proofs.Basics.{or_right}
 use Rattle.af_base.specs.declared.state.FastState.{FastState}
 use Rattle.af_base.specs.Log.{slots}
 use Rattle.af_fast.specs.Mixer.{MixerState, is_over}
@@ -30,6 +31,7 @@ use Rattle.af_stateq.specs.Observes.{IsSettled, Observes}
 use Rattle.af_rendering.specs.Leads.{LeadAway}
 use Rattle.af_engine.specs.Met.{item_at, slot_for}
 use Rattle.af_session.specs.Together.{AreTogether, SessionState}
+use Rattle.af_told_law.proofs.Basics.{item_within}
 use Rattle.af_told_law.specs.Tells.{FindsLast, Tells, TellsAway, TellsServer, TellsStream, is_coming, is_going, items_given, items_sent, marked_poll, mutated_by, none_comes}
 use Rattle.af_told_law.proofs.PollTold.{marks_are, poll_told, stream_still}
 use Rattle.af_told_law.proofs.SlotHeld.{found_carries, found_track, none_carries}
@@ -39,15 +41,6 @@ use Rattle.af_told_law.specs.Deeds.{Deeds, ServerDone, done_on}
 
 abbrev Watching : Type 0
 Watching = Observes ServerState StreamNames
-
-item_within : (items : List (Option ServerState)) (k : ℕ) (p : ServerState) → at items k ≡ Some p → k < length items
-item_within [] k p is = absurd (none-some p is)
-item_within (item ∷ items) zero p is = omega arith
-item_within (item ∷ items) (suc k) p is = let r = item_within items k p is in omega (arith, r)
-
-either_true : (a b : Bool) → b ≡ true → (a || b) ≡ true
-either_true true b is = refl
-either_true false b is = is
 
 module _ (m : NormalState) (f g : MixerState) (x : FastState) (came back : List (Option ServerState))
     (is : g.observer ≡ record { past = acknowledged back (took x came f.observer.past); current = Some x; previous = f.observer.current; items = g.observer.items })
@@ -80,7 +73,7 @@ module _ (m : NormalState) (f g : MixerState) (x : FastState) (came back : List 
 
   -- an item that was given back was held
   at_given : (k : ℕ) → k < slots → carries x k ≡ false → at back k ≡ at f.observer.items k
-  at_given k low off = (settled k low).1 ∙ ap (λ (b : Bool). if b then at f.observer.items k else at came k) (either_true (has came k) (not (carries x k)) (ap (λ (b : Bool). not b) off))
+  at_given k low off = (settled k low).1 ∙ ap (λ (b : Bool). if b then at f.observer.items k else at came k) (or_right (has came k) (not (carries x k)) (ap (λ (b : Bool). not b) off))
 
   module _ (i : ℕ) (b : ServerDone) (away : is_home (track_at m.tracks i).holder ≡ false) (h : TellsAway m f i (slot_number (track_at m.tracks i)) b) where
     abbrev slot : ℕ

@@ -4,13 +4,14 @@ use Rattle.std.proofs.lemmas.List.FromFn.{get_or-map-range_with_len, length-map-
 use Rattle.std.proofs.lemmas.Option.{get_or_from_slice_get}
 use Rattle.af_base.specs.declared.frame.Frame.{Frame}
 use Rattle.af_base.specs.Turn.{Turn}
+use Rattle.af_judge.proofs.Basics.{shape_met}
 use Rattle.af_model.specs.Journals.{EntrySeen, RoundSeen}
 use Rattle.af_model.specs.declared.shape.Shape.{Shape}
 use Rattle.af_runs.specs.Clients.{ends}
 use Rattle.af_runs.specs.Found.{outside_of}
 use Rattle.af_runs.specs.LegalRuns.{session_of}
 use Rattle.af_runs.specs.Rounds.{loaded, turned}
-use Rattle.af_runs.specs.Runs.{Run, TrackTold, called, calls_in, each_track, found_before, mixed_track, new_run, new_track, no_track, played, slot_for, state_for, stream_met, takes_part, told_at, track_met, turned_track, with_ends, with_load, with_mix, with_poll, with_turn}
+use Rattle.af_runs.specs.Runs.{Run, TrackTold, called, calls_in, each_track, found_before, mixed_track, new_run, new_track, no_track, played, slot_for, state_for, takes_part, told_at, track_met, turned_track, with_ends, with_load, with_mix, with_poll, with_turn}
 use Rattle.af_runs.specs.Runs as run_of
 use Rattle.af_runs.specs.Sessions.{Session, cycle_frames, no_spec, setup_of, spec_of, track_count}
 use Rattle.af_runs.specs.TurnRuns.{calls_alone, cycle_alone, made_alone, met_alone, turn_alone}
@@ -22,14 +23,14 @@ use Rattle.af_session.specs.NewSession.{IsNewSession}
 use Rattle.af_engine.specs.Shares.{SharedState}
 use Rattle.af_session.specs.Together.{SessionState}
 use Rattle.af_told_law.specs.Sizes.{IsSmallRun, IsTrackSmall}
-use Rattle.af_told_law.proofs.TameRuns.{each_keeps, stream_shape}
+use Rattle.af_told_law.proofs.TameRuns.{each_keeps}
 
 -- ## What a round does
 
 met_small : (s : Session) (run : Run) → IsSmallRun run → IsSmallRun (run_of.met s run)
 unfolding run_of.met
 met_small s run = each_keeps IsTrackSmall (track_met s run) run (run_of.met s run) refl
-    (λ n low h. (subst (λ (k : Shape). k.frames ≤ 65536) (sym (stream_shape (takes_part s run n) run.handed (told_at run n).stream)) h.0, h.1))
+    (λ n low h. (subst (λ (k : Shape). k.frames ≤ 65536) (sym (shape_met (takes_part s run n) run.handed (told_at run n).stream)) h.0, h.1))
 
 ends_small : (run : Run) → IsSmallRun run → IsSmallRun (with_ends run)
 unfolding with_ends

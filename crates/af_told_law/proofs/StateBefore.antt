@@ -1,11 +1,11 @@
 -- The state before the last one that a mutator's list tells is the one before the last that it pushed.
 use Rattle.std.proofs.Common.{◌≡◌, ℕ, ◌+◌, ◌-◌, ◌<◌, fold, unwrap_or, List, [], ◌∷◌, ◌++◌, append_assoc, append-nil, length, length-append, Option, refl, sym, ap, subst, ◌∙◌, arith}
 use Rattle.af_base.specs.declared.state.FastState.{FastState}
+use Rattle.af_model.proofs.Basics.{same_before, state_next}
 use Rattle.af_model.specs.declared.states.MutatorEvent.{MutatorEvent}
 use Rattle.af_model.specs.declared.states.MutatorEvent.TheVariants as mutator
 use Rattle.af_model.specs.Draft.{initial}
 use Rattle.af_model.specs.StateQueue.{MutatorPoint, mutated, mutator_next, mutator_start}
-use Rattle.af_model.proofs.UsedStates.{state_of-before, state_of-newest}
 use Rattle.af_runs.specs.Told.{state_at}
 use Rattle.af_server.specs.Order.{ServerState}
 use Rattle.af_stateq.specs.Laws.{pushed_states}
@@ -21,8 +21,8 @@ module _ (frames : ℕ) where
       let long : length (states ++ x ∷ []) ≡ length states + 1 = length-append states (x ∷ []) in
       let one : length (states ++ x ∷ []) - 1 ≡ length states = omega (arith, long) in
       record {
-        last = sym (ap (state_at frames (states ++ x ∷ [])) long ∙ ap (λ (o : Option FastState). unwrap_or o (initial frames)) (state_of-newest states x));
-        before = (λ some. h.last ∙ sym (ap (state_at frames (states ++ x ∷ [])) one ∙ ap (λ (o : Option FastState). unwrap_or o (initial frames)) (state_of-before states x (length states) (omega arith))));
+        last = sym (ap (state_at frames (states ++ x ∷ [])) long ∙ ap (λ (o : Option FastState). unwrap_or o (initial frames)) (state_next states x));
+        before = (λ some. h.last ∙ sym (ap (state_at frames (states ++ x ∷ [])) one ∙ ap (λ (o : Option FastState). unwrap_or o (initial frames)) (same_before states x (length states) (omega arith))));
       }
 
   has_after : (p : MutatorPoint ServerState) (states : List FastState) (ms : List (MutatorEvent ServerState)) → Has p states → Has (fold mutator_next p ms) (states ++ pushed_states ms)

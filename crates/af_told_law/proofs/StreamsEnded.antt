@@ -3,6 +3,7 @@ use Rattle.std.proofs.Common.{◌≡◌, ℕ, zero, suc, ◌<◌, ◌&&◌, ◌|
 use Rattle.std.specs.List.{AllByRecursion}
 use Rattle.std.proofs.lemmas.Bool.{and_parts}
 use Rattle.std.proofs.lemmas.Option.{same_Some}
+use Rattle.af_base.proofs.Basics.{some_at}
 use Rattle.af_base.specs.declared.event.HandEvent.{HandEvent}
 use Rattle.af_base.specs.declared.event.ServerEvent.{ServerEvent}
 use Rattle.af_base.specs.Turn.{Turn, ended_turn, turn_of}
@@ -27,7 +28,6 @@ use Rattle.af_session.specs.Together.{AreTogether, SessionState}
 use Rattle.af_rendering.proofs.Quiet.{IsQuiet}
 use Rattle.af_told_law.specs.Places.{StreamsStay}
 use Rattle.af_told_law.specs.Tells.{Tells, TellsCommands, TellsServer, TellsStream}
-use Rattle.af_told_law.proofs.AllMeet.{some_at}
 use Rattle.af_told_law.proofs.ClientTold.{did_same}
 use Rattle.af_told_law.specs.Deeds.{DeedTold, Deeds, ServerDone, TrackDid, commands_by, deeds_turned, done_on, stream_by}
 

@@ -1,10 +1,9 @@
 -- After a turn of the normal mixer that goes on the run with that turn tells each track's proxies.
-use Rattle.std.proofs.Common.{◌≡◌, inl, inr, ◌⊎◌, ⊎_elim, ℕ, ◌<◌, Bool, true, false, true≢false, is_some, List, [], ◌∷◌, ◌++◌, append-nil, length, slice_get, Option, Some, None, refl, sym, ap, subst, ◌∙◌, arith}
+use Rattle.std.proofs.Common.{◌≡◌, inl, inr, ◌⊎◌, ⊎_elim, ℕ, ◌<◌, Bool, true, false, is_some, List, [], ◌∷◌, ◌++◌, append-nil, length, slice_get, Option, Some, None, refl, sym, ap, subst, ◌∙◌, arith}
 use Rattle.std.proofs.lemmas.Bool.{ltb-true}
 use Rattle.std.proofs.lemmas.Option.{none-some, same_Some, slice_get_within}
+use Rattle.af_base.proofs.Basics.{some_at}
 use Rattle.af_base.specs.declared.event.ServerEvent.{ServerEvent}
-use Rattle.af_base.specs.declared.state.Push.{Push}
-use Rattle.af_base.specs.declared.state.Push.TheVariants.{Busy, Clean, Pushed}
 use Rattle.af_base.specs.Log.{slots}
 use Rattle.af_base.specs.Turn.{Turn, turn_of}
 use Rattle.af_life.specs.Edits.{after_ack, must_enter}
@@ -31,12 +30,12 @@ use Rattle.af_server.specs.Order.{ServerState}
 use Rattle.af_stateq.specs.Mutates.{at}
 use Rattle.af_engine.specs.Met.{item_at}
 use Rattle.af_session.specs.Together.{AreTogether, SessionState}
+use Rattle.af_told_law.proofs.Basics.{unpushed, went}
 use Rattle.af_told_law.specs.Between.{StandsBefore}
 use Rattle.af_told_law.specs.Comers.{ComersTell}
 use Rattle.af_told_law.specs.Places.{ComesFrom, IsLentBy, StaysAway, StreamsGo, events_by, slot_in, words_by}
 use Rattle.af_told_law.specs.QueueTurned.{QueueKnown}
 use Rattle.af_told_law.specs.Tells.{Tells, TellsAway, TellsCommands, TellsServer, TellsStream, held_slot, is_coming, is_going, items_given, items_sent, none_comes}
-use Rattle.af_told_law.proofs.AllMeet.{some_at}
 use Rattle.af_told_law.proofs.ComersBack.{comers_legal, home_told}
 use Rattle.af_told_law.proofs.ComingTurned.{coming_before, coming_now, going_before, lent_back, lent_new, lent_off}
 use Rattle.af_told_law.proofs.HomeBefore.{enters_before, turned_before}
@@ -45,16 +44,6 @@ use Rattle.af_told_law.proofs.TurnHomes.{turned_home}
 use Rattle.af_told_law.proofs.TurnTracks.{commands_did, stream_did, turned_commands, turned_hand, turned_stream}
 use Rattle.af_told_law.specs.Outsides.{FindsBlocks, HeardAlike}
 use Rattle.af_told_law.specs.Deeds.{Deeds, ServerDone, TrackDid, commands_by, deeds_turned, done_on}
-
-unpushed : (push : Push) (sent pending : List (Option ServerState)) → is_pushed push ≡ false → in_queue push sent pending ≡ pending
-unpushed (Pushed number) sent pending e = absurd (true≢false e)
-unpushed Clean sent pending e = refl
-unpushed (Busy seen expected) sent pending e = refl
-
-went : (push : Push) (sent pending : List (Option ServerState)) → is_pushed push ≡ true → in_queue push sent pending ≡ sent
-went (Pushed number) sent pending e = refl
-went Clean sent pending e = absurd (true≢false (sym e))
-went (Busy seen expected) sent pending e = absurd (true≢false (sym e))
 
 module _ (links : Links) (s : Session) (run : Run) {deeds : Deeds} (x : SessionState) (n : NormalState) (o : Outside) (told : Tells s run deeds x) (before : AreTogether links x) (after : AreTogether links (record x { normal = n })) (legal : IsLegal o x.normal n)
     (runs : (turn_of n.entry).ended ≡ false) (f : TurnFound) (finds : FindsBlocks run f) (report : HeardAlike (after_ack (turn_of n.entry).ack (kept_of x.normal)).tracks o.report f.report)

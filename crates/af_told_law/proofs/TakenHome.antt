@@ -6,6 +6,7 @@ use Rattle.af_base.specs.declared.state.Command.{Command}
 use Rattle.af_base.specs.declared.state.FastState.{FastState}
 use Rattle.af_base.specs.Command.{code_of}
 use Rattle.af_base.specs.Turn.{TakeSeen, Turn, TrackSeen}
+use Rattle.af_life.proofs.Basics.{at_set, slot_of_away}
 use Rattle.af_life.specs.declared.kept.Holder.TheVariants.{Returning}
 use Rattle.af_life.specs.declared.kept.TrackKept.{TrackKept}
 use Rattle.af_life.specs.Edits.{after_ack, edited, edited_to, entered, lend, lent_by, let_go, must_enter, must_leave, mutated, ordered}
@@ -18,7 +19,7 @@ use Rattle.af_life.specs.TurnEvents.{takes_from}
 use Rattle.af_life.proofs.Lives.{acked_len, mutation_len, served_len}
 use Rattle.af_model.specs.Draft.{commanded as with_command}
 use Rattle.af_judge.proofs.SoundLives.{goes_served}
-use Rattle.af_judge.proofs.SoundSlots.{at_set, slot_of_away, sound_served}
+use Rattle.af_judge.proofs.SoundSlots.{sound_served}
 use Rattle.af_judge.proofs.SoundTurns.{sound_acked}
 
 -- ## A slot stays

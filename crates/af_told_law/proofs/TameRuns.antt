@@ -1,22 +1,21 @@
 -- Runs whose lawful blocks weren't poked so far, through polls, meetings and mixes; what they tell is small.
-use Rattle.std.proofs.Common.{◌≡◌, ℕ, ◌<◌, ◌≤◌, ◌&&◌, Bool, true, false, fold, map, List, [], ◌∷◌, ◌++◌, length, slice_get, Option, Some, None, refl, sym, ap, ◌∙◌, subst, arith}
+use Rattle.std.proofs.Common.{◌≡◌, ℕ, ◌<◌, ◌≤◌, Bool, true, false, fold, map, List, [], ◌∷◌, length, slice_get, Option, Some, None, refl, sym, ap, ◌∙◌, subst, arith}
 use Rattle.std.specs.Prelude.{slice_index_or}
-use Rattle.std.proofs.lemmas.Bool.{and_from, and_parts}
 use Rattle.std.proofs.lemmas.Option.{slice_get_within}
-use Rattle.af_base.specs.declared.event.ClientEvent.{ClientEvent}
 use Rattle.af_base.specs.declared.event.ServerEvent.{ServerEvent}
 use Rattle.af_base.specs.Log.{entry_slot}
+use Rattle.af_judge.proofs.Basics.{each_at, each_long, shape_met}
+use Rattle.af_model.proofs.Basics.{both_lawful}
 use Rattle.af_model.specs.Cycles.{cycle_events}
-use Rattle.af_model.specs.History.{Moment, by_server, client_of, is_lawful, is_tame as is_tame_event}
+use Rattle.af_model.specs.History.{Moment, by_server, client_of, is_lawful}
 use Rattle.af_model.specs.Journals.{EntrySeen}
 use Rattle.af_model.specs.declared.shape.Shape.{Shape}
-use Rattle.af_runs.specs.Blocks.{BlockTold, Marks, listed}
+use Rattle.af_runs.specs.Blocks.{Marks, listed}
 use Rattle.af_runs.specs.ClientTurns.{Track}
 use Rattle.af_runs.specs.Fronts.{front_of}
 use Rattle.af_runs.specs.Runs.{Run, TrackTold, each_from, mixed_track, no_track, played, slot_for, state_for, stream_met, takes_part, told_at, track_met, with_mix, with_poll}
 use Rattle.af_runs.specs.Runs as run_of
 use Rattle.af_runs.specs.Sessions.{Session, cycle_frames}
-use Rattle.af_judge.proofs.EachTrack.{each_at, each_long}
 use Rattle.af_party.specs.Parties.{PartyState}
 use Rattle.af_session.specs.Together.{SessionState}
 use Rattle.af_told_law.specs.Sizes.{AreSmall, IsSmallRun, IsTrackSmall}
@@ -25,19 +24,6 @@ use Rattle.af_told_law.specs.Tells.{Tells}
 use Rattle.af_told_law.specs.Deeds.{Deeds}
 
 -- ## Lists without pokes
-
-pub both_lawful : (xs ys : List ClientEvent) → is_lawful xs ≡ true → is_lawful ys ≡ true → is_lawful (xs ++ ys) ≡ true
-both_lawful [] ys h g = g
-both_lawful (x ∷ xs) ys h g = by_first (is_tame_event x) h (λ r. both_lawful xs ys r g)
-  where
-    by_first : (b : Bool) → (b && is_lawful xs) ≡ true → (is_lawful xs ≡ true → is_lawful (xs ++ ys) ≡ true) → (b && is_lawful (xs ++ ys)) ≡ true
-    by_first true h more = more h
-    by_first false h more = h
-
--- a list without a poke had none before
-pub lawful_before : (es more : List ClientEvent) → is_lawful (es ++ more) ≡ true → is_lawful es ≡ true
-lawful_before [] more h = refl
-lawful_before (e ∷ es) more h = let parts = and_parts (is_tame_event e) (is_lawful (es ++ more)) h in and_from (is_tame_event e) (is_lawful es) parts.0 (lawful_before es more parts.1)
 
 -- the server's events are none of the client's
 pub server_client : (told : List Moment) (es : List ServerEvent) → client_of (fold (λ (sofar : List Moment) (m : Moment). m ∷ sofar) told (map by_server es)) ≡ client_of told
@@ -63,20 +49,13 @@ stream_lawful true false t h = both_lawful (client_of t.stream.told) _ h refl
 stream_lawful false true t h = h
 stream_lawful false false t h = h
 
--- a meeting keeps a block's sizes
-pub stream_shape : (p q : Bool) (b : BlockTold) → (stream_met p q b).shape ≡ b.shape
-stream_shape true true b = refl
-stream_shape true false b = refl
-stream_shape false true b = refl
-stream_shape false false b = refl
-
 module _ (marks : Marks) where
   pub met_marked : (s : Session) (run : Run) → IsMarkedRun marks run → IsMarkedRun marks (run_of.met s run)
   unfolding run_of.met
   met_marked s run = each_keeps_at (IsTrackMarked marks) (track_met s run) run (run_of.met s run) refl (λ n low h. record {
     stream = (λ on. stream_lawful (takes_part s run n) run.handed (told_at run n) (h.stream on));
     commands = (λ on. both_lawful (client_of (told_at run n).commands.told) _ (h.commands on) refl);
-    few = (subst (λ (k : Shape). k.frames ≤ 65536) (sym (stream_shape (takes_part s run n) run.handed (told_at run n).stream)) h.few.0, h.few.1);
+    few = (subst (λ (k : Shape). k.frames ≤ 65536) (sym (shape_met (takes_part s run n) run.handed (told_at run n).stream)) h.few.0, h.few.1);
   })
 
   pub poll_marked : (s : Session) (k : ℕ) (run : Run) → IsMarkedRun marks run → IsMarkedRun marks (with_poll s k run)

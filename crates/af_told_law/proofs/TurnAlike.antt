@@ -5,6 +5,7 @@ use Rattle.std.proofs.lemmas.List.{get_or-set_other}
 use Rattle.af_base.specs.declared.state.FastState.{FastState}
 use Rattle.af_base.specs.declared.turn.CommandLook.{CommandLook}
 use Rattle.af_base.specs.Turn.{Turn, TrackSeen}
+use Rattle.af_life.proofs.Basics.{at_set}
 use Rattle.af_life.specs.declared.kept.Heard.{Heard}
 use Rattle.af_life.specs.declared.kept.TrackKept.{TrackKept}
 use Rattle.af_life.specs.Edits.{after_ack, after_push, commanded_by, edited, edited_to, lend, let_go, must_enter, must_leave, mutated}
@@ -21,7 +22,7 @@ use Rattle.af_model.specs.Cycles.{Listed}
 use Rattle.af_model.specs.ServerCalls.{ServerKept, flushes_by}
 use Rattle.af_model.specs.declared.shape.Shape.{Shape}
 use Rattle.af_judge.proofs.SoundLives.{goes_served}
-use Rattle.af_judge.proofs.SoundSlots.{at_set, sound_served}
+use Rattle.af_judge.proofs.SoundSlots.{sound_served}
 use Rattle.af_judge.proofs.SoundTurns.{sound_acked}
 use Rattle.af_told_law.specs.Outsides.{AreAlike, LearnAlike, ListAlike, OwnAlike}
 use Rattle.af_base.specs.declared.report.SlotReport.{SlotReport}

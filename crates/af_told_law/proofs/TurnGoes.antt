@@ -42,6 +42,7 @@ use Rattle.af_normal.proofs.LegalPlays.{words_of}
 use Rattle.af_normal.proofs.OrderServed.{stay_put}
 use Rattle.af_normal.proofs.OrderStages.{acked_list}
 use Rattle.af_told_law.specs.Places.{ComesFrom, IsLentBy, QueueGoes, SlotsStand, StaysAway, StreamsGo, enters_by, events_by, rests_by, slot_in, told_by, words_by}
+use Rattle.af_told_law.proofs.Basics.{went}
 use Rattle.af_told_law.proofs.AckPlaces.{Acked}
 use Rattle.af_told_law.proofs.HandedTurn as begin
 use Rattle.af_told_law.proofs.PollTold.{marks_are, marks_so}
@@ -334,7 +335,7 @@ module _ (links : Links) (x b h : NormalState) (order : IsInOrder links x) (begi
 
     marks_sent : is_pushed push ≡ true → marked sent ≡ items_of y.mutator.past.last x.mutator.past.last
     marks_sent is =
-        let items : sent ≡ z.mutator.pending = sym (place.is_sent push sent by.rest.pushed.mutator.pending is) ∙ put.queue in
+        let items : sent ≡ z.mutator.pending = sym (went push sent by.rest.pushed.mutator.pending is) ∙ put.queue in
         let last : y.mutator.past.last ≡ z.mutator.draft = ap (λ (p : Past ServerState StreamNames). p.last) (past_y ∙ put.shown is) in
         ap (λ (is : List (Option ServerState)). marked is) items
         ∙ marks_so z.mutator.draft x.mutator.past.last z.mutator.pending (place.wide_z links h tied enough empty ack report room push y by)

@@ -10,7 +10,7 @@ use Rattle.af_base.specs.declared.report.Report.{Report}
 use Rattle.af_base.specs.declared.state.Command.{Command}
 use Rattle.af_base.specs.declared.state.FastState.{FastState}
 use Rattle.af_base.specs.declared.state.Push.{Push}
-use Rattle.af_base.specs.declared.state.Push.TheVariants.{Pushed, Clean, Busy}
+use Rattle.af_life.proofs.Basics.{away_holds, slot_of_away}
 use Rattle.af_model.specs.Draft.{commanded as with_command}
 use Rattle.af_model.specs.StateQueue.{carries}
 use Rattle.af_runs.specs.Told.{is_pushed}
@@ -34,9 +34,9 @@ use Rattle.af_normal.specs.Order.{IsTied}
 use Rattle.af_normal.specs.State.{NormalState, kept_of, setup_of}
 use Rattle.af_normal.specs.TurnMade.{GoesOnBy, mixing_of}
 use Rattle.af_normal.proofs.OrderEdits.{apart, away_slot, comer_holds, comer_home, comer_inside, comer_slot}
-use Rattle.af_normal.proofs.OrderSlots.{away_holds, slot_of_away}
 use Rattle.af_normal.proofs.OrderStages.{acked_list}
 use Rattle.af_told_law.proofs.AckPlaces.{Acked, look_leaves, none_of}
+use Rattle.af_told_law.proofs.Basics.{unpushed, went}
 use Rattle.af_told_law.proofs.EditPends.{Pends, all_pend}
 use Rattle.af_told_law.proofs.EditPlaces.{LentAt, Placed, all_placed}
 use Rattle.af_told_law.proofs.PushPlaces.{PutOn, put_on}
@@ -65,17 +65,6 @@ away_in last (s ∷ tracks) (suc i) away = away_in last tracks i away
 pub away_before : (ack : Bool) (m : NormalKept) (i : ℕ) → is_home (track_at (after_ack ack m).tracks i).holder ≡ false → track_at (after_ack ack m).tracks i ≡ track_at m.tracks i
 away_before true m i away = away_in m.last m.tracks i away
 away_before false m i away = refl
-
--- what isn't pushed stays in the queue
-unpushed : (push : Push) (sent pending : List (Option ServerState)) → is_pushed push ≡ false → in_queue push sent pending ≡ pending
-unpushed (Pushed number) sent pending e = absurd (true≢false e)
-unpushed Clean sent pending e = refl
-unpushed (Busy seen expected) sent pending e = refl
-
-pub is_sent : (push : Push) (sent pending : List (Option ServerState)) → is_pushed push ≡ true → in_queue push sent pending ≡ sent
-is_sent (Pushed number) sent pending e = refl
-is_sent Clean sent pending e = absurd (true≢false (sym e))
-is_sent (Busy seen expected) sent pending e = absurd (true≢false (sym e))
 
 -- a track that has a slot isn't mixed by the normal mixer
 unmixed : (b d : Bool) → b ≡ true → (not b && d) ≡ false
@@ -317,7 +306,7 @@ module _ (links : Links) (x : NormalState) (tied : IsTied links x) (enough : len
         by_pushed false is = waited t (ap (λ (items : Items). at items (slot_number (track_at y.tracks i))) (sym items_z.0 ∙ sym put.2.queue ∙ unpushed push put.1 p.mutator.pending is) ∙ there)
 
     pub away_sent : is_pushed push ≡ true → (t : ServerState) → at put.1 (slot_number (track_at y.tracks i)) ≡ Some t → at x.mutator.pending (slot_number (track_at y.tracks i)) ≡ Some t
-    away_sent is t e = waited t (ap (λ (items : Items). at items (slot_number (track_at y.tracks i))) (sym items_z.0 ∙ sym put.2.queue ∙ is_sent push put.1 p.mutator.pending is) ∙ e)
+    away_sent is t e = waited t (ap (λ (items : Items). at items (slot_number (track_at y.tracks i))) (sym items_z.0 ∙ sym put.2.queue ∙ went push put.1 p.mutator.pending is) ∙ e)
 
     pub away_returned : (t : ServerState) → at y.mutator.returned (slot_number (track_at y.tracks i)) ≡ Some t
         → ((at x.mutator.returned (slot_number (track_at y.tracks i)) ≡ Some t) × (at (back links x tied enough empty ack report room push y by) (slot_number (track_at y.tracks i)) ≡ None)) ⊎ (at x.mutator.pending (slot_number (track_at y.tracks i)) ≡ Some t)

@@ -10,6 +10,7 @@ use Rattle.af_base.specs.declared.turn.TrackTurn.{TrackTurn}
 use Rattle.af_base.specs.declared.turn.TurnEntry.{TurnEntry}
 use Rattle.af_base.specs.Roomy.{Roomy}
 use Rattle.af_base.specs.Turn.{Turn, TakeSeen, TrackSeen, track_seen, turn_of}
+use Rattle.af_life.proofs.Basics.{at_set}
 use Rattle.af_model.specs.Cycles.{kept}
 use Rattle.af_server.specs.Order.{ServerState}
 use Rattle.af_server.specs.Slot.{listed}
@@ -40,7 +41,7 @@ use Rattle.af_normal.proofs.LegalMade.{PlaysBy, plays_by}
 use Rattle.af_normal.proofs.LegalPlays.{StreamTakes, mix_of, words_of}
 use Rattle.af_normal.proofs.LegalServed.{ServedTo, served_all}
 use Rattle.af_normal.proofs.OrderServed.{StaysPut, out_put, stay_put}
-use Rattle.af_normal.proofs.OrderSlots.{at_set, sound_served}
+use Rattle.af_normal.proofs.OrderSlots.{sound_served}
 use Rattle.af_normal.proofs.OrderStages.{acked_kept, acked_list, acked_same, tied_acked, tied_learnt}
 
 -- the first n of a list are there

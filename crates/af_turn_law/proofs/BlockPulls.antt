@@ -8,11 +8,12 @@ use Rattle.af_base.specs.declared.event.ServerEvent.{ServerEvent}
 use Rattle.af_base.specs.declared.event.ServerEvent.TheVariants as server
 use Rattle.af_base.specs.declared.event.HandEvent.{HandEvent}
 use Rattle.af_base.specs.declared.event.HandEvent.TheVariants as hand
+use Rattle.af_model.proofs.Basics.{at_few, client_taken, hand_met}
 use Rattle.af_model.specs.declared.point.TrackPoint.{TrackPoint}
 use Rattle.af_model.specs.declared.shape.Shape.{Shape}
 use Rattle.af_model.specs.History.{Moment, by_client, by_server, by_hand, client_of, server_of, hand_of, after, met_by, met_in, clients_at, IsLegal, with_taken, taken_of}
 use Rattle.af_model.specs.Point.{start, ClientMay, ServerMay, HandMay, after_client, after_server, after_hand}
-use Rattle.af_model.proofs.OneFate.{same_consumed, hand_consumed}
+use Rattle.af_model.proofs.OneFate.{hand_consumed}
 use Rattle.af_turn_law.specs.Marking.{learnt, KnowsAll, client_marks, server_marks, hand_marks, client_is_mark, client_named, server_is_mark, server_named, hand_is_mark, hand_named}
 use Rattle.af_turn_law.specs.Phased.{ends_met}
 use Rattle.af_turn_law.proofs.Marked.{past_front, past_last, learnt_last, learnt_more}
@@ -58,10 +59,6 @@ met_learnt (by_client e ∷ order) = met_learnt order
 met_learnt (by_server e ∷ order) = met_learnt order
 met_learnt (by_hand e ∷ order) = let r = met_learnt order in let last = learnt_last hand_marks (hand_of order) e in let same = met_named e in omega (arith, r, last, same)
 
-pub hand_met : (n met at : ℕ) (e : HandEvent) → HandMay n met at e → met ≤ n
-hand_met n met at (hand.SetFlags bits) h = h
-hand_met n met at (hand.Met k) h = h.0
-
 -- what the hand had met before its last event
 hand_learnt : (p : TrackPoint) (order : List Moment) (hs : List HandEvent) (e : HandEvent) → hand_of order ≡ hs ++ e ∷ [] → IsLegal p order → learnt hand_marks hs ≤ length (client_of order)
 hand_learnt p [] hs e is l = let n : 0 ≡ length (hs ++ e ∷ []) = ap length is in absurd (let z : ⊥ = omega (arith, n, length-append hs (e ∷ [])) in z)
@@ -73,12 +70,6 @@ hand_learnt p (by_hand x ∷ order) hs e is l =
     let same = ap (learnt hand_marks) s.0 in
     let met = met_learnt order in
     omega (arith, few, same, met)
-
-pub at_few : (order : List Moment) → clients_at order ≤ length (client_of order)
-at_few [] = omega arith
-at_few (by_client e ∷ order) = let r = at_few order in let n = length-append (client_of order) (e ∷ []) in omega (arith, r, n)
-at_few (by_server e ∷ order) = at_few order
-at_few (by_hand e ∷ order) = omega arith
 
 -- ## The event taken to the end
 
@@ -165,7 +156,7 @@ module _ (k : Shape) (frames : List ℕ) where
         client_is = r.client_is;
         server_is = ap (λ l. l ++ a ∷ []) r.server_is;
         hand_is = r.hand_is;
-        taken_is = ap (λ t. with_taken frames k.base q t a) r.taken_is ∙ taken_same frames k.base q (after p order) (taken_of frames k order) a (sym (same_consumed q e) ∙ ap (λ (z : TrackPoint). z.consumed) r.ends);
+        taken_is = ap (λ t. with_taken frames k.base q t a) r.taken_is ∙ taken_same frames k.base q (after p order) (taken_of frames k order) a (sym (client_taken q e) ∙ ap (λ (z : TrackPoint). z.consumed) r.ends);
         at = r.at;
         met = r.met;
       }
@@ -233,7 +224,7 @@ module _ (k : Shape) (frames : List ℕ) where
         client_is = ap (λ l. l ++ a ∷ []) r.client_is;
         server_is = r.server_is;
         hand_is = r.hand_is;
-        taken_is = taken_same frames k.base (after_client q a) q (taken_of frames k r.rest) e (same_consumed q a) ∙ r.taken_is;
+        taken_is = taken_same frames k.base (after_client q a) q (taken_of frames k r.rest) e (client_taken q a) ∙ r.taken_is;
         at = r.at;
         met = r.met;
       }

@@ -6,6 +6,7 @@ use Rattle.af_base.specs.declared.event.ServerEvent.{ServerEvent}
 use Rattle.af_base.specs.declared.event.ServerEvent.TheVariants as server
 use Rattle.af_base.specs.declared.event.HandEvent.{HandEvent}
 use Rattle.af_base.specs.declared.event.HandEvent.TheVariants as hand
+use Rattle.af_model.proofs.Basics.{at_few}
 use Rattle.af_model.specs.History.{Moment, by_client, by_server, by_hand, client_of, server_of, hand_of}
 use Rattle.af_runs.specs.Blocks.{BlockTold}
 use Rattle.af_runs.specs.Runs.{stream_met}
@@ -13,7 +14,7 @@ use Rattle.af_turn_law.specs.Acting.{SawNoInvalid}
 use Rattle.af_turn_law.specs.Marking.{KnowsAll, NoMarks, client_marks, server_marks, hand_marks}
 use Rattle.af_turn_law.specs.Phased.{IsBlockPhased, ends_met}
 use Rattle.af_turn_law.proofs.Marked.{knows_more, knows_met, knows_now, due_plain}
-use Rattle.af_turn_law.proofs.BlockPulls.{at_few, ends_last}
+use Rattle.af_turn_law.proofs.BlockPulls.{ends_last}
 use Rattle.af_turn_law.proofs.BlockForced.{phased_hand}
 
 -- ## Who knows whom

@@ -1,5 +1,6 @@
 -- Which events of a block's parties pass one another: a mark passes any, and the server's events pass the hand's.
-use Rattle.std.proofs.Common.{◌≡◌, ◌⊎◌, inl, inr, ℕ, zero, suc, ◌-◌, ◌/◌, ◌≤◌, ◌||◌, Bool, true, false, bit_or, List, ◌++◌, take, drop, refl, sym, ap, ◌∙◌, subst, arith}
+use Rattle.std.proofs.Common.{◌≡◌, inl, inr, ℕ, zero, suc, ◌-◌, ◌/◌, ◌≤◌, ◌||◌, true, bit_or, List, ◌++◌, take, drop, refl, sym, ap, ◌∙◌, subst, arith}
+use Rattle.af_base.proofs.Basics.{either, no}
 use lib.Bits.{or_step, or_zero_l, or_shr, or_comm}
 use Rattle.af_base.specs.declared.event.ClientEvent.{ClientEvent}
 use Rattle.af_base.specs.declared.event.ClientEvent.TheVariants as client
@@ -11,7 +12,6 @@ use Rattle.af_model.specs.declared.point.TrackPoint.{TrackPoint}
 use Rattle.af_model.specs.History.{with_taken}
 use Rattle.af_model.specs.Point.{ClientMay, ServerMay, after_client, after_server, after_hand}
 use Rattle.af_turn_law.specs.Marking.{client_is_mark, client_named, server_is_mark, server_named, hand_is_mark}
-use Rattle.af_turn_law.proofs.Marked.{no}
 
 -- ## What a mark leaves
 
@@ -27,21 +27,16 @@ pub hand_same : (q : TrackPoint) (e : HandEvent) → hand_is_mark e ≡ true →
 hand_same q (hand.Met k) is = refl
 hand_same q (hand.SetFlags bits) is = no is
 
--- one of two flags is true, if either is
-pub one_of : (a b : Bool) → (a || b) ≡ true → (a ≡ true) ⊎ (b ≡ true)
-one_of true b h = inl refl
-one_of false b h = inr h
-
 -- ## The points
 
 pub client_server : (q : TrackPoint) (e : ClientEvent) (a : ServerEvent) → (client_is_mark e || server_is_mark a) ≡ true → after_client (after_server q a) e ≡ after_server (after_client q e) a
-client_server q e a marks = elim (one_of (client_is_mark e) (server_is_mark a) marks) [
+client_server q e a marks = elim (either (client_is_mark e) (server_is_mark a) marks) [
   | inl is ↦ client_same (after_server q a) e is ∙ ap (λ r. after_server r a) (sym (client_same q e is))
   | inr is ↦ ap (λ r. after_client r e) (server_same q a is) ∙ sym (server_same (after_client q e) a is)
 ]
 
 pub client_hand : (q : TrackPoint) (e : ClientEvent) (a : HandEvent) → (client_is_mark e || hand_is_mark a) ≡ true → after_client (after_hand q a) e ≡ after_hand (after_client q e) a
-client_hand q e a marks = elim (one_of (client_is_mark e) (hand_is_mark a) marks) [
+client_hand q e a marks = elim (either (client_is_mark e) (hand_is_mark a) marks) [
   | inl is ↦ client_same (after_hand q a) e is ∙ ap (λ r. after_hand r a) (sym (client_same q e is))
   | inr is ↦ ap (λ r. after_client r e) (hand_same q a is) ∙ sym (hand_same (after_client q e) a is)
 ]
@@ -129,41 +124,41 @@ server_at p q n e is h = no is
 
 -- the server's event comes before the client's
 pub server_before : (q : TrackPoint) (m n : ℕ) (e : ClientEvent) (a : ServerEvent) → (client_is_mark e || server_is_mark a) ≡ true → server_named a ≤ n → ServerMay (after_client q e) m a → ServerMay q n a
-server_before q m n e a marks few h = elim (one_of (client_is_mark e) (server_is_mark a) marks) [
+server_before q m n e a marks few h = elim (either (client_is_mark e) (server_is_mark a) marks) [
   | inl is ↦ server_fewer q m n a few (subst (λ r. ServerMay r m a) (client_same q e is) h)
   | inr is ↦ server_at (after_client q e) q n a is (server_fewer (after_client q e) m n a few h)
 ]
 
 -- the client's event comes behind the server's
 pub client_behind : (q : TrackPoint) (m n : ℕ) (e : ClientEvent) (a : ServerEvent) → (client_is_mark e || server_is_mark a) ≡ true → m ≤ n → ClientMay q m e → ClientMay (after_server q a) n e
-client_behind q m n e a marks le h = elim (one_of (client_is_mark e) (server_is_mark a) marks) [
+client_behind q m n e a marks le h = elim (either (client_is_mark e) (server_is_mark a) marks) [
   | inl is ↦ client_at q (after_server q a) n e is (client_more q m n e le h)
   | inr is ↦ subst (λ r. ClientMay r n e) (sym (server_same q a is)) (client_more q m n e le h)
 ]
 
 -- the client's event comes before the server's
 pub client_before : (q : TrackPoint) (m n : ℕ) (e : ServerEvent) (a : ClientEvent) → (client_is_mark a || server_is_mark e) ≡ true → client_named a ≤ n → ClientMay (after_server q e) m a → ClientMay q n a
-client_before q m n e a marks few h = elim (one_of (client_is_mark a) (server_is_mark e) marks) [
+client_before q m n e a marks few h = elim (either (client_is_mark a) (server_is_mark e) marks) [
   | inl is ↦ client_at (after_server q e) q n a is (client_fewer (after_server q e) m n a few h)
   | inr is ↦ client_fewer q m n a few (subst (λ r. ClientMay r m a) (server_same q e is) h)
 ]
 
 -- the server's event comes behind the client's
 pub server_behind : (q : TrackPoint) (m n : ℕ) (e : ServerEvent) (a : ClientEvent) → (client_is_mark a || server_is_mark e) ≡ true → m ≤ n → ServerMay q m e → ServerMay (after_client q a) n e
-server_behind q m n e a marks le h = elim (one_of (client_is_mark a) (server_is_mark e) marks) [
+server_behind q m n e a marks le h = elim (either (client_is_mark a) (server_is_mark e) marks) [
   | inl is ↦ subst (λ r. ServerMay r n e) (sym (client_same q a is)) (server_more q m n e le h)
   | inr is ↦ server_at q (after_client q a) n e is (server_more q m n e le h)
 ]
 
 -- the client's event comes behind the hand's, or before it
 pub client_behind_hand : (q : TrackPoint) (n : ℕ) (e : ClientEvent) (a : HandEvent) → (client_is_mark e || hand_is_mark a) ≡ true → ClientMay q n e → ClientMay (after_hand q a) n e
-client_behind_hand q n e a marks h = elim (one_of (client_is_mark e) (hand_is_mark a) marks) [
+client_behind_hand q n e a marks h = elim (either (client_is_mark e) (hand_is_mark a) marks) [
   | inl is ↦ client_at q (after_hand q a) n e is h
   | inr is ↦ subst (λ r. ClientMay r n e) (sym (hand_same q a is)) h
 ]
 
 pub client_before_hand : (q : TrackPoint) (n : ℕ) (e : ClientEvent) (a : HandEvent) → (client_is_mark e || hand_is_mark a) ≡ true → ClientMay (after_hand q a) n e → ClientMay q n e
-client_before_hand q n e a marks h = elim (one_of (client_is_mark e) (hand_is_mark a) marks) [
+client_before_hand q n e a marks h = elim (either (client_is_mark e) (hand_is_mark a) marks) [
   | inl is ↦ client_at (after_hand q a) q n e is h
   | inr is ↦ subst (λ r. ClientMay r n e) (hand_same q a is) h
 ]

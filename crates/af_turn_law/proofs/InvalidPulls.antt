@@ -6,13 +6,14 @@ use Rattle.af_base.specs.declared.event.ClientEvent.{ClientEvent}
 use Rattle.af_base.specs.declared.event.ClientEvent.TheVariants as client
 use Rattle.af_base.specs.declared.event.ServerEvent.{ServerEvent}
 use Rattle.af_base.specs.declared.event.ServerEvent.TheVariants as server
+use Rattle.af_model.proofs.Basics.{hand_met}
 use Rattle.af_model.specs.declared.point.TrackPoint.{TrackPoint}
 use Rattle.af_model.specs.declared.shape.Shape.{Shape}
 use Rattle.af_model.specs.History.{Moment, by_client, by_server, by_hand, client_of, server_of, hand_of, after, met_in, clients_at, IsLegal, with_taken, taken_of}
 use Rattle.af_model.specs.Point.{start, ClientMay, after_client, after_server, after_hand}
 use Rattle.af_turn_law.specs.Acting.{SeesNoInvalid, SawNoInvalid}
 use Rattle.af_turn_law.specs.Marking.{learnt, client_marks, client_named}
-use Rattle.af_turn_law.proofs.BlockPulls.{Pulled, ServerAllowed, hand_met, hand_fewer}
+use Rattle.af_turn_law.proofs.BlockPulls.{Pulled, ServerAllowed, hand_fewer}
 use Rattle.af_turn_law.proofs.BlockSwaps.{server_hand}
 use Rattle.af_turn_law.proofs.Marked.{by_flag, learnt_last}
 

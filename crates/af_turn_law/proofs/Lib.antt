@@ -1,3 +1,4 @@
+pub mod Basics
 pub mod Marked
 pub mod TwoForced
 pub mod SharedForced

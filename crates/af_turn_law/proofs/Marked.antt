@@ -1,11 +1,8 @@
 -- What was learnt by the marks of a list, and lists that end with marks.
 use Rattle.std.proofs.Common.{◌≡◌, ◌⊎◌, inl, inr, ℕ, zero, suc, ◌≤◌, ◌<◌, max, Bool, true, false, true≢false, MatchBool, fold, List, [], ◌∷◌, ◌++◌, length, refl, sym, ◌∙◌, arith}
 use Rattle.std.proofs.lemmas.Grind.{fold-append}
+use Rattle.af_base.proofs.Basics.{no}
 use Rattle.af_turn_law.specs.Marking.{Marking, learnt, OnlyMarksPast, OnlyMarks, NoMarks, IsDue, KnowsAll}
-
--- true and false aren't the same
-pub no : {A : Type 0} → false ≡ true → A
-no e = absurd (true≢false (sym e))
 
 -- a case by a flag
 pub by_flag : {X Y : Type 0} (b : Bool) → MatchBool b X Y → ((b ≡ true) × X) ⊎ ((b ≡ false) × Y)

@@ -4,6 +4,8 @@ use Rattle.std.specs.Prelude.{slice_set}
 use Rattle.std.specs.List.{range_with_len}
 use Rattle.af_base.specs.declared.state.FastState.{FastState}
 use Rattle.af_base.specs.Turn.{Turn, TakeSeen, TrackSeen}
+use Rattle.af_judge.proofs.Basics.{push_tracks}
+use Rattle.af_life.proofs.Basics.{at_set}
 use Rattle.af_life.specs.declared.kept.Holder.TheVariants.{Home}
 use Rattle.af_life.specs.declared.kept.Setting.{Setting}
 use Rattle.af_life.specs.declared.kept.TrackKept.{TrackKept}
@@ -15,9 +17,8 @@ use Rattle.af_life.specs.Serves.{served, served_to}
 use Rattle.af_life.specs.Sound.{IsSound}
 use Rattle.af_life.specs.Turn.{after_tracks, after_edits, turn_after}
 use Rattle.af_judge.proofs.SoundLives.{IsGiven, goes_served}
-use Rattle.af_judge.proofs.SoundSlots.{at_set, sound_served}
+use Rattle.af_judge.proofs.SoundSlots.{sound_served}
 use Rattle.af_judge.proofs.SoundTurns.{Sound, sound_acked, sound_turn}
-use Rattle.af_judge.proofs.TurnEdits.{push_tracks}
 
 abbrev slot_at : List TrackKept → ℕ → Option ℕ
 slot_at tracks i = (track_at tracks i).slot

@@ -1,12 +1,12 @@
 -- The command blocks of a turn run, and the stream blocks that are tame so far, are told in phases: what each step leaves of them.
-use Rattle.std.proofs.Common.{◌≡◌, inl, inr, ℕ, zero, suc, ◌+◌, ◌<◌, ◌==◌, ◌&&◌, ◌||◌, nat_le, Bool, true, false, true≢false, if◌then◌else◌, unwrap_or, is_some, map, length, drop, Option, Some, None, refl, sym, ap, ◌∙◌, subst, arith, ◌≤◌}
+use Rattle.std.proofs.Common.{◌≡◌, ℕ, zero, suc, ◌+◌, ◌<◌, ◌==◌, ◌&&◌, ◌||◌, Bool, true, false, true≢false, if◌then◌else◌, is_some, map, length, drop, Option, Some, None, refl, sym, ap, ◌∙◌, subst, arith, ◌≤◌}
 use Rattle.std.specs.List.{find, list_any, range_with_len}
-use Rattle.std.proofs.lemmas.Bool.{cases_lt}
+use Rattle.af_base.proofs.Basics.{is_within}
 use Rattle.af_base.specs.declared.state.FastState.{FastState}
 use Rattle.af_base.specs.Log.{slots, entry_slot}
+use Rattle.af_judge.proofs.Basics.{each_long, met_many, told_each}
 use Rattle.af_life.specs.Kept.{is_home, track_at}
-use Rattle.af_model.proofs.Logic.{is_le}
-use Rattle.af_model.specs.Cycles.{cycle_events, state_of}
+use Rattle.af_model.specs.Cycles.{cycle_events}
 use Rattle.af_model.specs.History.{by_client, by_server}
 use Rattle.af_model.specs.Journals.{EntrySeen, RoundSeen}
 use Rattle.af_model.specs.StateQueue.{slot_of, carries}
@@ -18,10 +18,10 @@ use Rattle.af_runs.specs.Runs.{Run, TrackTold, told_at, each_from, each_track, c
 use Rattle.af_runs.specs.Sessions.{Session, cycle_frames}
 use Rattle.af_runs.specs.Told.{state_at}
 use Rattle.af_runs.specs.TurnRuns.{cycle_alone, calls_alone}
-use Rattle.af_judge.proofs.BlocksMeet.{met_at, met_many}
-use Rattle.af_judge.proofs.EachTrack.{each_long, told_each}
+use Rattle.af_judge.proofs.BlocksMeet.{met_at}
+use Rattle.af_turn_law.proofs.Basics.{tame_met}
 use Rattle.af_turn_law.proofs.BlockSteps.{Ready, Done, told_more, rest_done, client_done, server_done, block_met}
-use Rattle.af_turn_law.proofs.BlocksTame.{StreamReady, StreamDone, tame_told, tame_met}
+use Rattle.af_turn_law.proofs.BlocksTame.{StreamReady, StreamDone, tame_told}
 use Rattle.af_turn_law.proofs.PlainLists.{plain_turn, plain_cycle}
 use Rattle.af_runs.specs.Rounds.{LegalEntry}
 use Rattle.af_runs.proofs.StatesFor.{polled_pushed}
@@ -182,7 +182,7 @@ found_any p q a (suc n) k imp is = by_first (p a) refl is (found_any p q (a + 1)
 -- after a poll the state of that number, which was pushed, is the one that the observer has
 polled_state : (s : Session) (k : ℕ) (run : Run) → k ≤ length run.states → state_for s (with_poll s k run) k ≡ state_at (cycle_frames s) run.states (with_poll s k run).current
 unfolding with_poll
-polled_state s k run low = polled_pushed s run k low ∙ ap (λ (b : Bool). state_at (cycle_frames s) run.states (if b then k else run.current)) (sym (is_le k (length run.states) low))
+polled_state s k run low = polled_pushed s run k low ∙ ap (λ (b : Bool). state_at (cycle_frames s) run.states (if b then k else run.current)) (sym (is_within k (length run.states) low))
 
 pub holds_played : (s : Session) (e : EntrySeen) (run : Run) → e.entry.state ≤ length run.states → PlaysParts s e (met s (with_poll s e.entry.state run))
 unfolding met with_poll

@@ -4,6 +4,7 @@ use Rattle.af_base.specs.declared.event.HandEvent.{HandEvent}
 use Rattle.af_base.specs.declared.event.HandEvent.TheVariants as hand
 use Rattle.af_base.specs.declared.event.ServerEvent.{ServerEvent}
 use Rattle.af_base.specs.Turn.{Turn}
+use Rattle.af_judge.proofs.Basics.{each_at, each_long}
 use Rattle.af_life.specs.Heard.{learnt}
 use Rattle.af_life.specs.Kept.{Setup, Outside, track_in}
 use Rattle.af_life.specs.TurnEvents.{tracks_at, hand_list, stream_list, command_list}
@@ -14,7 +15,6 @@ use Rattle.af_runs.specs.Rounds.{loaded, turned}
 use Rattle.af_runs.specs.Runs.{Run, TrackTold, told_at, no_track, with_turn, with_load, found_before, takes_part, turned_track}
 use Rattle.af_runs.specs.Sessions.{Session, setup_of}
 use Rattle.af_runs.specs.TurnRuns.{turn_alone}
-use Rattle.af_judge.proofs.EachTrack.{each_at, each_long}
 use Rattle.af_turn_law.specs.Acting.{StreamActs, ActsWhereMet}
 use Rattle.af_turn_law.specs.Phased.{IsBlockPhased}
 use Rattle.af_turn_law.proofs.BlockSteps.{Ready, Done, ClientKnows, ServerKnows, OnlyInvalid, told_more, server_done, hand_ready, turn_done}

@@ -1,5 +1,6 @@
 -- The lists of the queue's, the report's and the pipe's ends force the order in which they are told, if that is in phases.
 use Rattle.std.proofs.Common.{◌≡◌, ℕ, ◌+◌, ◌≤◌, ◌||◌, true, false, true≢false, [], refl, ap, ◌∙◌, arith}
+use Rattle.af_base.proofs.Basics.{no}
 use Rattle.af_base.specs.declared.event.ClientEvent.{ClientEvent}
 use Rattle.af_base.specs.declared.event.ClientEvent.TheVariants as client
 use Rattle.af_base.specs.declared.event.ServerEvent.{ServerEvent}
@@ -25,7 +26,6 @@ use Rattle.af_model.specs.StateQueue.{QueuePoint}
 use Rattle.af_runs.specs.Told.{Item, QueueTold, ReportTold, PipeTold, HasQueueHistory, IsQueueAsTold, HasReportHistory, IsReportAsTold, HasPipeTold, IsPipeAsTold}
 use Rattle.af_turn_law.specs.Marking.{mutator_marks, observer_marks, writer_marks, reader_marks, client_marks, server_marks, mutator_is_mark, mutator_named, observer_is_mark, observer_named, writer_is_mark, writer_named, reader_is_mark, reader_named, client_is_mark, client_named, server_is_mark, server_named}
 use Rattle.af_turn_law.specs.Phased.{IsPhased}
-use Rattle.af_turn_law.proofs.Marked.{no}
 use Rattle.af_turn_law.proofs.TwoForced.{MarksPass, forced_from}
 
 -- ## The queue

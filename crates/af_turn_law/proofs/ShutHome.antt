@@ -5,16 +5,17 @@ use Rattle.std.specs.List.{list_any}
 use Rattle.std.proofs.lemmas.Bool.{cases_lt, cases_eq}
 use Rattle.std.proofs.lemmas.Grind.{get_or-set_at}
 use Rattle.std.proofs.lemmas.List.{get_or_past}
+use Rattle.af_base.proofs.Basics.{no}
 use Rattle.af_base.specs.declared.seen.Seen.{Seen}
 use Rattle.af_base.specs.declared.seen.Seen.TheVariants as seen
 use Rattle.af_base.specs.declared.turn.CommandLook.{CommandLook}
 use Rattle.af_base.specs.Turn.{Turn, TakeSeen, TrackSeen}
+use Rattle.af_judge.proofs.Basics.{push_tracks, report_ends}
+use Rattle.af_life.proofs.Basics.{at_other, at_set}
 use Rattle.af_life.specs.declared.kept.Heard.{Heard}
 use Rattle.af_life.specs.declared.kept.Holder.{Holder}
 use Rattle.af_life.specs.declared.kept.Holder.TheVariants.{Home, Lent, Returning}
 use Rattle.af_life.specs.declared.kept.TrackKept.{TrackKept}
-use Rattle.af_life.specs.declared.track.Known.{Known}
-use Rattle.af_life.specs.declared.track.Life.{Life}
 use Rattle.af_life.specs.Edits.{after_ack, must_leave, must_enter, let_go, lend, edited, edited_to, ordered, mutated, after_push}
 use Rattle.af_life.specs.Heard.{heard, ready}
 use Rattle.af_life.specs.Kept.{Setup, asked, NormalKept, Learnt, new_track, nothing_seen, seen_at, track_at, track_in, is_home, is_lent}
@@ -25,12 +26,10 @@ use Rattle.af_life.specs.Serves.{is_found_shut, after_commands, after_part, HasD
 use Rattle.af_life.specs.Turn.{after_tracks, after_edits, turn_after}
 use Rattle.af_life.specs.TurnEvents.{tracks_at}
 use Rattle.af_life.proofs.Lives.{acked_len, served_len, turn_len}
-use Rattle.af_judge.proofs.SoundEdits.{at_other}
 use Rattle.af_judge.proofs.SoundLives.{goes_served, grew_report}
-use Rattle.af_judge.proofs.SoundSlots.{at_set, sound_served}
+use Rattle.af_judge.proofs.SoundSlots.{sound_served}
 use Rattle.af_judge.proofs.SoundTurns.{Sound, sound_acked}
-use Rattle.af_judge.proofs.TurnEdits.{push_tracks}
-use Rattle.af_turn_law.proofs.Marked.{no}
+use Rattle.af_model.proofs.Basics.{both_first}
 
 -- ## The life has ended
 
@@ -44,10 +43,6 @@ left_of false b h none = absurd (true≢false (sym h ∙ none))
 right_of : (a b : Bool) → (a || b) ≡ true → a ≡ false → b ≡ true
 right_of true b h none = absurd (true≢false none)
 right_of false b h none = h
-
-first_of : (a b : Bool) → (a && b) ≡ true → a ≡ true
-first_of true b h = refl
-first_of false b h = no h
 
 -- a look that shows a command doesn't show the block shut
 not_shut : (sight : Seen) → shows_command sight ≡ true → is_shut sight ≡ false
@@ -79,16 +74,8 @@ module _ (given : Option ℕ) (flush_seen : ℕ) where
       by_goes : (b : Bool) → goes_on look next ≡ b → (if b then are_due n given flush_seen looks next else length looks == 0) ≡ true
           → (are_due n given flush_seen looks next ≡ true → shut_in looks ≡ true → (after_looks given flush_seen looks next).life.ended ≡ true)
           → (if b then after_looks given flush_seen looks next else next).life.ended ≡ true
-      by_goes true goes due more = more due (right_of (is_shut look.seen) (shut_in looks) shut (not_shut look.seen (first_of (shows_command look.seen) _ goes)))
+      by_goes true goes due more = more due (right_of (is_shut look.seen) (shut_in looks) shut (not_shut look.seen (both_first (shows_command look.seen) _ goes)))
       by_goes false stops due more = look_ends look s (left_of (is_shut look.seen) (shut_in looks) shut (none_shut looks (eqb-true (length looks) 0 due)))
-
-report_ends : (known : Known) (life : Life) → known.shut ≡ true → (by_report known life).ended ≡ true
-unfolding by_report
-report_ends known life is = first known.shut _ is
-  where
-    first : (b : Bool) (l : Life) → b ≡ true → (if b then (record life { ended = true; member = false }) else l).ended ≡ true
-    first true l is = refl
-    first false l is = no is
 
 part_ends : (given : Option ℕ) (h : Heard) (looks : List CommandLook) (s : TrackKept) → is_found_shut h looks ≡ true → HasDueLooks given h.flush_seen looks s → (after_part given h looks s).life.ended ≡ true
 unfolding after_part

@@ -1,12 +1,14 @@
 -- In a legal turn that finds tracks shut as `FindsShutUnseen` says, hands and the stream proxies of the tracks whose stream blocks are tame so far act as `ActsWhereMet` says.
-use Rattle.std.proofs.Common.{◌≡◌, ◌⊎◌, inl, inr, ℕ, ◌<◌, ◌≤◌, ◌&&◌, ◌||◌, nat_lt, Bool, true, false, true≢false, MatchBool, if◌then◌else◌, List, [], ◌∷◌, ◌++◌, length, map, All, refl, sym, ap, ◌∙◌, subst, arith}
+use Rattle.std.proofs.Common.{◌≡◌, ◌⊎◌, inl, inr, ℕ, ◌<◌, ◌≤◌, ◌||◌, nat_lt, Bool, true, false, true≢false, MatchBool, if◌then◌else◌, List, [], ◌∷◌, ◌++◌, length, map, All, refl, sym, ap, ◌∙◌, subst, arith}
 use Rattle.std.specs.List.{flat_map}
 use Rattle.std.proofs.lemmas.Bool.{cases_lt}
 use Rattle.std.proofs.lemmas.List.{get_or_past}
+use Rattle.af_base.proofs.Basics.{either_false, none_and}
 use Rattle.af_base.specs.declared.event.HandEvent.TheVariants as hand
 use Rattle.af_base.specs.declared.event.ServerEvent.{ServerEvent}
 use Rattle.af_base.specs.declared.event.ServerEvent.TheVariants as server
 use Rattle.af_base.specs.Turn.{Turn, TakeSeen, TrackSeen}
+use Rattle.af_life.proofs.Basics.{at_new, welcomed_at}
 use Rattle.af_life.specs.declared.kept.Setting.{Setting}
 use Rattle.af_life.specs.declared.kept.TrackKept.{TrackKept}
 use Rattle.af_life.specs.declared.track.Known.{Known}
@@ -26,7 +28,7 @@ use Rattle.af_runs.specs.Blocks.{Marks, client_list, is_tame}
 use Rattle.af_runs.specs.Found.{TurnFound, LegalTurnBy, outside_of}
 use Rattle.af_runs.specs.Runs.{Run, told_at, with_turn, holds, takes_part}
 use Rattle.af_runs.specs.Sessions.{Session, setup_of}
-use Rattle.af_judge.proofs.SoundTurns.{Sound, welcomed_at, at_new}
+use Rattle.af_judge.proofs.SoundTurns.{Sound}
 use Rattle.af_turn_law.specs.Acting.{SawNoInvalid, StreamActs, ActsWhereMet, FindsShutUnseen}
 use Rattle.af_turn_law.proofs.MixedHome.{mixed_home}
 use Rattle.af_turn_law.proofs.ShutHome.{is_shut_now, shut_home}
@@ -39,14 +41,6 @@ pub record NormalReady (s : Session) (run : Run) : Type 0 where
 
 -- ## No track is disabled that heard of no empty look
 
-neither : (b x y : Bool) → x ≡ false → y ≡ false → (if b then x else y) ≡ false
-neither true x y f g = f
-neither false x y f g = g
-
-and_false : (a b : Bool) → a ≡ false → (a && b) ≡ false
-and_false true b h = absurd (true≢false h)
-and_false false b h = refl
-
 -- no row tells anything
 abbrev AllQuiet : List Case → Known → Life → Type 0
 AllQuiet [] known life = Unit {0}
@@ -54,12 +48,12 @@ AllQuiet (row ∷ rows) known life = (row.tells known life ≡ false) × AllQuie
 
 quiet_rows : (rows : List Case) (known : Known) (life : Life) → AllQuiet rows known life → first_told rows known life ≡ false
 quiet_rows [] known life h = refl
-quiet_rows (row ∷ rows) known life h = neither (row.applies known life) (row.tells known life) (first_told rows known life) h.0 (quiet_rows rows known life h.1)
+quiet_rows (row ∷ rows) known life h = either_false (row.applies known life) (row.tells known life) (first_told rows known life) h.0 (quiet_rows rows known life h.1)
 
 told_none : (known : Known) (life : Life) → known.empties ≡ 0 → told_by_report known life ≡ false
 unfolding told_by_report
 told_none known life none =
-    let dry : no_retries_left known life ≡ false = and_false (nat_lt 0 known.empties) _ (ap (λ n. nat_lt 0 n) none) in
+    let dry : no_retries_left known life ≡ false = none_and (nat_lt 0 known.empties) _ (ap (λ n. nat_lt 0 n) none) in
     quiet_rows reports known life (refl, (refl, (refl, (refl, (refl, (refl, (refl, (dry, (refl, (refl, (refl, tt)))))))))))
 
 module _ (c : Setup) (k : Learnt) (e : Turn) (n : ℕ) where

@@ -3,17 +3,9 @@ use Rattle.std.proofs.Common.{◌≡◌, ◌∙◌, ℕ, zero, suc, ◌+◌, ◌
 use Rattle.std.specs.List.{list_any, range_with_len}
 use Rattle.std.specs.Str.{bytes_eq}
 use Rattle.std.proofs.lemmas.Bool.{leb-true, leb-false}
+use Rattle.af_base.proofs.Basics.{neither, neither_is, or_right}
 use Rattle.af_script.specs.Text.{is_name}
 use Rattle.af_words.specs.Requests.{is_drawn, two_names}
-use Rattle.af_words.proofs.PlainWords.{neither}
-
-either : (a b : Bool) → b ≡ true → (a || b) ≡ true
-either true b is = refl
-either false b is = is
-
-neither_of : (a b : Bool) → a ≡ false → b ≡ false → (a || b) ≡ false
-neither_of true b first second = cc
-neither_of false b first second = second
 
 -- a test that holds of a number in a range holds of one of the range
 pub any_found : (test : ℕ → Bool) (i from count : ℕ) → test i ≡ true → from ≤ i → i < from + count → list_any test (range_with_len from count) ≡ true
@@ -25,13 +17,13 @@ any_found test i from (suc count) is le lt = go (nat_le i from) refl (λ more. a
         let same : from ≡ i = (let down = leb-true i from less in omega (arith, le, down)) in
         let here : test from ≡ true = ap test same ∙ is in
         rw here refl
-    go false more later = either (test from) (list_any test (range_with_len (from + 1) count)) (later (leb-false i from more))
+    go false more later = or_right (test from) (list_any test (range_with_len (from + 1) count)) (later (leb-false i from more))
 
 none_more_from : (test : ℕ → Bool) (from count : ℕ) → list_any test (range_with_len from count) ≡ false → test (from + count) ≡ false → list_any test (range_with_len from (suc count)) ≡ false
-none_more_from test from zero none next = neither_of (test from) false (ap test (let same : from ≡ from + 0 = omega arith in same) ∙ next) refl
+none_more_from test from zero none next = neither_is (test from) false (ap test (let same : from ≡ from + 0 = omega arith in same) ∙ next) refl
 none_more_from test from (suc count) none next =
     let both = neither (test from) (list_any test (range_with_len (from + 1) count)) none in
-    neither_of (test from) (list_any test (range_with_len (from + 1) (suc count))) both.0
+    neither_is (test from) (list_any test (range_with_len (from + 1) (suc count))) both.0
     (none_more_from test (from + 1) count both.1 (ap test (let same : (from + 1) + count ≡ from + suc count = omega arith in same) ∙ next))
 
 -- a test that fails for all numbers so far and for the next one fails for all

@@ -1,7 +1,8 @@
 -- Words that don't begin with `-` are values, or name a subcommand.
-use Rattle.std.proofs.Common.{◌≡◌, ◌∙◌, ◌&&◌, ◌||◌, not, ℕ, Bool, true, false, List, [], ◌∷◌, Option, Some, None, IfSome, cond, refl, ap, ap₂}
+use Rattle.std.proofs.Common.{◌≡◌, ◌∙◌, ◌&&◌, not, ℕ, Bool, true, false, List, [], ◌∷◌, Option, Some, None, IfSome, cond, refl, ap, ap₂}
 use Rattle.std.specs.Prelude.{fold}
 use Rattle.std.specs.List.{find, list_all, list_any}
+use Rattle.af_base.proofs.Basics.{neither}
 use Rattle.clap.specs.Walk.{Held, Row, Rule, Step, Text, Walk, after_step, arg_by_index, finished, idle, is_multiple, nothing_held, settled, subcommand_or_other, to_positional, value, walk, walk_from, walked}
 use Rattle.clap.specs.Simple.{Shape}
 use Rattle.clap.specs.Kinds.{Kinds, or_else}
@@ -9,11 +10,6 @@ use Rattle.clap.specs.Faults.{check_fault, defaults_fault, level_fault, other_fa
 use Rattle.clap.proofs.SimpleLemmas.{is_false}
 use Rattle.clap.proofs.WalkLemmas.{both}
 use Rattle.af_words.specs.Dash.{begins_dash}
-
-pub neither : (a b : Bool) → (a || b) ≡ false → (a ≡ false) × (b ≡ false)
-neither false false e = (refl, refl)
-neither false true e = cc
-neither true b e = cc
 
 -- a word that is no subcommand and doesn't begin with `-` is a value
 pub met_value : (rules : List Rule) (position : ℕ) (word : Text) (held : Held) → begins_dash word ≡ false

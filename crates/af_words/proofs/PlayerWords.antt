@@ -5,6 +5,7 @@ use Rattle.std.specs.List.{list_any}
 use Rattle.std.specs.Option.{option_map_or}
 use Rattle.std.specs.Str.{bytes_eq}
 use Rattle.std.proofs.lemmas.Slice.Eq.{bytes_eq-Decides}
+use Rattle.af_base.proofs.Basics.{neither}
 use Rattle.clap.specs.Walk.{Held, Row, Step, Text, Walk, idle, is_empty, nothing_held, subcommand_met, subcommand_or_other, walk, walked}
 use Rattle.clap.specs.Simple.{App, Shape, is_simple, built, entered, rows_at, subcommand_of}
 use Rattle.clap.specs.Kinds.{IsAmong, Kinds, or_else}
@@ -17,7 +18,7 @@ use Rattle.clap.proofs.FaultLemmas.{stopped_fault}
 use Rattle.af_words.specs.Dash.{begins_dash}
 use Rattle.af_words.specs.Requests.{Request, command_request, request_of}
 use Rattle.af_words.specs.Words.{matched_request, player_words}
-use Rattle.af_words.proofs.PlainWords.{end_fault, level_of_values, met_faultless, met_value, neither, nil_first, rows_of_values, start, value_level, value_rows}
+use Rattle.af_words.proofs.PlainWords.{end_fault, level_of_values, met_faultless, met_value, nil_first, rows_of_values, start, value_level, value_rows}
 use Rattle.af_words.proofs.SubWords.{AreMet, IsSub, labels, top, render_sub, record_sub, loop_sub, generate_sub, play_sub, verify_sub, trace_sub}
 
 -- the command is one of those whose matches and faults are known

@@ -1,4 +1,4 @@
-use Rattle.std.proofs.Common.{◌≡◌, ℕ, suc, ◌+◌, ◌-◌, ◌≤◌, ◌++◌, List, [], length, map, take, All, refl, sym, ap, subst, ◌∙◌, append_assoc, append-nil, arith}
+use Rattle.std.proofs.Common.{◌≡◌, ℕ, suc, ◌+◌, ◌-◌, ◌≤◌, ◌++◌, List, [], length, map, take, All, refl, sym, ap, subst, ◌∙◌, append-nil, arith}
 use Rattle.af_base.specs.declared.plain.Part.{Part}
 use Rattle.af_base.specs.Log.{slots}
 use Rattle.af_base.specs.Mix.{Take, mix}
@@ -6,10 +6,7 @@ use Rattle.af_base.specs.Part.{take_of}
 use Rattle.af_audit.specs.HeardTakes.{heard_takes}
 use Rattle.af_audit.proofs.HeardMix.{mix_all, one_then, parts_fit}
 use Rattle.af_audit.proofs.entry_mix.mix_heard.Goals as goal
-
--- the takes that are heard after one slot more was looked at
-grown : (here one rest next all : List Take) → here ++ one ≡ next → one ++ rest ≡ all → next ++ rest ≡ here ++ all
-grown here one rest next all added then = ap (λ (ts : List Take). ts ++ rest) (sym added) ∙ append_assoc here one rest ∙ ap (λ (ts : List Take). here ++ ts) then
+use Rattle.af_gain.proofs.Basics.{grown}
 
 pub loop-slot-preserved : goal.loop-slot-preserved
 loop-slot-preserved c =

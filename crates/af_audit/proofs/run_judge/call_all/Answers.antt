@@ -2,11 +2,12 @@ use Rattle.std.proofs.Common.{◌≡◌, ◌∙◌, ◌<◌, ℕ, IfSome, [], le
 use Rattle.std.specs.Prelude.{slice_index_or}
 use Rattle.std.proofs.lemmas.List.{get_or_default, length-set}
 use Rattle.af_base.specs.Sample.{packed_word}
+use Rattle.af_judge.proofs.Basics.{there_is}
 use Rattle.af_judge.specs.declared.track_judge.TrackJudge.{TrackJudge}
 use Rattle.af_model.specs.Journals.{calls_at}
 use Rattle.af_runs.specs.Sessions.{no_spec}
 use Rattle.af_script.specs.declared.track.TrackSpec.{TrackSpec}
-use Rattle.af_audit.proofs.CallsJudged.{few_after, here-at, more, moved_answer}
+use Rattle.af_audit.proofs.CallsJudged.{few_after, more, moved_answer}
 use Rattle.af_audit.proofs.run_judge.call_all.Goals as goal
 
 pub loop-at-preserved : goal.loop-at-preserved
@@ -32,6 +33,6 @@ loop-at-preserved c =
     record {
       least = subst (λ o. IfSome o (λ track. track < length first)) (sym c.found_after-least.ensures) (few_after at (length first) c.loop-at.least legal c.loop-at.invariant.least (omega (arith, lt, many)));
       count = length-set now at k ∙ many;
-      calls = more specs files (calls_at c.args.journal.now c.args.round) first now at t k (here-at now at d lt) legal c.loop-at.least c.found_after-least.result many c.loop-at.invariant.calls answers.servers
+      calls = more specs files (calls_at c.args.journal.now c.args.round) first now at t k (there_is now at d lt) legal c.loop-at.least c.found_after-least.result many c.loop-at.invariant.calls answers.servers
           (moved_answer t k legal _ _ _ _ _ _ ops file c.client-calls.ensures answers.turn) c.found_after-least.ensures;
     }

@@ -1,19 +1,16 @@
-use Rattle.std.proofs.Common.{◌≡◌, ℕ, suc, ◌+◌, ◌-◌, ◌++◌, List, [], map, take, sym, ap, ◌∙◌, append_assoc, append-nil, arith}
+use Rattle.std.proofs.Common.{◌≡◌, ℕ, suc, ◌+◌, ◌-◌, ◌++◌, List, [], map, take, sym, ap, ◌∙◌, append-nil, arith}
 use Rattle.af_base.specs.Mix.{Take}
 use Rattle.af_base.specs.Part.{take_of}
 use Rattle.af_fast.specs.Heard.{heard_takes}
 use Rattle.af_fast.proofs.HeardMix.{one_then}
 use Rattle.af_fast.proofs.heard.add_all.Goals as goal
+use Rattle.af_gain.proofs.Basics.{grown}
 
 pub loop-slot-init : goal.loop-slot-init
 loop-slot-init c = record {
   few = omega arith;
   takes = ap (heard_takes c.args.frames.now c.args.entry.now 0) (let e : c.args.used - 0 ≡ c.args.used = omega arith in e);
 }
-
--- the takes that are heard after one slot more was looked at
-grown : (here one rest next all : List Take) → here ++ one ≡ next → one ++ rest ≡ all → next ++ rest ≡ here ++ all
-grown here one rest next all added then = ap (λ (ts : List Take). ts ++ rest) (sym added) ∙ append_assoc here one rest ∙ ap (λ (ts : List Take). here ++ ts) then
 
 pub loop-slot-preserved : goal.loop-slot-preserved
 loop-slot-preserved c =

@@ -1,10 +1,8 @@
-use Rattle.std.proofs.Common.{◌≡◌, ◌+◌, ℤ, [], ◌∷◌}
+use Rattle.std.proofs.Common.{◌+◌}
+use Rattle.af_base.proofs.Basics.{four}
 use Rattle.af_base.specs.Mix.{frame_at}
 use Rattle.af_gain.proofs.Words.{lane_back}
 use Rattle.af_gain.proofs.adding.lefts_four.Goals as goal
-
-four : {a b d e f g h i : ℤ} → a ≡ b → d ≡ e → f ≡ g → h ≡ i → a ∷ d ∷ f ∷ h ∷ [] ≡ b ∷ e ∷ g ∷ i ∷ []
-four p q r s = cc
 
 pub returns-clause-lanes : goal.returns-clause-lanes
 returns-clause-lanes c =

@@ -1,11 +1,9 @@
 -- Each of the four lanes is a side of one of the two sums.
-use Rattle.std.proofs.Common.{◌≡◌, ◌+◌, ℤ, [], ◌∷◌, arith}
+use Rattle.std.proofs.Common.{◌+◌, arith}
+use Rattle.af_base.proofs.Basics.{four}
 use Rattle.af_base.specs.Mix.{frame_at, right_sample}
 use Rattle.af_gain.proofs.Lanes.{narrow_is, narrow_part_fits}
 use Rattle.af_gain.proofs.narrow.with_two.Goals as goal
-
-four : {a b d e f g h i : ℤ} → a ≡ b → d ≡ e → f ≡ g → h ≡ i → a ∷ d ∷ f ∷ h ∷ [] ≡ b ∷ e ∷ g ∷ i ∷ []
-four p q r s = cc
 
 pub overflow_mul-result : goal.overflow_mul-result
 overflow_mul-result c =

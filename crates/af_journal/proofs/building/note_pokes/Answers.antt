@@ -1,14 +1,11 @@
-use Rattle.std.proofs.Common.{◌≡◌, map, cond, false, Option, Some, None, ℕ, is_some, refl, ◌∙◌, ap, sym, arith}
+use Rattle.std.proofs.Common.{◌≡◌, map, cond, false, None, is_some, ◌∙◌, ap, sym, arith}
+use Rattle.af_base.proofs.Basics.{none_of}
 use Rattle.af_journal.specs.declared.stage.Stage.{Stage}
 use Rattle.af_journal.specs.declared.stage.Stage.TheVariants as stage
 use Rattle.af_journal.specs.Readings.{first_refused, parts_of}
 use Rattle.af_journal.proofs.Beginnings.{rest_noted}
 use Rattle.af_journal.proofs.InOrder.{FollowsFrom, none_refused}
 use Rattle.af_journal.proofs.building.note_pokes.Goals as goal
-
-none_of : (o : Option ℕ) → is_some o ≡ false → o ≡ None
-none_of None e = refl
-none_of (Some n) e = cc
 
 pub push-requires : goal.push-requires
 push-requires c = let few = c.requires in record { few = omega (arith, few) }

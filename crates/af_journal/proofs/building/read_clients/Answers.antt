@@ -1,9 +1,10 @@
 use Rattle.std.proofs.Common.{rules, ◌≡◌, ◌∙◌, ap, sym, subst, List, ◌∷◌, [], ◌++◌, map, length, length-append, arith}
 use Rattle.std.proofs.lemmas.List.{length-map}
+use Rattle.af_base.proofs.Basics.{map_last}
 use Rattle.af_base.specs.declared.event.ClientCall.{ClientCall}
 use Rattle.af_journal.specs.Taken.{Leaves}
 use Rattle.af_journal.specs.Texts.{client_lines, each_from}
-use Rattle.af_journal.proofs.Leaving.{leaves-each, map-more}
+use Rattle.af_journal.proofs.Leaving.{leaves-each}
 use Rattle.af_journal.proofs.building.read_clients.Goals as goal
 
 pub loop-track-preserved : goal.loop-track-preserved
@@ -14,7 +15,7 @@ loop-track-preserved c =
     let before = c.loop-track.left.rest.now in
     let after = c.read_client.new.left.rest.now in
     let items : c.push.new.self.items ≡ clients ++ calls ∷ [] = search rules in
-    let seen : map (λ c. c.items) c.push.new.self.items ≡ map (λ c. c.items) clients ++ calls.items ∷ [] = ap (map (λ c. c.items)) items ∙ map-more (λ c. c.items) clients calls in
+    let seen : map (λ c. c.items) c.push.new.self.items ≡ map (λ c. c.items) clients ++ calls.items ∷ [] = ap (map (λ c. c.items)) items ∙ map_last (λ c. c.items) clients calls in
     let each : length (map (λ c. c.items) clients) ≡ c.loop-track.track = length-map clients (λ c. c.items) ∙ c.loop-track.invariant.each in
     record {
       lines = subst (λ (l : List (List ClientCall)). Leaves first (each_from client_lines 0 l) after) (sym seen)

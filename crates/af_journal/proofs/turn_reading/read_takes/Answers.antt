@@ -1,6 +1,7 @@
 use Rattle.std.proofs.Common.{rules, ◌≡◌, ◌∙◌, ap, sym, subst, List, ◌+◌, ◌<◌, ◌≤◌, ◌∷◌, [], ◌++◌, All, map, length, arith, refl}
 use Rattle.std.specs.List.{flat_map}
 use Rattle.std.proofs.lemmas.List.{length-map}
+use Rattle.af_base.proofs.Basics.{map_last}
 use Rattle.af_base.specs.declared.turn.NormalTake.{NormalTake}
 use Rattle.af_base.specs.Log.{count_seen}
 use Rattle.af_base.specs.Sample.{packed_word}
@@ -11,7 +12,7 @@ use Rattle.af_journal.specs.Lines.{numbers}
 use Rattle.af_journal.specs.Ranges.{IsLine}
 use Rattle.af_journal.specs.Taken.{Leaves}
 use Rattle.af_journal.specs.Texts.{take_lines, words_after}
-use Rattle.af_journal.proofs.Leaving.{all-more, leaves-more, leaves-then, map-more}
+use Rattle.af_journal.proofs.Leaving.{all-more, leaves-more, leaves-then}
 use Rattle.af_journal.proofs.LinesLeft.{seen_is}
 use Rattle.af_journal.proofs.Rising.{RiseTo, rise-all, rise-few, rise-more}
 use Rattle.af_journal.proofs.turn_reading.read_takes.Goals as goal
@@ -36,7 +37,7 @@ takes-preserved c =
     let t : TakeSeen = record { track = x.track; slot = record { gains = x.gains; flush = x.flush; rear = x.rear; seen = x.seen; first = 0 }; frames = frames } in
     let item : NormalTake = record { track = x.track; slot = t.slot; frames = c.in_ok-frames.frames } in
     let items : c.push.new.self.items ≡ takes ++ item ∷ [] = search rules in
-    let seen : map take_seen c.push.new.self.items ≡ map take_seen takes ++ t ∷ [] = ap (λ (l : List NormalTake). map take_seen l) items ∙ map-more take_seen takes item in
+    let seen : map take_seen c.push.new.self.items ≡ map take_seen takes ++ t ∷ [] = ap (λ (l : List NormalTake). map take_seen l) items ∙ map_last take_seen takes item in
     let one : Leaves before (numbers (line.Take x.track x.gains x.flush x.rear x.seen) ∷ []) x.after.now = search rules in
     let two : Leaves x.after.now (words_after (map packed_word frames)) after = search rules in
     let fits : IsLine (line.Take x.track x.gains x.flush x.rear x.seen) = search rules in

@@ -1,11 +1,12 @@
 use Rattle.std.proofs.Common.{rules, ◌≡◌, ◌<◌, ◌∙◌, ap, sym, refl, List, ◌∷◌, [], ◌++◌, All, map, length, length-append, arith}
 use Rattle.std.proofs.lemmas.List.Elements.{All-nil}
+use Rattle.af_base.proofs.Basics.{map_last}
 use Rattle.af_base.specs.declared.turn.TrackTurn.{TrackTurn}
 use Rattle.af_base.specs.Turn.{TrackSeen, track_seen}
 use Rattle.af_model.specs.JournalForm.{IsCommandLook}
 use Rattle.af_journal.specs.Judged.{first_looks}
 use Rattle.af_journal.specs.Texts.{track_lines}
-use Rattle.af_journal.proofs.Leaving.{all-more, leaves-each, leaves-none, map-more}
+use Rattle.af_journal.proofs.Leaving.{all-more, leaves-each, leaves-none}
 use Rattle.af_journal.proofs.turn_reading.read_tracks.Goals as goal
 
 pub loop-track-init : goal.loop-track-init
@@ -29,8 +30,8 @@ loop-track-preserved c =
     let P : TrackSeen → Type 0 = λ t. All IsCommandLook t.looks in
     let cut = first_looks c.args.most in
     let items : c.push.new.self.items ≡ turns ++ turn ∷ [] = search rules in
-    let seen : map track_seen c.push.new.self.items ≡ map track_seen turns ++ track_seen turn ∷ [] = ap (λ (l : List TrackTurn). map track_seen l) items ∙ map-more track_seen turns turn in
-    let kept : map track_seen c.push.new.self.items ≡ map cut (inv.0 ++ made.0 ∷ []) = seen ∙ (λ k. inv.1 k ++ made.1 k ∷ []) ∙ sym (map-more cut inv.0 made.0) in (
+    let seen : map track_seen c.push.new.self.items ≡ map track_seen turns ++ track_seen turn ∷ [] = ap (λ (l : List TrackTurn). map track_seen l) items ∙ map_last track_seen turns turn in
+    let kept : map track_seen c.push.new.self.items ≡ map cut (inv.0 ++ made.0 ∷ []) = seen ∙ (λ k. inv.1 k ++ made.1 k ∷ []) ∙ sym (map_last cut inv.0 made.0) in (
       inv.0 ++ made.0 ∷ [],
       kept,
       omega (arith, length-append inv.0 (made.0 ∷ []), inv.2),

@@ -6,13 +6,14 @@ use Rattle.af_model.specs.Journals.{entries_of, frames_of, round_at}
 use Rattle.af_journal.specs.Lines.{Written}
 use Rattle.af_journal.specs.Texts.{GoesOn, fast_lines}
 use Rattle.af_journal.specs.Logged.{logged_fast}
+use Rattle.af_runs.proofs.Basics.{entries_inside}
 use Rattle.af_runs.specs.Pcm.{LieWithin}
-use Rattle.af_journal.proofs.Entries.{AreAllLogged, all-logged, all-within, round-ends, round-same}
+use Rattle.af_journal.proofs.Entries.{AreAllLogged, all-logged, all-within, round-same}
 use Rattle.af_journal.proofs.writing.add_fast.Goals as goal
 
 pub add_entries-requires-clause-there : goal.add_entries-requires-clause-there
 add_entries-requires-clause-there c = let j = c.args.journal.now in let all = entries_of j.rounds in
-    let ends = round-ends j.rounds c.args.round c.requires.round in
+    let ends = entries_inside j.rounds c.args.round c.requires.round in
     let same = length-map all (λ e. e.entry) in
     let entries = ap length c.log-log.ensures.entries in
     let first = c.cycles-first.ensures.first in let count = c.cycles-first.ensures.count in omega arith

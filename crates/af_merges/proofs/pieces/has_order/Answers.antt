@@ -1,10 +1,11 @@
 use Rattle.std.proofs.Common.{◌↔◌, IsTrue, List, [], ◌∷◌, All, subst, sym}
 use Rattle.std.specs.List.{Contains}
+use Rattle.af_base.proofs.Basics.{all_one}
 use Rattle.af_merges.specs.declared.search.Stage.{Stage}
 use Rattle.af_merges.specs.Walks.{IsReached}
 use Rattle.af_merges.specs.MergePieces.{IsOpen}
 use Rattle.af_merges.specs.Stages.{lists_of, begin, eager, IsWhole, InBounds}
-use Rattle.af_merges.proofs.Extends.{IsFrontier-afresh, HasWalk-at_frontier, InBounds-first, all_one}
+use Rattle.af_merges.proofs.Extends.{IsFrontier-afresh, HasWalk-at_frontier, InBounds-first}
 use Rattle.af_merges.proofs.pieces.has_order.Goals as goal
 
 pub settle-requires-clause-bounds : goal.settle-requires-clause-bounds

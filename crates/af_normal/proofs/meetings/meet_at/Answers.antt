@@ -1,8 +1,8 @@
 use Rattle.std.proofs.Common.{◌≡◌, ◌<◌, length, slice_set, Some, None, refl, sym, ap, ◌∙◌, length-set, arith}
 use Rattle.std.proofs.lemmas.Option.{slice_get-get_or}
+use Rattle.af_base.proofs.Basics.{get_set_other, get_set_same, some_same}
 use Rattle.af_cblk.specs.Sides.{HandSide, hand_made}
-use Rattle.af_normal.proofs.LegalLists.{get_set_same, get_set_other}
-use Rattle.af_normal.proofs.MetTrack.{command_ready, stream_ready, client_ready, hand_ready, stream_within, command_within, own_after, met_after, no_hand, one_of}
+use Rattle.af_normal.proofs.MetTrack.{command_ready, stream_ready, client_ready, hand_ready, stream_within, command_within, own_after, met_after, no_hand}
 use Rattle.af_normal.proofs.meetings.meet_at.Goals as goal
 
 pub meet_alone-requires-clause-command : goal.meet_alone-requires-clause-command
@@ -61,7 +61,7 @@ returns-clause-own g c = let r = c.requires in let a = c.args in let e = c.meet_
     let lt : a.i < length a.hands.now = (let t = r.track.2 in let f = c.if-is_empty.false in let u = c.is_empty.ensures in grind arith) in
     own_after a.links.now a.i a.streams.now a.commands.now a.hands.now a.stream.now a.command.now r.own r.clients r.track.0 r.track.1 c.index-links-i-2.result c.index-links-i-3.result
     n.command n.stream n.stream_client n.command_client e.command e.stream e.client (slice_set a.hands.now a.i n.hand)
-    (λ h is. ap hand_made (sym (one_of n.hand h (sym (get_set_same a.hands.now a.i n.hand lt) ∙ is))) ∙ e.hand)
+    (λ h is. ap hand_made (sym (some_same n.hand h (sym (get_set_same a.hands.now a.i n.hand lt) ∙ is))) ∙ e.hand)
 
 pub returns-clause-met : goal.returns-clause-met
 returns-clause-met g c = let r = c.requires in let a = c.args in let e = c.meet_with_hand.ensures in let n = c.meet_with_hand.new in

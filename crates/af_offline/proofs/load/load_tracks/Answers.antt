@@ -1,5 +1,6 @@
 use Rattle.std.proofs.Common.{◌≡◌, ◌∙◌, ◌<◌, List, Ok, Err, Result, Vec, Global, length, arith, subst, sym}
 use Rattle.af_base.specs.declared.frame.Frame.{Frame}
+use Rattle.af_io.proofs.Basics.{files_are}
 use Rattle.af_io.specs.Files.{Files}
 use Rattle.af_offline.specs.Asked.{track_in, tracks_in}
 use Rattle.af_offline.specs.Loading.{file_view}
@@ -7,7 +8,6 @@ use Rattle.af_offline.specs.Status.{HasFault, Meets}
 use Rattle.af_offline.specs.declared.status.Refusal.{Refusal}
 use Rattle.af_offline.proofs.Chains.{Meets-memory, passed_on}
 use Rattle.af_offline.proofs.Loads.{AreServed-step, all_served, fault_passed, faultless_memory, faultless_ok, faults_stay, tracks_done, tracks_step, tracks_stopped}
-use Rattle.af_offline.proofs.Chains.{files_are}
 use Rattle.af_offline.proofs.load.load_tracks.Goals as goal
 
 pub loop-number-preserved : goal.loop-number-preserved

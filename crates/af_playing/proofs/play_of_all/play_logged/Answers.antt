@@ -1,5 +1,6 @@
 use Rattle.std.proofs.Common.{ℕ, Some, inl, refl, subst}
 use Rattle.std.proofs.lemmas.Result.{IfOk-from_err}
+use Rattle.af_base.proofs.Basics.{on_ok}
 use Rattle.af_playing.specs.declared.answering.PlayFault.TheVariants as fault
 use Rattle.af_rendering.specs.declared.rendering.Played.{Played}
 use Rattle.af_side_by_side.specs.Logging.{BeginsLog, HasLogOf}
@@ -7,7 +8,6 @@ use Rattle.af_playing.proofs.InTime.{ends_in_time}
 use Rattle.af_playing.proofs.KeptPlays.{IsHandedOn, cause_on, files_none, files_on, handed_by, keeps_none, keeps_on, kept_by, steps_none, steps_on, told_by}
 use Rattle.af_rendering.proofs.Outgoing.{on_err}
 use Rattle.af_playing.proofs.PlayCauses.{cause_memory}
-use Rattle.af_playing.proofs.PlayAnswers.{if_ok_one}
 use Rattle.af_playing.proofs.play_of_all.play_logged.Goals as goal
 
 -- the log that was made begins with the script's cycles
@@ -21,7 +21,7 @@ tell-told-requires g c =
     let begins = subst (λ (n : ℕ). BeginsLog (Some c.args.piece.now.room) n c.in_ok-logging.logging) c.cycles.ensures.value c.in_ok-logging.ensures in
     let logging = c.play_with-played.new.logging in
     record {
-      told = if_ok_one (λ (p : Played). HasLogOf c.args.piece.now.script.now.frames c.args.piece.now.room p.journal logging) (λ (p : Played). (frames : ℕ) × (room : ℕ) × HasLogOf frames room p.journal logging) c.play_with-played.result
+      told = on_ok (λ (p : Played). HasLogOf c.args.piece.now.script.now.frames c.args.piece.now.room p.journal logging) (λ (p : Played). (frames : ℕ) × (room : ℕ) × HasLogOf frames room p.journal logging) c.play_with-played.result
           (λ p log. (c.args.piece.now.script.now.frames, c.args.piece.now.room, log)) (c.play_with-played.ensures.log (Some c.args.piece.now.room) begins);
     }
 

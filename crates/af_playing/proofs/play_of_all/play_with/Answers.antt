@@ -1,4 +1,5 @@
 use Rattle.std.proofs.Common.{◌≡◌, Err, inl, refl, ap}
+use Rattle.af_base.proofs.Basics.{on_ok}
 use Rattle.af_fast.specs.Mixer.{MixerState}
 use Rattle.af_model.specs.Journals.{journal_of}
 use Rattle.af_playing.specs.declared.answering.PlayFault.TheVariants as fault
@@ -8,7 +9,7 @@ use Rattle.af_playing.specs.PlayedRuns.{fault_of}
 use Rattle.af_playing.proofs.KeptPlays.{cause_kept, files_kept, files_none, keeps, keeps_none, steps_kept, steps_none}
 use Rattle.af_playing.proofs.LogTold.{tells_log}
 use Rattle.af_playing.proofs.PlayCauses.{cause_memory, cause_store}
-use Rattle.af_playing.proofs.PlayAnswers.{if_ok_one, limits_not}
+use Rattle.af_playing.proofs.PlayAnswers.{limits_not}
 use Rattle.af_playing.proofs.play_of_all.play_with.Goals as goal
 
 -- ## If nothing was played
@@ -84,6 +85,6 @@ returns-in-Ok-clause-log g c = λ kept begins.
     let have = c.in-Ok.ensures.played in
     let fast = c.in_ok-stage.ensures.new.fast in
     let first = begins c.in_ok-stage.stage.parties.fast (ap (λ (m : MixerState). m.cycles) fast) (ap (λ (m : MixerState). m.log.entries) fast) in
-    if_ok_one (λ (p : Played). p.journal ≡ journal_of s.rounds s.parties.fast.log) (λ (p : Played). TellsLog kept c.args.piece.now.script.now.frames p.journal c.play_to_end.new.logging) c.answer.result
+    on_ok (λ (p : Played). p.journal ≡ journal_of s.rounds s.parties.fast.log) (λ (p : Played). TellsLog kept c.args.piece.now.script.now.frames p.journal c.play_to_end.new.logging) c.answer.result
     (λ p journal. tells_log kept c.args.piece.now.script.now.frames s.parties.fast s.rounds p.journal c.play_to_end.new.logging (c.in-Ok.ensures.log kept first) have.noted.whole have.frames have.entries journal)
     c.answer.ensures.journal

@@ -1,5 +1,6 @@
 use Rattle.std.proofs.Common.{◌≡◌, suc, List, [], ◌∷◌, ◌++◌, length, refl, sym, ap, ◌∙◌, subst, append_assoc, append-nil, arith, rules, All}
 use Rattle.std.specs.Vec.Iter.{into_iter_items}
+use Rattle.af_base.proofs.Basics.{no_items}
 use Rattle.af_model.specs.declared.plain_calls.QueueCall.{QueueCall}
 use Rattle.af_model.specs.declared.plain_calls.QueueAnswer.{QueueAnswer}
 use Rattle.af_model.specs.PlainQueue.{QueueState, step, answers_of, state_after}
@@ -9,10 +10,6 @@ use Rattle.af_stateq.specs.OneHand.{CallFits, Agrees}
 use Rattle.af_stateq.proofs.OneHand.{meeting_agrees}
 use Rattle.af_stateq.proofs.Told.{order_learns}
 use Rattle.af_stateq.proofs.one_hand.answer_each.Goals as goal
-
-nothing_left : {X : Type 0} (l : List X) → length l ≡ 0 → l ≡ []
-nothing_left [] h = refl
-nothing_left (x ∷ xs) h = absurd (omega arith)
 
 all_but_first : {X : Type 0} (F : X → Type 0) (x : X) (xs : List X) → All F (x ∷ xs) → All F xs
 all_but_first F x xs all k d lt = all (suc k) d (omega arith)
@@ -78,7 +75,7 @@ pub returns-clause-answers : goal.returns-clause-answers
 returns-clause-answers g c q a =
     let at = c.loop-call in
     let t = at.invariant.0 q a in
-    let empty : into_iter_items at.call-iterator ≡ [] = nothing_left _ (sym at.invariant.5 ∙ c.in-None.ensures.steps.0) in
+    let empty : into_iter_items at.call-iterator ≡ [] = no_items _ (sym at.invariant.5 ∙ c.in-None.ensures.steps.0) in
     sym (append-nil at.answers.items)
     ∙ ap (λ (l : List (QueueCall g.row.P.Denot)). at.answers.items ++ answers_of t.0 l) (sym empty)
     ∙ t.2
@@ -88,7 +85,7 @@ pub returns-clause-state : goal.returns-clause-state
 returns-clause-state g c q a =
     let at = c.loop-call in
     let t = at.invariant.0 q a in
-    let empty : into_iter_items at.call-iterator ≡ [] = nothing_left _ (sym at.invariant.5 ∙ c.in-None.ensures.steps.0) in
+    let empty : into_iter_items at.call-iterator ≡ [] = no_items _ (sym at.invariant.5 ∙ c.in-None.ensures.steps.0) in
     subst (λ (z : QueueState g.row.P.Denot). Agrees z at.mutator at.observer)
     (ap (λ (l : List (QueueCall g.row.P.Denot)). state_after t.0 l) (sym empty) ∙ t.3 ∙ ap (λ (l : List (QueueCall g.row.P.Denot)). state_after q l) c.into_iter-call-iterator.ensures.into_iter_gives.0)
     t.1

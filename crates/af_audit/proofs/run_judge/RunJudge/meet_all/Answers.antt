@@ -1,9 +1,10 @@
 use Rattle.std.proofs.Common.{◌≡◌, ◌∙◌, ◌<◌, ◌↔◌, ℕ, IfSome, IsTrue, length, arith, refl, sym, subst}
 use Rattle.std.specs.Prelude.{slice_index_or}
 use Rattle.std.proofs.lemmas.List.{length-set}
+use Rattle.af_judge.proofs.Basics.{there_is}
 use Rattle.af_judge.specs.declared.track_judge.TrackJudge.{TrackJudge}
 use Rattle.af_judge.specs.BlocksMet.{AreShort, BothKeep, blocks_met}
-use Rattle.af_audit.proofs.CallsJudged.{few_after, here-at}
+use Rattle.af_audit.proofs.CallsJudged.{few_after}
 use Rattle.af_audit.proofs.MeetingsFound.{none_met, one_met}
 use Rattle.af_audit.proofs.run_judge.RunJudge.meet_all.Goals as goal
 
@@ -25,6 +26,6 @@ loop-at-preserved c =
     record {
       least = subst (λ o. IfSome o (λ track. track < length first)) (sym c.found_after-least.ensures) (few_after at (length first) c.loop-at.least right c.loop-at.invariant.least (omega (arith, lt, many)));
       count = length-set now at k ∙ many;
-      met = one_met c.args.self.now first now at t k (here-at now at c.index-tracks-at.result lt) many c.loop-at.least c.found_after-least.result right c.loop-at.invariant.met
+      met = one_met c.args.self.now first now at t k (there_is now at c.index-tracks-at.result lt) many c.loop-at.least c.found_after-least.result right c.loop-at.invariant.met
           (answers.met ∙ (λ i. blocks_met (there i) (c.has_hands-hands.ensures i) t)) (subst (λ b. AreShort b k) there answers.short) (subst (λ b. IsTrue right ↔ BothKeep b k) there answers.right) c.found_after-least.ensures;
     }

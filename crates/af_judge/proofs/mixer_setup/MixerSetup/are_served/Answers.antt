@@ -1,10 +1,11 @@
 use Rattle.std.proofs.Common.{◌+◌, ◌<◌, refl, ap, sym, ◌∙◌, List, length, map, arith}
+use Rattle.af_base.proofs.Basics.{all_more}
 use Rattle.af_base.specs.declared.turn.TrackTurn.{TrackTurn}
 use Rattle.af_base.specs.Turn.{TrackSeen, track_seen}
 use Rattle.af_life.specs.Kept.{Learnt, seen_at}
 use Rattle.af_life.specs.Plain.{learnt_of}
 use Rattle.af_life.specs.Serves.{LegalTrack, served_to}
-use Rattle.af_judge.proofs.ServedAll.{seen_is, looks_are, one_more, as_many, slot_is, settled_is, next, legal_so}
+use Rattle.af_judge.proofs.ServedAll.{seen_is, looks_are, as_many, slot_is, settled_is, next, legal_so}
 use Rattle.af_judge.proofs.mixer_setup.MixerSetup.are_served.Goals as goal
 
 there : (c : goal.After-index-turns-i) → c.loop-i.i < length c.args.tracks.items
@@ -50,7 +51,7 @@ loop-i-preserved c =
     record {
       so_far = next c.args.self.now k seen c.args.tracks.items c.loop-i.tracks.items c.loop-i.i c.loop-i.invariant.so_far c.deref-in-loop-i.result.now c.as_slice.result.now c.served.result (c.loop-i.i + 1) c.deref-in-loop-i.ensures.value
           (c.as_slice.ensures ∙ sym (ap (λ (x : TrackTurn). x.looks.items) c.index-turns-i-in-loop-i.is) ∙ sym (ap (λ (x : TrackSeen). x.looks) (seen_is c.args.turns.now c.loop-i.i c.index-turns-i-in-loop-i.result there c.index-turns-i-in-loop-i.is))) c.served.ensures (omega arith);
-      legal = one_more (λ j. LegalTrack c.args.self.now k (seen_at seen j) (served_to c.args.self.now k seen c.args.tracks.items j) j) c.loop-i.i c.loop-i.invariant.legal
+      legal = all_more (λ j. LegalTrack c.args.self.now k (seen_at seen j) (served_to c.args.self.now k seen c.args.tracks.items j) j) c.loop-i.i c.loop-i.invariant.legal
           ((legal_so c.args.self.now k seen c.args.tracks.items c.deref.result.now c.loop-i.i (c.deref.ensures.value ∙ c.loop-i.invariant.so_far) (track_seen c.index-turns-i.result) c.is_due.result
           (sym (seen_is c.args.turns.now c.loop-i.i c.index-turns-i.result there c.index-turns-i.is)) c.is_due.ensures).0 c.if-not-is_due.false);
     }

@@ -4,6 +4,7 @@ use Rattle.std.proofs.lemmas.List.{length-set}
 use Rattle.af_base.specs.declared.state.FastState.{FastState}
 use Rattle.af_base.specs.declared.turn.TrackTurn.{TrackTurn}
 use Rattle.af_base.specs.Turn.{turn_of, track_seen}
+use Rattle.af_judge.proofs.Basics.{there_is}
 use Rattle.af_life.specs.declared.kept.TrackKept.{TrackKept}
 use Rattle.af_life.specs.Edits.{after_ack, welcomed}
 use Rattle.af_life.specs.Kept.{Learnt, slot_number, track_at, track_in}
@@ -12,7 +13,7 @@ use Rattle.af_judge.specs.declared.track_judge.TrackJudge.{TrackJudge}
 use Rattle.af_judge.specs.NormalJudged.{NormalJudged}
 use Rattle.af_judge.specs.NormalTold.{IsTrackAt}
 use Rattle.af_judge.proofs.NormalKept.{found_slot}
-use Rattle.af_judge.proofs.NormalTells.{found_is, there_is, one_told, one_right}
+use Rattle.af_judge.proofs.NormalTells.{found_is, one_told, one_right}
 use Rattle.af_judge.proofs.ServedAll.{seen_is}
 use Rattle.af_judge.proofs.normal_judge.NormalJudge.tell_all.Goals as goal
 

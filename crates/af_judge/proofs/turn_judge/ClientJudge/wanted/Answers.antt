@@ -1,7 +1,8 @@
 use Rattle.std.proofs.Common.{sym, ◌∙◌, refl, subst, None}
+use Rattle.af_runs.proofs.Basics.{halted_none}
 use Rattle.af_runs.specs.Kept.{client_of}
 use Rattle.af_judge.specs.Judging.{ClientJudged, FindsNext}
-use Rattle.af_judge.proofs.WantedNext.{finds_next, halted_none}
+use Rattle.af_judge.proofs.WantedNext.{finds_next}
 use Rattle.af_judge.proofs.turn_judge.ClientJudge.wanted.Goals as goal
 
 pub returns-then-is_halted-clause-finds : goal.returns-then-is_halted-clause-finds

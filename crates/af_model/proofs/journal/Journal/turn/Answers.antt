@@ -1,13 +1,14 @@
-use Rattle.std.proofs.Common.{◌≡◌, ◌<◌, ℕ, length, ap, sym, subst, ◌∙◌, rules, Option}
+use Rattle.std.proofs.Common.{◌≡◌, ◌<◌, ℕ, length, ap, sym, subst, ◌∙◌, rules}
 use Rattle.std.specs.Option.{option_map}
-use Rattle.af_base.specs.Turn.{Turn, turn_of}
+use Rattle.af_base.specs.Turn.{turn_of}
+use Rattle.af_model.proofs.Basics.{same_rounds}
 use Rattle.af_model.specs.Journals.{JournalData, RoundNoted, entries_seen, round_at}
-use Rattle.af_model.proofs.Journals.{same-rounds, same-turn}
+use Rattle.af_model.proofs.Journals.{same-turn}
 use Rattle.af_model.proofs.journal.Journal.turn.Goals as goal
 
 pub round-requires : goal.round-requires
 round-requires c = let log = c.self.inside.log in
-    subst (λ (n : ℕ). c.args.round < n) (ap (λ (j : JournalData). length j.rounds) (sym c.self.view_is) ∙ same-rounds (entries_seen log.frames log.entries) c.self.inside.noted.rounds) c.requires.round
+    subst (λ (n : ℕ). c.args.round < n) (ap (λ (j : JournalData). length j.rounds) (sym c.self.view_is) ∙ same_rounds (entries_seen log.frames log.entries) c.self.inside.noted.rounds) c.requires.round
 
 pub returns : goal.returns
 returns c = let log = c.self.inside.log in let noted = c.self.inside.noted in

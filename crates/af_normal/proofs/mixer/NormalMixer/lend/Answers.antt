@@ -1,13 +1,11 @@
-use Rattle.std.proofs.Common.{◌≡◌, ◌<◌, ap, ◌∙◌, sym, subst, length, Some, None, arith}
+use Rattle.std.proofs.Common.{◌<◌, ap, ◌∙◌, sym, subst, length, None, arith}
 use Rattle.std.proofs.lemmas.List.{get_or_default}
+use Rattle.af_normal.proofs.Basics.{one_of}
 use Rattle.af_server.specs.Order.{ServerState, IsInOrder}
 use Rattle.af_link.specs.Names.{IsStreamOf}
 use Rattle.af_normal.specs.Mixing.{stream_at}
 use Rattle.af_normal.specs.State.{NormalState}
 use Rattle.af_normal.proofs.mixer.NormalMixer.lend.Goals as goal
-
-one_item : (s t : ServerState) → Some s ≡ Some t → s ≡ t
-one_item s t h = cc
 
 pub known-own-requires : goal.known-own-requires
 known-own-requires c =
@@ -15,7 +13,7 @@ known-own-requires c =
     let long = ap (λ (m : NormalState). length m.streams) c.self.view_is in
     let below = c.requires.track.1 in
     let there : c.args.i < length c.self.inside.streams.items = omega arith in
-    let is = one_item c.in-Some.server c.requires.home.0 (c.in-Some.ensures.value ∙ c.index_mut.ensures.value ∙ get_or_default c.self.inside.streams.items c.args.i c.index_mut.result.now None there ∙ same ∙ c.requires.home.1) in
+    let is = one_of c.in-Some.server c.requires.home.0 (c.in-Some.ensures.value ∙ c.index_mut.ensures.value ∙ get_or_default c.self.inside.streams.items c.args.i c.index_mut.result.now None there ∙ same ∙ c.requires.home.1) in
     record { order = subst IsInOrder (sym is) c.requires.home.2 }
 
 pub attach-requires-clause-fits : goal.attach-requires-clause-fits
@@ -24,5 +22,5 @@ attach-requires-clause-fits c = λ names h.
     let long = ap (λ (m : NormalState). length m.streams) c.self.view_is in
     let below = c.requires.track.1 in
     let there : c.args.i < length c.self.inside.streams.items = omega arith in
-    let is = one_item c.in-Some.server c.requires.home.0 (c.in-Some.ensures.value ∙ c.index_mut.ensures.value ∙ get_or_default c.self.inside.streams.items c.args.i c.index_mut.result.now None there ∙ same ∙ c.requires.home.1) in
+    let is = one_of c.in-Some.server c.requires.home.0 (c.in-Some.ensures.value ∙ c.index_mut.ensures.value ∙ get_or_default c.self.inside.streams.items c.args.i c.index_mut.result.now None there ∙ same ∙ c.requires.home.1) in
     subst (λ (s : ServerState). IsStreamOf names.blocks c.args.i s) (sym is) (c.requires.home.3 names (sym (ap (λ (m : NormalState). m.mutator.past.key) c.self.view_is) ∙ h))

@@ -1,4 +1,5 @@
-use Rattle.std.proofs.Common.{◌≡◌, ℕ, ◌-◌, ◌&&◌, true≢false, Bool, true, false, MatchBool, length, refl, sym, ap, ◌∙◌, subst, arith}
+use Rattle.std.proofs.Common.{◌≡◌, ℕ, ◌-◌, ◌&&◌, Bool, true, false, MatchBool, length, refl, sym, ap, ◌∙◌, subst, arith}
+use Rattle.af_base.proofs.Basics.{both}
 use Rattle.af_stateq.specs.Answers.{WasAcked}
 use Rattle.af_stateq.specs.Mutates.{Mutates}
 use Rattle.af_server.specs.Order.{ServerState}
@@ -18,11 +19,6 @@ use Rattle.af_normal.proofs.Servable.{slots_there}
 use Rattle.af_normal.proofs.Stopped.{stopped}
 use Rattle.af_normal.proofs.Turned.{seen, made, in_order, turns_by, turns_same}
 use Rattle.af_normal.proofs.mixer.NormalMixer.look.Goals as goal
-
-both : (a b : Bool) → (a && b) ≡ true → (a ≡ true) × (b ≡ true)
-both true true e = (refl, refl)
-both true false e = absurd (true≢false (sym e))
-both false b e = absurd (true≢false (sym e))
 
 turned_round : (a b : Bool) → (a && b) ≡ false → (b && a) ≡ false
 turned_round true b e = and_true b ∙ e

@@ -1,8 +1,9 @@
 use Rattle.std.proofs.Common.{sym, ◌∙◌, refl, subst, None}
+use Rattle.af_runs.proofs.Basics.{halted_none}
 use Rattle.af_runs.specs.Kept.{client_of}
 use Rattle.af_party.specs.Parties.{PartyState}
 use Rattle.af_party.specs.Turning.{WantsNext}
-use Rattle.af_party.proofs.Legal.{halted_none, wants_next}
+use Rattle.af_party.proofs.Legal.{wants_next}
 use Rattle.af_party.proofs.party.Party.wanted.Goals as goal
 
 pub returns-then-is_halted-clause-wants : goal.returns-then-is_halted-clause-wants

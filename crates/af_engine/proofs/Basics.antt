@@ -1,0 +1,7 @@
+-- Basic lemmas that several files here, and of the crates above, cite.
+use Rattle.std.proofs.Common.{None, Option, Some, is_some, refl, sym, true, true≢false, ◌≡◌, ◌≢◌}
+use Rattle.af_server.specs.Order.{ServerState}
+
+pub some_of : (o : Option ServerState) → is_some o ≡ true → (s : ServerState) × (o ≡ Some s)
+some_of None e = absurd (true≢false (sym e))
+some_of (Some s) e = (s, refl)
