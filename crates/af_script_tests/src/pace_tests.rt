@@ -34,12 +34,12 @@ fn rounds_on_all(rounds: u32, alone: u64, together: u64) -> u32 {
         now: AtomicU64::new(0),
     };
     let pace = Pace::new(&clock, 4);
-    let mut many = 0;
+    let mut many = 0u32;
     for _ in 0..rounds {
         let took = if pace.threads() == 1 {
             alone
         } else {
-            many += 1;
+            many = many.saturating_add(1);
             together
         };
         clock.now.fetch_add(took, Ordering::SeqCst);
