@@ -90,8 +90,7 @@ pub fn meet_notes<L: Ledger>(
     reader: &mut NoteReader,
     steps: &mut Steps<L>,
 )
-    requires writer { writer_made writer.old ≡ block.now }
-    requires reader { reader_made reader.old ≡ block.now }
+    requires made { (writer_made writer.old ≡ block.now) × (reader_made reader.old ≡ block.now) }
     ensures made { (writer_made writer.new ≡ block.now) × (reader_made reader.new ≡ block.now) }
     ensures writer { writer.new ≡ (record writer.old { pass = record writer.old.pass { part = client_met writer.old.pass.part reader.old.pass.part.events } }) }
     ensures reader { reader.new ≡ (record reader.old { pass = record reader.old.pass { part = server_did reader.old.pass.part (server_event.Learn (length writer.old.pass.part.events)) } }) }

@@ -30,9 +30,9 @@ use Rattle.af_script.specs.declared.track.TrackSpec.{TrackSpec}
 use Rattle.af_session.specs.Noted.{NotesFrames}
 use Rattle.af_session.specs.Rounds.{Given, IsReady}
 use Rattle.af_engine.specs.Shares.{AreLinksOf}
-use Rattle.af_session.specs.Shown.{FollowsRound, shown_at}
+use Rattle.af_session.specs.Shown.{shown_at}
 use Rattle.af_session.specs.Together.{SessionState}
-use Rattle.af_session.specs.Rooms.{HasPlacesAt, HasRoundRoom, IsReadyOn, KeepsRoom, KeepsSizes, KeepsSound, StaysInPlace, StaysReadyOn, given_of}
+use Rattle.af_session.specs.Rooms.{CarriesOn, HasPlacesAt, HasRoundRoom, IsReadyOn, KeepsRoom, KeepsSizes, KeepsSound, given_of}
 use Rattle.af_side_by_side.specs.TurnsInRoom.{PlaysRound}
 use Rattle.af_side_by_side.specs.SideBySide.{IsRoundOfAll, all_noted}
 use Rattle.af_session.specs.declared.rig.Rig.{Rig}
@@ -56,12 +56,8 @@ pub record PlaysOn (script : ScriptData) (first : Stage) (rig : Rig) (noted : Ro
 
 -- a round was played in a room whose bytes are those of this round
 pub record RoundDone (rig : Rig) (t t' : SessionState) (room room' : Room) : Type 0 where
-  pub ready : StaysReadyOn rig t t'
-  pub sizes : KeepsSizes t.fast t'.fast
+  pub carried : CarriesOn rig (all_noted t t') t t' room room'
   pub round : IsRoundOfAll (given_of rig) t (all_noted t t') room'.bytes.items t'
-  pub kept : KeepsRoom room room'
-  pub tally : FollowsRound (all_noted t t') t.fast t'.fast room.tally room'.tally
-  pub places : StaysInPlace t t' room.tally room'.tally
   pub sound : pcm_of t.fast.frames t.fast.log ++ room'.bytes.items ≡ pcm_of t.fast.frames t'.fast.log
 
 -- a round is over, and the bytes of the room were cleared before it
@@ -69,18 +65,19 @@ module _ (rig : Rig) (t t' : SessionState) (room room' : Room) (bytes : Roomy �
   abbrev empty : Room
   empty = record room { bytes = bytes }
 
-  pub round_done : StaysReadyOn rig t t' → KeepsSizes t.fast t'.fast → PlaysRound (given_of rig) t t' empty room' → KeepsRoom empty room' → FollowsRound (all_noted t t') t.fast t'.fast room.tally room'.tally → StaysInPlace t t' room.tally room'.tally
-      → KeepsSound t.fast t'.fast bytes.items room'.bytes.items → RoundDone rig t t' room room'
-  round_done ready sizes (added, is, round) kept tally places sound =
+  pub round_done : CarriesOn rig (all_noted t t') t t' empty room' → PlaysRound (given_of rig) t t' empty room' → KeepsSound t.fast t'.fast bytes.items room'.bytes.items → RoundDone rig t t' room room'
+  round_done on (added, is, round) sound =
       let none : bytes.items ≡ [] = ap (λ (b : Roomy ℕ). b.items) cleared in
       let more : room'.bytes.items ≡ added = ap (λ (b : Roomy ℕ). b.items) is ∙ ap (λ (xs : List ℕ). xs ++ added) none in
       record {
-        ready = ready;
-        sizes = sizes;
+        carried = record {
+          ready = on.ready;
+          sizes = on.sizes;
+          kept = record { buffer = on.kept.buffer; bytes = on.kept.bytes ∙ ap (λ (b : Roomy ℕ). b.room) cleared; released = on.kept.released };
+          tally = on.tally;
+          places = on.places;
+        };
         round = subst (λ (xs : List ℕ). IsRoundOfAll (given_of rig) t (all_noted t t') xs t') (sym more) round;
-        kept = record { buffer = kept.buffer; bytes = kept.bytes ∙ ap (λ (b : Roomy ℕ). b.room) cleared; released = kept.released };
-        tally = tally;
-        places = places;
         sound = sound (pcm_of t.fast.frames t.fast.log) (append-none (pcm_of t.fast.frames t.fast.log) bytes.items none);
       }
     where
@@ -178,19 +175,19 @@ module _ (script : ScriptData) (first : Stage) (new : IsNewStage script first) (
             let r = all_noted t t' in
             let more = room'.bytes.items in
             let order = so.ready.together.fast.0.room.entries.0 in
-            let next : IsReadyOn rig (i + 1) t' = done.ready i so.ready in
+            let next : IsReadyOn rig (i + 1) t' = done.carried.ready i so.ready in
             record {
               ready = subst (λ (n : ℕ). IsReadyOn rig n t') (sym one_more) next;
               knowing = round_knows given t t' r more so.knowing done.round;
               few = (let few = few_rounds in omega (arith, one_more, few, so.sizes.1, cycles));
               going = subst (λ (n : ℕ). IsGoing n t') (sym one_more) (goes_further given i t t' r more so.knowing so.ready.together.fast.0.keeps.exited_is order goes so.going done.round);
               run = subst (λ (x : RoundsNoted). RunsOfAll given first.parties x.rounds t') (sym notes) runs_more;
-              tally = subst (λ (x : RoundsNoted). (state : FastState) → IsTally (shown_at state tracks x.rounds t'.fast) room'.tally) (sym notes) (λ state. done.tally state tracks noted.rounds (so.tally state));
-              places = subst (λ (n : ℕ). HasPlacesAt n t' room'.tally) (sym one_more) (done.places i so.places);
+              tally = subst (λ (x : RoundsNoted). (state : FastState) → IsTally (shown_at state tracks x.rounds t'.fast) room'.tally) (sym notes) (λ state. done.carried.tally state tracks noted.rounds (so.tally state));
+              places = subst (λ (n : ℕ). HasPlacesAt n t' room'.tally) (sym one_more) (done.carried.places i so.places);
               form = subst (λ (x : RoundsNoted). AreNoted tracks x t'.fast.log) (sym notes) (noted_of_all rig.links given i t so.ready r more t' done.round frames_noted noted so.form);
               spares = subst (λ (x : RoundsNoted). SparesSoFar x.rounds t') (sym notes) (spares_of_all rig.links given i t so.ready t' next more r done.round noted.rounds so.spares);
-              sizes = (done.sizes.0 ∙ so.sizes.0, done.sizes.1 ∙ so.sizes.1);
-              kept = record { buffer = done.kept.buffer ∙ so.kept.buffer; bytes = done.kept.bytes ∙ so.kept.bytes; released = done.kept.released ∙ so.kept.released };
+              sizes = (done.carried.sizes.0 ∙ so.sizes.0, done.carried.sizes.1 ∙ so.sizes.1);
+              kept = record { buffer = done.carried.kept.buffer ∙ so.kept.buffer; bytes = done.carried.kept.bytes ∙ so.kept.bytes; released = done.carried.kept.released ∙ so.kept.released };
             }
 
         -- so fewer are left

@@ -7,10 +7,9 @@ ghost use Rattle.af_script.specs.Form.{IsTurn};
 ghost use Rattle.af_rendering.specs.FastSpared.{FastSparesSoFar};
 ghost use Rattle.af_rendering.specs.Rendered.{HoldsBut, PlaysTurns, Runs};
 ghost use Rattle.af_rendering.specs.Stages.{HasRoomToWait};
-ghost use Rattle.af_session.specs.Rooms.{HasAdded, HasPlacesAt, HasRoundRoom, IsReadyOn, KeepsRoom, KeepsSizes, StaysInPlace, StaysReadyOn, given_of};
+ghost use Rattle.af_session.specs.Rooms.{CarriesOn, HasAdded, HasPlacesAt, HasRoundRoom, IsReadyOn, KeepsRoom, given_of};
 ghost use Rattle.af_session.specs.Noted.{NotesFrames, NotesNumbers};
 ghost use Rattle.af_session.specs.Rounds.{IsRound, round_told};
-ghost use Rattle.af_session.specs.Shown.{FollowsRound};
 ghost use Rattle.af_tally.specs.Sound.{pcm_of};
 ghost use Rattle.af_tally.specs.Summaries.{nothing_shown};
 ghost use Rattle.af_tally.specs.Tallies.{IsTally};
@@ -88,12 +87,8 @@ fn round_in<L: Ledger>(
     requires turn { IsTurn (length parties.old.clients) turn }
     requires room { HasRoundRoom parties.old room.old }
     requires ready { (n : ℕ) × (n < 100000) × IsReadyOn rig.now n parties.old }
-    ensures ready { StaysReadyOn rig.now parties.old parties.new }
-    ensures sizes { KeepsSizes parties.old.fast parties.new.fast }
+    ensures carried { CarriesOn rig.now (round_told turn parties.old parties.new) parties.old parties.new room.old room.new }
     ensures round { (r : RoundNoted) × (added : List ℕ) × HasAdded room.old added room.new × IsRound (given_of rig.now) turn parties.old r added parties.new }
-    ensures kept { KeepsRoom room.old room.new }
-    ensures tally { FollowsRound (round_told turn parties.old parties.new) parties.old.fast parties.new.fast room.old.tally room.new.tally }
-    ensures places { StaysInPlace parties.old parties.new room.old.tally room.new.tally }
 {
     let mut steps = Steps::<L>::start(blank);
     parties.round(rig, turn, room, &mut steps);
@@ -112,10 +107,8 @@ fn play_out<S: Store>(
     requires room { HasRoomToWait parties.old room.old }
     requires ready { (n : ℕ) × (n < 100000) × IsReadyOn rig.now n parties.old }
     requires places { (n : ℕ) × (n < 100000) × HasPlacesAt n parties.old room.old.tally }
-    ensures ready { StaysReadyOn rig.now parties.old parties.new }
-    ensures sizes { KeepsSizes parties.old.fast parties.new.fast }
+    ensures carried { CarriesOn rig.now (round_told turn parties.old parties.new) parties.old parties.new room.old room.new }
     ensures room { HasRoomToWait parties.new room.new }
-    ensures kept { KeepsRoom room.old room.new }
     ensures round { (added : List ℕ) × IsRound (given_of rig.now) turn parties.old (round_told turn parties.old parties.new) added parties.new × (pcm_of parties.old.fast.frames parties.old.fast.log ++ added ≡ pcm_of parties.old.fast.frames parties.new.fast.log) }
     ensures frames { NotesFrames (round_told turn parties.old parties.new) }
     ensures numbers { NotesNumbers (round_told turn parties.old parties.new) }
@@ -123,8 +116,6 @@ fn play_out<S: Store>(
     ensures left { S.told store.old → (base : Files) → HoldsBut room.old.bytes.items base name.now (pcm_of parties.old.fast.frames parties.old.fast.log) (S.files store.old) → OnErr result (LeavesFront base name.now (pcm_of parties.old.fast.frames parties.new.fast.log) (S.files store.new)) }
     ensures tells { S.told store.old → S.told store.new }
     ensures cause { HasCause (S.faults store.old) (S.faults store.new) result }
-    ensures tally { FollowsRound (round_told turn parties.old parties.new) parties.old.fast parties.new.fast room.old.tally room.new.tally }
-    ensures places { StaysInPlace parties.old parties.new room.old.tally room.new.tally }
 {
     round_in::<Brand>(Blank::new(1), parties, rig, turn, room);
     parties.know_round(turn);

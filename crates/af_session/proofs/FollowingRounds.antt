@@ -18,7 +18,7 @@ use Rattle.af_base.specs.Turn.{Turn, turn_of}
 use Rattle.af_model.specs.Journals.{RoundNoted}
 use Rattle.af_session.proofs.Basics.{calls_end}
 use Rattle.af_stateq.specs.Laws.{polled_states}
-use Rattle.af_fast.specs.Mixer.{IsInOrder, MixerState}
+use Rattle.af_fast.specs.Mixer.{MixerState}
 use Rattle.af_normal.specs.State.{NormalState}
 use Rattle.af_script.specs.declared.op.TurnSpec.{TurnSpec}
 use Rattle.af_script.specs.declared.op.TurnSpec.TheVariants as spec
@@ -29,7 +29,6 @@ use Rattle.af_session.specs.Shown.{Follows, FollowsRound, HasPlaces, calls_over,
 use Rattle.af_tally.specs.Summaries.{Shown, with_calls, with_turn}
 use Rattle.af_tally.specs.Tallies.{IsTally, Keeps, Tallied}
 use Rattle.af_session.specs.Together.{SessionState}
-use Rattle.af_session.proofs.Following.{shown_met}
 use Rattle.af_tally.proofs.Sounding.{map_same}
 
 -- the calls of all clients, round by round
@@ -222,28 +221,13 @@ told_by (spec.Client i) s a b same entry log = ap (client_round s i) (same i)
 told_by spec.Normal s a b same entry log = ap (λ (e : TurnEntry). if s.normal.ended then still_round s else normal_round s (turn_of e)) entry
 told_by (spec.Fast count) s a b same entry log = λ i. record (still_round s) { cycles = length (log i).entries - length s.fast.log.entries }
 
-module _ (turn : TurnSpec) (s played met t : SessionState) (meets : Met played met) (long : length met.clients ≡ length played.clients) (ends : t ≡ with_ends met) where
-  pub told_met : round_told turn s t ≡ round_told turn s played
-  told_met =
-      let keep = ends_keep met in
-      ap (round_told turn s) ends
-      ∙ told_by turn s met (with_ends met) keep.calls (ap (λ (n : NormalState). n.entry) keep.normal) (ap (λ (m : MixerState). m.log) keep.fast)
-      ∙ told_by turn s played met (calls_met played met meets long) (ap (λ (n : NormalState). n.entry) meets.ends.normal) (ap (λ (m : MixerState). m.log) meets.ends.fast)
-
-  pub follows_round : (a b : Tallied) → IsInOrder played.fast → FollowsRound (round_told turn s played) s.fast played.fast a b → FollowsRound (round_told turn s t) s.fast t.fast a b
-  follows_round a b order follows = λ first tracks rounds is.
-      let same : t.fast ≡ met.fast = ap (λ (x : SessionState). x.fast) ends ∙ (ends_keep met).fast in
-      let told : round_told turn s t ≡ round_told turn s played = told_met in
-      let after : List RoundNoted = rounds ++ round_told turn s played ∷ [] in
-      let shown : shown_at first tracks (rounds ++ round_told turn s t ∷ []) t.fast ≡ shown_at first tracks after played.fast =
-      (λ i. shown_at first tracks (rounds ++ told i ∷ []) (same i)) ∙ shown_met first tracks after played met order meets in
-      subst (λ (run : Shown). IsTally run b) (sym shown) (follows first tracks rounds is)
-
-  pub places_round : (n : ℕ) (b : Tallied) → HasPlaces n (length played.clients) (length played.fast.log.entries) b → HasPlaces n (length t.clients) (length t.fast.log.entries) b
-  places_round n b p =
-      let clients : length played.clients ≡ length t.clients = sym (ap (λ (x : SessionState). length x.clients) ends ∙ (ends_keep met).long ∙ long) in
-      let log : length played.fast.log.entries ≡ length t.fast.log.entries = sym (ap (λ (x : SessionState). length x.fast.log.entries) ends ∙ ap (λ (m : MixerState). length m.log.entries) ((ends_keep met).fast ∙ meets.ends.fast)) in
-      subst (λ (x : ℕ × ℕ). HasPlaces n x.0 x.1 b) (λ i. (clients i, log i)) p
+-- what is noted of a turn is the same after the meetings and the ends of the clients
+pub told_met : (turn : TurnSpec) (s played met t : SessionState) → Met played met → length met.clients ≡ length played.clients → t ≡ with_ends met → round_told turn s t ≡ round_told turn s played
+told_met turn s played met t meets long ends =
+    let keep = ends_keep met in
+    ap (round_told turn s) ends
+    ∙ told_by turn s met (with_ends met) keep.calls (ap (λ (n : NormalState). n.entry) keep.normal) (ap (λ (m : MixerState). m.log) keep.fast)
+    ∙ told_by turn s played met (calls_met played met meets long) (ap (λ (n : NormalState). n.entry) meets.ends.normal) (ap (λ (m : MixerState). m.log) meets.ends.fast)
 
 -- ## Places
 

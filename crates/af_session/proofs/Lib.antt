@@ -13,6 +13,7 @@ pub mod NormalRounds
 pub mod MapMore
 pub mod Following
 pub mod FollowingRounds
+pub mod CarriedOn
 pub mod RoomsKept
 pub mod NotedOn
 pub mod StepsUsed

@@ -2,10 +2,11 @@
 use Rattle.std.specs.Prelude.{◌≡◌, ℕ, ◌+◌, ◌*◌, ◌<◌, ◌≤◌, ◌++◌, true, false, List, [], length}
 use Rattle.af_fast.specs.Mixer.{IsInOrder as IsFastInOrder, IsLinked, MixerState}
 use Rattle.af_link.specs.declared.links.Links.{Links}
+use Rattle.af_model.specs.Journals.{RoundNoted}
 use Rattle.af_session.specs.declared.rig.Rig.{Rig}
 use Rattle.af_session.specs.declared.room.Room.{Room}
 use Rattle.af_session.specs.Rounds.{Given, IsReady}
-use Rattle.af_session.specs.Shown.{Follows, HasPlaces}
+use Rattle.af_session.specs.Shown.{Follows, FollowsRound, HasPlaces}
 use Rattle.af_session.specs.Together.{SessionState}
 use Rattle.af_tally.specs.Sound.{IsWhole, pcm_of}
 use Rattle.af_tally.specs.Summaries.{nothing_shown}
@@ -94,3 +95,11 @@ KeepsSizes m m' = (m'.frames ≡ m.frames) × (m'.cycles ≡ m.cycles)
 -- if bytes that went out before, and these behind them, were the sound of the log, they are so again
 abbrev pub KeepsSound : MixerState → MixerState → List ℕ → List ℕ → Type 0
 KeepsSound m m' bytes bytes' = (before : List ℕ) → before ++ bytes ≡ pcm_of m.frames m.log → before ++ bytes' ≡ pcm_of m.frames m'.log
+
+-- A round that tells this carries a session on: its parties are ready for the next one and have their sizes, the room is kept, and the tally has this round behind those before it, and its places
+pub record CarriesOn (rig : Rig) (told : RoundNoted) (s t : SessionState) (room room' : Room) : Type 0 where
+  pub ready : StaysReadyOn rig s t
+  pub sizes : KeepsSizes s.fast t.fast
+  pub kept : KeepsRoom room room'
+  pub tally : FollowsRound told s.fast t.fast room.tally room'.tally
+  pub places : StaysInPlace s t room.tally room'.tally

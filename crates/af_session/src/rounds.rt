@@ -4,7 +4,7 @@ ghost use Rattle.af_model.specs.Journals.{RoundNoted};
 ghost use Rattle.af_script.specs.Form.{IsTurn};
 ghost use Rattle.af_script.specs.declared.op.TurnSpec.TheVariants as spec;
 ghost use Rattle.af_session.specs.Met.{Met};
-ghost use Rattle.af_session.specs.Rooms.{HasAdded, HasPlacesAt, HasRoom, HasRoundRoom, IsReadyOn, KeepsRoom, KeepsSizes, StaysInPlace, StaysReadyOn, given_of};
+ghost use Rattle.af_session.specs.Rooms.{CarriesOn, HasAdded, HasPlacesAt, HasRoom, HasRoundRoom, IsReadyOn, KeepsRoom, KeepsSizes, StaysInPlace, StaysReadyOn, given_of};
 ghost use Rattle.af_session.specs.Rounds.{IsRound, Turns, end_party, round_told, with_ends};
 ghost use Rattle.af_session.specs.Shown.{FollowsRound};
 
@@ -166,13 +166,9 @@ impl Parties {
         requires turn { IsTurn (length self.old.clients) turn }
         requires ready { (n : ℕ) × (n < 100000) × IsReadyOn rig.now n self.old }
         requires room { HasRoundRoom self.old room.old }
-        ensures ready { StaysReadyOn rig.now self.old self.new }
-        ensures sizes { KeepsSizes self.old.fast self.new.fast }
+        ensures carried { CarriesOn rig.now (round_told turn self.old self.new) self.old self.new room.old room.new }
         ensures round { (r : RoundNoted) × (added : List ℕ) × HasAdded room.old added room.new
             × IsRound (given_of rig.now) turn self.old r added self.new }
-        ensures kept { KeepsRoom room.old room.new }
-        ensures tally { FollowsRound (round_told turn self.old self.new) self.old.fast self.new.fast room.old.tally room.new.tally }
-        ensures places { StaysInPlace self.old self.new room.old.tally room.new.tally }
     {
         self.play(rig, turn, room, steps);
         self.meet_all(rig, steps);

@@ -12,19 +12,14 @@ use Rattle.af_base.specs.declared.log.CycleEntry.{CycleEntry}
 use Rattle.af_base.specs.declared.state.FastState.{FastState}
 use Rattle.af_base.specs.Turn.{Turn, turn_of}
 use Rattle.af_model.specs.Journals.{RoundNoted}
-use Rattle.af_base.specs.Log.{Logged}
-use Rattle.af_fast.specs.Mixer.{IsInOrder, MixerState}
-use Rattle.af_session.specs.Met.{Met}
-use Rattle.af_session.specs.Rounds.{with_ends}
+use Rattle.af_fast.specs.Mixer.{MixerState}
 use Rattle.af_party.specs.Parties.{PartyState}
-use Rattle.af_session.specs.Shown.{Follows, FollowsRound, HasPlaces, calls_over, shown_at, shows}
+use Rattle.af_session.specs.Shown.{Follows, FollowsRound, calls_over, shown_at, shows}
 use Rattle.af_side_by_side.specs.SideBySide.{all_noted, with_all_calls, with_turn_if}
 use Rattle.af_tally.specs.Summaries.{Shown, calls_of, with_calls, with_turn}
 use Rattle.af_tally.specs.Tallies.{IsTally, Tallied}
 use Rattle.af_session.specs.Together.{SessionState}
-use Rattle.af_session.proofs.Following.{shown_met}
-use Rattle.af_side_by_side.proofs.NotedOfAll.{noted_after}
-use Rattle.af_session.proofs.FollowingRounds.{AllCalls, calls_more, ends_keep, shown_round, shows_tracks, turns_more, turns_still, states, calls, turns}
+use Rattle.af_session.proofs.FollowingRounds.{AllCalls, calls_more, shown_round, shows_tracks, turns_more, turns_still, states, calls, turns}
 
 -- the calls of the first i clients were noted, and nothing else
 record NotedTo (made : List (List ClientCall)) (i : ℕ) (run run' : Shown) : Type 0 where
@@ -98,33 +93,6 @@ follows_all s t turn a b c long is tracks_are follows noted = λ first tracks ro
     (sym (shows_all (states first tracks rounds m) m.frames tracks (calls first tracks rounds m) (turns first tracks rounds m) m.log.frames m.log.entries made s.normal.ended turn)) y in
     subst (λ (run : Shown). IsTally run c) (sym (shown_round first tracks rounds m r))
     (subst (λ (e : Turn). IsTally (shows (states first tracks rounds m) m.frames tracks (calls first tracks rounds m ++ made ∷ []) (turns first tracks rounds m ++ (if s.normal.ended then None else Some e) ∷ []) m.log.frames m.log.entries) c) is z)
-
--- ## After the meetings
-
-module _ (s played met t : SessionState) (meets : Met played met) (long : length met.clients ≡ length played.clients) (ends : t ≡ with_ends met) where
-  same_fast : t.fast ≡ met.fast
-  same_fast = ap (λ (x : SessionState). x.fast) ends ∙ (ends_keep met).fast
-
-  -- the sizes and the log of the fast mixer stay
-  pub sizes_after : (t.fast.frames ≡ played.fast.frames) × (t.fast.cycles ≡ played.fast.cycles) × (t.fast.log ≡ played.fast.log)
-  sizes_after =
-      let same : t.fast ≡ _ = same_fast ∙ meets.ends.fast in
-      (ap (λ (m : MixerState). m.frames) same, ap (λ (m : MixerState). m.cycles) same, ap (λ (m : MixerState). m.log) same)
-
-  -- a tally that followed the turns follows the round
-  pub follows_after : (a b : Tallied) → IsInOrder played.fast → FollowsRound (all_noted s played) s.fast played.fast a b → FollowsRound (all_noted s t) s.fast t.fast a b
-  follows_after a b order follows = λ first tracks rounds is.
-      let told : all_noted s t ≡ all_noted s played = noted_after s played met t meets long ends in
-      let shown : shown_at first tracks (rounds ++ all_noted s t ∷ []) t.fast ≡ shown_at first tracks (rounds ++ all_noted s played ∷ []) played.fast =
-      (λ i. shown_at first tracks (rounds ++ told i ∷ []) (same_fast i)) ∙ shown_met first tracks (rounds ++ all_noted s played ∷ []) played met order meets in
-      subst (λ (run : Shown). IsTally run b) (sym shown) (follows first tracks rounds is)
-
-  -- the places of a tally after the turns are those after the round
-  pub places_after : (n : ℕ) (b : Tallied) → HasPlaces n (length played.clients) (length played.fast.log.entries) b → HasPlaces n (length t.clients) (length t.fast.log.entries) b
-  places_after n b p =
-      let clients : length played.clients ≡ length t.clients = sym (ap (λ (x : SessionState). length x.clients) ends ∙ (ends_keep met).long ∙ long) in
-      let log : length played.fast.log.entries ≡ length t.fast.log.entries = sym (ap (λ (l : Logged). length l.entries) sizes_after.2) in
-      subst (λ (x : ℕ × ℕ). HasPlaces n x.0 x.1 b) (λ i. (clients i, log i)) p
 
 -- ## The calls of one client more
 

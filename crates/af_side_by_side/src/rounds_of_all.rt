@@ -6,8 +6,8 @@ ghost use Rattle.af_base.specs.Log.{slots};
 ghost use Rattle.af_model.specs.Journals.{RoundNoted};
 ghost use Rattle.af_side_by_side.specs.Logging.{AreEnds, HasMetLog, LogsPlay};
 ghost use Rattle.af_session.specs.Met.{Met};
-ghost use Rattle.af_session.specs.Shown.{FollowsRound, HasPlaces};
-ghost use Rattle.af_session.specs.Rooms.{HasRoundRoom, IsReadyOn, KeepsRoom, KeepsSizes, KeepsSound, StaysInPlace, StaysReadyOn, given_of};
+ghost use Rattle.af_session.specs.Shown.{HasPlaces};
+ghost use Rattle.af_session.specs.Rooms.{CarriesOn, HasRoundRoom, IsReadyOn, KeepsSound, given_of};
 ghost use Rattle.af_side_by_side.specs.TurnsInRoom.{CanPlayMixers, LogsRound, MixersPlayed, PlaysRound, with_turns};
 ghost use Rattle.af_side_by_side.specs.SideBySide.{CanTurn, HasTurned, all_noted};
 ghost use Rattle.af_tally.specs.Summaries.{Shown};
@@ -146,12 +146,8 @@ pub fn round_of_all<R: Threads + Sync, G: Gate>(
     requires ready { (n : ℕ) × (n < 131072) × IsReadyOn rig.now n parties.old }
     requires room { HasRoundRoom parties.old room.old }
     requires log { (kept : Option ℕ) × (rounds : List RoundNoted) × LogsPlay kept parties.old.fast rounds logging.old }
-    ensures ready { StaysReadyOn rig.now parties.old parties.new }
-    ensures sizes { KeepsSizes parties.old.fast parties.new.fast }
+    ensures carried { CarriesOn rig.now (all_noted parties.old parties.new) parties.old parties.new room.old room.new }
     ensures round { PlaysRound (given_of rig.now) parties.old parties.new room.old room.new }
-    ensures kept { KeepsRoom room.old room.new }
-    ensures tally { FollowsRound (all_noted parties.old parties.new) parties.old.fast parties.new.fast room.old.tally room.new.tally }
-    ensures places { StaysInPlace parties.old parties.new room.old.tally room.new.tally }
     ensures sound { KeepsSound parties.old.fast parties.new.fast room.old.bytes.items room.new.bytes.items }
     ensures log { LogsRound parties.old parties.new logging.old logging.new }
 {

@@ -50,7 +50,7 @@ returns-clause-rounds g c = λ room rounds round notes w r size_is before noted 
     let r' : ReaderState = record { pass = c.meet_pipe.new.to.pass } in
     let noting : IsNoting v.pass.part c.writer.inside.sent c.writer.inside.room = subst (λ (x : WriterState). IsNoting x.pass.part c.writer.inside.sent c.writer.inside.room) c.writer.view_is c.writer.invariant in
     let reading : IsReading s.pass.part = subst (λ (x : ReaderState). IsReading x.pass.part) c.reader.view_is c.reader.invariant in
-    let shape : v.pass.part.shape.frames ≡ size = ap (λ (m : Made). m.shape.frames) c.requires.writer in
+    let shape : v.pass.part.shape.frames ≡ size = ap (λ (m : Made). m.shape.frames) c.requires.made.0 in
     let some : 1 ≤ room = (let a = noting.some in let b = noting.size in omega arith) in
     let few : size ≤ 65536 = (let a = noting.shape.few in omega arith) in
     let whole : length v.pass.part.frames ≡ 8 * length (accepted v) = (let a = noting.whole in let b = noting.sent_is in omega arith) in

@@ -99,7 +99,7 @@ note_all-requires-clause-more g c =
     let call = c.round_of_all in
     let next : SessionState = call.new.parties in
     let did = call.ensures in
-    let done = round_done rig now next room call.new.room c.clear.new.self c.clear.ensures did.ready did.sizes did.round did.kept did.tally did.places did.sound in
+    let done = round_done rig now next room call.new.room c.clear.new.self c.clear.ensures did.carried did.round did.sound in
     let count : c.len-entries.result ≡ length now.fast.log.entries = c.len-entries.ensures ∙ ap (λ (l : Logged). length l.entries) c.log.ensures ∙ ap (λ (x : SessionState). length x.fast.log.entries) c.parties.view_is in
     let ended : c.has_ended-had_ended.result ≡ now.normal.ended = c.has_ended-had_ended.ensures ∙ ap (λ (x : SessionState). x.normal.ended) c.parties.view_is in
     let longer = (notes_of_all (given_of rig) now (all_noted now next) call.new.room.bytes.items next done.round).goes.longer in
@@ -118,9 +118,9 @@ note_all-requires-clause-few g c =
     let call = c.round_of_all in
     let next : SessionState = call.new.parties in
     let did = call.ensures in
-    let done = round_done rig now next room call.new.room c.clear.new.self c.clear.ensures did.ready did.sizes did.round did.kept did.tally did.places did.sound in
+    let done = round_done rig now next room call.new.room c.clear.new.self c.clear.ensures did.carried did.round did.sound in
     let i : ℕ = length noted.rounds in
-    few_noted rig.links (given_of rig) i (i + 1) now next so.plays.ready (done.ready i so.plays.ready) (cycles_of noted.rounds) so.plays.form.count
+    few_noted rig.links (given_of rig) i (i + 1) now next so.plays.ready (done.carried.ready i so.plays.ready) (cycles_of noted.rounds) so.plays.form.count
 
 pub loop-room-preserved : goal.loop-room-preserved
 loop-room-preserved g c =
@@ -135,7 +135,7 @@ loop-room-preserved g c =
     let call = c.round_of_all in
     let next : SessionState = call.new.parties in
     let did = call.ensures in
-    let done = round_done rig now next room call.new.room c.clear.new.self c.clear.ensures did.ready did.sizes did.round did.kept did.tally did.places did.sound in
+    let done = round_done rig now next room call.new.room c.clear.new.self c.clear.ensures did.carried did.round did.sound in
     let count : c.len-entries.result ≡ length now.fast.log.entries = c.len-entries.ensures ∙ ap (λ (l : Logged). length l.entries) c.log.ensures ∙ ap (λ (x : SessionState). length x.fast.log.entries) c.parties.view_is in
     let ended : c.has_ended-had_ended.result ≡ now.normal.ended = c.has_ended-had_ended.ensures ∙ ap (λ (x : SessionState). x.normal.ended) c.parties.view_is in
     let notes = c.in_ok-note_all.ensures.noted now ended count in
@@ -164,7 +164,7 @@ loop-room-smaller g c =
     let call = c.round_of_all in
     let next : SessionState = call.new.parties in
     let did = call.ensures in
-    let done = round_done rig now next room call.new.room c.clear.new.self c.clear.ensures did.ready did.sizes did.round did.kept did.tally did.places did.sound in
+    let done = round_done rig now next room call.new.room c.clear.new.self c.clear.ensures did.carried did.round did.sound in
     let count : c.len-entries.result ≡ length now.fast.log.entries = c.len-entries.ensures ∙ ap (λ (l : Logged). length l.entries) c.log.ensures ∙ ap (λ (x : SessionState). length x.fast.log.entries) c.parties.view_is in
     let ended : c.has_ended-had_ended.result ≡ now.normal.ended = c.has_ended-had_ended.ensures ∙ ap (λ (x : SessionState). x.normal.ended) c.parties.view_is in
     fewer_left p.script.now s c.requires.new rig c.tracks-tracks.ensures.value noted now room so.plays goes next call.new.room done c.note_all.new.rounds (c.in_ok-note_all.ensures.noted now ended count) (c.in_ok-note_all.ensures.frames now ended)
@@ -184,7 +184,7 @@ returns-in_err-send_out-clause-left g c = λ told.
     let call = c.round_of_all in
     let next : SessionState = call.new.parties in
     let did = call.ensures in
-    let done = round_done rig now next room call.new.room c.clear.new.self c.clear.ensures did.ready did.sizes did.round did.kept did.tally did.places did.sound in
+    let done = round_done rig now next room call.new.room c.clear.new.self c.clear.ensures did.carried did.round did.sound in
     let old = g.S.Store.files c.args.store.now in
     let new = g.S.Store.files c.send_out.new.store in
     let sound : List ℕ = pcm_of p.script.now.frames now.fast.log in
@@ -212,7 +212,7 @@ returns-in_err-note_all-clause-left g c = λ told.
     let call = c.round_of_all in
     let next : SessionState = call.new.parties in
     let did = call.ensures in
-    let done = round_done rig now next room call.new.room c.clear.new.self c.clear.ensures did.ready did.sizes did.round did.kept did.tally did.places did.sound in
+    let done = round_done rig now next room call.new.room c.clear.new.self c.clear.ensures did.carried did.round did.sound in
     let old = g.S.Store.files c.args.store.now in
     let new = g.S.Store.files c.send_out.new.store in
     let sound : List ℕ = pcm_of p.script.now.frames now.fast.log in

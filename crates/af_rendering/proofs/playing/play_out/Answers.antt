@@ -20,7 +20,7 @@ pub know_round-requires : goal.know_round-requires
 know_round-requires g c =
     let given : Given = given_of c.args.rig.now in
     let n : ℕ = c.requires.ready.0 in
-    let next : IsReady c.args.rig.now.links given (n + 1) c.round_in.new.parties = c.round_in.ensures.ready n c.requires.ready.2 in
+    let next : IsReady c.args.rig.now.links given (n + 1) c.round_in.new.parties = c.round_in.ensures.carried.ready n c.requires.ready.2 in
     turn_stays c.args.rig.now.links given n (n + 1) c.args.parties.now c.round_in.new.parties c.requires.ready.2 next c.args.turn c.requires.turn
 
 pub returns-clause-round : goal.returns-clause-round
@@ -29,7 +29,7 @@ returns-clause-round g c =
     let n : ℕ = c.requires.ready.0 in
     let was : SessionState = c.args.parties.now in
     let is : SessionState = c.round_in.new.parties in
-    let next : IsReady c.args.rig.now.links given (n + 1) is = c.round_in.ensures.ready n c.requires.ready.2 in
+    let next : IsReady c.args.rig.now.links given (n + 1) is = c.round_in.ensures.carried.ready n c.requires.ready.2 in
     let round = c.round_in.ensures.round in (
       round.1,
       round_noted c.args.rig.now.links given n (n + 1) was is c.requires.ready.2 next c.args.turn round.0 round.1 round.3,
@@ -63,15 +63,21 @@ returns-clause-left g c = λ told base held.
 pub returns-clause-room : goal.returns-clause-room
 returns-clause-room g c =
     let room = c.requires.room in
-    let kept = c.round_in.ensures.kept in
-    let sizes = c.round_in.ensures.sizes in
+    let kept = c.round_in.ensures.carried.kept in
+    let sizes = c.round_in.ensures.carried.sizes in
     record {
       buffer = kept.buffer ∙ room.buffer ∙ sym sizes.0;
       bytes = omega (arith, c.send_beyond.ensures.room, kept.bytes, room.bytes, sizes.0);
       waits = omega (arith, c.send_beyond.ensures.few, c.len-most.ensures, c.round_in.new.room.buffer.ok.0, kept.buffer, room.buffer, sizes.0);
     }
 
-pub returns-clause-kept : goal.returns-clause-kept
-returns-clause-kept g c =
-    let kept = c.round_in.ensures.kept in
-    record { buffer = kept.buffer; bytes = c.send_beyond.ensures.room ∙ kept.bytes; released = kept.released }
+pub returns-clause-carried : goal.returns-clause-carried
+returns-clause-carried g c =
+    let on = c.round_in.ensures.carried in
+    record {
+      ready = on.ready;
+      sizes = on.sizes;
+      kept = record { buffer = on.kept.buffer; bytes = c.send_beyond.ensures.room ∙ on.kept.bytes; released = on.kept.released };
+      tally = on.tally;
+      places = on.places;
+    }

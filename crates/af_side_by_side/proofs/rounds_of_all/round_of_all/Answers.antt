@@ -4,7 +4,7 @@ use Rattle.af_base.specs.declared.log.CycleEntry.{CycleEntry}
 use Rattle.af_base.specs.Log.{Logged, slots}
 use Rattle.af_base.specs.Turn.{turn_of}
 use Rattle.af_party.specs.Parties.{PartyState}
-use Rattle.af_session.specs.Rounds.{Given, IsReady}
+use Rattle.af_session.specs.Rounds.{Given}
 use Rattle.af_session.specs.Shown.{HasPlaces}
 use Rattle.af_session.specs.Rooms.{given_of}
 use Rattle.af_side_by_side.specs.SideBySide.{all_noted, with_all_calls, with_turn_if}
@@ -16,8 +16,8 @@ use Rattle.af_side_by_side.proofs.AloneTurns.{turned_adds}
 use Rattle.af_session.proofs.FollowingRounds.{places_more}
 use Rattle.af_side_by_side.proofs.LogRounds.{are_ends, has_auditor, has_scribe, round_logs}
 use Rattle.af_side_by_side.proofs.NotedOfAll.{noted_after}
-use Rattle.af_side_by_side.proofs.NotedTurns.{follows_after, follows_all, places_after, sizes_after}
-use Rattle.af_session.proofs.Ready.{ready_ends}
+use Rattle.af_side_by_side.proofs.NotedTurns.{follows_all}
+use Rattle.af_session.proofs.CarriedOn.{carried_on, sizes_met}
 use Rattle.af_side_by_side.proofs.ReadyOfAll.{all_can, can_cycle, can_mix, few_tracks}
 use Rattle.af_side_by_side.proofs.TurnsOfAll.{all_turned}
 use Rattle.af_side_by_side.proofs.rounds_of_all.round_of_all.Goals as goal
@@ -90,21 +90,33 @@ meet_in-requires-clause-log g c = are_ends c.requires.log.0 c.args.parties.now.f
 
 -- ## What came of it
 
-pub returns-clause-ready : goal.returns-clause-ready
-returns-clause-ready g c = λ n held.
-    let turned = all_turned c.args.rig.now c.args.parties.now c.all_turns.new.parties c.args.room.now c.all_turns.new.room c.args.logging.now c.all_turns.new.logging c.all_turns.ensures.clients c.all_turns.ensures.mixers in
-    let given : Given = given_of c.args.rig.now in
-    subst (IsReady c.args.rig.now.links given (n + 1)) (sym c.end_clients.ensures)
-    (ready_ends c.args.rig.now.links given (n + 1) c.meet_in.new.parties (c.meet_in.ensures.ready (n + 1) (turned.ready n held)))
-
-pub returns-clause-sizes : goal.returns-clause-sizes
-returns-clause-sizes g c =
+pub returns-clause-carried : goal.returns-clause-carried
+returns-clause-carried g c =
     let turned = all_turned c.args.rig.now c.args.parties.now c.all_turns.new.parties c.args.room.now c.all_turns.new.room c.args.logging.now c.all_turns.new.logging c.all_turns.ensures.clients c.all_turns.ensures.mixers in
     let n : ℕ = c.requires.ready.0 in
+    let was : SessionState = c.args.parties.now in
+    let is : SessionState = c.all_turns.new.parties in
     let next = turned.ready n c.requires.ready.2 in
     let after = c.meet_in.ensures.ready (n + 1) next in
-    let same = sizes_after c.args.parties.now c.all_turns.new.parties c.meet_in.new.parties c.end_clients.new.self c.meet_in.ensures.met (sym after.given.0 ∙ next.given.0) c.end_clients.ensures in
-    (same.0 ∙ turned.sizes.0, same.1 ∙ turned.sizes.1)
+    let met : length c.meet_in.new.parties.clients ≡ length is.clients = sym after.given.0 ∙ next.given.0 in
+    let long : length was.clients ≡ length is.clients = sym c.requires.ready.2.given.0 ∙ next.given.0 in
+    let ended : c.has_ended-had_ended.result ≡ was.normal.ended = c.has_ended-had_ended.ensures ∙ ap (λ (s : SessionState). s.normal.ended) c.parties.view_is in
+    let tracks : length c.args.room.now.tally.tracks ≡ length is.clients = c.requires.room.places.2.tracks_are ∙ long in
+    let told = subst (λ (b : Bool). (run : Shown) → IsTally run c.all_turns.new.room.tally → IsTally (with_turn_if b (turn_of is.normal.entry) (with_all_calls (map (λ (p : PartyState). p.calls.items) is.clients) (length is.clients) run)) c.note_turns.new.tally) ended c.note_turns.ensures.tally in
+    let kept = c.all_turns.ensures.mixers.fast.played.kept in
+    carried_on was is c.meet_in.new.parties c.end_clients.new.self c.meet_in.ensures.met met c.end_clients.ensures c.args.rig.now (all_noted was is) (all_noted was c.end_clients.new.self) c.args.room.now (record c.all_turns.new.room { tally = c.note_turns.new.tally })
+    (noted_after was is c.meet_in.new.parties c.end_clients.new.self c.meet_in.ensures.met met c.end_clients.ensures)
+    next.together.fast.0
+    c.meet_in.ensures.ready
+    (record {
+      ready = turned.ready;
+      sizes = turned.sizes;
+      kept = record { buffer = kept.buffer; bytes = kept.bytes; released = kept.released };
+      tally = follows_all was is (turn_of is.normal.entry) c.args.room.now.tally c.all_turns.new.room.tally c.note_turns.new.tally long refl tracks turned.noted.follows told;
+      places = (λ m held.
+          let at = subst (λ (k : ℕ). HasPlaces m k (length is.fast.log.entries) c.all_turns.new.room.tally) long (turned.noted.places m (length was.clients) held) in
+          places_more m (length is.clients) (length is.fast.log.entries) slots c.all_turns.new.room.tally c.note_turns.new.tally (omega arith) c.note_turns.ensures.keeps at);
+    })
 
 pub returns-clause-round : goal.returns-clause-round
 returns-clause-round g c =
@@ -127,45 +139,14 @@ returns-clause-round g c =
       },
     )
 
-pub returns-clause-kept : goal.returns-clause-kept
-returns-clause-kept g c = let kept = c.all_turns.ensures.mixers.fast.played.kept in record { buffer = kept.buffer; bytes = kept.bytes; released = kept.released }
-
-pub returns-clause-tally : goal.returns-clause-tally
-returns-clause-tally g c =
-    let turned = all_turned c.args.rig.now c.args.parties.now c.all_turns.new.parties c.args.room.now c.all_turns.new.room c.args.logging.now c.all_turns.new.logging c.all_turns.ensures.clients c.all_turns.ensures.mixers in
-    let n : ℕ = c.requires.ready.0 in
-    let was : SessionState = c.args.parties.now in
-    let is : SessionState = c.all_turns.new.parties in
-    let next = turned.ready n c.requires.ready.2 in
-    let after = c.meet_in.ensures.ready (n + 1) next in
-    let long : length was.clients ≡ length is.clients = sym c.requires.ready.2.given.0 ∙ next.given.0 in
-    let ended : c.has_ended-had_ended.result ≡ was.normal.ended = c.has_ended-had_ended.ensures ∙ ap (λ (s : SessionState). s.normal.ended) c.parties.view_is in
-    let tracks : length c.args.room.now.tally.tracks ≡ length is.clients = c.requires.room.places.2.tracks_are ∙ long in
-    let told = subst (λ (b : Bool). (run : Shown) → IsTally run c.all_turns.new.room.tally → IsTally (with_turn_if b (turn_of is.normal.entry) (with_all_calls (map (λ (p : PartyState). p.calls.items) is.clients) (length is.clients) run)) c.note_turns.new.tally) ended c.note_turns.ensures.tally in
-    let follows = follows_all was is (turn_of is.normal.entry) c.args.room.now.tally c.all_turns.new.room.tally c.note_turns.new.tally long refl tracks turned.noted.follows told in
-    follows_after was is c.meet_in.new.parties c.end_clients.new.self c.meet_in.ensures.met (sym after.given.0 ∙ next.given.0) c.end_clients.ensures c.args.room.now.tally c.note_turns.new.tally next.together.fast.0 follows
-
-pub returns-clause-places : goal.returns-clause-places
-returns-clause-places g c = λ m held.
-    let turned = all_turned c.args.rig.now c.args.parties.now c.all_turns.new.parties c.args.room.now c.all_turns.new.room c.args.logging.now c.all_turns.new.logging c.all_turns.ensures.clients c.all_turns.ensures.mixers in
-    let n : ℕ = c.requires.ready.0 in
-    let was : SessionState = c.args.parties.now in
-    let is : SessionState = c.all_turns.new.parties in
-    let next = turned.ready n c.requires.ready.2 in
-    let after = c.meet_in.ensures.ready (n + 1) next in
-    let long : length was.clients ≡ length is.clients = sym c.requires.ready.2.given.0 ∙ next.given.0 in
-    let at = subst (λ (k : ℕ). HasPlaces m k (length is.fast.log.entries) c.all_turns.new.room.tally) long (turned.noted.places m (length was.clients) held) in
-    places_after was is c.meet_in.new.parties c.end_clients.new.self c.meet_in.ensures.met (sym after.given.0 ∙ next.given.0) c.end_clients.ensures (m + 1) c.note_turns.new.tally
-    (places_more m (length is.clients) (length is.fast.log.entries) slots c.all_turns.new.room.tally c.note_turns.new.tally (omega arith) c.note_turns.ensures.keeps at)
-
 pub returns-clause-sound : goal.returns-clause-sound
-returns-clause-sound g c = λ before same.
+returns-clause-sound g c = λ before is.
     let turned = all_turned c.args.rig.now c.args.parties.now c.all_turns.new.parties c.args.room.now c.all_turns.new.room c.args.logging.now c.all_turns.new.logging c.all_turns.ensures.clients c.all_turns.ensures.mixers in
     let n : ℕ = c.requires.ready.0 in
     let next = turned.ready n c.requires.ready.2 in
     let after = c.meet_in.ensures.ready (n + 1) next in
-    let kept = sizes_after c.args.parties.now c.all_turns.new.parties c.meet_in.new.parties c.end_clients.new.self c.meet_in.ensures.met (sym after.given.0 ∙ next.given.0) c.end_clients.ensures in
-    turned.sound before same ∙ ap (λ (l : Logged). pcm_of c.args.parties.now.fast.frames l) (sym kept.2)
+    let same = sizes_met c.args.parties.now c.all_turns.new.parties c.meet_in.new.parties c.end_clients.new.self c.meet_in.ensures.met (sym after.given.0 ∙ next.given.0) c.end_clients.ensures in
+    turned.sound before is ∙ ap (λ (l : Logged). pcm_of c.args.parties.now.fast.frames l) (sym same.2)
 
 pub returns-clause-log : goal.returns-clause-log
 returns-clause-log g c = λ kept rounds held.
@@ -176,7 +157,7 @@ returns-clause-log g c = λ kept rounds held.
     let end : SessionState = c.end_clients.new.self in
     let next = turned.ready n c.requires.ready.2 in
     let after = c.meet_in.ensures.ready (n + 1) next in
-    let same = sizes_after c.args.parties.now c.all_turns.new.parties c.meet_in.new.parties c.end_clients.new.self c.meet_in.ensures.met (sym after.given.0 ∙ next.given.0) c.end_clients.ensures in
+    let same = sizes_met c.args.parties.now c.all_turns.new.parties c.meet_in.new.parties c.end_clients.new.self c.meet_in.ensures.met (sym after.given.0 ∙ next.given.0) c.end_clients.ensures in
     let adds = turned_adds c.args.rig.now.links was.fast is.fast turned.added c.requires.ready.2.whole turned.played.fast in
     let more : List CycleEntry = adds.mixes ++ adds.last in
     let few : length more ≤ 16 = (let both = length-append adds.mixes adds.last in let most = adds.few in omega arith) in
