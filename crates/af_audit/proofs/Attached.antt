@@ -1,25 +1,7 @@
 -- What a proxy showed when it was attached is no more than its server's list shows.
 use Rattle.std.proofs.Common.{◌≡◌, ℕ, zero, suc, ◌+◌, ◌≤◌, ◌==◌, if◌then◌else◌, is_some, Bool, true, false, List, [], ◌∷◌, length, map, fold, Option, Some, None, refl, sym, ap, ◌∙◌, subst, arith}
-use Rattle.af_base.specs.Command.{code_of}
-use Rattle.af_base.specs.declared.report.SlotReport.{SlotReport}
-use Rattle.af_base.specs.declared.state.Command.{Command}
-use Rattle.af_base.specs.declared.state.FastState.{FastState}
-use Rattle.af_base.specs.declared.state.Push.{Push}
-use Rattle.af_base.specs.declared.state.Push.TheVariants.{Pushed, Clean, Busy}
-use Rattle.af_base.specs.declared.turn.CommandLook.{CommandLook}
-use Rattle.af_base.specs.Turn.{Turn, TrackSeen, TakeSeen}
-use Rattle.af_life.proofs.Basics.{at_new, set_each, welcomed_at}
-use Rattle.af_life.specs.declared.kept.Heard.{Heard}
-use Rattle.af_life.specs.declared.kept.Holder.TheVariants.{Home, Returning}
-use Rattle.af_life.specs.declared.kept.TrackKept.{TrackKept}
-use Rattle.af_life.specs.Edits.{comes_home, welcomed, after_ack, must_leave, must_enter, let_go, lend, lent_by, entered, edited, edited_to, ordered, mutated, after_push}
-use Rattle.af_life.specs.Heard.{heard, ready, noted, slot_reported, is_reported, counts_in, settled_at, is_reached}
-use Rattle.af_life.specs.Kept.{Setup, asked as buffer, NormalKept, Learnt, track_at, seen_at, is_home, no_counts, new_normal}
-use Rattle.af_life.specs.Obeys.{slot_for, shows_command, is_shut, ended, must_wait, told, obeyed, after_look, goes_on, after_looks}
-use Rattle.af_life.specs.Plays.{after_take, after_takes, counted}
-use Rattle.af_life.specs.Serves.{after_part, served, served_to}
-use Rattle.af_life.specs.Turn.{after_tracks, after_edits, turn_after}
-use Rattle.af_model.specs.Draft.{commanded as with_command}
+use Rattle.af_audit.proofs.Common.{Busy, Clean, Command, CommandLook, FastState, Heard, Home, Learnt, NormalKept, Push, Pushed, Returning, Setup, SlotReport, TakeSeen, TrackKept, TrackSeen, Turn, after_ack, after_edits, after_look, after_looks, after_part, after_push, after_take, after_takes, after_tracks, asked as buffer, at_new, code_of, comes_home, commanded as with_command, counted, counts_in, edited, edited_to, ended, entered, goes_on, heard, is_home, is_reached, is_reported, is_shut, lend, lent_by, let_go, must_enter, must_leave, must_wait, mutated, new_normal, no_counts, noted, obeyed, ordered, ready, seen_at, served, served_to, set_each, settled_at, shows_command, slot_reported, track_at, turn_after, welcomed, welcomed_at}
+use Rattle.af_life.specs.Obeys.{slot_for, told}
 use Rattle.af_audit.proofs.Measure.{AreAttached, Measure}
 
 either_at : (b : Bool) (s t : TrackKept) (h : Heard) → s.at_attach ≡ h → t.at_attach ≡ h → (if b then s else t).at_attach ≡ h

@@ -1,7 +1,6 @@
 -- Basic lemmas that several files here, and of the crates above, cite.
 use Rattle.std.proofs.Common.{List, [], ◌∷◌}
-use Rattle.af_model.specs.Journals.{EntrySeen}
-use Rattle.af_runs.specs.Rounds.{AreMixedBut}
+use Rattle.af_audit.proofs.Common.{AreMixedBut, EntrySeen}
 
 pub seen_map : (P Q : EntrySeen → Type 0) (es : List EntrySeen) → ((e : EntrySeen) → P e → Q e) → AreMixedBut P es → AreMixedBut Q es
 seen_map P Q [] h b = b

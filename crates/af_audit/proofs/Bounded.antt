@@ -1,27 +1,7 @@
 -- No report shows more than the list of the server of its slot's track.
-use Rattle.std.specs.List.{AllByRecursion}
 use Rattle.std.proofs.Common.{◌≡◌, inl, inr, ℕ, zero, suc, ◌≤◌, ◌==◌, ◌||◌, if◌then◌else◌, is_some, Bool, true, false, List, [], ◌∷◌, ◌++◌, fold, Some, refl, sym, ap, subst, arith}
-use Rattle.std.specs.Prelude.{◌-◌, slice_index_or, replicate}
-use Rattle.std.proofs.lemmas.Bool.{cases_lt}
-use Rattle.std.proofs.lemmas.List.{get_or_past}
-use Rattle.std.proofs.lemmas.List.FromFn.{get_or-map-range_with_len, length-map-range_with_len}
-use Rattle.af_base.specs.declared.log.CycleEntry.{CycleEntry}
-use Rattle.af_base.specs.declared.report.Report.{Report}
-use Rattle.af_base.specs.declared.report.SlotReport.{SlotReport}
-use Rattle.af_base.specs.declared.state.FastState.{FastState}
-use Rattle.af_base.specs.declared.state.FastTrack.{FastTrack}
-use Rattle.af_base.specs.Log.{slots, entry_slot}
-use Rattle.af_life.specs.Kept.{NormalKept}
-use Rattle.af_model.specs.Cycles.{state_of, last_used}
-use Rattle.af_model.specs.Journals.{EntrySeen}
-use Rattle.af_model.specs.Reports.{no_slot, counted_look, slot_report, no_report, report_at}
-use Rattle.af_model.specs.StateQueue.{slot_of, carries}
-use Rattle.af_runs.specs.Blocks.{listed}
-use Rattle.af_runs.specs.Runs.{Run, state_for, plays, stream_of, known_of, next_slot, next_report, last_report, report_of, with_poll, with_looks, with_mix, with_cycle, with_cycles}
-use Rattle.af_runs.specs.Sessions.{Session, cycle_frames}
-use Rattle.af_runs.specs.Told.{state_at}
-use Rattle.af_runs.proofs.StatesFor.{state_among}
-use Rattle.af_judge.proofs.EntryTold.{cycle_beside}
+use Rattle.af_audit.proofs.Common.{AllByRecursion, CycleEntry, EntrySeen, FastState, FastTrack, NormalKept, Report, Run, Session, SlotReport, carries, cases_lt, counted_look, cycle_beside, cycle_frames, entry_slot, get_or-map-range_with_len, get_or_past, known_of, last_report, last_used, length-map-range_with_len, listed, next_report, next_slot, no_report, no_slot, plays, replicate, report_at, report_of, slice_index_or, slot_of, slot_report, slots, state_among, state_at, state_for, state_of, stream_of, with_cycle, with_cycles, with_looks, with_mix, with_poll}
+use Rattle.std.specs.Prelude.{◌-◌}
 use Rattle.af_audit.proofs.Older.{IsOlder}
 use Rattle.af_audit.proofs.Growing.{grows_mix, run_told}
 use Rattle.af_audit.proofs.Measure.{Measure, of_run, IsBounded}

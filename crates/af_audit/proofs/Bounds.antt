@@ -1,22 +1,6 @@
 -- What a run keeps of its reports and its attachments: none shows more than the list of its server.
-use Rattle.std.specs.List.{AllByRecursion}
 use Rattle.std.proofs.Common.{◌≡◌, ℕ, zero, suc, ◌≤◌, if◌then◌else◌, Bool, true, false, true≢false, List, [], ◌∷◌, ◌++◌, Option, Some, None, refl, sym, ap, subst, append-nil, arith}
-use Rattle.af_base.specs.declared.report.Report.{Report}
-use Rattle.af_base.specs.declared.state.FastState.{FastState}
-use Rattle.af_base.specs.Turn.{Turn, ended_turn}
-use Rattle.af_life.specs.Heard.{learnt}
-use Rattle.af_life.specs.Kept.{Setup, NormalKept, Learnt}
-use Rattle.af_life.specs.Turn.{after_edits, turn_after}
-use Rattle.af_model.specs.Journals.{EntrySeen, RoundSeen}
-use Rattle.af_runs.specs.Blocks.{BlockTold, Marks, listed}
-use Rattle.af_runs.specs.Clients.{ends}
-use Rattle.af_runs.specs.Found.{TurnFound, outside_of}
-use Rattle.af_runs.specs.Rounds.{LegalRound, after_round, after_turn, all_played, before_turn, early_of, found_in, late_of, loaded, met_after, turned}
-use Rattle.af_runs.specs.Runs.{Run, told_at, each_track, met, new_run, with_calls, with_cycles, with_ends, with_load, with_mix, with_turn}
-use Rattle.af_runs.specs.Sessions.{Session, cycle_frames, setup_of}
-use Rattle.af_runs.specs.Told.{state_at, is_pushed}
-use Rattle.af_judge.proofs.EntriesFollow.{cycles_beside}
-use Rattle.af_judge.proofs.StatesKept.{at_each}
+use Rattle.af_audit.proofs.Common.{AllByRecursion, BlockTold, EntrySeen, FastState, Learnt, LegalRound, Marks, NormalKept, Report, RoundSeen, Run, Session, Setup, Turn, TurnFound, after_edits, after_round, after_turn, all_played, at_each, before_turn, cycle_frames, cycles_beside, each_track, early_of, ended_turn, ends, found_in, is_pushed, late_of, learnt, listed, loaded, met, met_after, new_run, outside_of, setup_of, state_at, told_at, turn_after, turned, with_calls, with_cycles, with_ends, with_load, with_mix, with_turn}
 use Rattle.af_audit.proofs.Older.{IsOlder, older_self, older_both, older_draft, draft_goes, draft_ends}
 use Rattle.af_audit.proofs.Growing.{RunGrows, run_told, grows_calls, grows_cycles, grows_mix, grows_turned, grows_loaded, grows_met, grows_ends}
 use Rattle.af_audit.proofs.Attached.{turn_keeps, attached_more, attached_new}

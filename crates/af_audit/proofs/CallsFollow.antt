@@ -1,17 +1,7 @@
 -- What is kept of the tracks of a run follows the calls of a round.
 use Rattle.std.proofs.Common.{◌≡◌, ℕ, ◌<◌, List, length, Option, arith, sym, subst, ◌∙◌}
-use Rattle.std.specs.Prelude.{slice_index_or}
-use Rattle.af_judge.proofs.Basics.{each_long, there_is, told_each}
-use Rattle.af_judge.specs.declared.track_judge.TrackJudge.{TrackJudge}
-use Rattle.af_judge.specs.NormalTold.{IsTrackAt}
-use Rattle.af_judge.specs.RunTold.{IsServedTrack, KeepsTracks}
-use Rattle.af_judge.specs.Tracks.{IsTrackOf}
+use Rattle.af_audit.proofs.Common.{IsServedTrack, IsTrackAt, IsTrackOf, KeepsTracks, Marks, RoundSeen, Run, Session, TrackJudge, called, calls_in, each_long, keeps_of, sides_of, slice_index_or, spec_of, there_is, told_at, told_each, turn_told, with_calls}
 use Rattle.af_judge.proofs.ServedCalls.{track_called}
-use Rattle.af_judge.proofs.TracksTold.{keeps_of, turn_told}
-use Rattle.af_model.specs.Journals.{RoundSeen}
-use Rattle.af_runs.specs.Blocks.{Marks}
-use Rattle.af_runs.specs.Runs.{Run, called, calls_in, sides_of, told_at, with_calls}
-use Rattle.af_runs.specs.Sessions.{Session, spec_of}
 use Rattle.af_audit.specs.RunKept.{AreSides, CallsJudged, AreFit, IsLegalCaller, LeastBelow}
 
 -- the track of a number once all clients made their calls

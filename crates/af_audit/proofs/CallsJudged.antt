@@ -1,28 +1,7 @@
 -- The calls of a round are judged one client after the other.
 use Rattle.std.proofs.Common.{◌≡◌, inl, inr, ℕ, ◌+◌, ◌<◌, ◌≤◌, Bool, true, false, MatchBool, List, [], length, map, set, Option, Some, None, IfSome, arith, sym, subst, ◌∙◌}
-use Rattle.std.specs.Prelude.{slice_index_or}
-use Rattle.std.proofs.lemmas.List.{length-set, get_or-set_same, get_or-set_other}
-use Rattle.af_base.proofs.Basics.{all_more, below_or_at}
-use Rattle.af_base.specs.declared.event.ClientCall.{ClientCall}
-use Rattle.af_base.specs.declared.frame.Frame.{Frame}
-use Rattle.af_base.specs.Sample.{packed_word}
-use Rattle.af_judge.proofs.Basics.{same_track}
-use Rattle.af_judge.specs.declared.track_judge.TrackJudge.{TrackJudge}
-use Rattle.af_judge.specs.NormalTold.{IsTrackAt}
-use Rattle.af_judge.specs.Tracks.{KeepsTrack, SameServers}
-use Rattle.af_runs.specs.ClientTurns.{LegalClientTurn, Track, after_calls}
-use Rattle.af_runs.specs.Sessions.{no_spec}
-use Rattle.af_script.specs.declared.op.Op.{Op}
-use Rattle.af_script.specs.declared.track.TrackSpec.{TrackSpec}
+use Rattle.af_audit.proofs.Common.{ClientCall, Frame, IsTrackAt, KeepsTrack, LegalClientTurn, Op, SameServers, Track, TrackJudge, TrackSpec, after_calls, all_more, below_or_at, get_or-set_other, get_or-set_same, length-set, no_spec, packed_word, same_track, slice_index_or}
 use Rattle.af_audit.specs.RunKept.{AreSides, CallsJudged, LeastBelow, found_after}
-
-pub no_calls : (specs : List TrackSpec) (files : List (List Frame)) (calls : ℕ → List ClientCall) (tracks : List TrackJudge) → CallsJudged 0 specs files calls tracks tracks None
-no_calls specs files calls tracks = record {
-  servers = λ i t k lt. absurd (omega (arith, lt));
-  others = λ i t low at. at;
-  turns = λ run sides i lt. absurd (omega (arith, lt));
-  kept = λ run sides i k lt. absurd (omega (arith, lt));
-}
 
 -- the track at a place is the one that was put there
 pub put-track : (tracks : List TrackJudge) (i : ℕ) (k u : TrackJudge) → IsTrackAt (set tracks i k) i u → u ≡ k
@@ -60,10 +39,6 @@ pub moved_answer : (t k : TrackJudge) (legal : Bool) (o p : List Op) (f g : List
 moved_answer t k legal o p f g x y a b d h = subst (λ (n : List Op). TurnAnswer t k legal n g y) a (subst (λ (n : List ℕ). TurnAnswer t k legal o n y) b (subst (λ (n : List ClientCall). TurnAnswer t k legal o f n) d h))
 
 module _ (specs : List TrackSpec) (files : List (List Frame)) (calls : ℕ → List ClientCall) (before now : List TrackJudge) (at : ℕ) (t k : TrackJudge) (here : IsTrackAt now at t) where
-  -- what the turn of the client at this place answers
-  Answers : Bool → Type 0
-  Answers legal = (u : Track) → u.file ≡ map packed_word (slice_index_or files at []) → KeepsTrack (slice_index_or specs at no_spec).ops t u → MatchBool legal (LegalClientTurn u (calls at) × KeepsTrack (slice_index_or specs at no_spec).ops k (after_calls u (calls at))) (LegalClientTurn u (calls at) → ⊥)
-
   -- what is kept of the tracks, whatever is found
   pub more : (legal : Bool) (found next : Option ℕ) → length now ≡ length before → CallsJudged at specs files calls before now found → SameServers t k
       → ((u : Track) → u.file ≡ map packed_word (slice_index_or files at []) → KeepsTrack (slice_index_or specs at no_spec).ops t u → MatchBool legal (LegalClientTurn u (calls at) × KeepsTrack (slice_index_or specs at no_spec).ops k (after_calls u (calls at))) (LegalClientTurn u (calls at) → ⊥))

@@ -1,16 +1,8 @@
 -- If a client's proxy of a block isn't shut after its calls, none of these found that block's words not to fit.
 use Rattle.std.proofs.Common.{◌≡◌, ℕ, ◌-◌, ◌<◌, not, Bool, true, false, true≢false, if◌then◌else◌, is_some, fold, MatchBool, MatchOption, List, [], ◌∷◌, Option, Some, None, refl, sym, ap, ◌∙◌, subst}
-use Rattle.std.proofs.lemmas.Grind.{fold-append}
-use Rattle.std.proofs.lemmas.Option.{none-some}
-use Rattle.af_base.proofs.Basics.{both_true}
-use Rattle.af_base.specs.declared.event.ClientCall.{ClientCall}
+use Rattle.af_audit.proofs.Common.{AnswersOn, AreCalls, ClientAnswers, ClientCall, ClientEvent, ClientKept, IsMade, LegalClientTurn, Side, Track, Want, after_call, after_calls, asked_by, both_true, client_begins, client_call_events, client_keeps, client_kept, filled_by, fold-append, is_of_commands, most_calls, none-some, outside-some, released_by, with_call, wrapped}
 use Rattle.af_base.specs.declared.event.ClientCall.TheVariants as call
-use Rattle.af_base.specs.declared.event.ClientEvent.{ClientEvent}
-use Rattle.af_model.proofs.Logic.{outside-some}
-use Rattle.af_model.specs.ClientCalls.{ClientAnswers, ClientKept, client_begins, client_call_events, client_keeps, client_kept, filled_by}
-use Rattle.af_model.specs.Point.{wrapped}
-use Rattle.af_runs.specs.ClientTurns.{AnswersOn, AreCalls, IsMade, LegalClientTurn, Side, Track, after_call, after_calls, asked_by, called, is_of_commands, most_calls, released_by, with_call}
-use Rattle.af_runs.specs.declared.want.Want.{Want}
+use Rattle.af_runs.specs.ClientTurns.{called}
 use Rattle.af_audit.specs.Spared.{is_corrupt_on, none_corrupt_on}
 
 -- what a side's list says of its client
@@ -48,18 +40,14 @@ module _ (frames cells base : ℕ) (es : List ClientEvent) (asked : ℕ) where
   -- if the proxy isn't shut after a call it wasn't before it, and the call wasn't Corrupt
   unshut_call : (commands : Bool) (answer : ClientCall) → ClientAnswers frames cells base es asked answer → (then_kept frames before before.shut answer).shut ≡ None → (before.shut ≡ None) × (is_corrupt_on commands answer ≡ false)
   unshut_call commands (call.Put front count) a fine = (a.0.0, refl)
-  unshut_call commands (call.Full front) a fine = (a.0, refl)
-  unshut_call commands (call.Dead flags) a fine = (a.0, refl)
   unshut_call commands (call.Corrupt front rear) a fine = absurd (shuts frames before before.shut front rear (call.Corrupt front rear) (λ was. refl) refl a fine)
   unshut_call commands (call.Cleared flags) a fine = (fine, refl)
   unshut_call commands (call.Flush count) a fine = (fine, refl)
   unshut_call commands (call.Gain word) a fine = (fine, refl)
-  unshut_call commands (call.Sent front code argument) a fine = (a.0, refl)
-  unshut_call commands (call.SendFull front) a fine = (a.0, refl)
-  unshut_call commands (call.SendDead flags) a fine = (a.0, refl)
   unshut_call commands (call.SendCorrupt front rear) a fine = absurd (shuts frames before before.shut front rear (call.SendCorrupt front rear) (λ was. refl) refl a fine)
   unshut_call commands (call.Status word) a fine = (fine, refl)
   unshut_call commands (call.Poke command word value) a fine = (fine, refl)
+  unshut_call commands _ a fine = (a.0, refl)
 
 -- if the proxy of a side isn't shut after a call it wasn't before it, and the call wasn't Corrupt
 unshut_side : (commands : Bool) (b : Side) (asked : ℕ) (answer : ClientCall) (words : List ℕ) → AnswersOn b asked answer → (kept_of (called answer words b)).shut ≡ None → ((kept_of b).shut ≡ None) × (is_corrupt_on commands answer ≡ false)

@@ -1,32 +1,12 @@
 -- On a command block nothing is dropped: each drop would belong to a flush, and its client never flushes.
-use Rattle.std.specs.Prelude.{MatchOption}
 use Rattle.std.proofs.Common.{◌≡◌, ◌≢◌, ℕ, ◌^◌, ◌≤◌, Bool, true, false, if◌then◌else◌, is_some, List, [], ◌∷◌, ◌++◌, Option, Some, None, refl, sym, ap, ◌∙◌, subst, append-nil, append_assoc, take, arith}
-use Rattle.af_base.specs.declared.event.ClientEvent.{ClientEvent}
-use Rattle.af_base.specs.declared.event.HandEvent.{HandEvent}
-use Rattle.af_base.specs.declared.event.ServerEvent.{ServerEvent}
+use Rattle.af_audit.proofs.Common.{Alike, ClientEvent, CommandLook, HandEvent, HasHistory, IsLegal, LegalLooks, Listed, LooksBy, MatchOption, Moment, Seen, ServerEvent, Shape, TrackPoint, after, all_command_events, as_slot, by_client, by_hand, by_server, client_of, command_events, drops_more, drops_none, flush_number, flushes-append, flushes_are, flushes_by, flushes_of, front_of, fronts_by, in_turn, keeps_all, kept, legal_cut, look_at, look_events, looks_alike, server_kept, server_of, shows_command, start, step_alike, taken_begins, takes_command, three}
 use Rattle.af_base.specs.declared.event.ServerEvent.TheVariants as server
-use Rattle.af_base.specs.declared.seen.Seen.{Seen}
 use Rattle.af_base.specs.declared.seen.Seen.TheVariants as seen
-use Rattle.af_base.specs.declared.turn.CommandLook.{CommandLook}
-use Rattle.af_judge.proofs.Basics.{legal_cut}
-use Rattle.af_life.specs.Looks.{LegalLooks, all_command_events, as_slot, command_events, takes_command}
-use Rattle.af_life.specs.Obeys.{shows_command}
-use Rattle.af_model.proofs.Basics.{flushes-append, three}
-use Rattle.af_model.specs.declared.point.TrackPoint.{TrackPoint}
-use Rattle.af_model.specs.declared.shape.Shape.{Shape}
-use Rattle.af_model.specs.Cycles.{Listed, LooksBy, kept}
-use Rattle.af_model.specs.Fates.{drops_none, keeps_all}
-use Rattle.af_model.specs.History.{HasHistory, IsLegal, Moment, after, by_client, by_hand, by_server, client_of, flushes_of, server_of}
-use Rattle.af_model.specs.Point.{flush_number, start}
-use Rattle.af_model.specs.ServerCalls.{flushes_by, look_at, look_events, server_kept}
-use Rattle.af_model.proofs.Fates.{drops_more, in_turn, taken_begins}
-use Rattle.af_runs.specs.Fronts.{front_of, fronts_by}
-use Rattle.af_judge.proofs.LooksAnswer.{Alike, looks_alike, step_alike}
 use Rattle.af_audit.specs.Fates.{ComesByFlush, DropsByFlush, SeesNewFlush}
 use Rattle.af_audit.proofs.Drops.{server_cut}
 use Rattle.af_audit.proofs.DropsNoticed.{drops_join, none_dropped, saw_new}
 use Rattle.af_audit.proofs.Flushes.{flushes_rise, flushes_told, new_above}
-use Rattle.af_model.proofs.Counts.{flushes_are}
 
 -- ## Looks
 
@@ -103,15 +83,7 @@ module _ (k : Shape) (narrow : k.wrap ≤ 32768) where
 
   keeps_so : (order : List Moment) (e : ServerEvent) → IsLegal (start k) order → flushes_of (client_of order) ≡ 0 → ComesByFlush k (server_of order) e → keeps_all e ≡ true
   keeps_so order (server.Drop to) legal calm comes = absurd (never_new order legal calm comes)
-  keeps_so order (server.SawGain word) legal calm comes = refl
-  keeps_so order (server.SawFlush flush) legal calm comes = refl
-  keeps_so order (server.SawRear rear) legal calm comes = refl
-  keeps_so order (server.SawFront front) legal calm comes = refl
-  keeps_so order (server.Take count) legal calm comes = refl
-  keeps_so order (server.Tally missing) legal calm comes = refl
-  keeps_so order (server.SetFlags bits) legal calm comes = refl
-  keeps_so order (server.SetStatus word) legal calm comes = refl
-  keeps_so order (server.Learn count) legal calm comes = refl
+  keeps_so order _ legal calm comes = refl
 
   never_drops : (order : List Moment) → IsLegal (start k) order → flushes_of (client_of order) ≡ 0 → DropsByFlush k [] (server_of order) → drops_none (server_of order) ≡ true
   never_drops [] legal calm noticed = refl

@@ -1,44 +1,11 @@
 -- What is kept of a track's command block through a round: what its client sent, what its mixer settled, and that nothing is dropped.
 use Rattle.std.proofs.Common.{◌≡◌, ℕ, ◌^◌, ◌<◌, ◌≤◌, Bool, true, false, true≢false, if◌then◌else◌, is_some, fold, List, [], ◌∷◌, ◌++◌, drop, length, Option, Some, None, refl, sym, ap, ◌∙◌, subst, arith}
-use Rattle.af_base.specs.declared.event.ClientCall.{ClientCall}
+use Rattle.af_audit.proofs.Common.{BlockTold, Client, ClientCall, CommandLook, EntrySeen, Learnt, LegalClientTurn, LegalLooks, LegalTurn, LegalTurnBy, Listed, Marks, NormalKept, Outside, RoundSeen, Run, Seen, ServerEvent, Session, Setup, Shape, Track, TrackKept, TrackTold, Turn, TurnFound, after_call, after_calls, alike, all_command_events, called, calls_in, client-server, client_call_events, client_kept, client_list, command_events, command_list, command_shape, commands_turned, cycles_beside, did, drops_none, each_at, each_long, each_track, ends, flushes-append, flushes_of, front_of, fronts_by, heard, invalid, is_of_commands, kept, learnt, listed, loaded, look_events, meets, met, met_at, met_many, no_track, outside_of, released_by, server-client, server_kept, server_list, setup_of, shows_command, sides_called, sides_of, status_events, takes_command, told_at, told_each, track_at, track_in, tracks_at, turn_after, turn_len, turned, turned_track, with_calls, with_cycles, with_ends, with_load, with_turn}
 use Rattle.af_base.specs.declared.event.ClientCall.TheVariants as call
 use Rattle.af_base.specs.declared.event.ClientEvent.TheVariants as client
-use Rattle.af_base.specs.declared.event.ServerEvent.{ServerEvent}
 use Rattle.af_base.specs.declared.event.ServerEvent.TheVariants as server
-use Rattle.af_base.specs.declared.seen.Seen.{Seen}
 use Rattle.af_base.specs.declared.seen.Seen.TheVariants as seen
-use Rattle.af_base.specs.declared.turn.CommandLook.{CommandLook}
-use Rattle.af_base.specs.Turn.{Turn}
-use Rattle.af_judge.proofs.Basics.{each_at, each_long, met_many, told_each}
-use Rattle.af_life.specs.declared.kept.TrackKept.{TrackKept}
-use Rattle.af_life.specs.Heard.{heard, learnt}
-use Rattle.af_life.specs.Kept.{Learnt, NormalKept, Outside, Setup, track_at, track_in}
-use Rattle.af_life.specs.Looks.{LegalLooks, all_command_events, command_events, did, takes_command}
-use Rattle.af_life.specs.Obeys.{shows_command}
-use Rattle.af_life.specs.Turn.{LegalTurn, turn_after}
-use Rattle.af_life.specs.TurnEvents.{command_list, invalid, status_events, tracks_at}
-use Rattle.af_life.proofs.Lives.{turn_len}
-use Rattle.af_model.proofs.Basics.{flushes-append}
-use Rattle.af_model.specs.declared.shape.Shape.{Shape}
-use Rattle.af_model.specs.ClientCalls.{client_call_events, client_kept}
-use Rattle.af_model.specs.Cycles.{Listed, kept}
-use Rattle.af_model.specs.Fates.{drops_none}
-use Rattle.af_model.specs.History.{flushes_of}
-use Rattle.af_model.specs.Journals.{EntrySeen, RoundSeen}
-use Rattle.af_model.specs.ServerCalls.{look_events, server_kept}
-use Rattle.af_runs.specs.Blocks.{BlockTold, Marks, client_list, listed, meets, server_list}
-use Rattle.af_runs.specs.Clients.{Client, ends}
-use Rattle.af_runs.specs.ClientTurns.{LegalClientTurn, Track, after_call, after_calls, called as called_side, is_of_commands, released_by}
-use Rattle.af_runs.specs.Found.{LegalTurnBy, TurnFound, outside_of}
-use Rattle.af_runs.specs.Fronts.{front_of, fronts_by}
-use Rattle.af_runs.specs.Runs.{Run, TrackTold, called, calls_in, each_track, commands_turned, met, no_track, sides_of, told_at, turned_track, with_calls, with_cycles, with_ends, with_load, with_turn}
-use Rattle.af_runs.specs.Rounds.{loaded, turned}
-use Rattle.af_runs.specs.Sessions.{Session, command_shape, setup_of}
-use Rattle.af_judge.proofs.BlocksMeet.{met_at}
-use Rattle.af_judge.proofs.BlocksTold.{client-server, server-client}
-use Rattle.af_judge.proofs.EntriesFollow.{cycles_beside}
-use Rattle.af_judge.proofs.LooksAnswer.{alike}
-use Rattle.af_judge.proofs.TracksTold.{sides_called}
+use Rattle.af_runs.specs.ClientTurns.{called as called_side}
 use Rattle.af_audit.specs.Fates.{DropsByFlush}
 use Rattle.af_audit.proofs.CommandDrops.{looks_drop}
 use Rattle.af_audit.proofs.DropsNoticed.{drops_join, none_dropped}
@@ -122,10 +89,7 @@ called_so most calls t s legal h =
 
 look_statuses : (most : ℕ) (shown : Seen) (flush rear front : ℕ) → StatusesLow most (look_events shown flush rear front)
 look_statuses most (seen.Flushed dropped) flush rear front = (tt, (tt, (tt, (tt, tt))))
-look_statuses most (seen.Frames count) flush rear front = (tt, (tt, (tt, tt)))
-look_statuses most seen.Empty flush rear front = (tt, (tt, (tt, tt)))
-look_statuses most (seen.Shut f r) flush rear front = (tt, (tt, (tt, tt)))
-look_statuses most seen.Absent flush rear front = (tt, (tt, (tt, tt)))
+look_statuses most _ flush rear front = (tt, (tt, (tt, tt)))
 
 command_statuses : (most : ℕ) (l : Listed) (look : CommandLook) (front : ℕ) → StatusesLow most (command_events l look front)
 command_statuses most l look front = statuses_join most _ (takes_command look) (by_shut (is_some (kept l).shut)) (by_shown (shows_command look.seen))

@@ -1,23 +1,12 @@
 -- How much a server has consumed: its list only raises it, and neither a report nor a proxy shows more.
 use Rattle.std.proofs.Common.{◌≡◌, ◌≤◌, List, [], ◌∷◌, ◌++◌, fold, refl, ap, arith}
-use Rattle.std.proofs.lemmas.Grind.{fold-append}
-use Rattle.af_base.specs.declared.event.ServerEvent.{ServerEvent}
+use Rattle.af_audit.proofs.Common.{ServerEvent, ServerKept, Shape, fold-append, server_begins, server_keeps, server_kept}
 use Rattle.af_base.specs.declared.event.ServerEvent.TheVariants as server
-use Rattle.af_model.specs.declared.shape.Shape.{Shape}
-use Rattle.af_model.specs.ServerCalls.{ServerKept, server_begins, server_keeps, server_kept}
 use Rattle.af_audit.proofs.Measure.{Measure}
 
 keeps_more : (k : Shape) (s : ServerKept) (e : ServerEvent) → s.consumed ≤ (server_keeps k s e).consumed
 keeps_more k s (server.SawGain word) = omega arith
-keeps_more k s (server.SawFlush flush) = omega arith
-keeps_more k s (server.SawRear rear) = omega arith
-keeps_more k s (server.SawFront front) = omega arith
-keeps_more k s (server.Drop to) = omega arith
-keeps_more k s (server.Take count) = omega arith
-keeps_more k s (server.Tally missing) = omega arith
-keeps_more k s (server.SetFlags bits) = omega arith
-keeps_more k s (server.SetStatus word) = omega arith
-keeps_more k s (server.Learn n) = omega arith
+keeps_more k s _ = omega arith
 
 keeps_all : (k : Shape) (s : ServerKept) (es : List ServerEvent) → s.consumed ≤ (fold (server_keeps k) s es).consumed
 keeps_all k s [] = omega arith

@@ -1,24 +1,8 @@
 -- What changes no track that is done with, and when a draft says Exit.
 use Rattle.std.proofs.Common.{◌≡◌, ℕ, zero, suc, ◌==◌, ◌&&◌, ◌||◌, not, Bool, true, false, if◌then◌else◌, is_some, sym, refl, ap, subst, ◌∙◌, List, [], ◌∷◌, length, map, filter, fold, slice_set, eqb-true, eq-eqb}
-use Rattle.std.specs.List.{AllByRecursion, list_any, range_with_len}
-use Rattle.af_base.proofs.Basics.{no, rest_enters}
-use Rattle.af_base.specs.declared.state.Command.{Command}
-use Rattle.af_base.specs.declared.state.Command.TheVariants.{ColdIdle, Exit, MixWrite}
-use Rattle.af_base.specs.declared.state.FastState.{FastState}
-use Rattle.af_base.specs.Command.{code_of}
-use Rattle.af_base.specs.Turn.{Turn, TrackSeen, TakeSeen}
-use Rattle.af_judge.proofs.Basics.{if_true, not_lent}
-use Rattle.af_model.proofs.Basics.{both_first}
-use Rattle.af_model.specs.Draft.{commanded as with_command}
+use Rattle.af_audit.proofs.Common.{AllByRecursion, ColdIdle, Command, Exit, FastState, Home, Learnt, Lent, MixWrite, NormalKept, Returning, Setup, TakeSeen, TrackKept, TrackSeen, Turn, after_ack, after_edits, after_take, after_tracks, asked, both_first, both_right, code_of, commanded as with_command, commanded_by, edited, edited_to, if_true, is_exit, is_home, is_mixed_here, is_over, is_returning, lend, let_go, list_any, mixed_here, must_enter, must_leave, mutated, next_command, no, not_lent, ordered, pipe_size, range_with_len, rest_enters, served, served_to, track_at, welcomed}
 use Rattle.af_life.specs.declared.kept.Holder.{Holder}
-use Rattle.af_life.specs.declared.kept.Holder.TheVariants.{Home, Lent, Returning}
-use Rattle.af_life.specs.declared.kept.TrackKept.{TrackKept}
-use Rattle.af_life.specs.Kept.{Setup, asked, pipe_size, NormalKept, Learnt, track_at, plays, is_home, is_returning}
-use Rattle.af_life.specs.Serves.{served, served_to}
-use Rattle.af_life.specs.Edits.{welcomed, after_ack, is_exit, must_leave, must_enter, let_go, lend, edited, edited_to, is_over, next_command, ordered, commanded_by, mutated}
-use Rattle.af_life.specs.Plays.{after_take, is_mixed_here, mixed_here}
-use Rattle.af_life.specs.Turn.{after_tracks, after_edits}
-use Rattle.af_model.proofs.Logic.{both_right}
+use Rattle.af_life.specs.Kept.{plays}
 
 -- a track is done with: its life has ended and its proxy is home
 pub record IsDone (s : TrackKept) : Type 0 where

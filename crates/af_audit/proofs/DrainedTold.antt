@@ -1,21 +1,7 @@
 -- In a legal run each track that is reported drained has reached its STOP.
 use Rattle.std.proofs.Common.{◌≡◌, ℕ, ◌<◌, Bool, true, false, All, List, [], ◌∷◌, ◌++◌, refl, sym, subst, take, ap, arith}
-use Rattle.std.specs.List.{list_any}
-use Rattle.std.proofs.lemmas.List.Elements.{All-head, All-tail}
-use Rattle.af_base.proofs.Basics.{neither}
-use Rattle.af_base.specs.declared.frame.Frame.{Frame}
-use Rattle.af_life.specs.Drained.{LifeStep}
-use Rattle.af_model.proofs.Basics.{not_true}
-use Rattle.af_model.proofs.Logic.{both_right}
-use Rattle.af_model.specs.JournalForm.{IsRound}
-use Rattle.af_model.specs.Journals.{JournalData, RoundSeen}
-use Rattle.af_runs.specs.Blocks.{BlockTold, Marks, client_list, hand_list, server_list}
-use Rattle.af_runs.specs.LegalRuns.{IsLegalRun, LegalRounds, is_lawful_block, is_lawful_track, is_poke_on, marks_of, session_of}
-use Rattle.af_runs.specs.Rounds.{LegalRound, after_round}
-use Rattle.af_runs.specs.Runs.{Run, TrackTold, calls_in, new_run}
-use Rattle.af_runs.specs.Sessions.{Session, track_count}
-use Rattle.af_script.specs.Data.{ScriptData}
-use Rattle.af_script.specs.Form.{IsScript}
+use Rattle.af_audit.proofs.Common.{All-head, All-tail, BlockTold, Frame, IsLegalRun, IsRound, IsScript, JournalData, LegalRound, LegalRounds, LifeStep, Marks, RoundSeen, Run, ScriptData, Session, Shape, TrackTold, after_round, both_right, calls_in, client_list, is_lawful_block, is_lawful_track, is_poke_on, list_any, marks_of, neither, new_run, not_true, server_list, session_of, track_count}
+use Rattle.af_runs.specs.Blocks.{hand_list}
 use Rattle.af_audit.proofs.FatesTold.{told_new}
 use Rattle.af_audit.specs.Drained.{EachDrainedTrackReachedItsStop, HasReachedStop, Sent, WhereDrained, consumed_of, round_steps, sent_in}
 use Rattle.af_audit.proofs.Reached.{Keeps, keeps_round, new_keeps, reached_round}
@@ -23,7 +9,6 @@ use Rattle.af_audit.proofs.SentTold.{commands_at, sent_history, sent_round}
 use Rattle.af_audit.proofs.Stopped.{Reaches}
 use Rattle.af_audit.proofs.CommandDrops.{taken_first}
 use Rattle.af_audit.proofs.SettledRounds.{SettlesSo, new_settles, round_settles}
-use Rattle.af_model.specs.declared.shape.Shape.{Shape}
 use Rattle.af_audit.proofs.StopSent.{SentSo, stop_sent}
 
 -- what is kept of a track whose command block has no poke

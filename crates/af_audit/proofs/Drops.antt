@@ -1,20 +1,9 @@
 -- After a meeting at which the server had seen so many flushes, what the client releases is dropped only by a look that sees more.
 use Rattle.std.proofs.Common.{◌≡◌, ◌≢◌, ◌⊎◌, inl, inr, ℕ, ◌+◌, ◌<◌, ◌≤◌, ◌||◌, Bool, true, false, fold, List, [], ◌∷◌, ◌++◌, length, get_or, refl, sym, ap, ◌∙◌, subst, arith, append_assoc, append-nil, length-append}
-use Rattle.std.proofs.lemmas.Grind.{fold-append}
-use Rattle.af_base.proofs.Basics.{no}
-use Rattle.af_base.specs.declared.event.ClientEvent.{ClientEvent}
+use Rattle.af_audit.proofs.Common.{ClientEvent, HandEvent, IsLegal, May, Moment, ServerEvent, ServerKept, Shape, TrackPoint, after, after_client, after_hand, after_server, by_client, by_hand, by_server, client_append, client_of, drop_end, drop_released, flushes_by, fold-append, in_turn, legal_cut, no, server_append, server_begins, server_keeps, server_kept, server_of, start}
 use Rattle.af_base.specs.declared.event.ClientEvent.TheVariants as client
-use Rattle.af_base.specs.declared.event.ServerEvent.{ServerEvent}
 use Rattle.af_base.specs.declared.event.ServerEvent.TheVariants as server
-use Rattle.af_base.specs.declared.event.HandEvent.{HandEvent}
 use Rattle.af_base.specs.declared.event.HandEvent.TheVariants as hand
-use Rattle.af_judge.proofs.Basics.{client_append, legal_cut, server_append}
-use Rattle.af_model.specs.declared.point.TrackPoint.{TrackPoint}
-use Rattle.af_model.specs.declared.shape.Shape.{Shape}
-use Rattle.af_model.specs.Point.{start, drop_end, after_client, after_server, after_hand}
-use Rattle.af_model.specs.History.{Moment, by_client, by_server, by_hand, client_of, server_of, after, May, IsLegal}
-use Rattle.af_model.specs.ServerCalls.{ServerKept, server_begins, server_keeps, server_kept, flushes_by}
-use Rattle.af_model.proofs.Fates.{in_turn, drop_released}
 use Rattle.af_audit.specs.Fates.{ComesByFlush, DropsByFlush, SeesNewFlush}
 use Rattle.af_audit.specs.Known.{sees_more, most_seen}
 use Rattle.af_audit.specs.Settled.{DropsAbove, DiscardsAbove}
@@ -111,26 +100,11 @@ released_in events = fold puts 0 events
 
 put_next : (p : TrackPoint) (e : ClientEvent) → (after_client p e).released ≡ p.released + put_by e
 put_next p (client.Release count) = refl
-put_next p client.Flush = omega arith
-put_next p (client.SetGain word) = omega arith
-put_next p (client.ClearFlags old) = omega arith
-put_next p (client.SawFlags flags) = omega arith
-put_next p (client.SawFront front) = omega arith
-put_next p (client.SawStatus word) = omega arith
-put_next p (client.Poke word value) = omega arith
-put_next p (client.Learn count) = omega arith
+put_next p _ = omega arith
 
 server_puts : (p : TrackPoint) (e : ServerEvent) → (after_server p e).released ≡ p.released
 server_puts p (server.SawGain word) = refl
-server_puts p (server.SawFlush flush) = refl
-server_puts p (server.SawRear rear) = refl
-server_puts p (server.SawFront front) = refl
-server_puts p (server.Drop to) = refl
-server_puts p (server.Take count) = refl
-server_puts p (server.Tally missing) = refl
-server_puts p (server.SetFlags bits) = refl
-server_puts p (server.SetStatus word) = refl
-server_puts p (server.Learn count) = refl
+server_puts p _ = refl
 
 hand_puts : (p : TrackPoint) (e : HandEvent) → (after_hand p e).released ≡ p.released
 hand_puts p (hand.SetFlags bits) = refl
@@ -155,15 +129,7 @@ more_seen k n (e ∷ es) = let a = more_seen k (sees_more k n e) es in let b = o
   where
     one_more : (n : ℕ) (e : ServerEvent) → n ≤ sees_more k n e
     one_more n (server.SawGain word) = omega arith
-    one_more n (server.SawFlush flush) = omega arith
-    one_more n (server.SawRear rear) = omega arith
-    one_more n (server.SawFront front) = omega arith
-    one_more n (server.Drop to) = omega arith
-    one_more n (server.Take count) = omega arith
-    one_more n (server.Tally missing) = omega arith
-    one_more n (server.SetFlags bits) = omega arith
-    one_more n (server.SetStatus word) = omega arith
-    one_more n (server.Learn count) = omega arith
+    one_more n _ = omega arith
 
 -- the first events of a list saw no more flushes than all of it
 pub most_grows : (k : Shape) (xs ys : List ServerEvent) → most_seen k xs ≤ most_seen k (xs ++ ys)
@@ -295,15 +261,7 @@ module _ (k : Shape) (from count : ℕ) (order : List Moment) (met : MetSo k fro
 module _ (k : Shape) (from count : ℕ) (order : List Moment) (met : MetSo k from count order) where
   any_so : (late : List Moment) (e : ServerEvent) (early : List Moment) → order ≡ late ++ by_server e ∷ early → DropsAbove k from count early e
   any_so late (server.Drop to) early whole = drops_so k from count order met late early to whole
-  any_so late (server.SawGain word) early whole = tt
-  any_so late (server.SawFlush flush) early whole = tt
-  any_so late (server.SawRear rear) early whole = tt
-  any_so late (server.SawFront front) early whole = tt
-  any_so late (server.Take taken) early whole = tt
-  any_so late (server.Tally missing) early whole = tt
-  any_so late (server.SetFlags bits) early whole = tt
-  any_so late (server.SetStatus word) early whole = tt
-  any_so late (server.Learn learnt) early whole = tt
+  any_so late _ early whole = tt
 
   more_late : (late : List Moment) (m : Moment) (early : List Moment) → order ≡ late ++ m ∷ early → order ≡ (late ++ m ∷ []) ++ early
   more_late late m early whole = whole ∙ sym (append_assoc late (m ∷ []) early)

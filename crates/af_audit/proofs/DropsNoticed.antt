@@ -1,28 +1,9 @@
 -- Each drop of a server that looks by its list belongs to a flush that was noticed.
 use Rattle.std.proofs.Common.{◌≡◌, ◌≢◌, ◌⊎◌, inl, inr, ℕ, ◌+◌, ◌-◌, ◌==◌, ◌&&◌, ◌||◌, not, Bool, true, false, cond, if◌then◌else◌, is_some, MatchOption, Option, Some, None, List, [], ◌∷◌, ◌++◌, flat_map, refl, sym, ap, ◌∙◌, subst, append-nil, append_assoc, eqb-true, eq-eqb, arith}
-use Rattle.std.specs.List.{AllByRecursion}
-use Rattle.std.proofs.lemmas.Grind.{fold-append}
-use Rattle.af_base.proofs.Basics.{no}
-use Rattle.af_base.specs.declared.event.ServerEvent.{ServerEvent}
+use Rattle.af_audit.proofs.Common.{AllByRecursion, LegalTake, LegalTurn, Listed, LooksBy, NormalKept, Outside, Seen, ServerEvent, Setup, Shape, SlotEntry, TakeSeen, TrackKept, TracksRise, Turn, asked, both_first, both_right, cycle_events, drops_none, fold-append, invalid, is_home, is_noticed, keeps_all, kept, learnt, look_at, look_events, mix_events, no, nothing_from, server_begins, server_keeps, server_kept, stream_list, takes_from, tally_none, three, track_at, track_in}
 use Rattle.af_base.specs.declared.event.ServerEvent.TheVariants as server
-use Rattle.af_base.specs.declared.log.SlotEntry.{SlotEntry}
-use Rattle.af_base.specs.declared.seen.Seen.{Seen}
 use Rattle.af_base.specs.declared.seen.Seen.TheVariants as seen
-use Rattle.af_base.specs.Turn.{Turn, TakeSeen}
-use Rattle.af_judge.proofs.Basics.{nothing_from, tally_none}
-use Rattle.af_life.specs.declared.kept.TrackKept.{TrackKept}
-use Rattle.af_life.specs.Heard.{learnt}
-use Rattle.af_life.specs.Kept.{Setup, asked, NormalKept, Outside, track_at, track_in, is_home}
-use Rattle.af_life.specs.Plays.{LegalTake}
-use Rattle.af_life.specs.Turn.{LegalTurn}
-use Rattle.af_life.specs.TurnEvents.{invalid, mix_events, stream_list, takes_from}
-use Rattle.af_model.proofs.Basics.{both_first, three}
-use Rattle.af_model.specs.declared.shape.Shape.{Shape}
-use Rattle.af_model.specs.Cycles.{Listed, LooksBy, after_look, cycle_events, kept}
-use Rattle.af_model.specs.Fates.{keeps_all, drops_none}
-use Rattle.af_model.specs.JournalForm.{TracksRise}
-use Rattle.af_model.specs.ServerCalls.{server_begins, server_keeps, server_kept, look_at, look_events, is_noticed}
-use Rattle.af_model.proofs.Logic.{both_right}
+use Rattle.af_model.specs.Cycles.{after_look}
 use Rattle.af_audit.specs.Fates.{DropsByFlush, ComesByFlush}
 
 -- ## More events
@@ -37,15 +18,7 @@ drops_more k xs ys h g = drops_join k [] xs ys h g
 
 may_keep : (k : Shape) (before : List ServerEvent) (e : ServerEvent) → keeps_all e ≡ true → ComesByFlush k before e
 may_keep k before (server.Drop to) h = no h
-may_keep k before (server.SawGain word) h = tt
-may_keep k before (server.SawFlush flush) h = tt
-may_keep k before (server.SawRear rear) h = tt
-may_keep k before (server.SawFront front) h = tt
-may_keep k before (server.Take count) h = tt
-may_keep k before (server.Tally missing) h = tt
-may_keep k before (server.SetFlags bits) h = tt
-may_keep k before (server.SetStatus word) h = tt
-may_keep k before (server.Learn count) h = tt
+may_keep k before _ h = tt
 
 -- events without a drop need no flush
 pub none_dropped : (k : Shape) (before es : List ServerEvent) → drops_none es ≡ true → DropsByFlush k before es

@@ -1,13 +1,7 @@
 -- The first entries of a round that name states pushed before it.
-use Rattle.std.specs.Prelude.{nat_le}
-use Rattle.std.specs.List.{prefix_len}
 use Rattle.std.proofs.Common.{◌≡◌, ◌⊎◌, inl, inr, ℕ, ◌+◌, ◌<◌, ◌≤◌, Bool, true, false, List, length, take, drop, get_or, sym, ap, ◌∙◌, arith}
-use Rattle.std.proofs.lemmas.Bool.{cases_eq}
-use Rattle.std.proofs.lemmas.Bool.Decides.{nat_tests}
-use Rattle.std.proofs.lemmas.List.{get_or-drop, get_or-take, length-drop, length-take-le}
+use Rattle.af_audit.proofs.Common.{CycleEntry, cases_eq, entry_at, get_or-drop, get_or-take, length-drop, length-take-le, nat_le, nat_tests, no_entry, prefix_len}
 use Rattle.std.proofs.lemmas.List.Sums.{prefix_len-le-length, prefix_len_passes, prefix_len_stops}
-use Rattle.af_base.specs.declared.log.CycleEntry.{CycleEntry}
-use Rattle.af_base.specs.Log.{entry_at, no_entry}
 
 module _ (log : List CycleEntry) (first count pushed : ℕ) (inside : first + count ≤ length log) where
   -- the entries of the round

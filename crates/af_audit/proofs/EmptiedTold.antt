@@ -1,29 +1,8 @@
 -- By the end of a legal run all that the normal mixer put into the pipe was taken: an Exit comes into its draft only if it sees the whole room, and from then on it puts nothing.
 use Rattle.std.proofs.Common.{◌≡◌, ℕ, ◌*◌, ◌<◌, ◌≤◌, Bool, true, false, if◌then◌else◌, map, List, [], ◌∷◌, ◌++◌, length, take, Option, Some, None, refl, sym, ap, ◌∙◌, subst, append_assoc, append-nil, arith}
-use Rattle.std.proofs.Math.Nat.{mul-le-mul}
-use Rattle.std.proofs.lemmas.List.{take_all}
-use Rattle.af_base.specs.declared.event.ClientEvent.{ClientEvent}
+use Rattle.af_audit.proofs.Common.{ClientEvent, Frame, HasPipeTold, IsLegalRun, IsScript, JournalData, LegalRound, LegalRounds, Marks, RoundSeen, Run, ScriptData, Session, TakeSeen, Turn, after_round, ends_pipe, is_exit, marks_of, met_after, mul-le-mul, new_run, ones, packed_word, pipe_cells, pipe_size, put_by, releases_of, run_from, session_of, setup_of, take_all, twos, wrapped}
 use Rattle.af_base.specs.declared.event.ClientEvent.TheVariants as client
-use Rattle.af_base.specs.declared.frame.Frame.{Frame}
-use Rattle.af_base.specs.Sample.{packed_word}
-use Rattle.af_base.specs.Turn.{TakeSeen, Turn}
-use Rattle.af_judge.proofs.Basics.{ends_pipe}
-use Rattle.af_life.specs.Edits.{is_exit}
-use Rattle.af_life.specs.Kept.{pipe_size}
-use Rattle.af_life.specs.Plays.{put_by}
 use Rattle.af_life.specs.TurnEvents.{front_by_room}
-use Rattle.af_model.specs.Journals.{JournalData, RoundSeen}
-use Rattle.af_model.specs.Order.{ones, twos}
-use Rattle.af_model.specs.PipeHistory.{releases_of}
-use Rattle.af_model.specs.Point.{wrapped}
-use Rattle.af_runs.specs.Blocks.{Marks}
-use Rattle.af_runs.specs.LegalRuns.{IsLegalRun, LegalRounds, marks_of, run_from, session_of}
-use Rattle.af_runs.specs.Rounds.{LegalRound, after_round, met_after}
-use Rattle.af_runs.specs.Runs.{Run, new_run, pipe_cells}
-use Rattle.af_runs.specs.Sessions.{Session, setup_of}
-use Rattle.af_runs.specs.Told.{HasPipeTold}
-use Rattle.af_script.specs.Data.{ScriptData}
-use Rattle.af_script.specs.Form.{IsScript}
 use Rattle.af_audit.specs.Emptied.{PipeIsEmptied}
 use Rattle.af_audit.proofs.FatesTold.{normal_ended}
 use Rattle.af_audit.proofs.MixerEnds.{EndsHome, new_ends}

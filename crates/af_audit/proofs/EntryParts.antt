@@ -1,12 +1,6 @@
 -- Both parts of the entries of a legal round are legal, those before the turn and those behind it.
-use Rattle.std.proofs.Common.{◌≡◌, ℕ, Bool, true, false, [], take, drop, sym, ap, subst}
-use Rattle.std.specs.Prelude.{MatchBool}
-use Rattle.std.specs.List.{prefix_len}
-use Rattle.af_model.specs.Journals.{RoundSeen}
-use Rattle.af_runs.specs.Blocks.{Marks}
-use Rattle.af_runs.specs.Rounds.{is_early, IsFastTurn, LegalEntries, early_of, late_of, after_turn}
-use Rattle.af_runs.specs.Runs.{Run, most_cycles, with_calls}
-use Rattle.af_runs.specs.Sessions.{Session}
+use Rattle.std.proofs.Common.{◌≡◌, Bool, true, false, [], take, drop, sym, ap, subst}
+use Rattle.af_audit.proofs.Common.{IsFastTurn, LegalEntries, Marks, MatchBool, RoundSeen, Run, Session, after_turn, early_of, is_early, late_of, most_cycles, prefix_len, with_calls}
 
 -- both parts of the entries are legal, also if there are no entries
 pub legal_parts : (b full : Bool) (s : Session) (marks : Marks) (run : Run) (round : RoundSeen) → MatchBool b (round.entries ≡ []) (IsFastTurn most_cycles full round.entries × LegalEntries s marks (with_calls round run) (early_of run round) × LegalEntries s marks (after_turn s run round) (late_of run round))

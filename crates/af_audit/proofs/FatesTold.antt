@@ -1,22 +1,9 @@
 -- By the end of a legal run each frame that the client of a track without a poke released has one fate.
-use Rattle.std.specs.List.{list_any}
 use Rattle.std.proofs.Common.{◌≡◌, ℕ, ◌+◌, ◌<◌, ◌==◌, nat_lt, Bool, true, false, if◌then◌else◌, List, [], ◌∷◌, ◌++◌, length, refl, sym, ap, ◌∙◌, subst, arith}
-use Rattle.std.proofs.lemmas.Bool.Decides.{nat_tests}
-use Rattle.std.proofs.lemmas.List.FromFn.{get_or-map-range_with_len, length-map-range_with_len}
-use Rattle.af_base.specs.declared.frame.Frame.{Frame}
-use Rattle.af_life.specs.Kept.{is_home, track_at}
-use Rattle.af_model.proofs.Basics.{both_first, not_true}
-use Rattle.af_model.specs.declared.shape.Shape.{Shape}
-use Rattle.af_model.specs.Journals.{JournalData, RoundSeen}
+use Rattle.af_audit.proofs.Common.{BlockTold, Frame, HasBlockHistory, IsLegalRun, JournalData, RoundSeen, Run, ScriptData, Session, Shape, TrackTold, all_ended, both_first, calls_in, fast_ended, file_words, get_or-map-range_with_len, is_home, is_lawful_block, is_poke_on, length-map-range_with_len, list_any, marks_of, nat_tests, new_block, new_run, new_track, no_track, normal_party, not_true, point, run_of, session_of, setup_of, spec_of, stream_shape, told_at, track_at, track_count}
 use Rattle.af_model.specs.Spans.{Span, mixed_by, spans_of, queued}
-use Rattle.af_model.specs.History.{point}
 use Rattle.af_model.proofs.Discards.{discards-before}
 use Rattle.af_model.proofs.OneFate.{one_fate, taken-mixed, mixed_in}
-use Rattle.af_runs.specs.Blocks.{BlockTold, HasBlockHistory, new_block}
-use Rattle.af_runs.specs.LegalRuns.{IsLegalRun, is_lawful_block, is_poke_on, marks_of, run_of, session_of}
-use Rattle.af_runs.specs.Runs.{Run, TrackTold, all_ended, calls_in, fast_ended, new_run, new_track, no_track, normal_party, told_at}
-use Rattle.af_runs.specs.Sessions.{Session, file_words, setup_of, spec_of, stream_shape, track_count}
-use Rattle.af_script.specs.Data.{ScriptData}
 use Rattle.af_audit.specs.Fates.{EachFrameHasOneFate, HasFates, recorded}
 use Rattle.af_audit.proofs.FileReleased.{Begins, begins_by_length, begins_none}
 use Rattle.af_audit.proofs.MixerEnds.{all_home, new_ends}

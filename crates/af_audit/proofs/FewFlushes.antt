@@ -1,21 +1,13 @@
 -- A client flushes no more often than it has ops.
-use Rattle.std.specs.Prelude.{MatchBool, bit_and}
 use Rattle.std.proofs.Common.{◌≡◌, ℕ, ◌+◌, ◌-◌, ◌≤◌, ◌==◌, ◌&&◌, ◌||◌, nat_le, not, Bool, true, false, if◌then◌else◌, is_some, fold, List, [], ◌∷◌, length, Option, Some, None, refl, sym, ap, arith}
-use Rattle.af_base.proofs.Basics.{no}
-use Rattle.af_base.specs.declared.event.ClientCall.{ClientCall}
+use Rattle.af_audit.proofs.Common.{AreCalls, Client, ClientCall, ClientCommand, IsMade, IsWanted, LegalClientTurn, MatchBool, Op, Track, Want, after_answer, after_call, after_calls, after_clear, after_put, after_send, after_sent, after_status, after_write, answered, at_next_turn, begins, begun, bit_and, client_call_events, client_events_of, client_kept, commands_sent, ends, flushes-append, flushes_of, is_active, is_flush, is_last, is_of_commands, is_stoppable, is_stopped, mode_after, more, most_calls, no, released_by, rest_of, rested, settled_in, state_in, waits, wanted_of, wants_of, with_call}
 use Rattle.af_base.specs.declared.event.ClientCall.TheVariants as call
-use Rattle.af_model.proofs.Basics.{flushes-append}
-use Rattle.af_model.specs.History.{flushes_of}
-use Rattle.af_model.specs.ClientCalls.{client_call_events, client_events_of, client_kept}
-use Rattle.af_script.specs.declared.op.Op.{Op}
 use Rattle.af_script.specs.declared.op.Op.TheVariants as op
-use Rattle.af_runs.specs.declared.want.ClientCommand.{ClientCommand}
 use Rattle.af_runs.specs.declared.want.ClientCommand.TheVariants as command
 use Rattle.af_runs.specs.declared.want.Mode.{Mode}
-use Rattle.af_runs.specs.declared.want.Want.{Want}
 use Rattle.af_runs.specs.declared.want.Want.TheVariants as want
-use Rattle.af_runs.specs.Clients.{Client, after_answer, after_clear, after_put, after_send, after_sent, after_status, after_write, at_next_turn, begins, begun, ends, goes_on, is_active, is_last, is_stoppable, is_stopped, mode_after, more, rest_of, rested, settled_in, state_in, waits, wants_of}
-use Rattle.af_runs.specs.ClientTurns.{AreCalls, IsMade, IsWanted, LegalClientTurn, Track, after_call, after_calls, answered, called, commands_sent, is_flush, is_of_commands, most_calls, released_by, wanted_of, with_call}
+use Rattle.af_runs.specs.Clients.{goes_on}
+use Rattle.af_runs.specs.ClientTurns.{called}
 use Rattle.af_judge.proofs.WantedNext.{first_due}
 
 -- ## What is still to be done
@@ -40,17 +32,12 @@ only_few false wants h = omega arith
 
 -- an op asks for one flush at most
 op_few : (m : Mode) (o : Op) → flushes_due (wants_of m o) ≤ 1
-op_few m op.OpenTrack = omega arith
 op_few m op.Start = only_few (not (is_active m)) (want.Send command.Start ∷ want.Settled ∷ []) (omega arith)
 op_few m op.Pause = only_few (is_active m) (want.Send command.Pause ∷ []) (omega arith)
 op_few m op.Stop = only_few (is_stoppable m) (want.Send command.Stop ∷ []) (omega arith)
 op_few m op.Flush = only_few (not (is_active m)) (want.Flush ∷ want.Send command.Flush ∷ []) (omega arith)
 op_few m op.Drain = only_few (is_stopped m) (want.Drained ∷ []) (omega arith)
-op_few m op.Remove = omega arith
-op_few m op.Yield = omega arith
-op_few m (op.Gain left right) = omega arith
-op_few m (op.Write count) = omega arith
-op_few m (op.Poke in_command word value) = omega arith
+op_few m _ = omega arith
 
 begins_few : (c : Client) (wants : List Want) (ops : List Op) → flushes_left (begins c wants ops) ≤ flushes_due wants + length ops
 begins_few c (w ∷ wants) ops = omega arith
@@ -80,18 +67,7 @@ module _ (wants : List Want) (c : Client) (low : flushes_due wants ≤ flushes_d
 
   send_few : (sending : ClientCommand) (answer : ClientCall) → flushes_left (after_send sending wants c answer) ≤ flushes_left c
   send_few sending (call.Sent front code argument) = sent_few sending
-  send_few sending (call.SendFull front) = omega arith
-  send_few sending (call.Put front count) = omega arith
-  send_few sending (call.Full front) = omega arith
-  send_few sending (call.Dead flags) = omega arith
-  send_few sending (call.Corrupt front rear) = omega arith
-  send_few sending (call.Cleared flags) = omega arith
-  send_few sending (call.Flush count) = omega arith
-  send_few sending (call.Gain word) = omega arith
-  send_few sending (call.SendDead flags) = omega arith
-  send_few sending (call.SendCorrupt front rear) = omega arith
-  send_few sending (call.Status word) = omega arith
-  send_few sending (call.Poke in_command word value) = omega arith
+  send_few sending _ = omega arith
 
   status_few : (stop : Bool) (commands : ℕ) (answer : ClientCall) → flushes_left (after_status stop commands wants c answer) ≤ flushes_left c
   status_few stop commands (call.Status word) = if_few (state_in word == 15) (ends c) _ (flushes_left c) (omega arith)
@@ -118,18 +94,7 @@ module _ (wants : List Want) (c : Client) (low : flushes_due wants ≤ flushes_d
 
   write_few : (asked : ℕ) (answer : ClientCall) → flushes_left (after_write asked wants c answer) ≤ flushes_left c
   write_few asked (call.Put front count) = put_few (asked - count)
-  write_few asked (call.Full front) = omega arith
-  write_few asked (call.Sent front code argument) = omega arith
-  write_few asked (call.SendFull front) = omega arith
-  write_few asked (call.Dead flags) = omega arith
-  write_few asked (call.Corrupt front rear) = omega arith
-  write_few asked (call.Cleared flags) = omega arith
-  write_few asked (call.Flush count) = omega arith
-  write_few asked (call.Gain word) = omega arith
-  write_few asked (call.SendDead flags) = omega arith
-  write_few asked (call.SendCorrupt front rear) = omega arith
-  write_few asked (call.Status word) = omega arith
-  write_few asked (call.Poke in_command word value) = omega arith
+  write_few asked _ = omega arith
 
   clear_few : (answer : ClientCall) → flushes_left (after_clear wants c answer) ≤ flushes_left c
   clear_few (call.Cleared flags) = by_flag (bit_and flags 8 == 0)
@@ -160,11 +125,7 @@ answer_few commands w rest c answer is = by_want w (ap flushes_due is)
     by_want want.Drained e = let a = status_few rest c (omega (arith, e)) true commands answer in omega (arith, a)
     by_want (want.Write asked) e = let a = write_few rest c (omega (arith, e)) asked answer in omega (arith, a)
     by_want want.Clear e = let a = clear_few rest c (omega (arith, e)) answer in omega (arith, a)
-    by_want want.Leave e = omega (arith, e)
-    by_want want.Flush e = omega (arith, e)
-    by_want (want.Gain left right) e = omega (arith, e)
-    by_want (want.Poke in_command word value) e = omega (arith, e)
-    by_want want.Rest e = omega (arith, e)
+    by_want _ e = omega (arith, e)
 
 -- ## A call
 
@@ -205,15 +166,10 @@ wanted_flush t w (call.SendCorrupt front rear) is = omega arith
 wanted_flush t w (call.Status word) is = omega arith
 wanted_flush t w (call.Poke in_command word value) is = omega arith
 wanted_flush t want.Flush (call.Flush count) is = omega arith
-wanted_flush t (want.Send sending) (call.Flush count) is = no is
-wanted_flush t want.Settled (call.Flush count) is = no is
-wanted_flush t want.Drained (call.Flush count) is = no is
 wanted_flush t (want.Gain left right) (call.Flush count) is = no (sym (ap is_flush is))
-wanted_flush t (want.Write asked) (call.Flush count) is = no is
-wanted_flush t want.Clear (call.Flush count) is = no is
 wanted_flush t (want.Poke in_command word value) (call.Flush count) is = no (sym (ap is_flush is))
 wanted_flush t want.Rest (call.Flush count) is = absurd is
-wanted_flush t want.Leave (call.Flush count) is = no is
+wanted_flush t _ (call.Flush count) is = no is
 
 -- the flushes of a client, with those that are left
 abbrev pub all_flushes : Track → ℕ
@@ -250,15 +206,7 @@ calls_few left t (answer ∷ calls) made = let a = call_few t made.1 answer made
 rested_few : (wants : List Want) → flushes_due (rested wants) ≤ flushes_due wants
 rested_few [] = omega arith
 rested_few (want.Rest ∷ wants) = omega arith
-rested_few (want.Send sending ∷ wants) = omega arith
-rested_few (want.Settled ∷ wants) = omega arith
-rested_few (want.Drained ∷ wants) = omega arith
-rested_few (want.Flush ∷ wants) = omega arith
-rested_few (want.Gain left right ∷ wants) = omega arith
-rested_few (want.Write asked ∷ wants) = omega arith
-rested_few (want.Clear ∷ wants) = omega arith
-rested_few (want.Poke in_command word value ∷ wants) = omega arith
-rested_few (want.Leave ∷ wants) = omega arith
+rested_few _ = omega arith
 
 next_few : (cut : Bool) (c : Client) → flushes_left (at_next_turn cut c) ≤ flushes_left c
 next_few cut c = let a = begun_few c in let b = rested_few (begun c).due in if_few (c.waiting || c.ended || cut) (record c { waiting = false }) (record (begun c) { due = rested (begun c).due }) (flushes_left c) (omega arith) (omega (arith, a, b))

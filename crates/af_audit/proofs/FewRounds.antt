@@ -1,31 +1,7 @@
 -- Through the legal rounds of a run a client flushes no more often than it has ops.
 use Rattle.std.proofs.Common.{◌≡◌, ℕ, ◌+◌, ◌<◌, ◌≤◌, Bool, true, false, if◌then◌else◌, List, [], ◌∷◌, length, Option, Some, None, refl, ap, ◌∙◌, arith}
+use Rattle.af_audit.proofs.Common.{BlockTold, EntrySeen, FastState, HandEvent, LegalClientTurn, LegalRound, LegalRounds, Marks, NormalKept, Outside, RoundSeen, Run, ServerEvent, Session, Setup, TrackTold, Turn, TurnFound, after_round, after_turn, all_played, before_turn, called, calls_in, client_list, cycle_events, cycle_frames, each_long, each_track, early_of, ends, entry_slot, flushes-append, flushes_of, found_in, front_of, hand-client, hand_does, hand_list, late_of, learnt, listed, loaded, met, met_after, met_at, met_many, mixed_track, outside_of, played, run_from, server-client, server_does, server_list, setup_of, sides_called, sides_of, slot_for, state_for, stream_list, stream_met, takes_part, told_at, told_each, track_count, tracks_at, turned, turned_track, with_calls, with_cycle, with_cycles, with_ends, with_load, with_mix, with_poll, with_turn}
 use Rattle.af_base.specs.declared.event.ClientEvent.TheVariants as client
-use Rattle.af_base.specs.declared.event.HandEvent.{HandEvent}
-use Rattle.af_base.specs.declared.event.ServerEvent.{ServerEvent}
-use Rattle.af_base.specs.declared.state.FastState.{FastState}
-use Rattle.af_base.specs.Log.{entry_slot}
-use Rattle.af_base.specs.Turn.{Turn}
-use Rattle.af_judge.proofs.Basics.{each_long, met_many, told_each}
-use Rattle.af_life.specs.Heard.{learnt}
-use Rattle.af_life.specs.Kept.{NormalKept, Outside, Setup}
-use Rattle.af_life.specs.TurnEvents.{hand_list, stream_list, tracks_at}
-use Rattle.af_model.proofs.Basics.{flushes-append}
-use Rattle.af_model.specs.Cycles.{cycle_events}
-use Rattle.af_model.specs.History.{flushes_of}
-use Rattle.af_model.specs.Journals.{EntrySeen, RoundSeen}
-use Rattle.af_runs.specs.Blocks.{BlockTold, Marks, client_list, hand_does, listed, server_does, server_list}
-use Rattle.af_runs.specs.Clients.{ends}
-use Rattle.af_runs.specs.ClientTurns.{LegalClientTurn}
-use Rattle.af_runs.specs.Found.{TurnFound, outside_of}
-use Rattle.af_runs.specs.Fronts.{front_of}
-use Rattle.af_runs.specs.LegalRuns.{LegalRounds, run_from}
-use Rattle.af_runs.specs.Rounds.{LegalRound, after_round, after_turn, all_played, before_turn, early_of, found_in, late_of, loaded, met_after, turned}
-use Rattle.af_runs.specs.Runs.{Run, TrackTold, called, calls_in, each_track, mixed_track, met, played, sides_of, slot_for, state_for, stream_met, takes_part, told_at, turned_track, with_calls, with_cycle, with_cycles, with_ends, with_load, with_mix, with_poll, with_turn}
-use Rattle.af_runs.specs.Sessions.{Session, cycle_frames, setup_of, track_count}
-use Rattle.af_judge.proofs.BlocksMeet.{met_at}
-use Rattle.af_judge.proofs.BlocksTold.{hand-client, server-client}
-use Rattle.af_judge.proofs.TracksTold.{sides_called}
 use Rattle.af_audit.proofs.FewFlushes.{all_flushes, flushes_left, turn_few}
 
 -- ## A track

@@ -1,14 +1,8 @@
 -- What a client does to its stream block: it releases the frames of its file from the first on, and if none of its calls pokes the block its list has no poke.
 use Rattle.std.proofs.Common.{◌≡◌, ℕ, zero, suc, ◌+◌, Bool, true, false, if◌then◌else◌, is_some, fold, List, [], ◌∷◌, ◌++◌, take, drop, length, refl, sym, ap, ◌∙◌, subst, append-nil, take-add}
-use Rattle.std.specs.List.{list_any}
-use Rattle.af_base.proofs.Basics.{neither, no}
-use Rattle.af_base.specs.declared.event.ClientCall.{ClientCall}
+use Rattle.af_audit.proofs.Common.{ClientCall, Track, after_call, after_calls, both_lawful, client_call_events, client_events_of, client_kept, is_lawful, is_of_commands, is_poke_on, list_any, neither, no, released_by}
 use Rattle.af_base.specs.declared.event.ClientCall.TheVariants as call
-use Rattle.af_model.proofs.Basics.{both_lawful}
-use Rattle.af_model.specs.ClientCalls.{client_call_events, client_events_of, client_kept}
-use Rattle.af_model.specs.History.{is_lawful}
-use Rattle.af_runs.specs.ClientTurns.{Track, after_call, after_calls, called, is_of_commands, released_by}
-use Rattle.af_runs.specs.LegalRuns.{is_poke_on}
+use Rattle.af_runs.specs.ClientTurns.{called}
 
 -- ## The first words of a file
 
@@ -66,17 +60,7 @@ still t b = subst (Begins t.file) (sym (append-nil t.stream.released)) b
 call_begins : (t : Track) (answer : ClientCall) → is_of_commands answer ≡ false → Begins t.file t.stream.released → Begins t.file (t.stream.released ++ released_by t answer)
 call_begins t (call.Put front count) stream b = record { count = length t.stream.released + count; is = begins_more t.file t.stream.released count (begins_by_length t.file t.stream.released b) }
 call_begins t (call.Sent front code argument) stream b = no (sym stream)
-call_begins t (call.Full front) stream b = still t b
-call_begins t (call.Dead flags) stream b = still t b
-call_begins t (call.Corrupt front rear) stream b = still t b
-call_begins t (call.Cleared flags) stream b = still t b
-call_begins t (call.Flush count) stream b = still t b
-call_begins t (call.Gain word) stream b = still t b
-call_begins t (call.SendFull front) stream b = still t b
-call_begins t (call.SendDead flags) stream b = still t b
-call_begins t (call.SendCorrupt front rear) stream b = still t b
-call_begins t (call.Status word) stream b = still t b
-call_begins t (call.Poke in_command word value) stream b = still t b
+call_begins t _ stream b = still t b
 
 after_one : (t : Track) (answer : ClientCall) → is_poke_on false answer ≡ false → IsFromFile t → IsFromFile (after_call t answer)
 after_one t answer calm h = by_side (is_of_commands answer) refl

@@ -1,14 +1,6 @@
 -- The first fault of a journal, by what is found of its rounds one after the other.
 use Rattle.std.proofs.Common.{◌≡◌, Bool, true, false, ℕ, zero, suc, ◌+◌, ◌<◌, ◌≤◌, List, [], ◌∷◌, ◌++◌, append-nil, length, take, drop, Option, Some, None, arith, refl, sym, ap, subst, ◌∙◌}
-use Rattle.std.specs.Prelude.{is_none, slice_index_or}
-use Rattle.af_model.specs.Journals.{RoundSeen, no_round}
-use Rattle.af_runs.specs.Blocks.{Marks}
-use Rattle.af_runs.specs.LegalRuns.{run_from}
-use Rattle.af_runs.specs.Rounds.{after_round}
-use Rattle.af_runs.specs.Runs.{Run, all_ended, fast_party, has_ended, new_run}
-use Rattle.af_runs.specs.Sessions.{Session}
-use Rattle.af_judge.specs.declared.track_judge.TrackJudge.{TrackJudge}
-use Rattle.af_life.specs.Kept.{NormalKept}
+use Rattle.af_audit.proofs.Common.{Marks, NormalKept, RoundSeen, Run, Session, TrackJudge, after_round, all_ended, fast_party, has_ended, is_none, new_run, no_round, run_from, slice_index_or}
 use Rattle.af_audit.specs.declared.run_judge.RunJudge.{RunJudge}
 use Rattle.af_audit.specs.RunKept.{FindsFault, FindsUnclear, LeastBelow, at_end, party_ended, run_before}
 use Rattle.af_audit.specs.Verdicts.{AllBefore, AllClear, AreClear, IsClear, IsFirstFault}

@@ -1,8 +1,6 @@
 -- The first number of a range that passes a test.
-use Rattle.std.specs.List.{range_with_len}
-use Rattle.std.specs.Prelude.{find, unwrap_or}
 use Rattle.std.proofs.Common.{◌≡◌, ℕ, zero, suc, ◌+◌, ◌<◌, ◌≤◌, Bool, true, false, if◌then◌else◌, is_some, Option, Some, None, refl, sym, ap, ◌∙◌, subst, arith}
-use Rattle.af_base.proofs.Basics.{no}
+use Rattle.af_audit.proofs.Common.{find, no, range_with_len, unwrap_or}
 
 -- a number that is found passes, and lies in the range
 pub record FoundAt (p : ℕ → Bool) (a n k : ℕ) : Type 0 where

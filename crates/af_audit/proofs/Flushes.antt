@@ -1,21 +1,9 @@
 -- In a history the server's looks see ever more flushes: each look that notices a new flush saw more than any before it.
 use Rattle.std.proofs.Common.{◌≡◌, ◌≢◌, ℕ, ◌+◌, ◌*◌, ◌/◌, ◌%◌, ◌<◌, ◌≤◌, ◌==◌, if◌then◌else◌, Bool, true, false, List, [], ◌∷◌, ◌++◌, refl, sym, ap, ◌∙◌, subst, arith, eqb-true}
-use Rattle.std.proofs.lemmas.Grind.{fold-append}
-use Rattle.std.proofs.lemmas.Nat.{div-mul-add}
-use Rattle.std.proofs.Math.Nat.{mul-le-mul_left, mod-lt, mod-eq_of_lt}
-use Rattle.af_base.proofs.Basics.{positive_is}
-use Rattle.af_base.specs.declared.event.ClientEvent.{ClientEvent}
+use Rattle.af_audit.proofs.Common.{ClientEvent, HandEvent, IsLegal, Moment, ServerEvent, ServerKept, ServerMay, Shape, TrackPoint, after, after_client, after_hand, after_server, by_client, by_hand, by_server, div-mul-add, flush_number, flushes_by, fold-append, hand_flush, mod-eq_of_lt, mod-lt, mul-le-mul_left, no_flush, none_as, positive_is, server_begins, server_keeps, server_kept, server_of, start, wrapped}
 use Rattle.af_base.specs.declared.event.ClientEvent.TheVariants as client
-use Rattle.af_base.specs.declared.event.ServerEvent.{ServerEvent}
 use Rattle.af_base.specs.declared.event.ServerEvent.TheVariants as server
-use Rattle.af_base.specs.declared.event.HandEvent.{HandEvent}
 use Rattle.af_base.specs.declared.event.HandEvent.TheVariants as hand
-use Rattle.af_model.proofs.Basics.{hand_flush, no_flush, none_as}
-use Rattle.af_model.specs.declared.point.TrackPoint.{TrackPoint}
-use Rattle.af_model.specs.declared.shape.Shape.{Shape}
-use Rattle.af_model.specs.Point.{wrapped, start, flush_number, ServerMay, after_client, after_server, after_hand}
-use Rattle.af_model.specs.History.{Moment, by_client, by_server, by_hand, server_of, after, IsLegal}
-use Rattle.af_model.specs.ServerCalls.{ServerKept, server_begins, server_keeps, server_kept, flushes_by}
 use Rattle.af_audit.specs.Known.{sees_more, most_seen}
 
 -- ## Flush words
@@ -47,11 +35,7 @@ client_stands k p flush most (client.Release count) s = record { wrap_is = s.wra
 client_stands k p flush most client.Flush s = record { wrap_is = s.wrap_is; low = (let a = s.low in omega (arith, a)); word = s.word; same = (λ e. let a = s.low in absurd (omega (arith, a, e))); most_is = s.most_is }
 client_stands k p flush most (client.SetGain word) s = record { wrap_is = s.wrap_is; low = s.low; word = s.word; same = s.same; most_is = s.most_is }
 client_stands k p flush most (client.ClearFlags old) s = record { wrap_is = s.wrap_is; low = s.low; word = s.word; same = s.same; most_is = s.most_is }
-client_stands k p flush most (client.SawFlags flags) s = s
-client_stands k p flush most (client.SawFront front) s = s
-client_stands k p flush most (client.SawStatus word) s = s
-client_stands k p flush most (client.Poke word value) s = s
-client_stands k p flush most (client.Learn count) s = s
+client_stands k p flush most _ s = s
 
 hand_stands : (k : Shape) (p : TrackPoint) (flush most : ℕ) (e : HandEvent) → FlushesStand k p flush most → FlushesStand k (after_hand p e) flush most
 hand_stands k p flush most (hand.SetFlags bits) s = record { wrap_is = s.wrap_is; low = s.low; word = s.word; same = s.same; most_is = s.most_is }
@@ -60,14 +44,7 @@ hand_stands k p flush most (hand.Met count) s = s
 -- an event of a client takes no flushes back
 more_flushes : (p : TrackPoint) (e : ClientEvent) → p.flushes ≤ (after_client p e).flushes
 more_flushes p (client.Release count) = omega arith
-more_flushes p client.Flush = omega arith
-more_flushes p (client.SetGain word) = omega arith
-more_flushes p (client.ClearFlags old) = omega arith
-more_flushes p (client.SawFlags flags) = omega arith
-more_flushes p (client.SawFront front) = omega arith
-more_flushes p (client.SawStatus word) = omega arith
-more_flushes p (client.Poke word value) = omega arith
-more_flushes p (client.Learn count) = omega arith
+more_flushes p _ = omega arith
 
 pub flushes_rise : (p : TrackPoint) (late early : List Moment) → (after p early).flushes ≤ (after p (late ++ early)).flushes
 flushes_rise p [] early = omega arith

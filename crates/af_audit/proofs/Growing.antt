@@ -1,18 +1,6 @@
 -- What the lists of a run's servers show only grows from step to step of a run.
 use Rattle.std.proofs.Common.{◌≡◌, inl, inr, ℕ, ◌<◌, ◌≤◌, List, ◌++◌, length, Option, Some, None, refl, sym, ap, ◌∙◌, arith}
-use Rattle.std.proofs.lemmas.Bool.{cases_lt}
-use Rattle.std.proofs.lemmas.List.{get_or_past}
-use Rattle.af_base.specs.Turn.{Turn}
-use Rattle.af_judge.proofs.Basics.{each_long, met_many, server_append}
-use Rattle.af_model.specs.History.{server_of}
-use Rattle.af_model.specs.Journals.{EntrySeen, RoundSeen}
-use Rattle.af_runs.specs.Blocks.{server_list}
-use Rattle.af_runs.specs.Found.{TurnFound, outside_of}
-use Rattle.af_runs.specs.Rounds.{loaded, turned}
-use Rattle.af_runs.specs.Runs.{Run, TrackTold, called, calls_in, met, mixed_track, no_track, state_for, told_at, turned_track, with_calls, with_cycle, with_cycles, with_ends, with_load, with_mix, with_turn}
-use Rattle.af_runs.specs.Sessions.{Session, setup_of}
-use Rattle.af_judge.proofs.EntryTold.{cycle_beside}
-use Rattle.af_judge.proofs.EntriesFollow.{cycles_beside}
+use Rattle.af_audit.proofs.Common.{EntrySeen, RoundSeen, Run, Session, TrackTold, Turn, TurnFound, called, calls_in, cases_lt, cycle_beside, cycles_beside, each_long, get_or_past, loaded, met, met_many, mixed_track, no_track, outside_of, server_append, server_list, server_of, setup_of, state_for, told_at, turned, turned_track, with_calls, with_cycle, with_cycles, with_ends, with_load, with_mix, with_turn}
 use Rattle.af_audit.proofs.Grown.{RunGrows as TrackGrows, calls_grow, cycle_grows, cycles_grow, ends_grow, load_grows, meet_grows, mix_grows, run_none, run_twice, turn_grows}
 use Rattle.af_audit.proofs.SparedTold.{ends_many}
 use Rattle.af_audit.proofs.Measure.{Measure, of_run}

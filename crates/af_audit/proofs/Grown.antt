@@ -1,35 +1,9 @@
 -- What is recorded of a track's two blocks is never taken back: each step of a round adds to it.
-use Rattle.std.specs.List.{flat_map}
 use Rattle.std.proofs.Common.{◌≡◌, ℕ, ◌<◌, Bool, true, false, if◌then◌else◌, fold, map, List, [], ◌∷◌, ◌++◌, drop, length, Option, Some, None, refl, sym, ap, ◌∙◌, subst, arith, append_assoc}
-use Rattle.af_base.specs.declared.event.ClientCall.{ClientCall}
-use Rattle.af_base.specs.declared.event.ClientEvent.{ClientEvent}
+use Rattle.af_audit.proofs.Common.{BlockTold, ClientCall, ClientEvent, EntrySeen, FastState, HandEvent, Moment, NormalKept, Outside, RoundSeen, Run, ServerEvent, Session, Setup, TrackTold, Turn, TurnFound, after_calls, after_round, after_turn, all_played, before_turn, by_client, by_hand, by_server, called, calls_in, client_does, client_list, command_list, cycle_events, cycle_frames, each_long, each_track, early_of, ends, entry_slot, flat_map, found_in, front_of, going, hand_does, hand_list, late_of, learnt, listed, loaded, meets, meets_flag, met, met_after, met_at, met_many, mixed_track, outside_of, packed_word, played, run_from, server_does, server_list, setup_of, sides_of, slot_for, slot_frames, state_for, stream_list, stream_met, takes_from, takes_part, told_at, told_each, took, track_in, tracks_at, turned, turned_track, with_calls, with_cycle, with_cycles, with_ends, with_load, with_mix, with_poll, with_turn, words_taken}
 use Rattle.af_base.specs.declared.event.ClientEvent.TheVariants as client
-use Rattle.af_base.specs.declared.event.HandEvent.{HandEvent}
 use Rattle.af_base.specs.declared.event.HandEvent.TheVariants as hand
-use Rattle.af_base.specs.declared.event.ServerEvent.{ServerEvent}
 use Rattle.af_base.specs.declared.event.ServerEvent.TheVariants as server
-use Rattle.af_base.specs.declared.state.FastState.{FastState}
-use Rattle.af_base.specs.Log.{entry_slot}
-use Rattle.af_base.specs.Sample.{packed_word}
-use Rattle.af_base.specs.Turn.{Turn}
-use Rattle.af_judge.proofs.Basics.{each_long, met_many, told_each}
-use Rattle.af_life.specs.Heard.{learnt}
-use Rattle.af_life.specs.Kept.{NormalKept, Outside, Setup, track_in}
-use Rattle.af_life.specs.Looks.{words_taken}
-use Rattle.af_life.specs.TurnEvents.{command_list, going, hand_list, stream_list, takes_from, tracks_at}
-use Rattle.af_model.specs.Cycles.{cycle_events}
-use Rattle.af_model.specs.History.{Moment, by_client, by_server, by_hand}
-use Rattle.af_model.specs.Journals.{EntrySeen, RoundSeen, slot_frames}
-use Rattle.af_runs.specs.Blocks.{BlockTold, client_does, client_list, hand_does, listed, meets, meets_flag, server_does, server_list, took}
-use Rattle.af_runs.specs.Clients.{ends}
-use Rattle.af_runs.specs.ClientTurns.{after_calls}
-use Rattle.af_runs.specs.Found.{TurnFound, outside_of}
-use Rattle.af_runs.specs.Fronts.{front_of}
-use Rattle.af_runs.specs.LegalRuns.{run_from}
-use Rattle.af_runs.specs.Rounds.{after_round, after_turn, all_played, before_turn, early_of, found_in, late_of, loaded, met_after, turned}
-use Rattle.af_runs.specs.Runs.{Run, TrackTold, called, calls_in, each_track, mixed_track, met, played, sides_of, slot_for, state_for, stream_met, takes_part, told_at, turned_track, with_calls, with_cycle, with_cycles, with_ends, with_load, with_mix, with_poll, with_turn}
-use Rattle.af_runs.specs.Sessions.{Session, cycle_frames, setup_of}
-use Rattle.af_judge.proofs.BlocksMeet.{met_at}
 
 -- ## Blocks
 

@@ -1,29 +1,8 @@
 -- What a turn hears of a track's server is no more than the server's list shows once the round's turns were made.
 use Rattle.std.proofs.Common.{◌≡◌, ℕ, ◌<◌, ◌≤◌, ◌==◌, ◌&&◌, if◌then◌else◌, Bool, true, false, List, [], length, Option, Some, refl, sym, ap, ◌∙◌, subst, eqb-true, arith}
-use Rattle.af_base.specs.declared.report.SlotReport.{SlotReport}
-use Rattle.af_base.specs.declared.state.FastState.{FastState}
-use Rattle.af_base.specs.Turn.{Turn}
-use Rattle.af_life.specs.declared.kept.Heard.{Heard}
-use Rattle.af_life.specs.declared.kept.TrackKept.{TrackKept}
-use Rattle.af_life.specs.Edits.{after_ack}
-use Rattle.af_life.specs.Heard.{learnt, heard, heard_by, heard_at_home, heard_elsewhere, heard_with, slot_reported, counts_in, grown}
-use Rattle.af_life.specs.Kept.{Setup, NormalKept, Learnt, track_at, is_home, slot_number}
-use Rattle.af_life.specs.Sound.{IsSound}
-use Rattle.af_life.specs.TurnEvents.{tracks_at, stream_list}
-use Rattle.af_model.specs.JournalForm.{IsRound}
-use Rattle.af_model.specs.Journals.{RoundSeen}
-use Rattle.af_model.specs.StateQueue.{slot_of}
-use Rattle.af_runs.specs.Blocks.{Marks, listed}
-use Rattle.af_runs.specs.Found.{TurnFound, outside_of}
-use Rattle.af_runs.specs.Rounds.{LegalEntries, LegalRound, after_round, after_turn, all_played, before_turn, early_of, found_in, late_of, met_after, turned, fills}
-use Rattle.af_runs.specs.Runs.{Run, load_of, fast_ended, new_run, told_at, with_calls, with_cycles, with_turn}
-use Rattle.af_runs.specs.Sessions.{Session, setup_of, track_count}
-use Rattle.af_script.specs.Form.{IsScript}
-use Rattle.af_judge.proofs.EntriesFollow.{cycles_beside}
-use Rattle.af_judge.proofs.SoundSlots.{sound_served}
-use Rattle.af_judge.proofs.SoundTurns.{sound_acked}
-use Rattle.af_judge.proofs.StatesKept.{drafts_same}
-use Rattle.af_judge.proofs.StatesRuns.{calls_same as beside_calls, RunKept, kept_new, kept_after_turn, kept_before, kept_round, scales_of}
+use Rattle.af_audit.proofs.Common.{FastState, Heard, IsRound, IsScript, IsSound, Learnt, LegalEntries, LegalRound, Marks, NormalKept, RoundSeen, Run, RunKept, Session, Setup, SlotReport, TrackKept, Turn, TurnFound, after_ack, after_round, after_turn, all_played, before_turn, counts_in, cycles_beside, drafts_same, early_of, fast_ended, fills, found_in, heard, heard_at_home, heard_by, heard_elsewhere, heard_with, is_home, kept_after_turn, kept_before, kept_new, kept_round, late_of, learnt, listed, load_of, met_after, new_run, outside_of, scales_of, setup_of, slot_number, slot_of, slot_reported, sound_acked, sound_served, stream_list, told_at, track_at, track_count, tracks_at, turned, with_calls, with_cycles, with_turn}
+use Rattle.af_life.specs.Heard.{grown}
+use Rattle.af_judge.proofs.StatesRuns.{calls_same as beside_calls}
 use Rattle.af_audit.proofs.FatesTold.{new_there}
 use Rattle.af_audit.proofs.Attached.{attached_then}
 use Rattle.af_audit.proofs.Bounded.{report_bounded}

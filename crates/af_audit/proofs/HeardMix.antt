@@ -1,19 +1,9 @@
 -- The mix of the takes that are heard is that of all takes.
 use Rattle.std.proofs.Common.{◌≡◌, ℕ, zero, suc, ◌+◌, ◌<◌, ◌≤◌, ◌==◌, ℤ, pos, ◌+ℤ◌, ◌*ℤ◌, Bool, true, false, if◌then◌else◌, List, [], ◌∷◌, ◌++◌, All, length, map, take, drop, slice_index_or, refl, sym, ap, subst, ◌∙◌, length-take, arith}
+use Rattle.af_audit.proofs.Common.{All-cons, All-nil, CycleEntry, Frame, Part, Take, count_seen, entry_slot, eqb-true, frame_at, get_or-map, left_part, left_sum, length-map, mix, mixed_frame, mixed_sample, range_with_len, right_part, right_sample, right_sum, silent_right, slot_take, slots, take_of, takes_of}
 use Rattle.std.proofs.Math.IntN.{zero-*ℤ, +ℤ_idl}
-use Rattle.std.proofs.lemmas.Bool.{eqb-true}
-use Rattle.std.proofs.lemmas.List.{get_or-map, length-map}
-use Rattle.std.proofs.lemmas.List.Elements.{All-nil, All-cons}
-use Rattle.std.specs.List.{range_with_len}
-use Rattle.af_base.specs.declared.frame.Frame.{Frame}
-use Rattle.af_base.specs.declared.log.CycleEntry.{CycleEntry}
-use Rattle.af_base.specs.declared.plain.Part.{Part}
 use Rattle.af_base.specs.Gain.{left_half, right_half, gain_used}
-use Rattle.af_base.specs.Log.{slots, count_seen, entry_slot, slot_take, takes_of}
-use Rattle.af_base.specs.Mix.{Take, frame_at, right_sample, left_part, right_part, left_sum, right_sum, mixed_frame, mixed_sample, mix}
-use Rattle.af_base.specs.Part.{take_of}
 use Rattle.af_audit.specs.HeardTakes.{heard_takes}
-use Rattle.af_gain.proofs.Basics.{silent_right}
 
 module _ (frames : List Frame) (entry : CycleEntry) where
   abbrev count : ℕ → ℕ

@@ -1,14 +1,7 @@
 -- A journal alone is judged exactly: as that of a legal run, or as that of a cut one.
-use Rattle.std.specs.Prelude.{◌≡◌, ◌↔◌, ℕ, zero, suc, ◌<◌, Bool, true, false, IsTrue, List, [], ◌∷◌, length}
+use Rattle.std.specs.Prelude.{◌≡◌, ◌↔◌, ◌<◌, ◌∷◌}
 use Rattle.std.proofs.Common.{arith, subst, sym, true≢false}
-use Rattle.af_base.specs.declared.frame.Frame.{Frame}
-use Rattle.af_model.specs.Journals.{RoundSeen, JournalData}
-use Rattle.af_script.specs.Data.{ScriptData}
-use Rattle.af_runs.specs.Blocks.{Marks}
-use Rattle.af_runs.specs.LegalRuns.{IsCutRun, IsLegalRun, LegalRounds, marks_of, run_from, session_of}
-use Rattle.af_runs.specs.Rounds.{after_round}
-use Rattle.af_runs.specs.Runs.{Run, new_run}
-use Rattle.af_runs.specs.Sessions.{Session, track_count}
+use Rattle.af_audit.proofs.Common.{Bool, Frame, IsCutRun, IsLegalRun, IsTrue, JournalData, LegalRounds, List, Marks, RoundSeen, Run, ScriptData, Session, [], after_round, false, length, marks_of, new_run, run_from, session_of, suc, track_count, true, zero, ℕ}
 use Rattle.af_audit.specs.RunLaws.{MayBeJudged}
 use Rattle.af_audit.specs.Verdicts.{AllBefore, IsFirstFault, IsRun, MayEnd}
 use Rattle.af_audit.proofs.JudgedExactly.{round_clear, round_legal}

@@ -1,16 +1,8 @@
 -- The verdict is Legal exactly for a legal run and its PCM.
-use Rattle.std.specs.Prelude.{◌≡◌, ℕ, ◌<◌, ◌==◌, nat_lt, Bool, true, false, MatchBool, List, [], ◌∷◌, refl}
+use Rattle.std.specs.Prelude.{◌≡◌, ◌<◌, ◌==◌, ◌∷◌}
 use Rattle.std.proofs.Common.{arith, subst}
-use Rattle.af_base.proofs.Basics.{below_is, is_below, is_not_below, itself}
-use Rattle.af_base.specs.declared.frame.Frame.{Frame}
-use Rattle.af_model.specs.Journals.{RoundSeen, JournalData}
-use Rattle.af_script.specs.Data.{ScriptData}
-use Rattle.af_runs.specs.Blocks.{Marks}
-use Rattle.af_runs.specs.LegalRuns.{marks_of, session_of, run_from, LegalRounds}
-use Rattle.af_runs.specs.Rounds.{LegalRound, after_round}
+use Rattle.af_audit.proofs.Common.{Bool, Frame, JournalData, LegalRound, LegalRounds, List, Marks, MatchBool, RoundSeen, Run, ScriptData, Session, [], after_round, all_ended, below_is, false, fast_party, is_below, is_not_below, itself, marks_of, nat_lt, new_run, normal_party, refl, run_from, session_of, track_count, true, ℕ}
 use Rattle.af_audit.specs.RunLaws.{LegalExactly}
-use Rattle.af_runs.specs.Runs.{Run, new_run, normal_party, fast_party, all_ended}
-use Rattle.af_runs.specs.Sessions.{Session, track_count}
 use Rattle.af_audit.specs.Verdicts.{ClientIsClear, NormalIsClear, FastIsClear, IsClear, AreClear, AllClear}
 use Rattle.af_audit.proofs.Booleans.{one_more}
 

@@ -1,17 +1,8 @@
 -- What a status that a client saw rests on: it was stored by the server; and the flush count that a server's list shows was seen by one of its looks.
 use Rattle.std.proofs.Common.{◌≡◌, ◌⊎◌, inl, inr, ℕ, ◌/◌, ◌≤◌, ◌==◌, Bool, true, false, if◌then◌else◌, fold, List, [], ◌∷◌, ◌++◌, refl, sym, ap, ◌∙◌, subst, arith, append_assoc}
-use Rattle.std.proofs.Math.Nat.{zero-div}
-use Rattle.af_base.specs.declared.event.ClientEvent.{ClientEvent}
+use Rattle.af_audit.proofs.Common.{ClientEvent, HandEvent, HasHistory, IsLegal, Moment, ServerEvent, ServerKept, Shape, TrackPoint, after, after_server, by_client, by_hand, by_server, flushes_by, is_noticed, legal_cut, server_append, server_begins, server_keeps, server_kept, server_of, start, status_client, status_hand, zero-div}
 use Rattle.af_base.specs.declared.event.ClientEvent.TheVariants as client
-use Rattle.af_base.specs.declared.event.ServerEvent.{ServerEvent}
 use Rattle.af_base.specs.declared.event.ServerEvent.TheVariants as server
-use Rattle.af_base.specs.declared.event.HandEvent.{HandEvent}
-use Rattle.af_judge.proofs.Basics.{legal_cut, server_append, status_client, status_hand}
-use Rattle.af_model.specs.declared.point.TrackPoint.{TrackPoint}
-use Rattle.af_model.specs.declared.shape.Shape.{Shape}
-use Rattle.af_model.specs.Point.{start, after_server}
-use Rattle.af_model.specs.History.{HasHistory, IsLegal, Moment, by_client, by_server, by_hand, server_of, after}
-use Rattle.af_model.specs.ServerCalls.{ServerKept, flushes_by, is_noticed, server_begins, server_keeps, server_kept}
 use Rattle.af_audit.specs.Known.{sees_more, most_seen}
 use Rattle.af_audit.proofs.Drops.{client_cut}
 

@@ -1,19 +1,6 @@
 -- Entries that follow without the state that a turn pushes show no more of a track than they do with it.
 use Rattle.std.proofs.Common.{◌≡◌, ◌⊎◌, inl, inr, ℕ, ◌<◌, ◌≤◌, ◌==◌, ◌&&◌, Bool, true, ◌++◌, length, Option, Some, None, refl, sym, ap, ◌∙◌, subst, eqb-true, eq-eqb, arith}
-use Rattle.af_base.proofs.Basics.{both as both-true}
-use Rattle.af_base.specs.declared.state.FastState.{FastState}
-use Rattle.af_base.specs.declared.state.FastTrack.{FastTrack}
-use Rattle.af_base.specs.Log.{slots, entry_slot}
-use Rattle.af_judge.proofs.Basics.{told_each}
-use Rattle.af_model.specs.Cycles.{Listed, cycle_events}
-use Rattle.af_model.specs.Journals.{EntrySeen}
-use Rattle.af_model.specs.StateQueue.{slot_of, carries}
-use Rattle.af_runs.specs.Blocks.{BlockTold, listed}
-use Rattle.af_runs.specs.Fronts.{front_of, is_shown}
-use Rattle.af_runs.specs.Runs.{Run, TrackTold, told_at, state_for, slot_for, plays, played, mixed_track, with_poll, with_mix, with_cycle}
-use Rattle.af_runs.specs.Sessions.{Session, cycle_frames}
-use Rattle.af_judge.specs.Entries.{CarriesApart}
-use Rattle.af_judge.proofs.EntryTracks.{plays_track}
+use Rattle.af_audit.proofs.Common.{BlockTold, CarriesApart, EntrySeen, FastState, FastTrack, Listed, Run, Session, TrackTold, both as both-true, carries, cycle_events, cycle_frames, entry_slot, front_of, is_shown, listed, mixed_track, played, plays, plays_track, slot_for, slot_of, slots, state_for, told_at, told_each, with_cycle, with_mix, with_poll}
 use Rattle.af_audit.proofs.Growing.{grows_cycle, run_told}
 use Rattle.af_audit.proofs.TrackStands.{server-server}
 use Rattle.af_audit.proofs.Measure.{Measure, of_run, of_server}

@@ -1,29 +1,6 @@
 -- What the list of a track's server shows by the end of a round, if its entries follow without the turn.
 use Rattle.std.proofs.Common.{◌≡◌, inl, ℕ, suc, ◌+◌, ◌<◌, ◌≤◌, if◌then◌else◌, Bool, true, false, List, [], ◌∷◌, ◌++◌, length, drop, Some, refl, sym, ap, ◌∙◌, subst, append-nil, arith}
-use Rattle.std.specs.List.{prefix_len}
-use Rattle.std.proofs.lemmas.Grind.{fold-append}
-use Rattle.std.proofs.lemmas.List.{take-append-drop}
-use Rattle.af_base.proofs.Basics.{beyond_is}
-use Rattle.af_base.specs.declared.event.ServerEvent.{ServerEvent}
-use Rattle.af_base.specs.declared.state.FastState.{FastState}
-use Rattle.af_base.specs.Log.{slots}
-use Rattle.af_base.specs.Turn.{Turn}
-use Rattle.af_judge.proofs.Basics.{each_at}
-use Rattle.af_life.specs.Heard.{learnt}
-use Rattle.af_life.specs.Kept.{Setup, Outside}
-use Rattle.af_life.specs.Turn.{after_edits}
-use Rattle.af_life.specs.TurnEvents.{tracks_at, hand_list, stream_list}
-use Rattle.af_model.specs.Journals.{EntrySeen, RoundSeen}
-use Rattle.af_model.specs.StateQueue.{slot_of, carries}
-use Rattle.af_runs.specs.Blocks.{Marks, listed, server_list, hand_does}
-use Rattle.af_runs.specs.Found.{TurnFound, outside_of}
-use Rattle.af_runs.specs.Rounds.{LegalEntries, is_early, before_turn, early_count, early_of, late_of}
-use Rattle.af_runs.specs.Runs.{Run, TrackTold, no_track, told_at, turned_track, with_calls, with_cycles, with_poll, with_turn}
-use Rattle.af_runs.specs.Sessions.{Session, cycle_frames, setup_of}
-use Rattle.af_runs.specs.Told.{state_at, is_pushed}
-use Rattle.af_judge.specs.Entries.{CarriesApart}
-use Rattle.af_judge.specs.StatesKept.{SameSlots}
-use Rattle.af_judge.proofs.StatesKept.{at_last}
+use Rattle.af_audit.proofs.Common.{CarriesApart, EntrySeen, FastState, LegalEntries, Marks, Outside, RoundSeen, Run, SameSlots, ServerEvent, Session, Setup, TrackTold, Turn, TurnFound, after_edits, at_last, before_turn, beyond_is, carries, cycle_frames, each_at, early_count, early_of, fold-append, hand_does, hand_list, is_early, is_pushed, late_of, learnt, listed, no_track, outside_of, prefix_len, server_list, setup_of, slot_of, slots, state_at, stream_list, take-append-drop, told_at, tracks_at, turned_track, with_calls, with_cycles, with_poll, with_turn}
 use Rattle.af_audit.proofs.Growing.{run_told, grows_turned}
 use Rattle.af_audit.proofs.TrackStands.{hand-server, server-server}
 use Rattle.af_audit.proofs.Late.{Behind, behind_told}

@@ -1,26 +1,7 @@
 -- The entries of a state that a turn pushes, in a run with that state and in one without it.
 use Rattle.std.proofs.Common.{◌≡◌, ℕ, zero, suc, ◌+◌, ◌<◌, Bool, true, false, List, [], ◌∷◌, ◌++◌, length, Some, refl, sym, ap, ◌∙◌, length-append, arith}
-use Rattle.std.proofs.lemmas.List.{get_or-replicate}
-use Rattle.af_base.proofs.Basics.{no}
-use Rattle.af_base.specs.declared.log.CycleEntry.{CycleEntry}
-use Rattle.af_base.specs.declared.log.SlotEntry.{SlotEntry}
-use Rattle.af_base.specs.declared.state.FastState.{FastState}
-use Rattle.af_base.specs.Log.{absent, slots, entry_slot}
-use Rattle.af_life.specs.Kept.{NormalKept}
-use Rattle.af_model.proofs.Basics.{state_next as state_of-newest}
-use Rattle.af_model.specs.Cycles.{is_mixed, last_used, state_of}
-use Rattle.af_model.specs.Journals.{EntrySeen}
-use Rattle.af_model.specs.StateQueue.{slot_of, carries}
+use Rattle.af_audit.proofs.Common.{CarriesApart, CycleEntry, EntrySeen, FastState, LegalEntries, LegalEntry, Marks, NormalKept, Run, Session, SlotEntry, absent, carries, cycle_beside, cycle_entries, entry_slot, get_or-replicate, is_mixed, is_shown, last_used, no, polled_waits, slot_of, slots, state_for, state_known, state_next as state_of-newest, state_of, with_cycle, with_cycles, with_poll}
 use Rattle.af_model.proofs.UsedStates.{last_used-push}
-use Rattle.af_runs.proofs.Basics.{cycle_entries}
-use Rattle.af_runs.specs.Blocks.{Marks}
-use Rattle.af_runs.specs.Fronts.{is_shown}
-use Rattle.af_runs.specs.Rounds.{LegalEntries, LegalEntry}
-use Rattle.af_runs.specs.Runs.{Run, state_for, with_poll, with_cycle, with_cycles}
-use Rattle.af_runs.specs.Sessions.{Session}
-use Rattle.af_runs.proofs.StatesFor.{polled_waits, state_known}
-use Rattle.af_judge.specs.Entries.{CarriesApart}
-use Rattle.af_judge.proofs.EntryTold.{cycle_beside}
 use Rattle.af_audit.proofs.Late.{Behind, behind_cycle}
 use Rattle.af_audit.proofs.Measure.{Measure}
 

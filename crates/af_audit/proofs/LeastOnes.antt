@@ -1,15 +1,9 @@
 -- The least party at fault, by what is found of a round.
-use Rattle.std.proofs.Common.{◌≡◌, ℕ, suc, ◌+◌, ◌<◌, ◌≤◌, Bool, true, false, true≢false, List, [], ◌∷◌, nat_lt, if◌then◌else◌, unwrap_or, Option, Some, None, arith, refl, sym, ap, ◌∙◌}
-use Rattle.std.proofs.lemmas.Bool.Decides.{nat_tests}
+use Rattle.std.proofs.Common.{◌≡◌, ℕ, ◌+◌, ◌<◌, ◌≤◌, Bool, true, false, true≢false, List, [], ◌∷◌, nat_lt, if◌then◌else◌, unwrap_or, Option, Some, None, arith, refl, sym, ap, ◌∙◌}
+use Rattle.af_audit.proofs.Common.{Marks, RoundSeen, Run, Session, all_more, fast_party, has_ended, nat_tests}
 use Rattle.af_audit.specs.declared.run_judge.Found.{Found}
 use Rattle.af_audit.specs.RunKept.{FindsFaults, LeastBelow, least_found, least_mixer, least_party, lesser}
 use Rattle.af_audit.specs.Verdicts.{AreClear, IsClear, IsFirstFault, IsLeastWithout}
-use Rattle.af_base.proofs.Basics.{all_more}
-use Rattle.af_model.specs.Journals.{RoundSeen}
-use Rattle.af_runs.specs.Blocks.{Marks}
-use Rattle.af_runs.specs.Rounds.{after_round}
-use Rattle.af_runs.specs.Runs.{Run, fast_party, has_ended}
-use Rattle.af_runs.specs.Sessions.{Session}
 
 -- the least number below a bound is the least one up to the number before
 pub least_without : (Holds : ℕ → Type 0) (last i : ℕ) → LeastBelow Holds (last + 1) (Some i) → IsLeastWithout Holds last i
@@ -105,10 +99,6 @@ all_clear cut s marks run round h = λ party low. h party (omega (arith, low))
 -- a party found in the first round is the first fault
 pub fault_here : (cut : Bool) (s : Session) (marks : Marks) (run : Run) (round : RoundSeen) (rounds : List RoundSeen) (party : ℕ) → LeastBelow (IsClear cut s marks run round) (fast_party s + 1) (Some party) → IsFirstFault cut s marks run (round ∷ rounds) 0 party
 fault_here cut s marks run round rounds party h = least_without (IsClear cut s marks run round) (fast_party s) party h
-
--- a fault found later is the first one, if the first round is clear
-pub fault_later : (cut : Bool) (s : Session) (marks : Marks) (run : Run) (round : RoundSeen) (rounds : List RoundSeen) (number party : ℕ) → LeastBelow (IsClear cut s marks run round) (fast_party s + 1) None → IsFirstFault cut s marks (after_round s run round) rounds number party → IsFirstFault cut s marks run (round ∷ rounds) (suc number) party
-fault_later cut s marks run round rounds number party h rest = (all_clear cut s marks run round h, rest)
 
 -- after the last round the least party that hasn't ended is at fault
 pub fault_at_end : (cut : Bool) (s : Session) (marks : Marks) (run : Run) (party : ℕ) → LeastBelow (λ p. has_ended s run p ≡ true) (fast_party s + 1) (Some party) → IsFirstFault cut s marks run [] 0 party

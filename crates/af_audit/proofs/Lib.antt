@@ -1,3 +1,4 @@
+pub mod Common
 pub mod Basics
 pub mod Booleans
 pub mod FirstFound
@@ -41,8 +42,8 @@ pub mod RunStands
 pub mod TakenRecorded
 pub mod FatesTold
 pub mod EmptiedTold
-mod CallsUnshut
-mod LooksUnshut
+pub mod CallsUnshut
+pub mod LooksUnshut
 pub mod RearsSeen
 pub mod TrackUnshut
 mod RunUnshut

@@ -1,24 +1,9 @@
 -- If a server isn't shut after a look, it wasn't before it, and the look wasn't Shut. The front that a journal records is the one that was seen, if a look was Shut.
 use Rattle.std.proofs.Common.{◌≡◌, ℕ, ◌-◌, ◌^◌, ◌≤◌, ◌==◌, not, nat_lt, Bool, true, false, true≢false, if◌then◌else◌, is_some, fold, min, MatchOption, List, [], ◌∷◌, ◌++◌, Option, Some, None, refl, sym, ap, subst, ◌∙◌}
-use Rattle.std.specs.List.{list_all}
-use Rattle.std.proofs.lemmas.Grind.{fold-append}
-use Rattle.std.proofs.lemmas.Option.{none-some}
-use Rattle.af_base.proofs.Basics.{both_true}
-use Rattle.af_base.specs.declared.event.ServerEvent.{ServerEvent}
+use Rattle.af_audit.proofs.Common.{Alike, CommandLook, LegalLooks, Listed, LooksBy, Seen, ServerEvent, ServerKept, Shape, SlotEntry, ahead, all_command_events, as_slot, both_true, command_events, cycle_events, dropped_by, fold-append, front_of, fronts_by, is_noticed, is_shut, kept, kept_more, list_all, look_at, look_events, looks_alike, none-some, outside, server_keeps, server_kept, shows_command, step_alike, takes_command, tally}
 use Rattle.af_base.specs.declared.event.ServerEvent.TheVariants as server
-use Rattle.af_base.specs.declared.log.SlotEntry.{SlotEntry}
-use Rattle.af_base.specs.declared.seen.Seen.{Seen}
 use Rattle.af_base.specs.declared.seen.Seen.TheVariants as seen
-use Rattle.af_base.specs.declared.turn.CommandLook.{CommandLook}
-use Rattle.af_judge.proofs.LooksAnswer.{Alike, looks_alike, step_alike}
-use Rattle.af_life.specs.Looks.{LegalLooks, all_command_events, as_slot, command_events, takes_command}
-use Rattle.af_life.specs.Obeys.{is_shut, shows_command}
-use Rattle.af_model.proofs.Basics.{kept_more}
-use Rattle.af_model.specs.Cycles.{Listed, LooksBy, after_look, cycle_events, kept, tally}
-use Rattle.af_model.specs.Room.{ahead, outside}
-use Rattle.af_model.specs.ServerCalls.{ServerKept, dropped_by, is_noticed, look_at, look_events, server_keeps, server_kept}
-use Rattle.af_model.specs.declared.shape.Shape.{Shape}
-use Rattle.af_runs.specs.Fronts.{front_of, fronts_by}
+use Rattle.af_model.specs.Cycles.{after_look}
 
 -- ## Events
 
@@ -27,16 +12,13 @@ module _ (shape : Shape) where
   abbrev pub shut_after : ServerKept → List ServerEvent → Option (ℕ × ℕ)
   shut_after k events = (fold (server_keeps shape) k events).shut
 
-  shut_append : (k : ServerKept) (es more : List ServerEvent) → shut_after k (es ++ more) ≡ shut_after (fold (server_keeps shape) k es) more
+  pub shut_append : (k : ServerKept) (es more : List ServerEvent) → shut_after k (es ++ more) ≡ shut_after (fold (server_keeps shape) k es) more
   shut_append k es more = ap (λ (x : ServerKept). x.shut) (fold-append (server_keeps shape) k es more)
 
   -- what a look leaves: nothing shuts it if it noticed a flush, and else a front outside the room does
-  shut_by : (k : ServerKept) (answer : Seen) (flush rear front : ℕ) → shut_after k (look_events answer flush rear front) ≡ (if is_noticed shape (not (flush == k.flush)) rear front then None else outside shape.frames front rear)
+  pub shut_by : (k : ServerKept) (answer : Seen) (flush rear front : ℕ) → shut_after k (look_events answer flush rear front) ≡ (if is_noticed shape (not (flush == k.flush)) rear front then None else outside shape.frames front rear)
   shut_by k seen.Absent flush rear front = refl
-  shut_by k (seen.Flushed dropped) flush rear front = refl
-  shut_by k (seen.Shut f r) flush rear front = refl
-  shut_by k seen.Empty flush rear front = refl
-  shut_by k (seen.Frames count) flush rear front = refl
+  shut_by k _ flush rear front = refl
 
   -- events that look at no front
   abbrev pub Stay : List ServerEvent → Type 0
@@ -54,7 +36,7 @@ module _ (shape : Shape) where
   stay_shut false k = refl
 
   -- what follows a look looks at no front
-  stay_after : (asked : ℕ) (was : Bool) (answer : Seen) → Stay (after_look asked was answer)
+  pub stay_after : (asked : ℕ) (was : Bool) (answer : Seen) → Stay (after_look asked was answer)
   stay_after asked was seen.Absent k = refl
   stay_after asked was (seen.Flushed dropped) k = refl
   stay_after asked was (seen.Shut front rear) k = stay_shut was k
@@ -92,10 +74,7 @@ told_sight shape dropped asked rear front false false false = refl
 
 front_is : (asked : ℕ) (s : Listed) (slot : SlotEntry) (front : ℕ) (x : Seen) → slot.seen ≡ x → is_shut x ≡ true → told_by front x ≡ front → front_of asked s slot ≡ front
 front_is asked s slot front (seen.Shut f r) is shut same = ap (λ (y : Seen). front_of asked s (record slot { seen = y })) is ∙ same
-front_is asked s slot front seen.Absent is shut same = absurd (true≢false (sym shut))
-front_is asked s slot front (seen.Frames count) is shut same = absurd (true≢false (sym shut))
-front_is asked s slot front seen.Empty is shut same = absurd (true≢false (sym shut))
-front_is asked s slot front (seen.Flushed dropped) is shut same = absurd (true≢false (sym shut))
+front_is asked s slot front _ is shut same = absurd (true≢false (sym shut))
 
 module _ (asked : ℕ) (s : Listed) (slot : SlotEntry) (front : ℕ) (looks : LooksBy asked s slot front) where
   -- the front that is recorded
@@ -155,7 +134,7 @@ module _ (asked : ℕ) (s : Listed) (slot : SlotEntry) (front : ℕ) (looks : Lo
 
 -- ## The looks at a command block
 
-stay_taken : (shape : Shape) (look : CommandLook) → Stay shape (takes_command look)
+pub stay_taken : (shape : Shape) (look : CommandLook) → Stay shape (takes_command look)
 stay_taken shape look k = by_command (shows_command look.seen)
   where
     by_command : (b : Bool) → shut_after shape k (if b then server.Take 2 ∷ [] else []) ≡ k.shut

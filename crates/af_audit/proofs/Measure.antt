@@ -1,21 +1,7 @@
 -- A number that the list of a server gives, and that its reports and its mixer hear of: such as how much was consumed, or how many flushes were seen.
 use Rattle.std.proofs.Common.{◌≡◌, ℕ, ◌≤◌, List, ◌++◌}
-use Rattle.af_base.specs.declared.event.ServerEvent.{ServerEvent}
-use Rattle.af_base.specs.declared.report.Report.{Report}
-use Rattle.af_base.specs.declared.report.SlotReport.{SlotReport}
-use Rattle.af_base.specs.declared.seen.Seen.{Seen}
-use Rattle.af_base.specs.declared.state.FastState.{FastState}
+use Rattle.af_audit.proofs.Common.{FastState, Heard, Listed, Report, Run, Seen, ServerEvent, Shape, SlotReport, TrackKept, counted_look, heard_at_home, heard_with, known_by, known_of, listed, no_slot, nothing_heard, report_at, slot_of, told_at, track_at}
 use Rattle.af_life.specs.declared.kept.Counts.{Counts}
-use Rattle.af_life.specs.declared.kept.Heard.{Heard}
-use Rattle.af_life.specs.declared.kept.TrackKept.{TrackKept}
-use Rattle.af_life.specs.Heard.{heard_at_home, heard_with, known_by}
-use Rattle.af_life.specs.Kept.{nothing_heard, track_at}
-use Rattle.af_model.specs.declared.shape.Shape.{Shape}
-use Rattle.af_model.specs.Cycles.{Listed}
-use Rattle.af_model.specs.Reports.{counted_look, no_slot, report_at}
-use Rattle.af_model.specs.StateQueue.{slot_of}
-use Rattle.af_runs.specs.Blocks.{listed}
-use Rattle.af_runs.specs.Runs.{Run, known_of, told_at}
 
 -- the number by a list, by a slot of a report, and as a mixer hears it: a list only raises it, and neither a report nor a proxy gives more of it than its list
 pub record Measure : Type 0 where

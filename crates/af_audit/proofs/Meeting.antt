@@ -1,25 +1,10 @@
 -- A flush count that the server of a stream block had seen when its proxy met the client: by the end what the client released later is discarded only by looks that saw more flushes.
 use Rattle.std.proofs.Common.{◌≡◌, ℕ, ◌+◌, ◌<◌, ◌≤◌, Bool, true, false, if◌then◌else◌, List, [], ◌∷◌, ◌++◌, length, refl, sym, ap, ◌∙◌, subst, arith, append_assoc}
-use Rattle.std.proofs.lemmas.Grind.{fold-append}
-use Rattle.af_base.specs.declared.event.ClientEvent.{ClientEvent}
+use Rattle.af_audit.proofs.Common.{BlockTold, ClientEvent, ClientMay, HasBlockHistory, IsLegal, LegalRound, Marks, Moment, RoundSeen, Run, Session, Shape, TrackPoint, TrackTold, after, after_round, all_played, by_client, by_hand, by_server, client_append, client_list, client_of, each_track, ends, flushes_are, flushes_of, fold-append, is_lawful, lawful_first, lawful_more, meets, met, met_after, met_at, run_from, server_append, server_list, server_of, start, stream_met, takes_part, told_at, told_each, track_count, with_ends}
 use Rattle.af_base.specs.declared.event.ClientEvent.TheVariants as client
 use Rattle.af_base.specs.declared.event.HandEvent.TheVariants as hand
 use Rattle.af_base.specs.declared.event.ServerEvent.TheVariants as server
-use Rattle.af_judge.proofs.Basics.{client_append, server_append, told_each}
-use Rattle.af_model.proofs.Basics.{lawful_first}
-use Rattle.af_model.specs.declared.point.TrackPoint.{TrackPoint}
-use Rattle.af_model.specs.declared.shape.Shape.{Shape}
-use Rattle.af_model.specs.Point.{start, ClientMay}
-use Rattle.af_model.specs.History.{Moment, by_client, by_server, by_hand, client_of, server_of, after, flushes_of, is_tame, is_lawful, IsLegal}
-use Rattle.af_model.specs.Journals.{RoundSeen}
-use Rattle.af_model.proofs.Counts.{flushes_are, lawful_more}
-use Rattle.af_runs.specs.Blocks.{BlockTold, HasBlockHistory, Marks, client_list, meets, server_list}
-use Rattle.af_runs.specs.Clients.{ends}
-use Rattle.af_runs.specs.LegalRuns.{run_from}
-use Rattle.af_runs.specs.Rounds.{LegalRound, after_round, all_played, met_after}
-use Rattle.af_runs.specs.Runs.{Run, TrackTold, each_track, met, stream_met, takes_part, told_at, with_ends}
-use Rattle.af_runs.specs.Sessions.{Session, track_count}
-use Rattle.af_judge.proofs.BlocksMeet.{met_at}
+use Rattle.af_model.specs.History.{is_tame}
 use Rattle.af_audit.specs.Fates.{DropsByFlush}
 use Rattle.af_audit.specs.Known.{most_seen}
 use Rattle.af_audit.specs.Settled.{DiscardsAbove}
@@ -29,15 +14,8 @@ use Rattle.af_audit.proofs.Grown.{Grows, grows_twice, grows_none, ends_grow, mee
 -- ## No poke
 
 may_tame : (p : TrackPoint) (others : ℕ) (e : ClientEvent) → ClientMay p others e → is_tame e ≡ true
-may_tame p others (client.Release count) may = refl
-may_tame p others client.Flush may = refl
-may_tame p others (client.SetGain word) may = refl
-may_tame p others (client.ClearFlags old) may = refl
-may_tame p others (client.SawFlags flags) may = refl
-may_tame p others (client.SawFront front) may = refl
-may_tame p others (client.SawStatus word) may = refl
 may_tame p others (client.Poke word value) may = absurd may
-may_tame p others (client.Learn count) may = refl
+may_tame p others _ may = refl
 
 -- a legal order of moments has no poke
 legal_lawful : (p : TrackPoint) (order : List Moment) → IsLegal p order → is_lawful (client_of order) ≡ true

@@ -1,15 +1,9 @@
 -- The meetings of a round are judged one track after the other.
-use Rattle.std.proofs.Common.{◌≡◌, ◌↔◌, inl, inr, ℕ, ◌+◌, ◌<◌, ◌≤◌, Bool, true, false, true≢false, IsTrue, nat_lt, if◌then◌else◌, MatchBool, List, length, set, Option, Some, None, arith, refl, sym, subst, ◌∙◌}
-use Rattle.std.proofs.lemmas.Bool.{ltb-false, ltb-true}
-use Rattle.std.proofs.lemmas.List.{get_or-set_other, get_or-set_same, length-set}
-use Rattle.af_base.proofs.Basics.{below_or_at}
-use Rattle.af_judge.proofs.Basics.{same_track}
-use Rattle.af_judge.specs.declared.track_judge.TrackJudge.{TrackJudge}
-use Rattle.af_judge.specs.BlocksMet.{AreShort, BothKeep, blocks_met}
-use Rattle.af_judge.specs.NormalTold.{IsTrackAt}
+use Rattle.std.proofs.Common.{◌≡◌, ◌↔◌, inl, inr, ℕ, ◌+◌, ◌<◌, ◌≤◌, Bool, true, false, true≢false, IsTrue, if◌then◌else◌, MatchBool, List, length, set, Option, None, arith, refl, sym, subst, ◌∙◌}
+use Rattle.af_audit.proofs.Common.{AreShort, BothKeep, IsTrackAt, TrackJudge, below_or_at, blocks_met, get_or-set_other, get_or-set_same, length-set, same_track}
 use Rattle.af_audit.specs.declared.run_judge.RunJudge.{RunJudge}
 use Rattle.af_audit.specs.MeetingsJudged.{Keeps, TracksMet, is_there}
-use Rattle.af_audit.specs.RunKept.{LeastBelow, found_after, lesser}
+use Rattle.af_audit.specs.RunKept.{LeastBelow, found_after}
 use Rattle.af_audit.proofs.CallsJudged.{least_after, other-track, put-track}
 use Rattle.af_audit.proofs.LeastOnes.{least_same}
 
@@ -58,26 +52,3 @@ module _ (j : RunJudge) (before now : List TrackJudge) (at : ℕ) (t k : TrackJu
       keeps_here : (b : Bool) → IsTrue b ↔ BothKeep (is_there j at) k → MatchBool b (Keeps j (set now at k) at) (Keeps j (set now at k) at → ⊥)
       keeps_here true a = λ u x. subst (BothKeep (is_there j at)) (sym (put-track now at k u x)) (a.0 refl)
       keeps_here false a = λ keeps. true≢false (sym (a.1 (keeps k put_here)))
-
--- The histories of the tracks whose turns were legal are judged right, and the least one found at fault by both its turn and its histories is the lesser one: a track whose turn wasn't legal is one already
-pub least_judged : (Turn Kept Met : ℕ → Type 0) (bound : ℕ) (a b : Option ℕ) → LeastBelow Turn bound a → LeastBelow Kept bound b → ((i : ℕ) → i < bound → Turn i → Kept i ↔ Met i) → LeastBelow (λ i. Turn i × Met i) bound (lesser a b)
-least_judged Turn Kept Met bound None None t k same = λ i lt. (t i lt, (same i lt (t i lt)).0 (k i lt))
-least_judged Turn Kept Met bound None (Some y) t k same =
-    (k.0, (λ h. k.1 ((same y k.0 h.0).1 h.1)), (λ i lt. (let low : i < bound = (let x = k.0 in omega (arith, x, lt)) in (t i low, (same i low (t i low)).0 (k.2 i lt)))))
-least_judged Turn Kept Met bound (Some x) None t k same =
-    (t.0, (λ h. t.1 h.0), (λ i lt. (let low : i < bound = (let y = t.0 in omega (arith, y, lt)) in (t.2 i lt, (same i low (t.2 i lt)).0 (k i low)))))
-least_judged Turn Kept Met bound (Some x) (Some y) t k same = by_case (nat_lt y x) refl
-  where
-    by_case : (less : Bool) → nat_lt y x ≡ less → LeastBelow (λ i. Turn i × Met i) bound (if less then Some y else Some x)
-    by_case true is =
-        let less : y < x = ltb-true y x is in (
-          k.0,
-          (λ h. k.1 ((same y k.0 h.0).1 h.1)),
-          (λ i lt. (let low : i < bound = (let z = k.0 in omega (arith, z, lt)) in let turn = t.2 i (omega (arith, lt, less)) in (turn, (same i low turn).0 (k.2 i lt)))),
-        )
-    by_case false is =
-        let low : x ≤ y = ltb-false y x is in (
-          t.0,
-          (λ h. t.1 h.0),
-          (λ i lt. (let in_bound : i < bound = (let z = t.0 in omega (arith, z, lt)) in let turn = t.2 i lt in (turn, (same i in_bound turn).0 (k.2 i (omega (arith, lt, low)))))),
-        )

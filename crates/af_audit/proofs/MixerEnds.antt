@@ -1,19 +1,6 @@
 -- A normal mixer that has ended has all stream proxies home: an Exit comes into its draft only if they are, and from then on its turns change no track.
 use Rattle.std.proofs.Common.{◌≡◌, ℕ, zero, suc, ◌==◌, ◌&&◌, ◌||◌, not, Bool, true, false, if◌then◌else◌, sym, refl, ap, subst, ◌∙◌, List, [], ◌∷◌, length}
-use Rattle.std.specs.List.{AllByRecursion}
-use Rattle.af_base.proofs.Basics.{no}
-use Rattle.af_base.specs.declared.state.Command.{Command}
-use Rattle.af_base.specs.declared.state.Command.TheVariants.{Exit}
-use Rattle.af_base.specs.declared.state.Push.{Push}
-use Rattle.af_base.specs.declared.state.Push.TheVariants.{Pushed, Clean, Busy}
-use Rattle.af_base.specs.Command.{code_of}
-use Rattle.af_base.specs.Turn.{Turn, TakeSeen}
-use Rattle.af_model.specs.Draft.{commanded as with_command}
-use Rattle.af_life.specs.declared.kept.TrackKept.{TrackKept}
-use Rattle.af_life.specs.Kept.{Setup, asked, pipe_size, NormalKept, new_normal, Learnt, Outside, track_at, is_home}
-use Rattle.af_life.specs.Edits.{after_ack, is_exit, must_leave, must_enter, let_go, lend, edited, edited_to, next_command, ordered, mutated, after_push}
-use Rattle.af_life.specs.Plays.{after_takes}
-use Rattle.af_life.specs.Turn.{after_tracks, after_edits, turn_after, LegalTurn}
+use Rattle.af_audit.proofs.Common.{AllByRecursion, Busy, Clean, Command, Exit, Learnt, LegalTurn, NormalKept, Outside, Push, Pushed, Setup, TakeSeen, TrackKept, Turn, after_ack, after_edits, after_push, after_takes, after_tracks, asked, code_of, commanded as with_command, edited, edited_to, is_exit, is_home, lend, let_go, must_enter, must_leave, mutated, new_normal, next_command, no, ordered, pipe_size, track_at, turn_after}
 use Rattle.af_audit.proofs.DoneTracks.{IsDone, exit_when_empty, exit_when_over, ordered_exit, ordered_over, quiet_edits, takes_done}
 
 -- A draft that says Exit has only tracks that are done with, and so has a mixer that pushed an Exit. A mixer that has ended pushed an Exit

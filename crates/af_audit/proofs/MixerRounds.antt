@@ -1,17 +1,6 @@
 -- What a legal round keeps of the normal mixer, and what its turn does if the draft says Exit after it.
 use Rattle.std.proofs.Common.{◌≡◌, ℕ, Bool, true, false, if◌then◌else◌, nat_le, List, [], ◌∷◌, length, map, Option, Some, None, refl, sym, ap, ◌∙◌, subst, arith}
-use Rattle.af_base.specs.Turn.{TakeSeen, Turn}
-use Rattle.af_life.specs.Edits.{is_exit}
-use Rattle.af_life.specs.Heard.{learnt}
-use Rattle.af_life.specs.Kept.{Learnt, NormalKept, Setup, asked, pipe_size}
-use Rattle.af_life.specs.Plays.{tracks_due}
-use Rattle.af_life.specs.Turn.{after_edits}
-use Rattle.af_model.specs.Journals.{RoundSeen}
-use Rattle.af_runs.specs.Blocks.{Marks}
-use Rattle.af_runs.specs.Found.{outside_of}
-use Rattle.af_runs.specs.Rounds.{LegalRound, after_round, found_in}
-use Rattle.af_runs.specs.Runs.{Run}
-use Rattle.af_runs.specs.Sessions.{Session, setup_of}
+use Rattle.af_audit.proofs.Common.{Learnt, LegalRound, Marks, NormalKept, RoundSeen, Run, Session, Setup, TakeSeen, Turn, after_edits, after_round, asked, found_in, is_exit, learnt, outside_of, pipe_size, setup_of, tracks_due}
 use Rattle.af_audit.proofs.DoneTracks.{done_here}
 use Rattle.af_audit.proofs.MixerEnds.{EndsHome, edited_ends, exit_room, turn_ends}
 use Rattle.af_audit.proofs.MixerTurns.{mixer_after, round_normal, turn_legal}

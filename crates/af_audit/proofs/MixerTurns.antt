@@ -1,19 +1,6 @@
 -- The turn of the normal mixer in a legal round, the mixer that it finds, and the one that the round leaves.
-use Rattle.std.specs.Prelude.{MatchBool, MatchOption}
 use Rattle.std.proofs.Common.{◌≡◌, Bool, true, false, if◌then◌else◌, is_some, Option, Some, None, refl, sym, ap, ◌∙◌, subst}
-use Rattle.af_base.proofs.Basics.{no}
-use Rattle.af_base.specs.Turn.{Turn}
-use Rattle.af_life.specs.Heard.{learnt}
-use Rattle.af_life.specs.Kept.{NormalKept}
-use Rattle.af_life.specs.Turn.{turn_after}
-use Rattle.af_model.specs.Journals.{RoundSeen}
-use Rattle.af_runs.specs.Blocks.{Marks}
-use Rattle.af_runs.specs.Clients.{ends}
-use Rattle.af_runs.specs.Found.{LegalTurnBy, outside_of}
-use Rattle.af_runs.specs.Rounds.{LegalRound, after_round, after_turn, before_turn, early_of, found_in, late_of, loaded, turned}
-use Rattle.af_runs.specs.Runs.{Run, each_track, met, with_calls, with_cycles, with_ends, with_load, with_turn}
-use Rattle.af_runs.specs.Sessions.{Session, setup_of}
-use Rattle.af_judge.proofs.EntriesFollow.{cycles_beside}
+use Rattle.af_audit.proofs.Common.{LegalRound, LegalTurnBy, Marks, MatchBool, MatchOption, NormalKept, RoundSeen, Run, Session, Turn, after_round, after_turn, before_turn, cycles_beside, each_track, early_of, ends, found_in, late_of, learnt, loaded, met, no, outside_of, setup_of, turn_after, turned, with_calls, with_cycles, with_ends, with_load, with_turn}
 
 module _ (s : Session) (run : Run) (round : RoundSeen) where
   pub before_normal : (before_turn s run round).normal ≡ run.normal

@@ -1,14 +1,7 @@
 -- Both mixers' turns in a round are followed: the entries before the turn, the turn, and those behind it.
-use Rattle.std.specs.Prelude.{◌↔◌, IsTrue}
+use Rattle.std.specs.Prelude.{◌↔◌}
 use Rattle.std.proofs.Common.{◌≡◌, ℕ, ◌+◌, ◌-◌, ◌≤◌, Bool, List, take, drop, Option, refl, sym, ap, subst, ◌∙◌, arith}
-use Rattle.std.proofs.lemmas.List.{drop-drop, drop-take, take-take}
-use Rattle.af_base.specs.declared.frame.Frame.{Frame}
-use Rattle.af_base.specs.declared.log.CycleEntry.{CycleEntry}
-use Rattle.af_base.specs.declared.state.FastState.{FastState}
-use Rattle.af_base.specs.Turn.{Turn}
-use Rattle.af_judge.specs.declared.track_judge.TrackJudge.{TrackJudge}
-use Rattle.af_judge.specs.EntriesTold.{AreEntriesRight, Playing, entries_leave, playing}
-use Rattle.af_judge.specs.FastKept.{FastKept}
+use Rattle.af_audit.proofs.Common.{AreEntriesRight, CycleEntry, FastKept, FastState, Frame, IsTrue, Playing, TrackJudge, Turn, drop-drop, drop-take, entries_leave, playing, take-take}
 use Rattle.af_audit.specs.declared.run_judge.RunJudge.{RunJudge}
 use Rattle.af_audit.specs.RoundTold.{MixersTold, TurnIfTold, early_of}
 

@@ -1,30 +1,7 @@
 -- What is kept before the first round is kept of the run before it.
 use Rattle.std.proofs.Common.{◌≡◌, ℕ, ◌<◌, Bool, List, [], length, arith, refl, sym, ap, subst, ◌∙◌}
-use Rattle.std.proofs.lemmas.List.FromFn.{length-map-range_with_len}
-use Rattle.af_judge.proofs.Basics.{new_at}
-use Rattle.af_judge.specs.declared.track_judge.TrackJudge.{TrackJudge}
-use Rattle.af_judge.specs.Blocks.{BlockJudged, IsBlockOf, new_judged}
-use Rattle.af_judge.specs.RunTold.{IsServedBlock, IsServedTrack, KeepsTracks}
-use Rattle.af_judge.specs.Tracks.{IsTrackOf}
-use Rattle.af_judge.proofs.BlocksTold.{block_begins}
-use Rattle.af_judge.specs.Entries.{FastOf}
-use Rattle.af_judge.specs.FastKept.{FastKept}
-use Rattle.af_judge.specs.NormalJudged.{IsJudged}
-use Rattle.af_judge.specs.ReportKept.{ReportKept}
-use Rattle.af_judge.specs.SharedTold.{BesideQueue, QueueGoes}
-use Rattle.af_judge.proofs.FastBeside.{fast_new}
-use Rattle.af_judge.proofs.QueueRun.{queue_first}
-use Rattle.af_judge.proofs.SharedFollows.{beside_first}
-use Rattle.af_judge.proofs.StatesRuns.{kept_new}
-use Rattle.af_life.specs.Kept.{pipe_size}
-use Rattle.af_model.specs.declared.shape.Shape.{Shape}
-use Rattle.af_model.specs.Journals.{RoundSeen}
-use Rattle.af_runs.specs.Blocks.{new_block}
-use Rattle.af_runs.specs.LegalRuns.{marks_of}
+use Rattle.af_audit.proofs.Common.{BesideQueue, BlockJudged, FastKept, FastOf, IsBlockOf, IsJudged, IsScript, IsServedBlock, IsServedTrack, IsTrackOf, KeepsTracks, QueueGoes, ReportKept, RoundSeen, Session, Shape, TrackJudge, TrackTold, beside_first, block_begins, command_shape, fast_new, kept_new, length-map-range_with_len, marks_of, new_at, new_block, new_judged, new_run, new_track, pipe_cells, pipe_size, queue_first, setup_of, sides_of, spec_of, stream_shape, track_count}
 use Rattle.af_model.specs.ClientCalls as list
-use Rattle.af_runs.specs.Runs.{TrackTold, new_run, new_track, pipe_cells, sides_of}
-use Rattle.af_runs.specs.Sessions.{Session, command_shape, setup_of, spec_of, stream_shape, track_count}
-use Rattle.af_script.specs.Form.{IsScript}
 use Rattle.af_audit.specs.declared.run_judge.RunJudge.{RunJudge}
 use Rattle.af_audit.specs.RunKept.{AreFit, AreNewTracks, IsFit, IsNewJudge, IsNewTrack, KeepsRun}
 use Rattle.af_audit.proofs.PipeCells.{few_frames}

@@ -1,19 +1,8 @@
 -- The states of a run get newer with each turn.
 use Rattle.std.proofs.Common.{◌≡◌, ◌⊎◌, inl, inr, ℕ, zero, suc, ◌+◌, ◌≤◌, if◌then◌else◌, Bool, true, false, List, [], ◌∷◌, length, refl, sym, ap, ◌∙◌, subst, arith}
-use Rattle.std.specs.Prelude.{◌==◌, slice_set, slice_index_or}
-use Rattle.af_base.specs.declared.state.Command.{Command}
-use Rattle.af_base.specs.declared.state.FastState.{FastState}
-use Rattle.af_base.specs.declared.state.FastTrack.{FastTrack}
-use Rattle.af_base.specs.declared.state.Push.{Push}
-use Rattle.af_base.specs.declared.state.Push.TheVariants.{Pushed, Clean, Busy}
-use Rattle.af_base.specs.Command.{code_of}
-use Rattle.af_base.specs.Turn.{Turn}
-use Rattle.af_life.specs.Edits.{after_ack, must_leave, must_enter, let_go, lend, edited, edited_to, ordered, mutated, after_push}
-use Rattle.af_life.specs.Kept.{Setup, setting_of, slot_number, NormalKept, Learnt, track_at}
-use Rattle.af_life.specs.Plays.{after_takes}
-use Rattle.af_life.specs.Turn.{after_tracks, after_edits, turn_after}
-use Rattle.af_model.specs.Draft.{attached, commanded as with_command}
-use Rattle.af_model.specs.StateQueue.{slot_of, no_track}
+use Rattle.af_audit.proofs.Common.{Busy, Clean, Command, FastState, FastTrack, Learnt, NormalKept, Push, Pushed, Setup, Turn, after_ack, after_edits, after_push, after_takes, after_tracks, attached, code_of, commanded as with_command, edited, edited_to, lend, let_go, must_enter, must_leave, mutated, ordered, setting_of, slice_index_or, slice_set, slot_number, slot_of, track_at, turn_after}
+use Rattle.std.specs.Prelude.{◌==◌}
+use Rattle.af_model.specs.StateQueue.{no_track}
 
 -- no slot of the first has a later generation, and one of the same generation is the same
 pub record IsOlder (x y : FastState) : Type 0 where

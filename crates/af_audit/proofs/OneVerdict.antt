@@ -1,22 +1,11 @@
 -- There is no second right verdict on a journal and its PCM.
-use Rattle.std.specs.Prelude.{◌≡◌, ◌⊎◌, ℕ, zero, suc, ◌+◌, ◌<◌, ◌≤◌, Bool, true, false, List, [], ◌∷◌, take, slice_get, refl}
-use Rattle.std.specs.List.{list_all, range_with_len}
+use Rattle.std.specs.Prelude.{◌≡◌, ◌⊎◌, ◌+◌, ◌<◌, ◌≤◌, ◌∷◌}
 use Rattle.std.proofs.Common.{arith, subst, sym, ap, ◌∙◌, inl, inr}
-use Rattle.af_base.specs.declared.frame.Frame.{Frame}
-use Rattle.af_model.proofs.Basics.{both_first}
-use Rattle.af_model.specs.Journals.{RoundSeen, JournalData}
-use Rattle.af_script.specs.Data.{ScriptData}
+use Rattle.af_audit.proofs.Common.{Bool, Frame, JournalData, List, Marks, RoundSeen, Run, ScriptData, Session, [], after_round, all_ended, both_first, both_right, false, fast_party, has_ended, journal_pcm, list_all, marks_of, new_run, range_with_len, refl, session_of, slice_get, suc, take, true, zero, ℕ}
 use Rattle.af_audit.specs.declared.verdict.Verdict.TheVariants.{Legal, Refused}
 use Rattle.af_audit.specs.declared.verdict.Refusal.TheVariants as refused
-use Rattle.af_runs.specs.Blocks.{Marks}
-use Rattle.af_runs.specs.LegalRuns.{marks_of, session_of}
-use Rattle.af_runs.specs.Pcm.{journal_pcm}
-use Rattle.af_runs.specs.Rounds.{after_round}
 use Rattle.af_audit.specs.RunLaws.{OneVerdict}
-use Rattle.af_runs.specs.Runs.{Run, new_run, has_ended, all_ended, fast_party}
-use Rattle.af_runs.specs.Sessions.{Session}
 use Rattle.af_audit.specs.Verdicts.{AllClear, IsClear, IsFirstFault, IsLeastWithout, FirstDiffer}
-use Rattle.af_model.proofs.Logic.{both_right}
 
 -- two numbers, of which neither is less
 order_of : (m n : ℕ) → (m < n) ⊎ ((n < m) ⊎ (m ≡ n))

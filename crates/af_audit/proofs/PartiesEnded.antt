@@ -1,16 +1,7 @@
 -- Which party has ended, by what is kept and in the run.
 use Rattle.std.proofs.Common.{◌≡◌, ℕ, zero, suc, ◌+◌, ◌<◌, ◌==◌, ◌&&◌, nat_lt, Bool, true, false, true≢false, if◌then◌else◌, List, length, Option, Some, None, arith, refl, sym, ap, subst, ◌∙◌}
-use Rattle.std.specs.Prelude.{is_none, is_some, not}
-use Rattle.std.specs.List.{list_all, range_with_len}
-use Rattle.std.proofs.lemmas.Bool.Decides.{nat_tests}
+use Rattle.af_audit.proofs.Common.{Client, KeepsTracks, Marks, Run, Session, TrackJudge, all_ended, fast_ended, fast_party, has_ended, is_none, is_some, list_all, nat_tests, never_true, normal_party, not, range_with_len, told_at}
 use Rattle.std.proofs.lemmas.List as lists
-use Rattle.af_base.proofs.Basics.{never_true}
-use Rattle.af_judge.specs.declared.track_judge.TrackJudge.{TrackJudge}
-use Rattle.af_judge.specs.RunTold.{KeepsTracks}
-use Rattle.af_runs.specs.Blocks.{Marks}
-use Rattle.af_runs.specs.Clients.{Client}
-use Rattle.af_runs.specs.Runs.{Run, all_ended, fast_ended, fast_party, has_ended, normal_party, told_at}
-use Rattle.af_runs.specs.Sessions.{Session}
 use Rattle.af_audit.specs.declared.run_judge.RunJudge.{RunJudge}
 use Rattle.af_audit.specs.RunKept.{LeastBelow, client_ended, party_ended}
 use Rattle.af_audit.proofs.LeastOnes.{least_same}

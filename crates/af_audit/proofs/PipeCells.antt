@@ -1,12 +1,7 @@
 -- The cells of the pipe are the least power of two that is not below its frames.
 use Rattle.std.proofs.Common.{◌≡◌, ℕ, zero, suc, ◌*◌, ◌/◌, ◌^◌, ◌≤◌, ◌<◌, max, Bool, true, false, nat_le, if◌then◌else◌, refl, sym, ap, ◌∙◌, arith, inl, inr}
+use Rattle.af_audit.proofs.Common.{IsScript, ScriptData, cases_lt, le-power, leb-false, leb-true, mul-le-mul, pow-succ', power_above}
 use Rattle.std.specs.Int.{IsPowerOfTwo}
-use Rattle.std.proofs.lemmas.Bool.{cases_lt, leb-false, leb-true}
-use Rattle.std.proofs.Math.Nat.{mul-le-mul, pow-succ'}
-use Rattle.af_base.proofs.Basics.{le-power}
-use Rattle.af_script.specs.Data.{ScriptData}
-use Rattle.af_script.specs.Form.{IsScript}
-use Rattle.af_script.specs.Ops.{power_above}
 
 -- if a power of two is enough and its half isn't, it is the least one
 power_next : (k j n : ℕ) → n ≤ 2 ^ j → 2 ^ j / 2 < max 1 n → j ≤ k → 2 ^ j ≡ power_above k n

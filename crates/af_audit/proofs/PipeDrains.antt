@@ -1,13 +1,10 @@
 -- If the putting end of a pipe saw the whole room, and put nothing after that, all that was put is taken in the end.
 use Rattle.std.proofs.Common.{◌≡◌, ℕ, ◌-◌, ◌<◌, ◌≤◌, List, [], ◌∷◌, ◌++◌, drop, get_or, length, refl, sym, ap, ◌∙◌, subst, arith}
-use Rattle.af_base.specs.declared.event.ClientEvent.{ClientEvent}
+use Rattle.af_audit.proofs.Common.{ClientEvent, Event, HasPipeHistory, Legal, PipePoint, ServerEvent, one, ones, room_by, two, wrapped}
 use Rattle.af_base.specs.declared.event.ClientEvent.TheVariants as client
-use Rattle.af_base.specs.declared.event.ServerEvent.{ServerEvent}
 use Rattle.af_base.specs.declared.event.ServerEvent.TheVariants as server
-use Rattle.af_model.specs.Order.{Event, Legal, after, one, two, ones}
+use Rattle.af_model.specs.Order.{after}
 use Rattle.af_model.specs.PipeHistory as piped
-use Rattle.af_model.specs.PipeHistory.{HasPipeHistory, PipePoint, room_by}
-use Rattle.af_model.specs.Point.{wrapped}
 
 abbrev Told : Type 0
 Told = List (Event ClientEvent ServerEvent)
@@ -16,14 +13,7 @@ Told = List (Event ClientEvent ServerEvent)
 
 one_takes : (p : PipePoint) (e : ClientEvent) → (piped.next p (one e)).taken ≡ p.taken
 one_takes p (client.Release count) = refl
-one_takes p client.Flush = refl
-one_takes p (client.SetGain word) = refl
-one_takes p (client.ClearFlags old) = refl
-one_takes p (client.SawFlags flags) = refl
-one_takes p (client.SawFront front) = refl
-one_takes p (client.SawStatus word) = refl
-one_takes p (client.Poke word value) = refl
-one_takes p (client.Learn count) = refl
+one_takes p _ = refl
 
 record Takes (p q : PipePoint) : Type 0 where
   put : q.put ≡ p.put
@@ -31,15 +21,7 @@ record Takes (p q : PipePoint) : Type 0 where
 
 two_takes : (p : PipePoint) (e : ServerEvent) → Takes p (piped.next p (two e))
 two_takes p (server.SawGain word) = record { put = refl; taken = omega arith }
-two_takes p (server.SawFlush flush) = record { put = refl; taken = omega arith }
-two_takes p (server.SawRear rear) = record { put = refl; taken = omega arith }
-two_takes p (server.SawFront front) = record { put = refl; taken = omega arith }
-two_takes p (server.Drop to) = record { put = refl; taken = omega arith }
-two_takes p (server.Take count) = record { put = refl; taken = omega arith }
-two_takes p (server.Tally missing) = record { put = refl; taken = omega arith }
-two_takes p (server.SetFlags bits) = record { put = refl; taken = omega arith }
-two_takes p (server.SetStatus word) = record { put = refl; taken = omega arith }
-two_takes p (server.Learn count) = record { put = refl; taken = omega arith }
+two_takes p _ = record { put = refl; taken = omega arith }
 
 module _ (size : ℕ) where
   abbrev point : PipePoint → Told → PipePoint

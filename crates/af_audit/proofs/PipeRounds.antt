@@ -1,24 +1,8 @@
 -- What a round does to the pipe: its turn puts, and its entries take.
 use Rattle.std.proofs.Common.{◌≡◌, ℕ, ◌≤◌, Bool, true, false, if◌then◌else◌, List, [], ◌∷◌, ◌++◌, length, map, Option, Some, None, refl, sym, ap, ◌∙◌, subst, append-nil, length-append, arith}
-use Rattle.af_base.specs.declared.event.ClientEvent.{ClientEvent}
+use Rattle.af_audit.proofs.Common.{ClientEvent, EntrySeen, PipeTold, RoundSeen, Run, ServerEvent, Session, Turn, TurnFound, after_round, after_turn, all_played, before_turn, calls_pipe, early_of, ends_pipe, entry_slot, found_in, going, is_mixed, late_of, loaded_pipe, met, met_after, ones, packed_word, pipe_cells, pipe_list, put_by, setup_of, slot_frames, takes_shown, turned, two, twos, with_calls, with_cycle, with_cycles, with_mix, with_poll, with_turn, wrapped}
 use Rattle.af_base.specs.declared.event.ClientEvent.TheVariants as client
-use Rattle.af_base.specs.declared.event.ServerEvent.{ServerEvent}
 use Rattle.af_base.specs.declared.event.ServerEvent.TheVariants as server
-use Rattle.af_base.specs.Log.{entry_slot}
-use Rattle.af_base.specs.Sample.{packed_word}
-use Rattle.af_base.specs.Turn.{Turn}
-use Rattle.af_judge.proofs.Basics.{calls_pipe, ends_pipe, loaded_pipe}
-use Rattle.af_life.specs.Plays.{put_by}
-use Rattle.af_life.specs.TurnEvents.{going, pipe_list}
-use Rattle.af_model.specs.Cycles.{is_mixed, takes_shown}
-use Rattle.af_model.specs.Journals.{EntrySeen, RoundSeen, slot_frames}
-use Rattle.af_model.specs.Order.{two, ones, twos}
-use Rattle.af_model.specs.Point.{wrapped}
-use Rattle.af_runs.specs.Found.{TurnFound}
-use Rattle.af_runs.specs.Rounds.{after_round, after_turn, all_played, before_turn, early_of, found_in, late_of, met_after, turned}
-use Rattle.af_runs.specs.Runs.{Run, met, pipe_cells, with_calls, with_cycle, with_cycles, with_mix, with_poll, with_turn}
-use Rattle.af_runs.specs.Sessions.{Session, setup_of}
-use Rattle.af_runs.specs.Told.{PipeTold}
 use Rattle.af_judge.proofs.QueueSteps.{ones_met, ones_more, ones_stay}
 
 -- by this list the putting end put these words more, and the other end took no fewer

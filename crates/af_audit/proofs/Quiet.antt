@@ -1,29 +1,7 @@
 -- A turn does nothing to the stream block of a track whose proxy is away.
-use Rattle.std.specs.List.{AllByRecursion, range_with_len, flat_map}
 use Rattle.std.proofs.Common.{◌≡◌, inl, inr, ℕ, zero, suc, ◌==◌, ◌&&◌, not, if◌then◌else◌, is_some, Bool, true, false, List, [], ◌∷◌, ◌++◌, length, map, refl, sym, ap, ◌∙◌, subst, eqb-true, arith}
-use Rattle.std.specs.Prelude.{slice_set, filter, nat_le}
-use Rattle.af_base.proofs.Basics.{no}
-use Rattle.af_base.specs.declared.state.Command.{Command}
-use Rattle.af_base.specs.declared.state.FastState.{FastState}
-use Rattle.af_base.specs.Command.{code_of}
-use Rattle.af_base.specs.Turn.{Turn, TrackSeen, TakeSeen}
-use Rattle.af_life.proofs.Basics.{at_set, slot_of_away}
-use Rattle.af_life.specs.declared.kept.Holder.TheVariants.{Returning}
-use Rattle.af_life.specs.declared.kept.TrackKept.{TrackKept}
-use Rattle.af_life.specs.Edits.{after_ack, must_leave, must_enter, let_go, lend, lent_by, entered, edited, edited_to, ordered, mutated}
-use Rattle.af_life.specs.Heard.{learnt}
-use Rattle.af_life.specs.Kept.{Setup, asked as buffer, NormalKept, Learnt, Outside, track_at, track_in, seen_at, is_home, plays}
-use Rattle.af_life.specs.Plays.{is_mixed_here, mixed_here}
-use Rattle.af_life.specs.Serves.{served, served_to}
-use Rattle.af_life.specs.Sound.{IsSound}
-use Rattle.af_life.specs.Turn.{after_tracks, after_edits, LegalTurn}
-use Rattle.af_life.specs.TurnEvents.{tracks_at, takes_from, mix_events, invalid, stream_list}
-use Rattle.af_life.proofs.Lives.{not_yet}
-use Rattle.af_model.specs.Draft.{commanded as with_command}
-use Rattle.af_model.specs.Cycles.{cycle_events}
-use Rattle.af_judge.proofs.SoundLives.{goes_served}
-use Rattle.af_judge.proofs.SoundSlots.{sound_served}
-use Rattle.af_judge.proofs.SoundTurns.{sound_acked}
+use Rattle.af_audit.proofs.Common.{AllByRecursion, Command, FastState, IsSound, Learnt, LegalTurn, NormalKept, Outside, Returning, Setup, TakeSeen, TrackKept, TrackSeen, Turn, after_ack, after_edits, after_tracks, asked as buffer, at_set, code_of, commanded as with_command, cycle_events, edited, edited_to, entered, filter, flat_map, goes_served, invalid, is_home, is_mixed_here, learnt, lend, lent_by, let_go, mix_events, mixed_here, must_enter, must_leave, mutated, nat_le, no, not_yet, ordered, range_with_len, seen_at, served, served_to, slice_set, slot_of_away, sound_acked, sound_served, stream_list, takes_from, track_at, track_in, tracks_at}
+use Rattle.af_life.specs.Kept.{plays}
 
 abbrev HasSlot : ℕ → List TrackKept → Type 0
 HasSlot n tracks = is_some (track_at tracks n).slot ≡ true

@@ -1,29 +1,12 @@
 -- In a legal round each track that is reported drained has reached its STOP's count by the round's end.
 use Rattle.std.proofs.Common.{◌≡◌, ℕ, ◌<◌, ◌≤◌, if◌then◌else◌, is_some, Bool, true, false, List, [], ◌∷◌, ◌++◌, Option, Some, None, refl, arith}
-use Rattle.af_base.proofs.Basics.{max_le}
-use Rattle.af_base.specs.declared.turn.CommandLook.{CommandLook}
-use Rattle.af_base.specs.Turn.{Turn}
-use Rattle.af_life.specs.declared.kept.Heard.{Heard}
-use Rattle.af_life.specs.declared.kept.TrackKept.{TrackKept}
-use Rattle.af_life.specs.Drained.{LifeStep, told, heard_of, cut, StoppedAt, looks_steps, most_heard, track_steps}
-use Rattle.af_life.specs.Heard.{learnt, heard, ready}
-use Rattle.af_life.specs.Kept.{Setup, NormalKept, Learnt, track_at, track_in}
-use Rattle.af_life.specs.Obeys.{slot_for, shows_command, is_shut, after_look, goes_on}
-use Rattle.af_life.specs.TurnEvents.{tracks_at}
-use Rattle.af_model.specs.JournalForm.{IsRound}
-use Rattle.af_model.specs.Journals.{RoundSeen}
-use Rattle.af_runs.specs.Blocks.{Marks}
-use Rattle.af_runs.specs.Found.{outside_of}
-use Rattle.af_runs.specs.Rounds.{LegalRound, after_round, all_played, found_in}
-use Rattle.af_runs.specs.Runs.{Run, new_run}
-use Rattle.af_runs.specs.Sessions.{Session, setup_of, track_count}
-use Rattle.af_script.specs.Form.{IsScript}
+use Rattle.af_audit.proofs.Common.{CommandLook, Heard, IsRound, IsScript, Learnt, LegalRound, LifeStep, Marks, NormalKept, RoundSeen, Run, Session, Setup, StoppedAt, TrackKept, Turn, after_look, after_round, all_played, cut, found_in, goes_on, heard, heard_of, is_shut, learnt, look_steps, looks_steps, max_le, most_heard, new_run, outside_of, ready, setup_of, shows_command, told, track_at, track_count, track_in, track_steps, tracks_at}
+use Rattle.af_life.specs.Obeys.{slot_for}
 use Rattle.af_audit.specs.Drained.{consumed_of, says_drained, round_steps}
 use Rattle.af_audit.proofs.Consumed.{consumed}
 use Rattle.af_audit.proofs.Growing.{run_told}
 use Rattle.af_audit.proofs.Heard.{TellsSo, from_played, heard_told, new_tells, tells_round, to_played}
 use Rattle.af_audit.proofs.Stopped.{AreTurns, Reaches, new_turns, round_drained, round_turns}
-use Rattle.af_life.proofs.Lives.{look_steps}
 
 -- ## What the steps heard
 

@@ -1,31 +1,11 @@
 -- In a history a server that sees each front right after a rear is never shut; and servers that look as a journal says do so.
 use Rattle.std.proofs.Common.{◌≡◌, ◌⊎◌, inl, inr, ℕ, ◌+◌, ◌-◌, ◌≤◌, ◌==◌, nat_lt, Bool, true, false, if◌then◌else◌, is_some, fold, Option, Some, None, List, [], ◌∷◌, ◌++◌, refl, sym, ap, ◌∙◌, subst, arith}
-use Rattle.std.proofs.lemmas.Grind.{fold-append}
-use Rattle.af_base.proofs.Basics.{is_not_below, no}
-use Rattle.af_base.specs.declared.event.ClientEvent.{ClientEvent}
+use Rattle.af_audit.proofs.Common.{AllFit, AllFollowRear, BlockTold, ClientEvent, FollowsRear, HandEvent, HasBlockHistory, InTurn, IsLegal, IsSpelled, Listed, Moment, Seen, ServerEvent, ServerKept, ServerMay, Shape, SlotEntry, TrackPoint, after, after_client, after_hand, after_server, ahead, ahead-between, all_fit, by_client, by_hand, by_server, client_begins, client_list, client_of, cycle_events, drops_of, fit_split, fold-append, in_turn, is_not_below, is_noticed, kept, look_events, no, outside, room_in, saw_rear, server_begins, server_keeps, server_kept, server_list, server_of, start, tally, wrapped}
 use Rattle.af_base.specs.declared.event.ClientEvent.TheVariants as client
-use Rattle.af_base.specs.declared.event.HandEvent.{HandEvent}
 use Rattle.af_base.specs.declared.event.HandEvent.TheVariants as hand
-use Rattle.af_base.specs.declared.event.ServerEvent.{ServerEvent}
 use Rattle.af_base.specs.declared.event.ServerEvent.TheVariants as server
-use Rattle.af_base.specs.declared.log.SlotEntry.{SlotEntry}
-use Rattle.af_base.specs.declared.seen.Seen.{Seen}
 use Rattle.af_base.specs.declared.seen.Seen.TheVariants as seen
-use Rattle.af_model.specs.declared.point.TrackPoint.{TrackPoint}
-use Rattle.af_model.specs.declared.shape.Shape.{Shape}
-use Rattle.af_model.specs.ClientCalls.{client_begins}
-use Rattle.af_model.specs.Cycles.{Listed, after_look, cycle_events, kept, tally}
-use Rattle.af_model.specs.Fates.{InTurn}
-use Rattle.af_model.specs.History.{Moment, by_client, by_hand, by_server, client_of, server_of, after, IsLegal}
-use Rattle.af_model.specs.Point.{wrapped, start, ServerMay, after_client, after_hand, after_server}
-use Rattle.af_model.specs.Room.{ahead, outside}
-use Rattle.af_model.specs.ServerCalls.{ServerKept, drops_of, is_noticed, look_events, server_begins, server_keeps, server_kept}
-use Rattle.af_model.proofs.Fates.{in_turn}
-use Rattle.af_model.proofs.Logic.{ahead-between}
-use Rattle.af_model.proofs.RoomKept.{AllFit, AllFollowRear, FollowsRear, fit_split, room_in, saw_rear}
-use Rattle.af_runs.specs.Blocks.{BlockTold, HasBlockHistory, client_list, server_list}
-use Rattle.af_model.proofs.RoomKept.{all_fit}
-use Rattle.af_judge.specs.Tracks.{IsSpelled}
+use Rattle.af_model.specs.Cycles.{after_look}
 
 module _ (shape : Shape) where
   -- ## Lists
@@ -58,11 +38,8 @@ module _ (shape : Shape) where
   after_follows asked was (seen.Flushed dropped) b = tt
 
   drops_follow : (answer : Seen) (front : ℕ) → AllFollowRear shape false (drops_of answer front)
-  drops_follow seen.Absent front = tt
-  drops_follow (seen.Frames count) front = tt
-  drops_follow seen.Empty front = tt
   drops_follow (seen.Flushed dropped) front = (tt, tt)
-  drops_follow (seen.Shut f r) front = tt
+  drops_follow _ front = tt
 
   look_follows : (was : Bool) (answer : Seen) (flush rear front : ℕ) → FollowAnywhere (if was then [] else look_events answer flush rear front)
   look_follows true answer flush rear front b = tt
@@ -127,11 +104,7 @@ module _ (shape : Shape) where
     client_leaves k b p client.Flush s = record { rear_is = s.rear_is; unshut = s.unshut; shows = s.shows }
     client_leaves k b p (client.SetGain word) s = record { rear_is = s.rear_is; unshut = s.unshut; shows = s.shows }
     client_leaves k b p (client.ClearFlags old) s = record { rear_is = s.rear_is; unshut = s.unshut; shows = s.shows }
-    client_leaves k b p (client.SawFlags flags) s = s
-    client_leaves k b p (client.SawFront front) s = s
-    client_leaves k b p (client.SawStatus word) s = s
-    client_leaves k b p (client.Poke word value) s = s
-    client_leaves k b p (client.Learn count) s = s
+    client_leaves k b p _ s = s
 
     pub sees_in : (order : List Moment) → IsLegal (start shape) order → AllFit shape (client_begins shape.base) None (client_of order) → AllFollowRear shape false (server_of order)
         → SeesRoom (server_kept shape (server_of order)) (fold (saw_rear shape) false (server_of order)) (after (start shape) order)

@@ -1,18 +1,6 @@
 -- What is kept of a run after its meetings is kept of it once the clients have ended, if the normal mixer has.
 use Rattle.std.proofs.Common.{◌≡◌, ℕ, ◌<◌, Bool, true, false, if◌then◌else◌, List, length, map, arith, sym, ap, subst, ◌∙◌}
-use Rattle.std.specs.Prelude.{slice_index_or}
-use Rattle.std.proofs.lemmas.List.{get_or-map, length-map}
-use Rattle.af_judge.proofs.Basics.{each_long, there_is, told_each}
-use Rattle.af_judge.specs.declared.track_judge.TrackJudge.{TrackJudge}
-use Rattle.af_judge.specs.NormalTold.{IsTrackAt}
-use Rattle.af_judge.specs.RunTold.{IsServedTrack, KeepsTracks, NormalOf}
-use Rattle.af_judge.specs.NormalJudged.{NormalJudged}
-use Rattle.af_judge.specs.Tracks.{IsTrackOf}
-use Rattle.af_runs.specs.Blocks.{Marks}
-use Rattle.af_runs.specs.Clients.{Client, ends}
-use Rattle.af_runs.specs.Runs.{Run, TrackTold, each_track, met, told_at, with_ends}
-use Rattle.af_runs.specs.Sessions.{Session, spec_of}
-use Rattle.af_script.specs.declared.op.Op.{Op}
+use Rattle.af_audit.proofs.Common.{Client, IsServedTrack, IsTrackAt, IsTrackOf, KeepsTracks, Marks, NormalJudged, NormalOf, Op, Run, Session, TrackJudge, TrackTold, each_long, each_track, ends, get_or-map, length-map, met, slice_index_or, spec_of, there_is, told_at, told_each, with_ends}
 use Rattle.af_audit.specs.RoundTold.{ended_track, tracks_ended}
 
 -- a track whose client has ended is kept

@@ -1,34 +1,7 @@
 -- What is kept of a run follows a round, step by step.
 use Rattle.std.specs.Prelude.{◌↔◌}
-use Rattle.std.specs.List.{prefix_len}
 use Rattle.std.proofs.Common.{◌≡◌, inl, ℕ, suc, ◌+◌, ◌≤◌, Bool, true, false, IsTrue, List, [], ◌∷◌, length, map, take, drop, Option, Some, None, cond, nat_le, arith, refl, sym, ap, subst, ◌∙◌}
-use Rattle.std.proofs.lemmas.Bool.Decides.{nat_tests}
-use Rattle.std.proofs.lemmas.List.{take-map, drop-map}
-use Rattle.af_base.specs.declared.frame.Frame.{Frame}
-use Rattle.af_base.specs.declared.log.CycleEntry.{CycleEntry}
-use Rattle.af_base.specs.declared.state.FastState.{FastState}
-use Rattle.af_base.specs.Turn.{Turn}
-use Rattle.af_judge.proofs.Basics.{calls_states}
-use Rattle.af_model.specs.Journals.{EntrySeen, RoundSeen}
-use Rattle.af_judge.specs.declared.track_judge.TrackJudge.{TrackJudge}
-use Rattle.af_judge.specs.EntriesTold.{AreFormed, Playing, entries_leave, playing}
-use Rattle.af_judge.specs.Entries.{FastOf}
-use Rattle.af_judge.specs.ReportKept.{ReportKept}
-use Rattle.af_judge.specs.RunTold.{KeepsTracks, NormalOf}
-use Rattle.af_judge.specs.SharedTold.{BesideQueue, QueueGoes, QueueOf}
-use Rattle.af_judge.proofs.EntriesFollow.{KeepsPlaying, cycles_beside, entries_in, entries_keep}
-use Rattle.af_judge.proofs.EntryTold.{fits_same}
-use Rattle.af_judge.proofs.FastBeside.{calls_same, fast_round, fast_same, loaded_same}
-use Rattle.af_judge.proofs.JournalEntries.{formed_front}
-use Rattle.af_judge.proofs.QueueRun.{goes_called, queue_loaded}
-use Rattle.af_judge.proofs.SharedEntries.{AreOfPushed, entries_beside, entries_go, entries_queue}
-use Rattle.af_judge.proofs.SharedFollows.{beside_called, beside_loaded}
-use Rattle.af_judge.proofs.StatesRuns.{fits_of}
-use Rattle.af_life.specs.Kept.{NormalKept}
-use Rattle.af_runs.specs.Blocks.{Marks}
-use Rattle.af_runs.specs.Rounds.{LegalNormalTurn, after_turn, all_played, before_turn, early_count, early_of, is_early, late_of, loaded}
-use Rattle.af_runs.specs.Runs.{Run, calls_in, frames_before, with_calls, with_cycles, with_load}
-use Rattle.af_runs.specs.Sessions.{Session}
+use Rattle.af_audit.proofs.Common.{AreFormed, AreOfPushed, BesideQueue, CycleEntry, EntrySeen, FastOf, FastState, Frame, KeepsPlaying, KeepsTracks, LegalNormalTurn, Marks, NormalKept, NormalOf, Playing, QueueGoes, QueueOf, ReportKept, RoundSeen, Run, Session, TrackJudge, Turn, after_turn, all_played, before_turn, beside_called, beside_loaded, calls_in, calls_same, calls_states, cycles_beside, drop-map, early_count, early_of, entries_beside, entries_go, entries_in, entries_keep, entries_leave, entries_queue, fast_round, fast_same, fits_of, fits_same, formed_front, frames_before, goes_called, is_early, late_of, loaded, loaded_same, nat_tests, playing, prefix_len, queue_loaded, take-map, with_calls, with_cycles, with_load}
 use Rattle.af_audit.specs.declared.run_judge.RunJudge.{RunJudge}
 use Rattle.af_audit.specs.RoundTold as told
 use Rattle.af_audit.specs.RoundTold.{begun, loaded_if}

@@ -1,30 +1,7 @@
 -- What is found of a round is the least party that isn't clear, and if none is found what is kept is kept of the run after the round.
-use Rattle.std.specs.Prelude.{◌↔◌, MatchBool}
+use Rattle.std.specs.Prelude.{◌↔◌}
 use Rattle.std.proofs.Common.{◌≡◌, ℕ, ◌+◌, ◌<◌, ◌≤◌, ◌==◌, ◌&&◌, ◌||◌, zero, suc, drop, nat_lt, Bool, true, false, true≢false, IsTrue, List, [], length, Option, None, arith, refl, sym, ap, subst, ◌∙◌}
-use Rattle.std.proofs.lemmas.Bool.Decides.{nat_tests}
-use Rattle.af_base.specs.declared.report.Report.{Report}
-use Rattle.af_judge.proofs.Basics.{met_normal as met-normal, same_track}
-use Rattle.af_model.specs.Journals.{EntrySeen, RoundSeen}
-use Rattle.af_judge.specs.declared.track_judge.TrackJudge.{TrackJudge}
-use Rattle.af_judge.specs.BlocksMet.{AreShort, BothKeep, blocks_met}
-use Rattle.af_judge.specs.Entries.{FastOf}
-use Rattle.af_judge.specs.FastKept.{carries_track}
-use Rattle.af_judge.specs.NormalTold.{IsTrackAt}
-use Rattle.af_judge.specs.PipeKept.{with_meeting}
-use Rattle.af_judge.specs.RunTold.{KeepsTracks, NormalOf}
-use Rattle.af_judge.specs.SharedTold.{AreRight, BesideQueue, QueueOf}
-use Rattle.af_judge.specs.StatesKept.{StatesKept}
-use Rattle.af_judge.proofs.BlocksMeet.{track_judged, tracks_met}
-use Rattle.af_judge.proofs.FastBeside.{ends_same, fast_met, fast_same}
-use Rattle.af_judge.proofs.FastClear.{IsFastLegal, round_used}
-use Rattle.af_judge.proofs.QueueRun.{goes_ended}
-use Rattle.af_judge.proofs.SharedFollows.{beside_ended, beside_met, queue_met_so, shared_judged}
-use Rattle.af_life.specs.Kept.{NormalKept, is_home, track_at}
-use Rattle.af_runs.specs.Blocks.{Marks}
-use Rattle.af_runs.specs.Rounds.{IsFastTurn, LegalEntries, LegalFastTurn, LegalNormalTurn, SharedHistories, TrackHistories, after_round, after_turn, all_played, early_count, early_of, fills, late_of, met_after}
-use Rattle.af_runs.specs.Runs.{Run, all_ended, fast_ended, fast_party, met, normal_party, sides_of, takes_part, told_at, with_calls, most_cycles}
-use Rattle.af_runs.specs.Sessions.{Session, spec_of, track_count}
-use Rattle.af_runs.specs.Told.{state_at}
+use Rattle.af_audit.proofs.Common.{AreRight, AreShort, BesideQueue, BothKeep, EntrySeen, FastOf, IsFastLegal, IsFastTurn, IsTrackAt, KeepsTracks, LegalEntries, LegalFastTurn, LegalNormalTurn, Marks, MatchBool, NormalKept, NormalOf, QueueOf, Report, RoundSeen, Run, Session, SharedHistories, StatesKept, TrackHistories, TrackJudge, after_round, after_turn, all_ended, all_played, beside_ended, beside_met, blocks_met, carries_track, early_count, early_of, ends_same, fast_ended, fast_met, fast_party, fast_same, fills, goes_ended, is_home, late_of, met, met_after, met_normal as met-normal, most_cycles, nat_tests, normal_party, queue_met_so, round_used, same_track, shared_judged, sides_of, spec_of, state_at, takes_part, told_at, track_at, track_count, track_judged, tracks_met, with_calls, with_meeting}
 use Rattle.af_audit.specs.declared.run_judge.Found.{Found}
 use Rattle.af_audit.specs.declared.run_judge.RunJudge.{RunJudge}
 use Rattle.af_audit.specs.MeetingsJudged.{Keeps, TracksMet, is_there, mixers_met}

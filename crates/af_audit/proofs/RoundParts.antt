@@ -1,12 +1,6 @@
 -- The parts of a journal's round: its turn has its form, and its entries stand in the log.
 use Rattle.std.proofs.Common.{◌≡◌, ℕ, ◌+◌, ◌<◌, ◌≤◌, List, Option, Some, None, option_map, IfSome, MatchOption, length, map, take, arith, sym, ap, subst, ◌∙◌}
-use Rattle.std.proofs.lemmas.List.{length-map}
-use Rattle.std.proofs.lemmas.List.Elements.{All-get_or}
-use Rattle.af_base.specs.Turn.{Turn}
-use Rattle.af_base.specs.declared.log.CycleEntry.{CycleEntry}
-use Rattle.af_model.specs.Journals.{EntrySeen, JournalData, entries_of, no_round, round_at}
-use Rattle.af_model.specs.JournalForm.{IsJournal, IsRound, IsTurn}
-use Rattle.af_runs.proofs.Basics.{entries_inside}
+use Rattle.af_audit.proofs.Common.{All-get_or, CycleEntry, EntrySeen, IsJournal, IsRound, IsTurn, JournalData, Turn, entries_inside, entries_of, length-map, no_round, round_at}
 
 turn_form : (j : JournalData) (i : ℕ) (e : Turn) → IsJournal j → i < length j.rounds → Some e ≡ (round_at j i).turn → IsTurn j.tracks e
 turn_form j i e form lt is = subst (λ (o : Option Turn). MatchOption o (Unit {0}) (IsTurn j.tracks)) (sym is) (All-get_or (IsRound j.tracks) j.rounds i no_round lt form.rounds).turn

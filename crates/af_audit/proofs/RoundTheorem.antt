@@ -1,39 +1,7 @@
 -- A round that the judge has followed is judged exactly: the least party that isn't clear is found, or none, and then what is kept is kept of the run after the round.
-use Rattle.std.specs.Prelude.{◌↔◌, is_none, slice_get, MatchOption}
-use Rattle.std.specs.List.{sum_by}
+use Rattle.std.specs.Prelude.{◌↔◌}
 use Rattle.std.proofs.Common.{◌≡◌, ℕ, zero, suc, ◌+◌, ◌<◌, Bool, true, IsTrue, List, [], ◌∷◌, ◌++◌, length, map, take, drop, Option, Some, None, arith, refl, sym, ap, subst, ◌∙◌, append-nil, append_assoc, unwrap_or}
-use Rattle.std.specs.Prelude.{slice_index_or}
-use Rattle.std.proofs.lemmas.List.{map-append}
-use Rattle.std.proofs.lemmas.List.Elements.{All-get_or}
-use Rattle.af_base.specs.declared.frame.Frame.{Frame}
-use Rattle.af_base.specs.declared.log.CycleEntry.{CycleEntry}
-use Rattle.af_base.specs.declared.state.FastState.{FastState}
-use Rattle.af_base.specs.Log.{entry_at, no_entry}
-use Rattle.af_base.specs.Turn.{Turn}
-use Rattle.af_model.specs.JournalForm.{IsJournal, IsRound, IsTurn}
-use Rattle.af_model.specs.Journals.{EntrySeen, JournalData, RoundSeen, entries_of, frames_of, no_round, round_at, taken_by}
-use Rattle.af_judge.specs.declared.track_judge.TrackJudge.{TrackJudge}
-use Rattle.af_judge.specs.EntriesTold.{AreEntriesRight, AreFormed, Playing, entries_leave, playing}
-use Rattle.af_judge.specs.ReportKept.{ReportKept}
-use Rattle.af_judge.specs.Entries.{FastOf}
-use Rattle.af_judge.specs.FastKept.{FastKept}
-use Rattle.af_judge.specs.NormalJudged.{NormalJudged}
-use Rattle.af_judge.specs.RunTold.{KeepsTracks, NormalOf}
-use Rattle.af_judge.specs.SharedTold.{BesideQueue, QueueGoes, QueueOf}
-use Rattle.af_judge.specs.StatesKept.{StatesKept}
-use Rattle.af_judge.proofs.EntriesFollow.{KeepsPlaying, cycles_beside, entries_in}
-use Rattle.af_judge.proofs.EntryTold.{SameBeside}
-use Rattle.af_judge.proofs.FastBeside.{fast_round}
-use Rattle.af_judge.proofs.FastClear.{IsFastLegal, early_used, fast_judged, round_entries}
-use Rattle.af_judge.proofs.JournalEntries.{formed_rest, round_entries_at, round_formed}
-use Rattle.af_judge.proofs.StatesRuns.{before_same, fits_of, kept_after_turn, kept_round}
-use Rattle.af_runs.specs.Blocks.{Marks}
-use Rattle.af_runs.specs.LegalRuns.{marks_of, run_from}
-use Rattle.af_life.specs.Kept.{NormalKept}
-use Rattle.af_runs.specs.Rounds.{LegalNormalTurn, after_round, after_turn, all_played, before_turn, early_count, early_of, late_of, loaded}
-use Rattle.af_runs.specs.Runs.{Run, all_ended, frames_before, new_run, with_calls, with_cycles, with_load}
-use Rattle.af_runs.specs.Sessions.{Session, track_count}
-use Rattle.af_script.specs.Form.{IsScript}
+use Rattle.af_audit.proofs.Common.{All-get_or, AreEntriesRight, AreFormed, BesideQueue, CycleEntry, EntrySeen, FastKept, FastOf, FastState, Frame, IsFastLegal, IsJournal, IsRound, IsScript, IsTurn, JournalData, KeepsPlaying, KeepsTracks, LegalNormalTurn, Marks, MatchOption, NormalJudged, NormalKept, NormalOf, Playing, QueueGoes, QueueOf, ReportKept, RoundSeen, Run, SameBeside, Session, StatesKept, TrackJudge, Turn, after_round, after_turn, all_ended, all_played, before_same, before_turn, cycles_beside, early_count, early_of, early_used, entries_in, entries_leave, entries_of, entry_at, fast_judged, fast_round, fits_of, formed_rest, frames_before, frames_of, is_none, kept_after_turn, kept_round, late_of, loaded, map-append, marks_of, new_run, no_entry, no_round, playing, round_at, round_entries, round_entries_at, round_formed, run_from, slice_get, slice_index_or, sum_by, taken_by, track_count, with_calls, with_cycles, with_load}
 use Rattle.af_audit.specs.declared.run_judge.Found.{Found}
 use Rattle.af_audit.specs.declared.run_judge.RunJudge.{RunJudge}
 use Rattle.af_audit.specs.RoundTold.{RoundPlayed, TurnIfTold, begun}

@@ -1,20 +1,11 @@
 -- A run so far in which all parties have ended is a legal run.
-use Rattle.std.specs.Prelude.{◌≡◌, ◌<◌, ℕ, suc, ◌+◌, ◌==◌, ◌||◌, nat_lt, Bool, true, false, MatchBool, if◌then◌else◌, List, [], ◌∷◌, ◌++◌, fold, length, refl}
+use Rattle.std.specs.Prelude.{◌≡◌, ◌<◌, ◌+◌, ◌==◌, ◌||◌, if◌then◌else◌, ◌∷◌, ◌++◌}
 use Rattle.std.proofs.Common.{subst, sym, ap, ◌∙◌, arith, length-append, inl, inr}
-use Rattle.std.proofs.lemmas.Bool.Decides.{nat_tests}
+use Rattle.af_audit.proofs.Common.{AreMixedBut, Bool, CycleEntry, EntrySeen, Frame, IsFastTurn, JournalData, LegalRound, LegalRounds, List, Marks, MatchBool, RoundSeen, Run, ScriptData, Session, [], after_round, all_ended, false, fast_ended, fast_party, fills, fold, has_exit, is_mixed, length, marks_of, most_cycles, nat_lt, nat_tests, new_run, normal_party, refl, run_from, session_of, suc, told_at, true, ℕ}
 use Rattle.af_audit.proofs.Basics.{seen_map}
-use Rattle.af_base.specs.declared.frame.Frame.{Frame}
-use Rattle.af_base.specs.declared.log.CycleEntry.{CycleEntry}
 use Rattle.af_base.specs.declared.log.Cycle.TheVariants as cycle
-use Rattle.af_model.specs.Cycles.{has_exit, is_exit, is_mixed}
-use Rattle.af_model.specs.Journals.{EntrySeen, RoundSeen, JournalData}
-use Rattle.af_script.specs.Data.{ScriptData}
-use Rattle.af_runs.specs.Blocks.{Marks}
-use Rattle.af_runs.specs.LegalRuns.{LegalRounds, run_from, marks_of, session_of}
-use Rattle.af_runs.specs.Rounds.{LegalRound, IsFastTurn, fills, AreMixedBut, after_round}
+use Rattle.af_model.specs.Cycles.{is_exit}
 use Rattle.af_audit.specs.RunLaws.{LegalAtTheEnd}
-use Rattle.af_runs.specs.Runs.{Run, new_run, all_ended, fast_ended, normal_party, fast_party, told_at, most_cycles}
-use Rattle.af_runs.specs.Sessions.{Session}
 use Rattle.af_runs.proofs.RoundEntries.{bare, round-entries}
 use Rattle.af_audit.proofs.OneVerdict.{each_ended}
 use Rattle.af_audit.proofs.Booleans.{one_more}

@@ -1,14 +1,7 @@
 -- By what is kept of it a run may end exactly if it may.
-use Rattle.std.specs.Prelude.{◌≡◌, ◌↔◌, ℕ, ◌+◌, ◌==◌, Bool, true, false, not, IsTrue, List, length, Option, is_some}
+use Rattle.std.specs.Prelude.{◌≡◌, ◌↔◌, ◌+◌, ◌==◌}
 use Rattle.std.proofs.Common.{ap, sym, ◌∙◌}
-use Rattle.af_base.proofs.Basics.{equal_is, is_equal}
-use Rattle.af_base.specs.declared.report.Report.{Report}
-use Rattle.af_judge.specs.declared.track_judge.TrackJudge.{TrackJudge}
-use Rattle.af_life.specs.Kept.{NormalKept}
-use Rattle.af_model.proofs.Basics.{not_true}
-use Rattle.af_runs.specs.Blocks.{Marks}
-use Rattle.af_runs.specs.Runs.{Run, all_ended}
-use Rattle.af_runs.specs.Sessions.{Session}
+use Rattle.af_audit.proofs.Common.{Bool, IsTrue, List, Marks, NormalKept, Option, Report, Run, Session, TrackJudge, all_ended, equal_is, false, is_equal, is_some, length, not, not_true, true, ℕ}
 use Rattle.af_audit.specs.declared.run_judge.RunJudge.{RunJudge}
 use Rattle.af_audit.specs.RunKept.{KeepsRun, LeastBelow, party_ended}
 use Rattle.af_audit.specs.Verdicts.{MayEnd}

@@ -1,32 +1,6 @@
 -- What holds of a track and of the normal mixer through the legal rounds of a run.
-use Rattle.std.specs.Prelude.{MatchOption}
-use Rattle.std.specs.List.{list_any}
 use Rattle.std.proofs.Common.{◌≡◌, inl, inr, ℕ, ◌<◌, ◌==◌, ◌&&◌, ◌||◌, Bool, true, false, if◌then◌else◌, List, [], ◌∷◌, length, All, Option, Some, None, refl, sym, ap, ◌∙◌, subst, eqb-true, arith}
-use Rattle.std.proofs.lemmas.List.{get_or-replicate}
-use Rattle.std.proofs.lemmas.List.Elements.{All-head, All-tail}
-use Rattle.af_base.proofs.Basics.{both, neither, no}
-use Rattle.af_base.specs.declared.log.CycleEntry.{CycleEntry}
-use Rattle.af_base.specs.declared.log.SlotEntry.{SlotEntry}
-use Rattle.af_base.specs.declared.state.FastState.{FastState}
-use Rattle.af_base.specs.Log.{absent, entry_slot, slots}
-use Rattle.af_base.specs.Turn.{Turn}
-use Rattle.af_judge.proofs.Basics.{each_at, each_long, met_many, told_each}
-use Rattle.af_life.specs.Kept.{NormalKept, Outside, is_home, track_at}
-use Rattle.af_model.specs.Cycles.{LooksBy, cycle_of, is_mixed, state_of, still_entry}
-use Rattle.af_model.specs.JournalForm.{IsRound, IsTurn, TracksRise}
-use Rattle.af_model.specs.Journals.{EntrySeen, RoundSeen}
-use Rattle.af_model.specs.StateQueue.{carries, slot_of}
-use Rattle.af_runs.specs.Blocks.{BlockTold, HasBlockHistory, Marks, is_tame, listed}
-use Rattle.af_runs.specs.Clients.{ends}
-use Rattle.af_runs.specs.Found.{LegalTurnBy, TurnFound, outside_of}
-use Rattle.af_runs.specs.Fronts.{is_shown}
-use Rattle.af_runs.specs.LegalRuns.{LegalRounds, is_poke_on, run_from}
-use Rattle.af_runs.specs.Rounds.{fills, LegalEntries, LegalEntry, LegalRound, after_round, after_turn, all_played, before_turn, early_of, found_in, late_of, loaded, met_after, turned}
-use Rattle.af_runs.specs.Runs.{Run, TrackTold, calls_in, each_track, fast_ended, holds, mixed_track, no_track, plays, met, slot_for, state_for, takes_part, told_at, turned_track, with_calls, with_cycle, with_cycles, with_ends, with_load, with_mix, with_poll, with_turn}
-use Rattle.af_runs.specs.Sessions.{Session, cycle_frames, file_words, setup_of, track_count}
-use Rattle.af_judge.proofs.BlocksMeet.{met_at}
-use Rattle.af_judge.proofs.EntryTold.{cycle_beside}
-use Rattle.af_judge.proofs.EntryTracks.{plays_track}
+use Rattle.af_audit.proofs.Common.{All-head, All-tail, BlockTold, CycleEntry, EntrySeen, FastState, HasBlockHistory, IsRound, IsTurn, LegalEntries, LegalEntry, LegalRound, LegalRounds, LegalTurnBy, LooksBy, Marks, MatchOption, NormalKept, Outside, RoundSeen, Run, Session, SlotEntry, TrackTold, TracksRise, Turn, TurnFound, absent, after_round, after_turn, all_played, before_turn, both, calls_in, carries, cycle_beside, cycle_frames, cycle_of, each_at, each_long, each_track, early_of, ends, entry_slot, fast_ended, file_words, fills, found_in, get_or-replicate, holds, is_home, is_mixed, is_poke_on, is_shown, is_tame, late_of, list_any, listed, loaded, met, met_after, met_at, met_many, mixed_track, neither, no, no_track, outside_of, plays, plays_track, run_from, setup_of, slot_for, slot_of, slots, state_for, state_known, state_of, still_entry, takes_part, told_at, told_each, track_at, track_count, turned, turned_track, with_calls, with_cycle, with_cycles, with_ends, with_load, with_mix, with_poll, with_turn}
 use Rattle.af_audit.proofs.CallsFollow.{calls_long, told_called}
 use Rattle.af_audit.proofs.MixerEnds.{EndsHome}
 use Rattle.af_audit.proofs.MixerRounds.{round_ends}
@@ -34,7 +8,6 @@ use Rattle.af_audit.proofs.EntryParts.{legal_parts}
 use Rattle.af_audit.proofs.MixerTurns.{before_normal, turn_legal}
 use Rattle.af_audit.proofs.TrackStands.{TrackStands, stands_called, stands_ended, stands_met, stands_mixed, stands_turned}
 use Rattle.af_audit.proofs.FirstFound.{found_at}
-use Rattle.af_runs.proofs.StatesFor.{state_known}
 
 -- ## The look of an entry at a track
 

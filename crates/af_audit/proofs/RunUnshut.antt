@@ -1,25 +1,6 @@
 -- Each legal round spares a block whose proxies aren't shut after it.
 use Rattle.std.proofs.Common.{◌≡◌, ℕ, ◌<◌, Bool, true, false, if◌then◌else◌, List, [], ◌∷◌, length, All, Option, Some, None, refl, sym, ◌∙◌, subst, arith}
-use Rattle.std.specs.List.{list_any}
-use Rattle.std.proofs.lemmas.List.Elements.{All-head, All-tail}
-use Rattle.af_base.proofs.Basics.{both_true, neither}
-use Rattle.af_base.specs.declared.state.FastState.{FastState}
-use Rattle.af_base.specs.Turn.{Turn}
-use Rattle.af_judge.proofs.Basics.{each_at, each_long, met_many, told_each}
-use Rattle.af_life.specs.Kept.{NormalKept}
-use Rattle.af_model.specs.JournalForm.{IsRound, TracksRise}
-use Rattle.af_model.specs.Journals.{EntrySeen, RoundSeen}
-use Rattle.af_runs.specs.Blocks.{Marks}
-use Rattle.af_runs.specs.Clients.{ends}
-use Rattle.af_runs.specs.ClientTurns.{LegalClientTurn}
-use Rattle.af_runs.specs.Found.{LegalTurnBy, TurnFound, outside_of}
-use Rattle.af_runs.specs.LegalRuns.{LegalRounds, is_poke_on, run_from}
-use Rattle.af_runs.specs.Rounds.{LegalEntries, LegalEntry, LegalRound, after_round, after_turn, all_played, before_turn, early_of, found_in, late_of, loaded, met_after, turned}
-use Rattle.af_runs.specs.Runs.{Run, TrackTold, calls_in, each_track, met, mixed_track, no_track, sides_of, state_for, takes_part, told_at, turned_track, with_calls, with_cycle, with_cycles, with_ends, with_load, with_mix, with_poll, with_turn}
-use Rattle.af_runs.specs.Sessions.{Session, setup_of, track_count}
-use Rattle.af_judge.proofs.BlocksMeet.{met_at}
-use Rattle.af_judge.proofs.EntriesFollow.{cycles_beside}
-use Rattle.af_judge.proofs.EntryTold.{cycle_beside}
+use Rattle.af_audit.proofs.Common.{All-head, All-tail, EntrySeen, FastState, IsRound, LegalClientTurn, LegalEntries, LegalEntry, LegalRound, LegalRounds, LegalTurnBy, Marks, NormalKept, RoundSeen, Run, Session, TrackTold, TracksRise, Turn, TurnFound, after_round, after_turn, all_played, before_turn, both_true, calls_in, cycle_beside, cycles_beside, each_at, each_long, each_track, early_of, ends, found_in, is_poke_on, late_of, list_any, loaded, met, met_after, met_at, met_many, mixed_track, neither, no_track, outside_of, run_from, setup_of, sides_of, state_for, takes_part, told_at, told_each, track_count, turned, turned_track, with_calls, with_cycle, with_cycles, with_ends, with_load, with_mix, with_poll, with_turn}
 use Rattle.af_audit.specs.Spared.{IsSpared, IsSparedIn, is_spared_by, is_spared_by_all, is_spared_by_turn, is_spared_in_turn, none_corrupt_on}
 use Rattle.af_audit.proofs.CallsFollow.{calls_long, told_called}
 use Rattle.af_audit.proofs.RunStands.{entry_looks, fast_parts, rises}

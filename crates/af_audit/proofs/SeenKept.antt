@@ -1,21 +1,7 @@
 -- In legal rounds: if the server of a track without a poke had seen so many flushes by the meeting after a round, what the client releases in later rounds is discarded only by looks that saw more.
-use Rattle.std.specs.Prelude.{All, []}
 use Rattle.std.proofs.Common.{◌≡◌, ℕ, zero, suc, ◌+◌, ◌*◌, ◌^◌, ◌<◌, ◌≤◌, ◌==◌, nat_le, Bool, true, false, if◌then◌else◌, List, ◌∷◌, ◌++◌, length, refl, sym, ap, ◌∙◌, subst, arith}
-use Rattle.std.specs.List.{list_any}
-use Rattle.std.proofs.lemmas.List.Elements.{All-get_or}
+use Rattle.af_audit.proofs.Common.{All, All-get_or, HasBlockHistory, IsRound, IsScript, IsTrack, LegalRound, LegalRounds, Marks, RoundSeen, Run, Session, TrackSpec, TrackTold, [], after_round, all_played, both_first, calls_in, cells_of, client_list, flushes_of, is_lawful_block, is_lawful_track, is_poke_on, list_any, new_run, no_spec, not_true, power_above, run_from, server_list, spec_of, stream_shape, takes_part, told_at, track_count}
 use Rattle.std.proofs.Math.Pow.{pow_mono}
-use Rattle.af_model.proofs.Basics.{both_first, not_true}
-use Rattle.af_model.specs.History.{flushes_of}
-use Rattle.af_model.specs.JournalForm.{IsRound}
-use Rattle.af_model.specs.Journals.{RoundSeen}
-use Rattle.af_runs.specs.Blocks.{HasBlockHistory, Marks, client_list, server_list}
-use Rattle.af_runs.specs.LegalRuns.{LegalRounds, is_lawful_block, is_lawful_track, is_poke_on, run_from}
-use Rattle.af_runs.specs.Rounds.{LegalRound, after_round, all_played}
-use Rattle.af_runs.specs.Runs.{Run, TrackTold, calls_in, new_run, takes_part, told_at}
-use Rattle.af_runs.specs.Sessions.{Session, no_spec, spec_of, stream_shape, track_count}
-use Rattle.af_script.specs.Form.{IsScript, IsTrack}
-use Rattle.af_script.specs.Ops.{cells_of, power_above}
-use Rattle.af_script.specs.declared.track.TrackSpec.{TrackSpec}
 use Rattle.af_audit.specs.Fates.{DropsByFlush}
 use Rattle.af_audit.proofs.FatesTold.{new_stands, new_there, told_new}
 use Rattle.af_audit.specs.Known.{most_seen}

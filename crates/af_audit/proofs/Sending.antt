@@ -1,16 +1,9 @@
 -- The commands that a client sends: their words are those that it releases on its command block, and a STOP carries the number of frames released before it.
 use Rattle.std.proofs.Common.{◌≡◌, ℕ, ◌-◌, ◌==◌, ◌&&◌, MatchBool, Bool, true, false, fold, List, [], ◌∷◌, ◌++◌, length, refl, sym, ap, ◌∙◌, subst, append-nil, append_assoc, eqb-true, arith}
-use Rattle.af_base.proofs.Basics.{no}
-use Rattle.af_base.specs.declared.event.ClientCall.{ClientCall}
+use Rattle.af_audit.proofs.Common.{AreCalls, ClientCall, ClientCommand, IsWanted, LegalClientTurn, Track, Want, after_call, after_calls, argument_of, both_first, both_right, most_calls, no, wrapped}
 use Rattle.af_base.specs.declared.event.ClientCall.TheVariants as call
-use Rattle.af_model.proofs.Basics.{both_first}
-use Rattle.af_model.specs.Point.{wrapped}
-use Rattle.af_model.proofs.Logic.{both_right}
-use Rattle.af_runs.specs.ClientTurns.{AreCalls, IsWanted, LegalClientTurn, Track, after_call, after_calls, argument_of, most_calls}
 use Rattle.af_runs.specs.Clients.{code_of}
-use Rattle.af_runs.specs.declared.want.ClientCommand.{ClientCommand}
 use Rattle.af_runs.specs.declared.want.ClientCommand.TheVariants as command
-use Rattle.af_runs.specs.declared.want.Want.{Want}
 use Rattle.af_runs.specs.declared.want.Want.TheVariants as want
 use Rattle.af_audit.specs.Drained.{Sent, sent_by, sent_by_all}
 
@@ -86,30 +79,15 @@ is_sent _ = false
 
 sent_right : (t : Track) (w : Want) (front code argument : ℕ) → IsWanted t w (call.Sent front code argument) → code ≡ 4 → argument ≡ wrapped (length t.stream.released)
 sent_right t (want.Send sending) front code argument made is = send_right t sending code argument made is
-sent_right t want.Settled front code argument made is = no made
-sent_right t want.Drained front code argument made is = no made
-sent_right t want.Flush front code argument made is = no made
 sent_right t (want.Gain left right) front code argument made is = no (sym (ap is_sent made))
-sent_right t (want.Write count) front code argument made is = no made
-sent_right t want.Clear front code argument made is = no made
 sent_right t (want.Poke in_command word value) front code argument made is = no (sym (ap is_sent made))
 sent_right t want.Rest front code argument made is = absurd made
 sent_right t want.Leave front code argument made is = send_right t command.Remove code argument made is
+sent_right t _ front code argument made is = no made
 
 call_right : (t : Track) (w : Want) (answer : ClientCall) → IsWanted t w answer → AreRight (sent_by t answer)
 call_right t w (call.Sent front code argument) made = (sent_right t w front code argument made, tt)
-call_right t w (call.SendFull front) made = tt
-call_right t w (call.SendDead flags) made = tt
-call_right t w (call.SendCorrupt front rear) made = tt
-call_right t w (call.Status word) made = tt
-call_right t w (call.Poke in_command word value) made = tt
-call_right t w (call.Put front count) made = tt
-call_right t w (call.Full front) made = tt
-call_right t w (call.Dead flags) made = tt
-call_right t w (call.Corrupt front rear) made = tt
-call_right t w (call.Cleared flags) made = tt
-call_right t w (call.Flush count) made = tt
-call_right t w (call.Gain word) made = tt
+call_right t w _ made = tt
 
 calls_right : (left : ℕ) (t : Track) (calls : List ClientCall) → AreCalls left t calls → AreRight (sent_by_all t calls)
 calls_right left t [] made = tt

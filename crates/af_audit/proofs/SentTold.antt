@@ -1,23 +1,6 @@
 -- What each legal round keeps of a command block without a poke.
 use Rattle.std.proofs.Common.{◌≡◌, ℕ, ◌<◌, Bool, true, false, if◌then◌else◌, List, [], ◌++◌, length, Option, Some, None, refl, sym, ap, ◌∙◌, subst, append-nil, arith}
-use Rattle.af_base.specs.declared.event.ClientCall.{ClientCall}
-use Rattle.af_base.specs.Turn.{Turn}
-use Rattle.af_judge.proofs.Basics.{each_at, met_many, told_each}
-use Rattle.af_life.specs.Drained.{LifeStep}
-use Rattle.af_life.specs.Heard.{learnt}
-use Rattle.af_life.specs.Kept.{Setup, track_in}
-use Rattle.af_life.specs.Looks.{words_taken}
-use Rattle.af_life.specs.TurnEvents.{going}
-use Rattle.af_model.specs.Journals.{RoundSeen}
-use Rattle.af_runs.specs.Blocks.{BlockTold, HasBlockHistory, Marks, is_tame, meets}
-use Rattle.af_runs.specs.Clients.{ends}
-use Rattle.af_runs.specs.ClientTurns.{Track}
-use Rattle.af_runs.specs.Found.{TurnFound, outside_of}
-use Rattle.af_runs.specs.Rounds.{LegalRound, after_round, after_turn, all_played, before_turn, early_of, found_in, late_of, loaded, met_after, turned}
-use Rattle.af_runs.specs.Runs.{Run, TrackTold, called, calls_in, commands_turned, each_track, no_track, sides_of, told_at, turned_track, with_calls, with_cycles, with_ends, with_load, with_turn}
-use Rattle.af_runs.specs.Sessions.{Session, setup_of, track_count}
-use Rattle.af_judge.proofs.BlocksMeet.{met_at}
-use Rattle.af_judge.proofs.EntriesFollow.{cycles_beside}
+use Rattle.af_audit.proofs.Common.{BlockTold, ClientCall, HasBlockHistory, LegalRound, LifeStep, Marks, RoundSeen, Run, Session, Setup, Track, TrackTold, Turn, TurnFound, after_round, after_turn, all_played, before_turn, called, calls_in, commands_turned, cycles_beside, each_at, each_track, early_of, ends, found_in, going, is_tame, late_of, learnt, loaded, meets, met_after, met_at, met_many, no_track, outside_of, setup_of, sides_of, told_at, told_each, track_count, track_in, turned, turned_track, with_calls, with_cycles, with_ends, with_load, with_turn, words_taken}
 use Rattle.af_audit.proofs.CallsFollow.{told_called}
 use Rattle.af_audit.proofs.SidesKept.{before-many, played_many}
 use Rattle.af_audit.specs.Drained.{Sent, round_steps, sent_in}

@@ -1,21 +1,12 @@
 -- What a client of a script sends: an OPEN first, and nothing after a REMOVE.
-use Rattle.std.specs.Prelude.{MatchBool}
 use Rattle.std.proofs.Common.{◌≡◌, ◌⊎◌, inl, inr, ℕ, ◌-◌, ◌≤◌, ◌==◌, ◌&&◌, ◌||◌, Bool, true, false, if◌then◌else◌, is_some, fold, List, [], ◌∷◌, ◌++◌, length, Option, Some, None, refl, sym, ap, ◌∙◌, subst, append-nil, eqb-true, length-append, arith}
-use Rattle.af_base.proofs.Basics.{no}
-use Rattle.af_base.specs.declared.event.ClientCall.{ClientCall}
+use Rattle.af_audit.proofs.Common.{AreCalls, Client, ClientCall, ClientCommand, IsWanted, LegalClientTurn, MatchBool, OPEN, Op, REMOVE, Track, Want, after_answer, after_call, after_calls, answered, are_whole, argument_of, asked_first, at_next_turn, begins, begins_ended, begun, both_first, commands_sent, ends, is_of_commands, is_send, most_calls, new_client, no, released_by, rest_of, rested, wanted_of, wants_of, with_call}
 use Rattle.af_base.specs.declared.event.ClientCall.TheVariants as call
-use Rattle.af_judge.proofs.Basics.{begins_ended}
-use Rattle.af_life.specs.declared.command.TheConstants.{OPEN, REMOVE}
-use Rattle.af_model.proofs.Basics.{both_first}
-use Rattle.af_script.specs.Ops.{are_whole}
-use Rattle.af_script.specs.declared.op.Op.{Op}
 use Rattle.af_script.specs.declared.op.Op.TheVariants as op
-use Rattle.af_runs.specs.declared.want.ClientCommand.{ClientCommand}
 use Rattle.af_runs.specs.declared.want.ClientCommand.TheVariants as command
-use Rattle.af_runs.specs.declared.want.Want.{Want}
 use Rattle.af_runs.specs.declared.want.Want.TheVariants as want
-use Rattle.af_runs.specs.Clients.{Client, after_answer, asked_first, at_next_turn, begins, begun, code_of, ends, new_client, rest_of, rested, wants_of}
-use Rattle.af_runs.specs.ClientTurns.{AreCalls, IsWanted, LegalClientTurn, Track, after_call, after_calls, answered, argument_of, called, commands_sent, is_of_commands, is_send, most_calls, released_by, wanted_of, with_call}
+use Rattle.af_runs.specs.Clients.{code_of}
+use Rattle.af_runs.specs.ClientTurns.{called}
 use Rattle.af_audit.proofs.StartWords.{words_of, words_join, OpensFirst, NoneRemoves, RemovesLast, none_join, removes_more, opens_more}
 use Rattle.af_audit.proofs.Sending.{is_sent}
 
@@ -39,13 +30,7 @@ words_sent t (call.SendDead flags) = refl
 words_sent t (call.SendCorrupt front rear) = refl
 words_sent t (call.Status word) = refl
 words_sent t (call.Poke in_command word value) = still_side t (call.Poke in_command word value) in_command refl (λ is. refl)
-words_sent t (call.Put front count) = sym (append-nil t.commands.released)
-words_sent t (call.Full front) = sym (append-nil t.commands.released)
-words_sent t (call.Dead flags) = sym (append-nil t.commands.released)
-words_sent t (call.Corrupt front rear) = sym (append-nil t.commands.released)
-words_sent t (call.Cleared flags) = sym (append-nil t.commands.released)
-words_sent t (call.Flush count) = sym (append-nil t.commands.released)
-words_sent t (call.Gain word) = sym (append-nil t.commands.released)
+words_sent t _ = sym (append-nil t.commands.released)
 
 -- ## Clients
 
@@ -66,16 +51,7 @@ due_open c is = ap (λ (wants : List Want). (begins c wants c.ops).due) is
 pub open_first : (ops : List Op) → are_whole ops ≡ true → AtOpen (new_client ops)
 open_first [] whole = no whole
 open_first (op.OpenTrack ∷ ops) whole = refl
-open_first (op.Start ∷ ops) whole = no whole
-open_first (op.Pause ∷ ops) whole = no whole
-open_first (op.Stop ∷ ops) whole = no whole
-open_first (op.Flush ∷ ops) whole = no whole
-open_first (op.Drain ∷ ops) whole = no whole
-open_first (op.Remove ∷ ops) whole = no whole
-open_first (op.Yield ∷ ops) whole = no whole
-open_first (op.Gain left right ∷ ops) whole = no whole
-open_first (op.Write count ∷ ops) whole = no whole
-open_first (op.Poke in_command word value ∷ ops) whole = no whole
+open_first _ whole = no whole
 
 -- What a client has sent: it has ended, or is to send its OPEN, or has sent that and no REMOVE
 pub record SentSo (words : List ℕ) (c : Client) : Type 0 where
@@ -106,30 +82,15 @@ sending_fine command.Remove wants c n front code argument asked is = inr refl
 
 sent_fine : (t : Track) (w : Want) (wants : List Want) (c : Client) (n front code argument : ℕ) → IsWanted t w (call.Sent front code argument) → SentFine ((code, argument) ∷ []) (after_answer n w wants c (call.Sent front code argument))
 sent_fine t (want.Send sending) wants c n front code argument is = sending_fine sending wants c n front code argument (argument_of t sending) is
-sent_fine t want.Settled wants c n front code argument is = no is
-sent_fine t want.Drained wants c n front code argument is = no is
-sent_fine t want.Flush wants c n front code argument is = no is
 sent_fine t (want.Gain left right) wants c n front code argument is = no (sym (ap is_sent is))
-sent_fine t (want.Write count) wants c n front code argument is = no is
-sent_fine t want.Clear wants c n front code argument is = no is
 sent_fine t (want.Poke in_command word value) wants c n front code argument is = no (sym (ap is_sent is))
 sent_fine t want.Rest wants c n front code argument is = absurd is
 sent_fine t want.Leave wants c n front code argument is = inr refl
+sent_fine t _ wants c n front code argument is = no is
 
 answer_fine : (t : Track) (w : Want) (wants : List Want) (c : Client) (n : ℕ) (answer : ClientCall) → IsWanted t w answer → SentFine (sent_by answer) (after_answer n w wants c answer)
 answer_fine t w wants c n (call.Sent front code argument) is = sent_fine t w wants c n front code argument is
-answer_fine t w wants c n (call.SendFull front) is = tt
-answer_fine t w wants c n (call.SendDead flags) is = tt
-answer_fine t w wants c n (call.SendCorrupt front rear) is = tt
-answer_fine t w wants c n (call.Status word) is = tt
-answer_fine t w wants c n (call.Poke in_command word value) is = tt
-answer_fine t w wants c n (call.Put front count) is = tt
-answer_fine t w wants c n (call.Full front) is = tt
-answer_fine t w wants c n (call.Dead flags) is = tt
-answer_fine t w wants c n (call.Corrupt front rear) is = tt
-answer_fine t w wants c n (call.Cleared flags) is = tt
-answer_fine t w wants c n (call.Flush count) is = tt
-answer_fine t w wants c n (call.Gain word) is = tt
+answer_fine t w wants c n _ is = tt
 
 -- an answer to a client that is to send its OPEN: it was sent, or the client still wants it, or the client has ended
 abbrev OpenAnswered : ℕ → Client → ClientCall → Type 0
@@ -142,15 +103,7 @@ open_answered n argument c (call.Sent front code given) is = inl (given, ap (λ 
 open_answered n argument c (call.SendFull front) is = inr (refl, inr refl)
 open_answered n argument c (call.SendDead flags) is = inr (refl, inl refl)
 open_answered n argument c (call.SendCorrupt front rear) is = inr (refl, inl refl)
-open_answered n argument c (call.Status word) is = no is
-open_answered n argument c (call.Poke in_command word value) is = no is
-open_answered n argument c (call.Put front count) is = no is
-open_answered n argument c (call.Full front) is = no is
-open_answered n argument c (call.Dead flags) is = no is
-open_answered n argument c (call.Corrupt front rear) is = no is
-open_answered n argument c (call.Cleared flags) is = no is
-open_answered n argument c (call.Flush count) is = no is
-open_answered n argument c (call.Gain word) is = no is
+open_answered n argument c _ is = no is
 
 -- ## A call
 
@@ -214,18 +167,7 @@ module _ (t : Track) (w : Want) (answer : ClientCall) (wanted : wanted_of t ≡ 
           where
             one_at_most : (a : ClientCall) → length (sent_by a) ≤ 1
             one_at_most (call.Sent front code argument) = omega arith
-            one_at_most (call.SendFull front) = omega arith
-            one_at_most (call.SendDead flags) = omega arith
-            one_at_most (call.SendCorrupt front rear) = omega arith
-            one_at_most (call.Status word) = omega arith
-            one_at_most (call.Poke in_command word value) = omega arith
-            one_at_most (call.Put front count) = omega arith
-            one_at_most (call.Full front) = omega arith
-            one_at_most (call.Dead flags) = omega arith
-            one_at_most (call.Corrupt front rear) = omega arith
-            one_at_most (call.Cleared flags) = omega arith
-            one_at_most (call.Flush count) = omega arith
-            one_at_most (call.Gain word) = omega arith
+            one_at_most _ = omega arith
 
     -- the client is to send its OPEN in the call
     opened : h.sent ≡ [] → AtOpen t.client → SentSo (after_call t answer).commands.released d

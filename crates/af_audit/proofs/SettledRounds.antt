@@ -1,26 +1,7 @@
 -- What is kept of a track through the legal rounds of a run: what its client sent, what its mixer settled, and which flush counts its stream's server had seen by then.
 use Rattle.std.proofs.Common.{◌≡◌, inr, inl, ℕ, ◌<◌, ◌≤◌, true, false, List, [], ◌∷◌, ◌++◌, length, Some, refl, sym, subst, arith, Bool}
-use Rattle.std.specs.List.{list_any}
-use Rattle.std.specs.Prelude.{All}
-use Rattle.std.proofs.lemmas.List.{length-map, length-replicate}
-use Rattle.std.proofs.lemmas.List.Elements.{All-get_or, All-head, All-tail}
-use Rattle.af_base.proofs.Basics.{neither}
-use Rattle.af_base.specs.Turn.{Turn}
-use Rattle.af_life.proofs.Basics.{at_new}
-use Rattle.af_life.specs.declared.kept.TrackKept.{TrackKept}
-use Rattle.af_life.specs.Heard.{heard, learnt}
-use Rattle.af_life.specs.Kept.{Learnt, NormalKept, new_normal, new_track as new_mixed, track_at}
-use Rattle.af_life.specs.TurnEvents.{tracks_at}
-use Rattle.af_model.specs.JournalForm.{IsRound}
-use Rattle.af_model.specs.Journals.{RoundSeen}
-use Rattle.af_runs.specs.Blocks.{Marks}
-use Rattle.af_runs.specs.Found.{LegalTurnBy, outside_of}
-use Rattle.af_runs.specs.LegalRuns.{LegalRounds, is_poke_on, run_from}
-use Rattle.af_runs.specs.Rounds.{LegalRound, after_round, after_turn, all_played, before_turn, early_of, found_in, late_of, met_after}
-use Rattle.af_runs.specs.Runs.{Run, TrackTold, calls_in, new_run, new_track, told_at, with_calls, with_cycles}
-use Rattle.af_runs.specs.Sessions.{Session, no_spec, setup_of, spec_of, spec_setting, track_count}
-use Rattle.af_script.specs.Form.{IsScript, IsTrack}
-use Rattle.af_judge.proofs.EntriesFollow.{cycles_beside}
+use Rattle.af_audit.proofs.Common.{All, All-get_or, All-head, All-tail, IsRound, IsScript, IsTrack, Learnt, LegalRound, LegalRounds, LegalTurnBy, Marks, NormalKept, RoundSeen, Run, Session, TrackKept, TrackTold, Turn, after_round, after_turn, all_played, at_new, before_turn, calls_in, cycles_beside, early_of, found_in, heard, is_poke_on, late_of, learnt, length-map, length-replicate, list_any, met_after, neither, new_normal, new_run, new_track, no_spec, outside_of, run_from, setup_of, spec_of, spec_setting, told_at, track_at, track_count, tracks_at, with_calls, with_cycles}
+use Rattle.af_life.specs.Kept.{new_track as new_mixed}
 use Rattle.af_audit.specs.Known.{most_seen}
 use Rattle.af_audit.proofs.CommandRounds.{CommandsAt, CommandsSo, at_more, calls_at, cycles_at, ends_at, loaded_at, met_at_so, turned_at}
 use Rattle.af_audit.proofs.Drops.{most_grows}

@@ -1,38 +1,8 @@
 -- In a legal run of a script: if a client saw its START settled, the frames that it released in later rounds are discarded only by looks that saw a flush count above that of the START.
-use Rattle.std.specs.Prelude.{All, slice_get, []}
-use Rattle.std.specs.List.{list_any}
 use Rattle.std.proofs.Common.{◌≡◌, ◌⊎◌, inl, inr, ℕ, ◌+◌, ◌*◌, ◌/◌, ◌<◌, ◌≤◌, true, false, List, ◌∷◌, ◌++◌, take, drop, length, Option, Some, None, refl, sym, ap, ◌∙◌, subst, append_assoc, arith, Bool}
-use Rattle.std.proofs.Math.Nat.{zero-div}
-use Rattle.std.proofs.lemmas.List.{take-append-drop}
-use Rattle.af_base.specs.declared.event.ClientEvent.{ClientEvent}
+use Rattle.af_audit.proofs.Common.{All, BlockTold, Client, ClientEvent, Frame, HasBlockHistory, HasHistory, IsLegalRun, IsRound, IsScript, JournalData, LegalRounds, Marks, RoundSeen, Run, START, ScriptData, ServerEvent, Session, Shape, Side, Track, TrackKept, TrackTold, Turn, TurnFound, [], after_calls, after_round, after_turn, all_played, before_turn, both_right, called, calls_in, client_list, cycles_beside, each_at, early_of, found_in, is_lawful, is_lawful_block, is_lawful_track, is_poke_on, late_of, lawful_more, list_any, loaded, marks_of, meets, met_after, met_at, new_run, no_track, not_true, outside_of, run_from, server_list, session_of, settled_in, setup_of, side_of, sides_called, sides_of, slice_get, take-append-drop, takes_part, told_at, told_each, track_at, track_count, turned, turned_track, with_calls, with_cycles, with_load, with_turn, zero-div}
 use Rattle.af_base.specs.declared.event.ClientEvent.TheVariants as client
-use Rattle.af_base.specs.declared.event.ServerEvent.{ServerEvent}
-use Rattle.af_base.specs.declared.frame.Frame.{Frame}
-use Rattle.af_base.specs.Turn.{Turn}
-use Rattle.af_judge.proofs.Basics.{each_at, told_each}
-use Rattle.af_life.specs.declared.command.TheConstants.{START}
-use Rattle.af_life.specs.declared.kept.TrackKept.{TrackKept}
-use Rattle.af_life.specs.Kept.{track_at}
-use Rattle.af_model.proofs.Basics.{not_true}
-use Rattle.af_model.specs.declared.shape.Shape.{Shape}
-use Rattle.af_model.specs.History.{HasHistory, is_lawful}
-use Rattle.af_model.specs.JournalForm.{IsRound}
-use Rattle.af_model.specs.Journals.{JournalData, RoundSeen}
-use Rattle.af_model.proofs.Counts.{lawful_more}
-use Rattle.af_model.proofs.Logic.{both_right}
-use Rattle.af_runs.specs.Blocks.{BlockTold, HasBlockHistory, Marks, client_list, hand_list, meets, server_list}
-use Rattle.af_runs.specs.Clients.{Client, settled_in}
-use Rattle.af_runs.specs.ClientTurns.{Side, Track, after_calls}
-use Rattle.af_runs.specs.Found.{TurnFound, outside_of}
-use Rattle.af_runs.specs.LegalRuns.{IsLegalRun, LegalRounds, is_lawful_block, is_lawful_track, is_poke_on, marks_of, run_from, session_of}
-use Rattle.af_runs.specs.Rounds.{after_round, after_turn, all_played, before_turn, early_of, found_in, late_of, loaded, met_after, turned}
-use Rattle.af_runs.specs.Runs.{Run, TrackTold, called, calls_in, new_run, no_track, side_of, sides_of, takes_part, told_at, turned_track, with_calls, with_cycles, with_load, with_turn}
-use Rattle.af_runs.specs.Sessions.{Session, setup_of, track_count}
-use Rattle.af_script.specs.Data.{ScriptData}
-use Rattle.af_script.specs.Form.{IsScript}
-use Rattle.af_judge.proofs.BlocksMeet.{met_at}
-use Rattle.af_judge.proofs.EntriesFollow.{cycles_beside}
-use Rattle.af_judge.proofs.TracksTold.{sides_called}
+use Rattle.af_runs.specs.Blocks.{hand_list}
 use Rattle.af_audit.specs.Known.{most_seen}
 use Rattle.af_audit.specs.Settled.{DiscardsAbove, SeesSettled, SettledMeansKept}
 use Rattle.af_audit.proofs.CommandDrops.{taken_first}

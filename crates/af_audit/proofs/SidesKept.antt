@@ -1,35 +1,7 @@
 -- What clients have of their tracks stays, whatever the mixers do.
 use Rattle.std.proofs.Common.{◌≡◌, ℕ, ◌<◌, ◌≤◌, Bool, true, false, if◌then◌else◌, List, [], ◌∷◌, length, map, flat_map, Option, Some, None, arith, refl, sym, ap, subst, ◌∙◌}
-use Rattle.af_base.specs.declared.event.ClientCall.{ClientCall}
-use Rattle.af_base.specs.declared.event.ClientEvent.{ClientEvent}
-use Rattle.af_base.specs.declared.event.HandEvent.{HandEvent}
-use Rattle.af_base.specs.declared.event.ServerEvent.{ServerEvent}
-use Rattle.af_base.specs.declared.state.FastState.{FastState}
-use Rattle.af_base.specs.Log.{entry_slot}
-use Rattle.af_base.specs.Sample.{packed_word}
-use Rattle.af_base.specs.Turn.{TakeSeen, Turn}
-use Rattle.af_judge.proofs.Basics.{each_at, each_long, met_many, shape_met, told_each}
-use Rattle.af_judge.specs.Tracks.{AreSpelled}
-use Rattle.af_judge.proofs.BlocksMeet.{met_at, track_spelled}
-use Rattle.af_judge.proofs.BlocksTold.{hand-client, server-client}
-use Rattle.af_judge.proofs.EntriesFollow.{cycles_beside}
-use Rattle.af_judge.proofs.EntryTold.{cycle_beside}
+use Rattle.af_audit.proofs.Common.{AreSpelled, BlockTold, ClientCall, ClientEvent, EntrySeen, FastState, HandEvent, LegalClientTurn, NormalKept, Outside, RoundSeen, Run, ServerEvent, Session, Setup, Side, TakeSeen, Track, TrackTold, Turn, TurnFound, after_calls, after_round, after_turn, all_played, before_turn, called, calls_in, command_list, cycle_beside, cycle_events, cycle_frames, cycles_beside, each_at, each_long, each_track, early_of, ends, entry_slot, found_in, front_of, going, hand-client, hand_does, hand_list, late_of, learnt, listed, loaded, met, met_at, met_many, mixed_track, no_track, outside_of, packed_word, played, server-client, server_does, setup_of, shape_met, shapes_called, side_of, sides_called, sides_of, slot_for, slot_frames, state_for, stream_list, takes_from, takes_part, told_at, told_each, took, track_in, track_spelled, tracks_at, turned, turned_track, with_calls, with_cycle, with_cycles, with_ends, with_load, with_mix, with_poll, with_turn, words_taken}
 use Rattle.af_judge.proofs.Spelled.{spelled_turn}
-use Rattle.af_judge.proofs.TracksTold.{shapes_called, sides_called}
-use Rattle.af_life.specs.Heard.{learnt}
-use Rattle.af_life.specs.Kept.{NormalKept, Outside, Setup, track_in}
-use Rattle.af_life.specs.Looks.{words_taken}
-use Rattle.af_life.specs.TurnEvents.{command_list, going, hand_list, stream_list, takes_from, tracks_at}
-use Rattle.af_model.specs.Cycles.{cycle_events}
-use Rattle.af_model.specs.Journals.{EntrySeen, RoundSeen, slot_frames}
-use Rattle.af_runs.specs.Blocks.{BlockTold, hand_does, listed, server_does, took}
-use Rattle.af_runs.specs.Clients.{ends}
-use Rattle.af_runs.specs.ClientTurns.{LegalClientTurn, Side, Track, after_calls}
-use Rattle.af_runs.specs.Found.{TurnFound, outside_of}
-use Rattle.af_runs.specs.Fronts.{front_of}
-use Rattle.af_runs.specs.Rounds.{after_round, after_turn, all_played, before_turn, early_of, found_in, late_of, loaded, turned}
-use Rattle.af_runs.specs.Runs.{Run, TrackTold, called, calls_in, each_track, met, mixed_track, no_track, played, side_of, sides_of, slot_for, state_for, takes_part, told_at, turned_track, with_calls, with_cycle, with_cycles, with_ends, with_load, with_mix, with_poll, with_turn}
-use Rattle.af_runs.specs.Sessions.{Session, cycle_frames, setup_of}
 use Rattle.af_audit.specs.RunKept.{IsFit, IsLegalCaller}
 use Rattle.af_audit.proofs.CallsFollow.{calls_long, told_called}
 

@@ -1,22 +1,7 @@
 -- In a legal run each block without a poke is spared.
 use Rattle.std.proofs.Common.{◌≡◌, ℕ, ◌<◌, Bool, true, false, if◌then◌else◌, List, [], ◌∷◌, length, inl, refl, sym, ap, ◌∙◌, subst, arith}
-use Rattle.std.specs.List.{list_any}
-use Rattle.std.proofs.lemmas.List.Elements.{All-get_or}
-use Rattle.af_base.specs.declared.frame.Frame.{Frame}
-use Rattle.af_judge.proofs.Basics.{each_long, met_many, told_each}
-use Rattle.af_model.proofs.Basics.{not_true}
-use Rattle.af_model.proofs.RoomKept.{never_corrupt, never_shut}
+use Rattle.af_audit.proofs.Common.{All-get_or, BlockTold, Frame, HasBlockHistory, IsLegalRun, IsScript, IsTrack, JournalData, LegalRound, LegalRounds, Marks, RoundSeen, Run, ScriptData, Session, Shape, TrackTold, after_round, all_played, calls_in, command_shape, each_long, each_track, ends, is_lawful_block, is_poke_on, is_tame, list_any, marks_of, met_after, met_many, never_corrupt, never_shut, new_run, new_track, no_spec, not_true, run_from, run_of, session_of, sides_of, told_at, told_each, track_count, with_ends}
 use Rattle.af_model.specs.ClientCalls as list
-use Rattle.af_model.specs.Journals.{JournalData, RoundSeen}
-use Rattle.af_model.specs.declared.shape.Shape.{Shape}
-use Rattle.af_runs.specs.Blocks.{BlockTold, HasBlockHistory, Marks, is_tame}
-use Rattle.af_runs.specs.Clients.{ends}
-use Rattle.af_runs.specs.LegalRuns.{IsLegalRun, LegalRounds, is_lawful_block, is_poke_on, marks_of, run_from, run_of, session_of}
-use Rattle.af_runs.specs.Rounds.{LegalRound, after_round, all_played, met_after}
-use Rattle.af_runs.specs.Runs.{Run, TrackTold, calls_in, each_track, new_run, new_track, sides_of, told_at, with_ends}
-use Rattle.af_runs.specs.Sessions.{Session, command_shape, no_spec, track_count}
-use Rattle.af_script.specs.Data.{ScriptData}
-use Rattle.af_script.specs.Form.{IsScript, IsTrack}
 use Rattle.af_audit.specs.RunKept.{IsFit}
 use Rattle.af_audit.specs.Spared.{EachLawfulBlockIsSpared, IsSpared}
 use Rattle.af_audit.proofs.FatesTold.{new_history, new_there, told_new, track_has_fates}

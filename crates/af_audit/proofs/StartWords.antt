@@ -1,7 +1,6 @@
 -- The commands of a block as pairs of a code and an argument, and which of them may follow one another.
-use Rattle.std.specs.Prelude.{slice_get}
 use Rattle.std.proofs.Common.{◌≡◌, ℕ, zero, suc, ◌+◌, ◌*◌, ◌<◌, ◌≤◌, ◌==◌, ◌++◌, false, List, [], ◌∷◌, length, get_or, unwrap_or, Option, Some, refl, ap, subst, arith}
-use Rattle.af_life.specs.declared.command.TheConstants.{OPEN, START, REMOVE}
+use Rattle.af_audit.proofs.Common.{OPEN, REMOVE, START, slice_get}
 
 -- the words of some commands
 abbrev pub words_of : List (ℕ × ℕ) → List ℕ

@@ -1,31 +1,13 @@
 -- A track settles its commands in order, and a START only once its flush count was heard to be seen.
-use Rattle.std.specs.Prelude.{MatchBool, nat_lt, nat_le}
-use Rattle.std.specs.List.{AllByRecursion}
 use Rattle.std.proofs.Common.{◌≡◌, ◌⊎◌, inl, inr, ℕ, zero, suc, ◌+◌, ◌≤◌, ◌==◌, ◌&&◌, not, Bool, true, false, true≢false, if◌then◌else◌, is_some, List, [], ◌∷◌, ◌++◌, length, Option, Some, None, refl, sym, ap, ◌∙◌, subst, append-nil, append_assoc, eqb-true, eq-eqb, length-append, arith}
-use Rattle.std.proofs.lemmas.Bool.Decides.{nat_tests}
-use Rattle.af_base.proofs.Basics.{never_true, no, none_of, not_below_is}
-use Rattle.af_base.specs.declared.report.SlotReport.{SlotReport}
-use Rattle.af_base.specs.declared.turn.CommandLook.{CommandLook}
-use Rattle.af_life.proofs.Basics.{ready_life}
-use Rattle.af_life.specs.declared.command.TheConstants.{OPEN, START, REMOVE}
-use Rattle.af_life.specs.declared.kept.Heard.{Heard}
-use Rattle.af_life.specs.declared.kept.TrackKept.{TrackKept}
-use Rattle.af_life.specs.declared.state.LifeState.{LifeState}
-use Rattle.af_life.specs.declared.state.LifeState.TheVariants.{Absent}
+use Rattle.af_audit.proofs.Common.{Absent, AllByRecursion, CommandLook, HasDueLooks, Heard, Learnt, Life, LifeState, MatchBool, OPEN, REMOVE, Row, START, Setup, SlotReport, TrackKept, after_look, after_looks, after_part, applies, are_due, both_first, by_command, commands, counts_in, ended, first_effect, goes_on, grew_command, grew_report, heard, is_absent, is_home, is_reached, is_reported, is_shut, most_looks, must_wait, nat_le, nat_lt, nat_tests, never_true, no, no_counts, none_of, not_below_is, noted, obeyed, opened as opened_life, opens, ready, ready_life, served, settled_at, shows_command, slot_reported, starts, status_due, track_at, words_taken}
 use Rattle.af_life.specs.declared.track.Known.{Known}
-use Rattle.af_life.specs.declared.track.Life.{Life}
-use Rattle.af_life.specs.Commands.{Row, applies, commands, first_effect, by_command, opened, starts}
-use Rattle.af_life.specs.Heard.{heard, noted, is_reported, is_reached, ready, settled_at, slot_reported, counts_in}
-use Rattle.af_life.specs.Kept.{Setup, Learnt, is_home, no_counts, track_at}
-use Rattle.af_life.specs.Looks.{words_taken}
-use Rattle.af_life.specs.Obeys.{after_look, after_looks, are_due, commanded, ended, goes_on, is_shut, must_wait, obeyed, opens, shows_command, slot_for, told}
+use Rattle.af_life.specs.Commands.{opened}
+use Rattle.af_life.specs.Obeys.{commanded, slot_for, told}
 use Rattle.af_life.specs.Reports.{by_report}
-use Rattle.af_life.specs.Serves.{HasDueLooks, after_part, most_looks, served, status_due}
 use Rattle.af_life.specs.State.{is_among}
-use Rattle.af_judge.proofs.SoundLives.{grew_command, grew_report, is_absent, opened as opened_life}
 use Rattle.af_audit.proofs.StartWords.{IsOrderly, NoneRemoves, OpensFirst, StartsSeen, none_before, none_split, orderly_front, seen_join, words_join, words_of}
 use Rattle.af_audit.proofs.StepsTaken.{look_words, no_more}
-use Rattle.af_model.proofs.Basics.{both_first}
 
 -- ## What is settled
 

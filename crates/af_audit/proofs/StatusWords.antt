@@ -1,15 +1,8 @@
 -- How many commands a stored status counts as settled.
 use Rattle.std.proofs.Common.{◌≡◌, ℕ, ◌+◌, ◌*◌, ◌/◌, ◌≤◌, Bool, true, false, if◌then◌else◌, List, [], ◌∷◌, ◌++◌, sym, ap, subst, ◌∙◌, arith}
-use Rattle.std.proofs.lemmas.Nat.{div-mul-add}
-use Rattle.af_base.specs.declared.event.ServerEvent.{ServerEvent}
+use Rattle.af_audit.proofs.Common.{Absent, Active, Flushed, Idle, Life, LifeState, Paused, Pausing, Resuming, ServerEvent, Stopped, Stopping1, Stopping2, TrackKept, div-mul-add, settled_in, state_code, status_word}
 use Rattle.af_base.specs.declared.event.ServerEvent.TheVariants as server
-use Rattle.af_life.specs.declared.kept.TrackKept.{TrackKept}
-use Rattle.af_life.specs.declared.state.LifeState.{LifeState}
-use Rattle.af_life.specs.declared.state.LifeState.TheVariants.{Absent, Idle, Active, Pausing, Paused, Resuming, Stopping1, Stopping2, Stopped, Flushed}
-use Rattle.af_life.specs.declared.track.Life.{Life}
-use Rattle.af_life.specs.Serves.{state_code, status_word}
 use Rattle.af_life.specs.State.{code_of}
-use Rattle.af_runs.specs.Clients.{settled_in}
 use Rattle.std.specs.Prelude.{◌%◌}
 
 -- ## A word
@@ -61,15 +54,7 @@ statuses_join most (x ∷ xs) ys h g = (h.0, statuses_join most xs ys h.1 g)
 
 status_more : (few most : ℕ) (e : ServerEvent) → few ≤ most → StatusLow few e → StatusLow most e
 status_more few most (server.SetStatus word) low h = omega (arith, low, h)
-status_more few most (server.SawGain word) low h = tt
-status_more few most (server.SawFlush flush) low h = tt
-status_more few most (server.SawRear rear) low h = tt
-status_more few most (server.SawFront front) low h = tt
-status_more few most (server.Drop to) low h = tt
-status_more few most (server.Take count) low h = tt
-status_more few most (server.Tally missing) low h = tt
-status_more few most (server.SetFlags bits) low h = tt
-status_more few most (server.Learn count) low h = tt
+status_more few most _ low h = tt
 
 pub statuses_more : (few most : ℕ) (es : List ServerEvent) → few ≤ most → StatusesLow few es → StatusesLow most es
 statuses_more few most [] low h = tt

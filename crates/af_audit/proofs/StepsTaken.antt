@@ -1,23 +1,9 @@
 -- The commands among the steps of a track's life are those that the looks of its turns took, and the STOP that stopped it last has its number among them.
-use Rattle.std.specs.Prelude.{MatchBool}
 use Rattle.std.proofs.Common.{◌≡◌, ◌⊎◌, inl, inr, ℕ, zero, suc, ◌+◌, ◌==◌, Bool, true, false, if◌then◌else◌, is_some, List, [], ◌∷◌, ◌++◌, length, slice_get, Option, Some, refl, sym, ap, ◌∙◌, append-nil, append_assoc, length-append, eqb-true, arith}
-use Rattle.std.proofs.lemmas.Option.{none-some}
-use Rattle.af_base.proofs.Basics.{no}
-use Rattle.af_base.specs.declared.turn.CommandLook.{CommandLook}
-use Rattle.af_base.specs.Turn.{Turn, TrackSeen}
-use Rattle.af_life.specs.declared.kept.TrackKept.{TrackKept}
-use Rattle.af_life.specs.Commands.{starts}
-use Rattle.af_life.specs.Drained.{LifeStep, told, heard_of, cut, StoppedAt, life_of, looks_steps, stops, track_steps}
-use Rattle.af_life.specs.Heard.{heard, ready}
-use Rattle.af_life.specs.Kept.{Learnt, NormalKept, Setup, nothing_seen, track_at, track_in}
-use Rattle.af_life.specs.Looks.{words_taken}
-use Rattle.af_life.specs.Obeys.{after_look, are_due, goes_on, is_shut, shows_command, slot_for}
-use Rattle.af_life.specs.Serves.{IsServed, LegalTrack, most_looks}
-use Rattle.af_life.specs.TurnEvents.{going, tracks_at}
+use Rattle.af_audit.proofs.Common.{CommandLook, IsServed, Learnt, LegalTrack, LifeStep, MatchBool, NormalKept, Setup, StoppedAt, TrackKept, TrackSeen, Turn, after_look, are_due, both_first, cut, goes_on, going, heard, heard_of, is_shut, life_of, look_steps, looks_steps, most_looks, no, none-some, nothing_seen, ready, shows_command, starts, stops, told, track_at, track_in, track_steps, tracks_at, words_taken}
+use Rattle.af_life.specs.Obeys.{slot_for}
 use Rattle.af_audit.specs.Drained.{commands_in, stop_number}
 use Rattle.af_audit.proofs.StartWords.{words_join, words_of}
-use Rattle.af_life.proofs.Lives.{look_steps}
-use Rattle.af_model.proofs.Basics.{both_first}
 
 -- ## The commands among steps
 

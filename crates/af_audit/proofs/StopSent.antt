@@ -1,8 +1,6 @@
 -- If the commands that were taken begin those that were sent, the STOP that stopped a life last is the command of the same number that was sent.
 use Rattle.std.proofs.Common.{◌≡◌, ℕ, zero, suc, List, [], ◌∷◌, length, take, get_or, slice_get, Some, refl, sym, ap, ◌∙◌, subst, arith}
-use Rattle.std.proofs.lemmas.Option.{none-some, same_Some}
-use Rattle.af_life.specs.Drained.{LifeStep, StoppedAt}
-use Rattle.af_runs.specs.Blocks.{BlockTold}
+use Rattle.af_audit.proofs.Common.{BlockTold, LifeStep, StoppedAt, none-some, same_Some}
 use Rattle.af_audit.specs.Drained.{IsStopSent, Sent, stop_number}
 use Rattle.af_audit.proofs.Sending.{AreRight, IsRight, words_sent}
 use Rattle.af_audit.proofs.StepsTaken.{steps_words, stop_told, told_in}

@@ -1,20 +1,7 @@
 -- In a legal round each track that is reported drained was stopped at a count that its mixer has heard to be consumed.
 use Rattle.std.proofs.Common.{◌≡◌, ℕ, ◌<◌, Bool, true, List, [], ◌∷◌, length, Option, Some, None, refl, sym, ap, ◌∙◌, subst, arith}
-use Rattle.std.proofs.lemmas.List.{length-replicate, length-map}
-use Rattle.af_base.proofs.Basics.{no}
-use Rattle.af_base.specs.Turn.{Turn}
-use Rattle.af_life.proofs.Basics.{at_new}
-use Rattle.af_life.specs.Drained.{LifeStep, Turned, DrainedIsReached, IsDrainedBy, AreLegal, kept_after, steps_of, track_steps, most_heard, reports_drained}
-use Rattle.af_life.specs.Heard.{learnt}
-use Rattle.af_life.specs.Kept.{Setup, NormalKept, new_normal, new_track, track_at, track_in}
-use Rattle.af_life.specs.declared.kept.TrackKept.{TrackKept}
-use Rattle.af_life.specs.Turn.{LegalTurn, turn_after}
-use Rattle.af_model.specs.Journals.{RoundSeen}
-use Rattle.af_runs.specs.Blocks.{Marks}
-use Rattle.af_runs.specs.Found.{LegalTurnBy, TurnFound, outside_of}
-use Rattle.af_runs.specs.Rounds.{LegalRound, after_round, found_in}
-use Rattle.af_runs.specs.Runs.{Run, new_run}
-use Rattle.af_runs.specs.Sessions.{Session, setup_of, spec_setting, track_count}
+use Rattle.af_audit.proofs.Common.{AreLegal, DrainedIsReached, IsDrainedBy, LegalRound, LegalTurn, LegalTurnBy, LifeStep, Marks, NormalKept, RoundSeen, Run, Session, Setup, TrackKept, Turn, TurnFound, Turned, after_round, at_new, found_in, kept_after, learnt, length-map, length-replicate, most_heard, new_normal, new_run, no, outside_of, reports_drained, setup_of, spec_setting, steps_of, track_at, track_count, track_in, track_steps, turn_after}
+use Rattle.af_life.specs.Kept.{new_track}
 use Rattle.af_audit.proofs.MixerTurns.{mixer_after, round_normal, turn_legal}
 use Rattle.af_audit.specs.Drained.{says_drained, round_steps}
 

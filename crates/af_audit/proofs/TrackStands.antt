@@ -1,31 +1,7 @@
 -- What holds of a track through each step of a round: its client released the first frames of its file and poked nothing, and its server dropped frames only by flushes that it noticed.
 use Rattle.std.proofs.Common.{◌≡◌, ℕ, Bool, true, false, fold, map, List, [], ◌∷◌, ◌++◌, drop, length, Option, Some, None, refl, sym, ap, ◌∙◌, subst, append-nil, append_assoc}
-use Rattle.std.specs.List.{list_any}
-use Rattle.af_base.specs.declared.event.ClientCall.{ClientCall}
+use Rattle.af_audit.proofs.Common.{ClientCall, EntrySeen, FastState, HandEvent, LegalTurn, Listed, LooksBy, Moment, NormalKept, Outside, ServerEvent, Session, Setup, TrackTold, TracksRise, Turn, after_calls, both_lawful, by_hand, by_server, called, client-server, client_list, cycle_events, cycle_frames, ends, entry_slot, front_of, hand-client, hand_list, is_lawful, is_poke_on, learnt, list_any, listed, meets, mixed_track, played, server-client, server_list, server_of, sides_called, sides_of, slot_for, stream_list, stream_met, tracks_at, turned_track}
 use Rattle.af_base.specs.declared.event.ClientEvent.TheVariants as client
-use Rattle.af_base.specs.declared.event.HandEvent.{HandEvent}
-use Rattle.af_base.specs.declared.event.ServerEvent.{ServerEvent}
-use Rattle.af_base.specs.declared.state.FastState.{FastState}
-use Rattle.af_base.specs.Log.{entry_slot}
-use Rattle.af_base.specs.Turn.{Turn}
-use Rattle.af_life.specs.Heard.{learnt}
-use Rattle.af_life.specs.Kept.{NormalKept, Outside, Setup}
-use Rattle.af_life.specs.Turn.{LegalTurn}
-use Rattle.af_life.specs.TurnEvents.{hand_list, stream_list, tracks_at}
-use Rattle.af_model.proofs.Basics.{both_lawful}
-use Rattle.af_model.specs.Cycles.{Listed, LooksBy, cycle_events}
-use Rattle.af_model.specs.History.{Moment, by_hand, by_server, is_lawful, server_of}
-use Rattle.af_model.specs.JournalForm.{TracksRise}
-use Rattle.af_model.specs.Journals.{EntrySeen}
-use Rattle.af_runs.specs.Blocks.{client_list, listed, meets, server_list}
-use Rattle.af_runs.specs.Clients.{ends}
-use Rattle.af_runs.specs.ClientTurns.{after_calls}
-use Rattle.af_runs.specs.Fronts.{front_of}
-use Rattle.af_runs.specs.LegalRuns.{is_poke_on}
-use Rattle.af_runs.specs.Runs.{TrackTold, called, mixed_track, played, sides_of, slot_for, stream_met, turned_track}
-use Rattle.af_runs.specs.Sessions.{Session, cycle_frames}
-use Rattle.af_judge.proofs.BlocksTold.{client-server, hand-client, server-client}
-use Rattle.af_judge.proofs.TracksTold.{sides_called}
 use Rattle.af_audit.specs.Fates.{DropsByFlush}
 use Rattle.af_audit.proofs.DropsNoticed.{cycle_drops, drops_more, turn_drops}
 use Rattle.af_audit.proofs.FileReleased.{IsFromFile, calls_from_file}

@@ -1,9 +1,6 @@
 -- The track at a place of a list.
 use Rattle.std.proofs.Common.{ℕ, ◌<◌, List, [], ◌∷◌, length, arith}
-use Rattle.std.specs.Prelude.{slice_index_or}
-use Rattle.af_judge.proofs.Basics.{there_is}
-use Rattle.af_judge.specs.declared.track_judge.TrackJudge.{TrackJudge}
-use Rattle.af_judge.specs.NormalTold.{IsTrackAt}
+use Rattle.af_audit.proofs.Common.{IsTrackAt, TrackJudge, slice_index_or, there_is}
 
 first : (tracks : List TrackJudge) (n : ℕ) → n < length tracks → TrackJudge
 first [] n lt = absurd (let z : ⊥ = omega (arith, lt) in z)

@@ -1,49 +1,10 @@
 -- What each step of a round keeps of a track's block whose server and client are never shut; and if they aren't shut after the step, they weren't before it, and the step spared the block. `commands` says which block it is.
 use Rattle.std.proofs.Common.{◌≡◌, inl, inr, ◌⊎◌, ℕ, ◌≤◌, ◌^◌, not, Bool, true, false, true≢false, if◌then◌else◌, is_some, fold, map, List, [], ◌∷◌, ◌++◌, flat_map, drop, length, Option, Some, None, refl, sym, ap, ◌∙◌, subst, append-nil, arith}
-use Rattle.std.specs.List.{AllByRecursion, list_all, list_any}
-use Rattle.std.proofs.lemmas.Grind.{fold-append}
-use Rattle.std.proofs.lemmas.List.{get_or_past}
-use Rattle.af_base.proofs.Basics.{both_true, neither, no}
-use Rattle.af_base.specs.declared.event.ClientCall.{ClientCall}
+use Rattle.af_audit.proofs.Common.{AllByRecursion, AllFollowRear, BlockTold, ClientCall, ClientEvent, ClientKept, CommandLook, EntrySeen, FastState, HandEvent, LegalClientTurn, LegalTake, LegalTurn, LooksBy, NormalKept, Outside, ServerEvent, ServerKept, Session, Setup, Shape, TakeSeen, Track, TrackKept, TrackSeen, TrackTold, TracksRise, Turn, TurnFound, after_call, after_calls, alike, all_command_events, asked, both_lawful, both_true, by_hand, called, client-server, client_begins, client_call_events, client_events_of, client_keeps, client_kept, client_list, command_events_of, command_list, command_shape, cycle_events, cycle_frames, ends, entry_slot, fold-append, front_of, fronts_by, get_or_past, hand_list, invalid, is_home, is_lawful, is_of_commands, is_poke_on, is_shut, kept, kept_more, learnt, list_all, list_any, listed, meets, mix_events, mixed_track, neither, no, nothing_seen, outside_of, played, released_by, server_keeps, server_kept, server_list, sides_called, sides_of, slot_for, status_events, stream_list, stream_met, take_front, takes_from, track_at, track_in, tracks_at, turned_track}
 use Rattle.af_base.specs.declared.event.ClientCall.TheVariants as call
-use Rattle.af_base.specs.declared.event.ClientEvent.{ClientEvent}
-use Rattle.af_base.specs.declared.event.HandEvent.{HandEvent}
-use Rattle.af_base.specs.declared.event.ServerEvent.{ServerEvent}
 use Rattle.af_base.specs.declared.event.ServerEvent.TheVariants as server
 use Rattle.af_base.specs.declared.event.ClientEvent.TheVariants as client
-use Rattle.af_base.specs.declared.state.FastState.{FastState}
-use Rattle.af_base.specs.declared.turn.CommandLook.{CommandLook}
-use Rattle.af_base.specs.Log.{entry_slot}
-use Rattle.af_base.specs.Turn.{TakeSeen, TrackSeen, Turn}
-use Rattle.af_life.specs.declared.kept.TrackKept.{TrackKept}
-use Rattle.af_life.specs.Heard.{learnt}
-use Rattle.af_life.specs.Kept.{NormalKept, Outside, Setup, asked, is_home, nothing_seen, track_at, track_in}
-use Rattle.af_life.specs.Looks.{all_command_events}
-use Rattle.af_life.specs.Obeys.{is_shut}
-use Rattle.af_life.specs.Plays.{LegalTake}
-use Rattle.af_life.specs.Turn.{LegalTurn}
-use Rattle.af_life.specs.TurnEvents.{command_events_of, command_list, hand_list, invalid, mix_events, status_events, stream_list, takes_from, tracks_at}
-use Rattle.af_model.proofs.Basics.{both_lawful, kept_more}
-use Rattle.af_model.proofs.RoomKept.{AllFollowRear}
-use Rattle.af_model.specs.ClientCalls.{ClientKept, client_begins, client_call_events, client_events_of, client_keeps, client_kept}
-use Rattle.af_model.specs.Cycles.{LooksBy, cycle_events, kept}
-use Rattle.af_model.specs.History.{by_hand, is_lawful}
-use Rattle.af_model.specs.JournalForm.{TracksRise}
-use Rattle.af_model.specs.Journals.{EntrySeen}
-use Rattle.af_model.specs.ServerCalls.{ServerKept, server_keeps, server_kept}
-use Rattle.af_model.specs.declared.shape.Shape.{Shape}
-use Rattle.af_runs.specs.Blocks.{BlockTold, client_list, listed, meets, server_list}
-use Rattle.af_runs.specs.Clients.{ends}
-use Rattle.af_runs.specs.ClientTurns.{LegalClientTurn, Track, after_call, after_calls, is_of_commands, released_by}
 use Rattle.af_runs.specs.ClientTurns as turns
-use Rattle.af_runs.specs.Found.{TurnFound, outside_of, take_front}
-use Rattle.af_runs.specs.Fronts.{front_of, fronts_by}
-use Rattle.af_runs.specs.LegalRuns.{is_poke_on}
-use Rattle.af_runs.specs.Runs.{TrackTold, called, mixed_track, played, sides_of, slot_for, stream_met, turned_track}
-use Rattle.af_runs.specs.Sessions.{Session, command_shape, cycle_frames}
-use Rattle.af_judge.proofs.BlocksTold.{client-server}
-use Rattle.af_judge.proofs.LooksAnswer.{alike}
-use Rattle.af_judge.proofs.TracksTold.{sides_called}
 use Rattle.af_audit.specs.Spared.{is_spared_in_turn, none_corrupt_on}
 use Rattle.af_audit.proofs.CallsUnshut.{IsOpen, unshut_turn}
 use Rattle.af_audit.proofs.DropsNoticed.{OneTake, one_take}

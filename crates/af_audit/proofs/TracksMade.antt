@@ -1,20 +1,6 @@
 -- The tracks of a script are made one after the other.
 use Rattle.std.proofs.Common.{◌≡◌, ◌⊎◌, inl, inr, ℕ, ◌+◌, ◌<◌, ◌≤◌, ◌^◌, Bool, true, false, List, [], ◌∷◌, ◌++◌, length, arith, sym, ap, subst, ◌∙◌}
-use Rattle.std.specs.Prelude.{slice_index_or}
-use Rattle.std.proofs.lemmas.List.{get_or_append_left}
-use Rattle.std.proofs.Math.Seq.{get_or-append_seam}
-use Rattle.af_base.proofs.Basics.{below_or_at}
-use Rattle.af_judge.specs.declared.track_judge.TrackJudge.{TrackJudge}
-use Rattle.af_judge.specs.Blocks.{new_judged}
-use Rattle.af_judge.specs.Tracks.{KeepsTrack}
-use Rattle.af_model.specs.Journals.{RoundSeen}
-use Rattle.af_runs.specs.ClientTurns.{new_side}
-use Rattle.af_runs.specs.Clients.{new_client}
-use Rattle.af_runs.specs.LegalRuns.{is_lawful_block}
-use Rattle.af_runs.specs.Sessions.{command_shape, no_spec, stream_shape}
-use Rattle.af_script.specs.Data.{ScriptData}
-use Rattle.af_script.specs.declared.op.Op.{Op}
-use Rattle.af_script.specs.declared.track.TrackSpec.{TrackSpec}
+use Rattle.af_audit.proofs.Common.{KeepsTrack, Op, RoundSeen, ScriptData, TrackJudge, TrackSpec, below_or_at, command_shape, get_or-append_seam, get_or_append_left, is_lawful_block, new_client, new_judged, new_side, no_spec, slice_index_or, stream_shape}
 use Rattle.af_audit.specs.RunKept.{AreNewTracks, IsNewTrack}
 
 -- a track is made by its spec
@@ -41,9 +27,6 @@ made script rounds at k version spec stream commands is_version is_spec is_strea
         (subst (λ (b : Bool). Made k script.version (slice_index_or script.tracks at no_spec) b commands) is_stream
         (subst (λ (s : TrackSpec). Made k script.version s stream commands) is_spec
         (subst (λ (v : ℕ). Made k v spec stream commands) is_version (record { kept = kept; blocks = blocks; wrap = wrap; few = few }))))
-
-pub none_made : (script : ScriptData) (rounds : List RoundSeen) (tracks : List TrackJudge) → AreNewTracks script rounds 0 tracks
-none_made script rounds tracks i t lt = absurd (omega (arith, lt))
 
 pub made_more : (script : ScriptData) (rounds : List RoundSeen) (at : ℕ) (tracks : List TrackJudge) (k : TrackJudge) → length tracks ≡ at → AreNewTracks script rounds at tracks → IsNewTrack script rounds at k → AreNewTracks script rounds (at + 1) (tracks ++ k ∷ [])
 made_more script rounds at tracks k many are new i t below here = by_place (below_or_at i at below)

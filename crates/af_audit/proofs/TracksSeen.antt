@@ -1,17 +1,6 @@
 -- What is seen of a track in a legal turn is legal, and so are the looks at its commands.
 use Rattle.std.proofs.Common.{◌≡◌, ◌⊎◌, inl, inr, ℕ, ◌<◌, ◌≤◌, nat_lt, Bool, true, false, List, [], length, refl, sym, ap, subst, arith}
-use Rattle.std.proofs.lemmas.Bool.Decides.{nat_tests}
-use Rattle.std.proofs.lemmas.List.{get_or_past}
-use Rattle.af_base.specs.declared.turn.CommandLook.{CommandLook}
-use Rattle.af_base.specs.Turn.{TrackSeen, Turn}
-use Rattle.af_life.specs.Heard.{learnt}
-use Rattle.af_life.specs.Kept.{NormalKept, Outside, Setup, nothing_seen, track_in}
-use Rattle.af_life.specs.Looks.{LegalLooks}
-use Rattle.af_life.specs.Serves.{LegalTrack}
-use Rattle.af_life.specs.Turn.{LegalTurn}
-use Rattle.af_life.specs.TurnEvents.{tracks_at}
-use Rattle.af_runs.specs.Blocks.{BlockTold, listed}
-use Rattle.af_runs.specs.Found.{TurnFound, outside_of}
+use Rattle.af_audit.proofs.Common.{BlockTold, CommandLook, LegalLooks, LegalTrack, LegalTurn, NormalKept, Outside, Setup, TrackSeen, Turn, TurnFound, get_or_past, learnt, listed, nat_tests, nothing_seen, outside_of, track_in, tracks_at}
 
 module _ (c : Setup) (f : TurnFound) (m : NormalKept) (e : Turn) (o : Outside) (n : ℕ) (found : o ≡ record (outside_of c f e) { stream_front = o.stream_front; command_fronts = o.command_fronts }) (legal : LegalTurn c o m e) where
   abbrev told : Outside

@@ -1,36 +1,9 @@
 -- What is kept of a run follows the normal mixer's turn of a round, if it has one.
-use Rattle.std.specs.Prelude.{◌↔◌, is_some, MatchBool, MatchOption}
+use Rattle.std.specs.Prelude.{◌↔◌}
 use Rattle.std.proofs.Common.{◌≡◌, ℕ, ◌-◌, min, take, Bool, true, false, true≢false, IsTrue, if◌then◌else◌, List, length, Option, Some, None, refl, sym, ap, subst, ◌∙◌}
-use Rattle.af_base.specs.declared.frame.Frame.{Frame}
-use Rattle.af_base.specs.declared.state.FastState.{FastState}
-use Rattle.af_base.specs.Turn.{Turn}
-use Rattle.af_model.specs.JournalForm.{IsTurn}
-use Rattle.af_model.specs.Journals.{RoundSeen}
-use Rattle.af_judge.specs.declared.track_judge.TrackJudge.{TrackJudge}
-use Rattle.af_model.specs.Cycles.{UseUpTo}
-use Rattle.af_judge.specs.Entries.{AreNumbered, FastOf}
-use Rattle.af_judge.specs.EntriesTold.{AreFormed, playing}
-use Rattle.af_judge.specs.FastKept.{FastKept, number_found}
-use Rattle.af_judge.specs.Foresight.{entries_foreseen, foreseen, servers_at}
-use Rattle.af_judge.specs.PipeKept.{PipeKept, front_by_room, saw_front, with_put}
-use Rattle.af_judge.specs.QueueNumbers.{turn_steps, with_steps}
-use Rattle.af_judge.specs.ReportKept.{ReportKept}
-use Rattle.af_judge.specs.RunTold.{KeepsTracks, NormalOf, StatesFit}
-use Rattle.af_judge.specs.SharedTold.{BesideQueue, QueueGoes}
-use Rattle.af_judge.proofs.EntriesFollow.{KeepsPlaying, entries_in}
-use Rattle.af_judge.proofs.FastBeside.{fast_same, fast_told_same, turned_same}
+use Rattle.af_audit.proofs.Common.{AreFormed, AreNumbered, BesideQueue, FastKept, FastOf, FastState, Frame, IsTurn, KeepsPlaying, KeepsTracks, LegalNormalTurn, LegalTurnBy, Marks, MatchBool, MatchOption, NormalKept, NormalOf, PipeKept, QueueGoes, ReportKept, RoundSeen, Run, Session, Setup, StatesFit, TrackJudge, Turn, UseUpTo, after_turn, before_turn, beside_turned, entries_foreseen, entries_in, fast_same, fast_told_same, foreseen, form_opens, found_in, front_by_room, is_some, late_of, number_found, playing, put_by, queue_turned, saw_front, servers_at, setup_of, turn_steps, turned, turned_same, with_put, with_steps}
 use Rattle.af_judge.proofs.NormalRound.{no_turn_follows, no_turn_legal, turn_keeps, turn_legal}
-use Rattle.af_judge.proofs.QueueRun.{queue_turned}
 use Rattle.af_judge.proofs.ReportFound.{report_found}
-use Rattle.af_judge.proofs.SharedEntries.{form_opens}
-use Rattle.af_judge.proofs.SharedFollows.{beside_turned}
-use Rattle.af_life.specs.Kept.{NormalKept, Setup}
-use Rattle.af_life.specs.Plays.{put_by}
-use Rattle.af_runs.specs.Blocks.{Marks}
-use Rattle.af_runs.specs.Found.{LegalTurnBy}
-use Rattle.af_runs.specs.Rounds.{LegalNormalTurn, after_turn, before_turn, found_in, late_of, turned}
-use Rattle.af_runs.specs.Runs.{Run}
-use Rattle.af_runs.specs.Sessions.{Session, setup_of}
 use Rattle.af_audit.specs.declared.run_judge.RunJudge.{RunJudge}
 use Rattle.af_audit.specs.RoundTold.{TurnIfTold, TurnTold, fast_turned, loaded_if, pipe_turned, report_turned}
 use Rattle.af_audit.specs.RunKept.{IsLegalCaller}

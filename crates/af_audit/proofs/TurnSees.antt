@@ -1,16 +1,9 @@
 -- What a client's calls leave of its side of the command block: the list and the words grow.
 use Rattle.std.proofs.Common.{◌≡◌, ℕ, ◌+◌, ◌*◌, ◌<◌, Bool, true, false, if◌then◌else◌, fold, List, [], ◌∷◌, ◌++◌, Some, refl, sym, ap, ◌∙◌, subst, append-nil, append_assoc}
-use Rattle.std.specs.Prelude.{slice_get}
-use Rattle.std.proofs.lemmas.Grind.{fold-append}
-use Rattle.af_base.proofs.Basics.{get_front}
-use Rattle.af_base.specs.declared.event.ClientCall.{ClientCall}
+use Rattle.af_audit.proofs.Common.{ClientCall, ClientEvent, START, Side, Track, after_call, after_calls, client_events_of, fold-append, get_front, is_of_commands, released_by, settled_in, slice_get}
 use Rattle.af_base.specs.declared.event.ClientCall.TheVariants as call
-use Rattle.af_base.specs.declared.event.ClientEvent.{ClientEvent}
 use Rattle.af_base.specs.declared.event.ClientEvent.TheVariants as client
-use Rattle.af_life.specs.declared.command.TheConstants.{START}
-use Rattle.af_model.specs.ClientCalls.{client_events_of}
-use Rattle.af_runs.specs.Clients.{settled_in}
-use Rattle.af_runs.specs.ClientTurns.{Side, Track, after_call, after_calls, called, is_of_commands, released_by}
+use Rattle.af_runs.specs.ClientTurns.{called}
 use Rattle.af_audit.specs.Settled.{IsStart, SeesSettled}
 
 -- a side with more events and more words

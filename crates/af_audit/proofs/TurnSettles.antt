@@ -1,27 +1,8 @@
 -- What a turn of the normal mixer settles of a track, and what its status says of that.
-use Rattle.std.specs.Prelude.{MatchBool, slice_set}
 use Rattle.std.proofs.Common.{◌≡◌, inl, inr, ℕ, zero, suc, ◌<◌, ◌≤◌, ◌==◌, Bool, true, false, if◌then◌else◌, fold, map, List, [], ◌∷◌, ◌++◌, length, Option, Some, None, refl, sym, ap, ◌∙◌, subst, append-nil, arith}
-use Rattle.std.proofs.lemmas.Bool.{cases_eq}
-use Rattle.std.proofs.lemmas.Grind.{get_or-set_at}
-use Rattle.std.proofs.lemmas.List.{get_or-set_other}
-use Rattle.af_base.specs.declared.state.FastState.{FastState}
-use Rattle.af_base.specs.declared.state.Push.{Push}
-use Rattle.af_base.specs.declared.state.Push.TheVariants.{Pushed, Clean, Busy}
-use Rattle.af_base.specs.Turn.{Turn, TakeSeen, TrackSeen}
-use Rattle.af_life.specs.declared.kept.Holder.TheVariants.{Home}
-use Rattle.af_life.specs.declared.kept.TrackKept.{TrackKept}
-use Rattle.af_life.specs.declared.track.Life.{Life}
-use Rattle.af_life.specs.Edits.{after_ack, after_push, comes_home, edited, edited_to, lend, let_go, must_enter, must_leave, mutated, ordered, welcomed}
-use Rattle.af_life.specs.Heard.{heard, learnt, ready}
-use Rattle.af_life.specs.Kept.{Learnt, NormalKept, Outside, Setup, asked, new_track, nothing_seen, seen_at, track_at, track_in}
-use Rattle.af_life.specs.Looks.{words_taken}
+use Rattle.af_audit.proofs.Common.{Busy, Clean, FastState, Home, IsServed, Learnt, LegalTurn, Life, MatchBool, NormalKept, Outside, Push, Pushed, Setup, TakeSeen, TrackKept, TrackSeen, Turn, acked_len, after_ack, after_edits, after_part, after_push, after_report, after_take, after_takes, after_tracks, asked, cases_eq, comes_home, edited, edited_to, get_or-set_at, get_or-set_other, going, heard, is_found_shut, learnt, lend, let_go, must_enter, must_leave, mutated, not_yet, nothing_seen, ordered, ready, seen_at, served, served_len, served_to, settled_in, slice_set, status_due, status_events, stored_over, track_at, track_in, tracks_at, turn_after, welcomed, words_taken}
+use Rattle.af_life.specs.Kept.{new_track}
 use Rattle.af_life.specs.Obeys.{slot_for}
-use Rattle.af_life.specs.Plays.{after_take, after_takes}
-use Rattle.af_life.specs.Serves.{IsServed, after_part, after_report, is_found_shut, served, served_to, status_due, stored_over}
-use Rattle.af_life.specs.Turn.{LegalTurn, after_edits, after_tracks, turn_after}
-use Rattle.af_life.specs.TurnEvents.{going, status_events, tracks_at}
-use Rattle.af_life.proofs.Lives.{acked_len, not_yet, served_len}
-use Rattle.af_runs.specs.Clients.{settled_in}
 use Rattle.af_audit.proofs.StartsSettled.{SettledCore, SettledSo, over_so, served_so}
 use Rattle.af_audit.proofs.StatusWords.{StatusesLow, status_settles}
 

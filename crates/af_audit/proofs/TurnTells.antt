@@ -1,18 +1,7 @@
 -- A turn is followed: the report that it loads, what it leaves of the mixer, the looks at the queue, and the pipe.
-use Rattle.std.specs.Prelude.{◌↔◌, IsTrue, slice_index_or}
+use Rattle.std.specs.Prelude.{◌↔◌}
 use Rattle.std.proofs.Common.{◌≡◌, ℕ, ◌+◌, ◌-◌, ◌<◌, ◌≤◌, ◌&&◌, not, min, Bool, List, length, take, drop, sym, ap, subst, ◌∙◌, arith}
-use Rattle.std.proofs.lemmas.List.{length-drop, length-take-le, take-take}
-use Rattle.af_base.specs.declared.log.CycleEntry.{CycleEntry}
-use Rattle.af_base.specs.declared.report.Report.{Report}
-use Rattle.af_base.specs.declared.state.FastState.{FastState}
-use Rattle.af_base.specs.Turn.{Turn}
-use Rattle.af_judge.specs.declared.track_judge.TrackJudge.{TrackJudge}
-use Rattle.af_judge.specs.FastKept.{FastKept, number_found}
-use Rattle.af_judge.specs.Foresight.{entries_foreseen, foreseen, servers_at}
-use Rattle.af_judge.specs.NormalJudged.{NormalJudged}
-use Rattle.af_judge.specs.NormalTold.{IsRight}
-use Rattle.af_judge.specs.QueueNumbers.{turn_steps, with_steps}
-use Rattle.af_judge.specs.TurnJudged.{TurnJudged}
+use Rattle.af_audit.proofs.Common.{CycleEntry, FastKept, FastState, IsRight, IsTrue, NormalJudged, Report, TrackJudge, Turn, TurnJudged, entries_foreseen, foreseen, length-drop, length-take-le, number_found, servers_at, slice_index_or, take-take, turn_steps, with_steps}
 use Rattle.af_audit.specs.declared.run_judge.RunJudge.{RunJudge}
 use Rattle.af_audit.specs.RoundTold.{IsReportOf, TurnTold, pipe_turned, report_turned}
 

@@ -1,11 +1,7 @@
 -- A right verdict is Legal exactly for a legal run and its sound.
-use Rattle.std.specs.Prelude.{◌≡◌, ◌↔◌, ℕ, List}
+use Rattle.std.specs.Prelude.{◌≡◌, ◌↔◌}
 use Rattle.std.proofs.Common.{subst}
-use Rattle.af_base.specs.declared.frame.Frame.{Frame}
-use Rattle.af_model.specs.Journals.{JournalData}
-use Rattle.af_script.specs.Data.{ScriptData}
-use Rattle.af_runs.specs.LegalRuns.{IsLegalRun}
-use Rattle.af_runs.specs.Pcm.{journal_pcm}
+use Rattle.af_audit.proofs.Common.{Frame, IsLegalRun, JournalData, List, ScriptData, journal_pcm, ℕ}
 use Rattle.af_audit.specs.declared.verdict.Verdict.{Verdict}
 use Rattle.af_audit.specs.declared.verdict.Verdict.TheVariants.{Legal}
 use Rattle.af_audit.specs.RunLaws.{MayBeJudged}

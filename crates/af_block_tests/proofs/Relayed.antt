@@ -23,10 +23,7 @@ drops_join (x ∷ xs) ys a b = both_true (keeps_all x) _ (both_first (keeps_all 
 
 look_drops : (es : List ServerEvent) (shows : Seen) (flush rear front : ℕ) → drops_none es ≡ true → IsFlushed shows ⊎ (drops_none (es ++ look_events shows flush rear front) ≡ true)
 look_drops es (seen.Flushed dropped) flush rear front clean = inl tt
-look_drops es (seen.Frames count) flush rear front clean = inr (drops_join es _ clean refl)
-look_drops es seen.Empty flush rear front clean = inr (drops_join es _ clean refl)
-look_drops es (seen.Shut a b) flush rear front clean = inr (drops_join es _ clean refl)
-look_drops es seen.Absent flush rear front clean = inr (drops_join es _ clean refl)
+look_drops es _ flush rear front clean = inr (drops_join es _ clean refl)
 
 -- a look that is not Flushed drops nothing
 pub looks_clean : (c : ServerState) (asked : ℕ) (look : Look) (d : ServerState) → Looks c asked look d → drops_none c.pass.part.events ≡ true

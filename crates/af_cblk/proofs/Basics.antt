@@ -1,6 +1,6 @@
 -- Basic lemmas that several files here, and of the crates above, cite.
 use Rattle.std.proofs.Common.{List, ap, append_assoc, sym, ◌++◌, ◌∙◌}
-use Rattle.af_base.specs.declared.event.ServerEvent.{ServerEvent}
+use Rattle.af_cblk.proofs.Common.{ServerEvent}
 use Rattle.af_cblk.specs.Rule.{StartsWith}
 
 -- a list that goes on from one goes on from what that one goes on from

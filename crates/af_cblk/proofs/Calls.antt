@@ -1,13 +1,9 @@
 -- What each step on the table asks, for a seat of this block.
 use Rattle.std.proofs.Common.{◌≡◌, ◌≢◌, ℕ, ◌+◌, ◌-◌, ◌%◌, ◌^◌, ◌<◌, if◌then◌else◌, Bool, true, false, bit_and, bit_or, List, [], ◌∷◌, ◌++◌, length, get_or, set, sym, refl, ap, ◌∙◌, subst, arith, mod-lt, length-append, append-nil}
+use Rattle.af_cblk.proofs.Common.{Allows, Me, Shape, flushes_of, lawful_before, poke_is_not, step, wrapped}
 use mathlib.Core.Option.{none}
-use Rattle.atomic_table.specs.Table.{Me, step, Allows}
 use Rattle.af_base.specs.declared.event.ClientEvent.TheVariants as client
 use Rattle.af_base.specs.declared.event.ServerEvent.TheVariants as server
-use Rattle.af_model.specs.Point.{wrapped}
-use Rattle.af_model.specs.History.{flushes_of}
-use Rattle.af_model.proofs.Counts.{lawful_before, poke_is_not}
-use Rattle.af_model.specs.declared.shape.Shape.{Shape}
 use Rattle.af_cblk.specs.declared.view.ClientPart.{ClientPart}
 use Rattle.af_cblk.specs.declared.view.ServerPart.{ServerPart}
 use Rattle.af_cblk.specs.declared.view.View.{View}

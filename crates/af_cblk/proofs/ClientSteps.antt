@@ -1,13 +1,9 @@
 -- What each word step of the client makes of the history, the words and the parts, if the client has not poked.
 use Rattle.std.proofs.Common.{◌≡◌, ◌≢◌, ⊎_elim, ℕ, ◌+◌, ◌-◌, ◌%◌, ◌^◌, ◌<◌, ◌≤◌, if◌then◌else◌, ◌==◌, Bool, true, false, MatchBool, bit_and, List, ◌++◌, length, set, sym, refl, ap, ◌∙◌, subst, arith, length-set, length-append, append_assoc, get_or-set_other, get_or-set_same, get_or-append-add, eq-eqb, ne_eqb, eqb-true, mod-lt, mod-eq_of_lt, lt_of_not-le}
-use Rattle.std.proofs.lemmas.Nat.{and_le_l}
+use Rattle.af_cblk.proofs.Common.{and_le_l, client_adds, client_releases, flush_number, flushes_are, flushes_of, point, taken_of, wrapped}
 use mathlib.Core.Logic.{dite}
 use native.Mathlib.Decide.{dec_le, ℕ_discrete}
 use Rattle.af_base.specs.declared.event.ClientEvent.TheVariants as client
-use Rattle.af_model.specs.Point.{wrapped, flush_number}
-use Rattle.af_model.specs.History.{taken_of, flushes_of, point}
-use Rattle.af_model.proofs.Grows.{client_adds, client_releases}
-use Rattle.af_model.proofs.Counts.{flushes_are}
 use Rattle.af_cblk.specs.declared.view.ClientPart.{ClientPart}
 use Rattle.af_cblk.specs.declared.view.ServerPart.{ServerPart}
 use Rattle.af_cblk.specs.declared.view.HandPart.{HandPart}

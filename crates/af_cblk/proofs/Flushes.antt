@@ -1,13 +1,8 @@
 -- Flush words, the positions that they carry, and what a server knows of flushes.
 use Rattle.std.proofs.Common.{◌≡◌, ◌≢◌, ℕ, zero, suc, ◌+◌, ◌-◌, ◌*◌, ◌/◌, ◌%◌, ◌^◌, ◌<◌, ◌≤◌, max, Bool, true, false, true≢false, not, ◌||◌, ◌==◌, if◌then◌else◌, refl, sym, ap, ◌∙◌, arith, mod-lt, mod-eq_of_lt, eq-eqb, ne_eqb, lt_of_not-le}
-use Rattle.std.proofs.Math.Nat.{mul-add-mod_self_right, mod-add-mod, add-mul, div-le_self, le-div_iff_mul-le}
-use Rattle.af_base.proofs.Basics.{is_below, is_not_below}
-use Rattle.af_model.proofs.Basics.{none_as}
+use Rattle.af_cblk.proofs.Common.{Shape, add-mul, div-le_self, flush_number, flush_position, is_below, is_not_below, le-div_iff_mul-le, mod-add-mod, mul-add-mod_self_right, none_as, past_front, wrapped}
 use mathlib.Core.Logic.{dite}
 use native.Mathlib.Decide.{dec_le}
-use Rattle.af_model.specs.declared.shape.Shape.{Shape}
-use Rattle.af_model.specs.Point.{wrapped, flush_number}
-use Rattle.af_model.specs.ServerCalls.{flush_position, past_front}
 use Rattle.af_cblk.specs.declared.view.ClientPart.{ClientPart}
 use Rattle.af_cblk.specs.Parts.{ahead, released, flush_amount}
 use Rattle.af_cblk.specs.Shape.{most_flushes}

@@ -1,13 +1,9 @@
 -- What the steps of the hand and of a meeting make of the history, if the client has not poked.
 use Rattle.std.proofs.Common.{ℕ, ◌-◌, ◌^◌, ◌<◌, bit_or, List, [], length, set, refl, ap, ◌∙◌, arith, append-nil}
-use Rattle.std.proofs.lemmas.Nat.{or_of_32}
+use Rattle.af_cblk.proofs.Common.{Shape, at_few, client_adds, or_of_32, point}
 use Rattle.af_base.specs.declared.event.ClientEvent.TheVariants as client
 use Rattle.af_base.specs.declared.event.ServerEvent.TheVariants as server
 use Rattle.af_base.specs.declared.event.HandEvent.TheVariants as hand
-use Rattle.af_model.proofs.Basics.{at_few}
-use Rattle.af_model.specs.History.{point}
-use Rattle.af_model.proofs.Grows.{client_adds}
-use Rattle.af_model.specs.declared.shape.Shape.{Shape}
 use Rattle.af_cblk.specs.declared.view.ClientPart.{ClientPart}
 use Rattle.af_cblk.specs.declared.view.ServerPart.{ServerPart}
 use Rattle.af_cblk.specs.declared.view.HandPart.{HandPart}

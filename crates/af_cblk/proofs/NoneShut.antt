@@ -1,17 +1,12 @@
 -- If two lists have a history, neither proxy was shut.
 use Rattle.std.proofs.Common.{inl, inr, ◌≤◌, ℕ, List, [], ◌∷◌, ◌++◌, sym, ap, ◌∙◌}
+use Rattle.af_cblk.proofs.Common.{ClientEvent, HandEvent, HasHistory, LooksInOrder, ServerEvent, ServerKept, Shape, server_begins, server_keeps}
 use Rattle.std.proofs.lemmas.Grind.{fold-append}
-use Rattle.af_base.specs.declared.event.ClientEvent.{ClientEvent}
 use Rattle.af_base.specs.declared.event.ClientEvent.TheVariants as client
-use Rattle.af_base.specs.declared.event.ServerEvent.{ServerEvent}
 use Rattle.af_base.specs.declared.event.ServerEvent.TheVariants as server
-use Rattle.af_base.specs.declared.event.HandEvent.{HandEvent}
-use Rattle.af_model.specs.History.{HasHistory}
 use Rattle.af_model.specs.ClientCalls.{ClientKept, client_keeps, client_begins, meets}
-use Rattle.af_model.specs.ServerCalls.{ServerKept, server_keeps, server_begins, LooksInOrder}
 use Rattle.af_model.specs.ServerCalls.{meets as server_meets}
 use Rattle.af_model.proofs.RoomKept.{never_corrupt, never_shut}
-use Rattle.af_model.specs.declared.shape.Shape.{Shape}
 use Rattle.af_cblk.specs.Unshut.{NeitherShut}
 
 pub neither_shut : (k : Shape) → k.frames ≤ 65536 → (ce : List ClientEvent) (cf : List ℕ) (se : List ServerEvent) (sf : List ℕ) (he : List HandEvent) (n m : ℕ)

@@ -1,10 +1,8 @@
 -- Positions, their words and their cells.
 use Rattle.std.proofs.Common.{◌≡◌, ◌≢◌, ℕ, ◌+◌, ◌-◌, ◌*◌, ◌/◌, ◌%◌, ◌^◌, ◌<◌, ◌≤◌, sym, ap, ◌∙◌, arith, div-add-mod', mul_assoc, mod-lt, mod-eq_of_lt, lt_of_not-le}
-use Rattle.std.proofs.Math.Nat.{mul-add-mod_self_right, mod-add-mod, add-mod_right}
-use Rattle.atomic_table.proofs.Lists.{one_turn}
+use Rattle.af_cblk.proofs.Common.{add-mod_right, mod-add-mod, mul-add-mod_self_right, one_turn, wrapped}
 use mathlib.Core.Logic.{dite}
 use native.Mathlib.Decide.{dec_le}
-use Rattle.af_model.specs.Point.{wrapped}
 use Rattle.af_cblk.specs.Parts.{ahead}
 
 pub twice : (n x : ℕ) → n ≡ wrapped x → wrapped n ≡ wrapped x
@@ -28,9 +26,6 @@ ahead_of from n small = omega arith
 pub ahead_below : (from to : ℕ) → ahead from to < 2 ^ 32
 ahead_below from to = omega arith
 
-pub ahead_from_word : (from to : ℕ) → ahead (wrapped from) to ≡ ahead from to
-ahead_from_word from to = omega arith
-
 -- positions less than a turn apart lie in different cells
 pub apart : (a b n : ℕ) → a < b → b < a + n → a % n ≢ b % n
 apart a b n lt near e = let same : a ≡ b = one_turn a b n (omega arith) near e in omega arith
@@ -46,10 +41,6 @@ back r x c less =
     let v : ℕ = r % c in
     let sum : (r + x) + d ≡ u + (x + c) = (let w : u + v ≡ r = whole in let g : v + d ≡ c = gap in omega arith) in
     mod-add-mod (r + x) c d ∙ ap (λ (z : ℕ). z % c) sum ∙ mul-add-mod_self_right (r / c) c (x + c) ∙ add-mod_right x c ∙ mod-eq_of_lt less
-
--- the cell of a number of positions past a word
-pub cell_past : (q n m c : ℕ) → m * c ≡ 2 ^ 32 → (wrapped q + n) % c ≡ (q + n) % c
-cell_past q n m c e = sym (mod-add-mod (wrapped q) c n) ∙ ap (λ (z : ℕ). (z + n) % c) (same_cell q m c e) ∙ mod-add-mod q c n
 
 -- between two positions that are near, the words tell how far
 pub between : (a b : ℕ) → a ≤ b → b ≤ a + 65536 → ahead (wrapped a) (wrapped b) ≡ b - a

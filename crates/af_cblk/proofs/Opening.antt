@@ -1,13 +1,11 @@
 -- A new block.
-use Rattle.std.proofs.Common.{◌≡◌, true≢false, ℕ, zero, suc, ◌+◌, ◌-◌, ◌^◌, ◌<◌, ◌≤◌, List, [], ◌∷◌, length, get_or, drop, replicate, sym, refl, ap, ◌∙◌, subst, arith, mod-eq_of_lt}
+use Rattle.std.proofs.Common.{◌≡◌, true≢false, ℕ, zero, suc, ◌+◌, ◌-◌, ◌^◌, ◌<◌, ◌≤◌, List, [], ◌∷◌, get_or, drop, replicate, sym, refl, ap, ◌∙◌, subst, arith, mod-eq_of_lt}
+use Rattle.af_cblk.proofs.Common.{Shape, opening, wrapped}
 use mathlib.Core.Option.{some, some-injective, some-ne-none}
 use lib.ListN.{get_elem?}
 use lib.ListN.{length-replicate}
 use Rattle.af_cblk.proofs.Rows.{take_none}
 use Rattle.af_cblk.proofs.Flushes.{flush_none}
-use Rattle.atomic_table.specs.Table.{opening}
-use Rattle.af_model.specs.Point.{wrapped}
-use Rattle.af_model.specs.declared.shape.Shape.{Shape}
 use Rattle.af_cblk.specs.declared.view.View.{View}
 use Rattle.af_cblk.specs.Rule.{Parties, Sits, Holds, newcomer, new_client, new_server, new_hand}
 
@@ -74,9 +72,3 @@ begins k fits words are =
     zeros zero j = omega arith
     zeros (suc n) zero = omega arith
     zeros (suc n) (suc j) = zeros n j
-
-pub words_long : (base cells : ℕ) (words : List ℕ) → words ≡ base ∷ base ∷ 0 ∷ 0 ∷ 0 ∷ 268439552 ∷ 0 ∷ replicate cells 0 → length words ≡ 7 + cells
-words_long base cells words are = ap length are ∙ seven_more (length (replicate cells 0)) ∙ ap (λ (z : ℕ). 7 + z) (length-replicate cells 0)
-  where
-    seven_more : (z : ℕ) → suc (suc (suc (suc (suc (suc (suc z)))))) ≡ 7 + z
-    seven_more z = omega arith

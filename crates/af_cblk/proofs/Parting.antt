@@ -1,21 +1,9 @@
 -- What a meeting tells, said of the passes.
-use Rattle.af_base.specs.declared.event.ClientEvent.{ClientEvent}
 use Rattle.std.proofs.Common.{◌+◌, ◌-◌, [], ◌∷◌, ◌++◌, length, length-append, arith, ◌≡◌, ℕ, List, ap, ◌∙◌, subst}
-use Rattle.af_base.specs.declared.event.ServerEvent.{ServerEvent}
-use Rattle.af_base.specs.declared.event.HandEvent.{HandEvent}
-use Rattle.af_model.specs.declared.shape.Shape.{Shape}
-use Rattle.af_model.specs.History.{HasHistory}
+use Rattle.af_cblk.proofs.Common.{ClientEvent, HasHistory, ServerEvent, Shape}
 use Rattle.af_cblk.specs.declared.view.ClientPart.{ClientPart}
 use Rattle.af_cblk.specs.declared.view.ServerPart.{ServerPart}
 use Rattle.af_cblk.specs.declared.view.HandPart.{HandPart}
-use Rattle.af_cblk.specs.declared.view.View.{View}
-use Rattle.af_cblk.specs.Plays.{Meeting}
-
--- the same history, if the parts are with other seats
-pub parted : (k : Shape) (hand hand' : List HandEvent) (v : View) (c : ClientPart) (s : ServerPart) → v.client.shape ≡ k → v.client ≡ c → v.server ≡ s → hand ≡ hand'
-    → Meeting v hand → HasHistory k c.events c.frames s.events s.frames hand'
-parted k hand hand' v c s b hers his its =
-    subst (λ (x : Shape × ClientPart × ServerPart × List HandEvent). HasHistory x.0 x.1.events x.1.frames x.2.events x.2.frames x.3) (λ n. (b n, hers n, his n, its n))
 
 -- the same, of three parts
 pub met : (b k : Shape) (se : List ServerEvent) (sf : List ℕ) (c : ClientPart) (s : ServerPart) (h : HandPart) (c' : ClientPart) (s' : ServerPart) (h' : HandPart)

@@ -1,12 +1,7 @@
 -- What a client's pass keeps beside its seat.
 use Rattle.std.proofs.Common.{◌≡◌, ℕ, ◌+◌, true, List, [], ◌∷◌, ◌++◌, length, refl, sym, ap, ◌∙◌, arith}
-use Rattle.af_model.proofs.Basics.{flushes-append}
-use Rattle.atomic_table.specs.Table.{Me}
-use Rattle.af_base.specs.declared.event.ClientEvent.{ClientEvent}
+use Rattle.af_cblk.proofs.Common.{ClientEvent, Me, ServerEvent, flush_in, flushes-append, flushes_of, wrapped}
 use Rattle.af_base.specs.declared.event.ClientEvent.TheVariants as client
-use Rattle.af_base.specs.declared.event.ServerEvent.{ServerEvent}
-use Rattle.af_model.specs.Point.{wrapped}
-use Rattle.af_model.specs.History.{flush_in, flushes_of}
 use Rattle.af_cblk.specs.declared.view.ClientPart.{ClientPart}
 use Rattle.af_cblk.specs.declared.view.View.{View}
 use Rattle.af_cblk.specs.Parts.{released, rear_stored, client_met}

@@ -1,16 +1,7 @@
 -- Steps that change no position, if the client has not poked.
 use Rattle.std.proofs.Common.{◌≡◌, ◌≢◌, ℕ, ◌+◌, ◌≤◌, List, [], ◌∷◌, ◌++◌, length, get_or, set, sym, ap, ◌∙◌, subst, arith, length-append, append_assoc}
-use Rattle.af_base.proofs.Basics.{max_le}
-use Rattle.af_base.specs.declared.event.ClientEvent.{ClientEvent}
-use Rattle.af_base.specs.declared.event.ServerEvent.{ServerEvent}
-use Rattle.af_model.specs.declared.point.TrackPoint.{TrackPoint}
-use Rattle.af_base.specs.declared.event.HandEvent.{HandEvent}
-use Rattle.af_model.specs.Point.{wrapped, flush_word, ClientMay, ServerMay, HandMay, after_client, after_server, after_hand}
-use Rattle.af_model.specs.History.{Moment, client_of, server_of, met_by, met_in, clients_at, with_taken, taken_of, point}
+use Rattle.af_cblk.proofs.Common.{ClientEvent, ClientMay, HandEvent, HandMay, Moment, ServerEvent, ServerMay, Shape, TrackPoint, after_client, after_hand, after_server, client_adds, client_of, clients_at, flush_word, hand_adds, in_turn, max_le, met_by, met_in, point, server_adds, server_of, taken_of, with_taken, wrapped}
 use Rattle.af_model.specs.Fates.{InTurn}
-use Rattle.af_model.proofs.Fates.{in_turn}
-use Rattle.af_model.proofs.Grows.{client_adds, server_adds, hand_adds}
-use Rattle.af_model.specs.declared.shape.Shape.{Shape}
 use Rattle.af_cblk.specs.declared.view.ClientPart.{ClientPart}
 use Rattle.af_cblk.specs.declared.view.ServerPart.{ServerPart}
 use Rattle.af_cblk.specs.declared.view.HandPart.{HandPart}

@@ -1,9 +1,8 @@
 -- Lists that grow or change at one place.
 use Rattle.std.proofs.Common.{◌≡◌, ℕ, zero, suc, ◌+◌, ◌<◌, ◌≤◌, List, [], ◌∷◌, ◌++◌, length, get_or, set, take, drop, sym, refl, ap, ◌∙◌, subst, arith, get_or-set_same, get_or-set_other, length-append, length-drop, take_all, get_or-drop}
-use Rattle.std.proofs.lemmas.List.{take-append-le, take_more}
+use Rattle.af_cblk.proofs.Common.{TrackPoint, take-append-le, take_more}
 use mathlib.Core.Logic.{dite}
 use native.Mathlib.Decide.{ℕ_discrete}
-use Rattle.af_model.specs.declared.point.TrackPoint.{TrackPoint}
 use Rattle.af_cblk.specs.Parts.{Has, word_at, run_of}
 use Rattle.af_cblk.specs.Rule.{words_of}
 

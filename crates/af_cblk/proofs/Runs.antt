@@ -1,13 +1,8 @@
 -- Cells loaded in order.
 use Rattle.std.proofs.Common.{◌≡◌, ℕ, ◌+◌, ◌-◌, ◌*◌, ◌%◌, ◌^◌, ◌≤◌, ◌<◌, Bool, if◌then◌else◌, List, [], ◌∷◌, ◌++◌, length, take, map, set, refl, sym, ap, ◌∙◌, arith, eq-eqb, length-take-le, length-append, append_assoc, mod-eq_of_lt}
-use Rattle.std.proofs.Math.Nat.{mod-add-mod}
+use Rattle.af_cblk.proofs.Common.{Frame, Shape, length-map, map-append, mod-add-mod, packed_word, take_more_set, wrapped}
 use Rattle.std.proofs.Math.Seq.{take-append_seam}
-use Rattle.std.proofs.lemmas.List.{length-map, take_more_set, map-append}
 use borrow.Rule.Slice.PartMut.{put_mid, post_of}
-use Rattle.af_base.specs.declared.frame.Frame.{Frame}
-use Rattle.af_base.specs.Sample.{packed_word}
-use Rattle.af_model.specs.Point.{wrapped}
-use Rattle.af_model.specs.declared.shape.Shape.{Shape}
 use Rattle.af_cblk.specs.declared.view.ServerPart.{ServerPart}
 use Rattle.af_cblk.specs.Parts.{saw_cell, saw_next, next_position}
 use Rattle.af_cblk.specs.Shape.{IsShape}
@@ -62,16 +57,6 @@ runs_join p q r into part done count k before saw long inside =
     append_assoc p.part.loaded (map packed_word front) (map packed_word part)
     ∙ ap (λ (l : List ℕ). p.part.loaded ++ l) (sym (map-append packed_word front part) ∙ ap (map packed_word) (sym both)) in
     saw ∙ ap (λ (x : ServerSide). record x { part = saw_next x.part (map packed_word part) }) before ∙ ap (λ (l : List ℕ). record p { part = record p.part { loaded = l } }) more
-
--- where the next run begins
-pub run_begins : (p q : ServerSide) (into : List Frame) (done position first cells : ℕ) → ServerIs (saw_next p.part (map packed_word (take done into))) p q → done ≤ length into
-    → position ≡ wrapped (next_position p.part) → first ≡ 7 + (position + done) % 2 ^ 32 % cells → first ≡ 7 + wrapped (next_position q.part) % cells
-run_begins p q into done position first cells before inside position_is first_is =
-    let words : List ℕ = map packed_word (take done into) in
-    let count : length words ≡ done = length-map (take done into) packed_word ∙ length-take-le done into inside in
-    let on : next_position q.part ≡ next_position p.part + done = ap (λ (x : ServerSide). next_position x.part) before ∙ moved p.part words ∙ ap (λ (n : ℕ). next_position p.part + n) count in
-    let word : (position + done) % 2 ^ 32 ≡ wrapped (next_position q.part) = (let e : position ≡ next_position p.part % 2 ^ 32 = position_is in omega arith) in
-    first_is ∙ ap (λ (n : ℕ). 7 + n % cells) word
 
 -- where the next cells of a run begin
 pub run_follows : (k : Shape) (p q : ServerSide) (into : List Frame) (done first : ℕ) → IsShape k → p.part.shape ≡ k → ServerIs (saw_next p.part (map packed_word (take done into))) p q

@@ -1,13 +1,9 @@
 -- A step of one seat keeps the rule if it keeps what the rule says of the parts.
 use Rattle.std.proofs.Common.{◌≡◌, ℕ, zero, suc, ◌≢◌, ◌⊎◌, true, false, true≢false, List, [], ◌∷◌, ◌++◌, length, get_or, set, sym, refl, ap, ◌∙◌, subst, inl, inr, ⊎_elim, append-nil}
+use Rattle.af_cblk.proofs.Common.{Allows, Joins, Me, ServerEvent, Shape, Splits, at_set, is_lawful, keeps, set_else}
 use Rattle.af_cblk.proofs.Basics.{goes_on}
 use mathlib.Core.Option.{some, some-injective, some-ne-none}
 use lib.ListN.{get_elem?}
-use Rattle.atomic_table.specs.Table.{Me, keeps, Allows, Splits, Joins}
-use Rattle.atomic_table.proofs.Lists.{at_set, set_else}
-use Rattle.af_model.specs.History.{is_lawful}
-use Rattle.af_base.specs.declared.event.ServerEvent.{ServerEvent}
-use Rattle.af_model.specs.declared.shape.Shape.{Shape}
 use Rattle.af_cblk.specs.declared.view.ClientPart.{ClientPart}
 use Rattle.af_cblk.specs.declared.view.ServerPart.{ServerPart}
 use Rattle.af_cblk.specs.declared.view.HandPart.{HandPart}

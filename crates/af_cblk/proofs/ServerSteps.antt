@@ -1,16 +1,9 @@
 -- What each word step of the server makes of the history, the words and the parts, if the client has not poked.
 use Rattle.std.proofs.Common.{subst, ◌≡◌, ◌≢◌, ◌*◌, eq-eqb, ne_eqb, ℕ, ◌+◌, ◌-◌, ◌%◌, ◌^◌, ◌<◌, ◌≤◌, if◌then◌else◌, ◌==◌, Bool, true, false, bit_or, List, [], ◌∷◌, ◌++◌, length, set, take, drop, sym, refl, ap, ◌∙◌, arith, length-append, eqb-true, mod-eq_of_lt, lt_of_not-le}
-use Rattle.std.proofs.lemmas.List.{take-append-le}
-use Rattle.std.proofs.lemmas.Nat.{or_of_32}
+use Rattle.af_cblk.proofs.Common.{ServerEvent, drop_end, drop_flat, drop_low, drop_placed, drop_released, flush_number, flush_position, flush_word, or_of_32, past_front, point, server_adds, take-append-le, taken_of, wrapped}
 use mathlib.Core.Logic.{dite}
 use native.Mathlib.Decide.{dec_le, ℕ_discrete}
-use Rattle.af_base.specs.declared.event.ServerEvent.{ServerEvent}
 use Rattle.af_base.specs.declared.event.ServerEvent.TheVariants as server
-use Rattle.af_model.specs.Point.{wrapped, flush_number, flush_word, drop_end}
-use Rattle.af_model.specs.History.{taken_of, point}
-use Rattle.af_model.specs.ServerCalls.{flush_position, past_front}
-use Rattle.af_model.proofs.Fates.{drop_flat, drop_placed, drop_low, drop_released}
-use Rattle.af_model.proofs.Grows.{server_adds}
 use Rattle.af_cblk.specs.declared.view.ClientPart.{ClientPart}
 use Rattle.af_cblk.specs.declared.view.ServerPart.{ServerPart}
 use Rattle.af_cblk.specs.declared.view.HandPart.{HandPart}

@@ -1,9 +1,8 @@
 -- What the sizes of a block come to.
 use Rattle.std.proofs.Common.{◌≡◌, ◌≢◌, ◌⊎◌, inl, inr, ℕ, ◌+◌, ◌%◌, bit_and, ◌-◌, ◌*◌, ◌/◌, ◌^◌, ◌<◌, ◌≤◌, max, sym, ap, ◌∙◌, subst, arith, pow-add, pow_mono, lt_of_not-le}
-use Rattle.std.proofs.lemmas.Nat.{and_mask}
+use Rattle.af_cblk.proofs.Common.{Shape, and_mask}
 use mathlib.Core.Logic.{dite}
 use native.Mathlib.Decide.{dec_le}
-use Rattle.af_model.specs.declared.shape.Shape.{Shape}
 use Rattle.af_cblk.specs.Shape.{IsShape}
 
 -- the cells hold the frames, and whole turns of them fill the positions of 32 bits

@@ -1,10 +1,6 @@
 -- Cells stored in order.
 use Rattle.std.proofs.Common.{◌≡◌, ℕ, suc, ◌+◌, ◌-◌, ◌*◌, ◌/◌, ◌%◌, ◌^◌, ◌≤◌, ◌<◌, List, [], ◌∷◌, ◌++◌, length, get_or, take, drop, map, sym, ap, ◌∙◌, subst, arith, div-add-mod', length-take-le, mod-lt, mod-eq_of_lt, take-add}
-use Rattle.std.proofs.Math.Nat.{mul-add-mod_self_right, mod-add-mod, add-mod_right}
-use Rattle.std.proofs.lemmas.List.{length-map, map-append, take-map, take_more}
-use Rattle.af_base.specs.declared.frame.Frame.{Frame}
-use Rattle.af_base.specs.Sample.{packed_word}
-use Rattle.af_model.specs.Point.{wrapped}
+use Rattle.af_cblk.proofs.Common.{Frame, add-mod_right, length-map, map-append, mod-add-mod, mul-add-mod_self_right, packed_word, take-map, take_more, wrapped}
 use Rattle.af_cblk.specs.declared.view.ClientPart.{ClientPart}
 use Rattle.af_cblk.specs.Parts.{ahead, released, room, number_at, with_run}
 use Rattle.af_cblk.proofs.ClientSteps.{number_is}

@@ -1,11 +1,10 @@
 -- What follows from the clauses of a write and a send.
-use Rattle.std.proofs.Common.{◌≡◌, ℕ, ◌-◌, ◌%◌, ◌<◌, ◌≤◌, Some, arith}
+use Rattle.std.proofs.Common.{◌≡◌, ℕ, ◌-◌, ◌%◌, ◌<◌, ◌≤◌, arith}
+use Rattle.af_client.proofs.Common.{IsShape}
 use Rattle.af_base.specs.declared.event.ClientCall.TheVariants as call
-use Rattle.af_model.specs.Room.{ahead}
-use Rattle.af_cblk.specs.Shape.{IsShape}
-use Rattle.af_client.specs.Order.{ClientState, IsInOrder, client_kept_of}
+use Rattle.af_client.specs.Order.{ClientState, client_kept_of}
 use Rattle.af_client.specs.Calls.{Answers}
-use Rattle.af_client.proofs.Opened.{shut_outside, before_end}
+use Rattle.af_client.proofs.Opened.{before_end}
 
 -- a write puts no more frames than it was given
 pub puts_few : (c : ClientState) (asked front count : ℕ) → Answers c asked (call.Put front count) → count ≤ asked
@@ -19,7 +18,3 @@ puts_some c asked front count shape a =
     let room = a.0.1 in
     let end : 1 ≤ c.pass.part.shape.cells - (client_kept_of c.pass.part).position % c.pass.part.shape.cells = before_end c.pass.part.shape (client_kept_of c.pass.part).position shape in
     omega arith
-
--- the words of a corrupt answer, which shut the proxy, do not fit the block
-pub corrupt_outside : (d : ClientState) (front rear : ℕ) → IsInOrder d → d.shut ≡ Some (front, rear) → d.pass.part.shape.frames < ahead front rear
-corrupt_outside d front rear k shut = shut_outside d (front, rear) k shut

@@ -1,21 +1,12 @@
 -- Lists that calls spell, and the values that they give.
 use Rattle.std.proofs.Common.{◌≡◌, ℕ, ◌+◌, ◌%◌, ◌^◌, ◌<◌, Bool, true, false, if◌then◌else◌, Option, None, is_some, fold, List, [], ◌∷◌, ◌++◌, length, refl, sym, ap, ◌∙◌, subst, arith}
+use Rattle.af_client.proofs.Common.{ClientCall, ClientEvent, ClientKept, ClientPart, ClientSide, IsClientList, Shape, begins, calls, client_begins, client_call_events, client_did, client_events_of, client_flushed, client_keeps, client_kept, client_met, flush_in, flushes_of, is_lawful, lawful_before, meets, released, wrapped}
 use Rattle.std.proofs.lemmas.Grind.{fold-append}
-use Rattle.af_base.specs.declared.event.ClientCall.{ClientCall}
 use Rattle.af_base.specs.declared.event.ClientCall.TheVariants as call
-use Rattle.af_base.specs.declared.event.ClientEvent.{ClientEvent}
 use Rattle.af_base.specs.declared.event.ClientEvent.TheVariants as client
 use Rattle.af_model.proofs.Basics.{both_lawful, flushes-append, lawful_first}
-use Rattle.af_model.specs.Point.{wrapped}
-use Rattle.af_model.specs.History.{is_lawful, flush_in, flushes_of}
-use Rattle.af_model.specs.ClientCalls.{ClientKept, client_keeps, client_begins, client_kept, client_events_of, client_call_events, IsClientList, begins, calls, meets}
-use Rattle.af_model.proofs.Counts.{lawful_before}
-use Rattle.af_cblk.specs.declared.view.ClientPart.{ClientPart}
-use Rattle.af_model.specs.declared.shape.Shape.{Shape}
-use Rattle.af_cblk.specs.Parts.{client_flushed, released, client_did, client_met}
 use Rattle.af_base.specs.declared.event.ServerEvent.{ServerEvent}
 use Rattle.af_cblk.specs.Rule.{new_client}
-use Rattle.af_cblk.specs.Sides.{ClientSide}
 use Rattle.af_client.specs.Order.{ClientState, Keeps, client_kept_of, IsInOrder}
 use Rattle.af_client.specs.Calls.{Answers}
 
@@ -155,19 +146,10 @@ tame_look true front = refl
 tame_look false front = refl
 
 tame_call : (was : Bool) (answer : ClientCall) → (IsPoke answer → ⊥) → is_lawful (client_call_events was answer) ≡ true
-tame_call was (call.Put front count) calm = refl
-tame_call was (call.Full front) calm = refl
-tame_call was (call.Dead flags) calm = refl
 tame_call was (call.Corrupt front rear) calm = tame_look was front
-tame_call was (call.Cleared flags) calm = refl
-tame_call was (call.Flush count) calm = refl
-tame_call was (call.Gain word) calm = refl
-tame_call was (call.Sent front code argument) calm = refl
-tame_call was (call.SendFull front) calm = refl
-tame_call was (call.SendDead flags) calm = refl
 tame_call was (call.SendCorrupt front rear) calm = tame_look was front
-tame_call was (call.Status word) calm = refl
 tame_call was (call.Poke command word value) calm = absurd (calm tt)
+tame_call was _ calm = refl
 
 -- a call that is no poke leaves a lawful list lawful
 pub lawful_call : (frames base : ℕ) (es : List ClientEvent) (answer : ClientCall) → (IsPoke answer → ⊥) → is_lawful es ≡ true → is_lawful (es ++ client_events_of frames base es answer) ≡ true

@@ -1,21 +1,9 @@
 -- What a look at flags and front leaves in order.
-use Rattle.std.proofs.Common.{◌≡◌, ℕ, ◌+◌, ◌-◌, ◌%◌, ◌^◌, ◌<◌, ◌≤◌, Bool, true, if◌then◌else◌, bit_and, MatchOption, Option, Some, None, is_some, List, [], ◌∷◌, ◌++◌, length, take, map, refl, sym, ap, ◌∙◌, subst, arith, append_assoc, length-append, length-take-le, mod-lt, eq-eqb}
-use Rattle.std.proofs.lemmas.List.{take-map, length-map}
+use Rattle.std.proofs.Common.{◌≡◌, ℕ, ◌+◌, ◌-◌, ◌%◌, ◌^◌, ◌<◌, ◌≤◌, Bool, true, if◌then◌else◌, bit_and, MatchOption, Option, Some, None, is_some, List, [], ◌∷◌, ◌++◌, length, take, map, refl, sym, ap, ◌∙◌, arith, append_assoc, length-append, length-take-le, mod-lt, eq-eqb}
+use Rattle.af_client.proofs.Common.{ClientCall, ClientEvent, ClientPart, Frame, IsShape, Shape, ahead, client_events_of, filled, is_lawful, length-map, outside, packed_word, rear_stored, recorded, released, run_of, take-map, wrapped}
 use Rattle.af_base.proofs.Basics.{none_more}
-use Rattle.af_base.specs.declared.frame.Frame.{Frame}
-use Rattle.af_base.specs.declared.event.ClientCall.{ClientCall}
-use Rattle.af_base.specs.declared.event.ClientEvent.{ClientEvent}
 use Rattle.af_base.specs.declared.event.ClientEvent.TheVariants as client
-use Rattle.af_base.specs.Sample.{packed_word}
-use Rattle.af_model.specs.Point.{wrapped}
-use Rattle.af_model.specs.Room.{ahead, outside}
-use Rattle.af_model.specs.History.{is_lawful}
-use Rattle.af_model.specs.ClientCalls.{client_begins, client_events_of}
-use Rattle.af_model.proofs.Logic.{LieOutside, outside-none, outside-some, client_outside}
-use Rattle.af_cblk.specs.declared.view.ClientPart.{ClientPart}
-use Rattle.af_model.specs.declared.shape.Shape.{Shape}
-use Rattle.af_cblk.specs.Shape.{IsShape}
-use Rattle.af_cblk.specs.Parts.{released, filled, recorded, run_of, rear_stored}
+use Rattle.af_model.proofs.Logic.{outside-none, outside-some}
 use Rattle.af_cblk.proofs.Sized.{sized}
 use Rattle.af_cblk.proofs.Numbers.{same_cell, past}
 use Rattle.af_client.specs.declared.put.Opened.TheVariants as opened
@@ -26,13 +14,6 @@ use Rattle.af_client.proofs.Stores.{run_is}
 
 pub recorded-none : (flags : ℕ) → bit_and flags 4 ≡ 0 → recorded flags ≡ 0
 recorded-none flags e = ap (λ (b : Bool). if b then 0 else flags) (eq-eqb (bit_and flags 4) 0 e)
-
--- ## Words that do not fit
-
--- the words that shut a proxy do not fit the block
-pub shut_outside : (c : ClientState) (words : ℕ × ℕ) → IsInOrder c → c.shut ≡ Some words → c.pass.part.shape.frames < ahead words.0 words.1
-shut_outside c words k is =
-    subst (λ (o : Option (ℕ × ℕ)). LieOutside c.pass.part.shape.frames o) (sym k.shut_is ∙ is) (client_outside c.pass.part.shape.frames (client_begins c.pass.part.shape.base) c.pass.part.events tt)
 
 -- ## After a look
 

@@ -1,11 +1,6 @@
 -- Frames stored one after another.
 use Rattle.std.proofs.Common.{◌≡◌, ◌≢◌, inl, inr, ℕ, zero, suc, refl, ◌+◌, ◌-◌, ◌%◌, ◌^◌, ◌<◌, ◌≤◌, if◌then◌else◌, Bool, List, [], ◌∷◌, length, take, map, slice_index, sym, ap, ◌∙◌, subst, arith, eq-eqb, ne_eqb, ext_get_or, get_or-take, length-take-le, mod-eq_of_lt}
-use Rattle.std.proofs.lemmas.List.{take-map}
-use Rattle.af_base.specs.declared.frame.Frame.{Frame}
-use Rattle.af_base.specs.Sample.{packed_word}
-use Rattle.af_model.specs.Point.{wrapped}
-use Rattle.af_cblk.specs.declared.view.ClientPart.{ClientPart}
-use Rattle.af_cblk.specs.Parts.{Has, word_at, run_of, with_run, next_stored, released, filled, client_saw_front}
+use Rattle.af_client.proofs.Common.{ClientPart, Frame, Has, client_saw_front, filled, next_stored, packed_word, released, run_of, take-map, with_run, word_at, wrapped}
 use Rattle.af_cblk.proofs.Rows.{run_length, run_at}
 use Rattle.af_client.specs.Calls.{Stored}
 

@@ -1,36 +1,10 @@
 -- The steps of the cycles of what a command played.
 use Rattle.std.proofs.Common.{◌≡◌, ◌≢◌, ℕ, Bool, true, false, if◌then◌else◌, List, Option, Some, Result, Ok, Err, IfOk, String, refl, sym, ap, subst, ◌∙◌}
+use Rattle.af_commands.proofs.Common.{ComesTo, Ending, EndsState, File, Files, Global, HandedBack, IsScript, IsToldAlone, Job, JournalData, Judged, Limit, Meets, Memory, Outcome, Over, PlayFault, Played, Refusal, Refused, Script, Session as Loaded, SetsFile, Stop, Store, StoreError, TookFew, Usage, ended_status, journal_pcm, play_job, render_told, run_of, session_job, shown_from, status_of, text_of, trace_job}
 use Rattle.std.specs.Str.{bytes_eq}
-use Rattle.std.specs.declared.alloc.Global.{Global}
 use Rattle.std.proofs.lemmas.Slice.Eq.{bytes_eq-Decides}
-use Rattle.af_io.specs.Files.{Files, SetsFile}
-use Rattle.af_io.specs.declared.store.StoreError.{StoreError}
 use Rattle.af_io.specs.declared.store.StoreError.TheVariants as outside
-use Rattle.af_journal.specs.Texts.{text_of}
-use Rattle.af_model.specs.Journals.{JournalData}
-use Rattle.af_runs.specs.Sessions.{Session as Loaded}
-use Rattle.af_offline.specs.Asked.{Job, play_job, session_job, trace_job}
-use Rattle.af_offline.specs.declared.status.Ending.{Ending}
-use Rattle.af_offline.specs.declared.status.Ending.TheVariants.{Limit, Judged}
-use Rattle.af_offline.specs.declared.status.Refusal.{Refusal}
-use Rattle.af_offline.specs.declared.status.Refusal.TheVariants.{Usage, Script, File}
-use Rattle.af_offline.specs.declared.status.Stop.{Stop}
-use Rattle.af_offline.specs.declared.status.Stop.TheVariants.{Refused, Over, Store, Memory}
-use Rattle.af_offline.specs.Status.{Meets, ended_status, status_of}
-use Rattle.af_playing.specs.PlayKept.{TookFew}
-use Rattle.af_playing.specs.PlayedAlone.{IsToldAlone}
-use Rattle.af_playing.specs.PlayedRuns.{HandedBack}
-use Rattle.af_playing.specs.declared.answering.PlayFault.{PlayFault}
 use Rattle.af_playing.specs.declared.answering.PlayFault.TheVariants as fault
-use Rattle.af_rendering.specs.Rendered.{ComesTo}
-use Rattle.af_rendering.specs.declared.rendering.Outcome.{Outcome}
-use Rattle.af_rendering.specs.declared.rendering.Played.{Played}
-use Rattle.af_render_law.proofs.RendersTold.{render_told}
-use Rattle.af_rendering.specs.Alone.{shown_from}
-use Rattle.af_runs.specs.LegalRuns.{run_of}
-use Rattle.af_runs.specs.Pcm.{journal_pcm}
-use Rattle.af_script.specs.Form.{IsScript}
-use Rattle.af_session.specs.Ends.{EndsState}
 use Rattle.af_tally.specs.Steps.{AreFew}
 use Rattle.af_tally.specs.Summaries.{Shown}
 use Rattle.af_commands.specs.Counted.{CountsOn, CountsSteps}

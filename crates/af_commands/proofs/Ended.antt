@@ -1,19 +1,10 @@
 -- A work that is over and isn't done: a play that was cut off at its limit, whose files are both whole, or a judgement that refuses. The line of the work is printed or not.
 use Rattle.std.proofs.Common.{◌≡◌, ℕ, ◌++◌, List, [], Option, Some, Result, Ok, Err, IsTrue, is_some, false, arith, inl, inr, length, refl, subst, sym}
+use Rattle.af_commands.proofs.Common.{Ending, Exact, Files, Job, Judge, Judged, JudgesWords, LeavesFront, Limit, Over, Refusal, RefusesWords, Request, Rounds, SetsFile, Stop, Traced, Work, ended_status, ending_text, limit_text, with_files}
 use Rattle.std.proofs.lemmas.List.{take_all}
-use Rattle.af_io.specs.Files.{Files, SetsFile, LeavesFront}
-use Rattle.af_io.specs.Outputs.{with_files}
-use Rattle.af_offline.specs.declared.status.Ending.{Ending}
-use Rattle.af_offline.specs.declared.status.Ending.TheVariants.{Limit, Judged}
-use Rattle.af_offline.specs.declared.status.Refusal.{Refusal}
 use Rattle.af_offline.specs.declared.status.Status.TheVariants as status
-use Rattle.af_offline.specs.declared.status.Stop.{Stop}
-use Rattle.af_offline.specs.declared.status.Stop.TheVariants.{Over}
-use Rattle.af_offline.specs.Asked.{Job, Work, Exact, Session, Rounds, Judge, Traced}
+use Rattle.af_offline.specs.Asked.{Session}
 use Rattle.af_commands.specs.Ends.{AsksEnding, EndsAsAsked, EndsWork, IsCutOff, IsEnded, IsOver, LeavesWork, MayBeCut, Printed, Prints, PrintsFront, PrintsOwnLine, PrintsSomeLine, Renders, Works}
-use Rattle.af_offline.specs.Line.{ending_text, limit_text}
-use Rattle.af_words.specs.Requests.{Request}
-use Rattle.af_offline.specs.Status.{JudgesWords, RefusesWords, ended_status}
 
 -- a file that was made anew with all of its bytes holds a front of these bytes
 pub LeavesFront-whole : (old : Files) (name bytes : List ℕ) (new : Files) → SetsFile old name (Some bytes) new → LeavesFront old name bytes new

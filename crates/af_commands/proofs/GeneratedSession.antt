@@ -1,32 +1,18 @@
 -- The session of the generated script, with the files that were written for it.
 use Rattle.std.proofs.Common.{◌≡◌, ◌≢◌, ◌⊎◌, ℕ, zero, suc, ◌+◌, ◌*◌, ◌/◌, ◌%◌, ◌<◌, ◌≤◌, ◌==◌, nat_le, Bool, true, false, List, [], ◌∷◌, ◌++◌, Some, Result, Ok, Err, length, map, refl, sym, ap, subst, ◌∙◌, inl, inr, arith, String}
+use Rattle.af_commands.proofs.Common.{Files, Frame, Global, Job, Judged, Limit, Meets, Memory, Over, Refusal, Refused, SameFiles, Session as Loaded, SetsFiles, Stop, Store, TrackSpec, files_are, generated_job, generated_name, generated_ops, generated_script, generated_track, generated_tracks, is_drawn, loaded_view, most_file, repeated, session_job, session_of, track_in, tracks_in, with_files}
 use Rattle.std.specs.List.{range_with_len}
-use Rattle.std.specs.declared.alloc.Global.{Global}
 use Rattle.std.proofs.lemmas.Bool.{le-leb, eqb-true, eq-eqb}
 use Rattle.std.proofs.lemmas.Bool.Decides.{eqb_tells}
-use Rattle.af_base.specs.declared.frame.Frame.{Frame}
-use Rattle.af_io.proofs.Basics.{files_are}
-use Rattle.af_io.specs.Files.{Files, SameFiles}
-use Rattle.af_io.specs.Outputs.{with_files, SetsFiles}
 use Rattle.af_io.specs.Pcm.{frames_from, frame_width}
 use Rattle.af_io.proofs.Fronts.{frames_count}
-use Rattle.af_script.specs.Generated.{repeated, generated_name, generated_ops, generated_track, generated_tracks, generated_script}
 use Rattle.af_script.specs.declared.op.Op.{Op}
 use Rattle.af_script.specs.declared.op.Op.TheVariants as op
-use Rattle.af_script.specs.declared.track.TrackSpec.{TrackSpec}
 use Rattle.af_party.specs.Works.{frames_to_come}
-use Rattle.af_offline.specs.declared.status.Refusal.{Refusal}
-use Rattle.af_offline.specs.declared.status.Stop.{Stop}
-use Rattle.af_offline.specs.declared.status.Stop.TheVariants.{Refused, Over, Store, Memory}
-use Rattle.af_offline.specs.declared.status.Ending.TheVariants.{Limit, Judged}
-use Rattle.af_runs.specs.Sessions.{Session as Loaded}
-use Rattle.af_offline.specs.Asked.{◌>>=◌, most_file, track_in, tracks_in, session_of, session_job, generated_job, Job}
+use Rattle.af_offline.specs.Asked.{◌>>=◌}
 use Rattle.af_commands.specs.Counted.{CountsOn}
 use Rattle.af_commands.specs.Ends.{Makes}
 use Rattle.af_offline.specs.Generated.{generated_file, generated_files, generated_frames}
-use Rattle.af_offline.specs.Loading.{loaded_view}
-use Rattle.af_words.specs.Requests.{is_drawn}
-use Rattle.af_offline.specs.Status.{Meets}
 use Rattle.af_offline.proofs.Draws.{file_length}
 use Rattle.af_offline.proofs.Generated.{file_there}
 use Rattle.af_offline.proofs.Chains.{then_cons}

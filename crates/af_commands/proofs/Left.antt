@@ -1,18 +1,8 @@
 -- What is left behind, and what is printed, if a command stops.
 use Rattle.std.proofs.Common.{◌≡◌, ◌∙◌, ◌≤◌, ℕ, ◌++◌, List, Option, Some, is_some, IsTrue, Result, Ok, Err, IfErr, IsErrAnd, String, string_bytes, ok_or, append-nil, refl, sym, ap, subst, inl, inr, arith}
-use Rattle.std.specs.declared.alloc.Global.{Global}
-use Rattle.af_io.specs.Causes.{Rose}
-use Rattle.af_io.specs.Files.{Files, SameFiles}
-use Rattle.af_offline.specs.declared.status.Refusal.{Refusal}
-use Rattle.af_offline.specs.declared.status.Refusal.TheVariants.{Usage, Script, File}
-use Rattle.af_offline.specs.declared.status.Stop.{Stop}
-use Rattle.af_offline.specs.declared.status.Stop.TheVariants.{Refused, Over, Store, Memory}
-use Rattle.af_offline.specs.declared.status.Ending.{Ending}
+use Rattle.af_commands.proofs.Common.{Ending, File, Files, Global, IsOutside, Job, JudgesWords, Memory, Over, Refusal, Refused, RefusesWords, Request, Rose, SameFiles, Script, Stop, Store, SuitsRequest, Usage, asked_of, job_of, refusal_text, request_of, status_of}
 use Rattle.af_offline.specs.declared.status.Status.TheVariants as status
-use Rattle.af_offline.specs.Line.{refusal_text}
-use Rattle.af_words.specs.Requests.{Request, request_of}
-use Rattle.af_offline.specs.Asked.{◌>>=◌, Job, asked_of, job_of}
-use Rattle.af_offline.specs.Status.{status_of, IsOutside, RefusesWords, SuitsRequest, JudgesWords}
+use Rattle.af_offline.specs.Asked.{◌>>=◌}
 use Rattle.af_commands.specs.Ends.{Makes, Works, Prints, PrintsFront, PrintsCut, PrintsLine, Renders, Printed, WholeUnless, AsksEnding, IsDoneLine, IsAskedLine, PrintsOwnLine, PrintsSomeLine, EndsAsAsked}
 use Rattle.af_commands.proofs.Made.{IsCutOff-same, IsCutOff-made, IsOver-made, Renders-made, PrintsWhole-made, PrintsCut-made}
 

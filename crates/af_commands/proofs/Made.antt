@@ -1,20 +1,11 @@
 -- What a command makes, and what it leaves behind if it stops.
 use Rattle.std.proofs.Common.{◌≡◌, ℕ, List, ◌++◌, Some, Result, Ok, Err, String, string_bytes, sym, ap, subst, inl, inr}
-use Rattle.std.specs.declared.alloc.Global.{Global}
-use Rattle.af_io.proofs.Basics.{files_are}
-use Rattle.af_io.specs.Files.{Files, SameFiles, SetsFile, LeavesFront}
-use Rattle.af_io.specs.Outputs.{with_files}
+use Rattle.af_commands.proofs.Common.{Files, Global, Job, LeavesFront, Meets, Memory, Over, Refusal, Refused, SameFiles, SetsFile, Stop, Store, StoreError, files_are, output_job, stop_of, with_files}
 use Rattle.af_io.proofs.Outputs.{LeavesFronts-none}
-use Rattle.af_io.specs.declared.store.StoreError.{StoreError}
 use Rattle.af_io.specs.declared.store.StoreError.TheVariants as outside
 use Rattle.af_offline.specs.declared.outputs.Output.{Output}
-use Rattle.af_offline.specs.declared.status.Refusal.{Refusal}
-use Rattle.af_offline.specs.declared.status.Stop.{Stop}
-use Rattle.af_offline.specs.declared.status.Stop.TheVariants.{Refused, Over, Store, Memory}
-use Rattle.af_offline.specs.Asked.{◌>>=◌, Job}
-use Rattle.af_offline.specs.Asking.{output_job}
+use Rattle.af_offline.specs.Asked.{◌>>=◌}
 use Rattle.af_commands.specs.Ends.{LeavesWork, IsOver, IsCutOff, Makes, Renders, PrintsFront, PrintsWhole, PrintsCut}
-use Rattle.af_offline.specs.Status.{Meets, stop_of}
 
 -- ## Making
 

@@ -1,24 +1,9 @@
 -- A session that was played, and its line.
 use Rattle.std.proofs.Common.{◌≡◌, ℕ, List, Some, Result, Ok, Err, IfOk, OnErr, String, length, string_bytes, refl, sym, ap, subst, ◌∙◌, inl, inr}
-use Rattle.std.specs.declared.alloc.Global.{Global}
-use Rattle.af_model.specs.Journals.{JournalData, journal_of}
-use Rattle.af_io.specs.Files.{Files, SetsFile, LeavesFront}
-use Rattle.af_io.specs.declared.store.StoreError.{StoreError}
-use Rattle.af_tally.specs.declared.summary.Summary.{Summary}
-use Rattle.af_journal_laws.specs.Laws.{HoldsAtMeetingsAlone}
-use Rattle.af_journal_laws.proofs.AllHolds.{OfTurnRuns}
+use Rattle.af_commands.proofs.Common.{ComesTo, EndsState, Files, Global, HandsBack, HoldsAtMeetingsAlone, IsScript, JournalData, LeavesFront, LeavesSound, OfTurnRuns, Outcome, Session as Loaded, SetsFile, Stop, StoreError, Summary, journal_of, journal_pcm, render_told, session_job}
 use Rattle.af_one_turn_run.proofs.OneTurnRun.{one_turn_run}
-use Rattle.af_render_law.proofs.RendersTold.{render_told}
 use Rattle.af_render_law.proofs.TurnsSoFar.{are_turns, sounds}
-use Rattle.af_script.specs.Form.{IsScript}
-use Rattle.af_rendering.specs.declared.rendering.Outcome.{Outcome}
-use Rattle.af_session.specs.Ends.{EndsState}
-use Rattle.af_rendering.specs.Rendered.{ComesTo, HandsBack, LeavesSound}
 use Rattle.af_session.specs.Shown.{summary_told}
-use Rattle.af_runs.specs.Pcm.{journal_pcm}
-use Rattle.af_offline.specs.declared.status.Stop.{Stop}
-use Rattle.af_runs.specs.Sessions.{Session as Loaded}
-use Rattle.af_offline.specs.Asked.{session_job}
 use Rattle.af_commands.specs.Ends.{IsCutOff, IsMade, Makes}
 use Rattle.af_commands.specs.Sessions.{IsSession, IsSomeSessionLine, LeavesTurns, summary_line}
 use Rattle.af_commands.specs.Told.{TellsRender}

@@ -1,22 +1,9 @@
 -- How a play answers that the outside stopped it, in its session or after it.
 use Rattle.std.proofs.Common.{◌≡◌, ◌∙◌, ℕ, ◌<◌, ◌≤◌, Ok, Err, Result, String, IsErrAnd, IsErrOf, arith, refl, sym, subst}
-use Rattle.std.specs.declared.alloc.Global.{Global}
-use Rattle.af_io.specs.Causes.{HasCause}
-use Rattle.af_io.specs.declared.store.StoreError.{StoreError}
+use Rattle.af_commands.proofs.Common.{Ending, EndsState, Global, HasCause, HasFault, HasStoreCause, IsNoUsage, IsOutside, IsPlayRequest, JournalData, Memory, Outcome, Over, PlayFault, Played, Refused, Request, Stop, Store, StoreError, SuitsRequest, stop_of}
 use Rattle.af_io.specs.declared.store.StoreError.TheVariants as outside
-use Rattle.af_model.specs.Journals.{JournalData}
-use Rattle.af_playing.specs.declared.answering.PlayFault.{PlayFault}
 use Rattle.af_playing.specs.declared.answering.PlayFault.TheVariants as fault
 use Rattle.af_rendering.proofs.Basics.{not_failed}
-use Rattle.af_rendering.specs.declared.rendering.Outcome.{Outcome}
-use Rattle.af_rendering.specs.declared.rendering.Played.{Played}
-use Rattle.af_session.specs.Ends.{EndsState}
-use Rattle.af_playing.specs.PlayedRuns.{HasStoreCause}
-use Rattle.af_offline.specs.declared.status.Ending.{Ending}
-use Rattle.af_offline.specs.declared.status.Stop.{Stop}
-use Rattle.af_offline.specs.declared.status.Stop.TheVariants.{Refused, Over, Store, Memory}
-use Rattle.af_words.specs.Requests.{Request}
-use Rattle.af_offline.specs.Status.{HasFault, IsNoUsage, IsOutside, IsPlayRequest, SuitsRequest, stop_of}
 use Rattle.af_commands.specs.Told.{Tells, TellsCause, TellsRender}
 
 -- what holds of the stop of the store's refusal holds of the answer

@@ -1,39 +1,14 @@
 -- A script that was played in rounds, its journal and its line.
 use Rattle.std.proofs.Common.{◌≡◌, ◌∙◌, ◌≤◌, ℕ, Bool, true, false, List, Some, Ok, Err, IfOk, Result, String, length, string_bytes, ap, arith, inl, inr, refl, subst, sym}
-use Rattle.std.specs.declared.alloc.Global.{Global}
-use Rattle.af_io.proofs.Basics.{files_are}
-use Rattle.af_io.specs.Files.{Files, SameFiles, SetsFile, LeavesFront}
-use Rattle.af_io.specs.Outputs.{with_file}
-use Rattle.af_journal_laws.specs.Laws.{HoldsAtMeetings}
-use Rattle.af_journal_laws.proofs.AllHolds.{OfRounds}
+use Rattle.af_commands.proofs.Common.{Ending, EndsState, Files, Global, HandsBackRun, HoldsAtMeetings, IsLegalJournal, IsOneReading, IsScript, JournalData, KeepsFiles, KeepsPlay, LeavesFront, LeavesRun, Limit, Memory, OfRounds, Over, PlayFault, Played, Refused, SameFiles, Session as Loaded, SetsFile, Stop, Store, Summary, entries_seen, files_are, journal_of, journal_pcm, limit_text, play_job, rounds_seen, run_of, summary_by, text_of, with_file}
 use Rattle.af_model.proofs.Basics.{same_rounds}
-use Rattle.af_script.specs.Form.{IsScript}
-use Rattle.af_journal.specs.Readings.{IsOneReading}
-use Rattle.af_journal.specs.Texts.{text_of}
 use Rattle.af_journal.proofs.OneJournal.{read-back}
-use Rattle.af_model.specs.Journals.{JournalData, entries_seen, journal_of, rounds_seen}
-use Rattle.af_tally.specs.declared.summary.Summary.{Summary}
-use Rattle.af_playing.specs.declared.answering.PlayFault.{PlayFault}
 use Rattle.af_playing.specs.declared.answering.PlayFault.TheVariants as fault
-use Rattle.af_rendering.specs.declared.rendering.Played.{Played}
-use Rattle.af_session.specs.Ends.{EndsState}
-use Rattle.af_playing.specs.PlayedRuns.{HandsBackRun, IsLegalJournal, LeavesRun}
-use Rattle.af_playing.specs.PlayKept.{KeepsFiles, KeepsPlay}
 use Rattle.af_playing.proofs.RoundsSoFar.{are_rounds, sounds}
-use Rattle.af_runs.specs.Pcm.{journal_pcm}
-use Rattle.af_offline.specs.declared.status.Stop.{Stop}
-use Rattle.af_offline.specs.declared.status.Stop.TheVariants.{Refused, Over, Store, Memory}
-use Rattle.af_offline.specs.declared.status.Ending.{Ending}
-use Rattle.af_offline.specs.declared.status.Ending.TheVariants.{Limit}
-use Rattle.af_runs.specs.Sessions.{Session as Loaded}
-use Rattle.af_offline.specs.Asked.{play_job}
 use Rattle.af_commands.specs.Ends.{Makes}
-use Rattle.af_offline.specs.Line.{limit_text}
 use Rattle.af_commands.specs.Plays.{IsPlay, IsPlayed, IsSomePlayLine, LeavesRounds, LeavesText, run_line}
 use Rattle.af_commands.specs.Sessions.{summary_line}
 use Rattle.af_commands.specs.Told.{Tells, TellsText}
-use Rattle.af_rendering.specs.Alone.{summary_by}
-use Rattle.af_runs.specs.LegalRuns.{run_of}
 
 -- a legal journal, and what follows of it up to the meetings
 pub record IsKept (ended : Bool) (l : Loaded) (journal : JournalData) : Type 0 where

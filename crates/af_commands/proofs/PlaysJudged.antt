@@ -1,20 +1,17 @@
 -- The two files of a play in which all parties have ended are found legal.
 use Rattle.std.proofs.Common.{◌≡◌, ℕ, ◌<◌, true, List, length, refl, ap, ◌∙◌, sym, subst}
+use Rattle.af_commands.proofs.Common.{Frame, IsOneReading, JournalData, ScriptData}
 use Rattle.af_audit.specs.Verdicts.{IsVerdict}
 use Rattle.af_audit.specs.declared.verdict.Refusal.TheVariants as refused
 use Rattle.af_audit.specs.declared.verdict.Verdict.{Verdict}
 use Rattle.af_audit.specs.declared.verdict.Verdict.TheVariants.{Legal, Refused}
 use Rattle.af_audit.proofs.JudgedExactly.{legal_exactly}
 use Rattle.af_audit.proofs.OneVerdict.{one_verdict}
-use Rattle.af_base.specs.declared.frame.Frame.{Frame}
 use Rattle.af_journal.specs.Judged.{judged_of}
-use Rattle.af_model.specs.Journals.{JournalData}
 use Rattle.af_offline.proofs.BeyondFault.{legal_judged}
-use Rattle.af_script.specs.Data.{ScriptData}
 use Rattle.af_commands.specs.Plays.{IsPlay}
 use Rattle.af_commands.specs.PlaysJudged.{IsFoundLegal, PlayIsFoundLegal}
 use Rattle.af_offline.specs.Verified.{IsJudged}
-use Rattle.af_journal.specs.Readings.{IsOneReading}
 
 module _ (script : ScriptData) (files : List (List Frame)) (bytes text line : List ℕ) (some : 0 < length script.tracks) (play : IsPlay true script files bytes text line) where
   -- the journal of the play is that of a legal run with this sound

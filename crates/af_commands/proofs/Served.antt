@@ -1,10 +1,7 @@
 -- Tracks that find their files one after the other have the files that belong to their numbers.
 use Rattle.std.proofs.Common.{◌≡◌, ℕ, zero, suc, ◌<◌, List, [], ◌∷◌, length, sym, subst, arith}
-use Rattle.af_base.specs.declared.frame.Frame.{Frame}
-use Rattle.af_rendering.specs.Rendered.{HaveFiles, IsFileFor}
-use Rattle.af_script.specs.declared.track.TrackSpec.{TrackSpec}
+use Rattle.af_commands.proofs.Common.{AreFilesFor, AreServed, Frame, HaveFiles, IsFileFor, TrackSpec}
 use Rattle.af_session.specs.Rounds.{file_at, ops_at}
-use Rattle.af_offline.specs.Loading.{AreFilesFor, AreServed}
 use Rattle.af_offline.specs.declared.load.Loaded.{Loaded}
 use Rattle.af_offline.proofs.Loads.{served_count}
 

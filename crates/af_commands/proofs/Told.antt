@@ -1,17 +1,7 @@
 -- The files of a play that is answered.
 use Rattle.std.proofs.Common.{ℕ, List, Some, Ok, Err, Result, String, inl, inr, subst, sym}
-use Rattle.std.specs.declared.alloc.Global.{Global}
-use Rattle.af_io.specs.Files.{Files, SetsFile, LeavesFront}
-use Rattle.af_io.specs.declared.store.StoreError.{StoreError}
-use Rattle.af_journal.specs.Texts.{text_of}
-use Rattle.af_model.specs.Journals.{JournalData}
-use Rattle.af_playing.specs.declared.answering.PlayFault.{PlayFault}
+use Rattle.af_commands.proofs.Common.{Files, Global, JournalData, LeavesFront, Memory, Over, PlayFault, Played, Refused, SetsFile, Stop, Store, StoreError, Summary, stop_of, text_of}
 use Rattle.af_playing.specs.declared.answering.PlayFault.TheVariants as fault
-use Rattle.af_rendering.specs.declared.rendering.Played.{Played}
-use Rattle.af_tally.specs.declared.summary.Summary.{Summary}
-use Rattle.af_offline.specs.declared.status.Stop.{Stop}
-use Rattle.af_offline.specs.declared.status.Stop.TheVariants.{Refused, Over, Store, Memory}
-use Rattle.af_offline.specs.Status.{stop_of}
 use Rattle.af_commands.specs.Told.{Tells, TellsLine, TellsText, TellsTexts, WritesText}
 use Rattle.af_commands.proofs.Ended.{LeavesFront-whole}
 

@@ -1,40 +1,16 @@
 -- A script that was played in rounds with a log: its journal, its log and its line.
 use Rattle.std.proofs.Common.{◌≡◌, ◌∙◌, ◌⊎◌, ℕ, ◌≤◌, true, false, List, [], ◌∷◌, ◌++◌, Some, Ok, Err, Result, String, string_bytes, ap, inl, inr, refl, subst, sym}
-use Rattle.std.specs.declared.alloc.Global.{Global}
-use Rattle.af_io.proofs.Basics.{files_are}
-use Rattle.af_io.specs.Files.{Files, SetsFile, LeavesFront}
-use Rattle.af_io.specs.Outputs.{with_file, with_files}
-use Rattle.af_journal.specs.Texts.{text_of}
-use Rattle.af_journal_laws.specs.Laws.{HoldsAtMeetings}
-use Rattle.af_journal_laws.proofs.AllHolds.{OfRounds}
-use Rattle.af_model.specs.Journals.{JournalData}
+use Rattle.af_commands.proofs.Common.{AppendsLogOfPlay, Ending, EndsState, Files, Global, HandsBackRun, HoldsAtMeetings, IsScript, JournalData, KeepsFiles, KeepsPlay, LeavesFront, Limit, Memory, OfRounds, Over, PlayFault, Played, Refused, Session as Loaded, SetsFile, Stop, Store, Summary, files_are, journal_pcm, limit_text, run_of, summary_by, text_of, trace_job, with_file, with_files}
 use Rattle.af_nblog.specs.declared.entries.Note.{Note}
 use Rattle.af_nblog.specs.LogText.{log_text}
-use Rattle.af_script.specs.Form.{IsScript}
-use Rattle.af_runs.specs.Pcm.{journal_pcm}
-use Rattle.af_tally.specs.declared.summary.Summary.{Summary}
-use Rattle.af_playing.specs.declared.answering.PlayFault.{PlayFault}
 use Rattle.af_playing.specs.declared.answering.PlayFault.TheVariants as fault
-use Rattle.af_rendering.specs.declared.rendering.Played.{Played}
-use Rattle.af_session.specs.Ends.{EndsState}
 use Rattle.af_side_by_side.specs.Logging.{IsLogOf}
-use Rattle.af_playing.specs.PlayedRuns.{HandsBackRun}
-use Rattle.af_playing.specs.PlayKept.{AppendsLogOfPlay, KeepsFiles, KeepsPlay}
-use Rattle.af_offline.specs.declared.status.Stop.{Stop}
-use Rattle.af_offline.specs.declared.status.Stop.TheVariants.{Refused, Over, Store, Memory}
-use Rattle.af_offline.specs.declared.status.Ending.{Ending}
-use Rattle.af_offline.specs.declared.status.Ending.TheVariants.{Limit}
-use Rattle.af_runs.specs.Sessions.{Session as Loaded}
-use Rattle.af_offline.specs.Asked.{trace_job}
 use Rattle.af_commands.specs.Ends.{Makes}
-use Rattle.af_offline.specs.Line.{limit_text}
 use Rattle.af_commands.specs.Plays.{run_line, LeavesPlay}
 use Rattle.af_commands.specs.Sessions.{summary_line}
 use Rattle.af_commands.specs.Told.{Tells, TellsTexts}
 use Rattle.af_commands.specs.Traces.{IsTrace, IsTraced, LeavesLog}
 use Rattle.af_commands.proofs.PlayedRounds.{IsKept, cut_short, is_play, leaves_rounds, line_told, played, promises, text_left}
-use Rattle.af_rendering.specs.Alone.{summary_by}
-use Rattle.af_runs.specs.LegalRuns.{run_of}
 
 -- a list that was empty holds what was appended to it
 appended : (held new empty more : List ℕ) → held ≡ new → new ≡ empty ++ more → empty ≡ [] → held ≡ more

@@ -3,9 +3,9 @@ ghost use Rattle.std.specs.Prelude.{◌≡◌, ◌++◌, ℕ, List, Ok, Some, If
 ghost use Rattle.af_io.specs.Causes.{HasCause};
 ghost use Rattle.af_io.specs.Files.{SetsFile, LeavesFront};
 ghost use Rattle.af_journal.specs.Texts.{text_of};
-ghost use Rattle.af_offline.specs.Asked.{play_asked, play_job};
 ghost use Rattle.af_commands.specs.Counted.{CountsOn};
 ghost use Rattle.af_commands.specs.Ends.{Makes};
+ghost use Rattle.af_commands.specs.Outputs.{play_asked_into, play_into};
 ghost use Rattle.af_offline.specs.Loading.{loaded_view, AreFilesFor};
 ghost use Rattle.af_commands.specs.Plays.{IsSomePlayLine};
 ghost use Rattle.af_words.specs.Requests.{Play};
@@ -123,11 +123,11 @@ fn play<R: Threads + Sync, S: Store, G: Gate>(
     steps: &mut Costs,
 ) -> Result<String, Stop>
     requires { AreFilesFor loaded.now }
-    ensures made { S.told store.old → Makes result (Ok (play_job output.now.target.now output.now.journal.now (loaded_view loaded.now))) (S.files store.old) (S.files store.new) }
+    ensures made { S.told store.old → Makes result (Ok (play_into output.now (loaded_view loaded.now))) (S.files store.old) (S.files store.new) }
     ensures line { IfOk result (λ line. IsSomePlayLine (string_bytes line)) }
     ensures cause { HasFault (S.faults store.old) (S.faults store.new) result }
     ensures words { (script : List ℕ) → SuitsRequest result (Play script output.now.target.now output.now.journal.now) }
-    ensures steps { S.told store.old → CountsOn result (Ok (play_job output.now.target.now output.now.journal.now (loaded_view loaded.now))) (S.files store.new) steps.new.items }
+    ensures steps { S.told store.old → CountsOn result (Ok (play_into output.now (loaded_view loaded.now))) (S.files store.new) steps.new.items }
 {
     is_accepted(&loaded.script);
     what_follows_of_rounds();
@@ -159,11 +159,11 @@ pub fn play_script<R: Threads + Sync, S: Store, G: Gate>(
     gate: &G,
     steps: &mut Costs,
 ) -> Result<String, Stop>
-    ensures made { S.told store.old → Makes result (play_asked (S.files store.old) script.now output.now.target.now output.now.journal.now) (S.files store.old) (S.files store.new) }
+    ensures made { S.told store.old → Makes result (play_asked_into output.now (S.files store.old) script.now) (S.files store.old) (S.files store.new) }
     ensures line { IfOk result (λ line. IsSomePlayLine (string_bytes line)) }
     ensures cause { HasFault (S.faults store.old) (S.faults store.new) result }
     ensures words { SuitsRequest result (Play script.now output.now.target.now output.now.journal.now) }
-    ensures steps { S.told store.old → CountsOn result (play_asked (S.files store.old) script.now output.now.target.now output.now.journal.now) (S.files store.new) steps.new.items }
+    ensures steps { S.told store.old → CountsOn result (play_asked_into output.now (S.files store.old) script.now) (S.files store.new) steps.new.items }
 {
     let loaded = load_script(alloc, store, script)?;
     play(rt, alloc, &loaded, store, output, gate, steps)

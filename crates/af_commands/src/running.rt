@@ -126,8 +126,10 @@ fn work<R: Threads + Sync, S: Store, O: Sink, G: Gate>(
     steps: &mut Costs,
 ) -> Result<(), Stop>
     ensures rendered { S.told store.old → Renders result (asked_of (S.files store.old) (map string_bytes words.now)) (S.files store.old) (S.files store.new) }
-    ensures printed { S.told store.old → O.told out.old → Printed result (asked_of (S.files store.old) (map string_bytes words.now)) (S.files store.old) (S.files store.new) (O.held out.old) (O.held out.new) }
-    ensures whole { S.told store.old → WholeUnless (Rose (S.faults store.old) (S.faults store.new)) result (asked_of (S.files store.old) (map string_bytes words.now)) (S.files store.old) (S.files store.new) }
+    ensures printed { S.told store.old → O.told out.old
+        → Printed result (asked_of (S.files store.old) (map string_bytes words.now)) (S.files store.old) (S.files store.new) (O.held out.old) (O.held out.new) }
+    ensures whole { S.told store.old → WholeUnless (Rose (S.faults store.old) (S.faults store.new)) result
+        (asked_of (S.files store.old) (map string_bytes words.now)) (S.files store.old) (S.files store.new) }
     ensures some { O.told out.old → PrintsSomeLine result (request_of (map string_bytes words.now)) (O.held out.old) (O.held out.new) }
     ensures words { RefusesWords result (request_of (map string_bytes words.now)) }
     ensures tells { O.told out.old → O.told out.new }
@@ -156,7 +158,8 @@ pub fn run<R: Threads + Sync, S: Store, O: Sink, G: Gate>(
     // The status and the files: those that the command makes hold what is asked for and no other has changed, or the first refusal came and none has. Of a play the two files are the sound and the text of the journal of one run, and with a log a third is the text of a log of that journal. In that run all parties have ended if the status is Done, and it was cut off if the status is CycleLimit. Of a render the file is the sound of the journal of one turn run, in which each event sees what all before it left. If no op of the script is a poke, it is the only one in which each stream proxy takes part in the last meeting, if it does so. By each of these journals, up to each meeting of its two proxies, a block that no poke was made on is spared, each frame released on such a stream block has one fate, and no write of a track without a poke was answered Dead.
     ensures work { S.told store.old → Works result (asked_of (S.files store.old) (map string_bytes words.now)) (S.files store.old) (S.files store.new) }
     // The line, of one outcome with the bytes of the output: all of it, a front of it or nothing after a fault of the outside, nothing if memory ran out.
-    ensures line { S.told store.old → O.told out.old → Prints result (asked_of (S.files store.old) (map string_bytes words.now)) (S.files store.old) (S.files store.new) (O.held out.old) (O.held out.new) }
+    ensures line { S.told store.old → O.told out.old
+        → Prints result (asked_of (S.files store.old) (map string_bytes words.now)) (S.files store.old) (S.files store.new) (O.held out.old) (O.held out.new) }
     // The line by the status and the words alone, whatever the store says of its files: one of the command, that of the refusal or of the limit of a play, a front of some line after a fault of the outside, or nothing.
     ensures printed { O.told out.old → PrintsOwnLine result (request_of (map string_bytes words.now)) (O.held out.old) (O.held out.new) }
     // After a fault of the outside the store has failed, or the work is whole and the sink has failed at the line.

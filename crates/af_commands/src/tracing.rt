@@ -1,8 +1,8 @@
 //! The command `trace`: a script's parties, played in rounds into a file, with the texts of their journal and of their log beside it.
 ghost use Rattle.std.specs.Prelude.{◌≡◌, ◌≤◌, ℕ, List, Ok, IfOk, string_bytes};
-ghost use Rattle.af_offline.specs.Asked.{trace_asked, trace_job};
 ghost use Rattle.af_commands.specs.Counted.{CountsOn};
 ghost use Rattle.af_commands.specs.Ends.{Makes};
+ghost use Rattle.af_commands.specs.Outputs.{trace_asked_into, trace_into};
 ghost use Rattle.af_offline.specs.Loading.{loaded_view, AreFilesFor};
 ghost use Rattle.af_commands.specs.Plays.{IsSomePlayLine};
 ghost use Rattle.af_words.specs.Requests.{Trace};
@@ -60,11 +60,11 @@ fn trace<R: Threads + Sync, S: Store, G: Gate>(
 ) -> Result<String, Stop>
     requires files { AreFilesFor loaded.now }
     requires room { (1 ≤ output.now.room) × (output.now.room ≤ 1024) }
-    ensures made { S.told store.old → Makes result (Ok (trace_job output.now.target.now output.now.journal.now output.now.log.now output.now.room (loaded_view loaded.now))) (S.files store.old) (S.files store.new) }
+    ensures made { S.told store.old → Makes result (Ok (trace_into output.now (loaded_view loaded.now))) (S.files store.old) (S.files store.new) }
     ensures line { IfOk result (λ line. IsSomePlayLine (string_bytes line)) }
     ensures cause { HasFault (S.faults store.old) (S.faults store.new) result }
     ensures words { (script : List ℕ) → SuitsRequest result (Trace script output.now.target.now output.now.journal.now output.now.log.now output.now.room) }
-    ensures steps { S.told store.old → CountsOn result (Ok (trace_job output.now.target.now output.now.journal.now output.now.log.now output.now.room (loaded_view loaded.now))) (S.files store.new) steps.new.items }
+    ensures steps { S.told store.old → CountsOn result (Ok (trace_into output.now (loaded_view loaded.now))) (S.files store.new) steps.new.items }
 {
     is_accepted(&loaded.script);
     what_follows_of_rounds();
@@ -101,11 +101,11 @@ pub fn trace_script<R: Threads + Sync, S: Store, G: Gate>(
     steps: &mut Costs,
 ) -> Result<String, Stop>
     requires { (1 ≤ output.now.room) × (output.now.room ≤ 1024) }
-    ensures made { S.told store.old → Makes result (trace_asked (S.files store.old) script.now output.now.target.now output.now.journal.now output.now.log.now output.now.room) (S.files store.old) (S.files store.new) }
+    ensures made { S.told store.old → Makes result (trace_asked_into output.now (S.files store.old) script.now) (S.files store.old) (S.files store.new) }
     ensures line { IfOk result (λ line. IsSomePlayLine (string_bytes line)) }
     ensures cause { HasFault (S.faults store.old) (S.faults store.new) result }
     ensures words { SuitsRequest result (Trace script.now output.now.target.now output.now.journal.now output.now.log.now output.now.room) }
-    ensures steps { S.told store.old → CountsOn result (trace_asked (S.files store.old) script.now output.now.target.now output.now.journal.now output.now.log.now output.now.room) (S.files store.new) steps.new.items }
+    ensures steps { S.told store.old → CountsOn result (trace_asked_into output.now (S.files store.old) script.now) (S.files store.new) steps.new.items }
 {
     let loaded = load_script(alloc, store, script)?;
     trace(rt, alloc, &loaded, store, output, gate, steps)

@@ -10,9 +10,7 @@ use Rattle.af_ends.specs.Streams.{told, count_in, MayWrite, Writes}
 -- the call of a write is no poke
 pub calm : (r : Wrote) → IsPoke (wrote_call r) → ⊥
 calm (wrote.Put front count rest) e = e
-calm (wrote.Full front) e = e
-calm (wrote.Dead flags) e = e
-calm (wrote.Corrupt front rear) e = e
+calm _ e = e
 
 -- the answer of an end fits the write that its proxy made, if that one isn't corrupt
 pub told_writes : (c : ClientState) (asked : ℕ) (r : Wrote) (d : ClientState) → MayWrite c asked → Does c asked (wrote_call r) d → (IsCorrupt r → ⊥) → Writes c asked (told r) d
@@ -24,13 +22,9 @@ told_writes c asked (wrote.Corrupt front rear) d may does whole = absurd (whole 
 -- the answer counts the frames that were put
 pub told_count : (r : Wrote) → count_in (told r) ≡ put_by r
 told_count (wrote.Put front count rest) = refl
-told_count (wrote.Full front) = refl
-told_count (wrote.Dead flags) = refl
-told_count (wrote.Corrupt front rear) = refl
+told_count _ = refl
 
 -- a write puts no more frames than were asked for
 pub told_few : (c : ClientState) (asked : ℕ) (r : Wrote) → Answers c asked (wrote_call r) → put_by r ≤ asked
 told_few c asked (wrote.Put front count rest) a = let e = a.2 in omega arith
-told_few c asked (wrote.Full front) a = omega arith
-told_few c asked (wrote.Dead flags) a = omega arith
-told_few c asked (wrote.Corrupt front rear) a = omega arith
+told_few c asked _ a = omega arith

@@ -1,26 +1,13 @@
 -- The ends of a new mixer: they are new, in order, and belong together.
 use Rattle.std.proofs.Common.{◌≡◌, ℕ, suc, ◌<◌, ◌≤◌, true, false, List, [], ◌∷◌, length, map, replicate, Some, refl, sym, ap, ◌∙◌, subst, arith}
-use Rattle.std.specs.Prelude.{All, slice_get}
-use Rattle.std.proofs.lemmas.List.{length-replicate}
+use Rattle.af_engine.proofs.Common.{All, AreClientsOf, AreNew, IsInOrder as IsFastInOrder, IsLinked, IsMade, IsStreamOf, Links, Made, MixerState, NormalState, ServerState, TrackList, kept_of, length-replicate, made_of, out_made, setup_of as setup_in, slice_get, slice_get_within, some_same, stream_at}
 use Rattle.std.proofs.lemmas.List.Elements.{All-map}
-use Rattle.std.proofs.lemmas.Option.{slice_get_within}
-use Rattle.af_base.proofs.Basics.{some_same}
-use Rattle.af_cblk.specs.Sides.{Made}
 use Rattle.af_cblk.specs.declared.view.ClientPart.{ClientPart}
 use Rattle.af_normal.proofs.Basics.{within}
-use Rattle.af_server.specs.Order.{ServerState}
 use Rattle.af_link.specs.Linked.{AreLinked}
-use Rattle.af_link.specs.Names.{IsStreamOf}
-use Rattle.af_link.specs.PipeEnds.{out_made}
-use Rattle.af_link.specs.declared.links.Links.{Links}
-use Rattle.af_fast.specs.Mixer.{MixerState, made_of, IsLinked, IsInOrder as IsFastInOrder}
 use Rattle.af_life.specs.declared.kept.Setting.{Setting}
 use Rattle.af_life.specs.Kept.{new_track, new_normal}
-use Rattle.af_normal.specs.Making.{TrackList, IsMade, AreNew}
-use Rattle.af_normal.specs.Meeting.{AreClientsOf}
-use Rattle.af_normal.specs.Mixing.{stream_at}
 use Rattle.af_normal.specs.Order.{IsInOrder as IsNormalInOrder}
-use Rattle.af_normal.specs.State.{NormalState, setup_of as setup_in, kept_of}
 use Rattle.af_engine.specs.declared.ends.TrackEnds.{TrackEnds}
 use Rattle.af_engine.specs.declared.spec.EngineTrack.{EngineTrack}
 use Rattle.af_engine.specs.declared.spec.MixerSpec.{MixerSpec}

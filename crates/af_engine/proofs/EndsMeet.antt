@@ -1,16 +1,8 @@
 -- The ends of the two mixers meet.
 use Rattle.std.proofs.Common.{◌≡◌, sym, ap, subst, ◌∙◌}
-use Rattle.af_fast.specs.Meets.{Others, HaveHistories, mixer_met}
-use Rattle.af_fast.specs.Mixer.{MixerState, IsInOrder as IsFastInOrder, IsLinked}
+use Rattle.af_engine.proofs.Common.{HaveHistories, IsInOrder as IsFastInOrder, IsLinked, Links, MixerState, NormalState, Observes, Others, OutSide, ServerState, StreamNames, ends_met, mixer_met, observer_met, out_met, queue_met, writer_met}
 use Rattle.af_fast.proofs.Meeting.{met_order}
-use Rattle.af_link.specs.PipeEnds.{OutSide}
 use Rattle.af_link.specs.Reports.{WriterSide}
-use Rattle.af_link.specs.declared.links.Links.{Links}
-use Rattle.af_link.specs.declared.names.StreamNames.{StreamNames}
-use Rattle.af_normal.specs.Meeting.{ends_met, observer_met, out_met, queue_met, writer_met}
-use Rattle.af_normal.specs.State.{NormalState}
-use Rattle.af_server.specs.Order.{ServerState}
-use Rattle.af_stateq.specs.Observes.{Observes}
 use Rattle.af_engine.specs.Met.{EndsMet, ends_of}
 
 module _ (links : Links) (m m1 n : NormalState) (f : MixerState) (o : Observes ServerState StreamNames) (w : WriterSide) (out : OutSide) (queued : m1 ≡ queue_met m f.observer) (observed : o ≡ observer_met m f.observer)

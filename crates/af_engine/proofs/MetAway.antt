@@ -1,22 +1,10 @@
 -- The client of a stream whose proxy isn't home meets what is there.
 use Rattle.std.proofs.Common.{◌≡◌, ◌≢◌, ℕ, ◌<◌, true, List, length, slice_get, slice_index_or, Option, Some, None, refl, sym, ap, subst, ◌∙◌, get_or-set_same, get_or-set_other, arith}
-use Rattle.std.proofs.lemmas.Option.{get_or_from_slice_get, same_Some}
+use Rattle.af_engine.proofs.Common.{AreOfBlockOf, ClientState, HandSide, IsInOrder as IsFastInOrder, IsLinked, IsStreamOf, Links, Made, MeetsAll, MeetsHeld, MixerState, Observes, ServerState, StartsWith, StreamNames, at, client_made, get_or_from_slice_get, hand_made, same_Some, server_made, server_met, slot_of}
 use Rattle.af_cblk.specs.Parts.{hand_met}
-use Rattle.af_cblk.specs.Rule.{StartsWith}
-use Rattle.af_cblk.specs.Sides.{HandSide, Made, client_made, hand_made, server_made}
-use Rattle.af_client.specs.Order.{ClientState, IsInOrder as IsClientInOrder}
+use Rattle.af_client.specs.Order.{IsInOrder as IsClientInOrder}
 use Rattle.af_engine.proofs.Basics.{some_of}
-use Rattle.af_fast.specs.Meets.{AreOfBlockOf, MeetsHeld, server_met}
-use Rattle.af_fast.specs.Mixer.{MixerState, IsInOrder as IsFastInOrder, IsLinked}
-use Rattle.af_link.specs.Names.{IsStreamOf}
-use Rattle.af_link.specs.declared.links.Links.{Links}
-use Rattle.af_link.specs.declared.names.StreamNames.{StreamNames}
 use Rattle.af_model.specs.History.{HasHistory, is_lawful}
-use Rattle.af_model.specs.StateQueue.{slot_of}
-use Rattle.af_normal.specs.Meeting.{MeetsAll}
-use Rattle.af_server.specs.Order.{ServerState}
-use Rattle.af_stateq.specs.Mutates.{at}
-use Rattle.af_stateq.specs.Observes.{Observes}
 use Rattle.af_engine.specs.Met.{MeetsAway, item_at, slot_for}
 use Rattle.af_engine.proofs.MetSlots.{slot_is}
 

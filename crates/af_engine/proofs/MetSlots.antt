@@ -1,13 +1,6 @@
 -- The slot in which a state carries the proxy of a track.
 use Rattle.std.proofs.Common.{◌≡◌, ◌≢◌, ℕ, zero, suc, ◌<◌, ◌≤◌, ◌==◌, ◌⊎◌, inl, inr, Bool, true, false, true≢false, if◌then◌else◌, List, Option, Some, None, refl, sym, ap, subst, ◌∙◌, ⊎_elim, arith}
-use Rattle.std.proofs.lemmas.Bool.{and_from, and_left, and_parts, cases_eq, eq-eqb, eqb-true}
-use Rattle.std.proofs.lemmas.Option.{none-some, same_Some}
-use Rattle.af_base.specs.declared.state.FastState.{FastState}
-use Rattle.af_base.specs.Log.{slots}
-use Rattle.af_fast.specs.Mixer.{CarriesNone}
-use Rattle.af_model.specs.StateQueue.{carries, slot_of}
-use Rattle.af_server.specs.Order.{ServerState}
-use Rattle.af_stateq.specs.Mutates.{at}
+use Rattle.af_engine.proofs.Common.{CarriesNone, FastState, ServerState, and_from, and_left, and_parts, at, carries, cases_eq, eq-eqb, eqb-true, none-some, same_Some, slot_of, slots}
 use Rattle.af_engine.specs.Met.{is_slot_of, item_at, or_else, slot_below, slot_for}
 
 module _ (x : FastState) (track : ℕ) where

@@ -1,15 +1,6 @@
 -- What the meetings of one track come to.
 use Rattle.std.proofs.Common.{◌≡◌, ◌≢◌, ℕ, ◌<◌, true, false, true≢false, is_some, List, length, slice_get, slice_set, Option, Some, None, refl, sym, ap, subst, ◌∙◌, get_or-set_other}
-use Rattle.std.proofs.lemmas.Option.{slice_get_within}
-use Rattle.af_base.proofs.Basics.{get_set_other, get_set_same}
-use Rattle.af_base.specs.declared.state.FastState.{FastState}
-use Rattle.af_cblk.specs.Sides.{HandSide, Made, client_made}
-use Rattle.af_client.specs.Order.{ClientState}
-use Rattle.af_link.specs.declared.links.Links.{Links}
-use Rattle.af_normal.specs.Meeting.{MeetsStream, MeetsTrack}
-use Rattle.af_normal.specs.Mixing.{stream_at}
-use Rattle.af_server.specs.Order.{ServerState}
-use Rattle.af_stateq.specs.Mutates.{at}
+use Rattle.af_engine.proofs.Common.{ClientState, FastState, HandSide, Links, Made, MeetsStream, MeetsTrack, ServerState, at, client_made, get_set_other, get_set_same, slice_get_within, stream_at}
 use Rattle.af_engine.specs.Met.{ClientMet, MeetsAway, Proxies, Spot, SpotMet, item_at, slot_for, spot_of}
 use Rattle.af_engine.proofs.MetSlots.{held_other}
 

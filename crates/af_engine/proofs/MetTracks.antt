@@ -1,16 +1,7 @@
 -- How the meeting of a track adds to those of the tracks before it.
 use Rattle.std.proofs.Common.{◌≡◌, ◌≢◌, ℕ, ◌+◌, ◌<◌, ◌⊎◌, inl, inr, List, length, length-set, slice_get, slice_set, Option, Some, None, refl, sym, ap, subst, ◌∙◌, arith}
-use Rattle.std.proofs.lemmas.Bool.{cases_eq}
-use Rattle.std.proofs.lemmas.Option.{none-some, same_Some, slice_get_within}
-use Rattle.af_base.proofs.Basics.{get_set_other, get_set_same}
-use Rattle.af_base.specs.declared.state.FastState.{FastState}
-use Rattle.af_fast.specs.Mixer.{MixerState, IsLinked, IsInOrder as IsFastInOrder}
-use Rattle.af_link.specs.declared.links.Links.{Links}
-use Rattle.af_normal.specs.Meeting.{AreClientsOf}
+use Rattle.af_engine.proofs.Common.{AreClientsOf, FastState, IsInOrder as IsFastInOrder, IsLinked, Links, MixerState, NormalState, ServerState, at, cases_eq, get_set_other, get_set_same, none-some, same_Some, slice_get_within}
 use Rattle.af_normal.specs.Order.{IsInOrder as IsNormalInOrder}
-use Rattle.af_normal.specs.State.{NormalState}
-use Rattle.af_server.specs.Order.{ServerState}
-use Rattle.af_stateq.specs.Mutates.{at}
 use Rattle.af_engine.specs.declared.ends.TrackEnds.{TrackEnds}
 use Rattle.af_engine.specs.Engines.{AreTogether}
 use Rattle.af_engine.specs.Met.{ItemStays, Proxies, Spot, TracksMet, slot_for, spot_of}

@@ -1,11 +1,6 @@
 -- One track more, each with its parts at its place.
 use Rattle.std.proofs.Common.{◌≡◌, ℕ, ◌+◌, ◌<◌, ◌⊎◌, inl, inr, List, [], ◌∷◌, ◌++◌, length, Some, None, sym, ap, ◌∙◌, subst, arith}
-use Rattle.std.specs.Prelude.{slice_get}
-use Rattle.std.proofs.lemmas.Bool.{cases_eq}
-use Rattle.std.proofs.lemmas.List.{length-append, get_or_append_left, get_or_at}
-use Rattle.af_base.proofs.Basics.{at_before, at_last}
-use Rattle.af_cblk.specs.Sides.{Made}
-use Rattle.af_normal.specs.Making.{TrackList, setting_of, with_track}
+use Rattle.af_engine.proofs.Common.{Made, TrackList, at_before, at_last, cases_eq, get_or_append_left, get_or_at, length-append, setting_of, slice_get, with_track}
 use Rattle.af_normal.specs.declared.make.TrackSetup.{TrackSetup}
 use Rattle.af_engine.specs.NewTracks.{IsTrackAt, AreNewTracks}
 

@@ -1,10 +1,6 @@
 -- A new block with its proxies.
 use Rattle.std.proofs.Common.{◌≡◌, true, None, ap, ◌∙◌, subst}
-use Rattle.af_cblk.specs.Rule.{new_client, new_server}
-use Rattle.af_cblk.specs.Shape.{IsShape}
-use Rattle.af_cblk.specs.Sides.{Made, ClientSide, ServerSide}
-use Rattle.af_client.specs.Order.{ClientState, IsClientOf}
-use Rattle.af_server.specs.Order.{ServerState, IsServerOf}
+use Rattle.af_engine.proofs.Common.{ClientSide, ClientState, IsClientOf, IsServerOf, IsShape, Made, ServerSide, ServerState, new_client, new_server}
 use Rattle.af_model.specs.declared.shape.Shape.{Shape}
 use Rattle.af_engine.specs.NewTracks.{IsNewLine}
 

@@ -1,6 +1,6 @@
 -- A spec that fits gives no cause to refuse it.
 use Rattle.std.proofs.Common.{◌≡◌, ℕ, ◌≤◌, inl, inr, subst, slice_get, Some, arith}
-use Rattle.std.proofs.lemmas.Option.{get_or_from_slice_get, slice_get_within}
+use Rattle.af_engine.proofs.Common.{get_or_from_slice_get, slice_get_within}
 use Rattle.af_engine.specs.declared.spec.EngineTrack.{EngineTrack}
 use Rattle.af_engine.specs.declared.spec.MixerSpec.{MixerSpec}
 use Rattle.af_engine.specs.declared.spec.SpecError.{SpecError}

@@ -57,7 +57,9 @@ struct Mixers {
 // The queue over these blocks of streams, the pipe and the report, for `frames` frames a fast cycle and `normal` cycles a buffer.
 fn join(alloc: Global, frames: u32, normal: u32, streams: &[Block]) -> Result<Joints, Memory>
     requires { (1 ≤ frames) × (frames ≤ 1024) × (1 ≤ normal) × (normal ≤ 16) }
-    ensures { (commands : List Made) → IfOk result (λ j. AreNewEnds frames normal (record { queue = j.queue; streams = streams.now; commands = commands; pipe = j.pipe; report = j.report }) (record { mutator = j.ends.mutator; reader = j.ends.reader; from = j.ends.from; observer = j.ends.observer; writer = j.ends.writer; to = j.ends.to })) }
+    ensures { (commands : List Made) → IfOk result (λ j. AreNewEnds frames normal
+        (record { queue = j.queue; streams = streams.now; commands = commands; pipe = j.pipe; report = j.report })
+        (record { mutator = j.ends.mutator; reader = j.ends.reader; from = j.ends.from; observer = j.ends.observer; writer = j.ends.writer; to = j.ends.to })) }
 {
     let report = report(alloc)?;
     let pipe = pipe(alloc, 4 * (normal * frames))?;
@@ -86,7 +88,8 @@ fn share(
     commands: Vec<Block>,
 ) -> Result<(Shared, Ends), Memory>
     requires { (1 ≤ frames) × (frames ≤ 1024) × (1 ≤ normal) × (normal ≤ 16) }
-    ensures ends { IfOk result (λ r. AreNewEnds frames normal r.0 (record { mutator = r.1.mutator; reader = r.1.reader; from = r.1.from; observer = r.1.observer; writer = r.1.writer; to = r.1.to })) }
+    ensures ends { IfOk result (λ r. AreNewEnds frames normal r.0
+        (record { mutator = r.1.mutator; reader = r.1.reader; from = r.1.from; observer = r.1.observer; writer = r.1.writer; to = r.1.to })) }
     ensures blocks { IfOk result (λ r. (r.0.streams ≡ streams.items) × (r.0.commands ≡ commands.items)) }
 {
     let joints = join(alloc, frames, normal, &streams)?;
@@ -113,7 +116,8 @@ fn make_mixers(
     requires cycles { (1 ≤ cycles) × (cycles ≤ 100000) × (cycles * frames ≤ 2 ^ 21) }
     requires count { (1 ≤ length tracks.settings) × (length tracks.settings ≤ 32) }
     requires scales { All (λ setting. setting.scale ≤ 4096) tracks.settings }
-    requires ends { (shared : SharedState) × AreNewEnds frames normal shared (record { mutator = ends.mutator; reader = ends.reader; from = ends.from; observer = ends.observer; writer = ends.writer; to = ends.to }) }
+    requires ends { (shared : SharedState) × AreNewEnds frames normal shared
+        (record { mutator = ends.mutator; reader = ends.reader; from = ends.from; observer = ends.observer; writer = ends.writer; to = ends.to }) }
     ensures normal { IfOk result (λ m. IsMade frames normal tracks ends.mutator ends.reader ends.from m.normal) }
     ensures fast { IfOk result (λ m. (m.fast ≡ made_of ends.observer ends.writer ends.to cycles frames) × IsFastInOrder m.fast) }
     ensures order { (links : Links) → AreNew links frames normal tracks ends.mutator ends.reader ends.from → IfOk result (λ m. IsNormalInOrder links m.normal) }

@@ -80,7 +80,9 @@ fn meet_away<L: Ledger>(
     ensures stream { (client_made stream.new.pass ≡ client_made stream.old.pass) × IsClientInOrder stream.new }
     ensures hand { hand_made hand.new ≡ hand_made hand.old }
     ensures same { fast.new ≡ record fast.old { observer = record fast.old.observer { items = fast.new.observer.items } } }
-    ensures met { let slot = slot_for fast.old.observer.past.state track in MeetsAway (client_made stream.old.pass) (item_at fast.old.observer.items slot) hand.old stream.old (item_at fast.new.observer.items slot) hand.new stream.new }
+    ensures met { let slot = slot_for fast.old.observer.past.state track in
+        MeetsAway (client_made stream.old.pass) (item_at fast.old.observer.items slot) hand.old stream.old
+        (item_at fast.new.observer.items slot) hand.new stream.new }
     ensures others { (k : ℕ) → slot_for fast.old.observer.past.state track ≢ Some k → at fast.new.observer.items k ≡ at fast.old.observer.items k }
 {
     let Some(slot) = slot_held(fast, track) else {
@@ -111,8 +113,11 @@ pub fn meet_track<L: Ledger>(
     ensures fast { IsFastInOrder fast.new × IsLinked links.now fast.new }
     ensures same_normal { normal.new ≡ record normal.old { streams = normal.new.streams; commands = normal.new.commands; hands = normal.new.hands } }
     ensures same_fast { fast.new ≡ record fast.old { observer = record fast.old.observer { items = fast.new.observer.items } } }
-    ensures met { let x = fast.old.observer.past.state in ClientMet (Unit {0}) (spot_of x (proxies_of normal.old fast.old) track) (spot_of x (proxies_of normal.new fast.new) track) stream.old command.old stream.new command.new }
-    ensures others { let x = fast.old.observer.past.state in (i : ℕ) → i ≢ track → spot_of x (proxies_of normal.new fast.new) i ≡ spot_of x (proxies_of normal.old fast.old) i }
+    ensures met { let x = fast.old.observer.past.state in
+        ClientMet (Unit {0}) (spot_of x (proxies_of normal.old fast.old) track) (spot_of x (proxies_of normal.new fast.new) track)
+        stream.old command.old stream.new command.new }
+    ensures others { let x = fast.old.observer.past.state in
+        (i : ℕ) → i ≢ track → spot_of x (proxies_of normal.new fast.new) i ≡ spot_of x (proxies_of normal.old fast.old) i }
     ensures items { (k : ℕ) → slot_for fast.old.observer.past.state track ≢ Some k → at fast.new.observer.items k ≡ at fast.old.observer.items k }
 {
     if normal.meet_client(links, track, stream, command, steps) {
@@ -141,8 +146,10 @@ fn meet_client<L: Ledger>(
     ensures fast { IsFastInOrder fast.new × IsLinked links.now fast.new }
     ensures same_normal { normal.new ≡ record normal.old { streams = normal.new.streams; commands = normal.new.commands; hands = normal.new.hands } }
     ensures same_fast { fast.new ≡ record fast.old { observer = record fast.old.observer { items = fast.new.observer.items } } }
-    ensures met { let x = fast.old.observer.past.state in TrackMet (spot_of x (proxies_of normal.old fast.old) ends.old.track) (spot_of x (proxies_of normal.new fast.new) ends.old.track) ends.old ends.new }
-    ensures others { let x = fast.old.observer.past.state in (i : ℕ) → i ≢ ends.old.track → spot_of x (proxies_of normal.new fast.new) i ≡ spot_of x (proxies_of normal.old fast.old) i }
+    ensures met { let x = fast.old.observer.past.state in
+        TrackMet (spot_of x (proxies_of normal.old fast.old) ends.old.track) (spot_of x (proxies_of normal.new fast.new) ends.old.track) ends.old ends.new }
+    ensures others { let x = fast.old.observer.past.state in
+        (i : ℕ) → i ≢ ends.old.track → spot_of x (proxies_of normal.new fast.new) i ≡ spot_of x (proxies_of normal.old fast.old) i }
     ensures items { (k : ℕ) → slot_for fast.old.observer.past.state ends.old.track ≢ Some k → at fast.new.observer.items k ≡ at fast.old.observer.items k }
 {
     let track = ends.track;
@@ -166,7 +173,8 @@ pub fn meet_all<L: Ledger>(
 )
     requires { AreTogether links.now (record { tracks = tracks.old; normal = normal.old; fast = fast.old }) }
     ensures together { AreTogether links.now (record { tracks = tracks.new; normal = normal.new; fast = fast.new }) }
-    ensures met { Met (record { tracks = tracks.old; normal = normal.old; fast = fast.old }) (record { tracks = tracks.new; normal = normal.new; fast = fast.new }) }
+    ensures met { Met (record { tracks = tracks.old; normal = normal.old; fast = fast.old })
+        (record { tracks = tracks.new; normal = normal.new; fast = fast.new }) }
 {
     meet_ends(normal, fast, links, steps);
     for i in 0..tracks.len() {

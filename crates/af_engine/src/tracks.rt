@@ -135,7 +135,8 @@ impl NewTracks {
 
     // Takes room for one more track. It is refused only for lack of memory.
     fn reserve_one(&mut self) -> Result<(), Memory>
-        ensures room { OnOk result ((vec_len self.new.streams < vec_capacity self.new.streams) × (vec_len self.new.commands < vec_capacity self.new.commands) × (vec_len self.new.clients < vec_capacity self.new.clients)) }
+        ensures room { OnOk result ((vec_len self.new.streams < vec_capacity self.new.streams) × (vec_len self.new.commands < vec_capacity self.new.commands)
+            × (vec_len self.new.clients < vec_capacity self.new.clients)) }
         ensures blocks { (self.new.streams.items ≡ self.old.streams.items) × (self.new.commands.items ≡ self.old.commands.items) }
         ensures parties { (self.new.clients.items ≡ self.old.clients.items) × (self.new.tracks ≡ self.old.tracks) }
     {
@@ -147,7 +148,8 @@ impl NewTracks {
 
     // Adds a track behind the others, for which there is room. It is refused only for lack of memory.
     fn push(&mut self, track: NewTrack) -> Result<(), Memory>
-        requires room { (vec_len self.old.streams < vec_capacity self.old.streams) × (vec_len self.old.commands < vec_capacity self.old.commands) × (vec_len self.old.clients < vec_capacity self.old.clients) }
+        requires room { (vec_len self.old.streams < vec_capacity self.old.streams) × (vec_len self.old.commands < vec_capacity self.old.commands)
+            × (vec_len self.old.clients < vec_capacity self.old.clients) }
         ensures streams { self.new.streams.items ≡ self.old.streams.items ++ track.stream ∷ [] }
         ensures commands { self.new.commands.items ≡ self.old.commands.items ++ track.command ∷ [] }
         ensures clients { self.new.clients.items ≡ self.old.clients.items ++ track.ends ∷ [] }

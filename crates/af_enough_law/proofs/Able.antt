@@ -1,20 +1,8 @@
 -- A track that has two retries isn't disabled by a legal turn, whatever its looks take.
 use Rattle.std.proofs.Common.{◌≡◌, ℕ, ◌+◌, ◌-◌, ◌<◌, ◌≤◌, ◌==◌, ◌&&◌, ◌||◌, nat_lt, if◌then◌else◌, Bool, true, false, is_some, Option, MatchBool, List, [], ◌∷◌, length, refl, ap, ◌∙◌, arith}
-use Rattle.std.specs.List.{AllByRecursion}
-use Rattle.af_base.proofs.Basics.{and_none, either_false}
-use Rattle.af_base.specs.declared.turn.CommandLook.{CommandLook}
-use Rattle.af_base.specs.Turn.{Turn, TrackSeen}
-use Rattle.af_life.proofs.Basics.{ready_life}
-use Rattle.af_life.specs.declared.kept.TrackKept.{TrackKept}
-use Rattle.af_life.specs.declared.track.Known.{Known}
-use Rattle.af_life.specs.declared.track.Life.{Life}
-use Rattle.af_life.specs.Commands.{Row, commands, by_command, first_effect as effect_of}
-use Rattle.af_life.specs.Heard.{learnt, heard, ready}
-use Rattle.af_life.specs.Kept.{Setup, NormalKept, Outside, Learnt, track_at, track_in, nothing_seen}
-use Rattle.af_life.specs.Obeys.{must_wait, ended, shows_command, is_shut, after_look, obeyed, goes_on, after_looks, commanded}
-use Rattle.af_life.specs.Reports.{Case, reports, first_effect as life_by, by_report, first_told, told_by_report, no_retries_left, runs_dry}
-use Rattle.af_life.specs.Serves.{IsServed}
-use Rattle.af_life.specs.Turn.{GoesOn}
+use Rattle.af_enough_law.proofs.Common.{AllByRecursion, Case, CommandLook, GoesOn, IsServed, Known, Learnt, Life, NormalKept, Outside, Row, Setup, TrackKept, TrackSeen, Turn, after_look, after_looks, and_none, by_command, by_report, commands, either_false, ended, first_effect as effect_of, first_told, goes_on, heard, is_shut, learnt, must_wait, no_retries_left, nothing_seen, obeyed, ready, ready_life, reports, runs_dry, shows_command, told_by_report, track_at, track_in}
+use Rattle.af_life.specs.Obeys.{commanded}
+use Rattle.af_life.specs.Reports.{first_effect as life_by}
 use Rattle.af_enough_law.specs.Courses.{told_words}
 use Rattle.af_enough_law.specs.TrackTurns.{TrackTurned}
 use Rattle.af_enough_law.proofs.Following.{greeted_in, greeted_alike, legal_greeted}

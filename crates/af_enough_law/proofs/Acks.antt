@@ -1,32 +1,10 @@
 -- A turn sees the last state acknowledged, if that was learnt at a meeting; then its push isn't busy.
 use Rattle.std.proofs.Common.{◌≡◌, ◌⊎◌, inl, inr, ℕ, ◌+◌, ◌-◌, ◌≤◌, ◌<◌, ◌==◌, ◌&&◌, ◌||◌, if◌then◌else◌, Bool, true, false, true≢false, Option, Some, List, [], ◌∷◌, ◌++◌, length, take, drop, fold, refl, sym, ap, ◌∙◌, subst, arith, append_assoc, append-nil}
-use Rattle.std.proofs.lemmas.List.{take-append-le, take-append-drop}
-use Rattle.std.proofs.lemmas.Grind.{fold-append}
-use Rattle.af_base.specs.declared.state.FastState.{FastState}
-use Rattle.af_base.specs.declared.state.Push.{Push}
-use Rattle.af_base.specs.declared.state.Push.TheVariants.{Pushed, Clean, Busy}
-use Rattle.af_base.specs.Turn.{Turn}
+use Rattle.af_enough_law.proofs.Common.{Busy, Clean, EntrySeen, Event, FastState, Item, Learnt, Legal, LegalPush, LegalRound, Marks, MutatorEvent, NormalKept, ObserverEvent, ObserverPoint, Push, Pushed, QueuePoint, RoundSeen, Run, Session, Setup, Turn, TurnFound, after_edits, after_turn, before_turn, cycle_frames, early_of, fold-append, found_in, going, initial, learnt, met_after, mutator_list, number_seen, observed, observer_next, observer_start, one, ones, outside_of, poll_events, push_list, setup_of, take-append-drop, take-append-le, turned, two, twos, with_calls, with_cycle, with_cycles, with_mix, with_poll, with_turn}
 use Rattle.af_enough_law.proofs.Basics.{before_normal}
-use Rattle.af_life.specs.Edits.{LegalPush}
-use Rattle.af_life.specs.Heard.{learnt}
-use Rattle.af_life.specs.Kept.{Setup, NormalKept, Learnt}
-use Rattle.af_life.specs.Turn.{after_edits}
-use Rattle.af_life.specs.TurnEvents.{number_seen, push_list, mutator_list, going}
-use Rattle.af_model.specs.declared.states.MutatorEvent.{MutatorEvent}
 use Rattle.af_model.specs.declared.states.MutatorEvent.TheVariants as mutator
-use Rattle.af_model.specs.declared.states.ObserverEvent.{ObserverEvent}
 use Rattle.af_model.specs.declared.states.ObserverEvent.TheVariants as observer
-use Rattle.af_model.specs.Draft.{initial}
-use Rattle.af_model.specs.Journals.{EntrySeen, RoundSeen}
-use Rattle.af_model.specs.Order.{Event, one, two, ones, twos, Legal}
 use Rattle.af_model.specs.StateQueue as queued
-use Rattle.af_model.specs.StateQueue.{QueuePoint, ObserverPoint, observer_start, observer_next, observed}
-use Rattle.af_runs.specs.Blocks.{Marks}
-use Rattle.af_runs.specs.Found.{TurnFound, outside_of}
-use Rattle.af_runs.specs.Rounds.{LegalRound, early_of, before_turn, found_in, turned, after_turn, met_after}
-use Rattle.af_runs.specs.Runs.{Run, with_calls, with_cycle, with_cycles, with_poll, with_mix, with_turn}
-use Rattle.af_runs.specs.Sessions.{Session, setup_of, cycle_frames}
-use Rattle.af_runs.specs.Told.{Item, poll_events}
 use Rattle.af_enough_law.specs.Acks.{KnowsAcked}
 use Rattle.af_enough_law.specs.Drafts.{is_busy}
 use Rattle.af_enough_law.specs.NormalRounds.{TurnMade}
@@ -109,11 +87,11 @@ look_acked first known more before behind a items n h learnt low =
 
 -- ## The queue up to the turn
 
-cycle_ones : (s : Session) (run : Run) (e : EntrySeen) → ones (with_cycle s run e).queue ≡ ones run.queue
+pub cycle_ones : (s : Session) (run : Run) (e : EntrySeen) → ones (with_cycle s run e).queue ≡ ones run.queue
 unfolding with_poll with_mix
 cycle_ones s run e = observed-ones (poll_events (cycle_frames s) run.states run.current e.entry.state) run.queue
 
-cycles_ones : (s : Session) (es : List EntrySeen) (run : Run) → ones (with_cycles s es run).queue ≡ ones run.queue
+pub cycles_ones : (s : Session) (es : List EntrySeen) (run : Run) → ones (with_cycles s es run).queue ≡ ones run.queue
 cycles_ones s [] run = refl
 cycles_ones s (e ∷ es) run = cycles_ones s es (with_cycle s run e) ∙ cycle_ones s run e
 

@@ -1,26 +1,7 @@
 -- The round in which the fast mixer comes to have a proxy at the latest: the last state pushed before it plays the track, which stays lent. The proxy takes part in its meeting, and from there on it is carried as one that flows.
 use Rattle.std.proofs.Common.{◌≡◌, ◌⊎◌, inl, inr, ℕ, ◌≤◌, ◌<◌, ◌==◌, unwrap_or, is_some, if◌then◌else◌, Bool, true, false, true≢false, All, Option, Some, List, [], ◌++◌, length, length-append, refl, sym, ap, ◌∙◌, subst, arith, eqb-true}
-use Rattle.af_base.proofs.Basics.{or_right, within_or_beyond}
-use Rattle.af_base.specs.declared.report.SlotReport.{SlotReport}
-use Rattle.af_base.specs.declared.state.FastState.{FastState}
-use Rattle.af_base.specs.declared.state.FastTrack.{FastTrack}
+use Rattle.af_enough_law.proofs.Common.{FastState, FastTrack, Heard, Learnt, LegalRound, Lent, Marks, NormalKept, RoundSeen, Run, Session, Setting, SlotReport, TrackKept, after_round, after_turn, before_turn, client_list, counts_in, cycle_frames, ends_part, grown, heard_at_home, heard_by, heard_elsewhere, heard_with, holds, is_home, learnt, load_of, met_after, number_of, or_right, report_at, report_of, server_list, setup_of, slot_reported, state_beyond, state_more, state_of, takes_part, told_at, track_at, track_count, turn_after, with_calls, with_cycles, within_or_beyond}
 use Rattle.af_enough_law.proofs.Basics.{state_there}
-use Rattle.af_judge.proofs.Basics.{ends_part}
-use Rattle.af_life.specs.declared.kept.Heard.{Heard}
-use Rattle.af_life.specs.declared.kept.Holder.TheVariants.{Lent}
-use Rattle.af_life.specs.declared.kept.Setting.{Setting}
-use Rattle.af_life.specs.declared.kept.TrackKept.{TrackKept}
-use Rattle.af_life.specs.Heard.{learnt, heard_by, heard_at_home, heard_elsewhere, heard_with, grown, counts_in, slot_reported}
-use Rattle.af_life.specs.Kept.{NormalKept, Learnt, track_at, is_home, number_of}
-use Rattle.af_life.specs.Turn.{turn_after}
-use Rattle.af_model.specs.Cycles.{state_of}
-use Rattle.af_model.specs.Journals.{RoundSeen}
-use Rattle.af_model.specs.Reports.{report_at}
-use Rattle.af_runs.proofs.Basics.{state_more}
-use Rattle.af_runs.specs.Blocks.{Marks, client_list, server_list}
-use Rattle.af_runs.specs.Rounds.{LegalRound, before_turn, after_turn, met_after, after_round}
-use Rattle.af_runs.specs.Runs.{Run, told_at, with_calls, with_cycles, report_of, takes_part, holds, load_of}
-use Rattle.af_runs.specs.Sessions.{Session, track_count, setup_of, cycle_frames}
 use Rattle.af_enough_law.specs.Carried.{SessionCarried}
 use Rattle.af_enough_law.specs.Drafts.{is_busy}
 use Rattle.af_enough_law.specs.FastFlows.{Plays, AllStates, slot_told}
@@ -46,7 +27,6 @@ use Rattle.af_enough_law.proofs.QueueRounds.{acks_states}
 use Rattle.af_enough_law.proofs.SessionRounds.{turn_of, turn_runs, states_few}
 use Rattle.af_enough_law.proofs.StreamCalm.{IsQuiet}
 use Rattle.af_enough_law.proofs.TrackGoes.{CalmStream}
-use Rattle.af_runs.proofs.StatesFor.{state_beyond}
 use Rattle.af_enough_law.proofs.FastFound.{plays_item}
 
 -- ## What is heard of a proxy that is away

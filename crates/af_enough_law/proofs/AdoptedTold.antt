@@ -1,15 +1,6 @@
 -- After a round whose last entry uses a state that plays a track the report tells of its slot.
 use Rattle.std.proofs.Common.{◌≡◌, ℕ, ◌≤◌, ◌<◌, Some, List, [], ◌∷◌, length, sym, ap, ◌∙◌, arith}
-use Rattle.af_base.specs.declared.state.FastState.{FastState}
-use Rattle.af_base.specs.declared.state.FastTrack.{FastTrack}
-use Rattle.af_base.specs.Log.{slots}
-use Rattle.af_model.specs.Cycles.{state_of, last_used}
-use Rattle.af_model.specs.Journals.{EntrySeen, RoundSeen}
-use Rattle.af_model.proofs.UsedStates.{last_used-push}
-use Rattle.af_runs.specs.Blocks.{listed, server_list}
-use Rattle.af_runs.specs.Rounds.{late_of, before_turn, found_in, after_turn, all_played, met_after, after_round}
-use Rattle.af_runs.specs.Runs.{Run, told_at, known_of, with_cycle, with_cycles}
-use Rattle.af_runs.specs.Sessions.{Session}
+use Rattle.af_enough_law.proofs.Common.{EntrySeen, FastState, FastTrack, RoundSeen, Run, Session, after_round, after_turn, all_played, before_turn, found_in, known_of, last_used, last_used-push, late_of, listed, met_after, server_list, slots, state_of, told_at, with_cycle, with_cycles}
 use Rattle.af_enough_law.specs.FastFlows.{Plays, LastCarries, IsTold}
 use Rattle.af_enough_law.proofs.FastFound.{cycle_current}
 use Rattle.af_enough_law.proofs.FastMixes.{Uses}

@@ -1,21 +1,11 @@
 -- A turn of a client among its gains and writes does an op, or fills its block.
 use Rattle.std.proofs.Common.{◌≡◌, ◌⊎◌, inl, inr, ℕ, zero, suc, ◌+◌, ◌-◌, ◌*◌, ◌%◌, ◌/◌, ◌^◌, ◌≤◌, ◌<◌, ◌==◌, nat_le, Bool, true, false, List, [], ◌∷◌, ◌++◌, min, fold, refl, sym, ap, ◌∙◌, subst, arith, true≢false, Some, if◌then◌else◌, bit_and}
-use Rattle.std.proofs.lemmas.List.{append-nil}
-use Rattle.std.proofs.Math.Nat.{div-add-mod, mul-mod_right, add-mod_right, mod-lt}
-use Rattle.af_base.proofs.Basics.{some_same}
-use Rattle.af_base.specs.declared.event.ClientCall.{ClientCall}
+use Rattle.af_enough_law.proofs.Common.{AnswersOn, AreCalls, Client, ClientCall, IsMade, Mode, Op, Track, Want, add-mod_right, after_answer, after_call, ahead, append-nil, begun, commands_sent, div-add-mod, mod-lt, more, mul-mod_right, next_want, some_same, wanted_of, with_call, wrapped}
 use Rattle.af_base.specs.declared.event.ClientCall.TheVariants as call
-use Rattle.af_model.specs.Point.{wrapped}
-use Rattle.af_model.specs.Room.{ahead}
-use Rattle.af_script.specs.declared.op.Op.{Op}
 use Rattle.af_script.specs.declared.op.Op.TheVariants as op
 use Rattle.af_runs.specs.declared.want.ClientCommand.TheVariants as command
-use Rattle.af_runs.specs.declared.want.Mode.{Mode}
 use Rattle.af_runs.specs.declared.want.Mode.TheVariants as mode
-use Rattle.af_runs.specs.declared.want.Want.{Want}
 use Rattle.af_runs.specs.declared.want.Want.TheVariants as want
-use Rattle.af_runs.specs.Clients.{Client, begun, more, next_want, after_answer}
-use Rattle.af_runs.specs.ClientTurns.{Track, IsMade, AnswersOn, with_call, commands_sent, wanted_of, after_call, AreCalls}
 use Rattle.af_enough_law.specs.Playing.{IsWay, Doing, opening, starting, settling, setting, writing, clearing, clearing_more, stopping, draining, removing, way_ops, way_frames, IsFair, AreFair, position, SeesFrom, AllSeeFrom}
 use Rattle.af_enough_law.proofs.Doing.{at, codes_of, next_op, put_of, sent_of, sent_is, write_is, clear_is, put_least}
 use Rattle.af_enough_law.proofs.Turning.{words_of, words_append, codes_append, spoken_after, position_after, shape_after, wanted_first, client_after, none_some, Left, Came, still, call_made, turn_came}
@@ -70,10 +60,6 @@ unfolding rank
 rank_end asked left true false n b = (omega arith, omega arith)
 rank_end asked left true true n b = absurd (true≢false b)
 rank_end asked left false before n b = absurd (true≢false (sym n))
-
-rank_clear : (b : Bool) → rank (want.Clear ∷ []) b ≡ 4
-unfolding rank
-rank_clear b = refl
 
 -- ## One call
 

@@ -1,23 +1,6 @@
 -- The middle keeps what makes all tracks have two retries.
 use Rattle.std.proofs.Common.{◌≡◌, ◌⊎◌, inl, inr, ℕ, zero, suc, ◌+◌, ◌^◌, ◌≤◌, ◌<◌, if◌then◌else◌, is_some, Bool, true, false, true≢false, All, Option, Some, None, List, length, refl, sym, ap, ◌∙◌, subst, arith}
-use Rattle.std.proofs.lemmas.List.{length-map}
-use Rattle.std.proofs.lemmas.List.Elements.{All-get_or}
-use Rattle.af_base.proofs.Basics.{same_slot}
-use Rattle.af_base.specs.declared.frame.Frame.{Frame}
-use Rattle.af_life.specs.declared.kept.Setting.{Setting}
-use Rattle.af_life.specs.declared.track.Life.{Life}
-use Rattle.af_life.specs.Heard.{learnt, heard}
-use Rattle.af_life.specs.Kept.{track_at}
-use Rattle.af_life.specs.Reports.{by_report}
-use Rattle.af_model.specs.Journals.{RoundSeen}
-use Rattle.af_script.specs.Data.{ScriptData}
-use Rattle.af_script.specs.Form.{IsTrack, IsScript}
-use Rattle.af_runs.specs.Blocks.{Marks}
-use Rattle.af_runs.specs.LegalRuns.{session_of}
-use Rattle.af_runs.specs.Rounds.{LegalRound, after_round}
-use Rattle.af_runs.specs.Runs.{Run, told_at}
-use Rattle.af_runs.specs.Sessions.{Session, no_spec, track_count, setup_of, spec_of, spec_setting}
-use Rattle.af_judge.proofs.StatesRuns.{scales_of}
+use Rattle.af_enough_law.proofs.Common.{All-get_or, Frame, IsScript, IsTrack, LegalRound, Life, Marks, RoundSeen, Run, ScriptData, Session, Setting, after_round, by_report, heard, learnt, length-map, no_spec, same_slot, scales_of, session_of, setup_of, spec_of, spec_setting, told_at, track_at, track_count}
 use Rattle.af_enough_law.specs.Courses.{course, told_words}
 use Rattle.af_enough_law.specs.Nearing.{buffer_of}
 use Rattle.af_enough_law.specs.NormalRounds.{TurnMade}

@@ -1,16 +1,6 @@
 -- Once both mixers have ended, all clients have.
 use Rattle.std.proofs.Common.{◌≡◌, ℕ, zero, suc, ◌+◌, ◌<◌, ◌≤◌, ◌==◌, ◌&&◌, nat_lt, if◌then◌else◌, Bool, true, false, List, [], ◌∷◌, length, refl, sym, ap, ◌∙◌, arith}
-use Rattle.std.specs.List.{range_with_len, list_all}
-use Rattle.std.proofs.lemmas.Bool.Decides.{nat_tests}
-use Rattle.af_judge.proofs.Basics.{told_each}
-use Rattle.af_life.specs.Kept.{NormalKept}
-use Rattle.af_model.specs.Journals.{RoundSeen}
-use Rattle.af_judge.proofs.StatesRuns.{ends_same}
-use Rattle.af_runs.specs.Clients.{ends}
-use Rattle.af_runs.specs.LegalRuns.{run_from}
-use Rattle.af_runs.specs.Rounds.{met_after, after_round}
-use Rattle.af_runs.specs.Runs.{Run, TrackTold, told_at, each_track, with_ends, fast_ended, fast_party, has_ended, normal_party, all_ended}
-use Rattle.af_runs.specs.Sessions.{Session, track_count}
+use Rattle.af_enough_law.proofs.Common.{NormalKept, RoundSeen, Run, Session, TrackTold, after_round, all_ended, each_track, ends, ends_same, fast_ended, fast_party, has_ended, list_all, met_after, nat_tests, normal_party, range_with_len, run_from, told_at, told_each, track_count, with_ends}
 use Rattle.af_enough_law.specs.EndPhases.{BothEnded}
 use Rattle.af_enough_law.proofs.RunTracks.{ends_long, round_long}
 

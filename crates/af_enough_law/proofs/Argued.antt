@@ -1,16 +1,9 @@
 -- A client that flushes nothing sends no command but a STOP with an argument.
 use Rattle.std.proofs.Common.{◌≡◌, ℕ, ◌-◌, ◌==◌, ◌&&◌, ◌||◌, Bool, true, false, List, [], ◌∷◌, ◌++◌, fold, refl, sym, ap, ◌∙◌}
-use Rattle.af_base.proofs.Basics.{both_true, no}
-use Rattle.af_base.specs.declared.event.ClientCall.{ClientCall}
+use Rattle.af_enough_law.proofs.Common.{AreCalls, ClientCall, ClientCommand, IsWanted, Track, Want, after_call, argument_of, both_first, both_right, both_true, flushes_of, no}
 use Rattle.af_base.specs.declared.event.ClientCall.TheVariants as call
-use Rattle.af_model.proofs.Basics.{both_first}
-use Rattle.af_model.specs.History.{flushes_of}
-use Rattle.af_model.proofs.Logic.{both_right}
 use Rattle.af_runs.specs.Clients.{code_of}
-use Rattle.af_runs.specs.ClientTurns.{Track, IsWanted, argument_of, after_call, AreCalls}
-use Rattle.af_runs.specs.declared.want.ClientCommand.{ClientCommand}
 use Rattle.af_runs.specs.declared.want.ClientCommand.TheVariants as command
-use Rattle.af_runs.specs.declared.want.Want.{Want}
 use Rattle.af_runs.specs.declared.want.Want.TheVariants as want
 use Rattle.af_enough_law.specs.Playing.{AreFair}
 use Rattle.af_enough_law.proofs.Doing.{sent_of}
@@ -57,40 +50,22 @@ is_sent (call.Sent front code argument) = true
 is_sent _ = false
 
 send_argued : (t : Track) (sending : ClientCommand) (code argument : ℕ) → flushes_of t.stream.events ≡ 0 → ((code == code_of sending) && (argument == argument_of t sending)) ≡ true → all_argued ((code, argument) ∷ []) ≡ true
-send_argued t command.Open code argument none h = without code argument _ _ h refl
 send_argued t command.Start code argument none h = without code argument _ _ h none
-send_argued t command.Pause code argument none h = without code argument _ _ h refl
 send_argued t command.Stop code argument none h = stops code argument _ h
-send_argued t command.Flush code argument none h = without code argument _ _ h refl
-send_argued t command.Remove code argument none h = without code argument _ _ h refl
+send_argued t _ code argument none h = without code argument _ _ h refl
 
 sent_argued : (t : Track) (w : Want) (front code argument : ℕ) → flushes_of t.stream.events ≡ 0 → IsWanted t w (call.Sent front code argument) → all_argued ((code, argument) ∷ []) ≡ true
 unfolding is_sent
 sent_argued t (want.Send sending) front code argument none made = send_argued t sending code argument none made
-sent_argued t want.Settled front code argument none made = no made
-sent_argued t want.Drained front code argument none made = no made
-sent_argued t want.Flush front code argument none made = no made
 sent_argued t (want.Gain left right) front code argument none made = no (sym (ap is_sent made))
-sent_argued t (want.Write count) front code argument none made = no made
-sent_argued t want.Clear front code argument none made = no made
 sent_argued t (want.Poke in_command word value) front code argument none made = no (sym (ap is_sent made))
 sent_argued t want.Rest front code argument none made = absurd made
 sent_argued t want.Leave front code argument none made = without code argument _ _ made refl
+sent_argued t _ front code argument none made = no made
 
 answer_argued : (t : Track) (w : Want) (answer : ClientCall) → flushes_of t.stream.events ≡ 0 → IsWanted t w answer → all_argued (sent_of answer) ≡ true
 answer_argued t w (call.Sent front code argument) none made = sent_argued t w front code argument none made
-answer_argued t w (call.Put front count) none made = refl
-answer_argued t w (call.Full front) none made = refl
-answer_argued t w (call.Dead flags) none made = refl
-answer_argued t w (call.Corrupt front rear) none made = refl
-answer_argued t w (call.Cleared flags) none made = refl
-answer_argued t w (call.Flush count) none made = refl
-answer_argued t w (call.Gain word) none made = refl
-answer_argued t w (call.SendFull front) none made = refl
-answer_argued t w (call.SendDead flags) none made = refl
-answer_argued t w (call.SendCorrupt front rear) none made = refl
-answer_argued t w (call.Status word) none made = refl
-answer_argued t w (call.Poke in_command word value) none made = refl
+answer_argued t w _ none made = refl
 
 -- ## A turn
 

@@ -1,16 +1,6 @@
 -- A round in whose meeting a proxy may take no part is calm by what is known of a later history, whatever its client is answered.
 use Rattle.std.proofs.Common.{◌≡◌, ℕ, ◌≤◌, ◌<◌, Bool, true, false, Option, unwrap_or, length, sym, ap, ◌∙◌, subst, arith}
-use Rattle.af_base.specs.Turn.{Turn}
-use Rattle.af_life.specs.Heard.{learnt, heard}
-use Rattle.af_life.specs.Kept.{track_at, track_in}
-use Rattle.af_model.specs.declared.shape.Shape.{Shape}
-use Rattle.af_model.specs.History.{flushes_of}
-use Rattle.af_model.specs.Journals.{RoundSeen}
-use Rattle.af_judge.specs.Tracks.{IsSpelled}
-use Rattle.af_runs.specs.Blocks.{BlockTold, Marks, client_list, server_list, is_tame}
-use Rattle.af_runs.specs.Rounds.{LegalRound, met_after, after_round}
-use Rattle.af_runs.specs.Runs.{Run, TrackTold, told_at}
-use Rattle.af_runs.specs.Sessions.{Session}
+use Rattle.af_enough_law.proofs.Common.{BlockTold, IsSpelled, LegalRound, Marks, RoundSeen, Run, Session, Shape, TrackTold, Turn, after_round, client_list, flushes_of, heard, is_tame, learnt, met_after, server_list, told_at, track_at, track_in}
 use Rattle.af_enough_law.specs.Courses.{none_shut}
 use Rattle.af_enough_law.specs.FastFlows.{IsOpen}
 use Rattle.af_enough_law.specs.NormalRounds.{TurnMade}

@@ -1,19 +1,9 @@
 -- What is carried of a track over rounds in whose meetings its proxy takes no part, once it takes part again: what its client was answered meanwhile is judged by that later history.
 use Rattle.std.proofs.Common.{◌≡◌, inr, ℕ, ◌≤◌, ◌<◌, Bool, true, false, Option, unwrap_or, List, [], ◌∷◌, ◌++◌, length, refl, sym, ap, ◌∙◌, subst, arith, append_assoc, append-nil}
-use Rattle.af_base.specs.declared.event.ClientEvent.{ClientEvent}
+use Rattle.af_enough_law.proofs.Common.{ClientEvent, HasBlockHistory, LegalRound, Marks, RoundSeen, Run, ServerEvent, Session, Shape, Turn, after_round, calls_in, client_list, hand_list, is_tame, met_after, run_from, server_list, setup_of, sides_of, takes_part, told_at, track_at, track_in}
 use Rattle.af_base.specs.declared.event.ClientEvent.TheVariants as client
-use Rattle.af_base.specs.declared.event.ServerEvent.{ServerEvent}
 use Rattle.af_base.specs.declared.event.ServerEvent.TheVariants as server
-use Rattle.af_base.specs.Turn.{Turn}
 use Rattle.af_enough_law.proofs.Basics.{taken-append}
-use Rattle.af_life.specs.Kept.{track_at, track_in}
-use Rattle.af_model.specs.declared.shape.Shape.{Shape}
-use Rattle.af_model.specs.Journals.{RoundSeen}
-use Rattle.af_runs.specs.Blocks.{Marks, client_list, server_list, hand_list, is_tame, HasBlockHistory}
-use Rattle.af_runs.specs.LegalRuns.{run_from}
-use Rattle.af_runs.specs.Rounds.{LegalRound, met_after, after_round}
-use Rattle.af_runs.specs.Runs.{Run, told_at, sides_of, calls_in, takes_part}
-use Rattle.af_runs.specs.Sessions.{Session, setup_of}
 use Rattle.af_enough_law.specs.NormalRounds.{TurnMade}
 use Rattle.af_enough_law.specs.Playing.{AreFair}
 use Rattle.af_enough_law.specs.Seen.{are_hands_calm, frames_taken}

@@ -1,41 +1,14 @@
 -- Basic lemmas that several files here, and of the crates above, cite.
 use Rattle.std.proofs.Common.{Bool, List, Option, Some, [], ap, arith, eq-eqb, false, if◌then◌else◌, is_some, length, min, nat_lt, not, refl, suc, sym, true, true≢false, unwrap_or, zero, ℕ, ◌&&◌, ◌*◌, ◌++◌, ◌+◌, ◌-◌, ◌<◌, ◌==◌, ◌||◌, ◌∙◌, ◌∷◌, ◌≡◌, ◌≤◌}
-use Rattle.af_base.proofs.Basics.{and_none, and_off}
-use Rattle.af_base.specs.Command.{code_of}
-use Rattle.af_base.specs.Turn.{Turn}
+use Rattle.af_enough_law.proofs.Common.{Busy, Clean, ClientEvent, Command, EntrySeen, FastState, HandEvent, Home, Learnt, Moment, NormalKept, Push, Pushed, RoundSeen, Run, ServerEvent, Session, Setup, Shape, TrackKept, TrackPoint, Turn, after, after_ack, after_client, after_hand, after_push, after_server, ahead, and_none, and_off, before_turn, by_client, by_hand, by_server, client_of, code_of, comes_home, commanded as with_command, dropped_by, each_track, early_of, edited, edited_to, ends, flush_in, flushes-append, flushes_of, is_home, is_over, kept, lend, let_go, look_at, met, must_enter, must_leave, ordered, start, state_of, takes_part, told_at, track_at, welcomed, with_calls, with_cycle, with_cycles, with_ends, with_load, with_mix, with_poll}
 use Rattle.af_base.specs.declared.event.ClientEvent.TheVariants as client
-use Rattle.af_base.specs.declared.event.ClientEvent.{ClientEvent}
 use Rattle.af_base.specs.declared.event.HandEvent.TheVariants as hand
-use Rattle.af_base.specs.declared.event.HandEvent.{HandEvent}
 use Rattle.af_base.specs.declared.event.ServerEvent.TheVariants as server
-use Rattle.af_base.specs.declared.event.ServerEvent.{ServerEvent}
 use Rattle.af_base.specs.declared.seen.Seen.TheVariants as seen
-use Rattle.af_base.specs.declared.state.Command.{Command}
-use Rattle.af_base.specs.declared.state.FastState.{FastState}
-use Rattle.af_base.specs.declared.state.Push.TheVariants.{Busy, Clean, Pushed}
-use Rattle.af_base.specs.declared.state.Push.{Push}
 use Rattle.af_enough_law.specs.Courses.{course}
 use Rattle.af_enough_law.specs.FastFlows.{asked_in}
 use Rattle.af_enough_law.specs.Seen.{frames_put, frames_taken}
 use Rattle.af_enough_law.specs.TrackTurns.{greeted}
-use Rattle.af_life.specs.Edits.{after_ack, after_push, comes_home, edited, edited_to, is_over, lend, let_go, must_enter, must_leave, ordered, welcomed}
-use Rattle.af_life.specs.Kept.{Learnt, NormalKept, Setup, is_home, track_at}
-use Rattle.af_life.specs.declared.kept.Holder.TheVariants.{Home}
-use Rattle.af_life.specs.declared.kept.TrackKept.{TrackKept}
-use Rattle.af_model.proofs.Basics.{flushes-append}
-use Rattle.af_model.specs.Cycles.{kept, state_of}
-use Rattle.af_model.specs.Draft.{commanded as with_command}
-use Rattle.af_model.specs.History.{Moment, after, by_client, by_hand, by_server, client_of, flush_in, flushes_of}
-use Rattle.af_model.specs.Journals.{EntrySeen, RoundSeen}
-use Rattle.af_model.specs.Point.{after_client, after_hand, after_server, start}
-use Rattle.af_model.specs.Room.{ahead}
-use Rattle.af_model.specs.ServerCalls.{dropped_by, look_at}
-use Rattle.af_model.specs.declared.point.TrackPoint.{TrackPoint}
-use Rattle.af_model.specs.declared.shape.Shape.{Shape}
-use Rattle.af_runs.specs.Clients.{ends}
-use Rattle.af_runs.specs.Rounds.{before_turn, early_of}
-use Rattle.af_runs.specs.Runs.{Run, each_track, met, takes_part, told_at, with_calls, with_cycle, with_cycles, with_ends, with_load, with_mix, with_poll}
-use Rattle.af_runs.specs.Sessions.{Session}
 
 pub ack_ended : (ack : Bool) (m : NormalKept) → (after_ack ack m).ended ≡ m.ended
 ack_ended true m = refl
@@ -92,15 +65,8 @@ ends_normal run = by_end run.normal.ended
 
 -- the position of a flush is 0 if there was none
 pub flush_client : (p : TrackPoint) (e : ClientEvent) → flush_in e ≡ 0 → (after_client p e).flush_at ≡ p.flush_at
-flush_client p (client.Release count) h = refl
 flush_client p client.Flush h = absurd (omega arith)
-flush_client p (client.SetGain word) h = refl
-flush_client p (client.ClearFlags old) h = refl
-flush_client p (client.SawFlags flags) h = refl
-flush_client p (client.SawFront front) h = refl
-flush_client p (client.SawStatus word) h = refl
-flush_client p (client.Poke word value) h = refl
-flush_client p (client.Learn n) h = refl
+flush_client p _ h = refl
 
 pub flush_hand : (p : TrackPoint) (e : HandEvent) → (after_hand p e).flush_at ≡ p.flush_at
 flush_hand p (hand.SetFlags bits) = refl
@@ -108,15 +74,7 @@ flush_hand p (hand.Met n) = refl
 
 pub flush_server : (p : TrackPoint) (e : ServerEvent) → (after_server p e).flush_at ≡ p.flush_at
 flush_server p (server.SawGain word) = refl
-flush_server p (server.SawFlush flush) = refl
-flush_server p (server.SawRear rear) = refl
-flush_server p (server.SawFront front) = refl
-flush_server p (server.Drop to) = refl
-flush_server p (server.Take count) = refl
-flush_server p (server.Tally missing) = refl
-flush_server p (server.SetFlags bits) = refl
-flush_server p (server.SetStatus word) = refl
-flush_server p (server.Learn n) = refl
+flush_server p _ = refl
 
 pub flush_none : (k : Shape) (order : List Moment) → flushes_of (client_of order) ≡ 0 → (after (start k) order).flush_at ≡ 0
 flush_none k [] none = refl

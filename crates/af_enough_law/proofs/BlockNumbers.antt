@@ -1,22 +1,8 @@
 -- The numbers of a stream block after a round in which its server took part: what was put and taken, and where its client is.
 use Rattle.std.proofs.Common.{◌≡◌, ℕ, ◌+◌, ◌≤◌, Bool, true, false, List, [], ◌∷◌, ◌++◌, length, sym, ap, ◌∙◌, subst, arith, append_assoc, append-nil}
-use Rattle.af_base.specs.declared.event.ClientEvent.{ClientEvent}
+use Rattle.af_enough_law.proofs.Common.{ClientEvent, HasBlockHistory, LegalRound, Marks, RoundSeen, Run, ServerEvent, Session, Shape, TrackTold, after, after_round, calls_in, client_kept, client_list, drops_none, hand_list, in_turn, is_tame, room_kept, server_list, server_of, sides_of, start, told_at, track_in}
 use Rattle.af_base.specs.declared.event.ClientEvent.TheVariants as client
-use Rattle.af_base.specs.declared.event.ServerEvent.{ServerEvent}
 use Rattle.af_enough_law.proofs.Basics.{put-append, taken-append}
-use Rattle.af_life.specs.Kept.{track_in}
-use Rattle.af_model.specs.declared.shape.Shape.{Shape}
-use Rattle.af_model.specs.ClientCalls.{client_kept}
-use Rattle.af_model.specs.Fates.{drops_none}
-use Rattle.af_model.specs.History.{after, server_of}
-use Rattle.af_model.specs.Point.{start}
-use Rattle.af_model.specs.Journals.{RoundSeen}
-use Rattle.af_model.proofs.Fates.{in_turn}
-use Rattle.af_model.proofs.RoomKept.{room_kept}
-use Rattle.af_runs.specs.Blocks.{Marks, client_list, server_list, hand_list, is_tame, HasBlockHistory}
-use Rattle.af_runs.specs.Rounds.{LegalRound, after_round}
-use Rattle.af_runs.specs.Runs.{Run, TrackTold, told_at, sides_of, calls_in}
-use Rattle.af_runs.specs.Sessions.{Session}
 use Rattle.af_enough_law.specs.NormalRounds.{TurnMade}
 use Rattle.af_enough_law.specs.Playing.{position}
 use Rattle.af_enough_law.specs.Seen.{frames_put, frames_taken}

@@ -1,23 +1,8 @@
 -- A track that plays through begins calm and on its way, and each legal round of the named kind leaves it so.
 use Rattle.std.proofs.Common.{◌≡◌, inl, ℕ, ◌≤◌, ◌<◌, Bool, true, false, true≢false, List, [], length, refl, sym, ap, subst, arith, MatchBool}
-use Rattle.std.proofs.lemmas.List.Elements.{All-get_or}
-use Rattle.af_base.specs.declared.event.ClientCall.{ClientCall}
-use Rattle.af_base.specs.declared.event.ServerEvent.{ServerEvent}
-use Rattle.af_base.specs.declared.frame.Frame.{Frame}
-use Rattle.af_judge.proofs.Basics.{new_at}
-use Rattle.af_life.specs.Kept.{track_in}
+use Rattle.af_enough_law.proofs.Common.{All-get_or, AreCalls, AreSpelled, ClientCall, Frame, IsScript, IsTrack, LegalRound, Marks, RoundSeen, Run, ScriptData, ServerEvent, Session, Track, TrackTold, after_round, all_play_through, calls_in, client_list, hand_list, new_at, new_run, no_spec, server_list, session_of, sides_of, told_at, track_in}
 use Rattle.af_model.specs.ClientCalls as list
-use Rattle.af_model.specs.Journals.{RoundSeen}
-use Rattle.af_script.specs.Data.{ScriptData}
-use Rattle.af_script.specs.Form.{IsTrack, IsScript}
-use Rattle.af_runs.specs.Blocks.{Marks, client_list, server_list, hand_list}
-use Rattle.af_runs.specs.ClientTurns.{Track, AreCalls}
-use Rattle.af_runs.specs.LegalRuns.{session_of}
-use Rattle.af_runs.specs.Rounds.{LegalRound, after_round}
-use Rattle.af_runs.specs.Runs.{Run, TrackTold, new_run, new_track, told_at, sides_of, calls_in}
-use Rattle.af_runs.specs.Sessions.{Session, no_spec}
-use Rattle.af_judge.specs.Tracks.{AreSpelled}
-use Rattle.af_enough.specs.Enough.{all_play_through}
+use Rattle.af_runs.specs.Runs.{new_track}
 use Rattle.af_enough_law.specs.NormalRounds.{TurnMade}
 use Rattle.af_enough_law.specs.Playing.{AreFair}
 use Rattle.af_enough_law.specs.Seen.{are_calm, are_hands_calm, frames_put}

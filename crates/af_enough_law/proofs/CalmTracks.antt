@@ -1,28 +1,10 @@
 -- From round to round the lists of a track that plays through stay calm, if it is never disabled and its stream is never heard to be shut.
-use Rattle.std.proofs.Common.{◌≡◌, inr, ℕ, ◌≤◌, ◌<◌, Bool, true, false, true≢false, Option, Some, None, unwrap_or, List, [], ◌∷◌, ◌++◌, length, take, fold, refl, sym, ap, ◌∙◌, subst, arith, append_assoc, append-nil}
-use Rattle.af_base.specs.declared.event.ClientCall.{ClientCall}
-use Rattle.af_base.specs.declared.event.ClientEvent.{ClientEvent}
+use Rattle.std.proofs.Common.{◌≡◌, inr, ℕ, ◌≤◌, ◌<◌, Bool, true, false, true≢false, Option, Some, None, unwrap_or, List, [], ◌∷◌, ◌++◌, length, fold, refl, sym, ap, ◌∙◌, subst, arith, append_assoc, append-nil}
+use Rattle.af_enough_law.proofs.Common.{AreSpelled, BlockTold, ClientCall, ClientEvent, HasBlockHistory, IsSpelled, LegalRound, Marks, NormalKept, RoundSeen, Run, ServerEvent, Session, Shape, Track, TrackTold, Turn, TurnFound, after_call, after_round, all_played, called, calls_in, client_list, flushes_of, found_in, hand_list, heard, is_tame, learnt, met_after, server_list, shapes_called, sides_of, spelled_turn, stream_met, takes_part, told_at, track_count, track_in}
 use Rattle.af_base.specs.declared.event.ClientEvent.TheVariants as client
-use Rattle.af_base.specs.declared.event.ServerEvent.{ServerEvent}
 use Rattle.af_base.specs.declared.event.ServerEvent.TheVariants as server
-use Rattle.af_base.specs.Turn.{Turn}
 use Rattle.af_enough_law.proofs.Basics.{part_met, put-append, taken-append}
-use Rattle.af_life.specs.Heard.{learnt, heard}
-use Rattle.af_life.specs.Kept.{NormalKept, track_in}
-use Rattle.af_life.specs.Looks.{words_taken}
-use Rattle.af_model.specs.declared.shape.Shape.{Shape}
 use Rattle.af_model.specs.ClientCalls as list
-use Rattle.af_model.specs.History.{flushes_of}
-use Rattle.af_model.specs.Journals.{RoundSeen}
-use Rattle.af_runs.specs.Blocks.{BlockTold, Marks, client_list, server_list, hand_list, is_tame, HasBlockHistory}
-use Rattle.af_runs.specs.ClientTurns.{Track, after_call}
-use Rattle.af_runs.specs.Found.{TurnFound}
-use Rattle.af_runs.specs.Rounds.{LegalRound, found_in, all_played, met_after, after_round}
-use Rattle.af_runs.specs.Runs.{Run, TrackTold, told_at, sides_of, called, calls_in, stream_met, takes_part}
-use Rattle.af_runs.specs.Sessions.{Session, track_count}
-use Rattle.af_judge.specs.Tracks.{AreSpelled, IsSpelled}
-use Rattle.af_judge.proofs.TracksTold.{shapes_called}
-use Rattle.af_judge.proofs.Spelled.{spelled_turn}
 use Rattle.af_enough_law.specs.Courses.{none_shut}
 use Rattle.af_enough_law.specs.FastFlows.{IsOpen}
 use Rattle.af_enough_law.specs.NormalRounds.{TurnMade}
@@ -30,7 +12,7 @@ use Rattle.af_enough_law.specs.Playing.{AreFair}
 use Rattle.af_enough_law.specs.Seen.{are_calm, are_hands_calm, frames_put, frames_taken}
 use Rattle.af_enough_law.proofs.ClientRounds.{CalmRound}
 use Rattle.af_enough_law.proofs.CommandCalm.{commands_calm}
-use Rattle.af_enough_law.proofs.CommandRounds.{commands_told, commands_open, words_follow, words_begin}
+use Rattle.af_enough_law.proofs.CommandRounds.{commands_told, commands_open}
 use Rattle.af_enough_law.proofs.FairTurns.{IsKnown, stream_grows, words_counted}
 use Rattle.af_enough_law.proofs.FastShows.{Setting}
 use Rattle.af_enough_law.proofs.Flushless.{IsFlushlessTrack, unflushed_none}
@@ -104,12 +86,12 @@ stream_lists s run round i low part =
     record { did = server_list played; count = length (client_list played); client = ap client_list is ∙ tails.0 ∙ ap (λ (es : List ClientEvent). es ++ client.Learn (length (server_list played)) ∷ []) before; server = ap server_list is ∙ tails.1 }
 
 -- what a round adds to the list of a command block's server
-command_list_of : (s : Session) (marks : Marks) (run : Run) (round : RoundSeen) (t : TurnMade s marks run round) (i : ℕ) → i < length run.tracks → (more : List ServerEvent) × (server_list (told_at (met_after s run round) i).commands ≡ server_list (told_at run i).commands ++ more)
+pub command_list_of : (s : Session) (marks : Marks) (run : Run) (round : RoundSeen) (t : TurnMade s marks run round) (i : ℕ) → i < length run.tracks → (more : List ServerEvent) × (server_list (told_at (met_after s run round) i).commands ≡ server_list (told_at run i).commands ++ more)
 command_list_of s marks run round t i low = let told = commands_told s marks run round t i low in (_, told.server)
 
 -- ## Words
 
-words_fold : (t : Track) (calls : List ClientCall) → AreFair calls → frames_put t.commands.events ≡ length t.commands.released → frames_put (fold after_call t calls).commands.events ≡ length (fold after_call t calls).commands.released
+pub words_fold : (t : Track) (calls : List ClientCall) → AreFair calls → frames_put t.commands.events ≡ length t.commands.released → frames_put (fold after_call t calls).commands.events ≡ length (fold after_call t calls).commands.released
 words_fold t [] fair is = is
 words_fold t (answer ∷ calls) fair is = words_fold (after_call t answer) calls fair.1 (words_counted t answer fair.0 is)
 
@@ -166,20 +148,6 @@ module _ (cut : Bool) (s : Session) (marks : Marks) (run : Run) (round : RoundSe
       commands_open s marks run round t i turn.low cut legal turn.runs turn.lawful turn.named turn.there (ap is_tame (sym same_commands) ∙ pokeless_then.commands) (omega (arith, size))
       (subst (λ (b : BlockTold). IsSpelled b.shape (client_list b)) same_commands spelled_then.commands)
       (ap (λ (b : BlockTold). flushes_of (client_list b)) (sym same_commands) ∙ unflushed_none (client_list u.commands) flushless_then.commands) calm.is_open
-
-  -- the words that its looks took follow those taken before, and all that were taken begin those released
-  pub taken_after : ((told_at (met_after s run round) i).commands.taken ≡ (told_at run i).commands.taken ++ words_taken (track_in t.turn i).looks)
-      × ((n : ℕ) × ((told_at (met_after s run round) i).commands.taken ≡ take n (told_at (met_after s run round) i).commands.released))
-  taken_after =
-      let small = calm.commands_few in
-      let size : (told_at (met_after s run round) i).commands.shape.frames ≡ 128 = ap (λ (b : BlockTold). b.shape.frames) (sym same_commands) ∙ ap (λ (k : Shape). k.frames) commands_shape ∙ small in (
-        words_follow s marks run round t i turn.low cut legal turn.runs turn.lawful turn.named turn.there (ap is_tame (sym same_commands) ∙ pokeless_then.commands) (omega (arith, size))
-            (subst (λ (b : BlockTold). IsSpelled b.shape (client_list b)) same_commands spelled_then.commands)
-            (ap (λ (b : BlockTold). flushes_of (client_list b)) (sym same_commands) ∙ unflushed_none (client_list u.commands) flushless_then.commands) calm.is_open,
-        words_begin s marks run round t i turn.low cut legal turn.runs turn.lawful turn.named turn.there (ap is_tame (sym same_commands) ∙ pokeless_then.commands) (omega (arith, size))
-            (subst (λ (b : BlockTold). IsSpelled b.shape (client_list b)) same_commands spelled_then.commands)
-            (ap (λ (b : BlockTold). flushes_of (client_list b)) (sym same_commands) ∙ unflushed_none (client_list u.commands) flushless_then.commands) calm.is_open,
-      )
 
   stream_setting : Setting u.stream.shape (client_list u.stream) (server_list u.stream)
   stream_setting =

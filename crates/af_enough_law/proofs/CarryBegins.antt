@@ -1,29 +1,12 @@
 -- What is carried of the session and of each track holds before the first round, but for what the mixers learn at a meeting.
 use Rattle.std.proofs.Common.{◌≡◌, ℕ, ◌+◌, ◌<◌, true, true≢false, List, [], ◌∷◌, length, refl, sym, ap, ◌∙◌, subst, arith}
-use Rattle.std.proofs.lemmas.List.{length-map}
-use Rattle.std.proofs.lemmas.List.{length-replicate}
-use Rattle.af_base.specs.declared.frame.Frame.{Frame}
+use Rattle.af_enough_law.proofs.Common.{Frame, IsScript, ScriptData, Session, TrackKept, all_play_through, at_new, begun, cycle_frames, initial_none, length-map, length-replicate, new_at, new_long, new_run, new_track, server_list, session_of, setup_of, sides_of, sound_new, spec_of, spec_setting, status_word, told_at, track_at, track_count}
 use Rattle.af_enough_law.proofs.Basics.{none_exit}
-use Rattle.af_judge.proofs.Basics.{new_at, new_long}
-use Rattle.af_life.proofs.Basics.{at_new}
-use Rattle.af_life.specs.declared.kept.TrackKept.{TrackKept}
-use Rattle.af_life.specs.Kept.{track_at, new_track}
-use Rattle.af_life.specs.Serves.{status_word}
-use Rattle.af_script.specs.Data.{ScriptData}
-use Rattle.af_script.specs.Form.{IsScript}
-use Rattle.af_runs.specs.Blocks.{server_list}
 use Rattle.af_script.specs.declared.op.Op.TheVariants as op
 use Rattle.af_runs.specs.declared.want.ClientCommand.TheVariants as command
 use Rattle.af_runs.specs.declared.want.Mode.TheVariants as mode
 use Rattle.af_runs.specs.declared.want.Want.TheVariants as want
-use Rattle.af_runs.specs.Clients.{begun}
-use Rattle.af_runs.specs.LegalRuns.{session_of}
-use Rattle.af_runs.specs.Runs.{new_run, told_at, sides_of}
 use Rattle.af_runs.specs.Runs as runs
-use Rattle.af_runs.specs.Sessions.{Session, spec_of, track_count, setup_of, spec_setting, cycle_frames}
-use Rattle.af_enough.specs.Enough.{all_play_through}
-use Rattle.af_judge.proofs.DraftBits.{initial_none}
-use Rattle.af_judge.proofs.SoundTurns.{sound_new}
 use Rattle.af_enough_law.specs.Carried.{SessionStands}
 use Rattle.af_enough_law.specs.Courses.{absent, Follows}
 use Rattle.af_enough_law.specs.Seen.{last_status, frames_taken}

@@ -1,22 +1,6 @@
 -- What is carried of a run whose tracks play through: of the session, and of each track without a slot, lent, stopped or over. A legal round keeps it, while not all is over.
-use Rattle.std.proofs.Common.{◌≡◌, ◌⊎◌, inl, inr, ℕ, ◌+◌, ◌≤◌, ◌<◌, Bool, true, false, true≢false, All, Some, None, List, [], ◌∷◌, ◌++◌, length, refl, sym, ap, ◌∙◌, arith}
-use Rattle.af_base.proofs.Basics.{not_zero}
-use Rattle.af_base.specs.declared.state.FastTrack.{FastTrack}
-use Rattle.af_base.specs.Log.{slots}
-use Rattle.af_life.specs.declared.kept.Holder.{Holder}
-use Rattle.af_life.specs.declared.kept.Holder.TheVariants.{Home, Lent, Returning}
-use Rattle.af_life.specs.declared.kept.Setting.{Setting}
-use Rattle.af_life.specs.declared.track.Life.{Life}
-use Rattle.af_life.specs.Edits.{is_over}
-use Rattle.af_life.specs.Heard.{learnt}
-use Rattle.af_life.specs.Kept.{NormalKept, track_at, is_lent, setting_of}
-use Rattle.af_life.specs.Turn.{turn_after}
-use Rattle.af_model.specs.Journals.{RoundSeen}
-use Rattle.af_runs.specs.Blocks.{Marks}
-use Rattle.af_runs.specs.LegalRuns.{LegalRounds, run_from}
-use Rattle.af_runs.specs.Rounds.{LegalRound, after_round}
-use Rattle.af_runs.specs.Runs.{Run}
-use Rattle.af_runs.specs.Sessions.{Session, track_count, setup_of}
+use Rattle.std.proofs.Common.{◌≡◌, ◌⊎◌, inl, inr, ℕ, ◌+◌, ◌≤◌, ◌<◌, Bool, true, false, true≢false, All, Some, None, [], ◌∷◌, ◌++◌, length, refl, sym, ap, ◌∙◌, arith}
+use Rattle.af_enough_law.proofs.Common.{FastTrack, Holder, Home, LegalRound, Lent, Life, Marks, NormalKept, Returning, RoundSeen, Run, Session, Setting, after_round, is_lent, is_over, learnt, not_zero, setting_of, setup_of, slots, track_at, track_count, turn_after}
 use Rattle.af_enough_law.specs.Carried.{SessionCarried}
 use Rattle.af_enough_law.specs.Ends.{IsInOrder}
 use Rattle.af_enough_law.specs.NormalRounds.{TurnMade}
@@ -29,7 +13,6 @@ use Rattle.af_enough_law.proofs.LeftRounds as left
 use Rattle.af_enough_law.proofs.LentFlows.{LentGone, lent_gone}
 use Rattle.af_enough_law.proofs.LentRounds.{LentCarried}
 use Rattle.af_enough_law.proofs.OverTracks.{IsOver, over_life, over_on}
-use Rattle.af_enough_law.proofs.RetriesGone.{retries_gone}
 use Rattle.af_enough_law.proofs.SessionRounds.{turn_of, turn_runs, session_carried}
 use Rattle.af_enough_law.proofs.Slots.{course_opened, slot_stays, slotless_stays}
 use Rattle.af_enough_law.proofs.StoppedPlaces.{Place, stopped_out}
@@ -132,14 +115,6 @@ module _ (s : Session) (marks : Marks) (scales : All (λ (x : Setting). x.scale 
         settled = inl (ap (λ (m : NormalKept). (track_at m.tracks i).life.ended) t.after ∙ ap (λ (l : Life). l.ended) (over_life (setup_of s) (learnt t.by.outside) run.normal t.turn i there runs h.life) ∙ h.life);
       }
 
-  -- a round takes one of a track's retries at most
-  pub retries_on : (i most total n : ℕ) → i < track_count s → marks.commands i ≡ true → 1 ≤ n → n + 1 ≤ (track_at run.normal.tracks i).life.retries → n + 1 ≤ 50 → TrackIs s run i most total → n ≤ (track_at after.normal.tracks i).life.retries
-  retries_on i most total n named lawful one some few is = by (track_on i most total named lawful (omega (arith, one, some)) is).course
-    where
-      by : ((told : ℕ) × CourseGone s marks run round i t told) ⊎ ((track_at after.normal.tracks i).life ≡ (track_at run.normal.tracks i).life) → n ≤ (track_at after.normal.tracks i).life.retries
-      by (inl gone) = retries_gone s marks run round i gone.0 n t gone.1 some few
-      by (inr same) = let r = ap (λ (l : Life). l.retries) same in omega (arith, r, some)
-
 -- A legal round that is followed by another one keeps all that is carried, if each track has two retries before it and not all is over after it
 pub carried_on : (s : Session) (marks : Marks) → All (λ (x : Setting). x.scale ≤ 4096) (setup_of s).settings → length (setup_of s).settings ≡ track_count s → ((i : ℕ) → i < track_count s → marks.commands i ≡ true) → (run : Run) (round next : RoundSeen) (most total : ℕ → ℕ)
     → LegalRound false s marks run round → LegalRound false s marks (after_round s run round) next → ((i : ℕ) → i < track_count s → 2 ≤ (track_at run.normal.tracks i).life.retries) → is_over (after_round s run round).normal.tracks ≡ false
@@ -148,16 +123,3 @@ carried_on s marks scales long lawful run round next most total legal legal_next
   session = session_carried s marks scales long run round legal c.session.stands going;
   tracks = λ i named. (track_on s marks scales long run round legal c.session next legal_next i (most i) (total i) named (lawful i named) (two i named) (c.tracks i named)).is;
 }
-
--- before each of some rounds each track has two retries, and after it not all is over
-abbrev pub AllGoOn : Session → Run → List RoundSeen → Type 0
-AllGoOn s run [] = Unit {0}
-AllGoOn s run (round ∷ rounds) = ((i : ℕ) → i < track_count s → 2 ≤ (track_at run.normal.tracks i).life.retries) × (is_over (after_round s run round).normal.tracks ≡ false) × AllGoOn s (after_round s run round) rounds
-
--- Legal rounds that are followed by one more keep all that is carried
-pub carried_along : (s : Session) (marks : Marks) → All (λ (x : Setting). x.scale ≤ 4096) (setup_of s).settings → length (setup_of s).settings ≡ track_count s → ((i : ℕ) → i < track_count s → marks.commands i ≡ true) → (rounds : List RoundSeen) (run : Run) (last : RoundSeen) (most total : ℕ → ℕ)
-    → LegalRounds false s marks run (rounds ++ last ∷ []) → AllGoOn s run rounds → Carried s run most total → Carried s (run_from s run rounds) most total
-carried_along s marks scales long lawful [] run last most total legal good c = c
-carried_along s marks scales long lawful (round ∷ []) run last most total legal good c = carried_on s marks scales long lawful run round last most total legal.0 legal.1.0 good.0 good.1 c
-carried_along s marks scales long lawful (round ∷ next ∷ rounds) run last most total legal good c =
-    carried_along s marks scales long lawful (next ∷ rounds) (after_round s run round) last most total legal.1 good.2 (carried_on s marks scales long lawful run round next most total legal.0 legal.1.0 good.0 good.1 c)

@@ -1,24 +1,8 @@
 -- A legal round, seen by one client: if its blocks stay calm its turn is fair, leaves it on its way, and brings it on.
 use Rattle.std.proofs.Common.{◌≡◌, ℕ, suc, ◌+◌, ◌^◌, ◌≤◌, ◌<◌, Bool, true, false, MatchBool, List, [], ◌∷◌, ◌++◌, length, fold, refl, sym, ap, ◌∙◌, subst, arith, true≢false}
-use Rattle.af_base.specs.declared.event.ClientEvent.{ClientEvent}
+use Rattle.af_enough_law.proofs.Common.{AreCalls, AreSpelled, BlockTold, Client, ClientEvent, HasBlockHistory, IsSpelled, LegalRound, Marks, Mode, Op, RoundSeen, Run, ServerEvent, Session, Shape, TrackTold, Want, after_call, after_round, all_played, begins_ended, begun, calls_in, client_list, hand_list, is_tame, met_after, server_list, shapes_called, sides_of, spelled_turn, stream_met, takes_part, told_at, track_count}
 use Rattle.af_base.specs.declared.event.ClientEvent.TheVariants as client
-use Rattle.af_base.specs.declared.event.ServerEvent.{ServerEvent}
-use Rattle.af_judge.proofs.Basics.{begins_ended}
 use Rattle.af_model.specs.ClientCalls as list
-use Rattle.af_model.specs.Journals.{RoundSeen}
-use Rattle.af_script.specs.declared.op.Op.{Op}
-use Rattle.af_runs.specs.Blocks.{BlockTold, Marks, client_list, server_list, hand_list, is_tame, HasBlockHistory}
-use Rattle.af_runs.specs.Clients.{Client, begun}
-use Rattle.af_runs.specs.ClientTurns.{AreCalls, after_call, after_calls}
-use Rattle.af_runs.specs.declared.want.Mode.{Mode}
-use Rattle.af_runs.specs.declared.want.Want.{Want}
-use Rattle.af_runs.specs.Rounds.{LegalRound, met_after, after_round, all_played}
-use Rattle.af_runs.specs.Runs.{Run, TrackTold, told_at, sides_of, calls_in, stream_met, takes_part}
-use Rattle.af_runs.specs.Sessions.{Session, track_count}
-use Rattle.af_model.specs.declared.shape.Shape.{Shape}
-use Rattle.af_judge.specs.Tracks.{AreSpelled, IsSpelled}
-use Rattle.af_judge.proofs.TracksTold.{shapes_called}
-use Rattle.af_judge.proofs.Spelled.{spelled_turn}
 use Rattle.af_enough_law.specs.Seen.{are_calm, are_hands_calm, frames_put, frames_taken}
 use Rattle.af_enough_law.specs.Playing.{AreFair, AllSeeFrom}
 use Rattle.af_enough_law.proofs.Advancing.{IsBlock, Progress, at_end, progress, rank}
@@ -28,7 +12,7 @@ use Rattle.af_enough_law.proofs.Pokeless.{IsPokelessTrack}
 use Rattle.af_enough_law.proofs.RunLists.{side_lists, command_lists, command_history}
 use Rattle.af_enough_law.proofs.RunTame.{played_client_list, round_pokeless}
 use Rattle.af_enough_law.proofs.RunTracks.{played_track, round_blocks, met_track}
-use Rattle.af_enough_law.proofs.Turning.{Left, Stands, turn_stands}
+use Rattle.af_enough_law.proofs.Turning.{Left}
 
 -- in a meeting in which the server takes part the client learns how much it did
 tail_met : (there hands : Bool) (b : BlockTold) → there ≡ true → client_list (stream_met there hands b) ≡ client_list b ++ client.Learn (length (server_list b)) ∷ []
@@ -136,11 +120,6 @@ module _ (cut : Bool) (s : Session) (marks : Marks) (run : Run) (round : RoundSe
       64 (sides_of t) calls due ops m most total (client.Learn learnt_stream ∷ []) (client.Learn learnt_commands ∷ []) is left
       (record { stream_shape = refl; commands_shape = refl; words = calm.words; knows_stream = calm.knew_stream; knows_commands = calm.knew_commands }) made stream_list commands_list in
       (turn.0, turn.1, made)
-
-  -- The client after its turn is on its way, with no more to do than before, or gone once all was sent
-  pub stays_on : (due : List Want) (ops : List Op) (m : Mode) (most total : ℕ) → begun (told_at run i).client ≡ at due ops m → Left (sides_of (told_at run i)) due ops m most total
-      → Stands (after_calls (sides_of (told_at run i)) (calls_in round i)) most total
-  stays_on due ops m most total is left = let fair = fair_round due ops m most total is left in turn_stands (sides_of (told_at run i)) (calls_in round i) due ops m most total is left fair.2 fair.0
 
   -- Among its gains and writes the client did an op, or has put up to all that the block holds past what was known to be taken
   pub comes_on : (due : List Want) (ops : List Op) (m : Mode) (most total : ℕ) → IsBlock (sides_of (told_at run i)) → total < (told_at run i).stream.shape.base + frames_taken known_stream + 2 ^ 32 → begun (told_at run i).client ≡ at due ops m

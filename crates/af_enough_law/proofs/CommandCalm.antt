@@ -1,37 +1,10 @@
 -- A legal round leaves the server of a command block calm, if no look finds it shut and the stream isn't heard to be.
 use Rattle.std.proofs.Common.{◌≡◌, ℕ, ◌+◌, ◌*◌, ◌%◌, ◌<◌, ◌==◌, ◌&&◌, ◌||◌, not, if◌then◌else◌, Bool, true, false, true≢false, Option, Some, None, MatchBool, is_some, List, [], ◌∷◌, ◌++◌, length, refl, sym, ap, ◌∙◌, arith}
-use Rattle.af_base.proofs.Basics.{both_true}
-use Rattle.af_base.specs.declared.event.ServerEvent.{ServerEvent}
+use Rattle.af_enough_law.proofs.Common.{Absent, Active, CommandLook, Flushed, Heard, Idle, IsServed, Learnt, Listed, Marks, NormalKept, Outside, Paused, Pausing, Resuming, RoundSeen, Run, Seen, ServerEvent, Session, Setup, Stopped, Stopping1, Stopping2, TrackKept, TrackSeen, Turn, acked_len, after_ack, after_report, all_command_events, both_true, command_events, command_events_of, command_list, did, drops_none, drops_of, found_in, heard, invalid, is_found_shut, kept, learnt, look_events, met_after, not_yet, nothing_seen, outside_of, ready, server_list, setup_of, shows_command, state_in, status_due, status_events, status_word, stored_over, takes_command, told_at, track_at, track_in, tracks_at}
 use Rattle.af_base.specs.declared.event.ServerEvent.TheVariants as server
-use Rattle.af_base.specs.declared.seen.Seen.{Seen}
 use Rattle.af_base.specs.declared.seen.Seen.TheVariants as seen
-use Rattle.af_base.specs.declared.turn.CommandLook.{CommandLook}
-use Rattle.af_base.specs.Turn.{Turn, TrackSeen}
-use Rattle.af_life.specs.declared.kept.Heard.{Heard}
-use Rattle.af_life.specs.declared.kept.TrackKept.{TrackKept}
 use Rattle.af_life.specs.declared.state.LifeState.{LifeState}
-use Rattle.af_life.specs.declared.state.LifeState.TheVariants.{Absent, Idle, Active, Pausing, Paused, Resuming, Stopping1, Stopping2, Stopped, Flushed}
-use Rattle.af_life.specs.Edits.{after_ack}
-use Rattle.af_life.specs.Heard.{learnt, heard, ready}
-use Rattle.af_life.specs.Kept.{Setup, NormalKept, Outside, Learnt, track_at, track_in, nothing_seen}
-use Rattle.af_life.specs.Looks.{takes_command, command_events, did, all_command_events}
-use Rattle.af_life.specs.Obeys.{shows_command}
-use Rattle.af_life.specs.Serves.{status_word, is_found_shut, stored_over, status_due, after_report, IsServed}
 use Rattle.af_life.specs.State.{code_of}
-use Rattle.af_life.specs.TurnEvents.{tracks_at, invalid, status_events, command_events_of, command_list}
-use Rattle.af_life.proofs.Lives.{acked_len, not_yet}
-use Rattle.af_model.proofs.Basics.{both_first}
-use Rattle.af_model.specs.Cycles.{Listed, kept}
-use Rattle.af_model.specs.Fates.{keeps_all, drops_none}
-use Rattle.af_model.specs.Journals.{RoundSeen}
-use Rattle.af_model.specs.ServerCalls.{look_events, drops_of}
-use Rattle.af_model.proofs.Logic.{both_right}
-use Rattle.af_runs.specs.Blocks.{Marks, server_list}
-use Rattle.af_runs.specs.Clients.{state_in}
-use Rattle.af_runs.specs.Found.{outside_of}
-use Rattle.af_runs.specs.Rounds.{found_in, met_after}
-use Rattle.af_runs.specs.Runs.{Run, told_at}
-use Rattle.af_runs.specs.Sessions.{Session, setup_of}
 use Rattle.af_enough_law.specs.Courses.{none_shut}
 use Rattle.af_enough_law.specs.NormalRounds.{TurnMade}
 use Rattle.af_enough_law.specs.Seen.{are_calm}
@@ -41,12 +14,9 @@ use Rattle.af_enough_law.proofs.Following.{greeted_in, legal_greeted}
 use Rattle.af_enough_law.proofs.RoundCalm.{none_any}
 use Rattle.af_enough_law.proofs.Served.{greeted_at, track_turned}
 use Rattle.af_enough_law.proofs.StreamCalm.{calm_join}
+use Rattle.af_enough_law.proofs.SeenBlocks.{drops_split}
 
 -- ## Looks
-
-drops_split : (xs ys : List ServerEvent) → drops_none (xs ++ ys) ≡ true → (drops_none xs ≡ true) × (drops_none ys ≡ true)
-drops_split [] ys h = (refl, h)
-drops_split (x ∷ xs) ys h = let rest = drops_split xs ys (both_right (keeps_all x) (drops_none (xs ++ ys)) h) in (both_true (keeps_all x) (drops_none xs) (both_first (keeps_all x) (drops_none (xs ++ ys)) h) rest.0, rest.1)
 
 -- events that are calm if they drop nothing
 abbrev CalmUndropped : List ServerEvent → Type 0
@@ -56,11 +26,8 @@ undropped_both : (xs ys : List ServerEvent) → CalmUndropped xs → CalmUndropp
 undropped_both xs ys a b h = let parts = drops_split xs ys h in calm_join xs ys (a parts.0) (b parts.1)
 
 undropped_drops : (answer : Seen) (front : ℕ) → CalmUndropped (drops_of answer front)
-undropped_drops seen.Absent front h = refl
-undropped_drops (seen.Frames count) front h = refl
-undropped_drops seen.Empty front h = refl
 undropped_drops (seen.Flushed dropped) front h = absurd (true≢false (sym h))
-undropped_drops (seen.Shut f r) front h = refl
+undropped_drops _ front h = refl
 
 undropped_if : (b : Bool) (xs : List ServerEvent) → CalmUndropped xs → CalmUndropped (if b then [] else xs)
 undropped_if true xs a h = refl

@@ -1,26 +1,12 @@
 -- What the looks of a turn take of a command block.
 use Rattle.std.proofs.Common.{◌≡◌, ℕ, zero, suc, ◌+◌, ◌-◌, ◌≤◌, ◌==◌, ◌&&◌, not, nat_lt, min, if◌then◌else◌, is_some, Bool, true, false, true≢false, Option, Some, None, List, [], ◌∷◌, ◌++◌, length, take, fold, MatchOption, refl, sym, ap, ◌∙◌, subst, arith, append_assoc, append-nil, eqb-true, eq-eqb}
-use Rattle.std.proofs.lemmas.Grind.{fold-append}
-use Rattle.af_base.proofs.Basics.{either_none, is_not_below}
-use Rattle.af_base.specs.declared.event.ClientEvent.{ClientEvent}
-use Rattle.af_base.specs.declared.event.ServerEvent.{ServerEvent}
+use Rattle.af_enough_law.proofs.Common.{ClientEvent, CommandLook, LegalLooks, Listed, LooksBy, Seen, ServerEvent, ServerKept, Shape, ahead, ahead-between, all_command_events, as_slot, command_events, did, drops_none, drops_of, either_none, fold-append, is_not_below, is_noticed, is_shut, kept, look_at, look_events, outside, server_begins, server_keeps, server_kept, shows_command, takes_command, words_taken, wrapped}
 use Rattle.af_base.specs.declared.event.ServerEvent.TheVariants as server
-use Rattle.af_base.specs.declared.seen.Seen.{Seen}
 use Rattle.af_base.specs.declared.seen.Seen.TheVariants as seen
-use Rattle.af_base.specs.declared.turn.CommandLook.{CommandLook}
 use Rattle.af_enough_law.proofs.Basics.{old_word, put-append, taken-append}
-use Rattle.af_life.specs.Looks.{as_slot, command_events, takes_command, did, all_command_events, LegalLooks, words_taken}
-use Rattle.af_life.specs.Obeys.{shows_command, is_shut}
-use Rattle.af_model.specs.declared.shape.Shape.{Shape}
-use Rattle.af_model.specs.Cycles.{Listed, LooksBy, kept}
-use Rattle.af_model.specs.Fates.{drops_none}
-use Rattle.af_model.specs.Point.{wrapped}
-use Rattle.af_model.specs.Room.{ahead, outside}
-use Rattle.af_model.specs.ServerCalls.{ServerKept, is_noticed, server_keeps, server_begins, server_kept, look_at, look_events, drops_of}
-use Rattle.af_model.proofs.Logic.{ahead-between}
 use Rattle.af_enough_law.specs.Courses.{none_shut, is_ended}
 use Rattle.af_enough_law.specs.Seen.{Stands, frames_put, frames_taken}
-use Rattle.af_enough_law.proofs.FastShows.{Setting, setting_moment, Words, none-append, stands-more, put-front}
+use Rattle.af_enough_law.proofs.FastShows.{Setting, setting_moment, Words, none-append, stands-more, put-front, open_words}
 
 -- ## The words of a look
 
@@ -107,11 +93,6 @@ pub record LookTaken (k : Shape) (cs : List ClientEvent) (before : List ServerEv
 
 abbrev three : CommandLook → ℕ → List ServerEvent
 three look front = server.SawFlush look.flush ∷ server.SawRear look.rear ∷ server.SawFront front ∷ []
-
-open_words : (frames c r : ℕ) → frames ≤ 65536 → c ≤ r → r ≤ c + frames → outside frames (wrapped c) (wrapped r) ≡ None
-open_words frames c r few low high =
-    let e : ahead (wrapped c) (wrapped r) ≡ r - c = ahead-between c r low (omega arith) in
-    ap (λ (b : Bool). if b then Some (wrapped c, wrapped r) else None) (is_not_below frames (ahead (wrapped c) (wrapped r)) (omega arith))
 
 -- a server after the words of a look, and a take
 after_shut : (k : Shape) (before : List ServerEvent) (look : CommandLook) (front c r : ℕ) (takes : List ServerEvent) → ((s : ServerKept) → s.shut ≡ None → (fold (server_keeps k) s takes).shut ≡ None) → k.frames ≤ 65536 → front ≡ wrapped c → look.rear ≡ wrapped r → c ≤ r → r ≤ c + k.frames

@@ -1,46 +1,22 @@
 -- What a round does to a command block.
 use Rattle.std.proofs.Common.{◌+◌, ◌≤◌, ◌≡◌, ℕ, ◌<◌, Option, Some, None, List, [], ◌∷◌, ◌++◌, length, take, drop, refl, sym, ap, ◌∙◌, subst, arith, append_assoc, append-nil, length-append, if◌then◌else◌, fold, Bool, true, false}
-use Rattle.std.proofs.Math.Seq.{take-append_seam}
+use Rattle.af_enough_law.proofs.Common.{BlockTold, ClientEvent, CommandLook, EntrySeen, IsClientList, LegalLooks, LegalRound, Listed, Marks, Outside, RoundSeen, Run, ServerEvent, ServerKept, Session, Shape, Side, TrackTold, Turn, TurnFound, after_calls, after_turn, all_command_events, all_played, before_turn, called, calls_in, client_list, command_events_of, command_list, commands_turned, cycle_frames, drops_none, each_at, early_of, flushes_of, fold-append, found_in, front_of, fronts_by, hand_list, invalid, is_tame, kept, late_of, lawful_front, learnt, listed, meets, met, met_after, outside_of, played, server_begins, server_keeps, server_kept, server_list, setup_of, sides_of, slot_for, state_for, status_events, take-append_seam, taken_begins, told_at, told_each, track_count, track_in, track_met, tracks_at, turned, turned_track, with_calls, with_cycle, with_cycles, with_poll, with_side, with_turn, words_taken}
 use Rattle.af_enough_law.proofs.Basics.{before_normal, put-append, taken-append}
-use Rattle.af_judge.proofs.Basics.{each_at, told_each}
-use Rattle.af_life.specs.Looks.{all_command_events, LegalLooks}
-use Rattle.af_model.specs.ServerCalls.{ServerKept, server_keeps, server_begins, server_kept}
-use Rattle.af_life.specs.Looks.{words_taken}
-use Rattle.af_model.proofs.Fates.{taken_begins}
-use Rattle.af_runs.specs.Fronts.{front_of, lawful_front, fronts_by}
 use Rattle.af_enough_law.proofs.CommandLooks.{server_of, LooksTaken}
 use Rattle.af_enough_law.proofs.CommandTurns.{looks_take, taken_all}
-use Rattle.af_model.specs.Cycles.{Listed, kept}
-use Rattle.af_model.specs.Fates.{drops_none}
-use Rattle.af_model.specs.History.{flushes_of}
-use Rattle.af_model.specs.ClientCalls.{IsClientList}
-use Rattle.af_model.specs.declared.shape.Shape.{Shape}
-use Rattle.std.proofs.lemmas.Grind.{fold-append}
-use Rattle.af_base.specs.declared.turn.CommandLook.{CommandLook}
-use Rattle.af_base.specs.declared.event.ClientEvent.{ClientEvent}
 use Rattle.af_base.specs.declared.event.ClientEvent.TheVariants as client
-use Rattle.af_base.specs.declared.event.ServerEvent.{ServerEvent}
 use Rattle.af_base.specs.declared.event.ServerEvent.TheVariants as server
-use Rattle.af_base.specs.Turn.{Turn}
-use Rattle.af_life.specs.Heard.{learnt}
-use Rattle.af_life.specs.Kept.{Outside, track_in}
-use Rattle.af_life.specs.TurnEvents.{tracks_at, command_list, invalid, status_events, command_events_of}
-use Rattle.af_model.specs.Journals.{EntrySeen, RoundSeen}
-use Rattle.af_runs.specs.Blocks.{hand_list, BlockTold, Marks, client_list, server_list, client_does, meets, listed, is_tame}
-use Rattle.af_runs.specs.ClientTurns.{Side, after_calls}
-use Rattle.af_runs.specs.Found.{TurnFound, outside_of}
-use Rattle.af_runs.specs.Rounds.{early_of, late_of, before_turn, found_in, turned, after_turn, all_played, met_after, LegalRound}
-use Rattle.af_runs.specs.Runs.{Run, TrackTold, told_at, slot_for, state_for, sides_of, with_side, called, calls_in, with_calls, with_poll, with_cycle, with_cycles, turned_track, commands_turned, with_turn, track_met, met, played}
-use Rattle.af_runs.specs.Sessions.{Session, setup_of, cycle_frames, track_count}
 use Rattle.af_enough_law.specs.CommandRounds.{CommandsTold, CommandsTaken}
 use Rattle.af_enough_law.specs.Courses.{none_shut}
 use Rattle.af_enough_law.specs.FastFlows.{KnowsReleased, IsOpen}
 use Rattle.af_enough_law.specs.NormalRounds.{TurnMade}
 use Rattle.af_enough_law.specs.Seen.{frames_put, frames_taken}
 use Rattle.af_enough_law.proofs.FastFlows.{Later}
-use Rattle.af_enough_law.proofs.FastRounds.{calls_length, cycles_length, turned_length, loaded_told, loaded_tracks}
+use Rattle.af_enough_law.proofs.FastRounds.{cycles_length, turned_length, loaded_told, loaded_tracks}
+use Rattle.af_enough_law.proofs.RunTracks.{calls_long as calls_length}
 use Rattle.af_enough_law.proofs.FastShows.{Setting, none-append}
 use Rattle.af_enough_law.proofs.FastSteps.{server_does-server, server_does-client, client_does-client, client_does-server, cycle_length, cycle_track}
+use Rattle.af_enough_law.proofs.FastKnows.{meets_server, meets_client}
 
 abbrev commands_of : Run → ℕ → BlockTold
 commands_of run i = (told_at run i).commands
@@ -75,16 +51,6 @@ turn_commands s f e run i low = ap (λ (t : TrackTold). t.commands) (each_at (tu
 met_commands : (s : Session) (run : Run) (i : ℕ) → i < length run.tracks → commands_of (met s run) i ≡ meets (commands_of run i)
 unfolding met
 met_commands s run i low = ap (λ (t : TrackTold). t.commands) (told_each (track_met s run) run i low)
-
-meets_server : (b : BlockTold) → server_list (meets b) ≡ server_list b ++ server.Learn (length (client_list b)) ∷ []
-meets_server b =
-    let called : BlockTold = client_does (client.Learn (length (server_list b)) ∷ []) b in
-    server_does-server (server.Learn (length (client_list b)) ∷ []) called ∙ ap (λ l. l ++ server.Learn (length (client_list b)) ∷ []) (client_does-server (client.Learn (length (server_list b)) ∷ []) b)
-
-meets_client : (b : BlockTold) → client_list (meets b) ≡ client_list b ++ client.Learn (length (server_list b)) ∷ []
-meets_client b =
-    let called : BlockTold = client_does (client.Learn (length (server_list b)) ∷ []) b in
-    server_does-client (server.Learn (length (client_list b)) ∷ []) called ∙ client_does-client (client.Learn (length (server_list b)) ∷ []) b
 
 meets_knows : (b : BlockTold) → KnowsReleased (meets b)
 meets_knows b = let cs : List ClientEvent = client_list b in let m : ℕ = length (server_list b) in record {

@@ -1,18 +1,7 @@
 -- What a turn takes of a command block, as a run tells it.
 use Rattle.std.proofs.Common.{◌≡◌, ℕ, ◌+◌, ◌≤◌, ◌&&◌, if◌then◌else◌, Bool, true, false, true≢false, None, List, [], ◌∷◌, ◌++◌, length, take, fold, refl, sym, ap, ◌∙◌, subst, arith, append_assoc}
-use Rattle.std.proofs.lemmas.List.{take-append-le}
-use Rattle.af_base.specs.declared.event.ClientEvent.{ClientEvent}
-use Rattle.af_base.specs.declared.event.ServerEvent.{ServerEvent}
+use Rattle.af_enough_law.proofs.Common.{ClientEvent, CommandLook, HasWords, LegalLooks, Listed, LooksBy, ServerEvent, ServerKept, Shape, all_command_events, as_slot, command_events, did, drops_none, drops_of, front_by_answer, front_of, fronts_by, is_own_inside, kept, lawful_front, leaves_open, own_front, server_begins, server_keeps, server_kept, take-append-le, takes_command, wrapped}
 use Rattle.af_base.specs.declared.event.ServerEvent.TheVariants as server
-use Rattle.af_base.specs.declared.turn.CommandLook.{CommandLook}
-use Rattle.af_life.specs.Looks.{as_slot, command_events, takes_command, did, all_command_events, HasWords, LegalLooks}
-use Rattle.af_model.specs.declared.shape.Shape.{Shape}
-use Rattle.af_model.specs.Cycles.{Listed, LooksBy, kept}
-use Rattle.af_model.specs.Fates.{drops_none}
-use Rattle.af_model.specs.Point.{wrapped}
-use Rattle.af_model.specs.ServerCalls.{ServerKept, server_keeps, server_begins, server_kept, drops_of}
-use Rattle.af_model.specs.Spelled.{own_front}
-use Rattle.af_runs.specs.Fronts.{leaves_open, front_by_answer, is_own_inside, lawful_front, front_of, fronts_by}
 use Rattle.af_enough_law.specs.Courses.{is_ended}
 use Rattle.af_enough_law.specs.Seen.{Stands, frames_put, frames_taken}
 use Rattle.af_enough_law.proofs.CommandLooks.{server_of, words_at, one_look, all_looks, LooksTaken, events_open}

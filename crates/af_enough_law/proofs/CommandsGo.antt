@@ -1,35 +1,19 @@
 -- A legal round leaves a command block calm, and takes the next words that the client sent, whether or not the proxy of the track's stream takes part in the meeting.
 use Rattle.std.proofs.Common.{◌≡◌, inr, ℕ, ◌≤◌, ◌<◌, Bool, true, false, List, [], ◌∷◌, ◌++◌, length, take, fold, sym, ap, ◌∙◌, subst, arith, append_assoc}
-use Rattle.af_base.specs.declared.event.ClientCall.{ClientCall}
-use Rattle.af_base.specs.declared.event.ClientEvent.{ClientEvent}
+use Rattle.af_enough_law.proofs.Common.{AreSpelled, BlockTold, ClientEvent, IsSpelled, LegalRound, Marks, RoundSeen, Run, ServerEvent, Session, Shape, TrackTold, after_call, after_round, all_played, calls_in, client_list, flushes_of, hand_list, heard, is_tame, learnt, met_after, server_list, shapes_called, sides_of, spelled_turn, stream_met, takes_part, told_at, track_count, track_in, words_taken}
 use Rattle.af_base.specs.declared.event.ClientEvent.TheVariants as client
-use Rattle.af_base.specs.declared.event.ServerEvent.{ServerEvent}
 use Rattle.af_base.specs.declared.event.ServerEvent.TheVariants as server
 use Rattle.af_enough_law.proofs.Basics.{put-append}
-use Rattle.af_life.specs.Heard.{learnt, heard}
-use Rattle.af_life.specs.Kept.{track_in}
-use Rattle.af_life.specs.Looks.{words_taken}
-use Rattle.af_model.specs.declared.shape.Shape.{Shape}
 use Rattle.af_model.specs.ClientCalls as list
-use Rattle.af_model.specs.History.{flushes_of}
-use Rattle.af_model.specs.Journals.{RoundSeen}
-use Rattle.af_runs.specs.Blocks.{BlockTold, Marks, client_list, server_list, hand_list, is_tame}
-use Rattle.af_runs.specs.ClientTurns.{Track, after_call}
-use Rattle.af_runs.specs.Rounds.{LegalRound, all_played, met_after, after_round}
-use Rattle.af_runs.specs.Runs.{Run, TrackTold, told_at, sides_of, calls_in, stream_met, takes_part}
-use Rattle.af_runs.specs.Sessions.{Session, track_count}
-use Rattle.af_judge.specs.Tracks.{AreSpelled, IsSpelled}
-use Rattle.af_judge.proofs.TracksTold.{shapes_called}
-use Rattle.af_judge.proofs.Spelled.{spelled_turn}
 use Rattle.af_enough_law.specs.Courses.{none_shut}
 use Rattle.af_enough_law.specs.FastFlows.{IsOpen}
 use Rattle.af_enough_law.specs.NormalRounds.{TurnMade}
 use Rattle.af_enough_law.specs.Playing.{AreFair}
 use Rattle.af_enough_law.specs.Seen.{are_calm, are_hands_calm, frames_put}
-use Rattle.af_enough_law.proofs.CalmTracks.{CalmTrack, round_released}
+use Rattle.af_enough_law.proofs.CalmTracks.{CalmTrack, round_released, words_fold, command_list_of as added_commands}
 use Rattle.af_enough_law.proofs.CommandCalm.{commands_calm}
 use Rattle.af_enough_law.proofs.CommandRounds.{commands_told, commands_open, words_follow, words_begin}
-use Rattle.af_enough_law.proofs.FairTurns.{IsKnown, stream_grows, words_counted}
+use Rattle.af_enough_law.proofs.FairTurns.{IsKnown, stream_grows}
 use Rattle.af_enough_law.proofs.Flushless.{IsFlushlessTrack, unflushed_none}
 use Rattle.af_enough_law.proofs.Following.{greeted_in}
 use Rattle.af_enough_law.proofs.Pokeless.{IsPokelessTrack}
@@ -107,14 +91,6 @@ may_learn s run round i low =
 spelled_any : (k : Shape) (said after : List ClientEvent) → MayLearn said after → IsSpelled k said → IsSpelled k after
 spelled_any k said _ still h = h
 spelled_any k said _ (learns n) h = list.meets said n h
-
-words_fold : (t : Track) (calls : List ClientCall) → AreFair calls → frames_put t.commands.events ≡ length t.commands.released → frames_put (fold after_call t calls).commands.events ≡ length (fold after_call t calls).commands.released
-words_fold t [] fair is = is
-words_fold t (answer ∷ calls) fair is = words_fold (after_call t answer) calls fair.1 (words_counted t answer fair.0 is)
-
--- what a round adds to the list of a command block's server
-added_commands : (s : Session) (marks : Marks) (run : Run) (round : RoundSeen) (t : TurnMade s marks run round) (i : ℕ) → i < length run.tracks → (more : List ServerEvent) × (server_list (told_at (met_after s run round) i).commands ≡ server_list (told_at run i).commands ++ more)
-added_commands s marks run round t i low = let told = commands_told s marks run round t i low in (_, told.server)
 
 -- ## What is spelled after a round
 

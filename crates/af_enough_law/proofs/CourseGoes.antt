@@ -1,21 +1,6 @@
 -- A legal round leaves a track on the course that its client sends, whether its life has ended or not.
 use Rattle.std.proofs.Common.{◌≡◌, ◌⊎◌, inl, inr, ℕ, zero, suc, ◌+◌, ◌≤◌, ◌<◌, Bool, true, false, List, ◌++◌, length, take, refl, sym, ap, ◌∙◌, subst, arith}
-use Rattle.af_base.specs.declared.event.ServerEvent.{ServerEvent}
-use Rattle.af_base.specs.Turn.{Turn, TrackSeen}
-use Rattle.af_life.specs.declared.kept.Heard.{Heard}
-use Rattle.af_life.specs.declared.kept.TrackKept.{TrackKept}
-use Rattle.af_life.specs.declared.track.Life.{Life}
-use Rattle.af_life.specs.Heard.{learnt, heard, ready}
-use Rattle.af_life.specs.Kept.{Setup, NormalKept, Outside, Learnt, track_at, track_in, nothing_seen}
-use Rattle.af_life.specs.Looks.{words_taken}
-use Rattle.af_life.specs.Reports.{by_report}
-use Rattle.af_life.specs.Serves.{IsServed, after_part}
-use Rattle.af_life.specs.Turn.{GoesOn, turn_after}
-use Rattle.af_model.specs.Journals.{RoundSeen}
-use Rattle.af_runs.specs.Blocks.{BlockTold, Marks, server_list}
-use Rattle.af_runs.specs.Rounds.{LegalRound, after_round}
-use Rattle.af_runs.specs.Runs.{Run, told_at, sides_of}
-use Rattle.af_runs.specs.Sessions.{Session, setup_of}
+use Rattle.af_enough_law.proofs.Common.{BlockTold, GoesOn, Heard, IsServed, Learnt, LegalRound, Life, Marks, NormalKept, Outside, RoundSeen, Run, ServerEvent, Session, Setup, TrackKept, TrackSeen, Turn, after_part, after_round, by_report, heard, learnt, nothing_seen, ready, server_list, setup_of, sides_of, told_at, track_at, track_in, turn_after, words_taken}
 use Rattle.af_enough_law.specs.Courses.{none_shut, course, Course, Follows, told_words, life_after}
 use Rattle.af_enough_law.specs.NormalRounds.{TurnMade}
 use Rattle.af_enough_law.specs.Seen.{last_status}

@@ -1,10 +1,7 @@
 -- The words that a client sent are those of a course.
 use Rattle.std.proofs.Common.{◌≡◌, ℕ, zero, suc, ◌+◌, ◌-◌, ◌*◌, ◌≤◌, ◌==◌, if◌then◌else◌, ◌||◌, Bool, true, false, List, [], ◌∷◌, ◌++◌, length, length-append, get_or, take, refl, sym, ap, ◌∙◌, arith, eqb-true}
-use Rattle.std.proofs.Math.Seq.{take-append_seam}
-use Rattle.af_base.proofs.Basics.{take_most}
+use Rattle.af_enough_law.proofs.Common.{both_first, both_right, take-append_seam, take_most}
 use Rattle.af_enough_law.proofs.Basics.{course_long}
-use Rattle.af_model.proofs.Basics.{both_first}
-use Rattle.af_model.proofs.Logic.{both_right}
 use Rattle.af_enough_law.specs.Courses.{code_at, argument_at, course}
 use Rattle.af_enough_law.proofs.Argued.{is_argued, all_argued}
 use Rattle.af_enough_law.proofs.Doing.{codes_of}

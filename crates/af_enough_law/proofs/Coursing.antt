@@ -1,14 +1,6 @@
 -- How a track that plays through lives.
 use Rattle.std.proofs.Common.{◌≡◌, ℕ, zero, suc, ◌+◌, ◌-◌, ◌<◌, ◌≤◌, ◌==◌, ◌&&◌, ◌||◌, not, nat_le, nat_lt, Bool, true, false, min, refl, sym, ap, ◌∙◌, subst, arith, true≢false, Option, if◌then◌else◌}
-use Rattle.af_base.proofs.Basics.{and_none, not_zero}
-use Rattle.af_life.specs.declared.kept.TrackKept.{TrackKept}
-use Rattle.af_life.specs.declared.state.LifeState.TheVariants.{Active, Stopping1, Stopping2}
-use Rattle.af_life.specs.declared.track.Known.{Known}
-use Rattle.af_life.specs.declared.track.Life.{Life}
-use Rattle.af_life.specs.Commands.{by_command, commands, first_effect}
-use Rattle.af_life.specs.Obeys.{opens}
-use Rattle.af_life.specs.Reports.{by_report, runs_dry, retries_after, told_by_report}
-use Rattle.af_life.specs.Kept.{plays}
+use Rattle.af_enough_law.proofs.Common.{Active, Known, Life, Stopping1, Stopping2, TrackKept, and_none, by_command, by_report, commands, first_effect, not_zero, opens, plays, retries_after, runs_dry}
 use Rattle.af_life.specs.State.{code_of}
 use Rattle.af_enough_law.specs.Courses.{told_all, starts_at_once, code_at, argument_at, course, life_in, Course, absent, idle, playing, stopping, drained, stopped, over, stage, is_heard}
 
@@ -79,15 +71,6 @@ retries_back known retries seen =
     let o = one_less (granted known retries) (nat_lt 0 known.empties) in
     omega arith
 
--- no empty look takes none
-pub retries_same : (known : Known) (retries : ℕ) → known.empties ≡ 0 → retries ≤ 50 → retries ≤ retries_after known retries
-retries_same known retries none few = let e : nat_lt 0 known.empties ≡ false = search (arith, none) in by_seen (nat_lt 0 known.fulls || nat_lt 0 known.partials) (nat_lt 0 known.empties) e
-  where
-    by_seen : (b d : Bool) → d ≡ false → retries ≤ (if d then (if b then 50 else retries) - 1 else (if b then 50 else retries))
-    by_seen b true e = absurd (true≢false e)
-    by_seen true false e = few
-    by_seen false false e = omega arith
-
 -- a life runs dry only if none are left
 pub wet_while : (known : Known) (l : Life) → 1 ≤ retries_after known l.retries → runs_dry known l ≡ false
 unfolding runs_dry
@@ -143,30 +126,7 @@ playing_calm count known l wet (playing retries some few) = ap (λ (b : Bool). l
 pub playing_reported : (count : ℕ) (known : Known) (l : Life) → known.shut ≡ false → runs_dry known l ≡ false → Course count 2 l → by_report known l ≡ record l { retries = retries_after known l.retries }
 playing_reported count known l open_is wet c = calmly (λ (n : Known). runs_dry n l ≡ false → by_report n l ≡ record l { retries = retries_after n l.retries }) known open_is (λ w. playing_calm count known l w c) wet
 
--- no track that keeps retries is disabled
-quiet_calm : (count k : ℕ) (known : Known) (l : Life) → runs_dry (calm known) l ≡ false → Course count k l → told_by_report (calm known) l ≡ false
-unfolding told_by_report runs_dry
-quiet_calm count k known l wet absent = refl
-quiet_calm count k known l wet idle = refl
-quiet_calm count k known l wet (playing retries some few) = wet
-quiet_calm count k known l wet (stopping retries) = by_stop (nat_le count known.consumed)
-  where
-    by_stop : (b : Bool) → (if b then false else false) ≡ false
-    by_stop true = refl
-    by_stop false = refl
-quiet_calm count k known l wet (drained retries) = refl
-quiet_calm count k known l wet (stopped retries) = refl
-quiet_calm count k known l wet (over life e) = subst (λ (b : Bool). told_by_report (calm known) (record l { ended = b }) ≡ false) (sym e) refl
-
-pub course_quiet : (count k : ℕ) (known : Known) (l : Life) → known.shut ≡ false → runs_dry known l ≡ false → Course count k l → told_by_report known l ≡ false
-course_quiet count k known l open_is wet c = calmly (λ (n : Known). runs_dry n l ≡ false → told_by_report n l ≡ false) known open_is (λ w. quiet_calm count k known l w c) wet
-
 -- ## The way to the stop
-
-pub stage_some : (count : ℕ) (l : Life) → Course count 3 l → (1 ≤ stage l) × (stage l ≤ 3)
-stage_some count l (stopping retries) = (omega arith, omega arith)
-stage_some count l (drained retries) = (omega arith, omega arith)
-stage_some count l (stopped retries) = (omega arith, omega arith)
 
 stage_stopping : (count retries consumed : ℕ) (b : Bool) → nat_le count consumed ≡ b → let t = if b then life_in Stopping2 true true retries count else life_in Stopping1 true false retries count in (1 ≤ stage t) × (count ≤ consumed → 2 ≤ stage t)
 stage_stopping count retries consumed true e = (omega arith, (λ h. omega arith))

@@ -1,83 +1,37 @@
 -- A client whose ops play through goes on to, by each fair answer.
 use Rattle.std.proofs.Common.{◌≡◌, ◌⊎◌, inl, inr, ℕ, zero, suc, ◌+◌, ◌-◌, ◌≤◌, ◌==◌, Bool, true, false, List, [], ◌∷◌, ◌++◌, map, refl, sym, ap, ◌∙◌, subst, arith, true≢false, if◌then◌else◌}
-use Rattle.af_base.proofs.Basics.{equal_is, no}
-use Rattle.af_base.specs.declared.event.ClientCall.{ClientCall}
+use Rattle.af_enough_law.proofs.Common.{AnswersOn, Client, ClientCall, IsMade, Mode, Op, Track, Want, after_answer, begun, both_first, both_right, equal_is, is_clear, is_send, is_status, is_write, more, no, side_of, state_in}
 use Rattle.af_base.specs.declared.event.ClientCall.TheVariants as call
-use Rattle.af_model.proofs.Basics.{both_first}
-use Rattle.af_script.specs.declared.op.Op.{Op}
 use Rattle.af_script.specs.declared.op.Op.TheVariants as op
 use Rattle.af_runs.specs.declared.want.ClientCommand.TheVariants as command
-use Rattle.af_runs.specs.declared.want.Mode.{Mode}
 use Rattle.af_runs.specs.declared.want.Mode.TheVariants as mode
-use Rattle.af_runs.specs.declared.want.Want.{Want}
 use Rattle.af_runs.specs.declared.want.Want.TheVariants as want
-use Rattle.af_runs.specs.Clients.{Client, begun, state_in, more, after_answer}
-use Rattle.af_runs.specs.ClientTurns.{Track, side_of, is_send, is_write, is_status, is_clear, AnswersOn, IsMade}
-use Rattle.af_model.proofs.Logic.{both_right}
 use Rattle.af_enough_law.specs.Playing.{IsWay, Doing, opening, starting, settling, setting, writing, clearing, clearing_more, stopping, draining, removing, due_ops, due_frames, way_ops, way_frames, IsFair}
 
 -- ## Which answers come
 
 -- a send that is answered fairly was sent
 pub sent_is : (code argument : ℕ) (answer : ClientCall) → is_send code argument answer ≡ true → IsFair answer → (front : ℕ) × (sent_code : ℕ) × (sent_argument : ℕ) × (answer ≡ call.Sent front sent_code sent_argument) × (sent_code ≡ code) × (sent_argument ≡ argument)
-sent_is code argument (call.Put front count) h fair = no h
-sent_is code argument (call.Full front) h fair = no h
-sent_is code argument (call.Dead flags) h fair = no h
-sent_is code argument (call.Corrupt front rear) h fair = no h
-sent_is code argument (call.Cleared flags) h fair = no h
-sent_is code argument (call.Flush count) h fair = no h
-sent_is code argument (call.Gain word) h fair = no h
 sent_is code argument (call.Sent front sent_code sent_argument) h fair = (front, sent_code, sent_argument, refl, equal_is sent_code code (both_first (sent_code == code) (sent_argument == argument) h), equal_is sent_argument argument (both_right (sent_code == code) (sent_argument == argument) h))
 sent_is code argument (call.SendFull front) h fair = absurd fair
 sent_is code argument (call.SendDead flags) h fair = absurd fair
 sent_is code argument (call.SendCorrupt front rear) h fair = absurd fair
-sent_is code argument (call.Status word) h fair = no h
-sent_is code argument (call.Poke in_command word value) h fair = no h
+sent_is code argument _ h fair = no h
 
 pub status_is : (answer : ClientCall) → is_status answer ≡ true → (word : ℕ) × (answer ≡ call.Status word)
-status_is (call.Put front count) h = no h
-status_is (call.Full front) h = no h
-status_is (call.Dead flags) h = no h
-status_is (call.Corrupt front rear) h = no h
-status_is (call.Cleared flags) h = no h
-status_is (call.Flush count) h = no h
-status_is (call.Gain word) h = no h
-status_is (call.Sent front code argument) h = no h
-status_is (call.SendFull front) h = no h
-status_is (call.SendDead flags) h = no h
-status_is (call.SendCorrupt front rear) h = no h
 status_is (call.Status word) h = (word, refl)
-status_is (call.Poke in_command word value) h = no h
+status_is _ h = no h
 
 pub write_is : (answer : ClientCall) → is_write answer ≡ true → IsFair answer → ((front : ℕ) × (count : ℕ) × (answer ≡ call.Put front count)) ⊎ ((front : ℕ) × (answer ≡ call.Full front))
 write_is (call.Put front count) h fair = inl (front, count, refl)
 write_is (call.Full front) h fair = inr (front, refl)
 write_is (call.Dead flags) h fair = absurd fair
 write_is (call.Corrupt front rear) h fair = absurd fair
-write_is (call.Cleared flags) h fair = no h
-write_is (call.Flush count) h fair = no h
-write_is (call.Gain word) h fair = no h
-write_is (call.Sent front code argument) h fair = no h
-write_is (call.SendFull front) h fair = no h
-write_is (call.SendDead flags) h fair = no h
-write_is (call.SendCorrupt front rear) h fair = no h
-write_is (call.Status word) h fair = no h
-write_is (call.Poke in_command word value) h fair = no h
+write_is _ h fair = no h
 
 pub clear_is : (answer : ClientCall) → is_clear answer ≡ true → (flags : ℕ) × (answer ≡ call.Cleared flags)
-clear_is (call.Put front count) h = no h
-clear_is (call.Full front) h = no h
-clear_is (call.Dead flags) h = no h
-clear_is (call.Corrupt front rear) h = no h
 clear_is (call.Cleared flags) h = (flags, refl)
-clear_is (call.Flush count) h = no h
-clear_is (call.Gain word) h = no h
-clear_is (call.Sent front code argument) h = no h
-clear_is (call.SendFull front) h = no h
-clear_is (call.SendDead flags) h = no h
-clear_is (call.SendCorrupt front rear) h = no h
-clear_is (call.Status word) h = no h
-clear_is (call.Poke in_command word value) h = no h
+clear_is _ h = no h
 
 -- ## The next op
 

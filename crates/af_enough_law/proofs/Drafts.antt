@@ -1,31 +1,6 @@
 -- What a turn makes of the holders, the draft and the pushes.
 use Rattle.std.proofs.Common.{◌≡◌, ◌⊎◌, inl, inr, ℕ, zero, suc, ◌+◌, ◌<◌, ◌==◌, ◌&&◌, ◌||◌, not, Bool, true, false, List, [], ◌∷◌, length, fold, refl, sym, ap, ◌∙◌, subst, arith, true≢false, Option, Some, None, is_some, if◌then◌else◌}
-use Rattle.std.specs.Prelude.{slice_set}
-use Rattle.std.specs.List.{list_any}
-use Rattle.af_base.proofs.Basics.{by_test, no}
-use Rattle.af_base.specs.Command.{code_of}
-use Rattle.af_base.specs.declared.state.Command.{Command}
-use Rattle.af_base.specs.declared.state.FastState.{FastState}
-use Rattle.af_base.specs.declared.state.Push.{Push}
-use Rattle.af_base.specs.declared.state.Push.TheVariants.{Pushed, Clean, Busy}
-use Rattle.af_base.specs.Turn.{Turn, TakeSeen}
-use Rattle.af_judge.proofs.Basics.{push_draft, push_tracks}
-use Rattle.af_life.specs.declared.kept.Heard.{Heard}
-use Rattle.af_life.specs.declared.kept.Holder.{Holder}
-use Rattle.af_life.specs.declared.kept.Holder.TheVariants.{Home, Lent, Returning}
-use Rattle.af_life.specs.declared.kept.TrackKept.{TrackKept}
-use Rattle.af_life.specs.Edits.{after_ack, is_exit, must_leave, must_enter, let_go, lend, edited, edited_to, next_command, ordered, mutated, after_push, LegalPush, is_over}
-use Rattle.af_life.specs.Heard.{learnt, heard, ready, noted, slot_reported, is_reported, counts_in, settled_at, is_reached}
-use Rattle.af_life.specs.Obeys.{shows_command, is_shut, ended, must_wait, told, obeyed, after_look, goes_on, after_looks}
-use Rattle.af_life.specs.Serves.{after_part}
-use Rattle.af_base.specs.declared.turn.CommandLook.{CommandLook}
-use Rattle.af_base.specs.declared.report.SlotReport.{SlotReport}
-use Rattle.af_life.specs.declared.track.Life.{Life}
-use Rattle.af_base.specs.declared.state.Command.TheVariants.{ColdIdle, Exit, MixWrite}
-use Rattle.af_model.specs.Draft.{commanded as with_command}
-use Rattle.af_life.specs.Kept.{Setup, asked as buffer, pipe_size, NormalKept, Outside, Learnt, track_at, track_in, plays, is_home, is_lent, no_counts}
-use Rattle.af_life.specs.Plays.{after_take, after_takes, counted}
-use Rattle.af_life.specs.Turn.{after_tracks, after_edits, turn_after, GoesOn}
+use Rattle.af_enough_law.proofs.Common.{Busy, Clean, ColdIdle, Command, CommandLook, Exit, FastState, GoesOn, Heard, Holder, Home, Learnt, LegalPush, Lent, Life, MixWrite, NormalKept, Outside, Push, Pushed, Returning, Setup, SlotReport, TakeSeen, TrackKept, Turn, after_ack, after_edits, after_look, after_looks, after_part, after_push, after_take, after_takes, after_tracks, asked as buffer, by_test, code_of, commanded as with_command, counted, counts_in, edited, edited_to, ended, goes_on, heard, is_exit, is_home, is_lent, is_over, is_reached, is_reported, is_shut, learnt, lend, let_go, list_any, must_enter, must_leave, must_wait, mutated, next_command, no, no_counts, noted, obeyed, ordered, pipe_size, plays, push_draft, push_tracks, ready, settled_at, shows_command, slice_set, slot_reported, told, track_at, track_in, turn_after}
 use Rattle.af_enough_law.specs.TrackTurns.{attended, Edited, stays, leaves, enters, TrackTurned}
 use Rattle.af_enough_law.specs.Drafts.{next_holder, IsLatest, PushMade}
 use Rattle.af_enough_law.proofs.Served.{track_turned, ordered_tracks}

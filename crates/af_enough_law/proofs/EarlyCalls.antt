@@ -1,20 +1,13 @@
 -- A client sends its third command only after it has seen a status that says that two are settled, whatever it is answered.
 use Rattle.std.proofs.Common.{◌≡◌, ◌⊎◌, inl, inr, ℕ, zero, suc, ◌*◌, ◌-◌, ◌/◌, ◌≤◌, ◌==◌, ◌&&◌, ◌||◌, nat_le, not, if◌then◌else◌, Bool, true, false, MatchBool, Some, None, List, [], ◌∷◌, ◌++◌, length, take, fold, refl, sym, ap, ◌∙◌, subst, arith, append_assoc, append-nil, length-append, eqb-true, Option}
-use Rattle.af_base.proofs.Basics.{no, some_same}
-use Rattle.af_base.specs.declared.event.ClientCall.{ClientCall}
+use Rattle.af_enough_law.proofs.Common.{AreCalls, Client, ClientCall, ClientEvent, IsMade, IsWanted, LegalClientTurn, Mode, Op, Side, Track, Want, after_answer, after_call, after_calls, at_next_turn, begins, begun, both_first, both_first as both_left, commands_sent, is_of_commands, next_want, no, released_by, rest_of, rested, settled_in, some_same, state_in, wanted_of, wants_of, with_call}
 use Rattle.af_base.specs.declared.event.ClientCall.TheVariants as call
-use Rattle.af_base.specs.declared.event.ClientEvent.{ClientEvent}
 use Rattle.af_base.specs.declared.event.ClientEvent.TheVariants as client
 use Rattle.af_enough_law.proofs.Basics.{put-append}
-use Rattle.af_model.proofs.Basics.{both_first, both_first as both_left}
-use Rattle.af_script.specs.declared.op.Op.{Op}
 use Rattle.af_script.specs.declared.op.Op.TheVariants as op
-use Rattle.af_runs.specs.Clients.{Client, settled_in, state_in, begins, begun, next_want, rest_of, rested, wants_of, at_next_turn, after_answer}
-use Rattle.af_runs.specs.ClientTurns.{Side, Track, IsWanted, IsMade, with_call, commands_sent, wanted_of, after_call, after_calls, AreCalls, LegalClientTurn, is_of_commands, called, released_by}
+use Rattle.af_runs.specs.ClientTurns.{called}
 use Rattle.af_runs.specs.declared.want.ClientCommand.TheVariants as command
-use Rattle.af_runs.specs.declared.want.Mode.{Mode}
 use Rattle.af_runs.specs.declared.want.Mode.TheVariants as mode
-use Rattle.af_runs.specs.declared.want.Want.{Want}
 use Rattle.af_runs.specs.declared.want.Want.TheVariants as want
 use Rattle.af_enough_law.specs.Seen.{frames_put}
 use Rattle.af_enough_law.proofs.FairTurns.{commands_grow}
@@ -116,17 +109,6 @@ stop_append (x ∷ y ∷ xs) code argument (suc k) long none other =
     rest true b e = e
     rest false b e = no e
 
--- a client sends no other command then
-record Sends (t u : Track) (c : Client) (sent : ℕ) : Type 0 where
-  client : Early (begun c) sent
-  put : frames_put u.commands.events ≡ 2 * sent
-  long : length u.commands.released ≡ 2 * sent
-  stopless : no_stop u.commands.released ≡ true
-
-still_put : (b : Bool) (xs : List ClientEvent) (n front : ℕ) → frames_put xs ≡ n → frames_put (xs ++ (if b then [] else client.SawFlags 0 ∷ client.SawFront front ∷ [])) ≡ n
-still_put true xs n front put = ap frames_put (append-nil xs) ∙ put
-still_put false xs n front put = (let a = put-append xs (client.SawFlags 0 ∷ client.SawFront front ∷ []) in omega (arith, a, put))
-
 code_other : (code n : ℕ) → (code == n) ≡ true → (n == 4) ≡ false → (code == 4) ≡ false
 code_other code n e other = ap (λ (c : ℕ). c == 4) (eqb-true code n e) ∙ other
 
@@ -164,15 +146,7 @@ early_call t w answer _ _ (opening x d ops) is wanted made put long none = by an
     by (call.SendFull front) h e = same_words t 0 put long none (client.SawFlags 0 ∷ client.SawFront front ∷ []) _ _ e (opening true d ops) refl refl refl
     by (call.SendDead flags) h e = same_words t 0 put long none (client.SawFlags flags ∷ []) _ _ e (opening x true ops) refl refl refl
     by (call.SendCorrupt front rear) h e = same_words t 0 put long none _ _ _ e (opening x true ops) refl (none_if _ front) refl
-    by (call.Put front count) h e = no h
-    by (call.Full front) h e = no h
-    by (call.Dead flags) h e = no h
-    by (call.Corrupt front rear) h e = no h
-    by (call.Cleared flags) h e = no h
-    by (call.Flush count) h e = no h
-    by (call.Gain word) h e = no h
-    by (call.Status word) h e = no h
-    by (call.Poke in_command word value) h e = no h
+    by _ h e = no h
 early_call t w answer _ _ (starting x d ops) is wanted made put long none = by answer (subst (λ (w : Want). IsWanted t w answer) same made.0) (client_is t w answer wanted ∙ ap (λ (w : Want). after_answer (commands_sent (with_call t answer)) w (rest_of (begun t.client).due) (begun t.client) answer) same ∙ ap (λ (c : Client). after_answer (commands_sent (with_call t answer)) (want.Send command.Start) (rest_of c.due) c answer) is)
   where
     same : w ≡ want.Send command.Start
@@ -183,15 +157,7 @@ early_call t w answer _ _ (starting x d ops) is wanted made put long none = by a
     by (call.SendFull front) h e = same_words t 1 put long none (client.SawFlags 0 ∷ client.SawFront front ∷ []) _ _ e (starting true d ops) refl refl refl
     by (call.SendDead flags) h e = same_words t 1 put long none (client.SawFlags flags ∷ []) _ _ e (starting x true ops) refl refl refl
     by (call.SendCorrupt front rear) h e = same_words t 1 put long none _ _ _ e (starting x true ops) refl (none_if _ front) refl
-    by (call.Put front count) h e = no h
-    by (call.Full front) h e = no h
-    by (call.Dead flags) h e = no h
-    by (call.Corrupt front rear) h e = no h
-    by (call.Cleared flags) h e = no h
-    by (call.Flush count) h e = no h
-    by (call.Gain word) h e = no h
-    by (call.Status word) h e = no h
-    by (call.Poke in_command word value) h e = no h
+    by _ h e = no h
 early_call t w answer _ _ (settling x d ops) is wanted made put long none = by answer (subst (λ (w : Want). IsWanted t w answer) same made.0) (client_is t w answer wanted ∙ ap (λ (w : Want). after_answer (commands_sent (with_call t answer)) w (rest_of (begun t.client).due) (begun t.client) answer) same ∙ ap (λ (c : Client). after_answer (commands_sent (with_call t answer)) want.Settled (rest_of c.due) c answer) is)
   where
     same : w ≡ want.Settled

@@ -1,23 +1,8 @@
 -- A round that lends a proxy takes no STOP of its track, and one that takes it back from a track that had not stopped has ended its life, whatever the client is answered.
 use Rattle.std.proofs.Common.{◌≡◌, ◌⊎◌, ℕ, zero, suc, ◌*◌, ◌≤◌, ◌&&◌, not, if◌then◌else◌, Bool, true, false, true≢false, Option, Some, None, List, [], ◌∷◌, ◌++◌, length, take, fold, refl, sym, ap, ◌∙◌, subst, arith, append_assoc}
-use Rattle.af_base.specs.declared.event.ClientEvent.{ClientEvent}
+use Rattle.af_enough_law.proofs.Common.{BlockTold, ClientEvent, HasBlockHistory, LegalRound, Life, Marks, NormalKept, Outside, RoundSeen, Run, ServerEvent, Session, Setup, TrackTold, after_calls, after_round, all_command_events, both_right, calls_in, client_list, command_events_of, command_list, found_in, hand_list, invalid, is_tame, learnt, met_after, outside_of, plays, server_list, settled_in, setup_of, sides_of, status_events, told_at, track_at, track_in, tracks_at, words_taken}
 use Rattle.af_base.specs.declared.event.ClientEvent.TheVariants as client
-use Rattle.af_base.specs.declared.event.ServerEvent.{ServerEvent}
 use Rattle.af_base.specs.declared.event.ServerEvent.TheVariants as server
-use Rattle.af_life.specs.declared.track.Life.{Life}
-use Rattle.af_life.specs.Heard.{learnt}
-use Rattle.af_life.specs.Kept.{Setup, NormalKept, Outside, track_at, track_in, plays}
-use Rattle.af_life.specs.Looks.{words_taken, all_command_events}
-use Rattle.af_life.specs.TurnEvents.{tracks_at, invalid, status_events, command_events_of, command_list}
-use Rattle.af_model.specs.Journals.{RoundSeen}
-use Rattle.af_model.proofs.Logic.{both_right}
-use Rattle.af_runs.specs.Blocks.{BlockTold, Marks, client_list, server_list, hand_list, is_tame, HasBlockHistory}
-use Rattle.af_runs.specs.Clients.{settled_in}
-use Rattle.af_runs.specs.ClientTurns.{after_calls}
-use Rattle.af_runs.specs.Found.{outside_of}
-use Rattle.af_runs.specs.Rounds.{LegalRound, found_in, met_after, after_round}
-use Rattle.af_runs.specs.Runs.{Run, TrackTold, told_at, sides_of, calls_in}
-use Rattle.af_runs.specs.Sessions.{Session, setup_of}
 use Rattle.af_enough_law.specs.Courses.{stage}
 use Rattle.af_enough_law.specs.NormalRounds.{TurnMade}
 use Rattle.af_enough_law.specs.Seen.{frames_taken, status_by, last_status}

@@ -1,21 +1,9 @@
 -- A turn before which no status said that two commands were settled takes no more than two, whatever their client is answered.
 use Rattle.std.proofs.Common.{◌≡◌, ◌⊎◌, inl, inr, ℕ, zero, suc, ◌≤◌, ◌&&◌, nat_le, Bool, true, List, [], ◌∷◌, ◌++◌, length, take, fold, get_or, refl, sym, ap, ◌∙◌, subst, arith}
-use Rattle.af_base.proofs.Basics.{both_true}
-use Rattle.af_base.specs.declared.event.ClientEvent.{ClientEvent}
+use Rattle.af_enough_law.proofs.Common.{Client, ClientEvent, HandEvent, HasHistory, IsLegal, ServerEvent, Shape, both_first, both_right, both_true, by_client, drops_none, in_turn, legal_cut, server_append, server_of, settled_in, start}
 use Rattle.af_base.specs.declared.event.ClientEvent.TheVariants as client
-use Rattle.af_base.specs.declared.event.HandEvent.{HandEvent}
-use Rattle.af_base.specs.declared.event.ServerEvent.{ServerEvent}
 use Rattle.af_base.specs.declared.event.ServerEvent.TheVariants as server
 use Rattle.af_enough_law.proofs.Basics.{taken-append}
-use Rattle.af_judge.proofs.Basics.{legal_cut, server_append}
-use Rattle.af_model.proofs.Basics.{both_first}
-use Rattle.af_model.specs.declared.shape.Shape.{Shape}
-use Rattle.af_model.specs.Fates.{drops_none}
-use Rattle.af_model.specs.History.{by_client, server_of, IsLegal, HasHistory}
-use Rattle.af_model.specs.Point.{start}
-use Rattle.af_model.proofs.Fates.{in_turn}
-use Rattle.af_model.proofs.Logic.{both_right}
-use Rattle.af_runs.specs.Clients.{Client, settled_in}
 use Rattle.af_enough_law.specs.Seen.{frames_put, frames_taken, status_by, last_status}
 use Rattle.af_enough_law.proofs.EarlyCalls.{no_stop, Early, opening, starting, settling, SawSettled}
 use Rattle.af_enough_law.proofs.SeenBlocks.{client_cut, released_is, consumed_is, drops_split, status_is}
@@ -35,15 +23,7 @@ low_append (x ∷ xs) ys a b = both_true (is_low x) (are_low (xs ++ ys)) (both_f
 
 low_one : (e : ServerEvent) (word : ℕ) → is_low e ≡ true → settled_in word ≤ 1 → settled_in (status_by word e) ≤ 1
 low_one (server.SetStatus next) word low few = search (arith, low)
-low_one (server.SawGain w) word low few = few
-low_one (server.SawFlush w) word low few = few
-low_one (server.SawRear w) word low few = few
-low_one (server.SawFront w) word low few = few
-low_one (server.Drop to) word low few = few
-low_one (server.Take count) word low few = few
-low_one (server.Tally missing) word low few = few
-low_one (server.SetFlags bits) word low few = few
-low_one (server.Learn n) word low few = few
+low_one _ word low few = few
 
 -- the last status of each front says no more
 front_low : (xs ys : List ServerEvent) (word : ℕ) → are_low (xs ++ ys) ≡ true → settled_in word ≤ 1 → settled_in (fold status_by word xs) ≤ 1

@@ -1,23 +1,7 @@
 -- From the Exit that is ordered to the ends of both mixers.
 use Rattle.std.proofs.Common.{None, ◌≡◌, ◌⊎◌, inl, inr, ℕ, suc, ◌+◌, ◌≤◌, Bool, true, false, All, List, [], ◌∷◌, length, if◌then◌else◌, refl, sym, ap, ◌∙◌, subst, arith}
-use Rattle.af_base.specs.Turn.{Turn}
+use Rattle.af_enough_law.proofs.Common.{EntrySeen, Learnt, LegalRound, LegalTurnBy, Marks, MatchBool, MatchOption, NormalKept, RoundSeen, Run, Session, Setting, Setup, Turn, after_ack, after_edits, after_push, after_round, after_takes, after_tracks, after_turn, before_turn, early_of, edited_to, fast_ended, found_in, has_exit, is_exit, is_pushed, late_of, learnt, mutated, next_command, ordered, pipe_size, setup_of, turn_after, turn_len, with_calls, with_cycle, with_cycles}
 use Rattle.af_enough_law.proofs.Basics.{ack_ended, before_normal, edits_ended, ordered_ended, push_ended}
-use Rattle.af_life.specs.declared.kept.Setting.{Setting}
-use Rattle.af_life.specs.Edits.{after_ack, is_exit, edited_to, next_command, ordered, mutated, after_push}
-use Rattle.af_life.specs.Heard.{learnt}
-use Rattle.af_life.specs.Kept.{Setup, pipe_size, Learnt, NormalKept}
-use Rattle.af_life.specs.Turn.{after_tracks, after_edits, turn_after}
-use Rattle.af_life.specs.Plays.{after_takes}
-use Rattle.af_life.proofs.Lives.{turn_len}
-use Rattle.af_model.specs.Cycles.{has_exit}
-use Rattle.af_model.specs.Journals.{EntrySeen, RoundSeen}
-use Rattle.std.specs.Prelude.{MatchBool, MatchOption}
-use Rattle.af_runs.specs.Found.{LegalTurnBy}
-use Rattle.af_runs.specs.Blocks.{Marks}
-use Rattle.af_runs.specs.Rounds.{LegalRound, early_of, late_of, before_turn, found_in, after_turn, after_round}
-use Rattle.af_runs.specs.Runs.{Run, with_calls, with_cycle, with_cycles, fast_ended}
-use Rattle.af_runs.specs.Sessions.{Session, setup_of}
-use Rattle.af_runs.specs.Told.{is_pushed}
 use Rattle.af_enough_law.specs.EndPhases.{NoExits, BothGo, Ordered, Sending, Closing, BothEnded}
 use Rattle.af_enough_law.specs.Acks.{KnowsAcked}
 use Rattle.af_enough_law.specs.Ends.{IsInOrder, Rests, ExitSent}
@@ -61,10 +45,6 @@ closing_done s marks run round legal c = record {
   normal = exit_ends s marks run round legal c.runs (turn_made false s marks run round legal c.runs) c.last c.acked;
   fast = fast_stays s run round c.fast;
 }
-
-if_ended : (b : Bool) (x y : NormalKept) (r : Bool) → x.ended ≡ r → y.ended ≡ r → (if b then x else y).ended ≡ r
-if_ended true x y r f g = f
-if_ended false x y r f g = g
 
 kept_ended : (c : Setup) (k : Learnt) (e : Turn) (m : NormalKept) → (after_push e.push (after_edits c k e m)).ended ≡ m.ended
 unfolding mutated

@@ -1,13 +1,6 @@
 -- A resting mixer puts nothing into the pipe, which drains.
 use Rattle.std.proofs.Common.{Some, ◌≡◌, ◌-◌, ◌*◌, ◌≤◌, Bool, false, sym, subst, arith}
-use Rattle.af_base.specs.Turn.{Turn}
-use Rattle.af_life.specs.Heard.{learnt}
-use Rattle.af_life.specs.Kept.{pipe_size, NormalKept}
-use Rattle.af_model.specs.Journals.{RoundSeen}
-use Rattle.af_runs.specs.Blocks.{Marks}
-use Rattle.af_runs.specs.Rounds.{LegalRound, after_round}
-use Rattle.af_runs.specs.Runs.{Run}
-use Rattle.af_runs.specs.Sessions.{Session, setup_of, cycle_frames}
+use Rattle.af_enough_law.proofs.Common.{LegalRound, Marks, NormalKept, RoundSeen, Run, Session, Turn, after_round, cycle_frames, learnt, pipe_size, setup_of}
 use Rattle.af_enough_law.specs.Ends.{AllOver, Rests}
 use Rattle.af_enough_law.specs.FastFlows.{MixesAll}
 use Rattle.af_enough_law.specs.NormalRounds.{TurnMade}

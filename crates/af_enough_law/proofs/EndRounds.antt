@@ -1,19 +1,6 @@
 -- The rounds once every life has ended: what was lent comes home.
 use Rattle.std.proofs.Common.{◌≡◌, ◌⊎◌, inl, inr, ◌≤◌, Bool, true, false, true≢false, All, [], ◌∷◌, ◌++◌, length, if◌then◌else◌, refl, sym, ap, ◌∙◌, subst, arith, append-nil, eq-eqb}
-use Rattle.af_base.specs.declared.state.Push.{Push}
-use Rattle.af_base.specs.declared.state.Push.TheVariants.{Pushed, Clean, Busy}
-use Rattle.af_life.specs.declared.kept.Setting.{Setting}
-use Rattle.af_life.specs.Heard.{learnt}
-use Rattle.af_life.specs.Edits.{is_exit, is_over}
-use Rattle.af_life.specs.Kept.{NormalKept, pipe_size}
-use Rattle.af_life.specs.Turn.{turn_after, GoesOn}
-use Rattle.af_model.specs.Journals.{RoundSeen}
-use Rattle.af_runs.specs.Blocks.{Marks}
-use Rattle.af_runs.specs.Found.{outside_of}
-use Rattle.af_runs.specs.Rounds.{LegalRound, before_turn, found_in, after_turn, after_round}
-use Rattle.af_runs.specs.Runs.{Run, draft_after, fast_ended}
-use Rattle.af_runs.specs.Sessions.{Session, setup_of}
-use Rattle.af_runs.specs.Told.{is_pushed}
+use Rattle.af_enough_law.proofs.Common.{Busy, Clean, GoesOn, LegalRound, Marks, NormalKept, Push, Pushed, RoundSeen, Run, Session, Setting, after_round, after_turn, before_turn, draft_after, fast_ended, found_in, is_exit, is_over, is_pushed, learnt, outside_of, pipe_size, setup_of, turn_after}
 use Rattle.af_enough_law.specs.Acks.{KnowsAcked}
 use Rattle.af_enough_law.specs.Drafts.{is_busy, PushMade}
 use Rattle.af_enough_law.specs.Ends.{AllHome, CarriesNone, IsInOrder, Rests, ExitSent}

@@ -1,20 +1,6 @@
 -- From the moment that every life has ended both mixers end within ten rounds.
 use Rattle.std.proofs.Common.{◌≡◌, ◌⊎◌, inl, inr, ℕ, zero, suc, ◌+◌, ◌-◌, ◌*◌, ◌<◌, ◌≤◌, Bool, true, false, All, List, [], ◌∷◌, ◌++◌, length, refl, sym, ap, ◌∙◌, subst, arith, length-append}
-use Rattle.std.proofs.Math.Nat.{mul-le-mul}
-use Rattle.af_life.specs.declared.kept.Setting.{Setting}
-use Rattle.af_life.specs.declared.kept.TrackKept.{TrackKept}
-use Rattle.af_life.specs.Edits.{is_exit}
-use Rattle.af_life.specs.Heard.{learnt}
-use Rattle.af_life.specs.Kept.{NormalKept, asked, pipe_size, track_at}
-use Rattle.af_life.specs.Turn.{turn_after}
-use Rattle.af_judge.proofs.StatesRuns.{scales_of}
-use Rattle.af_model.specs.Journals.{RoundSeen}
-use Rattle.af_runs.specs.Blocks.{Marks}
-use Rattle.af_runs.specs.LegalRuns.{run_from, LegalRounds}
-use Rattle.af_runs.specs.Rounds.{LegalRound, after_round}
-use Rattle.af_runs.specs.Runs.{Run, new_run}
-use Rattle.af_runs.specs.Sessions.{Session, setup_of, cycle_frames}
-use Rattle.af_script.specs.Form.{IsScript}
+use Rattle.af_enough_law.proofs.Common.{IsScript, LegalRound, LegalRounds, Marks, NormalKept, RoundSeen, Run, Session, Setting, TrackKept, after_round, asked, cycle_frames, is_exit, learnt, mul-le-mul, new_run, pipe_size, run_from, scales_of, setup_of, track_at, turn_after}
 use Rattle.af_enough_law.specs.Acks.{KnowsAcked}
 use Rattle.af_enough_law.specs.Drafts.{is_busy}
 use Rattle.af_enough_law.specs.EndPhases.{BothEnded}

@@ -1,26 +1,7 @@
 -- A turn once every life has ended: no proxy is lent, the draft carries nothing, and what is acknowledged comes home.
 use Rattle.std.proofs.Common.{◌≡◌, ◌⊎◌, inl, inr, ℕ, suc, ◌<◌, ◌≤◌, ◌&&◌, not, Bool, true, false, true≢false, All, List, [], ◌∷◌, length, is_some, refl, sym, ap, ◌∙◌, arith}
-use Rattle.af_base.proofs.Basics.{below_or_not, no}
-use Rattle.af_base.specs.declared.state.FastState.{FastState}
-use Rattle.af_base.specs.Log.{slots}
-use Rattle.af_base.specs.Turn.{Turn}
+use Rattle.af_enough_law.proofs.Common.{FastState, GoesOn, Holder, Home, IsSlotted, Learnt, Lent, Life, NormalKept, Outside, Returning, Setting, Setup, TrackKept, Turn, after_part, below_or_not, carries, heard, if_true, is_home, is_lent, is_over, is_returning, learnt, no, out_of, plays, ready, slot_number, slots, sound_turn, track_at, track_in, turn_after, turn_len}
 use Rattle.af_enough_law.proofs.Basics.{stays_home as greeted_home}
-use Rattle.af_judge.proofs.Basics.{if_true}
-use Rattle.af_life.proofs.Basics.{out_of}
-use Rattle.af_life.specs.declared.kept.Holder.{Holder}
-use Rattle.af_life.specs.declared.kept.Holder.TheVariants.{Home, Lent, Returning}
-use Rattle.af_life.specs.declared.kept.Setting.{Setting}
-use Rattle.af_life.specs.declared.kept.TrackKept.{TrackKept}
-use Rattle.af_life.specs.declared.track.Life.{Life}
-use Rattle.af_life.specs.Edits.{is_over}
-use Rattle.af_life.specs.Heard.{learnt, heard, ready}
-use Rattle.af_life.specs.Kept.{Setup, NormalKept, Outside, Learnt, track_at, track_in, plays, is_home, is_lent, is_returning, slot_number}
-use Rattle.af_life.specs.Serves.{after_part}
-use Rattle.af_life.specs.Sound.{IsSlotted}
-use Rattle.af_life.specs.Turn.{turn_after, GoesOn}
-use Rattle.af_life.proofs.Lives.{turn_len}
-use Rattle.af_judge.proofs.SoundTurns.{sound_turn}
-use Rattle.af_model.specs.StateQueue.{carries}
 use Rattle.af_enough_law.specs.Drafts.{next_holder, is_busy, PushMade}
 use Rattle.af_enough_law.specs.Ends.{AllOver, NoneLent, AllHome, CarriesNone, IsInOrder, Rests}
 use Rattle.af_enough_law.specs.Owned.{AreOwned}

@@ -1,15 +1,6 @@
 -- Each entry stores one report, and no state is adopted that wasn't pushed.
 use Rattle.std.proofs.Common.{◌≡◌, ℕ, ◌+◌, ◌≤◌, nat_le, if◌then◌else◌, Bool, true, false, Some, List, [], ◌∷◌, length, length-append, refl, sym, ap, ◌∙◌, arith}
-use Rattle.std.specs.Prelude.{max, min}
-use Rattle.std.proofs.lemmas.Bool.{leb-true}
-use Rattle.std.proofs.lemmas.List.{take-append-drop}
-use Rattle.af_base.specs.Turn.{Turn}
-use Rattle.af_judge.proofs.Basics.{calls_states}
-use Rattle.af_model.specs.Journals.{EntrySeen, RoundSeen}
-use Rattle.af_runs.specs.Blocks.{Marks}
-use Rattle.af_runs.specs.Rounds.{LegalRound, early_count, early_of, late_of, before_turn, found_in, after_turn, all_played, met_after, after_round}
-use Rattle.af_runs.specs.Runs.{Run, with_calls, with_poll, with_cycle, with_cycles, load_of}
-use Rattle.af_runs.specs.Sessions.{Session}
+use Rattle.af_enough_law.proofs.Common.{EntrySeen, LegalRound, Marks, RoundSeen, Run, Session, Turn, after_round, after_turn, all_played, before_turn, calls_states, early_count, early_of, found_in, late_of, leb-true, load_of, max, met_after, min, take-append-drop, with_calls, with_cycle, with_cycles, with_poll}
 use Rattle.af_enough_law.specs.FastFlows.{CountsReports, KnowsReports}
 use Rattle.af_enough_law.proofs.FastCurrent.{rest_current, turn_current}
 use Rattle.af_enough_law.proofs.FastFound.{adds_one, calls_current, cycle_current}

@@ -1,33 +1,8 @@
 -- The Exit of the normal mixer: it stays in the draft, is pushed once, and ends the mixer when it is seen acknowledged.
 use Rattle.std.proofs.Common.{◌≡◌, ℕ, zero, suc, ◌<◌, ◌≤◌, ◌==◌, ◌&&◌, ◌||◌, not, Bool, true, false, true≢false, List, length, is_some, if◌then◌else◌, refl, sym, ap, ◌∙◌, arith}
-use Rattle.std.specs.List.{list_any}
-use Rattle.af_base.proofs.Basics.{no, rest_enters}
-use Rattle.af_base.specs.Command.{code_of}
-use Rattle.af_base.specs.declared.state.Command.{Command}
-use Rattle.af_base.specs.declared.state.Command.TheVariants.{ColdIdle, Exit, MixWrite}
-use Rattle.af_base.specs.declared.state.FastState.{FastState}
-use Rattle.af_base.specs.declared.state.Push.{Push}
-use Rattle.af_base.specs.declared.state.Push.TheVariants.{Pushed, Clean, Busy}
-use Rattle.af_base.specs.Turn.{Turn}
-use Rattle.af_judge.proofs.Basics.{if_true}
-use Rattle.af_life.specs.declared.kept.TrackKept.{TrackKept}
-use Rattle.af_life.specs.Edits.{after_ack, is_exit, is_over, must_leave, must_enter, let_go, lend, edited, edited_to, next_command, ordered, mutated, after_push, LegalPush}
-use Rattle.af_model.specs.Draft.{commanded as with_command}
-use Rattle.af_life.specs.Plays.{after_takes}
-use Rattle.af_life.specs.Heard.{learnt}
-use Rattle.af_life.specs.Kept.{Setup, pipe_size, NormalKept, Outside, Learnt, track_at, track_in, plays, is_home, is_lent}
-use Rattle.af_life.specs.Serves.{after_part}
-use Rattle.af_life.specs.Turn.{after_tracks, after_edits, turn_after, GoesOn}
-use Rattle.af_life.proofs.Lives.{acked_len, served_len}
-use Rattle.af_runs.specs.Told.{is_pushed}
+use Rattle.af_enough_law.proofs.Common.{Busy, Clean, ColdIdle, Command, Exit, FastState, GoesOn, Holder, Home, Learnt, LegalPush, Life, MixWrite, NormalKept, Outside, Push, Pushed, Setup, TrackKept, Turn, acked_len, after_ack, after_edits, after_part, after_push, after_takes, after_tracks, code_of, comes_home, commanded as with_command, edited, edited_to, heard, if_true, is_exit, is_home, is_lent, is_over, is_pushed, learnt, lend, let_go, list_any, must_enter, must_leave, mutated, next_command, no, ordered, pipe_size, plays, ready, rest_enters, served_len, track_at, track_in, tracks_at, turn_after, welcomed}
 use Rattle.af_enough_law.specs.Drafts.{is_busy}
-use Rattle.af_life.specs.declared.kept.Holder.{Holder}
-use Rattle.af_life.specs.declared.kept.Holder.TheVariants.{Home}
-use Rattle.af_life.specs.declared.track.Life.{Life}
-use Rattle.af_life.specs.Edits.{comes_home, welcomed}
-use Rattle.af_life.specs.Heard.{heard, ready}
 use Rattle.af_life.specs.Obeys.{slot_for}
-use Rattle.af_life.specs.TurnEvents.{tracks_at}
 use Rattle.af_enough_law.specs.Ends.{Rests}
 use Rattle.af_enough_law.specs.TrackTurns.{greeted}
 use Rattle.af_enough_law.proofs.Ends.{silent}
@@ -113,16 +88,6 @@ greeted_unlent true last s is = by (comes_home last s)
     by : (b : Bool) → is_lent (if b then record s { holder = Home } else s).holder ≡ false
     by true = refl
     by false = is
-
--- each of its tracks is as it was greeted, once it was served
-pub rests_served : (c : Setup) (k : Learnt) (m : NormalKept) (e : Turn) → Rests m → (i : ℕ) → i < length m.tracks
-    → (let g = greeted e.ack m.last (track_at m.tracks i) in (track_at (after_tracks c k e (after_ack e.ack m)).tracks i ≡ g) × (g.life.ended ≡ true))
-rests_served c k m e rests i lt =
-    let s : TrackKept = track_at m.tracks i in
-    let g : TrackKept = greeted e.ack m.last s in
-    let over : g.life.ended ≡ true = ap (λ (l : Life). l.ended) (greeted_alike e.ack m.last s).life ∙ rests.over i lt in
-    let given : Option ℕ = slot_for c (tracks_at c k m e i) i in
-    (served_here c k e m i lt ∙ if_true g.life.ended g (after_part given (heard k i g) (track_in e i).looks (ready k i g)) over, over)
 
 pub rests_idle : (c : Setup) (k : Learnt) (m : NormalKept) (e : Turn) → Rests m → AreIdle (after_tracks c k e (after_ack e.ack m)).tracks
 rests_idle c k m e rests i lt =

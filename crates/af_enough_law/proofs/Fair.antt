@@ -1,27 +1,9 @@
 -- What a client's calls answer on a block whose lists have a history and whose flags stay calm.
-use Rattle.std.proofs.Common.{◌≡◌, ◌⊎◌, inl, inr, ℕ, ◌+◌, ◌≤◌, ◌<◌, ◌==◌, not, Bool, true, false, List, [], ◌∷◌, ◌++◌, length, fold, get_or, refl, sym, ap, ◌∙◌, subst, arith, append_assoc, true≢false, None, is_some, bit_and, bit_or, MatchBool}
-use Rattle.std.proofs.lemmas.List.{append-nil}
-use Rattle.std.proofs.lemmas.Grind.{fold-append}
-use Rattle.af_base.proofs.Basics.{both_true}
-use Rattle.af_base.specs.declared.event.ClientEvent.{ClientEvent}
+use Rattle.std.proofs.Common.{◌≡◌, ◌⊎◌, inl, inr, ℕ, ◌+◌, ◌≤◌, ◌<◌, ◌==◌, Bool, true, false, List, [], ◌∷◌, ◌++◌, length, fold, get_or, refl, sym, ap, ◌∙◌, subst, arith, append_assoc, true≢false, None, is_some, bit_and, bit_or, MatchBool}
+use Rattle.af_enough_law.proofs.Common.{AllFit, ClientEvent, ClientMay, HandEvent, HasHistory, IsClientList, IsInvalid, IsLegal, Moment, ServerEvent, Shape, TrackPoint, after, after_client, after_hand, after_server, all_fit, append-nil, both_first, both_right, both_true, by_client, by_hand, by_server, client_begins, client_keeps, client_kept, client_of, drops_none, filled_by, fit_split, fold-append, hand_of, in_turn, keeps_all, legal_cut, not_true, outside, outside-some, room_in, server_append, server_of, start, state_in, wrapped}
 use Rattle.af_base.specs.declared.event.ClientEvent.TheVariants as client
-use Rattle.af_base.specs.declared.event.HandEvent.{HandEvent}
 use Rattle.af_base.specs.declared.event.HandEvent.TheVariants as hand
-use Rattle.af_base.specs.declared.event.ServerEvent.{ServerEvent}
 use Rattle.af_base.specs.declared.event.ServerEvent.TheVariants as server
-use Rattle.af_judge.proofs.Basics.{legal_cut, server_append}
-use Rattle.af_model.proofs.Basics.{both_first, not_true}
-use Rattle.af_model.specs.declared.point.TrackPoint.{TrackPoint}
-use Rattle.af_model.specs.declared.shape.Shape.{Shape}
-use Rattle.af_model.specs.ClientCalls.{client_keeps, client_begins, client_kept, IsInvalid, filled_by, IsClientList}
-use Rattle.af_model.specs.Fates.{keeps_all, drops_none}
-use Rattle.af_model.specs.History.{Moment, by_client, by_server, by_hand, client_of, server_of, hand_of, after, IsLegal, HasHistory}
-use Rattle.af_model.specs.Point.{wrapped, start, ClientMay, after_client, after_server, after_hand}
-use Rattle.af_model.specs.Room.{outside}
-use Rattle.af_model.proofs.Fates.{in_turn}
-use Rattle.af_model.proofs.Logic.{both_right, outside-some}
-use Rattle.af_model.proofs.RoomKept.{AllFit, fit_split, all_fit, room_in}
-use Rattle.af_runs.specs.Clients.{state_in}
 use Rattle.af_enough_law.specs.Seen.{Stands, frames_put, taken_by, frames_taken, status_by, last_status, is_calm, are_calm, is_hand_calm, are_hands_calm}
 use Rattle.af_enough_law.proofs.SeenBlocks.{client_cut, client_learnt, consumed_is, released_is, status_is}
 
@@ -42,32 +24,16 @@ hands_split [] ys h = (refl, h)
 hands_split (x ∷ xs) ys h = let rest = hands_split xs ys (both_right (is_hand_calm x) (are_hands_calm (xs ++ ys)) h) in (both_true (is_hand_calm x) (are_hands_calm xs) (both_first (is_hand_calm x) (are_hands_calm (xs ++ ys)) h) rest.0, rest.1)
 
 calm_keeps : (e : ServerEvent) → is_calm e ≡ true → keeps_all e ≡ true
-calm_keeps (server.SawGain word) h = refl
-calm_keeps (server.SawFlush flush) h = refl
-calm_keeps (server.SawRear rear) h = refl
-calm_keeps (server.SawFront front) h = refl
 calm_keeps (server.Drop to) h = h
-calm_keeps (server.Take count) h = refl
-calm_keeps (server.Tally missing) h = refl
-calm_keeps (server.SetFlags bits) h = refl
-calm_keeps (server.SetStatus word) h = refl
-calm_keeps (server.Learn n) h = refl
+calm_keeps _ h = refl
 
 pub calm_drops : (es : List ServerEvent) → are_calm es ≡ true → drops_none es ≡ true
 calm_drops [] h = refl
 calm_drops (e ∷ es) h = both_true (keeps_all e) (drops_none es) (calm_keeps e (both_first (is_calm e) (are_calm es) h)) (calm_drops es (both_right (is_calm e) (are_calm es) h))
 
 calm_status : (w : ℕ) (e : ServerEvent) → is_calm e ≡ true → (state_in w == 15) ≡ false → (state_in (status_by w e) == 15) ≡ false
-calm_status w (server.SawGain word) h low = low
-calm_status w (server.SawFlush flush) h low = low
-calm_status w (server.SawRear rear) h low = low
-calm_status w (server.SawFront front) h low = low
-calm_status w (server.Drop to) h low = low
-calm_status w (server.Take count) h low = low
-calm_status w (server.Tally missing) h low = low
-calm_status w (server.SetFlags bits) h low = low
 calm_status w (server.SetStatus word) h low = not_true (state_in word == 15) h
-calm_status w (server.Learn n) h low = low
+calm_status w _ h low = low
 
 -- no calm status says that a track was shut
 pub status_calm : (w : ℕ) (es : List ServerEvent) → are_calm es ≡ true → (state_in w == 15) ≡ false → (state_in (fold status_by w es) == 15) ≡ false
@@ -87,27 +53,12 @@ quiet_and flags (inl none) = inl (ap (λ f. bit_and f 4294967287) none)
 quiet_and flags (inr under) = inr (ap (λ f. bit_and f 4294967287) under)
 
 quiet_server : (p : TrackPoint) (e : ServerEvent) → is_calm e ≡ true → IsQuiet p.flags → IsQuiet (after_server p e).flags
-quiet_server p (server.SawGain word) h q = q
-quiet_server p (server.SawFlush flush) h q = q
-quiet_server p (server.SawRear rear) h q = q
-quiet_server p (server.SawFront front) h q = q
-quiet_server p (server.Drop to) h q = q
-quiet_server p (server.Take count) h q = q
-quiet_server p (server.Tally missing) h q = q
 quiet_server p (server.SetFlags bits) h q = quiet_or p.flags bits h q
-quiet_server p (server.SetStatus word) h q = q
-quiet_server p (server.Learn n) h q = q
+quiet_server p _ h q = q
 
 quiet_client : (p : TrackPoint) (e : ClientEvent) → IsQuiet p.flags → IsQuiet (after_client p e).flags
-quiet_client p (client.Release count) q = q
-quiet_client p client.Flush q = q
-quiet_client p (client.SetGain word) q = q
 quiet_client p (client.ClearFlags old) q = quiet_and p.flags q
-quiet_client p (client.SawFlags flags) q = q
-quiet_client p (client.SawFront front) q = q
-quiet_client p (client.SawStatus word) q = q
-quiet_client p (client.Poke word value) q = q
-quiet_client p (client.Learn n) q = q
+quiet_client p _ q = q
 
 quiet_hand : (p : TrackPoint) (e : HandEvent) → is_hand_calm e ≡ true → IsQuiet p.flags → IsQuiet (after_hand p e).flags
 quiet_hand p (hand.SetFlags bits) h q = absurd (true≢false (sym h))

@@ -1,32 +1,18 @@
 -- A turn of a client on calm blocks is fair.
 use Rattle.std.proofs.Common.{◌≡◌, ◌⊎◌, inl, inr, ℕ, ◌+◌, ◌-◌, ◌*◌, ◌≤◌, ◌<◌, ◌==◌, Bool, true, false, List, [], ◌∷◌, ◌++◌, length, fold, refl, sym, ap, ◌∙◌, subst, arith, append_assoc, length-append, Option, Some, None, is_some, if◌then◌else◌}
-use Rattle.std.proofs.lemmas.List.{append-nil}
-use Rattle.std.specs.Prelude.{MatchOption}
-use Rattle.af_base.proofs.Basics.{no, some_same}
-use Rattle.af_base.specs.declared.event.ClientCall.{ClientCall}
+use Rattle.af_enough_law.proofs.Common.{AnswersOn, AreCalls, Client, ClientCall, ClientEvent, HandEvent, HasHistory, IsClientList, IsMade, IsOutside, MatchOption, Mode, Op, ServerEvent, Shape, Side, Track, Want, after_call, ahead, append-nil, begun, client_events_of, client_kept, filled_by, is_clear, is_of_commands, is_send, is_status, is_write, next_want, no, released_by, side_of, some_same, state_in, wanted_of, wrapped}
 use Rattle.af_base.specs.declared.event.ClientCall.TheVariants as call
-use Rattle.af_base.specs.declared.event.ClientEvent.{ClientEvent}
 use Rattle.af_base.specs.declared.event.ClientEvent.TheVariants as client
-use Rattle.af_base.specs.declared.event.HandEvent.{HandEvent}
-use Rattle.af_base.specs.declared.event.ServerEvent.{ServerEvent}
 use Rattle.af_enough_law.proofs.Basics.{put-append}
-use Rattle.af_model.specs.declared.shape.Shape.{Shape}
-use Rattle.af_model.specs.ClientCalls.{client_kept, client_events_of, IsOutside, filled_by, IsClientList}
-use Rattle.af_model.specs.History.{HasHistory}
-use Rattle.af_model.specs.Point.{wrapped}
-use Rattle.af_model.specs.Room.{ahead}
-use Rattle.af_script.specs.declared.op.Op.{Op}
-use Rattle.af_runs.specs.declared.want.Mode.{Mode}
-use Rattle.af_runs.specs.declared.want.Want.{Want}
 use Rattle.af_runs.specs.declared.want.Want.TheVariants as want
-use Rattle.af_runs.specs.Clients.{Client, begun, next_want, state_in}
-use Rattle.af_runs.specs.ClientTurns.{Side, Track, IsMade, AnswersOn, side_of, is_of_commands, is_send, is_write, is_status, is_clear, called, released_by, wanted_of, after_call, AreCalls}
+use Rattle.af_runs.specs.ClientTurns.{called}
 use Rattle.af_enough_law.specs.Seen.{Stands, frames_put, frames_taken, are_calm, are_hands_calm}
 use Rattle.af_enough_law.specs.Playing.{Doing, opening, starting, settling, setting, writing, clearing, clearing_more, stopping, draining, removing, IsFair, AreFair, SeesFrom, AllSeeFrom}
 use Rattle.af_enough_law.proofs.Advancing.{ahead-far}
 use Rattle.af_enough_law.proofs.Doing.{at, codes_sent, codes_of, status_is, clear_is}
 use Rattle.af_enough_law.proofs.Fair.{no_dead, cleared_calm, no_corrupt, front_at, status_at, unshut, position_is, calm_split, status_calm}
 use Rattle.af_enough_law.proofs.Turning.{shape_after, words_of, wanted_first, none_some, none_waiting, none_ended, Left, Came, still, blocked, gone, call_made}
+use Rattle.af_enough_law.proofs.SilentCalls.{words_long}
 
 -- a block whose lists have a history and stay calm, of whose server's events these were known
 pub record IsCalm (k : Shape) (ce : List ClientEvent) (known : List ServerEvent) : Type 0 where
@@ -84,10 +70,6 @@ codes_few _ _ _ (clearing_more count ops some way) = omega arith
 codes_few _ _ _ stopping = omega arith
 codes_few _ _ _ draining = omega arith
 codes_few _ _ _ removing = omega arith
-
-words_long : (sent : List (ℕ × ℕ)) → length (words_of sent) ≡ 2 * length (codes_of sent)
-words_long [] = refl
-words_long (c ∷ sent) = let rest = words_long sent in omega arith
 
 -- ## One call
 
@@ -194,13 +176,10 @@ module _ (ce_stream ce_commands : List ClientEvent) (known_stream known_commands
   fair_call (want.Send sending) answer way made f = fair_send _ _ _ answer made.0 made.1 f
   fair_call want.Settled answer way made f = fair_status answer made.0 f
   fair_call want.Drained answer way made f = fair_status answer made.0 f
-  fair_call want.Flush answer way made f = no way
   fair_call (want.Gain left right) answer way made f = subst (λ (a : ClientCall). Fairly a) (sym made.0) (tt, tt)
   fair_call (want.Write count) answer way made f = fair_write count answer made.0 made.1 f
   fair_call want.Clear answer way made f = fair_clear answer made.0 f
-  fair_call (want.Poke in_command word value) answer way made f = no way
-  fair_call want.Rest answer way made f = no way
-  fair_call want.Leave answer way made f = no way
+  fair_call _ answer way made f = no way
 
 -- ## A turn
 
@@ -231,17 +210,11 @@ commands_grow t (answer ∷ calls) =
 pub commands_shape_after : (t : Track) (answer : ClientCall) → IsFair answer → (after_call t answer).commands.shape ≡ t.commands.shape
 commands_shape_after t (call.Put front count) fair = refl
 commands_shape_after t (call.Full front) fair = refl
-commands_shape_after t (call.Dead flags) fair = absurd fair
-commands_shape_after t (call.Corrupt front rear) fair = absurd fair
 commands_shape_after t (call.Cleared flags) fair = refl
-commands_shape_after t (call.Flush count) fair = absurd fair
 commands_shape_after t (call.Gain word) fair = refl
 commands_shape_after t (call.Sent front code argument) fair = refl
-commands_shape_after t (call.SendFull front) fair = absurd fair
-commands_shape_after t (call.SendDead flags) fair = absurd fair
-commands_shape_after t (call.SendCorrupt front rear) fair = absurd fair
 commands_shape_after t (call.Status word) fair = refl
-commands_shape_after t (call.Poke in_command word value) fair = absurd fair
+commands_shape_after t _ fair = absurd fair
 
 -- as many words were sent as the client's list says
 pub words_counted : (t : Track) (answer : ClientCall) → IsFair answer → frames_put t.commands.events ≡ length t.commands.released → frames_put (after_call t answer).commands.events ≡ length (after_call t answer).commands.released

@@ -1,30 +1,14 @@
 -- What the report says of a server that dropped nothing: the frames that it took, and that it is open.
 use Rattle.std.proofs.Common.{◌≡◌, ℕ, ◌+◌, min, is_some, true, false, true≢false, Option, List, [], ◌∷◌, fold, refl, sym, ap, ◌∙◌, arith}
-use Rattle.af_base.specs.declared.event.ServerEvent.{ServerEvent}
+use Rattle.af_enough_law.proofs.Common.{BlockTold, FastTrack, Run, ServerEvent, ServerKept, Shape, both_first, both_right, drops_none, keeps_all, kept, listed, server_begins, server_keeps, server_list, told_at}
 use Rattle.af_base.specs.declared.event.ServerEvent.TheVariants as server
-use Rattle.af_base.specs.declared.state.FastTrack.{FastTrack}
-use Rattle.af_model.proofs.Basics.{both_first}
-use Rattle.af_model.specs.declared.shape.Shape.{Shape}
-use Rattle.af_model.specs.Cycles.{kept}
-use Rattle.af_model.specs.Fates.{keeps_all, drops_none}
-use Rattle.af_model.specs.ServerCalls.{ServerKept, server_keeps, server_begins}
-use Rattle.af_model.proofs.Logic.{both_right}
-use Rattle.af_runs.specs.Blocks.{BlockTold, server_list, listed}
-use Rattle.af_runs.specs.Runs.{Run, told_at}
 use Rattle.af_enough_law.specs.Seen.{taken_by, frames_taken}
 use Rattle.af_enough_law.specs.FastFlows.{IsOpen, IsTold, slot_told}
 
 keeps_taken : (k : Shape) (s : ServerKept) (e : ServerEvent) → keeps_all e ≡ true → (server_keeps k s e).consumed ≡ s.consumed + taken_by e
-keeps_taken k s (server.SawGain word) h = omega arith
-keeps_taken k s (server.SawFlush flush) h = omega arith
-keeps_taken k s (server.SawRear rear) h = omega arith
-keeps_taken k s (server.SawFront front) h = omega arith
 keeps_taken k s (server.Drop to) h = absurd (true≢false (sym h))
 keeps_taken k s (server.Take count) h = refl
-keeps_taken k s (server.Tally missing) h = omega arith
-keeps_taken k s (server.SetFlags bits) h = omega arith
-keeps_taken k s (server.SetStatus word) h = omega arith
-keeps_taken k s (server.Learn n) h = omega arith
+keeps_taken k s _ h = omega arith
 
 kept_taken : (k : Shape) (s : ServerKept) (es : List ServerEvent) → drops_none es ≡ true → (fold (server_keeps k) s es).consumed ≡ s.consumed + frames_taken es
 kept_taken k s [] none = omega arith

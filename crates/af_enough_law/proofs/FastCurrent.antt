@@ -1,18 +1,6 @@
 -- The state adopted last is that of the last entry.
 use Rattle.std.proofs.Common.{◌≡◌, if◌then◌else◌, ℕ, Bool, true, false, true≢false, Option, Some, None, List, [], ◌∷◌, take, drop, refl, sym, ap, ◌∙◌, subst}
-use Rattle.std.proofs.lemmas.Bool.{le-leb}
-use Rattle.std.specs.Prelude.{MatchBool}
-use Rattle.std.specs.List.{prefix_len}
-use Rattle.af_base.specs.Turn.{Turn}
-use Rattle.af_model.specs.Cycles.{last_used}
-use Rattle.af_model.specs.Journals.{EntrySeen, RoundSeen}
-use Rattle.af_model.proofs.UsedStates.{last_used-push}
-use Rattle.af_runs.specs.Blocks.{Marks}
-use Rattle.af_runs.specs.Clients.{ends}
-use Rattle.af_runs.specs.Found.{TurnFound}
-use Rattle.af_runs.specs.Rounds.{is_early, IsFastTurn, LegalEntry, LegalEntries, LegalRound, early_of, late_of, before_turn, found_in, turned, after_turn, loaded, all_played, met_after, after_round}
-use Rattle.af_runs.specs.Runs.{Run, with_poll, with_mix, with_cycle, with_cycles, with_calls, with_turn, with_load, met, with_ends, each_track, fast_ended, most_cycles}
-use Rattle.af_runs.specs.Sessions.{Session}
+use Rattle.af_enough_law.proofs.Common.{EntrySeen, IsFastTurn, LegalEntries, LegalEntry, LegalRound, Marks, MatchBool, RoundSeen, Run, Session, Turn, TurnFound, after_round, after_turn, all_played, before_turn, each_track, early_of, ends, fast_ended, found_in, is_early, last_used, last_used-push, late_of, le-leb, loaded, met, met_after, most_cycles, prefix_len, turned, with_calls, with_cycle, with_cycles, with_ends, with_load, with_mix, with_poll, with_turn}
 
 -- the number of the state adopted last is that of the last entry
 abbrev pub IsCurrent : Run → Type 0

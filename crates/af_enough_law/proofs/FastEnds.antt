@@ -1,19 +1,7 @@
 -- The fast mixer ends in a round before which an Exit was pushed last.
 use Rattle.std.proofs.Common.{◌≡◌, ◌⊎◌, inl, inr, ℕ, ◌+◌, ◌≤◌, ◌||◌, Bool, true, false, Some, List, [], ◌∷◌, ◌++◌, length, sym, ap, ◌∙◌, subst, arith, length-append}
-use Rattle.std.proofs.lemmas.Grind.{fold-append}
-use Rattle.std.proofs.lemmas.List.{take-append-drop}
-use Rattle.af_base.proofs.Basics.{or_true}
-use Rattle.af_base.specs.declared.log.CycleEntry.{CycleEntry}
-use Rattle.af_base.specs.declared.state.Command.TheVariants.{Exit}
-use Rattle.af_base.specs.declared.state.FastState.{FastState}
-use Rattle.af_judge.proofs.Basics.{calls_states}
-use Rattle.af_model.specs.Cycles.{state_of, cycle_by, cycle_of, cold_done, has_exit, is_exit}
-use Rattle.af_model.specs.Journals.{EntrySeen, RoundSeen}
-use Rattle.af_runs.proofs.Basics.{state_more}
-use Rattle.af_runs.specs.Blocks.{Marks}
-use Rattle.af_runs.specs.Rounds.{LegalEntry, LegalEntries, LegalRound, early_count, early_of, late_of, before_turn, found_in, after_turn, all_played, met_after, after_round}
-use Rattle.af_runs.specs.Runs.{Run, with_calls, with_poll, with_cycle, with_cycles, fast_ended}
-use Rattle.af_runs.specs.Sessions.{Session}
+use Rattle.af_enough_law.proofs.Common.{CycleEntry, EntrySeen, Exit, FastState, LegalEntries, LegalEntry, LegalRound, Marks, RoundSeen, Run, Session, after_round, after_turn, all_played, before_turn, calls_states, cold_done, cycle_by, cycle_of, early_count, early_of, fast_ended, fold-append, found_in, has_exit, late_of, met_after, or_true, state_more, state_of, take-append-drop, with_calls, with_cycle, with_cycles, with_poll}
+use Rattle.af_model.specs.Cycles.{is_exit}
 use Rattle.af_enough_law.specs.FastFlows.{AllUse, KnowsStates}
 use Rattle.af_enough_law.proofs.FastFound.{cycle_current}
 use Rattle.af_enough_law.proofs.FastPolls.{fast_parts, parts_use, turn_more}

@@ -1,30 +1,12 @@
 -- What a round takes of a track that its states carry in a slot.
 use Rattle.std.proofs.Common.{◌≡◌, ◌⊎◌, inl, inr, ℕ, ◌+◌, ◌≤◌, ◌<◌, true, Option, Some, None, List, [], ◌∷◌, ◌++◌, length, take, refl, sym, ap, ◌∙◌, subst, arith, append_assoc, append-nil}
-use Rattle.af_base.specs.declared.event.ClientEvent.{ClientEvent}
-use Rattle.af_base.specs.declared.event.ServerEvent.{ServerEvent}
+use Rattle.af_enough_law.proofs.Common.{BlockTold, ClientEvent, EntrySeen, FastState, FastTrack, LegalEntries, LegalEntry, Listed, LooksBy, Marks, Run, ServerEvent, Session, Shape, TrackTold, client_list, count_seen, cycle_events, cycle_frames, drops_none, entry_slot, front_of, listed, mixed_track, played, server_kept, server_list, shown_if, slot_for, slot_of, slots, state_for, state_known, told_at, with_cycle, with_cycles, with_poll}
 use Rattle.af_base.specs.declared.event.ServerEvent.TheVariants as server
-use Rattle.af_base.specs.declared.seen.Seen.TheVariants as seen
-use Rattle.af_base.specs.declared.state.FastState.{FastState}
-use Rattle.af_base.specs.declared.state.FastTrack.{FastTrack}
-use Rattle.af_base.specs.Log.{slots, entry_slot, count_seen}
-use Rattle.af_model.specs.declared.shape.Shape.{Shape}
-use Rattle.af_model.specs.Cycles.{Listed, LooksBy, cycle_events}
-use Rattle.af_model.specs.Fates.{drops_none}
-use Rattle.af_model.specs.Journals.{EntrySeen}
-use Rattle.af_model.specs.ServerCalls.{server_kept}
-use Rattle.af_model.specs.StateQueue.{slot_of}
-use Rattle.af_runs.proofs.Basics.{shown_if}
-use Rattle.af_runs.specs.Blocks.{BlockTold, Marks, client_list, server_list, listed}
-use Rattle.af_runs.specs.Fronts.{front_of}
-use Rattle.af_runs.specs.Rounds.{LegalEntry, LegalEntries}
-use Rattle.af_runs.specs.Runs.{Run, TrackTold, told_at, slot_for, played, mixed_track, state_for, with_poll, with_cycle, with_cycles}
-use Rattle.af_runs.specs.Sessions.{Session, cycle_frames}
 use Rattle.af_enough_law.specs.Seen.{Stands, frames_put, frames_taken}
 use Rattle.af_enough_law.specs.FastFlows.{AllUse, AllStates, Plays, taken_in, asked_in, IsShown, AllShown}
 use Rattle.af_enough_law.proofs.FastMixes.{Uses, uses_of, entry_mixed}
 use Rattle.af_enough_law.proofs.FastShows.{Setting, Look, slot_look, stands-more}
 use Rattle.af_enough_law.proofs.FastSteps.{slot_only, cycle_states, cycle_length, cycle_track, mixed_stream, played_server, played_client}
-use Rattle.af_runs.proofs.StatesFor.{state_known}
 
 -- ## What an entry adds to blocks
 

@@ -1,28 +1,8 @@
 -- The report that a turn finds: it is told by the entries of the round without the state that the turn pushes, and goes on from the one before the round all the same.
 use Rattle.std.proofs.Common.{◌≡◌, ◌⊎◌, inl, inr, ℕ, ◌≤◌, ◌<◌, ◌||◌, ◌&&◌, if◌then◌else◌, unwrap_or, is_some, Bool, true, false, Option, Some, None, List, [], ◌∷◌, ◌++◌, length, length-append, refl, sym, ap, ◌∙◌, subst, arith, append_assoc, append-nil}
-use Rattle.std.proofs.lemmas.List.{take-append-drop}
-use Rattle.af_base.proofs.Basics.{or_true}
-use Rattle.af_base.specs.declared.log.CycleEntry.{CycleEntry}
-use Rattle.af_base.specs.declared.report.Report.{Report}
-use Rattle.af_base.specs.declared.report.SlotReport.{SlotReport}
-use Rattle.af_base.specs.declared.seen.Seen.{Seen}
+use Rattle.af_enough_law.proofs.Common.{BlockTold, ClientEvent, CycleEntry, EntrySeen, FastState, FastTrack, HasBlockHistory, IsClientList, LegalEntries, LegalRound, Listed, Marks, NormalKept, Report, RoundSeen, Run, Seen, ServerEvent, Session, Shape, SlotReport, TrackTold, after_round, after_turn, before_turn, calls_states, carries, client_list, counted_look, cycle_events, cycle_frames, drops_none, early_count, early_of, ends_part, entry_slot, flushes_of, front_of, hand_list, initial, is_shown, is_tame, kept, known_of, known_some, last_report, last_used, last_used-push, late_of, listed, met_after, next_slot, no_slot, or_true, played, polled_other, polled_pushed, polled_waits, report_at, report_of, server_kept, server_list, slot_for, slot_of, slot_report, slots, state_at, state_for, state_known, state_of, stream_of, take-append-drop, told_at, with_calls, with_cycle, with_cycles, with_looks, with_mix, with_poll}
 use Rattle.af_base.specs.declared.seen.Seen.TheVariants as seen
-use Rattle.af_base.specs.declared.state.FastState.{FastState}
-use Rattle.af_base.specs.declared.state.FastTrack.{FastTrack}
-use Rattle.af_base.specs.Log.{slots, entry_slot}
-use Rattle.af_judge.proofs.Basics.{calls_states, ends_part}
-use Rattle.af_model.specs.Cycles.{Listed, cycle_events, kept, state_of, last_used}
-use Rattle.af_model.specs.Draft.{initial}
-use Rattle.af_model.specs.Journals.{EntrySeen, RoundSeen}
-use Rattle.af_model.specs.Reports.{no_slot, counted_look, slot_report, report_at}
-use Rattle.af_model.specs.StateQueue.{slot_of, carries}
-use Rattle.af_model.proofs.UsedStates.{last_used-push}
-use Rattle.af_runs.specs.Blocks.{BlockTold, Marks, HasBlockHistory, hand_list, is_tame, listed, server_list, client_list}
-use Rattle.af_runs.specs.Fronts.{is_shown, front_of}
-use Rattle.af_runs.specs.Rounds.{LegalEntries, LegalRound, early_count, early_of, late_of, before_turn, after_turn, met_after, after_round}
-use Rattle.af_runs.specs.Runs.{Run, TrackTold, told_at, played, slot_for, state_for, plays, stream_of, known_of, next_slot, last_report, report_of, with_poll, with_looks, with_mix, with_cycle, with_cycles, with_calls}
-use Rattle.af_runs.specs.Sessions.{Session, cycle_frames}
-use Rattle.af_runs.specs.Told.{state_at}
+use Rattle.af_runs.specs.Runs.{plays}
 use Rattle.af_enough_law.specs.FastFlows.{AllUse, AllStates, Plays, slot_told, IsTold, LastCarries, IsShown, AllShown, Since, FlowsIn, HasItem}
 use Rattle.af_enough_law.proofs.FastFlows.{cycle_later, later_both, Later, entries_take, cycles_later, plays_track, Lies, lies_before, entry_look}
 use Rattle.af_enough_law.proofs.FastReports.{slot_counts, last_more, calls_same, slot_same, last_same, told_same, known_quiet}
@@ -34,17 +14,8 @@ use Rattle.af_enough_law.proofs.FastSteps.{cycle_states, cycle_length, cycle_tra
 use Rattle.af_enough_law.proofs.FastMixes.{uses_of, early_states, late_states, Uses}
 use Rattle.af_enough_law.proofs.FastShows.{Setting, stands-more}
 use Rattle.af_enough_law.specs.Seen.{Stands}
-use Rattle.af_model.specs.ClientCalls.{IsClientList}
-use Rattle.af_model.specs.History.{flushes_of}
 use Rattle.af_base.specs.declared.event.ServerEvent.TheVariants as server
-use Rattle.af_model.specs.declared.shape.Shape.{Shape}
-use Rattle.af_model.specs.Fates.{drops_none}
-use Rattle.af_model.specs.ServerCalls.{server_kept}
-use Rattle.af_base.specs.declared.event.ServerEvent.{ServerEvent}
-use Rattle.af_base.specs.declared.event.ClientEvent.{ClientEvent}
-use Rattle.af_runs.proofs.StatesFor.{known_some, polled_other, polled_pushed, polled_waits, state_known}
 use Rattle.af_enough_law.proofs.Commanding.{le_cases}
-use Rattle.af_life.specs.Kept.{NormalKept}
 
 -- ## One entry
 
@@ -64,11 +35,9 @@ next_found s run entry before i x is carried shown kept_on =
     ∙ ap (λ (b : Bool × Bool). if b.0 then counted_look (cycle_frames s) (slot_of x i).generation (entry_slot entry i).seen (known_of (listed (stream_of run x i))) (if b.1 then report_at before i else no_slot) else report_at before i) (λ j. (carried j, kept_on j))
 
 pub is_look : (answer : Seen) → IsShown answer → is_shown answer ≡ true
-is_look seen.Absent is = absurd is
 is_look (seen.Frames count) is = refl
 is_look seen.Empty is = refl
-is_look (seen.Flushed dropped) is = absurd is
-is_look (seen.Shut front rear) is = absurd is
+is_look _ is = absurd is
 
 -- a state that plays an item has it
 pub plays_item : (i : ℕ) (item : FastTrack) (x : FastState) → Plays i item x → HasItem i item x

@@ -1,18 +1,10 @@
 -- What the fast mixer knows after a round.
 use Rattle.std.proofs.Common.{◌≡◌, ℕ, ◌<◌, Bool, true, false, List, [], ◌∷◌, ◌++◌, length, take, sym, ap, ◌∙◌, subst, arith, length-append}
-use Rattle.std.proofs.Math.Seq.{take-append_seam}
-use Rattle.af_base.specs.declared.event.ClientEvent.{ClientEvent}
+use Rattle.af_enough_law.proofs.Common.{BlockTold, ClientEvent, RoundSeen, Run, ServerEvent, Session, TrackTold, after_round, all_played, client_does, client_list, ends_part, meets, meets_flag, met, met_after, server_list, stream_met, take-append_seam, takes_part, told_at, told_each, track_met}
 use Rattle.af_base.specs.declared.event.ClientEvent.TheVariants as client
 use Rattle.af_base.specs.declared.event.HandEvent.TheVariants as hand
-use Rattle.af_base.specs.declared.event.ServerEvent.{ServerEvent}
 use Rattle.af_base.specs.declared.event.ServerEvent.TheVariants as server
 use Rattle.af_enough_law.proofs.Basics.{part_met, put-append}
-use Rattle.af_judge.proofs.Basics.{ends_part, told_each}
-use Rattle.af_model.specs.Journals.{RoundSeen}
-use Rattle.af_runs.specs.Blocks.{BlockTold, client_list, server_list, client_does, meets, meets_flag}
-use Rattle.af_runs.specs.Rounds.{all_played, met_after, after_round}
-use Rattle.af_runs.specs.Runs.{Run, TrackTold, told_at, takes_part, stream_met, track_met, met}
-use Rattle.af_runs.specs.Sessions.{Session}
 use Rattle.af_enough_law.specs.Seen.{frames_put}
 use Rattle.af_enough_law.specs.FastFlows.{KnowsReleased}
 use Rattle.af_enough_law.proofs.FastRounds.{over, all_length}
@@ -31,12 +23,12 @@ knows_by cs ss m b calls events = record {
       ∙ (let a = put-append cs (client.Learn m ∷ []) in let e : frames_put cs ≡ frames_put (cs ++ client.Learn m ∷ []) = omega arith in e) ∙ ap frames_put (sym calls);
 }
 
-meets_client : (b : BlockTold) → client_list (meets b) ≡ client_list b ++ client.Learn (length (server_list b)) ∷ []
+pub meets_client : (b : BlockTold) → client_list (meets b) ≡ client_list b ++ client.Learn (length (server_list b)) ∷ []
 meets_client b =
     let called : BlockTold = client_does (client.Learn (length (server_list b)) ∷ []) b in
     server_does-client (server.Learn (length (client_list b)) ∷ []) called ∙ client_does-client (client.Learn (length (server_list b)) ∷ []) b
 
-meets_server : (b : BlockTold) → server_list (meets b) ≡ server_list b ++ server.Learn (length (client_list b)) ∷ []
+pub meets_server : (b : BlockTold) → server_list (meets b) ≡ server_list b ++ server.Learn (length (client_list b)) ∷ []
 meets_server b =
     let called : BlockTold = client_does (client.Learn (length (server_list b)) ∷ []) b in
     server_does-server (server.Learn (length (client_list b)) ∷ []) called ∙ ap (λ l. l ++ server.Learn (length (client_list b)) ∷ []) (client_does-server (client.Learn (length (server_list b)) ∷ []) b)

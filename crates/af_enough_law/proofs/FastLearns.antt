@@ -1,36 +1,15 @@
 -- After a round the fast mixer knows all states that were pushed.
 use Rattle.std.proofs.Common.{◌≡◌, ℕ, ◌+◌, ◌==◌, ◌&&◌, not, if◌then◌else◌, Bool, true, false, true≢false, Option, Some, None, is_some, List, [], ◌∷◌, ◌++◌, length, take, fold, refl, sym, ap, ◌∙◌, subst, arith, length-append}
-use Rattle.std.specs.Prelude.{MatchBool, MatchOption}
-use Rattle.std.proofs.Math.Seq.{take-append_seam}
-use Rattle.std.proofs.lemmas.Grind.{fold-append}
-use Rattle.af_base.specs.declared.state.FastState.{FastState}
-use Rattle.af_base.specs.declared.state.Push.{Push}
-use Rattle.af_base.specs.declared.state.Push.TheVariants.{Pushed, Clean, Busy}
-use Rattle.af_base.specs.Turn.{Turn, ended_turn}
+use Rattle.af_enough_law.proofs.Common.{Busy, Clean, FastState, Item, LegalRound, LegalTurnBy, Marks, MatchBool, MatchOption, MutatorEvent, MutatorPoint, NormalKept, ObserverEvent, Outside, Push, Pushed, QueueTold, RoundSeen, Run, Session, Setup, Turn, TurnFound, after_edits, after_round, after_turn, all_played, before_turn, brought_by, cycle_frames, draft_after, each_track, early_of, ended_turn, ends, fold-append, found_in, initial, is_pushed, items_of, late_of, learnt, loaded, met, met_after, mutator_does, mutator_list, mutator_next, mutator_start, new_run, number_seen, one, ones, outside_of, push_list, pushed_by, setup_of, state_at, take-append_seam, turned, two, twos, with_calls, with_cycles, with_ends, with_load, with_turn}
 use Rattle.af_enough_law.proofs.Basics.{before_normal}
-use Rattle.af_life.specs.Kept.{Setup, NormalKept, Outside}
-use Rattle.af_life.specs.Heard.{learnt}
-use Rattle.af_life.specs.Turn.{after_edits}
-use Rattle.af_life.specs.TurnEvents.{number_seen, push_list, mutator_list}
-use Rattle.af_model.specs.declared.states.MutatorEvent.{MutatorEvent}
 use Rattle.af_model.specs.declared.states.MutatorEvent.TheVariants as mutator
-use Rattle.af_model.specs.declared.states.ObserverEvent.{ObserverEvent}
 use Rattle.af_model.specs.declared.states.ObserverEvent.TheVariants as observer
-use Rattle.af_model.specs.Draft.{initial}
-use Rattle.af_model.specs.Journals.{EntrySeen, RoundSeen}
-use Rattle.af_model.specs.Order.{one, two, ones, twos}
 use Rattle.af_model.specs.StateQueue as queued
-use Rattle.af_model.specs.StateQueue.{MutatorPoint, mutator_start, mutator_next, mutated}
-use Rattle.af_runs.specs.Blocks.{Marks}
-use Rattle.af_runs.specs.Clients.{ends}
-use Rattle.af_runs.specs.Found.{TurnFound, LegalTurnBy, outside_of}
-use Rattle.af_runs.specs.Rounds.{LegalRound, early_of, late_of, before_turn, found_in, turned, after_turn, loaded, all_played, met_after, after_round}
-use Rattle.af_runs.specs.Runs.{Run, new_run, each_track, draft_after, pushed_by, with_calls, with_poll, with_mix, with_cycle, with_cycles, with_turn, with_load, met, with_ends}
-use Rattle.af_runs.specs.Sessions.{Session, setup_of, cycle_frames}
-use Rattle.af_runs.specs.Told.{Item, QueueTold, poll_events, brought_by, items_of, state_at, is_pushed, mutator_does}
+use Rattle.af_model.specs.StateQueue.{mutated}
 use Rattle.af_enough_law.specs.FastFlows.{KnowsStates, CountsStates}
 use Rattle.af_enough_law.proofs.FastPolls.{AllNext, all_next, next_rest, turn_met, before_states, round_states}
-use Rattle.af_enough_law.proofs.FastSteps.{observed-ones, mutated-ones}
+use Rattle.af_enough_law.proofs.FastSteps.{mutated-ones}
+use Rattle.af_enough_law.proofs.Acks.{cycles_ones}
 
 -- ## The pushes of a turn
 
@@ -73,14 +52,6 @@ turn_counts_states s f e run going none next counts =
     ∙ ap (λ n. n + length (pushed_by c o m e)) counts ∙ sym long
 
 -- ## The round
-
-cycle_ones : (s : Session) (run : Run) (e : EntrySeen) → ones (with_cycle s run e).queue ≡ ones run.queue
-unfolding with_poll with_mix
-cycle_ones s run e = observed-ones (poll_events (cycle_frames s) run.states run.current e.entry.state) run.queue
-
-cycles_ones : (s : Session) (es : List EntrySeen) (run : Run) → ones (with_cycles s es run).queue ≡ ones run.queue
-cycles_ones s [] run = refl
-cycles_ones s (e ∷ es) run = cycles_ones s es (with_cycle s run e) ∙ cycle_ones s run e
 
 calls_ones : (round : RoundSeen) (run : Run) → ones (with_calls round run).queue ≡ ones run.queue
 unfolding with_calls

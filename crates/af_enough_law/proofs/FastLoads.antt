@@ -1,23 +1,9 @@
 -- A turn loads a report that is no older than those of the rounds before.
 use Rattle.std.proofs.Common.{◌≡◌, ℕ, zero, suc, ◌+◌, ◌≤◌, if◌then◌else◌, Bool, true, false, Option, Some, None, List, [], ◌∷◌, ◌++◌, map, length, take, refl, sym, ap, ◌∙◌, subst, arith, append_assoc, append-nil, length-append}
-use Rattle.std.proofs.Math.Seq.{take-append_seam}
-use Rattle.std.proofs.lemmas.List.{take-append-le}
-use Rattle.af_base.specs.declared.report.Report.{Report}
-use Rattle.af_base.specs.Turn.{Turn}
-use Rattle.af_model.specs.declared.newest.ReaderEvent.{ReaderEvent}
+use Rattle.af_enough_law.proofs.Common.{EntrySeen, Event, LegalRound, Marks, ReaderEvent, Report, RoundSeen, Run, Session, Turn, TurnFound, WriterEvent, after_round, after_turn, all_played, before_turn, each_track, early_of, ends, found_in, late_of, loaded, met, met_after, new_run, no_report, one, ones, report_of, take-append-le, take-append_seam, turned, two, twos, with_calls, with_cycle, with_cycles, with_ends, with_load, with_mix, with_poll, with_turn}
 use Rattle.af_model.specs.declared.newest.ReaderEvent.TheVariants as reads
-use Rattle.af_model.specs.declared.newest.WriterEvent.{WriterEvent}
 use Rattle.af_model.specs.declared.newest.WriterEvent.TheVariants as writes
-use Rattle.af_model.specs.Journals.{EntrySeen, RoundSeen}
 use Rattle.af_model.specs.NewestValue as newest
-use Rattle.af_model.specs.Order.{Event, one, two, ones, twos}
-use Rattle.af_model.specs.Reports.{no_report}
-use Rattle.af_runs.specs.Blocks.{Marks}
-use Rattle.af_runs.specs.Clients.{ends}
-use Rattle.af_runs.specs.Found.{TurnFound}
-use Rattle.af_runs.specs.Rounds.{LegalRound, early_of, late_of, before_turn, found_in, turned, after_turn, loaded, all_played, met_after, after_round}
-use Rattle.af_runs.specs.Runs.{Run, each_track, report_of, new_run, with_calls, with_poll, with_mix, with_cycle, with_cycles, with_turn, with_load, met, with_ends}
-use Rattle.af_runs.specs.Sessions.{Session}
 use Rattle.af_enough_law.specs.Seen.{stored}
 use Rattle.af_enough_law.specs.FastFlows.{CountsReports, KnowsReports}
 use Rattle.af_enough_law.proofs.SeenShared.{load_seen}

@@ -1,24 +1,8 @@
 -- What an event of a server stands for in a history: what was consumed, released and learnt before it.
 use Rattle.std.proofs.Common.{◌≡◌, ℕ, ◌+◌, ◌*◌, ◌%◌, ◌≤◌, ◌==◌, if◌then◌else◌, Bool, true, false, None, List, [], ◌∷◌, ◌++◌, length, refl, sym, ap, ◌∙◌, subst, arith}
-use Rattle.std.proofs.Math.Nat.{zero-mod}
-use Rattle.std.proofs.lemmas.Grind.{fold-append}
-use Rattle.af_base.specs.declared.event.ClientEvent.{ClientEvent}
-use Rattle.af_base.specs.declared.event.HandEvent.{HandEvent}
-use Rattle.af_base.specs.declared.event.ServerEvent.{ServerEvent}
+use Rattle.af_enough_law.proofs.Common.{AllFit, ClientEvent, HandEvent, HasHistory, IsClientList, IsLegal, Moment, ServerEvent, ServerKept, ServerMay, Shape, TrackPoint, after, all_fit, by_client, by_hand, by_server, client_append, client_begins, client_of, drops_none, fit_split, flush_number, flush_word, flushes-append, flushes_are, flushes_of, fold-append, in_turn, legal_cut, room_in, server_begins, server_keeps, server_kept, server_of, start, wrapped, zero-mod}
 use Rattle.af_base.specs.declared.event.ServerEvent.TheVariants as server
 use Rattle.af_enough_law.proofs.Basics.{flush_none}
-use Rattle.af_judge.proofs.Basics.{client_append, legal_cut}
-use Rattle.af_model.proofs.Basics.{flushes-append}
-use Rattle.af_model.specs.declared.point.TrackPoint.{TrackPoint}
-use Rattle.af_model.specs.declared.shape.Shape.{Shape}
-use Rattle.af_model.specs.ClientCalls.{client_begins, IsClientList}
-use Rattle.af_model.specs.Fates.{drops_none}
-use Rattle.af_model.specs.History.{Moment, by_client, by_server, by_hand, client_of, server_of, after, flushes_of, IsLegal, HasHistory}
-use Rattle.af_model.specs.Point.{wrapped, start, flush_number, flush_word, ServerMay}
-use Rattle.af_model.specs.ServerCalls.{ServerKept, server_keeps, server_begins, server_kept}
-use Rattle.af_model.proofs.Counts.{flushes_are}
-use Rattle.af_model.proofs.Fates.{in_turn}
-use Rattle.af_model.proofs.RoomKept.{AllFit, all_fit, fit_split, room_in}
 use Rattle.af_enough_law.specs.Seen.{Stands, frames_put, frames_taken}
 use Rattle.af_enough_law.proofs.SeenBlocks.{server_cut, server_learnt, released_is, consumed_is}
 
@@ -34,16 +18,8 @@ flush_word_none k order none =
     ap (λ (x : ℕ × ℕ). flush_number (after (start k) order).wrap x.0 x.1) (λ i. ((flushes_are k order ∙ none) i, flush_none k order none i)) ∙ number_none (after (start k) order).wrap ((after (start k) order).wrap == 0)
 
 keeps_flush : (k : Shape) (kept : ServerKept) (p : TrackPoint) (n : ℕ) (e : ServerEvent) → ServerMay p n e → flush_word p ≡ 0 → kept.flush ≡ 0 → (server_keeps k kept e).flush ≡ 0
-keeps_flush k kept p n (server.SawGain word) may none is = is
 keeps_flush k kept p n (server.SawFlush flush) may none is = may ∙ none
-keeps_flush k kept p n (server.SawRear rear) may none is = is
-keeps_flush k kept p n (server.SawFront front) may none is = is
-keeps_flush k kept p n (server.Drop to) may none is = is
-keeps_flush k kept p n (server.Take count) may none is = is
-keeps_flush k kept p n (server.Tally missing) may none is = is
-keeps_flush k kept p n (server.SetFlags bits) may none is = is
-keeps_flush k kept p n (server.SetStatus word) may none is = is
-keeps_flush k kept p n (server.Learn count) may none is = is
+keeps_flush k kept p n _ may none is = is
 
 -- if the client never flushed, the server never saw a flush
 kept_flush_none : (k : Shape) (order : List Moment) → IsLegal (start k) order → flushes_of (client_of order) ≡ 0 → (server_kept k (server_of order)).flush ≡ 0

@@ -1,18 +1,7 @@
 -- If the states that a round may use mix, each of its entries is Mixed.
 use Rattle.std.proofs.Common.{◌≡◌, ◌⊎◌, inl, inr, ℕ, ◌≤◌, true, false, true≢false, Option, Some, List, [], ◌∷◌, ◌++◌, length, sym, ap, ◌∙◌, subst, arith, append-nil}
-use Rattle.std.proofs.lemmas.List.{take-append-drop}
-use Rattle.af_base.specs.declared.log.Cycle.{Cycle}
-use Rattle.af_base.specs.declared.state.Command.TheVariants.{MixWrite}
-use Rattle.af_base.specs.declared.state.FastState.{FastState}
+use Rattle.af_enough_law.proofs.Common.{AreMixedBut, Cycle, EntrySeen, FastState, LegalEntries, LegalEntry, LegalRound, Marks, MixWrite, RoundSeen, Run, Session, after_round, after_turn, calls_states, cold_done, cycle_by, cycle_of, early_count, early_of, fast_ended, is_mixed, late_of, state_more, state_of, take-append-drop, with_calls, with_cycle, with_poll}
 use Rattle.af_enough_law.proofs.Basics.{state_there}
-use Rattle.af_judge.proofs.Basics.{calls_states}
-use Rattle.af_model.specs.Cycles.{state_of, cycle_by, cycle_of, cold_done, is_mixed}
-use Rattle.af_model.specs.Journals.{EntrySeen, RoundSeen}
-use Rattle.af_runs.proofs.Basics.{state_more}
-use Rattle.af_runs.specs.Blocks.{Marks}
-use Rattle.af_runs.specs.Rounds.{AreMixedBut, LegalEntry, LegalEntries, LegalRound, early_count, early_of, late_of, after_turn, after_round}
-use Rattle.af_runs.specs.Runs.{Run, with_calls, with_poll, with_cycle, fast_ended}
-use Rattle.af_runs.specs.Sessions.{Session}
 use Rattle.af_enough_law.specs.FastFlows.{KnowsStates, AllUse, AllStates, AllMixed, MixesAll}
 use Rattle.af_enough_law.proofs.FastSteps.{cycle_states}
 use Rattle.af_enough_law.proofs.FastPolls.{MoreStates, round_states, turn_more, parts_use, fast_parts}

@@ -1,26 +1,10 @@
 -- Which states the entries of a round use.
 use Rattle.std.proofs.Common.{◌≡◌, ℕ, ◌+◌, ◌≤◌, ◌==◌, if◌then◌else◌, Bool, true, false, Option, Some, None, List, [], ◌∷◌, ◌++◌, length, take, drop, fold, refl, sym, ap, ◌∙◌, subst, arith, append_assoc, append-nil}
-use Rattle.std.specs.Prelude.{MatchBool}
-use Rattle.std.proofs.lemmas.List.{take-append-le, take-append-drop}
-use Rattle.std.proofs.lemmas.Grind.{fold-append}
-use Rattle.af_base.specs.declared.state.FastState.{FastState}
-use Rattle.af_base.specs.Turn.{Turn}
-use Rattle.af_judge.proofs.Basics.{calls_states, ends_states, loaded_states, met_states}
-use Rattle.af_model.specs.declared.states.MutatorEvent.{MutatorEvent}
+use Rattle.af_enough_law.proofs.Common.{EntrySeen, Event, FastState, HasQueueHistory, IsFastTurn, Item, Legal, LegalEntries, LegalEntry, LegalRound, Marks, MatchBool, MutatorEvent, MutatorPoint, ObserverEvent, QueuePoint, QueueTold, RoundSeen, Run, Session, Turn, TurnFound, after_round, after_turn, all_played, before_turn, calls_states, cycle_frames, early_of, ends_states, fast_ended, fold-append, found_in, initial, items_of, late_of, loaded, loaded_states, met, met_after, met_states, most_cycles, mutator_next, mutator_start, one, ones, poll_events, state_at, take-append-drop, take-append-le, turned, two, twos, with_calls, with_cycle, with_cycles, with_load, with_mix, with_poll, with_turn}
 use Rattle.af_model.specs.declared.states.MutatorEvent.TheVariants as mutator
-use Rattle.af_model.specs.declared.states.ObserverEvent.{ObserverEvent}
 use Rattle.af_model.specs.declared.states.ObserverEvent.TheVariants as observer
-use Rattle.af_model.specs.Draft.{initial}
-use Rattle.af_model.specs.Journals.{EntrySeen, RoundSeen}
-use Rattle.af_model.specs.Order.{Event, one, two, ones, twos, Legal}
 use Rattle.af_model.specs.StateQueue as queued
-use Rattle.af_model.specs.StateQueue.{MutatorPoint, QueuePoint, mutator_start, mutator_next, mutated}
-use Rattle.af_runs.specs.Blocks.{Marks}
-use Rattle.af_runs.specs.Found.{TurnFound}
-use Rattle.af_runs.specs.Rounds.{IsFastTurn, LegalEntry, LegalEntries, LegalRound, early_of, late_of, before_turn, found_in, turned, after_turn, loaded, all_played, met_after, after_round}
-use Rattle.af_runs.specs.Runs.{Run, with_calls, with_poll, with_mix, with_cycle, with_cycles, with_turn, with_load, met, fast_ended, most_cycles}
-use Rattle.af_runs.specs.Sessions.{Session, cycle_frames}
-use Rattle.af_runs.specs.Told.{Item, QueueTold, state_at, items_of, poll_events, HasQueueHistory}
+use Rattle.af_model.specs.StateQueue.{mutated}
 use Rattle.af_enough_law.specs.Seen.{Stands}
 use Rattle.af_enough_law.specs.FastFlows.{KnowsStates, AllUse}
 use Rattle.af_enough_law.proofs.FastShows.{stands-more}
@@ -223,10 +207,6 @@ turn_states s f e run = record { more = _; whole = refl }
 pub turned_states : (s : Session) (found : Turn → TurnFound) (o : Option Turn) (run : Run) → MoreStates run (turned s found o run)
 turned_states s found None run = record { more = []; whole = sym (append-nil run.states) }
 turned_states s found (Some e) run = turn_states s (found e) e run
-
-load_states : (e : Turn) (run : Run) → (with_load e run).states ≡ run.states
-unfolding with_load
-load_states e run = refl
 
 -- the states after the turn are those after the round
 pub round_states : (s : Session) (run : Run) (round : RoundSeen) → (after_round s run round).states ≡ (after_turn s run round).states

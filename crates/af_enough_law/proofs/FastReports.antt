@@ -1,41 +1,14 @@
 -- What the reports of a round tell of a slot.
 use Rattle.std.proofs.Common.{◌≡◌, ◌⊎◌, inl, inr, ℕ, zero, suc, ◌+◌, ◌≤◌, ◌<◌, ◌==◌, ◌||◌, not, if◌then◌else◌, is_some, Bool, true, false, Option, Some, None, List, [], ◌∷◌, ◌++◌, length, refl, sym, ap, ◌∙◌, arith, append-nil, append_assoc, length-append, min}
-use Rattle.std.proofs.lemmas.Grind.{fold-append}
-use Rattle.std.proofs.lemmas.List.{take-append-drop}
-use Rattle.std.proofs.lemmas.List.FromFn.{get_or-map-range_with_len}
-use Rattle.af_base.specs.declared.log.CycleEntry.{CycleEntry}
-use Rattle.af_base.specs.declared.report.Report.{Report}
-use Rattle.af_base.specs.declared.report.SlotReport.{SlotReport}
-use Rattle.af_base.specs.declared.seen.Seen.{Seen}
+use Rattle.af_enough_law.proofs.Common.{BlockTold, CycleEntry, EntrySeen, FastState, FastTrack, LegalRound, Marks, Report, RoundSeen, Run, Seen, ServerEvent, ServerKept, ServerKnown, Session, Shape, SlotReport, TrackTold, Turn, TurnFound, after_round, after_turn, all_played, before_turn, calls_states, carries, count_seen, counted_look, cycle_frames, each_track, early_count, early_of, ends, entry_slot, fast_ended, flushes_by, fold-append, found_in, get_or-map-range_with_len, is_empty, is_full, is_partial, known_of, last_report, last_used, last_used-push, late_of, listed, loaded, met, met_after, next_slot, no_report, no_slot, one_if, report_at, server_begins, server_keeps, server_list, slot_of, slot_report, slots, state_for, state_known, state_of, state_some, stream_of, take-append-drop, told_at, turned, with_calls, with_cycle, with_cycles, with_ends, with_load, with_looks, with_mix, with_poll, with_turn}
 use Rattle.af_base.specs.declared.seen.Seen.TheVariants as seen
-use Rattle.af_base.specs.declared.state.FastState.{FastState}
-use Rattle.af_base.specs.declared.state.FastTrack.{FastTrack}
-use Rattle.af_base.specs.Log.{slots, entry_slot, count_seen}
-use Rattle.af_judge.proofs.Basics.{calls_states}
-use Rattle.af_model.specs.Cycles.{state_of, last_used}
-use Rattle.af_model.specs.Journals.{EntrySeen, RoundSeen}
-use Rattle.af_model.specs.Reports.{ServerKnown, no_slot, one_if, is_full, is_partial, is_empty, counted_look, slot_report, no_report, report_at}
-use Rattle.af_model.specs.StateQueue.{slot_of, carries}
-use Rattle.af_model.proofs.UsedStates.{last_used-push}
-use Rattle.af_model.specs.declared.shape.Shape.{Shape}
-use Rattle.af_model.specs.ServerCalls.{ServerKept, server_keeps, server_begins, flushes_by}
-use Rattle.af_base.specs.declared.event.ServerEvent.{ServerEvent}
 use Rattle.af_base.specs.declared.event.ServerEvent.TheVariants as server
-use Rattle.af_base.specs.Turn.{Turn}
-use Rattle.af_runs.proofs.Basics.{state_some}
-use Rattle.af_runs.specs.Clients.{ends}
-use Rattle.af_runs.specs.Found.{TurnFound}
-use Rattle.af_runs.specs.Rounds.{LegalRound, early_count, early_of, late_of, before_turn, found_in, turned, after_turn, loaded, all_played, met_after, after_round}
-use Rattle.af_runs.specs.Blocks.{BlockTold, Marks, listed, client_list, server_list}
-use Rattle.af_runs.specs.Runs.{Run, TrackTold, told_at, state_for, plays, stream_of, known_of, next_slot, last_report, with_poll, with_looks, with_mix, with_cycle, with_cycles, with_calls, with_turn, with_load, met, with_ends, each_track, fast_ended}
-use Rattle.af_runs.specs.Sessions.{Session, cycle_frames}
-use Rattle.af_enough_law.specs.FastFlows.{AllUse, AllStates, Plays, slot_told, IsTold, LastCarries, heard_by, silent_by, heard_in, silent_in, Counted, FlowsIn, Flowed, Reported, taken_in, IsShown, AllShown, frames_left_in, KnowsStates}
-use Rattle.af_enough_law.specs.Seen.{frames_put}
+use Rattle.af_runs.specs.Runs.{plays}
+use Rattle.af_enough_law.specs.FastFlows.{AllUse, AllStates, Plays, slot_told, IsTold, LastCarries, heard_by, silent_by, heard_in, silent_in, Counted, FlowsIn, Flowed, Reported, taken_in, frames_left_in, KnowsStates}
 use Rattle.af_enough_law.proofs.FastMixes.{Uses, uses_of, mixes_all, early_states, late_states}
 use Rattle.af_enough_law.proofs.FastPolls.{turned_states, parts_use}
 use Rattle.af_enough_law.proofs.FastRounds.{Quiet, over, loaded_told}
 use Rattle.af_enough_law.proofs.FastSteps.{cycle_states}
-use Rattle.af_runs.proofs.StatesFor.{state_known}
 
 -- ## One entry
 
@@ -53,10 +26,7 @@ heard_one asked (seen.Shut front rear) = refl
 
 silent_one : (answer : Seen) → one_if (is_empty answer) ≡ silent_by answer
 silent_one seen.Absent = refl
-silent_one (seen.Frames count) = refl
-silent_one seen.Empty = refl
-silent_one (seen.Flushed dropped) = refl
-silent_one (seen.Shut front rear) = refl
+silent_one _ = refl
 
 -- the last report after one more
 pub last_more : (reports : List Report) (report : Report) → last_report (reports ++ report ∷ []) ≡ report
@@ -328,30 +298,9 @@ heard_some i [] some = absurd (let z : ⊥ = omega (arith, some) in z)
 heard_some i (e ∷ es) some = by (entry_slot e.entry i).seen some (heard_some i es)
   where
     by : (answer : Seen) → 1 ≤ count_seen answer + taken_in i es → (1 ≤ taken_in i es → 1 ≤ heard_in i es) → 1 ≤ heard_by answer + heard_in i es
-    by seen.Absent low rest = let r = rest (omega (arith, low)) in omega (arith, r)
     by (seen.Frames count) low rest = omega arith
-    by seen.Empty low rest = let r = rest (omega (arith, low)) in omega (arith, r)
-    by (seen.Flushed dropped) low rest = let r = rest (omega (arith, low)) in omega (arith, r)
-    by (seen.Shut front rear) low rest = let r = rest (omega (arith, low)) in omega (arith, r)
-
-heard_none : (i : ℕ) (es : List EntrySeen) → AllShown i es → taken_in i es ≡ 0 → (heard_in i es ≡ 0) × (silent_in i es ≡ length es)
-heard_none i [] shown none = (refl, refl)
-heard_none i (e ∷ es) shown none = by (entry_slot e.entry i).seen shown.0 none (heard_none i es shown.1)
-  where
-    by : (answer : Seen) → IsShown answer → count_seen answer + taken_in i es ≡ 0 → (taken_in i es ≡ 0 → (heard_in i es ≡ 0) × (silent_in i es ≡ length es)) → (heard_by answer + heard_in i es ≡ 0) × (silent_by answer + silent_in i es ≡ length (e ∷ es))
-    by seen.Absent is low rest = absurd is
-    by (seen.Frames count) is low rest = absurd (let z : ⊥ = omega (arith, is, low) in z)
-    by seen.Empty is low rest = let r = rest (omega (arith, low)) in let a = r.0 in let b = r.1 in (omega (arith, a), omega (arith, b))
-    by (seen.Flushed dropped) is low rest = absurd is
-    by (seen.Shut front rear) is low rest = absurd is
+    by _ low rest = let r = rest (omega (arith, low)) in omega (arith, r)
 
 -- if frames were left before the round, some look shows frames
 pub hears_some : (s : Session) (run : Run) (round : RoundSeen) (track i : ℕ) → Flowed s run round track i → 1 ≤ cycle_frames s → 1 ≤ frames_left_in (told_at run track).stream → 1 ≤ heard_in i round.entries
 hears_some s run round track i f some left = heard_some i round.entries (let a = f.enough in omega arith)
-
--- if none were left, and none were released in the round, all looks are empty
-pub hears_none : (s : Session) (run : Run) (round : RoundSeen) (track i : ℕ) → Flowed s run round track i → frames_put (client_list (told_at (after_round s run round) track).stream) ≡ frames_put (client_list (told_at run track).stream)
-    → frames_left_in (told_at run track).stream ≡ 0 → (heard_in i round.entries ≡ 0) × (silent_in i round.entries ≡ 16)
-hears_none s run round track i f same left =
-    let h = heard_none i round.entries f.shown (let a = f.within in let b = f.taken in omega arith) in
-    (h.0, h.1 ∙ f.mixes.count)

@@ -1,26 +1,14 @@
 -- What a round does to a stream block beside the entries, and what all its entries take.
 use Rattle.std.proofs.Common.{◌≡◌, ◌⊎◌, inl, inr, ℕ, ◌<◌, if◌then◌else◌, Bool, true, false, Option, Some, None, List, [], ◌∷◌, ◌++◌, length, drop, refl, sym, ap, ◌∙◌, subst, arith, append-nil}
-use Rattle.af_base.specs.declared.event.ClientEvent.{ClientEvent}
+use Rattle.af_enough_law.proofs.Common.{BlockTold, ClientEvent, EntrySeen, NormalKept, Outside, RoundSeen, Run, ServerEvent, Session, Setup, Side, TrackTold, Turn, TurnFound, after_calls, after_round, after_turn, all_played, before_turn, called, calls_in, client_does, client_list, each_at, each_long, each_track, early_of, ends, found_in, hand_does, late_of, learnt, loaded, meets, meets_flag, met, met_after, met_many, outside_of, server_list, setup_of, sides_of, stream_list, stream_met, stream_turned, takes_part, told_at, told_each, track_met, tracks_at, turned, turned_track, with_calls, with_cycle, with_cycles, with_ends, with_load, with_side, with_turn}
 use Rattle.af_base.specs.declared.event.ClientEvent.TheVariants as client
-use Rattle.af_base.specs.declared.event.ServerEvent.{ServerEvent}
 use Rattle.af_base.specs.declared.event.ServerEvent.TheVariants as server
-use Rattle.af_base.specs.Turn.{Turn}
 use Rattle.af_base.specs.declared.event.HandEvent.TheVariants as hand
 use Rattle.af_enough_law.proofs.Basics.{load_told}
-use Rattle.af_judge.proofs.Basics.{each_at, each_long, met_many, told_each}
-use Rattle.af_life.specs.Heard.{learnt}
-use Rattle.af_life.specs.TurnEvents.{tracks_at, hand_list, stream_list}
-use Rattle.af_life.specs.Kept.{Setup, NormalKept, Outside}
-use Rattle.af_model.specs.Journals.{EntrySeen, RoundSeen}
-use Rattle.af_runs.specs.Blocks.{BlockTold, client_list, server_list, client_does, hand_does, meets, meets_flag}
-use Rattle.af_runs.specs.ClientTurns.{Side, after_calls}
-use Rattle.af_runs.specs.Clients.{ends}
-use Rattle.af_runs.specs.Found.{TurnFound, outside_of}
-use Rattle.af_runs.specs.Rounds.{early_of, late_of, before_turn, found_in, turned, after_turn, loaded, all_played, met_after, after_round}
-use Rattle.af_runs.specs.Runs.{Run, TrackTold, told_at, each_track, sides_of, with_side, called, calls_in, with_calls, with_cycle, with_cycles, turned_track, stream_turned, with_turn, with_load, stream_met, takes_part, track_met, met, with_ends}
-use Rattle.af_runs.specs.Sessions.{Session, setup_of}
+use Rattle.af_life.specs.TurnEvents.{hand_list}
 use Rattle.af_enough_law.proofs.FastFlows.{Later, later_same, cycles_later}
 use Rattle.af_enough_law.proofs.FastSteps.{server_does-server, server_does-client, client_does-client, client_does-server, hand_does-client, hand_does-server, cycle_length}
+use Rattle.af_enough_law.proofs.RunTracks.{calls_long as calls_length}
 
 -- ## Steps that add no look
 
@@ -45,10 +33,6 @@ unfolding with_calls
 calls_quiet round run track low =
     subst (λ (t : TrackTold). Quiet (told_at run track).stream t.stream) (sym (told_each (λ track t. called (calls_in round track) t) run track low))
     (side_quiet (after_calls (sides_of (told_at run track)) (calls_in round track)).stream (told_at run track).stream)
-
-pub calls_length : (round : RoundSeen) (run : Run) → length (with_calls round run).tracks ≡ length run.tracks
-unfolding with_calls
-calls_length round run = each_long (λ track t. called (calls_in round track) t) 0 run.tracks
 
 pub cycles_length : (s : Session) (es : List EntrySeen) (run : Run) → length (with_cycles s es run).tracks ≡ length run.tracks
 cycles_length s [] run = refl
@@ -143,10 +127,6 @@ ends_by false run track low = refl
 pub ends_stream : (run : Run) (track : ℕ) → track < length run.tracks → (told_at (with_ends run) track).stream ≡ (told_at run track).stream
 unfolding with_ends
 ends_stream run track low = ends_by run.normal.ended run track low
-
-part_by : (s : Session) (b : Bool) (run : Run) (track : ℕ) → takes_part s (if b then each_track (λ track t. record t { client = ends t.client }) run else run) track ≡ takes_part s run track
-part_by s true run track = refl
-part_by s false run track = refl
 
 -- ## All that a round does to a block
 

@@ -1,30 +1,10 @@
 -- What a look of the fast mixer takes, if it is told in a history of a block that was never flushed.
 use Rattle.std.proofs.Common.{◌≡◌, ◌⊎◌, inl, inr, ℕ, zero, suc, ◌+◌, ◌-◌, ◌≤◌, ◌<◌, ◌==◌, ◌&&◌, not, nat_lt, min, if◌then◌else◌, is_some, Bool, true, false, true≢false, Option, Some, None, List, [], ◌∷◌, ◌++◌, length, take, fold, MatchOption, refl, sym, ap, ◌∙◌, subst, arith, append_assoc, eqb-true}
-use Rattle.std.proofs.lemmas.Bool.Decides.{nat_tests}
-use Rattle.std.proofs.lemmas.Grind.{fold-append}
-use Rattle.af_base.proofs.Basics.{both_true, either_none, is_not_below}
-use Rattle.af_base.specs.declared.event.ClientEvent.{ClientEvent}
-use Rattle.af_base.specs.declared.event.HandEvent.{HandEvent}
-use Rattle.af_base.specs.declared.event.ServerEvent.{ServerEvent}
+use Rattle.af_enough_law.proofs.Common.{ClientEvent, HandEvent, HasHistory, IsClientList, IsSeen, Listed, LooksBy, Seen, ServerEvent, ServerKept, Shape, SlotEntry, ahead, ahead-between, behind, both_first, both_right, both_true, count_seen, cycle_events, drops_none, either_none, flushes_of, fold-append, front_of, is_not_below, is_noticed, is_own_inside, keeps_all, kept, look_at, look_events, nat_tests, outside, own_front, server_begins, server_keeps, server_kept, tally, tally_none, wrapped}
 use Rattle.af_base.specs.declared.event.ServerEvent.TheVariants as server
-use Rattle.af_base.specs.declared.log.SlotEntry.{SlotEntry}
-use Rattle.af_base.specs.declared.seen.Seen.{Seen}
 use Rattle.af_base.specs.declared.seen.Seen.TheVariants as seen
-use Rattle.af_base.specs.Log.{count_seen}
 use Rattle.af_enough_law.proofs.Basics.{old_word, put-append, taken-append}
-use Rattle.af_judge.proofs.Basics.{tally_none}
-use Rattle.af_model.proofs.Basics.{both_first}
-use Rattle.af_model.specs.declared.shape.Shape.{Shape}
-use Rattle.af_model.specs.ClientCalls.{IsClientList}
-use Rattle.af_model.specs.Cycles.{IsSeen, Listed, LooksBy, kept, tally, after_look, cycle_events}
-use Rattle.af_model.specs.Fates.{keeps_all, drops_none}
-use Rattle.af_model.specs.History.{flushes_of, HasHistory}
-use Rattle.af_model.specs.Point.{wrapped}
-use Rattle.af_model.specs.Room.{ahead, outside}
-use Rattle.af_model.specs.ServerCalls.{ServerKept, is_noticed, server_keeps, server_begins, server_kept, look_at, look_events}
-use Rattle.af_model.specs.Spelled.{own_front}
-use Rattle.af_model.proofs.Logic.{both_right, ahead-between}
-use Rattle.af_runs.specs.Fronts.{behind, is_own_inside, front_of}
+use Rattle.af_model.specs.Cycles.{after_look}
 use Rattle.af_enough_law.specs.Seen.{Stands, frames_put, frames_taken}
 use Rattle.af_enough_law.specs.FastFlows.{IsShown}
 use Rattle.af_enough_law.proofs.FastLooks.{Moments, moment}
@@ -126,7 +106,7 @@ pub record Look (k : Shape) (asked : ℕ) (cs : List ClientEvent) (before : List
   pub within : frames_taken before + count_seen answer ≤ frames_put cs
   pub reaches : (n : ℕ) → Stands (server.Learn n) before → (count_seen answer ≡ asked) ⊎ (frames_put (take n cs) ≤ frames_taken before + count_seen answer)
 
-open_words : (frames c r : ℕ) → frames ≤ 65536 → c ≤ r → r ≤ c + frames → outside frames (wrapped c) (wrapped r) ≡ None
+pub open_words : (frames c r : ℕ) → frames ≤ 65536 → c ≤ r → r ≤ c + frames → outside frames (wrapped c) (wrapped r) ≡ None
 open_words frames c r few low high =
     let e : ahead (wrapped c) (wrapped r) ≡ r - c = ahead-between c r low (omega arith) in
     ap (λ (b : Bool). if b then Some (wrapped c, wrapped r) else None) (is_not_below frames (ahead (wrapped c) (wrapped r)) (omega arith))

@@ -1,25 +1,7 @@
 -- What an entry of the fast mixer changes of a run.
 use Rattle.std.proofs.Common.{◌≡◌, ℕ, zero, suc, ◌+◌, ◌≤◌, ◌<◌, ◌==◌, ◌&&◌, if◌then◌else◌, Bool, true, false, true≢false, Option, Some, None, List, [], ◌∷◌, ◌++◌, length, map, fold, refl, sym, ap, ◌∙◌, arith, append_assoc, append-nil, eqb-true, eq-eqb}
-use Rattle.std.specs.List.{find, range_with_len}
-use Rattle.af_base.specs.declared.event.ClientEvent.{ClientEvent}
-use Rattle.af_base.specs.declared.event.HandEvent.{HandEvent}
-use Rattle.af_base.specs.declared.event.ServerEvent.{ServerEvent}
-use Rattle.af_base.specs.declared.state.FastState.{FastState}
-use Rattle.af_base.specs.Log.{slots, entry_slot}
-use Rattle.af_judge.proofs.Basics.{each_long, told_each}
-use Rattle.af_model.specs.declared.states.MutatorEvent.{MutatorEvent}
-use Rattle.af_model.specs.declared.states.ObserverEvent.{ObserverEvent}
-use Rattle.af_model.specs.Cycles.{cycle_events}
-use Rattle.af_model.specs.History.{Moment, by_client, by_server, by_hand, client_of, server_of}
-use Rattle.af_model.specs.Journals.{EntrySeen}
-use Rattle.af_model.specs.Order.{one, two, ones, twos}
-use Rattle.af_model.specs.StateQueue.{slot_of, carries}
-use Rattle.af_runs.specs.Blocks.{BlockTold, client_list, server_list, listed, server_does, client_does, hand_does, Marks}
-use Rattle.af_runs.specs.Fronts.{front_of, is_shown}
-use Rattle.af_runs.specs.Runs.{Run, TrackTold, told_at, plays, slot_for, played, mixed_track, state_for, with_poll, with_mix, with_cycle, with_cycles}
-use Rattle.af_runs.specs.Sessions.{Session, cycle_frames}
-use Rattle.af_runs.specs.Told.{Item, QueueTold, poll_events, mutator_does, observer_does}
-use Rattle.af_runs.specs.Rounds.{LegalEntry}
+use Rattle.af_enough_law.proofs.Common.{BlockTold, ClientEvent, EntrySeen, FastState, HandEvent, Item, LegalEntry, Marks, Moment, MutatorEvent, ObserverEvent, QueueTold, Run, ServerEvent, Session, TrackTold, by_client, by_hand, by_server, carries, client_does, client_list, client_of, cycle_events, cycle_frames, each_long, entry_slot, find, front_of, hand_does, is_shown, listed, mixed_track, mutator_does, observer_does, one, ones, played, poll_events, range_with_len, server_does, server_list, server_of, slot_for, slot_of, slots, state_for, told_at, told_each, two, twos, with_cycle, with_cycles, with_mix, with_poll}
+use Rattle.af_runs.specs.Runs.{plays}
 
 -- ## Blocks
 

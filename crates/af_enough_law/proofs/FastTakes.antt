@@ -1,24 +1,8 @@
 -- What a round takes of a track that flows in a slot.
 use Rattle.std.proofs.Common.{◌≡◌, ◌⊎◌, inl, inr, ℕ, ◌+◌, ◌-◌, ◌*◌, ◌≤◌, min, true, false, None, List, [], ◌∷◌, ◌++◌, length, take, fold, refl, sym, ap, ◌∙◌, subst, arith, append-nil}
-use Rattle.std.proofs.lemmas.List.{take-append-drop, take-append-le}
-use Rattle.std.proofs.lemmas.Grind.{fold-append}
-use Rattle.af_base.specs.declared.event.ServerEvent.{ServerEvent}
+use Rattle.af_enough_law.proofs.Common.{BlockTold, ClientEvent, EntrySeen, FastTrack, HasBlockHistory, IsClientList, LegalRound, Marks, RoundSeen, Run, ServerEvent, ServerKept, Session, Shape, after_round, after_turn, before_turn, calls_states, client_list, client_of, cycle_frames, drops_none, early_count, early_of, ends_part, flushes_of, fold-append, hand_list, in_turn, is_tame, late_of, met_after, server_begins, server_keeps, server_kept, server_list, server_of, take-append-drop, take-append-le, told_at, with_calls, with_cycles}
 use Rattle.af_base.specs.declared.event.ServerEvent.TheVariants as server
-use Rattle.af_base.specs.declared.event.ClientEvent.{ClientEvent}
-use Rattle.af_base.specs.declared.state.FastTrack.{FastTrack}
 use Rattle.af_enough_law.proofs.Basics.{asked_in-append, asked_is, taken-append}
-use Rattle.af_judge.proofs.Basics.{calls_states, ends_part}
-use Rattle.af_model.specs.declared.shape.Shape.{Shape}
-use Rattle.af_model.specs.ClientCalls.{IsClientList}
-use Rattle.af_model.specs.Fates.{drops_none}
-use Rattle.af_model.specs.History.{client_of, server_of, flushes_of}
-use Rattle.af_model.specs.Journals.{EntrySeen, RoundSeen}
-use Rattle.af_model.specs.ServerCalls.{ServerKept, server_keeps, server_begins, server_kept}
-use Rattle.af_model.proofs.Fates.{in_turn}
-use Rattle.af_runs.specs.Blocks.{BlockTold, Marks, HasBlockHistory, client_list, server_list, hand_list, is_tame}
-use Rattle.af_runs.specs.Rounds.{LegalRound, early_count, early_of, late_of, before_turn, after_turn, met_after, after_round}
-use Rattle.af_runs.specs.Runs.{Run, told_at, with_calls, with_cycles}
-use Rattle.af_runs.specs.Sessions.{Session, cycle_frames}
 use Rattle.af_enough_law.specs.Seen.{Stands, frames_put, frames_taken}
 use Rattle.af_enough_law.specs.FastFlows.{taken_in, asked_in, AllShown, frames_left_in, FlowsIn, Flowed}
 use Rattle.af_enough_law.proofs.FastFlows.{Later, later_both, Lies, lies_before, entries_take}

@@ -1,30 +1,15 @@
 -- In its first whole turn a client that plays through sends OPEN and START.
 use Rattle.std.proofs.Common.{◌≡◌, ◌⊎◌, inl, inr, ℕ, ◌+◌, ◌-◌, ◌≤◌, Some, None, List, [], ◌∷◌, length, length-append, fold, sym, ap, ◌∙◌, subst, arith}
-use Rattle.af_base.proofs.Basics.{some_same}
-use Rattle.af_base.specs.declared.event.ClientCall.{ClientCall}
+use Rattle.af_enough_law.proofs.Common.{AreCalls, Client, ClientCall, ClientCommand, IsMade, Mode, Op, Track, Want, after_answer, after_call, begun, commands_sent, next_want, some_same, wanted_of, with_call}
 use Rattle.af_base.specs.declared.event.ClientCall.TheVariants as call
-use Rattle.af_script.specs.declared.op.Op.{Op}
 use Rattle.af_script.specs.declared.op.Op.TheVariants as op
-use Rattle.af_runs.specs.Clients.{Client, begun, next_want, after_answer}
-use Rattle.af_runs.specs.ClientTurns.{Track, IsMade, with_call, commands_sent, wanted_of, after_call, AreCalls}
-use Rattle.af_runs.specs.declared.want.ClientCommand.{ClientCommand}
 use Rattle.af_runs.specs.declared.want.ClientCommand.TheVariants as command
-use Rattle.af_runs.specs.declared.want.Mode.{Mode}
 use Rattle.af_runs.specs.declared.want.Mode.TheVariants as mode
-use Rattle.af_runs.specs.declared.want.Want.{Want}
 use Rattle.af_runs.specs.declared.want.Want.TheVariants as want
 use Rattle.af_enough_law.specs.Playing.{IsFair, AreFair}
 use Rattle.af_enough_law.proofs.Doing.{at, sent_is, sent_of}
 use Rattle.af_enough_law.proofs.Turning.{none_some, client_after, words_of, spoken_after}
-
--- fair calls leave no fewer words sent
-pub released_on : (t : Track) (calls : List ClientCall) → AreFair calls → length t.commands.released ≤ length (fold after_call t calls).commands.released
-released_on t [] fair = omega arith
-released_on t (answer ∷ calls) fair =
-    let a = ap length (spoken_after t answer fair.0) in
-    let b = length-append t.commands.released (words_of (sent_of answer)) in
-    let d = released_on (after_call t answer) calls fair.1 in
-    omega (arith, a, b, d)
+use Rattle.af_enough_law.proofs.SeesStopped.{spoken_long as released_on}
 
 -- a send that is wanted, and answered fairly, sends two words
 sends_one : (t : Track) (due : List Want) (ops : List Op) (m : Mode) (sending : ClientCommand) (rest : List Want) (answer : ClientCall) (wanted : Want) → begun t.client ≡ at (want.Send sending ∷ rest) ops m → wanted_of t ≡ Some wanted → IsMade t wanted answer → IsFair answer

@@ -1,22 +1,8 @@
 -- A round brings a track on that flows: by a portion at least of what is still to be put, to be taken and to be done.
 use Rattle.std.proofs.Common.{◌≡◌, ◌⊎◌, inl, inr, ℕ, zero, suc, ◌+◌, ◌-◌, ◌*◌, ◌^◌, ◌≤◌, ◌<◌, min, Bool, true, false, true≢false, List, [], ◌∷◌, length, fold, refl, sym, ap, ◌∙◌, subst, arith}
-use Rattle.af_base.specs.declared.event.ClientCall.{ClientCall}
-use Rattle.af_base.specs.declared.event.ServerEvent.{ServerEvent}
-use Rattle.af_judge.proofs.Basics.{begins_ended}
-use Rattle.af_life.specs.Kept.{track_in}
-use Rattle.af_model.specs.declared.shape.Shape.{Shape}
-use Rattle.af_model.specs.Journals.{RoundSeen}
-use Rattle.af_script.specs.declared.op.Op.{Op}
+use Rattle.af_enough_law.proofs.Common.{Client, ClientCall, LegalRound, Marks, Mode, Op, RoundSeen, Run, ServerEvent, Session, Shape, Track, TrackTold, Want, after_call, after_calls, after_round, begins_ended, begun, calls_in, client_list, server_list, sides_of, told_at, track_in}
 use Rattle.af_script.specs.declared.op.Op.TheVariants as op
-use Rattle.af_runs.specs.Blocks.{Marks, client_list, server_list}
-use Rattle.af_runs.specs.Clients.{Client, begun}
-use Rattle.af_runs.specs.ClientTurns.{Track, after_call, after_calls}
-use Rattle.af_runs.specs.declared.want.Mode.{Mode}
-use Rattle.af_runs.specs.declared.want.Want.{Want}
 use Rattle.af_runs.specs.declared.want.Want.TheVariants as want
-use Rattle.af_runs.specs.Rounds.{LegalRound, after_round}
-use Rattle.af_runs.specs.Runs.{Run, TrackTold, told_at, sides_of, calls_in}
-use Rattle.af_runs.specs.Sessions.{Session}
 use Rattle.af_enough_law.specs.Nearing.{is_started, IsPast, buffer_of, RoundFlows}
 use Rattle.af_enough_law.specs.NormalRounds.{TurnMade}
 use Rattle.af_enough_law.specs.Playing.{IsWay, way_ops, Doing, opening, starting, settling, setting, writing, clearing, clearing_more, stopping, draining, removing, position, AreFair}
@@ -99,7 +85,7 @@ pub data FlowCame (s : Session) (run : Run) (round : RoundSeen) (i q total due :
   fell : (most left : ℕ) → left + q ≤ due → InFlow (after_round s run round) i q most total left → FlowCame s run round i q total due
 
 -- the words of all commands, or of those up to the STOP
-words_some : (released : List ℕ) (given : List (ℕ × ℕ)) (codes : List ℕ) → released ≡ words_of given → codes_of given ≡ codes → 3 ≤ length codes → 6 ≤ length released
+pub words_some : (released : List ℕ) (given : List (ℕ × ℕ)) (codes : List ℕ) → released ≡ words_of given → codes_of given ≡ codes → 3 ≤ length codes → 6 ≤ length released
 words_some released given codes words is some = let a = codes_long given codes is in let b = ap length words in omega (arith, a, b, some)
 
 -- a client that has sent its STOP has sent its REMOVE too, or has put all

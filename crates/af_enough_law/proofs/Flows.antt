@@ -1,12 +1,7 @@
 -- How many rounds the ops of a track take at most, in numbers.
 use Rattle.std.proofs.Common.{◌≡◌, ℕ, ◌+◌, ◌*◌, ◌≤◌, List, [], ◌∷◌, arith}
-use Rattle.std.specs.Int.{div_ceil}
-use Rattle.std.specs.List.{sum_by}
-use Rattle.std.proofs.lemmas.Grind.{div_ceil_times}
-use Rattle.std.proofs.lemmas.List.Sums.{sum_by-cons}
-use Rattle.af_script.specs.declared.op.Op.{Op}
+use Rattle.af_enough_law.proofs.Common.{Op, div_ceil, div_ceil_times, op_cost, sum_by, sum_by-cons}
 use Rattle.af_script.specs.declared.op.Op.TheVariants as op
-use Rattle.af_enough.specs.Enough.{op_cost}
 use Rattle.af_enough_law.specs.Playing.{IsWay, way_ops, way_frames}
 
 -- the most rounds that an op takes

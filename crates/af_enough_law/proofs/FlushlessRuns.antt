@@ -1,20 +1,10 @@
 -- In a run of a script whose tracks play through no client flushes.
-use Rattle.std.proofs.Common.{◌≡◌, ℕ, ◌+◌, ◌<◌, Bool, true, List, [], ◌∷◌, length, refl, sym, ap, ◌∙◌, subst, arith}
-use Rattle.af_base.specs.declared.frame.Frame.{Frame}
-use Rattle.af_judge.proofs.Basics.{new_at, new_long}
-use Rattle.af_model.specs.Journals.{RoundSeen}
-use Rattle.af_script.specs.Data.{ScriptData}
-use Rattle.af_script.specs.Form.{IsScript}
-use Rattle.af_script.specs.declared.op.Op.{Op}
+use Rattle.std.proofs.Common.{◌≡◌, ℕ, ◌+◌, ◌<◌, true, List, [], ◌∷◌, length, refl, sym, ap, ◌∙◌, subst}
+use Rattle.af_enough_law.proofs.Common.{Frame, IsScript, Op, ScriptData, all_play_through, new_at, new_run, session_of, sides_of, told_at}
 use Rattle.af_script.specs.declared.op.Op.TheVariants as op
-use Rattle.af_runs.specs.Blocks.{Marks}
-use Rattle.af_runs.specs.LegalRuns.{session_of, LegalRounds, run_from}
-use Rattle.af_runs.specs.Runs.{new_run, told_at, sides_of}
-use Rattle.af_enough.specs.Enough.{all_play_through}
 use Rattle.af_enough_law.specs.Playing.{IsWay}
 use Rattle.af_enough_law.proofs.Flushless.{plain_ops, IsFlushlessTrack}
 use Rattle.af_enough_law.proofs.RunBegins.{track_plays}
-use Rattle.af_enough_law.proofs.RunFlushless.{rounds_flushless}
 
 way_unflushed : (gains : ℕ) (ops : List Op) → IsWay gains ops → plain_ops ops ≡ true
 way_unflushed gains (op.Gain left right ∷ ops) way = way_unflushed (gains + 1) ops way.1
@@ -32,10 +22,3 @@ begins_flushless script files i is through lt =
       stream = refl;
       commands = refl;
     })
-
--- In each run of a script whose tracks play through, no client flushes
-pub run_flushless : (cut : Bool) (script : ScriptData) (files : List (List Frame)) (marks : Marks) (rounds : List RoundSeen) (i : ℕ) → IsScript script → all_play_through script ≡ true → i < length script.tracks
-    → LegalRounds cut (session_of script files) marks (new_run (session_of script files)) rounds → IsFlushlessTrack (sides_of (told_at (run_from (session_of script files) (new_run (session_of script files)) rounds) i))
-run_flushless cut script files marks rounds i is through lt legal =
-    let s = session_of script files in
-    rounds_flushless s cut marks (new_run s) rounds i (let long = new_long s in omega arith) lt legal (begins_flushless script files i is through lt)

@@ -1,22 +1,6 @@
 -- A turn leaves a track on its course.
 use Rattle.std.proofs.Common.{◌≡◌, ℕ, zero, suc, ◌+◌, ◌*◌, ◌%◌, ◌<◌, ◌≤◌, Bool, true, false, List, [], ◌∷◌, length, refl, sym, ap, ◌∙◌, subst, arith, true≢false, Option, MatchBool, if◌then◌else◌}
-use Rattle.af_base.proofs.Basics.{by_false}
-use Rattle.af_base.specs.declared.report.SlotReport.{SlotReport}
-use Rattle.af_base.specs.declared.state.FastState.{FastState}
-use Rattle.af_base.specs.Turn.{Turn, TrackSeen}
-use Rattle.af_life.specs.declared.kept.Heard.{Heard}
-use Rattle.af_life.specs.declared.kept.TrackKept.{TrackKept}
-use Rattle.af_life.specs.declared.track.Life.{Life}
-use Rattle.af_life.specs.Edits.{welcomed, comes_home, after_ack}
-use Rattle.af_life.specs.Heard.{learnt, heard, ready, noted, slot_reported, is_reported, counts_in}
-use Rattle.af_life.specs.Kept.{Setup, NormalKept, Outside, Learnt, track_at, track_in, nothing_seen, is_home, no_counts}
-use Rattle.af_life.specs.declared.kept.Holder.TheVariants.{Home}
-use Rattle.af_life.specs.Looks.{words_taken}
-use Rattle.af_life.specs.Reports.{by_report, runs_dry}
-use Rattle.af_life.specs.Serves.{status_word, state_code, IsServed, after_part}
-use Rattle.af_life.specs.Turn.{GoesOn, turn_after}
-use Rattle.af_life.specs.TurnEvents.{tracks_at}
-use Rattle.af_life.proofs.Lives.{acked_len, not_yet}
+use Rattle.af_enough_law.proofs.Common.{FastState, GoesOn, Heard, Home, IsServed, Learnt, Life, NormalKept, Outside, Setup, SlotReport, TrackKept, TrackSeen, Turn, acked_len, after_ack, after_part, by_false, by_report, comes_home, counts_in, heard, is_home, is_reported, learnt, no_counts, not_yet, noted, nothing_seen, ready, runs_dry, slot_reported, state_code, status_word, track_at, track_in, tracks_at, turn_after, welcomed, words_taken}
 use Rattle.af_enough_law.specs.Courses.{told_all, starts_at_once, none_shut, reported_by, course, Course, Follows, told_words, life_after}
 use Rattle.af_enough_law.specs.TrackTurns.{greeted, attended, Edited, stays, leaves, enters, TrackTurned}
 use Rattle.af_enough_law.proofs.Coursing.{course_all, course_starts, course_reported}

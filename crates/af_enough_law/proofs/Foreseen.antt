@@ -1,17 +1,6 @@
 -- What is known of a stream block after a round by a history in which its lists lie: of this round, if its proxy takes part in the meeting, or of a later one.
 use Rattle.std.proofs.Common.{◌≡◌, ℕ, ◌≤◌, ◌<◌, Bool, true, false, Some, List, [], ◌++◌, length, append_assoc, refl, sym, ap, ◌∙◌, subst, append-nil}
-use Rattle.af_base.specs.declared.event.ClientEvent.{ClientEvent}
-use Rattle.af_base.specs.declared.event.ServerEvent.{ServerEvent}
-use Rattle.af_base.specs.Turn.{Turn}
-use Rattle.af_life.specs.Heard.{learnt, heard}
-use Rattle.af_life.specs.Kept.{Learnt, track_in, is_home}
-use Rattle.af_model.specs.declared.shape.Shape.{Shape}
-use Rattle.af_model.specs.Journals.{RoundSeen}
-use Rattle.af_runs.specs.Blocks.{BlockTold, Marks, client_list, server_list, hand_list, is_tame, HasBlockHistory}
-use Rattle.af_runs.specs.Rounds.{LegalRound, early_of, late_of, before_turn, after_turn, met_after, after_round}
-use Rattle.af_runs.specs.Runs.{Run, told_at, sides_of, with_calls, with_cycles, takes_part}
-use Rattle.af_runs.specs.Sessions.{Session, track_count}
-use Rattle.af_judge.specs.Tracks.{AreSpelled}
+use Rattle.af_enough_law.proofs.Common.{AreSpelled, BlockTold, ClientEvent, HasBlockHistory, Learnt, LegalRound, Marks, RoundSeen, Run, ServerEvent, Session, Shape, Turn, after_round, after_turn, before_turn, client_list, early_of, hand_list, heard, is_home, is_tame, late_of, learnt, met_after, server_list, sides_of, takes_part, told_at, track_count, track_in, with_calls, with_cycles}
 use Rattle.af_enough_law.specs.Courses.{none_shut}
 use Rattle.af_enough_law.specs.NormalRounds.{TurnMade}
 use Rattle.af_enough_law.proofs.CommandsGo.{spelled_round}

@@ -1,17 +1,6 @@
 -- The report that a turn finds of a slot counts no more looks that showed frames than the last report of its round.
 use Rattle.std.proofs.Common.{◌≡◌, ℕ, ◌+◌, ◌≤◌, ◌<◌, false, List, [], ◌∷◌, ◌++◌, length, sym, ap, ◌∙◌, subst, arith, append_assoc, append-nil}
-use Rattle.std.proofs.lemmas.List.{take-append-drop}
-use Rattle.af_base.specs.declared.report.Report.{Report}
-use Rattle.af_base.specs.declared.report.SlotReport.{SlotReport}
-use Rattle.af_base.specs.declared.state.FastTrack.{FastTrack}
-use Rattle.af_base.specs.Log.{slots, entry_slot}
-use Rattle.af_judge.proofs.Basics.{calls_states}
-use Rattle.af_model.specs.Journals.{EntrySeen, RoundSeen}
-use Rattle.af_model.specs.Reports.{report_at}
-use Rattle.af_runs.specs.Blocks.{Marks}
-use Rattle.af_runs.specs.Rounds.{LegalRound, early_count, early_of, late_of, after_turn, after_round}
-use Rattle.af_runs.specs.Runs.{Run, told_at, last_report, report_of, with_calls, with_cycle, with_cycles}
-use Rattle.af_runs.specs.Sessions.{Session, cycle_frames}
+use Rattle.af_enough_law.proofs.Common.{EntrySeen, FastTrack, LegalRound, Marks, NormalKept, Report, RoundSeen, Run, Session, SlotReport, after_round, after_turn, calls_states, cycle_frames, early_count, early_of, entry_slot, last_report, late_of, length-append, report_at, report_of, slots, take-append-drop, told_at, with_calls, with_cycle, with_cycles}
 use Rattle.af_enough_law.specs.FastFlows.{AllUse, Plays, AllShown, LastCarries, IsTold, Since, FlowsIn, slot_told, heard_by, heard_in, HasItem}
 use Rattle.af_enough_law.proofs.FastFound.{FoundNow, found_next, found_told, adds_one, calls_current, use-up, found_first}
 use Rattle.af_enough_law.proofs.FastMixes.{uses_of, early_states}
@@ -20,8 +9,6 @@ use Rattle.af_enough_law.proofs.FastReports.{heard_one, last_more, reported, cal
 use Rattle.af_enough_law.proofs.FastRounds.{over}
 use Rattle.af_enough_law.proofs.FastSince.{Adds, AllReports, since_number}
 use Rattle.af_enough_law.proofs.FastTakes.{flowed}
-use Rattle.std.proofs.lemmas.List.{length-append}
-use Rattle.af_life.specs.Kept.{NormalKept}
 
 -- the looks that showed frames, by a report
 abbrev pub shown_looks : SlotReport → ℕ

@@ -1,19 +1,6 @@
 -- A round of a track whose client is past its start: frames lie past those that were taken before it, its STOP was sent, or 64 calls less are ahead of it.
 use Rattle.std.proofs.Common.{◌≡◌, ◌⊎◌, inl, inr, ℕ, ◌+◌, ◌*◌, ◌^◌, ◌≤◌, ◌<◌, ◌==◌, Bool, true, false, true≢false, MatchBool, List, [], ◌∷◌, length, fold, sym, ap, ◌∙◌, arith}
-use Rattle.af_base.specs.declared.event.ClientCall.{ClientCall}
-use Rattle.af_base.specs.declared.event.ServerEvent.{ServerEvent}
-use Rattle.af_judge.proofs.Basics.{begins_ended}
-use Rattle.af_life.specs.Kept.{track_in}
-use Rattle.af_model.specs.Journals.{RoundSeen}
-use Rattle.af_script.specs.declared.op.Op.{Op}
-use Rattle.af_runs.specs.Blocks.{Marks, client_list, server_list}
-use Rattle.af_runs.specs.Clients.{Client, begun, next_want, at_next_turn}
-use Rattle.af_runs.specs.ClientTurns.{Track, AreCalls, after_call, wanted_of}
-use Rattle.af_runs.specs.declared.want.Mode.{Mode}
-use Rattle.af_runs.specs.declared.want.Want.{Want}
-use Rattle.af_runs.specs.Rounds.{LegalRound, after_round}
-use Rattle.af_runs.specs.Runs.{Run, TrackTold, told_at, sides_of, calls_in}
-use Rattle.af_runs.specs.Sessions.{Session}
+use Rattle.af_enough_law.proofs.Common.{AreCalls, Client, ClientCall, LegalRound, Marks, Mode, Op, RoundSeen, Run, ServerEvent, Session, Track, TrackTold, Want, after_call, after_round, at_next_turn, begins_ended, begun, calls_in, client_list, next_want, server_list, sides_of, told_at, track_in, wanted_of}
 use Rattle.af_enough_law.specs.Nearing.{is_started, IsPast, calls_ahead, calls_left}
 use Rattle.af_enough_law.specs.NormalRounds.{TurnMade}
 use Rattle.af_enough_law.specs.Seen.{frames_put, frames_taken}
@@ -22,19 +9,17 @@ use Rattle.af_enough_law.proofs.BlockNumbers.{BlockNumbers, block_numbers}
 use Rattle.af_enough_law.proofs.CalmTracks.{CalmTrack, CalmTurn, calm_round, round_released}
 use Rattle.af_enough_law.proofs.ClientGoesOn.{client_after, mixer_goes}
 use Rattle.af_enough_law.proofs.ClientRounds.{fair_round}
-use Rattle.af_enough_law.proofs.Doing.{at, codes_sent, codes_of}
+use Rattle.af_enough_law.proofs.Doing.{at, codes_sent}
 use Rattle.af_enough_law.proofs.FairTurns.{codes_long}
 use Rattle.af_enough_law.proofs.GainTurns.{writes, stops, nears, gain_calls}
 use Rattle.af_enough_law.proofs.TrackGoes.{goes_by, same_position}
-use Rattle.af_enough_law.proofs.Turning.{Left, Stands, on, gone_for_good, words_of, turn_whole, wanted_first, none_some, next_cut, begins_rested}
+use Rattle.af_enough_law.proofs.Turning.{Left, Stands, on, gone_for_good, turn_whole, wanted_first, none_some, next_cut, begins_rested}
+use Rattle.af_enough_law.proofs.FlowRounds.{words_some}
 
 pub data GainRound (run : Run) (s : Session) (round : RoundSeen) (i : ℕ) : Type 0 where
   fed : frames_taken (server_list (told_at run i).stream) + 1 ≤ frames_put (client_list (told_at (after_round s run round) i).stream) → GainRound run s round i
   sent : 6 ≤ length (told_at (after_round s run round) i).commands.released → GainRound run s round i
   fewer : calls_left (told_at (after_round s run round) i).client + 64 ≤ calls_left (told_at run i).client → GainRound run s round i
-
-words_some : (released : List ℕ) (given : List (ℕ × ℕ)) (codes : List ℕ) → released ≡ words_of given → codes_of given ≡ codes → 3 ≤ length codes → 6 ≤ length released
-words_some released given codes words is some = let a = codes_long given codes is in let b = ap length words in omega (arith, a, b, some)
 
 -- a client that was cut after its 64th call goes on as it was
 still_next : (count : ℕ) (last : Client) (due : List Want) (ops : List Op) (m : Mode) → count ≡ 64 → begun last ≡ at due ops m → calls_left (at_next_turn (count == 64) last) ≡ calls_ahead due ops

@@ -1,20 +1,11 @@
 -- A turn of a client among its gains and writes brings it to a write, or does 64 of the gains ahead of it.
 use Rattle.std.proofs.Common.{◌≡◌, inl, inr, ℕ, suc, ◌+◌, ◌-◌, ◌*◌, ◌%◌, ◌^◌, ◌≤◌, ◌<◌, ◌==◌, min, Bool, true, true≢false, if◌then◌else◌, bit_and, Some, List, [], ◌∷◌, length, fold, refl, sym, ap, ◌∙◌, subst, arith, length-append}
-use Rattle.std.proofs.Math.Nat.{mod-lt}
-use Rattle.af_base.proofs.Basics.{some_same}
-use Rattle.af_base.specs.declared.event.ClientCall.{ClientCall}
+use Rattle.af_enough_law.proofs.Common.{AreCalls, Client, ClientCall, IsMade, Mode, Op, Track, Want, after_answer, after_call, ahead, begun, commands_sent, mod-lt, next_want, some_same, wanted_of, with_call, wrapped}
 use Rattle.af_base.specs.declared.event.ClientCall.TheVariants as call
-use Rattle.af_model.specs.Point.{wrapped}
-use Rattle.af_model.specs.Room.{ahead}
-use Rattle.af_script.specs.declared.op.Op.{Op}
 use Rattle.af_script.specs.declared.op.Op.TheVariants as op
 use Rattle.af_runs.specs.declared.want.ClientCommand.TheVariants as command
-use Rattle.af_runs.specs.declared.want.Mode.{Mode}
 use Rattle.af_runs.specs.declared.want.Mode.TheVariants as mode
-use Rattle.af_runs.specs.declared.want.Want.{Want}
 use Rattle.af_runs.specs.declared.want.Want.TheVariants as want
-use Rattle.af_runs.specs.Clients.{Client, begun, next_want, after_answer}
-use Rattle.af_runs.specs.ClientTurns.{Track, IsMade, with_call, commands_sent, wanted_of, after_call, AreCalls}
 use Rattle.af_enough_law.specs.Nearing.{is_started, calls_ahead, gains_ahead}
 use Rattle.af_enough_law.specs.Playing.{IsWay, Doing, opening, starting, settling, setting, writing, clearing, clearing_more, stopping, draining, removing, IsFair, AreFair, position, SeesFrom, AllSeeFrom}
 use Rattle.af_enough_law.proofs.Advancing.{IsBlock, full_fills, positions_rise, still_block}

@@ -1,20 +1,6 @@
 -- A track whose proxy is lent keeps its generation, and what it knew when it was attached, in a turn.
 use Rattle.std.proofs.Common.{◌≡◌, ℕ, ◌+◌, ◌<◌, ◌&&◌, not, if◌then◌else◌, is_some, Bool, true, false, true≢false, Option, None, List, [], ◌∷◌, length, refl, sym, ap, ◌∙◌, subst}
-use Rattle.af_base.specs.declared.report.SlotReport.{SlotReport}
-use Rattle.af_base.specs.declared.state.FastState.{FastState}
-use Rattle.af_base.specs.declared.turn.CommandLook.{CommandLook}
-use Rattle.af_base.specs.Turn.{Turn}
-use Rattle.af_life.specs.declared.kept.Heard.{Heard}
-use Rattle.af_life.specs.declared.kept.Holder.{Holder}
-use Rattle.af_life.specs.declared.kept.Holder.TheVariants.{Home, Lent, Returning}
-use Rattle.af_life.specs.declared.kept.TrackKept.{TrackKept}
-use Rattle.af_life.specs.Edits.{comes_home, welcomed}
-use Rattle.af_life.specs.Heard.{heard, ready, noted, slot_reported, settled_at, is_reached, is_reported, counts_in}
-use Rattle.af_life.specs.Kept.{Setup, NormalKept, Learnt, track_at, track_in, plays, is_home, is_lent, is_returning, slot_number, no_counts}
-use Rattle.af_model.specs.StateQueue.{carries}
-use Rattle.af_life.specs.Obeys.{must_wait, ended, shows_command, is_shut, after_look, obeyed, goes_on, after_looks}
-use Rattle.af_life.specs.Serves.{after_part}
-use Rattle.af_life.specs.Turn.{turn_after}
+use Rattle.af_enough_law.proofs.Common.{CommandLook, FastState, Heard, Holder, Home, Learnt, Lent, NormalKept, Returning, Setup, SlotReport, TrackKept, Turn, after_look, after_looks, after_part, carries, comes_home, counts_in, ended, goes_on, heard, is_home, is_lent, is_reached, is_reported, is_returning, is_shut, must_wait, no_counts, noted, obeyed, plays, ready, settled_at, shows_command, slot_number, slot_reported, track_at, track_in, turn_after, welcomed}
 use Rattle.af_enough_law.specs.Drafts.{next_holder}
 use Rattle.af_enough_law.specs.TrackTurns.{greeted, attended, Edited, stays, leaves, enters, TrackTurned}
 use Rattle.af_enough_law.proofs.Drafts.{attended_holder, holder_turned}

@@ -1,27 +1,8 @@
 -- The hand of a stream block stays calm in a round whose turn doesn't disable the track.
 use Rattle.std.proofs.Common.{◌≡◌, ℕ, ◌<◌, if◌then◌else◌, Bool, true, false, true≢false, Option, Some, None, List, [], ◌∷◌, ◌++◌, length, map, fold, drop, refl, sym, ap, ◌∙◌, append_assoc, append-nil}
-use Rattle.af_base.proofs.Basics.{both_true}
-use Rattle.af_base.specs.declared.event.HandEvent.{HandEvent}
+use Rattle.af_enough_law.proofs.Common.{BlockTold, EntrySeen, HandEvent, Moment, NormalKept, RoundSeen, Run, ServerEvent, Session, TrackTold, Turn, TurnFound, after_calls, after_round, after_turn, all_played, both_first, both_right, both_true, by_hand, by_server, called, calls_in, client-hand, client_list, cycle_events, cycle_frames, early_of, entry_slot, found_in, front_of, hand_does, hand_list, hand_of, late_of, learnt, listed, mixed_track, outside_of, played, setup_of, sides_of, slot_for, state_for, stream_list, stream_met, takes_part, told_at, track_in, tracks_at, with_calls, with_cycle, with_poll}
 use Rattle.af_base.specs.declared.event.HandEvent.TheVariants as hand
-use Rattle.af_base.specs.declared.event.ServerEvent.{ServerEvent}
-use Rattle.af_base.specs.Log.{entry_slot}
-use Rattle.af_base.specs.Turn.{Turn}
-use Rattle.af_life.specs.Heard.{learnt}
-use Rattle.af_life.specs.Kept.{NormalKept, track_in}
-use Rattle.af_life.specs.TurnEvents.{tracks_at, hand_list as disables, stream_list}
-use Rattle.af_model.proofs.Basics.{both_first}
-use Rattle.af_model.specs.Cycles.{cycle_events}
-use Rattle.af_model.specs.History.{Moment, by_server, by_hand, hand_of}
-use Rattle.af_model.specs.Journals.{EntrySeen, RoundSeen}
-use Rattle.af_model.proofs.Logic.{both_right}
-use Rattle.af_runs.specs.Blocks.{BlockTold, client_list, hand_list, listed, hand_does}
-use Rattle.af_runs.specs.ClientTurns.{after_calls}
-use Rattle.af_runs.specs.Found.{TurnFound, outside_of}
-use Rattle.af_runs.specs.Fronts.{front_of}
-use Rattle.af_runs.specs.Rounds.{early_of, late_of, after_turn, found_in, all_played, after_round}
-use Rattle.af_runs.specs.Runs.{Run, TrackTold, told_at, sides_of, called, calls_in, with_calls, with_poll, with_cycle, state_for, slot_for, played, mixed_track, stream_met, takes_part}
-use Rattle.af_runs.specs.Sessions.{Session, cycle_frames, setup_of}
-use Rattle.af_judge.proofs.BlocksTold.{client-hand}
+use Rattle.af_life.specs.TurnEvents.{hand_list as disables}
 use Rattle.af_enough_law.specs.Seen.{is_hand_calm, are_hands_calm}
 use Rattle.af_enough_law.proofs.RunTracks.{mixed_by, turned_by, played_track, round_blocks, met_track}
 

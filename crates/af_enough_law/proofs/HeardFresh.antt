@@ -1,19 +1,6 @@
 -- What a turn hears of a lent track: the frames that the last report tells of and that weren't heard of before.
 use Rattle.std.proofs.Common.{◌≡◌, ℕ, ◌+◌, ◌-◌, ◌<◌, ◌&&◌, ◌||◌, nat_lt, if◌then◌else◌, is_some, Bool, true, false, true≢false, Option, None, List, [], ◌∷◌, length, refl, sym, ap, ◌∙◌, arith, eq-eqb}
-use Rattle.af_base.specs.declared.report.SlotReport.{SlotReport}
-use Rattle.af_base.specs.declared.state.FastState.{FastState}
-use Rattle.af_base.specs.declared.turn.CommandLook.{CommandLook}
-use Rattle.af_base.specs.Turn.{Turn}
-use Rattle.af_life.specs.declared.kept.Counts.{Counts}
-use Rattle.af_life.specs.declared.kept.Heard.{Heard}
-use Rattle.af_life.specs.declared.kept.Holder.TheVariants.{Home, Lent}
-use Rattle.af_life.specs.declared.kept.TrackKept.{TrackKept}
-use Rattle.af_life.specs.Edits.{comes_home, welcomed}
-use Rattle.af_life.specs.Heard.{heard, heard_by, heard_at_home, heard_elsewhere, heard_with, grown, counts_in, is_reported, ready, noted, slot_reported, settled_at, is_reached}
-use Rattle.af_life.specs.Kept.{Setup, NormalKept, Learnt, track_at, track_in, plays, is_home, is_lent, no_counts}
-use Rattle.af_life.specs.Obeys.{must_wait, ended, shows_command, is_shut, after_look, obeyed, goes_on, after_looks}
-use Rattle.af_life.specs.Serves.{after_part}
-use Rattle.af_life.specs.Turn.{turn_after}
+use Rattle.af_enough_law.proofs.Common.{CommandLook, Counts, FastState, Heard, Home, Learnt, Lent, NormalKept, Setup, SlotReport, TrackKept, Turn, after_look, after_looks, after_part, comes_home, counts_in, ended, goes_on, grown, heard, heard_at_home, heard_by, heard_elsewhere, heard_with, is_home, is_lent, is_reached, is_reported, is_shut, must_wait, no_counts, noted, obeyed, plays, ready, settled_at, shows_command, slot_reported, track_at, track_in, turn_after, welcomed}
 use Rattle.af_enough_law.specs.TrackTurns.{greeted, attended, Edited, stays, leaves, enters, TrackTurned}
 use Rattle.af_enough_law.proofs.Drafts.{attended_holder}
 use Rattle.af_enough_law.proofs.Following.{greeted_in}

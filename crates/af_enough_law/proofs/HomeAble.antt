@@ -1,14 +1,7 @@
 -- The retries of a track that plays and that the normal mixer mixes, in numbers: a round keeps what makes them two at least.
 use Rattle.std.proofs.Common.{◌≡◌, ℕ, suc, ◌+◌, ◌≤◌, ◌==◌, not, if◌then◌else◌, Bool, true, false, List, [], ◌∷◌, length, refl, ap, ◌∙◌, arith}
-use Rattle.af_base.specs.declared.seen.Seen.{Seen}
+use Rattle.af_enough_law.proofs.Common.{Counts, Seen, TakeSeen, TrackKept, count_seen, counted, no_counts, takes_from}
 use Rattle.af_base.specs.declared.seen.Seen.TheVariants as seen
-use Rattle.af_base.specs.Log.{count_seen}
-use Rattle.af_base.specs.Turn.{TakeSeen}
-use Rattle.af_life.specs.declared.kept.Counts.{Counts}
-use Rattle.af_life.specs.declared.kept.TrackKept.{TrackKept}
-use Rattle.af_life.specs.Kept.{no_counts}
-use Rattle.af_life.specs.Plays.{counted}
-use Rattle.af_life.specs.TurnEvents.{takes_from}
 use Rattle.af_enough_law.specs.FastFlows.{IsShown}
 use Rattle.af_enough_law.specs.TrackTurns.{own_after}
 

@@ -1,19 +1,8 @@
 -- A round of a track that plays and that the normal mixer mixes keeps what makes its retries two at least.
 use Rattle.std.proofs.Common.{◌≡◌, ◌⊎◌, inl, inr, ℕ, zero, suc, ◌+◌, ◌*◌, ◌^◌, ◌≤◌, ◌<◌, true, false, [], ◌∷◌, length, refl, ap, ◌∙◌, arith}
+use Rattle.af_enough_law.proofs.Common.{Client, Counts, LegalRound, Marks, NormalKept, RoundSeen, Run, Session, TakeSeen, after_round, client_list, count_seen, is_home, learnt, server_list, setup_of, sides_of, slot_reported, takes_from, told_at, track_at}
 use Rattle.af_base.specs.declared.event.ServerEvent.TheVariants as server
-use Rattle.af_base.specs.Log.{count_seen}
-use Rattle.af_base.specs.Turn.{TakeSeen}
 use Rattle.af_enough_law.proofs.Basics.{taken-append}
-use Rattle.af_life.specs.declared.kept.Counts.{Counts}
-use Rattle.af_life.specs.Heard.{learnt, slot_reported}
-use Rattle.af_life.specs.Kept.{NormalKept, track_at, is_home}
-use Rattle.af_life.specs.TurnEvents.{takes_from}
-use Rattle.af_model.specs.Journals.{RoundSeen}
-use Rattle.af_runs.specs.Blocks.{Marks, client_list, server_list}
-use Rattle.af_runs.specs.Clients.{Client}
-use Rattle.af_runs.specs.Rounds.{LegalRound, after_round}
-use Rattle.af_runs.specs.Runs.{Run, told_at, sides_of}
-use Rattle.af_runs.specs.Sessions.{Session, setup_of}
 use Rattle.af_enough_law.specs.FastFlows.{IsShown, frames_left_in}
 use Rattle.af_enough_law.specs.Nearing.{IsPast, buffer_of, calls_ahead, calls_left}
 use Rattle.af_enough_law.specs.NormalRounds.{TurnMade}

@@ -1,15 +1,7 @@
 -- A legal round keeps what is carried of a track whose proxy is home before and after it: so of each track without a slot.
 use Rattle.std.proofs.Common.{◌≡◌, ℕ, ◌≤◌, ◌<◌, ◌||◌, is_some, Bool, true, false, None, List, length, sym, ap, ◌∙◌}
-use Rattle.af_base.specs.declared.event.ServerEvent.{ServerEvent}
+use Rattle.af_enough_law.proofs.Common.{IsSlotted, LegalRound, Marks, RoundSeen, Run, ServerEvent, Session, after_round, ends_part, holds, is_home, met_after, takes_part, track_at, track_count}
 use Rattle.af_enough_law.proofs.Basics.{stays_home}
-use Rattle.af_judge.proofs.Basics.{ends_part}
-use Rattle.af_life.specs.Kept.{track_at, is_home}
-use Rattle.af_life.specs.Sound.{IsSlotted}
-use Rattle.af_model.specs.Journals.{RoundSeen}
-use Rattle.af_runs.specs.Blocks.{Marks}
-use Rattle.af_runs.specs.Rounds.{LegalRound, met_after, after_round}
-use Rattle.af_runs.specs.Runs.{Run, holds, takes_part}
-use Rattle.af_runs.specs.Sessions.{Session, track_count}
 use Rattle.af_enough_law.specs.NormalRounds.{TurnMade}
 use Rattle.af_enough_law.proofs.CalmTracks.{CalmTrack}
 use Rattle.af_enough_law.proofs.CommandsGo.{OpenTurn}

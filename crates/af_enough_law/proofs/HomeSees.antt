@@ -1,18 +1,8 @@
 -- A turn's look at a track without a slot is all that a round takes of it.
 use Rattle.std.proofs.Common.{◌≡◌, ◌⊎◌, inl, inr, ℕ, ◌+◌, ◌≤◌, true, false, List, [], ◌∷◌, ◌++◌, length, ap, ◌∙◌, arith}
-use Rattle.af_base.proofs.Basics.{is_within}
-use Rattle.af_base.specs.declared.event.ServerEvent.{ServerEvent}
+use Rattle.af_enough_law.proofs.Common.{BlockTold, LegalRound, Marks, RoundSeen, Run, ServerEvent, Session, TrackTold, after_round, after_turn, calls_states, client_list, count_seen, early_of, fast_ended, is_mixed_here, is_within, late_of, met_after, server_list, told_at, track_at, track_in, with_calls, with_cycles}
 use Rattle.af_base.specs.declared.event.ServerEvent.TheVariants as server
-use Rattle.af_base.specs.Log.{count_seen}
 use Rattle.af_enough_law.proofs.Basics.{taken-append}
-use Rattle.af_judge.proofs.Basics.{calls_states}
-use Rattle.af_life.specs.Kept.{track_at, track_in}
-use Rattle.af_life.specs.Plays.{is_mixed_here}
-use Rattle.af_model.specs.Journals.{RoundSeen}
-use Rattle.af_runs.specs.Blocks.{BlockTold, Marks, client_list, server_list}
-use Rattle.af_runs.specs.Rounds.{LegalRound, after_turn, early_of, late_of, met_after, after_round}
-use Rattle.af_runs.specs.Runs.{Run, TrackTold, told_at, with_calls, with_cycles, fast_ended}
-use Rattle.af_runs.specs.Sessions.{Session}
 use Rattle.af_enough_law.specs.Courses.{none_shut}
 use Rattle.af_enough_law.specs.FastFlows.{AllStates, KnowsReleased, KnowsStates}
 use Rattle.af_enough_law.specs.Nearing.{buffer_of}
@@ -21,7 +11,8 @@ use Rattle.af_enough_law.specs.Seen.{frames_put, frames_taken}
 use Rattle.af_enough_law.proofs.CalmTracks.{CalmTrack, CalmTurn}
 use Rattle.af_enough_law.proofs.FastMixes.{early_states, late_states}
 use Rattle.af_enough_law.proofs.FastPolls.{parts_use}
-use Rattle.af_enough_law.proofs.FastRounds.{Quiet, over, calls_length}
+use Rattle.af_enough_law.proofs.FastRounds.{Quiet, over}
+use Rattle.af_enough_law.proofs.RunTracks.{calls_long as calls_length}
 use Rattle.af_enough_law.proofs.HomeKept.{HomeSeen}
 use Rattle.af_enough_law.proofs.HomeStill.{HasNone, entries_still}
 use Rattle.af_enough_law.proofs.HomeTakes.{HomeLook, home_look}

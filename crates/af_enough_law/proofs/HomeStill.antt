@@ -1,17 +1,11 @@
 -- The entries of a round leave the stream block of a track as it is that no state has.
 use Rattle.std.proofs.Common.{◌≡◌, ℕ, ◌≤◌, ◌<◌, ◌∷◌, List, [], ◌++◌, length, true, refl, sym, ap, ◌∙◌, arith}
-use Rattle.af_base.specs.declared.state.FastState.{FastState}
-use Rattle.af_base.specs.Log.{slots}
-use Rattle.af_model.specs.Journals.{EntrySeen}
-use Rattle.af_model.specs.StateQueue.{slot_of, carries}
-use Rattle.af_runs.specs.Runs.{Run, told_at, state_for, slot_for, with_poll, with_cycle, with_cycles}
-use Rattle.af_runs.specs.Sessions.{Session}
+use Rattle.af_enough_law.proofs.Common.{EntrySeen, FastState, Run, Session, carries, polled_known, slot_for, slot_of, slots, state_for, told_at, with_cycle, with_cycles, with_poll}
 use Rattle.af_enough_law.specs.FastFlows.{AllUse, AllStates}
 use Rattle.af_enough_law.proofs.FastMixes.{Uses, uses_of}
 use Rattle.af_enough_law.proofs.FastSteps.{cycle_states}
 use Rattle.af_enough_law.proofs.FastSteps.{cycle_length}
 use Rattle.af_enough_law.proofs.LeftEntries.{slot_none, track_still}
-use Rattle.af_runs.proofs.StatesFor.{polled_known}
 
 -- the state has nothing of the track
 abbrev pub HasNone : ℕ → FastState → Type 0

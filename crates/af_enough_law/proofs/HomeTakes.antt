@@ -1,32 +1,8 @@
 -- What a round takes of a track that the normal mixer mixes: if the pipe has room for a buffer, a buffer, or all that was in its block before the round.
-use Rattle.std.proofs.Common.{◌≡◌, ◌⊎◌, inl, inr, ℕ, zero, suc, ◌+◌, ◌≤◌, ◌<◌, ◌==◌, ◌&&◌, ◌||◌, nat_le, if◌then◌else◌, Bool, true, false, true≢false, Option, List, [], ◌∷◌, ◌++◌, length, map, filter, take, refl, sym, ap, ◌∙◌, subst, arith, append_assoc, append-nil, eq-eqb}
-use Rattle.std.proofs.lemmas.List.{take-append-le}
-use Rattle.std.specs.List.{range_with_len, list_any, flat_map}
-use Rattle.af_base.proofs.Basics.{both_true}
-use Rattle.af_base.specs.declared.event.ClientEvent.{ClientEvent}
-use Rattle.af_base.specs.declared.event.ServerEvent.{ServerEvent}
-use Rattle.af_base.specs.Log.{count_seen}
-use Rattle.af_base.specs.Turn.{Turn, TakeSeen}
+use Rattle.std.proofs.Common.{◌≡◌, ◌⊎◌, inl, inr, ℕ, suc, ◌+◌, ◌≤◌, ◌<◌, ◌==◌, ◌&&◌, ◌||◌, nat_le, if◌then◌else◌, Bool, true, false, true≢false, Option, List, [], ◌∷◌, ◌++◌, length, map, filter, take, refl, sym, ap, ◌∙◌, subst, arith, append_assoc, append-nil, eq-eqb}
+use Rattle.af_enough_law.proofs.Common.{BlockTold, ClientEvent, GoesOn, Learnt, LegalRound, LegalTake, Listed, LooksBy, Marks, NormalKept, Outside, RoundSeen, Run, ServerEvent, Session, Setup, Shape, TakeSeen, TrackKept, TrackTold, Turn, TurnFound, after_edits, after_push, after_round, after_takes, after_turn, asked as buffer, before_turn, both_true, client_list, count_seen, cycle_events, early_of, flat_map, found_in, front_of, hand_does, invalid, is_home, is_mixed_here, late_of, learnt, list_any, listed, mix_events, mixed_here, outside_of, push_tracks, range_with_len, server_list, setup_of, stream_list, stream_turned, take-append-le, take_front, takes_from, takes_len, told_at, track_at, track_in, tracks_at, turn_after, turn_len, turned, with_calls, with_cycles}
 use Rattle.af_enough_law.proofs.Basics.{before_normal, taken-append}
-use Rattle.af_judge.proofs.Basics.{push_tracks}
-use Rattle.af_life.proofs.Basics.{takes_len}
-use Rattle.af_life.specs.declared.kept.TrackKept.{TrackKept}
-use Rattle.af_life.specs.Heard.{learnt}
-use Rattle.af_life.specs.Kept.{Setup, asked as buffer, NormalKept, Outside, Learnt, track_at, track_in, is_home}
-use Rattle.af_life.specs.Edits.{after_push}
-use Rattle.af_life.specs.Plays.{is_mixed_here, mixed_here, after_takes, LegalTake}
-use Rattle.af_life.specs.Turn.{GoesOn, after_edits, turn_after}
-use Rattle.af_life.specs.TurnEvents.{tracks_at, invalid, hand_list, stream_list, takes_from, mix_events}
-use Rattle.af_life.proofs.Lives.{turn_len}
-use Rattle.af_model.specs.declared.shape.Shape.{Shape}
-use Rattle.af_model.specs.Cycles.{Listed, LooksBy, cycle_events}
-use Rattle.af_model.specs.Journals.{RoundSeen}
-use Rattle.af_runs.specs.Blocks.{BlockTold, Marks, client_list, server_list, listed, hand_does}
-use Rattle.af_runs.specs.Found.{TurnFound, outside_of, take_front}
-use Rattle.af_runs.specs.Fronts.{front_of}
-use Rattle.af_runs.specs.Rounds.{LegalRound, before_turn, found_in, turned, after_turn, late_of, early_of, after_round}
-use Rattle.af_runs.specs.Runs.{Run, TrackTold, told_at, with_calls, with_cycles, stream_turned}
-use Rattle.af_runs.specs.Sessions.{Session, setup_of}
+use Rattle.af_life.specs.TurnEvents.{hand_list}
 use Rattle.af_enough_law.specs.Courses.{none_shut}
 use Rattle.af_enough_law.specs.FastFlows.{KnowsReleased, IsShown}
 use Rattle.af_enough_law.specs.Nearing.{RoundFlows}
@@ -36,7 +12,8 @@ use Rattle.af_enough_law.proofs.BlockNumbers.{stream_setting}
 use Rattle.af_enough_law.proofs.CalmTracks.{CalmTrack, CalmTurn}
 use Rattle.af_enough_law.proofs.Fair.{calm_drops}
 use Rattle.af_enough_law.proofs.FastFlows.{Later, later_both}
-use Rattle.af_enough_law.proofs.FastRounds.{over, calls_length, cycles_length}
+use Rattle.af_enough_law.proofs.FastRounds.{over, cycles_length}
+use Rattle.af_enough_law.proofs.RunTracks.{calls_long as calls_length}
 use Rattle.af_enough_law.proofs.FastShows.{Setting, Look, slot_look, stands-more}
 use Rattle.af_enough_law.proofs.FastSteps.{server_does-server, hand_does-server}
 use Rattle.af_enough_law.proofs.Foreseen.{Foreseen, part_seen, early_quiet}
@@ -46,6 +23,7 @@ use Rattle.af_enough_law.proofs.RoundCalm.{OnlyTake, track_takes, never_invalid,
 use Rattle.af_enough_law.proofs.RunTracks.{turn_track}
 use Rattle.af_enough_law.proofs.Served.{own_all}
 use Rattle.af_enough_law.proofs.StreamCalm.{IsQuiet}
+use Rattle.af_enough_law.proofs.LentRounds.{any_from as any_at}
 
 -- ## A take of the track is due
 
@@ -68,18 +46,6 @@ none_filter q (t ∷ takes) is = by (q t) is (none_filter q takes)
     by : (b : Bool) → (if b then t ∷ filter q takes else filter q takes) ≡ [] → (filter q takes ≡ [] → list_any q takes ≡ false) → (b || list_any q takes) ≡ false
     by true e rest = absurd (let z : suc (length (filter q takes)) ≡ 0 = ap length e in omega (arith, z))
     by false e rest = rest e
-
-any_at : (p : ℕ → Bool) (a n i : ℕ) → a ≤ i → i < a + n → p i ≡ true → list_any p (range_with_len a n) ≡ true
-any_at p a zero i low high is = absurd (let z : ⊥ = omega (arith, low, high) in z)
-any_at p a (suc n) i low high is = by (a == i) refl (λ above. any_at p (a + 1) n i above (omega (arith, high)) is)
-  where
-    or_true : (b d : Bool) → d ≡ true → (b || d) ≡ true
-    or_true true d e = refl
-    or_true false d e = e
-
-    by : (b : Bool) → (a == i) ≡ b → (a + 1 ≤ i → list_any p (range_with_len (a + 1) n) ≡ true) → (p a || list_any p (range_with_len (a + 1) n)) ≡ true
-    by true same rest = ap (λ (d : Bool). d || list_any p (range_with_len (a + 1) n)) (ap p (let e : a ≡ i = search (arith, same) in e) ∙ is)
-    by false other rest = or_true (p a) (list_any p (range_with_len (a + 1) n)) (rest (let e : a < i = search (arith, low, other) in omega (arith, e)))
 
 any_below : (p : ℕ → Bool) (n i : ℕ) → i < n → p i ≡ true → list_any p (range_with_len 0 n) ≡ true
 any_below p n i low is = any_at p 0 n i (omega arith) (omega (arith, low)) is

@@ -1,32 +1,7 @@
 -- The draft has the item of each track whose proxy is not at home.
 use Rattle.std.proofs.Common.{◌≡◌, ◌≢◌, inl, inr, ℕ, zero, suc, ◌≤◌, ◌&&◌, if◌then◌else◌, Bool, true, false, true≢false, All, Option, List, [], ◌∷◌, length, fold, refl, sym, ap, ◌∙◌, subst, arith}
-use Rattle.af_base.proofs.Basics.{no}
-use Rattle.af_base.specs.declared.state.Command.{Command}
-use Rattle.af_base.specs.declared.state.FastState.{FastState}
-use Rattle.af_base.specs.declared.state.FastTrack.{FastTrack}
-use Rattle.af_base.specs.declared.state.Push.{Push}
-use Rattle.af_base.specs.declared.state.Push.TheVariants.{Pushed, Clean, Busy}
-use Rattle.af_base.specs.Turn.{Turn, TrackSeen, TakeSeen}
-use Rattle.af_life.proofs.Basics.{at_new, each_set, set_each, welcomed_at}
-use Rattle.af_life.specs.declared.kept.Holder.{Holder}
-use Rattle.af_life.specs.declared.kept.Holder.TheVariants.{Home, Lent, Returning}
-use Rattle.af_life.specs.declared.kept.Setting.{Setting}
-use Rattle.af_life.specs.declared.kept.TrackKept.{TrackKept}
-use Rattle.af_life.specs.Edits.{comes_home, welcomed, after_ack, must_leave, must_enter, let_go, lend, edited, edited_to, entered, lent_by, ordered, mutated, after_push}
-use Rattle.af_life.specs.Kept.{Setup, asked as buffer, NormalKept, Learnt, setting_of, track_at, seen_at, is_home, is_lent, slot_number, number_of, new_normal}
+use Rattle.af_enough_law.proofs.Common.{Busy, Clean, Command, FastState, FastTrack, Goes, Holder, Home, IsSlotted, IsSound, Learnt, Lent, NormalKept, Push, Pushed, Returning, Setting, Setup, TakeSeen, TrackKept, TrackSeen, Turn, acked_len, after_ack, after_edits, after_push, after_take, after_takes, after_tracks, apart, asked as buffer, at_new, comer_holds, comer_inside, comer_slot, comes_home, commanded as with_command, counted, each_set, edited, edited_to, entered, goes_served, is_home, is_lent, lend, lent_by, let_go, must_enter, must_leave, mutated, new_normal, no, number_of, ordered, seen_at, served, served_len, served_to, set_each, setting_of, slot_else, slot_here, slot_number, slot_of, sound_acked, sound_edits, sound_served, track_at, turn_after, welcomed, welcomed_at}
 use Rattle.af_life.specs.Obeys.{slot_for}
-use Rattle.af_life.specs.Plays.{after_take, after_takes, counted}
-use Rattle.af_life.specs.Serves.{served, served_to}
-use Rattle.af_life.specs.Sound.{IsSound, IsSlotted}
-use Rattle.af_life.specs.Turn.{after_tracks, after_edits, turn_after}
-use Rattle.af_life.proofs.Lives.{acked_len, served_len}
-use Rattle.af_model.specs.Draft.{commanded as with_command}
-use Rattle.af_model.specs.StateQueue.{slot_of}
-use Rattle.af_judge.proofs.DraftBits.{slot_here, slot_else}
-use Rattle.af_judge.proofs.SoundEdits.{apart, comer_slot, comer_holds, comer_inside}
-use Rattle.af_judge.proofs.SoundLives.{Goes, goes_served}
-use Rattle.af_judge.proofs.SoundSlots.{sound_served}
-use Rattle.af_judge.proofs.SoundTurns.{sound_acked, sound_edits}
 use Rattle.af_enough_law.specs.Items.{IsItem, AreItems}
 
 -- a track with the same holder, slot and generation

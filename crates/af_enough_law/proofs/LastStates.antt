@@ -1,35 +1,11 @@
 -- The state pushed last, and that the fast mixer goes on until an Exit is pushed.
 use Rattle.std.proofs.Common.{◌≡◌, ◌⊎◌, inl, inr, ℕ, ◌<◌, ◌≤◌, ◌==◌, ◌||◌, unwrap_or, Bool, true, false, true≢false, Option, Some, None, List, [], ◌∷◌, ◌++◌, length, refl, sym, ap, ◌∙◌, subst, arith, append-nil, if◌then◌else◌}
-use Rattle.std.specs.Prelude.{MatchBool, MatchOption}
-use Rattle.std.proofs.lemmas.Grind.{fold-append}
-use Rattle.af_base.proofs.Basics.{within_or_beyond}
-use Rattle.af_base.specs.Command.{code_of}
-use Rattle.af_base.specs.Turn.{Turn}
+use Rattle.af_enough_law.proofs.Common.{Busy, Clean, ColdIdle, Command, EntrySeen, Exit, FastState, HotIdle, Initial, Learnt, LegalEntries, LegalEntry, LegalRound, LegalTurnBy, Marks, MatchBool, MatchOption, Mix, MixWrite, NormalKept, Push, Pushed, RoundSeen, Run, Session, Setup, Turn, Write, after_edits, after_push, after_round, after_takes, after_turn, all_played, before_turn, calls_states, code_of, cold_done, cycle_by, cycle_frames, cycle_of, early_of, fast_ended, found_in, has_exit, initial, is_pushed, late_of, learnt, met_after, new_run, outside_of, setup_of, state_at, state_more, state_of, turn_after, with_calls, with_cycle, with_cycles, with_poll, within_or_beyond}
 use Rattle.af_base.specs.declared.log.Cycle.TheVariants as cycle
-use Rattle.af_base.specs.declared.log.CycleEntry.{CycleEntry}
-use Rattle.af_base.specs.declared.state.Command.{Command}
-use Rattle.af_base.specs.declared.state.Command.TheVariants.{Initial, HotIdle, ColdIdle, Idle, Exit, Mix, Write, MixWrite}
-use Rattle.af_base.specs.declared.state.FastState.{FastState}
-use Rattle.af_base.specs.declared.state.Push.{Push}
-use Rattle.af_base.specs.declared.state.Push.TheVariants.{Pushed, Clean, Busy}
+use Rattle.af_base.specs.declared.state.Command.TheVariants.{Idle}
 use Rattle.af_enough_law.proofs.Basics.{before_normal}
-use Rattle.af_judge.proofs.Basics.{calls_states}
-use Rattle.af_life.specs.Edits.{after_push}
 use Rattle.af_life.specs.Edits as edits
-use Rattle.af_life.specs.Heard.{learnt}
-use Rattle.af_life.specs.Kept.{Setup, NormalKept, Learnt}
-use Rattle.af_life.specs.Plays.{after_takes}
-use Rattle.af_life.specs.Turn.{after_edits, turn_after}
-use Rattle.af_model.specs.Cycles.{state_of, cycle_by, cycle_of, cold_done, has_exit, is_exit}
-use Rattle.af_model.specs.Draft.{initial}
-use Rattle.af_model.specs.Journals.{EntrySeen, RoundSeen}
-use Rattle.af_runs.proofs.Basics.{state_more}
-use Rattle.af_runs.specs.Blocks.{Marks}
-use Rattle.af_runs.specs.Found.{LegalTurnBy, outside_of}
-use Rattle.af_runs.specs.Rounds.{LegalEntry, LegalEntries, LegalRound, early_of, late_of, before_turn, found_in, after_turn, all_played, met_after, after_round}
-use Rattle.af_runs.specs.Runs.{Run, new_run, with_calls, with_poll, with_cycle, with_cycles, fast_ended}
-use Rattle.af_runs.specs.Sessions.{Session, setup_of, cycle_frames}
-use Rattle.af_runs.specs.Told.{is_pushed, state_at}
+use Rattle.af_model.specs.Cycles.{is_exit}
 use Rattle.af_enough_law.specs.EndPhases.{NoExits}
 use Rattle.af_enough_law.proofs.Drafts.{after_pushes}
 use Rattle.af_enough_law.proofs.FastCurrent.{legal_parts, rest_current}
@@ -39,6 +15,7 @@ use Rattle.af_enough_law.proofs.FastReports.{calls_same, turned_same, loaded_sam
 use Rattle.af_enough_law.proofs.FastSteps.{cycle_states}
 use Rattle.af_enough_law.proofs.NormalRounds.{after_normal, turn_made}
 use Rattle.af_enough_law.proofs.QueueRounds.{current_of, states_turned, states_still}
+use Rattle.af_model.proofs.UsedStates.{has_exit-push as added}
 
 -- ## The last state
 
@@ -145,9 +122,6 @@ cycle_goes (Some x) done h = not_exit x.command done x.cold_gen (h x refl)
 entry_goes : (s : Session) (marks : Marks) (run : Run) (e : EntrySeen) → LegalEntry s marks (with_poll s e.entry.state run) e → ((x : FastState) → state_of run.states e.entry.state ≡ Some x → edits.is_exit x ≡ false) → is_exit e.entry.cycle ≡ false
 unfolding with_poll
 entry_goes s marks run e legal h = ap is_exit legal.cycle.what ∙ cycle_goes (state_of run.states e.entry.state) (cold_done run.states run.entries) h
-
-added : (entries : List CycleEntry) (entry : CycleEntry) → has_exit (entries ++ entry ∷ []) ≡ (has_exit entries || is_exit entry.cycle)
-added entries entry = fold-append (λ (found : Bool) (x : CycleEntry). found || is_exit x.cycle) false entries (entry ∷ [])
 
 entries_go : (s : Session) (marks : Marks) (es : List EntrySeen) (run : Run) → LegalEntries s marks run es → NoExits run.states → has_exit run.entries ≡ false → has_exit (with_cycles s es run).entries ≡ false
 entries_go s marks [] run legal none going = going

@@ -1,18 +1,6 @@
 -- A track whose proxy leaves in the round in which it is adopted at the latest, and that was drained, is a stopped one then.
 use Rattle.std.proofs.Common.{◌≡◌, ◌⊎◌, inl, inr, ℕ, ◌+◌, ◌≤◌, ◌<◌, is_some, Bool, true, false, true≢false, All, Some, List, [], ◌∷◌, ◌++◌, length, length-append, take-append-drop, refl, sym, ap, ◌∙◌, subst, arith}
-use Rattle.af_base.specs.declared.state.FastTrack.{FastTrack}
-use Rattle.af_judge.proofs.Basics.{calls_states}
-use Rattle.af_life.specs.declared.kept.Setting.{Setting}
-use Rattle.af_life.specs.declared.track.Life.{Life}
-use Rattle.af_life.specs.Kept.{track_at, plays, is_home, is_lent, is_returning, number_of}
-use Rattle.af_life.specs.declared.kept.Holder.TheVariants.{Returning}
-use Rattle.af_model.specs.Cycles.{state_of, last_used}
-use Rattle.af_model.specs.Journals.{EntrySeen, RoundSeen}
-use Rattle.af_runs.proofs.Basics.{state_more}
-use Rattle.af_runs.specs.Blocks.{Marks, client_list, server_list}
-use Rattle.af_runs.specs.Rounds.{LegalRound, early_of, late_of, early_count, before_turn, found_in, after_turn, all_played, met_after, after_round}
-use Rattle.af_runs.specs.Runs.{Run, told_at, takes_part, with_calls, with_cycles}
-use Rattle.af_runs.specs.Sessions.{Session, track_count, setup_of}
+use Rattle.af_enough_law.proofs.Common.{EntrySeen, FastTrack, LegalRound, Life, Marks, Returning, RoundSeen, Run, Session, Setting, after_round, after_turn, all_played, before_turn, calls_states, client_list, early_count, early_of, found_in, is_home, is_lent, is_returning, last_used, late_of, met_after, number_of, plays, server_list, setup_of, state_more, state_of, takes_part, told_at, track_at, track_count, with_calls, with_cycles}
 use Rattle.af_enough_law.specs.Carried.{SessionCarried}
 use Rattle.af_enough_law.specs.Courses.{Course, absent, idle, playing, stopping, drained, stopped as is_stopped, over, stage}
 use Rattle.af_enough_law.specs.FastFlows.{Plays, slot_told}

@@ -1,23 +1,6 @@
 -- The round in which a proxy leaves that the last state plays, whether the fast mixer had it before or not: its turn doesn't hear that the stream is shut.
 use Rattle.std.proofs.Common.{◌≡◌, ◌⊎◌, inl, inr, ℕ, ◌≤◌, ◌<◌, unwrap_or, is_some, Bool, true, false, true≢false, All, Option, Some, length, refl, sym, ap, ◌∙◌, subst, arith}
-use Rattle.af_base.proofs.Basics.{within_or_beyond}
-use Rattle.af_base.specs.declared.state.FastState.{FastState}
-use Rattle.af_base.specs.declared.state.FastTrack.{FastTrack}
-use Rattle.af_judge.proofs.Basics.{ends_part}
-use Rattle.af_life.specs.declared.kept.Heard.{Heard}
-use Rattle.af_life.specs.declared.kept.Holder.TheVariants.{Returning}
-use Rattle.af_life.specs.declared.kept.Setting.{Setting}
-use Rattle.af_life.specs.declared.kept.TrackKept.{TrackKept}
-use Rattle.af_life.specs.Heard.{learnt, slot_reported}
-use Rattle.af_life.specs.Kept.{NormalKept, Learnt, track_at, plays, is_home, is_lent, is_returning, number_of}
-use Rattle.af_life.specs.Turn.{turn_after}
-use Rattle.af_model.specs.Cycles.{state_of}
-use Rattle.af_model.specs.Journals.{RoundSeen}
-use Rattle.af_model.specs.Reports.{report_at}
-use Rattle.af_runs.specs.Blocks.{Marks, server_list}
-use Rattle.af_runs.specs.Rounds.{LegalRound, before_turn, after_turn, met_after, after_round}
-use Rattle.af_runs.specs.Runs.{Run, told_at, with_calls, with_cycles, report_of, takes_part, load_of}
-use Rattle.af_runs.specs.Sessions.{Session, track_count, setup_of, cycle_frames}
+use Rattle.af_enough_law.proofs.Common.{FastState, FastTrack, Heard, Learnt, LegalRound, Marks, NormalKept, Returning, RoundSeen, Run, Session, Setting, TrackKept, after_round, after_turn, before_turn, cycle_frames, ends_part, is_home, is_lent, is_returning, learnt, load_of, met_after, number_of, plays, report_at, report_of, server_list, setup_of, slot_reported, state_beyond, state_of, takes_part, told_at, track_at, track_count, turn_after, with_calls, with_cycles, within_or_beyond}
 use Rattle.af_enough_law.specs.Carried.{SessionCarried}
 use Rattle.af_enough_law.specs.Drafts.{is_busy, PushMade}
 use Rattle.af_enough_law.specs.FastFlows.{slot_told}
@@ -46,7 +29,6 @@ use Rattle.af_enough_law.proofs.SessionRounds.{turn_of, turn_runs, push_of, stat
 use Rattle.af_enough_law.proofs.Slots.{slot_stays}
 use Rattle.af_enough_law.proofs.StartRounds.{PushedLast}
 use Rattle.af_enough_law.proofs.StreamCalm.{IsQuiet}
-use Rattle.af_runs.proofs.StatesFor.{state_beyond}
 
 module _ (s : Session) (marks : Marks) (scales : All (λ (x : Setting). x.scale ≤ 4096) (setup_of s).settings) (long : length (setup_of s).settings ≡ track_count s) (run : Run) (round : RoundSeen) (legal : LegalRound false s marks run round) (c : SessionCarried s run) (i : ℕ) (named : i < track_count s) (lawful : marks.commands i ≡ true)
     (slot : ℕ) (item : FastTrack) (p : PushedLast s run i slot item) (leaves : is_lent (track_at (after_round s run round).normal.tracks i).holder ≡ false) (c_after : SessionCarried s (after_round s run round)) where

@@ -1,24 +1,7 @@
 -- The round in which a lent track leaves makes it a stopped one, whose proxy is on its way.
 use Rattle.std.proofs.Common.{◌≡◌, ◌⊎◌, inl, inr, ℕ, zero, suc, ◌≤◌, ◌<◌, is_some, Bool, true, false, true≢false, All, Some, List, [], ◌++◌, length, length-append, refl, sym, ap, ◌∙◌, subst, arith}
-use Rattle.af_base.specs.declared.event.ClientEvent.{ClientEvent}
-use Rattle.af_base.specs.declared.state.FastState.{FastState}
-use Rattle.af_base.specs.declared.state.FastTrack.{FastTrack}
+use Rattle.af_enough_law.proofs.Common.{Active, ClientEvent, FastState, FastTrack, LegalRound, Life, Marks, NormalKept, Returning, RoundSeen, Run, Session, Setting, Shape, after_round, client_list, cycle_frames, ends_part, is_lent, learnt, met_after, plays, server_list, setup_of, state_beyond, state_more, state_of, takes_part, told_at, track_at, track_count}
 use Rattle.af_enough_law.proofs.Basics.{some_is}
-use Rattle.af_judge.proofs.Basics.{ends_part}
-use Rattle.af_life.specs.declared.kept.Holder.TheVariants.{Returning}
-use Rattle.af_life.specs.declared.kept.Setting.{Setting}
-use Rattle.af_life.specs.declared.state.LifeState.TheVariants.{Active}
-use Rattle.af_life.specs.declared.track.Life.{Life}
-use Rattle.af_life.specs.Heard.{learnt}
-use Rattle.af_life.specs.Kept.{NormalKept, track_at, plays, is_lent}
-use Rattle.af_model.specs.declared.shape.Shape.{Shape}
-use Rattle.af_model.specs.Cycles.{state_of}
-use Rattle.af_model.specs.Journals.{RoundSeen}
-use Rattle.af_runs.proofs.Basics.{state_more}
-use Rattle.af_runs.specs.Blocks.{Marks, client_list, server_list}
-use Rattle.af_runs.specs.Rounds.{LegalRound, met_after, after_round}
-use Rattle.af_runs.specs.Runs.{Run, told_at, takes_part}
-use Rattle.af_runs.specs.Sessions.{Session, track_count, setup_of, cycle_frames}
 use Rattle.af_enough_law.specs.Carried.{SessionCarried}
 use Rattle.af_enough_law.specs.Courses.{Course, life_in}
 use Rattle.af_enough_law.specs.Drafts.{is_busy, PushMade}
@@ -47,7 +30,6 @@ use Rattle.af_enough_law.proofs.StoppedTracks.{StoppedCarried, missed_said}
 use Rattle.af_enough_law.proofs.StreamHistories.{part_stream}
 use Rattle.af_enough_law.proofs.TrackCarried.{TrackCarried}
 use Rattle.af_enough_law.proofs.TrackGoes.{CalmStream}
-use Rattle.af_runs.proofs.StatesFor.{state_beyond}
 
 -- a track that took two commands or more and isn't to be heard took three
 told_three : (count told : ℕ) (l : Life) → 2 ≤ told → Course count told l → plays l ≡ false → 3 ≤ told

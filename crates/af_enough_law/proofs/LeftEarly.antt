@@ -1,17 +1,6 @@
 -- Whether a track is to be heard, by where its proxy is.
 use Rattle.std.proofs.Common.{◌≡◌, ℕ, ◌≤◌, ◌<◌, if◌then◌else◌, is_some, Bool, true, false, true≢false, All, length, refl, sym, ap, ◌∙◌, arith}
-use Rattle.af_life.specs.declared.kept.Holder.TheVariants.{Lent, Returning}
-use Rattle.af_life.specs.declared.kept.Setting.{Setting}
-use Rattle.af_life.specs.declared.kept.TrackKept.{TrackKept}
-use Rattle.af_life.specs.Heard.{learnt}
-use Rattle.af_life.specs.Kept.{NormalKept, track_at, plays, is_home, is_lent}
-use Rattle.af_life.specs.Turn.{turn_after}
-use Rattle.af_life.proofs.Lives.{turn_len}
-use Rattle.af_model.specs.Journals.{RoundSeen}
-use Rattle.af_runs.specs.Blocks.{Marks}
-use Rattle.af_runs.specs.Rounds.{LegalRound, after_round}
-use Rattle.af_runs.specs.Runs.{Run}
-use Rattle.af_runs.specs.Sessions.{Session, track_count, setup_of}
+use Rattle.af_enough_law.proofs.Common.{LegalRound, Lent, Marks, NormalKept, Returning, RoundSeen, Run, Session, Setting, TrackKept, after_round, is_home, is_lent, learnt, plays, setup_of, track_at, track_count, turn_after, turn_len}
 use Rattle.af_enough_law.specs.Carried.{SessionStands}
 use Rattle.af_enough_law.specs.Drafts.{next_holder}
 use Rattle.af_enough_law.specs.NormalRounds.{TurnMade}

@@ -1,28 +1,8 @@
 -- The entries of a round in which a track leaves: those of the state before play it, and those of the state that the turn pushes don't touch it. The report that the turn finds says that its server is open.
 use Rattle.std.proofs.Common.{◌≡◌, ◌⊎◌, inl, inr, ℕ, zero, suc, ◌+◌, ◌≤◌, ◌<◌, ◌==◌, ◌&&◌, ◌||◌, if◌then◌else◌, is_some, Bool, true, false, true≢false, Option, Some, None, List, [], ◌∷◌, ◌++◌, length, refl, sym, ap, ◌∙◌, subst, arith, append_assoc, append-nil, eqb-true}
-use Rattle.std.specs.List.{find, range_with_len}
-use Rattle.af_base.proofs.Basics.{three}
-use Rattle.af_base.specs.declared.event.ClientEvent.{ClientEvent}
-use Rattle.af_base.specs.declared.event.ServerEvent.{ServerEvent}
-use Rattle.af_base.specs.declared.log.CycleEntry.{CycleEntry}
-use Rattle.af_base.specs.declared.log.SlotEntry.{SlotEntry}
-use Rattle.af_base.specs.declared.report.Report.{Report}
-use Rattle.af_base.specs.declared.report.SlotReport.{SlotReport}
-use Rattle.af_base.specs.declared.state.FastState.{FastState}
-use Rattle.af_base.specs.declared.state.FastTrack.{FastTrack}
-use Rattle.af_base.specs.Log.{slots, entry_slot}
+use Rattle.af_enough_law.proofs.Common.{BlockTold, ClientEvent, CycleEntry, EntrySeen, FastState, FastTrack, LegalEntries, LegalEntry, Listed, LooksBy, Marks, Report, Run, ServerEvent, Session, Shape, SlotEntry, SlotReport, TrackTold, carries, counted_look, cycle_events, cycle_frames, entry_slot, find, front_of, is_mixed, is_shown, known_of, last_report, last_used, listed, next_slot, no_slot, played, polled_known, polled_waits, range_with_len, report_at, server_kept, server_list, slot_for, slot_of, slot_report, slots, state_beyond, state_for, state_of, stream_of, three, told_at, with_cycle, with_cycles, with_looks, with_mix, with_poll}
 use Rattle.af_enough_law.proofs.Basics.{state_there}
-use Rattle.af_model.specs.declared.shape.Shape.{Shape}
-use Rattle.af_model.specs.Cycles.{Listed, LooksBy, state_of, last_used, is_mixed, cycle_events}
-use Rattle.af_model.specs.Journals.{EntrySeen}
-use Rattle.af_model.specs.Reports.{report_at, slot_report, counted_look, no_slot}
-use Rattle.af_model.specs.ServerCalls.{server_kept}
-use Rattle.af_model.specs.StateQueue.{slot_of, carries}
-use Rattle.af_runs.specs.Blocks.{BlockTold, Marks, server_list, listed}
-use Rattle.af_runs.specs.Fronts.{front_of, is_shown}
-use Rattle.af_runs.specs.Rounds.{LegalEntry, LegalEntries}
-use Rattle.af_runs.specs.Runs.{Run, TrackTold, told_at, plays, slot_for, played, state_for, known_of, stream_of, next_slot, last_report, with_poll, with_looks, with_mix, with_cycle, with_cycles}
-use Rattle.af_runs.specs.Sessions.{Session, cycle_frames}
+use Rattle.af_runs.specs.Runs.{plays}
 use Rattle.af_enough_law.specs.FastFlows.{AllUse, Plays, slot_told, HasItem, IsTold}
 use Rattle.af_enough_law.proofs.Commanding.{le_cases}
 use Rattle.af_enough_law.proofs.Fair.{calm_drops}
@@ -34,7 +14,6 @@ use Rattle.af_enough_law.proofs.FastShows.{Setting, Look, slot_look}
 use Rattle.af_enough_law.proofs.FastSince.{Adds}
 use Rattle.af_enough_law.proofs.FastSteps.{cycle_states, cycle_length, cycle_track, mixed_stream, played_server, slot_only, cycle_draft}
 use Rattle.af_enough_law.proofs.StreamCalm.{IsQuiet, LiesIn, lies_earlier, calm_join, calm_cycle, still_shows}
-use Rattle.af_runs.proofs.StatesFor.{polled_known, polled_waits, state_beyond}
 
 -- the state has nothing in the slot, and the track nowhere
 pub record IsOut (slot track : ℕ) (x : FastState) : Type 0 where

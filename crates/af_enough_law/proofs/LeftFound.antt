@@ -1,21 +1,6 @@
 -- The report that a turn finds in a round in which a track leaves says that its server is open, if its lists lie in a history.
 use Rattle.std.proofs.Common.{◌≡◌, ℕ, ◌≤◌, ◌<◌, is_some, false, true≢false, Some, List, [], ◌∷◌, ◌++◌, length, refl, sym, ap, ◌∙◌, subst, arith, append_assoc}
-use Rattle.std.proofs.lemmas.List.{take-append-drop}
-use Rattle.af_base.specs.declared.report.Report.{Report}
-use Rattle.af_base.specs.declared.report.SlotReport.{SlotReport}
-use Rattle.af_base.specs.declared.state.FastState.{FastState}
-use Rattle.af_base.specs.declared.state.FastTrack.{FastTrack}
-use Rattle.af_base.specs.Log.{slots}
-use Rattle.af_judge.proofs.Basics.{calls_states}
-use Rattle.af_model.specs.declared.shape.Shape.{Shape}
-use Rattle.af_model.specs.Cycles.{state_of}
-use Rattle.af_model.specs.Journals.{EntrySeen, RoundSeen}
-use Rattle.af_model.specs.Reports.{report_at}
-use Rattle.af_runs.proofs.Basics.{state_more}
-use Rattle.af_runs.specs.Blocks.{Marks, server_list, listed}
-use Rattle.af_runs.specs.Rounds.{LegalRound, early_count, early_of, late_of, before_turn, found_in, after_turn, all_played, met_after, after_round}
-use Rattle.af_runs.specs.Runs.{Run, told_at, report_of, with_calls, with_cycle, with_cycles, fast_ended}
-use Rattle.af_runs.specs.Sessions.{Session}
+use Rattle.af_enough_law.proofs.Common.{EntrySeen, FastState, FastTrack, LegalRound, Marks, NormalKept, Report, RoundSeen, Run, Session, Shape, SlotReport, after_round, after_turn, all_played, before_turn, calls_states, early_count, early_of, fast_ended, found_in, late_of, listed, met_after, report_at, report_of, server_list, slots, state_beyond, state_more, state_of, take-append-drop, told_at, with_calls, with_cycle, with_cycles}
 use Rattle.af_enough_law.specs.FastFlows.{KnowsStates, Plays, IsTold, slot_told}
 use Rattle.af_enough_law.proofs.FastFound.{calls_current}
 use Rattle.af_enough_law.proofs.FastPolls.{fast_parts, parts_use, round_states, turn_more}
@@ -26,8 +11,6 @@ use Rattle.af_enough_law.proofs.Foreseen.{Foreseen}
 use Rattle.af_enough_law.proofs.LeftEntries.{IsOut, SaysOpen, LeftStep, KnowsLeft, left_entries, HasOrOut}
 use Rattle.af_enough_law.proofs.RoundCalm.{known_open, quiet_only}
 use Rattle.af_enough_law.proofs.StreamCalm.{IsQuiet, LiesIn, lies_earlier}
-use Rattle.af_life.specs.Kept.{NormalKept}
-use Rattle.af_runs.proofs.StatesFor.{state_beyond}
 
 pub cycles_append : (s : Session) (xs ys : List EntrySeen) (run : Run) → with_cycles s (xs ++ ys) run ≡ with_cycles s ys (with_cycles s xs run)
 cycles_append s [] ys run = refl

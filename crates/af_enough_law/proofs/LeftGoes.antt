@@ -1,25 +1,8 @@
 -- The round in which a lent track leaves: all that its client is answered is fair, and the track is on its course after it.
 use Rattle.std.proofs.Common.{◌≡◌, ◌⊎◌, inl, inr, ℕ, ◌≤◌, ◌<◌, unwrap_or, Bool, true, false, true≢false, All, Option, Some, List, [], ◌∷◌, ◌++◌, length, refl, sym, ap, ◌∙◌, subst, arith}
-use Rattle.af_base.specs.declared.event.ClientEvent.{ClientEvent}
+use Rattle.af_enough_law.proofs.Common.{Active, ClientEvent, FastTrack, LegalRound, Life, Marks, NormalKept, Returning, RoundSeen, Run, Session, Setting, Shape, Side, TrackKept, TrackSeen, Turn, after_round, calls_in, client_list, hand_list, is_lent, learnt, met_after, number_of, plays, server_list, setup_of, sides_of, takes_part, told_at, track_at, track_count, track_in, words_taken}
 use Rattle.af_base.specs.declared.event.ClientEvent.TheVariants as client
-use Rattle.af_base.specs.declared.state.FastTrack.{FastTrack}
-use Rattle.af_base.specs.Turn.{Turn, TrackSeen}
 use Rattle.af_enough_law.proofs.Basics.{course_long}
-use Rattle.af_life.specs.declared.kept.Holder.TheVariants.{Returning}
-use Rattle.af_life.specs.declared.kept.Setting.{Setting}
-use Rattle.af_life.specs.declared.kept.TrackKept.{TrackKept}
-use Rattle.af_life.specs.declared.state.LifeState.TheVariants.{Active}
-use Rattle.af_life.specs.declared.track.Life.{Life}
-use Rattle.af_life.specs.Heard.{learnt}
-use Rattle.af_life.specs.Kept.{NormalKept, track_at, track_in, plays, is_lent, number_of}
-use Rattle.af_life.specs.Looks.{words_taken}
-use Rattle.af_model.specs.declared.shape.Shape.{Shape}
-use Rattle.af_model.specs.Journals.{RoundSeen}
-use Rattle.af_runs.specs.Blocks.{Marks, client_list, server_list, hand_list}
-use Rattle.af_runs.specs.ClientTurns.{Side}
-use Rattle.af_runs.specs.Rounds.{LegalRound, met_after, after_round}
-use Rattle.af_runs.specs.Runs.{Run, told_at, sides_of, calls_in, takes_part}
-use Rattle.af_runs.specs.Sessions.{Session, track_count, setup_of}
 use Rattle.af_enough_law.specs.Carried.{SessionCarried}
 use Rattle.af_enough_law.specs.Courses.{none_shut, course, Course, absent, idle, playing, stopping, drained, stopped, over, life_in}
 use Rattle.af_enough_law.specs.NormalRounds.{TurnMade}

@@ -1,27 +1,7 @@
 -- The round in which a lent track leaves: it hears that its stream is open, all that its client is answered is fair, and it is on its course after it. What isn't told by the history of this round is told by that of the next one.
 use Rattle.std.proofs.Common.{◌≡◌, ◌⊎◌, inl, inr, ℕ, ◌≤◌, ◌<◌, if◌then◌else◌, unwrap_or, is_some, Bool, true, false, true≢false, All, Option, Some, length, refl, sym, ap, ◌∙◌, subst, arith}
-use Rattle.af_base.proofs.Basics.{within_or_beyond}
-use Rattle.af_base.specs.declared.report.SlotReport.{SlotReport}
-use Rattle.af_base.specs.declared.state.FastState.{FastState}
-use Rattle.af_base.specs.declared.state.FastTrack.{FastTrack}
+use Rattle.af_enough_law.proofs.Common.{FastState, FastTrack, Learnt, LegalRound, Lent, Marks, NormalKept, Returning, RoundSeen, Run, Session, Setting, SlotReport, TrackKept, after_round, carries, cycle_frames, ends_part, heard, is_home, is_lent, is_over, is_returning, learnt, load_of, met_after, number_of, plays, report_at, report_of, setup_of, slot_number, slot_of, slot_reported, state_beyond, state_of, takes_part, told_at, track_at, track_count, turn_after, turn_len, with_calls, with_cycles, within_or_beyond}
 use Rattle.af_enough_law.proofs.Basics.{not_over}
-use Rattle.af_judge.proofs.Basics.{ends_part}
-use Rattle.af_life.specs.declared.kept.Holder.TheVariants.{Lent, Returning}
-use Rattle.af_life.specs.declared.kept.Setting.{Setting}
-use Rattle.af_life.specs.declared.kept.TrackKept.{TrackKept}
-use Rattle.af_life.specs.Edits.{is_over}
-use Rattle.af_life.specs.Heard.{learnt, heard, slot_reported}
-use Rattle.af_life.specs.Kept.{NormalKept, Learnt, track_at, plays, is_home, is_lent, is_returning, slot_number, number_of}
-use Rattle.af_life.specs.Turn.{turn_after}
-use Rattle.af_life.proofs.Lives.{turn_len}
-use Rattle.af_model.specs.Cycles.{state_of}
-use Rattle.af_model.specs.Journals.{RoundSeen}
-use Rattle.af_model.specs.Reports.{report_at}
-use Rattle.af_model.specs.StateQueue.{slot_of, carries}
-use Rattle.af_runs.specs.Blocks.{Marks}
-use Rattle.af_runs.specs.Rounds.{LegalRound, met_after, after_round}
-use Rattle.af_runs.specs.Runs.{Run, told_at, with_calls, with_cycles, report_of, takes_part, load_of}
-use Rattle.af_runs.specs.Sessions.{Session, track_count, setup_of, cycle_frames}
 use Rattle.af_enough_law.specs.Carried.{SessionCarried}
 use Rattle.af_enough_law.specs.Drafts.{next_holder, is_busy, PushMade}
 use Rattle.af_enough_law.specs.Ends.{IsInOrder}
@@ -46,7 +26,6 @@ use Rattle.af_enough_law.proofs.SessionRounds.{turn_of, turn_runs, push_of, stat
 use Rattle.af_enough_law.proofs.Slots.{slot_stays}
 use Rattle.af_enough_law.proofs.TrackCarried.{TrackCarried}
 use Rattle.af_enough_law.proofs.TurnLives.{shut_turned}
-use Rattle.af_runs.proofs.StatesFor.{state_beyond}
 
 -- a draft has nothing of a track that is returning
 pub draft_out : (m : NormalKept) (i slot : ℕ) → IsInOrder m → (track_at m.tracks i).holder ≡ Returning → slot_number (track_at m.tracks i) ≡ slot → IsOut slot i m.draft

@@ -1,30 +1,7 @@
 -- A round whose turn lends a track's proxy, and one that leaves it lent, whether the fast mixer has it already or not: the draft plays the track, and so does the last state once the push isn't busy.
 use Rattle.std.proofs.Common.{◌≡◌, ℕ, ◌+◌, ◌≤◌, ◌<◌, ◌&&◌, not, if◌then◌else◌, is_some, Bool, true, false, true≢false, All, Option, Some, None, List, [], ◌∷◌, ◌++◌, length, refl, sym, ap, ◌∙◌, subst, arith, append-nil}
-use Rattle.af_base.specs.declared.state.FastState.{FastState}
-use Rattle.af_base.specs.declared.state.FastTrack.{FastTrack}
-use Rattle.af_base.specs.declared.state.Command.TheVariants.{MixWrite}
-use Rattle.af_base.specs.declared.state.Push.{Push}
-use Rattle.af_base.specs.declared.state.Push.TheVariants.{Pushed, Clean, Busy}
-use Rattle.af_base.specs.Log.{slots}
+use Rattle.af_enough_law.proofs.Common.{Absent, Busy, Clean, FastState, FastTrack, Heard, Home, IsSlotted, Learnt, LegalRound, Lent, Marks, MixWrite, NormalKept, Push, Pushed, RoundSeen, Run, Session, Setting, Setup, TrackKept, after_round, carries, cycle_frames, initial_none, is_among, is_home, is_lent, is_pushed, learnt, number_of, plays, setting_of, setup_of, slot_number, slots, state_at, track_at, track_count, track_in, turn_after}
 use Rattle.af_enough_law.proofs.Basics.{stays_home}
-use Rattle.af_life.specs.declared.kept.Heard.{Heard}
-use Rattle.af_life.specs.declared.kept.Holder.TheVariants.{Home, Lent}
-use Rattle.af_life.specs.declared.kept.Setting.{Setting}
-use Rattle.af_life.specs.declared.kept.TrackKept.{TrackKept}
-use Rattle.af_life.specs.declared.state.LifeState.TheVariants.{Absent}
-use Rattle.af_life.specs.Heard.{learnt}
-use Rattle.af_life.specs.Kept.{Setup, NormalKept, Learnt, track_at, track_in, plays, is_home, is_lent, slot_number, number_of, setting_of}
-use Rattle.af_life.specs.Sound.{IsSlotted}
-use Rattle.af_life.specs.State.{is_among}
-use Rattle.af_life.specs.Turn.{turn_after}
-use Rattle.af_model.specs.Journals.{RoundSeen}
-use Rattle.af_model.specs.StateQueue.{carries}
-use Rattle.af_judge.proofs.DraftBits.{initial_none}
-use Rattle.af_runs.specs.Blocks.{Marks}
-use Rattle.af_runs.specs.Rounds.{LegalRound, after_round}
-use Rattle.af_runs.specs.Runs.{Run}
-use Rattle.af_runs.specs.Sessions.{Session, track_count, setup_of, cycle_frames}
-use Rattle.af_runs.specs.Told.{state_at, is_pushed}
 use Rattle.af_enough_law.specs.Carried.{SessionStands}
 use Rattle.af_enough_law.specs.Drafts.{is_busy, next_holder, PushMade}
 use Rattle.af_enough_law.specs.Ends.{IsInOrder}

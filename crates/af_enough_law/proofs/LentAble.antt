@@ -1,18 +1,8 @@
 -- The retries of a lent track that plays, in numbers: a round keeps what makes them two at least.
 use Rattle.std.proofs.Common.{◌≡◌, ◌⊎◌, inl, inr, ℕ, zero, suc, ◌+◌, ◌*◌, ◌^◌, ◌≤◌, ◌<◌, false, [], ◌∷◌, length, ap, arith}
-use Rattle.af_base.proofs.Basics.{below_or_not}
+use Rattle.af_enough_law.proofs.Common.{Client, Counts, FastTrack, LegalRound, Marks, RoundSeen, Run, Session, after_round, below_or_not, client_list, cycle_frames, learnt, server_list, sides_of, slot_reported, told_at, track_at}
 use Rattle.af_base.specs.declared.event.ServerEvent.TheVariants as server
-use Rattle.af_base.specs.declared.state.FastTrack.{FastTrack}
 use Rattle.af_enough_law.proofs.Basics.{taken-append}
-use Rattle.af_life.specs.declared.kept.Counts.{Counts}
-use Rattle.af_life.specs.Heard.{learnt, slot_reported}
-use Rattle.af_life.specs.Kept.{track_at}
-use Rattle.af_model.specs.Journals.{RoundSeen}
-use Rattle.af_runs.specs.Blocks.{Marks, client_list, server_list}
-use Rattle.af_runs.specs.Clients.{Client}
-use Rattle.af_runs.specs.Rounds.{LegalRound, after_round}
-use Rattle.af_runs.specs.Runs.{Run, told_at, sides_of}
-use Rattle.af_runs.specs.Sessions.{Session, cycle_frames}
 use Rattle.af_enough_law.specs.FastFlows.{frames_left_in, heard_in}
 use Rattle.af_enough_law.specs.Nearing.{IsPast, calls_ahead, calls_left}
 use Rattle.af_enough_law.specs.NormalRounds.{TurnMade}

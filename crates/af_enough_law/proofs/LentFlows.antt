@@ -1,23 +1,7 @@
 -- What is carried of a track whose proxy is lent is kept by a round that leaves it lent.
 use Rattle.std.proofs.Common.{◌≡◌, ℕ, ◌≤◌, ◌<◌, ◌&&◌, not, is_some, Bool, true, false, true≢false, All, length, length-append, refl, sym, ap, ◌∙◌, subst, arith}
-use Rattle.af_base.proofs.Basics.{or_right}
-use Rattle.af_base.specs.declared.report.SlotReport.{SlotReport}
-use Rattle.af_base.specs.declared.state.FastTrack.{FastTrack}
+use Rattle.af_enough_law.proofs.Common.{Counts, FastTrack, Learnt, LegalRound, Lent, Life, Marks, NormalKept, RoundSeen, Run, Session, Setting, SlotReport, TrackKept, after_round, client_list, counts_in, ends_part, holds, is_home, learnt, load_of, met_after, number_of, or_right, plays, report_at, report_of, server_list, setup_of, slot_number, slot_reported, takes_part, told_at, track_at, track_count, with_calls, with_cycles}
 use Rattle.af_enough_law.proofs.Basics.{state_there}
-use Rattle.af_judge.proofs.Basics.{ends_part}
-use Rattle.af_life.specs.declared.kept.Counts.{Counts}
-use Rattle.af_life.specs.declared.kept.Holder.TheVariants.{Lent}
-use Rattle.af_life.specs.declared.kept.Setting.{Setting}
-use Rattle.af_life.specs.declared.kept.TrackKept.{TrackKept}
-use Rattle.af_life.specs.declared.track.Life.{Life}
-use Rattle.af_life.specs.Heard.{learnt, slot_reported, counts_in}
-use Rattle.af_life.specs.Kept.{NormalKept, Learnt, track_at, plays, is_home, slot_number, number_of}
-use Rattle.af_model.specs.Journals.{RoundSeen}
-use Rattle.af_model.specs.Reports.{report_at}
-use Rattle.af_runs.specs.Blocks.{Marks, client_list, server_list}
-use Rattle.af_runs.specs.Rounds.{LegalRound, met_after, after_round}
-use Rattle.af_runs.specs.Runs.{Run, told_at, with_calls, with_cycles, report_of, takes_part, holds, load_of}
-use Rattle.af_runs.specs.Sessions.{Session, track_count, setup_of}
 use Rattle.af_enough_law.specs.Carried.{SessionCarried}
 use Rattle.af_enough_law.specs.FastFlows.{FlowsIn, Flowed, Reported, slot_told, HasItem}
 use Rattle.af_enough_law.specs.Items.{item_of}

@@ -1,16 +1,6 @@
 -- A lent track hears of the frames that were taken of it in the turn of the same round, or in the next one.
 use Rattle.std.proofs.Common.{◌≡◌, ◌⊎◌, inl, inr, ℕ, ◌+◌, ◌≤◌, ◌<◌, ◌||◌, nat_lt, true, false, sym, ap, ◌∙◌, arith}
-use Rattle.af_base.proofs.Basics.{below_or_not}
-use Rattle.af_base.specs.declared.state.FastTrack.{FastTrack}
-use Rattle.af_life.specs.declared.kept.Counts.{Counts}
-use Rattle.af_life.specs.declared.kept.TrackKept.{TrackKept}
-use Rattle.af_life.specs.Heard.{learnt, heard, slot_reported}
-use Rattle.af_life.specs.Kept.{track_at, is_home}
-use Rattle.af_model.specs.Journals.{RoundSeen}
-use Rattle.af_runs.specs.Blocks.{Marks}
-use Rattle.af_runs.specs.Rounds.{after_round}
-use Rattle.af_runs.specs.Runs.{Run, told_at}
-use Rattle.af_runs.specs.Sessions.{Session, cycle_frames}
+use Rattle.af_enough_law.proofs.Common.{Counts, FastTrack, Marks, RoundSeen, Run, Session, TrackKept, after_round, below_or_not, cycle_frames, heard, is_home, learnt, slot_reported, told_at, track_at}
 use Rattle.af_enough_law.specs.FastFlows.{slot_told, frames_left_in}
 use Rattle.af_enough_law.specs.NormalRounds.{TurnMade}
 use Rattle.af_enough_law.proofs.FastReports.{hears_some}

@@ -1,33 +1,6 @@
 -- A track whose proxy is lent, and stays so in a round, flows in it, and all that is carried of it is carried on.
 use Rattle.std.proofs.Common.{◌≡◌, ◌⊎◌, inl, inr, ℕ, zero, suc, ◌+◌, ◌≤◌, ◌<◌, ◌==◌, ◌&&◌, ◌||◌, not, if◌then◌else◌, unwrap_or, is_some, Bool, true, false, true≢false, All, Option, Some, List, [], ◌∷◌, ◌++◌, length, length-append, refl, sym, ap, ◌∙◌, subst, arith, eq-eqb}
-use Rattle.std.specs.List.{list_any, range_with_len}
-use Rattle.af_base.proofs.Basics.{or_right, within_or_beyond}
-use Rattle.af_base.specs.declared.report.SlotReport.{SlotReport}
-use Rattle.af_base.specs.declared.state.FastState.{FastState}
-use Rattle.af_base.specs.declared.state.FastTrack.{FastTrack}
-use Rattle.af_base.specs.declared.state.Command.TheVariants.{MixWrite}
-use Rattle.af_base.specs.Log.{slots}
-use Rattle.af_life.proofs.Basics.{lent_away}
-use Rattle.af_life.specs.declared.kept.Heard.{Heard}
-use Rattle.af_life.specs.declared.kept.Holder.TheVariants.{Lent}
-use Rattle.af_life.specs.declared.kept.Setting.{Setting}
-use Rattle.af_life.specs.declared.kept.TrackKept.{TrackKept}
-use Rattle.af_life.specs.declared.track.Life.{Life}
-use Rattle.af_life.specs.Heard.{learnt, heard, heard_by, heard_at_home, heard_elsewhere, heard_with, grown, counts_in}
-use Rattle.af_life.specs.Kept.{Setup, NormalKept, track_at, plays, is_home, is_lent, slot_number, number_of, setting_of}
-use Rattle.af_life.specs.declared.state.LifeState.TheVariants.{Absent}
-use Rattle.af_life.specs.State.{is_among}
-use Rattle.af_life.specs.Turn.{turn_after}
-use Rattle.af_model.specs.Cycles.{state_of}
-use Rattle.af_model.specs.Draft.{initial}
-use Rattle.af_model.specs.Journals.{RoundSeen}
-use Rattle.af_model.specs.StateQueue.{slot_of, carries}
-use Rattle.af_runs.proofs.Basics.{state_more}
-use Rattle.af_runs.specs.Blocks.{Marks, client_list}
-use Rattle.af_runs.specs.Rounds.{LegalRound, after_round}
-use Rattle.af_runs.specs.Runs.{Run, told_at, holds}
-use Rattle.af_runs.specs.Sessions.{Session, track_count, setup_of, cycle_frames}
-use Rattle.af_runs.specs.Told.{state_at}
+use Rattle.af_enough_law.proofs.Common.{Absent, FastState, FastTrack, Heard, LegalRound, Lent, Life, Marks, MixWrite, NormalKept, RoundSeen, Run, Session, Setting, Setup, SlotReport, TrackKept, after_round, carries, client_list, counts_in, cycle_frames, grown, heard, heard_at_home, heard_by, heard_elsewhere, heard_with, holds, initial, is_among, is_home, is_lent, learnt, lent_away, list_any, number_of, or_right, plays, range_with_len, setting_of, setup_of, slot_number, slot_of, slots, state_at, state_beyond, state_more, state_of, told_at, track_at, track_count, turn_after, within_or_beyond}
 use Rattle.af_enough_law.specs.Carried.{SessionCarried}
 use Rattle.af_enough_law.specs.Courses.{Course, absent, idle, playing, stopping, drained, stopped, over}
 use Rattle.af_enough_law.specs.Drafts.{is_busy, PushMade}
@@ -46,7 +19,6 @@ use Rattle.af_enough_law.proofs.SessionRounds.{turn_of, turn_runs, push_of, stat
 use Rattle.af_enough_law.proofs.Slots.{IsOpened, slot_stays}
 use Rattle.af_enough_law.proofs.TrackCarried.{TrackCarried}
 use Rattle.af_enough_law.proofs.TrackGoes.{CalmStream}
-use Rattle.af_runs.proofs.StatesFor.{state_beyond}
 
 -- ## The draft
 
@@ -75,7 +47,7 @@ draft_item s run i slot item order items lent slot_is item_is =
 
 -- ## The state adopted
 
-any_from : (p : ℕ → Bool) (a n i : ℕ) → a ≤ i → i < a + n → p i ≡ true → list_any p (range_with_len a n) ≡ true
+pub any_from : (p : ℕ → Bool) (a n i : ℕ) → a ≤ i → i < a + n → p i ≡ true → list_any p (range_with_len a n) ≡ true
 any_from p a zero i low high is = absurd (let z : ⊥ = omega (arith, low, high) in z)
 any_from p a (suc n) i low high is = by (le_cases a i low) (λ above. any_from p (a + 1) n i (omega (arith, above)) (omega (arith, high)) is)
   where

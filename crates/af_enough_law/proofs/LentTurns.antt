@@ -1,26 +1,8 @@
 -- A turn does nothing to the server of a stream whose proxy is away, of a track that has a slot.
 use Rattle.std.proofs.Common.{◌≡◌, ℕ, zero, suc, ◌+◌, ◌<◌, ◌==◌, ◌&&◌, not, nat_le, if◌then◌else◌, is_some, Bool, true, false, true≢false, Option, List, [], ◌∷◌, ◌++◌, length, map, filter, get_or, refl, sym, ap, ◌∙◌, arith, append-nil, eqb-true}
-use Rattle.std.specs.List.{range_with_len, flat_map}
-use Rattle.af_base.specs.declared.event.ServerEvent.{ServerEvent}
-use Rattle.af_base.specs.Turn.{Turn, TakeSeen}
+use Rattle.af_enough_law.proofs.Common.{BlockTold, GoesOn, Holder, Learnt, Marks, NormalKept, Outside, RoundSeen, Run, ServerEvent, Session, Setup, TakeSeen, TrackKept, TrackTold, Turn, acked_len, after_ack, after_edits, after_push, after_takes, after_tracks, after_turn, asked as buffer, before_turn, cycle_events, edits_len, flat_map, found_in, hand_does, invalid, is_home, is_mixed_here, learnt, mix_events, mixed_here, not_yet, outside_of, plays, push_tracks, range_with_len, served_len, server_list, setup_of, stream_list, takes_from, told_at, track_at, track_in, tracks_at, turn_after, turned}
 use Rattle.af_enough_law.proofs.Basics.{before_normal}
-use Rattle.af_judge.proofs.Basics.{push_tracks}
-use Rattle.af_life.specs.declared.kept.Holder.{Holder}
-use Rattle.af_life.specs.declared.kept.TrackKept.{TrackKept}
-use Rattle.af_life.specs.Edits.{after_ack, after_push}
-use Rattle.af_life.specs.Heard.{learnt}
-use Rattle.af_life.specs.Kept.{Setup, asked as buffer, NormalKept, Learnt, Outside, track_at, track_in, plays, is_home}
-use Rattle.af_life.specs.Plays.{is_mixed_here, mixed_here, after_takes}
-use Rattle.af_life.specs.Turn.{GoesOn, turn_after, after_tracks, after_edits}
-use Rattle.af_life.specs.TurnEvents.{tracks_at, invalid, hand_list, stream_list, takes_from, mix_events}
-use Rattle.af_life.proofs.Lives.{acked_len, not_yet, served_len, edits_len}
-use Rattle.af_model.specs.Cycles.{cycle_events}
-use Rattle.af_model.specs.Journals.{RoundSeen}
-use Rattle.af_runs.specs.Blocks.{BlockTold, Marks, server_list, hand_does}
-use Rattle.af_runs.specs.Found.{outside_of}
-use Rattle.af_runs.specs.Rounds.{before_turn, found_in, turned, after_turn}
-use Rattle.af_runs.specs.Runs.{Run, TrackTold, told_at}
-use Rattle.af_runs.specs.Sessions.{Session, setup_of}
+use Rattle.af_life.specs.TurnEvents.{hand_list}
 use Rattle.af_enough_law.specs.NormalRounds.{TurnMade}
 use Rattle.af_enough_law.proofs.FastSteps.{server_does-server, hand_does-server}
 use Rattle.af_enough_law.proofs.Following.{greeted_in}

@@ -1,3 +1,4 @@
+pub mod Common
 pub mod Basics
 pub mod Standing
 pub mod SeenShared
@@ -38,6 +39,7 @@ pub mod Looking
 pub mod Commanding
 pub mod RunTracks
 pub mod RunLists
+pub mod PlainClients
 pub mod Pokeless
 pub mod RunTame
 pub mod RunBegins

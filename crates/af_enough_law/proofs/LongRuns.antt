@@ -1,19 +1,7 @@
 -- Rounds that are cut off are many, and in the first of them the fast mixer makes its whole turns.
 use Rattle.std.proofs.Common.{◌≡◌, ◌⊎◌, inl, inr, ℕ, zero, suc, ◌+◌, ◌*◌, ◌≤◌, ◌==◌, ◌&&◌, Bool, true, false, List, [], ◌∷◌, length, take, refl, sym, ap, ◌∙◌, arith, length-append, true≢false}
-use Rattle.std.specs.Prelude.{MatchBool}
-use Rattle.std.proofs.lemmas.List.{length-take-le}
-use Rattle.af_base.specs.declared.frame.Frame.{Frame}
-use Rattle.af_model.specs.Cycles.{is_mixed}
-use Rattle.af_model.specs.Journals.{EntrySeen, RoundSeen, JournalData}
-use Rattle.af_script.specs.Data.{ScriptData}
-use Rattle.af_runs.specs.Blocks.{Marks}
-use Rattle.af_runs.specs.LegalRuns.{marks_of, session_of, run_from, LegalRounds, IsCutRun}
-use Rattle.af_runs.specs.Rounds.{AreMixedBut, IsFastTurn, LegalRound, fills, after_round}
-use Rattle.af_runs.specs.Runs.{Run, new_run, fast_ended, all_ended}
-use Rattle.af_runs.specs.Sessions.{Session}
+use Rattle.af_enough_law.proofs.Common.{AreMixedBut, EntrySeen, Frame, HasEnoughCycles, IsCutRun, IsFastTurn, JournalData, LegalRound, LegalRounds, Marks, MatchBool, RoundSeen, Run, ScriptData, Session, after_round, all_ended, enough_rounds, fast_ended, fills, is_mixed, length-take-le, marks_of, match_bool-map, new_run, run_from, session_of}
 use Rattle.af_runs.proofs.RoundEntries.{bare, round-entries}
-use Rattle.af_runs.proofs.RunGrows.{match_bool-map}
-use Rattle.af_enough.specs.Enough.{enough_rounds, HasEnoughCycles}
 use Rattle.af_enough_law.specs.Ending.{AreCutOff, StillGoes, CutRunsAreLong}
 
 bare-length : (es : List EntrySeen) → length (bare es) ≡ length es

@@ -1,23 +1,7 @@
 -- What a turn makes of a life by words of some kind.
 use Rattle.std.proofs.Common.{◌≡◌, ◌⊎◌, inl, inr, ℕ, ◌≤◌, ◌<◌, ◌==◌, ◌&&◌, ◌||◌, nat_le, not, if◌then◌else◌, is_some, Bool, true, false, true≢false, Option, List, [], ◌∷◌, ◌++◌, length, refl, sym, ap, ◌∙◌, subst, arith, eqb-true}
-use Rattle.af_base.proofs.Basics.{both_true, no}
-use Rattle.af_base.specs.declared.turn.CommandLook.{CommandLook}
-use Rattle.af_base.specs.Turn.{Turn}
-use Rattle.af_judge.proofs.Basics.{report_ends}
-use Rattle.af_life.proofs.Basics.{ready_life}
-use Rattle.af_life.specs.declared.kept.TrackKept.{TrackKept}
-use Rattle.af_life.specs.declared.state.LifeState.TheVariants.{Absent, Idle, Active, Stopping1, Stopping2, Stopped}
-use Rattle.af_life.specs.declared.track.Known.{Known}
-use Rattle.af_life.specs.declared.track.Life.{Life}
-use Rattle.af_life.specs.Commands.{by_command, first_effect, commands}
-use Rattle.af_life.specs.Heard.{heard, ready}
-use Rattle.af_life.specs.Kept.{Setup, NormalKept, Learnt, track_at, track_in, plays}
-use Rattle.af_life.specs.Looks.{words_taken}
-use Rattle.af_life.specs.Obeys.{told, must_wait, ended, shows_command, is_shut, after_look, obeyed, goes_on, after_looks, commanded}
-use Rattle.af_life.specs.Reports.{by_report}
-use Rattle.af_life.specs.Turn.{turn_after}
-use Rattle.af_model.proofs.Basics.{both_first}
-use Rattle.af_model.proofs.Logic.{both_right}
+use Rattle.af_enough_law.proofs.Common.{Absent, Active, CommandLook, Idle, Known, Learnt, Life, NormalKept, Setup, Stopped, Stopping1, Stopping2, TrackKept, Turn, after_look, after_looks, both_first, both_right, both_true, by_command, by_report, commands, ended, first_effect, goes_on, heard, is_shut, must_wait, no, obeyed, plays, ready, ready_life, report_ends, shows_command, told, track_at, track_in, turn_after, words_taken}
+use Rattle.af_life.specs.Obeys.{commanded}
 use Rattle.af_enough_law.specs.Courses.{Course, absent, idle, playing, stopping, drained, stopped, over, life_in}
 use Rattle.af_enough_law.specs.TrackTurns.{TrackTurned}
 use Rattle.af_enough_law.proofs.EarlyCalls.{no_stop}

@@ -1,25 +1,8 @@
 -- The report that a turn finds in the round in which the fast mixer comes to have a proxy: if it is of this attachment, it says that the server is open.
 use Rattle.std.proofs.Common.{◌≡◌, ◌⊎◌, inl, inr, ℕ, ◌≤◌, ◌<◌, ◌||◌, if◌then◌else◌, is_some, Bool, true, false, true≢false, Option, Some, None, List, [], ◌∷◌, ◌++◌, length, refl, sym, ap, ◌∙◌, subst, arith, append_assoc, append-nil}
-use Rattle.af_base.specs.declared.event.ClientEvent.{ClientEvent}
-use Rattle.af_base.specs.declared.event.ServerEvent.{ServerEvent}
-use Rattle.af_base.specs.declared.report.Report.{Report}
-use Rattle.af_base.specs.declared.report.SlotReport.{SlotReport}
-use Rattle.af_base.specs.declared.state.FastState.{FastState}
-use Rattle.af_base.specs.declared.state.FastTrack.{FastTrack}
-use Rattle.af_base.specs.Log.{slots, entry_slot}
+use Rattle.af_enough_law.proofs.Common.{ClientEvent, EntrySeen, FastState, FastTrack, LegalEntries, LegalEntry, Listed, Marks, Report, Run, ServerEvent, Session, Shape, SlotReport, TrackTold, carried, carries, counted_look, cycle_frames, entry_slot, is_shown, known_of, last_report, last_used, listed, mixed_track, no_slot, played, polled_known, polled_pushed, polled_waits, report_at, server_kept, server_list, slot_for, slot_of, slot_report, slots, state_at, state_for, state_of, stream_of, told_at, with_cycle, with_cycles, with_looks, with_mix, with_poll}
 use Rattle.af_enough_law.proofs.Basics.{state_there}
-use Rattle.af_model.specs.declared.shape.Shape.{Shape}
-use Rattle.af_model.specs.Cycles.{Listed, state_of, last_used}
-use Rattle.af_model.specs.Journals.{EntrySeen}
-use Rattle.af_model.specs.Reports.{report_at, slot_report, carried, counted_look, no_slot}
-use Rattle.af_model.specs.ServerCalls.{server_kept}
-use Rattle.af_model.specs.StateQueue.{slot_of, carries}
-use Rattle.af_runs.specs.Blocks.{Marks, server_list, listed}
-use Rattle.af_runs.specs.Fronts.{is_shown}
-use Rattle.af_runs.specs.Rounds.{LegalEntry, LegalEntries}
-use Rattle.af_runs.specs.Runs.{Run, TrackTold, told_at, plays, state_for, slot_for, played, with_poll, with_looks, with_mix, with_cycle, with_cycles, known_of, stream_of, last_report, mixed_track}
-use Rattle.af_runs.specs.Sessions.{Session, cycle_frames}
-use Rattle.af_runs.specs.Told.{state_at}
+use Rattle.af_runs.specs.Runs.{plays}
 use Rattle.af_enough_law.specs.FastFlows.{AllUse, slot_told, HasItem}
 use Rattle.af_enough_law.proofs.Commanding.{le_cases}
 use Rattle.af_enough_law.proofs.FastFlows.{cycles_later}
@@ -30,7 +13,6 @@ use Rattle.af_enough_law.proofs.FastSince.{Adds}
 use Rattle.af_enough_law.proofs.FastSteps.{cycle_length, cycle_states, cycle_track, mixed_stream, slot_only, cycle_draft}
 use Rattle.af_enough_law.proofs.LeftEntries.{IsOut, slot_none, track_still, shows_nothing, HasOrOut}
 use Rattle.af_enough_law.proofs.StreamCalm.{IsQuiet, LiesIn, lies_earlier, entries_quiet}
-use Rattle.af_runs.proofs.StatesFor.{polled_known, polled_pushed, polled_waits}
 
 -- a report of this attachment says that the server is open
 abbrev pub SaysOpenOf : FastTrack → SlotReport → Type 0

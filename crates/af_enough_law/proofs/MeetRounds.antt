@@ -1,24 +1,6 @@
 -- What the reports of a round say of a proxy that the fast mixer has, or comes to have in it.
 use Rattle.std.proofs.Common.{◌≡◌, ℕ, ◌≤◌, ◌<◌, is_some, true, false, true≢false, Some, List, [], ◌∷◌, ◌++◌, length, refl, sym, ap, ◌∙◌, subst, arith, take-append-drop, unwrap_or, Option, length-append}
-use Rattle.af_base.specs.declared.event.ClientEvent.{ClientEvent}
-use Rattle.af_base.specs.declared.event.ServerEvent.{ServerEvent}
-use Rattle.af_base.specs.declared.state.FastState.{FastState}
-use Rattle.af_base.specs.declared.state.FastTrack.{FastTrack}
-use Rattle.af_base.specs.Log.{slots}
-use Rattle.af_judge.proofs.Basics.{calls_states}
-use Rattle.af_model.specs.declared.shape.Shape.{Shape}
-use Rattle.af_model.specs.Cycles.{state_of}
-use Rattle.af_model.specs.Draft.{initial}
-use Rattle.af_model.specs.Journals.{EntrySeen, RoundSeen}
-use Rattle.af_model.specs.Reports.{report_at}
-use Rattle.af_model.specs.ServerCalls.{server_kept}
-use Rattle.af_model.specs.StateQueue.{slot_of, carries}
-use Rattle.af_judge.proofs.DraftBits.{initial_none}
-use Rattle.af_runs.proofs.Basics.{state_more}
-use Rattle.af_runs.specs.Blocks.{Marks, server_list, listed}
-use Rattle.af_runs.specs.Rounds.{LegalEntries, LegalRound, early_of, late_of, early_count, before_turn, after_turn, all_played, found_in, met_after, after_round}
-use Rattle.af_runs.specs.Runs.{Run, told_at, with_calls, with_cycle, with_cycles, known_of, report_of, fast_ended}
-use Rattle.af_runs.specs.Sessions.{Session, cycle_frames}
+use Rattle.af_enough_law.proofs.Common.{ClientEvent, EntrySeen, FastState, FastTrack, LegalEntries, LegalRound, Marks, NormalKept, RoundSeen, Run, ServerEvent, Session, Shape, after_round, after_turn, all_played, before_turn, calls_states, carries, cycle_frames, early_count, early_of, fast_ended, found_in, initial, initial_none, known_of, late_of, listed, met_after, polled_pushed, report_at, report_of, server_kept, server_list, slot_of, slots, state_at, state_beyond, state_more, state_of, told_at, with_calls, with_cycle, with_cycles}
 use Rattle.af_enough_law.specs.FastFlows.{KnowsStates, slot_told, HasItem}
 use Rattle.af_enough_law.proofs.FastFlows.{cycles_later}
 use Rattle.af_enough_law.proofs.FastFound.{calls_current}
@@ -33,11 +15,8 @@ use Rattle.af_enough_law.proofs.LeftFound.{cycles_append, adds_both}
 use Rattle.af_enough_law.proofs.MeetReports.{SaysOpenOf, MeetStep, KnowsMet, met_entries, NamesTrack, says_next}
 use Rattle.af_enough_law.proofs.RoundCalm.{quiet_only, legal_parts}
 use Rattle.af_enough_law.proofs.StreamCalm.{IsQuiet, LiesIn, lies_earlier, entries_quiet}
-use Rattle.af_runs.proofs.StatesFor.{state_beyond, polled_pushed}
 use Rattle.af_enough_law.proofs.SlotReports.{state_at_all}
 use Rattle.af_enough_law.proofs.LeftEntries.{HasOrOut}
-use Rattle.af_runs.specs.Told.{state_at}
-use Rattle.af_life.specs.Kept.{NormalKept}
 
 -- ## The report that a turn finds
 

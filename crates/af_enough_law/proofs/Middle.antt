@@ -1,14 +1,6 @@
 -- From the first round in which all is carried until each life has ended: a round of all tracks.
 use Rattle.std.proofs.Common.{◌≡◌, inl, inr, ℕ, suc, ◌+◌, ◌^◌, ◌≤◌, ◌<◌, ◌==◌, ◌&&◌, ◌||◌, not, Bool, true, false, true≢false, All, length, refl, sym, ◌∙◌, arith}
-use Rattle.af_life.specs.declared.kept.Setting.{Setting}
-use Rattle.af_life.specs.declared.track.Life.{Life}
-use Rattle.af_life.specs.Edits.{is_over}
-use Rattle.af_life.specs.Kept.{track_at, plays}
-use Rattle.af_model.specs.Journals.{RoundSeen}
-use Rattle.af_runs.specs.Blocks.{Marks}
-use Rattle.af_runs.specs.Rounds.{LegalRound, after_round}
-use Rattle.af_runs.specs.Runs.{Run}
-use Rattle.af_runs.specs.Sessions.{Session, track_count, setup_of, spec_of}
+use Rattle.af_enough_law.proofs.Common.{LegalRound, Life, Marks, RoundSeen, Run, Session, Setting, after_round, is_over, plays, setup_of, spec_of, track_at, track_count}
 use Rattle.af_enough_law.specs.Courses.{stage, is_heard}
 use Rattle.af_enough_law.specs.NormalRounds.{TurnMade}
 use Rattle.af_enough_law.proofs.Carrying.{Carried, carried_on}

@@ -1,21 +1,6 @@
 -- A run whose tracks flow, and of which so many rounds are left that are enough, has ended all its lives in them.
 use Rattle.std.proofs.Common.{◌≡◌, ◌⊎◌, inl, inr, ℕ, zero, suc, ◌+◌, ◌^◌, ◌≤◌, ◌<◌, Bool, true, false, true≢false, All, List, [], ◌∷◌, length, take, refl, sym, ◌∙◌, subst, arith}
-use Rattle.std.specs.Int.{div_ceil}
-use Rattle.af_base.specs.declared.frame.Frame.{Frame}
-use Rattle.af_life.specs.declared.kept.Setting.{Setting}
-use Rattle.af_life.specs.declared.kept.TrackKept.{TrackKept}
-use Rattle.af_life.specs.Edits.{is_over}
-use Rattle.af_life.specs.Kept.{track_at, plays}
-use Rattle.af_model.specs.Journals.{RoundSeen}
-use Rattle.af_script.specs.Data.{ScriptData}
-use Rattle.af_script.specs.declared.op.Op.{Op}
-use Rattle.af_script.specs.Form.{IsScript}
-use Rattle.af_runs.specs.Blocks.{Marks, client_list, server_list}
-use Rattle.af_runs.specs.LegalRuns.{session_of, run_from, LegalRounds}
-use Rattle.af_runs.specs.Rounds.{LegalRound, after_round}
-use Rattle.af_runs.specs.Runs.{Run, told_at, sides_of}
-use Rattle.af_runs.specs.Sessions.{Session, track_count, setup_of, spec_of}
-use Rattle.af_enough.specs.Enough.{portion, enough_rounds}
+use Rattle.af_enough_law.proofs.Common.{Frame, IsScript, LegalRound, LegalRounds, Marks, Op, RoundSeen, Run, ScriptData, Session, Setting, TrackKept, after_round, client_list, div_ceil, enough_rounds, is_over, plays, portion, run_from, server_list, session_of, setup_of, sides_of, spec_of, told_at, track_at, track_count}
 use Rattle.af_enough_law.specs.Courses.{stage}
 use Rattle.af_enough_law.specs.Ends.{AllOver}
 use Rattle.af_enough_law.specs.Nearing.{IsPast}
@@ -29,7 +14,7 @@ use Rattle.af_enough_law.proofs.Nearing.{Nearing, over, removed, stopped, draine
 use Rattle.af_enough_law.proofs.NearSums.{IsPortion, portion_of, near_costs}
 use Rattle.af_enough_law.proofs.PipeKept.{PipeKept, IsSized}
 use Rattle.af_enough_law.proofs.RunBegins.{Plays}
-use Rattle.af_enough_law.proofs.SessionRounds.{some_life}
+use Rattle.af_enough_law.proofs.Underway.{alive_over as some_life}
 use Rattle.af_enough_law.proofs.Turning.{Stands}
 
 -- ## The start

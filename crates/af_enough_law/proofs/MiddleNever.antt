@@ -1,19 +1,6 @@
 -- A run of a script with enough cycles has ended all lives before it is too late for the mixers, if its tracks start to flow early.
 use Rattle.std.proofs.Common.{◌≡◌, ℕ, zero, suc, ◌+◌, ◌-◌, ◌^◌, ◌≤◌, ◌<◌, Bool, true, false, List, [], ◌∷◌, length, take, drop, refl, sym, ap, ◌∙◌, subst, arith, length-drop}
-use Rattle.std.proofs.lemmas.List.{length-map}
-use Rattle.af_base.specs.declared.frame.Frame.{Frame}
-use Rattle.af_life.specs.Edits.{is_over}
-use Rattle.af_life.specs.Kept.{track_at, plays}
-use Rattle.af_model.specs.Journals.{RoundSeen}
-use Rattle.af_script.specs.Data.{ScriptData}
-use Rattle.af_script.specs.Form.{IsScript}
-use Rattle.af_runs.specs.Blocks.{Marks}
-use Rattle.af_runs.specs.LegalRuns.{session_of, run_from, LegalRounds}
-use Rattle.af_runs.specs.Rounds.{LegalRound, after_round}
-use Rattle.af_runs.specs.Runs.{Run, new_run}
-use Rattle.af_runs.specs.Sessions.{Session, track_count, spec_of, spec_setting}
-use Rattle.af_judge.proofs.StatesRuns.{scales_of}
-use Rattle.af_enough.specs.Enough.{enough_rounds, HasEnoughCycles}
+use Rattle.af_enough_law.proofs.Common.{Frame, HasEnoughCycles, IsScript, LegalRound, LegalRounds, Marks, RoundSeen, Run, ScriptData, Session, after_round, enough_rounds, is_over, length-map, new_run, plays, run_from, scales_of, session_of, spec_of, spec_setting, track_at, track_count}
 use Rattle.af_enough_law.specs.Ends.{AllOver}
 use Rattle.af_enough_law.specs.Playing.{way_frames}
 use Rattle.af_enough_law.proofs.Carrying.{Carried}

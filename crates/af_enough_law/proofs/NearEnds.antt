@@ -1,13 +1,6 @@
 -- A track that starts to flow has ended its life within so many rounds.
-use Rattle.std.proofs.Common.{◌≡◌, ℕ, zero, suc, ◌+◌, ◌-◌, ◌*◌, ◌^◌, ◌≤◌, ◌<◌, Bool, true, false, List, [], ◌∷◌, length, refl, sym, subst, arith}
-use Rattle.af_life.specs.Kept.{track_at}
-use Rattle.af_model.specs.Journals.{RoundSeen}
-use Rattle.af_script.specs.declared.op.Op.{Op}
-use Rattle.af_runs.specs.Blocks.{Marks, client_list, server_list}
-use Rattle.af_runs.specs.LegalRuns.{run_from}
-use Rattle.af_runs.specs.Rounds.{LegalRound, after_round}
-use Rattle.af_runs.specs.Runs.{Run, told_at, sides_of}
-use Rattle.af_runs.specs.Sessions.{Session, spec_of}
+use Rattle.std.proofs.Common.{◌≡◌, ℕ, suc, ◌+◌, ◌-◌, ◌*◌, ◌^◌, ◌≤◌, ◌<◌, Bool, true, false, List, [], ◌∷◌, refl, sym, subst, arith}
+use Rattle.af_enough_law.proofs.Common.{LegalRound, Marks, Op, RoundSeen, Run, Session, after_round, client_list, server_list, sides_of, spec_of, told_at, track_at}
 use Rattle.af_enough_law.specs.Nearing.{IsPast}
 use Rattle.af_enough_law.specs.NormalRounds.{TurnMade}
 use Rattle.af_enough_law.specs.Playing.{IsWay, way_ops, way_frames}
@@ -74,18 +67,3 @@ near_round cut s marks run round i q full total n p under g (living kept near) =
         let r = g.goes alive kept in
         living (kept_round cut s marks run round i g.made g.legal (spec_of s i).frames (spec_of s i).base kept r)
         (nearer cut s marks run round i g.made g.legal (spec_of s i).frames (spec_of s i).base kept r q full total under p.least p.some p.full_some p.holds n near)
-
--- each of some rounds gives what it is to give
-abbrev pub GivesRounds : Bool → Session → Marks → ℕ → Run → List RoundSeen → Type 0
-GivesRounds cut s marks i run [] = Unit {0}
-GivesRounds cut s marks i run (round ∷ rounds) = GivesRound cut s marks run round i × GivesRounds cut s marks i (after_round s run round) rounds
-
--- after as many rounds as were left the life has ended
-pub near_ends : (cut : Bool) (s : Session) (marks : Marks) (run : Run) (rounds : List RoundSeen) (i q full total n : ℕ) → IsPortion s i q full → total < (spec_of s i).base + 2 ^ 32 → n ≤ length rounds → GivesRounds cut s marks i run rounds → Near s run i q full total n
-    → (track_at (run_from s run rounds).normal.tracks i).life.ended ≡ true
-near_ends cut s marks run [] i q full total zero p under le g (ended e) = e
-near_ends cut s marks run [] i q full total zero p under le g (living kept near) = near_over run i q full total near
-near_ends cut s marks run [] i q full total (suc n) p under le g near = absurd (let z : ⊥ = omega (arith, le) in z)
-near_ends cut s marks run (round ∷ rounds) i q full total zero p under le g (ended e) = near_ends cut s marks (after_round s run round) rounds i q full total zero p under (omega arith) g.1 (ended (g.0.stays e))
-near_ends cut s marks run (round ∷ rounds) i q full total zero p under le g (living kept near) = near_ends cut s marks (after_round s run round) rounds i q full total zero p under (omega arith) g.1 (ended (g.0.stays (near_over run i q full total near)))
-near_ends cut s marks run (round ∷ rounds) i q full total (suc n) p under le g near = near_ends cut s marks (after_round s run round) rounds i q full total n p under (omega (arith, le)) g.1 (near_round cut s marks run round i q full total n p under g.0 near)

@@ -1,17 +1,6 @@
 -- What the rounds of a track give that comes nearer to its end, by what is carried of it: while its proxy takes part in the meetings, in the round in which it leaves, and once it has stopped.
 use Rattle.std.proofs.Common.{◌≡◌, ℕ, zero, suc, ◌+◌, ◌≤◌, ◌==◌, ◌&&◌, ◌||◌, not, nat_le, Bool, true, false, true≢false, refl, sym, ap, ◌∙◌, subst, arith, if◌then◌else◌}
-use Rattle.af_life.specs.declared.kept.Heard.{Heard}
-use Rattle.af_life.specs.declared.state.LifeState.TheVariants.{Stopping1}
-use Rattle.af_life.specs.declared.track.Known.{Known}
-use Rattle.af_life.specs.declared.track.Life.{Life}
-use Rattle.af_life.specs.Heard.{learnt, heard}
-use Rattle.af_life.specs.Kept.{track_at, plays}
-use Rattle.af_life.specs.Reports.{by_report}
-use Rattle.af_model.specs.Journals.{RoundSeen}
-use Rattle.af_runs.specs.Blocks.{Marks}
-use Rattle.af_runs.specs.Rounds.{LegalRound, met_after, after_round}
-use Rattle.af_runs.specs.Runs.{Run, told_at, sides_of, calls_in, takes_part}
-use Rattle.af_runs.specs.Sessions.{Session}
+use Rattle.af_enough_law.proofs.Common.{Heard, Known, LegalRound, Life, Marks, RoundSeen, Run, Session, Stopping1, after_round, by_report, calls_in, heard, learnt, met_after, plays, sides_of, takes_part, told_at, track_at}
 use Rattle.af_enough_law.specs.Courses.{course, Course, absent, idle, playing, stopping, drained, stopped, over, life_in, stage, told_words}
 use Rattle.af_enough_law.specs.Nearing.{RoundFlows}
 use Rattle.af_enough_law.specs.NormalRounds.{TurnMade}

@@ -1,21 +1,7 @@
 -- What a turn hears of a track is no less than what was taken of it before the round; and what a round takes of a track in a slot.
 use Rattle.std.proofs.Common.{◌≡◌, ℕ, ◌*◌, ◌≤◌, ◌<◌, min, if◌then◌else◌, Bool, true, false, length, sym, ap, ◌∙◌, arith, eq-eqb}
-use Rattle.std.proofs.Math.Nat.{mul-le-mul_left}
-use Rattle.af_base.specs.declared.report.SlotReport.{SlotReport}
-use Rattle.af_base.specs.declared.state.FastTrack.{FastTrack}
+use Rattle.af_enough_law.proofs.Common.{BlockTold, FastTrack, Heard, Learnt, LegalRound, Marks, RoundSeen, Run, Session, Shape, SlotReport, TrackKept, after_round, before_turn, counts_in, grown, heard_at_home, heard_by, heard_elsewhere, heard_with, is_home, kept, learnt, listed, mul-le-mul_left, server_kept, server_list, slot_reported, told_at, track_at, with_calls}
 use Rattle.af_enough_law.proofs.Basics.{stays_home, taken-append}
-use Rattle.af_life.specs.declared.kept.Heard.{Heard}
-use Rattle.af_life.specs.declared.kept.TrackKept.{TrackKept}
-use Rattle.af_life.specs.Heard.{learnt, heard_by, heard_with, heard_at_home, heard_elsewhere, grown, counts_in, slot_reported}
-use Rattle.af_life.specs.Kept.{Learnt, track_at, is_home}
-use Rattle.af_model.specs.declared.shape.Shape.{Shape}
-use Rattle.af_model.specs.Cycles.{kept}
-use Rattle.af_model.specs.Journals.{RoundSeen}
-use Rattle.af_model.specs.ServerCalls.{server_kept}
-use Rattle.af_runs.specs.Blocks.{BlockTold, Marks, server_list, listed}
-use Rattle.af_runs.specs.Rounds.{LegalRound, before_turn, after_round}
-use Rattle.af_runs.specs.Runs.{Run, told_at, with_calls}
-use Rattle.af_runs.specs.Sessions.{Session}
 use Rattle.af_enough_law.specs.FastFlows.{Flowed, IsOpen, slot_told}
 use Rattle.af_enough_law.specs.Nearing.{RoundFlows}
 use Rattle.af_enough_law.specs.NormalRounds.{TurnMade}

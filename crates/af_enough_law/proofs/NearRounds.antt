@@ -1,18 +1,8 @@
 -- A round brings a track nearer to the end of its life by a round, and keeps what is carried of its blocks.
 use Rattle.std.proofs.Common.{◌≡◌, ◌⊎◌, inl, inr, ℕ, zero, suc, ◌+◌, ◌*◌, ◌^◌, ◌≤◌, ◌<◌, min, Bool, true, false, true≢false, List, [], ◌∷◌, length, refl, sym, ap, ◌∙◌, subst, arith}
-use Rattle.af_base.proofs.Basics.{few_or_two}
-use Rattle.af_base.specs.declared.event.ServerEvent.{ServerEvent}
+use Rattle.af_enough_law.proofs.Common.{LegalRound, Life, Marks, RoundSeen, Run, ServerEvent, Session, Shape, TrackTold, after_round, client_list, ends_part, few_or_two, met_after, server_list, sides_of, told_at, track_at}
 use Rattle.af_base.specs.declared.event.ServerEvent.TheVariants as server
 use Rattle.af_enough_law.proofs.Basics.{taken-append}
-use Rattle.af_judge.proofs.Basics.{ends_part}
-use Rattle.af_life.specs.declared.track.Life.{Life}
-use Rattle.af_life.specs.Kept.{track_at}
-use Rattle.af_model.specs.declared.shape.Shape.{Shape}
-use Rattle.af_model.specs.Journals.{RoundSeen}
-use Rattle.af_runs.specs.Blocks.{Marks, client_list, server_list}
-use Rattle.af_runs.specs.Rounds.{LegalRound, met_after, after_round}
-use Rattle.af_runs.specs.Runs.{Run, TrackTold, told_at, sides_of}
-use Rattle.af_runs.specs.Sessions.{Session}
 use Rattle.af_enough_law.specs.Courses.{stage}
 use Rattle.af_enough_law.specs.Nearing.{buffer_of}
 use Rattle.af_enough_law.specs.NormalRounds.{TurnMade}

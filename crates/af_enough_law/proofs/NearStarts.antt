@@ -1,14 +1,7 @@
 -- What the last round of a track's start leaves, in which its proxy took part in the meeting.
 use Rattle.std.proofs.Common.{◌≡◌, ℕ, ◌+◌, ◌≤◌, Bool, true, List, length, ap, ◌∙◌, subst, arith}
+use Rattle.af_enough_law.proofs.Common.{LegalRound, Marks, Op, RoundSeen, Run, Session, after_round, ends_part, met_after, sides_of, spec_of, takes_part, told_at, track_at}
 use Rattle.af_enough_law.proofs.Basics.{course_long}
-use Rattle.af_judge.proofs.Basics.{ends_part}
-use Rattle.af_life.specs.Kept.{track_at}
-use Rattle.af_model.specs.Journals.{RoundSeen}
-use Rattle.af_script.specs.declared.op.Op.{Op}
-use Rattle.af_runs.specs.Blocks.{Marks}
-use Rattle.af_runs.specs.Rounds.{LegalRound, met_after, after_round}
-use Rattle.af_runs.specs.Runs.{Run, told_at, sides_of, takes_part}
-use Rattle.af_runs.specs.Sessions.{Session, spec_of}
 use Rattle.af_enough_law.specs.NormalRounds.{TurnMade}
 use Rattle.af_enough_law.specs.Playing.{way_ops, way_frames}
 use Rattle.af_enough_law.proofs.BlockNumbers.{BlockNumbers, block_numbers}

@@ -1,23 +1,9 @@
 -- How many rounds a track takes at most from its start on, and that they are enough.
 use Rattle.std.proofs.Common.{◌≡◌, ℕ, zero, suc, ◌+◌, ◌*◌, ◌^◌, ◌≤◌, ◌<◌, min, nat_le, Bool, true, false, List, [], ◌∷◌, length, slice_index_or, refl, sym, ap, ◌∙◌, subst, arith, if◌then◌else◌}
-use Rattle.std.specs.Int.{div_ceil}
-use Rattle.std.specs.List.{sum_by}
-use Rattle.std.proofs.lemmas.List.Sums.{sum_by-cons}
-use Rattle.std.proofs.lemmas.List.Elements.{All-get_or}
-use Rattle.std.proofs.Math.Nat.{mul-le-mul_left}
-use Rattle.af_base.specs.declared.frame.Frame.{Frame}
-use Rattle.af_judge.proofs.Basics.{new_at}
-use Rattle.af_script.specs.Data.{ScriptData}
-use Rattle.af_script.specs.declared.op.Op.{Op}
+use Rattle.af_enough_law.proofs.Common.{All-get_or, Frame, HasEnoughCycles, IsScript, IsTrack, Op, ScriptData, Session, TrackSpec, TrackTold, div_ceil, enough_rounds, greatest_cost, mul-le-mul_left, new_at, new_run, no_spec, op_cost, portion, server_list, session_of, sides_of, spec_of, sum_by, sum_by-cons, told_at, track_cost}
 use Rattle.af_script.specs.declared.op.Op.TheVariants as op
-use Rattle.af_script.specs.declared.track.TrackSpec.{TrackSpec}
-use Rattle.af_script.specs.Form.{IsTrack, IsScript}
 use Rattle.af_script.specs.Ops.{power_above, cells_of}
-use Rattle.af_runs.specs.Blocks.{server_list}
-use Rattle.af_runs.specs.LegalRuns.{session_of}
-use Rattle.af_runs.specs.Runs.{TrackTold, new_run, new_track, told_at, sides_of}
-use Rattle.af_runs.specs.Sessions.{Session, no_spec, spec_of}
-use Rattle.af_enough.specs.Enough.{op_cost, portion, track_cost, greatest_cost, enough_rounds, HasEnoughCycles}
+use Rattle.af_runs.specs.Runs.{new_track}
 use Rattle.af_enough_law.specs.Nearing.{buffer_of}
 use Rattle.af_enough_law.specs.Playing.{IsWay, way_ops, way_frames}
 use Rattle.af_enough_law.specs.Seen.{frames_taken}

@@ -1,20 +1,9 @@
 -- A round brings a track nearer to the end of its life: how many rounds it takes at most from where it is.
 use Rattle.std.proofs.Common.{◌≡◌, ◌⊎◌, inl, inr, ℕ, zero, suc, ◌+◌, ◌-◌, ◌*◌, ◌≤◌, min, Bool, true, false, List, [], ◌∷◌, ◌++◌, length, refl, sym, ap, ◌∙◌, subst, arith, if◌then◌else◌}
-use Rattle.af_base.specs.declared.event.ClientEvent.{ClientEvent}
+use Rattle.af_enough_law.proofs.Common.{ClientEvent, Heard, LegalRound, Life, Marks, RoundSeen, Run, ServerEvent, Session, TrackTold, after_round, by_report, calls_in, client_list, heard, learnt, met_after, server_list, sides_of, takes_part, told_at, track_at, track_in}
 use Rattle.af_base.specs.declared.event.ClientEvent.TheVariants as client
-use Rattle.af_base.specs.declared.event.ServerEvent.{ServerEvent}
 use Rattle.af_base.specs.declared.event.ServerEvent.TheVariants as server
 use Rattle.af_enough_law.proofs.Basics.{course_long}
-use Rattle.af_life.specs.declared.kept.Heard.{Heard}
-use Rattle.af_life.specs.declared.track.Life.{Life}
-use Rattle.af_life.specs.Heard.{learnt, heard}
-use Rattle.af_life.specs.Kept.{track_at, track_in}
-use Rattle.af_life.specs.Reports.{by_report}
-use Rattle.af_model.specs.Journals.{RoundSeen}
-use Rattle.af_runs.specs.Blocks.{Marks, client_list, server_list}
-use Rattle.af_runs.specs.Rounds.{LegalRound, met_after, after_round}
-use Rattle.af_runs.specs.Runs.{Run, TrackTold, told_at, sides_of, calls_in, takes_part}
-use Rattle.af_runs.specs.Sessions.{Session}
 use Rattle.af_enough_law.specs.Courses.{course, Course, absent, idle, playing, stopping as stopping_life, drained as drained_life, stopped as stopped_life, over as has_ended, stage, told_words}
 use Rattle.af_enough_law.specs.FastFlows.{KnowsReleased}
 use Rattle.af_enough_law.specs.Nearing.{RoundFlows}

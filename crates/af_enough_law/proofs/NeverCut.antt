@@ -1,15 +1,6 @@
 -- No journal of an accepted script whose tracks play through, and whose cycles are enough, is that of a run that was cut off.
 use Rattle.std.proofs.Common.{◌≡◌, ℕ, ◌+◌, ◌≤◌, ◌<◌, true, List, length, take, arith}
-use Rattle.std.proofs.lemmas.Bool.{true_from_ne_false}
-use Rattle.af_base.specs.declared.frame.Frame.{Frame}
-use Rattle.af_model.specs.Journals.{RoundSeen, JournalData}
-use Rattle.af_script.specs.Data.{ScriptData}
-use Rattle.af_script.specs.Form.{IsScript}
-use Rattle.af_runs.specs.Blocks.{Marks}
-use Rattle.af_runs.specs.LegalRuns.{marks_of, session_of, run_from, IsCutRun}
-use Rattle.af_runs.specs.Runs.{all_ended, new_run}
-use Rattle.af_runs.specs.Sessions.{Session}
-use Rattle.af_enough.specs.Enough.{enough_rounds, HasEnoughCycles}
+use Rattle.af_enough_law.proofs.Common.{Frame, HasEnoughCycles, IsCutRun, IsScript, JournalData, Marks, RoundSeen, ScriptData, Session, all_ended, enough_rounds, marks_of, new_run, run_from, session_of, true_from_ne_false}
 use Rattle.af_enough_law.specs.Ending.{AreCutOff, RoundsEndInTime, StillGoes}
 use Rattle.af_enough_law.specs.Ends.{AllOver}
 use Rattle.af_enough_law.proofs.LongRuns as long_runs

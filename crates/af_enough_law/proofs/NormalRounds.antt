@@ -1,18 +1,7 @@
 -- The normal mixer's turn in a legal round of a run.
 use Rattle.std.proofs.Common.{◌≡◌, Bool, false, refl, sym, ap, ◌∙◌, Option, Some, None, MatchOption}
-use Rattle.af_base.proofs.Basics.{by_false}
-use Rattle.af_base.specs.Turn.{Turn}
+use Rattle.af_enough_law.proofs.Common.{Learnt, LegalRound, LegalTurnBy, Marks, NormalKept, Outside, RoundSeen, Run, Session, Turn, TurnFound, after_round, after_turn, all_played, before_turn, by_false, found_in, late_of, learnt, loaded, met_after, met_normal, outside_of, setup_of, turn_after, turned, with_cycles, with_load, with_turn}
 use Rattle.af_enough_law.proofs.Basics.{before_normal, cycles_normal, ends_normal}
-use Rattle.af_judge.proofs.Basics.{met_normal}
-use Rattle.af_life.specs.Heard.{learnt}
-use Rattle.af_life.specs.Kept.{NormalKept, Outside, Learnt}
-use Rattle.af_life.specs.Turn.{turn_after}
-use Rattle.af_model.specs.Journals.{RoundSeen}
-use Rattle.af_runs.specs.Blocks.{Marks}
-use Rattle.af_runs.specs.Found.{TurnFound, outside_of, LegalTurnBy}
-use Rattle.af_runs.specs.Rounds.{LegalRound, late_of, before_turn, found_in, turned, after_turn, loaded, all_played, met_after, after_round}
-use Rattle.af_runs.specs.Runs.{Run, with_cycles, with_turn, with_load}
-use Rattle.af_runs.specs.Sessions.{Session, setup_of}
 use Rattle.af_enough_law.specs.NormalRounds.{TurnMade}
 
 -- ## Only its turn changes what a run has of the mixer

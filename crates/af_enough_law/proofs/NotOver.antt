@@ -1,16 +1,6 @@
 -- A run that still goes after as many rounds as are enough has a life that hasn't ended ten rounds before.
 use Rattle.std.proofs.Common.{◌≡◌, ℕ, ◌+◌, ◌≤◌, true, false, true≢false, List, ◌++◌, length, take, drop, sym, ap, ◌∙◌, subst, arith, length-append, length-drop}
-use Rattle.std.proofs.lemmas.List.{take-append-drop}
-use Rattle.af_base.specs.declared.frame.Frame.{Frame}
-use Rattle.af_judge.proofs.Basics.{new_long}
-use Rattle.af_model.specs.Journals.{RoundSeen}
-use Rattle.af_runs.specs.Blocks.{Marks}
-use Rattle.af_runs.specs.LegalRuns.{session_of, run_from, LegalRounds}
-use Rattle.af_runs.specs.Runs.{new_run, all_ended}
-use Rattle.af_runs.specs.Sessions.{Session}
-use Rattle.af_script.specs.Data.{ScriptData}
-use Rattle.af_script.specs.Form.{IsScript}
-use Rattle.af_enough.specs.Enough.{enough_rounds}
+use Rattle.af_enough_law.proofs.Common.{Frame, IsScript, LegalRounds, Marks, RoundSeen, ScriptData, Session, all_ended, enough_rounds, new_long, new_run, run_from, session_of, take-append-drop}
 use Rattle.af_enough_law.specs.Ending.{StillGoes}
 use Rattle.af_enough_law.specs.Ends.{AllOver}
 use Rattle.af_enough_law.proofs.AllEnd.{rounds_end}

@@ -1,34 +1,9 @@
 -- Which command a turn leaves in the draft, and which slots the draft carries.
-use Rattle.std.proofs.Common.{◌≡◌, ℕ, zero, suc, ◌==◌, ◌&&◌, ◌||◌, not, if◌then◌else◌, Bool, true, false, true≢false, List, [], ◌∷◌, refl, sym, ap, ◌∙◌, ◌<◌, ◌≤◌, All, subst, arith, length, is_some}
-use Rattle.std.specs.List.{list_any}
-use Rattle.af_base.proofs.Basics.{and_none, no, or_right}
-use Rattle.af_base.specs.Command.{code_of}
-use Rattle.af_base.specs.declared.state.Command.{Command}
-use Rattle.af_base.specs.declared.state.Command.TheVariants.{Initial, HotIdle, ColdIdle, Idle, Exit, Mix, Write, MixWrite}
-use Rattle.af_base.specs.Turn.{Turn}
-use Rattle.af_judge.proofs.Basics.{or_left}
-use Rattle.af_life.proofs.Basics.{lent_away}
-use Rattle.af_life.specs.declared.kept.TrackKept.{TrackKept}
-use Rattle.af_life.specs.Edits.{is_exit, is_over, next_command, welcomed, comes_home}
-use Rattle.af_life.specs.Kept.{Setup, pipe_size, NormalKept, Learnt, track_at, plays, is_home, is_lent, is_returning, slot_number}
-use Rattle.af_life.specs.Sound.{IsSound}
-use Rattle.af_life.specs.Turn.{turn_after}
-use Rattle.af_model.specs.StateQueue.{carries, slot_of}
-use Rattle.af_base.specs.declared.state.FastState.{FastState}
-use Rattle.af_life.specs.declared.kept.Holder.TheVariants.{Home, Lent}
-use Rattle.af_life.specs.declared.kept.Setting.{Setting}
-use Rattle.af_life.specs.Heard.{learnt}
-use Rattle.af_model.specs.Journals.{RoundSeen}
-use Rattle.af_runs.specs.Blocks.{Marks}
-use Rattle.af_runs.specs.Rounds.{after_round}
-use Rattle.af_runs.specs.Runs.{Run}
-use Rattle.af_runs.specs.Sessions.{Session, setup_of}
-use Rattle.af_judge.proofs.SoundTurns.{sound_turn}
-use Rattle.af_enough_law.specs.Drafts.{next_holder}
-use Rattle.af_enough_law.specs.NormalRounds.{TurnMade}
+use Rattle.std.proofs.Common.{◌≡◌, ℕ, zero, suc, ◌==◌, ◌&&◌, ◌||◌, not, if◌then◌else◌, Bool, true, false, true≢false, List, [], ◌∷◌, refl, sym, ap, ◌∙◌, ◌<◌, ◌≤◌, arith}
+use Rattle.af_enough_law.proofs.Common.{ColdIdle, Command, Exit, FastState, Home, HotIdle, Initial, IsSound, Learnt, Mix, MixWrite, NormalKept, Setup, TrackKept, Turn, Write, and_none, carries, code_of, comes_home, is_exit, is_home, is_lent, is_over, is_returning, lent_away, list_any, next_command, no, or_left, or_right, pipe_size, plays, slot_number, slot_of, track_at, turn_after, welcomed}
+use Rattle.af_base.specs.declared.state.Command.TheVariants.{Idle}
 use Rattle.af_enough_law.specs.TrackTurns.{greeted}
-use Rattle.af_enough_law.proofs.Drafts.{command_turned, holder_turned}
-use Rattle.af_enough_law.proofs.Following.{greeted_in}
+use Rattle.af_enough_law.proofs.Drafts.{command_turned}
 
 -- some track is to be heard
 any_at : (tracks : List TrackKept) (i : ℕ) → plays (track_at tracks i).life ≡ true → list_any (λ (s : TrackKept). plays s.life) tracks ≡ true
@@ -80,11 +55,6 @@ module _ (c : Setup) (k : Learnt) (m : NormalKept) (e : Turn) (runs : e.ended �
   orders_mix going i heard = command_turned c k m e runs ∙ ap (λ (x : Command). code_of x) (facts_are (is_exit m.draft) after.tracks e.room (pipe_size c)
       ∙ mixes_by (is_exit m.draft) (is_over after.tracks) (list_any (λ (s : TrackKept). plays s.life) after.tracks) (e.room == pipe_size c) going (not_over after.tracks i heard) (or_left _ (not (e.room == pipe_size c)) (any_at after.tracks i heard)))
 
-  -- a mix is ordered while the pipe isn't seen empty, if not all is over
-  pub orders_drain : is_exit m.draft ≡ false → is_over after.tracks ≡ false → (e.room == pipe_size c) ≡ false → code_of after.draft.command ≡ code_of MixWrite
-  orders_drain going over some = command_turned c k m e runs ∙ ap (λ (x : Command). code_of x) (facts_are (is_exit m.draft) after.tracks e.room (pipe_size c)
-      ∙ mixes_by (is_exit m.draft) (is_over after.tracks) (list_any (λ (s : TrackKept). plays s.life) after.tracks) (e.room == pipe_size c) going over (or_right (list_any (λ (s : TrackKept). plays s.life) after.tracks) (not (e.room == pipe_size c)) (ap not some)))
-
 -- a track that is lent is carried by the draft, in its slot, by its number and its generation
 pub lent_carried : (m : NormalKept) (i : ℕ) → IsSound m.tracks m.draft → is_lent (track_at m.tracks i).holder ≡ true
     → (let s = track_at m.tracks i in (carries m.draft (slot_number s) ≡ true) × ((slot_of m.draft (slot_number s)).track ≡ i) × ((slot_of m.draft (slot_number s)).generation ≡ s.generation))
@@ -101,17 +71,6 @@ mix_is Mix e = absurd (omega arith)
 mix_is Write e = absurd (omega arith)
 mix_is MixWrite e = refl
 
--- the number of an Exit is its own
-pub exit_is : (x : Command) → code_of x ≡ code_of Exit → x ≡ Exit
-exit_is Initial e = absurd (omega arith)
-exit_is HotIdle e = absurd (omega arith)
-exit_is ColdIdle e = absurd (omega arith)
-exit_is Idle e = absurd (omega arith)
-exit_is Exit e = refl
-exit_is Mix e = absurd (omega arith)
-exit_is Write e = absurd (omega arith)
-exit_is MixWrite e = absurd (omega arith)
-
 -- ## What comes home
 
 pub come : (last : FastState) (s : TrackKept) (ack : Bool) → ack ≡ true → is_returning s.holder ≡ true → carries last (slot_number s) ≡ false → (greeted ack last s).holder ≡ Home
@@ -127,25 +86,3 @@ come last s true a returning gone = by_test (comes_home last s) (both_true (is_r
     by_test true e = refl
     by_test false e = absurd (true≢false (sym e))
 come last s false a returning gone = no a
-
--- A returning proxy is home after a turn that sees the last state acknowledged, if that is the draft and the track is not to be heard again
-pub comes_back : (c : Setup) (k : Learnt) (m : NormalKept) (e : Turn) (i : ℕ) → i < length m.tracks → e.ended ≡ false → IsSound m.tracks m.draft → m.last ≡ m.draft → e.ack ≡ true → is_returning (track_at m.tracks i).holder ≡ true
-    → plays (track_at (turn_after c k m e).tracks i).life ≡ false → (track_at (turn_after c k m e).tracks i).holder ≡ Home
-comes_back c k m e i lt runs sound latest ack returning rests =
-    let s : TrackKept = track_at m.tracks i in
-    let t : TrackKept = track_at (turn_after c k m e).tracks i in
-    let gone : carries m.last (slot_number s) ≡ false = ap (λ (x : FastState). carries x (slot_number s)) latest ∙ (sound.drafted i).returning returning in
-    let home : (greeted_in m e i).holder ≡ Home = come m.last s e.ack ack returning gone in
-    holder_turned c k m e i lt runs ∙ ap (next_holder (plays t.life) (is_some t.slot)) home ∙ ap (λ (b : Bool). next_holder b (is_some t.slot) Home) rests ∙ stays_home (is_some t.slot)
-  where
-    stays_home : (b : Bool) → (if b && false then Lent else Home) ≡ Home
-    stays_home true = refl
-    stays_home false = refl
-
--- ## Over a round
-
--- what holds of the slots and the draft holds after a legal round
-pub sound_round : (s : Session) (marks : Marks) (run : Run) (round : RoundSeen) → TurnMade s marks run round → All (λ (x : Setting). x.scale ≤ 4096) (setup_of s).settings → length run.normal.tracks ≤ length (setup_of s).settings
-    → IsSound run.normal.tracks run.normal.draft → IsSound (after_round s run round).normal.tracks (after_round s run round).normal.draft
-sound_round s marks run round t scales few sound =
-    subst (λ (m : NormalKept). IsSound m.tracks m.draft) (sym t.after) (sound_turn (setup_of s) scales (learnt t.by.outside) run.normal t.turn few sound)

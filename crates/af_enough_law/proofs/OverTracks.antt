@@ -1,25 +1,10 @@
 -- A track that is over: its life has ended.
-use Rattle.std.proofs.Common.{◌≡◌, ℕ, ◌≤◌, ◌<◌, Bool, true, false, length, ap, ◌∙◌, arith}
-use Rattle.af_base.specs.Turn.{Turn}
-use Rattle.af_judge.proofs.Basics.{if_true}
-use Rattle.af_life.specs.declared.kept.TrackKept.{TrackKept}
-use Rattle.af_life.specs.declared.track.Life.{Life}
-use Rattle.af_life.specs.Heard.{learnt, heard, ready}
-use Rattle.af_life.specs.Kept.{Setup, NormalKept, Learnt, track_at, track_in}
-use Rattle.af_life.specs.Serves.{after_part}
-use Rattle.af_life.specs.Turn.{turn_after}
-use Rattle.af_model.specs.Journals.{RoundSeen}
-use Rattle.af_runs.specs.Blocks.{Marks}
-use Rattle.af_runs.specs.Rounds.{LegalRound, after_round}
-use Rattle.af_runs.specs.Runs.{Run, told_at, sides_of}
-use Rattle.af_runs.specs.Sessions.{Session, track_count, setup_of}
-use Rattle.af_enough_law.specs.Courses.{Course, absent, idle, playing, stopping, drained, stopped, over}
+use Rattle.std.proofs.Common.{◌≡◌, ℕ, ◌≤◌, ◌<◌, Bool, true, false, length, ap, ◌∙◌}
+use Rattle.af_enough_law.proofs.Common.{Learnt, LegalRound, Life, Marks, NormalKept, RoundSeen, Run, Session, Setup, TrackKept, Turn, after_part, after_round, heard, if_true, learnt, ready, setup_of, track_at, track_count, track_in, turn_after}
 use Rattle.af_enough_law.specs.NormalRounds.{TurnMade}
 use Rattle.af_enough_law.specs.TrackTurns.{attended, TrackTurned}
-use Rattle.af_enough_law.proofs.CourseGoes.{OnCourse}
 use Rattle.af_enough_law.proofs.Following.{greeted_in, greeted_alike, edited_alike}
 use Rattle.af_enough_law.proofs.Served.{track_turned}
-use Rattle.af_enough_law.proofs.Turning.{Stands}
 
 -- the track is over
 pub record IsOver (run : Run) (i : ℕ) : Type 0 where
@@ -41,18 +26,3 @@ pub over_on : (cut : Bool) (s : Session) (marks : Marks) (run : Run) (round : Ro
 over_on cut s marks run round t i low named there runs legal h = record {
   life = ap (λ (m : NormalKept). (track_at m.tracks i).life.ended) t.after ∙ ap (λ (l : Life). l.ended) (over_life (setup_of s) (learnt t.by.outside) run.normal t.turn i there runs h.life) ∙ h.life;
 }
-
--- ## When it is
-
-four_over : (count told : ℕ) (l : Life) → Course count told l → 4 ≤ told → l.ended ≡ true
-four_over count told l absent some = absurd (let z : ⊥ = omega (arith, some) in z)
-four_over count told l idle some = absurd (let z : ⊥ = omega (arith, some) in z)
-four_over count told l (playing retries a b) some = absurd (let z : ⊥ = omega (arith, some) in z)
-four_over count told l (stopping retries) some = absurd (let z : ⊥ = omega (arith, some) in z)
-four_over count told l (drained retries) some = absurd (let z : ⊥ = omega (arith, some) in z)
-four_over count told l (stopped retries) some = absurd (let z : ⊥ = omega (arith, some) in z)
-four_over count told l (over life e) some = e
-
--- A track whose four commands were taken is over
-pub over_by : (run : Run) (i most total : ℕ) → Stands (sides_of (told_at run i)) most total → (o : OnCourse run i) → 4 ≤ o.told → IsOver run i
-over_by run i most total stands o some = record { life = four_over o.count o.told (track_at run.normal.tracks i).life o.follows.course some }

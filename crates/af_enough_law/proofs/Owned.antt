@@ -1,32 +1,6 @@
 -- Each slot that the draft carries is that of a track that is lent.
 use Rattle.std.proofs.Common.{◌≡◌, ◌≢◌, inl, inr, ℕ, zero, suc, ◌≤◌, ◌&&◌, not, if◌then◌else◌, Bool, true, false, true≢false, All, List, [], ◌∷◌, length, map, fold, refl, sym, ap, ◌∙◌, subst, arith, ⊎_elim}
-use Rattle.std.specs.Prelude.{slice_set}
-use Rattle.std.proofs.lemmas.Bool.{cases_eq}
-use Rattle.af_base.proofs.Basics.{no}
-use Rattle.af_base.specs.declared.state.Command.{Command}
-use Rattle.af_base.specs.declared.state.FastState.{FastState}
-use Rattle.af_base.specs.declared.state.Push.{Push}
-use Rattle.af_base.specs.declared.state.Push.TheVariants.{Pushed, Clean, Busy}
-use Rattle.af_base.specs.Turn.{Turn, TrackSeen, TakeSeen}
-use Rattle.af_life.proofs.Basics.{at_here, at_other, at_set, lent_away, welcomed_at}
-use Rattle.af_life.specs.declared.kept.Holder.{Holder}
-use Rattle.af_life.specs.declared.kept.Holder.TheVariants.{Home, Lent, Returning}
-use Rattle.af_life.specs.declared.kept.Setting.{Setting}
-use Rattle.af_life.specs.declared.kept.TrackKept.{TrackKept}
-use Rattle.af_life.specs.Edits.{comes_home, welcomed, after_ack, must_leave, must_enter, let_go, lend, edited, edited_to, entered, lent_by, ordered, mutated, after_push}
-use Rattle.af_life.specs.Kept.{Setup, asked as buffer, NormalKept, Learnt, setting_of, track_at, seen_at, is_lent, is_returning, slot_number, number_of}
-use Rattle.af_life.specs.Plays.{after_take, after_takes, counted}
-use Rattle.af_life.specs.Serves.{served, served_to}
-use Rattle.af_life.specs.Sound.{IsSound}
-use Rattle.af_life.specs.Turn.{after_tracks, after_edits, turn_after}
-use Rattle.af_life.proofs.Lives.{acked_len, served_len}
-use Rattle.af_model.specs.Draft.{detached, commanded as with_command}
-use Rattle.af_model.specs.StateQueue.{carries}
-use Rattle.af_judge.proofs.DraftBits.{attached_else, detached_here, detached_else}
-use Rattle.af_judge.proofs.SoundEdits.{comer_slot, comer_inside, leaver_slot}
-use Rattle.af_judge.proofs.SoundLives.{goes_served}
-use Rattle.af_judge.proofs.SoundSlots.{sound_served}
-use Rattle.af_judge.proofs.SoundTurns.{sound_acked, sound_edits}
+use Rattle.af_enough_law.proofs.Common.{Busy, Clean, Command, FastState, Holder, Home, IsSound, Learnt, Lent, NormalKept, Push, Pushed, Returning, Setting, Setup, TakeSeen, TrackKept, TrackSeen, Turn, acked_len, after_ack, after_edits, after_push, after_take, after_takes, after_tracks, asked as buffer, at_here, at_other, at_set, attached_else, carries, cases_eq, comer_inside, comer_slot, comes_home, commanded as with_command, counted, detached, detached_else, detached_here, edited, edited_to, entered, goes_served, is_lent, is_returning, leaver_slot, lend, lent_away, lent_by, let_go, must_enter, must_leave, mutated, no, number_of, ordered, seen_at, served, served_len, served_to, setting_of, slice_set, slot_number, sound_acked, sound_edits, sound_served, track_at, turn_after, welcomed, welcomed_at}
 use Rattle.af_enough_law.specs.Owned.{AreOwned}
 
 -- each lent track stays lent with its slot

@@ -1,18 +1,6 @@
 -- While some track is to be heard the pipe has room for a buffer in each turn.
 use Rattle.std.proofs.Common.{◌≡◌, ℕ, ◌*◌, ◌≤◌, true, false, All, length, sym, ap, ◌∙◌, arith}
-use Rattle.std.proofs.Math.Nat.{mul-le-mul_left}
-use Rattle.af_base.specs.declared.state.Command.TheVariants.{MixWrite}
-use Rattle.af_base.specs.declared.state.FastState.{FastState}
-use Rattle.af_life.specs.declared.kept.Setting.{Setting}
-use Rattle.af_life.specs.Heard.{learnt}
-use Rattle.af_life.specs.Kept.{asked, pipe_size, NormalKept, track_at, plays}
-use Rattle.af_life.specs.Turn.{turn_after}
-use Rattle.af_model.specs.Journals.{RoundSeen}
-use Rattle.af_script.specs.Form.{IsScript}
-use Rattle.af_runs.specs.Blocks.{Marks}
-use Rattle.af_runs.specs.Rounds.{LegalRound, after_round}
-use Rattle.af_runs.specs.Runs.{Run}
-use Rattle.af_runs.specs.Sessions.{Session, track_count, setup_of, cycle_frames}
+use Rattle.af_enough_law.proofs.Common.{FastState, IsScript, LegalRound, Marks, MixWrite, NormalKept, RoundSeen, Run, Session, Setting, after_round, asked, cycle_frames, learnt, mul-le-mul_left, pipe_size, plays, setup_of, track_at, track_count, turn_after}
 use Rattle.af_enough_law.specs.Carried.{SessionCarried}
 use Rattle.af_enough_law.specs.FastFlows.{MixesAll}
 use Rattle.af_enough_law.specs.Nearing.{buffer_of}

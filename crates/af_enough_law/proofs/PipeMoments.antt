@@ -1,21 +1,12 @@
 -- What the pipe's ends see of one another, and what a round's entries take.
 use Rattle.std.proofs.Common.{◌≡◌, ◌⊎◌, inl, inr, ℕ, zero, suc, ◌+◌, ◌-◌, ◌≤◌, ◌<◌, ◌==◌, min, nat_le, if◌then◌else◌, Bool, true, false, List, [], ◌∷◌, ◌++◌, length, take, drop, get_or, refl, sym, ap, ◌∙◌, subst, arith, append_assoc, length-append, eqb-true}
-use Rattle.std.proofs.lemmas.Bool.Decides.{nat_tests}
-use Rattle.af_base.specs.declared.event.ClientEvent.{ClientEvent}
+use Rattle.af_enough_law.proofs.Common.{ClientEvent, Event, HasOrder, Legal, PipePoint, ServerEvent, ahead, ahead-between, front_by_room, legal_at, nat_tests, one, ones, ones_append, shown, split_at, takes_shown, two, twos, wrapped}
 use Rattle.af_base.specs.declared.event.ClientEvent.TheVariants as client
-use Rattle.af_base.specs.declared.event.ServerEvent.{ServerEvent}
 use Rattle.af_base.specs.declared.event.ServerEvent.TheVariants as server
 use Rattle.af_base.specs.declared.seen.Seen.TheVariants as seen
 use Rattle.af_enough_law.proofs.Basics.{put-append, taken-append}
-use Rattle.af_life.specs.TurnEvents.{front_by_room}
-use Rattle.af_model.specs.Cycles.{shown, takes_shown}
-use Rattle.af_model.specs.Order.{Event, one, two, ones, twos, Legal, after, HasOrder}
+use Rattle.af_model.specs.Order.{after}
 use Rattle.af_model.specs.PipeHistory as piped
-use Rattle.af_model.specs.PipeHistory.{PipePoint}
-use Rattle.af_model.specs.Point.{wrapped}
-use Rattle.af_model.specs.Room.{ahead}
-use Rattle.af_model.proofs.Logic.{ahead-between}
-use Rattle.af_model.proofs.Splits.{split_at, ones_append, legal_at}
 use Rattle.af_enough_law.specs.Seen.{Stands, frames_put, frames_taken}
 use Rattle.af_enough_law.proofs.FastShows.{put-front}
 use Rattle.af_enough_law.proofs.SeenShared.{puts_counted, takes_counted, puts_take_none, takes_put_none, put_more, put_same, taken_more, taken_same}

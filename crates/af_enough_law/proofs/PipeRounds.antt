@@ -1,37 +1,10 @@
 -- What a round does to the pipe.
 use Rattle.std.proofs.Common.{◌≡◌, ◌⊎◌, inl, inr, ℕ, ◌+◌, ◌-◌, ◌*◌, ◌%◌, ◌≤◌, ◌<◌, ◌==◌, min, nat_le, if◌then◌else◌, is_some, Bool, true, false, true≢false, Option, Some, None, List, [], ◌∷◌, ◌++◌, map, length, take, refl, sym, ap, ◌∙◌, subst, arith, append_assoc, append-nil, length-append, eqb-true}
-use Rattle.std.specs.Prelude.{MatchBool, MatchOption}
-use Rattle.std.proofs.Math.Seq.{take-append_seam}
-use Rattle.std.proofs.lemmas.List.{take-append-le, take-append-drop}
-use Rattle.std.proofs.lemmas.List.FromFn.{length-map-range_with_len}
-use Rattle.std.proofs.lemmas.Bool.Decides.{nat_tests}
-use Rattle.af_base.specs.declared.event.ClientEvent.{ClientEvent}
+use Rattle.af_enough_law.proofs.Common.{ClientEvent, Cycle, EntrySeen, Event, FastState, LegalEntries, LegalEntry, LegalRound, LegalTurnBy, Marks, MatchBool, MatchOption, PipeTold, RoundSeen, Run, ServerEvent, Session, Setup, SlotEntry, TakeSeen, Turn, TurnFound, after_round, after_turn, ahead, all_played, asked, before_turn, calls_pipe, cold_done, cycle_frames, cycle_of, early_count, early_of, ends_pipe, entry_slot, fast_ended, found_in, front_by_room, is_mixed, late_of, length-map-range_with_len, loaded_pipe, met, met_after, mixed_pipe, nat_tests, one, ones, pipe_cells, pipe_list, pipe_size, put_by, releases_of, setup_of, shown, state_of, take-append-drop, take-append-le, take-append_seam, take_of, takes_shown, turned, two, twos, with_calls, with_cycle, with_cycles, with_mix, with_poll, with_turn, wrapped}
 use Rattle.af_base.specs.declared.event.ClientEvent.TheVariants as client
-use Rattle.af_base.specs.declared.event.ServerEvent.{ServerEvent}
 use Rattle.af_base.specs.declared.event.ServerEvent.TheVariants as server
-use Rattle.af_base.specs.declared.log.Cycle.{Cycle}
-use Rattle.af_base.specs.declared.log.SlotEntry.{SlotEntry}
-use Rattle.af_base.specs.declared.state.FastState.{FastState}
-use Rattle.af_base.specs.Log.{entry_slot}
 use Rattle.af_base.specs.Mix.{mixed_frame}
-use Rattle.af_base.specs.Turn.{Turn, TakeSeen}
 use Rattle.af_enough_law.proofs.Basics.{asked_in-append, asked_is, put-append, taken-append}
-use Rattle.af_judge.proofs.Basics.{calls_pipe, ends_pipe, loaded_pipe}
-use Rattle.af_life.specs.Kept.{Setup, asked, pipe_size}
-use Rattle.af_life.specs.Plays.{put_by, take_of}
-use Rattle.af_life.specs.TurnEvents.{front_by_room, pipe_list}
-use Rattle.af_model.specs.Cycles.{cycle_of, cold_done, state_of, is_mixed, shown, takes_shown}
-use Rattle.af_model.specs.Journals.{EntrySeen, RoundSeen}
-use Rattle.af_model.specs.Order.{Event, one, two, ones, twos}
-use Rattle.af_model.specs.PipeHistory.{releases_of}
-use Rattle.af_model.specs.Point.{wrapped}
-use Rattle.af_model.specs.Room.{ahead}
-use Rattle.af_runs.specs.Blocks.{Marks}
-use Rattle.af_runs.specs.Found.{TurnFound, LegalTurnBy}
-use Rattle.af_runs.specs.Rounds.{LegalEntry, LegalEntries, LegalRound, early_count, early_of, late_of, before_turn, found_in, turned, after_turn, all_played, met_after, after_round}
-use Rattle.af_runs.specs.Runs.{Run, pipe_cells, mixed_pipe, with_calls, with_poll, with_mix, with_cycle, with_cycles, with_turn, with_load, met, fast_ended}
-use Rattle.af_runs.specs.Sessions.{Session, setup_of, cycle_frames}
-use Rattle.af_runs.specs.Told.{PipeTold}
 use Rattle.af_enough_law.specs.Seen.{Stands, frames_put, frames_taken}
 use Rattle.af_enough_law.specs.FastFlows.{AllMixed, MixesAll, asked_in}
 use Rattle.af_enough_law.specs.PipeFlows.{pipe_put, pipe_taken, in_pipe, KnowsPipe, put_in, PipeFlowed, RoomSeen}
@@ -216,17 +189,9 @@ turned_puts : (s : Session) (found : Turn → TurnFound) (o : Option Turn) (run 
 turned_puts s found None run = record { puts = []; list = sym (append-nil (ones run.pipe.told)); sum = refl; same = refl }
 turned_puts s found (Some e) run = turn_puts s (found e) e run
 
-load_pipe : (e : Turn) (run : Run) → (with_load e run).pipe ≡ run.pipe
-unfolding with_load
-load_pipe e run = refl
-
 met_pipe : (s : Session) (run : Run) → (met s run).pipe.told ≡ run.pipe.told ++ one (client.Learn (length (twos run.pipe.told))) ∷ two (server.Learn (length (ones run.pipe.told))) ∷ []
 unfolding met
 met_pipe s run = refl
-
-met_put : (s : Session) (run : Run) → (met s run).pipe.put ≡ run.pipe.put
-unfolding met
-met_put s run = refl
 
 -- ## The round
 

@@ -1,32 +1,9 @@
 -- The queue of a run: what is acknowledged, and when the normal mixer knows of it.
 use Rattle.std.proofs.Common.{◌≡◌, ◌⊎◌, inl, inr, ℕ, zero, suc, ◌+◌, ◌≤◌, ◌==◌, if◌then◌else◌, Bool, true, false, true≢false, Option, Some, None, List, [], ◌∷◌, ◌++◌, length, take, fold, refl, sym, ap, ◌∙◌, subst, arith, length-append, eqb-true}
-use Rattle.std.specs.Prelude.{MatchBool, MatchOption}
-use Rattle.std.proofs.Math.Seq.{take-append_seam}
-use Rattle.std.proofs.lemmas.Bool.{le-leb}
-use Rattle.std.proofs.lemmas.Grind.{fold-append}
-use Rattle.std.proofs.lemmas.List.{take-append-drop}
-use Rattle.af_base.specs.declared.state.FastState.{FastState}
-use Rattle.af_base.specs.Turn.{Turn, TakeSeen}
-use Rattle.af_base.specs.declared.state.Push.{Push}
-use Rattle.af_base.specs.declared.state.Push.TheVariants.{Pushed, Clean, Busy}
+use Rattle.af_enough_law.proofs.Common.{AreMixedBut, Busy, Clean, EntrySeen, FastState, Item, Learnt, LegalEntries, LegalEntry, LegalRound, LegalTurnBy, Marks, MatchBool, MatchOption, NormalKept, ObserverEvent, ObserverPoint, Push, Pushed, QueueTold, RoundSeen, Run, Session, Setup, Turn, TurnFound, after_edits, after_push, after_round, after_takes, after_turn, all_played, before_turn, cycle_frames, draft_after, early_count, early_of, fast_ended, fold-append, found_in, is_pushed, items_of, late_of, le-leb, learnt, met_after, new_run, observed, observer_next, observer_start, one, ones, outside_of, poll_events, pushed_by, setup_of, state_at, take-append-drop, take-append_seam, turn_after, turned, two, twos, with_calls, with_cycle, with_cycles, with_mix, with_poll, with_turn}
 use Rattle.af_enough_law.proofs.Basics.{before_normal}
-use Rattle.af_life.specs.Edits.{after_push}
-use Rattle.af_life.specs.Heard.{learnt}
-use Rattle.af_life.specs.Kept.{Setup, NormalKept, Learnt}
-use Rattle.af_life.specs.Plays.{after_takes}
-use Rattle.af_life.specs.Turn.{after_edits, turn_after}
 use Rattle.af_model.specs.declared.states.MutatorEvent.TheVariants as mutator
-use Rattle.af_model.specs.declared.states.ObserverEvent.{ObserverEvent}
 use Rattle.af_model.specs.declared.states.ObserverEvent.TheVariants as observer
-use Rattle.af_model.specs.Journals.{EntrySeen, RoundSeen}
-use Rattle.af_model.specs.Order.{one, two, ones, twos}
-use Rattle.af_model.specs.StateQueue.{ObserverPoint, observer_start, observer_next, observed}
-use Rattle.af_runs.specs.Blocks.{Marks}
-use Rattle.af_runs.specs.Found.{TurnFound, LegalTurnBy, outside_of}
-use Rattle.af_runs.specs.Rounds.{LegalEntry, LegalEntries, LegalRound, AreMixedBut, early_count, early_of, late_of, before_turn, found_in, turned, after_turn, all_played, met_after, after_round}
-use Rattle.af_runs.specs.Runs.{Run, new_run, pushed_by, draft_after, with_calls, with_poll, with_mix, with_cycle, with_cycles, with_turn, fast_ended}
-use Rattle.af_runs.specs.Sessions.{Session, setup_of, cycle_frames}
-use Rattle.af_runs.specs.Told.{is_pushed, Item, QueueTold, poll_events, items_of, state_at}
 use Rattle.af_enough_law.specs.Acks.{KnowsAcked}
 use Rattle.af_enough_law.specs.FastFlows.{AllUse, KnowsStates}
 use Rattle.af_enough_law.specs.QueueRounds.{QueueStands}
@@ -89,9 +66,6 @@ played_acked s marks run round legal is =
     (turned_acked s (found_in s run round) round.turn (before_turn s run round) (cycles_acked s marks (early_of run round) (with_calls round run) p.0 (calls_acked round run is)))
 
 -- ## What is pushed
-
-after_takes_pushed : (c : Setup) (takes : List TakeSeen) (m : NormalKept) → (after_takes c takes m).pushed ≡ m.pushed
-after_takes_pushed c takes m = refl
 
 push_by : (push : Push) (x : NormalKept) (draft : FastState) → (after_push push x).pushed ≡ x.pushed + length (if is_pushed push then draft ∷ [] else [])
 push_by (Pushed number) x draft = refl

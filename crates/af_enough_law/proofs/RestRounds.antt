@@ -1,23 +1,6 @@
 -- A round of a resting mixer that orders no Exit: what was lent comes nearer to home, and the pipe drains.
 use Rattle.std.proofs.Common.{◌≡◌, ◌⊎◌, inl, inr, ℕ, zero, suc, ◌-◌, ◌*◌, ◌<◌, ◌≤◌, ◌==◌, ◌||◌, not, unwrap_or, Bool, true, false, true≢false, All, Option, Some, List, length, is_some, refl, sym, ap, ◌∙◌, arith, eq-eqb}
-use Rattle.af_base.proofs.Basics.{below_or_not}
-use Rattle.af_base.specs.Command.{code_of}
-use Rattle.af_base.specs.declared.state.Command.{Command}
-use Rattle.af_base.specs.declared.state.Command.TheVariants.{ColdIdle, MixWrite}
-use Rattle.af_base.specs.declared.state.FastState.{FastState}
-use Rattle.af_life.specs.declared.kept.Setting.{Setting}
-use Rattle.af_life.specs.Edits.{is_exit}
-use Rattle.af_life.specs.Heard.{learnt}
-use Rattle.af_life.specs.Kept.{NormalKept, pipe_size}
-use Rattle.af_life.specs.Turn.{turn_after}
-use Rattle.af_model.specs.Cycles.{state_of}
-use Rattle.af_model.specs.Draft.{initial}
-use Rattle.af_model.specs.Journals.{RoundSeen}
-use Rattle.af_runs.specs.Blocks.{Marks}
-use Rattle.af_runs.specs.Rounds.{LegalRound, after_round}
-use Rattle.af_runs.specs.Runs.{Run}
-use Rattle.af_runs.specs.Sessions.{Session, setup_of, cycle_frames}
-use Rattle.af_runs.specs.Told.{is_pushed, state_at}
+use Rattle.af_enough_law.proofs.Common.{ColdIdle, Command, FastState, LegalRound, Marks, MixWrite, NormalKept, RoundSeen, Run, Session, Setting, after_round, below_or_not, code_of, cycle_frames, initial, is_exit, is_pushed, learnt, pipe_size, setup_of, state_at, state_beyond, state_of, turn_after}
 use Rattle.af_enough_law.specs.Acks.{KnowsAcked}
 use Rattle.af_enough_law.specs.Drafts.{is_busy, PushMade}
 use Rattle.af_enough_law.specs.Ends.{AllHome, CarriesNone, Rests}
@@ -36,7 +19,6 @@ use Rattle.af_enough_law.proofs.PipeRounds.{pipe_flowed, room_of_turn}
 use Rattle.af_enough_law.proofs.RestTurns.{rests_free, rests_still}
 use Rattle.af_enough_law.proofs.Underway.{Idles, Mixes, goes, made, ordered_as, orders, t}
 use Rattle.af_enough_law.proofs.Unheard.{over_unheard}
-use Rattle.af_runs.proofs.StatesFor.{state_beyond}
 
 -- no Exit is ordered, the mixer rests, and all is known
 pub record Resting (s : Session) (run : Run) : Type 0 where

@@ -1,24 +1,6 @@
 -- A resting mixer whose command stays pushes nothing; and no Exit is among the states until one is pushed last.
 use Rattle.std.proofs.Common.{◌≡◌, ◌⊎◌, inl, inr, ℕ, ◌+◌, ◌<◌, ◌≤◌, unwrap_or, Bool, true, false, true≢false, Option, ◌++◌, length, if◌then◌else◌, sym, ap, ◌∙◌, arith, eq-eqb, is_some}
-use Rattle.af_base.proofs.Basics.{within_or_beyond}
-use Rattle.af_base.specs.Command.{code_of}
-use Rattle.af_base.specs.declared.state.Command.{Command}
-use Rattle.af_base.specs.declared.state.FastState.{FastState}
-use Rattle.af_base.specs.Turn.{Turn}
-use Rattle.af_judge.proofs.Basics.{push_draft}
-use Rattle.af_life.specs.Edits.{after_ack, is_exit, next_command, ordered, mutated, after_push}
-use Rattle.af_life.specs.Heard.{learnt}
-use Rattle.af_life.specs.Kept.{Setup, pipe_size, NormalKept, Outside, Learnt}
-use Rattle.af_life.specs.Plays.{after_takes}
-use Rattle.af_life.specs.Turn.{after_tracks, after_edits, turn_after, GoesOn}
-use Rattle.af_model.specs.Cycles.{state_of}
-use Rattle.af_model.specs.Draft.{initial}
-use Rattle.af_model.specs.Journals.{RoundSeen}
-use Rattle.af_runs.proofs.Basics.{state_more}
-use Rattle.af_runs.specs.Rounds.{after_round}
-use Rattle.af_runs.specs.Runs.{Run}
-use Rattle.af_runs.specs.Sessions.{Session, cycle_frames}
-use Rattle.af_runs.specs.Told.{is_pushed}
+use Rattle.af_enough_law.proofs.Common.{Command, FastState, GoesOn, Learnt, NormalKept, Outside, RoundSeen, Run, Session, Setup, Turn, after_ack, after_edits, after_push, after_round, after_takes, after_tracks, code_of, cycle_frames, initial, is_exit, is_pushed, learnt, mutated, next_command, ordered, pipe_size, push_draft, state_beyond, state_more, state_of, turn_after, within_or_beyond}
 use Rattle.af_enough_law.specs.Drafts.{is_busy}
 use Rattle.af_enough_law.specs.EndPhases.{NoExits}
 use Rattle.af_enough_law.specs.Ends.{Rests}
@@ -26,7 +8,6 @@ use Rattle.af_enough_law.proofs.Drafts.{ordered_code}
 use Rattle.af_enough_law.proofs.Exits.{AreIdle, ack_kept, clean_by, clean_free, edits_none, ordered_same, rests_idle}
 use Rattle.af_enough_law.proofs.FastPolls.{round_states, turn_more}
 use Rattle.af_enough_law.proofs.LastStates.{LastIs}
-use Rattle.af_runs.proofs.StatesFor.{state_beyond}
 
 -- ## Pushes
 

@@ -1,16 +1,6 @@
 -- How many retries a round leaves a track, whatever it hears.
 use Rattle.std.proofs.Common.{◌≡◌, ℕ, ◌+◌, ◌≤◌, ◌||◌, nat_lt, if◌then◌else◌, Bool, true, false, None, sym, ap, ◌∙◌, subst, arith}
-use Rattle.af_life.specs.declared.kept.Heard.{Heard}
-use Rattle.af_life.specs.declared.kept.TrackKept.{TrackKept}
-use Rattle.af_life.specs.declared.track.Life.{Life}
-use Rattle.af_life.specs.Heard.{learnt, heard}
-use Rattle.af_life.specs.Kept.{track_at}
-use Rattle.af_life.specs.Reports.{by_report}
-use Rattle.af_model.specs.Journals.{RoundSeen}
-use Rattle.af_runs.specs.Blocks.{Marks}
-use Rattle.af_runs.specs.Rounds.{after_round}
-use Rattle.af_runs.specs.Runs.{Run}
-use Rattle.af_runs.specs.Sessions.{Session}
+use Rattle.af_enough_law.proofs.Common.{Heard, Life, Marks, RoundSeen, Run, Session, TrackKept, after_round, by_report, heard, learnt, track_at}
 use Rattle.af_enough_law.specs.Courses.{course, Course, told_words}
 use Rattle.af_enough_law.specs.NormalRounds.{TurnMade}
 use Rattle.af_enough_law.proofs.Able.{words_keep, report_leaves}

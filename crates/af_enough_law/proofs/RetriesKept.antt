@@ -1,17 +1,6 @@
 -- Once its STOP is taken a track keeps its retries, and a lent one that plays has 49 again by the second turn after frames were taken.
 use Rattle.std.proofs.Common.{◌≡◌, ◌⊎◌, inl, inr, ℕ, ◌+◌, ◌≤◌, nat_le, if◌then◌else◌, Bool, true, false, None, refl, sym, ap, ◌∙◌, subst, arith}
-use Rattle.af_base.specs.declared.state.FastTrack.{FastTrack}
-use Rattle.af_life.specs.declared.state.LifeState.TheVariants.{Stopping1, Stopping2}
-use Rattle.af_life.specs.declared.track.Known.{Known}
-use Rattle.af_life.specs.declared.track.Life.{Life}
-use Rattle.af_life.specs.Heard.{learnt, heard}
-use Rattle.af_life.specs.Kept.{track_at}
-use Rattle.af_life.specs.Reports.{by_report}
-use Rattle.af_model.specs.Journals.{RoundSeen}
-use Rattle.af_runs.specs.Blocks.{Marks}
-use Rattle.af_runs.specs.Rounds.{after_round}
-use Rattle.af_runs.specs.Runs.{Run, told_at}
-use Rattle.af_runs.specs.Sessions.{Session, cycle_frames}
+use Rattle.af_enough_law.proofs.Common.{FastTrack, Known, Life, Marks, RoundSeen, Run, Session, Stopping1, Stopping2, after_round, by_report, cycle_frames, heard, learnt, told_at, track_at}
 use Rattle.af_enough_law.specs.Courses.{course, Course, absent, idle, playing, stopping, drained, stopped, over, life_in, told_words}
 use Rattle.af_enough_law.specs.FastFlows.{frames_left_in}
 use Rattle.af_enough_law.specs.NormalRounds.{TurnMade}

@@ -1,25 +1,7 @@
 -- No state pushed and no report stored so far has a generation of a slot above that of the draft.
 use Rattle.std.proofs.Common.{◌≡◌, ◌⊎◌, inl, inr, ℕ, zero, suc, ◌≤◌, ◌<◌, if◌then◌else◌, is_some, unwrap_or, Bool, true, false, true≢false, All, Option, Some, List, [], ◌∷◌, ◌++◌, length, refl, sym, ap, ◌∙◌, subst, arith, append-nil}
-use Rattle.std.proofs.lemmas.List.{get_or-replicate}
-use Rattle.af_base.specs.declared.report.SlotReport.{SlotReport}
-use Rattle.af_base.specs.declared.state.FastState.{FastState}
-use Rattle.af_base.specs.Log.{slots}
+use Rattle.af_enough_law.proofs.Common.{FastState, Learnt, LegalRound, Marks, NormalKept, RoundSeen, Run, Session, Setting, SlotReport, after_edits, after_round, after_turn, all_played, before_turn, calls_states, carries, draft_after, early_of, found_in, get_or-replicate, is_pushed, last_report, late_of, learnt, met_after, new_run, no_slot, outside_of, pushed_by, report_at, setup_of, slot_of, slots, state_beyond, state_of, track_count, with_calls, with_cycles}
 use Rattle.af_enough_law.proofs.Basics.{before_normal}
-use Rattle.af_judge.proofs.Basics.{calls_states}
-use Rattle.af_life.specs.declared.kept.Setting.{Setting}
-use Rattle.af_life.specs.Heard.{learnt}
-use Rattle.af_life.specs.Kept.{NormalKept, Learnt}
-use Rattle.af_life.specs.Turn.{after_edits}
-use Rattle.af_model.specs.Cycles.{state_of}
-use Rattle.af_model.specs.Journals.{RoundSeen}
-use Rattle.af_model.specs.Reports.{no_slot, report_at}
-use Rattle.af_model.specs.StateQueue.{slot_of, carries}
-use Rattle.af_runs.specs.Blocks.{Marks}
-use Rattle.af_runs.specs.Found.{outside_of}
-use Rattle.af_runs.specs.Rounds.{LegalRound, early_of, late_of, before_turn, after_turn, all_played, met_after, found_in, after_round}
-use Rattle.af_runs.specs.Runs.{Run, new_run, with_calls, with_cycles, last_report, draft_after, pushed_by}
-use Rattle.af_runs.specs.Sessions.{Session, track_count, setup_of}
-use Rattle.af_runs.specs.Told.{is_pushed}
 use Rattle.af_enough_law.specs.Carried.{SessionStands}
 use Rattle.af_enough_law.specs.FastFlows.{slot_told}
 use Rattle.af_enough_law.specs.NormalRounds.{TurnMade}
@@ -30,7 +12,6 @@ use Rattle.af_enough_law.proofs.RestTurns.{draft_after_turn}
 use Rattle.af_enough_law.proofs.SessionRounds.{turn_of, turn_runs}
 use Rattle.af_enough_law.proofs.SlotDrafts.{SlotStays, turn_slot, generation_rises}
 use Rattle.af_enough_law.proofs.SlotReports.{Carry, cycles_generations}
-use Rattle.af_runs.proofs.StatesFor.{state_beyond}
 use Rattle.af_enough_law.proofs.RoundCalm.{legal_parts}
 
 -- ## The reports of a round

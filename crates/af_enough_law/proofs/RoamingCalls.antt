@@ -1,17 +1,10 @@
 -- A client that plays through sends no START after its STOP, whatever it is answered.
 use Rattle.std.proofs.Common.{◌≡◌, ◌⊎◌, inl, inr, ℕ, zero, suc, ◌+◌, ◌-◌, ◌==◌, ◌&&◌, ◌||◌, nat_le, not, if◌then◌else◌, bit_and, Bool, true, false, MatchBool, Some, None, List, [], ◌∷◌, ◌++◌, length, take, fold, refl, sym, ap, ◌∙◌, subst, append-nil, eqb-true}
-use Rattle.af_base.proofs.Basics.{both_true, no, some_same}
-use Rattle.af_base.specs.declared.event.ClientCall.{ClientCall}
+use Rattle.af_enough_law.proofs.Common.{AreCalls, Client, ClientCall, IsMade, IsWanted, LegalClientTurn, Op, Track, Want, after_answer, after_call, after_calls, at_next_turn, begun, both_first, both_right, both_true, commands_sent, is_clear, is_send, is_status, is_write, next_want, no, rest_of, rested, settled_in, some_same, state_in, wanted_of, with_call}
 use Rattle.af_base.specs.declared.event.ClientCall.TheVariants as call
-use Rattle.af_model.proofs.Basics.{both_first}
-use Rattle.af_model.proofs.Logic.{both_right}
-use Rattle.af_script.specs.declared.op.Op.{Op}
 use Rattle.af_script.specs.declared.op.Op.TheVariants as op
-use Rattle.af_runs.specs.Clients.{Client, settled_in, state_in, begun, next_want, rest_of, rested, at_next_turn, after_answer}
-use Rattle.af_runs.specs.ClientTurns.{Track, IsMade, IsWanted, with_call, commands_sent, wanted_of, after_call, after_calls, AreCalls, LegalClientTurn, is_send, is_write, is_status, is_clear}
 use Rattle.af_runs.specs.declared.want.ClientCommand.TheVariants as command
 use Rattle.af_runs.specs.declared.want.Mode.TheVariants as mode
-use Rattle.af_runs.specs.declared.want.Want.{Want}
 use Rattle.af_runs.specs.declared.want.Want.TheVariants as want
 use Rattle.af_enough_law.specs.Playing.{IsWay}
 use Rattle.af_enough_law.proofs.EarlyCalls.{no_stop, held, begun_held, client_is}
@@ -222,15 +215,7 @@ send_answer code argument (call.Sent front c a) h = subst (λ (x : ℕ). SendAns
 send_answer code argument (call.SendFull front) h = full front
 send_answer code argument (call.SendDead flags) h = dead flags
 send_answer code argument (call.SendCorrupt front rear) h = corrupt front rear
-send_answer code argument (call.Put front count) h = no h
-send_answer code argument (call.Full front) h = no h
-send_answer code argument (call.Dead flags) h = no h
-send_answer code argument (call.Corrupt front rear) h = no h
-send_answer code argument (call.Cleared flags) h = no h
-send_answer code argument (call.Flush count) h = no h
-send_answer code argument (call.Gain word) h = no h
-send_answer code argument (call.Status word) h = no h
-send_answer code argument (call.Poke in_command word value) h = no h
+send_answer code argument _ h = no h
 
 data WriteAnswer : ClientCall → Type 0 where
   put : (front count : ℕ) → WriteAnswer (call.Put front count)
@@ -243,51 +228,21 @@ write_answer (call.Put front count) h = put front count
 write_answer (call.Full front) h = filled front
 write_answer (call.Dead flags) h = died flags
 write_answer (call.Corrupt front rear) h = broke front rear
-write_answer (call.Sent front c a) h = no h
-write_answer (call.SendFull front) h = no h
-write_answer (call.SendDead flags) h = no h
-write_answer (call.SendCorrupt front rear) h = no h
-write_answer (call.Cleared flags) h = no h
-write_answer (call.Flush count) h = no h
-write_answer (call.Gain word) h = no h
-write_answer (call.Status word) h = no h
-write_answer (call.Poke in_command word value) h = no h
+write_answer _ h = no h
 
 data StatusAnswer : ClientCall → Type 0 where
   status : (word : ℕ) → StatusAnswer (call.Status word)
 
 status_answer : (answer : ClientCall) → is_status answer ≡ true → StatusAnswer answer
 status_answer (call.Status word) h = status word
-status_answer (call.Put front count) h = no h
-status_answer (call.Full front) h = no h
-status_answer (call.Dead flags) h = no h
-status_answer (call.Corrupt front rear) h = no h
-status_answer (call.Sent front c a) h = no h
-status_answer (call.SendFull front) h = no h
-status_answer (call.SendDead flags) h = no h
-status_answer (call.SendCorrupt front rear) h = no h
-status_answer (call.Cleared flags) h = no h
-status_answer (call.Flush count) h = no h
-status_answer (call.Gain word) h = no h
-status_answer (call.Poke in_command word value) h = no h
+status_answer _ h = no h
 
 data ClearAnswer : ClientCall → Type 0 where
   cleared : (flags : ℕ) → ClearAnswer (call.Cleared flags)
 
 clear_answer : (answer : ClientCall) → is_clear answer ≡ true → ClearAnswer answer
 clear_answer (call.Cleared flags) h = cleared flags
-clear_answer (call.Status word) h = no h
-clear_answer (call.Put front count) h = no h
-clear_answer (call.Full front) h = no h
-clear_answer (call.Dead flags) h = no h
-clear_answer (call.Corrupt front rear) h = no h
-clear_answer (call.Sent front c a) h = no h
-clear_answer (call.SendFull front) h = no h
-clear_answer (call.SendDead flags) h = no h
-clear_answer (call.SendCorrupt front rear) h = no h
-clear_answer (call.Flush count) h = no h
-clear_answer (call.Gain word) h = no h
-clear_answer (call.Poke in_command word value) h = no h
+clear_answer _ h = no h
 
 -- ## A call
 

@@ -1,35 +1,13 @@
 -- If no client flushes, a legal round leaves a stream block's server calm and open.
 use Rattle.std.proofs.Common.{◌≡◌, ◌⊎◌, inl, inr, ℕ, zero, suc, ◌+◌, ◌<◌, ◌==◌, ◌&&◌, ◌||◌, not, if◌then◌else◌, nat_le, Bool, true, false, true≢false, Option, Some, None, MatchBool, MatchOption, List, [], ◌∷◌, ◌++◌, length, map, filter, take, drop, refl, sym, ap, ◌∙◌, subst, arith, append-nil, eqb-true, is_some, get_or}
-use Rattle.std.proofs.lemmas.Grind.{fold-append}
-use Rattle.std.specs.List.{AllByRecursion, range_with_len, list_any, flat_map}
-use Rattle.af_base.specs.declared.event.ClientEvent.{ClientEvent}
-use Rattle.af_base.specs.declared.event.ServerEvent.{ServerEvent}
+use Rattle.af_enough_law.proofs.Common.{AllByRecursion, BlockTold, ClientEvent, CommandLook, EntrySeen, GoesOn, IsFastTurn, Learnt, LegalEntries, LegalRound, LegalTake, LegalTurnBy, Listed, LooksBy, Marks, NormalKept, Outside, RoundSeen, Run, ServerEvent, ServerKept, Session, Setup, Shape, TakeSeen, TrackKept, TrackSeen, TrackTold, Turn, TurnFound, after_edits, after_round, after_turn, asked as buffer, before_turn, cycle_events, each_at, early_count, early_of, fast_ended, fills, flat_map, fold-append, found_in, front_of, hand_does, heard, heard_at_home, heard_by, heard_elsewhere, invalid, is_found_shut, is_home, is_mixed_here, is_shut, kept, late_of, learnt, list_any, listed, met_after, mix_events, mixed_here, most_cycles, outside_of, range_with_len, server_begins, server_keeps, server_kept, server_list, setup_of, slot_reported, stream_list, stream_turned, take_front, takes_from, told_at, track_at, track_in, tracks_at, turned, turned_track, with_calls, with_cycles, with_turn}
 use Rattle.af_base.specs.declared.event.ServerEvent.TheVariants as server
-use Rattle.af_base.specs.declared.turn.CommandLook.{CommandLook}
-use Rattle.af_base.specs.Turn.{Turn, TakeSeen, TrackSeen}
 use Rattle.af_enough_law.proofs.Basics.{before_normal}
-use Rattle.af_judge.proofs.Basics.{each_at}
-use Rattle.af_life.specs.declared.kept.TrackKept.{TrackKept}
-use Rattle.af_life.specs.Heard.{learnt, heard, heard_by, heard_at_home, heard_elsewhere, slot_reported}
-use Rattle.af_life.specs.Kept.{Setup, asked as buffer, NormalKept, Outside, Learnt, track_at, track_in, is_home}
-use Rattle.af_life.specs.Obeys.{is_shut}
-use Rattle.af_life.specs.Plays.{is_mixed_here, mixed_here, LegalTake}
-use Rattle.af_life.specs.Serves.{is_found_shut}
-use Rattle.af_life.specs.Turn.{GoesOn, after_edits}
-use Rattle.af_life.specs.TurnEvents.{tracks_at, invalid, hand_list, stream_list, takes_from, mix_events}
-use Rattle.af_model.specs.declared.shape.Shape.{Shape}
-use Rattle.af_model.specs.Cycles.{Listed, LooksBy, kept, cycle_events}
-use Rattle.af_model.specs.Journals.{EntrySeen, RoundSeen}
-use Rattle.af_model.specs.ServerCalls.{ServerKept, server_kept, server_keeps, server_begins}
-use Rattle.af_runs.specs.Blocks.{BlockTold, Marks, server_list, listed, hand_does}
-use Rattle.af_runs.specs.Found.{TurnFound, outside_of, take_front, LegalTurnBy}
-use Rattle.af_runs.specs.Fronts.{front_of}
-use Rattle.af_runs.specs.Rounds.{LegalRound, LegalEntries, IsFastTurn, fills, early_of, late_of, early_count, before_turn, found_in, turned, after_turn, met_after, after_round}
-use Rattle.af_runs.specs.Runs.{Run, TrackTold, told_at, with_calls, with_cycles, with_turn, turned_track, stream_turned, fast_ended, most_cycles}
-use Rattle.af_runs.specs.Sessions.{Session, setup_of}
+use Rattle.af_life.specs.TurnEvents.{hand_list}
 use Rattle.af_enough_law.specs.Courses.{none_shut}
 use Rattle.af_enough_law.proofs.FastFlows.{Later}
-use Rattle.af_enough_law.proofs.FastRounds.{Quiet, over, calls_length, cycles_length}
+use Rattle.af_enough_law.proofs.FastRounds.{Quiet, over, cycles_length}
+use Rattle.af_enough_law.proofs.RunTracks.{calls_long as calls_length}
 use Rattle.af_enough_law.proofs.FastShows.{Setting}
 use Rattle.af_enough_law.proofs.FastSteps.{server_does-server, hand_does-server}
 use Rattle.af_enough_law.proofs.StreamCalm.{IsQuiet, LiesIn, lies_earlier, look_quiet, calm_join, entries_quiet}

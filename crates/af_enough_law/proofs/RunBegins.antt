@@ -1,27 +1,11 @@
 -- The first round finds each client at its first op, and no block poked.
 use Rattle.std.proofs.Common.{◌≡◌, ℕ, zero, suc, ◌+◌, ◌<◌, nat_lt, Bool, true, List, [], ◌∷◌, length, get_or, refl, sym, ap, ◌∙◌, subst, arith, true≢false}
-use Rattle.std.specs.List.{list_all, AllByRecursion}
-use Rattle.std.proofs.lemmas.List.Elements.{All-get_or, recursion_from_All}
-use Rattle.af_base.proofs.Basics.{below_is}
-use Rattle.af_base.specs.declared.frame.Frame.{Frame}
-use Rattle.af_judge.proofs.Basics.{new_at, new_long}
-use Rattle.af_model.proofs.Basics.{both_first}
-use Rattle.af_model.proofs.Logic.{both_right}
-use Rattle.af_script.specs.Data.{ScriptData}
-use Rattle.af_script.specs.Form.{HasOpNumbers, IsTrack, IsScript}
-use Rattle.af_script.specs.declared.op.Op.{Op}
+use Rattle.af_enough_law.proofs.Common.{All-get_or, AllByRecursion, Frame, HasOpNumbers, IsScript, IsTrack, LegalRounds, Marks, Op, RoundSeen, ScriptData, TrackSpec, all_play_through, begun, below_is, both_first, both_right, list_all, new_at, new_client, new_long, new_run, no_spec, play_through, recursion_from_All, run_from, session_of, sides_of, spec_of, told_at}
 use Rattle.af_script.specs.declared.op.Op.TheVariants as op
-use Rattle.af_script.specs.declared.track.TrackSpec.{TrackSpec}
 use Rattle.af_runs.specs.declared.want.ClientCommand.TheVariants as command
 use Rattle.af_runs.specs.declared.want.Mode.TheVariants as mode
 use Rattle.af_runs.specs.declared.want.Want.TheVariants as want
-use Rattle.af_runs.specs.Clients.{new_client, begun}
-use Rattle.af_model.specs.Journals.{RoundSeen}
-use Rattle.af_runs.specs.Blocks.{Marks}
-use Rattle.af_runs.specs.LegalRuns.{session_of, LegalRounds, run_from}
-use Rattle.af_runs.specs.Runs.{new_run, told_at, sides_of}
-use Rattle.af_runs.specs.Sessions.{no_spec, spec_of}
-use Rattle.af_enough.specs.Enough.{goes_on, play_through, all_play_through}
+use Rattle.af_enough.specs.Enough.{goes_on}
 use Rattle.af_enough_law.specs.Playing.{IsWay, Doing, opening}
 use Rattle.af_enough_law.proofs.Doing.{at}
 use Rattle.af_enough_law.proofs.RunTame.{rounds_pokeless}

@@ -1,18 +1,12 @@
 -- In a run of a script without flushes no block is flushed.
-use Rattle.std.proofs.Common.{◌≡◌, inl, inr, ℕ, ◌<◌, Bool, true, false, List, [], ◌∷◌, length, fold, refl, sym, ap, ◌∙◌, subst, arith}
+use Rattle.std.proofs.Common.{◌≡◌, inl, inr, ℕ, ◌<◌, Bool, true, false, [], ◌∷◌, length, fold, refl, sym, ap, ◌∙◌, subst}
+use Rattle.af_enough_law.proofs.Common.{BlockTold, LegalRound, Marks, RoundSeen, Run, Session, TrackTold, after_call, after_round, all_played, calls_in, client_list, server_list, sides_of, stream_met, takes_part, told_at, track_count}
 use Rattle.af_base.specs.declared.event.ClientEvent.TheVariants as client
-use Rattle.af_model.specs.Journals.{RoundSeen}
-use Rattle.af_runs.specs.Blocks.{BlockTold, Marks, client_list, server_list}
-use Rattle.af_runs.specs.ClientTurns.{after_call}
-use Rattle.af_runs.specs.LegalRuns.{LegalRounds, run_from}
-use Rattle.af_runs.specs.Rounds.{LegalRound, all_played, after_round}
-use Rattle.af_runs.specs.Runs.{Run, TrackTold, told_at, sides_of, calls_in, stream_met, takes_part}
-use Rattle.af_runs.specs.Sessions.{Session, track_count}
 use Rattle.af_enough_law.proofs.FairTurns.{stream_grows}
 use Rattle.af_enough_law.proofs.Flushless.{are_unflushed, IsFlushless, IsFlushlessTrack, unflushed_append, turn_flushless}
 use Rattle.af_enough_law.proofs.RunTame.{played_client_list}
 use Rattle.af_enough_law.proofs.RunLists.{side_lists, command_lists}
-use Rattle.af_enough_law.proofs.RunTracks.{played_track, round_blocks, round_client, round_long, met_track}
+use Rattle.af_enough_law.proofs.RunTracks.{played_track, round_blocks, round_client, met_track}
 
 module _ (s : Session) where
   module _ (run : Run) (round : RoundSeen) where
@@ -50,10 +44,3 @@ module _ (s : Session) where
           stream = unflushed_stream i lt next.stream;
           commands = unflushed_commands i lt next.commands;
         }
-
-  -- no client flushes in legal rounds
-  pub rounds_flushless : (cut : Bool) (marks : Marks) (run : Run) (rounds : List RoundSeen) (i : ℕ) → i < length run.tracks → i < track_count s → LegalRounds cut s marks run rounds → IsFlushlessTrack (sides_of (told_at run i))
-      → IsFlushlessTrack (sides_of (told_at (run_from s run rounds) i))
-  rounds_flushless cut marks run [] i lt there legal h = h
-  rounds_flushless cut marks run (round ∷ rounds) i lt there legal h =
-      rounds_flushless cut marks (after_round s run round) rounds i (let long = round_long s run round in omega arith) there legal.1 (round_flushless run round cut marks i lt there legal.0 h)

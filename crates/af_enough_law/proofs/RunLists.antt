@@ -1,24 +1,8 @@
 -- The lists of a track's command block after a round.
 use Rattle.std.proofs.Common.{◌≡◌, ℕ, ◌<◌, Bool, true, List, [], ◌∷◌, ◌++◌, length, map, fold, drop, refl, sym, ap, ◌∙◌, subst, append_assoc, Option, Some, None}
-use Rattle.std.proofs.lemmas.List.{append-nil}
-use Rattle.af_base.specs.declared.event.ClientCall.{ClientCall}
-use Rattle.af_base.specs.declared.event.ClientEvent.{ClientEvent}
+use Rattle.af_enough_law.proofs.Common.{BlockTold, ClientCall, ClientEvent, HasBlockHistory, LegalRound, Marks, Moment, NormalKept, RoundSeen, Run, ServerEvent, Session, Side, TrackTold, Turn, TurnFound, after_call, after_round, append-nil, by_server, called, calls_in, client-client, client-hand, client-server, client_list, command_list, found_in, hand_list, hand_of, is_tame, learnt, outside_of, server-client, server_list, server_of, setup_of, sides_of, told_at, track_count, tracks_at, with_side}
 use Rattle.af_base.specs.declared.event.ClientEvent.TheVariants as client
-use Rattle.af_base.specs.declared.event.ServerEvent.{ServerEvent}
 use Rattle.af_base.specs.declared.event.ServerEvent.TheVariants as server
-use Rattle.af_base.specs.Turn.{Turn}
-use Rattle.af_life.specs.Heard.{learnt}
-use Rattle.af_life.specs.Kept.{NormalKept}
-use Rattle.af_life.specs.TurnEvents.{tracks_at, command_list}
-use Rattle.af_model.specs.History.{Moment, by_server, server_of, hand_of}
-use Rattle.af_model.specs.Journals.{RoundSeen}
-use Rattle.af_runs.specs.Blocks.{BlockTold, Marks, client_list, server_list, hand_list, is_tame, meets, HasBlockHistory}
-use Rattle.af_runs.specs.ClientTurns.{Side, after_call}
-use Rattle.af_runs.specs.Found.{TurnFound, outside_of}
-use Rattle.af_runs.specs.Rounds.{LegalRound, after_round, found_in}
-use Rattle.af_runs.specs.Runs.{Run, TrackTold, told_at, sides_of, with_side, called, calls_in}
-use Rattle.af_runs.specs.Sessions.{Session, setup_of, track_count}
-use Rattle.af_judge.proofs.BlocksTold.{client-client, client-server, client-hand, server-client}
 use Rattle.af_enough_law.proofs.FairTurns.{commands_grow}
 use Rattle.af_enough_law.proofs.RunTracks.{commands_by, round_blocks, round_commands}
 
@@ -46,10 +30,6 @@ side_lists side b more is =
     let new = drop (length (client_list b)) side.events in
     let new_is : new ≡ more = ap (λ (es : List ClientEvent). drop (length (client_list b)) es) is ∙ drop_front (client_list b) more in
     (client-client b.told new ∙ ap (λ (es : List ClientEvent). client_list b ++ es) new_is ∙ sym is, client-server b.told new, client-hand b.told new)
-
--- the lists of a block whose parties met
-pub meets_lists : (b : BlockTold) → (client_list (meets b) ≡ client_list b ++ client.Learn (length (server_list b)) ∷ []) × (server_list (meets b) ≡ server_list b ++ server.Learn (length (client_list b)) ∷ []) × (hand_list (meets b) ≡ hand_list b)
-meets_lists b = (refl, refl, refl)
 
 -- ## The round
 

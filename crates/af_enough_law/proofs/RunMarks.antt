@@ -1,22 +1,7 @@
 -- In a run of a script whose tracks play through each block is lawful, by the marks of the whole journal.
 use Rattle.std.proofs.Common.{◌≡◌, ℕ, ◌-◌, ◌<◌, not, Bool, true, false, MatchBool, List, [], ◌∷◌, length, refl, ap, arith}
-use Rattle.std.specs.List.{list_any}
-use Rattle.af_base.proofs.Basics.{neither_is}
-use Rattle.af_base.specs.declared.event.ClientCall.{ClientCall}
+use Rattle.af_enough_law.proofs.Common.{AreCalls, ClientCall, Frame, IsScript, IsWanted, LegalRounds, Marks, RoundSeen, Run, ScriptData, Session, Track, Want, after_call, after_round, all_play_through, calls_in, is_lawful_block, is_poke_on, list_any, neither_is, new_long, new_run, session_of, sides_of, told_at, track_count}
 use Rattle.af_base.specs.declared.event.ClientCall.TheVariants as call
-use Rattle.af_base.specs.declared.frame.Frame.{Frame}
-use Rattle.af_judge.proofs.Basics.{new_long}
-use Rattle.af_model.specs.Journals.{RoundSeen}
-use Rattle.af_script.specs.Data.{ScriptData}
-use Rattle.af_script.specs.Form.{IsScript}
-use Rattle.af_runs.specs.declared.want.Want.{Want}
-use Rattle.af_runs.specs.Blocks.{Marks}
-use Rattle.af_runs.specs.ClientTurns.{Track, IsWanted, AreCalls, after_call}
-use Rattle.af_runs.specs.LegalRuns.{is_poke_on, is_lawful_block, session_of, LegalRounds}
-use Rattle.af_runs.specs.Rounds.{after_round}
-use Rattle.af_runs.specs.Runs.{Run, new_run, told_at, sides_of, calls_in}
-use Rattle.af_runs.specs.Sessions.{Session, track_count}
-use Rattle.af_enough.specs.Enough.{all_play_through}
 use Rattle.af_enough_law.proofs.Pokeless.{is_plain_want, IsPokelessTrack, poke_not, wanted_plain, call_pokeless}
 use Rattle.af_enough_law.proofs.RunBegins.{begins_pokeless}
 use Rattle.af_enough_law.proofs.RunTame.{round_pokeless}
@@ -24,32 +9,10 @@ use Rattle.af_enough_law.proofs.RunTracks.{round_long}
 
 -- a plain want isn't answered by a poke on a block
 pub not_on : (on : Bool) (t : Track) (w : Want) (answer : ClientCall) → is_plain_want w ≡ true → IsWanted t w answer → is_poke_on on answer ≡ false
-not_on true t w (call.Put front count) plain made = refl
-not_on true t w (call.Full front) plain made = refl
-not_on true t w (call.Dead flags) plain made = refl
-not_on true t w (call.Corrupt front rear) plain made = refl
-not_on true t w (call.Cleared flags) plain made = refl
-not_on true t w (call.Flush count) plain made = refl
-not_on true t w (call.Gain word) plain made = refl
-not_on true t w (call.Sent front code argument) plain made = refl
-not_on true t w (call.SendFull front) plain made = refl
-not_on true t w (call.SendDead flags) plain made = refl
-not_on true t w (call.SendCorrupt front rear) plain made = refl
-not_on true t w (call.Status word) plain made = refl
 not_on true t w (call.Poke in_command word value) plain made = absurd (poke_not t w in_command word value plain made)
-not_on false t w (call.Put front count) plain made = refl
-not_on false t w (call.Full front) plain made = refl
-not_on false t w (call.Dead flags) plain made = refl
-not_on false t w (call.Corrupt front rear) plain made = refl
-not_on false t w (call.Cleared flags) plain made = refl
-not_on false t w (call.Flush count) plain made = refl
-not_on false t w (call.Gain word) plain made = refl
-not_on false t w (call.Sent front code argument) plain made = refl
-not_on false t w (call.SendFull front) plain made = refl
-not_on false t w (call.SendDead flags) plain made = refl
-not_on false t w (call.SendCorrupt front rear) plain made = refl
-not_on false t w (call.Status word) plain made = refl
+not_on true t w _ plain made = refl
 not_on false t w (call.Poke in_command word value) plain made = absurd (poke_not t w in_command word value plain made)
+not_on false t w _ plain made = refl
 
 calls_free : (on : Bool) (left : ℕ) (t : Track) (calls : List ClientCall) → IsPokelessTrack t → AreCalls left t calls → list_any (is_poke_on on) calls ≡ false
 calls_free on left t [] h made = refl

@@ -1,25 +1,8 @@
 -- What a round leaves of a track's two blocks: their sizes, and what their servers did before.
 use Rattle.std.proofs.Common.{◌≡◌, ℕ, ◌<◌, Bool, true, false, List, [], ◌∷◌, ◌++◌, length, map, fold, drop, refl, sym, ap, ◌∙◌, append_assoc, Option, Some, None}
-use Rattle.std.proofs.lemmas.List.{append-nil}
-use Rattle.af_base.specs.declared.event.HandEvent.{HandEvent}
-use Rattle.af_base.specs.declared.event.ServerEvent.{ServerEvent}
+use Rattle.af_enough_law.proofs.Common.{BlockTold, EntrySeen, HandEvent, Moment, NormalKept, RoundSeen, Run, ServerEvent, Session, TrackTold, Turn, TurnFound, after_calls, after_round, after_turn, all_played, append-nil, by_hand, by_server, called, calls_in, client-server, client_list, cycle_events, cycle_frames, early_of, entry_slot, found_in, front_of, hand_does, late_of, learnt, listed, mixed_track, outside_of, played, server_list, server_of, setup_of, sides_of, slot_for, state_for, stream_list, stream_met, takes_part, told_at, tracks_at, with_calls, with_cycle, with_poll}
 use Rattle.af_base.specs.declared.event.ServerEvent.TheVariants as server
-use Rattle.af_base.specs.Log.{entry_slot}
-use Rattle.af_base.specs.Turn.{Turn}
-use Rattle.af_life.specs.Heard.{learnt}
-use Rattle.af_life.specs.Kept.{NormalKept}
-use Rattle.af_life.specs.TurnEvents.{tracks_at, hand_list, stream_list}
-use Rattle.af_model.specs.Cycles.{cycle_events}
-use Rattle.af_model.specs.History.{Moment, by_server, by_hand, server_of}
-use Rattle.af_model.specs.Journals.{EntrySeen, RoundSeen}
-use Rattle.af_runs.specs.Blocks.{BlockTold, client_list, server_list, listed, hand_does}
-use Rattle.af_runs.specs.ClientTurns.{after_calls}
-use Rattle.af_runs.specs.Found.{TurnFound, outside_of}
-use Rattle.af_runs.specs.Fronts.{front_of}
-use Rattle.af_runs.specs.Rounds.{early_of, late_of, after_turn, found_in, all_played, after_round}
-use Rattle.af_runs.specs.Runs.{Run, TrackTold, told_at, sides_of, called, calls_in, with_calls, with_poll, with_cycle, state_for, slot_for, played, mixed_track, stream_met, takes_part}
-use Rattle.af_runs.specs.Sessions.{Session, cycle_frames, setup_of}
-use Rattle.af_judge.proofs.BlocksTold.{client-server}
+use Rattle.af_life.specs.TurnEvents.{hand_list}
 use Rattle.af_enough_law.proofs.RunTracks.{mixed_by, turned_by, played_track, round_blocks, met_track}
 
 abbrev told_more : List Moment → List Moment → List Moment

@@ -1,33 +1,15 @@
 -- In a run of a script without pokes no block is poked.
 use Rattle.std.proofs.Common.{◌≡◌, inl, inr, ℕ, ◌<◌, Bool, true, false, List, [], ◌∷◌, length, fold, refl, sym, ap, ◌∙◌, subst, arith, Option, Some, None}
+use Rattle.af_enough_law.proofs.Common.{BlockTold, EntrySeen, LegalRound, LegalRounds, Marks, NormalKept, RoundSeen, Run, Session, TrackTold, Turn, TurnFound, after_call, after_round, after_turn, all_played, both_lawful, called, calls_in, client_list, cycle_frames, early_of, found_in, hand-client, hand_does, is_lawful, late_of, learnt, mixed_track, outside_of, played, run_from, server-client, server_list, setup_of, sides_of, slot_for, state_for, stream_list, stream_met, takes_part, told_at, track_count, tracks_at, with_calls, with_cycle, with_poll}
 use Rattle.af_base.specs.declared.event.ClientEvent.TheVariants as client
-use Rattle.af_base.specs.Turn.{Turn}
-use Rattle.af_life.specs.Heard.{learnt}
-use Rattle.af_life.specs.Kept.{NormalKept}
-use Rattle.af_life.specs.TurnEvents.{tracks_at, hand_list, stream_list}
-use Rattle.af_model.proofs.Basics.{both_lawful}
-use Rattle.af_model.specs.Cycles.{cycle_events}
-use Rattle.af_model.specs.History.{is_lawful}
-use Rattle.af_model.specs.Journals.{EntrySeen, RoundSeen}
-use Rattle.af_base.specs.Log.{entry_slot}
-use Rattle.af_runs.specs.Blocks.{BlockTold, Marks, client_list, server_list, listed, hand_does}
-use Rattle.af_runs.specs.ClientTurns.{after_call}
-use Rattle.af_runs.specs.Found.{TurnFound, outside_of}
-use Rattle.af_runs.specs.Fronts.{front_of}
-use Rattle.af_runs.specs.LegalRuns.{LegalRounds, run_from}
-use Rattle.af_runs.specs.Rounds.{LegalRound, early_of, late_of, after_turn, found_in, all_played, after_round}
-use Rattle.af_runs.specs.Runs.{Run, TrackTold, told_at, sides_of, called, calls_in, with_calls, with_poll, with_cycle, state_for, slot_for, played, mixed_track, stream_met, takes_part}
-use Rattle.af_runs.specs.Sessions.{Session, cycle_frames, setup_of, track_count}
-use Rattle.af_judge.proofs.BlocksTold.{server-client, hand-client}
+use Rattle.af_life.specs.TurnEvents.{hand_list}
 use Rattle.af_enough_law.proofs.FairTurns.{stream_grows}
 use Rattle.af_enough_law.proofs.Pokeless.{IsPokeless, IsPokelessTrack, turn_pokeless}
 use Rattle.af_enough_law.proofs.RunLists.{side_lists, command_lists}
 use Rattle.af_enough_law.proofs.RunTracks.{mixed_by, turned_by, played_track, round_blocks, round_client, round_long, met_track}
+use Rattle.af_enough_law.proofs.FastSteps.{played_client as played_list}
 
 -- ## The client's list of a stream block is its client's alone
-
-played_list : (asked : ℕ) (e : EntrySeen) (i : ℕ) (b : BlockTold) → client_list (played asked e i b) ≡ client_list b
-played_list asked e i b = let slot = entry_slot e.entry i in server-client b.told (cycle_events asked (listed b) slot (front_of asked (listed b) slot))
 
 module _ (s : Session) where
   mixed_if : (e : EntrySeen) (t : TrackTold) (o : Option ℕ) → let u : TrackTold = elim o as (λ o. TrackTold) [ None ↦ t | Some i ↦ record t { stream = played (cycle_frames s) e i t.stream } ] in client_list u.stream ≡ client_list t.stream

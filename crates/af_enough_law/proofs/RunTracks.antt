@@ -1,16 +1,6 @@
 -- What a round makes of one track of a run.
 use Rattle.std.proofs.Common.{◌≡◌, ◌⊎◌, inl, inr, ℕ, ◌<◌, Bool, true, false, List, [], ◌∷◌, length, refl, ap, ◌∙◌, arith, Option, Some, None, if◌then◌else◌}
-use Rattle.af_base.specs.declared.state.FastState.{FastState}
-use Rattle.af_base.specs.Turn.{Turn}
-use Rattle.af_judge.proofs.Basics.{each_long, met_many, told_each}
-use Rattle.af_life.specs.Kept.{NormalKept}
-use Rattle.af_model.specs.Journals.{EntrySeen, RoundSeen}
-use Rattle.af_runs.specs.Blocks.{BlockTold, meets}
-use Rattle.af_runs.specs.Clients.{ends}
-use Rattle.af_runs.specs.Found.{TurnFound, outside_of}
-use Rattle.af_runs.specs.Rounds.{early_of, late_of, before_turn, after_turn, turned, found_in, all_played, loaded, met_after, after_round}
-use Rattle.af_runs.specs.Runs.{Run, TrackTold, told_at, each_track, called, calls_in, with_calls, state_for, with_poll, slot_for, played, mixed_track, with_looks, with_mix, with_cycle, with_cycles, with_turn, turned_track, commands_turned, with_load, track_met, with_ends}
-use Rattle.af_runs.specs.Sessions.{Session, cycle_frames, setup_of}
+use Rattle.af_enough_law.proofs.Common.{BlockTold, EntrySeen, FastState, NormalKept, RoundSeen, Run, Session, TrackTold, Turn, TurnFound, after_round, after_turn, all_played, before_turn, called, calls_in, commands_turned, cycle_frames, each_long, each_track, early_of, ends, found_in, late_of, loaded, meets, met_after, met_many, mixed_track, outside_of, played, setup_of, slot_for, state_for, told_at, told_each, track_met, turned, turned_track, with_calls, with_cycle, with_cycles, with_ends, with_load, with_looks, with_mix, with_poll, with_turn}
 use Rattle.af_judge.proofs.BlocksMeet.{met_at}
 
 -- ## Calls
@@ -19,7 +9,7 @@ told_called : (round : RoundSeen) (run : Run) (n : ℕ) → n < length run.track
 unfolding with_calls
 told_called round run n lt = told_each (λ track t. called (calls_in round track) t) run n lt
 
-calls_long : (round : RoundSeen) (run : Run) → length (with_calls round run).tracks ≡ length run.tracks
+pub calls_long : (round : RoundSeen) (run : Run) → length (with_calls round run).tracks ≡ length run.tracks
 unfolding with_calls
 calls_long round run = each_long (λ track t. called (calls_in round track) t) 0 run.tracks
 

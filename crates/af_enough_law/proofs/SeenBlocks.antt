@@ -1,21 +1,9 @@
 -- What was learnt of a block is seen.
 use Rattle.std.proofs.Common.{◌≡◌, ◌⊎◌, inl, inr, ℕ, ◌+◌, ◌≤◌, true, List, [], ◌∷◌, ◌++◌, length, get_or, refl, sym, ap, ◌∙◌, subst, arith, length-append, true≢false}
-use Rattle.std.proofs.lemmas.Grind.{fold-append}
-use Rattle.af_base.proofs.Basics.{both_true}
-use Rattle.af_base.specs.declared.event.ClientEvent.{ClientEvent}
+use Rattle.af_enough_law.proofs.Common.{ClientEvent, ClientMay, HandEvent, HasHistory, IsLegal, Moment, ServerEvent, ServerMay, Shape, TrackPoint, after, after_client, after_server, both_first, both_right, both_true, by_client, by_hand, by_server, client_append, client_of, client_taken, drops_none, fold-append, hand_puts, keeps_all, legal_cut, server_append, server_of, server_put, start, status_client, status_hand, wrapped}
 use Rattle.af_base.specs.declared.event.ClientEvent.TheVariants as client
-use Rattle.af_base.specs.declared.event.HandEvent.{HandEvent}
-use Rattle.af_base.specs.declared.event.ServerEvent.{ServerEvent}
 use Rattle.af_base.specs.declared.event.ServerEvent.TheVariants as server
 use Rattle.af_enough_law.proofs.Basics.{put-append, taken-append}
-use Rattle.af_judge.proofs.Basics.{client_append, hand_puts, legal_cut, server_append, server_put, status_client, status_hand}
-use Rattle.af_model.proofs.Basics.{both_first, client_taken}
-use Rattle.af_model.specs.declared.point.TrackPoint.{TrackPoint}
-use Rattle.af_model.specs.declared.shape.Shape.{Shape}
-use Rattle.af_model.specs.Fates.{keeps_all, drops_none}
-use Rattle.af_model.specs.History.{Moment, by_client, by_server, by_hand, client_of, server_of, after, IsLegal, HasHistory}
-use Rattle.af_model.specs.Point.{wrapped, start, ClientMay, ServerMay, after_client, after_server}
-use Rattle.af_model.proofs.Logic.{both_right}
 use Rattle.af_model.proofs.OneFate.{hand_consumed}
 use Rattle.af_enough_law.specs.Seen.{Stands, Sees, put_by, frames_put, taken_by, frames_taken, status_by, last_status, FrontIsSeen, StatusIsSeen, BlockRearIsSeen}
 
@@ -121,14 +109,7 @@ server_sees k before behind e cs released taken hs Shows h shows =
 
 put_next : (p : TrackPoint) (e : ClientEvent) → (after_client p e).released ≡ p.released + put_by e
 put_next p (client.Release count) = refl
-put_next p client.Flush = omega arith
-put_next p (client.SetGain word) = omega arith
-put_next p (client.ClearFlags old) = omega arith
-put_next p (client.SawFlags flags) = omega arith
-put_next p (client.SawFront front) = omega arith
-put_next p (client.SawStatus word) = omega arith
-put_next p (client.Poke word value) = omega arith
-put_next p (client.Learn n) = omega arith
+put_next p _ = omega arith
 
 -- the frames released are those that the client's list puts
 pub released_is : (k : Shape) (order : List Moment) → (after (start k) order).released ≡ k.base + frames_put (client_of order)
@@ -144,16 +125,9 @@ drops_split (x ∷ xs) ys h = let rest = drops_split xs ys (both_right (keeps_al
     (both_true (keeps_all x) (drops_none xs) (both_first (keeps_all x) (drops_none (xs ++ ys)) h) rest.0, rest.1)
 
 taken_next : (p : TrackPoint) (e : ServerEvent) → keeps_all e ≡ true → (after_server p e).consumed ≡ p.consumed + taken_by e
-taken_next p (server.SawGain word) h = omega arith
-taken_next p (server.SawFlush flush) h = omega arith
-taken_next p (server.SawRear rear) h = omega arith
-taken_next p (server.SawFront front) h = omega arith
 taken_next p (server.Drop to) h = absurd (true≢false (sym h))
 taken_next p (server.Take count) h = refl
-taken_next p (server.Tally missing) h = omega arith
-taken_next p (server.SetFlags bits) h = omega arith
-taken_next p (server.SetStatus word) h = omega arith
-taken_next p (server.Learn n) h = omega arith
+taken_next p _ h = omega arith
 
 -- if nothing is dropped, the frames consumed are those that the server's list takes
 pub consumed_is : (k : Shape) (order : List Moment) → drops_none (server_of order) ≡ true → (after (start k) order).consumed ≡ k.base + frames_taken (server_of order)
@@ -169,15 +143,7 @@ consumed_is k (by_hand e ∷ order) none = hand_consumed (after (start k) order)
 
 status_next : (p : TrackPoint) (e : ServerEvent) → (after_server p e).status ≡ status_by p.status e
 status_next p (server.SawGain word) = refl
-status_next p (server.SawFlush flush) = refl
-status_next p (server.SawRear rear) = refl
-status_next p (server.SawFront front) = refl
-status_next p (server.Drop to) = refl
-status_next p (server.Take count) = refl
-status_next p (server.Tally missing) = refl
-status_next p (server.SetFlags bits) = refl
-status_next p (server.SetStatus word) = refl
-status_next p (server.Learn n) = refl
+status_next p _ = refl
 
 -- the status is the last one stored
 pub status_is : (k : Shape) (order : List Moment) → (after (start k) order).status ≡ last_status (server_of order)

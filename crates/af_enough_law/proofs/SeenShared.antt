@@ -1,27 +1,17 @@
 -- What was learnt of the queue, the report and the pipe is seen.
 use Rattle.std.proofs.Common.{◌≡◌, ℕ, ◌+◌, List, [], ◌∷◌, ◌++◌, fold, refl, ap, ◌∙◌, arith, Option}
-use Rattle.af_base.specs.declared.event.ClientEvent.{ClientEvent}
+use Rattle.af_enough_law.proofs.Common.{ClientEvent, Event, FastState, Item, MutatorEvent, MutatorPoint, ObserverEvent, ObserverPoint, QueuePoint, ReaderEvent, Report, ServerEvent, WriterEvent, mutator_next, no_report, observed, observer_next, one, ones, two, wrapped}
 use Rattle.af_base.specs.declared.event.ClientEvent.TheVariants as client
-use Rattle.af_base.specs.declared.event.ServerEvent.{ServerEvent}
 use Rattle.af_base.specs.declared.event.ServerEvent.TheVariants as server
-use Rattle.af_base.specs.declared.report.Report.{Report}
-use Rattle.af_base.specs.declared.state.FastState.{FastState}
-use Rattle.af_model.specs.declared.newest.ReaderEvent.{ReaderEvent}
 use Rattle.af_model.specs.declared.newest.ReaderEvent.TheVariants as reads
-use Rattle.af_model.specs.declared.newest.WriterEvent.{WriterEvent}
 use Rattle.af_model.specs.declared.newest.WriterEvent.TheVariants as writes
-use Rattle.af_model.specs.declared.states.MutatorEvent.{MutatorEvent}
 use Rattle.af_model.specs.declared.states.MutatorEvent.TheVariants as mutator
-use Rattle.af_model.specs.declared.states.ObserverEvent.{ObserverEvent}
 use Rattle.af_model.specs.declared.states.ObserverEvent.TheVariants as observer
 use Rattle.af_model.specs.NewestValue as newest
-use Rattle.af_model.specs.Order.{Event, one, two, ones, twos, after}
+use Rattle.af_model.specs.Order.{after}
 use Rattle.af_model.specs.PipeHistory as piped
-use Rattle.af_model.specs.Point.{wrapped}
-use Rattle.af_model.specs.Reports.{no_report}
 use Rattle.af_model.specs.StateQueue as queued
-use Rattle.af_model.specs.StateQueue.{MutatorPoint, ObserverPoint, QueuePoint, mutator_next, observer_next, mutated, observed}
-use Rattle.af_runs.specs.Told.{Item}
+use Rattle.af_model.specs.StateQueue.{mutated}
 use Rattle.af_enough_law.specs.Seen.{AckIsSeen, NextIsSeen, stored, LoadIsSeen, put_by, frames_put, taken_by, frames_taken, RoomIsSeen, RearIsSeen}
 use Rattle.af_enough_law.proofs.Standing.{swapped, legal_swapped, next_swapped, sees_first}
 
@@ -35,11 +25,6 @@ pub mutator_half : (p : QueuePoint Item) (es : List Told) → (after queued.lega
 mutator_half p [] = refl
 mutator_half p (one e ∷ es) = mutator_half (queued.next p (one e)) es
 mutator_half p (two e ∷ es) = mutator_half (queued.next p (two e)) es
-
-pub observer_half : (p : QueuePoint Item) (es : List Told) → (after queued.legal queued.next p es).observer ≡ fold observer_next p.observer (twos es)
-observer_half p [] = refl
-observer_half p (one e ∷ es) = observer_half (queued.next p (one e)) es
-observer_half p (two e ∷ es) = observer_half (queued.next p (two e)) es
 
 counts_mutator : (m : MutatorPoint Item) (e : MutatorEvent Item) → (mutator_next m e).count ≡ m.count + 1
 counts_mutator m (mutator.Push k x items) = refl
@@ -92,95 +77,35 @@ load_seen before behind others n x h =
 
 pub puts_counted : (p : piped.PipePoint) (e : ClientEvent) → (piped.next p (one e)).puts ≡ p.puts + 1
 puts_counted p (client.Release count) = refl
-puts_counted p client.Flush = refl
-puts_counted p (client.SetGain word) = refl
-puts_counted p (client.ClearFlags old) = refl
-puts_counted p (client.SawFlags flags) = refl
-puts_counted p (client.SawFront front) = refl
-puts_counted p (client.SawStatus word) = refl
-puts_counted p (client.Poke word value) = refl
-puts_counted p (client.Learn n) = refl
+puts_counted p _ = refl
 
 pub takes_counted : (p : piped.PipePoint) (e : ServerEvent) → (piped.next p (two e)).takes ≡ p.takes + 1
 takes_counted p (server.SawGain word) = refl
-takes_counted p (server.SawFlush flush) = refl
-takes_counted p (server.SawRear rear) = refl
-takes_counted p (server.SawFront front) = refl
-takes_counted p (server.Drop to) = refl
-takes_counted p (server.Take count) = refl
-takes_counted p (server.Tally missing) = refl
-takes_counted p (server.SetFlags bits) = refl
-takes_counted p (server.SetStatus word) = refl
-takes_counted p (server.Learn n) = refl
+takes_counted p _ = refl
 
 pub puts_take_none : (p : piped.PipePoint) (e : ClientEvent) → (piped.next p (one e)).takes ≡ p.takes
 puts_take_none p (client.Release count) = refl
-puts_take_none p client.Flush = refl
-puts_take_none p (client.SetGain word) = refl
-puts_take_none p (client.ClearFlags old) = refl
-puts_take_none p (client.SawFlags flags) = refl
-puts_take_none p (client.SawFront front) = refl
-puts_take_none p (client.SawStatus word) = refl
-puts_take_none p (client.Poke word value) = refl
-puts_take_none p (client.Learn n) = refl
+puts_take_none p _ = refl
 
 pub takes_put_none : (p : piped.PipePoint) (e : ServerEvent) → (piped.next p (two e)).puts ≡ p.puts
 takes_put_none p (server.SawGain word) = refl
-takes_put_none p (server.SawFlush flush) = refl
-takes_put_none p (server.SawRear rear) = refl
-takes_put_none p (server.SawFront front) = refl
-takes_put_none p (server.Drop to) = refl
-takes_put_none p (server.Take count) = refl
-takes_put_none p (server.Tally missing) = refl
-takes_put_none p (server.SetFlags bits) = refl
-takes_put_none p (server.SetStatus word) = refl
-takes_put_none p (server.Learn n) = refl
+takes_put_none p _ = refl
 
 pub put_more : (p : piped.PipePoint) (e : ClientEvent) → (piped.next p (one e)).put ≡ p.put + put_by e
 put_more p (client.Release count) = refl
-put_more p client.Flush = omega arith
-put_more p (client.SetGain word) = omega arith
-put_more p (client.ClearFlags old) = omega arith
-put_more p (client.SawFlags flags) = omega arith
-put_more p (client.SawFront front) = omega arith
-put_more p (client.SawStatus word) = omega arith
-put_more p (client.Poke word value) = omega arith
-put_more p (client.Learn n) = omega arith
+put_more p _ = omega arith
 
 pub put_same : (p : piped.PipePoint) (e : ServerEvent) → (piped.next p (two e)).put ≡ p.put
 put_same p (server.SawGain word) = refl
-put_same p (server.SawFlush flush) = refl
-put_same p (server.SawRear rear) = refl
-put_same p (server.SawFront front) = refl
-put_same p (server.Drop to) = refl
-put_same p (server.Take count) = refl
-put_same p (server.Tally missing) = refl
-put_same p (server.SetFlags bits) = refl
-put_same p (server.SetStatus word) = refl
-put_same p (server.Learn n) = refl
+put_same p _ = refl
 
 pub taken_more : (p : piped.PipePoint) (e : ServerEvent) → (piped.next p (two e)).taken ≡ p.taken + taken_by e
-taken_more p (server.SawGain word) = omega arith
-taken_more p (server.SawFlush flush) = omega arith
-taken_more p (server.SawRear rear) = omega arith
-taken_more p (server.SawFront front) = omega arith
-taken_more p (server.Drop to) = omega arith
 taken_more p (server.Take count) = refl
-taken_more p (server.Tally missing) = omega arith
-taken_more p (server.SetFlags bits) = omega arith
-taken_more p (server.SetStatus word) = omega arith
-taken_more p (server.Learn n) = omega arith
+taken_more p _ = omega arith
 
 pub taken_same : (p : piped.PipePoint) (e : ClientEvent) → (piped.next p (one e)).taken ≡ p.taken
 taken_same p (client.Release count) = refl
-taken_same p client.Flush = refl
-taken_same p (client.SetGain word) = refl
-taken_same p (client.ClearFlags old) = refl
-taken_same p (client.SawFlags flags) = refl
-taken_same p (client.SawFront front) = refl
-taken_same p (client.SawStatus word) = refl
-taken_same p (client.Poke word value) = refl
-taken_same p (client.Learn n) = refl
+taken_same p _ = refl
 
 module _ (size : ℕ) where
   pub put_after : (p : piped.PipePoint) (es : List (Event ClientEvent ServerEvent)) → (after (piped.legal size) piped.next p es).put ≡ p.put + frames_put (ones es)

@@ -1,13 +1,7 @@
 -- The words that a client on its way sent are the first of a course, and which STOP it is doesn't change.
 use Rattle.std.proofs.Common.{◌≡◌, ℕ, zero, suc, ◌≤◌, ◌<◌, List, [], ◌∷◌, ◌++◌, length, get_or, take, refl, sym, ap, ◌∙◌, arith, length-append}
-use Rattle.af_base.proofs.Basics.{take_most}
+use Rattle.af_enough_law.proofs.Common.{Life, Mode, Op, Track, TrackKept, Want, take_most}
 use Rattle.af_enough_law.proofs.Basics.{course_long}
-use Rattle.af_life.specs.declared.kept.TrackKept.{TrackKept}
-use Rattle.af_life.specs.declared.track.Life.{Life}
-use Rattle.af_script.specs.declared.op.Op.{Op}
-use Rattle.af_runs.specs.ClientTurns.{Track}
-use Rattle.af_runs.specs.declared.want.Mode.{Mode}
-use Rattle.af_runs.specs.declared.want.Want.{Want}
 use Rattle.af_enough_law.specs.Courses.{course, Course, absent, idle, playing, stopping, drained, stopped, over, Follows}
 use Rattle.af_enough_law.specs.Playing.{Doing, opening, starting, settling, setting, writing, clearing, clearing_more, stopping as stopping_due, draining, removing}
 use Rattle.af_enough_law.proofs.Argued.{AreArgued}

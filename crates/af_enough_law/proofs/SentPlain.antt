@@ -1,25 +1,10 @@
 -- A client that flushes and pauses nothing sends no command but those of a course, whatever it is answered; and these keep a track that plays in the mix, or end it.
 use Rattle.std.proofs.Common.{◌≡◌, ◌⊎◌, inl, inr, ℕ, zero, suc, ◌-◌, ◌≤◌, ◌==◌, ◌&&◌, ◌||◌, nat_le, not, if◌then◌else◌, is_some, Bool, true, false, MatchBool, Option, List, [], ◌∷◌, ◌++◌, take, fold, refl, sym, ap, ◌∙◌, subst, append-nil, eqb-true}
-use Rattle.af_base.proofs.Basics.{both_true, no}
-use Rattle.af_base.specs.declared.event.ClientCall.{ClientCall}
+use Rattle.af_enough_law.proofs.Common.{Active, AreCalls, ClientCall, ClientCommand, CommandLook, IsWanted, Known, LegalClientTurn, Life, Stopping1, Stopping2, Track, TrackKept, Want, after_call, after_look, after_looks, both_first, both_right, both_true, by_command, by_report, ended, goes_on, is_shut, must_wait, no, obeyed, plays, shows_command, told, words_taken}
 use Rattle.af_base.specs.declared.event.ClientCall.TheVariants as call
-use Rattle.af_base.specs.declared.turn.CommandLook.{CommandLook}
-use Rattle.af_life.specs.declared.kept.TrackKept.{TrackKept}
-use Rattle.af_life.specs.declared.state.LifeState.TheVariants.{Active, Stopping1, Stopping2}
-use Rattle.af_life.specs.declared.track.Known.{Known}
-use Rattle.af_life.specs.declared.track.Life.{Life}
-use Rattle.af_life.specs.Commands.{by_command}
-use Rattle.af_life.specs.Kept.{plays}
-use Rattle.af_life.specs.Looks.{words_taken}
-use Rattle.af_life.specs.Obeys.{told, must_wait, ended, shows_command, is_shut, after_look, obeyed, goes_on, after_looks, commanded}
-use Rattle.af_life.specs.Reports.{by_report}
-use Rattle.af_model.proofs.Basics.{both_first}
-use Rattle.af_model.proofs.Logic.{both_right}
+use Rattle.af_life.specs.Obeys.{commanded}
 use Rattle.af_runs.specs.Clients.{code_of}
-use Rattle.af_runs.specs.ClientTurns.{Track, LegalClientTurn, IsWanted, after_call, AreCalls}
-use Rattle.af_runs.specs.declared.want.ClientCommand.{ClientCommand}
 use Rattle.af_runs.specs.declared.want.ClientCommand.TheVariants as command
-use Rattle.af_runs.specs.declared.want.Want.{Want}
 use Rattle.af_runs.specs.declared.want.Want.TheVariants as want
 use Rattle.af_enough_law.specs.Courses.{code_at, course, life_in}
 use Rattle.af_enough_law.proofs.Able.{none_told}
@@ -85,12 +70,9 @@ with_none : (xs : List ℕ) → ArePlain xs → ArePlain (xs ++ [])
 with_none xs h = subst ArePlain (sym (append-nil xs)) h
 
 code_plain : (sending : ClientCommand) → is_plain_want (want.Send sending) ≡ true → is_course_code (code_of sending) ≡ true
-code_plain command.Open h = refl
-code_plain command.Start h = refl
 code_plain command.Pause h = no h
-code_plain command.Stop h = refl
 code_plain command.Flush h = no h
-code_plain command.Remove h = refl
+code_plain _ h = refl
 
 is_sent : ClientCall → Bool
 is_sent (call.Sent front code argument) = true
@@ -99,15 +81,11 @@ is_sent _ = false
 sent_plain : (t : Track) (w : Want) (front code argument : ℕ) → is_plain_want w ≡ true → IsWanted t w (call.Sent front code argument) → is_course_code code ≡ true
 unfolding is_sent
 sent_plain t (want.Send sending) front code argument plain made = ap is_course_code (eqb-true code (code_of sending) (both_first (code == code_of sending) _ made)) ∙ code_plain sending plain
-sent_plain t want.Settled front code argument plain made = no made
-sent_plain t want.Drained front code argument plain made = no made
-sent_plain t want.Flush front code argument plain made = no made
 sent_plain t (want.Gain left right) front code argument plain made = no (sym (ap is_sent made))
-sent_plain t (want.Write count) front code argument plain made = no made
-sent_plain t want.Clear front code argument plain made = no made
 sent_plain t (want.Poke in_command word value) front code argument plain made = no (sym (ap is_sent made))
 sent_plain t want.Rest front code argument plain made = absurd made
 sent_plain t want.Leave front code argument plain made = ap is_course_code (eqb-true code (code_of command.Remove) (both_first (code == code_of command.Remove) _ made))
+sent_plain t _ front code argument plain made = no made
 
 call_plain : (t : Track) (w : Want) (answer : ClientCall) → is_plain_want w ≡ true → IsWanted t w answer → ArePlain t.commands.released → ArePlain (after_call t answer).commands.released
 call_plain t w (call.Put front count) plain made h = h
@@ -189,10 +167,6 @@ looks_in given flush_seen (look ∷ looks) s plain h =
 
 pub commanded_in : (given : Option ℕ) (flush_seen : ℕ) (looks : List CommandLook) (s : TrackKept) → plain_words (words_taken looks) ≡ true → InPlay s.life → InPlay (commanded given flush_seen looks s).life
 commanded_in given flush_seen looks s plain h = either_in (is_some s.awaits) s (after_looks given flush_seen looks s) h (looks_in given flush_seen looks s plain h)
-
--- a report that doesn't hear that its stream is shut leaves a life in the mix, or it has ended, if it has two retries
-calm : Known → Known
-calm known = record known { shut = false }
 
 shut_ends : (known : Known) (l : Life) → l.ended ≡ true → (by_report known l).ended ≡ true
 unfolding by_report

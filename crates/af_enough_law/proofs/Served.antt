@@ -1,24 +1,7 @@
 -- What a turn of the normal mixer makes of one track.
 use Rattle.std.proofs.Common.{◌≡◌, ◌≢◌, inl, inr, ℕ, zero, suc, ◌<◌, ◌≤◌, ◌==◌, Bool, true, false, List, [], ◌∷◌, length, fold, refl, sym, ap, ◌∙◌, subst, arith, true≢false, if◌then◌else◌}
-use Rattle.std.specs.Prelude.{slice_set}
-use Rattle.std.proofs.lemmas.List.{length-set}
-use Rattle.std.proofs.lemmas.Grind.{get_or-set_at}
-use Rattle.std.proofs.lemmas.Bool.{cases_eq}
-use Rattle.af_base.proofs.Basics.{by_test}
-use Rattle.af_base.specs.declared.turn.CommandLook.{CommandLook}
-use Rattle.af_base.specs.Turn.{Turn, TakeSeen, TrackSeen}
-use Rattle.af_judge.proofs.Basics.{push_tracks}
-use Rattle.af_life.proofs.Basics.{at_here, at_other, welcomed_at}
-use Rattle.af_life.specs.declared.kept.TrackKept.{TrackKept}
-use Rattle.af_life.specs.Edits.{after_ack, must_leave, must_enter, let_go, lend, edited, edited_to, ordered, mutated, after_push, entered, lent_by}
-use Rattle.af_life.specs.Kept.{Setup, asked as buffer, NormalKept, Learnt, track_at, new_track, seen_at, track_in}
-use Rattle.af_life.specs.declared.kept.Holder.TheVariants.{Returning}
+use Rattle.af_enough_law.proofs.Common.{CommandLook, Learnt, NormalKept, Returning, Setup, TakeSeen, TrackKept, TrackSeen, Turn, acked_len, after_ack, after_edits, after_push, after_take, after_takes, after_tracks, asked as buffer, at_here, at_other, by_test, cases_eq, counted, edited, edited_to, edits_len, entered, get_or-set_at, lend, length-set, lent_by, let_go, must_enter, must_leave, mutated, new_track, not_yet, ordered, push_tracks, seen_at, served, served_len, served_to, slice_set, track_at, track_in, tracks_at, turn_after, welcomed_at}
 use Rattle.af_life.specs.Obeys.{slot_for}
-use Rattle.af_life.specs.Plays.{after_take, after_takes, counted}
-use Rattle.af_life.specs.Serves.{served, served_to}
-use Rattle.af_life.specs.Turn.{after_tracks, after_edits, turn_after}
-use Rattle.af_life.specs.TurnEvents.{tracks_at}
-use Rattle.af_life.proofs.Lives.{acked_len, served_len, edits_len, not_yet}
 use Rattle.af_enough_law.specs.TrackTurns.{greeted, attended, Edited, stays, leaves, enters, own_after, TrackTurned}
 
 -- ## The acknowledgement and the part of the track

@@ -1,26 +1,6 @@
 -- What is carried of the whole session holds before the first round and after each legal round that leaves some track a life.
-use Rattle.std.proofs.Common.{◌≡◌, ◌⊎◌, inl, inr, ℕ, zero, suc, ◌+◌, ◌≤◌, ◌<◌, ◌==◌, ◌&&◌, ◌||◌, not, if◌then◌else◌, Bool, true, false, true≢false, All, List, [], ◌∷◌, ◌++◌, length, length-append, refl, sym, ap, ◌∙◌, subst, arith}
-use Rattle.std.specs.List.{list_any}
-use Rattle.af_base.proofs.Basics.{true_or_false}
-use Rattle.af_base.specs.declared.state.Command.{Command}
-use Rattle.af_base.specs.declared.state.Command.TheVariants.{ColdIdle, Exit, MixWrite}
-use Rattle.af_base.specs.declared.state.Push.{Push}
-use Rattle.af_base.specs.Command.{code_of}
-use Rattle.af_base.specs.Turn.{Turn}
-use Rattle.af_life.specs.declared.kept.Setting.{Setting}
-use Rattle.af_life.specs.declared.kept.TrackKept.{TrackKept}
-use Rattle.af_life.specs.Edits.{is_exit, is_over, next_command}
-use Rattle.af_life.specs.Heard.{learnt}
-use Rattle.af_life.specs.Kept.{Setup, pipe_size, NormalKept, Learnt, track_at, plays, is_home}
-use Rattle.af_life.specs.Turn.{turn_after}
-use Rattle.af_life.proofs.Lives.{turn_len}
-use Rattle.af_model.specs.Journals.{RoundSeen}
-use Rattle.af_runs.specs.Blocks.{Marks}
-use Rattle.af_runs.specs.Found.{outside_of}
-use Rattle.af_runs.specs.Rounds.{LegalRound, before_turn, found_in, after_round}
-use Rattle.af_runs.specs.Runs.{Run, draft_after}
-use Rattle.af_runs.specs.Sessions.{Session, track_count, setup_of}
-use Rattle.af_runs.specs.Told.{is_pushed}
+use Rattle.std.proofs.Common.{◌≡◌, ◌⊎◌, inl, inr, ℕ, ◌+◌, ◌≤◌, ◌<◌, ◌==◌, ◌&&◌, ◌||◌, not, if◌then◌else◌, Bool, true, false, true≢false, All, List, [], ◌∷◌, ◌++◌, length, length-append, refl, sym, ap, ◌∙◌, subst, arith}
+use Rattle.af_enough_law.proofs.Common.{ColdIdle, Command, Exit, Learnt, LegalRound, Marks, MixWrite, NormalKept, Push, RoundSeen, Run, Session, Setting, Setup, TrackKept, Turn, after_round, before_turn, code_of, draft_after, found_in, is_exit, is_over, is_pushed, learnt, list_any, next_command, outside_of, pipe_size, plays, setup_of, track_count, true_or_false, turn_after, turn_len}
 use Rattle.af_enough_law.specs.Carried.{SessionStands, SessionCarried}
 use Rattle.af_enough_law.specs.Drafts.{is_busy, PushMade}
 use Rattle.af_enough_law.specs.EndPhases.{NoExits}
@@ -42,16 +22,6 @@ use Rattle.af_enough_law.proofs.RestTurns.{no_exits_round}
 use Rattle.af_enough_law.proofs.RunTracks.{round_long}
 
 -- ## No Exit
-
--- not all is over while a life hasn't ended
-pub some_life : (tracks : List TrackKept) (i : ℕ) → i < length tracks → (track_at tracks i).life.ended ≡ false → is_over tracks ≡ false
-some_life [] i low alive = absurd (let z : ⊥ = omega (arith, low) in z)
-some_life (s ∷ tracks) zero low alive = ap (λ (b : Bool). (b && is_home s.holder) && is_over tracks) alive
-some_life (s ∷ tracks) (suc i) low alive = and_last (s.life.ended && is_home s.holder) (is_over tracks) (some_life tracks i (omega (arith, low)) alive)
-  where
-    and_last : (b d : Bool) → d ≡ false → (b && d) ≡ false
-    and_last true d e = e
-    and_last false d e = refl
 
 by_facts : (exits over heard whole : Bool) → Command
 by_facts exits over heard whole = if exits || (over && whole) then Exit else if heard || not whole then MixWrite else ColdIdle

@@ -1,16 +1,10 @@
 -- A client that has sent its STOP touches its stream no more, whatever it is answered.
 use Rattle.std.proofs.Common.{◌≡◌, ℕ, ◌-◌, ◌*◌, ◌≤◌, ◌==◌, ◌&&◌, ◌||◌, nat_le, not, if◌then◌else◌, Bool, true, false, MatchBool, Some, None, List, [], ◌∷◌, length, fold, refl, sym, ap, ◌∙◌, subst, arith}
-use Rattle.af_base.proofs.Basics.{no, some_same}
-use Rattle.af_base.specs.declared.event.ClientCall.{ClientCall}
+use Rattle.af_enough_law.proofs.Common.{AreCalls, Client, ClientCall, IsWanted, LegalClientTurn, Mode, Op, Track, Want, after_answer, after_call, begun, commands_sent, is_of_commands, is_send, next_want, no, settled_in, some_same, state_in, wanted_of, with_call}
 use Rattle.af_base.specs.declared.event.ClientCall.TheVariants as call
-use Rattle.af_script.specs.declared.op.Op.{Op}
 use Rattle.af_script.specs.declared.op.Op.TheVariants as op
-use Rattle.af_runs.specs.Clients.{Client, begun, next_want, after_answer, state_in, settled_in}
-use Rattle.af_runs.specs.ClientTurns.{Track, LegalClientTurn, IsWanted, is_of_commands, is_send, with_call, commands_sent, wanted_of, after_call, AreCalls}
 use Rattle.af_runs.specs.declared.want.ClientCommand.TheVariants as command
-use Rattle.af_runs.specs.declared.want.Mode.{Mode}
 use Rattle.af_runs.specs.declared.want.Mode.TheVariants as mode
-use Rattle.af_runs.specs.declared.want.Want.{Want}
 use Rattle.af_runs.specs.declared.want.Want.TheVariants as want
 use Rattle.af_enough_law.specs.Playing.{Doing, opening, starting, settling, setting, writing, clearing, clearing_more, stopping, draining, removing}
 use Rattle.af_enough_law.proofs.Doing.{at, codes_of, codes_sent, status_is}
@@ -36,15 +30,7 @@ after_send_silent n code argument (call.Sent front c a) h = (rests refl, refl)
 after_send_silent n code argument (call.SendFull front) h = (rests refl, refl)
 after_send_silent n code argument (call.SendDead flags) h = (rests refl, refl)
 after_send_silent n code argument (call.SendCorrupt front rear) h = (rests refl, refl)
-after_send_silent n code argument (call.Put front count) h = no h
-after_send_silent n code argument (call.Full front) h = no h
-after_send_silent n code argument (call.Dead flags) h = no h
-after_send_silent n code argument (call.Corrupt front rear) h = no h
-after_send_silent n code argument (call.Cleared flags) h = no h
-after_send_silent n code argument (call.Flush count) h = no h
-after_send_silent n code argument (call.Gain word) h = no h
-after_send_silent n code argument (call.Status word) h = no h
-after_send_silent n code argument (call.Poke in_command word value) h = no h
+after_send_silent n code argument _ h = no h
 
 by_side : (b : Bool) (t u v : Track) → u.stream ≡ t.stream → b ≡ true → (if b then u else v).stream ≡ t.stream
 by_side true t u v same e = same

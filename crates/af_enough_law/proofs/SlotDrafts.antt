@@ -1,24 +1,6 @@
 -- A turn leaves a slot of the draft as it was, or attaches it anew, with a higher generation; so a proxy that it lends has a generation that no state before had.
 use Rattle.std.proofs.Common.{◌≡◌, ◌≢◌, ℕ, zero, suc, ◌+◌, ◌≤◌, ◌<◌, if◌then◌else◌, Bool, true, false, true≢false, All, length, refl, sym, ap, ◌∙◌, subst, arith, ⊎_elim}
-use Rattle.std.proofs.lemmas.Bool.{cases_eq}
-use Rattle.af_base.specs.declared.state.Command.{Command}
-use Rattle.af_base.specs.declared.state.FastState.{FastState}
-use Rattle.af_base.specs.declared.state.FastTrack.{FastTrack}
-use Rattle.af_base.specs.Log.{slots}
-use Rattle.af_base.specs.Turn.{Turn}
-use Rattle.af_life.specs.declared.kept.Setting.{Setting}
-use Rattle.af_life.specs.declared.kept.TrackKept.{TrackKept}
-use Rattle.af_life.specs.Edits.{after_ack, must_leave, must_enter, let_go, lend, edited, edited_to, entered, ordered, mutated}
-use Rattle.af_life.specs.Kept.{Setup, NormalKept, Learnt, setting_of, track_at, is_lent, slot_number}
-use Rattle.af_life.specs.Sound.{IsSound}
-use Rattle.af_life.specs.Turn.{after_tracks, after_edits, turn_after}
-use Rattle.af_life.proofs.Lives.{acked_len, served_len}
-use Rattle.af_model.specs.Draft.{detached, commanded as with_command}
-use Rattle.af_model.specs.StateQueue.{slot_of, carries}
-use Rattle.af_judge.proofs.DraftBits.{attached_else, detached_here, detached_else, slot_here, slot_else}
-use Rattle.af_judge.proofs.SoundEdits.{comer_slot, leaver_slot}
-use Rattle.af_judge.proofs.SoundSlots.{sound_served}
-use Rattle.af_judge.proofs.SoundTurns.{sound_acked, sound_edits}
+use Rattle.af_enough_law.proofs.Common.{Command, FastState, FastTrack, IsSound, Learnt, NormalKept, Setting, Setup, TrackKept, Turn, acked_len, after_ack, after_edits, after_tracks, attached_else, carries, cases_eq, comer_slot, commanded as with_command, detached, detached_else, detached_here, edited, edited_to, entered, is_lent, leaver_slot, lend, let_go, must_enter, must_leave, mutated, ordered, served_len, setting_of, slot_else, slot_here, slot_number, slot_of, slots, sound_acked, sound_edits, sound_served, track_at, turn_after}
 use Rattle.af_enough_law.specs.Ends.{IsInOrder}
 use Rattle.af_enough_law.proofs.Orders.{lent_carried}
 use Rattle.af_enough_law.proofs.RestTurns.{draft_after_turn}

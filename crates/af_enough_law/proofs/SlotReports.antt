@@ -1,24 +1,10 @@
 -- What the reports tell of a slot comes from the states that carry it: so no report has a generation that no state has.
 use Rattle.std.proofs.Common.{◌≡◌, ℕ, ◌<◌, ◌||◌, is_some, unwrap_or, if◌then◌else◌, Bool, true, false, true≢false, Option, Some, None, List, [], ◌∷◌, refl, sym, ap, ◌∙◌, subst, ◌≤◌, length}
-use Rattle.af_base.specs.declared.log.CycleEntry.{CycleEntry}
-use Rattle.af_base.specs.declared.report.SlotReport.{SlotReport}
-use Rattle.af_base.specs.declared.state.FastState.{FastState}
-use Rattle.af_base.specs.Log.{slots, entry_slot}
-use Rattle.af_model.specs.Cycles.{state_of, last_used}
-use Rattle.af_model.specs.Draft.{initial}
-use Rattle.af_model.specs.Journals.{EntrySeen}
-use Rattle.af_model.specs.Reports.{ServerKnown, slot_report, carried, counted_look, no_slot}
-use Rattle.af_model.specs.StateQueue.{slot_of, carries}
-use Rattle.af_judge.proofs.DraftBits.{initial_none}
-use Rattle.af_runs.specs.Blocks.{listed, Marks}
-use Rattle.af_runs.specs.Runs.{Run, plays, state_for, with_poll, with_looks, with_cycle, with_cycles, known_of, stream_of}
-use Rattle.af_runs.specs.Sessions.{Session, cycle_frames}
+use Rattle.af_enough_law.proofs.Common.{CycleEntry, EntrySeen, FastState, LegalEntries, Marks, Run, ServerKnown, Session, SlotReport, carried, carries, counted_look, cycle_frames, entry_slot, initial, initial_none, known_of, last_used, listed, no_slot, polled_pushed, slot_of, slot_report, slots, state_at, state_for, state_of, stream_of, with_cycle, with_cycles, with_looks, with_poll}
+use Rattle.af_runs.specs.Runs.{plays}
 use Rattle.af_enough_law.specs.FastFlows.{slot_told}
 use Rattle.af_enough_law.proofs.FastReports.{slot_counts}
 use Rattle.af_enough_law.proofs.FastSteps.{cycle_states, entry_pushed}
-use Rattle.af_runs.proofs.StatesFor.{polled_pushed}
-use Rattle.af_runs.specs.Told.{state_at}
-use Rattle.af_runs.specs.Rounds.{LegalEntries}
 
 -- ## The states of a run
 

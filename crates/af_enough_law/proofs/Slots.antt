@@ -1,21 +1,6 @@
 -- The slot of a track that was opened stays.
 use Rattle.std.proofs.Common.{◌≡◌, ◌⊎◌, inl, inr, ℕ, ◌<◌, ◌==◌, ◌&&◌, not, if◌then◌else◌, is_some, Bool, true, false, true≢false, Option, None, List, [], ◌∷◌, length, refl, sym, ap, ◌∙◌, subst}
-use Rattle.std.specs.List.{AllByRecursion}
-use Rattle.af_base.proofs.Basics.{and_none}
-use Rattle.af_base.specs.declared.turn.CommandLook.{CommandLook}
-use Rattle.af_base.specs.Turn.{Turn}
-use Rattle.af_life.proofs.Basics.{ready_life}
-use Rattle.af_life.specs.declared.kept.TrackKept.{TrackKept}
-use Rattle.af_life.specs.declared.state.LifeState.TheVariants.{Absent}
-use Rattle.af_life.specs.declared.track.Life.{Life}
-use Rattle.af_life.specs.Commands.{Row, commands, by_command, first_effect as effect_of}
-use Rattle.af_life.specs.Heard.{heard, ready, noted, slot_reported, settled_at, is_reached}
-use Rattle.af_life.specs.Kept.{Setup, NormalKept, Learnt, track_at, track_in, setting_of}
-use Rattle.af_life.specs.Obeys.{opens, told, must_wait, ended, shows_command, is_shut, after_look, obeyed, goes_on, after_looks, free_slot}
-use Rattle.af_life.specs.Serves.{after_part}
-use Rattle.af_life.specs.State.{is_among}
-use Rattle.af_life.specs.Turn.{turn_after}
-use Rattle.af_life.specs.TurnEvents.{tracks_at}
+use Rattle.af_enough_law.proofs.Common.{Absent, AllByRecursion, CommandLook, Learnt, Life, NormalKept, Row, Setup, TrackKept, Turn, after_look, after_looks, after_part, and_none, by_command, commands, ended, first_effect as effect_of, free_slot, goes_on, heard, is_among, is_reached, is_shut, must_wait, noted, obeyed, opens, ready, ready_life, setting_of, settled_at, shows_command, slot_reported, told, track_at, track_in, tracks_at, turn_after}
 use Rattle.af_enough_law.specs.Courses.{Course, absent, idle, playing, stopping, drained, stopped, over}
 use Rattle.af_enough_law.specs.TrackTurns.{attended, TrackTurned}
 use Rattle.af_enough_law.proofs.Following.{greeted_in, greeted_alike, edited_alike, noted_alike}

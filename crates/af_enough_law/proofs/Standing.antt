@@ -1,7 +1,7 @@
 -- What stands before an event in an order of two parties.
 use Rattle.std.proofs.Common.{◌≡◌, ℕ, ◌+◌, ◌≤◌, List, [], ◌∷◌, ◌++◌, length, refl, sym, ap, ◌∙◌, subst, arith, length-append}
-use Rattle.af_model.specs.Order.{Event, one, two, ones, twos, Legal, after, HasOrder}
-use Rattle.af_model.proofs.Splits.{split_at, ones_append, legal_at}
+use Rattle.af_enough_law.proofs.Common.{Event, HasOrder, Legal, legal_at, one, ones, ones_append, split_at, two, twos}
+use Rattle.af_model.specs.Order.{after}
 use Rattle.af_enough_law.specs.Seen.{Stands, Sees}
 
 -- ## The parties exchanged

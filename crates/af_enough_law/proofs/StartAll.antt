@@ -1,32 +1,8 @@
 -- After the first four rounds of a run of a script whose tracks play through, the session is carried, and each track is started.
 use Rattle.std.proofs.Common.{◌≡◌, ◌⊎◌, inl, inr, ℕ, ◌+◌, ◌*◌, ◌%◌, ◌≤◌, ◌<◌, if◌then◌else◌, MatchBool, Bool, true, false, All, Some, None, List, [], ◌∷◌, length, sym, ap, ◌∙◌, subst, arith}
-use Rattle.af_base.proofs.Basics.{few_or_two, true_or_false}
-use Rattle.af_base.specs.declared.frame.Frame.{Frame}
-use Rattle.af_base.specs.Log.{slots}
+use Rattle.af_enough_law.proofs.Common.{AreCalls, Client, Frame, Home, IsScript, LegalRounds, Lent, Life, Marks, NormalKept, Op, RoundSeen, Run, ScriptData, Session, Setting, TrackKept, TrackTold, after_round, all_play_through, at_new, begun, calls_in, client_list, few_or_two, is_home, is_lent, is_over, new_at, new_run, new_track, scales_of, server_list, session_of, setting_of, settled_in, setup_of, sides_of, slots, spec_of, state_code, status_word, told_at, track_at, track_count, true_or_false}
 use Rattle.af_enough_law.proofs.Basics.{course_long}
-use Rattle.af_judge.proofs.Basics.{new_at}
-use Rattle.af_life.proofs.Basics.{at_new}
-use Rattle.af_life.specs.declared.kept.Holder.TheVariants.{Home, Lent}
-use Rattle.af_life.specs.declared.kept.Setting.{Setting}
-use Rattle.af_life.specs.declared.kept.TrackKept.{TrackKept}
-use Rattle.af_life.specs.Edits.{is_over}
-use Rattle.af_life.specs.declared.track.Life.{Life}
-use Rattle.af_life.specs.Serves.{state_code, status_word}
-use Rattle.af_life.specs.Kept.{NormalKept, new_track, track_at, is_home, is_lent, setting_of}
-use Rattle.af_model.specs.Journals.{RoundSeen}
-use Rattle.af_script.specs.Data.{ScriptData}
-use Rattle.af_script.specs.Form.{IsScript}
-use Rattle.af_script.specs.declared.op.Op.{Op}
-use Rattle.af_judge.proofs.StatesRuns.{scales_of}
-use Rattle.af_runs.specs.Blocks.{Marks, client_list, server_list}
-use Rattle.af_runs.specs.Clients.{Client, begun, settled_in}
-use Rattle.af_runs.specs.ClientTurns.{AreCalls}
-use Rattle.af_runs.specs.LegalRuns.{session_of, LegalRounds}
-use Rattle.af_runs.specs.Rounds.{after_round}
-use Rattle.af_runs.specs.Runs.{Run, TrackTold, new_run, told_at, sides_of, calls_in}
 use Rattle.af_runs.specs.Runs as runs
-use Rattle.af_runs.specs.Sessions.{Session, track_count, setup_of, spec_of}
-use Rattle.af_enough.specs.Enough.{all_play_through}
 use Rattle.af_enough_law.specs.Carried.{SessionStands, SessionCarried}
 use Rattle.af_enough_law.specs.Courses.{Course, absent, idle, playing, stopping, drained, stopped, over, Follows}
 use Rattle.af_enough_law.specs.Drafts.{is_busy}
@@ -82,10 +58,6 @@ pub record FirstRounds (s : Session) (marks : Marks) : Type 0 where
   pub over_three : is_over (after_round s (after_round s (after_round s (new_run s) first) second) third).normal.tracks ≡ false
   pub over_four : is_over (after_round s (after_round s (after_round s (after_round s (new_run s) first) second) third) fourth).normal.tracks ≡ false
 
--- the run after the fourth round
-abbrev pub fourth_run : (s : Session) (marks : Marks) → FirstRounds s marks → Run
-fourth_run s marks r = after_round s (after_round s (after_round s (after_round s (new_run s) r.first) r.second) r.third) r.fourth
-
 module _ (script : ScriptData) (files : List (List Frame)) (marks : Marks) (form : IsScript script) (through : all_play_through script ≡ true) (lawful : (i : ℕ) → i < length script.tracks → marks.commands i ≡ true) (r : FirstRounds (session_of script files) marks) where
   abbrev pub s : Session
   s = session_of script files
@@ -122,10 +94,6 @@ module _ (script : ScriptData) (files : List (List Frame)) (marks : Marks) (form
 
   at_three : SessionCarried s three
   at_three = session_carried s marks scales long two r.third r.legal.1.1.0 at_two.stands r.over_three
-
-  -- the session is carried
-  pub start_session : SessionCarried s four
-  start_session = session_carried s marks scales long three r.fourth r.legal.1.1.1.0 at_three.stands r.over_four
 
   ripe_one : (n : ℕ) (low : n < slots) → IsRipe s one n low
   ripe_one n low = round_ripe s marks scales long run r.first r.legal.0 begins n low (new_ripe s n low)

@@ -1,12 +1,6 @@
 -- What is counted of a track's blocks from the first round on, wherever its proxy is.
 use Rattle.std.proofs.Common.{◌≡◌, ℕ, ◌≤◌, ◌<◌, true, false, All, length, sym, ap, ◌∙◌, subst, arith}
-use Rattle.af_life.specs.declared.kept.Setting.{Setting}
-use Rattle.af_model.specs.declared.shape.Shape.{Shape}
-use Rattle.af_model.specs.Journals.{RoundSeen}
-use Rattle.af_runs.specs.Blocks.{Marks}
-use Rattle.af_runs.specs.Rounds.{LegalRound, after_round}
-use Rattle.af_runs.specs.Runs.{Run}
-use Rattle.af_runs.specs.Sessions.{Session, track_count, setup_of}
+use Rattle.af_enough_law.proofs.Common.{LegalRound, Marks, RoundSeen, Run, Session, Setting, Shape, after_round, setup_of, track_count}
 use Rattle.af_enough_law.specs.Carried.{SessionStands}
 use Rattle.af_enough_law.specs.NormalRounds.{TurnMade}
 use Rattle.af_enough_law.proofs.AwayKeeps.{StaysOpen, open_then}

@@ -1,19 +1,6 @@
 -- Three rounds after all tracks are carried the middle begins.
 use Rattle.std.proofs.Common.{◌≡◌, ℕ, ◌+◌, ◌≤◌, ◌<◌, true, false, All, None, List, [], ◌∷◌, length, drop, ap, arith}
-use Rattle.af_base.specs.declared.frame.Frame.{Frame}
-use Rattle.af_life.specs.declared.kept.Setting.{Setting}
-use Rattle.af_life.specs.Kept.{track_at, plays}
-use Rattle.af_model.specs.Journals.{RoundSeen}
-use Rattle.af_script.specs.Data.{ScriptData}
-use Rattle.af_script.specs.declared.op.Op.{Op}
-use Rattle.af_script.specs.Form.{IsScript}
-use Rattle.af_runs.specs.Blocks.{Marks}
-use Rattle.af_runs.specs.LegalRuns.{session_of, LegalRounds}
-use Rattle.af_runs.specs.Rounds.{after_round}
-use Rattle.af_runs.specs.Runs.{Run}
-use Rattle.af_runs.specs.Sessions.{Session, track_count, setup_of, spec_of}
-use Rattle.af_judge.proofs.StatesRuns.{scales_of}
-use Rattle.af_enough.specs.Enough.{all_play_through}
+use Rattle.af_enough_law.proofs.Common.{Frame, IsScript, LegalRounds, Marks, Op, RoundSeen, Run, ScriptData, Session, Setting, after_round, all_play_through, plays, scales_of, session_of, setup_of, spec_of, track_at, track_count}
 use Rattle.af_enough_law.specs.Carried.{SessionCarried}
 use Rattle.af_enough_law.specs.Ends.{AllOver}
 use Rattle.af_enough_law.specs.Playing.{way_ops, way_frames}

@@ -1,17 +1,6 @@
 -- From a track at home to one whose proxy the fast mixer has: the round that lends it, maybe one in which it waits for its push, and the one in which it is adopted at the latest. All that its client was answered meanwhile is told by the history after the last of them.
 use Rattle.std.proofs.Common.{◌≡◌, ℕ, ◌+◌, ◌≤◌, ◌<◌, true, false, true≢false, All, List, [], ◌∷◌, length, sym, ap, ◌∙◌, subst, arith}
-use Rattle.af_base.specs.declared.state.FastTrack.{FastTrack}
-use Rattle.af_base.specs.Log.{slots}
-use Rattle.af_life.specs.declared.kept.Holder.TheVariants.{Lent}
-use Rattle.af_life.specs.declared.kept.Setting.{Setting}
-use Rattle.af_life.specs.Heard.{learnt}
-use Rattle.af_life.specs.Kept.{NormalKept, track_at, plays, is_home, is_lent}
-use Rattle.af_model.specs.Journals.{RoundSeen}
-use Rattle.af_runs.specs.Blocks.{Marks, server_list}
-use Rattle.af_runs.specs.LegalRuns.{run_from}
-use Rattle.af_runs.specs.Rounds.{LegalRound, after_round}
-use Rattle.af_runs.specs.Runs.{Run, told_at}
-use Rattle.af_runs.specs.Sessions.{Session, track_count, setup_of}
+use Rattle.af_enough_law.proofs.Common.{FastTrack, LegalRound, Lent, Marks, NormalKept, RoundSeen, Run, Session, Setting, after_round, is_home, is_lent, learnt, plays, run_from, server_list, setup_of, slots, told_at, track_at, track_count}
 use Rattle.af_enough_law.specs.Acks.{KnowsAcked}
 use Rattle.af_enough_law.specs.Carried.{SessionStands, SessionCarried}
 use Rattle.af_enough_law.specs.Drafts.{is_busy}

@@ -1,16 +1,7 @@
 -- What a round leaves of a track whose START was settled before it: it starts to flow, or is on its way out, and has what makes its retries two at least.
 use Rattle.std.proofs.Common.{◌≡◌, ◌⊎◌, inl, inr, ℕ, ◌+◌, ◌≤◌, ◌<◌, Bool, true, false, true≢false, All, None, List, length, refl, sym, ap, ◌∙◌, arith}
+use Rattle.af_enough_law.proofs.Common.{LegalRound, Life, Marks, Op, RoundSeen, Run, Session, Setting, after_round, ends_part, is_lent, met_after, plays, setup_of, spec_of, takes_part, track_at, track_count}
 use Rattle.af_enough_law.proofs.Basics.{course_long}
-use Rattle.af_judge.proofs.Basics.{ends_part}
-use Rattle.af_life.specs.declared.kept.Setting.{Setting}
-use Rattle.af_life.specs.declared.track.Life.{Life}
-use Rattle.af_life.specs.Kept.{track_at, plays, is_lent}
-use Rattle.af_model.specs.Journals.{RoundSeen}
-use Rattle.af_script.specs.declared.op.Op.{Op}
-use Rattle.af_runs.specs.Blocks.{Marks}
-use Rattle.af_runs.specs.Rounds.{LegalRound, met_after, after_round}
-use Rattle.af_runs.specs.Runs.{Run, takes_part}
-use Rattle.af_runs.specs.Sessions.{Session, track_count, setup_of, spec_of}
 use Rattle.af_enough_law.specs.Carried.{SessionCarried}
 use Rattle.af_enough_law.specs.Courses.{Course, absent, idle, playing, stopping, drained, stopped as stopped_life, over, stage}
 use Rattle.af_enough_law.specs.NormalRounds.{TurnMade}

@@ -1,14 +1,6 @@
 -- No run of a script with enough cycles is still going after as many rounds as are enough, if its tracks start to flow early and its mixers end in time.
 use Rattle.std.proofs.Common.{◌≡◌, ℕ, ◌+◌, ◌^◌, ◌≤◌, ◌<◌, true, false, List, length, take, arith}
-use Rattle.af_base.specs.declared.frame.Frame.{Frame}
-use Rattle.af_model.specs.Journals.{RoundSeen}
-use Rattle.af_script.specs.Data.{ScriptData}
-use Rattle.af_script.specs.Form.{IsScript}
-use Rattle.af_runs.specs.Blocks.{Marks}
-use Rattle.af_runs.specs.LegalRuns.{session_of, run_from, LegalRounds}
-use Rattle.af_runs.specs.Runs.{new_run}
-use Rattle.af_runs.specs.Sessions.{spec_of}
-use Rattle.af_enough.specs.Enough.{enough_rounds, HasEnoughCycles}
+use Rattle.af_enough_law.proofs.Common.{Frame, HasEnoughCycles, IsScript, LegalRounds, Marks, RoundSeen, ScriptData, enough_rounds, new_run, run_from, session_of, spec_of}
 use Rattle.af_enough_law.specs.Ends.{AllOver}
 use Rattle.af_enough_law.proofs.AllAble.{keeps_able}
 use Rattle.af_enough_law.proofs.MiddleNever.{Starts, middle_never}

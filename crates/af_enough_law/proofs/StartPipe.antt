@@ -1,18 +1,6 @@
 -- The pipe from the first round on: it is empty, or a mix waits to be pushed and at most a buffer is in it, or the last state mixes and at most two are.
 use Rattle.std.proofs.Common.{◌≡◌, ◌⊎◌, inl, inr, ℕ, ◌+◌, ◌*◌, ◌≤◌, Bool, true, false, true≢false, All, List, [], ◌∷◌, length, refl, sym, ap, ◌∙◌, subst, arith}
-use Rattle.af_base.specs.Command.{code_of}
-use Rattle.af_base.specs.declared.state.Command.TheVariants.{ColdIdle, MixWrite}
-use Rattle.af_base.specs.declared.state.FastState.{FastState}
-use Rattle.af_life.specs.declared.kept.Setting.{Setting}
-use Rattle.af_life.specs.Heard.{learnt}
-use Rattle.af_life.specs.Kept.{asked, NormalKept, track_at, plays}
-use Rattle.af_life.specs.Turn.{turn_after}
-use Rattle.af_model.specs.Journals.{RoundSeen}
-use Rattle.af_runs.specs.Blocks.{Marks}
-use Rattle.af_runs.specs.Rounds.{LegalRound, after_round}
-use Rattle.af_runs.specs.Runs.{Run}
-use Rattle.af_runs.specs.Sessions.{Session, track_count, setup_of, cycle_frames}
-use Rattle.af_runs.specs.Told.{state_at}
+use Rattle.af_enough_law.proofs.Common.{ColdIdle, FastState, LegalRound, Marks, MixWrite, NormalKept, RoundSeen, Run, Session, Setting, after_round, asked, code_of, cycle_frames, learnt, plays, setup_of, state_at, track_at, track_count, turn_after}
 use Rattle.af_enough_law.specs.Acks.{KnowsAcked}
 use Rattle.af_enough_law.specs.Carried.{SessionStands, SessionCarried}
 use Rattle.af_enough_law.specs.Drafts.{is_busy, PushMade}

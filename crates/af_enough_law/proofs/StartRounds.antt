@@ -1,25 +1,7 @@
 -- The rounds in which a proxy is lent and on its way: what the turns hear of it, and what they leave.
 use Rattle.std.proofs.Common.{◌≡◌, ℕ, ◌+◌, ◌≤◌, ◌<◌, unwrap_or, if◌then◌else◌, Bool, true, false, All, Option, length, refl, sym, ap, ◌∙◌, subst, arith, inl, is_some, Some}
-use Rattle.af_base.specs.declared.report.SlotReport.{SlotReport}
-use Rattle.af_base.specs.declared.state.FastTrack.{FastTrack}
-use Rattle.af_base.specs.Log.{slots}
-use Rattle.af_base.specs.Turn.{Turn}
+use Rattle.af_enough_law.proofs.Common.{FastState, FastTrack, Heard, Learnt, LegalRound, Lent, Marks, NormalKept, RoundSeen, Run, Session, Setting, Shape, SlotReport, TrackKept, Turn, after_round, after_turn, before_turn, carries, early_of, heard, heard_at_home, heard_by, heard_elsewhere, is_home, late_of, learnt, load_of, met_after, number_of, report_at, report_of, server_list, setup_of, slot_of, slot_reported, slots, state_of, told_at, track_at, track_count, track_in, turn_after, with_calls, with_cycles}
 use Rattle.af_enough_law.proofs.Basics.{stays_home}
-use Rattle.af_life.specs.declared.kept.Heard.{Heard}
-use Rattle.af_life.specs.declared.kept.Holder.TheVariants.{Lent}
-use Rattle.af_life.specs.declared.kept.Setting.{Setting}
-use Rattle.af_life.specs.declared.kept.TrackKept.{TrackKept}
-use Rattle.af_life.specs.Heard.{learnt, heard, heard_by, heard_at_home, heard_elsewhere, slot_reported}
-use Rattle.af_life.specs.Kept.{Learnt, track_at, track_in, is_home, number_of, NormalKept}
-use Rattle.af_model.specs.declared.shape.Shape.{Shape}
-use Rattle.af_model.specs.Cycles.{state_of}
-use Rattle.af_model.specs.Journals.{RoundSeen}
-use Rattle.af_model.specs.Reports.{report_at}
-use Rattle.af_model.specs.StateQueue.{slot_of, carries}
-use Rattle.af_runs.specs.Blocks.{Marks, server_list}
-use Rattle.af_runs.specs.Rounds.{LegalRound, early_of, late_of, after_turn, met_after, after_round, before_turn}
-use Rattle.af_runs.specs.Runs.{Run, told_at, with_calls, with_cycles, report_of, load_of}
-use Rattle.af_runs.specs.Sessions.{Session, track_count, setup_of}
 use Rattle.af_enough_law.specs.Carried.{SessionStands}
 use Rattle.af_enough_law.specs.Courses.{none_shut}
 use Rattle.af_enough_law.specs.Drafts.{is_busy}
@@ -29,7 +11,8 @@ use Rattle.af_enough_law.proofs.AdoptRounds.{away_heard}
 use Rattle.af_enough_law.proofs.AwayKeeps.{StaysOpen, away_turn, looks_open}
 use Rattle.af_enough_law.proofs.AwayRounds.{AwayTurn}
 use Rattle.af_enough_law.proofs.EntryCounts.{found_within}
-use Rattle.af_enough_law.proofs.FastRounds.{over, calls_length, cycles_length}
+use Rattle.af_enough_law.proofs.FastRounds.{over, cycles_length}
+use Rattle.af_enough_law.proofs.RunTracks.{calls_long as calls_length}
 use Rattle.af_enough_law.proofs.Following.{greeted_in, greeted_alike}
 use Rattle.af_enough_law.proofs.Foreseen.{Foreseen, early_quiet, home_unshut}
 use Rattle.af_enough_law.proofs.Generations.{Attached, greeted_lent, greeted_same}
@@ -46,8 +29,6 @@ use Rattle.af_enough_law.proofs.LentRounds.{draft_item}
 use Rattle.af_enough_law.proofs.LentTurns.{turn_leaves}
 use Rattle.af_enough_law.proofs.LeftEntries.{HasOrOut}
 use Rattle.af_enough_law.proofs.FastFound.{plays_item}
-use Rattle.af_life.specs.Turn.{turn_after}
-use Rattle.af_base.specs.declared.state.FastState.{FastState}
 
 -- ## After a turn
 

@@ -1,17 +1,7 @@
 -- What a track is after the first four rounds of a run.
 use Rattle.std.proofs.Common.{◌≡◌, ◌⊎◌, inl, inr, ℕ, ◌≤◌, ◌<◌, true, false, All, Option, Some, None, length, refl, ap, arith}
-use Rattle.af_base.proofs.Basics.{true_or_false}
-use Rattle.af_base.specs.Log.{slots}
+use Rattle.af_enough_law.proofs.Common.{Holder, Home, LegalRound, Lent, Marks, Returning, RoundSeen, Run, Session, Setting, after_round, is_home, is_lent, plays, setup_of, sides_of, slots, told_at, track_at, track_count, true_or_false}
 use Rattle.af_enough_law.proofs.Basics.{not_over}
-use Rattle.af_life.specs.declared.kept.Holder.{Holder}
-use Rattle.af_life.specs.declared.kept.Holder.TheVariants.{Home, Lent, Returning}
-use Rattle.af_life.specs.declared.kept.Setting.{Setting}
-use Rattle.af_life.specs.Kept.{track_at, plays, is_home, is_lent}
-use Rattle.af_model.specs.Journals.{RoundSeen}
-use Rattle.af_runs.specs.Blocks.{Marks}
-use Rattle.af_runs.specs.Rounds.{LegalRound, after_round}
-use Rattle.af_runs.specs.Runs.{Run, told_at, sides_of}
-use Rattle.af_runs.specs.Sessions.{Session, track_count, setup_of}
 use Rattle.af_enough_law.specs.Carried.{SessionCarried}
 use Rattle.af_enough_law.specs.Courses.{Course, absent, idle, playing, stopping, drained, stopped as is_stopped, over}
 use Rattle.af_enough_law.specs.Drafts.{is_busy}

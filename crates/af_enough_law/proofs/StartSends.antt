@@ -1,19 +1,7 @@
 -- A track mixed by the normal mixer has sent its START after one round, and after one more it is settled.
 use Rattle.std.proofs.Common.{◌≡◌, ◌⊎◌, inl, inr, ℕ, ◌*◌, ◌≤◌, ◌<◌, Bool, true, false, All, None, List, [], ◌∷◌, length, fold, refl, ap, ◌∙◌, arith}
-use Rattle.af_base.specs.declared.event.ClientCall.{ClientCall}
+use Rattle.af_enough_law.proofs.Common.{AreCalls, ClientCall, LegalRound, Marks, Mode, Op, RoundSeen, Run, Session, Setting, Track, Want, after_call, after_round, begun, calls_in, setup_of, sides_of, told_at, track_at, track_count}
 use Rattle.af_enough_law.proofs.Basics.{course_long}
-use Rattle.af_life.specs.declared.kept.Setting.{Setting}
-use Rattle.af_life.specs.Kept.{track_at}
-use Rattle.af_model.specs.Journals.{RoundSeen}
-use Rattle.af_script.specs.declared.op.Op.{Op}
-use Rattle.af_runs.specs.Blocks.{Marks}
-use Rattle.af_runs.specs.Clients.{begun}
-use Rattle.af_runs.specs.ClientTurns.{Track, AreCalls, after_call}
-use Rattle.af_runs.specs.declared.want.Mode.{Mode}
-use Rattle.af_runs.specs.declared.want.Want.{Want}
-use Rattle.af_runs.specs.Rounds.{LegalRound, after_round}
-use Rattle.af_runs.specs.Runs.{Run, told_at, sides_of, calls_in}
-use Rattle.af_runs.specs.Sessions.{Session, track_count, setup_of}
 use Rattle.af_enough_law.specs.Carried.{SessionCarried}
 use Rattle.af_enough_law.specs.FastFlows.{KnowsReleased}
 use Rattle.af_enough_law.specs.NormalRounds.{TurnMade}
@@ -23,7 +11,8 @@ use Rattle.af_enough_law.proofs.Carrying.{TrackIs, slotless, lent, stopped, gone
 use Rattle.af_enough_law.proofs.CommandsGo.{commands_of}
 use Rattle.af_enough_law.proofs.Doing.{at, codes_sent}
 use Rattle.af_enough_law.proofs.FairTurns.{codes_long}
-use Rattle.af_enough_law.proofs.FirstCalls.{released_on, first_turn, second_turn}
+use Rattle.af_enough_law.proofs.FirstCalls.{first_turn, second_turn}
+use Rattle.af_enough_law.proofs.SeesStopped.{spoken_long as released_on}
 use Rattle.af_enough_law.proofs.Lookahead.{ended_then}
 use Rattle.af_enough_law.proofs.PipeKept.{IsSized}
 use Rattle.af_enough_law.proofs.SessionRounds.{turn_of}

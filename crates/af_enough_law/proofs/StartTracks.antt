@@ -1,19 +1,7 @@
 -- A track in its first four rounds: it is home, then lent, and carried as one that flows in the fourth at the latest; or it stays home without a slot.
 use Rattle.std.proofs.Common.{◌≡◌, ◌⊎◌, inl, inr, ℕ, ◌≤◌, ◌<◌, ◌&&◌, if◌then◌else◌, is_some, Bool, true, false, true≢false, All, Some, length, refl, sym, ap, ◌∙◌, subst, arith}
-use Rattle.af_base.specs.declared.state.FastTrack.{FastTrack}
+use Rattle.af_enough_law.proofs.Common.{FastTrack, Holder, Home, LegalRound, Lent, Life, Marks, NormalKept, RoundSeen, Run, Session, Setting, after_round, calls_in, is_home, learnt, number_of, plays, setup_of, told_at, track_at, track_count, turn_after}
 use Rattle.af_enough_law.proofs.Basics.{stays_home}
-use Rattle.af_life.specs.declared.kept.Holder.{Holder}
-use Rattle.af_life.specs.declared.kept.Holder.TheVariants.{Home, Lent}
-use Rattle.af_life.specs.declared.kept.Setting.{Setting}
-use Rattle.af_life.specs.declared.track.Life.{Life}
-use Rattle.af_life.specs.Heard.{learnt}
-use Rattle.af_life.specs.Kept.{NormalKept, track_at, plays, is_home, number_of}
-use Rattle.af_life.specs.Turn.{turn_after}
-use Rattle.af_model.specs.Journals.{RoundSeen}
-use Rattle.af_runs.specs.Blocks.{Marks}
-use Rattle.af_runs.specs.Rounds.{LegalRound, after_round}
-use Rattle.af_runs.specs.Runs.{Run, told_at, calls_in}
-use Rattle.af_runs.specs.Sessions.{Session, track_count, setup_of}
 use Rattle.af_enough_law.specs.Carried.{SessionStands}
 use Rattle.af_enough_law.specs.Courses.{Course, absent, idle, playing, stopping, drained, stopped, over}
 use Rattle.af_enough_law.specs.Drafts.{next_holder}

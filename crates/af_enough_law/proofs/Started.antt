@@ -1,18 +1,11 @@
 -- A client whose START was seen to be settled stays past its start in each fair turn.
 use Rattle.std.proofs.Common.{◌≤◌, ◌&&◌, ◌++◌, not, nat_le, ◌≡◌, ◌⊎◌, inl, inr, ℕ, zero, suc, ◌-◌, ◌==◌, ◌||◌, Bool, true, false, true≢false, Some, None, List, [], ◌∷◌, length, fold, refl, sym, ap, ◌∙◌, subst, arith, if◌then◌else◌}
-use Rattle.std.proofs.lemmas.List.{append-nil}
-use Rattle.af_base.proofs.Basics.{some_same}
-use Rattle.af_base.specs.declared.event.ClientCall.{ClientCall}
+use Rattle.af_enough_law.proofs.Common.{AreCalls, Client, ClientCall, IsMade, Mode, Op, Track, Want, after_answer, after_call, append-nil, at_next_turn, begun, commands_sent, more, next_want, settled_in, some_same, state_in, wanted_of, with_call}
 use Rattle.af_base.specs.declared.event.ClientCall.TheVariants as call
-use Rattle.af_script.specs.declared.op.Op.{Op}
 use Rattle.af_script.specs.declared.op.Op.TheVariants as op
 use Rattle.af_runs.specs.declared.want.ClientCommand.TheVariants as command
-use Rattle.af_runs.specs.declared.want.Mode.{Mode}
 use Rattle.af_runs.specs.declared.want.Mode.TheVariants as mode
-use Rattle.af_runs.specs.declared.want.Want.{Want}
 use Rattle.af_runs.specs.declared.want.Want.TheVariants as want
-use Rattle.af_runs.specs.Clients.{Client, begun, state_in, settled_in, more, next_want, after_answer, at_next_turn}
-use Rattle.af_runs.specs.ClientTurns.{Track, IsMade, with_call, commands_sent, wanted_of, after_call, AreCalls}
 use Rattle.af_enough_law.specs.Playing.{IsWay, Doing, opening, starting, settling, setting, writing, clearing, clearing_more, stopping, draining, removing, IsFair, AreFair}
 use Rattle.af_enough_law.specs.Nearing.{is_started, IsPast}
 use Rattle.af_enough_law.proofs.Doing.{at, waiting_at, sent_of, next_op, sent_is, status_is, write_is, clear_is}

@@ -1,21 +1,6 @@
 -- What holds after each of the first rounds, while not all is over.
 use Rattle.std.proofs.Common.{◌≡◌, ◌⊎◌, inl, inr, ℕ, ◌+◌, ◌≤◌, ◌<◌, Bool, true, false, All, List, length, refl, ap, arith}
-use Rattle.af_base.specs.declared.frame.Frame.{Frame}
-use Rattle.af_life.proofs.Basics.{at_new}
-use Rattle.af_life.specs.declared.kept.Setting.{Setting}
-use Rattle.af_life.specs.declared.kept.TrackKept.{TrackKept}
-use Rattle.af_life.specs.Edits.{is_over}
-use Rattle.af_life.specs.Kept.{track_at}
-use Rattle.af_model.specs.Journals.{RoundSeen}
-use Rattle.af_script.specs.Data.{ScriptData}
-use Rattle.af_script.specs.Form.{IsScript}
-use Rattle.af_runs.specs.Blocks.{Marks}
-use Rattle.af_runs.specs.LegalRuns.{session_of}
-use Rattle.af_runs.specs.Rounds.{LegalRound, after_round}
-use Rattle.af_runs.specs.Runs.{Run, new_run}
-use Rattle.af_runs.specs.Sessions.{Session, track_count, setup_of, spec_of}
-use Rattle.af_judge.proofs.StatesRuns.{scales_of}
-use Rattle.af_enough.specs.Enough.{all_play_through}
+use Rattle.af_enough_law.proofs.Common.{Frame, IsScript, LegalRound, Marks, RoundSeen, Run, ScriptData, Session, Setting, TrackKept, after_round, all_play_through, at_new, is_over, new_run, scales_of, session_of, setup_of, spec_of, track_at, track_count}
 use Rattle.af_enough_law.specs.Carried.{SessionStands, SessionCarried}
 use Rattle.af_enough_law.specs.Ends.{AllOver}
 use Rattle.af_enough_law.specs.Underway.{Underway}

@@ -1,18 +1,6 @@
 -- What holds of the last state before a round and of the draft that its turn leaves holds of all states that the round may use.
 use Rattle.std.proofs.Common.{◌≡◌, ◌⊎◌, inl, inr, ℕ, ◌≤◌, ◌<◌, unwrap_or, is_some, Bool, true, false, true≢false, All, Option, Some, List, ◌++◌, length, length-append, refl, sym, ap, ◌∙◌, subst, arith}
-use Rattle.af_base.proofs.Basics.{within_or_beyond}
-use Rattle.af_base.specs.declared.state.FastState.{FastState}
-use Rattle.af_life.specs.declared.kept.Setting.{Setting}
-use Rattle.af_life.specs.Heard.{learnt}
-use Rattle.af_life.specs.Kept.{NormalKept}
-use Rattle.af_life.specs.Turn.{turn_after}
-use Rattle.af_model.specs.Cycles.{state_of}
-use Rattle.af_model.specs.Journals.{RoundSeen}
-use Rattle.af_runs.proofs.Basics.{state_more}
-use Rattle.af_runs.specs.Blocks.{Marks}
-use Rattle.af_runs.specs.Rounds.{LegalRound, after_round}
-use Rattle.af_runs.specs.Runs.{Run}
-use Rattle.af_runs.specs.Sessions.{Session, track_count, setup_of, cycle_frames}
+use Rattle.af_enough_law.proofs.Common.{FastState, LegalRound, Marks, NormalKept, RoundSeen, Run, Session, Setting, after_round, cycle_frames, learnt, setup_of, state_beyond, state_more, state_of, track_count, turn_after, within_or_beyond}
 use Rattle.af_enough_law.specs.Carried.{SessionCarried}
 use Rattle.af_enough_law.specs.Drafts.{is_busy, PushMade}
 use Rattle.af_enough_law.specs.FastFlows.{AllStates}
@@ -22,7 +10,6 @@ use Rattle.af_enough_law.proofs.FastPolls.{round_states, turn_more}
 use Rattle.af_enough_law.proofs.LastStates.{round_last}
 use Rattle.af_enough_law.proofs.LentRounds.{state_last}
 use Rattle.af_enough_law.proofs.SessionRounds.{turn_of, push_of, states_few}
-use Rattle.af_runs.proofs.StatesFor.{state_beyond}
 
 module _ (s : Session) (marks : Marks) (scales : All (λ (x : Setting). x.scale ≤ 4096) (setup_of s).settings) (long : length (setup_of s).settings ≡ track_count s) (run : Run) (round : RoundSeen) (legal : LegalRound false s marks run round) (c : SessionCarried s run)
     (P : FastState → Type 0) (some : 1 ≤ length run.states) (before : P run.normal.last) (draft : P (turn_after (setup_of s) (learnt (turn_of s marks scales long run round legal c.stands).by.outside) run.normal (turn_of s marks scales long run round legal c.stands).turn).draft) where

@@ -1,28 +1,8 @@
 -- The status word that a server stored last is that of its track.
 use Rattle.std.proofs.Common.{◌≡◌, ℕ, ◌+◌, ◌<◌, ◌==◌, if◌then◌else◌, is_some, Bool, true, false, Option, Some, None, MatchBool, List, [], ◌∷◌, ◌++◌, length, fold, refl, sym, ap, ◌∙◌, eqb-true}
-use Rattle.std.proofs.lemmas.Grind.{fold-append}
-use Rattle.af_base.specs.declared.event.ServerEvent.{ServerEvent}
+use Rattle.af_enough_law.proofs.Common.{BlockTold, CommandLook, IsServed, Learnt, Listed, Marks, NormalKept, Outside, RoundSeen, Run, Seen, ServerEvent, Session, Setup, TrackKept, TrackSeen, Turn, after_part, after_round, all_command_events, command_events, command_events_of, command_list, did, drops_of, fold-append, found_in, heard, invalid, is_reached, kept, learnt, look_events, met_after, noted, nothing_seen, outside_of, ready, server_list, settled_at, setup_of, shows_command, slot_reported, status_due, status_events, stored_over, takes_command, told_at, track_at, track_in, tracks_at, turn_after}
 use Rattle.af_base.specs.declared.event.ServerEvent.TheVariants as server
-use Rattle.af_base.specs.declared.seen.Seen.{Seen}
 use Rattle.af_base.specs.declared.seen.Seen.TheVariants as seen
-use Rattle.af_base.specs.declared.turn.CommandLook.{CommandLook}
-use Rattle.af_base.specs.Turn.{Turn, TrackSeen}
-use Rattle.af_life.specs.declared.kept.TrackKept.{TrackKept}
-use Rattle.af_life.specs.Heard.{learnt, heard, ready, noted, slot_reported, settled_at, is_reached}
-use Rattle.af_life.specs.Kept.{Setup, NormalKept, Outside, Learnt, track_at, track_in, nothing_seen}
-use Rattle.af_life.specs.Looks.{command_events, takes_command, did, all_command_events}
-use Rattle.af_life.specs.Obeys.{shows_command}
-use Rattle.af_life.specs.Serves.{stored_over, status_due, after_part, IsServed}
-use Rattle.af_life.specs.Turn.{turn_after}
-use Rattle.af_life.specs.TurnEvents.{tracks_at, invalid, status_events, command_events_of, command_list}
-use Rattle.af_model.specs.Cycles.{Listed, kept}
-use Rattle.af_model.specs.Journals.{RoundSeen}
-use Rattle.af_model.specs.ServerCalls.{look_events, drops_of}
-use Rattle.af_runs.specs.Blocks.{BlockTold, Marks, server_list}
-use Rattle.af_runs.specs.Found.{outside_of}
-use Rattle.af_runs.specs.Rounds.{found_in, met_after, after_round}
-use Rattle.af_runs.specs.Runs.{Run, told_at}
-use Rattle.af_runs.specs.Sessions.{Session, setup_of}
 use Rattle.af_enough_law.specs.CommandRounds.{CommandsTold}
 use Rattle.af_enough_law.specs.NormalRounds.{TurnMade}
 use Rattle.af_enough_law.specs.Seen.{status_by, last_status}
@@ -36,10 +16,7 @@ still_both xs ys a b word = fold-append status_by word xs ys ∙ ap (λ (w : ℕ
 
 still_drops : (answer : Seen) (front word : ℕ) → fold status_by word (drops_of answer front) ≡ word
 still_drops seen.Absent front word = refl
-still_drops (seen.Frames count) front word = refl
-still_drops seen.Empty front word = refl
-still_drops (seen.Flushed dropped) front word = refl
-still_drops (seen.Shut f r) front word = refl
+still_drops _ front word = refl
 
 still_if : (b : Bool) (xs : List ServerEvent) → ((word : ℕ) → fold status_by word xs ≡ word) → (word : ℕ) → fold status_by word (if b then [] else xs) ≡ word
 still_if true xs a word = refl

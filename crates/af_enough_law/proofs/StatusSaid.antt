@@ -1,31 +1,10 @@
 -- What a client sees of its track's status in a round, if the status before the round and the one after it say something.
 use Rattle.std.proofs.Common.{get_or, ◌≡◌, inr, ℕ, suc, ◌≤◌, Bool, true, false, Option, Some, None, is_some, List, [], ◌∷◌, ◌++◌, length, fold, refl, sym, ap, ◌∙◌, subst, arith, append_assoc, if◌then◌else◌}
-use Rattle.std.proofs.lemmas.Grind.{fold-append}
-use Rattle.af_base.specs.declared.event.ClientCall.{ClientCall}
+use Rattle.af_enough_law.proofs.Common.{ClientCall, ClientEvent, CommandLook, LegalRound, Listed, Marks, Outside, RoundSeen, Run, Seen, ServerEvent, Session, Shape, Track, TrackKept, TrackTold, after_call, after_round, all_command_events, calls_in, client_list, command_events, command_events_of, command_list, did, drops_of, fold-append, found_in, hand_list, invalid, kept, learnt, look_events, met_after, outside_of, server_list, setup_of, shows_command, sides_of, status_events, takes_command, told_at, track_at, track_in, tracks_at}
 use Rattle.af_base.specs.declared.event.ClientCall.TheVariants as call
-use Rattle.af_base.specs.declared.event.ClientEvent.{ClientEvent}
 use Rattle.af_base.specs.declared.event.ClientEvent.TheVariants as client
-use Rattle.af_base.specs.declared.event.ServerEvent.{ServerEvent}
 use Rattle.af_base.specs.declared.event.ServerEvent.TheVariants as server
-use Rattle.af_base.specs.declared.seen.Seen.{Seen}
 use Rattle.af_base.specs.declared.seen.Seen.TheVariants as seen
-use Rattle.af_base.specs.declared.turn.CommandLook.{CommandLook}
-use Rattle.af_life.specs.declared.kept.TrackKept.{TrackKept}
-use Rattle.af_life.specs.Heard.{learnt}
-use Rattle.af_life.specs.Kept.{Outside, track_at, track_in}
-use Rattle.af_life.specs.Looks.{command_events, takes_command, did, all_command_events}
-use Rattle.af_life.specs.Obeys.{shows_command}
-use Rattle.af_life.specs.TurnEvents.{tracks_at, invalid, status_events, command_events_of, command_list}
-use Rattle.af_model.specs.declared.shape.Shape.{Shape}
-use Rattle.af_model.specs.Cycles.{Listed, kept}
-use Rattle.af_model.specs.Journals.{RoundSeen}
-use Rattle.af_model.specs.ServerCalls.{look_events, drops_of}
-use Rattle.af_runs.specs.Blocks.{Marks, client_list, server_list, hand_list}
-use Rattle.af_runs.specs.ClientTurns.{Track, after_call}
-use Rattle.af_runs.specs.Found.{outside_of}
-use Rattle.af_runs.specs.Rounds.{LegalRound, found_in, met_after, after_round}
-use Rattle.af_runs.specs.Runs.{Run, TrackTold, told_at, sides_of, calls_in}
-use Rattle.af_runs.specs.Sessions.{Session, setup_of}
 use Rattle.af_enough_law.specs.CommandRounds.{CommandsTold}
 use Rattle.af_enough_law.specs.NormalRounds.{TurnMade}
 use Rattle.af_enough_law.specs.Seen.{status_by, last_status}
@@ -55,16 +34,8 @@ module _ (Says : ℕ → Type 0) where
   AllSay (e ∷ es) = StatusSays e × AllSay es
 
   says_next : (word : ℕ) (e : ServerEvent) → Says word → StatusSays e → Says (status_by word e)
-  says_next word (server.SawGain gain) h s = h
-  says_next word (server.SawFlush flush) h s = h
-  says_next word (server.SawRear rear) h s = h
-  says_next word (server.SawFront front) h s = h
-  says_next word (server.Drop to) h s = h
-  says_next word (server.Take count) h s = h
-  says_next word (server.Tally missing) h s = h
-  says_next word (server.SetFlags bits) h s = h
   says_next word (server.SetStatus next) h s = s
-  says_next word (server.Learn n) h s = h
+  says_next word _ h s = h
 
   says_front : (word : ℕ) (es front rest : List ServerEvent) → es ≡ front ++ rest → Says word → AllSay es → Says (fold status_by word front)
   unfolding tail_of
@@ -90,11 +61,8 @@ module _ (Says : ℕ → Type 0) where
   say_both (x ∷ xs) ys a b = (a.0, say_both xs ys a.1 b)
 
   say_drops : (answer : Seen) (front : ℕ) → AllSay (drops_of answer front)
-  say_drops seen.Absent front = tt
-  say_drops (seen.Frames count) front = tt
-  say_drops seen.Empty front = tt
   say_drops (seen.Flushed dropped) front = (tt, tt)
-  say_drops (seen.Shut f r) front = tt
+  say_drops _ front = tt
 
   say_if : (b : Bool) (xs : List ServerEvent) → AllSay xs → AllSay (if b then [] else xs)
   say_if true xs a = tt

@@ -1,29 +1,12 @@
 -- The argument of a STOP is no more than the frames that its client has put.
 use Rattle.std.proofs.Common.{◌≡◌, ℕ, zero, suc, ◌+◌, ◌-◌, ◌^◌, ◌≤◌, ◌<◌, ◌==◌, ◌&&◌, Bool, true, false, Option, Some, None, MatchBool, List, [], ◌∷◌, ◌++◌, length, fold, get_or, take, drop, refl, sym, ap, ◌∙◌, subst, arith, length-append, append-nil, is_some, if◌then◌else◌}
-use Rattle.af_base.proofs.Basics.{no}
-use Rattle.af_base.specs.declared.event.ClientCall.{ClientCall}
+use Rattle.af_enough_law.proofs.Common.{AreCalls, BlockTold, ClientCall, ClientCommand, ClientEvent, EntrySeen, IsWanted, LegalRound, Marks, NormalKept, RoundSeen, Run, Session, Track, TrackTold, Turn, TurnFound, Want, after_call, after_round, after_turn, all_played, argument_of, both_right, called, calls_in, client_kept, client_list, cycle_frames, early_of, flushes_of, found_in, late_of, mixed_track, no, played, sides_of, slot_for, state_for, stream_met, takes_part, told_at, track_count, with_calls, with_cycle, with_poll, wrapped}
 use Rattle.af_base.specs.declared.event.ClientCall.TheVariants as call
-use Rattle.af_base.specs.declared.event.ClientEvent.{ClientEvent}
 use Rattle.af_base.specs.declared.event.ClientEvent.TheVariants as client
-use Rattle.af_base.specs.Turn.{Turn}
 use Rattle.af_enough_law.proofs.Basics.{put-append}
-use Rattle.af_life.specs.Kept.{NormalKept}
-use Rattle.af_model.specs.ClientCalls.{client_kept}
-use Rattle.af_model.specs.History.{flushes_of}
-use Rattle.af_model.specs.Point.{wrapped}
-use Rattle.af_model.specs.Journals.{EntrySeen, RoundSeen}
-use Rattle.af_model.proofs.Logic.{both_right}
-use Rattle.af_runs.specs.Blocks.{BlockTold, Marks, client_list}
 use Rattle.af_runs.specs.Clients.{code_of}
-use Rattle.af_runs.specs.ClientTurns.{Track, IsWanted, argument_of, after_call, AreCalls}
-use Rattle.af_runs.specs.declared.want.ClientCommand.{ClientCommand}
 use Rattle.af_runs.specs.declared.want.ClientCommand.TheVariants as command
-use Rattle.af_runs.specs.declared.want.Want.{Want}
 use Rattle.af_runs.specs.declared.want.Want.TheVariants as want
-use Rattle.af_runs.specs.Found.{TurnFound}
-use Rattle.af_runs.specs.Rounds.{after_round, all_played, early_of, late_of, after_turn, found_in, LegalRound}
-use Rattle.af_runs.specs.Runs.{Run, TrackTold, told_at, sides_of, called, calls_in, with_calls, with_poll, with_cycle, state_for, slot_for, played, mixed_track, stream_met, takes_part}
-use Rattle.af_runs.specs.Sessions.{Session, cycle_frames, track_count}
 use Rattle.af_enough_law.specs.Courses.{course}
 use Rattle.af_enough_law.specs.Seen.{frames_put}
 use Rattle.af_enough_law.proofs.CalmTracks.{round_released}
@@ -148,40 +131,22 @@ wrapped_low : (n : ℕ) → (wrapped n ≤ n) × (wrapped n < 2 ^ 32)
 wrapped_low n = (omega arith, omega arith)
 
 send_low : (t : Track) (sending : ClientCommand) (code argument : ℕ) → flushes_of t.stream.events ≡ 0 → length t.stream.released ≤ frames_put t.stream.events → ((code == code_of sending) && (argument == argument_of t sending)) ≡ true → Low (frames_put t.stream.events) argument
-send_low t command.Open code argument none put h = equal_to code _ argument 0 _ h (omega arith, omega arith)
 send_low t command.Start code argument none put h = equal_to code _ argument (flushes_of t.stream.events) _ h (omega (arith, none), omega (arith, none))
-send_low t command.Pause code argument none put h = equal_to code _ argument 0 _ h (omega arith, omega arith)
 send_low t command.Stop code argument none put h = let w = wrapped_low (length t.stream.released) in equal_to code _ argument (wrapped (length t.stream.released)) _ h (let a = w.0 in omega (arith, a, put), w.1)
-send_low t command.Flush code argument none put h = equal_to code _ argument 0 _ h (omega arith, omega arith)
-send_low t command.Remove code argument none put h = equal_to code _ argument 0 _ h (omega arith, omega arith)
+send_low t _ code argument none put h = equal_to code _ argument 0 _ h (omega arith, omega arith)
 
 sent_low : (t : Track) (w : Want) (front code argument : ℕ) → flushes_of t.stream.events ≡ 0 → length t.stream.released ≤ frames_put t.stream.events → IsWanted t w (call.Sent front code argument) → Low (frames_put t.stream.events) argument
 unfolding is_sent
 sent_low t (want.Send sending) front code argument none put made = send_low t sending code argument none put made
-sent_low t want.Settled front code argument none put made = no made
-sent_low t want.Drained front code argument none put made = no made
-sent_low t want.Flush front code argument none put made = no made
 sent_low t (want.Gain left right) front code argument none put made = no (sym (ap is_sent made))
-sent_low t (want.Write count) front code argument none put made = no made
-sent_low t want.Clear front code argument none put made = no made
 sent_low t (want.Poke in_command word value) front code argument none put made = no (sym (ap is_sent made))
 sent_low t want.Rest front code argument none put made = absurd made
 sent_low t want.Leave front code argument none put made = equal_to code _ argument 0 _ made (omega arith, omega arith)
+sent_low t _ front code argument none put made = no made
 
 answer_low : (t : Track) (w : Want) (answer : ClientCall) → flushes_of t.stream.events ≡ 0 → length t.stream.released ≤ frames_put t.stream.events → IsWanted t w answer → AllWithin (frames_put t.stream.events) (sent_of answer)
 answer_low t w (call.Sent front code argument) none put made = let low = sent_low t w front code argument none put made in (low.0, low.1, tt)
-answer_low t w (call.Put front count) none put made = tt
-answer_low t w (call.Full front) none put made = tt
-answer_low t w (call.Dead flags) none put made = tt
-answer_low t w (call.Corrupt front rear) none put made = tt
-answer_low t w (call.Cleared flags) none put made = tt
-answer_low t w (call.Flush count) none put made = tt
-answer_low t w (call.Gain word) none put made = tt
-answer_low t w (call.SendFull front) none put made = tt
-answer_low t w (call.SendDead flags) none put made = tt
-answer_low t w (call.SendCorrupt front rear) none put made = tt
-answer_low t w (call.Status word) none put made = tt
-answer_low t w (call.Poke in_command word value) none put made = tt
+answer_low t w _ none put made = tt
 
 -- ## A turn
 

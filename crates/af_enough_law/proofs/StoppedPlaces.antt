@@ -1,21 +1,6 @@
 -- Where the proxy of a stopped track is, from round to round: the turn never hears that its stream is shut.
 use Rattle.std.proofs.Common.{◌≡◌, ◌⊎◌, inl, inr, ℕ, zero, suc, ◌+◌, ◌≤◌, ◌==◌, ◌&&◌, ◌||◌, not, if◌then◌else◌, Bool, true, false, true≢false, length, refl, sym, ap, ◌∙◌, subst, arith}
-use Rattle.af_base.specs.declared.state.FastState.{FastState}
-use Rattle.af_base.specs.declared.state.FastTrack.{FastTrack}
-use Rattle.af_life.specs.declared.kept.Holder.{Holder}
-use Rattle.af_life.specs.declared.kept.Holder.TheVariants.{Home, Lent, Returning}
-use Rattle.af_life.specs.declared.kept.TrackKept.{TrackKept}
-use Rattle.af_life.specs.declared.track.Life.{Life}
-use Rattle.af_life.specs.Edits.{comes_home, welcomed}
-use Rattle.af_life.specs.Heard.{learnt, heard}
-use Rattle.af_life.specs.Kept.{track_at, plays, is_home, is_returning, slot_number}
-use Rattle.af_life.specs.Reports.{by_report}
-use Rattle.af_model.specs.Journals.{RoundSeen}
-use Rattle.af_model.specs.StateQueue.{carries}
-use Rattle.af_runs.specs.Blocks.{Marks}
-use Rattle.af_runs.specs.Rounds.{after_round}
-use Rattle.af_runs.specs.Runs.{Run}
-use Rattle.af_runs.specs.Sessions.{Session}
+use Rattle.af_enough_law.proofs.Common.{FastState, FastTrack, Holder, Home, Lent, Life, Marks, Returning, RoundSeen, Run, Session, TrackKept, after_round, by_report, carries, comes_home, heard, is_home, is_returning, learnt, plays, slot_number, track_at, welcomed}
 use Rattle.af_enough_law.specs.Acks.{KnowsAcked}
 use Rattle.af_enough_law.specs.Courses.{course, Course, stage, life_after}
 use Rattle.af_enough_law.specs.FastFlows.{Plays, IsTold, slot_told}

@@ -1,21 +1,7 @@
 -- A round whose states have nothing of a track leaves what the reports say of its slot.
 use Rattle.std.proofs.Common.{◌≡◌, ℕ, ◌≤◌, ◌<◌, false, Option, Some, None, List, [], ◌∷◌, ◌++◌, length, refl, sym, ap, ◌∙◌, subst, arith, append_assoc, append-nil}
-use Rattle.std.proofs.lemmas.List.{take-append-drop}
-use Rattle.af_base.specs.declared.report.Report.{Report}
-use Rattle.af_base.specs.declared.report.SlotReport.{SlotReport}
-use Rattle.af_base.specs.declared.state.FastState.{FastState}
-use Rattle.af_base.specs.Log.{slots, entry_slot}
+use Rattle.af_enough_law.proofs.Common.{EntrySeen, FastState, LegalEntries, LegalEntry, LegalRound, Marks, Report, RoundSeen, Run, Session, SlotReport, after_round, after_turn, all_played, before_turn, calls_states, carries, early_count, early_of, entry_slot, fast_ended, found_in, is_shown, last_report, late_of, met_after, polled_known, report_at, report_of, slots, state_for, state_of, take-append-drop, with_calls, with_cycle, with_cycles, with_looks, with_mix, with_poll}
 use Rattle.af_enough_law.proofs.Basics.{state_there}
-use Rattle.af_judge.proofs.Basics.{calls_states}
-use Rattle.af_model.specs.Cycles.{state_of}
-use Rattle.af_model.specs.Journals.{EntrySeen, RoundSeen}
-use Rattle.af_model.specs.Reports.{report_at}
-use Rattle.af_model.specs.StateQueue.{carries}
-use Rattle.af_runs.specs.Blocks.{Marks}
-use Rattle.af_runs.specs.Fronts.{is_shown}
-use Rattle.af_runs.specs.Rounds.{LegalRound, LegalEntry, LegalEntries, early_count, early_of, late_of, before_turn, found_in, after_turn, all_played, met_after, after_round}
-use Rattle.af_runs.specs.Runs.{Run, state_for, last_report, report_of, with_calls, with_poll, with_looks, with_mix, with_cycle, with_cycles, fast_ended}
-use Rattle.af_runs.specs.Sessions.{Session}
 use Rattle.af_enough_law.specs.FastFlows.{AllUse, KnowsStates, slot_told}
 use Rattle.af_enough_law.proofs.FastFound.{adds_one}
 use Rattle.af_enough_law.proofs.FastPolls.{before_states, round_states, fast_parts, parts_use}
@@ -24,7 +10,6 @@ use Rattle.af_enough_law.proofs.FastSince.{Adds, since_number}
 use Rattle.af_enough_law.proofs.FastSteps.{cycle_states}
 use Rattle.af_enough_law.proofs.LeftEntries.{IsOut, next_kept, next_unshown, shows_nothing}
 use Rattle.af_enough_law.proofs.LeftFound.{cycles_append, adds_both}
-use Rattle.af_runs.proofs.StatesFor.{polled_known}
 
 -- the states from this number on have nothing of the track
 abbrev pub AllOut : ℕ → ℕ → ℕ → Run → Type 0

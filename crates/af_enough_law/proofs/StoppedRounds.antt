@@ -1,28 +1,7 @@
 -- A round of a stopped track: its turn doesn't hear that its stream is shut, wherever its proxy is, and leaves the proxy in such a place. What isn't told by the history of this round is told by that of the next one.
 use Rattle.std.proofs.Common.{◌≡◌, ◌⊎◌, inl, inr, ℕ, ◌≤◌, ◌<◌, ◌==◌, is_some, Bool, true, false, true≢false, All, Some, ◌++◌, length, length-append, refl, sym, ap, ◌∙◌, subst, arith}
-use Rattle.af_base.proofs.Basics.{within_or_beyond}
-use Rattle.af_base.specs.declared.report.SlotReport.{SlotReport}
-use Rattle.af_base.specs.declared.state.FastState.{FastState}
-use Rattle.af_base.specs.declared.state.FastTrack.{FastTrack}
-use Rattle.af_base.specs.Log.{slots}
+use Rattle.af_enough_law.proofs.Common.{FastState, FastTrack, Home, Learnt, LegalRound, Marks, NormalKept, Returning, RoundSeen, Run, Session, Setting, SlotReport, TrackKept, after_round, carries, cycle_frames, ends_part, heard, is_home, is_returning, learnt, load_of, met_after, number_of, plays, report_at, report_of, setup_of, slot_number, slot_reported, slots, state_beyond, state_more, state_of, takes_part, told_at, track_at, track_count, turn_after, turn_len, with_calls, with_cycles, within_or_beyond}
 use Rattle.af_enough_law.proofs.Basics.{not_over, some_is, stays_home}
-use Rattle.af_judge.proofs.Basics.{ends_part}
-use Rattle.af_life.specs.declared.kept.Holder.TheVariants.{Home, Returning}
-use Rattle.af_life.specs.declared.kept.Setting.{Setting}
-use Rattle.af_life.specs.declared.kept.TrackKept.{TrackKept}
-use Rattle.af_life.specs.Heard.{learnt, heard, slot_reported}
-use Rattle.af_life.specs.Kept.{NormalKept, Learnt, track_at, plays, is_home, is_returning, slot_number, number_of}
-use Rattle.af_life.specs.Turn.{turn_after}
-use Rattle.af_life.proofs.Lives.{turn_len}
-use Rattle.af_model.specs.Cycles.{state_of}
-use Rattle.af_model.specs.Journals.{RoundSeen}
-use Rattle.af_model.specs.Reports.{report_at}
-use Rattle.af_model.specs.StateQueue.{carries}
-use Rattle.af_runs.proofs.Basics.{state_more}
-use Rattle.af_runs.specs.Blocks.{Marks}
-use Rattle.af_runs.specs.Rounds.{LegalRound, met_after, after_round}
-use Rattle.af_runs.specs.Runs.{Run, told_at, with_calls, with_cycles, report_of, takes_part, load_of}
-use Rattle.af_runs.specs.Sessions.{Session, track_count, setup_of, cycle_frames}
 use Rattle.af_enough_law.specs.Acks.{KnowsAcked}
 use Rattle.af_enough_law.specs.Carried.{SessionCarried}
 use Rattle.af_enough_law.specs.Drafts.{next_holder, is_busy, PushMade}
@@ -54,7 +33,6 @@ use Rattle.af_enough_law.proofs.StoppedPlaces.{Place, at_home, comes, waits, unp
 use Rattle.af_enough_law.proofs.StoppedReports.{AllOut, SameSlot, slot_untouched}
 use Rattle.af_enough_law.proofs.StoppedTracks.{StoppedCarried, home_open}
 use Rattle.af_enough_law.proofs.TurnLives.{shut_turned}
-use Rattle.af_runs.proofs.StatesFor.{state_beyond}
 
 not_zero : (n : ℕ) → 3 ≤ n → (n == 0) ≡ false
 not_zero n some = search (arith, some)

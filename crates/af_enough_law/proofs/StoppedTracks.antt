@@ -1,21 +1,7 @@
 -- A track that has stopped: its client touches its stream no more, and waits to send its REMOVE.
 use Rattle.std.proofs.Common.{◌≡◌, inl, ℕ, ◌≤◌, ◌<◌, unwrap_or, Bool, true, false, true≢false, All, Option, Some, List, [], length, fold, refl, sym, ap, ◌∙◌, subst, arith}
-use Rattle.af_base.specs.declared.event.ClientEvent.{ClientEvent}
-use Rattle.af_base.specs.declared.event.ServerEvent.{ServerEvent}
-use Rattle.af_base.specs.Turn.{Turn}
+use Rattle.af_enough_law.proofs.Common.{BlockTold, ClientEvent, Home, LegalRound, Marks, NormalKept, RoundSeen, Run, ServerEvent, Session, Setting, Shape, TrackKept, TrackTold, Turn, after_call, after_round, all_played, calls_in, client_list, hand_list, heard, is_home, learnt, met_after, plays, server_list, setup_of, sides_of, stream_met, takes_part, told_at, track_at, track_count, track_in}
 use Rattle.af_enough_law.proofs.Basics.{part_met}
-use Rattle.af_life.specs.declared.kept.Holder.TheVariants.{Home}
-use Rattle.af_life.specs.declared.kept.Setting.{Setting}
-use Rattle.af_life.specs.declared.kept.TrackKept.{TrackKept}
-use Rattle.af_life.specs.Heard.{learnt, heard}
-use Rattle.af_life.specs.Kept.{NormalKept, track_at, track_in, plays, is_home}
-use Rattle.af_model.specs.declared.shape.Shape.{Shape}
-use Rattle.af_model.specs.Journals.{RoundSeen}
-use Rattle.af_runs.specs.Blocks.{BlockTold, Marks, client_list, server_list, hand_list}
-use Rattle.af_runs.specs.ClientTurns.{after_call}
-use Rattle.af_runs.specs.Rounds.{LegalRound, all_played, met_after, after_round}
-use Rattle.af_runs.specs.Runs.{Run, TrackTold, told_at, sides_of, calls_in, stream_met, takes_part}
-use Rattle.af_runs.specs.Sessions.{Session, track_count, setup_of}
 use Rattle.af_enough_law.specs.Carried.{SessionCarried}
 use Rattle.af_enough_law.specs.Courses.{none_shut}
 use Rattle.af_enough_law.specs.NormalRounds.{TurnMade}

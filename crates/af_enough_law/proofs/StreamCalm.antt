@@ -1,37 +1,16 @@
 -- If no client flushes, the entries of a round leave a stream block's server calm and open.
 use Rattle.std.proofs.Common.{◌≡◌, ℕ, zero, suc, ◌+◌, ◌-◌, ◌≤◌, ◌<◌, ◌==◌, ◌&&◌, if◌then◌else◌, Bool, true, false, true≢false, Option, Some, None, List, [], ◌∷◌, ◌++◌, length, refl, sym, ap, ◌∙◌, subst, arith, append_assoc, eqb-true, is_some}
-use Rattle.std.proofs.lemmas.List.{get_or-replicate}
-use Rattle.std.specs.List.{find, range_with_len}
-use Rattle.af_base.proofs.Basics.{both_true, three}
-use Rattle.af_base.specs.declared.event.ClientEvent.{ClientEvent}
-use Rattle.af_base.specs.declared.event.ServerEvent.{ServerEvent}
+use Rattle.af_enough_law.proofs.Common.{BlockTold, ClientEvent, Cycle, CycleEntry, EntrySeen, FastState, LegalEntries, LegalEntry, Listed, LooksBy, Marks, Run, Seen, ServerEvent, Session, Shape, SlotEntry, TrackTold, absent, both_first, both_right, both_true, carries, cycle_events, cycle_frames, cycle_of, entry_slot, find, front_of, get_or-replicate, is_mixed, is_shown, kept, listed, look_events, played, range_with_len, server_kept, server_list, slot_for, slot_of, slots, state_for, state_known, state_of, still_entry, tally, three, told_at, with_cycle, with_cycles, with_poll}
 use Rattle.af_base.specs.declared.event.ServerEvent.TheVariants as server
-use Rattle.af_base.specs.declared.log.Cycle.{Cycle}
-use Rattle.af_base.specs.declared.log.CycleEntry.{CycleEntry}
-use Rattle.af_base.specs.declared.log.SlotEntry.{SlotEntry}
-use Rattle.af_base.specs.declared.seen.Seen.{Seen}
 use Rattle.af_base.specs.declared.seen.Seen.TheVariants as seen
-use Rattle.af_base.specs.declared.state.FastState.{FastState}
-use Rattle.af_base.specs.Log.{slots, absent, entry_slot}
-use Rattle.af_model.proofs.Basics.{both_first}
-use Rattle.af_model.specs.declared.shape.Shape.{Shape}
-use Rattle.af_model.specs.Cycles.{Listed, LooksBy, kept, state_of, cycle_of, is_mixed, still_entry, tally, after_look, cycle_events}
-use Rattle.af_model.specs.Journals.{EntrySeen}
-use Rattle.af_model.specs.ServerCalls.{server_kept, look_events}
-use Rattle.af_model.specs.StateQueue.{slot_of, carries}
-use Rattle.af_model.proofs.Logic.{both_right}
-use Rattle.af_runs.specs.Blocks.{BlockTold, Marks, server_list, listed}
-use Rattle.af_runs.specs.Fronts.{front_of, is_shown}
-use Rattle.af_runs.specs.Rounds.{LegalEntry, LegalEntries}
-use Rattle.af_runs.specs.Runs.{Run, TrackTold, told_at, plays, slot_for, played, state_for, with_poll, with_cycle, with_cycles}
-use Rattle.af_runs.specs.Sessions.{Session, cycle_frames}
+use Rattle.af_model.specs.Cycles.{after_look}
+use Rattle.af_runs.specs.Runs.{plays}
 use Rattle.af_enough_law.specs.FastFlows.{IsShown}
 use Rattle.af_enough_law.specs.Seen.{is_calm, are_calm}
 use Rattle.af_enough_law.proofs.Fair.{calm_drops}
 use Rattle.af_enough_law.proofs.FastFlows.{Later, cycles_later}
 use Rattle.af_enough_law.proofs.FastShows.{Setting, slot_look}
 use Rattle.af_enough_law.proofs.FastSteps.{cycle_length, cycle_track, played_server}
-use Rattle.af_runs.proofs.StatesFor.{state_known}
 
 -- ## Lists
 

@@ -1,13 +1,6 @@
 -- The calm history that a stream block has if its proxy took part in the last meeting.
 use Rattle.std.proofs.Common.{◌≡◌, ℕ, ◌≤◌, ◌<◌, true, Bool, List, [], ◌++◌, length, refl, sym, ap, ◌∙◌, subst, append-nil, append_assoc}
-use Rattle.af_base.specs.declared.event.ClientEvent.{ClientEvent}
-use Rattle.af_model.specs.declared.shape.Shape.{Shape}
-use Rattle.af_model.specs.ClientCalls.{IsClientList}
-use Rattle.af_model.specs.Journals.{RoundSeen}
-use Rattle.af_runs.specs.Blocks.{BlockTold, Marks, client_list, server_list, hand_list, is_tame, HasBlockHistory}
-use Rattle.af_runs.specs.Rounds.{LegalRound, met_after, after_round}
-use Rattle.af_runs.specs.Runs.{Run, told_at, takes_part}
-use Rattle.af_runs.specs.Sessions.{Session, track_count}
+use Rattle.af_enough_law.proofs.Common.{BlockTold, ClientEvent, HasBlockHistory, IsClientList, LegalRound, Marks, RoundSeen, Run, Session, Shape, after_round, client_list, hand_list, is_tame, met_after, server_list, takes_part, told_at, track_count}
 use Rattle.af_enough_law.specs.NormalRounds.{TurnMade}
 use Rattle.af_enough_law.specs.Seen.{are_calm, are_hands_calm}
 use Rattle.af_enough_law.proofs.Foreseen.{KeepsTo, keeps_to}

@@ -1,15 +1,7 @@
 -- A round takes all commands of a track on its course that were sent before it.
 use Rattle.std.proofs.Common.{◌≡◌, ℕ, ◌≤◌, Bool, true, false, ◌++◌, length, length-append, take, sym, ap, ◌∙◌, subst, arith}
+use Rattle.af_enough_law.proofs.Common.{BlockTold, IsSpelled, LegalRound, Marks, RoundSeen, Run, Session, TrackTold, after_round, client_list, flushes_of, is_tame, met_after, server_list, setup_of, told_at, track_at, track_in, words_taken}
 use Rattle.af_enough_law.proofs.Basics.{course_long}
-use Rattle.af_life.specs.Kept.{track_at, track_in}
-use Rattle.af_life.specs.Looks.{words_taken}
-use Rattle.af_model.specs.History.{flushes_of}
-use Rattle.af_model.specs.Journals.{RoundSeen}
-use Rattle.af_judge.specs.Tracks.{IsSpelled}
-use Rattle.af_runs.specs.Blocks.{BlockTold, Marks, client_list, server_list, is_tame}
-use Rattle.af_runs.specs.Rounds.{LegalRound, met_after, after_round}
-use Rattle.af_runs.specs.Runs.{Run, TrackTold, told_at}
-use Rattle.af_runs.specs.Sessions.{Session, setup_of}
 use Rattle.af_enough_law.specs.CommandRounds.{CommandsTaken}
 use Rattle.af_enough_law.specs.Courses.{is_ended}
 use Rattle.af_enough_law.specs.FastFlows.{KnowsReleased}

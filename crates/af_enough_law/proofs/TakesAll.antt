@@ -1,19 +1,9 @@
 -- A turn takes all commands that were sent before its round.
 use Rattle.std.proofs.Common.{◌≡◌, ℕ, ◌≤◌, ◌<◌, Bool, true, false, List, [], ◌∷◌, ◌++◌, length, sym, ap, ◌∙◌, subst, arith, length-append}
-use Rattle.af_base.specs.declared.event.ClientEvent.{ClientEvent}
+use Rattle.af_enough_law.proofs.Common.{BlockTold, ClientEvent, IsSpelled, LegalRound, Marks, RoundSeen, Run, ServerEvent, Session, after_round, client_list, flushes_of, is_tame, met_after, server_list, setup_of, told_at, track_at, track_in, words_taken}
 use Rattle.af_base.specs.declared.event.ClientEvent.TheVariants as client
-use Rattle.af_base.specs.declared.event.ServerEvent.{ServerEvent}
 use Rattle.af_base.specs.declared.event.ServerEvent.TheVariants as server
 use Rattle.af_enough_law.proofs.Basics.{course_long}
-use Rattle.af_life.specs.Kept.{track_at, track_in}
-use Rattle.af_life.specs.Looks.{words_taken}
-use Rattle.af_model.specs.History.{flushes_of}
-use Rattle.af_model.specs.Journals.{RoundSeen}
-use Rattle.af_runs.specs.Blocks.{BlockTold, Marks, client_list, server_list, is_tame}
-use Rattle.af_runs.specs.Rounds.{LegalRound, met_after, after_round}
-use Rattle.af_runs.specs.Runs.{Run, told_at}
-use Rattle.af_runs.specs.Sessions.{Session, setup_of}
-use Rattle.af_judge.specs.Tracks.{IsSpelled}
 use Rattle.af_enough_law.specs.CommandRounds.{CommandsTaken}
 use Rattle.af_enough_law.specs.FastFlows.{KnowsReleased}
 use Rattle.af_enough_law.specs.NormalRounds.{TurnMade}

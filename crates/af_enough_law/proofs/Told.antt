@@ -1,23 +1,9 @@
 -- A track takes the words that a turn's looks take.
 use Rattle.std.proofs.Common.{◌⊎◌, inl, inr, ◌*◌, ◌≡◌, ℕ, zero, suc, ◌+◌, ◌==◌, ◌&&◌, ◌||◌, not, nat_lt, Bool, true, false, List, [], ◌∷◌, ◌++◌, length, refl, sym, ap, ◌∙◌, subst, arith, Option, Some, None, is_some, if◌then◌else◌, ◌≤◌}
-use Rattle.std.specs.List.{list_any}
-use Rattle.af_base.proofs.Basics.{both, by_false, no, or_nothing}
-use Rattle.af_base.specs.declared.report.SlotReport.{SlotReport}
-use Rattle.af_base.specs.declared.turn.CommandLook.{CommandLook}
-use Rattle.af_base.specs.Turn.{TrackSeen}
-use Rattle.af_life.specs.declared.kept.Heard.{Heard}
-use Rattle.af_life.specs.declared.kept.TrackKept.{TrackKept}
-use Rattle.af_life.specs.declared.track.Life.{Life}
-use Rattle.af_life.specs.Commands.{by_command, starts}
-use Rattle.af_life.specs.Heard.{heard, ready, noted, slot_reported, settled_at, is_reached}
-use Rattle.af_life.specs.Kept.{Learnt}
-use Rattle.af_life.specs.Looks.{words_taken}
-use Rattle.af_life.specs.Obeys.{opens, told, must_wait, obeyed, ended, shows_command, is_shut, after_look, goes_on, after_looks, commanded, are_due}
-use Rattle.af_life.specs.Serves.{most_looks, is_found_shut, after_part, IsServed, HasDueLooks, status_word}
-use Rattle.af_life.specs.Reports.{by_report, told_by_report}
+use Rattle.af_enough_law.proofs.Common.{CommandLook, HasDueLooks, Heard, IsServed, Learnt, Life, SlotReport, TrackKept, TrackSeen, after_look, after_looks, after_part, are_due, both, by_command, by_false, by_report, ended, goes_on, heard, is_found_shut, is_reached, is_shut, list_any, most_looks, must_wait, no, not_true, noted, obeyed, opens, or_nothing, ready, settled_at, shows_command, slot_reported, starts, status_word, told, words_taken}
+use Rattle.af_life.specs.Obeys.{commanded}
 use Rattle.af_enough_law.specs.Courses.{told_all, starts_at_once, none_shut, is_ended, reported_by}
 use Rattle.af_enough_law.specs.TrackTurns.{attended}
-use Rattle.af_model.proofs.Basics.{not_true}
 
 -- a START without a flush count doesn't wait
 no_wait : (flush_seen code argument : ℕ) (life : Life) → not ((code == 2) && not (argument == 0)) ≡ true → must_wait flush_seen code argument life ≡ false
@@ -154,15 +140,3 @@ served_ends given k i seen s idle open_is fine served =
     let r : TrackKept = noted (slot_reported k s) s in
     let still : r.awaits ≡ None = noted_idle (slot_reported k s) s idle in
     due_ends given (heard k i s).flush_seen most_looks seen.looks r still open_is fine (idle_due given (heard k i s).flush_seen seen.looks r still (subst (HasDueLooks given (heard k i s).flush_seen seen.looks) (ready_idle k i s idle) served.looks))
-
--- The track is disabled if the report says so of the life that took those words
-pub disabled_told : (given : Option ℕ) (k : Learnt) (i : ℕ) (seen : TrackSeen) (s : TrackKept) → s.awaits ≡ None → none_shut seen.looks ≡ true → starts_at_once (words_taken seen.looks) ≡ true
-    → IsServed given (heard k i s) seen (ready k i s) → seen.disabled ≡ told_by_report (heard k i s).known (told_all given (words_taken seen.looks) (noted (slot_reported k s) s)).life
-disabled_told given k i seen s idle open_is fine served =
-    let h : Heard = heard k i s in
-    let r : TrackKept = noted (slot_reported k s) s in
-    let still : r.awaits ≡ None = noted_idle (slot_reported k s) s idle in
-    let ready_is : ready k i s ≡ r = ready_idle k i s idle in
-    let due : are_due most_looks given h.flush_seen seen.looks r ≡ true = idle_due given h.flush_seen seen.looks r still (subst (HasDueLooks given h.flush_seen seen.looks) ready_is served.looks) in
-    let told_is : commanded given h.flush_seen seen.looks r ≡ told_all given (words_taken seen.looks) r = ap (λ (o : Option ℕ). if is_some o then r else after_looks given h.flush_seen seen.looks r) still ∙ looks_told given h.flush_seen most_looks seen.looks r still open_is fine due in
-    served.disabled ∙ ap (λ (t : TrackKept). told_by_report h.known (commanded given h.flush_seen seen.looks t).life) ready_is ∙ ap (λ (t : TrackKept). told_by_report h.known t.life) told_is

@@ -1,8 +1,6 @@
 -- What makes each track have two retries, and that a round of the middle keeps it.
 use Rattle.std.proofs.Common.{◌≡◌, ◌⊎◌, ℕ, ◌≤◌, ◌<◌, true, false, true≢false, Some, None, length, sym, ◌∙◌, arith}
-use Rattle.af_life.specs.Kept.{track_at}
-use Rattle.af_runs.specs.Runs.{Run, told_at, sides_of}
-use Rattle.af_runs.specs.Sessions.{Session, track_count}
+use Rattle.af_enough_law.proofs.Common.{Run, Session, sides_of, told_at, track_at, track_count}
 use Rattle.af_enough_law.specs.Nearing.{IsPast}
 use Rattle.af_enough_law.proofs.HomeKept.{HomeAble, home_three}
 use Rattle.af_enough_law.proofs.HomeStill.{HasNone}

@@ -1,12 +1,6 @@
 -- What is carried of a track that plays through from round to round, and that a round keeps it in which the proxy of its stream takes part in the meeting.
 use Rattle.std.proofs.Common.{◌≡◌, ℕ, ◌≤◌, Bool, true, false, List, refl}
-use Rattle.af_base.specs.declared.event.ServerEvent.{ServerEvent}
-use Rattle.af_life.specs.Kept.{track_at, track_in}
-use Rattle.af_model.specs.Journals.{RoundSeen}
-use Rattle.af_runs.specs.Blocks.{Marks, server_list}
-use Rattle.af_runs.specs.Rounds.{LegalRound, met_after, after_round}
-use Rattle.af_runs.specs.Runs.{Run, told_at, sides_of, calls_in, takes_part}
-use Rattle.af_runs.specs.Sessions.{Session, setup_of}
+use Rattle.af_enough_law.proofs.Common.{LegalRound, Marks, RoundSeen, Run, ServerEvent, Session, after_round, calls_in, met_after, server_list, setup_of, sides_of, takes_part, told_at, track_at, track_in}
 use Rattle.af_enough_law.specs.NormalRounds.{TurnMade}
 use Rattle.af_enough_law.specs.Playing.{AreFair}
 use Rattle.af_enough_law.specs.Seen.{frames_taken}

@@ -1,19 +1,7 @@
 -- What is carried of a track makes each round bring it nearer to its end: without a slot if the round takes what it may, and else always.
 use Rattle.std.proofs.Common.{◌≡◌, ◌⊎◌, inl, inr, ℕ, ◌≤◌, ◌<◌, ◌&&◌, not, is_some, Bool, true, false, true≢false, All, None, length, refl, sym, ap, ◌∙◌, arith}
-use Rattle.af_base.proofs.Basics.{is_within, not_zero}
+use Rattle.af_enough_law.proofs.Common.{LegalRound, Life, Marks, NormalKept, RoundSeen, Run, Session, Setting, after_round, ends_part, is_home, is_lent, is_mixed_here, is_within, learnt, met_after, not_zero, plays, server_list, setting_of, setup_of, spec_of, takes_part, told_at, track_at, track_count, turn_after}
 use Rattle.af_enough_law.proofs.Basics.{stays_home}
-use Rattle.af_judge.proofs.Basics.{ends_part}
-use Rattle.af_life.specs.declared.kept.Setting.{Setting}
-use Rattle.af_life.specs.declared.track.Life.{Life}
-use Rattle.af_life.specs.Heard.{learnt}
-use Rattle.af_life.specs.Plays.{is_mixed_here}
-use Rattle.af_life.specs.Turn.{turn_after}
-use Rattle.af_life.specs.Kept.{NormalKept, track_at, is_home, is_lent, setting_of, plays}
-use Rattle.af_model.specs.Journals.{RoundSeen}
-use Rattle.af_runs.specs.Blocks.{Marks, server_list}
-use Rattle.af_runs.specs.Rounds.{LegalRound, met_after, after_round}
-use Rattle.af_runs.specs.Runs.{Run, told_at, takes_part}
-use Rattle.af_runs.specs.Sessions.{Session, track_count, setup_of, spec_of}
 use Rattle.af_enough_law.specs.Carried.{SessionCarried}
 use Rattle.af_enough_law.specs.Courses.{Course, stage}
 use Rattle.af_enough_law.specs.Ends.{IsInOrder}

@@ -1,23 +1,7 @@
 -- A client's turn in a legal round is fair, and leaves it on its way, if what it did to the stream block stands in a calm history of this round or of a later one.
 use Rattle.std.proofs.Common.{◌≡◌, ℕ, ◌+◌, ◌≤◌, ◌<◌, Bool, true, false, true≢false, MatchBool, List, [], ◌∷◌, ◌++◌, length, fold, refl, sym, ap, ◌∙◌, subst, arith, ◌==◌}
-use Rattle.af_base.specs.declared.event.ClientCall.{ClientCall}
-use Rattle.af_base.specs.declared.event.ClientEvent.{ClientEvent}
+use Rattle.af_enough_law.proofs.Common.{AreCalls, Client, ClientCall, ClientEvent, LegalRound, Marks, Mode, Op, RoundSeen, Run, ServerEvent, Session, Shape, Track, TrackTold, Want, after_call, after_calls, after_round, begins_ended, begun, calls_in, client_kept, client_list, hand_list, server_list, shapes_called, sides_of, told_at, track_count}
 use Rattle.af_base.specs.declared.event.ClientEvent.TheVariants as client
-use Rattle.af_base.specs.declared.event.ServerEvent.{ServerEvent}
-use Rattle.af_judge.proofs.Basics.{begins_ended}
-use Rattle.af_model.specs.declared.shape.Shape.{Shape}
-use Rattle.af_model.specs.ClientCalls.{client_kept}
-use Rattle.af_model.specs.Journals.{RoundSeen}
-use Rattle.af_script.specs.declared.op.Op.{Op}
-use Rattle.af_runs.specs.Blocks.{Marks, client_list, server_list, hand_list}
-use Rattle.af_runs.specs.Clients.{Client, begun}
-use Rattle.af_runs.specs.ClientTurns.{Track, AreCalls, after_call, after_calls}
-use Rattle.af_runs.specs.declared.want.Mode.{Mode}
-use Rattle.af_runs.specs.declared.want.Want.{Want}
-use Rattle.af_runs.specs.Rounds.{LegalRound, after_round}
-use Rattle.af_runs.specs.Runs.{Run, TrackTold, told_at, sides_of, calls_in}
-use Rattle.af_runs.specs.Sessions.{Session, track_count}
-use Rattle.af_judge.proofs.TracksTold.{shapes_called}
 use Rattle.af_enough_law.specs.NormalRounds.{TurnMade}
 use Rattle.af_enough_law.specs.Playing.{AreFair, AllSeeFrom, position}
 use Rattle.af_enough_law.specs.Seen.{frames_taken}

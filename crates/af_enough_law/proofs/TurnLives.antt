@@ -1,17 +1,7 @@
 -- The life that a turn leaves of a track that lived: that of its commands and its report.
 use Rattle.std.proofs.Common.{◌≡◌, ◌⊎◌, ℕ, ◌≤◌, ◌<◌, if◌then◌else◌, Bool, true, false, true≢false, Option, length, refl, sym, ap, ◌∙◌, subst, arith}
-use Rattle.af_base.specs.Turn.{Turn}
-use Rattle.af_judge.proofs.Basics.{report_ends}
-use Rattle.af_life.proofs.Basics.{ready_life}
-use Rattle.af_life.specs.declared.kept.TrackKept.{TrackKept}
-use Rattle.af_life.specs.declared.track.Life.{Life}
-use Rattle.af_life.specs.Heard.{learnt, heard, ready}
-use Rattle.af_life.specs.Kept.{Setup, NormalKept, Outside, Learnt, track_at, track_in, nothing_seen, plays}
-use Rattle.af_life.specs.Looks.{words_taken}
+use Rattle.af_enough_law.proofs.Common.{GoesOn, IsServed, Learnt, Life, NormalKept, Outside, Setup, TrackKept, Turn, after_part, by_report, heard, learnt, nothing_seen, plays, ready, ready_life, report_ends, track_at, track_in, turn_after, words_taken}
 use Rattle.af_life.specs.Obeys.{commanded}
-use Rattle.af_life.specs.Reports.{by_report}
-use Rattle.af_life.specs.Serves.{IsServed, after_part}
-use Rattle.af_life.specs.Turn.{GoesOn, turn_after}
 use Rattle.af_enough_law.specs.TrackTurns.{attended, TrackTurned}
 use Rattle.af_enough_law.proofs.Able.{commanded_keeps}
 use Rattle.af_enough_law.proofs.Following.{greeted_in, greeted_alike, edited_alike, legal_greeted, by_true}

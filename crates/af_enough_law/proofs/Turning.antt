@@ -1,20 +1,10 @@
 -- A turn of a client whose ops play through.
 use Rattle.std.proofs.Common.{◌≡◌, ◌⊎◌, inl, inr, ℕ, ◌+◌, ◌-◌, ◌≤◌, ◌==◌, ◌||◌, Bool, true, false, List, [], ◌∷◌, ◌++◌, length, fold, refl, sym, ap, ◌∙◌, subst, arith, true≢false, Option, Some, None, if◌then◌else◌}
-use Rattle.std.proofs.lemmas.List.{append-nil}
-use Rattle.std.proofs.lemmas.Grind.{fold-append}
-use Rattle.af_base.proofs.Basics.{some_same}
-use Rattle.af_base.specs.declared.event.ClientCall.{ClientCall}
+use Rattle.af_enough_law.proofs.Common.{AreCalls, Client, ClientCall, ClientEvent, IsMade, Mode, Op, Side, Track, Want, after_answer, after_call, append-nil, asked_first, at_next_turn, begins, begins_ended, begun, client_begins, client_keeps, client_kept, commands_sent, fold-append, next_want, rest_of, rested, some_same, wanted_of, wants_of, with_call}
 use Rattle.af_base.specs.declared.event.ClientCall.TheVariants as call
-use Rattle.af_base.specs.declared.event.ClientEvent.{ClientEvent}
-use Rattle.af_judge.proofs.Basics.{begins_ended}
-use Rattle.af_model.specs.ClientCalls.{client_keeps, client_begins, client_kept}
-use Rattle.af_script.specs.declared.op.Op.{Op}
-use Rattle.af_runs.specs.declared.want.Mode.{Mode}
-use Rattle.af_runs.specs.declared.want.Want.{Want}
-use Rattle.af_runs.specs.Clients.{Client, begins, begun, wants_of, next_want, asked_first, rest_of, rested, after_answer, at_next_turn}
-use Rattle.af_runs.specs.ClientTurns.{Side, Track, IsMade, with_call, commands_sent, wanted_of, after_call, AreCalls}
 use Rattle.af_enough_law.specs.Playing.{Doing, opening, starting, settling, setting, writing, clearing, clearing_more, stopping, draining, removing, IsFair, AreFair, position}
 use Rattle.af_enough_law.proofs.Doing.{at, waiting_at, ops_count, frames_count, codes_sent, codes_of, all_codes, After, goes, waits, over, put_of, sent_of, step}
+use Rattle.af_enough_law.proofs.PlainClients.{answered_by}
 
 -- ## Positions
 
@@ -26,33 +16,21 @@ kept_more b events = ap (λ k. k.position) (fold-append (client_keeps b.shape.fr
 pub position_after : (t : Track) (answer : ClientCall) → IsFair answer → position (after_call t answer).stream ≡ position t.stream + put_of answer
 position_after t (call.Put front count) fair = kept_more t.stream _
 position_after t (call.Full front) fair = kept_more t.stream _ ∙ omega arith
-position_after t (call.Dead flags) fair = absurd fair
-position_after t (call.Corrupt front rear) fair = absurd fair
 position_after t (call.Cleared flags) fair = kept_more t.stream _ ∙ omega arith
-position_after t (call.Flush count) fair = absurd fair
 position_after t (call.Gain word) fair = kept_more t.stream _ ∙ omega arith
 position_after t (call.Sent front code argument) fair = omega arith
-position_after t (call.SendFull front) fair = absurd fair
-position_after t (call.SendDead flags) fair = absurd fair
-position_after t (call.SendCorrupt front rear) fair = absurd fair
 position_after t (call.Status word) fair = omega arith
-position_after t (call.Poke in_command word value) fair = absurd fair
+position_after t _ fair = absurd fair
 
 -- a fair call leaves the block's sizes
 pub shape_after : (t : Track) (answer : ClientCall) → IsFair answer → (after_call t answer).stream.shape ≡ t.stream.shape
 shape_after t (call.Put front count) fair = refl
 shape_after t (call.Full front) fair = refl
-shape_after t (call.Dead flags) fair = absurd fair
-shape_after t (call.Corrupt front rear) fair = absurd fair
 shape_after t (call.Cleared flags) fair = refl
-shape_after t (call.Flush count) fair = absurd fair
 shape_after t (call.Gain word) fair = refl
 shape_after t (call.Sent front code argument) fair = refl
-shape_after t (call.SendFull front) fair = absurd fair
-shape_after t (call.SendDead flags) fair = absurd fair
-shape_after t (call.SendCorrupt front rear) fair = absurd fair
 shape_after t (call.Status word) fair = refl
-shape_after t (call.Poke in_command word value) fair = absurd fair
+shape_after t _ fair = absurd fair
 
 -- ## The call that is wanted
 
@@ -68,9 +46,6 @@ wanted_first _ _ _ (clearing_more count ops some way) = (_, _, refl, refl)
 wanted_first _ _ _ stopping = (_, _, refl, refl)
 wanted_first _ _ _ draining = (_, _, refl, refl)
 wanted_first _ _ _ removing = (_, _, refl, refl)
-
-answered_by : (t : Track) (answer : ClientCall) (o : Option Want) → Client
-answered_by t answer o = elim o as (λ o. Client) [ None ↦ t.client | Some wanted ↦ after_answer (commands_sent (with_call t answer)) wanted (rest_of (begun t.client).due) (begun t.client) answer ]
 
 -- the client after a call that it wanted
 pub client_after : (t : Track) (due : List Want) (ops : List Op) (m : Mode) (w : Want) (answer : ClientCall) → begun t.client ≡ at due ops m → wanted_of t ≡ Some w
@@ -100,17 +75,11 @@ words_more xs ys is more = more ∙ ap (λ z. z ++ words_of ys) is ∙ sym (word
 pub spoken_after : (t : Track) (answer : ClientCall) → IsFair answer → (after_call t answer).commands.released ≡ t.commands.released ++ words_of (sent_of answer)
 spoken_after t (call.Put front count) fair = sym (append-nil t.commands.released)
 spoken_after t (call.Full front) fair = sym (append-nil t.commands.released)
-spoken_after t (call.Dead flags) fair = absurd fair
-spoken_after t (call.Corrupt front rear) fair = absurd fair
 spoken_after t (call.Cleared flags) fair = sym (append-nil t.commands.released)
-spoken_after t (call.Flush count) fair = absurd fair
 spoken_after t (call.Gain word) fair = sym (append-nil t.commands.released)
 spoken_after t (call.Sent front code argument) fair = refl
-spoken_after t (call.SendFull front) fair = absurd fair
-spoken_after t (call.SendDead flags) fair = absurd fair
-spoken_after t (call.SendCorrupt front rear) fair = absurd fair
 spoken_after t (call.Status word) fair = refl
-spoken_after t (call.Poke in_command word value) fair = absurd fair
+spoken_after t _ fair = absurd fair
 
 -- a client does this, has at most so many ops left, and its frames left and its position make this sum
 pub record Left (t : Track) (due : List Want) (ops : List Op) (m : Mode) (most total : ℕ) : Type 0 where
@@ -152,12 +121,6 @@ call_made t due ops m most total wanted answer is l wants made fair =
     client_after t (w ∷ rest) ops m w answer (is ∙ ap (λ (d : List Want). at d ops m) first.2) (wants ∙ ap (λ (x : Want). Some x) same) in
     came_after t due ops m most total (put_of answer) (sent_of answer) (after_call t answer) l (position_after t answer fair) (spoken_after t answer fair)
     (subst (λ (d : List Want). After d ops m (put_of answer) (sent_of answer) (after_call t answer).client) (sym first.2) (subst (λ (c : Client). After (w ∷ rest) ops m (put_of answer) (sent_of answer) c) (sym client) now))
-
--- what begins an op keeps of a client
-pub begins_waiting : (c : Client) (wants : List Want) (ops : List Op) → (begins c wants ops).waiting ≡ c.waiting
-begins_waiting c (w ∷ wants) ops = refl
-begins_waiting c [] [] = refl
-begins_waiting c [] (o ∷ ops) = begins_waiting c (wants_of c.mode o) ops
 
 pub begins_rested : (c : Client) (b : Bool) (wants : List Want) (ops : List Op) → begins (record c { waiting = b }) wants ops ≡ record (begins c wants ops) { waiting = b }
 begins_rested c b (w ∷ wants) ops = refl

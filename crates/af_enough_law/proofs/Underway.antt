@@ -1,24 +1,7 @@
 -- Until the Exit is ordered both mixers go on: it holds before the first round, and after each legal round that leaves no Exit in the draft; and none is ordered before all is over.
 use Rattle.std.proofs.Common.{◌≡◌, ◌⊎◌, inl, inr, ℕ, zero, suc, ◌+◌, ◌<◌, ◌≤◌, ◌==◌, ◌&&◌, ◌||◌, not, if◌then◌else◌, Bool, true, false, true≢false, All, List, [], ◌∷◌, length, refl, sym, ap, ◌∙◌, subst, arith, eqb-true}
-use Rattle.std.proofs.lemmas.List.{length-replicate}
-use Rattle.af_base.proofs.Basics.{and_none}
-use Rattle.af_base.specs.Command.{code_of}
-use Rattle.af_base.specs.declared.state.Command.TheVariants.{ColdIdle, Exit, MixWrite}
-use Rattle.af_enough_law.proofs.Basics.{none_exit, not_over}
-use Rattle.af_life.specs.declared.kept.Setting.{Setting}
-use Rattle.af_life.specs.declared.kept.TrackKept.{TrackKept}
-use Rattle.af_life.specs.Edits.{is_exit, is_over, next_command}
-use Rattle.af_life.specs.Heard.{learnt}
-use Rattle.af_life.specs.Kept.{NormalKept, pipe_size, track_at, new_track, is_home}
-use Rattle.af_life.specs.Turn.{turn_after}
-use Rattle.af_life.proofs.Lives.{turn_len}
-use Rattle.af_judge.proofs.DraftBits.{initial_none}
-use Rattle.af_judge.proofs.SoundTurns.{sound_new}
-use Rattle.af_model.specs.Journals.{RoundSeen}
-use Rattle.af_runs.specs.Blocks.{Marks}
-use Rattle.af_runs.specs.Rounds.{LegalRound, after_round}
-use Rattle.af_runs.specs.Runs.{Run, new_run}
-use Rattle.af_runs.specs.Sessions.{Session, setup_of, cycle_frames}
+use Rattle.af_enough_law.proofs.Common.{ColdIdle, Exit, LegalRound, Marks, MixWrite, NormalKept, RoundSeen, Run, Session, Setting, TrackKept, after_round, and_none, code_of, cycle_frames, initial_none, is_exit, is_home, is_over, learnt, length-replicate, new_run, new_track, next_command, pipe_size, setup_of, sound_new, track_at, turn_after, turn_len}
+use Rattle.af_enough_law.proofs.Basics.{none_exit}
 use Rattle.af_enough_law.specs.Drafts.{is_busy, PushMade}
 use Rattle.af_enough_law.specs.EndPhases.{NoExits}
 use Rattle.af_enough_law.specs.NormalRounds.{TurnMade}
@@ -200,11 +183,3 @@ module _ (s : Session) (marks : Marks) (scales : All (λ (x : Setting). x.scale 
   -- a round that leaves a life that hasn't ended orders no Exit
   pub underway_alive : (i : ℕ) → i < length after.normal.tracks → (track_at after.normal.tracks i).life.ended ≡ false → Underway s after
   underway_alive i lt alive = underway_round (unordered (ap (λ (b : Bool). b && (t.turn.room == pipe_size (setup_of s))) (alive_over after.normal.tracks i lt alive)))
-
-  -- a round that leaves a proxy that isn't home orders no Exit
-  pub underway_away : (i : ℕ) → i < length after.normal.tracks → is_home (track_at after.normal.tracks i).holder ≡ false → Underway s after
-  underway_away i lt away = underway_round (unordered (ap (λ (b : Bool). b && (t.turn.room == pipe_size (setup_of s))) (not_over after.normal.tracks i lt away)))
-
-  -- a round whose turn doesn't see the whole room orders no Exit
-  pub underway_room : (t.turn.room == pipe_size (setup_of s)) ≡ false → Underway s after
-  underway_room off = underway_round (unordered (and_none (is_over after.normal.tracks) (t.turn.room == pipe_size (setup_of s)) off))

@@ -1,20 +1,8 @@
 -- A turn that leaves no track to be heard puts nothing into the pipe.
 use Rattle.std.proofs.Common.{◌≡◌, ℕ, zero, suc, ◌||◌, not, nat_le, Bool, true, false, List, [], ◌∷◌, length, map, filter, is_some, if◌then◌else◌, refl, sym, ap, ◌∙◌, arith}
-use Rattle.std.specs.List.{range_with_len, list_any}
-use Rattle.af_base.proofs.Basics.{and_none, neither}
-use Rattle.af_base.specs.Turn.{Turn, TakeSeen}
-use Rattle.af_life.specs.declared.kept.TrackKept.{TrackKept}
-use Rattle.af_life.specs.Heard.{learnt}
-use Rattle.af_life.specs.Kept.{Setup, asked as buffer, NormalKept, Learnt, track_at, plays}
-use Rattle.af_life.specs.Plays.{is_mixed_here, mixed_here, tracks_due, put_by}
-use Rattle.af_life.specs.Turn.{after_edits, turn_after}
+use Rattle.af_enough_law.proofs.Common.{Learnt, Marks, NormalKept, RoundSeen, Run, Session, Setup, TakeSeen, TrackKept, Turn, after_edits, after_round, and_none, asked as buffer, is_mixed_here, learnt, list_any, mixed_here, neither, plays, put_by, range_with_len, setup_of, track_at, tracks_due, turn_after}
 use Rattle.af_judge.proofs.NormalKept.{goes_on_so}
 use Rattle.af_judge.proofs.TurnEdits.{due_after}
-use Rattle.af_model.specs.Journals.{RoundSeen}
-use Rattle.af_runs.specs.Blocks.{Marks}
-use Rattle.af_runs.specs.Rounds.{after_round}
-use Rattle.af_runs.specs.Runs.{Run}
-use Rattle.af_runs.specs.Sessions.{Session, setup_of}
 use Rattle.af_enough_law.specs.Ends.{AllOver}
 use Rattle.af_enough_law.specs.NormalRounds.{TurnMade}
 use Rattle.af_enough_law.specs.PipeFlows.{put_in}

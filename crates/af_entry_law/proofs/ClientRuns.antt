@@ -1,18 +1,10 @@
 -- The words that the clients of a run release on their stream blocks follow from their calls alone.
 use Rattle.std.proofs.Common.{◌≡◌, ℕ, zero, suc, ◌+◌, Bool, true, false, if◌then◌else◌, fold, List, [], ◌∷◌, ◌++◌, length, map, take, drop, append-nil, Option, Some, None, slice_get, refl, ap, ◌∙◌, arith}
-use Rattle.std.proofs.lemmas.Option.{none-some, same_Some}
+use Rattle.af_entry_law.proofs.Common.{EntrySeen, FastState, RoundSeen, Run, Session, TrackTold, Turn, TurnFound, after_round, after_turn, before_turn, called, calls_in, cycle_frames, each_from, each_track, early_of, ends, found_in, late_of, loaded, meets, met, mixed_track, none-some, outside_of, played, same_Some, setup_of, side_of, state_for, stream_met, takes_part, track_met, turned, turned_track, with_calls, with_cycle, with_cycles, with_ends, with_load, with_mix, with_poll, with_turn}
 use Rattle.af_base.specs.declared.event.ClientCall.{ClientCall}
 use Rattle.af_base.specs.declared.event.ClientCall.TheVariants as call
-use Rattle.af_base.specs.declared.state.FastState.{FastState}
-use Rattle.af_base.specs.Turn.{Turn}
-use Rattle.af_model.specs.Journals.{EntrySeen, RoundSeen}
-use Rattle.af_runs.specs.Blocks.{meets}
-use Rattle.af_runs.specs.Clients.{ends}
 use Rattle.af_runs.specs.ClientTurns.{Track, after_call, after_calls}
-use Rattle.af_runs.specs.Found.{TurnFound, outside_of}
-use Rattle.af_runs.specs.Rounds.{after_round, after_turn, before_turn, early_of, found_in, late_of, loaded, turned}
-use Rattle.af_runs.specs.Runs.{Run, TrackTold, called, calls_in, each_from, each_track, side_of, met, mixed_track, played, slot_for, state_for, stream_met, takes_part, track_met, turned_track, with_calls, with_cycle, with_cycles, with_ends, with_load, with_mix, with_poll, with_turn}
-use Rattle.af_runs.specs.Sessions.{Session, cycle_frames, setup_of}
+use Rattle.af_runs.specs.Runs.{slot_for}
 
 -- ## A client's calls
 

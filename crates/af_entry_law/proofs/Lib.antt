@@ -1,3 +1,4 @@
+pub mod Common
 pub mod ToldLists
 pub mod SameCommands
 pub mod SameReports

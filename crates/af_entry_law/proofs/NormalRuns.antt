@@ -1,18 +1,6 @@
 -- The normal mixer of a run that a journal tells, and the states that it pushed, follow a mixer whose turns the journal has.
 use Rattle.std.proofs.Common.{◌≡◌, Bool, true, false, if◌then◌else◌, MatchBool, List, [], ◌∷◌, ◌++◌, Option, Some, None, refl, sym, ap, subst, ◌∙◌}
-use Rattle.std.specs.Prelude.{MatchOption}
-use Rattle.af_base.specs.declared.state.FastState.{FastState}
-use Rattle.af_base.specs.Turn.{Turn}
-use Rattle.af_life.specs.Heard.{learnt}
-use Rattle.af_life.specs.Kept.{Learnt, NormalKept, Outside, Setup}
-use Rattle.af_life.specs.Turn.{LegalTurn, after_edits, turn_after}
-use Rattle.af_model.specs.Journals.{EntrySeen, RoundSeen}
-use Rattle.af_runs.specs.Blocks.{Marks}
-use Rattle.af_runs.specs.Clients.{ends}
-use Rattle.af_runs.specs.Found.{LegalTurnBy, TurnFound, outside_of}
-use Rattle.af_runs.specs.Rounds.{LegalNormalTurn, after_round, after_turn, before_turn, early_of, found_in, late_of, loaded, turned}
-use Rattle.af_runs.specs.Runs.{Run, draft_after, each_track, met, pushed_by, with_calls, with_cycle, with_cycles, with_ends, with_load, with_mix, with_poll, with_turn}
-use Rattle.af_runs.specs.Sessions.{Session, setup_of}
+use Rattle.af_entry_law.proofs.Common.{EntrySeen, FastState, Learnt, LegalNormalTurn, LegalTurn, LegalTurnBy, Marks, MatchOption, NormalKept, Outside, RoundSeen, Run, Session, Setup, Turn, TurnFound, after_edits, after_round, after_turn, before_turn, draft_after, each_track, early_of, ends, found_in, late_of, learnt, loaded, met, outside_of, pushed_by, setup_of, turn_after, turned, with_calls, with_cycle, with_cycles, with_ends, with_load, with_mix, with_poll, with_turn}
 use Rattle.af_runs.specs.Told.{is_pushed}
 use Rattle.af_entry_law.specs.Told.{mixer_told}
 use Rattle.af_entry_law.proofs.SameTurns.{turns_same}

@@ -1,14 +1,9 @@
 -- What the looks at its command block make of a track, by what entries tell.
 use Rattle.std.proofs.Common.{◌≡◌, ◌⊎◌, ℕ, zero, suc, ◌+◌, ◌%◌, ◌==◌, ◌&&◌, ◌||◌, not, Bool, true, false, if◌then◌else◌, is_some, inl, inr, List, [], ◌∷◌, length, Option, Some, eqb-true, refl, sym, ap, subst, ◌∙◌, arith}
-use Rattle.std.specs.List.{AllByRecursion, list_any}
-use Rattle.af_base.proofs.Basics.{no}
+use Rattle.af_entry_law.proofs.Common.{AllByRecursion, CommandLook, Life, TrackKept, after_look, after_looks, are_due, ended, goes_on, is_shut, list_any, must_wait, no, obeyed, opens, shows_command, told}
 use Rattle.af_base.specs.declared.seen.Seen.TheVariants as seen
-use Rattle.af_base.specs.declared.turn.CommandLook.{CommandLook}
-use Rattle.af_life.specs.declared.kept.TrackKept.{TrackKept}
-use Rattle.af_life.specs.declared.track.Life.{Life}
 use Rattle.af_life.specs.State.{is_among}
 use Rattle.af_life.specs.Commands.{Row, applies, by_command, commands, first_effect}
-use Rattle.af_life.specs.Obeys.{after_look, after_looks, are_due, ended, goes_on, is_shut, must_wait, obeyed, opens, shows_command, told}
 use Rattle.af_entry_law.specs.Told.{life_told, track_told}
 use Rattle.af_runs.proofs.Basics.{shut_shows}
 

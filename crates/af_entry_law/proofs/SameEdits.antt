@@ -1,20 +1,14 @@
 -- What a turn makes of the draft and the tracks once they were served, by what entries tell.
 use Rattle.std.proofs.Common.{◌≡◌, ℕ, zero, suc, ◌+◌, ◌==◌, ◌&&◌, ◌||◌, not, Bool, true, false, if◌then◌else◌, List, [], ◌∷◌, length, map, fold, refl, sym, ap, ◌∙◌}
-use Rattle.std.specs.Prelude.{slice_set}
+use Rattle.af_entry_law.proofs.Common.{FastState, Learnt, NormalKept, Setup, TakeSeen, TrackKept, after_ack, after_push, after_take, after_takes, asked, comes_home, edited, edited_to, entered, is_exit, is_home, lend, lent_by, let_go, must_enter, must_leave, mutated, next_command, ordered, pipe_size, plays, setting_of, slice_set, slot_number, track_at, welcomed}
 use Rattle.af_base.specs.declared.state.Command.{Command}
 use Rattle.af_base.specs.declared.state.Command.TheVariants.{ColdIdle, Exit, MixWrite}
-use Rattle.af_base.specs.declared.state.FastState.{FastState}
 use Rattle.af_base.specs.declared.state.Push.{Push}
 use Rattle.af_base.specs.declared.state.Push.TheVariants.{Pushed, Clean, Busy}
 use Rattle.af_base.specs.Command.{code_of}
-use Rattle.af_base.specs.Turn.{TakeSeen}
 use Rattle.af_model.specs.Draft.{attached, detached, commanded}
 use Rattle.af_model.specs.StateQueue.{slot_of}
 use Rattle.af_life.specs.declared.kept.Holder.TheVariants.{Home, Lent, Returning}
-use Rattle.af_life.specs.declared.kept.TrackKept.{TrackKept}
-use Rattle.af_life.specs.Edits.{after_ack, after_push, comes_home, edited, edited_to, entered, is_exit, lend, lent_by, let_go, must_enter, must_leave, mutated, next_command, ordered, welcomed}
-use Rattle.af_life.specs.Kept.{Learnt, NormalKept, Setup, asked, is_home, pipe_size, plays, setting_of, slot_number, track_at}
-use Rattle.af_life.specs.Plays.{after_take, after_takes}
 use Rattle.af_entry_law.specs.Told.{mixer_told, track_told}
 use Rattle.af_entry_law.proofs.ToldLists.{all_told, any_told, same_at, same_length, same_set, tracks_told}
 

@@ -1,14 +1,10 @@
 -- What a report makes of a life, by what entries tell.
 use Rattle.std.proofs.Common.{◌≡◌, ℕ, ◌+◌, ◌*◌, ◌<◌, ◌==◌, ◌||◌, not, nat_le, Bool, true, false, if◌then◌else◌, Some, None, refl, sym, subst, ◌∙◌, eqb-true, arith}
-use Rattle.std.proofs.lemmas.Option.{none-some, same_Some}
-use Rattle.af_base.proofs.Basics.{no}
+use Rattle.af_entry_law.proofs.Common.{Life, by_report, no, none-some, same_Some, state_code, stored_over, told_by_report}
 use Rattle.af_life.specs.declared.state.LifeState.{LifeState}
 use Rattle.af_life.specs.declared.state.LifeState.TheVariants.{Absent, Idle, Active, Pausing, Paused, Resuming, Stopping1, Stopping2, Stopped, Flushed}
 use Rattle.af_life.specs.declared.track.Known.{Known}
-use Rattle.af_life.specs.declared.track.Life.{Life}
 use Rattle.af_life.specs.State.{code_of}
-use Rattle.af_life.specs.Reports.{by_report, told_by_report}
-use Rattle.af_life.specs.Serves.{state_code, stored_over}
 use Rattle.af_entry_law.specs.Told.{life_told}
 
 -- ## The status word

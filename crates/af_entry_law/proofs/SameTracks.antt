@@ -1,17 +1,8 @@
 -- What a turn makes of its tracks, by what entries tell.
 use Rattle.std.proofs.Common.{◌≡◌, ℕ, zero, suc, ◌+◌, ◌<◌, Bool, true, false, true≢false, if◌then◌else◌, is_some, MatchBool, List, [], Option, Some, None, refl, sym, ap, subst, ◌∙◌, arith}
-use Rattle.std.specs.List.{list_any}
-use Rattle.af_base.proofs.Basics.{no}
+use Rattle.af_entry_law.proofs.Common.{CommandLook, HasDueLooks, IsServed, Learnt, LegalTrack, Setup, TrackKept, TrackSeen, after_commands, after_looks, after_part, are_due, by_report, counts_in, heard, is_found_shut, is_home, is_reached, is_reported, is_shut, list_any, most_looks, no, no_counts, noted, nothing_seen, ready, seen_at, served, served_to, settled_at, slot_for, slot_reported, state_code, status_due, status_word, stored_over, track_at}
 use Rattle.af_base.specs.declared.report.SlotReport.{SlotReport}
-use Rattle.af_base.specs.declared.turn.CommandLook.{CommandLook}
-use Rattle.af_base.specs.Turn.{TrackSeen}
 use Rattle.af_life.specs.declared.kept.Heard.{Heard}
-use Rattle.af_life.specs.declared.kept.TrackKept.{TrackKept}
-use Rattle.af_life.specs.Heard.{counts_in, heard, is_reached, is_reported, noted, ready, settled_at, slot_reported}
-use Rattle.af_life.specs.Kept.{Learnt, Setup, is_home, nothing_seen, no_counts, seen_at, track_at}
-use Rattle.af_life.specs.Obeys.{after_looks, are_due, is_shut, slot_for}
-use Rattle.af_life.specs.Reports.{by_report}
-use Rattle.af_life.specs.Serves.{HasDueLooks, IsServed, LegalTrack, after_commands, after_part, is_found_shut, most_looks, served, served_to, state_code, status_due, status_word, stored_over}
 use Rattle.af_entry_law.specs.Told.{life_told, track_told}
 use Rattle.af_entry_law.proofs.SameCommands.{looks_same, shut_ends}
 use Rattle.af_entry_law.proofs.SameReports.{reports_same, state_code_small, stored_tells, word_tells}

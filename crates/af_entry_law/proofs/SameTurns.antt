@@ -1,13 +1,6 @@
 -- The entry of a turn tells what the turn leaves.
 use Rattle.std.proofs.Common.{◌≡◌, ℕ, Bool, true, false, if◌then◌else◌, List, length, refl, ap, ◌∙◌, arith}
-use Rattle.af_base.specs.Turn.{Turn}
-use Rattle.af_life.specs.declared.kept.TrackKept.{TrackKept}
-use Rattle.af_life.specs.Edits.{after_ack, after_push}
-use Rattle.af_life.specs.Heard.{learnt}
-use Rattle.af_life.specs.Kept.{NormalKept, Outside, Setup}
-use Rattle.af_life.specs.Plays.{after_takes}
-use Rattle.af_life.specs.Serves.{served_to}
-use Rattle.af_life.specs.Turn.{LegalTurn, GoesOn, after_edits, after_tracks, turn_after}
+use Rattle.af_entry_law.proofs.Common.{GoesOn, LegalTurn, NormalKept, Outside, Setup, TrackKept, Turn, after_ack, after_edits, after_push, after_takes, after_tracks, learnt, served_to, turn_after}
 use Rattle.af_life.proofs.Lives.{acked_len}
 use Rattle.af_entry_law.specs.Told.{EntryTellsAll, mixer_told}
 use Rattle.af_entry_law.proofs.SameEdits.{acked_same, mutated_same, pushed_same, taken_same}

@@ -1,12 +1,8 @@
 -- What entries tell of a list of tracks.
 use Rattle.std.proofs.Common.{◌≡◌, ℕ, zero, suc, ◌-◌, ◌&&◌, ◌||◌, not, Bool, if◌then◌else◌, List, [], ◌∷◌, length, map, None, refl, sym, ap, ◌∙◌}
-use Rattle.std.specs.Prelude.{slice_set}
-use Rattle.std.specs.List.{find, list_any, list_all, range_with_len}
+use Rattle.af_entry_law.proofs.Common.{Setup, TrackKept, find, holds, list_all, list_any, range_with_len, setting_of, slice_set, slot_for, track_at}
 use Rattle.std.proofs.lemmas.List.{length-map}
 use Rattle.af_base.specs.Log.{slots}
-use Rattle.af_life.specs.declared.kept.TrackKept.{TrackKept}
-use Rattle.af_life.specs.Kept.{Setup, setting_of, track_at}
-use Rattle.af_life.specs.Obeys.{holds, slot_for}
 use Rattle.af_entry_law.specs.Told.{track_told}
 
 abbrev pub tracks_told : List TrackKept → List TrackKept

@@ -1,19 +1,8 @@
 -- The entry that a cycle adds is a legal one, and what it says was done.
 use Rattle.std.proofs.Common.{◌≡◌, ℕ, zero, suc, ◌+◌, ◌-◌, ◌*◌, ◌<◌, ◌≤◌, ◌==◌, eq-eqb, fold, Bool, true, false, true≢false, List, [], ◌∷◌, ◌++◌, length, Option, Some, None, refl, sym, ap, subst, ◌∙◌, append-nil, length-append, if◌then◌else◌, arith}
-use Rattle.std.proofs.Math.Nat.{add-zero, suc-mul}
-use Rattle.af_base.proofs.Basics.{neither, some_same}
-use Rattle.af_base.specs.declared.frame.Frame.{Frame}
+use Rattle.af_fast.proofs.Common.{CycleEntry, FastState, Frame, InOrder, IsNextReport, Mixes, SlotReport, Store, add-zero, cycle_of, entry_at, is_mixed, neither, no_state, report_at, slot_report, slots, some_same, state_of, still_entry, suc-mul, taken_before}
 use Rattle.af_base.specs.declared.log.Cycle.{Cycle}
 use Rattle.af_base.specs.declared.log.Cycle.TheVariants as cycle
-use Rattle.af_base.specs.declared.log.CycleEntry.{CycleEntry}
-use Rattle.af_base.specs.declared.report.SlotReport.{SlotReport}
-use Rattle.af_base.specs.declared.state.FastState.{FastState}
-use Rattle.af_base.specs.Log.{slots, entry_at}
-use Rattle.af_model.specs.declared.newest.WriterEvent.TheVariants.{Store}
-use Rattle.af_model.specs.Cycles.{Mixes, state_of, cycle_of, is_mixed, still_entry, taken_before}
-use Rattle.af_model.specs.Reports.{IsNextReport, report_at, slot_report}
-use Rattle.af_stateq.specs.Observes.{InOrder}
-use Rattle.af_stateq.specs.Shelved.{no_state}
 use Rattle.af_fast.specs.Fits.{stream_fits}
 use Rattle.af_fast.specs.Known.{known}
 use Rattle.af_fast.specs.Mixer.{MixerState, IsInOrderAfter, AreFew, adopted_states, all_entries, is_over, most_entries}
@@ -25,10 +14,7 @@ use Rattle.af_fast.proofs.Noted.{IsPlayed, now, is_now, noted_order}
 
 pub mixed_is : (c : Cycle) → is_mixed c ≡ true → c ≡ cycle.Mixed
 mixed_is cycle.Mixed e = refl
-mixed_is cycle.Idle e = absurd (true≢false (sym e))
-mixed_is cycle.Cold e = absurd (true≢false (sym e))
-mixed_is cycle.Exit e = absurd (true≢false (sym e))
-mixed_is (cycle.Spent n) e = absurd (true≢false (sym e))
+mixed_is _ e = absurd (true≢false (sym e))
 
 still_runs : (m : MixerState) → is_over m ≡ false → m.exited ≡ false
 still_runs m goes = (neither m.exited (length m.log.entries == m.cycles) goes).0

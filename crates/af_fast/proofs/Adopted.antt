@@ -1,21 +1,10 @@
 -- A mixer that adopted a state is in order.
 use Rattle.std.proofs.Common.{◌≡◌, ℕ, ◌+◌, Bool, true, false, true≢false, List, [], ◌∷◌, ◌++◌, length, Option, Some, None, refl, sym, ap, subst, ◌∙◌, arith}
-use Rattle.af_base.specs.declared.log.CycleEntry.{CycleEntry}
-use Rattle.af_base.specs.declared.state.FastState.{FastState}
-use Rattle.af_model.proofs.Basics.{same_before}
-use Rattle.af_model.specs.declared.states.ObserverEvent.{ObserverEvent}
-use Rattle.af_model.specs.declared.states.ObserverEvent.TheVariants.{SawNext, Ack}
+use Rattle.af_fast.proofs.Common.{Ack, CycleEntry, FastState, InOrder, ObserverEvent, Observes, SawNext, ServerState, StreamNames, UseUpTo-more, cold_done, cold_done-before, last_used, no_state, polled_states, same_before, state_of}
 use Rattle.af_model.specs.declared.states.ObserverEvent.TheVariants as observer
 use Rattle.af_model.specs.declared.plain_calls.Poll.{Poll}
 use Rattle.af_model.specs.declared.plain_calls.Poll.TheVariants.{Nothing, Same, New}
-use Rattle.af_model.specs.Cycles.{state_of, last_used, cold_done}
-use Rattle.af_model.proofs.UsedStates.{cold_done-before, UseUpTo-more}
-use Rattle.af_server.specs.Order.{ServerState}
 use Rattle.af_stateq.specs.Answers.{WasPolled}
-use Rattle.af_stateq.specs.Laws.{polled_states}
-use Rattle.af_stateq.specs.Observes.{Observes, InOrder}
-use Rattle.af_stateq.specs.Shelved.{no_state}
-use Rattle.af_link.specs.declared.names.StreamNames.{StreamNames}
 use Rattle.af_fast.specs.Fits.{stream_fits}
 use Rattle.af_fast.specs.Mixer.{MixerState, UsesStates, KeepsEntries, CarriesNone, IsInOrderAfter, adopted_states, all_entries, is_over}
 
@@ -98,10 +87,6 @@ module _ (earlier : List CycleEntry) where
   polled_order m o (New number) s s' k goes turn order (next, (x, took), stepped) =
       next_state m o x k goes turn order (ap (λ (y : Observes ServerState StreamNames). y.past.number) took.2)
       (ap (λ (y : Observes ServerState StreamNames). polled_states no_state y.past.events) took.2 ∙ polled-new no_state m.observer.past.events (m.observer.past.number + 1) (m.observer.past.number + 1) x took.0 took.1)
-
-  -- a mixer that is over is in order, with nothing polled
-  pub over_order : (m : MixerState) → IsInOrderAfter earlier m → IsInOrderAfter earlier (record m { adopted = true })
-  over_order m k = same_states m m.observer k k.observer refl refl refl
 
   -- a mixer that is over is in order, with nothing mixed
   pub rest_order : (m : MixerState) → IsInOrderAfter earlier m → is_over m ≡ true → IsInOrderAfter earlier (record m { adopted = false })

@@ -1,15 +1,8 @@
 -- Basic lemmas that several files here, and of the crates above, cite.
 use Rattle.std.proofs.Common.{List, Some, [], ap, refl, subst, sym, ℕ, ◌++◌, ◌∙◌, ◌∷◌, ◌≡◌}
+use Rattle.af_fast.proofs.Common.{IsServerOf, IsStreamOf, Made, Report, ServerState, Store, WriterEvent, last_of, some_same}
 use Rattle.std.specs.Prelude.{slice_get}
-use Rattle.af_base.proofs.Basics.{some_same}
-use Rattle.af_base.specs.declared.report.Report.{Report}
-use Rattle.af_cblk.specs.Sides.{Made}
-use Rattle.af_latest.specs.Laws.{last_of}
-use Rattle.af_link.specs.Names.{IsStreamOf}
 use Rattle.af_model.specs.declared.newest.WriterEvent.TheVariants as writes
-use Rattle.af_model.specs.declared.newest.WriterEvent.TheVariants.{Store}
-use Rattle.af_model.specs.declared.newest.WriterEvent.{WriterEvent}
-use Rattle.af_server.specs.Order.{IsServerOf, ServerState}
 
 -- what a writer learns stores nothing
 pub last_of-learn : (x : Report) (ws : List (WriterEvent Report)) (k : ℕ) → last_of x (ws ++ writes.Learn k ∷ []) ≡ last_of x ws

@@ -1,10 +1,6 @@
 -- The steps of a cycle by the tracks of its state.
 use Rattle.std.proofs.Common.{◌≡◌, ℕ, zero, suc, ◌+◌, ◌*◌, ◌≤◌, Bool, true, false, if◌then◌else◌, refl, ap, ◌∙◌, arith}
-use Rattle.std.proofs.Math.Nat.{mul-add, suc-mul, mul_comm, mul-le-mul_left}
-use Rattle.af_base.specs.declared.state.FastState.{FastState}
-use Rattle.af_base.specs.Log.{slots}
-use Rattle.af_model.specs.StateQueue.{carries}
-use Rattle.af_model.specs.Tracks.{tracks_below, tracks_of}
+use Rattle.af_fast.proofs.Common.{FastState, carries, mul-add, mul-le-mul_left, mul_comm, slots, suc-mul, tracks_below, tracks_of}
 
 one_each : (each total after before bound : ℕ) (b : Bool) → before ≤ bound + total * each → (b ≡ true → after ≤ before + each) → (b ≡ false → after ≡ before) → after ≤ bound + (total + (if b then 1 else 0)) * each
 one_each each total after before bound true few on off =

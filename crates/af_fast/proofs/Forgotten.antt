@@ -1,6 +1,6 @@
 -- A mixer that forgot its log is in order, behind all entries of its life.
 use Rattle.std.proofs.Common.{◌≡◌, ℕ, ◌+◌, ◌-◌, ◌*◌, ◌≤◌, ◌==◌, ◌||◌, eq-eqb, eqb-true, Bool, true, false, List, length, refl, sym, ap, subst, ◌∙◌, append-nil, arith}
-use Rattle.af_base.specs.declared.log.CycleEntry.{CycleEntry}
+use Rattle.af_fast.proofs.Common.{CycleEntry}
 use Rattle.af_fast.specs.Mixer.{MixerState, UsesStates, KeepsEntries, Reported, IsInOrderAfter, adopted_states, all_entries, emptied, is_over, most_entries}
 
 -- an empty log is full if it has room for no entry, and then it was full before

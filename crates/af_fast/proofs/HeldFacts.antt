@@ -1,18 +1,7 @@
 -- The proxies that the observer holds, as one of them is played.
 use Rattle.std.proofs.Common.{◌≡◌, ℕ, ◌<◌, ◌⊎◌, inl, inr, List, length, length-set, Option, Some, None, is_some, slice_set, slice_index_or, sym, ap, subst, ◌∙◌, arith}
-use Rattle.std.proofs.lemmas.Bool.{cases_eq}
-use Rattle.std.proofs.lemmas.List.{get_or-set_same, get_or-set_other, get_or-replicate}
+use Rattle.af_fast.proofs.Common.{InOrder, IsServerOf, IsStreamOf, Made, Observes, ServerState, StreamNames, at, carries, cases_eq, get_or-replicate, get_or-set_other, get_or-set_same, has, nothing, server_made, slot_of, slots, some_same}
 use Rattle.std.proofs.lemmas.Option.{slice_get_within, get_or_from_slice_get}
-use Rattle.af_base.proofs.Basics.{some_same}
-use Rattle.af_base.specs.Log.{slots}
-use Rattle.af_model.specs.StateQueue.{slot_of, carries, has}
-use Rattle.af_cblk.specs.Sides.{Made, server_made}
-use Rattle.af_server.specs.Order.{ServerState, IsServerOf}
-use Rattle.af_stateq.specs.Mutates.{at}
-use Rattle.af_stateq.specs.Observes.{Observes, InOrder}
-use Rattle.af_stateq.specs.Shelved.{nothing}
-use Rattle.af_link.specs.Names.{IsStreamOf}
-use Rattle.af_link.specs.declared.names.StreamNames.{StreamNames}
 use Rattle.af_fast.specs.Fits.{stream_fits, NamesBlocks}
 use Rattle.af_fast.specs.Mixer.{CarriesNone}
 

@@ -1,12 +1,6 @@
 -- The state that an observer lends is its current one.
 use Rattle.std.proofs.Common.{◌≡◌, ◌<◌, MatchOption, option_copied, Bor, Option, Some, None, sym, ap, ◌∙◌}
-use Rattle.af_base.specs.declared.state.FastState.{FastState}
-use Rattle.af_model.specs.Cycles.{state_of}
-use Rattle.af_server.specs.Order.{ServerState}
-use Rattle.af_stateq.specs.Laws.{polled_states}
-use Rattle.af_stateq.specs.Observes.{Observes, InOrder}
-use Rattle.af_stateq.specs.Shelved.{no_state}
-use Rattle.af_link.specs.declared.names.StreamNames.{StreamNames}
+use Rattle.af_fast.proofs.Common.{FastState, InOrder, Observes, ServerState, StreamNames, no_state, polled_states, state_of}
 use Rattle.af_fast.specs.Fits.{stream_fits}
 
 -- before the first state is pushed no state is current

@@ -1,12 +1,6 @@
 -- The log of a mixer keeps the form that a journal asks for.
 use Rattle.std.proofs.Common.{◌≡◌, ℕ, ◌+◌, List, ◌++◌, length, drop, refl, sym, ap, ◌∙◌, subst, arith, All}
-use Rattle.std.proofs.lemmas.List.{length-append, drop_at}
-use Rattle.std.proofs.lemmas.List.Elements.{All-drop}
-use Rattle.af_base.specs.declared.frame.Frame.{Frame}
-use Rattle.af_base.specs.declared.log.CycleEntry.{CycleEntry}
-use Rattle.af_base.specs.Log.{slots}
-use Rattle.af_base.specs.Sample.{IsFrame}
-use Rattle.af_model.specs.Cycles.{taken_before}
+use Rattle.af_fast.proofs.Common.{All-drop, CycleEntry, Frame, IsFrame, drop_at, length-append, slots, taken_before}
 use Rattle.af_model.specs.Journals.{taken_by}
 use Rattle.af_model.proofs.EntriesMore.{AreWhole, Follows, one_more}
 use Rattle.af_model.proofs.EntryForms.{entry_form}

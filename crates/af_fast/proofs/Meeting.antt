@@ -1,22 +1,9 @@
 -- A mixer whose ends met those of the other side, or one of whose proxies met its client, is in order.
-use Rattle.std.proofs.Common.{◌≡◌, ℕ, suc, List, [], ◌∷◌, ◌++◌, length, Option, Some, None, refl, sym, ap, subst, ◌∙◌}
-use Rattle.af_base.specs.declared.log.CycleEntry.{CycleEntry}
-use Rattle.af_base.specs.declared.report.Report.{Report}
-use Rattle.af_base.specs.declared.report.SlotReport.{SlotReport}
-use Rattle.af_base.specs.declared.state.FastState.{FastState}
+use Rattle.std.proofs.Common.{◌≡◌, ℕ, suc, List, [], ◌∷◌, ◌++◌, length, Some, None, refl, sym, ap, subst, ◌∙◌}
+use Rattle.af_fast.proofs.Common.{Ack, CycleEntry, FastState, ObserverEvent, Report, SawNext, ServerState, SlotReport, Store, WriterEvent, no_report, no_state, polled_states, stores}
 use Rattle.af_fast.proofs.Basics.{last_of-learn}
-use Rattle.af_model.specs.declared.newest.WriterEvent.{WriterEvent}
-use Rattle.af_model.specs.declared.newest.WriterEvent.TheVariants.{Store}
 use Rattle.af_model.specs.declared.newest.WriterEvent.TheVariants as writes
-use Rattle.af_model.specs.declared.states.ObserverEvent.{ObserverEvent}
-use Rattle.af_model.specs.declared.states.ObserverEvent.TheVariants.{SawNext, Ack}
 use Rattle.af_model.specs.declared.states.ObserverEvent.TheVariants as observes
-use Rattle.af_model.specs.Reports.{no_report}
-use Rattle.af_latest.specs.Laws.{stores}
-use Rattle.af_server.specs.Order.{ServerState}
-use Rattle.af_stateq.specs.Laws.{polled_states}
-use Rattle.af_stateq.specs.Observes.{InOrder}
-use Rattle.af_stateq.specs.Shelved.{no_state}
 use Rattle.af_stateq.proofs.Told.{order_learns}
 use Rattle.af_fast.specs.Fits.{stream_fits}
 use Rattle.af_fast.specs.Meets.{Others, mixer_met}
@@ -53,7 +40,3 @@ met_order {earlier} m o k =
       reports = reported_met (length (all_entries earlier m)) (length o.reader.events) m.writer.events m.reports k.reports;
       forgotten = k.forgotten;
     }
-
--- a mixer is in order after the items that the observer holds changed
-pub items_order : {earlier : List CycleEntry} (m : MixerState) (items : List (Option ServerState)) → IsInOrderAfter earlier m → InOrder stream_fits (record m.observer { items = items }) → IsInOrderAfter earlier (record m { observer = record m.observer { items = items } })
-items_order m items k order = record { observer = order; begins = k.begins; room = k.room; uses = k.uses; keeps = k.keeps; reports = k.reports; forgotten = k.forgotten }

@@ -1,27 +1,7 @@
 -- A mixer with one entry more is in order, and the entry is a legal one.
 use Rattle.std.proofs.Common.{◌≡◌, ℕ, suc, ◌+◌, ◌-◌, ◌*◌, ◌<◌, ◌≤◌, ◌||◌, Bool, true, false, if◌then◌else◌, List, [], ◌∷◌, ◌++◌, length, replicate, Option, Some, None, refl, sym, ap, subst, ◌∙◌, append_assoc, arith}
-use Rattle.std.proofs.lemmas.List.{length-append, get_or-replicate}
-use Rattle.std.proofs.Math.Nat.{suc-mul}
-use Rattle.af_base.specs.declared.log.CycleEntry.{CycleEntry}
-use Rattle.af_base.specs.declared.report.Report.{Report}
-use Rattle.af_base.specs.declared.report.SlotReport.{SlotReport}
-use Rattle.af_base.specs.declared.seen.Seen.{Seen}
-use Rattle.af_base.specs.declared.state.FastState.{FastState}
-use Rattle.af_base.specs.Log.{slots, entry_slot}
-use Rattle.af_model.proofs.Basics.{one_few}
-use Rattle.af_model.specs.declared.newest.WriterEvent.{WriterEvent}
-use Rattle.af_model.specs.declared.newest.WriterEvent.TheVariants.{Store}
+use Rattle.af_fast.proofs.Common.{CycleEntry, FastState, InOrder, Observes, Report, Seen, ServerKnown, ServerState, SlotReport, Store, StreamNames, UseUpTo, UseUpTo-more, UseUpTo-push, WriterEvent, carried, carries, cold_done, cold_done-push, cold_of, counted_look, entry_slot, get_or-replicate, has_exit-push, is_cold, is_empty, is_exit, is_full, is_partial, last_of, last_used, last_used-push, length-append, no_report, no_slot, no_state, one_few, polled_states, report_at, slot_of, slot_report, slots, state_of, stores, suc-mul}
 use Rattle.af_model.specs.declared.newest.WriterEvent.TheVariants as writes
-use Rattle.af_model.specs.Cycles.{state_of, last_used, is_exit, is_cold, cold_of, cold_done, UseUpTo}
-use Rattle.af_model.specs.Reports.{ServerKnown, no_slot, no_report, report_at, is_full, is_partial, is_empty, counted_look, carried, slot_report}
-use Rattle.af_model.specs.StateQueue.{carries, slot_of}
-use Rattle.af_model.proofs.UsedStates.{last_used-push, has_exit-push, cold_done-push, UseUpTo-push, UseUpTo-more}
-use Rattle.af_latest.specs.Laws.{last_of, stores}
-use Rattle.af_server.specs.Order.{ServerState}
-use Rattle.af_stateq.specs.Laws.{polled_states}
-use Rattle.af_stateq.specs.Observes.{Observes, InOrder}
-use Rattle.af_stateq.specs.Shelved.{no_state}
-use Rattle.af_link.specs.declared.names.StreamNames.{StreamNames}
 use Rattle.af_fast.specs.Fits.{stream_fits}
 use Rattle.af_fast.specs.Known.{known}
 use Rattle.af_fast.specs.Mixer.{MixerState, UsesStates, KeepsEntries, Reported, CarriesNone, IsInOrderAfter, adopted_states, is_over}
@@ -122,9 +102,6 @@ module _ (earlier : List CycleEntry) (m n l : MixerState) (entry : CycleEntry) (
 
   less_to_come : (m.cycles - length es) * m.frames ≡ (m.cycles - (length es + 1)) * m.frames + m.frames
   less_to_come = ap (λ a. a * m.frames) (let e : m.cycles - length es ≡ suc (m.cycles - (length es + 1)) = omega arith in e) ∙ suc-mul (m.cycles - (length es + 1)) m.frames
-
-  frames_are : n.frames ≡ m.frames
-  frames_are = ap (λ (y : MixerState). y.frames) played.same
 
   count_is : n.count ≡ length all
   count_is = ap (λ (y : MixerState). y.count) played.same ∙ k.forgotten.counted

@@ -1,9 +1,6 @@
 -- No slot of a mix is louder than unity.
 use Rattle.std.proofs.Common.{ℕ, ◌<◌, ◌≤◌, ◌==◌, Bool, true, false, if◌then◌else◌, arith}
-use Rattle.af_base.specs.declared.state.FastState.{FastState}
-use Rattle.af_base.specs.Log.{slots}
-use Rattle.af_model.specs.Cycles.{mix_scale}
-use Rattle.af_model.specs.StateQueue.{carries, slot_of, IsState}
+use Rattle.af_fast.proofs.Common.{FastState, IsState, carries, mix_scale, slot_of, slots}
 
 by_tests : (b c : Bool) (n : ℕ) → n ≤ 4096 → (if b then 4096 else if c then n else 0) ≤ 4096
 by_tests true c n few = omega arith

@@ -1,14 +1,6 @@
 -- The slots behind the last one of a state's mask: none has a track.
 use Rattle.std.proofs.Common.{◌≡◌, inl, inr, ℕ, zero, suc, ◌+◌, ◌^◌, ◌≤◌, ◌<◌, ◌==◌, ◌&&◌, not, ne_eqb, Bool, false, if◌then◌else◌, List, slice_index_or, sym, ap, ◌∙◌, arith}
-use Rattle.std.proofs.lemmas.Bool.{cases_lt}
-use Rattle.std.specs.Int.{bit_at}
-use Rattle.std.specs.Int.Bits.{bit_or, or_zero_r}
-use Rattle.af_base.proofs.Basics.{and_false}
-use Rattle.af_base.specs.declared.state.FastState.{FastState}
-use Rattle.af_base.specs.Log.{slots}
-use Rattle.af_model.specs.Cycles.{mix_scale, mono_marks}
-use Rattle.af_model.specs.StateQueue.{carries, slot_of, IsState}
-use Rattle.af_model.specs.Tracks.{tracks_below}
+use Rattle.af_fast.proofs.Common.{FastState, IsState, and_false, bit_at, bit_or, carries, cases_lt, mix_scale, mono_marks, or_zero_r, slot_of, slots, tracks_below}
 use Rattle.af_fast.specs.Slots.{IsQuietFrom}
 
 -- no slot behind a mask has a track

@@ -1,21 +1,6 @@
 -- How the slots of a mix are played, one after the other.
 use Rattle.std.proofs.Common.{◌≡◌, ℕ, zero, suc, ◌+◌, ◌≤◌, ◌<◌, ◌==◌, ◌⊎◌, inl, inr, Bool, true, false, true≢false, ne_eqb, if◌then◌else◌, List, ◌++◌, length, length-set, length-take-le, map, take, Option, Some, None, slice_set, refl, sym, ap, subst, ◌∙◌, append_assoc, arith}
-use Rattle.std.proofs.lemmas.Bool.{cases_eq}
-use Rattle.std.proofs.lemmas.List.{get_or-set_same, get_or-set_other, length-append}
-use Rattle.af_base.specs.declared.frame.Frame.{Frame}
-use Rattle.af_base.specs.declared.log.CycleEntry.{CycleEntry}
-use Rattle.af_base.specs.declared.log.SlotEntry.{SlotEntry}
-use Rattle.af_base.specs.declared.seen.Seen.{Seen}
-use Rattle.af_base.specs.declared.state.FastState.{FastState}
-use Rattle.af_base.specs.Log.{slots, absent, entry_slot, count_seen}
-use Rattle.af_base.specs.Sample.{packed_word}
-use Rattle.af_model.specs.Cycles.{place_of, taken_before}
-use Rattle.af_model.specs.StateQueue.{carries}
-use Rattle.af_model.proofs.EntrySlots.{with_slot, slot_filled, slot_kept, taken_kept, taken_stay, taken_added}
-use Rattle.af_server.specs.Order.{ServerState}
-use Rattle.af_stateq.specs.Mutates.{at}
-use Rattle.af_stateq.specs.Observes.{Observes}
-use Rattle.af_link.specs.declared.names.StreamNames.{StreamNames}
+use Rattle.af_fast.proofs.Common.{CycleEntry, FastState, Frame, Observes, Seen, ServerState, SlotEntry, StreamNames, absent, at, carries, cases_eq, count_seen, entry_slot, get_or-set_other, get_or-set_same, length-append, packed_word, place_of, slot_filled, slot_kept, slots, taken_added, taken_before, taken_kept, taken_stay, with_slot}
 use Rattle.af_fast.specs.Slots.{IsQuietFrom, LogsSlot, SlotPlayed, PlayedTo}
 
 below : (i j : ℕ) → j < suc i → (j < i) ⊎ (j ≡ i)

@@ -1,21 +1,6 @@
 -- How the slots of a mix begin with the pipe, and what they come to.
 use Rattle.std.proofs.Common.{◌≡◌, ℕ, zero, suc, ◌+◌, ◌*◌, ◌≤◌, ◌<◌, true, false, true≢false, List, [], ◌++◌, length, length-set, length-take-le, map, take, Option, slice_index_or, refl, sym, ap, subst, ◌∙◌, append_assoc, append-nil, arith}
-use Rattle.std.proofs.lemmas.List.{length-append, get_or-replicate}
-use Rattle.std.proofs.Math.Nat.{add-zero, mul-suc, mul_comm, mul-le-mul_left}
-use Rattle.af_base.specs.declared.frame.Frame.{Frame}
-use Rattle.af_base.specs.declared.log.CycleEntry.{CycleEntry}
-use Rattle.af_base.specs.declared.log.SlotEntry.{SlotEntry}
-use Rattle.af_base.specs.declared.state.FastState.{FastState}
-use Rattle.af_base.specs.Log.{slots, absent, entry_slot, count_seen, frames_taken}
-use Rattle.af_base.specs.Sample.{packed_word}
-use Rattle.af_model.specs.Cycles.{TrackSlot, SubmixSlot, Mixes, place_of, taken_before, is_mixed}
-use Rattle.af_model.specs.StateQueue.{carries}
-use Rattle.af_model.proofs.EntrySlots.{with_slot, slot_filled, slot_kept, taken_stay, taken_added}
-use Rattle.af_server.specs.Order.{ServerState}
-use Rattle.af_stateq.specs.Mutates.{at}
-use Rattle.af_stateq.specs.Observes.{Observes}
-use Rattle.af_link.specs.PipeEnds.{OutSide}
-use Rattle.af_link.specs.declared.names.StreamNames.{StreamNames}
+use Rattle.af_fast.proofs.Common.{CycleEntry, FastState, Frame, Mixes, Observes, OutSide, ServerState, SlotEntry, StreamNames, SubmixSlot, TrackSlot, absent, add-zero, at, carries, count_seen, entry_slot, frames_taken, get_or-replicate, is_mixed, length-append, mul-le-mul_left, mul-suc, mul_comm, packed_word, place_of, slot_filled, slot_kept, slots, taken_added, taken_before, taken_stay, with_slot}
 use Rattle.af_fast.specs.Slots.{listed_at, found, IsMarked, LogsPipe, PlayedTo, PlaysSlots}
 use Rattle.af_fast.proofs.SlotSteps.{place_within}
 

@@ -1,7 +1,7 @@
 -- Basic lemmas that several files here, and of the crates above, cite.
 use Rattle.std.proofs.Common.{Bool, List, ap, append_assoc, false, pos, sym, true, ℤ, ◌*ℤ◌, ◌++◌, ◌+◌, ◌∙◌, ◌≡◌}
+use Rattle.af_gain.proofs.Common.{Take, right_sample, silence}
 use Rattle.std.proofs.Math.IntN.{zero-*ℤ}
-use Rattle.af_base.specs.Mix.{Take, right_sample, silence}
 
 -- the takes that are heard after one slot more was looked at
 pub grown : (here one rest next all : List Take) → here ++ one ≡ next → one ++ rest ≡ all → next ++ rest ≡ here ++ all

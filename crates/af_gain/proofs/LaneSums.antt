@@ -1,10 +1,7 @@
 -- The sums of one more take, in the lanes of a vector.
 use Rattle.std.proofs.Common.{◌≡◌, ℕ, ◌+◌, ◌≤◌, ◌<◌, ℤ, Bool, List, [], ◌∷◌, ◌++◌, length, map, w32, of_z, to_z, ap, sym, subst, ◌∙◌, arith, below_more}
+use Rattle.af_gain.proofs.Common.{Frame, Take, frame_at, gains_used, length-append, mixed_frame}
 use borrow.Author.Count.{below_none}
-use Rattle.std.proofs.lemmas.List.{length-append}
-use Rattle.af_base.specs.declared.frame.Frame.{Frame}
-use Rattle.af_base.specs.Gain.{gains_used}
-use Rattle.af_base.specs.Mix.{Take, frame_at, mixed_frame}
 use Rattle.af_gain.specs.declared.sums.Sum.{Sum}
 use Rattle.af_gain.specs.Sums.{IsWithin, IsHeard, added, sum_of}
 use Rattle.af_gain.specs.Narrow.{AreLanesOf, IsHeardAs, lanes_of}

@@ -1,9 +1,7 @@
 -- The left sample of a frame, read off its word: shifted up over the right half and back, it is the sample.
 use Rattle.std.proofs.Common.{◌≡◌, ℕ, suc, ◌+◌, ◌-◌, ◌*◌, ◌/◌, ◌%◌, ◌<◌, ℤ, pos, negsuc, FitsSigned, w16, w32, to_z, of_z, ap, ◌∙◌, arith}
-use Rattle.std.proofs.lemmas.Int.{to_z-of_z, to_z_pos}
-use Rattle.std.proofs.Math.Facts.{Fits-of_z, to_z-neg}
+use Rattle.af_gain.proofs.Common.{Fits-of_z, Frame, to_z-neg, to_z-of_z, to_z_pos}
 use Rattle.std.specs.Int.Signed.{shr_z}
-use Rattle.af_base.specs.declared.frame.Frame.{Frame}
 use Rattle.af_base.specs.Sample.{IsFrame, packed_word}
 
 -- a lane of words, shifted up by 16 bits and back

@@ -1,6 +1,6 @@
 -- Basic lemmas that several files here, and of the crates above, cite.
 use Rattle.std.proofs.Common.{List, [], ◌++◌, ◌+◌, ◌∷◌}
-use Rattle.std.specs.List.{AllByRecursion}
+use Rattle.af_journal.proofs.Common.{AllByRecursion}
 use Rattle.af_journal.specs.Lines.{Written}
 use Rattle.af_journal.specs.Ranges.{IsWritten}
 

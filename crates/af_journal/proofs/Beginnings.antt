@@ -1,25 +1,12 @@
 -- What is noted of a text begins as what is kept of its reading.
 use Rattle.std.proofs.Common.{◌≡◌, ℕ, ◌+◌, ◌-◌, ◌<◌, ◌≤◌, ◌^◌, nat_lt, Bool, true, false, cond, List, [], ◌∷◌, ◌++◌, length, map, take, None, refl, ap, ◌∙◌, sym, subst, arith, All, append-nil, append_assoc, length-append}
-use Rattle.std.specs.List.{AllByRecursion, flat_map, list_any}
-use Rattle.std.proofs.lemmas.List.{map-append, take_all, take_at}
-use Rattle.std.proofs.lemmas.List.Concat.{flat_map-append}
-use Rattle.std.proofs.lemmas.List.Elements.{All-append, All-cons, All-head, All-nil, All-tail}
-use Rattle.std.proofs.lemmas.Bool.{true≢false}
-use Rattle.std.proofs.lemmas.Bool.Decides.{nat_tests}
-use Rattle.af_base.specs.declared.event.ClientCall.{ClientCall}
-use Rattle.af_base.specs.declared.frame.Frame.{Frame}
-use Rattle.af_base.specs.declared.log.CycleEntry.{CycleEntry}
+use Rattle.af_journal.proofs.Common.{All-append, All-cons, All-head, All-nil, All-tail, AllByRecursion, AreEntries, ClientCall, CycleEntry, EntrySeen, FitsEntry, Frame, IsRound, JournalData, RoundSeen, RoundsNoted, calls_in, entries_of, flat_map, flat_map-append, frames_of, is_lawful_block, is_poke_on, list_any, map-append, marks_of, nat_tests, take_all, take_at, true≢false}
 use Rattle.af_journal.proofs.Basics.{fit-append}
-use Rattle.af_model.specs.Journals.{EntrySeen, JournalData, RoundSeen, RoundsNoted, entries_of, frames_of}
-use Rattle.af_model.specs.JournalForm.{AreEntries, IsRound}
-use Rattle.af_model.specs.Numbers.{FitsEntry}
-use Rattle.af_runs.specs.LegalRuns.{is_lawful_block, is_poke_on, marks_of}
-use Rattle.af_runs.specs.Runs.{calls_in}
 use Rattle.af_journal.specs.declared.reach.End.{End}
 use Rattle.af_journal.specs.declared.reach.End.TheVariants as why
 use Rattle.af_journal.specs.declared.reach.Reach.{Reach}
 use Rattle.af_journal.specs.declared.stage.Stage.TheVariants as stage
-use Rattle.af_journal.specs.Beginnings.{AreRead, IsFrontOf, LastIsBeyond, NotesBy, NotesRest, PokesAsAll, is_full, is_last}
+use Rattle.af_journal.specs.Beginnings.{AreRead, IsFrontOf, LastIsBeyond, NotesBy, NotesRest, PokesAsAll, is_last}
 use Rattle.af_journal.specs.Judged.{EndsBeyond, first_of_round}
 use Rattle.af_journal.specs.declared.line.Line.TheVariants as line
 use Rattle.af_journal.specs.Lines.{Written, numbers}
@@ -270,15 +257,3 @@ module _ (tracks : ℕ) (few : tracks < 2 ^ 32) (reach : Reach) (text rest : Lis
       let m = n (length frames) in
       begun_still r.rounds r.taken r.form r.lines (ap entries_of r.ends.0) (λ q none. absurd (r.ends.1 none)) false m (m.none refl)
   begun some (why.Beyond full) r n = begun_beyond some full r.rounds r.ends r.taken r.form r.lines full refl (n (length frames))
-
--- ## Why no more rounds are read
-
-pub notes_last : (tracks : ℕ) (rest : List ℕ) (at : End) (noted : RoundsNoted) → is_last at ≡ true → rest ≡ [] → NotesBy tracks rest at noted noted
-notes_last tracks rest why.Last noted is none = (none, refl)
-notes_last tracks rest why.Enough noted is none = cc
-notes_last tracks rest (why.Beyond full) noted is none = cc
-
-pub notes_by : (tracks : ℕ) (rest : List ℕ) (at : End) (noted next : RoundsNoted) → is_last at ≡ false → ((place : ℕ) → NotesRest tracks place rest (is_full at) noted next) → NotesBy tracks rest at noted next
-notes_by tracks rest why.Last noted next is n = cc
-notes_by tracks rest why.Enough noted next is n = n
-notes_by tracks rest (why.Beyond full) noted next is n = n

@@ -1,11 +1,6 @@
 -- A number is read from a word exactly if the word is the number in decimal.
 use Rattle.std.proofs.Common.{◌≡◌, ℕ, ◌+◌, ◌*◌, ◌/◌, ◌%◌, ◌<◌, ◌^◌, List, [], ◌∷◌, ◌++◌, Option, Some, None, Bool, true, false, ◌==◌, if◌then◌else◌, cond, refl, ap, ◌∙◌, sym, subst, arith, append_assoc, append-nil}
-use Rattle.std.specs.Option.{option_and_then}
-use Rattle.std.proofs.lemmas.Option.{option_and_then_some, same_Some}
-use Rattle.std.proofs.lemmas.Fmt.{decimal_digit, decimal_step, decimal_by_steps}
-use Rattle.std.proofs.lemmas.Bool.Decides.{nat_tests}
-use Rattle.std.specs.Fmt.{decimal}
-use Rattle.af_base.proofs.Basics.{positive_is}
+use Rattle.af_journal.proofs.Common.{decimal, decimal_by_steps, decimal_digit, decimal_step, nat_tests, option_and_then, option_and_then_some, positive_is, same_Some}
 use Rattle.af_journal.specs.Digits.{digit_at, fitting, digits_on, after_digit, number_at}
 
 -- a digit, and what it stands for

@@ -1,8 +1,6 @@
 -- A line of digits ends at the first byte that is none.
-use Rattle.std.specs.List.{list_all}
 use Rattle.std.proofs.Common.{◌≡◌, ℕ, ◌==◌, Bool, true, false, cond, List, [], ◌∷◌, ◌++◌, Option, Some, refl, ap, ◌∙◌, subst}
-use Rattle.std.proofs.lemmas.Bool.{eqb-true}
-use Rattle.af_base.proofs.Basics.{both}
+use Rattle.af_journal.proofs.Common.{both, eqb-true, list_all}
 use Rattle.af_journal.specs.Hexadecimal.{is_hex}
 use Rattle.af_journal.specs.LineReading.{◌>>=◌}
 use Rattle.af_journal.specs.Readings.{cut}

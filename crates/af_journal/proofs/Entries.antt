@@ -1,22 +1,10 @@
 -- The lines of a journal's entries are those that its log gives.
 use Rattle.std.proofs.Common.{◌≡◌, ℕ, zero, suc, ◌+◌, ◌<◌, ◌≤◌, ◌==◌, Bool, true, false, if◌then◌else◌, List, [], ◌∷◌, ◌++◌, length, map, take, drop, slice_index_or, refl, ap, sym, ◌∙◌, subst, arith, rules, All}
-use Rattle.std.specs.Int.{bit_at}
-use Rattle.std.specs.List.{flat_map, range_with_len}
-use Rattle.std.proofs.lemmas.List.{append_assoc, length-append, length-drop, drop-append-le, drop-drop, drop-map, drop_at, take-append-le, take-map, take_at}
-use Rattle.std.proofs.lemmas.List.Elements.{All-nil, All-cons}
-use Rattle.af_runs.proofs.Basics.{taken_up}
-use Rattle.af_base.specs.declared.frame.Frame.{Frame}
-use Rattle.af_base.specs.Log.{count_seen, entry_slot, frames_taken, kind_of, slots}
-use Rattle.af_base.specs.Sample.{packed_word}
-use Rattle.af_model.specs.Cycles.{is_mixed, taken_before}
-use Rattle.af_model.specs.Journals.{EntrySeen, RoundSeen, entries_of, frames_of, no_round, slot_frames, taken_by}
-use Rattle.af_model.specs.JournalForm.{AreEntries, IsEntry, IsMixed}
+use Rattle.af_journal.proofs.Common.{All-cons, All-nil, AreEntries, EntrySeen, Frame, IsEntry, IsMixed, LieWithin, RoundSeen, append_assoc, bit_at, count_seen, drop-append-le, drop-drop, drop-map, drop_at, entries_of, entry_slot, flat_map, frames_of, frames_taken, is_mixed, is_shown, kind_of, length-append, length-drop, no_round, packed_word, range_with_len, slot_frames, slots, take-append-le, take-map, take_at, taken_before, taken_by, taken_up}
 use Rattle.af_journal.specs.Lines.{Written, numbers}
 use Rattle.af_journal.specs.declared.line.Line.TheVariants as line
 use Rattle.af_journal.specs.Texts.{entry_lines, fast_lines, slot_lines, slots_lines, words_after}
-use Rattle.af_runs.specs.Fronts.{is_shown}
 use Rattle.af_journal.specs.Logged.{logged_entry, logged_fast, logged_slot, logged_slots}
-use Rattle.af_runs.specs.Pcm.{LieWithin}
 use Rattle.af_journal.proofs.Texts.{range-more}
 
 -- ## What a round's entries are

@@ -1,20 +1,7 @@
 -- What an entry adds to what is left of a journal's text, and what a slot that may come keeps.
-use Rattle.std.proofs.Common.{◌≡◌, ℕ, zero, suc, ◌+◌, ◌<◌, ◌≤◌, ◌==◌, ◌&&◌, nat_le, nat_lt, not, List, [], ◌∷◌, ◌++◌, length, Some, None, Bool, true, false, cond, refl, ap, ◌∙◌, sym, subst, arith}
-use Rattle.std.specs.List.{flat_map}
-use Rattle.std.proofs.lemmas.List.{get_or-replicate}
-use Rattle.std.proofs.lemmas.List.Elements.{All-nil}
-use Rattle.std.proofs.lemmas.Bool.Decides.{nat_tests}
-use Rattle.af_base.proofs.Basics.{both, equal_is, not_zero, some_is, zero_is}
-use Rattle.af_base.specs.declared.log.Cycle.{Cycle}
-use Rattle.af_base.specs.declared.log.SlotEntry.{SlotEntry}
-use Rattle.af_base.specs.declared.seen.Seen.{Seen}
+use Rattle.std.proofs.Common.{◌≡◌, ℕ, zero, suc, ◌+◌, ◌<◌, ◌≤◌, ◌==◌, ◌&&◌, nat_le, nat_lt, not, List, [], ◌∷◌, ◌++◌, length, Bool, true, false, cond, refl, ap, ◌∙◌, sym, subst, arith}
+use Rattle.af_journal.proofs.Common.{All-nil, AreEntries, Cycle, EntrySeen, IsEntry, IsFrame, IsSeen, Seen, SlotEntry, absent, both, count_seen, entries_of, entry_slot, equal_is, flat_map, get_or-replicate, is_mixed, is_spent, kind_of, nat_tests, not_true, not_zero, shown, slots, some_is, still_entry, taken_before, taken_by, zero_is}
 use Rattle.af_base.specs.declared.seen.Seen.TheVariants as seen
-use Rattle.af_base.specs.Log.{absent, count_seen, entry_slot, kind_of, slots}
-use Rattle.af_base.specs.Sample.{IsFrame}
-use Rattle.af_model.proofs.Basics.{not_true}
-use Rattle.af_model.specs.Cycles.{IsSeen, is_mixed, shown, still_entry, taken_before}
-use Rattle.af_model.specs.Journals.{EntrySeen, entries_of, taken_by}
-use Rattle.af_model.specs.JournalForm.{AreEntries, IsEntry, is_spent}
 use Rattle.af_journal.specs.declared.line.Line.TheVariants as line
 use Rattle.af_journal.specs.declared.stage.Stage.{Stage}
 use Rattle.af_journal.specs.declared.stage.Stage.TheVariants as stage
@@ -91,16 +78,9 @@ Rest tracks place stage.Entries ws = EntriesLeft tracks place ws
 pub next_of : (tracks low track : ℕ) → is_next tracks low track ≡ true → (low ≤ track) × (track < tracks)
 next_of tracks low track e = grind (arith, nat_tests)
 
-pub refused : {A : Type 0} (b : Bool) (y : A) → cond b None None ≡ Some y → ⊥
-refused true y e = cc
-refused false y e = cc
-
 pub frames_two : (s : Seen) → (count_seen s == 2) ≡ true → s ≡ seen.Frames 2
-frames_two seen.Absent e = cc
 frames_two (seen.Frames n) e = ap seen.Frames (equal_is n 2 e)
-frames_two seen.Empty e = cc
-frames_two (seen.Flushed n) e = cc
-frames_two (seen.Shut a b) e = cc
+frames_two _ e = cc
 
 pub no_frames : (n : ℕ) → 1 ≤ n → seen.Frames n ≡ shown n
 no_frames n h = ap (λ b. cond b seen.Empty (seen.Frames n)) (sym (not_zero n h))

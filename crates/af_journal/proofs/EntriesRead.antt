@@ -1,18 +1,10 @@
 -- Entries are read one after the other.
 use Rattle.std.proofs.Common.{◌≡◌, ℕ, ◌+◌, ◌≤◌, List, [], ◌∷◌, ◌++◌, length, map, ap, ◌∙◌, sym, subst, arith, append-nil, append_assoc, length-append}
-use Rattle.std.specs.List.{flat_map}
-use Rattle.std.proofs.lemmas.List.{length-map}
-use Rattle.std.proofs.lemmas.List.Concat.{flat_map-append}
-use Rattle.af_base.proofs.Basics.{map_last}
-use Rattle.af_base.specs.declared.frame.Frame.{Frame}
-use Rattle.af_base.specs.declared.log.CycleEntry.{CycleEntry}
-use Rattle.af_base.specs.Log.{kind_of}
-use Rattle.af_model.specs.Journals.{EntrySeen, frames_of}
-use Rattle.af_model.specs.JournalForm.{AreEntries, IsEntry}
+use Rattle.af_journal.proofs.Common.{AreEntries, CycleEntry, EntrySeen, Frame, IsEntry, flat_map-append, frames_of, kind_of, length-map, map_last}
 use Rattle.af_journal.specs.declared.line.Line.TheVariants as line
 use Rattle.af_journal.specs.Lines.{numbers}
 use Rattle.af_journal.specs.Taken.{AddsEntries, AddsEntry, Leaves, more_lines}
-use Rattle.af_journal.specs.Texts.{entry_lines, fast_lines}
+use Rattle.af_journal.specs.Texts.{entry_lines}
 use Rattle.af_journal.proofs.Leaving.{leaves-as, leaves-then}
 
 -- entries keep their form as others follow
@@ -43,11 +35,6 @@ pub leaves-entry : (a b d : List ℕ) (state kind : ℕ) (e : EntrySeen) → (e.
 leaves-entry a b d state kind e is one two =
     leaves-as a d (numbers (line.Entry state kind) ∷ more_lines e) (entry_lines e) (λ k. numbers (line.Entry (sym is.0 k) (sym is.1 k)) ∷ more_lines e)
     (leaves-then a b d (numbers (line.Entry state kind) ∷ []) (more_lines e) one two)
-
--- the lines of entries with their mark
-pub leaves-fast : (a b d : List ℕ) (seen : List EntrySeen) (count : ℕ) → count ≡ length seen → 1 ≤ count → Leaves a (numbers line.Fast ∷ []) b → Leaves b (flat_map entry_lines seen) d → Leaves a (fast_lines seen) d
-leaves-fast a b d [] count e h one two = absurd (omega arith)
-leaves-fast a b d (x ∷ xs) count e h one two = leaves-then a b d (numbers line.Fast ∷ []) (flat_map entry_lines (x ∷ xs)) one two
 
 -- how many were added
 pub adds-count : (entries es : List CycleEntry) (frames fs : List Frame) (seen : List EntrySeen) → AddsEntries entries frames seen es fs → length es ≡ length entries + length seen

@@ -1,10 +1,7 @@
 -- The first line of a text, by the place of its LF.
 use Rattle.std.proofs.Common.{◌≡◌, ℕ, zero, suc, ◌+◌, ◌-◌, ◌<◌, ◌≤◌, ◌==◌, List, [], ◌∷◌, Option, Some, None, Bool, true, false, cond, length, take, drop, get_or, ◌⊎◌, inl, inr, refl, ap, ◌∙◌, sym, arith}
-use Rattle.std.specs.List.{list_any, slice_range}
-use Rattle.std.proofs.lemmas.Bool.{cases_lt}
-use Rattle.std.proofs.lemmas.List.Folds.{list_any_at}
+use Rattle.af_journal.proofs.Common.{cases_lt, equal_is, list_any, list_any_at, slice_range}
 use Rattle.std.proofs.lemmas.Simd.{get_or-chunk, length-chunk}
-use Rattle.af_base.proofs.Basics.{equal_is}
 use Rattle.af_journal.specs.LineReading.{◌>>=◌}
 use Rattle.af_journal.specs.Readings.{cut}
 

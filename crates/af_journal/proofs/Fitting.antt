@@ -1,28 +1,10 @@
 -- The numbers of a journal lie in the ranges of their fields just if those of its lines do.
 use Rattle.std.proofs.Common.{⊎_elim, ◌≡◌, ◌⊎◌, inl, inr, ℕ, zero, suc, ◌+◌, ◌*◌, ◌/◌, ◌%◌, ◌<◌, ◌≤◌, ◌^◌, ◌==◌, List, [], ◌∷◌, ◌++◌, length, map, Option, Some, None, Bool, true, false, cond, slice_index_or, MatchOption, lit<, refl, ap, ◌∙◌, sym, subst, arith, All}
-use Rattle.std.specs.Int.{bit_at, cast_unsigned, w16}
-use Rattle.std.specs.List.{AllByRecursion, flat_map, range_with_len}
-use Rattle.std.proofs.lemmas.Bool.{cases_eq}
-use Rattle.std.proofs.lemmas.List.Elements.{All-cons, All-head, All-nil, All-tail}
-use Rattle.af_base.specs.declared.event.ClientCall.{ClientCall}
-use Rattle.af_base.specs.declared.frame.Frame.{Frame}
-use Rattle.af_base.specs.declared.log.Cycle.{Cycle}
+use Rattle.af_journal.proofs.Common.{All-cons, All-head, All-nil, All-tail, AllByRecursion, AreEntries, AreWords, ClientCall, CommandLook, Cycle, EntrySeen, FitsCall, FitsEntry, FitsLook, FitsRound, FitsSlot, FitsTake, FitsTrack, FitsTurn, Frame, IsAbsent, IsCommandLook, IsEntry, IsJournal, IsMixed, IsRound, IsSeen, IsTake, IsTurn, JournalData, RoundSeen, Seen, SlotEntry, TakeSeen, TrackSeen, Turn, bit_at, cases_eq, cast_unsigned, count_seen, ended_turn, entries_of, entry_slot, flat_map, is_mixed, is_shown, is_spent, kind_of, packed_word, range_with_len, seen_words, shown_if, slot_frames, slots, w16}
 use Rattle.af_base.specs.declared.log.Cycle.TheVariants as cycle
-use Rattle.af_base.specs.declared.log.SlotEntry.{SlotEntry}
-use Rattle.af_base.specs.declared.seen.Seen.{Seen}
 use Rattle.af_base.specs.declared.seen.Seen.TheVariants as seen
-use Rattle.af_base.specs.declared.turn.CommandLook.{CommandLook}
-use Rattle.af_base.specs.Log.{count_seen, entry_slot, kind_of, slots}
-use Rattle.af_base.specs.Sample.{packed_word}
-use Rattle.af_base.specs.Turn.{TakeSeen, TrackSeen, Turn, ended_turn}
 use Rattle.af_journal.proofs.Basics.{fit-append}
-use Rattle.af_model.specs.Cycles.{IsSeen, is_mixed}
-use Rattle.af_model.specs.Journals.{EntrySeen, JournalData, RoundSeen, entries_of, slot_frames}
-use Rattle.af_model.specs.JournalForm.{AreEntries, IsAbsent, IsCommandLook, IsEntry, IsJournal, IsMixed, IsRound, IsTake, IsTurn, is_spent}
-use Rattle.af_model.specs.Numbers.{AreWords, FitsCall, FitsEntry, FitsLook, FitsRound, FitsSlot, FitsTake, FitsTrack, FitsTurn, seen_words}
 use Rattle.af_model.proofs.NumbersFit.{absent_fits, still_fits}
-use Rattle.af_runs.proofs.Basics.{shown_if}
-use Rattle.af_runs.specs.Fronts.{is_shown}
 use Rattle.af_journal.specs.declared.line.Line.TheVariants as line
 use Rattle.af_journal.specs.Lines.{Written, numbers}
 use Rattle.af_journal.specs.Ranges.{IsSeenText, IsWritten}
@@ -309,11 +291,8 @@ module _ (place : ℕ) (e : EntrySeen) (m : IsMixed place e.entry) where
 -- ## Entries
 
 kind_few : (cy : Cycle) → is_spent cy ≡ false → kind_of cy < 4
-kind_few cycle.Mixed kept = lit< tt
-kind_few cycle.Idle kept = lit< tt
-kind_few cycle.Cold kept = lit< tt
-kind_few cycle.Exit kept = lit< tt
 kind_few (cycle.Spent n) kept = cc
+kind_few _ kept = lit< tt
 
 entry_fits : (place : ℕ) (e : EntrySeen) → IsEntry place e.entry → FitsEntry e.entry → AreWritten (entry_lines e)
 unfolding slots_lines

@@ -1,15 +1,9 @@
 -- Packed words are read exactly if they are spelled.
 use Rattle.std.proofs.Common.{◌≡◌, ℕ, ◌+◌, ◌*◌, ◌/◌, ◌%◌, ◌<◌, ◌^◌, List, [], ◌∷◌, ◌++◌, Option, Some, None, Bool, true, false, ◌==◌, cond, refl, ap, ◌∙◌, sym, subst, arith}
-use Rattle.std.specs.List.{flat_map}
-use Rattle.std.specs.Int.{from_be_bytes, to_be_bytes, byte_at as byte_of, w32}
-use Rattle.std.proofs.lemmas.Nat.{be_bytes_4, from_be_bytes-to_be_bytes_4}
-use Rattle.std.proofs.lemmas.Option.{none-some, same_Some}
-use Rattle.std.proofs.lemmas.Bool.Decides.{nat_tests}
-use Rattle.af_base.proofs.Basics.{byte_small, equal_is, small}
+use Rattle.af_journal.proofs.Common.{AreWords, be_bytes_4, byte_at as byte_of, byte_small, equal_is, flat_map, from_be_bytes, from_be_bytes-to_be_bytes_4, nat_tests, none-some, same_Some, small, to_be_bytes, w32}
 use Rattle.af_journal.specs.Lines.{Written, numbers, words, spelled, hex_byte, hex_digit, hex_word, line_text}
 use Rattle.af_journal.specs.declared.line.Line.{Line}
 use Rattle.af_journal.specs.LineReading.{◌>>=◌, byte_at, hex_at, call_at, marked_at, turn_line_at, packed_at, some_words, words_after_mark, words_at, written_at, line_at}
-use Rattle.af_model.specs.Numbers.{AreWords}
 use Rattle.af_journal.specs.Ranges.{IsWritten}
 use Rattle.af_journal.proofs.Spelled.{bind_some, guard_some}
 use Rattle.af_journal.proofs.LineLaws.{line-sound, line-again}

@@ -1,9 +1,6 @@
 -- Reading line by line: lines in order are taken, whatever was taken can be completed, and nothing else is taken.
 use Rattle.std.proofs.Common.{◌≡◌, ℕ, zero, suc, ◌+◌, ◌<◌, ◌≤◌, ◌==◌, ◌&&◌, nat_le, nat_lt, not, List, [], ◌∷◌, ◌++◌, length, map, take, drop, Option, Some, None, Bool, true, false, cond, refl, ap, ◌∙◌, sym, subst, arith, append_assoc, append-nil, length-append, add-one, lit<}
-use Rattle.std.specs.List.{flat_map, join_with_byte, AllByRecursion}
-use Rattle.std.proofs.lemmas.List.Concat.{flat_map-append}
-use Rattle.std.proofs.lemmas.Option.{none-some, same_Some}
-use Rattle.af_base.proofs.Basics.{itself, not_zero}
+use Rattle.af_journal.proofs.Common.{AllByRecursion, AreWords, flat_map, flat_map-append, itself, join_with_byte, none-some, not_zero, same_Some}
 use Rattle.af_base.specs.declared.event.ClientCall.TheVariants as call
 use Rattle.af_base.specs.declared.seen.Seen.TheVariants as seen
 use Rattle.af_base.specs.declared.state.Push.TheVariants as pushing
@@ -13,7 +10,6 @@ use Rattle.af_journal.specs.declared.stage.Stage.{Stage}
 use Rattle.af_journal.specs.declared.stage.Stage.TheVariants as stage
 use Rattle.af_journal.specs.Lines.{Written, numbers, words, spelled, with_lf}
 use Rattle.af_journal.specs.LineReading.{◌>>=◌, written_at}
-use Rattle.af_model.specs.Numbers.{AreWords}
 use Rattle.af_journal.specs.Ranges.{IsWritten}
 use Rattle.af_journal.specs.Readings.{IsFirstBad, IsInOrder, after_all, ends, first_lines, first_refused, parts_of, refused_or, stage_after}
 use Rattle.af_journal.specs.Stages.{after_written, if_so, may_end}

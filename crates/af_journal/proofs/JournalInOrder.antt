@@ -1,23 +1,8 @@
 -- The lines of a journal are in order.
 use Rattle.std.proofs.Common.{◌≡◌, ◌⊎◌, inl, inr, ℕ, zero, suc, ◌+◌, ◌<◌, ◌≤◌, ◌==◌, ◌&&◌, nat_le, nat_lt, not, List, [], ◌∷◌, ◌++◌, length, map, drop, Option, Some, None, Bool, true, false, cond, slice_index_or, MatchOption, lit<, refl, ap, ◌∙◌, sym, subst, arith, All}
-use Rattle.std.specs.Int.{bit_at}
-use Rattle.std.specs.List.{flat_map, range_with_len}
-use Rattle.std.proofs.lemmas.List.{length-map, length-drop, length-take-le}
-use Rattle.std.proofs.lemmas.List.Elements.{All-head, All-tail}
-use Rattle.std.proofs.lemmas.Bool.Decides.{nat_tests}
-use Rattle.af_base.proofs.Basics.{not_zero}
-use Rattle.af_base.specs.declared.log.Cycle.{Cycle}
+use Rattle.af_journal.proofs.Common.{All-head, All-tail, AreEntries, Cycle, EntrySeen, IsAbsent, IsEntry, IsMixed, IsRound, IsSeen, IsTurn, JournalData, RoundSeen, Seen, Turn, bit_at, count_seen, entries_of, entry_slot, flat_map, is_mixed, is_shown, is_spent, kind_of, length-drop, length-map, length-take-le, nat_tests, not_zero, packed_word, range_with_len, shown, shown_if, slot_frames, slots, taken_before, taken_by, taken_up}
 use Rattle.af_base.specs.declared.log.Cycle.TheVariants as cycle
-use Rattle.af_base.specs.declared.seen.Seen.{Seen}
 use Rattle.af_base.specs.declared.seen.Seen.TheVariants as seen
-use Rattle.af_base.specs.Log.{count_seen, entry_slot, kind_of, slots}
-use Rattle.af_base.specs.Sample.{packed_word}
-use Rattle.af_base.specs.Turn.{Turn}
-use Rattle.af_model.specs.Cycles.{IsSeen, is_mixed, shown, taken_before}
-use Rattle.af_model.specs.Journals.{EntrySeen, JournalData, RoundSeen, entries_of, slot_frames, taken_by}
-use Rattle.af_model.specs.JournalForm.{AreEntries, IsAbsent, IsEntry, IsMixed, IsRound, IsTurn, is_spent}
-use Rattle.af_runs.proofs.Basics.{shown_if, taken_up}
-use Rattle.af_runs.specs.Fronts.{is_shown}
 use Rattle.af_journal.specs.declared.line.Line.TheVariants as line
 use Rattle.af_journal.specs.declared.stage.Stage.{Stage}
 use Rattle.af_journal.specs.declared.stage.Stage.TheVariants as stage
@@ -44,18 +29,7 @@ record OfMix (i : ℕ) (at : Stage) : Type 0 where
 
 of_mix : (i : ℕ) (at : Stage) → AtSlot i at → OfMix i at
 of_mix i (stage.Mixed low) p = record { low = low; is = refl; some = p.0; up_to = p.1 }
-of_mix i stage.Nothing p = absurd p
-of_mix i (stage.Clients low) p = absurd p
-of_mix i (stage.Calls low) p = absurd p
-of_mix i (stage.Client low) p = absurd p
-of_mix i (stage.Turn low part) p = absurd p
-of_mix i (stage.Look t) p = absurd p
-of_mix i (stage.Takes low) p = absurd p
-of_mix i (stage.Take due low) p = absurd p
-of_mix i stage.Turned p = absurd p
-of_mix i stage.Fast p = absurd p
-of_mix i (stage.Slot due low) p = absurd p
-of_mix i stage.Entries p = absurd p
+of_mix i _ p = absurd p
 
 slot_next : (low i : ℕ) → low ≤ i → i < 32 → (nat_le low i && nat_lt i 32) ≡ true
 slot_next low i h k = grind (arith, nat_tests)

@@ -1,24 +1,12 @@
 -- Lines in order are those of a journal.
 use Rattle.std.proofs.Common.{◌≡◌, inl, inr, ℕ, zero, suc, ◌+◌, ◌<◌, ◌^◌, ◌==◌, ◌&&◌, nat_lt, List, [], ◌∷◌, ◌++◌, length, map, Some, None, Bool, true, false, cond, refl, ap, ◌∙◌, sym, subst, arith}
-use Rattle.std.specs.List.{AllByRecursion}
-use Rattle.std.proofs.lemmas.List.Elements.{All-nil}
-use Rattle.std.proofs.lemmas.Option.{same_Some}
-use Rattle.af_base.proofs.Basics.{below_is, both, equal_is, not_first, some_is, zero_is}
+use Rattle.af_journal.proofs.Common.{All-nil, AllByRecursion, AreWords, CommandLook, IsRound, IsSeen, IsTake, JournalData, Seen, below_is, both, count_seen, equal_is, not_first, not_true, packed_word, same_Some, some_is, zero_is}
 use Rattle.af_base.specs.declared.log.Cycle.TheVariants as cycle
-use Rattle.af_base.specs.declared.seen.Seen.{Seen}
-use Rattle.af_base.specs.declared.turn.CommandLook.{CommandLook}
-use Rattle.af_base.specs.Log.{count_seen}
-use Rattle.af_base.specs.Sample.{packed_word}
-use Rattle.af_model.proofs.Basics.{not_true}
-use Rattle.af_model.specs.Cycles.{IsSeen}
-use Rattle.af_model.specs.Journals.{JournalData}
-use Rattle.af_model.specs.JournalForm.{IsRound, IsTake}
 use Rattle.af_journal.specs.declared.line.Line.{Line}
 use Rattle.af_journal.specs.declared.line.Line.TheVariants as line
 use Rattle.af_journal.specs.declared.stage.Stage.{Stage}
 use Rattle.af_journal.specs.declared.stage.Stage.TheVariants as stage
 use Rattle.af_journal.specs.Lines.{Written, numbers, words}
-use Rattle.af_model.specs.Numbers.{AreWords}
 use Rattle.af_journal.specs.Ranges.{IsLine, IsWritten}
 use Rattle.af_journal.specs.Readings.{AreInOrder, CanBeWritten, HasReading, IsInOrder, after_all}
 use Rattle.af_journal.specs.Stages.{after_call, after_clients, after_entry, after_fast, after_line, after_look, after_part, after_shown, after_slot, after_take, after_taken, after_turn, after_words, comes, if_so, is_call, is_next, is_round, may_be_slot, may_end}
@@ -40,33 +28,16 @@ module _ (tracks place : ℕ) (ws : List Written) where
 
   turn_step : (l : Line) (next : Stage) → after_turn l ≡ Some next → Rest tracks place next ws → FastLeft tracks place (numbers l ∷ ws)
   turn_step line.Round next e r = rounds_fast tracks place (numbers line.Round ∷ ws) (with_round tracks place ws (some_rest (stage.Clients 0) next e r))
-  turn_step (line.Client track) next e r = cc
-  turn_step (line.Call answer) next e r = cc
-  turn_step (line.Turn room ack cycle) next e r = cc
-  turn_step line.Ended next e r = cc
-  turn_step (line.Look track flush rear answer) next e r = cc
-  turn_step (line.Disabled track) next e r = cc
-  turn_step (line.Status track word) next e r = cc
-  turn_step (line.Pushed push) next e r = cc
-  turn_step (line.Take track gains flush rear answer) next e r = cc
   turn_step line.Fast next e r = with_fast tracks place ws (some_rest stage.Fast next e r)
-  turn_step (line.Entry state kind) next e r = cc
-  turn_step (line.Slot i scale mono gains flush rear answer) next e r = cc
+  turn_step _ next e r = cc
 
   clients_step : (low : ℕ) (l : Line) (next : Stage) → after_clients tracks low l ≡ Some next → Rest tracks place next ws → ClientsLeft tracks low place (numbers l ∷ ws)
   clients_step low line.Round next e r = fast_clients tracks low place (numbers line.Round ∷ ws) (turn_step line.Round next e r)
   clients_step low (line.Client track) next e r = let g = so_rest (is_next tracks low track) (stage.Client (track + 1)) next e r in let p = next_of tracks low track g.0 in with_client tracks low track place ws p.0 p.1 g.1
-  clients_step low (line.Call answer) next e r = cc
   clients_step low (line.Turn room ack cycle) next e r = with_turn tracks low place room cycle ack ws (some_rest (stage.Turn 0 0) next e r)
   clients_step low line.Ended next e r = with_ended tracks low place ws (some_rest stage.Turned next e r)
-  clients_step low (line.Look track flush rear answer) next e r = cc
-  clients_step low (line.Disabled track) next e r = cc
-  clients_step low (line.Status track word) next e r = cc
-  clients_step low (line.Pushed push) next e r = cc
-  clients_step low (line.Take track gains flush rear answer) next e r = cc
   clients_step low line.Fast next e r = fast_clients tracks low place (numbers line.Fast ∷ ws) (turn_step line.Fast next e r)
-  clients_step low (line.Entry state kind) next e r = cc
-  clients_step low (line.Slot i scale mono gains flush rear answer) next e r = cc
+  clients_step low _ next e r = cc
 
   call_step : (low : ℕ) (l : Line) (next : Stage) → after_call tracks low l ≡ Some next → Rest tracks place next ws → CallsLeft tracks low place (numbers l ∷ ws)
   call_step low line.Round next e r = clients_calls tracks low place (numbers line.Round ∷ ws) (clients_step low line.Round next e r)
@@ -74,44 +45,16 @@ module _ (tracks place : ℕ) (ws : List Written) where
   call_step low (line.Call answer) next e r = with_call tracks low place ws answer (some_rest (stage.Calls low) next e r)
   call_step low (line.Turn room ack cycle) next e r = clients_calls tracks low place (numbers (line.Turn room ack cycle) ∷ ws) (clients_step low (line.Turn room ack cycle) next e r)
   call_step low line.Ended next e r = clients_calls tracks low place (numbers line.Ended ∷ ws) (clients_step low line.Ended next e r)
-  call_step low (line.Look track flush rear answer) next e r = cc
-  call_step low (line.Disabled track) next e r = cc
-  call_step low (line.Status track word) next e r = cc
-  call_step low (line.Pushed push) next e r = cc
-  call_step low (line.Take track gains flush rear answer) next e r = cc
   call_step low line.Fast next e r = clients_calls tracks low place (numbers line.Fast ∷ ws) (clients_step low line.Fast next e r)
-  call_step low (line.Entry state kind) next e r = cc
-  call_step low (line.Slot i scale mono gains flush rear answer) next e r = cc
+  call_step low _ next e r = cc
 
   due_step : (low : ℕ) (l : Line) (next : Stage) → if_so (is_call l) (stage.Calls low) ≡ Some next → Rest tracks place next ws → CallDue tracks low place (numbers l ∷ ws)
-  due_step low line.Round next e r = cc
-  due_step low (line.Client track) next e r = cc
   due_step low (line.Call answer) next e r = first_call tracks low place ws answer (some_rest (stage.Calls low) next e r)
-  due_step low (line.Turn room ack cycle) next e r = cc
-  due_step low line.Ended next e r = cc
-  due_step low (line.Look track flush rear answer) next e r = cc
-  due_step low (line.Disabled track) next e r = cc
-  due_step low (line.Status track word) next e r = cc
-  due_step low (line.Pushed push) next e r = cc
-  due_step low (line.Take track gains flush rear answer) next e r = cc
-  due_step low line.Fast next e r = cc
-  due_step low (line.Entry state kind) next e r = cc
-  due_step low (line.Slot i scale mono gains flush rear answer) next e r = cc
+  due_step low _ next e r = cc
 
   nothing_step : (l : Line) (next : Stage) → if_so (is_round l) (stage.Clients 0) ≡ Some next → Rest tracks place next ws → RoundsLeft tracks place (numbers l ∷ ws)
   nothing_step line.Round next e r = with_round tracks place ws (some_rest (stage.Clients 0) next e r)
-  nothing_step (line.Client track) next e r = cc
-  nothing_step (line.Call answer) next e r = cc
-  nothing_step (line.Turn room ack cycle) next e r = cc
-  nothing_step line.Ended next e r = cc
-  nothing_step (line.Look track flush rear answer) next e r = cc
-  nothing_step (line.Disabled track) next e r = cc
-  nothing_step (line.Status track word) next e r = cc
-  nothing_step (line.Pushed push) next e r = cc
-  nothing_step (line.Take track gains flush rear answer) next e r = cc
-  nothing_step line.Fast next e r = cc
-  nothing_step (line.Entry state kind) next e r = cc
-  nothing_step (line.Slot i scale mono gains flush rear answer) next e r = cc
+  nothing_step _ next e r = cc
 
   -- a look, with or without words
   look_by : (low part track flush rear : ℕ) (answer : Seen) (b : Bool) → (count_seen answer == 2) ≡ b → IsSeen answer → comes track 0 low part ≡ true → track < tracks
@@ -147,19 +90,11 @@ module _ (tracks place : ℕ) (ws : List Written) where
       with_status tracks low part track word place ws p.1 (below_is track tracks p.0) g.1
 
   part_step : (low part : ℕ) (l : Line) (next : Stage) → IsLine l → after_part tracks low part l ≡ Some next → Rest tracks place next ws → TurnLeft tracks low part place (numbers l ∷ ws)
-  part_step low part line.Round next fit e r = cc
-  part_step low part (line.Client track) next fit e r = cc
-  part_step low part (line.Call answer) next fit e r = cc
-  part_step low part (line.Turn room ack cycle) next fit e r = cc
-  part_step low part line.Ended next fit e r = cc
   part_step low part (line.Look track flush rear answer) next fit e r = look_step low part track flush rear answer next (seen_is answer fit.1) e r
   part_step low part (line.Disabled track) next fit e r = disabled_step low part track next e r
   part_step low part (line.Status track word) next fit e r = status_step low part track word next e r
   part_step low part (line.Pushed push) next fit e r = with_push tracks low part place ws push (some_rest (stage.Takes 0) next e r)
-  part_step low part (line.Take track gains flush rear answer) next fit e r = cc
-  part_step low part line.Fast next fit e r = cc
-  part_step low part (line.Entry state kind) next fit e r = cc
-  part_step low part (line.Slot i scale mono gains flush rear answer) next fit e r = cc
+  part_step low part _ next fit e r = cc
 
   -- a take, with or without words
   take_by : (count low : ℕ) (b : Bool) → (count == 0) ≡ b → Rest tracks place (cond b (stage.Takes low) (stage.Take count low)) ws → TakeLeft tracks count low place ws
@@ -178,18 +113,9 @@ module _ (tracks place : ℕ) (ws : List Written) where
 
   take_step : (low : ℕ) (l : Line) (next : Stage) → IsLine l → after_take tracks low l ≡ Some next → Rest tracks place next ws → TakesLeft tracks low place (numbers l ∷ ws)
   take_step low line.Round next fit e r = fast_takes low (numbers line.Round ∷ ws) (turn_step line.Round next e r)
-  take_step low (line.Client track) next fit e r = cc
-  take_step low (line.Call answer) next fit e r = cc
-  take_step low (line.Turn room ack cycle) next fit e r = cc
-  take_step low line.Ended next fit e r = cc
-  take_step low (line.Look track flush rear answer) next fit e r = cc
-  take_step low (line.Disabled track) next fit e r = cc
-  take_step low (line.Status track word) next fit e r = cc
-  take_step low (line.Pushed push) next fit e r = cc
   take_step low (line.Take track gains flush rear answer) next fit e r = one_take low track gains flush rear answer next (seen_is answer fit.1) e r
   take_step low line.Fast next fit e r = fast_takes low (numbers line.Fast ∷ ws) (turn_step line.Fast next e r)
-  take_step low (line.Entry state kind) next fit e r = cc
-  take_step low (line.Slot i scale mono gains flush rear answer) next fit e r = cc
+  take_step low _ next fit e r = cc
 
   still_by : (state kind : ℕ) → (kind == 0) ≡ false → kind < 4 → EntriesLeft tracks place ws → EntriesDue tracks place (numbers (line.Entry state kind) ∷ ws)
   still_by state zero z h l = cc
@@ -203,34 +129,13 @@ module _ (tracks place : ℕ) (ws : List Written) where
   entry_by state kind false z h r = still_by state kind z h r
 
   fast_step : (l : Line) (next : Stage) → IsLine l → after_fast l ≡ Some next → Rest tracks place next ws → EntriesDue tracks place (numbers l ∷ ws)
-  fast_step line.Round next fit e r = cc
-  fast_step (line.Client track) next fit e r = cc
-  fast_step (line.Call answer) next fit e r = cc
-  fast_step (line.Turn room ack cycle) next fit e r = cc
-  fast_step line.Ended next fit e r = cc
-  fast_step (line.Look track flush rear answer) next fit e r = cc
-  fast_step (line.Disabled track) next fit e r = cc
-  fast_step (line.Status track word) next fit e r = cc
-  fast_step (line.Pushed push) next fit e r = cc
-  fast_step (line.Take track gains flush rear answer) next fit e r = cc
-  fast_step line.Fast next fit e r = cc
   fast_step (line.Entry state kind) next fit e r = entry_by state kind (kind == 0) refl fit.1 (some_rest (cond (kind == 0) (stage.Mixed 0) stage.Entries) next e r)
-  fast_step (line.Slot i scale mono gains flush rear answer) next fit e r = cc
+  fast_step _ next fit e r = cc
 
   entry_step : (l : Line) (next : Stage) → IsLine l → after_entry l ≡ Some next → Rest tracks place next ws → EntriesLeft tracks place (numbers l ∷ ws)
   entry_step line.Round next fit e r = rounds_entries tracks place (numbers line.Round ∷ ws) (with_round tracks place ws (some_rest (stage.Clients 0) next e r))
-  entry_step (line.Client track) next fit e r = cc
-  entry_step (line.Call answer) next fit e r = cc
-  entry_step (line.Turn room ack cycle) next fit e r = cc
-  entry_step line.Ended next fit e r = cc
-  entry_step (line.Look track flush rear answer) next fit e r = cc
-  entry_step (line.Disabled track) next fit e r = cc
-  entry_step (line.Status track word) next fit e r = cc
-  entry_step (line.Pushed push) next fit e r = cc
-  entry_step (line.Take track gains flush rear answer) next fit e r = cc
-  entry_step line.Fast next fit e r = cc
   entry_step (line.Entry state kind) next fit e r = due_left tracks place (numbers (line.Entry state kind) ∷ ws) (fast_step (line.Entry state kind) next fit e r)
-  entry_step (line.Slot i scale mono gains flush rear answer) next fit e r = cc
+  entry_step _ next fit e r = cc
 
   -- a slot, with or without words
   slot_by : (count low : ℕ) (b : Bool) → (count == 0) ≡ b → Rest tracks place (cond b (stage.Mixed low) (stage.Slot count low)) ws → SlotLeft tracks count low place ws
@@ -275,9 +180,7 @@ module _ (tracks place : ℕ) (ws : List Written) where
   line_step stage.Fast l next fit e r = fast_step l next fit e r
   line_step (stage.Mixed low) l next fit e r = slot_step low l next fit e r
   line_step stage.Entries l next fit e r = entry_step l next fit e r
-  line_step (stage.Look track) l next fit e r = cc
-  line_step (stage.Take due low) l next fit e r = cc
-  line_step (stage.Slot due low) l next fit e r = cc
+  line_step _ l next fit e r = cc
 
 -- the place in the log after a line of words
 abbrev after_place : Stage → ℕ → ℕ → ℕ
@@ -326,16 +229,11 @@ at_end : (tracks place : ℕ) (at : Stage) → may_end at ≡ true → Rest trac
 at_end tracks place stage.Nothing may = no_rounds tracks place
 at_end tracks place (stage.Clients low) may = fast_clients tracks low place [] (rounds_fast tracks place [] (no_rounds tracks place))
 at_end tracks place (stage.Calls low) may = clients_calls tracks low place [] (fast_clients tracks low place [] (rounds_fast tracks place [] (no_rounds tracks place)))
-at_end tracks place (stage.Client low) may = cc
-at_end tracks place (stage.Turn low part) may = cc
-at_end tracks place (stage.Look track) may = cc
 at_end tracks place (stage.Takes low) may = fast_takes tracks place [] low [] (rounds_fast tracks place [] (no_rounds tracks place))
-at_end tracks place (stage.Take due low) may = cc
 at_end tracks place stage.Turned may = rounds_fast tracks place [] (no_rounds tracks place)
-at_end tracks place stage.Fast may = cc
 at_end tracks place (stage.Mixed low) may = entries_slots tracks low place [] (some_is low (not_true (low == 0) may)) (rounds_entries tracks place [] (no_rounds tracks place))
-at_end tracks place (stage.Slot due low) may = cc
 at_end tracks place stage.Entries may = rounds_entries tracks place [] (no_rounds tracks place)
+at_end tracks place _ may = cc
 
 -- what the lines after a stage tell
 pub left : (tracks place : ℕ) (at end : Stage) (ws : List Written) → AllByRecursion IsWritten ws → after_all tracks at ws ≡ Some end → may_end end ≡ true → Rest tracks place at ws

@@ -1,16 +1,7 @@
 -- What is kept of a round: its form, its numbers and its pokes stay, and nothing is left out of one that has no more than others follow.
 use Rattle.std.proofs.Common.{◌≡◌, ℕ, zero, suc, ◌+◌, ◌<◌, ◌≤◌, ◌||◌, nat_lt, not, Bool, true, false, cond, List, [], ◌∷◌, ◌++◌, length, map, take, Option, Some, None, MatchOption, inl, inr, refl, ap, ◌∙◌, sym, arith, All, length-append}
-use Rattle.std.specs.List.{AllByRecursion, flat_map, list_any}
-use Rattle.std.specs.Option.{option_map}
-use Rattle.std.proofs.lemmas.List.{take_all, take_at, length-map}
-use Rattle.std.proofs.lemmas.List.Elements.{All-cons, All-head, All-nil, All-tail}
-use Rattle.af_base.proofs.Basics.{neither, not_below_is}
-use Rattle.af_base.specs.Turn.{TrackSeen, Turn}
+use Rattle.af_journal.proofs.Common.{All-cons, All-head, All-nil, All-tail, AllByRecursion, EntrySeen, IsCommandLook, IsRound, IsTurn, RoundSeen, TrackSeen, Turn, calls_in, entries_of, flat_map, is_lawful_block, is_poke_on, length-map, list_any, neither, not_below_is, option_map, take_all, take_at}
 use Rattle.af_journal.proofs.Basics.{fit-append}
-use Rattle.af_model.specs.Journals.{EntrySeen, RoundSeen, entries_of}
-use Rattle.af_model.specs.JournalForm.{IsCommandLook, IsRound, IsTurn}
-use Rattle.af_runs.specs.LegalRuns.{is_lawful_block, is_poke_on, marks_of}
-use Rattle.af_runs.specs.Runs.{calls_in}
 use Rattle.af_journal.specs.Judged.{first_looks, first_of_round, first_of_turn, has_more, is_beyond}
 use Rattle.af_journal.specs.declared.line.Line.TheVariants as line
 use Rattle.af_journal.specs.Lines.{Written, numbers}
@@ -161,11 +152,6 @@ rounds_fit most (r ∷ rounds) fit =
     let p = fits-parts (round_lines r) (flat_map round_lines rounds) fit in
     fit-append (round_lines (first_of_round most r)) (flat_map round_lines (map (first_of_round most) rounds)) (round_fit most r p.0) (rounds_fit most rounds p.1)
 
-pub rounds_form : (most tracks : ℕ) (rounds : List RoundSeen) → All (IsRound tracks) rounds → All (IsRound tracks) (map (first_of_round most) rounds)
-rounds_form most tracks [] all = All-nil (IsRound tracks)
-rounds_form most tracks (r ∷ rounds) all =
-    All-cons (IsRound tracks) (first_of_round most r) (map (first_of_round most) rounds) (round_form most tracks r (All-head (IsRound tracks) r rounds all)) (rounds_form most tracks rounds (All-tail (IsRound tracks) r rounds all))
-
 -- cut rounds have no more entries
 pub rounds_few : (most : ℕ) (rounds : List RoundSeen) → length (entries_of (map (first_of_round most) rounds)) ≤ length (entries_of rounds)
 rounds_few most [] = omega arith
@@ -182,9 +168,6 @@ any-same most track commands (r ∷ rounds) = ap (λ b. list_any (is_poke_on com
 
 pub lawful-same : (most track : ℕ) (commands : Bool) (rounds : List RoundSeen) → is_lawful_block commands (map (first_of_round most) rounds) track ≡ is_lawful_block commands rounds track
 lawful-same most track commands rounds = ap (λ (b : Bool). not b) (any-same most track commands rounds)
-
-pub marks-same : (most : ℕ) (rounds : List RoundSeen) → marks_of (map (first_of_round most) rounds) ≡ marks_of rounds
-marks-same most rounds = λ i. record { streams = λ track. lawful-same most track false rounds i; commands = λ track. lawful-same most track true rounds i }
 
 -- ## A round that has no more than a legal one is judged whole
 

@@ -1,24 +1,14 @@
 -- No line has an LF in it.
 use Rattle.std.proofs.Common.{◌≡◌, ℕ, ◌/◌, ◌%◌, ◌<◌, ◌^◌, List, [], ◌∷◌, ◌++◌, Bool, false, ◌==◌, refl, arith, lit<}
-use Rattle.std.specs.List.{flat_map}
-use Rattle.std.specs.Int.{byte_at}
-use Rattle.std.specs.Fmt.{decimal}
-use Rattle.std.proofs.lemmas.Bool.Decides.{nat_tests}
-use Rattle.af_base.proofs.Basics.{byte_small}
-use Rattle.af_base.specs.declared.event.ClientCall.{ClientCall}
+use Rattle.af_journal.proofs.Common.{ClientCall, FitsCall, FitsPush, Push, Seen, byte_at, byte_small, decimal, flat_map, nat_tests, one_few, one_if}
 use Rattle.af_base.specs.declared.event.ClientCall.TheVariants as call
-use Rattle.af_base.specs.declared.seen.Seen.{Seen}
 use Rattle.af_base.specs.declared.seen.Seen.TheVariants as seen
-use Rattle.af_base.specs.declared.state.Push.{Push}
 use Rattle.af_base.specs.declared.state.Push.TheVariants as pushing
 use Rattle.af_journal.specs.declared.line.Line.{Line}
 use Rattle.af_journal.specs.declared.line.Line.TheVariants as line
 use Rattle.af_journal.specs.Lines.{Written, numbers, words, call_line, hex_byte, hex_digit, hex_word, line_text, push_line, seen_text, spelled}
-use Rattle.af_model.proofs.Basics.{one_few}
-use Rattle.af_model.specs.Numbers.{FitsCall, FitsPush}
 use Rattle.af_journal.specs.Ranges.{IsLine, IsSeenText, IsWritten}
 use Rattle.af_journal.proofs.Spelled.{Lacks, lacks-append, decimal_lacks}
-use Rattle.af_model.specs.Reports.{one_if}
 
 wide : (n : ℕ) → n < 2 ^ 32 → n < 2 ^ 64
 wide n h = omega arith

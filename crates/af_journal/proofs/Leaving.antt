@@ -1,17 +1,11 @@
 -- What a reader leaves of a text, line by line.
-use Rattle.std.proofs.Common.{◌≡◌, ℕ, ◌+◌, ◌<◌, ◌≤◌, ◌^◌, ◌==◌, cond, subst, List, [], ◌∷◌, ◌++◌, length, drop, get_or, Some, refl, ap, ◌∙◌, sym, arith, All, append_assoc, append-nil, length-append}
-use Rattle.std.specs.List.{flat_map}
-use Rattle.std.proofs.lemmas.List.Concat.{flat_map-append}
-use Rattle.std.proofs.lemmas.List.Elements.{All-append, All-cons, All-nil}
-use Rattle.af_base.specs.declared.seen.Seen.{Seen}
-use Rattle.af_base.specs.declared.turn.CommandLook.{CommandLook}
-use Rattle.af_base.specs.Log.{count_seen}
+use Rattle.std.proofs.Common.{◌≡◌, ℕ, ◌+◌, ◌<◌, ◌≤◌, ◌^◌, ◌==◌, subst, List, [], ◌∷◌, ◌++◌, length, drop, get_or, Some, refl, ap, ◌∙◌, sym, arith, All, append_assoc, append-nil, length-append}
+use Rattle.af_journal.proofs.Common.{All-append, All-cons, All-nil, AreWords, CommandLook, Seen, flat_map, flat_map-append}
 use Rattle.af_journal.proofs.Basics.{fit-append}
 use Rattle.af_journal.specs.declared.line.Line.{Line}
 use Rattle.af_journal.specs.declared.line.Line.TheVariants as line
 use Rattle.af_journal.specs.Lines.{Written, hex_word, numbers, words, spelled, with_lf}
 use Rattle.af_journal.specs.LineReading.{line_at, packed_at}
-use Rattle.af_model.specs.Numbers.{AreWords}
 use Rattle.af_journal.specs.Ranges.{IsLine, IsWritten}
 use Rattle.af_journal.specs.Readings.{cut}
 use Rattle.af_journal.specs.Taken.{Leaves}
@@ -70,14 +64,6 @@ leaves-words bytes part after digits ws c p d some fit = record {
 pub leaves-frames : (a b ws us : List ℕ) → us ≡ ws → 1 ≤ length ws → Leaves a (words ws ∷ []) b → Leaves a (words_after us) b
 leaves-frames a b [] us same some l = absurd (omega arith)
 leaves-frames a b (w ∷ ws) us same some l = leaves-as a b (words (w ∷ ws) ∷ []) (words_after us) (ap words_after (sym same)) l
-
--- the words of a command
-pub leaves-command : (a b ws : List ℕ) (l : CommandLook) → length ws ≡ 2 → count_seen l.seen ≡ 2 → l.code ≡ get_or ws 0 0 → l.argument ≡ get_or ws 1 0 → Leaves a (words ws ∷ []) b → Leaves a (words_after (command_words l)) b
-leaves-command a b [] l two seen code argument is = absurd (omega arith)
-leaves-command a b (x ∷ []) l two seen code argument is = absurd (omega arith)
-leaves-command a b (x ∷ y ∷ []) l two seen code argument is =
-    leaves-as a b (words (x ∷ y ∷ []) ∷ []) (words_after (command_words l)) ((λ k. words (sym code k ∷ sym argument k ∷ []) ∷ []) ∙ ap (λ n. words_after (cond (n == 2) (l.code ∷ l.argument ∷ []) [])) (sym seen)) is
-leaves-command a b (x ∷ y ∷ z ∷ ws) l two seen code argument is = absurd (omega arith)
 
 -- the words of a list that are words, and one more
 pub words-fit : (ws : List ℕ) (w : ℕ) → AreWords ws → w < 2 ^ 32 → AreWords (ws ++ w ∷ [])

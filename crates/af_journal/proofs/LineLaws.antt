@@ -1,25 +1,14 @@
 -- A line is read exactly if it is spelled: all kinds of lines.
 use Rattle.std.proofs.Common.{◌≡◌, ℕ, ◌+◌, ◌-◌, ◌<◌, ◌≤◌, ◌^◌, List, [], ◌∷◌, ◌++◌, Option, Some, None, Bool, true, false, ◌==◌, cond, refl, ap, ◌∙◌, sym, subst, arith, append_assoc, append-nil, lit<}
-use Rattle.std.proofs.lemmas.Option.{same_Some}
-use Rattle.std.proofs.lemmas.Fmt.{decimal_digit}
-use Rattle.std.proofs.lemmas.Bool.Decides.{nat_tests}
-use Rattle.std.specs.Fmt.{decimal}
-use Rattle.af_base.proofs.Basics.{equal_is}
-use Rattle.af_base.specs.declared.event.ClientCall.{ClientCall}
+use Rattle.af_journal.proofs.Common.{AreWords, ClientCall, FitsPush, Push, Seen, decimal, decimal_digit, equal_is, nat_tests, one_few, one_if, same_Some, slots}
 use Rattle.af_base.specs.declared.event.ClientCall.TheVariants as call
-use Rattle.af_base.specs.declared.seen.Seen.{Seen}
-use Rattle.af_base.specs.declared.state.Push.{Push}
 use Rattle.af_base.specs.declared.state.Push.TheVariants as pushing
-use Rattle.af_base.specs.Log.{slots}
 use Rattle.af_journal.specs.declared.line.Line.{Line}
 use Rattle.af_journal.specs.declared.line.Line.TheVariants as line
 use Rattle.af_journal.specs.Lines.{call_line, line_text, push_line, seen_text}
 use Rattle.af_journal.specs.LineReading.{◌>>=◌, call_at, entry_at, line_at, look_at, marked_at, next_number, next_word, one_at, push_at, pushed_at, busy_at, seen_at, slot_at, slot_from, status_at, take_at, turn_at, turn_line_at, two_at, whole}
-use Rattle.af_model.proofs.Basics.{one_few}
-use Rattle.af_model.specs.Numbers.{AreWords, FitsPush}
 use Rattle.af_journal.specs.Ranges.{IsLine, IsSeenText}
 use Rattle.af_journal.proofs.Spelled.{bind_some, either, whole_some, number-sound, number-more, number-last, one-sound, one-again, two-sound, two-again, seen-sound, seen-again, yes_is, digit_back, call-sound, call-again, first_of_line}
-use Rattle.af_model.specs.Reports.{one_if}
 
 pub record Spells (bytes : List ℕ) (l : Line) : Type 0 where
   pub spelled : bytes ≡ line_text l
@@ -322,18 +311,7 @@ line-sound (mark ∷ rest) l e = marked-sound mark rest l e
 call_first : (c : ClientCall) → line_at (call_line c) ≡ (first_of_line (call_line c) >>= λ answer. Some (line.Call answer))
 unfolding marked_at turn_line_at
 call_first (call.Put a b) = refl
-call_first (call.Full a) = refl
-call_first (call.Dead a) = refl
-call_first (call.Corrupt a b) = refl
-call_first (call.Cleared a) = refl
-call_first (call.Flush a) = refl
-call_first (call.Gain a) = refl
-call_first (call.Sent a b c) = refl
-call_first (call.SendFull a) = refl
-call_first (call.SendDead a) = refl
-call_first (call.SendCorrupt a b) = refl
-call_first (call.Status a) = refl
-call_first (call.Poke a b c) = refl
+call_first _ = refl
 
 push_first : (p : Push) → line_at (push_line p) ≡ (pushed_line_at (push_line p) >>= λ push. Some (line.Pushed push))
 unfolding marked_at turn_line_at

@@ -1,19 +1,7 @@
 -- What a line of a turn adds to what is left of a journal's text.
 use Rattle.std.proofs.Common.{◌≡◌, inr, ℕ, zero, suc, ◌+◌, ◌-◌, ◌<◌, ◌≤◌, List, [], ◌∷◌, ◌++◌, length, map, Some, None, Bool, true, false, refl, ap, ◌∙◌, sym, subst, arith, All, append_assoc, append-nil}
-use Rattle.std.specs.List.{flat_map}
-use Rattle.std.proofs.lemmas.List.{length-append}
-use Rattle.std.proofs.lemmas.List.Elements.{All-cons, All-head, All-nil, All-tail}
-use Rattle.std.proofs.lemmas.Bool.Decides.{nat_tests}
-use Rattle.af_base.specs.declared.event.ClientCall.{ClientCall}
-use Rattle.af_base.specs.declared.seen.Seen.{Seen}
+use Rattle.af_journal.proofs.Common.{All-cons, All-head, All-nil, All-tail, ClientCall, CommandLook, IsCommandLook, IsFrame, IsOpenTurn, IsSeen, IsTake, Push, Seen, TakeSeen, TrackSeen, Turn, count_seen, flat_map, length-append, nat_tests, packed_word}
 use Rattle.af_base.specs.declared.seen.Seen.TheVariants as seen
-use Rattle.af_base.specs.declared.state.Push.{Push}
-use Rattle.af_base.specs.declared.turn.CommandLook.{CommandLook}
-use Rattle.af_base.specs.Log.{count_seen}
-use Rattle.af_base.specs.Sample.{IsFrame, packed_word}
-use Rattle.af_base.specs.Turn.{TakeSeen, TrackSeen, Turn}
-use Rattle.af_model.specs.Cycles.{IsSeen}
-use Rattle.af_model.specs.JournalForm.{IsCommandLook, IsOpenTurn, IsTake}
 use Rattle.af_journal.specs.declared.line.Line.TheVariants as line
 use Rattle.af_journal.specs.Lines.{Written, numbers}
 use Rattle.af_journal.specs.Ranges.{IsSeenText}
@@ -180,9 +168,7 @@ no_words tracks low place ws k = record { fs = []; count = refl; are = All-nil I
 pub seen_is : (s : Seen) → IsSeenText s → IsSeen s
 seen_is seen.Absent f = f
 seen_is (seen.Frames n) f = f.0
-seen_is seen.Empty f = tt
-seen_is (seen.Flushed n) f = tt
-seen_is (seen.Shut a b) f = tt
+seen_is _ f = tt
 
 pub with_take : (tracks low track gains flush rear place : ℕ) (answer : Seen) (ws : List Written) → low ≤ track → track < tracks → IsSeen answer → TakeLeft tracks (count_seen answer) (track + 1) place ws
     → TakesLeft tracks low place (numbers (line.Take track gains flush rear answer) ∷ ws)

@@ -1,13 +1,6 @@
 -- The lines of a text are noted one after the other.
 use Rattle.std.proofs.Common.{◌≡◌, ◌⊎◌, inl, inr, ℕ, ◌+◌, ◌<◌, ◌≤◌, ◌==◌, ◌&&◌, ◌||◌, Bool, true, false, cond, replicate, List, [], ◌∷◌, ◌++◌, length, slice_index_or, Option, Some, None, refl, ap, ◌∙◌, sym, subst, arith, length-append}
-use Rattle.std.specs.List.{AllByRecursion, list_any}
-use Rattle.std.proofs.lemmas.Bool.{cases_lt}
-use Rattle.std.proofs.lemmas.List.{get_or-replicate, get_or_append_left, get_or_push, length-replicate}
-use Rattle.std.proofs.lemmas.Option.{same_Some}
-use Rattle.std.proofs.lemmas.List.Elements.{All-nil}
-use Rattle.af_base.proofs.Basics.{or_both, or_false}
-use Rattle.af_base.specs.declared.event.ClientCall.{ClientCall}
-use Rattle.af_runs.specs.LegalRuns.{is_poke_on}
+use Rattle.af_journal.proofs.Common.{All-nil, AllByRecursion, ClientCall, FitsCall, cases_lt, get_or-replicate, get_or_append_left, get_or_push, is_poke_on, length-replicate, list_any, or_both, or_false, same_Some}
 use Rattle.af_journal.specs.declared.line.Line.{Line}
 use Rattle.af_journal.specs.Lines.{Written, numbers, words, spelled}
 use Rattle.af_journal.specs.LineReading.{call_at, line_at, marked_at, turn_line_at}
@@ -19,7 +12,6 @@ use Rattle.af_journal.proofs.Leaving.{all-more}
 use Rattle.af_journal.proofs.LineLaws.{line-again}
 use Rattle.af_journal.proofs.OneText.{cut-line}
 use Rattle.std.specs.Prelude.{All}
-use Rattle.af_model.specs.Numbers.{FitsCall}
 
 -- ## The line that is noted
 

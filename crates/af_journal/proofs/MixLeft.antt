@@ -1,25 +1,6 @@
 -- The slots of a mix, put together from the last on.
 use Rattle.std.proofs.Common.{◌≡◌, ◌⊎◌, inl, inr, ℕ, zero, suc, ◌+◌, ◌-◌, ◌*◌, ◌/◌, ◌%◌, ◌<◌, ◌≤◌, ◌^◌, ◌==◌, List, [], ◌∷◌, ◌++◌, length, map, take, drop, Bool, true, false, cond, get_or, slice_index_or, lit<, refl, ap, ◌∙◌, sym, subst, arith, All, append_assoc, append-nil}
-use Rattle.std.specs.Int.{bit_at}
-use Rattle.std.specs.List.{flat_map, range_with_len}
-use Rattle.std.proofs.Math.Nat.{pow-suc}
-use Rattle.std.proofs.lemmas.Nat.Bits.{bit_at-suc, bit_at_lowest}
-use Rattle.std.proofs.lemmas.List.{drop-drop, drop_at, get_or-map, length-map, length-append, take_at, take_all, take_more}
-use Rattle.std.proofs.lemmas.List.Concat.{flat_map-append}
-use Rattle.std.proofs.lemmas.List.Elements.{All-append, All-nil}
-use Rattle.af_base.specs.declared.frame.Frame.{Frame}
-use Rattle.af_base.specs.declared.log.CycleEntry.{CycleEntry}
-use Rattle.af_base.specs.declared.log.SlotEntry.{SlotEntry}
-use Rattle.af_base.specs.declared.seen.Seen.{Seen}
-use Rattle.af_base.specs.declared.seen.Seen.TheVariants as seen
-use Rattle.af_base.specs.Log.{absent, count_seen, entry_slot, slots}
-use Rattle.af_base.specs.Sample.{IsFrame, packed_word}
-use Rattle.af_model.proofs.Basics.{one_few}
-use Rattle.af_model.specs.Cycles.{IsSeen, place_of, shown, taken_before}
-use Rattle.af_model.specs.Journals.{EntrySeen, slot_frames, taken_by}
-use Rattle.af_model.specs.JournalForm.{IsAbsent, IsMixed, IsSubmix}
-use Rattle.af_runs.proofs.Basics.{shown_if}
-use Rattle.af_runs.specs.Fronts.{is_shown}
+use Rattle.af_journal.proofs.Common.{All-append, All-nil, CycleEntry, EntrySeen, Frame, IsAbsent, IsFrame, IsMixed, IsSeen, IsSubmix, Seen, SlotEntry, absent, bit_at, bit_at-suc, bit_at_lowest, count_seen, drop-drop, drop_at, entry_slot, flat_map, flat_map-append, get_or-map, is_shown, length-append, length-map, one_few, one_if, packed_word, place_of, pow-suc, range_with_len, shown, shown_if, slot_frames, slots, take_all, take_at, take_more, taken_before, taken_by}
 use Rattle.af_journal.specs.declared.line.Line.TheVariants as line
 use Rattle.af_journal.specs.Lines.{Written, numbers}
 use Rattle.af_journal.specs.Mixes.{SlotGot, lines_by, got_lines, IsGot, AreGots, frames_in, marks, mix_entry}
@@ -27,7 +8,6 @@ use Rattle.af_journal.specs.Texts.{each_from, slot_lines, slots_lines, words_aft
 use Rattle.af_journal.proofs.Spelled.{digit_back}
 use Rattle.af_journal.proofs.Texts.{each-next, range-more}
 use Rattle.af_journal.proofs.RoundsLeft.{many, length-many, pad_all, pad_to, EntriesLeft}
-use Rattle.af_model.specs.Reports.{one_if}
 
 -- ## Slots
 

@@ -1,21 +1,7 @@
 -- A mix is read slot by slot.
 use Rattle.std.proofs.Common.{◌≡◌, inl, inr, ℕ, zero, suc, ◌+◌, ◌-◌, ◌*◌, ◌<◌, ◌^◌, List, [], ◌∷◌, ◌++◌, length, map, replicate, slice_set, slice_index_or, ◌==◌, ◌&&◌, ◌⊎◌, not, lit<, cond, Bool, true, false, refl, ap, ◌∙◌, sym, subst, arith, append-nil, append_assoc, length-append}
-use Rattle.std.proofs.Math.Nat.{mul_assoc, pow-suc}
-use Rattle.std.proofs.lemmas.List.{length-map}
-use Rattle.std.proofs.lemmas.List.Elements.{All-nil}
-use Rattle.std.proofs.lemmas.List.Concat.{flat_map-append}
-use Rattle.af_base.proofs.Basics.{both, map_last}
-use Rattle.af_base.specs.declared.frame.Frame.{Frame}
-use Rattle.af_base.specs.declared.log.Cycle.{Cycle}
+use Rattle.af_journal.proofs.Common.{All-nil, Cycle, CycleEntry, Frame, IsFrame, IsSeen, Seen, SlotEntry, absent, bit_at, both, entry_slot, flat_map-append, is_mixed, is_spent, kind_of, length-map, map_last, mul_assoc, one_if, packed_word, pow-suc, shown_if, slots, still_entry}
 use Rattle.af_base.specs.declared.log.Cycle.TheVariants as cycle
-use Rattle.af_base.specs.declared.log.CycleEntry.{CycleEntry}
-use Rattle.af_base.specs.declared.log.SlotEntry.{SlotEntry}
-use Rattle.af_base.specs.declared.seen.Seen.{Seen}
-use Rattle.af_base.specs.Log.{absent, entry_slot, kind_of, slots}
-use Rattle.af_base.specs.Sample.{IsFrame, packed_word}
-use Rattle.af_model.specs.Cycles.{IsSeen, is_mixed, still_entry}
-use Rattle.af_model.specs.JournalForm.{is_spent}
-use Rattle.std.specs.Int.{bit_at}
 use Rattle.af_journal.specs.declared.line.Line.TheVariants as line
 use Rattle.af_journal.specs.Lines.{Written, numbers}
 use Rattle.af_journal.specs.Mixes.{AreGots, IsGot, SlotGot, frames_in, got_lines, marks, mix_entry}
@@ -26,8 +12,6 @@ use Rattle.af_journal.proofs.Leaving.{leaves-as, leaves-each, leaves-none, leave
 use Rattle.af_journal.proofs.EntriesLeft.{differ, slot_may, still_taken}
 use Rattle.af_journal.proofs.Spelled.{digit_back}
 use Rattle.af_journal.proofs.MixLeft.{HeadFirst, IsFirst, all_frames, bit_is, got_at, marks_small, mix_is, mix_lines, mix_taken, scale_is, slot_is}
-use Rattle.af_model.specs.Reports.{one_if}
-use Rattle.af_runs.proofs.Basics.{shown_if}
 
 -- what was read of a mix before a slot
 pub record IsMixFront (state place slot : ℕ) (before frames : List Frame) (start rest : List ℕ) (entry : CycleEntry) : Type 0 where

@@ -1,26 +1,8 @@
 -- An entry is told by no lines but its own.
 use Rattle.std.proofs.Common.{◌≡◌, ◌⊎◌, inl, inr, ℕ, zero, suc, ◌+◌, ◌/◌, ◌%◌, ◌<◌, ◌≤◌, ◌^◌, ◌==◌, List, [], ◌∷◌, ◌++◌, length, map, take, drop, get_or, slice_index_or, Bool, true, false, cond, refl, ap, ◌∙◌, sym, subst, arith, All, append_assoc}
-use Rattle.std.specs.Int.{bit_at}
-use Rattle.std.specs.List.{flat_map, range_with_len}
-use Rattle.std.proofs.Math.Nat.{pow-suc}
-use Rattle.std.proofs.Math.Seq.{take-add}
-use Rattle.std.proofs.lemmas.List.{ext_get_or, length-drop, length-map, length-take-le, take_all}
-use Rattle.std.proofs.lemmas.List.Elements.{All-cons, All-drop, All-nil, All-take}
-use Rattle.std.proofs.lemmas.List.FromFn.{get_or-map-range_with_len, length-map-range_with_len}
-use Rattle.std.proofs.lemmas.Nat.Bits.{bit_at-lt, bit_at-suc, bit_at_lowest}
-use Rattle.af_base.proofs.Basics.{no_items, some_is}
-use Rattle.af_base.specs.declared.log.Cycle.{Cycle}
+use Rattle.af_journal.proofs.Common.{All-cons, All-drop, All-nil, All-take, AreEntries, Cycle, EntrySeen, IsAbsent, IsEntry, IsFrame, IsMixed, IsSeen, Seen, SlotEntry, absent, bit_at, bit_at-lt, bit_at-suc, bit_at_lowest, count_seen, entry_slot, ext_get_or, flat_map, get_or-map-range_with_len, is_mixed, is_shown, is_spent, kind_of, length-drop, length-map, length-map-range_with_len, length-take-le, no_items, packed_word, place_of, pow-suc, range_with_len, shown, shown_if, slot_frames, slots, some_is, still_entry, take-add, take_all, taken_before, taken_by, taken_up}
 use Rattle.af_base.specs.declared.log.Cycle.TheVariants as cycle
-use Rattle.af_base.specs.declared.log.SlotEntry.{SlotEntry}
-use Rattle.af_base.specs.declared.seen.Seen.{Seen}
 use Rattle.af_base.specs.declared.seen.Seen.TheVariants as seen
-use Rattle.af_base.specs.Log.{absent, count_seen, entry_slot, kind_of, slots}
-use Rattle.af_base.specs.Sample.{IsFrame, packed_word}
-use Rattle.af_model.specs.Cycles.{IsSeen, is_mixed, place_of, shown, still_entry, taken_before}
-use Rattle.af_model.specs.Journals.{EntrySeen, slot_frames, taken_by}
-use Rattle.af_model.specs.JournalForm.{AreEntries, IsAbsent, IsEntry, IsMixed, is_spent}
-use Rattle.af_runs.proofs.Basics.{shown_if, taken_up}
-use Rattle.af_runs.specs.Fronts.{is_shown}
 use Rattle.af_journal.specs.declared.line.Line.TheVariants as line
 use Rattle.af_journal.specs.Lines.{Written, numbers}
 use Rattle.af_journal.specs.Mixes.{SlotGot, got_lines, lines_by}
@@ -227,25 +209,17 @@ same-entry state kind state' kind' e = let p = ap entry_in e in (ap (λ (x : ℕ
 
 same-cycle : (a b : Cycle) → is_spent a ≡ false → is_spent b ≡ false → kind_of a ≡ kind_of b → a ≡ b
 same-cycle cycle.Mixed cycle.Mixed h k e = refl
-same-cycle cycle.Mixed cycle.Idle h k e = absurd (omega (arith, e))
-same-cycle cycle.Mixed cycle.Cold h k e = absurd (omega (arith, e))
-same-cycle cycle.Mixed cycle.Exit h k e = absurd (omega (arith, e))
 same-cycle cycle.Mixed (cycle.Spent n) h k e = cc
-same-cycle cycle.Idle cycle.Mixed h k e = absurd (omega (arith, e))
+same-cycle cycle.Mixed _ h k e = absurd (omega (arith, e))
 same-cycle cycle.Idle cycle.Idle h k e = refl
-same-cycle cycle.Idle cycle.Cold h k e = absurd (omega (arith, e))
-same-cycle cycle.Idle cycle.Exit h k e = absurd (omega (arith, e))
 same-cycle cycle.Idle (cycle.Spent n) h k e = cc
-same-cycle cycle.Cold cycle.Mixed h k e = absurd (omega (arith, e))
-same-cycle cycle.Cold cycle.Idle h k e = absurd (omega (arith, e))
+same-cycle cycle.Idle _ h k e = absurd (omega (arith, e))
 same-cycle cycle.Cold cycle.Cold h k e = refl
-same-cycle cycle.Cold cycle.Exit h k e = absurd (omega (arith, e))
 same-cycle cycle.Cold (cycle.Spent n) h k e = cc
-same-cycle cycle.Exit cycle.Mixed h k e = absurd (omega (arith, e))
-same-cycle cycle.Exit cycle.Idle h k e = absurd (omega (arith, e))
-same-cycle cycle.Exit cycle.Cold h k e = absurd (omega (arith, e))
+same-cycle cycle.Cold _ h k e = absurd (omega (arith, e))
 same-cycle cycle.Exit cycle.Exit h k e = refl
 same-cycle cycle.Exit (cycle.Spent n) h k e = cc
+same-cycle cycle.Exit _ h k e = absurd (omega (arith, e))
 same-cycle (cycle.Spent n) b h k e = cc
 
 -- the slots of two mixes of the same lines tell the same

@@ -1,11 +1,6 @@
 -- A text is that of one journal of so many tracks.
 use Rattle.std.proofs.Common.{◌≡◌, ◌⊎◌, inl, inr, ℕ, ◌+◌, List, [], ◌∷◌, ◌++◌, length, Option, Some, None, Bool, true, false, cond, MatchOption, refl, ap, ◌∙◌, sym, subst, arith, All, append_assoc, length-append}
-use Rattle.std.specs.List.{flat_map}
-use Rattle.std.proofs.lemmas.List.Elements.{All-head, All-nil, All-cons, All-tail}
-use Rattle.af_base.specs.declared.event.ClientCall.{ClientCall}
-use Rattle.af_base.specs.Turn.{Turn}
-use Rattle.af_model.specs.Journals.{EntrySeen, JournalData, RoundSeen, entries_of, frames_of}
-use Rattle.af_model.specs.JournalForm.{AreEntries, IsRound, IsTurn}
+use Rattle.af_journal.proofs.Common.{All-cons, All-head, All-nil, All-tail, AreEntries, ClientCall, EntrySeen, IsRound, IsTurn, JournalData, RoundSeen, Turn, entries_of, flat_map, frames_of}
 use Rattle.af_journal.specs.declared.line.Line.TheVariants as line
 use Rattle.af_journal.specs.Lines.{Written, numbers}
 use Rattle.af_journal.specs.Readings.{IsReadBack, Reads}

@@ -1,20 +1,8 @@
 -- A turn is told by no lines but its own.
 use Rattle.std.proofs.Common.{◌≡◌, inl, inr, ℕ, ◌+◌, ◌*◌, ◌/◌, ◌%◌, ◌<◌, List, [], ◌∷◌, ◌++◌, length, map, Bool, true, false, cond, refl, ap, ◌∙◌, sym, arith, All, append_assoc}
-use Rattle.std.specs.Int.{cast_signed, cast_unsigned, w16}
-use Rattle.std.specs.List.{flat_map}
-use Rattle.std.proofs.lemmas.Int.{to_z-of_z}
-use Rattle.std.proofs.lemmas.List.{length-map}
-use Rattle.std.proofs.lemmas.List.Elements.{All-head, All-tail}
-use Rattle.af_base.proofs.Basics.{few}
-use Rattle.af_base.specs.declared.frame.Frame.{Frame}
-use Rattle.af_base.specs.declared.seen.Seen.{Seen}
+use Rattle.af_journal.proofs.Common.{All-head, All-tail, Frame, IsFrame, IsOpenTurn, IsTake, IsTurn, Push, Seen, TakeSeen, Turn, cast_signed, cast_unsigned, count_seen, ended_turn, few, flat_map, length-map, packed_word, to_z-of_z, w16}
 use Rattle.af_base.specs.declared.seen.Seen.TheVariants as seen
-use Rattle.af_base.specs.declared.state.Push.{Push}
 use Rattle.af_base.specs.declared.state.Push.TheVariants as pushing
-use Rattle.af_base.specs.Log.{count_seen}
-use Rattle.af_base.specs.Sample.{IsFrame, packed_word}
-use Rattle.af_base.specs.Turn.{TakeSeen, Turn, ended_turn}
-use Rattle.af_model.specs.JournalForm.{IsOpenTurn, IsTake, IsTurn}
 use Rattle.af_journal.specs.declared.line.Line.TheVariants as line
 use Rattle.af_journal.specs.Lines.{Written, numbers}
 use Rattle.af_journal.specs.Texts.{each_from, take_lines, track_lines, turn_lines, words_after}

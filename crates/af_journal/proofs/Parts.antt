@@ -1,9 +1,7 @@
 -- What stands between the LFs of a text.
 use Rattle.std.proofs.Common.{◌≡◌, ℕ, zero, suc, ◌+◌, ◌<◌, List, [], ◌∷◌, ◌++◌, length, Option, Some, None, Bool, true, false, ◌==◌, cond, refl, ap, ◌∙◌, sym, subst, arith, append_assoc, append-nil, length-append}
-use Rattle.std.specs.List.{flat_map, onto_first, AllByRecursion, All, join_with_byte}
+use Rattle.af_journal.proofs.Common.{All, AllByRecursion, equal_is, flat_map, join_with_byte, onto_first, same_Some}
 use Rattle.std.proofs.lemmas.List.Splits.{slice_split_at, slice_split_none, join_with_byte-slice_split}
-use Rattle.std.proofs.lemmas.Option.{same_Some}
-use Rattle.af_base.proofs.Basics.{equal_is}
 use Rattle.af_journal.specs.declared.stage.Stage.{Stage}
 use Rattle.af_journal.specs.Lines.{with_lf}
 use Rattle.af_journal.specs.LineReading.{◌>>=◌}

@@ -1,20 +1,6 @@
 -- The lines of some rounds poke the blocks that the calls of the rounds poke.
 use Rattle.std.proofs.Common.{◌≡◌, ℕ, zero, suc, ◌+◌, ◌<◌, ◌≤◌, ◌==◌, ◌&&◌, ◌||◌, not, Bool, true, false, cond, List, [], ◌∷◌, ◌++◌, length, slice_index_or, Option, Some, None, refl, ap, ◌∙◌, sym, arith, append_assoc, All}
-use Rattle.std.specs.List.{AllByRecursion, flat_map, list_any, range_with_len}
-use Rattle.std.proofs.lemmas.Bool.Decides.{nat_tests}
-use Rattle.std.proofs.lemmas.List.Elements.{All-head, All-tail}
-use Rattle.std.proofs.lemmas.List.Folds.{list_any-append}
-use Rattle.af_base.proofs.Basics.{and_false, or_both, or_false}
-use Rattle.af_base.specs.declared.event.ClientCall.{ClientCall}
-use Rattle.af_base.specs.declared.turn.CommandLook.{CommandLook}
-use Rattle.af_base.specs.Log.{entry_slot, slots}
-use Rattle.af_base.specs.Turn.{TakeSeen, TrackSeen, Turn}
-use Rattle.af_model.specs.Cycles.{is_mixed}
-use Rattle.af_model.specs.Journals.{EntrySeen, RoundSeen}
-use Rattle.af_model.specs.JournalForm.{IsRound}
-use Rattle.af_runs.specs.Fronts.{is_shown}
-use Rattle.af_runs.specs.LegalRuns.{is_lawful_block, is_poke_on}
-use Rattle.af_runs.specs.Runs.{calls_in}
+use Rattle.af_journal.proofs.Common.{All-head, All-tail, AllByRecursion, ClientCall, CommandLook, EntrySeen, IsRound, RoundSeen, TakeSeen, TrackSeen, Turn, and_false, calls_in, entry_slot, flat_map, is_lawful_block, is_mixed, is_poke_on, is_shown, list_any, list_any-append, nat_tests, or_both, or_false, range_with_len, slots}
 use Rattle.af_journal.specs.declared.line.Line.TheVariants as line
 use Rattle.af_journal.specs.Lines.{Written, numbers, words}
 use Rattle.af_journal.specs.Pokes.{pokes}

@@ -1,7 +1,6 @@
 -- Takes of rising tracks, of which one more is added at the end.
 use Rattle.std.proofs.Common.{ℕ, ◌+◌, ◌≤◌, List, [], ◌∷◌, ◌++◌, length, arith}
-use Rattle.af_base.specs.Turn.{TakeSeen}
-use Rattle.af_model.specs.JournalForm.{TracksRise}
+use Rattle.af_journal.proofs.Common.{TakeSeen, TracksRise}
 
 -- the tracks rise, from low on and below high
 abbrev pub RiseTo : ℕ → ℕ → List TakeSeen → Type 0

@@ -1,21 +1,9 @@
 -- What is left of a journal's text at a stage, and what a round's mark or a client's line before it adds.
 use Rattle.std.proofs.Common.{◌≡◌, inl, ℕ, zero, suc, ◌+◌, ◌-◌, ◌*◌, ◌/◌, ◌%◌, ◌<◌, ◌≤◌, ◌^◌, List, [], ◌∷◌, ◌++◌, length, map, Option, Some, None, false, MatchOption, refl, ap, ◌∙◌, sym, arith, All, append_assoc}
-use Rattle.std.specs.Int.{cast_signed, cast_unsigned, w16}
-use Rattle.std.specs.List.{flat_map}
+use Rattle.af_journal.proofs.Common.{All-cons, All-nil, AreEntries, AreWords, ClientCall, EntrySeen, Frame, IsCommandLook, IsFrame, IsRound, IsTake, IsTurn, Push, RoundSeen, TakeSeen, TrackSeen, TracksRise, Turn, cast_signed, cast_unsigned, ended_turn, entries_of, flat_map, length-append, length-map, of_z-to_z, packed_word, w16}
 use Rattle.std.proofs.Math.Facts.{sfits_to_z}
-use Rattle.std.proofs.lemmas.Int.{of_z-to_z}
-use Rattle.std.proofs.lemmas.List.{length-map, length-append}
-use Rattle.std.proofs.lemmas.List.Elements.{All-cons, All-nil}
-use Rattle.af_base.specs.declared.event.ClientCall.{ClientCall}
-use Rattle.af_base.specs.declared.frame.Frame.{Frame}
-use Rattle.af_base.specs.declared.state.Push.{Push}
-use Rattle.af_base.specs.Sample.{IsFrame, packed_word}
-use Rattle.af_base.specs.Turn.{TakeSeen, TrackSeen, Turn, ended_turn}
-use Rattle.af_model.specs.Journals.{EntrySeen, RoundSeen, entries_of}
-use Rattle.af_model.specs.JournalForm.{AreEntries, IsCommandLook, IsRound, IsTake, IsTurn, TracksRise}
 use Rattle.af_journal.specs.declared.line.Line.TheVariants as line
 use Rattle.af_journal.specs.Lines.{Written, numbers, words}
-use Rattle.af_model.specs.Numbers.{AreWords}
 use Rattle.af_journal.specs.Texts.{call_lines, client_lines, each_from, entry_lines, fast_lines, round_lines, take_lines, track_lines, turns_lines, words_after}
 
 -- ## Lists

@@ -1,21 +1,10 @@
 -- Rounds are read one after the other, and are those of the journal that is put together of what was noted.
 use Rattle.std.proofs.Common.{◌≡◌, ℕ, ◌+◌, ◌*◌, ◌<◌, ◌≤◌, ◌^◌, ◌==◌, true, false, List, [], ◌∷◌, ◌++◌, length, map, take, drop, refl, ap, ◌∙◌, sym, subst, arith, append-nil, length-append}
-use Rattle.std.specs.List.{flat_map, AllByRecursion}
-use Rattle.std.proofs.lemmas.List.{drop_at, length-map, map-append, take_at}
-use Rattle.std.proofs.lemmas.List.Concat.{flat_map-append}
-use Rattle.std.proofs.lemmas.Bool.Decides.{nat_tests}
-use Rattle.std.proofs.lemmas.List.Elements.{All-nil}
-use Rattle.af_base.proofs.Basics.{map_last}
-use Rattle.af_base.specs.declared.event.ClientCall.{ClientCall}
-use Rattle.af_base.specs.declared.frame.Frame.{Frame}
-use Rattle.af_base.specs.declared.log.CycleEntry.{CycleEntry}
-use Rattle.af_base.specs.Log.{Logged, kind_of}
-use Rattle.af_model.specs.Journals.{EntrySeen, RoundNoted, RoundSeen, RoundsNoted, cycles_of, entries_of, entries_seen, frames_of, journal_of, rounds_seen, taken_by}
-use Rattle.af_model.specs.JournalForm.{AreEntries, IsJournal, IsRound, IsWhole}
+use Rattle.af_journal.proofs.Common.{All-nil, AllByRecursion, AreEntries, CycleEntry, EntrySeen, Frame, IsJournal, IsRound, IsWhole, Logged, RoundNoted, RoundSeen, RoundsNoted, cycles_of, drop_at, entries_of, entries_seen, flat_map, flat_map-append, frames_of, journal_of, kind_of, length-map, map-append, map_last, nat_tests, rounds_seen, take_at, taken_by}
 use Rattle.af_journal.specs.declared.line.Line.TheVariants as line
 use Rattle.af_journal.specs.Lines.{Written, numbers}
 use Rattle.af_journal.specs.Taken.{AddsRound, AreTaken, Leaves, body_lines, more_lines, noted_of}
-use Rattle.af_journal.specs.Texts.{call_lines, client_lines, each_from, entry_lines, fast_lines, round_lines, text_of_lines, turns_lines}
+use Rattle.af_journal.specs.Texts.{client_lines, each_from, entry_lines, fast_lines, round_lines, text_of_lines, turns_lines}
 use Rattle.af_journal.proofs.EntriesRead.{entries-append}
 use Rattle.af_journal.specs.Beginnings.{AreRead, AreUpTo, EndsBy, ReadsRound, is_last}
 use Rattle.af_journal.specs.Judged.{first_of_round, is_beyond}
@@ -24,23 +13,10 @@ use Rattle.af_journal.specs.declared.reach.End.TheVariants as why
 use Rattle.af_journal.specs.declared.reach.Reach.{Reach}
 use Rattle.af_journal.specs.declared.reach.RoundRead.{RoundRead}
 use Rattle.af_journal.proofs.Judged.{round_whole, rounds_few}
-use Rattle.af_journal.proofs.Leaving.{all-more, leaves-as, leaves-more, leaves-none, leaves-then}
+use Rattle.af_journal.proofs.Leaving.{all-more, leaves-more, leaves-none, leaves-then}
 use Rattle.af_journal.proofs.Texts.{text-append}
 use Rattle.af_journal.specs.Ranges.{IsWritten}
 use Rattle.af_journal.proofs.Fitting.{is_journal}
-
--- ## Clients
-
--- one call more is read
-pub leaves-call : (a b d : List ℕ) (calls : List ClientCall) (call : ClientCall) → Leaves a (call_lines calls) b → Leaves b (numbers (line.Call call) ∷ []) d → Leaves a (call_lines (calls ++ call ∷ [])) d
-leaves-call a b d calls call one two =
-    leaves-as a d (call_lines calls ++ numbers (line.Call call) ∷ []) (call_lines (calls ++ call ∷ [])) (sym (map_last (λ (call : ClientCall). numbers (line.Call call)) calls call)) (leaves-then a b d (call_lines calls) (numbers (line.Call call) ∷ []) one two)
-
--- a client that made calls
-pub leaves-client : (a b d : List ℕ) (track own : ℕ) (calls : List ClientCall) → own ≡ track → 1 ≤ length calls → Leaves a (numbers (line.Client own) ∷ []) b → Leaves b (call_lines calls) d → Leaves a (client_lines track calls) d
-leaves-client a b d track own [] same some one two = absurd (omega arith)
-leaves-client a b d track own (call ∷ calls) same some one two =
-    leaves-as a d (numbers (line.Client own) ∷ call_lines (call ∷ calls)) (client_lines track (call ∷ calls)) (ap (λ n. numbers (line.Client n) ∷ call_lines (call ∷ calls)) same) (leaves-then a b d (numbers (line.Client own) ∷ []) (call_lines (call ∷ calls)) one two)
 
 -- ## How long a text is
 
@@ -108,14 +84,6 @@ taken-few tracks rounds noted entries frames start rest after t l few shorter =
     let n = ap length l.text in let m = length-append (text_of_lines (flat_map round_lines rounds)) rest in let long = rounds-long rounds in
     let count = ap length t.entries_are ∙ length-map (entries_of rounds) (λ (e : EntrySeen). e.entry) in omega arith
 
--- the entries taken from a text are few enough to be counted
-pub taken-fit : (tracks : ℕ) (rounds : List RoundSeen) (noted : RoundsNoted) (entries : List CycleEntry) (frames : List Frame) (start rest : List ℕ) → AreTaken tracks rounds noted entries frames
-    → Leaves start (flat_map round_lines rounds) rest → length start < 2 ^ 63 → cycles_of noted.rounds < 2 ^ 62
-taken-fit tracks rounds noted entries frames start rest t l few =
-    let n = ap length l.text in let m = length-append (text_of_lines (flat_map round_lines rounds)) rest in let long = rounds-long rounds in
-    let count = taken-counted tracks rounds noted entries frames t in
-    let many = ap length t.entries_are ∙ length-map (entries_of rounds) (λ (e : EntrySeen). e.entry) in omega arith
-
 pub taken-more : (tracks : ℕ) (rounds : List RoundSeen) (r : RoundSeen) (noted next : RoundsNoted) (entries es : List CycleEntry) (frames fs : List Frame) → AreTaken tracks rounds noted entries frames
     → AddsRound tracks noted entries frames r next es fs → AreTaken tracks (rounds ++ r ∷ []) next es fs
 taken-more tracks rounds r noted next entries es frames fs t a =
@@ -166,10 +134,6 @@ module _ (tracks : ℕ) (rounds : List RoundSeen) (noted : RoundsNoted) (entries
   -- if the numbers of its lines fit
   pub journal-form : tracks < 2 ^ 32 → AllByRecursion IsWritten (flat_map round_lines rounds) → IsJournal (journal_of noted log)
   journal-form few fit = subst IsJournal (sym journal-is) (is_journal tracks rounds few t.form t.each fit)
-
--- nothing was taken yet
-pub taken-none : (tracks : ℕ) → AreTaken tracks [] (record { tracks = tracks; rounds = [] }) [] []
-taken-none tracks = record { noted_are = refl; entries_are = refl; frames_are = refl; form = All-nil (IsRound tracks); each = tt }
 
 -- ## Rounds of which so many entries, and looks at a track, are kept
 

@@ -1,13 +1,6 @@
 -- Rows of bytes and digits, made place by place, and what they spell.
 use Rattle.std.proofs.Common.{◌≡◌, ℕ, ◌+◌, ◌-◌, ◌*◌, ◌/◌, ◌%◌, ◌<◌, List, [], ◌∷◌, ◌++◌, length, map, take, drop, get_or, set, refl, ap, ◌∙◌, sym, arith}
-use Rattle.std.specs.Int.{to_be_bytes, w32}
-use Rattle.std.specs.List.{flat_map, slice_range}
-use Rattle.std.proofs.Math.Seq.{take-add}
-use Rattle.std.proofs.lemmas.Grind.{take-set_at}
-use Rattle.std.proofs.lemmas.List.{append_assoc, append-nil, length-set, map-append, take-append-drop, take_more}
-use Rattle.std.proofs.lemmas.List.Concat.{flat_map-append}
-use Rattle.af_base.specs.declared.frame.Frame.{Frame}
-use Rattle.af_base.specs.Sample.{packed_word}
+use Rattle.af_journal.proofs.Common.{Frame, append-nil, append_assoc, flat_map, flat_map-append, length-set, map-append, packed_word, slice_range, take-add, take-append-drop, take-set_at, take_more, to_be_bytes, w32}
 use Rattle.af_journal.specs.Lines.{hex_byte, hex_digit, hex_word}
 
 -- ## Stores one after the other

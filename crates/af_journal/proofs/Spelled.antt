@@ -1,22 +1,13 @@
 -- A line is read exactly if it is spelled.
 use Rattle.std.proofs.Common.{◌≡◌, ℕ, zero, suc, ◌+◌, ◌-◌, ◌%◌, ◌<◌, ◌≤◌, ◌^◌, List, [], ◌∷◌, ◌++◌, Option, Some, None, Bool, true, false, nat_le, ◌==◌, if◌then◌else◌, cond, refl, ap, ◌∙◌, sym, subst, arith, append-nil, lit<}
-use Rattle.std.proofs.lemmas.Option.{same_Some}
-use Rattle.std.proofs.lemmas.Fmt.{decimal_by_steps}
-use Rattle.std.proofs.lemmas.Bool.Decides.{nat_tests}
-use Rattle.std.specs.Fmt.{decimal}
-use Rattle.af_base.proofs.Basics.{equal_is, is_within, not_first, not_zero, some_is}
-use Rattle.af_base.specs.declared.event.ClientCall.{ClientCall}
+use Rattle.af_journal.proofs.Common.{AreWords, ClientCall, FitsCall, Seen, decimal, decimal_by_steps, equal_is, is_within, nat_tests, not_first, not_zero, one_few, one_if, same_Some, some_is}
 use Rattle.af_base.specs.declared.event.ClientCall.TheVariants as call
-use Rattle.af_base.specs.declared.seen.Seen.{Seen}
 use Rattle.af_base.specs.declared.seen.Seen.TheVariants as seen
 use Rattle.af_journal.specs.Digits.{number_at}
 use Rattle.af_journal.specs.Lines.{call_line, seen_text}
 use Rattle.af_journal.specs.LineReading.{◌>>=◌, call_at, corrupt_at, frames_at, next_number, next_word, one_at, poke_at, put_at, seen_at, send_at, send_corrupt_at, sent_at, shown_at, three_at, two_at, up_to, whole, word_at}
-use Rattle.af_model.proofs.Basics.{one_few}
-use Rattle.af_model.specs.Numbers.{AreWords, FitsCall}
 use Rattle.af_journal.specs.Ranges.{IsSeenText}
 use Rattle.af_journal.proofs.Decimal.{number_at-sound, number_at-decimal}
-use Rattle.af_model.specs.Reports.{one_if}
 
 -- ## Options
 

@@ -1,17 +1,6 @@
 -- Hexadecimal digits that are read in rows.
 use Rattle.std.proofs.Common.{◌≡◌, ℕ, suc, ◌+◌, ◌*◌, ◌/◌, ◌%◌, ◌<◌, ◌≤◌, ◌^◌, ◌==◌, ◌&&◌, List, [], ◌∷◌, ◌++◌, Option, Some, None, Bool, true, false, cond, length, map, take, get_or, option_map, refl, ap, ◌∙◌, sym, subst, arith}
-use Rattle.std.specs.Int.{from_be_bytes, to_be_bytes, w32}
-use Rattle.std.specs.List.{flat_map, list_all}
-use Rattle.std.specs.Option.{is_some}
-use Rattle.std.proofs.lemmas.List.{append_assoc, append-nil, length-append, take_more}
-use Rattle.std.proofs.lemmas.List.Concat.{flat_map-append}
-use Rattle.std.proofs.lemmas.List.Folds.{list_all-append, list_all_at}
-use Rattle.std.proofs.lemmas.Bool.Decides.{nat_tests}
-use Rattle.std.proofs.lemmas.Nat.{be_bytes_4}
-use Rattle.af_base.proofs.Basics.{map_last, small}
-use Rattle.af_base.specs.declared.frame.Frame.{Frame}
-use Rattle.af_base.specs.Sample.{IsFrame, packed_word}
-use Rattle.af_model.specs.Numbers.{AreWords}
+use Rattle.af_journal.proofs.Common.{AreWords, Frame, IsFrame, append-nil, append_assoc, be_bytes_4, flat_map, flat_map-append, from_be_bytes, is_some, length-append, list_all, list_all-append, list_all_at, map_last, nat_tests, packed_word, small, take_more, to_be_bytes, w32}
 use Rattle.af_journal.specs.Hexadecimal.{AreSpelled, is_hex}
 use Rattle.af_journal.specs.Lines.{hex_byte, hex_digit, hex_word}
 use Rattle.af_journal.specs.LineReading.{◌>>=◌, byte_at, hex_at, packed_at, words_at}
@@ -26,13 +15,6 @@ hex_by xs k false e all lt = let none = list_all_at is_hex xs k 0 lt e in cc
 -- a digit among digits
 pub hex-at : (xs : List ℕ) (k : ℕ) → list_all is_hex xs ≡ true → k < length xs → is_hex (get_or xs k 0) ≡ true
 hex-at xs k all lt = hex_by xs k (is_hex (get_or xs k 0)) refl all lt
-
--- its number is below 16, and its digit is the one that was read
-pub number-small : (c : ℕ) → is_hex c ≡ true → c % 16 + 9 * (c / 64) < 16
-number-small c e = grind (arith, nat_tests)
-
-pub number-digit : (c : ℕ) → is_hex c ≡ true → hex_digit (c % 16 + 9 * (c / 64)) ≡ c
-number-digit c e = grind (arith, nat_tests)
 
 -- a byte is a digit exactly if it has a number
 some_by : (c : ℕ) → is_some (hex_at c) ≡ is_hex c

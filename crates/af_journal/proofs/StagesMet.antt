@@ -1,8 +1,6 @@
 -- The stages that a reader meets: words that are due are some, and the submix stands before a slot's words.
 use Rattle.std.proofs.Common.{◌≡◌, ℕ, ◌+◌, ◌≤◌, ◌==◌, ◌&&◌, nat_lt, length, Option, Some, None, Bool, true, false, cond, refl, subst, arith}
-use Rattle.std.proofs.lemmas.Option.{same_Some}
-use Rattle.af_base.proofs.Basics.{some_is}
-use Rattle.af_base.specs.Log.{count_seen}
+use Rattle.af_journal.proofs.Common.{count_seen, same_Some, some_is}
 use Rattle.af_journal.specs.declared.line.Line.{Line}
 use Rattle.af_journal.specs.declared.line.Line.TheVariants as line
 use Rattle.af_journal.specs.declared.stage.Stage.{Stage}
@@ -38,17 +36,7 @@ so_met b at next e met = let g = guard_some b (Some at) next e in subst IsMet (s
 pub turn_met : (l : Line) (next : Stage) → after_turn l ≡ Some next → IsMet next
 turn_met line.Fast next e = subst IsMet (same_Some _ _ e) tt
 turn_met line.Round next e = subst IsMet (same_Some _ _ e) tt
-turn_met (line.Client track) next e = cc
-turn_met (line.Call answer) next e = cc
-turn_met (line.Turn room ack cycle) next e = cc
-turn_met line.Ended next e = cc
-turn_met (line.Look track flush rear answer) next e = cc
-turn_met (line.Disabled track) next e = cc
-turn_met (line.Status track word) next e = cc
-turn_met (line.Pushed push) next e = cc
-turn_met (line.Take track gains flush rear answer) next e = cc
-turn_met (line.Entry state kind) next e = cc
-turn_met (line.Slot i scale mono gains flush rear answer) next e = cc
+turn_met _ next e = cc
 
 pub clients_met : (tracks low : ℕ) (l : Line) (next : Stage) → after_clients tracks low l ≡ Some next → IsMet next
 clients_met tracks low (line.Client track) next e = so_met (is_next tracks low track) (stage.Client (track + 1)) next e tt
@@ -56,14 +44,7 @@ clients_met tracks low (line.Turn room ack cycle) next e = subst IsMet (same_Som
 clients_met tracks low line.Ended next e = subst IsMet (same_Some _ _ e) tt
 clients_met tracks low line.Fast next e = turn_met line.Fast next e
 clients_met tracks low line.Round next e = turn_met line.Round next e
-clients_met tracks low (line.Call answer) next e = cc
-clients_met tracks low (line.Look track flush rear answer) next e = cc
-clients_met tracks low (line.Disabled track) next e = cc
-clients_met tracks low (line.Status track word) next e = cc
-clients_met tracks low (line.Pushed push) next e = cc
-clients_met tracks low (line.Take track gains flush rear answer) next e = cc
-clients_met tracks low (line.Entry state kind) next e = cc
-clients_met tracks low (line.Slot i scale mono gains flush rear answer) next e = cc
+clients_met tracks low _ next e = cc
 
 pub call_met : (tracks low : ℕ) (l : Line) (next : Stage) → after_call tracks low l ≡ Some next → IsMet next
 call_met tracks low (line.Call answer) next e = subst IsMet (same_Some _ _ e) tt
@@ -72,43 +53,20 @@ call_met tracks low (line.Turn room ack cycle) next e = clients_met tracks low (
 call_met tracks low line.Ended next e = clients_met tracks low line.Ended next e
 call_met tracks low line.Fast next e = turn_met line.Fast next e
 call_met tracks low line.Round next e = turn_met line.Round next e
-call_met tracks low (line.Look track flush rear answer) next e = cc
-call_met tracks low (line.Disabled track) next e = cc
-call_met tracks low (line.Status track word) next e = cc
-call_met tracks low (line.Pushed push) next e = cc
-call_met tracks low (line.Take track gains flush rear answer) next e = cc
-call_met tracks low (line.Entry state kind) next e = cc
-call_met tracks low (line.Slot i scale mono gains flush rear answer) next e = cc
+call_met tracks low _ next e = cc
 
 pub part_met : (tracks low part : ℕ) (l : Line) (next : Stage) → after_part tracks low part l ≡ Some next → IsMet next
 part_met tracks low part (line.Look track flush rear answer) next e = so_met (nat_lt track tracks && comes track 0 low part) (after_look track answer) next e (looked-by (count_seen answer == 2) track)
 part_met tracks low part (line.Disabled track) next e = so_met (nat_lt track tracks && comes track 1 low part) (stage.Turn track 2) next e tt
 part_met tracks low part (line.Status track word) next e = so_met (nat_lt track tracks && comes track 2 low part) (stage.Turn (track + 1) 0) next e tt
 part_met tracks low part (line.Pushed push) next e = subst IsMet (same_Some _ _ e) tt
-part_met tracks low part line.Fast next e = cc
-part_met tracks low part line.Round next e = cc
-part_met tracks low part (line.Client track) next e = cc
-part_met tracks low part (line.Call answer) next e = cc
-part_met tracks low part (line.Turn room ack cycle) next e = cc
-part_met tracks low part line.Ended next e = cc
-part_met tracks low part (line.Take track gains flush rear answer) next e = cc
-part_met tracks low part (line.Entry state kind) next e = cc
-part_met tracks low part (line.Slot i scale mono gains flush rear answer) next e = cc
+part_met tracks low part _ next e = cc
 
 pub take_met : (tracks low : ℕ) (l : Line) (next : Stage) → after_take tracks low l ≡ Some next → IsMet next
 take_met tracks low (line.Take track gains flush rear answer) next e = so_met (is_next tracks low track) (after_taken track answer) next e (taken-by (count_seen answer == 0) (count_seen answer) track refl)
 take_met tracks low line.Fast next e = turn_met line.Fast next e
 take_met tracks low line.Round next e = turn_met line.Round next e
-take_met tracks low (line.Client track) next e = cc
-take_met tracks low (line.Call answer) next e = cc
-take_met tracks low (line.Turn room ack cycle) next e = cc
-take_met tracks low line.Ended next e = cc
-take_met tracks low (line.Look track flush rear answer) next e = cc
-take_met tracks low (line.Disabled track) next e = cc
-take_met tracks low (line.Status track word) next e = cc
-take_met tracks low (line.Pushed push) next e = cc
-take_met tracks low (line.Entry state kind) next e = cc
-take_met tracks low (line.Slot i scale mono gains flush rear answer) next e = cc
+take_met tracks low _ next e = cc
 
 pub entry-by : (b : Bool) → IsMet (cond b (stage.Mixed 0) stage.Entries)
 entry-by true = tt
@@ -116,33 +74,12 @@ entry-by false = tt
 
 pub fast_met : (l : Line) (next : Stage) → after_fast l ≡ Some next → IsMet next
 fast_met (line.Entry state kind) next e = subst IsMet (same_Some _ _ e) (entry-by (kind == 0))
-fast_met line.Fast next e = cc
-fast_met line.Round next e = cc
-fast_met (line.Client track) next e = cc
-fast_met (line.Call answer) next e = cc
-fast_met (line.Turn room ack cycle) next e = cc
-fast_met line.Ended next e = cc
-fast_met (line.Look track flush rear answer) next e = cc
-fast_met (line.Disabled track) next e = cc
-fast_met (line.Status track word) next e = cc
-fast_met (line.Pushed push) next e = cc
-fast_met (line.Take track gains flush rear answer) next e = cc
-fast_met (line.Slot i scale mono gains flush rear answer) next e = cc
+fast_met _ next e = cc
 
 pub entry_met : (l : Line) (next : Stage) → after_entry l ≡ Some next → IsMet next
 entry_met line.Round next e = subst IsMet (same_Some _ _ e) tt
 entry_met (line.Entry state kind) next e = fast_met (line.Entry state kind) next e
-entry_met line.Fast next e = cc
-entry_met (line.Client track) next e = cc
-entry_met (line.Call answer) next e = cc
-entry_met (line.Turn room ack cycle) next e = cc
-entry_met line.Ended next e = cc
-entry_met (line.Look track flush rear answer) next e = cc
-entry_met (line.Disabled track) next e = cc
-entry_met (line.Status track word) next e = cc
-entry_met (line.Pushed push) next e = cc
-entry_met (line.Take track gains flush rear answer) next e = cc
-entry_met (line.Slot i scale mono gains flush rear answer) next e = cc
+entry_met _ next e = cc
 
 pub not_first : {A : Type 0} (b : Bool) (r : Option A) (y : A) → cond b None r ≡ Some y → r ≡ Some y
 not_first true r y e = cc
@@ -174,24 +111,13 @@ line_met tracks stage.Turned l next e = turn_met l next e
 line_met tracks stage.Fast l next e = fast_met l next e
 line_met tracks (stage.Mixed low) l next e = slot_met low l next e
 line_met tracks stage.Entries l next e = entry_met l next e
-line_met tracks (stage.Look track) l next e = cc
-line_met tracks (stage.Take due low) l next e = cc
-line_met tracks (stage.Slot due low) l next e = cc
+line_met tracks _ l next e = cc
 
 pub words_met : (at : Stage) (count : ℕ) (next : Stage) → after_words at count ≡ Some next → IsMet next
 words_met (stage.Look track) count next e = so_met (count == 2) (stage.Turn track 0) next e tt
 words_met (stage.Take due low) count next e = so_met (count == due) (stage.Takes low) next e tt
 words_met (stage.Slot due low) count next e = so_met (count == due) (stage.Mixed low) next e tt
-words_met stage.Nothing count next e = cc
-words_met (stage.Clients low) count next e = cc
-words_met (stage.Calls low) count next e = cc
-words_met (stage.Client low) count next e = cc
-words_met (stage.Turn low part) count next e = cc
-words_met (stage.Takes low) count next e = cc
-words_met stage.Turned count next e = cc
-words_met stage.Fast count next e = cc
-words_met (stage.Mixed low) count next e = cc
-words_met stage.Entries count next e = cc
+words_met _ count next e = cc
 
 pub written_met : (tracks : ℕ) (at : Stage) (w : Written) (next : Stage) → after_written tracks at w ≡ Some next → IsMet next
 written_met tracks at (numbers l) next e = line_met tracks at l next e

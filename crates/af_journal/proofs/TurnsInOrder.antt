@@ -1,16 +1,6 @@
 -- The lines of a round's clients and of its turn are in order.
 use Rattle.std.proofs.Common.{◌≡◌, inl, inr, ℕ, suc, ◌+◌, ◌<◌, ◌≤◌, ◌==◌, ◌&&◌, nat_lt, List, [], ◌∷◌, ◌++◌, length, map, Option, Some, None, Bool, true, false, cond, refl, ap, ◌∙◌, sym, subst, arith, All}
-use Rattle.std.specs.List.{flat_map}
-use Rattle.std.proofs.lemmas.List.{length-map}
-use Rattle.std.proofs.lemmas.List.Elements.{All-head, All-tail}
-use Rattle.std.proofs.lemmas.Bool.Decides.{nat_tests}
-use Rattle.af_base.proofs.Basics.{is_equal}
-use Rattle.af_base.specs.declared.event.ClientCall.{ClientCall}
-use Rattle.af_base.specs.declared.turn.CommandLook.{CommandLook}
-use Rattle.af_base.specs.Log.{count_seen}
-use Rattle.af_base.specs.Sample.{packed_word}
-use Rattle.af_base.specs.Turn.{TakeSeen, TrackSeen, Turn, ended_turn}
-use Rattle.af_model.specs.JournalForm.{IsOpenTurn, IsTake, IsTurn, TracksRise}
+use Rattle.af_journal.proofs.Common.{All-head, All-tail, ClientCall, CommandLook, IsOpenTurn, IsTake, IsTurn, TakeSeen, TrackSeen, TracksRise, Turn, count_seen, ended_turn, flat_map, is_equal, length-map, nat_tests, packed_word}
 use Rattle.af_journal.specs.declared.line.Line.TheVariants as line
 use Rattle.af_journal.specs.declared.stage.Stage.{Stage}
 use Rattle.af_journal.specs.declared.stage.Stage.TheVariants as stage
@@ -65,17 +55,7 @@ AtClients n _ = ⊥
 pub clients_fast : (tracks n : ℕ) (at : Stage) → AtClients n at → AtFast tracks at
 clients_fast tracks n (stage.Clients low) p = (refl, (refl, refl))
 clients_fast tracks n (stage.Calls low) p = (refl, (refl, refl))
-clients_fast tracks n stage.Nothing p = absurd p
-clients_fast tracks n (stage.Client low) p = absurd p
-clients_fast tracks n (stage.Turn low part) p = absurd p
-clients_fast tracks n (stage.Look track) p = absurd p
-clients_fast tracks n (stage.Takes low) p = absurd p
-clients_fast tracks n (stage.Take due low) p = absurd p
-clients_fast tracks n stage.Turned p = absurd p
-clients_fast tracks n stage.Fast p = absurd p
-clients_fast tracks n (stage.Mixed low) p = absurd p
-clients_fast tracks n (stage.Slot due low) p = absurd p
-clients_fast tracks n stage.Entries p = absurd p
+clients_fast tracks n _ p = absurd p
 
 pub next_is : (tracks low n : ℕ) → low ≤ n → n < tracks → is_next tracks low n ≡ true
 next_is tracks low n h k = grind (arith, nat_tests)
@@ -83,32 +63,12 @@ next_is tracks low n h k = grind (arith, nat_tests)
 pub client_comes : (tracks n : ℕ) (at : Stage) → AtClients n at → n < tracks → after_line tracks at (line.Client n) ≡ Some (stage.Client (n + 1))
 client_comes tracks n (stage.Clients low) p h = if_true (is_next tracks low n) (stage.Client (n + 1)) (next_is tracks low n p h)
 client_comes tracks n (stage.Calls low) p h = if_true (is_next tracks low n) (stage.Client (n + 1)) (next_is tracks low n p h)
-client_comes tracks n stage.Nothing p h = absurd p
-client_comes tracks n (stage.Client low) p h = absurd p
-client_comes tracks n (stage.Turn low part) p h = absurd p
-client_comes tracks n (stage.Look track) p h = absurd p
-client_comes tracks n (stage.Takes low) p h = absurd p
-client_comes tracks n (stage.Take due low) p h = absurd p
-client_comes tracks n stage.Turned p h = absurd p
-client_comes tracks n stage.Fast p h = absurd p
-client_comes tracks n (stage.Mixed low) p h = absurd p
-client_comes tracks n (stage.Slot due low) p h = absurd p
-client_comes tracks n stage.Entries p h = absurd p
+client_comes tracks n _ p h = absurd p
 
 pub later_client : (n m : ℕ) (at : Stage) → n ≤ m → AtClients n at → AtClients m at
 later_client n m (stage.Clients low) h p = omega arith
 later_client n m (stage.Calls low) h p = omega arith
-later_client n m stage.Nothing h p = absurd p
-later_client n m (stage.Client low) h p = absurd p
-later_client n m (stage.Turn low part) h p = absurd p
-later_client n m (stage.Look track) h p = absurd p
-later_client n m (stage.Takes low) h p = absurd p
-later_client n m (stage.Take due low) h p = absurd p
-later_client n m stage.Turned h p = absurd p
-later_client n m stage.Fast h p = absurd p
-later_client n m (stage.Mixed low) h p = absurd p
-later_client n m (stage.Slot due low) h p = absurd p
-later_client n m stage.Entries h p = absurd p
+later_client n m _ h p = absurd p
 
 pub calls_lead : (tracks n low : ℕ) (calls : List ClientCall) → low ≤ n → Leads tracks (stage.Calls low) (call_lines calls) (AtClients n)
 calls_lead tracks n low [] h = none tracks (stage.Calls low) (AtClients n) h
@@ -130,17 +90,7 @@ clients_lead tracks n at (c ∷ calls) h p =
 pub turn_comes : (tracks n : ℕ) (at : Stage) (room cycle : ℕ) (ack : Bool) → AtClients n at → (after_line tracks at (line.Turn room ack cycle) ≡ Some (stage.Turn 0 0)) × (after_line tracks at line.Ended ≡ Some stage.Turned)
 turn_comes tracks n (stage.Clients low) room cycle ack p = (refl, refl)
 turn_comes tracks n (stage.Calls low) room cycle ack p = (refl, refl)
-turn_comes tracks n stage.Nothing room cycle ack p = absurd p
-turn_comes tracks n (stage.Client low) room cycle ack p = absurd p
-turn_comes tracks n (stage.Turn low part) room cycle ack p = absurd p
-turn_comes tracks n (stage.Look track) room cycle ack p = absurd p
-turn_comes tracks n (stage.Takes low) room cycle ack p = absurd p
-turn_comes tracks n (stage.Take due low) room cycle ack p = absurd p
-turn_comes tracks n stage.Turned room cycle ack p = absurd p
-turn_comes tracks n stage.Fast room cycle ack p = absurd p
-turn_comes tracks n (stage.Mixed low) room cycle ack p = absurd p
-turn_comes tracks n (stage.Slot due low) room cycle ack p = absurd p
-turn_comes tracks n stage.Entries room cycle ack p = absurd p
+turn_comes tracks n _ room cycle ack p = absurd p
 
 -- ## A turn
 
@@ -158,18 +108,7 @@ pub record OfTurn (track part : ℕ) (at : Stage) : Type 0 where
 
 pub of_turn : (track part : ℕ) (at : Stage) → AtPart track part at → OfTurn track part at
 of_turn track part (stage.Turn low low_part) p = record { low = low; low_part = low_part; is = refl; may = p }
-of_turn track part stage.Nothing p = absurd p
-of_turn track part (stage.Clients low) p = absurd p
-of_turn track part (stage.Calls low) p = absurd p
-of_turn track part (stage.Client low) p = absurd p
-of_turn track part (stage.Look t) p = absurd p
-of_turn track part (stage.Takes low) p = absurd p
-of_turn track part (stage.Take due low) p = absurd p
-of_turn track part stage.Turned p = absurd p
-of_turn track part stage.Fast p = absurd p
-of_turn track part (stage.Mixed low) p = absurd p
-of_turn track part (stage.Slot due low) p = absurd p
-of_turn track part stage.Entries p = absurd p
+of_turn track part _ p = absurd p
 
 pub may_part : (tracks track part low low_part : ℕ) → track < tracks → comes track part low low_part ≡ true → (nat_lt track tracks && comes track part low low_part) ≡ true
 may_part tracks track part low low_part h e = grind (arith, nat_tests)

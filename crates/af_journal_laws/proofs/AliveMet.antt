@@ -1,42 +1,7 @@
 -- Up to each meeting of its stream proxy no call shows the client of a track without a poke that the track was shut.
-use Rattle.std.specs.Prelude.{MatchBool, MatchOption, []}
-use Rattle.std.specs.List.{list_all, list_any}
 use Rattle.std.proofs.Common.{◌≡◌, ◌⊎◌, inl, inr, ℕ, ◌<◌, ◌≤◌, ◌==◌, ◌&&◌, Bool, true, false, if◌then◌else◌, fold, List, ◌∷◌, ◌++◌, length, All, Option, Some, None, refl, sym, ap, ◌∙◌, subst, eqb-true, arith}
-use Rattle.std.proofs.lemmas.Bool.Decides.{nat_tests}
-use Rattle.std.proofs.lemmas.List.Elements.{All-head, All-tail}
-use Rattle.af_base.proofs.Basics.{both_true, neither, no}
-use Rattle.af_base.specs.declared.frame.Frame.{Frame}
-use Rattle.af_base.specs.Turn.{Turn}
-use Rattle.af_judge.proofs.Basics.{told_each}
-use Rattle.af_life.specs.Heard.{heard, learnt}
-use Rattle.af_life.specs.Kept.{track_at}
-use Rattle.af_life.specs.TurnEvents.{tracks_at}
-use Rattle.af_model.proofs.Basics.{both_first, not_true}
-use Rattle.af_model.proofs.Logic.{both_right}
-use Rattle.af_model.specs.JournalForm.{IsRound}
-use Rattle.af_model.specs.Journals.{EntrySeen, JournalData, RoundSeen}
-use Rattle.af_runs.specs.Blocks.{Marks}
-use Rattle.af_runs.specs.ClientTurns.{LegalClientTurn}
-use Rattle.af_runs.specs.Found.{LegalTurnBy, outside_of}
-use Rattle.af_runs.specs.LegalRuns.{HasLegalRounds, LegalRounds, is_lawful_block, is_poke_on, marks_of, run_from, session_of}
-use Rattle.af_runs.specs.Rounds.{fills, LegalEntries, LegalRound, after_round, after_turn, all_played, before_turn, early_of, found_in, late_of, loaded, met_after, turned}
-use Rattle.af_runs.specs.Runs.{Run, TrackTold, called, calls_in, fast_ended, found_before, met, new_run, sides_of, takes_part, told_at, with_calls, with_cycle, with_cycles, with_ends, with_poll}
-use Rattle.af_runs.specs.Sessions.{Session, setup_of, track_count}
-use Rattle.af_runs.specs.TurnRuns.{AreTurns, IsMadeBy, IsTurnRun, LegalAlone, OnlyCalls, calls_alone, cycle_alone, made_alone, met_alone, run_alone}
-use Rattle.af_script.specs.Data.{ScriptData}
-use Rattle.af_script.specs.Form.{IsScript}
-use Rattle.af_script.specs.declared.op.TurnSpec.{TurnSpec}
+use Rattle.af_journal_laws.proofs.Common.{All-head, All-tail, AreTurns, EntrySeen, Frame, HasLegalRounds, IsMadeBy, IsRound, IsScript, IsSpared, IsSparedIn, IsTurnRun, JournalData, LegalAlone, LegalClientTurn, LegalEntries, LegalRound, LegalRounds, LegalTurnBy, Marks, MatchBool, MatchOption, OnlyCalls, RoundSeen, Run, RunGrows, ScriptData, Session, TellsSo, TrackTold, Turn, TurnSpec, [], after_round, after_turn, all_played, before_turn, both_first, both_right, both_true, called, calls_alone, calls_in, cycle_alone, cycles_beside, early_of, fast_ended, fills, found_before, found_in, from_played, heard, heard_told, is_lawful_block, is_poke_on, is_spared_by_turn, late_of, learnt, legal_parts, list_all, list_any, loaded, made_alone, marks_of, met, met_after, met_alone, nat_tests, neither, new_run, new_tells, new_there, new_trim, no, none_corrupt_on, not_true, of_run, outside_of, recorded, rounds_grow, run_alone, run_from, run_none, run_told, session_of, setup_of, sides_of, takes_part, tells_round, told_at, told_each, told_new, track_at, track_count, track_told, tracks_at, turned, with_calls, with_cycle, with_cycles, with_ends, with_poll}
 use Rattle.af_script.specs.declared.op.TurnSpec.TheVariants as makes
-use Rattle.af_judge.proofs.EntriesFollow.{cycles_beside}
-use Rattle.af_audit.specs.Fates.{recorded}
-use Rattle.af_audit.specs.Spared.{IsSpared, IsSparedIn, is_spared_by_turn, none_corrupt_on}
-use Rattle.af_audit.proofs.EntryParts.{legal_parts}
-use Rattle.af_audit.proofs.FatesTold.{new_there, told_new}
-use Rattle.af_audit.proofs.Growing.{run_told, track_told}
-use Rattle.af_audit.proofs.Grown.{RunGrows, rounds_grow, run_none}
-use Rattle.af_audit.proofs.Heard.{TellsSo, from_played, heard_told, new_tells, tells_round}
-use Rattle.af_audit.proofs.Measure.{of_run}
-use Rattle.af_audit.proofs.SparedTold.{new_trim}
 use Rattle.af_journal_laws.specs.Alive.{NoMetCallIsDead, NoMetCallIsDeadAlone, none_dead}
 use Rattle.af_journal_laws.specs.Alone.{IsSparedAlone, IsSparedInTurn, recorded_alone}
 use Rattle.af_journal_laws.proofs.AtMeetings.{HasHistoryMet, has_history, never_shut_so, unshut_met_so}

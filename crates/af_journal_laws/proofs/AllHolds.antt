@@ -1,11 +1,6 @@
 -- All that follows up to the meetings, from legal rounds and from turn runs.
 use Rattle.std.proofs.Common.{Bool, List}
-use Rattle.af_base.specs.declared.frame.Frame.{Frame}
-use Rattle.af_model.specs.Journals.{JournalData}
-use Rattle.af_runs.specs.LegalRuns.{HasLegalRounds}
-use Rattle.af_runs.specs.TurnRuns.{IsTurnRun}
-use Rattle.af_script.specs.Data.{ScriptData}
-use Rattle.af_script.specs.Form.{IsScript}
+use Rattle.af_journal_laws.proofs.Common.{Frame, HasLegalRounds, IsScript, IsTurnRun, JournalData, ScriptData}
 use Rattle.af_journal_laws.specs.Drained.{EachDrainedTrackHasStopped, EachDrainedTrackHasStoppedAlone}
 use Rattle.af_journal_laws.specs.Laws.{HoldsAtMeetings, HoldsAtMeetingsAlone}
 use Rattle.af_journal_laws.proofs.AliveMet.{met-calls-live, met-calls-live-alone}

@@ -1,21 +1,7 @@
 -- What is known of a track's block at a meeting of both its proxies: it has a history, so neither proxy is shut.
 use Rattle.std.proofs.Common.{◌≡◌, inl, ℕ, ◌<◌, Bool, true, false, if◌then◌else◌, List, length, refl, sym, ap, subst}
-use Rattle.af_judge.proofs.Basics.{told_each}
-use Rattle.af_model.proofs.RoomKept.{never_corrupt, never_shut}
-use Rattle.af_model.specs.declared.shape.Shape.{Shape}
-use Rattle.af_model.specs.ServerCalls.{server_begins}
-use Rattle.af_runs.specs.Blocks.{BlockTold, HasBlockHistory, is_tame, server_list}
-use Rattle.af_runs.specs.Clients.{ends}
-use Rattle.af_runs.specs.Runs.{Run, TrackTold, each_track, new_run, sides_of, told_at, with_ends}
-use Rattle.af_runs.specs.Sessions.{Session, command_shape, file_words, spec_of, stream_shape, track_count}
-use Rattle.af_script.specs.Form.{IsScript}
-use Rattle.af_audit.specs.RunKept.{IsFit}
-use Rattle.af_audit.proofs.FatesTold.{new_history, told_new}
+use Rattle.af_journal_laws.proofs.Common.{BlockTold, HasBlockHistory, IsFit, IsScript, IsTrim, IsUnshut, Run, Session, Shape, TrackStands, TrackTold, block_on, command_shape, each_track, ends, file_words, is_tame, never_corrupt, never_shut, new_fit as begins_fit, new_history, new_run, new_trim, server_begins, server_list, server_unshut, sides_of, spec_of, stream_shape, told_at, told_each, told_new, track_count, with_ends}
 use Rattle.af_audit.proofs.FileReleased.{begins_none}
-use Rattle.af_audit.proofs.RearsSeen.{server_unshut}
-use Rattle.af_audit.proofs.SparedTold.{new_fit as begins_fit, new_trim}
-use Rattle.af_audit.proofs.TrackStands.{TrackStands}
-use Rattle.af_audit.proofs.TrackUnshut.{IsTrim, IsUnshut, block_on}
 use Rattle.af_journal_laws.specs.Meetings.{meets_on}
 use Rattle.af_journal_laws.proofs.ShutTold.{ever_shut, server_never_shut}
 use Rattle.af_journal_laws.proofs.Steps.{Goes}

@@ -1,15 +1,8 @@
 -- If a client's lists of its blocks show neither INVALID nor 15 after its calls, none of these showed it that its track was shut.
 use Rattle.std.proofs.Common.{◌≡◌, ℕ, ◌-◌, ◌==◌, not, Bool, true, false, if◌then◌else◌, is_some, fold, MatchBool, List, [], ◌∷◌, refl, ap, subst, eqb-true}
-use Rattle.std.specs.Prelude.{bit_and}
-use Rattle.std.specs.List.{list_all}
-use Rattle.af_base.proofs.Basics.{both_true}
-use Rattle.af_base.specs.declared.event.ClientCall.{ClientCall}
+use Rattle.af_journal_laws.proofs.Common.{AnswersOn, AreCalls, ClientAnswers, ClientCall, ClientEvent, IsMade, LegalClientTurn, Side, Track, after_call, after_calls, asked_by, bit_and, both_first, both_true, client_call_events, client_kept, is_of_commands, list_all, most_calls, not_true, released_by, state_in}
 use Rattle.af_base.specs.declared.event.ClientCall.TheVariants as call
-use Rattle.af_base.specs.declared.event.ClientEvent.{ClientEvent}
-use Rattle.af_model.proofs.Basics.{both_first, not_true}
-use Rattle.af_model.specs.ClientCalls.{ClientAnswers, client_call_events, client_kept}
-use Rattle.af_runs.specs.Clients.{state_in}
-use Rattle.af_runs.specs.ClientTurns.{Side, AnswersOn, AreCalls, IsMade, LegalClientTurn, Track, after_call, after_calls, asked_by, called, is_of_commands, most_calls, released_by}
+use Rattle.af_runs.specs.ClientTurns.{called}
 use Rattle.af_runs.specs.declared.want.Want.{Want}
 use Rattle.af_journal_laws.specs.Alive.{is_dead, none_dead}
 use Rattle.af_journal_laws.proofs.FlagsCalm.{all_left, all_right, is_valid}
@@ -25,16 +18,7 @@ shows_dead : (frames cells base : ℕ) (es : List ClientEvent) (asked : ℕ) (wa
 shows_dead frames cells base es asked was (call.Dead flags) a fine = absurd (a.1 (eqb-true (bit_and flags 4) 0 (both_first (bit_and flags 4 == 0) true fine)))
 shows_dead frames cells base es asked was (call.SendDead flags) a fine = absurd (a.1 (eqb-true (bit_and flags 4) 0 (both_first (bit_and flags 4 == 0) true fine)))
 shows_dead frames cells base es asked was (call.Status word) a fine = not_true (state_in word == 15) (both_first (not (state_in word == 15)) true fine)
-shows_dead frames cells base es asked was (call.Put front count) a fine = refl
-shows_dead frames cells base es asked was (call.Full front) a fine = refl
-shows_dead frames cells base es asked was (call.Corrupt front rear) a fine = refl
-shows_dead frames cells base es asked was (call.Cleared flags) a fine = refl
-shows_dead frames cells base es asked was (call.Flush count) a fine = refl
-shows_dead frames cells base es asked was (call.Gain word) a fine = refl
-shows_dead frames cells base es asked was (call.Sent front code argument) a fine = refl
-shows_dead frames cells base es asked was (call.SendFull front) a fine = refl
-shows_dead frames cells base es asked was (call.SendCorrupt front rear) a fine = refl
-shows_dead frames cells base es asked was (call.Poke command word value) a fine = refl
+shows_dead frames cells base es asked was _ a fine = refl
 
 module _ (t : Track) (wanted : Want) (answer : ClientCall) where
   -- the side on which the call was made shows INVALID or 15 if the call shows that the track was shut

@@ -1,46 +1,14 @@
 -- In legal rounds, and in a turn run, each track that is reported drained has reached its STOP.
-use Rattle.std.specs.List.{list_any}
 use Rattle.std.proofs.Common.{◌≡◌, ℕ, ◌<◌, ◌≤◌, Bool, true, false, fold, List, [], ◌∷◌, ◌++◌, take, All, Option, Some, None, refl, sym, ap, ◌∙◌, subst, arith}
-use Rattle.std.proofs.lemmas.List.Elements.{All-head, All-tail}
+use Rattle.af_journal_laws.proofs.Common.{All-head, All-tail, AreTurns, BlockTold, EntrySeen, Frame, HasBlockHistory, HasLegalRounds, HasReachedStop, IsDrainedBy, IsMadeBy, IsRound, IsScript, IsTrim, IsTurnRun, JournalData, LegalRounds, LegalTurnBy, LifeStep, Marks, NormalKept, RoundSeen, Run, RunGrows, ScriptData, SeesAllBefore, Sent, Session, Shape, StoppedAt, TellsSo, Turn, TurnSpec, both_right, calls_in, client_list, commands_at, consumed_of, cycle_alone, found_before, hand_list, is_lawful_block, is_lawful_track, is_poke_on, learnt, list_any, made_alone, marks_of, met, met_alone, most_heard, neither, new_run, new_there, new_trim, no, not_true, outside_of, run_none, says_drained, sent_in, server_list, session_of, setup_of, stop_sent, told_at, track_count, track_told, turn_after, turned, with_ends, with_mix, with_poll, with_turn}
 use Rattle.std.proofs.lemmas.Option.{none-some}
-use Rattle.af_base.proofs.Basics.{neither, no}
-use Rattle.af_base.specs.declared.frame.Frame.{Frame}
-use Rattle.af_base.specs.Turn.{Turn}
-use Rattle.af_life.specs.Drained.{IsDrainedBy, LifeStep, StoppedAt, most_heard}
-use Rattle.af_life.specs.Heard.{learnt}
-use Rattle.af_life.specs.Kept.{NormalKept}
-use Rattle.af_life.specs.Turn.{turn_after}
-use Rattle.af_model.proofs.Basics.{not_true}
-use Rattle.af_model.proofs.Logic.{both_right}
-use Rattle.af_model.specs.JournalForm.{IsRound}
-use Rattle.af_model.specs.Journals.{EntrySeen, JournalData, RoundSeen}
-use Rattle.af_model.specs.declared.shape.Shape.{Shape}
-use Rattle.af_runs.specs.Blocks.{BlockTold, HasBlockHistory, Marks, client_list, hand_list, server_list}
-use Rattle.af_runs.specs.Found.{LegalTurnBy, outside_of}
-use Rattle.af_runs.specs.LegalRuns.{HasLegalRounds, LegalRounds, is_lawful_block, is_lawful_track, is_poke_on, marks_of, session_of}
-use Rattle.af_runs.specs.Rounds.{turned}
-use Rattle.af_runs.specs.Runs.{Run, calls_in, found_before, met, new_run, told_at, with_ends, with_mix, with_poll, with_turn}
-use Rattle.af_runs.specs.Sessions.{Session, setup_of, track_count}
-use Rattle.af_runs.specs.TurnRuns.{AreTurns, IsMadeBy, IsTurnRun, SeesAllBefore, cycle_alone, made_alone, met_alone}
-use Rattle.af_script.specs.Data.{ScriptData}
-use Rattle.af_script.specs.Form.{IsScript}
-use Rattle.af_script.specs.declared.op.TurnSpec.{TurnSpec}
 use Rattle.af_script.specs.declared.op.TurnSpec.TheVariants as makes
-use Rattle.af_audit.specs.Drained.{HasReachedStop, Sent, consumed_of, says_drained, sent_in}
 use Rattle.af_audit.proofs.CommandDrops.{taken_first}
 use Rattle.af_audit.proofs.Consumed.{consumed}
 use Rattle.af_audit.proofs.DrainedTold.{AreCalm, new_sends, rounds-drained}
-use Rattle.af_audit.proofs.FatesTold.{new_there}
-use Rattle.af_audit.proofs.Growing.{track_told}
-use Rattle.af_audit.proofs.Grown.{RunGrows, run_none}
-use Rattle.af_audit.proofs.Heard.{TellsSo}
 use Rattle.af_audit.proofs.MixerTurns.{ends_normal, loaded_normal, met_normal}
 use Rattle.af_audit.proofs.Reached.{Keeps, new_keeps, steps_heard}
-use Rattle.af_audit.proofs.SentTold.{commands_at}
-use Rattle.af_audit.proofs.SparedTold.{new_trim}
 use Rattle.af_audit.proofs.Stopped.{AreTurns as AreSoFar, Reaches, same_turns, turn_drained, turn_turns}
-use Rattle.af_audit.proofs.StopSent.{stop_sent}
-use Rattle.af_audit.proofs.TrackUnshut.{IsTrim}
 use Rattle.af_journal_laws.specs.Drained.{EachDrainedTrackHasStopped, EachDrainedTrackHasStoppedAlone, WhereDrainedAlone, steps_alone}
 use Rattle.af_journal_laws.proofs.AtMeetings.{HasHistoryMet, history_ends}
 use Rattle.af_journal_laws.proofs.Own.{grows_kept}

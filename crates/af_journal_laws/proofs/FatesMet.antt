@@ -1,16 +1,6 @@
 -- By each meeting of its stream block's proxies each frame that a client released has one fate.
 use Rattle.std.proofs.Common.{◌≡◌, ℕ, ◌<◌, Bool, false, true, List, ◌++◌, refl, ap, ◌∙◌}
-use Rattle.af_base.specs.declared.frame.Frame.{Frame}
-use Rattle.af_model.specs.Journals.{JournalData}
-use Rattle.af_runs.specs.LegalRuns.{HasLegalRounds, run_from, session_of}
-use Rattle.af_runs.specs.Runs.{Run, TrackTold, new_run, takes_part, told_at}
-use Rattle.af_runs.specs.Sessions.{Session, file_words, track_count}
-use Rattle.af_runs.specs.TurnRuns.{IsTurnRun, run_alone}
-use Rattle.af_script.specs.Data.{ScriptData}
-use Rattle.af_script.specs.Form.{IsScript}
-use Rattle.af_audit.specs.Fates.{HasFates, recorded}
-use Rattle.af_audit.specs.Spared.{IsSpared}
-use Rattle.af_audit.proofs.FatesTold.{fates_told, told_new}
+use Rattle.af_journal_laws.proofs.Common.{Frame, HasFates, HasLegalRounds, IsScript, IsSpared, IsTurnRun, JournalData, Run, ScriptData, Session, TrackTold, fates_told, file_words, new_run, recorded, run_alone, run_from, session_of, takes_part, told_at, told_new, track_count}
 use Rattle.af_journal_laws.specs.Alone.{IsSparedAlone, recorded_alone}
 use Rattle.af_journal_laws.specs.Fates.{EachMetFrameHasOneFate, EachMetFrameHasOneFateAlone}
 use Rattle.af_journal_laws.proofs.AtMeetings.{HasHistoryMet, has_history, stands_met_so}

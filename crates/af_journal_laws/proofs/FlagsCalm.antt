@@ -1,28 +1,14 @@
 -- If neither server nor hand sets INVALID on a block, and no status is stored that says 15, its client sees neither in any history.
 use Rattle.std.proofs.Common.{◌≡◌, ◌⊎◌, inl, inr, ℕ, ◌-◌, ◌==◌, not, Bool, true, false, true≢false, if◌then◌else◌, is_some, MatchBool, List, [], ◌∷◌, ◌++◌, refl, sym, ap, ◌∙◌, subst, eqb-true}
-use Rattle.std.specs.Prelude.{bit_and, bit_or}
-use Rattle.std.specs.List.{list_all}
+use Rattle.af_journal_laws.proofs.Common.{BlockTold, ClientEvent, ClientMay, HandEvent, HasBlockHistory, IsLegal, Listed, Moment, ServerEvent, after, after_client, after_hand, after_look, after_server, bit_and, bit_or, both_first, both_right, both_true, by_client, by_hand, by_server, client_list, client_of, cycle_events, drops_of, hand_list, hand_of, is_shut, kept, list_all, look_events, server_list, server_of, start, state_in, tally}
 use Rattle.std.proofs.lemmas.List.Folds.{list_all-append}
-use Rattle.af_base.proofs.Basics.{both_true}
-use Rattle.af_base.specs.declared.event.ClientEvent.{ClientEvent}
 use Rattle.af_base.specs.declared.event.ClientEvent.TheVariants as client
-use Rattle.af_base.specs.declared.event.HandEvent.{HandEvent}
 use Rattle.af_base.specs.declared.event.HandEvent.TheVariants as hand
-use Rattle.af_base.specs.declared.event.ServerEvent.{ServerEvent}
 use Rattle.af_base.specs.declared.event.ServerEvent.TheVariants as server
 use Rattle.af_base.specs.declared.log.SlotEntry.{SlotEntry}
 use Rattle.af_base.specs.declared.seen.Seen.{Seen}
 use Rattle.af_base.specs.declared.seen.Seen.TheVariants as seen
-use Rattle.af_life.specs.Obeys.{is_shut}
-use Rattle.af_model.proofs.Basics.{both_first}
-use Rattle.af_model.proofs.Logic.{both_right}
-use Rattle.af_model.specs.Cycles.{Listed, after_look, cycle_events, kept, tally}
-use Rattle.af_model.specs.History.{Moment, by_client, by_hand, by_server, client_of, hand_of, server_of, after, IsLegal}
-use Rattle.af_model.specs.Point.{ClientMay, after_client, after_hand, after_server, start}
-use Rattle.af_model.specs.ServerCalls.{drops_of, look_events}
 use Rattle.af_model.specs.declared.point.TrackPoint.{TrackPoint}
-use Rattle.af_runs.specs.Clients.{state_in}
-use Rattle.af_runs.specs.Blocks.{BlockTold, HasBlockHistory, client_list, hand_list, server_list}
 
 -- ## Calm lists
 
@@ -69,10 +55,7 @@ calm_after asked was (seen.Flushed dropped) open_is = refl
 
 calm_drops : (answer : Seen) (front : ℕ) → list_all is_calm (drops_of answer front) ≡ true
 calm_drops seen.Absent front = refl
-calm_drops (seen.Frames count) front = refl
-calm_drops seen.Empty front = refl
-calm_drops (seen.Flushed dropped) front = refl
-calm_drops (seen.Shut f r) front = refl
+calm_drops _ front = refl
 
 pub calm_look : (was : Bool) (answer : Seen) (flush rear front : ℕ) → list_all is_calm (if was then [] else look_events answer flush rear front) ≡ true
 calm_look true answer flush rear front = refl
@@ -122,31 +105,19 @@ record IsCalmPoint (p : TrackPoint) : Type 0 where
   status : not (state_in p.status == 15) ≡ true
 
 server_calm : (p : TrackPoint) (e : ServerEvent) → is_calm e ≡ true → IsCalmPoint p → IsCalmPoint (after_server p e)
-server_calm p (server.SawGain word) is h = record { flags = h.flags; status = h.status }
-server_calm p (server.SawFlush flush) is h = record { flags = h.flags; status = h.status }
-server_calm p (server.SawRear rear) is h = record { flags = h.flags; status = h.status }
-server_calm p (server.SawFront front) is h = record { flags = h.flags; status = h.status }
-server_calm p (server.Drop to) is h = record { flags = h.flags; status = h.status }
-server_calm p (server.Take count) is h = record { flags = h.flags; status = h.status }
-server_calm p (server.Tally missing) is h = record { flags = h.flags; status = h.status }
 server_calm p (server.SetFlags bits) is h = record { flags = with_missing p.flags bits is h.flags; status = h.status }
 server_calm p (server.SetStatus word) is h = record { flags = h.flags; status = is }
-server_calm p (server.Learn count) is h = record { flags = h.flags; status = h.status }
+server_calm p _ is h = record { flags = h.flags; status = h.status }
 
 hand_calm : (p : TrackPoint) (e : HandEvent) → is_calm_hand e ≡ true → IsCalmPoint p → IsCalmPoint (after_hand p e)
 hand_calm p (hand.SetFlags bits) is h = record { flags = with_disabled p.flags bits is h.flags; status = h.status }
 hand_calm p (hand.Met count) is h = record { flags = h.flags; status = h.status }
 
 client_calm : (p : TrackPoint) (others : ℕ) (e : ClientEvent) → ClientMay p others e → IsCalmPoint p → IsCalmPoint (after_client p e) × (is_valid e ≡ true)
-client_calm p others (client.Release count) may h = (record { flags = h.flags; status = h.status }, refl)
-client_calm p others client.Flush may h = (record { flags = h.flags; status = h.status }, refl)
-client_calm p others (client.SetGain word) may h = (record { flags = h.flags; status = h.status }, refl)
 client_calm p others (client.ClearFlags old) may h = (record { flags = cleared p.flags h.flags; status = h.status }, refl)
 client_calm p others (client.SawFlags flags) may h = (record { flags = h.flags; status = h.status }, seen_calm p.flags flags may h.flags)
-client_calm p others (client.SawFront front) may h = (record { flags = h.flags; status = h.status }, refl)
 client_calm p others (client.SawStatus word) may h = (record { flags = h.flags; status = h.status }, ap (λ (w : ℕ). not (state_in w == 15)) may ∙ h.status)
-client_calm p others (client.Poke word value) may h = (record { flags = h.flags; status = h.status }, refl)
-client_calm p others (client.Learn count) may h = (record { flags = h.flags; status = h.status }, refl)
+client_calm p others _ may h = (record { flags = h.flags; status = h.status }, refl)
 
 calm_in : (p : TrackPoint) (order : List Moment) → IsCalmPoint p → IsLegal p order → list_all is_calm (server_of order) ≡ true → list_all is_calm_hand (hand_of order) ≡ true → IsCalmPoint (after p order) × (list_all is_valid (client_of order) ≡ true)
 calm_in p [] zero legal servers hands = (zero, refl)

@@ -1,26 +1,6 @@
 -- If both blocks of a track are spared and no turn hears that one was shut, no step sets INVALID or stores a status that says 15; and if its client sees neither by the end, no call showed it that its track was shut.
 use Rattle.std.proofs.Common.{◌≡◌, ℕ, ◌<◌, Bool, true, false, if◌then◌else◌, List, [], length, Option, Some, None, refl, sym, ◌∙◌, subst, arith}
-use Rattle.std.specs.List.{list_any}
-use Rattle.af_base.specs.declared.state.FastState.{FastState}
-use Rattle.af_base.specs.Turn.{Turn}
-use Rattle.af_judge.proofs.Basics.{each_at, told_each}
-use Rattle.af_life.specs.Heard.{heard, learnt}
-use Rattle.af_life.specs.Kept.{NormalKept, track_at}
-use Rattle.af_life.specs.TurnEvents.{tracks_at}
-use Rattle.af_model.specs.JournalForm.{TracksRise}
-use Rattle.af_model.specs.Journals.{EntrySeen, RoundSeen}
-use Rattle.af_runs.specs.Blocks.{Marks}
-use Rattle.af_runs.specs.Clients.{ends}
-use Rattle.af_runs.specs.ClientTurns.{LegalClientTurn}
-use Rattle.af_runs.specs.Found.{LegalTurnBy, TurnFound, outside_of}
-use Rattle.af_runs.specs.LegalRuns.{is_poke_on}
-use Rattle.af_runs.specs.Rounds.{LegalEntry, loaded}
-use Rattle.af_runs.specs.Runs.{Run, TrackTold, called, calls_in, each_track, met, mixed_track, no_track, sides_of, state_for, takes_part, told_at, track_met, turned_track, with_calls, with_ends, with_load, with_mix, with_poll, with_turn}
-use Rattle.af_runs.specs.Sessions.{Session, setup_of}
-use Rattle.af_judge.proofs.BlocksMeet.{met_at}
-use Rattle.af_audit.specs.Spared.{is_spared_by, is_spared_in_turn}
-use Rattle.af_audit.proofs.SidesKept.{sides_mixed, sides_turned}
-use Rattle.af_audit.proofs.TrackUnshut.{IsTrim, IsUnshut}
+use Rattle.af_journal_laws.proofs.Common.{EntrySeen, FastState, IsTrim, IsUnshut, LegalClientTurn, LegalEntry, LegalTurnBy, Marks, NormalKept, RoundSeen, Run, Session, TrackTold, TracksRise, Turn, TurnFound, called, calls_in, each_at, each_track, ends, heard, is_poke_on, is_spared_by, is_spared_in_turn, learnt, list_any, loaded, met, met_at, mixed_track, no_track, outside_of, setup_of, sides_mixed, sides_of, sides_turned, state_for, takes_part, told_at, told_each, track_at, track_met, tracks_at, turned_track, with_calls, with_ends, with_load, with_mix, with_poll, with_turn}
 use Rattle.af_journal_laws.specs.Alive.{none_dead}
 use Rattle.af_journal_laws.proofs.CallsAlive.{IsValid}
 use Rattle.af_journal_laws.proofs.Steps.{Goes, goes_called, goes_ended, goes_met, goes_mixed, goes_same, goes_turned}

@@ -1,17 +1,6 @@
 -- In the last meeting of a legal run each stream proxy takes part, so that what holds at each meeting holds of the whole journal.
 use Rattle.std.proofs.Common.{◌≡◌, ℕ, Bool, true, false, List, [], ◌∷◌, refl, sym, append-nil}
-use Rattle.af_base.specs.declared.frame.Frame.{Frame}
-use Rattle.af_judge.proofs.Basics.{or_left}
-use Rattle.af_life.specs.Kept.{is_home, track_at}
-use Rattle.af_model.proofs.Basics.{both_first}
-use Rattle.af_model.specs.Journals.{JournalData, RoundSeen}
-use Rattle.af_runs.specs.Blocks.{Marks}
-use Rattle.af_runs.specs.LegalRuns.{IsLegalRun, LegalRounds, is_lawful_block, marks_of, run_from, run_of, session_of}
-use Rattle.af_runs.specs.Rounds.{after_round}
-use Rattle.af_runs.specs.Runs.{Run, holds, new_run, takes_part}
-use Rattle.af_runs.specs.Sessions.{Session, setup_of}
-use Rattle.af_script.specs.Data.{ScriptData}
-use Rattle.af_audit.proofs.FatesTold.{normal_ended}
+use Rattle.af_journal_laws.proofs.Common.{Frame, IsLegalRun, JournalData, LegalRounds, Marks, RoundSeen, Run, ScriptData, Session, after_round, both_first, holds, is_home, is_lawful_block, marks_of, new_run, normal_ended, or_left, run_from, run_of, session_of, setup_of, takes_part, track_at}
 use Rattle.af_audit.proofs.MixerEnds.{EndsHome, all_home, new_ends}
 use Rattle.af_audit.proofs.MixerRounds.{round_ends}
 use Rattle.af_journal_laws.specs.Laws.{HoldsToTheEnd}

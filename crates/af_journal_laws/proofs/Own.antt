@@ -1,21 +1,8 @@
 -- What each step of a turn run adds to a track: its blocks only grow, its client flushes no more than it has ops for, and its command block is kept.
 use Rattle.std.proofs.Common.{◌≡◌, ℕ, ◌<◌, ◌≤◌, ◌==◌, Bool, true, false, if◌then◌else◌, length, Option, Some, None, refl, sym, ap, subst, eqb-true, arith, []}
-use Rattle.af_base.specs.declared.state.FastState.{FastState}
-use Rattle.af_base.specs.Turn.{Turn}
-use Rattle.af_judge.proofs.Basics.{each_long, told_each}
-use Rattle.af_life.specs.Kept.{track_at}
-use Rattle.af_model.specs.Journals.{EntrySeen, RoundSeen}
-use Rattle.af_runs.specs.Blocks.{Marks}
-use Rattle.af_runs.specs.ClientTurns.{LegalClientTurn}
-use Rattle.af_runs.specs.Runs.{Run, TrackTold, called, calls_in, found_before, met, mixed_track, played, sides_of, slot_for, state_for, told_at, with_ends, with_load, with_mix, with_poll, with_turn}
-use Rattle.af_runs.specs.Sessions.{Session, cycle_frames}
-use Rattle.af_runs.specs.TurnRuns.{calls_alone}
-use Rattle.af_judge.proofs.TracksTold.{sides_called}
-use Rattle.af_audit.proofs.CommandRounds.{CommandsAt, CommandsSo, called_so}
+use Rattle.af_journal_laws.proofs.Common.{CommandsAt, CommandsSo, EntrySeen, FastState, HasFew, LegalClientTurn, Marks, RoundSeen, Run, RunGrows, Session, TrackGrows, TrackTold, Turn, called, called_grows, called_so, calls_alone, calls_in, cycle_frames, each_few, each_grows, each_long, ends_grow, ends_have, found_before, grows_turned, load_grows, load_has, meet_grows, met, met_has, mix_grows, mix_has, mixed_track, played, run_twice, sides_called, sides_of, slot_for, state_for, told_at, told_each, told_flushes, track_at, track_none, turn_grows, turn_has, with_ends, with_load, with_mix, with_poll, with_turn}
 use Rattle.af_audit.proofs.FewFlushes.{all_flushes, turn_few}
-use Rattle.af_audit.proofs.FewRounds.{HasFew, each_few, ends_have, load_has, met_has, mix_has, told_flushes, turn_has}
-use Rattle.af_audit.proofs.Growing.{RunGrows as AllGrow, grows_turned}
-use Rattle.af_audit.proofs.Grown.{RunGrows, TrackGrows, called_grows, each_grows, ends_grow, load_grows, meet_grows, mix_grows, run_twice, track_none, turn_grows}
+use Rattle.af_audit.proofs.Growing.{RunGrows as AllGrow}
 use Rattle.af_journal_laws.proofs.Walk.{IsKept}
 
 -- what the calls of one client change of a track

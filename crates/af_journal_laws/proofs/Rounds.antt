@@ -1,24 +1,7 @@
 -- What holds of a track through legal rounds, by their steps.
-use Rattle.std.specs.Prelude.{MatchBool, MatchOption, []}
-use Rattle.std.specs.List.{list_any}
 use Rattle.std.proofs.Common.{◌≡◌, inl, inr, ℕ, ◌<◌, ◌&&◌, Bool, true, false, is_some, List, ◌∷◌, ◌++◌, length, All, Option, Some, None, refl, sym, ap, ◌∙◌, subst}
-use Rattle.std.proofs.lemmas.List.Elements.{All-head, All-tail}
-use Rattle.af_base.proofs.Basics.{both_true, neither, no}
-use Rattle.af_base.specs.Turn.{Turn}
-use Rattle.af_model.specs.JournalForm.{IsRound, IsTurn, TracksRise}
-use Rattle.af_model.specs.Journals.{EntrySeen, RoundSeen}
-use Rattle.af_runs.specs.Blocks.{Marks}
-use Rattle.af_runs.specs.Found.{LegalTurnBy}
-use Rattle.af_runs.specs.LegalRuns.{LegalRounds, is_poke_on, run_from}
-use Rattle.af_runs.specs.Rounds.{fills, LegalEntries, LegalRound, after_round, after_turn, all_played, before_turn, early_of, found_in, late_of, met_after, turned}
-use Rattle.af_runs.specs.Runs.{Run, calls_in, fast_ended, with_calls, with_cycle, with_cycles, with_poll}
-use Rattle.af_runs.specs.Sessions.{Session, setup_of, track_count}
-use Rattle.af_judge.proofs.EntriesFollow.{cycles_beside}
-use Rattle.af_audit.specs.Fates.{recorded, recorded_by, recorded_by_all, recorded_by_turn}
-use Rattle.af_audit.specs.Spared.{IsSpared, IsSparedIn, is_spared_by, is_spared_by_all, is_spared_by_turn}
-use Rattle.af_audit.proofs.EntryParts.{legal_parts}
+use Rattle.af_journal_laws.proofs.Common.{All-head, All-tail, EntrySeen, IsRound, IsSpared, IsSparedIn, IsTurn, LegalEntries, LegalRound, LegalRounds, LegalTurnBy, Marks, MatchBool, MatchOption, RoundSeen, Run, Session, TracksRise, Turn, [], after_round, after_turn, all_played, before_turn, both_true, calls_in, cycles_beside, early_of, fast_ended, fills, found_in, is_poke_on, is_spared_by, is_spared_by_all, is_spared_by_turn, late_of, legal_parts, list_any, met_after, neither, no, recorded, recorded_by, recorded_by_all, recorded_by_turn, recorded_in, run_from, setup_of, track_count, turned, with_calls, with_cycle, with_cycles, with_poll}
 use Rattle.af_journal_laws.proofs.Steps.{Goes, goes_as, goes_both, goes_called, goes_ended, goes_loaded, goes_met, goes_mixed, goes_polled, goes_same, goes_then, goes_turned}
-use Rattle.af_audit.proofs.TakenRecorded.{recorded_in}
 
 -- ## What a legal round has
 

@@ -1,35 +1,9 @@
 -- In a turn run: which commands a track's client sent, and which of them its mixer took.
-use Rattle.std.specs.Prelude.{MatchBool, MatchOption, []}
 use Rattle.std.proofs.Common.{◌≡◌, ◌⊎◌, inl, inr, ℕ, ◌<◌, ◌==◌, Bool, true, false, if◌then◌else◌, List, ◌++◌, length, Option, Some, None, refl, sym, ap, ◌∙◌, subst, eqb-true, append-nil, arith}
-use Rattle.std.proofs.lemmas.Bool.Decides.{nat_tests}
-use Rattle.af_base.proofs.Basics.{no}
-use Rattle.af_base.specs.declared.event.ClientCall.{ClientCall}
-use Rattle.af_base.specs.declared.state.FastState.{FastState}
-use Rattle.af_base.specs.Turn.{Turn}
-use Rattle.af_judge.proofs.Basics.{each_at, each_long, met_many, told_each}
-use Rattle.af_life.specs.Drained.{LifeStep}
-use Rattle.af_life.specs.Heard.{learnt}
-use Rattle.af_life.specs.Kept.{track_in}
-use Rattle.af_life.specs.Looks.{words_taken}
-use Rattle.af_life.specs.TurnEvents.{going}
-use Rattle.af_model.specs.Journals.{EntrySeen, RoundSeen}
-use Rattle.af_runs.specs.Blocks.{BlockTold, Marks}
-use Rattle.af_runs.specs.Clients.{ends}
-use Rattle.af_runs.specs.ClientTurns.{LegalClientTurn}
-use Rattle.af_runs.specs.Found.{LegalTurnBy, TurnFound, outside_of}
-use Rattle.af_runs.specs.Rounds.{loaded, turned}
-use Rattle.af_runs.specs.Runs.{Run, TrackTold, called, calls_in, each_track, found_before, met, mixed_track, no_track, played, sides_of, slot_for, state_for, told_at, turned_track, with_ends, with_load, with_mix, with_poll, with_turn}
-use Rattle.af_runs.specs.Sessions.{Session, cycle_frames, setup_of}
-use Rattle.af_runs.specs.TurnRuns.{IsMadeBy, OnlyCalls, calls_alone, made_alone, met_alone}
-use Rattle.af_script.specs.declared.op.TurnSpec.{TurnSpec}
+use Rattle.af_journal_laws.proofs.Common.{BlockTold, ClientCall, EntrySeen, FastState, IsMadeBy, LegalClientTurn, LegalTurnBy, LifeStep, Marks, MatchBool, MatchOption, OnlyCalls, RoundSeen, Run, Sent, SentSo, Session, TrackTold, Turn, TurnFound, TurnSpec, [], called, calls_alone, calls_in, commands_at, cycle_frames, each_at, each_long, each_track, ends, found_before, going, learnt, loaded, made_alone, met, met_alone, met_at, met_many, mixed_track, nat_tests, no, no_track, outside_of, played, sent_by_all, sent_in, setup_of, sides_of, slot_for, state_for, told_at, told_each, track_in, track_legal, turned, turned_track, with_ends, with_load, with_mix, with_poll, with_turn, words_taken}
 use Rattle.af_script.specs.declared.op.TurnSpec.TheVariants as makes
-use Rattle.af_judge.proofs.BlocksMeet.{met_at}
-use Rattle.af_audit.specs.Drained.{Sent, sent_by_all, sent_in}
 use Rattle.af_audit.proofs.Sending.{right_join, turn_right, turn_sends, words_join, words_sent}
-use Rattle.af_audit.proofs.SentTold.{commands_at}
 use Rattle.af_audit.proofs.StepsTaken.{turn_told}
-use Rattle.af_audit.proofs.StopSent.{SentSo}
-use Rattle.af_audit.proofs.TracksSeen.{track_legal}
 use Rattle.af_journal_laws.specs.Drained.{steps_alone}
 use Rattle.af_journal_laws.proofs.Own.{changed, legal_own}
 use Rattle.af_journal_laws.proofs.Rounds.{turn_legal}

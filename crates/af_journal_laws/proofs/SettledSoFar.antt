@@ -1,44 +1,13 @@
 -- In legal rounds, and in a turn run: if a client saw its START settled, the frames that it released in later rounds are discarded only by looks that saw a flush count above that of the START.
-use Rattle.std.specs.List.{list_any}
 use Rattle.std.proofs.Common.{◌≡◌, ◌⊎◌, inl, inr, ℕ, ◌<◌, ◌≤◌, ◌==◌, Bool, true, false, if◌then◌else◌, List, [], ◌∷◌, ◌++◌, length, All, refl, sym, ap, ◌∙◌, subst, eqb-true, arith}
-use Rattle.std.proofs.lemmas.Bool.Decides.{nat_tests}
-use Rattle.std.proofs.lemmas.List.Elements.{All-head, All-tail}
-use Rattle.af_base.proofs.Basics.{neither, no}
-use Rattle.af_base.specs.declared.event.ClientCall.{ClientCall}
+use Rattle.af_journal_laws.proofs.Common.{All-head, All-tail, AreTurns, BlockTold, ClientCall, DropsByFlush, Frame, Grows, HasBlockHistory, HasFew, HasLegalRounds, IsMadeBy, IsRound, IsScript, IsTrim, IsTurnRun, JournalData, LegalRounds, Marks, RoundSeen, Run, RunGrows, ScriptData, SeesAllBefore, Session, Side, Track, TrackTold, TurnSpec, after_calls, both_first, both_right, called, calls_alone, calls_in, client_list, ends_grow, flushes, flushes_of, grows_twice, is_lawful_block, is_poke_on, list_any, made_alone, marks_of, meet_grows, meets, met, met_alone, met_at, nat_tests, neither, new_run, new_there, new_trim, no, not_true, of_run, run_alone, run_none, server_list, session_of, side_of, sides_called, sides_of, stream_met, takes_part, told_at, told_each, track_at, track_count, with_ends}
 use Rattle.af_base.specs.declared.event.ClientCall.TheVariants as call
-use Rattle.af_base.specs.declared.frame.Frame.{Frame}
-use Rattle.af_judge.proofs.Basics.{told_each}
-use Rattle.af_life.specs.Kept.{track_at}
-use Rattle.af_model.proofs.Basics.{both_first, not_true}
-use Rattle.af_model.proofs.Logic.{both_right}
-use Rattle.af_model.specs.History.{flushes_of}
-use Rattle.af_model.specs.JournalForm.{IsRound}
-use Rattle.af_model.specs.Journals.{JournalData, RoundSeen}
-use Rattle.af_runs.specs.Blocks.{BlockTold, HasBlockHistory, Marks, client_list, meets, server_list}
-use Rattle.af_runs.specs.ClientTurns.{Side, Track, after_calls}
-use Rattle.af_runs.specs.LegalRuns.{HasLegalRounds, LegalRounds, is_lawful_block, is_poke_on, marks_of, session_of}
-use Rattle.af_runs.specs.Runs.{Run, TrackTold, called, calls_in, met, new_run, side_of, sides_of, stream_met, takes_part, told_at, with_ends}
-use Rattle.af_runs.specs.Sessions.{Session, track_count}
-use Rattle.af_runs.specs.TurnRuns.{AreTurns, IsMadeBy, IsTurnRun, SeesAllBefore, calls_alone, made_alone, met_alone, run_alone}
-use Rattle.af_script.specs.Data.{ScriptData}
-use Rattle.af_script.specs.Form.{IsScript}
-use Rattle.af_script.specs.declared.op.TurnSpec.{TurnSpec}
 use Rattle.af_script.specs.declared.op.TurnSpec.TheVariants as makes
-use Rattle.af_judge.proofs.BlocksMeet.{met_at}
-use Rattle.af_judge.proofs.TracksTold.{sides_called}
-use Rattle.af_audit.specs.Fates.{DropsByFlush}
 use Rattle.af_audit.specs.Settled.{DiscardsAbove, SeesSettled}
 use Rattle.af_audit.proofs.Drops.{released_in}
-use Rattle.af_audit.proofs.FatesTold.{new_there}
-use Rattle.af_audit.proofs.FewRounds.{HasFew}
-use Rattle.af_audit.proofs.Grown.{Grows, RunGrows, ends_grow, grows_twice, meet_grows, run_none}
-use Rattle.af_audit.proofs.Measure.{of_run}
 use Rattle.af_audit.proofs.Meeting.{block-discards, ends_stream, grown_tame, released_met, stream_grows}
 use Rattle.af_audit.proofs.SeenKept.{flushes_few, most_flushes, new_few, new_narrow}
-use Rattle.af_audit.proofs.SettledRounds.{flushes}
 use Rattle.af_audit.proofs.SettledTold.{rounds-settled, seen_by, seen_low}
-use Rattle.af_audit.proofs.SparedTold.{new_trim}
-use Rattle.af_audit.proofs.TrackUnshut.{IsTrim}
 use Rattle.af_audit.proofs.TurnSees.{HasSeenSettled, turn-sees}
 use Rattle.af_journal_laws.specs.Settled.{EachSettledStartKeeps, EachSettledStartKeepsAlone, WhereSettledAlone}
 use Rattle.af_journal_laws.proofs.AtMeetings.{new_stands}

@@ -1,18 +1,7 @@
 -- What is kept of a track's command block through a turn run: what its client sent, what its mixer settled, and which flush counts its stream's server had seen by then.
 use Rattle.std.proofs.Common.{ℕ, ◌<◌, ◌≤◌, Some, refl, arith, []}
-use Rattle.af_base.specs.Turn.{Turn}
-use Rattle.af_model.specs.JournalForm.{IsTurn}
-use Rattle.af_runs.specs.Blocks.{Marks}
-use Rattle.af_runs.specs.Found.{LegalTurnBy}
-use Rattle.af_runs.specs.Runs.{Run, found_before, met, new_run, with_ends, with_load, with_mix, with_poll, with_turn}
-use Rattle.af_runs.specs.Sessions.{Session, setup_of, track_count}
-use Rattle.af_runs.specs.TurnRuns.{calls_alone}
-use Rattle.af_script.specs.Form.{IsScript}
-use Rattle.af_audit.proofs.CommandRounds.{CommandsAt, at_more, ends_at, loaded_at, met_at_so, turn_at}
-use Rattle.af_audit.proofs.Growing.{RunGrows, grows_ends, grows_loaded, grows_met, grows_mix, run_told}
-use Rattle.af_audit.proofs.Heard.{TellsSo}
-use Rattle.af_audit.proofs.Measure.{of_run}
-use Rattle.af_audit.proofs.SettledRounds.{flushes, new_settles}
+use Rattle.af_journal_laws.proofs.Common.{CommandsAt, IsScript, IsTurn, LegalTurnBy, Marks, Run, Session, TellsSo, Turn, at_more, calls_alone, ends_at, flushes, found_before, grows_ends, grows_loaded, grows_met, grows_mix, loaded_at, met, met_at_so, new_run, new_settles, of_run, run_told, setup_of, track_count, turn_at, with_ends, with_load, with_mix, with_poll, with_turn}
+use Rattle.af_audit.proofs.Growing.{RunGrows}
 use Rattle.af_journal_laws.proofs.Own.{called_at, grows_calls_alone, grows_polled, grows_turn, mixed_at, polled_at}
 use Rattle.af_journal_laws.proofs.TellsAlone.{heard_alone, tells_kept}
 use Rattle.af_journal_laws.proofs.Walk.{IsKept}

@@ -1,18 +1,7 @@
 -- Whether a server was ever shut, as far as its list says: a report, and what a mixer hears, say no more. In a history it never was.
 use Rattle.std.proofs.Common.{◌≡◌, ℕ, ◌≤◌, ◌||◌, Bool, true, false, is_some, fold, List, [], ◌∷◌, ◌++◌, None, refl, sym, ap, ◌∙◌, subst, arith}
+use Rattle.af_journal_laws.proofs.Common.{AllFit, AllFollowRear, BlockTold, HasBlockHistory, IsLegal, IsSpelled, Measure, Moment, ServerEvent, ServerKept, Shape, all_fit, by_client, by_hand, by_server, client_begins, client_list, client_of, fit_split, or_assoc, rear_split, sees_in, server_begins, server_keeps, server_kept, server_list, server_of, start}
 use Rattle.std.proofs.lemmas.Grind.{fold-append}
-use Rattle.af_base.proofs.Basics.{or_assoc}
-use Rattle.af_base.specs.declared.event.ServerEvent.{ServerEvent}
-use Rattle.af_model.specs.declared.shape.Shape.{Shape}
-use Rattle.af_model.specs.ClientCalls.{client_begins}
-use Rattle.af_model.specs.History.{Moment, by_client, by_hand, by_server, client_of, server_of, IsLegal}
-use Rattle.af_model.specs.Point.{start}
-use Rattle.af_model.specs.ServerCalls.{ServerKept, server_begins, server_keeps, server_kept}
-use Rattle.af_model.proofs.RoomKept.{AllFit, AllFollowRear, all_fit, fit_split}
-use Rattle.af_runs.specs.Blocks.{BlockTold, HasBlockHistory, client_list, server_list}
-use Rattle.af_judge.specs.Tracks.{IsSpelled}
-use Rattle.af_audit.proofs.Measure.{Measure}
-use Rattle.af_audit.proofs.RearsSeen.{rear_split, sees_in}
 
 -- after some of these events the server is shut
 abbrev pub ever_shut : Shape → ServerKept → List ServerEvent → Bool

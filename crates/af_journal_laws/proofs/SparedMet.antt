@@ -1,24 +1,6 @@
 -- In legal rounds each block without a poke is spared up to each meeting of both its proxies.
-use Rattle.std.specs.List.{list_any}
 use Rattle.std.proofs.Common.{◌≡◌, ℕ, ◌<◌, Bool, true, false, List, [], ◌∷◌, ◌++◌, length, All, subst, ◌∙◌, arith}
-use Rattle.std.proofs.lemmas.List.Elements.{All-cons, All-head, All-nil, All-tail}
-use Rattle.af_base.specs.declared.frame.Frame.{Frame}
-use Rattle.af_judge.proofs.Basics.{met_many}
-use Rattle.af_model.proofs.Basics.{not_true}
-use Rattle.af_model.specs.JournalForm.{IsRound}
-use Rattle.af_model.specs.Journals.{JournalData, RoundSeen}
-use Rattle.af_runs.specs.Blocks.{Marks}
-use Rattle.af_runs.specs.LegalRuns.{HasLegalRounds, LegalRounds, is_lawful_block, is_poke_on, marks_of, run_from, session_of}
-use Rattle.af_runs.specs.Rounds.{LegalRound, after_round, all_played, met_after}
-use Rattle.af_runs.specs.Runs.{Run, calls_in, new_run}
-use Rattle.af_runs.specs.Sessions.{Session, track_count}
-use Rattle.af_script.specs.Data.{ScriptData}
-use Rattle.af_script.specs.Form.{IsScript}
-use Rattle.af_audit.specs.Fates.{recorded}
-use Rattle.af_audit.specs.Spared.{IsSpared}
-use Rattle.af_audit.proofs.FatesTold.{new_there}
-use Rattle.af_audit.proofs.SparedTold.{ends_many}
-use Rattle.af_audit.proofs.SidesKept.{played_many}
+use Rattle.af_journal_laws.proofs.Common.{All-cons, All-head, All-nil, All-tail, Frame, HasLegalRounds, IsRound, IsScript, IsSpared, JournalData, LegalRound, LegalRounds, Marks, RoundSeen, Run, ScriptData, Session, after_round, all_played, calls_in, ends_many, is_lawful_block, is_poke_on, list_any, marks_of, met_after, met_many, new_run, new_there, not_true, played_many, recorded, run_from, session_of, track_count}
 use Rattle.af_journal_laws.specs.Spared.{EachMetBlockIsSpared}
 use Rattle.af_journal_laws.proofs.AtMeetings.{HasHistoryMet, history_ends, history_new, spared_so}
 use Rattle.af_journal_laws.proofs.Rounds.{goes_rounds}

@@ -1,35 +1,8 @@
 -- What holds of a track through each step of a run: its client keeps to its calls and its file, its servers drop by flushes alone, the frames taken are those recorded; and if the proxies of one of its blocks aren't shut after the step, they weren't before it, and the step spared the block.
-use Rattle.std.specs.List.{list_any}
 use Rattle.std.proofs.Common.{◌≡◌, ℕ, ◌<◌, ◌≤◌, not, Bool, true, false, if◌then◌else◌, List, [], ◌++◌, map, length, Option, Some, None, refl, sym, ap, ◌∙◌, subst, append-nil, append_assoc, arith}
-use Rattle.af_base.specs.declared.event.ClientCall.{ClientCall}
-use Rattle.af_base.specs.declared.state.FastState.{FastState}
-use Rattle.af_base.specs.Log.{entry_slot}
+use Rattle.af_journal_laws.proofs.Common.{AreSpelled, ClientCall, EntrySeen, FastState, IsFit, IsTrim, IsUnshut, LegalClientTurn, LegalEntry, LegalTurnBy, LooksBy, Marks, NormalKept, Outside, RoundSeen, Run, Session, TrackStands, TrackTold, TracksRise, Turn, TurnFound, called, calls_in, cycle_frames, each_at, each_long, each_track, ends, entry_slot, file_words, fit_called, is_poke_on, is_shut, is_spared_by, is_spared_in_turn, list_any, listed, loaded, met, met_at, met_many, mixed_track, no_track, none_corrupt_on, outside_of, played, recorded_by, recorded_by_turn, setup_of, shape_met, sides_mixed, sides_of, sides_turned, slot_for, slot_frames, stands_called, stands_ended, stands_met, stands_mixed, stands_turned, state_for, taken_met, takes_part, told_at, told_each, track_met, track_spelled, trim_called, trim_ended, trim_met, trim_mixed, trim_turned, turned_track, unshut_called, unshut_ended, unshut_met, unshut_mixed, unshut_turned, with_calls, with_ends, with_load, with_mix, with_poll, with_turn}
 use Rattle.af_base.specs.Sample.{packed_word}
-use Rattle.af_base.specs.Turn.{Turn}
-use Rattle.af_judge.proofs.Basics.{each_at, each_long, met_many, shape_met, told_each}
-use Rattle.af_life.specs.Kept.{NormalKept, Outside}
-use Rattle.af_life.specs.Obeys.{is_shut}
-use Rattle.af_model.specs.Cycles.{LooksBy}
-use Rattle.af_model.specs.JournalForm.{TracksRise}
-use Rattle.af_model.specs.Journals.{EntrySeen, RoundSeen, slot_frames}
-use Rattle.af_runs.specs.Blocks.{Marks, listed}
-use Rattle.af_runs.specs.Clients.{ends}
-use Rattle.af_runs.specs.ClientTurns.{LegalClientTurn}
-use Rattle.af_runs.specs.Found.{LegalTurnBy, TurnFound, outside_of}
-use Rattle.af_runs.specs.LegalRuns.{is_poke_on}
-use Rattle.af_runs.specs.Rounds.{LegalEntry, loaded}
-use Rattle.af_runs.specs.Runs.{Run, TrackTold, called, calls_in, each_track, met, mixed_track, no_track, played, sides_of, slot_for, state_for, takes_part, told_at, track_met, turned_track, with_calls, with_ends, with_load, with_mix, with_poll, with_turn}
-use Rattle.af_runs.specs.Sessions.{Session, cycle_frames, file_words, setup_of}
-use Rattle.af_judge.specs.Tracks.{AreSpelled}
-use Rattle.af_judge.proofs.BlocksMeet.{met_at, track_spelled}
-use Rattle.af_audit.specs.Fates.{recorded_by, recorded_by_turn}
-use Rattle.af_audit.specs.RunKept.{IsFit}
-use Rattle.af_audit.specs.Spared.{is_spared_by, is_spared_in_turn, none_corrupt_on}
 use Rattle.af_audit.proofs.RunStands.{entry_looks}
-use Rattle.af_audit.proofs.SidesKept.{fit_called, sides_mixed, sides_turned}
-use Rattle.af_audit.proofs.TakenRecorded.{taken_met}
-use Rattle.af_audit.proofs.TrackStands.{TrackStands, stands_called, stands_ended, stands_met, stands_mixed, stands_turned}
-use Rattle.af_audit.proofs.TrackUnshut.{IsTrim, IsUnshut, trim_called, trim_ended, trim_met, trim_mixed, trim_turned, unshut_called, unshut_ended, unshut_met, unshut_mixed, unshut_turned}
 
 -- ## What a step keeps
 
@@ -164,10 +137,6 @@ module _ (commands : Bool) (s : Session) (n : ℕ) where
   unfolding with_load
   goes_loaded None run low = goes_same commands s n run run low refl
   goes_loaded (Some e) run low = goes_same commands s n run (with_load e run) low refl
-
-  -- a meeting keeps the file of a track
-  file_met : (t u : TrackTold) → u ≡ t → u.file ≡ t.file
-  file_met t u is = ap (λ (x : TrackTold). x.file) is
 
   pub goes_met : (run : Run) → n < length run.tracks → Goes commands s n run (met s run) [] (Unit {0})
   goes_met run low =

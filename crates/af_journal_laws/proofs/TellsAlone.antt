@@ -1,31 +1,16 @@
 -- In a turn run no turn of the normal mixer hears more of a track's server than the server's list gives.
 use Rattle.std.proofs.Common.{◌≡◌, ℕ, ◌≤◌, Bool, true, false, Some, refl, sym, ap, ◌∙◌, subst, arith, []}
-use Rattle.af_base.specs.declared.state.FastState.{FastState}
-use Rattle.af_base.specs.Turn.{Turn}
-use Rattle.af_life.specs.declared.kept.TrackKept.{TrackKept}
+use Rattle.af_journal_laws.proofs.Common.{EntrySeen, FastState, IsScript, IsTurn, Learnt, LegalTurnBy, Marks, Measure, RoundSeen, Run, Session, Setup, TellsSo, TrackKept, Turn, calls_alone, found_before, grows_ends, grows_loaded, grows_met, grows_mix, heard, heard_low, learnt, listed, load_of, met, of_run, outside_of, setup_of, slot_number, slot_reported, told_at, track_at, tracks_at, with_ends, with_load, with_mix, with_poll, with_turn}
 use Rattle.af_life.specs.Edits.{after_ack}
-use Rattle.af_life.specs.Heard.{heard, learnt, slot_reported}
-use Rattle.af_life.specs.Kept.{Learnt, Setup, slot_number, track_at}
 use Rattle.af_life.specs.Sound.{IsSound}
-use Rattle.af_life.specs.TurnEvents.{tracks_at}
-use Rattle.af_model.specs.JournalForm.{IsTurn}
-use Rattle.af_model.specs.Journals.{EntrySeen, RoundSeen}
 use Rattle.af_model.specs.StateQueue.{slot_of}
-use Rattle.af_runs.specs.Blocks.{Marks, listed}
-use Rattle.af_runs.specs.Found.{LegalTurnBy, outside_of}
-use Rattle.af_runs.specs.Runs.{Run, found_before, load_of, met, told_at, with_ends, with_load, with_mix, with_poll, with_turn}
-use Rattle.af_runs.specs.Sessions.{Session, setup_of}
-use Rattle.af_runs.specs.TurnRuns.{calls_alone}
-use Rattle.af_script.specs.Form.{IsScript}
 use Rattle.af_judge.proofs.SoundSlots.{sound_served}
 use Rattle.af_judge.proofs.SoundTurns.{sound_acked}
 use Rattle.af_judge.proofs.StatesRuns.{RunKept, SameNormal, ends_same, kept_beside, kept_turn, load_same, met_same}
 use Rattle.af_audit.proofs.Attached.{attached_then}
 use Rattle.af_audit.proofs.Bounded.{report_bounded}
 use Rattle.af_audit.proofs.Bounds.{RunBounds, bounds_ends, bounds_loaded, bounds_met, bounds_mix, bounds_same, bounds_turn}
-use Rattle.af_audit.proofs.Growing.{RunGrows, grows_ends, grows_loaded, grows_met, grows_mix}
-use Rattle.af_audit.proofs.Heard.{TellsSo, heard_low}
-use Rattle.af_audit.proofs.Measure.{Measure, of_run}
+use Rattle.af_audit.proofs.Growing.{RunGrows}
 use Rattle.af_journal_laws.proofs.Own.{grows_calls_alone, grows_polled, grows_turn}
 use Rattle.af_journal_laws.proofs.Walk.{IsKept}
 

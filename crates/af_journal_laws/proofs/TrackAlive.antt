@@ -1,53 +1,24 @@
 -- What each step of a round keeps of the flags and the statuses of a track's blocks, if both are spared and the mixer hears of no shut server: nobody sets INVALID, and no status says 15.
 use Rattle.std.proofs.Common.{◌≡◌, ◌⊎◌, inl, inr, ℕ, ◌+◌, ◌*◌, ◌≤◌, ◌==◌, ◌&&◌, ◌||◌, not, Bool, true, false, true≢false, if◌then◌else◌, is_some, map, List, [], ◌∷◌, ◌++◌, flat_map, drop, length, Option, Some, None, refl, sym, ap, ◌∙◌, subst, append-nil, append_assoc, MatchBool, arith}
-use Rattle.std.specs.List.{list_all, list_any}
+use Rattle.af_journal_laws.proofs.Common.{BlockTold, ClientCall, ClientEvent, EntrySeen, FastState, HandEvent, LegalClientTurn, LegalTurn, Listed, Moment, NormalKept, Outside, ServerEvent, Session, Setup, TakeSeen, TrackKept, TrackSeen, TrackTold, Turn, TurnFound, after_calls, all_command_events, asked, both_first, both_right, both_true, by_hand, by_server, called, client_does, client_list, command_events, command_events_of, command_list, cycle_events, cycle_frames, did, entry_slot, hand-server, hand_of, heard, invalid, is_home, is_shut, is_spared_in_turn, kept, learnt, list_all, list_any, listed, look_events, meets, mix_events, mixed_track, not_true, nothing_seen, outside_of, played, ready, seen_legal, server-server, server_list, shows_command, sides_called, sides_of, slot_for, state_in, status_events, stream_list, stream_met, takes_command, takes_from, told_more, track_at, track_in, tracks_at, turned_track}
 use Rattle.std.proofs.lemmas.List.Concat.{flat_map-cons}
 use Rattle.std.proofs.lemmas.Nat.{mod-mul-add}
-use Rattle.af_base.proofs.Basics.{both_true}
-use Rattle.af_base.specs.declared.event.ClientCall.{ClientCall}
-use Rattle.af_base.specs.declared.event.ClientEvent.{ClientEvent}
-use Rattle.af_base.specs.declared.event.HandEvent.{HandEvent}
 use Rattle.af_base.specs.declared.event.HandEvent.TheVariants as hand
-use Rattle.af_base.specs.declared.event.ServerEvent.{ServerEvent}
 use Rattle.af_base.specs.declared.event.ServerEvent.TheVariants as server
-use Rattle.af_base.specs.declared.state.FastState.{FastState}
 use Rattle.af_base.specs.declared.turn.CommandLook.{CommandLook}
-use Rattle.af_base.specs.Log.{entry_slot}
-use Rattle.af_base.specs.Turn.{TakeSeen, TrackSeen, Turn}
-use Rattle.af_life.specs.declared.kept.TrackKept.{TrackKept}
 use Rattle.af_life.specs.declared.state.LifeState.{LifeState}
 use Rattle.af_life.specs.declared.state.LifeState.TheVariants.{Absent, Idle, Active, Pausing, Paused, Resuming, Stopping1, Stopping2, Stopped, Flushed}
-use Rattle.af_life.specs.Heard.{heard, learnt, ready}
-use Rattle.af_life.specs.Kept.{NormalKept, Outside, Setup, asked, is_home, nothing_seen, track_at, track_in}
-use Rattle.af_life.specs.Looks.{all_command_events, command_events, did, takes_command}
-use Rattle.af_life.specs.Obeys.{is_shut, shows_command, slot_for as given_for}
+use Rattle.af_life.specs.Obeys.{slot_for as given_for}
 use Rattle.af_life.specs.Serves.{IsServed, LegalTrack, after_report, is_found_shut, status_word, stored_over}
 use Rattle.af_life.specs.State.{code_of}
-use Rattle.af_life.specs.Turn.{LegalTurn}
-use Rattle.af_life.specs.TurnEvents.{command_events_of, command_list, hand_list, invalid, mix_events, status_events, stream_list, takes_from, tracks_at}
-use Rattle.af_model.proofs.Basics.{both_first, not_true}
-use Rattle.af_model.proofs.Logic.{both_right}
-use Rattle.af_model.specs.Cycles.{Listed, cycle_events, kept}
-use Rattle.af_model.specs.History.{Moment, by_hand, by_server, hand_of}
-use Rattle.af_model.specs.Journals.{EntrySeen}
-use Rattle.af_model.specs.ServerCalls.{look_events}
-use Rattle.af_runs.specs.Blocks.{BlockTold, client_does, client_list, listed, meets, server_list}
+use Rattle.af_life.specs.TurnEvents.{hand_list}
 use Rattle.af_runs.specs.Blocks as block
-use Rattle.af_runs.specs.Clients.{state_in}
-use Rattle.af_runs.specs.ClientTurns.{LegalClientTurn, after_calls}
-use Rattle.af_runs.specs.Found.{TurnFound, outside_of}
 use Rattle.af_runs.specs.Fronts.{front_of}
-use Rattle.af_runs.specs.Runs.{TrackTold, called, mixed_track, played, sides_of, slot_for, stream_met, turned_track}
-use Rattle.af_runs.specs.Sessions.{Session, cycle_frames}
 use Rattle.af_judge.proofs.BlocksTold.{client-hand, client-server}
-use Rattle.af_judge.proofs.TracksTold.{sides_called}
-use Rattle.af_audit.specs.Spared.{is_spared_in_turn}
 use Rattle.af_journal_laws.specs.Alive.{none_dead}
 use Rattle.af_journal_laws.proofs.CallsAlive.{IsValid, alive_turn}
 use Rattle.af_journal_laws.proofs.FlagsCalm.{all_join, all_left, calm_look, cycle_calm, is_calm, is_calm_hand, is_valid}
-use Rattle.af_audit.proofs.TrackStands.{hand-server, server-server, told_more}
 use Rattle.af_audit.proofs.StatusWords.{code_low}
-use Rattle.af_audit.proofs.TracksSeen.{seen_legal}
 use Rattle.std.specs.Prelude.{◌%◌}
 
 -- neither the server nor the hand of a block set INVALID, and no status that was stored says 15

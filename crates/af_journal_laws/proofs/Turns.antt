@@ -1,31 +1,7 @@
 -- What holds of a track through the rounds of a turn run, by their steps.
-use Rattle.std.specs.Prelude.{MatchBool, MatchOption, []}
-use Rattle.std.specs.List.{list_any}
 use Rattle.std.proofs.Common.{◌≡◌, ◌⊎◌, inl, inr, ℕ, ◌<◌, ◌==◌, Bool, true, false, if◌then◌else◌, fold, List, ◌∷◌, ◌++◌, length, All, Option, Some, None, refl, sym, ap, ◌∙◌, subst, eqb-true, append-nil, arith}
-use Rattle.std.proofs.lemmas.Bool.Decides.{nat_tests}
-use Rattle.std.proofs.lemmas.List.Elements.{All-head, All-tail}
-use Rattle.af_base.proofs.Basics.{both_true, neither, no}
-use Rattle.af_base.specs.declared.frame.Frame.{Frame}
-use Rattle.af_base.specs.Turn.{Turn}
-use Rattle.af_judge.proofs.Basics.{each_long, told_each}
-use Rattle.af_model.proofs.Basics.{not_true}
-use Rattle.af_model.specs.JournalForm.{IsRound}
-use Rattle.af_model.specs.Journals.{EntrySeen, JournalData, RoundSeen}
-use Rattle.af_runs.specs.Blocks.{Marks}
-use Rattle.af_runs.specs.ClientTurns.{LegalClientTurn}
-use Rattle.af_runs.specs.Found.{LegalTurnBy}
-use Rattle.af_runs.specs.LegalRuns.{is_lawful_block, is_poke_on, marks_of, session_of}
-use Rattle.af_runs.specs.Rounds.{loaded, turned}
-use Rattle.af_runs.specs.Runs.{Run, TrackTold, called, calls_in, fast_ended, found_before, met, new_run, sides_of, told_at, with_ends, with_poll}
-use Rattle.af_runs.specs.Sessions.{Session, setup_of, track_count}
-use Rattle.af_runs.specs.TurnRuns.{AreTurns, IsMadeBy, IsTurnRun, LegalAlone, OnlyCalls, SeesAllBefore, calls_alone, cycle_alone, made_alone, met_alone, run_alone}
-use Rattle.af_script.specs.Data.{ScriptData}
-use Rattle.af_script.specs.Form.{IsScript}
-use Rattle.af_script.specs.declared.op.TurnSpec.{TurnSpec}
+use Rattle.af_journal_laws.proofs.Common.{All-head, All-tail, AreTurns, EntrySeen, Frame, IsMadeBy, IsRound, IsScript, IsTurnRun, JournalData, LegalAlone, LegalClientTurn, LegalTurnBy, Marks, MatchBool, MatchOption, OnlyCalls, RoundSeen, Run, ScriptData, SeesAllBefore, Session, TrackTold, Turn, TurnSpec, [], both_true, called, calls_alone, calls_in, cycle_alone, each_long, fast_ended, found_before, is_lawful_block, is_poke_on, is_spared_by, is_spared_by_turn, list_any, loaded, made_alone, marks_of, met, met_alone, nat_tests, neither, new_run, new_there, no, none_corrupt_on, not_true, recorded_by, recorded_by_turn, run_alone, session_of, setup_of, sides_of, told_at, told_each, track_count, turned, with_ends, with_poll}
 use Rattle.af_script.specs.declared.op.TurnSpec.TheVariants as makes
-use Rattle.af_audit.specs.Fates.{recorded_by, recorded_by_turn}
-use Rattle.af_audit.specs.Spared.{is_spared_by, is_spared_by_turn, none_corrupt_on}
-use Rattle.af_audit.proofs.FatesTold.{new_there}
 use Rattle.af_journal_laws.specs.Alone.{EachMetBlockIsSparedAlone, IsSparedAlone, IsSparedInTurn, is_spared_by_cycles, recorded_alone, recorded_by_cycles}
 use Rattle.af_journal_laws.proofs.AtMeetings.{HasHistoryMet, history_ends, history_new, spared_so}
 use Rattle.af_journal_laws.proofs.SparedMet.{forms_first}

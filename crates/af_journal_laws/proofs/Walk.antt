@@ -1,18 +1,6 @@
 -- What each step of a turn run keeps is kept by all its turns.
-use Rattle.std.specs.Prelude.{MatchBool, MatchOption, []}
 use Rattle.std.proofs.Common.{◌≡◌, ℕ, false, fold, List, ◌∷◌, ◌++◌, All, Option, Some, None, refl, subst}
-use Rattle.std.proofs.lemmas.List.Elements.{All-head, All-tail}
-use Rattle.af_base.specs.Turn.{Turn}
-use Rattle.af_model.specs.JournalForm.{IsRound, IsTurn}
-use Rattle.af_model.specs.Journals.{EntrySeen, RoundSeen}
-use Rattle.af_runs.specs.Blocks.{Marks}
-use Rattle.af_runs.specs.ClientTurns.{LegalClientTurn}
-use Rattle.af_runs.specs.Found.{LegalTurnBy}
-use Rattle.af_runs.specs.Rounds.{LegalEntry, loaded, turned}
-use Rattle.af_runs.specs.Runs.{Run, calls_in, fast_ended, found_before, met, sides_of, told_at, with_ends, with_load, with_mix, with_poll, with_turn}
-use Rattle.af_runs.specs.Sessions.{Session, setup_of}
-use Rattle.af_runs.specs.TurnRuns.{AreTurns, IsMadeBy, LegalAlone, calls_alone, cycle_alone, made_alone, met_alone, run_alone}
-use Rattle.af_script.specs.declared.op.TurnSpec.{TurnSpec}
+use Rattle.af_journal_laws.proofs.Common.{All-head, All-tail, AreTurns, EntrySeen, IsMadeBy, IsRound, IsTurn, LegalAlone, LegalClientTurn, LegalEntry, LegalTurnBy, Marks, MatchBool, MatchOption, RoundSeen, Run, Session, Turn, TurnSpec, [], calls_alone, calls_in, cycle_alone, fast_ended, found_before, loaded, made_alone, met, met_alone, run_alone, setup_of, sides_of, told_at, turned, with_ends, with_load, with_mix, with_poll, with_turn}
 use Rattle.af_script.specs.declared.op.TurnSpec.TheVariants as makes
 use Rattle.af_journal_laws.proofs.Rounds.{turn_legal}
 use Rattle.af_journal_laws.proofs.Turns.{entries_legal}

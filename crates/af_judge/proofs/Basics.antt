@@ -1,47 +1,12 @@
 -- Basic lemmas that several files here, and of the crates above, cite.
 use Rattle.std.proofs.Common.{Bool, List, None, Option, Some, [], ap, append-nil, append_assoc, arith, cond, false, if◌then◌else◌, is_some, length, refl, suc, sym, true, true≢false, zero, ℕ, ◌++◌, ◌+◌, ◌<◌, ◌==◌, ◌^◌, ◌||◌, ◌∙◌, ◌∷◌, ◌≡◌}
-use Rattle.std.proofs.lemmas.Bool.Decides.{nat_tests}
-use Rattle.std.proofs.lemmas.List.FromFn.{get_or-map-range_with_len, length-map-range_with_len}
-use Rattle.std.proofs.lemmas.List.{get_or_default}
-use Rattle.std.specs.Prelude.{slice_index_or, unwrap_or}
-use Rattle.af_base.proofs.Basics.{no}
-use Rattle.af_base.specs.Turn.{TakeSeen, Turn}
+use Rattle.af_judge.proofs.Common.{BlockTold, Busy, Clean, Client, ClientEvent, HandEvent, Holder, Home, IsLegal, Known, Lent, Life, May, Moment, NormalKept, Op, Push, Pushed, Returning, RoundSeen, Run, ServerEvent, Session, TakeSeen, TrackKept, TrackPoint, TrackTold, TracksRise, Turn, Want, after_client, after_hand, after_push, after_server, ahead, begins, behind, by_client, by_hand, by_report, by_server, client_of, drops_none, each_from, each_track, ended, ends, get_or-map-range_with_len, get_or_default, is_home, is_lent, length-map-range_with_len, loaded, met, nat_tests, new_run, no, no_track, number_of, server_of, slice_index_or, stream_met, takes_from, takes_part, tally, told_at, track_count, track_met, unwrap_or, wants_of, with_calls, with_ends, with_load, wrapped}
 use Rattle.af_base.specs.declared.event.ClientEvent.TheVariants as client
-use Rattle.af_base.specs.declared.event.ClientEvent.{ClientEvent}
 use Rattle.af_base.specs.declared.event.HandEvent.TheVariants as hand
-use Rattle.af_base.specs.declared.event.HandEvent.{HandEvent}
 use Rattle.af_base.specs.declared.event.ServerEvent.TheVariants as server
-use Rattle.af_base.specs.declared.event.ServerEvent.{ServerEvent}
-use Rattle.af_base.specs.declared.state.Push.TheVariants.{Busy, Clean, Pushed}
-use Rattle.af_base.specs.declared.state.Push.{Push}
 use Rattle.af_judge.specs.NormalTold.{IsTrackAt}
 use Rattle.af_judge.specs.declared.track_judge.TrackJudge.{TrackJudge}
-use Rattle.af_life.specs.Edits.{after_push}
-use Rattle.af_life.specs.Kept.{NormalKept, is_home, is_lent, number_of}
-use Rattle.af_life.specs.Obeys.{ended}
-use Rattle.af_life.specs.Reports.{by_report}
-use Rattle.af_life.specs.TurnEvents.{takes_from}
-use Rattle.af_life.specs.declared.kept.Holder.TheVariants.{Home, Lent, Returning}
-use Rattle.af_life.specs.declared.kept.Holder.{Holder}
-use Rattle.af_life.specs.declared.kept.TrackKept.{TrackKept}
-use Rattle.af_life.specs.declared.track.Known.{Known}
-use Rattle.af_life.specs.declared.track.Life.{Life}
-use Rattle.af_model.specs.Cycles.{tally}
-use Rattle.af_model.specs.Fates.{drops_none}
-use Rattle.af_model.specs.History.{IsLegal, May, Moment, by_client, by_hand, by_server, client_of, server_of}
-use Rattle.af_model.specs.JournalForm.{TracksRise}
-use Rattle.af_model.specs.Journals.{RoundSeen}
-use Rattle.af_model.specs.Point.{after_client, after_hand, after_server, wrapped}
-use Rattle.af_model.specs.Room.{ahead}
-use Rattle.af_model.specs.declared.point.TrackPoint.{TrackPoint}
-use Rattle.af_runs.specs.Blocks.{BlockTold}
-use Rattle.af_runs.specs.Clients.{Client, begins, ends, wants_of}
-use Rattle.af_runs.specs.Fronts.{behind}
-use Rattle.af_runs.specs.Rounds.{loaded}
-use Rattle.af_runs.specs.Runs.{Run, TrackTold, each_from, each_track, met, new_run, new_track, no_track, stream_met, takes_part, told_at, track_met, with_calls, with_ends, with_load}
-use Rattle.af_runs.specs.Sessions.{Session, track_count}
-use Rattle.af_runs.specs.declared.want.Want.{Want}
-use Rattle.af_script.specs.declared.op.Op.{Op}
+use Rattle.af_runs.specs.Runs.{new_track}
 
 pub ahead_behind : (count p : ℕ) → count < 2 ^ 32 → ahead (behind p count) p ≡ count
 ahead_behind count p small = omega (arith, small)
@@ -219,14 +184,7 @@ some_number (Some k) e = refl
 
 pub status_client : (p : TrackPoint) (e : ClientEvent) → (after_client p e).status ≡ p.status
 status_client p (client.Release count) = refl
-status_client p client.Flush = refl
-status_client p (client.SetGain word) = refl
-status_client p (client.ClearFlags old) = refl
-status_client p (client.SawFlags flags) = refl
-status_client p (client.SawFront front) = refl
-status_client p (client.SawStatus word) = refl
-status_client p (client.Poke word value) = refl
-status_client p (client.Learn n) = refl
+status_client p _ = refl
 
 pub status_hand : (p : TrackPoint) (e : HandEvent) → (after_hand p e).status ≡ p.status
 status_hand p (hand.SetFlags bits) = refl

@@ -1,11 +1,7 @@
 -- What is kept of a block beside its lists, after one event more.
-use Rattle.std.specs.Prelude.{◌≡◌, ℕ, ◌+◌, ◌&&◌, min, Bool, true, false, List, [], ◌∷◌, ◌++◌, refl}
+use Rattle.std.specs.Prelude.{◌≡◌, ◌+◌, ◌&&◌, ◌∷◌, ◌++◌}
 use Rattle.std.proofs.Common.{ap, sym, ◌∙◌, subst, arith}
-use Rattle.std.proofs.lemmas.Grind.{fold-append}
-use Rattle.af_base.proofs.Basics.{and_true}
-use Rattle.af_base.specs.declared.event.ClientEvent.{ClientEvent}
-use Rattle.af_model.specs.History.{is_lawful, is_tame}
-use Rattle.af_model.specs.ServerCalls.{server_kept}
+use Rattle.af_judge.proofs.Common.{Bool, ClientEvent, List, [], and_true, false, fold-append, is_lawful, is_tame, min, refl, server_kept, true, ℕ}
 use Rattle.af_judge.specs.declared.words_judge.Taken.{Taken}
 use Rattle.af_judge.specs.declared.server_judge.ServerJudge.{ServerJudge}
 use Rattle.af_judge.specs.Blocks.{BlockJudged, IsBlock, Lists, Words, placed_from, taken_more, raised_by, raised_in}

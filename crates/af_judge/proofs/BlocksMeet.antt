@@ -1,29 +1,14 @@
 -- The blocks of a run meet: what is kept of each track follows, and the judge's answers are those of the run.
 use Rattle.std.specs.Prelude.{◌↔◌}
 use Rattle.std.proofs.Common.{◌≡◌, ℕ, zero, suc, ◌+◌, ◌^◌, ◌<◌, ◌≤◌, ◌||◌, Bool, true, false, List, [], ◌∷◌, ◌++◌, length, get_or, refl, sym, ap, ◌∙◌, subst, arith}
-use Rattle.std.proofs.lemmas.Grind.{fold-append}
-use Rattle.std.proofs.lemmas.List.{get_or_default}
-use Rattle.af_base.specs.declared.event.ClientEvent.{ClientEvent}
+use Rattle.af_judge.proofs.Common.{BlockTold, ClientEvent, KeepsHistory, Marks, Op, Run, Session, Side, TrackHistories, TrackTold, client_begins, client_keeps, each_from, flush_in, flushes_of, fold-append, get_or_default, meets, met, no_track, server_list, side_of, sides_of, spec_of, stream_met, takes_part, told_at, track_met}
 use Rattle.af_base.specs.declared.event.ClientEvent.TheVariants as client
-use Rattle.af_base.specs.declared.state.FastState.{FastState}
 use Rattle.af_judge.proofs.Basics.{met_many, shape_met}
-use Rattle.af_life.specs.Kept.{NormalKept, is_home, track_at}
-use Rattle.af_model.specs.ClientCalls.{client_begins, client_keeps}
-use Rattle.af_model.specs.History.{flush_in, flushes_of}
-use Rattle.af_runs.specs.Blocks.{BlockTold, Marks, meets, server_list}
-use Rattle.af_runs.specs.ClientTurns.{Side}
-use Rattle.af_runs.specs.Rounds.{KeepsHistory, TrackHistories}
-use Rattle.af_runs.specs.Runs.{Run, TrackTold, each_from, met, no_track, side_of, sides_of, stream_met, takes_part, told_at, track_met}
-use Rattle.af_runs.specs.Sessions.{Session, cycle_frames, spec_of}
-use Rattle.af_runs.specs.Told.{state_at}
-use Rattle.af_script.specs.declared.op.Op.{Op}
 use Rattle.af_judge.specs.declared.track_judge.TrackJudge.{TrackJudge}
 use Rattle.af_judge.specs.Blocks.{BlockJudged, parties_met}
 use Rattle.af_judge.specs.BlocksMet.{AreShort, BothKeep, blocks_met}
-use Rattle.af_judge.specs.FastKept.{carries_track}
 use Rattle.af_judge.specs.Judging.{side_kept}
 use Rattle.af_judge.specs.NormalTold.{IsTrackAt}
-use Rattle.af_judge.specs.Reporting.{Telling, adopted_in}
 use Rattle.af_judge.specs.RunTold.{IsServedTrack, KeepsTracks}
 use Rattle.af_judge.specs.Tracks.{AreSpelled, IsTrackOf}
 use Rattle.af_judge.proofs.BlocksTold.{history_judged}
@@ -146,8 +131,3 @@ tracks_met s marks Whole tracks after run h all many are = record {
   where
     before : (n : ℕ) (k : TrackJudge) → IsTrackAt after n k → (t : TrackJudge) × IsTrackAt tracks n t
     before n k at = let low : n < length tracks = (let a = at.0 in omega (arith, a, many)) in (get_or tracks n k, (low, get_or_default tracks n k (get_or tracks n k) low))
-
--- what is kept of both mixers says whether a stream proxy takes part
-pub there_same : (s : Session) (run : Run) (kept : NormalKept) (told : Telling) (states : List FastState) (n : ℕ) → kept ≡ run.normal → states ≡ run.states → told.asked ≡ cycle_frames s → told.current ≡ run.current
-    → (is_home (track_at kept.tracks n).holder || carries_track (adopted_in told states) n) ≡ takes_part s run n
-there_same s run kept told states n kept_is states_is asked current = λ j. is_home (track_at (kept_is j).tracks n).holder || carries_track (state_at (asked j) (states_is j) (current j)) n

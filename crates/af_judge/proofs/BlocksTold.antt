@@ -1,16 +1,8 @@
 -- What is kept of a block of a run follows what is told of it.
 use Rattle.std.proofs.Common.{◌≡◌, ◌↔◌, ◌^◌, ℕ, ◌<◌, ◌≤◌, Bool, true, false, fold, map, List, [], ◌∷◌, ◌++◌, length, take, drop, refl, sym, ap, ◌∙◌, subst, arith, append_assoc, append-nil, length-append}
-use Rattle.std.proofs.lemmas.List.{take-append-le, drop-append-le}
-use Rattle.af_base.specs.declared.event.ClientEvent.{ClientEvent}
-use Rattle.af_base.specs.declared.event.HandEvent.{HandEvent}
-use Rattle.af_base.specs.declared.event.ServerEvent.{ServerEvent}
+use Rattle.af_judge.proofs.Common.{BlockTold, ClientEvent, HandEvent, HasBlockHistory, IsClientList, KeepsHistory, Moment, ServerEvent, ServerKept, Shape, by_client, by_hand, by_server, client_does, client_list, client_of, drop-append-le, hand_does, hand_list, hand_of, is_lawful, new_block, server_begins, server_does, server_keeps, server_kept, server_list, server_of, take-append-le, took}
 use Rattle.af_base.specs.declared.event.ServerEvent.TheVariants as server
-use Rattle.af_model.specs.declared.shape.Shape.{Shape}
-use Rattle.af_model.specs.ClientCalls.{IsClientList}
-use Rattle.af_model.specs.History.{Moment, is_lawful, by_client, by_hand, by_server, client_of, hand_of, server_of}
-use Rattle.af_model.specs.ServerCalls.{ServerKept, server_begins, server_keeps, server_kept}
-use Rattle.af_runs.specs.Blocks.{BlockTold, HasBlockHistory, client_does, client_list, is_tame, hand_does, hand_list, new_block, server_does, server_list, took}
-use Rattle.af_runs.specs.Rounds.{KeepsHistory}
+use Rattle.af_runs.specs.Blocks.{is_tame}
 use Rattle.af_judge.specs.declared.words_judge.Taken.{Taken}
 use Rattle.af_judge.specs.Blocks.{AllFollow, BlockJudged, HasItsHistory, IsBlockOf, WholeTakes, client_more, hand_more, placed_from, released_more, saw_front, server_more, taken_in}
 use Rattle.af_judge.specs.Servers.{most_counted}

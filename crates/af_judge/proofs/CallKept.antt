@@ -1,11 +1,7 @@
 -- A call that was judged is one of the track's turn, and what is kept follows the track.
-use Rattle.std.specs.Prelude.{◌≡◌, ℕ, ◌/◌, List, length, Some}
+use Rattle.std.specs.Prelude.{◌≡◌, ◌/◌}
 use Rattle.std.proofs.Common.{ap, sym, ◌∙◌, subst}
-use Rattle.af_base.specs.declared.event.ClientCall.{ClientCall}
-use Rattle.af_runs.proofs.Basics.{answer-some}
-use Rattle.af_script.specs.declared.op.Op.{Op}
-use Rattle.af_runs.specs.Clients.{Client, after_answer, begun, next_want, rest_of}
-use Rattle.af_runs.specs.ClientTurns.{Track, after_call, commands_sent, wanted_of, with_call}
+use Rattle.af_judge.proofs.Common.{Client, ClientCall, List, Op, Some, Track, after_answer, after_call, answer-some, begun, commands_sent, length, next_want, rest_of, wanted_of, with_call, ℕ}
 use Rattle.af_judge.specs.Judging.{CallMade, ClientJudged, IsKeptOf, IsNoCall, MadeBy, SidesKept, sides_called, sides_kept}
 use Rattle.af_judge.specs.Tracks.{IsCallOf}
 use Rattle.af_judge.proofs.Judging.{made-by, sides_kept-called}

@@ -1,32 +1,7 @@
 -- A turn of the normal mixer, whatever it saw, keeps what holds of the slots that the draft and the last state carry.
 use Rattle.std.proofs.Common.{◌≡◌, ◌≢◌, ℕ, zero, suc, ◌<◌, ◌≤◌, ◌&&◌, not, Bool, true, false, if◌then◌else◌, true≢false, is_some, sym, refl, ap, subst, ◌∙◌, inl, inr, List, [], ◌∷◌, length, fold, All, ⊎_elim, Option, Some, ◌+◌, arith}
-use Rattle.std.specs.Prelude.{slice_set}
-use Rattle.std.proofs.lemmas.Bool.{cases_eq}
-use Rattle.af_base.proofs.Basics.{and_false, both, no}
-use Rattle.af_base.specs.Log.{slots}
-use Rattle.af_base.specs.declared.state.Command.{Command}
-use Rattle.af_base.specs.declared.state.FastState.{FastState}
-use Rattle.af_base.specs.declared.state.FastTrack.{FastTrack}
-use Rattle.af_base.specs.declared.state.Push.{Push}
-use Rattle.af_base.specs.declared.state.Push.TheVariants.{Pushed, Clean, Busy}
-use Rattle.af_base.specs.Turn.{Turn, TakeSeen, TrackSeen}
+use Rattle.af_judge.proofs.Common.{Busy, Clean, Command, FastState, FastTrack, Heard, Holder, Home, IsSound, Learnt, Lent, NormalKept, Push, Pushed, Returning, Setting, Setup, TakeSeen, TrackKept, TrackSeen, Turn, acked_len, after_ack, after_edits, after_push, after_take, after_takes, after_tracks, and_false, asked, at_here, at_other, at_set, away_holds, both, carries, cases_eq, detached, edited, edited_to, edits_len, entered, holds, inside, is_home, is_lent, is_returning, lend, lent_away, lent_by, let_go, must_enter, must_leave, mutated, new_normal, no, number_of, ordered, scale_fits, seen_at, served, served_len, served_to, setting_of, slice_set, slot_for, slot_number, slot_of, slots, sound_ordered, stays_out, track_at, turn_after, welcomed_at}
 use Rattle.af_judge.proofs.Basics.{some_number}
-use Rattle.af_life.proofs.Basics.{at_here, at_other, at_set, away_holds, inside, lent_away, scale_fits, sound_ordered, welcomed_at}
-use Rattle.af_life.specs.declared.kept.Holder.{Holder}
-use Rattle.af_life.specs.declared.kept.Holder.TheVariants.{Home, Lent, Returning}
-use Rattle.af_life.specs.declared.kept.Setting.{Setting}
-use Rattle.af_life.specs.declared.kept.TrackKept.{TrackKept}
-use Rattle.af_life.specs.declared.kept.Heard.{Heard}
-use Rattle.af_life.specs.Edits.{after_ack, after_push, edited, edited_to, entered, lend, lent_by, let_go, must_enter, must_leave, mutated, ordered}
-use Rattle.af_life.specs.Kept.{Learnt, NormalKept, Setup, asked, is_home, is_lent, is_returning, new_normal, number_of, seen_at, setting_of, slot_number, track_at}
-use Rattle.af_life.specs.Obeys.{holds, slot_for}
-use Rattle.af_life.specs.Plays.{after_take, after_takes}
-use Rattle.af_life.specs.Serves.{served, served_to}
-use Rattle.af_life.specs.Sound.{IsSound}
-use Rattle.af_life.specs.Turn.{after_edits, after_tracks, turn_after}
-use Rattle.af_life.proofs.Lives.{acked_len, edits_len, served_len}
-use Rattle.af_model.specs.Draft.{detached}
-use Rattle.af_model.specs.StateQueue.{carries, slot_of}
 use Rattle.af_judge.specs.Entries.{CarriesApart, CarriesWithin}
 use Rattle.af_judge.specs.StatesKept.{Carried, CarriesBy, IsAway, IsLent, SameSlots}
 use Rattle.af_judge.proofs.DraftBits.{attached_else, detached_else, detached_here, initial_none, slot_else, slot_here}
@@ -34,7 +9,6 @@ use Rattle.af_judge.proofs.SoundEdits.{comer_holds, comer_home, comer_inside, co
 use Rattle.af_judge.proofs.SoundLives.{Goes, goes_served}
 use Rattle.af_judge.proofs.SoundSlots.{sound_served}
 use Rattle.af_judge.proofs.SoundTurns.{sound_acked, sound_new, sound_takes}
-use Rattle.af_runs.proofs.Basics.{stays_out}
 
 -- ## Tracks that stay away
 
@@ -202,9 +176,6 @@ module _ (m : NormalKept) (c : Carried m) (b : Setup) (i : ℕ) (own : Heard) (e
 
   else_so : (k : ℕ) → k ≢ slot_number (track_at m.tracks i) → (carries (entered b i m) k ≡ carries m.draft k) × (slot_of (entered b i m) k ≡ slot_of m.draft k)
   else_so k ne = (attached_else k1 (setting_of b i).mono (setting_of b i).scale i m.draft low1.0 low1.1 c.sound.state k ne, slot_else k1 (setting_of b i).mono (setting_of b i).scale i m.draft low1.0 low1.1 c.sound.state k ne)
-
-  abbrev after1 : List TrackKept
-  after1 = slice_set m.tracks i s1
 
   abbrev LentHere : ℕ → ℕ → Type 0
   LentHere k n = ((track_at (slice_set m.tracks i s1) n).slot ≡ Some k) × IsLent (track_at (slice_set m.tracks i s1) n).holder

@@ -1,15 +1,11 @@
 -- The slots that a draft carries, before any edit and after one.
 use Rattle.std.proofs.Common.{◌≡◌, ◌≢◌, ℕ, zero, suc, refl, ◌-◌, ◌^◌, ◌<◌, ◌≤◌, ◌==◌, ◌&&◌, not, true, false, Bool, bit_and, bit_or, ap, sym, ◌∙◌, subst, arith, length-set, eq-eqb, ne_eqb}
+use Rattle.af_judge.proofs.Common.{FastState, FastTrack, IsState, attached, carries, clear_other, clear_same, detached, get_or-replicate, get_or-set_other, get_or-set_same, initial, set_other, set_same, slot_of}
 use Rattle.std.specs.Int.{bit_at}
 use Rattle.std.proofs.lemmas.Nat.Bits.{bit_at-suc, bit_at-zero}
-use Rattle.std.proofs.lemmas.List.{get_or-set_same, get_or-set_other, get_or-replicate}
-use Rattle.af_base.proofs.Basics.{clear_other, clear_same, set_other, set_same}
 use mathlib.Core.Logic.{dite}
 use native.Mathlib.Decide.{ℕ_discrete}
-use Rattle.af_base.specs.declared.state.FastState.{FastState}
-use Rattle.af_base.specs.declared.state.FastTrack.{FastTrack}
-use Rattle.af_model.specs.StateQueue.{slots, no_track, slot_of, carries, IsState}
-use Rattle.af_model.specs.Draft.{attached, detached, initial}
+use Rattle.af_model.specs.StateQueue.{slots, no_track}
 use Rattle.std.specs.Prelude.{◌+◌}
 
 module _ (slot : ℕ) (mono : Bool) (scale track : ℕ) (x : FastState) (low : 1 ≤ slot) (lt : slot < slots) (state : IsState x) where

@@ -1,19 +1,6 @@
 -- What is kept of a run follows some entries, which are right exactly if they are legal.
 use Rattle.std.proofs.Common.{◌≡◌, ◌↔◌, ℕ, ◌+◌, sym, ap, ◌∙◌, subst, map, List, [], ◌∷◌, ◌++◌, append-nil, append_assoc, arith}
-use Rattle.std.specs.List.{sum_by}
-use Rattle.std.proofs.lemmas.List.Sums.{sum_by-append, sum_by-cons}
-use Rattle.af_base.specs.declared.frame.Frame.{Frame}
-use Rattle.af_base.specs.declared.log.CycleEntry.{CycleEntry}
-use Rattle.af_base.specs.declared.report.Report.{Report}
-use Rattle.af_base.specs.declared.state.FastState.{FastState}
-use Rattle.af_life.specs.Kept.{NormalKept}
-use Rattle.af_model.specs.JournalForm.{IsEntry}
-use Rattle.af_model.specs.Journals.{EntrySeen, taken_by}
-use Rattle.af_runs.proofs.Basics.{cycle_entries}
-use Rattle.af_runs.specs.Blocks.{Marks}
-use Rattle.af_runs.specs.Rounds.{LegalEntries, LegalEntry}
-use Rattle.af_runs.specs.Runs.{Run, frames_before, with_cycle, with_cycles, with_poll}
-use Rattle.af_runs.specs.Sessions.{Session}
+use Rattle.af_judge.proofs.Common.{CycleEntry, EntrySeen, FastState, Frame, IsEntry, LegalEntries, LegalEntry, Marks, NormalKept, Report, Run, Session, cycle_entries, frames_before, sum_by, sum_by-append, sum_by-cons, taken_by, with_cycle, with_cycles, with_poll}
 use Rattle.af_judge.specs.Entries.{FastOf, StandsIn}
 use Rattle.af_judge.specs.EntriesTold.{AreEntriesRight, AreFormed, IsRightAfter, Playing, entries_leave, entry_leaves}
 use Rattle.af_judge.specs.RunTold.{KeepsTracks, StatesFit}

@@ -1,12 +1,6 @@
 -- What some entries leave, and when they are right, with one entry more.
-use Rattle.std.specs.Prelude.{IsTrue}
 use Rattle.std.proofs.Common.{◌≡◌, ◌↔◌, ℕ, ◌+◌, ◌<◌, Bool, ◌∙◌, List, [], ◌∷◌, ◌++◌, get_or, length, take, sym, subst}
-use Rattle.std.proofs.lemmas.List.{take_more}
-use Rattle.std.proofs.lemmas.List.Sums.{fold_more}
-use Rattle.af_base.specs.declared.frame.Frame.{Frame}
-use Rattle.af_base.specs.declared.log.CycleEntry.{CycleEntry}
-use Rattle.af_base.specs.declared.state.FastState.{FastState}
-use Rattle.af_base.specs.Log.{no_entry}
+use Rattle.af_judge.proofs.Common.{CycleEntry, FastState, Frame, IsTrue, fold_more, no_entry, take_more}
 use Rattle.af_judge.specs.declared.track_judge.TrackJudge.{TrackJudge}
 use Rattle.af_judge.specs.EntriesTold.{AreEntriesRight, IsRightAfter, Playing, entries_leave, entry_leaves, playing}
 use Rattle.af_judge.specs.FastKept.{FastKept, IsEntryRight, entry_told, entry_tracks}

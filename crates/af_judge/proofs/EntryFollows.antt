@@ -1,33 +1,8 @@
 -- What is kept of the fast mixer follows an entry as the run tells it.
-use Rattle.std.specs.List.{range_with_len}
 use Rattle.std.proofs.Common.{◌≡◌, ℕ, zero, suc, ◌+◌, ◌<◌, ◌≤◌, ◌==◌, ◌||◌, Bool, true, false, nat_lt, if◌then◌else◌, unwrap_or, refl, sym, ap, ◌∙◌, List, [], ◌∷◌, ◌++◌, append_assoc, length, length-append, map, arith}
-use Rattle.std.proofs.lemmas.Bool.Decides.{nat_tests}
-use Rattle.std.proofs.lemmas.Grind.{fold-append}
+use Rattle.af_judge.proofs.Common.{CycleEntry, EntrySeen, FastState, Frame, Listed, Marks, Report, Run, Session, SlotReport, TrackTold, cold_of, entry_slot, fold-append, frames_taken, get_or-eq_default, get_or-map-range_with_len, get_or_from_slice_get, is_cold, is_exit, is_mixed, known_by, known_of, last_report, length-map, listed, nat_tests, next_report, no_report, no_track, nothing_heard, packed_word, range_with_len, report_at, slot_frames, slot_of, slots, state_at, state_for, state_of, stream_of, takes_shown, told_at, two, twos, with_looks, with_mix, wrapped}
 use Rattle.std.proofs.lemmas.List as lists
-use Rattle.std.proofs.lemmas.List.{length-map}
-use Rattle.std.proofs.lemmas.List.FromFn.{get_or-map-range_with_len}
-use Rattle.std.proofs.lemmas.Option.{get_or_from_slice_get}
-use Rattle.std.proofs.Math.ListN.{get_or-eq_default}
 use Rattle.af_base.specs.declared.event.ServerEvent.TheVariants as server
-use Rattle.af_base.specs.declared.frame.Frame.{Frame}
-use Rattle.af_base.specs.declared.log.CycleEntry.{CycleEntry}
-use Rattle.af_base.specs.declared.report.Report.{Report}
-use Rattle.af_base.specs.declared.report.SlotReport.{SlotReport}
-use Rattle.af_base.specs.declared.state.FastState.{FastState}
-use Rattle.af_base.specs.Log.{slots, entry_slot, frames_taken}
-use Rattle.af_base.specs.Sample.{packed_word}
-use Rattle.af_life.specs.Heard.{known_by}
-use Rattle.af_life.specs.Kept.{nothing_heard}
-use Rattle.af_model.specs.Cycles.{Listed, cold_of, is_cold, is_exit, is_mixed, state_of, takes_shown}
-use Rattle.af_model.specs.Journals.{EntrySeen, slot_frames}
-use Rattle.af_model.specs.Order.{two, twos}
-use Rattle.af_model.specs.Point.{wrapped}
-use Rattle.af_model.specs.Reports.{no_report, report_at}
-use Rattle.af_model.specs.StateQueue.{slot_of}
-use Rattle.af_runs.specs.Blocks.{Marks, listed}
-use Rattle.af_runs.specs.Runs.{Run, TrackTold, known_of, last_report, next_report, no_track, state_for, stream_of, told_at, with_looks, with_mix}
-use Rattle.af_runs.specs.Sessions.{Session}
-use Rattle.af_runs.specs.Told.{state_at}
 use Rattle.af_judge.specs.declared.track_judge.TrackJudge.{TrackJudge}
 use Rattle.af_judge.specs.Blocks.{listed_in}
 use Rattle.af_judge.specs.Entries.{FastOf, StandsIn, StreamsOf}

@@ -1,33 +1,8 @@
 -- An entry is right by what a judge keeps exactly if it is a legal entry of the run.
-use Rattle.std.specs.Prelude.{slice_get, MatchOption}
 use Rattle.std.proofs.Common.{◌≡◌, ◌↔◌, ℕ, zero, suc, ◌+◌, ◌^◌, ◌<◌, ◌≤◌, ◌==◌, nat_le, Bool, true, false, true≢false, if◌then◌else◌, is_some, unwrap_or, refl, sym, ap, ◌∙◌, subst, List, [], ◌∷◌, ◌++◌, length, map, Option, Some, None, eqb-true, arith}
-use Rattle.std.proofs.lemmas.List.{append_cancel_left}
-use Rattle.af_base.proofs.Basics.{both as both-true}
-use Rattle.af_base.specs.declared.event.ServerEvent.{ServerEvent}
+use Rattle.af_judge.proofs.Common.{ClientEvent, EntrySeen, Event, FastState, Found, Frame, IsEntry, LegalEntry, Listed, LooksBy, Marks, MatchOption, Mixes, Report, Run, ServerEvent, Session, SlotEntry, TrackSlot, after_look, append_cancel_left, both as both-true, carries, cold_done, cycle_events, cycle_frames, cycle_of, entry_slot, found_for, frames_before, is_mixed, is_shown, kept, lawful_front, listed, look_at, look_events, one, packed_word, plays, shown_if, slice_get, slot_frames, slot_of, slots, state_at, state_for, state_known, state_of, stream_of, submix_slot, takes_shown, two, twos, with_mix, with_poll, wrapped}
 use Rattle.af_base.specs.declared.event.ServerEvent.TheVariants as server
-use Rattle.af_base.specs.declared.frame.Frame.{Frame}
-use Rattle.af_base.specs.declared.log.SlotEntry.{SlotEntry}
-use Rattle.af_base.specs.declared.report.Report.{Report}
 use Rattle.af_base.specs.declared.seen.Seen.TheVariants as seen
-use Rattle.af_base.specs.declared.state.FastState.{FastState}
-use Rattle.af_base.specs.Log.{slots, entry_slot}
-use Rattle.af_base.specs.Sample.{packed_word}
-use Rattle.af_model.specs.Cycles.{Found, Listed, LooksBy, Mixes, TrackSlot, after_look, cycle_events, cold_done, cycle_of, is_mixed, kept, state_of, submix_slot, takes_shown}
-use Rattle.af_model.specs.JournalForm.{IsEntry}
-use Rattle.af_model.specs.Journals.{EntrySeen, slot_frames}
-use Rattle.af_model.specs.Order.{Event, one, two, twos}
-use Rattle.af_model.specs.Point.{wrapped}
-use Rattle.af_model.specs.ServerCalls.{look_at, look_events}
-use Rattle.af_model.specs.StateQueue.{carries, slot_of}
-use Rattle.af_base.specs.declared.event.ClientEvent.{ClientEvent}
-use Rattle.af_runs.proofs.Basics.{shown_if}
-use Rattle.af_runs.specs.Blocks.{Marks, listed}
-use Rattle.af_runs.specs.Fronts.{is_shown, lawful_front}
-use Rattle.af_runs.specs.Rounds.{LegalEntry, found_for}
-use Rattle.af_runs.specs.Runs.{Run, frames_before, plays, state_for, stream_of, with_mix, with_poll}
-use Rattle.af_runs.specs.Sessions.{Session, cycle_frames}
-use Rattle.af_runs.proofs.StatesFor.{state_known}
-use Rattle.af_runs.specs.Told.{state_at}
 use Rattle.af_judge.specs.declared.track_judge.TrackJudge.{TrackJudge}
 use Rattle.af_judge.specs.Blocks.{listed_in}
 use Rattle.af_judge.specs.Entries.{CarriesApart, CarriesWithin, FastOf, StreamsOf}

@@ -1,19 +1,8 @@
 -- The stream blocks of all tracks follow an entry as the run tells it.
-use Rattle.std.specs.Prelude.{slice_get, slice_set}
 use Rattle.std.proofs.Common.{◌≡◌, ℕ, zero, suc, ◌^◌, ◌<◌, ◌≤◌, Bool, true, false, if◌then◌else◌, unwrap_or, refl, sym, ap, ◌∙◌, subst, List, length, length-set, map, Option, Some, None, arith}
-use Rattle.std.proofs.lemmas.Option.{get_or_from_slice_get, slice_get-get_or, slice_get_within}
-use Rattle.af_base.specs.declared.frame.Frame.{Frame}
-use Rattle.af_base.specs.declared.log.CycleEntry.{CycleEntry}
-use Rattle.af_base.specs.declared.state.FastState.{FastState}
-use Rattle.af_base.specs.Log.{slots, entry_slot, frames_taken}
-use Rattle.af_base.specs.Sample.{packed_word}
+use Rattle.af_judge.proofs.Common.{BlockTold, CycleEntry, EntrySeen, FastState, Frame, Marks, Run, Session, Shape, TrackTold, cycle_frames, entry_slot, frames_taken, get_or_from_slice_get, mixed_track, no_track, packed_word, played, plays, sides_of, slice_get, slice_get-get_or, slice_get_within, slice_set, slot_of, slots, spec_of, state_for, told_at, with_looks}
 use Rattle.af_judge.proofs.Basics.{each_at, each_long}
-use Rattle.af_model.specs.declared.shape.Shape.{Shape}
-use Rattle.af_model.specs.Journals.{EntrySeen}
-use Rattle.af_model.specs.StateQueue.{slot_of}
-use Rattle.af_runs.specs.Blocks.{BlockTold, Marks}
-use Rattle.af_runs.specs.Runs.{Run, TrackTold, mixed_track, no_track, played, plays, sides_of, slot_for, state_for, told_at, with_looks}
-use Rattle.af_runs.specs.Sessions.{Session, cycle_frames, spec_of}
+use Rattle.af_runs.specs.Runs.{slot_for}
 use Rattle.af_judge.specs.declared.track_judge.TrackJudge.{TrackJudge}
 use Rattle.af_judge.specs.Blocks.{BlockJudged, IsBlockOf, played_told}
 use Rattle.af_judge.specs.Entries.{CarriesApart, StandsIn, StreamsOf}

@@ -1,20 +1,7 @@
 -- What is kept of a run follows an entry, and the entry is right exactly if it is legal.
-use Rattle.std.specs.Prelude.{slice_index_or}
 use Rattle.std.proofs.Common.{◌≡◌, ◌↔◌, ℕ, zero, suc, ◌+◌, ◌==◌, if◌then◌else◌, unwrap_or, refl, sym, ◌∙◌, subst, List, [], ◌∷◌, length, Option, Some, None}
-use Rattle.af_base.specs.declared.frame.Frame.{Frame}
-use Rattle.af_base.specs.declared.report.Report.{Report}
-use Rattle.af_base.specs.declared.state.FastState.{FastState}
-use Rattle.af_base.specs.Log.{slots}
-use Rattle.af_life.specs.Kept.{NormalKept}
-use Rattle.af_model.specs.Cycles.{state_of}
-use Rattle.af_model.specs.JournalForm.{IsEntry}
-use Rattle.af_model.specs.Journals.{EntrySeen}
-use Rattle.af_runs.specs.Blocks.{BlockTold, Marks}
-use Rattle.af_runs.specs.Rounds.{LegalEntry}
-use Rattle.af_runs.specs.Runs.{Run, TrackTold, each_from, frames_before, mixed_track, no_track, played, slot_for, state_for, told_at, with_cycle, with_looks, with_mix, with_poll}
-use Rattle.af_runs.specs.Sessions.{Session, cycle_frames, track_count}
-use Rattle.af_runs.specs.Told.{state_at}
-use Rattle.af_runs.proofs.StatesFor.{state_among}
+use Rattle.af_judge.proofs.Common.{BlockTold, EntrySeen, FastState, Frame, IsEntry, LegalEntry, Marks, NormalKept, Report, Run, Session, TrackTold, cycle_frames, each_from, frames_before, mixed_track, no_track, played, slice_index_or, slots, state_among, state_at, state_for, state_of, told_at, track_count, with_cycle, with_looks, with_mix, with_poll}
+use Rattle.af_runs.specs.Runs.{slot_for}
 use Rattle.af_judge.specs.declared.track_judge.TrackJudge.{TrackJudge}
 use Rattle.af_judge.specs.Entries.{CarriesApart, CarriesWithin, FastOf, StandsIn}
 use Rattle.af_judge.specs.FastKept.{FastKept, IsEntryRight, entry_told, entry_tracks, fast_polled, slots_played}

@@ -1,25 +1,7 @@
 -- The tracks that a judge keeps follow an entry as the run tells it.
-use Rattle.std.specs.Prelude.{slice_get, slice_set}
-use Rattle.std.specs.List.{find, range_with_len}
 use Rattle.std.proofs.Common.{◌≡◌, ◌⊎◌, inl, inr, ℕ, zero, suc, ◌+◌, ◌<◌, ◌≤◌, ◌==◌, ◌&&◌, Bool, true, false, true≢false, if◌then◌else◌, is_some, unwrap_or, refl, sym, ap, ◌∙◌, subst, List, length, length-set, map, Option, Some, None, eqb-true, arith}
-use Rattle.std.proofs.lemmas.Bool.{cases_eq, eqb-false}
-use Rattle.std.proofs.lemmas.List.{get_or-set_same, get_or-set_other, length-map}
-use Rattle.std.proofs.lemmas.Option.{slice_get-get_or, slice_get_within, get_or_from_slice_get}
-use Rattle.af_base.proofs.Basics.{both as both-true}
-use Rattle.af_base.specs.declared.event.ClientEvent.{ClientEvent}
-use Rattle.af_base.specs.declared.frame.Frame.{Frame}
-use Rattle.af_base.specs.declared.log.CycleEntry.{CycleEntry}
-use Rattle.af_base.specs.declared.state.FastState.{FastState}
-use Rattle.af_base.specs.Log.{slots, count_seen, entry_slot, frames_taken}
-use Rattle.af_base.specs.Sample.{packed_word}
-use Rattle.af_model.specs.Journals.{EntrySeen}
-use Rattle.af_model.specs.StateQueue.{carries, slot_of}
-use Rattle.af_model.specs.Cycles.{cycle_events}
-use Rattle.af_runs.specs.Blocks.{listed, server_does, took}
-use Rattle.af_runs.specs.ClientTurns.{Track}
-use Rattle.af_runs.specs.Fronts.{front_of}
-use Rattle.af_runs.specs.Runs.{TrackTold, mixed_track, played, plays, sides_of, slot_for}
-use Rattle.af_runs.specs.Sessions.{Session, cycle_frames}
+use Rattle.af_judge.proofs.Common.{ClientEvent, CycleEntry, EntrySeen, FastState, Frame, Session, Track, TrackTold, both as both-true, carries, cases_eq, count_seen, cycle_events, cycle_frames, entry_slot, eqb-false, find, frames_taken, front_of, get_or-set_other, get_or-set_same, get_or_from_slice_get, length-map, listed, mixed_track, packed_word, played, plays, range_with_len, server_does, sides_of, slice_get, slice_get-get_or, slice_get_within, slice_set, slot_of, slots, took}
+use Rattle.af_runs.specs.Runs.{slot_for}
 use Rattle.af_judge.specs.declared.track_judge.TrackJudge.{TrackJudge}
 use Rattle.af_judge.specs.Blocks.{BlockJudged, IsBlockOf, played_told}
 use Rattle.af_judge.specs.Entries.{CarriesApart, StandsIn}

@@ -1,22 +1,8 @@
 -- What is kept of the fast mixer stays so through the steps of the other parties.
 use Rattle.std.proofs.Common.{◌≡◌, ℕ, Bool, true, false, if◌then◌else◌, refl, sym, ap, ◌∙◌, subst, map, List, [], ◌∷◌, ◌++◌, length, append-nil, Option, Some, None}
+use Rattle.af_judge.proofs.Common.{CycleEntry, Event, FastState, Report, RoundSeen, Run, Session, Turn, TurnFound, UseUpTo, cold_done, cold_done-before, cycle_frames, draft_after, each_track, ends, has_exit, is_pushed, last_report, last_used, loaded, met, new_run, one, ones, outside_of, pipe_cells, pipe_list, setup_of, turned, two, twos, with_calls, with_ends, with_load, with_turn}
 use Rattle.af_base.specs.declared.event.ClientEvent.TheVariants as client
 use Rattle.af_base.specs.declared.event.ServerEvent.TheVariants as server
-use Rattle.af_base.specs.declared.log.CycleEntry.{CycleEntry}
-use Rattle.af_base.specs.declared.report.Report.{Report}
-use Rattle.af_base.specs.declared.state.FastState.{FastState}
-use Rattle.af_base.specs.Turn.{Turn}
-use Rattle.af_model.specs.Cycles.{UseUpTo, cold_done, has_exit, last_used}
-use Rattle.af_model.specs.Journals.{RoundSeen}
-use Rattle.af_model.specs.Order.{Event, one, two, ones, twos}
-use Rattle.af_model.proofs.UsedStates.{cold_done-before}
-use Rattle.af_life.specs.TurnEvents.{pipe_list}
-use Rattle.af_runs.specs.Clients.{ends}
-use Rattle.af_runs.specs.Found.{TurnFound, outside_of}
-use Rattle.af_runs.specs.Rounds.{loaded, turned}
-use Rattle.af_runs.specs.Runs.{Run, draft_after, each_track, last_report, met, new_run, pipe_cells, with_calls, with_ends, with_load, with_turn}
-use Rattle.af_runs.specs.Sessions.{Session, cycle_frames, setup_of}
-use Rattle.af_runs.specs.Told.{is_pushed}
 use Rattle.af_judge.specs.Entries.{AreNumbered, FastOf}
 use Rattle.af_judge.specs.FastKept.{FastKept, fast_begins}
 use Rattle.af_judge.specs.PipeKept.{with_meeting}

@@ -1,27 +1,7 @@
 -- The fast mixer's turn is legal exactly if the judge finds that its entries may come and that each is right.
-use Rattle.std.specs.Prelude.{slice_get, MatchBool, nat_le}
-use Rattle.std.specs.List.{prefix_len, sum_by}
 use Rattle.std.proofs.Common.{◌≡◌, ◌↔◌, ℕ, suc, ◌+◌, ◌<◌, ◌≤◌, ◌==◌, ◌&&◌, Bool, true, false, if◌then◌else◌, refl, sym, ap, ◌∙◌, subst, map, List, [], ◌∷◌, ◌++◌, append_assoc, append-nil, length, take, length-append, Option, Some, None, arith}
-use Rattle.std.proofs.lemmas.Bool.Decides.{nat_tests}
-use Rattle.std.proofs.lemmas.List.{length-drop, length-take, map-append, take-append-drop}
-use Rattle.std.proofs.lemmas.List.Sums.{sum_by-append}
-use Rattle.af_base.specs.declared.frame.Frame.{Frame}
-use Rattle.af_base.specs.declared.log.CycleEntry.{CycleEntry}
-use Rattle.af_base.specs.declared.report.Report.{Report}
-use Rattle.af_base.specs.declared.state.FastState.{FastState}
-use Rattle.af_base.specs.Log.{entry_at}
-use Rattle.af_base.specs.Turn.{Turn}
+use Rattle.af_judge.proofs.Common.{CycleEntry, EntrySeen, FastState, Frame, IsFastTurn, LegalEntries, LegalFastTurn, Marks, MatchBool, Report, RoundSeen, Run, Session, Turn, TurnFound, UseUpTo, UseUpTo-more, UseUpTo-push, after_round, after_turn, all_played, before_turn, calls-entries, early_count, early_of, ends, entry_at, fast_ended, fills, found_in, frames_before, is_early, late_of, length-drop, length-take, loaded-entries, map-append, met, met-entries, nat_le, nat_tests, outside_of, prefix_len, pushed_by, setup_of, slice_get, sum_by, sum_by-append, take-append-drop, taken_by, turned, turned-entries, with_calls, with_cycle, with_cycles, with_ends, with_poll, with_turn}
 use Rattle.af_judge.proofs.Basics.{calls_states, ends_states, loaded_states, met_states}
-use Rattle.af_model.specs.Cycles.{UseUpTo}
-use Rattle.af_model.specs.Journals.{EntrySeen, RoundSeen, taken_by}
-use Rattle.af_model.proofs.UsedStates.{UseUpTo-more, UseUpTo-push}
-use Rattle.af_runs.proofs.Basics.{calls-entries, loaded-entries, met-entries, turned-entries}
-use Rattle.af_runs.specs.Blocks.{Marks}
-use Rattle.af_runs.specs.Clients.{ends}
-use Rattle.af_runs.specs.Rounds.{IsFastTurn, LegalEntries, LegalFastTurn, after_round, after_turn, all_played, before_turn, early_count, early_of, fills, found_in, is_early, late_of, turned}
-use Rattle.af_runs.specs.Found.{TurnFound, outside_of}
-use Rattle.af_runs.specs.Runs.{Run, fast_ended, frames_before, met, pushed_by, with_calls, with_cycle, with_cycles, with_ends, with_poll, with_turn}
-use Rattle.af_runs.specs.Sessions.{Session, setup_of}
 use Rattle.af_judge.specs.Entries.{FastOf}
 use Rattle.af_judge.specs.EntriesTold.{AreEntriesRight, AreFormed, MayEnter, Playing}
 use Rattle.af_judge.specs.FastKept.{EndsAsTurn, FastKept}

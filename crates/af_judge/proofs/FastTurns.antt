@@ -1,12 +1,7 @@
 -- A turn of the fast mixer ends where it may, by the places of its entries.
-use Rattle.std.specs.Prelude.{◌↔◌, slice_get}
+use Rattle.std.specs.Prelude.{◌↔◌}
 use Rattle.std.proofs.Common.{◌≡◌, ◌⊎◌, inl, inr, ℕ, zero, suc, ◌+◌, ◌-◌, ◌<◌, ◌≤◌, Bool, true, false, List, [], ◌∷◌, length, Option, Some, refl, sym, ap, ◌∙◌, subst, arith}
-use Rattle.std.proofs.lemmas.Option.{slice_get_cases}
-use Rattle.af_base.specs.declared.log.CycleEntry.{CycleEntry}
-use Rattle.af_base.specs.Log.{entry_at}
-use Rattle.af_model.specs.Cycles.{is_mixed}
-use Rattle.af_model.specs.Journals.{EntrySeen}
-use Rattle.af_runs.specs.Rounds.{AreMixedBut, IsFastTurn}
+use Rattle.af_judge.proofs.Common.{AreMixedBut, CycleEntry, EntrySeen, IsFastTurn, entry_at, is_mixed, slice_get, slice_get_cases}
 use Rattle.af_judge.specs.FastKept.{EndsAsTurn}
 
 -- each entry but the last is mixed, and of the last this holds

@@ -1,19 +1,6 @@
 -- What the judge foresees of entries is what it would tell of them.
-use Rattle.std.specs.Prelude.{slice_get, slice_set, option_map}
-use Rattle.std.specs.List.{range_with_len}
 use Rattle.std.proofs.Common.{◌≡◌, ℕ, zero, suc, ◌+◌, Bool, true, false, if◌then◌else◌, refl, sym, ap, ◌∙◌, map, List, [], ◌∷◌, Option, Some, None}
-use Rattle.std.proofs.lemmas.List.{map-set}
-use Rattle.std.proofs.lemmas.Option.{slice_get-map}
-use Rattle.af_base.specs.declared.frame.Frame.{Frame}
-use Rattle.af_base.specs.declared.log.CycleEntry.{CycleEntry}
-use Rattle.af_base.specs.declared.state.FastState.{FastState}
-use Rattle.af_base.specs.Log.{slots, entry_slot, frames_taken}
-use Rattle.af_base.specs.Sample.{packed_word}
-use Rattle.af_life.specs.declared.kept.Heard.{Heard}
-use Rattle.af_life.specs.Heard.{known_by}
-use Rattle.af_model.specs.Cycles.{Listed}
-use Rattle.af_model.specs.StateQueue.{slot_of}
-use Rattle.af_runs.specs.Runs.{plays}
+use Rattle.af_judge.proofs.Common.{CycleEntry, FastState, Frame, Heard, Listed, entry_slot, frames_taken, known_by, map-set, option_map, packed_word, plays, range_with_len, slice_get, slice_get-map, slice_set, slot_of, slots}
 use Rattle.af_judge.specs.declared.track_judge.TrackJudge.{TrackJudge}
 use Rattle.af_judge.specs.Blocks.{BlockJudged, listed_in, played_told}
 use Rattle.af_judge.specs.EntriesTold.{Playing, entries_leave, entry_leaves}

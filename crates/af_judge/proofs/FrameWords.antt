@@ -1,10 +1,6 @@
 -- The words of frames, made one after the other.
 use Rattle.std.proofs.Common.{◌≡◌, ℕ, ◌+◌, ◌*◌, ◌<◌, List, [], ◌∷◌, ◌++◌, length, map, take, drop, get_or, set, refl, sym, ap, ◌∙◌, append_assoc, arith}
-use Rattle.std.proofs.Math.Seq.{take-add}
-use Rattle.std.proofs.lemmas.Grind.{take-set_at}
-use Rattle.std.proofs.lemmas.List.{map-append, take_more}
-use Rattle.af_base.specs.declared.frame.Frame.{Frame}
-use Rattle.af_base.specs.Sample.{packed_word}
+use Rattle.af_judge.proofs.Common.{Frame, map-append, packed_word, take-add, take-set_at, take_more}
 
 -- the words of one frame more
 pub words-more : (frames : List Frame) (n word : ℕ) (d : Frame) → n < length frames → word ≡ packed_word (get_or frames n d) → map packed_word (take (n + 1) frames) ≡ map packed_word (take n frames) ++ word ∷ []
@@ -33,9 +29,3 @@ added-row first now row frames n is was =
     (ap (λ (l : List ℕ). map packed_word (take (16 * n) frames) ++ l) is
     ∙ (sym (map-append packed_word (take (16 * n) frames) (take 16 (drop (16 * n) frames)))
     ∙ (ap (map packed_word) (sym (take-add (16 * n) 16 frames)) ∙ ap (λ (k : ℕ). map packed_word (take k frames)) (sym end)))))
-
--- one word more is the same
-pub same-more : (words : List ℕ) (frames : List Frame) (n word : ℕ) (d : Frame) → n < length frames → n < length words → word ≡ packed_word (get_or frames n d) → get_or words n 0 ≡ word
-    → take n words ≡ map packed_word (take n frames) → take (n + 1) words ≡ map packed_word (take (n + 1) frames)
-same-more words frames n word d lt inside is same was =
-    take_more words n 0 inside ∙ (ap (λ (l : List ℕ). l ++ get_or words n 0 ∷ []) was ∙ (ap (λ (w : ℕ). map packed_word (take n frames) ++ w ∷ []) same ∙ sym (words-more frames n word d lt is)))

@@ -1,25 +1,11 @@
 -- A block has a history exactly if its lists have a legal order, as many words were released as the releases say, and each word taken was released at its place.
 use Rattle.std.proofs.Common.{◌≡◌, ℕ, suc, ◌+◌, ◌-◌, ◌<◌, ◌≤◌, min, Bool, true, false, fold, List, [], ◌∷◌, ◌++◌, length, take, drop, All, Some, None, slice_get, refl, sym, ap, ◌∙◌, subst, arith, true≢false, append_assoc, append-nil, length-drop, length-take-le}
-use Rattle.std.proofs.lemmas.List.{take_at, drop_at, take-append-drop}
-use Rattle.std.proofs.lemmas.List.Elements.{All-append, All-cons, All-head, All-nil, All-tail}
-use Rattle.std.proofs.lemmas.Grind.{fold-append}
-use Rattle.af_base.specs.declared.event.ClientEvent.{ClientEvent}
+use Rattle.af_judge.proofs.Common.{All-append, All-cons, All-head, All-nil, All-tail, ClientEvent, HasHistory, InTurn, IsClientList, IsLegal, Moment, ServerEvent, ServerKept, ServerMay, Shape, TrackPoint, after_client, after_server, ahead, ahead-between, by_client, by_hand, by_server, client_begins, client_of, client_taken, drop_at, drop_end, fold-append, server_begins, server_keeps, server_kept, server_of, start, take-append-drop, take_at, taken_of, with_taken, wrapped}
 use Rattle.af_base.specs.declared.event.ClientEvent.TheVariants as client
-use Rattle.af_base.specs.declared.event.ServerEvent.{ServerEvent}
 use Rattle.af_base.specs.declared.event.ServerEvent.TheVariants as server
-use Rattle.af_base.specs.declared.event.HandEvent.TheVariants as hand
 use Rattle.af_judge.proofs.Basics.{hand_puts, server_put}
-use Rattle.af_model.proofs.Basics.{client_taken}
-use Rattle.af_model.specs.declared.point.TrackPoint.{TrackPoint}
-use Rattle.af_model.specs.declared.shape.Shape.{Shape}
-use Rattle.af_model.specs.Fates.{InTurn}
-use Rattle.af_model.specs.History.{HasHistory, IsLegal, Moment, after, by_client, by_hand, by_server, client_of, server_of, taken_of, with_taken}
-use Rattle.af_model.specs.Point.{ServerMay, after_client, after_server, drop_end, start, wrapped}
-use Rattle.af_model.specs.Room.{ahead}
-use Rattle.af_model.specs.ClientCalls.{IsClientList, client_begins}
-use Rattle.af_model.specs.ServerCalls.{ServerKept, server_begins, server_keeps, server_kept}
+use Rattle.af_model.specs.History.{after}
 use Rattle.af_model.proofs.Fates.{drop_low, drop_released, in_turn}
-use Rattle.af_model.proofs.Logic.{ahead-between}
 use Rattle.af_model.proofs.OneFate.{hand_consumed}
 use Rattle.af_model.proofs.RoomKept.{AllFit, all_fit, fit_split, room_in}
 use Rattle.af_judge.specs.declared.words_judge.Taken.{Taken}
@@ -48,14 +34,7 @@ covered-more released shape k (x ∷ es) e =
 
 client-raises : (p : TrackPoint) (e : ClientEvent) → (after_client p e).released ≡ p.released + raised_by e
 client-raises p (client.Release count) = refl
-client-raises p client.Flush = (let x : p.released ≡ p.released + 0 = omega arith in x)
-client-raises p (client.SetGain word) = (let x : p.released ≡ p.released + 0 = omega arith in x)
-client-raises p (client.ClearFlags old) = (let x : p.released ≡ p.released + 0 = omega arith in x)
-client-raises p (client.SawFlags flags) = (let x : p.released ≡ p.released + 0 = omega arith in x)
-client-raises p (client.SawFront front) = (let x : p.released ≡ p.released + 0 = omega arith in x)
-client-raises p (client.SawStatus word) = (let x : p.released ≡ p.released + 0 = omega arith in x)
-client-raises p (client.Poke word value) = (let x : p.released ≡ p.released + 0 = omega arith in x)
-client-raises p (client.Learn count) = (let x : p.released ≡ p.released + 0 = omega arith in x)
+client-raises p _ = (let x : p.released ≡ p.released + 0 = omega arith in x)
 
 released-in : (shape : Shape) (order : List Moment) → (after (start shape) order).released ≡ shape.base + raised_in (client_of order)
 released-in shape [] = (let x : shape.base ≡ shape.base + 0 = omega arith in x)
@@ -124,15 +103,7 @@ module _ (shape : Shape) (few : shape.frames ≤ 65536) where
 
   with-taken : (released taken : List ℕ) (k : ServerKept) (p : TrackPoint) (e : ServerEvent) → shape.base + k.consumed ≡ p.consumed → with_taken released shape.base p taken e ≡ taken ++ covered_by released k e
   with-taken released taken k p (server.Take count) is = ap (λ (n : ℕ). taken ++ take count (drop n released)) (let x : p.consumed - shape.base ≡ k.consumed = omega (arith, is) in x)
-  with-taken released taken k p (server.SawGain word) is = sym (append-nil taken)
-  with-taken released taken k p (server.SawFlush flush) is = sym (append-nil taken)
-  with-taken released taken k p (server.SawRear rear) is = sym (append-nil taken)
-  with-taken released taken k p (server.SawFront front) is = sym (append-nil taken)
-  with-taken released taken k p (server.Drop to) is = sym (append-nil taken)
-  with-taken released taken k p (server.Tally missing) is = sym (append-nil taken)
-  with-taken released taken k p (server.SetFlags bits) is = sym (append-nil taken)
-  with-taken released taken k p (server.SetStatus word) is = sym (append-nil taken)
-  with-taken released taken k p (server.Learn count) is = sym (append-nil taken)
+  with-taken released taken k p _ is = sym (append-nil taken)
 
   -- in a legal order the frames taken are those that the takes cover by the server's own count
   taken-covered : (released : List ℕ) (order : List Moment) → IsLegal (start shape) order → AllFit shape (client_begins shape.base) None (client_of order) → AllFollow false (server_of order)
@@ -163,15 +134,7 @@ within-more shape n k (x ∷ es) e h w = (h.0, within-more shape n (server_keeps
 
 within-at : (shape : Shape) (n : ℕ) (k : ServerKept) (p : TrackPoint) (others : ℕ) (e : ServerEvent) → ServerMay p others e → InTurn shape p → shape.base + k.consumed ≡ p.consumed → p.released ≤ shape.base + n → WithinAt n k e
 within-at shape n k p others (server.Take count) may turn is most = (let a = turn.to_released in omega (arith, may, a, is, most))
-within-at shape n k p others (server.SawGain word) may turn is most = tt
-within-at shape n k p others (server.SawFlush flush) may turn is most = tt
-within-at shape n k p others (server.SawRear rear) may turn is most = tt
-within-at shape n k p others (server.SawFront front) may turn is most = tt
-within-at shape n k p others (server.Drop to) may turn is most = tt
-within-at shape n k p others (server.Tally missing) may turn is most = tt
-within-at shape n k p others (server.SetFlags bits) may turn is most = tt
-within-at shape n k p others (server.SetStatus word) may turn is most = tt
-within-at shape n k p others (server.Learn count) may turn is most = tt
+within-at shape n k p others _ may turn is most = tt
 
 -- in a legal order each take is within what was released
 all-within : (shape : Shape) → shape.frames ≤ 65536 → (n : ℕ) (order : List Moment) → IsLegal (start shape) order → AllFit shape (client_begins shape.base) None (client_of order) → AllFollow false (server_of order) → (after (start shape) order).released ≤ shape.base + n

@@ -1,20 +1,8 @@
 -- The entries of a journal have their form, and their frames stand in its log.
 use Rattle.std.proofs.Common.{◌≡◌, ◌⊎◌, inl, inr, ℕ, zero, suc, ◌+◌, ◌<◌, ◌≤◌, ◌==◌, Bool, true, false, if◌then◌else◌, refl, sym, ap, ◌∙◌, subst, map, List, [], ◌∷◌, ◌++◌, length, take, drop, append_assoc, append-nil, length-append, eqb-true, arith}
-use Rattle.std.specs.List.{sum_by}
-use Rattle.std.specs.Prelude.{slice_index_or}
-use Rattle.std.proofs.lemmas.List.{drop-append-le, drop-map, get_or-replicate, length-drop, length-take-le, take-append-drop, take-append-le, take-map}
-use Rattle.std.proofs.lemmas.List.Sums.{sum_by-cons}
-use Rattle.std.proofs.Math.Seq.{drop-append-add, drop-append_seam, take-append_seam}
-use Rattle.af_base.specs.declared.frame.Frame.{Frame}
-use Rattle.af_base.specs.declared.log.CycleEntry.{CycleEntry}
-use Rattle.af_base.specs.declared.log.SlotEntry.{SlotEntry}
-use Rattle.af_base.specs.Log.{slots, absent, count_seen, entry_slot, frames_taken}
-use Rattle.af_model.specs.Cycles.{is_mixed, taken_before}
-use Rattle.af_model.specs.JournalForm.{AreEntries, IsEntry, IsJournal}
-use Rattle.af_model.specs.Journals.{EntrySeen, JournalData, RoundSeen, entries_of, frames_of, no_round, round_at, slot_frames, taken_by}
+use Rattle.af_judge.proofs.Common.{AreEntries, CycleEntry, EntrySeen, Frame, IsEntry, IsJournal, JournalData, RoundSeen, SlotEntry, absent, count_seen, drop-append-add, drop-append-le, drop-append_seam, drop-map, entries_of, entry_slot, frames_of, frames_taken, get_or-replicate, is_mixed, length-drop, length-take-le, no_round, round_at, slice_index_or, slot_frames, slots, sum_by, sum_by-cons, take-append-drop, take-append-le, take-append_seam, take-map, taken_before, taken_by, taken_up}
 use Rattle.af_judge.specs.Entries.{StandsIn}
 use Rattle.af_judge.specs.EntriesTold.{AreFormed}
-use Rattle.af_runs.proofs.Basics.{taken_up}
 
 -- ## The slots of an entry
 

@@ -1,36 +1,19 @@
 -- What a judge keeps decides the answers of a client's calls, and follows them.
-use Rattle.std.specs.Prelude.{◌≡◌, ◌↔◌, ℕ, ◌+◌, Bool, true, false, if◌then◌else◌, is_some, fold, min, drop, List, [], ◌∷◌, ◌++◌, length, refl}
+use Rattle.std.specs.Prelude.{◌≡◌, ◌↔◌, ◌+◌, if◌then◌else◌, ◌∷◌, ◌++◌}
 use Rattle.std.proofs.Common.{ap, sym, subst, ◌∙◌, length-append, length-drop}
-use Rattle.std.proofs.lemmas.List.{length-take}
-use Rattle.af_base.specs.declared.event.ClientCall.{ClientCall}
+use Rattle.af_judge.proofs.Common.{AnswersOn, Bool, ClientCall, ClientEvent, ClientKept, IsMade, IsWanted, List, Side, Track, Want, [], argument_of, asked_by, called, client_begins, client_call_events, client_keeps, client_kept, drop, false, flushes-append, flushes_of, fold, is_of_commands, is_send, is_some, length, length-take, min, refl, released_by, true, with_call, ℕ}
 use Rattle.af_base.specs.declared.event.ClientCall.TheVariants as call
-use Rattle.af_base.specs.declared.event.ClientEvent.{ClientEvent}
-use Rattle.af_model.proofs.Basics.{flushes-append}
-use Rattle.af_model.specs.ClientCalls.{ClientKept, client_keeps, client_begins, client_kept, client_call_events}
-use Rattle.af_model.specs.History.{flushes_of}
 use Rattle.af_runs.specs.declared.want.ClientCommand.{ClientCommand}
 use Rattle.af_runs.specs.declared.want.ClientCommand.TheVariants as command
-use Rattle.af_runs.specs.declared.want.Want.{Want}
 use Rattle.af_runs.specs.declared.want.Want.TheVariants as want
 use Rattle.af_runs.specs.Clients.{code_of}
-use Rattle.af_runs.specs.ClientTurns.{Side, Track, AnswersOn, IsMade, IsWanted, argument_of, asked_by, called, is_of_commands, is_send, released_by, side_of, with_call}
+use Rattle.af_runs.specs.ClientTurns.{side_of}
 use Rattle.af_judge.specs.Judging.{SideKept, side_kept, AnswersBy, MadeBy, WantedBy, argument_by, kept_called, kept_for, sides_called, sides_kept, words_of, flushes_asked}
 
 -- an answer is right by the list exactly if it is by what is kept
 pub answers-by : (b : Side) (asked : ℕ) (answer : ClientCall) → AnswersOn b asked answer ≡ AnswersBy (side_kept b) asked answer
 answers-by b asked (call.Put front count) = refl
-answers-by b asked (call.Full front) = refl
-answers-by b asked (call.Dead flags) = refl
-answers-by b asked (call.Corrupt front rear) = refl
-answers-by b asked (call.Cleared flags) = refl
-answers-by b asked (call.Flush count) = refl
-answers-by b asked (call.Gain word) = refl
-answers-by b asked (call.Sent front code argument) = refl
-answers-by b asked (call.SendFull front) = refl
-answers-by b asked (call.SendDead flags) = refl
-answers-by b asked (call.SendCorrupt front rear) = refl
-answers-by b asked (call.Status word) = refl
-answers-by b asked (call.Poke command word value) = refl
+answers-by b asked _ = refl
 
 fold-more : (frames : ℕ) (k : ClientKept) (xs ys : List ClientEvent) → fold (client_keeps frames) k (xs ++ ys) ≡ fold (client_keeps frames) (fold (client_keeps frames) k xs) ys
 fold-more frames k [] ys = refl
@@ -71,23 +54,11 @@ side_kept-called b answer words =
 
 argument-by : (t : Track) (sending : ClientCommand) → argument_of t sending ≡ argument_by (side_kept t.stream) sending
 argument-by t command.Open = refl
-argument-by t command.Start = refl
-argument-by t command.Pause = refl
-argument-by t command.Stop = refl
-argument-by t command.Flush = refl
-argument-by t command.Remove = refl
+argument-by t _ = refl
 
 wanted-by : (t : Track) (wanted : Want) (answer : ClientCall) → IsWanted t wanted answer ≡ WantedBy (side_kept t.stream) wanted answer
 wanted-by t (want.Send sending) answer = ap (λ n. is_send (code_of sending) n answer ≡ true) (argument-by t sending)
-wanted-by t want.Settled answer = refl
-wanted-by t want.Drained answer = refl
-wanted-by t want.Flush answer = refl
-wanted-by t (want.Gain left right) answer = refl
-wanted-by t (want.Write count) answer = refl
-wanted-by t want.Clear answer = refl
-wanted-by t (want.Poke in_command word value) answer = refl
-wanted-by t want.Rest answer = refl
-wanted-by t want.Leave answer = refl
+wanted-by t _ answer = refl
 
 kept-either : (b : Bool) (x y : Side) → side_kept (if b then x else y) ≡ (if b then side_kept x else side_kept y)
 kept-either true x y = refl
@@ -109,18 +80,7 @@ made-by t wanted answer = (
 -- how many words a call releases
 released-long : (t : Track) (answer : ClientCall) → length (released_by t answer) ≡ words_of (length t.file) (sides_kept t) answer
 released-long t (call.Put front count) = length-take count (drop (length t.stream.released) t.file) ∙ ap (λ n. min count n) (length-drop (length t.stream.released) t.file)
-released-long t (call.Full front) = refl
-released-long t (call.Dead flags) = refl
-released-long t (call.Corrupt front rear) = refl
-released-long t (call.Cleared flags) = refl
-released-long t (call.Flush count) = refl
-released-long t (call.Gain word) = refl
-released-long t (call.Sent front code argument) = refl
-released-long t (call.SendFull front) = refl
-released-long t (call.SendDead flags) = refl
-released-long t (call.SendCorrupt front rear) = refl
-released-long t (call.Status word) = refl
-released-long t (call.Poke command word value) = refl
+released-long t _ = refl
 
 -- what is kept of a side after a call of its track
 kept-after : (t : Track) (answer : ClientCall) (b : Side) → side_kept (called answer (released_by t answer) b) ≡ kept_called answer (words_of (length t.file) (sides_kept t) answer) (side_kept b)

@@ -1,25 +1,13 @@
 -- If a look answers by some front, it answers by the one that its answer gives.
 use Rattle.std.proofs.Common.{◌≡◌, ℕ, ◌+◌, ◌-◌, ◌%◌, ◌^◌, ◌<◌, ◌≤◌, ◌==◌, ◌&&◌, ◌||◌, not, min, nat_lt, Bool, true, false, true≢false, if◌then◌else◌, refl, sym, ap, ◌∙◌, subst, eqb-true, mod-lt, arith}
-use Rattle.std.proofs.lemmas.Bool.Decides.{nat_tests}
-use Rattle.af_base.proofs.Basics.{below_is, both, is_not_below, not_below_is}
-use Rattle.af_base.specs.declared.log.SlotEntry.{SlotEntry}
-use Rattle.af_base.specs.declared.seen.Seen.{Seen}
+use Rattle.af_judge.proofs.Common.{IsSeen, Seen, Shape, SlotEntry, ahead, behind, below_is, both, dropped_by, flush_position, flushed_front, front_by_answer, is_not_below, is_noticed, look_at, nat_tests, not_below_is, past_front, wrapped}
 use Rattle.af_base.specs.declared.seen.Seen.TheVariants as seen
 use Rattle.af_judge.proofs.Basics.{ahead_behind, ahead_itself, ahead_word, ahead_wrapped}
-use Rattle.af_model.specs.declared.shape.Shape.{Shape}
-use Rattle.af_model.specs.Cycles.{IsSeen}
-use Rattle.af_model.specs.Point.{wrapped}
-use Rattle.af_model.specs.Room.{ahead}
-use Rattle.af_model.specs.ServerCalls.{is_noticed, flush_position, past_front, dropped_by, look_at}
-use Rattle.af_runs.specs.Fronts.{behind, front_by_answer, flushed_front}
 
 -- ## Words
 
 behind_ahead : (f p : ℕ) → behind p (ahead f p) ≡ wrapped f
 behind_ahead f p = omega arith
-
-behind_far : (count p : ℕ) → 0 < count → count ≤ 2 ^ 31 → 2 ^ 31 ≤ ahead p (behind p count)
-behind_far count p some few = omega (arith, some, few)
 
 -- ## Tests
 

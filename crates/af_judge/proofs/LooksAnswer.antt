@@ -1,23 +1,8 @@
 -- Looks at a command block are legal by some fronts exactly if each answers by the front by which it is judged.
 use Rattle.std.proofs.Common.{◌≡◌, ℕ, ◌+◌, ◌^◌, ◌≤◌, ◌==◌, ◌&&◌, ◌||◌, not, min, nat_lt, Bool, true, false, true≢false, if◌then◌else◌, is_some, fold, refl, sym, ap, ◌∙◌, subst, List, [], ◌∷◌, ◌++◌, Option, Some, None, arith}
-use Rattle.std.specs.Prelude.{MatchOption}
-use Rattle.af_base.proofs.Basics.{both}
-use Rattle.af_base.specs.declared.event.ServerEvent.{ServerEvent}
+use Rattle.af_judge.proofs.Common.{CommandLook, IsSeen, Listed, LooksBy, MatchOption, Seen, ServerEvent, ServerKept, Shape, SlotEntry, ahead, as_slot, both, command_events, dropped_by, front_by_answer, front_of, is_noticed, is_own_inside, kept, leaves_open, look_at, look_events, not_true, outside, own_front, server_begins, server_keeps, server_kept, shows_command, takes_command, wrapped}
 use Rattle.af_base.specs.declared.event.ServerEvent.TheVariants as server
-use Rattle.af_base.specs.declared.log.SlotEntry.{SlotEntry}
-use Rattle.af_base.specs.declared.seen.Seen.{Seen}
 use Rattle.af_base.specs.declared.seen.Seen.TheVariants as seen
-use Rattle.af_base.specs.declared.turn.CommandLook.{CommandLook}
-use Rattle.af_life.specs.Looks.{as_slot, command_events, takes_command}
-use Rattle.af_life.specs.Obeys.{shows_command}
-use Rattle.af_model.proofs.Basics.{not_true}
-use Rattle.af_model.specs.declared.shape.Shape.{Shape}
-use Rattle.af_model.specs.Cycles.{Listed, kept, IsSeen, LooksBy}
-use Rattle.af_model.specs.Point.{wrapped}
-use Rattle.af_model.specs.Room.{ahead, outside}
-use Rattle.af_model.specs.ServerCalls.{ServerKept, server_keeps, server_begins, server_kept, is_noticed, dropped_by, look_at, look_events}
-use Rattle.af_model.specs.Spelled.{own_front}
-use Rattle.af_runs.specs.Fronts.{front_by_answer, front_of, leaves_open, is_own_inside}
 use Rattle.af_judge.proofs.LookFront.{answers_so, flushed_so, open_so, noticed_new}
 
 -- ## Servers that differ at most in the front that they saw last
@@ -48,9 +33,6 @@ record Tells (k : Shape) (a : ServerKept) (flush rear front : ℕ) (s : Seen) : 
   shut : (if is_noticed k (not (flush == a.flush)) rear front then None else outside k.frames front rear) ≡ shut_by s
 
 module _ (k : Shape) where
-  keeps : ServerKept → List ServerEvent → ServerKept
-  keeps a events = fold (server_keeps k) a events
-
   keeps_more : (a : ServerKept) (xs ys : List ServerEvent) → fold (server_keeps k) a (xs ++ ys) ≡ fold (server_keeps k) (fold (server_keeps k) a xs) ys
   keeps_more a [] ys = refl
   keeps_more a (x ∷ xs) ys = keeps_more (server_keeps k a x) xs ys

@@ -1,12 +1,7 @@
 -- Whether looks are due, by those that were gone over.
 use Rattle.std.proofs.Common.{◌≡◌, ℕ, suc, ◌+◌, ◌-◌, ◌<◌, ◌≤◌, ◌==◌, Bool, true, false, if◌then◌else◌, ◌&&◌, sym, refl, ap, ◌∙◌, subst, List, [], ◌∷◌, ◌++◌, append-nil, length, take, drop, get_or, Option, zero, arith, length-take-le, drop-cons}
-use Rattle.std.proofs.lemmas.List.{take-append-drop, take_more, take_all, length-drop}
-use Rattle.std.proofs.lemmas.Bool.Decides.{nat_tests}
-use Rattle.af_base.proofs.Basics.{both as first}
-use Rattle.af_base.specs.declared.turn.CommandLook.{CommandLook}
-use Rattle.af_life.specs.declared.kept.TrackKept.{TrackKept}
-use Rattle.af_life.specs.Obeys.{shows_command, is_shut, ended, must_wait, obeyed, after_look, goes_on, are_due, all_go_on}
-use Rattle.af_life.proofs.LooksSoFar.{after_all, are_due-go}
+use Rattle.af_judge.proofs.Common.{CommandLook, TrackKept, after_all, all_go_on, are_due, are_due-go, both as first, ended, goes_on, is_shut, length-drop, must_wait, nat_tests, obeyed, shows_command, take-append-drop, take_all, take_more}
+use Rattle.af_life.specs.Obeys.{after_look}
 
 last : (made n left : ℕ) → made < n → left ≡ n - suc made → (left == 0) ≡ (made + 1 == n)
 last made n left lt e = grind (arith, nat_tests, lt, e)

@@ -1,16 +1,7 @@
 -- All looks at a command block are legal by some fronts exactly if each answers by the front by which it is judged.
 use Rattle.std.proofs.Common.{◌≡◌, ◌↔◌, ℕ, ◌+◌, ◌^◌, ◌≤◌, Bool, true, false, true≢false, if◌then◌else◌, refl, sym, ap, ◌∙◌, subst, List, [], ◌∷◌, ◌++◌, Option, Some, None}
-use Rattle.std.specs.Prelude.{MatchBool, MatchOption}
-use Rattle.af_base.specs.declared.event.ServerEvent.{ServerEvent}
-use Rattle.af_base.specs.declared.log.SlotEntry.{SlotEntry}
+use Rattle.af_judge.proofs.Common.{CommandLook, LegalLooks, Listed, LooksBy, MatchBool, MatchOption, ServerEvent, Shape, SlotEntry, as_slot, command_events, did, front_by_answer, front_of, fronts_by, lawful_front, leaves_open, look_at, server_kept, wrapped}
 use Rattle.af_base.specs.declared.seen.Seen.TheVariants as seen
-use Rattle.af_base.specs.declared.turn.CommandLook.{CommandLook}
-use Rattle.af_life.specs.Looks.{as_slot, command_events, did, LegalLooks}
-use Rattle.af_model.specs.declared.shape.Shape.{Shape}
-use Rattle.af_model.specs.Cycles.{Listed, LooksBy}
-use Rattle.af_model.specs.Point.{wrapped}
-use Rattle.af_model.specs.ServerCalls.{server_kept, look_at}
-use Rattle.af_runs.specs.Fronts.{front_by_answer, front_of, lawful_front, leaves_open, fronts_by}
 use Rattle.af_judge.specs.Servers.{LooksRightly, front_judged}
 use Rattle.af_judge.specs.NormalLooks.{AllAnswer}
 use Rattle.af_judge.proofs.LookFront.{answers_so}

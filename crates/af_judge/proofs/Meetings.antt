@@ -1,7 +1,6 @@
 -- A meeting of two parties cuts an order of their events: what each did before it stands before what either does after it.
 use Rattle.std.proofs.Common.{◌≡◌, ℕ, suc, ◌+◌, ◌≤◌, List, [], ◌∷◌, ◌++◌, length, refl, sym, ap, ◌∙◌, subst, arith}
-use Rattle.af_model.specs.Order.{Event, one, two, ones, twos, Legal, after, HasOrder}
-use Rattle.af_model.proofs.Splits.{ones_append}
+use Rattle.af_judge.proofs.Common.{Event, HasOrder, Legal, after, one, ones, ones_append, two, twos}
 
 tail_of : {A : Type 0} → List A → List A
 tail_of [] = []

@@ -1,7 +1,6 @@
 -- A server that does some events and then some more does all of them.
 use Rattle.std.proofs.Common.{◌≡◌, List, ◌++◌, ap, append_assoc}
-use Rattle.af_base.specs.declared.event.ServerEvent.{ServerEvent}
-use Rattle.af_model.specs.Cycles.{Listed}
+use Rattle.af_judge.proofs.Common.{Listed, ServerEvent}
 use Rattle.af_judge.specs.Foresight.{did_more}
 
 pub more_done : (xs ys : List ServerEvent) (s : Listed) → did_more ys (did_more xs s) ≡ did_more (xs ++ ys) s

@@ -1,30 +1,11 @@
 -- What a judge keeps of the normal mixer, after a turn.
 use Rattle.std.proofs.Common.{◌≡◌, ◌↔◌, ℕ, ◌+◌, ◌-◌, ◌^◌, ◌<◌, ◌≤◌, ◌&&◌, ◌||◌, Bool, true, false, true≢false, IsTrue, if◌then◌else◌, refl, sym, ap, ◌∙◌, subst, List, [], ◌∷◌, length, map, nat_eq, nat_le, inl, inr, arith}
-use Rattle.std.specs.List.{AllByRecursion}
-use Rattle.std.proofs.lemmas.List.Elements.{recursion_from_All}
-use Rattle.af_base.specs.Log.{slots}
-use Rattle.af_base.specs.declared.state.FastState.{FastState}
-use Rattle.af_base.specs.declared.state.Push.{Push}
-use Rattle.af_base.specs.declared.state.Push.TheVariants.{Pushed, Clean, Busy}
-use Rattle.af_base.specs.declared.plain.Part.{Part}
-use Rattle.af_base.specs.declared.turn.NormalTake.{NormalTake}
-use Rattle.af_base.specs.declared.turn.TrackTurn.{TrackTurn}
-use Rattle.af_base.specs.Mix.{Take, mix}
+use Rattle.af_judge.proofs.Common.{AllByRecursion, Busy, Clean, FastState, IsTake, IsTurn, Learnt, LegalTrack, NormalKept, NormalTake, Part, Plain, Push, Pushed, Setup, Take, TakeSeen, TrackKept, TrackSeen, TrackTurn, TracksRise, Turn, after_ack, after_edits, after_push, after_takes, asked, comes_home, is_pushed, mix, mixed_here, put_by, recursion_from_All, seen_at, served_to, slot_number, slots, take_of, take_seen, track_at, track_seen, tracks_due, turn_after, welcomed}
 use Rattle.af_base.specs.Part.{take_of as part_of}
-use Rattle.af_base.specs.Turn.{Turn, TakeSeen, TrackSeen, take_seen, track_seen}
 use Rattle.af_judge.proofs.Basics.{push_draft}
-use Rattle.af_life.specs.declared.kept.TrackKept.{TrackKept}
-use Rattle.af_life.specs.Kept.{Setup, NormalKept, Learnt, asked, slot_number, seen_at, track_at}
-use Rattle.af_life.specs.Edits.{comes_home, welcomed, after_ack, after_push}
-use Rattle.af_life.specs.Plain.{Plain}
-use Rattle.af_life.specs.Plays.{mixed_here, tracks_due, put_by, take_of, after_takes}
-use Rattle.af_life.specs.Serves.{LegalTrack, served_to}
 use Rattle.af_life.specs.Small.{IsSmall, turn_weight, most_tracks}
-use Rattle.af_life.specs.Turn.{after_edits, turn_after}
 use Rattle.af_life.proofs.SmallTurns as small_turns
 use Rattle.af_life.proofs.Weights.{looks_up_to}
-use Rattle.af_model.specs.JournalForm.{IsTake, IsTurn, TracksRise}
-use Rattle.af_runs.specs.Told.{is_pushed}
 use Rattle.af_judge.specs.NormalChanges.{is_edited}
 use Rattle.af_judge.specs.NormalJudged.{NormalJudged, IsJudged}
 use Rattle.af_judge.proofs.TurnEdits.{turn_changes, due_after}

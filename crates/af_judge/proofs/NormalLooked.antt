@@ -1,8 +1,6 @@
 -- One look more at a command block, as a judge notes it.
 use Rattle.std.proofs.Common.{◌≡◌, ◌↔◌, ℕ, ◌+◌, ◌<◌, ◌&&◌, Bool, IsTrue, refl, sym, ap, ◌∙◌, subst, List, [], ◌∷◌, ◌++◌, length, take, get_or}
-use Rattle.std.proofs.lemmas.List.{take_more}
-use Rattle.af_base.specs.declared.turn.CommandLook.{CommandLook}
-use Rattle.af_life.specs.Looks.{as_slot, HasWords}
+use Rattle.af_judge.proofs.Common.{CommandLook, HasWords, as_slot, take_more}
 use Rattle.af_judge.specs.Blocks.{BlockJudged, commanded_told, listed_in}
 use Rattle.af_judge.specs.NormalLooks.{AllAnswer}
 use Rattle.af_judge.specs.NormalTold.{looks_told}

@@ -1,26 +1,10 @@
 -- A turn is right if its parts are.
 use Rattle.std.proofs.Common.{◌≡◌, ◌↔◌, ℕ, ◌&&◌, Bool, true, false, IsTrue, MatchBool, if◌then◌else◌, sym, subst, List, [], ◌∷◌, ◌++◌, length, arith}
-use Rattle.std.specs.Prelude.{slice_index_or, MatchOption}
-use Rattle.std.specs.List.{AllByRecursion}
+use Rattle.af_judge.proofs.Common.{AllByRecursion, Heard, IsSeen, Learnt, MatchOption, NormalKept, Report, ServerEvent, ServerKept, Setup, Shape, SlotEntry, TakeSeen, TrackKept, TrackSeen, Turn, after_ack, asked, front_by_answer, heard, learnt_of, leaves_open, look_at, own_front, server_begins, server_keeps, server_kept, slice_index_or, track_at, track_in}
 use Rattle.std.proofs.lemmas.List.Sums.{fold-append}
-use Rattle.af_base.specs.declared.event.ServerEvent.{ServerEvent}
 use Rattle.af_base.specs.declared.event.ServerEvent.TheVariants as server
-use Rattle.af_base.specs.declared.log.SlotEntry.{SlotEntry}
-use Rattle.af_base.specs.declared.report.Report.{Report}
 use Rattle.af_base.specs.declared.seen.Seen.TheVariants as seen
-use Rattle.af_base.specs.Turn.{Turn, TakeSeen, TrackSeen}
 use Rattle.af_judge.proofs.Basics.{same_track, there_is}
-use Rattle.af_life.specs.declared.kept.Heard.{Heard}
-use Rattle.af_life.specs.declared.kept.TrackKept.{TrackKept}
-use Rattle.af_life.specs.Edits.{after_ack}
-use Rattle.af_life.specs.Heard.{heard}
-use Rattle.af_life.specs.Kept.{Setup, Learnt, NormalKept, asked, track_at, track_in}
-use Rattle.af_life.specs.Plain.{learnt_of}
-use Rattle.af_model.specs.declared.shape.Shape.{Shape}
-use Rattle.af_model.specs.Cycles.{IsSeen}
-use Rattle.af_model.specs.ServerCalls.{ServerKept, server_keeps, server_begins, server_kept, look_at}
-use Rattle.af_model.specs.Spelled.{own_front}
-use Rattle.af_runs.specs.Fronts.{front_by_answer, leaves_open}
 use Rattle.af_judge.specs.declared.track_judge.TrackJudge.{TrackJudge}
 use Rattle.af_judge.specs.Blocks.{BlockJudged, listed_in}
 use Rattle.af_judge.specs.NormalTold.{IsTrackAt, AllTold, LooksRight, IsRightTake, TakeRight, RightTurn, all_known, shut_told, disabled_told, track_told}

@@ -1,16 +1,6 @@
 -- The normal mixer's turn in a round: what is answered of it is whether it is legal, and what is kept follows it.
-use Rattle.std.specs.Prelude.{IsTrue, MatchBool, MatchOption}
 use Rattle.std.proofs.Common.{◌≡◌, ◌↔◌, ℕ, ◌&&◌, not, Bool, true, false, true≢false, is_some, refl, sym, ap, ◌∙◌, subst, List, length, Option, Some, None}
-use Rattle.af_base.specs.declared.report.Report.{Report}
-use Rattle.af_base.specs.Turn.{Turn}
-use Rattle.af_life.specs.Kept.{NormalKept}
-use Rattle.af_model.specs.JournalForm.{IsTurn}
-use Rattle.af_model.specs.Journals.{RoundSeen}
-use Rattle.af_runs.specs.Blocks.{Marks}
-use Rattle.af_runs.specs.Found.{LegalTurnBy}
-use Rattle.af_runs.specs.Rounds.{LegalNormalTurn, after_turn, before_turn, early_of, found_in, turned}
-use Rattle.af_runs.specs.Runs.{Run, with_calls}
-use Rattle.af_runs.specs.Sessions.{Session, setup_of}
+use Rattle.af_judge.proofs.Common.{IsTrue, IsTurn, LegalNormalTurn, LegalTurnBy, Marks, MatchBool, MatchOption, NormalKept, Report, RoundSeen, Run, Session, Turn, after_turn, before_turn, early_of, found_in, setup_of, turned, with_calls}
 use Rattle.af_judge.specs.declared.track_judge.TrackJudge.{TrackJudge}
 use Rattle.af_judge.specs.NormalJudged.{NormalJudged}
 use Rattle.af_judge.specs.NormalTold.{IsRight}

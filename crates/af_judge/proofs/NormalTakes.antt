@@ -1,17 +1,8 @@
 -- One take more for the buffer, as a judge notes it.
 use Rattle.std.proofs.Common.{◌≡◌, ◌↔◌, ℕ, zero, suc, ◌+◌, ◌<◌, ◌≤◌, ◌==◌, ◌&&◌, Bool, true, false, IsTrue, cond, fold, refl, sym, ap, ◌∙◌, subst, List, [], ◌∷◌, ◌++◌, append-nil, length, map, take, get_or, eqb-true, true≢false, arith}
-use Rattle.std.specs.Prelude.{slice_index_or}
-use Rattle.std.specs.List.{AllByRecursion}
-use Rattle.std.proofs.lemmas.List.{take_more}
+use Rattle.af_judge.proofs.Common.{AllByRecursion, NormalTake, TakeSeen, TracksRise, filter-append, map_last, nat_tests, slice_index_or, take_more, take_seen, takes_from}
 use Rattle.std.proofs.lemmas.List.Sums.{fold-append}
-use Rattle.std.proofs.lemmas.List.Elements.{filter-append}
-use Rattle.std.proofs.lemmas.Bool.Decides.{nat_tests}
-use Rattle.af_base.proofs.Basics.{map_last}
-use Rattle.af_base.specs.declared.turn.NormalTake.{NormalTake}
-use Rattle.af_base.specs.Turn.{TakeSeen, take_seen}
 use Rattle.af_judge.proofs.Basics.{same_track, there_is}
-use Rattle.af_life.specs.TurnEvents.{takes_from}
-use Rattle.af_model.specs.JournalForm.{TracksRise}
 use Rattle.af_judge.specs.declared.track_judge.TrackJudge.{TrackJudge}
 use Rattle.af_judge.specs.NormalTold.{IsTrackAt, IsTaken, AreTaken, IsRightTake, take_told}
 use Rattle.af_judge.proofs.NormalKept.{both_so}
@@ -48,9 +39,6 @@ none_yet takes i item rise there is = ap (λ (t : NormalTake). takes_from (map t
 -- ## One take more
 
 module _ (asked : ℕ) (takes : List TakeSeen) (x : TakeSeen) (before now : List TrackJudge) (taken : AreTaken asked takes before now) where
-  after : (t : TrackJudge) (i : ℕ) → TrackJudge
-  after t i = fold (λ (t : TrackJudge) (take : TakeSeen). take_told asked take t) t (takes_from takes i)
-
   only : (i : ℕ) (b : Bool) → (x.track == i) ≡ b → takes_from (takes ++ x ∷ []) i ≡ takes_from takes i ++ cond b (x ∷ []) []
   only i b e = filter-append (λ (take : TakeSeen). take.track == i) takes (x ∷ []) ∙ ap (λ (c : Bool). takes_from takes i ++ cond c (x ∷ []) []) e
 

@@ -1,17 +1,8 @@
 -- What a turn did for one track more is noted in it.
 use Rattle.std.proofs.Common.{◌≡◌, ◌↔◌, ℕ, ◌+◌, ◌<◌, ◌&&◌, Bool, true, false, IsTrue, nat_lt, if◌then◌else◌, refl, sym, ap, ◌∙◌, subst, List, length, arith}
-use Rattle.std.specs.Prelude.{slice_set, slice_index_or}
+use Rattle.af_judge.proofs.Common.{Heard, Learnt, NormalKept, TrackKept, TrackSeen, Turn, after_ack, get_or-set_at, get_or-set_other, heard, length-set, nat_tests, new_track, slice_index_or, slice_set, track_at, track_in, welcomed}
 use Rattle.std.proofs.lemmas.List as lists
-use Rattle.std.proofs.lemmas.List.{get_or-set_other, length-set}
-use Rattle.std.proofs.lemmas.Grind.{get_or-set_at}
-use Rattle.std.proofs.lemmas.Bool.Decides.{nat_tests}
-use Rattle.af_base.specs.Turn.{Turn, TrackSeen}
 use Rattle.af_judge.proofs.Basics.{same_track, there_is}
-use Rattle.af_life.specs.declared.kept.Heard.{Heard}
-use Rattle.af_life.specs.declared.kept.TrackKept.{TrackKept}
-use Rattle.af_life.specs.Edits.{after_ack, welcomed}
-use Rattle.af_life.specs.Heard.{heard}
-use Rattle.af_life.specs.Kept.{Learnt, NormalKept, track_at, track_in, new_track}
 use Rattle.af_judge.specs.declared.track_judge.TrackJudge.{TrackJudge}
 use Rattle.af_judge.specs.Blocks.{listed_in}
 use Rattle.af_judge.specs.NormalLooks.{AllAnswer}

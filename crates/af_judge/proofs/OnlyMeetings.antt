@@ -1,16 +1,9 @@
 -- A hand that only meets the client forbids nothing: its meetings can be put into each legal order, and left out of it.
-use Rattle.std.specs.Prelude.{◌↔◌, IfOk, IsTrue, OnOk, OnErr}
+use Rattle.std.specs.Prelude.{◌↔◌}
 use Rattle.std.proofs.Common.{◌≡◌, inl, inr, ℕ, Result, Ok, Err, Bool, true, false, ◌+◌, ◌≤◌, List, [], ◌∷◌, ◌++◌, length, refl, sym, ap, ◌∙◌, subst, arith, length-append, append_assoc}
-use Rattle.std.proofs.lemmas.Bool.{cases_lt}
-use Rattle.std.proofs.lemmas.List.{append-nil}
-use Rattle.af_base.specs.declared.event.ClientEvent.{ClientEvent}
-use Rattle.af_base.specs.declared.event.ServerEvent.{ServerEvent}
-use Rattle.af_base.specs.declared.event.HandEvent.{HandEvent}
+use Rattle.af_judge.proofs.Common.{ClientEvent, ClientMay, HandEvent, HasLegalOrder, IfOk, IsLegal, IsTrue, Merged, Moment, OnErr, OnOk, ServerEvent, ServerMay, TrackPoint, after_client, after_hand, after_server, append-nil, by_client, by_hand, by_server, cases_lt, client_of, clients_at, hand_of, met_in, server_of, with_pieces}
 use Rattle.af_base.specs.declared.event.HandEvent.TheVariants as hand
-use Rattle.af_model.specs.declared.point.TrackPoint.{TrackPoint}
-use Rattle.af_model.specs.Point.{ClientMay, ServerMay, after_client, after_server, after_hand}
-use Rattle.af_model.specs.History.{Moment, by_client, by_server, by_hand, client_of, server_of, hand_of, after, met_in, clients_at, IsLegal}
-use Rattle.af_merges.specs.Merges.{HasLegalOrder, Merged, with_pieces}
+use Rattle.af_model.specs.History.{after}
 use Rattle.af_judge.specs.Blocks.{Lists}
 use Rattle.af_judge.specs.Meetings.{AreMeetings, hand_of_own}
 

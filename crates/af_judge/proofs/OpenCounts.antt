@@ -1,10 +1,7 @@
 -- Which counts are open, by those that were open before the last step.
-use Rattle.std.specs.Prelude.{◌↔◌, IsTrue, slice_get, slice_index_or, slice_set}
+use Rattle.std.specs.Prelude.{◌↔◌}
 use Rattle.std.proofs.Common.{◌≡◌, ◌⊎◌, ◌≢◌, inl, inr, ℕ, zero, suc, ◌+◌, ◌<◌, ◌≤◌, Bool, true, false, fold, List, [], ◌∷◌, ◌++◌, length, take, replicate, Some, refl, sym, ap, subst, ◌∙◌, arith, true≢false}
-use Rattle.std.proofs.lemmas.List.{get_or-set_same, get_or-set_other}
-use Rattle.std.proofs.lemmas.Option.{slice_get_cases}
-use Rattle.af_base.proofs.Basics.{below_or_at, take_step}
-use Rattle.af_model.specs.Order.{Event, one, two}
+use Rattle.af_judge.proofs.Common.{Event, IsTrue, below_or_at, get_or-set_other, get_or-set_same, one, slice_get, slice_get_cases, slice_index_or, slice_set, take_step, two}
 use Rattle.af_judge.specs.TwoEnds.{Ends, ends_after, HasEndsOrder, AreOpen}
 use Rattle.af_judge.proofs.TwoEnds.{reach_none, reach_one, reach_two, back_none, back_first, back_both}
 

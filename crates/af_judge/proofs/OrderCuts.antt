@@ -1,7 +1,6 @@
 -- Orders of two lists that were cut at a meeting go on to the next one, and are cut there.
 use Rattle.std.proofs.Common.{◌≡◌, ◌↔◌, ℕ, ◌+◌, List, [], ◌∷◌, ◌++◌, length, refl, sym, ap, ◌∙◌, subst, append_assoc}
-use Rattle.af_model.specs.Order.{Event, one, two, Legal, after, HasOrder}
-use Rattle.af_model.proofs.Splits.{ones_append}
+use Rattle.af_judge.proofs.Common.{Event, HasOrder, Legal, after, one, ones_append, two}
 use Rattle.af_judge.specs.SharedTold.{IsCutAt}
 use Rattle.af_judge.proofs.Meetings.{IsCut, IsMeeting, cut_at, joined_at, legal_both, twos_both}
 

@@ -1,27 +1,14 @@
 -- The lists of a pipe's ends have the pipe's history exactly if they have a legal order, by which the frames taken begin those put.
 use Rattle.std.specs.Prelude.{◌↔◌}
 use Rattle.std.proofs.Common.{◌≡◌, ℕ, ◌+◌, ◌-◌, ◌≤◌, ◌&&◌, true, true≢false, List, [], ◌∷◌, ◌++◌, length, take, refl, sym, ap, ◌∙◌, subst, arith, length-append, append_assoc}
-use Rattle.std.specs.List.{list_all}
-use Rattle.std.proofs.lemmas.Grind.{fold-append}
-use Rattle.std.proofs.lemmas.List.{append-nil}
-use Rattle.std.proofs.lemmas.List.Folds.{list_all-append}
-use Rattle.af_base.proofs.Basics.{none_more}
-use Rattle.af_base.specs.declared.event.ClientEvent.{ClientEvent}
+use Rattle.af_judge.proofs.Common.{ClientEvent, Event, HasPipeHistory, IsLegal, IsTakeList, Legal, Moment, PipePoint, ServerEvent, Shape, TrackPoint, after_client, after_server, append-nil, both_first, both_right, by_client, by_hand, by_server, client_of, client_taken, drops_none, fold-append, hand_of, is_taking, keeps, list_all, list_all-append, none_more, one, ones, server_of, two, twos, wrapped}
 use Rattle.af_base.specs.declared.event.ClientEvent.TheVariants as client
-use Rattle.af_base.specs.declared.event.ServerEvent.{ServerEvent}
 use Rattle.af_base.specs.declared.event.ServerEvent.TheVariants as server
 use Rattle.af_judge.proofs.Basics.{server_put}
-use Rattle.af_model.proofs.Basics.{both_first, client_taken, keeps}
-use Rattle.af_model.specs.declared.shape.Shape.{Shape}
-use Rattle.af_model.specs.declared.point.TrackPoint.{TrackPoint}
-use Rattle.af_model.specs.Point.{wrapped, after_client, after_server}
-use Rattle.af_model.specs.History.{Moment, by_client, by_server, by_hand, client_of, server_of, hand_of, after, IsLegal}
-use Rattle.af_model.specs.Fates.{drops_none}
-use Rattle.af_model.specs.Order.{Event, one, two, ones, twos, Legal}
-use Rattle.af_model.specs.PipeHistory.{PipePoint, legal, next, HasPipeHistory, IsTakeList, is_taking}
+use Rattle.af_model.specs.History.{after}
+use Rattle.af_model.specs.PipeHistory.{legal, next}
 use Rattle.af_model.specs.PipeHistory as pipe
 use Rattle.af_model.proofs.Fates.{begins}
-use Rattle.af_model.proofs.Logic.{both_right}
 use Rattle.af_model.proofs.PipeOrders.{pipe_history}
 use Rattle.af_judge.specs.PipeKept.{AreEnds, HasPipeOrder, PipeKept, pipe_begins, put_by, put_in, taken_by, taken_in}
 
@@ -35,26 +22,12 @@ taken_more events e = fold-append (λ (sofar : ℕ) (x : ServerEvent). sofar + t
 
 client_put : (p : TrackPoint) (e : ClientEvent) → (after_client p e).released ≡ p.released + put_by e
 client_put p (client.Release count) = refl
-client_put p client.Flush = none_more p.released
-client_put p (client.SetGain word) = none_more p.released
-client_put p (client.ClearFlags old) = none_more p.released
-client_put p (client.SawFlags flags) = none_more p.released
-client_put p (client.SawFront front) = none_more p.released
-client_put p (client.SawStatus word) = none_more p.released
-client_put p (client.Poke word value) = none_more p.released
-client_put p (client.Learn count) = none_more p.released
+client_put p _ = none_more p.released
 
 server_taken : (p : TrackPoint) (e : ServerEvent) → is_taking e ≡ true → (after_server p e).consumed ≡ p.consumed + taken_by e
-server_taken p (server.SawGain word) is = none_more p.consumed
-server_taken p (server.SawFlush flush) is = none_more p.consumed
-server_taken p (server.SawRear rear) is = none_more p.consumed
-server_taken p (server.SawFront front) is = none_more p.consumed
 server_taken p (server.Drop to) is = absurd (true≢false (sym is))
 server_taken p (server.Take count) is = refl
-server_taken p (server.Tally missing) is = none_more p.consumed
-server_taken p (server.SetFlags bits) is = none_more p.consumed
-server_taken p (server.SetStatus word) is = none_more p.consumed
-server_taken p (server.Learn count) is = none_more p.consumed
+server_taken p _ is = none_more p.consumed
 
 released_after : (order : List Moment) → hand_of order ≡ [] → (after pipe_begins order).released ≡ put_in (client_of order)
 released_after [] none = refl

@@ -1,40 +1,10 @@
 -- What is kept of the pipe follows each step of a round, and each meeting is judged exactly if all turns were legal.
-use Rattle.std.specs.Prelude.{if◌then◌else◌, ◌==◌, nat_le, ◌↔◌}
-use Rattle.std.specs.List.{list_all}
+use Rattle.std.specs.Prelude.{if◌then◌else◌, ◌==◌, ◌↔◌}
 use Rattle.std.proofs.Common.{◌≡◌, ℕ, suc, ◌+◌, ◌-◌, ◌%◌, ◌^◌, ◌≤◌, ◌&&◌, Bool, true, false, List, [], ◌∷◌, ◌++◌, fold, length, map, refl, sym, ap, ◌∙◌, subst, arith, append_assoc, append-nil, length-append}
-use Rattle.std.proofs.lemmas.Bool.{eqb-true, leb-false, leb-true}
-use Rattle.std.proofs.lemmas.Grind.{fold-append}
-use Rattle.std.proofs.lemmas.List.{length-map}
-use Rattle.std.proofs.lemmas.List.Folds.{list_all-append}
-use Rattle.std.proofs.lemmas.List.FromFn.{length-map-range_with_len}
-use Rattle.af_base.specs.declared.event.ClientEvent.{ClientEvent}
+use Rattle.af_judge.proofs.Common.{ClientEvent, EntrySeen, Frame, HasPipeHistory, HasPipeTold, IsPutList, IsTakeList, Legal, LegalTurnBy, Marks, NormalKept, PipeTold, PutKept, RoundSeen, Run, Seen, ServerEvent, Session, Setup, TakeSeen, TrackKept, Turn, TurnFound, after, after_edits, after_put, ahead, asked, count_seen, each_track, ends, entry_slot, eqb-true, fold-append, frames_taken, is_mixed, is_taking, learnt, leb-false, leb-true, length-map, length-map-range_with_len, list_all, list_all-append, may_put, met, mixed_frame, mixed_here, nat_le, new_run, nothing_put, one, ones, packed_word, pipe_cells, pipe_size, put_by as frames_put, releases_of, room_by, setup_of, slot_frames, take_of, takes_shown, tracks_due, two, twos, with_calls, with_ends, with_load, with_mix, with_poll, with_turn, wrapped}
 use Rattle.af_base.specs.declared.event.ClientEvent.TheVariants as client
-use Rattle.af_base.specs.declared.event.ServerEvent.{ServerEvent}
 use Rattle.af_base.specs.declared.event.ServerEvent.TheVariants as server
-use Rattle.af_base.specs.declared.frame.Frame.{Frame}
-use Rattle.af_base.specs.declared.seen.Seen.{Seen}
 use Rattle.af_base.specs.declared.seen.Seen.TheVariants as seen
-use Rattle.af_base.specs.Log.{count_seen, entry_slot, frames_taken}
-use Rattle.af_base.specs.Mix.{mixed_frame}
-use Rattle.af_base.specs.Sample.{packed_word}
-use Rattle.af_base.specs.Turn.{TakeSeen, Turn}
-use Rattle.af_life.specs.declared.kept.TrackKept.{TrackKept}
-use Rattle.af_life.specs.Kept.{NormalKept, Setup, asked, pipe_size}
-use Rattle.af_life.specs.Plays.{put_by as frames_put, mixed_here, take_of, tracks_due}
-use Rattle.af_life.specs.Turn.{after_edits}
-use Rattle.af_life.specs.Heard.{learnt}
-use Rattle.af_model.specs.Cycles.{is_mixed, takes_shown}
-use Rattle.af_model.specs.Journals.{EntrySeen, RoundSeen, slot_frames}
-use Rattle.af_model.specs.Order.{one, two, ones, twos, Legal, after}
-use Rattle.af_model.specs.PipeHistory.{HasPipeHistory, IsPutList, IsTakeList, PutKept, after_put, is_taking, may_put, nothing_put, releases_of, room_by}
-use Rattle.af_model.specs.Point.{wrapped}
-use Rattle.af_model.specs.Room.{ahead}
-use Rattle.af_runs.specs.Blocks.{Marks}
-use Rattle.af_runs.specs.Clients.{ends}
-use Rattle.af_runs.specs.Found.{LegalTurnBy, TurnFound}
-use Rattle.af_runs.specs.Runs.{Run, each_track, met, new_run, pipe_cells, with_calls, with_ends, with_load, with_mix, with_poll, with_turn}
-use Rattle.af_runs.specs.Sessions.{Session, setup_of}
-use Rattle.af_runs.specs.Told.{HasPipeTold, PipeTold}
 use Rattle.af_judge.specs.FastKept.{pipe_played}
 use Rattle.af_judge.specs.PipeKept.{AreEnds, HasPipeOrder, PipeKept, front_by_room, new_pipe, put_by, put_in, saw_front, taken_by, taken_in, with_look, with_meeting, with_put}
 use Rattle.af_judge.specs.SharedTold.{PipeOf, pipe_noted}
@@ -191,14 +161,7 @@ module _ {P E : Type 0} (legal : P → E → Type 0) (next : P → E → P) wher
 
 put_more : (k : PutKept) (e : ClientEvent) → (after_put k e).put ≡ k.put + put_by e
 put_more k (client.Release count) = refl
-put_more k client.Flush = omega arith
-put_more k (client.SetGain word) = omega arith
-put_more k (client.ClearFlags old) = omega arith
-put_more k (client.SawFlags flags) = omega arith
-put_more k (client.SawFront front) = omega arith
-put_more k (client.SawStatus word) = omega arith
-put_more k (client.Poke word value) = omega arith
-put_more k (client.Learn count) = omega arith
+put_more k _ = omega arith
 
 put_after : (size : ℕ) (k : PutKept) (es : List ClientEvent) → (after (may_put size) after_put k es).put ≡ k.put + put_in es
 put_after size k [] = omega arith
@@ -211,17 +174,11 @@ ends_first size cells small = record { small = small; puts = tt; takes = refl; p
 -- a look that takes as many frames as it shows
 shown_taken : (sight : Seen) → taken_in (takes_shown sight) ≡ count_seen sight
 shown_taken (seen.Frames count) = omega arith
-shown_taken seen.Empty = refl
-shown_taken (seen.Shut front rear) = refl
-shown_taken seen.Absent = refl
-shown_taken (seen.Flushed dropped) = refl
+shown_taken _ = refl
 
 shown_takes : (sight : Seen) → list_all is_taking (takes_shown sight) ≡ true
 shown_takes (seen.Frames count) = refl
-shown_takes seen.Empty = refl
-shown_takes (seen.Shut front rear) = refl
-shown_takes seen.Absent = refl
-shown_takes (seen.Flushed dropped) = refl
+shown_takes _ = refl
 
 takes_join : (es fs : List ServerEvent) → IsTakeList es → IsTakeList fs → IsTakeList (es ++ fs)
 takes_join es fs a b = list_all-append is_taking es fs ∙ (λ j. a j && b j)

@@ -1,12 +1,9 @@
 -- Words with their places.
-use Rattle.std.specs.Prelude.{◌≡◌, ℕ, zero, suc, ◌+◌, ◌<◌, ◌≤◌, min, Some, slice_get, List, [], ◌∷◌, ◌++◌, length, take, map, All, refl}
+use Rattle.std.specs.Prelude.{◌≡◌, ◌+◌, ◌<◌, ◌≤◌, ◌∷◌, ◌++◌}
 use Rattle.std.proofs.Common.{ap, sym, ◌∙◌, subst, arith, append_assoc, get_or}
-use Rattle.std.proofs.lemmas.List.{take_all, take_more, length-take, length-map, map-append}
-use Rattle.std.proofs.lemmas.List.Elements.{All-more, All-head, All-tail}
-use Rattle.af_base.specs.declared.frame.Frame.{Frame}
-use Rattle.af_base.specs.Sample.{packed_word}
+use Rattle.af_judge.proofs.Common.{All, All-head, All-more, All-tail, Frame, List, Some, [], length, length-map, length-take, map, map-append, min, packed_word, refl, slice_get, suc, take, take_more, zero, ℕ}
 use Rattle.af_judge.specs.declared.words_judge.Taken.{Taken}
-use Rattle.af_judge.specs.Blocks.{IsReleased, Words, placed_from}
+use Rattle.af_judge.specs.Blocks.{IsReleased, placed_from}
 use Rattle.af_judge.specs.Servers.{most_counted}
 
 capped : (place n : ℕ) → min most_counted (min most_counted place + n) ≡ min most_counted (place + n)
@@ -35,10 +32,6 @@ placed_capped place (w ∷ words) =
 pub known_more : (released : List ℕ) (taken : List Taken) (at : ℕ) (t : Taken) → at < length taken → t ≡ get_or taken at t → All (IsReleased released) (take at taken) → IsReleased released t → All (IsReleased released) (take (at + 1) taken)
 known_more released taken at t inside is known one = All-more (IsReleased released) taken at t inside known (subst (IsReleased released) is one)
 
--- all words are known, if their number is reached
-pub all_known : (released : List ℕ) (taken : List Taken) (n : ℕ) → length taken ≤ n → All (IsReleased released) (take n taken) → All (IsReleased released) taken
-all_known released taken n all known = subst (All (IsReleased released)) (take_all n taken all) known
-
 -- if all are, the first that isn't has the number of all
 pub all_ends : (released : List ℕ) (taken : List Taken) (n : ℕ) → n ≤ length taken → ((t : Taken) → slice_get taken n ≡ Some t → IsReleased released t → ⊥) → All (IsReleased released) taken → n ≡ length taken
 all_ends released [] n within ends all = omega (arith, within)
@@ -58,18 +51,3 @@ frames_more place n sat word sofar frames d inside sat_is word_is =
     let here : sat ≡ min most_counted (place + length words) = (let l = long in omega (arith, sat_is, l)) in
     append_assoc sofar (placed_from place words) (record { at = sat; word = word } ∷ [])
     ∙ ap (λ (ts : List Taken). sofar ++ ts) (ap (λ (x : ℕ). placed_from place words ++ record { at = x; word = word } ∷ []) here ∙ (sym (placed_more place words word) ∙ ap (placed_from place) (sym more)))
-
--- the first n are known to be, and the next one, if there is one, is not
-pub record Ends (w : Words) (n : ℕ) : Type 0 where
-  pub within : n ≤ length w.taken
-  pub known : All (IsReleased w.released) (take n w.taken)
-  pub ends : (t : Taken) → slice_get w.taken n ≡ Some t → IsReleased w.released t → ⊥
-
--- all words are known if n is their number, and else not
-pub all_by : (v w : Words) (n len : ℕ) → v ≡ w → len ≡ length w.taken → len ≤ n → Ends w n → All (IsReleased v.released) v.taken
-all_by v w n len is long all e = subst (λ (x : Words). All (IsReleased x.released) x.taken) (sym is) (all_known w.released w.taken n (omega (arith, long, all)) e.known)
-
-pub not_all_by : (v w : Words) (n len : ℕ) → v ≡ w → len ≡ length w.taken → n < len → Ends w n → All (IsReleased v.released) v.taken → ⊥
-not_all_by v w n len is long less e all =
-    let n_is : n ≡ length w.taken = all_ends w.released w.taken n e.within e.ends (subst (λ (x : Words). All (IsReleased x.released) x.taken) is all) in
-    omega (arith, long, less, n_is)

@@ -1,24 +1,10 @@
 -- What is kept of the queue follows a run from step to step, and each meeting is judged exactly.
 use Rattle.std.specs.Prelude.{if◌then◌else◌, ◌==◌, ◌↔◌}
-use Rattle.std.specs.List.{list_any}
 use Rattle.std.proofs.Common.{◌≡◌, ℕ, suc, ◌+◌, ◌-◌, ◌<◌, ◌≤◌, ◌||◌, Bool, true, false, List, [], ◌∷◌, ◌++◌, fold, length, Option, unwrap_or, refl, sym, ap, ◌∙◌, subst, arith, append_assoc, append-nil, length-append}
-use Rattle.std.proofs.lemmas.Bool.{ne_eqb}
-use Rattle.std.proofs.lemmas.Grind.{fold-append}
-use Rattle.std.proofs.lemmas.List.Folds.{list_any-append}
-use Rattle.af_base.proofs.Basics.{or_both}
-use Rattle.af_base.specs.declared.state.FastState.{FastState}
-use Rattle.af_base.specs.declared.state.Push.{Push}
-use Rattle.af_model.proofs.Basics.{state_next}
-use Rattle.af_model.specs.declared.states.MutatorEvent.{MutatorEvent}
+use Rattle.af_judge.proofs.Common.{FastState, HasOrder, HasQueueHistory, Item, MutatorEvent, MutatorPoint, ObserverEvent, ObserverPoint, Push, QueuePoint, QueueTold, after, fold-append, initial, is_look_at, is_pushed, items_of, list_any, list_any-append, mutator_does, ne_eqb, observer_does, one, ones, or_both, poll_events, queue_met, state_at, state_more, state_next, two, twos, was_seen}
 use Rattle.af_model.specs.declared.states.MutatorEvent.TheVariants as mutator
-use Rattle.af_model.specs.declared.states.ObserverEvent.{ObserverEvent}
 use Rattle.af_model.specs.declared.states.ObserverEvent.TheVariants as observer
-use Rattle.af_model.specs.Draft.{initial}
-use Rattle.af_model.specs.Order.{one, two, ones, twos, after, HasOrder}
 use Rattle.af_model.specs.StateQueue as queued
-use Rattle.af_model.specs.StateQueue.{MutatorPoint, ObserverPoint, QueuePoint}
-use Rattle.af_runs.proofs.Basics.{state_more}
-use Rattle.af_runs.specs.Told.{HasQueueHistory, Item, QueueTold, is_look_at, is_pushed, items_of, mutator_does, observer_does, poll_events, queue_met, state_at, was_seen}
 use Rattle.af_judge.specs.declared.queue_judge.MutatorStep.{MutatorStep}
 use Rattle.af_judge.specs.declared.queue_judge.MutatorStep.TheVariants as steps
 use Rattle.af_judge.specs.declared.queue_judge.ObserverStep.{ObserverStep}

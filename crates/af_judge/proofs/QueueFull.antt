@@ -1,16 +1,11 @@
 -- The ends of the state queue have a legal order exactly if the numbers of their steps have one.
 use Rattle.std.specs.Prelude.{◌↔◌, ◌≢◌, if◌then◌else◌, ◌==◌}
 use Rattle.std.proofs.Common.{◌≡◌, ℕ, ◌+◌, ◌-◌, ◌<◌, ◌≤◌, ◌&&◌, ◌||◌, not, Bool, true, false, true≢false, List, [], ◌∷◌, length, Option, Some, None, refl, sym, ap, ◌∙◌, subst, arith, eqb-true, eq-eqb}
-use Rattle.std.proofs.lemmas.List.FromFn.{length-map-range_with_len, get_or-map-range_with_len}
-use Rattle.af_base.specs.declared.state.FastState.{FastState}
-use Rattle.af_model.specs.declared.states.MutatorEvent.{MutatorEvent}
+use Rattle.af_judge.proofs.Common.{AreOf, Event, FastState, HasOrder, Item, Legal, MutatorEvent, ObserverEvent, QueuePoint, after, brought, carries, get_or-map-range_with_len, has, items_of, length-map-range_with_len, one, ones, two, twos}
 use Rattle.af_model.specs.declared.states.MutatorEvent.TheVariants as mutator
-use Rattle.af_model.specs.declared.states.ObserverEvent.{ObserverEvent}
 use Rattle.af_model.specs.declared.states.ObserverEvent.TheVariants as observer
-use Rattle.af_model.specs.Order.{Event, one, two, ones, twos, Legal, after, HasOrder}
 use Rattle.af_model.specs.StateQueue as queued
-use Rattle.af_model.specs.StateQueue.{AreOf, QueuePoint, brought, carries, has, slot_of, slots}
-use Rattle.af_runs.specs.Told.{Item, items_of}
+use Rattle.af_model.specs.StateQueue.{slots}
 use Rattle.af_judge.specs.declared.queue_judge.MutatorStep.{MutatorStep}
 use Rattle.af_judge.specs.declared.queue_judge.MutatorStep.TheVariants as steps
 use Rattle.af_judge.specs.declared.queue_judge.ObserverStep.{ObserverStep}

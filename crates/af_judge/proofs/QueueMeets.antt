@@ -1,18 +1,12 @@
 -- The ends of the state queue meet, and those of the report: each meeting cuts their history.
 use Rattle.std.proofs.Common.{◌≡◌, ℕ, ◌+◌, ◌≤◌, refl, arith}
-use Rattle.af_model.specs.declared.newest.WriterEvent.{WriterEvent}
+use Rattle.af_judge.proofs.Common.{CellPoint, MutatorEvent, ObserverEvent, QueuePoint, ReaderEvent, WriterEvent, one, two}
 use Rattle.af_model.specs.declared.newest.WriterEvent.TheVariants as writes
-use Rattle.af_model.specs.declared.newest.ReaderEvent.{ReaderEvent}
 use Rattle.af_model.specs.declared.newest.ReaderEvent.TheVariants as reads
-use Rattle.af_model.specs.declared.states.MutatorEvent.{MutatorEvent}
 use Rattle.af_model.specs.declared.states.MutatorEvent.TheVariants as mutator
-use Rattle.af_model.specs.declared.states.ObserverEvent.{ObserverEvent}
 use Rattle.af_model.specs.declared.states.ObserverEvent.TheVariants as observer
-use Rattle.af_model.specs.Order.{one, two}
 use Rattle.af_model.specs.NewestValue as newest
-use Rattle.af_model.specs.NewestValue.{CellPoint}
 use Rattle.af_model.specs.StateQueue as queued
-use Rattle.af_model.specs.StateQueue.{QueuePoint}
 use Rattle.af_judge.proofs.Meetings.{IsMeeting}
 
 -- what is at most a number is at most the next one

@@ -1,24 +1,9 @@
 -- What is kept of the queue follows each step of a round.
-use Rattle.std.specs.Prelude.{if◌then◌else◌, ◌==◌, nat_le, ◌↔◌}
+use Rattle.std.specs.Prelude.{if◌then◌else◌, ◌==◌, ◌↔◌}
 use Rattle.std.proofs.Common.{◌≡◌, ◌⊎◌, inl, inr, ℕ, ◌-◌, ◌≤◌, ◌||◌, Bool, true, false, List, [], ◌∷◌, ◌++◌, length, Option, refl, sym, ap, ◌∙◌, subst, arith, append-nil, length-append}
-use Rattle.std.proofs.lemmas.Bool.{leb-true, leb-false}
-use Rattle.af_base.specs.declared.state.FastState.{FastState}
-use Rattle.af_base.specs.declared.state.Push.{Push}
+use Rattle.af_judge.proofs.Common.{EntrySeen, FastState, HasQueueHistory, Item, Learnt, MutatorEvent, NormalKept, Push, RoundSeen, Run, Session, Setup, Turn, TurnFound, after_edits, after_push, cycle_frames, draft_after, each_track, ends, going, is_pushed, items_of, learnt, leb-false, leb-true, met, mutator_does, mutator_list, nat_le, new_run, number_seen, observer_does, outside_of, poll_events, push_list, pushed_by, setup_of, state_at, turn_after, was_seen, with_calls, with_ends, with_load, with_mix, with_poll, with_turn}
 use Rattle.af_base.specs.declared.state.Push.TheVariants as pushing
-use Rattle.af_base.specs.Turn.{Turn}
-use Rattle.af_life.specs.Edits.{after_push}
-use Rattle.af_life.specs.Heard.{learnt}
-use Rattle.af_life.specs.Kept.{Learnt, NormalKept, Setup}
-use Rattle.af_life.specs.Turn.{after_edits, turn_after}
-use Rattle.af_life.specs.TurnEvents.{going, mutator_list, number_seen, push_list}
-use Rattle.af_model.specs.declared.states.MutatorEvent.{MutatorEvent}
 use Rattle.af_model.specs.declared.states.MutatorEvent.TheVariants as mutator
-use Rattle.af_model.specs.Journals.{EntrySeen, RoundSeen}
-use Rattle.af_runs.specs.Clients.{ends}
-use Rattle.af_runs.specs.Found.{TurnFound, outside_of}
-use Rattle.af_runs.specs.Runs.{Run, draft_after, each_track, met, new_run, pushed_by, with_calls, with_ends, with_load, with_mix, with_poll, with_turn}
-use Rattle.af_runs.specs.Sessions.{Session, cycle_frames, setup_of}
-use Rattle.af_runs.specs.Told.{HasQueueHistory, Item, is_pushed, items_of, mutator_does, observer_does, poll_events, state_at, was_seen}
 use Rattle.af_judge.specs.declared.queue_judge.MutatorStep.{MutatorStep}
 use Rattle.af_judge.specs.declared.queue_judge.MutatorStep.TheVariants as steps
 use Rattle.af_judge.specs.QueueNumbers.{HasRoundOrder, QueueKept, met as met_kept, poll_steps, push_steps, queue_begins, turn_steps, with_looks, with_steps}

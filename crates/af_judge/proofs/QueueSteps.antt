@@ -1,20 +1,11 @@
 -- The steps of the queue's ends and their events, joined; the look and the push of a turn, and a poll.
 use Rattle.std.specs.Prelude.{◌≢◌, if◌then◌else◌, ◌==◌}
-use Rattle.std.specs.List.{list_any}
 use Rattle.std.proofs.Common.{◌≡◌, inl, inr, ℕ, zero, suc, ◌+◌, ◌-◌, ◌<◌, ◌≤◌, ◌&&◌, ◌||◌, not, Bool, true, false, true≢false, List, [], ◌∷◌, ◌++◌, fold, map, Option, Some, None, refl, sym, ap, ◌∙◌, subst, arith, eq-eqb}
-use Rattle.std.proofs.lemmas.Bool.{ne_eqb, eqb-true}
-use Rattle.af_base.proofs.Basics.{or_nothing, or_right}
-use Rattle.af_base.specs.declared.state.FastState.{FastState}
-use Rattle.af_base.specs.declared.state.Push.{Push}
+use Rattle.af_judge.proofs.Common.{Event, FastState, Item, Legal, MutatorEvent, ObserverEvent, Push, QueuePoint, after, eqb-true, is_look_at, is_pushed, items_of, list_any, ne_eqb, one, ones, or_nothing, or_right, two, twos}
 use Rattle.af_base.specs.declared.state.Push.TheVariants as pushing
-use Rattle.af_model.specs.declared.states.MutatorEvent.{MutatorEvent}
 use Rattle.af_model.specs.declared.states.MutatorEvent.TheVariants as mutator
-use Rattle.af_model.specs.declared.states.ObserverEvent.{ObserverEvent}
 use Rattle.af_model.specs.declared.states.ObserverEvent.TheVariants as observer
-use Rattle.af_model.specs.Order.{Event, one, two, ones, twos, Legal, after}
 use Rattle.af_model.specs.StateQueue as queued
-use Rattle.af_model.specs.StateQueue.{QueuePoint}
-use Rattle.af_runs.specs.Told.{Item, is_look_at, is_pushed, items_of}
 use Rattle.af_judge.specs.declared.queue_judge.MutatorStep.{MutatorStep}
 use Rattle.af_judge.specs.declared.queue_judge.MutatorStep.TheVariants as steps
 use Rattle.af_judge.specs.declared.queue_judge.ObserverNumbers.{ObserverNumbers}

@@ -1,7 +1,6 @@
 -- A test over the numbers of a range, with one more.
-use Rattle.std.specs.List.{range_with_len, list_any}
 use Rattle.std.proofs.Common.{◌≡◌, ℕ, zero, suc, ◌+◌, ◌||◌, Bool, ap, ◌∙◌, arith}
-use Rattle.af_base.proofs.Basics.{or_assoc, or_false}
+use Rattle.af_judge.proofs.Common.{list_any, or_assoc, or_false, range_with_len}
 
 any_next : (p : ℕ → Bool) (a n : ℕ) → list_any p (range_with_len a (suc n)) ≡ (list_any p (range_with_len a n) || p (a + n))
 any_next p a zero = or_false (p a) ∙ ap p (let e : a ≡ a + 0 = omega arith in e)

@@ -1,28 +1,12 @@
 -- What is kept of the report follows each step of a round, and each meeting is judged exactly.
-use Rattle.std.specs.Prelude.{if◌then◌else◌, ◌↔◌, MatchOption}
+use Rattle.std.specs.Prelude.{if◌then◌else◌, ◌↔◌}
 use Rattle.std.proofs.Common.{◌≡◌, ℕ, zero, suc, ◌+◌, ◌-◌, ◌<◌, ◌≤◌, Bool, true, false, List, [], ◌∷◌, ◌++◌, fold, length, map, take, drop, get_or, Option, Some, None, refl, sym, ap, ◌∙◌, subst, arith, append_assoc, append-nil, length-append}
-use Rattle.std.proofs.lemmas.Bool.{ne_eqb}
-use Rattle.std.proofs.lemmas.Grind.{fold-append}
-use Rattle.std.proofs.lemmas.List.{drop-append-le, get_or-drop, get_or_append_left, get_or_default, length-map, length-take-le, map-append, take-append-drop}
-use Rattle.std.proofs.Math.ListN.{drop_of_length-le}
-use Rattle.af_base.specs.declared.report.Report.{Report}
-use Rattle.af_base.specs.Turn.{Turn}
-use Rattle.af_model.specs.declared.newest.ReaderEvent.{ReaderEvent}
+use Rattle.af_judge.proofs.Common.{EntrySeen, HasOrder, HasReportHistory, MatchOption, ReaderEvent, Report, ReportTold, RoundSeen, Run, Session, Turn, TurnFound, WriterEvent, after, drop-append-le, drop_of_length-le, each_track, ends, fold-append, get_or-drop, get_or_append_left, get_or_default, last_report, length-map, length-take-le, map-append, met, ne_eqb, new_run, no_report, one, ones, report_met, report_of, take-append-drop, two, twos, with_calls, with_ends, with_load, with_mix, with_poll, with_turn}
 use Rattle.af_model.specs.declared.newest.ReaderEvent.TheVariants as reads
 use Rattle.af_model.specs.declared.newest.ReaderEvent.TheVariants.{Load}
-use Rattle.af_model.specs.declared.newest.WriterEvent.{WriterEvent}
 use Rattle.af_model.specs.declared.newest.WriterEvent.TheVariants as writes
 use Rattle.af_model.specs.declared.newest.WriterEvent.TheVariants.{Store}
-use Rattle.af_model.specs.Journals.{EntrySeen, RoundSeen}
 use Rattle.af_model.specs.NewestValue as newest
-use Rattle.af_model.specs.NewestValue.{CellPoint}
-use Rattle.af_model.specs.Order.{one, two, ones, twos, after, HasOrder}
-use Rattle.af_model.specs.Reports.{no_report}
-use Rattle.af_runs.specs.Clients.{ends}
-use Rattle.af_runs.specs.Found.{TurnFound}
-use Rattle.af_runs.specs.Runs.{Run, each_track, last_report, met, new_run, report_of, with_calls, with_ends, with_load, with_mix, with_poll, with_turn}
-use Rattle.af_runs.specs.Sessions.{Session}
-use Rattle.af_runs.specs.Told.{HasReportHistory, ReportTold, report_met}
 use Rattle.af_judge.specs.ReportKept.{IsLoadOf, ReportKept}
 use Rattle.af_judge.specs.SharedTold.{ReportFollows, ReportOf, loads_of}
 use Rattle.af_judge.proofs.OrderCuts.{cut_begins, cut_meets, meeting_exact}

@@ -1,20 +1,6 @@
 -- The report that a turn of the normal mixer finds is the one that the judge has.
-use Rattle.std.specs.Prelude.{slice_index_or, max, min}
 use Rattle.std.proofs.Common.{◌≡◌, ◌⊎◌, inl, inr, ℕ, suc, ◌+◌, ◌-◌, ◌<◌, ◌≤◌, ◌==◌, Bool, false, if◌then◌else◌, ne_eqb, refl, sym, ap, ◌∙◌, fold, List, [], ◌∷◌, ◌++◌, append_assoc, append-nil, length, take, drop, length-append, arith}
-use Rattle.std.proofs.lemmas.Grind.{fold-append}
-use Rattle.std.proofs.lemmas.List.{get_or-append_right, get_or_append_left, get_or_default, get_or_past, length-map, length-take, take-append-drop, take-map, take_all}
-use Rattle.af_base.proofs.Basics.{within_or_beyond}
-use Rattle.af_base.specs.declared.frame.Frame.{Frame}
-use Rattle.af_base.specs.declared.log.CycleEntry.{CycleEntry}
-use Rattle.af_base.specs.declared.report.Report.{Report}
-use Rattle.af_base.specs.Turn.{Turn}
-use Rattle.af_model.specs.Journals.{EntrySeen, RoundSeen}
-use Rattle.af_model.specs.Reports.{no_report}
-use Rattle.af_runs.proofs.Basics.{calls-entries}
-use Rattle.af_runs.specs.Blocks.{Marks}
-use Rattle.af_runs.specs.Rounds.{before_turn, early_count, found_in, late_of}
-use Rattle.af_runs.specs.Runs.{Run, last_report, next_report, report_of, with_calls, with_cycle, with_cycles, with_looks, with_mix, with_poll}
-use Rattle.af_runs.specs.Sessions.{Session}
+use Rattle.af_judge.proofs.Common.{CycleEntry, EntrySeen, Frame, Marks, Report, RoundSeen, Run, Session, Turn, before_turn, calls-entries, early_count, fold-append, found_in, get_or-append_right, get_or_append_left, get_or_default, get_or_past, last_report, late_of, length-map, length-take, max, min, next_report, no_report, report_of, slice_index_or, take-append-drop, take-map, take_all, with_calls, with_cycle, with_cycles, with_looks, with_mix, with_poll, within_or_beyond}
 use Rattle.af_judge.specs.Entries.{AreNumbered}
 use Rattle.af_judge.specs.EntriesTold.{AreFormed, Playing, entries_leave}
 use Rattle.af_judge.specs.FastKept.{number_found}
@@ -194,10 +180,6 @@ module _ (s : Session) (marks : Marks) (W : ℕ → Type 0) (earlier : List Repo
           ∙ (sym (still-to-come number (min (length late) (number - length run.reports)) far refl) ∙ ap (report_of all) at))
 
 -- ## In a round
-
-calls-reports : (round : RoundSeen) (run : Run) → (with_calls round run).reports ≡ run.reports
-unfolding with_calls
-calls-reports round run = refl
 
 -- what is told before the turn, with the late entries of the round still to come, is what the turn finds
 pub report_found : (s : Session) (marks : Marks) (W : ℕ → Type 0) (frames : List Frame) (p : Playing) (run : Run) (round : RoundSeen) (place : ℕ) (e : Turn) (r : Report) → AreNumbered run → AreFormed frames place (late_of run round)

@@ -1,12 +1,9 @@
 -- The report's cell between two meetings: a load has an order with the stores exactly if its number lies among theirs.
 use Rattle.std.specs.Prelude.{◌↔◌}
 use Rattle.std.proofs.Common.{◌≡◌, ℕ, zero, suc, ◌+◌, ◌-◌, ◌≤◌, List, [], ◌∷◌, length, map, fold, get_or, refl, sym, ap, ◌∙◌, subst, arith}
-use Rattle.af_model.specs.declared.newest.WriterEvent.{WriterEvent}
+use Rattle.af_judge.proofs.Common.{CellPoint, Event, HasOrder, Legal, ReaderEvent, WriterEvent, after, legal, next, one, ones, two, twos}
 use Rattle.af_model.specs.declared.newest.WriterEvent.TheVariants as writes
-use Rattle.af_model.specs.declared.newest.ReaderEvent.{ReaderEvent}
 use Rattle.af_model.specs.declared.newest.ReaderEvent.TheVariants as reads
-use Rattle.af_model.specs.Order.{Event, one, two, ones, twos, Legal, after, HasOrder}
-use Rattle.af_model.specs.NewestValue.{CellPoint, legal, next}
 
 module _ {T : Type 0} where
   default_same : (l : List T) (i : ℕ) (d e : T) → suc i ≤ length l → get_or l i d ≡ get_or l i e

@@ -1,14 +1,7 @@
 -- The tracks served so far, one after the other.
 use Rattle.std.proofs.Common.{◌≡◌, ◌↔◌, ℕ, suc, ◌<◌, Bool, IsTrue, sym, ap, ◌∙◌, subst, List, length, map, arith}
-use Rattle.std.specs.Prelude.{slice_set, slice_index_or}
+use Rattle.af_judge.proofs.Common.{CommandLook, Learnt, LegalTrack, Setup, TrackKept, TrackSeen, TrackTurn, not_yet, nothing_seen, seen_at, served, served_len, served_to, slice_index_or, slice_set, slot_number, track_at, track_seen}
 use Rattle.std.proofs.lemmas.List as lists
-use Rattle.af_base.specs.declared.turn.CommandLook.{CommandLook}
-use Rattle.af_base.specs.declared.turn.TrackTurn.{TrackTurn}
-use Rattle.af_base.specs.Turn.{TrackSeen, track_seen}
-use Rattle.af_life.specs.declared.kept.TrackKept.{TrackKept}
-use Rattle.af_life.specs.Kept.{Setup, Learnt, track_at, slot_number, nothing_seen, seen_at}
-use Rattle.af_life.specs.Serves.{LegalTrack, served, served_to}
-use Rattle.af_life.proofs.Lives.{served_len, not_yet}
 
 -- what a turn did of the track of a number, by the program's list
 pub seen_is : (turns : List TrackTurn) (i : ℕ) (t : TrackTurn) → i < length turns → t ≡ slice_index_or turns i t → seen_at (map track_seen turns) i ≡ track_seen t

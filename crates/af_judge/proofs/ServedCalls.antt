@@ -1,12 +1,7 @@
 -- What is kept of the mixers' sides of a track stays, whatever its client does.
-use Rattle.std.proofs.Common.{◌≡◌, ℕ, List, [], ◌∷◌, ◌++◌, length, drop, refl, sym, ap, ◌∙◌, subst, fold, false}
-use Rattle.af_base.specs.declared.event.ClientCall.{ClientCall}
-use Rattle.af_base.specs.declared.event.ClientEvent.{ClientEvent}
-use Rattle.af_base.specs.declared.event.ServerEvent.{ServerEvent}
-use Rattle.af_model.specs.ServerCalls.{server_begins}
-use Rattle.af_runs.specs.Blocks.{BlockTold, Marks, client_does, client_list, hand_list, server_list}
-use Rattle.af_runs.specs.ClientTurns.{Side, after_calls}
-use Rattle.af_runs.specs.Runs.{TrackTold, called, sides_of, with_side}
+use Rattle.std.proofs.Common.{◌≡◌, ℕ, List, [], ◌∷◌, ◌++◌, length, drop, sym, ap, ◌∙◌, subst, false}
+use Rattle.af_judge.proofs.Common.{BlockTold, ClientCall, ClientEvent, Marks, ServerEvent, Side, TrackTold, after_calls, client_list, server_begins, server_list, sides_of, with_side}
+use Rattle.af_runs.specs.Runs.{called}
 use Rattle.af_judge.specs.declared.track_judge.TrackJudge.{TrackJudge}
 use Rattle.af_judge.specs.Blocks.{AllFollow, BlockJudged, WholeTakes, taken_in}
 use Rattle.af_judge.specs.RunTold.{IsServedBlock, IsServedTrack}

@@ -1,14 +1,6 @@
 -- A track is served exactly if its parts are right.
 use Rattle.std.proofs.Common.{◌≡◌, ◌↔◌, ℕ, Bool, true, false, MatchBool, IsTrue, sym, refl, ap, ◌∙◌, subst, List, Option}
-use Rattle.af_base.specs.declared.turn.CommandLook.{CommandLook}
-use Rattle.af_base.specs.Turn.{TrackSeen}
-use Rattle.af_life.specs.declared.kept.Heard.{Heard}
-use Rattle.af_life.specs.declared.kept.TrackKept.{TrackKept}
-use Rattle.af_life.specs.Heard.{heard, ready}
-use Rattle.af_life.specs.Kept.{Setup, Learnt, track_at, nothing_seen}
-use Rattle.af_life.specs.Obeys.{slot_for}
-use Rattle.af_life.specs.Reports.{told_by_report}
-use Rattle.af_life.specs.Serves.{HasDueLooks, IsServed, LegalTrack, after_commands, after_part, served, status_due, stored_over}
+use Rattle.af_judge.proofs.Common.{CommandLook, HasDueLooks, Heard, IsServed, Learnt, LegalTrack, Setup, TrackKept, TrackSeen, after_commands, after_part, heard, nothing_seen, ready, served, slot_for, status_due, stored_over, told_by_report, track_at}
 
 -- the status of a track after its part of the turn is the one that is due
 part_status : (given : Option ℕ) (h : Heard) (looks : List CommandLook) (s : TrackKept) → (after_part given h looks s).status ≡ status_due given h looks s
@@ -25,10 +17,6 @@ served_by given h seen s word due told stored looks is_due disabled is_told is_w
       (λ (t : IsTrue stored). record { looks = looks.0 is_due; disabled = disabled ∙ is_told; status = status.0 t ∙ over }),
       (λ (x : IsServed given h seen s). status.1 (x.status ∙ sym over)),
     )
-
--- if a track isn't disabled as the report says, it isn't served
-pub untold : (given : Option ℕ) (h : Heard) (seen : TrackSeen) (s : TrackKept) (told : Bool) → (seen.disabled ≡ told → ⊥) → told ≡ told_by_report h.known (after_commands given h seen.looks s).life → IsServed given h seen s → ⊥
-untold given h seen s told other is_told x = other (x.disabled ∙ sym is_told)
 
 -- a track that hasn't ended is to be served
 pub living : (c : Setup) (k : Learnt) (seen : TrackSeen) (tracks : List TrackKept) (i : ℕ) (given : Option ℕ) (h : Heard) (s : TrackKept) (r : Bool)

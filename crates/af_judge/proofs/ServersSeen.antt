@@ -1,9 +1,6 @@
 -- What is kept of some servers, one of which is changed.
-use Rattle.std.specs.Prelude.{slice_get, slice_set}
 use Rattle.std.proofs.Common.{◌≡◌, ℕ, ◌<◌, ◌≤◌, List, length, map, get_or, Option, Some, None, sym, ap, ◌∙◌, subst}
-use Rattle.std.proofs.lemmas.List.{map-set, get_or-map, length-map}
-use Rattle.std.proofs.lemmas.Option.{slice_get-get_or, slice_get_past}
-use Rattle.af_model.specs.Cycles.{Listed}
+use Rattle.af_judge.proofs.Common.{Listed, get_or-map, length-map, map-set, slice_get, slice_get-get_or, slice_get_past, slice_set}
 use Rattle.af_judge.specs.declared.server_judge.ServerJudge.{ServerJudge}
 use Rattle.af_judge.specs.Foresight.{no_server, server_changed, server_of}
 

@@ -1,14 +1,6 @@
 -- What is kept of the queue, the report and the pipe follows some entries, one after the other.
 use Rattle.std.proofs.Common.{◌≡◌, inl, inr, ℕ, ◌+◌, ◌≤◌, true≢false, List, [], ◌∷◌, length, None, sym, ap, ◌∙◌, subst}
-use Rattle.af_base.specs.declared.frame.Frame.{Frame}
-use Rattle.af_base.specs.declared.report.Report.{Report}
-use Rattle.af_base.specs.declared.state.FastState.{FastState}
-use Rattle.af_base.specs.Turn.{Turn}
-use Rattle.af_model.specs.JournalForm.{IsTurn}
-use Rattle.af_model.specs.Journals.{EntrySeen, taken_by}
-use Rattle.af_runs.specs.Blocks.{Marks}
-use Rattle.af_runs.specs.Runs.{Run, with_cycle, with_cycles}
-use Rattle.af_runs.specs.Sessions.{Session}
+use Rattle.af_judge.proofs.Common.{EntrySeen, FastState, Frame, IsTurn, Marks, Report, Run, Session, Turn, taken_by, with_cycle, with_cycles}
 use Rattle.af_judge.specs.Entries.{StandsIn}
 use Rattle.af_judge.specs.EntriesTold.{AreFormed, Playing, entries_leave, entry_leaves}
 use Rattle.af_judge.specs.QueueNumbers.{poll_steps, with_looks}

@@ -1,17 +1,7 @@
 -- What is kept of the queue, the report and the pipe follows a round, and the judge's answer at the meeting is that of the run.
 use Rattle.std.specs.Prelude.{◌↔◌, if◌then◌else◌}
 use Rattle.std.proofs.Common.{◌≡◌, ℕ, ◌≤◌, Bool, true, false, List, length, None, refl, ap, ◌∙◌, arith}
-use Rattle.af_base.specs.declared.frame.Frame.{Frame}
-use Rattle.af_base.specs.Turn.{Turn}
-use Rattle.af_life.specs.Kept.{pipe_size}
-use Rattle.af_model.specs.Journals.{EntrySeen, RoundSeen}
-use Rattle.af_runs.specs.Blocks.{Marks}
-use Rattle.af_runs.specs.Clients.{ends}
-use Rattle.af_runs.specs.Found.{LegalTurnBy, TurnFound}
-use Rattle.af_runs.specs.Rounds.{SharedHistories}
-use Rattle.af_runs.specs.Runs.{Run, each_track, met, new_run, pipe_cells, with_calls, with_cycle, with_ends, with_load, with_mix, with_poll, with_turn}
-use Rattle.af_runs.specs.Sessions.{Session, cycle_frames, setup_of}
-use Rattle.af_runs.specs.Told.{state_at}
+use Rattle.af_judge.proofs.Common.{EntrySeen, Frame, LegalTurnBy, Marks, RoundSeen, Run, Session, SharedHistories, Turn, TurnFound, cycle_frames, each_track, ends, met, new_run, pipe_cells, pipe_size, setup_of, state_at, with_calls, with_cycle, with_ends, with_load, with_mix, with_poll, with_turn}
 use Rattle.af_judge.specs.Entries.{StandsIn}
 use Rattle.af_judge.specs.FastKept.{pipe_played}
 use Rattle.af_judge.specs.PipeKept.{PipeKept, new_pipe, with_meeting}

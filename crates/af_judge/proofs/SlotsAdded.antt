@@ -1,16 +1,6 @@
 -- The slots of a report, added one after the other.
-use Rattle.std.specs.Prelude.{slice_set}
 use Rattle.std.proofs.Common.{◌≡◌, ◌⊎◌, inl, inr, ℕ, ◌+◌, ◌<◌, ◌≤◌, ◌||◌, Bool, true, false, if◌then◌else◌, is_some, List, length, refl, sym, ap, ◌∙◌, subst, arith}
-use Rattle.std.proofs.lemmas.Bool.{cases_lt}
-use Rattle.std.proofs.lemmas.List.{get_or-set_other, get_or-set_same, length-set}
-use Rattle.af_base.specs.declared.log.CycleEntry.{CycleEntry}
-use Rattle.af_base.specs.declared.report.SlotReport.{SlotReport}
-use Rattle.af_base.specs.declared.state.FastState.{FastState}
-use Rattle.af_base.specs.Log.{entry_slot, slots}
-use Rattle.af_model.specs.Cycles.{state_of}
-use Rattle.af_model.specs.Reports.{ServerKnown, counted_look, no_slot, report_at}
-use Rattle.af_model.specs.StateQueue.{carries, slot_of}
-use Rattle.af_runs.specs.Runs.{plays}
+use Rattle.af_judge.proofs.Common.{CycleEntry, FastState, ServerKnown, SlotReport, carries, cases_lt, counted_look, entry_slot, get_or-set_other, get_or-set_same, length-set, no_slot, plays, report_at, slice_set, slot_of, slots, state_of}
 use Rattle.af_judge.specs.Reporting.{CountsUpTo, slot_added}
 
 -- the slots before the one of a number are added, and the others are as before

@@ -1,19 +1,9 @@
 -- A look that answers right by some front answers right by the one that its answer gives.
 use Rattle.std.proofs.Common.{◌≡◌, ◌↔◌, IsTrue, ℕ, ◌+◌, ◌-◌, ◌%◌, ◌<◌, ◌≤◌, ◌^◌, ◌==◌, ◌&&◌, ◌||◌, not, nat_lt, min, Bool, true, false, if◌then◌else◌, MatchOption, Option, Some, None, refl, sym, ap, ◌∙◌, subst, arith, eqb-true, ne_eqb, mod-lt}
-use Rattle.std.proofs.lemmas.Bool.{eqb-false}
-use Rattle.af_base.proofs.Basics.{and_true, is_not_below, not_below_is, or_true}
-use Rattle.af_base.specs.declared.log.SlotEntry.{SlotEntry}
-use Rattle.af_base.specs.declared.seen.Seen.{Seen}
+use Rattle.af_judge.proofs.Common.{IsSeen, Listed, LooksBy, Seen, Shape, SlotEntry, ahead, and_true, behind, both_first, dropped_by, eqb-false, flush_position, flushed_front, front_by_answer, is_not_below, is_noticed, kept, look_at, not_below_is, or_true, past_front, wrapped}
 use Rattle.af_base.specs.declared.seen.Seen.TheVariants as seen
 use Rattle.af_judge.proofs.Basics.{ahead_word, ahead_wrapped}
-use Rattle.af_model.proofs.Basics.{both_first}
-use Rattle.af_model.specs.declared.shape.Shape.{Shape}
-use Rattle.af_model.specs.Cycles.{IsSeen, Listed, LooksBy, kept}
-use Rattle.af_model.specs.Point.{wrapped}
-use Rattle.af_model.specs.Room.{ahead}
-use Rattle.af_model.specs.ServerCalls.{dropped_by, flush_position, is_noticed, look_at, past_front}
 use Rattle.af_judge.specs.Servers.{LooksRightly, front_judged}
-use Rattle.af_runs.specs.Fronts.{behind, flushed_front, front_by_answer}
 
 -- ## Words
 

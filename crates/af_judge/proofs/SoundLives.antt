@@ -1,22 +1,11 @@
 -- What a track's part of a turn changes of its life and of its slot.
 use Rattle.std.proofs.Common.{◌≡◌, ℕ, ◌==◌, ◌⊎◌, Bool, true, false, if◌then◌else◌, true≢false, is_some, sym, refl, ap, ◌∙◌, inl, inr, List, [], ◌∷◌, Option}
-use Rattle.std.specs.List.{AllByRecursion}
-use Rattle.af_base.proofs.Basics.{equal_turned, never_true, no}
-use Rattle.af_base.specs.declared.report.SlotReport.{SlotReport}
-use Rattle.af_base.specs.declared.turn.CommandLook.{CommandLook}
-use Rattle.af_life.proofs.Basics.{all_three, picks}
+use Rattle.af_judge.proofs.Common.{AllByRecursion, Case, CommandLook, Heard, Known, Learnt, Life, Setup, SlotReport, TrackKept, after_looks, after_part, all_three, by_report, commanded, ended, equal_turned, goes_on, heard, is_home, is_reached, is_reported, is_shut, must_wait, never_true, no, noted, obeyed, opens, picks, ready, reports, served, settled_at, shows_command, slot_for, slot_reported, told, track_at}
 use Rattle.af_life.specs.declared.state.LifeState.TheVariants.{Absent}
-use Rattle.af_life.specs.declared.track.Known.{Known}
-use Rattle.af_life.specs.declared.track.Life.{Life}
 use Rattle.af_life.specs.State.{is_among}
 use Rattle.af_life.specs.Commands.{Row, applies, commands, first_effect as command_effect, by_command}
-use Rattle.af_life.specs.Reports.{Case, reports, first_effect as report_effect, by_report}
-use Rattle.af_life.specs.declared.kept.Heard.{Heard}
-use Rattle.af_life.specs.declared.kept.TrackKept.{TrackKept}
-use Rattle.af_life.specs.Kept.{Setup, Learnt, track_at, is_home}
-use Rattle.af_life.specs.Heard.{heard, ready, slot_reported, noted, is_reported, settled_at, is_reached}
-use Rattle.af_life.specs.Obeys.{slot_for, opens, told, must_wait, shows_command, is_shut, obeyed, ended, after_look, goes_on, after_looks, commanded}
-use Rattle.af_life.specs.Serves.{served, after_part}
+use Rattle.af_life.specs.Reports.{first_effect as report_effect}
+use Rattle.af_life.specs.Obeys.{after_look}
 
 -- ## Lives
 

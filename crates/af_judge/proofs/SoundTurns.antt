@@ -1,30 +1,8 @@
 -- A turn of the plain mixer keeps what holds of its slots and its draft, whatever it saw.
 use Rattle.std.proofs.Common.{◌≡◌, ℕ, zero, suc, ◌≤◌, Bool, true, false, if◌then◌else◌, true≢false, sym, refl, ap, subst, ◌∙◌, List, [], ◌∷◌, length, fold, inl, replicate, All, arith}
-use Rattle.af_base.proofs.Basics.{and_none, no}
-use Rattle.af_base.specs.declared.state.Command.{Command}
-use Rattle.af_base.specs.declared.state.FastState.{FastState}
-use Rattle.af_base.specs.declared.state.Push.{Push}
-use Rattle.af_base.specs.declared.state.Push.TheVariants.{Pushed, Clean, Busy}
-use Rattle.af_base.specs.Turn.{Turn}
-use Rattle.af_life.proofs.Basics.{at_new, either, has_slot, returning_away, scale_fits, set_each, slot_is, sound_ordered, welcomed_at}
-use Rattle.af_life.specs.declared.kept.Holder.TheVariants.{Home}
-use Rattle.af_life.specs.declared.kept.Setting.{Setting}
-use Rattle.af_life.specs.declared.kept.TrackKept.{TrackKept}
-use Rattle.af_life.specs.Kept.{Setup, asked, NormalKept, Learnt, track_at, new_normal, is_home, is_returning}
-use Rattle.af_life.specs.Obeys.{holds}
-use Rattle.af_life.specs.Edits.{comes_home, welcomed, after_ack, must_leave, must_enter, let_go, lend, edited, edited_to, ordered, mutated, after_push}
-use Rattle.af_life.specs.Plays.{after_takes}
-use Rattle.af_life.specs.Sound.{IsSlotted, IsDrafted, IsSound}
-use Rattle.af_life.specs.Turn.{after_tracks, after_edits, turn_after}
-use Rattle.af_model.proofs.Basics.{both_first}
-use Rattle.af_model.specs.Draft.{initial}
-use Rattle.af_model.specs.StateQueue.{IsState}
-use Rattle.af_base.specs.Turn.{TakeSeen}
-use Rattle.af_life.specs.Plays.{after_take, counted}
-use Rattle.af_life.specs.Kept.{new_track}
+use Rattle.af_judge.proofs.Common.{Busy, Clean, Command, FastState, Home, IsDrafted, IsSlotted, IsSound, IsState, Learnt, NormalKept, Push, Pushed, Setting, Setup, TakeSeen, TrackKept, Turn, acked_len, after_ack, after_edits, after_push, after_take, after_takes, after_tracks, and_none, asked, at_new, both_first, comes_home, counted, edited, edited_to, edits_len, either, has_slot, holds, initial, is_home, is_returning, lend, let_go, must_enter, must_leave, mutated, new_normal, new_track, no, ordered, returning_away, scale_fits, served_len, set_each, slot_is, sound_ordered, track_at, turn_after, welcomed, welcomed_at}
 use Rattle.af_judge.proofs.DraftBits.{initial_state}
 use Rattle.af_judge.proofs.SoundSlots.{alone_set}
-use Rattle.af_life.proofs.Lives.{acked_len, served_len, edits_len}
 use Rattle.af_judge.proofs.SoundEdits.{comer_inside, sound_go, sound_lend}
 use Rattle.af_judge.proofs.SoundSlots.{sound_served}
 

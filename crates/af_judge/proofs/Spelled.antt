@@ -1,17 +1,8 @@
 -- The lists of a client that keeps to its calls.
-use Rattle.std.proofs.Common.{Bool, true, false, if◌then◌else◌, ℕ, fold, List, [], ◌∷◌, sym, subst}
-use Rattle.af_base.specs.declared.event.ClientCall.{ClientCall}
-use Rattle.af_base.specs.declared.event.ClientEvent.{ClientEvent}
-use Rattle.af_base.specs.declared.event.HandEvent.{HandEvent}
-use Rattle.af_base.specs.declared.event.ServerEvent.{ServerEvent}
-use Rattle.af_model.specs.declared.shape.Shape.{Shape}
-use Rattle.af_model.specs.ClientCalls.{IsClientList}
+use Rattle.std.proofs.Common.{Bool, true, false, if◌then◌else◌, ℕ, fold, List, [], ◌∷◌}
+use Rattle.af_judge.proofs.Common.{AnswersOn, BlockTold, ClientCall, LegalClientTurn, Side, Track, after_call, after_calls, called, client_list, is_of_commands, released_by, stream_met}
 use Rattle.af_model.specs.ClientCalls as list
-use Rattle.af_runs.specs.Blocks.{BlockTold, client_list, hand_does, server_does}
-use Rattle.af_runs.specs.ClientTurns.{AnswersOn, LegalClientTurn, Side, Track, after_call, after_calls, called, is_of_commands, released_by}
-use Rattle.af_runs.specs.Runs.{stream_met}
 use Rattle.af_judge.specs.Tracks.{AreMade, AreSpelled, IsCallOf, IsSpelled}
-use Rattle.af_judge.proofs.BlocksTold.{hand-client, server-client}
 use Rattle.af_judge.proofs.TurnCalls.{turn_makes}
 
 spelled-side : (b : Side) (answer : ClientCall) (asked : ℕ) (words : List ℕ) → IsSpelled b.shape b.events → AnswersOn b asked answer → IsSpelled b.shape (called answer words b).events
@@ -32,13 +23,6 @@ spelled-calls t (c ∷ calls) h made = spelled-calls (after_call t c) calls (spe
 -- a legal turn keeps both spelled
 pub spelled_turn : (t : Track) (calls : List ClientCall) → AreSpelled t → LegalClientTurn t calls → AreSpelled (after_calls t calls)
 spelled_turn t calls h legal = let s = spelled-calls t calls h (turn_makes t calls legal).made in record { stream = s.stream; commands = s.commands }
-
--- the server's events leave the client's list spelled
-pub spelled_server : (b : BlockTold) (es : List ServerEvent) → IsSpelled b.shape (client_list b) → IsSpelled b.shape (client_list (server_does es b))
-spelled_server b es h = subst (IsSpelled b.shape) (sym (server-client b.told es)) h
-
-pub spelled_hand : (b : BlockTold) (es : List HandEvent) → IsSpelled b.shape (client_list b) → IsSpelled b.shape (client_list (hand_does es b))
-spelled_hand b es h = subst (IsSpelled b.shape) (sym (hand-client b.told es)) h
 
 -- the meetings leave the client's list spelled
 pub spelled_met : (server_there hand_there : Bool) (b : BlockTold) → IsSpelled b.shape (client_list b) → IsSpelled b.shape (client_list (stream_met server_there hand_there b))

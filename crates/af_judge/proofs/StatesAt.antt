@@ -1,7 +1,6 @@
 -- The state of a number is the one at the place before it.
 use Rattle.std.proofs.Common.{◌≡◌, ◌⊎◌, inl, inr, ℕ, zero, suc, ◌-◌, ◌<◌, ◌≤◌, List, [], ◌∷◌, length, get_or, Some, None, refl, sym, ap, ◌∙◌, arith}
-use Rattle.af_base.specs.declared.state.FastState.{FastState}
-use Rattle.af_model.specs.Cycles.{state_of}
+use Rattle.af_judge.proofs.Common.{FastState, state_of}
 
 at_next : (xs : List FastState) (j : ℕ) (d : FastState) → j < length xs → Some (get_or xs j d) ≡ state_of xs (suc j)
 at_next [] j d h = absurd (omega arith)

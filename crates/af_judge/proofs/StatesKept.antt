@@ -1,26 +1,6 @@
 -- The states that a normal mixer of a run pushed fit, whatever it did.
 use Rattle.std.proofs.Common.{◌≡◌, ℕ, zero, suc, ◌+◌, ◌<◌, ◌≤◌, false, if◌then◌else◌, sym, refl, ap, subst, ◌∙◌, inl, inr, List, [], ◌∷◌, ◌++◌, length, All, append-nil, ⊎_elim, Option, Some, unwrap_or, arith}
-use Rattle.std.proofs.lemmas.Bool.{cases_eq, cases_lt}
-use Rattle.std.proofs.lemmas.List.{length-append, length-map, length-replicate}
-use Rattle.af_base.proofs.Basics.{no}
-use Rattle.af_base.specs.declared.state.FastState.{FastState}
-use Rattle.af_base.specs.declared.state.Push.{Push}
-use Rattle.af_base.specs.declared.state.Push.TheVariants.{Pushed, Clean, Busy}
-use Rattle.af_base.specs.Turn.{Turn}
-use Rattle.af_life.proofs.Basics.{takes_len}
-use Rattle.af_life.specs.declared.kept.Setting.{Setting}
-use Rattle.af_life.specs.Edits.{after_push}
-use Rattle.af_life.specs.Kept.{Learnt, NormalKept, Setup, asked, new_normal, new_track}
-use Rattle.af_life.specs.Plays.{after_takes}
-use Rattle.af_life.specs.Turn.{after_edits, turn_after}
-use Rattle.af_life.proofs.Lives.{turn_len}
-use Rattle.af_model.proofs.Basics.{same_before}
-use Rattle.af_model.specs.Cycles.{state_of}
-use Rattle.af_model.specs.Draft.{initial}
-use Rattle.af_model.specs.JournalForm.{IsTurn}
-use Rattle.af_model.specs.StateQueue.{IsState, carries, slot_of}
-use Rattle.af_runs.specs.Sessions.{Session, cycle_frames, setup_of, spec_setting, track_count}
-use Rattle.af_runs.specs.Told.{is_pushed, state_at}
+use Rattle.af_judge.proofs.Common.{Busy, Clean, FastState, IsState, IsTurn, Learnt, NormalKept, Push, Pushed, Session, Setting, Setup, Turn, after_edits, after_push, after_takes, asked, carries, cases_eq, cases_lt, cycle_frames, initial, is_pushed, length-append, length-map, length-replicate, new_normal, new_track, no, same_before, setup_of, slot_of, spec_setting, state_at, state_of, takes_len, track_count, turn_after, turn_len}
 use Rattle.af_judge.specs.Entries.{CarriesApart, CarriesWithin}
 use Rattle.af_judge.specs.QueueTold.{Follow}
 use Rattle.af_judge.specs.StatesKept.{Carried, SameSlots, StatesKept}

@@ -1,18 +1,6 @@
 -- The states that the normal mixer of a run pushed fit after each step of a round: its turn alone changes them.
 use Rattle.std.proofs.Common.{◌≡◌, ℕ, ◌≤◌, sym, Bool, true, false, if◌then◌else◌, refl, subst, ◌∙◌, List, All, Option, None, Some}
-use Rattle.std.specs.Prelude.{MatchOption}
-use Rattle.std.proofs.lemmas.List.Elements.{All-map, All-weaker}
-use Rattle.af_base.specs.declared.state.FastState.{FastState}
-use Rattle.af_base.specs.Turn.{Turn}
-use Rattle.af_life.specs.declared.kept.Setting.{Setting}
-use Rattle.af_life.specs.Heard.{learnt}
-use Rattle.af_life.specs.Kept.{NormalKept}
-use Rattle.af_model.specs.JournalForm.{IsTurn}
-use Rattle.af_model.specs.Journals.{EntrySeen, RoundSeen}
-use Rattle.af_runs.specs.Found.{TurnFound, outside_of}
-use Rattle.af_runs.specs.Rounds.{after_round, after_turn, all_played, before_turn, early_of, found_in, late_of, loaded, met_after, turned}
-use Rattle.af_runs.specs.Runs.{Run, met, new_run, with_calls, with_cycles, with_ends, with_load, with_turn}
-use Rattle.af_runs.specs.Sessions.{Session, setup_of, spec_setting}
+use Rattle.af_judge.proofs.Common.{All-map, All-weaker, EntrySeen, FastState, IsTurn, MatchOption, NormalKept, RoundSeen, Run, Session, Setting, Turn, TurnFound, after_round, after_turn, all_played, before_turn, early_of, found_in, late_of, learnt, loaded, met, met_after, new_run, outside_of, setup_of, spec_setting, turned, with_calls, with_cycles, with_ends, with_load, with_turn}
 use Rattle.af_script.specs.declared.track.TrackSpec.{TrackSpec}
 use Rattle.af_script.specs.Form.{IsScript, IsTrack}
 use Rattle.af_judge.specs.Entries.{CarriesWithin}

@@ -1,25 +1,10 @@
 -- What is kept of a block of a run after each step of its parties.
 use Rattle.std.proofs.Common.{◌≡◌, ℕ, ◌-◌, ◌==◌, Bool, true, false, if◌then◌else◌, is_some, fold, List, [], ◌∷◌, ◌++◌, length, take, drop, refl, sym, ap, ◌∙◌, subst, arith, append-nil}
-use Rattle.std.proofs.lemmas.Grind.{fold-append}
-use Rattle.std.proofs.lemmas.List.{take_all, drop_all}
-use Rattle.af_base.specs.declared.event.ClientEvent.{ClientEvent}
+use Rattle.af_judge.proofs.Common.{BlockTold, ClientEvent, CommandLook, Seen, ServerEvent, ServerKept, Shape, SlotEntry, after_look, as_slot, client_does, client_list, command_events, count_seen, cycle_events, drop_all, fold-append, front_of, hand_list, kept, listed, look_events, meets, meets_flag, server_begins, server_does, server_keeps, server_kept, server_list, shows_command, stream_met, take_all, took}
 use Rattle.af_base.specs.declared.event.ClientEvent.TheVariants as client
 use Rattle.af_base.specs.declared.event.HandEvent.TheVariants as hand
-use Rattle.af_base.specs.declared.event.ServerEvent.{ServerEvent}
 use Rattle.af_base.specs.declared.event.ServerEvent.TheVariants as server
-use Rattle.af_base.specs.declared.log.SlotEntry.{SlotEntry}
-use Rattle.af_base.specs.declared.seen.Seen.{Seen}
 use Rattle.af_base.specs.declared.seen.Seen.TheVariants as seen
-use Rattle.af_base.specs.declared.turn.CommandLook.{CommandLook}
-use Rattle.af_base.specs.Log.{count_seen}
-use Rattle.af_life.specs.Looks.{as_slot, command_events}
-use Rattle.af_life.specs.Obeys.{shows_command}
-use Rattle.af_model.specs.declared.shape.Shape.{Shape}
-use Rattle.af_model.specs.Cycles.{after_look, cycle_events, kept}
-use Rattle.af_model.specs.ServerCalls.{ServerKept, look_events, server_begins, server_keeps, server_kept}
-use Rattle.af_runs.specs.Blocks.{BlockTold, client_does, client_list, hand_list, listed, meets, meets_flag, server_does, server_list, took}
-use Rattle.af_runs.specs.Fronts.{front_of}
-use Rattle.af_runs.specs.Runs.{stream_met}
 use Rattle.af_judge.specs.declared.words_judge.Taken.{Taken}
 use Rattle.af_judge.specs.Blocks.{AllFollow, BlockJudged, IsBlockOf, WholeTakes, client_more, commanded_told, hand_met, hand_more, parties_met, placed_from, played_told, server_more, servers_met, taken_in}
 use Rattle.af_judge.proofs.BlocksTold.{block-same, client_told, hand_told, server_told}
@@ -90,27 +75,18 @@ look_by was_shut sight flush rear front = if was_shut then [] else look_events s
 look-whole : (was_shut : Bool) (sight : Seen) (flush rear front : ℕ) (more : List ServerEvent) (words : List ℕ) → WholeTakes more words → WholeTakes (look_by was_shut sight flush rear front ++ more) words
 look-whole true sight flush rear front more words h = h
 look-whole false (seen.Flushed dropped) flush rear front more words h = h
-look-whole false seen.Absent flush rear front more words h = h
-look-whole false (seen.Frames count) flush rear front more words h = h
-look-whole false seen.Empty flush rear front more words h = h
-look-whole false (seen.Shut f r) flush rear front more words h = h
+look-whole false _ flush rear front more words h = h
 
 look-follow : (was_shut : Bool) (sight : Seen) (flush rear front : ℕ) (more : List ServerEvent) → ((last : Bool) → AllFollow last more) → (last : Bool) → AllFollow last (look_by was_shut sight flush rear front ++ more)
 look-follow true sight flush rear front more h last = h last
 look-follow false (seen.Flushed dropped) flush rear front more h last = (tt, (tt, (tt, (refl, h false))))
-look-follow false seen.Absent flush rear front more h last = (tt, (tt, (tt, h true)))
-look-follow false (seen.Frames count) flush rear front more h last = (tt, (tt, (tt, h true)))
-look-follow false seen.Empty flush rear front more h last = (tt, (tt, (tt, h true)))
-look-follow false (seen.Shut f r) flush rear front more h last = (tt, (tt, (tt, h true)))
+look-follow false _ flush rear front more h last = (tt, (tt, (tt, h true)))
 
 look-taken : (shape : Shape) (k : ServerKept) (was_shut : Bool) (sight : Seen) (flush rear front : ℕ) (more : List ServerEvent) (words : List ℕ)
     → taken_in shape (fold (server_keeps shape) k (look_by was_shut sight flush rear front)) more words ≡ taken_in shape k (look_by was_shut sight flush rear front ++ more) words
 look-taken shape k true sight flush rear front more words = refl
 look-taken shape k false (seen.Flushed dropped) flush rear front more words = refl
-look-taken shape k false seen.Absent flush rear front more words = refl
-look-taken shape k false (seen.Frames count) flush rear front more words = refl
-look-taken shape k false seen.Empty flush rear front more words = refl
-look-taken shape k false (seen.Shut f r) flush rear front more words = refl
+look-taken shape k false _ flush rear front more words = refl
 
 -- a mixer's look at a stream block, with as many words as it shows
 pub played_kept : (j : BlockJudged) (b : BlockTold) (asked : ℕ) (slot : SlotEntry) (words : List ℕ) → IsBlockOf j b → length words ≡ count_seen slot.seen

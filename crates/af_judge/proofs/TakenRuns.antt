@@ -1,12 +1,9 @@
 -- Words that are taken in runs: those released from a place on.
-use Rattle.std.proofs.Common.{◌≡◌, ℕ, zero, suc, ◌+◌, ◌<◌, ◌≤◌, min, List, [], ◌∷◌, ◌++◌, length, take, drop, All, Some, slice_get, refl, sym, ap, ◌∙◌, subst, arith, append-nil, length-append, length-drop, length-take-le}
-use Rattle.std.proofs.lemmas.List.{drop-append-le, take-append-le, take_all}
-use Rattle.std.proofs.lemmas.List.Concat.{flat_map-append}
-use Rattle.std.proofs.lemmas.List.Elements.{All-append, All-cons, All-head, All-nil, All-tail}
-use Rattle.af_base.proofs.Basics.{get_front, same_slot}
+use Rattle.std.proofs.Common.{◌≡◌, ℕ, zero, suc, ◌+◌, ◌<◌, ◌≤◌, min, List, [], ◌∷◌, ◌++◌, length, take, drop, All, Some, slice_get, refl, sym, ap, ◌∙◌, subst, arith, length-drop, length-take-le}
+use Rattle.af_judge.proofs.Common.{All-append, All-cons, All-head, All-nil, All-tail, drop-append-le, same_slot, take-append-le, take_all}
 use Rattle.af_judge.specs.declared.words_judge.Run.{Run}
 use Rattle.af_judge.specs.declared.words_judge.Taken.{Taken}
-use Rattle.af_judge.specs.Blocks.{AreWords, IsReleased, IsRunOf, LiesWithin, placed_from, run_words, runs_words}
+use Rattle.af_judge.specs.Blocks.{IsReleased, LiesWithin, placed_from, run_words, runs_words}
 use Rattle.af_judge.specs.Servers.{most_counted}
 use Rattle.af_judge.proofs.Placed.{all_ends}
 
@@ -52,11 +49,6 @@ released-placed released place (w ∷ words) short within is =
 
 -- ## Words released later
 
-released-more : (released more : List ℕ) (taken : List Taken) → All (IsReleased released) taken → All (IsReleased (released ++ more)) taken
-released-more released more [] all = All-nil (IsReleased (released ++ more))
-released-more released more (t ∷ taken) all =
-    All-cons (IsReleased (released ++ more)) t taken (get_front released more t.at t.word (All-head (IsReleased released) t taken all)) (released-more released more taken (All-tail (IsReleased released) t taken all))
-
 run-stays : (released more : List ℕ) (r : Run) → LiesWithin released r → run_words (released ++ more) r ≡ run_words released r
 run-stays released more r within =
     let long : r.count ≤ length (drop r.at released) = (let a = length-drop r.at released in omega (arith, a, within)) in
@@ -69,37 +61,6 @@ runs-stay released more (r ∷ runs) within =
     let one = run-stays released more r (All-head (LiesWithin released) r runs within) in
     let rest = runs-stay released more runs (All-tail (LiesWithin released) r runs within) in
     λ i. one i ++ rest i
-
-runs-within : (released more : List ℕ) (runs : List Run) → All (LiesWithin released) runs → All (LiesWithin (released ++ more)) runs
-runs-within released more [] within = All-nil (LiesWithin (released ++ more))
-runs-within released more (r ∷ runs) within =
-    let here : LiesWithin released r = All-head (LiesWithin released) r runs within in
-    All-cons (LiesWithin (released ++ more)) r runs (let a = length-append released more in omega (arith, a, here)) (runs-within released more runs (All-tail (LiesWithin released) r runs within))
-
--- when more words are released
-pub are-more : (released more : List ℕ) (runs : List Run) (taken : List Taken) (known : ℕ) → AreWords released runs taken known → AreWords (released ++ more) runs taken known
-are-more released more runs taken known w = record { within = runs-within released more runs w.within; few = w.few; are = released-more released more (take known taken) w.are }
-
--- ## One word more, and one run more
-
--- a word by itself
-pub are-one : (released : List ℕ) (runs : List Run) (taken : List Taken) (t : Taken) (known : ℕ) → AreWords released runs taken known → AreWords released runs (taken ++ t ∷ []) known
-are-one released runs taken t known w = record { within = w.within; few = (let a = length-append taken (t ∷ []) in let b = w.few in omega (arith, a, b)); are = subst (All (IsReleased released)) (sym (take-append-le known taken (t ∷ []) w.few)) w.are }
-
--- a run
-pub are-run : (released : List ℕ) (runs : List Run) (taken : List Taken) (r : Run) (known : ℕ) → LiesWithin released r → AreWords released runs taken known → AreWords released (runs ++ r ∷ []) taken known
-are-run released runs taken r known within w = record { within = All-append (LiesWithin released) runs (r ∷ []) w.within (All-cons (LiesWithin released) r [] within (All-nil (LiesWithin released))); few = w.few; are = w.are }
-
--- what a run takes, if no word stands by itself
-pub run-told : (released : List ℕ) (runs : List Run) (taken : List Taken) (r : Run) (at : ℕ) (words : List ℕ) → taken ≡ [] → IsRunOf released at words r → runs_words released (runs ++ r ∷ []) ++ taken ≡ (runs_words released runs ++ taken) ++ placed_from at words
-run-told released runs taken r at words none is =
-    let one : run_words released r ≡ placed_from at words = ap (placed_from r.at) (sym is.words_are) ∙ ap (λ (n : ℕ). placed_from n words) is.place in
-    let here = runs_words released runs in
-    ap (λ (ts : List Taken). runs_words released (runs ++ r ∷ []) ++ ts) none
-    ∙ (append-nil (runs_words released (runs ++ r ∷ []))
-    ∙ (flat_map-append (run_words released) runs (r ∷ [])
-    ∙ (ap (λ (ts : List Taken). here ++ ts) (append-nil (run_words released r) ∙ one)
-    ∙ (ap (λ (ts : List Taken). ts ++ placed_from at words) (sym (append-nil here)) ∙ ap (λ (ts : List Taken). (here ++ ts) ++ placed_from at words) (sym none)))))
 
 -- ## All words taken
 

@@ -1,11 +1,6 @@
 -- The tracks of takes, and those that are due.
 use Rattle.std.proofs.Common.{◌≡◌, ◌↔◌, ℕ, zero, suc, ◌+◌, ◌-◌, ◌<◌, ◌≤◌, ◌==◌, Bool, false, IsTrue, refl, sym, ap, ◌∙◌, List, [], ◌∷◌, length, map, true≢false, eqb-true, eq-eqb, arith}
-use Rattle.std.specs.List.{filter, range_with_len}
-use Rattle.af_base.specs.declared.turn.NormalTake.{NormalTake}
-use Rattle.af_base.specs.Turn.{TakeSeen, take_seen}
-use Rattle.af_life.specs.declared.kept.TrackKept.{TrackKept}
-use Rattle.af_life.specs.Kept.{track_at}
-use Rattle.af_life.specs.Plays.{is_mixed_here, mixed_here}
+use Rattle.af_judge.proofs.Common.{NormalTake, TakeSeen, TrackKept, filter, is_mixed_here, mixed_here, range_with_len, take_seen, track_at}
 use Rattle.af_judge.specs.NormalChanges.{tracks_from, with_due}
 
 -- the takes as a turn has them

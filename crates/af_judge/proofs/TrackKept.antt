@@ -1,15 +1,7 @@
 -- What is kept of a track after a call and after a turn.
 use Rattle.std.proofs.Common.{◌≡◌, inl, inr, ne_eqb, ℕ, ◌+◌, ◌-◌, ◌<◌, ◌≤◌, ◌==◌, MatchBool, fold, arith, get_or, Bool, true, false, if◌then◌else◌, is_some, List, [], ◌∷◌, ◌++◌, length, take, drop, map, refl, ap, sym, ◌∙◌, subst}
-use Rattle.std.proofs.lemmas.List.{take_all, take_more, take-map, drop-map}
-use Rattle.af_base.specs.declared.event.ClientCall.{ClientCall}
+use Rattle.af_judge.proofs.Common.{Client, ClientCall, ClientEvent, Frame, LegalClientTurn, Op, Side, Track, after_call, after_calls, at_next_turn, begun, called, client_call_events, client_kept, drop-map, is_of_commands, most_calls, next_want, packed_word, released_by, take-map, take_more, wanted_of}
 use Rattle.af_base.specs.declared.event.ClientCall.TheVariants as call
-use Rattle.af_base.specs.declared.event.ClientEvent.{ClientEvent}
-use Rattle.af_base.specs.declared.frame.Frame.{Frame}
-use Rattle.af_base.specs.Sample.{packed_word}
-use Rattle.af_model.specs.ClientCalls.{client_call_events, client_kept}
-use Rattle.af_script.specs.declared.op.Op.{Op}
-use Rattle.af_runs.specs.Clients.{Client, at_next_turn, begun, next_want}
-use Rattle.af_runs.specs.ClientTurns.{LegalClientTurn, Side, Track, after_call, after_calls, most_calls, called, is_of_commands, released_by, wanted_of}
 use Rattle.af_runs.specs.Kept.{client_of}
 use Rattle.af_judge.specs.declared.track_judge.TrackJudge.{TrackJudge}
 use Rattle.af_judge.specs.Blocks.{BlockJudged, client_more, released_more}
@@ -23,18 +15,7 @@ words_from frames at count = sym (ap (take count) (drop-map packed_word at frame
 
 words-released : (t : Track) (answer : ClientCall) → words_by (length t.stream.released) t.file answer ≡ released_by t answer
 words-released t (call.Put front count) = refl
-words-released t (call.Full front) = refl
-words-released t (call.Dead flags) = refl
-words-released t (call.Corrupt front rear) = refl
-words-released t (call.Cleared flags) = refl
-words-released t (call.Flush count) = refl
-words-released t (call.Gain word) = refl
-words-released t (call.Sent front code argument) = refl
-words-released t (call.SendFull front) = refl
-words-released t (call.SendDead flags) = refl
-words-released t (call.SendCorrupt front rear) = refl
-words-released t (call.Status word) = refl
-words-released t (call.Poke command word value) = refl
+words-released t _ = refl
 
 side-more : (b : BlockJudged) (s : Side) (answer : ClientCall) (was_shut : Bool) (words more : List ℕ) → IsSideOf b s → was_shut ≡ is_some (client_kept s.shape.frames s.shape.base s.events).shut → words ≡ more
     → IsSideOf (released_more words (client_more (client_call_events was_shut answer) b)) (called answer more s)
@@ -68,20 +49,6 @@ sides_told t answer sides j k file was_shut released file_is h kept shut words t
     subst (λ (x : TrackJudge). AreSides x (after_call t answer)) (sym told) both
 
 -- ## The end of a turn
-
--- a turn that was cut after its last call
-pub cut_kept : (ops : List Op) (j : TrackJudge) (d : ClientJudged) (t : Track) (count : ℕ) → KeepsTrack ops j t → count ≡ 64 → client_of ops d.client ≡ at_next_turn true (client_of ops j.client.client) → d.sides ≡ j.client.sides
-    → KeepsTrack ops (record j { client = d }) (ended_after count t)
-cut_kept ops j d t count h cut client sides =
-    let cut_is : (count == 64) ≡ true = ap (λ (n : ℕ). n == 64) cut in
-    record {
-      client = record {
-        client = client ∙ ap (λ (x : Bool × Client). at_next_turn x.0 x.1) (λ i. ((sym cut_is) i, h.client.client i));
-        sides = sides ∙ h.client.sides;
-      };
-      stream = h.stream;
-      commands = h.commands;
-    }
 
 -- what is kept of a client that ended its turn since nothing was wanted
 pub rest_kept : (ops : List Op) (j : TrackJudge) (d : ClientJudged) (t : Track) (count : ℕ) → KeepsTrack ops j t → (count == 64) ≡ false → client_of ops d.client ≡ at_next_turn false (client_of ops j.client.client) → d.sides ≡ j.client.sides
@@ -142,10 +109,6 @@ pub makes_none : (ops : List Op) (file : List ℕ) (calls : List ClientCall) (at
 makes_none ops file calls at answer d j k inside is before none t long h made =
     let sofar = take at calls in
     none (fold after_call t sofar) (fold-file t sofar ∙ long) (before t long h).1 (made_at t calls at answer d inside is made)
-
--- all calls are made
-pub makes_all : (ops : List Op) (calls : List ClientCall) (at : ℕ) (k : TrackJudge) (t : Track) → length calls ≤ at → AreMade t (take at calls) × KeepsTrack ops k (fold after_call t (take at calls)) → AreMade t calls × KeepsTrack ops k (fold after_call t calls)
-makes_all ops calls at k t all h = let P : List ClientCall → Type 0 = λ cs. AreMade t cs × KeepsTrack ops k (fold after_call t cs) in subst P (take_all at calls all) h
 
 -- ## The turn
 

@@ -1,13 +1,6 @@
 -- What is kept of a track of a run follows a turn of its client.
 use Rattle.std.proofs.Common.{◌≡◌, Bool, true, false, if◌then◌else◌, fold, ℕ, List, [], ◌∷◌, ◌++◌, length, drop, refl, sym, ap, ◌∙◌, subst, append_assoc, append-nil}
-use Rattle.std.proofs.lemmas.List.{drop_at}
-use Rattle.af_base.specs.declared.event.ClientCall.{ClientCall}
-use Rattle.af_base.specs.declared.event.ClientEvent.{ClientEvent}
-use Rattle.af_model.specs.ClientCalls.{client_events_of}
-use Rattle.af_script.specs.declared.op.Op.{Op}
-use Rattle.af_runs.specs.Blocks.{BlockTold, client_does, client_list}
-use Rattle.af_runs.specs.ClientTurns.{Side, Track, after_call, after_calls, called, is_of_commands, released_by}
-use Rattle.af_runs.specs.Runs.{TrackTold, side_of, sides_of, with_side}
+use Rattle.af_judge.proofs.Common.{BlockTold, ClientCall, ClientEvent, Op, Side, Track, TrackTold, after_call, after_calls, called, client_does, client_events_of, client_list, drop_at, is_of_commands, released_by, side_of, sides_of, with_side}
 use Rattle.af_runs.specs.Runs as run
 use Rattle.af_judge.specs.declared.track_judge.TrackJudge.{TrackJudge}
 use Rattle.af_judge.specs.Blocks.{BlockJudged, IsBlockOf, client_more, released_more}

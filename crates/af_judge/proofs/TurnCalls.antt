@@ -1,10 +1,6 @@
 -- Calls that are made one after the other, and the turn that they are.
 use Rattle.std.proofs.Common.{◌≡◌, inl, inr, ℕ, zero, suc, ◌-◌, ◌<◌, ◌≤◌, Bool, true, false, MatchBool, fold, List, [], ◌∷◌, ◌++◌, length, take, get_or, None, refl, sym, subst, arith}
-use Rattle.std.proofs.lemmas.Grind.{fold-append}
-use Rattle.af_base.proofs.Basics.{or_right}
-use Rattle.af_base.specs.declared.event.ClientCall.{ClientCall}
-use Rattle.af_runs.proofs.Basics.{halted_none}
-use Rattle.af_runs.specs.ClientTurns.{AreCalls, LegalClientTurn, Track, after_call, most_calls, wanted_of}
+use Rattle.af_judge.proofs.Common.{AreCalls, ClientCall, LegalClientTurn, Track, after_call, fold-append, halted_none, most_calls, or_right, wanted_of}
 use Rattle.af_judge.specs.Tracks.{AreMade, Ends, IsCallOf}
 
 -- one call more is made

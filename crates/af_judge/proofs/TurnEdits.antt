@@ -1,20 +1,9 @@
 -- What a turn's edits leave follows from the draft before the turn and after it.
 use Rattle.std.proofs.Common.{◌≡◌, ℕ, zero, suc, ◌+◌, ◌≤◌, ◌==◌, ◌||◌, not, Bool, true, false, nat_lt, if◌then◌else◌, cond, refl, sym, ap, ◌∙◌, List, [], ◌∷◌, length, fold, arith, eq-eqb}
-use Rattle.std.specs.Prelude.{slice_set}
-use Rattle.std.specs.List.{filter, range_with_len}
-use Rattle.std.proofs.lemmas.Bool.Decides.{nat_tests}
-use Rattle.af_base.proofs.Basics.{or_false, or_true}
-use Rattle.af_base.specs.declared.state.Command.{Command}
-use Rattle.af_base.specs.declared.state.Push.{Push}
+use Rattle.af_judge.proofs.Common.{Command, Learnt, NormalKept, Push, Setup, TakeSeen, TrackKept, Turn, after_ack, after_edits, after_push, after_take, after_tracks, edited, edited_to, filter, is_mixed_here, lend, let_go, mixed_here, must_enter, must_leave, mutated, nat_tests, next_command, or_false, or_true, ordered, pipe_size, range_with_len, slice_set, takes_len, track_at}
 use Rattle.af_base.specs.Command.{code_of}
-use Rattle.af_base.specs.Turn.{Turn, TakeSeen}
 use Rattle.af_judge.proofs.Basics.{push_tracks}
-use Rattle.af_life.proofs.Basics.{takes_len}
-use Rattle.af_life.specs.declared.kept.TrackKept.{TrackKept}
-use Rattle.af_life.specs.Kept.{Setup, NormalKept, Learnt, pipe_size, track_at}
-use Rattle.af_life.specs.Edits.{after_ack, is_exit, must_leave, must_enter, let_go, lend, edited, edited_to, next_command, ordered, mutated, after_push}
-use Rattle.af_life.specs.Plays.{is_mixed_here, mixed_here, after_take}
-use Rattle.af_life.specs.Turn.{after_tracks, after_edits}
+use Rattle.af_life.specs.Edits.{is_exit}
 use Rattle.af_judge.specs.NormalChanges.{is_edited}
 
 -- the tracks of `x` may have been edited since `m`, but not its command

@@ -1,20 +1,6 @@
 -- A turn is right as it is judged exactly if it is legal by what it found.
 use Rattle.std.proofs.Common.{◌≡◌, ◌↔◌, ℕ, ◌+◌, ◌^◌, ◌<◌, ◌≤◌, nat_lt, Bool, true, false, true≢false, MatchBool, cond, refl, sym, ap, ◌∙◌, subst, List, [], ◌∷◌, length, eq-eqb, arith}
-use Rattle.std.specs.List.{AllByRecursion}
-use Rattle.std.proofs.lemmas.Bool.Decides.{nat_tests}
-use Rattle.std.proofs.Math.ListN.{get_or-eq_default}
-use Rattle.af_base.proofs.Basics.{less_differs}
-use Rattle.af_base.specs.declared.log.SlotEntry.{SlotEntry}
-use Rattle.af_base.specs.Turn.{Turn, TakeSeen, TrackSeen, ended_turn}
-use Rattle.af_life.specs.Kept.{Setup, NormalKept, Outside, asked, track_in, nothing_seen}
-use Rattle.af_life.specs.Plays.{LegalTake}
-use Rattle.af_life.specs.Turn.{GoesOn, LegalTurn, ends_now}
-use Rattle.af_life.specs.TurnEvents.{takes_from}
-use Rattle.af_model.specs.Cycles.{Listed, LooksBy}
-use Rattle.af_model.specs.JournalForm.{TracksRise}
-use Rattle.af_runs.specs.Blocks.{Marks, listed}
-use Rattle.af_runs.specs.Found.{TurnFound, LegalTurnBy, take_front, outside_of, outside_with}
-use Rattle.af_runs.specs.Fronts.{lawful_front}
+use Rattle.af_judge.proofs.Common.{AllByRecursion, GoesOn, LegalTake, LegalTurn, LegalTurnBy, Listed, LooksBy, Marks, NormalKept, Outside, Setup, SlotEntry, TakeSeen, TrackSeen, TracksRise, Turn, TurnFound, asked, ended_turn, ends_now, get_or-eq_default, lawful_front, less_differs, listed, nat_tests, nothing_seen, outside_of, outside_with, take_front, takes_from, track_in}
 use Rattle.af_judge.specs.Servers.{front_judged}
 use Rattle.af_judge.specs.NormalLooks.{AllAnswer}
 use Rattle.af_judge.specs.NormalTurns.{BlocksFound, TakeAnswers, TurnAnswers, IsRightTurn}

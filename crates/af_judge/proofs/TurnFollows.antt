@@ -1,26 +1,8 @@
 -- What is kept of the tracks and of the normal mixer of a run follows a turn of that mixer, and the turn is right exactly if it is legal.
-use Rattle.std.specs.Prelude.{IsTrue, slice_index_or}
 use Rattle.std.proofs.Common.{◌≡◌, ◌↔◌, ℕ, ◌+◌, ◌^◌, ◌<◌, ◌≤◌, Bool, true, false, if◌then◌else◌, fold, refl, sym, ap, ◌∙◌, subst, List, [], ◌∷◌, ◌++◌, length, append-nil, inl, inr, arith}
-use Rattle.std.proofs.lemmas.Bool.{cases_lt}
-use Rattle.std.proofs.lemmas.List.{get_or_default, length-map}
-use Rattle.std.proofs.Math.ListN.{get_or-eq_default}
-use Rattle.af_base.specs.declared.event.ClientEvent.{ClientEvent}
-use Rattle.af_base.specs.Turn.{TakeSeen, Turn, ended_turn}
+use Rattle.af_judge.proofs.Common.{BlockTold, ClientEvent, IsOpenTurn, IsTrue, IsTurn, Learnt, LegalTurnBy, Marks, NormalKept, Outside, Run, Session, Setup, Side, TakeSeen, TrackKept, TrackTold, Turn, TurnFound, after_ack, after_edits, asked, cases_lt, command_list, commands_turned, each_from, ended_turn, get_or-eq_default, get_or_default, hand_does, heard, is_pushed, known_by, learnt, learnt_of, length-map, listed, no_track, nothing_heard, outside_of, setup_of, side_of, sides_of, slice_index_or, spec_of, spec_setting, stream_list, stream_turned, takes_from, told_at, track_at, track_in, tracks_at, turn_after, turned_track, with_turn}
 use Rattle.af_judge.proofs.Basics.{each_at, each_long}
-use Rattle.af_life.specs.declared.kept.TrackKept.{TrackKept}
-use Rattle.af_life.specs.Edits.{after_ack}
-use Rattle.af_life.specs.Heard.{heard, known_by, learnt}
-use Rattle.af_life.specs.Kept.{Learnt, NormalKept, Outside, Setup, asked, nothing_heard, track_at, track_in}
-use Rattle.af_life.specs.Plain.{learnt_of}
-use Rattle.af_life.specs.Turn.{after_edits, turn_after}
-use Rattle.af_life.specs.TurnEvents.{command_list, hand_list, stream_list, takes_from, tracks_at}
-use Rattle.af_model.specs.JournalForm.{IsOpenTurn, IsTurn}
-use Rattle.af_runs.specs.Blocks.{BlockTold, Marks, hand_does, listed}
-use Rattle.af_runs.specs.ClientTurns.{Side}
-use Rattle.af_runs.specs.Found.{LegalTurnBy, TurnFound, outside_of}
-use Rattle.af_runs.specs.Runs.{Run, TrackTold, commands_turned, each_from, no_track, side_of, sides_of, stream_turned, told_at, turned_track, with_turn}
-use Rattle.af_runs.specs.Sessions.{Session, setup_of, spec_of, spec_setting}
-use Rattle.af_runs.specs.Told.{is_pushed}
+use Rattle.af_life.specs.TurnEvents.{hand_list}
 use Rattle.af_judge.specs.declared.track_judge.TrackJudge.{TrackJudge}
 use Rattle.af_judge.specs.Blocks.{BlockJudged, IsBlockOf}
 use Rattle.af_judge.specs.Judging.{ClientJudged, IsKeptOf}

@@ -1,23 +1,8 @@
 -- A turn is right by the tracks that a judge keeps exactly if it is legal by what it found in the run.
 use Rattle.std.proofs.Common.{◌≡◌, ◌↔◌, ℕ, zero, suc, ◌^◌, ◌<◌, ◌≤◌, Bool, true, false, true≢false, MatchBool, nat_lt, refl, sym, ap, ◌∙◌, subst, List, [], ◌∷◌, length, inl, inr, arith}
-use Rattle.std.specs.Prelude.{slice_index_or}
-use Rattle.std.specs.List.{AllByRecursion}
+use Rattle.af_judge.proofs.Common.{AllByRecursion, Heard, IsOpenTurn, IsTake, IsTurn, Learnt, LegalTurnBy, Listed, Marks, NormalKept, Setup, TakeSeen, TracksRise, Turn, TurnFound, asked, ended_turn, ends_now, get_or-eq_default, known_by, learnt_of, length-map, listed, nat_tests, nothing_heard, recursion_from_All, slice_index_or, track_in}
 use Rattle.std.proofs.lemmas.List as lists
-use Rattle.std.proofs.lemmas.List.{length-map}
-use Rattle.std.proofs.lemmas.List.Elements.{recursion_from_All}
-use Rattle.std.proofs.Math.ListN.{get_or-eq_default}
 use Rattle.std.proofs.Math.Path.{fun_ext}
-use Rattle.std.proofs.lemmas.Bool.Decides.{nat_tests}
-use Rattle.af_base.specs.Turn.{Turn, TakeSeen, ended_turn}
-use Rattle.af_life.specs.declared.kept.Heard.{Heard}
-use Rattle.af_life.specs.Heard.{known_by}
-use Rattle.af_life.specs.Kept.{Setup, NormalKept, Learnt, asked, nothing_heard, track_in}
-use Rattle.af_life.specs.Plain.{learnt_of}
-use Rattle.af_life.specs.Turn.{ends_now}
-use Rattle.af_model.specs.Cycles.{Listed}
-use Rattle.af_model.specs.JournalForm.{IsOpenTurn, IsTake, IsTurn, TracksRise}
-use Rattle.af_runs.specs.Blocks.{Marks, listed}
-use Rattle.af_runs.specs.Found.{TurnFound, LegalTurnBy}
 use Rattle.af_judge.specs.declared.track_judge.TrackJudge.{TrackJudge}
 use Rattle.af_judge.specs.Blocks.{listed_in}
 use Rattle.af_judge.specs.NormalLooks.{AllAnswer}

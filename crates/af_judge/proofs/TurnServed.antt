@@ -1,18 +1,6 @@
 -- A turn of the normal mixer is noted in a track's blocks on its mixers' sides, whatever its client did, as the run tells it.
 use Rattle.std.proofs.Common.{◌≡◌, ℕ, ◌&&◌, Bool, true, false, fold, map, refl, ap, ◌∙◌, subst, List, [], ◌∷◌, Option, Some, None}
-use Rattle.af_base.specs.declared.event.ClientEvent.{ClientEvent}
-use Rattle.af_base.specs.declared.turn.CommandLook.{CommandLook}
-use Rattle.af_base.specs.Sample.{packed_word}
-use Rattle.af_base.specs.Turn.{TakeSeen, Turn}
-use Rattle.af_life.specs.declared.kept.TrackKept.{TrackKept}
-use Rattle.af_life.specs.Edits.{after_ack}
-use Rattle.af_life.specs.Heard.{heard, learnt}
-use Rattle.af_life.specs.Kept.{Learnt, NormalKept, Setup, asked, is_home, track_at, track_in}
-use Rattle.af_life.specs.TurnEvents.{takes_from}
-use Rattle.af_model.specs.JournalForm.{IsOpenTurn}
-use Rattle.af_runs.specs.Blocks.{BlockTold, client_list}
-use Rattle.af_runs.specs.Found.{TurnFound, outside_of}
-use Rattle.af_runs.specs.Runs.{commands_turned, stream_turned}
+use Rattle.af_judge.proofs.Common.{BlockTold, ClientEvent, CommandLook, IsOpenTurn, Learnt, NormalKept, Setup, TakeSeen, TrackKept, Turn, TurnFound, after_ack, asked, client_list, commands_turned, heard, is_home, learnt, outside_of, packed_word, stream_turned, takes_from, track_at, track_in}
 use Rattle.af_judge.specs.declared.track_judge.TrackJudge.{TrackJudge}
 use Rattle.af_judge.specs.Blocks.{BlockJudged, IsBlockOf, commanded_told, played_told}
 use Rattle.af_judge.specs.NormalTold.{disabled_told, is_shut_now, looks_told, shut_told, status_told}

@@ -1,29 +1,9 @@
 -- What a judge notes of a turn in the blocks of a track is what the turn told of them in the run.
 use Rattle.std.proofs.Common.{◌≡◌, ◌⊎◌, ℕ, ◌+◌, ◌==◌, ◌&&◌, not, Bool, true, false, cond, if◌then◌else◌, is_some, fold, map, refl, sym, ap, ◌∙◌, subst, List, [], ◌∷◌, ◌++◌, length, Option, Some, None, inl, inr, nat_lt, eqb-true, append_assoc, append-nil, arith}
-use Rattle.std.specs.List.{AllByRecursion, flat_map}
-use Rattle.std.proofs.lemmas.List.{length-map}
+use Rattle.af_judge.proofs.Common.{AllByRecursion, BlockTold, CommandLook, Frame, Listed, ServerEvent, ServerKept, Shape, SlotEntry, TakeSeen, TracksRise, after_look, ahead, all_command_events, as_slot, command_events, count_seen, cycle_events, did, flat_map, front_by_answer, front_of, fronts_by, hand_does, leaves_open, length-map, listed, look_events, own_front, packed_word, server_does, server_kept, server_list, shows_command, status_events, take_front, takes_from, took, words_taken}
 use Rattle.af_base.specs.declared.event.HandEvent.TheVariants as hand
-use Rattle.af_base.specs.declared.event.ServerEvent.{ServerEvent}
-use Rattle.af_base.specs.declared.frame.Frame.{Frame}
 use Rattle.af_base.specs.declared.event.ServerEvent.TheVariants as server
-use Rattle.af_base.specs.declared.log.SlotEntry.{SlotEntry}
-use Rattle.af_base.specs.declared.turn.CommandLook.{CommandLook}
-use Rattle.af_base.specs.Log.{count_seen}
-use Rattle.af_base.specs.Sample.{packed_word}
-use Rattle.af_base.specs.Turn.{TakeSeen}
 use Rattle.af_judge.proofs.Basics.{nothing_from}
-use Rattle.af_life.specs.Looks.{as_slot, command_events, did, all_command_events, words_taken}
-use Rattle.af_life.specs.Obeys.{shows_command}
-use Rattle.af_life.specs.TurnEvents.{status_events, takes_from}
-use Rattle.af_model.specs.declared.shape.Shape.{Shape}
-use Rattle.af_model.specs.Cycles.{Listed, cycle_events, after_look}
-use Rattle.af_model.specs.JournalForm.{TracksRise}
-use Rattle.af_model.specs.Room.{ahead}
-use Rattle.af_model.specs.ServerCalls.{ServerKept, look_events, server_kept}
-use Rattle.af_model.specs.Spelled.{own_front}
-use Rattle.af_runs.specs.Blocks.{BlockTold, hand_does, listed, server_does, server_list, took}
-use Rattle.af_runs.specs.Found.{take_front}
-use Rattle.af_runs.specs.Fronts.{front_by_answer, front_of, fronts_by, leaves_open}
 use Rattle.af_judge.specs.Blocks.{BlockJudged, IsBlockOf, commanded_told, listed_in, played_told}
 use Rattle.af_judge.specs.NormalTold.{disabled_told, looks_told, shut_told, status_told}
 use Rattle.af_judge.proofs.BlocksTold.{hand_told}

@@ -1,33 +1,13 @@
 -- The tracks that a judge keeps follow a turn as the run tells it.
 use Rattle.std.proofs.Common.{◌≡◌, ℕ, ◌&&◌, not, Bool, true, false, if◌then◌else◌, fold, map, refl, sym, ap, ◌∙◌, subst, List, [], ◌∷◌, ◌++◌, length, arith}
-use Rattle.std.specs.List.{AllByRecursion, flat_map}
-use Rattle.std.proofs.lemmas.List.Elements.{recursion_from_All}
-use Rattle.af_base.specs.declared.event.HandEvent.{HandEvent}
+use Rattle.af_judge.proofs.Common.{AllByRecursion, BlockTold, HandEvent, IsOpenTurn, IsTake, Learnt, Marks, NormalKept, ServerEvent, Setup, TakeSeen, TrackKept, Turn, TurnFound, after_ack, all_command_events, asked, commands_turned, count_seen, flat_map, front_of, fronts_by, going, hand_does, heard, invalid, is_found_shut, is_home, learnt, learnt_of, listed, mix_events, not_yet, outside_of, packed_word, recursion_from_All, server_does, status_events, stream_turned, takes_from, took, track_at, track_in, tracks_at, words_taken}
 use Rattle.af_base.specs.declared.event.HandEvent.TheVariants as hand
-use Rattle.af_base.specs.declared.event.ServerEvent.{ServerEvent}
 use Rattle.af_base.specs.declared.event.ServerEvent.TheVariants as server
-use Rattle.af_base.specs.Log.{count_seen}
-use Rattle.af_base.specs.Sample.{packed_word}
-use Rattle.af_base.specs.Turn.{TakeSeen, Turn}
-use Rattle.af_life.specs.declared.kept.TrackKept.{TrackKept}
-use Rattle.af_life.specs.Edits.{after_ack}
-use Rattle.af_life.specs.Heard.{heard, learnt}
-use Rattle.af_life.specs.Kept.{Setup, NormalKept, Learnt, asked, is_home, track_at, track_in}
-use Rattle.af_life.specs.Looks.{all_command_events, words_taken}
-use Rattle.af_life.specs.Plain.{learnt_of}
-use Rattle.af_life.specs.Serves.{is_found_shut}
-use Rattle.af_life.specs.TurnEvents.{going, invalid, mix_events, status_events, takes_from, tracks_at}
-use Rattle.af_life.proofs.Lives.{not_yet}
-use Rattle.af_model.specs.JournalForm.{IsOpenTurn, IsTake, IsTurn}
-use Rattle.af_runs.specs.Blocks.{BlockTold, Marks, hand_does, listed, server_does, took}
-use Rattle.af_runs.specs.Found.{TurnFound, outside_of}
-use Rattle.af_runs.specs.Fronts.{front_of, fronts_by}
-use Rattle.af_runs.specs.Runs.{commands_turned, stream_turned}
 use Rattle.af_judge.specs.declared.track_judge.TrackJudge.{TrackJudge}
 use Rattle.af_judge.specs.Blocks.{BlockJudged, IsBlockOf, played_told}
 use Rattle.af_judge.specs.NormalJudged.{Follows, NormalJudged}
-use Rattle.af_judge.specs.NormalTold.{Finds, IsTold, IsTrackAt, TrackFollows, all_known, is_shut_now, take_told, track_told}
-use Rattle.af_judge.proofs.TurnLegal.{learnt_same, opens}
+use Rattle.af_judge.specs.NormalTold.{Finds, all_known, is_shut_now, take_told, track_told}
+use Rattle.af_judge.proofs.TurnLegal.{learnt_same}
 use Rattle.af_judge.proofs.TurnTold.{commands_kept, stream_kept}
 
 going_open : {E : Type 0} (e : Turn) (xs : List E) → e.ended ≡ false → going e xs ≡ xs
@@ -107,27 +87,6 @@ module _ (c : Setup) (f : TurnFound) (m : NormalKept) (e : Turn) (open_is : e.en
       ∙ ap (λ (xs : List ServerEvent). took words (server_does xs (hand_does (going e marks) b))) (going_open e (flags ++ mixed) open_is ∙ ap (λ (xs : List ServerEvent). xs ++ mixed) home_so)
       ∙ ap (λ (xs : List HandEvent). took words (server_does ((if shut && is_home found.holder then server.SetFlags 4 ∷ [] else []) ++ mixed) (hand_does xs b))) (going_open e marks open_is)))
       (stream_kept t.stream b h (shut && is_home found.holder) (track_in e i).disabled (asked c) e.mixes i form.rise (whole_takes tracks e.mixes (recursion_from_All (IsTake tracks) e.mixes form.takes)))
-
-  -- a track follows what the turn told
-  follows_so : (before after : List TrackJudge) → IsOpenTurn (length before) e → IsTold c k m e before after → (t : TrackJudge) → IsTrackAt before i t → IsBlockOf t.stream (f.streams i) → IsBlockOf t.commands (f.commands i) → TrackFollows c f m e i t after
-  follows_so before after form told t at stream commands =
-      let v : TrackJudge = track_told found (heard k i found) (track_in e i) t in
-      let takes : List TakeSeen = takes_from e.mixes i in
-      let u : TrackJudge = fold (λ (t : TrackJudge) (take : TakeSeen). take_told (asked c) take t) v takes in
-      record {
-        track = u;
-        is = told.taken i v (told.told.told i t at.0 at);
-        client = takes_client (asked c) takes v;
-        stream = subst (λ (x : BlockJudged). IsBlockOf x (stream_turned c (outside_of c f e) m e i (f.streams i))) (sym (takes_stream (asked c) takes v)) (stream_so t stream (length before) form);
-        commands = subst (λ (x : BlockJudged). IsBlockOf x (commands_turned c (outside_of c f e) m e i (f.commands i))) (sym (takes_commands (asked c) takes v)) (commands_so t commands);
-      }
-
--- each track that a judge keeps of a run before a turn is kept of it after the turn
-pub track_follows : (c : Setup) (marks : Marks) (f : TurnFound) (m : NormalKept) (e : Turn) (before after : List TrackJudge) → Finds marks f before → length before ≡ length m.tracks → IsTurn (length before) e → e.ended ≡ false
-    → IsTold c (learnt_of f.report (all_known before)) m e before after → (i : ℕ) (t : TrackJudge) → IsTrackAt before i t → IsBlockOf t.stream (f.streams i) → IsBlockOf t.commands (f.commands i) → TrackFollows c f m e i t after
-track_follows c marks f m e before after finds many form open_is told i t at stream commands =
-    follows_so c f m e open_is i before after (opens c marks f before m e finds many form open_is)
-    (subst (λ (l : Learnt). IsTold c l m e before after) (sym (learnt_same c marks f before m e finds many)) told) t at stream commands
 
 -- the mixer follows the turn by what was learnt in the run
 pub mixer_follows : (marks : Marks) (f : TurnFound) (e : Turn) (tracks : List TrackJudge) (j after : NormalJudged) → Finds marks f tracks → length tracks ≡ length j.plain.kept.tracks

@@ -1,8 +1,7 @@
 -- What the last step in an order of two ends is, and which counts are open after one step more.
 use Rattle.std.proofs.Common.{◌≡◌, ◌⊎◌, inl, inr, suc, List, [], ◌∷◌, ◌++◌, length, refl, sym, ap, subst, ◌∙◌, arith, length-append}
-use Rattle.af_model.specs.Order.{Event, one, two, ones, twos, Legal, after}
+use Rattle.af_judge.proofs.Common.{Event, Legal, after, legal_at, one, ones, two, twos}
 use Rattle.af_model.proofs.Orders.{ones_one, ones_two, twos_one, twos_two, add_one, add_two}
-use Rattle.af_model.proofs.Splits.{legal_at}
 use Rattle.af_judge.specs.TwoEnds.{Ends, ends_next, ends_after, HasEndsOrder}
 
 -- ## The last of a list

@@ -1,15 +1,11 @@
 -- What a client is found to want next, and what a call makes of it.
-use Rattle.std.specs.Prelude.{◌≡◌, ℕ, ◌/◌, ◌||◌, Bool, true, false, if◌then◌else◌, List, [], ◌∷◌, Option, Some, None}
-use Rattle.std.proofs.Common.{ap, sym, ◌∙◌, subst}
-use Rattle.af_base.specs.declared.event.ClientCall.{ClientCall}
+use Rattle.std.specs.Prelude.{◌≡◌, ◌/◌, ◌||◌, if◌then◌else◌, ◌∷◌}
+use Rattle.std.proofs.Common.{ap, sym, ◌∙◌}
+use Rattle.af_judge.proofs.Common.{Bool, Client, ClientCall, List, None, Op, Option, Some, Want, [], after_answer, asked_first, at_next_turn, begins, begun, end_begun, false, next_want, rest_of, true, ℕ}
 use Rattle.af_judge.proofs.Basics.{some_is}
-use Rattle.af_runs.proofs.Basics.{end_begun}
-use Rattle.af_script.specs.declared.op.Op.{Op}
-use Rattle.af_runs.specs.declared.want.Want.{Want}
 use Rattle.af_runs.specs.declared.want.Want.TheVariants as want
-use Rattle.af_runs.specs.Clients.{Client, after_answer, asked_first, at_next_turn, begins, begun, next_want, rest_of}
 use Rattle.af_runs.specs.Kept.{client_of}
-use Rattle.af_judge.specs.Judging.{CallMade, ClientJudged, FindsNext, IsNoCall, MadeBy, sides_called}
+use Rattle.af_judge.specs.Judging.{CallMade, ClientJudged, FindsNext, MadeBy, sides_called}
 
 -- what is wanted, as the program finds it
 pub finds_next : (o : Option Want) (c d : Client) → o ≡ next_want d → d ≡ begun c → (c.waiting || c.ended) ≡ false → FindsNext c o d
@@ -43,14 +39,6 @@ pub first_due : (c : Client) (w : Want) → next_want c ≡ Some w → c.due ≡
 first_due c w e = first_asked c.due w (asks-by (c.waiting || c.ended) c.due w e)
 
 -- ## A call
-
--- nothing is wanted
-pub no_call_unwanted : (ops : List Op) (answer : ClientCall) (j : ClientJudged) (d : Client) → FindsNext (client_of ops j.client) None d → IsNoCall ops answer j
-no_call_unwanted ops answer j d finds wanted is made = some-none ⊥ wanted (sym finds.0 ∙ is)
-
--- what is wanted is another call, or the call answers wrong
-pub no_call_made : (ops : List Op) (answer : ClientCall) (j : ClientJudged) (d : Client) (w : Want) → FindsNext (client_of ops j.client) (Some w) d → (MadeBy j.sides w answer → ⊥) → IsNoCall ops answer j
-no_call_made ops answer j d w finds none wanted is made = none (subst (λ v. MadeBy j.sides v answer) (sym (some_is w wanted (sym finds.0 ∙ is))) made)
 
 -- the call was made
 pub call_made : (ops : List Op) (file : ℕ) (answer : ClientCall) (j k : ClientJudged) (d : Client) (w : Want) → FindsNext (client_of ops j.client) (Some w) d → MadeBy j.sides w answer → k.sides ≡ sides_called file answer j.sides

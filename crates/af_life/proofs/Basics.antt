@@ -1,16 +1,6 @@
 -- Basic lemmas that several files here, and of the crates above, cite.
 use Rattle.std.proofs.Common.{All, Bool, List, None, Option, [], ap, arith, false, fold, get_or-set_other, get_or-set_same, if◌then◌else◌, inl, inr, is_some, length, map, not, refl, replicate, subst, suc, sym, true, true≢false, zero, ℕ, ⊎_elim, ◌&&◌, ◌+◌, ◌<◌, ◌==◌, ◌∙◌, ◌∷◌, ◌≡◌, ◌≢◌, ◌≤◌, ◌⊎◌}
-use Rattle.std.proofs.lemmas.Bool.{cases_eq}
-use Rattle.std.proofs.lemmas.List.Elements.{All-get_or}
-use Rattle.std.proofs.lemmas.List.{length-set}
-use Rattle.std.specs.List.{list_any}
-use Rattle.std.specs.Prelude.{slice_set}
-use Rattle.af_base.proofs.Basics.{and_none, equal_is, is_equal, neither, never_false, no, zero_is}
-use Rattle.af_base.specs.Turn.{TakeSeen}
-use Rattle.af_base.specs.declared.report.SlotReport.{SlotReport}
-use Rattle.af_base.specs.declared.state.Command.{Command}
-use Rattle.af_base.specs.declared.state.FastState.{FastState}
-use Rattle.af_base.specs.declared.turn.CommandLook.{CommandLook}
+use Rattle.af_life.proofs.Common.{All-get_or, Command, CommandLook, FastState, SlotReport, TakeSeen, and_none, cases_eq, equal_is, is_equal, length-set, list_any, neither, never_false, no, slice_set, zero_is}
 use Rattle.af_life.specs.Edits.{welcomed}
 use Rattle.af_life.specs.Heard.{counts_in, heard, is_reached, is_reported, noted, ready, settled_at, slot_reported}
 use Rattle.af_life.specs.Kept.{Learnt, Setup, is_home, is_lent, is_returning, new_track, no_counts, setting_of, slot_number, track_at}

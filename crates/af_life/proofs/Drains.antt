@@ -19,9 +19,6 @@ by_that false true A B e f x = absurd (true≢false f)
 by_that false false A B e f x = x
 
 module _ (steps : List LifeStep) (before : DrainsInOrder steps) where
-  l : Life
-  l = life_of steps
-
   told_in_order : (code argument : ℕ) → DrainsInOrder (told code argument ∷ steps)
   told_in_order code argument = record { stopping = stopping; drained = drained; at_rest = (λ h. (e.rests h (before.at_rest (e.drained h).1)).1) }
     where

@@ -1,7 +1,7 @@
 -- What each command and each report makes of the way to a stop, case by case.
 use Rattle.std.proofs.Common.{◌≡◌, ℕ, zero, suc, ◌<◌, ◌≤◌, Bool, true, false, if◌then◌else◌, true≢false, sym, refl, ap, ◌∙◌, ◌⊎◌, inl, inr, arith}
-use Rattle.std.specs.Prelude.{◌==◌, ◌&&◌, not, nat_le}
-use Rattle.af_base.proofs.Basics.{less_differs, no}
+use Rattle.af_life.proofs.Common.{less_differs, nat_le, no, not}
+use Rattle.std.specs.Prelude.{◌==◌, ◌&&◌}
 use Rattle.af_life.specs.State.{is_among}
 use Rattle.af_life.specs.declared.state.LifeState.{LifeState}
 use Rattle.af_life.specs.declared.state.LifeState.TheVariants.{Absent, Active, Pausing, Paused, Resuming, Stopping1, Stopping2}

@@ -1,14 +1,7 @@
 -- The lives that some turns leave are those of the steps that they made.
 use Rattle.std.proofs.Common.{◌≡◌, ℕ, zero, suc, ◌<◌, ◌≤◌, Bool, true, false, if◌then◌else◌, true≢false, sym, refl, ap, ◌∙◌, List, [], ◌∷◌, ◌++◌, length, map, fold, inl, inr, arith}
-use Rattle.std.specs.Prelude.{slice_set, is_some, Option}
-use Rattle.std.proofs.lemmas.List.{get_or-set_other, length-set, length-map}
+use Rattle.af_life.proofs.Common.{Busy, Clean, CommandLook, FastState, Option, Push, Pushed, TakeSeen, TrackSeen, Turn, cases_eq, get_or-set_other, is_some, length-map, length-set, slice_set}
 use Rattle.std.proofs.lemmas.Grind.{get_or-set_at}
-use Rattle.std.proofs.lemmas.Bool.{cases_eq}
-use Rattle.af_base.specs.declared.state.FastState.{FastState}
-use Rattle.af_base.specs.declared.turn.CommandLook.{CommandLook}
-use Rattle.af_base.specs.Turn.{Turn, TrackSeen, TakeSeen}
-use Rattle.af_base.specs.declared.state.Push.{Push}
-use Rattle.af_base.specs.declared.state.Push.TheVariants.{Pushed, Clean, Busy}
 use Rattle.af_life.proofs.Basics.{either_life as either_track, ready_life, takes_len}
 use Rattle.af_life.specs.declared.track.Life.{Life}
 use Rattle.af_life.specs.Commands.{by_command}
@@ -16,9 +9,8 @@ use Rattle.af_life.specs.Reports.{by_report}
 use Rattle.af_life.specs.declared.kept.Holder.TheVariants.{Home}
 use Rattle.af_life.specs.declared.kept.Heard.{Heard}
 use Rattle.af_life.specs.declared.kept.TrackKept.{TrackKept}
-use Rattle.af_life.specs.Kept.{Setup, asked, NormalKept, Learnt, track_at, new_track, seen_at, track_in, is_home}
-use Rattle.af_life.specs.Heard.{learnt, heard, noted, is_reported, ready}
-use Rattle.af_base.specs.declared.report.SlotReport.{SlotReport}
+use Rattle.af_life.specs.Kept.{Setup, asked, NormalKept, Learnt, track_at, new_track, seen_at, track_in}
+use Rattle.af_life.specs.Heard.{learnt, heard, ready}
 use Rattle.af_life.specs.Obeys.{slot_for, must_wait, shows_command, is_shut, obeyed, after_look, goes_on, after_looks, commanded}
 use Rattle.af_life.specs.Serves.{served, served_to, after_commands, after_report, after_part}
 use Rattle.af_life.specs.Edits.{comes_home, welcomed, after_ack, must_leave, must_enter, let_go, lend, edited, edited_to, ordered, mutated, after_push}
@@ -87,10 +79,6 @@ takes_keep asked [] tracks i = refl
 takes_keep asked (take ∷ takes) tracks i = takes_keep asked takes (after_take asked tracks take) i ∙ set_keeps tracks take.track _ i refl
 
 -- ## What a track's part of the turn makes of its life
-
-noted_keeps : (r : SlotReport) (s : TrackKept) → (noted r s).life ≡ s.life
-unfolding noted
-noted_keeps r s = either_track (is_home s.holder) _ _ s.life refl (either_track (is_reported r s) _ _ s.life refl refl)
 
 -- the same way on both tracks
 both_ways : (b : Bool) (s t : TrackKept) (steps more : List LifeStep) → s.life ≡ life_of steps → t.life ≡ life_of more → (if b then s else t).life ≡ life_of (if b then steps else more)

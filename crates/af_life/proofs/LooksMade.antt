@@ -1,8 +1,7 @@
 -- One look more at a command block.
 use Rattle.std.proofs.Common.{◌≡◌, ℕ, sym, ap, ◌∙◌, subst, List, [], ◌∷◌, ◌++◌, append_assoc, append-nil}
+use Rattle.af_life.proofs.Common.{CommandLook, Listed, LooksBy}
 use Rattle.af_base.specs.declared.event.ServerEvent.{ServerEvent}
-use Rattle.af_base.specs.declared.turn.CommandLook.{CommandLook}
-use Rattle.af_model.specs.Cycles.{Listed, LooksBy}
 use Rattle.af_life.specs.Looks.{as_slot, command_events, did, all_command_events, HasWords, LegalLooks}
 
 -- the server after all events of some looks

@@ -1,6 +1,6 @@
 -- Looks that all go on, and what follows them.
 use Rattle.std.proofs.Common.{◌≡◌, ℕ, suc, ◌+◌, Bool, true, false, true≢false, if◌then◌else◌, ◌&&◌, fold, sym, refl, ap, ◌∙◌, List, [], ◌∷◌, ◌++◌, length, Option, arith}
-use Rattle.af_base.specs.declared.turn.CommandLook.{CommandLook}
+use Rattle.af_life.proofs.Common.{CommandLook}
 use Rattle.af_life.specs.declared.kept.TrackKept.{TrackKept}
 use Rattle.af_life.specs.Obeys.{after_look, goes_on, after_looks, are_due, all_go_on}
 

@@ -1,14 +1,12 @@
 -- What a track that is reported drained has reached.
 use Rattle.std.proofs.Common.{◌≡◌, ℕ, ◌+◌, ◌*◌, ◌<◌, Bool, true, false, if◌then◌else◌, true≢false, sym, refl, ap, ◌∙◌, MatchBool, Option, Some, None, List, ◌∷◌, length, arith}
+use Rattle.af_life.proofs.Common.{CommandLook, TrackSeen, Turn, not_both}
 use Rattle.std.specs.Prelude.{◌==◌, ◌%◌}
 use Rattle.std.specs.Int.{bit_at}
-use Rattle.af_base.proofs.Basics.{not_both}
-use Rattle.af_base.specs.Turn.{Turn, TrackSeen}
 use Rattle.af_life.specs.declared.state.LifeState.{LifeState}
 use Rattle.af_life.specs.declared.state.LifeState.TheVariants.{Absent, Idle, Active, Pausing, Paused, Resuming, Stopping1, Stopping2, Stopped, Flushed}
 use Rattle.af_life.specs.declared.track.Life.{Life}
 use Rattle.af_life.specs.State.{code_of}
-use Rattle.af_base.specs.declared.turn.CommandLook.{CommandLook}
 use Rattle.af_life.specs.declared.kept.Heard.{Heard}
 use Rattle.af_life.specs.declared.kept.TrackKept.{TrackKept}
 use Rattle.af_life.specs.Kept.{Setup, NormalKept, Outside, track_at, track_in, nothing_seen}

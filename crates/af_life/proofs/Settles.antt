@@ -1,10 +1,7 @@
 -- How many commands some looks settle.
-use Rattle.std.proofs.Common.{◌≡◌, ℕ, ◌+◌, ◌≤◌, Bool, true, false, if◌then◌else◌, is_some, List, [], ◌∷◌, length, refl, Option, None, arith}
-use Rattle.af_base.specs.declared.report.SlotReport.{SlotReport}
-use Rattle.af_base.specs.declared.turn.CommandLook.{CommandLook}
+use Rattle.std.proofs.Common.{◌≡◌, ℕ, ◌+◌, ◌≤◌, Bool, true, false, if◌then◌else◌, is_some, List, [], ◌∷◌, length, Option, arith}
+use Rattle.af_life.proofs.Common.{CommandLook}
 use Rattle.af_life.specs.declared.kept.TrackKept.{TrackKept}
-use Rattle.af_life.specs.Heard.{noted, is_reported, settled_at, is_reached}
-use Rattle.af_life.specs.Kept.{is_home}
 use Rattle.af_life.specs.Obeys.{shows_command, is_shut, ended, must_wait, obeyed, after_look, goes_on, after_looks, commanded}
 
 module _ (given : Option ℕ) (flush_seen : ℕ) where
@@ -28,17 +25,3 @@ module _ (given : Option ℕ) (flush_seen : ℕ) where
 
   pub commands_settle : (looks : List CommandLook) (s : TrackKept) → (commanded given flush_seen looks s).settled ≤ s.settled + length looks
   commands_settle looks s = either_few (is_some s.awaits) s (after_looks given flush_seen looks s) (s.settled + length looks) (omega arith) (looks_settle looks s)
-
--- a START that waited is settled, and nothing else before the commands
-either_same : (b : Bool) (s t : TrackKept) (n : ℕ) → s.settled ≡ n → t.settled ≡ n → (if b then s else t).settled ≡ n
-either_same true s t n e f = e
-either_same false s t n e f = f
-
-pub noted_settled : (r : SlotReport) (s : TrackKept) → (noted r s).settled ≡ s.settled
-unfolding noted
-noted_settled r s = either_same (is_home s.holder) _ _ s.settled refl (either_same (is_reported r s) _ _ s.settled refl refl)
-
-pub ready_settles : (flush_seen : ℕ) (r : SlotReport) (s : TrackKept) → (settled_at flush_seen (noted r s)).settled ≤ s.settled + 1
-unfolding settled_at
-ready_settles flush_seen r s = let t : TrackKept = noted r s in let e : t.settled ≡ s.settled = noted_settled r s in
-    either_few None 0 (is_reached flush_seen t.awaits) _ _ (s.settled + 1) (omega arith) (omega arith)

@@ -1,9 +1,6 @@
 -- A turn keeps the numbers of a mixer small.
 use Rattle.std.proofs.Common.{◌≡◌, ℕ, zero, suc, refl, ◌+◌, ◌*◌, ◌<◌, ◌≤◌, Bool, true, false, if◌then◌else◌, ◌∙◌, length, arith}
-use Rattle.af_base.specs.declared.state.Command.{Command}
-use Rattle.af_base.specs.declared.state.Push.{Push}
-use Rattle.af_base.specs.declared.state.Push.TheVariants.{Pushed, Clean, Busy}
-use Rattle.af_base.specs.Turn.{Turn}
+use Rattle.af_life.proofs.Common.{Busy, Clean, Command, Push, Pushed, Turn}
 use Rattle.af_life.proofs.Basics.{takes_len}
 use Rattle.af_life.specs.Kept.{Setup, asked, pipe_size, NormalKept, Learnt, track_at}
 use Rattle.af_life.specs.Edits.{after_ack, is_exit, must_leave, must_enter, let_go, lend, edited, edited_to, next_command, commanded_by, ordered, mutated, after_push}

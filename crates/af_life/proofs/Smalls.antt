@@ -1,15 +1,7 @@
 -- The numbers of a mixer grow by little in each step of a turn.
 use Rattle.std.proofs.Common.{◌≡◌, ℕ, zero, suc, ◌+◌, ◌*◌, ◌<◌, ◌≤◌, Bool, true, false, if◌then◌else◌, is_some, not, ap, List, [], ◌∷◌, length, map, fold, replicate, Option, Some, None, arith}
-use Rattle.std.specs.Prelude.{slice_set, slice_index_or}
-use Rattle.std.specs.List.{find, range_with_len, list_any}
-use Rattle.std.proofs.lemmas.List.{length-replicate}
-use Rattle.af_base.specs.declared.report.SlotReport.{SlotReport}
-use Rattle.af_base.specs.declared.state.Command.{Command}
-use Rattle.af_base.specs.declared.state.FastState.{FastState}
+use Rattle.af_life.proofs.Common.{Command, CommandLook, FastState, SlotReport, TakeSeen, TrackSeen, find, length-replicate, list_any, range_with_len, slice_index_or, slice_set, slots}
 use Rattle.af_base.specs.declared.state.FastTrack.{FastTrack}
-use Rattle.af_base.specs.declared.turn.CommandLook.{CommandLook}
-use Rattle.af_base.specs.Log.{slots}
-use Rattle.af_base.specs.Turn.{TrackSeen, TakeSeen}
 use Rattle.af_model.proofs.Basics.{one_few}
 use Rattle.af_model.specs.Reports.{is_full, is_partial, is_empty}
 use Rattle.af_model.specs.StateQueue.{slot_of, no_track}

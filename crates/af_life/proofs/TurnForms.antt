@@ -1,14 +1,9 @@
 -- A legal turn has the form of a turn.
 use Rattle.std.proofs.Common.{◌≡◌, ℕ, zero, suc, ◌+◌, ◌≤◌, ◌<◌, nat_le, Bool, true, false, MatchBool, if◌then◌else◌, cond, List, [], ◌∷◌, length, map, refl, sym, ap, subst, ◌∙◌, inl, inr, ◌⊎◌, eqb-true, arith}
-use Rattle.std.specs.List.{All, AllByRecursion, filter, range_with_len}
-use Rattle.std.proofs.lemmas.List.Elements.{All-from_recursion, recursion_from_All, All-from_get_or}
+use Rattle.af_life.proofs.Common.{All, All-from_get_or, All-from_recursion, AllByRecursion, CommandLook, Listed, TakeSeen, TrackSeen, Turn, count_seen, filter, range_with_len, recursion_from_All}
 use Rattle.af_base.specs.declared.seen.Seen.{Seen}
 use Rattle.af_base.specs.declared.seen.Seen.TheVariants as seen
-use Rattle.af_base.specs.declared.turn.CommandLook.{CommandLook}
-use Rattle.af_base.specs.Log.{count_seen}
 use Rattle.af_base.specs.Sample.{IsFrame}
-use Rattle.af_base.specs.Turn.{TrackSeen, TakeSeen, Turn}
-use Rattle.af_model.specs.Cycles.{Listed}
 use Rattle.af_model.specs.JournalForm.{IsCommandLook, IsTake, TracksRise, IsOpenTurn, IsTurn}
 use Rattle.af_life.specs.declared.kept.TrackKept.{TrackKept}
 use Rattle.af_life.specs.Heard.{learnt}
@@ -24,10 +19,7 @@ use Rattle.af_life.proofs.Lives.{served_len, acked_len, mutation_len}
 
 two_frames : (answer : Seen) → count_seen answer ≡ 2 → answer ≡ seen.Frames 2
 two_frames (seen.Frames count) two = ap seen.Frames two
-two_frames seen.Absent two = absurd (omega arith)
-two_frames seen.Empty two = absurd (omega arith)
-two_frames (seen.Flushed dropped) two = absurd (omega arith)
-two_frames (seen.Shut front rear) two = absurd (omega arith)
+two_frames _ two = absurd (omega arith)
 
 by_command : (look : CommandLook) (b : Bool) → shows_command look.seen ≡ b → MatchBool b (Unit {0}) ((look.code ≡ 0) × (look.argument ≡ 0))
     → (look.seen ≡ seen.Frames 2) ⊎ ((look.code ≡ 0) × (look.argument ≡ 0))

@@ -1,8 +1,6 @@
 -- What an entry weighs tells how many looks it holds at a track.
 use Rattle.std.proofs.Common.{◌≡◌, ℕ, zero, suc, ◌+◌, ◌-◌, ◌*◌, ◌/◌, ◌<◌, ◌≤◌, List, [], ◌∷◌, length, arith}
-use Rattle.std.specs.Prelude.{max}
-use Rattle.std.specs.List.{fold}
-use Rattle.af_base.specs.Turn.{Turn, TrackSeen}
+use Rattle.af_life.proofs.Common.{TrackSeen, Turn, fold, max}
 use Rattle.af_life.specs.Kept.{seen_at, track_in}
 use Rattle.af_life.specs.Small.{longest, turn_weight, most_tracks, IsTurnUpTo}
 

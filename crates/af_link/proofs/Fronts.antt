@@ -12,14 +12,7 @@ module _ (size : ℕ) where
   -- a step of the end that puts takes no frames
   put_leaves : (p : PipePoint) (e : ClientEvent) → (next p (one e)).taken ≡ p.taken
   put_leaves p (client.Release count) = refl
-  put_leaves p client.Flush = refl
-  put_leaves p (client.SetGain word) = refl
-  put_leaves p (client.ClearFlags old) = refl
-  put_leaves p (client.SawFlags flags) = refl
-  put_leaves p (client.SawFront front) = refl
-  put_leaves p (client.SawStatus word) = refl
-  put_leaves p (client.Poke word value) = refl
-  put_leaves p (client.Learn count) = refl
+  put_leaves p _ = refl
 
   in_order : (p : PipePoint) (es : List (Event ClientEvent ServerEvent)) → Legal (legal size) next p es → SeesTaken p.taken (twos es)
   in_order p [] l = tt

@@ -9,7 +9,7 @@ use Rattle.af_model.specs.PipeHistory.{room_by, PutKept, nothing_put, may_put, a
 use Rattle.af_model.proofs.Counts.{lawful_more}
 use Rattle.af_model.proofs.Orders.{after_end, legal_end}
 use Rattle.af_cblk.specs.declared.view.ClientPart.{ClientPart}
-use Rattle.af_cblk.specs.Parts.{released, client_saw_front, client_met}
+use Rattle.af_cblk.specs.Parts.{client_saw_front, client_met}
 use Rattle.af_cblk.proofs.Numbers.{past}
 use Rattle.af_client.specs.Calls.{PutOn}
 use Rattle.af_link.specs.PipeEnds.{IsPutting, room_of}
@@ -17,10 +17,6 @@ use Rattle.af_link.specs.PipeEnds.{IsPutting, room_of}
 -- an end that takes goes on as one when it meets
 pub takes_met : (es : List ServerEvent) (count : ℕ) → IsTakeList es → IsTakeList (es ++ server.Learn count ∷ [])
 takes_met es count all = list_all-append is_taking es (server.Learn count ∷ []) ∙ ap (λ b. b && true) all
-
--- on a pipe the end's position is the number of frames put
-pub from-zero : (p : ClientPart) → p.shape.base ≡ 0 → released p ≡ length p.frames
-from-zero p is = ap (λ (n : ℕ). n + length p.frames) is ∙ (let e : 0 + length p.frames ≡ length p.frames = omega arith in e)
 
 pub look_keeps : (p q : ClientPart) (rear room room' front : ℕ) → IsPutting p rear room → q ≡ client_saw_front p front → room' ≡ room_of q → IsPutting q rear room'
 look_keeps p q rear room room' front k saw is =

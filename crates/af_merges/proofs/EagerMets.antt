@@ -1,21 +1,13 @@
 -- A search that takes each Met as soon as it may finds all that matters.
 use Rattle.std.proofs.Common.{◌≡◌, ℕ, zero, suc, ◌+◌, ◌<◌, ◌≤◌, List, [], ◌∷◌, ◌++◌, length, Option, Some, None, Bool, true, false, cond, ◌&&◌, ◌||◌, nat_le, refl, ap, ◌∙◌, sym, subst, inl, inr, arith}
-use Rattle.std.specs.Option.{option_and_then}
-use Rattle.std.specs.List.{slice_get}
-use Rattle.std.proofs.lemmas.Option.{option_and_then_some, same_Some, cond_some, slice_get_within}
-use Rattle.std.proofs.lemmas.Bool.{cases_lt}
-use Rattle.std.proofs.lemmas.Bool.Decides.{nat_tests}
-use Rattle.af_base.proofs.Basics.{both_true}
-use Rattle.af_base.specs.declared.event.HandEvent.{HandEvent}
+use Rattle.af_merges.proofs.Common.{HandEvent, after_hand, and_parts, both_true, cases_lt, cond_some, nat_tests, option_and_then, option_and_then_some, same_Some, slice_get, slice_get_within}
 use Rattle.af_base.specs.declared.event.HandEvent.TheVariants as hand
 use Rattle.af_merges.specs.declared.search.Stage.{Stage}
 use Rattle.af_merges.specs.MergeSteps.{client_step, server_step}
-use Rattle.af_model.specs.Point.{after_hand}
 use Rattle.af_merges.specs.Walks.{walk}
 use Rattle.af_merges.specs.Stages.{Lists, Who, Client, Server, Hand, move, eager, hand_only, takes_met, is_met, kept, keeps_event, keeps_mets, with_client, with_server, with_hand}
 use Rattle.af_merges.specs.MergePieces.{IsAhead}
 use Rattle.af_merges.proofs.Levels.{walk-append}
-use Rattle.std.proofs.lemmas.Bool.{and_parts}
 
 by_test : (b : Bool) (l : Lists) (w : Who) (m n : Stage) → cond b (hand_only l w m) (move l w m) ≡ Some n → move l w m ≡ Some n
 by_test false l w m n e = e

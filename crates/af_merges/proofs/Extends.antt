@@ -1,20 +1,9 @@
 -- The open stages of lists are enough to go on from, when more events come.
 use Rattle.std.proofs.Common.{◌≡◌, ◌↔◌, ◌⊎◌, ℕ, zero, suc, ◌+◌, ◌<◌, ◌≤◌, List, [], ◌∷◌, ◌++◌, length, Some, None, Bool, true, false, cond, ◌&&◌, ◌||◌, ◌==◌, nat_le, refl, ap, ◌∙◌, sym, subst, inl, inr, arith, length-append, take, drop}
-use Rattle.std.specs.Option.{option_and_then}
-use Rattle.std.specs.List.{Contains, All, slice_get}
-use Rattle.std.proofs.lemmas.Option.{option_and_then_some, same_Some, cond_some, slice_get_within}
-use Rattle.std.proofs.lemmas.Bool.{cases_lt}
-use Rattle.std.proofs.lemmas.List.{take-append-drop, length-take-le}
-use Rattle.std.proofs.lemmas.Bool.Decides.{nat_tests}
-use Rattle.af_base.proofs.Basics.{all_one, at_before, both_true, equal_is, is_equal}
-use Rattle.af_model.specs.declared.point.TrackPoint.{TrackPoint}
-use Rattle.af_base.specs.declared.event.ClientEvent.{ClientEvent}
-use Rattle.af_base.specs.declared.event.ServerEvent.{ServerEvent}
-use Rattle.af_base.specs.declared.event.HandEvent.{HandEvent}
+use Rattle.af_merges.proofs.Common.{All, ClientEvent, Contains, HandEvent, ServerEvent, TrackPoint, after_hand, all_one, and_parts, at_before, both_true, cases_lt, cond_some, equal_is, is_equal, length-take-le, nat_tests, option_and_then, option_and_then_some, same_Some, slice_get, slice_get_within, take-append-drop}
 use Rattle.af_base.specs.declared.event.HandEvent.TheVariants as hand
 use Rattle.af_merges.specs.declared.search.Stage.{Stage}
 use Rattle.af_merges.specs.MergeSteps.{client_step, server_step}
-use Rattle.af_model.specs.Point.{after_hand}
 use Rattle.af_merges.specs.Walks.{walk, IsReached}
 use Rattle.af_merges.specs.Stages.{Lists, Who, Client, Server, Hand, move, eager, is_met, kept, keeps_event, keeps_mets, with_client, with_server, with_hand, begin, IsWhole, HasWalk, InBounds}
 use Rattle.af_merges.specs.Merges.{IsStart}
@@ -24,7 +13,6 @@ use Rattle.af_merges.specs.declared.pieces.Search.{Search}
 use Rattle.af_merges.proofs.Levels.{walk-push, walk-append}
 use Rattle.af_merges.proofs.StageCounts.{IsWithin, only_one}
 use Rattle.af_merges.proofs.EagerMets.{eager-walk, follows-walk, ahead-itself}
-use Rattle.std.proofs.lemmas.Bool.{and_parts}
 use Rattle.af_merges.proofs.Mets.{keeps-append}
 
 get_back : {X : Type 0} (xs ys : List X) (i : ℕ) (x : X) → i < length xs → slice_get (xs ++ ys) i ≡ Some x → slice_get xs i ≡ Some x

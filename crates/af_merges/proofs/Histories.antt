@@ -1,11 +1,7 @@
 -- A history of a block is a legal order from its starting point, with the frames.
-use Rattle.af_base.specs.declared.event.ClientEvent.{ClientEvent}
-use Rattle.af_base.specs.declared.event.ServerEvent.{ServerEvent}
-use Rattle.af_base.specs.declared.event.HandEvent.{HandEvent}
 use Rattle.std.proofs.Common.{ℕ, List}
+use Rattle.af_merges.proofs.Common.{ClientEvent, HandEvent, HasHistory, ServerEvent, start}
 use Rattle.af_model.specs.declared.shape.Shape.{Shape}
-use Rattle.af_model.specs.Point.{start}
-use Rattle.af_model.specs.History.{HasHistory}
 use Rattle.af_merges.specs.Merges.{HasLegalOrder}
 
 pub HasLegalOrder-from_history : (shape : Shape) (ce : List ClientEvent) (cf : List ℕ) (se : List ServerEvent) (sf : List ℕ) (he : List HandEvent)

@@ -1,12 +1,6 @@
 -- From the places where walks of one length end to those of the next.
 use Rattle.std.proofs.Common.{◌≡◌, ◌⊎◌, ℕ, ◌+◌, ◌<◌, ◌≤◌, List, [], ◌∷◌, ◌++◌, length, take, get_or, Option, Some, None, Bool, true, false, cond, ◌==◌, refl, ap, ◌∙◌, sym, subst, inl, inr, arith}
-use Rattle.std.specs.Option.{option_and_then, IfSome}
-use Rattle.std.specs.List.{Contains, All}
-use Rattle.std.proofs.lemmas.Option.{option_and_then_some, same_Some, MatchOption-at_some}
-use Rattle.std.proofs.lemmas.List.{take_more}
-use Rattle.std.proofs.lemmas.List.Elements.{Contains-get_or, Contains-append_left, Contains-push, Contains-push_cases, All-contains}
-use Rattle.std.proofs.lemmas.Bool.{cases_lt}
-use Rattle.af_base.proofs.Basics.{is_equal}
+use Rattle.af_merges.proofs.Common.{All, All-contains, Contains, Contains-append_left, Contains-get_or, Contains-push, Contains-push_cases, IfSome, MatchOption-at_some, cases_lt, is_equal, option_and_then, option_and_then_some, same_Some, take_more}
 use Rattle.af_merges.specs.Walks.{walk, IsNext, IsLevel, IsFoundBelow, IsReached, Collects, Adds, Spreads, HasSame}
 
 -- one step more at the end of a walk

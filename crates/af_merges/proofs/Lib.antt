@@ -1,3 +1,4 @@
+pub mod Common
 mod Mets
 mod Rising
 mod MetTests

@@ -1,12 +1,9 @@
 -- Whether each Met is kept after one step more, from where each is kept.
 use Rattle.std.proofs.Common.{◌≡◌, ℕ, zero, suc, ◌+◌, ◌-◌, ◌<◌, ◌≤◌, List, [], ◌∷◌, length, drop, Bool, true, false, ◌&&◌, ◌||◌, nat_le, refl, ap, ◌∙◌, arith}
-use Rattle.std.specs.List.{slice_get}
-use Rattle.std.proofs.lemmas.Bool.Decides.{nat_tests}
-use Rattle.af_base.specs.declared.event.HandEvent.{HandEvent}
+use Rattle.af_merges.proofs.Common.{HandEvent, and_parts, nat_tests, slice_get}
 use Rattle.af_base.specs.declared.event.HandEvent.TheVariants as hand
 use Rattle.af_merges.specs.Stages.{keeps_event, keeps_mets, known_by, event_before}
 use Rattle.af_merges.specs.MergePieces.{names_at_least, knows_no_more}
-use Rattle.std.proofs.lemmas.Bool.{and_parts}
 
 front_met : (known place i k : ℕ) → place ≤ k → ((nat_le k (place + 1) || nat_le known i) && (nat_le i known || nat_le place k)) ≡ true
     → ((nat_le k (place + 1) || nat_le known (i + 1)) && (nat_le (i + 1) known || nat_le place k)) ≡ true

@@ -1,9 +1,7 @@
 -- Lists of Mets: what is kept in two parts is kept in the whole.
 use Rattle.std.proofs.Common.{◌≡◌, ℕ, ◌+◌, List, [], ◌∷◌, ◌++◌, length, true, subst, arith}
-use Rattle.af_base.proofs.Basics.{both_true}
-use Rattle.af_base.specs.declared.event.HandEvent.{HandEvent}
+use Rattle.af_merges.proofs.Common.{HandEvent, and_parts, both_true}
 use Rattle.af_merges.specs.Stages.{keeps_event, keeps_mets}
-use Rattle.std.proofs.lemmas.Bool.{and_parts}
 
 pub keeps-append : (a b : List HandEvent) (place clients hands : ℕ)
     → keeps_mets a place clients hands ≡ true → keeps_mets b (place + length a) clients hands ≡ true → keeps_mets (a ++ b) place clients hands ≡ true

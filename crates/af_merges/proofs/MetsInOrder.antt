@@ -1,13 +1,9 @@
 -- What the Mets of a list ask, and what has stood in an order.
 use Rattle.std.proofs.Common.{◌≡◌, ℕ, ◌+◌, ◌≤◌, max, List, [], ◌∷◌, ◌++◌, length, true, ◌&&◌, ◌||◌, nat_le, refl, subst, arith}
-use Rattle.std.proofs.lemmas.Bool.Decides.{nat_tests}
-use Rattle.af_base.proofs.Basics.{both_true, is_within, max_le, within_is}
-use Rattle.af_base.specs.declared.event.HandEvent.{HandEvent}
+use Rattle.af_merges.proofs.Common.{HandEvent, Moment, and_parts, both_true, by_client, by_hand, by_server, hand_of, is_within, max_le, met_by, met_in, nat_tests, within_is}
 use Rattle.af_base.specs.declared.event.HandEvent.TheVariants as hand
-use Rattle.af_model.specs.History.{Moment, by_client, by_server, by_hand, hand_of, met_by, met_in}
 use Rattle.af_merges.specs.Stages.{keeps_event, keeps_mets}
 use Rattle.af_merges.specs.MergePieces.{names_at_least, knows_no_more}
-use Rattle.std.proofs.lemmas.Bool.{and_parts}
 use Rattle.af_merges.proofs.Mets.{keeps-append}
 use Rattle.af_merges.proofs.MetTests.{past}
 use Rattle.af_merges.proofs.Extends.{keeps-front, knows-front}

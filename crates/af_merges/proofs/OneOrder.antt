@@ -1,13 +1,6 @@
 -- One order, step by step, and what stays of it when more events come.
 use Rattle.std.proofs.Common.{◌≡◌, ◌∙◌, ◌+◌, Bool, if◌then◌else◌, List, [], ◌∷◌, ◌++◌, All, length, take, true, Option, Some, None, IfSome, slice_get, refl, sym, ap, subst, arith, length-append}
-use Rattle.std.specs.List.{Contains}
-use Rattle.std.specs.Option.{option_and_then}
-use Rattle.std.proofs.lemmas.List.{take-append-le, take_all}
-use Rattle.std.proofs.lemmas.List.Elements.{All-contains}
-use Rattle.af_base.specs.declared.event.ClientEvent.{ClientEvent}
-use Rattle.af_base.specs.declared.event.ServerEvent.{ServerEvent}
-use Rattle.af_base.specs.declared.event.HandEvent.{HandEvent}
-use Rattle.af_model.specs.declared.point.TrackPoint.{TrackPoint}
+use Rattle.af_merges.proofs.Common.{All-contains, ClientEvent, Contains, HandEvent, ServerEvent, TrackPoint, option_and_then, take-append-le, take_all}
 use Rattle.af_merges.specs.declared.search.Stage.{Stage}
 use Rattle.af_merges.specs.declared.pieces.Search.{Search}
 use Rattle.af_merges.specs.Stages.{Client, Lists, Who, begin, kept, keeps_mets, move, with_client, IsWhole, HasWalk, InBounds}

@@ -1,23 +1,14 @@
 -- From a legal order of three lists to turns that lead through them.
 use Rattle.std.proofs.Common.{◌≡◌, ℕ, zero, suc, ◌+◌, ◌≤◌, List, [], ◌∷◌, ◌++◌, length, drop, Some, None, true, cond, nat_le, refl, ap, ◌∙◌, sym, subst, arith, append_assoc, append-nil, length-append}
-use Rattle.std.specs.Option.{option_and_then}
-use Rattle.std.specs.List.{slice_get}
-use Rattle.af_base.proofs.Basics.{at_seam, both_true, is_within}
-use Rattle.af_base.specs.declared.event.ClientEvent.{ClientEvent}
-use Rattle.af_base.specs.declared.event.ServerEvent.{ServerEvent}
-use Rattle.af_base.specs.declared.event.HandEvent.{HandEvent}
+use Rattle.af_merges.proofs.Common.{ClientEvent, HandEvent, HandMay, IsLegal, Moment, ServerEvent, TrackPoint, after, after_client, after_hand, after_server, and_parts, at_seam, both_true, by_client, by_hand, by_server, client_of, clients_at, hand_of, is_within, met_in, option_and_then, server_of, slice_get}
 use Rattle.af_base.specs.declared.event.HandEvent.TheVariants as hand
 use Rattle.af_model.proofs.Basics.{hand_met}
-use Rattle.af_model.specs.declared.point.TrackPoint.{TrackPoint}
 use Rattle.af_merges.specs.declared.search.Stage.{Stage}
-use Rattle.af_model.specs.Point.{HandMay, after_client, after_server, after_hand}
-use Rattle.af_model.specs.History.{Moment, by_client, by_server, by_hand, client_of, server_of, hand_of, after, met_in, clients_at, IsLegal}
 use Rattle.af_merges.specs.Merges.{HasLegalOrder}
 use Rattle.af_merges.specs.MergeSteps.{client_step, server_step}
 use Rattle.af_merges.specs.Walks.{walk}
 use Rattle.af_merges.specs.Stages.{Lists, Who, Client, Server, Hand, move, kept, keeps_mets, with_client, with_server, with_hand, begin, HasWalk}
 use Rattle.af_merges.specs.MergePieces.{names_at_least}
-use Rattle.std.proofs.lemmas.Bool.{and_parts}
 use Rattle.af_merges.proofs.MetTests.{client-kept}
 use Rattle.af_merges.proofs.MayTests.{client_legal-may, server_legal-may}
 use Rattle.af_merges.proofs.Levels.{walk-push}

@@ -1,12 +1,9 @@
 -- If the Mets of a list rise, all name at least what the first one names.
 use Rattle.std.proofs.Common.{◌≡◌, ℕ, zero, suc, List, [], ◌∷◌, drop, Bool, true, false, ◌&&◌, nat_le, refl, arith}
-use Rattle.std.proofs.lemmas.Bool.Decides.{nat_tests}
-use Rattle.af_base.proofs.Basics.{both_true}
-use Rattle.af_base.specs.declared.event.HandEvent.{HandEvent}
+use Rattle.af_merges.proofs.Common.{HandEvent, and_parts, both_true, nat_tests}
 use Rattle.af_base.specs.declared.event.HandEvent.TheVariants as hand
 use Rattle.af_merges.specs.MergePieces.{names_at_least}
 use Rattle.af_merges.specs.Rising.{rises_from, first_names}
-use Rattle.std.proofs.lemmas.Bool.{and_parts}
 
 lower : (a b c : ℕ) → nat_le a b ≡ true → nat_le b c ≡ true → nat_le a c ≡ true
 lower a b c p q = grind (arith, nat_tests)

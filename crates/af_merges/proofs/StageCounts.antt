@@ -1,14 +1,10 @@
 -- The three parties' steps, and how many events a walk has.
 use Rattle.std.proofs.Common.{zero, suc, ◌≡◌, ◌+◌, ◌<◌, ◌≤◌, List, [], ◌∷◌, length, Option, Some, ap, sym, subst, inl, inr, arith}
-use Rattle.std.specs.Option.{option_and_then}
-use Rattle.std.specs.List.{Contains, All, slice_get}
-use Rattle.std.proofs.lemmas.Option.{option_and_then_some, same_Some, cond_some, slice_get_within}
+use Rattle.af_merges.proofs.Common.{All, All-contains, Contains, after_hand, cond_some, option_and_then, option_and_then_some, same_Some, slice_get, slice_get_within}
 use Rattle.af_merges.specs.declared.search.Stage.{Stage}
 use Rattle.af_merges.specs.MergeSteps.{client_step, server_step}
-use Rattle.af_model.specs.Point.{after_hand}
 use Rattle.af_merges.specs.Walks.{walk, Adds, Spreads}
 use Rattle.af_merges.proofs.EagerMets.{eager-move}
-use Rattle.std.proofs.lemmas.List.Elements.{All-contains}
 use Rattle.af_merges.specs.Stages.{Lists, Who, Client, Server, Hand, move, eager, kept, with_client, with_server, with_hand, InBounds, count, total}
 
 each : (step : Who → Stage → Option Stage) (m : Stage) (old a b new : List Stage)

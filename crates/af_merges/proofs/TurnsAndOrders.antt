@@ -1,6 +1,6 @@
 -- Turns that lead through three lists, and a legal order of all their events, are two forms of one thing.
 use Rattle.std.proofs.Common.{◌↔◌}
-use Rattle.af_model.specs.declared.point.TrackPoint.{TrackPoint}
+use Rattle.af_merges.proofs.Common.{TrackPoint}
 use Rattle.af_merges.specs.Merges.{HasLegalOrder}
 use Rattle.af_merges.specs.Stages.{Lists, HasWalk}
 use Rattle.af_merges.proofs.OrderToTurns.{HasWalk-from_order}

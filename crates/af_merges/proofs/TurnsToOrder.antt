@@ -1,26 +1,13 @@
 -- From turns that lead through three lists to a legal order of them.
 use Rattle.std.proofs.Common.{◌≡◌, ℕ, zero, suc, ◌+◌, ◌<◌, ◌≤◌, List, [], ◌∷◌, ◌++◌, length, take, drop, Some, true, ◌&&◌, ◌||◌, nat_le, refl, ap, ◌∙◌, sym, subst, arith}
-use Rattle.std.specs.Option.{option_and_then}
-use Rattle.std.specs.List.{slice_get}
-use Rattle.std.proofs.lemmas.Option.{option_and_then_some, same_Some, cond_some, slice_get_within}
-use Rattle.std.proofs.lemmas.List.{take-append-drop}
-use Rattle.std.proofs.Math.Seq.{take-length}
-use Rattle.std.proofs.lemmas.Bool.Decides.{nat_tests}
-use Rattle.af_base.proofs.Basics.{both_true, take_step, within_is}
-use Rattle.af_base.specs.declared.event.ClientEvent.{ClientEvent}
-use Rattle.af_base.specs.declared.event.ServerEvent.{ServerEvent}
-use Rattle.af_base.specs.declared.event.HandEvent.{HandEvent}
+use Rattle.af_merges.proofs.Common.{ClientEvent, ClientMay, HandEvent, HandMay, IsLegal, Moment, ServerEvent, ServerMay, TrackPoint, after, after_client, after_hand, after_server, and_parts, both_true, by_client, by_hand, by_server, client_of, clients_at, cond_some, hand_of, met_in, nat_tests, option_and_then, option_and_then_some, same_Some, server_of, slice_get, slice_get_within, take-append-drop, take-length, take_step, within_is}
 use Rattle.af_base.specs.declared.event.HandEvent.TheVariants as hand
-use Rattle.af_model.specs.declared.point.TrackPoint.{TrackPoint}
 use Rattle.af_merges.specs.declared.search.Stage.{Stage}
-use Rattle.af_model.specs.Point.{ClientMay, ServerMay, HandMay, after_client, after_server, after_hand}
-use Rattle.af_model.specs.History.{Moment, by_client, by_server, by_hand, client_of, server_of, hand_of, after, met_in, clients_at, IsLegal}
 use Rattle.af_merges.specs.Merges.{HasLegalOrder}
 use Rattle.af_merges.specs.MergeSteps.{client_step, server_step}
 use Rattle.af_merges.specs.Walks.{walk}
 use Rattle.af_merges.specs.Stages.{Lists, Who, Client, Server, Hand, move, kept, keeps_event, keeps_mets, with_client, with_server, with_hand, begin, HasWalk}
 use Rattle.af_merges.specs.MergePieces.{names_at_least, knows_no_more}
-use Rattle.std.proofs.lemmas.Bool.{and_parts}
 use Rattle.af_merges.proofs.MayTests.{client_may-legal, server_may-legal}
 use Rattle.af_merges.proofs.MetsInOrder.{met-known, names-zero}
 use Rattle.af_merges.proofs.Extends.{keeps_first, keeps-front, knows-kept}

@@ -72,11 +72,8 @@ module _ (m m' : MixerState) (out out' : List Frame) (answer : Cycle) (n : ℕ) 
   never_spent = by_exit m.exited refl
 
 spent_is : (a : Cycle) → IsSpent (Ok a) → (n : ℕ) × (a ≡ cycle.Spent n)
-spent_is cycle.Mixed e = absurd e
-spent_is cycle.Idle e = absurd e
-spent_is cycle.Cold e = absurd e
-spent_is cycle.Exit e = absurd e
 spent_is (cycle.Spent n) e = (n, refl)
+spent_is _ e = absurd e
 
 -- a cycle behind which room was made goes on
 pub goes_on : (m x m' : MixerState) (out out' : List Frame) (answer : Cycle) → 1 ≤ m.cycles → MakesRoom m true x → IsSound x → Cycles x out answer m' out' → IsSpent (Ok answer) → ⊥

@@ -11,9 +11,7 @@ use Rattle.af_mixer_ends.specs.Tracks.{Sends, told_sent}
 -- a send is no poke
 pub calm : (code argument : ℕ) (r : Sent) → IsPoke (sent_call code argument r) → ⊥
 calm code argument (sent.Sent front) e = e
-calm code argument (sent.Full front) e = e
-calm code argument (sent.Dead flags) e = e
-calm code argument (sent.Corrupt front rear) e = e
+calm code argument _ e = e
 
 pub told_sends : (c : ClientState) (code argument : ℕ) (r : Sent) (d : ClientState) → Does c 2 (sent_call code argument r) d → Releases c (sent_by code argument r) d
     → (d.flushes ≡ c.flushes) × (d.released ≡ c.released + sent_count r) → (IsCorruptSend r → ⊥) → Sends c code argument (told_sent r) d

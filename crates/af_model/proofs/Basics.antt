@@ -1,19 +1,10 @@
 -- Basic lemmas that several files here, and of the crates above, cite.
 use Rattle.std.proofs.Common.{Bool, List, None, Option, Some, [], ap, append_assoc, arith, drop, false, fold, if◌then◌else◌, length, length-append, not, refl, suc, sym, take, true, true≢false, zero, ℕ, ◌%◌, ◌&&◌, ◌*◌, ◌++◌, ◌+◌, ◌-◌, ◌==◌, ◌∙◌, ◌∷◌, ◌≡◌, ◌≤◌}
+use Rattle.af_model.proofs.Common.{ClientEvent, CycleEntry, FastState, Frame, HandEvent, ServerEvent, and_from, and_parts, fold-append, length-drop, no, positive_is, take-append-drop}
 use Rattle.std.proofs.Math.Nat.{mod-eq_of_lt}
-use Rattle.std.proofs.lemmas.Bool.{and_from, and_parts}
-use Rattle.std.proofs.lemmas.Grind.{fold-append}
-use Rattle.std.proofs.lemmas.List.{length-drop, take-append-drop}
-use Rattle.af_base.proofs.Basics.{no, positive_is}
 use Rattle.af_base.specs.declared.event.ClientEvent.TheVariants as client
-use Rattle.af_base.specs.declared.event.ClientEvent.{ClientEvent}
 use Rattle.af_base.specs.declared.event.HandEvent.TheVariants as hand
-use Rattle.af_base.specs.declared.event.HandEvent.{HandEvent}
 use Rattle.af_base.specs.declared.event.ServerEvent.TheVariants as server
-use Rattle.af_base.specs.declared.event.ServerEvent.{ServerEvent}
-use Rattle.af_base.specs.declared.frame.Frame.{Frame}
-use Rattle.af_base.specs.declared.log.CycleEntry.{CycleEntry}
-use Rattle.af_base.specs.declared.state.FastState.{FastState}
 use Rattle.af_model.specs.Cycles.{cycle_of, is_mixed, state_of}
 use Rattle.af_model.specs.Fates.{keeps_all}
 use Rattle.af_model.specs.History.{Moment, by_client, by_hand, by_server, client_of, clients_at, flushes_of, is_lawful, is_tame as is_tame_event}
@@ -52,14 +43,7 @@ both_lawful (x ∷ xs) ys h g = by_first (is_tame_event x) h (λ r. both_lawful 
 
 pub client_taken : (p : TrackPoint) (e : ClientEvent) → (after_client p e).consumed ≡ p.consumed
 client_taken p (client.Release count) = refl
-client_taken p client.Flush = refl
-client_taken p (client.SetGain word) = refl
-client_taken p (client.ClearFlags old) = refl
-client_taken p (client.SawFlags flags) = refl
-client_taken p (client.SawFront front) = refl
-client_taken p (client.SawStatus word) = refl
-client_taken p (client.Poke word value) = refl
-client_taken p (client.Learn count) = refl
+client_taken p _ = refl
 
 -- one round more has its entries beside theirs
 pub cycles_more : (rounds : List RoundNoted) (r : RoundNoted) → cycles_of (rounds ++ r ∷ []) ≡ cycles_of rounds + r.cycles
@@ -79,16 +63,8 @@ hand_met n met at (hand.SetFlags bits) h = h
 hand_met n met at (hand.Met k) h = h.0
 
 pub keeps : (e : ServerEvent) → is_taking e ≡ true → keeps_all e ≡ true
-keeps (server.SawRear rear) is = refl
-keeps (server.SawFront front) is = refl
-keeps (server.Take count) is = refl
-keeps (server.Learn count) is = refl
-keeps (server.SawGain word) is = refl
-keeps (server.SawFlush flush) is = refl
 keeps (server.Drop to) is = is
-keeps (server.Tally missing) is = refl
-keeps (server.SetFlags bits) is = refl
-keeps (server.SetStatus word) is = refl
+keeps _ is = refl
 
 -- what a list says, after further events
 pub kept_more : (k : Shape) (es more : List ServerEvent) → server_kept k (es ++ more) ≡ fold (server_keeps k) (server_kept k es) more
@@ -106,15 +82,7 @@ mixes_state done (Some x) mixed = (x, refl)
 
 pub no_flush : (p : TrackPoint) (e : ServerEvent) → (after_server p e).flushes ≡ p.flushes
 no_flush p (server.SawGain word) = refl
-no_flush p (server.SawFlush flush) = refl
-no_flush p (server.SawRear rear) = refl
-no_flush p (server.SawFront front) = refl
-no_flush p (server.Drop to) = refl
-no_flush p (server.Take count) = refl
-no_flush p (server.Tally missing) = refl
-no_flush p (server.SetFlags bits) = refl
-no_flush p (server.SetStatus word) = refl
-no_flush p (server.Learn count) = refl
+no_flush p _ = refl
 
 -- before any flush the flush word is 0
 pub none_as : (w : ℕ) (b : Bool) → (w == 0) ≡ b → 0 ≡ (if b then 0 else wrapped (0 * w + 0 % w))

@@ -1,17 +1,13 @@
 -- In a history the count that a server's list gives is that of the frames from the base up to what was consumed.
 use Rattle.std.proofs.Common.{◌≡◌, ℕ, ◌+◌, ◌-◌, ◌≤◌, Bool, true, false, fold, List, [], ◌∷◌, ◌++◌, refl, sym, ap, ◌∙◌, subst, arith, true≢false, Option, Some, None}
-use Rattle.std.proofs.lemmas.Grind.{fold-append}
-use Rattle.af_base.specs.declared.event.ClientEvent.{ClientEvent}
-use Rattle.af_base.specs.declared.event.ServerEvent.{ServerEvent}
+use Rattle.af_model.proofs.Common.{ClientEvent, HandEvent, Seen, ServerEvent, fold-append}
 use Rattle.af_base.specs.declared.event.ServerEvent.TheVariants as server
-use Rattle.af_base.specs.declared.event.HandEvent.{HandEvent}
-use Rattle.af_base.specs.declared.seen.Seen.{Seen}
 use Rattle.af_base.specs.declared.seen.Seen.TheVariants as seen
 use Rattle.af_model.proofs.Basics.{client_taken}
 use Rattle.af_model.specs.declared.shape.Shape.{Shape}
 use Rattle.af_model.specs.declared.point.TrackPoint.{TrackPoint}
 use Rattle.af_model.specs.Point.{wrapped, start, drop_end, ServerMay, after_server}
-use Rattle.af_model.specs.History.{Moment, by_client, by_server, by_hand, client_of, server_of, after, IsLegal, HasHistory, point}
+use Rattle.af_model.specs.History.{Moment, by_client, by_server, by_hand, client_of, server_of, after, IsLegal, HasHistory}
 use Rattle.af_model.specs.Fates.{InTurn}
 use Rattle.af_model.specs.Room.{ahead}
 use Rattle.af_model.specs.ClientCalls.{client_begins, IsClientList}
@@ -45,11 +41,8 @@ follow_join b [] ys h t = t
 follow_join b (x ∷ xs) ys h t = (h.0, follow_join (saw_front b x) xs ys h.1 t)
 
 drops_follow : (sight : Seen) (front : ℕ) → AllFollow true (drops_of sight front)
-drops_follow seen.Absent front = tt
-drops_follow (seen.Frames count) front = tt
-drops_follow seen.Empty front = tt
 drops_follow (seen.Flushed dropped) front = (refl, tt)
-drops_follow (seen.Shut back rear) front = tt
+drops_follow _ front = tt
 
 all_follow : (shape : Shape) (shown : Option ℕ) (es : List ServerEvent) → IsServerList shape shown es → AllFollow false es
 all_follow shape _ _ begins = tt
@@ -109,30 +102,14 @@ module _ (shape : Shape) (few : shape.frames ≤ 65536) where
       (λ i. (sym (fold-append (server_keeps shape) (server_begins shape) (server_of order) (e ∷ [])) i, sym (fold-append saw_front false (server_of order) (e ∷ [])) i)) now
   counts_in (by_hand e ∷ order) h fit f = kept_counts _ _ (after (start shape) order) _ (hand_consumed (after (start shape) order) e) (counts_in order h.1 fit f)
 
--- what the server counts as consumed lies between the base and the position that it consumed up to
-pub consumed-counted : (shape : Shape) → shape.frames ≤ 65536 → {ce : List ClientEvent} {cf : List ℕ} {se : List ServerEvent} {sf : List ℕ} {he : List HandEvent} (h : HasHistory shape ce cf se sf he)
-    (shown : Option ℕ) → IsClientList shape.frames shape.cells shape.base ce → IsServerList shape shown se → shape.base + (server_kept shape se).consumed ≡ (point h).consumed
-consumed-counted shape few {ce} {cf} {se} {sf} {he} h shown hers his =
-    let fit : AllFit shape (client_begins shape.base) None (client_of h.order) = subst (λ (es : List ClientEvent). AllFit shape (client_begins shape.base) None es) (sym h.client_is) (all_fit shape ce hers) in
-    let follow : AllFollow false (server_of h.order) = subst (λ (es : List ServerEvent). AllFollow false es) (sym h.server_is) (all_follow shape shown se his) in
-    subst (λ (es : List ServerEvent). shape.base + (server_kept shape es).consumed ≡ (point h).consumed) h.server_is (counts_in shape few h.order h.legal fit follow).count
-
 module _ (shape : Shape) (few : shape.frames ≤ 65536) where
   own_join : (k : ServerKept) (xs ys : List ServerEvent) → AllSeeOwn shape k xs → AllSeeOwn shape (fold (server_keeps shape) k xs) ys → AllSeeOwn shape k (xs ++ ys)
   own_join k [] ys h t = t
   own_join k (x ∷ xs) ys h t = (h.0, own_join (server_keeps shape k x) xs ys h.1 t)
 
   sees : (k : ServerKept) (p : TrackPoint) (others : ℕ) (e : ServerEvent) → ServerMay p others e → shape.base + k.consumed ≡ p.consumed → SeesOwn shape k e
-  sees k p others (server.SawGain word) may is = tt
-  sees k p others (server.SawFlush flush) may is = tt
-  sees k p others (server.SawRear rear) may is = tt
   sees k p others (server.SawFront front) may is = may ∙ ap wrapped (sym is)
-  sees k p others (server.Drop to) may is = tt
-  sees k p others (server.Take count) may is = tt
-  sees k p others (server.Tally missing) may is = tt
-  sees k p others (server.SetFlags bits) may is = tt
-  sees k p others (server.SetStatus word) may is = tt
-  sees k p others (server.Learn count) may is = tt
+  sees k p others _ may is = tt
 
   all_own : (order : List Moment) → IsLegal (start shape) order → AllFit shape (client_begins shape.base) None (client_of order) → AllFollow false (server_of order)
       → AllSeeOwn shape (server_begins shape) (server_of order)

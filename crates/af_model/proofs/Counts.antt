@@ -1,7 +1,6 @@
 -- What the client's list alone tells of the point.
 use Rattle.std.proofs.Common.{◌≡◌, ℕ, ◌+◌, true, true≢false, List, [], ◌∷◌, ◌++◌, refl, sym, ap, ◌∙◌, arith}
-use Rattle.af_base.proofs.Basics.{both_true}
-use Rattle.af_base.specs.declared.event.ClientEvent.{ClientEvent}
+use Rattle.af_model.proofs.Common.{ClientEvent, both_true}
 use Rattle.af_base.specs.declared.event.ClientEvent.TheVariants as client
 use Rattle.af_model.proofs.Basics.{both_first, hand_flush, no_flush}
 use Rattle.af_model.specs.declared.shape.Shape.{Shape}
@@ -24,15 +23,8 @@ flushes-snoc [] e = omega arith
 flushes-snoc (x ∷ es) e = let r = flushes-snoc es e in omega arith
 
 flushes_client : (p : TrackPoint) (e : ClientEvent) → (after_client p e).flushes ≡ p.flushes + flush_in e
-flushes_client p (client.Release count) = omega arith
 flushes_client p client.Flush = refl
-flushes_client p (client.SetGain word) = omega arith
-flushes_client p (client.ClearFlags old) = omega arith
-flushes_client p (client.SawFlags flags) = omega arith
-flushes_client p (client.SawFront front) = omega arith
-flushes_client p (client.SawStatus word) = omega arith
-flushes_client p (client.Poke word value) = omega arith
-flushes_client p (client.Learn count) = omega arith
+flushes_client p _ = omega arith
 
 -- the flush count is the number of the client's flushes
 pub flushes_are : (shape : Shape) (order : List Moment) → (after (start shape) order).flushes ≡ flushes_of (client_of order)

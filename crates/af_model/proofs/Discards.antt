@@ -1,10 +1,8 @@
 -- On a positional block each drop discards what was released before the flush that its look saw, and no more.
 use Rattle.std.proofs.Common.{◌≡◌, ◌≢◌, ℕ, max, List, [], ◌∷◌, refl, sym, ◌∙◌, arith}
-use Rattle.af_base.specs.declared.event.ClientEvent.{ClientEvent}
+use Rattle.af_model.proofs.Common.{ClientEvent, HandEvent, ServerEvent}
 use Rattle.af_base.specs.declared.event.ClientEvent.TheVariants as client
-use Rattle.af_base.specs.declared.event.ServerEvent.{ServerEvent}
 use Rattle.af_base.specs.declared.event.ServerEvent.TheVariants as server
-use Rattle.af_base.specs.declared.event.HandEvent.{HandEvent}
 use Rattle.af_base.specs.declared.event.HandEvent.TheVariants as hand
 use Rattle.af_model.specs.declared.point.TrackPoint.{TrackPoint}
 use Rattle.af_model.specs.declared.shape.Shape.{Shape}
@@ -24,23 +22,14 @@ client_stands p last seen (client.Release count) s = record { last_is = s.last_i
 client_stands p last seen client.Flush s = record { last_is = refl; seen_is = s.seen_is }
 client_stands p last seen (client.SetGain word) s = record { last_is = s.last_is; seen_is = s.seen_is }
 client_stands p last seen (client.ClearFlags old) s = record { last_is = s.last_is; seen_is = s.seen_is }
-client_stands p last seen (client.SawFlags flags) s = s
-client_stands p last seen (client.SawFront front) s = s
-client_stands p last seen (client.SawStatus word) s = s
-client_stands p last seen (client.Poke word value) s = s
-client_stands p last seen (client.Learn count) s = s
+client_stands p last seen _ s = s
 
 server_stands : (p : TrackPoint) (last seen : ℕ) (e : ServerEvent) → Stand p last seen → Stand (after_server p e) last (seen_by last seen e)
 server_stands p last seen (server.SawGain word) s = s
 server_stands p last seen (server.SawFlush flush) s = record { last_is = s.last_is; seen_is = s.last_is }
-server_stands p last seen (server.SawRear rear) s = record { last_is = s.last_is; seen_is = s.seen_is }
 server_stands p last seen (server.SawFront front) s = s
-server_stands p last seen (server.Drop to) s = record { last_is = s.last_is; seen_is = s.seen_is }
-server_stands p last seen (server.Take count) s = record { last_is = s.last_is; seen_is = s.seen_is }
-server_stands p last seen (server.Tally missing) s = record { last_is = s.last_is; seen_is = s.seen_is }
-server_stands p last seen (server.SetFlags bits) s = record { last_is = s.last_is; seen_is = s.seen_is }
-server_stands p last seen (server.SetStatus word) s = record { last_is = s.last_is; seen_is = s.seen_is }
 server_stands p last seen (server.Learn count) s = s
+server_stands p last seen _ s = record { last_is = s.last_is; seen_is = s.seen_is }
 
 hand_stands : (p : TrackPoint) (last seen : ℕ) (e : HandEvent) → Stand p last seen → Stand (after_hand p e) last seen
 hand_stands p last seen (hand.SetFlags bits) s = record { last_is = s.last_is; seen_is = s.seen_is }

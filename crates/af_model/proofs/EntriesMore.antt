@@ -1,8 +1,6 @@
 -- The entries of a log keep their form as one more is added.
 use Rattle.std.proofs.Common.{◌≡◌, ℕ, ◌+◌, ◌≤◌, List, [], ◌∷◌, ◌++◌, length, take, drop, refl, ap, sym, ◌∙◌, subst, arith, All}
-use Rattle.std.proofs.lemmas.List.{length-take, length-drop, drop-append-le, take-append-le, take_all, append-nil, take-append-drop, append_cancel_left}
-use Rattle.af_base.specs.declared.frame.Frame.{Frame}
-use Rattle.af_base.specs.declared.log.CycleEntry.{CycleEntry}
+use Rattle.af_model.proofs.Common.{CycleEntry, Frame, append-nil, append_cancel_left, drop-append-le, length-drop, length-take, take-append-drop, take-append-le, take_all}
 use Rattle.af_base.specs.Sample.{IsFrame}
 use Rattle.af_model.specs.Journals.{entries_seen, frames_of, taken_by}
 use Rattle.af_model.specs.JournalForm.{IsEntry, AreEntries}

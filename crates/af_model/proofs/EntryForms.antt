@@ -1,18 +1,13 @@
 -- A legal entry has the form of an entry.
 use Rattle.std.proofs.Common.{◌≡◌, ℕ, zero, suc, ◌^◌, ◌<◌, ◌==◌, ◌&&◌, Bool, true, false, true≢false, if◌then◌else◌, ne_eqb, Option, Some, None, List, refl, sym, ap, subst, ◌∙◌, inl, inr, ◌⊎◌, arith}
+use Rattle.af_model.proofs.Common.{CycleEntry, FastState, Seen, ServerEvent, SlotEntry, count_seen, entry_slot, slots}
 use Rattle.std.specs.Int.{bit_at}
 use Rattle.std.proofs.lemmas.Nat.{or_lt, pow_pos, pow_below}
 use Rattle.std.proofs.lemmas.Nat.Bits.{bit_at_or, bit_at-zero, bit_at-pow_other}
-use Rattle.af_base.specs.declared.event.ServerEvent.{ServerEvent}
 use Rattle.af_base.specs.declared.log.Cycle.TheVariants as cycle
-use Rattle.af_base.specs.declared.log.CycleEntry.{CycleEntry}
-use Rattle.af_base.specs.declared.log.SlotEntry.{SlotEntry}
-use Rattle.af_base.specs.declared.seen.Seen.{Seen}
 use Rattle.af_base.specs.declared.seen.Seen.TheVariants as seen
 use Rattle.af_base.specs.declared.state.Command.{Command}
 use Rattle.af_base.specs.declared.state.Command.TheVariants.{ColdIdle, Exit, MixWrite}
-use Rattle.af_base.specs.declared.state.FastState.{FastState}
-use Rattle.af_base.specs.Log.{slots, entry_slot, count_seen}
 use Rattle.af_model.proofs.Basics.{mixes_state}
 use Rattle.af_model.specs.Cycles.{IsSeen, state_of, cold_done, cycle_by, cycle_of, shown, SubmixSlot, is_mono, mono_marks, Found, Mixes, is_mixed, LegalCycle}
 use Rattle.af_model.specs.JournalForm.{IsSubmix, IsMixed, IsAbsent, is_spent, IsEntry}

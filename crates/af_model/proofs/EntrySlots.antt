@@ -1,11 +1,7 @@
 -- The slots of an entry and the frames that they took, as slots are filled in and frames are added.
 use Rattle.std.proofs.Common.{◌≡◌, ℕ, zero, suc, ◌+◌, ◌≤◌, ◌<◌, ◌==◌, if◌then◌else◌, Bool, false, ne_eqb, List, [], ◌∷◌, ◌++◌, length, take, drop, slice_set, refl, ap, ◌∙◌, arith, rules}
-use Rattle.std.proofs.lemmas.List.{get_or-set_same, get_or-set_other, drop-append-le, take-append-le, take_all, length-drop}
+use Rattle.af_model.proofs.Common.{CycleEntry, Frame, SlotEntry, count_seen, drop-append-le, entry_slot, frames_taken, get_or-set_other, get_or-set_same, length-drop, take-append-le, take_all}
 use Rattle.std.proofs.Math.Seq.{drop-append_seam}
-use Rattle.af_base.specs.declared.frame.Frame.{Frame}
-use Rattle.af_base.specs.declared.log.CycleEntry.{CycleEntry}
-use Rattle.af_base.specs.declared.log.SlotEntry.{SlotEntry}
-use Rattle.af_base.specs.Log.{entry_slot, count_seen, frames_taken}
 use Rattle.af_model.specs.Cycles.{taken_before, place_of}
 
 -- an entry with one slot filled in

@@ -1,11 +1,8 @@
 -- If nothing was dropped, what was taken begins what was released.
 use Rattle.std.proofs.Common.{◌≡◌, ◌≢◌, ℕ, ◌+◌, ◌-◌, ◌≤◌, ◌==◌, if◌then◌else◌, max, Bool, eq-eqb, ne_eqb, eqb-true, false, true, true≢false, ◌&&◌, List, [], ◌∷◌, ◌++◌, take, drop, refl, sym, ap, ◌∙◌, subst, arith, take-add}
-use Rattle.af_base.proofs.Basics.{both_true}
-use Rattle.af_base.specs.declared.event.ClientEvent.{ClientEvent}
+use Rattle.af_model.proofs.Common.{ClientEvent, HandEvent, ServerEvent, both_true}
 use Rattle.af_base.specs.declared.event.ClientEvent.TheVariants as client
-use Rattle.af_base.specs.declared.event.ServerEvent.{ServerEvent}
 use Rattle.af_base.specs.declared.event.ServerEvent.TheVariants as server
-use Rattle.af_base.specs.declared.event.HandEvent.{HandEvent}
 use Rattle.af_base.specs.declared.event.HandEvent.TheVariants as hand
 use Rattle.af_model.proofs.Basics.{both_first}
 use Rattle.af_model.specs.declared.shape.Shape.{Shape}
@@ -93,14 +90,7 @@ module _ (frames : List ℕ) (shape : Shape) where
 
   of_client : (p : TrackPoint) (taken : List ℕ) (e : ClientEvent) → Begins p taken → Begins (after_client p e) taken
   of_client p taken (client.Release count) b = b
-  of_client p taken client.Flush b = b
-  of_client p taken (client.SetGain word) b = b
-  of_client p taken (client.ClearFlags old) b = b
-  of_client p taken (client.SawFlags flags) b = b
-  of_client p taken (client.SawFront front) b = b
-  of_client p taken (client.SawStatus word) b = b
-  of_client p taken (client.Poke word value) b = b
-  of_client p taken (client.Learn count) b = b
+  of_client p taken _ b = b
 
   of_server : (p : TrackPoint) (taken : List ℕ) (e : ServerEvent) → shape.base ≤ p.consumed → keeps_all e ≡ true → Begins p taken → Begins (after_server p e) (with_taken frames shape.base p taken e)
   of_server p taken (server.SawGain word) low k b = b

@@ -1,9 +1,7 @@
 -- A history with one event more.
 use Rattle.std.proofs.Common.{◌≡◌, ℕ, ◌+◌, List, [], ◌∷◌, ◌++◌, length, ap, ◌∙◌}
-use Rattle.af_base.specs.declared.event.ClientEvent.{ClientEvent}
+use Rattle.af_model.proofs.Common.{ClientEvent, HandEvent, ServerEvent}
 use Rattle.af_base.specs.declared.event.ClientEvent.TheVariants as client
-use Rattle.af_base.specs.declared.event.ServerEvent.{ServerEvent}
-use Rattle.af_base.specs.declared.event.HandEvent.{HandEvent}
 use Rattle.af_model.specs.declared.shape.Shape.{Shape}
 use Rattle.af_model.specs.Point.{ClientMay, ServerMay, HandMay, after_client, after_server, after_hand}
 use Rattle.af_model.specs.History.{by_client, by_server, by_hand, client_of, server_of, met_in, clients_at, with_taken, taken_of, HasHistory, point}

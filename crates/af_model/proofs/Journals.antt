@@ -1,10 +1,6 @@
 -- How the entries of a log are dealt out to the rounds of a journal.
 use Rattle.std.proofs.Common.{◌≡◌, ℕ, zero, suc, ◌+◌, ◌-◌, ◌<◌, ◌≤◌, List, [], ◌∷◌, ◌++◌, length, map, take, drop, slice_index_or, refl, ap, sym, ◌∙◌, arith}
-use Rattle.std.proofs.lemmas.List.{length-append, length-take-le, length-drop}
-use Rattle.std.proofs.lemmas.List.Elements.{All-get_or}
-use Rattle.af_base.specs.Log.{Logged}
-use Rattle.af_base.specs.declared.log.CycleEntry.{CycleEntry}
-use Rattle.af_base.specs.declared.frame.Frame.{Frame}
+use Rattle.af_model.proofs.Common.{All-get_or, CycleEntry, Frame, Logged, length-append, length-drop, length-take-le}
 use Rattle.af_model.proofs.Basics.{same_rounds}
 use Rattle.af_model.specs.declared.journal.Round.{Round}
 use Rattle.af_model.specs.Journals.{EntrySeen, RoundNoted, RoundsNoted, journal_of, cycles_of, entries_of, entries_seen, no_round, rounds_seen, taken_by}

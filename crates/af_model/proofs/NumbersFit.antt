@@ -1,11 +1,7 @@
 -- The numbers of the rounds that were noted, and of the log of their cycles, are those of the journal.
 use Rattle.std.proofs.Common.{ℕ, ◌<◌, ◌^◌, List, [], ◌∷◌, All, take, drop, lit<, subst, sym}
-use Rattle.std.proofs.lemmas.List.{get_or-replicate}
-use Rattle.std.proofs.lemmas.List.Elements.{All-cons, All-drop, All-head, All-nil, All-tail, All-take}
-use Rattle.af_base.specs.declared.frame.Frame.{Frame}
+use Rattle.af_model.proofs.Common.{All-cons, All-drop, All-head, All-nil, All-tail, All-take, CycleEntry, Frame, Logged, absent, get_or-replicate, slots}
 use Rattle.af_base.specs.declared.log.Cycle.{Cycle}
-use Rattle.af_base.specs.declared.log.CycleEntry.{CycleEntry}
-use Rattle.af_base.specs.Log.{Logged, absent, slots}
 use Rattle.af_model.specs.Cycles.{still_entry}
 use Rattle.af_model.specs.Journals.{EntrySeen, RoundNoted, RoundsNoted, entries_seen, journal_of, rounds_seen, taken_by}
 use Rattle.af_model.specs.Numbers.{FitTurns, FitsEntry, FitsRound, FitsSlot, HasRanges}

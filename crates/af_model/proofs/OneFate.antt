@@ -1,13 +1,11 @@
 -- Each frame that was released is mixed once, discarded once, or still queued.
 use Rattle.std.proofs.Common.{◌≡◌, ℕ, zero, suc, ◌+◌, ◌-◌, ◌<◌, ◌≤◌, Some, List, [], ◌∷◌, ◌++◌, take, drop, slice_get, refl, sym, ap, ◌∙◌, subst, arith, append_assoc, append-nil, lt_of_not-le}
+use Rattle.af_model.proofs.Common.{ClientEvent, HandEvent, ServerEvent}
 use Rattle.std.proofs.lemmas.Option.{none-some, same_Some}
 use Rattle.af_model.proofs.Basics.{client_taken}
 use mathlib.Core.Logic.{dite}
 use native.Mathlib.Decide.{dec_le}
-use Rattle.af_base.specs.declared.event.ClientEvent.{ClientEvent}
-use Rattle.af_base.specs.declared.event.ServerEvent.{ServerEvent}
 use Rattle.af_base.specs.declared.event.ServerEvent.TheVariants as server
-use Rattle.af_base.specs.declared.event.HandEvent.{HandEvent}
 use Rattle.af_base.specs.declared.event.HandEvent.TheVariants as hand
 use Rattle.af_model.specs.declared.shape.Shape.{Shape}
 use Rattle.af_model.specs.declared.point.TrackPoint.{TrackPoint}
@@ -30,16 +28,9 @@ hand_consumed p (hand.SetFlags bits) = refl
 hand_consumed p (hand.Met count) = refl
 
 covers : (shape : Shape) (p : TrackPoint) (others : ℕ) (e : ServerEvent) → ServerMay p others e → InTurn shape p → Follow p.consumed (covered_by p e) (after_server p e).consumed
-covers shape p others (server.SawGain word) may turn = refl
-covers shape p others (server.SawFlush flush) may turn = refl
-covers shape p others (server.SawRear rear) may turn = refl
-covers shape p others (server.SawFront front) may turn = refl
 covers shape p others (server.Drop to) may turn = (refl, drop_low shape p turn, refl)
 covers shape p others (server.Take count) may turn = (refl, omega arith, refl)
-covers shape p others (server.Tally missing) may turn = refl
-covers shape p others (server.SetFlags bits) may turn = refl
-covers shape p others (server.SetStatus word) may turn = refl
-covers shape p others (server.Learn count) may turn = refl
+covers shape p others _ may turn = refl
 
 pub spans_follow : (shape : Shape) (order : List Moment) → IsLegal (start shape) order → Follow shape.base (spans_of shape order) (after (start shape) order).consumed
 spans_follow shape [] h = refl

@@ -1,14 +1,9 @@
 -- In a history whose client's list is spelled by its calls, neither proxy ever sees the other outside the room.
 use Rattle.std.proofs.Common.{◌⊎◌, inl, inr, true≢false, ◌≡◌, ℕ, ◌+◌, ◌-◌, ◌<◌, ◌≤◌, min, Bool, true, false, if◌then◌else◌, MatchOption, Option, Some, None, is_some, nat_lt, fold, List, [], ◌∷◌, ◌++◌, refl, sym, ap, ◌∙◌, subst, arith}
-use Rattle.std.proofs.lemmas.Grind.{fold-append}
-use Rattle.af_base.proofs.Basics.{is_not_below}
-use Rattle.af_base.specs.declared.event.ClientCall.{ClientCall}
+use Rattle.af_model.proofs.Common.{ClientCall, ClientEvent, HandEvent, Seen, ServerEvent, fold-append, is_not_below}
 use Rattle.af_base.specs.declared.event.ClientCall.TheVariants as call
-use Rattle.af_base.specs.declared.event.ClientEvent.{ClientEvent}
 use Rattle.af_base.specs.declared.event.ClientEvent.TheVariants as client
-use Rattle.af_base.specs.declared.event.ServerEvent.{ServerEvent}
 use Rattle.af_base.specs.declared.event.ServerEvent.TheVariants as server
-use Rattle.af_base.specs.declared.event.HandEvent.{HandEvent}
 use Rattle.af_base.specs.declared.event.HandEvent.TheVariants as hand
 use Rattle.af_model.specs.declared.shape.Shape.{Shape}
 use Rattle.af_model.specs.declared.point.TrackPoint.{TrackPoint}
@@ -17,7 +12,6 @@ use Rattle.af_model.specs.History.{Moment, by_client, by_server, by_hand, client
 use Rattle.af_model.specs.Fates.{InTurn}
 use Rattle.af_model.specs.Room.{ahead, outside}
 use Rattle.af_model.specs.ClientCalls.{ClientKept, client_keeps, client_begins, client_kept, filled_by, ClientAnswers, client_events_of, IsClientList, begins, calls, meets}
-use Rattle.af_base.specs.declared.seen.Seen.{Seen}
 use Rattle.af_base.specs.declared.seen.Seen.TheVariants as seen
 use Rattle.af_model.specs.ServerCalls.{ServerKept, is_noticed, server_keeps, server_begins, server_kept, look_at, drops_of, IsServerList, LooksInOrder}
 use Rattle.af_model.specs.ServerCalls as list
@@ -61,17 +55,11 @@ module _ (shape : Shape) where
       → AllFit (client_kept shape.frames shape.base es) o (client_events_of shape.frames shape.base es answer)
   call_fits es asked o (call.Put front count) a = (tt, (tt, ((front, refl, put_fits _ asked _ count a.0.1 a.2), tt)))
   call_fits es asked o (call.Full front) a = (tt, (tt, tt))
-  call_fits es asked o (call.Dead flags) a = (tt, tt)
   call_fits es asked o (call.Corrupt front rear) a = looks_fit _ o (is_some (client_kept shape.frames shape.base es).shut) front
-  call_fits es asked o (call.Cleared flags) a = (tt, tt)
-  call_fits es asked o (call.Flush count) a = (tt, tt)
-  call_fits es asked o (call.Gain word) a = (tt, tt)
   call_fits es asked o (call.Sent front code argument) a = (tt, (tt, ((front, refl, a.1), tt)))
   call_fits es asked o (call.SendFull front) a = (tt, (tt, tt))
-  call_fits es asked o (call.SendDead flags) a = (tt, tt)
   call_fits es asked o (call.SendCorrupt front rear) a = looks_fit _ o (is_some (client_kept shape.frames shape.base es).shut) front
-  call_fits es asked o (call.Status word) a = (tt, tt)
-  call_fits es asked o (call.Poke command word value) a = (tt, tt)
+  call_fits es asked o _ a = (tt, tt)
 
   -- the releases of calls fit the room
   pub all_fit : (es : List ClientEvent) → IsClientList shape.frames shape.cells shape.base es → AllFit (client_begins shape.base) None es
@@ -104,11 +92,8 @@ module _ (shape : Shape) where
   rear_join b (x ∷ xs) ys h t = (h.0, rear_join (saw_rear b x) xs ys h.1 t)
 
   drops_rest : (sight : Seen) (front : ℕ) → AllFollowRear false (drops_of sight front)
-  drops_rest seen.Absent front = tt
-  drops_rest (seen.Frames count) front = tt
-  drops_rest seen.Empty front = tt
   drops_rest (seen.Flushed dropped) front = (tt, tt)
-  drops_rest (seen.Shut back rear) front = tt
+  drops_rest _ front = tt
 
   spelled_follow : (shown : Option ℕ) (es : List ServerEvent) → IsServerList shape shown es → AllFollowRear false es
   spelled_follow _ _ list.begins = tt
@@ -124,15 +109,7 @@ module _ (shape : Shape) where
 
   flat_follows : shape.wrap ≡ 0 → (b : Bool) (e : ServerEvent) → FollowsRear b e
   flat_follows flat b (server.SawFront front) = inl flat
-  flat_follows flat b (server.SawGain word) = tt
-  flat_follows flat b (server.SawFlush flush) = tt
-  flat_follows flat b (server.SawRear rear) = tt
-  flat_follows flat b (server.Drop to) = tt
-  flat_follows flat b (server.Take count) = tt
-  flat_follows flat b (server.Tally missing) = tt
-  flat_follows flat b (server.SetFlags bits) = tt
-  flat_follows flat b (server.SetStatus word) = tt
-  flat_follows flat b (server.Learn count) = tt
+  flat_follows flat b _ = tt
 
   flat_follow : shape.wrap ≡ 0 → (b : Bool) (es : List ServerEvent) → AllFollowRear b es
   flat_follow flat b [] = tt
@@ -223,16 +200,8 @@ module _ (shape : Shape) where
 
     server_grows : (p : TrackPoint) (others : ℕ) (e : ServerEvent) → ServerMay p others e → InTurn shape p
         → ((after_server p e).released ≡ p.released) × (p.consumed ≤ (after_server p e).consumed)
-    server_grows p others (server.SawGain word) may turn = (refl, omega arith)
-    server_grows p others (server.SawFlush flush) may turn = (refl, omega arith)
-    server_grows p others (server.SawRear rear) may turn = (refl, omega arith)
-    server_grows p others (server.SawFront front) may turn = (refl, omega arith)
     server_grows p others (server.Drop to) may turn = (refl, drop_low shape p turn)
-    server_grows p others (server.Take count) may turn = (refl, omega arith)
-    server_grows p others (server.Tally missing) may turn = (refl, omega arith)
-    server_grows p others (server.SetFlags bits) may turn = (refl, omega arith)
-    server_grows p others (server.SetStatus word) may turn = (refl, omega arith)
-    server_grows p others (server.Learn count) may turn = (refl, omega arith)
+    server_grows p others _ may turn = (refl, omega arith)
 
     hand_keeps : (p : TrackPoint) (e : HandEvent) → ((after_hand p e).released ≡ p.released) × (p.consumed ≤ (after_hand p e).consumed)
     hand_keeps p (hand.SetFlags bits) = (refl, omega arith)
@@ -301,11 +270,7 @@ module _ (shape : Shape) where
     client_leaves k b p client.Flush s = record { rear_is = s.rear_is; unshut = s.unshut; shows = s.shows }
     client_leaves k b p (client.SetGain word) s = record { rear_is = s.rear_is; unshut = s.unshut; shows = s.shows }
     client_leaves k b p (client.ClearFlags old) s = record { rear_is = s.rear_is; unshut = s.unshut; shows = s.shows }
-    client_leaves k b p (client.SawFlags flags) s = s
-    client_leaves k b p (client.SawFront front) s = s
-    client_leaves k b p (client.SawStatus word) s = s
-    client_leaves k b p (client.Poke word value) s = s
-    client_leaves k b p (client.Learn count) s = s
+    client_leaves k b p _ s = s
 
     sees_in : (order : List Moment) → IsLegal (start shape) order → AllFit (client_begins shape.base) None (client_of order) → AllFollowRear false (server_of order)
         → SeesRoom (server_kept shape (server_of order)) (fold saw_rear false (server_of order)) (after (start shape) order)

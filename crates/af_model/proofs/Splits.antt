@@ -1,5 +1,5 @@
 -- An order cut at an event of the second party.
-use Rattle.std.proofs.Common.{◌≡◌, List, [], ◌∷◌, ◌++◌, map, length, get_or, refl, ap, arith, length-append}
+use Rattle.std.proofs.Common.{◌≡◌, List, [], ◌∷◌, ◌++◌, length, get_or, refl, ap, arith, length-append}
 use Rattle.af_model.specs.Order.{Event, one, two, ones, twos, Legal, after}
 
 tail_of : {A : Type 0} → List A → List A
@@ -28,12 +28,6 @@ module _ {A B : Type 0} where
   ones_append [] ys = refl
   ones_append (one a ∷ xs) ys = ap (λ z. a ∷ z) (ones_append xs ys)
   ones_append (two b ∷ xs) ys = ones_append xs ys
-
-  -- if the first party has no event more, the rest is the second party's
-  pub only_twos : (es : List (Event A B)) → length (ones es) ≡ 0 → es ≡ map two (twos es)
-  only_twos [] e = refl
-  only_twos (one a ∷ es) e = absurd (omega arith)
-  only_twos (two b ∷ es) e = ap (λ z. two b ∷ z) (only_twos es e)
 
 module _ {P E : Type 0} (legal : P → E → Type 0) (next : P → E → P) where
   pub legal_at : (p : P) (xs : List E) (e : E) (ys : List E) → Legal legal next p (xs ++ e ∷ ys) → Legal legal next p xs × legal (after legal next p xs) e × Legal legal next (next (after legal next p xs) e) ys

@@ -1,8 +1,6 @@
 -- The states that the entries of a log used, as entries and states are added.
 use Rattle.std.proofs.Common.{◌≡◌, ℕ, ◌+◌, ◌≤◌, ◌||◌, Bool, false, if◌then◌else◌, fold, Option, List, [], ◌∷◌, ◌++◌, length, refl, ap, ◌∙◌, arith}
-use Rattle.std.proofs.lemmas.Grind.{fold-append}
-use Rattle.af_base.specs.declared.log.CycleEntry.{CycleEntry}
-use Rattle.af_base.specs.declared.state.FastState.{FastState}
+use Rattle.af_model.proofs.Common.{CycleEntry, FastState, fold-append}
 use Rattle.af_model.proofs.Basics.{same_before}
 use Rattle.af_model.specs.Cycles.{state_of, last_used, has_exit, is_exit, is_cold, cold_of, cold_done, UseUpTo}
 

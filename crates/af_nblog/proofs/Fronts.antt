@@ -1,15 +1,8 @@
 -- In a history of a log of notes each front that the end that notes sees is that of a number of notes read.
 use Rattle.std.proofs.Common.{◌≡◌, ℕ, zero, suc, ◌+◌, ◌-◌, ◌*◌, ◌≤◌, max, Bool, true, List, [], ◌∷◌, ◌++◌, length, take, ◌&&◌, refl, ap, ◌∙◌, subst, arith, append_assoc, length-append, eqb-true}
-use Rattle.std.proofs.lemmas.Bool.{and_parts}
-use Rattle.std.proofs.lemmas.List.Folds.{list_all-append}
-use Rattle.std.specs.List.{list_all}
-use Rattle.af_base.specs.declared.event.ClientEvent.{ClientEvent}
+use Rattle.af_nblog.proofs.Common.{ClientEvent, Event, HasPipeHistory, Legal, PipePoint, ServerEvent, and_parts, legal, list_all, list_all-append, next, one, ones, start, two, twos, wrapped}
 use Rattle.af_base.specs.declared.event.ClientEvent.TheVariants as client
-use Rattle.af_base.specs.declared.event.ServerEvent.{ServerEvent}
 use Rattle.af_base.specs.declared.event.ServerEvent.TheVariants as server
-use Rattle.af_model.specs.Order.{Event, one, two, ones, twos, Legal}
-use Rattle.af_model.specs.PipeHistory.{PipePoint, start, legal, next, HasPipeHistory}
-use Rattle.af_model.specs.Point.{wrapped}
 use Rattle.af_nblog.specs.NoteFronts.{takes_note, read_in, SeesRead}
 
 -- ## What the events of the end that reads take

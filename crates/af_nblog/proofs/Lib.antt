@@ -1,3 +1,4 @@
+pub mod Common
 pub mod Basics
 pub mod Spelling
 mod Releases

@@ -1,16 +1,7 @@
 -- What a read leaves of the end that reads.
 use Rattle.std.proofs.Common.{◌≡◌, ℕ, ◌+◌, ◌*◌, ◌<◌, ◌≤◌, min, true, false, List, [], ◌∷◌, ◌++◌, length, map, refl, sym, ap, ◌∙◌, subst, arith, append_assoc, length-append}
-use Rattle.std.specs.List.{list_all}
-use Rattle.af_base.specs.declared.frame.Frame.{Frame}
-use Rattle.af_base.specs.declared.event.ServerEvent.{ServerEvent}
+use Rattle.af_nblog.proofs.Common.{Frame, ServerEvent, ServerIs, ServerPart, ServerSide, Shape, list_all, new_server, packed_word, taken_by, wrapped}
 use Rattle.af_base.specs.declared.event.ServerEvent.TheVariants as server
-use Rattle.af_base.specs.Sample.{packed_word}
-use Rattle.af_model.specs.Point.{wrapped}
-use Rattle.af_cblk.specs.declared.view.ServerPart.{ServerPart}
-use Rattle.af_model.specs.declared.shape.Shape.{Shape}
-use Rattle.af_cblk.specs.Rule.{new_server}
-use Rattle.af_cblk.specs.Sides.{ServerSide, ServerIs}
-use Rattle.af_link.specs.PipeEnds.{taken_by}
 use Rattle.af_nblog.specs.declared.entries.Note.{Note}
 use Rattle.af_nblog.specs.Notes.{words_of, notes_in}
 use Rattle.af_nblog.specs.NoteEnds.{looked, note_taken, IsReading}

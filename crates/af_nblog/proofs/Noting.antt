@@ -1,17 +1,7 @@
 -- What a note leaves of the end that notes.
 use Rattle.std.proofs.Common.{◌≡◌, ℕ, ◌+◌, ◌-◌, ◌*◌, ◌/◌, ◌<◌, ◌≤◌, List, [], ◌∷◌, ◌++◌, length, map, refl, sym, ap, ◌∙◌, subst, arith, append_assoc, length-append}
-use Rattle.std.proofs.lemmas.List.{length-map}
-use Rattle.af_base.specs.declared.frame.Frame.{Frame}
-use Rattle.af_base.specs.declared.event.ClientEvent.{ClientEvent}
+use Rattle.af_nblog.proofs.Common.{ClientEvent, ClientPart, Frame, HasPut, IsShape, Shape, client_saw_front, length-map, new_client, packed_word, releases_of, room_of}
 use Rattle.af_base.specs.declared.event.ClientEvent.TheVariants as client
-use Rattle.af_base.specs.Sample.{packed_word}
-use Rattle.af_model.specs.PipeHistory.{releases_of}
-use Rattle.af_model.specs.declared.shape.Shape.{Shape}
-use Rattle.af_cblk.specs.declared.view.ClientPart.{ClientPart}
-use Rattle.af_cblk.specs.Parts.{client_saw_front}
-use Rattle.af_cblk.specs.Rule.{new_client}
-use Rattle.af_cblk.specs.Shape.{IsShape}
-use Rattle.af_link.specs.PipeEnds.{room_of, HasPut}
 use Rattle.af_nblog.specs.declared.entries.Note.{Note}
 use Rattle.af_nblog.specs.declared.writing.Noted.TheVariants.{Sent, Refused}
 use Rattle.af_nblog.specs.Notes.{words_of, notes_in}

@@ -1,13 +1,8 @@
 -- In a history of a log of notes each rear that the end that reads sees is that of a number of words put.
 use Rattle.std.proofs.Common.{◌≡◌, ℕ, zero, suc, ◌+◌, ◌*◌, ◌≤◌, max, true, List, [], ◌∷◌, ◌++◌, length, take, refl, sym, ap, ◌∙◌, subst, arith, append_assoc, length-append}
-use Rattle.std.proofs.lemmas.Bool.{and_parts}
-use Rattle.std.specs.List.{list_all}
-use Rattle.af_base.specs.declared.event.ClientEvent.{ClientEvent}
+use Rattle.af_nblog.proofs.Common.{ClientEvent, Event, HasPipeHistory, Legal, PipePoint, ServerEvent, after, and_parts, legal, list_all, next, one, ones, start, two, twos}
 use Rattle.af_base.specs.declared.event.ClientEvent.TheVariants as client
-use Rattle.af_base.specs.declared.event.ServerEvent.{ServerEvent}
 use Rattle.af_base.specs.declared.event.ServerEvent.TheVariants as server
-use Rattle.af_model.specs.Order.{Event, one, two, ones, twos, Legal, after}
-use Rattle.af_model.specs.PipeHistory.{PipePoint, start, legal, next, HasPipeHistory}
 use Rattle.af_nblog.specs.NoteFronts.{takes_note, read_in}
 use Rattle.af_nblog.specs.NoteRears.{put_in, SeesPut}
 use Rattle.af_nblog.proofs.Fronts.{is_eight}

@@ -1,10 +1,8 @@
 -- A note is one release, since the number of cells is a multiple of eight.
 use Rattle.std.proofs.Common.{◌≡◌, ℕ, zero, suc, ◌+◌, ◌-◌, ◌*◌, ◌/◌, ◌%◌, ◌^◌, ◌<◌, ◌≤◌, nat_le, Bool, true, if◌then◌else◌, [], ◌∷◌, ap, ◌∙◌, sym, subst, arith, mod-lt}
+use Rattle.af_nblog.proofs.Common.{IsShape, Shape, releases_of}
 use Rattle.std.proofs.lemmas.Nat.{mod-pow-add, pow-add, pow_pos}
 use Rattle.af_base.specs.declared.event.ClientEvent.TheVariants as client
-use Rattle.af_model.specs.PipeHistory.{releases_of}
-use Rattle.af_model.specs.declared.shape.Shape.{Shape}
-use Rattle.af_cblk.specs.Shape.{IsShape}
 
 -- a power of two that isn't below eight is a multiple of it
 three_more : (j : ℕ) → 8 ≤ 2 ^ j → (i : ℕ) × (j ≡ i + 3)

@@ -1,20 +1,11 @@
 -- A round more: both ends' turns, and the meeting behind them.
 use Rattle.std.proofs.Common.{◌≡◌, ℕ, zero, suc, ◌+◌, ◌*◌, ◌≤◌, max, Bool, true, List, [], ◌∷◌, ◌++◌, length, take, refl, sym, ap, ◌∙◌, subst, arith, append_assoc}
-use Rattle.std.proofs.lemmas.Bool.{and_parts}
-use Rattle.std.proofs.lemmas.List.Folds.{list_all-append}
+use Rattle.af_nblog.proofs.Common.{ClientEvent, ClientPart, ClientSide, ServerEvent, ServerPart, ServerSide, Shape, and_parts, list_all, list_all-append, new_client, new_server}
 use Rattle.std.proofs.Math.Seq.{take-append_seam}
-use Rattle.std.specs.List.{list_all}
-use Rattle.af_base.specs.declared.event.ClientEvent.{ClientEvent}
 use Rattle.af_base.specs.declared.event.ClientEvent.TheVariants as client
-use Rattle.af_base.specs.declared.event.ServerEvent.{ServerEvent}
 use Rattle.af_base.specs.declared.event.ServerEvent.TheVariants as server
-use Rattle.af_model.specs.declared.shape.Shape.{Shape}
 use Rattle.af_nblog.proofs.Basics.{last_of}
 use Rattle.af_nblog.specs.declared.entries.Note.{Note}
-use Rattle.af_cblk.specs.declared.view.ClientPart.{ClientPart}
-use Rattle.af_cblk.specs.declared.view.ServerPart.{ServerPart}
-use Rattle.af_cblk.specs.Rule.{new_client, new_server}
-use Rattle.af_cblk.specs.Sides.{ClientSide, ServerSide}
 use Rattle.af_nblog.specs.Notes.{notes_in}
 use Rattle.af_nblog.specs.NoteEnds.{WriterState, ReaderState, accepted, read}
 use Rattle.af_nblog.specs.NoteFronts.{takes_note, read_in, SeesRead}

@@ -1,8 +1,6 @@
 -- Eight words spell a note, and a note's words spell it.
 use Rattle.std.proofs.Common.{◌≡◌, ℕ, zero, suc, ◌+◌, ◌*◌, ◌^◌, ◌<◌, ◌≤◌, List, [], ◌∷◌, ◌++◌, length, map, take, drop, get_or, refl, sym, ap, ◌∙◌, subst, arith}
-use Rattle.std.proofs.lemmas.List.{take-append-drop}
-use Rattle.af_base.specs.declared.frame.Frame.{Frame}
-use Rattle.af_base.specs.Sample.{packed_word}
+use Rattle.af_nblog.proofs.Common.{Frame, packed_word, take-append-drop}
 use Rattle.af_nblog.specs.declared.entries.Note.{Note}
 use Rattle.af_nblog.specs.Notes.{low_half, high_half, joined, words_of, notes_in}
 use Rattle.af_nblog.specs.NoteEnds.{AreInOrder}
@@ -117,17 +115,6 @@ notes_append (suc k) xs ys l =
     let rest : length s.rest ≡ 8 * k = omega arith in
     subst (λ (zs : List ℕ). notes_in (zs ++ ys) ≡ notes_in zs ++ notes_in ys) (sym s.is)
     (ap (λ (ns : List Note). (record { place = joined s.a s.b; state = joined s.c s.d; kind = s.e; fulls = s.f; partials = s.g; empties = s.h }) ∷ ns) (notes_append k s.rest ys rest))
-
--- eight words for each
-pub notes_count : (k : ℕ) (xs : List ℕ) → length xs ≡ 8 * k → length (notes_in xs) ≡ k
-unfolding notes_in
-notes_count zero [] l = refl
-notes_count zero (x ∷ xs) l = absurd (omega arith)
-notes_count (suc k) xs l =
-    let s : Eight xs = eight xs (omega arith) in
-    let more = s.count in
-    let rest : length s.rest ≡ 8 * k = omega arith in
-    subst (λ (zs : List ℕ). length (notes_in zs) ≡ suc k) (sym s.is) (ap suc (notes_count k s.rest rest))
 
 -- one note more
 pub one_more : (k : ℕ) (words : List ℕ) (note : Note) → length words ≡ 8 * k → notes_in (words ++ words_of note) ≡ notes_in words ++ note ∷ []

@@ -1,16 +1,9 @@
 -- What the turns of a round leave, and what the fronts and rears seen in it tell.
 use Rattle.std.proofs.Common.{◌≡◌, ℕ, ◌+◌, ◌-◌, ◌*◌, ◌/◌, ◌<◌, ◌≤◌, inl, inr, Bool, true, false, Some, None, List, [], ◌∷◌, ◌++◌, length, refl, sym, ap, ◌∙◌, subst, arith, append_assoc, length-append}
-use Rattle.std.proofs.lemmas.List.{append-nil}
-use Rattle.af_base.specs.declared.event.ClientEvent.{ClientEvent}
+use Rattle.af_nblog.proofs.Common.{ClientEvent, ClientPart, ServerEvent, ServerSide, ahead, append-nil, client_saw_front, room_by, room_of}
 use Rattle.af_base.specs.declared.event.ClientEvent.TheVariants as client
-use Rattle.af_base.specs.declared.event.ServerEvent.{ServerEvent}
 use Rattle.af_base.specs.declared.event.ServerEvent.TheVariants as server
-use Rattle.af_model.specs.PipeHistory.{room_by}
 use Rattle.af_model.proofs.Logic.{ahead-between}
-use Rattle.af_cblk.specs.declared.view.ClientPart.{ClientPart}
-use Rattle.af_cblk.specs.Parts.{ahead, client_saw_front}
-use Rattle.af_cblk.specs.Sides.{ServerSide}
-use Rattle.af_link.specs.PipeEnds.{room_of}
 use Rattle.af_nblog.specs.declared.entries.Note.{Note}
 use Rattle.af_nblog.specs.declared.writing.Noted.TheVariants.{Sent, Refused}
 use Rattle.af_nblog.specs.Notes.{words_of}

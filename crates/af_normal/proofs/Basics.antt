@@ -1,7 +1,7 @@
 -- Basic lemmas that several files here, and of the crates above, cite.
 use Rattle.std.proofs.Common.{List, Option, Some, [], arith, length, suc, zero, ℕ, ◌<◌, ◌∷◌, ◌≡◌}
+use Rattle.af_normal.proofs.Common.{ServerState}
 use Rattle.af_normal.specs.Mixing.{stream_at}
-use Rattle.af_server.specs.Order.{ServerState}
 
 pub one_of : (a b : ServerState) → Some a ≡ Some b → a ≡ b
 one_of a b e = cc

@@ -1,16 +1,6 @@
 -- A turn begins in order: the last entry's lists are empty again, and the hands are there.
 use Rattle.std.proofs.Common.{◌≡◌, ◌≢◌, All, ℕ, zero, suc, ◌+◌, ◌<◌, List, [], ◌∷◌, ◌++◌, length, reverse, take, drop, append_assoc, slice_get, Some, None, refl, sym, ap, subst, ◌∙◌, get_or-set_other, length-append, length-set, arith, ⊎_elim}
-use Rattle.std.proofs.lemmas.List.{length-reverse, reverse-append, reverse-reverse, take-append-drop}
-use Rattle.std.proofs.lemmas.List.Elements.{All-append, All-nil, All-head, All-tail, All-push}
-use Rattle.std.proofs.lemmas.Option.{slice_get_within}
-use Rattle.std.proofs.lemmas.Bool.{cases_eq}
-use Rattle.af_base.proofs.Basics.{at_last, some_same}
-use Rattle.af_base.specs.declared.turn.NormalTake.{NormalTake}
-use Rattle.af_base.specs.declared.turn.TrackTurn.{TrackTurn}
-use Rattle.af_base.specs.Roomy.{Roomy}
-use Rattle.af_cblk.specs.Sides.{HandSide, Made, hand_made}
-use Rattle.af_server.specs.Order.{ServerState}
-use Rattle.af_life.specs.Serves.{most_looks}
+use Rattle.af_normal.proofs.Common.{All-append, All-head, All-nil, All-push, All-tail, HandSide, Made, NormalTake, Roomy, ServerState, TrackTurn, at_last, cases_eq, hand_made, length-reverse, most_looks, reverse-append, reverse-reverse, slice_get_within, some_same, take-append-drop}
 use Rattle.af_normal.specs.AllMixed.{HasFrames, HasTakes}
 use Rattle.af_normal.specs.Mixing.{stream_at}
 use Rattle.af_normal.specs.Order.{HasTurns}

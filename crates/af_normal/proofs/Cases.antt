@@ -1,6 +1,6 @@
 -- Cases of what a test or an option decides.
 use Rattle.std.proofs.Common.{◌≡◌, ◌≢◌, ◌==◌, length, true≢false, Bool, true, false, MatchBool, Option, Some, None, MatchOption, List, [], ◌∷◌, refl, sym, ◌∙◌, ◌≤◌, subst, arith}
-use Rattle.std.proofs.lemmas.Bool.{eqb-true, eq-eqb}
+use Rattle.af_normal.proofs.Common.{eq-eqb, eqb-true}
 
 pub by_item : {A : Type 0} (o : Option A) (P : Type 0) (Q : A → Type 0) (R : Type 0) → (P → R) → ((a : A) → Q a → R) → MatchOption o P Q → R
 by_item None P Q R f g m = f m

@@ -1,28 +1,13 @@
 -- What mixing one track changes, and what it leaves.
-use Rattle.std.proofs.Common.{◌≡◌, ℕ, ◌<◌, ◌≢◌, Bool, true, false, MatchBool, List, length, map, is_some, slice_index_or, slice_set, Option, Some, None, MatchOption, refl, sym, ap, subst, ◌∙◌, get_or-set_other, get_or-set_same, arith, ⊎_elim}
-use Rattle.std.proofs.lemmas.Bool.{cases_eq}
-use Rattle.std.proofs.lemmas.List.{get_or-map, length-map}
+use Rattle.std.proofs.Common.{◌≡◌, ℕ, ◌<◌, ◌≢◌, Bool, false, List, length, map, is_some, slice_index_or, slice_set, Option, Some, None, MatchOption, sym, ap, subst, ◌∙◌, get_or-set_other, get_or-set_same, arith, ⊎_elim}
+use Rattle.af_normal.proofs.Common.{IsServerOf, Made, NormalTake, ServerState, TrackKept, by_bool, cases_eq, counted, get_or-map, is_mixed_here, length-map, new_track, take_seen, track_at}
 use Rattle.std.proofs.Math.Seq.{map-set_same}
-use Rattle.af_base.proofs.Basics.{by_bool}
-use Rattle.af_base.specs.declared.turn.NormalTake.{NormalTake}
-use Rattle.af_base.specs.Turn.{take_seen}
-use Rattle.af_cblk.specs.Sides.{Made}
-use Rattle.af_server.specs.Order.{ServerState, IsServerOf}
-use Rattle.af_life.specs.declared.kept.TrackKept.{TrackKept}
-use Rattle.af_life.specs.Kept.{track_at, new_track}
-use Rattle.af_life.specs.Plays.{is_mixed_here, counted}
 use Rattle.af_normal.specs.Mixing.{Mixing, TakesOf, MixesTrack, stream_at}
 use Rattle.af_normal.specs.AllMixed.{AreHome, AreServersOf}
 
 -- the tracks, the proxies and the takes of the program
 abbrev pub mixing : List TrackKept → List (Option ServerState) → List NormalTake → Mixing
 mixing tracks streams takes = record { tracks = tracks; streams = streams; takes = map take_seen takes }
-
-pub passed : (asked i : ℕ) (x : Mixing) → is_mixed_here (track_at x.tracks i) ≡ false → MixesTrack asked i x x
-passed asked i x e = subst (λ (b : Bool). MatchBool b (TakesOf asked i x x) (x ≡ x)) (sym e) refl
-
-pub taken : (asked i : ℕ) (x y : Mixing) → is_mixed_here (track_at x.tracks i) ≡ true → TakesOf asked i x y → MixesTrack asked i x y
-taken asked i x y e t = subst (λ (b : Bool). MatchBool b (TakesOf asked i x y) (y ≡ x)) (sym e) t
 
 module _ (asked i : ℕ) (x y : Mixing) where
   pub by_track : (R : Type 0) → (TakesOf asked i x y → R) → (y ≡ x → R) → MixesTrack asked i x y → R

@@ -1,15 +1,6 @@
 -- What the edit of one track leaves.
 use Rattle.std.proofs.Common.{Bool, true, false, if◌then◌else◌, ◌==◌, ◌≡◌, ℕ, zero, suc, List, Option, length, refl, sym, ap, ◌∙◌, length-set}
-use Rattle.af_base.proofs.Basics.{by_bool}
-use Rattle.af_base.specs.declared.state.Command.{Command}
-use Rattle.af_base.specs.Command.{code_of}
-use Rattle.af_model.specs.Draft.{commanded as with_command}
-use Rattle.af_server.specs.Order.{ServerState}
-use Rattle.af_stateq.specs.Mutates.{Mutates}
-use Rattle.af_link.specs.declared.names.StreamNames.{StreamNames}
-use Rattle.af_life.specs.declared.kept.TrackKept.{TrackKept}
-use Rattle.af_life.specs.Edits.{must_leave, must_enter}
-use Rattle.af_life.specs.Kept.{track_at}
+use Rattle.af_normal.proofs.Common.{Command, Mutates, ServerState, StreamNames, TrackKept, by_bool, code_of, commanded as with_command, must_enter, must_leave, track_at}
 use Rattle.af_normal.specs.Editing.{LetsGo, Lends}
 use Rattle.af_normal.specs.Mutating.{EditsAll, EditsTo, EditsTrack, begun, commands, due_command, finished}
 use Rattle.af_normal.specs.State.{NormalState}

@@ -1,20 +1,9 @@
 -- What the takes of a turn give to the mix.
 use Rattle.std.proofs.Common.{◌≡◌, ℕ, ◌<◌, ◌≤◌, List, [], ◌∷◌, length, map, take, All, slice_index_or, slice_set, ◌+◌, ◌≢◌, ⊎_elim, sym, ap, subst, ◌∙◌, length-take, get_or-take, get_or-set_same, get_or-set_other, arith}
-use Rattle.std.proofs.lemmas.Bool.{cases_eq}
-use Rattle.std.proofs.lemmas.List.{get_or-map, length-map, ext_get_or, get_or_default}
-use Rattle.std.proofs.lemmas.List.Elements.{All-from_get_or, All-get_or}
+use Rattle.af_normal.proofs.Common.{All-from_get_or, All-get_or, NormalTake, Part, Setting, Setup, Take, absent, asked, cases_eq, ext_get_or, false, get_or-map, get_or_default, length-map, mix, no_part, put_by, take_of as take_of_part, take_seen}
 use Rattle.std.proofs.lemmas.Simd.{map-map}
-use Rattle.af_base.specs.declared.plain.Part.{Part}
-use Rattle.af_base.specs.declared.turn.NormalTake.{NormalTake}
-use Rattle.af_base.specs.Log.{absent}
-use Rattle.af_base.specs.Mix.{Take, mix}
-use Rattle.af_base.specs.Part.{take_of as take_of_part, no_part}
-use Rattle.af_base.specs.Turn.{take_seen}
-use Rattle.af_life.specs.declared.kept.Setting.{Setting}
-use Rattle.af_life.specs.Kept.{Setup, asked}
-use Rattle.af_life.specs.Plays.{take_of, put_by}
+use Rattle.af_life.specs.Plays.{take_of}
 use Rattle.af_normal.specs.Sums.{Fits}
-use Rattle.std.specs.Prelude.{false}
 
 pub no_take : NormalTake
 no_take = record { track = 0; slot = absent; frames = record { items = []; room = 0 } }

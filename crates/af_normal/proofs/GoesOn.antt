@@ -1,16 +1,8 @@
 -- What each step of a turn that goes on asks for, by the steps before it.
 use Rattle.std.proofs.Common.{◌≡◌, ℕ, ◌+◌, ◌*◌, ◌^◌, ◌<◌, ◌≤◌, All, false, List, [], length, Option, Some, sym, ap, subst, ◌∙◌, arith}
-use Rattle.af_base.specs.declared.report.Report.{Report}
-use Rattle.af_base.specs.declared.state.Push.{Push}
-use Rattle.af_cblk.specs.Sides.{Made}
+use Rattle.af_normal.proofs.Common.{AreUpTo, IsStreamOf, Links, Made, Push, Report, ServerState, Setup, TrackKept, asked, most_tracks}
 use Rattle.af_normal.proofs.Basics.{within}
-use Rattle.af_server.specs.Order.{ServerState}
-use Rattle.af_link.specs.Names.{IsStreamOf}
 use Rattle.af_normal.specs.Mixing.{stream_at}
-use Rattle.af_link.specs.declared.links.Links.{Links}
-use Rattle.af_life.specs.declared.kept.TrackKept.{TrackKept}
-use Rattle.af_life.specs.Kept.{Setup, asked}
-use Rattle.af_life.specs.Small.{AreUpTo, most_tracks}
 use Rattle.af_normal.specs.AllMixed.{AreHome, AreServersOf, HasTakes}
 use Rattle.af_normal.specs.Mutating.{EditsAll, Pushes, begun}
 use Rattle.af_normal.specs.Order.{IsGoing, IsOpen, IsTied, most_turns}

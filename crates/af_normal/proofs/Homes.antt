@@ -1,9 +1,6 @@
 -- Two ways to say that the stream proxies that are home are of their tracks' blocks.
 use Rattle.std.proofs.Common.{◌≡◌, ℕ, ◌<◌, ◌≤◌, List, length, slice_index_or, unwrap_or, Option, Some, None, MatchOption, refl, sym, ap, subst, ◌∙◌, arith}
-use Rattle.std.proofs.lemmas.Option.{slice_get-get_or}
-use Rattle.af_cblk.specs.Sides.{Made, server_made}
-use Rattle.af_server.specs.Order.{ServerState, IsServerOf}
-use Rattle.af_link.specs.Names.{IsStreamOf}
+use Rattle.af_normal.proofs.Common.{IsServerOf, IsStreamOf, Made, ServerState, server_made, slice_get-get_or}
 use Rattle.af_normal.specs.Mixing.{stream_at}
 use Rattle.af_normal.specs.AllMixed.{AreServersOf}
 

@@ -1,30 +1,13 @@
 -- What a turn does before it looks at the acknowledgement changes neither what is kept nor a list.
 use Rattle.std.proofs.Common.{◌≡◌, ℕ, zero, suc, ◌+◌, ◌==◌, ◌&&◌, Bool, true, false, if◌then◌else◌, MatchBool, sym, refl, ap, subst, ◌∙◌, List, [], ◌∷◌, ◌++◌, length, Option, Some, arith}
-use Rattle.std.specs.Prelude.{slice_get, slice_set, map, ◌⊎◌}
-use Rattle.std.proofs.lemmas.Option.{none-some}
-use Rattle.af_base.proofs.Basics.{zero_is}
+use Rattle.af_normal.proofs.Common.{HandEvent, HandSide, LegalTurn, Load, NormalKept, Outside, ServerState, Setup, Turn, going, hand_list, is_returning, learnt, map, mutator_list, none-some, packed_word, pipe_size, put_by, releases_of, room_by, slice_get, slice_set, slot_number, track_at, turn_after, turn_of, zero_is}
+use Rattle.std.specs.Prelude.{◌⊎◌}
 use Rattle.af_base.specs.declared.event.ClientEvent.TheVariants as client
-use Rattle.af_base.specs.declared.event.HandEvent.{HandEvent}
-use Rattle.af_base.specs.declared.state.Push.{Push}
-use Rattle.af_base.specs.Sample.{packed_word}
-use Rattle.af_base.specs.Turn.{Turn, turn_of}
-use Rattle.af_cblk.specs.Sides.{HandSide}
-use Rattle.af_model.specs.PipeHistory.{room_by, releases_of}
-use Rattle.af_model.specs.declared.newest.ReaderEvent.TheVariants.{Load}
-use Rattle.af_server.specs.Order.{ServerState}
-use Rattle.af_link.specs.declared.links.Links.{Links}
-use Rattle.af_life.specs.Heard.{learnt}
-use Rattle.af_life.specs.Kept.{Setup, pipe_size, NormalKept, Outside, track_at, slot_number, is_returning}
-use Rattle.af_life.specs.Plays.{put_by}
-use Rattle.af_life.specs.TurnEvents.{going, hand_list, mutator_list}
-use Rattle.af_life.specs.Turn.{turn_after, LegalTurn}
 use Rattle.af_normal.specs.LegalTurned.{hand_events, in_hand, Grows, IsLegal}
 use Rattle.af_normal.specs.Mixing.{stream_at}
 use Rattle.af_normal.specs.State.{NormalState, setup_of, kept_of}
-use Rattle.af_normal.specs.TurnMade.{Stops, TurnsBy}
+use Rattle.af_normal.specs.TurnMade.{Stops}
 use Rattle.af_normal.specs.Turning.{Begins, HandsTo, HasHands, hand_of, without_hand, listed_at}
-use Rattle.af_normal.proofs.LegalEnds.{made_legally}
-use Rattle.af_normal.proofs.LegalMade.{IsMade, outside}
 use Rattle.af_normal.proofs.LegalStops.{seen, stopped_legally}
 
 -- a list of hands that have done nothing, with one more that has done nothing
@@ -140,7 +123,3 @@ module _ (x y z : NormalState) (o : Outside) (b : BegunBy x y) where
 module _ (x b h y : NormalState) (begins : Begins x b) (hands : HasHands b h) where
   pub ended_legally : Stops h y → (o : Outside) × IsLegal o x y
   ended_legally stops = (seen h y stops, begun_legally x h y (seen h y stops) (begun_by x b h begins hands) (stopped_legally h y stops))
-
-  pub turned_legally : (links : Links) (t : ℕ) (push : Push) (turns : TurnsBy push h y) → IsMade links t h turns.ack turns.report turns.room push y → (o : Outside) × IsLegal o x y
-  turned_legally links t push turns made = let o : Outside = outside links t h turns.ack turns.report turns.room push y made in
-      (o, begun_legally x h y o (begun_by x b h begins hands) (made_legally links t h turns.ack turns.report turns.room push y made turns.lives.0 turns.lives.1))

@@ -1,23 +1,6 @@
 -- From the chain of edits to the definition's.
 use Rattle.std.proofs.Common.{◌≡◌, ◌≢◌, ℕ, zero, suc, ◌+◌, ◌<◌, ◌≤◌, ◌==◌, ◌||◌, Bool, true, false, if◌then◌else◌, true≢false, MatchBool, ◌⊎◌, inl, inr, sym, refl, ap, subst, ◌∙◌, List, [], ◌∷◌, length, Option, Some, None, get_or-set_other, arith}
-use Rattle.std.specs.Prelude.{slice_set}
-use Rattle.af_base.specs.Command.{code_of}
-use Rattle.af_base.specs.declared.state.Command.{Command}
-use Rattle.af_base.specs.declared.state.Push.{Push}
-use Rattle.af_base.specs.declared.state.Push.TheVariants.{Pushed, Clean, Busy}
-use Rattle.af_server.specs.Order.{ServerState}
-use Rattle.af_server.specs.Slot.{listed}
-use Rattle.af_model.specs.Draft.{commanded as with_command}
-use Rattle.af_model.specs.StateQueue.{word}
-use Rattle.af_stateq.specs.Answers.{WasPushed, SeesIt, shows}
-use Rattle.af_stateq.specs.Ends.{saw}
-use Rattle.af_stateq.specs.Mutates.{Mutates}
-use Rattle.af_link.specs.declared.names.StreamNames.{StreamNames}
-use Rattle.af_life.specs.declared.kept.Heard.{Heard}
-use Rattle.af_life.specs.declared.kept.Holder.TheVariants.{Returning}
-use Rattle.af_life.specs.Heard.{known_by}
-use Rattle.af_life.specs.Kept.{Setup, NormalKept, Learnt, pipe_size, track_at, slot_number}
-use Rattle.af_life.specs.Edits.{must_leave, must_enter, let_go, lend, lent_by, edited, edited_to, next_command, ordered, commanded_by, mutated, after_push, LegalPush, is_exit}
+use Rattle.af_normal.proofs.Common.{Busy, Clean, Command, Heard, Learnt, LegalPush, Mutates, NormalKept, Push, Pushed, Returning, SeesIt, ServerState, Setup, StreamNames, WasPushed, after_push, code_of, commanded as with_command, commanded_by, edited, edited_to, is_exit, known_by, lend, lent_by, let_go, listed, must_enter, must_leave, mutated, next_command, ordered, pipe_size, saw, shows, slice_set, slot_number, track_at, word}
 use Rattle.af_normal.specs.Editing.{LetsGo, Lends, lets_go, lends}
 use Rattle.af_normal.specs.LegalKept.{kept_open}
 use Rattle.af_normal.specs.Mixing.{stream_at}

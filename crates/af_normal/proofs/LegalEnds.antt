@@ -1,40 +1,10 @@
 -- The lists of the report's reader, of the pipe and of the mutator grow by what the entry of a turn says, and all is joined.
 use Rattle.std.proofs.Common.{◌≡◌, ℕ, zero, suc, ◌+◌, ◌<◌, ◌*◌, ◌==◌, ◌&&◌, not, Bool, true, false, if◌then◌else◌, true≢false, is_some, inl, sym, refl, ap, subst, ◌∙◌, List, [], ◌∷◌, ◌++◌, append_assoc, append-nil, length, map, Option, Some, None, eq-eqb, ne_eqb, arith}
-use Rattle.std.specs.Prelude.{slice_get}
-use Rattle.std.specs.List.{flat_map}
+use Rattle.af_normal.proofs.Common.{Busy, Clean, Frame, InSide, Learnt, Links, Load, Mutates, NormalKept, Push, Pushed, Pushes as Past, Report, SeesIt, ServerEvent, ServerState, Setup, StreamNames, TakeSeen, TrackKept, Turn, WasAcked, WasPushed, after_edits, asked, at, code_of, commanded as with_command, cycle_events, flat_map, is_exit, is_home, most_tracks, must_enter, mutator_list, nothing_heard, number_seen, packed_word, pipe_size, push_list, put_by, releases_of, room_by, served_to, shows, slice_get, slot_number, slot_of_away, slots, stream_list, takes_from, track_at, tracks_at}
 use Rattle.af_base.specs.declared.event.ClientEvent.TheVariants as client
-use Rattle.af_base.specs.declared.report.Report.{Report}
-use Rattle.af_base.specs.declared.state.Push.{Push}
-use Rattle.af_base.specs.declared.state.Push.TheVariants.{Pushed, Clean, Busy}
-use Rattle.af_base.specs.declared.frame.Frame.{Frame}
-use Rattle.af_base.specs.Sample.{packed_word}
-use Rattle.af_base.specs.declared.event.ServerEvent.{ServerEvent}
-use Rattle.af_base.specs.Command.{code_of}
-use Rattle.af_base.specs.Log.{slots}
-use Rattle.af_base.specs.Turn.{Turn, TakeSeen}
-use Rattle.af_life.proofs.Basics.{slot_of_away}
-use Rattle.af_model.specs.Cycles.{cycle_events}
-use Rattle.af_model.specs.Draft.{commanded as with_command}
 use Rattle.af_cblk.specs.declared.view.ClientPart.{ClientPart}
-use Rattle.af_model.specs.PipeHistory.{room_by, releases_of}
-use Rattle.af_model.specs.declared.newest.ReaderEvent.TheVariants.{Load}
 use Rattle.af_model.specs.declared.states.MutatorEvent.{MutatorEvent}
 use Rattle.af_model.specs.declared.states.MutatorEvent.TheVariants as mutator
-use Rattle.af_server.specs.Order.{ServerState}
-use Rattle.af_stateq.specs.Answers.{WasAcked, WasPushed, SeesIt, shows}
-use Rattle.af_stateq.specs.Ends.{Pushes as Past}
-use Rattle.af_stateq.specs.Mutates.{Mutates, at}
-use Rattle.af_link.specs.PipeEnds.{InSide}
-use Rattle.af_link.specs.declared.links.Links.{Links}
-use Rattle.af_link.specs.declared.names.StreamNames.{StreamNames}
-use Rattle.af_life.specs.Kept.{Setup, asked, pipe_size, NormalKept, Learnt, track_at, slot_number, is_home, nothing_heard}
-use Rattle.af_life.specs.declared.kept.TrackKept.{TrackKept}
-use Rattle.af_life.specs.Serves.{served_to}
-use Rattle.af_life.specs.Small.{most_tracks}
-use Rattle.af_life.specs.Plays.{put_by}
-use Rattle.af_life.specs.Edits.{is_exit, must_enter}
-use Rattle.af_life.specs.Turn.{after_edits}
-use Rattle.af_life.specs.TurnEvents.{tracks_at, takes_from, stream_list, number_seen, push_list, mutator_list}
 use Rattle.af_normal.specs.LegalTurned.{in_queue, home_stream, served_tracks, GoesOnFrom, Grows, IsLegal}
 use Rattle.af_normal.specs.Mixing.{stream_at}
 use Rattle.af_normal.specs.Mutating.{Pushes, begun, finished, due_command}
@@ -52,9 +22,6 @@ use Rattle.af_normal.proofs.OrderEdits.{comer_inside, comer_home}
 -- ## The push
 
 module _ (push : Push) (x y : NormalState) (w : Pushes push x y) where
-  abbrev Events : Type 0
-  Events = List (MutatorEvent ServerState)
-
   abbrev Items : Type 0
   Items = List (Option ServerState)
 

@@ -1,33 +1,14 @@
 -- Flags that a server sets say nothing of it: its looks answer by the list before them as well.
 use Rattle.std.proofs.Common.{◌≡◌, ℕ, ◌&&◌, not, min, Bool, true, false, if◌then◌else◌, is_some, MatchOption, ap, subst, ◌∙◌, List, [], ◌∷◌, ◌++◌, append-nil}
-use Rattle.std.proofs.lemmas.Grind.{fold-append}
-use Rattle.af_base.specs.declared.event.ServerEvent.{ServerEvent}
+use Rattle.af_normal.proofs.Common.{Learnt, Listed, LooksBy, ServerEvent, ServerKept, ServerState, Shape, SlotEntry, TrackKept, TrackSeen, cycle_events, flushes_by, fold-append, heard, heard_with, invalid, is_found_shut, kept, known_by, listed, look_at, look_events, no_counts, server_begins, server_keeps, server_kept, track_at}
 use Rattle.af_base.specs.declared.event.ServerEvent.TheVariants as server
-use Rattle.af_base.specs.declared.log.SlotEntry.{SlotEntry}
 use Rattle.af_base.specs.declared.seen.Seen.TheVariants as seen
-use Rattle.af_base.specs.Turn.{TrackSeen}
-use Rattle.af_model.specs.Cycles.{Listed, kept, LooksBy, cycle_events, after_look}
-use Rattle.af_model.specs.ServerCalls.{ServerKept, server_kept, server_keeps, server_begins, look_at, look_events, flushes_by}
-use Rattle.af_model.specs.declared.shape.Shape.{Shape}
-use Rattle.af_server.specs.Order.{ServerState}
-use Rattle.af_server.specs.Slot.{listed}
-use Rattle.af_life.specs.declared.kept.TrackKept.{TrackKept}
-use Rattle.af_life.specs.Heard.{known_by, heard_with, heard}
-use Rattle.af_life.specs.Kept.{Learnt, no_counts, track_at}
-use Rattle.af_life.specs.Serves.{is_found_shut}
-use Rattle.af_life.specs.TurnEvents.{invalid}
+use Rattle.af_model.specs.Cycles.{after_look}
 use Rattle.af_normal.specs.Serving.{Adds}
 
 kept_still : (shape : Shape) (events : List ServerEvent) (b : Bool) → server_kept shape (events ++ (if b then server.SetFlags 4 ∷ [] else [])) ≡ server_kept shape events
 kept_still shape events true = fold-append (server_keeps shape) (server_begins shape) events (server.SetFlags 4 ∷ [])
 kept_still shape events false = ap (server_kept shape) (append-nil events)
-
--- what a list shows: its shape, and what is kept by it
-abbrev Told : Type 0
-Told = Shape × ServerKept
-
-abbrev told : Listed → Told
-told s = (s.shape, kept s)
 
 -- the server went on by INVALID, or by nothing
 pub told_still : (k : Learnt) (seen : TrackSeen) (tracks : List TrackKept) (i : ℕ) (s t : ServerState) → Adds s (invalid k seen tracks i) [] t → ((listed t).shape ≡ (listed s).shape) × (kept (listed t) ≡ kept (listed s))

@@ -1,26 +1,6 @@
 -- The list of each party grows by what the entry of a turn says.
 use Rattle.std.proofs.Common.{◌≡◌, ◌≢◌, ℕ, zero, suc, ◌<◌, ◌≤◌, Bool, true, false, if◌then◌else◌, true≢false, is_some, inl, inr, sym, refl, ap, subst, ◌∙◌, List, [], ◌∷◌, ◌++◌, append_assoc, append-nil, length, Option, Some, None, ⊎_elim, arith}
-use Rattle.std.specs.Prelude.{slice_get}
-use Rattle.std.specs.List.{flat_map}
-use Rattle.std.proofs.lemmas.Bool.{cases_lt}
-use Rattle.std.proofs.lemmas.Option.{slice_get_within}
-use Rattle.af_base.proofs.Basics.{some_same}
-use Rattle.af_base.specs.declared.event.HandEvent.{HandEvent}
-use Rattle.af_base.specs.declared.event.ServerEvent.{ServerEvent}
-use Rattle.af_base.specs.declared.report.Report.{Report}
-use Rattle.af_base.specs.declared.state.Push.{Push}
-use Rattle.af_base.specs.Turn.{Turn, TakeSeen, TrackSeen}
-use Rattle.af_cblk.specs.Rule.{StartsWith}
-use Rattle.af_cblk.specs.Sides.{HandSide}
-use Rattle.af_model.specs.Cycles.{Listed, kept, cycle_events}
-use Rattle.af_server.specs.Order.{ServerState}
-use Rattle.af_server.specs.Slot.{listed}
-use Rattle.af_link.specs.declared.links.Links.{Links}
-use Rattle.af_life.specs.declared.kept.TrackKept.{TrackKept}
-use Rattle.af_life.specs.Kept.{Setup, asked, NormalKept, Learnt, Outside, track_at, track_in, seen_at, is_home}
-use Rattle.af_life.specs.Looks.{all_command_events, words_taken}
-use Rattle.af_life.specs.Serves.{served_to}
-use Rattle.af_life.specs.TurnEvents.{tracks_at, invalid, status_events, command_list, hand_list, stream_list, mix_events, takes_from}
+use Rattle.af_normal.proofs.Common.{HandEvent, HandSide, Learnt, Links, Listed, NormalKept, Outside, Push, Report, ServerEvent, ServerState, Setup, StartsWith, TakeSeen, TrackKept, TrackSeen, Turn, all_command_events, asked, cases_lt, command_list, cycle_events, flat_map, hand_list, invalid, is_home, kept, listed, mix_events, seen_at, served_to, slice_get, slice_get_within, some_same, status_events, stream_list, takes_from, track_at, track_in, tracks_at, words_taken}
 use Rattle.af_normal.specs.LegalTurned.{hand_events, GoesOnFrom}
 use Rattle.af_normal.specs.Mixing.{stream_at}
 use Rattle.af_normal.specs.Serving.{Adds, StreamAdds, disabled_events}

@@ -1,19 +1,6 @@
 -- Where a proxy is that was lent in a turn.
 use Rattle.std.proofs.Common.{◌≡◌, ◌≢◌, ℕ, zero, suc, ◌+◌, ◌<◌, ◌≤◌, ◌&&◌, Bool, true, false, true≢false, MatchBool, sym, refl, ap, subst, ◌∙◌, List, length, length-set, Option, Some, None, ⊎_elim, get_or-set_same, get_or-set_other, arith}
-use Rattle.std.specs.Prelude.{slice_set}
-use Rattle.std.proofs.lemmas.Bool.{cases_eq}
-use Rattle.af_base.specs.Log.{slots}
-use Rattle.af_life.proofs.Basics.{at_here, at_other, away_holds}
-use Rattle.af_server.specs.Order.{ServerState}
-use Rattle.af_server.specs.Slot.{listed}
-use Rattle.af_stateq.specs.Mutates.{at}
-use Rattle.af_link.specs.declared.links.Links.{Links}
-use Rattle.af_life.specs.declared.kept.Holder.TheVariants.{Returning}
-use Rattle.af_life.specs.declared.kept.TrackKept.{TrackKept}
-use Rattle.af_life.specs.Heard.{known_by}
-use Rattle.af_life.specs.Kept.{track_at, slot_number, is_home, nothing_heard}
-use Rattle.af_life.specs.Obeys.{holds}
-use Rattle.af_life.specs.Edits.{must_leave, must_enter, lent_by, entered}
+use Rattle.af_normal.proofs.Common.{Links, Returning, ServerState, TrackKept, at, at_here, at_other, away_holds, cases_eq, entered, holds, is_home, known_by, lent_by, listed, must_enter, must_leave, nothing_heard, slice_set, slot_number, slots, track_at}
 use Rattle.af_normal.specs.Editing.{LetsGo, Lends}
 use Rattle.af_normal.specs.Mixing.{stream_at}
 use Rattle.af_normal.specs.Mutating.{EditsTrack, EditsTo}

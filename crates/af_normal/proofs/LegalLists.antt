@@ -1,8 +1,7 @@
 -- Lists and functions of numbers, changed at one place or at the end.
 use Rattle.std.proofs.Common.{◌≡◌, ◌≢◌, ℕ, suc, ◌+◌, ◌==◌, Bool, if◌then◌else◌, refl, ap, ◌∙◌, List, [], ◌∷◌, ◌++◌, eq-eqb, ne_eqb, arith}
-use Rattle.std.specs.List.{filter, range_with_len, AllByRecursion}
-use Rattle.std.proofs.lemmas.List.Elements.{filter-append}
-use Rattle.af_base.proofs.Basics.{range_end}
+use Rattle.af_normal.proofs.Common.{AllByRecursion, filter-append, range_end, range_with_len}
+use Rattle.std.specs.List.{filter}
 
 -- the function with another value at one place
 abbrev pub upd : {X : Type 0} → (ℕ → X) → ℕ → X → ℕ → X

@@ -1,31 +1,6 @@
 -- A turn that goes on is a legal one, and leaves what the definition says.
 use Rattle.std.proofs.Common.{◌≡◌, ℕ, ◌<◌, ◌≤◌, ◌&&◌, ◌||◌, Bool, true, false, if◌then◌else◌, true≢false, is_some, MatchBool, sym, refl, ap, subst, ◌∙◌, List, [], ◌∷◌, length, map, Option, Some, None, ⊎_elim, arith}
-use Rattle.std.specs.Prelude.{nat_le, fold, filter, slice_get}
-use Rattle.std.specs.List.{range_with_len, AllByRecursion}
-use Rattle.af_base.specs.declared.report.Report.{Report}
-use Rattle.af_base.specs.declared.state.Push.{Push}
-use Rattle.af_base.specs.declared.turn.NormalTake.{NormalTake}
-use Rattle.af_base.specs.declared.turn.TrackTurn.{TrackTurn}
-use Rattle.af_base.specs.declared.turn.TurnEntry.{TurnEntry}
-use Rattle.af_base.specs.Roomy.{Roomy}
-use Rattle.af_base.specs.Turn.{Turn, TakeSeen, TrackSeen, turn_of, track_seen, take_seen}
-use Rattle.af_model.specs.Cycles.{LooksBy}
-use Rattle.af_server.specs.Order.{ServerState}
-use Rattle.af_server.specs.Slot.{listed}
-use Rattle.af_stateq.specs.Answers.{WasAcked}
-use Rattle.af_stateq.specs.Mutates.{Mutates}
-use Rattle.af_link.specs.declared.links.Links.{Links}
-use Rattle.af_link.specs.declared.names.StreamNames.{StreamNames}
-use Rattle.af_life.specs.declared.kept.TrackKept.{TrackKept}
-use Rattle.af_life.specs.Heard.{learnt}
-use Rattle.af_life.specs.Kept.{Setup, asked, NormalKept, Learnt, Outside, track_at, seen_at}
-use Rattle.af_life.specs.Looks.{LegalLooks}
-use Rattle.af_life.specs.Serves.{served_to, LegalTrack}
-use Rattle.af_life.specs.Edits.{after_ack, is_exit, mutated, after_push, LegalPush}
-use Rattle.af_life.specs.Plays.{is_mixed_here, tracks_due, after_take, after_takes, LegalTake}
-use Rattle.af_life.specs.Turn.{after_tracks, after_edits, turn_after, GoesOn, LegalTurn}
-use Rattle.af_life.specs.TurnEvents.{takes_from}
-use Rattle.af_life.proofs.Lives.{acked_len}
+use Rattle.af_normal.proofs.Common.{AllByRecursion, GoesOn, Learnt, LegalLooks, LegalPush, LegalTake, LegalTrack, LegalTurn, Links, LooksBy, Mutates, NormalKept, NormalTake, Outside, Push, Report, Roomy, ServerState, Setup, StreamNames, TakeSeen, TrackKept, TrackSeen, TrackTurn, Turn, TurnEntry, WasAcked, acked_len, after_ack, after_edits, after_push, after_take, after_takes, after_tracks, asked, filter, fold, is_exit, is_mixed_here, learnt, listed, mutated, nat_le, range_with_len, seen_at, served_to, slice_get, take_seen, takes_from, track_at, track_seen, tracks_due, turn_after, turn_of}
 use Rattle.af_normal.specs.Mixing.{stream_at, Mixing, MixesTo}
 use Rattle.af_normal.specs.Order.{IsTied, IsGoing}
 use Rattle.af_normal.specs.Ready.{AreOwn, serving_of}

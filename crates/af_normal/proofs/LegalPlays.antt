@@ -1,21 +1,6 @@
 -- From the chain of mixing all tracks to the definition's.
 use Rattle.std.proofs.Common.{◌≡◌, ◌≢◌, ℕ, zero, suc, ◌+◌, ◌<◌, ◌≤◌, ◌==◌, Bool, true, false, if◌then◌else◌, true≢false, MatchBool, is_some, sym, refl, ap, subst, ◌∙◌, List, [], ◌∷◌, ◌++◌, append-nil, length, map, length-append, length-set, Option, Some, None, ⊎_elim, eq-eqb, ne_eqb, get_or-set_same, get_or-set_other, arith}
-use Rattle.std.specs.Prelude.{slice_set, fold, filter}
-use Rattle.std.specs.List.{range_with_len, flat_map, AllByRecursion}
-use Rattle.std.proofs.lemmas.Bool.{cases_eq}
-use Rattle.std.proofs.lemmas.List.Elements.{filter-append}
-use Rattle.std.proofs.lemmas.Grind.{fold-append}
-use Rattle.af_base.specs.declared.event.ServerEvent.{ServerEvent}
-use Rattle.af_base.specs.Log.{count_seen}
-use Rattle.af_base.specs.Sample.{packed_word}
-use Rattle.af_base.specs.Turn.{TakeSeen}
-use Rattle.af_model.specs.Cycles.{Listed, LooksBy, cycle_events}
-use Rattle.af_server.specs.Order.{ServerState}
-use Rattle.af_server.specs.Slot.{listed}
-use Rattle.af_life.specs.declared.kept.TrackKept.{TrackKept}
-use Rattle.af_life.specs.Kept.{track_at, new_track}
-use Rattle.af_life.specs.Plays.{is_mixed_here, after_take}
-use Rattle.af_life.specs.TurnEvents.{takes_from}
+use Rattle.af_normal.proofs.Common.{AllByRecursion, Listed, LooksBy, ServerEvent, ServerState, TakeSeen, TrackKept, after_take, cases_eq, count_seen, cycle_events, filter, filter-append, flat_map, fold, fold-append, is_mixed_here, listed, new_track, packed_word, range_with_len, slice_set, takes_from, track_at}
 use Rattle.af_normal.specs.Mixing.{stream_at, Mixing, TakesOf, MixesTrack, MixesTo}
 use Rattle.af_normal.specs.Serving.{Adds}
 use Rattle.af_normal.specs.Turning.{listed_at}

@@ -1,23 +1,7 @@
 -- From the chain of serving all tracks to the definition's, track by track.
 use Rattle.std.proofs.Common.{◌≡◌, ◌≢◌, ℕ, zero, suc, ◌<◌, ◌≤◌, ◌&&◌, not, Bool, true, false, if◌then◌else◌, true≢false, MatchBool, sym, refl, ap, subst, ◌∙◌, List, [], ◌∷◌, ◌++◌, append-nil, length, length-append, length-set, Option, Some, None, ⊎_elim, get_or-set_same, get_or-set_other, arith}
-use Rattle.std.specs.Prelude.{slice_set, slice_get}
-use Rattle.std.proofs.lemmas.Bool.{cases_eq}
-use Rattle.std.proofs.lemmas.List.{set-get_or}
-use Rattle.std.proofs.lemmas.Option.{slice_get_within}
-use Rattle.af_base.proofs.Basics.{get_set_other, get_set_same}
-use Rattle.af_base.specs.declared.event.ServerEvent.{ServerEvent}
+use Rattle.af_normal.proofs.Common.{CommandLook, HandSide, Learnt, LegalLooks, LegalTrack, ServerEvent, ServerState, Setup, TrackKept, TrackSeen, all_command_events, cases_eq, get_set_other, get_set_same, heard, invalid, is_found_shut, listed, nothing_seen, seen_at, served, served_to, set-get_or, slice_get, slice_get_within, slice_set, status_events, track_at, with_served, words_taken}
 use Rattle.af_base.specs.declared.event.ServerEvent.TheVariants as server
-use Rattle.af_base.specs.declared.turn.CommandLook.{CommandLook}
-use Rattle.af_base.specs.Turn.{TrackSeen}
-use Rattle.af_cblk.specs.Sides.{HandSide}
-use Rattle.af_server.specs.Order.{ServerState}
-use Rattle.af_server.specs.Slot.{listed}
-use Rattle.af_life.specs.declared.kept.TrackKept.{TrackKept}
-use Rattle.af_life.specs.Kept.{Setup, Learnt, track_at, nothing_seen, seen_at}
-use Rattle.af_life.specs.Heard.{heard}
-use Rattle.af_life.specs.Looks.{all_command_events, LegalLooks, words_taken}
-use Rattle.af_life.specs.Serves.{is_found_shut, served, served_to, with_served, LegalTrack}
-use Rattle.af_life.specs.TurnEvents.{invalid, status_events}
 use Rattle.af_normal.proofs.LegalLists.{upd, upd_same, upd_other}
 use Rattle.af_normal.specs.Mixing.{stream_at}
 use Rattle.af_normal.specs.Serving.{Adds, StreamAdds, HandAdds, Recalls, Serving, ServesOne, ServesTrack, ServesTo, disabled_events, shut_events}

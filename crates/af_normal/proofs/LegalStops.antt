@@ -1,21 +1,7 @@
 -- A turn that has ended is a legal one, leaves what the definition says, and keeps the order.
 use Rattle.std.proofs.Common.{◌≡◌, ℕ, ◌+◌, ◌&&◌, ◌||◌, Bool, true, false, if◌then◌else◌, true≢false, MatchBool, inr, sym, refl, ap, subst, ◌∙◌, List, [], ◌∷◌, ◌++◌, append-nil, length, Option, Some, arith}
-use Rattle.std.specs.Prelude.{slice_get}
-use Rattle.af_base.specs.Turn.{Turn, ended_turn}
-use Rattle.af_model.specs.Reports.{no_report}
+use Rattle.af_normal.proofs.Common.{IsSmall, IsSmallTurn, LegalTurn, Links, Mutates, NormalKept, Outside, ServerState, Setup, StreamNames, Turn, WasAcked, asked, ended_turn, is_exit, learnt, mutator_list, no_report, slice_get, turn_after, turn_small}
 use Rattle.af_model.specs.declared.states.MutatorEvent.TheVariants as mutator
-use Rattle.af_server.specs.Order.{ServerState}
-use Rattle.af_stateq.specs.Answers.{WasAcked}
-use Rattle.af_stateq.specs.Mutates.{Mutates}
-use Rattle.af_link.specs.declared.links.Links.{Links}
-use Rattle.af_link.specs.declared.names.StreamNames.{StreamNames}
-use Rattle.af_life.specs.Heard.{learnt}
-use Rattle.af_life.specs.Kept.{Setup, asked, NormalKept, Outside}
-use Rattle.af_life.specs.Edits.{is_exit}
-use Rattle.af_life.specs.Small.{IsSmall, IsSmallTurn}
-use Rattle.af_life.specs.Turn.{turn_after, LegalTurn}
-use Rattle.af_life.specs.TurnEvents.{mutator_list}
-use Rattle.af_life.proofs.SmallTurns.{turn_small}
 use Rattle.af_normal.specs.AllMixed.{HasTakes}
 use Rattle.af_normal.specs.LegalTurned.{hand_events, Grows, IsLegal}
 use Rattle.af_normal.specs.Mixing.{stream_at}
@@ -37,9 +23,6 @@ module _ (x y : NormalState) (stops : Stops x y) where
     stream_front = (λ i. 0);
     command_fronts = (λ i. []);
   }
-
-  abbrev stopped : NormalState → Mutates ServerState StreamNames → NormalState
-  stopped z m = record x { mutator = m; ended = true; entry = z.entry }
 
   or_right : (a b : Bool) → b ≡ true → true ≡ (a || b)
   or_right true b e = refl

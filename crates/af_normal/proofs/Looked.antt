@@ -1,24 +1,11 @@
 -- What a look of a server in order comes to, by its own list.
 use Rattle.std.proofs.Common.{◌≡◌, ℕ, Option, Some, None, MatchOption, is_some, if◌then◌else◌, List, [], ◌∷◌, ◌++◌, refl, sym, ap, subst, ◌∙◌, append_assoc, append-nil, Bool, true, false, MatchBool, length, map, suc, arith}
-use Rattle.std.specs.Prelude.{slice_index_or}
-use Rattle.af_base.specs.declared.event.ServerEvent.{ServerEvent}
+use Rattle.af_normal.proofs.Common.{CommandLook, Frame, IsInOrder, IsSeen, LooksBy, Seen, ServerEvent, ServerState, SlotEntry, as_slot, count_seen, kept, listed, look_at, look_events, packed_word, shown_by, shows_command, slice_index_or}
 use Rattle.af_base.specs.declared.event.ServerEvent.TheVariants as server
-use Rattle.af_base.specs.declared.frame.Frame.{Frame}
-use Rattle.af_base.specs.declared.turn.CommandLook.{CommandLook}
-use Rattle.af_base.specs.Log.{count_seen}
-use Rattle.af_base.specs.Sample.{packed_word}
-use Rattle.af_base.specs.declared.log.SlotEntry.{SlotEntry}
-use Rattle.af_base.specs.declared.seen.Seen.{Seen}
 use Rattle.af_base.specs.declared.seen.Seen.TheVariants as seen
-use Rattle.af_model.specs.Cycles.{IsSeen, kept, LooksBy}
-use Rattle.af_model.specs.ServerCalls.{look_at, look_events, shown_by}
 use Rattle.af_server.specs.declared.look.Look.{Look}
 use Rattle.af_server.specs.Looks.{Looks, WithinAsk}
-use Rattle.af_server.specs.Order.{ServerState, IsInOrder}
-use Rattle.af_server.specs.Slot.{listed}
 use Rattle.af_server.proofs.SomeShown.{shows_some}
-use Rattle.af_life.specs.Looks.{as_slot}
-use Rattle.af_life.specs.Obeys.{shows_command}
 use Rattle.af_normal.specs.Commands.{LooksOnce}
 
 module _ (asked : ℕ) (s u : ServerState) (look : Look) (order : IsInOrder s) (looks : Looks s asked look u) (within : WithinAsk asked look.seen) where
@@ -116,10 +103,7 @@ taken s u v look front h by list frames took words shape hand = record {
 -- a look at so many frames showed them
 pub shown_two : (x : Seen) (n : ℕ) → count_seen x ≡ suc n → shown_by x ≡ Some (suc n)
 shown_two (seen.Frames count) n h = ap Some h
-shown_two seen.Absent n h = absurd (omega arith)
-shown_two seen.Empty n h = absurd (omega arith)
-shown_two (seen.Flushed dropped) n h = absurd (omega arith)
-shown_two (seen.Shut front rear) n h = absurd (omega arith)
+shown_two _ n h = absurd (omega arith)
 
 -- two words, one after the other
 pub two_words : (xs : List Frame) (d e : Frame) → length xs ≡ 2 → map packed_word xs ≡ packed_word (slice_index_or xs 0 d) ∷ packed_word (slice_index_or xs 1 e) ∷ []

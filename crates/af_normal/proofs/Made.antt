@@ -1,36 +1,7 @@
 -- A new mixer is in order.
 use Rattle.std.proofs.Common.{◌≡◌, ℕ, zero, suc, ◌-◌, ◌*◌, ◌<◌, ◌≤◌, Bool, true, false, true≢false, is_some, sym, refl, ap, subst, ◌∙◌, List, [], ◌∷◌, length, replicate, All, Option, Some, None, arith}
-use Rattle.std.specs.Prelude.{slice_get}
-use Rattle.std.proofs.lemmas.List.{length-replicate, length-map, nil_from_length}
-use Rattle.std.proofs.lemmas.List.Elements.{All-get_or, All-nil}
-use Rattle.std.proofs.lemmas.Option.{slice_get_within}
-use Rattle.af_base.proofs.Basics.{no}
-use Rattle.af_base.specs.declared.state.FastState.{FastState}
-use Rattle.af_base.specs.declared.turn.NormalTake.{NormalTake}
-use Rattle.af_base.specs.declared.turn.TrackTurn.{TrackTurn}
-use Rattle.af_base.specs.declared.turn.TurnEntry.{TurnEntry}
-use Rattle.af_base.specs.Log.{slots}
-use Rattle.af_base.specs.Roomy.{Roomy}
-use Rattle.af_base.specs.Turn.{Turn, turn_of, ended_turn, track_seen, take_seen}
-use Rattle.af_cblk.specs.Sides.{HandSide}
-use Rattle.af_life.proofs.Basics.{at_new}
-use Rattle.af_model.specs.Draft.{initial}
-use Rattle.af_model.specs.StateQueue.{IsState}
-use Rattle.af_server.specs.Order.{ServerState}
-use Rattle.af_stateq.specs.Mutates.{Mutates, is_out}
+use Rattle.af_normal.proofs.Common.{All-get_or, All-nil, AreUpTo, FastState, HandSide, InSide, IsDrafted, IsSlotted, IsSmall, IsSound, IsState, Links, Mutates, NormalTake, ReaderSide, Roomy, ServerState, Setting, StreamNames, TrackKept, TrackTurn, Turn, TurnEntry, at_new, ended_turn, holds, initial, is_home, is_out, length-map, length-replicate, most_looks, new_normal, new_small, new_track, nil_from_length, no, slice_get, slice_get_within, slots, take_seen, track_seen, turn_of}
 use Rattle.af_stateq.proofs.Start.{initial_state}
-use Rattle.af_link.specs.PipeEnds.{InSide}
-use Rattle.af_link.specs.Reports.{ReaderSide}
-use Rattle.af_link.specs.declared.links.Links.{Links}
-use Rattle.af_link.specs.declared.names.StreamNames.{StreamNames}
-use Rattle.af_life.specs.declared.kept.Setting.{Setting}
-use Rattle.af_life.specs.declared.kept.TrackKept.{TrackKept}
-use Rattle.af_life.specs.Kept.{Setup, new_normal, new_track, is_home}
-use Rattle.af_life.specs.Obeys.{holds}
-use Rattle.af_life.specs.Serves.{most_looks}
-use Rattle.af_life.specs.Small.{AreUpTo, IsSmall}
-use Rattle.af_life.specs.Sound.{IsSlotted, IsDrafted, IsSound}
-use Rattle.af_life.proofs.Smalls.{new_small}
 use Rattle.af_normal.specs.Making.{TrackList, IsMade, AreNew}
 use Rattle.af_normal.specs.Mixing.{stream_at}
 use Rattle.af_normal.specs.AllMixed.{HasFrames, HasTakes}
@@ -57,9 +28,6 @@ module _ (links : Links) (frames normal : ℕ) (tracks : TrackList) (mutator : M
     (whole : (length tracks.streams ≡ length tracks.settings) × (length tracks.commands ≡ length tracks.settings)) (all : All (λ (s : Option ServerState). is_some s ≡ true) tracks.streams) where
   abbrev n : ℕ
   n = length tracks.settings
-
-  abbrev c : Setup
-  c = record { frames = frames; normal = normal; settings = tracks.settings }
 
   abbrev fresh : NormalState
   fresh = record {

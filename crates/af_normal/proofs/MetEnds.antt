@@ -1,10 +1,6 @@
 -- A mixer stays in order if one of its hands is replaced by another hand of the same block.
 use Rattle.std.proofs.Common.{◌≡◌, ◌≢◌, ℕ, zero, suc, true≢false, is_some, List, length-set, slice_set, slice_get, slice_index_or, Some, ⊎_elim, refl, sym, ap, subst, ◌∙◌, arith}
-use Rattle.std.proofs.lemmas.Bool.{cases_eq}
-use Rattle.std.proofs.lemmas.Option.{slice_get_within, get_or_from_slice_get}
-use Rattle.af_base.proofs.Basics.{get_set_other, get_set_same}
-use Rattle.af_cblk.specs.Sides.{HandSide, Made, hand_made}
-use Rattle.af_link.specs.declared.links.Links.{Links}
+use Rattle.af_normal.proofs.Common.{HandSide, Links, Made, cases_eq, get_or_from_slice_get, get_set_other, get_set_same, hand_made, slice_get_within}
 use Rattle.af_normal.specs.Order.{IsInOrder}
 use Rattle.af_normal.specs.State.{NormalState}
 

@@ -1,47 +1,10 @@
 -- A mixer whose ends or proxies met others is in order.
-use Rattle.std.proofs.Common.{◌≡◌, ◌≢◌, ℕ, zero, suc, ◌<◌, ◌⊎◌, inl, inr, true, true≢false, is_some, sym, refl, ap, subst, ◌∙◌, List, length, length-set, slice_get, Option, Some, None, ⊎_elim, get_or-set_other, arith}
-use Rattle.std.proofs.lemmas.Bool.{cases_eq}
-use Rattle.std.proofs.lemmas.List.{nil_from_length}
-use Rattle.af_base.proofs.Basics.{get_set_other, some_same}
-use Rattle.af_cblk.specs.Sides.{HandSide, Made, client_made, hand_made}
-use Rattle.af_client.specs.Order.{ClientState}
-use Rattle.af_server.specs.Order.{ServerState}
-use Rattle.af_stateq.specs.Observes.{Observes}
-use Rattle.af_link.specs.Names.{IsStreamOf}
-use Rattle.af_link.specs.PipeEnds.{OutSide}
-use Rattle.af_link.specs.Reports.{WriterSide}
-use Rattle.af_link.specs.declared.links.Links.{Links}
-use Rattle.af_link.specs.declared.names.StreamNames.{StreamNames}
-use Rattle.af_life.specs.Kept.{is_home, track_at}
-use Rattle.af_normal.specs.Meeting.{AreOf, MeetsStream, MeetsTrack, ends_met, queue_met}
+use Rattle.std.proofs.Common.{◌≡◌, ◌≢◌, ℕ, zero, suc, ◌<◌, ◌⊎◌, true, true≢false, is_some, sym, refl, ap, subst, ◌∙◌, List, length, length-set, slice_get, Option, Some, None, ⊎_elim, get_or-set_other, arith}
+use Rattle.af_normal.proofs.Common.{ClientState, HandSide, IsStreamOf, Links, Made, ServerState, cases_eq, client_made, get_set_other, hand_made, is_home, nil_from_length, some_same, track_at}
+use Rattle.af_normal.specs.Meeting.{AreOf, MeetsStream, MeetsTrack}
 use Rattle.af_normal.specs.Mixing.{stream_at}
 use Rattle.af_normal.specs.Order.{IsInOrder}
 use Rattle.af_normal.specs.State.{NormalState}
-
-module _ (links : Links) (m : NormalState) (o : IsInOrder links m) where
-  pub ends_order : (w : WriterSide) (out : OutSide) → IsInOrder links (ends_met m w out)
-  ends_order w out = record {
-    tied = record { sound = o.tied.sound; sizes = o.tied.sizes; proxies = o.tied.proxies; out = o.tied.out; linked = o.tied.linked };
-    small = o.small;
-    looks = o.looks;
-    none_yet = (λ e. let h = o.none_yet e in record { none = h.none; home = h.home; whole = h.whole });
-    hands = o.hands;
-    turns = o.turns;
-    takes = o.takes;
-    idle = o.idle;
-  }
-
-  pub queue_order : (other : Observes ServerState StreamNames) → IsInOrder links (queue_met m other)
-  queue_order other = record {
-    tied = record { sound = o.tied.sound; sizes = o.tied.sizes; proxies = o.tied.proxies; out = o.tied.out; linked = o.tied.linked };
-    small = o.small;
-    looks = o.looks;
-    none_yet = (λ e. let h = o.none_yet e in record { none = h.none; home = h.home; whole = h.whole });
-    hands = o.hands;
-    turns = o.turns;
-    takes = o.takes;
-    idle = o.idle;
-  }
 
 -- ## The proxies of a track
 
@@ -53,13 +16,6 @@ module _ (links : Links) (x : NormalState) (o : IsInOrder links x) (i : ℕ) (in
       by_turns : (n : ℕ) → x.turns ≡ n → (h : HandSide) → slice_get x.hands i ≡ Some h → slice_get links.streams.now i ≡ Some (hand_made h)
       by_turns zero e h is = absurd (true≢false (sym (ap is_some (sym (ap (λ (hs : List HandSide). slice_get hs i) (o.none_yet e).none) ∙ is))))
       by_turns (suc n) e h is = (o.hands (omega arith)).flags_of i h is
-
-  pub lists_long : (i < length x.streams) × (i < length x.commands) × ((length x.hands ≡ 0) ⊎ (i < length x.hands))
-  lists_long = ((let l = o.tied.sizes.streams_are in omega arith), (let l = o.tied.sizes.commands_are in omega arith), by_turns x.turns refl)
-    where
-      by_turns : (n : ℕ) → x.turns ≡ n → (length x.hands ≡ 0) ⊎ (i < length x.hands)
-      by_turns zero e = inl (ap (λ (hs : List HandSide). length hs) (o.none_yet e).none)
-      by_turns (suc n) e = inr (let l = (o.hands (omega arith)).whole in omega arith)
 
   module _ (streams : List (Option ServerState)) (commands : List ServerState) (hands : List HandSide) (c d e f : ClientState) (own : AreOf links i streams commands hands)
       (met : MeetsTrack links i x.streams streams x.commands commands x.hands hands c d e f) where

@@ -1,13 +1,6 @@
 -- The proxies of one track meet their clients by the number of the track.
 use Rattle.std.proofs.Common.{◌≡◌, ◌≢◌, ℕ, ◌<◌, List, length, slice_get, slice_set, slice_index_or, Option, Some, None, refl, sym, ap, subst, ◌∙◌, get_or-set_same, arith}
-use Rattle.std.proofs.lemmas.Option.{slice_get-get_or, slice_get_within, slice_get_past, get_or_from_slice_get}
-use Rattle.std.proofs.lemmas.List.{get_or_default}
-use Rattle.af_base.proofs.Basics.{get_set_same, some_same}
-use Rattle.af_cblk.specs.Sides.{HandSide, Made, client_made, hand_made, server_made}
-use Rattle.af_client.specs.Order.{ClientState, IsClientOf}
-use Rattle.af_server.specs.Order.{ServerState, IsServerOf}
-use Rattle.af_link.specs.Names.{IsStreamOf}
-use Rattle.af_link.specs.declared.links.Links.{Links}
+use Rattle.af_normal.proofs.Common.{ClientState, HandSide, IsClientOf, IsServerOf, IsStreamOf, Links, Made, ServerState, client_made, get_or_default, get_or_from_slice_get, get_set_same, hand_made, server_made, slice_get-get_or, slice_get_past, slice_get_within, some_same}
 use Rattle.af_normal.specs.Meeting.{AreClientsOf, AreOf, Meets, MeetsStream, MeetsTrack}
 
 module _ (links : Links) (i : ℕ) (streams : List (Option ServerState)) (commands : List ServerState) (hands : List HandSide) (stream command : ClientState)

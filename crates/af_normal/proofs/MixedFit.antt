@@ -1,12 +1,6 @@
 -- What was taken fits into a buffer, and is of the tracks.
 use Rattle.std.proofs.Common.{◌≡◌, ℕ, zero, suc, ◌<◌, ◌≤◌, List, [], ◌∷◌, length, map, All, slice_index_or, sym, ap, subst, ◌∙◌, length-append, arith}
-use Rattle.std.proofs.lemmas.List.{get_or-map, length-map}
-use Rattle.std.proofs.lemmas.List.Elements.{All-nil, All-push, All-weaker, All-from_get_or, All-get_or}
-use Rattle.af_base.proofs.Basics.{by_bool}
-use Rattle.af_base.specs.declared.turn.NormalTake.{NormalTake}
-use Rattle.af_base.specs.Turn.{TakeSeen, take_seen}
-use Rattle.af_life.specs.Kept.{track_at}
-use Rattle.af_life.specs.Plays.{is_mixed_here}
+use Rattle.af_normal.proofs.Common.{All-from_get_or, All-get_or, All-nil, All-push, All-weaker, NormalTake, TakeSeen, by_bool, get_or-map, is_mixed_here, length-map, take_seen, track_at}
 use Rattle.af_normal.specs.Mixing.{Mixing, MixesTo, TakesOf}
 use Rattle.af_normal.specs.Sums.{Fits}
 use Rattle.af_normal.proofs.Given.{no_take}

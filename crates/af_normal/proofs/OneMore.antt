@@ -1,16 +1,7 @@
 -- One look more.
 use Rattle.std.proofs.Common.{◌≡◌, ℕ, suc, ◌+◌, ◌-◌, ◌<◌, ◌≤◌, Bool, true, false, true≢false, if◌then◌else◌, ◌&&◌, sym, refl, ap, ◌∙◌, subst, List, [], ◌∷◌, ◌++◌, append_assoc, append-nil, length, Option, arith}
-use Rattle.af_base.specs.declared.event.ServerEvent.{ServerEvent}
-use Rattle.af_base.specs.declared.turn.CommandLook.{CommandLook}
-use Rattle.af_model.specs.Cycles.{Listed, LooksBy}
-use Rattle.af_model.specs.declared.shape.Shape.{Shape}
-use Rattle.af_server.specs.Order.{ServerState}
-use Rattle.af_life.specs.declared.kept.TrackKept.{TrackKept}
-use Rattle.af_life.specs.Obeys.{shows_command, is_shut, ended, must_wait, obeyed, after_look, goes_on, after_looks, are_due, all_go_on}
-use Rattle.af_life.specs.Looks.{as_slot, command_events, all_command_events, words_taken}
-use Rattle.af_life.proofs.LooksSoFar.{after_all, after_looks-go, are_due-go}
+use Rattle.af_normal.proofs.Common.{CommandLook, Listed, LooksBy, ServerEvent, ServerState, Shape, TrackKept, after_all, after_look, after_looks, after_looks-go, all_command_events, all_go_on, are_due, are_due-go, as_slot, command_events, ended, goes_on, is_shut, listed, must_wait, obeyed, shows_command, words_taken}
 use Rattle.af_life.proofs.LooksMade.{after_events, legal-push, events-push}
-use Rattle.af_server.specs.Slot.{listed}
 use Rattle.af_normal.specs.Commands.{LooksOnce, LooksMade}
 
 words-push : (looks : List CommandLook) (look : CommandLook) → words_taken (looks ++ look ∷ []) ≡ words_taken looks ++ words_taken (look ∷ [])

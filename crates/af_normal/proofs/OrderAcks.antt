@@ -1,22 +1,6 @@
 -- What comes home by a look at the acknowledgement, and that the order stays.
 use Rattle.std.proofs.Common.{◌≡◌, ◌≢◌, ℕ, zero, suc, ◌<◌, ◌≤◌, ◌&&◌, not, Bool, true, false, if◌then◌else◌, true≢false, is_some, MatchBool, MatchOption, ◌⊎◌, sym, refl, ap, subst, ◌∙◌, inl, inr, List, length, map, Option, Some, None, ⊎_elim, length-set, get_or-set_same, get_or-set_other, arith}
-use Rattle.std.specs.Prelude.{slice_set}
-use Rattle.std.proofs.lemmas.Bool.{cases_eq}
-use Rattle.std.proofs.lemmas.List.{ext_get_or, get_or-map, length-map}
-use Rattle.af_base.proofs.Basics.{never_true, no}
-use Rattle.af_base.specs.declared.state.FastState.{FastState}
-use Rattle.af_base.specs.Log.{slots}
-use Rattle.af_cblk.specs.Sides.{Made}
-use Rattle.af_life.proofs.Basics.{at_here, at_other, away_holds, inside, returning_away, slot_of_away}
-use Rattle.af_model.specs.StateQueue.{carries, slot_of}
-use Rattle.af_server.specs.Order.{ServerState}
-use Rattle.af_stateq.specs.Mutates.{InSlot, InDraft, at, is_out}
-use Rattle.af_link.specs.Names.{IsStreamOf}
-use Rattle.af_link.specs.declared.links.Links.{Links}
-use Rattle.af_life.specs.declared.kept.Holder.TheVariants.{Home}
-use Rattle.af_life.specs.declared.kept.TrackKept.{TrackKept}
-use Rattle.af_life.specs.Kept.{track_at, new_track, slot_number, is_home, is_returning}
-use Rattle.af_life.specs.Edits.{comes_home, welcomed, after_ack}
+use Rattle.af_normal.proofs.Common.{FastState, Home, InDraft, InSlot, IsStreamOf, Links, Made, ServerState, TrackKept, after_ack, at, at_here, at_other, away_holds, carries, cases_eq, comes_home, ext_get_or, get_or-map, inside, is_home, is_out, is_returning, length-map, never_true, new_track, no, returning_away, slice_set, slot_number, slot_of, slot_of_away, slots, track_at, welcomed}
 use Rattle.af_normal.specs.Coming.{takes_back, has_back, Welcomes, WelcomesTo}
 use Rattle.af_normal.specs.Mixing.{stream_at}
 use Rattle.af_normal.specs.Order.{AreThere, IsTied}
@@ -101,10 +85,6 @@ module _ (links : Links) (x : NormalState) (tied : IsTied links x) (held : InDra
   true_both true true e f = refl
   true_both true false e f = no f
   true_both false d e f = no e
-
-  not_some : (b d : Bool) → d ≡ not b → (d ≡ false → b ≡ true) × (d ≡ true → b ≡ false)
-  not_some true d e = ((λ f. refl), (λ f. no (sym e ∙ f)))
-  not_some false d e = ((λ f. absurd (true≢false (sym e ∙ f))), (λ f. refl))
 
   -- a track that stays as it is
   unwelcomed : (s : TrackKept) → comes_home last s ≡ false → s ≡ welcomed last s

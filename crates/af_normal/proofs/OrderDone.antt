@@ -1,20 +1,6 @@
 -- The order after a whole turn.
 use Rattle.std.proofs.Common.{◌≡◌, ℕ, ◌≤◌, Bool, is_some, inl, inr, sym, refl, ap, subst, ◌∙◌, List, [], ◌∷◌, length, Option, Some, None, arith}
-use Rattle.std.specs.Prelude.{fold, slice_set}
-use Rattle.af_base.specs.declared.event.ServerEvent.{ServerEvent}
-use Rattle.af_base.specs.declared.report.Report.{Report}
-use Rattle.af_base.specs.declared.state.FastState.{FastState}
-use Rattle.af_base.specs.declared.state.Push.{Push}
-use Rattle.af_base.specs.Turn.{TakeSeen}
-use Rattle.af_cblk.specs.Sides.{Made}
-use Rattle.af_life.proofs.Basics.{at_set, set_each, takes_len}
-use Rattle.af_server.specs.Order.{ServerState}
-use Rattle.af_link.specs.Names.{IsStreamOf}
-use Rattle.af_link.specs.declared.links.Links.{Links}
-use Rattle.af_life.specs.declared.kept.TrackKept.{TrackKept}
-use Rattle.af_life.specs.Kept.{asked, track_at, is_home}
-use Rattle.af_life.specs.Plays.{after_take, counted}
-use Rattle.af_life.specs.Sound.{IsSlotted, IsDrafted, IsSound}
+use Rattle.af_normal.proofs.Common.{FastState, IsDrafted, IsSlotted, IsSound, IsStreamOf, Links, Made, Push, Report, ServerEvent, ServerState, TakeSeen, TrackKept, after_take, asked, at_set, counted, fold, is_home, set_each, slice_set, takes_len, track_at}
 use Rattle.af_normal.specs.Mixing.{stream_at}
 use Rattle.af_normal.specs.Order.{AreThere, IsTied}
 use Rattle.af_normal.specs.State.{NormalState, setup_of}

@@ -1,22 +1,7 @@
 -- The edits of the draft keep what holds of slots and draft.
-use Rattle.std.proofs.Common.{◌≡◌, ◌≢◌, ℕ, ◌<◌, ◌≤◌, ◌&&◌, not, Bool, true, false, true≢false, sym, refl, ap, subst, ◌∙◌, inl, length}
-use Rattle.std.specs.Prelude.{slice_set}
-use Rattle.af_base.proofs.Basics.{and_none, both, no, none_and}
-use Rattle.af_base.specs.declared.state.FastState.{FastState}
-use Rattle.af_base.specs.declared.state.FastTrack.{FastTrack}
-use Rattle.af_base.specs.Log.{slots}
-use Rattle.af_life.proofs.Basics.{away_holds, each_set, has_slot, inside, lent_away, returning_away, set_each, slot_is, slot_of_away}
-use Rattle.af_model.proofs.Basics.{not_true}
-use Rattle.af_model.specs.Draft.{detached}
-use Rattle.af_model.specs.StateQueue.{carries, slot_of}
+use Rattle.std.proofs.Common.{◌≡◌, ◌≢◌, ℕ, ◌<◌, ◌≤◌, ◌&&◌, Bool, true, false, true≢false, sym, refl, ap, subst, ◌∙◌, inl, length}
+use Rattle.af_normal.proofs.Common.{FastState, FastTrack, Heard, Home, IsDrafted, IsSlotted, IsSound, NormalKept, Returning, Setup, TrackKept, and_none, away_holds, both, carries, detached, each_set, entered, has_slot, holds, inside, is_home, lent_away, lent_by, must_enter, must_leave, no, none_and, not_true, returning_away, set_each, setting_of, slice_set, slot_is, slot_number, slot_of, slot_of_away, slots, track_at}
 use Rattle.af_stateq.proofs.Bits.{attached_here, attached_else, slot_here, slot_else, attached_state, detached_here, detached_else, detached_state}
-use Rattle.af_life.specs.declared.kept.Heard.{Heard}
-use Rattle.af_life.specs.declared.kept.Holder.TheVariants.{Home, Returning}
-use Rattle.af_life.specs.declared.kept.TrackKept.{TrackKept}
-use Rattle.af_life.specs.Kept.{Setup, NormalKept, track_at, slot_number, is_home, setting_of}
-use Rattle.af_life.specs.Obeys.{holds}
-use Rattle.af_life.specs.Edits.{must_leave, must_enter, entered, lent_by}
-use Rattle.af_life.specs.Sound.{IsSlotted, IsDrafted, IsSound}
 use Rattle.af_normal.proofs.OrderSlots.{alone_set}
 
 module _ (m : NormalKept) (sound : IsSound m.tracks m.draft) where

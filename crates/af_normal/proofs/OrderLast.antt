@@ -1,25 +1,6 @@
 -- A whole turn keeps the order.
 use Rattle.std.proofs.Common.{◌≡◌, ℕ, zero, suc, ◌+◌, ◌<◌, ◌≤◌, ◌&&◌, Bool, true, false, MatchBool, nat_le, inl, inr, sym, refl, ap, subst, ◌∙◌, List, length, Some, arith}
-use Rattle.std.proofs.lemmas.Bool.{cases_lt}
-use Rattle.std.proofs.lemmas.Option.{slice_get_within}
-use Rattle.af_base.specs.declared.report.Report.{Report}
-use Rattle.af_base.specs.declared.state.Push.{Push}
-use Rattle.af_base.specs.declared.state.Push.TheVariants.{Pushed, Clean, Busy}
-use Rattle.af_base.specs.Turn.{TrackSeen, turn_of}
-use Rattle.af_cblk.specs.Sides.{HandSide}
-use Rattle.af_server.specs.Order.{ServerState}
-use Rattle.af_stateq.specs.Answers.{WasPushed, SeesIt, shows}
-use Rattle.af_stateq.specs.Mutates.{Mutates}
-use Rattle.af_link.specs.Names.{IsStreamOf}
-use Rattle.af_link.specs.declared.links.Links.{Links}
-use Rattle.af_link.specs.declared.names.StreamNames.{StreamNames}
-use Rattle.af_life.specs.declared.kept.TrackKept.{TrackKept}
-use Rattle.af_life.specs.Kept.{Setup, asked, NormalKept, Learnt, seen_at, track_at}
-use Rattle.af_life.specs.Heard.{learnt}
-use Rattle.af_life.specs.Edits.{is_exit}
-use Rattle.af_life.specs.Serves.{served_to}
-use Rattle.af_life.specs.Small.{AreUpTo, IsSmall, IsSmallTurn}
-use Rattle.af_life.proofs.SmallTurns.{turn_small}
+use Rattle.af_normal.proofs.Common.{AreUpTo, Busy, Clean, HandSide, IsSmall, IsSmallTurn, IsStreamOf, Learnt, Links, Mutates, NormalKept, Push, Pushed, Report, SeesIt, ServerState, Setup, StreamNames, TrackKept, TrackSeen, WasPushed, asked, cases_lt, is_exit, learnt, seen_at, served_to, shows, slice_get_within, track_at, turn_of, turn_small}
 use Rattle.af_normal.specs.AllMixed.{HasTakes}
 use Rattle.af_normal.specs.Mixing.{Mixing, MixesTo, stream_at}
 use Rattle.af_normal.specs.Mutating.{Pushes}

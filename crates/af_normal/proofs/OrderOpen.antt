@@ -1,27 +1,8 @@
 -- An edit of the draft keeps the order.
 use Rattle.std.proofs.Common.{◌≡◌, ◌≢◌, ℕ, ◌+◌, ◌<◌, ◌≤◌, ◌^◌, Bool, true, false, true≢false, is_some, MatchBool, sym, refl, ap, subst, ◌∙◌, List, length, length-set, Option, Some, None, ⊎_elim, get_or-set_same, get_or-set_other, arith}
-use Rattle.std.specs.Prelude.{slice_set}
-use Rattle.std.proofs.lemmas.Bool.{cases_eq}
-use Rattle.af_base.proofs.Basics.{no}
-use Rattle.af_base.specs.declared.state.FastTrack.{FastTrack}
-use Rattle.af_base.specs.Log.{slots}
-use Rattle.af_life.proofs.Basics.{at_here, at_other, scale_fits}
-use Rattle.af_model.specs.StateQueue.{slot_of, no_track}
-use Rattle.af_server.specs.Order.{ServerState}
-use Rattle.af_server.specs.Slot.{listed}
-use Rattle.af_stateq.specs.Mutates.{is_out}
-use Rattle.af_link.specs.Names.{IsStreamOf}
-use Rattle.af_link.specs.declared.links.Links.{Links}
-use Rattle.af_life.specs.declared.kept.Holder.TheVariants.{Returning}
-use Rattle.af_life.specs.declared.kept.TrackKept.{TrackKept}
-use Rattle.af_life.specs.Heard.{known_by}
-use Rattle.af_life.specs.declared.kept.Heard.{Heard}
-use Rattle.af_life.specs.Kept.{track_at, nothing_heard, slot_number, is_home, setting_of}
-use Rattle.af_life.specs.Edits.{must_leave, must_enter, lent_by, entered}
+use Rattle.af_normal.proofs.Common.{FastTrack, Heard, IsStreamOf, Links, Made, Returning, ServerState, StreamNames, TrackKept, at_here, at_other, cases_eq, entered, is_home, is_out, known_by, lent_by, listed, must_enter, must_leave, no, no_track, nothing_heard, scale_fits, setting_of, slice_set, slot_number, slot_of, slots, track_at}
 use Rattle.af_normal.specs.Editing.{LetsGo, Lends, lets_go, lends}
 use Rattle.af_normal.specs.Mixing.{stream_at}
-use Rattle.af_link.specs.declared.names.StreamNames.{StreamNames}
-use Rattle.af_cblk.specs.Sides.{Made}
 use Rattle.af_normal.specs.Mutating.{EditsTrack, MayEnter, IsEditable}
 use Rattle.af_normal.specs.Order.{AreThere, HasSizes, IsOpen}
 use Rattle.af_normal.specs.State.{NormalState, setup_of, kept_of}
@@ -29,9 +10,6 @@ use Rattle.af_normal.proofs.OrderEdits.{leaver_away, leaver_slot, leaver_carried
 use Rattle.af_normal.proofs.OrderOut.{out_moved, out_more}
 
 module _ (links : Links) (edits i : ℕ) (x : NormalState) (mutating : IsOpen links edits x) where
-  abbrev s : TrackKept
-  s = track_at x.tracks i
-
   abbrev k : ℕ
   k = slot_number (track_at x.tracks i)
 

@@ -1,14 +1,6 @@
 -- Which slots are out, while proxies are lent, come home, or neither.
 use Rattle.std.proofs.Common.{◌≡◌, ◌≢◌, ℕ, ◌<◌, Bool, true, false, true≢false, sym, ap, subst, ◌∙◌, List, length, length-set, ⊎_elim, get_or-set_same, get_or-set_other, arith}
-use Rattle.std.specs.Prelude.{slice_set}
-use Rattle.std.proofs.lemmas.Bool.{cases_eq}
-use Rattle.af_base.proofs.Basics.{no}
-use Rattle.af_base.specs.Log.{slots}
-use Rattle.af_life.proofs.Basics.{at_here, at_other, away_holds}
-use Rattle.af_stateq.specs.Mutates.{is_out}
-use Rattle.af_life.specs.declared.kept.TrackKept.{TrackKept}
-use Rattle.af_life.specs.Kept.{NormalKept, track_at, slot_number, is_home}
-use Rattle.af_life.specs.Sound.{IsSound}
+use Rattle.af_normal.proofs.Common.{IsSound, NormalKept, TrackKept, at_here, at_other, away_holds, cases_eq, is_home, is_out, no, slice_set, slot_number, slots, track_at}
 use Rattle.af_normal.specs.Order.{IsOut}
 use Rattle.af_normal.proofs.OrderEdits.{apart}
 
@@ -34,9 +26,6 @@ out_same tracks out k b lt is h = record {
         (cases_eq q k)
 
 module _ (m : NormalKept) (sound : IsSound m.tracks m.draft) (out : List Bool) (h : IsOut m.tracks out) (i : ℕ) (t : TrackKept) (same : slot_number t ≡ slot_number (track_at m.tracks i)) (lt : i < length m.tracks) where
-  abbrev s : TrackKept
-  s = track_at m.tracks i
-
   abbrev k : ℕ
   k = slot_number (track_at m.tracks i)
 

@@ -1,20 +1,6 @@
 -- Serving the tracks keeps the order.
 use Rattle.std.proofs.Common.{◌≡◌, ℕ, zero, suc, ◌<◌, ◌≤◌, Bool, false, true≢false, is_some, sym, refl, ap, subst, ◌∙◌, inl, inr, List, [], ◌∷◌, length, Option, Some, None, arith}
-use Rattle.std.specs.Prelude.{slice_set}
-use Rattle.std.proofs.lemmas.Option.{slice_get_within}
-use Rattle.af_base.specs.declared.event.ServerEvent.{ServerEvent}
-use Rattle.af_base.specs.declared.state.FastState.{FastState}
-use Rattle.af_base.specs.Turn.{TrackSeen}
-use Rattle.af_life.proofs.Basics.{at_set}
-use Rattle.af_server.specs.Order.{ServerState}
-use Rattle.af_stateq.specs.Mutates.{is_out}
-use Rattle.af_link.specs.declared.links.Links.{Links}
-use Rattle.af_life.specs.declared.kept.TrackKept.{TrackKept}
-use Rattle.af_life.specs.Kept.{Setup, Learnt, track_at, number_of, is_home, seen_at}
-use Rattle.af_life.specs.Obeys.{slot_for}
-use Rattle.af_life.specs.Serves.{served, served_to}
-use Rattle.af_life.specs.Sound.{IsSound}
-use Rattle.af_life.proofs.Lives.{served_len}
+use Rattle.af_normal.proofs.Common.{FastState, IsSound, Learnt, Links, Report, ServerEvent, ServerState, Setup, TrackKept, TrackSeen, at_set, is_home, is_out, number_of, seen_at, served, served_len, served_to, slice_get_within, slice_set, slot_for, track_at}
 use Rattle.af_normal.specs.Mixing.{stream_at}
 use Rattle.af_normal.specs.Order.{AreThere, IsOut, IsTied}
 use Rattle.af_normal.specs.Ready.{AreOwn, serving_of}
@@ -22,7 +8,6 @@ use Rattle.af_normal.specs.Serving.{StreamAdds}
 use Rattle.af_normal.specs.State.{NormalState, setup_of}
 use Rattle.af_normal.specs.TurnMade.{ServesAll}
 use Rattle.af_normal.specs.Turning.{learnt_by}
-use Rattle.af_base.specs.declared.report.Report.{Report}
 use Rattle.af_normal.proofs.OrderLives.{Goes, goes_served}
 use Rattle.af_normal.proofs.OrderSlots.{sound_served}
 use Rattle.af_normal.proofs.LegalServed.{ServedTo}

@@ -1,21 +1,6 @@
 -- Serving the tracks keeps what holds of their slots.
 use Rattle.std.proofs.Common.{◌≡◌, ℕ, zero, suc, ◌+◌, ◌<◌, ◌≤◌, ◌&&◌, ◌⊎◌, not, Bool, true, false, if◌then◌else◌, true≢false, is_some, sym, refl, ap, subst, ◌∙◌, inl, inr, List, Option, Some, None, arith}
-use Rattle.std.specs.Prelude.{slice_set}
-use Rattle.std.specs.List.{find, list_any, range_with_len}
-use Rattle.af_base.proofs.Basics.{no}
-use Rattle.af_base.specs.declared.state.FastState.{FastState}
-use Rattle.af_base.specs.Log.{slots}
-use Rattle.af_base.specs.Turn.{TrackSeen}
-use Rattle.af_life.proofs.Basics.{at_set, has_slot, none_holds, not_ended, set_each, slot_is}
-use Rattle.af_model.proofs.Basics.{not_true}
-use Rattle.af_model.specs.StateQueue.{carries, slot_of}
-use Rattle.af_life.specs.declared.kept.Holder.{Holder}
-use Rattle.af_life.specs.declared.kept.Holder.TheVariants.{Home, Lent, Returning}
-use Rattle.af_life.specs.declared.kept.TrackKept.{TrackKept}
-use Rattle.af_life.specs.Kept.{Setup, Learnt, track_at, number_of, slot_number, is_home, is_lent, is_returning, seen_at, setting_of}
-use Rattle.af_life.specs.Obeys.{holds, free_slot, slot_for}
-use Rattle.af_life.specs.Serves.{served, served_to}
-use Rattle.af_life.specs.Sound.{IsSlotted, IsDrafted, AreAlone, IsSound}
+use Rattle.af_normal.proofs.Common.{AreAlone, FastState, Holder, Home, IsDrafted, IsSlotted, IsSound, Learnt, Lent, Returning, Setup, TrackKept, TrackSeen, at_set, carries, find, free_slot, has_slot, holds, is_home, is_lent, is_returning, list_any, no, none_holds, not_ended, not_true, number_of, range_with_len, seen_at, served, served_to, set_each, setting_of, slice_set, slot_for, slot_is, slot_number, slot_of, slots, track_at}
 use Rattle.af_normal.proofs.OrderLives.{Goes, goes_served}
 
 -- ## A free slot

@@ -1,27 +1,7 @@
 -- A turn of the plain mixer keeps what holds of its slots and its draft, whatever it saw.
 use Rattle.std.proofs.Common.{◌≡◌, ℕ, zero, suc, ◌≤◌, Bool, true, false, if◌then◌else◌, true≢false, sym, refl, ap, subst, ◌∙◌, length, All, arith}
-use Rattle.af_base.proofs.Basics.{and_none, no}
-use Rattle.af_base.specs.declared.state.Command.{Command}
-use Rattle.af_base.specs.declared.state.FastState.{FastState}
-use Rattle.af_base.specs.declared.state.Push.{Push}
-use Rattle.af_base.specs.declared.state.Push.TheVariants.{Pushed, Clean, Busy}
-use Rattle.af_base.specs.Turn.{Turn}
-use Rattle.af_life.proofs.Basics.{either, has_slot, returning_away, scale_fits, slot_is, sound_ordered, welcomed_at}
-use Rattle.af_life.specs.declared.kept.Holder.TheVariants.{Home}
-use Rattle.af_life.specs.declared.kept.Setting.{Setting}
-use Rattle.af_life.specs.declared.kept.TrackKept.{TrackKept}
-use Rattle.af_life.specs.Kept.{Setup, asked, NormalKept, Learnt, track_at, new_normal, is_home, is_returning}
-use Rattle.af_life.specs.Obeys.{holds}
-use Rattle.af_life.specs.Edits.{comes_home, welcomed, after_ack, must_leave, must_enter, let_go, lend, edited, edited_to, ordered, mutated, after_push}
-use Rattle.af_life.specs.Plays.{after_takes}
-use Rattle.af_life.specs.Sound.{IsSlotted, IsDrafted, IsSound}
-use Rattle.af_life.specs.Turn.{after_tracks, after_edits, turn_after}
-use Rattle.af_life.proofs.Lives.{acked_len, served_len, edits_len}
-use Rattle.af_model.proofs.Basics.{both_first}
-use Rattle.af_normal.proofs.Made.{new_sound}
-use Rattle.af_normal.proofs.OrderDone.{sound_takes}
+use Rattle.af_normal.proofs.Common.{Command, FastState, Home, IsDrafted, IsSlotted, IsSound, Learnt, NormalKept, Setting, Setup, TrackKept, after_ack, and_none, both_first, comes_home, edited, edited_to, edits_len, either, has_slot, holds, is_home, is_returning, lend, let_go, must_enter, must_leave, mutated, no, ordered, returning_away, scale_fits, slot_is, sound_ordered, track_at, welcomed, welcomed_at}
 use Rattle.af_normal.proofs.OrderEdits.{comer_inside, sound_go, sound_lend}
-use Rattle.af_normal.proofs.OrderSlots.{sound_served}
 
 -- ## What comes home
 
@@ -80,27 +60,3 @@ module _ (c : Setup) (scales : All (λ (s : Setting). s.scale ≤ 4096) c.settin
   pub sound_mutated : (room : ℕ) (m : NormalKept) → length m.tracks ≤ length c.settings → Sound m → Sound (mutated c k room m)
   unfolding mutated
   sound_mutated room m few h = sound_command _ (edited_to c k m (length m.tracks)) (sound_edits (length m.tracks) m few h)
-
-  sound_pushed : (push : Push) (m : NormalKept) → Sound m → Sound (after_push push m)
-  sound_pushed (Pushed number) m h = h
-  sound_pushed Clean m h = h
-  sound_pushed (Busy seen expected) m h = h
-
-  -- ## The whole turn
-
-  goes_sound : (m : NormalKept) (e : Turn) → length m.tracks ≤ length c.settings → Sound m → Sound (after_takes c e.mixes (after_push e.push (after_edits c k e m)))
-  goes_sound m e few h =
-      let acked : NormalKept = after_ack e.ack m in
-      let served : NormalKept = after_tracks c k e (after_ack e.ack m) in
-      let long : length served.tracks ≡ length m.tracks = served_len c k e.tracks (after_ack e.ack m).tracks (length (after_ack e.ack m).tracks) ∙ acked_len e.ack m in
-      let s : Sound served = sound_served c k e.tracks (after_ack e.ack m).draft (after_ack e.ack m).tracks (length (after_ack e.ack m).tracks) (sound_acked e.ack m h) in
-      let p : Sound (after_push e.push (after_edits c k e m)) = sound_pushed e.push (after_edits c k e m) (sound_mutated e.room served (omega arith) s) in
-      sound_takes (asked c) (after_push e.push (after_edits c k e m)).draft e.mixes (after_push e.push (after_edits c k e m)).tracks p
-
-  pub sound_turn : (m : NormalKept) (e : Turn) → length m.tracks ≤ length c.settings → Sound m → Sound (turn_after c k m e)
-  unfolding turn_after
-  sound_turn m e few h = by_bool e.ended (record m { ended = true }) _ (λ f. h) (λ f. goes_sound m e few h)
-
--- the mixer is sound before the both_first turn
-pub sound_new : (c : Setup) → Sound (new_normal c)
-sound_new c = new_sound (length c.settings) c.frames (new_normal c).draft refl

@@ -1,24 +1,7 @@
 -- Each stage of a turn keeps the order.
 use Rattle.std.proofs.Common.{◌≡◌, ℕ, zero, suc, ◌+◌, ◌<◌, ◌≤◌, ◌==◌, Bool, true, false, if◌then◌else◌, MatchBool, sym, refl, ap, subst, ◌∙◌, List, [], ◌∷◌, ◌++◌, length, Option, eq-eqb, arith}
-use Rattle.af_base.specs.Command.{code_of}
-use Rattle.af_base.specs.declared.report.Report.{Report}
-use Rattle.af_base.specs.declared.state.Command.{Command}
-use Rattle.af_base.specs.declared.state.Push.{Push}
-use Rattle.af_base.specs.declared.state.Push.TheVariants.{Pushed, Clean, Busy}
-use Rattle.af_cblk.specs.Sides.{Made}
-use Rattle.af_life.proofs.Basics.{returning_away, sound_ordered}
+use Rattle.af_normal.proofs.Common.{Busy, Clean, Command, IsJoined, Links, Made, Mutates, Push, Pushed, Pushes as Past, Report, SeesIt, ServerState, StreamNames, WasAcked, WasPushed, after_ack, code_of, commanded as with_command, is_returning, number_seen, returning_away, saw, shows, slot_number, slot_of, sound_ordered, track_at, word}
 use Rattle.af_model.specs.declared.states.MutatorEvent.TheVariants as mutator
-use Rattle.af_model.specs.Draft.{commanded as with_command}
-use Rattle.af_model.specs.StateQueue.{slot_of, word}
-use Rattle.af_server.specs.Order.{ServerState}
-use Rattle.af_stateq.specs.Answers.{WasAcked, WasPushed, SeesIt, shows}
-use Rattle.af_stateq.specs.Ends.{Pushes as Past, saw}
-use Rattle.af_stateq.specs.Mutates.{Mutates, IsJoined}
-use Rattle.af_link.specs.declared.links.Links.{Links}
-use Rattle.af_link.specs.declared.names.StreamNames.{StreamNames}
-use Rattle.af_life.specs.Kept.{track_at, slot_number, is_returning}
-use Rattle.af_life.specs.Edits.{after_ack}
-use Rattle.af_life.specs.TurnEvents.{number_seen}
 use Rattle.af_normal.specs.Coming.{WelcomesTo}
 use Rattle.af_normal.specs.Mutating.{EditsTo, EditsAll, Pushes, begun, commands, finished, due_command}
 use Rattle.af_normal.specs.LegalTurned.{in_hand, home_stream}

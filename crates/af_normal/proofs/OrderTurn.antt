@@ -1,31 +1,6 @@
 -- The stages of a turn in a row: what each leaves, and that its numbers stay small.
 use Rattle.std.proofs.Common.{◌≡◌, inl, inr, ℕ, zero, suc, ◌*◌, ◌<◌, ◌≤◌, ◌^◌, ◌&&◌, not, Bool, true, false, true≢false, is_some, MatchBool, sym, refl, ap, subst, ◌∙◌, List, [], ◌∷◌, length, map, All, Option, Some, None, arith}
-use Rattle.std.specs.Prelude.{slice_get}
-use Rattle.std.proofs.lemmas.List.Elements.{All-from_get_or}
-use Rattle.std.proofs.lemmas.Bool.{cases_lt}
-use Rattle.af_life.proofs.Basics.{due_len}
-use Rattle.af_life.specs.TurnEvents.{invalid}
-use Rattle.af_base.specs.declared.report.Report.{Report}
-use Rattle.af_base.specs.declared.state.Push.{Push}
-use Rattle.af_base.specs.declared.turn.CommandLook.{CommandLook}
-use Rattle.af_base.specs.Turn.{TrackSeen, track_seen}
-use Rattle.af_model.specs.Cycles.{kept}
-use Rattle.af_model.specs.StateQueue.{slot_of}
-use Rattle.af_server.specs.Order.{ServerState}
-use Rattle.af_server.specs.Slot.{listed}
-use Rattle.af_stateq.specs.Ends.{Pushes as Past}
-use Rattle.af_stateq.specs.Mutates.{Mutates}
-use Rattle.af_link.specs.declared.links.Links.{Links}
-use Rattle.af_link.specs.declared.names.StreamNames.{StreamNames}
-use Rattle.af_life.specs.declared.kept.TrackKept.{TrackKept}
-use Rattle.af_life.specs.Heard.{known_by, ready, heard}
-use Rattle.af_life.specs.Kept.{Setup, NormalKept, Learnt, track_at, new_track, seen_at, nothing_seen, plays}
-use Rattle.af_life.specs.Obeys.{are_due, slot_for}
-use Rattle.af_life.specs.Serves.{served_to, LegalTrack, IsServed, most_looks}
-use Rattle.af_life.specs.Edits.{mutated}
-use Rattle.af_life.specs.Small.{IsSmall, AreUpTo, most_tracks}
-use Rattle.af_life.proofs.Lives.{acked_len}
-use Rattle.af_life.proofs.SmallTurns.{acked}
+use Rattle.af_normal.proofs.Common.{All-from_get_or, AreUpTo, CommandLook, IsServed, IsSmall, Learnt, LegalTrack, Links, Mutates, NormalKept, Push, Pushes as Past, Report, ServerState, Setup, StreamNames, TrackKept, TrackSeen, acked, acked_len, are_due, cases_lt, due_len, heard, invalid, kept, known_by, listed, most_looks, most_tracks, mutated, new_track, nothing_seen, plays, ready, seen_at, served_to, slice_get, slot_for, slot_of, track_at, track_seen}
 use Rattle.af_normal.specs.AllMixed.{AreHome, HasTakes}
 use Rattle.af_normal.specs.Mixing.{stream_at}
 use Rattle.af_normal.specs.Mutating.{EditsAll, Pushes, begun}

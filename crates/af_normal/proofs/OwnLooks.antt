@@ -1,30 +1,8 @@
 -- How few looks of its own the mixer has not told of: one of each track at most, and of a track that it may mix none until it is mixed.
 use Rattle.std.proofs.Common.{◌≡◌, ◌≢◌, ℕ, zero, suc, ◌<◌, ◌≤◌, ◌&&◌, not, Bool, true, false, true≢false, if◌then◌else◌, is_some, MatchBool, refl, sym, ap, subst, ◌∙◌, List, [], ◌∷◌, length, Option, ⊎_elim, get_or-set_same, arith}
-use Rattle.std.specs.Prelude.{map, slice_set}
-use Rattle.std.proofs.lemmas.Bool.{cases_eq, cases_lt}
-use Rattle.af_base.proofs.Basics.{no}
-use Rattle.af_base.specs.declared.report.SlotReport.{SlotReport}
-use Rattle.af_base.specs.declared.seen.Seen.{Seen}
-use Rattle.af_base.specs.declared.state.FastState.{FastState}
-use Rattle.af_base.specs.declared.turn.CommandLook.{CommandLook}
-use Rattle.af_base.specs.Turn.{TrackSeen}
-use Rattle.af_life.proofs.Basics.{out_of, set_each}
-use Rattle.af_model.proofs.Basics.{one_few}
-use Rattle.af_model.specs.Reports.{is_full, is_partial, is_empty}
+use Rattle.af_normal.proofs.Common.{AreUpTo, CommandLook, FastState, Heard, Holder, Home, Learnt, NormalKept, Seen, Setup, SlotReport, TrackKept, TrackSeen, after_ack, after_look, after_looks, after_part, cases_eq, cases_lt, comes_home, counted, counts_in, edited, edited_to, ended, goes_on, heard, is_empty, is_full, is_home, is_mixed_here, is_partial, is_reached, is_reported, is_shut, lend, let_go, map, must_enter, must_leave, must_wait, mutated, new_track, no, no_counts, noted, obeyed, one_few, ordered, out_of, ready, seen_at, served, served_len, served_to, set_all, set_each, settled_at, shows_command, slice_set, slot_for, slot_reported, track_at, welcomed}
 use Rattle.af_life.specs.declared.kept.Counts.{Counts}
-use Rattle.af_life.specs.declared.kept.Heard.{Heard}
-use Rattle.af_life.specs.declared.kept.Holder.{Holder}
-use Rattle.af_life.specs.declared.kept.Holder.TheVariants.{Home}
-use Rattle.af_life.specs.declared.kept.TrackKept.{TrackKept}
-use Rattle.af_life.specs.Edits.{comes_home, welcomed, after_ack, must_leave, must_enter, let_go, lend, edited, edited_to, ordered, mutated}
-use Rattle.af_life.specs.Heard.{counts_in, heard, slot_reported, noted, is_reported, is_reached, settled_at, ready}
-use Rattle.af_life.specs.Kept.{Setup, NormalKept, Learnt, track_at, new_track, no_counts, is_home, seen_at}
-use Rattle.af_life.specs.Obeys.{slot_for, must_wait, shows_command, is_shut, obeyed, ended, after_look, goes_on, after_looks, commanded}
-use Rattle.af_life.specs.Plays.{counted, is_mixed_here}
-use Rattle.af_life.specs.Serves.{served, served_to, after_part}
-use Rattle.af_life.specs.Small.{AreUpTo}
-use Rattle.af_life.proofs.Lives.{served_len}
-use Rattle.af_life.proofs.Smalls.{set_all}
+use Rattle.af_life.specs.Obeys.{commanded}
 use Rattle.af_normal.specs.Mixing.{Mixing, TakesOf, MixesTo}
 use Rattle.af_normal.specs.Order.{HaveFewLooks}
 use Rattle.af_normal.proofs.DueTracks.{other_track}

@@ -1,12 +1,6 @@
 -- The proxies and the hand of one track, found by its number and put back.
 use Rattle.std.proofs.Common.{◌≡◌, ℕ, ◌<◌, List, length, slice_get, slice_set, slice_index_or, Option, Some, None, sym, ap, subst, ◌∙◌, length-set, get_or-set_same, arith}
-use Rattle.std.proofs.lemmas.Option.{slice_get-get_or}
-use Rattle.std.proofs.lemmas.List.{get_or_default}
-use Rattle.af_base.proofs.Basics.{get_set_same, some_same}
-use Rattle.af_cblk.specs.Sides.{HandSide, Made, hand_made, server_made}
-use Rattle.af_server.specs.Order.{ServerState, IsServerOf}
-use Rattle.af_link.specs.Names.{IsStreamOf}
-use Rattle.af_link.specs.declared.links.Links.{Links}
+use Rattle.af_normal.proofs.Common.{HandSide, IsServerOf, IsStreamOf, Links, Made, ServerState, get_or_default, get_set_same, hand_made, server_made, slice_get-get_or, some_same}
 use Rattle.af_normal.specs.Ready.{AreOwn}
 
 -- the block of a number, whatever stands for one that isn't there

@@ -1,15 +1,7 @@
 -- What a turn that has begun in order may do next.
 use Rattle.std.proofs.Common.{◌++◌, reverse, ⊎_elim, get_or-set_same, ◌≡◌, ◌≢◌, ℕ, zero, suc, ◌+◌, ◌<◌, ◌≤◌, ◌==◌, Bool, true, false, true≢false, is_some, MatchBool, List, [], length, slice_get, Option, Some, None, refl, sym, ap, subst, ◌∙◌, arith}
-use Rattle.af_base.specs.declared.report.Report.{Report}
-use Rattle.std.proofs.lemmas.Bool.{cases_eq}
-use Rattle.af_cblk.specs.Sides.{HandSide, server_made}
-use Rattle.af_life.proofs.Basics.{returning_away, slot_of_away}
+use Rattle.af_normal.proofs.Common.{HandSide, IsSmall, IsStreamOf, Links, NormalKept, Report, ServerState, Setup, asked, cases_eq, returning_away, server_made, slot_of_away, track_at}
 use Rattle.af_normal.proofs.Basics.{one_of}
-use Rattle.af_server.specs.Order.{ServerState}
-use Rattle.af_link.specs.Names.{IsStreamOf}
-use Rattle.af_link.specs.declared.links.Links.{Links}
-use Rattle.af_life.specs.Small.{IsSmall}
-use Rattle.af_life.specs.Kept.{Setup, asked, NormalKept, track_at}
 use Rattle.af_normal.specs.AllMixed.{HasTakes}
 use Rattle.af_normal.specs.Coming.{HaveSlots}
 use Rattle.af_normal.specs.Mixing.{stream_at}

@@ -1,14 +1,6 @@
 -- What one track's part of a turn changes, and what it leaves.
 use Rattle.std.proofs.Common.{◌≡◌, ◌≢◌, ℕ, ◌+◌, [], ◌∷◌, ◌++◌, length, length-append, slice_get, Option, Some, None, refl, sym, ap, subst, ◌∙◌, get_or-set_other, length-set, arith}
-use Rattle.std.proofs.lemmas.List.Elements.{All-push}
-use Rattle.af_base.proofs.Basics.{by_bool, get_set_other}
-use Rattle.af_base.specs.declared.turn.TrackTurn.{TrackTurn}
-use Rattle.af_base.specs.Roomy.{Roomy}
-use Rattle.af_server.specs.Order.{ServerState}
-use Rattle.af_link.specs.declared.links.Links.{Links}
-use Rattle.af_life.specs.Heard.{known_by}
-use Rattle.af_life.specs.Serves.{most_looks}
-use Rattle.af_life.specs.Kept.{Setup, Learnt, new_track, track_at}
+use Rattle.af_normal.proofs.Common.{All-push, Learnt, Links, Roomy, ServerState, Setup, TrackTurn, by_bool, get_set_other, known_by, most_looks, new_track, track_at}
 use Rattle.af_normal.specs.Mixing.{stream_at}
 use Rattle.af_normal.specs.Order.{HasTurns}
 use Rattle.af_normal.specs.Ready.{AreOwn, HaveRoom}

@@ -1,16 +1,6 @@
 -- A track is served by what was learnt, if the code did so by the same report and the same proxy.
 use Rattle.std.proofs.Common.{◌≡◌, ℕ, Bool, true, false, MatchBool, [], ◌∷◌, ◌++◌, if◌then◌else◌, List, slice_set, Option, sym, ap, subst, ◌∙◌}
-use Rattle.af_base.specs.declared.report.Report.{Report}
-use Rattle.af_base.specs.Turn.{TrackSeen}
-use Rattle.af_cblk.specs.Sides.{HandSide}
-use Rattle.af_model.specs.Reports.{report_at}
-use Rattle.af_server.specs.Order.{ServerState}
-use Rattle.af_life.specs.declared.kept.Heard.{Heard}
-use Rattle.af_life.specs.declared.kept.TrackKept.{TrackKept}
-use Rattle.af_life.specs.Heard.{heard, heard_by, noted, ready, settled_at}
-use Rattle.af_life.specs.Kept.{Setup, Learnt, nothing_seen, slot_number, track_at}
-use Rattle.af_life.specs.Obeys.{slot_for}
-use Rattle.af_life.specs.Serves.{after_part, served}
+use Rattle.af_normal.proofs.Common.{HandSide, Heard, Learnt, Report, ServerState, Setup, TrackKept, TrackSeen, after_part, heard, heard_by, noted, nothing_seen, ready, report_at, served, settled_at, slot_for, slot_number, track_at}
 use Rattle.af_normal.specs.Mixing.{stream_at}
 use Rattle.af_normal.specs.Serving.{Attends, AttendsAt, Serving, ServesBy, ServesOne, ServesTrack}
 

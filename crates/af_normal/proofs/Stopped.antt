@@ -1,11 +1,6 @@
 -- A turn that ends the mixer leaves the lists of the entry empty, with their room.
 use Rattle.std.proofs.Common.{◌≡◌, ℕ, List, [], ◌∷◌, length, map, refl, sym, ap, subst, ◌∙◌, arith}
-use Rattle.af_base.specs.declared.turn.NormalTake.{NormalTake}
-use Rattle.af_base.specs.declared.turn.TrackTurn.{TrackTurn}
-use Rattle.af_base.specs.Roomy.{Roomy}
-use Rattle.af_base.specs.Turn.{Turn, take_seen, track_seen}
-use Rattle.af_link.specs.declared.links.Links.{Links}
-use Rattle.af_life.specs.Kept.{Setup, asked}
+use Rattle.af_normal.proofs.Common.{Links, NormalTake, Roomy, Setup, TrackTurn, Turn, asked, take_seen, track_seen}
 use Rattle.af_normal.specs.AllMixed.{HasTakes}
 use Rattle.af_normal.specs.Order.{HasTurns, IsGoing, IsInOrder}
 use Rattle.af_normal.specs.State.{NormalState, setup_of}

@@ -1,15 +1,6 @@
 -- A turn as a whole keeps the order.
 use Rattle.std.proofs.Common.{◌≡◌, ℕ, ◌&&◌, ◌==◌, not, if◌then◌else◌, Bool, false, MatchBool, length, sym, ap, ◌∙◌}
-use Rattle.af_base.specs.declared.report.Report.{Report}
-use Rattle.af_base.specs.declared.state.Push.{Push}
-use Rattle.af_server.specs.Order.{ServerState}
-use Rattle.af_stateq.specs.Answers.{WasAcked}
-use Rattle.af_stateq.specs.Mutates.{InDraft, Mutates}
-use Rattle.af_link.specs.declared.links.Links.{Links}
-use Rattle.af_link.specs.declared.names.StreamNames.{StreamNames}
-use Rattle.af_life.specs.Edits.{is_exit}
-use Rattle.std.proofs.lemmas.List.{length-map}
-use Rattle.af_base.specs.Turn.{Turn, take_seen, turn_of}
+use Rattle.af_normal.proofs.Common.{InDraft, Links, Mutates, Push, Report, ServerState, StreamNames, Turn, WasAcked, is_exit, length-map, take_seen, turn_of}
 use Rattle.af_normal.specs.declared.turn.Turn.{Turn as Answer}
 use Rattle.af_normal.specs.declared.turn.Turn.TheVariants.{Turned, Ended, Spent}
 use Rattle.af_normal.specs.Coming.{WelcomesTo}

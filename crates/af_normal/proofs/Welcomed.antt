@@ -1,13 +1,6 @@
 -- What the return of one proxy changes, and what it leaves.
 use Rattle.std.proofs.Common.{◌≡◌, ◌≢◌, ℕ, ◌<◌, ◌≤◌, true, true≢false, length, slice_set, sym, ap, subst, ◌∙◌, ⊎_elim, get_or-set_other, get_or-set_same, length-set}
-use Rattle.std.proofs.lemmas.Bool.{cases_eq}
-use Rattle.af_base.proofs.Basics.{by_bool}
-use Rattle.af_base.specs.Log.{slots}
-use Rattle.af_server.specs.Order.{ServerState}
-use Rattle.af_stateq.specs.Mutates.{at}
-use Rattle.af_life.specs.declared.kept.Holder.TheVariants.{Home}
-use Rattle.af_life.specs.declared.kept.TrackKept.{TrackKept}
-use Rattle.af_life.specs.Kept.{is_returning, slot_number, track_at, new_track}
+use Rattle.af_normal.proofs.Common.{Home, ServerState, TrackKept, at, by_bool, cases_eq, is_returning, new_track, slot_number, slots, track_at}
 use Rattle.af_normal.specs.Coming.{HaveSlots, Welcomes, has_back, takes_back}
 use Rattle.af_normal.specs.State.{NormalState}
 use Rattle.af_normal.proofs.Cases.{by_item}

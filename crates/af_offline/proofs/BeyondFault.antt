@@ -1,9 +1,7 @@
 -- A round that has more entries than a turn of the fast mixer, or whose turn has more looks at a track than one of the normal mixer, is some party's fault. So nothing of a legal journal is left out when it is judged, and the fault of a front that ends behind such a round is in one of its rounds.
 use Rattle.std.proofs.Common.{◌≡◌, ℕ, zero, suc, ◌<◌, ◌≤◌, ◌&&◌, ◌||◌, nat_lt, Bool, true, false, MatchBool, MatchOption, List, [], ◌∷◌, ◌++◌, length, map, is_some, Option, Some, None, refl, ap, ◌∙◌, sym, subst, arith, length-append}
-use Rattle.std.specs.List.{list_any}
-use Rattle.std.proofs.lemmas.Bool.{true≢false}
+use Rattle.af_offline.proofs.Common.{AllClear, AreClear, EndsBeyond, EntrySeen, FastIsClear, Frame, HasNoFault, IsFastTurn, IsFirstFault, IsVerdict, JournalData, LegalEntries, Marks, NormalIsClear, RoundSeen, Run, ScriptData, Session, Verdict, after_round, after_turn, early_of, fast_ended, fast_party, fills, first_of_round, found_in, has_more, is_beyond, judged_of, late_of, list_any, marks_of, most_cycles, most_judged, new_run, normal_party, session_of, setup_of, true≢false, with_calls}
 use Rattle.af_base.proofs.Basics.{is_not_below}
-use Rattle.af_base.specs.declared.frame.Frame.{Frame}
 use Rattle.af_base.specs.declared.turn.CommandLook.{CommandLook}
 use Rattle.af_base.specs.Turn.{TrackSeen, Turn}
 use Rattle.af_life.proofs.Basics.{due_len}
@@ -13,20 +11,10 @@ use Rattle.af_life.specs.Heard.{heard, learnt, ready}
 use Rattle.af_life.specs.Edits.{after_ack}
 use Rattle.af_life.specs.Obeys.{are_due, goes_on, slot_for}
 use Rattle.af_life.specs.Serves.{IsServed, LegalTrack, most_looks, served_to}
-use Rattle.af_model.specs.Journals.{EntrySeen, JournalData, RoundSeen}
-use Rattle.af_script.specs.Data.{ScriptData}
-use Rattle.af_runs.specs.Blocks.{Marks}
 use Rattle.af_runs.specs.Found.{LegalTurnBy, TurnFound}
-use Rattle.af_runs.specs.LegalRuns.{marks_of, session_of}
-use Rattle.af_runs.specs.Rounds.{IsFastTurn, LegalEntries, after_round, after_turn, early_of, fills, found_in, late_of}
-use Rattle.af_runs.specs.Runs.{Run, fast_ended, fast_party, most_cycles, new_run, normal_party, with_calls}
-use Rattle.af_runs.specs.Sessions.{Session, setup_of}
-use Rattle.af_audit.specs.Verdicts.{AllClear, AreClear, FastIsClear, HasNoFault, IsFirstFault, IsVerdict, NormalIsClear}
 use Rattle.af_audit.specs.declared.verdict.Refusal.TheVariants as refused
-use Rattle.af_audit.specs.declared.verdict.Verdict.{Verdict}
 use Rattle.af_audit.specs.declared.verdict.Verdict.TheVariants as verdict
 use Rattle.af_audit.proofs.JudgedExactly.{fast_part, normal_part}
-use Rattle.af_journal.specs.Judged.{EndsBeyond, first_of_round, has_more, is_beyond, judged_of, most_judged}
 use Rattle.af_journal.proofs.Judged.{round_within}
 use Rattle.af_offline.specs.Verified.{Tells}
 

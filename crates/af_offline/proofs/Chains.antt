@@ -19,10 +19,6 @@ pub behind-more : {X : Type 0} (xs : List X) (x : X) (rest : Result (List X) Ref
 behind-more xs x (Ok ys) = ap Ok (sym (append_assoc xs (x ∷ []) ys))
 behind-more xs x (Err refusal) = refl
 
-pub behind-none : {X : Type 0} (rest : Result (List X) Refusal) → behind [] rest ≡ rest
-behind-none (Ok ys) = refl
-behind-none (Err refusal) = refl
-
 -- a step that stopped, and what would have followed, stop alike
 pub Meets-stopped : {X Y Z W : Type 0} (view : X → Y) (other : W → Z) (e : Stop) (told : Result Y Refusal) (next : Y → Result Z Refusal) → Meets view (Err e) told → Meets other (Err e) (told >>= next)
 Meets-stopped {X} {Y} view other (Refused refusal) told next is = ap (λ (r : Result Y Refusal). r >>= next) is

@@ -1,6 +1,6 @@
 -- One draw after another.
 use Rattle.std.proofs.Common.{◌≡◌, ℕ, zero, suc, ◌+◌, ◌*◌, List, [], ◌++◌, length, refl, sym, ap, ◌∙◌, arith, append_assoc, append-nil, add-one}
-use Rattle.af_base.specs.Sample.{sample_bytes}
+use Rattle.af_offline.proofs.Common.{sample_bytes}
 use Rattle.af_offline.specs.Generated.{next_draw, drawn, sample_of, drawn_bytes, generated_file}
 use Rattle.std.specs.Prelude.{◌%◌, ◌/◌}
 

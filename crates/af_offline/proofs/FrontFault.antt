@@ -1,14 +1,6 @@
 -- The first fault of a journal is that of each one that begins with the same rounds and pokes the same blocks, if it is in one of those rounds.
 use Rattle.std.proofs.Common.{◌≡◌, ℕ, zero, suc, ◌<◌, Bool, false, List, [], ◌∷◌, take, arith, ap, subst}
-use Rattle.af_base.specs.declared.frame.Frame.{Frame}
-use Rattle.af_model.specs.Journals.{JournalData, RoundSeen}
-use Rattle.af_script.specs.Data.{ScriptData}
-use Rattle.af_runs.specs.Blocks.{Marks}
-use Rattle.af_runs.specs.LegalRuns.{marks_of, session_of}
-use Rattle.af_runs.specs.Rounds.{after_round}
-use Rattle.af_runs.specs.Runs.{Run, fast_party, new_run}
-use Rattle.af_runs.specs.Sessions.{Session}
-use Rattle.af_audit.specs.Verdicts.{AreClear, IsClear, IsFirstFault, IsLeastWithout}
+use Rattle.af_offline.proofs.Common.{AreClear, Frame, IsClear, IsFirstFault, IsLeastWithout, JournalData, Marks, RoundSeen, Run, ScriptData, Session, after_round, fast_party, marks_of, new_run, session_of}
 
 -- the first fault of a journal is that of this party in this round
 abbrev HasFirstFault : ScriptData → List (List Frame) → JournalData → ℕ → ℕ → Type 0

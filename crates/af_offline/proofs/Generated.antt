@@ -1,18 +1,12 @@
 -- The files of a generated session, as they are when it is played.
 use Rattle.std.proofs.Common.{◌≡◌, ℕ, zero, suc, ◌+◌, ◌<◌, ◌≤◌, nat_le, Bool, true, false, List, [], ◌∷◌, ◌++◌, Some, Result, Ok, Err, map, drop, refl, sym, ap, subst, ◌∙◌, arith}
-use Rattle.std.specs.List.{range_with_len}
+use Rattle.af_offline.proofs.Common.{Files, LeavesFront, LeavesFronts, NamedFile, SetsFile, SetsFiles, generated_name, generated_script, leb-false, leb-true, printed_script, range_with_len, take-append-drop, with_files}
 use Rattle.std.specs.Str.{bytes_eq}
-use Rattle.std.proofs.lemmas.Bool.{leb-true, leb-false}
-use Rattle.std.proofs.lemmas.List.{take-append-drop}
 use Rattle.std.proofs.lemmas.List.FromFn.{map-range_with_len_more, take-map-range_with_len}
 use Rattle.af_io.specs.Causes.{HasCause}
 use Rattle.af_io.specs.declared.store.StoreError.{StoreError}
 use Rattle.af_io.specs.declared.store.StoreError.TheVariants.{Failed}
-use Rattle.af_io.specs.Files.{Files, SetsFile, LeavesFront}
-use Rattle.af_io.specs.Outputs.{NamedFile, with_files, SetsFiles, LeavesFronts}
 use Rattle.af_io.proofs.Outputs.{with_files-append, LeavesFronts-first, LeavesFronts-next, LeavesFronts-whole, SetsFiles-more}
-use Rattle.af_script.specs.Generated.{generated_name, generated_script}
-use Rattle.af_script.specs.Printing.{printed_script}
 use Rattle.af_offline.specs.Generated.{drawn_files, generated_file, generated_files}
 use Rattle.af_words.specs.Requests.{is_drawn}
 use Rattle.af_words.proofs.DrawnNames.{none_is}

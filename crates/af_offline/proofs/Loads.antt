@@ -1,14 +1,9 @@
 -- The files of tracks, one after the other.
 use Rattle.std.proofs.Common.{◌≡◌, ℕ, suc, ◌+◌, ◌*◌, ◌/◌, ◌<◌, ◌≤◌, nat_le, Bool, true, false, if◌then◌else◌, List, [], ◌∷◌, ◌++◌, Result, Ok, Err, IsErrAnd, IsErrOf, length, take, drop, get_or, append-nil, refl, sym, ap, subst, ◌∙◌, arith}
-use Rattle.std.proofs.lemmas.Bool.{leb-true, leb-false, le-leb}
-use Rattle.std.proofs.lemmas.List.{take_more, take_all, drop_all, drop_more}
-use Rattle.af_base.specs.declared.frame.Frame.{Frame}
-use Rattle.af_io.specs.Files.{Files}
+use Rattle.af_offline.proofs.Common.{Files, Frame, Op, drop_all, drop_more, frames_to_come, le-leb, leb-false, leb-true, take_all, take_more}
 use Rattle.af_io.specs.Pcm.{frame_width}
-use Rattle.af_script.specs.declared.op.Op.{Op}
 use Rattle.af_script.specs.declared.op.Op.TheVariants as op
 use Rattle.af_script.specs.declared.track.TrackSpec.{TrackSpec}
-use Rattle.af_party.specs.Works.{frames_to_come}
 use Rattle.af_offline.specs.declared.status.Refusal.{Refusal}
 use Rattle.af_offline.specs.declared.status.Refusal.TheVariants.{File}
 use Rattle.af_offline.specs.declared.status.Role.TheVariants as role
@@ -186,11 +181,6 @@ module _ (files : Files) (number total : ℕ) (track : TrackSpec) where
         track_done all is_all = in_frames ∙ ap (λ (r : Result (List Frame) Refusal). r >>= (λ some. Ok (some, total + length bytes))) is_all
 
 -- ## Few frames
-
--- a frame has two bytes or more
-pub two_bytes : (mono : Bool) (n bytes : ℕ) → n * frame_width mono ≤ bytes → 2 * n ≤ bytes
-two_bytes true n bytes le = omega (arith, le)
-two_bytes false n bytes le = omega (arith, le)
 
 -- whole frames have as many bytes as there are
 pub frames_bytes : (mono : Bool) (bytes : List ℕ) (n : ℕ) → n ≡ length bytes / frame_width mono → n * frame_width mono ≤ length bytes

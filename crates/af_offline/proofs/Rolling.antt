@@ -1,13 +1,8 @@
 -- A player in one hand goes on under its setting, call by call.
 use Rattle.std.proofs.Common.{◌≡◌, ℕ, ◌+◌, ◌<◌, Bool, true, nat_le, cond, if◌then◌else◌, List, [], ◌∷◌, ◌++◌, length, is_some, refl, sym, ap, subst, ◌∙◌, arith, append_assoc}
+use Rattle.af_offline.proofs.Common.{Call, CallsPlay, Frame, Setting, after_calls, at_first, filled_of, is_valid, opening, outputs_of, pcm_bytes, replicate_more, shut_by, standing_in}
 use Rattle.std.proofs.lemmas.Bool.Decides.{nat_tests}
-use Rattle.std.proofs.lemmas.List.{replicate_more}
-use Rattle.af_base.specs.declared.frame.Frame.{Frame}
-use Rattle.af_base.specs.Sample.{pcm_bytes}
-use Rattle.af_static.specs.declared.setting.Setting.{Setting}
-use Rattle.af_static.specs.Calls.{Call, CallsPlay, after_calls, filled_of, outputs_of, standing_in}
 use Rattle.af_static.specs.InStep.{HandState}
-use Rattle.af_static.specs.Loops.{at_first, is_valid, opening, shut_by}
 use Rattle.af_static.proofs.Calling.{setting_stays}
 use Rattle.af_words.specs.declared.request.Turns.{Turns}
 use Rattle.af_offline.specs.Looped.{calls_under, next_setting, setting_of}

@@ -1,11 +1,7 @@
 -- A recording by the words of frames, beside that of the frames.
 use Rattle.std.proofs.Common.{◌≡◌, ℕ, zero, suc, ◌+◌, ◌-◌, ◌*◌, ◌/◌, ◌%◌, ◌≤◌, ◌<◌, min, Bool, true, false, nat_le, List, [], ◌∷◌, ◌++◌, length, take, drop, map, refl, sym, ap, ap₂, ◌∙◌, arith, append_assoc, length-append, length-drop}
-use Rattle.std.proofs.lemmas.Bool.{leb-true, leb-false}
-use Rattle.std.proofs.lemmas.List.{length-map, map-append, take-map, drop-map, take_all, drop_all, take-append-drop}
-use Rattle.std.specs.List.{flat_map}
+use Rattle.af_offline.proofs.Common.{Frame, drop-map, drop_all, flat_map, frame_bytes, leb-false, leb-true, length-map, map-append, packed_word, pcm_bytes, take-append-drop, take-map, take_all}
 use Rattle.std.proofs.Common.{of_z, w16}
-use Rattle.af_base.specs.declared.frame.Frame.{Frame}
-use Rattle.af_base.specs.Sample.{packed_word, frame_bytes, pcm_bytes}
 use Rattle.af_words.specs.declared.request.Sizes.{Sizes}
 use Rattle.af_offline.specs.Recorded.{Recording, empty, supplied, read_up_to, period, periods, recorded, heard}
 use Rattle.af_offline.specs.Captured.{word_bytes}
@@ -61,11 +57,6 @@ module _ {X : Type 0} where
           let lt : n < length xs = leb-false (length xs) n e in
           let m : min (length xs) n ≡ n = omega arith in
           ap (λ (k : ℕ). drop k xs) m
-
-  -- with no frame left no period follows
-  pub periods_done : (sizes : Sizes) (n : ℕ) (r : Recording X) → periods sizes n [] r ≡ r
-  periods_done sizes zero r = refl
-  periods_done sizes (suc n) r = refl
 
 -- so many periods come to the whole
 pub record IsOn (sizes : Sizes) (rest : List ℕ) (r whole : Recording ℕ) : Type 0 where
@@ -152,6 +143,3 @@ read_count read queued count =
     let b = length-append (take count queued) (drop count queued) in
     let c : length (take count queued ++ drop count queued) ≡ length queued = ap length (take-append-drop count queued) in
     omega arith
-
-pub heard_on : (count : ℕ) (read queued : List ℕ) → (read ++ take count queued) ++ drop count queued ≡ read ++ queued
-heard_on count read queued = append_assoc read (take count queued) (drop count queued) ∙ ap (λ (x : List ℕ). read ++ x) (take-append-drop count queued)

@@ -1,24 +1,15 @@
 -- What is found of a text's front is found of the text.
-use Rattle.std.proofs.Common.{◌≡◌, ℕ, ◌-◌, ◌<◌, Bool, true, false, List, length, String, Result, Ok, Err, refl, ◌∙◌, arith, subst, sym}
-use Rattle.std.specs.declared.alloc.Global.{Global}
-use Rattle.af_audit.specs.Verdicts.{IsVerdict}
+use Rattle.std.proofs.Common.{◌≡◌, ℕ, ◌-◌, ◌<◌, Bool, true, false, List, length, refl, ◌∙◌, arith, subst, sym}
+use Rattle.af_offline.proofs.Common.{EndsBeyond, IsFrontOf, IsVerdict, JournalData, ScriptData, Verdict, judged_of, most_judged}
 use Rattle.af_audit.specs.declared.verdict.Refusal.TheVariants as refused
-use Rattle.af_audit.specs.declared.verdict.Verdict.{Verdict}
 use Rattle.af_audit.specs.declared.verdict.Verdict.TheVariants as verdict
 use Rattle.af_offline.proofs.BeyondFault.{beyond_tells}
 use Rattle.af_offline.proofs.FrontFault.{begins_fault}
-use Rattle.af_journal.specs.Beginnings.{IsFrontOf}
 use Rattle.af_journal.specs.declared.building.JournalFault.{JournalFault}
 use Rattle.af_journal.specs.declared.building.JournalFault.TheVariants as fault
-use Rattle.af_journal.specs.Judged.{EndsBeyond, judged_of, most_judged}
 use Rattle.af_journal.specs.Readings.{IsFaultOf, IsOneReading}
-use Rattle.af_model.specs.Journals.{JournalData}
 use Rattle.af_offline.specs.Asked as asked
-use Rattle.af_offline.specs.declared.status.Ending.TheVariants as ending
-use Rattle.af_offline.specs.declared.status.Stop.{Stop}
-use Rattle.af_offline.specs.declared.status.Stop.TheVariants as stop
-use Rattle.af_offline.specs.Verified.{FoundTo, IsJudgedIn, IsUnread, JudgesTo, Tells, unread}
-use Rattle.af_script.specs.Data.{ScriptData}
+use Rattle.af_offline.specs.Verified.{IsJudgedIn, IsUnread, Tells, unread}
 
 -- a text with this fault wasn't read
 pub unread_told : (script : ScriptData) (text : List ℕ) (f : JournalFault) → IsFaultOf (length script.tracks) text f → IsUnread (unread f) script text
@@ -47,31 +38,3 @@ front_judged c false front (verdict.Refused (refused.Round round party)) f tells
 pub whole_judged : (c : asked.Case) (whole : Bool) (front : JournalData) (found : Verdict) → IsFrontOf most_judged (length c.loaded.script.tracks) c.text whole front → (whole ≡ false → EndsBeyond 16 64 front) → IsVerdict c.loaded.script c.loaded.files front c.pcm found → IsJudgedIn c found
 whole_judged c true front found f beyond v = front_judged c true front found f tt v
 whole_judged c false front found f beyond v = front_judged c false front found f (beyond_tells c.loaded.script c.loaded.files front c.pcm (beyond refl) found v) v
-
--- whatever is found of the whole holds of it
-pub tells_whole : (found : Verdict) (whole : Bool) (rounds : ℕ) → whole ≡ true → Tells found whole rounds
-tells_whole found whole rounds is = subst (λ w. Tells found w rounds) (sym is) tt
-
--- a fault before the last round of a front holds of the whole
-pub tells_round : (round party rounds : ℕ) (whole : Bool) → round < rounds - 1 → Tells (verdict.Refused (refused.Round round party)) whole rounds
-tells_round round party rounds true lt = tt
-tells_round round party rounds false lt = omega (arith, lt)
-
--- the line or the refusal says what was found
-pub told : (r : Result (String Global) Stop) (c : asked.Case) (found : Verdict) → FoundTo r found → IsJudgedIn c found → JudgesTo r c
-told (Ok line) c found f j = (f.0, subst (IsJudgedIn c) f.1 j)
-told (Err (stop.Over (ending.Judged refusal))) c found f j = subst (IsJudgedIn c) f j
-told (Err (stop.Over (ending.Limit cycles))) c found f j = absurd f
-told (Err (stop.Refused refusal)) c found f j = absurd f
-told (Err stop.Store) c found f j = absurd f
-told (Err stop.Memory) c found f j = tt
-
--- a text that wasn't read is refused
-pub refused_text : (s : Stop) (c : asked.Case) → IsUnread s c.loaded.script c.text → JudgesTo (Err s) c
-refused_text (stop.Over (ending.Judged (refused.Text line))) c h = h
-refused_text (stop.Over (ending.Judged (refused.Round round party))) c h = absurd h
-refused_text (stop.Over (ending.Judged (refused.Pcm at))) c h = absurd h
-refused_text (stop.Over (ending.Limit cycles)) c h = absurd h
-refused_text (stop.Refused refusal) c h = absurd h
-refused_text stop.Store c h = absurd h
-refused_text stop.Memory c h = tt

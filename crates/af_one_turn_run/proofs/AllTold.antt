@@ -1,14 +1,7 @@
 -- In a turn run in which each stream proxy takes part in the last meeting all rounds are told.
 use Rattle.std.proofs.Common.{◌≡◌, ℕ, ◌<◌, true, List, [], ◌∷◌, length, sym, ap, ◌∙◌, subst, arith}
-use Rattle.af_judge.proofs.Basics.{ends_part}
-use Rattle.af_model.specs.History.{taken_of}
-use Rattle.af_model.specs.Journals.{RoundSeen}
-use Rattle.af_script.specs.Form.{IsScript}
-use Rattle.af_script.specs.declared.op.TurnSpec.{TurnSpec}
-use Rattle.af_runs.specs.Blocks.{Marks, is_tame, IsHistoryAsTold}
-use Rattle.af_runs.specs.Runs.{Run, TrackTold, told_at, takes_part, with_ends}
-use Rattle.af_runs.specs.Sessions.{Session, track_count, file_words}
-use Rattle.af_runs.specs.TurnRuns.{met_alone, run_alone, AreTurns}
+use Rattle.af_one_turn_run.proofs.Common.{AreTurns, IsHistoryAsTold, IsScript, Marks, RoundSeen, Run, Session, TrackTold, TurnSpec, ends_part, file_words, met_alone, run_alone, taken_of, takes_part, told_at, track_count, with_ends}
+use Rattle.af_runs.specs.Blocks.{is_tame}
 use Rattle.af_one_turn_run.proofs.FileWords.{taken_of_file}
 use Rattle.af_one_turn_run.proofs.Growing.{told_before}
 use Rattle.af_one_turn_run.proofs.OneRounds.{AllTold}

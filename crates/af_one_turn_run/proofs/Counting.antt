@@ -1,28 +1,8 @@
 -- As many frames are taken as the takes of a server's events say.
 use Rattle.std.proofs.Common.{◌≡◌, ℕ, ◌+◌, ◌-◌, ◌<◌, ◌==◌, ◌&&◌, not, Bool, true, false, if◌then◌else◌, is_some, map, List, [], ◌∷◌, ◌++◌, length, All, refl, sym, ◌∙◌, arith, length-append}
-use Rattle.std.specs.List.{flat_map}
-use Rattle.std.proofs.lemmas.List.{length-map}
-use Rattle.std.proofs.lemmas.List.Elements.{All-head, All-tail}
-use Rattle.af_base.specs.declared.event.ServerEvent.{ServerEvent}
+use Rattle.af_one_turn_run.proofs.Common.{All-head, All-tail, BlockTold, EntrySeen, IsTake, Listed, NormalKept, Outside, Seen, ServerEvent, Setup, SlotEntry, TakeSeen, Turn, after_look, asked as buffer, by_hand, by_server, count_seen, cycle_events, entry_slot, flat_map, front_of, going, hand_list, heard, invalid, is_found_shut, is_home, kept, learnt, length-map, listed, look_events, mix_events, packed_word, played, server_does, slot_frames, slots, stream_list, stream_turned, taken_before, takes_from, tally, took, track_at, track_in, tracks_at}
 use Rattle.af_base.specs.declared.event.ServerEvent.TheVariants as server
-use Rattle.af_base.specs.declared.log.SlotEntry.{SlotEntry}
-use Rattle.af_base.specs.declared.seen.Seen.{Seen}
 use Rattle.af_base.specs.declared.seen.Seen.TheVariants as seen
-use Rattle.af_base.specs.Log.{slots, entry_slot, count_seen}
-use Rattle.af_base.specs.Sample.{packed_word}
-use Rattle.af_base.specs.Turn.{Turn, TakeSeen}
-use Rattle.af_life.specs.Kept.{Setup, asked as buffer, NormalKept, Outside, track_at, track_in, is_home}
-use Rattle.af_life.specs.Heard.{learnt, heard}
-use Rattle.af_life.specs.Serves.{is_found_shut}
-use Rattle.af_life.specs.TurnEvents.{going, tracks_at, invalid, hand_list, takes_from, mix_events, stream_list}
-use Rattle.af_model.specs.Cycles.{Listed, kept, tally, after_look, cycle_events, taken_before}
-use Rattle.af_model.specs.History.{by_server, by_hand}
-use Rattle.af_model.specs.JournalForm.{IsTake}
-use Rattle.af_model.specs.Journals.{EntrySeen, slot_frames}
-use Rattle.af_model.specs.ServerCalls.{look_events}
-use Rattle.af_runs.specs.Blocks.{BlockTold, listed, server_does, took}
-use Rattle.af_runs.specs.Fronts.{front_of}
-use Rattle.af_runs.specs.Runs.{played, stream_turned}
 use Rattle.af_one_turn_run.specs.Growing.{takes_in, IsCounted}
 use Rattle.af_one_turn_run.specs.Told.{told_more}
 use Rattle.af_one_turn_run.proofs.EntrySlots.{slot_long}
@@ -39,10 +19,7 @@ served_parts (x ∷ xs) ys = let r = served_parts xs ys in omega (arith, r)
 -- a look takes nothing
 look_takes : (v : Seen) (flush rear front : ℕ) → served_in (look_events v flush rear front) ≡ 0
 look_takes seen.Absent flush rear front = refl
-look_takes (seen.Frames count) flush rear front = refl
-look_takes seen.Empty flush rear front = refl
-look_takes (seen.Flushed dropped) flush rear front = refl
-look_takes (seen.Shut f r) flush rear front = refl
+look_takes _ flush rear front = refl
 
 tally_takes : (missing : ℕ) → served_in (tally missing) ≡ 0
 tally_takes missing = by_none (missing == 0)

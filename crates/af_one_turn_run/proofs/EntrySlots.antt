@@ -1,19 +1,6 @@
 -- An entry is told by its slots: by what each shows, and by the words of the frames that it took.
 use Rattle.std.proofs.Common.{◌≡◌, inl, inr, ℕ, zero, suc, ◌+◌, ◌<◌, ◌≤◌, ◌==◌, ◌&&◌, Bool, true, false, true≢false, if◌then◌else◌, find, map, ◌++◌, take, drop, length, All, Some, refl, sym, ap, ◌∙◌, subst, arith, eqb-true, eq-eqb}
-use Rattle.std.specs.List.{range_with_len}
-use Rattle.std.proofs.lemmas.Bool.{cases_eq}
-use Rattle.std.proofs.lemmas.List.{ext_get_or, length-take, length-drop, take_all, map-append}
-use Rattle.af_base.proofs.Basics.{both}
-use Rattle.af_base.specs.declared.log.CycleEntry.{CycleEntry}
-use Rattle.af_base.specs.declared.log.SlotEntry.{SlotEntry}
-use Rattle.af_base.specs.declared.state.FastState.{FastState}
-use Rattle.af_base.specs.Log.{slots, absent, entry_slot, count_seen}
-use Rattle.af_base.specs.Sample.{packed_word, IsFrame}
-use Rattle.af_model.specs.Cycles.{taken_before, place_of}
-use Rattle.af_model.specs.Journals.{EntrySeen, slot_frames}
-use Rattle.af_model.specs.StateQueue.{slot_of, carries}
-use Rattle.af_runs.specs.Runs.{plays, slot_for}
-use Rattle.af_judge.specs.Entries.{CarriesApart}
+use Rattle.af_one_turn_run.proofs.Common.{CarriesApart, CycleEntry, EntrySeen, FastState, IsFrame, SlotEntry, absent, both, carries, cases_eq, count_seen, entry_slot, ext_get_or, length-drop, length-take, map-append, packed_word, place_of, plays, range_with_len, slot_for, slot_frames, slot_of, slots, take_all, taken_before}
 use Rattle.af_one_turn_run.proofs.Parts.{take-add}
 use Rattle.af_one_turn_run.proofs.OneFrames.{one_frames}
 use Rattle.af_one_turn_run.proofs.OneTakes.{bare_slot}

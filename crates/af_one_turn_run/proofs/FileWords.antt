@@ -1,17 +1,9 @@
 -- The frames that a stream block takes are those of its file.
 use Rattle.std.proofs.Common.{◌≡◌, ℕ, ◌+◌, ◌-◌, ◌≤◌, List, [], ◌∷◌, ◌++◌, take, drop, length, refl, ap, ◌∙◌, arith}
-use Rattle.std.proofs.lemmas.List.{drop-take, take-take}
-use Rattle.af_base.specs.declared.event.ClientEvent.{ClientEvent}
+use Rattle.af_one_turn_run.proofs.Common.{ClientEvent, HandEvent, IsLegal, Moment, ServerEvent, ServerMay, Shape, TrackPoint, after, after_client, after_hand, after_server, by_client, by_hand, by_server, client_of, drop-take, hand_puts, server_put, start, take-take, taken_of, with_taken}
 use Rattle.af_base.specs.declared.event.ClientEvent.TheVariants as client
-use Rattle.af_base.specs.declared.event.ServerEvent.{ServerEvent}
 use Rattle.af_base.specs.declared.event.ServerEvent.TheVariants as server
-use Rattle.af_base.specs.declared.event.HandEvent.{HandEvent}
 use Rattle.af_base.specs.declared.event.HandEvent.TheVariants as hand
-use Rattle.af_judge.proofs.Basics.{hand_puts, server_put}
-use Rattle.af_model.specs.declared.point.TrackPoint.{TrackPoint}
-use Rattle.af_model.specs.declared.shape.Shape.{Shape}
-use Rattle.af_model.specs.History.{Moment, by_client, by_server, by_hand, client_of, after, IsLegal, with_taken, taken_of}
-use Rattle.af_model.specs.Point.{start, ServerMay, after_client, after_server, after_hand}
 use Rattle.af_one_turn_run.proofs.TakenWords.{from_base}
 
 -- ## Positions

@@ -1,16 +1,7 @@
 -- A block that was told right is told right at each earlier place.
 use Rattle.std.proofs.Common.{◌≡◌, ℕ, ◌+◌, ◌-◌, ◌≤◌, Bool, true, false, map, List, [], ◌∷◌, ◌++◌, take, drop, length, refl, sym, ap, ◌∙◌, subst, arith, length-append, append-nil, append_assoc}
-use Rattle.std.proofs.lemmas.List.{length-take}
-use Rattle.af_base.specs.declared.event.ClientEvent.{ClientEvent}
-use Rattle.af_base.specs.declared.event.HandEvent.{HandEvent}
-use Rattle.af_base.specs.declared.event.ServerEvent.{ServerEvent}
+use Rattle.af_one_turn_run.proofs.Common.{BlockTold, ClientEvent, HandEvent, IsLegal, Moment, ServerEvent, Shape, TrackPoint, after, by_client, by_hand, by_server, length-take, start, stream_met, taken_of, with_taken}
 use Rattle.af_base.specs.declared.event.ServerEvent.TheVariants as server
-use Rattle.af_model.specs.declared.point.TrackPoint.{TrackPoint}
-use Rattle.af_model.specs.declared.shape.Shape.{Shape}
-use Rattle.af_model.specs.History.{Moment, by_client, by_server, by_hand, after, IsLegal, with_taken, taken_of}
-use Rattle.af_model.specs.Point.{start}
-use Rattle.af_runs.specs.Blocks.{BlockTold, tells, took}
-use Rattle.af_runs.specs.Runs.{stream_met}
 use Rattle.af_one_turn_run.specs.Growing.{Grows, takes_by, takes_in, IsCounted}
 use Rattle.af_one_turn_run.specs.Taking.{IsTakenOf}
 use Rattle.af_one_turn_run.specs.Told.{told_more, IsToldLegally}
@@ -35,12 +26,6 @@ grows_then a b c g h = record {
   words = g.words ++ h.words;
   taken = h.taken ∙ ap (λ (l : List ℕ). l ++ h.words) g.taken ∙ append_assoc a.taken g.words h.words;
 }
-
-pub grows_told : (b : BlockTold) (moments : List Moment) → Grows b (tells moments b)
-grows_told b moments = record { shape = refl; moments = moments; told = refl; words = []; taken = sym (append-nil b.taken) }
-
-pub grows_took : (b : BlockTold) (words : List ℕ) → Grows b (took words b)
-grows_took b words = record { shape = refl; moments = []; told = refl; words = words; taken = refl }
 
 pub grows_met : (p h : Bool) (b : BlockTold) → Grows b (stream_met p h b)
 grows_met true true b = record { shape = refl; moments = _ ∷ _ ∷ _ ∷ []; told = refl; words = []; taken = sym (append-nil b.taken) }

@@ -1,10 +1,6 @@
 -- In a legal order of a block each event sees what those before it left.
 use Rattle.std.proofs.Common.{ℕ, map, List, [], ◌∷◌, ◌++◌, length}
-use Rattle.af_base.specs.declared.event.ClientEvent.{ClientEvent}
-use Rattle.af_base.specs.declared.event.ServerEvent.{ServerEvent}
-use Rattle.af_model.specs.declared.point.TrackPoint.{TrackPoint}
-use Rattle.af_model.specs.History.{Moment, by_client, by_server, client_of, server_of, after, IsLegal}
-use Rattle.af_model.specs.Point.{after_client, after_server}
+use Rattle.af_one_turn_run.proofs.Common.{ClientEvent, IsLegal, Moment, ServerEvent, TrackPoint, after, after_client, after_server, by_client, by_server, client_of, server_of}
 use Rattle.af_one_turn_run.specs.Seeing.{after_clients, after_servers, ClientSees, ServerSees}
 use Rattle.af_one_turn_run.specs.Told.{told_more}
 

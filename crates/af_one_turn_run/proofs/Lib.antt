@@ -1,3 +1,4 @@
+pub mod Common
 pub mod OneAnswer
 pub mod LegalFronts
 pub mod OneClientTurn

@@ -1,21 +1,11 @@
 -- A want has one answer at a point.
 use Rattle.std.proofs.Common.{◌≡◌, ℕ, ◌+◌, ◌<◌, ◌≤◌, ◌==◌, nat_le, Bool, true, false, true≢false, is_some, List, [], ◌∷◌, Option, Some, None, refl, sym, ap, ◌∙◌, subst, arith, eqb-true, ne_eqb, eq-eqb, if◌then◌else◌}
-use Rattle.std.specs.Prelude.{bit_and, MatchOption}
+use Rattle.af_one_turn_run.proofs.Common.{AnswersOn, ClientAnswers, ClientCall, ClientEvent, ClientKept, IsMade, IsOutside, MatchOption, Side, Track, TrackPoint, Want, argument_of, bit_and, both, by_false, client_events_of, client_kept, code_of, filled_by, flushes_of, is_below, is_beyond, is_clear, is_flush, is_not_below, is_of_commands, is_send, is_status, is_within, is_write, put_count, side_of, wrapped}
 use Rattle.std.proofs.lemmas.Bool.Decides.{nat_tests}
-use Rattle.af_base.proofs.Basics.{both, by_false, is_below, is_beyond, is_not_below, is_within}
-use Rattle.af_base.specs.declared.event.ClientCall.{ClientCall}
 use Rattle.af_base.specs.declared.event.ClientCall.TheVariants as call
-use Rattle.af_base.specs.declared.event.ClientEvent.{ClientEvent}
 use Rattle.af_base.specs.declared.event.ClientEvent.TheVariants as client
-use Rattle.af_model.specs.declared.point.TrackPoint.{TrackPoint}
-use Rattle.af_model.specs.Point.{wrapped}
-use Rattle.af_model.specs.History.{flushes_of}
-use Rattle.af_model.specs.ClientCalls.{ClientKept, client_kept, filled_by, put_count, IsOutside, ClientAnswers, client_events_of}
 use Rattle.af_runs.specs.declared.want.ClientCommand.TheVariants as command
-use Rattle.af_runs.specs.declared.want.Want.{Want}
 use Rattle.af_runs.specs.declared.want.Want.TheVariants as want
-use Rattle.af_runs.specs.Clients.{code_of}
-use Rattle.af_runs.specs.ClientTurns.{Side, Track, argument_of, is_of_commands, side_of, is_send, is_write, is_status, is_flush, is_clear, AnswersOn, IsMade}
 use Rattle.af_one_turn_run.specs.Answers.{call_by, room_by, is_valid, written_by, written, sent_by, sent, sent_on, written_on, answer_to}
 use Rattle.af_one_turn_run.specs.Seeing.{ClientSees}
 

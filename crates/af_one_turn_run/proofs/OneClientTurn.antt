@@ -1,14 +1,7 @@
 -- A client has one turn by what its blocks tell.
 use Rattle.std.proofs.Common.{◌≡◌, ◌⊎◌, inl, inr, ℕ, ◌-◌, ◌≤◌, Bool, true, false, true≢false, if◌then◌else◌, fold, map, List, [], ◌∷◌, ◌++◌, drop, length, Option, Some, None, refl, sym, ap, ◌∙◌, subst, arith, append_assoc, append-nil, is_some, unwrap_or}
-use Rattle.std.specs.Prelude.{MatchBool}
-use Rattle.af_base.specs.declared.event.ClientCall.{ClientCall}
-use Rattle.af_base.specs.declared.event.ClientEvent.{ClientEvent}
-use Rattle.af_model.specs.History.{by_client, server_of, after, IsLegal}
-use Rattle.af_model.specs.Point.{start}
-use Rattle.af_runs.specs.declared.want.Want.{Want}
-use Rattle.af_runs.specs.Blocks.{client_list}
-use Rattle.af_runs.specs.ClientTurns.{Side, Track, is_of_commands, side_of, called as side_called, released_by, wanted_of, after_call, most_calls, IsMade, AreCalls, LegalClientTurn}
-use Rattle.af_runs.specs.Runs.{TrackTold, sides_of, called}
+use Rattle.af_one_turn_run.proofs.Common.{AreCalls, ClientCall, ClientEvent, IsLegal, IsMade, LegalClientTurn, MatchBool, Side, Track, TrackTold, Want, after, after_call, by_client, called, client_list, is_of_commands, most_calls, released_by, server_of, side_of, sides_of, start, wanted_of}
+use Rattle.af_runs.specs.ClientTurns.{called as side_called}
 use Rattle.af_one_turn_run.specs.Seeing.{after_clients, ClientSees}
 use Rattle.af_one_turn_run.specs.Told.{told_more, IsTrackLegal}
 use Rattle.af_one_turn_run.proofs.LegalFronts.{client_front, client_parts}

@@ -1,38 +1,13 @@
 -- An entry of the fast mixer is determined by what the stream blocks, the queue and the pipe tell.
 use Rattle.std.proofs.Common.{◌≡◌, ◌⊎◌, inl, inr, ℕ, zero, suc, ◌+◌, ◌<◌, ◌&&◌, Bool, true, false, true≢false, if◌then◌else◌, is_some, map, List, [], ◌∷◌, ◌++◌, take, drop, length, All, Option, Some, None, refl, sym, ap, ◌∙◌, subst, arith, length-append}
-use Rattle.std.specs.Prelude.{MatchOption}
-use Rattle.std.proofs.lemmas.List.{ext_get_or, append_cancel_left, length-map, drop_at, drop-take}
-use Rattle.std.proofs.lemmas.Bool.{cases_eq}
-use Rattle.af_base.specs.declared.event.ServerEvent.{ServerEvent}
+use Rattle.af_one_turn_run.proofs.Common.{BlockTold, CarriesApart, CarriesWithin, CycleEntry, EntrySeen, FastState, Frame, IsFrame, Legal, LegalEntry, Listed, LooksBy, Marks, MatchOption, Mixes, PipeTold, Run, ServerEvent, Session, SlotEntry, TrackTold, absent, after, after_look, append_cancel_left, carries, cases_eq, client_of, cold_done, count_seen, cycle_events, cycle_frames, cycle_of, drop-take, drop_at, each_at, entry_slot, ext_get_or, found_for, frames_before, front_of, is_mixed, kept, lawful_front, length-map, listed, look_at, look_events, mixed_track, no_track, packed_word, pipe_size, played, plays, setup_of, slot_for, slot_frames, slot_of, slots, start, state_for, state_known, state_of, still_entry, stream_of, submix_slot, taken_before, takes_shown, told_at, two, twos, with_mix, wrapped}
 use Rattle.af_base.specs.declared.event.ServerEvent.TheVariants as server
-use Rattle.af_base.specs.declared.frame.Frame.{Frame}
 use Rattle.af_base.specs.declared.log.Cycle.{Cycle}
-use Rattle.af_base.specs.declared.log.CycleEntry.{CycleEntry}
-use Rattle.af_base.specs.declared.log.SlotEntry.{SlotEntry}
 use Rattle.af_base.specs.declared.seen.Seen.TheVariants as seen
-use Rattle.af_base.specs.declared.state.FastState.{FastState}
-use Rattle.af_base.specs.Log.{slots, absent, entry_slot, count_seen}
-use Rattle.af_base.specs.Sample.{packed_word, IsFrame}
-use Rattle.af_judge.proofs.Basics.{each_at}
-use Rattle.af_model.specs.Cycles.{Listed, LooksBy, Mixes, after_look, cycle_events, cold_done, cycle_of, is_mixed, kept, state_of, submix_slot, takes_shown, still_entry, taken_before}
-use Rattle.af_model.specs.History.{client_of, after}
-use Rattle.af_model.specs.Journals.{EntrySeen, slot_frames}
-use Rattle.af_model.specs.Order.{two, twos, Legal, after as after_both}
+use Rattle.af_model.specs.Order.{after as after_both}
 use Rattle.af_model.specs.PipeHistory as piped
-use Rattle.af_model.specs.Point.{start, wrapped}
-use Rattle.af_model.specs.ServerCalls.{look_at, look_events}
-use Rattle.af_model.specs.StateQueue.{slot_of, carries}
-use Rattle.af_life.specs.Kept.{pipe_size}
 use Rattle.af_runs.proofs.Basics.{absent_at, shown_if}
-use Rattle.af_runs.specs.Blocks.{BlockTold, Marks, listed}
-use Rattle.af_runs.specs.Fronts.{front_of, lawful_front}
-use Rattle.af_runs.specs.Rounds.{LegalEntry, found_for}
-use Rattle.af_runs.specs.Runs.{Run, TrackTold, told_at, no_track, frames_before, mixed_track, played, plays, slot_for, state_for, stream_of, with_mix}
-use Rattle.af_runs.specs.Sessions.{Session, cycle_frames, setup_of}
-use Rattle.af_runs.specs.Told.{PipeTold}
-use Rattle.af_runs.proofs.StatesFor.{state_known}
 use Rattle.af_judge.proofs.EntryLegal.{twos-more}
-use Rattle.af_judge.specs.Entries.{CarriesApart, CarriesWithin}
 use Rattle.af_one_turn_run.specs.Taking.{IsTakenOf}
 use Rattle.af_one_turn_run.proofs.EntrySlots.{AreAlike, slot_found, slot_long, same_frames, same_slots}
 use Rattle.af_one_turn_run.proofs.LegalFronts.{server_front}

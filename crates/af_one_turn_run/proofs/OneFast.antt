@@ -1,30 +1,11 @@
 -- The entries of a fast turn are determined by what is told at its end.
-use Rattle.std.proofs.Common.{◌≡◌, ◌⊎◌, inl, inr, ℕ, ◌+◌, ◌<◌, ◌≤◌, ◌==◌, Bool, true, false, true≢false, if◌then◌else◌, unwrap_or, fold, map, List, [], ◌∷◌, ◌++◌, take, length, All, Option, Some, None, refl, sym, ap, ◌∙◌, subst, arith, length-append}
-use Rattle.std.proofs.lemmas.List.{take_at, take-take}
-use Rattle.af_base.specs.declared.event.ClientEvent.{ClientEvent}
-use Rattle.af_base.specs.declared.event.ServerEvent.{ServerEvent}
-use Rattle.af_base.specs.declared.state.FastState.{FastState}
-use Rattle.af_base.specs.Log.{slots}
-use Rattle.af_base.specs.Sample.{IsFrame}
-use Rattle.af_life.specs.Kept.{pipe_size}
+use Rattle.std.proofs.Common.{◌≡◌, ◌⊎◌, inl, inr, ℕ, ◌+◌, ◌<◌, ◌≤◌, ◌==◌, Bool, true, false, true≢false, if◌then◌else◌, fold, map, List, [], ◌∷◌, ◌++◌, take, length, All, Some, None, refl, sym, ap, ◌∙◌, subst, arith, length-append}
+use Rattle.af_one_turn_run.proofs.Common.{AreMixedBut, CarriesWithin, ClientEvent, EntrySeen, Event, FastState, IsFastTurn, IsFrame, IsQueueAsTold, Item, Legal, LegalAlone, LegalEntry, Marks, PipeTold, QueuePoint, QueueTold, Run, RunKept, SameNormal, ServerEvent, Session, cycle_alone, cycle_frames, fits_of, initial, is_mixed, items_of, kept_beside, met, pipe_met, pipe_size, poll_events, setup_of, slots, state_among, state_at, state_for, take-take, take_at, taken_before, told_at, track_count, two, with_mix, with_poll}
 use Rattle.af_model.specs.declared.states.ObserverEvent.TheVariants as observer
-use Rattle.af_model.specs.Cycles.{state_of, is_mixed, taken_before}
-use Rattle.af_model.specs.Draft.{initial}
-use Rattle.af_model.specs.Journals.{EntrySeen}
-use Rattle.af_model.specs.Order.{Event, two, Legal, after as after_both}
+use Rattle.af_model.specs.Order.{after as after_both}
 use Rattle.af_model.specs.PipeHistory as piped
 use Rattle.af_model.specs.StateQueue as queued
-use Rattle.af_model.specs.StateQueue.{QueuePoint}
-use Rattle.af_runs.specs.Blocks.{Marks}
-use Rattle.af_runs.specs.Rounds.{LegalEntry, AreMixedBut, IsFastTurn}
-use Rattle.af_runs.specs.Runs.{Run, told_at, state_for, with_poll, with_mix, met}
-use Rattle.af_runs.specs.Sessions.{Session, track_count, cycle_frames, setup_of}
-use Rattle.af_runs.specs.Told.{Item, QueueTold, PipeTold, pipe_met, state_at, items_of, poll_events, IsQueueAsTold}
-use Rattle.af_runs.specs.TurnRuns.{cycle_alone, LegalAlone}
-use Rattle.af_runs.proofs.StatesFor.{state_among}
-use Rattle.af_judge.specs.Entries.{CarriesWithin}
 use Rattle.af_judge.specs.RunTold.{CarriesFit}
-use Rattle.af_judge.proofs.StatesRuns.{RunKept, SameNormal, fits_of, kept_beside}
 use Rattle.af_one_turn_run.specs.Growing.{IsCounted}
 use Rattle.af_one_turn_run.proofs.Growing.{told_before}
 use Rattle.af_one_turn_run.proofs.OneEntry.{IsEntryTold, IsBeforeEntry, one_entry}

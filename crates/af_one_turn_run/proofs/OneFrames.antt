@@ -1,13 +1,9 @@
 -- Frames are told by their words.
 use Rattle.std.proofs.Common.{◌≡◌, ◌+◌, ◌*◌, ℤ, map, List, [], ◌∷◌, drop, length, All, refl, sym, ap, ◌∙◌, arith}
-use Rattle.std.specs.Prelude.{slice_index_or}
+use Rattle.af_one_turn_run.proofs.Common.{All-head, All-tail, Frame, IsFrame, few, packed_word, slice_index_or}
 use Rattle.std.specs.Int.{w16, cast_unsigned, cast_signed}
 use Rattle.std.specs.Int.RustNames.{FitsSigned}
 use Rattle.std.proofs.lemmas.Int.{to_z-of_z}
-use Rattle.std.proofs.lemmas.List.Elements.{All-head, All-tail}
-use Rattle.af_base.proofs.Basics.{few}
-use Rattle.af_base.specs.declared.frame.Frame.{Frame}
-use Rattle.af_base.specs.Sample.{packed_word, IsFrame}
 
 word_of : (frame : Frame) → IsFrame frame → packed_word frame ≡ cast_unsigned w16 frame.left + 65536 * cast_unsigned w16 frame.right
 word_of frame is = let l = few frame.left is.left in let r = few frame.right is.right in omega (arith, l, r)

@@ -1,18 +1,9 @@
 -- A look of a server is the one that the words at its point make.
 use Rattle.std.proofs.Common.{◌≡◌, ℕ, ◌==◌, ◌&&◌, ◌||◌, not, nat_lt, min, Bool, true, false, true≢false, if◌then◌else◌, is_some, List, [], Option, Some, None, refl, sym, ap, ◌∙◌, subst}
-use Rattle.std.specs.Prelude.{MatchOption}
-use Rattle.af_base.specs.declared.event.ServerEvent.{ServerEvent}
-use Rattle.af_base.specs.declared.log.SlotEntry.{SlotEntry}
-use Rattle.af_base.specs.declared.seen.Seen.{Seen}
+use Rattle.af_one_turn_run.proofs.Common.{Listed, LooksBy, MatchOption, Seen, ServerEvent, Shape, SlotEntry, TrackPoint, dropped_by, flush_word, front_by_answer, front_of, is_own_inside, kept, lawful_front, leaves_open, look_at, look_events, wrapped}
 use Rattle.af_base.specs.declared.seen.Seen.TheVariants as seen
-use Rattle.af_model.specs.declared.point.TrackPoint.{TrackPoint}
-use Rattle.af_model.specs.declared.shape.Shape.{Shape}
-use Rattle.af_model.specs.Cycles.{Listed, kept, LooksBy}
-use Rattle.af_model.specs.Point.{wrapped, flush_word}
 use Rattle.af_model.specs.Room.{ahead}
-use Rattle.af_model.specs.ServerCalls.{dropped_by, look_at, look_events}
 use Rattle.af_model.specs.Spelled.{own_front}
-use Rattle.af_runs.specs.Fronts.{leaves_open, front_by_answer, is_own_inside, front_of, lawful_front}
 use Rattle.af_one_turn_run.specs.Seeing.{ServerSees}
 
 -- ## The front that is told is the one by which the look answers
@@ -91,8 +82,3 @@ module _ (asked : ℕ) (s : Listed) (slot : SlotEntry) where
       by_shut : (o : Option (ℕ × ℕ)) → (kept s).shut ≡ o → (if is_some o then [] else look_events slot.seen slot.flush slot.rear (front_of asked s slot)) ≡ (if is_some o then [] else look_events slot.seen slot.flush slot.rear (lawful_front asked s slot))
       by_shut None is = ap (look_events slot.seen slot.flush slot.rear) (front_told asked s slot is looks)
       by_shut (Some words) is = refl
-
--- two legal looks that see what is there are the same
-pub one_look : (asked : ℕ) (s : Listed) (a b : SlotEntry) (p : TrackPoint) (n : ℕ) → LooksBy asked s a (lawful_front asked s a) → ServerSees p n (looks_by s a (lawful_front asked s a)) → LooksBy asked s b (lawful_front asked s b) → ServerSees p n (looks_by s b (lawful_front asked s b))
-    → look_of a ≡ look_of b
-one_look asked s a b p n looks sees looks_b sees_b = look_so asked s a p n looks sees ∙ sym (look_so asked s b p n looks_b sees_b)

@@ -1,19 +1,9 @@
 -- The looks of a turn at a command block are those that are due by what the block tells.
 use Rattle.std.proofs.Common.{◌≡◌, ℕ, zero, suc, ◌+◌, ◌-◌, ◌≤◌, ◌==◌, Bool, true, false, true≢false, if◌then◌else◌, is_some, List, [], ◌∷◌, ◌++◌, take, drop, length, Option, Some, None, refl, sym, ap, ◌∙◌, subst, arith, append-nil, eqb-true}
-use Rattle.std.specs.Prelude.{MatchBool, MatchOption, slice_index_or}
-use Rattle.std.proofs.lemmas.List.{length-take, length-drop}
-use Rattle.af_base.specs.declared.event.ServerEvent.{ServerEvent}
+use Rattle.af_one_turn_run.proofs.Common.{CommandLook, HasWords, LegalLooks, Listed, LooksBy, MatchBool, MatchOption, Seen, ServerEvent, TrackKept, TrackPoint, all_command_events, are_due, as_slot, command_events, did, drops_of, front_of, fronts_by, goes_on, kept, lawful_front, length-drop, length-take, look_at, look_events, shows_command, slice_index_or, takes_command, words_taken}
 use Rattle.af_base.specs.declared.event.ServerEvent.TheVariants as server
-use Rattle.af_base.specs.declared.seen.Seen.{Seen}
 use Rattle.af_base.specs.declared.seen.Seen.TheVariants as seen
-use Rattle.af_base.specs.declared.turn.CommandLook.{CommandLook}
-use Rattle.af_life.specs.declared.kept.TrackKept.{TrackKept}
-use Rattle.af_life.specs.Looks.{as_slot, command_events, did, takes_command, all_command_events, HasWords, LegalLooks, words_taken}
-use Rattle.af_life.specs.Obeys.{shows_command, after_look, goes_on, are_due}
-use Rattle.af_model.specs.declared.point.TrackPoint.{TrackPoint}
-use Rattle.af_model.specs.Cycles.{Listed, kept, LooksBy}
-use Rattle.af_model.specs.ServerCalls.{look_at, look_events, drops_of}
-use Rattle.af_runs.specs.Fronts.{front_of, lawful_front, fronts_by}
+use Rattle.af_life.specs.Obeys.{after_look}
 use Rattle.af_one_turn_run.specs.Seeing.{after_servers, ServerSees}
 use Rattle.af_one_turn_run.specs.Taking.{taken_by, HasFrames}
 use Rattle.af_one_turn_run.proofs.LegalFronts.{server_parts}

@@ -1,28 +1,11 @@
 -- A round of a turn run is determined by what is told at its end.
 use Rattle.std.proofs.Common.{◌≡◌, ◌⊎◌, inl, inr, ℕ, ◌*◌, ◌^◌, ◌<◌, ◌≤◌, ◌==◌, Bool, true, false, true≢false, MatchBool, MatchOption, if◌then◌else◌, fold, List, [], ◌∷◌, length, take, Option, Some, None, refl, sym, ap, ◌∙◌, subst, arith, eq-eqb}
-use Rattle.std.proofs.lemmas.Bool.{cases_eq}
-use Rattle.std.proofs.lemmas.List.{ext_get_or}
+use Rattle.af_one_turn_run.proofs.Common.{BlockTold, EntrySeen, IsFastTurn, IsHistoryAsTold, IsMadeBy, IsOpenTurn, IsScript, IsTurn, LegalAlone, LegalTurn, LegalTurnBy, Marks, OnlyCalls, RoundSeen, Run, Session, TrackTold, Turn, TurnFound, TurnSpec, called, calls_alone, calls_in, cases_eq, commands_turned, cycle_alone, cycle_frames, each_at, each_long, ext_get_or, fast_ended, found_before, initial, lawful_front, loaded, meets, met, met_alone, no_report, no_track, outside_of, outside_with, pipe_size, setup_of, stream_met, stream_turned, takes_part, told_at, track_met, turned, turned_track, with_load, with_turn}
 use Rattle.std.proofs.lemmas.Nat.{mul-le}
-use Rattle.af_base.specs.Turn.{Turn}
-use Rattle.af_judge.proofs.Basics.{each_at, each_long}
-use Rattle.af_life.specs.Kept.{pipe_size}
-use Rattle.af_life.specs.Turn.{LegalTurn}
-use Rattle.af_model.specs.Draft.{initial}
-use Rattle.af_model.specs.JournalForm.{IsTurn, IsOpenTurn}
-use Rattle.af_model.specs.Journals.{EntrySeen, RoundSeen}
 use Rattle.af_model.specs.NewestValue as newest
 use Rattle.af_model.specs.PipeHistory as piped
-use Rattle.af_model.specs.Reports.{no_report}
 use Rattle.af_model.specs.StateQueue as queued
-use Rattle.af_script.specs.Form.{IsScript}
-use Rattle.af_script.specs.declared.op.TurnSpec.{TurnSpec}
 use Rattle.af_script.specs.declared.op.TurnSpec.TheVariants as makes
-use Rattle.af_runs.specs.Blocks.{BlockTold, Marks, meets, IsHistoryAsTold}
-use Rattle.af_runs.specs.Found.{TurnFound, LegalTurnBy, outside_of, outside_with}
-use Rattle.af_runs.specs.Rounds.{IsFastTurn, loaded, turned}
-use Rattle.af_runs.specs.Runs.{Run, TrackTold, told_at, no_track, called, calls_in, found_before, with_turn, with_load, turned_track, commands_turned, stream_turned, stream_met, takes_part, track_met, met, fast_ended}
-use Rattle.af_runs.specs.Sessions.{Session, cycle_frames, setup_of}
-use Rattle.af_runs.specs.TurnRuns.{cycle_alone, calls_alone, met_alone, OnlyCalls, LegalAlone, IsMadeBy}
 use Rattle.af_one_turn_run.specs.Taking.{IsTakenOf}
 use Rattle.af_one_turn_run.specs.Told.{IsToldLegally, IsTrackLegal}
 use Rattle.af_one_turn_run.proofs.Growing.{grows_met, legal_before, told_before}
@@ -32,12 +15,7 @@ use Rattle.af_one_turn_run.proofs.OneTurn.{IsBlockTold, IsTurnTold, IsBeforeTurn
 use Rattle.af_one_turn_run.proofs.Parts.{legal_parts}
 use Rattle.af_one_turn_run.proofs.RoundFollows.{told_legally, told_taken_of, told_frames, pipe_legal, RoundReady, RoundTold, RoundForm}
 use Rattle.af_one_turn_run.proofs.RunFollows.{met_follows, turn_follows}
-use Rattle.af_runs.specs.Fronts.{lawful_front}
-
--- a track of a run of which each block meets
-met_track : (s : Session) (run : Run) (n : ℕ) → n < length run.tracks → told_at (met s run) n ≡ track_met s run n (told_at run n)
-unfolding met
-met_track s run n low = each_at (track_met s run) 0 run.tracks n n no_track low (omega arith)
+use Rattle.af_judge.proofs.BlocksMeet.{met_at as met_track}
 
 -- a block that met was told legally before
 met_legal : (b : BlockTold) → IsHistoryAsTold (meets b) → IsToldLegally b

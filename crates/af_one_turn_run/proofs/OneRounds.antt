@@ -1,12 +1,6 @@
 -- Turn runs of which all rounds are told are the same.
 use Rattle.std.proofs.Common.{◌≡◌, ℕ, true, List, [], ◌∷◌, sym, ◌∙◌, subst}
-use Rattle.af_model.specs.Journals.{RoundSeen}
-use Rattle.af_script.specs.Form.{IsScript}
-use Rattle.af_script.specs.declared.op.TurnSpec.{TurnSpec}
-use Rattle.af_runs.specs.Blocks.{Marks}
-use Rattle.af_runs.specs.Runs.{Run, with_ends}
-use Rattle.af_runs.specs.Sessions.{Session}
-use Rattle.af_runs.specs.TurnRuns.{met_alone, AreTurns}
+use Rattle.af_one_turn_run.proofs.Common.{AreTurns, IsScript, Marks, RoundSeen, Run, Session, TurnSpec, met_alone, with_ends}
 use Rattle.af_one_turn_run.proofs.OneRound.{one_round}
 use Rattle.af_one_turn_run.proofs.RoundFollows.{RoundReady, RoundTold, RoundForm, round_ready}
 

@@ -1,25 +1,16 @@
 -- What the normal mixer sees of the queue, the report and the pipe is what is told of them.
 use Rattle.std.proofs.Common.{◌≡◌, ℕ, ◌-◌, ◌%◌, ◌^◌, ◌<◌, ◌≤◌, ◌==◌, Bool, true, false, true≢false, if◌then◌else◌, map, List, [], ◌∷◌, ◌++◌, length, Option, refl, sym, ap, ◌∙◌, subst, arith, ne_eqb}
+use Rattle.af_one_turn_run.proofs.Common.{Item, Learnt, Legal, LegalPush, Load, NormalKept, QueuePoint, Setup, Turn, after_edits, front_by_room, going, mutator_list, number_seen, one, pipe_list, pipe_size, push_list, put_by, two}
 use Rattle.af_base.specs.declared.event.ClientEvent.TheVariants as client
 use Rattle.af_base.specs.declared.state.Push.{Push}
 use Rattle.af_base.specs.declared.state.Push.TheVariants.{Pushed, Clean, Busy}
 use Rattle.af_base.specs.declared.report.Report.{Report}
-use Rattle.af_base.specs.Turn.{Turn}
-use Rattle.af_life.specs.Edits.{LegalPush}
-use Rattle.af_life.specs.Kept.{Setup, pipe_size, NormalKept, Learnt}
-use Rattle.af_life.specs.Plays.{put_by}
-use Rattle.af_life.specs.Turn.{after_edits}
-use Rattle.af_life.specs.TurnEvents.{going, front_by_room, pipe_list, number_seen, push_list, mutator_list}
-use Rattle.af_model.specs.declared.newest.ReaderEvent.TheVariants.{Load}
 use Rattle.af_model.specs.declared.states.MutatorEvent.{MutatorEvent}
 use Rattle.af_model.specs.declared.states.MutatorEvent.TheVariants as mutator
 use Rattle.af_model.specs.NewestValue as newest
-use Rattle.af_model.specs.Order.{one, two, Legal}
 use Rattle.af_model.specs.PipeHistory as piped
 use Rattle.af_model.specs.PipeHistory.{releases_of}
 use Rattle.af_model.specs.StateQueue as queued
-use Rattle.af_model.specs.StateQueue.{QueuePoint}
-use Rattle.af_runs.specs.Told.{Item}
 
 -- ## The queue
 

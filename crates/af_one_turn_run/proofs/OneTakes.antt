@@ -1,27 +1,7 @@
 -- What a turn of the normal mixer takes for its buffer is determined by what the stream blocks tell.
 use Rattle.std.proofs.Common.{◌≡◌, ℕ, ◌+◌, ◌<◌, ◌≤◌, Bool, true, false, if◌then◌else◌, is_some, map, List, [], ◌∷◌, ◌++◌, drop, length, All, refl, sym, ap, ◌∙◌, subst, arith, append-nil, ne_eqb}
-use Rattle.std.specs.Prelude.{slice_index_or}
-use Rattle.std.specs.List.{flat_map, AllByRecursion}
-use Rattle.af_base.specs.declared.event.ServerEvent.{ServerEvent}
+use Rattle.af_one_turn_run.proofs.Common.{AllByRecursion, BlockTold, HandEvent, IsFrame, Learnt, Listed, LooksBy, Moment, NormalKept, ServerEvent, Setup, Shape, SlotEntry, TakeSeen, TrackKept, TrackPoint, TracksRise, Turn, TurnFound, after, after_look, asked as buffer, by_hand, client_of, cycle_events, flat_map, front_of, going, hand_list, invalid, is_home, kept, lawful_front, learnt, listed, mix_events, outside_of, packed_word, slice_index_or, start, stream_list, stream_turned, take_front, taken_of, takes_from, track_at, track_in, tracks_at}
 use Rattle.af_base.specs.declared.event.ServerEvent.TheVariants as server
-use Rattle.af_base.specs.declared.event.HandEvent.{HandEvent}
-use Rattle.af_base.specs.declared.log.SlotEntry.{SlotEntry}
-use Rattle.af_base.specs.Sample.{packed_word, IsFrame}
-use Rattle.af_base.specs.Turn.{Turn, TakeSeen}
-use Rattle.af_life.specs.declared.kept.TrackKept.{TrackKept}
-use Rattle.af_life.specs.Kept.{Setup, asked as buffer, NormalKept, Learnt, track_at, track_in, is_home}
-use Rattle.af_life.specs.Heard.{learnt}
-use Rattle.af_life.specs.TurnEvents.{going, tracks_at, invalid, hand_list, takes_from, mix_events, stream_list}
-use Rattle.af_model.specs.declared.point.TrackPoint.{TrackPoint}
-use Rattle.af_model.specs.declared.shape.Shape.{Shape}
-use Rattle.af_model.specs.Cycles.{Listed, kept, LooksBy, after_look, cycle_events}
-use Rattle.af_model.specs.History.{Moment, by_hand, client_of, after, taken_of}
-use Rattle.af_model.specs.Point.{start}
-use Rattle.af_model.specs.JournalForm.{TracksRise}
-use Rattle.af_runs.specs.Blocks.{BlockTold, listed}
-use Rattle.af_runs.specs.Found.{TurnFound, take_front, outside_of}
-use Rattle.af_runs.specs.Fronts.{front_of, lawful_front}
-use Rattle.af_runs.specs.Runs.{stream_turned}
 use Rattle.af_judge.proofs.TurnExactly.{first_of, others_of}
 use Rattle.af_one_turn_run.specs.Seeing.{after_servers, ServerSees}
 use Rattle.af_one_turn_run.specs.Taking.{taken_by, IsTakenOf}

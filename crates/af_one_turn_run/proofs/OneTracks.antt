@@ -1,27 +1,10 @@
 -- What a turn of the normal mixer does of the tracks is determined by what the command blocks tell.
 use Rattle.std.proofs.Common.{◌≡◌, ℕ, zero, suc, ◌<◌, ◌≤◌, Bool, true, false, if◌then◌else◌, is_some, List, [], ◌∷◌, ◌++◌, length, Option, Some, None, refl, sym, ap, ◌∙◌, subst, arith, append-nil, append_assoc}
-use Rattle.std.specs.Prelude.{MatchBool, slice_set}
-use Rattle.std.proofs.lemmas.List.{ext_get_or}
-use Rattle.af_base.specs.declared.event.ServerEvent.{ServerEvent}
+use Rattle.af_one_turn_run.proofs.Common.{CommandLook, HasDueLooks, IsServed, Learnt, LegalLooks, LegalTrack, Listed, MatchBool, ServerEvent, Setup, TrackKept, TrackPoint, TrackSeen, Turn, TurnFound, after, after_commands, all_command_events, are_due, client_of, command_events_of, command_list, ext_get_or, fronts_by, going, heard, invalid, lawful_front, learnt, listed, most_looks, nothing_seen, outside_of, ready, seen_at, served, served_to, server_does, slice_set, start, status_due, status_events, stored_over, took, track_at, track_in, words_taken}
 use Rattle.af_base.specs.declared.event.ServerEvent.TheVariants as server
-use Rattle.af_base.specs.declared.turn.CommandLook.{CommandLook}
-use Rattle.af_base.specs.Turn.{Turn, TrackSeen}
 use Rattle.af_life.specs.declared.kept.Heard.{Heard}
-use Rattle.af_life.specs.declared.kept.TrackKept.{TrackKept}
-use Rattle.af_life.specs.Heard.{learnt, heard, ready}
-use Rattle.af_life.specs.Kept.{Setup, Learnt, track_at, track_in, seen_at, nothing_seen}
-use Rattle.af_life.specs.Looks.{all_command_events, LegalLooks, words_taken}
-use Rattle.af_life.specs.Obeys.{slot_for, are_due}
+use Rattle.af_life.specs.Obeys.{slot_for}
 use Rattle.af_life.specs.Reports.{told_by_report}
-use Rattle.af_life.specs.Serves.{most_looks, after_commands, status_due, stored_over, HasDueLooks, IsServed, served, served_to, LegalTrack}
-use Rattle.af_life.specs.TurnEvents.{going, invalid, status_events, command_events_of, command_list}
-use Rattle.af_model.specs.declared.point.TrackPoint.{TrackPoint}
-use Rattle.af_model.specs.Cycles.{Listed}
-use Rattle.af_model.specs.History.{client_of, after}
-use Rattle.af_model.specs.Point.{start}
-use Rattle.af_runs.specs.Blocks.{listed, server_does, took}
-use Rattle.af_runs.specs.Found.{TurnFound, outside_of}
-use Rattle.af_runs.specs.Fronts.{lawful_front, fronts_by}
 use Rattle.af_one_turn_run.specs.Seeing.{after_servers, ServerSees}
 use Rattle.af_one_turn_run.specs.Taking.{taken_by, IsTakenOf, HasFrames}
 use Rattle.af_one_turn_run.specs.Told.{IsToldLegally}

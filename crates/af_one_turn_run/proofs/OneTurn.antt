@@ -1,35 +1,10 @@
 -- A turn of the normal mixer is determined by what the blocks, the queue, the report and the pipe tell.
 use Rattle.std.proofs.Common.{◌≡◌, ℕ, ◌+◌, ◌%◌, ◌^◌, ◌<◌, ◌&&◌, ◌||◌, max, min, Bool, true, false, map, List, [], ◌∷◌, ◌++◌, length, All, refl, sym, ap, ◌∙◌, subst, arith}
-use Rattle.std.specs.List.{AllByRecursion}
-use Rattle.std.proofs.lemmas.List.Elements.{All-head, All-tail}
-use Rattle.af_base.specs.Turn.{Turn, TakeSeen, TrackSeen}
-use Rattle.af_life.specs.declared.kept.TrackKept.{TrackKept}
-use Rattle.af_life.specs.Edits.{after_ack, is_exit, mutated, LegalPush}
-use Rattle.af_life.specs.Heard.{learnt, known_by}
-use Rattle.af_life.specs.Kept.{Setup, asked, pipe_size, NormalKept, Learnt, track_in}
-use Rattle.af_life.specs.Plays.{tracks_due, LegalTake}
-use Rattle.af_life.specs.Serves.{served_to, LegalTrack}
-use Rattle.af_life.specs.Turn.{after_edits, ends_now, GoesOn, LegalTurn}
-use Rattle.af_life.specs.TurnEvents.{front_by_room, going, hand_list, number_seen, tracks_at}
-use Rattle.af_model.specs.declared.point.TrackPoint.{TrackPoint}
-use Rattle.af_model.specs.declared.newest.ReaderEvent.TheVariants.{Load}
-use Rattle.af_model.specs.Cycles.{LooksBy}
-use Rattle.af_model.specs.Draft.{initial}
-use Rattle.af_model.specs.History.{client_of, after}
-use Rattle.af_model.specs.JournalForm.{IsTake, IsOpenTurn}
+use Rattle.af_one_turn_run.proofs.Common.{All-head, All-tail, AllByRecursion, BlockTold, GoesOn, IsOpenTurn, IsQueueAsTold, IsReportAsTold, IsTake, Item, Learnt, Legal, LegalPush, LegalTake, LegalTrack, LegalTurn, Load, LooksBy, NormalKept, QueuePoint, Run, Session, Setup, TakeSeen, TrackKept, TrackPoint, TrackSeen, Turn, TurnFound, after, after_ack, after_edits, asked, client_of, commands_turned, cycle_frames, ends_now, found_before, front_by_room, going, hand_list, initial, is_exit, known_by, lawful_front, learnt, listed, most_cycles, mutated, no_report, number_seen, outside_of, outside_with, pipe_size, pipe_turned, queue_turned, report_of, served_to, setup_of, start, stream_turned, take_front, told_at, track_in, tracks_at, tracks_due, two}
 use Rattle.af_model.specs.NewestValue as newest
-use Rattle.af_model.specs.Order.{two, Legal, after as after_both}
+use Rattle.af_model.specs.Order.{after as after_both}
 use Rattle.af_model.specs.PipeHistory as piped
-use Rattle.af_model.specs.Point.{start}
-use Rattle.af_model.specs.Reports.{no_report}
 use Rattle.af_model.specs.StateQueue as queued
-use Rattle.af_model.specs.StateQueue.{QueuePoint}
-use Rattle.af_runs.specs.Blocks.{BlockTold, listed}
-use Rattle.af_runs.specs.Found.{TurnFound, take_front, outside_of, outside_with}
-use Rattle.af_runs.specs.Fronts.{lawful_front}
-use Rattle.af_runs.specs.Runs.{Run, most_cycles, told_at, found_before, report_of, stream_turned, commands_turned, queue_turned, pipe_turned}
-use Rattle.af_runs.specs.Sessions.{Session, setup_of, cycle_frames}
-use Rattle.af_runs.specs.Told.{Item, IsQueueAsTold, IsReportAsTold}
 use Rattle.af_one_turn_run.specs.Taking.{IsTakenOf, HasFrames}
 use Rattle.af_one_turn_run.specs.Told.{IsToldLegally}
 use Rattle.af_one_turn_run.proofs.OneLooks.{AreTold}

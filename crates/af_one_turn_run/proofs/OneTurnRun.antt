@@ -1,21 +1,8 @@
 -- A script without pokes has one turn run that ends with all stream proxies met.
 use Rattle.std.proofs.Common.{◌≡◌, ℕ, zero, suc, ◌+◌, true, List, [], ◌∷◌, ◌++◌, length, All, refl, sym, ◌∙◌, subst, arith}
-use Rattle.std.specs.Prelude.{slice_index_or}
-use Rattle.std.proofs.lemmas.List.Elements.{All-head, All-tail}
-use Rattle.af_base.specs.declared.frame.Frame.{Frame}
-use Rattle.af_judge.proofs.Basics.{new_at, new_long}
-use Rattle.af_model.specs.JournalForm.{IsRound, AreEntries}
-use Rattle.af_model.specs.Journals.{EntrySeen, RoundSeen, JournalData, entries_of, taken_by}
+use Rattle.af_one_turn_run.proofs.Common.{All-head, All-tail, AreEntries, AreTurns, EntrySeen, Frame, IsHistoryAsTold, IsRound, IsScript, IsTurnRun, JournalData, Marks, RoundSeen, Session, Shape, TrackTold, entries_of, file_words, kept_new, marks_of, new_at, new_block, new_long, new_run, no_spec, session_of, slice_index_or, taken_by, track_count}
 use Rattle.af_script.specs.Data.{ScriptData}
-use Rattle.af_script.specs.Form.{IsScript}
 use Rattle.af_script.specs.declared.track.TrackSpec.{TrackSpec}
-use Rattle.af_runs.specs.Blocks.{Marks, new_block, IsHistoryAsTold}
-use Rattle.af_runs.specs.LegalRuns.{session_of, marks_of}
-use Rattle.af_runs.specs.Runs.{TrackTold, new_run}
-use Rattle.af_runs.specs.Sessions.{Session, no_spec, track_count, file_words}
-use Rattle.af_runs.specs.TurnRuns.{AreTurns, IsTurnRun}
-use Rattle.af_model.specs.declared.shape.Shape.{Shape}
-use Rattle.af_judge.proofs.StatesRuns.{kept_new}
 use Rattle.af_one_turn_run.specs.Growing.{takes_in}
 use Rattle.af_one_turn_run.specs.MetLast.{AllMetLast}
 use Rattle.af_one_turn_run.specs.NoPokes.{PlainOps, PlainTracks}

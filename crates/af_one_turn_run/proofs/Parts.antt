@@ -1,6 +1,7 @@
 -- Lists and legal orders in parts.
 use Rattle.std.proofs.Common.{◌≡◌, ℕ, zero, suc, ◌+◌, List, [], ◌∷◌, ◌++◌, take, drop, refl, ap, ◌∙◌, arith}
-use Rattle.af_model.specs.Order.{Legal, after}
+use Rattle.af_one_turn_run.proofs.Common.{Legal}
+use Rattle.af_model.specs.Order.{after}
 
 module _ {P E : Type 0} (legal : P → E → Type 0) (next : P → E → P) where
   pub legal_parts : (p : P) (xs ys : List E) → Legal legal next p (xs ++ ys) → Legal legal next p xs × Legal legal next (after legal next p xs) ys

@@ -1,17 +1,14 @@
 -- A client whose ops have no pokes makes none.
 use Rattle.std.proofs.Common.{◌≡◌, ℕ, ◌-◌, ◌==◌, ◌&&◌, ◌||◌, nat_le, not, Bool, true, false, true≢false, if◌then◌else◌, is_some, unwrap_or, fold, List, [], ◌∷◌, Option, Some, None, refl, sym, ap, ◌∙◌}
-use Rattle.std.specs.Prelude.{bit_and}
-use Rattle.af_base.specs.declared.event.ClientCall.{ClientCall}
+use Rattle.af_one_turn_run.proofs.Common.{AreCalls, Client, ClientCall, IsWanted, Track, Want, after_answer, after_call, after_clear, after_put, after_send, after_sent, after_status, after_write, argument_of, asked_first, begins, begun, bit_and, code_of, commands_sent, ends, is_active, is_clear, is_flush, is_last, is_send, is_status, is_stoppable, is_stopped, is_write, more, next_want, rest_of, rested, settled_in, state_in, wanted_of, wants_of, with_call}
 use Rattle.af_base.specs.declared.event.ClientCall.TheVariants as call
 use Rattle.af_script.specs.declared.op.Op.{Op}
 use Rattle.af_script.specs.declared.op.Op.TheVariants as op
 use Rattle.af_runs.specs.declared.want.ClientCommand.{ClientCommand}
 use Rattle.af_runs.specs.declared.want.ClientCommand.TheVariants as command
 use Rattle.af_runs.specs.declared.want.Mode.{Mode}
-use Rattle.af_runs.specs.declared.want.Want.{Want}
 use Rattle.af_runs.specs.declared.want.Want.TheVariants as want
-use Rattle.af_runs.specs.Clients.{Client, code_of, is_active, is_stoppable, is_stopped, wants_of, begins, begun, asked_first, next_want, rest_of, goes_on, ends, more, is_last, after_sent, after_send, after_put, after_write, state_in, settled_in, after_status, after_clear, after_answer, rested}
-use Rattle.af_runs.specs.ClientTurns.{Track, argument_of, IsWanted, is_send, is_write, is_status, is_flush, is_clear, wanted_of, commands_sent, with_call, after_call, AreCalls}
+use Rattle.af_runs.specs.Clients.{goes_on}
 use Rattle.af_one_turn_run.specs.NoPokes.{is_poke_op, is_poke_want, is_poke_call, PlainOps, PlainWants, PlainCalls, IsPlain}
 
 -- ## Ops
@@ -21,17 +18,13 @@ only_plain true wants h = h
 only_plain false wants h = tt
 
 wants_plain : (m : Mode) (o : Op) → is_poke_op o ≡ false → PlainWants (wants_of m o)
-wants_plain m op.OpenTrack h = (refl, tt)
 wants_plain m op.Start h = only_plain (not (is_active m)) _ (refl, (refl, tt))
 wants_plain m op.Pause h = only_plain (is_active m) _ (refl, tt)
 wants_plain m op.Stop h = only_plain (is_stoppable m) _ (refl, tt)
 wants_plain m op.Flush h = only_plain (not (is_active m)) _ (refl, (refl, tt))
 wants_plain m op.Drain h = only_plain (is_stopped m) _ (refl, tt)
-wants_plain m op.Remove h = (refl, tt)
-wants_plain m op.Yield h = (refl, tt)
-wants_plain m (op.Gain left right) h = (refl, tt)
-wants_plain m (op.Write count) h = (refl, tt)
 wants_plain m (op.Poke in_command word value) h = absurd (true≢false h)
+wants_plain m _ h = (refl, tt)
 
 begins_plain : (c : Client) (wants : List Want) (ops : List Op) → PlainWants wants → PlainOps ops → IsPlain (begins c wants ops)
 begins_plain c (w ∷ wants) ops h g = record { due = h; ops = g }

@@ -1,37 +1,9 @@
 -- In a turn run of a script without pokes no block is poked.
 use Rattle.std.proofs.Common.{◌≡◌, ◌⊎◌, inl, inr, ℕ, ◌<◌, ◌≤◌, ◌==◌, ◌&&◌, ◌||◌, not, Bool, true, false, true≢false, MatchBool, if◌then◌else◌, is_some, fold, map, List, [], ◌∷◌, drop, length, Option, Some, None, refl, sym, ap, ◌∙◌, subst, arith, eqb-true}
-use Rattle.std.specs.Prelude.{slice_index_or}
-use Rattle.std.specs.List.{list_any}
-use Rattle.std.proofs.lemmas.Bool.{cases_eq, cases_lt}
-use Rattle.std.proofs.lemmas.List.{get_or_past}
-use Rattle.af_base.specs.declared.event.ClientCall.{ClientCall}
+use Rattle.af_one_turn_run.proofs.Common.{AreCalls, AreTurns, Client, ClientCall, ClientEvent, EntrySeen, HandEvent, IsMadeBy, IsScript, LegalClientTurn, Marks, Moment, RoundSeen, Run, ServerEvent, Session, Track, TrackTold, Turn, TurnFound, TurnSpec, after_call, at_next_turn, begun, by_client, by_hand, by_server, called, calls_alone, calls_in, cases_eq, cases_lt, client_call_events, client_kept, client_list, client_of, command_list, cycle_alone, cycle_events, cycle_frames, each_at, each_from, each_long, each_track, ends, entry_slot, found_before, front_of, get_or_past, hand_list, is_lawful, is_of_commands, is_poke_on, is_tame as is_tame_event, learnt, list_any, listed, loaded, made_alone, marks_of, met, mixed_track, most_calls, no_track, outside_of, played, rested, setup_of, side_of, sides_of, slice_index_or, slot_for, state_for, stream_list, stream_met, takes_part, told_at, track_met, tracks_at, turned, turned_track, with_ends, with_load, with_mix, with_poll, with_turn}
 use Rattle.af_base.specs.declared.event.ClientCall.TheVariants as call
-use Rattle.af_base.specs.declared.event.ClientEvent.{ClientEvent}
-use Rattle.af_base.specs.declared.event.HandEvent.{HandEvent}
-use Rattle.af_base.specs.declared.event.ServerEvent.{ServerEvent}
-use Rattle.af_base.specs.Log.{entry_slot}
-use Rattle.af_base.specs.Turn.{Turn}
-use Rattle.af_judge.proofs.Basics.{each_at, each_long}
-use Rattle.af_life.specs.Heard.{learnt}
-use Rattle.af_life.specs.TurnEvents.{hand_list, stream_list, command_list, tracks_at}
 use Rattle.af_model.proofs.Basics.{both_lawful}
-use Rattle.af_model.specs.ClientCalls.{client_kept, client_call_events}
-use Rattle.af_model.specs.Cycles.{cycle_events}
-use Rattle.af_model.specs.History.{Moment, by_client, by_server, by_hand, client_of, is_tame as is_tame_event, is_lawful}
-use Rattle.af_model.specs.Journals.{EntrySeen, RoundSeen}
-use Rattle.af_script.specs.Form.{IsScript}
-use Rattle.af_script.specs.declared.op.TurnSpec.{TurnSpec}
 use Rattle.af_script.specs.declared.op.TurnSpec.TheVariants as makes
-use Rattle.af_runs.specs.Blocks.{Marks, client_list, listed}
-use Rattle.af_runs.specs.Clients.{Client, begun, rested, ends, at_next_turn}
-use Rattle.af_runs.specs.ClientTurns.{Track, is_of_commands, side_of, after_call, most_calls, AreCalls, LegalClientTurn}
-use Rattle.af_runs.specs.Found.{TurnFound, outside_of}
-use Rattle.af_runs.specs.Fronts.{front_of}
-use Rattle.af_runs.specs.LegalRuns.{is_poke_on, marks_of}
-use Rattle.af_runs.specs.Rounds.{loaded, turned}
-use Rattle.af_runs.specs.Runs.{Run, TrackTold, told_at, no_track, each_from, each_track, sides_of, called, calls_in, mixed_track, played, slot_for, state_for, with_poll, with_mix, with_turn, with_load, turned_track, found_before, stream_met, takes_part, track_met, met, with_ends}
-use Rattle.af_runs.specs.Sessions.{Session, cycle_frames, setup_of}
-use Rattle.af_runs.specs.TurnRuns.{cycle_alone, calls_alone, made_alone, IsMadeBy, AreTurns}
 use Rattle.af_one_turn_run.specs.NoPokes.{is_poke_call, PlainCalls, IsPlain}
 use Rattle.af_one_turn_run.specs.Told.{told_more}
 use Rattle.af_one_turn_run.proofs.AllTold.{AllForms, AllTame}

@@ -1,25 +1,8 @@
 -- What each round of a turn run keeps, and what is told at its end.
 use Rattle.std.proofs.Common.{◌≡◌, ℕ, ◌+◌, ◌<◌, Bool, true, false, MatchOption, if◌then◌else◌, fold, List, [], ◌∷◌, length, Option, Some, None, refl, sym, ap, ◌∙◌, subst, arith}
-use Rattle.af_base.specs.Turn.{Turn}
-use Rattle.af_judge.proofs.Basics.{each_at}
-use Rattle.af_life.specs.Kept.{pipe_size}
-use Rattle.af_model.specs.History.{IsLegal, after, taken_of}
-use Rattle.af_model.specs.JournalForm.{IsTurn, IsRound}
-use Rattle.af_model.specs.Journals.{EntrySeen, RoundSeen}
-use Rattle.af_model.specs.Order.{Legal}
+use Rattle.af_one_turn_run.proofs.Common.{BlockTold, EntrySeen, IsHistoryAsTold, IsLegal, IsPipeAsTold, IsQueueAsTold, IsReportAsTold, IsRound, IsScript, IsTurn, Legal, PipeTold, RoundSeen, Run, RunKept, SameNormal, Session, TrackTold, Turn, TurnSpec, after, calls_alone, cycle_alone, cycle_frames, each_at, each_track, ends, ends_same, found_before, kept_beside, kept_turn, load_same, loaded, made_alone, met, met_alone, met_same, no_track, pipe_size, setup_of, start, taken_of, told_at, track_count, turned, with_ends, with_load, with_turn}
 use Rattle.af_model.specs.PipeHistory as piped
-use Rattle.af_model.specs.Point.{start}
-use Rattle.af_script.specs.Form.{IsScript}
-use Rattle.af_script.specs.declared.op.TurnSpec.{TurnSpec}
 use Rattle.af_script.specs.declared.op.TurnSpec.TheVariants as makes
-use Rattle.af_runs.specs.Blocks.{BlockTold, IsHistoryAsTold}
-use Rattle.af_runs.specs.Clients.{ends}
-use Rattle.af_runs.specs.Rounds.{loaded, turned}
-use Rattle.af_runs.specs.Runs.{Run, TrackTold, told_at, no_track, each_track, found_before, with_turn, with_load, met, with_ends}
-use Rattle.af_runs.specs.Sessions.{Session, track_count, cycle_frames, setup_of}
-use Rattle.af_runs.specs.Told.{PipeTold, IsQueueAsTold, IsReportAsTold, IsPipeAsTold}
-use Rattle.af_runs.specs.TurnRuns.{cycle_alone, calls_alone, made_alone, met_alone}
-use Rattle.af_judge.proofs.StatesRuns.{RunKept, SameNormal, kept_beside, kept_turn, met_same, load_same, ends_same}
 use Rattle.af_one_turn_run.specs.Growing.{IsCounted}
 use Rattle.af_one_turn_run.specs.Taking.{IsTakenOf, HasFrames}
 use Rattle.af_one_turn_run.specs.Told.{IsToldLegally}

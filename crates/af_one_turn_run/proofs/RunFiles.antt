@@ -1,21 +1,9 @@
 -- What the stream blocks of a run released are the first words of their files.
 use Rattle.std.proofs.Common.{◌≡◌, ℕ, ◌+◌, ◌<◌, ◌==◌, Bool, true, false, if◌then◌else◌, fold, List, [], ◌∷◌, ◌++◌, take, drop, length, Option, Some, None, refl, sym, ap, ◌∙◌, subst, arith, append-nil}
-use Rattle.std.specs.Prelude.{slice_index_or}
-use Rattle.std.proofs.lemmas.List.{take_min, length-take}
-use Rattle.af_base.specs.declared.event.ClientCall.{ClientCall}
+use Rattle.af_one_turn_run.proofs.Common.{ClientCall, EntrySeen, RoundSeen, Run, Session, Track, TrackTold, Turn, TurnFound, TurnSpec, after_call, called, calls_alone, calls_in, cycle_alone, cycle_frames, each_at, each_from, each_long, each_track, ends, file_words, found_before, is_of_commands, length-take, loaded, made_alone, met, met_alone, mixed_track, no_track, outside_of, played, released_by, setup_of, sides_of, slice_index_or, slot_for, state_for, stream_met, take_min, takes_part, told_at, track_met, turned, turned_track, with_ends, with_load, with_mix, with_poll, with_turn}
 use Rattle.af_base.specs.declared.event.ClientCall.TheVariants as call
-use Rattle.af_base.specs.Turn.{Turn}
-use Rattle.af_judge.proofs.Basics.{each_at, each_long}
-use Rattle.af_model.specs.Journals.{EntrySeen, RoundSeen}
-use Rattle.af_script.specs.declared.op.TurnSpec.{TurnSpec}
 use Rattle.af_script.specs.declared.op.TurnSpec.TheVariants as makes
-use Rattle.af_runs.specs.Clients.{ends}
-use Rattle.af_runs.specs.ClientTurns.{Track, is_of_commands, called as side_called, released_by, after_call}
-use Rattle.af_runs.specs.Found.{TurnFound, outside_of}
-use Rattle.af_runs.specs.Rounds.{loaded, turned}
-use Rattle.af_runs.specs.Runs.{Run, TrackTold, told_at, no_track, each_from, each_track, sides_of, called, calls_in, mixed_track, played, slot_for, state_for, with_poll, with_mix, with_turn, with_load, turned_track, found_before, stream_met, takes_part, track_met, met, with_ends}
-use Rattle.af_runs.specs.Sessions.{Session, cycle_frames, setup_of, file_words}
-use Rattle.af_runs.specs.TurnRuns.{cycle_alone, calls_alone, made_alone, met_alone}
+use Rattle.af_runs.specs.ClientTurns.{called as side_called}
 use Rattle.af_one_turn_run.proofs.Parts.{take-add}
 
 -- the words are the first ones of a file
@@ -49,18 +37,13 @@ call_first file t a h = (by_file (is_of_commands a), by_call a)
 
     by_call : (a : ClientCall) → IsFirst file (after_call t a).stream.released
     by_call (call.Put front count) = subst (λ f. IsFirst file (t.stream.released ++ take count (drop (length t.stream.released) f))) (sym h.0) (first_more file t.stream.released count h.1)
-    by_call (call.Full front) = nothing
-    by_call (call.Dead flags) = nothing
-    by_call (call.Corrupt front rear) = nothing
-    by_call (call.Cleared flags) = nothing
-    by_call (call.Flush count) = nothing
-    by_call (call.Gain word) = nothing
     by_call (call.Sent front code argument) = h.1
     by_call (call.SendFull front) = h.1
     by_call (call.SendDead flags) = h.1
     by_call (call.SendCorrupt front rear) = h.1
     by_call (call.Status word) = h.1
     by_call (call.Poke in_command word value) = by_poke in_command word value
+    by_call _ = nothing
 
 calls_first : (file : List ℕ) (calls : List ClientCall) (t : Track) → TrackFirst file t → TrackFirst file (fold after_call t calls)
 calls_first file [] t h = h

@@ -1,32 +1,7 @@
 -- A run that goes on tells more of what it told, and keeps its blocks counted.
 use Rattle.std.proofs.Common.{◌≡◌, inl, inr, ℕ, zero, suc, ◌+◌, ◌<◌, ◌==◌, ◌&&◌, Bool, true, false, true≢false, if◌then◌else◌, is_some, unwrap_or, find, map, List, [], ◌∷◌, ◌++◌, drop, length, All, Option, Some, None, refl, sym, ap, ◌∙◌, subst, arith, append-nil, append_assoc}
-use Rattle.std.specs.Prelude.{slice_index_or}
-use Rattle.std.specs.List.{range_with_len}
-use Rattle.std.proofs.lemmas.List.Elements.{All-nil}
-use Rattle.af_base.specs.declared.event.ClientCall.{ClientCall}
-use Rattle.af_base.specs.declared.event.ServerEvent.{ServerEvent}
+use Rattle.af_one_turn_run.proofs.Common.{All-nil, BlockTold, ClientCall, EntrySeen, IsTake, IsTurn, RoundSeen, Run, ServerEvent, Session, TrackTold, Turn, TurnFound, after_calls, by_client, by_hand, by_server, called, calls_alone, calls_in, client_list, cycle_alone, cycle_events, cycle_frames, each_at, each_from, each_long, each_track, ends, entry_slot, front_of, hand_list, is_mixed, learnt, listed, met, mixed_track, no_track, outside_of, packed_word, played, plays, range_with_len, setup_of, sides_of, slice_index_or, slot_for, slot_frames, slot_of, slots, state_for, stream_list, stream_met, taken_before, takes_part, takes_shown, told_at, track_met, tracks_at, turned_track, two, with_ends, with_load, with_mix, with_poll, with_turn, wrapped}
 use Rattle.af_base.specs.declared.event.ServerEvent.TheVariants as server
-use Rattle.af_base.specs.Log.{slots, entry_slot}
-use Rattle.af_base.specs.Sample.{packed_word}
-use Rattle.af_base.specs.Turn.{Turn}
-use Rattle.af_judge.proofs.Basics.{each_at, each_long}
-use Rattle.af_life.specs.Heard.{learnt}
-use Rattle.af_life.specs.TurnEvents.{hand_list, stream_list, tracks_at}
-use Rattle.af_model.specs.Cycles.{taken_before, cycle_events, is_mixed, takes_shown}
-use Rattle.af_model.specs.History.{by_client, by_server, by_hand}
-use Rattle.af_model.specs.JournalForm.{IsTake, IsTurn}
-use Rattle.af_model.specs.Journals.{EntrySeen, RoundSeen, slot_frames}
-use Rattle.af_model.specs.Order.{two}
-use Rattle.af_model.specs.Point.{wrapped}
-use Rattle.af_model.specs.StateQueue.{slot_of}
-use Rattle.af_runs.specs.Blocks.{BlockTold, client_list, listed}
-use Rattle.af_runs.specs.Clients.{ends}
-use Rattle.af_runs.specs.ClientTurns.{after_calls}
-use Rattle.af_runs.specs.Found.{TurnFound, outside_of}
-use Rattle.af_runs.specs.Fronts.{front_of}
-use Rattle.af_runs.specs.Runs.{Run, TrackTold, told_at, no_track, each_from, each_track, sides_of, called, calls_in, mixed_track, played, plays, slot_for, state_for, with_poll, with_mix, with_turn, with_load, turned_track, stream_met, track_met, met, takes_part, with_ends}
-use Rattle.af_runs.specs.Sessions.{Session, cycle_frames, setup_of}
-use Rattle.af_runs.specs.TurnRuns.{cycle_alone, calls_alone}
 use Rattle.af_one_turn_run.specs.Growing.{Grows, IsCounted}
 use Rattle.af_one_turn_run.proofs.Counting.{counted_played, counted_turn}
 use Rattle.af_one_turn_run.proofs.Growing.{more_then, grows_not, grows_then, grows_met, takes_more, client_takes}

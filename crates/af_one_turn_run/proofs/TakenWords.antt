@@ -1,17 +1,9 @@
 -- Which frames a server's events take of those released.
 use Rattle.std.proofs.Common.{◌≡◌, ℕ, ◌≤◌, ◌==◌, max, if◌then◌else◌, Bool, true, false, map, List, [], ◌∷◌, ◌++◌, refl, sym, ap, ◌∙◌, arith, append_assoc, append-nil}
-use Rattle.std.proofs.lemmas.List.{append_cancel_left}
-use Rattle.af_base.specs.declared.event.ClientEvent.{ClientEvent}
+use Rattle.af_one_turn_run.proofs.Common.{ClientEvent, HandEvent, Moment, ServerEvent, Shape, TrackPoint, after, after_client, after_hand, after_server, append_cancel_left, by_client, by_hand, by_server, drop_end, server_put, start, taken_of, with_taken}
 use Rattle.af_base.specs.declared.event.ClientEvent.TheVariants as client
-use Rattle.af_base.specs.declared.event.ServerEvent.{ServerEvent}
 use Rattle.af_base.specs.declared.event.ServerEvent.TheVariants as server
-use Rattle.af_base.specs.declared.event.HandEvent.{HandEvent}
 use Rattle.af_base.specs.declared.event.HandEvent.TheVariants as hand
-use Rattle.af_judge.proofs.Basics.{server_put}
-use Rattle.af_model.specs.declared.point.TrackPoint.{TrackPoint}
-use Rattle.af_model.specs.declared.shape.Shape.{Shape}
-use Rattle.af_model.specs.History.{Moment, by_client, by_server, by_hand, after, with_taken, taken_of}
-use Rattle.af_model.specs.Point.{start, drop_end, after_client, after_server, after_hand}
 use Rattle.af_one_turn_run.specs.Seeing.{after_servers}
 use Rattle.af_one_turn_run.specs.Taking.{takes_at, taken_by, IsFrom, HasFrames}
 use Rattle.af_one_turn_run.specs.Told.{told_more}

@@ -1,18 +1,10 @@
 -- A client that can do its work goes on so.
 use Rattle.std.proofs.Common.{◌≡◌, ℕ, ◌+◌, ◌<◌, ◌≤◌, ◌||◌, if◌then◌else◌, Bool, true, false, List, [], ◌∷◌, Some, None, All, drop, refl, ap, sym, ◌∙◌, subst, arith}
-use Rattle.std.proofs.lemmas.List.Elements.{All-head, All-nil}
-use Rattle.af_base.specs.declared.event.ClientCall.{ClientCall}
-use Rattle.af_base.specs.Roomy.{Roomy}
+use Rattle.af_party.proofs.Common.{All-head, All-nil, Client, Op, Want, asked_first, client_of, new_client, next_want, rest_of}
 use Rattle.af_model.specs.declared.shape.Shape.{Shape}
 use Rattle.af_cblk.specs.Shape.{most_flushes}
-use Rattle.af_normal.specs.Meeting.{client_knows}
-use Rattle.af_server.specs.Order.{ServerState}
-use Rattle.af_script.specs.declared.op.Op.{Op}
-use Rattle.af_runs.specs.declared.want.Want.{Want}
 use Rattle.af_runs.specs.declared.want.Want.TheVariants as want
-use Rattle.af_runs.specs.Clients.{Client, asked_first, new_client, next_want, rest_of}
-use Rattle.af_runs.specs.Kept.{client_of}
-use Rattle.af_party.specs.Asking.{CanMake, CanSend}
+use Rattle.af_party.specs.Asking.{CanMake}
 use Rattle.af_party.specs.Parties.{PartyState}
 use Rattle.af_party.specs.Works.{CanWork, IsFitting, IsFittingOp, flushes_due, flushes_to_come, frames_due, frames_to_come}
 use Rattle.af_party.proofs.WorkLeft.{Left, LeftBy}
@@ -64,21 +56,9 @@ work_kept ops frames p q can due at released flushes stream command room =
     let here : P (p.client.due, p.client.at) = record { frames = omega arith; flushes = omega arith; fits = λ h. h } in
     work_on ops frames 0 0 p q can (subst P (λ i. (sym due i, sym at i)) here) (omega (arith, released)) (omega (arith, flushes)) stream command room
 
--- a client can do its work if its proxies learnt what the servers have done
-pub work_met : (ops : List Op) (frames : ℕ) (p : PartyState) (s k : ServerState) → CanWork ops frames p → CanWork ops frames (record p { stream = client_knows p.stream s; command = client_knows p.command k })
-work_met ops frames p s k can = work_kept ops frames p (record p { stream = client_knows p.stream s; command = client_knows p.command k }) can refl refl refl refl refl refl refl
-
--- a client can do its work if its command proxy alone learnt what its server has done
-pub work_met_command : (ops : List Op) (frames : ℕ) (p : PartyState) (k : ServerState) → CanWork ops frames p → CanWork ops frames (record p { command = client_knows p.command k })
-work_met_command ops frames p k can = work_kept ops frames p (record p { command = client_knows p.command k }) can refl refl refl refl refl refl refl
-
 -- a client that has ended can do its work
 pub work_end : (ops : List Op) (frames : ℕ) (p : PartyState) → CanWork ops frames p → CanWork ops frames (record p { client = record p.client { ended = true } })
 work_end ops frames p can = work_kept ops frames p (record p { client = record p.client { ended = true } }) can refl refl refl refl refl refl refl
-
--- a client can do its work if its calls are exchanged for others
-pub work_calls : (ops : List Op) (frames : ℕ) (p : PartyState) (calls : Roomy ClientCall) → calls.room ≡ p.calls.room → CanWork ops frames p → CanWork ops frames (record p { calls = calls })
-work_calls ops frames p calls room can = work_kept ops frames p (record p { calls = calls }) can refl refl refl refl refl refl room
 
 -- ## What is wanted next
 
@@ -118,7 +98,3 @@ can_next ops frames p w can h =
     let first = first_wanted (client_of ops p.client) w h in
     let s = p.stream.pass.part.shape.cells in let k = p.command.pass.part.shape.cells in
     can_first ops frames p w (rest_of p.client.due) can first.0 first.1 (All-head (IsFitting s k) w (rest_of p.client.due) (subst (All (IsFitting s k)) first.0 can.due_fits))
-
--- a command can be sent
-pub can_send : (ops : List Op) (frames : ℕ) (p : PartyState) → CanWork ops frames p → p.command.released < 4611686018427387904 → CanSend p
-can_send ops frames p can few = (can.commands.0, can.commands.1, few, omega (arith, can.file, can.few_frames))

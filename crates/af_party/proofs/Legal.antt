@@ -1,13 +1,9 @@
 -- The calls of a turn, one after the other.
 use Rattle.std.proofs.Common.{◌≡◌, ◌⊎◌, inl, inr, ℕ, ◌-◌, ◌≤◌, ◌||◌, Bool, true, false, MatchBool, fold, List, [], ◌∷◌, ◌++◌, length, Option, Some, None, refl, ap, sym, ◌∙◌, subst, arith}
+use Rattle.af_party.proofs.Common.{AreCalls, Client, ClientCall, IsMade, IsWanted, LegalClientTurn, Track, Want, after_answer, after_call, answer-some, answered, asked_by, at_next_turn, begins, begun, commands_sent, end_begun, halted_none, most_calls, next_want, rest_of, side_of, wanted_of, with_call}
 use Rattle.af_base.proofs.Basics.{or_right}
-use Rattle.af_base.specs.declared.event.ClientCall.{ClientCall}
 use Rattle.af_base.specs.declared.event.ClientCall.TheVariants as call
-use Rattle.af_runs.proofs.Basics.{answer-some, end_begun, halted_none}
-use Rattle.af_runs.specs.declared.want.Want.{Want}
 use Rattle.af_runs.specs.declared.want.Want.TheVariants as want
-use Rattle.af_runs.specs.Clients.{Client, after_answer, at_next_turn, begins, begun, next_want, rest_of}
-use Rattle.af_runs.specs.ClientTurns.{AreCalls, IsMade, IsWanted, LegalClientTurn, Track, after_call, answered, asked_by, commands_sent, most_calls, side_of, wanted_of, with_call}
 use Rattle.af_party.specs.Asking.{flushed_by, written_by}
 use Rattle.af_party.specs.Turning.{WantsNext}
 use Rattle.af_party.proofs.MadeCalls.{few_written}
@@ -77,16 +73,9 @@ call_noted t u answer wanted sent c is sides count noted =
 
 -- a wanted call writes and flushes no more than was asked for
 flush-wanted : (t : Track) (w : Want) (n : ℕ) → IsWanted t w (call.Flush n) → 1 ≤ flush_of w
-flush-wanted t (want.Send sending) n h = absurd (let e : ⊥ = cc in e)
-flush-wanted t want.Settled n h = absurd (let e : ⊥ = cc in e)
-flush-wanted t want.Drained n h = absurd (let e : ⊥ = cc in e)
 flush-wanted t want.Flush n h = omega arith
-flush-wanted t (want.Gain left right) n h = absurd (let e : ⊥ = cc in e)
-flush-wanted t (want.Write count) n h = absurd (let e : ⊥ = cc in e)
-flush-wanted t want.Clear n h = absurd (let e : ⊥ = cc in e)
-flush-wanted t (want.Poke in_command word value) n h = absurd (let e : ⊥ = cc in e)
 flush-wanted t want.Rest n h = absurd h
-flush-wanted t want.Leave n h = absurd (let e : ⊥ = cc in e)
+flush-wanted t _ n h = absurd (let e : ⊥ = cc in e)
 
 pub few_flushed : (t : Track) (w : Want) (a : ClientCall) → IsWanted t w a → flushed_by a ≤ flush_of w
 few_flushed t w (call.Flush n) h = flush-wanted t w n h

@@ -1,19 +1,10 @@
 -- A call of a proxy, as one of its party.
 use Rattle.std.proofs.Common.{◌≡◌, ℕ, ◌≤◌, Bool, true, false, if◌then◌else◌, List, map, take, drop, length, refl, ap, sym, ◌∙◌, subst, arith}
-use Rattle.std.proofs.lemmas.Bool.{false≢true, true≢false}
-use Rattle.std.proofs.lemmas.List.{drop-map, take-map, take-take}
-use Rattle.af_base.specs.declared.event.ClientCall.{ClientCall}
+use Rattle.af_party.proofs.Common.{AnswersOn, Client, ClientCall, ClientState, Frame, IsClientOf, Made, Side, Track, called, drop-map, false≢true, is_of_commands, is_write, released_by, take-map, take-take, true≢false, with_call}
 use Rattle.af_base.specs.declared.event.ClientCall.TheVariants as call
-use Rattle.af_base.specs.declared.frame.Frame.{Frame}
 use Rattle.af_base.specs.Sample.{packed_word}
-use Rattle.af_cblk.specs.Sides.{Made}
-use Rattle.af_client.specs.Order.{ClientState, IsClientOf}
-use Rattle.af_runs.specs.declared.want.Want.{Want}
-use Rattle.af_runs.specs.Clients.{Client}
-use Rattle.af_runs.specs.ClientTurns.{AnswersOn, IsWanted, Side, Track, asked_by, called, is_of_commands, is_write, released_by, with_call}
-use Rattle.af_party.specs.Asking.{Asked, HasBlocks, Makes, flushed_by, grown_by, track_with, written_by}
-use Rattle.af_party.specs.Parties.{PartyState, side_of_proxy}
-use Rattle.af_party.specs.Turning.{IsMadeBy}
+use Rattle.af_party.specs.Asking.{Asked, HasBlocks, Makes, grown_by, track_with, written_by}
+use Rattle.af_party.specs.Parties.{PartyState}
 
 -- ## What a call grows
 
@@ -21,19 +12,6 @@ stream-grown : (a : ClientCall) → is_of_commands a ≡ false → grown_by a �
 stream-grown (call.Sent front code argument) h = absurd (true≢false h)
 stream-grown (call.Put front count) h = refl
 stream-grown _ h = refl
-
-command-grown : (a : ClientCall) → is_of_commands a ≡ true → grown_by a ≤ 2
-command-grown (call.Put front count) h = absurd (false≢true h)
-command-grown (call.Sent front code argument) h = omega arith
-command-grown _ h = omega arith
-
-command-flushed : (a : ClientCall) → is_of_commands a ≡ true → flushed_by a ≡ 0
-command-flushed (call.Flush count) h = absurd (false≢true h)
-command-flushed _ h = refl
-
-command-written : (a : ClientCall) → is_of_commands a ≡ true → written_by a ≡ 0
-command-written (call.Put front count) h = absurd (false≢true h)
-command-written _ h = refl
 
 -- ## The two sides
 
@@ -47,9 +25,6 @@ with_commands t b = record t { commands = b }
 on_stream : (t : Track) (a : ClientCall) → is_of_commands a ≡ false → with_call t a ≡ with_stream t (called a (released_by t a) t.stream)
 on_stream t a h = ap (λ (b : Bool). if b then with_commands t (called a (released_by t a) t.commands) else with_stream t (called a (released_by t a) t.stream)) h
 
-on_commands : (t : Track) (a : ClientCall) → is_of_commands a ≡ true → with_call t a ≡ with_commands t (called a (released_by t a) t.commands)
-on_commands t a h = ap (λ (b : Bool). if b then with_commands t (called a (released_by t a) t.commands) else with_stream t (called a (released_by t a) t.stream)) h
-
 -- a call on the stream's block
 pub made_on_stream : (file : List Frame) (asked : ℕ) (answer : ClientCall) (words : List ℕ) (p : PartyState) (d : ClientState) → Asked false asked answer words p.stream d
     → ((c : Client) → released_by (track_with c file p) answer ≡ words) → Makes file answer p (record p { stream = d })
@@ -62,18 +37,6 @@ made_on_stream file asked answer words p d does spelled = record {
   commands = omega arith;
 }
 
--- a call on the command block
-pub made_on_commands : (file : List Frame) (asked : ℕ) (answer : ClientCall) (words : List ℕ) (p : PartyState) (d : ClientState) → Asked true asked answer words p.command d
-    → ((c : Client) → released_by (track_with c file p) answer ≡ words) → Makes file answer p (record p { command = d })
-made_on_commands file asked answer words p d does spelled = record {
-  same = refl;
-  sides = λ c. let t : Track = track_with c file p in
-      ap (with_commands t) does.grows ∙ ap (λ (ws : List ℕ). with_commands t (called answer ws t.commands)) (sym (spelled c)) ∙ sym (on_commands t answer does.on);
-  flushes = omega (arith, command-flushed answer does.on);
-  written = omega (arith, command-written answer does.on);
-  commands = omega (arith, does.released, command-grown answer does.on);
-}
-
 -- ## The blocks
 
 -- the stream's proxy alone changed
@@ -83,20 +46,6 @@ blocks_stream stream command p q same old new = (new, subst (IsClientOf command)
 -- the command proxy alone changed
 pub blocks_command : (stream command : Made) (p q : PartyState) → q ≡ (record p { command = q.command }) → HasBlocks stream command p → IsClientOf command q.command → HasBlocks stream command q
 blocks_command stream command p q same old new = (subst (IsClientOf stream) (sym (ap (λ (x : PartyState). x.stream) same)) old.0, new)
-
--- ## What was wanted
-
-pub made_of_stream : (file : List Frame) (wanted : Want) (answer : ClientCall) (p : PartyState) → is_of_commands answer ≡ false → AnswersOn (side_of_proxy p.stream) (asked_by wanted) answer
-    → ((c : Client) → IsWanted (track_with c file p) wanted answer) → IsMadeBy file p wanted answer
-made_of_stream file wanted answer p on answers is c =
-    let P : Bool → Type 0 = λ b. AnswersOn (if b then side_of_proxy p.command else side_of_proxy p.stream) (asked_by wanted) answer in
-    (is c, subst P (sym on) answers)
-
-pub made_of_commands : (file : List Frame) (wanted : Want) (answer : ClientCall) (p : PartyState) → is_of_commands answer ≡ true → AnswersOn (side_of_proxy p.command) (asked_by wanted) answer
-    → ((c : Client) → IsWanted (track_with c file p) wanted answer) → IsMadeBy file p wanted answer
-made_of_commands file wanted answer p on answers is c =
-    let P : Bool → Type 0 = λ b. AnswersOn (if b then side_of_proxy p.command else side_of_proxy p.stream) (asked_by wanted) answer in
-    (is c, subst P (sym on) answers)
 
 -- ## The words of a write
 

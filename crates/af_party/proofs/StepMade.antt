@@ -1,18 +1,9 @@
 -- One step of a turn.
-use Rattle.std.proofs.Common.{◌≡◌, ℕ, ◌+◌, ◌/◌, Bool, false, List, [], ◌∷◌, ◌++◌, length, Some, None, refl, ap, sym, ◌∙◌, subst, arith}
-use Rattle.af_base.specs.declared.event.ClientCall.{ClientCall}
-use Rattle.af_base.specs.declared.frame.Frame.{Frame}
-use Rattle.af_base.specs.Roomy.{Roomy}
-use Rattle.af_cblk.specs.Sides.{Made, client_made}
-use Rattle.af_client.specs.Order.{ClientState}
-use Rattle.af_script.specs.declared.op.Op.{Op}
-use Rattle.af_runs.specs.declared.want.Want.{Want}
-use Rattle.af_runs.specs.Clients.{Client, after_answer, at_next_turn, begun, rest_of}
-use Rattle.af_runs.specs.ClientTurns.{IsMade, Track, with_call}
-use Rattle.af_runs.specs.Kept.{ClientKept, client_of}
+use Rattle.std.proofs.Common.{◌≡◌, ℕ, ◌+◌, ◌/◌, Bool, List, [], ◌∷◌, ◌++◌, length, Some, refl, ap, sym, ◌∙◌, subst, arith}
+use Rattle.af_party.proofs.Common.{Client, ClientCall, ClientKept, ClientState, Frame, IsMade, Made, Op, Roomy, Track, Want, after_answer, at_next_turn, begun, client_made, client_of, rest_of, with_call}
 use Rattle.af_party.specs.Asking.{HasBlocks, Makes, flushed_by, track_with, written_by}
 use Rattle.af_party.specs.Parties.{PartyState, track_of}
-use Rattle.af_party.specs.Turning.{Calls, IsMadeBy, Rests, WantsNext}
+use Rattle.af_party.specs.Turning.{Calls, IsMadeBy, WantsNext}
 use Rattle.af_party.specs.Works.{CanWork}
 use Rattle.af_party.proofs.CanWorkOn.{first_wanted, work_on}
 use Rattle.af_party.proofs.Legal.{call_noted, few_flushed, few_put}
@@ -46,16 +37,6 @@ track_client ops file p q c same is = ap (track_of ops file) same ∙ ap (λ (x 
 -- two changes of the client are one
 pub client_twice : (p q r : PartyState) → q ≡ (record p { client = q.client }) → r ≡ (record q { client = r.client }) → r ≡ (record p { client = r.client })
 client_twice p q r first second = second ∙ ap (λ (x : PartyState). let y : PartyState = record x { client = r.client } in y) first
-
--- nothing was wanted
-pub step_rests : (ops : List Op) (file : List Frame) (p q r : PartyState) → q ≡ (record p { client = q.client }) → WantsNext (client_of ops p.client) None (client_of ops q.client)
-    → r ≡ (record q { client = r.client }) → client_of ops r.client ≡ at_next_turn false (client_of ops q.client) → Rests ops file p r
-step_rests ops file p q r first wants second is =
-    let same = client_twice p q r first second in record {
-      none = wants.0;
-      same = same;
-      track = track_client ops file p r (at_next_turn false (client_of ops p.client)) same (is ∙ wants.1);
-    }
 
 -- ## A call
 

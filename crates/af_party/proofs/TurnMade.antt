@@ -1,13 +1,6 @@
 -- A whole turn, from its steps.
 use Rattle.std.proofs.Common.{◌≡◌, ◌⊎◌, inl, inr, ℕ, ◌+◌, ◌-◌, ◌==◌, ◌<◌, ◌≤◌, Bool, true, false, List, fold, length, take, drop, None, ap, sym, ◌∙◌, subst, arith, length-take, eq-eqb}
-use Rattle.std.proofs.lemmas.Bool.{ne_eqb}
-use Rattle.af_base.specs.declared.event.ClientCall.{ClientCall}
-use Rattle.af_base.specs.declared.frame.Frame.{Frame}
-use Rattle.af_base.specs.Roomy.{Roomy}
-use Rattle.af_script.specs.declared.op.Op.{Op}
-use Rattle.af_runs.specs.Clients.{at_next_turn}
-use Rattle.af_runs.specs.ClientTurns.{LegalClientTurn, Track, after_call, after_calls, most_calls, wanted_of}
-use Rattle.af_runs.specs.Kept.{client_of}
+use Rattle.af_party.proofs.Common.{ClientCall, Frame, LegalClientTurn, Op, Roomy, Track, after_call, after_calls, at_next_turn, client_of, most_calls, ne_eqb, wanted_of}
 use Rattle.af_party.specs.Parties.{PartyState, track_of}
 use Rattle.af_party.specs.Turning.{Calls, IsTurned, Rests}
 use Rattle.af_party.proofs.Legal.{AreMade, legal_turn, made_calls, made_fold, made_more}

@@ -1,18 +1,12 @@
 -- What is left to write and to flush never grows.
 use Rattle.std.proofs.Common.{◌≡◌, ℕ, ◌+◌, ◌-◌, ◌<◌, ◌≤◌, ◌==◌, ◌&&◌, ◌||◌, nat_le, not, bit_and, Bool, true, false, if◌then◌else◌, List, [], ◌∷◌, All, refl, ap, subst, arith}
-use Rattle.std.proofs.lemmas.Bool.{eqb-false, eqb-true}
-use Rattle.std.proofs.lemmas.List.Elements.{All-nil, All-cons, All-head, All-tail}
-use Rattle.af_base.specs.declared.event.ClientCall.{ClientCall}
+use Rattle.af_party.proofs.Common.{All-cons, All-head, All-nil, All-tail, Client, ClientCall, Op, Want, after_answer, asked_by, at_next_turn, begins, begun, eqb-false, eqb-true, is_active, is_stoppable, is_stopped, more, rested, settled_in, state_in, wants_of}
 use Rattle.af_base.specs.declared.event.ClientCall.TheVariants as call
-use Rattle.af_script.specs.declared.op.Op.{Op}
 use Rattle.af_script.specs.declared.op.Op.TheVariants as op
 use Rattle.af_runs.specs.declared.want.ClientCommand.{ClientCommand}
 use Rattle.af_runs.specs.declared.want.ClientCommand.TheVariants as command
 use Rattle.af_runs.specs.declared.want.Mode.{Mode}
-use Rattle.af_runs.specs.declared.want.Want.{Want}
 use Rattle.af_runs.specs.declared.want.Want.TheVariants as want
-use Rattle.af_runs.specs.Clients.{Client, after_answer, at_next_turn, begins, begun, is_active, is_stoppable, is_stopped, more, rested, settled_in, state_in, wants_of}
-use Rattle.af_runs.specs.ClientTurns.{asked_by}
 use Rattle.af_party.specs.Asking.{flushed_by, written_by}
 use Rattle.af_party.specs.Works.{IsFitting, IsFittingOp, flushes_due, flushes_to_come, frames_due, frames_to_come}
 
@@ -75,30 +69,20 @@ two-fit s k v w g h = All-cons (IsFitting s k) v (w ∷ []) g (one-fits s k w h)
 
 -- the frames that an op writes, and the flushes that it asks for
 frames-wanted : (m : Mode) (o : Op) (ops : List Op) → frames_due (wants_of m o) + frames_to_come ops ≤ frames_to_come (o ∷ ops)
-frames-wanted m op.OpenTrack ops = omega arith
 frames-wanted m op.Start ops = omega (arith, frames-only (not (is_active m)) (want.Send command.Start ∷ want.Settled ∷ []) refl)
 frames-wanted m op.Pause ops = omega (arith, frames-only (is_active m) (want.Send command.Pause ∷ []) refl)
 frames-wanted m op.Stop ops = omega (arith, frames-only (is_stoppable m) (want.Send command.Stop ∷ []) refl)
 frames-wanted m op.Flush ops = omega (arith, frames-only (not (is_active m)) (want.Flush ∷ want.Send command.Flush ∷ []) refl)
 frames-wanted m op.Drain ops = omega (arith, frames-only (is_stopped m) (want.Drained ∷ []) refl)
-frames-wanted m op.Remove ops = omega arith
-frames-wanted m op.Yield ops = omega arith
-frames-wanted m (op.Gain left right) ops = omega arith
-frames-wanted m (op.Write count) ops = omega arith
-frames-wanted m (op.Poke in_command word value) ops = omega arith
+frames-wanted m _ ops = omega arith
 
 flushes-wanted : (m : Mode) (o : Op) (ops : List Op) → flushes_due (wants_of m o) + flushes_to_come ops ≤ flushes_to_come (o ∷ ops)
-flushes-wanted m op.OpenTrack ops = omega arith
 flushes-wanted m op.Start ops = omega (arith, flushes-only (not (is_active m)) (want.Send command.Start ∷ want.Settled ∷ []))
 flushes-wanted m op.Pause ops = omega (arith, flushes-only (is_active m) (want.Send command.Pause ∷ []))
 flushes-wanted m op.Stop ops = omega (arith, flushes-only (is_stoppable m) (want.Send command.Stop ∷ []))
 flushes-wanted m op.Flush ops = omega (arith, flushes-only (not (is_active m)) (want.Flush ∷ want.Send command.Flush ∷ []))
 flushes-wanted m op.Drain ops = omega (arith, flushes-only (is_stopped m) (want.Drained ∷ []))
-flushes-wanted m op.Remove ops = omega arith
-flushes-wanted m op.Yield ops = omega arith
-flushes-wanted m (op.Gain left right) ops = omega arith
-flushes-wanted m (op.Write count) ops = omega arith
-flushes-wanted m (op.Poke in_command word value) ops = omega arith
+flushes-wanted m _ ops = omega arith
 
 fits-poke : (s k : ℕ) (in_command : Bool) (word value : ℕ) → IsFittingOp s k (op.Poke in_command word value) → IsFitting s k (want.Poke in_command word value)
 fits-poke s k true word value h = h

@@ -1,39 +1,12 @@
 -- The normal mixer's turn in a round of all parties is told behind the early entries, if of the proxies that aren't home it heard what the run foresees; and so are the late entries behind it.
 use Rattle.std.proofs.Common.{◌≡◌, ⊎_elim, ℕ, ◌*◌, ◌<◌, ◌≤◌, Bool, true, false, if◌then◌else◌, map, List, [], ◌∷◌, ◌++◌, length, Option, Some, None, refl, sym, ap, subst, ◌∙◌, arith}
-use Rattle.std.specs.Bool.{MatchBool}
-use Rattle.std.specs.Prelude.{MatchOption}
-use Rattle.std.proofs.lemmas.List.{length-map}
+use Rattle.af_play_law.proofs.Common.{ClientEvent, Deeds, EntrySeen, FindsBlocks, Frame, GoOn, HasHistory, HasPipeHistory, IsLegal, Leads, LegalNormalTurn, LegalTurnBy, Links, Made, Marks, MatchBool, MatchOption, MixerState, NormalKept, NormalState, Outside, QueueKnown, RoundSeen, Run, SawOwnBy, Session, SessionState, Setup, ShowsFront, Tells, Turn, TurnFound, TurnMade, TurnPlayed, TurnShown, after_turn, answer_of, before_turn, cycle_frames, early_of, found_in, kept_of, late_of, length-map, packed_word, pipe_size, setup_of, turn_of, turned, with_calls, with_cycles, with_turn}
 use Rattle.std.proofs.Math.Nat.{mul-le-mul_right}
-use Rattle.af_base.specs.declared.event.ClientEvent.{ClientEvent}
 use Rattle.af_base.specs.declared.event.ClientEvent.TheVariants as client
-use Rattle.af_base.specs.declared.frame.Frame.{Frame}
-use Rattle.af_base.specs.Sample.{packed_word}
-use Rattle.af_base.specs.Turn.{Turn, turn_of}
 use Rattle.af_cblk.specs.declared.view.ClientPart.{ClientPart}
-use Rattle.af_cblk.specs.Sides.{Made}
-use Rattle.af_fast.specs.Mixer.{MixerState}
-use Rattle.af_life.specs.Kept.{NormalKept, Outside, Setup, pipe_size}
 use Rattle.af_life.specs.Plays.{put_by}
-use Rattle.af_link.specs.declared.links.Links.{Links}
-use Rattle.af_model.specs.Journals.{EntrySeen, RoundSeen}
-use Rattle.af_model.specs.PipeHistory.{HasPipeHistory}
-use Rattle.af_model.specs.StateQueue.{HasHistory}
-use Rattle.af_normal.specs.LegalTurned.{IsLegal}
-use Rattle.af_normal.specs.State.{NormalState, kept_of, setup_of as mixer_setup}
-use Rattle.af_normal.specs.TurnMade.{TurnMade, answer_of}
-use Rattle.af_runs.specs.Blocks.{Marks}
-use Rattle.af_runs.specs.Found.{LegalTurnBy, TurnFound}
-use Rattle.af_runs.specs.Rounds.{LegalNormalTurn, after_turn, before_turn, early_of, found_in, late_of, turned}
-use Rattle.af_runs.specs.Runs.{Run, with_calls, with_cycles, with_turn}
-use Rattle.af_runs.specs.Sessions.{Session, cycle_frames, setup_of}
-use Rattle.af_rendering.specs.Leads.{Leads, Tells as TellsPushes}
-use Rattle.af_session.specs.Together.{SessionState}
-use Rattle.af_side_by_side.specs.SideBySide.{TurnPlayed}
-use Rattle.af_told_law.specs.Deeds.{Deeds, GoOn, SawOwnBy}
-use Rattle.af_told_law.specs.NormalLaws.{ShowsFront, TurnShown}
-use Rattle.af_told_law.specs.Outsides.{FindsBlocks}
-use Rattle.af_told_law.specs.QueueTurned.{QueueKnown}
-use Rattle.af_told_law.specs.Tells.{Tells}
+use Rattle.af_normal.specs.State.{setup_of as mixer_setup}
+use Rattle.af_rendering.specs.Leads.{Tells as TellsPushes}
 use Rattle.af_play_law.specs.RoundPlayed.{HearsForeseen, PlayStands, RoundPlayed}
 use Rattle.af_play_law.proofs.BeforeTurn.{cycles_commands}
 use Rattle.af_play_law.proofs.Cycled.{CyclesAre}

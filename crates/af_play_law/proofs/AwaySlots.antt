@@ -1,34 +1,19 @@
 -- What a turn of the normal mixer does to the slot of a track whose proxy is away: it stays in the draft as it was, or leaves it.
 use Rattle.std.proofs.Common.{◌≡◌, ℕ, zero, suc, ◌<◌, ◌≤◌, ◌==◌, ◌&&◌, ◌||◌, not, if◌then◌else◌, is_some, Bool, true, false, All, List, [], ◌∷◌, length, refl, sym, ap, ◌∙◌, subst, arith}
-use Rattle.std.specs.List.{AllByRecursion, list_any}
-use Rattle.af_base.proofs.Basics.{and_none, no}
+use Rattle.af_play_law.proofs.Common.{AllByRecursion, Carried, CarriesBy, FastState, IsDone, IsLent, Learnt, NormalKept, Setting, Setup, TrackKept, Turn, after_ack, after_edits, and_none, carried_turn, carries, cycle_by, draft_stays, is_exit, is_home, is_lent, list_any, next_command, no, not_over, number_of, pipe_size, plays, slot_number, slot_of, slots, stays_home, track_at, turn_after, turn_len}
 use Rattle.af_base.specs.declared.log.Cycle.TheVariants as cycle
 use Rattle.af_base.specs.declared.state.Command.{Command}
 use Rattle.af_base.specs.declared.state.Command.TheVariants.{Initial, HotIdle, ColdIdle, Idle, Exit, Mix, Write, MixWrite}
-use Rattle.af_base.specs.declared.state.FastState.{FastState}
 use Rattle.af_base.specs.Command.{code_of}
-use Rattle.af_base.specs.Log.{slots}
-use Rattle.af_base.specs.Turn.{Turn}
-use Rattle.af_enough_law.proofs.Basics.{not_over, stays_home}
 use Rattle.af_life.proofs.Basics.{away_holds, lent_away, slot_of_away}
 use Rattle.af_life.specs.declared.kept.Holder.{Holder}
 use Rattle.af_life.specs.declared.kept.Holder.TheVariants.{Home, Lent, Returning}
-use Rattle.af_life.specs.declared.kept.Setting.{Setting}
-use Rattle.af_life.specs.declared.kept.TrackKept.{TrackKept}
 use Rattle.af_life.specs.declared.state.LifeState.TheVariants.{Absent}
-use Rattle.af_life.specs.Edits.{after_ack, is_exit, is_over, next_command}
-use Rattle.af_life.specs.Kept.{Setup, pipe_size, NormalKept, Learnt, track_at, plays, is_home, is_lent, slot_number, number_of}
+use Rattle.af_life.specs.Edits.{is_over}
 use Rattle.af_life.specs.Obeys.{holds}
 use Rattle.af_life.specs.Sound.{IsSound}
 use Rattle.af_life.specs.State.{is_among}
-use Rattle.af_life.specs.Turn.{after_edits, turn_after}
-use Rattle.af_life.proofs.Lives.{turn_len}
-use Rattle.af_model.specs.Cycles.{cycle_by}
-use Rattle.af_model.specs.StateQueue.{slot_of, carries}
-use Rattle.af_judge.specs.StatesKept.{Carried, CarriesBy, IsLent}
-use Rattle.af_judge.proofs.Carried.{carried_turn, draft_stays}
 use Rattle.af_judge.proofs.SoundTurns.{sound_acked}
-use Rattle.af_audit.proofs.DoneTracks.{IsDone}
 use Rattle.af_enough_law.specs.Drafts.{next_holder}
 use Rattle.af_enough_law.specs.TrackTurns.{greeted}
 use Rattle.af_enough_law.proofs.Drafts.{command_turned, holder_turned}

@@ -1,15 +1,6 @@
 -- What the clients' calls and the early entries of a round leave of a run: the command blocks as the calls left them, and what is known of the queue.
 use Rattle.std.proofs.Common.{◌≡◌, ℕ, zero, suc, ◌+◌, List, [], ◌∷◌, refl, ap, ◌∙◌}
-use Rattle.std.specs.Prelude.{slice_index_or}
-use Rattle.std.specs.List.{list_any}
-use Rattle.af_model.specs.Journals.{EntrySeen, RoundSeen}
-use Rattle.af_normal.specs.State.{NormalState}
-use Rattle.af_runs.specs.Runs.{Run, TrackTold, each_from, mixed_track, no_track, state_for, told_at, with_calls, with_cycle, with_cycles, with_mix, with_poll}
-use Rattle.af_runs.specs.Sessions.{Session}
-use Rattle.af_runs.specs.Told.{is_look_at}
-use Rattle.af_told_law.proofs.Basics.{commands_stay, ones_observed}
-use Rattle.af_told_law.specs.QueueTurned.{QueueKnown}
-use Rattle.af_told_law.proofs.KnownSteps.{Quiet, known_same, quiet_then}
+use Rattle.af_play_law.proofs.Common.{EntrySeen, NormalState, QueueKnown, Quiet, RoundSeen, Run, Session, TrackTold, commands_stay, each_from, is_look_at, known_same, list_any, mixed_track, no_track, ones_observed, quiet_then, slice_index_or, state_for, told_at, with_calls, with_cycle, with_cycles, with_mix, with_poll}
 
 -- ## The command blocks
 

@@ -1,20 +1,6 @@
 -- After the turns of all clients the run with their calls tells the session: one client's turn after the other.
 use Rattle.std.proofs.Common.{◌≡◌, ℕ, suc, ◌+◌, ◌<◌, ◌==◌, Bool, if◌then◌else◌, List, [], ◌∷◌, ◌++◌, length, length-append, append_assoc, Some, slice_get, slice_set, refl, sym, ap, subst, ◌∙◌, arith}
-use Rattle.std.specs.List.{AllZip}
-use Rattle.std.proofs.lemmas.Bool.{eq-eqb, ne_eqb}
-use Rattle.af_base.proofs.Basics.{at_seam}
-use Rattle.af_base.specs.declared.event.ClientCall.{ClientCall}
-use Rattle.af_model.specs.Journals.{RoundSeen}
-use Rattle.af_party.specs.Parties.{PartyState, track_of}
-use Rattle.af_runs.specs.ClientTurns.{LegalClientTurn, after_calls}
-use Rattle.af_runs.specs.Runs.{Run, TrackTold, called, calls_in, each_from, with_calls}
-use Rattle.af_runs.specs.Sessions.{Session}
-use Rattle.af_runs.specs.TurnRuns.{calls_alone}
-use Rattle.af_session.specs.Rounds.{ClientTurned, file_at, ops_at}
-use Rattle.af_session.specs.Together.{SessionState}
-use Rattle.af_side_by_side.specs.SideBySide.{ClientPlayed}
-use Rattle.af_told_law.specs.Deeds.{Deeds}
-use Rattle.af_told_law.specs.Tells.{Tells, given_of}
+use Rattle.af_play_law.proofs.Common.{AllZip, ClientCall, ClientPlayed, ClientTurned, Deeds, LegalClientTurn, PartyState, RoundSeen, Run, Session, SessionState, Tells, TrackTold, after_calls, at_seam, called, calls_alone, calls_in, each_from, eq-eqb, file_at, given_of, ne_eqb, ops_at, track_of, with_calls}
 use Rattle.af_told_law.proofs.ClientTold.{client_told}
 
 -- ## Lists

@@ -1,17 +1,6 @@
 -- What holds of the slots that the draft and the last state carry is kept by a round, whatever the mixer found.
 use Rattle.std.proofs.Common.{◌≡◌, ◌≤◌, All, length, Option, Some, None, sym, ap, subst, arith}
-use Rattle.af_base.specs.Turn.{Turn}
-use Rattle.af_life.specs.declared.kept.Setting.{Setting}
-use Rattle.af_life.specs.Heard.{learnt}
-use Rattle.af_life.specs.Kept.{NormalKept}
-use Rattle.af_model.specs.Journals.{RoundSeen}
-use Rattle.af_runs.specs.Found.{TurnFound, outside_of}
-use Rattle.af_runs.specs.Rounds.{after_round, before_turn, found_in, turned}
-use Rattle.af_runs.specs.Runs.{Run, with_turn}
-use Rattle.af_runs.specs.Sessions.{Session, setup_of}
-use Rattle.af_judge.specs.StatesKept.{Carried}
-use Rattle.af_judge.proofs.Carried.{carried_turn}
-use Rattle.af_judge.proofs.StatesRuns.{after_same, before_same}
+use Rattle.af_play_law.proofs.Common.{Carried, NormalKept, RoundSeen, Run, Session, Setting, Turn, TurnFound, after_round, after_same, before_same, before_turn, carried_turn, found_in, learnt, outside_of, setup_of, turned, with_turn}
 
 module _ (s : Session) (scales : All (λ (t : Setting). t.scale ≤ 4096) (setup_of s).settings) where
   with_turn_carried : (f : TurnFound) (e : Turn) (run : Run) → length run.normal.tracks ≤ length (setup_of s).settings → Carried run.normal → Carried (with_turn s f e run).normal

@@ -1,20 +1,8 @@
 -- The order of the queue cut behind a push: what the observer did before it could see the pushed state stands before the push, or it is what it learnt, which may as well stand at the end.
 use Rattle.std.proofs.Common.{◌≡◌, ◌≢◌, ⊎_elim, inl, inr, ℕ, ◌+◌, ◌<◌, ◌≤◌, List, [], ◌∷◌, ◌++◌, length, length-append, append-nil, append_assoc, fold, get_or, refl, sym, ap, subst, ◌∙◌, arith}
-use Rattle.std.proofs.lemmas.Bool.{cases_eq}
-use Rattle.std.proofs.lemmas.List.Sums.{fold-append}
-use Rattle.af_base.specs.declared.state.FastState.{FastState}
-use Rattle.af_model.specs.declared.states.MutatorEvent.TheVariants.{Push, SawAck}
+use Rattle.af_play_law.proofs.Common.{Ack, Event, FastState, HasHistory, IsSane, Legal, MutatorPoint, ObserverEvent, ObserverPoint, Push, SawAck, SawNext, ServerState, add_one, after, cases_eq, fold-append, history_sane, legal, legal_at, mutated, mutator_next, mutator_start, next, observed, observer_next, observer_start, one, ones, ones_swap, point_of, split_at, start, swap, swap_order, two, twos, twos_swap}
 use Rattle.af_model.specs.declared.states.MutatorEvent.TheVariants as mutator
-use Rattle.af_model.specs.declared.states.ObserverEvent.{ObserverEvent}
-use Rattle.af_model.specs.declared.states.ObserverEvent.TheVariants.{Ack, SawNext}
 use Rattle.af_model.specs.declared.states.ObserverEvent.TheVariants as observer
-use Rattle.af_model.specs.Order.{Event, Legal, after, one, ones, two, twos}
-use Rattle.af_model.specs.StateQueue.{HasHistory, MutatorPoint, ObserverPoint, legal, mutated, mutator_next, mutator_start, next, observed, observer_next, observer_start, start}
-use Rattle.af_model.proofs.Orders.{add_one}
-use Rattle.af_model.proofs.Splits.{legal_at, split_at}
-use Rattle.af_enough_law.proofs.Standing.{ones_swap, swap, swap_order, twos_swap}
-use Rattle.af_server.specs.Order.{ServerState}
-use Rattle.af_told_law.proofs.QueueLooks.{IsSane, history_sane, point_of}
 use Rattle.af_told_law.proofs.SharedMeets.{twos_append}
 use Rattle.af_play_law.specs.Polls.{ComesBehind, Items, Polled, PollsStandBeforePush, Pushed}
 use Rattle.af_play_law.proofs.PollsAt.{Events, Point, counts, looks_at, point_is}

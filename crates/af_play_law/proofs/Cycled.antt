@@ -1,18 +1,6 @@
 -- The cycles of a turn of the fast mixer are the entries that they add, one after the other, each with its frames; a last one may find the log full and add none.
 use Rattle.std.proofs.Common.{◌≡◌, ℕ, zero, suc, ◌==◌, ◌||◌, Bool, true, false, map, take, drop, List, [], ◌∷◌, ◌++◌, length, length-append, append-nil, append_assoc, refl, sym, ap, ◌∙◌, arith}
-use Rattle.std.proofs.Math.Seq.{drop-append_seam}
-use Rattle.std.proofs.lemmas.Bool.{eqb-true}
-use Rattle.af_base.specs.declared.frame.Frame.{Frame}
-use Rattle.af_base.specs.declared.log.Cycle.{Cycle}
-use Rattle.af_base.specs.declared.log.CycleEntry.{CycleEntry}
-use Rattle.af_base.specs.Log.{slots}
-use Rattle.af_fast.specs.Mixer.{MixerState, is_over}
-use Rattle.af_fast.specs.Mixing.{AddsCycle}
-use Rattle.af_link.specs.declared.links.Links.{Links}
-use Rattle.af_model.specs.Cycles.{has_exit, is_mixed, taken_before}
-use Rattle.af_model.specs.Journals.{EntrySeen, entries_seen, taken_by}
-use Rattle.af_side_by_side.specs.Alone.{CyclesOn, CyclesOnce}
-use Rattle.af_told_law.specs.MixLaws.{entry_told}
+use Rattle.af_play_law.proofs.Common.{AddsCycle, Cycle, CycleEntry, CyclesOn, CyclesOnce, EntrySeen, Frame, Links, MixerState, drop-append_seam, entries_seen, entry_told, eqb-true, has_exit, is_mixed, is_over, slots, taken_before, taken_by}
 use Rattle.af_play_law.proofs.CyclesGrow.{EndsGrow, grow_both, grow_none, once_grows}
 use Rattle.af_play_law.proofs.RoundForm.{still_runs}
 

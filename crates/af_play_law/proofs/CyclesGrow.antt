@@ -1,27 +1,8 @@
 -- The lists of the fast mixer's ends grow from cycle to cycle.
 use Rattle.std.proofs.Common.{◌≡◌, ℕ, zero, suc, ◌==◌, ◌||◌, Bool, true, false, true≢false, List, [], ◌∷◌, ◌++◌, length, append-nil, append_assoc, Option, Some, None, refl, sym, ap, ◌∙◌}
-use Rattle.std.specs.Bool.{MatchBool}
-use Rattle.std.proofs.lemmas.Bool.{eqb-true}
-use Rattle.af_base.specs.declared.event.ServerEvent.{ServerEvent}
+use Rattle.af_play_law.proofs.Common.{AddsCycle, Adopts, Cycle, CycleEntry, CyclesOn, CyclesOnce, FastState, FastTurned, Frame, Links, MatchBool, MixerState, MixesOnce, Observes, OutSide, Report, ServerEvent, ServerState, Store, StreamNames, WriterEvent, adopted_states, cold_done, cycle_of, entry_slot, eqb-true, is_mixed, is_over, most_cycles, state_of, takes_shown}
 use Rattle.af_base.specs.declared.event.ServerEvent.TheVariants as server
-use Rattle.af_base.specs.declared.frame.Frame.{Frame}
-use Rattle.af_base.specs.declared.log.Cycle.{Cycle}
-use Rattle.af_base.specs.declared.log.CycleEntry.{CycleEntry}
-use Rattle.af_base.specs.declared.report.Report.{Report}
-use Rattle.af_base.specs.declared.state.FastState.{FastState}
-use Rattle.af_base.specs.Log.{entry_slot}
-use Rattle.af_fast.specs.Mixer.{MixerState, adopted_states, is_over}
-use Rattle.af_fast.specs.Mixing.{AddsCycle, Adopts, MixesOnce}
-use Rattle.af_link.specs.PipeEnds.{OutSide}
-use Rattle.af_link.specs.declared.links.Links.{Links}
-use Rattle.af_link.specs.declared.names.StreamNames.{StreamNames}
-use Rattle.af_model.specs.declared.newest.WriterEvent.{WriterEvent}
-use Rattle.af_model.specs.declared.newest.WriterEvent.TheVariants.{Store}
 use Rattle.af_model.specs.declared.states.ObserverEvent.TheVariants as observer
-use Rattle.af_model.specs.Cycles.{cold_done, cycle_of, is_mixed, state_of, takes_shown}
-use Rattle.af_server.specs.Order.{ServerState}
-use Rattle.af_stateq.specs.Observes.{Observes}
-use Rattle.af_side_by_side.specs.Alone.{CyclesOn, CyclesOnce, FastTurned, most_cycles}
 use Rattle.af_play_law.specs.Polls.{Polled}
 use Rattle.af_play_law.proofs.RoundPolls.{PollAdds, poll_adds}
 

@@ -1,32 +1,8 @@
 -- The cycles of a turn whose polls all find the last state pushed are told, one after the other.
 use Rattle.std.proofs.Common.{◌≡◌, ℕ, ◌<◌, ◌≤◌, List, [], ◌∷◌, length, append-nil, Some, sym, ap, subst, ◌∙◌, arith}
-use Rattle.std.specs.Prelude.{slice_get}
-use Rattle.std.proofs.lemmas.Option.{same_Some}
-use Rattle.af_base.proofs.Basics.{some_at}
-use Rattle.af_base.specs.declared.event.ServerEvent.{ServerEvent}
+use Rattle.af_play_law.proofs.Common.{AreTogether, Deeds, EntrySeen, GoOn, HasHistory, LegalEntries, Links, Made, Marks, MixerState, NormalState, Observes, PartyState, Polls, Run, SawOwnBy, SawOwnOf, ServerEvent, ServerState, Session, SessionState, Shape, StartsWith, StreamNames, Tells, Track, client_made, same_Some, slice_get, some_at, told_at, track_count, with_cycle, with_cycles, with_poll}
 use Rattle.af_cblk.proofs.Basics.{goes_on}
-use Rattle.af_cblk.specs.Rule.{StartsWith}
-use Rattle.af_cblk.specs.Sides.{Made, client_made}
-use Rattle.af_fast.specs.Mixer.{MixerState}
-use Rattle.af_link.specs.declared.links.Links.{Links}
-use Rattle.af_link.specs.declared.names.StreamNames.{StreamNames}
-use Rattle.af_model.specs.declared.shape.Shape.{Shape}
-use Rattle.af_model.specs.Journals.{EntrySeen}
 use Rattle.af_model.specs.ServerCalls.{server_begins}
-use Rattle.af_model.specs.StateQueue.{HasHistory}
-use Rattle.af_normal.specs.State.{NormalState}
-use Rattle.af_party.specs.Parties.{PartyState}
-use Rattle.af_runs.specs.Blocks.{Marks}
-use Rattle.af_runs.specs.ClientTurns.{Track}
-use Rattle.af_runs.specs.Rounds.{LegalEntries}
-use Rattle.af_runs.specs.Runs.{Run, told_at, with_cycle, with_cycles, with_poll}
-use Rattle.af_runs.specs.Sessions.{Session, track_count}
-use Rattle.af_server.specs.Order.{ServerState}
-use Rattle.af_stateq.specs.Ends.{Polls}
-use Rattle.af_stateq.specs.Observes.{Observes}
-use Rattle.af_session.specs.Together.{AreTogether, SessionState}
-use Rattle.af_told_law.specs.Deeds.{Deeds, GoOn, SawOwnBy, SawOwnOf}
-use Rattle.af_told_law.specs.Tells.{Tells}
 use Rattle.af_told_law.proofs.MixLooks.{own_split}
 use Rattle.af_play_law.proofs.Cycled.{CyclesAre, OneAdded}
 use Rattle.af_play_law.proofs.OneCycle.{CycleShown, CycleTold, MayCycle, cycle_told, same_polled}

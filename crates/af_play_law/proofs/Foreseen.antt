@@ -1,49 +1,9 @@
 -- Of the proxies that aren't home the report which the normal mixer loads in a round of all parties says what the run foresees by the draft before the turn.
 use Rattle.std.proofs.Common.{◌≡◌, ◌⊎◌, ⊎_elim, ℕ, suc, ◌+◌, ◌<◌, ◌≤◌, ◌||◌, ◌&&◌, Bool, true, false, true≢false, if◌then◌else◌, All, List, [], ◌∷◌, ◌++◌, length, length-append, drop, Some, refl, sym, ap, subst, ◌∙◌, arith}
-use Rattle.std.specs.Bool.{MatchBool}
-use Rattle.std.specs.List.{AllByRecursion, prefix_len}
-use Rattle.std.specs.Prelude.{max}
+use Rattle.af_play_law.proofs.Common.{AllByRecursion, Carried, CycleEntry, CyclesOn, Deeds, EntrySeen, FirstLate, HasHistory, HeardAlike, IsDone, IsLegal, LegalTurnBy, Links, Load, Marks, MatchBool, MixerState, NormalKept, NormalState, Outside, ReaderEvent, Report, RoundSeen, Run, SawOwnBy, Session, SessionState, Setting, Setup, TrackKept, Turn, TurnFound, TurnMade, TurnPlayed, TurnShown, WriterEvent, acked_len, after_ack, answer_of, before_same, before_turn, beyond_is, calls-entries, early_count, early_of, found_in, is_early, is_exit, is_home, kept_of, late_of, load_of, max, most_cycles, prefix_len, report_at, report_of, reports_stored, setup_of, slot_number, stores, take-append-drop, track_at, turn_of, with_calls, with_cycles, with_turn}
 use Rattle.std.proofs.lemmas.Grind.{fold-append}
-use Rattle.std.proofs.lemmas.List.{take-append-drop}
-use Rattle.af_base.proofs.Basics.{beyond_is}
-use Rattle.af_base.specs.declared.log.CycleEntry.{CycleEntry}
-use Rattle.af_base.specs.declared.report.Report.{Report}
-use Rattle.af_base.specs.Turn.{Turn, turn_of}
-use Rattle.af_fast.specs.Mixer.{MixerState}
-use Rattle.af_latest.specs.Laws.{stores}
-use Rattle.af_life.specs.declared.kept.Setting.{Setting}
-use Rattle.af_life.specs.declared.kept.TrackKept.{TrackKept}
-use Rattle.af_life.specs.Edits.{after_ack, is_exit}
-use Rattle.af_life.specs.Kept.{NormalKept, Outside, Setup, is_home, slot_number, track_at}
-use Rattle.af_life.proofs.Lives.{acked_len}
-use Rattle.af_link.specs.declared.links.Links.{Links}
-use Rattle.af_model.specs.declared.newest.ReaderEvent.{ReaderEvent}
-use Rattle.af_model.specs.declared.newest.ReaderEvent.TheVariants.{Load}
-use Rattle.af_model.specs.declared.newest.WriterEvent.{WriterEvent}
-use Rattle.af_model.specs.Journals.{EntrySeen, RoundSeen}
-use Rattle.af_model.specs.Reports.{report_at}
-use Rattle.af_model.specs.StateQueue.{HasHistory}
-use Rattle.af_normal.specs.LegalTurned.{IsLegal}
-use Rattle.af_normal.specs.State.{NormalState, kept_of, setup_of as mixer_setup}
-use Rattle.af_normal.specs.TurnMade.{TurnMade, answer_of}
-use Rattle.af_runs.proofs.Basics.{calls-entries}
-use Rattle.af_runs.specs.Blocks.{Marks}
-use Rattle.af_runs.specs.Found.{LegalTurnBy, TurnFound}
-use Rattle.af_runs.specs.Rounds.{before_turn, early_count, early_of, found_in, is_early, late_of}
-use Rattle.af_runs.specs.Runs.{Run, load_of, report_of, with_calls, with_cycles, with_turn}
-use Rattle.af_runs.specs.Sessions.{Session, setup_of}
-use Rattle.af_judge.specs.StatesKept.{Carried}
-use Rattle.af_judge.proofs.StatesRuns.{before_same}
-use Rattle.af_audit.proofs.DoneTracks.{IsDone}
-use Rattle.af_audit.proofs.LateRuns.{FirstLate}
-use Rattle.af_session.specs.Together.{SessionState}
-use Rattle.af_side_by_side.specs.Alone.{CyclesOn, most_cycles}
-use Rattle.af_side_by_side.specs.SideBySide.{TurnPlayed}
+use Rattle.af_normal.specs.State.{setup_of as mixer_setup}
 use Rattle.af_rendering.specs.Leads.{Tells as TellsPushes}
-use Rattle.af_told_law.specs.Deeds.{Deeds, SawOwnBy}
-use Rattle.af_told_law.specs.NormalLaws.{TurnShown}
-use Rattle.af_told_law.specs.Outsides.{HeardAlike}
-use Rattle.af_told_law.specs.Tells.{reports_stored}
 use Rattle.af_play_law.specs.Loads.{LoadsOneOf, MetLast}
 use Rattle.af_play_law.specs.RoundPlayed.{HearsForeseen, PlayStands, ReportsCount, RoundPlayed}
 use Rattle.af_play_law.proofs.AfterTurn.{finds, front_shown}

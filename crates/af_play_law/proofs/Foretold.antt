@@ -1,38 +1,15 @@
 -- What the entries of a state that a turn pushes tell of a track whose proxy is away: the same by the draft before the turn as by that state itself.
 use Rattle.std.proofs.Common.{◌≡◌, ◌⊎◌, inl, inr, ℕ, zero, suc, ◌+◌, ◌-◌, ◌<◌, ◌≤◌, ◌==◌, ◌&&◌, ◌||◌, if◌then◌else◌, fold, is_some, map, Bool, true, false, Option, None, Some, List, [], ◌∷◌, ◌++◌, length, length-append, refl, sym, ap, ◌∙◌, arith}
-use Rattle.std.specs.Prelude.{slice_index_or, unwrap_or}
-use Rattle.std.proofs.lemmas.Bool.{cases_lt}
-use Rattle.std.proofs.lemmas.List.{map-append}
+use Rattle.af_play_law.proofs.Common.{CycleEntry, EntrySeen, FastState, FirstLate, LegalEntries, LegalEntry, Marks, NormalKept, Report, Run, Seen, ServerKnown, Session, TrackTold, carried_some, carries, cases_lt, cold_done, counted_look, cycle_entries, cycle_frames, cycle_of, entry_slot, is_mixed, known_of, last_report, last_used, last_used-push, listed, map-append, mixed_track, next_report, next_slot, no, no_report, no_slot, played, report_at, report_of, shown_carried, shown_if, slice_index_or, slot_for, slot_of, slots, state_at, state_for, state_of, stream_of, told_at, told_each, unwrap_or, with_cycle, with_cycles, with_looks, with_mix, with_poll}
 use Rattle.std.proofs.lemmas.List.FromFn.{get_or-map-range_with_len}
-use Rattle.af_base.proofs.Basics.{no}
-use Rattle.af_base.specs.declared.log.CycleEntry.{CycleEntry}
-use Rattle.af_base.specs.declared.report.Report.{Report}
 use Rattle.af_base.specs.declared.report.SlotReport.{SlotReport}
-use Rattle.af_base.specs.declared.seen.Seen.{Seen}
-use Rattle.af_base.specs.declared.seen.Seen.TheVariants as seen
-use Rattle.af_base.specs.declared.state.FastState.{FastState}
 use Rattle.af_base.specs.declared.state.FastTrack.{FastTrack}
-use Rattle.af_base.specs.Log.{entry_slot, slots}
-use Rattle.af_judge.proofs.Basics.{told_each}
-use Rattle.af_life.specs.Kept.{NormalKept}
 use Rattle.af_model.proofs.Basics.{same_before, state_next}
-use Rattle.af_model.specs.Cycles.{cold_done, cycle_of, is_mixed, last_used, state_of}
 use Rattle.af_model.specs.Draft.{initial}
-use Rattle.af_model.specs.Journals.{EntrySeen}
-use Rattle.af_model.specs.Reports.{ServerKnown, counted_look, no_report, no_slot, report_at}
-use Rattle.af_model.specs.StateQueue.{carries, slot_of}
-use Rattle.af_model.proofs.UsedStates.{last_used-push}
-use Rattle.af_runs.proofs.Basics.{cycle_entries, shown_if}
-use Rattle.af_runs.specs.Blocks.{Marks, listed}
 use Rattle.af_runs.specs.Fronts.{is_shown}
-use Rattle.af_runs.specs.Rounds.{LegalEntries, LegalEntry}
-use Rattle.af_runs.specs.Runs.{Run, TrackTold, known_of, last_report, mixed_track, next_report, next_slot, played, report_of, slot_for, state_for, stream_of, told_at, with_cycle, with_cycles, with_looks, with_mix, with_poll}
-use Rattle.af_runs.specs.Sessions.{Session, cycle_frames}
-use Rattle.af_runs.specs.Told.{state_at}
 use Rattle.af_runs.proofs.StatesFor.{polled_known, polled_waits, state_beyond, state_pushed, state_waits}
 use Rattle.af_judge.proofs.EntryTold.{cycle_beside}
 use Rattle.af_audit.proofs.Late.{PlaysAt, listed_played, played_listed, plays_at, plays_none}
-use Rattle.af_audit.proofs.LateRuns.{FirstLate, carried_some, shown_carried}
 use Rattle.af_play_law.specs.AwaySlots.{SlotStaysAway}
 
 -- ## Lists of reports
@@ -92,9 +69,6 @@ slot_by asked pushed carried sight generation known since r =
     if pushed || (carried && is_shown sight) then (if carried then counted_look asked generation sight known (if since then r else no_slot) else r) else r
 
 module _ (s : Session) (e : EntrySeen) (slot : ℕ) (low : slot < slots) where
-  abbrev k : ℕ
-  k = e.entry.state
-
   abbrev sight : Seen
   sight = (entry_slot e.entry slot).seen
 

@@ -1,32 +1,6 @@
 -- The reports of a round by the draft before the turn tell what they tell by the state that the turn pushes, of each track whose proxy isn't home.
 use Rattle.std.proofs.Common.{◌≡◌, ℕ, ◌<◌, ◌≤◌, if◌then◌else◌, map, Bool, true, false, All, List, [], ◌∷◌, ◌++◌, length, refl, sym, ap, ◌∙◌, append-nil, arith}
-use Rattle.std.specs.List.{AllByRecursion}
-use Rattle.af_base.specs.declared.event.ServerEvent.{ServerEvent}
-use Rattle.af_base.specs.declared.report.Report.{Report}
-use Rattle.af_base.specs.declared.state.FastState.{FastState}
-use Rattle.af_base.specs.Log.{slots}
-use Rattle.af_base.specs.Turn.{Turn}
-use Rattle.af_judge.proofs.Basics.{each_at, each_long}
-use Rattle.af_life.specs.declared.kept.Setting.{Setting}
-use Rattle.af_life.specs.declared.kept.TrackKept.{TrackKept}
-use Rattle.af_life.specs.Edits.{after_ack, is_exit}
-use Rattle.af_life.specs.Heard.{learnt}
-use Rattle.af_life.specs.Kept.{Learnt, Outside, Setup, is_home, slot_number, track_at}
-use Rattle.af_life.specs.Turn.{after_edits}
-use Rattle.af_life.specs.TurnEvents.{hand_list, stream_list, tracks_at}
-use Rattle.af_life.proofs.Lives.{not_yet}
-use Rattle.af_model.specs.Cycles.{last_used}
-use Rattle.af_model.specs.Journals.{EntrySeen}
-use Rattle.af_model.specs.Reports.{no_slot, report_at}
-use Rattle.af_runs.specs.Blocks.{Marks, hand_does, listed, server_list}
-use Rattle.af_runs.specs.Found.{LegalTurnBy, TurnFound, outside_of}
-use Rattle.af_runs.specs.Rounds.{LegalEntries}
-use Rattle.af_runs.specs.Runs.{Run, TrackTold, last_report, no_track, report_of, told_at, turned_track, with_cycles, with_poll, with_turn}
-use Rattle.af_runs.specs.Sessions.{Session, setup_of}
-use Rattle.af_runs.specs.Told.{is_pushed}
-use Rattle.af_judge.specs.StatesKept.{Carried}
-use Rattle.af_audit.proofs.DoneTracks.{IsDone}
-use Rattle.af_audit.proofs.LateRuns.{FirstLate}
+use Rattle.af_play_law.proofs.Common.{AllByRecursion, Carried, EntrySeen, FastState, FirstLate, IsDone, Learnt, LegalEntries, LegalTurnBy, Marks, Outside, Report, Run, ServerEvent, Session, Setting, Setup, TrackKept, TrackTold, Turn, TurnFound, after_ack, after_edits, each_at, each_long, hand_does, hand_list, is_exit, is_home, is_pushed, last_report, last_used, learnt, listed, no_slot, no_track, not_yet, outside_of, report_at, report_of, server_list, setup_of, slot_number, slots, stream_list, told_at, track_at, tracks_at, turned_track, with_cycles, with_poll, with_turn}
 use Rattle.af_audit.proofs.Quiet.{stream_quiet}
 use Rattle.af_audit.proofs.TrackStands.{hand-server, server-server}
 use Rattle.af_play_law.specs.AwaySlots.{SlotStaysAway}

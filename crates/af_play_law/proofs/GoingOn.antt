@@ -1,18 +1,8 @@
 -- If some party of a session goes on, some party of the run that tells it does; so if all of the run have ended, all of the session have.
 use Rattle.std.proofs.Common.{◌≡◌, ℕ, zero, suc, ◌+◌, ◌<◌, ◌==◌, ◌&&◌, nat_lt, Bool, true, false, true≢false, if◌then◌else◌, Some, slice_get, sym, ap, ◌∙◌, arith}
-use Rattle.std.specs.List.{list_all, range_with_len}
-use Rattle.std.proofs.lemmas.Bool.{and_parts, false_from_ne_true}
+use Rattle.af_play_law.proofs.Common.{Deeds, NormalKept, PartyState, Run, Session, SessionState, Tells, Track, all_ended, and_parts, false_from_ne_true, fast_ended, fast_party, has_ended, list_all, range_with_len, slice_get_within, told_at, track_count}
 use Rattle.std.proofs.lemmas.Bool.Decides.{nat_tests}
-use Rattle.std.proofs.lemmas.Option.{slice_get_within}
-use Rattle.af_life.specs.Kept.{NormalKept}
-use Rattle.af_party.specs.Parties.{PartyState}
 use Rattle.af_play_law.proofs.Basics.{clients_all}
-use Rattle.af_runs.specs.ClientTurns.{Track}
-use Rattle.af_runs.specs.Runs.{Run, all_ended, fast_ended, fast_party, has_ended, told_at}
-use Rattle.af_runs.specs.Sessions.{Session, track_count}
-use Rattle.af_session.specs.Together.{SessionState}
-use Rattle.af_told_law.specs.Deeds.{Deeds}
-use Rattle.af_told_law.specs.Tells.{Tells}
 use Rattle.af_play_law.specs.PlayRuns.{all_over}
 
 -- each number of a range passes, if all do

@@ -1,17 +1,8 @@
 -- A play of a script with enough cycles has ended once its log is full: its rounds are legal by marks that call the command blocks lawful, and of the streams nothing is asked.
 use Rattle.std.proofs.Common.{◌≡◌, ℕ, ◌<◌, true, false, true≢false, List, [], ◌∷◌, length, sym, ap, ◌∙◌}
-use Rattle.af_enough_law.proofs.FewerMarks.{legal_for_less}
+use Rattle.af_play_law.proofs.Common.{AreFewer, LegalRounds, Marks, RoundSeen, Run, Session, Tells, after_round, legal_for_less, marks_of, new_run, no_deeds, run_from, session_of}
 use Rattle.af_enough_law.proofs.NeverCut.{rounds_end_in_time}
 use Rattle.af_enough_law.proofs.RunMarks.{run_lawful}
-use Rattle.af_model.specs.Journals.{RoundSeen}
-use Rattle.af_runs.specs.Blocks.{Marks}
-use Rattle.af_runs.specs.LegalRuns.{LegalRounds, marks_of, run_from, session_of}
-use Rattle.af_runs.specs.Rounds.{after_round}
-use Rattle.af_runs.specs.Runs.{Run, new_run}
-use Rattle.af_runs.specs.Sessions.{Session}
-use Rattle.af_runs.proofs.RunGrows.{AreFewer}
-use Rattle.af_told_law.specs.Tells.{Tells}
-use Rattle.af_told_law.proofs.NewTold.{no_deeds}
 use Rattle.af_play_law.specs.InTime.{PlaysEndInTime}
 use Rattle.af_play_law.specs.PlayRuns.{RunIsTold, SureRounds, sure_marks}
 use Rattle.af_play_law.proofs.GoingOn.{over}

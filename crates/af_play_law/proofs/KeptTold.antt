@@ -1,29 +1,10 @@
 -- The ends of a play keep the lists of the run that its rounds tell: each proxy that is home at the end met its client in the last round.
 use Rattle.std.proofs.Common.{◌≡◌, ℕ, ◌<◌, true, false, is_some, List, [], ◌∷◌, length, Some, sym, ap, subst, ◌∙◌, arith}
-use Rattle.af_judge.proofs.Basics.{met_many, or_left}
-use Rattle.af_life.specs.declared.kept.TrackKept.{TrackKept}
-use Rattle.af_life.specs.Kept.{NormalKept, is_home, track_at}
-use Rattle.af_link.specs.declared.links.Links.{Links}
-use Rattle.af_model.specs.declared.shape.Shape.{Shape}
-use Rattle.af_model.specs.Journals.{RoundSeen}
-use Rattle.af_normal.specs.Mixing.{stream_at}
-use Rattle.af_normal.specs.State.{NormalState}
-use Rattle.af_runs.specs.Blocks.{Marks, is_tame}
-use Rattle.af_runs.specs.LegalRuns.{marks_of, run_from, session_of}
-use Rattle.af_runs.specs.Rounds.{after_round, all_played}
-use Rattle.af_runs.specs.Runs.{Run, TrackTold, holds, met, new_run, takes_part, told_at, with_ends as run_ends}
-use Rattle.af_runs.specs.Sessions.{Session, track_count}
-use Rattle.af_server.specs.Order.{ServerState}
+use Rattle.af_play_law.proofs.Common.{Deeds, Links, Marks, NormalKept, NormalState, RoundSeen, Run, SawOwnOf, ServerState, Session, SessionState, Shape, Tells, TrackKept, TrackTold, after_round, all_played, ends_keep, holds, is_home, is_tame, marks_of, met, met_at, met_many, new_run, no_deeds, or_left, run_from, session_of, stream_at, takes_part, tame_met, told_at, track_at, track_count, with_ends as run_ends}
 use Rattle.af_session.specs.Ends.{ends_from}
 use Rattle.af_session.specs.Rounds.{with_ends}
-use Rattle.af_session.specs.Together.{SessionState}
-use Rattle.af_session.proofs.FollowingRounds.{ends_keep}
-use Rattle.af_judge.proofs.BlocksMeet.{met_at}
-use Rattle.af_told_law.specs.Deeds.{Deeds, SawOwnOf}
 use Rattle.af_told_law.specs.KeptEnds.{KeepsLists, SawAtHome}
-use Rattle.af_told_law.specs.Tells.{Tells}
 use Rattle.af_told_law.proofs.EndsKept.{ends_keep_lists}
-use Rattle.af_told_law.proofs.NewTold.{no_deeds}
 use Rattle.af_told_law.proofs.TrackMeets.{tracks_are}
 use Rattle.af_play_law.specs.KeptPlays.{PlaysKeepTheirLists}
 use Rattle.af_play_law.specs.PlayRuns.{PlaysOn}
@@ -36,7 +17,6 @@ use Rattle.af_play_law.proofs.RoundLoaded.{told_loaded}
 use Rattle.af_play_law.proofs.RoundMarked.{ends_at}
 use Rattle.af_play_law.proofs.RoundMet.{shapes_behind}
 use Rattle.af_play_law.proofs.StandsAfter.{round_stands}
-use Rattle.af_turn_law.proofs.Basics.{tame_met}
 
 -- a block that wasn't poked up to the end of a round wasn't before its meetings
 module _ (s : Session) (played : Run) (i : ℕ) (low : i < length played.tracks) where

@@ -1,32 +1,6 @@
 -- A cycle of the fast mixer whose poll finds the last state pushed is told: the run with its entry tells the session, and the entry is legal by marks on whose blocks each front seen is a server's own.
 use Rattle.std.proofs.Common.{◌≡◌, ℕ, ◌+◌, ◌<◌, ◌≤◌, true, false, true≢false, [], ◌∷◌, ◌++◌, length, Option, Some, None, refl, sym, ap, subst, ◌∙◌, arith}
-use Rattle.af_base.specs.declared.log.CycleEntry.{CycleEntry}
-use Rattle.af_base.specs.declared.state.FastState.{FastState}
-use Rattle.af_fast.specs.Mixer.{MixerState, adopted_states, is_over}
-use Rattle.af_fast.specs.Mixing.{Adopts}
-use Rattle.af_link.specs.declared.links.Links.{Links}
-use Rattle.af_link.specs.declared.names.StreamNames.{StreamNames}
-use Rattle.af_link.specs.PipeEnds.{SeesTaken}
-use Rattle.af_model.specs.Cycles.{cold_done, cycle_of, is_mixed, state_of}
-use Rattle.af_model.specs.declared.plain_calls.Poll.{Poll}
-use Rattle.af_model.specs.declared.plain_calls.Poll.TheVariants.{New, Nothing, Same}
-use Rattle.af_model.specs.Journals.{EntrySeen}
-use Rattle.af_model.specs.StateQueue.{HasHistory}
-use Rattle.af_normal.specs.State.{NormalState}
-use Rattle.af_runs.specs.Blocks.{Marks}
-use Rattle.af_runs.specs.Rounds.{LegalEntry}
-use Rattle.af_runs.specs.Runs.{Run, with_cycle, with_mix, with_poll}
-use Rattle.af_runs.specs.Sessions.{Session}
-use Rattle.af_server.specs.Order.{ServerState}
-use Rattle.af_stateq.specs.Answers.{TakesIt, WasPolled, sees_same}
-use Rattle.af_stateq.specs.Ends.{Polls, acknowledged, took}
-use Rattle.af_stateq.specs.Observes.{Observes}
-use Rattle.af_rendering.specs.Leads.{LeadAway}
-use Rattle.af_session.specs.Together.{AreTogether, SessionState}
-use Rattle.af_told_law.proofs.Basics.{same_last}
-use Rattle.af_told_law.specs.Deeds.{Deeds, GoOn, SawOwnBy}
-use Rattle.af_told_law.specs.MixLaws.{TookCounted, entry_told}
-use Rattle.af_told_law.specs.Tells.{FindsLast, Leaves, Tells}
+use Rattle.af_play_law.proofs.Common.{Adopts, AreTogether, CycleEntry, Deeds, EntrySeen, FastState, FindsLast, GoOn, HasHistory, LeadAway, Leaves, LegalEntry, Links, Marks, MixerState, New, NormalState, Nothing, Observes, Poll, Polls, Run, Same, SawOwnBy, SeesTaken, ServerState, Session, SessionState, StreamNames, TakesIt, Tells, TookCounted, WasPolled, acknowledged, adopted_states, cold_done, cycle_of, entry_told, is_mixed, is_over, same_last, sees_same, state_of, took, with_cycle, with_mix, with_poll}
 use Rattle.af_told_law.proofs.MixTold.{mix_told}
 use Rattle.af_told_law.proofs.PollNew.{polled_told}
 use Rattle.af_play_law.proofs.Cycled.{OneAdded}
@@ -166,10 +140,6 @@ module _ (links : Links) (s : Session) (run : Run) (d : Deeds) (y : SessionState
 
   same_past : g.observer.past ≡ p.observer.past
   same_past = ap (λ (o : Observes ServerState StreamNames). o.past) one.adds.takes.observer
-
-  -- the history stands after the mix
-  pub history_mixed : HasHistory y.normal.mutator.past.first y.normal.mutator.past.events g.observer.past.events
-  history_mixed = subst (λ (w : Watched). HasHistory y.normal.mutator.past.first y.normal.mutator.past.events w.events) (sym same_past) shown.history
 
   pub cycle_told : CycleTold links s run d y e g
   cycle_told = record {

@@ -1,28 +1,8 @@
 -- Once all parties of a play have ended each stream proxy is home, so it met behind each round: the rounds are legal by all marks.
 use Rattle.std.proofs.Common.{◌≡◌, ℕ, Bool, true, false, List, [], ◌∷◌, sym, ap, subst, ◌∙◌}
-use Rattle.std.specs.Bool.{MatchBool}
-use Rattle.std.proofs.lemmas.Bool.{and_from}
-use Rattle.af_audit.proofs.MixerEnds.{EndsHome, all_home, turn_ends}
-use Rattle.af_base.proofs.Basics.{or_right}
-use Rattle.af_enough_law.proofs.Basics.{ends_normal}
-use Rattle.af_enough_law.proofs.FewerMarks.{legal_for_less}
-use Rattle.af_judge.proofs.Basics.{met_normal, or_left}
-use Rattle.af_life.specs.Heard.{learnt}
-use Rattle.af_life.specs.Kept.{NormalKept, is_home, track_at}
-use Rattle.af_model.specs.Journals.{RoundSeen}
-use Rattle.af_normal.specs.State.{NormalState, kept_of, setup_of}
-use Rattle.af_base.specs.Turn.{turn_of}
-use Rattle.af_runs.specs.Blocks.{Marks}
-use Rattle.af_runs.specs.Clients.{ends}
-use Rattle.af_runs.specs.LegalRuns.{LegalRounds, run_from}
-use Rattle.af_runs.specs.Rounds.{after_round, all_played}
-use Rattle.af_runs.specs.Runs.{Run, holds, met, takes_part, with_ends}
-use Rattle.af_runs.specs.Sessions.{Session}
-use Rattle.af_runs.proofs.RunGrows.{AreFewer}
+use Rattle.af_play_law.proofs.Common.{AreFewer, EndsHome, LegalRounds, Marks, MatchBool, NormalKept, NormalState, RoundSeen, Run, Session, SessionState, TurnPlayed, after_round, all_home, all_played, and_from, ends, ends_keep, ends_normal, holds, is_home, kept_of, learnt, legal_for_less, met, met_normal, or_left, or_right, run_from, takes_part, track_at, turn_ends, turn_of, with_ends}
+use Rattle.af_normal.specs.State.{setup_of}
 use Rattle.af_session.specs.Rounds as parties
-use Rattle.af_session.specs.Together.{SessionState}
-use Rattle.af_session.proofs.FollowingRounds.{ends_keep}
-use Rattle.af_side_by_side.specs.SideBySide.{TurnPlayed}
 use Rattle.af_play_law.specs.PlayRuns.{PlaysOn, SureRounds, meets_from, sure_marks}
 
 -- ## What the normal mixer keeps

@@ -1,39 +1,13 @@
 -- A play whose parties have all ended is told by its journal alone.
 use Rattle.std.proofs.Common.{◌≡◌, inl, ℕ, ◌≤◌, ◌&&◌, true, false, true≢false, List, [], ◌∷◌, length, refl, sym, ap, subst, ◌∙◌, arith}
-use Rattle.std.specs.List.{list_all}
-use Rattle.std.proofs.lemmas.Bool.{and_parts}
-use Rattle.af_audit.proofs.MixerEnds.{EndsHome, new_ends}
-use Rattle.af_base.specs.declared.event.ServerEvent.{ServerEvent}
-use Rattle.af_base.specs.declared.frame.Frame.{Frame}
+use Rattle.af_play_law.proofs.Common.{EndsHome, Frame, HasHistory, IsQuiet, Marks, MutatorEvent, NormalKept, ObserverEvent, PartyState, RoundSeen, Run, ServerEvent, ServerState, Session, SessionState, StandsBetween, Tells, TookCounted, and_parts, carried_new, frames_taken, kept_of, known_new, list_all, marks_of, new_ends, new_marked, new_quiet, new_run, new_told, no_deeds, run_from, script_setup, session_of, setup_of}
 use Rattle.af_enough_law.proofs.AllEnd.{rounds_end}
 use Rattle.af_enough_law.specs.EndPhases.{BothEnded}
-use Rattle.af_enough_law.specs.Seen.{frames_taken}
-use Rattle.af_judge.proofs.Carried.{carried_new}
-use Rattle.af_life.specs.Kept.{NormalKept}
-use Rattle.af_model.specs.declared.states.MutatorEvent.{MutatorEvent}
-use Rattle.af_model.specs.declared.states.ObserverEvent.{ObserverEvent}
-use Rattle.af_model.specs.Journals.{RoundSeen}
 use Rattle.af_model.specs.JournalForm.{IsJournal}
-use Rattle.af_model.specs.StateQueue.{HasHistory}
-use Rattle.af_normal.specs.State.{kept_of}
-use Rattle.af_party.specs.Parties.{PartyState}
-use Rattle.af_runs.specs.Blocks.{Marks}
-use Rattle.af_runs.specs.LegalRuns.{marks_of, run_from, session_of}
-use Rattle.af_runs.specs.Runs.{Run, new_run}
-use Rattle.af_runs.specs.Sessions.{Session, script_setup, setup_of}
 use Rattle.af_script.specs.Data.{ScriptData}
-use Rattle.af_server.specs.Order.{ServerState}
-use Rattle.af_rendering.proofs.Quiet.{IsQuiet, new_quiet}
 use Rattle.af_rendering.proofs.SparedEntries.{entries_first}
 use Rattle.af_session.specs.NewSession.{IsNewSession}
 use Rattle.af_engine.specs.Shares.{SharedState}
-use Rattle.af_session.specs.Together.{SessionState}
-use Rattle.af_told_law.specs.Between.{StandsBetween}
-use Rattle.af_told_law.specs.MixLaws.{TookCounted}
-use Rattle.af_told_law.specs.Tells.{Tells}
-use Rattle.af_told_law.proofs.KnownSteps.{known_new}
-use Rattle.af_told_law.proofs.MarkedRuns.{new_marked}
-use Rattle.af_told_law.proofs.NewTold.{new_told, no_deeds}
 use Rattle.af_told_law.proofs.PipeCells.{cells_new}
 use Rattle.af_told_law.proofs.SmallRuns.{new_small}
 use Rattle.af_play_law.specs.PlayLaws.{EndsAsRun, PlaysAreToldAlone, journal_with}

@@ -1,19 +1,9 @@
 -- What a look of the observer finds, wherever it stands in an order of the queue.
 use Rattle.std.proofs.Common.{◌≡◌, ◌≢◌, ⊎_elim, ℕ, ◌+◌, ◌≤◌, ◌==◌, if◌then◌else◌, Bool, true≢false, List, [], ◌∷◌, ◌++◌, length, Option, Some, None, IfSome, is_some, unwrap_or, refl, sym, ap, subst, ◌∙◌, arith}
-use Rattle.std.proofs.lemmas.Bool.{cases_eq, eq-eqb, ne_eqb}
-use Rattle.af_base.specs.declared.state.FastState.{FastState}
-use Rattle.af_model.specs.declared.states.MutatorEvent.{MutatorEvent}
+use Rattle.af_play_law.proofs.Common.{Event, FastState, HasHistory, IsSane, Legal, MutatorEvent, MutatorPoint, ObserverEvent, QueuePoint, ServerState, Stands, after, cases_eq, eq-eqb, history_sane, learnt_before, legal, legal_at, mutated, mutator_next, ne_eqb, next, observed, ones, ones_append, point_of, split_at, start, two}
 use Rattle.af_model.specs.declared.states.MutatorEvent.TheVariants as mutator
-use Rattle.af_model.specs.declared.states.ObserverEvent.{ObserverEvent}
 use Rattle.af_model.specs.declared.states.ObserverEvent.TheVariants as observer
-use Rattle.af_model.specs.Order.{Event, Legal, after, ones, two}
-use Rattle.af_model.specs.StateQueue.{HasHistory, MutatorPoint, QueuePoint, legal, mutated, mutator_next, next, observed, start}
-use Rattle.af_model.proofs.Splits.{legal_at, ones_append, split_at}
-use Rattle.af_enough_law.specs.Seen.{Stands}
-use Rattle.af_enough_law.proofs.Standing.{learnt_before}
-use Rattle.af_server.specs.Order.{ServerState}
 use Rattle.af_stateq.proofs.Exact.{after_ones, after_twos}
-use Rattle.af_told_law.proofs.QueueLooks.{IsSane, history_sane, point_of}
 use Rattle.af_play_law.specs.Polls.{Items, Polled, Pushed}
 
 abbrev pub Point : Type 0

@@ -1,24 +1,8 @@
 -- In a round of all parties each cycle whose state was pushed before finds the last of those, and each later one finds that which the normal mixer's turn pushed.
 use Rattle.std.proofs.Common.{◌≡◌, ℕ, suc, ◌+◌, ◌<◌, ◌≤◌, nat_le, Bool, true, false, if◌then◌else◌, take, drop, List, [], ◌∷◌, ◌++◌, length, append-nil, append_assoc, refl, sym, ap, subst, ◌∙◌, arith}
-use Rattle.std.specs.List.{prefix_len}
-use Rattle.std.proofs.lemmas.Bool.{leb-false, leb-true}
-use Rattle.af_base.specs.declared.state.FastState.{FastState}
-use Rattle.af_fast.specs.Mixer.{IsInOrder as IsFastInOrder, MixerState}
-use Rattle.af_link.specs.declared.links.Links.{Links}
-use Rattle.af_link.specs.declared.names.StreamNames.{StreamNames}
-use Rattle.af_link.specs.PipeEnds.{SeesTaken}
-use Rattle.af_link.specs.Reports.{ReaderSide}
+use Rattle.af_play_law.proofs.Common.{EndsMet, EntrySeen, FastState, FindsLast, HasHistory, IsInOrder as IsFastInOrder, Links, MixerState, Observes, Pushes, ReaderSide, SeesTaken, ServerState, SessionState, StandsBetween, StreamNames, leb-false, leb-true, prefix_len}
 use Rattle.af_model.specs.declared.states.ObserverEvent.TheVariants as observer
-use Rattle.af_model.specs.Journals.{EntrySeen}
-use Rattle.af_model.specs.StateQueue.{HasHistory}
-use Rattle.af_server.specs.Order.{ServerState}
-use Rattle.af_stateq.specs.Ends.{Pushes}
-use Rattle.af_stateq.specs.Observes.{Observes}
 use Rattle.af_rendering.specs.Leads.{Tells}
-use Rattle.af_engine.specs.Met.{EndsMet}
-use Rattle.af_session.specs.Together.{SessionState}
-use Rattle.af_told_law.specs.Between.{StandsBetween}
-use Rattle.af_told_law.specs.Tells.{FindsLast}
 use Rattle.af_play_law.specs.Polls.{GrowsByTurn, Polled}
 use Rattle.af_play_law.proofs.Cycled.{CyclesAre, OneAdded, chain_grows}
 use Rattle.af_play_law.proofs.CyclesGrow.{EndsGrow, grow_both, mix_grows, once_grows}

@@ -1,15 +1,7 @@
 -- Of two beginnings of one list of pushes the longer one pushes as much or more, and if both push as much the last state is the same.
 use Rattle.std.proofs.Common.{◌≡◌, ◌⊎◌, inl, inr, ℕ, ◌+◌, ◌≤◌, false, true≢false, List, [], ◌∷◌, ◌++◌, length, length-append, append-nil, fold, get_or, Option, refl, sym, ap, subst, ◌∙◌, arith}
-use Rattle.std.specs.List.{list_any}
-use Rattle.std.proofs.lemmas.List.Sums.{fold-append}
-use Rattle.af_base.specs.declared.state.FastState.{FastState}
-use Rattle.af_model.specs.declared.states.MutatorEvent.{MutatorEvent}
-use Rattle.af_model.specs.declared.states.MutatorEvent.TheVariants.{Push, SawAck}
+use Rattle.af_play_law.proofs.Common.{Event, FastState, HasHistory, Legal, MutatorEvent, MutatorPoint, ObserverEvent, Push, QueuePoint, SawAck, fold-append, is_push, legal, list_any, mutated, mutator_next, mutator_start, next, one, ones, start, two}
 use Rattle.af_model.specs.declared.states.MutatorEvent.TheVariants as mutator
-use Rattle.af_model.specs.declared.states.ObserverEvent.{ObserverEvent}
-use Rattle.af_model.specs.Order.{Event, Legal, one, ones, two}
-use Rattle.af_model.specs.StateQueue.{HasHistory, MutatorPoint, QueuePoint, legal, mutated, mutator_next, mutator_start, next, start}
-use Rattle.af_stateq.specs.Laws.{is_push}
 
 -- ## Beginnings of one list
 

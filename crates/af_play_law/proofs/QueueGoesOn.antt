@@ -1,14 +1,7 @@
 -- A history goes on by what a poll did, if that found the last state pushed in it.
 use Rattle.std.proofs.Common.{◌≡◌, ◌==◌, ℕ, Some, None, if◌then◌else◌, [], ◌∷◌, ◌++◌, append-nil, append_assoc, sym, ap, subst, ◌∙◌, arith}
-use Rattle.af_base.specs.declared.state.FastState.{FastState}
-use Rattle.af_model.specs.declared.states.ObserverEvent.{ObserverEvent}
-use Rattle.af_model.specs.declared.states.ObserverEvent.TheVariants.{Ack, SawNext}
+use Rattle.af_play_law.proofs.Common.{Ack, AreOf, FastState, HasHistory, IsSane, MutatorPoint, ObserverEvent, ObserverPoint, SawNext, ServerState, add_two, history_sane, legal, mutated, next, observed, point_of, start, two}
 use Rattle.af_model.specs.declared.states.ObserverEvent.TheVariants as observer
-use Rattle.af_model.specs.Order.{two}
-use Rattle.af_model.specs.StateQueue.{AreOf, HasHistory, MutatorPoint, ObserverPoint, legal, mutated, next, observed, start}
-use Rattle.af_model.proofs.Orders.{add_two}
-use Rattle.af_server.specs.Order.{ServerState}
-use Rattle.af_told_law.proofs.QueueLooks.{IsSane, history_sane, point_of}
 use Rattle.af_play_law.specs.Polls.{Items, Polled, Pushed}
 use Rattle.af_play_law.proofs.PollsAt.{Point, looks_at, point_is}
 use Rattle.af_play_law.proofs.PushesRise.{SameLast, numbered, same_last}

@@ -1,14 +1,6 @@
 -- Each report of a run has the number of entries that it is of.
 use Rattle.std.proofs.Common.{◌≡◌, ℕ, Bool, true, false, if◌then◌else◌, List, [], ◌∷◌, length, length-append, Option, Some, None, refl, subst, arith}
-use Rattle.af_base.specs.declared.log.CycleEntry.{CycleEntry}
-use Rattle.af_base.specs.declared.report.Report.{Report}
-use Rattle.af_base.specs.Turn.{Turn}
-use Rattle.af_model.specs.Journals.{EntrySeen, RoundSeen}
-use Rattle.af_runs.specs.Found.{TurnFound}
-use Rattle.af_runs.specs.Rounds.{after_round, after_turn, all_played, before_turn, early_of, found_in, late_of, loaded, met_after, turned}
-use Rattle.af_runs.specs.Clients.{ends}
-use Rattle.af_runs.specs.Runs.{Run, TrackTold, each_track, met, new_run, next_report, with_calls, with_cycle, with_cycles, with_ends, with_load, with_looks, with_mix, with_poll, with_turn}
-use Rattle.af_runs.specs.Sessions.{Session}
+use Rattle.af_play_law.proofs.Common.{CycleEntry, EntrySeen, Report, RoundSeen, Run, Session, TrackTold, Turn, TurnFound, after_round, after_turn, all_played, before_turn, each_track, early_of, ends, found_in, late_of, loaded, met, met_after, new_run, next_report, turned, with_calls, with_cycle, with_cycles, with_ends, with_load, with_looks, with_mix, with_poll, with_turn}
 use Rattle.af_play_law.specs.Loads.{CountUp}
 use Rattle.af_play_law.specs.RoundPlayed.{ReportsCount}
 use Rattle.af_play_law.proofs.RoundLoads.{count_on}

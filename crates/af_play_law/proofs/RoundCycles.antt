@@ -1,26 +1,7 @@
 -- The clients' turns and the early entries of a round of all parties are told, and what the polls of the round show of the normal mixer's turn.
 use Rattle.std.proofs.Common.{◌≡◌, ◌⊎◌, inl, inr, ℕ, ◌+◌, Bool, true, false, map, drop, List, [], ◌∷◌, ◌++◌, length, refl, sym, ap, subst, ◌∙◌, arith}
-use Rattle.std.specs.Bool.{MatchBool}
-use Rattle.std.proofs.Math.Seq.{drop-append_seam}
-use Rattle.af_base.proofs.Basics.{zip_long}
-use Rattle.af_base.specs.Log.{Logged}
-use Rattle.af_fast.specs.Mixer.{IsInOrder as IsFastInOrder, MixerState}
-use Rattle.af_link.specs.declared.links.Links.{Links}
+use Rattle.af_play_law.proofs.Common.{AreTogether, ClientPlayed, CyclesOn, Deeds, EntrySeen, HasHistory, IsInOrder as IsFastInOrder, Links, Logged, MatchBool, MixerState, NormalState, QueueKnown, Quiet, RoundSeen, Run, SawUpTo, Session, SessionState, StandsBefore, Tells, TurnPlayed, before_turn, calls_in, cycle_frames, drop-append_seam, early_count, early_of, entries_seen, given_of, late_of, most_cycles, quiet_then, with_calls, zip_long}
 use Rattle.af_model.specs.declared.states.MutatorEvent.TheVariants as mutator
-use Rattle.af_model.specs.Journals.{EntrySeen, RoundSeen, entries_seen}
-use Rattle.af_model.specs.StateQueue.{HasHistory}
-use Rattle.af_normal.specs.State.{NormalState}
-use Rattle.af_runs.specs.Rounds.{before_turn, early_count, early_of, late_of}
-use Rattle.af_runs.specs.Runs.{Run, calls_in, with_calls}
-use Rattle.af_runs.specs.Sessions.{Session, cycle_frames}
-use Rattle.af_rendering.proofs.QueueSeen.{SawUpTo}
-use Rattle.af_session.specs.Together.{AreTogether, SessionState}
-use Rattle.af_side_by_side.specs.Alone.{CyclesOn, most_cycles}
-use Rattle.af_side_by_side.specs.SideBySide.{ClientPlayed, TurnPlayed}
-use Rattle.af_told_law.specs.Between.{StandsBefore}
-use Rattle.af_told_law.specs.Deeds.{Deeds}
-use Rattle.af_told_law.specs.QueueTurned.{QueueKnown}
-use Rattle.af_told_law.specs.Tells.{Tells, given_of}
 use Rattle.af_play_law.specs.Polls.{GrowsByTurn, Polled}
 use Rattle.af_play_law.specs.RoundPlayed.{PlayStands, RoundPlayed}
 use Rattle.af_play_law.proofs.BeforeTurn.{known_quiet, quiet_calls, quiet_cycles}
@@ -33,7 +14,6 @@ use Rattle.af_play_law.proofs.PollsShown.{AllEarly, PollsLate, StartsLate, back_
 use Rattle.af_play_law.proofs.RoundTurn.{first_same}
 use Rattle.af_play_law.proofs.RoundTurned.{Later, history_turned, later_turned, none_late, saw_turned}
 use Rattle.af_play_law.proofs.TurnGrows.{legal_grows, still_grows}
-use Rattle.af_told_law.proofs.KnownSteps.{Quiet, quiet_then}
 
 module _ (links : Links) (s : Session) (run : Run) (d : Deeds) (x u z : SessionState) (bytes : List ℕ) (round : RoundSeen) (stands : PlayStands s run d x) (w : RoundPlayed links s x u z bytes round) where
   -- ## The clients

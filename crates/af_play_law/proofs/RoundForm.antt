@@ -1,19 +1,7 @@
 -- The entries that a turn of the fast mixer added are those of a turn: each but the last is Mixed, and there are as many as it may make, or the last isn't Mixed, or the log is full.
 use Rattle.std.proofs.Common.{◌≡◌, ◌⊎◌, inl, inr, ⊎_elim, ℕ, zero, suc, ◌<◌, ◌≤◌, ◌==◌, ◌||◌, Bool, true, false, List, [], ◌∷◌, ◌++◌, length, map, append-nil, append_assoc, refl, sym, ap, subst, ◌∙◌, arith}
-use Rattle.std.proofs.lemmas.Bool.{eqb-true}
-use Rattle.std.proofs.lemmas.List.{length-map}
+use Rattle.af_play_law.proofs.Common.{AreMixedBut, Cycle, CycleEntry, CyclesOn, CyclesOnce, EntrySeen, IsFastTurn, Links, MixerState, eqb-true, has_exit, has_exit-push, is_mixed, length-map, no_exit}
 use Rattle.af_audit.proofs.Basics.{seen_map}
-use Rattle.af_base.specs.declared.log.Cycle.{Cycle}
-use Rattle.af_base.specs.declared.log.Cycle.TheVariants as cycle
-use Rattle.af_base.specs.declared.log.CycleEntry.{CycleEntry}
-use Rattle.af_fast.specs.Mixer.{MixerState}
-use Rattle.af_link.specs.declared.links.Links.{Links}
-use Rattle.af_model.specs.Cycles.{has_exit, is_mixed}
-use Rattle.af_model.specs.Journals.{EntrySeen}
-use Rattle.af_model.proofs.UsedStates.{has_exit-push}
-use Rattle.af_runs.specs.Rounds.{AreMixedBut, IsFastTurn}
-use Rattle.af_side_by_side.specs.Alone.{CyclesOn, CyclesOnce}
-use Rattle.af_told_law.proofs.Basics.{no_exit}
 
 -- ## Forms
 

@@ -1,28 +1,6 @@
 -- The load of the report in a round of all parties is that of its number among all that are stored, and with it the run tells the session before the meetings.
 use Rattle.std.proofs.Common.{◌≡◌, ◌⊎◌, ℕ, Bool, true, false, if◌then◌else◌, List, [], ◌∷◌, ◌++◌, Option, Some, None, refl, sym, ap, subst, ◌∙◌, arith}
-use Rattle.std.specs.Bool.{MatchBool}
-use Rattle.std.specs.Prelude.{max}
-use Rattle.af_base.specs.declared.report.Report.{Report}
-use Rattle.af_base.specs.Turn.{Turn, turn_of}
-use Rattle.af_latest.specs.Laws.{stores}
-use Rattle.af_life.specs.Kept.{Outside}
-use Rattle.af_life.specs.TurnEvents.{going}
-use Rattle.af_link.specs.declared.links.Links.{Links}
-use Rattle.af_link.specs.Reports.{ReaderSide}
-use Rattle.af_model.specs.declared.newest.ReaderEvent.{ReaderEvent}
-use Rattle.af_model.specs.declared.newest.ReaderEvent.TheVariants.{Load}
-use Rattle.af_model.specs.declared.newest.WriterEvent.{WriterEvent}
-use Rattle.af_model.specs.Journals.{RoundSeen}
-use Rattle.af_normal.specs.LegalTurned.{IsLegal}
-use Rattle.af_normal.specs.State.{NormalState}
-use Rattle.af_runs.specs.Rounds.{after_turn, all_played, late_of, loaded}
-use Rattle.af_runs.specs.Runs.{Run, report_of, with_cycles}
-use Rattle.af_runs.specs.Sessions.{Session, cycle_frames}
-use Rattle.af_session.specs.Together.{SessionState}
-use Rattle.af_side_by_side.specs.SideBySide.{TurnPlayed}
-use Rattle.af_told_law.specs.Deeds.{Deeds}
-use Rattle.af_told_law.specs.QueueTurned.{QueueKnown}
-use Rattle.af_told_law.specs.Tells.{Tells, reports_stored}
+use Rattle.af_play_law.proofs.Common.{Deeds, IsLegal, Links, Load, MatchBool, NormalState, Outside, QueueKnown, ReaderEvent, ReaderSide, Report, RoundSeen, Run, Session, SessionState, Tells, Turn, TurnPlayed, WriterEvent, after_turn, all_played, cycle_frames, going, late_of, loaded, max, report_of, reports_stored, stores, turn_of, with_cycles}
 use Rattle.af_told_law.proofs.LoadTold.{known_loaded, load_told}
 use Rattle.af_play_law.specs.Loads.{LoadsOneOf, MetLast}
 use Rattle.af_play_law.specs.RoundPlayed.{HearsForeseen, PlayStands, ReportsCount, RoundPlayed}

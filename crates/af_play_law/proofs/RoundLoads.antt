@@ -1,26 +1,11 @@
 -- The load of a round shows the report of its number among all that are stored by the end of the round.
 use Rattle.std.proofs.Common.{◌≡◌, ◌⊎◌, inl, inr, ⊎_elim, ℕ, zero, suc, ◌+◌, ◌-◌, ◌≤◌, ◌<◌, ◌==◌, Bool, false, if◌then◌else◌, List, [], ◌∷◌, ◌++◌, length, length-append, append-nil, append_assoc, refl, sym, ap, subst, ◌∙◌, arith}
-use Rattle.std.specs.Prelude.{max, slice_index_or}
-use Rattle.af_base.specs.declared.report.Report.{Report}
-use Rattle.af_fast.specs.Mixer.{MixerState}
-use Rattle.af_latest.specs.Laws.{last_of, stores}
-use Rattle.af_model.specs.declared.newest.ReaderEvent.{ReaderEvent}
+use Rattle.af_play_law.proofs.Common.{EndsMet, MixerState, NormalState, ReaderEvent, Report, ReportMet, ReportTold, Run, SessionState, Store, WriterEvent, last_of, last_report, max, no_report, ones, report_met, report_of, reports_stored, slice_index_or, stores, twos}
 use Rattle.af_model.specs.declared.newest.ReaderEvent.TheVariants as reads
-use Rattle.af_model.specs.declared.newest.WriterEvent.{WriterEvent}
-use Rattle.af_model.specs.declared.newest.WriterEvent.TheVariants.{Store}
 use Rattle.af_model.specs.declared.newest.WriterEvent.TheVariants as writes
 use Rattle.af_model.specs.NewestValue as newest
 use Rattle.af_model.specs.NewestValue.{HasHistory}
-use Rattle.af_model.specs.Order.{ones, twos}
-use Rattle.af_model.specs.Reports.{no_report}
-use Rattle.af_normal.specs.State.{NormalState}
 use Rattle.af_judge.proofs.QueueSteps.{ones_met, twos_met}
-use Rattle.af_runs.specs.Runs.{Run, last_report, report_of}
-use Rattle.af_runs.specs.Told.{ReportTold, report_met}
-use Rattle.af_engine.specs.Met.{EndsMet}
-use Rattle.af_session.specs.Together.{SessionState}
-use Rattle.af_told_law.specs.QueueTurned.{ReportMet}
-use Rattle.af_told_law.specs.Tells.{reports_stored}
 use Rattle.af_told_law.proofs.TurnReport.{LoadsAt, loads_behind, loads_first}
 use Rattle.af_play_law.specs.Loads.{CountUp, LoadsOneOf, LoadsShowTheirNumber, MetLast}
 use Rattle.af_play_law.proofs.PushesRise.{either_cuts}

@@ -1,27 +1,7 @@
 -- A round of all parties that pokes no lawful block leaves the lawful blocks of its run unpoked.
 use Rattle.std.proofs.Common.{◌≡◌, ℕ, ◌<◌, ◌≤◌, ◌==◌, Bool, true, false, if◌then◌else◌, List, length, Some, slice_get, refl, sym, ap, subst, ◌∙◌, arith}
-use Rattle.std.proofs.lemmas.Bool.{eq-eqb}
-use Rattle.af_base.proofs.Basics.{some_at}
-use Rattle.af_judge.proofs.Basics.{each_long, met_many, told_each}
-use Rattle.af_model.specs.History.{is_lawful}
-use Rattle.af_model.specs.Journals.{RoundSeen}
-use Rattle.af_party.specs.Parties.{PartyState}
-use Rattle.af_runs.specs.Blocks.{BlockTold, Marks, is_tame}
-use Rattle.af_runs.specs.Clients.{ends}
-use Rattle.af_runs.specs.ClientTurns.{Track}
-use Rattle.af_runs.specs.Runs.{Run, TrackTold, called, calls_in, each_track, met, sides_of, stream_met, takes_part, told_at, with_calls, with_ends}
-use Rattle.af_runs.specs.Sessions.{Session, track_count}
-use Rattle.af_runs.specs.TurnRuns.{calls_alone}
+use Rattle.af_play_law.proofs.Common.{BlockTold, Deeds, IsMarkedRun, IsRoundMarked, IsSmallRun, IsTrackMarked, Marks, PartyState, RoundSeen, Run, Session, SessionState, Tells, Track, TrackTold, called, calls_alone, calls_in, each_long, each_track, ends, eq-eqb, is_lawful, is_tame, met, met_at, met_many, met_marked, round_marked, sides_of, some_at, stream_met, takes_part, tame_met, told_at, told_each, track_count, with_calls, with_ends}
 use Rattle.af_script.specs.declared.op.TurnSpec.TheVariants as makes
-use Rattle.af_judge.proofs.BlocksMeet.{met_at}
-use Rattle.af_session.specs.Together.{SessionState}
-use Rattle.af_told_law.specs.Deeds.{Deeds}
-use Rattle.af_told_law.specs.Marked.{IsMarkedRun, IsRoundMarked, IsTrackMarked}
-use Rattle.af_told_law.specs.Sizes.{IsSmallRun}
-use Rattle.af_told_law.specs.Tells.{Tells}
-use Rattle.af_told_law.proofs.MarkedRuns.{round_marked}
-use Rattle.af_told_law.proofs.TameRuns.{met_marked}
-use Rattle.af_turn_law.proofs.Basics.{tame_met}
 
 -- the calls of all clients are those of each
 calls_at : (round : RoundSeen) (run : Run) (i : ℕ) → i < length run.tracks → told_at (with_calls round run) i ≡ called (calls_in round i) (told_at run i)

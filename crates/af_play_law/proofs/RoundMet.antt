@@ -1,53 +1,13 @@
 -- The meetings at the end of a round of all parties: each front that a server saw which took part in them is its own, so that the lists have their histories and each turn of the round is legal.
 use Rattle.std.proofs.Common.{◌≡◌, ℕ, zero, suc, ◌+◌, ◌<◌, ◌≤◌, ◌==◌, ◌&&◌, ◌||◌, Bool, true, false, true≢false, if◌then◌else◌, is_some, map, drop, List, [], ◌∷◌, ◌++◌, length, length-append, append-nil, Option, Some, None, slice_get, refl, sym, ap, subst, ◌∙◌, arith}
-use Rattle.std.specs.Bool.{MatchBool}
-use Rattle.std.specs.List.{AllZip, list_any, range_with_len}
-use Rattle.std.proofs.lemmas.Bool.{eq-eqb}
-use Rattle.std.proofs.lemmas.List.{append_cancel_left, length-map}
-use Rattle.std.proofs.lemmas.Option.{none-some, same_Some}
-use Rattle.std.proofs.Math.Seq.{drop-append_seam}
-use Rattle.af_base.proofs.Basics.{some_at}
-use Rattle.af_base.specs.declared.event.ServerEvent.{ServerEvent}
+use Rattle.af_play_law.proofs.Common.{AllZip, AreLegalTurns, BlockTold, ClientCall, ClientPlayed, CycleEntry, CyclesOn, Deeds, EntrySeen, GoOn, IsFastTurn, IsSmallRun, IsTrackSmall, LeadAway, LegalClientTurn, LegalEntries, LegalFastTurn, Links, Marks, MatchBool, MayFollow, MetTold, MixerState, NormalKept, PartyState, RoundSeen, Run, SawOwnBy, SawOwnOf, ServerEvent, ServerState, Session, SessionState, Shape, StartsWith, Tells, TellsServer, Track, TrackTold, after_round, after_turn, all_ended, all_played, append_cancel_left, before_turn, calls_in, carries, client_list, deeds_met, done_on, drop-append_seam, each_long, each_track, early_of, ends, entries_seen, eq-eqb, file_at, fills, given_of, held_slot, is_home, is_lawful, is_tame, item_at, late_of, length-map, list_any, met, met_at, met_deed, met_many, most_cycles, none-some, ops_at, own_met, range_with_len, same_Some, shape_met, sides_of, slot_of, slots, small_told, some_at, stream_at, takes_part, told_at, told_each, track_at, track_count, track_of, with_calls, with_cycles, with_ends}
 use Rattle.af_base.specs.declared.event.ServerEvent.TheVariants as server
-use Rattle.af_base.specs.declared.event.ClientCall.{ClientCall}
-use Rattle.af_base.specs.declared.log.CycleEntry.{CycleEntry}
-use Rattle.af_base.specs.Log.{slots}
-use Rattle.af_cblk.specs.Rule.{StartsWith}
-use Rattle.af_fast.specs.Mixer.{MixerState}
-use Rattle.af_judge.proofs.Basics.{each_long, met_many, shape_met, told_each}
-use Rattle.af_life.specs.Kept.{NormalKept, is_home, track_at}
-use Rattle.af_link.specs.declared.links.Links.{Links}
-use Rattle.af_model.specs.declared.shape.Shape.{Shape}
-use Rattle.af_model.specs.History.{is_lawful}
-use Rattle.af_model.specs.Journals.{EntrySeen, RoundSeen, entries_seen}
-use Rattle.af_model.specs.StateQueue.{carries, slot_of}
-use Rattle.af_normal.specs.Mixing.{stream_at}
-use Rattle.af_party.specs.Parties.{PartyState, track_of}
-use Rattle.af_runs.specs.Blocks.{BlockTold, Marks, client_list, is_tame}
-use Rattle.af_runs.specs.Clients.{ends}
-use Rattle.af_runs.specs.ClientTurns.{LegalClientTurn, Track}
-use Rattle.af_runs.specs.Rounds.{AreLegalTurns, IsFastTurn, LegalEntries, LegalFastTurn, MayFollow, after_round, after_turn, all_played, before_turn, early_of, fills, late_of}
-use Rattle.af_runs.specs.Runs.{Run, TrackTold, all_ended, calls_in, each_track, met, sides_of, takes_part, told_at, with_calls, with_cycles, with_ends}
-use Rattle.af_runs.specs.Sessions.{Session, track_count}
-use Rattle.af_judge.proofs.BlocksMeet.{met_at}
-use Rattle.af_server.specs.Order.{ServerState}
-use Rattle.af_rendering.specs.Leads.{LeadAway}
-use Rattle.af_engine.specs.Met.{item_at}
-use Rattle.af_session.specs.Rounds.{file_at, ops_at}
 use Rattle.af_session.specs.Rounds as parties
-use Rattle.af_session.specs.Together.{SessionState}
-use Rattle.af_side_by_side.specs.Alone.{CyclesOn, most_cycles}
-use Rattle.af_side_by_side.specs.SideBySide.{ClientPlayed}
-use Rattle.af_told_law.proofs.Basics.{own_met}
-use Rattle.af_told_law.specs.Deeds.{Deeds, GoOn, MetTold, SawOwnBy, SawOwnOf, deeds_met, done_on, met_deed}
 use Rattle.af_told_law.specs.Own.{SawOwn, SeesOwn}
-use Rattle.af_told_law.specs.Sizes.{IsSmallRun, IsTrackSmall}
-use Rattle.af_told_law.specs.Tells.{Tells, TellsServer, given_of, held_slot}
 use Rattle.af_told_law.proofs.AllMeet.{met_histories, tells_met}
 use Rattle.af_told_law.proofs.EndsTold.{ends_told}
 use Rattle.af_told_law.proofs.MeetsShow.{meetings_show}
 use Rattle.af_told_law.proofs.SlotHeld.{found_carries, is_held}
-use Rattle.af_told_law.proofs.TameRuns.{small_told}
 use Rattle.af_play_law.specs.Rounds.{RoundIsTold}
 use Rattle.af_play_law.specs.RoundPlayed.{HearsForeseen, PlayStands, RoundPlayed}
 use Rattle.af_play_law.proofs.AfterTurn.{late_told, turn_told}

@@ -1,38 +1,16 @@
 -- What the looks at the pipe see in a round: the front of a mix is the number of frames that the mixer took, and that of the normal mixer's turn the one that its room tells.
 use Rattle.std.proofs.Common.{◌≡◌, ⊎_elim, ℕ, ◌+◌, ◌≤◌, if◌then◌else◌, map, drop, Bool, true, false, List, [], ◌∷◌, ◌++◌, length, length-append, append_assoc, refl, sym, ap, subst, ◌∙◌, arith}
-use Rattle.std.specs.Prelude.{min}
-use Rattle.std.proofs.lemmas.Bool.{cases_eq, ne_eqb}
-use Rattle.std.proofs.lemmas.List.{length-drop, length-map, length-take}
-use Rattle.af_base.specs.declared.event.ClientEvent.{ClientEvent}
+use Rattle.af_play_law.proofs.Common.{ClientEvent, CycleEntry, EndsMet, Event, FastState, Frame, HasPipeHistory, MixerState, Mixes, OutSide, PipePoint, Seen, SeesTaken, ServerEvent, SessionState, Takes, TookCounted, after, cases_eq, count_seen, entry_slot, frames_taken, front_by_room, is_mixed, length-drop, length-map, length-take, min, ne_eqb, one, packed_word, place_of, releases_of, room_by, slots, taken-append, taken_before, takes_shown, two, twos}
 use Rattle.af_base.specs.declared.event.ClientEvent.TheVariants as client
-use Rattle.af_base.specs.declared.event.ServerEvent.{ServerEvent}
 use Rattle.af_base.specs.declared.event.ServerEvent.TheVariants as server
-use Rattle.af_base.specs.declared.frame.Frame.{Frame}
-use Rattle.af_base.specs.declared.log.CycleEntry.{CycleEntry}
-use Rattle.af_base.specs.declared.seen.Seen.{Seen}
 use Rattle.af_base.specs.declared.seen.Seen.TheVariants as seen
 use Rattle.af_base.specs.declared.log.SlotEntry.{SlotEntry}
-use Rattle.af_base.specs.declared.state.FastState.{FastState}
-use Rattle.af_base.specs.Log.{count_seen, entry_slot, slots}
 use Rattle.af_base.specs.Log as log
-use Rattle.af_base.specs.Sample.{packed_word}
-use Rattle.af_enough_law.proofs.Basics.{taken-append}
-use Rattle.af_fast.specs.Mixer.{MixerState}
-use Rattle.af_fast.specs.Mixing.{Takes}
 use Rattle.af_fast.specs.Slots.{found}
-use Rattle.af_life.specs.TurnEvents.{front_by_room}
-use Rattle.af_link.specs.PipeEnds.{OutSide, SeesTaken}
-use Rattle.af_model.specs.Cycles.{Mixes, SubmixSlot, is_mixed, place_of, taken_before, takes_shown}
-use Rattle.af_model.specs.Order.{Event, after, one, two, twos}
-use Rattle.af_model.specs.PipeHistory.{HasPipeHistory, PipePoint, legal, next, releases_of, room_by, start}
-use Rattle.af_model.specs.Point.{wrapped}
-use Rattle.af_enough_law.specs.Seen.{frames_taken}
+use Rattle.af_model.specs.PipeHistory.{legal, next, start}
 use Rattle.af_enough_law.proofs.SeenShared.{taken_more, taken_same}
 use Rattle.af_one_turn_run.proofs.EntrySlots.{taken_rise}
-use Rattle.af_engine.specs.Met.{EndsMet}
-use Rattle.af_session.specs.Together.{SessionState}
 use Rattle.af_told_law.proofs.TurnPipe.{front_told}
-use Rattle.af_told_law.specs.MixLaws.{TookCounted}
 
 -- ## Beginnings
 
@@ -50,35 +28,11 @@ seen_front n (server.Tally missing ∷ xs) ys s = seen_front n xs ys s
 seen_front n (server.SetFlags bits ∷ xs) ys s = seen_front n xs ys s
 seen_front n (server.SetStatus word ∷ xs) ys s = seen_front n xs ys s
 
--- if each front seen in a list is the number of frames taken before, so it is behind a beginning, by the frames taken there
-seen_back : (n m : ℕ) (xs ys : List ServerEvent) → m ≡ n + frames_taken xs → SeesTaken n (xs ++ ys) → SeesTaken m ys
-seen_back n m [] ys e s = subst (λ (k : ℕ). SeesTaken k ys) (let same : n ≡ m = omega (arith, e) in same) s
-seen_back n m (server.SawFront front ∷ xs) ys e s = seen_back n m xs ys (omega (arith, e)) s.1
-seen_back n m (server.Take count ∷ xs) ys e s = seen_back (n + count) m xs ys (omega (arith, e)) s
-seen_back n m (server.SawRear rear ∷ xs) ys e s = seen_back n m xs ys (omega (arith, e)) s
-seen_back n m (server.Learn count ∷ xs) ys e s = seen_back n m xs ys (omega (arith, e)) s
-seen_back n m (server.SawGain word ∷ xs) ys e s = seen_back n m xs ys (omega (arith, e)) s
-seen_back n m (server.SawFlush flush ∷ xs) ys e s = seen_back n m xs ys (omega (arith, e)) s
-seen_back n m (server.Drop to ∷ xs) ys e s = seen_back n m xs ys (omega (arith, e)) s
-seen_back n m (server.Tally missing ∷ xs) ys e s = seen_back n m xs ys (omega (arith, e)) s
-seen_back n m (server.SetFlags bits ∷ xs) ys e s = seen_back n m xs ys (omega (arith, e)) s
-seen_back n m (server.SetStatus word ∷ xs) ys e s = seen_back n m xs ys (omega (arith, e)) s
-
 -- ## A mix
 
--- the front that a mix's look at the pipe sees is the number of frames taken before
-pub front_counted : (f g : MixerState) (slot : SlotEntry) → TookCounted f → SeesTaken 0 g.pipe.pass.part.events → (submix : SubmixSlot f.frames f.pipe.pass.part.events g.pipe.pass.part.events slot) → submix.front ≡ wrapped (length f.pipe.pass.part.frames)
-front_counted f g slot took sees submix =
-    let more : List ServerEvent = server.SawRear slot.rear ∷ server.SawFront submix.front ∷ takes_shown slot.seen in
-    let behind : SeesTaken (length f.pipe.pass.part.frames) more = seen_back 0 (length f.pipe.pass.part.frames) f.pipe.pass.part.events more (omega (arith, took)) (subst (λ (es : List ServerEvent). SeesTaken 0 es) submix.list sees) in
-    behind.0
-
 takes_count : (s : Seen) → frames_taken (takes_shown s) ≡ count_seen s
-takes_count seen.Absent = refl
 takes_count (seen.Frames count) = omega arith
-takes_count seen.Empty = refl
-takes_count (seen.Flushed dropped) = refl
-takes_count (seen.Shut front rear) = refl
+takes_count _ = refl
 
 -- the frames of the submix slot are as many as its look shows
 module _ (frames : List Frame) (entry : CycleEntry) (place : ℕ) (first : (entry_slot entry 0).first ≡ place_of (place + taken_before entry 0) (entry_slot entry 0).seen) (total : length frames ≡ place + taken_before entry slots) where

@@ -1,22 +1,8 @@
 -- A poll of the fast mixer finds the last state that the normal mixer has pushed, if its number is that one's, and leaves a history.
 use Rattle.std.proofs.Common.{◌≡◌, ℕ, ◌+◌, ◌<◌, false, true, [], ◌∷◌, ◌++◌, append_assoc, Option, Some, None, sym, ap, subst, ◌∙◌, arith}
-use Rattle.std.proofs.lemmas.Bool.{false_from_ne_true}
-use Rattle.af_base.specs.declared.state.FastState.{FastState}
-use Rattle.af_fast.specs.Mixer.{MixerState, is_over}
-use Rattle.af_fast.specs.Mixing.{Adopts}
-use Rattle.af_link.specs.declared.names.StreamNames.{StreamNames}
-use Rattle.af_model.specs.declared.plain_calls.Poll.{Poll}
-use Rattle.af_model.specs.declared.plain_calls.Poll.TheVariants.{New, Nothing, Same}
+use Rattle.af_play_law.proofs.Common.{Adopts, FastState, FindsLast, HasHistory, IsSane, MixerState, New, NormalState, Nothing, Observes, Poll, Polls, Pushes, Same, ServerState, StreamNames, TakesIt, WasPolled, acknowledged, false_from_ne_true, history_sane, is_over, items_sent, mutated, mutated_by, observed, point_of, sees_same, took}
 use Rattle.af_model.specs.declared.states.ObserverEvent.TheVariants as observer
-use Rattle.af_model.specs.StateQueue.{HasHistory, mutated, observed}
-use Rattle.af_normal.specs.State.{NormalState}
-use Rattle.af_server.specs.Order.{ServerState}
-use Rattle.af_stateq.specs.Answers.{TakesIt, WasPolled, sees_same}
-use Rattle.af_stateq.specs.Ends.{Polls, Pushes, acknowledged, took}
-use Rattle.af_stateq.specs.Observes.{Observes}
 use Rattle.af_rendering.specs.Leads.{Tells}
-use Rattle.af_told_law.specs.Tells.{FindsLast, items_sent, mutated_by}
-use Rattle.af_told_law.proofs.QueueLooks.{IsSane, history_sane, point_of}
 use Rattle.af_play_law.specs.Polls.{FindsLastOf, Items, Polled, Pushed}
 use Rattle.af_play_law.proofs.QueueGoesOn.{AllOf, all_go_on}
 use Rattle.af_play_law.proofs.RoundQueue.{finds_last_of}
@@ -119,18 +105,3 @@ module _ (m : NormalState) (f g : MixerState) (adopts : Adopts f g) (on : is_ove
 
   pub finds_last : FindsLast m f g
   finds_last = record { number = number; new = new_is_last }
-
-  -- if the mixer has as many states as were pushed, it has the last
-  pub same_polled : (0 < p.number → o.number ≡ p.number → o.state ≡ p.last) → 0 < p.number → o'.state ≡ p.last
-  same_polled same some = let q = adopts.polls on in by_poll q.0 q.1 q.2 q.3
-    where
-      by_same : g.observer ≡ sees_same f.observer → o'.state ≡ p.last
-      by_same is = ap (λ (w : Watching). w.past.state) is ∙ same some (sym (ap (λ (w : Watching). w.past.number) is) ∙ number)
-
-      by_poll : (poll : Poll) (s s' : ℕ) → WasPolled f.observer poll g.observer s s' → o'.state ≡ p.last
-      by_poll Nothing s s' was = by_same was.1
-      by_poll Same s s' was = by_same was.1
-      by_poll (New n) s s' was =
-          let t : TakesIt f.observer was.1.0 g.observer = was.1.1 in
-          let is : o' ≡ acknowledged t.1 (took was.1.0 t.0 o) = ap (λ (w : Watching). w.past) t.2 in
-          ap (λ (w : Watched). w.state) is ∙ (new_is_last was.1.0 t.0 t.1 is).0

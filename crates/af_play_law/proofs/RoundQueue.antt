@@ -1,14 +1,8 @@
 -- Which state a look finds that stands behind others since a meeting: the last one pushed before that meeting, or the one pushed since.
 use Rattle.std.proofs.Common.{◌≡◌, ◌≢◌, ◌⊎◌, inl, inr, ⊎_elim, ℕ, ◌+◌, ◌≤◌, [], ◌∷◌, ◌++◌, append_assoc, Option, Some, None, IfSome, refl, sym, ap, subst, ◌∙◌, arith}
-use Rattle.std.proofs.lemmas.Bool.{cases_eq}
-use Rattle.af_base.specs.declared.state.FastState.{FastState}
-use Rattle.af_model.specs.declared.states.MutatorEvent.{MutatorEvent}
+use Rattle.af_play_law.proofs.Common.{FastState, HasHistory, HasLearnt, MutatorEvent, ServerState, Stands, cases_eq, mutated, observed}
 use Rattle.af_model.specs.declared.states.MutatorEvent.TheVariants as mutator
 use Rattle.af_model.specs.declared.states.ObserverEvent.TheVariants as observer
-use Rattle.af_model.specs.StateQueue.{HasHistory, mutated, observed}
-use Rattle.af_enough_law.specs.Seen.{Stands}
-use Rattle.af_server.specs.Order.{ServerState}
-use Rattle.af_rendering.specs.Leads.{HasLearnt}
 use Rattle.af_play_law.specs.Polls.{FindsLastOf, GrowsByTurn, Items, Polled, PollsFindOneOfTwo, Pushed}
 use Rattle.af_play_law.proofs.PollsAt.{PollsAt, polls_at}
 use Rattle.af_play_law.proofs.PushesRise.{Numbered, SameLast, longer_pushes, no_fewer_then, none_more_then, numbered, push_counts, push_number, same_last}

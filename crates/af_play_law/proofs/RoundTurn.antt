@@ -1,25 +1,11 @@
 -- The normal mixer's turn in a round of all parties, behind the early entries: the run with it tells the session but for the load of the report, and it is legal by marks on whose blocks each front seen is a server's own.
 use Rattle.std.proofs.Common.{◌≡◌, ◌+◌, ◌<◌, Bool, true, false, [], ◌∷◌, ◌++◌, refl}
-use Rattle.af_base.specs.Turn.{turn_of}
-use Rattle.af_life.specs.Kept.{Outside}
-use Rattle.af_link.specs.declared.links.Links.{Links}
+use Rattle.af_play_law.proofs.Common.{AreTogether, Deeds, GoOn, IsLegal, Leads, LegalTurnBy, Links, Marks, NormalState, Outside, PartsTold, QueueKnown, Run, SawOwnBy, SawUpTo, Session, SessionState, StandsBefore, TurnFound, TurnMade, TurnShown, answer_of, commands_by, cycle_frames, did_by, kept_of, pipe_cells, setup_of, stream_by, turn_of, with_turn}
 use Rattle.af_model.specs.declared.states.MutatorEvent.TheVariants as mutator
-use Rattle.af_normal.specs.LegalTurned.{IsLegal}
 use Rattle.af_normal.specs.Order.{IsInOrder as IsNormalInOrder}
-use Rattle.af_normal.specs.State.{NormalState, kept_of, setup_of as mixer_setup}
-use Rattle.af_normal.specs.TurnMade.{TurnMade, answer_of}
-use Rattle.af_runs.specs.Blocks.{Marks}
-use Rattle.af_runs.specs.Found.{LegalTurnBy, TurnFound}
-use Rattle.af_runs.specs.Runs.{Run, pipe_cells, with_turn}
-use Rattle.af_runs.specs.Sessions.{Session, cycle_frames, setup_of}
-use Rattle.af_rendering.specs.Leads.{Leads, Tells as TellsPushes}
+use Rattle.af_normal.specs.State.{setup_of as mixer_setup}
+use Rattle.af_rendering.specs.Leads.{Tells as TellsPushes}
 use Rattle.af_rendering.proofs.NormalSteps.{turn_same, turn_tells, turned_leads}
-use Rattle.af_rendering.proofs.QueueSeen.{SawUpTo}
-use Rattle.af_session.specs.Together.{AreTogether, SessionState}
-use Rattle.af_told_law.specs.Between.{StandsBefore}
-use Rattle.af_told_law.specs.Deeds.{Deeds, GoOn, SawOwnBy, commands_by, stream_by}
-use Rattle.af_told_law.specs.NormalLaws.{PartsTold, TurnShown, did_by}
-use Rattle.af_told_law.specs.QueueTurned.{QueueKnown}
 use Rattle.af_told_law.proofs.NormalGoes.{turn_leaves}
 use Rattle.af_told_law.proofs.NormalRound.{known_now, legal_now, tells_turned}
 use Rattle.af_told_law.proofs.PartsTold.{parts_told}

@@ -1,27 +1,9 @@
 -- The queue in a round of all parties, by its one meeting: what each poll finds, and what stands before the push.
 use Rattle.std.proofs.Common.{◌≡◌, ◌⊎◌, inl, inr, ⊎_elim, ℕ, ◌+◌, ◌<◌, ◌≤◌, false, [], ◌∷◌, ◌++◌, length, length-append, append_assoc, refl, sym, ap, subst, ◌∙◌, arith}
-use Rattle.std.specs.List.{list_any}
-use Rattle.std.proofs.lemmas.Bool.{cases_lt}
-use Rattle.std.proofs.lemmas.List.Sums.{fold-append}
-use Rattle.af_base.specs.declared.state.FastState.{FastState}
-use Rattle.af_fast.specs.Mixer.{MixerState, is_over}
-use Rattle.af_fast.specs.Mixing.{Adopts}
-use Rattle.af_link.specs.declared.names.StreamNames.{StreamNames}
+use Rattle.af_play_law.proofs.Common.{Ack, Adopts, EndsMet, FastState, FindsLast, HasHistory, HasLearnt, MixerState, NormalState, ObserverPoint, Polls, Pushes, SawNext, SawUpTo, ServerState, SessionState, StandsBetween, StreamNames, add_one, cases_lt, few_seen, fold-append, is_over, is_push, legal, list_any, mutated, next, observed, observer_next, observer_start, start}
 use Rattle.af_model.specs.declared.states.MutatorEvent.TheVariants as mutator
-use Rattle.af_model.specs.declared.states.ObserverEvent.TheVariants.{Ack, SawNext}
 use Rattle.af_model.specs.declared.states.ObserverEvent.TheVariants as observer
-use Rattle.af_model.specs.StateQueue.{HasHistory, ObserverPoint, legal, mutated, next, observed, observer_next, observer_start, start}
-use Rattle.af_model.proofs.Orders.{add_one}
-use Rattle.af_normal.specs.State.{NormalState}
-use Rattle.af_server.specs.Order.{ServerState}
-use Rattle.af_stateq.specs.Ends.{Polls, Pushes}
-use Rattle.af_stateq.specs.Laws.{is_push}
-use Rattle.af_rendering.specs.Leads.{HasLearnt, Tells}
-use Rattle.af_engine.specs.Met.{EndsMet}
-use Rattle.af_session.specs.Together.{SessionState}
-use Rattle.af_rendering.proofs.QueueSeen.{SawUpTo, few_seen}
-use Rattle.af_told_law.specs.Between.{StandsBetween}
-use Rattle.af_told_law.specs.Tells.{FindsLast}
+use Rattle.af_rendering.specs.Leads.{Tells}
 use Rattle.af_play_law.specs.Polls.{ComesBehind, GrowsByTurn, Items, Polled, Pushed}
 use Rattle.af_play_law.proofs.CutBehind.{cut_behind}
 use Rattle.af_play_law.proofs.PollsAt.{looks_at}

@@ -1,19 +1,7 @@
 -- The rounds of a play are told one after the other: each is legal up to the last meetings of the streams.
 use Rattle.std.proofs.Common.{◌≡◌, ◌⊎◌, ⊎_elim, ℕ, ◌<◌, ◌||◌, true, false, true≢false, List, [], ◌∷◌, refl, sym, subst, arith}
-use Rattle.std.proofs.lemmas.Bool.{and_parts}
-use Rattle.af_base.proofs.Basics.{either}
-use Rattle.af_link.specs.declared.links.Links.{Links}
-use Rattle.af_model.specs.declared.shape.Shape.{Shape}
-use Rattle.af_model.specs.Journals.{RoundSeen}
-use Rattle.af_runs.specs.Blocks.{Marks}
-use Rattle.af_runs.specs.Rounds.{after_round, all_played}
-use Rattle.af_runs.specs.Runs.{Run, takes_part, told_at}
-use Rattle.af_runs.specs.Sessions.{Session, track_count}
+use Rattle.af_play_law.proofs.Common.{Deeds, IsMarkedRun, IsRoundMarked, Links, Marks, RoundSeen, Run, SawOwnBy, SawOwnOf, Session, SessionState, Shape, Tells, after_round, all_played, and_parts, either, takes_part, told_at, track_count}
 use Rattle.af_session.specs.Rounds.{with_ends}
-use Rattle.af_session.specs.Together.{SessionState}
-use Rattle.af_told_law.specs.Deeds.{Deeds, SawOwnBy, SawOwnOf}
-use Rattle.af_told_law.specs.Marked.{IsMarkedRun, IsRoundMarked}
-use Rattle.af_told_law.specs.Tells.{Tells}
 use Rattle.af_play_law.specs.PlayRuns.{PlayHolds, PlaysOn, RunIsTold, RunsAreTold, all_over, meets_from, sure_marks}
 use Rattle.af_play_law.specs.RoundPlayed.{HearsForeseen, RoundPlayed}
 use Rattle.af_play_law.specs.Rounds.{RoundStands}

@@ -1,41 +1,12 @@
 -- What stands between two rounds of a play stands again after a round of all parties.
 use Rattle.std.proofs.Common.{◌≡◌, ℕ, ◌<◌, ◌≤◌, Bool, true, false, List, [], ◌∷◌, ◌++◌, length, sym, ap, subst, ◌∙◌, arith, All}
-use Rattle.std.specs.Bool.{MatchBool}
-use Rattle.af_base.specs.declared.state.FastState.{FastState}
-use Rattle.af_base.specs.Turn.{turn_of}
-use Rattle.af_cblk.specs.Sides.{Made}
-use Rattle.af_fast.specs.Mixer.{MixerState}
-use Rattle.af_life.specs.Heard.{learnt}
-use Rattle.af_life.specs.declared.kept.Setting.{Setting}
-use Rattle.af_life.specs.Kept.{NormalKept, Setup}
-use Rattle.af_link.specs.declared.links.Links.{Links}
-use Rattle.af_link.specs.declared.names.StreamNames.{StreamNames}
-use Rattle.af_model.specs.declared.states.MutatorEvent.{MutatorEvent}
+use Rattle.af_play_law.proofs.Common.{Carried, Deeds, FastState, HasHistory, InStep, IsQuiet, Leads, Links, Made, MatchBool, MixerState, MutatorEvent, NormalKept, NormalState, ObserverEvent, Polls, Pushes, QueueKnown, Quiet, RoundSeen, Run, ServerState, Session, SessionState, Setting, Setup, StandsBetween, StreamNames, TookCounted, TurnPlayed, after_round, all_played, cycle_frames, ends_keep, few_acked, kept_of, known_same, learnt, met, observed, quiet_ends, quiet_met, quiet_then, report_ends, setup_of as script_setup_of, turn_of, turn_quiet}
 use Rattle.af_model.specs.declared.states.MutatorEvent.TheVariants as mutator
-use Rattle.af_model.specs.declared.states.ObserverEvent.{ObserverEvent}
 use Rattle.af_model.specs.declared.states.ObserverEvent.TheVariants as observer
-use Rattle.af_model.specs.Journals.{RoundSeen}
-use Rattle.af_model.specs.StateQueue.{HasHistory, observed}
-use Rattle.af_normal.specs.State.{NormalState, kept_of, setup_of}
-use Rattle.af_runs.specs.Rounds.{after_round, all_played}
-use Rattle.af_runs.specs.Runs.{Run, met}
-use Rattle.af_runs.specs.Sessions.{Session, cycle_frames, setup_of as script_setup_of}
-use Rattle.af_judge.specs.StatesKept.{Carried}
-use Rattle.af_server.specs.Order.{ServerState}
-use Rattle.af_stateq.specs.Ends.{Polls, Pushes}
-use Rattle.af_rendering.specs.Leads.{InStep, Leads, Tells as TellsPushes}
-use Rattle.af_rendering.proofs.Quiet.{IsQuiet, turn_quiet}
-use Rattle.af_rendering.proofs.QueueSeen.{few_acked}
+use Rattle.af_normal.specs.State.{setup_of}
+use Rattle.af_rendering.specs.Leads.{Tells as TellsPushes}
 use Rattle.af_rendering.proofs.QueueSteps.{learnt_by, step_met, tells_met}
 use Rattle.af_session.specs.Rounds as parties
-use Rattle.af_session.specs.Together.{SessionState}
-use Rattle.af_session.proofs.FollowingRounds.{ends_keep}
-use Rattle.af_side_by_side.specs.SideBySide.{TurnPlayed}
-use Rattle.af_told_law.specs.Between.{StandsBetween}
-use Rattle.af_told_law.specs.Deeds.{Deeds}
-use Rattle.af_told_law.specs.MixLaws.{TookCounted}
-use Rattle.af_told_law.specs.QueueTurned.{QueueKnown}
-use Rattle.af_told_law.proofs.KnownSteps.{Quiet, known_same, quiet_ends, quiet_met, quiet_then, report_ends}
 use Rattle.af_play_law.specs.RoundPlayed.{HearsForeseen, PlayStands, RoundPlayed}
 use Rattle.af_play_law.specs.Rounds.{RoundStands, RoundsAreTold}
 use Rattle.af_play_law.proofs.CarriedRound.{carried_round}

@@ -1,17 +1,7 @@
 -- The reader of the report has no part in the order of the normal mixer, nor the mark for an adopted state in what is told of the fast mixer.
 use Rattle.std.proofs.Common.{ℕ, Bool, List}
-use Rattle.af_base.specs.declared.event.ServerEvent.{ServerEvent}
-use Rattle.af_fast.specs.Mixer.{MixerState}
-use Rattle.af_link.specs.declared.links.Links.{Links}
+use Rattle.af_play_law.proofs.Common.{BlockTold, Deeds, Links, MixerState, NormalState, PartyState, Run, ServerEvent, Session, SessionState, Tells, TellsStream, TellsTrack, TrackTold, told_at}
 use Rattle.af_normal.specs.Order.{HasNoHands, IsInOrder as IsNormalInOrder}
-use Rattle.af_normal.specs.State.{NormalState}
-use Rattle.af_party.specs.Parties.{PartyState}
-use Rattle.af_runs.specs.Blocks.{BlockTold}
-use Rattle.af_runs.specs.Runs.{Run, TrackTold, told_at}
-use Rattle.af_runs.specs.Sessions.{Session}
-use Rattle.af_session.specs.Together.{SessionState}
-use Rattle.af_told_law.specs.Deeds.{Deeds}
-use Rattle.af_told_law.specs.Tells.{Tells, TellsStream, TellsTrack}
 
 -- ## The reader of the report
 

@@ -1,15 +1,10 @@
 -- A turn of the normal mixer looks at the acknowledgement and then perhaps pushes one state.
 use Rattle.std.proofs.Common.{inl, inr, ℕ, ◌-◌, ◌==◌, Bool, true, false, if◌then◌else◌, [], ◌∷◌, ◌++◌, append_assoc, append-nil, refl, sym, subst}
+use Rattle.af_play_law.proofs.Common.{IsLegal, Learnt, NormalKept, NormalState, Outside, Setup, Turn, after_edits, kept_of, learnt, mutator_list, number_seen, push_list, turn_of}
 use Rattle.af_base.specs.declared.state.Push.{Push}
 use Rattle.af_base.specs.declared.state.Push.TheVariants as answer
-use Rattle.af_base.specs.Turn.{Turn, turn_of}
-use Rattle.af_life.specs.Heard.{learnt}
-use Rattle.af_life.specs.Kept.{Learnt, NormalKept, Outside, Setup}
-use Rattle.af_life.specs.Turn.{after_edits}
-use Rattle.af_life.specs.TurnEvents.{mutator_list, number_seen, push_list}
 use Rattle.af_model.specs.declared.states.MutatorEvent.TheVariants as mutator
-use Rattle.af_normal.specs.LegalTurned.{IsLegal}
-use Rattle.af_normal.specs.State.{NormalState, kept_of, setup_of}
+use Rattle.af_normal.specs.State.{setup_of}
 use Rattle.af_play_law.specs.Polls.{GrowsByTurn, Items, Pushed}
 
 module _ (c : Setup) (k : Learnt) (m : NormalKept) (e : Turn) (back again sent : Items) (ms : Pushed) where

@@ -1,46 +1,17 @@
 -- Once the fast mixer has exited, the next turn of the normal mixer ends.
 use Rattle.std.proofs.Common.{◌≡◌, ℕ, zero, suc, ◌≤◌, ◌==◌, ◌||◌, Bool, true, false, if◌then◌else◌, sym, refl, ap, subst, ◌∙◌, List, [], ◌∷◌, ◌++◌, length, append_assoc, Some, eqb-true, arith}
-use Rattle.std.specs.Bool.{MatchBool}
-use Rattle.std.proofs.lemmas.Bool.{MatchBool-at_true, MatchBool-at_false}
-use Rattle.af_base.specs.declared.frame.Frame.{Frame}
-use Rattle.af_base.specs.declared.log.Cycle.{Cycle}
-use Rattle.af_base.specs.declared.log.CycleEntry.{CycleEntry}
-use Rattle.af_base.specs.declared.state.FastState.{FastState}
-use Rattle.af_base.specs.Turn.{Turn, turn_of}
-use Rattle.af_model.specs.Cycles.{state_of, cold_done, has_exit, is_mixed, is_exit as answers_exit}
-use Rattle.af_model.specs.StateQueue.{HasHistory}
+use Rattle.af_playing.proofs.Common.{AddsCycle, AreTold, Cycle, CycleEntry, CyclesOn, CyclesOnce, EndsMet, FastState, FastTurned, Frame, Given, HasHistory, IsQuiet, IsRoundOfAll, Links, MatchBool, MatchBool-at_false, MatchBool-at_true, MixerState, MixesOnce, MutatorEvent, NormalKept, NormalPlayed, NormalState, ObserverEvent, Observes, Outside, RoundNoted, ServerState, SessionState, Turn, TurnPlayed, adopted_states, after_edits, cold_done, ends_keep, going, has_exit, is_exit, is_mixed, is_over, kept_of, learnt, most_cycles, number_seen, push_list, pushed_states, setup_of, state_of, turn_of, turn_quiet}
+use Rattle.af_model.specs.Cycles.{is_exit as answers_exit}
 use Rattle.af_model.specs.declared.plain_calls.Poll.{Poll}
 use Rattle.af_model.specs.declared.plain_calls.Poll.TheVariants.{Nothing, Same, New}
-use Rattle.af_model.specs.declared.states.MutatorEvent.{MutatorEvent}
 use Rattle.af_model.specs.declared.states.MutatorEvent.TheVariants as mutator
-use Rattle.af_model.specs.declared.states.ObserverEvent.{ObserverEvent}
 use Rattle.af_model.specs.declared.states.ObserverEvent.TheVariants as observer
-use Rattle.af_model.specs.Journals.{RoundNoted}
 use Rattle.af_model.proofs.UsedStates.{has_exit-push}
-use Rattle.af_fast.specs.Mixer.{MixerState, adopted_states, is_over}
-use Rattle.af_fast.specs.Mixing.{AddsCycle, MixesOnce}
-use Rattle.af_life.specs.Edits.{is_exit}
-use Rattle.af_life.specs.Heard.{learnt}
-use Rattle.af_life.specs.Kept.{NormalKept, Outside}
-use Rattle.af_life.specs.TurnEvents.{number_seen, going, push_list}
-use Rattle.af_life.specs.Turn.{after_edits}
-use Rattle.af_link.specs.declared.links.Links.{Links}
 use Rattle.af_link.specs.declared.names.StreamNames.{StreamNames}
 use Rattle.af_normal.specs.LegalTurned.{IsLegal}
-use Rattle.af_normal.specs.State.{NormalState, setup_of, kept_of}
-use Rattle.af_server.specs.Order.{ServerState}
 use Rattle.af_stateq.specs.Answers.{WasPolled}
-use Rattle.af_stateq.specs.Laws.{pushed_states}
-use Rattle.af_stateq.specs.Observes.{AreTold, Observes}
 use Rattle.af_stateq.specs.Shelved.{no_state}
 use Rattle.af_stateq.proofs.Told.{told_learn, told_look, told_new}
-use Rattle.af_side_by_side.specs.Alone.{CyclesOn, CyclesOnce, FastTurned, most_cycles}
-use Rattle.af_engine.specs.Met.{EndsMet}
-use Rattle.af_side_by_side.specs.SideBySide.{IsRoundOfAll, NormalPlayed, TurnPlayed}
-use Rattle.af_session.specs.Rounds.{Given}
-use Rattle.af_session.specs.Together.{SessionState}
-use Rattle.af_session.proofs.FollowingRounds.{ends_keep}
-use Rattle.af_rendering.proofs.Quiet.{IsQuiet, turn_quiet}
 use Rattle.af_playing.proofs.PushedRuns.{PushedRuns, learn_pushes, turn_pushes}
 use Rattle.af_playing.proofs.LastExit.{IsLastExit, current_exit, exit_state, look_finds, turn_ends}
 

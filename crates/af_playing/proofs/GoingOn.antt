@@ -1,15 +1,8 @@
 -- When a run of all parties goes on, and how many rounds it can have made by then.
 use Rattle.std.proofs.Common.{◌≡◌, ℕ, ◌+◌, ◌<◌, ◌≤◌, ◌&&◌, Bool, true, true≢false, List, length, sym, ap, ◌∙◌, arith}
-use Rattle.std.specs.List.{list_all}
-use Rattle.std.proofs.lemmas.Bool.{eqb-false}
-use Rattle.af_model.specs.Cycles.{has_exit}
-use Rattle.af_model.specs.Journals.{RoundNoted}
-use Rattle.af_party.specs.Parties.{PartyState}
+use Rattle.af_playing.proofs.Common.{Given, IsRoundOfAll, PartyState, RoundNoted, SessionState, eqb-false, has_exit, list_all}
 use Rattle.af_play_law.proofs.Basics.{clients_all}
 use Rattle.af_playing.specs.PlayedRuns.{GoesOn, all_ended}
-use Rattle.af_session.specs.Rounds.{Given}
-use Rattle.af_side_by_side.specs.SideBySide.{IsRoundOfAll}
-use Rattle.af_session.specs.Together.{SessionState}
 use Rattle.af_playing.proofs.ExitSeen.{Knowing}
 use Rattle.af_playing.proofs.RoundsLeft.{AllEnded, IsGoing, has_ended, has_entries, going_on}
 

@@ -1,14 +1,8 @@
 -- A play of a script with enough cycles has ended once its log is full, so it is never cut off.
 use Rattle.std.proofs.Common.{◌≡◌, true, false, true≢false, List, length, refl, sym, ◌∙◌, arith}
-use Rattle.std.proofs.lemmas.Bool.{true_from_ne_false}
-use Rattle.af_base.specs.declared.frame.Frame.{Frame}
+use Rattle.af_playing.proofs.Common.{EndsState, Frame, IsScript, JournalData, ScriptData, Stage, true_from_ne_false}
 use Rattle.af_enough.specs.Enough.{HasEnoughCycles}
-use Rattle.af_model.specs.Journals.{JournalData}
 use Rattle.af_play_law.proofs.InTime.{plays_end}
-use Rattle.af_rendering.specs.declared.staging.Stage.{Stage}
-use Rattle.af_script.specs.Data.{ScriptData}
-use Rattle.af_script.specs.Form.{IsScript}
-use Rattle.af_session.specs.Ends.{EndsState}
 use Rattle.af_playing.specs.InTime.{EndsInTime}
 use Rattle.af_playing.specs.PlayedRuns.{HandsBackRun, all_ended}
 use Rattle.af_playing.specs.PlayedStages.{HasPlayed}

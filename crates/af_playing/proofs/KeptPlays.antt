@@ -1,37 +1,20 @@
 -- What a play keeps, by how it was answered.
 use Rattle.std.proofs.Common.{◌≡◌, ◌⊎◌, ℕ, Bool, true, false, List, Some, Result, Ok, Err, IfErr, IfOk, OnErr, OnOk, IsErrAnd, inl, inr, refl, sym, ap, subst, ◌∙◌}
+use Rattle.af_playing.proofs.Common.{EndsState, Files, Frame, HasCause, IsLegalRun, IsScript, JournalData, KeepsLists, Played, PokesSpareOthers, RoundsNoted, ScriptData, SessionState, SetsFile, Stage, ends_from, journal_of, journal_pcm, journal_sounds, on_ok, pcm_of, run_of, shown_by, spares_told, steps_told, summary_told}
 use Rattle.af_audit.specs.Drained.{EachDrainedTrackReachedItsStop}
 use Rattle.af_audit.proofs.EmptiedTold.{pipe-is-emptied}
 use Rattle.af_audit.proofs.FatesTold.{frames-have-fates}
 use Rattle.af_audit.proofs.SettledTold.{settled}
 use Rattle.af_audit.proofs.SparedTold.{lawful-blocks-are-spared}
-use Rattle.af_base.proofs.Basics.{on_ok}
-use Rattle.af_base.specs.declared.frame.Frame.{Frame}
 use Rattle.af_base.specs.declared.want.Memory.{Memory}
 use Rattle.af_playing.proofs.InTime.{never_cut_off}
-use Rattle.af_io.specs.Files.{Files, SetsFile}
-use Rattle.af_io.specs.Causes.{HasCause}
-use Rattle.af_model.specs.Journals.{JournalData, RoundsNoted, journal_of}
-use Rattle.af_runs.specs.LegalRuns.{IsLegalRun, run_of}
-use Rattle.af_runs.specs.Pcm.{journal_pcm}
-use Rattle.af_script.specs.Data.{ScriptData}
-use Rattle.af_script.specs.Form.{IsScript}
 use Rattle.af_playing.specs.declared.answering.PlayFault.{PlayFault}
 use Rattle.af_playing.specs.declared.answering.PlayFault.TheVariants as fault
-use Rattle.af_rendering.specs.declared.rendering.Played.{Played}
-use Rattle.af_rendering.specs.declared.staging.Stage.{Stage}
-use Rattle.af_session.specs.Ends.{EndsState, ends_from}
 use Rattle.af_playing.specs.PlayKept.{Answers, IsCutPlay, IsDonePlay, KeepsFiles, KeepsPlay, TellsItsRun, TookFew}
 use Rattle.af_playing.specs.PlayedRuns.{AtLimit, HandedBack, HandsBackRun, HasStoreCause, KeepsPromises, LeavesRun, all_ended, is_limit}
 use Rattle.af_playing.specs.PlayedAlone.{IsToldAlone}
 use Rattle.af_playing.specs.Spelled.{CallsStandOnce, NoneOlder, PushesStandOnce, ReleasedAsTold}
 use Rattle.af_playing.specs.PlayedStages.{HasPlayed}
-use Rattle.af_rendering.specs.Hostile.{PokesSpareOthers}
-use Rattle.af_session.specs.Shown.{shown_by, summary_told}
-use Rattle.af_session.specs.Together.{SessionState}
-use Rattle.af_told_law.specs.KeptEnds.{KeepsLists}
-use Rattle.af_tally.specs.Sound.{pcm_of}
-use Rattle.af_rendering.proofs.JournalSound.{journal_sounds}
 use Rattle.af_playing.proofs.ListsKept.{lists_kept}
 use Rattle.af_playing.proofs.NeverOlder.{none_older}
 use Rattle.af_playing.proofs.PlayCauses.{cause_behind}
@@ -40,8 +23,6 @@ use Rattle.af_playing.proofs.RunPushed.{pushes_stand_once}
 use Rattle.af_playing.proofs.RunReleased.{released_as_told}
 use Rattle.af_playing.proofs.RunSpelled.{calls_stand_once}
 use Rattle.af_playing.proofs.ToldAlone.{alone_kept}
-use Rattle.af_rendering.proofs.ShownWhole.{steps_told}
-use Rattle.af_rendering.proofs.Spared.{spares_told}
 
 -- ## If nothing is handed back
 

@@ -1,27 +1,14 @@
 -- An Exit that was polled is the last state pushed, and the look after a meeting sees it acknowledged.
 use Rattle.std.proofs.Common.{◌≡◌, ℕ, zero, suc, ◌+◌, ◌-◌, ◌<◌, ◌≤◌, ◌==◌, ◌&&◌, ◌||◌, Bool, true, false, if◌then◌else◌, sym, refl, ap, ◌∙◌, List, [], ◌∷◌, ◌++◌, length, append_assoc, Option, Some, None, is_some, unwrap_or, arith}
-use Rattle.af_base.proofs.Basics.{no, or_true}
+use Rattle.af_playing.proofs.Common.{AreTold, FastState, HasHistory, LegalTurn, MutatorEvent, NormalKept, ObserverEvent, Outside, Setup, Turn, after_edits, after_push, after_takes, cycle_by, cycle_of, is_exit, learnt, no, number_seen, or_true, polled_states, pushed_states, state_of, turn_after}
 use Rattle.af_base.specs.declared.log.Cycle.TheVariants as cycle
 use Rattle.af_base.specs.declared.state.Command.{Command}
 use Rattle.af_base.specs.declared.state.Command.TheVariants.{Initial, HotIdle, ColdIdle, Idle, Exit, Mix, Write, MixWrite}
-use Rattle.af_base.specs.declared.state.FastState.{FastState}
 use Rattle.af_base.specs.Command.{code_of}
-use Rattle.af_base.specs.Turn.{Turn}
-use Rattle.af_model.specs.Cycles.{state_of, cycle_of, cycle_by, is_exit as answers_exit}
-use Rattle.af_model.specs.StateQueue.{HasHistory}
-use Rattle.af_model.specs.declared.states.MutatorEvent.{MutatorEvent}
+use Rattle.af_model.specs.Cycles.{is_exit as answers_exit}
 use Rattle.af_model.specs.declared.states.MutatorEvent.TheVariants as mutator
-use Rattle.af_model.specs.declared.states.ObserverEvent.{ObserverEvent}
 use Rattle.af_model.specs.declared.states.ObserverEvent.TheVariants as observer
-use Rattle.af_life.specs.Kept.{Setup, NormalKept, Outside}
-use Rattle.af_life.specs.Edits.{is_exit, after_push}
-use Rattle.af_life.specs.Heard.{learnt}
-use Rattle.af_life.specs.Plays.{after_takes}
-use Rattle.af_life.specs.Turn.{after_edits, turn_after, LegalTurn}
-use Rattle.af_life.specs.TurnEvents.{number_seen}
 use Rattle.af_runs.proofs.Basics.{state_some}
-use Rattle.af_stateq.specs.Laws.{pushed_states, polled_states}
-use Rattle.af_stateq.specs.Observes.{AreTold}
 use Rattle.af_stateq.proofs.Exact.{sees_the_ack}
 use Rattle.af_stateq.proofs.Prefix.{polled_in_order}
 use Rattle.af_playing.proofs.PushedRuns.{NoneExits, EndsWith, PushedRuns}

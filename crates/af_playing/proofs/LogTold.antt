@@ -1,19 +1,11 @@
 -- A log by all rounds is the log of their journal.
 use Rattle.std.proofs.Common.{◌≡◌, ℕ, ◌+◌, ◌≤◌, All, Bool, true, false, Option, Some, None, List, [], ◌∷◌, length, map, take, drop, refl, sym, ap, ◌∙◌, arith}
+use Rattle.af_playing.proofs.Common.{EntrySeen, IsWhole, JournalData, Logged, LoggingState, LogsPlay, MixerState, RoundNoted, RoundSeen, RoundsNoted, TellsLog, count_refused, cycles_of, dealt, entries_of, entries_seen, flat_map-cons, journal_of, length-drop, length-take, most_cycles, notes_kept, rounds_seen, same_entries}
 use Rattle.std.specs.List.{flat_map}
-use Rattle.std.proofs.lemmas.List.{length-drop, length-take}
-use Rattle.std.proofs.lemmas.List.Concat.{flat_map-cons}
 use Rattle.std.proofs.lemmas.List.Elements.{All-head, All-tail}
-use Rattle.af_base.specs.Log.{Logged}
-use Rattle.af_fast.specs.Mixer.{MixerState}
 use Rattle.af_model.proofs.Basics.{same_length}
-use Rattle.af_model.specs.JournalForm.{IsWhole}
-use Rattle.af_model.specs.Journals.{EntrySeen, JournalData, RoundNoted, RoundSeen, RoundsNoted, cycles_of, entries_of, entries_seen, journal_of, rounds_seen}
 use Rattle.af_nblog.specs.NoteRounds.{count_accepted}
 use Rattle.af_nblog.proofs.Refusals.{none_refused}
-use Rattle.af_side_by_side.specs.Alone.{most_cycles}
-use Rattle.af_side_by_side.specs.Logging.{LoggingState, LogsPlay, TellsLog, count_refused, notes_kept}
-use Rattle.af_rendering.proofs.JournalSound.{dealt, same_entries}
 use Rattle.af_side_by_side.proofs.LogNotes.{refused_more}
 
 -- each round of a journal has the entries that its round was noted with

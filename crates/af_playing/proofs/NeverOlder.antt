@@ -1,25 +1,8 @@
 -- No cycle of a run uses a state older than that of a cycle before it.
 use Rattle.std.proofs.Common.{◌≡◌, ℕ, zero, suc, ◌+◌, ◌≤◌, ◌==◌, ◌||◌, Bool, true, false, fold, List, [], ◌∷◌, ◌++◌, length, map, refl, sym, ap, subst, ◌∙◌, eqb-true}
-use Rattle.std.specs.Bool.{MatchBool}
-use Rattle.af_base.specs.declared.frame.Frame.{Frame}
-use Rattle.af_base.specs.declared.log.Cycle.{Cycle}
-use Rattle.af_base.specs.declared.log.CycleEntry.{CycleEntry}
-use Rattle.af_base.specs.Log.{Logged}
-use Rattle.af_model.specs.Cycles.{is_mixed}
-use Rattle.af_model.specs.JournalForm.{IsWhole}
-use Rattle.af_model.specs.Journals.{EntrySeen, RoundNoted, RoundsNoted, journal_of}
-use Rattle.af_fast.specs.Mixer.{MixerState, is_over}
-use Rattle.af_fast.specs.Mixing.{MixesOnce}
-use Rattle.af_link.specs.declared.links.Links.{Links}
-use Rattle.af_script.specs.Data.{ScriptData}
-use Rattle.af_side_by_side.specs.Alone.{CyclesOn, CyclesOnce, FastTurned, most_cycles}
+use Rattle.af_playing.proofs.Common.{Cycle, CycleEntry, CyclesOn, CyclesOnce, EntrySeen, FastTurned, Frame, Given, IsRoundOfAll, IsWhole, Links, Logged, MatchBool, MixerState, MixesOnce, RoundNoted, RoundsNoted, ScriptData, SessionState, dealt, is_mixed, is_over, journal_of, most_cycles, polled_keeps, same_entries}
 use Rattle.af_playing.specs.PlayedRuns.{IsRunOfAll, Plays}
-use Rattle.af_session.specs.Rounds.{Given}
-use Rattle.af_side_by_side.specs.SideBySide.{IsRoundOfAll}
 use Rattle.af_playing.specs.Spelled.{NoneOlder, StepsUp}
-use Rattle.af_session.specs.Together.{SessionState}
-use Rattle.af_session.proofs.FastAdds.{polled_keeps}
-use Rattle.af_rendering.proofs.JournalSound.{dealt, same_entries}
 use Rattle.af_playing.proofs.RoundsOfAll.{log_of_turns}
 
 -- entries step up with one entry more, which uses the last state or the next one

@@ -1,24 +1,11 @@
 -- What a play answers, by what was played.
-use Rattle.std.proofs.Common.{◌≡◌, ◌⊎◌, ◌≤◌, ℕ, Bool, true, false, List, length, Some, Result, Ok, Err, IfErr, IfOk, OnErr, OnOk, IsErrAnd, IsErrOf, is_err, inl, inr, refl, sym, ap, subst, ◌∙◌}
-use Rattle.af_base.specs.declared.frame.Frame.{Frame}
-use Rattle.af_io.specs.Causes.{HasCause}
-use Rattle.af_io.specs.Files.{Files, SetsFile}
-use Rattle.af_io.specs.declared.store.StoreError.{StoreError}
+use Rattle.std.proofs.Common.{◌≡◌, ◌⊎◌, ◌≤◌, ℕ, Bool, true, false, List, length, Some, Result, Ok, Err, IfErr, IfOk, OnErr, OnOk, IsErrOf, is_err, inl, inr, refl, sym, ap, subst, ◌∙◌}
+use Rattle.af_playing.proofs.Common.{EndsState, Files, Frame, HasCause, IsCutRun, IsJournal, JournalData, Played, RoundsNoted, ScriptData, SessionState, SetsFile, StoreError, ends_from, journal_of, left_whole, no_fault, pcm_of}
 use Rattle.af_io.specs.declared.store.StoreError.TheVariants as store
-use Rattle.af_model.specs.JournalForm.{IsJournal}
-use Rattle.af_model.specs.Journals.{JournalData, RoundsNoted, journal_of}
 use Rattle.af_playing.proofs.Basics.{no_want}
-use Rattle.af_rendering.proofs.Basics.{no_fault}
-use Rattle.af_runs.specs.LegalRuns.{IsCutRun}
-use Rattle.af_script.specs.Data.{ScriptData}
-use Rattle.af_session.specs.Ends.{EndsState, ends_from}
-use Rattle.af_rendering.specs.declared.rendering.Played.{Played}
 use Rattle.af_playing.specs.declared.answering.PlayFault.{PlayFault}
 use Rattle.af_playing.specs.declared.answering.PlayFault.TheVariants as fault
 use Rattle.af_playing.specs.PlayedRuns.{AtFault, AtLimit, HandedBack, HandsBackRun, HasStoreCause, LeavesRun, Plays, all_ended, fault_of, is_full, is_limit}
-use Rattle.af_session.specs.Together.{SessionState}
-use Rattle.af_tally.specs.Sound.{pcm_of}
-use Rattle.af_rendering.proofs.NotedRounds.{left_whole}
 use Rattle.af_playing.proofs.PlayCauses.{cause_ok}
 
 -- ## Answers
@@ -67,22 +54,6 @@ limits_not store.Failed = refl
 limits_not store.Memory = refl
 
 module _ {T : Type 0} (r : Result T PlayFault) where
-  -- a refused allocation is no limit
-  pub memory_never : IsErrAnd r (λ f. f ≡ fault.Memory) → IfErr r (λ f. is_limit f ≡ false)
-  memory_never = by_answer r
-    where
-      by_answer : (x : Result T PlayFault) → IsErrAnd x (λ f. f ≡ fault.Memory) → IfErr x (λ f. is_limit f ≡ false)
-      by_answer (Ok y) is = tt
-      by_answer (Err f) is = ap is_limit is
-
-  -- a fault of the store is no limit
-  pub store_never : (e : StoreError) → IsErrAnd r (λ f. f ≡ fault_of e) → IfErr r (λ f. is_limit f ≡ false)
-  store_never e = by_answer r
-    where
-      by_answer : (x : Result T PlayFault) → IsErrAnd x (λ f. f ≡ fault_of e) → IfErr x (λ f. is_limit f ≡ false)
-      by_answer (Ok y) is = tt
-      by_answer (Err f) is = ap is_limit is ∙ limits_not e
-
   -- if an error is no limit, anything is so at the limit
   pub off_limit : (P : JournalData → EndsState → Type 0) → IfErr r (λ f. is_limit f ≡ false) → IfErr r (AtLimit P)
   off_limit P = by_answer r
@@ -196,17 +167,6 @@ handed_two P Q R (Ok p) follows a b = follows p.journal p.ends a b
 handed_two P Q R (Err fault.Store) follows a b = tt
 handed_two P Q R (Err fault.Memory) follows a b = tt
 handed_two P Q R (Err (fault.CycleLimit journal ends)) follows a b = follows journal ends a b
-
--- nothing is handed back after a refused allocation or a fault of the store
-pub none_handed : (P : JournalData → EndsState → Type 0) (r : Result Played PlayFault) (fault : PlayFault) → is_limit fault ≡ false → IsErrAnd r (λ f. f ≡ fault) → HandedBack P r
-none_handed P (Ok p) fault not is = absurd is
-none_handed P (Err f) fault not is = off_limit {T = Played} (Err f) P (ap is_limit is ∙ not)
-
-pub memory_handed : (P : JournalData → EndsState → Type 0) (r : Result Played PlayFault) → IsErrAnd r (λ f. f ≡ fault.Memory) → HandedBack P r
-memory_handed P r is = none_handed P r fault.Memory refl is
-
-pub store_handed : (P : JournalData → EndsState → Type 0) (r : Result Played PlayFault) (e : StoreError) → IsErrAnd r (λ f. f ≡ fault_of e) → HandedBack P r
-store_handed P r e is = none_handed P r (fault_of e) (limits_not e) is
 
 -- the journal is that of a run that was cut off
 abbrev pub cut_by : ScriptData → List (List Frame) → JournalData → EndsState → Type 0

@@ -1,13 +1,11 @@
 -- The cause of a fault in a play.
 use Rattle.std.proofs.Common.{◌≡◌, ℕ, Result, Ok, Err, IsErrAnd, IsErrOf, refl, sym, subst, arith}
-use Rattle.af_io.specs.Causes.{HasCause}
-use Rattle.af_io.specs.declared.store.StoreError.{StoreError}
+use Rattle.af_playing.proofs.Common.{HasCause, StoreError, no_fault, other_error}
 use Rattle.af_io.specs.declared.store.StoreError.TheVariants as store
 use Rattle.af_playing.proofs.Basics.{no_want}
 use Rattle.af_playing.specs.declared.answering.PlayFault.{PlayFault}
 use Rattle.af_playing.specs.declared.answering.PlayFault.TheVariants as fault
 use Rattle.af_playing.specs.PlayedRuns.{HasStoreCause, fault_of}
-use Rattle.af_rendering.proofs.Basics.{no_fault, other_error}
 
 not_err : {T : Type 0} (x : T) (f : PlayFault) → IsErrOf {T = T} {E = PlayFault} (Ok x) f → ⊥
 not_err x f h = let e : ⊥ = cc in e

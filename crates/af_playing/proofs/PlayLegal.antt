@@ -1,11 +1,6 @@
 -- The journal of a play in which all have ended is by itself that of a legal run, whatever the threads did.
 use Rattle.std.proofs.Common.{◌≡◌, true, List, length, sym, subst}
-use Rattle.af_base.specs.declared.frame.Frame.{Frame}
-use Rattle.af_model.specs.JournalForm.{IsJournal}
-use Rattle.af_model.specs.Journals.{JournalData, RoundSeen}
-use Rattle.af_runs.specs.LegalRuns.{IsLegalRun}
-use Rattle.af_script.specs.Data.{ScriptData}
-use Rattle.af_session.specs.Ends.{EndsState}
+use Rattle.af_playing.proofs.Common.{EndsState, Frame, IsJournal, IsLegalRun, JournalData, RoundSeen, ScriptData}
 use Rattle.af_audit.proofs.RunEnds.{legal_at_the_end}
 use Rattle.af_play_law.specs.PlayLaws.{PlaysAreToldAlone}
 use Rattle.af_playing.specs.PlayedRuns.{HandsBackRun}

@@ -1,28 +1,9 @@
 -- The rounds of a run of all parties are those that its journal records, one after the other.
 use Rattle.std.proofs.Common.{◌≡◌, ℕ, zero, suc, ◌+◌, ◌-◌, if◌then◌else◌, Bool, true, false, List, [], ◌∷◌, length, map, option_map, take, drop, Some, slice_get, refl, sym, ap, subst, ◌∙◌, arith}
-use Rattle.std.specs.Bool.{MatchBool}
-use Rattle.std.specs.Prelude.{slice_index_or}
-use Rattle.std.proofs.lemmas.List.{length-append}
-use Rattle.std.proofs.lemmas.Option.{get_or_from_slice_get, slice_get-map}
-use Rattle.af_base.specs.declared.event.ClientCall.{ClientCall}
-use Rattle.af_base.specs.Log.{Logged}
-use Rattle.af_fast.specs.Mixer.{MixerState}
-use Rattle.af_link.specs.declared.links.Links.{Links}
-use Rattle.af_model.specs.Cycles.{is_mixed}
-use Rattle.af_model.specs.Journals.{EntrySeen, RoundNoted, entries_seen, rounds_seen}
-use Rattle.af_party.specs.Parties.{PartyState}
-use Rattle.af_runs.specs.Blocks.{Marks}
-use Rattle.af_runs.specs.Sessions.{Session}
-use Rattle.af_session.specs.Rounds.{end_party, with_ends}
-use Rattle.af_session.specs.Together.{SessionState}
-use Rattle.af_session.proofs.FastAdds.{polled_keeps}
-use Rattle.af_side_by_side.specs.Alone.{CyclesOn, CyclesOnce, FastTurned, most_cycles}
-use Rattle.af_side_by_side.specs.SideBySide.{IsRoundOfAll}
+use Rattle.af_playing.proofs.Common.{ClientCall, CyclesOn, CyclesOnce, EntrySeen, FastTurned, GrowsBy, IsRoundOfAll, Links, Logged, Marks, MatchBool, MixerState, PartyState, PlaysOn, RoundNoted, Session, SessionState, end_party, entries_grown, entries_seen, get_or_from_slice_get, grows_none, grows_then, is_mixed, length-append, mix_grows, most_cycles, polled_keeps, rounds_seen, slice_get-map, slice_index_or, with_ends}
 use Rattle.af_told_law.specs.Marked.{AreRoundsMarked}
 use Rattle.af_told_law.specs.Tells.{given_of}
 use Rattle.af_told_law.proofs.EntriesDealt.{first_dealt, rest_dealt}
-use Rattle.af_told_law.proofs.LogMore.{GrowsBy, entries_grown, grows_none, grows_then, mix_grows}
-use Rattle.af_play_law.specs.PlayRuns.{PlaysOn}
 use Rattle.af_play_law.specs.RoundPlayed.{RoundPlayed}
 use Rattle.af_playing.specs.PlayedRuns.{GoesOn, IsRunOfAll}
 use Rattle.af_playing.proofs.GoingOn.{room_left}

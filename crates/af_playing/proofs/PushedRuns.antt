@@ -1,21 +1,7 @@
 -- What a mixer pushed: no state before the last one says Exit.
 use Rattle.std.proofs.Common.{◌≡◌, ℕ, zero, suc, ◌+◌, ◌<◌, ◌==◌, ◌&&◌, ◌||◌, Bool, true, false, if◌then◌else◌, sym, refl, ap, subst, ◌∙◌, List, [], ◌∷◌, ◌++◌, length, length-append, append-nil, Option, arith}
-use Rattle.std.specs.List.{AllByRecursion}
-use Rattle.af_base.proofs.Basics.{no}
-use Rattle.af_base.specs.declared.state.FastState.{FastState}
-use Rattle.af_base.specs.declared.state.Push.{Push}
-use Rattle.af_base.specs.declared.state.Push.TheVariants.{Pushed, Clean, Busy}
-use Rattle.af_base.specs.Turn.{Turn}
-use Rattle.af_model.specs.declared.states.MutatorEvent.{MutatorEvent}
+use Rattle.af_playing.proofs.Common.{AllByRecursion, Busy, Clean, FastState, IsQuiet, LegalTurn, MutatorEvent, NormalKept, Outside, Push, Pushed, Setup, Turn, after_edits, after_push, after_takes, is_exit, learnt, mutated_none, mutator_list, no, number_seen, push_clean, push_list, pushed_states, turn_after}
 use Rattle.af_model.specs.declared.states.MutatorEvent.TheVariants as mutator
-use Rattle.af_life.specs.Kept.{Setup, NormalKept, Outside}
-use Rattle.af_life.specs.Edits.{is_exit, after_push}
-use Rattle.af_life.specs.Heard.{learnt}
-use Rattle.af_life.specs.Plays.{after_takes}
-use Rattle.af_life.specs.Turn.{after_edits, turn_after, LegalTurn}
-use Rattle.af_life.specs.TurnEvents.{mutator_list, push_list, number_seen}
-use Rattle.af_stateq.specs.Laws.{pushed_states}
-use Rattle.af_rendering.proofs.Quiet.{IsQuiet, mutated_none, push_clean}
 
 -- none of these states says Exit
 abbrev pub NoneExits : List FastState → Type 0

@@ -1,19 +1,7 @@
 -- How many rounds of all parties a session makes: each adds an entry to the log until all have ended.
 use Rattle.std.proofs.Common.{◌≡◌, ℕ, zero, suc, ◌+◌, ◌<◌, ◌≤◌, ◌==◌, ◌||◌, Bool, true, false, true≢false, if◌then◌else◌, sym, refl, ap, subst, ◌∙◌, List, [], ◌∷◌, length, length-append, map, slice_get, Option, Some, is_some, unwrap_or, ne_eqb, arith}
-use Rattle.std.proofs.lemmas.Bool.{MatchBool-at_true, MatchBool-at_false}
-use Rattle.af_base.specs.declared.log.Cycle.{Cycle}
-use Rattle.af_model.specs.Cycles.{has_exit, is_mixed}
-use Rattle.af_model.specs.Journals.{RoundNoted}
-use Rattle.af_fast.specs.Mixer.{MixerState, is_over}
-use Rattle.af_link.specs.declared.links.Links.{Links}
-use Rattle.af_normal.specs.State.{NormalState}
-use Rattle.af_side_by_side.specs.Alone.{CyclesOn, CyclesOnce, FastTurned, most_cycles}
-use Rattle.af_party.specs.Parties.{PartyState}
-use Rattle.af_session.specs.Rounds.{Given, end_party, with_ends}
-use Rattle.af_side_by_side.specs.SideBySide.{IsRoundOfAll, TurnPlayed}
-use Rattle.af_session.specs.Together.{SessionState}
+use Rattle.af_playing.proofs.Common.{Cycle, CyclesOn, CyclesOnce, FastTurned, Given, IsRoundOfAll, Links, MatchBool-at_false, MatchBool-at_true, MixerState, NormalState, PartyState, RoundNoted, SessionState, TurnPlayed, end_party, ends_keep, has_exit, is_mixed, is_over, most_cycles, with_ends}
 use Rattle.af_playing.proofs.ExitSeen.{Knowing, exit_seen, rests_over}
-use Rattle.af_session.proofs.FollowingRounds.{ends_keep}
 
 -- ## The log
 

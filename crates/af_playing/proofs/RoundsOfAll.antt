@@ -1,36 +1,9 @@
 -- What a journal notes of a round of all parties has its form, and the tally of their run.
 use Rattle.std.proofs.Common.{◌≡◌, ℕ, zero, suc, Bool, true, false, if◌then◌else◌, MatchOption, List, [], ◌∷◌, ◌++◌, length, Some, None, refl, sym, ap, subst, ◌∙◌, arith}
-use Rattle.std.specs.Bool.{MatchBool}
-use Rattle.std.proofs.lemmas.List.{length-map}
-use Rattle.af_base.proofs.Basics.{zip_long}
-use Rattle.af_base.specs.declared.log.Cycle.{Cycle}
-use Rattle.af_base.specs.declared.state.FastState.{FastState}
-use Rattle.af_base.specs.Log.{Logged}
-use Rattle.af_base.specs.Turn.{turn_of}
-use Rattle.af_fast.specs.Mixer.{MixerState}
+use Rattle.af_playing.proofs.Common.{AreInStep, AreNoted, ClientPlayed, Cycle, CyclesOn, CyclesOnce, FastState, FastTurned, Given, HasFrames, IsNewSession, IsReady, IsRoundOfAll, IsTally, IsTurn, Links, Logged, MatchBool, MixerState, Notes, NotesFrames, PartyState, RoundNoted, RoundsNoted, ScriptData, SessionState, SharedState, Tallied, TurnPlayed, all_noted, ends_keep, in_step_met, in_step_new, is_mixed, kept_of, length-map, most_cycles, noted_more, polled_keeps, setup_of, shown_at, shown_in, tally_pushed, turn_of, zip_long}
 use Rattle.af_life.proofs.TurnForms.{turn_form}
-use Rattle.af_link.specs.declared.links.Links.{Links}
-use Rattle.af_model.specs.Cycles.{is_mixed}
-use Rattle.af_model.specs.JournalForm.{IsTurn}
-use Rattle.af_model.specs.Journals.{RoundNoted, RoundsNoted}
-use Rattle.af_normal.specs.State.{kept_of, setup_of}
-use Rattle.af_script.specs.Data.{ScriptData}
-use Rattle.af_side_by_side.specs.Alone.{CyclesOn, CyclesOnce, FastTurned, most_cycles}
-use Rattle.af_session.specs.NewSession.{IsNewSession}
-use Rattle.af_session.specs.Noted.{HasFrames, NotesFrames}
-use Rattle.af_party.specs.Parties.{PartyState}
 use Rattle.af_playing.specs.PlayedRuns.{IsRunOfAll, RunsOfAll}
-use Rattle.af_session.specs.Rounds.{Given, IsReady}
-use Rattle.af_engine.specs.Shares.{SharedState}
-use Rattle.af_session.specs.Shown.{shown_at, shown_in}
-use Rattle.af_side_by_side.specs.SideBySide.{ClientPlayed, IsRoundOfAll, TurnPlayed, all_noted}
-use Rattle.af_tally.specs.Tallies.{IsTally, Tallied}
-use Rattle.af_session.specs.Together.{SessionState}
-use Rattle.af_session.proofs.FollowingRounds.{ends_keep}
-use Rattle.af_session.proofs.FastAdds.{polled_keeps}
 use Rattle.af_rendering.proofs.LogGoes.{Goes, goes_not, goes_then, mix_goes}
-use Rattle.af_rendering.proofs.RoundForms.{AreNoted, Notes, noted_more}
-use Rattle.af_rendering.proofs.ShownWhole.{AreInStep, in_step_met, in_step_new, tally_pushed}
 
 -- ## The log
 

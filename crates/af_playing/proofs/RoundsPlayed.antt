@@ -1,12 +1,7 @@
 -- What is so between two rounds of a play: before the first of them, after one more, and at the end.
 use Rattle.std.proofs.Common.{◌≡◌, ◌+◌, ◌-◌, ◌*◌, ◌<◌, ◌≤◌, ◌++◌, ◌∷◌, ℕ, List, [], false, true, length, append-nil, inr, refl, sym, ap, subst, ◌∙◌, arith}
-use Rattle.std.proofs.lemmas.List.{length-append}
+use Rattle.af_playing.proofs.Common.{AreLinksOf, AreNoted, CarriesOn, FastState, Files, Given, HasPlacesAt, HasRoundRoom, IsJournal, IsReady, IsReadyOn, IsRoundOfAll, IsTally, IsWhole, KeepsRoom, KeepsSizes, KeepsSound, LeavesFront, MixerState, NotesFrames, Rig, Room, RoundsNoted, ScriptData, SessionState, SparesSoFar, Stage, TrackSpec, all_noted, empty_first, frames_first, given_of, journal_of, length-append, noted_none, nothing_shown, pcm_of, places_first, ready_first, shown_at, spares_first, tally_first}
 use Rattle.af_base.specs.Roomy.{Roomy}
-use Rattle.af_base.specs.declared.state.FastState.{FastState}
-use Rattle.af_fast.specs.Mixer.{MixerState}
-use Rattle.af_io.specs.Files.{Files, LeavesFront}
-use Rattle.af_model.specs.JournalForm.{IsJournal, IsWhole}
-use Rattle.af_model.specs.Journals.{RoundsNoted, journal_of}
 use Rattle.af_playing.proofs.ExitSeen.{Knowing, round_knows}
 use Rattle.af_playing.proofs.GoingOn.{few_so_far, goes_further}
 use Rattle.af_playing.proofs.RoundsLeft.{IsGoing, going_first}
@@ -16,29 +11,9 @@ use Rattle.af_playing.proofs.SparedOfAll.{spares_of_all}
 use Rattle.af_playing.proofs.StagesPlayed.{played_on}
 use Rattle.af_playing.specs.PlayedRuns.{GoesOn, LeavesRun, RunsOfAll, all_ended, is_full}
 use Rattle.af_playing.specs.PlayedStages.{HasPlayed, NotesRound}
-use Rattle.af_rendering.proofs.FirstRound.{empty_first, frames_first, ready_first}
-use Rattle.af_rendering.proofs.RoundForms.{AreNoted, noted_none}
-use Rattle.af_rendering.proofs.ShownWhole.{places_first, tally_first}
-use Rattle.af_rendering.proofs.Spared.{spares_first}
-use Rattle.af_rendering.specs.Hostile.{SparesSoFar}
 use Rattle.af_rendering.specs.Rendered.{HaveFiles}
 use Rattle.af_rendering.specs.Stages.{IsNewStage}
-use Rattle.af_session.specs.declared.room.Room.{Room}
-use Rattle.af_rendering.specs.declared.staging.Stage.{Stage}
-use Rattle.af_script.specs.Data.{ScriptData}
-use Rattle.af_script.specs.declared.track.TrackSpec.{TrackSpec}
-use Rattle.af_session.specs.Noted.{NotesFrames}
-use Rattle.af_session.specs.Rounds.{Given, IsReady}
-use Rattle.af_engine.specs.Shares.{AreLinksOf}
-use Rattle.af_session.specs.Shown.{shown_at}
-use Rattle.af_session.specs.Together.{SessionState}
-use Rattle.af_session.specs.Rooms.{CarriesOn, HasPlacesAt, HasRoundRoom, IsReadyOn, KeepsRoom, KeepsSizes, KeepsSound, given_of}
 use Rattle.af_side_by_side.specs.TurnsInRoom.{PlaysRound}
-use Rattle.af_side_by_side.specs.SideBySide.{IsRoundOfAll, all_noted}
-use Rattle.af_session.specs.declared.rig.Rig.{Rig}
-use Rattle.af_tally.specs.Sound.{pcm_of}
-use Rattle.af_tally.specs.Summaries.{nothing_shown}
-use Rattle.af_tally.specs.Tallies.{IsTally}
 
 -- The parties of a stage that was new have played the rounds noted, and are ready for one more: the room is as wide, and its tally is theirs
 pub record PlaysOn (script : ScriptData) (first : Stage) (rig : Rig) (noted : RoundsNoted) (t : SessionState) (room : Room) : Type 0 where

@@ -1,21 +1,7 @@
 -- The rounds of a play that was cut off are legal one by one, up to the last meetings, and its sound is that of their journal.
 use Rattle.std.proofs.Common.{◌≡◌, ℕ, ◌+◌, ◌*◌, List, [], ◌∷◌, length, refl, sym, ap, subst, arith}
-use Rattle.af_base.specs.declared.frame.Frame.{Frame}
-use Rattle.af_fast.specs.Mixer.{MixerState}
-use Rattle.af_model.specs.Journals.{JournalData, RoundNoted, cycles_of, journal_of}
-use Rattle.af_runs.specs.Blocks.{Marks}
-use Rattle.af_runs.specs.LegalRuns.{marks_of, session_of}
-use Rattle.af_runs.specs.Pcm.{journal_pcm}
-use Rattle.af_runs.specs.Runs.{new_run}
-use Rattle.af_runs.specs.Sessions.{Session}
-use Rattle.af_script.specs.Data.{ScriptData}
-use Rattle.af_session.specs.Rounds.{Given}
-use Rattle.af_session.specs.Together.{SessionState}
-use Rattle.af_side_by_side.specs.SideBySide.{IsRoundOfAll}
-use Rattle.af_rendering.proofs.JournalSound.{journal_sounds}
-use Rattle.af_tally.specs.Sound.{pcm_of}
+use Rattle.af_playing.proofs.Common.{Frame, Given, GrowsBy, IsRoundOfAll, JournalData, Marks, MixerState, RoundNoted, ScriptData, Session, SessionState, cycles_of, grows_none, grows_then, journal_of, journal_pcm, journal_sounds, marks_of, new_run, pcm_of, session_of}
 use Rattle.af_told_law.proofs.LogDealt.{dealt_whole}
-use Rattle.af_told_law.proofs.LogMore.{GrowsBy, grows_none, grows_then}
 use Rattle.af_told_law.proofs.NewTold.{no_deeds}
 use Rattle.af_play_law.proofs.PlayTold.{holds_first}
 use Rattle.af_play_law.proofs.RunTold.{runs_told}

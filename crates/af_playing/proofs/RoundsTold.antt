@@ -1,15 +1,7 @@
 -- The rounds that the parties of a new session played are those that their journal records.
 use Rattle.std.proofs.Common.{◌≡◌, List, ap, subst}
-use Rattle.af_base.specs.declared.frame.Frame.{Frame}
-use Rattle.af_fast.specs.Mixer.{MixerState}
-use Rattle.af_model.specs.Journals.{EntrySeen, RoundNoted, RoundSeen, entries_seen, rounds_seen}
-use Rattle.af_runs.specs.LegalRuns.{marks_of, session_of}
-use Rattle.af_runs.specs.Sessions.{Session}
-use Rattle.af_script.specs.Data.{ScriptData}
-use Rattle.af_session.specs.Together.{SessionState}
-use Rattle.af_told_law.proofs.LogMore.{entries_grown}
+use Rattle.af_playing.proofs.Common.{EntrySeen, Frame, MixerState, PlaysOn, RoundNoted, RoundSeen, ScriptData, Session, SessionState, entries_grown, entries_seen, marks_of, rounds_seen, session_of}
 use Rattle.af_told_law.proofs.MarkedRuns.{marks_free}
-use Rattle.af_play_law.specs.PlayRuns.{PlaysOn}
 use Rattle.af_playing.specs.PlayedRuns.{Plays}
 use Rattle.af_playing.proofs.PlayedOn.{plays_on}
 

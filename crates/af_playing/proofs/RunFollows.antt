@@ -1,51 +1,11 @@
 -- The run that a legal journal records follows the parties that made it: their normal mixer in all that entries record of it, with the states that it pushed, and each client in the words that it released.
 use Rattle.std.proofs.Common.{◌≡◌, ℕ, zero, suc, ◌+◌, ◌<◌, ◌==◌, Bool, true, false, if◌then◌else◌, MatchBool, List, [], ◌∷◌, ◌++◌, length, map, append-nil, option_map, drop, take, Option, Some, None, slice_get, true≢false, refl, sym, ap, subst, ◌∙◌, arith}
-use Rattle.std.specs.Prelude.{slice_index_or}
-use Rattle.std.specs.List.{range_with_len}
-use Rattle.std.proofs.lemmas.List.{length-map}
-use Rattle.std.proofs.lemmas.List.FromFn.{length-range_with_len}
-use Rattle.std.proofs.lemmas.Option.{get_or_from_slice_get, same_Some, slice_get-map, slice_get_within}
-use Rattle.af_base.specs.declared.event.ClientCall.{ClientCall}
-use Rattle.af_base.specs.declared.frame.Frame.{Frame}
-use Rattle.af_base.specs.declared.state.FastState.{FastState}
-use Rattle.af_base.specs.declared.state.Push.{Push}
-use Rattle.af_base.specs.declared.state.Push.TheVariants.{Pushed, Clean, Busy}
-use Rattle.af_base.specs.Turn.{Turn, turn_of}
-use Rattle.af_cblk.specs.declared.view.ClientPart.{ClientPart}
-use Rattle.af_cblk.specs.Sides.{HandSide, Made, client_made}
-use Rattle.af_client.specs.Order.{ClientState}
-use Rattle.af_entry_law.proofs.ClientRuns.{Words, called_at, called_long, round_words, run_words, track_words, turn_words, words_after}
+use Rattle.af_playing.proofs.Common.{Busy, Clean, ClientCall, ClientPart, ClientPlayed, ClientState, EntrySeen, FastState, Frame, Given, HandSide, IsNewSession, IsRoundOfAll, IsTrackAt, LegalRounds, LegalTurn, Made, Marks, MeetsAway, MeetsStream, NormalKept, NormalState, Outside, PartyState, Push, Pushed, RoundNoted, RoundSeen, Run, ScriptData, ServerState, Session, SessionState, Setup, SharedState, Spot, SpotMet, Track, Turn, TurnPlayed, Words, after_edits, called_at, called_long, calls_in, client_knows, client_made, clients_ended, clients_met, ends_keep, file_at, file_words, get_or_from_slice_get, kept_of, learnt, length-map, length-range_with_len, mutator_list, new_run, new_track, number_seen, ops_at, push_list, pushed_by, pushed_states, range_with_len, round_words, rounds_seen, run_from, run_words, same_Some, script_setup, session_of, setup_of, slice_get-map, slice_get_within, slice_index_or, track_count, track_of, track_words, tracks_of, turn_after, turn_of, turn_words, words_after, zip_at}
 use Rattle.af_entry_law.proofs.NormalRuns.{IsFollowed, rest_followed, turn_followed}
 use Rattle.af_entry_law.specs.Told.{mixer_told}
-use Rattle.af_life.specs.Heard.{learnt}
-use Rattle.af_life.specs.Kept.{NormalKept, Outside, Setup}
-use Rattle.af_life.specs.Turn.{LegalTurn, after_edits, turn_after}
-use Rattle.af_life.specs.TurnEvents.{mutator_list, number_seen, push_list}
-use Rattle.af_model.specs.Journals.{EntrySeen, RoundNoted, RoundSeen, rounds_seen}
 use Rattle.af_model.specs.declared.states.MutatorEvent.TheVariants as mutator
-use Rattle.af_normal.specs.Meeting.{MeetsStream, client_knows}
-use Rattle.af_normal.specs.State.{NormalState, kept_of, setup_of}
-use Rattle.af_party.specs.Parties.{PartyState, track_of}
-use Rattle.af_runs.specs.Blocks.{Marks}
-use Rattle.af_runs.specs.ClientTurns.{Track}
-use Rattle.af_runs.specs.LegalRuns.{LegalRounds, run_from, session_of}
 use Rattle.af_runs.specs.Rounds.{LegalNormalTurn, after_round}
-use Rattle.af_runs.specs.Runs.{Run, calls_in, new_run, new_track, pushed_by}
-use Rattle.af_runs.specs.Sessions.{Session, file_words, script_setup, track_count}
 use Rattle.af_runs.specs.Told.{is_pushed}
-use Rattle.af_script.specs.Data.{ScriptData}
-use Rattle.af_server.specs.Order.{ServerState}
-use Rattle.af_stateq.specs.Laws.{pushed_states}
-use Rattle.af_engine.specs.Met.{MeetsAway, Spot, SpotMet}
-use Rattle.af_session.specs.NewSession.{IsNewSession, tracks_of}
-use Rattle.af_session.specs.NewTracks.{IsTrackAt}
-use Rattle.af_session.specs.Rounds.{Given, file_at, ops_at}
-use Rattle.af_engine.specs.Shares.{SharedState}
-use Rattle.af_session.specs.Together.{SessionState}
-use Rattle.af_session.proofs.FollowingRounds.{ends_keep}
-use Rattle.af_rendering.proofs.MetOpen.{clients_ended, clients_met}
-use Rattle.af_side_by_side.specs.SideBySide.{ClientPlayed, IsRoundOfAll, TurnPlayed}
-use Rattle.af_side_by_side.proofs.ReadyOfAll.{zip_at}
 use Rattle.af_playing.specs.PlayedRuns.{IsRunOfAll}
 use Rattle.af_playing.proofs.PushedRuns.{pushed_append}
 

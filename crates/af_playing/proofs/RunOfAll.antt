@@ -1,27 +1,9 @@
 -- A run of all parties grows by a round at its end, and what it comes to for a session that was made new.
 use Rattle.std.proofs.Common.{◌≡◌, ℕ, List, [], ◌∷◌, ◌++◌, false, true≢false, refl, sym, ap, subst, ◌∙◌, append-nil, append_assoc}
-use Rattle.af_base.specs.declared.frame.Frame.{Frame}
-use Rattle.af_model.specs.Cycles.{has_exit}
-use Rattle.af_model.specs.Journals.{RoundNoted}
-use Rattle.af_model.specs.declared.states.MutatorEvent.{MutatorEvent}
-use Rattle.af_fast.specs.Mixer.{MixerState}
-use Rattle.af_life.specs.Kept.{Setup, new_normal}
-use Rattle.af_normal.specs.State.{NormalState}
-use Rattle.af_script.specs.Data.{ScriptData}
-use Rattle.af_server.specs.Order.{ServerState}
-use Rattle.af_stateq.specs.Laws.{pushed_states}
-use Rattle.af_session.specs.NewSession.{IsNewSession}
-use Rattle.af_runs.specs.Sessions.{script_setup}
+use Rattle.af_playing.proofs.Common.{Frame, Given, IsNewSession, IsQuiet, IsRoundOfAll, MixerState, MutatorEvent, NormalState, RoundNoted, ScriptData, ServerState, SessionState, Setup, SharedState, frames_first, has_exit, new_normal, pcm_of, pushed_states, script_setup, silent_first}
 use Rattle.af_playing.specs.PlayedRuns.{GoesOn, IsRunOfAll, Plays, RunsOfAll}
-use Rattle.af_session.specs.Rounds.{Given}
-use Rattle.af_engine.specs.Shares.{SharedState}
-use Rattle.af_side_by_side.specs.SideBySide.{IsRoundOfAll}
-use Rattle.af_tally.specs.Sound.{pcm_of}
-use Rattle.af_session.specs.Together.{SessionState}
 use Rattle.af_playing.proofs.ExitSeen.{Knowing}
-use Rattle.af_rendering.proofs.FirstRound.{frames_first, silent_first}
 use Rattle.af_playing.proofs.PushedRuns.{PushedRuns, new_pushes}
-use Rattle.af_rendering.proofs.Quiet.{IsQuiet}
 
 -- ## Growing
 

@@ -1,33 +1,10 @@
 -- In a run of all parties the journal records each push once, in order.
 use Rattle.std.proofs.Common.{◌≡◌, ℕ, zero, suc, ◌+◌, Bool, true, false, if◌then◌else◌, List, [], ◌∷◌, ◌++◌, length, length-append, drop, take, Some, None, refl, sym, ap, subst, ◌∙◌, append_assoc, append-nil, arith}
-use Rattle.std.specs.Prelude.{flat_map}
-use Rattle.std.specs.Bool.{MatchBool}
-use Rattle.std.proofs.lemmas.List.Concat.{flat_map-cons}
-use Rattle.std.proofs.lemmas.List.FromFn.{map-range_with_len_more}
-use Rattle.af_base.specs.declared.frame.Frame.{Frame}
-use Rattle.af_base.specs.declared.state.FastState.{FastState}
-use Rattle.af_base.specs.declared.state.Push.{Push}
-use Rattle.af_base.specs.declared.state.Push.TheVariants.{Pushed, Clean, Busy}
-use Rattle.af_base.specs.Turn.{Turn, turn_of}
-use Rattle.af_life.specs.Edits.{LegalPush, after_push}
-use Rattle.af_life.specs.Heard.{learnt}
-use Rattle.af_life.specs.Kept.{NormalKept, Outside, Setup}
-use Rattle.af_life.specs.Plays.{after_takes}
-use Rattle.af_life.specs.Turn.{LegalTurn, after_edits, turn_after}
-use Rattle.af_model.specs.Journals.{EntrySeen, JournalData, RoundNoted, RoundSeen, rounds_seen}
-use Rattle.af_normal.specs.State.{NormalState, kept_of, setup_of}
-use Rattle.af_script.specs.Data.{ScriptData}
-use Rattle.af_stateq.specs.Laws.{pushed_states}
-use Rattle.af_session.specs.Ends.{EndsState}
+use Rattle.af_playing.proofs.Common.{Busy, Clean, EndsState, EntrySeen, FastState, Frame, Given, IsRoundOfAll, JournalData, LegalPush, LegalTurn, MatchBool, NormalKept, NormalPlayed, NormalState, Outside, Push, Pushed, RoundNoted, RoundSeen, ScriptData, SessionState, Setup, Turn, TurnPlayed, after_edits, after_push, after_takes, ends_keep, flat_map, flat_map-cons, kept_of, learnt, map-range_with_len_more, mutated_none, pushed_states, rounds_seen, setup_of, turn_after, turn_noted, turn_of}
 use Rattle.af_playing.specs.PlayedRuns.{HandsBackRun, IsRunOfAll}
-use Rattle.af_session.specs.Rounds.{Given}
-use Rattle.af_side_by_side.specs.SideBySide.{IsRoundOfAll, NormalPlayed, TurnPlayed, turn_noted}
 use Rattle.af_playing.specs.Spelled.{PushesStandOnce, first_numbers, number_pushed, pushed_by, pushes_told}
-use Rattle.af_session.specs.Together.{SessionState}
 use Rattle.af_playing.proofs.ExitSeen.{Knowing, round_knows}
-use Rattle.af_session.proofs.FollowingRounds.{ends_keep}
 use Rattle.af_playing.proofs.PushedRuns.{PushedRuns}
-use Rattle.af_rendering.proofs.Quiet.{mutated_none}
 use Rattle.af_playing.proofs.RunOfAll.{knowing_first}
 
 -- ## A turn

@@ -1,32 +1,10 @@
 -- In a run of all parties each client's lists are spelled by just the calls that the journal records of it.
 use Rattle.std.proofs.Common.{◌≡◌, ℕ, Bool, true, false, if◌then◌else◌, List, [], ◌∷◌, ◌++◌, length, map, option_map, slice_get, Option, Some, None, refl, sym, ap, subst, ◌∙◌, append_assoc, append-nil, drop, take, ⊎_elim, arith}
-use Rattle.std.specs.Prelude.{flat_map, slice_index_or}
-use Rattle.std.proofs.lemmas.List.Concat.{flat_map-cons}
-use Rattle.std.proofs.lemmas.Option.{get_or_from_slice_get, none-some, same_Some, slice_get-map, slice_get_cases, slice_get_within}
-use Rattle.af_base.specs.declared.event.ClientCall.{ClientCall}
-use Rattle.af_base.specs.declared.frame.Frame.{Frame}
-use Rattle.af_cblk.specs.declared.view.ClientPart.{ClientPart}
-use Rattle.af_cblk.specs.Sides.{HandSide, Made}
-use Rattle.af_client.specs.Order.{ClientState}
-use Rattle.af_model.specs.Journals.{EntrySeen, JournalData, RoundNoted, RoundSeen, rounds_seen}
-use Rattle.af_model.specs.Spelled.{Kind, stream, commands}
-use Rattle.af_normal.specs.Meeting.{MeetsStream, client_knows}
-use Rattle.af_script.specs.Data.{ScriptData}
-use Rattle.af_server.specs.Order.{ServerState}
-use Rattle.af_session.specs.Ends.{EndsState}
-use Rattle.af_engine.specs.Met.{MeetsAway, Spot, SpotMet}
+use Rattle.af_playing.proofs.Common.{ClientCall, ClientPart, ClientPlayed, ClientState, EndsState, EntrySeen, Frame, Given, HandSide, IsNewSession, IsRoundOfAll, IsTrackAt, JournalData, Kind, Made, MeetsAway, MeetsStream, PartyState, RoundNoted, RoundSeen, ScriptData, ServerState, SessionState, SharedState, Spot, SpotMet, client_knows, commands, end_party, file_at, flat_map, flat_map-cons, get_or_from_slice_get, none-some, ops_at, rounds_seen, same_Some, slice_get-map, slice_get_cases, slice_get_within, slice_index_or, stream, track_of, tracks_of, zip_at}
 use Rattle.af_session.specs.Met.{TrackMet}
-use Rattle.af_session.specs.NewSession.{IsNewSession, tracks_of}
-use Rattle.af_session.specs.NewTracks.{IsTrackAt}
-use Rattle.af_party.specs.Parties.{PartyState, track_of}
 use Rattle.af_playing.specs.PlayedRuns.{HandsBackRun, IsRunOfAll}
-use Rattle.af_session.specs.Rounds.{Given, end_party, file_at, ops_at}
-use Rattle.af_engine.specs.Shares.{SharedState}
-use Rattle.af_side_by_side.specs.SideBySide.{ClientPlayed, IsRoundOfAll}
 use Rattle.af_playing.specs.Spelled.{BothSpell, CallsStandOnce, IsSpelled, Spells, calls_told}
-use Rattle.af_session.specs.Together.{SessionState}
 use Rattle.af_playing.proofs.ClientsSpelled.{spelled_met, spelled_none, turn_spells}
-use Rattle.af_side_by_side.proofs.ReadyOfAll.{zip_at}
 
 -- ## A meeting
 

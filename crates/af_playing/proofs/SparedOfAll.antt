@@ -1,24 +1,8 @@
 -- A round of all parties at once spares the tracks whose clients have not poked.
 use Rattle.std.proofs.Common.{◌≡◌, ℕ, zero, suc, ◌+◌, ◌<◌, Bool, true, false, if◌then◌else◌, MatchBool, List, [], ◌∷◌, ◌++◌, length, map, slice_get, get_or, Some, None, refl, sym, ap, subst, ◌∙◌, arith}
-use Rattle.std.specs.Prelude.{slice_index_or}
-use Rattle.std.specs.List.{list_all}
-use Rattle.std.proofs.lemmas.Option.{none-some, same_Some, slice_get-get_or, slice_get_within}
-use Rattle.af_base.proofs.Basics.{both_true}
-use Rattle.af_base.specs.Turn.{Turn, turn_of}
-use Rattle.af_runs.specs.ClientTurns.{after_calls}
-use Rattle.af_link.specs.declared.links.Links.{Links}
-use Rattle.af_model.specs.Journals.{RoundNoted}
-use Rattle.af_server.specs.Order.{ServerState}
+use Rattle.af_playing.proofs.Common.{ClientPlayed, Given, IsReady, IsRoundOfAll, IsTame, Links, PartyState, RoundNoted, ServerState, SessionState, SparesSoFar, Turn, TurnPlayed, after_calls, both_true, file_at, has_no_poke, is_spared_in_turn, list_all, none-some, ops_at, same_Some, slice_get-get_or, slice_get_within, slice_index_or, track_of, turn_in, turn_of, zip_at}
 use Rattle.af_audit.specs.Spared.{none_corrupt}
-use Rattle.af_rendering.specs.Hostile.{IsTame, SparesSoFar, is_spared_in_turn}
-use Rattle.af_party.specs.Parties.{PartyState, track_of}
-use Rattle.af_session.specs.Rounds.{Given, IsReady, file_at, ops_at}
-use Rattle.af_session.specs.Shown.{turn_in}
-use Rattle.af_side_by_side.specs.SideBySide.{ClientPlayed, IsRoundOfAll, TurnPlayed}
-use Rattle.af_tally.specs.Summaries.{has_no_poke}
-use Rattle.af_session.specs.Together.{SessionState}
 use Rattle.af_rendering.proofs.OpenCalls.{AreOpen, AreTame, open_turn, tame_turn}
-use Rattle.af_side_by_side.proofs.ReadyOfAll.{zip_at}
 use Rattle.af_rendering.proofs.SparedRounds.{Follows, RoundSpares, calls_in_round, command_open, follows_close, open_after, spares_more, stream_open, tame_before}
 use Rattle.af_rendering.proofs.SparedTurns.{turn_spares}
 

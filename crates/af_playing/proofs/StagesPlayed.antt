@@ -1,21 +1,10 @@
 -- What a stage is, once its rounds were played.
 use Rattle.std.proofs.Common.{◌≡◌, ◌≤◌, ℕ, List, [], length, false, true, sym, ap, subst, ◌∙◌}
-use Rattle.af_base.specs.declared.frame.Frame.{Frame}
-use Rattle.af_link.specs.declared.links.Links.{Links}
-use Rattle.af_script.specs.Data.{ScriptData}
-use Rattle.af_script.specs.declared.track.TrackSpec.{TrackSpec}
-use Rattle.af_rendering.specs.declared.staging.Stage.{Stage}
-use Rattle.af_session.specs.NewSession.{IsNewSession}
+use Rattle.af_playing.proofs.Common.{Frame, Given, IsNewSession, Links, ScriptData, SessionState, SharedState, Stage, TrackSpec, frames_first, released_few, spares_noted}
 use Rattle.af_playing.specs.PlayedRuns.{RunsOfAll, all_ended, is_full}
-use Rattle.af_session.specs.Rounds.{Given}
-use Rattle.af_engine.specs.Shares.{SharedState}
 use Rattle.af_playing.specs.PlayedStages.{HasPlayed}
-use Rattle.af_session.specs.Together.{SessionState}
-use Rattle.af_rendering.proofs.FirstRound.{frames_first}
 use Rattle.af_playing.proofs.RoundsOfAll.{tally_of_all}
 use Rattle.af_playing.proofs.RunOfAll.{plays}
-use Rattle.af_rendering.proofs.ShownWhole.{released_few}
-use Rattle.af_rendering.proofs.Spared.{spares_noted}
 use Rattle.af_rendering.proofs.StagesRun.{NotedOn}
 
 module _ (script : ScriptData) (shared : SharedState) (was : SessionState) (new : IsNewSession script shared was) (files : List (List Frame)) (links : Links) (tracks : List TrackSpec) (here : tracks ≡ script.tracks) (s : Stage) (room : s.room.released ≡ record { items = []; room = length script.tracks }) where

@@ -1,21 +1,6 @@
 -- The summary of a play is that of its journal alone, if the journal is that of a legal run or of a cut one.
 use Rattle.std.proofs.Common.{◌≡◌, ℕ, suc, Bool, true, false, List, [], ◌∷◌, length, map, option_map, slice_get, Some, Result, Ok, Err, IfErr, IfOk, refl, sym, ap, subst, ◌∙◌, arith}
-use Rattle.std.proofs.lemmas.List.{length-map}
-use Rattle.std.proofs.lemmas.Option.{same_Some, slice_get-map}
-use Rattle.af_base.specs.declared.frame.Frame.{Frame}
-use Rattle.af_entry_law.proofs.ClientRuns.{Words, track_words}
-use Rattle.af_model.specs.Journals.{JournalData, entries_of, frames_of}
-use Rattle.af_party.specs.Parties.{PartyState}
-use Rattle.af_runs.specs.LegalRuns.{HasLegalRounds, IsCutRun, IsLegalRun, LegalRounds, marks_of, run_from, run_of, session_of}
-use Rattle.af_runs.specs.Runs.{Run, TrackTold, new_run}
-use Rattle.af_runs.specs.Sessions.{Session}
-use Rattle.af_script.specs.Data.{ScriptData}
-use Rattle.af_session.specs.Ends.{EndsState}
-use Rattle.af_session.specs.Rounds.{Given}
-use Rattle.af_session.specs.Shown.{released_by, shows, shown_by}
-use Rattle.af_stateq.specs.Laws.{pushed_states}
-use Rattle.af_tally.specs.Summaries.{summary_of}
-use Rattle.af_rendering.specs.declared.rendering.Played.{Played}
+use Rattle.af_playing.proofs.Common.{EndsState, Frame, Given, HasLegalRounds, IsCutRun, IsLegalRun, JournalData, LegalRounds, PartyState, Played, Run, ScriptData, Session, TrackTold, Words, entries_of, frames_of, length-map, marks_of, new_run, pushed_states, released_by, run_from, run_of, same_Some, session_of, shown_by, shows, slice_get-map, summary_of, track_words}
 use Rattle.af_playing.specs.declared.answering.PlayFault.{PlayFault}
 use Rattle.af_playing.specs.declared.answering.PlayFault.TheVariants as fault
 use Rattle.af_rendering.specs.Alone.{shown_from}

@@ -138,7 +138,8 @@ pub fn play_logged<R: Threads + Sync, S: Store, G: Gate>(
     ensures files { S.told store.old → KeepsFiles piece.now.script.now piece.now.files.now piece.now.name.now (S.files store.old) (S.files store.new) result }
     ensures tells { S.told store.old → S.told store.new }
     ensures cause { HasStoreCause (S.faults store.old) (S.faults store.new) result }
-    ensures log { AppendsLogOfPlay piece.now.script.now.frames piece.now.room result text.old.items text.new.items × OnErr result (text.new.items ≡ text.old.items) }
+    ensures log { AppendsLogOfPlay piece.now.script.now.frames piece.now.room result text.old.items text.new.items
+        × OnErr result (text.new.items ≡ text.old.items) }
     ensures steps { HandedBack (TookFew piece.now.script.now.frames steps.new.items) result }
 {
     let mut logging = Logging::of(alloc, piece.room, piece.script.cycles())?;

@@ -1,13 +1,7 @@
 -- What a meeting shows of both ends.
 use Rattle.std.proofs.Common.{◌≡◌, ℕ, true, Option, None, List, [], sym, ◌∙◌, subst}
-use Rattle.std.specs.List.{list_all}
+use Rattle.af_record.proofs.Common.{ClientPart, HasHistory, IsServerList, ServerPart, Shape, list_all, server_kept_of}
 use Rattle.af_base.specs.declared.event.HandEvent.{HandEvent}
-use Rattle.af_model.specs.declared.shape.Shape.{Shape}
-use Rattle.af_model.specs.History.{HasHistory}
-use Rattle.af_model.specs.ServerCalls.{IsServerList}
-use Rattle.af_cblk.specs.declared.view.ClientPart.{ClientPart}
-use Rattle.af_cblk.specs.declared.view.ServerPart.{ServerPart}
-use Rattle.af_server.specs.Order.{server_kept_of}
 use Rattle.af_record.specs.History.{HasTapeHistory, IsReadList, is_calm}
 use Rattle.af_record.specs.Ends.{OnlyWrites, IsCalm}
 use Rattle.af_record.proofs.TapeOrders.{stays_calm, stays_alive, tape_history}

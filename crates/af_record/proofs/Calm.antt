@@ -1,22 +1,11 @@
 -- If the client never flushed, no flush word seen is other than 0, and a server that looks and takes drops nothing.
-use Rattle.std.proofs.Common.{◌≡◌, ℕ, ◌+◌, ◌*◌, ◌%◌, ◌==◌, if◌then◌else◌, Bool, true, false, true≢false, Option, Some, fold, List, [], ◌∷◌, ◌++◌, refl, sym, ap, ◌∙◌, arith, eq-eqb, eqb-true}
-use Rattle.std.specs.List.{list_all}
-use Rattle.std.proofs.lemmas.Grind.{fold-append}
-use Rattle.std.proofs.lemmas.List.Folds.{list_all-append}
-use Rattle.af_base.proofs.Basics.{both_true}
-use Rattle.af_base.specs.declared.event.ServerEvent.{ServerEvent}
+use Rattle.std.proofs.Common.{◌≡◌, ℕ, ◌+◌, ◌*◌, ◌%◌, ◌==◌, if◌then◌else◌, Bool, true, true≢false, Option, Some, fold, List, [], ◌∷◌, ◌++◌, refl, sym, ap, ◌∙◌, arith, eq-eqb, eqb-true}
+use Rattle.af_record.proofs.Common.{IsLegal, IsServerList, Moment, Seen, ServerEvent, ServerKept, ServerMay, Shape, TrackPoint, both_first, both_right, both_true, by_client, by_hand, by_server, client_of, drops_of, flushes-append, flushes_of, in_turn, list_all, list_all-append, look_at, look_events, looks, meets, reads_gains, rests, server_begins, server_keeps, server_kept, server_of, sets_flags, sets_status, takes, tallies, wrapped}
 use Rattle.af_base.specs.declared.event.ServerEvent.TheVariants as server
-use Rattle.af_base.specs.declared.seen.Seen.{Seen}
-use Rattle.af_base.specs.declared.seen.Seen.TheVariants as seen
-use Rattle.af_model.proofs.Basics.{both_first, flushes-append}
-use Rattle.af_model.specs.declared.shape.Shape.{Shape}
-use Rattle.af_model.specs.declared.point.TrackPoint.{TrackPoint}
-use Rattle.af_model.specs.Point.{wrapped, start, ServerMay}
-use Rattle.af_model.specs.History.{Moment, by_client, by_server, by_hand, client_of, server_of, after, IsLegal, flushes_of}
-use Rattle.af_model.specs.ServerCalls.{ServerKept, server_keeps, server_begins, server_kept, look_at, drops_of, look_events, IsServerList, begins, looks, takes, reads_gains, tallies, sets_flags, sets_status, rests, meets}
+use Rattle.af_model.specs.Point.{start}
+use Rattle.af_model.specs.History.{after}
+use Rattle.af_model.specs.ServerCalls.{begins}
 use Rattle.af_model.proofs.Counts.{flushes_are}
-use Rattle.af_model.proofs.Fates.{in_turn}
-use Rattle.af_model.proofs.Logic.{both_right}
 use Rattle.af_record.specs.History.{is_reading, is_calm}
 use Rattle.af_server.proofs.Basics.{no_drop}
 
@@ -70,24 +59,13 @@ record StaysCalm (k : Shape) (events : List ServerEvent) : Type 0 where
   calm : list_all is_calm events ≡ true
 
 module _ (k : Shape) where
-  kept-more : (es more : List ServerEvent) → server_kept k (es ++ more) ≡ fold (server_keeps k) (server_kept k es) more
-  kept-more es more = fold-append (server_keeps k) (server_begins k) es more
-
   pub looks_calm : (kept asked flush rear front : ℕ) → kept ≡ 0 → flush ≡ 0 → drops_of (look_at k kept asked flush rear front) front ≡ []
   looks_calm kept asked flush rear front none unflushed =
       ap (λ (x : ℕ × ℕ). drops_of (look_at k x.0 asked x.1 rear front) front) (λ i. (none i, unflushed i)) ∙ no_drop _ _ front rear _
 
   flush-quiet : (kept : ServerKept) (e : ServerEvent) → is_calm e ≡ true → kept.flush ≡ 0 → (server_keeps k kept e).flush ≡ 0
   flush-quiet kept (server.SawFlush flush) calm none = eqb-true flush 0 calm
-  flush-quiet kept (server.SawRear rear) calm none = none
-  flush-quiet kept (server.SawFront front) calm none = none
-  flush-quiet kept (server.Take count) calm none = none
-  flush-quiet kept (server.Learn count) calm none = none
-  flush-quiet kept (server.SawGain word) calm none = none
-  flush-quiet kept (server.Drop to) calm none = none
-  flush-quiet kept (server.Tally missing) calm none = none
-  flush-quiet kept (server.SetFlags bits) calm none = none
-  flush-quiet kept (server.SetStatus word) calm none = none
+  flush-quiet kept _ calm none = none
 
   flush-calm : (kept : ServerKept) (es : List ServerEvent) → list_all is_calm es ≡ true → kept.flush ≡ 0 → (fold (server_keeps k) kept es).flush ≡ 0
   flush-calm kept [] calm none = none

@@ -1,30 +1,11 @@
 -- With both ends in one hand a supply finds all the room that there is, and a read all that is queued.
 use Rattle.std.proofs.Common.{◌≡◌, inl, inr, ℕ, zero, suc, ◌+◌, ◌-◌, ◌^◌, ◌≤◌, ◌<◌, ◌==◌, nat_lt, bit_and, Bool, true, false, true≢false, not, if◌then◌else◌, MatchOption, Option, None, max, min, eqb-true, List, [], ◌∷◌, ◌++◌, length, take, drop, refl, sym, ap, ◌∙◌, subst, arith, append_assoc, length-append}
+use Rattle.af_record.proofs.Common.{ClientEvent, ClientPart, Made, ServerEvent, ServerPart, Shape, ahead, ahead-between, both_first, both_right, client_met, count_seen, drop-take, drop_at, drops_of, is_not_below, list_all, list_all-append, look_at, room_by, server_did, server_kept_of, take-append_seam, wrapped}
 use Rattle.std.proofs.Common.{length-drop, length-take}
-use Rattle.std.proofs.lemmas.List.{drop-take, drop_at}
-use Rattle.std.proofs.Math.Seq.{take-append_seam}
-use Rattle.af_base.proofs.Basics.{is_not_below}
-use Rattle.af_base.specs.declared.event.ClientEvent.{ClientEvent}
 use Rattle.af_base.specs.declared.event.ClientEvent.TheVariants as client
-use Rattle.af_base.specs.declared.event.ServerEvent.{ServerEvent}
 use Rattle.af_base.specs.declared.event.ServerEvent.TheVariants as server
 use Rattle.af_base.specs.declared.seen.Seen.TheVariants as seen
-use Rattle.af_base.specs.Log.{count_seen}
-use Rattle.std.specs.List.{list_all}
-use Rattle.std.proofs.lemmas.List.Folds.{list_all-append}
-use Rattle.af_model.proofs.Basics.{both_first}
-use Rattle.af_model.specs.declared.shape.Shape.{Shape}
-use Rattle.af_server.specs.Order.{server_kept_of}
-use Rattle.af_model.specs.Point.{wrapped}
-use Rattle.af_model.specs.Room.{ahead}
-use Rattle.af_model.specs.PipeHistory.{room_by}
-use Rattle.af_model.specs.ServerCalls.{look_at, drops_of}
-use Rattle.af_model.proofs.Logic.{ahead-between, both_right}
 use Rattle.af_record.specs.Ends.{SeesTaken}
-use Rattle.af_cblk.specs.declared.view.ClientPart.{ClientPart}
-use Rattle.af_cblk.specs.declared.view.ServerPart.{ServerPart}
-use Rattle.af_cblk.specs.Parts.{client_met, server_did}
-use Rattle.af_cblk.specs.Sides.{Made}
 use Rattle.af_record.specs.History.{HasTapeHistory, is_alive, is_calm}
 use Rattle.af_record.specs.Ends.{CaptureState, ListenerState, put_by, taken_in, takes as takes_of, last_room, last_dead, room_seen, HasRead, SawWords, IsStopped, LooksFirst, SeesPut, SeesRoom}
 use Rattle.af_record.proofs.Calm.{all_first, all_second, kept_zero, looks_calm}

@@ -1,11 +1,8 @@
 -- In a history of a recording each front seen is the number of frames taken before it.
 use Rattle.std.proofs.Common.{◌≡◌, ℕ, List, [], ◌∷◌, refl, subst}
-use Rattle.af_base.specs.declared.event.ClientEvent.{ClientEvent}
+use Rattle.af_record.proofs.Common.{ClientEvent, Event, Legal, PipePoint, ServerEvent, next, one, start, two, twos}
 use Rattle.af_base.specs.declared.event.ClientEvent.TheVariants as client
-use Rattle.af_base.specs.declared.event.ServerEvent.{ServerEvent}
 use Rattle.af_base.specs.declared.event.ServerEvent.TheVariants as server
-use Rattle.af_model.specs.Order.{Event, one, two, twos, Legal}
-use Rattle.af_model.specs.PipeHistory.{PipePoint, start, next}
 use Rattle.af_record.specs.History.{legal, HasTapeHistory}
 use Rattle.af_record.specs.Ends.{SeesTaken}
 
@@ -13,14 +10,7 @@ module _ (size : ℕ) where
   -- a step of the end that supplies takes no frames
   put_leaves : (p : PipePoint) (e : ClientEvent) → (next p (one e)).taken ≡ p.taken
   put_leaves p (client.Release count) = refl
-  put_leaves p client.Flush = refl
-  put_leaves p (client.SetGain word) = refl
-  put_leaves p (client.ClearFlags old) = refl
-  put_leaves p (client.SawFlags flags) = refl
-  put_leaves p (client.SawFront front) = refl
-  put_leaves p (client.SawStatus word) = refl
-  put_leaves p (client.Poke word value) = refl
-  put_leaves p (client.Learn count) = refl
+  put_leaves p _ = refl
 
   in_order : (p : PipePoint) (es : List (Event ClientEvent ServerEvent)) → Legal (legal size) next p es → SeesTaken p.taken (twos es)
   in_order p [] l = tt

@@ -1,8 +1,6 @@
 -- Supplies and reads, one more, and what a recording comes to.
 use Rattle.std.proofs.Common.{◌≡◌, ℕ, ◌+◌, ◌-◌, List, [], ◌∷◌, ◌++◌, length, take, drop, map, refl, sym, ap, ◌∙◌, arith, append_assoc, append-nil, length-append, length-take-le}
-use Rattle.std.proofs.lemmas.List.{length-drop, length-map, take-append-drop}
-use Rattle.af_base.specs.declared.frame.Frame.{Frame}
-use Rattle.af_base.specs.Sample.{packed_word}
+use Rattle.af_record.proofs.Common.{Frame, length-drop, length-map, packed_word, take-append-drop}
 use Rattle.af_record.specs.Supplies.{Supply, supply_of, kept, count_lost, count_supplied, all_read, IsCaptureHistory}
 use Rattle.af_record.specs.Ends.{CaptureState, ListenerState, CameBy, ReadBy}
 

@@ -1,3 +1,4 @@
+pub mod Common
 pub mod Calm
 pub mod TapeOrders
 pub mod Fronts

@@ -1,24 +1,11 @@
 -- What a write leaves of the list of the end that supplies.
 use Rattle.std.proofs.Common.{◌≡◌, inl, inr, ◌≢◌, ℕ, zero, suc, ◌+◌, ◌-◌, ◌≤◌, ◌==◌, bit_and, Bool, false, true≢false, not, List, [], ◌∷◌, ◌++◌, length, take, drop, map, refl, sym, ap, ◌∙◌, subst, arith, append_assoc, append-nil, length-append, length-take-le, ne_eqb}
-use Rattle.std.proofs.lemmas.List.{length-drop, length-map, map-append, take_all}
-use Rattle.std.proofs.Math.Seq.{take-add}
-use Rattle.af_base.specs.declared.frame.Frame.{Frame}
-use Rattle.af_base.specs.declared.event.ClientEvent.{ClientEvent}
+use Rattle.af_record.proofs.Common.{ClientEvent, ClientPart, ClientState, Frame, IsInOrder, Legal, PutKept, ServerEvent, Shape, after, after_put, ahead, client_kept_of, client_met, length-drop, length-map, map-append, nothing_put, packed_word, room_by, take-add, take_all, wrapped}
 use Rattle.af_base.specs.declared.event.ClientEvent.TheVariants as client
-use Rattle.af_base.specs.declared.event.ServerEvent.{ServerEvent}
-use Rattle.af_base.specs.Sample.{packed_word}
-use Rattle.af_model.specs.Point.{wrapped}
-use Rattle.af_model.specs.Room.{ahead}
-use Rattle.af_model.specs.Order.{Legal, after}
-use Rattle.af_model.specs.PipeHistory.{room_by, PutKept, nothing_put, after_put}
-use Rattle.af_model.specs.declared.shape.Shape.{Shape}
-use Rattle.af_cblk.specs.declared.view.ClientPart.{ClientPart}
-use Rattle.af_cblk.specs.Parts.{client_met}
 use Rattle.af_cblk.specs.Shape.{IsShape}
 use Rattle.af_client.specs.declared.write.Wrote.{Wrote}
 use Rattle.af_client.specs.declared.write.Wrote.TheVariants as wrote
 use Rattle.af_client.specs.Calls.{Does, Releases, wrote_call, put_by as written_by, IsCorrupt}
-use Rattle.af_client.specs.Order.{ClientState, IsInOrder, client_kept_of}
 use Rattle.af_client.proofs.Answered.{puts_few, puts_some}
 use Rattle.af_record.specs.History.{may_supply, IsSupplyList}
 use Rattle.af_record.specs.Ends.{put_by, last_room, last_dead, room_seen, IsStopped, OnlyWrites, LooksFirst}

@@ -1,11 +1,8 @@
 -- In a history of a recording each rear seen is the number of frames put by then.
 use Rattle.std.proofs.Common.{◌≡◌, ℕ, zero, suc, ◌+◌, ◌≤◌, max, List, [], ◌∷◌, ◌++◌, length, take, refl, subst, arith, append_assoc, length-append}
-use Rattle.af_base.specs.declared.event.ClientEvent.{ClientEvent}
+use Rattle.af_record.proofs.Common.{ClientEvent, Event, Legal, PipePoint, ServerEvent, next, one, ones, start, two, twos}
 use Rattle.af_base.specs.declared.event.ClientEvent.TheVariants as client
-use Rattle.af_base.specs.declared.event.ServerEvent.{ServerEvent}
 use Rattle.af_base.specs.declared.event.ServerEvent.TheVariants as server
-use Rattle.af_model.specs.Order.{Event, one, two, ones, twos, Legal}
-use Rattle.af_model.specs.PipeHistory.{PipePoint, start, next}
 use Rattle.af_record.specs.History.{legal, HasTapeHistory}
 use Rattle.af_record.specs.Ends.{put_by, SeesPut}
 use Rattle.af_record.proofs.Puts.{put_by-append}
@@ -13,25 +10,11 @@ use Rattle.af_record.proofs.Puts.{put_by-append}
 -- the frames put after one event more
 pub put_next : (p : PipePoint) (e : ClientEvent) → (next p (one e)).put ≡ p.put + put_by (e ∷ [])
 put_next p (client.Release count) = omega arith
-put_next p client.Flush = omega arith
-put_next p (client.SetGain word) = omega arith
-put_next p (client.ClearFlags old) = omega arith
-put_next p (client.SawFlags flags) = omega arith
-put_next p (client.SawFront front) = omega arith
-put_next p (client.SawStatus word) = omega arith
-put_next p (client.Poke word value) = omega arith
-put_next p (client.Learn count) = omega arith
+put_next p _ = omega arith
 
 puts_next : (p : PipePoint) (e : ClientEvent) → (next p (one e)).puts ≡ p.puts + 1
 puts_next p (client.Release count) = refl
-puts_next p client.Flush = refl
-puts_next p (client.SetGain word) = refl
-puts_next p (client.ClearFlags old) = refl
-puts_next p (client.SawFlags flags) = refl
-puts_next p (client.SawFront front) = refl
-puts_next p (client.SawStatus word) = refl
-puts_next p (client.Poke word value) = refl
-puts_next p (client.Learn count) = refl
+puts_next p _ = refl
 
 -- the first events put no more than all
 put_first : (count : ℕ) (xs ys : List ClientEvent) → count ≤ length xs → put_by (take count (xs ++ ys)) ≤ put_by xs

@@ -1,11 +1,8 @@
 -- In a history of a recording the room by each front seen is what the frames put and not taken leave.
 use Rattle.std.proofs.Common.{◌≡◌, ℕ, zero, suc, ◌+◌, ◌≤◌, max, List, [], ◌∷◌, ◌++◌, length, take, refl, sym, ap, ◌∙◌, subst, arith, append_assoc, length-append}
-use Rattle.af_base.specs.declared.event.ClientEvent.{ClientEvent}
+use Rattle.af_record.proofs.Common.{ClientEvent, Event, Legal, PipePoint, ServerEvent, after, next, one, ones, start, two, twos}
 use Rattle.af_base.specs.declared.event.ClientEvent.TheVariants as client
-use Rattle.af_base.specs.declared.event.ServerEvent.{ServerEvent}
 use Rattle.af_base.specs.declared.event.ServerEvent.TheVariants as server
-use Rattle.af_model.specs.Order.{Event, one, two, ones, twos, Legal, after}
-use Rattle.af_model.specs.PipeHistory.{PipePoint, start, next}
 use Rattle.af_record.specs.History.{legal, HasTapeHistory}
 use Rattle.af_record.specs.Ends.{put_by, taken_in, SeesRoom}
 use Rattle.af_record.proofs.Puts.{put_by-append}
@@ -27,39 +24,15 @@ taken_in-append (server.Learn count ∷ xs) ys = taken_in-append xs ys
 -- the frames taken, and the events, after one event more
 taken_next : (p : PipePoint) (e : ServerEvent) → (next p (two e)).taken ≡ p.taken + taken_in (e ∷ [])
 taken_next p (server.Take count) = omega arith
-taken_next p (server.SawGain word) = omega arith
-taken_next p (server.SawFlush flush) = omega arith
-taken_next p (server.SawRear rear) = omega arith
-taken_next p (server.SawFront front) = omega arith
-taken_next p (server.Drop to) = omega arith
-taken_next p (server.Tally missing) = omega arith
-taken_next p (server.SetFlags bits) = omega arith
-taken_next p (server.SetStatus word) = omega arith
-taken_next p (server.Learn count) = omega arith
+taken_next p _ = omega arith
 
 takes_next : (p : PipePoint) (e : ServerEvent) → (next p (two e)).takes ≡ p.takes + 1
 takes_next p (server.Take count) = refl
-takes_next p (server.SawGain word) = refl
-takes_next p (server.SawFlush flush) = refl
-takes_next p (server.SawRear rear) = refl
-takes_next p (server.SawFront front) = refl
-takes_next p (server.Drop to) = refl
-takes_next p (server.Tally missing) = refl
-takes_next p (server.SetFlags bits) = refl
-takes_next p (server.SetStatus word) = refl
-takes_next p (server.Learn count) = refl
+takes_next p _ = refl
 
 put_stays : (p : PipePoint) (e : ServerEvent) → (next p (two e)).put ≡ p.put
 put_stays p (server.Take count) = refl
-put_stays p (server.SawGain word) = refl
-put_stays p (server.SawFlush flush) = refl
-put_stays p (server.SawRear rear) = refl
-put_stays p (server.SawFront front) = refl
-put_stays p (server.Drop to) = refl
-put_stays p (server.Tally missing) = refl
-put_stays p (server.SetFlags bits) = refl
-put_stays p (server.SetStatus word) = refl
-put_stays p (server.Learn count) = refl
+put_stays p _ = refl
 
 -- the first events took no more than all
 taken_first : (count : ℕ) (xs ys : List ServerEvent) → count ≤ length xs → taken_in (take count (xs ++ ys)) ≤ taken_in xs
@@ -117,14 +90,7 @@ module _ (size : ℕ) where
 
   taken_leaves : (p : PipePoint) (e : ClientEvent) → (next p (one e)).taken ≡ p.taken
   taken_leaves p (client.Release count) = refl
-  taken_leaves p client.Flush = refl
-  taken_leaves p (client.SetGain word) = refl
-  taken_leaves p (client.ClearFlags old) = refl
-  taken_leaves p (client.SawFlags flags) = refl
-  taken_leaves p (client.SawFront front) = refl
-  taken_leaves p (client.SawStatus word) = refl
-  taken_leaves p (client.Poke word value) = refl
-  taken_leaves p (client.Learn count) = refl
+  taken_leaves p _ = refl
 
   -- the frames taken are those of the takes
   all_taken : (p : PipePoint) (es : List (Event ClientEvent ServerEvent)) → (after (legal size) next p es).taken ≡ p.taken + taken_in (twos es)

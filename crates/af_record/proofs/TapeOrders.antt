@@ -1,25 +1,13 @@
 -- The history of a block, on which the ends of a recording alone did something, is one of the recording.
 use Rattle.std.proofs.Common.{◌≡◌, ℕ, ◌+◌, ◌-◌, ◌≤◌, ◌==◌, bit_and, MatchBool, Bool, true, false, true≢false, ◌&&◌, Option, List, [], ◌∷◌, ◌++◌, length, take, refl, sym, ap, ◌∙◌, subst, arith, length-append, length-take-le, eqb-true, eq-eqb}
-use Rattle.std.specs.List.{list_all}
-use Rattle.af_base.specs.declared.event.ClientEvent.{ClientEvent}
+use Rattle.af_record.proofs.Common.{ClientEvent, ClientMay, Event, HasHistory, IsLegal, IsServerList, Legal, Moment, PipePoint, PutKept, ServerEvent, ServerMay, Shape, TrackPoint, after, after_client, after_put, after_server, ahead-between, begins, both_first, both_right, by_client, by_hand, by_server, client_of, flushes_of, hand_of, in_turn, is_lawful, list_all, next, nothing_put, one, ones, room_by, server_of, start, two, twos, wrapped}
 use Rattle.af_base.specs.declared.event.ClientEvent.TheVariants as client
-use Rattle.af_base.specs.declared.event.ServerEvent.{ServerEvent}
 use Rattle.af_base.specs.declared.event.ServerEvent.TheVariants as server
-use Rattle.af_model.proofs.Basics.{both_first}
-use Rattle.af_model.specs.declared.shape.Shape.{Shape}
-use Rattle.af_model.specs.declared.point.TrackPoint.{TrackPoint}
-use Rattle.af_model.specs.Point.{wrapped, ClientMay, ServerMay, after_client, after_server}
 use Rattle.af_model.specs.Point.{start as block_start}
-use Rattle.af_model.specs.History.{Moment, by_client, by_server, by_hand, client_of, server_of, hand_of, flushes_of, is_lawful, IsLegal, HasHistory}
 use Rattle.af_model.specs.History.{after as block_after}
 use Rattle.af_model.specs.Fates.{InTurn, keeps_all, drops_none}
-use Rattle.af_model.specs.Order.{Event, one, two, ones, twos, Legal, after}
-use Rattle.af_model.specs.PipeHistory.{PipePoint, start, room_by, next, PutKept, nothing_put, after_put}
-use Rattle.af_model.specs.ServerCalls.{IsServerList}
-use Rattle.af_model.proofs.Fates.{in_turn, begins}
 use Rattle.af_model.proofs.Orders.{ones_one, ones_two, twos_one, twos_two, after_end, legal_end}
 use Rattle.af_model.proofs.Splits.{legal_at}
-use Rattle.af_model.proofs.Logic.{both_right, ahead-between}
 use Rattle.af_record.specs.History.{legal, HasTapeHistory, may_supply, IsSupplyList, IsReadList, is_alive, is_calm}
 use Rattle.af_record.proofs.Calm.{is_zero, all_first, all_second, all_zero, drops_nothing}
 
@@ -32,11 +20,7 @@ flushes_none size k (client.Release count ∷ es) l = (let e = flushes_none size
 flushes_none size k (client.SawFront front ∷ es) l = (let e = flushes_none size (after_put k (client.SawFront front)) es l.1 in omega arith)
 flushes_none size k (client.SawFlags flags ∷ es) l = (let e = flushes_none size (after_put k (client.SawFlags flags)) es l.1 in omega arith)
 flushes_none size k (client.Learn count ∷ es) l = (let e = flushes_none size (after_put k (client.Learn count)) es l.1 in omega arith)
-flushes_none size k (client.Flush ∷ es) l = absurd l.0
-flushes_none size k (client.SetGain word ∷ es) l = absurd l.0
-flushes_none size k (client.ClearFlags old ∷ es) l = absurd l.0
-flushes_none size k (client.SawStatus word ∷ es) l = absurd l.0
-flushes_none size k (client.Poke word value ∷ es) l = absurd l.0
+flushes_none size k _ l = absurd l.0
 
 -- nor does it poke
 pub supplies_lawful : (size : ℕ) (k : PutKept) (es : List ClientEvent) → Legal (may_supply size) after_put k es → is_lawful es ≡ true
@@ -45,23 +29,11 @@ supplies_lawful size k (client.Release count ∷ es) l = supplies_lawful size (a
 supplies_lawful size k (client.SawFront front ∷ es) l = supplies_lawful size (after_put k (client.SawFront front)) es l.1
 supplies_lawful size k (client.SawFlags flags ∷ es) l = supplies_lawful size (after_put k (client.SawFlags flags)) es l.1
 supplies_lawful size k (client.Learn count ∷ es) l = supplies_lawful size (after_put k (client.Learn count)) es l.1
-supplies_lawful size k (client.Flush ∷ es) l = absurd l.0
-supplies_lawful size k (client.SetGain word ∷ es) l = absurd l.0
-supplies_lawful size k (client.ClearFlags old ∷ es) l = absurd l.0
-supplies_lawful size k (client.SawStatus word ∷ es) l = absurd l.0
-supplies_lawful size k (client.Poke word value ∷ es) l = absurd l.0
+supplies_lawful size k _ l = absurd l.0
 
 calm_keeps : (e : ServerEvent) → is_calm e ≡ true → keeps_all e ≡ true
-calm_keeps (server.SawRear rear) is = refl
-calm_keeps (server.SawFront front) is = refl
-calm_keeps (server.Take count) is = refl
-calm_keeps (server.Learn count) is = refl
-calm_keeps (server.SawGain word) is = refl
-calm_keeps (server.SawFlush flush) is = refl
 calm_keeps (server.Drop to) is = is
-calm_keeps (server.Tally missing) is = refl
-calm_keeps (server.SetFlags bits) is = refl
-calm_keeps (server.SetStatus word) is = refl
+calm_keeps _ is = refl
 
 all_kept : (es : List ServerEvent) → list_all is_calm es ≡ true → drops_none es ≡ true
 all_kept [] is = refl

@@ -1,26 +1,10 @@
 -- After the meetings of all parties the hands know what the proxies that missed them had done.
 use Rattle.std.proofs.Common.{◌≡◌, ℕ, ◌<◌, true, List, length, slice_get, Option, Some, None, sym, ap, ◌∙◌, subst, arith}
-use Rattle.std.proofs.lemmas.Option.{none-some, same_Some, slice_get_within}
-use Rattle.af_base.proofs.Basics.{some_at}
-use Rattle.af_base.specs.declared.state.FastState.{FastState}
-use Rattle.af_cblk.specs.Sides.{HandSide, client_made}
-use Rattle.af_client.specs.Order.{ClientState}
-use Rattle.af_fast.specs.Mixer.{MixerState}
-use Rattle.af_life.specs.declared.kept.TrackKept.{TrackKept}
-use Rattle.af_link.specs.declared.links.Links.{Links}
-use Rattle.af_model.specs.History.{HasHistory, is_lawful}
+use Rattle.af_render_law.proofs.Common.{AreTogether, ClientState, FastState, HandSide, Links, MeetsAway, Met, MixerState, NormalState, ServerState, SessionState, Spot, SpotMet, TrackKept, client_made, clients_ended, ends_keep, held_slot, is_lawful, item_at, none-some, proxies_of, same_Some, slice_get_within, slot_for, some_at, spot_of, stream_at}
+use Rattle.af_model.specs.History.{HasHistory}
 use Rattle.af_normal.specs.Meeting.{MeetsStream}
-use Rattle.af_normal.specs.Mixing.{stream_at}
-use Rattle.af_normal.specs.State.{NormalState}
-use Rattle.af_server.specs.Order.{ServerState}
-use Rattle.af_engine.specs.Met.{MeetsAway, SpotMet, Spot, item_at, proxies_of, slot_for, spot_of}
-use Rattle.af_session.specs.Met.{Met}
 use Rattle.af_session.specs.Rounds.{with_ends}
-use Rattle.af_session.specs.Together.{AreTogether, SessionState}
-use Rattle.af_session.proofs.FollowingRounds.{ends_keep}
-use Rattle.af_rendering.proofs.MetOpen.{clients_ended}
 use Rattle.af_render_law.specs.Aware.{KnowsAway}
-use Rattle.af_told_law.specs.Tells.{held_slot}
 use Rattle.af_told_law.proofs.TrackMeets.{tracks_are}
 
 -- the history that the hand's meeting with the client gave

@@ -1,38 +1,19 @@
 -- What stands between two rounds stands again after a round of a client, a turn of the normal mixer, and a round in which nothing is done.
 use Rattle.std.proofs.Common.{◌≡◌, ℕ, ◌<◌, ◌≤◌, Bool, true, false, MatchBool, List, [], ◌∷◌, ◌++◌, length, refl, sym, ap, subst, ◌∙◌, arith}
-use Rattle.af_base.specs.declared.state.FastState.{FastState}
-use Rattle.af_base.specs.Turn.{Turn, turn_of}
-use Rattle.af_fast.specs.Mixer.{IsInOrder, MixerState}
-use Rattle.af_life.specs.Heard.{learnt}
-use Rattle.af_life.specs.Kept.{NormalKept, Outside}
-use Rattle.af_link.specs.declared.links.Links.{Links}
-use Rattle.af_link.specs.declared.names.StreamNames.{StreamNames}
+use Rattle.af_render_law.proofs.Common.{AreTogether, FastState, Given, HasHistory, InStep, IsInOrder, IsLegal, IsQuiet, IsRound, Leads, Links, Met, MixerState, NormalKept, NormalState, NormalTurned, Outside, Polls, Pushes, RoundNoted, ScriptData, ServerState, SessionState, StandsBetween, StreamNames, Turn, ends_keep, kept_of, learnt, learnt_by, new_quiet, normal_round, observed, script_setup, step_met, still_round, tells_met, turn_of, turn_quiet}
 use Rattle.af_model.specs.declared.states.MutatorEvent.{MutatorEvent}
 use Rattle.af_model.specs.declared.states.MutatorEvent.TheVariants as mutator
 use Rattle.af_model.specs.declared.states.ObserverEvent.{ObserverEvent}
 use Rattle.af_model.specs.declared.states.ObserverEvent.TheVariants as observer
-use Rattle.af_model.specs.Journals.{RoundNoted}
-use Rattle.af_model.specs.StateQueue.{HasHistory, observed}
-use Rattle.af_normal.specs.LegalTurned.{IsLegal}
-use Rattle.af_normal.specs.State.{NormalState, kept_of, setup_of}
-use Rattle.af_runs.specs.Sessions.{script_setup}
-use Rattle.af_script.specs.Data.{ScriptData}
+use Rattle.af_normal.specs.State.{setup_of}
 use Rattle.af_script.specs.declared.op.TurnSpec.TheVariants as spec
-use Rattle.af_server.specs.Order.{ServerState}
-use Rattle.af_stateq.specs.Ends.{Polls, Pushes}
-use Rattle.af_rendering.specs.Leads.{InStep, Leads, Tells}
-use Rattle.af_session.specs.Met.{Met}
+use Rattle.af_rendering.specs.Leads.{Tells}
 use Rattle.af_session.specs.NewSession.{IsNewSession}
-use Rattle.af_session.specs.Rounds.{Given, IsRound, NormalTurned, normal_round, still_round, with_ends}
+use Rattle.af_session.specs.Rounds.{with_ends}
 use Rattle.af_engine.specs.Shares.{SharedState}
-use Rattle.af_session.specs.Together.{AreTogether, SessionState}
-use Rattle.af_rendering.proofs.Quiet.{IsQuiet, new_quiet, turn_quiet}
-use Rattle.af_session.proofs.FollowingRounds.{ends_keep}
 use Rattle.af_rendering.proofs.NormalSteps.{turn_same, turn_tells, turned_leads}
 use Rattle.af_rendering.proofs.QueueSeen.{SawUpTo, few_acked, few_seen}
-use Rattle.af_rendering.proofs.QueueSteps.{learnt_by, step_met, tells_met}
 use Rattle.af_rendering.proofs.SparedEntries.{entries_first}
-use Rattle.af_told_law.specs.Between.{StandsBetween}
 
 -- a turn of the normal mixer leaves what is quiet so
 pub quiet_turned : (o : Outside) (x n : NormalState) → IsLegal o x n → IsQuiet (kept_of x) → IsQuiet (kept_of n)

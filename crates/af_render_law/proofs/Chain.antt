@@ -1,22 +1,9 @@
 -- What is known of a session and of the run that tells it between two rounds of a script, by the marks of its lawful blocks.
-use Rattle.std.specs.Prelude.{◌≡◌, ℕ, ◌+◌, ◌≤◌, false, List, length, slice_get, Some}
-use Rattle.af_model.specs.Journals.{EntrySeen, RoundNoted}
-use Rattle.af_party.specs.Parties.{PartyState}
-use Rattle.af_runs.specs.Blocks.{Marks}
-use Rattle.af_runs.specs.Runs.{Run, pipe_cells, with_ends}
-use Rattle.af_runs.specs.Sessions.{Session, cycle_frames, setup_of}
-use Rattle.af_runs.specs.TurnRuns.{met_alone}
+use Rattle.af_render_law.proofs.Common.{EntrySeen, IsMarkedRun, IsRound, IsSmallRun, List, Marks, PartyState, QueueKnown, ReportMet, RoundNoted, Run, Session, SessionState, Some, StandsBetween, cycle_frames, entries_grown, false, given_of, length, met_alone, pipe_cells, setup_of, slice_get, with_ends, ℕ}
+use Rattle.std.specs.Prelude.{◌≡◌, ◌+◌, ◌≤◌}
 use Rattle.af_script.specs.declared.op.TurnSpec.TheVariants as makes
-use Rattle.af_session.specs.Rounds.{IsRound}
-use Rattle.af_session.specs.Together.{SessionState}
 use Rattle.af_render_law.specs.Aware.{KnowsAway}
-use Rattle.af_told_law.specs.Between.{StandsBetween}
-use Rattle.af_told_law.specs.Sizes.{IsSmallRun}
-use Rattle.af_told_law.specs.Marked.{IsMarkedRun}
 use Rattle.af_render_law.specs.Laws.{StepIsTold, ToldBy, round_of}
-use Rattle.af_told_law.specs.QueueTurned.{QueueKnown, ReportMet}
-use Rattle.af_told_law.proofs.LogMore.{entries_grown}
-use Rattle.af_told_law.specs.Tells.{given_of}
 use Rattle.af_render_law.proofs.InvalidKept.{InvalidKept}
 use Rattle.af_render_law.proofs.TameRounds.{TameReady}
 

@@ -1,25 +1,10 @@
 -- A round of a client, from what it finds to what it leaves.
 use Rattle.std.proofs.Common.{◌≡◌, ◌⊎◌, inl, inr, ℕ, zero, suc, ◌<◌, take, replicate, List, [], length, refl, sym, ap, ◌∙◌, subst, arith, get_or-set_other, get_or-set_same}
-use Rattle.std.specs.Prelude.{slice_index_or}
-use Rattle.std.proofs.lemmas.Bool.{cases_eq}
-use Rattle.std.proofs.lemmas.List.{length-replicate}
-use Rattle.std.proofs.lemmas.Option.{none-some, slice_get_within}
-use Rattle.af_base.specs.declared.event.ClientCall.{ClientCall}
-use Rattle.af_link.specs.declared.links.Links.{Links}
-use Rattle.af_model.specs.Journals.{EntrySeen, RoundNoted, RoundSeen}
-use Rattle.af_runs.specs.Blocks.{Marks}
-use Rattle.af_runs.specs.ClientTurns.{LegalClientTurn, Track}
-use Rattle.af_runs.specs.Runs.{Run, calls_in}
-use Rattle.af_runs.specs.Sessions.{Session}
-use Rattle.af_runs.specs.TurnRuns.{IsMadeBy, OnlyCalls, calls_alone}
+use Rattle.af_render_law.proofs.Common.{AreTogether, ClientCall, ClientTurned, Deeds, EntrySeen, IsMadeBy, IsRound, LegalClientTurn, Links, Marks, OnlyCalls, RoundNoted, RoundSeen, Run, SawOwnBy, Session, SessionState, Tells, Track, calls_alone, calls_in, cases_eq, client_round, given_of, length-replicate, no_calls, none-some, slice_get_within, slice_index_or, tame_marks}
 use Rattle.af_script.specs.declared.op.TurnSpec.TheVariants as makes
-use Rattle.af_session.specs.Rounds.{ClientTurned, IsRound, client_round, no_calls}
-use Rattle.af_session.specs.Together.{AreTogether, SessionState}
 use Rattle.af_render_law.specs.Laws.{StepIsTold, ToldBy, round_of}
-use Rattle.af_told_law.specs.Tells.{Tells, given_of}
 use Rattle.af_told_law.proofs.ClientTold.{client_told}
 use Rattle.af_render_law.proofs.OwnKept.{left_histories, left_met, saw_calls}
-use Rattle.af_told_law.specs.Deeds.{Deeds, SawOwnBy, tame_marks}
 
 pub none_else : (n j : ℕ) → slice_index_or (replicate n (let none : List ClientCall = [] in none)) j [] ≡ []
 none_else zero j = refl

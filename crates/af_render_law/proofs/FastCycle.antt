@@ -1,41 +1,12 @@
 -- A cycle of the fast mixer is told once it is known that each front that a server saw is its own.
 use Rattle.std.proofs.Common.{List, None, [], ap, arith, false, length, subst, sym, ℕ, ◌++◌, ◌<◌, ◌∙◌, ◌∷◌, ◌≡◌}
-use Rattle.af_base.specs.declared.frame.Frame.{Frame}
-use Rattle.af_base.specs.declared.log.Cycle.{Cycle}
-use Rattle.af_base.specs.declared.log.CycleEntry.{CycleEntry}
-use Rattle.af_fast.specs.Mixer.{MixerState, is_over}
-use Rattle.af_link.specs.declared.links.Links.{Links}
-use Rattle.af_link.specs.declared.names.StreamNames.{StreamNames}
-use Rattle.af_model.specs.Journals.{EntrySeen}
-use Rattle.af_model.specs.StateQueue.{HasHistory}
-use Rattle.af_runs.specs.Blocks.{Marks}
-use Rattle.af_runs.specs.Rounds.{LegalEntry}
-use Rattle.af_runs.specs.Runs.{Run, side_of, told_at, with_mix, with_poll}
+use Rattle.af_render_law.proofs.Common.{AreSmall, AreTogether, Cycle, CycleEntry, Deeds, EntrySeen, Frame, HasHistory, InStep, IsCycle, IsMarkedRun, LeadAway, Leaves, LegalEntry, Links, Marks, MixerState, MixesAreTold, Observes, Polls, Run, SawOwnBy, SawOwnOf, SeesOwn, ServerState, Session, SessionState, StreamNames, Tells, Track, adds, cycle_alone, deeds_met, entry_told, held_slot, is_over, met_marked, mix_marked, poll_marked, same_frames, same_last, side_of, slot_for, small_told, still_on, tame_marks, told_at, with_mix, with_poll}
 use Rattle.af_runs.specs.Runs as run_of
-use Rattle.af_runs.specs.Sessions.{Session}
-use Rattle.af_runs.specs.TurnRuns.{cycle_alone}
-use Rattle.af_server.specs.Order.{ServerState}
-use Rattle.af_stateq.specs.Ends.{Polls}
-use Rattle.af_stateq.specs.Observes.{Observes}
-use Rattle.af_session.specs.FastTurns.{IsCycle}
-use Rattle.af_rendering.specs.Leads.{InStep, LeadAway}
-use Rattle.af_session.specs.Together.{AreTogether, SessionState}
-use Rattle.af_told_law.proofs.Basics.{same_last}
-use Rattle.af_told_law.specs.Sizes.{AreSmall}
-use Rattle.af_told_law.specs.Marked.{IsMarkedRun}
-use Rattle.af_told_law.specs.MixLaws.{MixesAreTold, entry_told}
 use Rattle.af_render_law.specs.Laws.{IsBetween, ToldBy}
-use Rattle.af_told_law.specs.Own.{SeesOwn}
-use Rattle.af_told_law.specs.Tells.{Leaves, Tells, held_slot}
-use Rattle.af_told_law.proofs.FastGrows.{adds, same_frames, still_on}
 use Rattle.af_render_law.proofs.IdlePoll.{between_met, caught_met}
 use Rattle.af_told_law.proofs.PollFinds.{poll_met}
-use Rattle.af_told_law.proofs.TameRuns.{met_marked, mix_marked, poll_marked, small_told}
 use Rattle.af_told_law.proofs.PipeFront.{took_counted}
-use Rattle.af_runs.specs.ClientTurns.{Track}
-use Rattle.af_engine.specs.Met.{slot_for}
 use Rattle.af_render_law.proofs.OwnKept.{mixed_many, mixed_same, saw_met, saw_now, saw_polled, saw_sides}
-use Rattle.af_told_law.specs.Deeds.{Deeds, SawOwnBy, SawOwnOf, deeds_met, tame_marks}
 
 -- a mix changes nothing of what stands between two turns
 pub between_mixed : (x : SessionState) (g : MixerState) → g.observer.past ≡ x.fast.observer.past → IsBetween x → IsBetween (record x { fast = g })

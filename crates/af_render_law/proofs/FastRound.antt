@@ -1,27 +1,12 @@
 -- A round of the fast mixer, from what it finds to what it leaves.
 use Rattle.std.proofs.Common.{◌≡◌, inr, ℕ, ◌+◌, ◌≤◌, Bool, true, false, fold, map, take, drop, if◌then◌else◌, MatchBool, List, [], length, sym, ap, ◌∙◌, subst, arith}
-use Rattle.std.proofs.lemmas.Option.{none-some}
-use Rattle.std.specs.Prelude.{slice_index_or}
-use Rattle.std.proofs.Math.Seq.{drop-append_seam}
-use Rattle.std.proofs.lemmas.Bool.{MatchBool-at_false}
-use Rattle.af_base.specs.declared.log.CycleEntry.{CycleEntry}
-use Rattle.af_model.specs.Journals.{EntrySeen, RoundNoted, RoundSeen, entries_seen}
-use Rattle.af_runs.specs.Blocks.{Marks}
+use Rattle.af_render_law.proofs.Common.{CycleEntry, EntrySeen, IsMadeBy, IsMarkedRun, IsRound, LegalAlone, Marks, MatchBool-at_false, MixesAreTold, OnlyCalls, RoundNoted, RoundSeen, Run, Session, SessionState, cycle_alone, drop-append_seam, entries_seen, fast_ended, fast_round, form_seen, given_of, none-some, slice_index_or, still_round}
 use Rattle.af_runs.specs.Rounds.{IsFastTurn}
-use Rattle.af_runs.specs.Runs.{Run, fast_ended}
-use Rattle.af_runs.specs.Sessions.{Session}
-use Rattle.af_runs.specs.TurnRuns.{IsMadeBy, LegalAlone, OnlyCalls, cycle_alone}
 use Rattle.af_script.specs.declared.op.TurnSpec.TheVariants as makes
 use Rattle.af_session.specs.FastTurns as parties
-use Rattle.af_session.specs.Rounds.{IsRound, fast_round, still_round}
 use Rattle.af_session.specs.Rounds as rounds
-use Rattle.af_session.specs.Together.{SessionState}
-use Rattle.af_told_law.specs.Marked.{IsMarkedRun}
-use Rattle.af_told_law.specs.MixLaws.{MixesAreTold}
 use Rattle.af_render_law.specs.Laws.{IsBetween, StepIsTold, ToldBy, round_of}
-use Rattle.af_told_law.specs.Tells.{given_of}
 use Rattle.af_render_law.proofs.ClientRound.{none_else}
-use Rattle.af_told_law.proofs.FastForm.{form_seen}
 use Rattle.af_render_law.proofs.FastTurnTold.{TurnTold, turn_told}
 use Rattle.af_render_law.proofs.IdlePoll.{between_after}
 use Rattle.af_render_law.proofs.OwnKept.{left_histories, left_met}

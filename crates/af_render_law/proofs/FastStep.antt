@@ -1,25 +1,10 @@
 -- A turn of the fast mixer that hadn't ended is a step of the run.
 use Rattle.std.proofs.Common.{◌≡◌, ℕ, zero, suc, Bool, true, false, List, [], take, refl, sym, ap, subst, ◌∙◌}
-use Rattle.std.proofs.lemmas.Bool.{MatchBool-at_false}
-use Rattle.af_base.specs.declared.log.Cycle.{Cycle}
-use Rattle.af_life.specs.Kept.{NormalKept}
-use Rattle.af_model.specs.Cycles.{is_mixed}
-use Rattle.af_normal.specs.State.{kept_of}
-use Rattle.af_runs.specs.Sessions.{Session}
+use Rattle.af_render_law.proofs.Common.{Cycle, IsFastTurn, IsQuiet, LeadLent, Marks, MatchBool-at_false, NormalKept, Session, SessionState, StandsBetween, WritesCycle, ends_keep, entries_grown, fast_round, given_of, is_mixed, kept_of, still_round}
 use Rattle.af_script.specs.declared.op.TurnSpec.TheVariants as makes
-use Rattle.af_session.specs.FastTurns.{IsFastTurn, WritesCycle}
-use Rattle.af_rendering.specs.Leads.{LeadLent}
-use Rattle.af_session.specs.Rounds.{fast_round, still_round}
-use Rattle.af_rendering.proofs.Quiet.{IsQuiet}
-use Rattle.af_session.specs.Together.{SessionState}
-use Rattle.af_session.proofs.FollowingRounds.{ends_keep}
 use Rattle.af_rendering.proofs.RoundTold.{log_turned}
-use Rattle.af_runs.specs.Blocks.{Marks}
-use Rattle.af_told_law.specs.Between.{StandsBetween}
-use Rattle.af_told_law.proofs.LogMore.{entries_grown}
 use Rattle.af_render_law.proofs.Chain.{FastTurnIsAStep}
 use Rattle.af_render_law.specs.Laws.{IsBetween}
-use Rattle.af_told_law.specs.Tells.{given_of}
 use Rattle.af_render_law.proofs.FastRound.{fast_between, fast_step}
 use Rattle.af_told_law.proofs.MixTold.{mix_told}
 

@@ -1,30 +1,10 @@
 -- The cycles of a fast turn, one after the other, are told, if the meetings after the turn show what the servers saw in the last one.
 use Rattle.std.proofs.Common.{◌≡◌, ℕ, zero, suc, ◌+◌, ◌≤◌, Bool, true, false, true≢false, fold, take, drop, List, [], ◌∷◌, ◌++◌, length, append-nil, append_assoc, refl, sym, ap, ◌∙◌, subst, arith}
-use Rattle.std.proofs.Math.Seq.{drop-append_seam}
-use Rattle.af_base.specs.declared.frame.Frame.{Frame}
-use Rattle.af_base.specs.declared.log.Cycle.{Cycle}
-use Rattle.af_base.specs.declared.log.CycleEntry.{CycleEntry}
-use Rattle.af_fast.specs.Mixer.{is_over}
-use Rattle.af_link.specs.declared.links.Links.{Links}
-use Rattle.af_model.specs.Cycles.{is_mixed}
-use Rattle.af_model.specs.Journals.{EntrySeen, entries_seen, taken_by}
-use Rattle.af_runs.specs.Blocks.{Marks}
-use Rattle.af_runs.specs.Runs.{Run}
-use Rattle.af_runs.specs.Sessions.{Session}
-use Rattle.af_runs.specs.TurnRuns.{LegalAlone, cycle_alone}
-use Rattle.af_session.specs.FastTurns.{IsCycle, IsFastTurn, WritesCycle}
-use Rattle.af_session.specs.Met.{Met}
-use Rattle.af_session.specs.Together.{AreTogether, SessionState}
-use Rattle.af_told_law.specs.Sizes.{AreSmall}
-use Rattle.af_told_law.specs.Marked.{IsMarkedRun}
-use Rattle.af_told_law.specs.MixLaws.{MixesAreTold, entry_told}
+use Rattle.af_render_law.proofs.Common.{AreSmall, AreTogether, AreTurn, Cycle, CycleEntry, EntrySeen, Frame, IsCycle, IsFastTurn, IsMarkedRun, LegalAlone, Links, Marks, Met, MixesAreTold, Run, SeesOwn, Session, SessionState, WritesCycle, adds, cycle_alone, drop-append_seam, entries_seen, entry_told, frames_grow, frames_more, is_mixed, is_over, meetings_show, mixed_entry, one_more, still_room, still_runs, taken, taken_by, taken_long}
 use Rattle.af_render_law.specs.Laws.{IsBetween, ToldBy}
-use Rattle.af_told_law.specs.Own.{SeesOwn}
 use Rattle.af_render_law.proofs.FastCycle.{cycle_legal, cycle_tame, cycle_told, next_between, next_caught, next_small}
-use Rattle.af_told_law.proofs.FastForm.{AreTurn, mixed_entry}
-use Rattle.af_told_law.proofs.FastGrows.{adds, frames_grow, frames_more, goes_on, one_more, still_room, still_runs, taken, taken_long}
+use Rattle.af_told_law.proofs.FastGrows.{goes_on}
 use Rattle.af_render_law.proofs.IdlePoll.{idle_meetings_show}
-use Rattle.af_told_law.proofs.MeetsShow.{meetings_show}
 
 -- what a log has past some frames that it begins with
 past_first : (frames first rest : List Frame) → frames ≡ first ++ rest → drop (length first) frames ≡ rest

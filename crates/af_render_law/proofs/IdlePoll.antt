@@ -1,29 +1,12 @@
 -- A poll after a mix of the same turn finds nothing new, since nobody pushed in between: so the meetings after it show what they would have shown before it.
 use Rattle.std.proofs.Common.{◌≡◌, ◌⊎◌, inl, inr, ◌<◌, true, false, List, [], ◌∷◌, ◌++◌, length, sym, ap, ◌∙◌, subst, arith}
-use Rattle.af_base.specs.declared.state.FastState.{FastState}
-use Rattle.af_fast.specs.Mixer.{MixerState, is_over}
+use Rattle.af_render_law.proofs.Common.{AreSmall, AreTogether, FastState, Finds, HasHistory, InStep, LeadAway, Links, Met, MixerState, NormalState, Observes, Polls, Pushes, SeesOwn, ServerState, SessionState, StreamNames, TrackKept, finds, finds_none, is_over, item_at, meetings_show, observed, slot_for, step_met}
 use Rattle.af_fast.specs.Mixing.{Adopts}
-use Rattle.af_life.specs.declared.kept.TrackKept.{TrackKept}
-use Rattle.af_link.specs.declared.links.Links.{Links}
-use Rattle.af_link.specs.declared.names.StreamNames.{StreamNames}
 use Rattle.af_link.specs.PipeEnds.{SeesTaken}
 use Rattle.af_model.specs.declared.states.MutatorEvent.TheVariants as mutator
 use Rattle.af_model.specs.declared.states.ObserverEvent.TheVariants as observer
-use Rattle.af_model.specs.StateQueue.{HasHistory, observed}
-use Rattle.af_normal.specs.State.{NormalState}
-use Rattle.af_server.specs.Order.{ServerState}
 use Rattle.af_stateq.specs.Answers.{sees_same}
-use Rattle.af_stateq.specs.Ends.{Polls, Pushes}
-use Rattle.af_stateq.specs.Observes.{Observes}
-use Rattle.af_rendering.specs.Leads.{InStep, LeadAway}
-use Rattle.af_engine.specs.Met.{item_at, slot_for}
-use Rattle.af_session.specs.Met.{Met}
-use Rattle.af_session.specs.Together.{AreTogether, SessionState}
-use Rattle.af_rendering.proofs.QueueSteps.{Finds, finds, finds_none, step_met}
-use Rattle.af_told_law.specs.Sizes.{AreSmall}
 use Rattle.af_render_law.specs.Laws.{IsBetween}
-use Rattle.af_told_law.specs.Own.{SeesOwn}
-use Rattle.af_told_law.proofs.MeetsShow.{meetings_show}
 
 abbrev Watching : Type 0
 Watching = Observes ServerState StreamNames

@@ -1,34 +1,14 @@
 -- What each step of a run leaves of a stream block on which no INVALID is set while its server isn't shut, and its track hasn't ended and isn't there yet or has a slot.
 use Rattle.std.proofs.Common.{◌≡◌, ℕ, ◌-◌, ◌==◌, Bool, true, false, true≢false, if◌then◌else◌, is_some, map, List, [], ◌∷◌, ◌++◌, drop, length, Option, Some, None, refl, sym, ap, ◌∙◌, subst, append-nil, append_assoc}
-use Rattle.std.proofs.lemmas.Grind.{fold-append}
-use Rattle.std.proofs.lemmas.List.Elements.{All-nil, All-cons, All-append, All-push}
-use Rattle.af_base.specs.declared.event.ClientEvent.{ClientEvent}
-use Rattle.af_base.specs.declared.event.HandEvent.{HandEvent}
+use Rattle.af_render_law.proofs.Common.{All-append, All-cons, All-nil, All-push, BlockTold, ClientEvent, EntrySeen, FastState, HandEvent, Listed, Moment, ServerEvent, ServerKept, Session, Shape, Side, SlotEntry, TrackKept, TrackTold, Turn, by_hand, by_server, client-hand, client-server, client_list, cycle_events, cycle_frames, drops_of, entry_slot, fold-append, front_of, hand-server, hand_of, is_shut, kept, listed, look_events, mixed_track, played, server-server, server_begins, server_keeps, server_kept, server_list, server_of, stream_met, tally, told_more, track_in, with_side}
 use Rattle.af_base.specs.declared.event.HandEvent.TheVariants as hand
-use Rattle.af_base.specs.declared.event.ServerEvent.{ServerEvent}
 use Rattle.af_base.specs.declared.event.ServerEvent.TheVariants as server
-use Rattle.af_base.specs.declared.log.SlotEntry.{SlotEntry}
 use Rattle.af_base.specs.declared.seen.Seen.{Seen}
 use Rattle.af_base.specs.declared.seen.Seen.TheVariants as seen
-use Rattle.af_base.specs.declared.state.FastState.{FastState}
-use Rattle.af_base.specs.Log.{entry_slot}
-use Rattle.af_base.specs.Turn.{Turn}
-use Rattle.af_life.specs.declared.kept.TrackKept.{TrackKept}
-use Rattle.af_life.specs.Kept.{track_in}
-use Rattle.af_life.specs.Obeys.{is_shut}
 use Rattle.af_life.specs.TurnEvents as turn
-use Rattle.af_model.specs.Cycles.{Listed, tally, after_look, cycle_events, kept}
-use Rattle.af_model.specs.History.{Moment, by_hand, by_server, server_of, hand_of}
-use Rattle.af_model.specs.Journals.{EntrySeen}
-use Rattle.af_model.specs.ServerCalls.{ServerKept, drops_of, look_events, server_begins, server_keeps, server_kept}
-use Rattle.af_model.specs.declared.shape.Shape.{Shape}
-use Rattle.af_runs.specs.Blocks.{BlockTold, client_list, hand_list, listed, server_list}
-use Rattle.af_runs.specs.ClientTurns.{Side}
-use Rattle.af_runs.specs.Fronts.{front_of}
-use Rattle.af_runs.specs.Runs.{TrackTold, mixed_track, played, slot_for, stream_met, with_side}
-use Rattle.af_runs.specs.Sessions.{Session, cycle_frames}
-use Rattle.af_judge.proofs.BlocksTold.{client-hand, client-server}
-use Rattle.af_audit.proofs.TrackStands.{hand-server, server-server, told_more}
+use Rattle.af_model.specs.Cycles.{after_look}
+use Rattle.af_runs.specs.Blocks.{hand_list}
+use Rattle.af_runs.specs.Runs.{slot_for}
 use Rattle.af_render_law.proofs.MixedOpen.{Looked, played_open}
 use Rattle.af_render_law.proofs.NoInvalid.{SetsNoInvalid, SetNoInvalid, HandSetsNoInvalid, HandSetNoInvalid}
 use Rattle.af_render_law.proofs.Unmixed.{Unmixed}
@@ -72,11 +52,8 @@ after_sets asked was (seen.Flushed dropped) h = All-nil SetsNoInvalid
 after_sets asked was (seen.Shut front rear) h = absurd (true≢false h)
 
 drops_set : (answer : Seen) (front : ℕ) → SetNoInvalid (drops_of answer front)
-drops_set seen.Absent front = All-nil SetsNoInvalid
-drops_set (seen.Frames count) front = All-nil SetsNoInvalid
-drops_set seen.Empty front = All-nil SetsNoInvalid
 drops_set (seen.Flushed dropped) front = All-cons SetsNoInvalid (server.Drop _) [] tt (All-nil SetsNoInvalid)
-drops_set (seen.Shut back rear) front = All-nil SetsNoInvalid
+drops_set _ front = All-nil SetsNoInvalid
 
 look_sets : (answer : Seen) (flush rear front : ℕ) → SetNoInvalid (look_events answer flush rear front)
 look_sets answer flush rear front =

@@ -1,35 +1,11 @@
 -- In a run no INVALID is set on the stream block of a track that hasn't ended and has a slot, while the block's server isn't shut: what each step keeps of that.
 use Rattle.std.proofs.Common.{◌≡◌, ◌⊎◌, inl, inr, ℕ, zero, suc, ◌<◌, ◌≤◌, ◌==◌, Bool, true, false, MatchBool, MatchOption, if◌then◌else◌, fold, map, List, [], ◌∷◌, ◌++◌, length, Option, Some, None, refl, sym, ap, ◌∙◌, subst, arith}
-use Rattle.std.specs.Prelude.{slice_index_or}
-use Rattle.std.specs.List.{flat_map, range_with_len}
-use Rattle.af_base.specs.Turn.{Turn, TakeSeen}
-use Rattle.af_judge.proofs.Basics.{each_long, told_each}
+use Rattle.af_render_law.proofs.Common.{EntrySeen, GoesOn, IsMadeBy, Learnt, LegalAlone, LegalEntry, LegalTrack, LegalTurnBy, LegalTurnIn, Marks, NormalKept, Outside, RoundSeen, Run, Session, Setup, Sound, TakeSeen, TrackKept, TrackTold, Turn, TurnFound, TurnSpec, after_ack, after_calls, after_edits, asked, called, calls_alone, calls_in, cycle_alone, cycle_events, each_from, each_long, each_track, ends, fast_ended, flat_map, found_before, invalid, is_home, kept, learnt, listed, loaded, made_alone, met, met_alone, mix_events, mixed_track, new_run, new_track, no_track, outside_of, range_with_len, served_to, server_list, setup_of, sides_of, slice_index_or, state_for, stream_list, takes_from, takes_part, told_at, told_each, track_at, track_count, track_in, track_met, tracks_at, tracks_due, turn_after, turn_alone, turned, turned_track, with_ends, with_load, with_mix, with_poll, with_turn}
 use Rattle.af_life.proofs.Basics.{at_new, slot_of_away}
-use Rattle.af_life.specs.declared.kept.TrackKept.{TrackKept}
-use Rattle.af_life.specs.Edits.{after_ack}
-use Rattle.af_life.specs.Heard.{learnt}
-use Rattle.af_life.specs.Kept.{Setup, asked, NormalKept, Outside, Learnt, track_at, track_in, is_home}
-use Rattle.af_life.specs.Plays.{tracks_due}
-use Rattle.af_life.specs.Serves.{served_to, LegalTrack}
-use Rattle.af_life.specs.Turn.{GoesOn, after_edits, turn_after}
-use Rattle.af_life.specs.TurnEvents.{tracks_at, invalid, mix_events, stream_list, takes_from}
-use Rattle.af_model.specs.Cycles.{cycle_events, kept}
-use Rattle.af_model.specs.Journals.{EntrySeen, RoundSeen}
-use Rattle.af_runs.specs.Blocks.{BlockTold, HasBlockHistory, Marks, client_list, listed, server_list}
-use Rattle.af_runs.specs.Clients.{ends}
-use Rattle.af_runs.specs.ClientTurns.{after_calls}
-use Rattle.af_runs.specs.Found.{TurnFound, LegalTurnBy, outside_of}
-use Rattle.af_script.specs.declared.op.TurnSpec.{TurnSpec}
 use Rattle.af_script.specs.declared.op.TurnSpec.TheVariants as makes
-use Rattle.af_runs.specs.Rounds.{LegalEntry, LegalTurnIn, loaded, turned}
-use Rattle.af_runs.specs.Runs.{Run, TrackTold, new_run, new_track, no_track, told_at, each_from, each_track, called, calls_in, sides_of, state_for, mixed_track, turned_track, track_met, with_poll, with_mix, with_turn, with_load, with_ends, found_before, met, takes_part, fast_ended}
-use Rattle.af_runs.specs.Sessions.{Session, setup_of, track_count}
-use Rattle.af_runs.specs.TurnRuns.{IsMadeBy, LegalAlone, calls_alone, cycle_alone, made_alone, met_alone, turn_alone}
-use Rattle.af_judge.proofs.SoundTurns.{Sound}
 use Rattle.af_render_law.proofs.InvalidBlocks.{StreamUnset, unset_new, unset_called, unset_met, unset_mixed, unset_turned}
 use Rattle.af_render_law.proofs.MixedOpen.{entry_looked}
-use Rattle.af_turn_law.specs.Acting.{SawNoInvalid}
-use Rattle.af_render_law.proofs.NoInvalid.{SetNoInvalid, unseen}
+use Rattle.af_render_law.proofs.NoInvalid.{SetNoInvalid}
 use Rattle.af_render_law.proofs.Unmixed.{IsOut, Unmixed}
 use Rattle.af_render_law.proofs.UnmixedTurns.{turn_out, turn_unmixed, none_found, none_taken, found_lives}
 
@@ -181,12 +157,3 @@ away_unset c k e run n h sound low away fine = by_life (found_lives c k run.norm
     by_life : (invalid k (track_in e n) (tracks_at c k run.normal e n) n ≡ []) ⊎ ((track_at run.normal.tracks n).life.ended ≡ false) → (invalid k (track_in e n) (tracks_at c k run.normal e n) n ≡ []) ⊎ SetNoInvalid (server_list (told_at run n).stream)
     by_life (inl none) = inl none
     by_life (inr lives) = inr ((h.streams n low).server (record { lives = lives; apart = inr (slot_of_away (track_at run.normal.tracks n) (sound.slotted n) away) }) fine)
-
--- the client of such a block has seen no INVALID, if the block has a history
-pub away_unseen : (c : Setup) (k : Learnt) (e : Turn) (run : Run) (n : ℕ) → InvalidKept run → Sound run.normal → n < length run.tracks → is_home (track_at run.normal.tracks n).holder ≡ false → (kept (listed (told_at run n).stream)).shut ≡ None
-    → HasBlockHistory (told_at run n).stream → (invalid k (track_in e n) (tracks_at c k run.normal e n) n ≡ []) ⊎ SawNoInvalid (client_list (told_at run n).stream)
-away_unseen c k e run n h sound low away fine history = by_found (away_unset c k e run n h sound low away fine)
-  where
-    by_found : (invalid k (track_in e n) (tracks_at c k run.normal e n) n ≡ []) ⊎ SetNoInvalid (server_list (told_at run n).stream) → (invalid k (track_in e n) (tracks_at c k run.normal e n) n ≡ []) ⊎ SawNoInvalid (client_list (told_at run n).stream)
-    by_found (inl none) = inl none
-    by_found (inr sets) = inr (let b : BlockTold = (told_at run n).stream in unseen b.shape (client_list b) b.released (server_list b) b.taken _ history sets (h.streams n low).hand)

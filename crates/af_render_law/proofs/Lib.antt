@@ -1,3 +1,4 @@
+pub mod Common
 pub mod ClientRound
 pub mod StillRound
 pub mod StepTurns

@@ -1,33 +1,9 @@
 -- A look that an entry makes at a stream block answers by some front; and if the block's server isn't shut after it, it wasn't before, and the look wasn't Shut.
 use Rattle.std.proofs.Common.{◌≡◌, ℕ, zero, suc, ◌+◌, ◌<◌, ◌==◌, ◌&&◌, not, Bool, true, false, if◌then◌else◌, is_some, map, List, [], ◌++◌, Option, Some, None, refl, sym, ap, ◌∙◌, subst, eqb-true, arith}
-use Rattle.std.specs.List.{find, range_with_len}
-use Rattle.std.proofs.lemmas.List.{get_or-replicate}
-use Rattle.af_base.proofs.Basics.{no}
-use Rattle.af_base.specs.declared.event.ServerEvent.{ServerEvent}
-use Rattle.af_base.specs.declared.log.CycleEntry.{CycleEntry}
-use Rattle.af_base.specs.declared.log.SlotEntry.{SlotEntry}
-use Rattle.af_base.specs.declared.state.FastState.{FastState}
-use Rattle.af_base.specs.Log.{absent, entry_slot, slots}
-use Rattle.af_life.specs.Kept.{number_of}
-use Rattle.af_life.specs.Obeys.{is_shut}
-use Rattle.af_model.proofs.Basics.{both_first}
+use Rattle.af_render_law.proofs.Common.{BlockTold, CycleEntry, EntrySeen, FastState, IsUnshut, LegalEntry, LooksBy, Marks, Run, ServerEvent, Session, SlotEntry, Track, TrackTold, absent, both_first, by_server, carries, cycle_events, cycle_frames, cycle_of, entry_slot, find, front_of, get_or-replicate, is_mixed, is_shown, is_shut, kept, listed, mixed_track, no, no_track, number_of, played, range_with_len, server-client, server-server, server_kept, server_list, sides_mixed, slot_of, slots, state_for, state_of, still_entry, told_at, told_more, unshut_mixed}
 use Rattle.af_model.specs.ClientCalls.{client_kept}
-use Rattle.af_model.specs.Cycles.{LooksBy, cycle_events, cycle_of, is_mixed, kept, state_of, still_entry}
-use Rattle.af_model.specs.History.{by_server}
-use Rattle.af_model.specs.Journals.{EntrySeen}
-use Rattle.af_model.specs.ServerCalls.{server_kept}
-use Rattle.af_model.specs.StateQueue.{carries, slot_of}
-use Rattle.af_runs.specs.Blocks.{BlockTold, Marks, listed, server_list}
-use Rattle.af_runs.specs.ClientTurns.{Track}
-use Rattle.af_runs.specs.Fronts.{front_of, is_shown}
-use Rattle.af_runs.specs.Rounds.{LegalEntry}
-use Rattle.af_runs.specs.Runs.{Run, TrackTold, mixed_track, no_track, played, plays, slot_for, state_for, told_at}
-use Rattle.af_runs.specs.Sessions.{Session, cycle_frames}
+use Rattle.af_runs.specs.Runs.{plays, slot_for}
 use Rattle.af_model.proofs.Logic.{both_right}
-use Rattle.af_judge.proofs.BlocksTold.{server-client}
-use Rattle.af_audit.proofs.SidesKept.{sides_mixed}
-use Rattle.af_audit.proofs.TrackStands.{server-server, told_more}
-use Rattle.af_audit.proofs.TrackUnshut.{IsUnshut, unshut_mixed}
 use Rattle.af_runs.proofs.StatesFor.{state_known}
 
 -- ## The look answers

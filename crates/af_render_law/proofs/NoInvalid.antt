@@ -1,18 +1,13 @@
 -- If neither the server nor the hand of a block sets INVALID, its client never sees it.
 use Rattle.std.proofs.Common.{◌≡◌, ℕ, ◌*◌, ◌==◌, max, min, bit_and, bit_or, Bool, true, false, MatchBool, List, [], ◌∷◌, ◌++◌, All, refl, sym, ap, ◌∙◌, subst, arith, eqb-true}
+use Rattle.af_render_law.proofs.Common.{All-cons, All-head, All-nil, All-push, All-tail, ClientEvent, HandEvent, Moment, SawNoInvalid, SeesNoInvalid, ServerEvent, Shape, after, by_client, by_hand, by_server, client_of, hand_of, recursion_from_All, server_of}
 use Rattle.std.specs.Int.{bit_at}
 use Rattle.std.proofs.lemmas.Nat.Bits.{and_pow, bit_at_and, bit_at_or}
-use Rattle.std.proofs.lemmas.List.Elements.{All-nil, All-cons, All-head, All-tail, All-push, recursion_from_All}
-use Rattle.af_base.specs.declared.event.ClientEvent.{ClientEvent}
 use Rattle.af_base.specs.declared.event.ClientEvent.TheVariants as client
-use Rattle.af_base.specs.declared.event.HandEvent.{HandEvent}
 use Rattle.af_base.specs.declared.event.HandEvent.TheVariants as hand
-use Rattle.af_base.specs.declared.event.ServerEvent.{ServerEvent}
 use Rattle.af_base.specs.declared.event.ServerEvent.TheVariants as server
 use Rattle.af_model.specs.declared.point.TrackPoint.{TrackPoint}
-use Rattle.af_model.specs.declared.shape.Shape.{Shape}
-use Rattle.af_model.specs.History.{Moment, by_client, by_server, by_hand, client_of, server_of, hand_of, after, IsLegal, HasHistory}
-use Rattle.af_turn_law.specs.Acting.{SawNoInvalid, SeesNoInvalid}
+use Rattle.af_model.specs.History.{IsLegal, HasHistory}
 use Rattle.af_model.specs.Point.{start, ClientMay, after_client, after_server, after_hand}
 
 -- none of the client's events saw it
@@ -77,36 +72,15 @@ saw_by flags now false is may h = ap (λ n. bit_and n 4) may ∙ h
 sees : (p : TrackPoint) (others : ℕ) (e : ClientEvent) → ClientMay p others e → bit_and p.flags 4 ≡ 0 → SeesNoInvalid e
 sees p others (client.ClearFlags old) may h = ap (λ n. bit_and n 4) may ∙ h
 sees p others (client.SawFlags flags) may h = saw_by flags p.flags (bit_and flags 4 == 0) refl may h
-sees p others (client.Release count) may h = tt
-sees p others client.Flush may h = tt
-sees p others (client.SetGain word) may h = tt
-sees p others (client.SawFront front) may h = tt
-sees p others (client.SawStatus word) may h = tt
-sees p others (client.Poke word value) may h = tt
-sees p others (client.Learn count) may h = tt
+sees p others _ may h = tt
 
 client_lacks : (p : TrackPoint) (e : ClientEvent) → bit_and p.flags 4 ≡ 0 → bit_and (after_client p e).flags 4 ≡ 0
 client_lacks p (client.ClearFlags old) h = lack_and p.flags 4294967287 h
-client_lacks p (client.SawFlags flags) h = h
-client_lacks p (client.Release count) h = h
-client_lacks p client.Flush h = h
-client_lacks p (client.SetGain word) h = h
-client_lacks p (client.SawFront front) h = h
-client_lacks p (client.SawStatus word) h = h
-client_lacks p (client.Poke word value) h = h
-client_lacks p (client.Learn count) h = h
+client_lacks p _ h = h
 
 server_lacks : (p : TrackPoint) (e : ServerEvent) → SetsNoInvalid e → bit_and p.flags 4 ≡ 0 → bit_and (after_server p e).flags 4 ≡ 0
 server_lacks p (server.SetFlags bits) none h = lack_or p.flags bits h none
-server_lacks p (server.SawGain word) none h = h
-server_lacks p (server.SawFlush flush) none h = h
-server_lacks p (server.SawRear rear) none h = h
-server_lacks p (server.SawFront front) none h = h
-server_lacks p (server.Drop to) none h = h
-server_lacks p (server.Take count) none h = h
-server_lacks p (server.Tally missing) none h = h
-server_lacks p (server.SetStatus word) none h = h
-server_lacks p (server.Learn count) none h = h
+server_lacks p _ none h = h
 
 hand_lacks : (p : TrackPoint) (e : HandEvent) → HandSetsNoInvalid e → bit_and p.flags 4 ≡ 0 → bit_and (after_hand p e).flags 4 ≡ 0
 hand_lacks p (hand.SetFlags bits) none h = lack_or p.flags bits h none

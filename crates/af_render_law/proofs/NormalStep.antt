@@ -1,56 +1,20 @@
 -- A turn of the normal mixer that hadn't ended is a step of the run, and the queue is known again.
 use Rattle.std.proofs.Common.{Bool, List, MatchBool, MatchOption, None, Option, Some, [], ap, arith, false, inr, length, refl, subst, sym, take, true, true≢false, ℕ, ◌++◌, ◌+◌, ◌<◌, ◌∙◌, ◌∷◌, ◌≡◌}
-use Rattle.std.proofs.lemmas.Option.{same_Some}
-use Rattle.std.specs.Prelude.{slice_index_or}
-use Rattle.std.proofs.lemmas.Bool.{MatchBool-at_false}
-use Rattle.af_base.specs.Turn.{Turn, turn_of}
+use Rattle.af_render_law.proofs.Common.{AreSmall, AreTogether, Deeds, EntrySeen, FindsShutUnseen, IsLegal, IsMadeBy, IsRound, LegalTurnBy, Links, Load, Marks, MatchBool-at_false, Met, NormalKept, NormalState, NormalTurned, OnlyCalls, PartsAreTold, PartsTold, Pushes, QueueKnown, Quiet, RoundNoted, RoundSeen, Run, SawOwnBy, SeesOwn, ServerState, Session, SessionState, StandsBefore, StreamNames, Tells, Track, TrackTold, Turn, TurnFound, TurnMade, TurnShown, answer_of, cycle_frames, did_by, ends_keep, found_before, given_of, going, known_same, loaded, made_alone, meetings_show, met_alone, normal_round, quiet_ends, quiet_met, quiet_then, report_of, same_Some, setup_of, side_of, sides_of, slice_index_or, small_told, still_round, tame_marks, told_at, turn_of, turned, with_ends, with_load, with_turn}
 use Rattle.af_enough_law.proofs.Basics.{load_told as same_track}
-use Rattle.af_life.specs.Kept.{NormalKept}
-use Rattle.af_link.specs.declared.links.Links.{Links}
-use Rattle.af_link.specs.declared.names.StreamNames.{StreamNames}
-use Rattle.af_model.specs.Journals.{EntrySeen, RoundNoted, RoundSeen}
-use Rattle.af_normal.specs.LegalTurned.{IsLegal}
-use Rattle.af_normal.specs.State.{NormalState}
-use Rattle.af_normal.specs.TurnMade.{TurnMade, answer_of}
-use Rattle.af_runs.specs.Blocks.{Marks}
-use Rattle.af_runs.specs.Found.{LegalTurnBy, TurnFound}
-use Rattle.af_runs.specs.Rounds.{loaded, turned}
-use Rattle.af_runs.specs.Runs.{Run, TrackTold, found_before, report_of, side_of, sides_of, told_at, with_ends, with_load, with_turn}
 use Rattle.af_runs.specs.Runs as run_of
-use Rattle.af_runs.specs.Sessions.{Session, cycle_frames, setup_of}
-use Rattle.af_runs.specs.TurnRuns.{IsMadeBy, OnlyCalls, made_alone, met_alone}
 use Rattle.af_script.specs.declared.op.TurnSpec.TheVariants as makes
-use Rattle.af_server.specs.Order.{ServerState}
-use Rattle.af_session.specs.Met.{Met}
-use Rattle.af_session.specs.Rounds.{IsRound, NormalTurned, normal_round, still_round}
-use Rattle.af_session.specs.Together.{AreTogether, SessionState}
-use Rattle.af_session.proofs.FollowingRounds.{ends_keep}
-use Rattle.af_stateq.specs.Ends.{Pushes}
-use Rattle.af_turn_law.specs.Acting.{FindsShutUnseen}
 use Rattle.af_render_law.proofs.Chain.{Holds, NormalTurnIsAStep}
-use Rattle.af_told_law.specs.Sizes.{AreSmall}
 use Rattle.af_render_law.specs.Laws.{StepIsTold, ToldBy, round_of}
-use Rattle.af_told_law.specs.NormalLaws.{PartsAreTold, PartsTold, TurnShown, did_by}
-use Rattle.af_told_law.specs.Own.{SeesOwn}
-use Rattle.af_told_law.specs.QueueTurned.{QueueKnown}
-use Rattle.af_told_law.specs.Tells.{Tells, given_of}
 use Rattle.af_render_law.proofs.BetweenRounds.{leads_turned}
 use Rattle.af_render_law.proofs.ClientRound.{none_else}
-use Rattle.af_told_law.proofs.KnownSteps.{Quiet, known_same, quiet_ends, quiet_met, quiet_then}
-use Rattle.af_told_law.proofs.MeetsShow.{meetings_show}
 use Rattle.af_told_law.proofs.NormalRound.{known_now, legal_now, sides_same, tells_turned, then_at, then_long}
 use Rattle.af_render_law.proofs.ShutUnseen.{shut_unseen}
-use Rattle.af_told_law.proofs.TameRuns.{small_told}
 use Rattle.af_told_law.proofs.TurnCounts.{turns_made}
-use Rattle.af_model.specs.declared.newest.ReaderEvent.TheVariants.{Load}
 use Rattle.af_base.specs.declared.report.Report.{Report}
-use Rattle.af_life.specs.TurnEvents.{going}
 use Rattle.af_told_law.proofs.LoadTold.{known_loaded, load_told}
 use Rattle.af_render_law.proofs.TurnMet.{load_is, turn_shown}
-use Rattle.af_told_law.specs.Between.{StandsBefore}
-use Rattle.af_runs.specs.ClientTurns.{Track}
 use Rattle.af_render_law.proofs.OwnKept.{left_histories, left_met, saw_loaded, saw_now, saw_sides, turned_own}
-use Rattle.af_told_law.specs.Deeds.{Deeds, SawOwnBy, tame_marks}
 
 -- one turn more is counted
 made_turns : (x y : NormalState) → TurnMade (answer_of (turn_of y.entry)) x y → y.turns ≡ x.turns + 1

@@ -1,54 +1,17 @@
 -- In a render each front that was seen at a block that wasn't poked so far is its server's own: whatever looked in a turn meets at its end.
 use Rattle.std.proofs.Common.{◌≡◌, inl, inr, ℕ, ◌<◌, ◌≤◌, ◌==◌, ◌&&◌, not, Bool, true, false, true≢false, if◌then◌else◌, is_some, fold, List, [], ◌∷◌, ◌++◌, length, slice_get, Option, Some, None, refl, sym, ap, ◌∙◌, subst, append-nil, arith}
-use Rattle.std.specs.List.{flat_map}
-use Rattle.std.specs.Prelude.{drop}
-use Rattle.af_base.proofs.Basics.{some_at}
-use Rattle.af_base.specs.declared.event.ServerEvent.{ServerEvent}
+use Rattle.af_render_law.proofs.Common.{AreTogether, BlockTold, Deeds, EntrySeen, HaveHistories, IsLegal, Links, Met, MetTold, NormalKept, NormalState, Outside, PartyState, RoundSeen, Run, SawOwn, SawOwnBy, SawOwnOf, SeesOwn, ServerEvent, ServerKept, ServerState, Session, SessionState, Setup, Shape, Side, TakeSeen, Tells, TellsServer, Track, TrackKept, TrackTold, Turn, after_calls, asked, called, calls_alone, calls_in, client-client, client_list, cycle_events, deeds_met, done_on, drop, each_long, each_track, ends, flat_map, found_carries, heard, held_slot, invalid, is_found_shut, is_home, is_lawful, is_tame, item_at, kept_of, lawful_first, learnt, met, met_deed, met_many, mix_events, mixed_track, own_join, own_met, server_begins, server_keeps, side_of, sides_of, some_at, state_for, stream_at, stream_by, stream_met, takes_from, takes_part, tame_marks, told_at, told_each, track_at, track_in, tracks_at, turn_of, with_ends, with_load, with_mix, with_poll, with_side}
 use Rattle.af_base.specs.declared.event.ServerEvent.TheVariants as server
-use Rattle.af_base.specs.Turn.{TakeSeen, Turn, turn_of}
-use Rattle.af_judge.proofs.Basics.{each_long, met_many, told_each}
-use Rattle.af_life.specs.declared.kept.TrackKept.{TrackKept}
-use Rattle.af_life.specs.Heard.{heard, learnt}
-use Rattle.af_life.specs.Kept.{NormalKept, Outside, Setup, asked, is_home, track_at, track_in}
-use Rattle.af_life.specs.Serves.{is_found_shut}
-use Rattle.af_life.specs.TurnEvents.{invalid, mix_events, takes_from, tracks_at}
-use Rattle.af_link.specs.declared.links.Links.{Links}
-use Rattle.af_model.proofs.Basics.{lawful_first}
-use Rattle.af_model.specs.declared.shape.Shape.{Shape}
-use Rattle.af_model.specs.Cycles.{cycle_events}
-use Rattle.af_model.specs.History.{is_lawful}
-use Rattle.af_model.specs.Journals.{EntrySeen, RoundSeen}
-use Rattle.af_model.specs.ServerCalls.{ServerKept, server_begins, server_keeps}
 use Rattle.af_model.specs.Spelled.{AllSeeOwn}
-use Rattle.af_normal.specs.LegalTurned.{IsLegal}
-use Rattle.af_normal.specs.Mixing.{stream_at}
-use Rattle.af_normal.specs.State.{NormalState, kept_of, setup_of as mixer_setup}
-use Rattle.af_party.specs.Parties.{PartyState}
-use Rattle.af_runs.specs.Blocks.{BlockTold, client_list, is_tame}
-use Rattle.af_runs.specs.Clients.{ends}
-use Rattle.af_runs.specs.ClientTurns.{Side, Track, after_calls}
-use Rattle.af_runs.specs.Rounds.{HaveHistories}
-use Rattle.af_runs.specs.Runs.{Run, TrackTold, called, calls_in, each_track, met, mixed_track, side_of, sides_of, state_for, stream_met, takes_part, told_at, with_ends, with_load, with_mix, with_poll, with_side}
-use Rattle.af_runs.specs.Sessions.{Session}
-use Rattle.af_runs.specs.TurnRuns.{calls_alone}
+use Rattle.af_normal.specs.State.{setup_of as mixer_setup}
 use Rattle.af_judge.proofs.BlocksMeet.{met_at}
-use Rattle.af_judge.proofs.BlocksTold.{client-client}
 use Rattle.af_judge.proofs.EntryTracks.{mixed_sides}
-use Rattle.af_server.specs.Order.{ServerState}
-use Rattle.af_engine.specs.Met.{item_at}
-use Rattle.af_session.specs.Met.{Met}
 use Rattle.af_session.specs.Rounds as parties
-use Rattle.af_session.specs.Together.{AreTogether, SessionState}
-use Rattle.af_told_law.proofs.Basics.{own_join, own_met}
 use Rattle.af_turn_law.proofs.Basics.{tame_met}
 use Rattle.af_turn_law.proofs.MixedHome.{mixed_home}
 use Rattle.af_render_law.specs.Laws.{ToldBy}
-use Rattle.af_told_law.specs.Deeds.{Deeds, MetTold, SawOwnBy, SawOwnOf, deeds_met, done_on, met_deed, stream_by, tame_marks}
-use Rattle.af_told_law.specs.Own.{SawOwn, SeesOwn}
-use Rattle.af_told_law.specs.Tells.{Tells, TellsServer, held_slot}
 use Rattle.af_told_law.proofs.AllMeet.{met_histories, tells_met}
 use Rattle.af_told_law.proofs.EndsTold.{ends_told}
-use Rattle.af_told_law.proofs.SlotHeld.{found_carries}
 
 -- ## Lists
 

@@ -1,41 +1,15 @@
 -- The journal of a render is by itself a turn run, and the run that it tells tells the parties.
 use Rattle.std.proofs.Common.{List, [], ap, arith, inl, length, refl, slice_get, subst, sym, ℕ, ◌+◌, ◌<◌, ◌∙◌, ◌∷◌, ◌≡◌}
-use Rattle.std.proofs.lemmas.Option.{none-some, same_Some, slice_get_within}
-use Rattle.af_base.specs.declared.frame.Frame.{Frame}
-use Rattle.af_base.specs.Log.{Logged}
-use Rattle.af_cblk.specs.declared.view.ClientPart.{ClientPart}
-use Rattle.af_fast.specs.Mixer.{MixerState}
-use Rattle.af_model.specs.Journals.{EntrySeen, JournalData, RoundNoted, RoundSeen, entries_seen, rounds_seen}
-use Rattle.af_party.specs.Parties.{PartyState}
-use Rattle.af_runs.specs.Blocks.{Marks}
-use Rattle.af_runs.specs.LegalRuns.{marks_of, session_of}
-use Rattle.af_runs.specs.Runs.{new_run}
-use Rattle.af_runs.specs.Sessions.{Session}
-use Rattle.af_runs.specs.TurnRuns.{AreTurns, IsTurnRun, run_alone}
-use Rattle.af_script.specs.Data.{ScriptData}
-use Rattle.af_script.specs.declared.op.TurnSpec.{TurnSpec}
+use Rattle.af_render_law.proofs.Common.{AreListTurns, AreRoundsMarked, AreTurns, ClientPart, EndsState, EntrySeen, FindShutUnseen, Frame, HandsBack, IsScript, IsTurnRun, JournalData, Logged, Marks, MixerState, NormalState, PartyState, Renders, RoundNoted, RoundSeen, ScriptData, Session, SessionState, TurnSpec, all_asked, entries_grown, entries_seen, fast_cycles, forced_run, known_new, marks_free, marks_of, new_marked, new_run, new_small, none-some, rounds_seen, run_alone, same_Some, session_of, slice_get_within}
 use Rattle.af_script.specs.declared.op.TurnSpec.TheVariants as makes
-use Rattle.af_script.specs.Form.{IsScript}
-use Rattle.af_script.specs.Ops.{fast_cycles}
-use Rattle.af_session.specs.Ends.{EndsState}
-use Rattle.af_rendering.specs.Rendered.{HandsBack, Renders}
-use Rattle.af_session.specs.Together.{SessionState}
-use Rattle.af_turn_law.specs.ListTurns.{AreListTurns, FindShutUnseen}
-use Rattle.af_turn_law.proofs.RunBegins.{forced_run}
-use Rattle.af_normal.specs.State.{NormalState}
 use Rattle.af_judge.proofs.StatesRuns.{scales_of}
 use Rattle.af_render_law.specs.Aware.{KnowsAway}
 use Rattle.af_render_law.proofs.Chain.{AreCounted, FastTurnIsAStep, Holds, NormalTurnIsAStep}
 use Rattle.af_render_law.specs.Laws.{AreSteps, ToldBy}
-use Rattle.af_told_law.specs.Marked.{AreRoundsMarked}
 use Rattle.af_render_law.proofs.BetweenRounds.{stands_first}
 use Rattle.af_render_law.proofs.InvalidKept.{invalid_new}
-use Rattle.af_told_law.proofs.KnownSteps.{known_new}
-use Rattle.af_told_law.proofs.LogMore.{all_asked, entries_grown}
-use Rattle.af_told_law.proofs.MarkedRuns.{marks_free, new_marked}
 use Rattle.af_told_law.proofs.NewTold.{new_told, no_deeds}
 use Rattle.af_told_law.proofs.PipeCells.{cells_new}
-use Rattle.af_told_law.proofs.SmallRuns.{new_small}
 use Rattle.af_render_law.proofs.StepTurns.{steps_turns}
 use Rattle.af_render_law.proofs.TameRounds.{tame_new}
 use Rattle.af_render_law.proofs.TurnChain.{chain}

@@ -1,16 +1,6 @@
 -- The journal of a render is by itself a turn run, its summary is that of the journal alone, and its ends keep the lists of the run.
-use Rattle.af_base.specs.declared.frame.Frame.{Frame}
 use Rattle.std.proofs.Common.{◌≡◌, List, sym, subst}
-use Rattle.af_model.specs.Journals.{JournalData}
-use Rattle.af_runs.specs.Blocks.{Marks}
-use Rattle.af_runs.specs.LegalRuns.{session_of}
-use Rattle.af_runs.specs.Sessions.{Session}
-use Rattle.af_runs.specs.TurnRuns.{IsTurnRun}
-use Rattle.af_script.specs.Data.{ScriptData}
-use Rattle.af_script.specs.Form.{IsScript}
-use Rattle.af_session.specs.Ends.{EndsState}
-use Rattle.af_rendering.specs.Rendered.{HandsBack}
-use Rattle.af_session.specs.Shown.{shown_by, summary_told}
+use Rattle.af_render_law.proofs.Common.{EndsState, Frame, HandsBack, IsScript, IsTurnRun, JournalData, Marks, ScriptData, Session, parts_told, session_of, shown_by, shown_from, summary_by, summary_told}
 use Rattle.af_render_law.proofs.Chain.{FastTurnIsAStep, NormalTurnIsAStep}
 use Rattle.af_render_law.specs.Laws.{ToldBy}
 use Rattle.af_render_law.specs.RenderLaws.{RendersAreToldAlone, run_told}
@@ -18,10 +8,8 @@ use Rattle.af_render_law.proofs.FastStep.{fast_turns_step}
 use Rattle.af_render_law.proofs.NormalStep.{normal_turns_step}
 use Rattle.af_told_law.specs.KeptEnds.{KeepsLists}
 use Rattle.af_told_law.proofs.EndsKept.{ends_keep_lists, own_at_home}
-use Rattle.af_told_law.proofs.PartsTold.{parts_told}
 use Rattle.af_render_law.proofs.RenderTold.{parties_counted, parties_told, turn_run}
 use Rattle.af_render_law.proofs.SummaryTold.{shown_is, summary_is}
-use Rattle.af_rendering.specs.Alone.{shown_from, summary_by}
 
 module _ (script : ScriptData) (files : List (List Frame)) (j : JournalData) (ends : EndsState) (form : IsScript script) (back : HandsBack script files j ends) where
   abbrev s : Session

@@ -1,22 +1,7 @@
 -- All tracks of a turn run stay calm: what each step leaves of them.
 use Rattle.std.proofs.Common.{◌≡◌, ℕ, ◌<◌, ◌==◌, Bool, true, false, if◌then◌else◌, fold, List, [], ◌∷◌, length, refl, sym, ap, ◌∙◌, subst, arith, eqb-true, ◌≤◌}
-use Rattle.std.specs.Prelude.{slice_index_or}
-use Rattle.af_base.specs.Turn.{Turn}
-use Rattle.af_judge.proofs.Basics.{each_long, told_each}
-use Rattle.af_life.specs.Heard.{learnt}
-use Rattle.af_life.specs.TurnEvents.{tracks_at, stream_list}
-use Rattle.af_model.specs.JournalForm.{TracksRise}
-use Rattle.af_model.specs.Journals.{EntrySeen, RoundSeen}
-use Rattle.af_runs.specs.Blocks.{Marks}
-use Rattle.af_runs.specs.Clients.{ends}
-use Rattle.af_runs.specs.ClientTurns.{LegalClientTurn}
-use Rattle.af_runs.specs.Found.{LegalTurnBy, outside_of}
-use Rattle.af_runs.specs.Runs.{Run, TrackTold, no_track, told_at, each_from, each_track, called, calls_in, sides_of, state_for, mixed_track, turned_track, track_met, with_poll, with_mix, with_turn, with_load, with_ends, found_before, met, takes_part}
-use Rattle.af_runs.specs.Sessions.{Session, track_count, setup_of}
-use Rattle.af_runs.specs.TurnRuns.{cycle_alone, calls_alone, LegalAlone}
-use Rattle.af_turn_law.specs.Acting.{ActsWhereMet}
+use Rattle.af_render_law.proofs.Common.{ActsWhereMet, AllFind, EntrySeen, LegalAlone, LegalClientTurn, LegalTurnBy, Marks, RoundSeen, Run, Session, TrackTold, TracksRise, Turn, called, calls_alone, calls_in, cycle_alone, each_from, each_long, each_track, ends, found_before, learnt, met, mixed_track, no_track, outside_of, same_current, setup_of, sides_of, slice_index_or, state_for, stream_list, takes_part, told_at, told_each, track_count, track_met, tracks_at, turned_track, with_ends, with_load, with_mix, with_poll, with_turn}
 use Rattle.af_turn_law.proofs.RunBlocks.{part_at, PlaysParts, alone_pushed, holds_played}
-use Rattle.af_turn_law.proofs.RunPolls.{AllFind, same_current}
 use Rattle.af_turn_law.proofs.RunTurns.{none_after}
 use Rattle.af_render_law.proofs.TrackCalm.{TrackCalm, IsOpenStream, calm_called, calm_mixed, calm_turned, calm_met, calm_ended, calm_first}
 

@@ -1,28 +1,13 @@
 -- A track that a turn finds shut has ended after its part of the turn.
 use Rattle.std.proofs.Common.{◌≡◌, ℕ, zero, suc, ◌==◌, ◌&&◌, ◌||◌, not, Bool, true, false, true≢false, MatchBool, if◌then◌else◌, is_some, List, [], ◌∷◌, length, Option, refl, sym, ap, ◌∙◌, arith, eqb-true}
-use Rattle.std.specs.List.{list_any}
-use Rattle.af_base.proofs.Basics.{no}
+use Rattle.af_render_law.proofs.Common.{CommandLook, Heard, IsServed, TrackKept, TrackSeen, after_commands, after_look, after_looks, after_part, are_due, by_report, ended, goes_on, grew_report, is_found_shut, is_shut, list_any, most_looks, no, report_ends, shows_command}
 use Rattle.af_base.specs.declared.seen.Seen.TheVariants as seen
-use Rattle.af_base.specs.declared.turn.CommandLook.{CommandLook}
-use Rattle.af_base.specs.Turn.{TrackSeen}
-use Rattle.af_judge.proofs.Basics.{report_ends}
-use Rattle.af_life.specs.declared.kept.Heard.{Heard}
-use Rattle.af_life.specs.declared.kept.TrackKept.{TrackKept}
-use Rattle.af_life.specs.Obeys.{shows_command, is_shut, ended, after_look, goes_on, after_looks, are_due}
-use Rattle.af_life.specs.Reports.{by_report}
-use Rattle.af_life.specs.Serves.{most_looks, is_found_shut, IsServed, after_commands, after_part}
-use Rattle.af_judge.proofs.SoundLives.{grew_report}
 use Rattle.af_runs.proofs.Basics.{shut_shows}
 
 ends_by : (command shut : Bool) (obeyed s : TrackKept) → command ≡ false → shut ≡ true → (if command then obeyed else if shut then ended s else s).life.ended ≡ true
 ends_by true shut obeyed s f g = absurd (true≢false f)
 ends_by false true obeyed s f g = refl
 ends_by false false obeyed s f g = no g
-
--- whichever way is taken, the life has ended
-either_ends : (b : Bool) (s t : TrackKept) → s.life.ended ≡ true → t.life.ended ≡ true → (if b then s else t).life.ended ≡ true
-either_ends true s t f g = f
-either_ends false s t f g = g
 
 -- no look comes after the last one
 none_left : (looks : List CommandLook) → (length looks == 0) ≡ true → list_any (λ (look : CommandLook). is_shut look.seen) looks ≡ true → ⊥

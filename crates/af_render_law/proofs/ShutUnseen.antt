@@ -1,48 +1,19 @@
 -- Of a track that a turn of the normal mixer finds shut as its stream proxy comes home, the client has not seen INVALID: the hand knew the proxy's list when it last met the client, and INVALID isn't in it.
 use Rattle.std.proofs.Common.{◌≡◌, ◌≢◌, ◌⊎◌, inl, inr, ℕ, zero, suc, ◌<◌, ◌≤◌, ◌||◌, ◌&&◌, ◌==◌, Bool, true, false, true≢false, is_some, List, [], ◌∷◌, length, slice_get, Option, Some, None, refl, sym, ap, subst, ◌∙◌, arith}
-use Rattle.std.specs.List.{list_any, range_with_len}
-use Rattle.af_base.proofs.Basics.{neither, some_at}
-use Rattle.af_base.specs.declared.event.HandEvent.{HandEvent}
-use Rattle.af_base.specs.declared.event.ServerEvent.{ServerEvent}
-use Rattle.af_base.specs.Log.{slots}
-use Rattle.af_base.specs.Turn.{Turn, turn_of}
+use Rattle.af_render_law.proofs.Common.{AreTogether, Deeds, FindsShutUnseen, HandEvent, HandSide, IsLegal, Links, Listed, NormalKept, NormalState, Outside, PartyState, Run, SawNoInvalid, SawOwnBy, ServerEvent, Session, SessionState, Setup, Tells, Track, TrackKept, Turn, TurnFound, after_ack, carries, client_list, hand_events, held_slot, invalid, is_held, is_home, is_lawful, is_tame, item_at, kept_of, learnt, list_any, neither, outside_of, range_with_len, server_list, setup_of, slot_of, slots, some_at, sound_acked, stream_at, takes_part, tame_marks, told_at, track_at, track_in, tracks_at, turn_of}
 use Rattle.af_cblk.specs.Rule.{StartsWith}
-use Rattle.af_cblk.specs.Sides.{HandSide}
-use Rattle.af_life.specs.declared.kept.TrackKept.{TrackKept}
-use Rattle.af_life.specs.Edits.{after_ack}
-use Rattle.af_life.specs.Heard.{learnt}
-use Rattle.af_life.specs.Kept.{NormalKept, Outside, Setup, is_home, track_at, track_in}
 use Rattle.af_life.specs.Sound.{IsSound}
-use Rattle.af_life.specs.TurnEvents.{invalid, tracks_at}
-use Rattle.af_link.specs.declared.links.Links.{Links}
-use Rattle.af_model.specs.Cycles.{Listed}
-use Rattle.af_model.specs.History.{HasHistory, is_lawful}
-use Rattle.af_model.specs.StateQueue.{carries, slot_of}
-use Rattle.af_normal.specs.LegalTurned.{IsLegal, hand_events}
-use Rattle.af_normal.specs.Mixing.{stream_at}
-use Rattle.af_normal.specs.State.{NormalState, kept_of, setup_of as mixer_setup}
-use Rattle.af_party.specs.Parties.{PartyState}
-use Rattle.af_runs.specs.Blocks.{client_list, is_tame, server_list}
-use Rattle.af_runs.specs.ClientTurns.{Track}
-use Rattle.af_runs.specs.Found.{TurnFound, outside_of}
-use Rattle.af_runs.specs.Runs.{Run, takes_part, told_at}
-use Rattle.af_runs.specs.Sessions.{Session, setup_of}
-use Rattle.af_engine.specs.Met.{item_at}
-use Rattle.af_session.specs.Together.{AreTogether, SessionState}
-use Rattle.af_judge.proofs.SoundTurns.{sound_acked}
-use Rattle.af_turn_law.specs.Acting.{FindsShutUnseen, SawNoInvalid}
+use Rattle.af_model.specs.History.{HasHistory}
+use Rattle.af_normal.specs.State.{setup_of as mixer_setup}
 use Rattle.af_render_law.specs.Aware.{KnowsAway}
 use Rattle.af_told_law.specs.Comers.{ComersTell}
-use Rattle.af_told_law.specs.Tells.{Tells, held_slot}
 use Rattle.af_render_law.proofs.InvalidKept.{InvalidKept, away_unset}
 use Rattle.af_told_law.proofs.LegalAlike.{invalid_same}
 use Rattle.af_render_law.proofs.NoInvalid.{HandSetNoInvalid, SetNoInvalid, set_first, unseen}
 use Rattle.af_told_law.proofs.NormalFound.{client_at, stream_real, turn_alike}
 use Rattle.af_render_law.proofs.RunCalm.{AllOpen}
-use Rattle.af_told_law.proofs.SlotHeld.{is_held}
 use Rattle.af_told_law.proofs.TurnAlike.{learn_alike, served_holder, tracks_same}
 use Rattle.af_told_law.specs.Outsides.{FindsBlocks, HeardAlike}
-use Rattle.af_told_law.specs.Deeds.{Deeds, SawOwnBy, tame_marks}
 
 none_there : {X : Type 0} (o : Option X) → is_some o ≡ false → o ≡ None
 none_there None h = refl

@@ -1,27 +1,11 @@
 -- A round of a mixer that has ended, in which nothing is done.
 use Rattle.std.proofs.Common.{◌≡◌, inr, ℕ, Bool, true, false, fold, take, MatchBool, MatchOption, List, [], length, Option, None, sym, ap, ◌∙◌, subst}
-use Rattle.std.proofs.lemmas.Option.{none-some}
-use Rattle.std.specs.Prelude.{slice_index_or}
-use Rattle.std.proofs.lemmas.Bool.{MatchBool-at_true}
-use Rattle.af_base.specs.Turn.{Turn}
-use Rattle.af_life.specs.Kept.{NormalKept}
-use Rattle.af_link.specs.declared.links.Links.{Links}
-use Rattle.af_model.specs.Journals.{EntrySeen, RoundNoted, RoundSeen}
-use Rattle.af_runs.specs.Blocks.{Marks}
-use Rattle.af_runs.specs.Found.{LegalTurnBy}
-use Rattle.af_runs.specs.Rounds.{HaveHistories, IsFastTurn, loaded, turned}
-use Rattle.af_runs.specs.Runs.{Run, fast_ended, found_before, with_ends}
+use Rattle.af_render_law.proofs.Common.{AreTogether, EntrySeen, HaveHistories, IsMadeBy, IsRound, LegalAlone, LegalTurnBy, Links, Marks, MatchBool-at_true, Met, NormalKept, NormalTurned, OnlyCalls, RoundNoted, RoundSeen, Run, Session, SessionState, Turn, TurnSpec, cycle_alone, fast_ended, fast_round, found_before, given_of, loaded, made_alone, none-some, normal_round, setup_of, slice_index_or, still_round, turned, with_ends}
+use Rattle.af_runs.specs.Rounds.{IsFastTurn}
 use Rattle.af_runs.specs.Runs as run_of
-use Rattle.af_runs.specs.Sessions.{Session, setup_of}
-use Rattle.af_runs.specs.TurnRuns.{IsMadeBy, LegalAlone, OnlyCalls, cycle_alone, made_alone}
-use Rattle.af_script.specs.declared.op.TurnSpec.{TurnSpec}
 use Rattle.af_script.specs.declared.op.TurnSpec.TheVariants as makes
 use Rattle.af_session.specs.FastTurns as parties
-use Rattle.af_session.specs.Met.{Met}
-use Rattle.af_session.specs.Rounds.{IsRound, NormalTurned, fast_round, normal_round, still_round}
-use Rattle.af_session.specs.Together.{AreTogether, SessionState}
 use Rattle.af_render_law.specs.Laws.{StepIsTold, ToldBy, round_of}
-use Rattle.af_told_law.specs.Tells.{given_of}
 use Rattle.af_render_law.proofs.ClientRound.{none_else}
 use Rattle.af_render_law.proofs.OwnKept.{left_histories, left_met}
 

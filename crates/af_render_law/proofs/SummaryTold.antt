@@ -1,23 +1,9 @@
 -- The summary of a render is that of its journal alone.
 use Rattle.std.proofs.Common.{◌≡◌, ℕ, suc, List, [], ◌∷◌, length, map, slice_get, Some, refl, sym, ap, ◌∙◌, arith}
-use Rattle.std.proofs.lemmas.Option.{get_or_from_slice_get}
-use Rattle.af_base.specs.declared.frame.Frame.{Frame}
-use Rattle.af_model.specs.Journals.{JournalData, entries_of, frames_of}
-use Rattle.af_party.specs.Parties.{PartyState}
-use Rattle.af_runs.specs.ClientTurns.{Track}
-use Rattle.af_runs.specs.LegalRuns.{session_of}
-use Rattle.af_runs.specs.Runs.{Run, TrackTold, told_at}
-use Rattle.af_runs.specs.Sessions.{Session}
-use Rattle.af_script.specs.Data.{ScriptData}
-use Rattle.af_session.specs.Ends.{EndsState, ends_from}
-use Rattle.af_session.specs.Shown.{released_by, shown_by, shows, summary_told}
-use Rattle.af_session.specs.Together.{SessionState}
+use Rattle.af_render_law.proofs.Common.{Deeds, EndsState, Frame, JournalData, PartyState, Run, ScriptData, Session, SessionState, Tells, Track, TrackTold, ends_from, entries_of, frames_of, get_or_from_slice_get, released_by, session_of, shown_by, shown_from, shows, summary_by, summary_told, told_at}
 use Rattle.af_tally.specs.Summaries.{summary_of}
 use Rattle.af_render_law.proofs.Chain.{AreCounted}
 use Rattle.af_render_law.specs.RenderLaws.{run_told}
-use Rattle.af_told_law.specs.Tells.{Tells}
-use Rattle.af_told_law.specs.Deeds.{Deeds}
-use Rattle.af_rendering.specs.Alone.{shown_from, summary_by}
 
 -- two lists give the same if each place does
 same_maps : (xs : List PartyState) (ts : List TrackTold) → length ts ≡ length xs → ((i : ℕ) (p : PartyState) (t : TrackTold) → slice_get xs i ≡ Some p → slice_get ts i ≡ Some t → p.stream.released ≡ length t.stream.released)

@@ -1,23 +1,10 @@
 -- What is kept of a run between two rounds, so that its next round is one of a turn run: each round of which the lists have histories keeps it.
 use Rattle.std.proofs.Common.{◌≡◌, ℕ, ◌<◌, ◌≤◌, [], Bool, true, false, fold, length, All, Option, Some, None, refl, sym, subst, arith}
+use Rattle.af_render_law.proofs.Common.{All-get_or, FindsShutUnseen, HaveHistories, IsMadeBy, IsScript, IsTrack, Marks, RoundSeen, Run, Session, Setting, Turn, TurnSpec, all_find, cycle_alone, found_before, loaded, made_alone, met, met_alone, new_run, new_track, no_spec, pushed_in, setup_of, takes_part, told_at, track_count, turned, turns_new, with_ends}
 use Rattle.std.proofs.lemmas.List.FromFn.{length-map-range_with_len}
-use Rattle.std.proofs.lemmas.List.Elements.{All-get_or}
-use Rattle.af_base.specs.Turn.{Turn}
-use Rattle.af_life.specs.declared.kept.Setting.{Setting}
 use Rattle.af_model.specs.ClientCalls as list
-use Rattle.af_model.specs.Journals.{RoundSeen}
-use Rattle.af_script.specs.declared.op.TurnSpec.{TurnSpec}
 use Rattle.af_script.specs.declared.op.TurnSpec.TheVariants as makes
-use Rattle.af_script.specs.Form.{IsScript, IsTrack}
-use Rattle.af_runs.specs.Blocks.{Marks}
-use Rattle.af_runs.specs.Rounds.{HaveHistories, loaded, turned}
-use Rattle.af_runs.specs.Runs.{Run, new_run, new_track, told_at, with_ends, found_before, met, takes_part}
-use Rattle.af_runs.specs.Sessions.{Session, no_spec, track_count, setup_of}
-use Rattle.af_runs.specs.TurnRuns.{cycle_alone, made_alone, met_alone, IsMadeBy}
 use Rattle.af_audit.proofs.FatesTold.{told_new}
-use Rattle.af_turn_law.specs.Acting.{FindsShutUnseen}
-use Rattle.af_turn_law.proofs.RunBegins.{turns_new}
-use Rattle.af_turn_law.proofs.RunPolls.{pushed_in, all_find}
 use Rattle.af_turn_law.proofs.RunShared.{SharedDone, shared_rest, shared_mixed, shared_cycles}
 use Rattle.af_turn_law.proofs.TurnActs.{acts}
 use Rattle.af_turn_law.proofs.TurnsForced.{TurnsReady, turn_by, queue_told, round_forced, legal_alone}

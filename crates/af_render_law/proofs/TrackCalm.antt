@@ -1,34 +1,11 @@
 -- What holds of a track through each step of a turn run: while its stream block is tame, its server is not shut if it takes part in no meeting.
 use Rattle.std.proofs.Common.{◌≡◌, ℕ, ◌≤◌, Bool, true, false, true≢false, map, List, [], ◌++◌, drop, length, Option, Some, None, refl, sym, ◌∙◌, subst, append-nil}
-use Rattle.af_base.specs.declared.event.ClientCall.{ClientCall}
-use Rattle.af_base.specs.declared.event.HandEvent.{HandEvent}
-use Rattle.af_base.specs.declared.event.ServerEvent.{ServerEvent}
-use Rattle.af_base.specs.declared.state.FastState.{FastState}
-use Rattle.af_base.specs.Turn.{Turn}
-use Rattle.af_life.specs.Heard.{learnt}
-use Rattle.af_life.specs.Kept.{NormalKept, Outside, Setup}
-use Rattle.af_life.specs.Turn.{LegalTurn}
-use Rattle.af_life.specs.TurnEvents.{hand_list, stream_list, tracks_at}
-use Rattle.af_model.specs.Cycles.{kept}
-use Rattle.af_model.specs.History.{by_client, by_hand, by_server}
-use Rattle.af_model.specs.JournalForm.{TracksRise}
-use Rattle.af_model.specs.Journals.{EntrySeen}
-use Rattle.af_model.specs.ServerCalls.{server_kept}
-use Rattle.af_model.specs.declared.shape.Shape.{Shape}
-use Rattle.af_runs.specs.Blocks.{BlockTold, HasBlockHistory, client_list, is_tame, listed, meets, server_list}
-use Rattle.af_runs.specs.Clients.{ends}
-use Rattle.af_runs.specs.ClientTurns.{LegalClientTurn, Track, after_calls}
-use Rattle.af_runs.specs.Found.{TurnFound, outside_of}
-use Rattle.af_runs.specs.Runs.{TrackTold, called, mixed_track, played, sides_of, slot_for, stream_met, turned_track}
-use Rattle.af_runs.specs.Sessions.{Session, cycle_frames}
+use Rattle.af_render_law.proofs.Common.{BlockTold, ClientCall, EntrySeen, FastState, HandEvent, HasBlockHistory, IsTrim, LegalClientTurn, LegalTurn, NormalKept, Outside, ServerEvent, Session, Setup, Shape, Track, TrackTold, TracksRise, Turn, TurnFound, after_calls, by_client, by_hand, by_server, called, client-server, client_list, cycle_frames, ends, hand-server, hand_list, is_tame, kept, learnt, listed, meets, mixed_track, outside_of, played, server-server, server_kept, server_list, sides_mixed, sides_of, sides_turned, stream_list, stream_met, told_more, tracks_at, trim_called, trim_ended, trim_met, trim_mixed, trim_turned, turned_track}
+use Rattle.af_runs.specs.Runs.{slot_for}
 use Rattle.af_judge.specs.Tracks.{AreSpelled, IsSpelled}
-use Rattle.af_judge.proofs.BlocksTold.{client-server}
 use Rattle.af_judge.proofs.Spelled.{spelled_turn, spelled_met}
 use Rattle.af_judge.proofs.TracksTold.{sides_called, shapes_called}
 use Rattle.af_audit.proofs.RearsSeen.{server_unshut}
-use Rattle.af_audit.proofs.SidesKept.{sides_mixed, sides_turned}
-use Rattle.af_audit.proofs.TrackStands.{hand-server, server-server, told_more}
-use Rattle.af_audit.proofs.TrackUnshut.{IsTrim, trim_called, trim_ended, trim_met, trim_mixed, trim_turned}
 use Rattle.af_turn_law.proofs.BlocksTame.{tame_told}
 
 -- a client whose lists are spelled by calls

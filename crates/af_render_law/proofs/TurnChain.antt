@@ -1,53 +1,18 @@
 -- The rounds of a render are steps of the run that its journal tells, one after the other.
 use Rattle.std.proofs.Common.{◌≡◌, ℕ, zero, suc, ◌+◌, ◌≤◌, Bool, true, false, MatchBool, List, [], ◌∷◌, Option, slice_get, length, drop, sym, ap, subst, ◌∙◌, refl, arith}
-use Rattle.std.specs.Prelude.{All}
-use Rattle.std.proofs.lemmas.List.{length-append}
-use Rattle.std.proofs.lemmas.List.Elements.{All-head, All-tail}
-use Rattle.af_base.specs.declared.log.Cycle.{Cycle}
-use Rattle.af_base.specs.declared.log.CycleEntry.{CycleEntry}
-use Rattle.af_base.specs.Turn.{Turn}
-use Rattle.af_cblk.specs.Sides.{Made}
-use Rattle.af_life.specs.declared.kept.Setting.{Setting}
-use Rattle.af_life.specs.Kept.{NormalKept}
-use Rattle.af_link.specs.declared.names.StreamNames.{StreamNames}
-use Rattle.af_normal.specs.State.{NormalState}
-use Rattle.af_model.specs.Cycles.{is_mixed}
-use Rattle.af_model.specs.Journals.{EntrySeen, RoundNoted, RoundSeen, rounds_seen}
-use Rattle.af_runs.specs.Rounds.{loaded, turned}
-use Rattle.af_runs.specs.Runs.{Run, found_before, with_ends}
+use Rattle.af_render_law.proofs.Common.{All, All-head, All-tail, AreRoundsMarked, ClientState, Cycle, CycleEntry, EntrySeen, Given, GrowsBy, IsFastTurn, IsRound, IsRoundMarked, IsTurn, Made, Marks, Met, NormalKept, NormalState, NormalTurned, Pushes, QueueKnown, Quiet, RoundNoted, RoundSeen, Run, ServerState, Session, SessionState, Setting, StandsBetween, StreamNames, Turn, TurnSpec, WritesCycle, all_asked, asked_by, clients_ended, cycle_frames, ends_keep, entries_grown, fast_round, found_before, given_of, is_mixed, known_same, length-append, loaded, made_alone, met_alone, normal_round, quiet_calls, quiet_cycles, quiet_ends, quiet_met, quiet_then, round_grows, round_marked, round_notes, round_small, rounds_seen, run_grows, setup_of, still_round, turned, with_ends}
 use Rattle.af_runs.specs.Runs as run_of
-use Rattle.af_runs.specs.Sessions.{Session, cycle_frames, setup_of}
-use Rattle.af_runs.specs.TurnRuns.{made_alone, met_alone}
-use Rattle.af_script.specs.declared.op.TurnSpec.{TurnSpec}
 use Rattle.af_script.specs.declared.op.TurnSpec.TheVariants as makes
-use Rattle.af_script.specs.Form.{IsTurn}
-use Rattle.af_server.specs.Order.{ServerState}
-use Rattle.af_session.specs.FastTurns.{IsFastTurn, WritesCycle}
-use Rattle.af_runs.specs.Blocks.{Marks}
-use Rattle.af_session.specs.Met.{Met}
-use Rattle.af_session.specs.Rounds.{Given, IsRound, IsTurnRun, NormalTurned, fast_round, normal_round, still_round, with_ends as with_ends_of}
-use Rattle.af_session.proofs.FollowingRounds.{ends_keep}
-use Rattle.af_stateq.specs.Ends.{Pushes}
-use Rattle.af_session.specs.Together.{SessionState}
-use Rattle.af_rendering.proofs.MetOpen.{clients_ended}
-use Rattle.af_rendering.proofs.RoundForms.{round_notes}
-use Rattle.af_client.specs.Order.{ClientState}
+use Rattle.af_session.specs.Rounds.{IsTurnRun, with_ends as with_ends_of}
 use Rattle.af_render_law.specs.Aware.{KnowsAway}
-use Rattle.af_told_law.specs.Between.{StandsBetween}
 use Rattle.af_render_law.proofs.Chain.{AreCounted, FastTurnIsAStep, Holds, NormalTurnIsAStep}
 use Rattle.af_render_law.specs.Laws.{AreSteps, StepIsTold, ToldBy, round_of}
-use Rattle.af_told_law.specs.Marked.{AreRoundsMarked, IsRoundMarked}
-use Rattle.af_told_law.specs.QueueTurned.{QueueKnown}
-use Rattle.af_told_law.specs.Tells.{given_of}
 use Rattle.af_render_law.proofs.AwayKnown.{away_ends, knows_away}
 use Rattle.af_render_law.proofs.InvalidKept.{invalid_round}
-use Rattle.af_told_law.proofs.KnownSteps.{Quiet, known_same, quiet_calls, quiet_cycles, quiet_ends, quiet_met, quiet_then, report_ends}
+use Rattle.af_told_law.proofs.KnownSteps.{report_ends}
 use Rattle.af_render_law.proofs.BetweenRounds.{client_stands, normal_stands, still_stands}
 use Rattle.af_render_law.proofs.ClientRound.{client_step}
 use Rattle.af_told_law.proofs.EntriesDealt.{first_dealt, rest_dealt}
-use Rattle.af_told_law.proofs.LogMore.{GrowsBy, all_asked, asked_by, entries_grown, round_grows, run_grows}
-use Rattle.af_told_law.proofs.MarkedRuns.{round_marked}
-use Rattle.af_told_law.proofs.SmallRuns.{round_small}
 use Rattle.af_render_law.proofs.StillRound.{fast_still, normal_still}
 use Rattle.af_render_law.proofs.TameRounds.{round_tame}
 

@@ -1,22 +1,10 @@
 -- What the meetings after a turn of the normal mixer show of it, if the run told before it is what it found: the report is the last one stored, the ends of the queue have a history just behind it, and its room tells the front of the pipe.
 use Rattle.std.proofs.Common.{◌≡◌, ℕ, ◌*◌, ◌≤◌, Bool, true, false, if◌then◌else◌, map, List, [], ◌∷◌, ◌++◌, length, refl, sym, ap, subst, ◌∙◌, append_assoc, arith}
-use Rattle.std.proofs.lemmas.List.{length-map}
+use Rattle.af_render_law.proofs.Common.{AreTogether, ClientEvent, ClientPart, Deeds, FastState, Frame, HasHistory, HearsFound, IsLegal, Links, Load, Met, MixerState, NormalState, Outside, ReportMet, Run, Session, SessionState, Setup, ShowsFront, Tells, Turn, TurnFound, TurnMade, TurnShown, after_ack, answer_of, found_before, going, kept_of, length-map, pipe_size, put_by, report_of, setup_of, turn_of}
 use Rattle.std.proofs.Math.Nat.{mul-le-mul_right}
-use Rattle.af_base.specs.declared.event.ClientEvent.{ClientEvent}
 use Rattle.af_base.specs.declared.event.ClientEvent.TheVariants as client
-use Rattle.af_base.specs.declared.frame.Frame.{Frame}
-use Rattle.af_base.specs.declared.state.FastState.{FastState}
 use Rattle.af_base.specs.Sample.{packed_word}
-use Rattle.af_base.specs.Turn.{Turn, turn_of}
-use Rattle.af_cblk.specs.declared.view.ClientPart.{ClientPart}
-use Rattle.af_fast.specs.Mixer.{MixerState}
-use Rattle.af_life.specs.Edits.{after_ack}
-use Rattle.af_life.specs.Kept.{Outside, Setup, pipe_size}
-use Rattle.af_life.specs.Plays.{put_by}
-use Rattle.af_life.specs.TurnEvents.{going}
-use Rattle.af_link.specs.declared.links.Links.{Links}
 use Rattle.af_link.specs.Reports.{ReaderSide, WriterSide}
-use Rattle.af_model.specs.declared.newest.ReaderEvent.TheVariants.{Load}
 use Rattle.af_model.specs.declared.newest.ReaderEvent.TheVariants as reads
 use Rattle.af_model.specs.declared.newest.WriterEvent.TheVariants as writes
 use Rattle.af_model.specs.declared.states.MutatorEvent.TheVariants as mutator
@@ -24,23 +12,11 @@ use Rattle.af_model.specs.declared.states.ObserverEvent.TheVariants as observer
 use Rattle.af_model.specs.NewestValue as newest
 use Rattle.af_model.specs.PipeHistory.{HasPipeHistory, releases_of}
 use Rattle.af_model.specs.Reports.{no_report}
-use Rattle.af_model.specs.StateQueue.{HasHistory}
-use Rattle.af_normal.specs.LegalTurned.{IsLegal}
-use Rattle.af_normal.specs.State.{NormalState, kept_of, setup_of as mixer_setup}
-use Rattle.af_normal.specs.TurnMade.{TurnMade, answer_of}
-use Rattle.af_runs.specs.Found.{TurnFound}
-use Rattle.af_runs.specs.Runs.{Run, found_before, report_of}
-use Rattle.af_runs.specs.Sessions.{Session, setup_of}
-use Rattle.af_session.specs.Met.{Met}
-use Rattle.af_session.specs.Together.{AreTogether, SessionState}
-use Rattle.af_told_law.specs.NormalLaws.{HearsFound, ShowsFront, TurnShown}
+use Rattle.af_normal.specs.State.{setup_of as mixer_setup}
 use Rattle.af_told_law.specs.Places.{StreamsGo, StreamsStay}
-use Rattle.af_told_law.specs.QueueTurned.{ReportMet}
-use Rattle.af_told_law.specs.Tells.{Tells}
 use Rattle.af_told_law.proofs.NormalGoes.{turn_leaves}
 use Rattle.af_told_law.proofs.ReportSeen.{cycle_is, heard_found, loaded_is, number_is}
 use Rattle.af_told_law.proofs.TurnPipe.{front_told}
-use Rattle.af_told_law.specs.Deeds.{Deeds}
 
 module _ (s : Session) (run : Run) {d : Deeds} (x : SessionState) (n : NormalState) (z : SessionState) (links : Links) (o : Outside) (together : AreTogether links x) (told : Tells s run d x) (met_last : ReportMet run) (legal : IsLegal o x.normal n)
     (made : TurnMade (answer_of (turn_of n.entry)) x.normal n) (meets : Met (record x { normal = n }) z) where

@@ -1,26 +1,11 @@
 -- The rounds of a render that was cut off are the first turns of its script, one by one, and its sound is that of their journal.
 use Rattle.std.proofs.Common.{◌≡◌, ℕ, zero, suc, ◌+◌, ◌≤◌, List, [], ◌∷◌, length, take, refl, ap, arith}
-use Rattle.std.proofs.lemmas.List.{length-take}
-use Rattle.std.proofs.lemmas.List.Elements.{All-take}
-use Rattle.af_base.specs.declared.frame.Frame.{Frame}
-use Rattle.af_fast.specs.Mixer.{MixerState}
-use Rattle.af_model.specs.Journals.{JournalData, RoundNoted, cycles_of, journal_of}
-use Rattle.af_runs.specs.LegalRuns.{session_of}
+use Rattle.af_render_law.proofs.Common.{All-take, Frame, Given, IsScript, IsTurn, JournalData, MixerState, Renders, RoundNoted, ScriptData, Session, SessionState, TurnSpec, all_asked, cycles_of, fast_cycles, journal_of, length-take, parts_told, round_notes, run_grows, session_of}
 use Rattle.af_runs.specs.Pcm.{journal_pcm}
-use Rattle.af_runs.specs.Sessions.{Session}
-use Rattle.af_script.specs.Data.{ScriptData}
-use Rattle.af_script.specs.declared.op.TurnSpec.{TurnSpec}
-use Rattle.af_script.specs.Form.{IsScript, IsTurn}
-use Rattle.af_script.specs.Ops.{fast_cycles}
-use Rattle.af_session.specs.Rounds.{Given, IsTurnRun}
-use Rattle.af_session.specs.Together.{SessionState}
-use Rattle.af_rendering.specs.Rendered.{Renders}
+use Rattle.af_session.specs.Rounds.{IsTurnRun}
 use Rattle.af_rendering.proofs.JournalSound.{journal_sounds}
-use Rattle.af_rendering.proofs.RoundForms.{round_notes}
 use Rattle.af_tally.specs.Sound.{pcm_of}
 use Rattle.af_told_law.proofs.LogDealt.{dealt_whole}
-use Rattle.af_told_law.proofs.LogMore.{all_asked, run_grows}
-use Rattle.af_told_law.proofs.PartsTold.{parts_told}
 use Rattle.af_render_law.specs.TurnsSoFar.{AreTurnsOf}
 use Rattle.af_render_law.proofs.FastStep.{fast_turns_step}
 use Rattle.af_render_law.proofs.NormalStep.{normal_turns_step}

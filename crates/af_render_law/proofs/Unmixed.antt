@@ -1,20 +1,11 @@
 -- What a track's part of a turn makes of a track that isn't there yet or has a slot.
 use Rattle.std.proofs.Common.{◌≡◌, ◌⊎◌, inl, inr, ℕ, Bool, true, false, if◌then◌else◌, is_some, List, [], ◌∷◌, Option, refl, sym, ap, ◌∙◌}
-use Rattle.std.specs.List.{AllByRecursion}
-use Rattle.af_base.proofs.Basics.{no, none_and}
+use Rattle.af_render_law.proofs.Common.{AllByRecursion, Case, CommandLook, Grew, Heard, Learnt, Life, Setup, TrackKept, after_look, after_looks, after_part, by_report, commanded, ended, goes_on, grew_command, grew_report, heard, is_absent, is_home, is_reached, is_reported, is_shut, must_wait, no, none_and, noted, obeyed, opened, opens, ready, reports, served, settled_at, shows_command, slot_reported, told, track_at}
 use Rattle.af_base.specs.declared.report.SlotReport.{SlotReport}
-use Rattle.af_base.specs.declared.turn.CommandLook.{CommandLook}
-use Rattle.af_life.specs.declared.kept.Heard.{Heard}
-use Rattle.af_life.specs.declared.kept.TrackKept.{TrackKept}
 use Rattle.af_life.specs.declared.track.Known.{Known}
-use Rattle.af_life.specs.declared.track.Life.{Life}
 use Rattle.af_life.specs.Commands.{Row, applies, commands, first_effect as command_effect, by_command}
-use Rattle.af_life.specs.Heard.{heard, ready, slot_reported, noted, is_reported, settled_at, is_reached}
-use Rattle.af_life.specs.Kept.{Setup, Learnt, track_at, is_home}
-use Rattle.af_life.specs.Obeys.{slot_for, opens, told, must_wait, shows_command, is_shut, obeyed, ended, after_look, goes_on, after_looks, commanded}
-use Rattle.af_life.specs.Reports.{Case, reports, first_effect as report_effect, by_report}
-use Rattle.af_life.specs.Serves.{after_part, served}
-use Rattle.af_judge.proofs.SoundLives.{is_absent, Grew, grew_command, grew_report, opened}
+use Rattle.af_life.specs.Obeys.{slot_for}
+use Rattle.af_life.specs.Reports.{first_effect as report_effect}
 
 -- a life that isn't there yet isn't in the mix
 abbrev pub IsOut : Life → Type 0

@@ -1,29 +1,11 @@
 -- A track that isn't there yet or has a slot, and hasn't ended after a turn: it was so before the turn, which neither found it shut nor mixed it.
 use Rattle.std.proofs.Common.{◌≡◌, ◌⊎◌, inl, inr, ℕ, zero, suc, ◌<◌, ◌≤◌, ◌==◌, ◌&&◌, not, nat_le, Bool, true, false, true≢false, MatchBool, if◌then◌else◌, is_some, fold, map, List, [], ◌∷◌, length, All, Option, refl, sym, ap, ◌∙◌, subst, arith, eqb-true}
-use Rattle.std.specs.Prelude.{slice_set}
-use Rattle.std.specs.List.{range_with_len}
-use Rattle.std.proofs.lemmas.Bool.{cases_eq}
-use Rattle.std.proofs.lemmas.Grind.{get_or-set_at}
-use Rattle.std.proofs.lemmas.List.{get_or-set_other}
-use Rattle.std.proofs.lemmas.List.Elements.{All-nil, All-head, All-tail, filter_passes}
-use Rattle.af_base.proofs.Basics.{never_true, no}
+use Rattle.af_render_law.proofs.Common.{All-head, All-nil, All-tail, FastState, IsServed, Learnt, LegalTrack, Life, NormalKept, Setup, TakeSeen, TrackKept, TrackSeen, Turn, after_ack, after_edits, after_part, after_push, after_take, after_takes, after_tracks, asked, cases_eq, comes_home, edited, edited_to, filter_passes, get_or-set_at, get_or-set_other, heard, invalid, is_absent, is_found_shut, is_mixed_here, lend, let_go, mixed_here, must_enter, must_leave, mutated, never_true, no, nothing_seen, ordered, plays, push_tracks, range_with_len, ready, seen_at, served, served_to, slice_set, takes_from, track_at, track_in, tracks_at, tracks_due, turn_after, welcomed}
 use Rattle.af_base.specs.declared.event.ServerEvent.TheVariants as server
-use Rattle.af_base.specs.declared.state.FastState.{FastState}
-use Rattle.af_base.specs.Turn.{Turn, TakeSeen, TrackSeen}
-use Rattle.af_judge.proofs.Basics.{push_tracks}
 use Rattle.af_life.specs.declared.kept.Holder.TheVariants.{Home}
-use Rattle.af_life.specs.declared.kept.TrackKept.{TrackKept}
-use Rattle.af_life.specs.declared.track.Life.{Life}
-use Rattle.af_life.specs.Edits.{comes_home, welcomed, after_ack, must_leave, must_enter, let_go, lend, edited, edited_to, ordered, mutated, after_push}
-use Rattle.af_life.specs.Heard.{heard, ready}
-use Rattle.af_life.specs.Kept.{Setup, asked, NormalKept, Learnt, track_at, track_in, seen_at, plays, new_track, nothing_seen}
+use Rattle.af_life.specs.Kept.{new_track}
 use Rattle.af_life.specs.Obeys.{slot_for}
-use Rattle.af_life.specs.Plays.{is_mixed_here, mixed_here, tracks_due, after_take, after_takes}
-use Rattle.af_life.specs.Serves.{is_found_shut, after_part, served, served_to, IsServed, LegalTrack}
-use Rattle.af_life.specs.Turn.{after_tracks, after_edits, turn_after}
-use Rattle.af_life.specs.TurnEvents.{tracks_at, invalid, takes_from}
 use Rattle.af_life.proofs.Lives.{acked_len, not_yet, served_len}
-use Rattle.af_judge.proofs.SoundLives.{is_absent}
 use Rattle.af_render_law.proofs.ShutEnds.{found_ends}
 use Rattle.af_render_law.proofs.Unmixed.{IsOut, IsUnmixed, Unmixed, Moves, moves_served}
 

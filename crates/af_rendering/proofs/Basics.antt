@@ -1,7 +1,7 @@
 -- Basic lemmas that several files here, and of the crates above, cite.
 use Rattle.std.proofs.Common.{Err, IsErrOf, Ok}
+use Rattle.af_rendering.proofs.Common.{StoreError}
 use Rattle.af_io.specs.declared.store.StoreError.TheVariants as store
-use Rattle.af_io.specs.declared.store.StoreError.{StoreError}
 
 pub no_fault : (x : Unit {0}) → IsErrOf {T = Unit {0}} {E = StoreError} (Ok x) store.Failed → ⊥
 no_fault x h = let e : ⊥ = cc in e

@@ -1,38 +1,10 @@
 -- An entry of the fast mixer spares a track if the proxies that the mixer holds for it are not shut after the entry.
 use Rattle.std.proofs.Common.{◌≡◌, ◌≢◌, ⊎_elim, ℕ, zero, suc, ◌+◌, ◌<◌, ◌==◌, ◌&&◌, not, Bool, true, false, true≢false, if◌then◌else◌, List, [], ◌∷◌, ◌++◌, slice_get, Option, Some, None, refl, sym, ap, subst, ◌∙◌, eqb-true, arith}
-use Rattle.std.specs.List.{flat_map, range_with_len}
-use Rattle.std.proofs.lemmas.Bool.{cases_eq}
-use Rattle.std.proofs.lemmas.List.Concat.{flat_map-cons}
-use Rattle.std.proofs.lemmas.List.Folds.{list_all-append}
-use Rattle.std.proofs.lemmas.Option.{none-some, same_Some}
-use Rattle.af_base.proofs.Basics.{both_true}
-use Rattle.af_base.specs.declared.event.ServerEvent.{ServerEvent}
-use Rattle.af_base.specs.declared.log.CycleEntry.{CycleEntry}
-use Rattle.af_base.specs.declared.log.SlotEntry.{SlotEntry}
-use Rattle.af_base.specs.declared.state.FastState.{FastState}
-use Rattle.af_base.specs.Log.{entry_slot, slots}
-use Rattle.af_cblk.specs.Sides.{Made, server_made}
-use Rattle.af_fast.specs.Mixer.{IsInOrder, MixerState}
-use Rattle.af_fast.specs.Mixing.{AddsCycle}
+use Rattle.af_rendering.proofs.Common.{AddsCycle, CycleEntry, FastState, IsInOrder, Made, MixerState, Observes, Polls, ServerEvent, ServerKept, ServerState, Shape, SlotEntry, StreamNames, absent_at, at, both_true, carries, cases_eq, cycle_events, entry_looks, entry_slot, flat_map, flat_map-cons, is_mixed, is_shut, kept_more, list_all-append, listed, looks_by, none-some, polled_states, range_with_len, same_Some, server_kept, server_kept_of, server_made, slot_looks, slot_of, slots, state_of}
 use Rattle.af_fast.specs.Slots.{SlotPlayed}
-use Rattle.af_life.specs.Obeys.{is_shut}
 use Rattle.af_link.specs.Names.{IsStreamOf}
-use Rattle.af_link.specs.declared.names.StreamNames.{StreamNames}
-use Rattle.af_model.proofs.Basics.{kept_more}
-use Rattle.af_model.specs.Cycles.{cycle_events, is_mixed, state_of}
-use Rattle.af_model.specs.ServerCalls.{ServerKept, server_kept}
-use Rattle.af_model.specs.StateQueue.{carries, slot_of}
-use Rattle.af_model.specs.declared.shape.Shape.{Shape}
-use Rattle.af_runs.proofs.Basics.{absent_at}
-use Rattle.af_server.specs.Order.{ServerState, server_kept_of}
-use Rattle.af_server.specs.Slot.{listed}
-use Rattle.af_stateq.specs.Laws.{polled_states}
 use Rattle.af_stateq.specs.Shelved.{no_state}
-use Rattle.af_stateq.specs.Mutates.{at}
-use Rattle.af_stateq.specs.Observes.{Observes}
-use Rattle.af_stateq.specs.Ends.{Polls}
 use Rattle.af_rendering.specs.Hostile.{none_shut}
-use Rattle.af_tally.specs.Summaries.{entry_looks, looks_by, slot_looks}
 use Rattle.af_rendering.proofs.OpenLooks.{open_cycle}
 
 -- ## The looks of an entry

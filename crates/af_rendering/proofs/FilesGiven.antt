@@ -1,15 +1,8 @@
 -- The test of the files of a script.
 use Rattle.std.proofs.Common.{◌≡◌, ◌≢◌, ℕ, ◌+◌, ◌-◌, ◌<◌, ◌≤◌, List, [], ◌∷◌, ◌++◌, length, take, drop, get_or, refl, sym, ap, subst, ◌∙◌, ⊎_elim, arith}
-use Rattle.std.proofs.lemmas.Bool.{cases_eq}
-use Rattle.std.proofs.lemmas.List.{take_more, take_all, take-append-drop, get_or_default}
-use Rattle.std.proofs.lemmas.Option.{slice_get_read}
-use Rattle.af_base.specs.declared.frame.Frame.{Frame}
-use Rattle.af_script.specs.declared.op.Op.{Op}
+use Rattle.af_rendering.proofs.Common.{Frame, Given, Op, TrackSpec, cases_eq, file_at, frames_to_come, get_or_default, ops_at, ops_of, slice_get_read, take-append-drop, take_all, take_more}
 use Rattle.af_script.specs.declared.op.Op.TheVariants as op
-use Rattle.af_script.specs.declared.track.TrackSpec.{TrackSpec}
 use Rattle.af_rendering.specs.Rendered.{IsFileFor}
-use Rattle.af_session.specs.Rounds.{Given, file_at, ops_at, ops_of}
-use Rattle.af_party.specs.Works.{frames_to_come}
 
 -- ## Ops
 

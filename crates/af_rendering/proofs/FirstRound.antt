@@ -1,24 +1,8 @@
 -- A session that was made new is ready for its first round. What its rounds come to.
 use Rattle.std.proofs.Common.{◌≡◌, ℕ, ◌<◌, ◌≤◌, ◌++◌, List, [], length, slice_get, Some, refl, sym, ap, subst, ◌∙◌, arith}
-use Rattle.std.proofs.lemmas.Option.{same_Some, slice_get_within}
-use Rattle.af_base.specs.declared.frame.Frame.{Frame}
-use Rattle.af_fast.specs.Mixer.{MixerState}
-use Rattle.af_link.specs.declared.links.Links.{Links}
-use Rattle.af_model.specs.Journals.{RoundNoted}
-use Rattle.af_normal.specs.State.{NormalState}
-use Rattle.af_script.specs.Data.{ScriptData}
-use Rattle.af_script.specs.declared.op.Op.{Op}
-use Rattle.af_script.specs.declared.op.TurnSpec.{TurnSpec}
-use Rattle.af_session.specs.NewSession.{IsNewSession, tracks_of}
+use Rattle.af_rendering.proofs.Common.{AreTogether, CanWork, Frame, Given, IsNewSession, IsReady, Links, MixerState, NormalState, Op, PartyState, RoundNoted, ScriptData, SessionState, SharedState, TurnSpec, file_at, frames_to_come, ops_at, ops_of, pcm_of, same_Some, slice_get_within, tracks_of, whole_new}
 use Rattle.af_session.specs.NewTracks.{IsTrackAt}
-use Rattle.af_party.specs.Parties.{PartyState}
 use Rattle.af_rendering.specs.Rendered.{HaveFiles, Rendered, Renders, Runs}
-use Rattle.af_session.specs.Rounds.{Given, IsReady, file_at, ops_at, ops_of}
-use Rattle.af_engine.specs.Shares.{SharedState}
-use Rattle.af_tally.specs.Sound.{pcm_of}
-use Rattle.af_session.specs.Together.{SessionState, AreTogether}
-use Rattle.af_party.specs.Works.{CanWork, frames_to_come}
-use Rattle.af_session.proofs.FastAdds.{whole_new}
 
 module _ (script : ScriptData) (shared : SharedState) (s : SessionState) (new : IsNewSession script shared s) (files : List (List Frame)) where
   abbrev given : Given

@@ -1,16 +1,7 @@
 -- The form and the sound of the journal of a run.
 use Rattle.std.proofs.Common.{◌≡◌, ℕ, All, List, [], ◌∷◌, length, map, take, drop, refl, sym, ap, subst, ◌∙◌}
-use Rattle.std.proofs.lemmas.List.Elements.{All-cons, All-head, All-nil, All-tail}
-use Rattle.af_base.specs.declared.frame.Frame.{Frame}
-use Rattle.af_base.specs.declared.log.CycleEntry.{CycleEntry}
-use Rattle.af_base.specs.Log.{Logged}
-use Rattle.af_base.specs.Sample.{IsFrame}
-use Rattle.af_model.proofs.Basics.{all_dealt, same_length}
-use Rattle.af_model.specs.Journals.{EntrySeen, RoundNoted, RoundsNoted, cycles_of, entries_of, entries_seen, frames_of, journal_of, rounds_seen, taken_by}
-use Rattle.af_model.specs.JournalForm.{AreEntries, IsJournal, IsRound, IsWhole}
-use Rattle.af_model.specs.Numbers.{HasRanges}
-use Rattle.af_tally.specs.Sound.{pcm_of}
-use Rattle.af_runs.specs.Pcm.{entries_pcm, journal_pcm}
+use Rattle.af_rendering.proofs.Common.{All-cons, All-head, All-nil, All-tail, AreEntries, CycleEntry, EntrySeen, Frame, HasRanges, IsFrame, IsJournal, IsWhole, Logged, RoundNoted, RoundsNoted, all_dealt, cycles_of, entries_of, entries_pcm, entries_seen, frames_of, journal_of, journal_pcm, pcm_of, rounds_seen, same_length, taken_by}
+use Rattle.af_model.specs.JournalForm.{IsRound}
 use Rattle.af_rendering.proofs.RoundForms.{AreNoted, IsNoted}
 
 -- the entries of a log are those that the journal of the log has

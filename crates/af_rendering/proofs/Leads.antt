@@ -1,36 +1,15 @@
 -- Which tracks the slots of states lead to, through a turn of the normal mixer: each leads to a track whose proxy isn't home.
 use Rattle.std.proofs.Common.{◌≡◌, ◌≢◌, ℕ, zero, suc, ◌<◌, ◌≤◌, ◌&&◌, ◌⊎◌, not, Bool, true, false, true≢false, if◌then◌else◌, List, length, map, refl, sym, ap, subst, ◌∙◌, ⊎_elim, arith}
-use Rattle.std.specs.Prelude.{All, slice_set}
-use Rattle.std.proofs.lemmas.Bool.{cases_eq}
-use Rattle.af_base.proofs.Basics.{no}
-use Rattle.af_base.specs.declared.state.Command.{Command}
-use Rattle.af_base.specs.declared.state.FastState.{FastState}
+use Rattle.af_rendering.proofs.Common.{All, Busy, CarriesNone, Clean, Command, FastState, IsSound, Learnt, NormalKept, Push, Pushed, Setup, Sound, TrackKept, Turn, acked_len, after_ack, after_edits, after_push, after_takes, after_tracks, asked, carries, cases_eq, comes_home, detached, edited, edited_to, entered, is_home, is_lent, is_returning, lend, lent_by, let_go, must_enter, must_leave, no, number_of, ordered, served_len, setting_of, slice_set, slot_number, slot_of, slots, sound_acked, sound_edits, sound_served, stays_all, stays_out, track_at, turn_after, welcomed}
 use Rattle.af_base.specs.declared.state.FastTrack.{FastTrack}
-use Rattle.af_base.specs.declared.state.Push.{Push}
-use Rattle.af_base.specs.declared.state.Push.TheVariants.{Busy, Clean, Pushed}
-use Rattle.af_base.specs.Log.{slots}
-use Rattle.af_base.specs.Turn.{Turn}
-use Rattle.af_fast.specs.Mixer.{CarriesNone}
 use Rattle.af_life.proofs.Basics.{at_here, at_set, lent_away, welcomed_at}
 use Rattle.af_life.specs.declared.kept.Heard.{Heard}
 use Rattle.af_life.specs.declared.kept.Holder.{Holder}
 use Rattle.af_life.specs.declared.kept.Holder.TheVariants.{Home, Lent, Returning}
 use Rattle.af_life.specs.declared.kept.Setting.{Setting}
-use Rattle.af_life.specs.declared.kept.TrackKept.{TrackKept}
-use Rattle.af_life.specs.Edits.{after_ack, after_push, comes_home, edited, edited_to, entered, lend, lent_by, let_go, must_enter, must_leave, mutated, ordered, welcomed}
-use Rattle.af_life.specs.Kept.{Learnt, NormalKept, Setup, asked, is_home, is_lent, is_returning, number_of, setting_of, slot_number, track_at}
-use Rattle.af_life.specs.Plays.{after_takes}
-use Rattle.af_life.specs.Sound.{IsSound}
-use Rattle.af_life.specs.Turn.{after_edits, after_tracks, turn_after}
-use Rattle.af_life.proofs.Lives.{acked_len, served_len}
-use Rattle.af_model.specs.Draft.{detached}
-use Rattle.af_model.specs.StateQueue.{carries, slot_of}
-use Rattle.af_normal.proofs.OrderDone.{stays_all}
+use Rattle.af_life.specs.Edits.{mutated}
 use Rattle.af_normal.proofs.OrderEdits.{comer_inside, comer_slot, leaver_slot}
 use Rattle.af_normal.proofs.OrderServed.{StaysPut, stay_put}
-use Rattle.af_normal.proofs.OrderSlots.{sound_served}
-use Rattle.af_normal.proofs.OrderSound.{Sound, sound_acked, sound_edits}
-use Rattle.af_runs.proofs.Basics.{stays_out}
 use Rattle.af_stateq.proofs.Bits.{attached_else, detached_else, detached_here, slot_else, slot_here}
 use Rattle.af_rendering.specs.Leads.{LeadAway, LeadLent, Leads}
 

@@ -1,19 +1,7 @@
 -- The log of a session keeps the form of a journal's entries from round to round.
 use Rattle.std.proofs.Common.{◌≡◌, ℕ, zero, suc, ◌≤◌, ◌==◌, ◌||◌, Bool, true, false, All, List, [], ◌∷◌, ◌++◌, length, refl, sym, ap, subst, ◌∙◌, append-nil, append_assoc, eqb-true, arith}
-use Rattle.std.proofs.lemmas.List.{length-append}
-use Rattle.std.proofs.lemmas.List.Elements.{All-cons, All-head, All-nil, All-tail}
-use Rattle.af_base.specs.declared.frame.Frame.{Frame}
-use Rattle.af_base.specs.declared.log.Cycle.{Cycle}
-use Rattle.af_base.specs.Log.{Logged}
-use Rattle.af_base.specs.Sample.{IsFrame}
-use Rattle.af_model.specs.Cycles.{is_mixed}
-use Rattle.af_model.proofs.EntriesMore.{AreWhole}
-use Rattle.af_fast.specs.Mixer.{MixerState, is_over}
-use Rattle.af_fast.specs.Mixing.{MixesOnce}
+use Rattle.af_rendering.proofs.Common.{All-cons, All-head, All-nil, All-tail, AreWhole, Cycle, Frame, IsFastTurn, IsFrame, Logged, MixerState, MixesOnce, SessionState, WritesCycle, is_mixed, is_over, length-append, met_keeps, polled_keeps}
 use Rattle.af_fast.proofs.LogForms.{log_form}
-use Rattle.af_session.specs.FastTurns.{IsFastTurn, WritesCycle}
-use Rattle.af_session.specs.Together.{SessionState}
-use Rattle.af_session.proofs.FastAdds.{met_keeps, polled_keeps}
 
 -- the log b is the log a with more entries and frames, each entry of its form
 pub record Goes (a b : Logged) : Type 0 where

@@ -1,26 +1,11 @@
 -- What the meetings leave of a client's kept values, and what they say of the proxies of a client that has not poked.
 use Rattle.std.proofs.Common.{◌≡◌, ℕ, ◌<◌, ◌≤◌, Bool, true, false, if◌then◌else◌, [], ◌∷◌, length, map, option_map, slice_get, Option, Some, None, refl, sym, ap, subst, ◌∙◌, ⊎_elim}
-use Rattle.std.specs.Prelude.{slice_index_or}
-use Rattle.std.proofs.lemmas.Option.{none-some, same_Some, slice_get-map, slice_get_cases}
-use Rattle.af_base.specs.declared.event.ClientEvent.{ClientEvent}
+use Rattle.af_rendering.proofs.Common.{ClientEvent, ClientKept, ClientState, HandSide, Made, Meets, MeetsAll, MeetsAway, MeetsStream, Met, PartyState, ServerKept, ServerState, SessionState, Spot, SpotMet, TrackMet, client_kept_of, client_knows, client_made, end_party, is_lawful, kept-more, kept_more, none-some, proxies_of, same_Some, server_kept_of, slice_get-map, slice_get_cases, slice_index_or, spot_of, with_ends}
 use Rattle.af_base.specs.declared.event.ClientEvent.TheVariants as client
 use Rattle.af_base.specs.declared.event.ServerEvent.TheVariants as server
 use Rattle.af_cblk.specs.Parts.{server_did}
-use Rattle.af_cblk.specs.Sides.{HandSide, Made, client_made}
-use Rattle.af_client.proofs.Kept.{kept-more}
-use Rattle.af_client.specs.Order.{ClientState, client_kept_of}
-use Rattle.af_model.proofs.Basics.{kept_more}
 use Rattle.af_model.proofs.Counts.{lawful_before, lawful_more}
-use Rattle.af_model.specs.ClientCalls.{ClientKept}
-use Rattle.af_model.specs.History.{is_lawful}
-use Rattle.af_model.specs.ServerCalls.{ServerKept}
-use Rattle.af_normal.specs.Meeting.{Meets, MeetsAll, MeetsStream, client_knows}
-use Rattle.af_server.specs.Order.{IsInOrder as IsServerInOrder, ServerState, server_kept_of}
-use Rattle.af_engine.specs.Met.{MeetsAway, Spot, SpotMet, proxies_of, spot_of}
-use Rattle.af_session.specs.Met.{Met, TrackMet}
-use Rattle.af_party.specs.Parties.{PartyState}
-use Rattle.af_session.specs.Rounds.{end_party, with_ends}
-use Rattle.af_session.specs.Together.{SessionState}
+use Rattle.af_server.specs.Order.{IsInOrder as IsServerInOrder}
 
 -- ## Clients
 

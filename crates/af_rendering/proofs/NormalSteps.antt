@@ -1,30 +1,10 @@
 -- What a turn of the normal mixer leaves of its end of the queue, and where the slots of states lead after the turn.
 use Rattle.std.proofs.Common.{◌≡◌, ◌≢◌, ℕ, zero, suc, ◌-◌, ◌<◌, ◌≤◌, ◌==◌, ◌&&◌, ◌||◌, inl, inr, ⊎_elim, Bool, true, false, true≢false, if◌then◌else◌, List, [], ◌∷◌, ◌++◌, length, fold, Option, refl, sym, ap, subst, ◌∙◌, append_assoc, arith}
-use Rattle.std.proofs.lemmas.Bool.{cases_eq}
-use Rattle.std.proofs.lemmas.Grind.{fold-append}
-use Rattle.af_base.specs.declared.state.Command.{Command}
-use Rattle.af_base.specs.declared.state.FastState.{FastState}
-use Rattle.af_base.specs.declared.state.Push.{Push}
-use Rattle.af_base.specs.declared.state.Push.TheVariants.{Busy, Clean, Pushed}
-use Rattle.af_base.specs.Command.{code_of}
-use Rattle.af_base.specs.Turn.{Turn, turn_of}
-use Rattle.af_fast.specs.Mixer.{CarriesNone}
-use Rattle.af_life.specs.Edits.{LegalPush, after_ack, after_push, edited, edited_to, is_exit, lend, let_go, mutated as edits_of, must_enter, must_leave, ordered}
-use Rattle.af_life.specs.Heard.{learnt}
-use Rattle.af_life.specs.Kept.{Learnt, NormalKept, Outside, Setup, track_at}
-use Rattle.af_life.specs.Plays.{after_takes}
-use Rattle.af_life.specs.Turn.{after_edits, after_tracks, turn_after}
-use Rattle.af_life.specs.TurnEvents.{going, mutator_list, number_seen, push_list}
-use Rattle.af_link.specs.declared.links.Links.{Links}
-use Rattle.af_model.specs.declared.states.MutatorEvent.{MutatorEvent}
-use Rattle.af_model.specs.declared.states.MutatorEvent.TheVariants.{Push as PushOf, SawAck}
+use Rattle.af_rendering.proofs.Common.{Busy, CarriesNone, Clean, Command, FastState, IsLegal, Learnt, LegalPush, Links, MutatorEvent, MutatorPoint, NormalKept, NormalState, Outside, Push, Pushed, SawAck, ServerState, Setup, Turn, after_ack, after_edits, after_push, after_takes, after_tracks, cases_eq, code_of, commanded as with_command, edited, edited_to, fold-append, going, is_exit, kept_of, learnt, lend, let_go, must_enter, must_leave, mutated, mutator_list, mutator_next, mutator_start, number_seen, ordered, push_list, setup_of, track_at, turn_after, turn_of}
+use Rattle.af_life.specs.Edits.{mutated as edits_of}
+use Rattle.af_model.specs.declared.states.MutatorEvent.TheVariants.{Push as PushOf}
 use Rattle.af_model.specs.declared.states.MutatorEvent.TheVariants as mutator
-use Rattle.af_model.specs.Draft.{commanded as with_command}
-use Rattle.af_model.specs.StateQueue.{MutatorPoint, mutated, mutator_next, mutator_start}
-use Rattle.af_normal.specs.LegalTurned.{IsLegal}
 use Rattle.af_normal.specs.Order.{IsInOrder}
-use Rattle.af_normal.specs.State.{NormalState, kept_of, setup_of}
-use Rattle.af_server.specs.Order.{ServerState}
 use Rattle.af_rendering.specs.Leads.{Leads, Tells}
 use Rattle.af_rendering.proofs.Leads.{IsLast, turn_leads}
 use Rattle.af_rendering.proofs.QueueSeen.{SawUpTo, saw_one}
@@ -34,9 +14,9 @@ Items = List (Option ServerState)
 
 -- ## The edits push nothing
 
-record SamePush (m n : NormalKept) : Type 0 where
-  pushed : n.pushed ≡ m.pushed
-  last : n.last ≡ m.last
+pub record SamePush (m n : NormalKept) : Type 0 where
+  pub pushed : n.pushed ≡ m.pushed
+  pub last : n.last ≡ m.last
 
 same_push : (m : NormalKept) → SamePush m m
 same_push m = record { pushed = refl; last = refl }
@@ -69,7 +49,7 @@ module _ (c : Setup) (k : Learnt) where
   acked_push true m = record { pushed = refl; last = refl }
   acked_push false m = same_push m
 
-  all_push : (m : NormalKept) (e : Turn) → SamePush m (after_edits c k e m)
+  pub all_push : (m : NormalKept) (e : Turn) → SamePush m (after_edits c k e m)
   all_push m e = let acked = acked_push e.ack m in let edits = mutated_push e.room (after_tracks c k e (after_ack e.ack m)) in
       record { pushed = edits.pushed ∙ acked.pushed; last = edits.last ∙ acked.last }
 

@@ -1,17 +1,8 @@
 -- A round that is noted: what its noting needs, and what is left if memory runs out.
 use Rattle.std.proofs.Common.{◌≡◌, ℕ, ◌+◌, ◌<◌, ◌≤◌, ◌^◌, List, length, Some, Result, Ok, Err, IsErrAnd, sym, subst, ◌∙◌, inr, arith}
-use Rattle.std.proofs.lemmas.List.{take_all}
-use Rattle.af_io.specs.Causes.{HasCause}
-use Rattle.af_io.specs.Files.{Files, SetsFile, LeavesFront}
-use Rattle.af_io.specs.declared.store.StoreError.{StoreError}
+use Rattle.af_rendering.proofs.Common.{Files, Given, HasCause, IsReady, IsRound, IsTurn, LeavesFront, Links, RoundNoted, SessionState, SetsFile, StoreError, TurnSpec, round_told, take_all}
 use Rattle.af_io.specs.declared.store.StoreError.TheVariants as store
-use Rattle.af_link.specs.declared.links.Links.{Links}
-use Rattle.af_model.specs.Journals.{RoundNoted}
 use Rattle.af_rendering.proofs.Basics.{no_fault, other_error}
-use Rattle.af_script.specs.Form.{IsTurn}
-use Rattle.af_script.specs.declared.op.TurnSpec.{TurnSpec}
-use Rattle.af_session.specs.Rounds.{Given, IsReady, IsRound, round_told}
-use Rattle.af_session.specs.Together.{SessionState}
 use Rattle.af_rendering.proofs.RoundForms.{round_notes}
 use Rattle.af_rendering.proofs.RoundTold.{round_is_told}
 

@@ -1,9 +1,6 @@
 -- If the takes of a turn are those of the tracks that are due, a track has one take at most.
 use Rattle.std.proofs.Common.{◌≡◌, ◌≢◌, ℕ, zero, suc, ◌+◌, ◌<◌, ◌≤◌, ◌==◌, Bool, true, false, if◌then◌else◌, filter, List, [], ◌∷◌, length, map, refl, ap, subst, ◌∙◌, ⊎_elim, arith, eqb-true, ne_eqb}
-use Rattle.std.specs.List.{range_with_len}
-use Rattle.std.proofs.lemmas.Bool.{cases_eq}
-use Rattle.af_base.specs.Turn.{TakeSeen}
-use Rattle.af_life.specs.TurnEvents.{takes_from}
+use Rattle.af_rendering.proofs.Common.{TakeSeen, cases_eq, range_with_len, takes_from}
 
 abbrev pub once : Bool → ℕ
 once b = if b then 1 else 0

@@ -1,64 +1,15 @@
 -- A server that is not shut in the end found no words that don't fit: none of its looks was Shut.
 use Rattle.std.proofs.Common.{◌≡◌, ℕ, ◌-◌, ◌==◌, not, nat_lt, Bool, true, false, if◌then◌else◌, is_some, fold, min, MatchOption, List, [], ◌∷◌, ◌++◌, Option, Some, None, refl, sym, ap, subst, ◌∙◌, append-nil, append_assoc}
-use Rattle.std.specs.List.{list_all}
-use Rattle.std.proofs.lemmas.Grind.{fold-append}
-use Rattle.std.proofs.lemmas.Option.{none-some}
-use Rattle.af_base.proofs.Basics.{both_true}
-use Rattle.af_base.specs.declared.event.ServerEvent.{ServerEvent}
+use Rattle.af_rendering.proofs.Common.{CommandLook, LegalLooks, Listed, LooksBy, ServerEvent, ServerKept, Shape, SlotEntry, after_look, all_command_events, as_slot, both_true, command_events, cycle_events, did, is_noticed, is_shut, kept, kept_more, list_all, look_at, look_events, none-some, server_keeps, server_kept, takes_command}
 use Rattle.af_base.specs.declared.event.ServerEvent.TheVariants as server
-use Rattle.af_base.specs.declared.log.SlotEntry.{SlotEntry}
 use Rattle.af_base.specs.declared.seen.Seen.{Seen}
 use Rattle.af_base.specs.declared.seen.Seen.TheVariants as seen
-use Rattle.af_base.specs.declared.turn.CommandLook.{CommandLook}
-use Rattle.af_life.specs.Looks.{LegalLooks, all_command_events, as_slot, command_events, did, takes_command}
-use Rattle.af_life.specs.Obeys.{is_shut, shows_command}
-use Rattle.af_model.proofs.Basics.{kept_more}
-use Rattle.af_model.specs.Cycles.{Listed, LooksBy, after_look, cycle_events, kept, tally}
 use Rattle.af_model.specs.Room.{ahead, outside}
-use Rattle.af_model.specs.ServerCalls.{ServerKept, is_noticed, look_at, look_events, server_keeps, server_kept}
-use Rattle.af_model.specs.declared.shape.Shape.{Shape}
+use Rattle.af_audit.proofs.LooksUnshut.{Stay, shut_after, shut_append, shut_by, stay_after, stay_taken}
 
 -- ## One look
 
 module _ (shape : Shape) where
-  -- the words that shut a server after further events
-  abbrev pub shut_after : ServerKept → List ServerEvent → Option (ℕ × ℕ)
-  shut_after k events = (fold (server_keeps shape) k events).shut
-
-  shut_append : (k : ServerKept) (es more : List ServerEvent) → shut_after k (es ++ more) ≡ shut_after (fold (server_keeps shape) k es) more
-  shut_append k es more = ap (λ (x : ServerKept). x.shut) (fold-append (server_keeps shape) k es more)
-
-  -- what a look leaves: nothing shuts the server if it noticed a flush, else a front outside the room does
-  shut_by : (k : ServerKept) (answer : Seen) (flush rear front : ℕ) → shut_after k (look_events answer flush rear front) ≡ (if is_noticed shape (not (flush == k.flush)) rear front then None else outside shape.frames front rear)
-  shut_by k seen.Absent flush rear front = refl
-  shut_by k (seen.Flushed dropped) flush rear front = refl
-  shut_by k (seen.Shut f r) flush rear front = refl
-  shut_by k seen.Empty flush rear front = refl
-  shut_by k (seen.Frames count) flush rear front = refl
-
-  -- events that look at no front
-  abbrev pub Stay : List ServerEvent → Type 0
-  Stay events = (k : ServerKept) → shut_after k events ≡ k.shut
-
-  stay_tally : (missing : ℕ) → Stay (tally missing)
-  stay_tally missing k = by_none (missing == 0)
-    where
-      by_none : (b : Bool) → shut_after k (if b then [] else server.Tally missing ∷ server.SetFlags 1 ∷ []) ≡ k.shut
-      by_none true = refl
-      by_none false = refl
-
-  stay_shut : (was : Bool) → Stay (if was then [] else server.SetFlags 4 ∷ [])
-  stay_shut true k = refl
-  stay_shut false k = refl
-
-  -- the events that follow a look are no looks at a front
-  stay_after : (asked : ℕ) (was : Bool) (answer : Seen) → Stay (after_look asked was answer)
-  stay_after asked was seen.Absent k = refl
-  stay_after asked was (seen.Flushed dropped) k = refl
-  stay_after asked was (seen.Shut front rear) k = stay_shut was k
-  stay_after asked was seen.Empty k = stay_tally asked k
-  stay_after asked was (seen.Frames count) k = stay_tally (asked - count) (fold (server_keeps shape) k (server.Take count ∷ []))
-
   -- the words that a look shuts with. If a look shut nobody, it shows no words that don't fit
   abbrev shut_if : (noticed outside_is : Bool) (front rear : ℕ) → Option (ℕ × ℕ)
   shut_if noticed outside_is front rear = if noticed then None else (if outside_is then Some (front, rear) else None)
@@ -111,13 +62,6 @@ module _ (asked : ℕ) (s : Listed) (slot : SlotEntry) (front : ℕ) (looks : Lo
   open_cycle fine = open_look (server.SawGain slot.gains ∷ []) (after_look asked (is_some (kept s).shut) slot.seen) (λ k. refl) (stay_after s.shape asked (is_some (kept s).shut) slot.seen) (λ k. refl) fine
 
 -- ## The looks at a command block
-
-stay_taken : (shape : Shape) (look : CommandLook) → Stay shape (takes_command look)
-stay_taken shape look k = by_command (shows_command look.seen)
-  where
-    by_command : (b : Bool) → shut_after shape k (if b then server.Take 2 ∷ [] else []) ≡ k.shut
-    by_command true = refl
-    by_command false = refl
 
 -- if a server isn't shut after some looks at commands, none of the looks was Shut
 pub open_commands : (s : Listed) (looks : List CommandLook) (fronts : List ℕ) → LegalLooks s looks fronts → (server_kept s.shape (s.events ++ all_command_events s looks fronts)).shut ≡ None

@@ -1,10 +1,7 @@
 -- What goes out to a file in pieces, and the cause of a fault on the way.
 use Rattle.std.proofs.Common.{◌≡◌, ◌≤◌, ◌<◌, ℕ, ◌++◌, List, [], ◌∷◌, length, Some, Result, Ok, Err, OnOk, OnErr, IsErrAnd, IsErrOf, append-nil, refl, sym, ap, subst, arith}
-use Rattle.af_io.specs.Causes.{HasCause}
-use Rattle.af_io.specs.Files.{Files, SetsFile, LeavesFront, AppendsTo}
-use Rattle.af_io.specs.declared.store.StoreError.{StoreError}
+use Rattle.af_rendering.proofs.Common.{AddsFront-append, AppendsTo, Files, HasCause, LeavesFront, LeavesFront-added, SetsFile, SetsFile-adds, StoreError}
 use Rattle.af_io.specs.declared.store.StoreError.TheVariants as store
-use Rattle.af_io.proofs.Steps.{SetsFile-adds, AddsFront-append, LeavesFront-added}
 use Rattle.af_rendering.proofs.Basics.{no_fault, not_failed, other_error}
 
 -- ## Pieces

@@ -1,15 +1,10 @@
 -- What the two lists of a queue say of each other: no more states were acknowledged than pushed, and no look saw more acknowledged than were.
 use Rattle.std.proofs.Common.{◌≡◌, ◌≢◌, ℕ, ◌≤◌, ◌==◌, if◌then◌else◌, Bool, true, false, List, [], ◌∷◌, ◌++◌, Option, refl, ap, subst, ◌∙◌, arith}
-use Rattle.af_base.specs.declared.state.FastState.{FastState}
-use Rattle.af_model.specs.declared.states.MutatorEvent.{MutatorEvent}
-use Rattle.af_model.specs.declared.states.MutatorEvent.TheVariants.{Push, SawAck}
+use Rattle.af_rendering.proofs.Common.{Ack, FastState, HasHistory, MutatorEvent, MutatorPoint, ObserverEvent, ObserverPoint, QueuePoint, SawAck, SawNext, after_ones, after_twos, legal, mutated, next, observed, start}
+use Rattle.af_model.specs.declared.states.MutatorEvent.TheVariants.{Push}
 use Rattle.af_model.specs.declared.states.MutatorEvent.TheVariants as mutator
-use Rattle.af_model.specs.declared.states.ObserverEvent.{ObserverEvent}
-use Rattle.af_model.specs.declared.states.ObserverEvent.TheVariants.{SawNext, Ack}
 use Rattle.af_model.specs.declared.states.ObserverEvent.TheVariants as observer
 use Rattle.af_model.specs.Order.{Event, one, two, ones, Legal, after}
-use Rattle.af_model.specs.StateQueue.{HasHistory, MutatorPoint, ObserverPoint, QueuePoint, legal, mutated, next, observed, start}
-use Rattle.af_stateq.proofs.Exact.{after_ones, after_twos}
 
 due_next : (k acked pushed : ℕ) (b : Bool) → acked ≤ pushed → k ≡ pushed → (if b then 0 else k) ≢ 0 → (acked ≤ (if b then 0 else k)) × ((if b then 0 else k) ≤ pushed)
 due_next k acked pushed true le is ne = absurd (ne refl)

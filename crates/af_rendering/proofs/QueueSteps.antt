@@ -1,24 +1,8 @@
 -- What a poll finds, if its observer had learnt of all pushes, and what meetings leave of that.
 use Rattle.std.proofs.Common.{◌≡◌, ℕ, ◌+◌, ◌<◌, ◌≤◌, ◌⊎◌, inl, inr, ⊎_elim, ◌||◌, Bool, false, List, [], ◌∷◌, ◌++◌, length, Option, Some, None, IfSome, refl, ap, subst, ◌∙◌, append_assoc, arith}
-use Rattle.std.specs.List.{list_any}
-use Rattle.std.proofs.lemmas.List.Folds.{list_any-append}
-use Rattle.std.proofs.lemmas.Grind.{fold-append}
-use Rattle.af_base.specs.declared.state.FastState.{FastState}
-use Rattle.af_link.specs.declared.names.StreamNames.{StreamNames}
-use Rattle.af_model.specs.declared.plain_calls.Poll.{Poll}
-use Rattle.af_model.specs.declared.plain_calls.Poll.TheVariants.{Nothing, Same, New}
-use Rattle.af_model.specs.declared.states.MutatorEvent.{MutatorEvent}
+use Rattle.af_rendering.proofs.Common.{Ack, FastState, HasHistory, MutatorEvent, MutatorPoint, New, Nothing, ObserverEvent, Observes, Poll, Polls, Pushes, Same, SawNext, ServerState, StreamNames, WasPolled, acknowledged, fold-append, is_push, list_any, list_any-append, mutated, mutator_next, mutator_start, observed, sees_same, sees_the_last, took}
 use Rattle.af_model.specs.declared.states.MutatorEvent.TheVariants as mutator
-use Rattle.af_model.specs.declared.states.ObserverEvent.{ObserverEvent}
-use Rattle.af_model.specs.declared.states.ObserverEvent.TheVariants.{Ack, SawNext}
 use Rattle.af_model.specs.declared.states.ObserverEvent.TheVariants as observer
-use Rattle.af_model.specs.StateQueue.{HasHistory, MutatorPoint, mutated, mutator_next, mutator_start, observed}
-use Rattle.af_server.specs.Order.{ServerState}
-use Rattle.af_stateq.specs.Answers.{WasPolled, sees_same}
-use Rattle.af_stateq.specs.Ends.{Polls, Pushes, acknowledged, took}
-use Rattle.af_stateq.specs.Laws.{is_push}
-use Rattle.af_stateq.specs.Observes.{Observes}
-use Rattle.af_stateq.proofs.Exact.{sees_the_last}
 use Rattle.af_rendering.specs.Leads.{HasLearnt, InStep, Tells}
 use Rattle.af_rendering.proofs.QueueSeen.{few_acked}
 

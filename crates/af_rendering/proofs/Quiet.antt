@@ -1,19 +1,8 @@
 -- A mixer whose draft says Exit does no more: its turns change no track, and once it pushed the Exit they push nothing.
 use Rattle.std.proofs.Common.{◌≡◌, ℕ, zero, suc, ◌==◌, Bool, true, false, if◌then◌else◌, sym, refl, ap, subst, ◌∙◌, List, length}
-use Rattle.std.specs.List.{AllByRecursion}
-use Rattle.af_base.proofs.Basics.{no}
-use Rattle.af_base.specs.declared.state.Command.{Command}
+use Rattle.af_rendering.proofs.Common.{AllByRecursion, Busy, Clean, Command, GoesOn, Learnt, LegalPush, NormalKept, Outside, Push, Pushed, Setup, TakeSeen, Turn, after_ack, after_edits, after_push, after_takes, after_tracks, asked, code_of, commanded as with_command, edited, edited_to, is_exit, learnt, lend, let_go, must_enter, must_leave, new_normal, next_command, no, ordered, pipe_size, track_at, turn_after}
 use Rattle.af_base.specs.declared.state.Command.TheVariants.{Exit}
-use Rattle.af_base.specs.declared.state.Push.{Push}
-use Rattle.af_base.specs.declared.state.Push.TheVariants.{Pushed, Clean, Busy}
-use Rattle.af_base.specs.Command.{code_of}
-use Rattle.af_base.specs.Turn.{Turn, TakeSeen}
-use Rattle.af_model.specs.Draft.{commanded as with_command}
-use Rattle.af_life.specs.Kept.{Setup, asked, pipe_size, NormalKept, new_normal, Learnt, Outside, track_at}
-use Rattle.af_life.specs.Heard.{learnt}
-use Rattle.af_life.specs.Edits.{after_ack, is_exit, must_leave, must_enter, let_go, lend, edited, edited_to, next_command, ordered, mutated, after_push, LegalPush}
-use Rattle.af_life.specs.Plays.{after_takes}
-use Rattle.af_life.specs.Turn.{after_tracks, after_edits, turn_after, GoesOn, LegalTurn}
+use Rattle.af_life.specs.Edits.{mutated}
 use Rattle.af_audit.proofs.DoneTracks.{IsDone, exit_when_over, ordered_over, quiet_edits, takes_done}
 
 -- a draft that says Exit has only tracks that are done with, and after a push of an Exit there is nothing to push
@@ -175,14 +164,3 @@ module _ (c : Setup) (o : Outside) (m : NormalKept) (e : Turn) (quiet : IsQuiet 
   -- the push of a turn that goes on is none
   pub push_clean : GoesOn c o m e → e.push ≡ Clean
   push_clean goes = clean_push e.push m (quiet.rests exit).0 (subst (λ (x : NormalKept). LegalPush x e.push) same_edits goes.push)
-
-  pub none_pushed : LegalTurn c o m e → PushedNone m (turn_after c (learnt o) m e)
-  unfolding turn_after
-  none_pushed legal = by_end e.ended refl
-    where
-      by_end : (b : Bool) → e.ended ≡ b → PushedNone m (if b then record m { ended = true } else after_takes c e.mixes (after_push e.push (after_edits c (learnt o) e m)))
-      by_end true is = record { pushed = refl; last = refl }
-      by_end false is =
-          let clean : e.push ≡ Clean = push_clean (legal.goes_on is) in
-          let left : after_push e.push (after_edits c (learnt o) e m) ≡ m = ap (λ (p : Push). after_push p (after_edits c (learnt o) e m)) clean ∙ same_edits in
-          record { pushed = ap (λ (x : NormalKept). x.pushed) left; last = ap (λ (x : NormalKept). x.last) left }

@@ -1,27 +1,9 @@
 -- The rounds that are noted, and the log of their cycles, keep the form of a journal.
 use Rattle.std.proofs.Common.{◌≡◌, ℕ, ◌+◌, Bool, true, false, MatchBool, MatchOption, All, List, [], ◌∷◌, ◌++◌, length, refl, sym, ap, subst, ◌∙◌, arith}
-use Rattle.std.proofs.lemmas.List.{length-replicate, length-set}
-use Rattle.std.proofs.lemmas.List.Elements.{All-append, All-cons, All-nil}
-use Rattle.af_base.specs.declared.event.ClientCall.{ClientCall}
-use Rattle.af_base.specs.declared.frame.Frame.{Frame}
-use Rattle.af_base.specs.declared.log.CycleEntry.{CycleEntry}
-use Rattle.af_base.specs.Log.{Logged}
-use Rattle.af_base.specs.Sample.{IsFrame}
-use Rattle.af_base.specs.Turn.{Turn}
-use Rattle.af_life.specs.Turn.{LegalTurn}
+use Rattle.af_rendering.proofs.Common.{All-append, All-cons, All-nil, AreWhole, ClientCall, CycleEntry, Frame, Given, IsFastTurn, IsFrame, IsReady, IsRound, LegalTurn, Links, Logged, NormalTurned, NotesFrames, RoundNoted, RoundsNoted, SessionState, Turn, TurnSpec, Turns, client_round, cycles_more, cycles_of, fast_round, kept_of, length-replicate, length-set, no_calls, none_whole, normal_round, setup_of, still_round}
 use Rattle.af_life.proofs.TurnForms.{turn_form}
-use Rattle.af_link.specs.declared.links.Links.{Links}
-use Rattle.af_model.proofs.Basics.{cycles_more}
-use Rattle.af_model.specs.Journals.{RoundNoted, RoundsNoted, cycles_of}
 use Rattle.af_model.specs.JournalForm.{IsTurn}
-use Rattle.af_model.proofs.EntriesMore.{AreWhole, none_whole}
-use Rattle.af_normal.specs.State.{kept_of, setup_of}
-use Rattle.af_script.specs.declared.op.TurnSpec.{TurnSpec}
 use Rattle.af_script.specs.declared.op.TurnSpec.TheVariants as spec
-use Rattle.af_session.specs.FastTurns.{IsFastTurn}
-use Rattle.af_session.specs.Noted.{NotesFrames}
-use Rattle.af_session.specs.Rounds.{Given, IsReady, IsRound, NormalTurned, Turns, client_round, fast_round, no_calls, normal_round, still_round}
-use Rattle.af_session.specs.Together.{SessionState}
 use Rattle.af_rendering.proofs.LogGoes.{Goes, all_front, fast_goes, goes_not}
 use Rattle.af_rendering.proofs.RoundTold.{log_turned}
 

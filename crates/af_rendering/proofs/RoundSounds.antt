@@ -1,15 +1,8 @@
 -- A round adds just its bytes to the sound of the log.
 use Rattle.std.proofs.Common.{◌≡◌, ℕ, Bool, true, false, MatchBool, List, [], ◌++◌, sym, ap, ◌∙◌, append-nil}
-use Rattle.af_base.specs.Log.{Logged}
-use Rattle.af_base.specs.Turn.{Turn}
-use Rattle.af_model.specs.Journals.{RoundNoted}
-use Rattle.af_script.specs.declared.op.TurnSpec.{TurnSpec}
+use Rattle.af_rendering.proofs.Common.{Given, IsFastTurn, IsRound, Logged, NormalTurned, RoundNoted, SessionState, Turn, TurnSpec, Turns, fast_round, normal_round, pcm_of, still_round, turn_adds}
 use Rattle.af_script.specs.declared.op.TurnSpec.TheVariants as spec
-use Rattle.af_session.specs.FastTurns.{IsFastTurn}
-use Rattle.af_session.specs.Rounds.{Given, IsRound, NormalTurned, Turns, fast_round, normal_round, still_round}
-use Rattle.af_session.specs.Together.{SessionState}
-use Rattle.af_session.proofs.FastAdds.{turn_adds}
-use Rattle.af_tally.specs.Sound.{IsWhole, pcm_of}
+use Rattle.af_tally.specs.Sound.{IsWhole}
 use Rattle.af_rendering.proofs.RoundTold.{log_turned}
 
 still_sound : (len : ℕ) (a b : Logged) (bytes : List ℕ) → bytes ≡ [] → b ≡ a → pcm_of len a ++ bytes ≡ pcm_of len b

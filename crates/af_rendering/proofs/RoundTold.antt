@@ -1,18 +1,8 @@
 -- What is noted of a round is what the parties before it and after it show.
 use Rattle.std.proofs.Common.{◌≡◌, ℕ, ◌-◌, ◌<◌, Bool, true, false, if◌then◌else◌, MatchBool, List, [], length, map, slice_get, get_or, Some, refl, sym, ap, ◌∙◌, arith}
-use Rattle.std.proofs.lemmas.List.{length-map, length-set}
-use Rattle.std.proofs.lemmas.Option.{slice_get-get_or, slice_get-map, slice_get_within}
-use Rattle.af_base.proofs.Basics.{get_set_same}
-use Rattle.af_base.specs.Log.{Logged}
-use Rattle.af_base.specs.Turn.{Turn, turn_of}
-use Rattle.af_model.specs.Journals.{RoundNoted}
-use Rattle.af_script.specs.declared.op.TurnSpec.{TurnSpec}
+use Rattle.af_rendering.proofs.Common.{Given, IsFastTurn, IsRound, Logged, NormalTurned, PartyState, RoundNoted, SessionState, Turn, TurnSpec, calls_in, client_round, end_party, fast_round, get_set_same, length-map, length-set, normal_round, round_told, slice_get-get_or, slice_get-map, slice_get_within, still_round, turn_of}
 use Rattle.af_script.specs.declared.op.TurnSpec.TheVariants as spec
 use Rattle.af_session.proofs.Basics.{calls_end}
-use Rattle.af_session.specs.FastTurns.{IsFastTurn}
-use Rattle.af_party.specs.Parties.{PartyState}
-use Rattle.af_session.specs.Rounds.{Given, IsRound, NormalTurned, calls_in, client_round, end_party, fast_round, normal_round, round_told, still_round}
-use Rattle.af_session.specs.Together.{SessionState}
 
 -- ## What the meetings and the ends leave
 

@@ -1,12 +1,7 @@
 -- A turn run grows by a round at its end.
 use Rattle.std.proofs.Common.{◌≡◌, ℕ, ◌+◌, ◌<◌, List, [], ◌∷◌, ◌++◌, take, length, get_or, refl, sym, ap, subst, ◌∙◌, append-nil, append_assoc}
-use Rattle.std.proofs.lemmas.List.{take_more}
-use Rattle.af_model.specs.Journals.{RoundNoted}
-use Rattle.af_script.specs.declared.op.TurnSpec.{TurnSpec}
+use Rattle.af_rendering.proofs.Common.{Given, IsRound, IsTurnRun, RoundNoted, SessionState, TurnSpec, pcm_of, take_more}
 use Rattle.af_rendering.specs.Rendered.{Runs}
-use Rattle.af_session.specs.Rounds.{Given, IsRound, IsTurnRun}
-use Rattle.af_tally.specs.Sound.{pcm_of}
-use Rattle.af_session.specs.Together.{SessionState}
 
 -- a run of no turns
 pub run_none : (g : Given) (s : SessionState) → Runs g [] s [] s

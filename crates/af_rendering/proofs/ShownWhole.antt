@@ -1,41 +1,10 @@
 -- What a run shows at its end, by its journal and by the states pushed.
-use Rattle.std.proofs.Common.{◌≡◌, ℕ, ◌<◌, ◌≤◌, ◌^◌, All, OnOk, Result, Ok, Err, get_or, List, [], ◌∷◌, ◌++◌, length, map, drop, replicate, refl, sym, ap, subst, ◌∙◌, append-nil, arith}
-use Rattle.std.specs.List.{range_with_len}
-use Rattle.std.proofs.lemmas.List.{length-replicate}
-use Rattle.std.proofs.lemmas.Option.{slice_get-get_or}
-use Rattle.std.proofs.lemmas.List.FromFn.{fill_by_all}
-use Rattle.af_base.specs.declared.event.ClientCall.{ClientCall}
-use Rattle.af_base.specs.declared.frame.Frame.{Frame}
-use Rattle.af_base.specs.declared.state.FastState.{FastState}
-use Rattle.af_base.specs.Log.{Logged}
-use Rattle.af_model.specs.declared.states.MutatorEvent.{MutatorEvent}
-use Rattle.af_model.specs.declared.states.ObserverEvent.{ObserverEvent}
-use Rattle.af_model.specs.Cycles.{last_used}
-use Rattle.af_model.specs.JournalForm.{IsWhole}
-use Rattle.af_model.specs.Journals.{EntrySeen, JournalData, RoundNoted, RoundSeen, RoundsNoted, entries_seen, frames_of, journal_of, rounds_seen}
-use Rattle.af_link.specs.declared.links.Links.{Links}
-use Rattle.af_server.specs.Order.{ServerState}
-use Rattle.af_stateq.specs.Laws.{polled_states, pushed_states}
+use Rattle.std.proofs.Common.{◌≡◌, ℕ, ◌<◌, ◌≤◌, ◌^◌, All, get_or, List, [], ◌∷◌, ◌++◌, length, map, drop, replicate, refl, sym, ap, subst, ◌∙◌, append-nil, arith}
+use Rattle.af_rendering.proofs.Common.{ClientCall, EndsState, EntrySeen, FastState, Frame, Given, HasPlaces, IsInOrder, IsNewSession, IsReady, IsRound, IsTally, IsTurnRun, IsWhole, JournalData, Links, Logged, Met, MixerState, MutatorEvent, NormalState, ObserverEvent, PartyState, RoundNoted, RoundSeen, RoundsNoted, ScriptData, ServerState, SessionState, SharedState, Shown, Tallied, TurnSpec, calls_over, empty_at, ends_keep, entries_seen, fill_by_all, frames_of, journal_of, last_used, length-replicate, no_call, nothing_shown, polled_states, pushed_states, range_with_len, released_by, rounds_seen, shown_at, shown_by, shown_in, shows, shows_more, shows_tracks, slice_get-get_or, summary_of, summary_told}
 use Rattle.af_stateq.proofs.Prefix.{polled_in_order}
-use Rattle.af_fast.specs.Mixer.{IsInOrder, MixerState}
-use Rattle.af_normal.specs.State.{NormalState}
-use Rattle.af_script.specs.Data.{ScriptData}
-use Rattle.af_script.specs.declared.op.TurnSpec.{TurnSpec}
-use Rattle.af_session.specs.Met.{Met}
-use Rattle.af_session.specs.NewSession.{IsNewSession}
-use Rattle.af_party.specs.Parties.{PartyState}
-use Rattle.af_session.specs.Ends.{EndsState}
 use Rattle.af_rendering.specs.Rendered.{Runs}
-use Rattle.af_session.specs.Rounds.{Given, IsReady, IsRound, IsTurnRun}
-use Rattle.af_engine.specs.Shares.{SharedState}
-use Rattle.af_session.specs.Shown.{HasPlaces, calls_over, released_by, shown_at, shown_by, shown_in, shows, summary_told}
 use Rattle.af_tally.specs.declared.summary.Summary.{Summary}
-use Rattle.af_tally.specs.Summaries.{Shown, nothing_shown, summary_of}
 use Rattle.af_tally.specs.Steps.{AreFew}
-use Rattle.af_tally.specs.Tallies.{IsTally, Tallied}
-use Rattle.af_session.specs.Together.{SessionState}
-use Rattle.af_session.proofs.Following.{shows_more}
-use Rattle.af_session.proofs.FollowingRounds.{empty_at, no_call, ends_keep, shows_tracks}
 use Rattle.af_rendering.proofs.JournalSound.{dealt, same_entries}
 
 -- ## At the start
@@ -142,11 +111,6 @@ released_few links g n t ready = λ i d lt.
     let file = works.file in
     let few = works.few_frames in
     omega arith
-
--- two facts after an answer are one
-pub on_ok_both : {T E : Type 0} (P Q : Type 0) (r : Result T E) → OnOk r P → OnOk r Q → OnOk r (P × Q)
-on_ok_both P Q (Ok x) p q = (p, q)
-on_ok_both P Q (Err e) p q = tt
 
 -- the tally of all turns of a script
 pub tally_end : (script : ScriptData) (shared : SharedState) (s : SessionState) → IsNewSession script shared s → (links : Links) (g : Given) (n : ℕ) (turns : List TurnSpec) (rounds : RoundsNoted) (t : SessionState) (y : Tallied)

@@ -1,28 +1,9 @@
 -- What a run shows at its end of the tracks that it spared.
 use Rattle.std.proofs.Common.{◌≡◌, ℕ, ◌<◌, true, List, [], length, map, slice_get, Some, refl, sym, ap, subst, ◌∙◌, arith}
-use Rattle.std.specs.List.{list_all}
-use Rattle.std.proofs.lemmas.List.FromFn.{get_or-map-range_with_len}
-use Rattle.std.proofs.lemmas.Option.{same_Some, slice_get_within}
-use Rattle.af_base.specs.declared.state.FastState.{FastState}
-use Rattle.af_base.specs.Log.{Logged}
-use Rattle.af_model.specs.declared.states.MutatorEvent.{MutatorEvent}
-use Rattle.af_model.specs.History.{is_lawful}
-use Rattle.af_model.specs.JournalForm.{IsWhole}
-use Rattle.af_model.specs.Journals.{JournalData, RoundNoted, RoundsNoted, journal_of}
+use Rattle.af_rendering.proofs.Common.{EndsState, FastState, IsNewSession, IsWhole, JournalData, Logged, MutatorEvent, PartyState, RoundNoted, RoundsNoted, ScriptData, ServerState, SessionState, SharedState, Shown, calls_of, calls_over, get_or-map-range_with_len, has_no_poke, is_lawful, journal_of, list_all, none_corrupt, pushed_states, same_Some, shown_by, shown_in, shows, shows_tracks, slice_get_within}
 use Rattle.af_cblk.specs.declared.view.ClientPart.{ClientPart}
-use Rattle.af_script.specs.Data.{ScriptData}
-use Rattle.af_server.specs.Order.{ServerState}
-use Rattle.af_stateq.specs.Laws.{pushed_states}
-use Rattle.af_session.specs.Ends.{EndsState}
-use Rattle.af_audit.specs.Spared.{none_corrupt}
 use Rattle.af_rendering.specs.Hostile.{IsSpared, IsTame, PokesSpareOthers, SparesSoFar, all_calls, all_turns, is_spared_in_turn}
-use Rattle.af_session.specs.NewSession.{IsNewSession}
-use Rattle.af_party.specs.Parties.{PartyState}
-use Rattle.af_engine.specs.Shares.{SharedState}
-use Rattle.af_session.specs.Shown.{calls_over, shown_by, shown_in, shows}
-use Rattle.af_tally.specs.Summaries.{Shown, calls_of, has_no_poke, is_lawful as is_unpoked}
-use Rattle.af_session.specs.Together.{SessionState}
-use Rattle.af_session.proofs.FollowingRounds.{shows_tracks}
+use Rattle.af_tally.specs.Summaries.{is_lawful as is_unpoked}
 use Rattle.af_rendering.proofs.ShownWhole.{shown_journal}
 
 -- ## At the start

@@ -1,47 +1,14 @@
 -- The cycles of the fast mixer spare each track whose client has not poked, if the proxies held for it are not shut in the end.
 use Rattle.std.proofs.Common.{◌≡◌, ℕ, zero, suc, ◌<◌, ◌==◌, ◌||◌, ◌⊎◌, inl, inr, ⊎_elim, Bool, true, false, List, [], ◌∷◌, ◌++◌, length, slice_get, Option, Some, None, refl, sym, ap, subst, ◌∙◌, eqb-true}
-use Rattle.std.specs.List.{list_all}
-use Rattle.std.proofs.lemmas.List.Folds.{list_all-append}
-use Rattle.std.proofs.lemmas.Option.{none-some, same_Some}
-use Rattle.af_base.proofs.Basics.{both_true}
-use Rattle.af_base.specs.declared.log.Cycle.{Cycle}
-use Rattle.af_base.specs.declared.log.CycleEntry.{CycleEntry}
-use Rattle.af_base.specs.declared.state.FastState.{FastState}
-use Rattle.af_cblk.specs.Sides.{HandSide, Made, client_made}
-use Rattle.af_client.specs.Order.{ClientState}
-use Rattle.af_fast.specs.Mixer.{IsInOrder, MixerState, is_over}
-use Rattle.af_fast.specs.Mixing.{AddsCycle, Writes}
-use Rattle.af_life.specs.Kept.{NormalKept}
-use Rattle.af_link.specs.declared.names.StreamNames.{StreamNames}
-use Rattle.af_model.specs.Cycles.{is_mixed}
-use Rattle.af_model.specs.declared.plain_calls.Poll.{Poll}
-use Rattle.af_model.specs.declared.plain_calls.Poll.TheVariants.{Nothing, Same, New}
+use Rattle.af_rendering.proofs.Common.{AddsCycle, ClientState, Cycle, CycleEntry, EntryUsed, FastState, HandSide, HasHistory, IsCycle, IsFastTurn, IsInOrder, ItemStays, Made, MeetsAway, Met, MixerState, New, NormalKept, NormalState, Nothing, Observes, PartyState, Poll, Polls, Pushes, Same, ServerState, SessionState, Shown, Spot, SpotMet, StreamNames, WasPolled, Writes, WritesCycle, at, both_true, carries, client_made, cycle_sizes, cycle_whole, is_mixed, is_over, item_at, kept_of, list_all, list_all-append, none-some, observed, proxies_of, same_Some, sees_same, server_kept_of, shown_added, shown_adopted, shown_at, shown_met, shown_still, slot_for, slot_is, slot_of, spot_of, stream_at}
 use Rattle.af_model.specs.declared.states.MutatorEvent.TheVariants as mutator
 use Rattle.af_model.specs.declared.states.ObserverEvent.TheVariants as observer
-use Rattle.af_model.specs.StateQueue.{HasHistory, carries, observed, slot_of}
-use Rattle.af_normal.specs.Mixing.{stream_at}
-use Rattle.af_normal.specs.State.{NormalState, kept_of}
-use Rattle.af_server.specs.Order.{ServerState, server_kept_of}
-use Rattle.af_stateq.specs.Answers.{WasPolled, sees_same}
-use Rattle.af_stateq.specs.Ends.{Polls, Pushes}
-use Rattle.af_stateq.specs.Mutates.{at}
-use Rattle.af_stateq.specs.Observes.{Observes}
-use Rattle.af_session.specs.FastTurns.{IsCycle, IsFastTurn, WritesCycle}
 use Rattle.af_rendering.specs.Hostile.{IsTame}
 use Rattle.af_rendering.specs.Hostile.{is_spared_in_entry}
 use Rattle.af_rendering.specs.Leads.{InStep, LeadAway}
-use Rattle.af_engine.specs.Met.{ItemStays, MeetsAway, Spot, SpotMet, item_at, proxies_of, slot_for, spot_of}
-use Rattle.af_session.specs.Met.{Met}
-use Rattle.af_party.specs.Parties.{PartyState}
-use Rattle.af_session.specs.Shown.{shown_at}
 use Rattle.af_tally.specs.Sound.{IsWhole}
-use Rattle.af_tally.specs.Summaries.{EntryUsed, Shown}
-use Rattle.af_session.specs.Together.{SessionState}
 use Rattle.af_rendering.proofs.EntrySpared.{AreUnshut, entry_spares, unshut_before}
-use Rattle.af_session.proofs.FastAdds.{cycle_sizes, cycle_whole}
-use Rattle.af_session.proofs.Following.{shown_added, shown_adopted, shown_met, shown_still}
 use Rattle.af_rendering.proofs.MetOpen.{clients_met, knows_kept, party_met}
-use Rattle.af_engine.proofs.MetSlots.{slot_is}
 use Rattle.af_rendering.proofs.QueueSteps.{Finds, few_polled, finds, finds_none, learnt_by, step_met}
 
 -- the entries of a log with the states that they used

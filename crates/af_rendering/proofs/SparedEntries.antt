@@ -1,39 +1,12 @@
 -- What a run shows at its end of the fast mixer's looks at the tracks that it spared.
 use Rattle.std.proofs.Common.{◌≡◌, ℕ, ◌<◌, ◌≤◌, inl, ⊎_elim, true, true≢false, List, length, map, slice_get, Some, None, refl, sym, ap, subst, ◌∙◌, arith}
-use Rattle.std.specs.Prelude.{slice_index_or}
-use Rattle.std.specs.List.{list_all}
-use Rattle.std.proofs.lemmas.Option.{slice_get_cases}
-use Rattle.af_base.specs.declared.log.CycleEntry.{CycleEntry}
-use Rattle.af_base.specs.declared.state.FastState.{FastState}
-use Rattle.af_base.specs.Log.{Logged}
-use Rattle.af_fast.specs.Mixer.{IsInOrder, MixerState}
-use Rattle.af_link.specs.declared.links.Links.{Links}
-use Rattle.af_model.specs.Cycles.{last_used}
-use Rattle.af_model.specs.declared.states.MutatorEvent.{MutatorEvent}
-use Rattle.af_model.specs.Draft.{initial}
-use Rattle.af_model.specs.JournalForm.{IsWhole}
-use Rattle.af_model.specs.Journals.{JournalData, RoundNoted, RoundsNoted, journal_of}
-use Rattle.af_model.specs.StateQueue.{carries, mutated}
-use Rattle.af_normal.specs.State.{kept_of}
-use Rattle.af_script.specs.Data.{ScriptData}
-use Rattle.af_script.specs.declared.op.TurnSpec.{TurnSpec}
-use Rattle.af_server.specs.Order.{ServerState}
-use Rattle.af_stateq.specs.Laws.{polled_states, pushed_states}
+use Rattle.af_rendering.proofs.Common.{CycleEntry, EndsState, FastState, Given, IsInOrder, IsNewSession, IsReady, IsWhole, JournalData, Links, Logged, MixerState, MutatorEvent, PartyState, RoundNoted, RoundsNoted, ScriptData, ServerState, SessionState, SharedState, TurnSpec, carries, has_no_poke, initial, journal_of, kept_of, last_used, list_all, mutated, polled_states, pushed_states, shown_by, shown_in, shows, shows_tracks, slice_get_cases, slice_index_or, use_of, uses_stay}
 use Rattle.af_stateq.proofs.Start.{initial_none}
-use Rattle.af_party.specs.Parties.{PartyState}
-use Rattle.af_tally.specs.Summaries.{has_no_poke, is_lawful}
-use Rattle.af_session.specs.Ends.{EndsState}
+use Rattle.af_tally.specs.Summaries.{is_lawful}
 use Rattle.af_rendering.specs.FastSpared.{FastSparesSoFar, entries_used}
 use Rattle.af_rendering.specs.Hostile.{PokesSpareEntries, SparesSoFar, all_calls, is_spared_in_entry}
 use Rattle.af_rendering.specs.Leads.{InStep, Leads}
-use Rattle.af_session.specs.NewSession.{IsNewSession}
 use Rattle.af_rendering.specs.Rendered.{Runs}
-use Rattle.af_session.specs.Rounds.{Given, IsReady}
-use Rattle.af_engine.specs.Shares.{SharedState}
-use Rattle.af_session.specs.Shown.{shown_by, shown_in, shows, use_of}
-use Rattle.af_session.specs.Together.{SessionState}
-use Rattle.af_session.proofs.Following.{uses_stay}
-use Rattle.af_session.proofs.FollowingRounds.{shows_tracks}
 use Rattle.af_rendering.proofs.ShownWhole.{AreInStep, in_step_new, in_step_run, shown_journal}
 use Rattle.af_rendering.proofs.Spared.{calls_shown}
 

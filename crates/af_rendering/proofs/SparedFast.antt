@@ -1,50 +1,16 @@
 -- Each round leaves the fast mixer's log sparing the tracks whose clients have not poked.
 use Rattle.std.proofs.Common.{◌≡◌, ◌≢◌, ℕ, ◌+◌, ◌<◌, ◌≤◌, ◌==◌, inl, ⊎_elim, Bool, true, false, true≢false, MatchBool, if◌then◌else◌, is_some, fold, List, [], ◌∷◌, ◌++◌, length, slice_get, slice_set, Option, Some, None, refl, sym, ap, subst, ◌∙◌, eq-eqb, arith}
-use Rattle.std.specs.List.{list_all}
-use Rattle.std.proofs.lemmas.Bool.{and_from, and_parts, cases_eq, eqb-true}
-use Rattle.std.proofs.lemmas.Option.{none-some, same_Some, slice_get_within}
-use Rattle.af_base.proofs.Basics.{get_set_other, get_set_same}
-use Rattle.af_base.specs.declared.event.ClientCall.{ClientCall}
-use Rattle.af_base.specs.declared.state.FastState.{FastState}
-use Rattle.af_base.specs.Log.{slots}
-use Rattle.af_base.specs.Turn.{Turn}
-use Rattle.af_cblk.specs.Sides.{HandSide, Made, client_made}
-use Rattle.af_client.specs.Order.{ClientState}
-use Rattle.af_fast.specs.Mixer.{IsInOrder, MixerState}
-use Rattle.af_model.proofs.Basics.{lawful_first}
-use Rattle.af_runs.specs.ClientTurns.{Track, after_call, after_calls, called, is_of_commands, released_by}
-use Rattle.af_life.specs.Kept.{NormalKept, is_home, slot_number, track_at}
-use Rattle.af_link.specs.declared.links.Links.{Links}
-use Rattle.af_link.specs.declared.names.StreamNames.{StreamNames}
+use Rattle.af_rendering.proofs.Common.{ClientCall, ClientState, FastState, Given, HandSide, HasHistory, IsFastTurn, IsInOrder, IsReady, IsRound, Links, Made, MeetsAway, MeetsStream, Met, MixerState, NormalKept, NormalState, NormalTurned, PartyState, Polls, Pushes, RoundNoted, ServerState, SessionState, Shown, Spot, SpotMet, StreamNames, Track, Turn, TurnSpec, after_call, after_calls, and_from, and_parts, at, called, carries, cases_eq, client_made, ends_keep, eqb-true, fast_round, file_at, get_set_other, get_set_same, is_home, is_lawful, is_of_commands, is_slot_of, item_at, kept_of, lawful_first, list_all, none-some, normal_round, observed, only_slot, ops_at, proxies_of, same_Some, server_kept_of, shown_met, shows, slice_get_within, slot_for, slot_number, slot_of, slots, spot_of, still_round, stream_at, track_at, track_of, with_ends}
+use Rattle.af_runs.specs.ClientTurns.{released_by}
 use Rattle.af_model.specs.declared.states.MutatorEvent.TheVariants as mutator
 use Rattle.af_model.specs.declared.states.ObserverEvent.TheVariants as observer
-use Rattle.af_model.specs.History.{is_lawful}
-use Rattle.af_model.specs.Journals.{RoundNoted}
-use Rattle.af_model.specs.StateQueue.{HasHistory, carries, observed, slot_of}
-use Rattle.af_normal.specs.Meeting.{MeetsStream}
-use Rattle.af_normal.specs.Mixing.{stream_at}
-use Rattle.af_normal.specs.State.{NormalState, kept_of}
-use Rattle.af_script.specs.declared.op.TurnSpec.{TurnSpec}
 use Rattle.af_script.specs.declared.op.TurnSpec.TheVariants as spec
-use Rattle.af_server.specs.Order.{IsInOrder as IsServerInOrder, ServerState, server_kept_of}
-use Rattle.af_stateq.specs.Ends.{Polls, Pushes}
-use Rattle.af_stateq.specs.Mutates.{at}
+use Rattle.af_server.specs.Order.{IsInOrder as IsServerInOrder}
 use Rattle.af_rendering.specs.FastSpared.{FastSparesSoFar, entries_used}
-use Rattle.af_session.specs.FastTurns.{IsFastTurn}
 use Rattle.af_rendering.specs.Hostile.{IsTame, is_spared_in_entry}
 use Rattle.af_rendering.specs.Leads.{InStep, LeadAway, Leads, Tells}
-use Rattle.af_engine.specs.Met.{MeetsAway, Spot, SpotMet, is_slot_of, item_at, proxies_of, slot_for, spot_of}
-use Rattle.af_session.specs.Met.{Met}
-use Rattle.af_party.specs.Parties.{PartyState, track_of}
-use Rattle.af_session.specs.Rounds.{Given, IsReady, IsRound, NormalTurned, fast_round, file_at, normal_round, ops_at, still_round, with_ends}
-use Rattle.af_session.specs.Shown.{shows}
-use Rattle.af_tally.specs.Summaries.{Shown}
-use Rattle.af_session.specs.Together.{SessionState}
 use Rattle.af_rendering.proofs.EntrySpared.{AreUnshut}
-use Rattle.af_session.proofs.Following.{shown_met}
-use Rattle.af_session.proofs.FollowingRounds.{ends_keep}
 use Rattle.af_rendering.proofs.MetOpen.{clients_ended, clients_met, open_met_all, party_met}
-use Rattle.af_engine.proofs.MetSlots.{only_slot}
 use Rattle.af_rendering.proofs.NormalSteps.{turn_same, turn_tells, turned_leads}
 use Rattle.af_rendering.proofs.OpenCalls.{AreTame}
 use Rattle.af_rendering.proofs.QueueSeen.{SawUpTo, few_acked, few_seen}

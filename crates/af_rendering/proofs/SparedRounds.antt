@@ -1,43 +1,10 @@
 -- Each round spares the tracks whose clients have not poked.
 use Rattle.std.proofs.Common.{◌≡◌, ◌≢◌, ℕ, zero, suc, ◌+◌, ◌<◌, ◌≤◌, ◌&&◌, Bool, true, false, true≢false, MatchBool, is_some, List, [], ◌∷◌, ◌++◌, length, map, slice_get, slice_set, get_or, Option, Some, None, refl, sym, ap, subst, ◌∙◌, ⊎_elim, arith}
-use Rattle.std.specs.Prelude.{slice_index_or}
-use Rattle.std.specs.List.{list_all, flat_map}
-use Rattle.std.proofs.lemmas.Bool.{cases_eq}
-use Rattle.std.proofs.lemmas.List.{get_or-set_same, get_or-set_other, length-replicate, map-append}
-use Rattle.std.proofs.lemmas.List.Folds.{list_all-append}
-use Rattle.std.proofs.lemmas.Option.{same_Some, slice_get-get_or, slice_get_cases, slice_get_within}
-use Rattle.af_base.proofs.Basics.{both_true, get_set_other, get_set_same}
-use Rattle.af_base.specs.declared.event.ClientCall.{ClientCall}
-use Rattle.af_base.specs.declared.frame.Frame.{Frame}
-use Rattle.af_base.specs.declared.log.Cycle.{Cycle}
-use Rattle.af_base.specs.Turn.{Turn}
-use Rattle.af_cblk.specs.Sides.{client_made}
-use Rattle.af_client.specs.Order.{ClientState, IsInOrder as IsClientInOrder, client_kept_of}
-use Rattle.af_model.proofs.Basics.{both_first}
-use Rattle.af_runs.specs.ClientTurns.{after_calls}
-use Rattle.af_life.specs.declared.kept.TrackKept.{TrackKept}
-use Rattle.af_life.specs.Kept.{is_home, track_at}
-use Rattle.af_link.specs.declared.links.Links.{Links}
-use Rattle.af_model.proofs.Logic.{both_right}
-use Rattle.af_model.specs.Cycles.{is_mixed}
-use Rattle.af_model.specs.History.{is_lawful}
-use Rattle.af_model.specs.Journals.{RoundNoted}
-use Rattle.af_normal.specs.Mixing.{stream_at}
-use Rattle.af_normal.specs.State.{NormalState}
-use Rattle.af_script.specs.declared.op.TurnSpec.{TurnSpec}
+use Rattle.af_rendering.proofs.Common.{ClientCall, ClientState, Cycle, EndsKeep, Frame, Given, IsCycle, IsFastTurn, IsReady, IsRound, Links, Met, NormalState, NormalTurned, PartyState, RoundNoted, ServerState, SessionState, Spot, SpotMet, TrackKept, TrackMet, Turn, TurnSpec, after_calls, both_first, both_right, both_true, calls_more, calls_over, cases_eq, client_kept_of, client_made, empty_at, ends_keep, fast_round, file_at, flat_map, get_or-set_other, get_or-set_same, get_set_other, get_set_same, has_no_poke, is_home, is_lawful, is_mixed, length-replicate, list_all, list_all-append, map-append, no_call, no_calls, none_corrupt, normal_round, ops_at, proxies_of, same_Some, server_kept_of, slice_get-get_or, slice_get_cases, slice_get_within, slice_index_or, spot_of, still_round, stream_at, track_at, track_of, turn_in, turns_more, with_ends}
+use Rattle.af_client.specs.Order.{IsInOrder as IsClientInOrder}
 use Rattle.af_script.specs.declared.op.TurnSpec.TheVariants as spec
-use Rattle.af_server.specs.Order.{IsInOrder as IsServerInOrder, ServerState, server_kept_of}
-use Rattle.af_session.specs.FastTurns.{IsCycle, IsFastTurn}
-use Rattle.af_audit.specs.Spared.{none_corrupt}
+use Rattle.af_server.specs.Order.{IsInOrder as IsServerInOrder}
 use Rattle.af_rendering.specs.Hostile.{IsTame, SparesSoFar, all_calls, all_turns, is_spared_in_turn}
-use Rattle.af_engine.specs.Met.{Spot, SpotMet, proxies_of, spot_of}
-use Rattle.af_session.specs.Met.{Met, TrackMet}
-use Rattle.af_party.specs.Parties.{PartyState, track_of}
-use Rattle.af_session.specs.Rounds.{Given, IsReady, IsRound, NormalTurned, fast_round, file_at, no_calls, normal_round, ops_at, still_round, with_ends}
-use Rattle.af_session.specs.Shown.{calls_over, turn_in}
-use Rattle.af_tally.specs.Summaries.{has_no_poke}
-use Rattle.af_session.specs.Together.{SessionState}
-use Rattle.af_session.proofs.FollowingRounds.{EndsKeep, calls_more, empty_at, ends_keep, no_call, turns_more}
 use Rattle.af_rendering.proofs.MetOpen.{IsPartyAsBefore, clients_ended, clients_met, open_met, open_spot, party_met}
 use Rattle.af_rendering.proofs.OpenCalls.{AreOpen, AreTame, open_turn, tame_turn}
 use Rattle.af_rendering.proofs.SparedTurns.{turn_spares}

@@ -1,49 +1,15 @@
 -- A turn of the normal mixer spares each track whose client has not poked: by the meetings after the turn, no look at the track's blocks was Shut.
 use Rattle.std.proofs.Common.{◌≡◌, ℕ, ◌<◌, ◌≤◌, ◌==◌, ◌&&◌, not, nat_le, Bool, true, false, if◌then◌else◌, is_some, fold, List, [], ◌∷◌, ◌++◌, length, map, slice_get, Option, Some, None, refl, sym, ap, subst, ◌∙◌, append-nil, append_assoc, eqb-true, arith}
-use Rattle.std.specs.List.{AllByRecursion, flat_map, list_all}
-use Rattle.std.proofs.lemmas.Grind.{fold-append}
-use Rattle.std.proofs.lemmas.List.Concat.{flat_map-cons}
-use Rattle.std.proofs.lemmas.Option.{same_Some}
-use Rattle.af_base.proofs.Basics.{both_true}
-use Rattle.af_base.specs.declared.event.ServerEvent.{ServerEvent}
+use Rattle.af_rendering.proofs.Common.{AllByRecursion, Busy, Clean, CommandLook, GoesOn, GoesOnFrom, IsLegal, IsSound, LegalLooks, LegalTake, Links, Listed, LooksBy, NormalKept, NormalState, Outside, Push, Pushed, ServerEvent, ServerKept, ServerState, Setup, Shape, TakeSeen, TrackKept, TrackSeen, Turn, acked_len, after_ack, after_edits, after_push, after_take, after_takes, after_tracks, all_command_events, asked, both_first, both_right, both_true, command_events_of, command_list, cycle_events, flat_map, flat_map-cons, fold-append, going, heard, invalid, is_home, is_mixed_here, is_shut, kept, kept_more, kept_of, learnt, list_all, listed, mix_events, not_true, same_Some, served_len, server_keeps, server_kept, server_kept_of, setup_of, sound_acked, sound_mutated, sound_served, status_events, stays_all, stream_at, stream_list, take_look, takes_from, track_at, track_in, tracks_at, turn_after, turn_looks, turn_of, words_taken}
 use Rattle.af_base.specs.declared.event.ServerEvent.TheVariants as server
-use Rattle.af_base.specs.declared.state.Push.{Push}
-use Rattle.af_base.specs.declared.state.Push.TheVariants.{Busy, Clean, Pushed}
-use Rattle.af_base.specs.declared.turn.CommandLook.{CommandLook}
-use Rattle.af_base.specs.Turn.{TakeSeen, TrackSeen, Turn, turn_of}
-use Rattle.af_life.specs.declared.kept.TrackKept.{TrackKept}
-use Rattle.af_life.specs.Edits.{after_ack, after_push}
-use Rattle.af_life.specs.Heard.{heard, learnt}
-use Rattle.af_life.specs.Kept.{NormalKept, Outside, Setup, asked, is_home, track_at, track_in}
-use Rattle.af_life.specs.Looks.{LegalLooks, all_command_events, words_taken}
-use Rattle.af_life.specs.Obeys.{is_shut}
-use Rattle.af_life.specs.Plays.{LegalTake, after_take, after_takes, is_mixed_here}
-use Rattle.af_life.specs.Turn.{GoesOn, after_edits, after_tracks, turn_after}
-use Rattle.af_life.specs.TurnEvents.{command_events_of, command_list, going, invalid, mix_events, status_events, stream_list, takes_from, tracks_at}
-use Rattle.af_model.proofs.Basics.{both_first, kept_more, not_true}
-use Rattle.af_model.proofs.Logic.{both_right}
-use Rattle.af_model.specs.Cycles.{Listed, LooksBy, cycle_events, kept}
-use Rattle.af_model.specs.ServerCalls.{ServerKept, server_keeps, server_kept}
-use Rattle.af_model.specs.declared.shape.Shape.{Shape}
-use Rattle.af_life.proofs.Lives.{acked_len, served_len}
 use Rattle.af_life.specs.Serves.{is_found_shut}
-use Rattle.af_life.specs.Sound.{IsSound}
-use Rattle.af_link.specs.declared.links.Links.{Links}
-use Rattle.af_normal.specs.LegalTurned.{GoesOnFrom, IsLegal}
-use Rattle.af_normal.specs.Mixing.{stream_at}
 use Rattle.af_normal.specs.Order.{IsInOrder}
 use Rattle.af_normal.specs.Serving.{Adds}
-use Rattle.af_normal.specs.State.{NormalState, kept_of, setup_of}
-use Rattle.af_normal.proofs.OrderDone.{stays_all}
-use Rattle.af_normal.proofs.OrderSlots.{sound_served}
-use Rattle.af_normal.proofs.OrderSound.{sound_acked, sound_mutated}
 use Rattle.af_normal.proofs.OrderTurn.{seen_past}
-use Rattle.af_server.specs.Order.{ServerState, server_kept_of}
-use Rattle.af_server.specs.Slot.{listed}
 use Rattle.af_rendering.specs.Hostile.{is_spared_in_turn, none_shut}
-use Rattle.af_tally.specs.Summaries.{take_look, turn_looks}
 use Rattle.af_rendering.proofs.OneTake.{one_take, taken_is_due}
-use Rattle.af_rendering.proofs.OpenLooks.{open_commands, open_cycle, shut_after}
+use Rattle.af_audit.proofs.LooksUnshut.{shut_after}
+use Rattle.af_rendering.proofs.OpenLooks.{open_commands, open_cycle}
 
 -- ## The command block
 

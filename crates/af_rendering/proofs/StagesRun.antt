@@ -1,26 +1,11 @@
 -- What a stage comes to once its turns were played.
 use Rattle.std.proofs.Common.{◌≡◌, ℕ, List, [], Some, Result, Ok, Err, OnOk, length, sym, ap, subst, ◌∙◌}
-use Rattle.af_base.specs.declared.frame.Frame.{Frame}
-use Rattle.af_base.specs.declared.state.FastState.{FastState}
-use Rattle.af_io.specs.Files.{Files, SetsFile}
-use Rattle.af_link.specs.declared.links.Links.{Links}
-use Rattle.af_model.specs.JournalForm.{IsJournal, IsWhole}
-use Rattle.af_model.specs.Journals.{RoundsNoted, journal_of}
-use Rattle.af_script.specs.Data.{ScriptData}
-use Rattle.af_script.specs.declared.op.TurnSpec.{TurnSpec}
-use Rattle.af_script.specs.declared.track.TrackSpec.{TrackSpec}
+use Rattle.af_rendering.proofs.Common.{FastState, Files, Frame, Given, IsJournal, IsNewSession, IsReady, IsTally, IsWhole, Links, RoundsNoted, ScriptData, SessionState, SetsFile, SharedState, TrackSpec, TurnSpec, journal_of, pcm_of, shown_at}
 use Rattle.af_rendering.specs.declared.staging.Stage.{Stage}
 use Rattle.af_rendering.specs.FastSpared.{FastSparesSoFar}
 use Rattle.af_rendering.specs.Hostile.{SparesSoFar}
-use Rattle.af_session.specs.NewSession.{IsNewSession}
 use Rattle.af_rendering.specs.Rendered.{PlaysTurns, Runs}
-use Rattle.af_session.specs.Rounds.{Given, IsReady}
-use Rattle.af_engine.specs.Shares.{SharedState}
-use Rattle.af_session.specs.Shown.{shown_at}
 use Rattle.af_rendering.specs.Stages.{HasRendered, noted_as}
-use Rattle.af_session.specs.Together.{SessionState}
-use Rattle.af_tally.specs.Sound.{pcm_of}
-use Rattle.af_tally.specs.Tallies.{IsTally}
 use Rattle.af_rendering.proofs.FirstRound.{frames_first, rendered, silent_first}
 use Rattle.af_rendering.proofs.ShownWhole.{released_few, tally_end}
 use Rattle.af_rendering.proofs.Spared.{spares_noted}
@@ -35,12 +20,6 @@ pub record NotedOn (links : Links) (g : Given) (n : ℕ) (was : SessionState) (s
   pub tally : (first : FastState) → IsTally (shown_at first (length g.tracks) s.rounds.rounds s.parties.fast) s.room.tally
   pub frames : s.parties.fast.frames ≡ was.fast.frames
   pub spares : SparesSoFar s.rounds.rounds s.parties
-
-pub noted_on : {T E : Type 0} (r : Result T E) (links : Links) (g : Given) (n : ℕ) (was : SessionState) (s : Stage) → OnOk r (IsReady links g n s.parties) → OnOk r (s.rounds.tracks ≡ length g.tracks) → OnOk r (IsWhole s.rounds s.parties.fast.log)
-    → OnOk r (IsJournal (journal_of s.rounds s.parties.fast.log)) → OnOk r ((first : FastState) → IsTally (shown_at first (length g.tracks) s.rounds.rounds s.parties.fast) s.room.tally) → OnOk r (s.parties.fast.frames ≡ was.fast.frames)
-    → OnOk r (SparesSoFar s.rounds.rounds s.parties) → OnOk r (NotedOn links g n was s)
-noted_on (Ok x) links g n was s ready tracks whole form tally frames spares = record { ready = ready; tracks = tracks; whole = whole; form = form; tally = tally; frames = frames; spares = spares }
-noted_on (Err e) links g n was s ready tracks whole form tally frames spares = tt
 
 module _ (script : ScriptData) (shared : SharedState) (was : SessionState) (new : IsNewSession script shared was) (files : List (List Frame)) (links : Links) (tracks : List TrackSpec) (here : tracks ≡ script.tracks) (s : Stage) (room : s.room.released ≡ record { items = []; room = length script.tracks }) where
   abbrev given : Given

@@ -1,22 +1,9 @@
 -- The turns that were played so far, and what all of them come to. Their rounds are seen in the parties before and after each, and stand nowhere else.
 use Rattle.std.proofs.Common.{◌≡◌, ℕ, ◌+◌, ◌<◌, ◌^◌, All, List, [], ◌∷◌, ◌++◌, length, take, get_or, refl, arith}
-use Rattle.std.proofs.lemmas.List.Elements.{All-append, All-cons, All-nil}
-use Rattle.af_base.specs.declared.state.FastState.{FastState}
-use Rattle.af_base.specs.Sample.{IsFrame}
-use Rattle.af_link.specs.declared.links.Links.{Links}
-use Rattle.af_model.specs.Journals.{RoundNoted, RoundsNoted}
-use Rattle.af_model.specs.Numbers.{FitsEntry}
+use Rattle.af_rendering.proofs.Common.{All-append, All-cons, All-nil, FastState, FitsEntry, FollowsRound, Given, IsFrame, IsReady, IsRound, IsTally, Links, NotesFrames, NotesNumbers, RoundNoted, RoundsNoted, SessionState, Tallied, TurnSpec, nothing_shown, pcm_of, round_told, shown_at}
 use Rattle.af_model.proofs.NumbersFit.{ranges_dealt}
-use Rattle.af_script.specs.declared.op.TurnSpec.{TurnSpec}
 use Rattle.af_rendering.specs.Hostile.{SparesSoFar}
 use Rattle.af_rendering.specs.Rendered.{PlaysTurns, Runs}
-use Rattle.af_session.specs.Noted.{NotesFrames, NotesNumbers}
-use Rattle.af_session.specs.Rounds.{Given, IsReady, IsRound, round_told}
-use Rattle.af_session.specs.Shown.{FollowsRound, shown_at}
-use Rattle.af_session.specs.Together.{SessionState}
-use Rattle.af_tally.specs.Sound.{pcm_of}
-use Rattle.af_tally.specs.Summaries.{nothing_shown}
-use Rattle.af_tally.specs.Tallies.{IsTally, Tallied}
 use Rattle.af_rendering.proofs.JournalSound.{journal_form, journal_whole}
 use Rattle.af_rendering.proofs.RoundForms.{AreNoted, noted_none, noted_round}
 use Rattle.af_rendering.proofs.RunMore.{run_more, run_none}

@@ -1,8 +1,9 @@
 -- What the turns of a script come to, and what they leave in a file.
-use Rattle.std.specs.Prelude.{◌≡◌, ◌⊎◌, ℕ, ◌<◌, ◌≤◌, ◌++◌, List, [], Some, length, take}
+use Rattle.std.specs.Prelude.{◌≡◌, ◌⊎◌, ℕ, ◌<◌, ◌≤◌, ◌++◌, List, [], Some, length, take, Result, OnOk, OnErr}
 use Rattle.af_base.specs.declared.frame.Frame.{Frame}
 use Rattle.af_base.specs.declared.state.FastState.{FastState}
 use Rattle.af_io.specs.Files.{Files, SameFiles, SetsFile, LeavesFront}
+use Rattle.af_io.specs.declared.store.StoreError.{StoreError}
 use Rattle.af_model.specs.JournalForm.{IsJournal, IsWhole}
 use Rattle.af_model.specs.Journals.{JournalData, RoundNoted, RoundsNoted, journal_of}
 use Rattle.af_rendering.specs.Hostile.{PokesSpareEntries, PokesSpareOthers, SparesSoFar}
@@ -11,7 +12,8 @@ use Rattle.af_script.specs.declared.op.Op.{Op}
 use Rattle.af_script.specs.declared.op.TurnSpec.{TurnSpec}
 use Rattle.af_session.specs.Ends.{EndsState, ends_from}
 use Rattle.af_session.specs.NewSession.{IsNewSession}
-use Rattle.af_session.specs.Rounds.{Given, IsTurnRun, ops_at, file_at}
+use Rattle.af_session.specs.Rounds.{Given, IsRound, IsTurnRun, ops_at, file_at, round_told}
+use Rattle.af_session.specs.declared.room.Room.{Room}
 use Rattle.af_engine.specs.Shares.{SharedState}
 use Rattle.af_session.specs.Shown.{shown_at, shown_by, summary_told}
 use Rattle.af_tally.specs.declared.summary.Summary.{Summary}
@@ -38,6 +40,10 @@ pub record Runs (g : Given) (turns : List TurnSpec) (s : SessionState) (rounds :
   pub bytes : List ℕ
   pub run : IsTurnRun g turns s rounds bytes t
   pub sound : pcm_of s.fast.frames t.fast.log ≡ pcm_of s.fast.frames s.fast.log ++ bytes
+
+-- a round of this turn from s to t, as it is told, and the sound of the log grew by just its bytes
+abbrev pub PlaysRound : Given → TurnSpec → SessionState → SessionState → Type 0
+PlaysRound g turn s t = (bytes : List ℕ) × IsRound g turn s (round_told turn s t) bytes t × (pcm_of s.fast.frames s.fast.log ++ bytes ≡ pcm_of s.fast.frames t.fast.log)
 
 -- All these turns were played from s to t. Their rounds make a journal with the log, and the tally is that of the rounds. If no track was shut before, each track that nobody poked was spared
 pub record PlaysTurns (g : Given) (turns : List TurnSpec) (s : SessionState) (rounds : RoundsNoted) (t : SessionState) (tally : Tallied) : Type 0 where
@@ -66,6 +72,19 @@ Rendered script files turns t = (rounds : List RoundNoted) × Renders script fil
 -- the file of this name has a sound but for the last bytes, which wait to go out
 abbrev pub HoldsBut : List ℕ → Files → List ℕ → List ℕ → Files → Type 0
 HoldsBut waiting base name sound files = (out : List ℕ) × (out ++ waiting ≡ sound) × SetsFile base name (Some out) files
+
+-- what a call makes of the file of this name, which had these bytes: it has those, or after an error a front of those
+abbrev pub Extends : {T : Type 0} → Result T StoreError → List ℕ → List ℕ → List ℕ → Files → Files → Type 0
+Extends result name had has old new = (base : Files) → SetsFile base name (Some had) old → OnOk result (SetsFile base name (Some has) new) × OnErr result (LeavesFront base name has new)
+
+-- what a call makes of the file of this name, which had a sound but for the bytes that waited: all but for those that wait now, or after an error a front of the sound
+abbrev pub Sends : {T : Type 0} → Result T StoreError → List ℕ → List ℕ → List ℕ → Files → Files → Type 0
+Sends result name waited waits old new = (base : Files) (sound : List ℕ) → HoldsBut waited base name sound old → OnOk result (HoldsBut waits base name sound new) × OnErr result (LeavesFront base name sound new)
+
+-- what a round from s to t makes of the file of this name, which had the sound of the log but for the bytes that waited in this room: the same of its log and the next room, or after an error a front of the sound
+abbrev pub SendsRound : {T : Type 0} → Result T StoreError → List ℕ → SessionState → Room → SessionState → Room → Files → Files → Type 0
+SendsRound result name s room t next old new = (base : Files) → HoldsBut room.bytes.items base name (pcm_of s.fast.frames s.fast.log) old
+    → OnOk result (HoldsBut next.bytes.items base name (pcm_of s.fast.frames t.fast.log) new) × OnErr result (LeavesFront base name (pcm_of s.fast.frames t.fast.log) new)
 
 -- no file has changed; or only the file of this name, which holds a front of the sound of some first turns
 abbrev pub LeavesSound : ScriptData → List (List Frame) → List ℕ → Files → Files → Type 0

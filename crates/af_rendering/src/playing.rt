@@ -1,11 +1,10 @@
 //! All turns of a script, and the file of what they mixed.
-ghost use Rattle.std.specs.Prelude.{◌≡◌, ◌+◌, ◌*◌, ◌<◌, ◌≤◌, ◌++◌, ℕ, List, [], Some, length, take, All, OnOk, OnErr};
+ghost use Rattle.std.specs.Prelude.{◌≡◌, ◌+◌, ◌*◌, ◌<◌, ◌≤◌, ◌++◌, ℕ, List, [], length, take, All, OnOk};
 ghost use Rattle.af_io.specs.Causes.{HasCause};
-ghost use Rattle.af_io.specs.Files.{Files, SetsFile, LeavesFront};
 ghost use Rattle.af_model.specs.Journals.{RoundNoted, RoundsNoted};
 ghost use Rattle.af_script.specs.Form.{IsTurn};
 ghost use Rattle.af_rendering.specs.FastSpared.{FastSparesSoFar};
-ghost use Rattle.af_rendering.specs.Rendered.{HoldsBut, PlaysTurns, Runs};
+ghost use Rattle.af_rendering.specs.Rendered.{Extends, PlaysRound, PlaysTurns, Runs, Sends, SendsRound};
 ghost use Rattle.af_rendering.specs.Stages.{HasRoomToWait};
 ghost use Rattle.af_session.specs.Rooms.{CarriesOn, HasAdded, HasPlacesAt, HasRoundRoom, IsReadyOn, KeepsRoom, given_of};
 ghost use Rattle.af_session.specs.Noted.{NotesFrames, NotesNumbers};
@@ -27,8 +26,7 @@ const MOST_WAITING: usize = 192;
 
 /// Adds the bytes to a file as one piece, if there are some.
 pub fn send_out<S: Store>(store: &mut S, name: &str, bytes: &[u8]) -> Result<(), StoreError>
-    ensures written { S.told store.old → (base : Files) (out : List ℕ) → SetsFile base name.now (Some out) (S.files store.old) → OnOk result (SetsFile base name.now (Some (out ++ bytes.now)) (S.files store.new)) }
-    ensures left { S.told store.old → (base : Files) (out : List ℕ) → SetsFile base name.now (Some out) (S.files store.old) → OnErr result (LeavesFront base name.now (out ++ bytes.now) (S.files store.new)) }
+    ensures sent { S.told store.old → (out : List ℕ) → Extends result name.now out (out ++ bytes.now) (S.files store.old) (S.files store.new) }
     ensures tells { S.told store.old → S.told store.new }
     ensures cause { HasCause (S.faults store.old) (S.faults store.new) result }
 {
@@ -45,8 +43,7 @@ fn send_waiting<S: Store>(
     bytes: &mut Items<u8>,
 ) -> Result<(), StoreError>
     ensures none { bytes.new ≡ record bytes.old { items = [] } }
-    ensures written { S.told store.old → (base : Files) (sound : List ℕ) → HoldsBut bytes.old.items base name.now sound (S.files store.old) → OnOk result (SetsFile base name.now (Some sound) (S.files store.new)) }
-    ensures left { S.told store.old → (base : Files) (sound : List ℕ) → HoldsBut bytes.old.items base name.now sound (S.files store.old) → OnErr result (LeavesFront base name.now sound (S.files store.new)) }
+    ensures sent { S.told store.old → Sends result name.now bytes.old.items bytes.new.items (S.files store.old) (S.files store.new) }
     ensures tells { S.told store.old → S.told store.new }
     ensures cause { HasCause (S.faults store.old) (S.faults store.new) result }
 {
@@ -64,8 +61,7 @@ fn send_beyond<S: Store>(
 ) -> Result<(), StoreError>
     ensures few { length bytes.new.items ≤ most }
     ensures room { bytes.new.room ≡ bytes.old.room }
-    ensures written { S.told store.old → (base : Files) (sound : List ℕ) → HoldsBut bytes.old.items base name.now sound (S.files store.old) → OnOk result (HoldsBut bytes.new.items base name.now sound (S.files store.new)) }
-    ensures left { S.told store.old → (base : Files) (sound : List ℕ) → HoldsBut bytes.old.items base name.now sound (S.files store.old) → OnErr result (LeavesFront base name.now sound (S.files store.new)) }
+    ensures sent { S.told store.old → Sends result name.now bytes.old.items bytes.new.items (S.files store.old) (S.files store.new) }
     ensures tells { S.told store.old → S.told store.new }
     ensures cause { HasCause (S.faults store.old) (S.faults store.new) result }
 {
@@ -109,11 +105,10 @@ fn play_out<S: Store>(
     requires places { (n : ℕ) × (n < 100000) × HasPlacesAt n parties.old room.old.tally }
     ensures carried { CarriesOn rig.now (round_told turn parties.old parties.new) parties.old parties.new room.old room.new }
     ensures room { HasRoomToWait parties.new room.new }
-    ensures round { (added : List ℕ) × IsRound (given_of rig.now) turn parties.old (round_told turn parties.old parties.new) added parties.new × (pcm_of parties.old.fast.frames parties.old.fast.log ++ added ≡ pcm_of parties.old.fast.frames parties.new.fast.log) }
+    ensures round { PlaysRound (given_of rig.now) turn parties.old parties.new }
     ensures frames { NotesFrames (round_told turn parties.old parties.new) }
     ensures numbers { NotesNumbers (round_told turn parties.old parties.new) }
-    ensures written { S.told store.old → (base : Files) → HoldsBut room.old.bytes.items base name.now (pcm_of parties.old.fast.frames parties.old.fast.log) (S.files store.old) → OnOk result (HoldsBut room.new.bytes.items base name.now (pcm_of parties.old.fast.frames parties.new.fast.log) (S.files store.new)) }
-    ensures left { S.told store.old → (base : Files) → HoldsBut room.old.bytes.items base name.now (pcm_of parties.old.fast.frames parties.old.fast.log) (S.files store.old) → OnErr result (LeavesFront base name.now (pcm_of parties.old.fast.frames parties.new.fast.log) (S.files store.new)) }
+    ensures sent { S.told store.old → SendsRound result name.now parties.old room.old parties.new room.new (S.files store.old) (S.files store.new) }
     ensures tells { S.told store.old → S.told store.new }
     ensures cause { HasCause (S.faults store.old) (S.faults store.new) result }
 {
@@ -147,8 +142,9 @@ pub(crate) fn play_all<S: Store>(
     ensures frames { OnOk result (parties.new.fast.frames ≡ parties.old.fast.frames) }
     ensures entries { FastSparesSoFar parties.old → OnOk result (FastSparesSoFar parties.new) }
     ensures kept { KeepsRoom room.old room.new }
-    ensures written { S.told store.old → (base : Files) → SetsFile base name.now (Some (pcm_of parties.old.fast.frames parties.old.fast.log)) (S.files store.old) → OnOk result (SetsFile base name.now (Some (pcm_of parties.old.fast.frames parties.new.fast.log)) (S.files store.new)) }
-    ensures left { S.told store.old → (base : Files) → SetsFile base name.now (Some (pcm_of parties.old.fast.frames parties.old.fast.log)) (S.files store.old) → OnErr result (LeavesFront base name.now (pcm_of parties.old.fast.frames parties.new.fast.log) (S.files store.new)) }
+    ensures sent { S.told store.old
+        → Extends result name.now (pcm_of parties.old.fast.frames parties.old.fast.log) (pcm_of parties.old.fast.frames parties.new.fast.log)
+        (S.files store.old) (S.files store.new) }
     ensures tells { S.told store.old → S.told store.new }
     ensures cause { HasCause (S.faults store.old) (S.faults store.new) result }
 {

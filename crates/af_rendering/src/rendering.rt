@@ -1,12 +1,12 @@
 //! A script's turns from first to last, one after the other.
 ghost use Rattle.std.specs.Prelude.{◌^◌, All, ◌≡◌, ◌<◌, ◌≤◌, ℕ, [], Some, length, take, IfOk, OnOk, OnErr};
 ghost use Rattle.af_io.specs.Causes.{HasCause};
-ghost use Rattle.af_io.specs.Files.{Files, SetsFile, LeavesFront};
+ghost use Rattle.af_io.specs.Files.{SetsFile};
 ghost use Rattle.af_model.specs.JournalForm.{IsJournal, IsWhole};
 ghost use Rattle.af_model.specs.Journals.{JournalData, RoundsNoted, journal_of};
 ghost use Rattle.af_script.specs.Data.{ScriptData};
 ghost use Rattle.af_session.specs.Ends.{command_proxy, ends_from, stream_proxy};
-ghost use Rattle.af_rendering.specs.Rendered.{ComesTo, HaveFiles, LeavesSound, Rendered};
+ghost use Rattle.af_rendering.specs.Rendered.{ComesTo, Extends, HaveFiles, LeavesSound, Rendered};
 ghost use Rattle.af_session.specs.Shown.{released_by, summary_told};
 ghost use Rattle.af_rendering.specs.Stages.{HasRendered, IsNewStage, IsNoted, noted_as};
 ghost use Rattle.af_tally.specs.Sound.{pcm_of};
@@ -167,8 +167,8 @@ impl Stage {
         requires files { HaveFiles (record { tracks = script.now.tracks; files = files.now }) }
         ensures some { (n : ℕ) × Rendered script.now files.now (take n script.now.turns) self.new.parties }
         ensures rendered { OnOk result ((rounds : RoundsNoted) × HasRendered script.now files.now (noted_as rounds self.new)) }
-        ensures written { S.told store.old → (base : Files) → SetsFile base name.now (Some []) (S.files store.old) → OnOk result (SetsFile base name.now (Some (pcm_of script.now.frames self.new.parties.fast.log)) (S.files store.new)) }
-        ensures left { S.told store.old → (base : Files) → SetsFile base name.now (Some []) (S.files store.old) → OnErr result (LeavesFront base name.now (pcm_of script.now.frames self.new.parties.fast.log) (S.files store.new)) }
+        ensures sent { S.told store.old
+            → Extends result name.now [] (pcm_of script.now.frames self.new.parties.fast.log) (S.files store.old) (S.files store.new) }
         ensures tells { S.told store.old → S.told store.new }
         ensures cause { HasCause (S.faults store.old) (S.faults store.new) result }
     {
@@ -199,7 +199,8 @@ impl Stage {
         requires new { IsNewStage script.now self.old }
         requires files { HaveFiles (record { tracks = script.now.tracks; files = files.now }) }
         ensures rendered { OnOk result ((rounds : RoundsNoted) × HasRendered script.now files.now (noted_as rounds self.new)) }
-        ensures written { S.told store.old → OnOk result (SetsFile (S.files store.old) name.now (Some (pcm_of script.now.frames self.new.parties.fast.log)) (S.files store.new)) }
+        ensures written { S.told store.old
+            → OnOk result (SetsFile (S.files store.old) name.now (Some (pcm_of script.now.frames self.new.parties.fast.log)) (S.files store.new)) }
         ensures left { S.told store.old → OnErr result (LeavesSound script.now files.now name.now (S.files store.old) (S.files store.new)) }
         ensures tells { S.told store.old → S.told store.new }
         ensures cause { HasCause (S.faults store.old) (S.faults store.new) result }
@@ -212,7 +213,8 @@ impl Stage {
     fn close(mut self) -> Outcome
         requires { (script : ScriptData) × (rounds : RoundsNoted) × IsNoted script (noted_as rounds self) }
         ensures ends { result.ends ≡ ends_from self.parties }
-        ensures summary { (script : ScriptData) (rounds : RoundsNoted) → IsNoted script (noted_as rounds self) → result.summary ≡ summary_told script.frames (journal_of rounds self.parties.fast.log) result.ends }
+        ensures summary { (script : ScriptData) (rounds : RoundsNoted) → IsNoted script (noted_as rounds self)
+            → result.summary ≡ summary_told script.frames (journal_of rounds self.parties.fast.log) result.ends }
     {
         let summary = sum_up(&self.parties, &self.room.tally, &mut self.room.released);
         Outcome {
@@ -245,7 +247,8 @@ pub fn render<S: Store>(
     steps: &mut Costs,
 ) -> Result<Outcome, StoreError>
     requires { HaveFiles (record { tracks = script.now.tracks; files = files.now }) }
-    ensures played { IfOk result (λ o. (journal : JournalData) × ComesTo script.now files.now journal o.summary o.ends steps.new.items × (S.told store.old → SetsFile (S.files store.old) name.now (Some (journal_pcm script.now.frames journal)) (S.files store.new))) }
+    ensures played { IfOk result (λ o. (journal : JournalData) × ComesTo script.now files.now journal o.summary o.ends steps.new.items
+        × (S.told store.old → SetsFile (S.files store.old) name.now (Some (journal_pcm script.now.frames journal)) (S.files store.new))) }
     ensures left { S.told store.old → OnErr result (LeavesSound script.now files.now name.now (S.files store.old) (S.files store.new)) }
     ensures tells { S.told store.old → S.told store.new }
     ensures cause { HasCause (S.faults store.old) (S.faults store.new) result }

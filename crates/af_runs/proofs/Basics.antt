@@ -1,22 +1,12 @@
 -- Basic lemmas that several files here, and of the crates above, cite.
 use Rattle.std.proofs.Common.{ap, arith, inl, inr, is_some, length, refl, replicate, subst, suc, sym, take, true≢false, zero, ℕ, ◌++◌, ◌+◌, ◌-◌, ◌<◌, ◌∙◌, ◌≡◌, ◌≤◌, ◌⊎◌}
-use Rattle.std.proofs.lemmas.Bool.{cases_eq}
-use Rattle.std.proofs.lemmas.List.{length-append}
-use Rattle.std.specs.Prelude.{Bool, List, None, Option, Some, [], false, if◌then◌else◌, slice_index_or, true, ◌||◌, ◌∷◌}
+use Rattle.af_runs.proofs.Common.{Bool, CycleEntry, EntrySeen, FastState, IsSeen, List, None, Op, Option, RoundSeen, Seen, Some, Turn, [], absent, cases_eq, comes_home, count_seen, entries_of, entry_slot, false, is_shut, length-append, no_round, shows_command, slice_index_or, state_of, taken_before, true, welcomed}
+use Rattle.std.specs.Prelude.{if◌then◌else◌, ◌||◌, ◌∷◌}
 use Rattle.af_base.proofs.Basics.{no}
-use Rattle.af_base.specs.Log.{absent, count_seen, entry_slot}
-use Rattle.af_base.specs.Turn.{Turn}
 use Rattle.af_base.specs.declared.event.ClientCall.{ClientCall}
-use Rattle.af_base.specs.declared.log.CycleEntry.{CycleEntry}
 use Rattle.af_base.specs.declared.seen.Seen.TheVariants as seen
-use Rattle.af_base.specs.declared.seen.Seen.{Seen}
-use Rattle.af_base.specs.declared.state.FastState.{FastState}
-use Rattle.af_life.specs.Edits.{comes_home, welcomed}
-use Rattle.af_life.specs.Obeys.{is_shut, shows_command}
 use Rattle.af_life.specs.declared.kept.Holder.TheVariants.{Home}
 use Rattle.af_life.specs.declared.kept.TrackKept.{TrackKept}
-use Rattle.af_model.specs.Cycles.{IsSeen, state_of, taken_before}
-use Rattle.af_model.specs.Journals.{EntrySeen, RoundSeen, entries_of, no_round}
 use Rattle.af_runs.specs.ClientTurns.{Track, answered, commands_sent, wanted_of, with_call}
 use Rattle.af_runs.specs.Clients.{Client, after_answer, asked_first, at_next_turn, begins, begun, next_want, rest_of, rested, wants_of}
 use Rattle.af_runs.specs.Found.{TurnFound}
@@ -25,7 +15,6 @@ use Rattle.af_runs.specs.Rounds.{loaded, turned}
 use Rattle.af_runs.specs.Runs.{Run, met, with_calls, with_cycle, with_load, with_mix, with_poll, with_turn}
 use Rattle.af_runs.specs.Sessions.{Session}
 use Rattle.af_runs.specs.declared.want.Want.{Want}
-use Rattle.af_script.specs.declared.op.Op.{Op}
 
 pub absent_at : (n k : ℕ) → slice_index_or (replicate n absent) k absent ≡ absent
 absent_at zero k = refl
@@ -92,17 +81,11 @@ met-entries s run = refl
 -- what a look showed is shown
 pub shown_if : (s : Seen) → IsSeen s → is_shown s ≡ true
 shown_if seen.Absent p = absurd p
-shown_if (seen.Frames count) p = refl
-shown_if seen.Empty p = refl
-shown_if (seen.Flushed dropped) p = refl
-shown_if (seen.Shut front rear) p = refl
+shown_if _ p = refl
 
 pub shut_shows : (x : Seen) → is_shut x ≡ true → shows_command x ≡ false
-shut_shows (seen.Shut front rear) shut = refl
-shut_shows seen.Absent shut = refl
-shut_shows seen.Empty shut = refl
-shut_shows (seen.Flushed dropped) shut = refl
 shut_shows (seen.Frames count) shut = no shut
+shut_shows _ shut = refl
 
 pub state_more : (xs ys : List FastState) (k : ℕ) → k ≤ length xs → state_of (xs ++ ys) k ≡ state_of xs k
 state_more xs ys zero low = refl

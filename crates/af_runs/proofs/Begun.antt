@@ -1,7 +1,6 @@
 -- A client begins its next op.
 use Rattle.std.proofs.Common.{◌≡◌, ℕ, suc, ◌+◌, ◌<◌, Bool, true, false, not, List, [], ◌∷◌, length, drop, slice_index_or, refl, ap, sym, ◌∙◌}
-use Rattle.std.proofs.lemmas.List.{drop_more}
-use Rattle.af_script.specs.declared.op.Op.{Op}
+use Rattle.af_runs.proofs.Common.{Op, drop_more}
 use Rattle.af_script.specs.declared.op.Op.TheVariants as op
 use Rattle.af_runs.specs.declared.want.ClientCommand.TheVariants as command
 use Rattle.af_runs.specs.declared.want.Mode.{Mode}
@@ -27,14 +26,10 @@ only-last true wants last = last
 only-last false wants last = tt
 
 pub wants-last : (m : Mode) (o : Op) → WritesLast (wants_of m o)
-wants-last m op.OpenTrack = tt
 wants-last m op.Start = only-last (not (is_active m)) (want.Send command.Start ∷ want.Settled ∷ []) tt
 wants-last m op.Pause = only-last (is_active m) (want.Send command.Pause ∷ []) tt
 wants-last m op.Stop = only-last (is_stoppable m) (want.Send command.Stop ∷ []) tt
 wants-last m op.Flush = only-last (not (is_active m)) (want.Flush ∷ want.Send command.Flush ∷ []) tt
 wants-last m op.Drain = only-last (is_stopped m) (want.Drained ∷ []) tt
-wants-last m op.Remove = tt
-wants-last m op.Yield = tt
-wants-last m (op.Gain left right) = tt
 wants-last m (op.Write count) = refl
-wants-last m (op.Poke in_command word value) = tt
+wants-last m _ = tt

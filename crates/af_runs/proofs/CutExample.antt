@@ -1,39 +1,28 @@
 -- A cut run at work: one track, of whose three frames two fit its block, and one cycle, which idles. The normal mixer looks before the client's OPEN is there.
-use Rattle.std.specs.Prelude.{◌≡◌, ℕ, zero, suc, ◌<◌, true, false, None, Some, pos, refl, List, [], ◌∷◌, All, length}
+use Rattle.std.specs.Prelude.{◌≡◌, ◌<◌, ◌∷◌}
 use Rattle.std.proofs.Common.{arith, lit<, subst, sym, true≢false, inl, inr}
+use Rattle.af_runs.proofs.Common.{All, CommandLook, EntrySeen, Frame, JournalData, List, None, Outside, RoundSeen, ScriptData, Some, TrackSeen, Turn, [], after_look, cells_of, edited, false, length, mutated, next_command, no_report, one, ordered, pos, refl, still_entry, suc, taken_by, true, two, welcomed, zero, ℕ}
 use Rattle.std.proofs.lemmas.List.Elements.{All-nil, All-cons, All-from_recursion}
 use Rattle.af_base.specs.declared.event.ClientCall.TheVariants as call
 use Rattle.af_base.specs.declared.event.ClientEvent.TheVariants as client
 use Rattle.af_base.specs.declared.event.ServerEvent.TheVariants as server
 use Rattle.af_base.specs.declared.event.HandEvent.TheVariants as hand
-use Rattle.af_base.specs.declared.frame.Frame.{Frame}
 use Rattle.af_base.specs.declared.log.Cycle.TheVariants as cycle
 use Rattle.af_base.specs.declared.seen.Seen.TheVariants as seen
 use Rattle.af_base.specs.declared.state.Push.TheVariants as pushing
-use Rattle.af_base.specs.declared.turn.CommandLook.{CommandLook}
 use Rattle.af_base.specs.Sample.{IsFrame}
-use Rattle.af_base.specs.Turn.{TrackSeen, Turn}
-use Rattle.af_life.specs.Edits.{edited, mutated, next_command, ordered, welcomed}
 use Rattle.af_life.specs.Heard.{heard_by, noted, settled_at}
-use Rattle.af_life.specs.Kept.{Outside}
-use Rattle.af_life.specs.Obeys.{after_look}
 use Rattle.af_life.specs.Reports.{by_report, told_by_report}
 use Rattle.af_life.specs.Serves.{after_part, served, status_word}
 use Rattle.af_life.specs.Turn.{GoesOn, LegalTurn, turn_after}
-use Rattle.af_model.specs.Cycles.{still_entry}
 use Rattle.af_model.specs.History.{Moment, by_client, by_server, by_hand}
-use Rattle.af_model.specs.Journals.{EntrySeen, RoundSeen, JournalData, taken_by}
 use Rattle.af_model.specs.JournalForm.{IsJournal, IsRound, IsCommandLook, IsTake}
 use Rattle.af_model.specs.Numbers.{FitsCall, FitsEntry, FitsLook, FitsRound, FitsTake, FitsTrack, FitsTurn, HasRanges}
 use Rattle.af_model.proofs.NumbersFit.{still_fits}
-use Rattle.af_model.specs.Order.{one, two}
 use Rattle.af_model.specs.declared.states.MutatorEvent.TheVariants as mutator
 use Rattle.af_model.specs.declared.states.ObserverEvent.TheVariants as observer
 use Rattle.af_model.specs.declared.newest.ReaderEvent.TheVariants as reads
 use Rattle.af_model.specs.declared.newest.WriterEvent.TheVariants as writes
-use Rattle.af_model.specs.Reports.{no_report}
-use Rattle.af_script.specs.Data.{ScriptData}
-use Rattle.af_script.specs.Ops.{cells_of}
 use Rattle.af_script.specs.declared.op.Op.TheVariants as op
 use Rattle.af_runs.specs.Blocks.{HasBlockHistory, listed}
 use Rattle.af_runs.specs.Found.{outside_of, outside_with}

@@ -1,9 +1,7 @@
 -- A round adds just its entries to a run, and its states to those pushed.
-use Rattle.std.specs.Prelude.{◌≡◌, ℕ, zero, suc, Bool, true, false, if◌then◌else◌, List, [], ◌∷◌, ◌++◌, map, take, drop, refl}
+use Rattle.std.specs.Prelude.{◌≡◌, if◌then◌else◌, ◌∷◌, ◌++◌}
 use Rattle.std.proofs.Common.{sym, ap, ◌∙◌, append-nil, append_assoc}
-use Rattle.af_base.specs.declared.log.CycleEntry.{CycleEntry}
-use Rattle.af_base.specs.Turn.{Turn}
-use Rattle.af_model.specs.Journals.{EntrySeen, RoundSeen}
+use Rattle.af_runs.proofs.Common.{Bool, CycleEntry, EntrySeen, List, RoundSeen, Turn, [], drop, false, map, refl, suc, take, true, zero, ℕ}
 use Rattle.af_runs.proofs.Basics.{calls-entries, cycle_entries, loaded-entries, met-entries, turned-entries}
 use Rattle.af_runs.specs.Found.{TurnFound}
 use Rattle.af_runs.specs.Rounds.{early_count, early_of, late_of, before_turn, after_turn, found_in, all_played, after_round}

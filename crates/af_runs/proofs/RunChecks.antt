@@ -1,29 +1,16 @@
 -- The definitions of runs at work on small values: each is computed.
-use Rattle.std.specs.Prelude.{◌≡◌, ℕ, true, false, None, Some, pos, negsuc, refl, replicate, List, [], ◌∷◌, ◌++◌, map, length}
+use Rattle.af_runs.proofs.Common.{CommandLook, CycleEntry, EntrySeen, FastState, Frame, List, None, ScriptData, Seen, Some, Turn, [], absent, attached, cells_of, commanded, cycle_events, false, initial, kept, length, map, negsuc, no_slot, pos, refl, replicate, report_at, true, twos, ℕ}
+use Rattle.std.specs.Prelude.{◌≡◌, ◌∷◌, ◌++◌}
 use Rattle.af_base.specs.declared.event.ClientCall.TheVariants as call
 use Rattle.af_base.specs.declared.event.ClientEvent.TheVariants as client
 use Rattle.af_base.specs.declared.event.ServerEvent.TheVariants as server
-use Rattle.af_base.specs.declared.frame.Frame.{Frame}
 use Rattle.af_base.specs.declared.log.Cycle.TheVariants as cycle
-use Rattle.af_base.specs.declared.log.CycleEntry.{CycleEntry}
 use Rattle.af_base.specs.declared.log.SlotEntry.{SlotEntry}
 use Rattle.af_base.specs.declared.report.Report.{Report}
-use Rattle.af_base.specs.declared.seen.Seen.{Seen}
 use Rattle.af_base.specs.declared.seen.Seen.TheVariants as seen
 use Rattle.af_base.specs.declared.state.Command.TheVariants.{MixWrite}
-use Rattle.af_base.specs.declared.state.FastState.{FastState}
 use Rattle.af_base.specs.declared.state.Push.TheVariants as pushing
-use Rattle.af_base.specs.declared.turn.CommandLook.{CommandLook}
-use Rattle.af_base.specs.Log.{absent}
-use Rattle.af_base.specs.Turn.{Turn}
 use Rattle.af_model.specs.declared.shape.Shape.{Shape}
-use Rattle.af_model.specs.Cycles.{kept, cycle_events}
-use Rattle.af_model.specs.Draft.{initial, attached, commanded}
-use Rattle.af_model.specs.Journals.{EntrySeen}
-use Rattle.af_model.specs.Order.{twos}
-use Rattle.af_model.specs.Reports.{report_at, no_slot}
-use Rattle.af_script.specs.Data.{ScriptData}
-use Rattle.af_script.specs.Ops.{cells_of}
 use Rattle.af_script.specs.declared.op.Op.TheVariants as op
 use Rattle.af_runs.specs.Blocks.{BlockTold, new_block, client_list, server_list, listed, client_does, server_does, meets}
 use Rattle.af_runs.specs.Fronts.{front_of, lawful_front, fronts_by}

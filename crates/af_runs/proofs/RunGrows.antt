@@ -1,8 +1,6 @@
 -- How a run grows by a round: legal rounds followed by a legal round are legal, also once the further round has a poke.
-use Rattle.std.specs.Prelude.{◌≡◌, ℕ, Bool, true, MatchBool, MatchOption, false, List, [], ◌∷◌, ◌++◌, Option, Some, None, refl}
-use Rattle.af_base.specs.Turn.{Turn}
-use Rattle.af_life.specs.Kept.{Setup, NormalKept}
-use Rattle.af_model.specs.Journals.{EntrySeen, RoundSeen}
+use Rattle.af_runs.proofs.Common.{Bool, EntrySeen, List, MatchBool, MatchOption, None, NormalKept, Option, RoundSeen, Setup, Some, Turn, [], false, refl, true, ℕ}
+use Rattle.std.specs.Prelude.{◌≡◌, ◌∷◌, ◌++◌}
 use Rattle.af_runs.specs.Blocks.{Marks}
 use Rattle.af_runs.specs.Found.{TurnFound, LegalTurnBy}
 use Rattle.af_runs.specs.LegalRuns.{run_from, LegalRounds}

@@ -1,9 +1,6 @@
 -- Which state a number counts as: one that was pushed, the one before any, or the normal mixer's draft.
 use Rattle.std.proofs.Common.{◌≡◌, ℕ, zero, suc, ◌<◌, ◌≤◌, ◌==◌, nat_le, if◌then◌else◌, is_some, unwrap_or, Bool, true, false, true≢false, Option, Some, None, List, [], ◌∷◌, length, refl, sym, ap, ◌∙◌, subst, arith, ne_eqb}
-use Rattle.std.proofs.lemmas.Bool.{le-leb}
-use Rattle.af_base.specs.declared.state.FastState.{FastState}
-use Rattle.af_model.specs.Cycles.{state_of}
-use Rattle.af_model.specs.Draft.{initial}
+use Rattle.af_runs.proofs.Common.{FastState, initial, le-leb, state_of}
 use Rattle.af_runs.specs.Runs.{Run, state_for, with_poll}
 use Rattle.af_runs.specs.Sessions.{Session, cycle_frames}
 use Rattle.af_runs.specs.Told.{state_at}

@@ -1,9 +1,6 @@
 -- The least power of two that is not below a number.
 use Rattle.std.proofs.Common.{◌≡◌, ℕ, zero, suc, ◌/◌, ◌^◌, ◌≤◌, ◌<◌, max, Bool, true, false, nat_le, if◌then◌else◌, refl, sym, ap, ◌∙◌, arith, inl, inr}
-use Rattle.std.specs.Int.{IsPowerOfTwo}
-use Rattle.std.proofs.lemmas.Bool.{cases_lt}
-use Rattle.std.proofs.lemmas.Bool.Decides.{nat_tests}
-use Rattle.af_base.proofs.Basics.{half, le-power}
+use Rattle.af_script.proofs.Common.{IsPowerOfTwo, cases_lt, half, le-power, nat_tests}
 use Rattle.af_script.specs.Ops.{power_above, cells_of}
 
 mutual_step : (k j n : ℕ) (test : Bool) → nat_le n (2 ^ k) ≡ test → j ≤ suc k → n ≤ 2 ^ j → 2 ^ j / 2 < max 1 n → (j ≤ k → power_above k n ≡ 2 ^ j) → (if test then power_above k n else 2 ^ suc k) ≡ 2 ^ j

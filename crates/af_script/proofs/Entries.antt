@@ -1,8 +1,6 @@
 -- What each form of a key is read as: the fault of its place, or the value that it means.
 use Rattle.std.proofs.Common.{◌≡◌, ℕ, ◌&&◌, ◌||◌, nat_le, pos, negsuc, Bool, true, false, Option, Some, None, Ok, Err, refl, codes, if◌then◌else◌}
-use Rattle.std.specs.Prelude.{ok_or, option_and_then}
-use Rattle.std.specs.Str.{bytes_eq}
-use Rattle.toml.specs.Data.{Data, string, integer, float, boolean, datetime, array, table, Items, as_str, as_integer, as_table}
+use Rattle.af_script.proofs.Common.{Data, Items, array, as_integer, as_str, as_table, boolean, bytes_eq, datetime, float, integer, ok_or, option_and_then, string, table}
 use Rattle.af_script.specs.Bounds.{most_tracks}
 use Rattle.af_script.specs.Text.{is_name}
 use Rattle.af_script.specs.Tree.{array_of, all_are, count_of}

@@ -1,6 +1,6 @@
 -- What stands at the front and at the end of texts and lists.
 use Rattle.std.proofs.Common.{◌≡◌, ℕ, suc, ◌-◌, true, false, List, [], ◌∷◌, length, drop, Option, Some, None, Bor, refl, sym, ap, ◌∙◌, subst, arith}
-use Rattle.std.specs.Prelude.{option_map, MatchOption, slice_get, IsCharBoundary}
+use Rattle.af_script.proofs.Common.{IsCharBoundary, MatchOption, option_map, slice_get}
 use Rattle.std.specs.Str.Pattern.{FindsTextPrefix, StripsPrefix}
 use Rattle.std.proofs.lemmas.Str.Pattern.{starts_text}
 use Rattle.af_script.specs.Text.{after}

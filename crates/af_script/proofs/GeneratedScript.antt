@@ -1,8 +1,7 @@
 -- The generated script keeps the ranges, limits and forms of a script.
 use Rattle.std.proofs.Common.{◌≡◌, ℕ, zero, suc, ◌+◌, ◌*◌, ◌<◌, ◌≤◌, true, List, [], ◌∷◌, ◌++◌, length, map, All, refl, sym, ap, ◌∙◌, subst, arith, append_assoc, append-nil, add-one, length-append}
-use Rattle.std.specs.List.{range_with_len}
+use Rattle.af_script.proofs.Common.{All-append, All-cons, All-nil, range_with_len}
 use Rattle.std.proofs.lemmas.List.FromFn.{map-range_with_len_more}
-use Rattle.std.proofs.lemmas.List.Elements.{All-nil, All-cons, All-append}
 use Rattle.af_script.specs.Bounds.{most_gain}
 use Rattle.af_script.specs.Text.{is_name}
 use Rattle.af_script.specs.Ops.{are_whole, end_with_remove, fast_cycles, asked_cycles}

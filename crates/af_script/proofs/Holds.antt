@@ -1,12 +1,8 @@
 -- What holds of the values that steps find.
 use Rattle.std.proofs.Common.{◌≡◌, ℕ, suc, ◌+◌, ◌≤◌, ◌&&◌, nat_le, ℤ, pos, negsuc, Bool, true, false, List, ◌∷◌, length, Option, Some, None, Result, Ok, Err, refl, ap, arith, if◌then◌else◌}
-use Rattle.std.specs.Prelude.{All, IfSome, ok_or, option_and_then, option_map, ◌==◌}
-use Rattle.std.proofs.lemmas.Bool.Decides.{nat_tests}
-use Rattle.std.proofs.lemmas.List.Elements.{All-nil, All-cons}
-use Rattle.toml.specs.Data.{Data, Items, no_items, item, Members, as_integer}
+use Rattle.af_script.proofs.Common.{All, All-cons, All-nil, Data, IfSome, Items, Members, after_first, as_integer, before_first, digits_value, item, nat_tests, no_items, ok_or, option_and_then, option_map}
+use Rattle.std.specs.Prelude.{◌==◌}
 use Rattle.af_script.specs.Text.{within, is_number, number_within, after, number_after, pair_within, pair_after}
-use Rattle.std.specs.List.{before_first, after_first}
-use Rattle.std.specs.Str.Parse.{digits_value}
 use Rattle.af_script.specs.Tree.{value_at, count_of}
 use Rattle.af_script.specs.Results.{◌>>=◌}
 use Rattle.af_script.specs.Reading.{in_range_if, number_in, default_if_none, number_or, each_in}

@@ -1,9 +1,6 @@
 -- What the items of arrays are read as: the faults of their places in order, or what they mean.
 use Rattle.std.proofs.Common.{◌≡◌, ℕ, suc, ◌+◌, ◌==◌, ◌&&◌, nat_le, Bool, true, false, List, [], ◌∷◌, ◌++◌, length, map, Option, Some, None, Result, Ok, Err, refl, sym, ap, ◌∙◌, if◌then◌else◌}
-use Rattle.std.specs.Prelude.{ok_or, option_and_then, is_some, unwrap_or}
-use Rattle.std.specs.List.{cons_option}
-use Rattle.af_base.proofs.Basics.{both, not_none}
-use Rattle.toml.specs.Data.{Data, Items, no_items, item, as_str}
+use Rattle.af_script.proofs.Common.{Data, Items, as_str, both, cons_option, is_some, item, no_items, not_none, ok_or, option_and_then, unwrap_or}
 use Rattle.af_script.specs.Bounds.{most_ops, most_turns}
 use Rattle.af_script.specs.Ops.{or_else, op_of, op_at, may_stand, in_place, closed, turn_of, fast_cycles}
 use Rattle.af_script.specs.Tree.{all_are, count_of}

@@ -1,8 +1,6 @@
 -- The grammar and the steps say the same of all bytes.
 use Rattle.std.proofs.Common.{◌≡◌, ◌↔◌, inl, inr, ℕ, List, [], ◌∷◌, ◌++◌, Option, Some, None, Result, Ok, Err, refl, sym, ap, ◌∙◌}
-use Rattle.std.specs.Prelude.{All, ok_or}
-use Rattle.std.proofs.lemmas.List.Elements.{All-nil, All-cons, All-head, All-tail}
-use Rattle.toml.specs.Data.{Members}
+use Rattle.af_script.proofs.Common.{All, All-cons, All-head, All-nil, All-tail, Members, ok_or}
 use Rattle.af_script.specs.Ops.{or_else}
 use Rattle.af_script.specs.Tree.{tree_of}
 use Rattle.af_script.specs.Data.{ScriptData}

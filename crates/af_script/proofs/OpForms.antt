@@ -1,10 +1,6 @@
 -- The forms of ops and turns that were read.
 use Rattle.std.proofs.Common.{◌≡◌, ℕ, ◌+◌, ◌-◌, ◌==◌, ◌≤◌, ◌<◌, ◌&&◌, ◌++◌, not, nat_le, Bool, true, false, List, [], ◌∷◌, length, length-append, codes, Option, Some, None, Result, Ok, Err, refl, ap, subst, ◌∙◌, arith, if◌then◌else◌}
-use Rattle.std.specs.Prelude.{All, IfSome, option_and_then}
-use Rattle.std.specs.Str.{bytes_eq}
-use Rattle.std.proofs.lemmas.Bool.Decides.{nat_tests}
-use Rattle.std.proofs.lemmas.List.Elements.{All-nil, All-cons, All-append}
-use Rattle.toml.specs.Data.{Data, Items, no_items, item, as_str}
+use Rattle.af_script.proofs.Common.{All, All-append, All-cons, All-nil, Data, IfSome, Items, as_str, bytes_eq, item, nat_tests, no_items, option_and_then}
 use Rattle.af_script.specs.Bounds.{most_gain, most_write, most_value, most_fast, header_words, command_frames, most_ops}
 use Rattle.af_script.specs.Ops.{words_of, plain_op, gain_of, write_of, poke_stream, poke_command, or_else, op_of, may_stand, in_place, op_at, is_remove, ends_with_remove, closed, end_with_remove, are_whole, client_of, fast_of, turn_of}
 use Rattle.af_script.specs.Tree.{count_of}

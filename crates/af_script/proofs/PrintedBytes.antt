@@ -1,12 +1,6 @@
 -- What is printed is text: its bytes are UTF-8.
 use Rattle.std.proofs.Common.{◌≡◌, ℕ, ◌+◌, ◌^◌, ◌<◌, ◌≤◌, nat_lt, Bool, true, false, List, [], ◌∷◌, ◌++◌, length, flat_map, codes, decimal, All, refl, arith, IsUtf8, IsAscii}
-use Rattle.std.specs.List.{list_all}
-use Rattle.std.specs.Str.{is_utf8}
-use Rattle.std.proofs.lemmas.Bool.{and_parts}
-use Rattle.std.proofs.lemmas.Bool.Decides.{nat_tests}
-use Rattle.std.proofs.lemmas.List.Elements.{All-head, All-tail, All-take}
-use Rattle.std.proofs.lemmas.Str.{IsUtf8-append, IsUtf8-from_ascii, is_utf8-from_IsUtf8}
-use Rattle.std.proofs.lemmas.Str.Ascii.{IsAscii-nil, IsAscii-cons}
+use Rattle.af_script.proofs.Common.{All-head, All-tail, All-take, IsAscii-cons, IsAscii-nil, IsUtf8-append, IsUtf8-from_ascii, and_parts, is_utf8, is_utf8-from_IsUtf8, list_all, nat_tests}
 use Rattle.af_script.specs.Tree.{key_text}
 use Rattle.af_script.specs.Form.{HasOpNumbers, IsTrack, IsScript}
 use Rattle.af_script.specs.Data.{ScriptData}

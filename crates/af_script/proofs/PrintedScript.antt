@@ -1,11 +1,6 @@
 -- The printed text of a script is read as that script.
 use Rattle.std.proofs.Common.{◌≡◌, ℕ, suc, ◌+◌, ◌-◌, ◌*◌, ◌≤◌, ◌==◌, ◌&&◌, nat_le, Bool, true, false, List, [], ◌∷◌, length, pos, Some, Result, Ok, All, refl, sym, ap, ◌∙◌, subst, arith}
-use Rattle.std.specs.Prelude.{ok_or, option_and_then}
-use Rattle.std.specs.Str.{is_utf8}
-use Rattle.std.proofs.lemmas.Bool.Decides.{nat_tests}
-use Rattle.std.proofs.lemmas.List.Elements.{All-head, All-tail, All-take}
-use Rattle.af_base.proofs.Basics.{is_within, positive_not_zero}
-use Rattle.toml.specs.Data.{string, Items, as_str, as_table}
+use Rattle.af_script.proofs.Common.{All-head, All-tail, All-take, Items, as_str, as_table, is_utf8, is_within, nat_tests, ok_or, option_and_then, positive_not_zero, string}
 use Rattle.af_script.specs.Bounds.{most_version, most_frames, most_normal, most_cycles, most_product, most_tracks, most_buffer, most_base, unity_scale, most_ops, most_turns}
 use Rattle.af_script.specs.Text.{is_name}
 use Rattle.af_script.specs.Tree.{tree_of, count_of, all_are}

@@ -1,13 +1,7 @@
 -- Words as a document writes them: in plain quotes, with no escape.
 use Rattle.std.proofs.Common.{◌≡◌, ℕ, ◌^◌, ◌<◌, ◌≤◌, ◌==◌, ◌&&◌, ◌||◌, not, Bool, true, false, List, [], ◌∷◌, ◌++◌, codes, decimal, refl, sym, ap, ◌∙◌, arith, if◌then◌else◌, IsUtf8, IsAscii}
-use Rattle.std.specs.Char.{is_ascii_digit}
-use Rattle.std.specs.List.{list_all, list_any}
-use Rattle.std.specs.Str.{is_utf8}
-use Rattle.std.proofs.lemmas.Bool.{and_parts}
-use Rattle.std.proofs.lemmas.Bool.Decides.{nat_tests}
+use Rattle.af_script.proofs.Common.{IsAscii-cons, IsAscii-nil, IsUtf8-from_ascii, IsUtf8-from_is_utf8, and_parts, is_ascii_digit, is_utf8, list_all, list_any, nat_tests}
 use Rattle.std.proofs.lemmas.List.Folds.{list_all-append}
-use Rattle.std.proofs.lemmas.Str.{IsUtf8-from_ascii, IsUtf8-from_is_utf8}
-use Rattle.std.proofs.lemmas.Str.Ascii.{IsAscii-nil, IsAscii-cons}
 use Rattle.toml_writer.specs.Text.{is_control, has, needs_escape, quotes_after, escaped, encoding_of, encoded, basic, string_text}
 use Rattle.af_script.specs.Bounds.{most_tracks}
 use Rattle.af_script.specs.Text.{is_name_byte, begins_name, is_name}

@@ -1,12 +1,9 @@
 -- The printed text of a script is a document of its tree.
 use Rattle.std.proofs.Common.{◌≡◌, ℕ, suc, ◌+◌, ◌^◌, ◌<◌, ◌≤◌, max, Bool, true, false, not, ◌&&◌, ◌||◌, List, [], ◌∷◌, ◌++◌, length, take, flat_map, codes, decimal, pos, Some, FitsSigned, All, refl, sym, ap, ◌∙◌, subst, arith, append_assoc, append-nil, if◌then◌else◌}
-use Rattle.std.specs.Int.{w64}
-use Rattle.std.proofs.lemmas.List.Elements.{All-nil, All-cons, All-head, All-tail, All-take}
+use Rattle.af_script.proofs.Common.{All-cons, All-head, All-nil, All-tail, All-take, Data, Items, Members, array, depth, has_valid_dates, integer, is_sorted, item, items_are_sorted, items_depth, items_have_valid_dates, member, members_are_sorted, members_depth, members_have_valid_dates, no_items, no_members, parse_document, string, table, w64}
 use Rattle.toml_writer.specs.Text as writer
-use Rattle.toml.specs.Data.{Data, string, integer, array, table, Items, no_items, item, Members, no_members, member, depth, items_depth, members_depth, has_valid_dates, items_have_valid_dates, members_have_valid_dates, is_sorted, items_are_sorted, members_are_sorted}
 use Rattle.toml.specs.Tables.{key_value, array_table, Expression}
 use Rattle.toml.specs.Text.{breaks_lines, IsValueText, IsItemsText, are_tables, has_items, is_section, pairs, sections, section, elements, expressions, IsLineText, IsLinesText, IsDocumentText}
-use Rattle.toml.specs.Parse.{parse_document}
 use Rattle.toml.proofs.ReadBack.{parse_document-printed}
 use Rattle.af_script.specs.Bounds.{most_tracks}
 use Rattle.af_script.specs.Tree.{key_text}
@@ -90,17 +87,7 @@ word_written text word = sym (quoted-word text word)
 bare : (id : KeyId) → writer.key_text (key_text id) ≡ key_text id
 unfolding writer.key_text
 bare key.Version = refl
-bare key.Frames = refl
-bare key.Normal = refl
-bare key.Cycles = refl
-bare key.Track = refl
-bare key.Turns = refl
-bare key.Kind = refl
-bare key.Channels = refl
-bare key.File = refl
-bare key.Ops = refl
-bare key.Base = refl
-bare key.Scale = refl
+bare _ = refl
 
 abbrev line_of : KeyId → Data → Expression
 line_of id d = (([], key_text id), key_value d)

@@ -1,13 +1,8 @@
 -- What is written for an op or a turn is read as that op or turn.
 use Rattle.std.proofs.Common.{◌≡◌, ℕ, zero, suc, ◌+◌, ◌-◌, ◌^◌, ◌<◌, ◌≤◌, ◌==◌, ◌&&◌, not, nat_le, Bool, true, false, List, [], ◌∷◌, ◌++◌, length, get_or, take, drop, add-one, Option, Some, None, codes, decimal, refl, sym, ap, ◌∙◌, arith, if◌then◌else◌}
-use Rattle.std.specs.Prelude.{option_and_then, option_map}
-use Rattle.std.specs.Char.{is_ascii_digit}
+use Rattle.af_script.proofs.Common.{after_first, and_parts, before_first, drop_at, is_ascii_digit, list_all, nat_tests, option_and_then, option_map, position_or_len, take_at}
 use Rattle.std.specs.Fmt.{digits}
-use Rattle.std.specs.List.{list_all, position_or_len, before_first, after_first}
-use Rattle.std.proofs.lemmas.Bool.{and_parts}
-use Rattle.std.proofs.lemmas.Bool.Decides.{nat_tests}
 use Rattle.std.proofs.lemmas.Fmt.{first_decimal, digits_decimal, digits_value-decimal}
-use Rattle.std.proofs.lemmas.List.{take_at, drop_at}
 use Rattle.std.proofs.Math.Nat.{pow-le-pow_right}
 use Rattle.af_script.specs.Bounds.{most_gain, most_write, most_value, most_fast, most_tracks, header_words, command_frames}
 use Rattle.af_script.specs.Text.{has_no_leading_zero, within, number_within, pair_within}

@@ -1,6 +1,6 @@
 -- What a script's table is read as: the first fault of its places, or the script that it means.
 use Rattle.std.proofs.Common.{◌≡◌, ℕ, ◌*◌, nat_le, true, List, ◌∷◌, ◌++◌, length, Option, Ok, sym, ap, ◌∙◌}
-use Rattle.toml.specs.Data.{Items, Members, as_str, as_table}
+use Rattle.af_script.proofs.Common.{Items, Members, as_str, as_table}
 use Rattle.af_script.specs.Bounds.{most_version, most_frames, most_normal, most_cycles, most_product, most_tracks}
 use Rattle.af_script.specs.Ops.{or_else}
 use Rattle.af_script.specs.Tree.{value_at, all_keys, is_top_key, all_are}

@@ -1,9 +1,6 @@
 -- What every script that was read keeps.
 use Rattle.std.proofs.Common.{◌≡◌, ℕ, ◌+◌, ◌*◌, ◌≤◌, ◌<◌, ◌==◌, ◌&&◌, nat_le, Bool, true, false, List, length, Option, Some, None, Result, Ok, Err, refl, subst, arith, if◌then◌else◌}
-use Rattle.std.specs.Prelude.{All, IfSome, ok_or, option_and_then, pos}
-use Rattle.std.proofs.lemmas.Bool.Decides.{nat_tests}
-use Rattle.af_base.proofs.Basics.{within_is}
-use Rattle.toml.specs.Data.{Data, Items, Members, as_str, as_table}
+use Rattle.af_script.proofs.Common.{All, Data, IfSome, Items, Members, as_str, as_table, nat_tests, ok_or, option_and_then, pos, within_is}
 use Rattle.af_script.specs.Bounds.{most_version, most_frames, most_normal, most_cycles, most_product, most_tracks, most_buffer, most_base, unity_scale, most_turns}
 use Rattle.af_script.specs.Text.{is_name}
 use Rattle.af_script.specs.Ops.{fast_cycles}

@@ -1,7 +1,6 @@
 -- What a track's table is read as: the first fault of its places, or the track that it means.
 use Rattle.std.proofs.Common.{◌≡◌, ℕ, ◌+◌, ◌==◌, Bool, List, ◌∷◌, length, map, Option, Result, Ok, ap, ◌∙◌, codes}
-use Rattle.std.specs.Str.{bytes_eq}
-use Rattle.toml.specs.Data.{Items, Members, as_str, as_table}
+use Rattle.af_script.proofs.Common.{Items, Members, as_str, as_table, bytes_eq}
 use Rattle.af_script.specs.Bounds.{most_buffer, most_base, unity_scale, most_ops}
 use Rattle.af_script.specs.Ops.{or_else, closed}
 use Rattle.af_script.specs.Tree.{value_at, all_keys, is_track_key}

@@ -1,9 +1,6 @@
 -- The ops of a track as they are written: each may stand where it is, and the reader adds the `remove` that is left out.
 use Rattle.std.proofs.Common.{◌≡◌, ◌⊎◌, inl, inr, ℕ, zero, suc, ◌+◌, ◌<◌, ◌≤◌, ◌==◌, not, Bool, true, false, List, [], ◌∷◌, ◌++◌, length, take, refl, sym, ap, ◌∙◌, subst, arith}
-use Rattle.std.proofs.lemmas.Bool.{cases_lt}
-use Rattle.std.proofs.lemmas.Bool.Decides.{nat_tests}
-use Rattle.std.proofs.lemmas.List.{take_all, length-take-le}
-use Rattle.af_base.proofs.Basics.{positive_not_zero}
+use Rattle.af_script.proofs.Common.{cases_lt, length-take-le, nat_tests, positive_not_zero, take_all}
 use Rattle.af_script.specs.Bounds.{most_ops}
 use Rattle.af_script.specs.Ops.{may_stand, is_remove, ends_with_remove, closed, end_with_remove, are_whole}
 use Rattle.af_script.specs.Printing.{written_ops}

@@ -1,15 +1,9 @@
 -- Lists that calls spell, and the values that they give.
 use Rattle.std.proofs.Common.{◌≡◌, Bool, true, false, if◌then◌else◌, ◌==◌, ◌/◌, ℕ, ◌+◌, ◌≤◌, min, arith, Option, Some, None, MatchOption, List, [], ◌∷◌, ◌++◌, refl, sym, ap, ◌∙◌, subst, append_assoc}
+use Rattle.af_server.proofs.Common.{IsServerList, ServerEvent, ServerIs, ServerKept, ServerPart, ServerSide, Shape, begins, flushes_by, kept_more, meets, rests, server_did, server_keeps, tallies}
 use Rattle.std.proofs.Math.Nat.{zero-div}
-use Rattle.af_base.specs.declared.event.ServerEvent.{ServerEvent}
 use Rattle.af_base.specs.declared.event.ServerEvent.TheVariants as server
-use Rattle.af_model.proofs.Basics.{kept_more}
-use Rattle.af_model.specs.ServerCalls.{ServerKept, server_keeps, IsServerList, flushes_by, begins, tallies, rests, meets}
-use Rattle.af_cblk.specs.declared.view.ServerPart.{ServerPart}
-use Rattle.af_model.specs.declared.shape.Shape.{Shape}
-use Rattle.af_cblk.specs.Parts.{server_did}
 use Rattle.af_cblk.specs.Rule.{new_server}
-use Rattle.af_cblk.specs.Sides.{ServerSide, ServerIs}
 use Rattle.af_server.specs.Order.{ServerState, Keeps, IsReady, server_kept_of, counted, IsInOrder}
 
 -- a count that ends at M goes on

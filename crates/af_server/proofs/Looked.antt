@@ -1,19 +1,9 @@
 -- What a look leaves in order.
 use Rattle.std.proofs.Common.{◌&&◌, ◌^◌, ◌≡◌, ℕ, ◌+◌, ◌≤◌, ◌<◌, min, Bool, true, false, true≢false, not, nat_lt, ◌==◌, ◌||◌, if◌then◌else◌, MatchOption, Option, Some, None, fold, List, [], ◌∷◌, ◌++◌, refl, sym, ap, ◌∙◌, subst, arith, append_assoc}
-use Rattle.af_base.specs.declared.event.ServerEvent.{ServerEvent}
+use Rattle.af_server.proofs.Common.{IsServerList, Seen, ServerEvent, ServerKept, ServerPart, Shape, ahead, ahead_of, dropped, dropped_by, drops_of, flush_position, flushes_by, front_stored, is_noticed, kept_more, look_at, look_events, looks, outside, server_keeps, server_kept, shown_by, three, took}
 use Rattle.af_base.specs.declared.event.ServerEvent.TheVariants as server
-use Rattle.af_base.specs.declared.seen.Seen.{Seen}
 use Rattle.af_base.specs.declared.seen.Seen.TheVariants as seen
-use Rattle.af_model.proofs.Basics.{kept_more, three}
-use Rattle.af_model.specs.declared.shape.Shape.{Shape}
 use Rattle.std.proofs.lemmas.Option.{none-some}
-use Rattle.af_model.specs.Point.{wrapped}
-use Rattle.af_model.specs.Room.{ahead, outside}
-use Rattle.af_model.specs.ServerCalls.{ServerKept, server_keeps, server_begins, server_kept, is_noticed, flushes_by, flush_position, past_front, dropped_by, look_at, drops_of, look_events, shown_by, IsServerList, looks}
-use Rattle.af_model.proofs.Logic.{LieOutside, server_outside}
-use Rattle.af_cblk.specs.declared.view.ServerPart.{ServerPart}
-use Rattle.af_cblk.specs.Parts.{front_stored, dropped, took, drop_front, MayStoreFront}
-use Rattle.af_cblk.proofs.Numbers.{ahead_of, ahead_is}
 use Rattle.af_server.proofs.Basics.{no_drop}
 use Rattle.af_server.specs.Order.{ServerState, Keeps, IsReady, server_kept_of, counted, IsInOrder}
 use Rattle.af_server.specs.Looks.{shut_of, saw_all, stored_front}
@@ -56,15 +46,6 @@ dropped_below w flush rear front = below_as w flush rear front (w == 0) (nat_lt 
 stored_ahead : (w flush rear front : ℕ) → ahead front (stored_front w flush rear front) ≡ dropped_by w flush rear front
 stored_ahead w flush rear front = ahead_of front (dropped_by w flush rear front) (dropped_below w flush rear front)
 
-stored_as : (w flush rear front : ℕ) → rear < 2 ^ 32 → (b : Bool)
-    → wrapped (front + (if b then ahead front rear else past_front front (flush_position w flush rear))) ≡ (if b then rear else wrapped (front + past_front front (flush_position w flush rear)))
-stored_as w flush rear front small true = ahead_is front rear small
-stored_as w flush rear front small false = refl
-
--- it is where the block lets a new flush drop to
-pub stored_is : (s : ServerPart) (flush rear front : ℕ) → rear < 2 ^ 32 → stored_front s.shape.wrap flush rear front ≡ drop_front (saw_all s flush rear front)
-stored_is s flush rear front small = stored_as s.shape.wrap flush rear front small (s.shape.wrap == 0)
-
 -- ## A new flush
 
 noticed_is : (s : ServerPart) (flush rear front : ℕ) (b : Bool) → s.noticed ≡ false → (flush == s.flush) ≡ b → (saw_all s flush rear front).noticed ≡ not b
@@ -74,14 +55,6 @@ noticed_is s flush rear front b settled is = ap (λ (x : Bool × Bool). x.0 || n
 is_new : (same fits : Bool) → (not same && fits) ≡ true → same ≡ false
 is_new true fits e = absurd (true≢false (sym e))
 is_new false fits e = refl
-
-pub may_drop : (c : ServerState) (flush rear front : ℕ) → IsInOrder c → c.shut ≡ None → rear < 2 ^ 32 → is_noticed c.pass.part.shape (not (flush == c.flush)) rear front ≡ true
-    → MayStoreFront (saw_all c.pass.part flush rear front) (stored_front c.pass.part.shape.wrap flush rear front)
-may_drop c flush rear front k unshut small new =
-    let s : ServerPart = c.pass.part in
-    let other : (flush == s.flush) ≡ false = ap (λ (n : ℕ). flush == n) (k.seen_is ∙ sym k.flush_is) ∙ is_new (flush == c.flush) _ new in
-    let noticed : (saw_all s flush rear front).noticed ≡ true = noticed_is s flush rear front false (k.settled unshut) other in
-    ((λ _. ((λ _. refl), (λ _. (refl, refl)), stored_is s flush rear front small)), (λ e. absurd (true≢false (sym noticed ∙ e))))
 
 pub discard_keeps : (c d : ServerState) (asked flush rear front : ℕ) → IsInOrder c → c.shut ≡ None → 1 ≤ asked → is_noticed c.pass.part.shape (not (flush == c.flush)) rear front ≡ true
     → d.pass.part ≡ front_stored (saw_all c.pass.part flush rear front) (stored_front c.pass.part.shape.wrap flush rear front)
@@ -182,14 +155,3 @@ judge_keeps c d asked flush rear front k unshut some none is flush_is flushes_is
     let shut' : d.shut ≡ shut_of sight = shut_is ∙ ap shut_of shows_is in
     subst (λ (x : ServerPart × ℕ × ℕ × ℕ × Option ℕ × ℕ × Option (ℕ × ℕ)). Keeps x.0 x.1 x.2 x.3 x.4 x.5 x.6)
     (λ i. (sym is i, sym flush_is i, sym flushes_is i, sym front_is i, sym shown' i, sym consumed_is i, sym shut' i)) done
-
--- ## Words that do not fit
-
--- the words that shut a proxy do not fit the block
-pub shut_outside : (c : ServerState) → IsInOrder c → LieOutside c.pass.part.shape.frames c.shut
-shut_outside c k =
-    subst (λ (o : Option (ℕ × ℕ)). LieOutside c.pass.part.shape.frames o) (sym k.shut_is) (server_outside c.pass.part.shape (server_begins c.pass.part.shape) c.pass.part.events tt)
-
--- the words of a Shut answer, which shut the proxy, do not fit the block
-pub answer_outside : (d : ServerState) (front rear : ℕ) → IsInOrder d → d.shut ≡ Some (front, rear) → d.pass.part.shape.frames < ahead front rear
-answer_outside d front rear k shut = subst (λ (o : Option (ℕ × ℕ)). LieOutside d.pass.part.shape.frames o) shut (shut_outside d k)

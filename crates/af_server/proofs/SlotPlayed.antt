@@ -1,13 +1,10 @@
 -- What the calls of a cycle on one server come to.
 use Rattle.std.proofs.Common.{◌≡◌, ℕ, Bool, Option, Some, None, MatchOption, is_some, if◌then◌else◌, List, [], ◌∷◌, ◌++◌, refl, sym, ap, subst, ◌∙◌, append_assoc, append-nil}
-use Rattle.af_base.specs.declared.event.ServerEvent.{ServerEvent}
+use Rattle.af_server.proofs.Common.{IsSeen, Seen, ServerEvent, TrackSlot, after_look, cycle_events, kept, look_at, look_events, shown_by}
 use Rattle.af_base.specs.declared.event.ServerEvent.TheVariants as server
 use Rattle.af_base.specs.declared.frame.Frame.{Frame}
 use Rattle.af_base.specs.declared.log.SlotEntry.{SlotEntry}
-use Rattle.af_base.specs.declared.seen.Seen.{Seen}
 use Rattle.af_base.specs.declared.seen.Seen.TheVariants as seen
-use Rattle.af_model.specs.Cycles.{IsSeen, TrackSlot, kept, after_look, cycle_events}
-use Rattle.af_model.specs.ServerCalls.{look_at, look_events, shown_by}
 use Rattle.af_server.specs.declared.look.Look.{Look}
 use Rattle.af_server.specs.Looks.{Looks, WithinAsk}
 use Rattle.af_server.specs.Order.{ServerState, IsInOrder, did}

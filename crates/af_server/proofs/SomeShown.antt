@@ -1,10 +1,7 @@
 -- What a look shows is something, and if it shows frames at least one.
 use Rattle.std.proofs.Common.{◌≡◌, ℕ, Bool, true, false, min, not, ◌==◌, nat_lt, if◌then◌else◌, Option, Some, None, MatchOption, ◌++◌, sym, subst}
-use Rattle.af_base.specs.declared.seen.Seen.{Seen}
+use Rattle.af_server.proofs.Common.{IsSeen, Seen, ahead, dropped_by, is_noticed, look_at, look_events, shown_by}
 use Rattle.af_base.specs.declared.seen.Seen.TheVariants as seen
-use Rattle.af_model.specs.Cycles.{IsSeen}
-use Rattle.af_model.specs.Room.{ahead}
-use Rattle.af_model.specs.ServerCalls.{look_at, look_events, shown_by, is_noticed, dropped_by}
 use Rattle.af_server.specs.declared.look.Look.{Look}
 use Rattle.af_server.specs.Looks.{Looks, WithinAsk}
 use Rattle.af_server.specs.Order.{ServerState}

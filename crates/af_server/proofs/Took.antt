@@ -1,12 +1,7 @@
 -- What a take leaves in order.
-use Rattle.std.proofs.Common.{◌≡◌, ◌≢◌, ℕ, ◌+◌, ◌%◌, ◌^◌, ◌≤◌, ◌<◌, Bool, true, false, true≢false, if◌then◌else◌, Option, Some, None, List, [], ◌∷◌, ◌++◌, length, take, refl, sym, ap, ◌∙◌, subst, arith}
+use Rattle.std.proofs.Common.{◌≡◌, ◌≢◌, ℕ, ◌+◌, ◌%◌, ◌^◌, ◌≤◌, ◌<◌, Bool, false, true≢false, if◌then◌else◌, Option, Some, None, List, [], ◌∷◌, ◌++◌, length, take, refl, sym, ap, ◌∙◌, subst}
+use Rattle.af_server.proofs.Common.{IsServerList, ServerKept, ServerPart, ahead, ahead_of, dropped, flushes_by, front_stored, kept_more, takes, took}
 use Rattle.af_base.specs.declared.event.ServerEvent.TheVariants as server
-use Rattle.af_model.proofs.Basics.{kept_more}
-use Rattle.af_model.specs.Room.{ahead}
-use Rattle.af_model.specs.ServerCalls.{ServerKept, IsServerList, flushes_by, takes}
-use Rattle.af_cblk.specs.declared.view.ServerPart.{ServerPart}
-use Rattle.af_cblk.specs.Parts.{front_stored, dropped, took, SawInOrder, MayStoreFront}
-use Rattle.af_cblk.proofs.Numbers.{ahead_of}
 use Rattle.af_server.specs.Order.{ServerState, Keeps, IsReady, server_kept_of, counted, IsInOrder}
 use Rattle.af_server.proofs.Kept.{fewer}
 
@@ -19,19 +14,6 @@ all_taken n (w ∷ words) is = subst (λ (z : ℕ). take z (w ∷ words) ≡ w �
 module _ (p s : ServerPart) (front n : ℕ) (words : List ℕ) (ready : IsReady p front n) (small : n < 2 ^ 32) (many : length words ≡ n) (loaded : s ≡ (record p { loaded = words })) where
   moved : ahead s.front ((front + n) % 2 ^ 32) ≡ n
   moved = ap (λ (x : ServerPart). ahead x.front ((front + n) % 2 ^ 32)) loaded ∙ ap (λ (z : ℕ). ahead z ((front + n) % 2 ^ 32)) ready.front_is ∙ ahead_of front n small
-
-  pub may_take : MayStoreFront s ((front + n) % 2 ^ 32)
-  may_take =
-      let unnoticed : s.noticed ≡ false = ap (λ (x : ServerPart). x.noticed) loaded ∙ ready.settled in
-      let fresh : s.fresh ≡ true = ap (λ (x : ServerPart). x.fresh) loaded ∙ ready.fresh in
-      let rear : ahead s.front s.rear ≡ ahead p.front p.rear = ap (λ (x : ServerPart). ahead x.front x.rear) loaded in
-      let all : length s.loaded ≡ n = ap (λ (x : ServerPart). length x.loaded) loaded ∙ many in
-      let move : ahead s.front ((front + n) % 2 ^ 32) ≡ n = moved in
-      let within : n ≤ ahead p.front p.rear = ready.within in
-      let saw : s.shape.wrap ≢ 0 → SawInOrder s = (λ placed.
-      let old : p.shape.wrap ≢ 0 = subst (λ (x : ServerPart). x.shape.wrap ≢ 0) loaded placed in
-      (ap (λ (x : ServerPart). x.rear_fresh) loaded ∙ ready.in_order old, fresh)) in
-      ((λ e. absurd (true≢false (sym e ∙ unnoticed))), (λ _. (fresh, (let e : ahead s.front ((front + n) % 2 ^ 32) ≤ ahead s.front s.rear = omega arith in e), (let e : ahead s.front ((front + n) % 2 ^ 32) ≤ length s.loaded = omega arith in e), saw)))
 
   pub took_is : front_stored s ((front + n) % 2 ^ 32)
       ≡ (record p { events = p.events ++ server.Take n ∷ []; frames = p.frames ++ words; front = (front + n) % 2 ^ 32; fresh = false; flush_fresh = false; rear_fresh = false; loaded = [] })

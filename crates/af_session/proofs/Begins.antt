@@ -1,36 +1,14 @@
 -- A new session: its parties are new, in order, and belong together.
 use Rattle.std.proofs.Common.{◌≡◌, ℕ, ◌*◌, ◌^◌, ◌≤◌, List, [], ◌∷◌, length, map, option_map, slice_get, Option, Some, None, refl, sym, ap, ◌∙◌, subst, arith}
-use Rattle.std.specs.Prelude.{All}
-use Rattle.std.proofs.lemmas.List.Elements.{All-map}
-use Rattle.std.proofs.lemmas.List.{length-map}
-use Rattle.std.proofs.lemmas.Option.{none-some, same_Some, slice_get-map, slice_get_within, get_or_from_slice_get}
-use Rattle.af_base.proofs.Basics.{some_at}
-use Rattle.af_cblk.specs.Sides.{Made}
-use Rattle.af_client.specs.Order.{ClientState}
-use Rattle.af_engine.specs.declared.ends.TrackEnds.{TrackEnds}
+use Rattle.af_session.proofs.Common.{All, All-map, AreClientsOf, AreTogether as AreEndsTogether, ClientState, EngineState, IsEngineTrack, IsMixerSpec, IsNewEngine, IsNewLine, IsNewTrack as IsNewOne, IsScript, IsTrack, Links, Made, MixerSpec, PartyState, ServerState, Shape, TrackEnds, TrackSpec, command_shape, get_or_from_slice_get, length-map, made_of, new_normal, none-some, same_Some, script_setup, setting_of, setup_of, slice_get-map, slice_get_within, some_at, spec_setting, stream_shape, tracks_of as tracks_in}
 use Rattle.af_engine.specs.declared.spec.EngineTrack.{EngineTrack}
-use Rattle.af_engine.specs.declared.spec.MixerSpec.{MixerSpec}
-use Rattle.af_engine.specs.Engines.{EngineState, AreTogether as AreEndsTogether}
-use Rattle.af_engine.specs.MixerSpecs.{IsEngineTrack, IsMixerSpec, setting_of, setup_of}
 use Rattle.af_engine.specs.NewEnds.{AreNewEnds, ends_of}
-use Rattle.af_engine.specs.NewEngine.{IsNewEngine, tracks_of as tracks_in}
-use Rattle.af_engine.specs.NewTracks.{IsNewLine, IsNewTrack as IsNewOne}
 use Rattle.af_engine.specs.Shares.{SharedState}
 use Rattle.af_engine.proofs.MoreTracks.{in_other_words}
-use Rattle.af_fast.specs.Mixer.{made_of}
 use Rattle.af_life.specs.declared.kept.Setting.{Setting}
-use Rattle.af_life.specs.Kept.{new_normal}
-use Rattle.af_link.specs.declared.links.Links.{Links}
-use Rattle.af_model.specs.declared.shape.Shape.{Shape}
 use Rattle.af_normal.specs.Making.{IsMade, TrackList}
 use Rattle.af_normal.specs.declared.make.TrackSetup.{TrackSetup}
-use Rattle.af_normal.specs.Meeting.{AreClientsOf}
-use Rattle.af_party.specs.Parties.{PartyState}
-use Rattle.af_runs.specs.Sessions.{command_shape, script_setup, spec_setting, stream_shape}
 use Rattle.af_script.specs.Data.{ScriptData}
-use Rattle.af_script.specs.Form.{IsScript, IsTrack}
-use Rattle.af_script.specs.declared.track.TrackSpec.{TrackSpec}
-use Rattle.af_server.specs.Order.{ServerState}
 use Rattle.af_session.specs.NewSession.{IsNewSession, IsSpecOf, tracks_of}
 use Rattle.af_session.specs.NewTracks.{AreNewClients, AreNewTracks, IsClientOf, IsNewTrack, engine_track}
 use Rattle.af_session.specs.Together.{AreTogether, SessionState}

@@ -1,8 +1,6 @@
 -- The meetings of a round, and the ends of its clients, carry on what its turns did.
 use Rattle.std.proofs.Common.{◌≡◌, ℕ, ◌+◌, ◌++◌, ◌∷◌, [], length, sym, ap, subst, ◌∙◌}
-use Rattle.af_base.specs.Log.{Logged}
-use Rattle.af_fast.specs.Mixer.{IsInOrder, MixerState}
-use Rattle.af_model.specs.Journals.{RoundNoted}
+use Rattle.af_session.proofs.Common.{IsInOrder, IsTally, Logged, MixerState, RoundNoted, Shown, Tallied}
 use Rattle.af_session.proofs.Following.{shown_met}
 use Rattle.af_session.proofs.FollowingRounds.{ends_keep}
 use Rattle.af_session.proofs.Ready.{ready_ends}
@@ -13,8 +11,6 @@ use Rattle.af_session.specs.Rooms.{CarriesOn, IsReadyOn, given_of}
 use Rattle.af_session.specs.Rounds.{with_ends}
 use Rattle.af_session.specs.Shown.{FollowsRound, HasPlaces, shown_at}
 use Rattle.af_session.specs.Together.{SessionState}
-use Rattle.af_tally.specs.Summaries.{Shown}
-use Rattle.af_tally.specs.Tallies.{IsTally, Tallied}
 
 module _ (s played met t : SessionState) (meets : Met played met) (long : length met.clients ≡ length played.clients) (ends : t ≡ with_ends met) where
   same_fast : t.fast ≡ met.fast

@@ -1,19 +1,9 @@
 -- The turn of a client in a session: what it may ask for, and what it leaves.
 use Rattle.std.proofs.Common.{◌≡◌, ℕ, ◌+◌, ◌<◌, ◌≤◌, ◌^◌, List, [], length, get_or, slice_get, slice_set, Some, refl, sym, ap, subst, ◌∙◌, arith}
-use Rattle.std.proofs.lemmas.List.{get_or_default}
-use Rattle.std.proofs.lemmas.Option.{slice_get_read}
-use Rattle.af_base.specs.declared.frame.Frame.{Frame}
-use Rattle.af_runs.specs.ClientTurns.{LegalClientTurn, after_calls}
-use Rattle.af_link.specs.declared.links.Links.{Links}
-use Rattle.af_model.specs.Journals.{RoundNoted}
-use Rattle.af_normal.specs.Meeting.{AreClientsOf}
-use Rattle.af_script.specs.declared.op.Op.{Op}
+use Rattle.af_session.proofs.Common.{AreClientsOf, CanWork, Frame, LegalClientTurn, Links, Op, PartyState, RoundNoted, TrackSpec, after_calls, get_or_default, slice_get_read, track_of}
 use Rattle.af_script.specs.declared.op.TurnSpec.TheVariants as spec
-use Rattle.af_script.specs.declared.track.TrackSpec.{TrackSpec}
-use Rattle.af_party.specs.Parties.{PartyState, track_of}
 use Rattle.af_session.specs.Rounds.{Given, IsReady, Turns, client_round, file_at, ops_at, ops_of}
 use Rattle.af_session.specs.Together.{SessionState}
-use Rattle.af_party.specs.Works.{CanWork}
 use Rattle.af_session.proofs.Ready.{ready_client}
 
 module _ (links : Links) (g : Given) (s : SessionState) (i : ℕ) (p : PartyState) (t : TrackSpec) (ops : List Op) (pcm file : List Frame) (lt : i < length s.clients)

@@ -1,27 +1,10 @@
 -- What the cycles of a fast turn add to the log and to the sound.
 use Rattle.std.proofs.Common.{◌≡◌, ℕ, zero, suc, ◌+◌, ◌≤◌, ◌==◌, ◌||◌, if◌then◌else◌, ne_eqb, Bool, true, false, true≢false, All, List, [], ◌∷◌, ◌++◌, length, refl, sym, ap, subst, ◌∙◌, append-nil, append_assoc, eqb-true, arith}
+use Rattle.af_session.proofs.Common.{AddsCycle, Adopts, All-append, All-cons, All-nil, Cycle, CycleEntry, FastState, Frame, Grows, IsMixed, IsWhole, LieWithin, Logged, MixerState, MixesOnce, Roomy, Writes, adopted_states, cold_done, count_seen, entries_pcm, entry_pcm, entry_slot, flat_map-cons, grows_not, grows_on, is_mixed, is_over, length-append, log_grows, mix, pcm_bytes, same_if, slots, state_of, taken_before, taken_up, takes_of, written}
 use Rattle.af_model.proofs.Basics.{mixes_state}
-use Rattle.af_runs.proofs.Basics.{taken_up}
-use Rattle.std.proofs.lemmas.List.{length-append}
-use Rattle.std.proofs.lemmas.List.Concat.{flat_map-cons}
-use Rattle.std.proofs.lemmas.List.Elements.{All-append, All-cons, All-nil}
-use Rattle.af_base.specs.declared.frame.Frame.{Frame}
-use Rattle.af_base.specs.declared.log.Cycle.{Cycle}
-use Rattle.af_base.specs.declared.log.CycleEntry.{CycleEntry}
-use Rattle.af_base.specs.declared.state.FastState.{FastState}
-use Rattle.af_base.specs.Log.{slots, Logged, count_seen, entry_slot, takes_of}
-use Rattle.af_base.specs.Mix.{mix}
-use Rattle.af_base.specs.Roomy.{Roomy}
-use Rattle.af_base.specs.Sample.{pcm_bytes}
-use Rattle.af_runs.specs.Pcm.{LieWithin, entries_pcm, entry_pcm, written}
-use Rattle.af_model.specs.Cycles.{cold_done, is_mixed, state_of, taken_before}
-use Rattle.af_fast.specs.Mixer.{MixerState, adopted_states, is_over}
-use Rattle.af_fast.specs.Mixing.{AddsCycle, Adopts, MixesOnce, Writes}
 use Rattle.af_session.specs.FastTurns.{IsCycle, IsFastTurn, TurnAdds, Turned, WritesCycle}
 use Rattle.af_session.specs.Met.{Met}
-use Rattle.af_tally.specs.Sound.{Grows, IsMixed, IsWhole, pcm_of}
 use Rattle.af_session.specs.Together.{SessionState}
-use Rattle.af_tally.proofs.Sounding.{log_grows, grows_not, grows_on, same_if}
 
 -- ## Where the frames of a new entry stand
 
@@ -198,18 +181,6 @@ turn_adds (suc left) s s' bytes whole (answer, next, front, back, cycle, bytes_a
 -- a turn that put its bytes behind others adds what its cycles do
 pub turned_by : (count : ℕ) (s s' : SessionState) (bytes bytes' : Roomy ℕ) (added : List ℕ) → IsWhole s.fast.log → bytes' ≡ record bytes { items = bytes.items ++ added } → IsFastTurn count s added s' → Turned count s s' bytes bytes'
 turned_by count s s' bytes bytes' added whole grown turn = record { added = added; written_is = grown; turn = turn; adds = turn_adds count s s' added whole turn }
-
--- after a turn the log is no shorter than before
-pub entries_more : (count : ℕ) (s s' : SessionState) (bytes bytes' : Roomy ℕ) → Turned count s s' bytes bytes' → length s.fast.log.entries ≤ length s'.fast.log.entries
-entries_more count s s' bytes bytes' t = omega (arith, ap length t.adds.grows.entries ∙ length-append s.fast.log.entries (t.adds.mixes ++ t.adds.last))
-
--- if the bytes, behind those that went out before, were the sound of the log, they are so again after a turn
-pub sounds_again : (count : ℕ) (s s' : SessionState) (bytes bytes' : Roomy ℕ) (before : List ℕ) → Turned count s s' bytes bytes' → before ++ bytes.items ≡ pcm_of s.fast.frames s.fast.log → before ++ bytes'.items ≡ pcm_of s.fast.frames s'.fast.log
-sounds_again count s s' bytes bytes' before t same =
-    ap (λ (y : Roomy ℕ). before ++ y.items) t.written_is
-    ∙ sym (append_assoc before bytes.items t.added)
-    ∙ ap (λ (l : List ℕ). l ++ t.added) same
-    ∙ sym t.adds.grows.sound
 
 -- after the meetings the frames that the log's mixes name still lie in the log
 pub whole_met : (a b : SessionState) → Met a b → IsWhole a.fast.log → IsWhole b.fast.log

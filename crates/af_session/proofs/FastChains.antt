@@ -1,15 +1,8 @@
 -- How the cycles of a fast turn are a chain, from its beginning on.
 use Rattle.std.proofs.Common.{◌≡◌, ℕ, suc, ◌+◌, ◌-◌, ◌*◌, ◌<◌, ◌≤◌, if◌then◌else◌, Bool, true, false, true≢false, List, [], ◌∷◌, ◌++◌, length, refl, sym, ap, subst, ◌∙◌, append-nil, append_assoc, arith}
+use Rattle.af_session.proofs.Common.{Cycle, Frame, Roomy, flat_map-cons, frame_bytes, is_mixed, length-append, pcm_bytes, written}
 use Rattle.std.proofs.Math.Nat.{add-zero, mul-le-mul_right}
-use Rattle.std.proofs.lemmas.List.{length-append}
-use Rattle.std.proofs.lemmas.List.Concat.{flat_map-cons}
-use Rattle.af_base.specs.declared.frame.Frame.{Frame}
-use Rattle.af_base.specs.declared.log.Cycle.{Cycle}
-use Rattle.af_base.specs.Roomy.{Roomy}
-use Rattle.af_base.specs.Sample.{frame_bytes, pcm_bytes}
-use Rattle.af_model.specs.Cycles.{is_mixed}
 use Rattle.af_session.specs.FastTurns.{IsFastTurn, WritesCycle}
-use Rattle.af_runs.specs.Pcm.{written}
 use Rattle.af_session.specs.Together.{SessionState}
 
 -- After i cycles that wrote `front` the parties are `now`: what the other cycles do from there on completes the turn

@@ -1,41 +1,17 @@
 -- How what a run shows follows the cycles of the fast mixer.
 use Rattle.std.proofs.Common.{◌≡◌, ℕ, ◌+◌, ◌-◌, ◌^◌, ◌<◌, ◌≤◌, ◌==◌, ◌||◌, ◌⊎◌, inl, inr, ⊎_elim, eqb-true, if◌then◌else◌, Bool, true, false, All, List, [], ◌∷◌, ◌++◌, length, map, Option, Some, None, refl, sym, ap, subst, ◌∙◌, append-nil, append_assoc, arith}
-use Rattle.std.proofs.lemmas.List.{map-append, length_push, get_or_push}
-use Rattle.std.proofs.lemmas.List.Concat.{flat_map-append, flat_map-cons}
-use Rattle.std.proofs.lemmas.List.Elements.{All-head, All-tail}
-use Rattle.af_base.specs.declared.event.ClientCall.{ClientCall}
-use Rattle.af_base.specs.declared.frame.Frame.{Frame}
-use Rattle.af_base.specs.declared.log.Cycle.{Cycle}
-use Rattle.af_base.specs.declared.log.CycleEntry.{CycleEntry}
-use Rattle.af_base.specs.declared.state.FastState.{FastState}
-use Rattle.af_base.specs.Log.{slots, entry_at, no_entry, takes_of}
-use Rattle.af_base.specs.Mix.{Take, mix}
-use Rattle.af_base.specs.Turn.{Turn}
-use Rattle.af_runs.proofs.Basics.{state_more}
-use Rattle.af_runs.specs.Pcm.{LieWithin}
+use Rattle.af_session.proofs.Common.{AddsCycle, Adopts, All-head, All-tail, ClientCall, Cycle, CycleEntry, EntryUsed, FastState, Frame, IsInOrder, IsTally, IsWhole, Keeps, LieWithin, MixerState, MixesOnce, RoundNoted, ServerState, Shown, Take, Tallied, Turn, UseUpTo, Writes, entry_at, flat_map, flat_map-append, flat_map-cons, get_or_push, is_mixed, is_over, last_used, length_push, map-append, mix, most_steps, no_entry, polled_states, slots, state_more, state_of, takes_of, takes_stay, with_entry, with_written}
 use Rattle.af_model.specs.declared.plain_calls.Poll.{Poll}
 use Rattle.af_model.specs.declared.plain_calls.Poll.TheVariants.{Nothing, Same, New}
 use Rattle.af_model.specs.declared.states.ObserverEvent.{ObserverEvent}
 use Rattle.af_model.specs.declared.states.ObserverEvent.TheVariants.{SawNext, Ack}
 use Rattle.af_model.specs.declared.states.ObserverEvent.TheVariants as observer
-use Rattle.af_model.specs.Cycles.{UseUpTo, is_mixed, last_used, state_of}
-use Rattle.af_model.specs.Journals.{RoundNoted}
-use Rattle.af_server.specs.Order.{ServerState}
 use Rattle.af_stateq.specs.Answers.{WasPolled}
-use Rattle.af_stateq.specs.Laws.{polled_states}
 use Rattle.af_stateq.specs.Observes.{Observes}
 use Rattle.af_link.specs.declared.names.StreamNames.{StreamNames}
-use Rattle.af_fast.specs.Mixer.{IsInOrder, MixerState, is_over}
-use Rattle.af_fast.specs.Mixing.{AddsCycle, Adopts, MixesOnce, Writes}
 use Rattle.af_session.specs.Met.{Met}
 use Rattle.af_session.specs.Shown.{Follows, HasPlaces, frames_written, shown_at, shows, use_of}
-use Rattle.af_tally.specs.Sound.{IsWhole}
-use Rattle.af_tally.specs.Steps.{most_steps}
-use Rattle.af_tally.specs.Summaries.{EntryUsed, Shown, with_entry, with_written}
-use Rattle.af_tally.specs.Tallies.{Tallied, IsTally, Keeps, most_looks}
 use Rattle.af_session.specs.Together.{SessionState}
-use Rattle.af_tally.proofs.Sounding.{takes_stay}
-use Rattle.std.specs.List.{flat_map}
 
 -- the frames that an entry wrote, at this length of a cycle: those of its mix, from the frames of its log
 abbrev entry_written : ℕ → List Frame → CycleEntry → List Frame
@@ -213,10 +189,6 @@ shown_still first tracks rounds m m' same = ap (shown_at first tracks rounds) sa
 
 -- ## Cycles
 
--- a tally that follows the fast mixer from a to b and from b to c follows it from a to c
-pub follows_on : (a b c : MixerState) (x y z : Tallied) → Follows a b x y → Follows b c y z → Follows a c x z
-follows_on a b c x y z p q = λ first tracks rounds is. q first tracks rounds (p first tracks rounds is)
-
 -- a tally follows a cycle if it follows the mix of the cycle
 pub follows_cycle : (s : SessionState) (p : MixerState) (met : SessionState) (m' : MixerState) (x y : Tallied) → IsInOrder s.fast → IsInOrder p → Adopts s.fast p → Met (record s { fast = p }) met → Follows met.fast m' x y → Follows s.fast m' x y
 follows_cycle s p met m' x y order polled adopts meets mixes = λ first tracks rounds is.
@@ -285,11 +257,3 @@ module _ (m m' : MixerState) (out out' : List Frame) (answer : Cycle) (mixes : M
 
     pub places_kept : (x : Tallied) (n tracks : ℕ) → HasPlaces n tracks (length m.log.entries) x → HasPlaces n tracks (length m'.log.entries) x
     places_kept x n tracks p = subst (λ (k : ℕ). HasPlaces n tracks k x) (sym (still_long is_still)) p
-
--- the tally has room for the looks of one entry more
-pub room_more : (m : MixerState) (x : Tallied) (n tracks : ℕ) → IsInOrder m → n ≤ 100000 → HasPlaces n tracks (length m.log.entries) x → x.looks + slots ≤ most_looks
-room_more m x n tracks order few p = let looks = p.looks in omega (arith, few, order.room.entries.0, order.room.sized.2)
-
--- a tally has counted fewer than 2^32 cycles
-pub cycles_few : (m : MixerState) (x : Tallied) (n tracks : ℕ) → IsInOrder m → HasPlaces n tracks (length m.log.entries) x → x.cycles < 2 ^ 32
-cycles_few m x n tracks order p = let cycles = p.cycles in omega (arith, order.room.entries.0, order.room.sized.2)

@@ -1,35 +1,14 @@
 -- How what a run shows follows the rounds.
 use Rattle.std.proofs.Common.{◌≡◌, ◌≢◌, ℕ, zero, suc, ◌+◌, ◌-◌, ◌<◌, ◌≤◌, Bool, true, false, if◌then◌else◌, List, [], ◌∷◌, ◌++◌, length, length-set, map, replicate, slice_get, slice_set, Option, Some, None, refl, sym, ap, subst, ◌∙◌, ⊎_elim, append-nil, arith}
-use Rattle.std.specs.Prelude.{slice_index_or}
-use Rattle.std.specs.List.{range_with_len, flat_map}
-use Rattle.std.proofs.lemmas.Bool.{cases_eq}
-use Rattle.std.proofs.lemmas.List.{get_or-set_same, get_or-set_other, length-map, length-replicate, map-append}
-use Rattle.std.proofs.lemmas.List.Concat.{flat_map-append, flat_map-cons}
+use Rattle.af_session.proofs.Common.{ClientCall, CycleEntry, FastState, Frame, IsTally, Keeps, MixerState, NormalState, PartyState, RoundNoted, Shown, Tallied, Turn, TurnEntry, cases_eq, flat_map, flat_map-append, flat_map-cons, get_or-set_other, get_or-set_same, get_set_same, length-map, length-replicate, map-append, map_same, polled_states, range_with_len, slice_get-map, slice_get_cases, slice_index_or, slots, turn_of, with_calls, with_turn}
 use Rattle.std.proofs.lemmas.List.FromFn.{fill_by_all, get_or-map-range_with_len, length-map-range_with_len}
-use Rattle.std.proofs.lemmas.Option.{slice_get-map, slice_get_cases}
-use Rattle.af_base.proofs.Basics.{get_set_same}
-use Rattle.af_base.specs.declared.event.ClientCall.{ClientCall}
-use Rattle.af_base.specs.declared.frame.Frame.{Frame}
-use Rattle.af_base.specs.declared.log.CycleEntry.{CycleEntry}
-use Rattle.af_base.specs.declared.state.FastState.{FastState}
-use Rattle.af_base.specs.declared.turn.TurnEntry.{TurnEntry}
-use Rattle.af_base.specs.Log.{slots}
-use Rattle.af_base.specs.Turn.{Turn, turn_of}
-use Rattle.af_model.specs.Journals.{RoundNoted}
 use Rattle.af_session.proofs.Basics.{calls_end}
-use Rattle.af_stateq.specs.Laws.{polled_states}
-use Rattle.af_fast.specs.Mixer.{MixerState}
-use Rattle.af_normal.specs.State.{NormalState}
 use Rattle.af_script.specs.declared.op.TurnSpec.{TurnSpec}
 use Rattle.af_script.specs.declared.op.TurnSpec.TheVariants as spec
 use Rattle.af_session.specs.Met.{Met}
-use Rattle.af_party.specs.Parties.{PartyState}
 use Rattle.af_session.specs.Rounds.{calls_in, client_round, end_party, fast_round, normal_round, round_told, still_round, with_ends}
 use Rattle.af_session.specs.Shown.{Follows, FollowsRound, HasPlaces, calls_over, shown_at, shows, turn_in}
-use Rattle.af_tally.specs.Summaries.{Shown, with_calls, with_turn}
-use Rattle.af_tally.specs.Tallies.{IsTally, Keeps, Tallied}
 use Rattle.af_session.specs.Together.{SessionState}
-use Rattle.af_tally.proofs.Sounding.{map_same}
 
 -- the calls of all clients, round by round
 abbrev pub AllCalls : Type 0
@@ -242,11 +221,3 @@ places_more n tracks entries places a b few keeps p = record {
 -- a tally to which a round added nothing has the places of one round more
 pub places_still : (n tracks entries : ℕ) (a : Tallied) → HasPlaces n tracks entries a → HasPlaces (n + 1) tracks entries a
 places_still n tracks entries a p = record { tracks_are = p.tracks_are; looks = (let old = p.looks in omega arith); cycles = p.cycles }
-
--- a tally to which a cycle added an entry has the places of one entry more
-pub places_entry : (n tracks entries : ℕ) (a b c : Tallied) → Keeps slots 1 a b → Keeps 0 0 b c → HasPlaces n tracks entries a → HasPlaces n tracks (entries + 1) c
-places_entry n tracks entries a b c first second p = record {
-  tracks_are = second.tracks ∙ first.tracks ∙ p.tracks_are;
-  looks = (let old = p.looks in let more = first.looks in let last = second.looks in omega arith);
-  cycles = (let old = p.cycles in let more = first.cycles in let last = second.cycles in omega arith);
-}

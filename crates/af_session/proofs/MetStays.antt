@@ -1,14 +1,7 @@
 -- What a meeting leaves of a client: all but its lists of events.
 use Rattle.std.proofs.Common.{◌≡◌, ℕ, List, Option, Some, None, refl, sym, subst, ◌∙◌}
-use Rattle.af_cblk.specs.Sides.{HandSide, Made, client_made}
-use Rattle.af_client.specs.Order.{ClientState}
-use Rattle.af_normal.specs.Meeting.{MeetsStream, client_knows}
-use Rattle.af_script.specs.declared.op.Op.{Op}
-use Rattle.af_server.specs.Order.{ServerState}
-use Rattle.af_engine.specs.Met.{MeetsAway, Spot, SpotMet}
+use Rattle.af_session.proofs.Common.{CanWork, ClientState, HandSide, Made, MeetsAway, MeetsStream, Op, PartyState, ServerState, Spot, SpotMet, client_knows, client_made}
 use Rattle.af_session.specs.Met.{TrackMet}
-use Rattle.af_party.specs.Parties.{PartyState}
-use Rattle.af_party.specs.Works.{CanWork}
 
 -- the client's proxy learnt something, and is as before in all else
 abbrev pub HasLearnt : ClientState → ClientState → Type 0

@@ -1,12 +1,7 @@
 -- The parties are together after the meeting of one track.
 use Rattle.std.proofs.Common.{◌≡◌, ℕ, List, length, length-set, slice_get, slice_set, Some, sym, ap, ◌∙◌}
-use Rattle.af_engine.proofs.MetTracks.{all_at_set}
-use Rattle.af_fast.specs.Mixer.{MixerState, IsLinked, IsInOrder as IsFastInOrder}
-use Rattle.af_link.specs.declared.links.Links.{Links}
-use Rattle.af_normal.specs.Meeting.{AreClientsOf}
+use Rattle.af_session.proofs.Common.{AreClientsOf, IsInOrder as IsFastInOrder, IsLinked, Links, MixerState, NormalState, PartyState, all_at_set}
 use Rattle.af_normal.specs.Order.{IsInOrder as IsNormalInOrder}
-use Rattle.af_normal.specs.State.{NormalState}
-use Rattle.af_party.specs.Parties.{PartyState}
 use Rattle.af_session.specs.Together.{AreTogether}
 
 pub still_together : (links : Links) (clients : List PartyState) (m m' : NormalState) (f f' : MixerState) (n : ℕ) (p q : PartyState) → AreTogether links (record { clients = clients; normal = m; fast = f }) → slice_get clients n ≡ Some p

@@ -1,16 +1,7 @@
 -- The clients of the ends of a mixer.
-use Rattle.std.proofs.Common.{◌≡◌, ℕ, ◌<◌, ◌⊎◌, inl, inr, List, [], ◌∷◌, ◌++◌, length, slice_get, Some, refl, sym, ◌∙◌, subst, arith}
-use Rattle.std.proofs.lemmas.Bool.{cases_eq}
-use Rattle.std.proofs.lemmas.List.{length-append}
-use Rattle.std.proofs.lemmas.Option.{none-some, same_Some, slice_get_within}
-use Rattle.af_base.proofs.Basics.{at_before, at_last, some_at}
-use Rattle.af_engine.specs.declared.ends.TrackEnds.{TrackEnds}
-use Rattle.af_party.specs.Parties.{PartyState}
+use Rattle.std.proofs.Common.{◌≡◌, ℕ, ◌<◌, ◌⊎◌, inl, inr, List, [], ◌∷◌, ◌++◌, length, slice_get, Some, sym, ◌∙◌, subst, arith}
+use Rattle.af_session.proofs.Common.{PartyState, TrackEnds, at_before, at_last, cases_eq, length-append, same_Some, slice_get_within, some_at}
 use Rattle.af_session.specs.NewTracks.{AreNewClients, IsClientOf}
-
--- without ends there are no clients
-pub no_clients : AreNewClients [] []
-no_clients = record { count = refl; each = λ i e p none at. absurd (none-some e none) }
 
 -- one client more, with its ends
 module _ (ends : List TrackEnds) (clients : List PartyState) (e : TrackEnds) (p : PartyState) (before : AreNewClients ends clients) (one : IsClientOf e p) where

@@ -1,30 +1,14 @@
 -- A client that has done nothing can do its work.
 use Rattle.std.proofs.Common.{◌≡◌, ℕ, ◌≤◌, true, false, List, [], ◌∷◌, length, map, drop, sym, ap, subst, arith}
-use Rattle.std.specs.Prelude.{All}
-use Rattle.std.proofs.lemmas.List.Elements.{All-nil}
-use Rattle.af_base.specs.declared.event.ClientCall.{ClientCall}
-use Rattle.af_base.specs.declared.frame.Frame.{Frame}
-use Rattle.af_base.specs.Roomy.{Roomy}
-use Rattle.af_base.specs.Sample.{packed_word}
-use Rattle.af_cblk.specs.Shape.{IsShape, most_flushes}
+use Rattle.af_session.proofs.Common.{All, All-nil, CanWork, ClientCall, Frame, HasOpNumbers, IsFitting, IsFittingOp, IsNewClient, IsShape, IsTrack, Op, PartyState, Roomy, Shape, Side, TrackSpec, cells_of, command_shape, flushes_due, flushes_to_come, frames_due, frames_to_come, most_flushes, new_side, packed_word, side_of_proxy, stream_shape, track_of}
 use Rattle.af_cblk.specs.declared.view.ClientPart.{ClientPart}
 use Rattle.af_cblk.proofs.Flushes.{most-many}
 use Rattle.af_cblk.proofs.Sized.{wrapped_by}
-use Rattle.af_model.specs.declared.shape.Shape.{Shape}
 use Rattle.af_runs.specs.Clients.{Client, new_client as new_wants}
-use Rattle.af_runs.specs.ClientTurns.{Side, new_side}
 use Rattle.af_runs.specs.Kept.{client_of}
 use Rattle.af_runs.specs.declared.want.Want.{Want}
-use Rattle.af_script.specs.Form.{HasOpNumbers, IsTrack}
-use Rattle.af_script.specs.Ops.{cells_of}
-use Rattle.af_script.specs.declared.op.Op.{Op}
 use Rattle.af_script.specs.declared.op.Op.TheVariants as op
-use Rattle.af_script.specs.declared.track.TrackSpec.{TrackSpec}
-use Rattle.af_engine.specs.NewTracks.{IsNewClient}
 use Rattle.af_session.specs.NewTracks.{IsNewParty, first_track}
-use Rattle.af_runs.specs.Sessions.{stream_shape, command_shape}
-use Rattle.af_party.specs.Parties.{PartyState, side_of_proxy, track_of}
-use Rattle.af_party.specs.Works.{CanWork, IsFitting, IsFittingOp, frames_due, frames_to_come, flushes_due, flushes_to_come}
 
 abbrev side_of_part : ClientPart → Side
 side_of_part part = record { shape = part.shape; events = part.events; released = part.frames }

@@ -1,12 +1,8 @@
 -- The turn of the normal mixer in a session, and of the fast mixer.
 use Rattle.std.proofs.Common.{◌≡◌, ℕ, Bool, List, [], true, false, refl, sym, subst}
+use Rattle.af_session.proofs.Common.{NormalState, Outside, RoundNoted, TurnMade, answer_of, turn_of}
 use Rattle.std.specs.Bool.{MatchBool}
-use Rattle.af_base.specs.Turn.{turn_of}
-use Rattle.af_life.specs.Kept.{Outside}
-use Rattle.af_model.specs.Journals.{RoundNoted}
 use Rattle.af_normal.specs.LegalTurned.{IsLegal}
-use Rattle.af_normal.specs.State.{NormalState}
-use Rattle.af_normal.specs.TurnMade.{TurnMade, answer_of}
 use Rattle.af_script.specs.declared.op.TurnSpec.TheVariants as spec
 use Rattle.af_session.specs.FastTurns.{IsFastTurn}
 use Rattle.af_session.specs.Rounds.{Given, Turns, fast_round, normal_round, still_round}

@@ -1,7 +1,6 @@
 -- A tally that follows the fast mixer over two steps.
+use Rattle.af_session.proofs.Common.{MixerState, Tallied}
 use Rattle.af_session.specs.Rooms.{HasNotedOn}
-use Rattle.af_fast.specs.Mixer.{MixerState}
-use Rattle.af_tally.specs.Tallies.{Tallied}
 
 -- a tally follows a mixer that did nothing
 pub noted_so_far : (m : MixerState) (t : Tallied) → HasNotedOn m m t t

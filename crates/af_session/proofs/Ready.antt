@@ -1,26 +1,12 @@
 -- What each turn and each meeting leaves ready for the next round.
 use Rattle.std.proofs.Common.{◌≡◌, ◌≢◌, ℕ, zero, suc, ◌+◌, ◌<◌, ◌≤◌, ◌⊎◌, inl, inr, Bool, true, false, if◌then◌else◌, List, [], length, length-set, map, option_map, slice_get, slice_set, Option, Some, None, refl, sym, ap, subst, ◌∙◌, ⊎_elim, arith}
-use Rattle.std.proofs.lemmas.List.{length-map}
-use Rattle.std.proofs.lemmas.Bool.{cases_eq}
-use Rattle.std.proofs.lemmas.Option.{none-some, same_Some, slice_get-map, slice_get_within, slice_get_cases}
-use Rattle.af_base.proofs.Basics.{get_set_other, get_set_same}
-use Rattle.af_base.specs.declared.log.Cycle.{Cycle}
-use Rattle.af_client.specs.Order.{ClientState}
-use Rattle.af_link.specs.declared.links.Links.{Links}
-use Rattle.af_life.specs.Kept.{Setup}
-use Rattle.af_model.specs.Cycles.{is_mixed}
-use Rattle.af_normal.specs.Meeting.{AreClientsOf}
+use Rattle.af_session.proofs.Common.{AreClientsOf, CanWork, ClientState, Cycle, IsWhole, Links, NormalState, Op, PartyState, Setup, cases_eq, get_set_other, get_set_same, is_mixed, length-map, none-some, proxies_of, same_Some, slice_get-map, slice_get_cases, slice_get_within, spot_of}
 use Rattle.af_normal.specs.Order.{IsInOrder as IsNormalInOrder}
-use Rattle.af_normal.specs.State.{NormalState, setup_of}
-use Rattle.af_script.specs.declared.op.Op.{Op}
+use Rattle.af_normal.specs.State.{setup_of}
 use Rattle.af_session.specs.FastTurns.{IsFastTurn, WritesCycle}
-use Rattle.af_engine.specs.Met.{proxies_of, spot_of}
 use Rattle.af_session.specs.Met.{Met}
-use Rattle.af_party.specs.Parties.{PartyState}
 use Rattle.af_session.specs.Rounds.{Given, IsReady, end_party, file_at, ops_at, with_ends}
-use Rattle.af_tally.specs.Sound.{IsWhole}
 use Rattle.af_session.specs.Together.{SessionState, AreTogether}
-use Rattle.af_party.specs.Works.{CanWork}
 use Rattle.af_party.proofs.CanWorkOn.{work_end}
 use Rattle.af_session.proofs.FastAdds.{met_keeps, whole_met}
 use Rattle.af_session.proofs.MetStays.{command_learnt, work_met}

@@ -1,12 +1,7 @@
 -- The sizes of new blocks.
 use Rattle.std.proofs.Common.{◌≡◌, ℕ, ◌*◌, ◌≤◌, ◌==◌, if◌then◌else◌, refl, ap, ◌∙◌, arith}
-use Rattle.af_cblk.specs.Shape.{IsShape}
-use Rattle.af_engine.specs.NewTracks.{IsCommandShape, IsStreamShape}
-use Rattle.af_model.specs.declared.shape.Shape.{Shape}
-use Rattle.af_script.specs.Ops.{cells_of}
-use Rattle.af_script.specs.declared.track.TrackSpec.{TrackSpec}
+use Rattle.af_session.proofs.Common.{IsCommandShape, IsShape, IsStreamShape, Shape, TrackSpec, cells_of, command_shape, stream_shape}
 use Rattle.af_script.proofs.Cells.{cells_of-next}
-use Rattle.af_runs.specs.Sessions.{stream_shape, command_shape}
 use Rattle.af_session.specs.NewTracks.{engine_track}
 
 -- two shapes are the same if each of their sizes is

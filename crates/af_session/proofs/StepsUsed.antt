@@ -1,14 +1,9 @@
 -- The steps of a cycle by the state that it used.
 use Rattle.std.proofs.Common.{◌≡◌, ℕ, zero, suc, ◌+◌, ◌*◌, ◌≤◌, if◌then◌else◌, Bool, false, None, refl, sym, ap, subst, ◌∙◌, arith}
-use Rattle.af_base.specs.declared.state.FastState.{FastState}
-use Rattle.af_base.specs.Log.{slots}
-use Rattle.af_model.specs.Cycles.{state_of}
+use Rattle.af_session.proofs.Common.{CarriesNone, FastState, IsInOrder, MixerState, most_steps, polled_states, slots, state_of, tracks_used}
 use Rattle.af_model.specs.StateQueue.{carries}
 use Rattle.af_model.specs.Tracks.{tracks_below, tracks_of}
-use Rattle.af_stateq.specs.Laws.{polled_states}
 use Rattle.af_stateq.specs.Shelved.{no_state}
-use Rattle.af_fast.specs.Mixer.{CarriesNone, IsInOrder, MixerState}
-use Rattle.af_tally.specs.Steps.{most_steps, tracks_used}
 
 -- one for a slot that has a track
 abbrev one_for : Bool → ℕ

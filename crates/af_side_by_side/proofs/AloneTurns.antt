@@ -1,19 +1,9 @@
 -- The cycles of a turn of the fast mixer alone: how they are a chain, and what they add to the log and to the sound.
 use Rattle.std.proofs.Common.{◌≡◌, ℕ, zero, suc, ◌+◌, ◌-◌, ◌<◌, Bool, true, false, true≢false, List, [], ◌++◌, refl, sym, ap, subst, ◌∙◌, append-nil, append_assoc, arith}
+use Rattle.af_side_by_side.proofs.Common.{AddsOne, All-nil, Cycle, IsMixed, IsWhole, Links, Logged, MatchBool, MixerState, Roomy, adds_last, adds_more, is_mixed, mix_adds, pcm_of, polled_keeps, written}
 use Rattle.std.proofs.Math.Nat.{add-zero}
-use Rattle.std.specs.Bool.{MatchBool}
-use Rattle.std.proofs.lemmas.List.Elements.{All-nil}
-use Rattle.af_base.specs.declared.log.Cycle.{Cycle}
-use Rattle.af_base.specs.Log.{Logged}
-use Rattle.af_base.specs.Roomy.{Roomy}
-use Rattle.af_model.specs.Cycles.{is_mixed}
-use Rattle.af_fast.specs.Mixer.{MixerState}
-use Rattle.af_link.specs.declared.links.Links.{Links}
 use Rattle.af_side_by_side.specs.Alone.{CyclesOn, CyclesOnce, FastTurned, most_cycles}
 use Rattle.af_session.specs.FastTurns.{TurnAdds}
-use Rattle.af_tally.specs.Sound.{IsMixed, IsWhole, pcm_of}
-use Rattle.af_runs.specs.Pcm.{written}
-use Rattle.af_session.proofs.FastAdds.{AddsOne, adds_last, adds_more, mix_adds, polled_keeps}
 use Rattle.af_tally.proofs.Sounding.{grows_not}
 
 -- ## A chain

@@ -1,14 +1,9 @@
 -- What a client is given for its turn: the ops of its track, and the frames of its file.
 use Rattle.std.proofs.Common.{◌≡◌, ℕ, ◌<◌, List, [], length, get_or, refl, sym, ap, subst, ◌∙◌}
-use Rattle.std.proofs.lemmas.List.{get_or_default}
-use Rattle.std.proofs.lemmas.Option.{slice_get_read}
-use Rattle.af_base.specs.declared.frame.Frame.{Frame}
-use Rattle.af_party.specs.Parties.{PartyState, track_of}
-use Rattle.af_party.specs.Works.{CanWork}
+use Rattle.af_side_by_side.proofs.Common.{CanWork, Frame, Given, PartyState, file_at, get_or_default, ops_at, ops_of, slice_get_read, track_of}
 use Rattle.af_runs.specs.ClientTurns.{LegalClientTurn, after_calls}
 use Rattle.af_script.specs.declared.op.Op.{Op}
 use Rattle.af_script.specs.declared.track.TrackSpec.{TrackSpec}
-use Rattle.af_session.specs.Rounds.{Given, file_at, ops_at, ops_of}
 use Rattle.af_side_by_side.specs.SideBySide.{ClientPlayed}
 
 module _ (g : Given) (p : PartyState) (n : ℕ) (same : n ≡ p.track) (t : TrackSpec) (ops : List Op) (pcm file : List Frame) (there : (p.track < length g.tracks) × (p.track < length g.files))

@@ -1,3 +1,4 @@
+pub mod Common
 pub mod AloneTurns
 pub mod Zips
 pub mod ReadyOfAll

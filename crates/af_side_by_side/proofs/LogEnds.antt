@@ -1,17 +1,8 @@
 -- What is read of a log behind the last meeting.
 use Rattle.std.proofs.Common.{◌≡◌, ℕ, ◌≤◌, Option, Some, List, [], ◌∷◌, ◌++◌, length, refl, sym, ap, subst, ◌∙◌, append-nil, arith, length-append}
-use Rattle.af_model.specs.Journals.{JournalData}
+use Rattle.af_side_by_side.proofs.Common.{AreInOrder, HasDrained, JournalData, Note, ReaderState, WriterState, accepted, read}
 use Rattle.af_nblog.proofs.Basics.{last_of}
-use Rattle.af_nblog.specs.declared.entries.Note.{Note}
-use Rattle.af_nblog.specs.NoteEnds.{WriterState, ReaderState, AreInOrder, accepted, read}
-use Rattle.af_nblog.specs.NoteRounds.{HasDrained}
-use Rattle.af_side_by_side.specs.Logging.{AuditorState, HasAudited, HasEnds, HasLogOf, HasMetLog, IsAuditor, LoggingState}
-
--- the auditor can read what is left
-pub can_finish : (frames room : ℕ) (j : JournalData) (l : LoggingState) → HasLogOf frames room j l → IsAuditor l.log l.auditor
-can_finish frames room j l h =
-    subst (λ o. IsAuditor o l.auditor) (sym h.ends.log)
-    (h.ends.reader, h.ends.auditor, h.ends.made.1, (let space = h.space in let is = h.room_is in omega (arith, space, is)), h.kept)
+use Rattle.af_side_by_side.specs.Logging.{AuditorState, HasAudited, HasEnds, HasLogOf, HasMetLog, LoggingState}
 
 -- if as many notes were read as were accepted, they are the same notes
 none_left : (xs ys : List Note) → AreInOrder xs ys → length xs ≤ length ys → ys ≡ xs

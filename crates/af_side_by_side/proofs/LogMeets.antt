@@ -1,8 +1,7 @@
 -- The two ends of a log met.
-use Rattle.std.proofs.Common.{◌≡◌, Option, Some, None, refl, ap, subst, ◌∙◌}
-use Rattle.af_cblk.specs.Sides.{Made}
-use Rattle.af_nblog.specs.NoteEnds.{WriterState, ReaderState, writer_made, reader_made}
-use Rattle.af_side_by_side.specs.Logging.{AuditorState, HasMetLog, LoggingState, NotesMet, no_log}
+use Rattle.std.proofs.Common.{◌≡◌, Option, Some, None, ap, subst, ◌∙◌}
+use Rattle.af_side_by_side.proofs.Common.{Made, ReaderState, WriterState, reader_made, writer_made}
+use Rattle.af_side_by_side.specs.Logging.{AuditorState, HasMetLog, LoggingState, NotesMet}
 
 -- an option that is None is not Some
 none_some : {X : Type 0} (o : Option X) (x : X) → o ≡ None → o ≡ Some x → ⊥
@@ -33,7 +32,3 @@ met_log l l' block w w' r r' log scribe auditor made_w made_r met log' scribe' a
         subst (λ (x : Made × (WriterState × ReaderState)). NotesMet x.0 x.1.0 w' x.1.1 r') (λ i. (block_is i, (writer_is i, reader_is i))) met,
       ));
 }
-
--- if no log is kept, the meeting changes nothing
-pub met_none : (l : LoggingState) → no_log l → HasMetLog l l
-met_none l none = record { none = (λ _. refl); some = (λ block a. absurd (none_some l.log block none.0 a.log)) }

@@ -1,17 +1,7 @@
 -- The entries that a scribe notes, one after the other.
 use Rattle.std.proofs.Common.{◌≡◌, ℕ, zero, suc, ◌+◌, ◌≤◌, Bool, true, false, List, [], ◌∷◌, ◌++◌, length, drop, refl, sym, ap, ◌∙◌, subst, arith, append_assoc, length-append}
-use Rattle.std.proofs.Math.Seq.{drop-append_seam}
-use Rattle.std.proofs.lemmas.List.{append-nil, drop-append-le, length-drop}
-use Rattle.af_base.specs.declared.log.CycleEntry.{CycleEntry}
-use Rattle.af_base.specs.Log.{entry_at}
+use Rattle.af_side_by_side.proofs.Common.{CycleEntry, HasNoted, MixerState, Note, Noted, NotedBy, Refused, Sent, WriterState, accepted, append-nil, drop-append-le, drop-append_seam, entry_at, kept, length-drop, note_of, refusals, writer_made}
 use Rattle.af_cblk.specs.declared.view.ClientPart.{ClientPart}
-use Rattle.af_fast.specs.Mixer.{MixerState}
-use Rattle.af_nblog.specs.declared.entries.Note.{Note}
-use Rattle.af_nblog.specs.declared.writing.Noted.{Noted}
-use Rattle.af_nblog.specs.declared.writing.Noted.TheVariants.{Sent, Refused}
-use Rattle.af_nblog.specs.Notes.{note_of}
-use Rattle.af_nblog.specs.NoteEnds.{WriterState, NotedBy, accepted, kept, refusals, writer_made}
-use Rattle.af_nblog.specs.NoteRounds.{HasNoted}
 use Rattle.af_side_by_side.specs.Logging.{Logs, count_refused, notes_kept}
 
 -- ## One entry

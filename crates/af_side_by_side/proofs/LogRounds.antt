@@ -1,19 +1,7 @@
 -- A log goes on by a round: the entries of the round were noted, the other party read, and the two ends met.
 use Rattle.std.proofs.Common.{◌≡◌, ℕ, ◌+◌, ◌≤◌, Bool, MatchOption, Option, Some, None, List, [], ◌∷◌, ◌++◌, length, drop, sym, ap, ◌∙◌, subst, arith, length-append, inl, inr}
-use Rattle.std.specs.List.{flat_map}
-use Rattle.std.proofs.Math.Seq.{drop-append_seam}
-use Rattle.std.proofs.lemmas.List.{append-nil, map-append}
+use Rattle.af_side_by_side.proofs.Common.{All-append, All-cons, All-nil, AreInOrder, CycleEntry, HasDrained, IsBetween, Logged, Made, MixerState, Note, ReaderState, Roomy, RoundNoted, WriterState, accepted, append-nil, drop-append_seam, flat_map, map-append, read, reader_made}
 use Rattle.std.proofs.lemmas.List.Concat.{flat_map-append}
-use Rattle.std.proofs.lemmas.List.Elements.{All-append, All-cons, All-nil}
-use Rattle.af_base.specs.declared.log.CycleEntry.{CycleEntry}
-use Rattle.af_base.specs.Log.{Logged}
-use Rattle.af_base.specs.Roomy.{Roomy}
-use Rattle.af_cblk.specs.Sides.{Made}
-use Rattle.af_fast.specs.Mixer.{MixerState}
-use Rattle.af_model.specs.Journals.{RoundNoted}
-use Rattle.af_nblog.specs.declared.entries.Note.{Note}
-use Rattle.af_nblog.specs.NoteEnds.{WriterState, ReaderState, AreInOrder, accepted, read, reader_made}
-use Rattle.af_nblog.specs.NoteRounds.{HasDrained, IsBetween}
 use Rattle.af_side_by_side.specs.Alone.{most_cycles}
 use Rattle.af_side_by_side.specs.Logging.{AreEnds, AuditorState, HasBothLogged, HasEnds, HasMetLog, IsAuditor, IsLogged, IsScribe, LoggingState, Logs, LogsPlay, ScribeState, count_refused, no_log, notes_kept}
 use Rattle.af_side_by_side.proofs.LogNotes.{kept_count, kept_more, refused_more}

@@ -1,18 +1,8 @@
 -- What a journal notes of a round of all parties is the same after the meetings.
 use Rattle.std.proofs.Common.{◌≡◌, ℕ, ◌-◌, ◌<◌, if◌then◌else◌, Bool, true, false, List, [], ◌∷◌, length, map, option_map, slice_get, Some, None, refl, sym, ap, ◌∙◌, arith}
-use Rattle.std.proofs.lemmas.List.{length-map, same_lists}
-use Rattle.std.proofs.lemmas.Option.{get_or_from_slice_get, slice_get-map, slice_get_within}
-use Rattle.af_base.proofs.Basics.{some_at}
-use Rattle.af_base.specs.declared.event.ClientCall.{ClientCall}
-use Rattle.af_base.specs.Log.{Logged}
-use Rattle.af_base.specs.Turn.{turn_of}
-use Rattle.af_normal.specs.State.{NormalState}
+use Rattle.af_side_by_side.proofs.Common.{ClientCall, Logged, NormalState, PartyState, SessionState, end_party, get_or_from_slice_get, length-map, met_keeps, same_lists, slice_get-map, slice_get_within, some_at, turn_of, with_ends}
 use Rattle.af_session.specs.Met.{Met}
-use Rattle.af_party.specs.Parties.{PartyState}
-use Rattle.af_session.specs.Rounds.{end_party, with_ends}
 use Rattle.af_side_by_side.specs.SideBySide.{all_noted}
-use Rattle.af_session.specs.Together.{SessionState}
-use Rattle.af_session.proofs.FastAdds.{met_keeps}
 
 -- the calls of a client's last turn
 abbrev calls_of : PartyState → List ClientCall

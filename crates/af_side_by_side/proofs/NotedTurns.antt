@@ -1,25 +1,10 @@
 -- How what a run shows follows a round of all parties.
 use Rattle.std.proofs.Common.{◌≡◌, ◌≢◌, ℕ, zero, suc, ◌+◌, ◌<◌, ◌≤◌, Bool, true, false, if◌then◌else◌, List, [], ◌∷◌, ◌++◌, length, length-set, map, option_map, get_or, slice_set, Option, Some, None, refl, sym, ap, subst, ◌∙◌, ⊎_elim, arith}
-use Rattle.std.specs.Prelude.{slice_index_or}
-use Rattle.std.specs.List.{range_with_len}
+use Rattle.af_side_by_side.proofs.Common.{AllCalls, ClientCall, CycleEntry, Follows, FollowsRound, Frame, IsTally, MixerState, PartyState, RoundNoted, SessionState, Shown, Tallied, Turn, calls, calls_more, calls_of, calls_over, get_or-set_other, get_or-set_same, get_or_from_slice_get, range_with_len, shown_at, shown_round, shows, shows_tracks, slice_get-get_or, slice_get-map, slice_index_or, states, turn_of, turns, turns_more, turns_still, with_calls, with_turn}
 use Rattle.std.proofs.lemmas.Bool.{cases_eq}
-use Rattle.std.proofs.lemmas.Option.{get_or_from_slice_get, slice_get-get_or, slice_get-map}
-use Rattle.std.proofs.lemmas.List.{get_or-set_same, get_or-set_other}
 use Rattle.std.proofs.lemmas.List.FromFn.{fill_by_all, get_or-map-range_with_len, length-map-range_with_len}
-use Rattle.af_base.specs.declared.event.ClientCall.{ClientCall}
-use Rattle.af_base.specs.declared.frame.Frame.{Frame}
-use Rattle.af_base.specs.declared.log.CycleEntry.{CycleEntry}
 use Rattle.af_base.specs.declared.state.FastState.{FastState}
-use Rattle.af_base.specs.Turn.{Turn, turn_of}
-use Rattle.af_model.specs.Journals.{RoundNoted}
-use Rattle.af_fast.specs.Mixer.{MixerState}
-use Rattle.af_party.specs.Parties.{PartyState}
-use Rattle.af_session.specs.Shown.{Follows, FollowsRound, calls_over, shown_at, shows}
 use Rattle.af_side_by_side.specs.SideBySide.{all_noted, with_all_calls, with_turn_if}
-use Rattle.af_tally.specs.Summaries.{Shown, calls_of, with_calls, with_turn}
-use Rattle.af_tally.specs.Tallies.{IsTally, Tallied}
-use Rattle.af_session.specs.Together.{SessionState}
-use Rattle.af_session.proofs.FollowingRounds.{AllCalls, calls_more, shown_round, shows_tracks, turns_more, turns_still, states, calls, turns}
 
 -- the calls of the first i clients were noted, and nothing else
 record NotedTo (made : List (List ClientCall)) (i : ℕ) (run run' : Shown) : Type 0 where

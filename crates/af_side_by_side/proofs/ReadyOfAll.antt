@@ -1,23 +1,10 @@
 -- What all parties have for a round in which they make their turns at once, and what they leave.
-use Rattle.std.proofs.Common.{◌≡◌, ℕ, ◌+◌, ◌<◌, ◌^◌, Bool, true, false, List, [], ◌∷◌, length, get_or, slice_get, Option, Some, None, MatchOption, IsSomeAnd, All, Vec, refl, sym, ap, subst, ◌∙◌, arith}
-use Rattle.std.specs.Bool.{MatchBool}
-use Rattle.std.specs.List.{AllZip}
-use Rattle.std.specs.Vec.{with_items}
-use Rattle.std.proofs.lemmas.List.{with_items_is}
-use Rattle.std.proofs.lemmas.Option.{slice_get-get_or, slice_get_within}
+use Rattle.std.proofs.Common.{◌≡◌, ℕ, ◌+◌, ◌<◌, ◌^◌, Bool, true, false, List, [], ◌∷◌, length, get_or, slice_get, Option, Some, None, MatchOption, IsSomeAnd, All, refl, sym, ap, subst, ◌∙◌, arith}
+use Rattle.af_side_by_side.proofs.Common.{AllZip, CanCycle, CanWork, Given, IsReady, Links, MatchBool, NormalState, PartyState, Roomy, SessionState, file_at, ops_at, setup_of, slice_get-get_or, slice_get_within, zip_long}
 use Rattle.std.proofs.lemmas.Slice.Zip.{AllZip-right}
-use Rattle.af_base.proofs.Basics.{zip_long}
-use Rattle.af_session.specs.Rooms.{CanCycle}
-use Rattle.af_base.specs.Roomy.{Roomy}
 use Rattle.af_life.specs.Kept.{Setup}
-use Rattle.af_link.specs.declared.links.Links.{Links}
 use Rattle.af_normal.specs.Meeting.{AreClientsOf}
-use Rattle.af_normal.specs.State.{NormalState, setup_of}
-use Rattle.af_party.specs.Parties.{PartyState}
-use Rattle.af_session.specs.Rounds.{Given, IsReady, file_at, ops_at}
 use Rattle.af_side_by_side.specs.SideBySide.{AllPlayed, CanMixOn, CanTurn, ClientPlayed, HasCycledOn, HasMixedOn, HasTurned, NormalPlayed, TurnPlayed}
-use Rattle.af_session.specs.Together.{SessionState}
-use Rattle.af_party.specs.Works.{CanWork}
 
 -- ## Lists that are related place by place
 
@@ -37,14 +24,6 @@ zip_weaker R S f [] [] zip = zip
 zip_weaker R S f [] (y ∷ ys) zip = absurd zip
 zip_weaker R S f (x ∷ xs) [] zip = absurd zip
 zip_weaker R S f (x ∷ xs) (y ∷ ys) zip = (f x y zip.0, zip_weaker R S f xs ys zip.1)
-
--- so are a list and what stands in a Vec behind what was written over it as a slice
-pub zip_back : {X Z : Type 0} (R : X → X → Type 0) (v : Vec X Z) (was xs ys : List X) → xs ≡ v.items → v.items ≡ was → AllZip R xs ys → AllZip R was (with_items v ys).items
-zip_back {X} R v was xs ys here is zip =
-    let long : length ys ≡ length xs = zip_long R xs ys zip in
-    let same : length xs ≡ length v.items = ap length here in
-    let back : (with_items v ys).items ≡ ys = with_items_is v ys (let o = v.ok.0 in omega arith) in
-    subst (λ (l : List X). AllZip R l (with_items v ys).items) (here ∙ is) (subst (AllZip R xs) (sym back) zip)
 
 -- ## Before the turns
 

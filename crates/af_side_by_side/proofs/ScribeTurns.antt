@@ -1,20 +1,12 @@
 -- What the scribe of a log notes of the cycles of a turn.
 use Rattle.std.proofs.Common.{◌≡◌, ℕ, ◌-◌, ◌<◌, ◌≤◌, ◌==◌, ◌||◌, Bool, true, false, MatchOption, Option, Some, None, List, [], ◌∷◌, ◌++◌, length, refl, sym, ap, subst, ◌∙◌, eqb-true, append-nil, arith}
-use Rattle.std.proofs.lemmas.List.{get_or_push, length-append, length_push}
-use Rattle.af_base.specs.declared.frame.Frame.{Frame}
-use Rattle.af_base.specs.declared.log.Cycle.{Cycle}
-use Rattle.af_base.specs.declared.log.CycleEntry.{CycleEntry}
-use Rattle.af_base.specs.Log.{Logged, entry_at, no_entry}
-use Rattle.af_fast.specs.Mixer.{MixerState, adopted_states, is_over}
+use Rattle.af_side_by_side.proofs.Common.{Cycle, CycleEntry, Frame, Links, Logged, MixerState, WriterState, adopted_states, entry_at, get_or_push, is_over, length-append, length_push, no_entry, polled_keeps}
 use Rattle.af_fast.specs.Mixing.{MixesOnce}
 use Rattle.af_fast.specs.Slots.{found}
-use Rattle.af_link.specs.declared.links.Links.{Links}
 use Rattle.af_model.specs.JournalForm.{is_spent}
 use Rattle.af_model.proofs.EntryForms.{entry_form}
-use Rattle.af_nblog.specs.NoteEnds.{WriterState}
 use Rattle.af_side_by_side.specs.Alone.{CyclesOnce}
 use Rattle.af_side_by_side.specs.Logging.{HasLogged, Logs, ScribeState}
-use Rattle.af_session.proofs.FastAdds.{polled_keeps}
 use Rattle.af_side_by_side.proofs.LogNotes.{logged_more, logged_none}
 
 -- ## What a cycle adds

@@ -1,14 +1,8 @@
 -- What the turns of all parties at once leave, by what each party did.
 use Rattle.std.proofs.Common.{◌≡◌, ℕ, List, length, subst}
-use Rattle.std.specs.List.{AllZip}
-use Rattle.af_fast.specs.Mixer.{MixerState}
-use Rattle.af_link.specs.declared.links.Links.{Links}
-use Rattle.af_normal.specs.State.{NormalState}
-use Rattle.af_session.specs.declared.room.Room.{Room}
-use Rattle.af_session.specs.Together.{SessionState}
+use Rattle.af_side_by_side.proofs.Common.{AllZip, HasAdded, HasNotedOn, KeepsRoom, KeepsSizes, KeepsSound, Links, MixerState, NormalState, Room, SessionState, StaysReadyOn, given_of}
 use Rattle.af_side_by_side.proofs.ReadyOfAll.{played_by_all, ready_of_all}
 use Rattle.af_side_by_side.specs.Logging.{HasBothLogged, LoggingState}
-use Rattle.af_session.specs.Rooms.{HasAdded, HasNotedOn, KeepsRoom, KeepsSizes, KeepsSound, StaysReadyOn, given_of}
 use Rattle.af_side_by_side.specs.TurnsInRoom.{MixersPlayed}
 use Rattle.af_side_by_side.specs.SideBySide.{AllPlayed, HasTurned}
 use Rattle.af_session.specs.declared.rig.Rig.{Rig}

@@ -1,6 +1,6 @@
 -- Two lists that are related place by place, joined end to end.
 use Rattle.std.proofs.Common.{List, [], ◌∷◌, ◌++◌, ◌≡◌, subst}
-use Rattle.std.specs.List.{AllZip}
+use Rattle.af_side_by_side.proofs.Common.{AllZip}
 
 -- lists that are related place by place stay so when they are joined end to end
 AllZip-append : {X : Type 0} (R : X → X → Type 0) (a b c d : List X) → AllZip R a c → AllZip R b d → AllZip R (a ++ b) (c ++ d)

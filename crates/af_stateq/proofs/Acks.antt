@@ -1,8 +1,6 @@
 -- What the mutator has after a look at the acknowledgement.
 use Rattle.std.proofs.Common.{◌≡◌, ◌≢◌, ℕ, zero, suc, ◌<◌, ◌==◌, ◌&&◌, not, if◌then◌else◌, true, false, Bool, List, [], ◌∷◌, length, Option, None, is_some, replicate, refl, ap, sym, ◌∙◌, subst, arith, eq-eqb, ne_eqb}
-use Rattle.std.proofs.lemmas.List.{get_or-replicate}
-use Rattle.af_base.proofs.Basics.{never_true, not_both}
-use Rattle.af_model.specs.StateQueue.{slots, has}
+use Rattle.af_stateq.proofs.Common.{get_or-replicate, has, never_true, not_both, slots}
 use Rattle.af_stateq.specs.Shelved.{word, nothing}
 use Rattle.af_stateq.specs.Ends.{Pushes, saw, SawAcked}
 use Rattle.af_stateq.specs.Mutates.{Mutates, at, InDraft, SlotIn, IsJoined}

@@ -1,9 +1,8 @@
 -- Acts that take or give all shelves at once.
 use Rattle.std.proofs.Common.{◌≡◌, ℕ, zero, suc, ◌+◌, ◌<◌, List, [], ◌∷◌, ◌++◌, length, map, drop, set, get_or, refl, ap, ◌∙◌, arith, length-set}
+use Rattle.af_stateq.proofs.Common.{Act, Valid, carried_after, chain, drop_at, gives, homes_after, keeps, rest, set_else, set_here, takes}
 use mathlib.Core.Option as maybe
 use lib.ListN.{get_elem?}
-use Rattle.atomic_table.specs.Table.{Act, rest, keeps, takes, gives, chain, carried_after, homes_after, Valid}
-use Rattle.atomic_table.proofs.Lists.{set_here, set_else, drop_at}
 use Rattle.af_stateq.specs.declared.cell.Slot.{Slot}
 use Rattle.af_stateq.specs.Shelved.{slots_from}
 

@@ -1,21 +1,15 @@
 -- Each step of the queue is allowed, and tells what its caller relies on.
 use Rattle.std.proofs.Common.{◌≡◌, ◌≢◌, ℕ, ◌+◌, ◌<◌, ◌==◌, ◌&&◌, not, if◌then◌else◌, Bool, true, false, true≢false, List, [], ◌∷◌, ◌++◌, length, set, get_or, sym, refl, ap, ◌∙◌, subst, arith, Some, None, Option, eq-eqb, ne_eqb}
-use Rattle.af_base.proofs.Basics.{and_false, some_same}
+use Rattle.af_stateq.proofs.Common.{Ack, Act, AllFit, Allows, AreOf, FastState, FitAt, HasHistory, SawNext, State, Valid, and_false, brought, carried_after, chain, drop-set-lt, gives, homes_after, keeps, rest as left, set_else, slots, some_same, step, stepped, takes}
 use mathlib.Core.Option as maybe
 use lib.ListN.{get_elem?}
-use Rattle.std.proofs.lemmas.List.{drop-set-lt}
-use Rattle.atomic_table.specs.Table.{State, step, Act, keeps, takes, gives, chain, rest as left, carried_after, homes_after, Valid, stepped, Allows}
-use Rattle.atomic_table.proofs.Lists.{set_else}
-use Rattle.af_base.specs.declared.state.FastState.{FastState}
 use Rattle.af_stateq.specs.declared.cell.Slot.{Slot}
 use Rattle.af_stateq.specs.declared.rule.Basis.{Basis}
 use Rattle.af_stateq.specs.declared.view.View.{View}
 use Rattle.af_stateq.specs.declared.view.Mutating.{Mutating}
 use Rattle.af_stateq.specs.declared.view.Observing.{Observing}
 use Rattle.af_model.specs.declared.states.MutatorEvent.TheVariants as mutator
-use Rattle.af_model.specs.declared.states.ObserverEvent.TheVariants.{SawNext, Ack}
 use Rattle.af_model.specs.declared.states.ObserverEvent.TheVariants as observer
-use Rattle.af_model.specs.StateQueue.{slots, AreOf, AllFit, FitAt, brought, HasHistory}
 use Rattle.af_stateq.proofs.Acts.{takes_all, gives_all, carried_takes, takes_else, length_takes, takes_valid, gives_valid, carried_gives, gives_else, same_shelves}
 use Rattle.af_stateq.specs.Shelved.{cell, word, cells, shelves, items_on, Phase, quiet, shown, taken, known_by, InPhase, Kept, Seated, saw_mutating, brings, saw_ack, push_mutating, pushed, saw_next, acked, met}
 use Rattle.af_stateq.proofs.Steps.{word_differs, apart, small, many, m_is, o_is, next_found, ack_found, Now, ack_m, ack_view, ack_point, looks, push_view, at_rest, shows, same_view, nothing_new, new_view, is_new, ackd_view, acks, met_view, met_stands, meets}

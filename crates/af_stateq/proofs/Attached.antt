@@ -1,17 +1,10 @@
 -- A call leaves an attached item with the mutator, unless it is a push.
 use Rattle.std.proofs.Common.{◌≡◌, ◌⊎◌, inl, inr, ℕ, ◌+◌, ◌<◌, ◌&&◌, not, Bool, true, false, List, Option, Some, None, is_some, slice_set, sym, ap, ◌∙◌, arith}
-use Rattle.std.proofs.lemmas.List.{get_or-set_same, get_or-set_other}
-use Rattle.af_base.proofs.Basics.{both, not_both}
-use Rattle.af_model.proofs.Basics.{not_true}
+use Rattle.af_stateq.proofs.Common.{Busy, Clean, Pushed, QueueAnswer, QueueCall, both, carries, get_or-set_other, get_or-set_same, is_allowed, not_both, not_true, slots}
 use mathlib.Core.Logic.{dite}
 use native.Mathlib.Decide.{ℕ_discrete}
 use Rattle.af_base.specs.declared.state.Push.{Push as PushAnswer}
-use Rattle.af_base.specs.declared.state.Push.TheVariants.{Pushed, Clean, Busy}
-use Rattle.af_model.specs.declared.plain_calls.QueueCall.{QueueCall}
 use Rattle.af_model.specs.declared.plain_calls.QueueCall.TheVariants as call
-use Rattle.af_model.specs.declared.plain_calls.QueueAnswer.{QueueAnswer}
-use Rattle.af_model.specs.StateQueue.{slots, carries}
-use Rattle.af_model.specs.PlainQueue.{is_allowed}
 use Rattle.af_stateq.specs.Mutates.{Mutates, InDraft, at, is_out}
 use Rattle.af_stateq.specs.Observes.{Observes}
 use Rattle.af_stateq.specs.Answers.{shows, WasPushed, WasAcked}

@@ -1,14 +1,8 @@
 -- The slots that a draft carries after an edit.
 use Rattle.std.proofs.Common.{◌≡◌, ◌≢◌, ℕ, ◌-◌, ◌^◌, ◌<◌, ◌≤◌, ◌==◌, ◌&&◌, not, true, false, Bool, bit_and, bit_or, ap, sym, ◌∙◌, subst, arith, length-set, eq-eqb, ne_eqb}
-use Rattle.std.specs.Int.{bit_at}
-use Rattle.std.proofs.lemmas.List.{get_or-set_same, get_or-set_other}
-use Rattle.af_base.proofs.Basics.{clear_other, clear_same, set_other, set_same}
+use Rattle.af_stateq.proofs.Common.{FastState, FastTrack, IsState, attached, bit_at, carries, clear_other, clear_same, detached, get_or-set_other, get_or-set_same, no_track, set_other, set_same, slot_of, slots}
 use mathlib.Core.Logic.{dite}
 use native.Mathlib.Decide.{ℕ_discrete}
-use Rattle.af_base.specs.declared.state.FastState.{FastState}
-use Rattle.af_base.specs.declared.state.FastTrack.{FastTrack}
-use Rattle.af_model.specs.StateQueue.{slots, no_track, slot_of, carries, IsState}
-use Rattle.af_model.specs.Draft.{attached, detached}
 use Rattle.std.specs.Prelude.{◌+◌}
 
 module _ (slot : ℕ) (mono : Bool) (scale track : ℕ) (x : FastState) (low : 1 ≤ slot) (lt : slot < slots) (state : IsState x) where

@@ -1,13 +1,9 @@
 -- Each call of the mutator keeps what always holds of its draft.
 use Rattle.std.proofs.Common.{◌≡◌, ◌≢◌, ℕ, ◌+◌, ◌<◌, ◌≤◌, ◌&&◌, not, if◌then◌else◌, true, false, true≢false, Bool, List, [], length, set, Option, Some, None, is_some, IfSome, bit_and, bit_or, ◌-◌, ◌^◌, refl, ap, sym, ◌∙◌, subst, arith, length-set}
-use Rattle.std.proofs.lemmas.List.{get_or-set_same, get_or-set_other, get_or-replicate, length-replicate}
-use Rattle.af_base.proofs.Basics.{not_both}
+use Rattle.af_stateq.proofs.Common.{AreOf, FastTrack, FitAt, attached, carries, detached, get_or-replicate, get_or-set_other, get_or-set_same, length-replicate, not_both, slot_of, slots}
 use mathlib.Core.Logic.{dite}
 use native.Mathlib.Decide.{ℕ_discrete}
-use Rattle.af_base.specs.declared.state.FastTrack.{FastTrack}
 use Rattle.af_base.specs.declared.state.Command.{Command}
-use Rattle.af_model.specs.StateQueue.{slots, slot_of, carries, AreOf, FitAt}
-use Rattle.af_model.specs.Draft.{attached, detached}
 use Rattle.af_stateq.specs.Shelved.{nothing}
 use Rattle.af_stateq.specs.Ends.{Pushes, saw, pushes}
 use Rattle.af_stateq.specs.Mutates.{Mutates, at, is_out, InSlot, SlotIn, InDraft, IsJoined}
@@ -21,10 +17,6 @@ both_are true false h = (refl, refl)
 both_are false b h = absurd (true≢false (sym h))
 
 module _ {P K : Type 0} (fits : K → ℕ → P → Type 0) (m : Mutates P K) (d : InDraft fits m) where
-  -- the pending items are those of the slots that the draft carries and the last state doesn't
-  pub pending_are : AreOf m.draft m.past.last m.pending
-  pending_are = (d.lengths.0, (λ i lt. (d.each i lt).pends), (λ i lt a b. (d.each i lt).stays b), d.state)
-
   pub command_keeps : (c : Command) (n : ℕ) (e : Bool) → InDraft fits record m { draft = record m.draft { command = c; cold_gen = n }; edited = e }
   command_keeps c n e = record {
     state = record { whole = d.state.whole; submix = d.state.submix; scaled = d.state.scaled };

@@ -1,16 +1,10 @@
 -- What the ends' events say after each call and each meeting.
 use Rattle.std.proofs.Common.{◌≡◌, ◌≢◌, ℕ, ◌+◌, ◌%◌, ◌==◌, ◌&&◌, ◌||◌, not, if◌then◌else◌, Bool, true, false, true≢false, List, [], ◌∷◌, ◌++◌, Option, Some, None, IfSome, refl, ap, sym, ◌∙◌, subst, arith, eq-eqb, ne_eqb}
-use Rattle.std.proofs.lemmas.List.Sums.{fold-append}
+use Rattle.af_stateq.proofs.Common.{Ack, FastState, HasHistory, MutatorEvent, MutatorPoint, ObserverEvent, ObserverPoint, Push, SawAck, SawNext, fold-append, mutated, mutator_next, mutator_start, observed, observer_next, observer_start}
 use mathlib.Core.Logic.{dite}
 use native.Mathlib.Decide.{ℕ_discrete}
-use Rattle.af_base.specs.declared.state.FastState.{FastState}
-use Rattle.af_model.specs.declared.states.MutatorEvent.{MutatorEvent}
-use Rattle.af_model.specs.declared.states.MutatorEvent.TheVariants.{Push, SawAck}
 use Rattle.af_model.specs.declared.states.MutatorEvent.TheVariants as mutator
-use Rattle.af_model.specs.declared.states.ObserverEvent.{ObserverEvent}
-use Rattle.af_model.specs.declared.states.ObserverEvent.TheVariants.{SawNext, Ack}
 use Rattle.af_model.specs.declared.states.ObserverEvent.TheVariants as observer
-use Rattle.af_model.specs.StateQueue.{MutatorPoint, ObserverPoint, mutator_start, mutator_next, observer_start, observer_next, mutated, observed, HasHistory}
 use Rattle.af_stateq.specs.Shelved.{word}
 use Rattle.af_stateq.specs.Ends.{Pushes, Polls, saw, pushes, looked, took, acknowledged}
 use Rattle.af_stateq.specs.OneHand.{AreInStep, HaveMet, items_going, items_coming}

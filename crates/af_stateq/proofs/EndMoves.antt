@@ -1,19 +1,10 @@
 -- How the items of all slots go from place to place by a look, a push, a poll, a meeting and an edit.
 use Rattle.std.proofs.Common.{◌≡◌, ℕ, ◌+◌, ◌<◌, ◌==◌, ◌||◌, not, if◌then◌else◌, Bool, true, false, List, [], ◌∷◌, ◌++◌, length, map, Option, None, is_some, slice_set, refl, ap, sym, ◌∙◌, subst, arith, eq-eqb}
-use Rattle.std.proofs.lemmas.List.{get_or-set_same, get_or-set_other, get_or-map, get_or-replicate}
+use Rattle.af_stateq.proofs.Common.{FastState, Move, MutatorPoint, Nowhere, ObserverPoint, Place, SawAck, SawNext, SeeAck, Send, Take, carries, get_or-map, get_or-replicate, get_or-set_other, get_or-set_same, is_placed, moved_from, observed, place_at, slots}
 use mathlib.Core.Logic.{dite}
 use native.Mathlib.Decide.{ℕ_discrete}
-use Rattle.af_base.specs.declared.state.FastState.{FastState}
-use Rattle.af_model.specs.declared.states.MutatorEvent.TheVariants.{Push, SawAck}
 use Rattle.af_model.specs.declared.states.MutatorEvent.TheVariants as mutator
-use Rattle.af_model.specs.declared.states.ObserverEvent.TheVariants.{SawNext, Ack}
 use Rattle.af_model.specs.declared.states.ObserverEvent.TheVariants as observer
-use Rattle.af_model.specs.declared.plain_calls.Place.{Place}
-use Rattle.af_model.specs.declared.plain_calls.Place.TheVariants.{Nowhere}
-use Rattle.af_model.specs.declared.plain_calls.Move.{Move}
-use Rattle.af_model.specs.declared.plain_calls.Move.TheVariants.{Send, SeeAck, Take}
-use Rattle.af_model.specs.StateQueue.{slots, carries, MutatorPoint, ObserverPoint, observed}
-use Rattle.af_model.specs.PlainQueue.{place_at, is_placed, moved_from}
 use Rattle.af_model.proofs.Places.{length-moved_from, place_at-moved_from}
 use Rattle.af_stateq.specs.Shelved.{word, nothing}
 use Rattle.af_stateq.specs.Ends.{Pushes, Polls, saw, took, acknowledged}

@@ -1,19 +1,12 @@
 -- A look of an end that has learnt of all that the other did sees the last of it.
 use Rattle.std.proofs.Common.{◌≡◌, ℕ, ◌+◌, ◌≤◌, ◌==◌, ◌&&◌, not, if◌then◌else◌, List, [], ◌∷◌, ◌++◌, length, fold, Option, Some, None, IfSome, is_some, unwrap_or, Bool, false, true≢false, eq-eqb, ne_eqb, refl, ap, sym, ◌∙◌, subst, arith, length-append, get_or, append-nil}
+use Rattle.af_stateq.proofs.Common.{Ack, Event, FastState, Legal, MutatorEvent, MutatorPoint, ObserverEvent, ObserverPoint, Push, QueuePoint, SawAck, SawNext, after, fold-append, legal, mutated, mutator_next, mutator_start, next, observed, observer_next, observer_start, one, ones, start, two, twos}
 use Rattle.std.specs.List.{list_any}
-use Rattle.std.proofs.lemmas.List.Sums.{fold-append}
 use mathlib.Core.Logic.{dite}
 use native.Mathlib.Decide.{ℕ_discrete}
-use Rattle.af_base.specs.declared.state.FastState.{FastState}
-use Rattle.af_model.specs.declared.states.MutatorEvent.{MutatorEvent}
-use Rattle.af_model.specs.declared.states.MutatorEvent.TheVariants.{Push, SawAck}
 use Rattle.af_model.specs.declared.states.MutatorEvent.TheVariants as mutator
-use Rattle.af_model.specs.declared.states.ObserverEvent.{ObserverEvent}
-use Rattle.af_model.specs.declared.states.ObserverEvent.TheVariants.{SawNext, Ack}
 use Rattle.af_model.specs.declared.states.ObserverEvent.TheVariants as observer
-use Rattle.af_model.specs.Order.{Event, one, two, ones, twos, Legal, after}
 use Rattle.af_model.proofs.Splits.{split_at, ones_append, legal_at}
-use Rattle.af_model.specs.StateQueue.{MutatorPoint, ObserverPoint, QueuePoint, start, mutator_start, mutator_next, observer_start, observer_next, mutated, observed, legal, next}
 use Rattle.af_stateq.specs.Laws.{is_push, is_ack, SeesTheLast, SeesTheAck}
 
 tail_of : {A : Type 0} → List A → List A

@@ -1,8 +1,6 @@
 -- How far the items and the shelves have changed places.
 use Rattle.std.proofs.Common.{◌≡◌, ℕ, suc, ◌+◌, ◌<◌, List, [], ◌∷◌, ◌++◌, length, set, get_or, Option, sym, refl, ap, ◌∙◌, arith, append_assoc, length-append, subst}
-use Rattle.std.proofs.lemmas.List.{append-nil, map-append, length-map}
-use Rattle.std.proofs.Math.Seq.{get_or-append_seam, set-append_seam}
-use Rattle.atomic_table.specs.Table.{rest}
+use Rattle.af_stateq.proofs.Common.{append-nil, get_or-append_seam, length-map, map-append, rest, set-append_seam}
 use Rattle.af_stateq.specs.declared.cell.Slot.{Slot}
 use Rattle.af_stateq.specs.Shelved.{cells, slots_from, shelves, items_on}
 

@@ -1,10 +1,7 @@
 -- Lists of held slots, as the calls find them.
 use Rattle.std.proofs.Common.{◌≡◌, ℕ, ◌+◌, ◌%◌, List, [], ◌∷◌, ◌++◌, ap, sym, ◌∙◌, arith, append_assoc}
-use Rattle.std.proofs.lemmas.List.{append-nil}
-use Rattle.atomic_table.specs.Table.{rest, turned}
+use Rattle.af_stateq.proofs.Common.{AreOf, FastState, FitAt, append-nil, rest, turned}
 use Rattle.std.proofs.Common.{Option, subst}
-use Rattle.af_base.specs.declared.state.FastState.{FastState}
-use Rattle.af_model.specs.StateQueue.{AreOf, FitAt}
 use Rattle.af_stateq.specs.declared.cell.Slot.{Slot}
 use Rattle.af_stateq.specs.Shelved.{cell, shelves}
 
@@ -12,13 +9,6 @@ module _ {S : Type 0} where
   -- a list that begins with p begins with p
   pub headed : (cs l : List (ℕ × S)) (p : ℕ × S) → cs ≡ p ∷ l → cs ≡ p ∷ rest cs
   headed cs l p e = e ∙ ap (λ z. p ∷ z) (sym (ap rest e))
-
-  -- what a seat holds after the first slot was written and turned behind the others
-  pub turned_once : (cs l out : List (ℕ × S)) (p q : ℕ × S) → cs ≡ p ∷ l → out ≡ rest cs ++ q ∷ [] → out ≡ l ++ q ∷ []
-  turned_once cs l out p q e f = f ∙ ap (λ z. z ++ q ∷ []) (ap rest e)
-
-  pub turned_by : (cs l out : List (ℕ × S)) → cs ≡ l → out ≡ turned cs → out ≡ turned l
-  turned_by cs l out e f = f ∙ ap turned e
 
   pub tail_is : (cs l : List (ℕ × S)) (p q : ℕ × S) → cs ≡ p ∷ l → q ∷ rest cs ≡ q ∷ l
   tail_is cs l p q e = ap (λ z. q ∷ rest z) e

@@ -1,17 +1,10 @@
 -- The item of a slot has one holder at each moment.
 use Rattle.std.proofs.Common.{◌≡◌, ◌≢◌, ℕ, ◌+◌, ◌<◌, ◌≤◌, ◌==◌, ◌&&◌, not, if◌then◌else◌, Bool, true, false, true≢false, List, [], ◌∷◌, Option, Some, None, is_some, refl, ap, sym, ◌∙◌, subst, arith, eq-eqb, ne_eqb}
-use Rattle.af_base.proofs.Basics.{never_true, not_both}
+use Rattle.af_stateq.proofs.Common.{Ack, Event, FastState, Legal, MutatorEvent, ObserverEvent, Push, QueuePoint, SawAck, SawNext, carries, legal, never_true, next, not_both, one, slots, start, two}
 use mathlib.Core.Logic.{dite}
 use native.Mathlib.Decide.{ℕ_discrete}
-use Rattle.af_base.specs.declared.state.FastState.{FastState}
-use Rattle.af_model.specs.declared.states.MutatorEvent.{MutatorEvent}
-use Rattle.af_model.specs.declared.states.MutatorEvent.TheVariants.{Push, SawAck}
 use Rattle.af_model.specs.declared.states.MutatorEvent.TheVariants as mutator
-use Rattle.af_model.specs.declared.states.ObserverEvent.{ObserverEvent}
-use Rattle.af_model.specs.declared.states.ObserverEvent.TheVariants.{SawNext, Ack}
 use Rattle.af_model.specs.declared.states.ObserverEvent.TheVariants as observer
-use Rattle.af_model.specs.Order.{Event, one, two, Legal}
-use Rattle.af_model.specs.StateQueue.{slots, carries, QueuePoint, start, legal, next}
 use Rattle.af_stateq.specs.Mutates.{at}
 use Rattle.af_stateq.specs.Laws.{Holder, in_hand, going, held, coming, given_to, may_pass, passed, OneHolder}
 use Rattle.af_stateq.proofs.Slots.{both_ways}

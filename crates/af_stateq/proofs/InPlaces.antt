@@ -1,12 +1,6 @@
 -- How the item of one slot goes from place to place.
 use Rattle.std.proofs.Common.{◌≡◌, ℕ, Bool, true, false, true≢false, ◌||◌, ◌&&◌, not, if◌then◌else◌, Option, Some, None, is_some, refl, ap, sym, ◌∙◌}
-use Rattle.af_base.specs.declared.state.FastState.{FastState}
-use Rattle.af_model.specs.declared.plain_calls.Place.{Place}
-use Rattle.af_model.specs.declared.plain_calls.Place.TheVariants.{Nowhere, Pending, Going, Held, Coming, Returned}
-use Rattle.af_model.specs.declared.plain_calls.Move.{Move}
-use Rattle.af_model.specs.declared.plain_calls.Move.TheVariants.{Send, SeeAck, Take}
-use Rattle.af_model.specs.StateQueue.{carries}
-use Rattle.af_model.specs.PlainQueue.{is_placed, returned_of, held_of, let_go, left, moved}
+use Rattle.af_stateq.proofs.Common.{Coming, FastState, Going, Held, Move, Nowhere, Pending, Place, Returned, SeeAck, Send, Take, carries, held_of, is_placed, left, let_go, moved, returned_of}
 use Rattle.af_stateq.specs.OneHand.{going_of, InPlace}
 
 some_none : {P : Type 0} (x : Option P) (p : P) → x ≡ Some p → x ≡ None → ⊥

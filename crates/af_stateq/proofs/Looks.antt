@@ -1,9 +1,6 @@
 -- What an end holds after a look.
 use Rattle.std.proofs.Common.{◌≡◌, ◌≢◌, ℕ, ◌+◌, ◌%◌, ◌==◌, ◌&&◌, not, Bool, true, false, List, [], ◌∷◌, ◌++◌, length, get_or, Some, ap, sym, ◌∙◌, subst, ne_eqb, ◌⊎◌, ⊎_elim}
-use Rattle.af_base.proofs.Basics.{and_false}
-use Rattle.atomic_table.specs.Table.{Step, rest}
-use Rattle.af_model.specs.declared.states.ObserverEvent.TheVariants.{SawNext}
-use Rattle.af_model.specs.StateQueue.{slots, AreOf, FitAt}
+use Rattle.af_stateq.proofs.Common.{AreOf, FitAt, SawNext, Step, and_false, rest, slots}
 use Rattle.af_stateq.specs.declared.cell.Slot.{Slot}
 use Rattle.af_stateq.specs.Shelved.{cell, word, shelves, items_on, nothing, brings, Seated, saw_ack, saw_next, HoldsNext, IsMutator, IsObserver}
 use Rattle.af_stateq.proofs.Steps.{many}

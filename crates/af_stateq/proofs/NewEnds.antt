@@ -1,13 +1,6 @@
 -- The two ends of a new queue are the new plain queue.
 use Rattle.std.proofs.Common.{◌≡◌, ℕ, ◌<◌, ◌==◌, ◌||◌, not, if◌then◌else◌, List, [], Option, None, replicate, ap, sym, ◌∙◌, subst, arith}
-use Rattle.std.proofs.lemmas.List.{get_or-replicate, length-replicate}
-use Rattle.af_model.specs.declared.plain_calls.Place.{Place}
-use Rattle.af_model.specs.declared.plain_calls.Place.TheVariants.{Nowhere}
-use Rattle.af_model.specs.declared.states.MutatorEvent.{MutatorEvent}
-use Rattle.af_model.specs.declared.states.ObserverEvent.{ObserverEvent}
-use Rattle.af_model.specs.StateQueue.{slots, mutated, observed}
-use Rattle.af_model.specs.Draft.{initial}
-use Rattle.af_model.specs.PlainQueue.{new_queue}
+use Rattle.af_stateq.proofs.Common.{MutatorEvent, Nowhere, ObserverEvent, Place, get_or-replicate, initial, length-replicate, mutated, new_queue, observed, slots}
 use Rattle.af_stateq.specs.Mutates.{Mutates, IsNewMutator, at}
 use Rattle.af_stateq.specs.Observes.{Observes, IsNewObserver}
 use Rattle.af_stateq.specs.OneHand.{InPlace, AreInStep, AreAt, Agrees, items_going, items_coming}

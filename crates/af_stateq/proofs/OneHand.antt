@@ -1,31 +1,17 @@
 -- A call with both ends in one hand answers as the plain queue does, and leaves the ends as it says.
 use Rattle.std.proofs.Common.{◌≡◌, ℕ, ◌+◌, ◌<◌, ◌==◌, ◌&&◌, ◌||◌, not, if◌then◌else◌, Bool, true, false, List, [], ◌∷◌, ◌++◌, Option, Some, None, is_some, slice_set, refl, ap, sym, ◌∙◌, subst, arith, eq-eqb, ne_eqb, append_assoc, length-set}
-use Rattle.std.proofs.lemmas.List.{map-set, set-get_or}
-use Rattle.std.proofs.Math.Seq.{map-set_same}
-use Rattle.af_base.proofs.Basics.{both as and_one}
-use Rattle.af_model.proofs.Basics.{not_true}
+use Rattle.af_stateq.proofs.Common.{Ack, HasHistory, MutatorEvent, Nowhere, ObserverEvent, Pending, Place, Push, QueueAnswer, QueueCall, QueueState, SawAck, SawNext, SeeAck, Send, Take, allowed_step, attached, both as and_one, carries, detached, is_allowed, is_placed, left, let_go, map-set, map-set_same, moved_from, mutated, not_true, observed, place_at, readiness, returned_of, set-get_or, shown, slots}
 use mathlib.Core.Logic.{dite}
 use native.Mathlib.Decide.{ℕ_discrete}
 use Rattle.af_base.specs.declared.state.Push.{Push as PushAnswer}
 use Rattle.af_base.specs.declared.state.Push.TheVariants as pushing
-use Rattle.af_model.specs.declared.states.MutatorEvent.{MutatorEvent}
-use Rattle.af_model.specs.declared.states.MutatorEvent.TheVariants.{Push, SawAck}
 use Rattle.af_model.specs.declared.states.MutatorEvent.TheVariants as mutator
-use Rattle.af_model.specs.declared.states.ObserverEvent.{ObserverEvent}
-use Rattle.af_model.specs.declared.states.ObserverEvent.TheVariants.{SawNext, Ack}
 use Rattle.af_model.specs.declared.states.ObserverEvent.TheVariants as observer
 use Rattle.af_model.specs.declared.plain_calls.Poll.{Poll}
 use Rattle.af_model.specs.declared.plain_calls.Poll.TheVariants as polling
-use Rattle.af_model.specs.declared.plain_calls.Place.{Place}
-use Rattle.af_model.specs.declared.plain_calls.Place.TheVariants.{Nowhere, Pending}
-use Rattle.af_model.specs.declared.plain_calls.Move.TheVariants.{Send, SeeAck, Take}
-use Rattle.af_model.specs.declared.plain_calls.QueueCall.{QueueCall}
 use Rattle.af_model.specs.declared.plain_calls.QueueCall.TheVariants as call
-use Rattle.af_model.specs.declared.plain_calls.QueueAnswer.{QueueAnswer}
 use Rattle.af_model.specs.declared.plain_calls.QueueAnswer.TheVariants as answer
-use Rattle.af_model.specs.StateQueue.{slots, carries, mutated, observed, HasHistory}
-use Rattle.af_model.specs.Draft.{attached, detached}
-use Rattle.af_model.specs.PlainQueue.{QueueState, place_at, is_placed, returned_of, let_go, left, moved_from, readiness, is_allowed, shown, allowed_step, step}
+use Rattle.af_model.specs.PlainQueue.{step}
 use Rattle.af_stateq.specs.Shelved.{word}
 use Rattle.af_stateq.specs.Ends.{Pushes, Polls, saw, looked, took, acknowledged}
 use Rattle.af_stateq.specs.Mutates.{Mutates, at, is_out, InDraft}

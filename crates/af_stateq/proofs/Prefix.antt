@@ -1,16 +1,10 @@
 -- The states polled are a prefix of the states pushed, and at most one is missing.
 use Rattle.std.proofs.Common.{◌≡◌, ◌≢◌, ◌+◌, ◌≤◌, ◌==◌, if◌then◌else◌, Bool, true≢false, List, [], ◌∷◌, ◌++◌, length, Some, None, is_some, unwrap_or, refl, ap, sym, ◌∙◌, arith, eq-eqb, ne_eqb}
+use Rattle.af_stateq.proofs.Common.{Ack, Event, FastState, HasHistory, Legal, MutatorEvent, ObserverEvent, Push, QueuePoint, SawAck, SawNext, after, legal, next, one, ones, start, two, twos}
 use mathlib.Core.Logic.{dite}
 use native.Mathlib.Decide.{ℕ_discrete}
-use Rattle.af_base.specs.declared.state.FastState.{FastState}
-use Rattle.af_model.specs.declared.states.MutatorEvent.{MutatorEvent}
-use Rattle.af_model.specs.declared.states.MutatorEvent.TheVariants.{Push, SawAck}
 use Rattle.af_model.specs.declared.states.MutatorEvent.TheVariants as mutator
-use Rattle.af_model.specs.declared.states.ObserverEvent.{ObserverEvent}
-use Rattle.af_model.specs.declared.states.ObserverEvent.TheVariants.{SawNext, Ack}
 use Rattle.af_model.specs.declared.states.ObserverEvent.TheVariants as observer
-use Rattle.af_model.specs.Order.{Event, one, two, ones, twos, Legal, after}
-use Rattle.af_model.specs.StateQueue.{QueuePoint, start, legal, next, HasHistory}
 use Rattle.af_stateq.specs.Laws.{pushed_states, polled_states, PolledInOrder}
 
 append_nil : (xs : List FastState) → xs ++ [] ≡ xs

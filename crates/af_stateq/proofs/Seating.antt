@@ -1,19 +1,14 @@
 -- The rule at the start, when the ends take their slots, and when a part changes seats.
 use Rattle.std.proofs.Common.{◌≡◌, ◌≢◌, ℕ, zero, suc, ◌+◌, ◌<◌, true, false, true≢false, List, [], ◌∷◌, map, drop, set, get_or, replicate, None, sym, refl, ap, ◌∙◌, arith, length-set}
+use Rattle.af_stateq.proofs.Common.{Allows, FastState, Joins, Splits, State, chain, drop-set-lt, homes_after, one_changes, opening, set_else, slots, start, step, takes, two_changes, two_comes, two_leaves}
 use mathlib.Core.Option as maybe
 use lib.ListN.{get_elem?}
-use Rattle.std.proofs.lemmas.List.{drop-set-lt}
-use Rattle.atomic_table.specs.Table.{State, step, takes, chain, homes_after, Allows, Splits, Joins, opening}
-use Rattle.atomic_table.proofs.Lists.{set_else}
-use Rattle.af_base.specs.declared.state.FastState.{FastState}
 use Rattle.af_stateq.specs.declared.cell.Slot.{Slot}
 use Rattle.af_stateq.specs.declared.rule.Basis.{Basis}
 use Rattle.af_stateq.specs.declared.view.View.{View}
 use Rattle.af_stateq.specs.declared.view.Mutating.{Mutating}
 use Rattle.af_stateq.specs.declared.view.Observing.{Observing}
-use Rattle.af_model.proofs.PartySteps.{one_changes, two_changes, two_leaves, two_comes}
 use mathlib.Core.Option.{some-injective, some-ne-none}
-use Rattle.af_model.specs.StateQueue.{slots, start}
 use Rattle.af_stateq.proofs.Acts.{takes_all, carried_takes, takes_else, length_takes, takes_valid}
 use Rattle.af_stateq.specs.Shelved.{cell, cells, starting, spent, has_mutating, mutating, has_observing, observing, Phase, quiet, shown, taken, known_by, InPhase, Kept, Seated, sat_mutator, sat_observer}
 

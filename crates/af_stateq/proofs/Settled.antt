@@ -1,9 +1,6 @@
 -- After a poll the observer has the item of each slot that is on, and gives back those of slots that went off.
 use Rattle.std.proofs.Common.{◌≡◌, ℕ, ◌<◌, ◌&&◌, ◌||◌, not, if◌then◌else◌, Bool, true, false, List, length, Option, Some, is_some, refl, ap, sym, ◌∙◌, subst}
-use Rattle.af_base.proofs.Basics.{and_true}
-use Rattle.af_base.specs.declared.state.FastState.{FastState}
-use Rattle.af_base.specs.declared.state.FastTrack.{FastTrack}
-use Rattle.af_model.specs.StateQueue.{slots, carries, slot_of, has, AreOf, FitAt, IsState}
+use Rattle.af_stateq.proofs.Common.{AreOf, FastState, FastTrack, FitAt, IsState, and_true, carries, has, slot_of, slots}
 use Rattle.af_stateq.specs.Mutates.{at}
 use Rattle.af_stateq.specs.Observes.{IsSettled}
 

@@ -1,11 +1,7 @@
 -- How the facts of one slot fare when it is attached, detached, taken back, pushed, or its item comes back.
 use Rattle.std.proofs.Common.{◌≡◌, ℕ, ◌<◌, ◌≤◌, ◌&&◌, ⊎_elim, inl, inr, not, if◌then◌else◌, Bool, true, false, true≢false, Option, Some, None, is_some, refl, ap, sym, ◌∙◌, subst}
+use Rattle.af_stateq.proofs.Common.{FastTrack, and_true, both, is_shelf, never_true, not_both, not_true as not_false, slots}
 use Rattle.std.proofs.lemmas.Bool.{ltb-true, leb-true}
-use Rattle.af_base.proofs.Basics.{and_true, both, never_true, not_both}
-use Rattle.af_base.specs.declared.state.FastTrack.{FastTrack}
-use Rattle.af_model.proofs.Basics.{not_true as not_false}
-use Rattle.af_model.specs.StateQueue.{slots}
-use Rattle.af_model.specs.PlainQueue.{is_shelf}
 use Rattle.af_stateq.specs.Mutates.{InSlot}
 
 and_not : (b : Bool) → false ≡ (b && not b)

@@ -1,14 +1,8 @@
 -- What holds of the first state, of a new mutator and of a new observer.
 use Rattle.std.proofs.Common.{◌≡◌, ℕ, zero, suc, ◌-◌, ◌<◌, ◌≤◌, ◌==◌, ◌&&◌, not, true, false, true≢false, Bool, List, [], Option, Some, None, is_some, replicate, refl, ap, sym, ◌∙◌, subst, arith, ne_eqb}
-use Rattle.std.specs.Int.{bit_at}
-use Rattle.std.proofs.lemmas.List.{get_or-replicate, length-replicate}
+use Rattle.af_stateq.proofs.Common.{FastState, FastTrack, IsState, ObserverEvent, bit_at, carries, get_or-replicate, initial, length-replicate, no_track, slot_of, slots}
 use Rattle.std.proofs.lemmas.Nat.Bits.{bit_at-suc, bit_at-zero}
-use Rattle.af_base.specs.declared.state.FastState.{FastState}
-use Rattle.af_model.specs.declared.states.ObserverEvent.{ObserverEvent}
-use Rattle.af_base.specs.declared.state.FastTrack.{FastTrack}
-use Rattle.af_model.specs.StateQueue.{slots, no_track, slot_of, carries, IsState}
 use Rattle.af_stateq.specs.Shelved.{nothing}
-use Rattle.af_model.specs.Draft.{initial}
 use Rattle.af_stateq.specs.Ends.{Pushes, Polls}
 use Rattle.af_stateq.specs.Mutates.{Mutates, at, InSlot, InDraft}
 use Rattle.af_stateq.specs.Observes.{InOrder, AreTold}

@@ -1,27 +1,18 @@
 -- Each step of the queue keeps its rule.
 use Rattle.std.proofs.Common.{◌≡◌, ◌≢◌, ℕ, ◌+◌, ◌<◌, ◌≤◌, ◌==◌, if◌then◌else◌, Bool, true, false, true≢false, List, [], ◌∷◌, ◌++◌, length, map, drop, set, get_or, sym, refl, ap, ◌∙◌, subst, arith, length-set, length-append, Some, None, Option, eq-eqb, ne_eqb}
+use Rattle.af_stateq.proofs.Common.{Ack, AllFit, AreOf, MutatorEvent, ObserverEvent, Push, QueuePoint, SawAck, SawNext, State, both_change, brought, chain, drop-set-lt, gives, homes_after, keeps, legal, length-map, next, one, one_changes, set_else, set_here, slots, stand_one, stand_two, start, stepped, takes, two, two_changes}
 use mathlib.Core.Option as maybe
 use mathlib.Core.Logic.{dite}
 use native.Mathlib.Decide.{ℕ_discrete}
 use lib.ListN.{get_elem?}
-use Rattle.std.proofs.lemmas.List.{drop-set-lt, length-map}
-use Rattle.atomic_table.specs.Table.{State, keeps, takes, gives, chain, homes_after, stepped}
-use Rattle.atomic_table.proofs.Lists.{set_here, set_else}
 use Rattle.af_stateq.specs.declared.cell.Slot.{Slot}
 use Rattle.af_stateq.specs.declared.rule.Basis.{Basis}
 use Rattle.af_stateq.specs.declared.view.View.{View}
 use Rattle.af_stateq.specs.declared.view.Mutating.{Mutating}
 use Rattle.af_stateq.specs.declared.view.Observing.{Observing}
-use Rattle.af_model.specs.declared.states.MutatorEvent.{MutatorEvent}
-use Rattle.af_model.specs.declared.states.MutatorEvent.TheVariants.{Push, SawAck}
 use Rattle.af_model.specs.declared.states.MutatorEvent.TheVariants as mutator
-use Rattle.af_model.specs.declared.states.ObserverEvent.{ObserverEvent}
-use Rattle.af_model.specs.declared.states.ObserverEvent.TheVariants.{SawNext, Ack}
 use Rattle.af_model.specs.declared.states.ObserverEvent.TheVariants as observer
-use Rattle.af_model.specs.Order.{Event, one, two}
 use Rattle.af_model.specs.Parties.{AreHeld, Stands}
-use Rattle.af_model.proofs.PartySteps.{one_changes, two_changes, both_change, stand_one, stand_two}
-use Rattle.af_model.specs.StateQueue.{slots, AreOf, AllFit, QueuePoint, start, brought, legal, next}
 use Rattle.af_stateq.proofs.Acts.{takes_all, gives_all, length_takes, length_gives, gives_else, gives_home}
 use Rattle.af_stateq.specs.Shelved.{cell, word, cells, shelves, items_on, has_mutating, mutating, has_observing, observing, Phase, quiet, shown, taken, known_by, InPhase, AreLaid, Kept, saw_mutating, push_mutating}
 
@@ -40,9 +31,6 @@ apart a b lt le e = omega arith
 pub small : (k : ℕ) → cell k < 4
 small k = omega arith
 
-pub no_cell : (k : ℕ) → 4 ≢ cell k
-no_cell k e = let l = small k in omega arith
-
 same_cell : (c : ℕ) → cell (c + 3) ≡ cell ((c + 1) + 2)
 same_cell c = omega arith
 
@@ -51,9 +39,6 @@ pub many : {P : Type 0} (ys : List (Slot P)) (n : ℕ) → length (items_on ys) 
 many ys n e = sym (length-map ys (λ (t : Slot _). t.item)) ∙ e
 
 module _ {P K : Type 0} (fits : K → ℕ → P → Type 0) (basis : Basis K) where
-  abbrev E : Type 0
-  E = Event (MutatorEvent P) (ObserverEvent P)
-
   abbrev St : Type 0
   St = State (Slot P) (View P K)
 

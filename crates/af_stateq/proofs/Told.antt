@@ -1,14 +1,8 @@
 -- The observer's numbers and states are those that its events tell.
 use Rattle.std.proofs.Common.{◌≡◌, ℕ, ◌+◌, ◌-◌, List, [], ◌∷◌, ◌++◌, length, fold, Option, Some, None, refl, ap, sym, ◌∙◌, subst, arith, append_assoc, length-append}
-use Rattle.std.proofs.lemmas.List.{append-nil}
-use Rattle.std.proofs.lemmas.List.Sums.{fold-append}
-use Rattle.af_base.specs.declared.state.FastState.{FastState}
-use Rattle.af_model.proofs.Basics.{same_before, state_next}
-use Rattle.af_model.specs.declared.states.ObserverEvent.{ObserverEvent}
-use Rattle.af_model.specs.declared.states.ObserverEvent.TheVariants.{SawNext, Ack}
+use Rattle.af_stateq.proofs.Common.{Ack, FastState, ObserverEvent, ObserverPoint, SawNext, append-nil, fold-append, observed, observer_next, observer_start, same_before, state_next}
 use Rattle.af_model.specs.declared.states.ObserverEvent.TheVariants as observer
 use Rattle.af_model.specs.Cycles.{state_of}
-use Rattle.af_model.specs.StateQueue.{ObserverPoint, observer_start, observer_next, observed}
 use Rattle.af_stateq.specs.Laws.{polled_states}
 use Rattle.af_stateq.specs.Observes.{Observes, InOrder, AreTold}
 

@@ -1,12 +1,9 @@
 -- Pushes and looks that wait.
 use Rattle.std.proofs.Common.{◌≡◌, ◌≢◌, ℕ, zero, suc, ◌+◌, ◌-◌, ◌<◌, ◌==◌, true, false, List, [], ◌∷◌, ◌++◌, replicate, refl, ap, sym, ◌∙◌, subst, arith, append_assoc, append-nil}
-use Rattle.af_base.proofs.Basics.{not_both}
+use Rattle.af_stateq.proofs.Common.{Busy, Clean, MutatorEvent, Pushed, SawAck, not_both}
 use mathlib.Core.Logic.{dite}
 use native.Mathlib.Decide.{ℕ_discrete}
 use Rattle.af_base.specs.declared.state.Push.{Push}
-use Rattle.af_base.specs.declared.state.Push.TheVariants.{Pushed, Clean, Busy}
-use Rattle.af_model.specs.declared.states.MutatorEvent.{MutatorEvent}
-use Rattle.af_model.specs.declared.states.MutatorEvent.TheVariants.{SawAck}
 use Rattle.af_stateq.specs.Shelved.{word}
 use Rattle.af_stateq.specs.Ends.{saw}
 use Rattle.af_stateq.specs.Mutates.{Mutates}

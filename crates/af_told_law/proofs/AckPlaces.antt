@@ -1,36 +1,10 @@
 -- Where the items in hand lie after a look at the acknowledgement, and what it leaves of the pushes.
 use Rattle.std.proofs.Common.{◌≡◌, ◌≢◌, ℕ, zero, suc, ◌+◌, ◌<◌, ◌&&◌, ◌⊎◌, inl, inr, not, Bool, true, false, true≢false, is_some, if◌then◌else◌, refl, sym, ap, subst, ◌∙◌, List, [], ◌∷◌, ◌++◌, length, Option, Some, None, ⊎_elim, eq-eqb, get_or-set_other, arith}
-use Rattle.std.specs.Prelude.{slice_set}
-use Rattle.std.proofs.lemmas.Bool.{cases_eq}
-use Rattle.std.proofs.lemmas.List.{append_cancel_left, set-get_or}
-use Rattle.std.proofs.lemmas.Option.{none-some}
-use Rattle.af_base.specs.Log.{slots}
-use Rattle.af_model.proofs.Basics.{not_true}
+use Rattle.af_told_law.proofs.Common.{AreOf, FastTrack, InSlot, IsTied, Links, Mutates, NormalState, Pushes as Past, SeesAck, ServerState, StreamNames, WasAcked, Welcomes, WelcomesTo, acked_list, append_cancel_left, at, carries, cases_eq, is_out, kept_of, none-some, not_true, number_seen, saw, set-get_or, slice_set, slot_number, slots, takes_back, track_at, with_mutator, word}
 use Rattle.af_model.specs.declared.states.MutatorEvent.TheVariants as mutator
-use Rattle.af_model.specs.StateQueue.{AreOf, carries, word}
-use Rattle.af_server.specs.Order.{ServerState}
-use Rattle.af_stateq.specs.Answers.{WasAcked}
-use Rattle.af_stateq.specs.Ends.{Pushes as Past, saw}
-use Rattle.af_stateq.specs.Mutates.{InSlot, Mutates, at, is_out}
-use Rattle.af_base.specs.declared.state.FastTrack.{FastTrack}
-use Rattle.af_link.specs.declared.links.Links.{Links}
-use Rattle.af_link.specs.declared.names.StreamNames.{StreamNames}
-use Rattle.af_life.specs.Kept.{slot_number, track_at}
-use Rattle.af_life.specs.TurnEvents.{number_seen}
-use Rattle.af_normal.specs.Coming.{Welcomes, WelcomesTo, takes_back}
-use Rattle.af_normal.specs.Order.{IsTied}
-use Rattle.af_normal.specs.State.{NormalState, kept_of}
-use Rattle.af_normal.specs.Turning.{SeesAck, with_mutator}
-use Rattle.af_normal.proofs.OrderStages.{acked_list}
 use Rattle.af_normal.proofs.Welcomed.{by_return}
 use Rattle.af_told_law.proofs.Basics.{item_within}
 use Rattle.af_told_law.proofs.EditPlaces.{item_set}
-
-abbrev Items : Type 0
-Items = List (Option ServerState)
-
-abbrev Mutator : Type 0
-Mutator = Mutates ServerState StreamNames
 
 pub none_of : (o : Option ServerState) → ((t : ServerState) → o ≡ Some t → ⊥) → o ≡ None
 none_of None f = refl

@@ -1,17 +1,7 @@
 -- After the meetings of all parties the run after its meetings tells the session, and its lists have their histories.
 use Rattle.std.proofs.Common.{List, Some, ap, arith, false, is_some, length, refl, slice_get, subst, sym, true, ℕ, ◌<◌, ◌∙◌, ◌≡◌}
-use Rattle.std.proofs.lemmas.Option.{slice_get_within}
-use Rattle.af_base.proofs.Basics.{some_at}
-use Rattle.af_judge.proofs.Basics.{met_many}
-use Rattle.af_life.specs.declared.kept.TrackKept.{TrackKept}
-use Rattle.af_link.specs.declared.links.Links.{Links}
-use Rattle.af_party.specs.Parties.{PartyState}
-use Rattle.af_runs.specs.Rounds.{HaveHistories, KeepsHistory, TrackHistories}
-use Rattle.af_runs.specs.Runs.{Run, TrackTold, met, takes_part, told_at, track_met}
-use Rattle.af_runs.specs.Sessions.{Session, track_count}
+use Rattle.af_told_law.proofs.Common.{AreTogether, HaveHistories, KeepsHistory, Links, Met, PartyState, Run, Session, SessionState, TrackHistories, TrackKept, TrackTold, met, met_many, slice_get_within, some_at, takes_part, told_at, track_count, track_met}
 use Rattle.af_judge.proofs.BlocksMeet.{met_at}
-use Rattle.af_session.specs.Met.{Met}
-use Rattle.af_session.specs.Together.{AreTogether, SessionState}
 use Rattle.af_told_law.specs.Tells.{Tells, TellsNormal, TellsTrack}
 use Rattle.af_told_law.proofs.SharedMeets.{fast_met, kept_met, shared_histories, shared_met}
 use Rattle.af_told_law.proofs.TrackMeets.{commands_history, stream_now, track_now, tracks_are}

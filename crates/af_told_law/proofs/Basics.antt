@@ -1,31 +1,10 @@
 -- Basic lemmas that several files here, and of the crates above, cite.
 use Rattle.std.proofs.Common.{List, None, Option, Some, [], ap, arith, false, fold, length, refl, suc, sym, true, true≢false, zero, ℕ, ◌++◌, ◌+◌, ◌<◌, ◌∷◌, ◌≡◌, ◌≢◌}
-use Rattle.std.proofs.lemmas.List.{append_cancel_left}
-use Rattle.std.proofs.lemmas.Option.{none-some}
-use Rattle.std.specs.Prelude.{slice_index_or}
+use Rattle.af_told_law.proofs.Common.{AllSeeOwn, BlockTold, Busy, Clean, Cycle, CycleEntry, EntrySeen, FastState, Item, MutatorEvent, ObserverEvent, Push, Pushed, QueueTold, ServerEvent, ServerKept, ServerState, Session, Shape, TrackTold, append_cancel_left, at, client_list, cycle_frames, in_queue, is_mixed, is_pushed, mixed_track, none-some, observer_does, one, ones, played, server_begins, server_keeps, slice_index_or, two}
 use Rattle.af_base.specs.declared.event.ServerEvent.TheVariants as server
-use Rattle.af_base.specs.declared.event.ServerEvent.{ServerEvent}
 use Rattle.af_base.specs.declared.log.Cycle.TheVariants as cycle
-use Rattle.af_base.specs.declared.log.Cycle.{Cycle}
-use Rattle.af_base.specs.declared.log.CycleEntry.{CycleEntry}
-use Rattle.af_base.specs.declared.state.FastState.{FastState}
-use Rattle.af_base.specs.declared.state.Push.TheVariants.{Busy, Clean, Pushed}
-use Rattle.af_base.specs.declared.state.Push.{Push}
-use Rattle.af_model.specs.Cycles.{is_exit, is_mixed}
-use Rattle.af_model.specs.Journals.{EntrySeen}
-use Rattle.af_model.specs.Order.{one, ones, two}
-use Rattle.af_model.specs.ServerCalls.{ServerKept, server_begins, server_keeps}
-use Rattle.af_model.specs.Spelled.{AllSeeOwn}
-use Rattle.af_model.specs.declared.shape.Shape.{Shape}
-use Rattle.af_model.specs.declared.states.MutatorEvent.{MutatorEvent}
-use Rattle.af_model.specs.declared.states.ObserverEvent.{ObserverEvent}
-use Rattle.af_normal.specs.LegalTurned.{in_queue}
-use Rattle.af_runs.specs.Blocks.{BlockTold, client_list}
-use Rattle.af_runs.specs.Runs.{TrackTold, mixed_track, played, slot_for}
-use Rattle.af_runs.specs.Sessions.{Session, cycle_frames}
-use Rattle.af_runs.specs.Told.{Item, QueueTold, is_pushed, observer_does}
-use Rattle.af_server.specs.Order.{ServerState}
-use Rattle.af_stateq.specs.Mutates.{at}
+use Rattle.af_model.specs.Cycles.{is_exit}
+use Rattle.af_runs.specs.Runs.{slot_for}
 use Rattle.af_told_law.specs.Deeds.{SawOwnOf, met_deed}
 
 pub commands_stay : (s : Session) (x : FastState) (e : EntrySeen) (n : ℕ) (t : TrackTold) → (mixed_track s x e n t).commands ≡ t.commands
@@ -41,11 +20,8 @@ item_within (o ∷ items) zero t e = omega arith
 item_within (o ∷ items) (suc k) t e = let l : k < length items = item_within items k t e in omega arith
 
 pub no_exit : (c : Cycle) → is_mixed c ≡ true → is_exit c ≡ false
-no_exit cycle.Mixed e = refl
-no_exit cycle.Idle e = refl
-no_exit cycle.Cold e = refl
 no_exit cycle.Exit e = absurd (true≢false (sym e))
-no_exit (cycle.Spent n) e = refl
+no_exit _ e = refl
 
 pub ones_observed : (told : QueueTold) (es : List (ObserverEvent Item)) → ones (observer_does es told) ≡ ones told
 ones_observed [] [] = refl

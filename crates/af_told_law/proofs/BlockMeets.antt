@@ -1,28 +1,15 @@
 -- What the meetings of a block's parties leave of it is told by the meetings of the run.
 use Rattle.std.proofs.Common.{◌≡◌, ℕ, ◌+◌, true, List, [], ◌∷◌, ◌++◌, length, length-append, sym, ap, ◌∙◌, subst}
+use Rattle.af_told_law.proofs.Common.{BlockTold, ClientState, HandEvent, HandSide, HasBlockHistory, Meets, MeetsAll, MeetsFlag, ServerEvent, ServerPart, ServerState, Shape, Side, client_knows, client_list, client_made, is_lawful, lawful_first, meets, meets_flag, server_begins, server_list, side_of, side_of_proxy}
 use Rattle.af_base.specs.declared.event.ClientEvent.TheVariants as client
-use Rattle.af_base.specs.declared.event.HandEvent.{HandEvent}
 use Rattle.af_base.specs.declared.event.HandEvent.TheVariants as hand
-use Rattle.af_base.specs.declared.event.ServerEvent.{ServerEvent}
 use Rattle.af_base.specs.declared.event.ServerEvent.TheVariants as server
 use Rattle.af_cblk.specs.Parts.{hand_met, server_did}
-use Rattle.af_cblk.specs.Sides.{HandSide, client_made}
-use Rattle.af_cblk.specs.declared.view.ServerPart.{ServerPart}
-use Rattle.af_client.specs.Order.{ClientState}
-use Rattle.af_model.proofs.Basics.{lawful_first}
-use Rattle.af_model.specs.History.{HasHistory, is_lawful}
-use Rattle.af_model.specs.declared.shape.Shape.{Shape}
-use Rattle.af_normal.specs.Meeting.{Meets, MeetsAll, client_knows}
-use Rattle.af_party.specs.Parties.{side_of_proxy}
-use Rattle.af_runs.specs.Blocks.{BlockTold, HasBlockHistory, client_list, hand_list, meets, meets_flag, server_list}
-use Rattle.af_runs.specs.ClientTurns.{Side}
-use Rattle.af_runs.specs.Runs.{side_of}
-use Rattle.af_server.specs.Order.{ServerState}
-use Rattle.af_engine.specs.Met.{MeetsFlag}
+use Rattle.af_model.specs.History.{HasHistory}
+use Rattle.af_runs.specs.Blocks.{hand_list}
 use Rattle.af_told_law.specs.Tells.{TellsServer}
 use Rattle.af_told_law.proofs.KeptAlike.{met_alike}
 use Rattle.af_cblk.specs.declared.view.HandPart.{HandPart}
-use Rattle.af_model.specs.ServerCalls.{server_begins}
 use Rattle.af_told_law.specs.Deeds.{DeedTold, done_on, met_deed}
 use Rattle.af_told_law.proofs.MixLooks.{own_split}
 

@@ -1,28 +1,10 @@
 -- After a client's turn the run with its calls tells the session.
 use Rattle.std.proofs.Common.{Bool, List, Some, ap, arith, if◌then◌else◌, inl, inr, length, length-set, refl, slice_get, slice_set, subst, sym, ℕ, ◌<◌, ◌==◌, ◌∙◌, ◌≡◌, ◌⊎◌}
-use Rattle.std.proofs.lemmas.Bool.{cases_eq, eq-eqb, ne_eqb}
-use Rattle.std.proofs.lemmas.Option.{same_Some, slice_get_within}
-use Rattle.af_base.proofs.Basics.{get_set_other, get_set_same}
-use Rattle.af_base.specs.declared.event.ClientCall.{ClientCall}
-use Rattle.af_base.specs.declared.event.ServerEvent.{ServerEvent}
-use Rattle.af_fast.specs.Mixer.{MixerState}
-use Rattle.af_judge.proofs.Basics.{each_long, told_each}
-use Rattle.af_model.specs.Journals.{RoundSeen}
-use Rattle.af_model.specs.declared.shape.Shape.{Shape}
-use Rattle.af_normal.specs.State.{NormalState}
-use Rattle.af_party.specs.Parties.{PartyState, track_of}
-use Rattle.af_runs.specs.Blocks.{BlockTold, client_list, hand_list, server_list}
-use Rattle.af_runs.specs.ClientTurns.{Track, after_calls, Side}
-use Rattle.af_runs.specs.Runs.{Run, TrackTold, called, calls_in, sides_of, told_at, with_side}
-use Rattle.af_runs.specs.Sessions.{Session}
-use Rattle.af_runs.specs.TurnRuns.{calls_alone}
-use Rattle.af_judge.proofs.BlocksTold.{client-hand, client-server}
+use Rattle.af_told_law.proofs.Common.{BlockTold, ClientCall, ClientTurned, MixerState, NormalState, PartyState, RoundSeen, Run, ServerEvent, Session, SessionState, Shape, Side, Track, TrackTold, after_calls, called, calls_alone, calls_in, cases_eq, client-hand, client-server, client_list, drop, each_long, eq-eqb, file_at, get_set_other, get_set_same, ne_eqb, ops_at, same_Some, server_list, sides_of, slice_get_within, told_at, told_each, track_of, with_side}
+use Rattle.af_runs.specs.Blocks.{hand_list}
 use Rattle.af_judge.proofs.TracksTold.{sides_called}
-use Rattle.af_session.specs.Rounds.{ClientTurned, file_at, ops_at}
-use Rattle.af_session.specs.Together.{SessionState}
 use Rattle.af_told_law.specs.Alike.{TellAlike}
 use Rattle.af_told_law.specs.Tells.{Tells, TellsTrack, given_of}
-use Rattle.std.specs.Prelude.{drop}
 use Rattle.af_told_law.specs.Deeds.{DeedTold, Deeds, SawOwnOf}
 
 -- ## A block of which the server did nothing

@@ -1,29 +1,8 @@
 -- The stream proxies that come home in a turn of the normal mixer that goes on come as the queue's history shows, and tell their blocks.
 use Rattle.std.proofs.Common.{◌≡◌, ◌≢◌, ⊎_elim, ℕ, ◌<◌, ◌&&◌, not, Bool, true, false, true≢false, if◌then◌else◌, is_some, List, [], ◌∷◌, ◌++◌, length, Option, Some, None, refl, sym, ap, subst, ◌∙◌, arith}
-use Rattle.std.proofs.lemmas.Bool.{and_parts, cases_eq}
-use Rattle.std.proofs.lemmas.Option.{same_Some}
-use Rattle.af_base.proofs.Basics.{some_at}
-use Rattle.af_base.specs.declared.state.FastState.{FastState}
-use Rattle.af_base.specs.Turn.{Turn, turn_of}
-use Rattle.af_life.proofs.Basics.{returning_away, welcomed_at}
-use Rattle.af_life.specs.declared.kept.Holder.TheVariants.{Home}
-use Rattle.af_life.specs.declared.kept.TrackKept.{TrackKept}
-use Rattle.af_life.specs.Edits.{after_ack, comes_home, welcomed}
-use Rattle.af_life.specs.Kept.{NormalKept, Outside, is_home, is_returning, slot_number, track_at}
-use Rattle.af_link.specs.declared.links.Links.{Links}
+use Rattle.af_told_law.proofs.Common.{AreTogether, FastState, HasHistory, Home, IsLegal, Links, NormalKept, NormalState, Outside, Run, ServerState, Session, SessionState, TrackKept, Turn, after_ack, and_parts, at, away_slot, carries, cases_eq, comes_home, home_stream, in_hand, is_home, is_returning, kept_of, returning_away, same_Some, slot_for, slot_number, slot_of, some_at, stream_at, told_at, track_at, turn_of, welcomed, welcomed_at}
 use Rattle.af_model.specs.declared.states.MutatorEvent.TheVariants as mutator
 use Rattle.af_model.specs.declared.states.ObserverEvent.TheVariants as observer
-use Rattle.af_model.specs.StateQueue.{HasHistory, carries, slot_of}
-use Rattle.af_normal.specs.LegalTurned.{IsLegal, home_stream, in_hand}
-use Rattle.af_normal.specs.Mixing.{stream_at}
-use Rattle.af_normal.specs.State.{NormalState, kept_of}
-use Rattle.af_normal.proofs.OrderEdits.{away_slot}
-use Rattle.af_runs.specs.Runs.{Run, told_at}
-use Rattle.af_runs.specs.Sessions.{Session}
-use Rattle.af_server.specs.Order.{ServerState}
-use Rattle.af_stateq.specs.Mutates.{at}
-use Rattle.af_engine.specs.Met.{slot_for}
-use Rattle.af_session.specs.Together.{AreTogether, SessionState}
 use Rattle.af_told_law.specs.Between.{StandsBefore}
 use Rattle.af_told_law.specs.Comers.{ComersTell, ComesBy}
 use Rattle.af_told_law.specs.Places.{StreamsGo}

@@ -1,17 +1,7 @@
 -- The stream proxies that come home in a turn of the normal mixer tell their blocks, if it is known how they come.
 use Rattle.std.proofs.Common.{◌≡◌, ℕ, ◌<◌, ◌&&◌, Bool, true, false, true≢false, if◌then◌else◌, is_some, List, length, Option, Some, None, refl, sym, ◌∙◌, arith}
-use Rattle.af_base.proofs.Basics.{some_at}
-use Rattle.af_base.specs.Turn.{Turn}
+use Rattle.af_told_law.proofs.Common.{Home, Lent, Returning, Run, ServerState, Session, SessionState, Turn, after_ack, at, is_home, is_returning, kept_of, slot_number, some_at, told_at, track_at}
 use Rattle.af_life.specs.declared.kept.Holder.{Holder}
-use Rattle.af_life.specs.declared.kept.Holder.TheVariants.{Home, Lent, Returning}
-use Rattle.af_life.specs.Edits.{after_ack}
-use Rattle.af_life.specs.Kept.{is_home, is_returning, slot_number, track_at}
-use Rattle.af_normal.specs.State.{kept_of}
-use Rattle.af_runs.specs.Runs.{Run, told_at}
-use Rattle.af_runs.specs.Sessions.{Session}
-use Rattle.af_server.specs.Order.{ServerState}
-use Rattle.af_stateq.specs.Mutates.{at}
-use Rattle.af_session.specs.Together.{SessionState}
 use Rattle.af_told_law.specs.Comers.{ComersTell, ComesBy}
 use Rattle.af_told_law.specs.Tells.{Tells, TellsAway, TellsServer}
 use Rattle.af_told_law.specs.Deeds.{Deeds, done_on}

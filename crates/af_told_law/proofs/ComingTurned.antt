@@ -1,29 +1,8 @@
 -- What is on its way between the mixers after a turn of the normal mixer that goes on, by what was before it, and where the slots of the observer's state lead.
 use Rattle.std.proofs.Common.{◌≡◌, ◌≢◌, ⊎_elim, ℕ, ◌-◌, ◌<◌, ◌&&◌, not, nat_lt, Bool, true, false, true≢false, is_some, List, [], ◌∷◌, ◌++◌, length, Option, Some, None, refl, sym, ap, subst, ◌∙◌, arith}
-use Rattle.std.proofs.lemmas.Bool.{and_parts, cases_eq, lt-ltb, not-true}
-use Rattle.std.proofs.lemmas.Grind.{fold-append}
-use Rattle.af_base.specs.declared.state.FastState.{FastState}
-use Rattle.af_base.specs.Log.{slots}
-use Rattle.af_base.specs.Turn.{Turn, turn_of}
-use Rattle.af_life.specs.Kept.{Outside, slot_number, track_at}
-use Rattle.af_link.specs.declared.links.Links.{Links}
-use Rattle.af_link.specs.declared.names.StreamNames.{StreamNames}
+use Rattle.af_told_law.proofs.Common.{AreTogether, FastState, HasHistory, IsLegal, Leads, Links, MutatorPoint, NormalState, ObserverPoint, Outside, Polls, Pushes, Run, ServerState, Session, SessionState, StreamNames, Turn, and_parts, at, away_slot, carries, cases_eq, cycle_frames, fold-append, is_pushed, kept_of, lt-ltb, mutated, not-true, observed, observer_next, observer_start, pushed_states, slot_for, slot_number, slots, state_at, track_at, turn_of}
 use Rattle.af_model.specs.declared.states.MutatorEvent.TheVariants as mutator
 use Rattle.af_model.specs.declared.states.ObserverEvent.TheVariants as observer
-use Rattle.af_model.specs.StateQueue.{HasHistory, MutatorPoint, ObserverPoint, carries, mutated, observed, observer_next, observer_start}
-use Rattle.af_normal.specs.LegalTurned.{IsLegal}
-use Rattle.af_normal.specs.State.{NormalState, kept_of}
-use Rattle.af_normal.proofs.OrderEdits.{away_slot}
-use Rattle.af_runs.specs.Runs.{Run}
-use Rattle.af_runs.specs.Sessions.{Session, cycle_frames}
-use Rattle.af_runs.specs.Told.{is_pushed, state_at}
-use Rattle.af_server.specs.Order.{ServerState}
-use Rattle.af_stateq.specs.Ends.{Polls, Pushes}
-use Rattle.af_stateq.specs.Laws.{pushed_states}
-use Rattle.af_stateq.specs.Mutates.{at}
-use Rattle.af_rendering.specs.Leads.{Leads}
-use Rattle.af_engine.specs.Met.{slot_for}
-use Rattle.af_session.specs.Together.{AreTogether, SessionState}
 use Rattle.af_rendering.proofs.NormalSteps.{turned_leads}
 use Rattle.af_rendering.proofs.QueueSeen.{SawUpTo, few_seen}
 use Rattle.af_told_law.specs.Between.{StandsBefore}

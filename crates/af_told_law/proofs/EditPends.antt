@@ -1,22 +1,7 @@
 -- Which slots have an item that waits for a push, while a turn edits the draft.
 use Rattle.std.proofs.Common.{◌≡◌, ◌≢◌, ℕ, zero, suc, ◌<◌, ◌≤◌, ◌&&◌, not, Bool, true, false, true≢false, MatchBool, is_some, refl, sym, ap, subst, ◌∙◌, length, Some, None, ⊎_elim, get_or-set_same, get_or-set_other, arith}
-use Rattle.std.specs.Prelude.{slice_set}
-use Rattle.std.proofs.lemmas.Bool.{cases_eq}
-use Rattle.af_base.specs.Log.{slots}
-use Rattle.af_base.specs.declared.state.FastState.{FastState}
-use Rattle.af_model.specs.Draft.{detached}
-use Rattle.af_model.specs.StateQueue.{carries}
-use Rattle.af_server.specs.Order.{ServerState}
+use Rattle.af_told_law.proofs.Common.{EditsTo, EditsTrack, FastState, IsSound, Lends, LetsGo, Mutates, NormalState, ServerState, StreamNames, at, carries, cases_eq, comer_slot, detached, entered, kept_of, leaver_slot, must_enter, must_leave, nothing_heard, setting_of, setup_of, slice_set, slot_number, slots, track_at}
 use Rattle.af_stateq.proofs.Bits.{attached_here, attached_else, detached_here, detached_else}
-use Rattle.af_stateq.specs.Mutates.{Mutates, at}
-use Rattle.af_link.specs.declared.names.StreamNames.{StreamNames}
-use Rattle.af_life.specs.Edits.{entered, must_enter, must_leave}
-use Rattle.af_life.specs.Kept.{nothing_heard, setting_of, slot_number, track_at}
-use Rattle.af_life.specs.Sound.{IsSound}
-use Rattle.af_normal.specs.Editing.{LetsGo, Lends}
-use Rattle.af_normal.specs.Mutating.{EditsTrack, EditsTo}
-use Rattle.af_normal.specs.State.{NormalState, kept_of, setup_of}
-use Rattle.af_normal.proofs.OrderEdits.{comer_slot, leaver_slot}
 use Rattle.af_told_law.proofs.AckPlaces.{none_set}
 use Rattle.af_told_law.proofs.EditPlaces.{Placed, all_placed}
 

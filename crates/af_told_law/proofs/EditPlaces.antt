@@ -1,25 +1,7 @@
 -- Where the edits of a turn leave the items of the queue, track by track.
 use Rattle.std.proofs.Common.{◌≡◌, ◌≢◌, ℕ, zero, suc, ◌<◌, ◌≤◌, ◌&&◌, ◌⊎◌, inl, inr, Bool, true, false, true≢false, MatchBool, sym, refl, ap, subst, ◌∙◌, List, [], ◌∷◌, length, length-set, Option, Some, None, ⊎_elim, get_or-set_same, get_or-set_other, arith}
-use Rattle.std.specs.Prelude.{slice_set}
-use Rattle.std.proofs.lemmas.Bool.{cases_eq, cases_lt}
-use Rattle.std.proofs.lemmas.Option.{none-some}
-use Rattle.af_base.specs.Log.{slots}
-use Rattle.af_life.proofs.Basics.{at_here, at_other, away_holds, set_each}
-use Rattle.af_server.specs.Order.{ServerState}
+use Rattle.af_told_law.proofs.Common.{EditsTo, EditsTrack, IsSound, Lends, LetsGo, NormalState, Returning, ServerState, Setup, TrackKept, apart, at, at_here, at_other, away_holds, cases_eq, cases_lt, comer_holds, comer_inside, comer_slot, entered, holds, is_home, kept_of, known_by, leaver_away, lends, lent_by, lets_go, must_enter, must_leave, none-some, nothing_heard, set_each, setting_of, setup_of, slice_set, slot_number, slots, sound_go, sound_lend, stream_at, track_at}
 use Rattle.af_server.specs.Slot.{listed}
-use Rattle.af_stateq.specs.Mutates.{at}
-use Rattle.af_life.specs.declared.kept.Holder.TheVariants.{Returning}
-use Rattle.af_life.specs.declared.kept.TrackKept.{TrackKept}
-use Rattle.af_life.specs.Heard.{known_by}
-use Rattle.af_life.specs.Kept.{Setup, track_at, slot_number, is_home, nothing_heard, setting_of}
-use Rattle.af_life.specs.Obeys.{holds}
-use Rattle.af_life.specs.Edits.{must_leave, must_enter, lent_by, entered}
-use Rattle.af_life.specs.Sound.{IsSound}
-use Rattle.af_normal.specs.Editing.{LetsGo, Lends, lets_go, lends}
-use Rattle.af_normal.specs.Mixing.{stream_at}
-use Rattle.af_normal.specs.Mutating.{EditsTrack, EditsTo}
-use Rattle.af_normal.specs.State.{NormalState, setup_of, kept_of}
-use Rattle.af_normal.proofs.OrderEdits.{apart, leaver_away, sound_go, comer_slot, comer_inside, comer_holds, sound_lend}
 
 -- an item that stands after one was written is that one, or stood before
 pub item_set : (items : List (Option ServerState)) (k : ℕ) (v : Option ServerState) (j : ℕ) (t : ServerState) → at (slice_set items k v) j ≡ Some t → ((j ≡ k) × (v ≡ Some t)) ⊎ (at items j ≡ Some t)
@@ -40,9 +22,6 @@ entering_home s e = first (is_home s.holder) _ e
 module _ (x : NormalState) (fine : (i : ℕ) → (setting_of (setup_of x) i).scale ≤ 4096) where
   abbrev slot_at : ℕ → ℕ
   slot_at j = slot_number (track_at x.tracks j)
-
-  abbrev Enters : ℕ → Bool
-  Enters j = must_enter (track_at x.tracks j)
 
   -- the slot is that of one of the first i tracks, which enters
   abbrev pub LentAt : ℕ → ℕ → Type 0

@@ -1,17 +1,7 @@
 -- The ends of a session that a run tells keep the lists of that run.
 use Rattle.std.proofs.Common.{◌≡◌, ℕ, ◌<◌, true, List, slice_get, Some, sym, ap, subst, ◌∙◌, arith}
-use Rattle.std.proofs.lemmas.Option.{slice_get_within}
-use Rattle.af_base.specs.declared.event.ServerEvent.{ServerEvent}
-use Rattle.af_party.specs.Parties.{PartyState, side_of_proxy}
-use Rattle.af_client.specs.Order.{ClientState}
-use Rattle.af_runs.specs.Blocks.{BlockTold, is_tame, server_list}
-use Rattle.af_runs.specs.ClientTurns.{Side, Track}
-use Rattle.af_runs.specs.KeptLists.{KeepsClient}
-use Rattle.af_runs.specs.Runs.{Run, side_of, told_at}
-use Rattle.af_runs.specs.Sessions.{Session, track_count}
-use Rattle.af_server.specs.Order.{ServerState}
+use Rattle.af_told_law.proofs.Common.{BlockTold, ClientState, KeepsClient, PartyState, Run, ServerEvent, ServerState, Session, SessionState, Side, Track, is_tame, server_list, side_of, side_of_proxy, slice_get_within, told_at, track_count}
 use Rattle.af_session.specs.Ends.{ends_from}
-use Rattle.af_session.specs.Together.{SessionState}
 use Rattle.af_told_law.specs.Alike.{TellAlike}
 use Rattle.af_told_law.specs.Deeds.{DeedTold, Deeds, SawOwnBy, SawOwnOf, done_on, tame_marks}
 use Rattle.af_told_law.specs.KeptEnds.{KeepsLists, KeepsProxy, KeepsTrack, SawAtHome}

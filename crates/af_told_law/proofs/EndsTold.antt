@@ -1,19 +1,7 @@
 -- Once the normal mixer has ended all clients have, in the session and in the run.
 use Rattle.std.proofs.Common.{◌≡◌, ℕ, ◌<◌, Bool, true, false, if◌then◌else◌, map, length, slice_get, Some, sym, ap, ◌∙◌, subst, arith}
-use Rattle.std.proofs.lemmas.List.{length-map}
-use Rattle.std.proofs.lemmas.Option.{same_Some, slice_get-map, slice_get_within}
-use Rattle.std.specs.Option.{option_map}
-use Rattle.af_base.proofs.Basics.{some_at}
-use Rattle.af_judge.proofs.Basics.{each_long, told_each}
-use Rattle.af_life.specs.Kept.{NormalKept}
-use Rattle.af_party.specs.Parties.{PartyState}
-use Rattle.af_runs.specs.Clients.{ends}
-use Rattle.af_runs.specs.ClientTurns.{Track}
-use Rattle.af_runs.specs.Runs.{Run, TrackTold, each_track, told_at, with_ends}
-use Rattle.af_runs.specs.Sessions.{Session}
-use Rattle.af_session.specs.Rounds.{end_party}
+use Rattle.af_told_law.proofs.Common.{NormalKept, PartyState, Run, Session, SessionState, Track, TrackTold, each_long, each_track, end_party, ends, length-map, option_map, same_Some, slice_get-map, slice_get_within, some_at, told_at, told_each, with_ends}
 use Rattle.af_session.specs.Rounds as parties
-use Rattle.af_session.specs.Together.{SessionState}
 use Rattle.af_told_law.specs.Tells.{Tells, TellsTrack}
 use Rattle.af_told_law.specs.Deeds.{Deeds}
 

@@ -1,14 +1,7 @@
 -- The entries of a log's last part are dealt out to the rounds by which the log grew.
 use Rattle.std.proofs.Common.{◌≡◌, ℕ, ◌+◌, ◌≤◌, List, [], ◌∷◌, ◌++◌, length, take, drop, refl, sym, ap, ◌∙◌, append_assoc, arith}
-use Rattle.std.specs.Prelude.{sum_by}
+use Rattle.af_told_law.proofs.Common.{CycleEntry, EntrySeen, Frame, Logged, drop-append-le, entries_seen, length-append, length-drop, same_length, sum_by, sum_by-append, take-append-le, taken_by}
 use Rattle.std.proofs.Math.Seq.{drop-append_seam, take-append_seam}
-use Rattle.std.proofs.lemmas.List.{drop-append-le, length-append, length-drop, take-append-le}
-use Rattle.std.proofs.lemmas.List.Sums.{sum_by-append}
-use Rattle.af_base.specs.declared.frame.Frame.{Frame}
-use Rattle.af_base.specs.declared.log.CycleEntry.{CycleEntry}
-use Rattle.af_base.specs.Log.{Logged}
-use Rattle.af_model.proofs.Basics.{same_length}
-use Rattle.af_model.specs.Journals.{EntrySeen, entries_seen, taken_by}
 use Rattle.af_told_law.proofs.LogMore.{GrowsBy, entries_grown}
 
 sum_first : (e : CycleEntry) (es : List CycleEntry) → sum_by taken_by (e ∷ es) ≡ taken_by e + sum_by taken_by es

@@ -1,13 +1,6 @@
 -- The frames that the slots of an entry took are those by which the journal tells it.
 use Rattle.std.proofs.Common.{◌≡◌, ◌⊎◌, inl, inr, ℕ, ◌+◌, ◌-◌, ◌<◌, ◌≤◌, Bool, if◌then◌else◌, take, drop, List, sym, ap, ◌∙◌, arith}
-use Rattle.std.proofs.lemmas.Bool.{cases_eq, ne_eqb}
-use Rattle.std.proofs.lemmas.List.{drop-drop, drop-take, take-take}
-use Rattle.af_base.specs.declared.frame.Frame.{Frame}
-use Rattle.af_base.specs.declared.log.CycleEntry.{CycleEntry}
-use Rattle.af_base.specs.Log.{count_seen, entry_slot, frames_taken, slots}
-use Rattle.af_model.specs.Cycles.{place_of, taken_before}
-use Rattle.af_model.specs.Journals.{slot_frames, taken_by}
-use Rattle.af_runs.proofs.Basics.{taken_up}
+use Rattle.af_told_law.proofs.Common.{CycleEntry, Frame, cases_eq, count_seen, drop-drop, drop-take, entry_slot, frames_taken, ne_eqb, place_of, slot_frames, slots, take-take, taken_before, taken_by, taken_up}
 use Rattle.af_told_law.specs.MixLaws.{entry_told}
 
 module _ (frames : List Frame) (entry : CycleEntry) (place i : ℕ) (first : (entry_slot entry i).first ≡ place_of (place + taken_before entry i) (entry_slot entry i).seen) where

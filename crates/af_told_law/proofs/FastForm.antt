@@ -1,10 +1,7 @@
 -- The entries of a fast turn: each but the last is Mixed, and there are as many as were asked for, or the last isn't Mixed.
 use Rattle.std.proofs.Common.{◌≡◌, ◌⊎◌, inl, inr, ℕ, zero, suc, ◌+◌, ◌≤◌, Bool, true, false, List, [], ◌∷◌, drop, length, refl, ap, arith}
-use Rattle.af_base.specs.declared.frame.Frame.{Frame}
-use Rattle.af_base.specs.declared.log.CycleEntry.{CycleEntry}
-use Rattle.af_model.specs.Cycles.{is_mixed}
-use Rattle.af_model.specs.Journals.{EntrySeen, entries_seen, taken_by}
-use Rattle.af_runs.specs.Rounds.{AreMixedBut, IsFastTurn}
+use Rattle.af_told_law.proofs.Common.{AreMixedBut, CycleEntry, EntrySeen, Frame, entries_seen, is_mixed, taken_by}
+use Rattle.af_runs.specs.Rounds.{IsFastTurn}
 
 -- so many entries, or fewer if one isn't Mixed: it is the last
 abbrev pub AreTurn : {X : Type 0} → (X → Bool) → ℕ → List X → Type 0

@@ -1,17 +1,7 @@
 -- What the cycles of a fast turn leave of the mixer that went on: its log grows.
 use Rattle.std.proofs.Common.{◌≡◌, ℕ, zero, suc, ◌+◌, ◌<◌, ◌≤◌, ◌||◌, Bool, true, false, List, [], ◌∷◌, ◌++◌, length, length-append, append-nil, append_assoc, refl, sym, ap, ◌∙◌, arith}
-use Rattle.std.proofs.lemmas.Bool.{ne_eqb}
-use Rattle.std.proofs.lemmas.Grind.{fold-append}
-use Rattle.af_base.specs.declared.frame.Frame.{Frame}
-use Rattle.af_base.specs.declared.log.Cycle.{Cycle}
-use Rattle.af_base.specs.declared.log.Cycle.TheVariants as cycle
-use Rattle.af_base.specs.declared.log.CycleEntry.{CycleEntry}
-use Rattle.af_base.specs.Log.{slots}
-use Rattle.af_fast.specs.Mixer.{MixerState, is_over}
-use Rattle.af_fast.specs.Mixing.{AddsCycle, Writes}
-use Rattle.af_model.specs.Cycles.{has_exit, is_exit, is_mixed, taken_before}
-use Rattle.af_session.specs.FastTurns.{IsCycle, IsFastTurn, WritesCycle}
-use Rattle.af_session.specs.Together.{SessionState}
+use Rattle.af_told_law.proofs.Common.{AddsCycle, Cycle, CycleEntry, Frame, IsCycle, IsFastTurn, MixerState, SessionState, Writes, WritesCycle, fold-append, has_exit, is_mixed, is_over, ne_eqb, slots, taken_before}
+use Rattle.af_model.specs.Cycles.{is_exit}
 use Rattle.af_told_law.proofs.Basics.{no_exit}
 
 -- a mixer that hasn't ended, whose log has room

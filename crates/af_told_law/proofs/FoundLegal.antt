@@ -1,19 +1,6 @@
 -- A turn that saw what a run has found is legal by it: by the own fronts of the lawful blocks, and on other blocks by the fronts that it really saw.
 use Rattle.std.proofs.Common.{◌≡◌, ◌⊎◌, inl, inr, ℕ, ◌<◌, Bool, true, false, true≢false, if◌then◌else◌, List, [], length, refl, sym, ap, ◌∙◌, subst}
-use Rattle.af_base.specs.declared.log.SlotEntry.{SlotEntry}
-use Rattle.af_base.specs.Turn.{Turn, ended_turn}
-use Rattle.af_life.specs.Edits.{after_ack}
-use Rattle.af_life.specs.Heard.{learnt}
-use Rattle.af_life.specs.Kept.{NormalKept, Outside, Setup, asked, is_home, track_at, track_in}
-use Rattle.af_life.specs.Looks.{LegalLooks}
-use Rattle.af_life.specs.Sound.{IsSound}
-use Rattle.af_life.specs.Turn.{LegalTurn}
-use Rattle.af_life.specs.TurnEvents.{takes_from}
-use Rattle.af_model.specs.declared.shape.Shape.{Shape}
-use Rattle.af_model.specs.Cycles.{Listed, LooksBy}
-use Rattle.af_runs.specs.Blocks.{Marks, listed, server_list}
-use Rattle.af_runs.specs.Found.{LegalTurnBy, TurnFound, outside_of, take_front}
-use Rattle.af_runs.specs.Fronts.{front_of, fronts_by, lawful_front}
+use Rattle.af_told_law.proofs.Common.{IsSound, LegalLooks, LegalTurn, LegalTurnBy, Listed, LooksBy, Marks, NormalKept, Outside, Setup, Shape, SlotEntry, Turn, TurnFound, after_ack, asked, ended_turn, front_of, fronts_by, is_home, lawful_front, learnt, listed, outside_of, server_list, take_front, takes_from, track_at, track_in}
 use Rattle.af_told_law.specs.Outsides.{AnswerAlike, AreAlike, IsFound, SameFront, SameFronts, SawCommands, SawStream}
 use Rattle.af_told_law.proofs.KeptAlike.{looks_told}
 use Rattle.af_told_law.proofs.KeptLooks.{all_looks_alike}

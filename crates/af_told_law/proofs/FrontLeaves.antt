@@ -1,18 +1,7 @@
 -- What a look leaves of its server is the same by each front by which it may have answered so.
 use Rattle.std.proofs.Common.{◌≡◌, ℕ, ◌^◌, ◌==◌, ◌&&◌, ◌||◌, not, min, nat_lt, Bool, true, false, true≢false, if◌then◌else◌, Some, None, refl, sym, ap, ◌∙◌, subst, eqb-true, arith}
-use Rattle.af_base.proofs.Basics.{both, is_not_below, not_below_is}
-use Rattle.af_base.specs.declared.log.SlotEntry.{SlotEntry}
-use Rattle.af_base.specs.declared.seen.Seen.{Seen}
+use Rattle.af_told_law.proofs.Common.{Listed, Seen, Shape, SlotEntry, ahead, ahead_behind, ahead_itself, ahead_word, behind, both, dropped_by, flush_position, flushed_front, front_by_answer, front_of, is_not_below, is_noticed, is_own_inside, kept, leaves_open, look_at, not_below_is, not_true, outside, own_front, past_front, wrapped}
 use Rattle.af_base.specs.declared.seen.Seen.TheVariants as seen
-use Rattle.af_judge.proofs.Basics.{ahead_behind, ahead_itself, ahead_word}
-use Rattle.af_model.proofs.Basics.{not_true}
-use Rattle.af_model.specs.declared.shape.Shape.{Shape}
-use Rattle.af_model.specs.Cycles.{Listed, kept}
-use Rattle.af_model.specs.Point.{wrapped}
-use Rattle.af_model.specs.Room.{ahead, outside}
-use Rattle.af_model.specs.ServerCalls.{dropped_by, flush_position, is_noticed, look_at, past_front}
-use Rattle.af_model.specs.Spelled.{own_front}
-use Rattle.af_runs.specs.Fronts.{behind, flushed_front, front_by_answer, front_of, is_own_inside, leaves_open}
 use Rattle.af_judge.proofs.LookFront.{noticed_new}
 
 -- both fronts are noticed alike, and if they aren't noticed both lie alike in the block
@@ -23,9 +12,6 @@ ahead_back : (f p r : ℕ) → ahead (behind p (ahead f p)) r ≡ ahead f r
 ahead_back f p r = (let b : behind p (ahead f p) ≡ wrapped f = omega arith in ap (λ (g : ℕ). ahead g r) b) ∙ (let e : ahead (wrapped f) r ≡ ahead f r = omega arith in e)
 
 module _ (k : Shape) (old asked : ℕ) (slot : SlotEntry) (f : ℕ) (answers : slot.seen ≡ look_at k old asked slot.flush slot.rear f) where
-  abbrev new : Bool
-  new = not (slot.flush == old)
-
   abbrev at : ℕ
   at = flush_position k.wrap slot.flush slot.rear
 

@@ -1,17 +1,8 @@
 -- What a turn has before it looks at the acknowledgement: each stream proxy is where it was, and differs at most by its hand.
 use Rattle.std.proofs.Common.{◌≡◌, ℕ, zero, suc, ◌≤◌, ◌==◌, ◌&&◌, Bool, true, false, MatchBool, if◌then◌else◌, refl, sym, ap, subst, ◌∙◌, List, [], ◌∷◌, length, Option, Some, arith}
-use Rattle.std.specs.Prelude.{slice_set}
-use Rattle.std.proofs.lemmas.Option.{none-some, same_Some}
-use Rattle.af_server.specs.Order.{ServerState}
-use Rattle.af_link.specs.declared.links.Links.{Links}
-use Rattle.af_life.specs.Kept.{NormalKept, is_returning, slot_number, track_at}
-use Rattle.af_normal.specs.LegalTurned.{home_stream, in_hand}
-use Rattle.af_normal.specs.Mixing.{stream_at}
-use Rattle.af_normal.specs.Order.{IsInOrder, IsTied}
-use Rattle.af_normal.specs.State.{NormalState, kept_of}
-use Rattle.af_normal.specs.Turning.{Begins, HandsTo, HasHands, without_hand}
+use Rattle.af_told_law.proofs.Common.{Begins, BegunBy, HandsTo, HasHands, IsTied, Links, NormalKept, NormalState, ServerState, begun_by, home_stream, in_hand, is_returning, kept_of, none-some, same_Some, slice_set, slot_number, stream_at, track_at, without_hand}
+use Rattle.af_normal.specs.Order.{IsInOrder}
 use Rattle.af_normal.proofs.Cases.{none_of_zero, some_of_other}
-use Rattle.af_normal.proofs.LegalBegins.{BegunBy, begun_by}
 use Rattle.af_normal.proofs.Servable.{handed_same, handed_tied, have_hands, whole_begun}
 
 -- the proxy is one that has this part

@@ -1,20 +1,7 @@
 -- A stream proxy that is home after a turn of the normal mixer, or is lent by it, was home once the acknowledgement was seen.
 use Rattle.std.proofs.Common.{◌≡◌, inl, inr, ℕ, zero, suc, ◌==◌, ◌&&◌, Bool, true, false, true≢false, if◌then◌else◌, fold, List, [], ◌∷◌, length, refl, sym, ap, ◌∙◌, subst}
-use Rattle.std.specs.Prelude.{slice_set}
-use Rattle.af_base.specs.declared.state.Command.{Command}
-use Rattle.af_base.specs.Command.{code_of}
-use Rattle.af_base.specs.Turn.{TakeSeen, Turn}
-use Rattle.af_judge.proofs.Basics.{push_tracks}
-use Rattle.af_life.proofs.Basics.{at_set}
-use Rattle.af_life.specs.declared.kept.Holder.TheVariants.{Returning}
-use Rattle.af_life.specs.declared.kept.TrackKept.{TrackKept}
-use Rattle.af_life.specs.Edits.{after_ack, after_push, edited, edited_to, entered, lend, lent_by, let_go, must_enter, must_leave, mutated, ordered}
-use Rattle.af_life.specs.Kept.{Learnt, NormalKept, Setup, asked, is_home, track_at}
-use Rattle.af_life.specs.Plays.{after_take, after_takes}
-use Rattle.af_life.specs.Sound.{IsSound}
-use Rattle.af_life.specs.Turn.{after_edits, after_tracks, turn_after}
-use Rattle.af_model.specs.Draft.{commanded as with_command}
-use Rattle.af_judge.proofs.SoundTurns.{sound_acked}
+use Rattle.af_told_law.proofs.Common.{Command, IsSound, Learnt, NormalKept, Returning, Setup, TakeSeen, TrackKept, Turn, after_ack, after_edits, after_push, after_take, after_takes, after_tracks, asked, at_set, code_of, commanded as with_command, edited, edited_to, entered, is_home, lend, lent_by, let_go, must_enter, must_leave, ordered, push_tracks, slice_set, sound_acked, track_at, turn_after}
+use Rattle.af_life.specs.Edits.{mutated}
 use Rattle.af_told_law.proofs.TurnAlike.{served_holder}
 
 -- the proxy of a track is home

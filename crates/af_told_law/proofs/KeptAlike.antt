@@ -1,18 +1,8 @@
 -- Two lists of a server that tell alike do so after the events of a look, by each front by which it answers so.
 use Rattle.std.proofs.Common.{◌≡◌, ℕ, suc, ◌+◌, ◌-◌, ◌==◌, not, Bool, true, false, true≢false, if◌then◌else◌, is_some, fold, MatchOption, List, [], ◌∷◌, ◌++◌, length, length-append, Option, Some, None, refl, sym, ap, ◌∙◌, subst, arith}
-use Rattle.std.proofs.lemmas.Grind.{fold-append}
-use Rattle.af_base.specs.declared.event.ServerEvent.{ServerEvent}
+use Rattle.af_told_law.proofs.Common.{IsSeen, Listed, LooksBy, Seen, ServerEvent, ServerKept, Shape, SlotEntry, after_look, ahead, cycle_events, fold-append, front_of, is_noticed, kept, kept_more, look_at, look_events, outside, server_keeps, server_kept, wrapped}
 use Rattle.af_base.specs.declared.event.ServerEvent.TheVariants as server
-use Rattle.af_base.specs.declared.log.SlotEntry.{SlotEntry}
-use Rattle.af_base.specs.declared.seen.Seen.{Seen}
 use Rattle.af_base.specs.declared.seen.Seen.TheVariants as seen
-use Rattle.af_model.proofs.Basics.{kept_more}
-use Rattle.af_model.specs.declared.shape.Shape.{Shape}
-use Rattle.af_model.specs.Cycles.{IsSeen, Listed, LooksBy, after_look, cycle_events, kept}
-use Rattle.af_model.specs.Point.{wrapped}
-use Rattle.af_model.specs.Room.{ahead, outside}
-use Rattle.af_model.specs.ServerCalls.{ServerKept, is_noticed, look_at, look_events, server_keeps, server_kept}
-use Rattle.af_runs.specs.Fronts.{front_of}
 use Rattle.af_told_law.specs.Alike.{TellAlike, bare}
 use Rattle.af_told_law.proofs.FrontLeaves.{Leaves, told_leaves}
 
@@ -110,10 +100,7 @@ after_drops asked false (seen.Shut front rear) = tt
 
 look_long : (answer : Seen) (flush rear f g : ℕ) → length (look_events answer flush rear f) ≡ length (look_events answer flush rear g)
 look_long seen.Absent flush rear f g = refl
-look_long (seen.Frames count) flush rear f g = refl
-look_long seen.Empty flush rear f g = refl
-look_long (seen.Flushed dropped) flush rear f g = refl
-look_long (seen.Shut front r) flush rear f g = refl
+look_long _ flush rear f g = refl
 
 pub some_long : (was : Bool) (more : List ServerEvent) (answer : Seen) (flush rear f g : ℕ) → length ((if was then [] else look_events answer flush rear f) ++ more) ≡ length ((if was then [] else look_events answer flush rear g) ++ more)
 some_long true more answer flush rear f g = refl

@@ -1,18 +1,7 @@
 -- Two lists of a server that tell alike do so after the looks of a turn of the normal mixer, by each front by which they answer so.
 use Rattle.std.proofs.Common.{◌≡◌, ℕ, ◌+◌, ◌≤◌, Bool, true, false, if◌then◌else◌, is_some, List, [], ◌∷◌, ◌++◌, length, length-append, refl, sym, ap, ◌∙◌, subst, arith, append_assoc, append-nil}
-use Rattle.std.specs.List.{flat_map}
-use Rattle.af_base.specs.declared.event.ServerEvent.{ServerEvent}
+use Rattle.af_told_law.proofs.Common.{CommandLook, LegalLooks, Listed, LooksBy, ServerEvent, ServerKept, Shape, TakeSeen, all_command_events, as_slot, command_events, cycle_events, did, flat_map, front_of, fronts_by, kept, kept_more, look_events, shows_command, take_front, takes_command}
 use Rattle.af_base.specs.declared.event.ServerEvent.TheVariants as server
-use Rattle.af_base.specs.declared.turn.CommandLook.{CommandLook}
-use Rattle.af_base.specs.Turn.{TakeSeen}
-use Rattle.af_life.specs.Looks.{LegalLooks, all_command_events, as_slot, command_events, did, takes_command}
-use Rattle.af_life.specs.Obeys.{shows_command}
-use Rattle.af_model.proofs.Basics.{kept_more}
-use Rattle.af_model.specs.declared.shape.Shape.{Shape}
-use Rattle.af_model.specs.Cycles.{Listed, LooksBy, cycle_events, kept}
-use Rattle.af_model.specs.ServerCalls.{ServerKept, look_events}
-use Rattle.af_runs.specs.Found.{take_front}
-use Rattle.af_runs.specs.Fronts.{front_of, fronts_by}
 use Rattle.af_told_law.specs.Alike.{TellAlike, bare}
 use Rattle.af_told_law.proofs.FrontLeaves.{Leaves, told_leaves}
 use Rattle.af_told_law.proofs.KeptAlike.{NoDrops, answers, looks_alike, some_long, some_look, told_alike, undropped_alike}

@@ -1,26 +1,8 @@
 -- What is known of the queue and of the report stays known while no turn of the normal mixer is made.
 use Rattle.std.proofs.Common.{◌≡◌, ℕ, ◌-◌, ◌<◌, ◌==◌, ◌||◌, Bool, true, false, if◌then◌else◌, fold, inr, List, [], ◌∷◌, ◌++◌, length, refl, sym, ap, subst, ◌∙◌, arith}
-use Rattle.std.specs.List.{list_any}
-use Rattle.std.proofs.lemmas.List.Folds.{list_any-append}
-use Rattle.af_base.proofs.Basics.{or_false}
-use Rattle.af_base.specs.declared.state.FastState.{FastState}
-use Rattle.af_model.specs.declared.states.MutatorEvent.{MutatorEvent}
+use Rattle.af_told_law.proofs.Common.{EntrySeen, FastState, Frame, IsNewSession, Item, MutatorEvent, NormalState, ObserverEvent, QueueTold, RoundSeen, Run, ScriptData, Session, SessionState, SharedState, calls_alone, cycle_alone, cycle_frames, is_look_at, list_any, list_any-append, met, new_run, observer_does, one, ones, or_false, queue_met, session_of, state_at, two, was_seen, with_ends, with_mix, with_poll}
 use Rattle.af_model.specs.declared.states.MutatorEvent.TheVariants as mutator
-use Rattle.af_model.specs.declared.states.ObserverEvent.{ObserverEvent}
 use Rattle.af_model.specs.declared.states.ObserverEvent.TheVariants as observer
-use Rattle.af_model.specs.Journals.{EntrySeen, RoundSeen}
-use Rattle.af_model.specs.Order.{one, two, ones}
-use Rattle.af_normal.specs.State.{NormalState}
-use Rattle.af_runs.specs.Runs.{Run, met, new_run, with_ends, with_mix, with_poll}
-use Rattle.af_runs.specs.Sessions.{Session, cycle_frames}
-use Rattle.af_runs.specs.Told.{Item, QueueTold, is_look_at, observer_does, queue_met, state_at, was_seen}
-use Rattle.af_runs.specs.TurnRuns.{calls_alone, cycle_alone}
-use Rattle.af_script.specs.Data.{ScriptData}
-use Rattle.af_session.specs.NewSession.{IsNewSession}
-use Rattle.af_engine.specs.Shares.{SharedState}
-use Rattle.af_session.specs.Together.{SessionState}
-use Rattle.af_base.specs.declared.frame.Frame.{Frame}
-use Rattle.af_runs.specs.LegalRuns.{session_of}
 use Rattle.af_told_law.proofs.Basics.{ones_observed}
 use Rattle.af_told_law.specs.QueueTurned.{QueueKnown, ReportMet}
 

@@ -1,28 +1,10 @@
 -- A turn that is legal by one outside is legal by one that is alike, and each end's list grows by the same.
 use Rattle.std.proofs.Common.{◌≡◌, ◌⊎◌, inl, inr, ℕ, ◌<◌, ◌&&◌, not, Bool, true, false, if◌then◌else◌, is_some, List, [], ◌∷◌, ◌++◌, length, Option, Some, None, refl, sym, ap, ◌∙◌, subst}
-use Rattle.std.specs.Prelude.{MatchBool, MatchOption}
-use Rattle.std.specs.List.{AllByRecursion, flat_map}
-use Rattle.af_base.specs.declared.event.ServerEvent.{ServerEvent}
+use Rattle.af_told_law.proofs.Common.{AllByRecursion, CommandLook, GoesOn, Heard, IsServed, IsSound, LegalLooks, LegalPush, LegalTake, LegalTrack, LegalTurn, Listed, LooksBy, MatchBool, MatchOption, NormalKept, Outside, ServerEvent, Setup, SlotEntry, TakeSeen, TrackKept, Turn, after_ack, after_edits, after_look, all_command_events, as_slot, asked, command_events, command_list, cycle_events, did, flat_map, going, invalid, is_found_shut, is_home, kept, learnt, look_at, look_events, mix_events, mutator_list, nothing_seen, number_seen, push_list, status_events, stream_list, takes_command, takes_from, track_at, track_in, tracks_at, tracks_due}
 use Rattle.af_base.specs.declared.event.ServerEvent.TheVariants as server
-use Rattle.af_base.specs.declared.log.SlotEntry.{SlotEntry}
 use Rattle.af_base.specs.declared.seen.Seen.TheVariants as seen
-use Rattle.af_base.specs.declared.turn.CommandLook.{CommandLook}
-use Rattle.af_base.specs.Turn.{TakeSeen, Turn}
-use Rattle.af_life.specs.declared.kept.Heard.{Heard}
-use Rattle.af_life.specs.declared.kept.TrackKept.{TrackKept}
-use Rattle.af_life.specs.Edits.{LegalPush, after_ack}
-use Rattle.af_life.specs.Heard.{learnt}
-use Rattle.af_life.specs.Kept.{NormalKept, Outside, Setup, asked, is_home, nothing_seen, track_at, track_in}
-use Rattle.af_life.specs.Looks.{LegalLooks, all_command_events, as_slot, command_events, did, takes_command}
 use Rattle.af_life.specs.Obeys.{slot_for}
-use Rattle.af_life.specs.Plays.{LegalTake, tracks_due}
-use Rattle.af_life.specs.Serves.{IsServed, LegalTrack, is_found_shut}
-use Rattle.af_life.specs.Sound.{IsSound}
-use Rattle.af_life.specs.Turn.{GoesOn, LegalTurn, after_edits}
-use Rattle.af_life.specs.TurnEvents.{command_list, going, invalid, mix_events, mutator_list, number_seen, push_list, status_events, stream_list, takes_from, tracks_at}
 use Rattle.af_model.specs.declared.states.MutatorEvent.TheVariants as mutator
-use Rattle.af_model.specs.Cycles.{Listed, LooksBy, after_look, cycle_events, kept}
-use Rattle.af_model.specs.ServerCalls.{look_at, look_events}
 use Rattle.af_told_law.specs.Outsides.{AnswerAlike, AreAlike, LearnAlike, SameFront, SameFronts}
 use Rattle.af_told_law.proofs.TakenHome.{each_take}
 use Rattle.af_told_law.proofs.TurnAlike.{after_edits_same, heard_then_same, learn_alike, ready_then_same, tracks_same}

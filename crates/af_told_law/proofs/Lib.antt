@@ -1,3 +1,4 @@
+pub mod Common
 pub mod Basics
 pub mod NewTold
 pub mod ClientTold
@@ -20,7 +21,6 @@ pub mod TurnQueue
 pub mod KnownSteps
 pub mod ReportSeen
 pub mod TurnShared
-pub mod EditsPush
 pub mod LoadTold
 pub mod NormalShared
 pub mod LogMore

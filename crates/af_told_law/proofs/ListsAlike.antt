@@ -1,22 +1,7 @@
 -- What a turn does on alike lists is told alike, whichever fronts its looks really saw.
 use Rattle.std.proofs.Common.{◌≡◌, ℕ, ◌<◌, ◌≤◌, ◌&&◌, not, nat_le, Bool, true, false, if◌then◌else◌, List, [], ◌∷◌, ◌++◌, length, length-append, Option, Some, None, refl, sym, ap, ◌∙◌, subst, arith, append_assoc}
-use Rattle.std.specs.List.{AllByRecursion, flat_map}
-use Rattle.af_base.specs.declared.event.ServerEvent.{ServerEvent}
+use Rattle.af_told_law.proofs.Common.{AllByRecursion, IsSound, LegalLooks, LegalTurn, Listed, LooksBy, NormalKept, Outside, ServerEvent, Setup, Shape, TakeSeen, TrackKept, Turn, after_edits, all_command_events, asked, command_list, cycle_events, flat_map, front_of, fronts_by, heard, invalid, is_found_shut, is_home, is_mixed_here, learnt, mix_events, status_events, stream_list, take_front, takes_from, track_at, track_in, tracks_at}
 use Rattle.af_base.specs.declared.event.ServerEvent.TheVariants as server
-use Rattle.af_base.specs.Turn.{TakeSeen, Turn}
-use Rattle.af_life.specs.declared.kept.TrackKept.{TrackKept}
-use Rattle.af_life.specs.Heard.{heard, learnt}
-use Rattle.af_life.specs.Kept.{NormalKept, Outside, Setup, asked, is_home, track_at, track_in}
-use Rattle.af_life.specs.Looks.{LegalLooks, all_command_events}
-use Rattle.af_life.specs.Plays.{is_mixed_here}
-use Rattle.af_life.specs.Serves.{is_found_shut}
-use Rattle.af_life.specs.Sound.{IsSound}
-use Rattle.af_life.specs.Turn.{LegalTurn, after_edits}
-use Rattle.af_life.specs.TurnEvents.{command_list, invalid, mix_events, status_events, stream_list, takes_from, tracks_at}
-use Rattle.af_model.specs.declared.shape.Shape.{Shape}
-use Rattle.af_model.specs.Cycles.{Listed, LooksBy, cycle_events}
-use Rattle.af_runs.specs.Found.{take_front}
-use Rattle.af_runs.specs.Fronts.{front_of, fronts_by}
 use Rattle.af_rendering.proofs.OneTake.{one_take}
 use Rattle.af_told_law.specs.Alike.{TellAlike}
 use Rattle.af_told_law.specs.Outsides.{AreAlike, ListAlike}

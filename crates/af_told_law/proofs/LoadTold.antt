@@ -1,22 +1,9 @@
 -- The load of the report is a step of its own: the reader's list grows by it, and nothing else does.
 use Rattle.std.proofs.Common.{◌≡◌, ℕ, map, List, [], ◌∷◌, ◌++◌, refl, sym, ap, ◌∙◌}
-use Rattle.af_base.specs.declared.report.Report.{Report}
-use Rattle.af_base.specs.Turn.{Turn}
-use Rattle.af_fast.specs.Mixer.{MixerState}
-use Rattle.af_life.specs.TurnEvents.{going}
+use Rattle.af_told_law.proofs.Common.{BlockTold, Event, Load, MixerState, NormalState, PartyState, ReaderEvent, Report, Run, ServerEvent, Session, SessionState, TrackTold, Turn, going, one, ones, report_of, told_at, two, twos, with_load}
 use Rattle.af_link.specs.Reports.{ReaderSide}
-use Rattle.af_model.specs.declared.newest.ReaderEvent.{ReaderEvent}
-use Rattle.af_model.specs.declared.newest.ReaderEvent.TheVariants.{Load}
-use Rattle.af_model.specs.Order.{Event, one, two, ones, twos}
-use Rattle.af_normal.specs.State.{NormalState}
-use Rattle.af_party.specs.Parties.{PartyState}
-use Rattle.af_runs.specs.Blocks.{BlockTold}
-use Rattle.af_runs.specs.Runs.{Run, TrackTold, report_of, told_at, with_load}
-use Rattle.af_runs.specs.Sessions.{Session}
-use Rattle.af_session.specs.Together.{SessionState}
 use Rattle.af_told_law.specs.QueueTurned.{QueueKnown}
 use Rattle.af_told_law.specs.Tells.{Tells, TellsStream, TellsTrack}
-use Rattle.af_base.specs.declared.event.ServerEvent.{ServerEvent}
 use Rattle.af_told_law.specs.Deeds.{Deeds}
 
 -- ## The lists of two ends after events of the second

@@ -1,12 +1,6 @@
 -- A log that grew out of an empty one has no frames beside those that its entries took.
 use Rattle.std.proofs.Common.{◌≡◌, ℕ, ◌+◌, List, [], ◌∷◌, ◌++◌, length, take, drop, refl, sym, ap, ◌∙◌, take-append-drop, arith}
-use Rattle.std.specs.Prelude.{sum_by}
-use Rattle.std.proofs.lemmas.List.{length-drop}
-use Rattle.std.proofs.lemmas.List.Sums.{sum_by-append}
-use Rattle.af_base.specs.declared.frame.Frame.{Frame}
-use Rattle.af_base.specs.declared.log.CycleEntry.{CycleEntry}
-use Rattle.af_base.specs.Log.{Logged}
-use Rattle.af_model.specs.Journals.{entries_seen, frames_of, taken_by}
+use Rattle.af_told_law.proofs.Common.{CycleEntry, Frame, Logged, entries_seen, frames_of, length-drop, sum_by, sum_by-append, taken_by}
 use Rattle.af_told_law.proofs.LogMore.{GrowsBy}
 
 -- if there are as many frames as entries took, they are dealt out whole

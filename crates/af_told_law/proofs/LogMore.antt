@@ -1,22 +1,7 @@
 -- A session's log only grows: by entries and frames behind those that it has, in a fast turn by as many entries as it has cycles at most.
 use Rattle.std.proofs.Common.{◌≡◌, ℕ, zero, suc, ◌+◌, ◌≤◌, ◌==◌, ◌||◌, Bool, true, false, MatchBool, List, [], ◌∷◌, ◌++◌, length, refl, sym, ap, subst, ◌∙◌, append-nil, append_assoc, eqb-true, arith}
-use Rattle.std.specs.Prelude.{drop, sum_by}
-use Rattle.std.proofs.lemmas.List.{length-append}
-use Rattle.std.proofs.lemmas.List.Sums.{sum_by-append}
-use Rattle.af_base.specs.declared.frame.Frame.{Frame}
-use Rattle.af_base.specs.declared.log.Cycle.{Cycle}
-use Rattle.af_base.specs.declared.log.CycleEntry.{CycleEntry}
-use Rattle.af_base.specs.Log.{Logged, slots}
-use Rattle.af_base.specs.Turn.{Turn}
-use Rattle.af_fast.specs.Mixer.{MixerState, is_over}
-use Rattle.af_fast.specs.Mixing.{MixesOnce}
-use Rattle.af_model.specs.Cycles.{is_mixed, taken_before}
-use Rattle.af_model.specs.Journals.{EntrySeen, RoundNoted, entries_seen, taken_by}
-use Rattle.af_script.specs.declared.op.TurnSpec.{TurnSpec}
+use Rattle.af_told_law.proofs.Common.{Cycle, CycleEntry, EntrySeen, Frame, Given, IsFastTurn, IsRound, IsTurnRun, Logged, MixerState, MixesOnce, NormalTurned, RoundNoted, SessionState, Turn, TurnSpec, Turns, WritesCycle, drop, entries_seen, fast_round, is_mixed, is_over, length-append, normal_round, slots, still_round, sum_by, sum_by-append, taken_before, taken_by}
 use Rattle.af_script.specs.declared.op.TurnSpec.TheVariants as spec
-use Rattle.af_session.specs.FastTurns.{IsFastTurn, WritesCycle}
-use Rattle.af_session.specs.Rounds.{Given, IsRound, IsTurnRun, NormalTurned, Turns, fast_round, normal_round, still_round}
-use Rattle.af_session.specs.Together.{SessionState}
 use Rattle.af_session.proofs.FastAdds.{met_keeps, polled_keeps}
 use Rattle.af_rendering.proofs.RoundTold.{log_turned}
 

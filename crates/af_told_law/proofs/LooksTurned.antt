@@ -1,32 +1,8 @@
 -- What the looks of a normal mixer's turn that goes on brought, by the history of the queue after it: the items that the observer gave back last.
 use Rattle.std.proofs.Common.{◌≡◌, ◌≢◌, ◌⊎◌, inl, inr, ⊎_elim, ℕ, ◌+◌, ◌-◌, ◌≤◌, ◌<◌, ◌==◌, ◌&&◌, ◌||◌, not, Bool, true, false, true≢false, if◌then◌else◌, is_some, List, [], ◌∷◌, ◌++◌, append_assoc, Option, Some, None, refl, sym, ap, subst, ◌∙◌, arith}
-use Rattle.std.proofs.lemmas.Bool.{and_parts, cases_eq, eq-eqb, le-ltb, lt-ltb, ne_eqb, not-true}
-use Rattle.std.proofs.lemmas.Grind.{fold-append}
-use Rattle.std.proofs.lemmas.List.{append_cancel_left}
-use Rattle.af_base.specs.declared.state.Push.{Push}
-use Rattle.af_base.specs.declared.state.Push.TheVariants.{Busy, Clean, Pushed}
-use Rattle.af_base.specs.Log.{slots}
-use Rattle.af_base.specs.Turn.{Turn, turn_of}
-use Rattle.af_fast.specs.Mixer.{IsInOrder}
-use Rattle.af_life.specs.Edits.{after_push, is_exit}
-use Rattle.af_life.specs.Heard.{learnt}
-use Rattle.af_life.specs.Kept.{NormalKept, Outside}
-use Rattle.af_life.specs.Plays.{after_takes}
-use Rattle.af_life.specs.Turn.{after_edits, turn_after}
-use Rattle.af_life.specs.TurnEvents.{going, mutator_list, number_seen, push_list}
-use Rattle.af_link.specs.declared.names.StreamNames.{StreamNames}
-use Rattle.af_model.specs.declared.states.MutatorEvent.{MutatorEvent}
+use Rattle.af_told_law.proofs.Common.{Busy, Clean, HasHistory, IsInOrder, IsLegal, MutatorEvent, MutatorPoint, NormalKept, NormalState, ObserverEvent, ObserverPoint, Outside, Polls, Push, Pushed, Pushes, ServerState, SessionState, StreamNames, Turn, after_edits, after_push, after_takes, and_parts, append_cancel_left, at, cases_eq, eq-eqb, fold-append, going, is_exit, is_pushed, kept_of, le-ltb, learnt, lt-ltb, mutated, mutator_list, mutator_next, mutator_start, ne_eqb, not-true, number_seen, observed, observer_next, observer_start, push_list, setup_of, slots, turn_after, turn_of}
 use Rattle.af_model.specs.declared.states.MutatorEvent.TheVariants as mutator
-use Rattle.af_model.specs.declared.states.ObserverEvent.{ObserverEvent}
 use Rattle.af_model.specs.declared.states.ObserverEvent.TheVariants as observer
-use Rattle.af_model.specs.StateQueue.{HasHistory, MutatorPoint, ObserverPoint, mutated, mutator_next, mutator_start, observed, observer_next, observer_start}
-use Rattle.af_normal.specs.LegalTurned.{IsLegal}
-use Rattle.af_normal.specs.State.{NormalState, kept_of, setup_of}
-use Rattle.af_runs.specs.Told.{is_pushed}
-use Rattle.af_server.specs.Order.{ServerState}
-use Rattle.af_stateq.specs.Ends.{Polls, Pushes}
-use Rattle.af_stateq.specs.Mutates.{at}
-use Rattle.af_session.specs.Together.{SessionState}
 use Rattle.af_told_law.specs.Places.{StreamsGo, told_by}
 use Rattle.af_told_law.specs.Tells.{is_coming, is_going, items_given, none_comes}
 use Rattle.af_told_law.proofs.AckPlaces.{none_of}

@@ -1,17 +1,8 @@
 -- A history of the queue is one of its events with their items marked.
 use Rattle.std.proofs.Common.{◌≡◌, ℕ, zero, suc, ◌==◌, ◌&&◌, not, Bool, true, false, if◌then◌else◌, map, List, [], ◌∷◌, Option, Some, None, refl, ap, ◌∙◌, subst}
-use Rattle.std.proofs.lemmas.List.{length-map}
-use Rattle.std.specs.Option.{option_map}
-use Rattle.af_base.specs.declared.state.FastState.{FastState}
-use Rattle.af_model.specs.declared.states.MutatorEvent.{MutatorEvent}
+use Rattle.af_told_law.proofs.Common.{AreOf, Event, FastState, HasHistory, Item, Legal, MutatorEvent, MutatorPoint, ObserverEvent, ObserverPoint, QueuePoint, ServerState, has, legal, length-map, marked, marked_event, next, one, ones, option_map, start, two, twos}
 use Rattle.af_model.specs.declared.states.MutatorEvent.TheVariants as mutator
-use Rattle.af_model.specs.declared.states.ObserverEvent.{ObserverEvent}
 use Rattle.af_model.specs.declared.states.ObserverEvent.TheVariants as observer
-use Rattle.af_model.specs.Order.{Event, Legal, one, ones, two, twos}
-use Rattle.af_model.specs.StateQueue.{AreOf, HasHistory, MutatorPoint, ObserverPoint, QueuePoint, has, legal, next, start}
-use Rattle.af_runs.specs.KeptLists.{marked, marked_event}
-use Rattle.af_runs.specs.Told.{Item}
-use Rattle.af_server.specs.Order.{ServerState}
 use Rattle.af_told_law.specs.Tells.{marked_poll}
 
 abbrev Items : Type 0

@@ -1,31 +1,12 @@
 -- A round in which no lawful block is poked keeps the lawful blocks of its run unpoked.
 use Rattle.std.proofs.Common.{◌≡◌, ℕ, ◌<◌, ◌==◌, not, Bool, true, false, true≢false, if◌then◌else◌, fold, is_some, map, List, [], ◌∷◌, ◌++◌, drop, take, length, Option, Some, None, refl, sym, ap, ◌∙◌, arith, eqb-true}
-use Rattle.std.specs.List.{list_any}
-use Rattle.std.proofs.lemmas.List.FromFn.{get_or-map-range_with_len, length-map-range_with_len}
-use Rattle.af_base.proofs.Basics.{neither}
-use Rattle.af_base.specs.declared.event.ClientCall.{ClientCall}
+use Rattle.af_told_law.proofs.Common.{ClientCall, ClientEvent, EntrySeen, Marks, Moment, RoundNoted, RoundSeen, Run, Session, Track, TrackTold, Turn, TurnSpec, after_call, both_lawful, by_hand, called, calls_alone, calls_in, client-client, client_call_events, client_kept, client_list, command_list, cycle_alone, each_track, ends, found_before, get_or-map-range_with_len, hand-client, hand_list, is_lawful, is_of_commands, is_poke_on, is_tame, learnt, length-map-range_with_len, list_any, loaded, made_alone, marks_of, met_alone, neither, new_run, no_track, not_true, outside_of, rounds_seen, server-client, sides_of, stream_list, told_at, track_count, tracks_at, turn_alone, turned, turned_track, with_ends, with_load, with_poll, with_turn}
 use Rattle.af_base.specs.declared.event.ClientCall.TheVariants as call
-use Rattle.af_base.specs.declared.event.ClientEvent.{ClientEvent}
-use Rattle.af_base.specs.Turn.{Turn}
-use Rattle.af_life.specs.Heard.{learnt}
-use Rattle.af_life.specs.TurnEvents.{command_list, hand_list, stream_list, tracks_at}
-use Rattle.af_model.proofs.Basics.{both_lawful, not_true}
-use Rattle.af_model.specs.ClientCalls.{client_call_events, client_kept}
-use Rattle.af_model.specs.History.{Moment, by_hand, is_lawful}
-use Rattle.af_model.specs.Journals.{EntrySeen, RoundNoted, RoundSeen, rounds_seen}
-use Rattle.af_judge.proofs.BlocksTold.{client-client, hand-client, server-client}
 use Rattle.af_one_turn_run.proofs.OneClientTurn.{call_events, calls_add, calls_events, drop_first, only_on}
-use Rattle.af_runs.specs.Blocks.{Marks, client_list, is_tame}
-use Rattle.af_runs.specs.Clients.{ends}
-use Rattle.af_runs.specs.ClientTurns.{Track, after_call, is_of_commands, side_of}
-use Rattle.af_runs.specs.Found.{outside_of}
-use Rattle.af_runs.specs.LegalRuns.{is_poke_on, marks_of}
-use Rattle.af_runs.specs.Rounds.{loaded, turned}
-use Rattle.af_runs.specs.Runs.{Run, TrackTold, called, calls_in, each_track, found_before, new_run, new_track, no_track, sides_of, told_at, turned_track, with_ends, with_load, with_poll, with_turn}
+use Rattle.af_runs.specs.ClientTurns.{side_of}
+use Rattle.af_runs.specs.Runs.{new_track}
 use Rattle.af_runs.specs.Runs as run_of
-use Rattle.af_runs.specs.Sessions.{Session, setup_of, track_count}
-use Rattle.af_runs.specs.TurnRuns.{calls_alone, cycle_alone, made_alone, met_alone, turn_alone}
-use Rattle.af_script.specs.declared.op.TurnSpec.{TurnSpec}
+use Rattle.af_runs.specs.Sessions.{setup_of}
 use Rattle.af_script.specs.declared.op.TurnSpec.TheVariants as makes
 use Rattle.af_told_law.specs.Sizes.{IsSmallRun}
 use Rattle.af_told_law.specs.Marked.{AreRoundsMarked, IsMarkedRun, IsRoundMarked, IsTrackMarked}

@@ -1,35 +1,12 @@
 -- What meetings show of the servers that took part: each front that they saw is their own.
 use Rattle.std.proofs.Common.{◌≡◌, ℕ, ◌+◌, ◌<◌, ◌≤◌, true, false, true≢false, is_some, List, [], ◌∷◌, ◌++◌, length, slice_get, Option, Some, None, refl, sym, ap, ◌∙◌, subst, arith}
-use Rattle.std.proofs.lemmas.Option.{none-some, same_Some, slice_get_within}
-use Rattle.af_base.proofs.Basics.{some_at}
-use Rattle.af_base.specs.declared.event.ClientEvent.{ClientEvent}
-use Rattle.af_base.specs.declared.event.HandEvent.{HandEvent}
-use Rattle.af_base.specs.declared.event.ServerEvent.{ServerEvent}
+use Rattle.af_told_law.proofs.Common.{AllSeeOwn, AreClientsOf, AreTogether, ClientEvent, ClientState, FastState, HandEvent, HandSide, IsClientList, IsServerList, LeadAway, Links, Made, Meets, MeetsAll, MeetsAway, MeetsStream, Met, MixerState, PartyState, SeesTaken, ServerEvent, ServerKept, ServerState, SessionState, Shape, SpotMet, TrackKept, TrackMet, at, client_made, is_home, is_lawful, item_at, none-some, proxies_of, same_Some, server_begins, server_keeps, server_made, slice_get_within, slot_for, some_at, spot_of, stream_at, track_at}
 use Rattle.af_base.specs.declared.event.ServerEvent.TheVariants as server
-use Rattle.af_base.specs.declared.state.FastState.{FastState}
-use Rattle.af_cblk.specs.Sides.{HandSide, Made, client_made, server_made}
-use Rattle.af_client.specs.Order.{ClientState, IsInOrder as IsClientInOrder}
-use Rattle.af_fast.specs.Mixer.{MixerState}
-use Rattle.af_life.specs.declared.kept.TrackKept.{TrackKept}
-use Rattle.af_life.specs.Kept.{is_home, track_at}
+use Rattle.af_client.specs.Order.{IsInOrder as IsClientInOrder}
 use Rattle.af_link.specs.Names.{IsStreamOf}
-use Rattle.af_link.specs.declared.links.Links.{Links}
-use Rattle.af_link.specs.PipeEnds.{SeesTaken}
-use Rattle.af_model.specs.ClientCalls.{IsClientList}
-use Rattle.af_model.specs.History.{HasHistory, is_lawful}
-use Rattle.af_model.specs.ServerCalls.{IsServerList, ServerKept, meets, server_begins, server_keeps}
-use Rattle.af_model.specs.Spelled.{AllSeeOwn}
-use Rattle.af_model.specs.declared.shape.Shape.{Shape}
+use Rattle.af_model.specs.History.{HasHistory}
+use Rattle.af_model.specs.ServerCalls.{meets}
 use Rattle.af_model.proofs.ConsumedCount.{fronts-own}
-use Rattle.af_normal.specs.Meeting.{AreClientsOf, Meets, MeetsAll, MeetsStream}
-use Rattle.af_normal.specs.Mixing.{stream_at}
-use Rattle.af_party.specs.Parties.{PartyState}
-use Rattle.af_server.specs.Order.{ServerState}
-use Rattle.af_rendering.specs.Leads.{LeadAway}
-use Rattle.af_engine.specs.Met.{MeetsAway, SpotMet, item_at, proxies_of, slot_for, spot_of}
-use Rattle.af_session.specs.Met.{Met, TrackMet}
-use Rattle.af_session.specs.Together.{AreTogether, SessionState}
-use Rattle.af_stateq.specs.Mutates.{at}
 use Rattle.af_told_law.specs.Sizes.{AreSmall}
 use Rattle.af_told_law.specs.Own.{SawOwn, SeesOwn}
 use Rattle.af_told_law.proofs.SlotHeld.{found_carries, found_track}

@@ -1,25 +1,7 @@
 -- The report that the fast mixer stores in a mix is the next one of the run, and its slots are empty while no state was used.
 use Rattle.std.proofs.Common.{◌≡◌, ℕ, ◌+◌, ◌<◌, true, fold, List, [], ◌∷◌, ◌++◌, length, Some, refl, sym, ap, ◌∙◌, subst, arith}
-use Rattle.std.proofs.lemmas.Grind.{fold-append}
-use Rattle.af_base.specs.declared.log.CycleEntry.{CycleEntry}
-use Rattle.af_base.specs.declared.report.Report.{Report}
-use Rattle.af_base.specs.declared.state.FastState.{FastState}
-use Rattle.af_base.specs.Log.{slots}
-use Rattle.af_fast.specs.Known.{known}
-use Rattle.af_fast.specs.Mixer.{IsInOrder, MixerState, adopted_states}
-use Rattle.af_fast.specs.Mixing.{AddsCycle}
-use Rattle.af_latest.specs.Laws.{last_of}
-use Rattle.af_model.specs.declared.newest.WriterEvent.{WriterEvent}
+use Rattle.af_told_law.proofs.Common.{AddsCycle, CycleEntry, EntrySeen, FastState, HasHistory, IsInOrder, IsNextReport, MixerState, NormalState, Report, Run, Session, WriterEvent, adopted_states, carries, cycle_frames, fold-append, known, known_of, last_of, last_report, last_used, listed, next_report, no_report, report_at, slot_report, slots, state_known, state_of, stream_of, with_looks, with_mix}
 use Rattle.af_model.specs.declared.newest.WriterEvent.TheVariants as writes
-use Rattle.af_model.specs.Cycles.{last_used, state_of}
-use Rattle.af_model.specs.Journals.{EntrySeen}
-use Rattle.af_model.specs.Reports.{IsNextReport, no_report, report_at, slot_report}
-use Rattle.af_model.specs.StateQueue.{HasHistory, carries}
-use Rattle.af_normal.specs.State.{NormalState}
-use Rattle.af_runs.specs.Blocks.{listed}
-use Rattle.af_runs.specs.Runs.{Run, known_of, last_report, next_report, stream_of, with_looks, with_mix}
-use Rattle.af_runs.specs.Sessions.{Session, cycle_frames}
-use Rattle.af_runs.proofs.StatesFor.{state_known}
 use Rattle.af_told_law.specs.Tells.{IsFresh, TellsFast, TellsNormal, reports_stored}
 use Rattle.af_told_law.proofs.MixReport.{report_told}
 use Rattle.af_told_law.proofs.MixStates.{none_adopted, none_used, same_state, state_told}

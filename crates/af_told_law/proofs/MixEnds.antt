@@ -1,26 +1,9 @@
 -- After a mix the run with this mix tells the ends, the fast mixer and what the normal mixer keeps, if the pipe and the report are those that it tells.
 use Rattle.std.specs.List.{sum_by}
 use Rattle.std.proofs.Common.{◌≡◌, ℕ, ◌+◌, Bool, false, if◌then◌else◌, map, List, [], ◌∷◌, ◌++◌, refl, sym, ap, ◌∙◌, subst, arith}
-use Rattle.std.proofs.lemmas.List.Sums.{sum_by-append}
-use Rattle.af_base.specs.declared.event.ClientEvent.{ClientEvent}
-use Rattle.af_base.specs.declared.log.CycleEntry.{CycleEntry}
-use Rattle.af_base.specs.declared.report.Report.{Report}
-use Rattle.af_fast.specs.Mixer.{IsInOrder, MixerState}
-use Rattle.af_fast.specs.Mixing.{AddsCycle, Takes}
-use Rattle.af_link.specs.PipeEnds.{OutSide}
-use Rattle.af_link.specs.declared.names.StreamNames.{StreamNames}
-use Rattle.af_model.specs.Cycles.{has_exit, is_mixed}
-use Rattle.af_model.specs.Journals.{EntrySeen, taken_by}
-use Rattle.af_model.specs.declared.newest.WriterEvent.{WriterEvent}
+use Rattle.af_told_law.proofs.Common.{AddsCycle, ClientEvent, CycleEntry, EntrySeen, IsInOrder, MixerState, NormalState, Observes, OutSide, PipeTold, Polls, Report, Run, ServerState, Session, StreamNames, Takes, WriterEvent, has_exit, is_mixed, mixed_pipe, next_report, sum_by-append, taken_by, with_looks, with_mix}
 use Rattle.af_model.specs.declared.newest.WriterEvent.TheVariants as writes
-use Rattle.af_normal.specs.State.{NormalState}
-use Rattle.af_runs.specs.Runs.{Run, mixed_pipe, next_report, with_looks, with_mix}
-use Rattle.af_runs.specs.Sessions.{Session}
-use Rattle.af_runs.specs.Told.{PipeTold}
 use Rattle.af_judge.proofs.QueueSteps.{ones_more, twos_stay}
-use Rattle.af_server.specs.Order.{ServerState}
-use Rattle.af_stateq.specs.Ends.{Polls}
-use Rattle.af_stateq.specs.Observes.{Observes}
 use Rattle.af_told_law.specs.MixLaws.{PipeTells}
 use Rattle.af_told_law.specs.Tells.{IsFresh, TellsFast, TellsNormal, TellsShared, marked_poll, reports_stored}
 

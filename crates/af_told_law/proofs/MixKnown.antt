@@ -1,15 +1,10 @@
 -- What the fast mixer reports of a proxy that it played is what its block tells of it.
 use Rattle.std.proofs.Common.{List, Some, ap, is_some, min, ◌∙◌, ◌≡◌}
-use Rattle.af_fast.specs.Known.{known_at}
-use Rattle.af_model.specs.Reports.{ServerKnown}
-use Rattle.af_model.specs.ServerCalls.{ServerKept, flushes_by}
-use Rattle.af_runs.specs.Blocks.{BlockTold, listed as told_list}
-use Rattle.af_runs.specs.Runs.{known_of}
-use Rattle.af_server.specs.Order.{IsInOrder, ServerState}
+use Rattle.af_told_law.proofs.Common.{BlockTold, ServerEvent, ServerKept, ServerKnown, ServerState, flushes_by, known_at, known_of, listed as told_list}
+use Rattle.af_server.specs.Order.{IsInOrder}
 use Rattle.af_server.specs.Slot.{listed}
 use Rattle.af_told_law.specs.Tells.{TellsServer}
 use Rattle.af_told_law.specs.Deeds.{DeedTold, done_on}
-use Rattle.af_base.specs.declared.event.ServerEvent.{ServerEvent}
 
 -- what a proxy in order keeps is what its list tells
 kept_known : (s : ServerState) → IsInOrder s → known_at (Some s) ≡ known_of (listed s)

@@ -1,23 +1,7 @@
 -- An entry of the fast mixer is legal after the run that tells the mixer before it.
 use Rattle.std.proofs.Common.{◌≡◌, ℕ, ◌+◌, ◌<◌, ◌≤◌, true, length, List, ◌++◌, Some, sym, ap, ◌∙◌, subst, arith}
-use Rattle.af_base.specs.declared.event.ServerEvent.{ServerEvent}
-use Rattle.af_base.specs.declared.log.CycleEntry.{CycleEntry}
-use Rattle.af_base.specs.declared.state.FastState.{FastState}
-use Rattle.af_base.specs.Log.{entry_slot, slots}
-use Rattle.af_fast.specs.Mixer.{MixerState, adopted_states}
-use Rattle.af_fast.specs.Mixing.{AddsCycle}
-use Rattle.af_fast.specs.Slots.{found}
-use Rattle.af_model.specs.Cycles.{Found, LegalCycle, Listed, Mixes, SubmixSlot, TrackSlot, cold_done, cycle_events, cycle_of, has_exit, is_mixed, last_used, state_of}
-use Rattle.af_model.specs.Journals.{EntrySeen}
-use Rattle.af_model.specs.StateQueue.{carries, slot_of}
-use Rattle.af_normal.specs.State.{NormalState}
-use Rattle.af_runs.specs.Blocks.{Marks, listed as told_list}
-use Rattle.af_runs.specs.Fronts.{lawful_front}
-use Rattle.af_runs.specs.Rounds.{LegalEntry, found_for}
-use Rattle.af_runs.specs.Runs.{Run, frames_before, state_for, stream_of, with_mix}
-use Rattle.af_runs.specs.Sessions.{Session, cycle_frames}
+use Rattle.af_told_law.proofs.Common.{AddsCycle, CycleEntry, EntrySeen, FastState, Found, LegalCycle, LegalEntry, Listed, Marks, MixerState, Mixes, NormalState, Run, ServerEvent, Session, SubmixSlot, TrackSlot, adopted_states, carries, cold_done, cycle_events, cycle_frames, cycle_of, entry_slot, found, found_for, frames_before, has_exit, is_mixed, last_used, lawful_front, listed as told_list, slot_of, slots, state_for, state_known, state_of, stream_of, with_mix}
 use Rattle.af_told_law.specs.Tells.{TellsFast, TellsShared}
-use Rattle.af_runs.proofs.StatesFor.{state_known}
 
 -- What the run tells of the states that the entry finds, and of the servers of its slots: on a block that was poked the list after the look is the one told, with what the look did by the front that it really saw
 pub record FindsTold (s : Session) (marks : Marks) (run : Run) (f : MixerState) (e : EntrySeen) : Type 0 where

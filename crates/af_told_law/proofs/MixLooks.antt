@@ -1,14 +1,6 @@
 -- What a look of the fast mixer did on a stream's proxy is told by its block, if each front that the proxy saw is its own.
 use Rattle.std.proofs.Common.{List, [], ap, fold, subst, ℕ, ◌++◌, ◌∙◌, ◌∷◌, ◌≡◌}
-use Rattle.af_base.specs.declared.event.ServerEvent.{ServerEvent}
-use Rattle.af_base.specs.declared.log.SlotEntry.{SlotEntry}
-use Rattle.af_model.specs.declared.shape.Shape.{Shape}
-use Rattle.af_model.specs.Cycles.{Listed, LooksBy, TrackSlot, cycle_events}
-use Rattle.af_model.specs.ServerCalls.{ServerKept, server_begins, server_keeps}
-use Rattle.af_model.specs.Spelled.{AllSeeOwn}
-use Rattle.af_runs.specs.Blocks.{BlockTold, listed as told_list, server_list}
-use Rattle.af_runs.specs.Fronts.{front_of, lawful_front}
-use Rattle.af_server.specs.Order.{ServerState}
+use Rattle.af_told_law.proofs.Common.{AllSeeOwn, BlockTold, Listed, LooksBy, ServerEvent, ServerKept, ServerState, Shape, SlotEntry, TrackSlot, cycle_events, front_of, lawful_front, listed as told_list, server_begins, server_keeps, server_list}
 use Rattle.af_server.specs.Slot.{listed}
 use Rattle.af_told_law.specs.Tells.{TellsServer}
 use Rattle.af_told_law.proofs.OwnFronts.{cycle_told}

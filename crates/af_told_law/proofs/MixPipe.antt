@@ -1,19 +1,7 @@
 -- What a mix leaves of the pipe is told by the run's mix, if its look saw the number of frames taken before.
 use Rattle.std.proofs.Common.{◌≡◌, ℕ, Bool, true, if◌then◌else◌, map, List, ◌∷◌, ◌++◌, length, sym, ap, ◌∙◌, append-nil, subst}
-use Rattle.af_base.specs.declared.event.ClientEvent.{ClientEvent}
-use Rattle.af_base.specs.declared.event.ServerEvent.{ServerEvent}
+use Rattle.af_told_law.proofs.Common.{ClientEvent, EntrySeen, MixerState, PipeTold, ServerEvent, SubmixSlot, Takes, entry_slot, frames_taken, is_mixed, mixed_pipe, ones, ones_append, packed_word, slot_frames, takes_shown, twos, wrapped}
 use Rattle.af_base.specs.declared.event.ServerEvent.TheVariants as server
-use Rattle.af_base.specs.Log.{entry_slot, frames_taken}
-use Rattle.af_base.specs.Sample.{packed_word}
-use Rattle.af_fast.specs.Mixer.{MixerState}
-use Rattle.af_fast.specs.Mixing.{Takes}
-use Rattle.af_model.specs.Cycles.{SubmixSlot, is_mixed, takes_shown}
-use Rattle.af_model.specs.Journals.{EntrySeen, slot_frames}
-use Rattle.af_model.specs.Order.{ones, twos}
-use Rattle.af_model.specs.Point.{wrapped}
-use Rattle.af_model.proofs.Splits.{ones_append}
-use Rattle.af_runs.specs.Runs.{mixed_pipe}
-use Rattle.af_runs.specs.Told.{PipeTold}
 use Rattle.af_told_law.specs.MixLaws.{PipeTells}
 use Rattle.af_told_law.proofs.SharedMeets.{of_two, ones_two, twos_append, twos_two}
 

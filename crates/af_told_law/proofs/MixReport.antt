@@ -1,22 +1,6 @@
 -- The report that the fast mixer stores after an entry is the one that the run tells.
 use Rattle.std.proofs.Common.{◌≡◌, ℕ, ◌+◌, ◌<◌, ◌==◌, ◌&&◌, ◌||◌, Bool, true, false, if◌then◌else◌, map, is_some, List, Option, Some, None, refl, sym, ap, ◌∙◌, arith}
-use Rattle.std.specs.Prelude.{unwrap_or}
-use Rattle.std.specs.List.{range_with_len}
-use Rattle.std.proofs.lemmas.List.{ext_get_or}
-use Rattle.std.proofs.lemmas.List.FromFn.{get_or-map-range_with_len, length-map-range_with_len}
-use Rattle.af_base.specs.declared.log.CycleEntry.{CycleEntry}
-use Rattle.af_base.specs.declared.report.Report.{Report}
-use Rattle.af_base.specs.declared.report.SlotReport.{SlotReport}
-use Rattle.af_base.specs.declared.state.FastState.{FastState}
-use Rattle.af_base.specs.Log.{entry_slot, slots}
-use Rattle.af_model.specs.Cycles.{last_used, state_of}
-use Rattle.af_model.specs.Reports.{IsNextReport, ServerKnown, carried, counted_look, no_slot, report_at, slot_report}
-use Rattle.af_model.specs.StateQueue.{carries, slot_of}
-use Rattle.af_runs.specs.Blocks.{listed}
-use Rattle.af_runs.specs.Fronts.{is_shown}
-use Rattle.af_runs.specs.Runs.{Run, known_of, last_report, next_report, next_slot, state_for, stream_of}
-use Rattle.af_runs.specs.Sessions.{Session, cycle_frames}
-use Rattle.af_runs.specs.Told.{state_at}
+use Rattle.af_told_law.proofs.Common.{CycleEntry, FastState, IsNextReport, Report, Run, ServerKnown, Session, SlotReport, carried, carries, counted_look, cycle_frames, entry_slot, ext_get_or, get_or-map-range_with_len, is_shown, known_of, last_report, last_used, length-map-range_with_len, listed, next_report, next_slot, no_slot, range_with_len, report_at, slot_of, slot_report, slots, state_at, state_for, state_of, stream_of, unwrap_or}
 
 module _ (s : Session) (run : Run) (entry : CycleEntry) (before : List SlotReport) (i : ℕ) (known : ServerKnown) where
   -- what a number without a state counts as

@@ -1,16 +1,6 @@
 -- A mix by the state that the mixer polled, and the frames that each slot took of it, as the run tells of its entry.
 use Rattle.std.proofs.Common.{◌≡◌, ◌≢◌, ⊎_elim, ℕ, ◌<◌, true, true≢false, length, Some, sym, ap, ◌∙◌, arith}
-use Rattle.std.proofs.lemmas.Bool.{cases_eq}
-use Rattle.af_base.specs.declared.log.CycleEntry.{CycleEntry}
-use Rattle.af_base.specs.declared.state.FastState.{FastState}
-use Rattle.af_fast.specs.Mixer.{MixerState, adopted_states}
-use Rattle.af_fast.specs.Mixing.{AddsCycle}
-use Rattle.af_fast.specs.Slots.{found}
-use Rattle.af_link.specs.declared.links.Links.{Links}
-use Rattle.af_model.specs.Cycles.{Mixes, cold_done, cycle_of, is_mixed, state_of}
-use Rattle.af_rendering.specs.Leads.{LeadAway}
-use Rattle.af_session.specs.Together.{AreTogether, SessionState}
-use Rattle.af_stateq.specs.Shelved.{no_state}
+use Rattle.af_told_law.proofs.Common.{AddsCycle, AreTogether, CycleEntry, FastState, LeadAway, Links, MixerState, Mixes, SessionState, adopted_states, cases_eq, cold_done, cycle_of, found, is_mixed, no_state, state_of}
 use Rattle.af_told_law.specs.MixLaws.{entry_told}
 use Rattle.af_told_law.specs.Tells.{SawTold}
 use Rattle.af_told_law.proofs.EntryFrames.{frames_told}

@@ -1,24 +1,8 @@
 -- The proxies of the slots of a mix: each is of a track of the session, in order, and of the same block as before.
-use Rattle.std.proofs.Common.{◌≡◌, ⊎_elim, ℕ, ◌<◌, ◌≤◌, true, true≢false, is_some, List, length, slice_get, Option, Some, None, refl, sym, ap, ◌∙◌, arith}
-use Rattle.std.proofs.lemmas.Bool.{cases_lt}
-use Rattle.std.proofs.lemmas.List.{get_or_past}
-use Rattle.std.proofs.lemmas.Option.{none-some, same_Some}
-use Rattle.af_base.specs.declared.state.FastState.{FastState}
-use Rattle.af_base.specs.Log.{slots}
-use Rattle.af_cblk.specs.Sides.{Made, server_made}
+use Rattle.std.proofs.Common.{◌≡◌, ⊎_elim, ℕ, ◌<◌, ◌≤◌, true, true≢false, List, length, slice_get, Option, Some, None, refl, sym, ap, ◌∙◌}
+use Rattle.af_told_law.proofs.Common.{AreTogether, FastState, LeadAway, Links, Made, MixerState, Observes, ServerState, SessionState, StreamNames, TrackKept, at, carries, cases_lt, get_or_past, is_home, new_track, same_Some, server_made, slot_for, slot_number, slot_of, slots, track_at}
 use Rattle.af_engine.proofs.Basics.{some_of}
-use Rattle.af_fast.specs.Mixer.{MixerState}
-use Rattle.af_life.specs.declared.kept.TrackKept.{TrackKept}
-use Rattle.af_life.specs.Kept.{is_home, new_track, slot_number, track_at}
-use Rattle.af_link.specs.declared.links.Links.{Links}
-use Rattle.af_link.specs.declared.names.StreamNames.{StreamNames}
-use Rattle.af_model.specs.StateQueue.{carries, slot_of}
-use Rattle.af_server.specs.Order.{IsInOrder, ServerState}
-use Rattle.af_stateq.specs.Mutates.{at}
-use Rattle.af_stateq.specs.Observes.{Observes}
-use Rattle.af_rendering.specs.Leads.{LeadAway}
-use Rattle.af_engine.specs.Met.{slot_for}
-use Rattle.af_session.specs.Together.{AreTogether, SessionState}
+use Rattle.af_server.specs.Order.{IsInOrder}
 use Rattle.af_told_law.proofs.SlotHeld.{found_carries, found_track, none_carries}
 
 abbrev Watching : Type 0
@@ -50,12 +34,6 @@ module _ (links : Links) (x : SessionState) (g : MixerState) (together : AreToge
       by_slot (Some j) found =
           let there = found_carries state (slot_of state k).track j found in
           found ∙ ap Some (sym (lead j there.0 there.1).1 ∙ ap (λ (i : ℕ). slot_number (track_at x.normal.tracks i)) (found_track state (slot_of state k).track j found) ∙ (lead k low carried).1)
-
-  -- a slot that has a proxy carries it
-  pub carried_by : (k : ℕ) (p : ServerState) → at x.fast.observer.items k ≡ Some p → (k < slots) × (carries state k ≡ true)
-  carried_by k p item = ⊎_elim (λ (low : k < slots). (low, sym (together.fast.0.observer.held k low) ∙ ap is_some item))
-      (λ (high : slots ≤ k). absurd (none-some p (sym (get_or_past x.fast.observer.items k None (let w = together.fast.0.observer.whole in omega (arith, w, high))) ∙ item)))
-      (cases_lt k slots)
 
   -- the proxy of a slot after the mix
   pub held_after : (k : ℕ) → k < slots → carries state k ≡ true → (p : ServerState) × (at g.observer.items k ≡ Some p)

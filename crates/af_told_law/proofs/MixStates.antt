@@ -1,26 +1,8 @@
 -- The states that the fast mixer adopted are the first of those that the run tells.
 use Rattle.std.proofs.Common.{◌≡◌, ◌≢◌, ⊎_elim, ℕ, zero, suc, ◌+◌, ◌<◌, ◌≤◌, true≢false, if◌then◌else◌, is_some, fold, List, [], ◌∷◌, ◌++◌, length, length-append, Option, Some, None, refl, sym, ap, subst, ◌∙◌, arith}
-use Rattle.std.proofs.lemmas.Bool.{cases_eq, eq-eqb, ne_eqb}
-use Rattle.std.proofs.lemmas.Option.{none-some}
-use Rattle.af_base.specs.declared.log.CycleEntry.{CycleEntry}
-use Rattle.af_base.specs.declared.state.FastState.{FastState}
-use Rattle.af_fast.specs.Mixer.{CarriesNone, IsInOrder, MixerState, adopted_states}
-use Rattle.af_model.specs.declared.states.MutatorEvent.{MutatorEvent}
+use Rattle.af_told_law.proofs.Common.{CarriesNone, CycleEntry, Event, FastState, HasHistory, IsInOrder, Legal, MixerState, MutatorEvent, NormalState, ObserverEvent, QueuePoint, Run, ServerState, Session, UseUpTo, adopted_states, cases_eq, cold_done, cold_of, eq-eqb, is_cold, last_used, legal, ne_eqb, next, no_state, none-some, one, polled_in_order, polled_states, start, state_adopted, state_for, state_more, state_of, two, twos}
 use Rattle.af_model.specs.declared.states.MutatorEvent.TheVariants as mutator
-use Rattle.af_model.specs.declared.states.ObserverEvent.{ObserverEvent}
 use Rattle.af_model.specs.declared.states.ObserverEvent.TheVariants as observer
-use Rattle.af_model.specs.Cycles.{UseUpTo, cold_done, cold_of, is_cold, last_used, state_of}
-use Rattle.af_model.specs.Order.{Event, Legal, one, two, twos}
-use Rattle.af_model.specs.StateQueue.{HasHistory, QueuePoint, legal, next, start}
-use Rattle.af_normal.specs.State.{NormalState}
-use Rattle.af_runs.proofs.Basics.{state_more}
-use Rattle.af_runs.specs.Runs.{Run, state_for}
-use Rattle.af_runs.specs.Sessions.{Session}
-use Rattle.af_runs.proofs.StatesFor.{state_adopted}
-use Rattle.af_server.specs.Order.{ServerState}
-use Rattle.af_stateq.specs.Laws.{polled_states}
-use Rattle.af_stateq.specs.Shelved.{no_state}
-use Rattle.af_stateq.proofs.Prefix.{polled_in_order}
 use Rattle.af_told_law.specs.Tells.{TellsFast, TellsNormal}
 
 -- ## States polled

@@ -1,31 +1,9 @@
 -- A cycle that mixes nothing leaves each stream as the run's mix tells it: nothing was played.
 use Rattle.std.proofs.Common.{Bool, List, None, Option, Some, ap, arith, false, find, if◌then◌else◌, length, nat_lt, not, refl, replicate, subst, suc, sym, true, zero, ℕ, ⊎_elim, ◌&&◌, ◌+◌, ◌<◌, ◌==◌, ◌∙◌, ◌≡◌, ◌≤◌}
-use Rattle.std.specs.List.{range_with_len}
-use Rattle.std.specs.Prelude.{slice_index_or}
-use Rattle.std.proofs.lemmas.Bool.{cases_lt}
-use Rattle.std.proofs.lemmas.List.{get_or-replicate, get_or_past, length-replicate}
-use Rattle.af_base.proofs.Basics.{and_off}
-use Rattle.af_base.specs.declared.log.CycleEntry.{CycleEntry}
-use Rattle.af_base.specs.declared.log.SlotEntry.{SlotEntry}
-use Rattle.af_base.specs.declared.state.FastState.{FastState}
-use Rattle.af_base.specs.Log.{absent, entry_slot, slots}
-use Rattle.af_fast.specs.Mixer.{MixerState}
-use Rattle.af_link.specs.declared.names.StreamNames.{StreamNames}
-use Rattle.af_model.specs.Cycles.{still_entry}
-use Rattle.af_model.specs.Journals.{EntrySeen}
-use Rattle.af_model.specs.StateQueue.{carries, observed, slot_of}
-use Rattle.af_normal.specs.State.{NormalState}
-use Rattle.af_runs.specs.Blocks.{BlockTold}
-use Rattle.af_runs.specs.Fronts.{is_shown}
-use Rattle.af_runs.specs.Runs.{TrackTold, mixed_track, played, plays}
+use Rattle.af_told_law.proofs.Common.{BlockTold, CycleEntry, EntrySeen, FastState, MixerState, NormalState, Observes, ServerEvent, ServerState, Session, SlotEntry, StreamNames, TrackTold, absent, and_off, at, carries, cases_lt, cycle_frames, entry_slot, get_or-replicate, get_or_past, is_shown, item_at, length-replicate, mixed_track, observed, played, range_with_len, slice_index_or, slot_for, slot_of, slots, still_entry}
+use Rattle.af_runs.specs.Runs.{plays}
 use Rattle.af_runs.specs.Runs as run_of
-use Rattle.af_runs.specs.Sessions.{Session, cycle_frames}
-use Rattle.af_server.specs.Order.{ServerState}
-use Rattle.af_stateq.specs.Mutates.{at}
-use Rattle.af_stateq.specs.Observes.{Observes}
-use Rattle.af_engine.specs.Met.{item_at, slot_for}
 use Rattle.af_told_law.specs.Tells.{IfThere, TellsAway, TellsStream, items_sent, mutated_by}
-use Rattle.af_base.specs.declared.event.ServerEvent.{ServerEvent}
 use Rattle.af_told_law.specs.Deeds.{ServerDone, done_on}
 
 abbrev Watching : Type 0

@@ -1,37 +1,9 @@
 -- What a mix leaves of a stream is told by the run's mix: if each front that its proxy saw is its own, what is told is what it did, and else each front by which it answers so leaves the same.
 use Rattle.std.proofs.Common.{◌≡◌, ℕ, zero, suc, ◌+◌, ◌<◌, ◌==◌, ◌&&◌, not, nat_lt, Bool, true, false, true≢false, if◌then◌else◌, find, fold, is_some, map, List, [], ◌∷◌, ◌++◌, length, Option, Some, None, refl, sym, ap, ◌∙◌, subst, arith, append_assoc, append-nil}
-use Rattle.std.specs.List.{range_with_len}
-use Rattle.std.proofs.lemmas.Option.{none-some}
-use Rattle.af_base.proofs.Basics.{range_end}
-use Rattle.af_base.specs.declared.event.ServerEvent.{ServerEvent}
-use Rattle.af_base.specs.declared.seen.Seen.TheVariants as seen
-use Rattle.af_base.specs.declared.state.FastState.{FastState}
-use Rattle.af_base.specs.Log.{entry_slot, slots}
-use Rattle.af_base.specs.Sample.{packed_word}
-use Rattle.af_fast.specs.Mixer.{MixerState}
-use Rattle.af_fast.specs.Mixing.{Takes}
-use Rattle.af_fast.specs.Slots.{SlotPlayed}
-use Rattle.af_life.specs.Kept.{is_home, slot_number, track_at}
-use Rattle.af_link.specs.declared.links.Links.{Links}
-use Rattle.af_link.specs.declared.names.StreamNames.{StreamNames}
-use Rattle.af_model.specs.Cycles.{LooksBy, cycle_events, is_mixed}
-use Rattle.af_model.specs.History.{Moment, by_server, hand_of, server_of}
-use Rattle.af_model.specs.Journals.{EntrySeen}
-use Rattle.af_model.specs.StateQueue.{carries, slot_of, observed}
-use Rattle.af_normal.specs.Mixing.{stream_at}
-use Rattle.af_runs.proofs.Basics.{shown_if}
-use Rattle.af_runs.specs.Blocks.{BlockTold}
+use Rattle.af_told_law.proofs.Common.{AreTogether, BlockTold, EntrySeen, FastState, LeadAway, Links, LooksBy, MixerState, Moment, NormalState, Observes, ServerEvent, ServerState, Session, SessionState, SlotPlayed, StartsWith, StreamNames, Takes, TrackTold, at, by_server, carries, cycle_events, cycle_frames, entry_slot, front_of, hand_of, is_home, is_mixed, is_shown, is_slot_of, item_at, mixed_track, none-some, observed, or_else, packed_word, played, range_end, range_with_len, server_of, shown_if, slot_below, slot_for, slot_number, slot_of, slots, stream_at, track_at}
 use Rattle.af_runs.specs.Blocks as told_of
-use Rattle.af_runs.specs.Fronts.{front_of, is_shown}
-use Rattle.af_runs.specs.Runs.{TrackTold, mixed_track, played, plays}
+use Rattle.af_runs.specs.Runs.{plays}
 use Rattle.af_runs.specs.Runs as run_of
-use Rattle.af_runs.specs.Sessions.{Session, cycle_frames}
-use Rattle.af_server.specs.Order.{ServerState}
-use Rattle.af_stateq.specs.Mutates.{at}
-use Rattle.af_stateq.specs.Observes.{Observes}
-use Rattle.af_rendering.specs.Leads.{LeadAway}
-use Rattle.af_engine.specs.Met.{is_slot_of, item_at, or_else, slot_below, slot_for}
-use Rattle.af_session.specs.Together.{AreTogether, SessionState}
 use Rattle.af_told_law.specs.Alike.{TellAlike}
 use Rattle.af_told_law.specs.Tells.{SawTold, TellsAway, TellsServer, TellsStream, held_slot, is_coming, is_going, items_given, mutated_by}
 use Rattle.af_told_law.proofs.KeptAlike.{cycle_told_alike}
@@ -39,8 +11,6 @@ use Rattle.af_told_law.proofs.MixLooks.{front_own, list_grown, list_own, looks_r
 use Rattle.af_told_law.proofs.MixSlots.{shape_same}
 use Rattle.af_told_law.proofs.SlotHeld.{found_carries, found_track}
 use Rattle.af_told_law.proofs.TrackMeets.{none_there, there_is}
-use Rattle.af_normal.specs.State.{NormalState}
-use Rattle.af_cblk.specs.Rule.{StartsWith}
 use Rattle.af_told_law.specs.Deeds.{DeedTold, SawOwnOf, ServerDone, done_on}
 
 abbrev Watching : Type 0

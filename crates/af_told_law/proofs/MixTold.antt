@@ -1,37 +1,8 @@
 -- A mix is told by the run: the run with it tells the session, and its entry is legal by marks on whose blocks each front seen is the server's own.
 use Rattle.std.proofs.Common.{Bool, List, None, Option, Some, [], ap, append-nil, arith, false, if◌then◌else◌, inl, inr, length, refl, slice_get, subst, sym, true, true≢false, ℕ, ⊎_elim, ◌++◌, ◌<◌, ◌∙◌, ◌≡◌, ◌≤◌, ◌⊎◌}
-use Rattle.std.proofs.lemmas.Option.{slice_get_within}
-use Rattle.af_base.proofs.Basics.{some_at}
-use Rattle.af_base.specs.declared.frame.Frame.{Frame}
-use Rattle.af_base.specs.declared.log.Cycle.{Cycle}
-use Rattle.af_base.specs.declared.log.CycleEntry.{CycleEntry}
-use Rattle.af_base.specs.declared.state.FastState.{FastState}
-use Rattle.af_base.specs.Log.{entry_slot, slots}
-use Rattle.af_cblk.specs.Sides.{Made}
-use Rattle.af_fast.specs.Known.{known, known_at}
-use Rattle.af_fast.specs.Mixer.{MixerState}
-use Rattle.af_fast.specs.Mixing.{AddsCycle}
-use Rattle.af_fast.specs.Slots.{SlotPlayed}
-use Rattle.af_judge.proofs.Basics.{each_long, told_each}
-use Rattle.af_link.specs.declared.links.Links.{Links}
-use Rattle.af_model.specs.Cycles.{LooksBy, TrackSlot, cycle_events, is_mixed}
-use Rattle.af_model.specs.Journals.{EntrySeen}
-use Rattle.af_model.specs.StateQueue.{HasHistory, carries, slot_of}
-use Rattle.af_party.specs.Parties.{PartyState}
-use Rattle.af_runs.specs.Blocks.{BlockTold, Marks, server_list}
+use Rattle.af_told_law.proofs.Common.{AddsCycle, AreTogether, BlockTold, Cycle, CycleEntry, EntrySeen, FastState, Frame, HasHistory, LeadAway, LegalEntry, Links, LooksBy, Made, Marks, MixerState, PartyState, Run, SeesTaken, ServerEvent, ServerState, Session, SessionState, SlotPlayed, StartsWith, TrackSlot, TrackTold, at, carries, cases_lt, cycle_events, cycle_frames, each_long, entry_slot, is_mixed, item_at, known, known_at, known_of, lawful_front, mixed_pipe, mixed_track, next_report, server_list, slice_get_within, slot_for, slot_of, slots, some_at, state_for, stream_of, told_at, told_each, with_looks, with_mix}
 use Rattle.af_runs.specs.Blocks as told_of
-use Rattle.af_runs.specs.Fronts.{lawful_front}
-use Rattle.af_runs.specs.Rounds.{LegalEntry}
-use Rattle.af_runs.specs.Runs.{Run, TrackTold, known_of, mixed_pipe, mixed_track, next_report, state_for, stream_of, told_at, with_looks, with_mix}
-use Rattle.af_runs.specs.Sessions.{Session, cycle_frames}
 use Rattle.af_judge.proofs.EntryTracks.{mixed_sides}
-use Rattle.af_server.specs.Order.{ServerState}
-use Rattle.std.proofs.lemmas.Bool.{cases_lt}
-use Rattle.af_base.specs.declared.event.ServerEvent.{ServerEvent}
-use Rattle.af_stateq.specs.Mutates.{at}
-use Rattle.af_rendering.specs.Leads.{LeadAway}
-use Rattle.af_engine.specs.Met.{item_at, slot_for}
-use Rattle.af_session.specs.Together.{AreTogether, SessionState}
 use Rattle.af_told_law.proofs.Basics.{commands_stay}
 use Rattle.af_told_law.specs.MixLaws.{PipeTells, MixIsTold, TookCounted, entry_added}
 use Rattle.af_told_law.specs.Tells.{IsFresh, SawTold, Tells, TellsCommands, TellsServer, TellsTrack}
@@ -48,8 +19,6 @@ use Rattle.af_told_law.proofs.MixStates.{few_adopted, same_cold, same_state, sta
 use Rattle.af_told_law.proofs.MixStays.{stream_stays, track_still}
 use Rattle.af_told_law.proofs.MixStreams.{StreamMixed, list_by, list_mixed, stream_mixed}
 use Rattle.af_told_law.proofs.PipeFront.{front_taken}
-use Rattle.af_link.specs.PipeEnds.{SeesTaken}
-use Rattle.af_cblk.specs.Rule.{StartsWith}
 use Rattle.af_told_law.proofs.SlotHeld.{found_carries, found_track}
 use Rattle.af_told_law.specs.Deeds.{DeedTold, Deeds, GoOn, SawOwnBy, SawOwnOf, done_on}
 

@@ -1,42 +1,12 @@
 -- A new session is told by the run before the first round.
 use Rattle.std.proofs.Common.{◌≡◌, ℕ, ◌<◌, true, true≢false, is_some, length, map, List, [], slice_get, Some, refl, sym, ap, ◌∙◌, subst, arith}
-use Rattle.std.proofs.lemmas.List.{get_or-replicate}
-use Rattle.std.proofs.lemmas.List.FromFn.{length-map-range_with_len}
-use Rattle.std.proofs.lemmas.Option.{get_or_from_slice_get, same_Some, slice_get_within}
-use Rattle.af_base.specs.declared.frame.Frame.{Frame}
-use Rattle.af_cblk.specs.declared.view.ClientPart.{ClientPart}
-use Rattle.af_cblk.specs.declared.view.ServerPart.{ServerPart}
-use Rattle.af_cblk.specs.Sides.{HandSide}
-use Rattle.af_judge.proofs.Basics.{new_at}
-use Rattle.af_life.proofs.Basics.{at_new}
-use Rattle.af_life.specs.declared.kept.TrackKept.{TrackKept}
-use Rattle.af_life.specs.Kept.{NormalKept, is_home, track_at}
-use Rattle.af_model.specs.declared.shape.Shape.{Shape}
-use Rattle.af_normal.specs.LegalTurned.{hand_events}
-use Rattle.af_normal.specs.State.{NormalState}
-use Rattle.af_fast.specs.Mixer.{MixerState}
-use Rattle.af_party.specs.Parties.{PartyState, track_of}
-use Rattle.af_runs.specs.Blocks.{new_block}
-use Rattle.af_runs.specs.LegalRuns.{session_of}
-use Rattle.af_runs.specs.Runs.{TrackTold, new_run, new_track, sides_of, told_at}
-use Rattle.af_runs.specs.Sessions.{Session, command_shape, spec_of, stream_shape, track_count, no_spec, spec_setting}
-use Rattle.af_script.specs.Data.{ScriptData}
+use Rattle.af_told_law.proofs.Common.{ClientPart, Frame, HandSide, IsNewSession, MixerState, NormalKept, NormalState, PartyState, ScriptData, ServerPart, ServerState, Session, SessionState, Shape, SharedState, TrackKept, TrackSpec, TrackTold, at_new, command_shape, file_at, get_or-replicate, get_or_from_slice_get, hand_events, is_home, length-map-range_with_len, marked_event, new_at, new_block, new_client, new_run, no_slot, no_spec, ops_at, ops_of, pushed_states, same_Some, session_of, sides_of, slice_get_within, slots, spec_of, spec_setting, stream_shape, told_at, track_at, track_count, track_of}
+use Rattle.af_runs.specs.Runs.{new_track}
 use Rattle.af_script.specs.declared.op.Op.{Op}
-use Rattle.af_script.specs.declared.track.TrackSpec.{TrackSpec}
-use Rattle.af_server.specs.Order.{ServerState}
-use Rattle.af_session.specs.NewSession.{IsNewSession}
 use Rattle.af_engine.specs.NewTracks.{IsNewServer}
 use Rattle.af_session.specs.NewTracks.{IsTrackAt}
-use Rattle.af_session.specs.Rounds.{file_at, ops_at, ops_of}
-use Rattle.af_engine.specs.Shares.{SharedState}
-use Rattle.af_session.specs.Together.{SessionState}
 use Rattle.af_told_law.specs.Tells.{Tells, TellsCommands, TellsFast, TellsNormal, TellsServer, TellsShared, TellsStream, TellsTrack, given_of, marked_poll, reports_stored}
 use Rattle.af_told_law.proofs.KeptAlike.{same_alike}
-use Rattle.af_runs.specs.KeptLists.{marked_event}
-use Rattle.af_stateq.specs.Laws.{pushed_states}
-use Rattle.af_runs.specs.Clients.{new_client}
-use Rattle.af_base.specs.Log.{slots}
-use Rattle.af_model.specs.Reports.{no_slot}
 use Rattle.af_told_law.specs.Deeds.{DeedTold, Deeds, done_on}
 
 -- a server that has done nothing

@@ -1,37 +1,13 @@
 -- What a legal turn of a session's normal mixer saw is what its run has found.
 use Rattle.std.proofs.Common.{Bool, None, Option, Some, ap, arith, false, if◌then◌else◌, is_some, length, not, refl, slice_get, subst, sym, true, true≢false, ℕ, ◌&&◌, ◌++◌, ◌<◌, ◌∙◌, ◌≡◌}
-use Rattle.af_base.proofs.Basics.{some_at}
-use Rattle.af_base.specs.declared.state.FastState.{FastState}
-use Rattle.af_base.specs.Turn.{Turn, turn_of}
-use Rattle.af_life.proofs.Basics.{welcomed_at}
-use Rattle.af_life.specs.declared.kept.Holder.TheVariants.{Home}
-use Rattle.af_life.specs.declared.kept.TrackKept.{TrackKept}
-use Rattle.af_life.specs.Edits.{after_ack, welcomed}
-use Rattle.af_life.specs.Heard.{learnt}
-use Rattle.af_life.specs.Kept.{NormalKept, Outside, Setup, is_home, is_returning, slot_number, track_at, track_in}
-use Rattle.af_life.specs.Turn.{GoesOn}
-use Rattle.af_life.specs.TurnEvents.{takes_from, tracks_at}
-use Rattle.af_link.specs.declared.links.Links.{Links}
-use Rattle.af_model.specs.Cycles.{Listed}
-use Rattle.af_model.specs.StateQueue.{carries}
-use Rattle.af_normal.specs.LegalTurned.{IsLegal, in_hand}
-use Rattle.af_normal.specs.Mixing.{stream_at}
-use Rattle.af_normal.specs.State.{NormalState, kept_of, setup_of as mixer_setup}
-use Rattle.af_normal.specs.Turning.{listed_at}
-use Rattle.af_party.specs.Parties.{PartyState}
-use Rattle.af_runs.specs.Blocks.{BlockTold, Marks, listed as told_list}
-use Rattle.af_runs.specs.Found.{LegalTurnBy, TurnFound, outside_of}
-use Rattle.af_runs.specs.Runs.{Run, told_at}
-use Rattle.af_runs.specs.Sessions.{Session, setup_of}
-use Rattle.af_server.specs.Order.{ServerState}
+use Rattle.af_told_law.proofs.Common.{AreTogether, BlockTold, FastState, GoesOn, Home, IsLegal, LegalTurnBy, Links, Listed, Marks, NormalKept, NormalState, Outside, PartyState, Run, ServerState, Session, SessionState, Setup, TrackKept, Turn, TurnFound, after_ack, carries, in_hand, is_home, is_returning, kept_of, learnt, listed as told_list, listed_at, outside_of, server_begins, setup_of as mixer_setup, slot_number, some_at, stream_at, takes_from, told_at, track_at, track_in, tracks_at, turn_of, welcomed, welcomed_at}
+use Rattle.af_runs.specs.Sessions.{setup_of}
 use Rattle.af_server.specs.Slot.{listed}
-use Rattle.af_session.specs.Together.{AreTogether, SessionState}
 use Rattle.af_told_law.specs.Comers.{ComersTell}
 use Rattle.af_told_law.specs.Outsides.{AreAlike, FindsBlocks, HeardAlike, IsFound, ListAlike, LooksTold, SawCommands, SawStream, TakeTold}
 use Rattle.af_told_law.specs.Tells.{Tells, TellsServer}
 use Rattle.af_told_law.proofs.FoundLegal.{found_alike, found_legal}
 use Rattle.af_told_law.proofs.TurnFronts.{commands_told, stream_told}
-use Rattle.af_model.specs.ServerCalls.{server_begins}
 use Rattle.af_told_law.specs.Deeds.{Deeds, SawOwnBy, SawOwnOf, TrackDid, commands_by, deeds_turned, done_on, stream_by}
 use Rattle.af_told_law.proofs.MixLooks.{listed_real, own_split, real_list}
 

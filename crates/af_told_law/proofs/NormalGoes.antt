@@ -1,29 +1,8 @@
 -- A turn of the normal mixer leaves each stream proxy in the place that it tells.
 use Rattle.std.proofs.Common.{◌≡◌, ℕ, ◌<◌, ◌==◌, ◌⊎◌, inl, inr, not, Bool, true, false, true≢false, MatchBool, if◌then◌else◌, refl, sym, ap, subst, ◌∙◌, List, [], ◌∷◌, ◌++◌, append-nil, length, Option, Some, None, eq-eqb}
-use Rattle.af_base.specs.Log.{slots}
-use Rattle.af_base.specs.declared.state.Push.TheVariants.{Clean}
-use Rattle.af_base.specs.Turn.{Turn, ended_turn, turn_of}
-use Rattle.af_model.specs.declared.states.MutatorEvent.{MutatorEvent}
+use Rattle.af_told_law.proofs.Common.{BegunBy, Brings, Clean, Does, Ended, Grows, IsLegal, Links, Mutates, MutatorEvent, NormalState, Outside, ServerState, Stops, StreamNames, Turn, TurnMade, Turned, TurnsBy, WasAcked, answer_of, at, ended_turn, is_exit, items_of, kept_of, learnt, marked, mutated, mutator_list, setup_of, slots, stream_at, turn_of, word}
 use Rattle.af_model.specs.declared.states.MutatorEvent.TheVariants as mutator
-use Rattle.af_model.specs.StateQueue.{mutated, word}
-use Rattle.af_runs.specs.KeptLists.{marked}
-use Rattle.af_runs.specs.Told.{is_pushed, items_of}
-use Rattle.af_server.specs.Order.{ServerState}
-use Rattle.af_stateq.specs.Answers.{Brings, WasAcked}
-use Rattle.af_stateq.specs.Mutates.{Mutates, at}
-use Rattle.af_link.specs.declared.links.Links.{Links}
-use Rattle.af_link.specs.declared.names.StreamNames.{StreamNames}
-use Rattle.af_life.specs.Edits.{is_exit}
-use Rattle.af_life.specs.Heard.{learnt}
-use Rattle.af_life.specs.Kept.{Outside}
-use Rattle.af_life.specs.TurnEvents.{mutator_list}
-use Rattle.af_normal.specs.declared.turn.Turn.TheVariants.{Turned, Ended}
-use Rattle.af_normal.specs.LegalTurned.{Grows, IsLegal}
-use Rattle.af_normal.specs.Mixing.{stream_at}
 use Rattle.af_normal.specs.Order.{IsInOrder}
-use Rattle.af_normal.specs.State.{NormalState, kept_of, setup_of}
-use Rattle.af_normal.specs.TurnMade.{Does, Stops, TurnMade, TurnsBy, answer_of}
-use Rattle.af_normal.proofs.LegalBegins.{BegunBy}
 use Rattle.af_told_law.specs.Places.{StreamsGo, StreamsStay, TurnLeavesStreams, told_by}
 use Rattle.af_told_law.proofs.AckPlaces.{came}
 use Rattle.af_told_law.proofs.HandedTurn.{handed, parts, tied, empty}
@@ -147,14 +126,6 @@ module _ (links : Links) (o : Outside) (x y : NormalState) (order : IsInOrder li
       marks_back = all_looked.marks;
       clear = all_looked.clear;
     })
-
--- what the mutator's list tells of the acknowledgement is what it keeps, if it tells the number before the turn
-pub clear_is : (o : Outside) (x y : NormalState) (e : Turn) → StreamsGo o x y e → (told_by x).pushed ≡ x.mutator.past.number → (told_by y).clear ≡ y.mutator.past.clear
-clear_is o x y e s number = by_pushed (is_pushed e.push) refl
-  where
-    by_pushed : (b : Bool) → is_pushed e.push ≡ b → (told_by y).clear ≡ y.mutator.past.clear
-    by_pushed true is = (s.queue.sent_items is).1 ∙ sym (s.queue.shown is).3
-    by_pushed false is = s.queue.same_clear is number ∙ sym (s.queue.still is).3
 
 -- ## Either turn
 

@@ -1,30 +1,7 @@
 -- A turn of the normal mixer that hadn't ended, of which it is known what it found and what was shown of it, is a step of the run but for the load of the report, and the queue is known again.
 use Rattle.std.proofs.Common.{Bool, List, Option, Some, [], ap, arith, false, fold, if◌then◌else◌, is_some, length, map, not, refl, slice_get, subst, suc, sym, true, true≢false, zero, ℕ, ◌&&◌, ◌+◌, ◌<◌, ◌∙◌, ◌∷◌, ◌≡◌, ◌≤◌}
-use Rattle.std.proofs.lemmas.Option.{slice_get_within}
-use Rattle.af_base.specs.declared.event.HandEvent.{HandEvent}
-use Rattle.af_base.specs.Turn.{Turn, turn_of}
-use Rattle.af_cblk.specs.Sides.{HandSide}
-use Rattle.af_judge.proofs.Basics.{each_at, each_long}
-use Rattle.af_life.specs.Heard.{learnt}
-use Rattle.af_life.specs.Kept.{Learnt, NormalKept, Outside, Setup}
-use Rattle.af_life.specs.Edits.{after_push}
-use Rattle.af_life.specs.Plays.{after_takes}
-use Rattle.af_life.specs.Sound.{IsSound}
-use Rattle.af_life.specs.Turn.{after_edits, turn_after}
-use Rattle.af_life.specs.TurnEvents.{command_list, hand_list, mutator_list, number_seen, push_list, stream_list, tracks_at}
-use Rattle.af_link.specs.declared.links.Links.{Links}
-use Rattle.af_model.specs.declared.states.MutatorEvent.TheVariants.{SawAck}
-use Rattle.af_model.specs.History.{Moment, by_hand, client_of}
-use Rattle.af_normal.specs.LegalTurned.{IsLegal}
-use Rattle.af_normal.specs.State.{NormalState, kept_of, setup_of as mixer_setup}
-use Rattle.af_normal.specs.TurnMade.{TurnMade, answer_of}
-use Rattle.af_party.specs.Parties.{PartyState}
-use Rattle.af_runs.specs.Blocks.{Marks}
-use Rattle.af_runs.specs.Found.{LegalTurnBy, TurnFound, outside_of}
-use Rattle.af_runs.specs.Runs.{Run, TrackTold, no_track, pipe_cells, sides_of, told_at, turned_track, with_turn}
-use Rattle.af_runs.specs.Sessions.{Session, cycle_frames, setup_of, track_count}
-use Rattle.af_runs.specs.Told.{Item, is_pushed, items_of}
-use Rattle.af_session.specs.Together.{AreTogether, SessionState}
+use Rattle.af_told_law.proofs.Common.{AreTogether, HandEvent, HandSide, IsLegal, IsSound, Item, Learnt, LegalTurnBy, Links, Marks, Moment, NormalKept, NormalState, Outside, PartyState, Run, SawAck, Session, SessionState, Setup, TrackTold, Turn, TurnFound, TurnMade, after_edits, after_push, after_takes, answer_of, by_hand, client_of, command_list, cycle_frames, each_at, each_long, hand_list, is_pushed, items_of, kept_of, learnt, mutator_list, no_track, number_seen, outside_of, pipe_cells, push_list, setup_of as mixer_setup, sides_of, slice_get_within, stream_list, told_at, track_count, tracks_at, turn_after, turn_of, turned_track, with_turn}
+use Rattle.af_runs.specs.Sessions.{setup_of}
 use Rattle.af_told_law.specs.Between.{StandsBefore}
 use Rattle.af_told_law.specs.NormalLaws.{PartsTold, TurnShown, did_by, track_turned}
 use Rattle.af_told_law.specs.Places.{StreamsGo, StreamsStay}

@@ -1,36 +1,12 @@
 -- After a turn of the normal mixer the run with this turn tells the ends of the queue, the report and the pipe, and both mixers, but for the load of the report, and the queue is known again.
 use Rattle.std.proofs.Common.{Bool, List, Option, Some, [], ap, append-nil, arith, false, if◌then◌else◌, is_some, length, not, refl, slice_get, subst, sym, true, true≢false, ℕ, ◌&&◌, ◌++◌, ◌+◌, ◌<◌, ◌==◌, ◌∙◌, ◌∷◌, ◌≡◌, ◌≤◌}
-use Rattle.std.specs.Prelude.{unwrap_or}
-use Rattle.std.proofs.lemmas.List.{length-append}
-use Rattle.af_base.specs.declared.state.FastState.{FastState}
-use Rattle.af_base.specs.declared.state.Push.{Push}
-use Rattle.af_base.specs.declared.state.Push.TheVariants.{Pushed, Clean, Busy}
-use Rattle.af_base.specs.Turn.{Turn, ended_turn, turn_of}
-use Rattle.af_life.specs.Edits.{LegalPush}
-use Rattle.af_life.specs.Heard.{learnt}
-use Rattle.af_life.specs.Kept.{NormalKept, Outside, Setup}
-use Rattle.af_life.specs.Plays.{put_by}
-use Rattle.af_life.specs.Turn.{after_edits, turn_after}
-use Rattle.af_life.specs.TurnEvents.{going, mutator_list, number_seen, push_list}
-use Rattle.af_model.specs.Cycles.{state_of}
-use Rattle.af_model.specs.declared.states.MutatorEvent.{MutatorEvent}
+use Rattle.af_told_law.proofs.Common.{Busy, Clean, FastState, IsLegal, Item, KeepsMutator, LegalPush, MutatorEvent, NormalKept, NormalState, Outside, Push, Pushed, QueueTold, Run, ServerState, Session, SessionState, Setup, Turn, TurnFound, after_edits, brought_by, cycle_frames, ended_turn, going, initial, is_pushed, items_of, kept_of, learnt, length-append, mutator_does, mutator_list, number_seen, ones, outside_of, pipe_cells, push_list, pushed_states, put_by, setup_of as mixer_setup, state_at, state_of, track_count, turn_after, turn_of, twos, unwrap_or, with_turn}
 use Rattle.af_model.specs.declared.states.MutatorEvent.TheVariants as mutator
-use Rattle.af_model.specs.Draft.{initial}
-use Rattle.af_model.specs.Order.{ones, twos}
-use Rattle.af_normal.specs.LegalTurned.{IsLegal}
-use Rattle.af_normal.specs.State.{NormalState, kept_of, setup_of as mixer_setup}
-use Rattle.af_runs.specs.Found.{TurnFound, outside_of}
-use Rattle.af_runs.specs.KeptLists.{KeepsMutator}
-use Rattle.af_runs.specs.Runs.{Run, pipe_cells, with_turn}
-use Rattle.af_runs.specs.Sessions.{Session, cycle_frames, setup_of, track_count}
-use Rattle.af_runs.specs.Told.{Item, QueueTold, brought_by, is_pushed, items_of, mutator_does, state_at}
-use Rattle.af_server.specs.Order.{ServerState}
-use Rattle.af_stateq.specs.Laws.{pushed_states}
-use Rattle.af_session.specs.Together.{SessionState}
+use Rattle.af_runs.specs.Sessions.{setup_of}
 use Rattle.af_told_law.specs.NormalLaws.{ShowsFront}
 use Rattle.af_told_law.specs.QueueTurned.{MutatorGoes, QueueKnown}
 use Rattle.af_told_law.specs.Tells.{Tells, TellsFast, TellsNormal, TellsShared}
-use Rattle.af_told_law.proofs.EditsPush.{all_push}
+use Rattle.af_rendering.proofs.NormalSteps.{all_push}
 use Rattle.af_told_law.proofs.TurnQueue.{known_after, list_told, state_first}
 use Rattle.af_told_law.proofs.TurnShared.{pipe_puts, pipe_takes, twos_same}
 use Rattle.af_told_law.specs.Deeds.{Deeds}

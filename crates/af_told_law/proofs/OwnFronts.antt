@@ -1,21 +1,8 @@
 -- A look that saw its server's own front saw the front that its answer tells.
 use Rattle.std.proofs.Common.{◌≡◌, ℕ, ◌+◌, ◌^◌, ◌==◌, ◌&&◌, ◌||◌, not, min, nat_lt, Bool, true, false, true≢false, if◌then◌else◌, is_some, Option, Some, None, List, [], ◌∷◌, ◌++◌, refl, sym, ap, ◌∙◌, subst, eqb-true, arith}
-use Rattle.std.specs.Prelude.{MatchOption}
-use Rattle.std.proofs.lemmas.Bool.{eqb-false}
-use Rattle.af_base.proofs.Basics.{both}
-use Rattle.af_base.specs.declared.event.ServerEvent.{ServerEvent}
+use Rattle.af_told_law.proofs.Common.{AllSeeOwn, Listed, LooksBy, MatchOption, Seen, ServerEvent, Shape, SlotEntry, after_look, ahead, behind, both, cycle_events, dropped_by, eqb-false, flush_position, flushed_front, front_by_answer, front_of, is_noticed, is_own_inside, kept, lawful_front, leaves_open, look_at, look_events, not_true, own_front, past_front, wrapped}
 use Rattle.af_base.specs.declared.event.ServerEvent.TheVariants as server
-use Rattle.af_base.specs.declared.log.SlotEntry.{SlotEntry}
-use Rattle.af_base.specs.declared.seen.Seen.{Seen}
 use Rattle.af_base.specs.declared.seen.Seen.TheVariants as seen
-use Rattle.af_model.proofs.Basics.{not_true}
-use Rattle.af_model.specs.declared.shape.Shape.{Shape}
-use Rattle.af_model.specs.Cycles.{Listed, LooksBy, after_look, cycle_events, kept}
-use Rattle.af_model.specs.Point.{wrapped}
-use Rattle.af_model.specs.Room.{ahead}
-use Rattle.af_model.specs.ServerCalls.{dropped_by, flush_position, is_noticed, look_at, look_events, past_front}
-use Rattle.af_model.specs.Spelled.{AllSeeOwn, own_front}
-use Rattle.af_runs.specs.Fronts.{behind, flushed_front, front_by_answer, front_of, is_own_inside, lawful_front, leaves_open}
 
 back_to : (f p : ℕ) → f ≡ wrapped f → behind p (ahead f p) ≡ f
 back_to f p word = (let b : behind p (ahead f p) ≡ wrapped f = omega arith in b) ∙ sym word

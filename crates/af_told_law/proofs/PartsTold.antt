@@ -1,15 +1,7 @@
 -- After each turn of the normal mixer, with the meetings behind it known, what a step of the run needs of each track is told: the proxies that came home, the streams and the command proxies.
 use Rattle.std.proofs.Common.{length, Bool, Some, arith, false, refl, slice_get, true, ℕ, ◌<◌, ◌≡◌}
-use Rattle.af_base.specs.Turn.{Turn, turn_of}
-use Rattle.af_life.specs.Kept.{Outside}
-use Rattle.af_link.specs.declared.links.Links.{Links}
-use Rattle.af_normal.specs.LegalTurned.{IsLegal}
-use Rattle.af_normal.specs.State.{NormalState}
-use Rattle.af_normal.specs.TurnMade.{TurnMade, answer_of}
-use Rattle.af_runs.specs.Runs.{Run}
-use Rattle.af_runs.specs.Sessions.{Session, cycle_frames, setup_of, track_count}
-use Rattle.af_server.specs.Order.{ServerState}
-use Rattle.af_session.specs.Together.{AreTogether, SessionState}
+use Rattle.af_told_law.proofs.Common.{AreTogether, IsLegal, Links, NormalState, Outside, Run, ServerState, Session, SessionState, Turn, TurnFound, TurnMade, answer_of, cycle_frames, outside_of, track_count, turn_of}
+use Rattle.af_runs.specs.Sessions.{setup_of}
 use Rattle.af_told_law.specs.Between.{StandsBefore}
 use Rattle.af_told_law.specs.Comers.{ComersTell}
 use Rattle.af_told_law.specs.NormalLaws.{PartsAreTold, PartsTold, TurnShown, did_by, track_turned}
@@ -20,7 +12,6 @@ use Rattle.af_told_law.proofs.ComersBack.{comers_legal}
 use Rattle.af_told_law.proofs.NormalGoes.{streams_go, streams_stay}
 use Rattle.af_told_law.proofs.StreamsEnded.{commands_ended, stream_ended, track_over}
 use Rattle.af_told_law.proofs.StreamsTurned.{commands_told, stream_told, track_did}
-use Rattle.af_runs.specs.Found.{TurnFound, outside_of}
 use Rattle.af_told_law.specs.Deeds.{Deeds, TrackDid}
 
 module _ (s : Session) (links : Links) (run : Run) (d : Deeds) (x : SessionState) (n : NormalState) (o : Outside) (f : TurnFound) (before : AreTogether links x) (after : AreTogether links (record x { normal = n })) (told : Tells s run d x) (stands : StandsBefore x) (legal : IsLegal o x.normal n)

@@ -1,19 +1,10 @@
 -- The pipe of a new session has as many cells as the run tells.
 use Rattle.std.proofs.Common.{◌≡◌, ℕ, zero, suc, ◌/◌, ◌^◌, ◌≤◌, ◌<◌, max, Bool, true, false, nat_le, if◌then◌else◌, List, refl, sym, ap, subst, ◌∙◌, arith, inl, inr}
+use Rattle.af_told_law.proofs.Common.{ClientPart, Frame, IsNewSession, ScriptData, SessionState, SharedState, cases_lt, half, le-power, pipe_cells, session_of}
 use Rattle.std.specs.Int.{IsNextPowerOfTwo}
-use Rattle.std.proofs.lemmas.Bool.{cases_lt}
 use Rattle.std.proofs.lemmas.Bool.Decides.{nat_tests}
-use Rattle.af_base.proofs.Basics.{half, le-power}
-use Rattle.af_base.specs.declared.frame.Frame.{Frame}
-use Rattle.af_cblk.specs.declared.view.ClientPart.{ClientPart}
-use Rattle.af_runs.specs.LegalRuns.{session_of}
-use Rattle.af_runs.specs.Runs.{pipe_cells}
 use Rattle.af_runs.specs.Sessions.{setup_of}
-use Rattle.af_script.specs.Data.{ScriptData}
 use Rattle.af_script.specs.Ops.{power_above}
-use Rattle.af_session.specs.NewSession.{IsNewSession}
-use Rattle.af_engine.specs.Shares.{SharedState}
-use Rattle.af_session.specs.Together.{SessionState}
 
 -- ## The least power of two that is not below a number
 

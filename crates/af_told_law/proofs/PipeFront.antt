@@ -1,16 +1,9 @@
 -- If each look at the pipe saw the number of frames taken before, the look of a mix saw as many as its end has.
 use Rattle.std.proofs.Common.{List, [], ap, arith, length, refl, subst, sym, ℕ, ◌++◌, ◌+◌, ◌∙◌, ◌∷◌, ◌≡◌}
-use Rattle.af_base.specs.declared.event.ClientEvent.{ClientEvent}
+use Rattle.af_told_law.proofs.Common.{ClientEvent, Event, HasPipeHistory, MixerState, PipePoint, SeesTaken, ServerEvent, SlotEntry, SubmixSlot, after, one, takes_shown, two, twos, wrapped}
 use Rattle.af_base.specs.declared.event.ClientEvent.TheVariants as client
-use Rattle.af_base.specs.declared.event.ServerEvent.{ServerEvent}
 use Rattle.af_base.specs.declared.event.ServerEvent.TheVariants as server
-use Rattle.af_base.specs.declared.log.SlotEntry.{SlotEntry}
-use Rattle.af_fast.specs.Mixer.{MixerState}
-use Rattle.af_link.specs.PipeEnds.{SeesTaken}
-use Rattle.af_model.specs.Cycles.{SubmixSlot, takes_shown}
-use Rattle.af_model.specs.Order.{Event, after, one, two, twos}
-use Rattle.af_model.specs.PipeHistory.{HasPipeHistory, PipePoint, legal, next, start}
-use Rattle.af_model.specs.Point.{wrapped}
+use Rattle.af_model.specs.PipeHistory.{legal, next, start}
 use Rattle.af_enough_law.specs.Seen.{frames_taken}
 use Rattle.af_told_law.specs.MixLaws.{TookCounted}
 

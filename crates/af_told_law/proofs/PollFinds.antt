@@ -1,37 +1,9 @@
 -- A poll finds the last state pushed, if its observer had learnt of all pushes: so the poll is told, with the meetings after it.
 use Rattle.std.proofs.Common.{◌≡◌, ◌≢◌, ⊎_elim, ℕ, ◌+◌, ◌≤◌, ◌||◌, Bool, true, false, true≢false, if◌then◌else◌, List, [], ◌∷◌, ◌++◌, length, length-append, Option, Some, None, IfSome, refl, sym, ap, subst, ◌∙◌, append_assoc, arith}
-use Rattle.std.specs.List.{list_any}
-use Rattle.std.proofs.lemmas.Bool.{cases_eq, eq-eqb, eqb-true, false_from_ne_true}
-use Rattle.std.proofs.lemmas.List.Folds.{list_any-append}
-use Rattle.std.proofs.lemmas.Grind.{fold-append}
-use Rattle.af_base.specs.declared.state.FastState.{FastState}
-use Rattle.af_fast.specs.Mixer.{MixerState, is_over}
-use Rattle.af_fast.specs.Mixing.{Adopts}
-use Rattle.af_link.specs.declared.links.Links.{Links}
-use Rattle.af_link.specs.declared.names.StreamNames.{StreamNames}
-use Rattle.af_model.specs.declared.plain_calls.Poll.{Poll}
-use Rattle.af_model.specs.declared.plain_calls.Poll.TheVariants.{New, Nothing, Same}
-use Rattle.af_model.specs.declared.states.MutatorEvent.{MutatorEvent}
+use Rattle.af_told_law.proofs.Common.{Adopts, AreTogether, Event, FastState, HasHistory, HasLearnt, HaveHistories, InStep, LeadAway, Legal, Links, Met, MixerState, MutatorEvent, MutatorPoint, New, NormalState, Nothing, ObserverEvent, ObserverPoint, Observes, Poll, Polls, Pushes, QueuePoint, Run, Same, ServerState, Session, SessionState, StreamNames, TakesIt, WasPolled, acknowledged, after, after_ones, after_twos, cases_eq, eq-eqb, eqb-true, false_from_ne_true, fold-append, is_over, is_push, legal, list_any, list_any-append, mutated, mutator_next, mutator_start, next, observed, one, polled_in_order, polled_states, pushed_states, sees_same, sees_the_last, start, took, two, with_poll}
 use Rattle.af_model.specs.declared.states.MutatorEvent.TheVariants as mutator
-use Rattle.af_model.specs.declared.states.ObserverEvent.{ObserverEvent}
 use Rattle.af_model.specs.declared.states.ObserverEvent.TheVariants as observer
-use Rattle.af_model.specs.Order.{Event, Legal, after, one, two}
-use Rattle.af_model.specs.StateQueue.{HasHistory, MutatorPoint, ObserverPoint, QueuePoint, legal, mutated, mutator_next, mutator_start, next, observed, start}
-use Rattle.af_normal.specs.State.{NormalState}
-use Rattle.af_runs.specs.Rounds.{HaveHistories}
-use Rattle.af_runs.specs.Runs.{Run, with_poll}
 use Rattle.af_runs.specs.Runs as run_of
-use Rattle.af_runs.specs.Sessions.{Session}
-use Rattle.af_server.specs.Order.{ServerState}
-use Rattle.af_stateq.specs.Answers.{TakesIt, WasPolled, sees_same}
-use Rattle.af_stateq.specs.Ends.{Polls, Pushes, acknowledged, took}
-use Rattle.af_stateq.specs.Laws.{is_push, polled_states, pushed_states}
-use Rattle.af_stateq.specs.Observes.{Observes}
-use Rattle.af_stateq.proofs.Exact.{after_ones, after_twos, sees_the_last}
-use Rattle.af_stateq.proofs.Prefix.{polled_in_order}
-use Rattle.af_rendering.specs.Leads.{HasLearnt, InStep, LeadAway}
-use Rattle.af_session.specs.Met.{Met}
-use Rattle.af_session.specs.Together.{AreTogether, SessionState}
 use Rattle.af_told_law.specs.Tells.{FindsLast, Tells, items_sent, mutated_by}
 use Rattle.af_told_law.proofs.AllMeet.{met_histories, tells_met}
 use Rattle.af_told_law.proofs.PollNew.{polled_told}

@@ -1,42 +1,11 @@
 -- A poll that takes the last state pushed leaves each proxy that is away where the run tells it.
 use Rattle.std.proofs.Common.{◌≡◌, ℕ, ◌+◌, ◌<◌, ◌==◌, ◌&&◌, ◌||◌, not, Bool, true, false, true≢false, if◌then◌else◌, is_some, map, List, [], ◌∷◌, ◌++◌, Option, Some, None, refl, sym, ap, ◌∙◌, subst, arith, append_assoc}
-use Rattle.std.proofs.lemmas.Bool.{and_parts, eq-eqb, le-ltb, lt-ltb, ne_eqb, not-true}
-use Rattle.std.proofs.lemmas.Grind.{fold-append}
-use Rattle.std.proofs.lemmas.List.{map-append}
-use Rattle.std.proofs.lemmas.Option.{none-some}
-use Rattle.af_base.proofs.Basics.{or_right}
-use Rattle.af_base.specs.declared.state.FastState.{FastState}
-use Rattle.af_base.specs.Log.{slots}
-use Rattle.af_fast.specs.Mixer.{MixerState, is_over}
-use Rattle.af_fast.specs.Mixing.{Adopts}
-use Rattle.af_life.specs.Kept.{is_home, slot_number, track_at}
-use Rattle.af_life.specs.Sound.{IsSound}
-use Rattle.af_link.specs.declared.links.Links.{Links}
-use Rattle.af_link.specs.declared.names.StreamNames.{StreamNames}
-use Rattle.af_model.specs.declared.plain_calls.Poll.{Poll}
-use Rattle.af_model.specs.declared.plain_calls.Poll.TheVariants.{New, Nothing, Same}
-use Rattle.af_model.specs.declared.states.ObserverEvent.{ObserverEvent}
+use Rattle.af_told_law.proofs.Common.{Adopts, AreOf, AreTogether, BlockTold, FastState, FastTrack, IsSettled, IsSound, Item, LeadAway, Links, MixerState, New, NormalState, Nothing, ObserverEvent, ObserverPoint, Observes, Poll, Run, Same, ServerEvent, ServerState, Session, SessionState, StreamNames, TakesIt, WasPolled, acknowledged, and_parts, at, carries, cycle_frames, eq-eqb, fold-append, has, is_home, is_over, item_at, items_of, le-ltb, lt-ltb, map-append, ne_eqb, none-some, not-true, observed, observer_next, observer_start, or_right, poll_events, sees_same, slot_for, slot_number, slot_of, slots, state_at, told_at, took, track_at, with_poll}
 use Rattle.af_model.specs.declared.states.ObserverEvent.TheVariants as observer
-use Rattle.af_model.specs.StateQueue.{AreOf, ObserverPoint, carries, has, observed, observer_next, observer_start, slot_of}
-use Rattle.af_normal.specs.State.{NormalState}
-use Rattle.af_runs.specs.Blocks.{BlockTold}
-use Rattle.af_runs.specs.Runs.{Run, told_at, with_poll}
-use Rattle.af_runs.specs.Sessions.{Session, cycle_frames}
-use Rattle.af_runs.specs.Told.{Item, items_of, poll_events, state_at}
-use Rattle.af_server.specs.Order.{ServerState}
-use Rattle.af_stateq.specs.Answers.{TakesIt, WasPolled, sees_same}
-use Rattle.af_stateq.specs.Ends.{acknowledged, took}
-use Rattle.af_stateq.specs.Mutates.{at}
-use Rattle.af_stateq.specs.Observes.{IsSettled, Observes}
-use Rattle.af_rendering.specs.Leads.{LeadAway}
-use Rattle.af_engine.specs.Met.{item_at, slot_for}
-use Rattle.af_session.specs.Together.{AreTogether, SessionState}
 use Rattle.af_told_law.proofs.Basics.{item_within}
 use Rattle.af_told_law.specs.Tells.{FindsLast, Tells, TellsAway, TellsServer, TellsStream, is_coming, is_going, items_given, items_sent, marked_poll, mutated_by, none_comes}
 use Rattle.af_told_law.proofs.PollTold.{marks_are, poll_told, stream_still}
 use Rattle.af_told_law.proofs.SlotHeld.{found_carries, found_track, none_carries}
-use Rattle.af_base.specs.declared.state.FastTrack.{FastTrack}
-use Rattle.af_base.specs.declared.event.ServerEvent.{ServerEvent}
 use Rattle.af_told_law.specs.Deeds.{Deeds, ServerDone, done_on}
 
 abbrev Watching : Type 0

@@ -1,36 +1,9 @@
 -- After a poll that found the last state pushed the run with that poll tells the session.
 use Rattle.std.proofs.Common.{◌≡◌, ℕ, suc, ◌+◌, ◌<◌, ◌&&◌, not, nat_le, nat_lt, Bool, true, false, true≢false, if◌then◌else◌, is_some, map, List, [], ◌∷◌, ◌++◌, length, slice_get, Option, Some, None, refl, sym, ap, ◌∙◌, arith, append-nil}
-use Rattle.std.specs.List.{range_with_len}
-use Rattle.std.proofs.lemmas.Bool.{le-leb}
-use Rattle.std.proofs.lemmas.Grind.{fold-append}
-use Rattle.af_base.specs.Log.{slots}
-use Rattle.af_base.specs.declared.state.FastState.{FastState}
-use Rattle.af_fast.specs.Mixer.{MixerState}
-use Rattle.af_life.specs.Kept.{slot_number, track_at}
-use Rattle.af_model.specs.declared.states.ObserverEvent.{ObserverEvent}
+use Rattle.af_told_law.proofs.Common.{AreOf, BlockTold, FastState, Item, MixerState, MutatorEvent, NormalState, ObserverEvent, ObserverPoint, Observes, PartyState, Run, ServerEvent, ServerState, Session, SessionState, StreamNames, at, carries, cycle_frames, fold-append, has, item_at, items_of, le-leb, marked, observed, observer_does, observer_next, observer_start, ones, ones_append, option_map, poll_events, range_with_len, sees_same, slot_for, slot_number, slots, state_at, told_at, track_at, twos, with_poll}
 use Rattle.af_model.specs.declared.states.ObserverEvent.TheVariants as observer
-use Rattle.af_model.specs.Order.{ones, twos}
-use Rattle.af_model.specs.StateQueue.{AreOf, ObserverPoint, carries, has, observed, observer_next, observer_start}
-use Rattle.af_model.proofs.Splits.{ones_append}
-use Rattle.af_normal.specs.State.{NormalState}
-use Rattle.af_party.specs.Parties.{PartyState}
-use Rattle.af_runs.specs.Blocks.{BlockTold}
-use Rattle.af_runs.specs.KeptLists.{marked}
-use Rattle.af_runs.specs.Runs.{Run, told_at, with_poll}
-use Rattle.af_runs.specs.Sessions.{Session, cycle_frames}
-use Rattle.af_runs.specs.Told.{Item, items_of, observer_does, poll_events, state_at}
-use Rattle.af_server.specs.Order.{ServerState}
-use Rattle.af_stateq.specs.Answers.{sees_same}
-use Rattle.af_stateq.specs.Mutates.{at}
-use Rattle.af_stateq.specs.Observes.{Observes}
-use Rattle.af_engine.specs.Met.{item_at, slot_for}
-use Rattle.af_session.specs.Together.{SessionState}
 use Rattle.af_told_law.specs.Tells.{Tells, TellsAway, TellsStream, TellsTrack, held_slot, is_coming, is_going, items_given, marked_poll, mutated_by, none_comes, reports_stored}
 use Rattle.af_told_law.proofs.SharedMeets.{of_two, ones_two, twos_append, twos_two}
-use Rattle.af_model.specs.declared.states.MutatorEvent.{MutatorEvent}
-use Rattle.af_link.specs.declared.names.StreamNames.{StreamNames}
-use Rattle.std.specs.Option.{option_map}
-use Rattle.af_base.specs.declared.event.ServerEvent.{ServerEvent}
 use Rattle.af_told_law.specs.Deeds.{Deeds, ServerDone, done_on}
 
 -- ## Marks

@@ -1,20 +1,8 @@
 -- Where a push leaves the items, and what it leaves of the pushes.
 use Rattle.std.proofs.Common.{◌≡◌, ℕ, zero, suc, ◌+◌, ◌<◌, ◌&&◌, ◌⊎◌, inl, inr, Bool, true, false, true≢false, is_some, if◌then◌else◌, refl, sym, ap, subst, ◌∙◌, List, [], ◌∷◌, ◌++◌, append_assoc, append-nil, replicate, Option, Some, None, eq-eqb, ne_eqb, arith}
-use Rattle.af_base.specs.Log.{slots}
-use Rattle.af_base.specs.declared.state.Push.{Push}
-use Rattle.af_base.specs.declared.state.Push.TheVariants.{Pushed, Clean, Busy}
+use Rattle.af_told_law.proofs.Common.{AreOf, Busy, Clean, Mutates, NormalState, Push, Pushed, SeesIt, ServerState, StreamNames, WasPushed, at, carries, in_queue, is_pushed, kept_of, push_list, pushes, saw, shows, slots}
 use Rattle.af_model.specs.declared.states.MutatorEvent.TheVariants as mutator
-use Rattle.af_model.specs.StateQueue.{AreOf, carries}
-use Rattle.af_runs.specs.Told.{is_pushed}
-use Rattle.af_server.specs.Order.{ServerState}
-use Rattle.af_stateq.specs.Answers.{WasPushed, SeesIt, shows}
-use Rattle.af_stateq.specs.Ends.{pushes, saw}
-use Rattle.af_stateq.specs.Mutates.{Mutates, at}
-use Rattle.af_link.specs.declared.names.StreamNames.{StreamNames}
-use Rattle.af_life.specs.TurnEvents.{push_list}
-use Rattle.af_normal.specs.LegalTurned.{in_queue}
 use Rattle.af_normal.specs.Mutating.{Pushes}
-use Rattle.af_normal.specs.State.{NormalState, kept_of}
 use Rattle.af_told_law.proofs.AckPlaces.{came}
 
 -- an item for no slot
@@ -44,9 +32,6 @@ pub record PutOn (push : Push) (x y : NormalState) (again sent : List (Option Se
   pub still : is_pushed push ≡ false → y.mutator.past ≡ record x.mutator.past { events = y.mutator.past.events }
 
 module _ (push : Push) (x y : NormalState) (w : Pushes push x y) where
-  abbrev Mutator : Type 0
-  Mutator = Mutates ServerState StreamNames
-
   abbrev Put : Push → Type 0
   Put p = (again : List (Option ServerState)) × (sent : List (Option ServerState)) × PutOn p x y again sent
 

@@ -1,18 +1,10 @@
 -- What a look at the acknowledgement brings, by the history of the queue, wherever it stands: the items given back with the last acknowledgement, if it saw that.
 use Rattle.std.proofs.Common.{◌≡◌, ◌≢◌, ⊎_elim, ℕ, ◌+◌, ◌≤◌, ◌<◌, ◌==◌, ◌&&◌, not, Bool, true, false, true≢false, if◌then◌else◌, List, [], ◌∷◌, ◌++◌, length, length-append, get_or, Option, refl, sym, ap, subst, ◌∙◌, arith}
-use Rattle.std.proofs.lemmas.Bool.{cases_eq, eq-eqb, eqb-true, ne_eqb}
-use Rattle.af_base.specs.declared.state.FastState.{FastState}
-use Rattle.af_model.specs.declared.states.MutatorEvent.{MutatorEvent}
-use Rattle.af_model.specs.declared.states.MutatorEvent.TheVariants.{Push, SawAck}
+use Rattle.af_told_law.proofs.Common.{AreOf, Event, FastState, HasHistory, Legal, MutatorEvent, MutatorPoint, ObserverEvent, ObserverPoint, QueuePoint, SawAck, ServerState, after, after_ones, after_twos, cases_eq, eq-eqb, eqb-true, legal, legal_at, mutated, ne_eqb, next, observed, one, ones, start, two}
+use Rattle.af_model.specs.declared.states.MutatorEvent.TheVariants.{Push}
 use Rattle.af_model.specs.declared.states.MutatorEvent.TheVariants as mutator
-use Rattle.af_model.specs.declared.states.ObserverEvent.{ObserverEvent}
 use Rattle.af_model.specs.declared.states.ObserverEvent.TheVariants.{Ack, SawNext}
 use Rattle.af_model.specs.declared.states.ObserverEvent.TheVariants as observer
-use Rattle.af_model.specs.Order.{Event, Legal, after, one, ones, two}
-use Rattle.af_model.specs.StateQueue.{AreOf, HasHistory, MutatorPoint, ObserverPoint, QueuePoint, legal, mutated, next, observed, start}
-use Rattle.af_model.proofs.Splits.{legal_at}
-use Rattle.af_stateq.proofs.Exact.{after_ones, after_twos}
-use Rattle.af_server.specs.Order.{ServerState}
 
 abbrev Events : Type 0
 Events = List (Event (MutatorEvent ServerState) (ObserverEvent ServerState))

@@ -1,16 +1,8 @@
 -- What the mutator's list tells after a turn: the items that went with the last push, and whether that was seen acknowledged.
 use Rattle.std.proofs.Common.{◌≡◌, ℕ, ◌-◌, ◌==◌, Bool, true, false, true≢false, if◌then◌else◌, fold, refl, sym, ap, ◌∙◌, List, [], ◌∷◌, ◌++◌, Option}
+use Rattle.af_told_law.proofs.Common.{Busy, Clean, FastState, MutatorEvent, MutatorPoint, NormalKept, Push, Pushed, ServerState, is_pushed, mutated, mutator_next, mutator_start, push_list}
 use Rattle.std.proofs.lemmas.List.Sums.{fold-append}
-use Rattle.af_base.specs.declared.state.FastState.{FastState}
-use Rattle.af_base.specs.declared.state.Push.{Push}
-use Rattle.af_base.specs.declared.state.Push.TheVariants.{Pushed, Clean, Busy}
-use Rattle.af_model.specs.declared.states.MutatorEvent.{MutatorEvent}
 use Rattle.af_model.specs.declared.states.MutatorEvent.TheVariants as mutator
-use Rattle.af_model.specs.StateQueue.{MutatorPoint, mutated, mutator_next, mutator_start}
-use Rattle.af_runs.specs.Told.{is_pushed}
-use Rattle.af_server.specs.Order.{ServerState}
-use Rattle.af_life.specs.Kept.{NormalKept}
-use Rattle.af_life.specs.TurnEvents.{push_list}
 use Rattle.af_told_law.proofs.PushPlaces.{is_busy}
 
 module _ (first : FastState) (events : List (MutatorEvent ServerState)) (n : ℕ) (back again sent : List (Option ServerState)) (m : NormalKept) where

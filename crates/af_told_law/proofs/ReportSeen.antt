@@ -1,30 +1,13 @@
 -- A turn of the normal mixer between two rounds loads the last report that was stored.
 use Rattle.std.proofs.Common.{◌≡◌, ⊎_elim, ℕ, suc, ◌+◌, fold, List, [], ◌∷◌, ◌++◌, length, refl, sym, ap, ◌∙◌, append_assoc, arith}
-use Rattle.std.specs.Prelude.{max, min}
-use Rattle.af_base.specs.declared.log.CycleEntry.{CycleEntry}
-use Rattle.af_base.specs.declared.report.Report.{Report}
-use Rattle.af_latest.specs.Laws.{last_of, stores}
-use Rattle.af_link.specs.declared.links.Links.{Links}
-use Rattle.af_model.specs.declared.newest.ReaderEvent.{ReaderEvent}
-use Rattle.af_model.specs.declared.newest.ReaderEvent.TheVariants.{Load}
+use Rattle.af_told_law.proofs.Common.{AreTogether, CycleEntry, Links, Load, NormalState, ReaderEvent, Report, ReportTold, Run, Session, SessionState, Store, TrackKept, WriterEvent, last_of, last_report, max, min, most_cycles, no_report, one, ones, report_at, report_met, report_of, slot_number, stores, track_at, two, twos}
 use Rattle.af_model.specs.declared.newest.ReaderEvent.TheVariants as reads
-use Rattle.af_model.specs.declared.newest.WriterEvent.{WriterEvent}
-use Rattle.af_model.specs.declared.newest.WriterEvent.TheVariants.{Store}
 use Rattle.af_model.specs.declared.newest.WriterEvent.TheVariants as writes
 use Rattle.af_model.specs.NewestValue as newest
 use Rattle.af_model.specs.NewestValue.{HasHistory}
-use Rattle.af_model.specs.Order.{one, two, ones, twos}
-use Rattle.af_model.specs.Reports.{no_report, report_at}
-use Rattle.af_normal.specs.State.{NormalState}
-use Rattle.af_runs.specs.Runs.{Run, last_report, most_cycles, report_of}
-use Rattle.af_runs.specs.Sessions.{Session}
-use Rattle.af_runs.specs.Told.{ReportTold, report_met}
-use Rattle.af_session.specs.Together.{AreTogether, SessionState}
 use Rattle.af_told_law.specs.QueueTurned.{ReportMet}
 use Rattle.af_told_law.specs.Tells.{Tells, reports_stored}
 use Rattle.af_told_law.proofs.TurnReport.{all_stored, last_told, loads_behind, loads_first}
-use Rattle.af_life.specs.Kept.{slot_number, track_at}
-use Rattle.af_life.specs.declared.kept.TrackKept.{TrackKept}
 use Rattle.af_told_law.specs.Outsides.{HeardAlike}
 use Rattle.af_told_law.specs.Deeds.{Deeds}
 

@@ -1,37 +1,14 @@
 -- What the meetings leave of the queue, the report and the pipe is told by the meetings of the run.
 use Rattle.std.proofs.Common.{◌≡◌, ℕ, map, List, [], ◌∷◌, ◌++◌, length, refl, sym, ap, ◌∙◌, subst}
-use Rattle.std.proofs.lemmas.List.{length-map, map-append}
-use Rattle.af_base.specs.declared.event.ClientEvent.{ClientEvent}
+use Rattle.af_told_law.proofs.Common.{ClientEvent, Event, FastState, HasHistory, HasPipeHistory, Item, Met, MixerState, MutatorEvent, NormalState, ObserverEvent, ReaderEvent, Report, Run, ServerEvent, ServerState, Session, SessionState, SharedHistories, WriterEvent, cycle_frames, kept_of, length-map, map-append, marked_event, met, no_report, one, ones, ones_append, pushed_states, setup_of as mixer_setup, state_at, two, twos}
 use Rattle.af_base.specs.declared.event.ClientEvent.TheVariants as client
-use Rattle.af_base.specs.declared.event.ServerEvent.{ServerEvent}
 use Rattle.af_base.specs.declared.event.ServerEvent.TheVariants as server
-use Rattle.af_base.specs.declared.report.Report.{Report}
-use Rattle.af_base.specs.declared.state.FastState.{FastState}
-use Rattle.af_fast.specs.Mixer.{MixerState}
-use Rattle.af_model.specs.Order.{Event, one, ones, two, twos}
-use Rattle.af_model.specs.StateQueue.{HasHistory}
 use Rattle.af_model.specs.NewestValue as newest
-use Rattle.af_model.specs.PipeHistory.{HasPipeHistory}
-use Rattle.af_model.specs.Reports.{no_report}
-use Rattle.af_model.specs.declared.newest.ReaderEvent.{ReaderEvent}
 use Rattle.af_model.specs.declared.newest.ReaderEvent.TheVariants as reads
-use Rattle.af_model.specs.declared.newest.WriterEvent.{WriterEvent}
 use Rattle.af_model.specs.declared.newest.WriterEvent.TheVariants as writes
-use Rattle.af_model.specs.declared.states.MutatorEvent.{MutatorEvent}
 use Rattle.af_model.specs.declared.states.MutatorEvent.TheVariants as mutator
-use Rattle.af_model.specs.declared.states.ObserverEvent.{ObserverEvent}
 use Rattle.af_model.specs.declared.states.ObserverEvent.TheVariants as observer
-use Rattle.af_model.proofs.Splits.{ones_append}
-use Rattle.af_normal.specs.State.{NormalState, kept_of, setup_of as mixer_setup}
-use Rattle.af_runs.specs.KeptLists.{marked_event}
-use Rattle.af_runs.specs.Rounds.{SharedHistories}
-use Rattle.af_runs.specs.Runs.{Run, met}
-use Rattle.af_runs.specs.Sessions.{Session, cycle_frames, setup_of}
-use Rattle.af_runs.specs.Told.{Item, state_at}
-use Rattle.af_server.specs.Order.{ServerState}
-use Rattle.af_stateq.specs.Laws.{pushed_states}
-use Rattle.af_session.specs.Met.{Met}
-use Rattle.af_session.specs.Together.{SessionState}
+use Rattle.af_runs.specs.Sessions.{setup_of}
 use Rattle.af_told_law.specs.Tells.{Tells, TellsFast, TellsShared, marked_poll, reports_stored}
 use Rattle.af_told_law.proofs.MarkedQueue.{history_marked}
 use Rattle.af_told_law.specs.Deeds.{Deeds}

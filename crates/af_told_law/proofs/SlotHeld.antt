@@ -1,14 +1,6 @@
 -- The observer holds a track's proxy, as the run tells it, if a slot of its state carries it.
 use Rattle.std.proofs.Common.{◌≡◌, ◌⊎◌, inl, inr, ℕ, zero, suc, ◌+◌, ◌<◌, ◌==◌, ◌||◌, Bool, true, false, true≢false, if◌then◌else◌, is_some, [], ◌∷◌, Option, Some, None, refl, sym, ap, ◌∙◌, arith}
-use Rattle.std.specs.List.{list_any, range_with_len}
-use Rattle.std.proofs.lemmas.Bool.{and_from, and_parts, cases_eq, eq-eqb, eqb-true}
-use Rattle.std.proofs.lemmas.Option.{none-some, same_Some}
-use Rattle.std.proofs.lemmas.List.Folds.{list_any-append}
-use Rattle.af_base.proofs.Basics.{range_end}
-use Rattle.af_base.specs.declared.state.FastState.{FastState}
-use Rattle.af_base.specs.Log.{slots}
-use Rattle.af_model.specs.StateQueue.{carries, slot_of}
-use Rattle.af_engine.specs.Met.{is_slot_of, or_else, slot_below, slot_for}
+use Rattle.af_told_law.proofs.Common.{FastState, and_from, and_parts, carries, cases_eq, eq-eqb, eqb-true, is_slot_of, list_any, list_any-append, none-some, or_else, range_end, range_with_len, same_Some, slot_below, slot_for, slot_of, slots}
 
 either : (o : Option ℕ) (k : ℕ) (b : Bool) → (is_some o || (b || false)) ≡ is_some (or_else o (if b then Some k else None))
 either None k true = refl

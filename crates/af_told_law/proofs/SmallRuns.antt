@@ -1,27 +1,10 @@
 -- The blocks of a run keep their sizes: they have no more frames than a block may have, in the first run and after each round.
 use Rattle.std.proofs.Common.{◌≡◌, ℕ, ◌<◌, ◌≤◌, ◌==◌, Bool, true, false, if◌then◌else◌, fold, List, [], ◌∷◌, Option, Some, None, refl, sym, subst, arith}
-use Rattle.std.proofs.lemmas.List.FromFn.{get_or-map-range_with_len, length-map-range_with_len}
-use Rattle.std.proofs.lemmas.Option.{get_or_from_slice_get}
-use Rattle.af_base.specs.declared.frame.Frame.{Frame}
-use Rattle.af_base.specs.Turn.{Turn}
-use Rattle.af_judge.proofs.Basics.{shape_met}
-use Rattle.af_model.specs.Journals.{EntrySeen, RoundSeen}
-use Rattle.af_model.specs.declared.shape.Shape.{Shape}
-use Rattle.af_runs.specs.Clients.{ends}
-use Rattle.af_runs.specs.Found.{outside_of}
-use Rattle.af_runs.specs.LegalRuns.{session_of}
-use Rattle.af_runs.specs.Rounds.{loaded, turned}
-use Rattle.af_runs.specs.Runs.{Run, TrackTold, called, calls_in, each_track, found_before, mixed_track, new_run, new_track, no_track, played, slot_for, state_for, takes_part, told_at, track_met, turned_track, with_ends, with_load, with_mix, with_poll, with_turn}
+use Rattle.af_told_law.proofs.Common.{EntrySeen, Frame, IsNewSession, RoundSeen, Run, ScriptData, Session, SessionState, Shape, SharedState, TrackSpec, TrackTold, Turn, TurnSpec, called, calls_alone, calls_in, cycle_alone, cycle_frames, each_track, ends, found_before, get_or-map-range_with_len, get_or_from_slice_get, length-map-range_with_len, loaded, made_alone, met_alone, mixed_track, new_run, no_spec, no_track, outside_of, played, session_of, shape_met, spec_of, state_for, takes_part, told_at, track_count, track_met, turn_alone, turned, turned_track, with_ends, with_load, with_mix, with_poll, with_turn}
+use Rattle.af_runs.specs.Runs.{new_track, slot_for}
 use Rattle.af_runs.specs.Runs as run_of
-use Rattle.af_runs.specs.Sessions.{Session, cycle_frames, no_spec, setup_of, spec_of, track_count}
-use Rattle.af_runs.specs.TurnRuns.{calls_alone, cycle_alone, made_alone, met_alone, turn_alone}
-use Rattle.af_script.specs.Data.{ScriptData}
-use Rattle.af_script.specs.declared.op.TurnSpec.{TurnSpec}
+use Rattle.af_runs.specs.Sessions.{setup_of}
 use Rattle.af_script.specs.declared.op.TurnSpec.TheVariants as makes
-use Rattle.af_script.specs.declared.track.TrackSpec.{TrackSpec}
-use Rattle.af_session.specs.NewSession.{IsNewSession}
-use Rattle.af_engine.specs.Shares.{SharedState}
-use Rattle.af_session.specs.Together.{SessionState}
 use Rattle.af_told_law.specs.Sizes.{IsSmallRun, IsTrackSmall}
 use Rattle.af_told_law.proofs.TameRuns.{each_keeps}
 

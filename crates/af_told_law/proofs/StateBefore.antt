@@ -1,14 +1,7 @@
 -- The state before the last one that a mutator's list tells is the one before the last that it pushed.
 use Rattle.std.proofs.Common.{◌≡◌, ℕ, ◌+◌, ◌-◌, ◌<◌, fold, unwrap_or, List, [], ◌∷◌, ◌++◌, append_assoc, append-nil, length, length-append, Option, refl, sym, ap, subst, ◌∙◌, arith}
-use Rattle.af_base.specs.declared.state.FastState.{FastState}
-use Rattle.af_model.proofs.Basics.{same_before, state_next}
-use Rattle.af_model.specs.declared.states.MutatorEvent.{MutatorEvent}
+use Rattle.af_told_law.proofs.Common.{FastState, MutatorEvent, MutatorPoint, ServerState, initial, mutated, mutator_next, mutator_start, pushed_states, same_before, state_at, state_next}
 use Rattle.af_model.specs.declared.states.MutatorEvent.TheVariants as mutator
-use Rattle.af_model.specs.Draft.{initial}
-use Rattle.af_model.specs.StateQueue.{MutatorPoint, mutated, mutator_next, mutator_start}
-use Rattle.af_runs.specs.Told.{state_at}
-use Rattle.af_server.specs.Order.{ServerState}
-use Rattle.af_stateq.specs.Laws.{pushed_states}
 
 module _ (frames : ℕ) where
   -- a point of the mutator has the last of these states, and the one before it

@@ -1,30 +1,9 @@
 -- After a turn of the normal mixer by which it ended the run with that turn tells each track's proxies: nothing was done to them, and each is home.
 use Rattle.std.proofs.Common.{◌≡◌, ℕ, zero, suc, ◌<◌, ◌&&◌, ◌||◌, Bool, true, false, true≢false, if◌then◌else◌, List, [], ◌∷◌, ◌++◌, append-nil, length, slice_get, Some, refl, sym, ap, subst, ◌∙◌, arith}
-use Rattle.std.specs.List.{AllByRecursion}
-use Rattle.std.proofs.lemmas.Bool.{and_parts}
-use Rattle.std.proofs.lemmas.Option.{same_Some}
-use Rattle.af_base.proofs.Basics.{some_at}
-use Rattle.af_base.specs.declared.event.HandEvent.{HandEvent}
-use Rattle.af_base.specs.declared.event.ServerEvent.{ServerEvent}
-use Rattle.af_base.specs.Turn.{Turn, ended_turn, turn_of}
+use Rattle.af_told_law.proofs.Common.{Adds, AllByRecursion, AreTogether, BlockTold, HandEvent, IsLegal, Links, NormalKept, NormalState, Outside, Run, ServerEvent, ServerPart, ServerState, Session, SessionState, Setup, TrackKept, Turn, and_parts, command_events_of, commands_turned, ended_turn, hand_events, hand_list, invalid, is_exit, is_home, kept_of, learnt, mix_events, same_Some, setup_of as mixer_setup, some_at, stream_turned, told_at, track_at, track_in, tracks_at, turn_of, turned_track, words_taken}
 use Rattle.af_audit.proofs.DoneTracks.{IsDone}
-use Rattle.af_cblk.specs.declared.view.ServerPart.{ServerPart}
-use Rattle.af_life.specs.declared.kept.TrackKept.{TrackKept}
-use Rattle.af_life.specs.Edits.{is_exit}
-use Rattle.af_life.specs.Heard.{learnt}
-use Rattle.af_life.specs.Kept.{NormalKept, Outside, Setup, is_home, track_at, track_in}
-use Rattle.af_life.specs.Looks.{words_taken}
-use Rattle.af_life.specs.TurnEvents.{command_events_of, hand_list, invalid, mix_events, tracks_at}
-use Rattle.af_link.specs.declared.links.Links.{Links}
-use Rattle.af_normal.specs.LegalTurned.{IsLegal, hand_events}
-use Rattle.af_normal.specs.Serving.{Adds}
-use Rattle.af_normal.specs.State.{NormalState, kept_of, setup_of as mixer_setup}
-use Rattle.af_runs.specs.Blocks.{BlockTold}
 use Rattle.af_runs.specs.Blocks as told_of
-use Rattle.af_runs.specs.Runs.{Run, commands_turned, stream_turned, told_at, turned_track}
-use Rattle.af_runs.specs.Sessions.{Session, setup_of}
-use Rattle.af_server.specs.Order.{ServerState}
-use Rattle.af_session.specs.Together.{AreTogether, SessionState}
+use Rattle.af_runs.specs.Sessions.{setup_of}
 use Rattle.af_rendering.proofs.Quiet.{IsQuiet}
 use Rattle.af_told_law.specs.Places.{StreamsStay}
 use Rattle.af_told_law.specs.Tells.{Tells, TellsCommands, TellsServer, TellsStream}

@@ -1,35 +1,9 @@
 -- After a turn of the normal mixer that goes on the run with that turn tells each track's proxies.
 use Rattle.std.proofs.Common.{◌≡◌, inl, inr, ◌⊎◌, ⊎_elim, ℕ, ◌<◌, Bool, true, false, is_some, List, [], ◌∷◌, ◌++◌, append-nil, length, slice_get, Option, Some, None, refl, sym, ap, subst, ◌∙◌, arith}
-use Rattle.std.proofs.lemmas.Bool.{ltb-true}
-use Rattle.std.proofs.lemmas.Option.{none-some, same_Some, slice_get_within}
-use Rattle.af_base.proofs.Basics.{some_at}
-use Rattle.af_base.specs.declared.event.ServerEvent.{ServerEvent}
-use Rattle.af_base.specs.Log.{slots}
-use Rattle.af_base.specs.Turn.{Turn, turn_of}
-use Rattle.af_life.specs.Edits.{after_ack, must_enter}
-use Rattle.af_life.specs.Heard.{learnt}
-use Rattle.af_life.specs.Kept.{NormalKept, Outside, is_home, slot_number, track_at}
-use Rattle.af_life.specs.Turn.{turn_after}
-use Rattle.af_life.specs.TurnEvents.{stream_list, tracks_at}
-use Rattle.af_link.specs.declared.links.Links.{Links}
-use Rattle.af_model.specs.Cycles.{Listed}
+use Rattle.af_told_law.proofs.Common.{AreTogether, BlockTold, GoesOnFrom, HasHistory, IsLegal, Links, Listed, NormalKept, NormalState, Outside, Run, ServerEvent, ServerState, Session, SessionState, Turn, TurnFound, after_ack, at, away_slot, cycle_frames, home_stream, in_queue, is_home, is_pushed, item_at, kept_of, learnt, listed_at, ltb-true, must_enter, none-some, outside_of, same_Some, served_tracks, setup_of as mixer_setup, slice_get_within, slot_number, slots, some_at, stream_at, stream_list, stream_turned, told_at, track_at, tracks_at, turn_after, turn_of, turned_track}
 use Rattle.af_model.specs.declared.states.MutatorEvent.TheVariants as mutator
 use Rattle.af_model.specs.declared.states.ObserverEvent.TheVariants as observer
-use Rattle.af_model.specs.StateQueue.{HasHistory}
-use Rattle.af_normal.specs.LegalTurned.{GoesOnFrom, IsLegal, home_stream, in_queue, served_tracks}
-use Rattle.af_normal.specs.Mixing.{stream_at}
-use Rattle.af_normal.specs.State.{NormalState, kept_of, setup_of as mixer_setup}
-use Rattle.af_normal.specs.Turning.{listed_at}
-use Rattle.af_normal.proofs.OrderEdits.{away_slot}
-use Rattle.af_runs.specs.Blocks.{BlockTold}
-use Rattle.af_runs.specs.Found.{TurnFound, outside_of}
-use Rattle.af_runs.specs.Runs.{Run, stream_turned, told_at, turned_track}
-use Rattle.af_runs.specs.Sessions.{Session, cycle_frames, setup_of}
-use Rattle.af_runs.specs.Told.{is_pushed}
-use Rattle.af_server.specs.Order.{ServerState}
-use Rattle.af_stateq.specs.Mutates.{at}
-use Rattle.af_engine.specs.Met.{item_at}
-use Rattle.af_session.specs.Together.{AreTogether, SessionState}
+use Rattle.af_runs.specs.Sessions.{setup_of}
 use Rattle.af_told_law.proofs.Basics.{unpushed, went}
 use Rattle.af_told_law.specs.Between.{StandsBefore}
 use Rattle.af_told_law.specs.Comers.{ComersTell}

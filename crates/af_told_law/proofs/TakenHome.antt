@@ -1,26 +1,7 @@
 -- A track that a turn mixes has no slot, so that its stream proxy is home once the acknowledgement was seen.
 use Rattle.std.proofs.Common.{◌≡◌, ◌⊎◌, inl, inr, ℕ, zero, suc, ◌<◌, ◌==◌, ◌&&◌, not, nat_le, Bool, true, false, true≢false, if◌then◌else◌, is_some, map, filter, List, [], ◌∷◌, length, refl, sym, ap, ◌∙◌, subst, eqb-true, arith}
-use Rattle.std.specs.Prelude.{slice_set}
-use Rattle.std.specs.List.{AllByRecursion, range_with_len}
-use Rattle.af_base.specs.declared.state.Command.{Command}
-use Rattle.af_base.specs.declared.state.FastState.{FastState}
-use Rattle.af_base.specs.Command.{code_of}
-use Rattle.af_base.specs.Turn.{TakeSeen, Turn, TrackSeen}
-use Rattle.af_life.proofs.Basics.{at_set, slot_of_away}
-use Rattle.af_life.specs.declared.kept.Holder.TheVariants.{Returning}
-use Rattle.af_life.specs.declared.kept.TrackKept.{TrackKept}
-use Rattle.af_life.specs.Edits.{after_ack, edited, edited_to, entered, lend, lent_by, let_go, must_enter, must_leave, mutated, ordered}
-use Rattle.af_life.specs.Kept.{Learnt, NormalKept, Setup, asked, is_home, new_track, plays, seen_at, track_at}
-use Rattle.af_life.specs.Plays.{is_mixed_here, mixed_here, tracks_due}
-use Rattle.af_life.specs.Serves.{served, served_to}
-use Rattle.af_life.specs.Sound.{IsSound}
-use Rattle.af_life.specs.Turn.{after_edits, after_tracks}
-use Rattle.af_life.specs.TurnEvents.{takes_from}
-use Rattle.af_life.proofs.Lives.{acked_len, mutation_len, served_len}
-use Rattle.af_model.specs.Draft.{commanded as with_command}
-use Rattle.af_judge.proofs.SoundLives.{goes_served}
-use Rattle.af_judge.proofs.SoundSlots.{sound_served}
-use Rattle.af_judge.proofs.SoundTurns.{sound_acked}
+use Rattle.af_told_law.proofs.Common.{AllByRecursion, Command, FastState, IsSound, Learnt, NormalKept, Returning, Setup, TakeSeen, TrackKept, TrackSeen, Turn, acked_len, after_ack, after_edits, after_tracks, asked, at_set, code_of, commanded as with_command, edited, edited_to, entered, goes_served, is_home, is_mixed_here, lend, lent_by, let_go, mixed_here, must_enter, must_leave, mutation_len, new_track, ordered, plays, range_with_len, seen_at, served, served_len, served_to, slice_set, slot_of_away, sound_acked, sound_served, takes_from, track_at, tracks_due}
+use Rattle.af_life.specs.Edits.{mutated}
 
 -- ## A slot stays
 

@@ -1,12 +1,6 @@
 -- The takes of a legal turn are in the order of their tracks.
 use Rattle.std.proofs.Common.{◌≡◌, ℕ, zero, suc, ◌+◌, ◌≤◌, nat_le, cond, Bool, true, false, if◌then◌else◌, filter, map, List, [], ◌∷◌, length, refl, sym, subst, arith}
-use Rattle.std.specs.List.{range_with_len}
-use Rattle.af_base.specs.Turn.{Turn, TakeSeen}
-use Rattle.af_life.specs.declared.kept.TrackKept.{TrackKept}
-use Rattle.af_life.specs.Heard.{learnt}
-use Rattle.af_life.specs.Kept.{NormalKept, Outside, Setup, asked, track_at}
-use Rattle.af_life.specs.Plays.{is_mixed_here, mixed_here, tracks_due}
-use Rattle.af_life.specs.Turn.{LegalTurn, after_edits}
+use Rattle.af_told_law.proofs.Common.{LegalTurn, NormalKept, Outside, Setup, TakeSeen, TrackKept, Turn, after_edits, asked, is_mixed_here, learnt, mixed_here, range_with_len, track_at, tracks_due}
 use Rattle.af_model.specs.JournalForm.{TracksRise}
 
 -- numbers that rise, from one on

@@ -1,23 +1,8 @@
 -- Runs whose lawful blocks weren't poked so far, through polls, meetings and mixes; what they tell is small.
 use Rattle.std.proofs.Common.{◌≡◌, ℕ, ◌<◌, ◌≤◌, Bool, true, false, fold, map, List, [], ◌∷◌, length, slice_get, Option, Some, None, refl, sym, ap, ◌∙◌, subst, arith}
-use Rattle.std.specs.Prelude.{slice_index_or}
-use Rattle.std.proofs.lemmas.Option.{slice_get_within}
-use Rattle.af_base.specs.declared.event.ServerEvent.{ServerEvent}
-use Rattle.af_base.specs.Log.{entry_slot}
-use Rattle.af_judge.proofs.Basics.{each_at, each_long, shape_met}
-use Rattle.af_model.proofs.Basics.{both_lawful}
-use Rattle.af_model.specs.Cycles.{cycle_events}
-use Rattle.af_model.specs.History.{Moment, by_server, client_of, is_lawful}
-use Rattle.af_model.specs.Journals.{EntrySeen}
-use Rattle.af_model.specs.declared.shape.Shape.{Shape}
-use Rattle.af_runs.specs.Blocks.{Marks, listed}
-use Rattle.af_runs.specs.ClientTurns.{Track}
-use Rattle.af_runs.specs.Fronts.{front_of}
-use Rattle.af_runs.specs.Runs.{Run, TrackTold, each_from, mixed_track, no_track, played, slot_for, state_for, stream_met, takes_part, told_at, track_met, with_mix, with_poll}
+use Rattle.af_told_law.proofs.Common.{EntrySeen, Marks, Moment, PartyState, Run, ServerEvent, Session, SessionState, Shape, Track, TrackTold, both_lawful, by_server, client_of, cycle_events, cycle_frames, each_at, each_from, each_long, entry_slot, front_of, is_lawful, listed, mixed_track, no_track, played, shape_met, slice_get_within, slice_index_or, state_for, stream_met, takes_part, told_at, track_met, with_mix, with_poll}
+use Rattle.af_runs.specs.Runs.{slot_for}
 use Rattle.af_runs.specs.Runs as run_of
-use Rattle.af_runs.specs.Sessions.{Session, cycle_frames}
-use Rattle.af_party.specs.Parties.{PartyState}
-use Rattle.af_session.specs.Together.{SessionState}
 use Rattle.af_told_law.specs.Sizes.{AreSmall, IsSmallRun, IsTrackSmall}
 use Rattle.af_told_law.specs.Marked.{IsMarkedRun, IsTrackMarked}
 use Rattle.af_told_law.specs.Tells.{Tells}

@@ -1,42 +1,13 @@
 -- What the meetings leave of a track is told by the meetings of the run.
 use Rattle.std.proofs.Common.{Bool, List, None, Option, Some, [], ap, arith, false, if◌then◌else◌, inl, inr, is_some, length, nat_lt, not, refl, slice_get, subst, suc, sym, true, true≢false, zero, ℕ, ◌&&◌, ◌<◌, ◌==◌, ◌||◌, ◌∙◌, ◌∷◌, ◌≡◌, ◌≤◌, ◌⊎◌}
-use Rattle.std.specs.List.{list_any, range_with_len}
-use Rattle.std.proofs.lemmas.Bool.{cases_eq}
-use Rattle.std.proofs.lemmas.Grind.{fold-append}
-use Rattle.std.proofs.lemmas.Option.{none-some, same_Some}
-use Rattle.af_base.specs.declared.event.HandEvent.{HandEvent}
-use Rattle.af_base.specs.declared.state.FastState.{FastState}
-use Rattle.af_base.specs.Log.{slots}
-use Rattle.af_cblk.specs.Sides.{HandSide, client_made}
-use Rattle.af_client.specs.Order.{ClientState}
-use Rattle.af_fast.specs.Mixer.{MixerState}
-use Rattle.af_life.specs.declared.kept.TrackKept.{TrackKept}
-use Rattle.af_life.specs.Kept.{NormalKept, is_home, slot_number, track_at}
-use Rattle.af_link.specs.declared.links.Links.{Links}
-use Rattle.af_model.specs.History.{is_lawful}
-use Rattle.af_model.specs.StateQueue.{MutatorPoint, ObserverPoint, carries, mutator_next, mutator_start, observer_next, observer_start, slot_of}
+use Rattle.af_told_law.proofs.Common.{AreTogether, BlockTold, ClientState, FastState, HandEvent, HandSide, HasBlockHistory, Links, MeetsAway, MeetsFlag, MeetsStream, Met, MixerState, MutatorPoint, NormalKept, NormalState, ObserverPoint, PartyState, Run, ServerEvent, ServerState, Session, SessionState, SpotMet, Track, TrackKept, TrackMet, at, carries, cases_eq, client_list, client_made, fold-append, hand_events, is_home, is_lawful, item_at, list_any, meets, meets_flag, met, mutator_next, mutator_start, none-some, observer_next, observer_start, ops_at, proxies_of, range_with_len, same_Some, server_list, side_of, side_of_proxy, slot_for, slot_number, slot_of, slots, spot_of, stream_at, stream_met, takes_part, told_at, track_at, track_count, track_met}
 use Rattle.af_model.specs.declared.states.MutatorEvent.TheVariants as mutator
 use Rattle.af_model.specs.declared.states.ObserverEvent.TheVariants as observer
-use Rattle.af_normal.specs.LegalTurned.{hand_events}
-use Rattle.af_normal.specs.Meeting.{MeetsStream}
-use Rattle.af_normal.specs.Mixing.{stream_at}
-use Rattle.af_normal.specs.State.{NormalState}
-use Rattle.af_party.specs.Parties.{PartyState, side_of_proxy}
-use Rattle.af_runs.specs.Blocks.{BlockTold, HasBlockHistory, client_list, hand_list, meets, server_list, meets_flag}
-use Rattle.af_runs.specs.ClientTurns.{Track}
-use Rattle.af_runs.specs.Runs.{Run, met, side_of, stream_met, takes_part, told_at, track_met}
-use Rattle.af_runs.specs.Sessions.{Session, track_count}
-use Rattle.af_server.specs.Order.{ServerState}
-use Rattle.af_stateq.specs.Mutates.{at}
-use Rattle.af_engine.specs.Met.{MeetsAway, MeetsFlag, SpotMet, item_at, proxies_of, slot_for, spot_of}
-use Rattle.af_session.specs.Met.{Met, TrackMet}
-use Rattle.af_session.specs.Rounds.{ops_at}
-use Rattle.af_session.specs.Together.{AreTogether, SessionState}
+use Rattle.af_runs.specs.Blocks.{hand_list}
 use Rattle.af_told_law.specs.Tells.{IfThere, Tells, TellsAway, TellsCommands, TellsServer, TellsStream, TellsTrack, given_of, held_slot, is_coming, is_going, items_given, items_sent, mutated_by, none_comes}
 use Rattle.af_told_law.proofs.BlockMeets.{all_did, all_hand, all_history, all_server, all_side, did_met, flag_hand, flag_side, meets_history, meets_server, meets_side}
 use Rattle.af_told_law.proofs.SlotHeld.{found_carries, is_held}
 use Rattle.af_runs.specs.Kept.{client_of}
-use Rattle.af_base.specs.declared.event.ServerEvent.{ServerEvent}
 use Rattle.af_told_law.specs.Deeds.{DeedTold, Deeds, ServerDone, deeds_met, done_on, met_deed}
 
 -- a proxy that is there and tells the block

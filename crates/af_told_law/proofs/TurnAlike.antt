@@ -1,31 +1,9 @@
 -- By alike outsides a turn of the normal mixer serves and edits its tracks alike.
 use Rattle.std.proofs.Common.{Bool, List, [], ap, arith, false, if◌then◌else◌, inl, inr, is_some, length, min, refl, subst, suc, sym, true, zero, ℕ, ◌&&◌, ◌<◌, ◌∙◌, ◌∷◌, ◌≡◌, ◌≤◌}
-use Rattle.std.specs.Prelude.{slice_set}
-use Rattle.std.proofs.lemmas.List.{get_or-set_other}
-use Rattle.af_base.specs.declared.state.FastState.{FastState}
-use Rattle.af_base.specs.declared.turn.CommandLook.{CommandLook}
-use Rattle.af_base.specs.Turn.{Turn, TrackSeen}
-use Rattle.af_life.proofs.Basics.{at_set}
-use Rattle.af_life.specs.declared.kept.Heard.{Heard}
-use Rattle.af_life.specs.declared.kept.TrackKept.{TrackKept}
-use Rattle.af_life.specs.Edits.{after_ack, after_push, commanded_by, edited, edited_to, lend, let_go, must_enter, must_leave, mutated}
-use Rattle.af_life.specs.Heard.{counts_in, heard, heard_at_home, heard_by, heard_elsewhere, heard_with, is_reported, known_by, learnt, noted, ready, settled_at, slot_reported}
-use Rattle.af_life.specs.Kept.{Learnt, NormalKept, Outside, Setup, is_home, new_track, no_counts, plays, seen_at, track_at}
+use Rattle.af_told_law.proofs.Common.{CommandLook, FastState, Heard, IsSound, Learnt, Listed, NormalKept, Outside, ServerKept, Setup, Shape, SlotReport, TrackKept, TrackSeen, Turn, acked_len, after_ack, after_edits, after_part, after_push, after_takes, after_tracks, at_set, commanded_by, counts_in, edited, edited_to, flushes_by, get_or-set_other, goes_served, heard, heard_at_home, heard_by, heard_elsewhere, heard_with, is_home, is_reported, known_by, learnt, lend, let_go, must_enter, must_leave, new_track, no_counts, not_yet, noted, plays, ready, seen_at, served, served_len, served_to, settled_at, slice_set, slot_reported, sound_acked, sound_served, track_at, tracks_at, turn_after}
+use Rattle.af_life.specs.Edits.{mutated}
 use Rattle.af_life.specs.Obeys.{slot_for}
-use Rattle.af_life.specs.Plays.{after_takes}
-use Rattle.af_life.specs.Serves.{after_part, served, served_to}
-use Rattle.af_life.specs.Sound.{IsSound}
-use Rattle.af_life.specs.Turn.{after_edits, after_tracks, turn_after}
-use Rattle.af_life.specs.TurnEvents.{tracks_at}
-use Rattle.af_life.proofs.Lives.{acked_len, not_yet, served_len}
-use Rattle.af_model.specs.Cycles.{Listed}
-use Rattle.af_model.specs.ServerCalls.{ServerKept, flushes_by}
-use Rattle.af_model.specs.declared.shape.Shape.{Shape}
-use Rattle.af_judge.proofs.SoundLives.{goes_served}
-use Rattle.af_judge.proofs.SoundSlots.{sound_served}
-use Rattle.af_judge.proofs.SoundTurns.{sound_acked}
 use Rattle.af_told_law.specs.Outsides.{AreAlike, LearnAlike, ListAlike, OwnAlike}
-use Rattle.af_base.specs.declared.report.SlotReport.{SlotReport}
 
 -- ## What is heard
 

@@ -1,17 +1,7 @@
 -- A turn of the normal mixer counts one turn more, by its steps.
 use Rattle.std.proofs.Common.{◌≡◌, ℕ, zero, suc, ◌+◌, ◌==◌, Bool, true, false, MatchBool, MatchOption, Option, Some, None, length, ap, ◌∙◌}
-use Rattle.af_life.specs.Edits.{must_enter, must_leave}
-use Rattle.af_life.specs.Kept.{is_returning, slot_number, track_at}
-use Rattle.af_normal.specs.Coming.{WelcomesTo, has_back, takes_back}
-use Rattle.af_normal.specs.Editing.{LetsGo, Lends}
-use Rattle.af_normal.specs.Mutating.{EditsTo}
-use Rattle.af_normal.specs.State.{NormalState}
-use Rattle.af_normal.specs.TurnMade.{Does, TurnMade}
+use Rattle.af_told_law.proofs.Common.{Does, EditsTo, Ended, HandsTo, Lends, LetsGo, NormalState, SeesAck, ServerState, Spent, TurnMade, Turned, WelcomesTo, at, has_back, is_returning, must_enter, must_leave, slot_number, takes_back, track_at, with_mutator}
 use Rattle.af_normal.specs.declared.turn.Turn.{Turn as Answer}
-use Rattle.af_normal.specs.declared.turn.Turn.TheVariants.{Turned, Ended, Spent}
-use Rattle.af_normal.specs.Turning.{HandsTo, SeesAck, with_mutator}
-use Rattle.af_server.specs.Order.{ServerState}
-use Rattle.af_stateq.specs.Mutates.{at}
 
 welcomed : (n : ℕ) (x y : NormalState) → WelcomesTo n x y → y.turns ≡ x.turns
 welcomed zero x y is = ap (λ (m : NormalState). m.turns) is

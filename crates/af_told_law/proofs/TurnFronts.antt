@@ -1,26 +1,8 @@
 -- If each front that a server saw in a turn of the normal mixer is its own, the fronts of its looks are those told, by the rule of a journal and by that of a lawful block.
 use Rattle.std.proofs.Common.{◌≡◌, inl, inr, ℕ, ◌==◌, ◌&&◌, not, Bool, true, false, true≢false, if◌then◌else◌, is_some, fold, List, [], ◌∷◌, ◌++◌, Option, Some, None, refl, sym, ap, ◌∙◌, subst, eqb-true}
-use Rattle.std.specs.Prelude.{MatchOption}
-use Rattle.std.specs.List.{AllByRecursion, flat_map}
-use Rattle.std.proofs.lemmas.Grind.{fold-append}
-use Rattle.af_base.specs.declared.event.ServerEvent.{ServerEvent}
+use Rattle.af_told_law.proofs.Common.{AllByRecursion, AllSeeOwn, CommandLook, LegalLooks, LegalTake, Listed, LooksBy, MatchOption, Outside, ServerEvent, ServerKept, Setup, Shape, SlotEntry, TakeSeen, TrackKept, Turn, after_look, all_command_events, as_slot, asked, command_events, command_list, cycle_events, did, flat_map, fold-append, front_by_answer, front_of, fronts_by, heard, invalid, is_found_shut, is_home, is_own_inside, kept, lawful_front, learnt, leaves_open, look_at, look_events, mix_events, own_front, server_begins, server_keeps, status_events, stream_list, takes_command, takes_from, track_at, track_in}
 use Rattle.af_base.specs.declared.event.ServerEvent.TheVariants as server
-use Rattle.af_base.specs.declared.log.SlotEntry.{SlotEntry}
 use Rattle.af_base.specs.declared.seen.Seen.TheVariants as seen
-use Rattle.af_base.specs.declared.turn.CommandLook.{CommandLook}
-use Rattle.af_base.specs.Turn.{TakeSeen, Turn}
-use Rattle.af_life.specs.declared.kept.TrackKept.{TrackKept}
-use Rattle.af_life.specs.Heard.{heard, learnt}
-use Rattle.af_life.specs.Kept.{Outside, Setup, asked, is_home, track_at, track_in}
-use Rattle.af_life.specs.Looks.{LegalLooks, all_command_events, as_slot, command_events, did, takes_command}
-use Rattle.af_life.specs.Plays.{LegalTake}
-use Rattle.af_life.specs.Serves.{is_found_shut}
-use Rattle.af_life.specs.TurnEvents.{command_list, invalid, mix_events, status_events, stream_list, takes_from}
-use Rattle.af_model.specs.declared.shape.Shape.{Shape}
-use Rattle.af_model.specs.Cycles.{Listed, LooksBy, after_look, cycle_events, kept}
-use Rattle.af_model.specs.ServerCalls.{ServerKept, look_at, look_events, server_begins, server_keeps}
-use Rattle.af_model.specs.Spelled.{AllSeeOwn, own_front}
-use Rattle.af_runs.specs.Fronts.{front_by_answer, front_of, fronts_by, is_own_inside, lawful_front, leaves_open}
 use Rattle.af_told_law.specs.Outsides.{LooksTold, SameFront, SameFronts, TakeTold}
 use Rattle.af_told_law.proofs.OwnFronts.{own_told}
 use Rattle.af_told_law.proofs.LegalAlike.{command_same}

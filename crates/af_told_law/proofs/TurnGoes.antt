@@ -1,46 +1,9 @@
 -- Where each stream proxy lies after a turn that goes on, by what the turn tells.
 use Rattle.std.proofs.Common.{◌≡◌, ℕ, ◌+◌, ◌-◌, ◌<◌, ◌==◌, ◌&&◌, not, ◌⊎◌, Bool, true, false, true≢false, if◌then◌else◌, refl, sym, ap, subst, ◌∙◌, List, [], ◌∷◌, ◌++◌, append_assoc, append-nil, length, map, flat_map, Option, Some, None, eq-eqb, ne_eqb, arith, is_some}
-use Rattle.std.proofs.lemmas.List.{append_cancel_left, map-append}
-use Rattle.std.proofs.lemmas.Option.{same_Some}
-use Rattle.af_base.specs.declared.event.ServerEvent.{ServerEvent}
-use Rattle.af_base.specs.declared.report.Report.{Report}
-use Rattle.af_base.specs.Log.{slots}
-use Rattle.af_base.specs.declared.state.FastState.{FastState}
-use Rattle.af_base.specs.declared.state.Push.{Push}
-use Rattle.af_base.specs.declared.state.Push.TheVariants.{Pushed, Clean, Busy}
-use Rattle.af_base.specs.Sample.{packed_word}
-use Rattle.af_base.specs.Turn.{Turn, TakeSeen}
-use Rattle.af_cblk.specs.declared.view.ServerPart.{ServerPart}
-use Rattle.af_model.specs.Cycles.{Listed, cycle_events}
-use Rattle.af_model.specs.StateQueue.{AreOf, MutatorPoint, carries, mutated}
-use Rattle.af_model.specs.declared.newest.ReaderEvent.TheVariants.{Load}
-use Rattle.af_model.specs.declared.states.MutatorEvent.{MutatorEvent}
+use Rattle.af_told_law.proofs.Common.{AreOf, Begins, BegunBy, Busy, Clean, FastState, GoesOnBy, Grows, HasHands, IsTied, Links, Listed, Load, Mutates, MutatorEvent, MutatorPoint, NormalKept, NormalState, Outside, Push, Pushed, Pushes as Past, Report, ServerEvent, ServerPart, ServerState, StreamNames, TakeSeen, TrackKept, Turn, acked_list, after_edits, append_cancel_left, asked, at, carries, cycle_events, home_stream, in_hand, in_queue, is_home, is_pushed, is_returning, items_of, kept_of, known_by, learnt, learnt_by, listed_at, map-append, marked, mix_events, must_enter, mutated, mutator_list, number_seen, packed_word, push_list, same_Some, served_to, served_tracks, setup_of, slot_number, slots, stay_put, stream_at, takes_from, track_at, tracks_at, words_of}
 use Rattle.af_model.specs.declared.states.MutatorEvent.TheVariants as mutator
-use Rattle.af_runs.specs.KeptLists.{marked}
-use Rattle.af_runs.specs.Told.{is_pushed, items_of}
-use Rattle.af_server.specs.Order.{ServerState}
 use Rattle.af_server.specs.Slot.{listed}
-use Rattle.af_stateq.specs.Ends.{Pushes as Past}
-use Rattle.af_stateq.specs.Mutates.{Mutates, at}
-use Rattle.af_link.specs.declared.links.Links.{Links}
-use Rattle.af_link.specs.declared.names.StreamNames.{StreamNames}
-use Rattle.af_life.specs.declared.kept.TrackKept.{TrackKept}
-use Rattle.af_life.specs.Edits.{must_enter}
-use Rattle.af_life.specs.Heard.{known_by, learnt}
-use Rattle.af_life.specs.Kept.{NormalKept, Outside, asked, is_home, is_returning, slot_number, track_at}
-use Rattle.af_life.specs.Serves.{served_to}
-use Rattle.af_life.specs.Turn.{after_edits}
-use Rattle.af_life.specs.TurnEvents.{mix_events, mutator_list, number_seen, push_list, takes_from, tracks_at}
-use Rattle.af_normal.specs.LegalTurned.{Grows, home_stream, in_hand, in_queue, served_tracks}
-use Rattle.af_normal.specs.Mixing.{stream_at}
-use Rattle.af_normal.specs.Order.{IsInOrder, IsTied}
-use Rattle.af_normal.specs.State.{NormalState, kept_of, setup_of}
-use Rattle.af_normal.specs.TurnMade.{GoesOnBy}
-use Rattle.af_normal.specs.Turning.{Begins, HasHands, learnt_by, listed_at}
-use Rattle.af_normal.proofs.LegalBegins.{BegunBy}
-use Rattle.af_normal.proofs.LegalPlays.{words_of}
-use Rattle.af_normal.proofs.OrderServed.{stay_put}
-use Rattle.af_normal.proofs.OrderStages.{acked_list}
+use Rattle.af_normal.specs.Order.{IsInOrder}
 use Rattle.af_told_law.specs.Places.{ComesFrom, IsLentBy, QueueGoes, SlotsStand, StaysAway, StreamsGo, enters_by, events_by, rests_by, slot_in, told_by, words_by}
 use Rattle.af_told_law.proofs.Basics.{went}
 use Rattle.af_told_law.proofs.AckPlaces.{Acked}

@@ -1,20 +1,7 @@
 -- The stream proxies that are home after a turn of a session's normal mixer, and those that it lends, are told by the run's turn. A turn that has ended is legal too.
 use Rattle.std.proofs.Common.{Bool, Some, ap, arith, false, is_some, length, refl, subst, sym, true, ℕ, ◌++◌, ◌<◌, ◌∙◌, ◌≡◌}
-use Rattle.af_base.specs.Turn.{Turn, turn_of}
-use Rattle.af_life.specs.Edits.{after_ack}
-use Rattle.af_life.specs.Heard.{learnt}
-use Rattle.af_life.specs.Kept.{NormalKept, Outside, Setup, is_home, track_at}
-use Rattle.af_life.specs.Turn.{turn_after}
-use Rattle.af_link.specs.declared.links.Links.{Links}
-use Rattle.af_normal.specs.LegalTurned.{IsLegal}
-use Rattle.af_normal.specs.Mixing.{stream_at}
-use Rattle.af_normal.specs.State.{NormalState, kept_of, setup_of as mixer_setup}
-use Rattle.af_runs.specs.Blocks.{BlockTold, Marks}
-use Rattle.af_runs.specs.Found.{LegalTurnBy, TurnFound, outside_of}
-use Rattle.af_runs.specs.Runs.{Run, stream_turned, told_at}
-use Rattle.af_runs.specs.Sessions.{Session, setup_of}
-use Rattle.af_server.specs.Order.{ServerState}
-use Rattle.af_session.specs.Together.{AreTogether, SessionState}
+use Rattle.af_told_law.proofs.Common.{AreTogether, BlockTold, IsLegal, LegalTurnBy, Links, Marks, NormalKept, NormalState, Outside, Run, ServerState, Session, SessionState, Setup, Turn, TurnFound, after_ack, is_home, kept_of, learnt, outside_of, setup_of as mixer_setup, stream_at, stream_turned, told_at, track_at, turn_after, turn_of}
+use Rattle.af_runs.specs.Sessions.{setup_of}
 use Rattle.af_told_law.specs.Comers.{ComersTell}
 use Rattle.af_told_law.specs.Tells.{Tells, TellsServer}
 use Rattle.af_told_law.proofs.FoundLegal.{ended_legal}

@@ -1,16 +1,10 @@
 -- What a turn of the normal mixer does to the pipe is told by the run: the front that it saw is the one that its room tells.
 use Rattle.std.proofs.Common.{◌≡◌, ℕ, ◌+◌, ◌-◌, ◌%◌, ◌≤◌, ◌==◌, Bool, true, false, if◌then◌else◌, nat_le, List, [], ◌∷◌, ◌++◌, length, refl, ap, subst, arith}
-use Rattle.std.proofs.lemmas.List.{length-append}
-use Rattle.af_base.specs.declared.event.ClientEvent.{ClientEvent}
+use Rattle.af_told_law.proofs.Common.{ClientEvent, Event, HasPipeHistory, Legal, PipePoint, ServerEvent, after, front_by_room, length-append, one, ones, releases_of, room_by, two, wrapped}
 use Rattle.af_base.specs.declared.event.ClientEvent.TheVariants as client
-use Rattle.af_base.specs.declared.event.ServerEvent.{ServerEvent}
 use Rattle.af_base.specs.declared.event.ServerEvent.TheVariants as server
 use Rattle.af_enough_law.specs.Seen.{frames_put}
-use Rattle.af_life.specs.TurnEvents.{front_by_room}
-use Rattle.af_model.specs.Order.{Event, after, one, two, ones, Legal}
 use Rattle.af_model.specs.PipeHistory as piped
-use Rattle.af_model.specs.PipeHistory.{HasPipeHistory, PipePoint, releases_of, room_by}
-use Rattle.af_model.specs.Point.{wrapped}
 
 module _ (size : ℕ) where
   -- no more was taken than shown, nor shown than put, nor put than there is room for

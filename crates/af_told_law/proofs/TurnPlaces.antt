@@ -1,40 +1,8 @@
 -- Where each stream proxy lies after a turn that goes on, by its steps.
 use Rattle.std.proofs.Common.{◌≡◌, ◌≢◌, ℕ, zero, suc, ◌<◌, ◌≤◌, ◌==◌, ◌&&◌, ◌⊎◌, inl, inr, not, Bool, true, false, true≢false, is_some, All, if◌then◌else◌, refl, sym, ap, subst, ◌∙◌, List, [], ◌∷◌, length, map, Option, Some, None, ⊎_elim, arith}
-use Rattle.std.specs.Prelude.{slice_index_or}
-use Rattle.std.proofs.lemmas.Bool.{cases_eq}
+use Rattle.af_told_law.proofs.Common.{Command, FastState, GoesOnBy, Home, IsTied, Links, Mutates, NormalKept, NormalState, Push, Pushes as Past, Report, ServerState, Setup, StreamNames, TrackKept, WasAcked, acked_list, after_ack, apart, at, away_holds, away_slot, begun, carries, cases_eq, code_of, comer_holds, comer_home, comer_inside, comer_slot, commanded as with_command, due_command, finished, home_stream, in_queue, is_home, is_out, is_pushed, kept_of, mixing_of, must_enter, none-some, nothing_heard, number_of, served_len, setting_of, setup_of, slice_index_or, slot_number, slot_of_away, slots, stream_at, takes_from, track_at, welcomed}
 use Rattle.std.proofs.lemmas.List.Elements.{All-head, All-tail}
-use Rattle.std.proofs.lemmas.Option.{none-some}
-use Rattle.af_base.specs.Command.{code_of}
-use Rattle.af_base.specs.Log.{slots}
-use Rattle.af_base.specs.declared.report.Report.{Report}
-use Rattle.af_base.specs.declared.state.Command.{Command}
-use Rattle.af_base.specs.declared.state.FastState.{FastState}
-use Rattle.af_base.specs.declared.state.Push.{Push}
-use Rattle.af_life.proofs.Basics.{away_holds, slot_of_away}
-use Rattle.af_model.specs.Draft.{commanded as with_command}
-use Rattle.af_model.specs.StateQueue.{carries}
-use Rattle.af_runs.specs.Told.{is_pushed}
-use Rattle.af_server.specs.Order.{ServerState}
-use Rattle.af_stateq.specs.Answers.{WasAcked}
-use Rattle.af_stateq.specs.Ends.{Pushes as Past}
-use Rattle.af_stateq.specs.Mutates.{Mutates, at, is_out}
-use Rattle.af_link.specs.declared.links.Links.{Links}
-use Rattle.af_link.specs.declared.names.StreamNames.{StreamNames}
-use Rattle.af_life.specs.declared.kept.Holder.TheVariants.{Home}
 use Rattle.af_life.specs.declared.kept.Setting.{Setting}
-use Rattle.af_life.specs.declared.kept.TrackKept.{TrackKept}
-use Rattle.af_life.specs.Edits.{after_ack, must_enter, welcomed}
-use Rattle.af_life.specs.Kept.{Setup, NormalKept, is_home, nothing_heard, number_of, setting_of, slot_number, track_at}
-use Rattle.af_life.specs.TurnEvents.{takes_from}
-use Rattle.af_life.proofs.Lives.{served_len}
-use Rattle.af_normal.specs.LegalTurned.{home_stream, in_queue}
-use Rattle.af_normal.specs.Mixing.{stream_at}
-use Rattle.af_normal.specs.Mutating.{begun, due_command, finished}
-use Rattle.af_normal.specs.Order.{IsTied}
-use Rattle.af_normal.specs.State.{NormalState, kept_of, setup_of}
-use Rattle.af_normal.specs.TurnMade.{GoesOnBy, mixing_of}
-use Rattle.af_normal.proofs.OrderEdits.{apart, away_slot, comer_holds, comer_home, comer_inside, comer_slot}
-use Rattle.af_normal.proofs.OrderStages.{acked_list}
 use Rattle.af_told_law.proofs.AckPlaces.{Acked, look_leaves, none_of}
 use Rattle.af_told_law.proofs.Basics.{unpushed, went}
 use Rattle.af_told_law.proofs.EditPends.{Pends, all_pend}

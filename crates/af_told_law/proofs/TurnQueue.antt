@@ -1,28 +1,7 @@
 -- What a turn of the normal mixer does at its end of the queue is told by the run, and known again after it.
 use Rattle.std.proofs.Common.{◌≡◌, ◌≢◌, ℕ, zero, suc, ◌+◌, ◌-◌, ◌<◌, ◌≤◌, ◌==◌, ◌&&◌, ◌||◌, not, Bool, true, false, true≢false, if◌then◌else◌, map, List, [], ◌∷◌, ◌++◌, length, Option, None, refl, sym, ap, subst, ◌∙◌, append-nil, arith}
-use Rattle.std.specs.Prelude.{unwrap_or}
-use Rattle.std.specs.List.{list_any}
-use Rattle.std.proofs.lemmas.List.{length-append}
-use Rattle.std.proofs.lemmas.List.Folds.{list_any-append}
-use Rattle.af_base.specs.declared.state.FastState.{FastState}
-use Rattle.af_base.specs.declared.state.Push.{Push}
-use Rattle.af_base.specs.declared.state.Push.TheVariants.{Pushed, Clean, Busy}
-use Rattle.af_base.specs.Turn.{Turn}
-use Rattle.af_life.specs.Edits.{LegalPush}
-use Rattle.af_life.specs.Heard.{learnt}
-use Rattle.af_life.specs.Kept.{Learnt, NormalKept, Outside, Setup}
-use Rattle.af_life.specs.Turn.{after_edits}
-use Rattle.af_life.specs.TurnEvents.{going, mutator_list, number_seen, push_list}
-use Rattle.af_model.specs.Cycles.{state_of}
-use Rattle.af_model.specs.declared.states.MutatorEvent.{MutatorEvent}
+use Rattle.af_told_law.proofs.Common.{Busy, Clean, FastState, Item, KeepsMutator, Learnt, LegalPush, MutatorEvent, NormalKept, NormalState, Outside, Push, Pushed, QueueTold, Run, ServerState, Setup, Turn, after_edits, brought_by, going, initial, is_look_at, is_pushed, items_of, kept_of, learnt, length-append, list_any, list_any-append, marked, marked_event, mutator_does, mutator_list, number_seen, one, ones, push_list, setup_of, state_at, state_of, two, unwrap_or, was_seen}
 use Rattle.af_model.specs.declared.states.MutatorEvent.TheVariants as mutator
-use Rattle.af_model.specs.Draft.{initial}
-use Rattle.af_model.specs.Order.{one, two, ones}
-use Rattle.af_normal.specs.State.{NormalState, kept_of, setup_of}
-use Rattle.af_runs.specs.KeptLists.{KeepsMutator, marked, marked_event}
-use Rattle.af_runs.specs.Runs.{Run}
-use Rattle.af_runs.specs.Told.{Item, QueueTold, brought_by, is_look_at, is_pushed, items_of, mutator_does, state_at, was_seen}
-use Rattle.af_server.specs.Order.{ServerState}
 use Rattle.af_told_law.specs.QueueTurned.{MutatorGoes, QueueKnown}
 
 abbrev Events : Type 0

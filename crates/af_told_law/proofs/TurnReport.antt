@@ -1,19 +1,10 @@
 -- A load behind a meeting that told of all stores shows the last report stored.
 use Rattle.std.proofs.Common.{◌≡◌, ℕ, suc, ◌+◌, ◌-◌, ◌≤◌, ◌==◌, Bool, false, if◌then◌else◌, fold, List, [], ◌∷◌, ◌++◌, length, refl, sym, ap, subst, ◌∙◌, arith}
-use Rattle.std.specs.Prelude.{slice_index_or}
-use Rattle.af_base.specs.declared.report.Report.{Report}
-use Rattle.af_latest.specs.Laws.{last_of, stores}
-use Rattle.af_model.specs.declared.newest.ReaderEvent.{ReaderEvent}
-use Rattle.af_model.specs.declared.newest.ReaderEvent.TheVariants.{Load}
+use Rattle.af_told_law.proofs.Common.{Event, Legal, Load, ReaderEvent, Report, Store, WriterEvent, last_of, last_report, no_report, one, ones, report_of, slice_index_or, stores, two, twos}
 use Rattle.af_model.specs.declared.newest.ReaderEvent.TheVariants as reads
-use Rattle.af_model.specs.declared.newest.WriterEvent.{WriterEvent}
-use Rattle.af_model.specs.declared.newest.WriterEvent.TheVariants.{Store}
 use Rattle.af_model.specs.declared.newest.WriterEvent.TheVariants as writes
 use Rattle.af_model.specs.NewestValue as newest
 use Rattle.af_model.specs.NewestValue.{CellPoint}
-use Rattle.af_model.specs.Order.{Event, Legal, one, two, ones, twos}
-use Rattle.af_model.specs.Reports.{no_report}
-use Rattle.af_runs.specs.Runs.{last_report, report_of}
 
 abbrev Events : Type 0
 Events = List (Event (WriterEvent Report) (ReaderEvent Report))

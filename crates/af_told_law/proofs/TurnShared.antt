@@ -1,21 +1,8 @@
 -- After a turn of the normal mixer the run with this turn tells the ends of the queue, the report and the pipe, and the two mixers.
 use Rattle.std.proofs.Common.{Bool, List, [], ap, false, if◌then◌else◌, length, map, refl, subst, sym, true, true≢false, ℕ, ⊎_elim, ◌++◌, ◌∙◌, ◌∷◌, ◌≡◌, ◌⊎◌}
-use Rattle.af_base.specs.declared.event.ClientEvent.{ClientEvent}
+use Rattle.af_told_law.proofs.Common.{ClientEvent, ClientPart, Event, Frame, IsLegal, NormalState, Outside, Run, Session, SessionState, Setup, Turn, front_by_room, going, one, ones, packed_word, pipe_cells, pipe_list, pipe_size, pipe_turned, put_by, releases_of, room_by, turn_of, two, twos}
 use Rattle.af_base.specs.declared.event.ClientEvent.TheVariants as client
-use Rattle.af_base.specs.declared.frame.Frame.{Frame}
-use Rattle.af_base.specs.Sample.{packed_word}
-use Rattle.af_base.specs.Turn.{Turn, turn_of}
-use Rattle.af_cblk.specs.declared.view.ClientPart.{ClientPart}
-use Rattle.af_life.specs.Kept.{Outside, Setup, pipe_size}
-use Rattle.af_life.specs.Plays.{put_by}
-use Rattle.af_life.specs.TurnEvents.{front_by_room, going, pipe_list}
-use Rattle.af_model.specs.Order.{Event, one, two, ones, twos}
-use Rattle.af_model.specs.PipeHistory.{releases_of, room_by}
-use Rattle.af_normal.specs.LegalTurned.{IsLegal}
-use Rattle.af_normal.specs.State.{NormalState}
-use Rattle.af_runs.specs.Runs.{Run, pipe_cells, pipe_turned}
-use Rattle.af_runs.specs.Sessions.{Session, setup_of}
-use Rattle.af_session.specs.Together.{SessionState}
+use Rattle.af_runs.specs.Sessions.{setup_of}
 use Rattle.af_told_law.specs.Tells.{Tells}
 use Rattle.af_told_law.specs.NormalLaws.{ShowsFront}
 use Rattle.af_told_law.specs.Deeds.{Deeds}

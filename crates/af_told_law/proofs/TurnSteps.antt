@@ -1,48 +1,18 @@
 -- The steps of a turn that goes on, without asking that the proxies are of their blocks: what is learnt and kept, and which proxy each step leaves at home.
 use Rattle.std.proofs.Common.{◌≡◌, ℕ, zero, suc, ◌<◌, ◌≤◌, inl, inr, Bool, false, refl, sym, ap, subst, ◌∙◌, List, [], ◌∷◌, ◌++◌, append-nil, length, map, fold, Option, Some, None, ⊎_elim, arith}
-use Rattle.std.specs.Prelude.{slice_get}
-use Rattle.std.proofs.lemmas.Bool.{cases_lt}
-use Rattle.std.proofs.lemmas.Option.{none-some, same_Some}
-use Rattle.af_base.specs.declared.report.Report.{Report}
-use Rattle.af_base.specs.declared.state.Push.{Push}
+use Rattle.af_told_law.proofs.Common.{GoesOnBy, IsOut, IsSound, IsTied, Learnt, Links, Mutates, NormalKept, NormalState, Push, Report, ServerState, StaysPut, StreamAdds, StreamNames, StreamTakes, TakeSeen, TrackKept, TrackSeen, Turn, acked_kept, acked_len, acked_list, acked_same, after_ack, after_edits, after_take, after_tracks, asked, at_set, cases_lt, counted, home_stream, invalid, kept, kept_of, known_by, learnt_by, listed_at, mix_of, mixing_of, none-some, out_put, same_Some, seen_at, served_len, served_to, setup_of, slice_get, stay_put, stream_at, takes_from, tied_acked, tied_learnt, track_at, track_seen, turn_of, words_of}
 use Rattle.af_base.specs.declared.turn.NormalTake.{NormalTake}
 use Rattle.af_base.specs.declared.turn.TrackTurn.{TrackTurn}
 use Rattle.af_base.specs.declared.turn.TurnEntry.{TurnEntry}
 use Rattle.af_base.specs.Roomy.{Roomy}
-use Rattle.af_base.specs.Turn.{Turn, TakeSeen, TrackSeen, track_seen, turn_of}
-use Rattle.af_life.proofs.Basics.{at_set}
-use Rattle.af_model.specs.Cycles.{kept}
-use Rattle.af_server.specs.Order.{ServerState}
 use Rattle.af_server.specs.Slot.{listed}
-use Rattle.af_stateq.specs.Mutates.{Mutates}
-use Rattle.af_link.specs.declared.links.Links.{Links}
-use Rattle.af_link.specs.declared.names.StreamNames.{StreamNames}
-use Rattle.af_life.specs.declared.kept.TrackKept.{TrackKept}
-use Rattle.af_life.specs.Heard.{known_by}
-use Rattle.af_life.specs.Kept.{asked, NormalKept, Learnt, track_at, seen_at}
-use Rattle.af_life.specs.Serves.{served_to}
-use Rattle.af_life.specs.Sound.{IsSound}
-use Rattle.af_life.specs.Edits.{after_ack, mutated}
-use Rattle.af_life.specs.Plays.{after_take, counted}
-use Rattle.af_life.specs.Turn.{after_tracks, after_edits}
-use Rattle.af_life.specs.TurnEvents.{invalid, takes_from}
-use Rattle.af_life.proofs.Lives.{acked_len, served_len}
-use Rattle.af_normal.specs.LegalTurned.{home_stream}
-use Rattle.af_normal.specs.Mixing.{stream_at}
-use Rattle.af_normal.specs.Order.{IsOut, IsTied}
+use Rattle.af_life.specs.Edits.{mutated}
 use Rattle.af_normal.specs.Ready.{serving_of}
-use Rattle.af_normal.specs.Serving.{StreamAdds}
-use Rattle.af_normal.specs.State.{NormalState, setup_of, kept_of}
-use Rattle.af_normal.specs.TurnMade.{GoesOnBy, mixing_of}
-use Rattle.af_normal.specs.Turning.{learnt_by, listed_at}
 use Rattle.af_normal.proofs.LegalEdits.{Mutated, edits_are, edits_same}
 use Rattle.af_normal.proofs.LegalFlags.{told_still, known_still}
 use Rattle.af_normal.proofs.LegalMade.{PlaysBy, plays_by}
-use Rattle.af_normal.proofs.LegalPlays.{StreamTakes, mix_of, words_of}
 use Rattle.af_normal.proofs.LegalServed.{ServedTo, served_all}
-use Rattle.af_normal.proofs.OrderServed.{StaysPut, out_put, stay_put}
 use Rattle.af_normal.proofs.OrderSlots.{sound_served}
-use Rattle.af_normal.proofs.OrderStages.{acked_kept, acked_list, acked_same, tied_acked, tied_learnt}
 
 -- the first n of a list are there
 there_are : {X : Type 0} (xs : List X) (n : ℕ) → n ≤ length xs → (j : ℕ) → j < n → (s : X) × (slice_get xs j ≡ Some s)

@@ -1,31 +1,8 @@
 -- What a turn of a session's normal mixer leaves of each track's proxies is told by the run's turn.
 use Rattle.std.proofs.Common.{◌≡◌, ◌⊎◌, inl, inr, ℕ, ◌<◌, Bool, true, false, true≢false, if◌then◌else◌, fold, map, List, [], ◌∷◌, ◌++◌, length, slice_get, Some, refl, sym, ap, ◌∙◌, subst, arith, append_assoc, append-nil}
-use Rattle.std.specs.List.{flat_map}
-use Rattle.std.proofs.lemmas.Option.{same_Some}
-use Rattle.af_base.specs.declared.event.HandEvent.{HandEvent}
-use Rattle.af_base.specs.declared.event.ServerEvent.{ServerEvent}
-use Rattle.af_base.specs.Sample.{packed_word}
-use Rattle.af_base.specs.Turn.{TakeSeen, Turn, turn_of}
-use Rattle.af_life.specs.declared.kept.TrackKept.{TrackKept}
-use Rattle.af_life.specs.Edits.{after_ack}
-use Rattle.af_life.specs.Heard.{learnt}
-use Rattle.af_life.specs.Kept.{NormalKept, Outside, Setup, asked, is_home, track_at, track_in}
-use Rattle.af_life.specs.Looks.{words_taken}
-use Rattle.af_life.specs.Turn.{turn_after}
-use Rattle.af_life.specs.TurnEvents.{going, hand_list, invalid, mix_events, stream_list, takes_from, tracks_at}
-use Rattle.af_life.proofs.Lives.{not_yet}
-use Rattle.af_link.specs.declared.links.Links.{Links}
-use Rattle.af_model.specs.Cycles.{Listed, cycle_events}
-use Rattle.af_model.specs.History.{Moment, by_hand, by_server, hand_of, server_of}
-use Rattle.af_normal.specs.LegalTurned.{GoesOnFrom, IsLegal, hand_events}
-use Rattle.af_normal.specs.Serving.{Adds}
-use Rattle.af_normal.specs.State.{NormalState, kept_of, setup_of as mixer_setup}
-use Rattle.af_runs.specs.Blocks.{BlockTold, hand_list as told_hand, listed, server_list}
-use Rattle.af_runs.specs.Found.{TurnFound, outside_of}
-use Rattle.af_runs.specs.Runs.{Run, commands_turned, stream_turned, told_at}
-use Rattle.af_runs.specs.Sessions.{Session, setup_of}
-use Rattle.af_server.specs.Order.{ServerState}
-use Rattle.af_session.specs.Together.{AreTogether, SessionState}
+use Rattle.af_told_law.proofs.Common.{Adds, AreTogether, BlockTold, GoesOnFrom, HandEvent, IsLegal, Links, Listed, Moment, NormalKept, NormalState, Outside, Run, ServerEvent, ServerState, Session, SessionState, Setup, TakeSeen, TrackKept, Turn, TurnFound, after_ack, asked, by_hand, by_server, commands_turned, cycle_events, flat_map, going, hand_events, hand_list, hand_of, invalid, is_home, kept_of, learnt, listed, mix_events, not_yet, outside_of, packed_word, same_Some, server_list, server_of, setup_of as mixer_setup, stream_list, stream_turned, takes_from, told_at, track_at, track_in, tracks_at, turn_after, turn_of, words_taken}
+use Rattle.af_runs.specs.Blocks.{hand_list as told_hand}
+use Rattle.af_runs.specs.Sessions.{setup_of}
 use Rattle.af_told_law.specs.Comers.{ComersTell}
 use Rattle.af_told_law.specs.Alike.{TellAlike}
 use Rattle.af_told_law.specs.Outsides.{AreAlike, FindsBlocks, HeardAlike, IsFound, SameFront, SawCommands, SawStream}

@@ -1,9 +1,7 @@
 -- Basic lemmas that several files here, and of the crates above, cite.
 use Rattle.std.proofs.Common.{Bool, [], false, length, true, ◌∷◌, ◌≡◌}
+use Rattle.af_turn_law.proofs.Common.{BlockTold, client_list, is_tame, lawful_first, server_list, stream_met}
 use Rattle.af_base.specs.declared.event.ClientEvent.TheVariants as client
-use Rattle.af_model.proofs.Basics.{lawful_first}
-use Rattle.af_runs.specs.Blocks.{BlockTold, client_list, is_tame, server_list}
-use Rattle.af_runs.specs.Runs.{stream_met}
 
 -- a block is tame before meetings
 pub tame_met : (part handed : Bool) (b : BlockTold) → is_tame (stream_met part handed b) ≡ true → is_tame b ≡ true

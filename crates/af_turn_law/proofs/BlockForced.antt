@@ -1,11 +1,7 @@
 -- The lists of a block's parties force the order in which they are told, if that is in phases.
 use Rattle.std.proofs.Common.{◌≡◌, inl, inr, ℕ, ◌≤◌, true≢false, List, [], ◌∷◌, ◌++◌, length, refl, sym, ap, ◌∙◌, subst, arith, length-append}
+use Rattle.af_turn_law.proofs.Common.{BlockTold, ClientMay, HasBlockHistory, IsHistoryAsTold, IsLegal, Moment, ServerMay, Shape, TrackPoint, after, after_client, after_hand, after_server, by_client, by_hand, by_server, client_of, hand_of, met_in, server_of, start, taken_of, with_taken}
 use Rattle.af_base.specs.declared.event.HandEvent.TheVariants as hand
-use Rattle.af_model.specs.declared.point.TrackPoint.{TrackPoint}
-use Rattle.af_model.specs.declared.shape.Shape.{Shape}
-use Rattle.af_model.specs.History.{Moment, by_client, by_server, by_hand, client_of, server_of, hand_of, after, met_in, IsLegal, with_taken, taken_of}
-use Rattle.af_model.specs.Point.{start, ClientMay, ServerMay, after_client, after_server, after_hand}
-use Rattle.af_runs.specs.Blocks.{BlockTold, HasBlockHistory, IsHistoryAsTold}
 use Rattle.af_turn_law.specs.Marking.{learnt, KnowsAll, client_marks, server_marks, hand_marks, client_is_mark, server_is_mark, server_named, hand_is_mark}
 use Rattle.af_turn_law.specs.Acting.{SawNoInvalid}
 use Rattle.af_turn_law.specs.Phased.{IsBlockPhased, ends_met}

@@ -1,18 +1,9 @@
 -- From a legal order of a block's parties the last event of one party is taken to the end, if that party had learnt of all that others did.
 use Rattle.std.proofs.Common.{◌≡◌, ◌⊎◌, inl, inr, ℕ, ◌+◌, ◌≤◌, ◌<◌, ◌||◌, max, Bool, true, false, true≢false, List, [], ◌∷◌, ◌++◌, length, refl, sym, ap, ◌∙◌, subst, arith, length-append}
-use Rattle.std.proofs.lemmas.List.{same_from_push}
-use Rattle.std.proofs.lemmas.Grind.{fold-append}
-use Rattle.af_base.specs.declared.event.ClientEvent.{ClientEvent}
+use Rattle.af_turn_law.proofs.Common.{ClientEvent, ClientMay, HandEvent, HandMay, IsLegal, Moment, ServerEvent, ServerMay, Shape, TrackPoint, after, after_client, after_hand, after_server, at_few, by_client, by_hand, by_server, client_of, client_taken, clients_at, fold-append, hand_met, hand_of, met_by, met_in, same_from_push, server_of, start, taken_of, with_taken}
 use Rattle.af_base.specs.declared.event.ClientEvent.TheVariants as client
-use Rattle.af_base.specs.declared.event.ServerEvent.{ServerEvent}
 use Rattle.af_base.specs.declared.event.ServerEvent.TheVariants as server
-use Rattle.af_base.specs.declared.event.HandEvent.{HandEvent}
 use Rattle.af_base.specs.declared.event.HandEvent.TheVariants as hand
-use Rattle.af_model.proofs.Basics.{at_few, client_taken, hand_met}
-use Rattle.af_model.specs.declared.point.TrackPoint.{TrackPoint}
-use Rattle.af_model.specs.declared.shape.Shape.{Shape}
-use Rattle.af_model.specs.History.{Moment, by_client, by_server, by_hand, client_of, server_of, hand_of, after, met_by, met_in, clients_at, IsLegal, with_taken, taken_of}
-use Rattle.af_model.specs.Point.{start, ClientMay, ServerMay, HandMay, after_client, after_server, after_hand}
 use Rattle.af_model.proofs.OneFate.{hand_consumed}
 use Rattle.af_turn_law.specs.Marking.{learnt, KnowsAll, client_marks, server_marks, hand_marks, client_is_mark, client_named, server_is_mark, server_named, hand_is_mark, hand_named}
 use Rattle.af_turn_law.specs.Phased.{ends_met}

@@ -1,15 +1,9 @@
 -- What each step of a run leaves of a block that is told in phases.
 use Rattle.std.proofs.Common.{◌≡◌, ◌⊎◌, inl, inr, ℕ, Bool, true, false, true≢false, fold, map, List, [], ◌∷◌, ◌++◌, length, refl, sym, subst, arith, length-append}
-use Rattle.af_base.specs.declared.event.ClientEvent.{ClientEvent}
+use Rattle.af_turn_law.proofs.Common.{BlockTold, ClientEvent, HandEvent, Moment, ServerEvent, at_few, by_client, by_hand, by_server, client_of, hand_of, server_of, stream_met}
 use Rattle.af_base.specs.declared.event.ClientEvent.TheVariants as client
-use Rattle.af_base.specs.declared.event.ServerEvent.{ServerEvent}
 use Rattle.af_base.specs.declared.event.ServerEvent.TheVariants as server
-use Rattle.af_base.specs.declared.event.HandEvent.{HandEvent}
 use Rattle.af_base.specs.declared.event.HandEvent.TheVariants as hand
-use Rattle.af_model.proofs.Basics.{at_few}
-use Rattle.af_model.specs.History.{Moment, by_client, by_server, by_hand, client_of, server_of, hand_of}
-use Rattle.af_runs.specs.Blocks.{BlockTold}
-use Rattle.af_runs.specs.Runs.{stream_met}
 use Rattle.af_turn_law.specs.Acting.{SawNoInvalid}
 use Rattle.af_turn_law.specs.Marking.{KnowsAll, NoMarks, client_marks, server_marks, hand_marks}
 use Rattle.af_turn_law.specs.Phased.{IsBlockPhased, ends_met}

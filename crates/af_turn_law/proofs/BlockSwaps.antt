@@ -1,16 +1,10 @@
 -- Which events of a block's parties pass one another: a mark passes any, and the server's events pass the hand's.
 use Rattle.std.proofs.Common.{◌≡◌, inl, inr, ℕ, zero, suc, ◌-◌, ◌/◌, ◌≤◌, ◌||◌, true, bit_or, List, ◌++◌, take, drop, refl, sym, ap, ◌∙◌, subst, arith}
-use Rattle.af_base.proofs.Basics.{either, no}
+use Rattle.af_turn_law.proofs.Common.{ClientEvent, ClientMay, HandEvent, ServerEvent, ServerMay, TrackPoint, after_client, after_hand, after_server, either, no, with_taken}
 use lib.Bits.{or_step, or_zero_l, or_shr, or_comm}
-use Rattle.af_base.specs.declared.event.ClientEvent.{ClientEvent}
 use Rattle.af_base.specs.declared.event.ClientEvent.TheVariants as client
-use Rattle.af_base.specs.declared.event.ServerEvent.{ServerEvent}
 use Rattle.af_base.specs.declared.event.ServerEvent.TheVariants as server
-use Rattle.af_base.specs.declared.event.HandEvent.{HandEvent}
 use Rattle.af_base.specs.declared.event.HandEvent.TheVariants as hand
-use Rattle.af_model.specs.declared.point.TrackPoint.{TrackPoint}
-use Rattle.af_model.specs.History.{with_taken}
-use Rattle.af_model.specs.Point.{ClientMay, ServerMay, after_client, after_server, after_hand}
 use Rattle.af_turn_law.specs.Marking.{client_is_mark, client_named, server_is_mark, server_named, hand_is_mark}
 
 -- ## What a mark leaves
@@ -68,50 +62,20 @@ server_hand q e (hand.SetFlags bits) = refl
 -- more of the other party's events forbid nothing
 client_more : (q : TrackPoint) (m n : ℕ) (e : ClientEvent) → m ≤ n → ClientMay q m e → ClientMay q n e
 client_more q m n (client.Learn k) le h = omega (arith, le, h)
-client_more q m n (client.Release count) le h = h
-client_more q m n client.Flush le h = h
-client_more q m n (client.SetGain word) le h = h
-client_more q m n (client.ClearFlags old) le h = h
-client_more q m n (client.SawFlags flags) le h = h
-client_more q m n (client.SawFront front) le h = h
-client_more q m n (client.SawStatus word) le h = h
-client_more q m n (client.Poke word value) le h = h
+client_more q m n _ le h = h
 
 server_more : (q : TrackPoint) (m n : ℕ) (e : ServerEvent) → m ≤ n → ServerMay q m e → ServerMay q n e
 server_more q m n (server.Learn k) le h = omega (arith, le, h)
-server_more q m n (server.SawGain word) le h = h
-server_more q m n (server.SawFlush flush) le h = h
-server_more q m n (server.SawRear rear) le h = h
-server_more q m n (server.SawFront front) le h = h
-server_more q m n (server.Drop to) le h = h
-server_more q m n (server.Take count) le h = h
-server_more q m n (server.Tally missing) le h = h
-server_more q m n (server.SetFlags bits) le h = h
-server_more q m n (server.SetStatus word) le h = h
+server_more q m n _ le h = h
 
 -- fewer of the other party's events forbid nothing, if a mark names no more
 client_fewer : (q : TrackPoint) (m n : ℕ) (e : ClientEvent) → client_named e ≤ n → ClientMay q m e → ClientMay q n e
 client_fewer q m n (client.Learn k) le h = le
-client_fewer q m n (client.Release count) le h = h
-client_fewer q m n client.Flush le h = h
-client_fewer q m n (client.SetGain word) le h = h
-client_fewer q m n (client.ClearFlags old) le h = h
-client_fewer q m n (client.SawFlags flags) le h = h
-client_fewer q m n (client.SawFront front) le h = h
-client_fewer q m n (client.SawStatus word) le h = h
-client_fewer q m n (client.Poke word value) le h = h
+client_fewer q m n _ le h = h
 
 server_fewer : (q : TrackPoint) (m n : ℕ) (e : ServerEvent) → server_named e ≤ n → ServerMay q m e → ServerMay q n e
 server_fewer q m n (server.Learn k) le h = le
-server_fewer q m n (server.SawGain word) le h = h
-server_fewer q m n (server.SawFlush flush) le h = h
-server_fewer q m n (server.SawRear rear) le h = h
-server_fewer q m n (server.SawFront front) le h = h
-server_fewer q m n (server.Drop to) le h = h
-server_fewer q m n (server.Take count) le h = h
-server_fewer q m n (server.Tally missing) le h = h
-server_fewer q m n (server.SetFlags bits) le h = h
-server_fewer q m n (server.SetStatus word) le h = h
+server_fewer q m n _ le h = h
 
 -- a mark may be done at any point
 client_at : (p q : TrackPoint) (n : ℕ) (e : ClientEvent) → client_is_mark e ≡ true → ClientMay p n e → ClientMay q n e
@@ -167,15 +131,7 @@ client_before_hand q n e a marks h = elim (either (client_is_mark e) (hand_is_ma
 pub server_by_hand : (q : TrackPoint) (n : ℕ) (e : ServerEvent) (a : HandEvent) → (ServerMay q n e → ServerMay (after_hand q a) n e) × (ServerMay (after_hand q a) n e → ServerMay q n e)
 server_by_hand q n e (hand.Met k) = (λ h. h, λ h. h)
 server_by_hand q n (server.SawGain word) (hand.SetFlags bits) = (λ h. h, λ h. h)
-server_by_hand q n (server.SawFlush flush) (hand.SetFlags bits) = (λ h. h, λ h. h)
-server_by_hand q n (server.SawRear rear) (hand.SetFlags bits) = (λ h. h, λ h. h)
-server_by_hand q n (server.SawFront front) (hand.SetFlags bits) = (λ h. h, λ h. h)
-server_by_hand q n (server.Drop to) (hand.SetFlags bits) = (λ h. h, λ h. h)
-server_by_hand q n (server.Take count) (hand.SetFlags bits) = (λ h. h, λ h. h)
-server_by_hand q n (server.Tally missing) (hand.SetFlags bits) = (λ h. h, λ h. h)
-server_by_hand q n (server.SetFlags more) (hand.SetFlags bits) = (λ h. h, λ h. h)
-server_by_hand q n (server.SetStatus word) (hand.SetFlags bits) = (λ h. h, λ h. h)
-server_by_hand q n (server.Learn k) (hand.SetFlags bits) = (λ h. h, λ h. h)
+server_by_hand q n _ (hand.SetFlags bits) = (λ h. h, λ h. h)
 
 -- ## The frames taken
 

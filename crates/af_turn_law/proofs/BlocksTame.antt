@@ -1,9 +1,6 @@
 -- A block that is tame after a step was tame before it; and what is kept of the stream blocks that are tame so far.
 use Rattle.std.proofs.Common.{◌≡◌, Bool, true, List, [], ◌∷◌}
-use Rattle.af_model.proofs.Basics.{lawful_first}
-use Rattle.af_model.specs.History.{Moment, by_client, by_server, by_hand, client_of, is_lawful}
-use Rattle.af_runs.specs.Blocks.{is_tame}
-use Rattle.af_runs.specs.Runs.{TrackTold}
+use Rattle.af_turn_law.proofs.Common.{Moment, TrackTold, by_client, by_hand, by_server, client_of, is_lawful, is_tame, lawful_first}
 use Rattle.af_turn_law.proofs.BlockSteps.{Ready, Done, told_more}
 
 -- what is kept of a track whose stream block is tame so far, before a turn and after it

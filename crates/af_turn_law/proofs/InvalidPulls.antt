@@ -1,16 +1,9 @@
 -- From a legal order of a block's parties an INVALID of which the client sees nothing is taken to the end.
 use Rattle.std.proofs.Common.{◌≡◌, inl, inr, ℕ, ◌/◌, ◌%◌, ◌≤◌, ◌==◌, bit_and, bit_or, List, [], ◌∷◌, ◌++◌, length, refl, sym, ap, ◌∙◌, subst, arith, length-append}
-use Rattle.std.proofs.lemmas.List.{same_from_push}
+use Rattle.af_turn_law.proofs.Common.{ClientEvent, ClientMay, IsLegal, Moment, ServerEvent, Shape, TrackPoint, after, after_client, after_hand, after_server, by_client, by_hand, by_server, client_of, clients_at, hand_met, hand_of, met_in, same_from_push, server_of, start, taken_of, with_taken}
 use Rattle.std.proofs.lemmas.Nat.{and_shr, and_mask, or_shr, or_mod, le_or_r}
-use Rattle.af_base.specs.declared.event.ClientEvent.{ClientEvent}
 use Rattle.af_base.specs.declared.event.ClientEvent.TheVariants as client
-use Rattle.af_base.specs.declared.event.ServerEvent.{ServerEvent}
 use Rattle.af_base.specs.declared.event.ServerEvent.TheVariants as server
-use Rattle.af_model.proofs.Basics.{hand_met}
-use Rattle.af_model.specs.declared.point.TrackPoint.{TrackPoint}
-use Rattle.af_model.specs.declared.shape.Shape.{Shape}
-use Rattle.af_model.specs.History.{Moment, by_client, by_server, by_hand, client_of, server_of, hand_of, after, met_in, clients_at, IsLegal, with_taken, taken_of}
-use Rattle.af_model.specs.Point.{start, ClientMay, after_client, after_server, after_hand}
 use Rattle.af_turn_law.specs.Acting.{SeesNoInvalid, SawNoInvalid}
 use Rattle.af_turn_law.specs.Marking.{learnt, client_marks, client_named}
 use Rattle.af_turn_law.proofs.BlockPulls.{Pulled, ServerAllowed, hand_fewer}

@@ -1,7 +1,6 @@
 -- What was learnt by the marks of a list, and lists that end with marks.
 use Rattle.std.proofs.Common.{◌≡◌, ◌⊎◌, inl, inr, ℕ, zero, suc, ◌≤◌, ◌<◌, max, Bool, true, false, true≢false, MatchBool, fold, List, [], ◌∷◌, ◌++◌, length, refl, sym, ◌∙◌, arith}
-use Rattle.std.proofs.lemmas.Grind.{fold-append}
-use Rattle.af_base.proofs.Basics.{no}
+use Rattle.af_turn_law.proofs.Common.{fold-append}
 use Rattle.af_turn_law.specs.Marking.{Marking, learnt, OnlyMarksPast, OnlyMarks, NoMarks, IsDue, KnowsAll}
 
 -- a case by a flag

@@ -1,24 +1,7 @@
 -- A track that a turn of the normal mixer mixes has no slot, so that its stream proxy was home before the turn and is home after it.
 use Rattle.std.proofs.Common.{◌≡◌, ◌⊎◌, inl, inr, ℕ, zero, suc, ◌≤◌, ◌==◌, ◌&&◌, not, nat_le, Bool, true, false, true≢false, if◌then◌else◌, is_some, fold, map, filter, List, [], ◌∷◌, length, All, Option, refl, sym, ap, ◌∙◌, subst, eqb-true}
-use Rattle.std.specs.Prelude.{slice_set}
-use Rattle.std.specs.List.{range_with_len}
-use Rattle.af_base.specs.declared.state.FastState.{FastState}
-use Rattle.af_base.specs.Turn.{Turn, TakeSeen, TrackSeen}
-use Rattle.af_judge.proofs.Basics.{push_tracks}
-use Rattle.af_life.proofs.Basics.{at_set}
-use Rattle.af_life.specs.declared.kept.Holder.TheVariants.{Home}
-use Rattle.af_life.specs.declared.kept.Setting.{Setting}
-use Rattle.af_life.specs.declared.kept.TrackKept.{TrackKept}
-use Rattle.af_life.specs.Edits.{comes_home, welcomed, after_ack, must_leave, must_enter, let_go, lend, edited, edited_to, ordered, mutated, after_push}
-use Rattle.af_life.specs.Kept.{Setup, asked, NormalKept, Learnt, track_at, seen_at, is_home, plays}
-use Rattle.af_life.specs.Obeys.{slot_for}
-use Rattle.af_life.specs.Plays.{is_mixed_here, mixed_here, tracks_due, after_take, after_takes}
-use Rattle.af_life.specs.Serves.{served, served_to}
+use Rattle.af_turn_law.proofs.Common.{FastState, Home, IsGiven, Learnt, NormalKept, Setting, Setup, Sound, TakeSeen, TrackKept, TrackSeen, Turn, after_ack, after_edits, after_push, after_take, after_takes, after_tracks, asked, at_set, comes_home, edited, edited_to, goes_served, is_home, is_mixed_here, lend, let_go, mixed_here, must_enter, must_leave, mutated, ordered, plays, push_tracks, range_with_len, seen_at, served, served_to, slice_set, slot_for, sound_acked, sound_served, sound_turn, track_at, tracks_due, turn_after, welcomed}
 use Rattle.af_life.specs.Sound.{IsSound}
-use Rattle.af_life.specs.Turn.{after_tracks, after_edits, turn_after}
-use Rattle.af_judge.proofs.SoundLives.{IsGiven, goes_served}
-use Rattle.af_judge.proofs.SoundSlots.{sound_served}
-use Rattle.af_judge.proofs.SoundTurns.{Sound, sound_acked, sound_turn}
 
 abbrev slot_at : List TrackKept → ℕ → Option ℕ
 slot_at tracks i = (track_at tracks i).slot

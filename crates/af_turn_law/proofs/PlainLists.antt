@@ -1,30 +1,15 @@
 -- What a turn or an entry adds to a list has no marks: those are made by meetings alone.
 use Rattle.std.proofs.Common.{◌≡◌, ℕ, ◌-◌, ◌==◌, ◌&&◌, not, Bool, true, false, if◌then◌else◌, is_some, fold, List, [], ◌∷◌, ◌++◌, length, drop, Option, Some, None, refl, sym, ap, ◌∙◌, subst, append_assoc, append-nil}
-use Rattle.std.specs.List.{flat_map}
-use Rattle.std.proofs.lemmas.List.{drop_at}
+use Rattle.af_turn_law.proofs.Common.{BlockTold, ClientEvent, CommandLook, Learnt, Listed, Outside, Seen, ServerEvent, Setup, Side, TakeSeen, Track, TrackKept, TrackSeen, Turn, after_call, after_calls, asked, called, client_list, command_events_of, command_list, cycle_events, drop_at, flat_map, going, heard, invalid, is_found_shut, is_home, is_of_commands, kept, learnt, mix_events, released_by, shows_command, side_of, status_events, stream_list, takes_from, tally, track_at, track_in}
 use Rattle.af_base.specs.declared.event.ClientCall.{ClientCall}
 use Rattle.af_base.specs.declared.event.ClientCall.TheVariants as call
-use Rattle.af_base.specs.declared.event.ClientEvent.{ClientEvent}
-use Rattle.af_base.specs.declared.event.ServerEvent.{ServerEvent}
 use Rattle.af_base.specs.declared.event.ServerEvent.TheVariants as server
 use Rattle.af_base.specs.declared.log.SlotEntry.{SlotEntry}
-use Rattle.af_base.specs.declared.seen.Seen.{Seen}
 use Rattle.af_base.specs.declared.seen.Seen.TheVariants as seen
-use Rattle.af_base.specs.declared.turn.CommandLook.{CommandLook}
-use Rattle.af_base.specs.Turn.{Turn, TakeSeen, TrackSeen}
-use Rattle.af_life.specs.declared.kept.TrackKept.{TrackKept}
-use Rattle.af_life.specs.Heard.{learnt, heard}
-use Rattle.af_life.specs.Kept.{Setup, asked, Outside, Learnt, is_home, track_at, track_in}
 use Rattle.af_life.specs.Looks.{takes_command, command_events, did, all_command_events}
-use Rattle.af_life.specs.Obeys.{shows_command}
-use Rattle.af_life.specs.Serves.{is_found_shut}
-use Rattle.af_life.specs.TurnEvents.{going, invalid, status_events, command_events_of, command_list, takes_from, mix_events, stream_list}
 use Rattle.af_model.specs.ClientCalls.{client_call_events, client_events_of, client_kept}
-use Rattle.af_model.specs.Cycles.{Listed, kept, tally, after_look, cycle_events}
+use Rattle.af_model.specs.Cycles.{after_look}
 use Rattle.af_model.specs.ServerCalls.{drops_of, look_events}
-use Rattle.af_runs.specs.Blocks.{BlockTold, client_list}
-use Rattle.af_runs.specs.ClientTurns.{Side, Track, after_call, after_calls, called, is_of_commands, released_by}
-use Rattle.af_runs.specs.Runs.{side_of}
 use Rattle.af_turn_law.specs.Marking.{NoMarks, client_marks, server_marks}
 use Rattle.af_turn_law.proofs.Marked.{none_join}
 
@@ -38,11 +23,8 @@ plain_if false xs ys f g = g
 -- ## Looks
 
 plain_drops : (sight : Seen) (front : ℕ) → Plain (drops_of sight front)
-plain_drops seen.Absent front = tt
-plain_drops (seen.Frames count) front = tt
-plain_drops seen.Empty front = tt
 plain_drops (seen.Flushed dropped) front = (refl, tt)
-plain_drops (seen.Shut back rear) front = tt
+plain_drops _ front = tt
 
 plain_look : (sight : Seen) (flush rear front : ℕ) → Plain (look_events sight flush rear front)
 plain_look sight flush rear front = (refl, (refl, (refl, plain_drops sight front)))

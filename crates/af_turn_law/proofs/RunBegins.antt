@@ -1,17 +1,8 @@
 -- Before the first round all is ready, so that the turns of a run from its beginning are those of a turn run.
 use Rattle.std.proofs.Common.{◌≡◌, ℕ, zero, suc, true, false, List, [], ◌∷◌, length, map, refl, sym, subst}
-use Rattle.std.specs.Prelude.{slice_index_or}
-use Rattle.std.specs.List.{range_with_len}
-use Rattle.std.proofs.lemmas.List.{length-replicate}
-use Rattle.af_life.specs.Kept.{new_track as first_track}
-use Rattle.af_model.specs.Journals.{RoundSeen}
-use Rattle.af_script.specs.declared.op.TurnSpec.{TurnSpec}
+use Rattle.af_turn_law.proofs.Common.{AreTurns, Marks, RoundSeen, Session, TurnSpec, length-replicate, new_run, new_track as first_track, no_track, range_with_len, setup_of, slice_index_or, sound_new, takes_part, track_count}
 use Rattle.af_script.specs.Form.{IsScript}
-use Rattle.af_runs.specs.Blocks.{Marks}
-use Rattle.af_runs.specs.Runs.{new_run, new_track, no_track, takes_part}
-use Rattle.af_runs.specs.Sessions.{Session, track_count, setup_of}
-use Rattle.af_runs.specs.TurnRuns.{AreTurns}
-use Rattle.af_judge.proofs.SoundTurns.{sound_new}
+use Rattle.af_runs.specs.Runs.{new_track}
 use Rattle.af_judge.proofs.StatesRuns.{scales_of}
 use Rattle.af_turn_law.specs.ListTurns.{AreListTurns, FindShutUnseen}
 use Rattle.af_turn_law.proofs.BlockSteps.{Ready, new_ready}

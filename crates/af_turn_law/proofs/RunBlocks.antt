@@ -1,29 +1,13 @@
 -- The command blocks of a turn run, and the stream blocks that are tame so far, are told in phases: what each step leaves of them.
 use Rattle.std.proofs.Common.{◌≡◌, ℕ, zero, suc, ◌+◌, ◌<◌, ◌==◌, ◌&&◌, ◌||◌, Bool, true, false, true≢false, if◌then◌else◌, is_some, map, length, drop, Option, Some, None, refl, sym, ap, ◌∙◌, subst, arith, ◌≤◌}
-use Rattle.std.specs.List.{find, list_any, range_with_len}
-use Rattle.af_base.proofs.Basics.{is_within}
-use Rattle.af_base.specs.declared.state.FastState.{FastState}
-use Rattle.af_base.specs.Log.{slots, entry_slot}
-use Rattle.af_judge.proofs.Basics.{each_long, met_many, told_each}
-use Rattle.af_life.specs.Kept.{is_home, track_at}
-use Rattle.af_model.specs.Cycles.{cycle_events}
-use Rattle.af_model.specs.History.{by_client, by_server}
-use Rattle.af_model.specs.Journals.{EntrySeen, RoundSeen}
-use Rattle.af_model.specs.StateQueue.{slot_of, carries}
-use Rattle.af_runs.specs.Blocks.{client_list, listed, Marks}
-use Rattle.af_runs.specs.Clients.{ends}
-use Rattle.af_runs.specs.ClientTurns.{after_calls}
+use Rattle.af_turn_law.proofs.Common.{EntrySeen, FastState, LegalEntry, Marks, RoundSeen, Run, Session, TrackTold, after_calls, by_client, by_server, calls_alone, calls_in, carries, client_list, cycle_alone, cycle_events, cycle_frames, each_from, each_long, each_track, ends, entry_slot, find, is_home, is_within, list_any, listed, met, met_many, mixed_track, played, range_with_len, sides_of, slot_of, slots, state_at, state_for, takes_part, told_at, told_each, track_at, with_ends, with_mix, with_poll}
 use Rattle.af_runs.specs.Fronts.{front_of, is_shown}
-use Rattle.af_runs.specs.Runs.{Run, TrackTold, told_at, each_from, each_track, called, calls_in, sides_of, with_poll, with_mix, with_ends, met, takes_part, state_for, plays, slot_for, played, mixed_track}
-use Rattle.af_runs.specs.Sessions.{Session, cycle_frames}
-use Rattle.af_runs.specs.Told.{state_at}
-use Rattle.af_runs.specs.TurnRuns.{cycle_alone, calls_alone}
+use Rattle.af_runs.specs.Runs.{called, plays, slot_for}
 use Rattle.af_judge.proofs.BlocksMeet.{met_at}
 use Rattle.af_turn_law.proofs.Basics.{tame_met}
 use Rattle.af_turn_law.proofs.BlockSteps.{Ready, Done, told_more, rest_done, client_done, server_done, block_met}
 use Rattle.af_turn_law.proofs.BlocksTame.{StreamReady, StreamDone, tame_told}
 use Rattle.af_turn_law.proofs.PlainLists.{plain_turn, plain_cycle}
-use Rattle.af_runs.specs.Rounds.{LegalEntry}
 use Rattle.af_runs.proofs.StatesFor.{polled_pushed}
 
 -- how the blocks stand between two rounds

@@ -1,20 +1,11 @@
 -- All cycles of a fast turn find the same state, if the queue is as told; so they leave the blocks of a turn run in phases.
 use Rattle.std.proofs.Common.{◌≡◌, ℕ, ◌==◌, nat_le, Bool, true, false, if◌then◌else◌, fold, map, List, [], ◌∷◌, ◌++◌, length, Some, None, refl, sym, ap, ◌∙◌, subst, append_assoc, append-nil}
-use Rattle.af_base.specs.declared.state.FastState.{FastState}
+use Rattle.af_turn_law.proofs.Common.{EntrySeen, FastState, Item, Legal, LegalAlone, Marks, ObserverEvent, QueuePoint, QueueTold, Run, Session, cycle_alone, cycle_frames, initial, items_of, met, observer_does, one, ones, poll_events, state_at, two, twos, with_mix, with_poll}
 use Rattle.af_model.specs.declared.states.MutatorEvent.TheVariants as mutator
-use Rattle.af_model.specs.declared.states.ObserverEvent.{ObserverEvent}
 use Rattle.af_model.specs.declared.states.ObserverEvent.TheVariants as observer
-use Rattle.af_model.specs.Draft.{initial}
-use Rattle.af_model.specs.Journals.{EntrySeen}
-use Rattle.af_model.specs.Order.{one, two, ones, twos, Legal, after}
+use Rattle.af_model.specs.Order.{after}
 use Rattle.af_model.specs.StateQueue as queued
-use Rattle.af_model.specs.StateQueue.{QueuePoint}
-use Rattle.af_runs.specs.Runs.{Run, with_poll, with_mix, met}
-use Rattle.af_runs.specs.Sessions.{Session, cycle_frames}
-use Rattle.af_runs.specs.Told.{Item, QueueTold, state_at, items_of, poll_events, observer_does}
-use Rattle.af_runs.specs.TurnRuns.{cycle_alone, LegalAlone}
 use Rattle.af_turn_law.proofs.RunBlocks.{RunReady, RunDone, nothing_done, alone_pushed, cycle_first, cycle_again}
-use Rattle.af_runs.specs.Blocks.{Marks}
 
 -- ## Orders in parts
 
@@ -93,13 +84,6 @@ module _ (s : Session) where
       (sees.0 ∙ is, all_find entries (cycle_alone s run e) m (sees.1 ∙ is) l)
 
   -- ## The cycles of a turn
-
-  abbrev current_by : ℕ → Run → ℕ
-  current_by m run = if nat_le m (length run.states) then m else run.current
-
-  polled_current : (run : Run) (m : ℕ) → (with_poll s m run).current ≡ current_by m run
-  unfolding with_poll
-  polled_current run m = refl
 
   -- after a cycle that found the state, another one finds the same
   pub same_current : (run : Run) (e : EntrySeen) (m : ℕ) → e.entry.state ≡ m → (with_poll s m (cycle_alone s run e)).current ≡ (cycle_alone s run e).current

@@ -1,36 +1,16 @@
 -- The queue, the report and the pipe of a turn run are told in phases, round by round.
 use Rattle.std.proofs.Common.{ℕ, ◌-◌, ◌%◌, ◌==◌, nat_le, Bool, true, false, if◌then◌else◌, fold, map, List, [], ◌∷◌, ◌++◌, length, Option, Some, None, refl}
+use Rattle.af_turn_law.proofs.Common.{EntrySeen, FastState, Item, Learnt, NormalKept, PipeTold, RoundSeen, Run, Seen, Session, Setup, Turn, TurnFound, after_edits, calls_alone, cycle_alone, cycle_frames, each_track, ends, entry_slot, found_before, front_by_room, going, is_mixed, items_of, learnt, loaded, met, mixed_pipe, mutator_list, new_run, next_report, number_seen, ones, outside_of, pipe_list, pipe_size, poll_events, push_list, put_by, releases_of, setup_of, slot_frames, state_at, takes_shown, turn_alone, turned, two, twos, with_ends, with_load, with_looks, with_mix, with_poll, with_turn, wrapped}
 use Rattle.af_base.specs.declared.event.ClientEvent.TheVariants as client
 use Rattle.af_base.specs.declared.event.ServerEvent.TheVariants as server
-use Rattle.af_base.specs.declared.seen.Seen.{Seen}
 use Rattle.af_base.specs.declared.seen.Seen.TheVariants as seen
-use Rattle.af_base.specs.declared.state.FastState.{FastState}
 use Rattle.af_base.specs.declared.state.Push.{Push}
 use Rattle.af_base.specs.declared.state.Push.TheVariants.{Pushed, Clean, Busy}
-use Rattle.af_base.specs.Log.{entry_slot}
 use Rattle.af_base.specs.Sample.{packed_word}
-use Rattle.af_base.specs.Turn.{Turn}
-use Rattle.af_life.specs.Kept.{Setup, NormalKept, Learnt, pipe_size}
-use Rattle.af_life.specs.Heard.{learnt}
-use Rattle.af_life.specs.Plays.{put_by}
-use Rattle.af_life.specs.Turn.{after_edits}
-use Rattle.af_life.specs.TurnEvents.{going, front_by_room, pipe_list, push_list, mutator_list, number_seen}
 use Rattle.af_model.specs.declared.newest.WriterEvent.TheVariants as writes
 use Rattle.af_model.specs.declared.newest.ReaderEvent.TheVariants as reads
 use Rattle.af_model.specs.declared.states.MutatorEvent.TheVariants as mutator
 use Rattle.af_model.specs.declared.states.ObserverEvent.TheVariants as observer
-use Rattle.af_model.specs.Cycles.{is_mixed, takes_shown}
-use Rattle.af_model.specs.Journals.{EntrySeen, RoundSeen, slot_frames}
-use Rattle.af_model.specs.Order.{two, ones, twos}
-use Rattle.af_model.specs.PipeHistory.{releases_of}
-use Rattle.af_model.specs.Point.{wrapped}
-use Rattle.af_runs.specs.Clients.{ends}
-use Rattle.af_runs.specs.Found.{TurnFound, outside_of}
-use Rattle.af_runs.specs.Rounds.{loaded, turned}
-use Rattle.af_runs.specs.Runs.{Run, new_run, each_track, with_poll, with_mix, with_looks, next_report, mixed_pipe, with_turn, with_load, with_ends, found_before, met}
-use Rattle.af_runs.specs.Sessions.{Session, setup_of, cycle_frames}
-use Rattle.af_runs.specs.Told.{Item, PipeTold, state_at, items_of, poll_events}
-use Rattle.af_runs.specs.TurnRuns.{cycle_alone, turn_alone, calls_alone}
 use Rattle.af_turn_law.specs.Marking.{NoMarks, mutator_marks, observer_marks, writer_marks, reader_marks, client_marks, server_marks}
 use Rattle.af_turn_law.specs.Phased.{IsPhased}
 use Rattle.af_turn_law.proofs.EndsSteps.{EndsReady, new_ends, ones_done, twos_done, ends_met}
@@ -80,10 +60,7 @@ plain_poll frames states c k = by_same (k == c)
 
 plain_shown : (answer : Seen) → NoMarks server_marks (takes_shown answer)
 plain_shown (seen.Frames count) = (refl, tt)
-plain_shown seen.Absent = tt
-plain_shown seen.Empty = tt
-plain_shown (seen.Flushed dropped) = tt
-plain_shown (seen.Shut back rear) = tt
+plain_shown _ = tt
 
 -- ## The steps
 

@@ -1,20 +1,7 @@
 -- A turn of the normal mixer leaves the blocks of a turn run in phases, if its proxies act where they met.
 use Rattle.std.proofs.Common.{◌≡◌, ◌⊎◌, inl, inr, ℕ, ◌<◌, Bool, true, false, true≢false, if◌then◌else◌, map, List, [], ◌∷◌, length, Option, Some, None, refl, sym, ap, ◌∙◌, subst, arith}
-use Rattle.af_base.specs.declared.event.HandEvent.{HandEvent}
+use Rattle.af_turn_law.proofs.Common.{HandEvent, Moment, Outside, RoundSeen, Run, ServerEvent, Session, Setup, TrackTold, Turn, TurnFound, by_hand, by_server, command_list, each_at, each_long, found_before, hand_list, learnt, loaded, no_track, outside_of, setup_of, stream_list, takes_part, told_at, track_in, tracks_at, turn_alone, turned, turned_track, with_load, with_turn}
 use Rattle.af_base.specs.declared.event.HandEvent.TheVariants as hand
-use Rattle.af_base.specs.declared.event.ServerEvent.{ServerEvent}
-use Rattle.af_base.specs.Turn.{Turn}
-use Rattle.af_judge.proofs.Basics.{each_at, each_long}
-use Rattle.af_life.specs.Heard.{learnt}
-use Rattle.af_life.specs.Kept.{Setup, Outside, track_in}
-use Rattle.af_life.specs.TurnEvents.{tracks_at, hand_list, stream_list, command_list}
-use Rattle.af_model.specs.History.{Moment, by_hand, by_server}
-use Rattle.af_model.specs.Journals.{RoundSeen}
-use Rattle.af_runs.specs.Found.{TurnFound, outside_of}
-use Rattle.af_runs.specs.Rounds.{loaded, turned}
-use Rattle.af_runs.specs.Runs.{Run, TrackTold, told_at, no_track, with_turn, with_load, found_before, takes_part, turned_track}
-use Rattle.af_runs.specs.Sessions.{Session, setup_of}
-use Rattle.af_runs.specs.TurnRuns.{turn_alone}
 use Rattle.af_turn_law.specs.Acting.{StreamActs, ActsWhereMet}
 use Rattle.af_turn_law.specs.Phased.{IsBlockPhased}
 use Rattle.af_turn_law.proofs.BlockSteps.{Ready, Done, ClientKnows, ServerKnows, OnlyInvalid, told_more, server_done, hand_ready, turn_done}

@@ -1,9 +1,7 @@
 -- The lists of the queue's, the report's and the pipe's ends force the order in which they are told, if that is in phases.
 use Rattle.std.proofs.Common.{◌≡◌, ℕ, ◌+◌, ◌≤◌, ◌||◌, true, false, true≢false, [], refl, ap, ◌∙◌, arith}
-use Rattle.af_base.proofs.Basics.{no}
-use Rattle.af_base.specs.declared.event.ClientEvent.{ClientEvent}
+use Rattle.af_turn_law.proofs.Common.{ClientEvent, HasPipeTold, HasQueueHistory, HasReportHistory, IsPipeAsTold, IsQueueAsTold, IsReportAsTold, Item, ObserverEvent, PipePoint, PipeTold, QueuePoint, QueueTold, ReportTold, ServerEvent, initial, no, one, two}
 use Rattle.af_base.specs.declared.event.ClientEvent.TheVariants as client
-use Rattle.af_base.specs.declared.event.ServerEvent.{ServerEvent}
 use Rattle.af_base.specs.declared.event.ServerEvent.TheVariants as server
 use Rattle.af_base.specs.declared.report.Report.{Report}
 use Rattle.af_model.specs.declared.newest.WriterEvent.{WriterEvent}
@@ -12,18 +10,12 @@ use Rattle.af_model.specs.declared.newest.ReaderEvent.{ReaderEvent}
 use Rattle.af_model.specs.declared.newest.ReaderEvent.TheVariants as reads
 use Rattle.af_model.specs.declared.states.MutatorEvent.{MutatorEvent}
 use Rattle.af_model.specs.declared.states.MutatorEvent.TheVariants as mutator
-use Rattle.af_model.specs.declared.states.ObserverEvent.{ObserverEvent}
 use Rattle.af_model.specs.declared.states.ObserverEvent.TheVariants as observer
-use Rattle.af_model.specs.Draft.{initial}
 use Rattle.af_model.specs.NewestValue as newest
 use Rattle.af_model.specs.NewestValue.{CellPoint}
-use Rattle.af_model.specs.Order.{one, two}
 use Rattle.af_model.specs.PipeHistory as piped
-use Rattle.af_model.specs.PipeHistory.{PipePoint}
 use Rattle.af_model.specs.Reports.{no_report}
 use Rattle.af_model.specs.StateQueue as queued
-use Rattle.af_model.specs.StateQueue.{QueuePoint}
-use Rattle.af_runs.specs.Told.{Item, QueueTold, ReportTold, PipeTold, HasQueueHistory, IsQueueAsTold, HasReportHistory, IsReportAsTold, HasPipeTold, IsPipeAsTold}
 use Rattle.af_turn_law.specs.Marking.{mutator_marks, observer_marks, writer_marks, reader_marks, client_marks, server_marks, mutator_is_mark, mutator_named, observer_is_mark, observer_named, writer_is_mark, writer_named, reader_is_mark, reader_named, client_is_mark, client_named, server_is_mark, server_named}
 use Rattle.af_turn_law.specs.Phased.{IsPhased}
 use Rattle.af_turn_law.proofs.TwoForced.{MarksPass, forced_from}

@@ -1,35 +1,9 @@
 -- A track that a turn finds shut has ended after its part of the turn, so that a stream proxy that was home then is home after the turn.
 use Rattle.std.proofs.Common.{◌≡◌, inl, inr, ℕ, zero, suc, ◌≤◌, ◌<◌, ◌==◌, ◌&&◌, ◌||◌, not, Bool, true, false, true≢false, MatchBool, if◌then◌else◌, is_some, fold, List, [], ◌∷◌, length, Option, refl, sym, ap, ◌∙◌, subst, arith, eqb-true}
-use Rattle.std.specs.Prelude.{slice_set}
-use Rattle.std.specs.List.{list_any}
-use Rattle.std.proofs.lemmas.Bool.{cases_lt, cases_eq}
-use Rattle.std.proofs.lemmas.Grind.{get_or-set_at}
-use Rattle.std.proofs.lemmas.List.{get_or_past}
-use Rattle.af_base.proofs.Basics.{no}
-use Rattle.af_base.specs.declared.seen.Seen.{Seen}
+use Rattle.af_turn_law.proofs.Common.{CommandLook, HasDueLooks, Home, IsServed, Learnt, LegalTrack, Lent, NormalKept, Returning, Seen, Setup, Sound, TakeSeen, TrackKept, TrackSeen, Turn, acked_len, after_ack, after_commands, after_edits, after_look, after_looks, after_part, after_push, after_take, after_takes, after_tracks, are_due, asked, at_other, at_set, both_first, by_report, cases_eq, cases_lt, counted, edited, edited_to, ended, get_or-set_at, get_or_past, goes_on, goes_served, grew_report, heard, is_found_shut, is_home, is_lent, is_shut, lend, let_go, list_any, must_enter, must_leave, mutated, new_track, no, nothing_seen, obeyed, ordered, push_tracks, ready, report_ends, seen_at, served, served_len, served_to, shows_command, slice_set, slot_for, sound_acked, sound_served, track_at, track_in, tracks_at, turn_after, turn_len}
 use Rattle.af_base.specs.declared.seen.Seen.TheVariants as seen
-use Rattle.af_base.specs.declared.turn.CommandLook.{CommandLook}
-use Rattle.af_base.specs.Turn.{Turn, TakeSeen, TrackSeen}
-use Rattle.af_judge.proofs.Basics.{push_tracks, report_ends}
-use Rattle.af_life.proofs.Basics.{at_other, at_set}
 use Rattle.af_life.specs.declared.kept.Heard.{Heard}
 use Rattle.af_life.specs.declared.kept.Holder.{Holder}
-use Rattle.af_life.specs.declared.kept.Holder.TheVariants.{Home, Lent, Returning}
-use Rattle.af_life.specs.declared.kept.TrackKept.{TrackKept}
-use Rattle.af_life.specs.Edits.{after_ack, must_leave, must_enter, let_go, lend, edited, edited_to, ordered, mutated, after_push}
-use Rattle.af_life.specs.Heard.{heard, ready}
-use Rattle.af_life.specs.Kept.{Setup, asked, NormalKept, Learnt, new_track, nothing_seen, seen_at, track_at, track_in, is_home, is_lent}
-use Rattle.af_life.specs.Obeys.{slot_for, shows_command, is_shut, ended, obeyed, after_look, goes_on, after_looks, are_due}
-use Rattle.af_life.specs.Plays.{counted, after_take, after_takes}
-use Rattle.af_life.specs.Reports.{by_report}
-use Rattle.af_life.specs.Serves.{is_found_shut, after_commands, after_part, HasDueLooks, IsServed, served, served_to, LegalTrack}
-use Rattle.af_life.specs.Turn.{after_tracks, after_edits, turn_after}
-use Rattle.af_life.specs.TurnEvents.{tracks_at}
-use Rattle.af_life.proofs.Lives.{acked_len, served_len, turn_len}
-use Rattle.af_judge.proofs.SoundLives.{goes_served, grew_report}
-use Rattle.af_judge.proofs.SoundSlots.{sound_served}
-use Rattle.af_judge.proofs.SoundTurns.{Sound, sound_acked}
-use Rattle.af_model.proofs.Basics.{both_first}
 
 -- ## The life has ended
 

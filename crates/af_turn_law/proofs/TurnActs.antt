@@ -1,34 +1,10 @@
 -- In a legal turn that finds tracks shut as `FindsShutUnseen` says, hands and the stream proxies of the tracks whose stream blocks are tame so far act as `ActsWhereMet` says.
 use Rattle.std.proofs.Common.{◌≡◌, ◌⊎◌, inl, inr, ℕ, ◌<◌, ◌≤◌, ◌||◌, nat_lt, Bool, true, false, true≢false, MatchBool, if◌then◌else◌, List, [], ◌∷◌, ◌++◌, length, map, All, refl, sym, ap, ◌∙◌, subst, arith}
-use Rattle.std.specs.List.{flat_map}
-use Rattle.std.proofs.lemmas.Bool.{cases_lt}
-use Rattle.std.proofs.lemmas.List.{get_or_past}
-use Rattle.af_base.proofs.Basics.{either_false, none_and}
+use Rattle.af_turn_law.proofs.Common.{Case, GoesOn, IsServed, Learnt, LegalTrack, LegalTurnBy, Marks, NormalKept, Outside, Run, ServerEvent, Session, Setting, Setup, Sound, TakeSeen, TrackKept, TrackSeen, Turn, TurnFound, after_ack, after_commands, after_edits, asked, at_new, cases_lt, client_list, cycle_events, either_false, first_told, flat_map, get_or_past, hand_list, heard, heard_by, holds, invalid, is_home, is_tame, learnt, mix_events, new_normal, new_track, no_retries_left, none_and, not_yet, nothing_seen, outside_of, ready, reports, served_to, setup_of, slot_for, stream_list, takes_part, told_at, told_by_report, track_at, track_in, tracks_at, tracks_due, turn_after, welcomed, welcomed_at, with_turn}
 use Rattle.af_base.specs.declared.event.HandEvent.TheVariants as hand
-use Rattle.af_base.specs.declared.event.ServerEvent.{ServerEvent}
 use Rattle.af_base.specs.declared.event.ServerEvent.TheVariants as server
-use Rattle.af_base.specs.Turn.{Turn, TakeSeen, TrackSeen}
-use Rattle.af_life.proofs.Basics.{at_new, welcomed_at}
-use Rattle.af_life.specs.declared.kept.Setting.{Setting}
-use Rattle.af_life.specs.declared.kept.TrackKept.{TrackKept}
 use Rattle.af_life.specs.declared.track.Known.{Known}
 use Rattle.af_life.specs.declared.track.Life.{Life}
-use Rattle.af_life.specs.Edits.{welcomed, after_ack}
-use Rattle.af_life.specs.Heard.{learnt, heard, heard_by, ready}
-use Rattle.af_life.specs.Kept.{Setup, asked, NormalKept, Outside, Learnt, new_normal, new_track, nothing_seen, track_at, track_in, is_home}
-use Rattle.af_life.specs.Obeys.{slot_for}
-use Rattle.af_life.specs.Plays.{tracks_due}
-use Rattle.af_life.specs.Reports.{Case, reports, first_told, told_by_report, no_retries_left}
-use Rattle.af_life.specs.Serves.{served_to, IsServed, LegalTrack, after_commands}
-use Rattle.af_life.specs.Turn.{after_edits, turn_after, GoesOn}
-use Rattle.af_life.specs.TurnEvents.{tracks_at, invalid, hand_list, mix_events, stream_list}
-use Rattle.af_life.proofs.Lives.{not_yet}
-use Rattle.af_model.specs.Cycles.{cycle_events}
-use Rattle.af_runs.specs.Blocks.{Marks, client_list, is_tame}
-use Rattle.af_runs.specs.Found.{TurnFound, LegalTurnBy, outside_of}
-use Rattle.af_runs.specs.Runs.{Run, told_at, with_turn, holds, takes_part}
-use Rattle.af_runs.specs.Sessions.{Session, setup_of}
-use Rattle.af_judge.proofs.SoundTurns.{Sound}
 use Rattle.af_turn_law.specs.Acting.{SawNoInvalid, StreamActs, ActsWhereMet, FindsShutUnseen}
 use Rattle.af_turn_law.proofs.MixedHome.{mixed_home}
 use Rattle.af_turn_law.proofs.ShutHome.{is_shut_now, shut_home}

@@ -1,23 +1,7 @@
 -- Turns of which the lists have legal orders are turns in which each event sees what all before it left.
 use Rattle.std.proofs.Common.{◌≡◌, inl, inr, ℕ, ◌≤◌, Bool, true, false, true≢false, MatchOption, if◌then◌else◌, fold, is_some, List, [], ◌∷◌, length, All, Option, Some, None, refl, sym, ap, ◌∙◌, subst, arith}
-use Rattle.std.proofs.lemmas.Bool.{cases_lt}
-use Rattle.std.proofs.lemmas.List.{get_or_past}
-use Rattle.af_base.specs.Turn.{Turn}
-use Rattle.af_life.specs.declared.kept.Setting.{Setting}
-use Rattle.af_life.specs.Heard.{learnt}
-use Rattle.af_life.specs.Kept.{pipe_size}
-use Rattle.af_life.proofs.Lives.{turn_len}
-use Rattle.af_model.specs.Journals.{EntrySeen, RoundSeen}
-use Rattle.af_script.specs.declared.op.TurnSpec.{TurnSpec}
+use Rattle.af_turn_law.proofs.Common.{AreTurns, EntrySeen, HaveHistories, IsMadeBy, LegalAlone, LegalTurnBy, LegalTurnIn, Marks, RoundSeen, Run, SeesAllBefore, Session, Setting, Sound, TrackTold, Turn, TurnSpec, calls_alone, cases_lt, cycle_alone, cycle_frames, each_track, ends, fast_ended, found_before, get_or_past, is_tame, learnt, loaded, made_alone, met, met_alone, no_track, outside_of, pipe_size, setup_of, sound_turn, told_at, turn_alone, turn_len, turned, with_ends, with_load, with_mix, with_poll, with_turn}
 use Rattle.af_script.specs.declared.op.TurnSpec.TheVariants as makes
-use Rattle.af_runs.specs.Blocks.{Marks, is_tame}
-use Rattle.af_runs.specs.Clients.{ends}
-use Rattle.af_runs.specs.Found.{LegalTurnBy, outside_of}
-use Rattle.af_runs.specs.Rounds.{HaveHistories, LegalTurnIn, loaded, turned}
-use Rattle.af_runs.specs.Runs.{Run, TrackTold, no_track, told_at, each_track, with_mix, with_poll, with_turn, with_load, with_ends, fast_ended, found_before, met}
-use Rattle.af_runs.specs.Sessions.{Session, cycle_frames, setup_of}
-use Rattle.af_runs.specs.TurnRuns.{LegalAlone, cycle_alone, turn_alone, calls_alone, made_alone, met_alone, IsMadeBy, SeesAllBefore, AreTurns}
-use Rattle.af_judge.proofs.SoundTurns.{Sound, sound_turn}
 use Rattle.af_turn_law.specs.Acting.{FindsShutUnseen}
 use Rattle.af_turn_law.specs.ListTurns.{AreListTurns, FindShutUnseen}
 use Rattle.af_turn_law.specs.Phased.{IsBlockPhased}

@@ -1,7 +1,7 @@
 -- Two parties' lists have one legal order, but for the places of marks, if an order in phases is known.
 use Rattle.std.proofs.Common.{◌≡◌, ◌⊎◌, inl, inr, ℕ, ◌+◌, ◌≤◌, ◌<◌, ◌||◌, Bool, true, false, MatchBool, List, [], ◌∷◌, ◌++◌, length, drop, get_or, refl, sym, ap, ◌∙◌, subst, arith, length-append}
-use Rattle.std.proofs.lemmas.Bool.{cases_lt}
-use Rattle.af_model.specs.Order.{Event, one, two, ones, twos, Legal, after}
+use Rattle.af_turn_law.proofs.Common.{Event, Legal, cases_lt, one, ones, two, twos}
+use Rattle.af_model.specs.Order.{after}
 use Rattle.af_turn_law.specs.Marking.{Marking, learnt, OnlyMarksPast}
 use Rattle.af_turn_law.specs.Phased.{IsPhasedFrom}
 use Rattle.af_turn_law.proofs.Marked.{by_flag, past_front, past_last, learnt_last}

@@ -1,5 +1,5 @@
 use Rattle.std.proofs.Common.{◌≡◌, ◌∙◌, ◌+◌, ◌-◌, ◌++◌, ℕ, take, drop, ap, sym, arith}
-use Rattle.std.proofs.Math.Seq.{take-add}
+use Rattle.af_audit.proofs.Common.{take-add}
 use Rattle.af_audit.proofs.differ.same_blocks.Goals as goal
 
 pub blocks-2-preserved : goal.blocks-2-preserved

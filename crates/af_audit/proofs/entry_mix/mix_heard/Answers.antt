@@ -1,12 +1,8 @@
 use Rattle.std.proofs.Common.{◌≡◌, ℕ, suc, ◌+◌, ◌-◌, ◌≤◌, ◌++◌, List, [], length, map, take, All, refl, sym, ap, subst, ◌∙◌, append-nil, arith}
-use Rattle.af_base.specs.declared.plain.Part.{Part}
-use Rattle.af_base.specs.Log.{slots}
-use Rattle.af_base.specs.Mix.{Take, mix}
-use Rattle.af_base.specs.Part.{take_of}
+use Rattle.af_audit.proofs.Common.{Part, Take, grown, mix, slots, take_of}
 use Rattle.af_audit.specs.HeardTakes.{heard_takes}
 use Rattle.af_audit.proofs.HeardMix.{mix_all, one_then, parts_fit}
 use Rattle.af_audit.proofs.entry_mix.mix_heard.Goals as goal
-use Rattle.af_gain.proofs.Basics.{grown}
 
 pub loop-slot-preserved : goal.loop-slot-preserved
 loop-slot-preserved c =

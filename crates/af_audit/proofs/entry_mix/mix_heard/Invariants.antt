@@ -1,6 +1,5 @@
 use Rattle.std.proofs.Common.{◌≡◌, ◌-◌, ◌≤◌, ◌++◌, map, take}
-use Rattle.af_base.specs.Log.{slots}
-use Rattle.af_base.specs.Part.{take_of}
+use Rattle.af_audit.proofs.Common.{slots, take_of}
 use Rattle.af_audit.specs.HeardTakes.{heard_takes}
 use Rattle.af_audit.proofs.entry_mix.mix_heard.Given as goal
 

@@ -1,8 +1,5 @@
 use Rattle.std.proofs.Common.{◌∙◌, ◌<◌, ◌+◌, ℕ, List, Option, length, arith, refl, sym, subst}
-use Rattle.std.specs.Prelude.{slice_index_or}
-use Rattle.af_model.specs.Journals.{RoundSeen, no_round}
-use Rattle.af_runs.specs.LegalRuns.{marks_of, run_from}
-use Rattle.af_runs.specs.Runs.{fast_party, new_run}
+use Rattle.af_audit.proofs.Common.{RoundSeen, fast_party, marks_of, new_run, no_round, run_from, slice_index_or}
 use Rattle.af_audit.specs.RunKept.{KeepsRun, LeastBelow, run_before}
 use Rattle.af_audit.specs.RunJudged.{IsReady}
 use Rattle.af_audit.specs.Verdicts.{AllBefore, IsClear}

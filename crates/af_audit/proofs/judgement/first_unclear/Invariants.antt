@@ -1,8 +1,5 @@
 use Rattle.std.proofs.Common.{◌≡◌, length, take}
-use Rattle.af_runs.specs.LegalRuns.{marks_of}
-use Rattle.af_runs.specs.Runs.{new_run}
-use Rattle.af_runs.specs.Sessions.{Session}
-use Rattle.af_script.specs.Form.{IsScript}
+use Rattle.af_audit.proofs.Common.{IsScript, Session, marks_of, new_run}
 use Rattle.af_audit.specs.RunJudged.{IsReady}
 use Rattle.af_audit.specs.RunKept.{KeepsRun, run_before}
 use Rattle.af_audit.specs.Verdicts.{AllBefore}

@@ -1,6 +1,5 @@
 use Rattle.std.proofs.Common.{◌<◌, ◌≤◌, ◌+◌, ℕ, Option, IfSome, length, arith, subst}
-use Rattle.af_runs.specs.LegalRuns.{marks_of, run_from}
-use Rattle.af_runs.specs.Runs.{new_run}
+use Rattle.af_audit.proofs.Common.{marks_of, new_run, run_from}
 use Rattle.af_audit.specs.RunKept.{FindsUnclear}
 use Rattle.af_audit.proofs.JournalJudged.{is_run, no_run}
 use Rattle.af_audit.proofs.judgement.is_run.Goals as goal

@@ -1,7 +1,5 @@
 use Rattle.std.proofs.Common.{List, arith, refl, sym, subst}
-use Rattle.af_judge.specs.declared.track_judge.TrackJudge.{TrackJudge}
-use Rattle.af_runs.specs.LegalRuns.{marks_of, session_of}
-use Rattle.af_runs.specs.Runs.{new_run}
+use Rattle.af_audit.proofs.Common.{TrackJudge, marks_of, new_run, session_of}
 use Rattle.af_audit.specs.RunKept.{KeepsRun}
 use Rattle.af_audit.specs.RunLaws.{MayBeJudged}
 use Rattle.af_audit.proofs.JournalJudged.{cut_judged, legal_judged}

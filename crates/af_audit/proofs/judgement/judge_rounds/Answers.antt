@@ -1,6 +1,5 @@
 use Rattle.std.proofs.Common.{false, ℕ, Some, None, sym, subst}
-use Rattle.af_runs.specs.LegalRuns.{marks_of}
-use Rattle.af_runs.specs.Runs.{new_run}
+use Rattle.af_audit.proofs.Common.{marks_of, new_run}
 use Rattle.af_audit.specs.RunKept.{FindsFault, FindsUnclear}
 use Rattle.af_audit.proofs.FirstFault.{found_last}
 use Rattle.af_audit.proofs.judgement.judge_rounds.Goals as goal

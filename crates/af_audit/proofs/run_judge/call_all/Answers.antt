@@ -1,12 +1,5 @@
 use Rattle.std.proofs.Common.{◌≡◌, ◌∙◌, ◌<◌, ℕ, IfSome, [], length, map, arith, sym, ap, subst}
-use Rattle.std.specs.Prelude.{slice_index_or}
-use Rattle.std.proofs.lemmas.List.{get_or_default, length-set}
-use Rattle.af_base.specs.Sample.{packed_word}
-use Rattle.af_judge.proofs.Basics.{there_is}
-use Rattle.af_judge.specs.declared.track_judge.TrackJudge.{TrackJudge}
-use Rattle.af_model.specs.Journals.{calls_at}
-use Rattle.af_runs.specs.Sessions.{no_spec}
-use Rattle.af_script.specs.declared.track.TrackSpec.{TrackSpec}
+use Rattle.af_audit.proofs.Common.{TrackJudge, TrackSpec, calls_at, get_or_default, length-set, no_spec, packed_word, slice_index_or, there_is}
 use Rattle.af_audit.proofs.CallsJudged.{few_after, more, moved_answer}
 use Rattle.af_audit.proofs.run_judge.call_all.Goals as goal
 

@@ -1,5 +1,5 @@
 use Rattle.std.proofs.Common.{◌≡◌, ◌<◌, IfSome, length}
-use Rattle.af_model.specs.Journals.{calls_at}
+use Rattle.af_audit.proofs.Common.{calls_at}
 use Rattle.af_audit.specs.RunKept.{CallsJudged}
 use Rattle.af_audit.proofs.run_judge.call_all.Given as goal
 

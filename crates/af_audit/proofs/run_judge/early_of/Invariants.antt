@@ -1,7 +1,6 @@
 -- the entries before this one are early
-use Rattle.std.specs.Prelude.{nat_le}
-use Rattle.std.specs.List.{prefix_len}
 use Rattle.std.proofs.Common.{◌≤◌, drop, take}
+use Rattle.af_audit.proofs.Common.{nat_le, prefix_len}
 use Rattle.af_audit.proofs.run_judge.early_of.Given as goal
 
 abbrev pub invariant-loop-at : goal.invariant-loop-at

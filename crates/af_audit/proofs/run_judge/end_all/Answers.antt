@@ -1,7 +1,6 @@
 use Rattle.std.proofs.Common.{◌<◌, ap, ◌∙◌, length, arith}
-use Rattle.std.proofs.lemmas.List.{get_or_default}
+use Rattle.af_audit.proofs.Common.{get_or_default, slice_set}
 use Rattle.std.proofs.lemmas.List.Edits.{map_over_more}
-use Rattle.std.specs.Prelude.{slice_set}
 use Rattle.af_audit.specs.RoundTold.{ended_track}
 use Rattle.af_audit.proofs.run_judge.end_all.Goals as goal
 

@@ -1,7 +1,6 @@
 use Rattle.std.proofs.Common.{◌≡◌, ◌∙◌, true, false, true≢false, arith, sym, ap}
+use Rattle.af_audit.proofs.Common.{TrackJudge, all_more}
 use Rattle.std.proofs.lemmas.List as lists
-use Rattle.af_base.proofs.Basics.{all_more}
-use Rattle.af_judge.specs.declared.track_judge.TrackJudge.{TrackJudge}
 use Rattle.af_audit.specs.RunKept.{client_ended}
 use Rattle.af_audit.proofs.run_judge.going_client.Goals as goal
 

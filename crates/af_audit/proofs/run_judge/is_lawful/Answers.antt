@@ -1,10 +1,6 @@
 use Rattle.std.proofs.Common.{◌≡◌, ◌∙◌, ◌||◌, Bool, false, not, refl, sym, ap, arith}
-use Rattle.std.specs.List.{list_any}
-use Rattle.std.proofs.lemmas.List.{take_all}
+use Rattle.af_audit.proofs.Common.{RoundSeen, calls_in, is_poke_on, list_any, no_round, round_at, take_all}
 use Rattle.std.proofs.lemmas.List.Folds.{list_any_more}
-use Rattle.af_model.specs.Journals.{RoundSeen, no_round, round_at}
-use Rattle.af_runs.specs.LegalRuns.{is_poke_on}
-use Rattle.af_runs.specs.Runs.{calls_in}
 use Rattle.af_audit.proofs.run_judge.is_lawful.Goals as goal
 
 pub loop-round-init : goal.loop-round-init

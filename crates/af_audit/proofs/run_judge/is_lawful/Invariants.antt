@@ -1,7 +1,5 @@
 use Rattle.std.proofs.Common.{◌≡◌, false, take}
-use Rattle.std.specs.List.{list_any}
-use Rattle.af_runs.specs.LegalRuns.{is_poke_on}
-use Rattle.af_runs.specs.Runs.{calls_in}
+use Rattle.af_audit.proofs.Common.{calls_in, is_poke_on, list_any}
 use Rattle.af_audit.proofs.run_judge.is_lawful.Given as goal
 
 abbrev pub invariant-loop-round : goal.invariant-loop-round

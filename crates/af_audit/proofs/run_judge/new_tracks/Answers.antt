@@ -1,11 +1,5 @@
 use Rattle.std.proofs.Common.{◌≡◌, ◌≤◌, ◌<◌, ◌∷◌, ◌++◌, ◌+◌, [], ℕ, List, length, length-append, arith, sym, ap, subst, ◌∙◌}
-use Rattle.std.specs.Prelude.{slice_index_or}
-use Rattle.std.proofs.lemmas.List.{get_or_default}
-use Rattle.std.proofs.lemmas.List.Elements.{All-get_or}
-use Rattle.af_judge.specs.declared.track_judge.TrackJudge.{TrackJudge}
-use Rattle.af_runs.specs.Sessions.{no_spec}
-use Rattle.af_script.specs.Form.{IsTrack}
-use Rattle.af_script.specs.declared.track.TrackSpec.{TrackSpec}
+use Rattle.af_audit.proofs.Common.{All-get_or, IsTrack, TrackJudge, TrackSpec, get_or_default, no_spec, slice_index_or}
 use Rattle.af_audit.specs.RunKept.{AreNewTracks}
 use Rattle.af_audit.proofs.TracksMade.{made, made_more}
 use Rattle.af_audit.proofs.run_judge.new_tracks.Goals as goal

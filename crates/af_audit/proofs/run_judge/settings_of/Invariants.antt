@@ -1,5 +1,5 @@
 use Rattle.std.proofs.Common.{◌≡◌, map, take}
-use Rattle.af_runs.specs.Sessions.{spec_setting}
+use Rattle.af_audit.proofs.Common.{spec_setting}
 use Rattle.af_audit.proofs.run_judge.settings_of.Given as goal
 
 abbrev pub invariant-loop-spec : goal.invariant-loop-spec

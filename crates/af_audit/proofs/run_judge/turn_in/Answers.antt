@@ -1,4 +1,4 @@
-use Rattle.af_base.specs.Turn.{turn_of}
+use Rattle.af_audit.proofs.Common.{turn_of}
 use Rattle.af_audit.proofs.RoundParts.{turn_told}
 use Rattle.af_audit.proofs.run_judge.turn_in.Goals as goal
 

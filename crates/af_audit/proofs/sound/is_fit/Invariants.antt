@@ -1,5 +1,5 @@
 use Rattle.std.proofs.Common.{ℕ, ◌<◌, ◌≤◌, slice_index_or}
-use Rattle.af_base.specs.Log.{count_seen, entry_slot}
+use Rattle.af_audit.proofs.Common.{count_seen, entry_slot}
 use Rattle.af_audit.proofs.sound.is_fit.Given as goal
 
 abbrev pub invariant-loop-slot : goal.invariant-loop-slot

@@ -1,8 +1,5 @@
 use Rattle.std.proofs.Common.{length, List, ap, ◌∙◌}
-use Rattle.af_base.specs.declared.frame.Frame.{Frame}
-use Rattle.af_base.specs.declared.log.CycleEntry.{CycleEntry}
-use Rattle.af_base.specs.Log.{takes_of}
-use Rattle.af_base.specs.Mix.{mix}
+use Rattle.af_audit.proofs.Common.{CycleEntry, Frame, mix, takes_of}
 use Rattle.af_audit.proofs.sound.mix_one.Goals as goal
 
 pub returns-then-is_fit-clause-mix : goal.returns-then-is_fit-clause-mix

@@ -1,5 +1,5 @@
 use Rattle.std.proofs.Common.{◌≡◌, ◌++◌, length, take}
-use Rattle.af_runs.specs.Pcm.{entries_pcm}
+use Rattle.af_audit.proofs.Common.{entries_pcm}
 use Rattle.af_audit.proofs.sound.push_entries.Given as goal
 
 abbrev pub invariant-loop-index : goal.invariant-loop-index

@@ -1,7 +1,5 @@
 use Rattle.std.proofs.Common.{List, ℕ, map, sym, ap, ◌∙◌}
-use Rattle.std.proofs.lemmas.List.{length-map}
-use Rattle.af_base.specs.Sample.{packed_word}
-use Rattle.af_cblk.specs.declared.view.ClientPart.{ClientPart}
+use Rattle.af_client.proofs.Common.{ClientPart, length-map, packed_word}
 use Rattle.af_client.proofs.Stores.{stored_next}
 use Rattle.af_client.proofs.put.store_frames.Goals as goal
 

@@ -1,11 +1,5 @@
 use Rattle.std.proofs.Common.{◌≡◌, ◌∙◌, Err, Ok, String, ap, subst, sym, rules}
-use Rattle.std.specs.declared.alloc.Global.{Global}
-use Rattle.af_script.specs.Data.{ScriptData}
-use Rattle.af_script.specs.Generated.{generated_script}
-use Rattle.af_runs.specs.Sessions.{Session as Loaded}
-use Rattle.af_offline.specs.Asked.{generated_job, session_of}
-use Rattle.af_offline.specs.Loading.{loaded_view}
-use Rattle.af_offline.specs.Status.{Meets}
+use Rattle.af_commands.proofs.Common.{Global, Meets, ScriptData, Session as Loaded, generated_job, generated_script, loaded_view, session_of}
 use Rattle.af_commands.proofs.Counted.{Counts-stopped}
 use Rattle.af_commands.proofs.GeneratedSession.{Counts-session, Makes-session, Makes-unloaded}
 use Rattle.af_commands.proofs.generating.generate.Goals as goal

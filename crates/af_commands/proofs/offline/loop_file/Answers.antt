@@ -1,6 +1,5 @@
 use Rattle.std.proofs.Common.{rules}
-use Rattle.af_offline.specs.Asked.{loop_asked}
-use Rattle.af_offline.specs.Asking.{output_job}
+use Rattle.af_commands.proofs.Common.{loop_asked, output_job}
 use Rattle.af_commands.proofs.Made.{Makes-delivered, Makes-stopped, Makes-undelivered}
 use Rattle.af_commands.proofs.offline.loop_file.Goals as goal
 

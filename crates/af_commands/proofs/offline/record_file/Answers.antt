@@ -1,6 +1,5 @@
 use Rattle.std.proofs.Common.{rules}
-use Rattle.af_offline.specs.Asked.{record_asked}
-use Rattle.af_offline.specs.Asking.{output_job}
+use Rattle.af_commands.proofs.Common.{output_job, record_asked}
 use Rattle.af_commands.proofs.Made.{Makes-delivered, Makes-stopped, Makes-undelivered}
 use Rattle.af_commands.proofs.offline.record_file.Goals as goal
 

@@ -1,9 +1,7 @@
 use Rattle.std.proofs.Common.{◌≡◌, Ok, subst}
-use Rattle.af_runs.specs.Sessions.{Session as Loaded}
-use Rattle.af_offline.specs.Asked.{session_job}
+use Rattle.af_commands.proofs.Common.{Session as Loaded, loaded_view, session_job}
 use Rattle.af_commands.specs.Counted.{CountsOn}
 use Rattle.af_commands.specs.Ends.{Makes}
-use Rattle.af_offline.specs.Loading.{loaded_view}
 use Rattle.af_commands.proofs.Counted.{Counts-rendered}
 use Rattle.af_commands.proofs.Played.{Makes-rendered, some_line_told}
 use Rattle.af_commands.proofs.PlayedFaults.{HasFault-rendered, IsNoUsage-rendered}

@@ -1,13 +1,8 @@
 use Rattle.std.proofs.Common.{◌≡◌, Ok, Result, String, ap, rules, subst, sym}
-use Rattle.std.specs.declared.alloc.Global.{Global}
-use Rattle.af_io.proofs.Basics.{files_are}
-use Rattle.af_io.specs.Files.{Files}
-use Rattle.af_offline.specs.declared.status.Refusal.{Refusal}
-use Rattle.af_runs.specs.Sessions.{Session as Loaded}
-use Rattle.af_offline.specs.Asked.{◌>>=◌, Job, loaded_of, render_asked, session_job}
+use Rattle.af_commands.proofs.Common.{Files, Global, Job, Refusal, Session as Loaded, files_are, loaded_of, loaded_view, render_asked, session_job}
+use Rattle.af_offline.specs.Asked.{◌>>=◌}
 use Rattle.af_commands.specs.Counted.{CountsOn}
 use Rattle.af_commands.specs.Ends.{Makes}
-use Rattle.af_offline.specs.Loading.{loaded_view}
 use Rattle.af_commands.proofs.Counted.{Counts-stopped}
 use Rattle.af_commands.proofs.Made.{Makes-stopped_before}
 use Rattle.af_commands.proofs.render.render_script.Goals as goal

@@ -1,13 +1,8 @@
 use Rattle.std.proofs.Common.{◌∙◌, ℕ, List, ◌++◌, Err, ap, inr, map, string_bytes, subst, sym, take}
-use Rattle.af_io.specs.Files.{Appends}
-use Rattle.af_io.specs.declared.store.StoreError.{StoreError}
-use Rattle.af_offline.specs.Asked.{asked_of}
+use Rattle.af_commands.proofs.Common.{Appends, JudgesWords, StoreError, asked_of, ending_text, request_of}
 use Rattle.af_offline.specs.declared.status.Status.{Status}
 use Rattle.af_commands.specs.Counted.{CountsSteps}
 use Rattle.af_commands.specs.Ends.{EndsAsAsked, Prints, PrintsOwnLine, Works}
-use Rattle.af_offline.specs.Line.{ending_text}
-use Rattle.af_offline.specs.Status.{JudgesWords}
-use Rattle.af_words.specs.Requests.{request_of}
 use Rattle.af_commands.proofs.Counted.{Counts-ended}
 use Rattle.af_commands.proofs.Left.{Works-done, EndsAsAsked-done}
 use Rattle.af_commands.proofs.Ended.{EndsAsAsked-ended, IsCutOff-ended, IsOver-ended, JudgesWords-ended, Prints-end_cut, Prints-ended, PrintsOwnLine-ended, Works-ended, end_asked, end_named, end_reached, end_unprinted}

@@ -1,11 +1,7 @@
 use Rattle.std.proofs.Common.{◌≡◌, ◌∙◌, ℕ, List, Ok, Err, Result, Some, String, map, option_map, string_bytes, sym, ap, subst, rules}
-use Rattle.std.specs.declared.alloc.Global.{Global}
-use Rattle.af_io.specs.Causes.{Rose}
-use Rattle.af_offline.specs.declared.status.Refusal.{Refusal}
-use Rattle.af_offline.specs.Asked.{Job, asked_of, job_of}
+use Rattle.af_commands.proofs.Common.{Global, Job, Refusal, Rose, asked_of, job_of, request_of}
 use Rattle.af_words.specs.Asking.{request_view}
 use Rattle.af_commands.specs.Ends.{Makes, PrintsLine}
-use Rattle.af_words.specs.Requests.{request_of}
 use Rattle.af_commands.proofs.Left.{asked_line, asked_named, Printed-printed, PrintsSomeLine-stopped, PrintsSomeLine-written, Renders-memory, Renders-printed, Renders-stopped, WholeUnless-printed}
 use Rattle.af_commands.proofs.running.work.Goals as goal
 

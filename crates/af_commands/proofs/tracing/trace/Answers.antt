@@ -1,12 +1,7 @@
 use Rattle.std.proofs.Common.{◌≡◌, Ok, subst}
-use Rattle.af_runs.specs.Sessions.{Session as Loaded}
-use Rattle.af_playing.specs.PlayKept.{KeepsPlay, TellsItsRun}
-use Rattle.af_playing.specs.PlayedAlone.{IsToldAlone}
-use Rattle.af_offline.specs.Asked.{trace_job}
+use Rattle.af_commands.proofs.Common.{IsToldAlone, KeepsPlay, Session as Loaded, TellsItsRun, Trace, loaded_view, trace_job}
 use Rattle.af_commands.specs.Counted.{CountsOn}
 use Rattle.af_commands.specs.Ends.{Makes}
-use Rattle.af_offline.specs.Loading.{loaded_view}
-use Rattle.af_words.specs.Requests.{Trace}
 use Rattle.af_commands.proofs.Counted.{Counts-logged, alone_of}
 use Rattle.af_commands.proofs.PlayedFaults.{HasFault-told, SuitsRequest-told}
 use Rattle.af_commands.proofs.PlayedRounds.{some_play_told}

@@ -1,13 +1,8 @@
 use Rattle.std.proofs.Common.{◌≡◌, Ok, Result, String, ap, rules, subst, sym}
-use Rattle.std.specs.declared.alloc.Global.{Global}
-use Rattle.af_io.proofs.Basics.{files_are}
-use Rattle.af_io.specs.Files.{Files}
-use Rattle.af_offline.specs.declared.status.Refusal.{Refusal}
-use Rattle.af_runs.specs.Sessions.{Session as Loaded}
-use Rattle.af_offline.specs.Asked.{◌>>=◌, Job, loaded_of, trace_asked, trace_job}
+use Rattle.af_commands.proofs.Common.{Files, Global, Job, Refusal, Session as Loaded, files_are, loaded_of, loaded_view, trace_asked, trace_job}
+use Rattle.af_offline.specs.Asked.{◌>>=◌}
 use Rattle.af_commands.specs.Counted.{CountsOn}
 use Rattle.af_commands.specs.Ends.{Makes}
-use Rattle.af_offline.specs.Loading.{loaded_view}
 use Rattle.af_commands.proofs.Counted.{Counts-stopped}
 use Rattle.af_commands.proofs.tracing.trace_script.Goals as goal
 

@@ -1,5 +1,5 @@
 use Rattle.std.proofs.Common.{List, length, sym, subst, arith}
-use Rattle.af_cblk.specs.Sides.{Made}
+use Rattle.af_engine.proofs.Common.{Made}
 use Rattle.af_engine.specs.NewEnds.{EndStates}
 use Rattle.af_engine.specs.NewTracks.{AreNewTracks, IsNewTrack}
 use Rattle.af_engine.specs.Shares.{SharedState}

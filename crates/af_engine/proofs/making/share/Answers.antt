@@ -1,5 +1,5 @@
 use Rattle.std.proofs.Common.{List, refl, subst}
-use Rattle.af_cblk.specs.Sides.{Made}
+use Rattle.af_engine.proofs.Common.{Made}
 use Rattle.af_engine.specs.NewEnds.{AreNewEnds}
 use Rattle.af_engine.proofs.making.share.Goals as goal
 

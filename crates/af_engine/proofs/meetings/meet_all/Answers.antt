@@ -1,9 +1,5 @@
 use Rattle.std.proofs.Common.{◌≡◌, ◌<◌, ℕ, length, slice_get, slice_index_or, Some, sym, ap, subst, ◌∙◌, arith}
-use Rattle.std.proofs.lemmas.Option.{slice_get-get_or}
-use Rattle.af_base.specs.declared.state.FastState.{FastState}
-use Rattle.af_fast.specs.Mixer.{MixerState}
-use Rattle.af_normal.specs.Meeting.{AreClientsOf}
-use Rattle.af_normal.specs.State.{NormalState}
+use Rattle.af_engine.proofs.Common.{AreClientsOf, FastState, MixerState, NormalState, slice_get-get_or}
 use Rattle.af_engine.specs.Met.{Proxies, TrackMet, TracksMet, proxies_of}
 use Rattle.af_engine.specs.declared.ends.TrackEnds.{TrackEnds}
 use Rattle.af_engine.proofs.EndsMeet.{still_met}

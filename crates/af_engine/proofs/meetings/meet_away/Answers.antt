@@ -1,9 +1,5 @@
 use Rattle.std.proofs.Common.{◌≡◌, [], slice_index_or, Some, sym, ap, subst, ◌∙◌}
-use Rattle.af_cblk.specs.Sides.{HandSide, client_made, hand_made}
-use Rattle.af_fast.specs.Meets.{AreOfBlockOf}
-use Rattle.af_fast.specs.Mixer.{MixerState, IsInOrder as IsFastInOrder, IsLinked, IsSound}
-use Rattle.af_server.specs.Order.{ServerState}
-use Rattle.af_stateq.specs.Mutates.{at}
+use Rattle.af_engine.proofs.Common.{AreOfBlockOf, HandSide, IsInOrder as IsFastInOrder, IsLinked, IsSound, MixerState, ServerState, at, client_made, hand_made}
 use Rattle.af_engine.proofs.MetAway.{block_at, held_there, none_there, of_block}
 use Rattle.af_engine.proofs.MetSlots.{slot_is}
 use Rattle.af_engine.proofs.meetings.meet_away.Goals as goal

@@ -1,5 +1,5 @@
 use Rattle.std.proofs.Common.{ap, ◌∙◌}
-use Rattle.af_normal.specs.Meeting.{ends_met, observer_met, out_met, queue_met, writer_met}
+use Rattle.af_engine.proofs.Common.{ends_met, observer_met, out_met, queue_met, writer_met}
 use Rattle.af_engine.proofs.EndsMeet.{fast_order}
 use Rattle.af_engine.proofs.meetings.meet_ends.Goals as goal
 

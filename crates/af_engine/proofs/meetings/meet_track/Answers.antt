@@ -1,8 +1,5 @@
 use Rattle.std.proofs.Common.{◌≡◌, ◌<◌, length, slice_set, Some, true, false, is_some, refl, sym, ap, ◌∙◌, arith}
-use Rattle.std.proofs.lemmas.Option.{same_Some}
-use Rattle.af_cblk.specs.Sides.{Made, client_made, hand_made}
-use Rattle.af_normal.specs.Mixing.{stream_at}
-use Rattle.af_normal.specs.State.{NormalState}
+use Rattle.af_engine.proofs.Common.{Made, NormalState, client_made, hand_made, same_Some, stream_at}
 use Rattle.af_normal.proofs.MetEnds.{hand_order, of_block}
 use Rattle.af_engine.proofs.MetSpot.{met_away, met_home, others_away, others_home}
 use Rattle.af_engine.proofs.meetings.meet_track.Goals as goal

@@ -1,7 +1,5 @@
 use Rattle.std.proofs.Common.{sym, ap, ◌∙◌}
-use Rattle.af_server.specs.Order.{ServerState}
-use Rattle.af_stateq.specs.Observes.{Observes}
-use Rattle.af_link.specs.declared.names.StreamNames.{StreamNames}
+use Rattle.af_engine.proofs.Common.{Observes, ServerState, StreamNames}
 use Rattle.af_engine.proofs.MetSlots.{none_carried}
 use Rattle.af_engine.proofs.meetings.slot_held.Goals as goal
 

@@ -1,7 +1,5 @@
 use Rattle.std.proofs.Common.{◌≡◌, ◌+◌, ◌<◌, List, [], ◌∷◌, ◌++◌, length, sym, ap, ◌∙◌, subst}
-use Rattle.std.proofs.lemmas.Option.{slice_get-get_or}
-use Rattle.af_cblk.specs.Sides.{Made}
-use Rattle.af_normal.specs.Making.{TrackList, with_track}
+use Rattle.af_engine.proofs.Common.{Made, TrackList, slice_get-get_or, with_track}
 use Rattle.af_engine.specs.declared.ends.TrackEnds.{TrackEnds}
 use Rattle.af_engine.specs.NewTracks.{AreNewTracks, IsNewTrack}
 use Rattle.af_engine.proofs.MoreTracks.{no_tracks, one_track_more}

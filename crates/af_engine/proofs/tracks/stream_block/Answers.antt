@@ -1,7 +1,6 @@
 use Rattle.std.proofs.Common.{◌≡◌, ◌*◌, ◌∙◌, sym, ap, Bool, if◌then◌else◌}
+use Rattle.af_engine.proofs.Common.{ClientSide, IsShape, Made, ServerSide}
 use Rattle.std.proofs.lemmas.Result.{IfOk-weaker}
-use Rattle.af_cblk.specs.Shape.{IsShape}
-use Rattle.af_cblk.specs.Sides.{Made, ClientSide, ServerSide}
 use Rattle.af_engine.specs.NewTracks.{IsStreamShape}
 use Rattle.af_engine.proofs.tracks.stream_block.Goals as goal
 

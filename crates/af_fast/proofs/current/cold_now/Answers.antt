@@ -1,5 +1,5 @@
 use Rattle.std.proofs.Common.{sym, ap}
-use Rattle.af_model.specs.Cycles.{cold_of}
+use Rattle.af_fast.proofs.Common.{cold_of}
 use Rattle.af_fast.proofs.LentState.{none_now}
 use Rattle.af_fast.proofs.current.cold_now.Goals as goal
 

@@ -1,5 +1,5 @@
 use Rattle.std.proofs.Common.{sym, ap, ◌∙◌}
-use Rattle.af_model.specs.Cycles.{cycle_of}
+use Rattle.af_fast.proofs.Common.{cycle_of}
 use Rattle.af_fast.proofs.LentState.{none_now}
 use Rattle.af_fast.proofs.current.cycle_of.Goals as goal
 

@@ -1,6 +1,6 @@
 use Rattle.std.proofs.Common.{ℕ, ◌<◌, ◌≤◌, ◌^◌, ◌%◌, arith, ap}
+use Rattle.af_fast.proofs.Common.{div-eq_of_lt, pow-le-pow_right}
 use Rattle.std.proofs.lemmas.Nat.{leading_length}
-use Rattle.std.proofs.Math.Nat.{pow-le-pow_right, div-eq_of_lt}
 use Rattle.af_fast.proofs.current.slots_in.Goals as goal
 
 pub returns-clause-rest : goal.returns-clause-rest

@@ -1,10 +1,8 @@
 use Rattle.std.proofs.Common.{◌≡◌, ℕ, suc, ◌+◌, ◌-◌, ◌++◌, List, [], map, take, sym, ap, ◌∙◌, append-nil, arith}
-use Rattle.af_base.specs.Mix.{Take}
-use Rattle.af_base.specs.Part.{take_of}
+use Rattle.af_fast.proofs.Common.{Take, grown, take_of}
 use Rattle.af_fast.specs.Heard.{heard_takes}
 use Rattle.af_fast.proofs.HeardMix.{one_then}
 use Rattle.af_fast.proofs.heard.add_all.Goals as goal
-use Rattle.af_gain.proofs.Basics.{grown}
 
 pub loop-slot-init : goal.loop-slot-init
 loop-slot-init c = record {

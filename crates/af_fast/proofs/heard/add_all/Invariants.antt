@@ -1,5 +1,5 @@
 use Rattle.std.proofs.Common.{◌≡◌, ◌-◌, ◌≤◌, ◌++◌, map, take}
-use Rattle.af_base.specs.Part.{take_of}
+use Rattle.af_fast.proofs.Common.{take_of}
 use Rattle.af_fast.specs.Heard.{heard_takes}
 use Rattle.af_fast.proofs.heard.add_all.Given as goal
 

@@ -1,6 +1,5 @@
 use Rattle.std.proofs.Common.{ℕ, ◌≤◌, List, length, take, All, sym, ap, subst, ◌∙◌, arith}
-use Rattle.af_base.specs.declared.plain.Part.{Part}
-use Rattle.af_base.specs.Mix.{Take, mix}
+use Rattle.af_fast.proofs.Common.{Part, Take, mix}
 use Rattle.af_fast.proofs.HeardMix.{parts_fit}
 use Rattle.af_fast.proofs.heard.mix_few.Goals as goal
 

@@ -1,7 +1,6 @@
 use Rattle.std.proofs.Common.{Some, slice_set, sym, ap, subst, ◌∙◌}
+use Rattle.af_fast.proofs.Common.{Made, ServerState}
 use Rattle.af_model.specs.History.{HasHistory}
-use Rattle.af_cblk.specs.Sides.{Made}
-use Rattle.af_server.specs.Order.{ServerState}
 use Rattle.af_fast.proofs.HeldFacts.{has_block, held_of, order_of}
 use Rattle.af_fast.proofs.held.meet_item.Goals as goal
 

@@ -1,15 +1,5 @@
 use Rattle.std.proofs.Common.{ℕ, List, length, ◌≡◌, ◌<◌, inl, inr, Bool, if◌then◌else◌, Option, Some, slice_set, length-set, sym, ap, subst, ◌∙◌, arith}
-use Rattle.std.proofs.lemmas.Bool.{cases_lt}
-use Rattle.std.proofs.lemmas.List.{get_or-set_other}
-use Rattle.std.proofs.lemmas.List.Edits.{fill_by_more}
-use Rattle.af_base.specs.declared.report.SlotReport.{SlotReport}
-use Rattle.af_base.specs.declared.state.FastState.{FastState}
-use Rattle.af_base.specs.Log.{entry_slot}
-use Rattle.af_server.specs.Order.{ServerState}
-use Rattle.af_stateq.specs.Observes.{Observes}
-use Rattle.af_link.specs.declared.names.StreamNames.{StreamNames}
-use Rattle.af_model.specs.Reports.{no_slot, report_at, carried, counted_look, slot_report}
-use Rattle.af_model.specs.StateQueue.{slot_of}
+use Rattle.af_fast.proofs.Common.{FastState, Observes, ServerState, SlotReport, StreamNames, carried, cases_lt, counted_look, entry_slot, fill_by_more, get_or-set_other, no_slot, report_at, slot_of, slot_report}
 use Rattle.af_fast.specs.Known.{known}
 use Rattle.af_fast.specs.Mixer.{most_entries}
 use Rattle.af_fast.proofs.LentState.{none_now}

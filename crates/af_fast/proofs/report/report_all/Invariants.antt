@@ -1,7 +1,5 @@
 use Rattle.std.proofs.Common.{◌≡◌, ℕ, ◌≤◌, ◌<◌, Some, length}
-use Rattle.std.specs.Int.{bit_at}
-use Rattle.af_base.specs.Log.{slots}
-use Rattle.af_model.specs.Reports.{report_at, slot_report}
+use Rattle.af_fast.proofs.Common.{bit_at, report_at, slot_report, slots}
 use Rattle.af_fast.specs.Known.{known}
 use Rattle.af_fast.proofs.report.report_all.Given as goal
 

@@ -1,6 +1,5 @@
 use Rattle.std.proofs.Common.{sym, ap, ◌∙◌}
-use Rattle.af_base.specs.declared.state.FastState.{FastState}
-use Rattle.af_model.specs.Reports.{carried}
+use Rattle.af_fast.proofs.Common.{FastState, carried}
 use Rattle.std.proofs.Common.{Option}
 use Rattle.af_fast.proofs.report.report_slot.Goals as goal
 

@@ -1,9 +1,5 @@
 use Rattle.std.proofs.Common.{◌≡◌, ℕ, suc, ◌+◌, ◌-◌, sym, ap, subst, refl, ◌∙◌, length, length-set, slice_set, slice_index_or, arith}
-use Rattle.std.proofs.lemmas.List.{get_or-set_same, get_or-set_other, get_or-replicate}
-use Rattle.std.proofs.lemmas.List.Edits.{fill_by_more}
-use Rattle.af_base.specs.declared.log.CycleEntry.{CycleEntry}
-use Rattle.af_base.specs.Log.{slots}
-use Rattle.af_model.specs.Cycles.{is_mixed, mono_marks, mix_scale}
+use Rattle.af_fast.proofs.Common.{CycleEntry, fill_by_more, get_or-replicate, get_or-set_other, get_or-set_same, is_mixed, mix_scale, mono_marks, slots}
 use Rattle.af_fast.specs.Slots.{IsQuietFrom}
 use Rattle.af_fast.proofs.Quiet.{marks_stay, scales_all}
 use Rattle.af_fast.proofs.slots.mark_entry.Goals as goal

@@ -1,6 +1,5 @@
 use Rattle.std.proofs.Common.{◌≡◌, ℕ, ◌<◌, ◌≤◌, length, replicate, true, slice_index_or}
-use Rattle.af_base.specs.Log.{slots, absent}
-use Rattle.af_model.specs.Cycles.{is_mixed, mix_scale, mono_marks}
+use Rattle.af_fast.proofs.Common.{absent, is_mixed, mix_scale, mono_marks, slots}
 use Rattle.af_fast.proofs.slots.mark_entry.Given as goal
 
 abbrev pub invariant-loop-slot : goal.invariant-loop-slot

@@ -1,7 +1,5 @@
 use Rattle.std.proofs.Common.{◌≡◌, ◌&&◌, ◌^◌, Bool, false, if◌then◌else◌, sym, ap, ◌∙◌}
-use Rattle.std.specs.Int.Bits.{bit_or, or_zero_r}
-use Rattle.af_model.specs.Cycles.{is_mono, mono_marks}
-use Rattle.af_model.specs.StateQueue.{slot_of}
+use Rattle.af_fast.proofs.Common.{bit_or, is_mono, mono_marks, or_zero_r, slot_of}
 use Rattle.af_fast.proofs.slots.mark_slot.Goals as goal
 
 pub returns-else-carries_item-clause-mono : goal.returns-else-carries_item-clause-mono

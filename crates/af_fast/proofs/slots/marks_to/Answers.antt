@@ -1,6 +1,5 @@
 use Rattle.std.proofs.Common.{Bool, if◌then◌else◌, sym, ap, ◌∙◌, ◌^◌}
-use Rattle.std.specs.Int.Bits.{bit_or, or_zero_r}
-use Rattle.af_model.specs.Cycles.{mono_marks}
+use Rattle.af_fast.proofs.Common.{bit_or, mono_marks, or_zero_r}
 use Rattle.af_fast.proofs.slots.marks_to.Goals as goal
 
 pub returns : goal.returns

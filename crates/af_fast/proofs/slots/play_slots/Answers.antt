@@ -1,15 +1,5 @@
 use Rattle.std.proofs.Common.{◌≡◌, ℕ, suc, ◌+◌, ◌-◌, ◌*◌, ◌≤◌, ◌<◌, true, false, length, sym, ap, subst, refl, ◌∙◌, arith}
-use Rattle.af_base.specs.declared.log.CycleEntry.{CycleEntry}
-use Rattle.af_base.specs.declared.log.SlotEntry.{SlotEntry}
-use Rattle.af_base.specs.declared.state.FastState.{FastState}
-use Rattle.af_base.specs.Log.{slots}
-use Rattle.af_model.specs.Cycles.{taken_before}
-use Rattle.af_model.specs.StateQueue.{carries, IsState}
-use Rattle.af_model.specs.Tracks.{tracks_below}
-use Rattle.af_model.proofs.EntrySlots.{with_slot}
-use Rattle.af_server.specs.Order.{ServerState}
-use Rattle.af_stateq.specs.Observes.{Observes}
-use Rattle.af_link.specs.declared.names.StreamNames.{StreamNames}
+use Rattle.af_fast.proofs.Common.{CycleEntry, FastState, IsState, Observes, ServerState, SlotEntry, StreamNames, carries, slots, taken_before, tracks_below, with_slot}
 use Rattle.af_fast.specs.Slots.{IsMarked, IsQuietFrom, LogsSlot, PlayedTo, PlaysSlots}
 use Rattle.af_fast.proofs.SlotSteps.{slot_step, rest_all}
 use Rattle.af_fast.proofs.SlotsDone.{begins, ends, room_for, taken_few}

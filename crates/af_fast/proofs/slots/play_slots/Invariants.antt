@@ -1,8 +1,7 @@
 use Rattle.std.proofs.Common.{◌+◌, ◌*◌, ◌≤◌, ◌<◌, length}
-use Rattle.af_stateq.specs.Observes.{InOrder}
+use Rattle.af_fast.proofs.Common.{InOrder, tracks_below}
 use Rattle.af_fast.specs.Fits.{stream_fits}
 use Rattle.af_fast.specs.Slots.{PlayedTo, SameEntries}
-use Rattle.af_model.specs.Tracks.{tracks_below}
 use Rattle.af_fast.proofs.slots.play_slots.Given as goal
 
 abbrev pub invariant-loop-slot : goal.invariant-loop-slot

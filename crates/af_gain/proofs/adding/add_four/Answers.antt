@@ -1,5 +1,5 @@
 use Rattle.std.proofs.Common.{◌≡◌, ◌+◌, ℕ, List, ap, sym, subst, ◌∙◌, arith, inr}
-use Rattle.af_base.specs.Mix.{frame_at}
+use Rattle.af_gain.proofs.Common.{frame_at}
 use Rattle.af_gain.specs.declared.sums.Sum.{Sum}
 use Rattle.af_gain.specs.Sums.{IsGrownTo, added, sum_at}
 use Rattle.af_gain.proofs.Steps.{grown_pair}

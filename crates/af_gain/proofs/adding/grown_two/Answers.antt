@@ -1,6 +1,6 @@
 -- Each of the four lanes is a side of one of the two sums.
 use Rattle.std.proofs.Common.{◌+◌, ◌≡◌, ℤ, [], ◌∷◌}
-use Rattle.af_base.specs.Mix.{frame_at, right_sample}
+use Rattle.af_gain.proofs.Common.{frame_at, right_sample}
 use Rattle.af_gain.specs.Sums.{sum_at}
 use Rattle.af_gain.proofs.Takes.{pair_of}
 use Rattle.af_gain.proofs.Lanes.{IsLane, part_fits, wide_fits, more_fits, lane_is}

@@ -1,7 +1,6 @@
 -- A lane of 16 bits is the same number in 32.
 use Rattle.std.proofs.Common.{rules, ◌+◌, ℤ, FitsSigned, w16, w32, to_z, of_z, subst, sym, arith}
-use Rattle.std.proofs.lemmas.Int.{to_z-of_z}
-use Rattle.af_base.specs.Mix.{frame_at}
+use Rattle.af_gain.proofs.Common.{frame_at, to_z-of_z}
 use Rattle.af_gain.proofs.adding.heard_two.Goals as goal
 
 wider : (sample : ℤ) → FitsSigned w16 sample → FitsSigned w32 (to_z w16 (of_z w16 sample))

@@ -1,6 +1,5 @@
 use Rattle.std.proofs.Common.{◌+◌}
-use Rattle.af_base.proofs.Basics.{four}
-use Rattle.af_base.specs.Mix.{frame_at}
+use Rattle.af_gain.proofs.Common.{four, frame_at}
 use Rattle.af_gain.proofs.Words.{lane_back}
 use Rattle.af_gain.proofs.adding.lefts_four.Goals as goal
 

@@ -1,6 +1,5 @@
 use Rattle.std.proofs.Common.{◌≡◌, ◌+◌, ℕ, List, ap, map, take, arith, get_or, set, length-set, subst}
-use Rattle.af_base.specs.declared.frame.Frame.{Frame}
-use Rattle.af_base.specs.Mix.{silence}
+use Rattle.af_gain.proofs.Common.{Frame, silence}
 use Rattle.af_gain.specs.Sums.{sum_at, mixed_of}
 use Rattle.af_gain.proofs.Steps.{mixed_more}
 use Rattle.af_gain.proofs.finishing.finish_two.Goals as goal

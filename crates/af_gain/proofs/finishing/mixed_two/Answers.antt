@@ -1,6 +1,6 @@
 -- Each of the four lanes is the sample of a side of one of the two sums.
 use Rattle.std.proofs.Common.{◌≡◌, ◌+◌, ℤ, [], ◌∷◌}
-use Rattle.af_base.specs.declared.frame.Frame.{Frame}
+use Rattle.af_gain.proofs.Common.{Frame}
 use Rattle.af_gain.specs.Sums.{sum_at}
 use Rattle.af_gain.proofs.Mixes.{whole_fits, sample_fits, mixed_is}
 use Rattle.af_gain.proofs.finishing.mixed_two.Goals as goal

@@ -1,5 +1,5 @@
 use Rattle.std.proofs.Common.{◌≡◌, length, length-take, arith}
-use Rattle.std.proofs.lemmas.List.Elements.{All-take}
+use Rattle.af_gain.proofs.Common.{All-take}
 use Rattle.af_gain.specs.Sums.{IsWithin}
 use Rattle.af_gain.proofs.Takes.{accumulated_front, bound_front}
 use Rattle.af_gain.proofs.mixing.add_part.Goals as goal

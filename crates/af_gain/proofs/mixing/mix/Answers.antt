@@ -1,6 +1,5 @@
 use Rattle.std.proofs.Common.{◌≡◌, length, map, ap, ◌∙◌, arith}
-use Rattle.af_base.specs.Mix.{mix}
-use Rattle.af_base.specs.Part.{take_of}
+use Rattle.af_gain.proofs.Common.{mix, take_of}
 use Rattle.af_gain.proofs.Takes.{mixed-sums}
 use Rattle.af_gain.proofs.mixing.mix.Goals as goal
 

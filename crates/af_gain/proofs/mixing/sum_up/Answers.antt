@@ -1,7 +1,5 @@
 use Rattle.std.proofs.Common.{◌≡◌, ◌+◌, ◌<◌, ◌++◌, [], ◌∷◌, ℕ, get_or, length, take, map, sym, ap, subst, ◌∙◌, arith}
-use Rattle.std.proofs.lemmas.List.{take_more, map_push}
-use Rattle.af_base.specs.Gain.{gains_used}
-use Rattle.af_base.specs.Part.{take_of, no_part}
+use Rattle.af_gain.proofs.Common.{gains_used, map_push, no_part, take_more, take_of}
 use Rattle.af_gain.specs.Sums.{AreSumsOf, IsAccumulated}
 use Rattle.af_gain.proofs.Takes.{AreSumsOf-more}
 use Rattle.af_gain.proofs.mixing.sum_up.Goals as goal

@@ -1,5 +1,5 @@
 use Rattle.std.proofs.Common.{map, take, All}
-use Rattle.af_base.specs.Part.{take_of}
+use Rattle.af_gain.proofs.Common.{take_of}
 use Rattle.af_gain.specs.Sums.{AreSumsOf, IsWithin}
 use Rattle.af_gain.proofs.mixing.sum_up.Given as goal
 

@@ -1,5 +1,5 @@
 use Rattle.std.proofs.Common.{map, take}
-use Rattle.af_base.specs.Part.{take_of}
+use Rattle.af_gain.proofs.Common.{take_of}
 use Rattle.af_gain.specs.Eight.{AreEightOf}
 use Rattle.af_gain.proofs.narrow.eight_sums.Given as goal
 

@@ -1,6 +1,5 @@
 use Rattle.std.proofs.Common.{◌≤◌, length, map}
-use Rattle.std.proofs.lemmas.List.{length-map}
-use Rattle.af_base.specs.Part.{take_of}
+use Rattle.af_gain.proofs.Common.{length-map, take_of}
 use Rattle.af_gain.proofs.narrow.mix_eight.Goals as goal
 
 pub returns : goal.returns

@@ -1,7 +1,5 @@
 use Rattle.std.proofs.Common.{length, map, arith}
-use Rattle.std.proofs.lemmas.List.FromFn.{fill_by_all}
-use Rattle.af_base.specs.Mix.{mixed_frame, silence}
-use Rattle.af_base.specs.Part.{take_of}
+use Rattle.af_gain.proofs.Common.{fill_by_all, mixed_frame, silence, take_of}
 use Rattle.af_gain.proofs.narrow.mix_narrow.Goals as goal
 
 pub returns : goal.returns

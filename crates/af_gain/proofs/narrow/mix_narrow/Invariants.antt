@@ -1,5 +1,5 @@
 use Rattle.std.proofs.Common.{◌*◌, map}
-use Rattle.af_base.specs.Part.{take_of}
+use Rattle.af_gain.proofs.Common.{take_of}
 use Rattle.af_gain.specs.Narrow.{AreMixedTo}
 use Rattle.af_gain.proofs.narrow.mix_narrow.Given as goal
 

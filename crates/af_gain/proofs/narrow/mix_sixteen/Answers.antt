@@ -1,6 +1,5 @@
 use Rattle.std.proofs.Common.{◌≡◌, ◌≤◌, ◌+◌, ℕ, length, map, subst, arith}
-use Rattle.std.proofs.lemmas.List.{length-map}
-use Rattle.af_base.specs.Part.{take_of}
+use Rattle.af_gain.proofs.Common.{length-map, take_of}
 use Rattle.af_gain.specs.Narrow.{AreMixedTo}
 use Rattle.af_gain.proofs.narrow.mix_sixteen.Goals as goal
 

@@ -1,6 +1,5 @@
 use Rattle.std.proofs.Common.{ℕ, ◌+◌, List, [], ◌∷◌, length, get_or, ap}
-use Rattle.af_base.specs.declared.frame.Frame.{Frame}
-use Rattle.af_base.specs.Mix.{silence}
+use Rattle.af_gain.proofs.Common.{Frame, silence}
 use Rattle.af_gain.specs.Sums.{IsWithin, sum_of}
 use Rattle.af_gain.proofs.Lanes.{passed}
 use Rattle.af_gain.proofs.LaneSums.{eight_are, less}

@@ -1,6 +1,6 @@
 -- Each of the four lanes is the sample of a side of one of the two sums.
 use Rattle.std.proofs.Common.{◌≡◌, ℤ, w32, of_z, map, [], ◌∷◌}
-use Rattle.af_base.specs.declared.frame.Frame.{Frame}
+use Rattle.af_gain.proofs.Common.{Frame}
 use borrow.Rule.Simd.Lanes.{act2}
 use borrow.Table.Row.{s_int}
 use lib.Lanes.{zip2}

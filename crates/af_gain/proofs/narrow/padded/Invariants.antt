@@ -1,5 +1,5 @@
 use Rattle.std.proofs.Common.{◌≡◌, ℕ, ◌+◌, ◌<◌, ◌≤◌, length}
-use Rattle.af_base.specs.Mix.{frame_at, silence}
+use Rattle.af_gain.proofs.Common.{frame_at, silence}
 use Rattle.af_gain.proofs.narrow.padded.Given as goal
 
 abbrev pub invariant-loop-k : goal.invariant-loop-k

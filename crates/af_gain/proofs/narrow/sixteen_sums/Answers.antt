@@ -1,7 +1,5 @@
 use Rattle.std.proofs.Common.{◌+◌, ◌<◌, List, length, length-take, map, take, sym, subst, arith}
-use Rattle.std.proofs.lemmas.List.{length-map, map_more}
-use Rattle.af_base.specs.Mix.{Take}
-use Rattle.af_base.specs.Part.{no_part, take_of}
+use Rattle.af_gain.proofs.Common.{Take, length-map, map_more, no_part, take_of}
 use Rattle.af_gain.specs.Eight.{AreSixteenOf}
 use Rattle.af_gain.proofs.narrow.sixteen_sums.Goals as goal
 

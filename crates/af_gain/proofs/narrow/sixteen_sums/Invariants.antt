@@ -1,5 +1,5 @@
 use Rattle.std.proofs.Common.{map, take}
-use Rattle.af_base.specs.Part.{take_of}
+use Rattle.af_gain.proofs.Common.{take_of}
 use Rattle.af_gain.specs.Eight.{AreSixteenOf}
 use Rattle.af_gain.proofs.narrow.sixteen_sums.Given as goal
 

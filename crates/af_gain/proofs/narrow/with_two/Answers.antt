@@ -1,7 +1,6 @@
 -- Each of the four lanes is a side of one of the two sums.
 use Rattle.std.proofs.Common.{◌+◌, arith}
-use Rattle.af_base.proofs.Basics.{four}
-use Rattle.af_base.specs.Mix.{frame_at, right_sample}
+use Rattle.af_gain.proofs.Common.{four, frame_at, right_sample}
 use Rattle.af_gain.proofs.Lanes.{narrow_is, narrow_part_fits}
 use Rattle.af_gain.proofs.narrow.with_two.Goals as goal
 

@@ -1,7 +1,5 @@
 use Rattle.std.proofs.Common.{◌+◌, ◌-◌, drop, refl, ◌∙◌, arith}
-use Rattle.std.proofs.lemmas.List.{get_or-take, get_or-drop}
-use Rattle.af_base.specs.Mix.{silence}
-use Rattle.af_base.specs.Part.{take_of}
+use Rattle.af_gain.proofs.Common.{get_or-drop, get_or-take, silence, take_of}
 use Rattle.af_gain.proofs.narrow.with_whole.Goals as goal
 
 pub returns-then-at-part : goal.returns-then-at-part

@@ -1,5 +1,5 @@
 use Rattle.std.proofs.Common.{◌≡◌, ◌≢◌, ℕ, ◌+◌, ◌<◌, length, set, get_or, subst, arith, below_more, get_or-set_same, get_or-set_other}
-use Rattle.af_base.specs.Mix.{silence}
+use Rattle.af_gain.proofs.Common.{silence}
 use Rattle.af_gain.specs.Narrow.{AreMixedTo}
 use Rattle.af_gain.proofs.narrow.write_eight.Goals as goal
 

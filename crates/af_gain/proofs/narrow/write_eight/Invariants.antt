@@ -1,5 +1,5 @@
 use Rattle.std.proofs.Common.{◌+◌, ◌≤◌, List, length}
-use Rattle.af_base.specs.Mix.{Take}
+use Rattle.af_gain.proofs.Common.{Take}
 use Rattle.af_gain.specs.Eight.{AreEightOf}
 use Rattle.af_gain.specs.Narrow.{AreMixedTo}
 use Rattle.af_gain.proofs.narrow.write_eight.Given as goal

@@ -1,6 +1,6 @@
 -- The product and the sum fit, so each conversion on the way gives the number itself.
 use Rattle.std.proofs.Common.{◌≡◌, pos, ◌*ℤ◌, ◌+ℤ◌, FitsSigned, w16, w64, ◌∙◌, arith}
-use Rattle.std.proofs.lemmas.Int.{to_z-of_z, ints}
+use Rattle.af_gain.proofs.Common.{ints, to_z-of_z}
 use Rattle.af_gain.proofs.Products.{product_bound}
 use Rattle.af_gain.proofs.sums.grown.Goals as goal
 

@@ -1,5 +1,5 @@
 use Rattle.std.proofs.Common.{◌≡◌, map, cond, false, None, is_some, ◌∙◌, ap, sym, arith}
-use Rattle.af_base.proofs.Basics.{none_of}
+use Rattle.af_journal.proofs.Common.{none_of}
 use Rattle.af_journal.specs.declared.stage.Stage.{Stage}
 use Rattle.af_journal.specs.declared.stage.Stage.TheVariants as stage
 use Rattle.af_journal.specs.Readings.{first_refused, parts_of}

@@ -1,5 +1,5 @@
 use Rattle.std.proofs.Common.{◌≡◌, ◌==◌, ℕ, List, [], ◌∷◌, length, true, refl, arith}
-use Rattle.std.proofs.lemmas.Bool.Decides.{nat_tests}
+use Rattle.af_journal.proofs.Common.{nat_tests}
 
 empty : (xs : List ℕ) → (length xs == 0) ≡ true → xs ≡ []
 empty [] e = refl

@@ -1,5 +1,5 @@
 use Rattle.std.proofs.Common.{◌≡◌, ◌∙◌, refl, ap, sym, subst, true, ℕ, List, length}
-use Rattle.af_model.specs.Journals.{JournalData}
+use Rattle.af_journal.proofs.Common.{JournalData}
 use Rattle.af_journal.specs.Beginnings.{IsFrontOf}
 use Rattle.af_journal.specs.Readings.{Reads}
 use Rattle.af_journal.proofs.building.read.Goals as goal

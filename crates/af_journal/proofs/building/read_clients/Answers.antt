@@ -1,7 +1,5 @@
 use Rattle.std.proofs.Common.{rules, ◌≡◌, ◌∙◌, ap, sym, subst, List, ◌∷◌, [], ◌++◌, map, length, length-append, arith}
-use Rattle.std.proofs.lemmas.List.{length-map}
-use Rattle.af_base.proofs.Basics.{map_last}
-use Rattle.af_base.specs.declared.event.ClientCall.{ClientCall}
+use Rattle.af_journal.proofs.Common.{ClientCall, length-map, map_last}
 use Rattle.af_journal.specs.Taken.{Leaves}
 use Rattle.af_journal.specs.Texts.{client_lines, each_from}
 use Rattle.af_journal.proofs.Leaving.{leaves-each}

@@ -1,8 +1,5 @@
 use Rattle.std.proofs.Common.{rules, ◌≡◌, ◌∙◌, ap, sym, subst, ◌≤◌, length, map, arith, ◌++◌, ◌∷◌, [], List, take}
-use Rattle.std.specs.Option.{option_map}
-use Rattle.std.proofs.lemmas.List.{length-map, take_all}
-use Rattle.af_model.specs.Journals.{EntrySeen, RoundSeen}
-use Rattle.af_model.specs.JournalForm.{IsRound}
+use Rattle.af_journal.proofs.Common.{EntrySeen, IsRound, RoundSeen, length-map, option_map, take_all}
 use Rattle.af_journal.specs.Beginnings.{ReadsRound}
 use Rattle.af_journal.specs.Judged.{first_of_turn, has_more}
 use Rattle.af_journal.specs.Taken.{AddsEntries}

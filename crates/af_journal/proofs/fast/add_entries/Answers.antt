@@ -1,6 +1,5 @@
 use Rattle.std.proofs.Common.{◌≡◌, ◌+◌, ◌<◌, ◌∷◌, List, length, take, drop, subst, sym, rules}
-use Rattle.std.specs.List.{flat_map}
-use Rattle.af_base.specs.Log.{entry_at, no_entry}
+use Rattle.af_journal.proofs.Common.{entry_at, flat_map, no_entry}
 use Rattle.af_journal.specs.declared.line.Line.TheVariants as line
 use Rattle.af_journal.specs.Lines.{Written, numbers}
 use Rattle.af_journal.specs.Texts.{GoesOn}

@@ -1,5 +1,5 @@
 use Rattle.std.proofs.Common.{◌∷◌, take, drop}
-use Rattle.std.specs.List.{flat_map}
+use Rattle.af_journal.proofs.Common.{flat_map}
 use Rattle.af_journal.specs.declared.line.Line.TheVariants as line
 use Rattle.af_journal.specs.Lines.{numbers}
 use Rattle.af_journal.specs.Texts.{GoesOn}

@@ -1,6 +1,5 @@
 use Rattle.std.proofs.Common.{◌≡◌, List, subst, sym, rules}
-use Rattle.std.specs.List.{flat_map, range_with_len}
-use Rattle.af_base.specs.Log.{slots}
+use Rattle.af_journal.proofs.Common.{flat_map, range_with_len, slots}
 use Rattle.af_journal.specs.Lines.{Written}
 use Rattle.af_journal.specs.Texts.{GoesOn}
 use Rattle.af_journal.specs.Logged.{logged_slot, logged_slots}

@@ -1,4 +1,4 @@
-use Rattle.std.specs.List.{flat_map, range_with_len}
+use Rattle.af_journal.proofs.Common.{flat_map, range_with_len}
 use Rattle.af_journal.specs.Texts.{GoesOn}
 use Rattle.af_journal.specs.Logged.{logged_slot}
 use Rattle.af_journal.proofs.fast.add_slots.Given as goal

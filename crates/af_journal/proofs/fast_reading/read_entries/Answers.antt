@@ -1,6 +1,5 @@
 use Rattle.std.proofs.Common.{rules, ◌≡◌, ◌-◌, ◌<◌, arith, length, length-append, sym, subst, List, ◌∷◌, [], ◌++◌}
-use Rattle.af_base.specs.declared.log.CycleEntry.{CycleEntry}
-use Rattle.af_model.specs.Journals.{EntrySeen}
+use Rattle.af_journal.proofs.Common.{CycleEntry, EntrySeen}
 use Rattle.af_journal.specs.declared.line.Line.TheVariants as line
 use Rattle.af_journal.specs.Lines.{numbers}
 use Rattle.af_journal.specs.Taken.{AddsEntries, Leaves}

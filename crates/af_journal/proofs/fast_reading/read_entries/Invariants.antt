@@ -1,6 +1,5 @@
 use Rattle.std.proofs.Common.{◌≡◌, ◌≤◌, List, length}
-use Rattle.std.specs.List.{flat_map}
-use Rattle.af_model.specs.Journals.{EntrySeen}
+use Rattle.af_journal.proofs.Common.{EntrySeen, flat_map}
 use Rattle.af_journal.specs.Taken.{AddsEntries, Leaves}
 use Rattle.af_journal.specs.Texts.{entry_lines}
 use Rattle.af_journal.proofs.fast_reading.read_entries.Given as goal

@@ -1,7 +1,6 @@
 use Rattle.std.proofs.Common.{sym, subst, List, refl}
-use Rattle.af_base.specs.declared.frame.Frame.{Frame}
+use Rattle.af_journal.proofs.Common.{CycleEntry, Frame}
 use Rattle.af_base.specs.declared.log.Cycle.TheVariants as cycle
-use Rattle.af_base.specs.declared.log.CycleEntry.{CycleEntry}
 use Rattle.af_journal.specs.Taken.{AddsEntry, Leaves, more_lines}
 use Rattle.af_journal.proofs.MixReading.{still-adds}
 use Rattle.af_journal.proofs.fast_reading.read_entry.Goals as goal

@@ -1,6 +1,5 @@
 use Rattle.std.proofs.Common.{rules, ◌≡◌, true, slice_index_or, ◌==◌}
-use Rattle.std.specs.Int.{bit_at}
-use Rattle.af_base.specs.Log.{entry_slot}
+use Rattle.af_journal.proofs.Common.{bit_at, entry_slot}
 use Rattle.af_journal.specs.Stages.{is_submix}
 use Rattle.af_journal.proofs.MixReading.{mix-adds, mix-state}
 use Rattle.af_journal.proofs.fast_reading.read_mix.Goals as goal

@@ -1,7 +1,5 @@
 use Rattle.std.proofs.Common.{rules, ◌≡◌, inr, ◌∷◌, [], length, map}
-use Rattle.af_base.specs.Log.{count_seen}
-use Rattle.af_base.specs.Sample.{packed_word}
-use Rattle.af_model.specs.Cycles.{IsSeen, place_of}
+use Rattle.af_journal.proofs.Common.{IsSeen, count_seen, packed_word, place_of}
 use Rattle.af_journal.specs.declared.line.Line.TheVariants as line
 use Rattle.af_journal.specs.Lines.{numbers}
 use Rattle.af_journal.specs.Mixes.{IsGot, SlotGot}

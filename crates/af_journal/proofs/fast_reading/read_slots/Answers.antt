@@ -1,7 +1,5 @@
 use Rattle.std.proofs.Common.{rules, ◌≡◌, ◌∙◌, ◌+◌, sym, ap, subst, ℕ, ◌<◌, List, Vec, Global, length}
-use Rattle.af_base.specs.declared.frame.Frame.{Frame}
-use Rattle.af_base.specs.declared.log.CycleEntry.{CycleEntry}
-use Rattle.af_base.specs.Log.{slots}
+use Rattle.af_journal.proofs.Common.{CycleEntry, Frame, slots}
 use Rattle.af_journal.proofs.MixReading.{IsMixFront, front-below, front-more, front-none, front-same, front-skip, mix-whole}
 use Rattle.af_journal.specs.declared.left.Left.{Left}
 use Rattle.af_journal.specs.Mixes.{got_lines, got_of}

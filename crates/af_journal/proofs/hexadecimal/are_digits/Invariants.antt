@@ -1,5 +1,5 @@
 use Rattle.std.proofs.Common.{◌≡◌, take}
-use Rattle.std.specs.List.{list_all}
+use Rattle.af_journal.proofs.Common.{list_all}
 use Rattle.af_journal.specs.Hexadecimal.{is_hex}
 use Rattle.af_journal.proofs.hexadecimal.are_digits.Given as goal
 

@@ -1,5 +1,5 @@
 use Rattle.std.proofs.Common.{◌∙◌, ◌+◌, get_or}
-use Rattle.af_base.specs.Sample.{packed_word}
+use Rattle.af_journal.proofs.Common.{packed_word}
 use Rattle.af_journal.proofs.Spelling.{word-bytes}
 use Rattle.af_journal.proofs.hexadecimal.frame_at.Goals as goal
 

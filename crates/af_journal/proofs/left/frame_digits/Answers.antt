@@ -1,5 +1,5 @@
 use Rattle.std.proofs.Common.{arith}
-use Rattle.std.proofs.lemmas.Grind.{common_steps}
+use Rattle.af_journal.proofs.Common.{common_steps}
 use Rattle.af_journal.proofs.DigitLines.{cut-frames}
 use Rattle.af_journal.proofs.left.frame_digits.Goals as goal
 

@@ -1,7 +1,5 @@
 use Rattle.std.proofs.Common.{rules, ◌≡◌, ◌∙◌, ◌∷◌, ◌≤◌, ◌*◌, Some, length, map, refl, sym, arith}
-use Rattle.std.specs.List.{flat_map}
-use Rattle.std.proofs.lemmas.List.{length-map, take_all}
-use Rattle.af_base.specs.Sample.{packed_word}
+use Rattle.af_journal.proofs.Common.{flat_map, length-map, packed_word, take_all}
 use Rattle.af_journal.specs.Lines.{hex_word}
 use Rattle.af_journal.specs.Readings.{cut}
 use Rattle.af_journal.proofs.Leaving.{leaves-frames, leaves-words}

@@ -1,7 +1,6 @@
 use Rattle.std.proofs.Common.{rules, ◌≡◌, ◌∙◌, ap, sym, subst, List, ℕ, ◌++◌, ◌-◌, ◌∷◌, [], ◌≤◌, length, take, drop}
-use Rattle.std.specs.List.{flat_map}
+use Rattle.af_journal.proofs.Common.{AreWords, flat_map}
 use Rattle.af_journal.specs.Lines.{hex_word}
-use Rattle.af_model.specs.Numbers.{AreWords}
 use Rattle.af_journal.proofs.Counting.{tail_is}
 use Rattle.af_journal.proofs.Leaving.{packed-small, word-first, words-fit, words-more}
 use Rattle.af_journal.proofs.left.words_of.Goals as goal

@@ -1,7 +1,6 @@
 use Rattle.std.proofs.Common.{◌≡◌, ◌++◌, length}
-use Rattle.std.specs.List.{flat_map}
+use Rattle.af_journal.proofs.Common.{AreWords, flat_map}
 use Rattle.af_journal.specs.Lines.{hex_word}
-use Rattle.af_model.specs.Numbers.{AreWords}
 use Rattle.af_journal.proofs.left.words_of.Given as goal
 
 abbrev pub invariant-words : goal.invariant-words

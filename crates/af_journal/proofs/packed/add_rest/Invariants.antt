@@ -1,6 +1,5 @@
 use Rattle.std.proofs.Common.{◌≡◌, ◌++◌, map, take}
-use Rattle.std.specs.List.{flat_map}
-use Rattle.af_base.specs.Sample.{packed_word}
+use Rattle.af_journal.proofs.Common.{flat_map, packed_word}
 use Rattle.af_journal.specs.Lines.{hex_word}
 use Rattle.af_journal.proofs.packed.add_rest.Given as goal
 

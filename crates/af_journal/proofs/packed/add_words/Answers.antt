@@ -1,8 +1,5 @@
 use Rattle.std.proofs.Common.{◌≡◌, ◌++◌, ◌∙◌, List, map, ap}
-use Rattle.std.specs.List.{flat_map}
-use Rattle.std.proofs.lemmas.List.{append_assoc}
-use Rattle.af_base.specs.declared.frame.Frame.{Frame}
-use Rattle.af_base.specs.Sample.{packed_word}
+use Rattle.af_journal.proofs.Common.{Frame, append_assoc, flat_map, packed_word}
 use Rattle.af_journal.specs.Lines.{hex_word}
 use Rattle.af_journal.proofs.Rows.{both-parts}
 use Rattle.af_journal.proofs.packed.add_words.Goals as goal

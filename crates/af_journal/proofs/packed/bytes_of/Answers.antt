@@ -1,8 +1,5 @@
 use Rattle.std.proofs.Common.{◌*◌, ◌∙◌, map, sym, ap, arith, length-set}
-use Rattle.std.proofs.lemmas.List.{take_all}
-use Rattle.std.specs.Int.{to_be_bytes, w32}
-use Rattle.std.specs.List.{flat_map}
-use Rattle.af_base.specs.Sample.{packed_word}
+use Rattle.af_journal.proofs.Common.{flat_map, packed_word, take_all, to_be_bytes, w32}
 use Rattle.af_journal.proofs.Rows.{bytes-more}
 use Rattle.af_journal.proofs.packed.bytes_of.Goals as goal
 

@@ -1,7 +1,5 @@
 use Rattle.std.proofs.Common.{◌≡◌, ◌*◌, length, map, take}
-use Rattle.std.specs.Int.{to_be_bytes, w32}
-use Rattle.std.specs.List.{flat_map}
-use Rattle.af_base.specs.Sample.{packed_word}
+use Rattle.af_journal.proofs.Common.{flat_map, packed_word, to_be_bytes, w32}
 use Rattle.af_journal.proofs.packed.bytes_of.Given as goal
 
 abbrev pub invariant-loop-i : goal.invariant-loop-i

@@ -1,6 +1,5 @@
 use Rattle.std.proofs.Common.{◌*◌, ◌∙◌, sym, ap, arith, length-set}
-use Rattle.std.proofs.lemmas.List.{take_all}
-use Rattle.std.specs.List.{flat_map}
+use Rattle.af_journal.proofs.Common.{flat_map, take_all}
 use Rattle.af_journal.specs.Lines.{hex_byte}
 use Rattle.af_journal.proofs.Rows.{row-more}
 use Rattle.af_journal.proofs.packed.row_of.Goals as goal

@@ -1,5 +1,5 @@
 use Rattle.std.proofs.Common.{◌≡◌, ◌*◌, length, take}
-use Rattle.std.specs.List.{flat_map}
+use Rattle.af_journal.proofs.Common.{flat_map}
 use Rattle.af_journal.specs.Lines.{hex_byte}
 use Rattle.af_journal.proofs.packed.row_of.Given as goal
 

@@ -1,5 +1,5 @@
 use Rattle.std.proofs.Common.{rules}
-use Rattle.std.proofs.lemmas.List.{map-append}
+use Rattle.af_journal.proofs.Common.{map-append}
 use Rattle.af_journal.proofs.MarkLines.{just-more, just-none}
 use Rattle.af_journal.proofs.poked.all_calls.Goals as goal
 

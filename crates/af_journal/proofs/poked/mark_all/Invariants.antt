@@ -1,5 +1,5 @@
 use Rattle.std.proofs.Common.{◌≡◌, List, length}
-use Rattle.std.specs.List.{AllByRecursion}
+use Rattle.af_journal.proofs.Common.{AllByRecursion}
 use Rattle.af_journal.specs.Lines.{Written}
 use Rattle.af_journal.specs.Ranges.{IsWritten}
 use Rattle.af_journal.specs.Texts.{text_of_lines}

@@ -1,6 +1,5 @@
 use Rattle.std.proofs.Common.{rules, ◌≡◌, ◌∙◌, ap, arith, ℕ, Bool, false, List, cond, replicate, map, length, slice_index_or, subst}
-use Rattle.std.proofs.lemmas.List.{length-replicate, take_at}
-use Rattle.af_base.proofs.Basics.{on_ok}
+use Rattle.af_journal.proofs.Common.{length-replicate, on_ok, take_at}
 use Rattle.af_journal.specs.Pokes.{PokeJust}
 use Rattle.af_journal.proofs.MarkLines.{marks_just}
 use Rattle.af_journal.proofs.poked.pokes_in.Goals as goal

@@ -1,7 +1,5 @@
 use Rattle.std.proofs.Common.{◌≡◌, ◌⊎◌, inl, inr, ℕ, ◌<◌, ◌≤◌, ◌==◌, ◌||◌, Bool, true, false, List, length, slice_index_or, slice_set, refl, ap, ◌∙◌, sym, arith}
-use Rattle.std.proofs.lemmas.Bool.{cases_eq, eq-eqb, ne_eqb}
-use Rattle.std.proofs.lemmas.List.{get_or-set_other, get_or-set_same}
-use Rattle.af_base.proofs.Basics.{or_false}
+use Rattle.af_journal.proofs.Common.{cases_eq, eq-eqb, get_or-set_other, get_or-set_same, ne_eqb, or_false}
 
 -- the marks after one is set, if it is there
 set-one : (marks : List Bool) (at other : ℕ) → at < length marks → slice_index_or (slice_set marks at true) other false ≡ (slice_index_or marks other false || (at == other))

@@ -1,8 +1,5 @@
 use Rattle.std.proofs.Common.{rules, ◌≡◌, ◌∙◌, ap, sym, nat_lt, length}
-use Rattle.std.specs.List.{list_any}
-use Rattle.std.specs.Option.{option_map}
-use Rattle.af_base.specs.declared.turn.TrackTurn.{TrackTurn}
-use Rattle.af_base.specs.Turn.{TrackSeen, track_seen, turn_of}
+use Rattle.af_journal.proofs.Common.{TrackSeen, TrackTurn, list_any, option_map, track_seen, turn_of}
 use Rattle.af_journal.specs.Judged.{has_more}
 use Rattle.af_journal.proofs.Judged.{any-map}
 use Rattle.af_journal.proofs.reach.has_more.Goals as goal

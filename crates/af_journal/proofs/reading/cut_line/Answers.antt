@@ -1,5 +1,5 @@
 use Rattle.std.proofs.Common.{rules, ◌≡◌, ◌+◌, ◌<◌, Some, None, take, drop, length, arith}
-use Rattle.std.proofs.lemmas.Grind.{common_steps}
+use Rattle.af_journal.proofs.Common.{common_steps}
 use Rattle.af_journal.specs.Readings.{cut}
 use Rattle.af_journal.proofs.FirstLine.{cut_at, cut_none}
 use Rattle.af_journal.proofs.reading.cut_line.Goals as goal

@@ -1,5 +1,5 @@
 use Rattle.std.proofs.Common.{◌≡◌, ◌==◌, take}
-use Rattle.std.specs.List.{list_any}
+use Rattle.af_journal.proofs.Common.{list_any}
 use Rattle.af_journal.proofs.reading.has_lf.Given as goal
 
 abbrev pub invariant-loop-byte : goal.invariant-loop-byte

@@ -1,6 +1,5 @@
 use Rattle.std.proofs.Common.{◌≡◌, ◌++◌, ◌∙◌, ap, sym}
-use Rattle.std.proofs.lemmas.Fmt.{contents_after_writes}
-use Rattle.std.proofs.lemmas.List.{append-nil}
+use Rattle.af_journal.proofs.Common.{append-nil, contents_after_writes}
 use Rattle.af_journal.specs.Lines.{line_text, with_lf}
 use Rattle.af_journal.specs.declared.text.Text.{Text}
 use Rattle.af_journal.proofs.text.add_printed.Goals as goal

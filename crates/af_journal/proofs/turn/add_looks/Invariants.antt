@@ -1,5 +1,5 @@
 use Rattle.std.proofs.Common.{take}
-use Rattle.std.specs.List.{flat_map}
+use Rattle.af_journal.proofs.Common.{flat_map}
 use Rattle.af_journal.specs.Texts.{GoesOn, look_lines}
 use Rattle.af_journal.proofs.turn.add_looks.Given as goal
 

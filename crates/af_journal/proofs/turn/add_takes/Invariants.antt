@@ -1,6 +1,5 @@
 use Rattle.std.proofs.Common.{map, take}
-use Rattle.std.specs.List.{flat_map}
-use Rattle.af_base.specs.Turn.{take_seen}
+use Rattle.af_journal.proofs.Common.{flat_map, take_seen}
 use Rattle.af_journal.specs.Texts.{GoesOn, take_lines}
 use Rattle.af_journal.proofs.turn.add_takes.Given as goal
 

@@ -1,6 +1,5 @@
 use Rattle.std.proofs.Common.{◌≡◌, ◌<◌, ◌≤◌, ◌∙◌, List, length, map, take, slice_index_or, ap, sym, subst, rules, arith}
-use Rattle.std.proofs.lemmas.List.{get_or-map, length-map, take_all}
-use Rattle.af_base.specs.Turn.{TrackSeen, track_seen}
+use Rattle.af_journal.proofs.Common.{TrackSeen, get_or-map, length-map, take_all, track_seen}
 use Rattle.af_journal.specs.Lines.{Written}
 use Rattle.af_journal.specs.Texts.{GoesOn, each_from, track_lines}
 use Rattle.af_journal.proofs.Texts.{goes-then, each-next}

@@ -1,5 +1,5 @@
 use Rattle.std.proofs.Common.{map, take}
-use Rattle.af_base.specs.Turn.{track_seen}
+use Rattle.af_journal.proofs.Common.{track_seen}
 use Rattle.af_journal.specs.Texts.{GoesOn, each_from, track_lines}
 use Rattle.af_journal.proofs.turn.add_tracks.Given as goal
 

@@ -1,7 +1,5 @@
 use Rattle.std.proofs.Common.{rules, ◌≡◌, ◌≤◌, ◌∙◌, ap, sym, subst, List, ◌∷◌, [], ◌++◌, length, take}
-use Rattle.std.proofs.lemmas.List.Elements.{All-nil}
-use Rattle.af_base.specs.declared.turn.CommandLook.{CommandLook}
-use Rattle.af_model.specs.JournalForm.{IsCommandLook}
+use Rattle.af_journal.proofs.Common.{All-nil, CommandLook, IsCommandLook}
 use Rattle.af_journal.specs.declared.line.Line.TheVariants as line
 use Rattle.af_journal.specs.Lines.{numbers}
 use Rattle.af_journal.specs.Taken.{Leaves}

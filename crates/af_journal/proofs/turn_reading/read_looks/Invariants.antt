@@ -1,7 +1,5 @@
 use Rattle.std.proofs.Common.{◌≡◌, All, List, length, take}
-use Rattle.std.specs.List.{flat_map}
-use Rattle.af_base.specs.declared.turn.CommandLook.{CommandLook}
-use Rattle.af_model.specs.JournalForm.{IsCommandLook}
+use Rattle.af_journal.proofs.Common.{CommandLook, IsCommandLook, flat_map}
 use Rattle.af_journal.specs.Taken.{Leaves}
 use Rattle.af_journal.specs.Texts.{look_lines}
 use Rattle.af_journal.proofs.turn_reading.read_looks.Given as goal

@@ -1,7 +1,5 @@
 use Rattle.std.proofs.Common.{ap, refl, false, List, ◌∷◌, [], map}
-use Rattle.std.specs.List.{flat_map}
-use Rattle.af_base.specs.Turn.{TrackSeen, Turn, take_seen}
-use Rattle.af_model.specs.JournalForm.{IsOpenTurn}
+use Rattle.af_journal.proofs.Common.{IsOpenTurn, TrackSeen, Turn, flat_map, take_seen}
 use Rattle.af_journal.specs.declared.line.Line.TheVariants as line
 use Rattle.af_journal.specs.Lines.{numbers}
 use Rattle.af_journal.specs.Taken.{Leaves, open_lines}

@@ -1,12 +1,6 @@
 use Rattle.std.proofs.Common.{rules, ◌≡◌, ◌∙◌, ap, sym, subst, List, ◌+◌, ◌<◌, ◌≤◌, ◌∷◌, [], ◌++◌, All, map, length, arith, refl}
-use Rattle.std.specs.List.{flat_map}
-use Rattle.std.proofs.lemmas.List.{length-map}
-use Rattle.af_base.proofs.Basics.{map_last}
+use Rattle.af_journal.proofs.Common.{IsTake, TakeSeen, count_seen, flat_map, length-map, map_last, packed_word, take_seen}
 use Rattle.af_base.specs.declared.turn.NormalTake.{NormalTake}
-use Rattle.af_base.specs.Log.{count_seen}
-use Rattle.af_base.specs.Sample.{packed_word}
-use Rattle.af_base.specs.Turn.{TakeSeen, take_seen}
-use Rattle.af_model.specs.JournalForm.{IsTake}
 use Rattle.af_journal.specs.declared.line.Line.TheVariants as line
 use Rattle.af_journal.specs.Lines.{numbers}
 use Rattle.af_journal.specs.Ranges.{IsLine}

@@ -1,7 +1,5 @@
 use Rattle.std.proofs.Common.{◌≡◌, ◌≤◌, All, map, length}
-use Rattle.std.specs.List.{flat_map}
-use Rattle.af_base.specs.Turn.{take_seen}
-use Rattle.af_model.specs.JournalForm.{IsTake}
+use Rattle.af_journal.proofs.Common.{IsTake, flat_map, take_seen}
 use Rattle.af_journal.specs.Taken.{Leaves}
 use Rattle.af_journal.specs.Texts.{take_lines}
 use Rattle.af_journal.proofs.Rising.{RiseTo}

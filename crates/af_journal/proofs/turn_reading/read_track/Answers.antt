@@ -1,6 +1,5 @@
 use Rattle.std.proofs.Common.{rules, ◌++◌}
-use Rattle.std.specs.List.{flat_map}
-use Rattle.af_base.specs.Turn.{TrackSeen}
+use Rattle.af_journal.proofs.Common.{TrackSeen, flat_map}
 use Rattle.af_journal.specs.Taken.{Leaves}
 use Rattle.af_journal.specs.Texts.{disabled_lines, look_lines, status_lines}
 use Rattle.af_journal.proofs.Leaving.{leaves-then}

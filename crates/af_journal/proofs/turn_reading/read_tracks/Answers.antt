@@ -1,9 +1,5 @@
 use Rattle.std.proofs.Common.{rules, ◌≡◌, ◌<◌, ◌∙◌, ap, sym, refl, List, ◌∷◌, [], ◌++◌, All, map, length, length-append, arith}
-use Rattle.std.proofs.lemmas.List.Elements.{All-nil}
-use Rattle.af_base.proofs.Basics.{map_last}
-use Rattle.af_base.specs.declared.turn.TrackTurn.{TrackTurn}
-use Rattle.af_base.specs.Turn.{TrackSeen, track_seen}
-use Rattle.af_model.specs.JournalForm.{IsCommandLook}
+use Rattle.af_journal.proofs.Common.{All-nil, IsCommandLook, TrackSeen, TrackTurn, map_last, track_seen}
 use Rattle.af_journal.specs.Judged.{first_looks}
 use Rattle.af_journal.specs.Texts.{track_lines}
 use Rattle.af_journal.proofs.Leaving.{all-more, leaves-each, leaves-none}

@@ -1,6 +1,5 @@
 use Rattle.std.proofs.Common.{◌≡◌, All, List, map, length}
-use Rattle.af_base.specs.Turn.{TrackSeen, track_seen}
-use Rattle.af_model.specs.JournalForm.{IsCommandLook}
+use Rattle.af_journal.proofs.Common.{IsCommandLook, TrackSeen, track_seen}
 use Rattle.af_journal.specs.Judged.{first_looks}
 use Rattle.af_journal.specs.Taken.{Leaves}
 use Rattle.af_journal.specs.Texts.{each_from, track_lines}

@@ -1,5 +1,5 @@
 use Rattle.std.proofs.Common.{rules, ◌≡◌, ◌∙◌, ap, sym, refl, cond, inl, inr, Some, ◌∷◌, []}
-use Rattle.af_base.specs.Turn.{Turn, ended_turn, turn_of}
+use Rattle.af_journal.proofs.Common.{Turn, ended_turn, turn_of}
 use Rattle.af_journal.specs.declared.line.Line.TheVariants as line
 use Rattle.af_journal.specs.Lines.{numbers}
 use Rattle.af_journal.specs.Taken.{Leaves, open_lines}

@@ -1,5 +1,5 @@
 use Rattle.std.proofs.Common.{◌<◌, List, [], length, take, slice_index_or, sym, subst, rules}
-use Rattle.af_model.specs.Journals.{round_at}
+use Rattle.af_journal.proofs.Common.{round_at}
 use Rattle.af_journal.specs.Lines.{Written}
 use Rattle.af_journal.specs.Texts.{GoesOn, client_lines, each_from}
 use Rattle.af_journal.proofs.Texts.{goes-then, each-next}

@@ -1,5 +1,5 @@
 use Rattle.std.proofs.Common.{take}
-use Rattle.af_model.specs.Journals.{round_at}
+use Rattle.af_journal.proofs.Common.{round_at}
 use Rattle.af_journal.specs.Texts.{GoesOn, client_lines, each_from}
 use Rattle.af_journal.proofs.writing.add_clients.Given as goal
 

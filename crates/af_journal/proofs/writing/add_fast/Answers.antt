@@ -1,13 +1,8 @@
 use Rattle.std.proofs.Common.{◌≡◌, ◌∙◌, ℕ, List, [], length, take, drop, sym, ap, subst, rules, refl, arith, All}
-use Rattle.std.proofs.lemmas.List.{length-map}
-use Rattle.af_base.specs.declared.frame.Frame.{Frame}
-use Rattle.af_base.specs.declared.log.CycleEntry.{CycleEntry}
-use Rattle.af_model.specs.Journals.{entries_of, frames_of, round_at}
+use Rattle.af_journal.proofs.Common.{CycleEntry, Frame, LieWithin, entries_inside, entries_of, frames_of, length-map, round_at}
 use Rattle.af_journal.specs.Lines.{Written}
 use Rattle.af_journal.specs.Texts.{GoesOn, fast_lines}
 use Rattle.af_journal.specs.Logged.{logged_fast}
-use Rattle.af_runs.proofs.Basics.{entries_inside}
-use Rattle.af_runs.specs.Pcm.{LieWithin}
 use Rattle.af_journal.proofs.Entries.{AreAllLogged, all-logged, all-within, round-same}
 use Rattle.af_journal.proofs.writing.add_fast.Goals as goal
 

@@ -1,5 +1,5 @@
 use Rattle.std.proofs.Common.{◌≡◌, take}
-use Rattle.std.specs.List.{flat_map}
+use Rattle.af_journal.proofs.Common.{flat_map}
 use Rattle.af_journal.specs.Texts.{round_lines, text_of_lines}
 use Rattle.af_journal.proofs.writing.text_of.Given as goal
 

@@ -1,5 +1,5 @@
 use Rattle.std.proofs.Common.{◌≤◌, length, All, take}
-use Rattle.af_base.specs.declared.plain.Part.{Part}
+use Rattle.af_judge.proofs.Common.{Part}
 use Rattle.af_judge.proofs.buffer_mix.are_fit.Given as goal
 
 abbrev pub invariant-loop-part : goal.invariant-loop-part

@@ -1,6 +1,5 @@
 use Rattle.std.proofs.Common.{◌≡◌, ℕ, ◌<◌, false}
-use Rattle.af_base.specs.Log.{absent, entry_slot}
-use Rattle.af_model.specs.StateQueue.{carries}
+use Rattle.af_judge.proofs.Common.{absent, carries, entry_slot}
 use Rattle.af_judge.proofs.entry_judge.has_no_others.Given as goal
 
 abbrev pub invariant-loop-slot : goal.invariant-loop-slot

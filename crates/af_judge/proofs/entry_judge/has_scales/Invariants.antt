@@ -1,5 +1,5 @@
 use Rattle.std.proofs.Common.{◌≡◌, ℕ, ◌<◌, slice_index_or}
-use Rattle.af_model.specs.Cycles.{mix_scale}
+use Rattle.af_judge.proofs.Common.{mix_scale}
 use Rattle.af_judge.proofs.entry_judge.has_scales.Given as goal
 
 abbrev pub invariant-loop-slot : goal.invariant-loop-slot

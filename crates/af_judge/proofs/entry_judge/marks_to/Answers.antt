@@ -1,6 +1,6 @@
 use Rattle.std.proofs.Common.{Bool, if◌then◌else◌, sym, ap, ◌∙◌, ◌^◌}
+use Rattle.af_judge.proofs.Common.{mono_marks}
 use Rattle.std.specs.Int.Bits.{bit_or, or_zero_r}
-use Rattle.af_model.specs.Cycles.{mono_marks}
 use Rattle.af_judge.proofs.entry_judge.marks_to.Goals as goal
 
 pub returns : goal.returns

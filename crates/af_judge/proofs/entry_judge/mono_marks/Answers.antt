@@ -1,6 +1,5 @@
 use Rattle.std.proofs.Common.{◌≡◌, ap, ◌∙◌, arith}
-use Rattle.af_base.specs.Log.{slots}
-use Rattle.af_model.specs.Cycles.{mono_marks}
+use Rattle.af_judge.proofs.Common.{mono_marks, slots}
 use Rattle.af_judge.proofs.entry_judge.mono_marks.Goals as goal
 
 pub returns : goal.returns

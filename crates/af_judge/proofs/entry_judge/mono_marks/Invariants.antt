@@ -1,5 +1,5 @@
 use Rattle.std.proofs.Common.{◌≡◌}
-use Rattle.af_model.specs.Cycles.{mono_marks}
+use Rattle.af_judge.proofs.Common.{mono_marks}
 use Rattle.af_judge.proofs.entry_judge.mono_marks.Given as goal
 
 abbrev pub invariant-loop-slot : goal.invariant-loop-slot

@@ -1,6 +1,5 @@
 use Rattle.std.proofs.Common.{◌≡◌, ℕ, ◌+◌, ◌<◌, true}
-use Rattle.af_base.specs.Log.{entry_at}
-use Rattle.af_model.specs.Cycles.{is_mixed}
+use Rattle.af_judge.proofs.Common.{entry_at, is_mixed}
 use Rattle.af_judge.proofs.fast_judge.are_mixes.Given as goal
 
 abbrev pub invariant-loop-at : goal.invariant-loop-at

@@ -1,7 +1,5 @@
 use Rattle.std.proofs.Common.{◌≡◌, ℕ, Bool, ◌==◌, ◌&&◌, ◌||◌, sym, ap, ◌∙◌, arith}
-use Rattle.std.specs.List.{range_with_len, list_any}
-use Rattle.af_base.specs.Log.{slots}
-use Rattle.af_model.specs.StateQueue.{carries, slot_of}
+use Rattle.af_judge.proofs.Common.{carries, list_any, range_with_len, slot_of, slots}
 use Rattle.af_judge.proofs.Ranges.{any_more}
 use Rattle.af_judge.proofs.fast_judge.carries_track.Goals as goal
 

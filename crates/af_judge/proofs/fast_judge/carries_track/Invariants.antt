@@ -1,6 +1,5 @@
-use Rattle.std.specs.List.{range_with_len, list_any}
 use Rattle.std.proofs.Common.{◌≡◌, ◌==◌, ◌&&◌}
-use Rattle.af_model.specs.StateQueue.{carries, slot_of}
+use Rattle.af_judge.proofs.Common.{carries, list_any, range_with_len, slot_of}
 use Rattle.af_judge.proofs.fast_judge.carries_track.Given as goal
 
 abbrev pub invariant-loop-slot : goal.invariant-loop-slot

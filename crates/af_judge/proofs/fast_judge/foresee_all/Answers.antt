@@ -1,8 +1,5 @@
 use Rattle.std.proofs.Common.{◌≡◌, ℕ, ◌<◌, List, drop, get_or, length, length-drop, map, take, sym, ap, ◌∙◌, arith}
-use Rattle.std.proofs.lemmas.List.{get_or-drop}
-use Rattle.std.proofs.lemmas.List.Sums.{fold_more}
-use Rattle.af_base.specs.declared.log.CycleEntry.{CycleEntry}
-use Rattle.af_base.specs.Log.{no_entry}
+use Rattle.af_judge.proofs.Common.{CycleEntry, fold_more, get_or-drop, no_entry}
 use Rattle.af_judge.specs.Foresight.{Foreseen, entries_foreseen, entry_foreseen, foreseen, server_of}
 use Rattle.af_judge.proofs.fast_judge.foresee_all.Goals as goal
 

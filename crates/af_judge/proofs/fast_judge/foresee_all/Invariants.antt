@@ -1,5 +1,5 @@
 use Rattle.std.proofs.Common.{◌≡◌, List, drop, map, take}
-use Rattle.af_model.specs.Cycles.{Listed}
+use Rattle.af_judge.proofs.Common.{Listed}
 use Rattle.af_judge.specs.Foresight.{entries_foreseen, foreseen, server_of}
 use Rattle.af_judge.proofs.fast_judge.foresee_all.Given as goal
 

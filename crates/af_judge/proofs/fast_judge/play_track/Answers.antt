@@ -1,7 +1,6 @@
-use Rattle.std.specs.Prelude.{◌↔◌, IsTrue, slice_get}
+use Rattle.std.specs.Prelude.{◌↔◌}
 use Rattle.std.proofs.Common.{◌≡◌, Some, get_or, subst, arith}
-use Rattle.std.proofs.lemmas.Option.{get_or_from_slice_get, slice_get-get_or}
-use Rattle.af_base.proofs.Basics.{on_ok}
+use Rattle.af_judge.proofs.Common.{IsTrue, get_or_from_slice_get, on_ok, slice_get, slice_get-get_or}
 use Rattle.af_judge.specs.declared.track_judge.TrackJudge.{TrackJudge}
 use Rattle.af_judge.specs.Blocks.{listed_in}
 use Rattle.af_judge.specs.FastKept.{IsLookRight}

@@ -1,5 +1,5 @@
 use Rattle.std.proofs.Common.{◌≡◌, ◌*◌, ◌++◌, map, take}
-use Rattle.af_base.specs.Sample.{packed_word}
+use Rattle.af_judge.proofs.Common.{packed_word}
 use Rattle.af_judge.proofs.frame_words.append.Given as goal
 
 abbrev pub invariant-loop-row : goal.invariant-loop-row

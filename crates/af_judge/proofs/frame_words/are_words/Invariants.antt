@@ -1,5 +1,5 @@
 use Rattle.std.proofs.Common.{◌≡◌, true, map, take}
-use Rattle.af_base.specs.Sample.{packed_word}
+use Rattle.af_judge.proofs.Common.{packed_word}
 use Rattle.af_judge.proofs.frame_words.are_words.Given as goal
 
 abbrev pub invariant-loop-at : goal.invariant-loop-at

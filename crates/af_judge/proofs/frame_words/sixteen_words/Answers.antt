@@ -1,6 +1,5 @@
 use Rattle.std.proofs.Common.{◌∙◌, map, ap, sym, arith, length-set}
-use Rattle.std.proofs.lemmas.List.{take_all}
-use Rattle.af_base.specs.Sample.{packed_word}
+use Rattle.af_judge.proofs.Common.{packed_word, take_all}
 use Rattle.af_judge.proofs.FrameWords.{stored-more}
 use Rattle.af_judge.proofs.frame_words.sixteen_words.Goals as goal
 

@@ -1,6 +1,5 @@
 use Rattle.std.proofs.Common.{◌↔◌, ◌&&◌, IsTrue, sym, ◌∙◌, subst, List, map, take}
-use Rattle.std.specs.List.{AllByRecursion}
-use Rattle.af_base.specs.Turn.{TakeSeen, take_seen}
+use Rattle.af_judge.proofs.Common.{AllByRecursion, TakeSeen, take_seen}
 use Rattle.af_judge.specs.NormalTold.{AreTaken, IsRightTake}
 use Rattle.af_judge.proofs.NormalTakes.{one_seen, none_yet, one_taken, one_right}
 use Rattle.af_judge.proofs.normal_tells.all_taken.Goals as goal

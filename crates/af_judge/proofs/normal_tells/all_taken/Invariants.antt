@@ -1,6 +1,5 @@
 use Rattle.std.proofs.Common.{◌≡◌, ◌↔◌, IsTrue, length, map, take}
-use Rattle.std.specs.List.{AllByRecursion}
-use Rattle.af_base.specs.Turn.{take_seen}
+use Rattle.af_judge.proofs.Common.{AllByRecursion, take_seen}
 use Rattle.af_judge.specs.NormalTold.{AreTaken, IsRightTake}
 use Rattle.af_judge.proofs.normal_tells.all_taken.Given as goal
 

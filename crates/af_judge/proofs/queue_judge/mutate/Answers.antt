@@ -1,10 +1,8 @@
-use Rattle.std.specs.Prelude.{◌↔◌, IsTrue, slice_index_or}
+use Rattle.std.specs.Prelude.{◌↔◌}
 use Rattle.std.proofs.Common.{◌+◌, ◌⊎◌, false, take, subst, arith}
+use Rattle.af_judge.proofs.Common.{IsTrue, common_steps, get_or_from_slice_get, one, slice_get_within, slice_index_or}
 use Rattle.af_judge.specs.declared.queue_judge.MutatorNumbers.{MutatorNumbers}
 use Rattle.af_judge.specs.declared.queue_judge.MutatorStep.{MutatorStep}
-use Rattle.std.proofs.lemmas.Grind.{common_steps}
-use Rattle.std.proofs.lemmas.Option.{slice_get_within, get_or_from_slice_get}
-use Rattle.af_model.specs.Order.{one}
 use Rattle.af_judge.specs.QueueNumbers.{may_step, mutated, numbers}
 use Rattle.af_judge.proofs.OpenCounts.{opened_more}
 use Rattle.af_judge.proofs.queue_judge.mutate.Goals as goal

@@ -1,7 +1,6 @@
 -- the counts up to `at` are opened, and those after it are as before
 use Rattle.std.proofs.Common.{◌≡◌, ◌↔◌, ◌⊎◌, ℕ, ◌+◌, ◌<◌, take, false, Some, slice_get, slice_index_or}
-use Rattle.std.specs.Prelude.{IsTrue}
-use Rattle.af_model.specs.Order.{one}
+use Rattle.af_judge.proofs.Common.{IsTrue, one}
 use Rattle.af_judge.specs.declared.queue_judge.MutatorStep.{MutatorStep}
 use Rattle.af_judge.specs.QueueNumbers.{may_step, mutated, numbers}
 use Rattle.af_judge.proofs.queue_judge.mutate.Given as goal

@@ -1,7 +1,6 @@
 -- the counts before `at` are passed, and those from it on are as before
 use Rattle.std.proofs.Common.{◌≡◌, ◌↔◌, ℕ, ◌<◌, ◌≤◌, take, false, slice_index_or}
-use Rattle.std.specs.Prelude.{IsTrue}
-use Rattle.af_model.specs.Order.{two}
+use Rattle.af_judge.proofs.Common.{IsTrue, two}
 use Rattle.af_judge.specs.QueueNumbers.{may_step, mutated, numbers}
 use Rattle.af_judge.proofs.queue_judge.observe.Given as goal
 

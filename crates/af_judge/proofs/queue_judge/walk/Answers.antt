@@ -1,6 +1,5 @@
 use Rattle.std.proofs.Common.{◌≡◌, ◌+◌, length, take, subst, sym, refl, arith}
-use Rattle.std.proofs.lemmas.List.{take_more}
-use Rattle.std.proofs.lemmas.Grind.{common_steps}
+use Rattle.af_judge.proofs.Common.{common_steps, take_more}
 use Rattle.af_judge.specs.QueueNumbers.{AreOpenCounts, may_step, mutator_after, observer_after, numbers}
 use Rattle.af_judge.proofs.OpenCounts.{open_first, open_step}
 use Rattle.af_judge.proofs.queue_judge.walk.Goals as goal

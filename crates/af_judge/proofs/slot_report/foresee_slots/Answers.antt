@@ -1,5 +1,5 @@
 use Rattle.std.proofs.Common.{◌≡◌, ℕ, suc, ◌+◌, map, ap, ◌∙◌, arith}
-use Rattle.af_base.specs.Log.{slots}
+use Rattle.af_judge.proofs.Common.{slots}
 use Rattle.af_judge.specs.Foresight.{server_of, slots_foreseen}
 use Rattle.af_judge.proofs.slot_report.foresee_slots.Goals as goal
 

@@ -1,5 +1,5 @@
 use Rattle.std.proofs.Common.{◌≡◌, List, map}
-use Rattle.af_model.specs.Cycles.{Listed}
+use Rattle.af_judge.proofs.Common.{Listed}
 use Rattle.af_judge.specs.Foresight.{server_of, slots_foreseen}
 use Rattle.af_judge.proofs.slot_report.foresee_slots.Given as goal
 

@@ -1,10 +1,5 @@
 use Rattle.std.proofs.Common.{ℕ, arith}
-use Rattle.std.proofs.lemmas.List.FromFn.{fill_by_all}
-use Rattle.af_base.specs.Log.{slots}
-use Rattle.af_life.specs.declared.kept.Heard.{Heard}
-use Rattle.af_life.specs.Heard.{known_by}
-use Rattle.af_life.specs.Kept.{nothing_heard}
-use Rattle.af_model.specs.StateQueue.{slot_of}
+use Rattle.af_judge.proofs.Common.{Heard, fill_by_all, known_by, nothing_heard, slot_of, slots}
 use Rattle.af_judge.specs.Foresight.{server_in}
 use Rattle.af_judge.proofs.slot_report.heard_by.Goals as goal
 

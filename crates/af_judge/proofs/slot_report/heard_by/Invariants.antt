@@ -1,9 +1,5 @@
 use Rattle.std.proofs.Common.{◌≡◌, ℕ, ◌<◌, List, length, map, slice_index_or}
-use Rattle.af_base.specs.Log.{slots}
-use Rattle.af_life.specs.Heard.{known_by}
-use Rattle.af_life.specs.Kept.{nothing_heard}
-use Rattle.af_model.specs.Cycles.{Listed}
-use Rattle.af_model.specs.StateQueue.{slot_of}
+use Rattle.af_judge.proofs.Common.{Listed, known_by, nothing_heard, slot_of, slots}
 use Rattle.af_judge.specs.Foresight.{server_in, server_of}
 use Rattle.af_judge.proofs.slot_report.heard_by.Given as goal
 

@@ -1,8 +1,5 @@
 use Rattle.std.proofs.Common.{◌≡◌, ◌∷◌, [], sym, ap, ◌∙◌}
-use Rattle.std.proofs.lemmas.Grind.{fold-append}
-use Rattle.af_model.specs.declared.shape.Shape.{Shape}
-use Rattle.af_model.specs.Cycles.{kept}
-use Rattle.af_model.specs.ServerCalls.{server_begins, server_keeps}
+use Rattle.af_judge.proofs.Common.{Shape, fold-append, kept, server_begins, server_keeps}
 use Rattle.af_judge.specs.declared.server_judge.ServerJudge.{ServerJudge}
 use Rattle.af_judge.specs.Servers.{server_at}
 use Rattle.af_judge.proofs.slot_report.note.Goals as goal

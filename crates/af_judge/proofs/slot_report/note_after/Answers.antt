@@ -1,7 +1,6 @@
 use Rattle.std.proofs.Common.{ℕ, ◌-◌, [], ◌∷◌, sym, ap, ◌∙◌}
+use Rattle.af_judge.proofs.Common.{Seen, after_look, tally}
 use Rattle.af_base.specs.declared.event.ServerEvent.TheVariants as server
-use Rattle.af_base.specs.declared.seen.Seen.{Seen}
-use Rattle.af_model.specs.Cycles.{after_look, tally}
 use Rattle.af_judge.specs.Foresight.{did_more, server_of}
 use Rattle.af_judge.proofs.MoreDone.{more_done}
 use Rattle.af_judge.proofs.slot_report.note_after.Goals as goal

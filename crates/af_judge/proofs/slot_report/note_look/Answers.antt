@@ -1,8 +1,6 @@
 use Rattle.std.proofs.Common.{List, [], ◌∷◌, ap, ◌∙◌}
-use Rattle.af_base.specs.declared.event.ServerEvent.{ServerEvent}
+use Rattle.af_judge.proofs.Common.{Listed, ServerEvent, drops_of}
 use Rattle.af_base.specs.declared.event.ServerEvent.TheVariants as server
-use Rattle.af_model.specs.Cycles.{Listed}
-use Rattle.af_model.specs.ServerCalls.{drops_of}
 use Rattle.af_judge.specs.Foresight.{did_more, server_of}
 use Rattle.af_judge.proofs.MoreDone.{more_done}
 use Rattle.af_judge.proofs.slot_report.note_look.Goals as goal

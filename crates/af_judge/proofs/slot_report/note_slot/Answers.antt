@@ -1,10 +1,7 @@
-use Rattle.std.specs.Prelude.{is_some, if◌then◌else◌}
+use Rattle.std.specs.Prelude.{if◌then◌else◌}
 use Rattle.std.proofs.Common.{◌≡◌, List, [], ◌∷◌, ◌++◌, ap, ◌∙◌}
-use Rattle.af_base.specs.declared.event.ServerEvent.{ServerEvent}
+use Rattle.af_judge.proofs.Common.{Listed, ServerEvent, after_look, front_of, is_some, kept, look_events}
 use Rattle.af_base.specs.declared.event.ServerEvent.TheVariants as server
-use Rattle.af_model.specs.Cycles.{Listed, after_look, kept}
-use Rattle.af_model.specs.ServerCalls.{look_events}
-use Rattle.af_runs.specs.Fronts.{front_of}
 use Rattle.af_judge.specs.declared.server_judge.ServerJudge.{ServerJudge}
 use Rattle.af_judge.specs.Foresight.{did_more, server_of}
 use Rattle.af_judge.proofs.MoreDone.{more_done}

@@ -1,7 +1,5 @@
 use Rattle.std.proofs.Common.{◌≡◌, ◌↔◌, ◌≤◌, ◌-◌, length}
-use Rattle.std.specs.List.{filter, range_with_len}
-use Rattle.af_life.specs.Kept.{track_at}
-use Rattle.af_life.specs.Plays.{is_mixed_here, mixed_here}
+use Rattle.af_judge.proofs.Common.{filter, is_mixed_here, mixed_here, range_with_len, track_at}
 use Rattle.af_judge.specs.NormalChanges.{tracks_from}
 use Rattle.af_judge.proofs.takes_due.are_mixed_here.Given as goal
 

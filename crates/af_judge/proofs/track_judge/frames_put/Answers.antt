@@ -1,5 +1,5 @@
 use Rattle.std.proofs.Common.{◌∙◌, ap, map}
-use Rattle.af_base.specs.Sample.{packed_word}
+use Rattle.af_judge.proofs.Common.{packed_word}
 use Rattle.af_judge.proofs.TrackKept.{words_from}
 use Rattle.af_judge.proofs.track_judge.frames_put.Goals as goal
 

@@ -1,6 +1,5 @@
 use Rattle.std.proofs.Common.{◌<◌, length, arith}
-use Rattle.std.proofs.lemmas.List.{get_or_default}
-use Rattle.std.proofs.lemmas.Option.{slice_get_within}
+use Rattle.af_judge.proofs.Common.{get_or_default, slice_get_within}
 use Rattle.af_judge.proofs.Placed.{known_more}
 use Rattle.af_judge.proofs.words_judge.unreleased.Goals as goal
 

@@ -1,6 +1,5 @@
 use Rattle.std.proofs.Common.{◌≡◌, take, length}
-use Rattle.std.specs.Prelude.{max}
-use Rattle.std.specs.List.{fold}
+use Rattle.af_life.proofs.Common.{fold, max}
 use Rattle.af_life.proofs.plain.longest.Given as goal
 
 abbrev pub invariant-loop-seen : goal.invariant-loop-seen

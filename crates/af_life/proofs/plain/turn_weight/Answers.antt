@@ -1,8 +1,6 @@
 use Rattle.std.proofs.Common.{◌≡◌, ℕ, refl, List, [], ◌∷◌, length, map, ap, sym, ◌∙◌, ◌+◌, ◌-◌, ◌/◌}
-use Rattle.std.specs.Prelude.{max}
-use Rattle.std.specs.List.{fold}
+use Rattle.af_life.proofs.Common.{fold, max, track_seen}
 use Rattle.af_base.specs.declared.turn.TrackTurn.{TrackTurn}
-use Rattle.af_base.specs.Turn.{track_seen}
 use Rattle.af_life.specs.Small.{turn_weight}
 use Rattle.af_life.proofs.plain.turn_weight.Goals as goal
 

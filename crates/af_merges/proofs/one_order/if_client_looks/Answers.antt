@@ -1,5 +1,5 @@
 use Rattle.std.proofs.Common.{length, refl}
-use Rattle.std.proofs.lemmas.Option.{slice_get_read}
+use Rattle.af_merges.proofs.Common.{slice_get_read}
 use Rattle.af_merges.specs.Stages.{Client, lists_of}
 use Rattle.af_merges.proofs.OneOrder.{is_next, look_next}
 use Rattle.af_merges.proofs.one_order.if_client_looks.Goals as goal

@@ -1,5 +1,5 @@
 use Rattle.std.proofs.Common.{◌∙◌, ◌↔◌, Some, IfOk, IsTrue, subst, sym, rules}
-use Rattle.af_model.specs.declared.point.TrackPoint.{TrackPoint}
+use Rattle.af_merges.proofs.Common.{TrackPoint}
 use Rattle.af_merges.specs.Stages.{Lists, HasWalk, AreShortLists}
 use Rattle.af_merges.specs.MergePieces.{joined}
 use Rattle.af_merges.specs.MergeSearch.{lists_in}

@@ -1,6 +1,5 @@
 use Rattle.std.proofs.Common.{◌↔◌, IsTrue, List, [], ◌∷◌, All, subst, sym}
-use Rattle.std.specs.List.{Contains}
-use Rattle.af_base.proofs.Basics.{all_one}
+use Rattle.af_merges.proofs.Common.{Contains, all_one}
 use Rattle.af_merges.specs.declared.search.Stage.{Stage}
 use Rattle.af_merges.specs.Walks.{IsReached}
 use Rattle.af_merges.specs.MergePieces.{IsOpen}

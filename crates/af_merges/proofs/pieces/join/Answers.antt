@@ -1,5 +1,5 @@
 use Rattle.std.proofs.Common.{arith, refl, length, take, ap, ◌∙◌, ◌≡◌, ◌==◌, List, subst, Option}
-use Rattle.std.proofs.Math.Seq.{take-length}
+use Rattle.af_merges.proofs.Common.{take-length}
 use Rattle.af_merges.specs.declared.search.Stage.{Stage}
 use Rattle.af_merges.specs.Walks.{Collects, Adds}
 use Rattle.af_merges.specs.Stages.{HasCount, count}

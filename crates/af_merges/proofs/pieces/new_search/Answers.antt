@@ -1,5 +1,5 @@
 use Rattle.std.proofs.Common.{subst, sym}
-use Rattle.std.proofs.lemmas.Bool.{false≢true}
+use Rattle.af_merges.proofs.Common.{false≢true}
 use Rattle.af_merges.specs.MergeSearch.{IsOnAnOrder}
 use Rattle.af_merges.proofs.OneOrder.{order_first}
 use Rattle.af_merges.proofs.pieces.new_search.Goals as goal

@@ -1,6 +1,5 @@
 use Rattle.std.proofs.Common.{◌≡◌, ◌↔◌, subst, sym, IsTrue, All, length, rules}
-use Rattle.std.specs.List.{Contains}
-use Rattle.af_model.specs.declared.point.TrackPoint.{TrackPoint}
+use Rattle.af_merges.proofs.Common.{Contains, TrackPoint}
 use Rattle.af_merges.specs.declared.search.Stage.{Stage}
 use Rattle.af_merges.specs.Walks.{IsReached}
 use Rattle.af_merges.specs.Stages.{Lists, eager, IsWhole, InBounds}

@@ -1,5 +1,5 @@
 use Rattle.std.proofs.Common.{length, take, arith, ◌≡◌, subst, refl, List, ap, ◌∙◌}
-use Rattle.std.proofs.Math.Seq.{take-length}
+use Rattle.af_merges.proofs.Common.{take-length}
 use Rattle.af_merges.specs.declared.search.Stage.{Stage}
 use Rattle.af_merges.specs.Walks.{IsNext}
 use Rattle.af_merges.specs.Stages.{eager, lists_of}

@@ -1,9 +1,9 @@
 use Rattle.std.proofs.Common.{arith, ◌∙◌, ◌+◌, sym, ap}
+use Rattle.af_merges.proofs.Common.{HandEvent}
 use Rattle.af_merges.specs.MergePieces.{names_at_least}
 use Rattle.af_merges.specs.Rising.{rises_from}
 use Rattle.af_merges.proofs.MetTests.{client-kept, drop_past}
 use Rattle.af_merges.proofs.Rising.{rises-drop}
-use Rattle.af_base.specs.declared.event.HandEvent.{HandEvent}
 use Rattle.std.proofs.Common.{List, ◌≡◌, true, subst}
 use Rattle.af_merges.proofs.search.keeps_client.Goals as goal
 

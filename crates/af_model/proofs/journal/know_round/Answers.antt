@@ -1,8 +1,5 @@
 use Rattle.std.proofs.Common.{◌≡◌, Option, subst, rules}
-use Rattle.std.specs.Prelude.{All, MatchOption}
-use Rattle.std.specs.Option.{option_map}
-use Rattle.std.proofs.lemmas.List.Elements.{All-map}
-use Rattle.af_base.specs.Turn.{Turn, turn_of}
+use Rattle.af_model.proofs.Common.{All, All-map, MatchOption, Turn, option_map, turn_of}
 use Rattle.af_model.specs.Numbers.{FitsTurn, FitsCall}
 use Rattle.af_model.proofs.journal.know_round.Goals as goal
 

@@ -1,8 +1,5 @@
 use Rattle.std.proofs.Common.{length, List, ap, ◌∙◌}
-use Rattle.af_base.specs.declared.frame.Frame.{Frame}
-use Rattle.af_base.specs.declared.log.CycleEntry.{CycleEntry}
-use Rattle.af_base.specs.Log.{takes_of}
-use Rattle.af_base.specs.Mix.{Take, mix}
+use Rattle.af_model.proofs.Common.{CycleEntry, Frame, Take, mix, takes_of}
 use Rattle.af_model.proofs.mixing.mix_entry.Goals as goal
 
 pub returns : goal.returns

@@ -1,6 +1,5 @@
 use Rattle.std.proofs.Common.{◌≡◌, ℕ, ◌<◌, map}
-use Rattle.af_base.specs.Mix.{mixed_frame, frame_at}
-use Rattle.af_base.specs.Part.{take_of}
+use Rattle.af_model.proofs.Common.{frame_at, mixed_frame, take_of}
 use Rattle.af_model.proofs.mixing.mix_plainly.Given as goal
 
 abbrev pub invariant-loop-at : goal.invariant-loop-at

@@ -1,11 +1,7 @@
 use Rattle.std.proofs.Common.{◌≡◌, ℕ, map, length, List, slice_index_or, slice_set, replicate, refl, sym, ap, subst, ◌∙◌, length-set, arith}
-use Rattle.std.proofs.lemmas.List.{length-map, map-set}
+use Rattle.af_model.proofs.Common.{Take, fill_by_all, length-map, map-set, no_part, slot_take, slots, take_of}
 use Rattle.std.proofs.lemmas.List.Edits.{fill_by_more}
-use Rattle.std.proofs.lemmas.List.FromFn.{fill_by_all}
 use Rattle.af_base.specs.declared.plain.Part.{Part}
-use Rattle.af_base.specs.Log.{slots, slot_take}
-use Rattle.af_base.specs.Mix.{Take}
-use Rattle.af_base.specs.Part.{take_of, no_part}
 use Rattle.af_model.proofs.mixing.parts_of.Goals as goal
 
 pub loop-slot-init : goal.loop-slot-init

@@ -1,6 +1,5 @@
 use Rattle.std.proofs.Common.{◌≡◌, ℕ, ◌<◌, length, map, slice_index_or}
-use Rattle.af_base.specs.Log.{slots, slot_take}
-use Rattle.af_base.specs.Part.{take_of, no_part}
+use Rattle.af_model.proofs.Common.{no_part, slot_take, slots, take_of}
 use Rattle.af_model.proofs.mixing.parts_of.Given as goal
 
 abbrev pub invariant-loop-slot : goal.invariant-loop-slot

@@ -1,7 +1,5 @@
 use Rattle.std.proofs.Common.{subst, arith}
-use Rattle.std.specs.Prelude.{All}
-use Rattle.std.proofs.lemmas.List.{take_all}
-use Rattle.std.proofs.lemmas.List.Elements.{All-more}
+use Rattle.af_model.proofs.Common.{All, All-more, take_all}
 use Rattle.af_model.specs.Numbers.{FitsCall}
 use Rattle.af_model.proofs.numbers.know_calls.Goals as goal
 

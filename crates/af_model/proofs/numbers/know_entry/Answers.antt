@@ -1,7 +1,5 @@
 use Rattle.std.proofs.Common.{◌≡◌, ◌⊎◌, inl, inr, ℕ, ◌+◌, ◌<◌, ◌^◌, slice_index_or, subst, sym, arith, rules}
-use Rattle.std.proofs.lemmas.Bool.{cases_eq}
-use Rattle.af_base.specs.declared.log.CycleEntry.{CycleEntry}
-use Rattle.af_base.specs.Log.{entry_slot}
+use Rattle.af_model.proofs.Common.{CycleEntry, cases_eq, entry_slot}
 use Rattle.af_model.specs.Numbers.{FitsSlot}
 use Rattle.af_model.proofs.numbers.know_entry.Goals as goal
 

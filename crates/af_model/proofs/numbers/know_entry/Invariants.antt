@@ -1,5 +1,5 @@
-use Rattle.std.specs.Prelude.{ℕ, ◌<◌, ◌^◌, slice_index_or}
-use Rattle.af_base.specs.Log.{entry_slot}
+use Rattle.af_model.proofs.Common.{entry_slot, slice_index_or, ℕ}
+use Rattle.std.specs.Prelude.{◌<◌, ◌^◌}
 use Rattle.af_model.specs.Numbers.{FitsSlot}
 use Rattle.af_model.proofs.numbers.know_entry.Given as goal
 

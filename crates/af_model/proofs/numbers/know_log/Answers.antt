@@ -1,8 +1,5 @@
 use Rattle.std.proofs.Common.{◌≡◌, ◌<◌, length, subst, arith, rules}
-use Rattle.std.specs.Prelude.{All}
-use Rattle.std.proofs.lemmas.List.{take_all}
-use Rattle.std.proofs.lemmas.List.Elements.{All-more}
-use Rattle.af_base.specs.Log.{entry_at, no_entry}
+use Rattle.af_model.proofs.Common.{All, All-more, entry_at, no_entry, take_all}
 use Rattle.af_model.specs.Numbers.{FitsEntry}
 use Rattle.af_model.proofs.numbers.know_log.Goals as goal
 

@@ -1,5 +1,5 @@
 use Rattle.std.proofs.Common.{take}
-use Rattle.std.specs.Prelude.{All}
+use Rattle.af_model.proofs.Common.{All}
 use Rattle.af_model.specs.Numbers.{FitsLook}
 use Rattle.af_model.proofs.numbers.know_looks.Given as goal
 

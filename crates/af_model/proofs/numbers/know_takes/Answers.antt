@@ -1,9 +1,5 @@
 use Rattle.std.proofs.Common.{subst, arith}
-use Rattle.std.specs.Prelude.{All}
-use Rattle.std.proofs.lemmas.List.{take_all}
-use Rattle.std.proofs.lemmas.List.Elements.{All-more}
-use Rattle.af_base.specs.declared.turn.NormalTake.{NormalTake}
-use Rattle.af_base.specs.Turn.{take_seen}
+use Rattle.af_model.proofs.Common.{All, All-more, NormalTake, take_all, take_seen}
 use Rattle.af_model.specs.Numbers.{FitsTake}
 use Rattle.af_model.proofs.numbers.know_takes.Goals as goal
 

@@ -1,7 +1,5 @@
 use Rattle.std.proofs.Common.{take}
-use Rattle.std.specs.Prelude.{All}
-use Rattle.af_base.specs.declared.turn.NormalTake.{NormalTake}
-use Rattle.af_base.specs.Turn.{take_seen}
+use Rattle.af_model.proofs.Common.{All, NormalTake, take_seen}
 use Rattle.af_model.specs.Numbers.{FitsTake}
 use Rattle.af_model.proofs.numbers.know_takes.Given as goal
 

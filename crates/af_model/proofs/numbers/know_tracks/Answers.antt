@@ -1,9 +1,5 @@
 use Rattle.std.proofs.Common.{subst, arith}
-use Rattle.std.specs.Prelude.{All}
-use Rattle.std.proofs.lemmas.List.{take_all}
-use Rattle.std.proofs.lemmas.List.Elements.{All-more}
-use Rattle.af_base.specs.declared.turn.TrackTurn.{TrackTurn}
-use Rattle.af_base.specs.Turn.{track_seen}
+use Rattle.af_model.proofs.Common.{All, All-more, TrackTurn, take_all, track_seen}
 use Rattle.af_model.specs.Numbers.{FitsTrack}
 use Rattle.af_model.proofs.numbers.know_tracks.Goals as goal
 

@@ -1,7 +1,5 @@
 use Rattle.std.proofs.Common.{take}
-use Rattle.std.specs.Prelude.{All}
-use Rattle.af_base.specs.declared.turn.TrackTurn.{TrackTurn}
-use Rattle.af_base.specs.Turn.{track_seen}
+use Rattle.af_model.proofs.Common.{All, TrackTurn, track_seen}
 use Rattle.af_model.specs.Numbers.{FitsTrack}
 use Rattle.af_model.proofs.numbers.know_tracks.Given as goal
 

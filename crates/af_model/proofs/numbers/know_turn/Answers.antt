@@ -1,9 +1,5 @@
 use Rattle.std.proofs.Common.{subst}
-use Rattle.std.specs.Prelude.{All}
-use Rattle.std.proofs.lemmas.List.Elements.{All-map}
-use Rattle.af_base.specs.declared.turn.NormalTake.{NormalTake}
-use Rattle.af_base.specs.declared.turn.TrackTurn.{TrackTurn}
-use Rattle.af_base.specs.Turn.{take_seen, track_seen}
+use Rattle.af_model.proofs.Common.{All, All-map, NormalTake, TrackTurn, take_seen, track_seen}
 use Rattle.af_model.specs.Numbers.{FitsTake, FitsTrack}
 use Rattle.af_model.proofs.numbers.know_turn.Goals as goal
 

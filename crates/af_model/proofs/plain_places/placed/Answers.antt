@@ -1,5 +1,5 @@
 use Rattle.std.proofs.Common.{◌<◌, arith, sym, ◌∙◌, false, length, map}
-use Rattle.std.proofs.lemmas.List.{ext_get_or, get_or-map, length-map}
+use Rattle.af_model.proofs.Common.{ext_get_or, get_or-map, length-map}
 use Rattle.af_model.specs.declared.plain_calls.Place.TheVariants.{Nowhere}
 use Rattle.af_model.specs.PlainQueue.{is_placed}
 use Rattle.af_model.proofs.plain_places.placed.Goals as goal

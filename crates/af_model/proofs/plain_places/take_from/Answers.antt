@@ -1,5 +1,5 @@
 use Rattle.std.proofs.Common.{ap, ◌∙◌, List, slice_set}
-use Rattle.std.proofs.lemmas.List.{set-set}
+use Rattle.af_model.proofs.Common.{set-set}
 use Rattle.af_model.specs.declared.plain_calls.Place.{Place}
 use Rattle.af_model.specs.PlainQueue.{left}
 use Rattle.af_model.proofs.plain_places.take_from.Goals as goal

@@ -1,8 +1,7 @@
 use Rattle.std.proofs.Common.{◌≡◌, ℕ, ◌*◌, ◌≤◌, [], ◌∷◌, ◌++◌, length, refl, ap, ◌∙◌, subst, arith}
+use Rattle.af_nblog.proofs.Common.{InSide, Made, OutSide}
 use Rattle.af_base.specs.declared.event.ClientEvent.TheVariants as client
 use Rattle.af_base.specs.declared.event.ServerEvent.TheVariants as server
-use Rattle.af_cblk.specs.Sides.{Made}
-use Rattle.af_link.specs.PipeEnds.{InSide, OutSide}
 use Rattle.af_nblog.specs.Notes.{notes_in}
 use Rattle.af_nblog.specs.NoteEnds.{WriterState, ReaderState, IsNoting, IsReading, accepted, read}
 use Rattle.af_nblog.proofs.Spelling.{in_order}

@@ -1,6 +1,5 @@
 use Rattle.std.proofs.Common.{refl, ap, ◌∙◌}
-use Rattle.af_cblk.specs.declared.view.ClientPart.{ClientPart}
-use Rattle.af_cblk.specs.declared.view.ServerPart.{ServerPart}
+use Rattle.af_nblog.proofs.Common.{ClientPart, ServerPart}
 use Rattle.af_nblog.specs.Notes.{notes_in}
 use Rattle.af_nblog.proofs.Spelling.{none_spelled}
 use Rattle.af_nblog.proofs.Noting.{new_noting}

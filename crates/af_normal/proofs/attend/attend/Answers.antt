@@ -1,15 +1,5 @@
 use Rattle.std.proofs.Common.{rules, ◌≡◌, ℕ, ◌++◌, [], Bool, ap, ◌∙◌, subst, List, append_assoc, append-nil}
-use Rattle.af_base.specs.declared.event.ServerEvent.{ServerEvent}
-use Rattle.af_base.specs.declared.turn.CommandLook.{CommandLook}
-use Rattle.af_cblk.specs.Rule.{StartsWith}
-use Rattle.af_life.specs.declared.kept.TrackKept.{TrackKept}
-use Rattle.af_life.specs.declared.track.Life.{Life}
-use Rattle.af_life.specs.Looks.{all_command_events, words_taken}
-use Rattle.af_life.specs.Reports.{by_report}
-use Rattle.af_life.specs.Serves.{is_found_shut, status_word, after_part}
-use Rattle.af_life.specs.TurnEvents.{status_events}
-use Rattle.af_server.specs.Order.{ServerState}
-use Rattle.af_server.specs.Slot.{listed}
+use Rattle.af_normal.proofs.Common.{CommandLook, Life, ServerEvent, ServerState, StartsWith, TrackKept, after_part, all_command_events, by_report, is_found_shut, listed, status_events, status_word, words_taken}
 use Rattle.af_normal.specs.Serving.{Adds, Recalls, shut_events}
 use Rattle.af_normal.proofs.attend.attend.Goals as goal
 

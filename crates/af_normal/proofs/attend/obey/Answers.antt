@@ -1,5 +1,5 @@
 use Rattle.std.proofs.Common.{sym, subst, List}
-use Rattle.af_base.specs.declared.turn.CommandLook.{CommandLook}
+use Rattle.af_normal.proofs.Common.{CommandLook}
 use Rattle.af_normal.specs.Commands.{LooksMade}
 use Rattle.af_normal.proofs.OneMore.{begin_made}
 use Rattle.af_normal.proofs.attend.obey.Goals as goal

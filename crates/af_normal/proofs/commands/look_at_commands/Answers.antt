@@ -1,8 +1,5 @@
 use Rattle.std.proofs.Common.{◌≡◌, ◌+◌, ◌≤◌, true, ℕ, length, List, [], ◌∷◌, ◌++◌, sym, ap, ◌∙◌, subst, length-append, arith}
-use Rattle.af_base.specs.declared.turn.CommandLook.{CommandLook}
-use Rattle.af_life.specs.declared.kept.TrackKept.{TrackKept}
-use Rattle.af_life.specs.Obeys.{after_look, after_looks, are_due, all_go_on, goes_on}
-use Rattle.af_life.proofs.LooksSoFar.{after_all}
+use Rattle.af_normal.proofs.Common.{CommandLook, TrackKept, after_all, after_look, after_looks, all_go_on, are_due, goes_on}
 use Rattle.af_normal.specs.Commands.{LooksMade}
 use Rattle.af_normal.proofs.OneMore.{push_made, one_more, last_due, all_due, all_after, still_on, after-push, settles_one}
 use Rattle.af_normal.proofs.commands.look_at_commands.Goals as goal

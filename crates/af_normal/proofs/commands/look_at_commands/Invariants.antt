@@ -1,7 +1,5 @@
 use Rattle.std.proofs.Common.{◌≡◌, ◌+◌, ◌≤◌, true, length}
-use Rattle.af_server.specs.Order.{IsServerOf}
-use Rattle.af_life.specs.Obeys.{all_go_on}
-use Rattle.af_life.proofs.LooksSoFar.{after_all}
+use Rattle.af_normal.proofs.Common.{IsServerOf, after_all, all_go_on}
 use Rattle.af_normal.specs.Commands.{LooksMade}
 use Rattle.af_normal.proofs.commands.look_at_commands.Given as goal
 

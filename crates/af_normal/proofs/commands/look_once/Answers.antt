@@ -1,10 +1,7 @@
 use Rattle.std.proofs.Common.{◌≡◌, ◌≢◌, ℕ, ◌∷◌, ◌++◌, [], false, refl, sym, ap, ◌∙◌, List, length, arith}
-use Rattle.std.specs.Prelude.{◌==◌, slice_index_or}
+use Rattle.af_normal.proofs.Common.{CommandLook, Frame, Made, packed_word, slice_index_or}
+use Rattle.std.specs.Prelude.{◌==◌}
 use Rattle.af_base.specs.declared.event.ServerEvent.TheVariants as server
-use Rattle.af_base.specs.declared.turn.CommandLook.{CommandLook}
-use Rattle.af_base.specs.declared.frame.Frame.{Frame}
-use Rattle.af_base.specs.Sample.{packed_word}
-use Rattle.af_cblk.specs.Sides.{Made}
 use Rattle.af_normal.proofs.Looked.{looked, missed, taken, shown_two, two_words}
 use Rattle.af_normal.proofs.commands.look_once.Goals as goal
 

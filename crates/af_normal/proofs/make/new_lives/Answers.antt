@@ -1,5 +1,5 @@
 use Rattle.std.proofs.Common.{◌∙◌, replicate, ap}
-use Rattle.af_life.specs.declared.kept.TrackKept.{TrackKept}
+use Rattle.af_normal.proofs.Common.{TrackKept}
 use Rattle.af_normal.proofs.make.new_lives.Goals as goal
 
 pub returns-clause-tracks : goal.returns-clause-tracks

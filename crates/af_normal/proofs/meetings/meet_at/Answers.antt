@@ -1,7 +1,5 @@
 use Rattle.std.proofs.Common.{◌≡◌, ◌<◌, length, slice_set, Some, None, refl, sym, ap, ◌∙◌, length-set, arith}
-use Rattle.std.proofs.lemmas.Option.{slice_get-get_or}
-use Rattle.af_base.proofs.Basics.{get_set_other, get_set_same, some_same}
-use Rattle.af_cblk.specs.Sides.{HandSide, hand_made}
+use Rattle.af_normal.proofs.Common.{HandSide, get_set_other, get_set_same, hand_made, slice_get-get_or, some_same}
 use Rattle.af_normal.proofs.MetTrack.{command_ready, stream_ready, client_ready, hand_ready, stream_within, command_within, own_after, met_after, no_hand}
 use Rattle.af_normal.proofs.meetings.meet_at.Goals as goal
 

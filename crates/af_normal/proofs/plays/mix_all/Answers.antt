@@ -1,11 +1,5 @@
 use Rattle.std.proofs.Common.{◌≡◌, ℕ, suc, ◌+◌, ◌^◌, ◌<◌, ◌≢◌, List, [], length, slice_index_or, MatchOption, refl, sym, ap, subst, ◌∙◌, arith}
-use Rattle.std.proofs.lemmas.List.{get_or_default}
-use Rattle.std.proofs.lemmas.List.Elements.{All-get_or}
-use Rattle.af_cblk.specs.Sides.{Made}
-use Rattle.af_server.specs.Order.{IsServerOf}
-use Rattle.af_life.specs.declared.kept.TrackKept.{TrackKept}
-use Rattle.af_life.specs.Kept.{new_track}
-use Rattle.af_life.specs.Small.{AreUpTo}
+use Rattle.af_normal.proofs.Common.{All-get_or, AreUpTo, IsServerOf, Made, TrackKept, get_or_default, new_track}
 use Rattle.af_normal.specs.Mixing.{Mixing, MixesTrack, MixesTo, stream_at}
 use Rattle.af_normal.specs.AllMixed.{HasTakes}
 use Rattle.af_normal.proofs.DueTracks.{mixing, other_track, same_there, still_home, still_servers}

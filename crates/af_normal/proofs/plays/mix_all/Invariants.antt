@@ -1,6 +1,5 @@
 use Rattle.std.proofs.Common.{◌≡◌, ℕ, ◌≤◌, [], length, map, is_some}
-use Rattle.af_base.specs.Turn.{take_seen}
-use Rattle.af_life.specs.Kept.{track_at}
+use Rattle.af_normal.proofs.Common.{take_seen, track_at}
 use Rattle.af_normal.specs.Mixing.{MixesTo}
 use Rattle.af_normal.specs.AllMixed.{AreHome, AreServersOf, HasTakes}
 use Rattle.af_normal.proofs.plays.mix_all.Given as goal

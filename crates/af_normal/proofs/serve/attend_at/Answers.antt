@@ -1,10 +1,6 @@
 use Rattle.std.proofs.Common.{Option, None, refl, subst, arith}
-use Rattle.std.proofs.lemmas.List.{get_or_default}
-use Rattle.std.proofs.lemmas.Option.{slice_get-get_or}
-use Rattle.af_base.specs.Turn.{track_seen}
-use Rattle.af_server.specs.Order.{ServerState}
+use Rattle.af_normal.proofs.Common.{ServerState, get_or_default, slice_get-get_or, slice_index_or, track_seen}
 use Rattle.af_normal.specs.Serving.{Attends}
-use Rattle.std.specs.Prelude.{slice_index_or}
 use Rattle.af_normal.proofs.Owned.{command_of, stream_of, hand_of_track, own_after}
 use Rattle.af_normal.proofs.serve.attend_at.Goals as goal
 

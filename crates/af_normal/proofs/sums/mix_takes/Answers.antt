@@ -1,8 +1,5 @@
 use Rattle.std.proofs.Common.{◌≡◌, ◌<◌, ◌≤◌, ℕ, length, map, take, All, List, slice_index_or, replicate, refl, sym, ap, subst, ◌∙◌, length-set, arith}
-use Rattle.af_base.specs.declared.plain.Part.{Part}
-use Rattle.af_base.specs.Mix.{Take, mix}
-use Rattle.af_base.specs.Part.{take_of as take_of_part, no_part}
-use Rattle.af_life.specs.declared.kept.Setting.{Setting}
+use Rattle.af_normal.proofs.Common.{Part, Setting, Take, mix, no_part, take_of as take_of_part}
 use Rattle.af_normal.proofs.Given.{no_take, setup_of, given, put_is, read_take, given_more, parts_are, parts_fit}
 use Rattle.af_normal.proofs.sums.mix_takes.Goals as goal
 

@@ -1,6 +1,5 @@
 use Rattle.std.proofs.Common.{◌≡◌, ℕ, List, ◌++◌, [], ◌∷◌, length, reverse, take, drop, sym, ap, ◌∙◌, arith, length-append}
-use Rattle.std.proofs.lemmas.List.{nil_from_length, take-append-le, drop-append-le}
-use Rattle.af_base.specs.Roomy.{Roomy}
+use Rattle.af_normal.proofs.Common.{Roomy, drop-append-le, nil_from_length, take-append-le}
 use Rattle.af_normal.proofs.Beginning.{one_back, all_back}
 use Rattle.af_normal.proofs.turn.give_back.Goals as goal
 

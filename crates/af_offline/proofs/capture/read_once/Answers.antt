@@ -1,6 +1,5 @@
 use Rattle.std.proofs.Common.{◌≡◌, ℕ, List, ◌++◌, length, min, take, drop, ap, ap₂, sym, ◌∙◌, arith}
-use Rattle.std.specs.List.{flat_map}
-use Rattle.af_record.specs.InStep.{HandState}
+use Rattle.af_offline.proofs.Common.{HandState, flat_map}
 use Rattle.af_offline.specs.Captured.{word_bytes}
 use Rattle.af_offline.proofs.Taped.{read_bytes, take_least, drop_least}
 use Rattle.af_offline.proofs.capture.read_once.Goals as goal

@@ -1,8 +1,5 @@
 use Rattle.std.proofs.Common.{◌≡◌, ℕ, List, length, map, ap, ◌∙◌, arith}
-use Rattle.std.proofs.lemmas.List.{length-map}
-use Rattle.std.specs.List.{flat_map}
-use Rattle.af_base.specs.declared.frame.Frame.{Frame}
-use Rattle.af_base.specs.Sample.{packed_word}
+use Rattle.af_offline.proofs.Common.{Frame, flat_map, length-map, packed_word}
 use Rattle.af_offline.specs.Captured.{state_of, word_bytes}
 use Rattle.af_offline.specs.Recorded.{Recording, heard, periods, recorded}
 use Rattle.af_offline.proofs.Taped.{in_words, bytes_of_words, recorded_words, heard_words}

@@ -1,7 +1,5 @@
 use Rattle.std.proofs.Common.{◌≡◌, ◌∙◌, ◌≤◌, ◌<◌, ℕ, List, Some, sym, ap, subst, arith, rules}
-use Rattle.af_io.specs.Files.{SetsFile, LeavesFront}
-use Rattle.af_io.specs.Outputs.{NamedFile, with_files}
-use Rattle.af_script.specs.Generated.{generated_name}
+use Rattle.af_offline.proofs.Common.{LeavesFront, NamedFile, SetsFile, generated_name, with_files}
 use Rattle.af_offline.specs.Generated.{generated_file}
 use Rattle.af_offline.proofs.Draws.{drawn_none, file_is, state_is}
 use Rattle.af_offline.proofs.Generated.{count_stays, drawn_before, drawn_files-none, drawn_more, drawn_up_to}

@@ -1,5 +1,5 @@
 use Rattle.std.proofs.Common.{◌≡◌, ◌<◌, ◌^◌}
-use Rattle.af_io.specs.Outputs.{SetsFiles}
+use Rattle.af_offline.proofs.Common.{SetsFiles}
 use Rattle.af_offline.specs.Generated.{drawn, drawn_files}
 use Rattle.af_offline.proofs.generating.write_drawn.Given as goal
 use Rattle.std.specs.Prelude.{◌/◌, ◌+◌, ◌*◌}

@@ -1,6 +1,5 @@
 use Rattle.std.proofs.Common.{◌≡◌, ◌∙◌, ℕ, List, ◌++◌, OnErr, ap, subst}
-use Rattle.af_io.specs.Files.{LeavesFront}
-use Rattle.af_script.specs.Printing.{printed_script}
+use Rattle.af_offline.proofs.Common.{LeavesFront, printed_script}
 use Rattle.af_offline.proofs.generating.write_script.Goals as goal
 
 pub returns-clause-left : goal.returns-clause-left

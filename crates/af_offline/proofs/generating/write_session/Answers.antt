@@ -1,7 +1,5 @@
 use Rattle.std.proofs.Common.{Some, subst, rules}
-use Rattle.af_io.specs.Files.{SetsFile, LeavesFront}
-use Rattle.af_script.specs.Data.{ScriptData}
-use Rattle.af_script.specs.Printing.{printed_script}
+use Rattle.af_offline.proofs.Common.{LeavesFront, ScriptData, SetsFile, printed_script}
 use Rattle.af_offline.proofs.Generated.{script_missing, script_more, script_next, script_unwritten}
 use Rattle.af_offline.proofs.generating.write_session.Goals as goal
 

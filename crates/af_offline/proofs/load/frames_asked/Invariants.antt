@@ -1,5 +1,5 @@
 use Rattle.std.proofs.Common.{◌≡◌, ◌≤◌, ◌*◌, take}
-use Rattle.af_party.specs.Works.{frames_to_come}
+use Rattle.af_offline.proofs.Common.{frames_to_come}
 use Rattle.af_offline.proofs.load.frames_asked.Given as goal
 
 abbrev pub invariant-loop-i : goal.invariant-loop-i

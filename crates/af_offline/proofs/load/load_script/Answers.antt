@@ -1,10 +1,7 @@
 use Rattle.std.proofs.Common.{◌≡◌, ◌∙◌, List, ℕ, Result, ap, sym, subst}
-use Rattle.af_io.proofs.Basics.{files_are}
-use Rattle.af_io.specs.Files.{Files}
-use Rattle.af_script.specs.Data.{ScriptData}
+use Rattle.af_offline.proofs.Common.{Files, ScriptData, Session as Loaded, files_are}
 use Rattle.af_script.specs.Reading.{script_of}
 use Rattle.af_offline.specs.declared.status.Refusal.{Refusal}
-use Rattle.af_runs.specs.Sessions.{Session as Loaded}
 use Rattle.af_offline.specs.Asked.{◌>>=◌, loaded_of, script_or, session_of}
 use Rattle.af_offline.specs.Loading.{loaded_view}
 use Rattle.af_offline.specs.Status.{Meets}

@@ -1,7 +1,5 @@
 use Rattle.std.proofs.Common.{◌≡◌, ◌∙◌, ◌+◌, ◌≤◌, ◌<◌, ℕ, List, Ok, Err, length, arith, ap, subst, sym}
-use Rattle.af_base.specs.declared.frame.Frame.{Frame}
-use Rattle.af_script.specs.declared.op.Op.{Op}
-use Rattle.af_party.specs.Works.{frames_to_come}
+use Rattle.af_offline.proofs.Common.{Frame, Op, frames_to_come}
 use Rattle.af_offline.specs.Asked.{enough_of, frames_in, loaded, most_file, track_in}
 use Rattle.af_offline.specs.Loading.{file_view}
 use Rattle.af_offline.specs.Status.{Meets}

@@ -1,7 +1,5 @@
 use Rattle.std.proofs.Common.{◌≡◌, ◌∙◌, ◌<◌, List, Ok, Err, Result, Vec, Global, length, arith, subst, sym}
-use Rattle.af_base.specs.declared.frame.Frame.{Frame}
-use Rattle.af_io.proofs.Basics.{files_are}
-use Rattle.af_io.specs.Files.{Files}
+use Rattle.af_offline.proofs.Common.{Files, Frame, files_are}
 use Rattle.af_offline.specs.Asked.{track_in, tracks_in}
 use Rattle.af_offline.specs.Loading.{file_view}
 use Rattle.af_offline.specs.Status.{HasFault, Meets}

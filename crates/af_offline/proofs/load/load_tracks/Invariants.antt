@@ -1,5 +1,5 @@
 use Rattle.std.proofs.Common.{◌≡◌, ◌≤◌, drop, take}
-use Rattle.af_io.specs.Files.{SameFiles}
+use Rattle.af_offline.proofs.Common.{SameFiles}
 use Rattle.af_offline.specs.Asked.{tracks_in}
 use Rattle.af_offline.proofs.Chains.{behind}
 use Rattle.af_offline.specs.Loading.{AreServed}

@@ -1,5 +1,5 @@
 use Rattle.std.proofs.Common.{◌≡◌, ℕ, ◌+◌, ◌<◌, [], ◌∷◌, ◌++◌, is_some, length, sym, ap, subst, ◌∙◌, arith}
-use Rattle.af_static.specs.Calls.{CallsPlay, standing_in}
+use Rattle.af_offline.proofs.Common.{CallsPlay, standing_in}
 use Rattle.af_static.specs.InStep.{HandState}
 use Rattle.af_offline.proofs.Rolling.{on_again}
 use Rattle.af_offline.proofs.looping.play_calls.Goals as goal

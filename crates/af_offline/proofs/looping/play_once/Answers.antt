@@ -1,7 +1,5 @@
 use Rattle.std.proofs.Common.{◌≡◌, ℕ, ◌+◌, [], ◌∷◌, ◌++◌, length, ap, subst, ◌∙◌}
-use Rattle.af_static.specs.Calls.{CallsPlay, standing_in}
-use Rattle.af_static.specs.Loops.{shut_by}
-use Rattle.af_static.specs.declared.setting.Setting.{Setting}
+use Rattle.af_offline.proofs.Common.{CallsPlay, Setting, shut_by, standing_in}
 use Rattle.af_static.specs.declared.ends.Unrolled.{Unrolled}
 use Rattle.af_offline.proofs.Rolling.{used_is, next_setting-stays}
 use Rattle.af_offline.proofs.looping.play_once.Goals as goal

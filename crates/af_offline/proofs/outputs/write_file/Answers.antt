@@ -1,5 +1,5 @@
 use Rattle.std.proofs.Common.{List, ℕ, [], append-nil, sym, rules}
-use Rattle.af_io.specs.Files.{AddsFront, LeavesFront}
+use Rattle.af_offline.proofs.Common.{AddsFront, LeavesFront}
 use Rattle.af_io.proofs.Steps.{AddsFront-append, LeavesFront-added}
 use Rattle.af_offline.proofs.outputs.write_file.Goals as goal
 

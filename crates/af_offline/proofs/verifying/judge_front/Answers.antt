@@ -1,7 +1,5 @@
 use Rattle.std.proofs.Common.{rules, length}
-use Rattle.af_audit.specs.Verdicts.{IsVerdict}
-use Rattle.af_journal.specs.Beginnings.{IsFrontOf}
-use Rattle.af_journal.specs.Judged.{most_judged}
+use Rattle.af_offline.proofs.Common.{IsFrontOf, IsVerdict, most_judged}
 use Rattle.af_offline.specs.Asked as asked
 use Rattle.af_offline.specs.Verified.{Tells, case_view}
 use Rattle.af_offline.proofs.Verified.{front_judged}

@@ -1,12 +1,9 @@
 use Rattle.std.proofs.Common.{ℕ, Some, inl, refl, subst}
+use Rattle.af_playing.proofs.Common.{BeginsLog, HasLogOf, Played, on_err, on_ok}
 use Rattle.std.proofs.lemmas.Result.{IfOk-from_err}
-use Rattle.af_base.proofs.Basics.{on_ok}
 use Rattle.af_playing.specs.declared.answering.PlayFault.TheVariants as fault
-use Rattle.af_rendering.specs.declared.rendering.Played.{Played}
-use Rattle.af_side_by_side.specs.Logging.{BeginsLog, HasLogOf}
 use Rattle.af_playing.proofs.InTime.{ends_in_time}
 use Rattle.af_playing.proofs.KeptPlays.{IsHandedOn, cause_on, files_none, files_on, handed_by, keeps_none, keeps_on, kept_by, steps_none, steps_on, told_by}
-use Rattle.af_rendering.proofs.Outgoing.{on_err}
 use Rattle.af_playing.proofs.PlayCauses.{cause_memory}
 use Rattle.af_playing.proofs.play_of_all.play_logged.Goals as goal
 

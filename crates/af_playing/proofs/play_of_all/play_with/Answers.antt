@@ -1,10 +1,6 @@
 use Rattle.std.proofs.Common.{◌≡◌, Err, inl, refl, ap}
-use Rattle.af_base.proofs.Basics.{on_ok}
-use Rattle.af_fast.specs.Mixer.{MixerState}
-use Rattle.af_model.specs.Journals.{journal_of}
+use Rattle.af_playing.proofs.Common.{MixerState, Played, TellsLog, journal_of, on_ok}
 use Rattle.af_playing.specs.declared.answering.PlayFault.TheVariants as fault
-use Rattle.af_rendering.specs.declared.rendering.Played.{Played}
-use Rattle.af_side_by_side.specs.Logging.{TellsLog}
 use Rattle.af_playing.specs.PlayedRuns.{fault_of}
 use Rattle.af_playing.proofs.KeptPlays.{cause_kept, files_kept, files_none, keeps, keeps_none, steps_kept, steps_none}
 use Rattle.af_playing.proofs.LogTold.{tells_log}

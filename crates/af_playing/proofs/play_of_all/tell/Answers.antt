@@ -1,9 +1,8 @@
 use Rattle.std.proofs.Common.{◌≡◌, ◌≤◌, ◌++◌, ℕ, List, refl, sym, ◌∙◌}
+use Rattle.af_playing.proofs.Common.{HasLogOf, IsLogOf, Played}
 use Rattle.af_nblog.specs.declared.entries.Note.{Note}
 use Rattle.af_nblog.specs.LogText.{log_text}
 use Rattle.af_nblog.specs.NoteEnds.{accepted}
-use Rattle.af_rendering.specs.declared.rendering.Played.{Played}
-use Rattle.af_side_by_side.specs.Logging.{HasLogOf, IsLogOf}
 use Rattle.af_playing.proofs.PlayAnswers.{if_err_always, none_err, none_ok, ok_when, on_err_from, on_ok_from, when_ok}
 use Rattle.af_playing.proofs.play_of_all.tell.Goals as goal
 

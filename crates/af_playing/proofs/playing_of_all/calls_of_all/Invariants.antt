@@ -1,6 +1,6 @@
 use Rattle.std.proofs.Common.{◌≡◌, ◌≤◌, length, map, take}
+use Rattle.af_playing.proofs.Common.{PartyState}
 use Rattle.std.specs.Vec.{vec_capacity}
-use Rattle.af_party.specs.Parties.{PartyState}
 use Rattle.af_playing.proofs.playing_of_all.calls_of_all.Given as goal
 
 abbrev pub invariant-loop-i : goal.invariant-loop-i

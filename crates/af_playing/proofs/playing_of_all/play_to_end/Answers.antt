@@ -1,29 +1,12 @@
 use Rattle.std.proofs.Common.{◌≡◌, ◌+◌, ◌++◌, ℕ, List, [], Some, Ok, length, inr, sym, ap, subst, ◌∙◌, arith}
-use Rattle.std.specs.Prelude.{All}
-use Rattle.af_base.specs.Log.{Logged}
+use Rattle.af_playing.proofs.Common.{All, HasCause, LeavesFront, Logged, LogsPlay, MixerState, Rig, Room, RoundNoted, RoundsNoted, SessionState, SetsFile, Stage, all_noted, cause_never, cause_on, cycles_of, few_noted, given_of, journal_form, journal_of, journal_whole, left_whole, on_err, pcm_of, silent_first, stays_at, then_memory}
 use Rattle.af_base.specs.Sample.{IsFrame}
-use Rattle.af_fast.specs.Mixer.{MixerState}
-use Rattle.af_io.specs.Causes.{HasCause}
-use Rattle.af_io.specs.Files.{LeavesFront, SetsFile}
 use Rattle.af_io.proofs.Steps.{LeavesFront-created}
-use Rattle.af_model.specs.Journals.{RoundNoted, RoundsNoted, cycles_of, journal_of}
 use Rattle.af_model.specs.Numbers.{HasRanges}
 use Rattle.af_playing.specs.PlayedRuns.{GoesOn, LeavesRun}
 use Rattle.af_playing.proofs.RoundsPlayed.{has_played, fewer_left, leaves_more, plays_first, plays_more, ready_for, room_for, round_done, sound_more}
 use Rattle.af_playing.proofs.RoundsOfAll.{notes_of_all}
 use Rattle.af_playing.proofs.RunOfAll.{plays_none}
-use Rattle.af_rendering.proofs.FirstRound.{silent_first}
-use Rattle.af_rendering.proofs.JournalSound.{journal_form, journal_whole}
-use Rattle.af_rendering.proofs.NotedRounds.{cause_never, cause_on, few_noted, left_whole, then_memory}
-use Rattle.af_rendering.proofs.Outgoing.{on_err, stays_at}
-use Rattle.af_session.specs.declared.room.Room.{Room}
-use Rattle.af_rendering.specs.declared.staging.Stage.{Stage}
-use Rattle.af_session.specs.Together.{SessionState}
-use Rattle.af_side_by_side.specs.Logging.{LogsPlay}
-use Rattle.af_session.specs.Rooms.{given_of}
-use Rattle.af_side_by_side.specs.SideBySide.{all_noted}
-use Rattle.af_session.specs.declared.rig.Rig.{Rig}
-use Rattle.af_tally.specs.Sound.{pcm_of}
 use Rattle.af_playing.proofs.playing_of_all.play_to_end.Goals as goal
 
 -- ## Before the first round
@@ -148,7 +131,7 @@ loop-room-preserved g c =
           let old = g.S.Store.files c.args.store.now in
           let sound : List ℕ = pcm_of p.script.now.frames now.fast.log in
           let grown : sound ++ c.as_slice.result.now ≡ pcm_of p.script.now.frames next.fast.log = ap (λ (xs : List ℕ). sound ++ xs) c.as_slice.ensures ∙ sound_more p.script.now s c.requires.new rig c.tracks-tracks.ensures.value noted now room so.plays goes next call.new.room done in
-          subst (λ (xs : List ℕ). SetsFile old p.name.now (Some xs) (g.S.Store.files c.send_out.new.store)) grown (c.in_ok-send_out.ensures.written (so.tells told) old sound (so.written told)));
+          subst (λ (xs : List ℕ). SetsFile old p.name.now (Some xs) (g.S.Store.files c.send_out.new.store)) grown (c.in_ok-send_out.ensures.sent (so.tells told) sound old (so.written told)).0);
     }
 
 pub loop-room-smaller : goal.loop-room-smaller
@@ -189,7 +172,7 @@ returns-in_err-send_out-clause-left g c = λ told.
     let new = g.S.Store.files c.send_out.new.store in
     let sound : List ℕ = pcm_of p.script.now.frames now.fast.log in
     let grown : sound ++ c.as_slice.result.now ≡ pcm_of p.script.now.frames next.fast.log = ap (λ (xs : List ℕ). sound ++ xs) c.as_slice.ensures ∙ sound_more p.script.now s c.requires.new rig c.tracks-tracks.ensures.value noted now room so.plays goes next call.new.room done in
-    let front : LeavesFront old p.name.now (pcm_of p.script.now.frames next.fast.log) new = subst (λ (xs : List ℕ). LeavesFront old p.name.now xs new) grown (c.in_err-send_out.ensures.left (so.tells told) old sound (so.written told)) in
+    let front : LeavesFront old p.name.now (pcm_of p.script.now.frames next.fast.log) new = subst (λ (xs : List ℕ). LeavesFront old p.name.now xs new) grown (c.in_err-send_out.ensures.sent (so.tells told) sound old (so.written told)).1 in
     on_err c.from_residual-in_err-send_out.result (leaves_more p.script.now s c.requires.new rig c.tracks-tracks.ensures.value noted now room so.plays goes next call.new.room done p.name.now old new front)
 
 pub returns-in_err-send_out-clause-tells : goal.returns-in_err-send_out-clause-tells
@@ -217,7 +200,7 @@ returns-in_err-note_all-clause-left g c = λ told.
     let new = g.S.Store.files c.send_out.new.store in
     let sound : List ℕ = pcm_of p.script.now.frames now.fast.log in
     let grown : sound ++ c.as_slice.result.now ≡ pcm_of p.script.now.frames next.fast.log = ap (λ (xs : List ℕ). sound ++ xs) c.as_slice.ensures ∙ sound_more p.script.now s c.requires.new rig c.tracks-tracks.ensures.value noted now room so.plays goes next call.new.room done in
-    let whole : SetsFile old p.name.now (Some (pcm_of p.script.now.frames next.fast.log)) new = subst (λ (xs : List ℕ). SetsFile old p.name.now (Some xs) new) grown (c.in_ok-send_out.ensures.written (so.tells told) old sound (so.written told)) in
+    let whole : SetsFile old p.name.now (Some (pcm_of p.script.now.frames next.fast.log)) new = subst (λ (xs : List ℕ). SetsFile old p.name.now (Some xs) new) grown (c.in_ok-send_out.ensures.sent (so.tells told) sound old (so.written told)).0 in
     on_err c.from_residual-in_err-note_all.result (leaves_more p.script.now s c.requires.new rig c.tracks-tracks.ensures.value noted now room so.plays goes next call.new.room done p.name.now old new (left_whole old new p.name.now (pcm_of p.script.now.frames next.fast.log) whole))
 
 pub returns-in_err-note_all-clause-tells : goal.returns-in_err-note_all-clause-tells

@@ -1,7 +1,5 @@
 use Rattle.std.proofs.Common.{◌≡◌, ℕ, ◌-◌, [], Option, Some, length}
-use Rattle.af_io.specs.Files.{SetsFile}
-use Rattle.af_side_by_side.specs.Logging.{LogsPlay}
-use Rattle.af_tally.specs.Sound.{pcm_of}
+use Rattle.af_playing.proofs.Common.{LogsPlay, SetsFile, pcm_of}
 use Rattle.af_playing.proofs.RoundsPlayed.{PlaysOn}
 use Rattle.af_playing.proofs.playing_of_all.play_to_end.Given as goal
 

@@ -1,9 +1,5 @@
 use Rattle.std.proofs.Common.{◌≡◌, ◌+◌, true, length, sym, ap, ◌∙◌}
-use Rattle.af_model.specs.History.{is_lawful}
-use Rattle.af_model.specs.PipeHistory.{nothing_put}
-use Rattle.af_cblk.specs.Sides.{Made}
-use Rattle.af_client.specs.Order.{ClientState}
-use Rattle.af_server.specs.Order.{ServerState}
+use Rattle.af_record.proofs.Common.{ClientState, Made, ServerState, is_lawful, nothing_put}
 use Rattle.af_record.proofs.Puts.{writes_met}
 use Rattle.af_record.proofs.OneRead.{reads_met}
 use Rattle.af_record.proofs.TapeOrders.{supplies_lawful}

@@ -1,7 +1,5 @@
 use Rattle.std.proofs.Common.{◌≡◌, ℕ, ◌≤◌, List, ◌++◌, length, take, map, ap, ◌∙◌, arith, length-take-le}
-use Rattle.std.proofs.lemmas.List.{length-map}
-use Rattle.af_base.specs.declared.frame.Frame.{Frame}
-use Rattle.af_base.specs.Sample.{packed_word}
+use Rattle.af_record.proofs.Common.{Frame, length-map, packed_word}
 use Rattle.af_record.specs.Ends.{CaptureState, ListenerState}
 use Rattle.af_record.proofs.Exact.{count_exact, read_exact}
 use Rattle.af_record.proofs.in_hand.read_met.Goals as goal

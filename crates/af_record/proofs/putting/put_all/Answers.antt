@@ -1,7 +1,5 @@
 use Rattle.std.proofs.Common.{◌≡◌, ◌≢◌, ℕ, ◌+◌, ◌-◌, ◌≤◌, List, ◌++◌, length, take, drop, map, ap, ◌∙◌, subst, arith}
-use Rattle.std.proofs.lemmas.List.{take_all, length-drop}
-use Rattle.af_base.specs.declared.frame.Frame.{Frame}
-use Rattle.af_base.specs.Sample.{packed_word}
+use Rattle.af_record.proofs.Common.{Frame, length-drop, packed_word, take_all}
 use Rattle.af_record.proofs.Puts.{looked_first, sent_on}
 use Rattle.af_record.proofs.putting.put_all.Goals as goal
 

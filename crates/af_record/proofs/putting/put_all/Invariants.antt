@@ -1,7 +1,5 @@
 use Rattle.std.proofs.Common.{◌≡◌, ◌+◌, ◌-◌, ◌*◌, ◌++◌, ◌≤◌, length, map, take}
-use Rattle.af_base.specs.Sample.{packed_word}
-use Rattle.af_cblk.specs.Sides.{client_made}
-use Rattle.af_client.specs.Order.{IsInOrder}
+use Rattle.af_record.proofs.Common.{IsInOrder, client_made, packed_word}
 use Rattle.af_record.specs.Ends.{IsStopped, LooksFirst, OnlyWrites}
 use Rattle.af_record.proofs.putting.put_all.Given as goal
 

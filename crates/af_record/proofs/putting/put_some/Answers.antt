@@ -1,6 +1,5 @@
 use Rattle.std.proofs.Common.{◌≡◌, ℕ, ◌≤◌, sym, ap, ◌∙◌, subst}
-use Rattle.af_model.specs.PipeHistory.{nothing_put}
-use Rattle.af_cblk.specs.Sides.{Made}
+use Rattle.af_record.proofs.Common.{Made, nothing_put}
 use Rattle.af_record.specs.Ends.{IsStopped}
 use Rattle.af_record.proofs.Puts.{written}
 use Rattle.af_record.proofs.TapeOrders.{supplies_lawful}

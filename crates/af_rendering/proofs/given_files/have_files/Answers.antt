@@ -1,5 +1,5 @@
 use Rattle.std.proofs.Common.{◌≡◌, ◌<◌, ℕ, length, true, true≢false, sym, ◌∙◌, arith}
-use Rattle.af_session.specs.Rounds.{Given}
+use Rattle.af_rendering.proofs.Common.{Given}
 use Rattle.af_rendering.proofs.FilesGiven.{files_step, serves_there, served_here}
 use Rattle.af_rendering.proofs.given_files.have_files.Goals as goal
 

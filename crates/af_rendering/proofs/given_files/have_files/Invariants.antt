@@ -1,6 +1,6 @@
 use Rattle.std.proofs.Common.{◌<◌, ℕ}
+use Rattle.af_rendering.proofs.Common.{file_at, ops_at}
 use Rattle.af_rendering.specs.Rendered.{IsFileFor}
-use Rattle.af_session.specs.Rounds.{file_at, ops_at}
 use Rattle.af_rendering.proofs.given_files.have_files.Given as goal
 
 abbrev pub invariant-loop-i : goal.invariant-loop-i

@@ -1,5 +1,5 @@
 use Rattle.std.proofs.Common.{◌≡◌, ◌+◌, take}
-use Rattle.af_party.specs.Works.{frames_to_come}
+use Rattle.af_rendering.proofs.Common.{frames_to_come}
 use Rattle.af_rendering.proofs.given_files.write_within.Given as goal
 
 abbrev pub invariant-loop-i : goal.invariant-loop-i

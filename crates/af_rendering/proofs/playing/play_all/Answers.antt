@@ -1,27 +1,14 @@
 use Rattle.std.proofs.Common.{◌≡◌, ◌+◌, ◌++◌, ℕ, List, [], length, refl, sym, ap, subst, ◌∙◌, arith}
-use Rattle.std.specs.Prelude.{All}
-use Rattle.std.proofs.lemmas.List.{take_all}
-use Rattle.std.proofs.lemmas.Result.{IfOk-from_err}
-use Rattle.af_base.specs.Log.{Logged}
-use Rattle.af_base.specs.Sample.{IsFrame}
-use Rattle.af_io.specs.Causes.{HasCause}
-use Rattle.af_io.specs.Files.{LeavesFront}
-use Rattle.af_model.specs.Numbers.{FitsEntry}
-use Rattle.af_script.specs.declared.op.TurnSpec.{TurnSpec}
+use Rattle.af_rendering.proofs.Common.{All, FitsEntry, Given, HasCause, IfOk-from_err, IsFrame, IsReady, LeavesFront, Logged, Roomy, SessionState, TurnSpec, given_of, on_ok_weaker, pcm_of, take_all}
 use Rattle.af_rendering.specs.Rendered.{HoldsBut}
-use Rattle.af_session.specs.Rooms.{given_of}
-use Rattle.af_base.specs.Roomy.{Roomy}
 use Rattle.af_session.proofs.RoomsKept.{kept_on}
-use Rattle.af_session.specs.Rounds.{Given, IsReady}
-use Rattle.af_session.specs.Together.{SessionState}
-use Rattle.af_tally.specs.Sound.{pcm_of}
 use Rattle.af_rendering.proofs.NotedRounds.{cause_on}
 use Rattle.af_rendering.proofs.Outgoing.{on_err, on_ok, stays_at}
 use Rattle.af_rendering.proofs.RunMore.{run_more}
 use Rattle.af_rendering.proofs.ShownWhole.{places_first}
 use Rattle.af_rendering.proofs.SparedFast.{fast_round_spares}
 use Rattle.af_rendering.proofs.TurnsPlayed.{SoFar, all_played, noted_of, so_far_more, so_far_none}
-use Rattle.af_rendering.proofs.Waiting.{none_wait}
+use Rattle.af_rendering.proofs.Waiting.{all_out, none_wait}
 use Rattle.af_rendering.proofs.playing.play_all.Goals as goal
 
 pub loop-i-init : goal.loop-i-init
@@ -74,7 +61,7 @@ loop-i-preserved g c =
       written = (λ told base set.
           let held : HoldsBut c.loop-i.room.bytes.items base c.args.name.now (pcm_of now.fast.frames now.fast.log) (g.S.Store.files c.loop-i.store) =
           subst (λ (n : ℕ). HoldsBut c.loop-i.room.bytes.items base c.args.name.now (pcm_of n now.fast.log) (g.S.Store.files c.loop-i.store)) (sym inv.frames) (inv.written told base set) in
-          subst (λ (n : ℕ). HoldsBut c.play_out.new.room.bytes.items base c.args.name.now (pcm_of n next.fast.log) (g.S.Store.files c.play_out.new.store)) inv.frames (c.in_ok-play_out.ensures.written (inv.tells told) base held));
+          subst (λ (n : ℕ). HoldsBut c.play_out.new.room.bytes.items base c.args.name.now (pcm_of n next.fast.log) (g.S.Store.files c.play_out.new.store)) inv.frames (c.in_ok-play_out.ensures.sent (inv.tells told) base held).0);
     }
 
 pub returns-in_err-play_out : goal.returns-in_err-play_out
@@ -94,8 +81,7 @@ returns-in_err-play_out g c = record {
   frames = IfOk-from_err c.from_residual.result _ c.from_residual.ensures.0;
   entries = (λ new. IfOk-from_err c.from_residual.result _ c.from_residual.ensures.0);
   kept = kept_on c.args.room.now c.loop-i.room c.play_out.new.room c.loop-i.invariant.kept c.play_out.ensures.carried.kept;
-  written = (λ told base set. IfOk-from_err c.from_residual.result _ c.from_residual.ensures.0);
-  left = (λ told base set.
+  sent = (λ told base set.
       let inv = c.loop-i.invariant in
       let now = c.loop-i.parties in
       let next = c.play_out.new.parties in
@@ -103,8 +89,8 @@ returns-in_err-play_out g c = record {
       let held : HoldsBut c.loop-i.room.bytes.items base c.args.name.now (pcm_of now.fast.frames now.fast.log) (g.S.Store.files c.loop-i.store) =
       subst (λ (n : ℕ). HoldsBut c.loop-i.room.bytes.items base c.args.name.now (pcm_of n now.fast.log) (g.S.Store.files c.loop-i.store)) (sym inv.frames) (inv.written told base set) in
       let left : LeavesFront base c.args.name.now (pcm_of frames next.fast.log) (g.S.Store.files c.play_out.new.store) =
-      subst (λ (n : ℕ). LeavesFront base c.args.name.now (pcm_of n next.fast.log) (g.S.Store.files c.play_out.new.store)) inv.frames (c.in_err-play_out.ensures.left (inv.tells told) base held) in
-      on_err c.from_residual.result left);
+      subst (λ (n : ℕ). LeavesFront base c.args.name.now (pcm_of n next.fast.log) (g.S.Store.files c.play_out.new.store)) inv.frames (c.in_err-play_out.ensures.sent (inv.tells told) base held).1 in
+      (IfOk-from_err c.from_residual.result _ c.from_residual.ensures.0, on_err c.from_residual.result left));
   tells = (λ told. c.play_out.ensures.tells (c.loop-i.invariant.tells told));
   cause = cause_on (g.S.Store.faults c.args.store.now) (g.S.Store.faults c.loop-i.store) (g.S.Store.faults c.play_out.new.store) c.in_err-play_out.field-0.0 c.from_residual.result c.loop-i.invariant.stays c.from_residual.ensures.1 c.in_err-play_out.ensures.cause;
 }
@@ -130,8 +116,11 @@ returns g c =
       frames = on_ok r inv.frames;
       entries = (λ new. on_ok r (inv.entries new));
       kept = (let none = ap (λ (b : Roomy ℕ). b.room) c.send_waiting.ensures.none in record { buffer = inv.kept.buffer; bytes = none ∙ inv.kept.bytes; released = inv.kept.released });
-      written = (λ told base set. c.send_waiting.ensures.written (inv.tells told) base (pcm_of was.fast.frames is.fast.log) (inv.written told base set));
-      left = (λ told base set. c.send_waiting.ensures.left (inv.tells told) base (pcm_of was.fast.frames is.fast.log) (inv.written told base set));
+      sent = (λ told base set.
+          let sound : List ℕ = pcm_of was.fast.frames is.fast.log in
+          let none : c.send_waiting.new.bytes.items ≡ [] = ap (λ (b : Roomy ℕ). b.items) c.send_waiting.ensures.none in
+          let sent = c.send_waiting.ensures.sent (inv.tells told) base sound (inv.written told base set) in
+          (on_ok_weaker r (all_out base (g.S.Store.files c.send_waiting.new.store) c.args.name.now sound c.send_waiting.new.bytes.items none) sent.0, sent.1));
       tells = (λ told. c.send_waiting.ensures.tells (inv.tells told));
       cause = subst (λ (n : ℕ). HasCause n (g.S.Store.faults c.send_waiting.new.store) r) inv.stays c.send_waiting.ensures.cause;
     }

@@ -1,11 +1,8 @@
 use Rattle.std.proofs.Common.{◌≡◌, List, Some, take}
-use Rattle.af_io.specs.Files.{Files, SetsFile}
-use Rattle.af_model.specs.Journals.{RoundNoted}
+use Rattle.af_rendering.proofs.Common.{Files, HasPlacesAt, IsReadyOn, KeepsRoom, RoundNoted, SetsFile, given_of, pcm_of}
 use Rattle.af_rendering.specs.FastSpared.{FastSparesSoFar}
 use Rattle.af_rendering.specs.Rendered.{HoldsBut}
 use Rattle.af_rendering.specs.Stages.{HasRoomToWait}
-use Rattle.af_session.specs.Rooms.{HasPlacesAt, IsReadyOn, KeepsRoom, given_of}
-use Rattle.af_tally.specs.Sound.{pcm_of}
 use Rattle.af_rendering.proofs.TurnsPlayed.{SoFar}
 use Rattle.af_rendering.proofs.playing.play_all.Given as goal
 

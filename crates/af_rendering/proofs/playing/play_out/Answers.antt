@@ -1,9 +1,5 @@
 use Rattle.std.proofs.Common.{◌+◌, ℕ, ap, sym, ◌∙◌, arith}
-use Rattle.af_base.specs.Roomy.{Roomy}
-use Rattle.af_session.specs.Rooms.{given_of}
-use Rattle.af_session.specs.Rounds.{Given, IsReady}
-use Rattle.af_session.specs.Together.{SessionState}
-use Rattle.af_tally.specs.Sound.{pcm_of}
+use Rattle.af_rendering.proofs.Common.{Given, IsReady, Roomy, SessionState, given_of, pcm_of}
 use Rattle.af_rendering.specs.Rendered.{HoldsBut}
 use Rattle.af_rendering.proofs.NotedRounds.{round_noted, turn_stays}
 use Rattle.af_rendering.proofs.RoundSounds.{round_sounds}
@@ -36,8 +32,8 @@ returns-clause-round g c =
       round_sounds given c.args.turn was round.0 round.1 is c.requires.ready.2.whole round.3,
     )
 
-pub returns-clause-written : goal.returns-clause-written
-returns-clause-written g c = λ told base held.
+pub returns-clause-sent : goal.returns-clause-sent
+returns-clause-sent g c = λ told base held.
     let given : Given = given_of c.args.rig.now in
     let was : SessionState = c.args.parties.now in
     let is : SessionState = c.round_in.new.parties in
@@ -46,19 +42,7 @@ returns-clause-written g c = λ told base held.
     let frames : ℕ = was.fast.frames in
     let waits : HoldsBut c.round_in.new.room.bytes.items base c.args.name.now (pcm_of frames is.fast.log) (g.S.Store.files c.args.store.now) =
     more_wait base (g.S.Store.files c.args.store.now) c.args.name.now (pcm_of frames was.fast.log) c.args.room.now.bytes.items c.round_in.new.room.bytes.items round.1 (pcm_of frames is.fast.log) (ap (λ (b : Roomy ℕ). b.items) round.2) grown held in
-    c.send_beyond.ensures.written told base (pcm_of frames is.fast.log) waits
-
-pub returns-clause-left : goal.returns-clause-left
-returns-clause-left g c = λ told base held.
-    let given : Given = given_of c.args.rig.now in
-    let was : SessionState = c.args.parties.now in
-    let is : SessionState = c.round_in.new.parties in
-    let round = c.round_in.ensures.round in
-    let grown = round_sounds given c.args.turn was round.0 round.1 is c.requires.ready.2.whole round.3 in
-    let frames : ℕ = was.fast.frames in
-    let waits : HoldsBut c.round_in.new.room.bytes.items base c.args.name.now (pcm_of frames is.fast.log) (g.S.Store.files c.args.store.now) =
-    more_wait base (g.S.Store.files c.args.store.now) c.args.name.now (pcm_of frames was.fast.log) c.args.room.now.bytes.items c.round_in.new.room.bytes.items round.1 (pcm_of frames is.fast.log) (ap (λ (b : Roomy ℕ). b.items) round.2) grown held in
-    c.send_beyond.ensures.left told base (pcm_of frames is.fast.log) waits
+    c.send_beyond.ensures.sent told base (pcm_of frames is.fast.log) waits
 
 pub returns-clause-room : goal.returns-clause-room
 returns-clause-room g c =

@@ -1,5 +1,5 @@
 use Rattle.std.proofs.Common.{◌≡◌, take}
-use Rattle.af_session.specs.Shown.{released_by}
+use Rattle.af_rendering.proofs.Common.{released_by}
 use Rattle.af_rendering.proofs.rendering.push_released.Given as goal
 
 abbrev pub invariant-loop-i : goal.invariant-loop-i

@@ -1,12 +1,7 @@
 use Rattle.std.proofs.Common.{◌≡◌, ℕ, List, Some, Err, inl, refl, sym, ap, subst, ◌∙◌, length}
-use Rattle.af_base.specs.Log.{Logged}
-use Rattle.af_io.specs.Files.{SetsFile}
-use Rattle.af_model.specs.Journals.{JournalData, RoundsNoted, journal_of}
+use Rattle.af_rendering.proofs.Common.{EndsState, JournalData, Logged, RoundsNoted, SetsFile, journal_of, journal_pcm, pcm_of}
 use Rattle.af_rendering.specs.declared.rendering.Outcome.{Outcome}
-use Rattle.af_session.specs.Ends.{EndsState}
 use Rattle.af_rendering.specs.Rendered.{LeavesSound}
-use Rattle.af_tally.specs.Sound.{pcm_of}
-use Rattle.af_runs.specs.Pcm.{journal_pcm}
 use Rattle.af_rendering.proofs.JournalSound.{journal_sounds}
 use Rattle.af_rendering.proofs.ShownWhole.{steps_told}
 use Rattle.af_rendering.proofs.Spared.{spares_told}

@@ -1,9 +1,5 @@
 use Rattle.std.proofs.Common.{◌≡◌, ◌<◌, ◌^◌, ℕ, List, ap, sym, subst, ◌∙◌}
-use Rattle.std.specs.Prelude.{All}
-use Rattle.std.proofs.lemmas.List.Elements.{All-map}
-use Rattle.af_party.specs.Parties.{PartyState}
-use Rattle.af_session.specs.Shown.{released_by}
-use Rattle.af_session.specs.Together.{SessionState}
+use Rattle.af_rendering.proofs.Common.{All, All-map, PartyState, SessionState, released_by}
 use Rattle.af_rendering.proofs.rendering.sum_up.Goals as goal
 
 pub summary-requires-clause-small : goal.summary-requires-clause-small

@@ -1,5 +1,5 @@
 use Rattle.std.proofs.Common.{◌≡◌, List, [], ◌∷◌, ◌++◌, map, ap, sym, ◌∙◌, append_assoc, rules}
-use Rattle.std.specs.List.{range_with_len}
+use Rattle.af_script.proofs.Common.{range_with_len}
 use Rattle.af_script.specs.declared.op.TurnSpec.{TurnSpec}
 use Rattle.af_script.specs.declared.op.TurnSpec.TheVariants.{Client}
 use Rattle.af_script.proofs.GeneratedScript.{mapped_next}

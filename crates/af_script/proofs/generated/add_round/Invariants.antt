@@ -1,5 +1,5 @@
 use Rattle.std.proofs.Common.{◌≡◌, ◌++◌, map}
-use Rattle.std.specs.List.{range_with_len}
+use Rattle.af_script.proofs.Common.{range_with_len}
 use Rattle.af_script.specs.declared.op.TurnSpec.TheVariants.{Client}
 use Rattle.af_script.proofs.generated.add_round.Given as goal
 

@@ -1,5 +1,5 @@
 use Rattle.std.proofs.Common.{◌≡◌, map}
-use Rattle.std.specs.List.{range_with_len}
+use Rattle.af_script.proofs.Common.{range_with_len}
 use Rattle.af_script.specs.Generated.{generated_track}
 use Rattle.af_script.proofs.generated.generated_tracks.Given as goal
 

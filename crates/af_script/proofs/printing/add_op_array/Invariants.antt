@@ -1,5 +1,5 @@
 use Rattle.std.proofs.Common.{◌≡◌, ◌++◌, take, codes, string_bytes}
-use Rattle.std.specs.List.{flat_map}
+use Rattle.af_script.proofs.Common.{flat_map}
 use Rattle.af_script.specs.Printing.{op_text, quoted}
 use Rattle.af_script.proofs.printing.add_op_array.Given as goal
 

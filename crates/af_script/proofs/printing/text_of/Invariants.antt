@@ -1,5 +1,5 @@
 use Rattle.std.proofs.Common.{◌≡◌, ◌++◌, take, string_bytes}
-use Rattle.std.specs.List.{flat_map}
+use Rattle.af_script.proofs.Common.{flat_map}
 use Rattle.af_script.specs.Printing.{top_text, track_text}
 use Rattle.af_script.proofs.printing.text_of.Given as goal
 

@@ -1,5 +1,5 @@
 use Rattle.std.proofs.Common.{rules}
-use Rattle.std.proofs.lemmas.List.{take_min}
+use Rattle.af_script.proofs.Common.{take_min}
 use Rattle.af_script.proofs.printing.written.Goals as goal
 
 pub returns : goal.returns

@@ -1,7 +1,5 @@
 use Rattle.std.proofs.Common.{◌≡◌, Some, sym, ap, subst, ◌∙◌}
-use Rattle.std.specs.Prelude.{option_map, ok_or, Option}
-use Rattle.toml.specs.Data.{Members}
-use Rattle.toml.specs.View.{table_view}
+use Rattle.af_script.proofs.Common.{Members, Option, ok_or, option_map, table_view}
 use Rattle.af_script.specs.Tree.{tree_of}
 use Rattle.af_script.specs.Results.{Reads, ◌>>=◌}
 use Rattle.af_script.specs.Reading.{script_in, script_of}

@@ -1,5 +1,5 @@
 use Rattle.std.proofs.Common.{◌≡◌, ◌*◌, arith, rules}
-use Rattle.toml.specs.View.{table_view, items_view}
+use Rattle.af_script.proofs.Common.{items_view, table_view}
 use Rattle.af_script.proofs.Sound.{script-keeps}
 use Rattle.af_script.proofs.script.script_in.Goals as goal
 

@@ -1,4 +1,4 @@
-use Rattle.toml.specs.View.{items_view}
+use Rattle.af_script.proofs.Common.{items_view}
 use Rattle.af_script.specs.Tree.{count_of}
 use Rattle.af_script.specs.Reading.{op_in}
 use Rattle.af_script.proofs.Each.{ReadSoFar}

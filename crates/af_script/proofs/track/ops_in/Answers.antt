@@ -1,5 +1,5 @@
 use Rattle.std.proofs.Common.{ap, ◌∙◌, arith}
-use Rattle.toml.specs.View.{items_view}
+use Rattle.af_script.proofs.Common.{items_view}
 use Rattle.af_script.specs.Ops.{are_whole}
 use Rattle.af_script.proofs.OpForms.{closed-whole}
 use Rattle.af_script.proofs.track.ops_in.Goals as goal

@@ -1,5 +1,5 @@
 use Rattle.std.proofs.Common.{◌∙◌}
-use Rattle.toml.specs.Data.{as_table}
+use Rattle.af_script.proofs.Common.{as_table}
 use Rattle.af_script.proofs.Trees.{all_are-values}
 use Rattle.af_script.proofs.tree.are_tables.Goals as goal
 

@@ -1,5 +1,5 @@
 use Rattle.std.proofs.Common.{◌∙◌}
-use Rattle.toml.specs.Data.{as_str}
+use Rattle.af_script.proofs.Common.{as_str}
 use Rattle.af_script.proofs.Trees.{all_are-values}
 use Rattle.af_script.proofs.tree.are_texts.Goals as goal
 

@@ -1,7 +1,5 @@
 use Rattle.std.proofs.Common.{ap, ◌∙◌}
-use Rattle.toml.specs.Data.{get_member}
-use Rattle.toml.specs.View.{table_view}
-use Rattle.toml.proofs.Views.{table_get}
+use Rattle.af_script.proofs.Common.{get_member, table_get, table_view}
 use Rattle.af_script.proofs.tree.value_at.Goals as goal
 
 pub returns : goal.returns

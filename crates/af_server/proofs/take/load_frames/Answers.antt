@@ -1,5 +1,5 @@
 use Rattle.std.proofs.Common.{◌++◌, ℕ, List, map, ap, ◌∙◌}
-use Rattle.af_base.specs.Sample.{packed_word}
+use Rattle.af_server.proofs.Common.{packed_word}
 use Rattle.af_server.proofs.take.load_frames.Goals as goal
 
 pub returns-clause-loaded : goal.returns-clause-loaded

@@ -1,8 +1,7 @@
 use Rattle.std.proofs.Common.{[], length, refl, sym, subst, ◌∙◌, arith}
-use Rattle.af_base.specs.Log.{Logged}
+use Rattle.af_session.proofs.Common.{IsWhole, Logged}
 use Rattle.af_session.specs.Shown.{HasPlaces}
 use Rattle.af_session.specs.Together.{SessionState}
-use Rattle.af_tally.specs.Sound.{IsWhole}
 use Rattle.af_session.proofs.FastAdds.{met_keeps, polled_keeps}
 use Rattle.af_session.proofs.Following.{follows_cycle}
 use Rattle.af_session.proofs.fast_turns.fast_cycle.Goals as goal

@@ -1,8 +1,5 @@
 use Rattle.std.proofs.Common.{◌≡◌, ◌<◌, ℕ, ◌++◌, false, true, List, [], length, append-nil, refl, sym, ap, subst, ◌∙◌, arith}
-use Rattle.std.proofs.lemmas.List.{length-append}
-use Rattle.af_base.specs.Roomy.{Roomy}
-use Rattle.af_model.specs.Cycles.{is_mixed}
-use Rattle.af_runs.specs.Pcm.{written}
+use Rattle.af_session.proofs.Common.{Roomy, is_mixed, length-append, written}
 use Rattle.af_session.specs.FastTurns.{WritesCycle}
 use Rattle.af_session.specs.Together.{SessionState}
 use Rattle.af_session.proofs.FastAdds.{cycle_sizes, cycle_whole, turned_by}

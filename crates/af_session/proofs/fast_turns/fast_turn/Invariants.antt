@@ -1,5 +1,5 @@
 use Rattle.std.proofs.Common.{◌≡◌, ℕ, ◌*◌, ◌≤◌, false, List, length}
-use Rattle.af_tally.specs.Sound.{IsWhole}
+use Rattle.af_session.proofs.Common.{IsWhole}
 use Rattle.af_session.specs.Rooms.{HasAdded, HasNotedOn, KeepsRoom, KeepsSizes}
 use Rattle.af_session.specs.Together.{AreTogether}
 use Rattle.af_session.proofs.FastChains.{GoesTo}

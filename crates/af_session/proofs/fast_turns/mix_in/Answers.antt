@@ -1,10 +1,5 @@
 use Rattle.std.proofs.Common.{◌≡◌, ℕ, List, ◌++◌, length, refl, sym, ap, subst, ◌∙◌, arith}
-use Rattle.std.proofs.lemmas.List.{with_items_is}
-use Rattle.af_base.specs.declared.frame.Frame.{Frame}
-use Rattle.af_base.specs.Roomy.{Roomy}
-use Rattle.af_fast.specs.Mixer.{MixerState}
-use Rattle.af_fast.specs.Mixing.{MixesOnce}
-use Rattle.af_runs.specs.Pcm.{written}
+use Rattle.af_session.proofs.Common.{Frame, MixerState, MixesOnce, Roomy, with_items_is, written}
 use Rattle.af_session.specs.declared.room.Room.{Room}
 use Rattle.af_session.proofs.FastAdds.{mix_adds}
 use Rattle.af_session.proofs.fast_turns.mix_in.Goals as goal

@@ -1,6 +1,5 @@
 use Rattle.std.proofs.Common.{[], ◌≤◌, ◌<◌, length, sym, ap, subst, arith}
-use Rattle.af_fast.specs.Mixer.{MixerState, IsInOrder}
-use Rattle.af_fast.specs.Mixing.{MixesOnce}
+use Rattle.af_session.proofs.Common.{IsInOrder, MixerState, MixesOnce}
 use Rattle.af_session.specs.Shown.{Follows}
 use Rattle.af_session.proofs.Following.{follows_added, follows_still, places_kept}
 use Rattle.af_session.proofs.StepsUsed.{mixed_few}

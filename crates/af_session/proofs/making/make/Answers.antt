@@ -1,6 +1,5 @@
 use Rattle.std.proofs.Common.{sym, subst}
-use Rattle.af_engine.specs.Engines.{EngineState, AreTogether as AreEndsTogether}
-use Rattle.af_engine.specs.NewEngine.{IsNewEngine}
+use Rattle.af_session.proofs.Common.{AreTogether as AreEndsTogether, EngineState, IsNewEngine}
 use Rattle.af_session.proofs.Begins.{all_together, new_session}
 use Rattle.af_session.proofs.making.make.Goals as goal
 

@@ -1,7 +1,6 @@
 use Rattle.std.proofs.Common.{subst, ◌∙◌, map}
+use Rattle.af_session.proofs.Common.{IsMakeCause, MixerSpec}
 use Rattle.af_engine.specs.declared.spec.MakeError.{MakeError}
-use Rattle.af_engine.specs.declared.spec.MixerSpec.{MixerSpec}
-use Rattle.af_engine.specs.MixerSpecs.{IsMakeCause}
 use Rattle.af_engine.proofs.Specs.{no_cause}
 use Rattle.af_session.specs.NewTracks.{engine_track}
 use Rattle.af_session.proofs.Begins.{spec_fits}

@@ -1,14 +1,7 @@
 use Rattle.std.proofs.Common.{◌≡◌, ◌<◌, ℕ, length, slice_get, slice_index_or, Some, sym, ap, subst, ◌∙◌, arith}
-use Rattle.std.proofs.lemmas.Option.{slice_get-get_or}
-use Rattle.af_base.specs.declared.state.FastState.{FastState}
-use Rattle.af_fast.specs.Mixer.{MixerState}
-use Rattle.af_normal.specs.Meeting.{AreClientsOf}
-use Rattle.af_normal.specs.State.{NormalState}
-use Rattle.af_engine.specs.Met.{Proxies, TracksMet, proxies_of}
+use Rattle.af_session.proofs.Common.{AreClientsOf, FastState, MixerState, NormalState, PartyState, Proxies, TracksMet, items_by_number, met_by_number, one_met, others_by_number, proxies_of, slice_get-get_or}
 use Rattle.af_session.specs.Met.{TrackMet}
-use Rattle.af_party.specs.Parties.{PartyState}
 use Rattle.af_engine.proofs.EndsMeet.{still_met}
-use Rattle.af_engine.proofs.MetTracks.{items_by_number, met_by_number, one_met, others_by_number}
 use Rattle.af_session.proofs.MetTracks.{still_together}
 use Rattle.af_session.proofs.meetings.meet.Goals as goal
 

@@ -1,5 +1,5 @@
 use Rattle.std.proofs.Common.{◌≡◌}
-use Rattle.af_engine.specs.Met.{TracksMet, proxies_of}
+use Rattle.af_session.proofs.Common.{TracksMet, proxies_of}
 use Rattle.af_session.specs.Met.{TrackMet}
 use Rattle.af_session.specs.Together.{AreTogether}
 use Rattle.af_session.proofs.meetings.meet.Given as goal

@@ -1,7 +1,5 @@
 use Rattle.std.proofs.Common.{◌≡◌, length, map, take}
-use Rattle.std.specs.Prelude.{All}
-use Rattle.af_base.specs.Sample.{IsFrame}
-use Rattle.af_base.specs.Turn.{take_seen}
+use Rattle.af_session.proofs.Common.{All, IsFrame, take_seen}
 use Rattle.af_session.proofs.noting.copied_takes.Given as goal
 
 abbrev pub invariant-loop-i : goal.invariant-loop-i

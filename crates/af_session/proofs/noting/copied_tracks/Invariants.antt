@@ -1,5 +1,5 @@
 use Rattle.std.proofs.Common.{◌≡◌, length, map, take}
-use Rattle.af_base.specs.Turn.{track_seen}
+use Rattle.af_session.proofs.Common.{track_seen}
 use Rattle.af_session.proofs.noting.copied_tracks.Given as goal
 
 abbrev pub invariant-loop-i : goal.invariant-loop-i

@@ -1,7 +1,4 @@
-use Rattle.std.specs.Prelude.{All}
-use Rattle.std.proofs.lemmas.List.Elements.{All-map}
-use Rattle.af_base.specs.Sample.{IsFrame}
-use Rattle.af_base.specs.Turn.{TakeSeen, take_seen}
+use Rattle.af_session.proofs.Common.{All, All-map, IsFrame, TakeSeen, take_seen}
 use Rattle.af_session.proofs.noting.copied_turn.Goals as goal
 
 pub returns-clause-frames : goal.returns-clause-frames

@@ -1,9 +1,5 @@
 use Rattle.std.proofs.Common.{subst, arith}
-use Rattle.std.specs.Prelude.{All}
-use Rattle.std.proofs.lemmas.List.{take_all}
-use Rattle.std.proofs.lemmas.List.Elements.{All-more}
-use Rattle.af_base.specs.declared.turn.NormalTake.{NormalTake}
-use Rattle.af_base.specs.Sample.{IsFrame}
+use Rattle.af_session.proofs.Common.{All, All-more, IsFrame, NormalTake, take_all}
 use Rattle.af_session.proofs.noting.know_takes.Goals as goal
 
 pub loop-i-preserved : goal.loop-i-preserved

@@ -1,10 +1,5 @@
 use Rattle.std.proofs.Common.{◌≡◌, ◌<◌, ℕ, length, sym, ap, subst, ◌∙◌, arith}
-use Rattle.af_base.specs.Log.{Logged}
-use Rattle.af_fast.specs.Mixer.{MixerState}
-use Rattle.af_runs.specs.Pcm.{written}
-use Rattle.af_session.specs.Rooms.{HasAdded, KeepsRoom}
-use Rattle.af_session.specs.Shown.{shown_at}
-use Rattle.af_session.specs.declared.room.Room.{Room}
+use Rattle.af_side_by_side.proofs.Common.{HasAdded, KeepsRoom, Logged, MixerState, Room, shown_at, written}
 use Rattle.af_side_by_side.specs.Alone.{CyclesOnce}
 use Rattle.af_side_by_side.specs.Logging.{HasLogged, IsScribe}
 use Rattle.af_side_by_side.proofs.ScribeTurns.{cycle_adds_up_to_one, last_kept, no_shorter, noted_none, one_longer}

@@ -1,11 +1,5 @@
 use Rattle.std.proofs.Common.{[], length, refl, sym, subst, ◌∙◌, arith}
-use Rattle.af_base.specs.Log.{Logged}
-use Rattle.af_fast.specs.Mixer.{MixerState}
-use Rattle.af_session.specs.Shown.{HasPlaces}
-use Rattle.af_tally.specs.Sound.{IsWhole}
-use Rattle.af_tally.specs.Summaries.{Shown}
-use Rattle.af_tally.specs.Tallies.{IsTally}
-use Rattle.af_session.proofs.FastAdds.{polled_keeps}
+use Rattle.af_side_by_side.proofs.Common.{HasPlaces, IsTally, IsWhole, Logged, MixerState, Shown, polled_keeps}
 use Rattle.af_session.proofs.Following.{shown_adopted}
 use Rattle.af_side_by_side.proofs.alone.cycle_once.Goals as goal
 

@@ -1,14 +1,8 @@
 use Rattle.std.proofs.Common.{◌≡◌, ℕ, ◌<◌, ◌++◌, false, true, List, [], length, append-nil, refl, sym, ap, subst, ◌∙◌, arith}
-use Rattle.std.proofs.lemmas.List.{length-append}
-use Rattle.af_base.specs.Roomy.{Roomy}
-use Rattle.af_model.specs.Cycles.{is_mixed}
-use Rattle.af_session.specs.declared.room.Room.{Room}
+use Rattle.af_side_by_side.proofs.Common.{Room, Roomy, is_mixed, keeps_itself, kept_on, length-append, noted_on, noted_so_far, written}
 use Rattle.af_side_by_side.specs.Alone.{CyclesOnce, most_cycles}
-use Rattle.af_runs.specs.Pcm.{written}
 use Rattle.af_side_by_side.proofs.AloneTurns.{ComesTo, comes_first, comes_on, comes_over, comes_whole}
 use Rattle.af_session.proofs.FastChains.{long_written, put_behind, room_on}
-use Rattle.af_session.proofs.RoomsKept.{kept_on, keeps_itself}
-use Rattle.af_session.proofs.NotedOn.{noted_on, noted_so_far}
 use Rattle.af_side_by_side.proofs.ScribeTurns.{cycle_adds_up_to_one, no_shorter, noted_more, noted_none}
 use Rattle.af_side_by_side.proofs.alone.cycles_on.Goals as goal
 

@@ -1,7 +1,7 @@
 use Rattle.std.proofs.Common.{ℕ, ◌*◌, ◌≤◌, List, length}
+use Rattle.af_side_by_side.proofs.Common.{CanCycle, HasAdded, HasNotedOn, KeepsRoom, KeepsSizes}
 use Rattle.af_side_by_side.specs.Alone.{most_cycles}
 use Rattle.af_side_by_side.specs.Logging.{HasLogged, IsScribe}
-use Rattle.af_session.specs.Rooms.{CanCycle, HasAdded, HasNotedOn, KeepsRoom, KeepsSizes}
 use Rattle.af_side_by_side.proofs.AloneTurns.{ComesTo}
 use Rattle.af_side_by_side.proofs.alone.cycles_on.Given as goal
 

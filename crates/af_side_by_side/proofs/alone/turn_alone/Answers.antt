@@ -1,11 +1,7 @@
 use Rattle.std.proofs.Common.{◌≡◌, Bool, true, false, List, [], ℕ, length, append-nil, refl, sym, ap, subst, ◌∙◌}
-use Rattle.std.specs.Bool.{MatchBool}
-use Rattle.af_base.specs.Roomy.{Roomy}
-use Rattle.af_fast.specs.Mixer.{MixerState}
+use Rattle.af_side_by_side.proofs.Common.{MatchBool, MixerState, Roomy, keeps_itself, noted_so_far}
 use Rattle.af_side_by_side.specs.Alone.{CyclesOn, FastTurned, most_cycles}
 use Rattle.af_side_by_side.proofs.AloneTurns.{sounds_on}
-use Rattle.af_session.proofs.RoomsKept.{keeps_itself}
-use Rattle.af_session.proofs.NotedOn.{noted_so_far}
 use Rattle.af_side_by_side.proofs.ScribeTurns.{noted_none}
 use Rattle.af_side_by_side.proofs.alone.turn_alone.Goals as goal
 

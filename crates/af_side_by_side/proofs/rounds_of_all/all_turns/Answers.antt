@@ -1,9 +1,5 @@
 use Rattle.std.proofs.Common.{◌≡◌, All, List, length, ap, sym, subst, ◌∙◌, arith}
-use Rattle.std.specs.List.{AllZip}
-use Rattle.std.proofs.lemmas.List.{with_items_is}
-use Rattle.af_party.specs.Parties.{PartyState}
-use Rattle.af_session.specs.Together.{SessionState}
-use Rattle.af_session.specs.Rooms.{given_of}
+use Rattle.af_side_by_side.proofs.Common.{AllZip, PartyState, SessionState, given_of, with_items_is}
 use Rattle.af_side_by_side.specs.TurnsInRoom.{CanPlayMixers}
 use Rattle.af_side_by_side.specs.SideBySide.{CanTurn, HasTurned}
 use Rattle.af_side_by_side.proofs.TurnsOfAll.{mixers_of}

@@ -1,10 +1,6 @@
 use Rattle.std.proofs.Common.{◌≡◌, ◌<◌, ℕ, List, [], get_or, length, map, sym, ap, subst, ◌∙◌, arith}
-use Rattle.std.specs.Prelude.{slice_index_or}
-use Rattle.af_party.specs.Parties.{PartyState}
+use Rattle.af_side_by_side.proofs.Common.{IsTally, PartyState, SessionState, Shown, slice_index_or}
 use Rattle.af_side_by_side.specs.SideBySide.{with_all_calls}
-use Rattle.af_tally.specs.Summaries.{Shown}
-use Rattle.af_tally.specs.Tallies.{IsTally}
-use Rattle.af_session.specs.Together.{SessionState}
 use Rattle.af_side_by_side.proofs.NotedTurns.{calls_at, calls_next}
 use Rattle.af_side_by_side.proofs.rounds_of_all.note_turns.Goals as goal
 

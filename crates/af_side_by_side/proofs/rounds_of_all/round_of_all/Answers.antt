@@ -1,19 +1,7 @@
 use Rattle.std.proofs.Common.{◌≡◌, ◌+◌, ◌-◌, ◌≤◌, ◌++◌, ℕ, Bool, List, length, map, refl, sym, ap, subst, ◌∙◌, arith}
-use Rattle.std.proofs.lemmas.List.{length-append}
-use Rattle.af_base.specs.declared.log.CycleEntry.{CycleEntry}
-use Rattle.af_base.specs.Log.{Logged, slots}
-use Rattle.af_base.specs.Turn.{turn_of}
-use Rattle.af_party.specs.Parties.{PartyState}
-use Rattle.af_session.specs.Rounds.{Given}
-use Rattle.af_session.specs.Shown.{HasPlaces}
-use Rattle.af_session.specs.Rooms.{given_of}
+use Rattle.af_side_by_side.proofs.Common.{CycleEntry, Given, HasPlaces, IsTally, Logged, PartyState, SessionState, Shown, given_of, length-append, pcm_of, places_more, slots, turn_of}
 use Rattle.af_side_by_side.specs.SideBySide.{all_noted, with_all_calls, with_turn_if}
-use Rattle.af_tally.specs.Sound.{pcm_of}
-use Rattle.af_tally.specs.Summaries.{Shown}
-use Rattle.af_tally.specs.Tallies.{IsTally}
-use Rattle.af_session.specs.Together.{SessionState}
 use Rattle.af_side_by_side.proofs.AloneTurns.{turned_adds}
-use Rattle.af_session.proofs.FollowingRounds.{places_more}
 use Rattle.af_side_by_side.proofs.LogRounds.{are_ends, has_auditor, has_scribe, round_logs}
 use Rattle.af_side_by_side.proofs.NotedOfAll.{noted_after}
 use Rattle.af_side_by_side.proofs.NotedTurns.{follows_all}

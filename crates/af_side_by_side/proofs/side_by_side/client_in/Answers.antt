@@ -1,7 +1,5 @@
 use Rattle.std.proofs.Common.{ap, sym, ◌∙◌}
-use Rattle.af_party.specs.Parties.{PartyState}
-use Rattle.af_session.specs.Rounds.{Given}
-use Rattle.af_session.specs.Rooms.{given_of}
+use Rattle.af_side_by_side.proofs.Common.{Given, PartyState, given_of}
 use Rattle.af_side_by_side.proofs.ClientGiven.{turn_played, work_asked, work_left}
 use Rattle.af_side_by_side.proofs.side_by_side.client_in.Goals as goal
 

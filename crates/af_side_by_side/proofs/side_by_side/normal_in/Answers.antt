@@ -1,5 +1,5 @@
 use Rattle.std.proofs.Common.{◌≡◌, ◌<◌, ◌∙◌, Bool, sym, subst, arith}
-use Rattle.std.specs.Bool.{MatchBool}
+use Rattle.af_side_by_side.proofs.Common.{MatchBool}
 use Rattle.af_normal.specs.Order.{most_turns}
 use Rattle.af_normal.specs.TurnMade.{TurnMade}
 use Rattle.af_normal.specs.declared.turn.Turn.{Turn as Answer}

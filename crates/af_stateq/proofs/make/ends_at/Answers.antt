@@ -1,5 +1,5 @@
 use Rattle.std.proofs.Common.{rules, true, false, refl, ◌∷◌, ◌++◌, ap, ◌∙◌}
-use Rattle.std.proofs.lemmas.List.{append-nil}
+use Rattle.af_stateq.proofs.Common.{append-nil}
 use Rattle.af_stateq.specs.Shelved.{shelves}
 use Rattle.af_stateq.proofs.Seating.{splits_allowed, sits_mutator, sits_observer}
 use Rattle.af_stateq.proofs.make.ends_at.Goals as goal

@@ -1,5 +1,5 @@
 use Rattle.std.proofs.Common.{ℕ, ◌≡◌, List, [], ◌∷◌, ◌++◌, Option, None, replicate, arith, ap, ◌∙◌}
-use Rattle.std.proofs.lemmas.List.{replicate-append-replicate}
+use Rattle.af_stateq.proofs.Common.{replicate-append-replicate}
 use Rattle.af_stateq.proofs.make.no_items.Goals as goal
 
 pub returns : goal.returns

@@ -1,6 +1,5 @@
 use Rattle.std.proofs.Common.{List, Option, None, replicate, false, refl, sym, ◌∙◌, subst}
-use Rattle.af_base.specs.declared.state.FastState.{FastState}
-use Rattle.af_model.specs.StateQueue.{slots}
+use Rattle.af_stateq.proofs.Common.{FastState, slots}
 use Rattle.af_stateq.specs.Mutates.{InDraft}
 use Rattle.af_stateq.specs.Observes.{InOrder}
 use Rattle.af_stateq.proofs.Start.{new_draft, new_order}

@@ -1,5 +1,5 @@
 use Rattle.std.proofs.Common.{ℕ, ◌≡◌, List, [], ◌∷◌, ◌++◌, None, replicate, arith, ap, ◌∙◌}
-use Rattle.std.proofs.lemmas.List.{replicate-append-replicate}
+use Rattle.af_stateq.proofs.Common.{replicate-append-replicate}
 use Rattle.af_stateq.specs.declared.cell.Slot.{Slot}
 use Rattle.af_stateq.proofs.make.table_slots.Goals as goal
 

@@ -1,6 +1,5 @@
 use Rattle.std.proofs.Common.{◌≡◌, ◌≤◌, ◌+◌}
-use Rattle.std.specs.Prelude.{replicate, None, vec_capacity}
-use Rattle.af_model.specs.StateQueue.{slots}
+use Rattle.af_stateq.proofs.Common.{None, replicate, slots, vec_capacity}
 use Rattle.af_stateq.specs.Shelved.{cells}
 use Rattle.af_stateq.proofs.make.table_slots.Given as goal
 

@@ -1,5 +1,5 @@
 use Rattle.std.proofs.Common.{arith}
-use Rattle.af_model.specs.StateQueue.{slots}
+use Rattle.af_stateq.proofs.Common.{slots}
 use Rattle.af_stateq.proofs.Acks.{all_none}
 use Rattle.af_stateq.proofs.mutator.join.Goals as goal
 

@@ -1,5 +1,5 @@
 use Rattle.std.proofs.Common.{◌≡◌, ℕ, ◌<◌, ◌≤◌, length, None, if◌then◌else◌, is_some}
-use Rattle.af_model.specs.StateQueue.{slots}
+use Rattle.af_stateq.proofs.Common.{slots}
 use Rattle.af_stateq.specs.Mutates.{at}
 use Rattle.af_stateq.proofs.mutator.join.Given as goal
 

@@ -1,9 +1,6 @@
 use Rattle.std.proofs.Common.{◌≡◌, suc, List, [], ◌∷◌, ◌++◌, length, refl, sym, ap, ◌∙◌, subst, append_assoc, append-nil, arith, rules, All}
-use Rattle.std.specs.Vec.Iter.{into_iter_items}
-use Rattle.af_base.proofs.Basics.{no_items}
-use Rattle.af_model.specs.declared.plain_calls.QueueCall.{QueueCall}
-use Rattle.af_model.specs.declared.plain_calls.QueueAnswer.{QueueAnswer}
-use Rattle.af_model.specs.PlainQueue.{QueueState, step, answers_of, state_after}
+use Rattle.af_stateq.proofs.Common.{QueueAnswer, QueueCall, QueueState, answers_of, into_iter_items, no_items, state_after}
+use Rattle.af_model.specs.PlainQueue.{step}
 use Rattle.af_stateq.specs.Mutates.{Mutates}
 use Rattle.af_stateq.specs.Observes.{Observes}
 use Rattle.af_stateq.specs.OneHand.{CallFits, Agrees}

@@ -1,7 +1,5 @@
 use Rattle.std.proofs.Common.{◌≡◌, ◌+◌, ◌≤◌, ◌++◌, length, All}
-use Rattle.std.specs.Prelude.{vec_capacity}
-use Rattle.std.specs.Vec.Iter.{into_iter_items, into_iter_len}
-use Rattle.af_model.specs.PlainQueue.{QueueState, answers_of, state_after}
+use Rattle.af_stateq.proofs.Common.{QueueState, answers_of, into_iter_items, into_iter_len, state_after, vec_capacity}
 use Rattle.af_stateq.specs.Observes.{InOrder}
 use Rattle.af_stateq.specs.OneHand.{CallFits, HaveMet, SameEnds, Agrees}
 use Rattle.af_stateq.proofs.one_hand.answer_each.Given as goal

@@ -1,4 +1,4 @@
-use Rattle.af_model.specs.PlainQueue.{new_queue}
+use Rattle.af_stateq.proofs.Common.{new_queue}
 use Rattle.af_stateq.proofs.NewEnds.{new_agree}
 use Rattle.af_stateq.proofs.one_hand.answer_from_start.Goals as goal
 

@@ -1,5 +1,5 @@
 use Rattle.std.proofs.Common.{rules, ℕ, ◌<◌, ap, arith}
-use Rattle.af_model.specs.StateQueue.{slots}
+use Rattle.af_stateq.proofs.Common.{slots}
 use Rattle.af_stateq.proofs.Exchanges.{at_first, next_shelf, exchange_one, at_last}
 use Rattle.af_stateq.proofs.shelves.exchange.Goals as goal
 

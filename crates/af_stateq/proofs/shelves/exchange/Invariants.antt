@@ -1,5 +1,5 @@
 use Rattle.std.proofs.Common.{◌≡◌, ℕ, List, ◌++◌, length}
-use Rattle.af_model.specs.StateQueue.{slots}
+use Rattle.af_stateq.proofs.Common.{slots}
 use Rattle.af_stateq.specs.declared.cell.Slot.{Slot}
 use Rattle.af_stateq.specs.Shelved.{shelves}
 use Rattle.af_stateq.proofs.Exchanges.{Exchanged}

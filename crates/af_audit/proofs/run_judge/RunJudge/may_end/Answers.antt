@@ -1,5 +1,6 @@
-use Rattle.std.specs.Prelude.{◌↔◌, Bool, IsTrue}
+use Rattle.std.specs.Prelude.{◌↔◌}
 use Rattle.std.proofs.Common.{sym, subst}
+use Rattle.af_audit.proofs.Common.{Bool, IsTrue}
 use Rattle.af_audit.specs.Verdicts.{MayEnd}
 use Rattle.af_audit.proofs.RunMayEnd.{cut_ends, whole_ends}
 use Rattle.af_audit.proofs.run_judge.RunJudge.may_end.Goals as goal

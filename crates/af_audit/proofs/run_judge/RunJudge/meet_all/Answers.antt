@@ -1,9 +1,5 @@
 use Rattle.std.proofs.Common.{◌≡◌, ◌∙◌, ◌<◌, ◌↔◌, ℕ, IfSome, IsTrue, length, arith, refl, sym, subst}
-use Rattle.std.specs.Prelude.{slice_index_or}
-use Rattle.std.proofs.lemmas.List.{length-set}
-use Rattle.af_judge.proofs.Basics.{there_is}
-use Rattle.af_judge.specs.declared.track_judge.TrackJudge.{TrackJudge}
-use Rattle.af_judge.specs.BlocksMet.{AreShort, BothKeep, blocks_met}
+use Rattle.af_audit.proofs.Common.{AreShort, BothKeep, TrackJudge, blocks_met, length-set, slice_index_or, there_is}
 use Rattle.af_audit.proofs.CallsJudged.{few_after}
 use Rattle.af_audit.proofs.MeetingsFound.{none_met, one_met}
 use Rattle.af_audit.proofs.run_judge.RunJudge.meet_all.Goals as goal

@@ -1,10 +1,5 @@
-use Rattle.std.specs.Prelude.{nat_le}
-use Rattle.std.specs.List.{prefix_len}
 use Rattle.std.proofs.Common.{◌≡◌, ◌≤◌, ℕ, List, length, map, take, drop, refl, ap, ◌∙◌}
-use Rattle.af_base.specs.declared.log.CycleEntry.{CycleEntry}
-use Rattle.af_model.specs.Journals.{round_at}
-use Rattle.af_judge.specs.EntriesTold.{playing}
-use Rattle.af_judge.proofs.JournalEntries.{round_entries_at}
+use Rattle.af_audit.proofs.Common.{CycleEntry, nat_le, playing, prefix_len, round_at, round_entries_at}
 use Rattle.af_audit.specs.declared.run_judge.RunJudge.{RunJudge}
 use Rattle.af_audit.specs.RoundTold.{early_of}
 use Rattle.af_audit.proofs.MixersTell.{early_part, entered_so, late_part, mixers_so, turned_so}

@@ -1,8 +1,5 @@
 use Rattle.std.proofs.Common.{◌≡◌, ◌≤◌, ◌*◌, ℕ, ap, ◌∙◌}
-use Rattle.af_life.specs.Kept.{new_normal, pipe_size}
-use Rattle.af_judge.specs.FastKept.{fast_begins}
-use Rattle.af_runs.specs.Sessions.{script_setup}
-use Rattle.af_script.specs.Ops.{power_above}
+use Rattle.af_audit.proofs.Common.{fast_begins, new_normal, pipe_size, power_above, script_setup}
 use Rattle.af_audit.proofs.PipeCells.{cells_next, few_frames}
 use Rattle.af_audit.proofs.run_judge.RunJudge.new.Goals as goal
 

@@ -1,11 +1,6 @@
-use Rattle.std.specs.Prelude.{◌↔◌, IsTrue}
+use Rattle.std.specs.Prelude.{◌↔◌}
 use Rattle.std.proofs.Common.{◌≡◌, Bool, List, length, map, take, sym, ap, subst, ◌∙◌}
-use Rattle.af_base.specs.declared.log.CycleEntry.{CycleEntry}
-use Rattle.af_model.specs.Journals.{entries_of, frames_of, round_at}
-use Rattle.af_judge.specs.declared.track_judge.TrackJudge.{TrackJudge}
-use Rattle.af_judge.specs.EntriesTold.{MayEnter}
-use Rattle.af_judge.specs.FastKept.{FastKept}
-use Rattle.af_judge.specs.NormalJudged.{NormalJudged}
+use Rattle.af_audit.proofs.Common.{CycleEntry, FastKept, IsTrue, MayEnter, NormalJudged, TrackJudge, entries_of, frames_of, round_at}
 use Rattle.af_audit.specs.declared.run_judge.RunJudge.{RunJudge}
 use Rattle.af_audit.specs.RoundTold.{MixersTold, tracks_ended}
 use Rattle.af_audit.proofs.run_judge.RunJudge.play.Goals.{then-has_ended, else-has_ended}

@@ -1,8 +1,5 @@
 use Rattle.std.proofs.Common.{◌∙◌, ◌<◌, ℕ, List, length, map, take, arith, refl, sym, subst}
-use Rattle.af_base.specs.declared.frame.Frame.{Frame}
-use Rattle.af_model.specs.Journals.{entries_of, frames_of, round_at}
-use Rattle.af_runs.specs.LegalRuns.{marks_of}
-use Rattle.af_script.specs.declared.track.TrackSpec.{TrackSpec}
+use Rattle.af_audit.proofs.Common.{Frame, TrackSpec, entries_of, frames_of, marks_of, round_at}
 use Rattle.af_audit.specs.RoundTold.{RoundPlayed}
 use Rattle.af_audit.specs.RunKept.{JudgesRound, least_found, run_before}
 use Rattle.af_audit.proofs.PartiesEnded.{none_of}

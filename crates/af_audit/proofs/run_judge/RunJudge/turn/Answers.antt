@@ -1,7 +1,5 @@
 use Rattle.std.proofs.Common.{◌&&◌, not, Bool, sym, ap, ◌∙◌}
-use Rattle.af_base.specs.Turn.{Turn, turn_of}
-use Rattle.af_judge.specs.FastKept.{number_found}
-use Rattle.af_judge.specs.TurnJudged.{TurnJudged}
+use Rattle.af_audit.proofs.Common.{Turn, TurnJudged, number_found, turn_of}
 use Rattle.af_audit.specs.declared.run_judge.RunJudge.{RunJudge}
 use Rattle.af_audit.proofs.TurnTells.{report_so, turn_so}
 use Rattle.af_audit.proofs.run_judge.RunJudge.turn.Goals as goal

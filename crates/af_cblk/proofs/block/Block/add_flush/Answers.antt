@@ -1,6 +1,6 @@
 use Rattle.std.proofs.Common.{rules, arith, ◌≡◌, ◌+◌, ◌<◌, refl, sym, ap, ◌∙◌, subst}
+use Rattle.af_cblk.proofs.Common.{flushes_of}
 use Rattle.af_base.specs.declared.event.ClientEvent.TheVariants as client
-use Rattle.af_model.specs.History.{flushes_of}
 use Rattle.af_cblk.specs.declared.view.ClientPart.{ClientPart}
 use Rattle.af_cblk.specs.Shape.{most_flushes}
 use Rattle.af_cblk.specs.Parts.{flush_amount}

@@ -1,5 +1,5 @@
 use Rattle.std.proofs.Common.{sym, ap, ◌∙◌}
-use Rattle.af_model.specs.Point.{wrapped}
+use Rattle.af_cblk.proofs.Common.{wrapped}
 use Rattle.af_cblk.specs.Parts.{released}
 use Rattle.af_cblk.specs.Sides.{Made, ClientSide}
 use Rattle.af_cblk.proofs.Flushes.{step_is}

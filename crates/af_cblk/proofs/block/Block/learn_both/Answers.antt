@@ -1,14 +1,12 @@
 use Rattle.std.proofs.Common.{rules, ◌≤◌, ◌≡◌, ◌-◌, sym, ap, ◌∙◌, refl, subst, true, length}
+use Rattle.af_cblk.proofs.Common.{Shape, is_lawful, lawful_more}
 use Rattle.af_base.specs.declared.event.ClientEvent.TheVariants as client
 use Rattle.af_base.specs.declared.event.ServerEvent.TheVariants as server
-use Rattle.af_model.specs.History.{is_lawful}
-use Rattle.af_model.proofs.Counts.{lawful_more}
 use Rattle.af_cblk.specs.Parts.{client_met, server_did}
 use Rattle.af_cblk.specs.Plays.{Meeting}
 use Rattle.af_cblk.specs.Sides.{Made}
 use Rattle.af_cblk.proofs.Calls.{learns_by_client, learns_by_server}
 use Rattle.af_cblk.proofs.Parting.{one_less}
-use Rattle.af_model.specs.declared.shape.Shape.{Shape}
 use Rattle.af_cblk.specs.Unshut.{NeitherShut}
 use Rattle.af_cblk.proofs.NoneShut.{neither_shut}
 use Rattle.af_cblk.proofs.block.Block.learn_both.Goals as goal

@@ -1,5 +1,5 @@
 use Rattle.std.proofs.Common.{◌≡◌, ◌+◌, ◌-◌, ◌≤◌, length, take, map}
-use Rattle.af_base.specs.Sample.{packed_word}
+use Rattle.af_cblk.proofs.Common.{packed_word}
 use Rattle.af_cblk.specs.Parts.{saw_next}
 use Rattle.af_cblk.specs.Sides.{ServerIs}
 use Rattle.af_cblk.proofs.block.Block.load_cells.Given as goal

@@ -1,7 +1,6 @@
 use Rattle.std.proofs.Common.{rules, ◌≡◌, ℕ, ◌%◌, ◌^◌, true, bit_and, sym, ap, ◌∙◌, subst, refl}
+use Rattle.af_cblk.proofs.Common.{and_mask, is_lawful}
 use Rattle.af_base.specs.declared.event.ClientEvent.TheVariants as client
-use Rattle.std.proofs.lemmas.Nat.{and_mask}
-use Rattle.af_model.specs.History.{is_lawful}
 use Rattle.af_cblk.specs.declared.view.ClientPart.{ClientPart}
 use Rattle.af_cblk.specs.Plays.{HasFlags}
 use Rattle.af_cblk.specs.Sides.{Made, client_made}

@@ -1,7 +1,6 @@
 use Rattle.std.proofs.Common.{◌≡◌, sym, ap, ◌∙◌, refl, subst, true, length}
+use Rattle.af_cblk.proofs.Common.{is_lawful, lawful_more}
 use Rattle.af_base.specs.declared.event.ClientEvent.TheVariants as client
-use Rattle.af_model.specs.History.{is_lawful}
-use Rattle.af_model.proofs.Counts.{lawful_more}
 use Rattle.af_cblk.specs.Sides.{Made, client_made}
 use Rattle.af_cblk.proofs.Parting.{met}
 use Rattle.af_cblk.specs.Parts.{client_met}

@@ -1,6 +1,5 @@
 use Rattle.std.proofs.Common.{arith, ◌≡◌, ◌+◌, ◌-◌, ◌%◌, ◌^◌, ◌<◌, ◌≤◌, ℕ, length, map, take, drop, length-drop, length-take-le, sym, ap, ◌∙◌, subst}
-use Rattle.af_base.specs.Sample.{packed_word}
-use Rattle.af_model.specs.declared.shape.Shape.{Shape}
+use Rattle.af_cblk.proofs.Common.{Shape, packed_word}
 use Rattle.af_cblk.specs.declared.view.ClientPart.{ClientPart}
 use Rattle.af_cblk.specs.Parts.{number_at, room}
 use Rattle.af_cblk.specs.Shape.{IsShape}

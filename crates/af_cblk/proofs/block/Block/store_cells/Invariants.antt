@@ -1,5 +1,5 @@
 use Rattle.std.proofs.Common.{◌≡◌, ◌+◌, ◌-◌, ◌≤◌, length, take, map}
-use Rattle.af_base.specs.Sample.{packed_word}
+use Rattle.af_cblk.proofs.Common.{packed_word}
 use Rattle.af_cblk.specs.Parts.{next_stored}
 use Rattle.af_cblk.specs.Sides.{client_made}
 use Rattle.af_cblk.proofs.block.Block.store_cells.Given as goal

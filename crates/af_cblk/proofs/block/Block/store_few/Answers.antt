@@ -1,6 +1,5 @@
 use Rattle.std.proofs.Common.{arith, ◌≡◌, ◌+◌, ◌-◌, ◌<◌, ◌≤◌, ℕ, ◌∷◌, [], length, map, take, get_or, sym, ap, ◌∙◌, subst}
-use Rattle.std.proofs.lemmas.List.{get_or-map}
-use Rattle.af_base.specs.Sample.{packed_word}
+use Rattle.af_cblk.proofs.Common.{get_or-map, packed_word}
 use Rattle.af_cblk.specs.declared.view.ClientPart.{ClientPart}
 use Rattle.af_cblk.specs.Parts.{number_at, room}
 use Rattle.af_cblk.specs.Shape.{IsShape}

@@ -1,5 +1,5 @@
 use Rattle.std.proofs.Common.{arith, ◌≡◌, ◌+◌, ◌-◌, ◌<◌, ◌≤◌, ℕ, length, map, take, drop, length-drop, length-take-le, take_all, sym, ap, ◌∙◌, subst}
-use Rattle.af_base.specs.Sample.{packed_word}
+use Rattle.af_cblk.proofs.Common.{packed_word}
 use Rattle.af_cblk.specs.declared.view.ClientPart.{ClientPart}
 use Rattle.af_cblk.specs.Parts.{number_at, room}
 use Rattle.af_cblk.specs.Shape.{IsShape}

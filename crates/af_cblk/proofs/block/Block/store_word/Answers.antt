@@ -1,5 +1,5 @@
 use Rattle.std.proofs.Common.{rules, ◌≡◌, ◌+◌, ◌-◌, ◌%◌, ◌<◌, sym, ap, ◌∙◌, subst, arith}
-use Rattle.af_model.specs.declared.shape.Shape.{Shape}
+use Rattle.af_cblk.proofs.Common.{Shape}
 use Rattle.af_cblk.specs.declared.view.ClientPart.{ClientPart}
 use Rattle.af_cblk.specs.Parts.{ahead, released, room, cell_stored}
 use Rattle.af_cblk.specs.Shape.{IsShape}

@@ -1,5 +1,5 @@
 use Rattle.std.proofs.Common.{◌≡◌, ℕ, ◌+◌, ap, ◌∙◌}
-use Rattle.af_model.specs.History.{flushes_of}
+use Rattle.af_client.proofs.Common.{flushes_of}
 use Rattle.af_client.specs.Order.{ClientState}
 use Rattle.af_client.proofs.Kept.{flush_keeps}
 use Rattle.af_client.proofs.client.Client.flush.Goals as goal

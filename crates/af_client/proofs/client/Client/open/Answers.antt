@@ -1,11 +1,6 @@
 use Rattle.std.proofs.Common.{rules, arith, ◌≡◌, ℕ, ◌+◌, ◌-◌, ◌%◌, ◌<◌, ◌≤◌, true, MatchOption, Option, None, refl, sym, ap, ◌∙◌, subst}
+use Rattle.af_client.proofs.Common.{ClientPart, Made, client_did, client_saw_front, filled, is_lawful, lawful_more, released, wrapped}
 use Rattle.af_base.specs.declared.event.ClientEvent.TheVariants as client
-use Rattle.af_model.specs.Point.{wrapped}
-use Rattle.af_model.specs.History.{is_lawful}
-use Rattle.af_model.proofs.Counts.{lawful_more}
-use Rattle.af_cblk.specs.declared.view.ClientPart.{ClientPart}
-use Rattle.af_cblk.specs.Parts.{released, filled, client_did, client_saw_front}
-use Rattle.af_cblk.specs.Sides.{Made}
 use Rattle.af_client.specs.Order.{ClientState}
 use Rattle.af_client.specs.Calls.{saw_both}
 use Rattle.af_client.proofs.Stores.{filled-word}

@@ -1,7 +1,7 @@
 use Rattle.std.proofs.Common.{ℕ, ◌+◌, ◌<◌, refl, false, sym, ap, subst}
+use Rattle.af_client.proofs.Common.{Made}
 use Rattle.af_base.specs.declared.event.ClientCall.TheVariants as call
 use Rattle.af_base.specs.declared.event.ClientEvent.TheVariants as client
-use Rattle.af_cblk.specs.Sides.{Made}
 use Rattle.af_client.proofs.Kept.{quiet_keeps}
 use Rattle.af_client.proofs.client.Client.poke.Goals as goal
 

@@ -1,7 +1,5 @@
 use Rattle.std.proofs.Common.{arith, ◌≡◌, ℕ, ◌-◌, ◌%◌, ◌≤◌, min, map, take, length, ap, ◌∙◌, sym, subst}
-use Rattle.af_base.specs.Sample.{packed_word}
-use Rattle.af_model.specs.Point.{wrapped}
-use Rattle.af_cblk.specs.Parts.{released}
+use Rattle.af_client.proofs.Common.{packed_word, released, wrapped}
 use Rattle.af_client.specs.Order.{ClientState}
 use Rattle.af_client.specs.Calls.{SameBut}
 use Rattle.af_client.proofs.Opened.{same_end, before_end, put_is, put_rear, words_are}

@@ -1,6 +1,6 @@
 use Rattle.std.proofs.Common.{rules, arith, ◌≤◌, map, take, length, refl}
+use Rattle.af_client.proofs.Common.{packed_word}
 use Rattle.af_base.specs.declared.event.ClientCall.TheVariants as call
-use Rattle.af_base.specs.Sample.{packed_word}
 use Rattle.af_client.specs.Order.{ClientState}
 use Rattle.af_client.specs.Calls.{Answers}
 use Rattle.af_client.proofs.Opened.{dead_keeps, full_keeps, put_keeps, corrupt_keeps, words_are}

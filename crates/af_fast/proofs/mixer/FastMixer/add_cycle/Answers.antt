@@ -1,5 +1,5 @@
 use Rattle.std.proofs.Common.{true≢false, refl, sym, ap, subst, ◌∙◌}
-use Rattle.af_model.specs.Cycles.{cycle_of, is_mixed}
+use Rattle.af_fast.proofs.Common.{cycle_of, is_mixed}
 use Rattle.af_fast.specs.Mixer.{MixerState, IsInOrderAfter}
 use Rattle.af_fast.proofs.Added.{mixed_is}
 use Rattle.af_fast.proofs.mixer.FastMixer.add_cycle.Goals as goal

@@ -1,19 +1,9 @@
 use Rattle.std.proofs.Common.{rules, ◌≡◌, ◌+◌, ◌*◌, ◌≤◌, ◌<◌, Option, List, Some, false, true≢false, length, refl, sym, ap, subst, ◌∙◌, arith}
-use Rattle.af_base.specs.declared.frame.Frame.{Frame}
+use Rattle.af_fast.proofs.Common.{CycleEntry, FastState, Frame, Observes, ServerState, StreamNames, cycle_of, last_cycle, mix, still_entry, takes_of, tracks_of}
 use Rattle.af_base.specs.declared.log.Cycle.TheVariants as cycle
-use Rattle.af_base.specs.declared.log.CycleEntry.{CycleEntry}
-use Rattle.af_base.specs.declared.state.FastState.{FastState}
-use Rattle.af_base.specs.Log.{takes_of}
-use Rattle.af_base.specs.Mix.{mix}
-use Rattle.af_model.specs.Cycles.{cycle_of, still_entry}
-use Rattle.af_server.specs.Order.{ServerState}
-use Rattle.af_stateq.specs.Observes.{Observes}
-use Rattle.af_link.specs.Reports.{last_cycle}
-use Rattle.af_link.specs.declared.names.StreamNames.{StreamNames}
 use Rattle.af_fast.specs.contracts.mixer.FastMixer.{the_view}
 use Rattle.af_fast.specs.Mixer.{MixerState, IsInOrderAfter, AreFew, is_over, most_entries}
 use Rattle.af_fast.specs.Mixing.{AddsCycleAfter, StoresReport, Writes, notes}
-use Rattle.af_model.specs.Tracks.{tracks_of}
 use Rattle.af_fast.proofs.Added.{Comes, mixed_some, few_counted, few_reports, log_open, mix_step, room_one}
 use Rattle.af_fast.proofs.Counted.{mixed_few}
 use Rattle.af_fast.proofs.mixer.FastMixer.add_mix.Goals as goal

@@ -1,6 +1,5 @@
 use Rattle.std.proofs.Common.{rules, ◌≡◌, List, false, sym, ap, subst, ◌∙◌, arith}
-use Rattle.af_base.specs.declared.log.CycleEntry.{CycleEntry}
-use Rattle.af_model.specs.Cycles.{cycle_of, still_entry}
+use Rattle.af_fast.proofs.Common.{CycleEntry, cycle_of, still_entry}
 use Rattle.af_fast.specs.contracts.mixer.FastMixer.{the_view}
 use Rattle.af_fast.specs.Mixer.{MixerState, IsInOrderAfter, is_over}
 use Rattle.af_fast.specs.Mixing.{AddsCycleAfter}

@@ -1,10 +1,7 @@
 use Rattle.std.proofs.Common.{ℕ, ◌+◌, ◌*◌, ◌≤◌, sym, ap, subst, arith}
-use Rattle.af_base.specs.declared.state.FastState.{FastState}
-use Rattle.af_server.specs.Order.{ServerState}
+use Rattle.af_fast.proofs.Common.{FastState, ServerState, StreamNames, tracks_of}
 use Rattle.af_stateq.specs.Ends.{Polls}
-use Rattle.af_link.specs.declared.names.StreamNames.{StreamNames}
 use Rattle.af_fast.specs.Mixer.{MixerState}
-use Rattle.af_model.specs.Tracks.{tracks_of}
 use Rattle.af_fast.proofs.Counted.{seven_so, most_so}
 use Rattle.af_fast.proofs.mixer.FastMixer.cycle.Goals as goal
 

@@ -1,5 +1,5 @@
 use Rattle.std.proofs.Common.{sym, subst, arith}
-use Rattle.af_base.specs.Log.{Logged}
+use Rattle.af_fast.proofs.Common.{Logged}
 use Rattle.af_fast.specs.contracts.mixer.FastMixer.{the_view}
 use Rattle.af_fast.specs.Mixer.{MixerState, IsInOrderAfter, all_entries}
 use Rattle.af_fast.proofs.Forgotten.{forgot_order}

@@ -1,7 +1,5 @@
 use Rattle.std.proofs.Common.{rules, length, refl, sym, ap, subst, ◌∙◌, arith}
-use Rattle.af_base.specs.Log.{Logged}
-use Rattle.af_base.specs.declared.report.Report.{Report}
-use Rattle.af_model.specs.Reports.{no_slot}
+use Rattle.af_fast.proofs.Common.{Logged, Report, no_slot}
 use Rattle.af_fast.specs.Mixer.{Reported}
 use Rattle.af_fast.proofs.HeldFacts.{begins_bare}
 use Rattle.af_fast.proofs.Noted.{nothing_reported}

@@ -1,11 +1,6 @@
 use Rattle.std.proofs.Common.{rules, sym, subst}
+use Rattle.af_fast.proofs.Common.{Made, Observes, OutSide, ServerState, StreamNames, WriterSide}
 use Rattle.af_model.specs.PipeHistory.{HasPipeHistory}
-use Rattle.af_cblk.specs.Sides.{Made}
-use Rattle.af_server.specs.Order.{ServerState}
-use Rattle.af_stateq.specs.Observes.{Observes}
-use Rattle.af_link.specs.PipeEnds.{OutSide}
-use Rattle.af_link.specs.Reports.{WriterSide}
-use Rattle.af_link.specs.declared.names.StreamNames.{StreamNames}
 use Rattle.af_fast.specs.contracts.mixer.FastMixer.{the_view}
 use Rattle.af_fast.specs.Meets.{Others}
 use Rattle.af_fast.specs.Mixer.{MixerState, IsInOrderAfter}

@@ -1,9 +1,5 @@
 use Rattle.std.proofs.Common.{List, length, sym, subst, ap, ◌∙◌, arith}
-use Rattle.af_base.specs.declared.frame.Frame.{Frame}
-use Rattle.af_base.specs.declared.log.SlotEntry.{SlotEntry}
-use Rattle.af_base.specs.Log.{count_seen, takes_of}
-use Rattle.af_base.specs.Mix.{mix}
-use Rattle.af_model.specs.StateQueue.{IsState}
+use Rattle.af_fast.proofs.Common.{Frame, IsState, SlotEntry, count_seen, mix, takes_of}
 use Rattle.af_fast.specs.Mixer.{MixerState}
 use Rattle.af_fast.proofs.Parts.{scale_few}
 use Rattle.af_fast.proofs.mixer.FastMixer.mix_slots.Goals as goal

@@ -1,5 +1,5 @@
 use Rattle.std.proofs.Common.{rules, ◌+◌, refl, ap, ◌∙◌}
-use Rattle.af_model.specs.Reports.{report_at, slot_report}
+use Rattle.af_fast.proofs.Common.{report_at, slot_report}
 use Rattle.af_fast.specs.Known.{known}
 use Rattle.af_fast.specs.Mixer.{MixerState}
 use Rattle.af_fast.proofs.mixer.FastMixer.note.Goals as goal

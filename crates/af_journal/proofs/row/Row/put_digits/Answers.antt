@@ -1,5 +1,5 @@
 use Rattle.std.proofs.Common.{◌≤◌, length, drop, ap, arith, length-append, length-drop}
-use Rattle.std.proofs.lemmas.Fmt.{length-decimal-le}
+use Rattle.af_journal.proofs.Common.{length-decimal-le}
 use Rattle.std.specs.Prelude.{decimal}
 use Rattle.af_journal.proofs.row.Row.put_digits.Goals as goal
 

@@ -1,5 +1,5 @@
 use Rattle.std.proofs.Common.{arith, ◌↔◌, IsTrue, subst}
-use Rattle.af_model.specs.Cycles.{Listed}
+use Rattle.af_judge.proofs.Common.{Listed}
 use Rattle.af_judge.specs.Blocks.{BlockJudged, listed_in}
 use Rattle.af_judge.specs.Servers.{LooksRightly}
 use Rattle.af_judge.proofs.SomeFront.{looks_rightly}

@@ -1,5 +1,5 @@
 use Rattle.std.proofs.Common.{◌≡◌, subst}
-use Rattle.af_runs.specs.Fronts.{front_of}
+use Rattle.af_judge.proofs.Common.{front_of}
 use Rattle.af_judge.specs.Blocks.{BlockJudged, listed_in}
 use Rattle.af_judge.proofs.block_judge.BlockJudge.front_told.Goals as goal
 

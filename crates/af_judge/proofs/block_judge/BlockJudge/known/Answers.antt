@@ -1,5 +1,5 @@
 use Rattle.std.proofs.Common.{◌≡◌, subst}
-use Rattle.af_life.specs.Heard.{known_by}
+use Rattle.af_judge.proofs.Common.{known_by}
 use Rattle.af_judge.specs.Blocks.{BlockJudged, listed_in}
 use Rattle.af_judge.proofs.block_judge.BlockJudge.known.Goals as goal
 

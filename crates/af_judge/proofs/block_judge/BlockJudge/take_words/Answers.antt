@@ -1,5 +1,5 @@
 use Rattle.std.proofs.Common.{ap, ◌∙◌, map}
-use Rattle.af_base.specs.Sample.{packed_word}
+use Rattle.af_judge.proofs.Common.{packed_word}
 use Rattle.af_judge.specs.declared.server_judge.ServerJudge.{ServerJudge}
 use Rattle.af_judge.specs.Blocks.{BlockJudged, taken_more}
 use Rattle.af_judge.proofs.BlockKept.{words_told}

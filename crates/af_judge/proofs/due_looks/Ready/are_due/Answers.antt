@@ -1,6 +1,6 @@
 use Rattle.std.proofs.Common.{sym, ◌∙◌, arith}
+use Rattle.af_judge.proofs.Common.{CommandLook}
 use Rattle.af_base.specs.declared.seen.Seen.TheVariants as seen
-use Rattle.af_base.specs.declared.turn.CommandLook.{CommandLook}
 use Rattle.af_judge.proofs.LooksDue.{none_beyond, one_on, one_after, stops_there, all_made, settles_more}
 use Rattle.af_judge.proofs.due_looks.Ready.are_due.Goals as goal
 

@@ -1,6 +1,5 @@
 use Rattle.std.proofs.Common.{◌≡◌, ◌≤◌, ◌+◌, true, take}
-use Rattle.af_life.specs.Obeys.{all_go_on}
-use Rattle.af_life.proofs.LooksSoFar.{after_all}
+use Rattle.af_judge.proofs.Common.{after_all, all_go_on}
 use Rattle.af_judge.proofs.due_looks.Ready.are_due.Given as goal
 
 abbrev pub invariant-loop-made : goal.invariant-loop-made

@@ -1,9 +1,6 @@
 use Rattle.std.proofs.Common.{◌≡◌, ◌↔◌, IsTrue, Bool, true, false, not, true≢false, refl, ap, subst, ◌∙◌, List}
+use Rattle.af_judge.proofs.Common.{CommandLook, HasDueLooks, after_commands, after_part, told_by_report, track_seen}
 use Rattle.std.proofs.Math.Bool.{beq}
-use Rattle.af_base.specs.declared.turn.CommandLook.{CommandLook}
-use Rattle.af_base.specs.Turn.{track_seen}
-use Rattle.af_life.specs.Reports.{told_by_report}
-use Rattle.af_life.specs.Serves.{HasDueLooks, after_commands, after_part}
 use Rattle.af_judge.proofs.ServedExactly.{served_by}
 use Rattle.af_judge.proofs.due_looks.Ready.is_served.Goals as goal
 

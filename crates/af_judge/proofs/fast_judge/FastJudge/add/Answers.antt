@@ -1,5 +1,5 @@
 use Rattle.std.proofs.Common.{◌≡◌, ◌∷◌, [], ◌++◌, ◌||◌, if◌then◌else◌, ap, ◌∙◌}
-use Rattle.af_model.specs.Cycles.{cold_of, is_cold, is_exit, state_of}
+use Rattle.af_judge.proofs.Common.{cold_of, is_cold, is_exit, state_of}
 use Rattle.af_judge.specs.FastKept.{FastKept, heard_slots}
 use Rattle.af_judge.specs.Reporting.{Telling, entry_added, told_at_slot}
 use Rattle.af_judge.proofs.fast_judge.FastJudge.add.Goals as goal

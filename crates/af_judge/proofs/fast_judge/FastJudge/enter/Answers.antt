@@ -1,7 +1,5 @@
 use Rattle.std.proofs.Common.{◌≡◌, ℕ, ◌<◌, List, drop, get_or, length, length-drop, sym, ◌∙◌, arith}
-use Rattle.std.proofs.lemmas.List.{get_or-drop}
-use Rattle.af_base.specs.declared.log.CycleEntry.{CycleEntry}
-use Rattle.af_base.specs.Log.{no_entry}
+use Rattle.af_judge.proofs.Common.{CycleEntry, get_or-drop, no_entry}
 use Rattle.af_judge.specs.EntriesTold.{playing}
 use Rattle.af_judge.proofs.EntriesStep.{leaves_so, right_so, step_right, step_told}
 use Rattle.af_judge.proofs.fast_judge.FastJudge.enter.Goals as goal

@@ -1,6 +1,6 @@
 -- the entries before this one are told
 use Rattle.std.proofs.Common.{◌≡◌, ◌↔◌, drop, take}
-use Rattle.std.specs.Prelude.{IsTrue}
+use Rattle.af_judge.proofs.Common.{IsTrue}
 use Rattle.af_judge.specs.EntriesTold.{AreEntriesRight, entries_leave, playing}
 use Rattle.af_judge.proofs.fast_judge.FastJudge.enter.Given as goal
 

@@ -1,6 +1,5 @@
 use Rattle.std.proofs.Common.{◌≡◌, subst, sym, ap, ◌∙◌}
-use Rattle.af_base.specs.declared.state.FastState.{FastState}
-use Rattle.af_base.specs.Log.{slots}
+use Rattle.af_judge.proofs.Common.{FastState, slots}
 use Rattle.af_judge.specs.FastKept.{FastKept, IsMixRight, entry_tracks, fast_added, fast_polled, pipe_played, slots_played}
 use Rattle.af_judge.specs.Reporting.{state_in}
 use Rattle.af_judge.proofs.fast_judge.FastJudge.entry.Goals as goal

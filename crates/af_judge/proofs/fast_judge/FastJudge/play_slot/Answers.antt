@@ -1,7 +1,5 @@
 use Rattle.std.proofs.Common.{◌≡◌, true, subst, sym, ap, ◌∙◌}
-use Rattle.af_base.specs.Log.{entry_slot}
-use Rattle.af_model.specs.StateQueue.{carries, slot_of}
-use Rattle.af_runs.specs.Fronts.{is_shown}
+use Rattle.af_judge.proofs.Common.{carries, entry_slot, is_shown, slot_of}
 use Rattle.af_judge.specs.FastKept.{FastKept, IsLookRight}
 use Rattle.af_judge.proofs.fast_judge.FastJudge.play_slot.Goals as goal
 

@@ -1,7 +1,6 @@
-use Rattle.std.specs.Prelude.{◌↔◌, IsTrue}
+use Rattle.std.specs.Prelude.{◌↔◌}
 use Rattle.std.proofs.Common.{◌≡◌, inl, inr, ℕ, suc, ◌+◌, ◌<◌, List, subst, sym, refl, ap, ◌∙◌, arith}
-use Rattle.af_base.proofs.Basics.{below_or_at}
-use Rattle.af_base.specs.Log.{slots}
+use Rattle.af_judge.proofs.Common.{IsTrue, below_or_at, slots}
 use Rattle.af_judge.specs.declared.track_judge.TrackJudge.{TrackJudge}
 use Rattle.af_judge.specs.FastKept.{AreSlotsRight, IsSlotRight, slot_played, slots_played}
 use Rattle.af_judge.proofs.fast_judge.FastJudge.play_slots.Goals as goal

@@ -1,6 +1,6 @@
 -- the slots before this one are played
 use Rattle.std.proofs.Common.{◌≡◌, ◌↔◌}
-use Rattle.std.specs.Prelude.{IsTrue}
+use Rattle.af_judge.proofs.Common.{IsTrue}
 use Rattle.af_judge.specs.FastKept.{AreSlotsRight, slots_played}
 use Rattle.af_judge.proofs.fast_judge.FastJudge.play_slots.Given as goal
 

@@ -1,10 +1,5 @@
 use Rattle.std.proofs.Common.{◌+◌, ◌<◌, refl, ap, sym, ◌∙◌, List, length, map, arith}
-use Rattle.af_base.proofs.Basics.{all_more}
-use Rattle.af_base.specs.declared.turn.TrackTurn.{TrackTurn}
-use Rattle.af_base.specs.Turn.{TrackSeen, track_seen}
-use Rattle.af_life.specs.Kept.{Learnt, seen_at}
-use Rattle.af_life.specs.Plain.{learnt_of}
-use Rattle.af_life.specs.Serves.{LegalTrack, served_to}
+use Rattle.af_judge.proofs.Common.{Learnt, LegalTrack, TrackSeen, TrackTurn, all_more, learnt_of, seen_at, served_to, track_seen}
 use Rattle.af_judge.proofs.ServedAll.{seen_is, looks_are, as_many, slot_is, settled_is, next, legal_so}
 use Rattle.af_judge.proofs.mixer_setup.MixerSetup.are_served.Goals as goal
 

@@ -1,8 +1,5 @@
 use Rattle.std.proofs.Common.{◌≡◌, ℕ, ◌<◌, map}
-use Rattle.af_base.specs.Turn.{track_seen}
-use Rattle.af_life.specs.Kept.{seen_at}
-use Rattle.af_life.specs.Plain.{learnt_of}
-use Rattle.af_life.specs.Serves.{LegalTrack, served_to}
+use Rattle.af_judge.proofs.Common.{LegalTrack, learnt_of, seen_at, served_to, track_seen}
 use Rattle.af_judge.proofs.mixer_setup.MixerSetup.are_served.Given as goal
 
 abbrev pub invariant-loop-i : goal.invariant-loop-i

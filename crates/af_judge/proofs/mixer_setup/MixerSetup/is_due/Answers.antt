@@ -1,7 +1,5 @@
 use Rattle.std.proofs.Common.{sym, ap, ◌∙◌}
-use Rattle.af_life.specs.declared.kept.TrackKept.{TrackKept}
-use Rattle.af_base.specs.Turn.{track_seen}
-use Rattle.af_life.specs.Plain.{learnt_of}
+use Rattle.af_judge.proofs.Common.{TrackKept, learnt_of, track_seen}
 use Rattle.af_judge.proofs.ServedExactly.{living}
 use Rattle.af_judge.proofs.mixer_setup.MixerSetup.is_due.Goals as goal
 

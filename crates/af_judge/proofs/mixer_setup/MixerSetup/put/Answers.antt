@@ -1,12 +1,6 @@
 use Rattle.std.proofs.Common.{◌≡◌, sym, ap, ◌∙◌, subst, List, map}
-use Rattle.std.specs.Prelude.{IfOk}
-use Rattle.std.proofs.lemmas.List.{take_all}
-use Rattle.af_base.specs.declared.frame.Frame.{Frame}
-use Rattle.af_base.specs.declared.plain.Part.{Part}
-use Rattle.af_base.specs.declared.turn.NormalTake.{NormalTake}
+use Rattle.af_judge.proofs.Common.{Frame, IfOk, NormalTake, Part, take_all, take_of, take_seen}
 use Rattle.af_base.specs.Part.{take_of as part_of}
-use Rattle.af_base.specs.Turn.{take_seen}
-use Rattle.af_life.specs.Plays.{take_of}
 use Rattle.af_judge.proofs.NormalKept.{put_is}
 use Rattle.af_judge.proofs.mixer_setup.MixerSetup.put.Goals as goal
 

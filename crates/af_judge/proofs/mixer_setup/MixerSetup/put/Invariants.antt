@@ -1,7 +1,6 @@
 use Rattle.std.proofs.Common.{◌≡◌, map, take}
+use Rattle.af_judge.proofs.Common.{take_of, take_seen}
 use Rattle.af_base.specs.Part.{take_of as part_of}
-use Rattle.af_base.specs.Turn.{take_seen}
-use Rattle.af_life.specs.Plays.{take_of}
 use Rattle.af_judge.proofs.mixer_setup.MixerSetup.put.Given as goal
 
 abbrev pub invariant-loop-take : goal.invariant-loop-take

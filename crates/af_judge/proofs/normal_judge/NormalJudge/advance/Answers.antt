@@ -1,11 +1,5 @@
 use Rattle.std.proofs.Common.{◌≡◌, ◌++◌, ◌∷◌, [], if◌then◌else◌, ap, ◌∙◌, sym, subst}
-use Rattle.af_base.specs.declared.state.FastState.{FastState}
-use Rattle.af_base.specs.Turn.{turn_of}
-use Rattle.af_life.specs.Kept.{Learnt, NormalKept}
-use Rattle.af_life.specs.Plain.{Plain, learnt_of}
-use Rattle.af_life.specs.Plays.{tracks_due}
-use Rattle.af_life.specs.Turn.{after_edits, turn_after}
-use Rattle.af_runs.specs.Told.{is_pushed}
+use Rattle.af_judge.proofs.Common.{FastState, Learnt, NormalKept, Plain, after_edits, is_pushed, learnt_of, tracks_due, turn_after, turn_of}
 use Rattle.af_judge.specs.NormalJudged.{NormalJudged, IsJudged}
 use Rattle.af_judge.proofs.NormalKept.{draft_so, last_so, dirty_so, pushed_so, due_so, still_judged, both_so, due_by}
 use Rattle.af_judge.proofs.normal_judge.NormalJudge.advance.Goals as goal

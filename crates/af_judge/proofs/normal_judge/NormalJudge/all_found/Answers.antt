@@ -1,8 +1,5 @@
 use Rattle.std.proofs.Common.{ap, ◌∙◌, if◌then◌else◌, List, map}
-use Rattle.std.proofs.lemmas.List.{take_all}
-use Rattle.af_life.specs.declared.kept.TrackKept.{TrackKept}
-use Rattle.af_life.specs.Edits.{welcomed}
-use Rattle.af_base.specs.declared.state.FastState.{FastState}
+use Rattle.af_judge.proofs.Common.{FastState, TrackKept, take_all, welcomed}
 use Rattle.af_judge.specs.NormalJudged.{NormalJudged}
 use Rattle.af_judge.proofs.NormalKept.{acked_is}
 use Rattle.af_judge.proofs.normal_judge.NormalJudge.all_found.Goals as goal

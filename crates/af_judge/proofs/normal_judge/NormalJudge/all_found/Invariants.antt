@@ -1,6 +1,5 @@
 use Rattle.std.proofs.Common.{◌≡◌, if◌then◌else◌, map, take}
-use Rattle.af_life.specs.declared.kept.TrackKept.{TrackKept}
-use Rattle.af_life.specs.Edits.{welcomed}
+use Rattle.af_judge.proofs.Common.{TrackKept, welcomed}
 use Rattle.af_judge.proofs.normal_judge.NormalJudge.all_found.Given as goal
 
 abbrev pub invariant-loop-track : goal.invariant-loop-track

@@ -1,9 +1,5 @@
 use Rattle.std.proofs.Common.{ap, ◌∙◌, List, length, map}
-use Rattle.af_base.specs.declared.turn.TrackTurn.{TrackTurn}
-use Rattle.af_base.specs.Turn.{track_seen, turn_of}
-use Rattle.af_life.specs.Plain.{learnt_of}
-use Rattle.af_life.specs.Edits.{after_ack}
-use Rattle.af_life.proofs.Lives.{acked_len}
+use Rattle.af_judge.proofs.Common.{TrackTurn, acked_len, after_ack, learnt_of, track_seen, turn_of}
 use Rattle.af_judge.specs.NormalJudged.{NormalJudged}
 use Rattle.af_judge.proofs.NormalKept.{found_room, found_slots, served_so}
 use Rattle.af_judge.proofs.normal_judge.NormalJudge.are_served.Goals as goal

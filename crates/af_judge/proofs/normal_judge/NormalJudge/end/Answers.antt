@@ -1,7 +1,5 @@
 use Rattle.std.proofs.Common.{◌≡◌, true, refl, ap, ◌∙◌, sym, subst}
-use Rattle.af_base.specs.Turn.{Turn, turn_of, ended_turn}
-use Rattle.af_life.specs.Kept.{NormalKept}
-use Rattle.af_life.specs.Plain.{Plain, learnt_of}
+use Rattle.af_judge.proofs.Common.{NormalKept, Plain, Turn, ended_turn, learnt_of, turn_of}
 use Rattle.af_judge.specs.NormalJudged.{NormalJudged, IsJudged}
 use Rattle.af_judge.proofs.NormalKept.{rests_so, still_judged}
 use Rattle.af_judge.proofs.normal_judge.NormalJudge.end.Goals as goal

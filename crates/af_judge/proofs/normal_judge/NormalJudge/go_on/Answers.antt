@@ -1,10 +1,5 @@
 use Rattle.std.proofs.Common.{◌≡◌, ◌↔◌, ℕ, map, IsTrue, ap, ◌∙◌, subst, List}
-use Rattle.std.specs.List.{AllByRecursion}
-use Rattle.af_base.specs.declared.turn.NormalTake.{NormalTake}
-use Rattle.af_life.specs.declared.kept.Heard.{Heard}
-use Rattle.af_base.specs.Turn.{turn_of, take_seen}
-use Rattle.af_life.specs.Kept.{Learnt, asked}
-use Rattle.af_life.specs.Plain.{learnt_of}
+use Rattle.af_judge.proofs.Common.{AllByRecursion, Heard, Learnt, NormalTake, asked, learnt_of, take_seen, turn_of}
 use Rattle.af_judge.specs.NormalJudged.{NormalJudged}
 use Rattle.af_judge.specs.NormalTold.{IsRightTake}
 use Rattle.af_judge.proofs.NormalRight.{right_so}

@@ -1,14 +1,6 @@
 use Rattle.std.proofs.Common.{◌≡◌, ◌<◌, if◌then◌else◌, ap, ◌∙◌, sym, refl, List, length, arith}
-use Rattle.std.specs.Prelude.{slice_index_or}
-use Rattle.std.proofs.lemmas.List.{length-set}
-use Rattle.af_base.specs.declared.state.FastState.{FastState}
-use Rattle.af_base.specs.declared.turn.TrackTurn.{TrackTurn}
-use Rattle.af_base.specs.Turn.{turn_of, track_seen}
+use Rattle.af_judge.proofs.Common.{FastState, Learnt, TrackKept, TrackTurn, after_ack, learnt_of, length-set, slice_index_or, slot_number, track_at, track_in, track_seen, turn_of, welcomed}
 use Rattle.af_judge.proofs.Basics.{there_is}
-use Rattle.af_life.specs.declared.kept.TrackKept.{TrackKept}
-use Rattle.af_life.specs.Edits.{after_ack, welcomed}
-use Rattle.af_life.specs.Kept.{Learnt, slot_number, track_at, track_in}
-use Rattle.af_life.specs.Plain.{learnt_of}
 use Rattle.af_judge.specs.declared.track_judge.TrackJudge.{TrackJudge}
 use Rattle.af_judge.specs.NormalJudged.{NormalJudged}
 use Rattle.af_judge.specs.NormalTold.{IsTrackAt}

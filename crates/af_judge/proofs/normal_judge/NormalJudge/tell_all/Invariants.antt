@@ -1,6 +1,5 @@
 use Rattle.std.proofs.Common.{◌≡◌, ◌↔◌, IsTrue, length}
-use Rattle.af_base.specs.Turn.{turn_of}
-use Rattle.af_life.specs.Plain.{learnt_of}
+use Rattle.af_judge.proofs.Common.{learnt_of, turn_of}
 use Rattle.af_judge.specs.NormalTold.{AllTold, LooksRight}
 use Rattle.af_judge.proofs.normal_judge.NormalJudge.tell_all.Given as goal
 

@@ -1,8 +1,5 @@
 use Rattle.std.proofs.Common.{◌≡◌, ◌↔◌, Bool, true, IsTrue, MatchBool, length, sym, ap, subst, arith}
-use Rattle.std.specs.Prelude.{IfOk}
-use Rattle.af_base.specs.Turn.{turn_of, ended_turn}
-use Rattle.af_life.specs.Plain.{Plain}
-use Rattle.af_life.specs.Turn.{ends_now}
+use Rattle.af_judge.proofs.Common.{IfOk, Plain, ended_turn, ends_now, turn_of}
 use Rattle.af_judge.specs.NormalJudged.{NormalJudged}
 use Rattle.af_judge.specs.NormalTold.{RightTurn}
 use Rattle.af_judge.proofs.NormalKept.{takes_so}

@@ -1,5 +1,5 @@
 use Rattle.std.proofs.Common.{arith, ◌≡◌, ◌+◌, ◌≤◌, length, ap, ◌∙◌, sym, length-append}
-use Rattle.af_merges.specs.Merges.{Merged}
+use Rattle.af_judge.proofs.Common.{Merged}
 use Rattle.af_judge.specs.PipeKept.{pipe_begins}
 use Rattle.af_judge.specs.Meetings.{AreMeetings}
 use Rattle.af_judge.proofs.OnlyMeetings.{answered_pieces, pieces_few, pieces_meet}

@@ -1,14 +1,6 @@
-use Rattle.std.specs.List.{range_with_len}
-use Rattle.std.specs.Prelude.{slice_set}
 use Rattle.std.proofs.Common.{List, ◌≡◌, ◌⊎◌, inl, inr, ℕ, ◌+◌, ◌<◌, ◌≤◌, length, map, sym, ap, ◌∙◌, subst, arith}
-use Rattle.std.proofs.lemmas.Bool.{cases_lt}
-use Rattle.std.proofs.lemmas.List.{get_or-set_other, get_or-set_same, length-set}
+use Rattle.af_judge.proofs.Common.{FastState, SlotReport, cases_lt, fill_by_all, get_or-set_other, get_or-set_same, length-set, no_slot, range_with_len, report_at, slice_set, slots}
 use Rattle.std.proofs.lemmas.List.Edits.{fill_by_more}
-use Rattle.std.proofs.lemmas.List.FromFn.{fill_by_all}
-use Rattle.af_base.specs.declared.report.SlotReport.{SlotReport}
-use Rattle.af_base.specs.declared.state.FastState.{FastState}
-use Rattle.af_base.specs.Log.{slots}
-use Rattle.af_model.specs.Reports.{no_slot, report_at}
 use Rattle.af_judge.specs.Reporting.{CountsUpTo, Telling, slot_added, state_in, told_at_slot}
 use Rattle.af_judge.proofs.slot_report.Reporter.add.Goals as goal
 

@@ -1,7 +1,6 @@
 -- the slots before this one are those after the entry
 use Rattle.std.proofs.Common.{◌≡◌, ℕ, ◌+◌, ◌<◌, length}
-use Rattle.af_base.specs.Log.{slots}
-use Rattle.af_model.specs.Reports.{report_at}
+use Rattle.af_judge.proofs.Common.{report_at, slots}
 use Rattle.af_judge.specs.Reporting.{CountsUpTo, slot_added, told_at_slot}
 use Rattle.af_judge.proofs.slot_report.Reporter.add.Given as goal
 

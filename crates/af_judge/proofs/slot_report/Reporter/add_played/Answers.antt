@@ -1,12 +1,5 @@
-use Rattle.std.specs.List.{range_with_len}
 use Rattle.std.proofs.Common.{List, ◌≡◌, ℕ, ◌+◌, ◌<◌, map, get_or, sym, ap, ◌∙◌, subst, rules, arith}
-use Rattle.std.proofs.lemmas.List.FromFn.{fill_by_all, get_or-map-range_with_len}
-use Rattle.af_base.specs.declared.report.SlotReport.{SlotReport}
-use Rattle.af_base.specs.declared.state.FastState.{FastState}
-use Rattle.af_base.specs.Log.{slots}
-use Rattle.af_life.specs.declared.kept.Heard.{Heard}
-use Rattle.af_life.specs.Kept.{nothing_heard}
-use Rattle.af_model.specs.Reports.{no_slot, report_at}
+use Rattle.af_judge.proofs.Common.{FastState, Heard, SlotReport, fill_by_all, get_or-map-range_with_len, no_slot, nothing_heard, range_with_len, report_at, slots}
 use Rattle.af_judge.specs.FastKept.{heard_slots}
 use Rattle.af_judge.specs.Reporting.{CountsUpTo, Telling, heard_at, slot_added, state_in, told_at_slot, told_by}
 use Rattle.af_judge.proofs.SlotsAdded.{AreAdded, added-more, added-none, added-same, counts-more, not-carried}

@@ -1,6 +1,6 @@
 -- the slots before this one are those after the entry
 use Rattle.std.proofs.Common.{◌+◌, map}
-use Rattle.af_model.specs.Reports.{report_at}
+use Rattle.af_judge.proofs.Common.{report_at}
 use Rattle.af_judge.specs.Reporting.{heard_at, slot_added, told_by}
 use Rattle.af_judge.proofs.SlotsAdded.{AreAdded}
 use Rattle.af_judge.proofs.slot_report.Reporter.add_played.Given as goal

@@ -1,5 +1,5 @@
 use Rattle.std.proofs.Common.{◌≡◌, map, ap, ◌∙◌}
-use Rattle.af_base.specs.Log.{slots}
+use Rattle.af_judge.proofs.Common.{slots}
 use Rattle.af_judge.specs.Foresight.{heard_foreseen, server_of, slots_foreseen}
 use Rattle.af_judge.specs.Reporting.{Telling, entry_added, polled_in, state_in, told_at_slot}
 use Rattle.af_judge.proofs.slot_report.Reporter.foresee.Goals as goal

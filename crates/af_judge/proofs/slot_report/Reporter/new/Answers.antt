@@ -1,8 +1,5 @@
 use Rattle.std.proofs.Common.{subst, sym, arith}
-use Rattle.std.proofs.lemmas.List.{get_or-replicate}
-use Rattle.af_base.specs.declared.report.SlotReport.{SlotReport}
-use Rattle.af_base.specs.Log.{slots}
-use Rattle.af_model.specs.Reports.{no_report, no_slot}
+use Rattle.af_judge.proofs.Common.{SlotReport, get_or-replicate, no_report, no_slot, slots}
 use Rattle.af_judge.specs.Reporting.{CountsUpTo}
 use Rattle.af_judge.proofs.slot_report.Reporter.new.Goals as goal
 

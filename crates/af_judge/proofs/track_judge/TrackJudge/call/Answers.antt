@@ -1,7 +1,5 @@
 use Rattle.std.proofs.Common.{ap, sym, ◌∙◌, subst, map, length}
-use Rattle.std.proofs.lemmas.List.{length-map}
-use Rattle.af_base.specs.Sample.{packed_word}
-use Rattle.af_runs.specs.ClientTurns.{after_call}
+use Rattle.af_judge.proofs.Common.{after_call, length-map, packed_word}
 use Rattle.af_judge.specs.declared.track_judge.TrackJudge.{TrackJudge}
 use Rattle.af_judge.specs.Judging.{ClientJudged, IsKeptOf}
 use Rattle.af_judge.proofs.CallKept.{call_of, kept_call, no_call_of}

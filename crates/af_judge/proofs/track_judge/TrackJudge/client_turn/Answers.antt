@@ -1,5 +1,5 @@
 use Rattle.std.proofs.Common.{subst, map, Bool}
-use Rattle.af_base.specs.Sample.{packed_word}
+use Rattle.af_judge.proofs.Common.{packed_word}
 use Rattle.af_judge.specs.Tracks.{Makes}
 use Rattle.af_judge.proofs.TrackKept.{turn_long, turn_made, turn_unmade}
 use Rattle.af_judge.proofs.track_judge.TrackJudge.client_turn.Goals as goal

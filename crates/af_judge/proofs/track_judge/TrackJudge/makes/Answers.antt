@@ -1,8 +1,6 @@
 use Rattle.std.proofs.Common.{◌≡◌, arith, refl, subst, map, get_or, Bool, MatchBool}
-use Rattle.af_base.specs.declared.event.ClientCall.{ClientCall}
+use Rattle.af_judge.proofs.Common.{ClientCall, Track, after_call, packed_word}
 use Rattle.af_base.specs.declared.event.ClientCall.TheVariants as call
-use Rattle.af_base.specs.Sample.{packed_word}
-use Rattle.af_runs.specs.ClientTurns.{Track, after_call}
 use Rattle.af_judge.specs.Tracks.{IsCallOf, KeepsTrack}
 use Rattle.af_judge.proofs.TrackKept.{makes_more, makes_none, same_trans}
 use Rattle.af_judge.proofs.track_judge.TrackJudge.makes.Goals as goal

@@ -1,6 +1,5 @@
 use Rattle.std.proofs.Common.{◌≡◌, ◌+◌, ◌≤◌, fold, map, take}
-use Rattle.af_base.specs.Sample.{packed_word}
-use Rattle.af_runs.specs.ClientTurns.{Track, after_call}
+use Rattle.af_judge.proofs.Common.{Track, after_call, packed_word}
 use Rattle.af_judge.specs.Tracks.{AreMade, KeepsTrack, SameServers}
 use Rattle.af_judge.proofs.track_judge.TrackJudge.makes.Given as goal
 

@@ -1,8 +1,5 @@
 use Rattle.std.proofs.Common.{◌∙◌, ap, subst}
-use Rattle.af_model.specs.declared.shape.Shape.{Shape}
-use Rattle.af_runs.specs.Clients.{new_client}
-use Rattle.af_runs.specs.ClientTurns.{Track, new_side}
-use Rattle.af_runs.specs.Sessions.{command_shape}
+use Rattle.af_judge.proofs.Common.{Shape, Track, command_shape, new_client, new_side}
 use Rattle.af_judge.specs.Blocks.{new_judged}
 use Rattle.af_judge.specs.Tracks.{KeepsTrack}
 use Rattle.af_judge.proofs.track_judge.TrackJudge.new.Goals as goal

@@ -1,5 +1,5 @@
 use Rattle.std.proofs.Common.{◌∙◌, ap, false}
-use Rattle.af_runs.specs.Clients.{at_next_turn}
+use Rattle.af_judge.proofs.Common.{at_next_turn}
 use Rattle.af_runs.specs.Kept.{client_of}
 use Rattle.af_judge.specs.Judging.{ClientJudged}
 use Rattle.af_judge.proofs.turn_judge.ClientJudge.ends_turn.Goals as goal

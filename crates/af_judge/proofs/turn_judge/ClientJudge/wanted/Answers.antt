@@ -1,5 +1,5 @@
 use Rattle.std.proofs.Common.{sym, ◌∙◌, refl, subst, None}
-use Rattle.af_runs.proofs.Basics.{halted_none}
+use Rattle.af_judge.proofs.Common.{halted_none}
 use Rattle.af_runs.specs.Kept.{client_of}
 use Rattle.af_judge.specs.Judging.{ClientJudged, FindsNext}
 use Rattle.af_judge.proofs.WantedNext.{finds_next}

@@ -1,5 +1,5 @@
 use Rattle.std.proofs.Common.{◌++◌, List, ℕ, map, ap, ◌∙◌}
-use Rattle.af_base.specs.Sample.{packed_word}
+use Rattle.af_judge.proofs.Common.{packed_word}
 use Rattle.af_judge.specs.declared.words_judge.Taken.{Taken}
 use Rattle.af_judge.specs.Blocks.{Words, runs_words}
 use Rattle.af_judge.proofs.TakenRuns.{runs-stay}

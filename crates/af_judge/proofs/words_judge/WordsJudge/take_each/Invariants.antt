@@ -1,5 +1,5 @@
 use Rattle.std.proofs.Common.{◌≡◌, ◌++◌, map, take}
-use Rattle.af_base.specs.Sample.{packed_word}
+use Rattle.af_judge.proofs.Common.{packed_word}
 use Rattle.af_judge.specs.Blocks.{placed_from}
 use Rattle.af_judge.proofs.words_judge.WordsJudge.take_each.Given as goal
 

@@ -1,6 +1,6 @@
 use Rattle.std.proofs.Common.{◌≡◌, ℕ, suc, Bool, true, false, if◌then◌else◌, true≢false, List, ◌∷◌, refl, sym, ap, ◌∙◌, Option, drop, add-one, slice_index_or, arith}
+use Rattle.af_life.proofs.Common.{CommandLook}
 use Rattle.std.proofs.Math.Seq.{drop-cons}
-use Rattle.af_base.specs.declared.turn.CommandLook.{CommandLook}
 use Rattle.af_life.specs.declared.kept.TrackKept.{TrackKept}
 use Rattle.af_life.specs.Obeys.{after_look, goes_on, after_looks}
 use Rattle.af_life.proofs.Settles.{settles_one}

@@ -1,7 +1,5 @@
 use Rattle.std.proofs.Common.{ap, List, map, take, ◌^◌, length-take-le, arith}
-use Rattle.std.proofs.lemmas.List.{length-map}
-use Rattle.af_base.specs.declared.turn.NormalTake.{NormalTake}
-use Rattle.af_base.specs.Turn.{take_seen}
+use Rattle.af_life.proofs.Common.{NormalTake, length-map, take_seen}
 use Rattle.af_life.specs.declared.kept.Counts.{Counts}
 use Rattle.af_life.specs.Kept.{asked, track_at}
 use Rattle.af_life.specs.Plain.{Plain}

@@ -1,5 +1,5 @@
 use Rattle.std.proofs.Common.{◌≡◌, map, take}
-use Rattle.af_base.specs.Turn.{take_seen}
+use Rattle.af_life.proofs.Common.{take_seen}
 use Rattle.af_life.specs.Plays.{after_takes}
 use Rattle.af_life.proofs.plain.PlainMixer.count_all.Given as goal
 

@@ -1,6 +1,5 @@
 use Rattle.std.proofs.Common.{◌≡◌, ℕ, ◌+◌, ◌*◌, ◌≤◌, ◌^◌, List, map, sym, ap, ◌∙◌, subst, length, arith}
-use Rattle.af_base.specs.declared.turn.NormalTake.{NormalTake}
-use Rattle.af_base.specs.Turn.{Turn, take_seen, turn_of}
+use Rattle.af_life.proofs.Common.{NormalTake, Turn, take_seen, turn_of}
 use Rattle.af_life.specs.Kept.{Learnt}
 use Rattle.af_life.specs.Edits.{after_ack, edited_to, commanded_by, mutated, after_push}
 use Rattle.af_life.specs.Plays.{after_takes}

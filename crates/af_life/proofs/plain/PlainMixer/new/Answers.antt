@@ -1,5 +1,5 @@
 use Rattle.std.proofs.Common.{◌≡◌, ℕ, false, sym, ap, ◌∙◌, subst, List, length, replicate, arith}
-use Rattle.af_base.specs.declared.state.FastState.{FastState}
+use Rattle.af_life.proofs.Common.{FastState}
 use Rattle.af_life.specs.declared.kept.TrackKept.{TrackKept}
 use Rattle.af_life.specs.Kept.{Setup, NormalKept, new_track}
 use Rattle.af_life.specs.Small.{IsSmall}

@@ -1,6 +1,5 @@
 use Rattle.std.proofs.Common.{◌≡◌, ◌<◌, ap, ◌∙◌, length, List, arith}
-use Rattle.af_base.specs.declared.turn.CommandLook.{CommandLook}
-use Rattle.af_base.specs.Turn.{turn_of}
+use Rattle.af_life.proofs.Common.{CommandLook, turn_of}
 use Rattle.af_life.specs.declared.kept.TrackKept.{TrackKept}
 use Rattle.af_life.specs.Kept.{track_at, slot_number}
 use Rattle.af_life.specs.Plain.{Plain, learnt_of}

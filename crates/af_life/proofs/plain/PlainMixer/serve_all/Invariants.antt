@@ -1,5 +1,5 @@
 use Rattle.std.proofs.Common.{◌≡◌}
-use Rattle.af_base.specs.Turn.{turn_of}
+use Rattle.af_life.proofs.Common.{turn_of}
 use Rattle.af_life.specs.Plain.{learnt_of}
 use Rattle.af_life.specs.Serves.{served_to}
 use Rattle.af_life.proofs.plain.PlainMixer.serve_all.Given as goal

@@ -1,5 +1,5 @@
 use Rattle.std.proofs.Common.{◌+◌, sym, ◌∙◌, subst, ℕ}
-use Rattle.af_base.specs.Turn.{Turn, turn_of}
+use Rattle.af_life.proofs.Common.{Turn, turn_of}
 use Rattle.af_life.specs.Small.{IsSmall, turn_weight}
 use Rattle.af_life.specs.declared.plain.PlainMixer.TheInside.{Inside}
 use Rattle.af_life.specs.Kept.{NormalKept}

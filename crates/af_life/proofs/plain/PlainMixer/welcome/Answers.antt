@@ -1,7 +1,6 @@
 use Rattle.std.proofs.Common.{◌<◌, ap, ◌∙◌, length, arith}
-use Rattle.std.proofs.lemmas.List.{get_or_default}
+use Rattle.af_life.proofs.Common.{get_or_default, slice_set}
 use Rattle.std.proofs.lemmas.List.Edits.{map_over_more}
-use Rattle.std.specs.Prelude.{slice_set}
 use Rattle.af_life.specs.Edits.{welcomed}
 use Rattle.af_life.proofs.plain.PlainMixer.welcome.Goals as goal
 

@@ -1,5 +1,5 @@
 use Rattle.std.proofs.Common.{◌↔◌, IsTrue, subst, sym}
-use Rattle.af_model.specs.declared.point.TrackPoint.{TrackPoint}
+use Rattle.af_merges.proofs.Common.{TrackPoint}
 use Rattle.af_merges.specs.Stages.{Lists, HasWalk}
 use Rattle.af_merges.specs.MergeSearch.{lists_in}
 use Rattle.af_merges.proofs.TurnsAndOrders.{HasLegalOrder-walk}

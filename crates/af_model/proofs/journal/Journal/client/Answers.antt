@@ -1,6 +1,5 @@
 use Rattle.std.proofs.Common.{◌≡◌, ◌<◌, ℕ, length, map, slice_index_or, ap, sym, subst, ◌∙◌, rules, arith, [], List}
-use Rattle.std.proofs.lemmas.List.{get_or-map, length-map}
-use Rattle.af_base.specs.declared.event.ClientCall.{ClientCall}
+use Rattle.af_model.proofs.Common.{ClientCall, get_or-map, length-map}
 use Rattle.af_model.proofs.Basics.{same_rounds}
 use Rattle.af_model.specs.Journals.{JournalData, RoundNoted, entries_seen, round_at}
 use Rattle.af_model.proofs.Journals.{each-has-calls, same-calls}

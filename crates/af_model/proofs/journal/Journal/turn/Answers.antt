@@ -1,6 +1,5 @@
 use Rattle.std.proofs.Common.{◌≡◌, ◌<◌, ℕ, length, ap, sym, subst, ◌∙◌, rules}
-use Rattle.std.specs.Option.{option_map}
-use Rattle.af_base.specs.Turn.{turn_of}
+use Rattle.af_model.proofs.Common.{option_map, turn_of}
 use Rattle.af_model.proofs.Basics.{same_rounds}
 use Rattle.af_model.specs.Journals.{JournalData, RoundNoted, entries_seen, round_at}
 use Rattle.af_model.proofs.Journals.{same-turn}

@@ -1,8 +1,5 @@
-use Rattle.std.proofs.Common.{◌≡◌, ◌<◌, length, slice_index_or, subst, arith, rules}
-use Rattle.std.specs.Prelude.{All}
-use Rattle.std.proofs.lemmas.List.{take_all}
-use Rattle.std.proofs.lemmas.List.Elements.{All-more}
-use Rattle.af_model.specs.Journals.{RoundNoted}
+use Rattle.std.proofs.Common.{◌≡◌, ◌<◌, length, subst, arith, rules}
+use Rattle.af_model.proofs.Common.{All, All-more, take_all}
 use Rattle.af_model.specs.Noting.{none_noted}
 use Rattle.af_model.proofs.NumbersFit.{FitsNoted}
 use Rattle.af_model.proofs.journal.Rounds.know_rounds.Goals as goal

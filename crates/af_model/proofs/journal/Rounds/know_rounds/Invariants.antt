@@ -1,5 +1,5 @@
 use Rattle.std.proofs.Common.{take}
-use Rattle.std.specs.Prelude.{All}
+use Rattle.af_model.proofs.Common.{All}
 use Rattle.af_model.proofs.NumbersFit.{FitsNoted}
 use Rattle.af_model.proofs.journal.Rounds.know_rounds.Given as goal
 

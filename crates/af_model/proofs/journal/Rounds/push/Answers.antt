@@ -1,5 +1,5 @@
 use Rattle.std.proofs.Common.{◌≡◌, ◌+◌, [], ◌∷◌, ◌++◌, map, ap, sym, subst, ◌∙◌, rules, arith, List}
-use Rattle.std.proofs.lemmas.List.{map-append}
+use Rattle.af_model.proofs.Common.{map-append}
 use Rattle.af_model.proofs.Basics.{cycles_more}
 use Rattle.af_model.specs.declared.journal.Round.{Round}
 use Rattle.af_model.specs.Journals.{cycles_of}

@@ -1,5 +1,5 @@
-use Rattle.std.proofs.Common.{◌≡◌, ◌<◌, ◌+◌, ℕ, length, map, take, slice_index_or, ap, sym, subst, ◌∙◌, rules, arith}
-use Rattle.std.proofs.lemmas.List.{length-map}
+use Rattle.std.proofs.Common.{◌≡◌, ◌<◌, ◌+◌, length, map, take, slice_index_or, ap, ◌∙◌, rules, arith}
+use Rattle.af_model.proofs.Common.{length-map}
 use Rattle.af_model.specs.Journals.{RoundsNoted, cycles_of}
 use Rattle.af_model.specs.Noting.{round_noted}
 use Rattle.af_model.proofs.Journals.{first-place}

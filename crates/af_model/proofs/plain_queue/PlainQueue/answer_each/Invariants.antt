@@ -1,5 +1,5 @@
 use Rattle.std.proofs.Common.{◌≡◌, ◌+◌, ◌≤◌, ◌++◌, length}
-use Rattle.std.specs.Prelude.{vec_capacity}
+use Rattle.af_model.proofs.Common.{vec_capacity}
 use Rattle.std.specs.Vec.Iter.{into_iter_items, into_iter_len}
 use Rattle.af_model.specs.PlainQueue.{answers_of, state_after}
 use Rattle.af_model.proofs.plain_queue.PlainQueue.answer_each.Given as goal

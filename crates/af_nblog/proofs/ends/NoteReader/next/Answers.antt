@@ -1,7 +1,6 @@
 use Rattle.std.proofs.Common.{◌≡◌, [], ◌∷◌, ◌++◌, length, refl, sym, ap, ◌∙◌, subst, arith, append-nil}
+use Rattle.af_nblog.proofs.Common.{ServerIs, ServerSide, ahead}
 use Rattle.af_base.specs.declared.event.ServerEvent.TheVariants as server
-use Rattle.af_cblk.specs.Parts.{ahead}
-use Rattle.af_cblk.specs.Sides.{ServerSide, ServerIs}
 use Rattle.af_nblog.specs.Notes.{words_of, notes_in}
 use Rattle.af_nblog.specs.NoteEnds.{ReaderState, looked, note_taken, read}
 use Rattle.af_nblog.proofs.NotesRead.{reading_same, reading_more, read_notes, read_one, read_frames, read_events, looked_events, shown_less, shown_more}

@@ -1,7 +1,5 @@
 use Rattle.std.proofs.Common.{◌≡◌, ℕ, ◌-◌, ◌<◌, ◌≤◌, [], ◌∷◌, ◌++◌, length, List, sym, ap, ◌∙◌, subst, arith, append-nil, length-append}
-use Rattle.af_model.specs.PipeHistory.{releases_of}
-use Rattle.af_cblk.specs.declared.view.ClientPart.{ClientPart}
-use Rattle.af_cblk.specs.Sides.{Made}
+use Rattle.af_nblog.proofs.Common.{ClientPart, Made, releases_of}
 use Rattle.af_nblog.specs.declared.entries.Note.{Note}
 use Rattle.af_nblog.specs.declared.writing.Noted.TheVariants.{Sent, Refused}
 use Rattle.af_nblog.specs.Notes.{notes_in}

@@ -1,16 +1,5 @@
 use Rattle.std.proofs.Common.{◌≡◌, ℕ, List, length, map, slice_set, Option, sym, ap, ◌∙◌, subst, arith, length-set}
-use Rattle.std.specs.Vec.{with_items}
-use Rattle.std.proofs.lemmas.List.{get_or_default, with_items_is}
-use Rattle.af_base.specs.Turn.{TrackSeen, track_seen}
-use Rattle.af_cblk.specs.Sides.{HandSide}
-use Rattle.af_model.specs.Reports.{report_at}
-use Rattle.af_server.specs.Order.{ServerState}
-use Rattle.af_life.specs.declared.kept.Heard.{Heard}
-use Rattle.af_life.specs.declared.kept.TrackKept.{TrackKept}
-use Rattle.af_life.specs.Heard.{heard_by, noted, settled_at}
-use Rattle.af_life.specs.Kept.{new_track, slot_number, track_at}
-use Rattle.af_life.specs.Obeys.{slot_for}
-use Rattle.af_life.specs.Serves.{after_part}
+use Rattle.af_normal.proofs.Common.{HandSide, Heard, ServerState, TrackKept, TrackSeen, after_part, get_or_default, heard_by, new_track, noted, report_at, settled_at, slot_for, slot_number, track_at, track_seen, with_items, with_items_is}
 use Rattle.af_normal.specs.Mixing.{stream_at}
 use Rattle.af_normal.specs.Ready.{AreOwn, serving_of}
 use Rattle.af_normal.specs.Serving.{known_at}

@@ -1,13 +1,5 @@
 use Rattle.std.proofs.Common.{Bool, not, ◌==◌, is_some, ◌≡◌, ℕ, ◌-◌, ◌<◌, ◌≤◌, length, sym, ap, subst, ◌∙◌, arith}
-use Rattle.std.proofs.lemmas.List.{length-map}
-use Rattle.af_base.specs.declared.report.Report.{Report}
-use Rattle.af_base.specs.declared.state.Push.{Push}
-use Rattle.af_base.specs.declared.turn.NormalTake.{NormalTake}
-use Rattle.af_base.specs.declared.turn.TrackTurn.{TrackTurn}
-use Rattle.af_base.specs.declared.turn.TurnEntry.{TurnEntry}
-use Rattle.af_base.specs.Roomy.{Roomy}
-use Rattle.af_link.specs.declared.links.Links.{Links}
-use Rattle.af_life.specs.Kept.{Setup, asked}
+use Rattle.af_normal.proofs.Common.{Links, NormalTake, Push, Report, Roomy, Setup, TrackTurn, TurnEntry, asked, length-map}
 use Rattle.af_normal.specs.AllMixed.{HasTakes}
 use Rattle.af_normal.specs.Order.{HasTurns, IsGoing, most_turns}
 use Rattle.af_normal.specs.State.{NormalState, setup_of}

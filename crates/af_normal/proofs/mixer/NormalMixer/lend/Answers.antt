@@ -1,8 +1,6 @@
 use Rattle.std.proofs.Common.{◌<◌, ap, ◌∙◌, sym, subst, length, None, arith}
-use Rattle.std.proofs.lemmas.List.{get_or_default}
+use Rattle.af_normal.proofs.Common.{IsInOrder, IsStreamOf, ServerState, get_or_default}
 use Rattle.af_normal.proofs.Basics.{one_of}
-use Rattle.af_server.specs.Order.{ServerState, IsInOrder}
-use Rattle.af_link.specs.Names.{IsStreamOf}
 use Rattle.af_normal.specs.Mixing.{stream_at}
 use Rattle.af_normal.specs.State.{NormalState}
 use Rattle.af_normal.proofs.mixer.NormalMixer.lend.Goals as goal

@@ -1,10 +1,5 @@
 use Rattle.std.proofs.Common.{◌≡◌, ℕ, ◌-◌, ◌&&◌, Bool, true, false, MatchBool, length, refl, sym, ap, ◌∙◌, subst, arith}
-use Rattle.af_base.proofs.Basics.{both}
-use Rattle.af_stateq.specs.Answers.{WasAcked}
-use Rattle.af_stateq.specs.Mutates.{Mutates}
-use Rattle.af_server.specs.Order.{ServerState}
-use Rattle.af_link.specs.declared.names.StreamNames.{StreamNames}
-use Rattle.af_life.specs.Edits.{is_exit}
+use Rattle.af_normal.proofs.Common.{Mutates, ServerState, StreamNames, WasAcked, both, is_exit}
 use Rattle.af_normal.specs.Coming.{HaveSlots, WelcomesTo}
 use Rattle.af_normal.specs.Order.{IsGoing}
 use Rattle.af_normal.specs.State.{NormalState}

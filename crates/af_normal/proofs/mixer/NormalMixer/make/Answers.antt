@@ -1,6 +1,5 @@
 use Rattle.std.proofs.Common.{◌≡◌, ℕ, true, is_some, length, replicate, All, Option, refl, ap, subst, ◌∙◌, arith}
-use Rattle.af_server.specs.Order.{ServerState}
-use Rattle.af_life.specs.Kept.{new_track}
+use Rattle.af_normal.proofs.Common.{ServerState, new_track}
 use Rattle.af_normal.specs.Making.{TrackList}
 use Rattle.af_normal.proofs.Made.{made_is, made_order}
 use Rattle.af_normal.proofs.mixer.NormalMixer.make.Goals as goal

@@ -1,7 +1,5 @@
 use Rattle.std.proofs.Common.{◌≡◌, ℕ, true, length, refl, sym, ap, ◌∙◌, subst, arith}
-use Rattle.af_stateq.specs.Answers.{WasAcked}
-use Rattle.af_link.specs.declared.links.Links.{Links}
-use Rattle.af_life.specs.Edits.{is_exit}
+use Rattle.af_normal.proofs.Common.{Links, WasAcked, is_exit}
 use Rattle.af_normal.specs.Order.{IsGoing}
 use Rattle.af_normal.specs.State.{NormalState}
 use Rattle.af_normal.specs.TurnMade.{Does, Stops}

@@ -1,8 +1,5 @@
 use Rattle.std.proofs.Common.{List, length, Option, sym, ap, subst, ◌∙◌, arith}
-use Rattle.std.specs.Vec.{with_items}
-use Rattle.std.proofs.lemmas.List.{with_items_is}
-use Rattle.af_cblk.specs.Sides.{HandSide}
-use Rattle.af_server.specs.Order.{ServerState}
+use Rattle.af_normal.proofs.Common.{HandSide, ServerState, with_items, with_items_is}
 use Rattle.af_normal.specs.Meeting.{AreOf, MeetsTrack}
 use Rattle.af_normal.specs.Order.{IsInOrder}
 use Rattle.af_normal.specs.State.{NormalState}

@@ -1,6 +1,5 @@
 use Rattle.std.proofs.Common.{ℕ, length, map, All, ap, subst}
-use Rattle.af_base.specs.Turn.{take_seen}
-use Rattle.af_life.specs.Kept.{asked}
+use Rattle.af_normal.proofs.Common.{asked, take_seen}
 use Rattle.af_normal.specs.State.{setup_of}
 use Rattle.af_normal.specs.Sums.{Fits}
 use Rattle.af_normal.specs.TurnMade.{mixing_of}

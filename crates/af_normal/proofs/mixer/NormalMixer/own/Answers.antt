@@ -1,5 +1,5 @@
 use Rattle.std.proofs.Common.{◌<◌, ap, ◌∙◌, sym, length, None, arith}
-use Rattle.std.proofs.lemmas.List.{get_or_default}
+use Rattle.af_normal.proofs.Common.{get_or_default}
 use Rattle.af_normal.specs.Mixing.{stream_at}
 use Rattle.af_normal.specs.State.{NormalState}
 use Rattle.af_normal.proofs.mixer.NormalMixer.own.Goals as goal

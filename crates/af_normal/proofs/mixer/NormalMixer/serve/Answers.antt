@@ -1,9 +1,5 @@
 use Rattle.std.proofs.Common.{◌≡◌, ℕ, MatchBool, [], ◌∷◌, ◌++◌, map, sym, ap, ◌∙◌, subst}
-use Rattle.std.proofs.lemmas.List.{map-append}
-use Rattle.af_base.specs.declared.turn.TrackTurn.{TrackTurn}
-use Rattle.af_base.specs.Roomy.{Roomy}
-use Rattle.af_base.specs.Turn.{TrackSeen, track_seen}
-use Rattle.af_life.specs.Kept.{nothing_seen, track_at}
+use Rattle.af_normal.proofs.Common.{Roomy, TrackSeen, TrackTurn, map-append, nothing_seen, track_at, track_seen}
 use Rattle.af_normal.specs.Mixing.{stream_at}
 use Rattle.af_normal.specs.Ready.{serving_of}
 use Rattle.af_normal.specs.Serving.{ServesBy, known_at}

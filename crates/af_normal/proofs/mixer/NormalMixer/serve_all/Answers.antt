@@ -1,12 +1,5 @@
 use Rattle.std.proofs.Common.{◌≡◌, ◌≢◌, ℕ, ◌+◌, ◌<◌, suc, length, [], ◌∷◌, Option, refl, sym, ap, ◌∙◌, subst, arith, ⊎_elim, length-append}
-use Rattle.std.proofs.lemmas.Bool.{cases_eq}
-use Rattle.af_base.specs.declared.turn.TrackTurn.{TrackTurn}
-use Rattle.af_base.specs.declared.turn.TurnEntry.{TurnEntry}
-use Rattle.af_base.specs.Roomy.{Roomy}
-use Rattle.af_server.specs.Order.{ServerState}
-use Rattle.af_life.specs.declared.kept.TrackKept.{TrackKept}
-use Rattle.af_life.specs.Heard.{known_by}
-use Rattle.af_life.specs.Kept.{Setup, Learnt, slot_number, track_at}
+use Rattle.af_normal.proofs.Common.{Learnt, Roomy, ServerState, Setup, TrackKept, TrackTurn, TurnEntry, cases_eq, known_by, slot_number, track_at}
 use Rattle.af_normal.specs.Mixing.{stream_at}
 use Rattle.af_normal.specs.Ready.{AreOwn, serving_of}
 use Rattle.af_normal.specs.Serving.{ServesTrack, ServesTo, known_at}

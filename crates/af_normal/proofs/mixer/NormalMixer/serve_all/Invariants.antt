@@ -1,5 +1,5 @@
 use Rattle.std.proofs.Common.{◌≡◌, ℕ, ◌<◌, ◌≤◌, length}
-use Rattle.af_life.specs.Kept.{track_at}
+use Rattle.af_normal.proofs.Common.{track_at}
 use Rattle.af_normal.specs.Mixing.{stream_at}
 use Rattle.af_normal.specs.Order.{HasTurns}
 use Rattle.af_normal.specs.Ready.{AreOwn, serving_of}

@@ -1,5 +1,5 @@
 use Rattle.std.proofs.Common.{ℕ, ◌+◌, ap, ap₂, ◌∙◌}
-use Rattle.af_record.specs.InStep.{HandState}
+use Rattle.af_offline.proofs.Common.{HandState}
 use Rattle.af_offline.specs.Recorded.{read_up_to}
 use Rattle.af_offline.proofs.Taped.{supply_state}
 use Rattle.af_offline.proofs.capture.Tape.period.Goals as goal

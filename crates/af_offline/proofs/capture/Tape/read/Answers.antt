@@ -1,5 +1,5 @@
 use Rattle.std.proofs.Common.{◌≡◌, ◌+◌, ◌++◌, length, drop, ap, ◌∙◌, arith, length-append, length-drop, length-take}
-use Rattle.af_record.specs.InStep.{HandState}
+use Rattle.af_offline.proofs.Common.{HandState}
 use Rattle.af_offline.proofs.Taped.{read_count}
 use Rattle.af_offline.proofs.capture.Tape.read.Goals as goal
 

@@ -1,7 +1,5 @@
 use Rattle.std.proofs.Common.{◌≡◌, ℕ, ◌-◌, ◌≤◌, List, length, take, drop, map, min, ap, sym, ◌∙◌, subst, arith, length-drop, length-take}
-use Rattle.std.proofs.lemmas.List.{take_all, length-map}
-use Rattle.af_base.specs.declared.frame.Frame.{Frame}
-use Rattle.af_base.specs.Sample.{packed_word}
+use Rattle.af_offline.proofs.Common.{Frame, length-map, packed_word, take_all}
 use Rattle.af_offline.specs.Captured.{state_of}
 use Rattle.af_offline.specs.Recorded.{Recording, period, periods}
 use Rattle.af_offline.proofs.Taped.{IsOn, one_on, next_words, words_behind}

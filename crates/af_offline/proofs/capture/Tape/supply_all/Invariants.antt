@@ -1,5 +1,5 @@
 use Rattle.std.proofs.Common.{◌≡◌, ◌+◌, length, map}
-use Rattle.af_base.specs.Sample.{packed_word}
+use Rattle.af_offline.proofs.Common.{packed_word}
 use Rattle.af_offline.specs.Captured.{state_of, IsTape}
 use Rattle.af_offline.specs.Recorded.{periods}
 use Rattle.af_offline.proofs.Taped.{IsOn}

@@ -1,7 +1,5 @@
 use Rattle.std.proofs.Common.{◌≡◌, ◌+◌, ◌∙◌, length, ap, arith}
-use Rattle.std.proofs.lemmas.List.{length_push}
-use Rattle.af_base.specs.declared.event.ClientCall.{ClientCall}
-use Rattle.af_base.specs.Roomy.{Roomy}
+use Rattle.af_party.proofs.Common.{ClientCall, Roomy, length_push}
 use Rattle.af_party.specs.Turning.{Calls, Rests}
 use Rattle.af_party.proofs.TurnMade.{step_more, turn_cut, turn_rests}
 use Rattle.af_party.proofs.party.Party.call_on.Goals as goal

@@ -1,5 +1,5 @@
 use Rattle.std.proofs.Common.{inl, inr, sym, subst}
-use Rattle.af_runs.specs.declared.want.Want.{Want}
+use Rattle.af_party.proofs.Common.{Want}
 use Rattle.af_runs.specs.declared.want.Want.TheVariants as want
 use Rattle.af_party.specs.Turning.{IsMadeBy}
 use Rattle.af_party.proofs.MadeCalls.{blocks_command, blocks_stream}

@@ -1,6 +1,5 @@
 use Rattle.std.proofs.Common.{◌≡◌, ◌/◌, ◌∷◌, ℕ, ap, ◌∙◌, subst}
-use Rattle.af_runs.specs.Clients.{after_answer}
-use Rattle.af_runs.specs.Kept.{client_of}
+use Rattle.af_party.proofs.Common.{after_answer, client_of}
 use Rattle.af_party.specs.Parties.{PartyState}
 use Rattle.af_party.proofs.party.Party.note.Goals as goal
 

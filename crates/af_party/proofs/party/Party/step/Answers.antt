@@ -1,7 +1,5 @@
 use Rattle.std.proofs.Common.{◌∙◌, Option, Some, None, false, length, ap, subst}
-use Rattle.af_runs.specs.declared.want.Want.{Want}
-use Rattle.af_runs.specs.Clients.{next_want}
-use Rattle.af_runs.specs.Kept.{client_of}
+use Rattle.af_party.proofs.Common.{Want, client_of, next_want}
 use Rattle.af_party.specs.Turning.{WantsNext}
 use Rattle.af_party.proofs.CanWorkOn.{can_next}
 use Rattle.af_party.proofs.StepMade.{client_twice, step_calls, work_begun, work_called, work_ended}

@@ -1,6 +1,5 @@
 use Rattle.std.proofs.Common.{sym, ◌∙◌, refl, subst, None}
-use Rattle.af_runs.proofs.Basics.{halted_none}
-use Rattle.af_runs.specs.Kept.{client_of}
+use Rattle.af_party.proofs.Common.{client_of, halted_none}
 use Rattle.af_party.specs.Parties.{PartyState}
 use Rattle.af_party.specs.Turning.{WantsNext}
 use Rattle.af_party.proofs.Legal.{wants_next}

@@ -1,7 +1,5 @@
 use Rattle.std.proofs.Common.{◌≡◌, ℕ, ◌+◌, ◌≤◌, List, length, take, map, ◌++◌, ap, ◌∙◌, arith, length-take-le}
-use Rattle.std.proofs.lemmas.List.{length-map}
-use Rattle.af_base.specs.declared.frame.Frame.{Frame}
-use Rattle.af_base.specs.Sample.{packed_word}
+use Rattle.af_record.proofs.Common.{Frame, length-map, packed_word}
 use Rattle.af_record.specs.Ends.{ListenerState}
 use Rattle.af_record.proofs.Histories.{read_on}
 use Rattle.af_record.proofs.ends.Listener.read.Goals as goal

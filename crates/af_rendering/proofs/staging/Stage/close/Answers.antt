@@ -1,7 +1,5 @@
 use Rattle.std.proofs.Common.{◌≡◌, ℕ, length, ap, refl, sym, ◌∙◌, arith}
-use Rattle.af_base.specs.Roomy.{Roomy}
-use Rattle.af_model.specs.Journals.{journal_of}
-use Rattle.af_session.specs.Ends.{EndsState}
+use Rattle.af_rendering.proofs.Common.{EndsState, Roomy, journal_of}
 use Rattle.af_rendering.proofs.ShownWhole.{is_told, tally_tracks}
 use Rattle.af_rendering.proofs.staging.Stage.close.Goals as goal
 

@@ -1,7 +1,5 @@
 use Rattle.std.proofs.Common.{ℕ, List, [], length, ap, subst, ◌∙◌}
-use Rattle.af_model.specs.Journals.{RoundsNoted}
-use Rattle.af_script.specs.declared.track.TrackSpec.{TrackSpec}
-use Rattle.af_session.specs.Rooms.{IsNewRoom}
+use Rattle.af_rendering.proofs.Common.{IsNewRoom, RoundsNoted, TrackSpec}
 use Rattle.af_rendering.proofs.staging.Stage.make.Goals as goal
 
 pub returns : goal.returns

@@ -1,9 +1,6 @@
 use Rattle.std.proofs.Common.{inr}
-use Rattle.std.proofs.lemmas.Result.{on_err_weaker}
-use Rattle.af_io.specs.Files.{LeavesFront}
-use Rattle.af_io.proofs.Steps.{LeavesFront-created}
+use Rattle.af_rendering.proofs.Common.{LeavesFront, LeavesFront-created, on_err_weaker, pcm_of}
 use Rattle.af_rendering.specs.Rendered.{LeavesSound}
-use Rattle.af_tally.specs.Sound.{pcm_of}
 use Rattle.af_rendering.proofs.FirstRound.{rendered_none}
 use Rattle.af_rendering.proofs.Outgoing.{on_err, then_cause}
 use Rattle.af_rendering.proofs.staging.Stage.play_new.Goals as goal
@@ -24,7 +21,7 @@ returns-in_err-create-clause-left g c = λ told.
 pub returns-clause-written : goal.returns-clause-written
 returns-clause-written g c = λ told.
     let old = g.S.Store.files c.args.store.now in
-    c.play_turns.ensures.written (c.in_ok-create.ensures.tells told) old (c.in_ok-create.ensures.created told)
+    (c.play_turns.ensures.sent (c.in_ok-create.ensures.tells told) old (c.in_ok-create.ensures.created told)).0
 
 pub returns-clause-left : goal.returns-clause-left
 returns-clause-left g c = λ told.
@@ -37,7 +34,7 @@ returns-clause-left g c = λ told.
     let some = c.play_turns.ensures.some in
     on_err_weaker c.play_turns.result
     (λ (front : LeavesFront old name (pcm_of script.frames is.fast.log) new). let left : LeavesSound script files name old new = inr (some.0, is, some.1, front) in left)
-    (c.play_turns.ensures.left (c.in_ok-create.ensures.tells told) old (c.in_ok-create.ensures.created told))
+    (c.play_turns.ensures.sent (c.in_ok-create.ensures.tells told) old (c.in_ok-create.ensures.created told)).1
 
 pub returns-clause-cause : goal.returns-clause-cause
 returns-clause-cause g c =

@@ -1,17 +1,6 @@
 use Rattle.std.proofs.Common.{◌≡◌, ◌*◌, ◌≤◌, ℕ, List, Some, OnOk, OnErr, length, take, sym, ap, subst, ◌∙◌, arith}
-use Rattle.std.specs.Prelude.{All}
-use Rattle.af_base.specs.Roomy.{Roomy}
-use Rattle.af_io.specs.Files.{SetsFile, LeavesFront}
-use Rattle.af_model.specs.Journals.{RoundNoted}
-use Rattle.af_script.specs.Form.{IsScript, IsTurn}
-use Rattle.af_script.specs.declared.op.TurnSpec.{TurnSpec}
-use Rattle.af_script.specs.declared.track.TrackSpec.{TrackSpec}
+use Rattle.af_rendering.proofs.Common.{All, IsReady, IsScript, IsTally, IsTurn, LeavesFront, Roomy, RoundNoted, SessionState, SetsFile, TrackSpec, TurnSpec, nothing_shown, pcm_of}
 use Rattle.af_rendering.specs.Rendered.{Runs}
-use Rattle.af_session.specs.Rounds.{IsReady}
-use Rattle.af_tally.specs.Sound.{pcm_of}
-use Rattle.af_tally.specs.Summaries.{nothing_shown}
-use Rattle.af_tally.specs.Tallies.{IsTally}
-use Rattle.af_session.specs.Together.{SessionState}
 use Rattle.af_rendering.proofs.FirstRound.{empty_first, frames_first, ready_first, rendered}
 use Rattle.af_rendering.proofs.Spared.{spares_first}
 use Rattle.af_rendering.proofs.SparedEntries.{entries_first}
@@ -79,20 +68,13 @@ returns-clause-rendered g c =
     has_rendered script s.shared was new c.args.files.now c.links-links.result c.tracks-tracks.result.now c.tracks-tracks.ensures.value (record { shared = _; parties = _; room = _; rounds = c.args.self.now.rounds }) (done.kept.released ∙ c.requires.new.room.released) c.turns.result.now c.turns.ensures.value c.play_all.result
     (spares_first script s.shared was new) done.ready done.all done.frames (done.entries (entries_first script s.shared was new))
 
-pub returns-clause-written : goal.returns-clause-written
-returns-clause-written g c = λ told base set.
+pub returns-clause-sent : goal.returns-clause-sent
+returns-clause-sent g c = λ told base set.
     let s = c.args.self.now in
     let script = c.args.script.now in
     let is : SessionState = c.play_all.new.parties in
     let name = c.args.name.now in
-    in_frames script s.shared s.parties c.requires.new.new base name (λ (n : ℕ). OnOk c.play_all.result (SetsFile base name (Some (pcm_of n is.fast.log)) (g.S.Store.files c.play_all.new.store)))
-    (c.play_all.ensures.written told base (silent_so_far script s.shared s.parties c.requires.new.new base name (g.S.Store.files c.args.store.now) set))
-
-pub returns-clause-left : goal.returns-clause-left
-returns-clause-left g c = λ told base set.
-    let s = c.args.self.now in
-    let script = c.args.script.now in
-    let is : SessionState = c.play_all.new.parties in
-    let name = c.args.name.now in
-    in_frames script s.shared s.parties c.requires.new.new base name (λ (n : ℕ). OnErr c.play_all.result (LeavesFront base name (pcm_of n is.fast.log) (g.S.Store.files c.play_all.new.store)))
-    (c.play_all.ensures.left told base (silent_so_far script s.shared s.parties c.requires.new.new base name (g.S.Store.files c.args.store.now) set))
+    let r = c.play_all.result in
+    let new = g.S.Store.files c.play_all.new.store in
+    in_frames script s.shared s.parties c.requires.new.new base name (λ (n : ℕ). OnOk r (SetsFile base name (Some (pcm_of n is.fast.log)) new) × OnErr r (LeavesFront base name (pcm_of n is.fast.log) new))
+    (c.play_all.ensures.sent told base (silent_so_far script s.shared s.parties c.requires.new.new base name (g.S.Store.files c.args.store.now) set))

@@ -1,6 +1,5 @@
 use Rattle.std.proofs.Common.{◌≡◌, ◌+◌, ◌<◌, ◌∷◌, [], List, length, drop, slice_index_or, refl, ap, sym, subst, ◌∙◌, rules, true}
-use Rattle.std.proofs.lemmas.List.{drop_more, get_or_default}
-use Rattle.af_script.specs.declared.op.Op.{Op}
+use Rattle.af_runs.proofs.Common.{Op, drop_more, get_or_default}
 use Rattle.af_script.specs.declared.op.Op.TheVariants.{Yield}
 use Rattle.af_runs.specs.declared.want.Want.{Want}
 use Rattle.af_runs.specs.Clients.{Client, begun, due_of, wants_of}

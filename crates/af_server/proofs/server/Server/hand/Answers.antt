@@ -1,6 +1,5 @@
 use Rattle.std.proofs.Common.{rules, None, sym, ap, subst}
-use Rattle.af_cblk.specs.declared.view.ServerPart.{ServerPart}
-use Rattle.af_cblk.specs.Sides.{ServerSide}
+use Rattle.af_server.proofs.Common.{ServerPart, ServerSide}
 use Rattle.af_server.specs.Order.{ServerState, Keeps}
 use Rattle.af_server.proofs.Kept.{rest_keeps}
 use Rattle.af_server.proofs.server.Server.hand.Goals as goal

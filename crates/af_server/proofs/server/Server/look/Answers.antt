@@ -1,8 +1,5 @@
 use Rattle.std.proofs.Common.{rules, ◌≡◌, ℕ, ◌+◌, true, false, not, ◌==◌, None, sym, ap, ◌∙◌, subst}
-use Rattle.af_model.specs.declared.shape.Shape.{Shape}
-use Rattle.af_model.specs.ServerCalls.{look_at, shown_by, is_noticed, dropped_by, flushes_by}
-use Rattle.af_cblk.specs.Parts.{front_stored}
-use Rattle.af_cblk.specs.Sides.{Made, ServerSide}
+use Rattle.af_server.proofs.Common.{Made, ServerSide, Shape, dropped_by, flushes_by, front_stored, is_noticed, look_at, shown_by}
 use Rattle.af_server.specs.Order.{ServerState, Keeps, counted}
 use Rattle.af_server.specs.Looks.{saw_all, shut_of, stored_front}
 use Rattle.af_server.proofs.Kept.{rest_keeps}

@@ -1,11 +1,9 @@
 use Rattle.std.proofs.Common.{rules, ◌≡◌, ℕ, true, length, refl, sym, ap, ◌∙◌, subst}
+use Rattle.af_server.proofs.Common.{ServerPart, ServerSide, server_did}
 use Rattle.af_base.specs.declared.event.ServerEvent.TheVariants as server
 use Rattle.af_model.specs.Fates.{drops_none}
 use Rattle.af_model.proofs.Discards.{discards-before}
 use Rattle.af_model.proofs.Fates.{taken_begins, drops_more}
-use Rattle.af_cblk.specs.declared.view.ServerPart.{ServerPart}
-use Rattle.af_cblk.specs.Parts.{server_did}
-use Rattle.af_cblk.specs.Sides.{ServerSide}
 use Rattle.af_server.specs.Order.{ServerState, Keeps}
 use Rattle.af_server.proofs.Kept.{met_keeps}
 use Rattle.af_server.proofs.server.Server.meet.Goals as goal

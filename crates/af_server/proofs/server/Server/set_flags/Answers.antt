@@ -1,6 +1,6 @@
 use Rattle.std.proofs.Common.{refl}
+use Rattle.af_server.proofs.Common.{sets_flags}
 use Rattle.af_base.specs.declared.event.ServerEvent.TheVariants as server
-use Rattle.af_model.specs.ServerCalls.{sets_flags}
 use Rattle.af_server.proofs.Kept.{word_keeps}
 use Rattle.af_server.proofs.server.Server.set_flags.Goals as goal
 

@@ -1,6 +1,6 @@
 use Rattle.std.proofs.Common.{refl}
+use Rattle.af_server.proofs.Common.{sets_status}
 use Rattle.af_base.specs.declared.event.ServerEvent.TheVariants as server
-use Rattle.af_model.specs.ServerCalls.{sets_status}
 use Rattle.af_server.proofs.Kept.{word_keeps}
 use Rattle.af_server.proofs.server.Server.set_status.Goals as goal
 

@@ -1,12 +1,7 @@
 use Rattle.std.proofs.Common.{arith, ◌≡◌, ℕ, ◌+◌, ◌%◌, ◌^◌, ◌<◌, ◌≤◌, MatchOption, Option, None, false, List, [], ◌∷◌, ◌++◌, length, map, sym, ap, ◌∙◌, subst}
+use Rattle.af_server.proofs.Common.{ServerPart, ServerSide, ahead, ahead_below, front_stored, packed_word}
 use Rattle.std.proofs.lemmas.List.{length-map}
 use Rattle.af_base.specs.declared.event.ServerEvent.TheVariants as server
-use Rattle.af_base.specs.Sample.{packed_word}
-use Rattle.af_model.specs.Room.{ahead}
-use Rattle.af_cblk.specs.declared.view.ServerPart.{ServerPart}
-use Rattle.af_cblk.specs.Parts.{front_stored}
-use Rattle.af_cblk.specs.Sides.{ServerSide}
-use Rattle.af_cblk.proofs.Numbers.{ahead_below}
 use Rattle.af_server.specs.Order.{ServerState, Keeps, IsReady, counted}
 use Rattle.af_server.proofs.Took.{took_is, take_keeps}
 use Rattle.af_server.proofs.server.Server.take.Goals as goal

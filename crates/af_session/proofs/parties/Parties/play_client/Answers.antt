@@ -1,13 +1,9 @@
 use Rattle.std.proofs.Common.{◌<◌, List, [], length, slice_set, sym, ap, subst, ◌∙◌, arith}
-use Rattle.af_model.specs.Journals.{RoundNoted}
+use Rattle.af_session.proofs.Common.{ClientCall, IsTally, PartyState, RoundNoted, Shown, with_calls}
 use Rattle.af_script.specs.declared.op.TurnSpec.TheVariants as spec
-use Rattle.af_base.specs.declared.event.ClientCall.{ClientCall}
-use Rattle.af_party.specs.Parties.{PartyState}
 use Rattle.af_session.specs.Rooms.{given_of}
 use Rattle.af_session.specs.Rounds.{Given, IsReady, Turns, round_told}
 use Rattle.af_session.specs.Shown.{FollowsRound}
-use Rattle.af_tally.specs.Summaries.{Shown, with_calls}
-use Rattle.af_tally.specs.Tallies.{IsTally}
 use Rattle.af_session.specs.Together.{SessionState}
 use Rattle.af_session.proofs.FollowingRounds.{follows_client}
 use Rattle.af_session.proofs.ClientRounds.{asks_clients, asks_few, asks_work, has_turned, leaves_ready}

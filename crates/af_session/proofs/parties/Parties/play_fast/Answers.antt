@@ -1,7 +1,6 @@
 use Rattle.std.proofs.Common.{◌≡◌, ◌+◌, ℕ, [], length, sym, ap, subst, ◌∙◌, append-nil, arith}
+use Rattle.af_session.proofs.Common.{RoundNoted, with_items_is}
 use Rattle.std.specs.Vec.{with_items}
-use Rattle.std.proofs.lemmas.List.{with_items_is}
-use Rattle.af_model.specs.Journals.{RoundNoted}
 use Rattle.af_script.specs.declared.op.TurnSpec.TheVariants as spec
 use Rattle.af_session.specs.Rooms.{given_of}
 use Rattle.af_session.specs.Rounds.{Given, IsReady, Turns, round_told}

@@ -1,16 +1,11 @@
 use Rattle.std.proofs.Common.{[], ◌<◌, sym, subst, ◌∙◌, arith}
-use Rattle.af_base.specs.declared.turn.TurnEntry.{TurnEntry}
-use Rattle.af_base.specs.Turn.{turn_of}
-use Rattle.af_model.specs.Journals.{RoundNoted}
+use Rattle.af_session.proofs.Common.{IsTally, RoundNoted, Shown, TurnEntry, TurnMade, turn_of, with_turn}
 use Rattle.af_script.specs.declared.op.TurnSpec.TheVariants as spec
 use Rattle.af_normal.specs.declared.turn.Turn.{Turn as Answer}
 use Rattle.af_normal.specs.Order.{most_turns}
-use Rattle.af_normal.specs.TurnMade.{TurnMade}
 use Rattle.af_session.specs.Rooms.{given_of}
 use Rattle.af_session.specs.Rounds.{Given, IsReady, Turns, round_told}
 use Rattle.af_session.specs.Shown.{FollowsRound}
-use Rattle.af_tally.specs.Summaries.{Shown, with_turn}
-use Rattle.af_tally.specs.Tallies.{IsTally}
 use Rattle.af_session.specs.Together.{SessionState}
 use Rattle.af_session.proofs.FollowingRounds.{follows_ended, follows_normal}
 use Rattle.af_session.proofs.NormalRounds.{goes_on, stays_ended}

@@ -1,8 +1,5 @@
 use Rattle.std.proofs.Common.{◌≡◌, ◌+◌, ◌≤◌, Bool, List, [], length, refl, sym, ap, ◌∙◌, arith}
-use Rattle.std.proofs.lemmas.List.Elements.{All-nil}
-use Rattle.af_base.specs.declared.log.CycleEntry.{CycleEntry}
-use Rattle.af_base.specs.Roomy.{Roomy}
-use Rattle.af_nblog.specs.declared.entries.Note.{Note}
+use Rattle.af_side_by_side.proofs.Common.{All-nil, CycleEntry, Note, Roomy}
 use Rattle.af_side_by_side.specs.Alone.{most_cycles}
 use Rattle.af_side_by_side.specs.Logging.{notes_kept}
 use Rattle.af_side_by_side.proofs.logging.Logging.of.Goals as goal

@@ -1,12 +1,5 @@
 use Rattle.std.proofs.Common.{◌≡◌, ◌-◌, ◌≤◌, ◌++◌, ℕ, Some, List, length, refl, sym, ap, subst, ◌∙◌, arith, rules}
-use Rattle.af_base.specs.declared.log.CycleEntry.{CycleEntry}
-use Rattle.af_base.specs.Log.{Logged, entry_at}
-use Rattle.af_fast.specs.Mixer.{MixerState}
-use Rattle.af_nblog.specs.declared.entries.Note.{Note}
-use Rattle.af_nblog.specs.Notes.{note_of}
-use Rattle.af_nblog.specs.declared.writing.Noted.{Noted}
-use Rattle.af_nblog.specs.declared.writing.Noted.TheVariants.{Sent, Refused}
-use Rattle.af_nblog.specs.NoteEnds.{NotedBy, WriterState, accepted, kept, note_steps, writer_made}
+use Rattle.af_side_by_side.proofs.Common.{CycleEntry, Logged, MixerState, Note, Noted, NotedBy, Refused, Sent, WriterState, accepted, entry_at, kept, note_of, note_steps, writer_made}
 use Rattle.af_side_by_side.specs.Logging.{HasLogged, ScribeState}
 use Rattle.af_tally.specs.Steps.{most_note}
 use Rattle.af_side_by_side.proofs.LogNotes.{at_last, logged_one}

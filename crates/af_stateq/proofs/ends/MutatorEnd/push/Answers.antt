@@ -1,6 +1,5 @@
 use Rattle.std.proofs.Common.{rules, ℕ, ◌+◌, ◌%◌, Bool, false, [], ◌∷◌, ◌++◌, length, ap, sym, ◌∙◌, subst, refl, arith}
-use Rattle.af_model.specs.StateQueue.{slots}
-use Rattle.af_model.specs.declared.states.MutatorEvent.TheVariants.{Push}
+use Rattle.af_stateq.proofs.Common.{Push, slots}
 use Rattle.af_stateq.specs.Shelved.{cell, word, HoldsNext}
 use Rattle.af_stateq.proofs.Allowed.{pushes_at}
 use Rattle.af_stateq.proofs.Steps.{many}

@@ -1,6 +1,6 @@
 use Rattle.std.proofs.Common.{rules, ℕ, ◌==◌, sym, ◌∙◌, subst, inl, inr, ⊎_elim}
+use Rattle.af_stateq.proofs.Common.{step}
 use mathlib.Core.Option.{none}
-use Rattle.atomic_table.specs.Table.{step}
 use Rattle.af_stateq.specs.Shelved.{IsMutator}
 use Rattle.af_stateq.proofs.Allowed.{looks_allowed}
 use Rattle.af_stateq.proofs.Looks.{kept_look}

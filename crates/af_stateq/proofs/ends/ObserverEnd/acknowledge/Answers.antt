@@ -1,6 +1,5 @@
 use Rattle.std.proofs.Common.{rules, ℕ, ◌+◌, Bool, false, [], ◌∷◌, ◌++◌, length, ap, sym, ◌∙◌, subst}
-use Rattle.af_model.specs.StateQueue.{slots}
-use Rattle.af_model.specs.declared.states.ObserverEvent.TheVariants.{Ack}
+use Rattle.af_stateq.proofs.Common.{Ack, slots}
 use Rattle.af_stateq.specs.Shelved.{cell, word, HoldsSeen}
 use Rattle.af_stateq.proofs.Allowed.{acks_at}
 use Rattle.af_stateq.proofs.Steps.{many}

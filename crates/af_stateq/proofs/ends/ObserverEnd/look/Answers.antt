@@ -1,7 +1,6 @@
 use Rattle.std.proofs.Common.{rules, ◌≢◌, Bool, true, Some, ◌+◌, [], ◌∷◌, ◌++◌, ap, sym, ◌∙◌, subst}
+use Rattle.af_stateq.proofs.Common.{SawNext, step}
 use mathlib.Core.Option.{none}
-use Rattle.atomic_table.specs.Table.{step}
-use Rattle.af_model.specs.declared.states.ObserverEvent.TheVariants.{SawNext}
 use Rattle.af_stateq.specs.Shelved.{word, IsObserver}
 use Rattle.af_stateq.proofs.Allowed.{polls_allowed}
 use Rattle.af_stateq.proofs.Hands.{are_moved, fit_moved}

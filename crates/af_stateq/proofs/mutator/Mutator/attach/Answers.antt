@@ -1,5 +1,5 @@
 use Rattle.std.proofs.Common.{ap, sym, ◌∙◌, arith}
-use Rattle.std.proofs.lemmas.Nat.{one_shl}
+use Rattle.af_stateq.proofs.Common.{one_shl}
 use Rattle.af_stateq.specs.Mutates.{is_out}
 use Rattle.af_stateq.proofs.Edits.{attach_keeps_by}
 use Rattle.af_stateq.proofs.mutator.Mutator.attach.Goals as goal

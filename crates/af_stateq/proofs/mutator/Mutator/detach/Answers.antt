@@ -1,7 +1,5 @@
 use Rattle.std.proofs.Common.{rules, ap, ◌∙◌, arith}
-use Rattle.std.proofs.lemmas.Nat.{one_shl}
-use Rattle.af_model.specs.StateQueue.{carries}
-use Rattle.std.proofs.lemmas.List.{get_or_default}
+use Rattle.af_stateq.proofs.Common.{carries, get_or_default, one_shl}
 use Rattle.af_stateq.proofs.Edits.{detach_keeps_by}
 use Rattle.af_stateq.proofs.mutator.Mutator.detach.Goals as goal
 

@@ -1,7 +1,6 @@
 use Rattle.std.proofs.Common.{rules, ◌≡◌, ◌&&◌, not, Bool, true, false, is_some, IfSome, Some, ap, sym, ◌∙◌, arith, subst}
-use Rattle.af_model.specs.StateQueue.{slot_of}
+use Rattle.af_stateq.proofs.Common.{get_or_default, slot_of}
 use Rattle.af_stateq.specs.Mutates.{Mutates, at, is_out}
-use Rattle.std.proofs.lemmas.List.{get_or_default}
 use Rattle.af_stateq.proofs.Edits.{take_keeps_by, taken_fits}
 use Rattle.af_stateq.proofs.mutator.Mutator.take_back.Goals as goal
 

@@ -1,6 +1,5 @@
 use Rattle.std.proofs.Common.{ℕ, ◌<◌, ap, sym, ◌∙◌, subst, ◌≡◌, Bool, false, if◌then◌else◌, Option, Some, None, arith, List}
-use Rattle.af_base.specs.declared.state.FastState.{FastState}
-use Rattle.af_model.specs.StateQueue.{slots, AreOf, FitAt}
+use Rattle.af_stateq.proofs.Common.{AreOf, FastState, FitAt, slots}
 use Rattle.af_stateq.specs.Ends.{Polls, Looked, acknowledged, took}
 use Rattle.af_stateq.specs.Observes.{Observes, InOrder, IsSettled}
 use Rattle.af_stateq.proofs.Told.{told_new, told_look}
