@@ -10,11 +10,11 @@ pub use Rattle.af_journal.specs.Texts.{text_of}
 pub use Rattle.af_journal_laws.proofs.AllHolds.{OfRounds, OfTurnRuns}
 pub use Rattle.af_journal_laws.specs.Laws.{HoldsAtMeetings, HoldsAtMeetingsAlone}
 pub use Rattle.af_model.specs.Journals.{JournalData, entries_seen, journal_of, rounds_seen}
-pub use Rattle.af_offline.specs.Asked.{Exact, Job, Judge, Rounds, Traced, Work, asked_of, generated_job, job_of, loaded_of, loop_asked, most_file, play_asked, play_job, record_asked, render_asked, session_job, session_of, trace_asked, trace_job, track_in, tracks_in}
+pub use Rattle.af_offline.specs.Asked.{Exact, Job, Judge, Rounds, Traced, Work, asked_of, generated_job, job_of, loaded_of, loop_asked, most_file, play_asked, play_job, record_asked, render_asked, session_job, session_in, trace_asked, trace_job, track_file_in, tracks_in}
 pub use Rattle.af_offline.specs.Asking.{output_job}
-pub use Rattle.af_offline.specs.Line.{ending_text, limit_text, refusal_text}
+pub use Rattle.af_offline.specs.Line.{ending_text, limit_line, refusal_text}
 pub use Rattle.af_offline.specs.Loading.{AreFilesFor, AreServed, loaded_view}
-pub use Rattle.af_offline.specs.Status.{HasFault, IsNoUsage, IsOutside, IsPlayRequest, JudgesWords, Meets, RefusesWords, SuitsRequest, ended_status, status_of, stop_of}
+pub use Rattle.af_offline.specs.Status.{HasFault, IsNoUsage, StopsOutside, IsPlayRequest, JudgesWords, Meets, RefusesWords, SuitsRequest, ended_status, status_of, stop_of}
 pub use Rattle.af_offline.specs.declared.status.Ending.{Ending}
 pub use Rattle.af_offline.specs.declared.status.Ending.TheVariants.{Judged, Limit}
 pub use Rattle.af_offline.specs.declared.status.Refusal.{Refusal}

@@ -1,6 +1,6 @@
 -- A work that is over and isn't done: a play that was cut off at its limit, whose files are both whole, or a judgement that refuses. The line of the work is printed or not.
 use Rattle.std.proofs.Common.{◌≡◌, ℕ, ◌++◌, List, [], Option, Some, Result, Ok, Err, IsTrue, is_some, false, arith, inl, inr, length, refl, subst, sym}
-use Rattle.af_commands.proofs.Common.{Ending, Exact, Files, Job, Judge, Judged, JudgesWords, LeavesFront, Limit, Over, Refusal, RefusesWords, Request, Rounds, SetsFile, Stop, Traced, Work, ended_status, ending_text, limit_text, with_files}
+use Rattle.af_commands.proofs.Common.{Ending, Exact, Files, Job, Judge, Judged, JudgesWords, LeavesFront, Limit, Over, Refusal, RefusesWords, Request, Rounds, SetsFile, Stop, Traced, Work, ended_status, ending_text, limit_line, with_files}
 use Rattle.std.proofs.lemmas.List.{take_all}
 use Rattle.af_offline.specs.declared.status.Status.TheVariants as status
 use Rattle.af_offline.specs.Asked.{Session}
@@ -16,9 +16,9 @@ leaves_ended (Limit cycles) (Exact bytes line) target old new none = absurd none
 leaves_ended (Limit cycles) (Session script files) target old new none = absurd none
 leaves_ended (Limit cycles) (Judge script files pcm text) target old new none = absurd none
 leaves_ended (Limit cycles) (Rounds script files journal) target old new (is, (bytes, text, play, set)) =
-    inr (false, bytes, text, limit_text cycles, play, LeavesFront-whole _ journal text new set)
+    inr (false, bytes, text, limit_line cycles, play, LeavesFront-whole _ journal text new set)
 leaves_ended (Limit cycles) (Traced script files journal log room) target old new (is, (bytes, text, play, set)) =
-    inl (inr (false, bytes, text, limit_text cycles, play, LeavesFront-whole _ journal text new set))
+    inl (inr (false, bytes, text, limit_line cycles, play, LeavesFront-whole _ journal text new set))
 leaves_ended (Judged refusal) (Exact bytes line) target old new none = absurd none
 leaves_ended (Judged refusal) (Session script files) target old new none = absurd none
 leaves_ended (Judged refusal) (Rounds script files journal) target old new none = absurd none

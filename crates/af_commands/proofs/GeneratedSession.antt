@@ -1,6 +1,6 @@
 -- The session of the generated script, with the files that were written for it.
 use Rattle.std.proofs.Common.{◌≡◌, ◌≢◌, ◌⊎◌, ℕ, zero, suc, ◌+◌, ◌*◌, ◌/◌, ◌%◌, ◌<◌, ◌≤◌, ◌==◌, nat_le, Bool, true, false, List, [], ◌∷◌, ◌++◌, Some, Result, Ok, Err, length, map, refl, sym, ap, subst, ◌∙◌, inl, inr, arith, String}
-use Rattle.af_commands.proofs.Common.{Files, Frame, Global, Job, Judged, Limit, Meets, Memory, Over, Refusal, Refused, SameFiles, Session as Loaded, SetsFiles, Stop, Store, TrackSpec, files_are, generated_job, generated_name, generated_ops, generated_script, generated_track, generated_tracks, is_drawn, loaded_view, most_file, repeated, session_job, session_of, track_in, tracks_in, with_files}
+use Rattle.af_commands.proofs.Common.{Files, Frame, Global, Job, Judged, Limit, Meets, Memory, Over, Refusal, Refused, SameFiles, Session as Loaded, SetsFiles, Stop, Store, TrackSpec, files_are, generated_job, generated_name, generated_ops, generated_script, generated_track, generated_tracks, is_drawn, loaded_view, most_file, repeated, session_job, session_in, track_file_in, tracks_in, with_files}
 use Rattle.std.specs.List.{range_with_len}
 use Rattle.std.proofs.lemmas.Bool.{le-leb, eqb-true, eq-eqb}
 use Rattle.std.proofs.lemmas.Bool.Decides.{eqb_tells}
@@ -41,7 +41,7 @@ record IsFit (total : ℕ) (track : TrackSpec) (bytes : List ℕ) : Type 0 where
   even : (length bytes % frame_width track.mono == 0) ≡ true
   enough : nat_le (frames_to_come track.ops) (length (frames_from track.mono bytes)) ≡ true
 
-track_found : (files : Files) (number total : ℕ) (track : TrackSpec) (bytes : List ℕ) → files track.file ≡ Some bytes → IsFit total track bytes → track_in files number total track ≡ Ok (frames_from track.mono bytes, total + length bytes)
+track_found : (files : Files) (number total : ℕ) (track : TrackSpec) (bytes : List ℕ) → files track.file ≡ Some bytes → IsFit total track bytes → track_file_in files number total track ≡ Ok (frames_from track.mono bytes, total + length bytes)
 track_found files number total track bytes there fit = rw (there, fit.short, fit.few, fit.even, fit.enough) refl
 
 -- the width of a frame divides the length of a track's file, and the file has 100000 frames
@@ -78,7 +78,7 @@ file_fits number track few =
 
 -- a track's file is found
 track_there : (files : Files) (number track : ℕ) → files (generated_name track) ≡ Some (generated_file number track) → track < 8
-    → track_in files track (2 * (100000 * (track + track / 2))) (generated_track track) ≡ Ok (frames_of_track number track, 2 * (100000 * (track + track / 2)) + length (generated_file number track))
+    → track_file_in files track (2 * (100000 * (track + track / 2))) (generated_track track) ≡ Ok (frames_of_track number track, 2 * (100000 * (track + track / 2)) + length (generated_file number track))
 unfolding generated_track
 track_there files number track there few = track_found files track (2 * (100000 * (track + track / 2))) (generated_track track) (generated_file number track) there (file_fits number track few)
 
@@ -91,14 +91,14 @@ tracks_found files number there from (suc count) le =
     let after : ℕ = 2 * (100000 * (from + from / 2)) + length (generated_file number from) in
     let long : length (generated_file number from) ≡ 2 * (100000 * (1 + from % 2)) = file_length number from in
     let next : after ≡ 2 * (100000 * ((from + 1) + (from + 1) / 2)) = omega (arith, long) in
-    let here : track_in files from (2 * (100000 * (from + from / 2))) (generated_track from) ≡ Ok (frames_of_track number from, after) = track_there files number from (there from (omega (arith, le))) (omega (arith, le)) in
+    let here : track_file_in files from (2 * (100000 * (from + from / 2))) (generated_track from) ≡ Ok (frames_of_track number from, after) = track_there files number from (there from (omega (arith, le))) (omega (arith, le)) in
     ap (λ (r : Result (List Frame × ℕ) Refusal). r >>= (λ one. then_cons one.0 (tracks_in files (from + 1) one.1 rest))) here
     ∙ ap (λ (total : ℕ). then_cons (frames_of_track number from) (tracks_in files (from + 1) total rest)) next
     ∙ ap (λ (r : Result (List (List Frame)) Refusal). then_cons (frames_of_track number from) r) (tracks_found files number there (from + 1) count (omega (arith, le)))
 
 -- the session is loaded from the files that were written for it
 pub session_there : (old : Files) (number : ℕ) (script : List ℕ) → is_drawn script ≡ false
-    → session_of (with_files old (generated_files number script)) generated_script ≡ Ok (record { script = generated_script; files = generated_frames number })
+    → session_in (with_files old (generated_files number script)) generated_script ≡ Ok (record { script = generated_script; files = generated_frames number })
 unfolding generated_tracks generated_frames
 session_there old number script free =
     let files : Files = with_files old (generated_files number script) in
@@ -114,11 +114,11 @@ module _ (old : Files) (number : ℕ) (script target : List ℕ) (free : is_draw
   abbrev loaded : Loaded
   loaded = record { script = generated_script; files = generated_frames number }
 
-  told_here : session_of mid generated_script ≡ Ok loaded
-  told_here = ap (λ (files : Files). session_of files generated_script) (files_are whole mid written) ∙ session_there old number script free
+  told_here : session_in mid generated_script ≡ Ok loaded
+  told_here = ap (λ (files : Files). session_in files generated_script) (files_are whole mid written) ∙ session_there old number script free
 
   -- the files were made, and the work stopped when they were loaded
-  pub Makes-unloaded : (e : Stop) (new : Files) → Meets loaded_view (Err e) (session_of mid generated_script) → SameFiles mid new → Makes (Err e) (Ok (generated_job number script target)) old new
+  pub Makes-unloaded : (e : Stop) (new : Files) → Meets loaded_view (Err e) (session_in mid generated_script) → SameFiles mid new → Makes (Err e) (Ok (generated_job number script target)) old new
   Makes-unloaded (Refused refusal) new told same = let clash : ◌≡◌ {A = Result Loaded Refusal} (Ok loaded) (Err refusal) = sym told_here ∙ told in cc
   Makes-unloaded (Over over) new told same = absurd told
   Makes-unloaded Store new told same = inl (inr (inl (λ name. same name ∙ written name)))
@@ -141,7 +141,7 @@ module _ (old : Files) (number : ℕ) (script target : List ℕ) (free : is_draw
   got (Ok l) = l
   got (Err refusal) = loaded
 
-  pub Makes-session : (r : Result (String Global) Stop) (l : Loaded) (read new : Files) → session_of mid generated_script ≡ Ok l → SameFiles mid read → Makes r (Ok (session_job target l)) read new → Makes r (Ok (generated_job number script target)) old new
+  pub Makes-session : (r : Result (String Global) Stop) (l : Loaded) (read new : Files) → session_in mid generated_script ≡ Ok l → SameFiles mid read → Makes r (Ok (session_job target l)) read new → Makes r (Ok (generated_job number script target)) old new
   Makes-session r l read new told same made =
       let is : l ≡ loaded = ap got (sym told ∙ told_here) in
       let there : read ≡ whole = files_are whole read (λ name. same name ∙ written name) in
@@ -158,5 +158,5 @@ module _ (old : Files) (number : ℕ) (script target : List ℕ) (free : is_draw
   steps_behind (Err Store) new steps counts = tt
   steps_behind (Err Memory) new steps counts = tt
 
-  pub Counts-session : (r : Result (String Global) Stop) (l : Loaded) (new : Files) (steps : List (ℕ × ℕ)) → session_of mid generated_script ≡ Ok l → CountsOn r (Ok (session_job target l)) new steps → CountsOn r (Ok (generated_job number script target)) new steps
+  pub Counts-session : (r : Result (String Global) Stop) (l : Loaded) (new : Files) (steps : List (ℕ × ℕ)) → session_in mid generated_script ≡ Ok l → CountsOn r (Ok (session_job target l)) new steps → CountsOn r (Ok (generated_job number script target)) new steps
   Counts-session r l new steps told counts = steps_behind r new steps (subst (λ (one : Loaded). CountsOn r (Ok (session_job target one)) new steps) (ap got (sym told ∙ told_here)) counts)

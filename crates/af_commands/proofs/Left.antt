@@ -1,6 +1,6 @@
 -- What is left behind, and what is printed, if a command stops.
 use Rattle.std.proofs.Common.{◌≡◌, ◌∙◌, ◌≤◌, ℕ, ◌++◌, List, Option, Some, is_some, IsTrue, Result, Ok, Err, IfErr, IsErrAnd, String, string_bytes, ok_or, append-nil, refl, sym, ap, subst, inl, inr, arith}
-use Rattle.af_commands.proofs.Common.{Ending, File, Files, Global, IsOutside, Job, JudgesWords, Memory, Over, Refusal, Refused, RefusesWords, Request, Rose, SameFiles, Script, Stop, Store, SuitsRequest, Usage, asked_of, job_of, refusal_text, request_of, status_of}
+use Rattle.af_commands.proofs.Common.{Ending, File, Files, Global, StopsOutside, Job, JudgesWords, Memory, Over, Refusal, Refused, RefusesWords, Request, Rose, SameFiles, Script, Stop, Store, SuitsRequest, Usage, asked_of, job_of, refusal_text, request_of, status_of}
 use Rattle.af_offline.specs.declared.status.Status.TheVariants as status
 use Rattle.af_offline.specs.Asked.{◌>>=◌}
 use Rattle.af_commands.specs.Ends.{Makes, Works, Prints, PrintsFront, PrintsCut, PrintsLine, Renders, Printed, WholeUnless, AsksEnding, IsDoneLine, IsAskedLine, PrintsOwnLine, PrintsSomeLine, EndsAsAsked}
@@ -43,7 +43,7 @@ RefusesWords-stopped X Y Z Store request names fits some = tt
 RefusesWords-stopped X Y Z Memory request names fits some = tt
 
 -- a line was made, and printed or not
-pub Renders-printed : {X : Type 0} (r : Result X Stop) (asked : Result Job Refusal) (line : String Global) (old new : Files) → Makes (Ok line) asked old new → IfErr r IsOutside → Renders r asked old new
+pub Renders-printed : {X : Type 0} (r : Result X Stop) (asked : Result Job Refusal) (line : String Global) (old new : Files) → Makes (Ok line) asked old new → IfErr r StopsOutside → Renders r asked old new
 Renders-printed {X} (Ok x) asked line old new made outside = Renders-made X x asked line old new made
 Renders-printed (Err (Refused refusal)) asked line old new made outside = absurd outside
 Renders-printed (Err (Over over)) asked line old new made outside = absurd outside
@@ -65,7 +65,7 @@ WholeUnless-printed failed (Err (Over over)) asked line old new made = tt
 WholeUnless-printed failed (Err Store) asked line old new made = inr (IsOver-made asked line old new made)
 WholeUnless-printed failed (Err Memory) asked line old new made = tt
 
-pub RefusesWords-written : {X Y : Type 0} (r : Result X Stop) (names : Option Y) → IfErr r IsOutside → IsTrue (is_some names) → RefusesWords r names
+pub RefusesWords-written : {X Y : Type 0} (r : Result X Stop) (names : Option Y) → IfErr r StopsOutside → IsTrue (is_some names) → RefusesWords r names
 RefusesWords-written (Ok x) names outside some = some
 RefusesWords-written (Err (Refused refusal)) names outside some = absurd outside
 RefusesWords-written (Err (Over over)) names outside some = some
@@ -132,7 +132,7 @@ pub asked_line : (asked : Option Request) (request : Request) (line : List ℕ) 
 asked_line asked request line named is = subst (λ (a : Option Request). IsAskedLine a line) named is
 
 -- a line of the command was printed, or a front of it, or nothing
-pub PrintsSomeLine-written : {X : Type 0} (r : Result X Stop) (asked : Option Request) (line before after : List ℕ) → IfErr r IsOutside → IsAskedLine asked line → PrintsLine r line before after → PrintsSomeLine r asked before after
+pub PrintsSomeLine-written : {X : Type 0} (r : Result X Stop) (asked : Option Request) (line before after : List ℕ) → IfErr r StopsOutside → IsAskedLine asked line → PrintsLine r line before after → PrintsSomeLine r asked before after
 PrintsSomeLine-written (Ok x) asked line before after outside is printed = (line, is, printed)
 PrintsSomeLine-written (Err (Refused refusal)) asked line before after outside is printed = printed
 PrintsSomeLine-written (Err (Over over)) asked line before after outside is printed = absurd outside

@@ -4,7 +4,7 @@ use Rattle.af_commands.proofs.Common.{ComesTo, EndsState, Files, Global, HandsBa
 use Rattle.af_one_turn_run.proofs.OneTurnRun.{one_turn_run}
 use Rattle.af_render_law.proofs.TurnsSoFar.{are_turns, sounds}
 use Rattle.af_session.specs.Shown.{summary_told}
-use Rattle.af_commands.specs.Ends.{IsCutOff, IsMade, Makes}
+use Rattle.af_commands.specs.Ends.{IsCutOff, IsMadeWith, Makes}
 use Rattle.af_commands.specs.Sessions.{IsSession, IsSomeSessionLine, LeavesTurns, summary_line}
 use Rattle.af_commands.specs.Told.{TellsRender}
 use Rattle.af_commands.proofs.Made.{Makes-unwritten}
@@ -26,11 +26,11 @@ module _ (l : Loaded) (journal : JournalData) (ends : EndsState) (back : HandsBa
   some_line line is = (l.script, l.files, journal_pcm l.script.frames journal, subst (λ (text : List ℕ). IsSession l.script l.files (journal_pcm l.script.frames journal) text) (sym is) is_session)
 
   module _ (target : List ℕ) (old new : Files) (set : SetsFile old target (Some (journal_pcm l.script.frames journal)) new) where
-    is_made : IsMade (session_job target l) (summary_line summary) old new
+    is_made : IsMadeWith (session_job target l) (summary_line summary) old new
     is_made = (journal_pcm l.script.frames journal, is_session, set)
 
     Makes-played : (line : String Global) → string_bytes line ≡ summary_line summary → Makes (Ok line) (Ok (session_job target l)) old new
-    Makes-played line is = subst (λ (text : List ℕ). IsMade (session_job target l) text old new) (sym is) is_made
+    Makes-played line is = subst (λ (text : List ℕ). IsMadeWith (session_job target l) text old new) (sym is) is_made
 
     -- a work is cut off if the output is whole and memory ran out for the line
     cut_behind : IsCutOff (Ok (session_job target l)) old new

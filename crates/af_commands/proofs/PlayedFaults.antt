@@ -1,6 +1,6 @@
 -- How a play answers that the outside stopped it, in its session or after it.
 use Rattle.std.proofs.Common.{◌≡◌, ◌∙◌, ℕ, ◌<◌, ◌≤◌, Ok, Err, Result, String, IsErrAnd, IsErrOf, arith, refl, sym, subst}
-use Rattle.af_commands.proofs.Common.{Ending, EndsState, Global, HasCause, HasFault, HasStoreCause, IsNoUsage, IsOutside, IsPlayRequest, JournalData, Memory, Outcome, Over, PlayFault, Played, Refused, Request, Stop, Store, StoreError, SuitsRequest, stop_of}
+use Rattle.af_commands.proofs.Common.{Ending, EndsState, Global, HasCause, HasFault, HasStoreCause, IsNoUsage, StopsOutside, IsPlayRequest, JournalData, Memory, Outcome, Over, PlayFault, Played, Refused, Request, Stop, Store, StoreError, SuitsRequest, stop_of}
 use Rattle.af_io.specs.declared.store.StoreError.TheVariants as outside
 use Rattle.af_playing.specs.declared.answering.PlayFault.TheVariants as fault
 use Rattle.af_rendering.proofs.Basics.{not_failed}
@@ -11,7 +11,7 @@ pub stopped : (P : Result (String Global) Stop → Type 0) (r : Result (String G
 stopped P (Ok line) e p is = absurd is
 stopped P (Err s) e p is = subst (λ (x : Stop). P (Err x)) (sym is) p
 
-pub stop_outside : (e : StoreError) → IsOutside (stop_of e)
+pub stop_outside : (e : StoreError) → StopsOutside (stop_of e)
 stop_outside outside.Failed = tt
 stop_outside outside.Memory = tt
 

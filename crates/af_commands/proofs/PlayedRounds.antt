@@ -1,6 +1,6 @@
 -- A script that was played in rounds, its journal and its line.
 use Rattle.std.proofs.Common.{◌≡◌, ◌∙◌, ◌≤◌, ℕ, Bool, true, false, List, Some, Ok, Err, IfOk, Result, String, length, string_bytes, ap, arith, inl, inr, refl, subst, sym}
-use Rattle.af_commands.proofs.Common.{Ending, EndsState, Files, Global, HandsBackRun, HoldsAtMeetings, IsLegalJournal, IsOneReading, IsScript, JournalData, KeepsFiles, KeepsPlay, LeavesFront, LeavesRun, Limit, Memory, OfRounds, Over, PlayFault, Played, Refused, SameFiles, Session as Loaded, SetsFile, Stop, Store, Summary, entries_seen, files_are, journal_of, journal_pcm, limit_text, play_job, rounds_seen, run_of, summary_by, text_of, with_file}
+use Rattle.af_commands.proofs.Common.{Ending, EndsState, Files, Global, HandsBackRun, HoldsAtMeetings, IsLegalJournal, IsOneReading, IsScript, JournalData, KeepsFiles, KeepsPlay, LeavesFront, LeavesRun, Limit, Memory, OfRounds, Over, PlayFault, Played, Refused, SameFiles, Session as Loaded, SetsFile, Stop, Store, Summary, entries_seen, files_are, journal_of, journal_pcm, limit_line, play_job, rounds_seen, run_of, summary_by, text_of, with_file}
 use Rattle.af_model.proofs.Basics.{same_rounds}
 use Rattle.af_journal.proofs.OneJournal.{read-back}
 use Rattle.af_playing.specs.declared.answering.PlayFault.TheVariants as fault
@@ -84,7 +84,7 @@ pub Makes-cut : (l : Loaded) (journal : JournalData) (ends : EndsState) → Hand
     → SetsFile old target (Some (journal_pcm l.script.frames journal)) mid → SetsFile mid name (Some (text_of journal)) new
     → (cycles : ℕ) → cycles ≡ l.script.cycles → Makes (Err (Over (Limit cycles))) (Ok (play_job target name l)) old new
 Makes-cut l journal ends back legal target name old mid new set text cycles is =
-    (is, played false l journal ends back legal target name old mid set (limit_text cycles) new (ap limit_text is) text)
+    (is, played false l journal ends back legal target name old mid set (limit_line cycles) new (ap limit_line is) text)
 
 -- ## What a play answers
 

@@ -1,6 +1,6 @@
 -- A script that was played in rounds with a log: its journal, its log and its line.
 use Rattle.std.proofs.Common.{◌≡◌, ◌∙◌, ◌⊎◌, ℕ, ◌≤◌, true, false, List, [], ◌∷◌, ◌++◌, Some, Ok, Err, Result, String, string_bytes, ap, inl, inr, refl, subst, sym}
-use Rattle.af_commands.proofs.Common.{AppendsLogOfPlay, Ending, EndsState, Files, Global, HandsBackRun, HoldsAtMeetings, IsScript, JournalData, KeepsFiles, KeepsPlay, LeavesFront, Limit, Memory, OfRounds, Over, PlayFault, Played, Refused, Session as Loaded, SetsFile, Stop, Store, Summary, files_are, journal_pcm, limit_text, run_of, summary_by, text_of, trace_job, with_file, with_files}
+use Rattle.af_commands.proofs.Common.{AppendsLogOfPlay, Ending, EndsState, Files, Global, HandsBackRun, HoldsAtMeetings, IsScript, JournalData, KeepsFiles, KeepsPlay, LeavesFront, Limit, Memory, OfRounds, Over, PlayFault, Played, Refused, Session as Loaded, SetsFile, Stop, Store, Summary, files_are, journal_pcm, limit_line, run_of, summary_by, text_of, trace_job, with_file, with_files}
 use Rattle.af_nblog.specs.declared.entries.Note.{Note}
 use Rattle.af_nblog.specs.LogText.{log_text}
 use Rattle.af_playing.specs.declared.answering.PlayFault.TheVariants as fault
@@ -57,7 +57,7 @@ pub Makes-cut_log : (l : Loaded) (room : ℕ) (journal : JournalData) (ends : En
     → SetsFile old target (Some (journal_pcm l.script.frames journal)) mid → SetsFile mid name (Some (text_of journal)) new
     → (cycles : ℕ) → cycles ≡ l.script.cycles → Makes (Err (Over (Limit cycles))) (Ok (trace_job target name log room l)) old new
 Makes-cut_log l room journal ends back legal target name log old mid new set text cycles is =
-    (is, played false l journal ends back legal target name old mid set (limit_text cycles) new (ap limit_text is) text)
+    (is, played false l journal ends back legal target name old mid set (limit_line cycles) new (ap limit_line is) text)
 
 -- ## What a play with a log answers
 

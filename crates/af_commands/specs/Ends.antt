@@ -21,7 +21,7 @@ use Rattle.af_offline.specs.Asked.{Job, Work, Exact, Session, Rounds, Judge, Tra
 use Rattle.af_commands.specs.Plays.{IsPlayed, IsSomePlayLine, LeavesPlay}
 use Rattle.af_commands.specs.Traces.{IsTraced, LeavesLog}
 use Rattle.af_commands.specs.Sessions.{IsSession, IsSomeSessionLine, LeavesTurns}
-use Rattle.af_offline.specs.Line.{counts_text, ending_text, legal_text, limit_text, rolls_text, refusal_text}
+use Rattle.af_offline.specs.Line.{counts_text, ending_text, legal_text, limit_line, rolls_text, refusal_text}
 use Rattle.af_offline.specs.Status.{status_of, SuitsEnding}
 use Rattle.af_offline.specs.Verified.{IsJudged}
 
@@ -36,17 +36,17 @@ MakesWork (Judge script files pcm text) target line old new = (line ≡ legal_te
 MakesWork (Traced script files journal log room) target line old new = IsTraced script files room target journal log line old new
 
 -- the files that are made first are whole, the output holds what is asked for with this line, and no other file has changed
-abbrev pub IsMade : Job → List ℕ → Files → Files → Type 0
-IsMade job line old new = MakesWork job.work job.target line (with_files old job.first) new
+abbrev pub IsMadeWith : Job → List ℕ → Files → Files → Type 0
+IsMadeWith job line old new = MakesWork job.work job.target line (with_files old job.first) new
 
 -- the files that are made first are whole, the output holds what is asked for with some line, and no other file has changed
 abbrev pub IsWritten : Job → Files → Files → Type 0
-IsWritten job old new = (line : List ℕ) × IsMade job line old new
+IsWritten job old new = (line : List ℕ) × IsMadeWith job line old new
 
 -- The two files of a play are those of one run that was cut off at its limit of so many cycles, and no other file has changed. Or a sound and a journal are refused with this refusal, and no file has changed
 abbrev pub EndsWork : Ending → Work → List ℕ → Files → Files → Type 0
-EndsWork (Limit cycles) (Rounds script files journal) target old new = (cycles ≡ script.cycles) × IsPlayed false script files target journal (limit_text cycles) old new
-EndsWork (Limit cycles) (Traced script files journal log room) target old new = (cycles ≡ script.cycles) × IsPlayed false script files target journal (limit_text cycles) old new
+EndsWork (Limit cycles) (Rounds script files journal) target old new = (cycles ≡ script.cycles) × IsPlayed false script files target journal (limit_line cycles) old new
+EndsWork (Limit cycles) (Traced script files journal log room) target old new = (cycles ≡ script.cycles) × IsPlayed false script files target journal (limit_line cycles) old new
 EndsWork (Limit cycles) (Session script files) target old new = ⊥
 EndsWork (Limit cycles) (Exact bytes line) target old new = ⊥
 EndsWork (Limit cycles) (Judge script files pcm text) target old new = ⊥
@@ -81,7 +81,7 @@ IsWhole (Err refusal) old new = SameFiles old new
 
 -- the files are whole, and this is the line: the work is made, or it came to another end
 abbrev pub IsOverWith : Job → List ℕ → Files → Files → Type 0
-IsOverWith job line old new = IsMade job line old new ⊎ ((ending : Ending) × (line ≡ ending_text ending) × EndsWork ending job.work job.target (with_files old job.first) new)
+IsOverWith job line old new = IsMadeWith job line old new ⊎ ((ending : Ending) × (line ≡ ending_text ending) × EndsWork ending job.work job.target (with_files old job.first) new)
 
 -- nothing is left to do but to print; if the work is refused, no file has changed
 abbrev pub IsOver : Result Job Refusal → Files → Files → Type 0
@@ -109,7 +109,7 @@ PrintsFront line before after = (count : ℕ) × (after ≡ before ++ take count
 
 -- the line of what is asked for was printed: a line that may be made with the bytes of the output, or the line of the refusal
 abbrev pub PrintsWhole : Result Job Refusal → Files → Files → List ℕ → List ℕ → Type 0
-PrintsWhole (Ok job) old new before after = (line : List ℕ) × IsMade job line old new × (after ≡ before ++ line)
+PrintsWhole (Ok job) old new before after = (line : List ℕ) × IsMadeWith job line old new × (after ≡ before ++ line)
 PrintsWhole (Err refusal) old new before after = after ≡ before ++ refusal_text refusal
 
 -- a front of the line of what is asked for was printed, and the output is whole
@@ -135,7 +135,7 @@ PrintsLine (Err stop) line before after = after ≡ before
 
 -- the output was made, and this line is to be printed; or the work stopped at a refusal, with nothing done, or came to another end, or was cut off
 abbrev pub Makes : Result (String Global) Stop → Result Job Refusal → Files → Files → Type 0
-Makes (Ok line) (Ok job) old new = IsMade job (string_bytes line) old new
+Makes (Ok line) (Ok job) old new = IsMadeWith job (string_bytes line) old new
 Makes (Ok line) (Err refusal) old new = ⊥
 Makes (Err (Refused refusal)) asked old new = (asked ≡ Err refusal) × SameFiles old new
 Makes (Err (Over ending)) asked old new = IsEnded ending asked old new

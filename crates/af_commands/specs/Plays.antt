@@ -10,7 +10,7 @@ use Rattle.af_script.specs.Data.{ScriptData}
 use Rattle.af_playing.specs.PlayedRuns.{IsLegalJournal}
 use Rattle.af_playing.specs.RoundsSoFar.{AreRoundsOf}
 use Rattle.af_runs.specs.Pcm.{journal_pcm}
-use Rattle.af_offline.specs.Line.{limit_text}
+use Rattle.af_offline.specs.Line.{limit_line}
 use Rattle.af_commands.specs.Sessions.{summary_line}
 use Rattle.af_journal.specs.Readings.{IsOneReading}
 use Rattle.af_rendering.specs.Alone.{summary_by}
@@ -21,7 +21,7 @@ use Rattle.af_runs.specs.LegalRuns.{run_of}
 -- the line of a run, by its journal alone: that of its summary if all parties have ended, and else that of the limit
 abbrev pub run_line : Bool → ScriptData → List (List Frame) → JournalData → List ℕ
 run_line true script files journal = summary_line (summary_by script journal (run_of script files journal))
-run_line false script files journal = limit_text script.cycles
+run_line false script files journal = limit_line script.cycles
 
 -- These bytes, this text and this line are of one run of all parties, in which all have ended, or which was cut off when the log was full. The bytes are the sound of its journal. The text is that of the same journal, and has no other reading. By itself that journal is a legal run in which each frame of a lawful client has one fate and each lawful track is spared, or else a cut run. In either, up to each meeting of its two proxies, a block without a poke is spared, each frame released on such a stream block has one fate, and no call of the client of a track without a poke answers that it was shut. Each track that is reported drained has reached its STOP, and a START that was seen settled bounds what is discarded. It has no more rounds than the script has cycles
 pub record IsPlay (ended : Bool) (script : ScriptData) (files : List (List Frame)) (bytes text line : List ℕ) : Type 0 where

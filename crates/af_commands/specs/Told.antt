@@ -14,7 +14,7 @@ use Rattle.af_offline.specs.declared.status.Ending.TheVariants.{Limit}
 use Rattle.af_offline.specs.declared.status.Stop.{Stop}
 use Rattle.af_offline.specs.declared.status.Stop.TheVariants.{Over, Store, Memory}
 use Rattle.af_commands.specs.Sessions.{summary_line}
-use Rattle.af_offline.specs.Status.{HasFault, IsOutside, stop_of}
+use Rattle.af_offline.specs.Status.{HasFault, StopsOutside, stop_of}
 
 -- ## The answer
 
@@ -31,13 +31,13 @@ TellsRender (Err error) result = result ≡ Err (stop_of error)
 -- the answer is the line of a summary; the outside may stop it
 abbrev pub TellsEnded : Summary → Result (String Global) Stop → Type 0
 TellsEnded summary (Ok line) = string_bytes line ≡ summary_line summary
-TellsEnded summary (Err stop) = IsOutside stop
+TellsEnded summary (Err stop) = StopsOutside stop
 
 -- the answer is the limit of so many cycles; the outside may stop it
 abbrev pub TellsLimit : ℕ → Result (String Global) Stop → Type 0
 TellsLimit cycles (Ok line) = ⊥
 TellsLimit cycles (Err (Over ending)) = ending ≡ Limit cycles
-TellsLimit cycles (Err stop) = IsOutside stop
+TellsLimit cycles (Err stop) = StopsOutside stop
 
 -- the answer of a play: its line if all parties have ended, the limit if it was cut off, and else what stopped it
 abbrev pub Tells : ℕ → Result Played PlayFault → Result (String Global) Stop → Type 0

@@ -1,6 +1,6 @@
 //! The commands that play no session: `record`, `loop` and `verify`.
 ghost use Rattle.std.specs.Prelude.{◌≡◌, IfOk, string_bytes};
-ghost use Rattle.af_words.specs.Asking.{AreSizes, AreTurns};
+ghost use Rattle.af_words.specs.Asking.{AreSizes, AreLoopTurns};
 ghost use Rattle.af_words.specs.Requests.{Verify};
 ghost use Rattle.af_offline.specs.Asked.{loop_asked, record_asked, verify_asked};
 ghost use Rattle.af_offline.specs.Line.{counts_text, legal_text, rolls_text};
@@ -40,7 +40,7 @@ pub fn loop_file<S: Store>(
     target: &str,
     turns: Turns,
 ) -> Result<String, Stop>
-    requires { AreTurns turns }
+    requires { AreLoopTurns turns }
     ensures made { S.told store.old → Makes result (loop_asked (S.files store.old) input.now target.now turns) (S.files store.old) (S.files store.new) }
     ensures line { IfOk result (λ line. (rolls : Rolls) × (string_bytes line ≡ rolls_text rolls)) }
     ensures cause { HasFault (S.faults store.old) (S.faults store.new) result }

@@ -8,7 +8,7 @@ ghost use Rattle.af_commands.specs.Counted.{CountsOn, CountsSteps};
 ghost use Rattle.af_commands.specs.Ends.{IsDoneLine, IsOver, Makes, Works, Prints, PrintsLine, Renders, Printed, WholeUnless, PrintsOwnLine, PrintsSomeLine, EndsAsAsked};
 ghost use Rattle.af_offline.specs.Line.{ending_text, refusal_text};
 ghost use Rattle.af_words.specs.Requests.{request_of};
-ghost use Rattle.af_offline.specs.Status.{CountsFaults, HasEitherFault, HasFault, IsOutside, JudgesWords, RefusesWords, SuitsRequest};
+ghost use Rattle.af_offline.specs.Status.{CountsFaults, HasEitherFault, HasFault, StopsOutside, JudgesWords, RefusesWords, SuitsRequest};
 
 use crate::generating::generate;
 use crate::offline::{loop_file, record_file, verify_files};
@@ -89,7 +89,7 @@ fn make<R: Threads + Sync, S: Store, G: Gate>(
 /// Prints a line.
 fn print<O: Sink>(out: &mut O, line: &str) -> Result<(), Stop>
     ensures printed { O.told out.old → PrintsLine result line.now (O.held out.old) (O.held out.new) }
-    ensures outside { IfErr result IsOutside }
+    ensures outside { IfErr result StopsOutside }
     ensures tells { O.told out.old → O.told out.new }
     ensures cause { HasFault (O.faults out.old) (O.faults out.new) result }
 {

@@ -8,7 +8,7 @@ use Rattle.af_offline.specs.declared.status.Refusal.{Refusal}
 use Rattle.af_offline.specs.declared.status.Refusal.TheVariants.{File}
 use Rattle.af_offline.specs.declared.status.Role.TheVariants as role
 use Rattle.af_offline.specs.declared.status.Why.TheVariants.{Total}
-use Rattle.af_offline.specs.Asked.{◌>>=◌, counted, enough_of, frames_in, loaded, most_file, track_in, tracks_in}
+use Rattle.af_offline.specs.Asked.{◌>>=◌, bytes_within, enough_of, frames_in, file_within, most_file, track_file_in, tracks_in}
 use Rattle.af_offline.specs.declared.status.Stop.{Stop}
 use Rattle.af_offline.specs.declared.status.Stop.TheVariants.{Store, Memory}
 use Rattle.af_offline.specs.Loading.{file_view, AreServed, Serves}
@@ -67,7 +67,7 @@ all_served tracks files i le all = subst (λ (ts : List TrackSpec). AreServed ts
 
 -- one more track's file is loaded
 pub tracks_step : (files : Files) (number total more : ℕ) (tracks : List TrackSpec) (track : TrackSpec) (file : List Frame) (before after : List (List Frame)) → number < length tracks → track ≡ get_or tracks number track
-    → track_in files number total track ≡ Ok (file, more) → after ≡ before ++ file ∷ []
+    → track_file_in files number total track ≡ Ok (file, more) → after ≡ before ++ file ∷ []
     → behind before (tracks_in files number total (drop number tracks)) ≡ behind after (tracks_in files (number + 1) more (drop (number + 1) tracks))
 tracks_step files number total more tracks track file before after lt is told after_is =
     let rest : List TrackSpec = drop (number + 1) tracks in
@@ -112,11 +112,11 @@ faultless_memory {X} (Err s) before now same is =
 
 -- the files stopped at a track
 pub tracks_stopped : {W : Type 0} (other : W → List (List Frame)) (files : Files) (number total : ℕ) (tracks : List TrackSpec) (track : TrackSpec) (before : List (List Frame)) (e : Stop) → number < length tracks → track ≡ get_or tracks number track
-    → Meets file_view (Err e) (track_in files number total track) → Meets other (Err e) (behind before (tracks_in files number total (drop number tracks)))
+    → Meets file_view (Err e) (track_file_in files number total track) → Meets other (Err e) (behind before (tracks_in files number total (drop number tracks)))
 tracks_stopped other files number total tracks track before e lt is told =
     let rest : List TrackSpec = drop (number + 1) tracks in
     let first : drop number tracks ≡ track ∷ rest = drop_more tracks number track lt ∙ ap (λ (t : TrackSpec). t ∷ rest) (sym is) in
-    let here : Meets other (Err e) (tracks_in files number total (track ∷ rest)) = Meets-stopped file_view other e (track_in files number total track) (λ one. then_cons one.0 (tracks_in files (number + 1) one.1 rest)) told in
+    let here : Meets other (Err e) (tracks_in files number total (track ∷ rest)) = Meets-stopped file_view other e (track_file_in files number total track) (λ one. then_cons one.0 (tracks_in files (number + 1) one.1 rest)) told in
     subst (λ (ts : List TrackSpec). Meets other (Err e) (behind before (tracks_in files number total ts))) (sym first) (Meets-stopped other other e (tracks_in files number total (track ∷ rest)) (λ ys. Ok (before ++ ys)) here)
 
 -- all files are loaded
@@ -132,20 +132,20 @@ framed number total track bytes = frames_in number track.mono bytes >>= enough_o
 
 module _ (files : Files) (number total : ℕ) (track : TrackSpec) where
   -- a track's file wasn't loaded
-  pub track_unloaded : {X : Type 0} (view : X → List ℕ) (e : Stop) → Meets view (Err e) (loaded (role.Track number) most_file (files track.file)) → Meets file_view (Err e) (track_in files number total track)
+  pub track_unloaded : {X : Type 0} (view : X → List ℕ) (e : Stop) → Meets view (Err e) (file_within (role.Track number) most_file (files track.file)) → Meets file_view (Err e) (track_file_in files number total track)
   track_unloaded view e told =
-      Meets-stopped view file_view e (loaded (role.Track number) most_file (files track.file) >>= counted number total) (framed number total track)
-      (Meets-stopped view view e (loaded (role.Track number) most_file (files track.file)) (counted number total) told)
+      Meets-stopped view file_view e (file_within (role.Track number) most_file (files track.file) >>= bytes_within number total) (framed number total track)
+      (Meets-stopped view view e (file_within (role.Track number) most_file (files track.file)) (bytes_within number total) told)
 
-  module _ (bytes : List ℕ) (is : loaded (role.Track number) most_file (files track.file) ≡ Ok bytes) where
+  module _ (bytes : List ℕ) (is : file_within (role.Track number) most_file (files track.file) ≡ Ok bytes) where
     abbrev by_test : Bool → Result (List Frame × ℕ) Refusal
     by_test few = (if few then Ok bytes else Err (File (record { role = role.Track number; why = Total (total + length bytes) }))) >>= framed number total track
 
-    here : track_in files number total track ≡ by_test (nat_le (total + length bytes) (2 ^ 24))
-    here = ap (λ (r : Result (List ℕ) Refusal). r >>= counted number total >>= framed number total track) is
+    here : track_file_in files number total track ≡ by_test (nat_le (total + length bytes) (2 ^ 24))
+    here = ap (λ (r : Result (List ℕ) Refusal). r >>= bytes_within number total >>= framed number total track) is
 
     -- the files are too many bytes
-    pub track_total : 2 ^ 24 < total + length bytes → track_in files number total track ≡ Err (File (record { role = role.Track number; why = Total (total + length bytes) }))
+    pub track_total : 2 ^ 24 < total + length bytes → track_file_in files number total track ≡ Err (File (record { role = role.Track number; why = Total (total + length bytes) }))
     track_total lt = here ∙ ap by_test (lt-leb (2 ^ 24) (total + length bytes) lt)
       where
         lt-leb : (a b : ℕ) → a < b → nat_le b a ≡ false
@@ -156,28 +156,28 @@ module _ (files : Files) (number total : ℕ) (track : TrackSpec) where
             go false le = le
 
     module _ (few : total + length bytes ≤ 2 ^ 24) where
-      kept : track_in files number total track ≡ framed number total track bytes
+      kept : track_file_in files number total track ≡ framed number total track bytes
       kept = here ∙ ap by_test (le-leb (total + length bytes) (2 ^ 24) few)
 
       -- the bytes of a track's file gave no frames
-      pub track_unframed : (e : Stop) → Meets {X = List Frame} (λ pcm. pcm) (Err e) (frames_in number track.mono bytes) → Meets file_view (Err e) (track_in files number total track)
+      pub track_unframed : (e : Stop) → Meets {X = List Frame} (λ pcm. pcm) (Err e) (frames_in number track.mono bytes) → Meets file_view (Err e) (track_file_in files number total track)
       track_unframed e told =
           subst (λ (r : Result (List Frame × ℕ) Refusal). Meets file_view (Err e) r) (sym kept)
           (Meets-stopped {X = List Frame} (λ (pcm : List Frame). pcm) file_view e (frames_in number track.mono bytes >>= enough_of number (frames_to_come track.ops)) (λ frames. Ok (frames, total + length bytes))
           (Meets-stopped {X = List Frame} (λ (pcm : List Frame). pcm) (λ (pcm : List Frame). pcm) e (frames_in number track.mono bytes) (enough_of number (frames_to_come track.ops)) told))
 
       module _ (frames : List Frame) (framed_is : frames_in number track.mono bytes ≡ Ok frames) where
-        in_frames : track_in files number total track ≡ (enough_of number (frames_to_come track.ops) frames >>= (λ all. Ok (all, total + length bytes)))
+        in_frames : track_file_in files number total track ≡ (enough_of number (frames_to_come track.ops) frames >>= (λ all. Ok (all, total + length bytes)))
         in_frames = kept ∙ ap (λ (r : Result (List Frame) Refusal). r >>= enough_of number (frames_to_come track.ops) >>= (λ all. Ok (all, total + length bytes))) framed_is
 
         -- the frames of a track's file are too few
-        pub track_short : (e : Stop) → Meets {X = List Frame} (λ pcm. pcm) (Err e) (enough_of number (frames_to_come track.ops) frames) → Meets file_view (Err e) (track_in files number total track)
+        pub track_short : (e : Stop) → Meets {X = List Frame} (λ pcm. pcm) (Err e) (enough_of number (frames_to_come track.ops) frames) → Meets file_view (Err e) (track_file_in files number total track)
         track_short e told =
             subst (λ (r : Result (List Frame × ℕ) Refusal). Meets file_view (Err e) r) (sym in_frames)
             (Meets-stopped {X = List Frame} (λ (pcm : List Frame). pcm) file_view e (enough_of number (frames_to_come track.ops) frames) (λ all. Ok (all, total + length bytes)) told)
 
         -- the frames of a track's file are enough
-        pub track_done : (all : List Frame) → enough_of number (frames_to_come track.ops) frames ≡ Ok all → track_in files number total track ≡ Ok (all, total + length bytes)
+        pub track_done : (all : List Frame) → enough_of number (frames_to_come track.ops) frames ≡ Ok all → track_file_in files number total track ≡ Ok (all, total + length bytes)
         track_done all is_all = in_frames ∙ ap (λ (r : Result (List Frame) Refusal). r >>= (λ some. Ok (some, total + length bytes))) is_all
 
 -- ## Few frames

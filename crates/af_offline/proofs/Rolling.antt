@@ -5,7 +5,7 @@ use Rattle.std.proofs.lemmas.Bool.Decides.{nat_tests}
 use Rattle.af_static.specs.InStep.{HandState}
 use Rattle.af_static.proofs.Calling.{setting_stays}
 use Rattle.af_words.specs.declared.request.Turns.{Turns}
-use Rattle.af_offline.specs.Looped.{calls_under, next_setting, setting_of}
+use Rattle.af_offline.specs.Looped.{calls_under, next_setting, loop_setting}
 use Rattle.af_offline.proofs.Entries.{pcm_bytes-append}
 
 -- ---- one call
@@ -84,13 +84,13 @@ module _ (first : HandState) (places : ℕ) (kept : List ℕ) where
 
 -- a hand in which one setting was made, and nothing played
 abbrev pub hand_set : Turns → List Frame → HandState
-hand_set turns frames = record { frames = frames; made = 1; newest = setting_of turns; used = opening; head = at_first }
+hand_set turns frames = record { frames = frames; made = 1; newest = loop_setting turns; used = opening; head = at_first }
 
-set_setting_as : (turns : Turns) (frames : List Frame) → next_setting (hand_set turns frames) ≡ setting_of turns
+set_setting_as : (turns : Turns) (frames : List Frame) → next_setting (hand_set turns frames) ≡ loop_setting turns
 unfolding next_setting
 set_setting_as turns frames =
     let any : nat_le 0 (length frames) ≡ true = grind (arith, nat_tests) in
-    ap (λ (b : Bool). cond b (setting_of turns) opening) any
+    ap (λ (b : Bool). cond b (loop_setting turns) opening) any
 
-pub set_setting : (turns : Turns) (frames : List Frame) (hand : HandState) → hand ≡ hand_set turns frames → next_setting hand ≡ setting_of turns
+pub set_setting : (turns : Turns) (frames : List Frame) (hand : HandState) → hand ≡ hand_set turns frames → next_setting hand ≡ loop_setting turns
 set_setting turns frames hand is = ap next_setting is ∙ set_setting_as turns frames

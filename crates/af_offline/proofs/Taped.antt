@@ -3,7 +3,7 @@ use Rattle.std.proofs.Common.{◌≡◌, ℕ, zero, suc, ◌+◌, ◌-◌, ◌*�
 use Rattle.af_offline.proofs.Common.{Frame, drop-map, drop_all, flat_map, frame_bytes, leb-false, leb-true, length-map, map-append, packed_word, pcm_bytes, take-append-drop, take-map, take_all}
 use Rattle.std.proofs.Common.{of_z, w16}
 use Rattle.af_words.specs.declared.request.Sizes.{Sizes}
-use Rattle.af_offline.specs.Recorded.{Recording, empty, supplied, read_up_to, period, periods, recorded, heard}
+use Rattle.af_offline.specs.Recorded.{Recording, empty, supplied, read_up_to, period, periods, recording_of, frames_heard}
 use Rattle.af_offline.specs.Captured.{word_bytes}
 
 -- ---- the bytes of words
@@ -111,11 +111,11 @@ periods_words sizes (suc count) (f ∷ fs) r =
     ∙ ap (periods sizes count (map packed_word (drop sizes.supply (f ∷ fs)))) (period_words sizes (take sizes.supply (f ∷ fs)) r)
     ∙ periods_words sizes count (drop sizes.supply (f ∷ fs)) (period sizes (take sizes.supply (f ∷ fs)) r)
 
-pub recorded_words : (sizes : Sizes) (frames : List Frame) → periods sizes (length frames) (map packed_word frames) empty ≡ in_words (recorded sizes frames)
+pub recorded_words : (sizes : Sizes) (frames : List Frame) → periods sizes (length frames) (map packed_word frames) empty ≡ in_words (recording_of sizes frames)
 recorded_words sizes frames = periods_words sizes (length frames) frames empty
 
-pub heard_words : (sizes : Sizes) (frames : List Frame) → heard (in_words (recorded sizes frames)) ≡ map packed_word (heard (recorded sizes frames))
-heard_words sizes frames = sym (map-append packed_word (recorded sizes frames).read (recorded sizes frames).queued)
+pub heard_words : (sizes : Sizes) (frames : List Frame) → frames_heard (in_words (recording_of sizes frames)) ≡ map packed_word (frames_heard (recording_of sizes frames))
+heard_words sizes frames = sym (map-append packed_word (recording_of sizes frames).read (recording_of sizes frames).queued)
 
 -- ---- what the program does
 

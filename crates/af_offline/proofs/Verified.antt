@@ -17,14 +17,14 @@ unread_told script text (fault.Line number) h = h
 unread_told script text fault.Memory h = tt
 
 -- what is found of the one reading of a text is what is found of the text
-pub judged : (c : asked.Case) (found : Verdict) → ((journal : JournalData) × IsOneReading (length c.loaded.script.tracks) c.text journal × IsVerdict c.loaded.script c.loaded.files (judged_of journal) c.pcm found) → IsJudgedIn c found
+pub judged : (c : asked.JudgedCase) (found : Verdict) → ((journal : JournalData) × IsOneReading (length c.loaded.script.tracks) c.text journal × IsVerdict c.loaded.script c.loaded.files (judged_of journal) c.pcm found) → IsJudgedIn c found
 judged c verdict.Legal h = h
 judged c (verdict.Refused (refused.Text line)) h = absurd h.2
 judged c (verdict.Refused (refused.Round round party)) h = h
 judged c (verdict.Refused (refused.Pcm at)) h = h
 
 -- what is found of a text's front is what is found of the text, if the front is enough
-pub front_judged : (c : asked.Case) (whole : Bool) (front : JournalData) (found : Verdict) → IsFrontOf most_judged (length c.loaded.script.tracks) c.text whole front → Tells found whole (length front.rounds) → IsVerdict c.loaded.script c.loaded.files front c.pcm found → IsJudgedIn c found
+pub front_judged : (c : asked.JudgedCase) (whole : Bool) (front : JournalData) (found : Verdict) → IsFrontOf most_judged (length c.loaded.script.tracks) c.text whole front → Tells found whole (length front.rounds) → IsVerdict c.loaded.script c.loaded.files front c.pcm found → IsJudgedIn c found
 front_judged c true front found f tells v =
     judged c found (f.reading, record { reads = f.reads; only = f.only }, subst (λ j. IsVerdict c.loaded.script c.loaded.files j c.pcm found) ((f.same refl).0 ∙ sym (f.same refl).1) v)
 front_judged c false front verdict.Legal f tells v = absurd tells
@@ -35,6 +35,6 @@ front_judged c false front (verdict.Refused (refused.Round round party)) f tells
     (f.reading, record { reads = f.reads; only = f.only }, begins_fault c.loaded.script c.loaded.files front (judged_of f.reading) (length front.rounds - 1) round party b.first b.marks (omega (arith, tells)) v)
 
 -- what is found of a front that ends behind a round at fault is what is found of the text
-pub whole_judged : (c : asked.Case) (whole : Bool) (front : JournalData) (found : Verdict) → IsFrontOf most_judged (length c.loaded.script.tracks) c.text whole front → (whole ≡ false → EndsBeyond 16 64 front) → IsVerdict c.loaded.script c.loaded.files front c.pcm found → IsJudgedIn c found
+pub whole_judged : (c : asked.JudgedCase) (whole : Bool) (front : JournalData) (found : Verdict) → IsFrontOf most_judged (length c.loaded.script.tracks) c.text whole front → (whole ≡ false → EndsBeyond 16 64 front) → IsVerdict c.loaded.script c.loaded.files front c.pcm found → IsJudgedIn c found
 whole_judged c true front found f beyond v = front_judged c true front found f tt v
 whole_judged c false front found f beyond v = front_judged c false front found f (beyond_tells c.loaded.script c.loaded.files front c.pcm (beyond refl) found v) v

@@ -20,7 +20,7 @@ use Rattle.af_offline.specs.declared.status.Why.TheVariants.{Missing, Long, Ragg
 use Rattle.af_words.specs.declared.request.Sizes.{Sizes}
 use Rattle.af_words.specs.declared.request.Turns.{Turns}
 use Rattle.af_words.specs.Requests.{Request, Render, Record, Loop, Generate, Play, Verify, Trace, request_of}
-use Rattle.af_offline.specs.Recorded.{heard, recorded, counts_of}
+use Rattle.af_offline.specs.Recorded.{frames_heard, recording_of, counts_of}
 use Rattle.af_offline.specs.Looped.{looped, rolls_of}
 use Rattle.af_offline.specs.Generated.{generated_files, generated_frames}
 use Rattle.af_offline.specs.Line.{counts_text, rolls_text}
@@ -52,13 +52,13 @@ abbrev pub most_file : ℕ
 most_file = 2 ^ 23
 
 -- a file of at most so many bytes
-abbrev pub loaded : Role → ℕ → Option (List ℕ) → Result (List ℕ) Refusal
-loaded part limit None = Err (File (record { role = part; why = Missing }))
-loaded part limit (Some bytes) = if nat_le (length bytes) limit then Ok bytes else Err (File (record { role = part; why = Long }))
+abbrev pub file_within : Role → ℕ → Option (List ℕ) → Result (List ℕ) Refusal
+file_within part limit None = Err (File (record { role = part; why = Missing }))
+file_within part limit (Some bytes) = if nat_le (length bytes) limit then Ok bytes else Err (File (record { role = part; why = Long }))
 
 -- a file's bytes, if those of all files up to it are not too many
-abbrev pub counted : ℕ → ℕ → List ℕ → Result (List ℕ) Refusal
-counted number total bytes =
+abbrev pub bytes_within : ℕ → ℕ → List ℕ → Result (List ℕ) Refusal
+bytes_within number total bytes =
     if nat_le (total + length bytes) (2 ^ 24) then Ok bytes else Err (File (record { role = role.Track number; why = Total (total + length bytes) }))
 
 -- the frames of a track's file, if its bytes are whole frames
@@ -79,24 +79,24 @@ script_or (Ok script) = Ok script
 script_or (Err fault) = Err (Script fault)
 
 -- the frames of the file of a track with a number, behind files of so many bytes, and the bytes of the files up to it
-abbrev pub track_in : Files → ℕ → ℕ → TrackSpec → Result (List Frame × ℕ) Refusal
-track_in files number total track =
-    loaded (role.Track number) most_file (files track.file) >>= counted number total >>= (λ bytes. frames_in number track.mono bytes >>= enough_of number (frames_to_come track.ops) >>= (λ frames.
+abbrev pub track_file_in : Files → ℕ → ℕ → TrackSpec → Result (List Frame × ℕ) Refusal
+track_file_in files number total track =
+    file_within (role.Track number) most_file (files track.file) >>= bytes_within number total >>= (λ bytes. frames_in number track.mono bytes >>= enough_of number (frames_to_come track.ops) >>= (λ frames.
     Ok (frames, total + length bytes)))
 
 -- the frames of the files of tracks, from a number on
 abbrev pub tracks_in : Files → ℕ → ℕ → List TrackSpec → Result (List (List Frame)) Refusal
 tracks_in files number total [] = Ok []
 tracks_in files number total (track ∷ rest) =
-    track_in files number total track >>= (λ one. tracks_in files (number + 1) one.1 rest >>= (λ xs. Ok (one.0 ∷ xs)))
+    track_file_in files number total track >>= (λ one. tracks_in files (number + 1) one.1 rest >>= (λ xs. Ok (one.0 ∷ xs)))
 
 -- a script, with the frames of its tracks' files
-abbrev pub session_of : Files → ScriptData → Result Loaded Refusal
-session_of files script = tracks_in files 0 0 script.tracks >>= (λ frames. Ok (record { script = script; files = frames }))
+abbrev pub session_in : Files → ScriptData → Result Loaded Refusal
+session_in files script = tracks_in files 0 0 script.tracks >>= (λ frames. Ok (record { script = script; files = frames }))
 
 -- the script in a file of at most 2 ^ 20 bytes, with the frames of its tracks' files
 abbrev pub loaded_of : Files → List ℕ → Result Loaded Refusal
-loaded_of files name = loaded role.Script (2 ^ 20) (files name) >>= (λ bytes. script_or (script_of bytes) >>= session_of files)
+loaded_of files name = file_within role.Script (2 ^ 20) (files name) >>= (λ bytes. script_or (script_of bytes) >>= session_in files)
 
 -- a script is played
 abbrev pub session_job : List ℕ → Loaded → Job
@@ -107,7 +107,7 @@ abbrev pub play_job : List ℕ → List ℕ → Loaded → Job
 play_job target journal l = record { first = []; target = target; work = Rounds l.script l.files journal }
 
 -- a sound and the text of its journal, with the script and the files that they are judged by
-pub record Case : Type 0 where
+pub record JudgedCase : Type 0 where
   pub loaded : Loaded
   pub pcm : List ℕ
   pub text : List ℕ
@@ -144,9 +144,9 @@ abbrev pub play_asked : Files → List ℕ → List ℕ → List ℕ → Result 
 play_asked files script target journal = loaded_of files script >>= (λ l. Ok (play_job target journal l))
 
 -- what is judged: a sound and a journal, of at most 2 ^ 30 bytes, in files of these names, behind the script and its tracks' files
-abbrev pub case_of : Files → List ℕ → List ℕ → List ℕ → Result Case Refusal
+abbrev pub case_of : Files → List ℕ → List ℕ → List ℕ → Result JudgedCase Refusal
 case_of files script sound journal =
-    loaded_of files script >>= (λ l. loaded role.Pcm most_file (files sound) >>= (λ pcm. loaded role.Journal (2 ^ 30) (files journal) >>= (λ text.
+    loaded_of files script >>= (λ l. file_within role.Pcm most_file (files sound) >>= (λ pcm. file_within role.Journal (2 ^ 30) (files journal) >>= (λ text.
     Ok (record { loaded = l; pcm = pcm; text = text }))))
 
 -- what is made of a sound and the text of its journal: they are judged
@@ -161,13 +161,13 @@ trace_asked files script target journal log room = loaded_of files script >>= (�
 -- what is made of a file that is recorded: the bytes of its frames as they are heard, and the line of their counts
 abbrev pub record_asked : Files → List ℕ → List ℕ → Sizes → Result Job Refusal
 record_asked files input target sizes =
-    loaded (role.Track 0) most_file (files input) >>= frames_in 0 false >>= (λ frames.
-    Ok (record { first = []; target = target; work = Exact (pcm_bytes (heard (recorded sizes frames))) (counts_text (counts_of sizes frames)) }))
+    file_within (role.Track 0) most_file (files input) >>= frames_in 0 false >>= (λ frames.
+    Ok (record { first = []; target = target; work = Exact (pcm_bytes (frames_heard (recording_of sizes frames))) (counts_text (counts_of sizes frames)) }))
 
 -- what is made of a file that is looped, of at most 2 ^ 15 bytes, which are 8192 frames: the bytes that are heard, and the line of the rolls
 abbrev pub loop_asked : Files → List ℕ → List ℕ → Turns → Result Job Refusal
 loop_asked files input target turns =
-    loaded (role.Track 0) (2 ^ 15) (files input) >>= (λ bytes. buffer_in bytes) >>= (λ frames.
+    file_within (role.Track 0) (2 ^ 15) (files input) >>= (λ bytes. buffer_in bytes) >>= (λ frames.
     Ok (record { first = []; target = target; work = Exact (pcm_bytes (looped turns frames)) (rolls_text (rolls_of turns frames)) }))
 
 -- what a request asks for

@@ -24,8 +24,8 @@ abbrev pub rolls_text : Rolls → List ℕ
 rolls_text rolls = codes "cycles " ++ (decimal rolls.cycles ++ (codes " filled " ++ (decimal rolls.filled ++ (codes " shut " ++ (decimal (if rolls.is_shut then 1 else 0) ++ codes "\n")))))
 
 -- the line of a play that was cut off at the limit of its cycles
-abbrev pub limit_text : ℕ → List ℕ
-limit_text cycles = codes "limit: cycles " ++ (decimal cycles ++ codes "\n")
+abbrev pub limit_line : ℕ → List ℕ
+limit_line cycles = codes "limit: cycles " ++ (decimal cycles ++ codes "\n")
 
 -- the line of a journal and a sound that are legal
 abbrev pub legal_text : List ℕ
@@ -39,7 +39,7 @@ judged_text (judged.Pcm at) = codes "refused: pcm " ++ (decimal at ++ codes "\n"
 
 -- the line of a work that is over and isn't done
 abbrev pub ending_text : Ending → List ℕ
-ending_text (Limit cycles) = limit_text cycles
+ending_text (Limit cycles) = limit_line cycles
 ending_text (Judged refusal) = judged_text refusal
 
 -- the words for a file's role

@@ -12,12 +12,12 @@ abbrev pub calls_under : Setting → ℕ → ℕ → List Call
 calls_under setting places calls = replicate calls (record { setting = setting; gains = (4096, 4096); places = places })
 
 -- the one setting of a loop, which the first call sees
-abbrev pub setting_of : Turns → Setting
-setting_of turns = record { number = 1; start = turns.start; end = turns.end; count = turns.count }
+abbrev pub loop_setting : Turns → Setting
+loop_setting turns = record { number = 1; start = turns.start; end = turns.end; count = turns.count }
 
 -- what is heard of all calls of a loop
 abbrev pub looped : Turns → List Frame → List Frame
-looped turns frames = outputs_of frames unplayed (calls_under (setting_of turns) turns.places turns.calls)
+looped turns frames = outputs_of frames unplayed (calls_under (loop_setting turns) turns.places turns.calls)
 
 -- how many calls there were, how many frames they took, and whether the player is shut
 pub record Rolls : Type 0 where
@@ -28,8 +28,8 @@ pub record Rolls : Type 0 where
 abbrev pub rolls_of : Turns → List Frame → Rolls
 rolls_of turns frames = record {
   cycles = turns.calls;
-  filled = filled_of frames unplayed (calls_under (setting_of turns) turns.places turns.calls);
-  is_shut = is_some (shut_by (length frames) (setting_of turns));
+  filled = filled_of frames unplayed (calls_under (loop_setting turns) turns.places turns.calls);
+  is_shut = is_some (shut_by (length frames) (loop_setting turns));
 }
 
 -- the setting by which the next call of a player plays

@@ -35,12 +35,12 @@ module _ {X : Type 0} where
   periods sizes (suc count) (frame ∷ frames) r = periods sizes count (drop sizes.supply (frame ∷ frames)) (period sizes (take sizes.supply (frame ∷ frames)) r)
 
   -- a recording after all frames are supplied: each period takes at least one
-  abbrev pub recorded : Sizes → List X → Recording X
-  recorded sizes frames = periods sizes (length frames) frames empty
+  abbrev pub recording_of : Sizes → List X → Recording X
+  recording_of sizes frames = periods sizes (length frames) frames empty
 
   -- all frames that are heard: reads until one gives nothing take all that is queued
-  abbrev pub heard : Recording X → List X
-  heard r = r.read ++ r.queued
+  abbrev pub frames_heard : Recording X → List X
+  frames_heard r = r.read ++ r.queued
 
 -- how many frames were supplied, read and lost
 pub record Counts : Type 0 where
@@ -49,4 +49,4 @@ pub record Counts : Type 0 where
   pub lost : ℕ
 
 abbrev pub counts_of : Sizes → List Frame → Counts
-counts_of sizes frames = let r = recorded sizes frames in record { supplied = length frames; read = length (heard r); lost = r.lost }
+counts_of sizes frames = let r = recording_of sizes frames in record { supplied = length frames; read = length (frames_heard r); lost = r.lost }

@@ -84,11 +84,11 @@ SuitsEnding (ending.Limit cycles) request = IsPlayRequest request
 SuitsEnding (ending.Judged refusal) request = IsVerifyRequest request
 
 -- a stop by the store or the sink, or since memory ran out
-abbrev pub IsOutside : Stop → Type 0
-IsOutside (Refused refusal) = ⊥
-IsOutside (Over over) = ⊥
-IsOutside Store = Unit {0}
-IsOutside Memory = Unit {0}
+abbrev pub StopsOutside : Stop → Type 0
+StopsOutside (Refused refusal) = ⊥
+StopsOutside (Over over) = ⊥
+StopsOutside Store = Unit {0}
+StopsOutside Memory = Unit {0}
 
 -- a step that neither finds fault with the words nor comes to another end
 abbrev pub IsNoUsage : {X : Type 0} → Result X Stop → Type 0

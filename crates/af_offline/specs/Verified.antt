@@ -62,27 +62,27 @@ FoundTo (Err Memory) found = Unit {0}
 FoundTo (Err stop) found = ⊥
 
 -- what is found of the sound and the text of a case
-abbrev pub IsJudgedIn : asked.Case → Verdict → Type 0
+abbrev pub IsJudgedIn : asked.JudgedCase → Verdict → Type 0
 IsJudgedIn c found = IsJudged c.loaded.script c.loaded.files c.pcm c.text found
 
 -- something was found of a sound and the text of its journal, or the text refused
-abbrev pub Finds : Result Verdict Stop → asked.Case → Type 0
+abbrev pub Finds : Result Verdict Stop → asked.JudgedCase → Type 0
 Finds (Ok found) c = IsJudgedIn c found
 Finds (Err stop) c = IsUnread stop c.loaded.script c.text
 
 -- something was found of a sound and the text of its journal, or it is still open, or the text refused
-abbrev pub FindsFront : Result (Option Verdict) Stop → asked.Case → Type 0
+abbrev pub FindsFront : Result (Option Verdict) Stop → asked.JudgedCase → Type 0
 FindsFront (Ok None) c = Unit {0}
 FindsFront (Ok (Some found)) c = IsJudgedIn c found
 FindsFront (Err stop) c = IsUnread stop c.loaded.script c.text
 
 -- a sound and the text of its journal were judged
-abbrev pub JudgesTo : Result (String Global) Stop → asked.Case → Type 0
+abbrev pub JudgesTo : Result (String Global) Stop → asked.JudgedCase → Type 0
 JudgesTo (Ok line) c = (string_bytes line ≡ legal_text) × IsJudgedIn c verdict.Legal
 JudgesTo (Err (Over (ending.Judged refusal))) c = IsJudgedIn c (verdict.Refused refusal)
 JudgesTo (Err Memory) c = Unit {0}
 JudgesTo (Err stop) c = ⊥
 
 -- what was loaded to be judged
-abbrev pub case_view : Case → asked.Case
+abbrev pub case_view : Case → asked.JudgedCase
 case_view c = record { loaded = loaded_view c.loaded; pcm = c.pcm.items; text = c.text.items }

@@ -8,7 +8,7 @@ ghost use Rattle.af_offline.specs.Asking.{output_job};
 ghost use Rattle.af_offline.specs.Captured.{counts_in, state_of, word_bytes, IsTape};
 ghost use Rattle.af_words.specs.Asking.{AreSizes};
 ghost use Rattle.af_offline.specs.Line.{counts_text};
-ghost use Rattle.af_offline.specs.Recorded.{Counts, counts_of, empty, heard, period, periods, read_up_to, recorded};
+ghost use Rattle.af_offline.specs.Recorded.{Counts, counts_of, empty, frames_heard, period, periods, read_up_to, recording_of};
 ghost use Rattle.af_offline.specs.Status.{HasFault, IsNoUsage, Meets};
 
 use crate::load::{MOST_FILE, frames_in, load_file};
@@ -133,7 +133,7 @@ impl Tape {
     fn drain(&mut self, sizes: Sizes) -> Result<(), Memory>
         requires tape { IsTape sizes self.old }
         ensures tape { OnOk result (IsTape sizes self.new) }
-        ensures read { OnOk result (self.new.hand.read ≡ heard (state_of self.old)) }
+        ensures read { OnOk result (self.new.hand.read ≡ frames_heard (state_of self.old)) }
         ensures queued { OnOk result (self.new.hand.queued ≡ []) }
         ensures lost { OnOk result (self.new.lost ≡ self.old.lost) }
         ensures supplied { OnOk result (self.new.hand.supplied ≡ self.old.hand.supplied) }
@@ -151,9 +151,9 @@ impl Tape {
 fn record_frames(alloc: Global, frames: &[Frame], sizes: Sizes) -> Result<Tape, Memory>
     requires sizes { AreSizes sizes }
     requires few { length frames.now ≤ 2097152 }
-    ensures bytes { IfOk result (λ tape. tape.bytes.items ≡ pcm_bytes (heard (recorded sizes frames.now))) }
-    ensures lost { IfOk result (λ tape. tape.lost ≡ (recorded sizes frames.now).lost) }
-    ensures counted { IfOk result (λ tape. length (heard (recorded sizes frames.now)) + tape.lost ≡ length frames.now) }
+    ensures bytes { IfOk result (λ tape. tape.bytes.items ≡ pcm_bytes (frames_heard (recording_of sizes frames.now))) }
+    ensures lost { IfOk result (λ tape. tape.lost ≡ (recording_of sizes frames.now).lost) }
+    ensures counted { IfOk result (λ tape. length (frames_heard (recording_of sizes frames.now)) + tape.lost ≡ length frames.now) }
 {
     let mut tape = Tape::make(alloc, sizes, frames.len())?;
     tape.supply_all(sizes, frames)?;
@@ -165,7 +165,7 @@ fn record_frames(alloc: Global, frames: &[Frame], sizes: Sizes) -> Result<Tape, 
 fn output_of(alloc: Global, frames: &[Frame], sizes: Sizes) -> Result<Output, Memory>
     requires sizes { AreSizes sizes }
     requires few { length frames.now ≤ 2097152 }
-    ensures bytes { IfOk result (λ output. output.bytes.items ≡ pcm_bytes (heard (recorded sizes frames.now))) }
+    ensures bytes { IfOk result (λ output. output.bytes.items ≡ pcm_bytes (frames_heard (recording_of sizes frames.now))) }
     ensures line { IfOk result (λ output. string_bytes output.line ≡ counts_text (counts_of sizes frames.now)) }
 {
     let tape = record_frames(alloc, frames, sizes)?;

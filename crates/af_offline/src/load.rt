@@ -6,7 +6,7 @@ ghost use Rattle.af_script.specs.Bounds.{most_tracks};
 ghost use Rattle.af_script.specs.Form.{IsTrack};
 ghost use Rattle.af_script.specs.Reading.{script_of};
 ghost use Rattle.af_party.specs.Works.{frames_to_come};
-ghost use Rattle.af_offline.specs.Asked.{enough_of, frames_in, loaded, loaded_of, script_or, session_of, track_in, tracks_in};
+ghost use Rattle.af_offline.specs.Asked.{enough_of, frames_in, file_within, loaded_of, script_or, session_in, track_file_in, tracks_in};
 ghost use Rattle.af_offline.specs.Loading.{file_view, loaded_view, AreFilesFor, AreServed, Serves};
 ghost use Rattle.af_offline.specs.Status.{HasFault, IsNoUsage, Meets};
 
@@ -37,7 +37,7 @@ fn load_into<S: Store>(
     limit: u64,
     bytes: &mut Vec<u8>,
 ) -> Result<(), Stop>
-    ensures loaded { S.told store.old → Meets (λ _. bytes.new.items) result (loaded role limit (S.files store.old name.now)) }
+    ensures loaded { S.told store.old → Meets (λ _. bytes.new.items) result (file_within role limit (S.files store.old name.now)) }
     ensures within { IfOk result (λ _. length bytes.new.items ≤ limit) }
     ensures same { S.told store.old → SameFiles (S.files store.old) (S.files store.new) }
     ensures tells { S.told store.old → S.told store.new }
@@ -62,7 +62,7 @@ pub fn load_file<S: Store>(
     role: Role,
     limit: u64,
 ) -> Result<Vec<u8>, Stop>
-    ensures loaded { S.told store.old → Meets (λ bytes. bytes.items) result (loaded role limit (S.files store.old name.now)) }
+    ensures loaded { S.told store.old → Meets (λ bytes. bytes.items) result (file_within role limit (S.files store.old name.now)) }
     ensures within { IfOk result (λ bytes. length bytes.items ≤ limit) }
     ensures same { S.told store.old → SameFiles (S.files store.old) (S.files store.new) }
     ensures tells { S.told store.old → S.told store.new }
@@ -161,7 +161,7 @@ fn load_track<S: Store>(
 ) -> Result<TrackFile, Stop>
     requires track { IsTrack track.now }
     requires total { total ≤ 2 ^ 24 }
-    ensures file { S.told store.old → Meets file_view result (track_in (S.files store.old) number total track.now) }
+    ensures file { S.told store.old → Meets file_view result (track_file_in (S.files store.old) number total track.now) }
     ensures serves { IfOk result (λ file. Serves track.now.ops file.pcm) }
     ensures total { IfOk result (λ file. file.total ≤ 2 ^ 24) }
     ensures same { S.told store.old → SameFiles (S.files store.old) (S.files store.new) }
@@ -216,7 +216,7 @@ pub struct Loaded {
 
 /// Loads the files of a script's tracks.
 pub fn load_files<S: Store>(alloc: Global, store: &mut S, script: Script) -> Result<Loaded, Stop>
-    ensures loaded { S.told store.old → Meets loaded_view result (session_of (S.files store.old) script) }
+    ensures loaded { S.told store.old → Meets loaded_view result (session_in (S.files store.old) script) }
     ensures serve { IfOk result AreFilesFor }
     ensures same { S.told store.old → SameFiles (S.files store.old) (S.files store.new) }
     ensures tells { S.told store.old → S.told store.new }

@@ -8,8 +8,8 @@ ghost use Rattle.af_static.specs.Loops.{shut_by};
 ghost use Rattle.af_offline.specs.Asked.{buffer_in, loop_asked};
 ghost use Rattle.af_offline.specs.Asking.{output_job};
 ghost use Rattle.af_offline.specs.Line.{rolls_text};
-ghost use Rattle.af_offline.specs.Looped.{Rolls, calls_under, heard_in, looped, next_setting, rolls_from, rolls_of, setting_of};
-ghost use Rattle.af_words.specs.Asking.{AreTurns};
+ghost use Rattle.af_offline.specs.Looped.{Rolls, calls_under, heard_in, looped, next_setting, rolls_from, rolls_of, loop_setting};
+ghost use Rattle.af_words.specs.Asking.{AreLoopTurns};
 ghost use Rattle.af_offline.specs.Rolled.{rolls_in};
 ghost use Rattle.af_offline.specs.Status.{HasFault, IsNoUsage, Meets};
 
@@ -108,7 +108,7 @@ fn play_calls(
 fn set_once(alloc: Global, frames: &[Frame], turns: Turns) -> Result<InHand, Memory>
     requires { (1 ≤ length frames.now) × (length frames.now ≤ 8192) }
     ensures buffer { IfOk result (λ hand. hand.frames ≡ frames.now) }
-    ensures setting { IfOk result (λ hand. (hand.newest ≡ setting_of turns) × (next_setting hand ≡ setting_of turns)) }
+    ensures setting { IfOk result (λ hand. (hand.newest ≡ loop_setting turns) × (next_setting hand ≡ loop_setting turns)) }
     ensures start { IfOk result (λ hand. standing_in hand ≡ unplayed) }
 {
     let mut hand = InHand::make(alloc, frames)?;
@@ -123,7 +123,7 @@ fn play_all(
     turns: Turns,
     bytes: &mut Vec<u8>,
 ) -> Result<String, Memory>
-    requires { AreTurns turns }
+    requires { AreLoopTurns turns }
     ensures bytes { OnOk result (bytes.new.items ≡ bytes.old.items ++ pcm_bytes (heard_in hand.old turns)) }
     ensures line { IfOk result (λ line. string_bytes line ≡ rolls_text (rolls_from hand.old turns)) }
 {
@@ -134,7 +134,7 @@ fn play_all(
 
 /// What is made of a buffer in hand: what is heard of all calls, and its line.
 fn output_in(alloc: Global, hand: &mut InHand, turns: Turns) -> Result<Output, Memory>
-    requires { AreTurns turns }
+    requires { AreLoopTurns turns }
     ensures bytes { IfOk result (λ output. output.bytes.items ≡ pcm_bytes (heard_in hand.old turns)) }
     ensures line { IfOk result (λ output. string_bytes output.line ≡ rolls_text (rolls_from hand.old turns)) }
 {
@@ -146,7 +146,7 @@ fn output_in(alloc: Global, hand: &mut InHand, turns: Turns) -> Result<Output, M
 /// What is made of frames: what is heard of them, and its line.
 fn output_of(alloc: Global, frames: &[Frame], turns: Turns) -> Result<Output, Memory>
     requires frames { (1 ≤ length frames.now) × (length frames.now ≤ 8192) }
-    requires turns { AreTurns turns }
+    requires turns { AreLoopTurns turns }
     ensures bytes { IfOk result (λ output. output.bytes.items ≡ pcm_bytes (looped turns frames.now)) }
     ensures line { IfOk result (λ output. string_bytes output.line ≡ rolls_text (rolls_of turns frames.now)) }
 {
@@ -182,7 +182,7 @@ pub fn loop_output<S: Store>(
     input: &str,
     turns: Turns,
 ) -> Result<Output, Stop>
-    requires { AreTurns turns }
+    requires { AreLoopTurns turns }
     ensures made { (target : List ℕ) → S.told store.old → Meets (output_job target) result (loop_asked (S.files store.old) input.now target turns) }
     ensures line { IfOk result (λ output. (rolls : Rolls) × (string_bytes output.line ≡ rolls_text rolls)) }
     ensures same { S.told store.old → SameFiles (S.files store.old) (S.files store.new) }

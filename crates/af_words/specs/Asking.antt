@@ -23,7 +23,7 @@ pub record AreSizes (sizes : Sizes) : Type 0 where
   pub read : (1 ≤ sizes.read) × (sizes.read ≤ 1024)
 
 -- the places and calls that words may ask for
-pub record AreTurns (turns : Turns) : Type 0 where
+pub record AreLoopTurns (turns : Turns) : Type 0 where
   pub places : (1 ≤ turns.places) × (turns.places ≤ 1024)
   pub calls : (1 ≤ turns.calls) × (turns.calls ≤ 2048)
 
@@ -31,7 +31,7 @@ pub record AreTurns (turns : Turns) : Type 0 where
 abbrev pub IsSound : Request → Type 0
 IsSound (words.Render script target) = Unit {0}
 IsSound (words.Record input target sizes) = AreSizes sizes
-IsSound (words.Loop input target turns) = AreTurns turns
+IsSound (words.Loop input target turns) = AreLoopTurns turns
 IsSound (words.Generate number script target) = (number < 2 ^ 31) × (asked.is_drawn script.now ≡ false)
 IsSound (words.Play script target journal) = Unit {0}
 IsSound (words.Verify script sound journal) = Unit {0}

@@ -7,7 +7,7 @@ ghost use Rattle.clap.specs.declared.builder.command.Command.TheViews.{out-Comma
 ghost use Rattle.af_words.specs.Asking.{request_view, IsSound};
 ghost use Rattle.af_words.specs.Asking.{AreSizes};
 ghost use Rattle.af_words.specs.Dash.{begins_dash};
-ghost use Rattle.af_words.specs.Asking.{AreTurns};
+ghost use Rattle.af_words.specs.Asking.{AreLoopTurns};
 ghost use Rattle.af_words.specs.Requests.{is_drawn, are_three_names, are_four_names, free_names, request_of, sizes_of, turns_of, two_names};
 ghost use Rattle.af_words.specs.Words.{needed, command_words, with_rules, bare_words, render_words, record_words, loop_words, generate_words, play_words, verify_words, trace_words, player_words, render_met, record_met, loop_met, generate_met, play_met, verify_met, trace_met, matched_request};
 ghost use Rattle.af_script.specs.Text.{number_within};
@@ -260,7 +260,7 @@ fn sizes_of(room: &str, supply: &str, read: &str) -> Option<Sizes>
 /// The calls and the setting that these words spell.
 fn turns_of(places: &str, calls: &str, start: &str, end: &str, count: &str) -> Option<Turns>
     ensures value { result ≡ turns_of places.now calls.now start.now end.now count.now }
-    ensures sound { IfSome result AreTurns }
+    ensures sound { IfSome result AreLoopTurns }
 {
     let places = number_within(places, 1, 1024)?;
     let calls = number_within(calls, 1, 2048)?;

@@ -1,6 +1,6 @@
 use Rattle.std.proofs.Common.{◌≡◌, ◌∙◌, ◌<◌, List, Ok, Err, Result, Vec, Global, length, arith, subst, sym}
 use Rattle.af_offline.proofs.Common.{Files, Frame, files_are}
-use Rattle.af_offline.specs.Asked.{track_in, tracks_in}
+use Rattle.af_offline.specs.Asked.{track_file_in, tracks_in}
 use Rattle.af_offline.specs.Loading.{file_view}
 use Rattle.af_offline.specs.Status.{HasFault, Meets}
 use Rattle.af_offline.specs.declared.status.Refusal.{Refusal}
@@ -18,8 +18,8 @@ loop-number-preserved g c =
     record {
       told = (λ told.
           let first = g.S.Store.files c.args.store.now in
-          let here : track_in first l.number l.total track ≡ Ok (file.pcm, file.total) =
-          subst (λ (files : Files). track_in files l.number l.total track ≡ Ok (file.pcm, file.total)) (files_are first (g.S.Store.files l.store) (l.invariant.same told)) (told_file.file (l.invariant.tells told)) in
+          let here : track_file_in first l.number l.total track ≡ Ok (file.pcm, file.total) =
+          subst (λ (files : Files). track_file_in files l.number l.total track ≡ Ok (file.pcm, file.total)) (files_are first (g.S.Store.files l.store) (l.invariant.same told)) (told_file.file (l.invariant.tells told)) in
           l.invariant.told told
           ∙ tracks_step first l.number l.total file.total c.args.tracks.now track file.pcm l.files.items c.push.new.self.items lt c.index-tracks-number.is here c.in_ok-push.ensures.items);
       same = (λ told name. told_file.same (l.invariant.tells told) name ∙ l.invariant.same told name);
@@ -41,8 +41,8 @@ returns-in_err-file-clause-files g c = λ told.
     let track = c.index-tracks-number.result in
     let e = c.in_err-file.field-0.0 in
     let lt : l.number < length c.args.tracks.now = omega (arith, c.loop-number-test.true, l.auto.number-end) in
-    let here : Meets file_view (Err e) (track_in first l.number l.total track) =
-    subst (λ (files : Files). Meets file_view (Err e) (track_in files l.number l.total track)) (files_are first (g.S.Store.files l.store) (l.invariant.same told)) (c.in_err-file.ensures.file (l.invariant.tells told)) in
+    let here : Meets file_view (Err e) (track_file_in first l.number l.total track) =
+    subst (λ (files : Files). Meets file_view (Err e) (track_file_in files l.number l.total track)) (files_are first (g.S.Store.files l.store) (l.invariant.same told)) (c.in_err-file.ensures.file (l.invariant.tells told)) in
     let stopped : Meets (λ (files : Vec (List Frame) Global). files.items) (Err e) (tracks_in first 0 0 c.args.tracks.now) =
     subst (λ (r : Result (List (List Frame)) Refusal). Meets (λ (files : Vec (List Frame) Global). files.items) (Err e) r) (sym (l.invariant.told told))
     (tracks_stopped (λ (files : Vec (List Frame) Global). files.items) first l.number l.total c.args.tracks.now track l.files.items e lt c.index-tracks-number.is here) in

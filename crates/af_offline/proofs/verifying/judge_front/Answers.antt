@@ -7,7 +7,7 @@ use Rattle.af_offline.proofs.verifying.judge_front.Goals as goal
 
 pub returns-then-tells : goal.returns-then-tells
 returns-then-tells c =
-    let view : asked.Case = case_view c.args.case.now in
+    let view : asked.JudgedCase = case_view c.args.case.now in
     let front = c.in_ok-front.front in
     let found = c.in_ok-found.found in
     let begins : IsFrontOf most_judged (length view.loaded.script.tracks) view.text front.whole front.journal = search rules in

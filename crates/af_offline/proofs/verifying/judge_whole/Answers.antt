@@ -7,7 +7,7 @@ use Rattle.af_offline.proofs.verifying.judge_whole.Goals as goal
 
 pub returns : goal.returns
 returns c =
-    let view : asked.Case = case_view c.args.case.now in
+    let view : asked.JudgedCase = case_view c.args.case.now in
     let front = c.in_ok-front.front in
     let found = c.in_ok-found.found in
     let reads = c.in_ok-front.ensures in
