@@ -20,3 +20,4 @@ pub mod DrainedSoFar
 pub mod SettledSoFar
 pub mod AllHolds
 pub mod MeetsLast
+pub mod FateCounts
