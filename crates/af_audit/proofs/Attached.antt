@@ -1,6 +1,6 @@
 -- What a proxy showed when it was attached is no more than its server's list shows.
 use Rattle.std.proofs.Common.{◌≡◌, ℕ, zero, suc, ◌+◌, ◌≤◌, ◌==◌, if◌then◌else◌, is_some, Bool, true, false, List, [], ◌∷◌, length, map, fold, Option, Some, None, refl, sym, ap, ◌∙◌, subst, arith}
-use Rattle.af_audit.proofs.Common.{Busy, Clean, Command, CommandLook, FastState, Heard, Home, Learnt, NormalKept, Push, Pushed, Returning, Setup, SlotReport, TakeSeen, TrackKept, TrackSeen, Turn, after_ack, after_edits, after_look, after_looks, after_part, after_push, after_take, after_takes, after_tracks, asked as buffer, at_new, code_of, comes_home, commanded as with_command, counted, counts_in, edited, edited_to, ended, entered, goes_on, heard, is_home, is_reached, is_reported, is_shut, lend, lent_by, let_go, must_enter, must_leave, must_wait, mutated, new_normal, no_counts, noted, obeyed, ordered, ready, seen_at, served, served_to, set_each, settled_at, shows_command, slot_reported, track_at, turn_after, welcomed, welcomed_at}
+use Rattle.af_audit.proofs.Common.{Busy, Clean, Command, CommandLook, FastState, Heard, Home, Learnt, NormalKept, Push, Pushed, Returning, Setup, SlotReport, TakeSeen, TrackKept, TrackSeen, Turn, after_ack, after_edits, after_look, after_looks, after_part, after_push, after_take, after_takes, after_tracks, asked as buffer, at_new, code_of, comes_home, draft_commanded as with_command, look_counted, counts_in, edited, edited_to, ended, entered, goes_on, heard, is_home, is_reached, is_reported, is_shut, lend, lent_by, let_go, must_enter, must_leave, must_wait, mutated, new_normal, no_counts, noted, obeyed, ordered, ready, seen_at, served, served_to, set_each, settled_at, shows_command, slot_reported, track_at, turn_after, welcomed, welcomed_at}
 use Rattle.af_life.specs.Obeys.{slot_for, told}
 use Rattle.af_audit.proofs.Measure.{AreAttached, Measure}
 
@@ -90,7 +90,7 @@ module _ (measure : Measure) where
       takes_keep : (takes : List TakeSeen) (tracks : List TrackKept) → AreAttached measure told tracks → AreAttached measure told (fold (after_take (buffer c)) tracks takes)
       takes_keep [] tracks h = h
       takes_keep (take ∷ takes) tracks h = takes_keep takes (after_take (buffer c) tracks take)
-          (set_each (λ (j : ℕ) (s : TrackKept). measure.of_heard s.at_attach ≤ told j) tracks take.track (record (track_at tracks take.track) { own = counted (buffer c) take.slot.seen (track_at tracks take.track).own }) (h take.track) h)
+          (set_each (λ (j : ℕ) (s : TrackKept). measure.of_heard s.at_attach ≤ told j) tracks take.track (record (track_at tracks take.track) { own = look_counted (buffer c) take.slot.seen (track_at tracks take.track).own }) (h take.track) h)
 
       -- what was shown at the attaching stays within bounds after a turn, if what is known of the tracks' own servers does
       pub turn_keeps : (m : NormalKept) (e : Turn) → AreAttached measure told m.tracks → AreAttached measure told (turn_after c k m e).tracks

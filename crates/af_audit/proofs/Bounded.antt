@@ -1,6 +1,6 @@
 -- No report shows more than the list of the server of its slot's track.
 use Rattle.std.proofs.Common.{◌≡◌, inl, inr, ℕ, zero, suc, ◌≤◌, ◌==◌, ◌||◌, if◌then◌else◌, is_some, Bool, true, false, List, [], ◌∷◌, ◌++◌, fold, Some, refl, sym, ap, subst, arith}
-use Rattle.af_audit.proofs.Common.{AllByRecursion, CycleEntry, EntrySeen, FastState, FastTrack, NormalKept, Report, Run, Session, SlotReport, carries, cases_lt, counted_look, cycle_beside, cycle_frames, entry_slot, get_or-map-range_with_len, get_or_past, known_of, last_report, last_used, length-map-range_with_len, listed, next_report, next_slot, no_report, no_slot, plays, replicate, report_at, report_of, slice_index_or, slot_of, slot_report, slots, state_among, state_at, state_for, state_of, stream_of, with_cycle, with_cycles, with_looks, with_mix, with_poll}
+use Rattle.af_audit.proofs.Common.{AllByRecursion, CycleEntry, EntrySeen, FastState, FastTrack, NormalKept, Report, Run, Session, SlotReport, carries, cases_lt, counted_look, cycle_beside, cycle_frames, entry_slot, get_or-map-range_with_len, get_or_past, known_of, last_report, last_used, length-map-range_with_len, listed, next_report, next_slot, no_report, no_slot, shows_slot, replicate, report_at, report_of, slice_index_or, slot_of, slot_report, slots, state_among, state_at, state_for, state_of, stream_of, with_cycle, with_cycles, with_looks, with_mix, with_poll}
 use Rattle.std.specs.Prelude.{◌-◌}
 use Rattle.af_audit.proofs.Older.{IsOlder}
 use Rattle.af_audit.proofs.Growing.{grows_mix, run_told}
@@ -89,7 +89,7 @@ module _ (measure : Measure) where
         let P = SlotBounded draft (of_run measure now) i in
         let o : IsOlder x draft = state_among s (λ (z : FastState). IsOlder z draft) now entry.state older own in
         let look : SlotReport = counted_look (cycle_frames s) (slot_of x i).generation (entry_slot entry i).seen (known_of (listed (stream_of now x i))) (if carries y i then report_at before i else no_slot) in
-        either_slot P (is_some (state_of now.states entry.state) || plays x entry i) (slot_report (cycle_frames s) (Some x) (Some y) entry (known_of (listed (stream_of now x i))) i (report_at before i)) (report_at before i)
+        either_slot P (is_some (state_of now.states entry.state) || shows_slot x entry i) (slot_report (cycle_frames s) (Some x) (Some y) entry (known_of (listed (stream_of now x i))) i (report_at before i)) (report_at before i)
         (λ b. either_slot P (carries x i) look (report_at before i)
         (λ carried. (o.low i, λ e. subst (λ (n : ℕ). measure.of_report look ≤ of_run measure now n) (ap (λ (t : FastTrack). t.track) (o.same i e)) (measure.reported (cycle_frames s) (slot_of x i).generation (entry_slot entry i).seen (listed (stream_of now x i)) (if carries y i then report_at before i else no_slot)))) h) h
 

@@ -1,17 +1,17 @@
 -- What is kept of the tracks of a run follows the calls of a round.
 use Rattle.std.proofs.Common.{◌≡◌, ℕ, ◌<◌, List, length, Option, arith, sym, subst, ◌∙◌}
-use Rattle.af_audit.proofs.Common.{IsServedTrack, IsTrackAt, IsTrackOf, KeepsTracks, Marks, RoundSeen, Run, Session, TrackJudge, called, calls_in, each_long, keeps_of, sides_of, slice_index_or, spec_of, there_is, told_at, told_each, turn_told, with_calls}
+use Rattle.af_audit.proofs.Common.{IsServedTrack, IsTrackAt, IsTrackOf, KeepsTracks, Marks, RoundSeen, Run, Session, TrackJudge, called_in_turn, calls_in, each_long, keeps_of, sides_of, slice_index_or, spec_of, there_is, told_at, told_each, turn_told, with_calls}
 use Rattle.af_judge.proofs.ServedCalls.{track_called}
 use Rattle.af_audit.specs.RunKept.{AreSides, CallsJudged, AreFit, IsLegalCaller, LeastBelow}
 
 -- the track of a number once all clients made their calls
-pub told_called : (round : RoundSeen) (run : Run) (n : ℕ) → n < length run.tracks → told_at (with_calls round run) n ≡ called (calls_in round n) (told_at run n)
+pub told_called : (round : RoundSeen) (run : Run) (n : ℕ) → n < length run.tracks → told_at (with_calls round run) n ≡ called_in_turn (calls_in round n) (told_at run n)
 unfolding with_calls
-told_called round run n lt = told_each (λ track t. called (calls_in round track) t) run n lt
+told_called round run n lt = told_each (λ track t. called_in_turn (calls_in round track) t) run n lt
 
 pub calls_long : (round : RoundSeen) (run : Run) → length (with_calls round run).tracks ≡ length run.tracks
 unfolding with_calls
-calls_long round run = each_long (λ track t. called (calls_in round track) t) 0 run.tracks
+calls_long round run = each_long (λ track t. called_in_turn (calls_in round track) t) 0 run.tracks
 
 module _ (s : Session) (marks : Marks) (run : Run) (round : RoundSeen) (tracks after : List TrackJudge) (found : Option ℕ) where
   -- the sides of each track as its client finds them are kept
@@ -40,7 +40,7 @@ module _ (s : Session) (marks : Marks) (run : Run) (round : RoundSeen) (tracks a
       before : (n : ℕ) (k : TrackJudge) → n < length tracks → IsTrackAt tracks n (slice_index_or tracks n k)
       before n k lt = there_is tracks n k lt
 
-      told : (n : ℕ) → n < length tracks → told_at (with_calls round run) n ≡ called (calls_in round n) (told_at run n)
+      told : (n : ℕ) → n < length tracks → told_at (with_calls round run) n ≡ called_in_turn (calls_in round n) (told_at run n)
       told n lt = told_called round run n (let m = keeps.many in omega (arith, lt, m))
 
   pub caller_found : KeepsTracks s marks (λ i. Unit {0}) tracks run → AreFit s run → CallsJudged (length tracks) s.script.tracks s.files (calls_in round) tracks after found → LeastBelow (IsLegalCaller run round) (length tracks) found

@@ -1,6 +1,6 @@
 -- What is kept of a track's command block through a round: what its client sent, what its mixer settled, and that nothing is dropped.
 use Rattle.std.proofs.Common.{◌≡◌, ℕ, ◌^◌, ◌<◌, ◌≤◌, Bool, true, false, true≢false, if◌then◌else◌, is_some, fold, List, [], ◌∷◌, ◌++◌, drop, length, Option, Some, None, refl, sym, ap, ◌∙◌, subst, arith}
-use Rattle.af_audit.proofs.Common.{BlockTold, Client, ClientCall, CommandLook, EntrySeen, Learnt, LegalClientTurn, LegalLooks, LegalTurn, LegalTurnBy, Listed, Marks, NormalKept, Outside, RoundSeen, Run, Seen, ServerEvent, Session, Setup, Shape, Track, TrackKept, TrackTold, Turn, TurnFound, after_call, after_calls, alike, all_command_events, called, calls_in, client-server, client_call_events, client_kept, client_list, command_events, command_list, command_shape, commands_turned, cycles_beside, did, drops_none, each_at, each_long, each_track, ends, flushes-append, flushes_of, front_of, fronts_by, heard, invalid, is_of_commands, kept, learnt, listed, loaded, look_events, meets, met, met_at, met_many, no_track, outside_of, released_by, server-client, server_kept, server_list, setup_of, shows_command, sides_called, sides_of, status_events, takes_command, told_at, told_each, track_at, track_in, tracks_at, turn_after, turn_len, turned, turned_track, with_calls, with_cycles, with_ends, with_load, with_turn}
+use Rattle.af_audit.proofs.Common.{BlockTold, Client, ClientCall, CommandLook, EntrySeen, Learnt, LegalClientTurn, LegalLooks, LegalTurn, LegalTurnBy, Listed, Marks, NormalKept, Outside, RoundSeen, Run, Seen, ServerEvent, Session, Setup, Shape, Track, TrackKept, TrackTold, Turn, TurnFound, after_call, after_calls, alike, all_command_events, called_in_turn, calls_in, client-server, client_call_events, client_kept, client_list, command_events, command_list, command_shape, commands_turned, cycles_beside, did, drops_none, each_at, each_long, each_track, ends, flushes-append, flushes_of, front_of, fronts_by, heard, invalid, is_of_commands, kept, learnt, listed, loaded, look_events, meets, met, met_at, met_many, no_track, outside_of, released_by, server-client, server_kept, server_list, setup_of, shows_command, sides_called, sides_of, status_events, takes_command, told_at, told_each, track_at, track_in, tracks_at, turn_after, turn_len, turned, turned_track, with_calls, with_cycles, with_ends, with_load, with_turn}
 use Rattle.af_base.specs.declared.event.ClientCall.TheVariants as call
 use Rattle.af_base.specs.declared.event.ClientEvent.TheVariants as client
 use Rattle.af_base.specs.declared.event.ServerEvent.TheVariants as server
@@ -70,9 +70,9 @@ calm_calls : (t : Track) (calls : List ClientCall) → flushes_of t.commands.eve
 calm_calls t [] h = h
 calm_calls t (answer ∷ calls) h = calm_calls (after_call t answer) calls (calm_call t answer h)
 
-pub called_so : (most : ℕ) (calls : List ClientCall) (t : TrackTold) (s : TrackKept) → LegalClientTurn (sides_of t) calls → CommandsSo most t.commands t.client s → CommandsSo most (called calls t).commands (called calls t).client s
+pub called_so : (most : ℕ) (calls : List ClientCall) (t : TrackTold) (s : TrackKept) → LegalClientTurn (sides_of t) calls → CommandsSo most t.commands t.client s → CommandsSo most (called_in_turn calls t).commands (called_in_turn calls t).client s
 called_so most calls t s legal h =
-    let u : TrackTold = called calls t in
+    let u : TrackTold = called_in_turn calls t in
     let after : Track = after_calls (sides_of t) calls in
     let sides : sides_of u ≡ after = sides_called t calls in
     let list : server_list u.commands ≡ server_list t.commands = client-server t.commands.told (drop (length (client_list t.commands)) after.commands.events) in
@@ -213,9 +213,9 @@ module _ (most n : ℕ) where
   pub calls_at : (round : RoundSeen) (run : Run) → LegalClientTurn (sides_of (told_at run n)) (calls_in round n) → CommandsAt most n run → CommandsAt most n (with_calls round run)
   unfolding with_calls
   calls_at round run legal h = record {
-    there = (let m = each_long (λ track t. called (calls_in round track) t) 0 run.tracks in let t = h.there in omega (arith, m, t));
+    there = (let m = each_long (λ track t. called_in_turn (calls_in round track) t) 0 run.tracks in let t = h.there in omega (arith, m, t));
     mixed = h.mixed;
-    commands = subst (λ (t : TrackTold). Of t (track_at run.normal.tracks n)) (sym (told_each (λ track t. called (calls_in round track) t) run n h.there)) (called_so most (calls_in round n) (told_at run n) (track_at run.normal.tracks n) legal h.commands);
+    commands = subst (λ (t : TrackTold). Of t (track_at run.normal.tracks n)) (sym (told_each (λ track t. called_in_turn (calls_in round track) t) run n h.there)) (called_so most (calls_in round n) (told_at run n) (track_at run.normal.tracks n) legal h.commands);
   }
 
   pub cycles_at : (s : Session) (es : List EntrySeen) (run : Run) → CommandsAt most n run → CommandsAt most n (with_cycles s es run)

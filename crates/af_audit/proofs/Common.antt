@@ -67,7 +67,7 @@ pub use Rattle.af_life.specs.Commands.{Row, applies, commands, first_effect}
 unfoldable pub use Rattle.af_life.specs.Commands.{by_command, starts}
 pub use Rattle.af_life.specs.Drained.{AreLegal, DrainedIsReached, IsDrainedBy, LifeStep, StoppedAt, Turned, cut, heard_of, kept_after, life_of, looks_steps, most_heard, reports_drained, steps_of, stops, told}
 unfoldable pub use Rattle.af_life.specs.Drained.{track_steps}
-pub use Rattle.af_life.specs.Edits.{after_ack, after_push, comes_home, commanded_by, edited_to, entered, is_exit, is_over, lent_by, must_enter, must_leave}
+pub use Rattle.af_life.specs.Edits.{after_ack, after_push, comes_home, commanded_by, edited_to, entered, commands_exit, is_over, lent_by, must_enter, must_leave}
 unfoldable pub use Rattle.af_life.specs.Edits.{edited, lend, let_go, mutated, next_command, ordered, welcomed}
 pub use Rattle.af_life.specs.Heard.{counts_in, heard, heard_at_home, heard_elsewhere, heard_with, is_reached, is_reported, known_by, learnt, ready, slot_reported}
 unfoldable pub use Rattle.af_life.specs.Heard.{heard_by, noted, settled_at}
@@ -75,13 +75,13 @@ pub use Rattle.af_life.specs.Kept.{Learnt, NormalKept, Outside, Setup, asked, is
 pub use Rattle.af_life.specs.Looks.{LegalLooks, all_command_events, as_slot, command_events, did, takes_command, words_taken}
 pub use Rattle.af_life.specs.Obeys.{after_looks, are_due, ended, goes_on, is_shut, must_wait, opens, shows_command}
 unfoldable pub use Rattle.af_life.specs.Obeys.{after_look, obeyed}
-pub use Rattle.af_life.specs.Plays.{LegalTake, after_take, after_takes, counted, is_mixed_here, mixed_here, put_by, tracks_due}
+pub use Rattle.af_life.specs.Plays.{LegalTake, after_take, after_takes, look_counted, is_mixed_here, mixed_here, put_by, tracks_due}
 pub use Rattle.af_life.specs.Serves.{HasDueLooks, IsServed, LegalTrack, after_report, is_found_shut, most_looks, served_to, state_code, status_due, stored_over}
 unfoldable pub use Rattle.af_life.specs.Serves.{after_part, served, status_word}
 pub use Rattle.af_life.specs.Sound.{IsSound}
 pub use Rattle.af_life.specs.Turn.{LegalTurn, after_edits, after_tracks}
 unfoldable pub use Rattle.af_life.specs.Turn.{turn_after}
-pub use Rattle.af_life.specs.TurnEvents.{command_events_of, command_list, going, hand_list, invalid, mix_events, pipe_list, status_events, stream_list, takes_from, tracks_at}
+pub use Rattle.af_life.specs.TurnEvents.{command_events_of, command_list, going, hand_events_of, invalid, mix_events, pipe_list, status_events, stream_list, takes_from, tracks_at}
 pub use Rattle.af_life.specs.declared.command.TheConstants.{OPEN, REMOVE, START}
 pub use Rattle.af_life.specs.declared.kept.Heard.{Heard}
 pub use Rattle.af_life.specs.declared.kept.Holder.TheVariants.{Home, Lent, Returning}
@@ -96,7 +96,7 @@ pub use Rattle.af_model.proofs.Logic.{ahead-between, both_right, outside-some}
 pub use Rattle.af_model.proofs.RoomKept.{AllFit, AllFollowRear, FollowsRear, all_fit, fit_split, never_corrupt, never_shut, room_in, saw_rear}
 pub use Rattle.af_model.specs.ClientCalls.{ClientAnswers, ClientKept, client_begins, client_call_events, client_events_of, client_keeps, client_kept, filled_by}
 pub use Rattle.af_model.specs.Cycles.{Listed, LooksBy, UseUpTo, cycle_events, cycle_of, has_exit, is_mixed, kept, last_used, state_of, still_entry, takes_shown, tally}
-pub use Rattle.af_model.specs.Draft.{attached, commanded}
+pub use Rattle.af_model.specs.Draft.{attached, draft_commanded}
 pub use Rattle.af_model.specs.Fates.{InTurn, drops_none, keeps_all}
 pub use Rattle.af_model.specs.History.{HasHistory, IsLegal, May, Moment, after, by_client, by_hand, by_server, client_of, flushes_of, is_lawful, point, server_of}
 pub use Rattle.af_model.specs.JournalForm.{IsJournal, IsRound, IsTurn, TracksRise}
@@ -120,7 +120,7 @@ pub use Rattle.af_runs.specs.Fronts.{front_of, fronts_by, is_shown}
 pub use Rattle.af_runs.specs.LegalRuns.{IsCutRun, IsLegalRun, LegalRounds, is_lawful_block, is_lawful_track, is_poke_on, marks_of, run_from, run_of, session_of}
 pub use Rattle.af_runs.specs.Pcm.{entries_pcm, journal_pcm}
 pub use Rattle.af_runs.specs.Rounds.{AreMixedBut, IsFastTurn, LegalEntries, LegalEntry, LegalFastTurn, LegalNormalTurn, LegalRound, SharedHistories, TrackHistories, after_round, after_turn, all_played, before_turn, early_count, early_of, fills, found_in, is_early, late_of, loaded, met_after, turned}
-pub use Rattle.af_runs.specs.Runs.{Run, TrackTold, all_ended, called, calls_in, commands_turned, each_track, fast_ended, fast_party, frames_before, has_ended, holds, known_of, last_report, load_of, mixed_track, most_cycles, new_run, new_track, next_report, next_slot, no_track, normal_party, pipe_cells, played, plays, report_of, side_of, sides_of, slot_for, state_for, stream_met, stream_of, takes_part, told_at, turned_track, with_cycle, with_cycles, with_looks}
+pub use Rattle.af_runs.specs.Runs.{Run, TrackTold, all_ended, called_in_turn, calls_in, commands_turned, each_track, fast_ended, fast_party, frames_before, has_ended, observer_holds, known_of, last_report, load_of, mixed_track, most_round_cycles, new_run, new_told_track, next_report, next_slot, no_track, normal_party, pipe_cells, played, shows_slot, report_of, client_side, sides_of, slot_playing, state_for, stream_met, stream_of, takes_part, told_at, turned_track, with_cycle, with_cycles, with_looks}
 unfoldable pub use Rattle.af_runs.specs.Runs.{met, with_calls, with_ends, with_load, with_mix, with_poll, with_turn}
 pub use Rattle.af_runs.specs.Sessions.{Session, command_shape, cycle_frames, file_words, no_spec, script_setup, setup_of, spec_of, spec_setting, stream_shape, track_count}
 pub use Rattle.af_runs.specs.Told.{HasPipeTold, PipeTold, is_pushed, state_at}

@@ -1,6 +1,6 @@
 -- What changes no track that is done with, and when a draft says Exit.
 use Rattle.std.proofs.Common.{◌≡◌, ℕ, zero, suc, ◌==◌, ◌&&◌, ◌||◌, not, Bool, true, false, if◌then◌else◌, is_some, sym, refl, ap, subst, ◌∙◌, List, [], ◌∷◌, length, map, filter, fold, slice_set, eqb-true, eq-eqb}
-use Rattle.af_audit.proofs.Common.{AllByRecursion, ColdIdle, Command, Exit, FastState, Home, Learnt, Lent, MixWrite, NormalKept, Returning, Setup, TakeSeen, TrackKept, TrackSeen, Turn, after_ack, after_edits, after_take, after_tracks, asked, both_first, both_right, code_of, commanded as with_command, commanded_by, edited, edited_to, if_true, is_exit, is_home, is_mixed_here, is_over, is_returning, lend, let_go, list_any, mixed_here, must_enter, must_leave, mutated, next_command, no, not_lent, ordered, pipe_size, range_with_len, rest_enters, served, served_to, track_at, welcomed}
+use Rattle.af_audit.proofs.Common.{AllByRecursion, ColdIdle, Command, Exit, FastState, Home, Learnt, Lent, MixWrite, NormalKept, Returning, Setup, TakeSeen, TrackKept, TrackSeen, Turn, after_ack, after_edits, after_take, after_tracks, asked, both_first, both_right, code_of, draft_commanded as with_command, commanded_by, edited, edited_to, if_true, commands_exit, is_home, is_mixed_here, is_over, is_returning, lend, let_go, list_any, mixed_here, must_enter, must_leave, mutated, next_command, no, not_lent, ordered, pipe_size, range_with_len, rest_enters, served, served_to, track_at, welcomed}
 use Rattle.af_life.specs.declared.kept.Holder.{Holder}
 use Rattle.af_life.specs.Kept.{plays}
 
@@ -98,9 +98,9 @@ edits_same c k m (suc i) done =
     ap (edited c k i) before ∙ edited_same c k i m done
 
 -- a draft that says Exit isn't changed by the next command
-exit_again : (c : Setup) (room : ℕ) (m : NormalKept) → is_exit m.draft ≡ true → commanded_by c room m ≡ m
+exit_again : (c : Setup) (room : ℕ) (m : NormalKept) → commands_exit m.draft ≡ true → commanded_by c room m ≡ m
 unfolding ordered next_command
-exit_again c room m exit = by_exit (is_exit m.draft) exit
+exit_again c room m exit = by_exit (commands_exit m.draft) exit
   where
     by_code : (b : Bool) → (code_of Exit == code_of m.draft.command) ≡ b → ordered Exit m ≡ m
     by_code true is = simp is refl
@@ -111,7 +111,7 @@ exit_again c room m exit = by_exit (is_exit m.draft) exit
     by_exit false e = no e
 
 -- the edits of a turn change nothing if the draft says Exit and all tracks are done with
-pub quiet_edits : (c : Setup) (k : Learnt) (m : NormalKept) (e : Turn) → is_exit m.draft ≡ true → AllByRecursion IsDone m.tracks → after_edits c k e m ≡ m
+pub quiet_edits : (c : Setup) (k : Learnt) (m : NormalKept) (e : Turn) → commands_exit m.draft ≡ true → AllByRecursion IsDone m.tracks → after_edits c k e m ≡ m
 unfolding mutated
 quiet_edits c k m e exit done =
     let acked = acked_same e.ack m done in
@@ -122,12 +122,12 @@ quiet_edits c k m e exit done =
 -- ## If the draft doesn't say Exit
 
 -- an Exit comes into the draft only if all tracks are done with
-pub ordered_over : (command : Command) (m : NormalKept) → is_exit m.draft ≡ false → ((code_of command == code_of Exit) ≡ true → AllByRecursion IsDone m.tracks)
-    → is_exit (ordered command m).draft ≡ true → AllByRecursion IsDone (ordered command m).tracks
+pub ordered_over : (command : Command) (m : NormalKept) → commands_exit m.draft ≡ false → ((code_of command == code_of Exit) ≡ true → AllByRecursion IsDone m.tracks)
+    → commands_exit (ordered command m).draft ≡ true → AllByRecursion IsDone (ordered command m).tracks
 unfolding ordered
 ordered_over command m runs done = by_same (code_of command == code_of m.draft.command)
   where
-    by_same : (b : Bool) → is_exit (if b then m else record m { draft = with_command command m.draft; dirty = true }).draft ≡ true
+    by_same : (b : Bool) → commands_exit (if b then m else record m { draft = with_command command m.draft; dirty = true }).draft ≡ true
         → AllByRecursion IsDone (if b then m else record m { draft = with_command command m.draft; dirty = true }).tracks
     by_same true exit = no (sym runs ∙ exit)
     by_same false exit = done exit
@@ -161,11 +161,11 @@ exit_when_empty tracks room size = by (is_over tracks) (room == size) refl (list
     by false b is mixes h = by_rest mixes h
 
 -- a draft says Exit only after an Exit was ordered
-pub ordered_exit : (command : Command) (m : NormalKept) → is_exit m.draft ≡ false → is_exit (ordered command m).draft ≡ true → (code_of command == code_of Exit) ≡ true
+pub ordered_exit : (command : Command) (m : NormalKept) → commands_exit m.draft ≡ false → commands_exit (ordered command m).draft ≡ true → (code_of command == code_of Exit) ≡ true
 unfolding ordered
 ordered_exit command m runs = by_same (code_of command == code_of m.draft.command)
   where
-    by_same : (b : Bool) → is_exit (if b then m else record m { draft = with_command command m.draft; dirty = true }).draft ≡ true → (code_of command == code_of Exit) ≡ true
+    by_same : (b : Bool) → commands_exit (if b then m else record m { draft = with_command command m.draft; dirty = true }).draft ≡ true → (code_of command == code_of Exit) ≡ true
     by_same true exit = no (sym runs ∙ exit)
     by_same false exit = exit
 

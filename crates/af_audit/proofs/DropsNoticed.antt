@@ -3,7 +3,7 @@ use Rattle.std.proofs.Common.{◌≡◌, ◌≢◌, ◌⊎◌, inl, inr, ℕ, �
 use Rattle.af_audit.proofs.Common.{AllByRecursion, LegalTake, LegalTurn, Listed, LooksBy, NormalKept, Outside, Seen, ServerEvent, Setup, Shape, SlotEntry, TakeSeen, TrackKept, TracksRise, Turn, asked, both_first, both_right, cycle_events, drops_none, fold-append, invalid, is_home, is_noticed, keeps_all, kept, learnt, look_at, look_events, mix_events, no, nothing_from, server_begins, server_keeps, server_kept, stream_list, takes_from, tally_none, three, track_at, track_in}
 use Rattle.af_base.specs.declared.event.ServerEvent.TheVariants as server
 use Rattle.af_base.specs.declared.seen.Seen.TheVariants as seen
-use Rattle.af_model.specs.Cycles.{after_look}
+use Rattle.af_model.specs.Cycles.{events_behind_look}
 use Rattle.af_audit.specs.Fates.{DropsByFlush, ComesByFlush}
 
 -- ## More events
@@ -57,7 +57,7 @@ module _ (asked : ℕ) (s : Listed) (before : List ServerEvent) (slot : SlotEntr
   same_flush : (server_kept s.shape start).flush ≡ (kept s).flush
   same_flush = ap (λ k. k.flush) (fold-append (server_keeps s.shape) (server_begins s.shape) before (server.SawGain slot.gains ∷ [])) ∙ still
 
-  after_none : (shut : Bool) (x : Seen) → drops_none (after_look asked shut x) ≡ true
+  after_none : (shut : Bool) (x : Seen) → drops_none (events_behind_look asked shut x) ≡ true
   after_none shut (seen.Frames count) = tally_none (asked - count)
   after_none shut seen.Empty = tally_none asked
   after_none true (seen.Shut front rear) = refl
@@ -65,22 +65,22 @@ module _ (asked : ℕ) (s : Listed) (before : List ServerEvent) (slot : SlotEntr
   after_none shut seen.Absent = refl
   after_none shut (seen.Flushed dropped) = refl
 
-  looked : (x : Seen) → x ≡ look_at s.shape (kept s).flush asked slot.flush slot.rear front → DropsByFlush s.shape start (look_events x slot.flush slot.rear told ++ after_look asked false x)
+  looked : (x : Seen) → x ≡ look_at s.shape (kept s).flush asked slot.flush slot.rear front → DropsByFlush s.shape start (look_events x slot.flush slot.rear told ++ events_behind_look asked false x)
   looked (seen.Flushed dropped) is =
       let new : slot.flush ≢ (server_kept s.shape start).flush = λ same. saw_new s.shape (kept s).flush asked slot.flush slot.rear front dropped is (same ∙ same_flush) in
       (tt, (tt, (tt, (record { before = start; flush = slot.flush; rear = slot.rear; front = told; look = three start _ _ _; is_new = new }, tt))))
-  looked (seen.Frames count) is = (tt, (tt, (tt, none_dropped s.shape seen_all (after_look asked false (seen.Frames count)) (after_none false (seen.Frames count)))))
-  looked seen.Empty is = (tt, (tt, (tt, none_dropped s.shape seen_all (after_look asked false seen.Empty) (after_none false seen.Empty))))
-  looked (seen.Shut f r) is = (tt, (tt, (tt, none_dropped s.shape seen_all (after_look asked false (seen.Shut f r)) (after_none false (seen.Shut f r)))))
+  looked (seen.Frames count) is = (tt, (tt, (tt, none_dropped s.shape seen_all (events_behind_look asked false (seen.Frames count)) (after_none false (seen.Frames count)))))
+  looked seen.Empty is = (tt, (tt, (tt, none_dropped s.shape seen_all (events_behind_look asked false seen.Empty) (after_none false seen.Empty))))
+  looked (seen.Shut f r) is = (tt, (tt, (tt, none_dropped s.shape seen_all (events_behind_look asked false (seen.Shut f r)) (after_none false (seen.Shut f r)))))
   looked seen.Absent is = (tt, (tt, (tt, tt)))
 
   drops_cycled : LooksBy asked s slot front → DropsByFlush s.shape before (cycle_events asked s slot told)
   drops_cycled by = (tt, by_shut (kept s).shut by.1)
     where
       by_shut : (o : Option (ℕ × ℕ)) → MatchOption o (slot.seen ≡ look_at s.shape (kept s).flush asked slot.flush slot.rear front) (λ words. (slot.seen ≡ seen.Shut words.0 words.1) × (slot.flush ≡ (kept s).flush) × (slot.rear ≡ words.1))
-          → DropsByFlush s.shape start ((if is_some o then [] else look_events slot.seen slot.flush slot.rear told) ++ after_look asked (is_some o) slot.seen)
+          → DropsByFlush s.shape start ((if is_some o then [] else look_events slot.seen slot.flush slot.rear told) ++ events_behind_look asked (is_some o) slot.seen)
       by_shut None is = looked slot.seen is
-      by_shut (Some words) is = none_dropped s.shape start (after_look asked true slot.seen) (after_none true slot.seen)
+      by_shut (Some words) is = none_dropped s.shape start (events_behind_look asked true slot.seen) (after_none true slot.seen)
 
 -- each drop among the events of a cycle belongs to a flush that was noticed
 pub cycle_drops : (asked : ℕ) (s : Listed) (slot : SlotEntry) (front told : ℕ) → LooksBy asked s slot front → DropsByFlush s.shape s.events (cycle_events asked s slot told)

@@ -1,6 +1,6 @@
 -- By the end of a legal run all that the normal mixer put into the pipe was taken: an Exit comes into its draft only if it sees the whole room, and from then on it puts nothing.
 use Rattle.std.proofs.Common.{◌≡◌, ℕ, ◌*◌, ◌<◌, ◌≤◌, Bool, true, false, if◌then◌else◌, map, List, [], ◌∷◌, ◌++◌, length, take, Option, Some, None, refl, sym, ap, ◌∙◌, subst, append_assoc, append-nil, arith}
-use Rattle.af_audit.proofs.Common.{ClientEvent, Frame, HasPipeTold, IsLegalRun, IsScript, JournalData, LegalRound, LegalRounds, Marks, RoundSeen, Run, ScriptData, Session, TakeSeen, Turn, after_round, ends_pipe, is_exit, marks_of, met_after, mul-le-mul, new_run, ones, packed_word, pipe_cells, pipe_size, put_by, releases_of, run_from, session_of, setup_of, take_all, twos, wrapped}
+use Rattle.af_audit.proofs.Common.{ClientEvent, Frame, HasPipeTold, IsLegalRun, IsScript, JournalData, LegalRound, LegalRounds, Marks, RoundSeen, Run, ScriptData, Session, TakeSeen, Turn, after_round, ends_pipe, commands_exit, marks_of, met_after, mul-le-mul, new_run, ones, packed_word, pipe_cells, pipe_size, put_by, releases_of, run_from, session_of, setup_of, take_all, twos, wrapped}
 use Rattle.af_base.specs.declared.event.ClientEvent.TheVariants as client
 use Rattle.af_life.specs.TurnEvents.{front_by_room}
 use Rattle.af_audit.specs.Emptied.{PipeIsEmptied}
@@ -14,7 +14,7 @@ use Rattle.af_audit.proofs.PipeRounds.{RoundFlows, round_flows, turn_events, tur
 record Empties (run : Run) : Type 0 where
   mixer : EndsHome run.normal
   begins : run.pipe.taken ≡ take (length run.pipe.taken) run.pipe.put
-  emptied : is_exit run.normal.draft ≡ true → length run.pipe.put ≤ length run.pipe.taken
+  emptied : commands_exit run.normal.draft ≡ true → length run.pipe.put ≤ length run.pipe.taken
 
 some_room : (s : Session) → IsScript s.script → 0 < pipe_size (setup_of s)
 some_room s form =
@@ -36,7 +36,7 @@ module _ (cut : Bool) (s : Session) (form : IsScript s.script) (marks : Marks) (
   flows = round_flows s run round
 
   -- all was taken, if nothing was put and the draft had said Exit
-  was_emptied : turn_words s round.turn ≡ [] → is_exit run.normal.draft ≡ true → length after.pipe.put ≤ length after.pipe.taken
+  was_emptied : turn_words s round.turn ≡ [] → commands_exit run.normal.draft ≡ true → length after.pipe.put ≤ length after.pipe.taken
   was_emptied none exit =
       let a = h.emptied exit in
       let b = ap length (flows.put ∙ ap (λ (l : List ℕ). run.pipe.put ++ l) none ∙ append-nil run.pipe.put) in
@@ -58,11 +58,11 @@ module _ (cut : Bool) (s : Session) (form : IsScript s.script) (marks : Marks) (
       let word : front ≡ wrapped (length after.pipe.put) = (let f : front ≡ wrapped put = omega arith in f) ∙ ap wrapped (sym same) in
       all_taken size (ones after.pipe.told) after.pipe.put (twos after.pipe.told) after.pipe.taken (ones run.pipe.told) front flows.learnt (some_room s form) history list word
 
-  emptied_by : is_exit after.normal.draft ≡ true → (o : Option Turn) → round.turn ≡ o → length after.pipe.put ≤ length after.pipe.taken
+  emptied_by : commands_exit after.normal.draft ≡ true → (o : Option Turn) → round.turn ≡ o → length after.pipe.put ≤ length after.pipe.taken
   emptied_by exit None is = was_emptied (ap (turn_words s) is) (said_without cut s marks run round legal h.mixer exit is)
   emptied_by exit (Some e) is = by_end e.ended refl
     where
-      by_exit : (b : Bool) → is_exit run.normal.draft ≡ b → e.ended ≡ false → e.mixes ≡ [] → turn_words s round.turn ≡ [] → length after.pipe.put ≤ length after.pipe.taken
+      by_exit : (b : Bool) → commands_exit run.normal.draft ≡ b → e.ended ≡ false → e.mixes ≡ [] → turn_words s round.turn ≡ [] → length after.pipe.put ≤ length after.pipe.taken
       by_exit true said runs mixes none = was_emptied none said
       by_exit false not_yet runs mixes none = now_emptied e is runs mixes (saw_room cut s marks run round legal h.mixer exit e is runs not_yet) none
 
@@ -70,7 +70,7 @@ module _ (cut : Bool) (s : Session) (form : IsScript s.script) (marks : Marks) (
       by_end true ended = was_emptied (ap (turn_words s) is ∙ ap (λ (b : Bool). if b then [] else map packed_word (put_by (setup_of s) e.mixes)) ended) (said_ended cut s marks run round legal h.mixer exit e is ended)
       by_end false runs =
           let mixes = mixed_none cut s marks run round legal h.mixer exit e is runs in
-          by_exit (is_exit run.normal.draft) refl runs mixes (ap (turn_words s) is ∙ ap (λ (b : Bool). if b then [] else map packed_word (put_by (setup_of s) e.mixes)) runs ∙ ap (λ (takes : List TakeSeen). map packed_word (put_by (setup_of s) takes)) mixes)
+          by_exit (commands_exit run.normal.draft) refl runs mixes (ap (turn_words s) is ∙ ap (λ (b : Bool). if b then [] else map packed_word (put_by (setup_of s) e.mixes)) runs ∙ ap (λ (takes : List TakeSeen). map packed_word (put_by (setup_of s) takes)) mixes)
 
   empties_round : Empties after
   empties_round = record { mixer = round_ends cut s marks run round legal h.mixer; begins = history.begins; emptied = λ exit. emptied_by exit round.turn refl }

@@ -1,6 +1,6 @@
 -- By the end of a legal run each frame that the client of a track without a poke released has one fate.
 use Rattle.std.proofs.Common.{◌≡◌, ℕ, ◌+◌, ◌<◌, ◌==◌, nat_lt, Bool, true, false, if◌then◌else◌, List, [], ◌∷◌, ◌++◌, length, refl, sym, ap, ◌∙◌, subst, arith}
-use Rattle.af_audit.proofs.Common.{BlockTold, Frame, HasBlockHistory, IsLegalRun, JournalData, RoundSeen, Run, ScriptData, Session, Shape, TrackTold, all_ended, both_first, calls_in, fast_ended, file_words, get_or-map-range_with_len, is_home, is_lawful_block, is_poke_on, length-map-range_with_len, list_any, marks_of, nat_tests, new_block, new_run, new_track, no_track, normal_party, not_true, point, run_of, session_of, setup_of, spec_of, stream_shape, told_at, track_at, track_count}
+use Rattle.af_audit.proofs.Common.{BlockTold, Frame, HasBlockHistory, IsLegalRun, JournalData, RoundSeen, Run, ScriptData, Session, Shape, TrackTold, all_ended, both_first, calls_in, fast_ended, file_words, get_or-map-range_with_len, is_home, is_lawful_block, is_poke_on, length-map-range_with_len, list_any, marks_of, nat_tests, new_block, new_run, new_told_track, no_track, normal_party, not_true, point, run_of, session_of, setup_of, spec_of, stream_shape, told_at, track_at, track_count}
 use Rattle.af_model.specs.Spans.{Span, mixed_by, spans_of, queued}
 use Rattle.af_model.proofs.Discards.{discards-before}
 use Rattle.af_model.proofs.OneFate.{one_fate, taken-mixed, mixed_in}
@@ -20,10 +20,10 @@ new_history k = record { order = []; legal = tt; client_is = refl; server_is = r
 
 module _ (s : Session) (track : ℕ) (low : track < track_count s) where
   pub new_there : track < length (new_run s).tracks
-  new_there = let m = length-map-range_with_len (new_track s) 0 (track_count s) in omega (arith, m, low)
+  new_there = let m = length-map-range_with_len (new_told_track s) 0 (track_count s) in omega (arith, m, low)
 
-  pub told_new : told_at (new_run s) track ≡ new_track s track
-  told_new = get_or-map-range_with_len (new_track s) 0 (track_count s) track track no_track low (omega arith)
+  pub told_new : told_at (new_run s) track ≡ new_told_track s track
+  told_new = get_or-map-range_with_len (new_told_track s) 0 (track_count s) track track no_track low (omega arith)
 
   pub new_stands : RunStands s track (new_run s)
   new_stands = record {

@@ -6,7 +6,7 @@ use Rattle.af_script.specs.declared.op.Op.TheVariants as op
 use Rattle.af_runs.specs.declared.want.ClientCommand.TheVariants as command
 use Rattle.af_runs.specs.declared.want.Mode.{Mode}
 use Rattle.af_runs.specs.declared.want.Want.TheVariants as want
-use Rattle.af_runs.specs.Clients.{goes_on}
+use Rattle.af_runs.specs.Clients.{with_wants}
 use Rattle.af_runs.specs.ClientTurns.{called}
 use Rattle.af_judge.proofs.WantedNext.{first_due}
 
@@ -63,7 +63,7 @@ more_none left wants = by_zero (left == 0)
 -- the flushes left once a client goes on with these wants, if it had no fewer due
 module _ (wants : List Want) (c : Client) (low : flushes_due wants ≤ flushes_due c.due) where
   sent_few : (sending : ClientCommand) → flushes_left (after_sent sending wants c) ≤ flushes_left c
-  sent_few sending = if_few (is_last sending) (ends (goes_on wants c)) (record (goes_on wants c) { mode = mode_after sending c.mode }) (flushes_left c) (omega (arith, low)) (omega (arith, low))
+  sent_few sending = if_few (is_last sending) (ends (with_wants wants c)) (record (with_wants wants c) { mode = mode_after sending c.mode }) (flushes_left c) (omega (arith, low)) (omega (arith, low))
 
   send_few : (sending : ClientCommand) (answer : ClientCall) → flushes_left (after_send sending wants c answer) ≤ flushes_left c
   send_few sending (call.Sent front code argument) = sent_few sending
@@ -71,7 +71,7 @@ module _ (wants : List Want) (c : Client) (low : flushes_due wants ≤ flushes_d
 
   status_few : (stop : Bool) (commands : ℕ) (answer : ClientCall) → flushes_left (after_status stop commands wants c answer) ≤ flushes_left c
   status_few stop commands (call.Status word) = if_few (state_in word == 15) (ends c) _ (flushes_left c) (omega arith)
-      (if_few (nat_le commands (settled_in word) && (not stop || (state_in word == 8))) (goes_on wants c) (waits c) (flushes_left c) (omega (arith, low)) (omega arith))
+      (if_few (nat_le commands (settled_in word) && (not stop || (state_in word == 8))) (with_wants wants c) (waits c) (flushes_left c) (omega (arith, low)) (omega arith))
   status_few stop commands (call.Sent front code argument) = omega arith
   status_few stop commands (call.SendFull front) = omega arith
   status_few stop commands (call.Put front count) = omega arith

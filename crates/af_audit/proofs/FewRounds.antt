@@ -1,6 +1,6 @@
 -- Through the legal rounds of a run a client flushes no more often than it has ops.
 use Rattle.std.proofs.Common.{◌≡◌, ℕ, ◌+◌, ◌<◌, ◌≤◌, Bool, true, false, if◌then◌else◌, List, [], ◌∷◌, length, Option, Some, None, refl, ap, ◌∙◌, arith}
-use Rattle.af_audit.proofs.Common.{BlockTold, EntrySeen, FastState, HandEvent, LegalClientTurn, LegalRound, LegalRounds, Marks, NormalKept, Outside, RoundSeen, Run, ServerEvent, Session, Setup, TrackTold, Turn, TurnFound, after_round, after_turn, all_played, before_turn, called, calls_in, client_list, cycle_events, cycle_frames, each_long, each_track, early_of, ends, entry_slot, flushes-append, flushes_of, found_in, front_of, hand-client, hand_does, hand_list, late_of, learnt, listed, loaded, met, met_after, met_at, met_many, mixed_track, outside_of, played, run_from, server-client, server_does, server_list, setup_of, sides_called, sides_of, slot_for, state_for, stream_list, stream_met, takes_part, told_at, told_each, track_count, tracks_at, turned, turned_track, with_calls, with_cycle, with_cycles, with_ends, with_load, with_mix, with_poll, with_turn}
+use Rattle.af_audit.proofs.Common.{BlockTold, EntrySeen, FastState, HandEvent, LegalClientTurn, LegalRound, LegalRounds, Marks, NormalKept, Outside, RoundSeen, Run, ServerEvent, Session, Setup, TrackTold, Turn, TurnFound, after_round, after_turn, all_played, before_turn, called_in_turn, calls_in, client_list, cycle_events, cycle_frames, each_long, each_track, early_of, ends, entry_slot, flushes-append, flushes_of, found_in, front_of, hand-client, hand_does, hand_events_of, late_of, learnt, listed, loaded, met, met_after, met_at, met_many, mixed_track, outside_of, played, run_from, server-client, server_does, server_list, setup_of, sides_called, sides_of, slot_playing, state_for, stream_list, stream_met, takes_part, told_at, told_each, track_count, tracks_at, turned, turned_track, with_calls, with_cycle, with_cycles, with_ends, with_load, with_mix, with_poll, with_turn}
 use Rattle.af_base.specs.declared.event.ClientEvent.TheVariants as client
 use Rattle.af_audit.proofs.FewFlushes.{all_flushes, flushes_left, turn_few}
 
@@ -15,7 +15,7 @@ served_same : (b : BlockTold) (es : List ServerEvent) (hs : List HandEvent) → 
 served_same b es hs = ap flushes_of (server-client (hand_does hs b).told es ∙ hand-client b.told hs)
 
 mixed_same : (s : Session) (x : FastState) (e : EntrySeen) (n : ℕ) (t : TrackTold) → told_flushes (mixed_track s x e n t) ≡ told_flushes t
-mixed_same s x e n t = by_slot (slot_for x e.entry n)
+mixed_same s x e n t = by_slot (slot_playing x e.entry n)
   where
     by_slot : (o : Option ℕ) → told_flushes (elim o as (λ o. TrackTold) [ None ↦ t | Some i ↦ record t { stream = played (cycle_frames s) e i t.stream } ]) ≡ told_flushes t
     by_slot None = refl
@@ -24,7 +24,7 @@ mixed_same s x e n t = by_slot (slot_for x e.entry n)
         ap (λ m. m + flushes_left t.client) (served_same t.stream (cycle_events (cycle_frames s) (listed t.stream) slot (front_of (cycle_frames s) (listed t.stream) slot)) [])
 
 turned_same : (c : Setup) (o : Outside) (m : NormalKept) (e : Turn) (n : ℕ) (t : TrackTold) → told_flushes (turned_track c o m e n t) ≡ told_flushes t
-turned_same c o m e n t = ap (λ m. m + flushes_left t.client) (served_same t.stream (stream_list c o e (tracks_at c (learnt o) m e n) n) (hand_list e n))
+turned_same c o m e n t = ap (λ m. m + flushes_left t.client) (served_same t.stream (stream_list c o e (tracks_at c (learnt o) m e n) n) (hand_events_of e n))
 
 met_same : (there hands : Bool) (b : BlockTold) → flushes_of (client_list (stream_met there hands b)) ≡ flushes_of (client_list b)
 met_same true true b = let a = flushes-append (client_list b) (client.Learn (length (server_list b)) ∷ []) in omega (arith, a)
@@ -51,7 +51,7 @@ module _ (most n : ℕ) where
   calls_have round run legal h =
       let a = turn_few (sides_of (told_at run n)) (calls_in round n) legal in
       let e = ap all_flushes (sides_called (told_at run n) (calls_in round n)) in
-      each_few (λ track t. called (calls_in round track) t) run h (omega (arith, a, e))
+      each_few (λ track t. called_in_turn (calls_in round track) t) run h (omega (arith, a, e))
 
   pub mix_has : (s : Session) (e : EntrySeen) (run : Run) → HasFew most n run → HasFew most n (with_mix s e run)
   unfolding with_mix

@@ -1,6 +1,6 @@
 -- What the lists of a run's servers show only grows from step to step of a run.
 use Rattle.std.proofs.Common.{◌≡◌, inl, inr, ℕ, ◌<◌, ◌≤◌, List, ◌++◌, length, Option, Some, None, refl, sym, ap, ◌∙◌, arith}
-use Rattle.af_audit.proofs.Common.{EntrySeen, RoundSeen, Run, Session, TrackTold, Turn, TurnFound, called, calls_in, cases_lt, cycle_beside, cycles_beside, each_long, get_or_past, loaded, met, met_many, mixed_track, no_track, outside_of, server_append, server_list, server_of, setup_of, state_for, told_at, turned, turned_track, with_calls, with_cycle, with_cycles, with_ends, with_load, with_mix, with_turn}
+use Rattle.af_audit.proofs.Common.{EntrySeen, RoundSeen, Run, Session, TrackTold, Turn, TurnFound, called_in_turn, calls_in, cases_lt, cycle_beside, cycles_beside, each_long, get_or_past, loaded, met, met_many, mixed_track, no_track, outside_of, server_append, server_list, server_of, setup_of, state_for, told_at, turned, turned_track, with_calls, with_cycle, with_cycles, with_ends, with_load, with_mix, with_turn}
 use Rattle.af_audit.proofs.Grown.{RunGrows as TrackGrows, calls_grow, cycle_grows, cycles_grow, ends_grow, load_grows, meet_grows, mix_grows, run_none, run_twice, turn_grows}
 use Rattle.af_audit.proofs.SparedTold.{ends_many}
 use Rattle.af_audit.proofs.Measure.{Measure, of_run}
@@ -42,7 +42,7 @@ mix_many s e run = each_long (mixed_track s (state_for s run e.entry.state) e) 0
 module _ (s : Session) where
   pub grows_calls : (round : RoundSeen) (run : Run) → RunGrows run (with_calls round run)
   unfolding with_calls
-  grows_calls round run = record { many = each_long (λ track t. called (calls_in round track) t) 0 run.tracks; tracks = λ n low. calls_grow n round run low }
+  grows_calls round run = record { many = each_long (λ track t. called_in_turn (calls_in round track) t) 0 run.tracks; tracks = λ n low. calls_grow n round run low }
 
   pub grows_mix : (e : EntrySeen) (run : Run) → RunGrows run (with_mix s e run)
   grows_mix e run = record { many = mix_many s e run; tracks = λ n low. mix_grows n s e run low }

@@ -1,6 +1,6 @@
 -- What is recorded of a track's two blocks is never taken back: each step of a round adds to it.
 use Rattle.std.proofs.Common.{◌≡◌, ℕ, ◌<◌, Bool, true, false, if◌then◌else◌, fold, map, List, [], ◌∷◌, ◌++◌, drop, length, Option, Some, None, refl, sym, ap, ◌∙◌, subst, arith, append_assoc}
-use Rattle.af_audit.proofs.Common.{BlockTold, ClientCall, ClientEvent, EntrySeen, FastState, HandEvent, Moment, NormalKept, Outside, RoundSeen, Run, ServerEvent, Session, Setup, TrackTold, Turn, TurnFound, after_calls, after_round, after_turn, all_played, before_turn, by_client, by_hand, by_server, called, calls_in, client_does, client_list, command_list, cycle_events, cycle_frames, each_long, each_track, early_of, ends, entry_slot, flat_map, found_in, front_of, going, hand_does, hand_list, late_of, learnt, listed, loaded, meets, meets_flag, met, met_after, met_at, met_many, mixed_track, outside_of, packed_word, played, run_from, server_does, server_list, setup_of, sides_of, slot_for, slot_frames, state_for, stream_list, stream_met, takes_from, takes_part, told_at, told_each, took, track_in, tracks_at, turned, turned_track, with_calls, with_cycle, with_cycles, with_ends, with_load, with_mix, with_poll, with_turn, words_taken}
+use Rattle.af_audit.proofs.Common.{BlockTold, ClientCall, ClientEvent, EntrySeen, FastState, HandEvent, Moment, NormalKept, Outside, RoundSeen, Run, ServerEvent, Session, Setup, TrackTold, Turn, TurnFound, after_calls, after_round, after_turn, all_played, before_turn, by_client, by_hand, by_server, called_in_turn, calls_in, client_does, client_list, command_list, cycle_events, cycle_frames, each_long, each_track, early_of, ends, entry_slot, flat_map, found_in, front_of, going, hand_does, hand_events_of, late_of, learnt, listed, loaded, meets, meets_flag, met, met_after, met_at, met_many, mixed_track, outside_of, packed_word, played, run_from, server_does, server_list, setup_of, sides_of, slot_playing, slot_frames, state_for, stream_list, stream_met, takes_from, takes_part, told_at, told_each, took, track_in, tracks_at, turned, turned_track, with_calls, with_cycle, with_cycles, with_ends, with_load, with_mix, with_poll, with_turn, words_taken}
 use Rattle.af_base.specs.declared.event.ClientEvent.TheVariants as client
 use Rattle.af_base.specs.declared.event.HandEvent.TheVariants as hand
 use Rattle.af_base.specs.declared.event.ServerEvent.TheVariants as server
@@ -54,7 +54,7 @@ track_none t = record { stream = grows_none t.stream; commands = grows_none t.co
 pub track_twice : (a b c : TrackTold) → TrackGrows a b → TrackGrows b c → TrackGrows a c
 track_twice a b c f g = record { stream = grows_twice a.stream b.stream c.stream f.stream g.stream; commands = grows_twice a.commands b.commands c.commands f.commands g.commands }
 
-pub called_grows : (calls : List ClientCall) (t : TrackTold) → TrackGrows t (called calls t)
+pub called_grows : (calls : List ClientCall) (t : TrackTold) → TrackGrows t (called_in_turn calls t)
 called_grows calls t =
     let u = after_calls (sides_of t) calls in
     let a = client_grows (drop (length (client_list t.stream)) u.stream.events) t.stream in
@@ -62,7 +62,7 @@ called_grows calls t =
     record { stream = record { shape = a.shape; more = a.more; told = a.told }; commands = record { shape = b.shape; more = b.more; told = b.told } }
 
 mixed_grows : (s : Session) (x : FastState) (e : EntrySeen) (n : ℕ) (t : TrackTold) → TrackGrows t (mixed_track s x e n t)
-mixed_grows s x e n t = by_slot (slot_for x e.entry n)
+mixed_grows s x e n t = by_slot (slot_playing x e.entry n)
   where
     by_slot : (o : Option ℕ) → TrackGrows t (elim o as (λ o. TrackTold) [ None ↦ t | Some i ↦ record t { stream = played (cycle_frames s) e i t.stream } ])
     by_slot None = track_none t
@@ -75,7 +75,7 @@ mixed_grows s x e n t = by_slot (slot_for x e.entry n)
 turned_grows : (c : Setup) (o : Outside) (m : NormalKept) (e : Turn) (n : ℕ) (t : TrackTold) → TrackGrows t (turned_track c o m e n t)
 turned_grows c o m e n t =
     let tracks = tracks_at c (learnt o) m e n in record {
-      stream = server_grows (going e (map packed_word (flat_map (λ take. take.frames) (takes_from e.mixes n)))) (stream_list c o e tracks n) (hand_list e n) t.stream;
+      stream = server_grows (going e (map packed_word (flat_map (λ take. take.frames) (takes_from e.mixes n)))) (stream_list c o e tracks n) (hand_events_of e n) t.stream;
       commands = server_grows (going e (words_taken (track_in e n).looks)) (command_list c o e tracks n) [] t.commands;
     }
 
@@ -114,7 +114,7 @@ module _ (n : ℕ) where
 
   pub calls_grow : (round : RoundSeen) (run : Run) → n < length run.tracks → RunGrows n run (with_calls round run)
   unfolding with_calls
-  calls_grow round run low = each_grows (λ track t. called (calls_in round track) t) run (with_calls round run) refl low (called_grows (calls_in round n) (told_at run n))
+  calls_grow round run low = each_grows (λ track t. called_in_turn (calls_in round track) t) run (with_calls round run) refl low (called_grows (calls_in round n) (told_at run n))
 
   -- a mix adds to what is recorded
   pub mix_grows : (s : Session) (e : EntrySeen) (run : Run) → n < length run.tracks → RunGrows n run (with_mix s e run)

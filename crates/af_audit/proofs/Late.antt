@@ -1,6 +1,6 @@
 -- Entries that follow without the state that a turn pushes show no more of a track than they do with it.
 use Rattle.std.proofs.Common.{◌≡◌, ◌⊎◌, inl, inr, ℕ, ◌<◌, ◌≤◌, ◌==◌, ◌&&◌, Bool, true, ◌++◌, length, Option, Some, None, refl, sym, ap, ◌∙◌, subst, eqb-true, eq-eqb, arith}
-use Rattle.af_audit.proofs.Common.{BlockTold, CarriesApart, EntrySeen, FastState, FastTrack, Listed, Run, Session, TrackTold, both as both-true, carries, cycle_events, cycle_frames, entry_slot, front_of, is_shown, listed, mixed_track, played, plays, plays_track, slot_for, slot_of, slots, state_for, told_at, told_each, with_cycle, with_mix, with_poll}
+use Rattle.af_audit.proofs.Common.{BlockTold, CarriesApart, EntrySeen, FastState, FastTrack, Listed, Run, Session, TrackTold, both as both-true, carries, cycle_events, cycle_frames, entry_slot, front_of, is_shown, listed, mixed_track, played, shows_slot, plays_track, slot_playing, slot_of, slots, state_for, told_at, told_each, with_cycle, with_mix, with_poll}
 use Rattle.af_audit.proofs.Growing.{grows_cycle, run_told}
 use Rattle.af_audit.proofs.TrackStands.{server-server}
 use Rattle.af_audit.proofs.Measure.{Measure, of_run, of_server}
@@ -14,14 +14,14 @@ pub record PlaysAt (x : FastState) (e : EntrySeen) (n j : ℕ) : Type 0 where
   pub shown : is_shown (entry_slot e.entry j).seen ≡ true
   pub track : (slot_of x j).track ≡ n
 
-pub plays_at : (x : FastState) (e : EntrySeen) (n j : ℕ) → slot_for x e.entry n ≡ Some j → PlaysAt x e n j
+pub plays_at : (x : FastState) (e : EntrySeen) (n j : ℕ) → slot_playing x e.entry n ≡ Some j → PlaysAt x e n j
 plays_at x e n j found =
     let at = found_at (plays_track x e.entry n) 0 slots j found in
-    let here = both-true (plays x e.entry j) ((slot_of x j).track == n) at.holds in
+    let here = both-true (shows_slot x e.entry j) ((slot_of x j).track == n) at.holds in
     let both = both-true (carries x j) (is_shown (entry_slot e.entry j).seen) here.0 in
     record { low = (let h = at.high in omega (arith, h)); carried = both.0; shown = both.1; track = eqb-true (slot_of x j).track n here.1 }
 
-pub plays_none : (x : FastState) (e : EntrySeen) (n j : ℕ) → slot_for x e.entry n ≡ None → PlaysAt x e n j → ⊥
+pub plays_none : (x : FastState) (e : EntrySeen) (n j : ℕ) → slot_playing x e.entry n ≡ None → PlaysAt x e n j → ⊥
 plays_none x e n j none p =
     let same : ((slot_of x j).track == n) ≡ true = eq-eqb (slot_of x j).track n p.track in
     none_found (plays_track x e.entry n) 0 slots j none (omega arith) (let l = p.low in omega (arith, l)) (ap (λ (b : Bool × Bool × Bool). (b.0 && b.1) && b.2) (λ i. (p.carried i, p.shown i, same i)))
@@ -63,7 +63,7 @@ module _ (measure : Measure) where
       one_slot : (j k : ℕ) → PlaysAt y e n j → PlaysAt y e n k → j ≡ k
       one_slot j k p q = apart j k p.low q.low p.carried q.carried (p.track ∙ sym q.track)
 
-      streams_step : (asked : ℕ) (t u : TrackTold) (o p : Option ℕ) → slot_for x e.entry n ≡ o → slot_for y e.entry n ≡ p
+      streams_step : (asked : ℕ) (t u : TrackTold) (o p : Option ℕ) → slot_playing x e.entry n ≡ o → slot_playing y e.entry n ≡ p
           → (listed t.stream ≡ listed u.stream) ⊎ (Never × (of_server measure (listed t.stream) ≤ of_server measure (listed u.stream)))
           → (let v : TrackTold = elim p as (λ o. TrackTold) [ None ↦ u | Some i ↦ record u { stream = played asked e i u.stream } ] in of_server measure (listed u.stream) ≤ of_server measure (listed v.stream))
           → (let w : TrackTold = elim o as (λ o. TrackTold) [ None ↦ t | Some i ↦ record t { stream = played asked e i t.stream } ] in
@@ -100,6 +100,6 @@ module _ (measure : Measure) where
             there = (let m = (grows_cycle s e a).many in let t = h.there in omega (arith, m, t));
             also = (let m = (grows_cycle s e b).many in let t = h.also in omega (arith, m, t));
             behind = subst (λ (w : TrackTold × TrackTold). (listed w.0.stream ≡ listed w.1.stream) ⊎ (Never × (of_server measure (listed w.0.stream) ≤ of_server measure (listed w.1.stream)))) (λ z. (sym one z, sym two z))
-                (streams_step (cycle_frames s) (told_at a n) (told_at b n) (slot_for x e.entry n) (slot_for y e.entry n) refl refl h.behind
+                (streams_step (cycle_frames s) (told_at a n) (told_at b n) (slot_playing x e.entry n) (slot_playing y e.entry n) refl refl h.behind
                 (subst (λ (v : TrackTold). of_run measure b n ≤ of_server measure (listed v.stream)) two grows));
           }

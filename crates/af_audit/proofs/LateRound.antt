@@ -1,6 +1,6 @@
 -- What the list of a track's server shows by the end of a round, if its entries follow without the turn.
 use Rattle.std.proofs.Common.{◌≡◌, inl, ℕ, suc, ◌+◌, ◌<◌, ◌≤◌, if◌then◌else◌, Bool, true, false, List, [], ◌∷◌, ◌++◌, length, drop, Some, refl, sym, ap, ◌∙◌, subst, append-nil, arith}
-use Rattle.af_audit.proofs.Common.{CarriesApart, EntrySeen, FastState, LegalEntries, Marks, Outside, RoundSeen, Run, SameSlots, ServerEvent, Session, Setup, TrackTold, Turn, TurnFound, after_edits, at_last, before_turn, beyond_is, carries, cycle_frames, each_at, early_count, early_of, fold-append, hand_does, hand_list, is_early, is_pushed, late_of, learnt, listed, no_track, outside_of, prefix_len, server_list, setup_of, slot_of, slots, state_at, stream_list, take-append-drop, told_at, tracks_at, turned_track, with_calls, with_cycles, with_poll, with_turn}
+use Rattle.af_audit.proofs.Common.{CarriesApart, EntrySeen, FastState, LegalEntries, Marks, Outside, RoundSeen, Run, SameSlots, ServerEvent, Session, Setup, TrackTold, Turn, TurnFound, after_edits, at_last, before_turn, beyond_is, carries, cycle_frames, each_at, early_count, early_of, fold-append, hand_does, hand_events_of, is_early, is_pushed, late_of, learnt, listed, no_track, outside_of, prefix_len, server_list, setup_of, slot_of, slots, state_at, stream_list, take-append-drop, told_at, tracks_at, turned_track, with_calls, with_cycles, with_poll, with_turn}
 use Rattle.af_audit.proofs.Growing.{run_told, grows_turned}
 use Rattle.af_audit.proofs.TrackStands.{hand-server, server-server}
 use Rattle.af_audit.proofs.Late.{Behind, behind_told}
@@ -55,7 +55,7 @@ module _ (measure : Measure) where
         let es : List ServerEvent = stream_list c o e (tracks_at c (learnt o) a.normal e n) n in
         let at : told_at b n ≡ turned_track c o a.normal e n t = each_at (turned_track c o a.normal e) 0 a.tracks n n no_track low (omega arith) in
         sym (ap (λ (u : TrackTold). listed u.stream) at
-        ∙ ap (λ (l : List ServerEvent). record { shape = t.stream.shape; events = l }) (server-server (hand_does (hand_list e n) t.stream).told es ∙ ap (λ (l : List ServerEvent). l ++ es) (hand-server t.stream.told (hand_list e n)) ∙ ap (λ (l : List ServerEvent). server_list t.stream ++ l) none ∙ append-nil (server_list t.stream)))
+        ∙ ap (λ (l : List ServerEvent). record { shape = t.stream.shape; events = l }) (server-server (hand_does (hand_events_of e n) t.stream).told es ∙ ap (λ (l : List ServerEvent). l ++ es) (hand-server t.stream.told (hand_events_of e n)) ∙ ap (λ (l : List ServerEvent). server_list t.stream ++ l) none ∙ append-nil (server_list t.stream)))
 
     -- the entries after the turn are of the state that it pushed, and a slot that the draft carries before it and that state too is the same in both
     module _ (low : n < length a.tracks) (quiet : stream_list c o e (tracks_at c (learnt o) a.normal e n) n ≡ []) (stays : SameSlots (after_edits (setup_of s) (learnt (outside_of (setup_of s) f e)) e a.normal).draft a.normal.draft)

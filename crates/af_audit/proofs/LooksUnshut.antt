@@ -3,7 +3,7 @@ use Rattle.std.proofs.Common.{◌≡◌, ℕ, ◌-◌, ◌^◌, ◌≤◌, ◌==
 use Rattle.af_audit.proofs.Common.{Alike, CommandLook, LegalLooks, Listed, LooksBy, Seen, ServerEvent, ServerKept, Shape, SlotEntry, ahead, all_command_events, as_slot, both_true, command_events, cycle_events, dropped_by, fold-append, front_of, fronts_by, is_noticed, is_shut, kept, kept_more, list_all, look_at, look_events, looks_alike, none-some, outside, server_keeps, server_kept, shows_command, step_alike, takes_command, tally}
 use Rattle.af_base.specs.declared.event.ServerEvent.TheVariants as server
 use Rattle.af_base.specs.declared.seen.Seen.TheVariants as seen
-use Rattle.af_model.specs.Cycles.{after_look}
+use Rattle.af_model.specs.Cycles.{events_behind_look}
 
 -- ## Events
 
@@ -36,7 +36,7 @@ module _ (shape : Shape) where
   stay_shut false k = refl
 
   -- what follows a look looks at no front
-  pub stay_after : (asked : ℕ) (was : Bool) (answer : Seen) → Stay (after_look asked was answer)
+  pub stay_after : (asked : ℕ) (was : Bool) (answer : Seen) → Stay (events_behind_look asked was answer)
   stay_after asked was seen.Absent k = refl
   stay_after asked was (seen.Flushed dropped) k = refl
   stay_after asked was (seen.Shut front rear) k = stay_shut was k
@@ -130,7 +130,7 @@ module _ (asked : ℕ) (s : Listed) (slot : SlotEntry) (front : ℕ) (looks : Lo
 
   -- if a server isn't shut after a cycle, it wasn't before it, and its look wasn't Shut
   pub unshut_cycle : shut_after s.shape (kept s) (cycle_events asked s slot told) ≡ None → ((kept s).shut ≡ None) × (is_shut slot.seen ≡ false)
-  unshut_cycle fine = open_look (server.SawGain slot.gains ∷ []) (after_look asked (is_some (kept s).shut) slot.seen) (λ k. refl) (stay_after s.shape asked (is_some (kept s).shut) slot.seen) (λ k. refl) fine
+  unshut_cycle fine = open_look (server.SawGain slot.gains ∷ []) (events_behind_look asked (is_some (kept s).shut) slot.seen) (λ k. refl) (stay_after s.shape asked (is_some (kept s).shut) slot.seen) (λ k. refl) fine
 
 -- ## The looks at a command block
 

@@ -4,7 +4,7 @@ use Rattle.af_audit.proofs.Common.{BlockTold, ClientEvent, ClientMay, HasBlockHi
 use Rattle.af_base.specs.declared.event.ClientEvent.TheVariants as client
 use Rattle.af_base.specs.declared.event.HandEvent.TheVariants as hand
 use Rattle.af_base.specs.declared.event.ServerEvent.TheVariants as server
-use Rattle.af_model.specs.History.{is_tame}
+use Rattle.af_model.specs.History.{is_no_poke}
 use Rattle.af_audit.specs.Fates.{DropsByFlush}
 use Rattle.af_audit.specs.Known.{most_seen}
 use Rattle.af_audit.specs.Settled.{DiscardsAbove}
@@ -13,7 +13,7 @@ use Rattle.af_audit.proofs.Grown.{Grows, grows_twice, grows_none, ends_grow, mee
 
 -- ## No poke
 
-may_tame : (p : TrackPoint) (others : ℕ) (e : ClientEvent) → ClientMay p others e → is_tame e ≡ true
+may_tame : (p : TrackPoint) (others : ℕ) (e : ClientEvent) → ClientMay p others e → is_no_poke e ≡ true
 may_tame p others (client.Poke word value) may = absurd may
 may_tame p others _ may = refl
 

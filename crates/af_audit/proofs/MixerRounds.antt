@@ -1,6 +1,6 @@
 -- What a legal round keeps of the normal mixer, and what its turn does if the draft says Exit after it.
 use Rattle.std.proofs.Common.{◌≡◌, ℕ, Bool, true, false, if◌then◌else◌, nat_le, List, [], ◌∷◌, length, map, Option, Some, None, refl, sym, ap, ◌∙◌, subst, arith}
-use Rattle.af_audit.proofs.Common.{Learnt, LegalRound, Marks, NormalKept, RoundSeen, Run, Session, Setup, TakeSeen, Turn, after_edits, after_round, asked, found_in, is_exit, learnt, outside_of, pipe_size, setup_of, tracks_due}
+use Rattle.af_audit.proofs.Common.{Learnt, LegalRound, Marks, NormalKept, RoundSeen, Run, Session, Setup, TakeSeen, Turn, after_edits, after_round, asked, found_in, commands_exit, learnt, outside_of, pipe_size, setup_of, tracks_due}
 use Rattle.af_audit.proofs.DoneTracks.{done_here}
 use Rattle.af_audit.proofs.MixerEnds.{EndsHome, edited_ends, exit_room, turn_ends}
 use Rattle.af_audit.proofs.MixerTurns.{mixer_after, round_normal, turn_legal}
@@ -19,9 +19,9 @@ module _ (cut : Bool) (s : Session) (marks : Marks) (run : Run) (round : RoundSe
   pub round_ends : EndsHome (after_round s run round).normal
   round_ends = subst EndsHome (sym (round_normal s run round)) (turned_ends round.turn refl)
 
-  module _ (exit : is_exit (after_round s run round).normal.draft ≡ true) where
+  module _ (exit : commands_exit (after_round s run round).normal.draft ≡ true) where
     abbrev Exits : NormalKept → Type 0
-    Exits m = is_exit m.draft ≡ true
+    Exits m = commands_exit m.draft ≡ true
 
     -- if the round has no turn, the draft said Exit before the round
     pub said_without : round.turn ≡ None → Exits run.normal
@@ -35,14 +35,14 @@ module _ (cut : Bool) (s : Session) (marks : Marks) (run : Run) (round : RoundSe
       exits_turned = subst Exits (round_normal s run round ∙ ap (mixer_after s run round) is) exit
 
       pub said_ended : e.ended ≡ true → Exits run.normal
-      said_ended ended = sym (ap is_exit (draft_ends c k run.normal e ended)) ∙ exits_turned
+      said_ended ended = sym (ap commands_exit (draft_ends c k run.normal e ended)) ∙ exits_turned
 
       module _ (runs : e.ended ≡ false) where
         edits_exit : Exits (after_edits c k e run.normal)
-        edits_exit = sym (ap is_exit (draft_goes c k run.normal e runs)) ∙ exits_turned
+        edits_exit = sym (ap commands_exit (draft_goes c k run.normal e runs)) ∙ exits_turned
 
         -- if the draft didn't say Exit before the turn, the turn saw the whole room
-        pub saw_room : is_exit run.normal.draft ≡ false → e.room ≡ pipe_size c
+        pub saw_room : commands_exit run.normal.draft ≡ false → e.room ≡ pipe_size c
         saw_room not_yet = exit_room c k run.normal e not_yet edits_exit
 
         -- a turn that goes on and leaves a draft that says Exit mixed nothing

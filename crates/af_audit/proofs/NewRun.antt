@@ -1,6 +1,6 @@
 -- What is kept before the first round is kept of the run before it.
 use Rattle.std.proofs.Common.{◌≡◌, ℕ, ◌<◌, Bool, List, [], length, arith, refl, sym, ap, subst, ◌∙◌}
-use Rattle.af_audit.proofs.Common.{BesideQueue, BlockJudged, FastKept, FastOf, IsBlockOf, IsJudged, IsScript, IsServedBlock, IsServedTrack, IsTrackOf, KeepsTracks, QueueGoes, ReportKept, RoundSeen, Session, Shape, TrackJudge, TrackTold, beside_first, block_begins, command_shape, fast_new, kept_new, length-map-range_with_len, marks_of, new_at, new_block, new_judged, new_run, new_track, pipe_cells, pipe_size, queue_first, setup_of, sides_of, spec_of, stream_shape, track_count}
+use Rattle.af_audit.proofs.Common.{BesideQueue, BlockJudged, FastKept, FastOf, IsBlockOf, IsJudged, IsScript, IsServedBlock, IsServedTrack, IsTrackOf, KeepsTracks, QueueGoes, ReportKept, RoundSeen, Session, Shape, TrackJudge, TrackTold, beside_first, block_begins, command_shape, fast_new, kept_new, length-map-range_with_len, marks_of, new_at, new_block, new_judged, new_run, new_told_track, pipe_cells, pipe_size, queue_first, setup_of, sides_of, spec_of, stream_shape, track_count}
 use Rattle.af_model.specs.ClientCalls as list
 use Rattle.af_audit.specs.declared.run_judge.RunJudge.{RunJudge}
 use Rattle.af_audit.specs.RunKept.{AreFit, AreNewTracks, IsFit, IsNewJudge, IsNewTrack, KeepsRun}
@@ -12,26 +12,26 @@ served_new : (shape : Shape) (lawful : Bool) → IsServedBlock (new_judged shape
 served_new shape lawful = record { shape = refl; server = refl; hand = refl; taken = refl; whole = refl; follow = tt }
 
 -- a new track is kept of the run's
-new_served : (s : Session) (rounds : List RoundSeen) (i : ℕ) (t : TrackJudge) → IsNewTrack s.script rounds i t → IsServedTrack (marks_of rounds) i t (new_track s i)
+new_served : (s : Session) (rounds : List RoundSeen) (i : ℕ) (t : TrackJudge) → IsNewTrack s.script rounds i t → IsServedTrack (marks_of rounds) i t (new_told_track s i)
 new_served s rounds i t new = record {
-  stream = subst (λ (j : BlockJudged). IsServedBlock j (new_track s i).stream) (sym new.stream) (served_new (stream_shape s.script.version (spec_of s i)) ((marks_of rounds).streams i));
-  commands = subst (λ (j : BlockJudged). IsServedBlock j (new_track s i).commands) (sym new.commands) (served_new command_shape ((marks_of rounds).commands i));
+  stream = subst (λ (j : BlockJudged). IsServedBlock j (new_told_track s i).stream) (sym new.stream) (served_new (stream_shape s.script.version (spec_of s i)) ((marks_of rounds).streams i));
+  commands = subst (λ (j : BlockJudged). IsServedBlock j (new_told_track s i).commands) (sym new.commands) (served_new command_shape ((marks_of rounds).commands i));
   lawful_stream = sym (ap (λ (j : BlockJudged). j.lawful) new.stream);
   lawful_commands = sym (ap (λ (j : BlockJudged). j.lawful) new.commands);
   wrap_stream = new.wrap;
   wrap_commands = omega arith;
 }
 
-new_whole : (s : Session) (rounds : List RoundSeen) (i : ℕ) (t : TrackJudge) → IsNewTrack s.script rounds i t → IsTrackOf (spec_of s i).ops t (new_track s i)
+new_whole : (s : Session) (rounds : List RoundSeen) (i : ℕ) (t : TrackJudge) → IsNewTrack s.script rounds i t → IsTrackOf (spec_of s i).ops t (new_told_track s i)
 new_whole s rounds i t new = record {
-  client = (new.client (new_track s i).file).client;
-  stream = subst (λ (j : BlockJudged). IsBlockOf j (new_track s i).stream) (sym new.stream) (block_begins (stream_shape s.script.version (spec_of s i)) ((marks_of rounds).streams i));
-  commands = subst (λ (j : BlockJudged). IsBlockOf j (new_track s i).commands) (sym new.commands) (block_begins command_shape ((marks_of rounds).commands i));
+  client = (new.client (new_told_track s i).file).client;
+  stream = subst (λ (j : BlockJudged). IsBlockOf j (new_told_track s i).stream) (sym new.stream) (block_begins (stream_shape s.script.version (spec_of s i)) ((marks_of rounds).streams i));
+  commands = subst (λ (j : BlockJudged). IsBlockOf j (new_told_track s i).commands) (sym new.commands) (block_begins command_shape ((marks_of rounds).commands i));
 }
 
 pub new_keeps : (s : Session) (rounds : List RoundSeen) (tracks : List TrackJudge) → length tracks ≡ track_count s → AreNewTracks s.script rounds (track_count s) tracks → KeepsTracks s (marks_of rounds) (λ i. Unit {0}) tracks (new_run s)
 new_keeps s rounds tracks many new = record {
-  many = many ∙ sym (length-map-range_with_len (new_track s) 0 (track_count s));
+  many = many ∙ sym (length-map-range_with_len (new_told_track s) 0 (track_count s));
   all = many;
   served = λ i t at. let lt : i < track_count s = (let a = at.0 in omega (arith, a, many)) in subst (IsServedTrack (marks_of rounds) i t) (sym (new_at s i lt)) (new_served s rounds i t (new i t lt at));
   whole = λ i t at yes. let lt : i < track_count s = (let a = at.0 in omega (arith, a, many)) in subst (IsTrackOf (spec_of s i).ops t) (sym (new_at s i lt)) (new_whole s rounds i t (new i t lt at));

@@ -1,8 +1,8 @@
 -- The states of a run get newer with each turn.
 use Rattle.std.proofs.Common.{◌≡◌, ◌⊎◌, inl, inr, ℕ, zero, suc, ◌+◌, ◌≤◌, if◌then◌else◌, Bool, true, false, List, [], ◌∷◌, length, refl, sym, ap, ◌∙◌, subst, arith}
-use Rattle.af_audit.proofs.Common.{Busy, Clean, Command, FastState, FastTrack, Learnt, NormalKept, Push, Pushed, Setup, Turn, after_ack, after_edits, after_push, after_takes, after_tracks, attached, code_of, commanded as with_command, edited, edited_to, lend, let_go, must_enter, must_leave, mutated, ordered, setting_of, slice_index_or, slice_set, slot_number, slot_of, track_at, turn_after}
+use Rattle.af_audit.proofs.Common.{Busy, Clean, Command, FastState, FastTrack, Learnt, NormalKept, Push, Pushed, Setup, Turn, after_ack, after_edits, after_push, after_takes, after_tracks, attached, code_of, draft_commanded as with_command, edited, edited_to, lend, let_go, must_enter, must_leave, mutated, ordered, setting_of, slice_index_or, slice_set, slot_number, slot_of, track_at, turn_after}
 use Rattle.std.specs.Prelude.{◌==◌}
-use Rattle.af_model.specs.StateQueue.{no_track}
+use Rattle.af_model.specs.StateQueue.{no_fast_track}
 
 -- no slot of the first has a later generation, and one of the same generation is the same
 pub record IsOlder (x y : FastState) : Type 0 where
@@ -23,12 +23,12 @@ older_both x y z h g = record {
 
 -- ## Edits
 
-slot_set : (xs : List FastTrack) (k : ℕ) (t : FastTrack) (i : ℕ) → ((i ≡ k) × (slice_index_or (slice_set xs k t) i no_track ≡ t)) ⊎ (slice_index_or (slice_set xs k t) i no_track ≡ slice_index_or xs i no_track)
+slot_set : (xs : List FastTrack) (k : ℕ) (t : FastTrack) (i : ℕ) → ((i ≡ k) × (slice_index_or (slice_set xs k t) i no_fast_track ≡ t)) ⊎ (slice_index_or (slice_set xs k t) i no_fast_track ≡ slice_index_or xs i no_fast_track)
 slot_set [] k t i = inr refl
 slot_set (x ∷ xs) zero t zero = inl (refl, refl)
 slot_set (x ∷ xs) zero t (suc i) = inr refl
 slot_set (x ∷ xs) (suc k) t zero = inr refl
-slot_set (x ∷ xs) (suc k) t (suc i) = elim (slot_set xs k t i) as (λ w. ((suc i ≡ suc k) × (slice_index_or (slice_set xs k t) i no_track ≡ t)) ⊎ (slice_index_or (slice_set xs k t) i no_track ≡ slice_index_or xs i no_track)) [
+slot_set (x ∷ xs) (suc k) t (suc i) = elim (slot_set xs k t i) as (λ w. ((suc i ≡ suc k) × (slice_index_or (slice_set xs k t) i no_fast_track ≡ t)) ⊎ (slice_index_or (slice_set xs k t) i no_fast_track ≡ slice_index_or xs i no_fast_track)) [
   | inl p ↦ inl (ap suc p.0, p.1)
   | inr q ↦ inr q
 ]

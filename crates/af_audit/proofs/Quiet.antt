@@ -1,6 +1,6 @@
 -- A turn does nothing to the stream block of a track whose proxy is away.
 use Rattle.std.proofs.Common.{◌≡◌, inl, inr, ℕ, zero, suc, ◌==◌, ◌&&◌, not, if◌then◌else◌, is_some, Bool, true, false, List, [], ◌∷◌, ◌++◌, length, map, refl, sym, ap, ◌∙◌, subst, eqb-true, arith}
-use Rattle.af_audit.proofs.Common.{AllByRecursion, Command, FastState, IsSound, Learnt, LegalTurn, NormalKept, Outside, Returning, Setup, TakeSeen, TrackKept, TrackSeen, Turn, after_ack, after_edits, after_tracks, asked as buffer, at_set, code_of, commanded as with_command, cycle_events, edited, edited_to, entered, filter, flat_map, goes_served, invalid, is_home, is_mixed_here, learnt, lend, lent_by, let_go, mix_events, mixed_here, must_enter, must_leave, mutated, nat_le, no, not_yet, ordered, range_with_len, seen_at, served, served_to, slice_set, slot_of_away, sound_acked, sound_served, stream_list, takes_from, track_at, track_in, tracks_at}
+use Rattle.af_audit.proofs.Common.{AllByRecursion, Command, FastState, IsSound, Learnt, LegalTurn, NormalKept, Outside, Returning, Setup, TakeSeen, TrackKept, TrackSeen, Turn, after_ack, after_edits, after_tracks, asked as buffer, at_set, code_of, draft_commanded as with_command, cycle_events, edited, edited_to, entered, filter, flat_map, goes_served, invalid, is_home, is_mixed_here, learnt, lend, lent_by, let_go, mix_events, mixed_here, must_enter, must_leave, mutated, nat_le, no, not_yet, ordered, range_with_len, seen_at, served, served_to, slice_set, slot_of_away, sound_acked, sound_served, stream_list, takes_from, track_at, track_in, tracks_at}
 use Rattle.af_life.specs.Kept.{plays}
 
 abbrev HasSlot : ℕ → List TrackKept → Type 0

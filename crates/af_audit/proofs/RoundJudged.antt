@@ -1,7 +1,7 @@
 -- What is found of a round is the least party that isn't clear, and if none is found what is kept is kept of the run after the round.
 use Rattle.std.specs.Prelude.{◌↔◌}
 use Rattle.std.proofs.Common.{◌≡◌, ℕ, ◌+◌, ◌<◌, ◌≤◌, ◌==◌, ◌&&◌, ◌||◌, zero, suc, drop, nat_lt, Bool, true, false, true≢false, IsTrue, List, [], length, Option, None, arith, refl, sym, ap, subst, ◌∙◌}
-use Rattle.af_audit.proofs.Common.{AreRight, AreShort, BesideQueue, BothKeep, EntrySeen, FastOf, IsFastLegal, IsFastTurn, IsTrackAt, KeepsTracks, LegalEntries, LegalFastTurn, LegalNormalTurn, Marks, MatchBool, NormalKept, NormalOf, QueueOf, Report, RoundSeen, Run, Session, SharedHistories, StatesKept, TrackHistories, TrackJudge, after_round, after_turn, all_ended, all_played, beside_ended, beside_met, blocks_met, carries_track, early_count, early_of, ends_same, fast_ended, fast_met, fast_party, fast_same, fills, goes_ended, is_home, late_of, met, met_after, met_normal as met-normal, most_cycles, nat_tests, normal_party, queue_met_so, round_used, same_track, shared_judged, sides_of, spec_of, state_at, takes_part, told_at, track_at, track_count, track_judged, tracks_met, with_calls, with_meeting}
+use Rattle.af_audit.proofs.Common.{AreRight, AreShort, BesideQueue, BothKeep, EntrySeen, FastOf, IsFastLegal, IsFastTurn, IsTrackAt, KeepsTracks, LegalEntries, LegalFastTurn, LegalNormalTurn, Marks, MatchBool, NormalKept, NormalOf, QueueOf, Report, RoundSeen, Run, Session, SharedHistories, StatesKept, TrackHistories, TrackJudge, after_round, after_turn, all_ended, all_played, beside_ended, beside_met, blocks_met, carries_track, early_count, early_of, ends_same, fast_ended, fast_met, fast_party, fast_same, fills, goes_ended, is_home, late_of, met, met_after, met_normal as met-normal, most_round_cycles, nat_tests, normal_party, queue_met_so, round_used, same_track, shared_judged, sides_of, spec_of, state_at, takes_part, told_at, track_at, track_count, track_judged, tracks_met, with_calls, with_meeting}
 use Rattle.af_audit.specs.declared.run_judge.Found.{Found}
 use Rattle.af_audit.specs.declared.run_judge.RunJudge.{RunJudge}
 use Rattle.af_audit.specs.MeetingsJudged.{Keeps, TracksMet, is_there, mixers_met}
@@ -86,7 +86,7 @@ late_legal cut s marks run round turn = by_case (fast_ended run) turn
     none es zero is = is
     none es (suc n) is = ap (λ (l : List EntrySeen). drop (suc n) l) is
 
-    by_case : (b : Bool) → MatchBool b (round.entries ≡ []) (IsFastTurn most_cycles (cut && fills s run round) round.entries × LegalEntries s marks (with_calls round run) (early_of run round) × LegalEntries s marks (after_turn s run round) (late_of run round))
+    by_case : (b : Bool) → MatchBool b (round.entries ≡ []) (IsFastTurn most_round_cycles (cut && fills s run round) round.entries × LegalEntries s marks (with_calls round run) (early_of run round) × LegalEntries s marks (after_turn s run round) (late_of run round))
         → LegalEntries s marks (after_turn s run round) (late_of run round)
     by_case true is = subst (LegalEntries s marks (after_turn s run round)) (sym (none round.entries (early_count run round) is)) tt
     by_case false h = h.2

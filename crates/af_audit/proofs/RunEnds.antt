@@ -1,7 +1,7 @@
 -- A run so far in which all parties have ended is a legal run.
 use Rattle.std.specs.Prelude.{◌≡◌, ◌<◌, ◌+◌, ◌==◌, ◌||◌, if◌then◌else◌, ◌∷◌, ◌++◌}
 use Rattle.std.proofs.Common.{subst, sym, ap, ◌∙◌, arith, length-append, inl, inr}
-use Rattle.af_audit.proofs.Common.{AreMixedBut, Bool, CycleEntry, EntrySeen, Frame, IsFastTurn, JournalData, LegalRound, LegalRounds, List, Marks, MatchBool, RoundSeen, Run, ScriptData, Session, [], after_round, all_ended, false, fast_ended, fast_party, fills, fold, has_exit, is_mixed, length, marks_of, most_cycles, nat_lt, nat_tests, new_run, normal_party, refl, run_from, session_of, suc, told_at, true, ℕ}
+use Rattle.af_audit.proofs.Common.{AreMixedBut, Bool, CycleEntry, EntrySeen, Frame, IsFastTurn, JournalData, LegalRound, LegalRounds, List, Marks, MatchBool, RoundSeen, Run, ScriptData, Session, [], after_round, all_ended, false, fast_ended, fast_party, fills, fold, has_exit, is_mixed, length, marks_of, most_round_cycles, nat_lt, nat_tests, new_run, normal_party, refl, run_from, session_of, suc, told_at, true, ℕ}
 use Rattle.af_audit.proofs.Basics.{seen_map}
 use Rattle.af_base.specs.declared.log.Cycle.TheVariants as cycle
 use Rattle.af_model.specs.Cycles.{is_exit}
@@ -50,7 +50,7 @@ choose : {A B C D : Type 0} (b : Bool) → (A → C) → (b ≡ false → B → 
 choose {A} {B} {C} {D} b f g = (elim b as (λ x. (x ≡ false → B → D) → MatchBool x A B → MatchBool x C D) [ true ↦ λ g. f | false ↦ λ g. g refl ]) g
 
 -- a legal round is legal without a cut, if its fast turn has the length of one without a cut
-uncut : (s : Session) (marks : Marks) (run : Run) (round : RoundSeen) → (fast_ended run ≡ false → IsFastTurn most_cycles (fills s run round) round.entries → IsFastTurn most_cycles false round.entries)
+uncut : (s : Session) (marks : Marks) (run : Run) (round : RoundSeen) → (fast_ended run ≡ false → IsFastTurn most_round_cycles (fills s run round) round.entries → IsFastTurn most_round_cycles false round.entries)
     → LegalRound true s marks run round → LegalRound false s marks run round
 uncut s marks run round f legal = record {
   follows = legal.follows;
@@ -65,7 +65,7 @@ not-full s run round room =
     grind (arith, nat_tests, count, room)
 
 -- if the fast mixer ends in a round, its last entry is no mix
-ends-uncut : (s : Session) (run : Run) (round : RoundSeen) → fast_ended (after_round s run round) ≡ true → fast_ended run ≡ false → (full : Bool) → IsFastTurn most_cycles full round.entries → IsFastTurn most_cycles false round.entries
+ends-uncut : (s : Session) (run : Run) (round : RoundSeen) → fast_ended (after_round s run round) ≡ true → fast_ended run ≡ false → (full : Bool) → IsFastTurn most_round_cycles full round.entries → IsFastTurn most_round_cycles false round.entries
 ends-uncut s run round ended going full turn =
     let on : has_exit (run.entries ++ bare round.entries) ≡ true = subst (λ es. has_exit es ≡ true) (round-entries s run round) ended in
     let from : fold (λ found entry. found || is_exit entry.cycle) (has_exit run.entries) (bare round.entries) ≡ true = sym (exits-append false run.entries (bare round.entries)) ∙ on in
@@ -76,7 +76,7 @@ pub rounds-uncut : (s : Session) (marks : Marks) (run : Run) (rounds : List Roun
 rounds-uncut s marks run [] legal ends = tt
 rounds-uncut s marks run (round ∷ []) legal ends = (uncut s marks run round (λ going. ends-uncut s run round (fast-ended s (after_round s run round) ends) going (fills s run round)) legal.0, tt)
 rounds-uncut s marks run (round ∷ next ∷ rounds) legal ends =
-    (uncut s marks run round (λ going. subst (λ b. IsFastTurn most_cycles b round.entries) (not-full s run round legal.1.0.follows.room)) legal.0, rounds-uncut s marks (after_round s run round) (next ∷ rounds) legal.1 ends)
+    (uncut s marks run round (λ going. subst (λ b. IsFastTurn most_round_cycles b round.entries) (not-full s run round legal.1.0.follows.room)) legal.0, rounds-uncut s marks (after_round s run round) (next ∷ rounds) legal.1 ends)
 
 pub legal_at_the_end : (script : ScriptData) (files : List (List Frame)) (j : JournalData) → LegalAtTheEnd script files j
 legal_at_the_end script files j so_far ends = record {

@@ -1,6 +1,6 @@
 -- What holds of a track and of the normal mixer through the legal rounds of a run.
 use Rattle.std.proofs.Common.{◌≡◌, inl, inr, ℕ, ◌<◌, ◌==◌, ◌&&◌, ◌||◌, Bool, true, false, if◌then◌else◌, List, [], ◌∷◌, length, All, Option, Some, None, refl, sym, ap, ◌∙◌, subst, eqb-true, arith}
-use Rattle.af_audit.proofs.Common.{All-head, All-tail, BlockTold, CycleEntry, EntrySeen, FastState, HasBlockHistory, IsRound, IsTurn, LegalEntries, LegalEntry, LegalRound, LegalRounds, LegalTurnBy, LooksBy, Marks, MatchOption, NormalKept, Outside, RoundSeen, Run, Session, SlotEntry, TrackTold, TracksRise, Turn, TurnFound, absent, after_round, after_turn, all_played, before_turn, both, calls_in, carries, cycle_beside, cycle_frames, cycle_of, each_at, each_long, each_track, early_of, ends, entry_slot, fast_ended, file_words, fills, found_in, get_or-replicate, holds, is_home, is_mixed, is_poke_on, is_shown, is_tame, late_of, list_any, listed, loaded, met, met_after, met_at, met_many, mixed_track, neither, no, no_track, outside_of, plays, plays_track, run_from, setup_of, slot_for, slot_of, slots, state_for, state_known, state_of, still_entry, takes_part, told_at, told_each, track_at, track_count, turned, turned_track, with_calls, with_cycle, with_cycles, with_ends, with_load, with_mix, with_poll, with_turn}
+use Rattle.af_audit.proofs.Common.{All-head, All-tail, BlockTold, CycleEntry, EntrySeen, FastState, HasBlockHistory, IsRound, IsTurn, LegalEntries, LegalEntry, LegalRound, LegalRounds, LegalTurnBy, LooksBy, Marks, MatchOption, NormalKept, Outside, RoundSeen, Run, Session, SlotEntry, TrackTold, TracksRise, Turn, TurnFound, absent, after_round, after_turn, all_played, before_turn, both, calls_in, carries, cycle_beside, cycle_frames, cycle_of, each_at, each_long, each_track, early_of, ends, entry_slot, fast_ended, file_words, fills, found_in, get_or-replicate, observer_holds, is_home, is_mixed, is_poke_on, is_shown, is_tame, late_of, list_any, listed, loaded, met, met_after, met_at, met_many, mixed_track, neither, no, no_track, outside_of, shows_slot, plays_track, run_from, setup_of, slot_playing, slot_of, slots, state_for, state_known, state_of, still_entry, takes_part, told_at, told_each, track_at, track_count, turned, turned_track, with_calls, with_cycle, with_cycles, with_ends, with_load, with_mix, with_poll, with_turn}
 use Rattle.af_audit.proofs.CallsFollow.{calls_long, told_called}
 use Rattle.af_audit.proofs.MixerEnds.{EndsHome}
 use Rattle.af_audit.proofs.MixerRounds.{round_ends}
@@ -38,10 +38,10 @@ module _ (s : Session) (marks : Marks) (r : Run) (e : EntrySeen) (legal : LegalE
       by_mixed true is = by_state (state_of r.states e.entry.state) refl is
       by_mixed false is = absurd (not_still low (legal.cycle.still is) shown)
 
-  pub entry_looks : slot_for x e.entry n ≡ Some i → Looks
+  pub entry_looks : slot_playing x e.entry n ≡ Some i → Looks
   entry_looks found =
       let at = found_at (plays_track x e.entry n) 0 slots i found in
-      let here = both (plays x e.entry i) ((slot_of x i).track == n) at.holds in
+      let here = both (shows_slot x e.entry i) ((slot_of x i).track == n) at.holds in
       let plays_it = both (carries x i) (is_shown (entry_slot e.entry i).seen) here.0 in
       slot_looks (let h = at.high in omega (arith, h)) plays_it.0 plays_it.1 (eqb-true (slot_of x i).track n here.1)
 
@@ -161,7 +161,7 @@ module _ (cut : Bool) (s : Session) (marks : Marks) (run : Run) (round : RoundSe
 
   history_round : n < track_count s → StandsAt s n (met_after s run round) → HasHistoryAtHome n (after_round s run round)
   history_round low stands = history_ends (met_after s run round) stands.there
-      (λ home. (legal.histories.blocks n low).stream (or_left (is_home (track_at (met_after s run round).normal.tracks n).holder) (holds s (met_after s run round) n) home))
+      (λ home. (legal.histories.blocks n low).stream (or_left (is_home (track_at (met_after s run round).normal.tracks n).holder) (observer_holds s (met_after s run round) n) home))
 
   -- a legal round keeps all that holds of a run
   pub round_stands : n < track_count s → list_any (is_poke_on false) (calls_in round n) ≡ false → RunStands s n run → RunStands s n (after_round s run round)

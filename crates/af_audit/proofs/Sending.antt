@@ -2,7 +2,7 @@
 use Rattle.std.proofs.Common.{◌≡◌, ℕ, ◌-◌, ◌==◌, ◌&&◌, MatchBool, Bool, true, false, fold, List, [], ◌∷◌, ◌++◌, length, refl, sym, ap, ◌∙◌, subst, append-nil, append_assoc, eqb-true, arith}
 use Rattle.af_audit.proofs.Common.{AreCalls, ClientCall, ClientCommand, IsWanted, LegalClientTurn, Track, Want, after_call, after_calls, argument_of, both_first, both_right, most_calls, no, wrapped}
 use Rattle.af_base.specs.declared.event.ClientCall.TheVariants as call
-use Rattle.af_runs.specs.Clients.{code_of}
+use Rattle.af_runs.specs.Clients.{command_code}
 use Rattle.af_runs.specs.declared.want.ClientCommand.TheVariants as command
 use Rattle.af_runs.specs.declared.want.Want.TheVariants as want
 use Rattle.af_audit.specs.Drained.{Sent, sent_by, sent_by_all}
@@ -65,7 +65,7 @@ turn_sends t calls = calls_released t calls
 
 -- ## Wants
 
-send_right : (t : Track) (sending : ClientCommand) (code argument : ℕ) → ((code == code_of sending) && (argument == argument_of t sending)) ≡ true → code ≡ 4 → argument ≡ wrapped (length t.stream.released)
+send_right : (t : Track) (sending : ClientCommand) (code argument : ℕ) → ((code == command_code sending) && (argument == argument_of t sending)) ≡ true → code ≡ 4 → argument ≡ wrapped (length t.stream.released)
 send_right t command.Open code argument h is = absurd (let e : code ≡ 1 = eqb-true code 1 (both_first _ _ h) in omega (arith, e, is))
 send_right t command.Start code argument h is = absurd (let e : code ≡ 2 = eqb-true code 2 (both_first _ _ h) in omega (arith, e, is))
 send_right t command.Pause code argument h is = absurd (let e : code ≡ 3 = eqb-true code 3 (both_first _ _ h) in omega (arith, e, is))

@@ -1,6 +1,6 @@
 -- What each legal round keeps of a command block without a poke.
 use Rattle.std.proofs.Common.{◌≡◌, ℕ, ◌<◌, Bool, true, false, if◌then◌else◌, List, [], ◌++◌, length, Option, Some, None, refl, sym, ap, ◌∙◌, subst, append-nil, arith}
-use Rattle.af_audit.proofs.Common.{BlockTold, ClientCall, HasBlockHistory, LegalRound, LifeStep, Marks, RoundSeen, Run, Session, Setup, Track, TrackTold, Turn, TurnFound, after_round, after_turn, all_played, before_turn, called, calls_in, commands_turned, cycles_beside, each_at, each_track, early_of, ends, found_in, going, is_tame, late_of, learnt, loaded, meets, met_after, met_at, met_many, no_track, outside_of, setup_of, sides_of, told_at, told_each, track_count, track_in, turned, turned_track, with_calls, with_cycles, with_ends, with_load, with_turn, words_taken}
+use Rattle.af_audit.proofs.Common.{BlockTold, ClientCall, HasBlockHistory, LegalRound, LifeStep, Marks, RoundSeen, Run, Session, Setup, Track, TrackTold, Turn, TurnFound, after_round, after_turn, all_played, before_turn, called_in_turn, calls_in, commands_turned, cycles_beside, each_at, each_track, early_of, ends, found_in, going, is_tame, late_of, learnt, loaded, meets, met_after, met_at, met_many, no_track, outside_of, setup_of, sides_of, told_at, told_each, track_count, track_in, turned, turned_track, with_calls, with_cycles, with_ends, with_load, with_turn, words_taken}
 use Rattle.af_audit.proofs.CallsFollow.{told_called}
 use Rattle.af_audit.proofs.SidesKept.{before-many, played_many}
 use Rattle.af_audit.specs.Drained.{Sent, round_steps, sent_in}
@@ -74,7 +74,7 @@ module _ (s : Session) (run : Run) (round : RoundSeen) (n : ℕ) (low : n < leng
   abbrev b : BlockTold
   b = commands_at n run
 
-  start_block : start ≡ (called calls (told_at run n)).commands
+  start_block : start ≡ (called_in_turn calls (told_at run n)).commands
   start_block = ap (λ (x : TrackTold). x.commands) (told_called round run n low)
 
   start_released : start.released ≡ b.released ++ words_sent (sent_in run round n)

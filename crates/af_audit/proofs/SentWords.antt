@@ -5,7 +5,7 @@ use Rattle.af_base.specs.declared.event.ClientCall.TheVariants as call
 use Rattle.af_script.specs.declared.op.Op.TheVariants as op
 use Rattle.af_runs.specs.declared.want.ClientCommand.TheVariants as command
 use Rattle.af_runs.specs.declared.want.Want.TheVariants as want
-use Rattle.af_runs.specs.Clients.{code_of}
+use Rattle.af_runs.specs.Clients.{command_code}
 use Rattle.af_runs.specs.ClientTurns.{called}
 use Rattle.af_audit.proofs.StartWords.{words_of, words_join, OpensFirst, NoneRemoves, RemovesLast, none_join, removes_more, opens_more}
 use Rattle.af_audit.proofs.Sending.{is_sent}
@@ -72,7 +72,7 @@ SentFine (x ∷ xs) c = ((x.0 == REMOVE) ≡ false) ⊎ (c.ended ≡ true)
 other : (code a b : ℕ) → code ≡ a → (a == b) ≡ false → (code == b) ≡ false
 other code a b is apart = ap (λ (n : ℕ). n == b) is ∙ apart
 
-sending_fine : (sending : ClientCommand) (wants : List Want) (c : Client) (n front code argument asked : ℕ) → ((code == code_of sending) && (argument == asked)) ≡ true → SentFine ((code, argument) ∷ []) (after_answer n (want.Send sending) wants c (call.Sent front code argument))
+sending_fine : (sending : ClientCommand) (wants : List Want) (c : Client) (n front code argument asked : ℕ) → ((code == command_code sending) && (argument == asked)) ≡ true → SentFine ((code, argument) ∷ []) (after_answer n (want.Send sending) wants c (call.Sent front code argument))
 sending_fine command.Open wants c n front code argument asked is = inl (other code 1 6 (eqb-true code 1 (both_first (code == 1) (argument == asked) is)) refl)
 sending_fine command.Start wants c n front code argument asked is = inl (other code 2 6 (eqb-true code 2 (both_first (code == 2) (argument == asked) is)) refl)
 sending_fine command.Pause wants c n front code argument asked is = inl (other code 3 6 (eqb-true code 3 (both_first (code == 3) (argument == asked) is)) refl)

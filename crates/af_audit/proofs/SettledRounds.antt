@@ -1,6 +1,6 @@
 -- What is kept of a track through the legal rounds of a run: what its client sent, what its mixer settled, and which flush counts its stream's server had seen by then.
 use Rattle.std.proofs.Common.{◌≡◌, inr, inl, ℕ, ◌<◌, ◌≤◌, true, false, List, [], ◌∷◌, ◌++◌, length, Some, refl, sym, subst, arith, Bool}
-use Rattle.af_audit.proofs.Common.{All, All-get_or, All-head, All-tail, IsRound, IsScript, IsTrack, Learnt, LegalRound, LegalRounds, LegalTurnBy, Marks, NormalKept, RoundSeen, Run, Session, TrackKept, TrackTold, Turn, after_round, after_turn, all_played, at_new, before_turn, calls_in, cycles_beside, early_of, found_in, heard, is_poke_on, late_of, learnt, length-map, length-replicate, list_any, met_after, neither, new_normal, new_run, new_track, no_spec, outside_of, run_from, setup_of, spec_of, spec_setting, told_at, track_at, track_count, tracks_at, with_calls, with_cycles}
+use Rattle.af_audit.proofs.Common.{All, All-get_or, All-head, All-tail, IsRound, IsScript, IsTrack, Learnt, LegalRound, LegalRounds, LegalTurnBy, Marks, NormalKept, RoundSeen, Run, Session, TrackKept, TrackTold, Turn, after_round, after_turn, all_played, at_new, before_turn, calls_in, cycles_beside, early_of, found_in, heard, is_poke_on, late_of, learnt, length-map, length-replicate, list_any, met_after, neither, new_normal, new_run, new_told_track, no_spec, outside_of, run_from, setup_of, spec_of, spec_setting, told_at, track_at, track_count, tracks_at, with_calls, with_cycles}
 use Rattle.af_life.specs.Kept.{new_track as new_mixed}
 use Rattle.af_audit.specs.Known.{most_seen}
 use Rattle.af_audit.proofs.CommandRounds.{CommandsAt, CommandsSo, at_more, calls_at, cycles_at, ends_at, loaded_at, met_at_so, turned_at}
@@ -100,7 +100,7 @@ at_round cut s script marks tracks n low (first ∷ before) round later run form
 -- ## Before the first round
 
 module _ (s : Session) (script : IsScript s.script) (n : ℕ) (low : n < track_count s) where
-  new_commands : (most : ℕ) → CommandsSo most (new_track s n).commands (new_track s n).client new_mixed
+  new_commands : (most : ℕ) → CommandsSo most (new_told_track s n).commands (new_told_track s n).client new_mixed
   new_commands most = record {
     so = record { done = []; taken_are = refl; many = refl; up = omega arith; stands = λ order. record { seen = tt; none = λ absent. refl } };
     statuses = tt;

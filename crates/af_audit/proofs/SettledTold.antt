@@ -1,6 +1,6 @@
 -- In a legal run of a script: if a client saw its START settled, the frames that it released in later rounds are discarded only by looks that saw a flush count above that of the START.
 use Rattle.std.proofs.Common.{◌≡◌, ◌⊎◌, inl, inr, ℕ, ◌+◌, ◌*◌, ◌/◌, ◌<◌, ◌≤◌, true, false, List, ◌∷◌, ◌++◌, take, drop, length, Option, Some, None, refl, sym, ap, ◌∙◌, subst, append_assoc, arith, Bool}
-use Rattle.af_audit.proofs.Common.{All, BlockTold, Client, ClientEvent, Frame, HasBlockHistory, HasHistory, IsLegalRun, IsRound, IsScript, JournalData, LegalRounds, Marks, RoundSeen, Run, START, ScriptData, ServerEvent, Session, Shape, Side, Track, TrackKept, TrackTold, Turn, TurnFound, [], after_calls, after_round, after_turn, all_played, before_turn, both_right, called, calls_in, client_list, cycles_beside, each_at, early_of, found_in, is_lawful, is_lawful_block, is_lawful_track, is_poke_on, late_of, lawful_more, list_any, loaded, marks_of, meets, met_after, met_at, new_run, no_track, not_true, outside_of, run_from, server_list, session_of, settled_in, setup_of, side_of, sides_called, sides_of, slice_get, take-append-drop, takes_part, told_at, told_each, track_at, track_count, turned, turned_track, with_calls, with_cycles, with_load, with_turn, zero-div}
+use Rattle.af_audit.proofs.Common.{All, BlockTold, Client, ClientEvent, Frame, HasBlockHistory, HasHistory, IsLegalRun, IsRound, IsScript, JournalData, LegalRounds, Marks, RoundSeen, Run, START, ScriptData, ServerEvent, Session, Shape, Side, Track, TrackKept, TrackTold, Turn, TurnFound, [], after_calls, after_round, after_turn, all_played, before_turn, both_right, called_in_turn, calls_in, client_list, cycles_beside, each_at, early_of, found_in, is_lawful, is_lawful_block, is_lawful_track, is_poke_on, late_of, lawful_more, list_any, loaded, marks_of, meets, met_after, met_at, new_run, no_track, not_true, outside_of, run_from, server_list, session_of, settled_in, setup_of, client_side, sides_called, sides_of, slice_get, take-append-drop, takes_part, told_at, told_each, track_at, track_count, turned, turned_track, with_calls, with_cycles, with_load, with_turn, zero-div}
 use Rattle.af_base.specs.declared.event.ClientEvent.TheVariants as client
 use Rattle.af_runs.specs.Blocks.{hand_list}
 use Rattle.af_audit.specs.Known.{most_seen}
@@ -24,7 +24,7 @@ use Rattle.af_audit.proofs.TurnSees.{HasSeenSettled, turn-sees}
 -- ## A block that has met
 
 -- a status that its client saw counts no START as settled whose flush count wasn't seen
-pub seen_low : (most : ℕ) (b : BlockTold) (c : Client) (s : TrackKept) (count : ℕ) → CommandsSo most b c s → HasBlockHistory (meets b) → HasSeenSettled (side_of b) count → count ≤ most
+pub seen_low : (most : ℕ) (b : BlockTold) (c : Client) (s : TrackKept) (count : ℕ) → CommandsSo most b c s → HasBlockHistory (meets b) → HasSeenSettled (client_side b) count → count ≤ most
 seen_low most b c s count h history saw = by_word (saw-stored b.shape saw.before saw.word (saw.later ++ client.Learn (length (server_list b)) ∷ []) b.released (server_list (meets b)) b.taken (hand_list (meets b)) listed_so)
   where
     listed_so : HasHistory b.shape (saw.before ++ client.SawStatus saw.word ∷ (saw.later ++ client.Learn (length (server_list b)) ∷ [])) b.released (server_list (meets b)) b.taken (hand_list (meets b))
@@ -68,14 +68,14 @@ seen_low most b c s count h history saw = by_word (saw-stored b.shape saw.before
 module _ (s : Session) (run : Run) (round : RoundSeen) (n : ℕ) (low : n < length run.tracks) where
   -- the client's side of a command block
   abbrev Of : Run → Side
-  Of r = side_of (told_at r n).commands
+  Of r = client_side (told_at r n).commands
 
   abbrev after : Track
   after = after_calls (sides_of (told_at run n)) (calls_in round n)
 
   called_side : Of (with_calls round run) ≡ after.commands
   unfolding with_calls
-  called_side = ap (λ (t : TrackTold). side_of t.commands) (told_each (λ track t. called (calls_in round track) t) run n low) ∙ ap (λ (t : Track). t.commands) (sides_called (told_at run n) (calls_in round n))
+  called_side = ap (λ (t : TrackTold). client_side t.commands) (told_each (λ track t. called_in_turn (calls_in round track) t) run n low) ∙ ap (λ (t : Track). t.commands) (sides_called (told_at run n) (calls_in round n))
 
   turned_side : (found : Turn → TurnFound) (o : Option Turn) (r : Run) → n < length r.tracks → Of (turned s found o r) ≡ Of r
   unfolding with_turn
@@ -83,7 +83,7 @@ module _ (s : Session) (run : Run) (round : RoundSeen) (n : ℕ) (low : n < leng
   turned_side found (Some e) r there =
       let c = setup_of s in
       let told = outside_of c (found e) e in
-      ap (λ (t : TrackTold). side_of t.commands) (each_at (turned_track c told r.normal e) 0 r.tracks n n no_track there (omega arith)) ∙ ap (λ (t : Track). t.commands) (sides_turned c told r.normal e n (told_at r n))
+      ap (λ (t : TrackTold). client_side t.commands) (each_at (turned_track c told r.normal e) 0 r.tracks n n no_track there (omega arith)) ∙ ap (λ (t : Track). t.commands) (sides_turned c told r.normal e n (told_at r n))
 
   loaded_side : (o : Option Turn) (r : Run) → Of (loaded o r) ≡ Of r
   unfolding with_load
@@ -94,9 +94,9 @@ module _ (s : Session) (run : Run) (round : RoundSeen) (n : ℕ) (low : n < leng
   played_side : n < length (before_turn s run round).tracks → Of (all_played s run round) ≡ after.commands
   played_side there =
       loaded_side round.turn (with_cycles s (late_of run round) (after_turn s run round))
-      ∙ ap side_of ((cycles_beside s (late_of run round) (after_turn s run round)).commands n)
+      ∙ ap client_side ((cycles_beside s (late_of run round) (after_turn s run round)).commands n)
       ∙ turned_side (found_in s run round) round.turn (before_turn s run round) there
-      ∙ ap side_of ((cycles_beside s (early_of run round) (with_calls round run)).commands n)
+      ∙ ap client_side ((cycles_beside s (early_of run round) (with_calls round run)).commands n)
       ∙ called_side
 
 -- ## The promise
@@ -131,8 +131,8 @@ rounds-settled cut s marks tracks rounds is forms legal before round later whole
     let there : track < length run.tracks = at.settles.tells.low in
     let c : CommandsAt (of_run flushes played track) track played = played_at cut s is marks run round tracks track low at.form at.legal at.settles in
     let b : BlockTold = (told_at played track).commands in
-    let side : side_of b ≡ (after_calls (sides_of (told_at run track)) (calls_in round track)).commands = played_side s run round track there (before_there s run round track there) in
-    let saw : HasSeenSettled (side_of b) count = subst (λ (x : Side). HasSeenSettled x count) (sym side) (turn-sees (sides_of (told_at run track)) (calls_in round track) count sees) in
+    let side : client_side b ≡ (after_calls (sides_of (told_at run track)) (calls_in round track)).commands = played_side s run round track there (before_there s run round track there) in
+    let saw : HasSeenSettled (client_side b) count = subst (λ (x : Side). HasSeenSettled x count) (sym side) (turn-sees (sides_of (told_at run track)) (calls_in round track) count sees) in
     let tame : is_lawful (client_list b) ≡ true = ap (λ (x : Side). is_lawful x.events) (side ∙ sym (ap (λ (t : Track). t.commands) (sides_called (told_at run track) (calls_in round track)))) ∙ (trim_called true (calls_in round track) (told_at run track) (λ on. at.calm) at.settles.trim).tame refl in
     let met : (told_at (met_after s run round) track).commands ≡ meets b = ap (λ (t : TrackTold). t.commands) (met_at s played track c.there) in
     let history : HasBlockHistory (meets b) = subst HasBlockHistory met ((at.legal.histories.blocks track low).commands refl (ap (λ (x : BlockTold). is_lawful (client_list x)) met ∙ lawful_more (client_list b) (client.Learn (length (server_list b))) refl tame)) in

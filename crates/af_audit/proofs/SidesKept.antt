@@ -1,6 +1,6 @@
 -- What clients have of their tracks stays, whatever the mixers do.
 use Rattle.std.proofs.Common.{◌≡◌, ℕ, ◌<◌, ◌≤◌, Bool, true, false, if◌then◌else◌, List, [], ◌∷◌, length, map, flat_map, Option, Some, None, arith, refl, sym, ap, subst, ◌∙◌}
-use Rattle.af_audit.proofs.Common.{AreSpelled, BlockTold, ClientCall, ClientEvent, EntrySeen, FastState, HandEvent, LegalClientTurn, NormalKept, Outside, RoundSeen, Run, ServerEvent, Session, Setup, Side, TakeSeen, Track, TrackTold, Turn, TurnFound, after_calls, after_round, after_turn, all_played, before_turn, called, calls_in, command_list, cycle_beside, cycle_events, cycle_frames, cycles_beside, each_at, each_long, each_track, early_of, ends, entry_slot, found_in, front_of, going, hand-client, hand_does, hand_list, late_of, learnt, listed, loaded, met, met_at, met_many, mixed_track, no_track, outside_of, packed_word, played, server-client, server_does, setup_of, shape_met, shapes_called, side_of, sides_called, sides_of, slot_for, slot_frames, state_for, stream_list, takes_from, takes_part, told_at, told_each, took, track_in, track_spelled, tracks_at, turned, turned_track, with_calls, with_cycle, with_cycles, with_ends, with_load, with_mix, with_poll, with_turn, words_taken}
+use Rattle.af_audit.proofs.Common.{AreSpelled, BlockTold, ClientCall, ClientEvent, EntrySeen, FastState, HandEvent, LegalClientTurn, NormalKept, Outside, RoundSeen, Run, ServerEvent, Session, Setup, Side, TakeSeen, Track, TrackTold, Turn, TurnFound, after_calls, after_round, after_turn, all_played, before_turn, called_in_turn, calls_in, command_list, cycle_beside, cycle_events, cycle_frames, cycles_beside, each_at, each_long, each_track, early_of, ends, entry_slot, found_in, front_of, going, hand-client, hand_does, hand_events_of, late_of, learnt, listed, loaded, met, met_at, met_many, mixed_track, no_track, outside_of, packed_word, played, server-client, server_does, setup_of, shape_met, shapes_called, client_side, sides_called, sides_of, slot_playing, slot_frames, state_for, stream_list, takes_from, takes_part, told_at, told_each, took, track_in, track_spelled, tracks_at, turned, turned_track, with_calls, with_cycle, with_cycles, with_ends, with_load, with_mix, with_poll, with_turn, words_taken}
 use Rattle.af_judge.proofs.Spelled.{spelled_turn}
 use Rattle.af_audit.specs.RunKept.{IsFit, IsLegalCaller}
 use Rattle.af_audit.proofs.CallsFollow.{calls_long, told_called}
@@ -17,7 +17,7 @@ fit_by s n t u file spelled stream commands h = record {
 }
 
 -- a track is fit after a legal turn of its client
-pub fit_called : (s : Session) (n : ℕ) (t : TrackTold) (calls : List ClientCall) → LegalClientTurn (sides_of t) calls → IsFit s n (sides_of t) → IsFit s n (sides_of (called calls t))
+pub fit_called : (s : Session) (n : ℕ) (t : TrackTold) (calls : List ClientCall) → LegalClientTurn (sides_of t) calls → IsFit s n (sides_of t) → IsFit s n (sides_of (called_in_turn calls t))
 fit_called s n t calls legal h =
     let shapes = shapes_called (sides_of t) calls in
     subst (IsFit s n) (sym (sides_called t calls))
@@ -25,14 +25,14 @@ fit_called s n t calls legal h =
 
 -- ## The mixers leave the clients' sides
 
-side_served : (b : BlockTold) (es : List ServerEvent) (words : List ℕ) → side_of (took words (server_does es b)) ≡ side_of b
+side_served : (b : BlockTold) (es : List ServerEvent) (words : List ℕ) → client_side (took words (server_does es b)) ≡ client_side b
 side_served b es words = ap (λ (l : List ClientEvent). let y : Side = record { shape = b.shape; events = l; released = b.released } in y) (server-client b.told es)
 
-side_handed : (b : BlockTold) (es : List HandEvent) → side_of (hand_does es b) ≡ side_of b
+side_handed : (b : BlockTold) (es : List HandEvent) → client_side (hand_does es b) ≡ client_side b
 side_handed b es = ap (λ (l : List ClientEvent). let y : Side = record { shape = b.shape; events = l; released = b.released } in y) (hand-client b.told es)
 
 pub sides_mixed : (s : Session) (x : FastState) (e : EntrySeen) (n : ℕ) (t : TrackTold) → sides_of (mixed_track s x e n t) ≡ sides_of t
-sides_mixed s x e n t = by_slot (slot_for x e.entry n)
+sides_mixed s x e n t = by_slot (slot_playing x e.entry n)
   where
     by_slot : (o : Option ℕ) → sides_of (elim o as (λ o. TrackTold) [ None ↦ t | Some i ↦ record t { stream = played (cycle_frames s) e i t.stream } ]) ≡ sides_of t
     by_slot None = refl
@@ -42,7 +42,7 @@ sides_mixed s x e n t = by_slot (slot_for x e.entry n)
 
 pub sides_turned : (c : Setup) (o : Outside) (m : NormalKept) (e : Turn) (n : ℕ) (t : TrackTold) → sides_of (turned_track c o m e n t) ≡ sides_of t
 sides_turned c o m e n t =
-    let marks : List HandEvent = hand_list e n in
+    let marks : List HandEvent = hand_events_of e n in
     let flags : List ServerEvent = stream_list c o e (tracks_at c (learnt o) m e n) n in
     let words : List ℕ = going e (map packed_word (flat_map (λ (take : TakeSeen). take.frames) (takes_from e.mixes n))) in
     let stream = side_served (hand_does marks t.stream) flags words ∙ side_handed t.stream marks in

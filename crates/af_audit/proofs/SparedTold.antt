@@ -1,6 +1,6 @@
 -- In a legal run each block without a poke is spared.
 use Rattle.std.proofs.Common.{◌≡◌, ℕ, ◌<◌, Bool, true, false, if◌then◌else◌, List, [], ◌∷◌, length, inl, refl, sym, ap, ◌∙◌, subst, arith}
-use Rattle.af_audit.proofs.Common.{All-get_or, BlockTold, Frame, HasBlockHistory, IsLegalRun, IsScript, IsTrack, JournalData, LegalRound, LegalRounds, Marks, RoundSeen, Run, ScriptData, Session, Shape, TrackTold, after_round, all_played, calls_in, command_shape, each_long, each_track, ends, is_lawful_block, is_poke_on, is_tame, list_any, marks_of, met_after, met_many, never_corrupt, never_shut, new_run, new_track, no_spec, not_true, run_from, run_of, session_of, sides_of, told_at, told_each, track_count, with_ends}
+use Rattle.af_audit.proofs.Common.{All-get_or, BlockTold, Frame, HasBlockHistory, IsLegalRun, IsScript, IsTrack, JournalData, LegalRound, LegalRounds, Marks, RoundSeen, Run, ScriptData, Session, Shape, TrackTold, after_round, all_played, calls_in, command_shape, each_long, each_track, ends, is_lawful_block, is_poke_on, is_tame, list_any, marks_of, met_after, met_many, never_corrupt, never_shut, new_run, new_told_track, no_spec, not_true, run_from, run_of, session_of, sides_of, told_at, told_each, track_count, with_ends}
 use Rattle.af_model.specs.ClientCalls as list
 use Rattle.af_audit.specs.RunKept.{IsFit}
 use Rattle.af_audit.specs.Spared.{EachLawfulBlockIsSpared, IsSpared}
@@ -53,7 +53,7 @@ rounds_so cut s marks n (round ∷ rounds) run low legal h = rounds_so cut s mar
 -- ## Before the first round
 
 module _ (s : Session) (script : IsScript s.script) (n : ℕ) (low : n < track_count s) where
-  pub new_fit : IsFit s n (sides_of (new_track s n))
+  pub new_fit : IsFit s n (sides_of (new_told_track s n))
   new_fit = record {
     file = refl;
     spelled = record { stream = list.begins; commands = list.begins };

@@ -2,12 +2,12 @@
 use Rattle.std.proofs.Common.{◌≡◌, ℕ, ◌+◌, ◌*◌, ◌/◌, ◌≤◌, Bool, true, false, if◌then◌else◌, List, [], ◌∷◌, ◌++◌, sym, ap, subst, ◌∙◌, arith}
 use Rattle.af_audit.proofs.Common.{Absent, Active, Flushed, Idle, Life, LifeState, Paused, Pausing, Resuming, ServerEvent, Stopped, Stopping1, Stopping2, TrackKept, div-mul-add, settled_in, state_code, status_word}
 use Rattle.af_base.specs.declared.event.ServerEvent.TheVariants as server
-use Rattle.af_life.specs.State.{code_of}
+use Rattle.af_life.specs.State.{life_code}
 use Rattle.std.specs.Prelude.{◌%◌}
 
 -- ## A word
 
-pub code_low : (state : LifeState) → code_of state ≤ 15
+pub code_low : (state : LifeState) → life_code state ≤ 15
 code_low Absent = omega arith
 code_low Idle = omega arith
 code_low Active = omega arith

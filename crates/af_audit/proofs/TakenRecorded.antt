@@ -1,6 +1,6 @@
 -- The words taken of a track's stream block are those that a journal records, in the order of its rounds.
 use Rattle.std.proofs.Common.{◌≡◌, ℕ, ◌<◌, Bool, true, false, if◌then◌else◌, List, [], ◌∷◌, ◌++◌, map, length, Option, Some, None, refl, sym, ap, ◌∙◌, append-nil, append_assoc, arith}
-use Rattle.af_audit.proofs.Common.{BlockTold, EntrySeen, RoundSeen, Run, Session, TrackTold, Turn, TurnFound, after_round, after_turn, all_played, before_turn, cycle_beside, cycle_frames, each_at, each_long, each_track, early_of, ends, found_in, late_of, loaded, met, met_after, met_at, met_many, mixed_track, no_track, outside_of, packed_word, played, run_from, setup_of, slot_for, slot_frames, state_for, stream_met, takes_part, told_at, told_each, turned, turned_track, with_calls, with_cycle, with_cycles, with_ends, with_load, with_mix, with_poll, with_turn}
+use Rattle.af_audit.proofs.Common.{BlockTold, EntrySeen, RoundSeen, Run, Session, TrackTold, Turn, TurnFound, after_round, after_turn, all_played, before_turn, cycle_beside, cycle_frames, each_at, each_long, each_track, early_of, ends, found_in, late_of, loaded, met, met_after, met_at, met_many, mixed_track, no_track, outside_of, packed_word, played, run_from, setup_of, slot_playing, slot_frames, state_for, stream_met, takes_part, told_at, told_each, turned, turned_track, with_calls, with_cycle, with_cycles, with_ends, with_load, with_mix, with_poll, with_turn}
 use Rattle.af_audit.specs.Fates.{recorded, recorded_by, recorded_by_all, recorded_by_turn}
 use Rattle.af_audit.proofs.CallsFollow.{calls_long, told_called}
 
@@ -40,7 +40,7 @@ module _ (s : Session) (n : ℕ) where
       let x = state_for s r e.entry.state in
       record {
         there = (let b = cycle_beside s run e in let m = b.many in omega (arith, m, low));
-        taken = ap (λ (t : TrackTold). t.stream.taken) (told_each (mixed_track s x e) r n low) ∙ by_slot (slot_for x e.entry n);
+        taken = ap (λ (t : TrackTold). t.stream.taken) (told_each (mixed_track s x e) r n low) ∙ by_slot (slot_playing x e.entry n);
       }
     where
       by_slot : (o : Option ℕ) → (let t = told_at run n in (elim o as (λ o. TrackTold) [ None ↦ t | Some i ↦ record t { stream = played (cycle_frames s) e i t.stream } ]).stream.taken

@@ -1,6 +1,6 @@
 -- What holds of a track through each step of a round: its client released the first frames of its file and poked nothing, and its server dropped frames only by flushes that it noticed.
 use Rattle.std.proofs.Common.{◌≡◌, ℕ, Bool, true, false, fold, map, List, [], ◌∷◌, ◌++◌, drop, length, Option, Some, None, refl, sym, ap, ◌∙◌, subst, append-nil, append_assoc}
-use Rattle.af_audit.proofs.Common.{ClientCall, EntrySeen, FastState, HandEvent, LegalTurn, Listed, LooksBy, Moment, NormalKept, Outside, ServerEvent, Session, Setup, TrackTold, TracksRise, Turn, after_calls, both_lawful, by_hand, by_server, called, client-server, client_list, cycle_events, cycle_frames, ends, entry_slot, front_of, hand-client, hand_list, is_lawful, is_poke_on, learnt, list_any, listed, meets, mixed_track, played, server-client, server_list, server_of, sides_called, sides_of, slot_for, stream_list, stream_met, tracks_at, turned_track}
+use Rattle.af_audit.proofs.Common.{ClientCall, EntrySeen, FastState, HandEvent, LegalTurn, Listed, LooksBy, Moment, NormalKept, Outside, ServerEvent, Session, Setup, TrackTold, TracksRise, Turn, after_calls, both_lawful, by_hand, by_server, called_in_turn, client-server, client_list, cycle_events, cycle_frames, ends, entry_slot, front_of, hand-client, hand_events_of, is_lawful, is_poke_on, learnt, list_any, listed, meets, mixed_track, played, server-client, server_list, server_of, sides_called, sides_of, slot_playing, stream_list, stream_met, tracks_at, turned_track}
 use Rattle.af_base.specs.declared.event.ClientEvent.TheVariants as client
 use Rattle.af_audit.specs.Fates.{DropsByFlush}
 use Rattle.af_audit.proofs.DropsNoticed.{cycle_drops, drops_more, turn_drops}
@@ -29,7 +29,7 @@ hand-server told (e ∷ es) = hand-server (by_hand e ∷ told) es
 
 module _ (file : List ℕ) where
   -- the calls of the track's client keep what holds of the track
-  pub stands_called : (calls : List ClientCall) (t : TrackTold) → list_any (is_poke_on false) calls ≡ false → TrackStands file t → TrackStands file (called calls t)
+  pub stands_called : (calls : List ClientCall) (t : TrackTold) → list_any (is_poke_on false) calls ≡ false → TrackStands file t → TrackStands file (called_in_turn calls t)
   stands_called calls t calm h = record {
     file_is = h.file_is;
     client = subst IsFromFile (sym (sides_called t calls)) (calls_from_file (sides_of t) calls calm h.client);
@@ -37,11 +37,11 @@ module _ (file : List ℕ) where
   }
 
   -- an entry keeps what holds of the track, if each slot that plays the track answers by its server's list
-  pub stands_mixed : (s : Session) (x : FastState) (e : EntrySeen) (n : ℕ) (t : TrackTold) → ((i : ℕ) → slot_for x e.entry n ≡ Some i → (front : ℕ) × LooksBy (cycle_frames s) (listed t.stream) (entry_slot e.entry i) front)
+  pub stands_mixed : (s : Session) (x : FastState) (e : EntrySeen) (n : ℕ) (t : TrackTold) → ((i : ℕ) → slot_playing x e.entry n ≡ Some i → (front : ℕ) × LooksBy (cycle_frames s) (listed t.stream) (entry_slot e.entry i) front)
       → TrackStands file t → TrackStands file (mixed_track s x e n t)
-  stands_mixed s x e n t looks h = by_slot (slot_for x e.entry n) refl
+  stands_mixed s x e n t looks h = by_slot (slot_playing x e.entry n) refl
     where
-      by_slot : (o : Option ℕ) → slot_for x e.entry n ≡ o → TrackStands file (elim o as (λ o. TrackTold) [ None ↦ t | Some i ↦ record t { stream = played (cycle_frames s) e i t.stream } ])
+      by_slot : (o : Option ℕ) → slot_playing x e.entry n ≡ o → TrackStands file (elim o as (λ o. TrackTold) [ None ↦ t | Some i ↦ record t { stream = played (cycle_frames s) e i t.stream } ])
       by_slot None is = h
       by_slot (Some i) is =
           let asked = cycle_frames s in
@@ -60,7 +60,7 @@ module _ (file : List ℕ) where
       → TrackStands file t → TrackStands file (turned_track c told m e n t)
   stands_turned c o told m e n t streams found rise legal h =
       let es : List ServerEvent = stream_list c told e (tracks_at c (learnt told) m e n) n in
-      let hs : List HandEvent = hand_list e n in
+      let hs : List HandEvent = hand_events_of e n in
       let after : List Moment = told_more t.stream.told (map by_hand hs) in
       let new : DropsByFlush t.stream.shape (server_list t.stream) es = subst (λ (l : Listed). DropsByFlush l.shape l.events es) found (turn_drops c o told m e n streams rise (tracks_at c (learnt told) m e n) legal) in
       record {

@@ -1,6 +1,6 @@
 -- What each step of a round keeps of a track's block whose server and client are never shut; and if they aren't shut after the step, they weren't before it, and the step spared the block. `commands` says which block it is.
 use Rattle.std.proofs.Common.{◌≡◌, inl, inr, ◌⊎◌, ℕ, ◌≤◌, ◌^◌, not, Bool, true, false, true≢false, if◌then◌else◌, is_some, fold, map, List, [], ◌∷◌, ◌++◌, flat_map, drop, length, Option, Some, None, refl, sym, ap, ◌∙◌, subst, append-nil, arith}
-use Rattle.af_audit.proofs.Common.{AllByRecursion, AllFollowRear, BlockTold, ClientCall, ClientEvent, ClientKept, CommandLook, EntrySeen, FastState, HandEvent, LegalClientTurn, LegalTake, LegalTurn, LooksBy, NormalKept, Outside, ServerEvent, ServerKept, Session, Setup, Shape, TakeSeen, Track, TrackKept, TrackSeen, TrackTold, TracksRise, Turn, TurnFound, after_call, after_calls, alike, all_command_events, asked, both_lawful, both_true, by_hand, called, client-server, client_begins, client_call_events, client_events_of, client_keeps, client_kept, client_list, command_events_of, command_list, command_shape, cycle_events, cycle_frames, ends, entry_slot, fold-append, front_of, fronts_by, get_or_past, hand_list, invalid, is_home, is_lawful, is_of_commands, is_poke_on, is_shut, kept, kept_more, learnt, list_all, list_any, listed, meets, mix_events, mixed_track, neither, no, nothing_seen, outside_of, played, released_by, server_keeps, server_kept, server_list, sides_called, sides_of, slot_for, status_events, stream_list, stream_met, take_front, takes_from, track_at, track_in, tracks_at, turned_track}
+use Rattle.af_audit.proofs.Common.{AllByRecursion, AllFollowRear, BlockTold, ClientCall, ClientEvent, ClientKept, CommandLook, EntrySeen, FastState, HandEvent, LegalClientTurn, LegalTake, LegalTurn, LooksBy, NormalKept, Outside, ServerEvent, ServerKept, Session, Setup, Shape, TakeSeen, Track, TrackKept, TrackSeen, TrackTold, TracksRise, Turn, TurnFound, after_call, after_calls, alike, all_command_events, asked, both_lawful, both_true, by_hand, called_in_turn, client-server, client_begins, client_call_events, client_events_of, client_keeps, client_kept, client_list, command_events_of, command_list, command_shape, cycle_events, cycle_frames, ends, entry_slot, fold-append, front_of, fronts_by, get_or_past, hand_events_of, invalid, is_home, is_lawful, is_of_commands, is_poke_on, is_shut, kept, kept_more, learnt, list_all, list_any, listed, meets, mix_events, mixed_track, neither, no, nothing_seen, outside_of, played, released_by, server_keeps, server_kept, server_list, sides_called, sides_of, slot_playing, status_events, stream_list, stream_met, take_front, takes_from, track_at, track_in, tracks_at, turned_track}
 use Rattle.af_base.specs.declared.event.ClientCall.TheVariants as call
 use Rattle.af_base.specs.declared.event.ServerEvent.TheVariants as server
 use Rattle.af_base.specs.declared.event.ClientEvent.TheVariants as client
@@ -63,14 +63,14 @@ tame_calls t (answer ∷ calls) calm h =
     let two = neither (is_poke_on true answer) (list_any (is_poke_on true) calls) calm in
     tame_calls (after_call t answer) calls two.1 (tame_call t answer two.0 h)
 
-pub trim_called : (commands : Bool) (calls : List ClientCall) (t : TrackTold) → (commands ≡ true → list_any (is_poke_on true) calls ≡ false) → IsTrim commands t → IsTrim commands (called calls t)
+pub trim_called : (commands : Bool) (calls : List ClientCall) (t : TrackTold) → (commands ≡ true → list_any (is_poke_on true) calls ≡ false) → IsTrim commands t → IsTrim commands (called_in_turn calls t)
 trim_called commands calls t calm h = record {
   rears = subst (AllFollowRear t.stream.shape false) (sym (client-server t.stream.told (drop (length (client_list t.stream)) (after_calls (sides_of t) calls).stream.events))) h.rears;
   tame = λ on. ap (λ (x : Track). is_lawful x.commands.events) (sides_called t calls) ∙ tame_calls (sides_of t) calls (calm on) (h.tame on);
   shape = h.shape;
 }
 
-pub unshut_called : (commands : Bool) (calls : List ClientCall) (t : TrackTold) → LegalClientTurn (sides_of t) calls → IsUnshut commands (called calls t) → IsUnshut commands t × (none_corrupt_on commands calls ≡ true)
+pub unshut_called : (commands : Bool) (calls : List ClientCall) (t : TrackTold) → LegalClientTurn (sides_of t) calls → IsUnshut commands (called_in_turn calls t) → IsUnshut commands t × (none_corrupt_on commands calls ≡ true)
 unshut_called commands calls t legal h =
     let one = unshut_turn commands (sides_of t) calls legal (subst (IsOpen commands) (sides_called t calls) h.client) in
     (record { client = one.0; server = by_block commands h.server }, one.1)
@@ -78,7 +78,7 @@ unshut_called commands calls t legal h =
     after : Track
     after = after_calls (sides_of t) calls
 
-    by_block : (b : Bool) → (kept (listed (block_on b (called calls t)))).shut ≡ None → (kept (listed (block_on b t))).shut ≡ None
+    by_block : (b : Bool) → (kept (listed (block_on b (called_in_turn calls t)))).shut ≡ None → (kept (listed (block_on b t))).shut ≡ None
     by_block true h = ap (λ es. (server_kept t.commands.shape es).shut) (sym (client-server t.commands.told (drop (length (client_list t.commands)) after.commands.events))) ∙ h
     by_block false h = ap (λ es. (server_kept t.stream.shape es).shut) (sym (client-server t.stream.told (drop (length (client_list t.stream)) after.stream.events))) ∙ h
 
@@ -96,7 +96,7 @@ module _ (commands : Bool) (s : Session) (x : FastState) (e : EntrySeen) (n : �
   slot_list i = server-server t.stream.told (slot_events i)
 
   pub trim_mixed : IsTrim commands t → IsTrim commands (mixed_track s x e n t)
-  trim_mixed h = by_slot (slot_for x e.entry n)
+  trim_mixed h = by_slot (slot_playing x e.entry n)
     where
       by_slot : (o : Option ℕ) → IsTrim commands (with_slot o)
       by_slot None = h
@@ -112,8 +112,8 @@ module _ (commands : Bool) (s : Session) (x : FastState) (e : EntrySeen) (n : �
   abbrev IsSlotSpared : Option ℕ → Type 0
   IsSlotSpared o = elim o as (λ o. Bool) [ None ↦ true | Some i ↦ not (is_shut (entry_slot e.entry i).seen) ] ≡ true
 
-  pub unshut_mixed : ((i : ℕ) → slot_for x e.entry n ≡ Some i → (front : ℕ) × LooksBy (cycle_frames s) (listed t.stream) (entry_slot e.entry i) front) → IsUnshut commands (mixed_track s x e n t)
-      → IsUnshut commands t × (commands ≡ false → IsSlotSpared (slot_for x e.entry n))
+  pub unshut_mixed : ((i : ℕ) → slot_playing x e.entry n ≡ Some i → (front : ℕ) × LooksBy (cycle_frames s) (listed t.stream) (entry_slot e.entry i) front) → IsUnshut commands (mixed_track s x e n t)
+      → IsUnshut commands t × (commands ≡ false → IsSlotSpared (slot_playing x e.entry n))
   unshut_mixed looks h = by_block commands (subst (IsOpen commands) (sides_mixed s x e n t) h.client) h.server
     where
       -- the commands stay, whatever the slot
@@ -121,7 +121,7 @@ module _ (commands : Bool) (s : Session) (x : FastState) (e : EntrySeen) (n : �
       stays None h = h
       stays (Some i) h = h
 
-      by_slot : (o : Option ℕ) → slot_for x e.entry n ≡ o → (kept (listed (with_slot o).stream)).shut ≡ None → ((kept (listed t.stream)).shut ≡ None) × IsSlotSpared o
+      by_slot : (o : Option ℕ) → slot_playing x e.entry n ≡ o → (kept (listed (with_slot o).stream)).shut ≡ None → ((kept (listed t.stream)).shut ≡ None) × IsSlotSpared o
       by_slot None is fine = (fine, refl)
       by_slot (Some i) is fine =
           let look = looks i is in
@@ -129,9 +129,9 @@ module _ (commands : Bool) (s : Session) (x : FastState) (e : EntrySeen) (n : �
           let one = unshut_cycle (cycle_frames s) (listed t.stream) (entry_slot e.entry i) look.0 look.1 open_is in
           (one.0, ap not one.1)
 
-      by_block : (b : Bool) → IsOpen b (sides_of t) → (kept (listed (block_on b (with_slot (slot_for x e.entry n))))).shut ≡ None → IsUnshut b t × (b ≡ false → IsSlotSpared (slot_for x e.entry n))
-      by_block true client fine = (record { client = client; server = stays (slot_for x e.entry n) fine }, λ on. absurd (true≢false on))
-      by_block false client fine = let one = by_slot (slot_for x e.entry n) refl fine in (record { client = client; server = one.0 }, λ on. one.1)
+      by_block : (b : Bool) → IsOpen b (sides_of t) → (kept (listed (block_on b (with_slot (slot_playing x e.entry n))))).shut ≡ None → IsUnshut b t × (b ≡ false → IsSlotSpared (slot_playing x e.entry n))
+      by_block true client fine = (record { client = client; server = stays (slot_playing x e.entry n) fine }, λ on. absurd (true≢false on))
+      by_block false client fine = let one = by_slot (slot_playing x e.entry n) refl fine in (record { client = client; server = one.0 }, λ on. one.1)
 
 -- ## A turn
 
@@ -257,7 +257,7 @@ module _ (c : Setup) (f : TurnFound) (m : NormalKept) (e : Turn) (o : Outside) (
     stream_told : server_list after.stream ≡ server_list stream ++ stream_list c told e tracks n
     stream_told =
         let es = stream_list c told e tracks n in
-        let hs : List HandEvent = hand_list e n in
+        let hs : List HandEvent = hand_events_of e n in
         server-server (told_more stream.told (map by_hand hs)) es ∙ ap (λ l. l ++ es) (hand-server stream.told hs)
 
     commands_told : server_list after.commands ≡ server_list commands ++ command_list c told e tracks n

@@ -14,7 +14,7 @@ use Rattle.af_model.specs.Spans.{fates_of, HasOneFate, mixed_by}
 use Rattle.af_runs.specs.Blocks.{BlockTold, server_list, HasBlockHistory}
 use Rattle.af_runs.specs.LegalRuns.{is_lawful_track, session_of, run_of}
 use Rattle.af_runs.specs.Rounds.{early_of, late_of, after_turn, after_round}
-use Rattle.af_runs.specs.Runs.{Run, new_run, told_at, slot_for, state_for, with_calls, with_poll, with_cycle}
+use Rattle.af_runs.specs.Runs.{Run, new_run, told_at, slot_playing, state_for, with_calls, with_poll, with_cycle}
 use Rattle.af_runs.specs.Sessions.{Session, track_count, file_words}
 use Rattle.af_script.specs.Data.{ScriptData}
 
@@ -22,7 +22,7 @@ use Rattle.af_script.specs.Data.{ScriptData}
 
 -- the frames of a track in an entry: those of the slot that plays the track, by the state that was polled
 abbrev pub recorded_by : Session → Run → EntrySeen → ℕ → List ℕ
-recorded_by s run e track = elim (slot_for (state_for s run e.entry.state) e.entry track) as (λ o. List ℕ) [ None ↦ [] | Some i ↦ map packed_word (slot_frames e i) ]
+recorded_by s run e track = elim (slot_playing (state_for s run e.entry.state) e.entry track) as (λ o. List ℕ) [ None ↦ [] | Some i ↦ map packed_word (slot_frames e i) ]
 
 -- the frames of a track in some entries, one after the other
 abbrev pub recorded_by_all : Session → Run → List EntrySeen → ℕ → List ℕ

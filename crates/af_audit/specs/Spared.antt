@@ -12,7 +12,7 @@ use Rattle.af_life.specs.TurnEvents.{takes_from}
 use Rattle.af_model.specs.Journals.{EntrySeen, RoundSeen, JournalData}
 use Rattle.af_runs.specs.LegalRuns.{is_lawful_block, session_of}
 use Rattle.af_runs.specs.Rounds.{early_of, late_of, after_turn, after_round}
-use Rattle.af_runs.specs.Runs.{Run, calls_in, new_run, slot_for, state_for, with_calls, with_poll, with_cycle}
+use Rattle.af_runs.specs.Runs.{Run, calls_in, new_run, slot_playing, state_for, with_calls, with_poll, with_cycle}
 use Rattle.af_runs.specs.Sessions.{Session, track_count}
 use Rattle.af_script.specs.Data.{ScriptData}
 
@@ -42,7 +42,7 @@ none_corrupt calls = list_all (λ call. not (is_corrupt call)) calls
 
 -- the slot of an entry that plays the track, by the state that was polled, isn't Shut
 abbrev pub is_spared_by : Session → Run → EntrySeen → ℕ → Bool
-is_spared_by s run e track = elim (slot_for (state_for s run e.entry.state) e.entry track) as (λ o. Bool) [ None ↦ true | Some i ↦ not (is_shut (entry_slot e.entry i).seen) ]
+is_spared_by s run e track = elim (slot_playing (state_for s run e.entry.state) e.entry track) as (λ o. Bool) [ None ↦ true | Some i ↦ not (is_shut (entry_slot e.entry i).seen) ]
 
 -- in none of these entries, one after the other, the slot that plays the track is Shut
 abbrev pub is_spared_by_all : Session → Run → List EntrySeen → ℕ → Bool

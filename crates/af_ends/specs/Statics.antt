@@ -9,7 +9,7 @@ use Rattle.af_static.specs.declared.setting.Setting.{Setting}
 use Rattle.af_static.specs.declared.ends.Unrolled.{Unrolled}
 use Rattle.af_static.specs.Calls.{Call, HasPlayed}
 use Rattle.af_static.specs.Ends as ends
-use Rattle.af_static.specs.Loops.{at_first, head_after, heard, is_valid, opening, output, shut_by, taken}
+use Rattle.af_static.specs.Loops.{at_first, head_after, head_heard, is_valid, opening, output, shut_by, taken}
 use Rattle.af_ends.specs.declared.error.EndError.{EndError}
 use Rattle.af_ends.specs.declared.error.EndError.TheVariants.{Argument, Memory, Dead, Corrupt, Limit}
 
@@ -55,9 +55,9 @@ Sets s start end count (Err Corrupt) t = ⊥
 pub record HasMixed (frames : List Frame) (gains : ℕ × ℕ) (p : ends.Plays) (places : ℕ) (out : List Frame) (told : Unrolled) (q : ends.Plays) : Type 0 where
   pub load : is_valid p.size p.setting ≡ true → (n : ℕ) × (q.events ≡ p.events ++ reads.Load n q.setting ∷ [])
   pub shut : is_valid p.size p.setting ≡ false → q ≡ p
-  pub out_is : out ≡ output gains (taken frames q.setting (heard p.size p.setting p.head q.setting) places) places
-  pub head_is : q.head ≡ head_after p.size q.setting (heard p.size p.setting p.head q.setting) places
-  pub told_is : told ≡ (record { number = q.setting.number; filled = length (taken frames q.setting (heard p.size p.setting p.head q.setting) places); shut = shut_by p.size q.setting })
+  pub out_is : out ≡ output gains (taken frames q.setting (head_heard p.size p.setting p.head q.setting) places) places
+  pub head_is : q.head ≡ head_after p.size q.setting (head_heard p.size p.setting p.head q.setting) places
+  pub told_is : told ≡ (record { number = q.setting.number; filled = length (taken frames q.setting (head_heard p.size p.setting p.head q.setting) places); shut = shut_by p.size q.setting })
   pub played : (calls : List Call) (played : List Frame) (count : ℕ) → HasPlayed frames calls played count p
       → let call : Call = record { setting = q.setting; gains = gains; places = places } in HasPlayed frames (calls ++ call ∷ []) (played ++ out) (count + told.filled) q
 

@@ -6,7 +6,7 @@ ghost use Rattle.af_static.specs.Calls.{Call, HasPlayed};
 ghost use Rattle.af_static.specs.Ends.{IsPlayerOf};
 ghost use Rattle.af_static.specs.Loops.{opening};
 ghost use Rattle.af_static.specs.Numbers.{NumbersNeverFall};
-ghost use Rattle.af_model.specs.NewestValue.{HasHistory};
+ghost use Rattle.af_model.specs.NewestValue.{HasValueHistory};
 ghost use Rattle.af_ends.specs.Refusals.{RefusesSize};
 ghost use Rattle.af_ends.specs.Statics.{IsOpenedStatic, HasSet, Sets, HasMixed, Plays, StaticHasMet};
 
@@ -160,7 +160,7 @@ fn meet_in<L: Ledger>(blank: Blank, shared: &Shared, setter: &mut Setter, player
     requires ledger { (blank.name ≡ L.name) × (blank.parts ≡ L.parts) × (0 < blank.parts) }
     requires together { (setter.old.cell ≡ shared.now.cell) × (player.old.cell ≡ shared.now.cell) }
     ensures met { StaticHasMet player.old (record { setter = setter.new; player = player.new }) }
-    ensures history { HasHistory opening setter.new.events player.new.events }
+    ensures history { HasValueHistory opening setter.new.events player.new.events }
     ensures never_older { NumbersNeverFall setter.new.events 0 player.new.events }
     ensures played { (frames : List Frame) (calls : List Call) (played : List Frame) (count : ℕ) → HasPlayed frames calls played count player.old → HasPlayed frames calls played count player.new }
 {
@@ -222,7 +222,7 @@ impl PlayerEnd {
     pub fn close(self) -> Result<Played, PlayerEnd>
         ensures open { IfErr result (λ p. p ≡ self) }
         ensures met { IfOk result (λ m. StaticHasMet self.player m) }
-        ensures history { IfOk result (λ m. HasHistory opening m.setter.events m.player.events) }
+        ensures history { IfOk result (λ m. HasValueHistory opening m.setter.events m.player.events) }
         ensures never_older { IfOk result (λ m. NumbersNeverFall m.setter.events 0 m.player.events) }
         ensures played { IfOk result (λ m. (frames : List Frame) (calls : List Call) (played : List Frame) (count : ℕ) → HasPlayed frames calls played count self.player → HasPlayed frames calls played count m.player) }
     {

@@ -17,14 +17,14 @@ is_ending (Stop ∷ Drain ∷ Remove ∷ []) = true
 is_ending _ = false
 
 -- gains and writes, and then the end, if so many gains stand directly before
-abbrev pub goes_on : ℕ → List Op → Bool
-goes_on gains (Gain left right ∷ ops) = nat_lt gains most_gains && goes_on (gains + 1) ops
-goes_on gains (Write count ∷ ops) = goes_on 0 ops
-goes_on gains ops = is_ending ops
+abbrev pub way_goes_on : ℕ → List Op → Bool
+way_goes_on gains (Gain left right ∷ ops) = nat_lt gains most_gains && way_goes_on (gains + 1) ops
+way_goes_on gains (Write count ∷ ops) = way_goes_on 0 ops
+way_goes_on gains ops = is_ending ops
 
 -- ops that play through: the track is opened and started, and goes on to its end
 abbrev pub play_through : List Op → Bool
-play_through (OpenTrack ∷ Start ∷ ops) = goes_on 0 ops
+play_through (OpenTrack ∷ Start ∷ ops) = way_goes_on 0 ops
 play_through _ = false
 
 -- the portion of a track: the lesser of its buffer and a buffer of the normal mixer, in frames

@@ -3,7 +3,7 @@ ghost use Rattle.std.specs.Prelude.{◌≡◌, ◌+◌, ◌*◌, ◌≤◌, ◌<
 ghost use Rattle.std.specs.List.{sum_by};
 ghost use Rattle.af_script.specs.Bounds.{most_ops, most_buffer};
 ghost use Rattle.af_script.specs.Form.{IsScript, IsTrack};
-ghost use Rattle.af_enough.specs.Enough.{HasEnoughCycles, all_play_through, goes_on, greatest_cost, is_ending, op_cost, play_through, portion, track_cost, enough_rounds};
+ghost use Rattle.af_enough.specs.Enough.{HasEnoughCycles, all_play_through, way_goes_on, greatest_cost, is_ending, op_cost, play_through, portion, track_cost, enough_rounds};
 
 use af_script::{Op, Script, TrackSpec};
 
@@ -19,7 +19,7 @@ fn is_ending(ops: &[Op]) -> bool
 
 // Whether these ops are gains and writes, not too many gains directly one after another, and then the end.
 fn goes_on(ops: &[Op]) -> bool
-    ensures { result ≡ goes_on 0 ops.now }
+    ensures { result ≡ way_goes_on 0 ops.now }
 {
     let mut gains = 0;
     for (index, op) in ops.iter().enumerate() {

@@ -76,11 +76,11 @@ front_rises all front rest n l whole =
 
 -- a look at the acknowledgement sees no earlier one than what was learnt
 pub look_acked : (first : FastState) (known more : List (ObserverEvent Item)) (before behind : List (MutatorEvent Item)) (a : ℕ) (items : List (Option Item)) (n : ℕ)
-    → queued.HasHistory first (before ++ mutator.SawAck a items ∷ behind) (known ++ more) → Stands (mutator.Learn n) before → n ≤ length known → (observed (take n known)).acked ≤ a
+    → queued.HasStateHistory first (before ++ mutator.SawAck a items ∷ behind) (known ++ more) → Stands (mutator.Learn n) before → n ≤ length known → (observed (take n known)).acked ≤ a
 look_acked first known more before behind a items n h learnt low =
     let sees = ack_seen first before behind (known ++ more) a items h in
     let far = sees.learnt n learnt in
-    let next : AllRise begin (known ++ more) = subst (AllRise begin) h.of_two (all_rise (queued.start first) h.order h.is_legal (record { acked = omega arith; due = omega arith; rises = inl refl })) in
+    let next : AllRise begin (known ++ more) = subst (AllRise begin) h.of_two (all_rise (queued.start_of_queue first) h.order h.is_legal (record { acked = omega arith; due = omega arith; rises = inl refl })) in
     let rise = front_rises (known ++ more) sees.front sees.rest n next sees.whole in
     let same : take n known ≡ take n sees.front = sym (take-append-le n known more low) ∙ ap (take n) sees.whole ∙ take-append-le n sees.front sees.rest far in
     subst (λ j. (observed (take n known)).acked ≤ j) (sym sees.shows) (subst (λ (l : List (ObserverEvent Item)). (observed l).acked ≤ (observed sees.front).acked) (sym same) rise)
@@ -167,8 +167,8 @@ turn_sees_ack cut s marks run round legal runs knows t =
     let all_twos : twos (met_after s run round).queue ≡ twos run.queue ++ (first_twos.0 ++ goes.looks) =
     goes.observed ∙ ap (λ l. l ++ goes.looks) (ap twos turn_q ∙ turn_twos s (found_in s run round e) e before ∙ first_twos.1 ∙ ap (λ q. twos q ++ first_twos.0) (calls_queue round run)) ∙ append_assoc (twos run.queue) first_twos.0 goes.looks in
     let first : FastState = initial (cycle_frames s) in
-    let history : queued.HasHistory first (ones run.queue ++ mutator.SawAck (number_seen run.normal e.ack) list.back ∷ (list.rest ++ goes.edits)) (twos run.queue ++ (first_twos.0 ++ goes.looks)) =
-    subst (λ (x : List (MutatorEvent Item) × List (ObserverEvent Item)). queued.HasHistory first x.0 x.1) (λ i. (all_ones i, all_twos i)) legal.histories.shared.queue in
+    let history : queued.HasStateHistory first (ones run.queue ++ mutator.SawAck (number_seen run.normal e.ack) list.back ∷ (list.rest ++ goes.edits)) (twos run.queue ++ (first_twos.0 ++ goes.looks)) =
+    subst (λ (x : List (MutatorEvent Item) × List (ObserverEvent Item)). queued.HasStateHistory first x.0 x.1) (λ i. (all_ones i, all_twos i)) legal.histories.shared.queue in
     let low = look_acked first (twos run.queue) (first_twos.0 ++ goes.looks) (ones run.queue) (list.rest ++ goes.edits) (number_seen run.normal e.ack) list.back knows.count history knows.learnt knows.within in
     let acked = knows.acked in
     let sees : e.ack ≡ true = by_bool (e.ack ≡ true) e.ended (λ gone. not_ended run.normal.ended _ e.ack runs (sym t.by.legal.ends ∙ gone)) (λ open_is. least run.normal.pushed e.ack (t.by.legal.goes_on open_is).ack (omega arith)) in (
@@ -178,7 +178,7 @@ turn_sees_ack cut s marks run round legal runs knows t =
           let moved : ones run.queue ++ mutator.SawAck (number_seen run.normal e.ack) list.back ∷ (list.rest ++ goes.edits) ≡ (ones run.queue ++ mutator.SawAck (number_seen run.normal e.ack) list.back ∷ []) ++ mutator.SawAck (run.normal.pushed - 1) again.0 ∷ goes.edits =
           ap (λ l. ones run.queue ++ mutator.SawAck (number_seen run.normal e.ack) list.back ∷ (l ++ goes.edits)) again.1 ∙ sym (append_assoc (ones run.queue) (mutator.SawAck (number_seen run.normal e.ack) list.back ∷ []) (mutator.SawAck (run.normal.pushed - 1) again.0 ∷ goes.edits)) in
           let lower = look_acked first (twos run.queue) (first_twos.0 ++ goes.looks) (ones run.queue ++ mutator.SawAck (number_seen run.normal e.ack) list.back ∷ []) goes.edits (run.normal.pushed - 1) again.0 knows.count
-          (subst (λ (l : List (MutatorEvent Item)). queued.HasHistory first l (twos run.queue ++ (first_twos.0 ++ goes.looks))) moved history) (stands-more (mutator.Learn knows.count) (ones run.queue) (mutator.SawAck (number_seen run.normal e.ack) list.back ∷ []) knows.learnt) knows.within in
+          (subst (λ (l : List (MutatorEvent Item)). queued.HasStateHistory first l (twos run.queue ++ (first_twos.0 ++ goes.looks))) moved history) (stands-more (mutator.Learn knows.count) (ones run.queue) (mutator.SawAck (number_seen run.normal e.ack) list.back ∷ []) knows.learnt) knows.within in
           let some : 0 < run.normal.pushed = busy_some e.push (after_edits (setup_of s) (learnt t.by.outside) e run.normal) (t.by.legal.goes_on open_is).push b (after_pushes (setup_of s) (learnt t.by.outside) e run.normal).0 in
           absurd (omega arith))
           (λ f. f),

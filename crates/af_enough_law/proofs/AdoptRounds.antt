@@ -1,6 +1,6 @@
 -- The round in which the fast mixer comes to have a proxy at the latest: the last state pushed before it plays the track, which stays lent. The proxy takes part in its meeting, and from there on it is carried as one that flows.
 use Rattle.std.proofs.Common.{◌≡◌, ◌⊎◌, inl, inr, ℕ, ◌≤◌, ◌<◌, ◌==◌, unwrap_or, is_some, if◌then◌else◌, Bool, true, false, true≢false, All, Option, Some, List, [], ◌++◌, length, length-append, refl, sym, ap, ◌∙◌, subst, arith, eqb-true}
-use Rattle.af_enough_law.proofs.Common.{FastState, FastTrack, Heard, Learnt, LegalRound, Lent, Marks, NormalKept, RoundSeen, Run, Session, Setting, SlotReport, TrackKept, after_round, after_turn, before_turn, client_list, counts_in, cycle_frames, ends_part, grown, heard_at_home, heard_by, heard_elsewhere, heard_with, holds, is_home, learnt, load_of, met_after, number_of, or_right, report_at, report_of, server_list, setup_of, slot_reported, state_beyond, state_more, state_of, takes_part, told_at, track_at, track_count, turn_after, with_calls, with_cycles, within_or_beyond}
+use Rattle.af_enough_law.proofs.Common.{FastState, FastTrack, Heard, Learnt, LegalRound, Lent, Marks, NormalKept, RoundSeen, Run, Session, Setting, SlotReport, TrackKept, after_round, after_turn, before_turn, client_list, counts_in, cycle_frames, ends_part, grown, heard_at_home, heard_by, heard_elsewhere, heard_with, observer_holds, is_home, learnt, load_of, met_after, number_of, or_right, report_at, report_of, server_list, setup_of, slot_reported, state_beyond, state_more, state_of, takes_part, told_at, track_at, track_count, turn_after, with_calls, with_cycles, within_or_beyond}
 use Rattle.af_enough_law.proofs.Basics.{state_there}
 use Rattle.af_enough_law.specs.Carried.{SessionCarried}
 use Rattle.af_enough_law.specs.Drafts.{is_busy}
@@ -122,7 +122,7 @@ module _ (s : Session) (marks : Marks) (scales : All (λ (x : Setting). x.scale 
       let high = round_high s run round c.stands.adopted in
       let x = state_there after.states after.current (omega (arith, low, some)) high in
       let p = states_play.1 after.current x.0 low x.1 in
-      or_right (is_home (track_at after.normal.tracks i).holder) (holds s after i) (holds_by s after i slot item x.0 l.low track_is x.1 p)
+      or_right (is_home (track_at after.normal.tracks i).holder) (observer_holds s after i) (holds_by s after i slot item x.0 l.low track_is x.1 p)
 
   pub adopted_met : takes_part s (met_after s run round) i ≡ true
   adopted_met = sym (ends_part s (met_after s run round) i) ∙ adopted_part

@@ -2,7 +2,7 @@
 use Rattle.std.proofs.Common.{◌≡◌, ℕ, ◌-◌, ◌==◌, ◌&&◌, ◌||◌, Bool, true, false, List, [], ◌∷◌, ◌++◌, fold, refl, sym, ap, ◌∙◌}
 use Rattle.af_enough_law.proofs.Common.{AreCalls, ClientCall, ClientCommand, IsWanted, Track, Want, after_call, argument_of, both_first, both_right, both_true, flushes_of, no}
 use Rattle.af_base.specs.declared.event.ClientCall.TheVariants as call
-use Rattle.af_runs.specs.Clients.{code_of}
+use Rattle.af_runs.specs.Clients.{command_code}
 use Rattle.af_runs.specs.declared.want.ClientCommand.TheVariants as command
 use Rattle.af_runs.specs.declared.want.Want.TheVariants as want
 use Rattle.af_enough_law.specs.Playing.{AreFair}
@@ -49,7 +49,7 @@ is_sent : ClientCall → Bool
 is_sent (call.Sent front code argument) = true
 is_sent _ = false
 
-send_argued : (t : Track) (sending : ClientCommand) (code argument : ℕ) → flushes_of t.stream.events ≡ 0 → ((code == code_of sending) && (argument == argument_of t sending)) ≡ true → all_argued ((code, argument) ∷ []) ≡ true
+send_argued : (t : Track) (sending : ClientCommand) (code argument : ℕ) → flushes_of t.stream.events ≡ 0 → ((code == command_code sending) && (argument == argument_of t sending)) ≡ true → all_argued ((code, argument) ∷ []) ≡ true
 send_argued t command.Start code argument none h = without code argument _ _ h none
 send_argued t command.Stop code argument none h = stops code argument _ h
 send_argued t _ code argument none h = without code argument _ _ h refl

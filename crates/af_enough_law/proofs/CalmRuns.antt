@@ -2,7 +2,7 @@
 use Rattle.std.proofs.Common.{◌≡◌, inl, ℕ, ◌≤◌, ◌<◌, Bool, true, false, true≢false, List, [], length, refl, sym, ap, subst, arith, MatchBool}
 use Rattle.af_enough_law.proofs.Common.{All-get_or, AreCalls, AreSpelled, ClientCall, Frame, IsScript, IsTrack, LegalRound, Marks, RoundSeen, Run, ScriptData, ServerEvent, Session, Track, TrackTold, after_round, all_play_through, calls_in, client_list, hand_list, new_at, new_run, no_spec, server_list, session_of, sides_of, told_at, track_in}
 use Rattle.af_model.specs.ClientCalls as list
-use Rattle.af_runs.specs.Runs.{new_track}
+use Rattle.af_runs.specs.Runs.{new_told_track}
 use Rattle.af_enough_law.specs.NormalRounds.{TurnMade}
 use Rattle.af_enough_law.specs.Playing.{AreFair}
 use Rattle.af_enough_law.specs.Seen.{are_calm, are_hands_calm, frames_put}
@@ -20,7 +20,7 @@ use Rattle.af_enough_law.proofs.Turning.{Stands, on, gone_for_good}
 pub begins_calm : (script : ScriptData) (files : List (List Frame)) (i : ℕ) → IsScript script → all_play_through script ≡ true → i < length script.tracks → CalmTrack (new_run (session_of script files)) i [] []
 begins_calm script files i is through lt =
     let s = session_of script files in
-    let here : told_at (new_run s) i ≡ new_track s i = new_at s i lt in
+    let here : told_at (new_run s) i ≡ new_told_track s i = new_at s i lt in
     let size = (All-get_or IsTrack script.tracks i no_spec lt is.tracks).buffer.1 in
     record {
       stream = subst (λ (t : TrackTold). IsQuiet t.stream.shape (server_list t.stream)) (sym here) (record { calm = refl; unshut = refl });

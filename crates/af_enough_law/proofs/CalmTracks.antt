@@ -1,6 +1,6 @@
 -- From round to round the lists of a track that plays through stay calm, if it is never disabled and its stream is never heard to be shut.
 use Rattle.std.proofs.Common.{◌≡◌, inr, ℕ, ◌≤◌, ◌<◌, Bool, true, false, true≢false, Option, Some, None, unwrap_or, List, [], ◌∷◌, ◌++◌, length, fold, refl, sym, ap, ◌∙◌, subst, arith, append_assoc, append-nil}
-use Rattle.af_enough_law.proofs.Common.{AreSpelled, BlockTold, ClientCall, ClientEvent, HasBlockHistory, IsSpelled, LegalRound, Marks, NormalKept, RoundSeen, Run, ServerEvent, Session, Shape, Track, TrackTold, Turn, TurnFound, after_call, after_round, all_played, called, calls_in, client_list, flushes_of, found_in, hand_list, heard, is_tame, learnt, met_after, server_list, shapes_called, sides_of, spelled_turn, stream_met, takes_part, told_at, track_count, track_in}
+use Rattle.af_enough_law.proofs.Common.{AreSpelled, BlockTold, ClientCall, ClientEvent, HasBlockHistory, IsSpelled, LegalRound, Marks, NormalKept, RoundSeen, Run, ServerEvent, Session, Shape, Track, TrackTold, Turn, TurnFound, after_call, after_round, all_played, called_in_turn, calls_in, client_list, flushes_of, found_in, hand_list, heard, is_tame, learnt, met_after, server_list, shapes_called, sides_of, spelled_turn, stream_met, takes_part, told_at, track_count, track_in}
 use Rattle.af_base.specs.declared.event.ClientEvent.TheVariants as client
 use Rattle.af_base.specs.declared.event.ServerEvent.TheVariants as server
 use Rattle.af_enough_law.proofs.Basics.{part_met, put-append, taken-append}
@@ -101,7 +101,7 @@ turn_released s found None m i b = refl
 turn_released s found (Some e) m i b = refl
 
 pub round_released : (s : Session) (run : Run) (round : RoundSeen) (i : ℕ) → i < length run.tracks → (told_at (after_round s run round) i).commands.released ≡ (fold after_call (sides_of (told_at run i)) (calls_in round i)).commands.released
-round_released s run round i low = ap (λ (b : BlockTold). b.released) (round_commands s run round i low) ∙ turn_released s (found_in s run round) round.turn run.normal i (called (calls_in round i) (told_at run i)).commands
+round_released s run round i low = ap (λ (b : BlockTold). b.released) (round_commands s run round i low) ∙ turn_released s (found_in s run round) round.turn run.normal i (called_in_turn (calls_in round i) (told_at run i)).commands
 
 -- ## The round
 

@@ -52,7 +52,7 @@ begins_session s = record {
 begins_course : (s : Session) (i : ℕ) → i < track_count s → OnCourse (new_run s) i
 unfolding status_word
 begins_course s i lt =
-    let here : told_at (new_run s) i ≡ runs.new_track s i = new_at s i lt in
+    let here : told_at (new_run s) i ≡ runs.new_told_track s i = new_at s i lt in
     let kept : track_at (new_run s).normal.tracks i ≡ new_track = at_new (length (setup_of s).settings) i in
     record {
       count = 0;
@@ -82,7 +82,7 @@ pub begins_track : (script : ScriptData) (files : List (List Frame)) (i : ℕ) �
 unfolding first_doing
 begins_track script files i is through lt =
     let s = session_of script files in
-    let here : told_at (new_run s) i ≡ runs.new_track s i = new_at s i lt in
+    let here : told_at (new_run s) i ≡ runs.new_told_track s i = new_at s i lt in
     let p = track_plays script files i is through lt in
     let first = first_doing (spec_of s i).ops p in
     let due = want.Send command.Open ∷ [] in

@@ -1,6 +1,6 @@
 -- A legal round after which the normal mixer goes on leaves the client of a track that plays through on its way.
 use Rattle.std.proofs.Common.{◌≡◌, ℕ, ◌&&◌, ◌||◌, ◌<◌, Bool, true, false, true≢false, List, [], ◌∷◌, ◌++◌, length, refl, sym, ap, ◌∙◌, arith, if◌then◌else◌, ◌==◌}
-use Rattle.af_enough_law.proofs.Common.{Client, ClientEvent, ClientKept, Learnt, Marks, NormalKept, RoundSeen, Run, Session, Setup, Shape, Track, TrackTold, Turn, after_ack, after_calls, after_edits, after_push, after_round, after_takes, after_tracks, begun, calls_in, client_begins, client_keeps, client_kept, each_track, edited_to, ends, fold-append, is_exit, learnt, met_after, mutated, next_command, pipe_size, setup_of, sides_of, told_at, turn_after, with_ends}
+use Rattle.af_enough_law.proofs.Common.{Client, ClientEvent, ClientKept, Learnt, Marks, NormalKept, RoundSeen, Run, Session, Setup, Shape, Track, TrackTold, Turn, after_ack, after_calls, after_edits, after_push, after_round, after_takes, after_tracks, begun, calls_in, client_begins, client_keeps, client_kept, each_track, edited_to, ends, fold-append, commands_exit, learnt, met_after, mutated, next_command, pipe_size, setup_of, sides_of, told_at, turn_after, with_ends}
 use Rattle.af_base.specs.declared.event.ClientEvent.TheVariants as client
 use Rattle.af_enough_law.proofs.Basics.{ack_ended, edits_ended, ordered_ended, push_ended}
 use Rattle.af_enough_law.specs.NormalRounds.{TurnMade}
@@ -30,7 +30,7 @@ client_after s run round i low going =
 edits_going : (c : Setup) (k : Learnt) (e : Turn) (m : NormalKept) → (after_edits c k e m).ended ≡ m.ended
 unfolding mutated
 edits_going c k e m = let x : NormalKept = after_tracks c k e (after_ack e.ack m) in
-    ordered_ended (next_command (is_exit (edited_to c k x (length x.tracks)).draft) (edited_to c k x (length x.tracks)).tracks e.room (pipe_size c)) (edited_to c k x (length x.tracks))
+    ordered_ended (next_command (commands_exit (edited_to c k x (length x.tracks)).draft) (edited_to c k x (length x.tracks)).tracks e.room (pipe_size c)) (edited_to c k x (length x.tracks))
     ∙ edits_ended c k x (length x.tracks) ∙ ack_ended e.ack m
 
 turn_going : (c : Setup) (k : Learnt) (m : NormalKept) (e : Turn) → e.ended ≡ false → m.ended ≡ false → (turn_after c k m e).ended ≡ false
@@ -45,7 +45,7 @@ or_left false b e = refl
 -- the normal mixer goes on after a round whose turn did
 pub mixer_goes : (s : Session) (marks : Marks) (run : Run) (round : RoundSeen) (t : TurnMade s marks run round) → t.turn.ended ≡ false → (after_round s run round).normal.ended ≡ false
 mixer_goes s marks run round t runs = ap (λ (m : NormalKept). m.ended) t.after
-    ∙ turn_going (setup_of s) (learnt t.by.outside) run.normal t.turn runs (or_left run.normal.ended (is_exit run.normal.last && t.turn.ack) (sym t.by.legal.ends ∙ runs))
+    ∙ turn_going (setup_of s) (learnt t.by.outside) run.normal t.turn runs (or_left run.normal.ended (commands_exit run.normal.last && t.turn.ack) (sym t.by.legal.ends ∙ runs))
 
 -- ## What the client has done
 

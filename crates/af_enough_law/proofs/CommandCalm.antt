@@ -4,7 +4,7 @@ use Rattle.af_enough_law.proofs.Common.{Absent, Active, CommandLook, Flushed, He
 use Rattle.af_base.specs.declared.event.ServerEvent.TheVariants as server
 use Rattle.af_base.specs.declared.seen.Seen.TheVariants as seen
 use Rattle.af_life.specs.declared.state.LifeState.{LifeState}
-use Rattle.af_life.specs.State.{code_of}
+use Rattle.af_life.specs.State.{life_code}
 use Rattle.af_enough_law.specs.Courses.{none_shut}
 use Rattle.af_enough_law.specs.NormalRounds.{TurnMade}
 use Rattle.af_enough_law.specs.Seen.{are_calm}
@@ -50,7 +50,7 @@ undropped_looks (look ∷ looks) (front ∷ fronts) s h = let now : List ServerE
 
 -- ## The status word
 
-code_small : (state : LifeState) → code_of state < 15
+code_small : (state : LifeState) → life_code state < 15
 code_small Absent = omega arith
 code_small Idle = omega arith
 code_small Active = omega arith
@@ -69,7 +69,7 @@ word_state code settled false low = omega (arith, low)
 -- the word of a track that isn't shut says so
 word_calm : (s : TrackKept) → not (state_in (status_word false s) == 15) ≡ true
 unfolding status_word
-word_calm s = let small = code_small s.life.state in let is = word_state (code_of s.life.state) (s.settled % 16777216) s.life.drained small in let other : (state_in (status_word false s) == 15) ≡ false = search (arith, is, small) in ap not other
+word_calm s = let small = code_small s.life.state in let is = word_state (life_code s.life.state) (s.settled % 16777216) s.life.drained small in let other : (state_in (status_word false s) == 15) ≡ false = search (arith, is, small) in ap not other
 
 stored_calm : (last word : ℕ) → not (state_in word == 15) ≡ true → are_calm (status_events (stored_over last word)) ≡ true
 stored_calm last word calm = by (word == last)

@@ -1,6 +1,6 @@
 -- What a round does to a command block.
 use Rattle.std.proofs.Common.{◌+◌, ◌≤◌, ◌≡◌, ℕ, ◌<◌, Option, Some, None, List, [], ◌∷◌, ◌++◌, length, take, drop, refl, sym, ap, ◌∙◌, subst, arith, append_assoc, append-nil, length-append, if◌then◌else◌, fold, Bool, true, false}
-use Rattle.af_enough_law.proofs.Common.{BlockTold, ClientEvent, CommandLook, EntrySeen, IsClientList, LegalLooks, LegalRound, Listed, Marks, Outside, RoundSeen, Run, ServerEvent, ServerKept, Session, Shape, Side, TrackTold, Turn, TurnFound, after_calls, after_turn, all_command_events, all_played, before_turn, called, calls_in, client_list, command_events_of, command_list, commands_turned, cycle_frames, drops_none, each_at, early_of, flushes_of, fold-append, found_in, front_of, fronts_by, hand_list, invalid, is_tame, kept, late_of, lawful_front, learnt, listed, meets, met, met_after, outside_of, played, server_begins, server_keeps, server_kept, server_list, setup_of, sides_of, slot_for, state_for, status_events, take-append_seam, taken_begins, told_at, told_each, track_count, track_in, track_met, tracks_at, turned, turned_track, with_calls, with_cycle, with_cycles, with_poll, with_side, with_turn, words_taken}
+use Rattle.af_enough_law.proofs.Common.{BlockTold, ClientEvent, CommandLook, EntrySeen, IsClientList, LegalLooks, LegalRound, Listed, Marks, Outside, RoundSeen, Run, ServerEvent, ServerKept, Session, Shape, Side, TrackTold, Turn, TurnFound, after_calls, after_turn, all_command_events, all_played, before_turn, called_in_turn, calls_in, client_list, command_events_of, command_list, commands_turned, cycle_frames, drops_none, each_at, early_of, flushes_of, fold-append, found_in, front_of, fronts_by, hand_list, invalid, is_tame, kept, late_of, lawful_front, learnt, listed, meets, met, met_after, outside_of, played, server_begins, server_keeps, server_kept, server_list, setup_of, sides_of, slot_playing, state_for, status_events, take-append_seam, taken_begins, told_at, told_each, track_count, track_in, track_met, tracks_at, turned, turned_track, with_calls, with_cycle, with_cycles, with_poll, with_side, with_turn, words_taken}
 use Rattle.af_enough_law.proofs.Basics.{before_normal, put-append, taken-append}
 use Rattle.af_enough_law.proofs.CommandLooks.{server_of, LooksTaken}
 use Rattle.af_enough_law.proofs.CommandTurns.{looks_take, taken_all}
@@ -26,7 +26,7 @@ commands_of run i = (told_at run i).commands
 calls_commands : (round : RoundSeen) (run : Run) (i : ℕ) → i < length run.tracks → (later : Later (commands_of run i) (commands_of (with_calls round run) i)) × (server_list (commands_of (with_calls round run) i) ≡ server_list (commands_of run i))
 unfolding with_calls
 calls_commands round run i low =
-    subst (λ (t : TrackTold). (later : Later (commands_of run i) t.commands) × (server_list t.commands ≡ server_list (commands_of run i))) (sym (told_each (λ track t. called (calls_in round track) t) run i low))
+    subst (λ (t : TrackTold). (later : Later (commands_of run i) t.commands) × (server_list t.commands ≡ server_list (commands_of run i))) (sym (told_each (λ track t. called_in_turn (calls_in round track) t) run i low))
     (side_later (after_calls (sides_of (told_at run i)) (calls_in round i)).commands (commands_of run i))
   where
     side_later : (side : Side) (b : BlockTold) → (later : Later b (with_side side b)) × (server_list (with_side side b) ≡ server_list b)
@@ -34,7 +34,7 @@ calls_commands round run i low =
         (record { shape = refl; calls = es; client = client_does-client es b; events = []; server = client_does-server es b ∙ sym (append-nil (server_list b)) }, client_does-server es b)
 
 cycle_commands : (s : Session) (run : Run) (e : EntrySeen) (i : ℕ) → i < length run.tracks → commands_of (with_cycle s run e) i ≡ commands_of run i
-cycle_commands s run e i low = ap (λ (t : TrackTold). t.commands) (cycle_track s run e i low) ∙ by_slot (slot_for (state_for s (with_poll s e.entry.state run) e.entry.state) e.entry i)
+cycle_commands s run e i low = ap (λ (t : TrackTold). t.commands) (cycle_track s run e i low) ∙ by_slot (slot_playing (state_for s (with_poll s e.entry.state run) e.entry.state) e.entry i)
   where
     by_slot : (o : Option ℕ) → (elim o as (λ o. TrackTold) [ None ↦ told_at run i | Some k ↦ record (told_at run i) { stream = played (cycle_frames s) e k (told_at run i).stream } ]).commands ≡ commands_of run i
     by_slot None = refl
@@ -129,15 +129,15 @@ module _ (s : Session) (marks : Marks) (run : Run) (round : RoundSeen) (t : Turn
 
   pub commands_told : CommandsTold s run round t.turn i before after
   commands_told =
-      let called = calls_commands round run i low in
+      let called_in_turn = calls_commands round run i low in
       let b : BlockTold = commands_of (with_calls round run) i in
       let x : BlockTold = commands_of (all_played s run round) i in
-      let turned_server : server_list x ≡ server_list before ++ listed_then = ap server_list played_is ∙ server_does-server listed_then b ∙ ap (λ l. l ++ listed_then) called.1 in
-      let turned_client : client_list x ≡ client_list before ++ called.0.calls = ap client_list played_is ∙ server_does-client listed_then b ∙ called.0.client in
+      let turned_server : server_list x ≡ server_list before ++ listed_then = ap server_list played_is ∙ server_does-server listed_then b ∙ ap (λ l. l ++ listed_then) called_in_turn.1 in
+      let turned_client : client_list x ≡ client_list before ++ called_in_turn.0.calls = ap client_list played_is ∙ server_does-client listed_then b ∙ called_in_turn.0.client in
       let n : ℕ = length (server_list x) in record {
-        shape = ap (λ (y : BlockTold). y.shape) after_is ∙ ap (λ (y : BlockTold). y.shape) played_is ∙ called.0.shape;
-        calls = called.0.calls ++ client.Learn n ∷ [];
-        client = ap client_list after_is ∙ meets_client x ∙ ap (λ l. l ++ client.Learn n ∷ []) turned_client ∙ append_assoc (client_list before) called.0.calls (client.Learn n ∷ []);
+        shape = ap (λ (y : BlockTold). y.shape) after_is ∙ ap (λ (y : BlockTold). y.shape) played_is ∙ called_in_turn.0.shape;
+        calls = called_in_turn.0.calls ++ client.Learn n ∷ [];
+        client = ap client_list after_is ∙ meets_client x ∙ ap (λ l. l ++ client.Learn n ∷ []) turned_client ∙ append_assoc (client_list before) called_in_turn.0.calls (client.Learn n ∷ []);
         count = length (client_list x);
         server = ap server_list after_is ∙ meets_server x ∙ ap (λ l. l ++ server.Learn (length (client_list x)) ∷ []) turned_server ∙ append_assoc (server_list before) listed_then (server.Learn (length (client_list x)) ∷ []);
       }
@@ -170,7 +170,7 @@ module _ (s : Session) (marks : Marks) (run : Run) (round : RoundSeen) (t : Turn
     rest = flags ++ (status ++ server.Learn commands_told.count ∷ [])
 
     found_is : listed (commands_of (with_calls round run) i) ≡ start
-    found_is = let called = calls_commands round run i low in λ j. record { shape = (called.0.shape ∙ sym commands_told.shape) j; events = called.1 j }
+    found_is = let called_in_turn = calls_commands round run i low in λ j. record { shape = (called_in_turn.0.shape ∙ sym commands_told.shape) j; events = called_in_turn.1 j }
 
     list_is : listed_then ≡ (events ++ flags) ++ status
     list_is = ap (λ (b : Bool). if b then [] else command_events_of (setup_of s) o (track_in e i) (tracks_at (setup_of s) (learnt o) run.normal e i) i) runs
@@ -214,7 +214,7 @@ module _ (s : Session) (marks : Marks) (run : Run) (round : RoundSeen) (t : Turn
 
     calls_taken : (commands_of (with_calls round run) i).taken ≡ before.taken
     unfolding with_calls
-    calls_taken = ap (λ (x : TrackTold). x.commands.taken) (told_each (λ track x. called (calls_in round track) x) run i low)
+    calls_taken = ap (λ (x : TrackTold). x.commands.taken) (told_each (λ track x. called_in_turn (calls_in round track) x) run i low)
 
     -- the words that its looks took follow those taken before
     pub words_follow : after.taken ≡ before.taken ++ words_taken looks

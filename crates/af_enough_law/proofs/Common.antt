@@ -37,7 +37,7 @@ pub use Rattle.af_life.proofs.Basics.{at_here, at_new, at_other, at_set, each_se
 pub use Rattle.af_life.proofs.Lives.{acked_len, edits_len, not_yet, served_len, turn_len}
 pub use Rattle.af_life.specs.Commands.{Row, commands, first_effect}
 unfoldable pub use Rattle.af_life.specs.Commands.{by_command, starts}
-pub use Rattle.af_life.specs.Edits.{LegalPush, after_ack, after_push, comes_home, edited_to, entered, is_exit, is_over, lent_by, must_enter, must_leave}
+pub use Rattle.af_life.specs.Edits.{LegalPush, after_ack, after_push, comes_home, edited_to, entered, commands_exit, is_over, lent_by, must_enter, must_leave}
 unfoldable pub use Rattle.af_life.specs.Edits.{edited, lend, let_go, mutated, next_command, ordered, welcomed}
 pub use Rattle.af_life.specs.Heard.{counts_in, grown, heard, heard_at_home, heard_elsewhere, heard_with, is_reached, is_reported, learnt, ready, slot_reported}
 unfoldable pub use Rattle.af_life.specs.Heard.{heard_by, noted, settled_at}
@@ -45,7 +45,7 @@ pub use Rattle.af_life.specs.Kept.{Learnt, NormalKept, Outside, Setup, asked, is
 pub use Rattle.af_life.specs.Looks.{HasWords, LegalLooks, all_command_events, as_slot, command_events, did, takes_command, words_taken}
 pub use Rattle.af_life.specs.Obeys.{after_looks, are_due, ended, free_slot, goes_on, is_shut, must_wait, opens, shows_command, told}
 unfoldable pub use Rattle.af_life.specs.Obeys.{after_look, obeyed}
-pub use Rattle.af_life.specs.Plays.{LegalTake, after_take, after_takes, counted, is_mixed_here, mixed_here, put_by, take_of, tracks_due}
+pub use Rattle.af_life.specs.Plays.{LegalTake, after_take, after_takes, look_counted, is_mixed_here, mixed_here, put_by, take_of, tracks_due}
 pub use Rattle.af_life.specs.Reports.{Case, first_told, no_retries_left, reports, retries_after}
 unfoldable pub use Rattle.af_life.specs.Reports.{by_report, runs_dry, told_by_report}
 pub use Rattle.af_life.specs.Serves.{HasDueLooks, IsServed, after_report, is_found_shut, most_looks, served_to, state_code, status_due, stored_over}
@@ -73,7 +73,7 @@ pub use Rattle.af_model.proofs.Splits.{legal_at, ones_append, split_at}
 pub use Rattle.af_model.proofs.UsedStates.{last_used-push}
 pub use Rattle.af_model.specs.ClientCalls.{ClientKept, IsClientList, IsInvalid, IsOutside, client_begins, client_call_events, client_events_of, client_keeps, client_kept, filled_by}
 pub use Rattle.af_model.specs.Cycles.{IsSeen, Listed, LooksBy, cold_done, cycle_by, cycle_events, cycle_of, has_exit, is_mixed, kept, last_used, shown, state_of, still_entry, takes_shown, tally}
-pub use Rattle.af_model.specs.Draft.{commanded, detached, initial}
+pub use Rattle.af_model.specs.Draft.{draft_commanded, detached, initial}
 pub use Rattle.af_model.specs.Fates.{drops_none, keeps_all}
 pub use Rattle.af_model.specs.History.{HasHistory, IsLegal, Moment, after, by_client, by_hand, by_server, client_of, flush_in, flushes_of, hand_of, is_lawful, server_of}
 pub use Rattle.af_model.specs.Journals.{EntrySeen, JournalData, RoundSeen}
@@ -101,7 +101,7 @@ pub use Rattle.af_runs.specs.Found.{LegalTurnBy, TurnFound, outside_of, take_fro
 pub use Rattle.af_runs.specs.Fronts.{behind, front_by_answer, front_of, fronts_by, is_own_inside, is_shown, lawful_front, leaves_open}
 pub use Rattle.af_runs.specs.LegalRuns.{IsCutRun, LegalRounds, is_lawful_block, is_poke_on, marks_of, run_from, session_of}
 pub use Rattle.af_runs.specs.Rounds.{AreMixedBut, IsFastTurn, LegalEntries, LegalEntry, LegalRound, after_round, after_turn, all_played, before_turn, early_count, early_of, fills, found_in, is_early, late_of, loaded, met_after, turned}
-pub use Rattle.af_runs.specs.Runs.{Run, TrackTold, all_ended, called, calls_in, commands_turned, draft_after, each_track, fast_ended, fast_party, has_ended, holds, known_of, last_report, load_of, mixed_pipe, mixed_track, most_cycles, new_run, next_slot, normal_party, pipe_cells, played, pushed_by, report_of, sides_of, slot_for, state_for, stream_met, stream_of, stream_turned, takes_part, told_at, track_met, turned_track, with_cycle, with_cycles, with_looks, with_side}
+pub use Rattle.af_runs.specs.Runs.{Run, TrackTold, all_ended, called_in_turn, calls_in, commands_turned, draft_after, each_track, fast_ended, fast_party, has_ended, observer_holds, known_of, last_report, load_of, mixed_pipe, mixed_track, most_round_cycles, new_run, next_slot, normal_party, pipe_cells, played, pushed_by, report_of, sides_of, slot_playing, state_for, stream_met, stream_of, stream_turned, takes_part, told_at, track_met, turned_track, with_cycle, with_cycles, with_looks, with_side}
 unfoldable pub use Rattle.af_runs.specs.Runs.{met, with_calls, with_ends, with_load, with_mix, with_poll, with_turn}
 pub use Rattle.af_runs.specs.Sessions.{Session, cycle_frames, no_spec, setup_of, spec_of, spec_setting, track_count}
 pub use Rattle.af_runs.specs.Told.{HasQueueHistory, Item, PipeTold, QueueTold, brought_by, is_pushed, items_of, mutator_does, observer_does, poll_events, state_at}

@@ -1,6 +1,6 @@
 -- A legal round leaves a track on its course.
 use Rattle.std.proofs.Common.{◌≡◌, ◌⊎◌, inl, inr, ℕ, ◌+◌, ◌*◌, ◌≤◌, ◌<◌, ◌&&◌, ◌||◌, Bool, true, false, None, List, length, ap, ◌∙◌, arith}
-use Rattle.af_enough_law.proofs.Common.{GoesOn, IsServed, Learnt, Life, Marks, NormalKept, Outside, RoundSeen, Run, Session, Setup, TrackKept, Turn, by_false, heard, is_exit, learnt, most_looks, nothing_seen, ready, track_at, track_in, words_taken}
+use Rattle.af_enough_law.proofs.Common.{GoesOn, IsServed, Learnt, Life, Marks, NormalKept, Outside, RoundSeen, Run, Session, Setup, TrackKept, Turn, by_false, heard, commands_exit, learnt, most_looks, nothing_seen, ready, track_at, track_in, words_taken}
 use Rattle.af_enough_law.proofs.Basics.{course_long}
 use Rattle.af_enough_law.specs.Courses.{none_shut, is_ended, starts_at_once, course, Follows}
 use Rattle.af_enough_law.specs.NormalRounds.{TurnMade}
@@ -32,5 +32,5 @@ pub course_ends : (count j more : ℕ) (c : Setup) (o : Outside) (m : NormalKept
 course_ends count j more c o m e i lt runs goes f alive le open_is words = looks_end count j more c o m e i lt runs goes f.awaits alive le open_is words
 
 -- while its turn follows, the mixer hasn't ended: it ends only if an Exit is acknowledged
-pub goes_unless_exit : (s : Session) (marks : Marks) (run : Run) (round : RoundSeen) (t : TurnMade s marks run round) → run.normal.ended ≡ false → is_exit run.normal.last ≡ false → t.turn.ended ≡ false
+pub goes_unless_exit : (s : Session) (marks : Marks) (run : Run) (round : RoundSeen) (t : TurnMade s marks run round) → run.normal.ended ≡ false → commands_exit run.normal.last ≡ false → t.turn.ended ≡ false
 goes_unless_exit s marks run round t runs going = t.by.legal.ends ∙ (λ i. runs i || (going i && t.turn.ack))

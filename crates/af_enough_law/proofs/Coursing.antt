@@ -1,7 +1,7 @@
 -- How a track that plays through lives.
 use Rattle.std.proofs.Common.{◌≡◌, ℕ, zero, suc, ◌+◌, ◌-◌, ◌<◌, ◌≤◌, ◌==◌, ◌&&◌, ◌||◌, not, nat_le, nat_lt, Bool, true, false, min, refl, sym, ap, ◌∙◌, subst, arith, true≢false, Option, if◌then◌else◌}
 use Rattle.af_enough_law.proofs.Common.{Active, Known, Life, Stopping1, Stopping2, TrackKept, and_none, by_command, by_report, commands, first_effect, not_zero, opens, plays, retries_after, runs_dry}
-use Rattle.af_life.specs.State.{code_of}
+use Rattle.af_life.specs.State.{life_code}
 use Rattle.af_enough_law.specs.Courses.{told_all, starts_at_once, code_at, argument_at, course, life_in, Course, absent, idle, playing, stopping, drained, stopped, over, stage, is_heard}
 
 -- ## A command
@@ -157,7 +157,7 @@ course_plays count k l (over life e) = ap (λ (b : Bool). life.member && not b) 
     last false = refl
 
 -- the code of a stopped track is 8
-pub stopped_code : (count : ℕ) (l : Life) → Course count 3 l → stage l ≡ 3 → (code_of l.state ≡ 8) × (l.drained ≡ true)
+pub stopped_code : (count : ℕ) (l : Life) → Course count 3 l → stage l ≡ 3 → (life_code l.state ≡ 8) × (l.drained ≡ true)
 stopped_code count l (stopping retries) e = absurd (omega arith)
 stopped_code count l (drained retries) e = absurd (omega arith)
 stopped_code count l (stopped retries) e = (refl, refl)

@@ -1,6 +1,6 @@
 -- What a turn makes of the holders, the draft and the pushes.
 use Rattle.std.proofs.Common.{◌≡◌, ◌⊎◌, inl, inr, ℕ, zero, suc, ◌+◌, ◌<◌, ◌==◌, ◌&&◌, ◌||◌, not, Bool, true, false, List, [], ◌∷◌, length, fold, refl, sym, ap, ◌∙◌, subst, arith, true≢false, Option, Some, None, is_some, if◌then◌else◌}
-use Rattle.af_enough_law.proofs.Common.{Busy, Clean, ColdIdle, Command, CommandLook, Exit, FastState, GoesOn, Heard, Holder, Home, Learnt, LegalPush, Lent, Life, MixWrite, NormalKept, Outside, Push, Pushed, Returning, Setup, SlotReport, TakeSeen, TrackKept, Turn, after_ack, after_edits, after_look, after_looks, after_part, after_push, after_take, after_takes, after_tracks, asked as buffer, by_test, code_of, commanded as with_command, counted, counts_in, edited, edited_to, ended, goes_on, heard, is_exit, is_home, is_lent, is_over, is_reached, is_reported, is_shut, learnt, lend, let_go, list_any, must_enter, must_leave, must_wait, mutated, next_command, no, no_counts, noted, obeyed, ordered, pipe_size, plays, push_draft, push_tracks, ready, settled_at, shows_command, slice_set, slot_reported, told, track_at, track_in, turn_after}
+use Rattle.af_enough_law.proofs.Common.{Busy, Clean, ColdIdle, Command, CommandLook, Exit, FastState, GoesOn, Heard, Holder, Home, Learnt, LegalPush, Lent, Life, MixWrite, NormalKept, Outside, Push, Pushed, Returning, Setup, SlotReport, TakeSeen, TrackKept, Turn, after_ack, after_edits, after_look, after_looks, after_part, after_push, after_take, after_takes, after_tracks, asked as buffer, by_test, code_of, draft_commanded as with_command, look_counted, counts_in, edited, edited_to, ended, goes_on, heard, commands_exit, is_home, is_lent, is_over, is_reached, is_reported, is_shut, learnt, lend, let_go, list_any, must_enter, must_leave, must_wait, mutated, next_command, no, no_counts, noted, obeyed, ordered, pipe_size, plays, push_draft, push_tracks, ready, settled_at, shows_command, slice_set, slot_reported, told, track_at, track_in, turn_after}
 use Rattle.af_enough_law.specs.TrackTurns.{attended, Edited, stays, leaves, enters, TrackTurned}
 use Rattle.af_enough_law.specs.Drafts.{next_holder, IsLatest, PushMade}
 use Rattle.af_enough_law.proofs.Served.{track_turned, ordered_tracks}
@@ -97,7 +97,7 @@ take_any (t ∷ tracks) (suc n) s e f = let more = take_any tracks n s e f in (a
 takes_any : (asked : ℕ) (takes : List TakeSeen) (tracks : List TrackKept)
     → (list_any (λ (s : TrackKept). plays s.life) (fold (after_take asked) tracks takes) ≡ list_any (λ (s : TrackKept). plays s.life) tracks) × (is_over (fold (after_take asked) tracks takes) ≡ is_over tracks)
 takes_any asked [] tracks = (refl, refl)
-takes_any asked (take ∷ takes) tracks = let more = takes_any asked takes (after_take asked tracks take) in let one = take_any tracks take.track (record (track_at tracks take.track) { own = counted asked take.slot.seen (track_at tracks take.track).own }) refl refl in
+takes_any asked (take ∷ takes) tracks = let more = takes_any asked takes (after_take asked tracks take) in let one = take_any tracks take.track (record (track_at tracks take.track) { own = look_counted asked take.slot.seen (track_at tracks take.track).own }) refl refl in
     (more.0 ∙ one.0, more.1 ∙ one.1)
 
 abbrev by_facts : Bool → Bool → Bool → Bool → Command
@@ -105,10 +105,10 @@ by_facts whole exits over heard = if exits || (over && whole) then Exit else if 
 
 -- The command of the draft after a turn follows from the tracks that it leaves: an Exit stays; it comes if all is over and the pipe has all its room; else a mix if a track is to be heard or the pipe isn't empty
 pub command_turned : (c : Setup) (k : Learnt) (m : NormalKept) (e : Turn) → e.ended ≡ false
-    → code_of (turn_after c k m e).draft.command ≡ code_of (next_command (is_exit m.draft) (turn_after c k m e).tracks e.room (pipe_size c))
+    → code_of (turn_after c k m e).draft.command ≡ code_of (next_command (commands_exit m.draft) (turn_after c k m e).tracks e.room (pipe_size c))
 unfolding turn_after mutated next_command
 command_turned c k m e runs =
-    subst (λ (b : Bool). let n = if b then record m { ended = true } else after_takes c e.mixes (after_push e.push (after_edits c k e m)) in code_of n.draft.command ≡ code_of (next_command (is_exit m.draft) n.tracks e.room (pipe_size c))) (sym runs) goes
+    subst (λ (b : Bool). let n = if b then record m { ended = true } else after_takes c e.mixes (after_push e.push (after_edits c k e m)) in code_of n.draft.command ≡ code_of (next_command (commands_exit m.draft) n.tracks e.room (pipe_size c))) (sym runs) goes
   where
     served_m : NormalKept
     served_m = after_tracks c k e (after_ack e.ack m)
@@ -120,8 +120,8 @@ command_turned c k m e runs =
     ack_draft true = refl
     ack_draft false = refl
 
-    exit_same : is_exit edits_m.draft ≡ is_exit m.draft
-    exit_same = ap (λ (x : Command). code_of x == code_of Exit) (edits_command c k served_m (length served_m.tracks)) ∙ ap is_exit (ack_draft e.ack)
+    exit_same : commands_exit edits_m.draft ≡ commands_exit m.draft
+    exit_same = ap (λ (x : Command). code_of x == code_of Exit) (edits_command c k served_m (length served_m.tracks)) ∙ ap commands_exit (ack_draft e.ack)
 
     pushed : (after_push e.push (after_edits c k e m)).tracks ≡ edits_m.tracks
     pushed = push_tracks e.push (after_edits c k e m) ∙ ordered_tracks c k e.room served_m
@@ -135,9 +135,9 @@ command_turned c k m e runs =
     over_same : is_over (fold (after_take (buffer c)) (after_push e.push (after_edits c k e m)).tracks e.mixes) ≡ is_over edits_m.tracks
     over_same = takes_same.1 ∙ ap is_over pushed
 
-    goes : code_of (after_push e.push (after_edits c k e m)).draft.command ≡ code_of (next_command (is_exit m.draft) (after_takes c e.mixes (after_push e.push (after_edits c k e m))).tracks e.room (pipe_size c))
+    goes : code_of (after_push e.push (after_edits c k e m)).draft.command ≡ code_of (next_command (commands_exit m.draft) (after_takes c e.mixes (after_push e.push (after_edits c k e m))).tracks e.room (pipe_size c))
     goes = ap (λ (x : FastState). code_of x.command) (push_draft e.push (after_edits c k e m))
-        ∙ ordered_code (next_command (is_exit edits_m.draft) edits_m.tracks e.room (pipe_size c)) edits_m
+        ∙ ordered_code (next_command (commands_exit edits_m.draft) edits_m.tracks e.room (pipe_size c)) edits_m
         ∙ (λ i. code_of (by_facts (e.room == pipe_size c) (exit_same i) (sym over_same i) (sym heard_same i)))
 
 -- ## The pushes
@@ -183,7 +183,7 @@ after_latest c k e m h = let x : NormalKept = after_tracks c k e (after_ack e.ac
 pub after_pushes : (c : Setup) (k : Learnt) (e : Turn) (m : NormalKept) → ((after_edits c k e m).pushed ≡ m.pushed) × ((after_edits c k e m).last ≡ m.last)
 unfolding mutated
 after_pushes c k e m = let x : NormalKept = after_tracks c k e (after_ack e.ack m) in
-    let o = ordered_pushes (next_command (is_exit (edited_to c k x (length x.tracks)).draft) (edited_to c k x (length x.tracks)).tracks e.room (pipe_size c)) (edited_to c k x (length x.tracks)) in
+    let o = ordered_pushes (next_command (commands_exit (edited_to c k x (length x.tracks)).draft) (edited_to c k x (length x.tracks)).tracks e.room (pipe_size c)) (edited_to c k x (length x.tracks)) in
     let ed = edits_pushes c k x (length x.tracks) in
     let a = ack_pushes e.ack m in (o.0 ∙ ed.0 ∙ a.0, o.1 ∙ ed.1 ∙ a.1)
 

@@ -1,6 +1,6 @@
 -- From the Exit that is ordered to the ends of both mixers.
 use Rattle.std.proofs.Common.{None, ◌≡◌, ◌⊎◌, inl, inr, ℕ, suc, ◌+◌, ◌≤◌, Bool, true, false, All, List, [], ◌∷◌, length, if◌then◌else◌, refl, sym, ap, ◌∙◌, subst, arith}
-use Rattle.af_enough_law.proofs.Common.{EntrySeen, Learnt, LegalRound, LegalTurnBy, Marks, MatchBool, MatchOption, NormalKept, RoundSeen, Run, Session, Setting, Setup, Turn, after_ack, after_edits, after_push, after_round, after_takes, after_tracks, after_turn, before_turn, early_of, edited_to, fast_ended, found_in, has_exit, is_exit, is_pushed, late_of, learnt, mutated, next_command, ordered, pipe_size, setup_of, turn_after, turn_len, with_calls, with_cycle, with_cycles}
+use Rattle.af_enough_law.proofs.Common.{EntrySeen, Learnt, LegalRound, LegalTurnBy, Marks, MatchBool, MatchOption, NormalKept, RoundSeen, Run, Session, Setting, Setup, Turn, after_ack, after_edits, after_push, after_round, after_takes, after_tracks, after_turn, before_turn, early_of, edited_to, fast_ended, found_in, has_exit, commands_exit, is_pushed, late_of, learnt, mutated, next_command, ordered, pipe_size, setup_of, turn_after, turn_len, with_calls, with_cycle, with_cycles}
 use Rattle.af_enough_law.proofs.Basics.{ack_ended, before_normal, edits_ended, ordered_ended, push_ended}
 use Rattle.af_enough_law.specs.EndPhases.{NoExits, BothGo, Ordered, Sending, Closing, BothEnded}
 use Rattle.af_enough_law.specs.Acks.{KnowsAcked}
@@ -51,7 +51,7 @@ unfolding mutated
 kept_ended c k e m =
     let x : NormalKept = after_tracks c k e (after_ack e.ack m) in
     let y : NormalKept = edited_to c k x (length x.tracks) in
-    push_ended e.push (after_edits c k e m) ∙ ordered_ended (next_command (is_exit y.draft) y.tracks e.room (pipe_size c)) y ∙ edits_ended c k x (length x.tracks) ∙ ack_ended e.ack m
+    push_ended e.push (after_edits c k e m) ∙ ordered_ended (next_command (commands_exit y.draft) y.tracks e.room (pipe_size c)) y ∙ edits_ended c k x (length x.tracks) ∙ ack_ended e.ack m
 
 -- the normal mixer has ended by its turn
 pub ended_after : (s : Session) (marks : Marks) (run : Run) (round : RoundSeen) (t : TurnMade s marks run round) (b : Bool) → t.turn.ended ≡ b → run.normal.ended ≡ false → (after_round s run round).normal.ended ≡ b
@@ -164,7 +164,7 @@ module _ (s : Session) (marks : Marks) (scales : All (λ (x : Setting). x.scale 
       }
 
   -- the round that orders the Exit pushes it, or its push was busy
-  pub ordering_next : Underway s run → Rests after.normal → is_exit after.normal.draft ≡ true → Ordered s after ⊎ (Sending s after ⊎ Closing after)
+  pub ordering_next : Underway s run → Rests after.normal → commands_exit after.normal.draft ≡ true → Ordered s after ⊎ (Sending s after ⊎ Closing after)
   ordering_next u rests draft =
       let t = turn_made false s marks run round legal u.runs in
       let goes = goes_unless_exit s marks run round t u.runs u.none in
@@ -179,7 +179,7 @@ module _ (s : Session) (marks : Marks) (scales : All (λ (x : Setting). x.scale 
           inl (record {
             both = both_after u rests t goes (round_going s marks run round legal u.exits later u.going);
             draft = draft;
-            none = ap is_exit k.1 ∙ u.none;
+            none = ap commands_exit k.1 ∙ u.none;
             exits = later;
             acked = known_unless u t goes (unpushed t.turn.push is);
           })

@@ -1,6 +1,6 @@
 -- The rounds once every life has ended: what was lent comes home.
 use Rattle.std.proofs.Common.{◌≡◌, ◌⊎◌, inl, inr, ◌≤◌, Bool, true, false, true≢false, All, [], ◌∷◌, ◌++◌, length, if◌then◌else◌, refl, sym, ap, ◌∙◌, subst, arith, append-nil, eq-eqb}
-use Rattle.af_enough_law.proofs.Common.{Busy, Clean, GoesOn, LegalRound, Marks, NormalKept, Push, Pushed, RoundSeen, Run, Session, Setting, after_round, after_turn, before_turn, draft_after, fast_ended, found_in, is_exit, is_over, is_pushed, learnt, outside_of, pipe_size, setup_of, turn_after}
+use Rattle.af_enough_law.proofs.Common.{Busy, Clean, GoesOn, LegalRound, Marks, NormalKept, Push, Pushed, RoundSeen, Run, Session, Setting, after_round, after_turn, before_turn, draft_after, fast_ended, found_in, commands_exit, is_over, is_pushed, learnt, outside_of, pipe_size, setup_of, turn_after}
 use Rattle.af_enough_law.specs.Acks.{KnowsAcked}
 use Rattle.af_enough_law.specs.Drafts.{is_busy, PushMade}
 use Rattle.af_enough_law.specs.Ends.{AllHome, CarriesNone, IsInOrder, Rests, ExitSent}
@@ -67,18 +67,18 @@ module _ (s : Session) (marks : Marks) (scales : All (λ (x : Setting). x.scale 
   -- ## The Exit
 
   -- once all lives have ended, all proxies are home and the pipe was empty, the Exit is ordered
-  pub orders_round : Rests after.normal → AllHome after.normal.tracks → in_pipe run ≡ 0 → RoomSeen s run t.turn → is_exit after.normal.draft ≡ true
+  pub orders_round : Rests after.normal → AllHome after.normal.tracks → in_pipe run ≡ 0 → RoomSeen s run t.turn → commands_exit after.normal.draft ≡ true
   orders_round rests home empty room =
       let over : is_over next.tracks ≡ true = ap (λ (m : NormalKept). is_over m.tracks) (sym t.after) ∙ is_over_by after.normal.tracks rests.over home in
       let whole : t.turn.room ≡ pipe_size (setup_of s) = (let a = room.least in let b = room.most in omega (arith, a, b, empty)) in
-      ap (λ (m : NormalKept). is_exit m.draft) t.after ∙ exit_code next.draft (orders_exit (setup_of s) (learnt t.by.outside) run.normal t.turn goes over (eq-eqb t.turn.room (pipe_size (setup_of s)) whole))
+      ap (λ (m : NormalKept). commands_exit m.draft) t.after ∙ exit_code next.draft (orders_exit (setup_of s) (learnt t.by.outside) run.normal t.turn goes over (eq-eqb t.turn.room (pipe_size (setup_of s)) whole))
 
-  sent_by : is_exit next.draft ≡ true → PushMade run.normal next t.turn.push → is_busy t.turn.push ≡ false → ExitSent next
-  sent_by is made free = let d = made.done free in record { draft = is; last = ap is_exit d.1 ∙ is; clean = d.0 }
+  sent_by : commands_exit next.draft ≡ true → PushMade run.normal next t.turn.push → is_busy t.turn.push ≡ false → ExitSent next
+  sent_by is made free = let d = made.done free in record { draft = is; last = ap commands_exit d.1 ∙ is; clean = d.0 }
 
   -- a push that isn't busy sends it
-  pub exit_pushed : IsInOrder run.normal → is_exit after.normal.draft ≡ true → is_busy t.turn.push ≡ false → ExitSent after.normal
-  exit_pushed order is free = subst ExitSent (sym t.after) (sent_by (ap (λ (m : NormalKept). is_exit m.draft) (sym t.after) ∙ is) (pushes order) free)
+  pub exit_pushed : IsInOrder run.normal → commands_exit after.normal.draft ≡ true → is_busy t.turn.push ≡ false → ExitSent after.normal
+  exit_pushed order is free = subst ExitSent (sym t.after) (sent_by (ap (λ (m : NormalKept). commands_exit m.draft) (sym t.after) ∙ is) (pushes order) free)
 
   -- a busy push leaves the states and the last of them
   pub busy_leaves : IsInOrder run.normal → is_busy t.turn.push ≡ true → (after.states ≡ run.states) × (after.normal.last ≡ run.normal.last)
@@ -90,7 +90,7 @@ module _ (s : Session) (marks : Marks) (scales : All (λ (x : Setting). x.scale 
       )
 
   -- the Exit is pushed by the next turn
-  pub exit_then : Rests run.normal → is_exit run.normal.draft ≡ true → ExitSent run.normal ⊎ KnowsAcked run → ExitSent after.normal
+  pub exit_then : Rests run.normal → commands_exit run.normal.draft ≡ true → ExitSent run.normal ⊎ KnowsAcked run → ExitSent after.normal
   exit_then rests is h = subst ExitSent (sym t.after) (sent_by (exit_stays (setup_of s) (learnt t.by.outside) run.normal t.turn goes is) (pushes rests.order) (free h))
     where
       free : ExitSent run.normal ⊎ KnowsAcked run → is_busy t.turn.push ≡ false
@@ -106,7 +106,7 @@ module _ (s : Session) (marks : Marks) (scales : All (λ (x : Setting). x.scale 
   exit_known rests sent going knows stands = knows_acked s marks run round legal going knows stands (exit_last rests sent)
 
 -- the mixer ends once the Exit is acknowledged
-pub exit_ends : (s : Session) (marks : Marks) (run : Run) (round : RoundSeen) → LegalRound false s marks run round → (runs : run.normal.ended ≡ false) → (t : TurnMade s marks run round) → is_exit run.normal.last ≡ true → KnowsAcked run → (after_round s run round).normal.ended ≡ true
+pub exit_ends : (s : Session) (marks : Marks) (run : Run) (round : RoundSeen) → LegalRound false s marks run round → (runs : run.normal.ended ≡ false) → (t : TurnMade s marks run round) → commands_exit run.normal.last ≡ true → KnowsAcked run → (after_round s run round).normal.ended ≡ true
 exit_ends s marks run round legal runs t is knows =
     ap (λ (m : NormalKept). m.ended) t.after ∙ ends_turn (setup_of s) (learnt t.by.outside) run.normal t.turn t.by.legal.ends is (turn_sees_ack false s marks run round legal runs knows t).0
 

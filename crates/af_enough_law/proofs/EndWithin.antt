@@ -1,6 +1,6 @@
 -- From the moment that every life has ended both mixers end within ten rounds.
 use Rattle.std.proofs.Common.{◌≡◌, ◌⊎◌, inl, inr, ℕ, zero, suc, ◌+◌, ◌-◌, ◌*◌, ◌<◌, ◌≤◌, Bool, true, false, All, List, [], ◌∷◌, ◌++◌, length, refl, sym, ap, ◌∙◌, subst, arith, length-append}
-use Rattle.af_enough_law.proofs.Common.{IsScript, LegalRound, LegalRounds, Marks, NormalKept, RoundSeen, Run, Session, Setting, TrackKept, after_round, asked, cycle_frames, is_exit, learnt, mul-le-mul, new_run, pipe_size, run_from, scales_of, setup_of, track_at, turn_after}
+use Rattle.af_enough_law.proofs.Common.{IsScript, LegalRound, LegalRounds, Marks, NormalKept, RoundSeen, Run, Session, Setting, TrackKept, after_round, asked, cycle_frames, commands_exit, learnt, mul-le-mul, new_run, pipe_size, run_from, scales_of, setup_of, track_at, turn_after}
 use Rattle.af_enough_law.specs.Acks.{KnowsAcked}
 use Rattle.af_enough_law.specs.Drafts.{is_busy}
 use Rattle.af_enough_law.specs.EndPhases.{BothEnded}
@@ -72,14 +72,14 @@ module _ (s : Session) (marks : Marks) (scales : All (λ (x : Setting). x.scale 
     clean : (in_pipe run ≡ 0) ⊎ IsClean run
     low : in_pipe run ≤ n * turn
 
-  ordering : (run : Run) (round : RoundSeen) → LegalRound false s marks run round → Resting s run → is_exit (after_round s run round).normal.draft ≡ true → EndWithin s marks 3 (after_round s run round)
+  ordering : (run : Run) (round : RoundSeen) → LegalRound false s marks run round → Resting s run → commands_exit (after_round s run round).normal.draft ≡ true → EndWithin s marks 3 (after_round s run round)
   ordering run round legal r is = ordered_within s marks scales (after_round s run round) (ordering_next s marks scales run round legal r.under (rests_after s marks scales small run round legal r) is)
 
   -- a round brings it one nearer, or orders the Exit
   drains_on : (n : ℕ) (run : Run) (round : RoundSeen) → LegalRound false s marks run round → Draining (suc n) run → Draining n (after_round s run round) ⊎ EndWithin s marks 3 (after_round s run round)
-  drains_on n run round legal d = by (is_exit (after_round s run round).normal.draft) refl
+  drains_on n run round legal d = by (commands_exit (after_round s run round).normal.draft) refl
     where
-      by : (b : Bool) → is_exit (after_round s run round).normal.draft ≡ b → Draining n (after_round s run round) ⊎ EndWithin s marks 3 (after_round s run round)
+      by : (b : Bool) → commands_exit (after_round s run round).normal.draft ≡ b → Draining n (after_round s run round) ⊎ EndWithin s marks 3 (after_round s run round)
       by true is = inr (ordering run round legal d.resting is)
       by false is =
           let r = d.resting in
@@ -109,13 +109,13 @@ module _ (s : Session) (marks : Marks) (scales : All (λ (x : Setting). x.scale 
   Sent run = (CarriesNone run.normal.last × IsClean run) ⊎ KnowsAcked run
 
   resting : (run : Run) → Resting s run → Sent run → EndWithin s marks 9 run
-  resting run r sent = next_within s marks 8 run (λ round legal. by round legal (is_exit (after_round s run round).normal.draft) refl)
+  resting run r sent = next_within s marks 8 run (λ round legal. by round legal (commands_exit (after_round s run round).normal.draft) refl)
     where
       empty : Sent run → CarriesNone run.normal.last ⊎ KnowsAcked run
       empty (inl h) = inl h.0
       empty (inr knows) = inr knows
 
-      by : (round : RoundSeen) → LegalRound false s marks run round → (b : Bool) → is_exit (after_round s run round).normal.draft ≡ b → EndWithin s marks 8 (after_round s run round)
+      by : (round : RoundSeen) → LegalRound false s marks run round → (b : Bool) → commands_exit (after_round s run round).normal.draft ≡ b → EndWithin s marks 8 (after_round s run round)
       by round legal true is = more_within s marks 3 8 (after_round s run round) (omega arith) (ordering run round legal r is)
       by round legal false is =
           let u = r.under in
@@ -161,9 +161,9 @@ module _ (s : Session) (marks : Marks) (scales : All (λ (x : Setting). x.scale 
 
     -- after a round that leaves every life ended, both mixers end within nine rounds
     pub over_within : AllOver after.normal.tracks → EndWithin s marks 9 after
-    over_within over = by (is_exit after.normal.draft) refl (rests_next over)
+    over_within over = by (commands_exit after.normal.draft) refl (rests_next over)
       where
-        by : (b : Bool) → is_exit after.normal.draft ≡ b → Rests next → EndWithin s marks 9 after
+        by : (b : Bool) → commands_exit after.normal.draft ≡ b → Rests next → EndWithin s marks 9 after
         by true is rests = more_within s marks 3 9 after (omega arith) (ordered_within s marks scales after (ordering_next s marks scales run round legal u (subst Rests (sym made_turn.after) rests) is))
         by false is rests = resting after (rested run round legal u (underway_round s marks scales small run round legal u is) (subst Rests (sym made_turn.after) rests)) (sent_after rests)
 

@@ -1,6 +1,6 @@
 -- The Exit of the normal mixer: it stays in the draft, is pushed once, and ends the mixer when it is seen acknowledged.
 use Rattle.std.proofs.Common.{◌≡◌, ℕ, zero, suc, ◌<◌, ◌≤◌, ◌==◌, ◌&&◌, ◌||◌, not, Bool, true, false, true≢false, List, length, is_some, if◌then◌else◌, refl, sym, ap, ◌∙◌, arith}
-use Rattle.af_enough_law.proofs.Common.{Busy, Clean, ColdIdle, Command, Exit, FastState, GoesOn, Holder, Home, Learnt, LegalPush, Life, MixWrite, NormalKept, Outside, Push, Pushed, Setup, TrackKept, Turn, acked_len, after_ack, after_edits, after_part, after_push, after_takes, after_tracks, code_of, comes_home, commanded as with_command, edited, edited_to, heard, if_true, is_exit, is_home, is_lent, is_over, is_pushed, learnt, lend, let_go, list_any, must_enter, must_leave, mutated, next_command, no, ordered, pipe_size, plays, ready, rest_enters, served_len, track_at, track_in, tracks_at, turn_after, welcomed}
+use Rattle.af_enough_law.proofs.Common.{Busy, Clean, ColdIdle, Command, Exit, FastState, GoesOn, Holder, Home, Learnt, LegalPush, Life, MixWrite, NormalKept, Outside, Push, Pushed, Setup, TrackKept, Turn, acked_len, after_ack, after_edits, after_part, after_push, after_takes, after_tracks, code_of, comes_home, draft_commanded as with_command, edited, edited_to, heard, if_true, commands_exit, is_home, is_lent, is_over, is_pushed, learnt, lend, let_go, list_any, must_enter, must_leave, mutated, next_command, no, ordered, pipe_size, plays, ready, rest_enters, served_len, track_at, track_in, tracks_at, turn_after, welcomed}
 use Rattle.af_enough_law.specs.Drafts.{is_busy}
 use Rattle.af_life.specs.Obeys.{slot_for}
 use Rattle.af_enough_law.specs.Ends.{Rests}
@@ -21,12 +21,12 @@ exit_next : (exits : Bool) (tracks : List TrackKept) (room size : ℕ) → exits
 unfolding next_command
 exit_next exits tracks room size is = exit_by exits (is_over tracks) (list_any (λ (s : TrackKept). plays s.life) tracks) (room == size) is
 
-pub exit_code : (x : FastState) → code_of x.command ≡ code_of Exit → is_exit x ≡ true
+pub exit_code : (x : FastState) → code_of x.command ≡ code_of Exit → commands_exit x ≡ true
 exit_code x is = ap (λ (n : ℕ). n == code_of Exit) is
 
 -- an Exit stays in the draft
-pub exit_stays : (c : Setup) (k : Learnt) (m : NormalKept) (e : Turn) → e.ended ≡ false → is_exit m.draft ≡ true → is_exit (turn_after c k m e).draft ≡ true
-exit_stays c k m e runs is = exit_code (turn_after c k m e).draft (command_turned c k m e runs ∙ ap (λ (x : Command). code_of x) (exit_next (is_exit m.draft) (turn_after c k m e).tracks e.room (pipe_size c) is))
+pub exit_stays : (c : Setup) (k : Learnt) (m : NormalKept) (e : Turn) → e.ended ≡ false → commands_exit m.draft ≡ true → commands_exit (turn_after c k m e).draft ≡ true
+exit_stays c k m e runs is = exit_code (turn_after c k m e).draft (command_turned c k m e runs ∙ ap (λ (x : Command). code_of x) (exit_next (commands_exit m.draft) (turn_after c k m e).tracks e.room (pipe_size c) is))
 
 -- ## It is pushed once
 
@@ -50,12 +50,12 @@ unfolding ordered
 ordered_same x m is = ap (λ (b : Bool). if b then m else record m { draft = with_command x m.draft; dirty = true }) is
 
 -- an Exit that was ordered and pushed is not pushed again
-mutated_none : (c : Setup) (k : Learnt) (room : ℕ) (m : NormalKept) → AreIdle m.tracks → is_exit m.draft ≡ true → mutated c k room m ≡ m
+mutated_none : (c : Setup) (k : Learnt) (room : ℕ) (m : NormalKept) → AreIdle m.tracks → commands_exit m.draft ≡ true → mutated c k room m ≡ m
 unfolding mutated
 mutated_none c k room m idle is =
     let rest = edits_none c k m (length m.tracks) (omega arith) idle in
-    ap (λ (x : NormalKept). ordered (next_command (is_exit x.draft) x.tracks room (pipe_size c)) x) rest
-    ∙ ap (λ (x : Command). ordered x m) (exit_next (is_exit m.draft) m.tracks room (pipe_size c) is) ∙ ordered_same Exit m (flip (code_of m.draft.command) is)
+    ap (λ (x : NormalKept). ordered (next_command (commands_exit x.draft) x.tracks room (pipe_size c)) x) rest
+    ∙ ap (λ (x : Command). ordered x m) (exit_next (commands_exit m.draft) m.tracks room (pipe_size c) is) ∙ ordered_same Exit m (flip (code_of m.draft.command) is)
   where
     flip : (n : ℕ) → (n == code_of Exit) ≡ true → (code_of Exit == n) ≡ true
     flip n h = search (arith, h)
@@ -69,11 +69,11 @@ clean_by (Pushed number) x legal clean = absurd (true≢false (sym legal.0 ∙ c
 clean_by Clean x legal clean = refl
 clean_by (Busy seen expected) x legal clean = refl
 
-pub exit_pushed_once : (c : Setup) (o : Outside) (m : NormalKept) (e : Turn) → GoesOn c o m e → AreIdle (after_tracks c (learnt o) e (after_ack e.ack m)).tracks → is_exit m.draft ≡ true → m.dirty ≡ false → is_pushed e.push ≡ false
+pub exit_pushed_once : (c : Setup) (o : Outside) (m : NormalKept) (e : Turn) → GoesOn c o m e → AreIdle (after_tracks c (learnt o) e (after_ack e.ack m)).tracks → commands_exit m.draft ≡ true → m.dirty ≡ false → is_pushed e.push ≡ false
 exit_pushed_once c o m e goes idle is clean =
     let x : NormalKept = after_tracks c (learnt o) e (after_ack e.ack m) in
     let kept = ack_kept e.ack m in
-    let same : after_edits c (learnt o) e m ≡ x = mutated_none c (learnt o) e.room x idle (ap is_exit kept.0 ∙ is) in
+    let same : after_edits c (learnt o) e m ≡ x = mutated_none c (learnt o) e.room x idle (ap commands_exit kept.0 ∙ is) in
     clean_by e.push (after_edits c (learnt o) e m) goes.push (ap (λ (y : NormalKept). y.dirty) same ∙ kept.1 ∙ clean)
 
 -- a resting mixer has none to be edited
@@ -103,7 +103,7 @@ rests_idle c k m e rests i lt =
     )
 
 -- a resting mixer whose Exit was pushed pushes no more
-pub exit_still : (c : Setup) (o : Outside) (m : NormalKept) (e : Turn) → GoesOn c o m e → Rests m → is_exit m.draft ≡ true → m.dirty ≡ false → is_pushed e.push ≡ false
+pub exit_still : (c : Setup) (o : Outside) (m : NormalKept) (e : Turn) → GoesOn c o m e → Rests m → commands_exit m.draft ≡ true → m.dirty ≡ false → is_pushed e.push ≡ false
 exit_still c o m e goes rests is clean = exit_pushed_once c o m e goes (rests_idle c (learnt o) m e rests) is clean
 
 pub clean_free : (push : Push) (x : NormalKept) → LegalPush x push → x.dirty ≡ false → is_busy push ≡ false
@@ -112,17 +112,17 @@ clean_free Clean x legal clean = refl
 clean_free (Busy seen expected) x legal clean = absurd (true≢false (sym legal.0 ∙ clean))
 
 -- the push of a resting mixer whose Exit was pushed isn't busy
-pub exit_free : (c : Setup) (o : Outside) (m : NormalKept) (e : Turn) → GoesOn c o m e → Rests m → is_exit m.draft ≡ true → m.dirty ≡ false → is_busy e.push ≡ false
+pub exit_free : (c : Setup) (o : Outside) (m : NormalKept) (e : Turn) → GoesOn c o m e → Rests m → commands_exit m.draft ≡ true → m.dirty ≡ false → is_busy e.push ≡ false
 exit_free c o m e goes rests is clean =
     let x : NormalKept = after_tracks c (learnt o) e (after_ack e.ack m) in
     let kept = ack_kept e.ack m in
-    let same : after_edits c (learnt o) e m ≡ x = mutated_none c (learnt o) e.room x (rests_idle c (learnt o) m e rests) (ap is_exit kept.0 ∙ is) in
+    let same : after_edits c (learnt o) e m ≡ x = mutated_none c (learnt o) e.room x (rests_idle c (learnt o) m e rests) (ap commands_exit kept.0 ∙ is) in
     clean_free e.push (after_edits c (learnt o) e m) goes.push (ap (λ (y : NormalKept). y.dirty) same ∙ kept.1 ∙ clean)
 
 -- ## It ends the mixer
 
 -- the turn that sees an Exit acknowledged ends the mixer
-pub ends_turn : (c : Setup) (k : Learnt) (m : NormalKept) (e : Turn) → e.ended ≡ (m.ended || (is_exit m.last && e.ack)) → is_exit m.last ≡ true → e.ack ≡ true → (turn_after c k m e).ended ≡ true
+pub ends_turn : (c : Setup) (k : Learnt) (m : NormalKept) (e : Turn) → e.ended ≡ (m.ended || (commands_exit m.last && e.ack)) → commands_exit m.last ≡ true → e.ack ≡ true → (turn_after c k m e).ended ≡ true
 unfolding turn_after
 ends_turn c k m e ends is ack = by (after_takes c e.mixes (after_push e.push (after_edits c k e m))) e.ended (ends ∙ ap (λ (x : Bool × Bool). m.ended || (x.0 && x.1)) (λ j. (is j, ack j)) ∙ or_true m.ended)
   where

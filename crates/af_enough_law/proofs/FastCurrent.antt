@@ -1,6 +1,6 @@
 -- The state adopted last is that of the last entry.
 use Rattle.std.proofs.Common.{◌≡◌, if◌then◌else◌, ℕ, Bool, true, false, true≢false, Option, Some, None, List, [], ◌∷◌, take, drop, refl, sym, ap, ◌∙◌, subst}
-use Rattle.af_enough_law.proofs.Common.{EntrySeen, IsFastTurn, LegalEntries, LegalEntry, LegalRound, Marks, MatchBool, RoundSeen, Run, Session, Turn, TurnFound, after_round, after_turn, all_played, before_turn, each_track, early_of, ends, fast_ended, found_in, is_early, last_used, last_used-push, late_of, le-leb, loaded, met, met_after, most_cycles, prefix_len, turned, with_calls, with_cycle, with_cycles, with_ends, with_load, with_mix, with_poll, with_turn}
+use Rattle.af_enough_law.proofs.Common.{EntrySeen, IsFastTurn, LegalEntries, LegalEntry, LegalRound, Marks, MatchBool, RoundSeen, Run, Session, Turn, TurnFound, after_round, after_turn, all_played, before_turn, each_track, early_of, ends, fast_ended, found_in, is_early, last_used, last_used-push, late_of, le-leb, loaded, met, met_after, most_round_cycles, prefix_len, turned, with_calls, with_cycle, with_cycles, with_ends, with_load, with_mix, with_poll, with_turn}
 
 -- the number of the state adopted last is that of the last entry
 abbrev pub IsCurrent : Run → Type 0
@@ -59,7 +59,7 @@ ends_same run = by run.normal.ended (each_track (λ track t. record t { client =
     by false x same = record { current = refl; entries = refl }
 
 -- both parts of the entries of a round, which may be none
-pub legal_parts : (b : Bool) (s : Session) (marks : Marks) (run : Run) (round : RoundSeen) → MatchBool b (round.entries ≡ []) (IsFastTurn most_cycles false round.entries × LegalEntries s marks (with_calls round run) (early_of run round) × LegalEntries s marks (after_turn s run round) (late_of run round))
+pub legal_parts : (b : Bool) (s : Session) (marks : Marks) (run : Run) (round : RoundSeen) → MatchBool b (round.entries ≡ []) (IsFastTurn most_round_cycles false round.entries × LegalEntries s marks (with_calls round run) (early_of run round) × LegalEntries s marks (after_turn s run round) (late_of run round))
     → LegalEntries s marks (with_calls round run) (early_of run round) × LegalEntries s marks (after_turn s run round) (late_of run round)
 legal_parts false s marks run round h = (h.1, h.2)
 legal_parts true s marks run round none = (subst (LegalEntries s marks (with_calls round run)) (sym (ap (λ l. take (prefix_len (is_early run) l) l) none)) tt, subst (LegalEntries s marks (after_turn s run round)) (sym (ap (λ l. drop (prefix_len (is_early run) l) l) none)) tt)

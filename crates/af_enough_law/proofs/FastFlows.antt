@@ -1,6 +1,6 @@
 -- What a round takes of a track that its states carry in a slot.
 use Rattle.std.proofs.Common.{◌≡◌, ◌⊎◌, inl, inr, ℕ, ◌+◌, ◌≤◌, ◌<◌, true, Option, Some, None, List, [], ◌∷◌, ◌++◌, length, take, refl, sym, ap, ◌∙◌, subst, arith, append_assoc, append-nil}
-use Rattle.af_enough_law.proofs.Common.{BlockTold, ClientEvent, EntrySeen, FastState, FastTrack, LegalEntries, LegalEntry, Listed, LooksBy, Marks, Run, ServerEvent, Session, Shape, TrackTold, client_list, count_seen, cycle_events, cycle_frames, drops_none, entry_slot, front_of, listed, mixed_track, played, server_kept, server_list, shown_if, slot_for, slot_of, slots, state_for, state_known, told_at, with_cycle, with_cycles, with_poll}
+use Rattle.af_enough_law.proofs.Common.{BlockTold, ClientEvent, EntrySeen, FastState, FastTrack, LegalEntries, LegalEntry, Listed, LooksBy, Marks, Run, ServerEvent, Session, Shape, TrackTold, client_list, count_seen, cycle_events, cycle_frames, drops_none, entry_slot, front_of, listed, mixed_track, played, server_kept, server_list, shown_if, slot_playing, slot_of, slots, state_for, state_known, told_at, with_cycle, with_cycles, with_poll}
 use Rattle.af_base.specs.declared.event.ServerEvent.TheVariants as server
 use Rattle.af_enough_law.specs.Seen.{Stands, frames_put, frames_taken}
 use Rattle.af_enough_law.specs.FastFlows.{AllUse, AllStates, Plays, taken_in, asked_in, IsShown, AllShown}
@@ -40,7 +40,7 @@ played_later asked e i b = record {
 }
 
 mixed_later : (s : Session) (x : FastState) (e : EntrySeen) (track : ℕ) (t : TrackTold) → Later t.stream (mixed_track s x e track t).stream
-mixed_later s x e track t = by (slot_for x e.entry track)
+mixed_later s x e track t = by (slot_playing x e.entry track)
   where
     by : (o : Option ℕ) → Later t.stream (elim o as (λ o. TrackTold) [ None ↦ t | Some i ↦ record t { stream = played (cycle_frames s) e i t.stream } ]).stream
     by None = later_same t.stream t.stream refl
@@ -84,7 +84,7 @@ plays_track s marks run e track i item low is there legal uses =
     record {
       front = slot.front;
       looks = looks;
-      stream = ap (λ (t : TrackTold). t.stream) (cycle_track s run e track there) ∙ mixed_stream s (state_for s now e.entry.state) e track i (told_at run track) (ap (λ (y : FastState). slot_for y e.entry track) same ∙ only);
+      stream = ap (λ (t : TrackTold). t.stream) (cycle_track s run e track there) ∙ mixed_stream s (state_for s now e.entry.state) e track i (told_at run track) (ap (λ (y : FastState). slot_playing y e.entry track) same ∙ only);
     }
 
 -- ## Some entries

@@ -1,8 +1,8 @@
 -- The report that a turn finds: it is told by the entries of the round without the state that the turn pushes, and goes on from the one before the round all the same.
 use Rattle.std.proofs.Common.{◌≡◌, ◌⊎◌, inl, inr, ℕ, ◌≤◌, ◌<◌, ◌||◌, ◌&&◌, if◌then◌else◌, unwrap_or, is_some, Bool, true, false, Option, Some, None, List, [], ◌∷◌, ◌++◌, length, length-append, refl, sym, ap, ◌∙◌, subst, arith, append_assoc, append-nil}
-use Rattle.af_enough_law.proofs.Common.{BlockTold, ClientEvent, CycleEntry, EntrySeen, FastState, FastTrack, HasBlockHistory, IsClientList, LegalEntries, LegalRound, Listed, Marks, NormalKept, Report, RoundSeen, Run, Seen, ServerEvent, Session, Shape, SlotReport, TrackTold, after_round, after_turn, before_turn, calls_states, carries, client_list, counted_look, cycle_events, cycle_frames, drops_none, early_count, early_of, ends_part, entry_slot, flushes_of, front_of, hand_list, initial, is_shown, is_tame, kept, known_of, known_some, last_report, last_used, last_used-push, late_of, listed, met_after, next_slot, no_slot, or_true, played, polled_other, polled_pushed, polled_waits, report_at, report_of, server_kept, server_list, slot_for, slot_of, slot_report, slots, state_at, state_for, state_known, state_of, stream_of, take-append-drop, told_at, with_calls, with_cycle, with_cycles, with_looks, with_mix, with_poll}
+use Rattle.af_enough_law.proofs.Common.{BlockTold, ClientEvent, CycleEntry, EntrySeen, FastState, FastTrack, HasBlockHistory, IsClientList, LegalEntries, LegalRound, Listed, Marks, NormalKept, Report, RoundSeen, Run, Seen, ServerEvent, Session, Shape, SlotReport, TrackTold, after_round, after_turn, before_turn, calls_states, carries, client_list, counted_look, cycle_events, cycle_frames, drops_none, early_count, early_of, ends_part, entry_slot, flushes_of, front_of, hand_list, initial, is_shown, is_tame, kept, known_of, known_some, last_report, last_used, last_used-push, late_of, listed, met_after, next_slot, no_slot, or_true, played, polled_other, polled_pushed, polled_waits, report_at, report_of, server_kept, server_list, slot_playing, slot_of, slot_report, slots, state_at, state_for, state_known, state_of, stream_of, take-append-drop, told_at, with_calls, with_cycle, with_cycles, with_looks, with_mix, with_poll}
 use Rattle.af_base.specs.declared.seen.Seen.TheVariants as seen
-use Rattle.af_runs.specs.Runs.{plays}
+use Rattle.af_runs.specs.Runs.{shows_slot}
 use Rattle.af_enough_law.specs.FastFlows.{AllUse, AllStates, Plays, slot_told, IsTold, LastCarries, IsShown, AllShown, Since, FlowsIn, HasItem}
 use Rattle.af_enough_law.proofs.FastFlows.{cycle_later, later_both, Later, entries_take, cycles_later, plays_track, Lies, lies_before, entry_look}
 use Rattle.af_enough_law.proofs.FastReports.{slot_counts, last_more, calls_same, slot_same, last_same, told_same, known_quiet}
@@ -29,7 +29,7 @@ next_found : (s : Session) (run : Run) (entry : CycleEntry) (before : List SlotR
 next_found s run entry before i x is carried shown kept_on =
     let y : FastState = state_for s run (last_used run.entries) in
     let o : Option FastState = state_of run.states entry.state in
-    ap (λ (z : FastState). if is_some o || plays z entry i then slot_report (cycle_frames s) (Some z) (Some y) entry (known_of (listed (stream_of run z i))) i (report_at before i) else report_at before i) is
+    ap (λ (z : FastState). if is_some o || shows_slot z entry i then slot_report (cycle_frames s) (Some z) (Some y) entry (known_of (listed (stream_of run z i))) i (report_at before i) else report_at before i) is
     ∙ ap (λ (b : Bool × Bool). if is_some o || (b.0 && b.1) then slot_report (cycle_frames s) (Some x) (Some y) entry (known_of (listed (stream_of run x i))) i (report_at before i) else report_at before i) (λ j. (carried j, shown j))
     ∙ ap (λ (b : Bool). if b then slot_report (cycle_frames s) (Some x) (Some y) entry (known_of (listed (stream_of run x i))) i (report_at before i) else report_at before i) (or_true (is_some o))
     ∙ ap (λ (b : Bool × Bool). if b.0 then counted_look (cycle_frames s) (slot_of x i).generation (entry_slot entry i).seen (known_of (listed (stream_of run x i))) (if b.1 then report_at before i else no_slot) else report_at before i) (λ j. (carried j, kept_on j))
@@ -167,9 +167,9 @@ module _ (s : Session) (marks : Marks) (track i : ℕ) (item : FastTrack) (low :
       let later : Run = with_cycle s told e in
       let there' : track < length next.tracks = (let a = cycle_length s run e in omega (arith, a, there)) in
       let below = uses.1 in
-      let plays = plays_track s marks run e track i item low is there legal.0 (uses_of (Plays i item) first after run e.entry.state states more whole uses.0 (omega arith)) in
+      let shows_slot = plays_track s marks run e track i item low is there legal.0 (uses_of (Plays i item) first after run e.entry.state states more whole uses.0 (omega arith)) in
       let lies' = lies_before s marks track i item low is first after states k cs all h count (told_at next track).stream (told_at (with_cycles s es next) track).stream (cycles_later s es next track there') lies in
-      let look = entry_look s marks track i item low is first after states k cs all h count run e plays lies' none unshut in
+      let look = entry_look s marks track i item low is first after states k cs all h count run e shows_slot lies' none unshut in
       let l = look.2 in
       let none' = ap drops_none look.1 ∙ l.none in
       let unshut' : (server_kept k (server_list (told_at next track).stream)).shut ≡ None = ap (λ y. (server_kept k y).shut) look.1 ∙ l.unshut in
@@ -178,9 +178,9 @@ module _ (s : Session) (marks : Marks) (track i : ℕ) (item : FastTrack) (low :
       let track_is : (slot_of c.state i).track ≡ track = ap (λ (t : FastTrack). t.track) has.is ∙ is in
       let only = slot_only c.state e track i low has.carried track_is (λ j less carried one. has.only j less carried (one ∙ sym is)) (is_look (entry_slot e.entry i).seen shows.0) in
       let stream : (told_at later track).stream ≡ played (cycle_frames s) e i (told_at told track).stream =
-      ap (λ (t : TrackTold). t.stream) (cycle_track s told e track f.there) ∙ mixed_stream s (state_for s (with_poll s e.entry.state told) e.entry.state) e track i (told_at told track) (ap (λ (y : FastState). slot_for y e.entry track) c.is ∙ only) in
+      ap (λ (t : TrackTold). t.stream) (cycle_track s told e track f.there) ∙ mixed_stream s (state_for s (with_poll s e.entry.state told) e.entry.state) e track i (told_at told track) (ap (λ (y : FastState). slot_playing y e.entry track) c.is ∙ only) in
       let same' : listed (told_at later track).stream ≡ listed (told_at next track).stream =
-      ap listed stream ∙ listed_played (cycle_frames s) e i (told_at told track).stream (told_at run track).stream same ∙ ap listed (sym plays.stream) in
+      ap listed stream ∙ listed_played (cycle_frames s) e i (told_at told track).stream (told_at run track).stream same ∙ ap listed (sym shows_slot.stream) in
       let now = found_next s track i item low is before n told e f used.0 shows.0 in
       let open_now : (kept (listed (told_at later track).stream)).shut ≡ None = ap (λ (y : Listed). (kept y).shut) same' ∙ ap (λ (z : Shape). (server_kept z (server_list (told_at next track).stream)).shut) lies'.shape ∙ unshut' in (
         open_now,

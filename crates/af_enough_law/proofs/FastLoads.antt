@@ -147,7 +147,7 @@ loads_new cut s marks run round e legal counts knows is going =
     ap twos (met_report s all).0 ∙ on_twos all.report (writes.Learn (length (twos all.report))) (reads.Learn (length (ones all.report)))
     ∙ ap (λ l. l ++ learns) (ap (λ (o : Option Turn). twos (loaded o late).report) is ∙ ap twos (load_report e late going) ∙ twos-twos late.report (reads.Load e.cycle x ∷ []) ∙ ap (λ l. l ++ reads.Load e.cycle x ∷ []) stores.reader)
     ∙ append_assoc (twos run.report) (reads.Load e.cycle x ∷ []) learns in
-    let history = subst (λ (l : List (ReaderEvent Report)). newest.HasHistory no_report (ones end.report) l) reader legal.histories.shared.report in
+    let history = subst (λ (l : List (ReaderEvent Report)). newest.HasValueHistory no_report (ones end.report) l) reader legal.histories.shared.report in
     let sees = load_seen (twos run.report) learns (ones end.report) e.cycle x history in
     let few = sees.learnt knows.count knows.learnt in
     let low : stored (take knows.count (ones end.report)) ≤ stored sees.front = subst (λ (l : List (WriterEvent Report)). stored (take knows.count l) ≤ stored sees.front) (sym sees.whole) (stored-front knows.count sees.front sees.rest few) in

@@ -1,6 +1,6 @@
 -- Which states the entries of a round use.
 use Rattle.std.proofs.Common.{◌≡◌, ℕ, ◌+◌, ◌≤◌, ◌==◌, if◌then◌else◌, Bool, true, false, Option, Some, None, List, [], ◌∷◌, ◌++◌, length, take, drop, fold, refl, sym, ap, ◌∙◌, subst, arith, append_assoc, append-nil}
-use Rattle.af_enough_law.proofs.Common.{EntrySeen, Event, FastState, HasQueueHistory, IsFastTurn, Item, Legal, LegalEntries, LegalEntry, LegalRound, Marks, MatchBool, MutatorEvent, MutatorPoint, ObserverEvent, QueuePoint, QueueTold, RoundSeen, Run, Session, Turn, TurnFound, after_round, after_turn, all_played, before_turn, calls_states, cycle_frames, early_of, ends_states, fast_ended, fold-append, found_in, initial, items_of, late_of, loaded, loaded_states, met, met_after, met_states, most_cycles, mutator_next, mutator_start, one, ones, poll_events, state_at, take-append-drop, take-append-le, turned, two, twos, with_calls, with_cycle, with_cycles, with_load, with_mix, with_poll, with_turn}
+use Rattle.af_enough_law.proofs.Common.{EntrySeen, Event, FastState, HasQueueHistory, IsFastTurn, Item, Legal, LegalEntries, LegalEntry, LegalRound, Marks, MatchBool, MutatorEvent, MutatorPoint, ObserverEvent, QueuePoint, QueueTold, RoundSeen, Run, Session, Turn, TurnFound, after_round, after_turn, all_played, before_turn, calls_states, cycle_frames, early_of, ends_states, fast_ended, fold-append, found_in, initial, items_of, late_of, loaded, loaded_states, met, met_after, met_states, most_round_cycles, mutator_next, mutator_start, one, ones, poll_events, state_at, take-append-drop, take-append-le, turned, two, twos, with_calls, with_cycle, with_cycles, with_load, with_mix, with_poll, with_turn}
 use Rattle.af_model.specs.declared.states.MutatorEvent.TheVariants as mutator
 use Rattle.af_model.specs.declared.states.ObserverEvent.TheVariants as observer
 use Rattle.af_model.specs.StateQueue as queued
@@ -50,11 +50,11 @@ front_rises first all front rest n l whole =
 
 -- a look for a state sees no earlier one than what was learnt
 pub look_new : (first : FastState) (known more : List (MutatorEvent Item)) (before behind : List (ObserverEvent Item)) (k : ℕ) (x : Option FastState) (items : List (Option Item)) (n : ℕ)
-    → queued.HasHistory first (known ++ more) (before ++ observer.SawNext k x items ∷ behind) → Stands (observer.Learn n) before → n ≤ length known → (mutated first (take n known)).pushed ≤ k
+    → queued.HasStateHistory first (known ++ more) (before ++ observer.SawNext k x items ∷ behind) → Stands (observer.Learn n) before → n ≤ length known → (mutated first (take n known)).pushed ≤ k
 look_new first known more before behind k x items n h learnt low =
     let sees = next_seen first before behind (known ++ more) k x items h in
     let far = sees.learnt n learnt in
-    let next : AllNext (mutator_start first) (known ++ more) = subst (AllNext (mutator_start first)) h.of_one (all_next (queued.start first) h.order h.is_legal) in
+    let next : AllNext (mutator_start first) (known ++ more) = subst (AllNext (mutator_start first)) h.of_one (all_next (queued.start_of_queue first) h.order h.is_legal) in
     let rise = front_rises first (known ++ more) sees.front sees.rest n next sees.whole in
     let same : take n known ≡ take n sees.front = sym (take-append-le n known more low) ∙ ap (take n) sees.whole ∙ take-append-le n sees.front sees.rest far in
     subst (λ j. (mutated first (take n known)).pushed ≤ j) (sym sees.shows) (subst (λ (l : List (MutatorEvent Item)). (mutated first l).pushed ≤ (mutated first sees.front).pushed) (sym same) rise)
@@ -173,7 +173,7 @@ entry_new s known n number run final e k learnt g =
     let begins = poll_begins (cycle_frames s) run.states run.current e.entry.state in
     let looks = cut_at (twos run.queue) (poll_events (cycle_frames s) run.states run.current e.entry.state) (observer.SawNext e.entry.state begins.state begins.items) begins.rest g.looks (twos final.queue) begins.whole
     (g.observed ∙ ap (λ l. l ++ g.looks) (cycle_queue s run e)) in
-    let history = subst (λ (x : List (MutatorEvent Item) × List (ObserverEvent Item)). queued.HasHistory (initial (cycle_frames s)) x.0 x.1) (λ i. (k.whole i, looks i)) k.history in
+    let history = subst (λ (x : List (MutatorEvent Item) × List (ObserverEvent Item)). queued.HasStateHistory (initial (cycle_frames s)) x.0 x.1) (λ i. (k.whole i, looks i)) k.history in
     let low = look_new (initial (cycle_frames s)) known k.more (twos run.queue) (begins.rest ++ g.looks) e.entry.state begins.state begins.items n history learnt k.within in
     let is = k.pushed in omega arith
 
@@ -225,13 +225,13 @@ turn_more s run round =
 
 -- the fast mixer's turn by its parts
 pub record FastParts (s : Session) (marks : Marks) (run : Run) (round : RoundSeen) : Type 0 where
-  pub turn : IsFastTurn most_cycles false round.entries
+  pub turn : IsFastTurn most_round_cycles false round.entries
   pub early : LegalEntries s marks (with_calls round run) (early_of run round)
   pub late : LegalEntries s marks (after_turn s run round) (late_of run round)
 
 pub fast_parts : (s : Session) (marks : Marks) (run : Run) (round : RoundSeen) → LegalRound false s marks run round → fast_ended run ≡ false → FastParts s marks run round
 fast_parts s marks run round legal going =
-    let h = subst (λ (b : Bool). MatchBool b (round.entries ≡ []) (IsFastTurn most_cycles false round.entries × LegalEntries s marks (with_calls round run) (early_of run round) × LegalEntries s marks (after_turn s run round) (late_of run round))) going legal.turns.fast in
+    let h = subst (λ (b : Bool). MatchBool b (round.entries ≡ []) (IsFastTurn most_round_cycles false round.entries × LegalEntries s marks (with_calls round run) (early_of run round) × LegalEntries s marks (after_turn s run round) (late_of run round))) going legal.turns.fast in
     record { turn = h.0; early = h.1; late = h.2 }
 
 pub use-append : (low high : ℕ) (xs ys : List EntrySeen) → AllUse low high xs → AllUse low high ys → AllUse low high (xs ++ ys)

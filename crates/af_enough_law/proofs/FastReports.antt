@@ -3,7 +3,7 @@ use Rattle.std.proofs.Common.{◌≡◌, ◌⊎◌, inl, inr, ℕ, zero, suc, �
 use Rattle.af_enough_law.proofs.Common.{BlockTold, CycleEntry, EntrySeen, FastState, FastTrack, LegalRound, Marks, Report, RoundSeen, Run, Seen, ServerEvent, ServerKept, ServerKnown, Session, Shape, SlotReport, TrackTold, Turn, TurnFound, after_round, after_turn, all_played, before_turn, calls_states, carries, count_seen, counted_look, cycle_frames, each_track, early_count, early_of, ends, entry_slot, fast_ended, flushes_by, fold-append, found_in, get_or-map-range_with_len, is_empty, is_full, is_partial, known_of, last_report, last_used, last_used-push, late_of, listed, loaded, met, met_after, next_slot, no_report, no_slot, one_if, report_at, server_begins, server_keeps, server_list, slot_of, slot_report, slots, state_for, state_known, state_of, state_some, stream_of, take-append-drop, told_at, turned, with_calls, with_cycle, with_cycles, with_ends, with_load, with_looks, with_mix, with_poll, with_turn}
 use Rattle.af_base.specs.declared.seen.Seen.TheVariants as seen
 use Rattle.af_base.specs.declared.event.ServerEvent.TheVariants as server
-use Rattle.af_runs.specs.Runs.{plays}
+use Rattle.af_runs.specs.Runs.{shows_slot}
 use Rattle.af_enough_law.specs.FastFlows.{AllUse, AllStates, Plays, slot_told, IsTold, LastCarries, heard_by, silent_by, heard_in, silent_in, Counted, FlowsIn, Flowed, Reported, taken_in, frames_left_in, KnowsStates}
 use Rattle.af_enough_law.proofs.FastMixes.{Uses, uses_of, mixes_all, early_states, late_states}
 use Rattle.af_enough_law.proofs.FastPolls.{turned_states, parts_use}
@@ -47,7 +47,7 @@ next_is : (s : Session) (run : Run) (entry : CycleEntry) (before : List SlotRepo
 next_is s run entry before i x is carried =
     let y : FastState = state_for s run (last_used run.entries) in
     let same = state_known s run entry.state x is in
-    ap (λ (o : Option FastState). if is_some o || plays (state_for s run entry.state) entry i then slot_report (cycle_frames s) (Some (state_for s run entry.state)) (Some y) entry (known_of (listed (stream_of run (state_for s run entry.state) i))) i (report_at before i) else report_at before i) is
+    ap (λ (o : Option FastState). if is_some o || shows_slot (state_for s run entry.state) entry i then slot_report (cycle_frames s) (Some (state_for s run entry.state)) (Some y) entry (known_of (listed (stream_of run (state_for s run entry.state) i))) i (report_at before i) else report_at before i) is
     ∙ ap (λ (z : FastState). slot_report (cycle_frames s) (Some z) (Some y) entry (known_of (listed (stream_of run z i))) i (report_at before i)) same
     ∙ ap (λ (b : Bool). if b then counted_look (cycle_frames s) (slot_of x i).generation (entry_slot entry i).seen (known_of (listed (stream_of run x i))) (if carries y i then report_at before i else no_slot) else report_at before i) carried
 

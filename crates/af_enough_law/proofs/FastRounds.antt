@@ -1,11 +1,11 @@
 -- What a round does to a stream block beside the entries, and what all its entries take.
 use Rattle.std.proofs.Common.{◌≡◌, ◌⊎◌, inl, inr, ℕ, ◌<◌, if◌then◌else◌, Bool, true, false, Option, Some, None, List, [], ◌∷◌, ◌++◌, length, drop, refl, sym, ap, ◌∙◌, subst, arith, append-nil}
-use Rattle.af_enough_law.proofs.Common.{BlockTold, ClientEvent, EntrySeen, NormalKept, Outside, RoundSeen, Run, ServerEvent, Session, Setup, Side, TrackTold, Turn, TurnFound, after_calls, after_round, after_turn, all_played, before_turn, called, calls_in, client_does, client_list, each_at, each_long, each_track, early_of, ends, found_in, hand_does, late_of, learnt, loaded, meets, meets_flag, met, met_after, met_many, outside_of, server_list, setup_of, sides_of, stream_list, stream_met, stream_turned, takes_part, told_at, told_each, track_met, tracks_at, turned, turned_track, with_calls, with_cycle, with_cycles, with_ends, with_load, with_side, with_turn}
+use Rattle.af_enough_law.proofs.Common.{BlockTold, ClientEvent, EntrySeen, NormalKept, Outside, RoundSeen, Run, ServerEvent, Session, Setup, Side, TrackTold, Turn, TurnFound, after_calls, after_round, after_turn, all_played, before_turn, called_in_turn, calls_in, client_does, client_list, each_at, each_long, each_track, early_of, ends, found_in, hand_does, late_of, learnt, loaded, meets, meets_flag, met, met_after, met_many, outside_of, server_list, setup_of, sides_of, stream_list, stream_met, stream_turned, takes_part, told_at, told_each, track_met, tracks_at, turned, turned_track, with_calls, with_cycle, with_cycles, with_ends, with_load, with_side, with_turn}
 use Rattle.af_base.specs.declared.event.ClientEvent.TheVariants as client
 use Rattle.af_base.specs.declared.event.ServerEvent.TheVariants as server
 use Rattle.af_base.specs.declared.event.HandEvent.TheVariants as hand
 use Rattle.af_enough_law.proofs.Basics.{load_told}
-use Rattle.af_life.specs.TurnEvents.{hand_list}
+use Rattle.af_life.specs.TurnEvents.{hand_events_of}
 use Rattle.af_enough_law.proofs.FastFlows.{Later, later_same, cycles_later}
 use Rattle.af_enough_law.proofs.FastSteps.{server_does-server, server_does-client, client_does-client, client_does-server, hand_does-client, hand_does-server, cycle_length}
 use Rattle.af_enough_law.proofs.RunTracks.{calls_long as calls_length}
@@ -31,7 +31,7 @@ side_quiet side b =
 pub calls_quiet : (round : RoundSeen) (run : Run) (track : ℕ) → track < length run.tracks → Quiet (told_at run track).stream (told_at (with_calls round run) track).stream
 unfolding with_calls
 calls_quiet round run track low =
-    subst (λ (t : TrackTold). Quiet (told_at run track).stream t.stream) (sym (told_each (λ track t. called (calls_in round track) t) run track low))
+    subst (λ (t : TrackTold). Quiet (told_at run track).stream t.stream) (sym (told_each (λ track t. called_in_turn (calls_in round track) t) run track low))
     (side_quiet (after_calls (sides_of (told_at run track)) (calls_in round track)).stream (told_at run track).stream)
 
 pub cycles_length : (s : Session) (es : List EntrySeen) (run : Run) → length (with_cycles s es run).tracks ≡ length run.tracks
@@ -41,13 +41,13 @@ cycles_length s (e ∷ es) run = cycles_length s es (with_cycle s run e) ∙ cyc
 stream_later : (c : Setup) (o : Outside) (m : NormalKept) (e : Turn) (i : ℕ) (b : BlockTold) → Later b (stream_turned c o m e i b)
 stream_later c o m e i b =
     let added : List ServerEvent = stream_list c o e (tracks_at c (learnt o) m e i) i in
-    let handed : BlockTold = hand_does (hand_list e i) b in
+    let handed : BlockTold = hand_does (hand_events_of e i) b in
     record {
       shape = refl;
       calls = [];
-      client = server_does-client added handed ∙ hand_does-client (hand_list e i) b ∙ sym (append-nil (client_list b));
+      client = server_does-client added handed ∙ hand_does-client (hand_events_of e i) b ∙ sym (append-nil (client_list b));
       events = added;
-      server = server_does-server added handed ∙ ap (λ l. l ++ added) (hand_does-server (hand_list e i) b);
+      server = server_does-server added handed ∙ ap (λ l. l ++ added) (hand_does-server (hand_events_of e i) b);
     }
 
 turn_later : (s : Session) (f : TurnFound) (e : Turn) (run : Run) (track : ℕ) → track < length run.tracks → Later (told_at run track).stream (told_at (with_turn s f e run) track).stream
@@ -82,14 +82,14 @@ loaded_told (Some e) run track = load_told e run track
 
 meets_quiet : (b : BlockTold) → Quiet b (meets b)
 meets_quiet b =
-    let called : BlockTold = client_does (client.Learn (length (server_list b)) ∷ []) b in
+    let called_in_turn : BlockTold = client_does (client.Learn (length (server_list b)) ∷ []) b in
     record {
       is_later = record {
         shape = refl;
         calls = client.Learn (length (server_list b)) ∷ [];
-        client = server_does-client (server.Learn (length (client_list b)) ∷ []) called ∙ client_does-client (client.Learn (length (server_list b)) ∷ []) b;
+        client = server_does-client (server.Learn (length (client_list b)) ∷ []) called_in_turn ∙ client_does-client (client.Learn (length (server_list b)) ∷ []) b;
         events = server.Learn (length (client_list b)) ∷ [];
-        server = server_does-server (server.Learn (length (client_list b)) ∷ []) called ∙ ap (λ l. l ++ server.Learn (length (client_list b)) ∷ []) (client_does-server (client.Learn (length (server_list b)) ∷ []) b);
+        server = server_does-server (server.Learn (length (client_list b)) ∷ []) called_in_turn ∙ ap (λ l. l ++ server.Learn (length (client_list b)) ∷ []) (client_does-server (client.Learn (length (server_list b)) ∷ []) b);
       };
       rests = inr (length (client_list b), refl);
     }

@@ -4,7 +4,7 @@ use Rattle.af_enough_law.proofs.Common.{ClientEvent, HandEvent, HasHistory, IsCl
 use Rattle.af_base.specs.declared.event.ServerEvent.TheVariants as server
 use Rattle.af_base.specs.declared.seen.Seen.TheVariants as seen
 use Rattle.af_enough_law.proofs.Basics.{old_word, put-append, taken-append}
-use Rattle.af_model.specs.Cycles.{after_look}
+use Rattle.af_model.specs.Cycles.{events_behind_look}
 use Rattle.af_enough_law.specs.Seen.{Stands, frames_put, frames_taken}
 use Rattle.af_enough_law.specs.FastFlows.{IsShown}
 use Rattle.af_enough_law.proofs.FastLooks.{Moments, moment}
@@ -28,11 +28,11 @@ put-front (suc n) (x ∷ front) rest low = let more = put-front n front rest (om
 
 -- the events of a look by an open server
 abbrev pub open_events : ℕ → SlotEntry → ℕ → List ServerEvent
-open_events asked slot front = server.SawGain slot.gains ∷ look_events slot.seen slot.flush slot.rear front ++ after_look asked false slot.seen
+open_events asked slot front = server.SawGain slot.gains ∷ look_events slot.seen slot.flush slot.rear front ++ events_behind_look asked false slot.seen
 
 pub events_open : (asked : ℕ) (s : Listed) (slot : SlotEntry) (front : ℕ) → (kept s).shut ≡ None → cycle_events asked s slot front ≡ open_events asked slot front
 events_open asked s slot front unshut =
-    ap (λ (o : Option (ℕ × ℕ)). server.SawGain slot.gains ∷ (if is_some o then [] else look_events slot.seen slot.flush slot.rear front) ++ after_look asked (is_some o) slot.seen) unshut
+    ap (λ (o : Option (ℕ × ℕ)). server.SawGain slot.gains ∷ (if is_some o then [] else look_events slot.seen slot.flush slot.rear front) ++ events_behind_look asked (is_some o) slot.seen) unshut
 
 -- a look of a history
 pub record Setting (k : Shape) (cs : List ClientEvent) (all : List ServerEvent) : Type 0 where

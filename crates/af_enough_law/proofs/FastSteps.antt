@@ -1,7 +1,7 @@
 -- What an entry of the fast mixer changes of a run.
 use Rattle.std.proofs.Common.{◌≡◌, ℕ, zero, suc, ◌+◌, ◌≤◌, ◌<◌, ◌==◌, ◌&&◌, if◌then◌else◌, Bool, true, false, true≢false, Option, Some, None, List, [], ◌∷◌, ◌++◌, length, map, fold, refl, sym, ap, ◌∙◌, arith, append_assoc, append-nil, eqb-true, eq-eqb}
-use Rattle.af_enough_law.proofs.Common.{BlockTold, ClientEvent, EntrySeen, FastState, HandEvent, Item, LegalEntry, Marks, Moment, MutatorEvent, ObserverEvent, QueueTold, Run, ServerEvent, Session, TrackTold, by_client, by_hand, by_server, carries, client_does, client_list, client_of, cycle_events, cycle_frames, each_long, entry_slot, find, front_of, hand_does, is_shown, listed, mixed_track, mutator_does, observer_does, one, ones, played, poll_events, range_with_len, server_does, server_list, server_of, slot_for, slot_of, slots, state_for, told_at, told_each, two, twos, with_cycle, with_cycles, with_mix, with_poll}
-use Rattle.af_runs.specs.Runs.{plays}
+use Rattle.af_enough_law.proofs.Common.{BlockTold, ClientEvent, EntrySeen, FastState, HandEvent, Item, LegalEntry, Marks, Moment, MutatorEvent, ObserverEvent, QueueTold, Run, ServerEvent, Session, TrackTold, by_client, by_hand, by_server, carries, client_does, client_list, client_of, cycle_events, cycle_frames, each_long, entry_slot, find, front_of, hand_does, is_shown, listed, mixed_track, mutator_does, observer_does, one, ones, played, poll_events, range_with_len, server_does, server_list, server_of, slot_playing, slot_of, slots, state_for, told_at, told_each, two, twos, with_cycle, with_cycles, with_mix, with_poll}
+use Rattle.af_runs.specs.Runs.{shows_slot}
 
 -- ## Blocks
 
@@ -103,9 +103,9 @@ find_only p a (suc n) i low high is only = by (p a) refl (λ less. find_only p (
     by false off more = more (not_first off)
 
 pub slot_only : (x : FastState) (e : EntrySeen) (track i : ℕ) → i < slots → carries x i ≡ true → (slot_of x i).track ≡ track → ((j : ℕ) → j < slots → carries x j ≡ true → (slot_of x j).track ≡ track → j ≡ i)
-    → is_shown (entry_slot e.entry i).seen ≡ true → slot_for x e.entry track ≡ Some i
+    → is_shown (entry_slot e.entry i).seen ≡ true → slot_playing x e.entry track ≡ Some i
 slot_only x e track i low carried is only shown =
-    find_only (λ j. plays x e.entry j && ((slot_of x j).track == track)) 0 slots i (omega arith) (omega (arith, low))
+    find_only (λ j. shows_slot x e.entry j && ((slot_of x j).track == track)) 0 slots i (omega arith) (omega (arith, low))
     (ap (λ (b : Bool × Bool × Bool). (b.0 && b.1) && b.2) (λ z. (carried z, shown z, eq-eqb (slot_of x i).track track is z)))
     (λ j lt holds. only j (omega (arith, lt)) (parts (carries x j) (is_shown (entry_slot e.entry j).seen) ((slot_of x j).track == track) holds).0
     (eqb-true (slot_of x j).track track (parts (carries x j) (is_shown (entry_slot e.entry j).seen) ((slot_of x j).track == track) holds).1))
@@ -150,7 +150,7 @@ unfolding with_poll with_mix
 cycle_track s run e track low = told_each (mixed_track s (state_for s (with_poll s e.entry.state run) e.entry.state) e) run track low
 
 -- the stream block of a track that a slot plays
-pub mixed_stream : (s : Session) (x : FastState) (e : EntrySeen) (track i : ℕ) (t : TrackTold) → slot_for x e.entry track ≡ Some i → (mixed_track s x e track t).stream ≡ played (cycle_frames s) e i t.stream
+pub mixed_stream : (s : Session) (x : FastState) (e : EntrySeen) (track i : ℕ) (t : TrackTold) → slot_playing x e.entry track ≡ Some i → (mixed_track s x e track t).stream ≡ played (cycle_frames s) e i t.stream
 mixed_stream s x e track i t is = ap (λ (o : Option ℕ). (elim o as (λ o. TrackTold) [ None ↦ t | Some i ↦ record t { stream = played (cycle_frames s) e i t.stream } ]).stream) is
 
 pub played_server : (asked : ℕ) (e : EntrySeen) (i : ℕ) (b : BlockTold) → server_list (played asked e i b) ≡ server_list b ++ cycle_events asked (listed b) (entry_slot e.entry i) (front_of asked (listed b) (entry_slot e.entry i))

@@ -1,8 +1,8 @@
 -- The hand of a stream block stays calm in a round whose turn doesn't disable the track.
 use Rattle.std.proofs.Common.{◌≡◌, ℕ, ◌<◌, if◌then◌else◌, Bool, true, false, true≢false, Option, Some, None, List, [], ◌∷◌, ◌++◌, length, map, fold, drop, refl, sym, ap, ◌∙◌, append_assoc, append-nil}
-use Rattle.af_enough_law.proofs.Common.{BlockTold, EntrySeen, HandEvent, Moment, NormalKept, RoundSeen, Run, ServerEvent, Session, TrackTold, Turn, TurnFound, after_calls, after_round, after_turn, all_played, both_first, both_right, both_true, by_hand, by_server, called, calls_in, client-hand, client_list, cycle_events, cycle_frames, early_of, entry_slot, found_in, front_of, hand_does, hand_list, hand_of, late_of, learnt, listed, mixed_track, outside_of, played, setup_of, sides_of, slot_for, state_for, stream_list, stream_met, takes_part, told_at, track_in, tracks_at, with_calls, with_cycle, with_poll}
+use Rattle.af_enough_law.proofs.Common.{BlockTold, EntrySeen, HandEvent, Moment, NormalKept, RoundSeen, Run, ServerEvent, Session, TrackTold, Turn, TurnFound, after_calls, after_round, after_turn, all_played, both_first, both_right, both_true, by_hand, by_server, called_in_turn, calls_in, client-hand, client_list, cycle_events, cycle_frames, early_of, entry_slot, found_in, front_of, hand_does, hand_list, hand_of, late_of, learnt, listed, mixed_track, outside_of, played, setup_of, sides_of, slot_playing, state_for, stream_list, stream_met, takes_part, told_at, track_in, tracks_at, with_calls, with_cycle, with_poll}
 use Rattle.af_base.specs.declared.event.HandEvent.TheVariants as hand
-use Rattle.af_life.specs.TurnEvents.{hand_list as disables}
+use Rattle.af_life.specs.TurnEvents.{hand_events_of as disables}
 use Rattle.af_enough_law.specs.Seen.{is_hand_calm, are_hands_calm}
 use Rattle.af_enough_law.proofs.RunTracks.{mixed_by, turned_by, played_track, round_blocks, met_track}
 
@@ -47,7 +47,7 @@ module _ (s : Session) where
   unfolding mixed_by
   mixed_hands run [] i t = refl
   mixed_hands run (e ∷ es) i t = let x = state_for s (with_poll s e.entry.state run) e.entry.state in
-      mixed_hands (with_cycle s run e) es i (mixed_track s x e i t) ∙ mixed_once e t (slot_for x e.entry i)
+      mixed_hands (with_cycle s run e) es i (mixed_track s x e i t) ∙ mixed_once e t (slot_playing x e.entry i)
 
   turned_hands : (found : Turn → TurnFound) (o : Option Turn) (m : NormalKept) (i : ℕ) (t : TrackTold) → ((e : Turn) → o ≡ Some e → (track_in e i).disabled ≡ false) → Calm t.stream → Calm (turned_by s found o m i t).stream
   unfolding turned_by
@@ -63,7 +63,7 @@ module _ (s : Session) where
   unfolding played_track
   round_hands run round i lt able calm =
       let t = told_at run i in
-      let c = called (calls_in round i) t in
+      let c = called_in_turn (calls_in round i) t in
       let early = mixed_by s (with_calls round run) (early_of run round) i c in
       let turned = turned_by s (found_in s run round) round.turn run.normal i early in
       let all = played_track s run round i t in

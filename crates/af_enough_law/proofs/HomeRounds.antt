@@ -1,6 +1,6 @@
 -- A legal round keeps what is carried of a track whose proxy is home before and after it: so of each track without a slot.
 use Rattle.std.proofs.Common.{◌≡◌, ℕ, ◌≤◌, ◌<◌, ◌||◌, is_some, Bool, true, false, None, List, length, sym, ap, ◌∙◌}
-use Rattle.af_enough_law.proofs.Common.{IsSlotted, LegalRound, Marks, RoundSeen, Run, ServerEvent, Session, after_round, ends_part, holds, is_home, met_after, takes_part, track_at, track_count}
+use Rattle.af_enough_law.proofs.Common.{IsSlotted, LegalRound, Marks, RoundSeen, Run, ServerEvent, Session, after_round, ends_part, observer_holds, is_home, met_after, takes_part, track_at, track_count}
 use Rattle.af_enough_law.proofs.Basics.{stays_home}
 use Rattle.af_enough_law.specs.NormalRounds.{TurnMade}
 use Rattle.af_enough_law.proofs.CalmTracks.{CalmTrack}
@@ -21,7 +21,7 @@ keeps_of run i known_stream known_commands calm = record { few = calm.stream_few
 
 -- a proxy at home takes part in the meeting
 pub home_part : (s : Session) (run : Run) (round : RoundSeen) (i : ℕ) → is_home (track_at (after_round s run round).normal.tracks i).holder ≡ true → takes_part s (met_after s run round) i ≡ true
-home_part s run round i home = sym (ends_part s (met_after s run round) i) ∙ ap (λ (b : Bool). b || holds s (after_round s run round) i) home
+home_part s run round i home = sym (ends_part s (met_after s run round) i) ∙ ap (λ (b : Bool). b || observer_holds s (after_round s run round) i) home
 
 module _ (cut : Bool) (s : Session) (marks : Marks) (run : Run) (round : RoundSeen) (i most total : ℕ) (t : TurnMade s marks run round) (legal : LegalRound cut s marks run round) (named : IsNamed s marks run i) (runs : t.turn.ended ≡ false)
     (c : TrackCarried run i most total) (two : 2 ≤ (track_at run.normal.tracks i).life.retries) where

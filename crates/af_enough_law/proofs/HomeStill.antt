@@ -1,6 +1,6 @@
 -- The entries of a round leave the stream block of a track as it is that no state has.
 use Rattle.std.proofs.Common.{◌≡◌, ℕ, ◌≤◌, ◌<◌, ◌∷◌, List, [], ◌++◌, length, true, refl, sym, ap, ◌∙◌, arith}
-use Rattle.af_enough_law.proofs.Common.{EntrySeen, FastState, Run, Session, carries, polled_known, slot_for, slot_of, slots, state_for, told_at, with_cycle, with_cycles, with_poll}
+use Rattle.af_enough_law.proofs.Common.{EntrySeen, FastState, Run, Session, carries, polled_known, slot_playing, slot_of, slots, state_for, told_at, with_cycle, with_cycles, with_poll}
 use Rattle.af_enough_law.specs.FastFlows.{AllUse, AllStates}
 use Rattle.af_enough_law.proofs.FastMixes.{Uses, uses_of}
 use Rattle.af_enough_law.proofs.FastSteps.{cycle_states}
@@ -15,7 +15,7 @@ module _ (s : Session) (i : ℕ) (first after : Run) (all : AllStates first afte
   entry_still : (run : Run) (e : EntrySeen) → i < length run.tracks → Uses (HasNone i) run.states e.entry.state → told_at (with_cycle s run e) i ≡ told_at run i
   entry_still run e low uses =
       let actual : state_for s (with_poll s e.entry.state run) e.entry.state ≡ uses.state = polled_known s run e.entry.state uses.state uses.is in
-      track_still s run e i low (ap (λ (z : FastState). slot_for z e.entry i) actual ∙ slot_none uses.state e i (λ j less carried shown at. uses.holds j less carried at))
+      track_still s run e i low (ap (λ (z : FastState). slot_playing z e.entry i) actual ∙ slot_none uses.state e i (λ j less carried shown at. uses.holds j less carried at))
 
   pub entries_still : (high : ℕ) (es : List EntrySeen) (run : Run) (more : List FastState) → i < length run.tracks → after.states ≡ run.states ++ more → high ≤ length run.states → AllUse (length first.states) high es → told_at (with_cycles s es run) i ≡ told_at run i
   entries_still high [] run more low whole top uses = refl

@@ -2,7 +2,7 @@
 use Rattle.std.proofs.Common.{◌≡◌, ◌⊎◌, inl, inr, ℕ, suc, ◌+◌, ◌≤◌, ◌<◌, ◌==◌, ◌&&◌, ◌||◌, nat_le, if◌then◌else◌, Bool, true, false, true≢false, Option, List, [], ◌∷◌, ◌++◌, length, map, filter, take, refl, sym, ap, ◌∙◌, subst, arith, append_assoc, append-nil, eq-eqb}
 use Rattle.af_enough_law.proofs.Common.{BlockTold, ClientEvent, GoesOn, Learnt, LegalRound, LegalTake, Listed, LooksBy, Marks, NormalKept, Outside, RoundSeen, Run, ServerEvent, Session, Setup, Shape, TakeSeen, TrackKept, TrackTold, Turn, TurnFound, after_edits, after_push, after_round, after_takes, after_turn, asked as buffer, before_turn, both_true, client_list, count_seen, cycle_events, early_of, flat_map, found_in, front_of, hand_does, invalid, is_home, is_mixed_here, late_of, learnt, list_any, listed, mix_events, mixed_here, outside_of, push_tracks, range_with_len, server_list, setup_of, stream_list, stream_turned, take-append-le, take_front, takes_from, takes_len, told_at, track_at, track_in, tracks_at, turn_after, turn_len, turned, with_calls, with_cycles}
 use Rattle.af_enough_law.proofs.Basics.{before_normal, taken-append}
-use Rattle.af_life.specs.TurnEvents.{hand_list}
+use Rattle.af_life.specs.TurnEvents.{hand_events_of}
 use Rattle.af_enough_law.specs.Courses.{none_shut}
 use Rattle.af_enough_law.specs.FastFlows.{KnowsReleased, IsShown}
 use Rattle.af_enough_law.specs.Nearing.{RoundFlows}
@@ -127,7 +127,7 @@ module _ (cut : Bool) (s : Session) (marks : Marks) (run : Run) (round : RoundSe
 
   list : server_list (told_at (after_turn s run round) i).stream ≡ server_list b ++ stream_list c o t.turn tracks i
   list = let events : List ServerEvent = stream_list c o t.turn tracks i in
-      ap server_list turned_is ∙ server_does-server events (hand_does (hand_list t.turn i) b) ∙ ap (λ l. l ++ events) (hand_does-server (hand_list t.turn i) b)
+      ap server_list turned_is ∙ server_does-server events (hand_does (hand_events_of t.turn i) b) ∙ ap (λ l. l ++ events) (hand_does-server (hand_events_of t.turn i) b)
 
   only_mix : (home : Bool) (invalids mixed : List ServerEvent) → (home ≡ true → invalids ≡ []) → (if home then invalids else []) ++ mixed ≡ mixed
   only_mix true invalids mixed none = ap (λ (es : List ServerEvent). es ++ mixed) (none refl)

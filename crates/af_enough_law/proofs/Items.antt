@@ -1,6 +1,6 @@
 -- The draft has the item of each track whose proxy is not at home.
 use Rattle.std.proofs.Common.{◌≡◌, ◌≢◌, inl, inr, ℕ, zero, suc, ◌≤◌, ◌&&◌, if◌then◌else◌, Bool, true, false, true≢false, All, Option, List, [], ◌∷◌, length, fold, refl, sym, ap, ◌∙◌, subst, arith}
-use Rattle.af_enough_law.proofs.Common.{Busy, Clean, Command, FastState, FastTrack, Goes, Holder, Home, IsSlotted, IsSound, Learnt, Lent, NormalKept, Push, Pushed, Returning, Setting, Setup, TakeSeen, TrackKept, TrackSeen, Turn, acked_len, after_ack, after_edits, after_push, after_take, after_takes, after_tracks, apart, asked as buffer, at_new, comer_holds, comer_inside, comer_slot, comes_home, commanded as with_command, counted, each_set, edited, edited_to, entered, goes_served, is_home, is_lent, lend, lent_by, let_go, must_enter, must_leave, mutated, new_normal, no, number_of, ordered, seen_at, served, served_len, served_to, set_each, setting_of, slot_else, slot_here, slot_number, slot_of, sound_acked, sound_edits, sound_served, track_at, turn_after, welcomed, welcomed_at}
+use Rattle.af_enough_law.proofs.Common.{Busy, Clean, Command, FastState, FastTrack, Goes, Holder, Home, IsSlotted, IsSound, Learnt, Lent, NormalKept, Push, Pushed, Returning, Setting, Setup, TakeSeen, TrackKept, TrackSeen, Turn, acked_len, after_ack, after_edits, after_push, after_take, after_takes, after_tracks, apart, asked as buffer, at_new, comer_holds, comer_inside, comer_slot, comes_home, draft_commanded as with_command, look_counted, each_set, edited, edited_to, entered, goes_served, is_home, is_lent, lend, lent_by, let_go, must_enter, must_leave, mutated, new_normal, no, number_of, ordered, seen_at, served, served_len, served_to, set_each, setting_of, slot_else, slot_here, slot_number, slot_of, sound_acked, sound_edits, sound_served, track_at, turn_after, welcomed, welcomed_at}
 use Rattle.af_life.specs.Obeys.{slot_for}
 use Rattle.af_enough_law.specs.Items.{IsItem, AreItems}
 
@@ -77,7 +77,7 @@ module _ (c : Setup) where
   takes_items : (draft : FastState) (takes : List TakeSeen) (tracks : List TrackKept) → ((i : ℕ) → IsItem c draft i (track_at tracks i)) → (i : ℕ) → IsItem c draft i (track_at (fold (after_take (buffer c)) tracks takes) i)
   takes_items draft [] tracks h = h
   takes_items draft (take ∷ takes) tracks h = takes_items draft takes (after_take (buffer c) tracks take)
-      (set_each (IsItem c draft) tracks take.track (record (track_at tracks take.track) { own = counted (buffer c) take.slot.seen (track_at tracks take.track).own }) (h take.track) h)
+      (set_each (IsItem c draft) tracks take.track (record (track_at tracks take.track) { own = look_counted (buffer c) take.slot.seen (track_at tracks take.track).own }) (h take.track) h)
 
   -- a turn keeps the items in the draft
   pub items_turn : (scales : All (λ (x : Setting). x.scale ≤ 4096) c.settings) (k : Learnt) (m : NormalKept) (e : Turn) → length m.tracks ≤ length c.settings → IsSound m.tracks m.draft → AreItems c m → AreItems c (turn_after c k m e)

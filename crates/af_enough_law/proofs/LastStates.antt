@@ -92,12 +92,12 @@ pub record ExitThere (run : Run) : Type 0 where
   pub is : state_of run.states (length run.states) ≡ Some state
   pub exits : state.command ≡ Exit
 
-pub exit_there : (s : Session) (run : Run) → LastIs s run → edits.is_exit run.normal.last ≡ true → ExitThere run
+pub exit_there : (s : Session) (run : Run) → LastIs s run → edits.commands_exit run.normal.last ≡ true → ExitThere run
 exit_there s run same exits = by (state_of run.states (length run.states)) refl
   where
     by : (o : Option FastState) → state_of run.states (length run.states) ≡ o → ExitThere run
-    by (Some x) is = record { state = x; is = is; exits = exit_of x.command (ap (λ (o : Option FastState). edits.is_exit (unwrap_or o (initial (cycle_frames s)))) (sym is) ∙ ap edits.is_exit same ∙ exits) }
-    by None is = let none : edits.is_exit run.normal.last ≡ false = ap edits.is_exit (sym same) ∙ ap (λ (o : Option FastState). edits.is_exit (unwrap_or o (initial (cycle_frames s)))) is in absurd (true≢false (sym exits ∙ none))
+    by (Some x) is = record { state = x; is = is; exits = exit_of x.command (ap (λ (o : Option FastState). edits.commands_exit (unwrap_or o (initial (cycle_frames s)))) (sym is) ∙ ap edits.commands_exit same ∙ exits) }
+    by None is = let none : edits.commands_exit run.normal.last ≡ false = ap edits.commands_exit (sym same) ∙ ap (λ (o : Option FastState). edits.commands_exit (unwrap_or o (initial (cycle_frames s)))) is in absurd (true≢false (sym exits ∙ none))
 
 -- ## The fast mixer goes on until an Exit is pushed
 
@@ -115,11 +115,11 @@ not_exit Mix done cold e = refl
 not_exit Write done cold e = refl
 not_exit MixWrite done cold e = refl
 
-cycle_goes : (o : Option FastState) (done : ℕ) → ((x : FastState) → o ≡ Some x → edits.is_exit x ≡ false) → is_exit (cycle_of done o) ≡ false
+cycle_goes : (o : Option FastState) (done : ℕ) → ((x : FastState) → o ≡ Some x → edits.commands_exit x ≡ false) → is_exit (cycle_of done o) ≡ false
 cycle_goes None done h = refl
 cycle_goes (Some x) done h = not_exit x.command done x.cold_gen (h x refl)
 
-entry_goes : (s : Session) (marks : Marks) (run : Run) (e : EntrySeen) → LegalEntry s marks (with_poll s e.entry.state run) e → ((x : FastState) → state_of run.states e.entry.state ≡ Some x → edits.is_exit x ≡ false) → is_exit e.entry.cycle ≡ false
+entry_goes : (s : Session) (marks : Marks) (run : Run) (e : EntrySeen) → LegalEntry s marks (with_poll s e.entry.state run) e → ((x : FastState) → state_of run.states e.entry.state ≡ Some x → edits.commands_exit x ≡ false) → is_exit e.entry.cycle ≡ false
 unfolding with_poll
 entry_goes s marks run e legal h = ap is_exit legal.cycle.what ∙ cycle_goes (state_of run.states e.entry.state) (cold_done run.states run.entries) h
 
@@ -162,7 +162,7 @@ exit_at true b off h = absurd (true≢false off)
 exit_at false b off h = h
 
 abbrev NoneUpTo : ℕ → List FastState → Type 0
-NoneUpTo n states = (k : ℕ) (x : FastState) → k ≤ n → state_of states k ≡ Some x → edits.is_exit x ≡ false
+NoneUpTo n states = (k : ℕ) (x : FastState) → k ≤ n → state_of states k ≡ Some x → edits.commands_exit x ≡ false
 
 entries_adopt : (s : Session) (marks : Marks) (n : ℕ) (es : List EntrySeen) (run : Run) → LegalEntries s marks run es → NoneUpTo n run.states → has_exit run.entries ≡ false → has_exit (with_cycles s es run).entries ≡ true → n < (with_cycles s es run).current
 entries_adopt s marks n [] run legal none going ended = absurd (true≢false (sym ended ∙ going))

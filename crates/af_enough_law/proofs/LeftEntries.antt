@@ -1,8 +1,8 @@
 -- The entries of a round in which a track leaves: those of the state before play it, and those of the state that the turn pushes don't touch it. The report that the turn finds says that its server is open.
 use Rattle.std.proofs.Common.{◌≡◌, ◌⊎◌, inl, inr, ℕ, zero, suc, ◌+◌, ◌≤◌, ◌<◌, ◌==◌, ◌&&◌, ◌||◌, if◌then◌else◌, is_some, Bool, true, false, true≢false, Option, Some, None, List, [], ◌∷◌, ◌++◌, length, refl, sym, ap, ◌∙◌, subst, arith, append_assoc, append-nil, eqb-true}
-use Rattle.af_enough_law.proofs.Common.{BlockTold, ClientEvent, CycleEntry, EntrySeen, FastState, FastTrack, LegalEntries, LegalEntry, Listed, LooksBy, Marks, Report, Run, ServerEvent, Session, Shape, SlotEntry, SlotReport, TrackTold, carries, counted_look, cycle_events, cycle_frames, entry_slot, find, front_of, is_mixed, is_shown, known_of, last_report, last_used, listed, next_slot, no_slot, played, polled_known, polled_waits, range_with_len, report_at, server_kept, server_list, slot_for, slot_of, slot_report, slots, state_beyond, state_for, state_of, stream_of, three, told_at, with_cycle, with_cycles, with_looks, with_mix, with_poll}
+use Rattle.af_enough_law.proofs.Common.{BlockTold, ClientEvent, CycleEntry, EntrySeen, FastState, FastTrack, LegalEntries, LegalEntry, Listed, LooksBy, Marks, Report, Run, ServerEvent, Session, Shape, SlotEntry, SlotReport, TrackTold, carries, counted_look, cycle_events, cycle_frames, entry_slot, find, front_of, is_mixed, is_shown, known_of, last_report, last_used, listed, next_slot, no_slot, played, polled_known, polled_waits, range_with_len, report_at, server_kept, server_list, slot_playing, slot_of, slot_report, slots, state_beyond, state_for, state_of, stream_of, three, told_at, with_cycle, with_cycles, with_looks, with_mix, with_poll}
 use Rattle.af_enough_law.proofs.Basics.{state_there}
-use Rattle.af_runs.specs.Runs.{plays}
+use Rattle.af_runs.specs.Runs.{shows_slot}
 use Rattle.af_enough_law.specs.FastFlows.{AllUse, Plays, slot_told, HasItem, IsTold}
 use Rattle.af_enough_law.proofs.Commanding.{le_cases}
 use Rattle.af_enough_law.proofs.Fair.{calm_drops}
@@ -31,12 +31,12 @@ find_none p a (suc n) out = by (p a) refl (find_none p (a + 1) n (λ j low is. o
 -- ## An entry that doesn't touch the track
 
 -- no slot plays the track
-pub slot_none : (x : FastState) (e : EntrySeen) (track : ℕ) → ((j : ℕ) → j < slots → carries x j ≡ true → is_shown (entry_slot e.entry j).seen ≡ true → (slot_of x j).track ≡ track → ⊥) → slot_for x e.entry track ≡ None
-slot_none x e track out = find_none (λ j. plays x e.entry j && ((slot_of x j).track == track)) 0 slots
+pub slot_none : (x : FastState) (e : EntrySeen) (track : ℕ) → ((j : ℕ) → j < slots → carries x j ≡ true → is_shown (entry_slot e.entry j).seen ≡ true → (slot_of x j).track ≡ track → ⊥) → slot_playing x e.entry track ≡ None
+slot_none x e track out = find_none (λ j. shows_slot x e.entry j && ((slot_of x j).track == track)) 0 slots
     (λ j low is. let p = three (carries x j) (is_shown (entry_slot e.entry j).seen) ((slot_of x j).track == track) is in out j (omega (arith, low)) p.0 p.1 (eqb-true (slot_of x j).track track p.2))
 
 -- a track that no slot plays is as it was
-pub track_still : (s : Session) (run : Run) (e : EntrySeen) (track : ℕ) → track < length run.tracks → slot_for (state_for s (with_poll s e.entry.state run) e.entry.state) e.entry track ≡ None → told_at (with_cycle s run e) track ≡ told_at run track
+pub track_still : (s : Session) (run : Run) (e : EntrySeen) (track : ℕ) → track < length run.tracks → slot_playing (state_for s (with_poll s e.entry.state run) e.entry.state) e.entry track ≡ None → told_at (with_cycle s run e) track ≡ told_at run track
 track_still s run e track there none = cycle_track s run e track there
     ∙ ap (λ (o : Option ℕ). elim o as (λ o. TrackTold) [ None ↦ told_at run track | Some i ↦ record (told_at run track) { stream = played (cycle_frames s) e i (told_at run track).stream } ]) none
 
@@ -45,7 +45,7 @@ pub next_kept : (s : Session) (run : Run) (entry : CycleEntry) (before : List Sl
 next_kept s run entry before i free =
     let x : FastState = state_for s run entry.state in
     let y : FastState = state_for s run (last_used run.entries) in
-    by (is_some (state_of run.states entry.state) || plays x entry i) (slot_report (cycle_frames s) (Some x) (Some y) entry (known_of (listed (stream_of run x i))) i (report_at before i))
+    by (is_some (state_of run.states entry.state) || shows_slot x entry i) (slot_report (cycle_frames s) (Some x) (Some y) entry (known_of (listed (stream_of run x i))) i (report_at before i))
     (ap (λ (b : Bool). if b then counted_look (cycle_frames s) (slot_of x i).generation (entry_slot entry i).seen (known_of (listed (stream_of run x i))) (if carries y i then report_at before i else no_slot) else report_at before i) free)
   where
     by : (b : Bool) (r : SlotReport) → r ≡ report_at before i → (if b then r else report_at before i) ≡ report_at before i
@@ -58,7 +58,7 @@ next_unshown s run entry before i none shown =
     let x : FastState = state_for s run entry.state in
     let y : FastState = state_for s run (last_used run.entries) in
     let r : SlotReport = slot_report (cycle_frames s) (Some x) (Some y) entry (known_of (listed (stream_of run x i))) i (report_at before i) in
-    ap (λ (b : Bool). if b || plays x entry i then r else report_at before i) (ap is_some none)
+    ap (λ (b : Bool). if b || shows_slot x entry i then r else report_at before i) (ap is_some none)
     ∙ ap (λ (b : Bool). if carries x i && b then r else report_at before i) shown ∙ by (carries x i) r
   where
     by : (b : Bool) (r : SlotReport) → (if b && false then r else report_at before i) ≡ report_at before i
@@ -118,22 +118,22 @@ module _ (s : Session) (marks : Marks) (track slot : ℕ) (item : FastTrack) (so
       let later : Run = with_cycle s told e in
       let uses : Uses (Plays slot item) run.states e.entry.state = record { state = x; is = ap (state_of run.states) at ∙ knows.0; holds = p } in
       let uses_told : Uses (Plays slot item) told.states e.entry.state = record { state = x; is = ap (state_of told.states) at ∙ step.last; holds = p } in
-      let plays : PlaysTrack s run e track slot = plays_track s marks run e track slot item low is there legal uses in
-      let shape : b.shape ≡ k = sym (ap (λ (y : BlockTold). y.shape) plays.stream) ∙ lies.shape in
+      let shows_slot : PlaysTrack s run e track slot = plays_track s marks run e track slot item low is there legal uses in
+      let shape : b.shape ≡ k = sym (ap (λ (y : BlockTold). y.shape) shows_slot.stream) ∙ lies.shape in
       let f : Listed = record { shape = k; events = server_list b } in
       let here : listed b ≡ f = λ j. record { shape = shape j; events = server_list b } in
       let events : List ServerEvent = cycle_events (cycle_frames s) f (entry_slot e.entry slot) (front_of (cycle_frames s) f (entry_slot e.entry slot)) in
       let list : server_list next ≡ server_list b ++ events =
-      ap server_list plays.stream ∙ played_server (cycle_frames s) e slot b ∙ ap (λ (y : Listed). server_list b ++ cycle_events (cycle_frames s) y (entry_slot e.entry slot) (front_of (cycle_frames s) y (entry_slot e.entry slot))) here in
-      let looks : LooksBy (cycle_frames s) f (entry_slot e.entry slot) plays.front = subst (λ (y : Listed). LooksBy (cycle_frames s) y (entry_slot e.entry slot) plays.front) here plays.looks in
+      ap server_list shows_slot.stream ∙ played_server (cycle_frames s) e slot b ∙ ap (λ (y : Listed). server_list b ++ cycle_events (cycle_frames s) y (entry_slot e.entry slot) (front_of (cycle_frames s) y (entry_slot e.entry slot))) here in
+      let looks : LooksBy (cycle_frames s) f (entry_slot e.entry slot) shows_slot.front = subst (λ (y : Listed). LooksBy (cycle_frames s) y (entry_slot e.entry slot) shows_slot.front) here shows_slot.looks in
       let look : Look k (cycle_frames s) cs (server_list b) (entry_slot e.entry slot).seen events =
-      slot_look k cs all (server_list b) h (calm_drops (server_list b) step.quiet.calm) step.quiet.unshut (cycle_frames s) (entry_slot e.entry slot) plays.front lies.rest looks (lies.whole ∙ ap (λ l. l ++ lies.rest) list) in
+      slot_look k cs all (server_list b) h (calm_drops (server_list b) step.quiet.calm) step.quiet.unshut (cycle_frames s) (entry_slot e.entry slot) shows_slot.front lies.rest looks (lies.whole ∙ ap (λ l. l ++ lies.rest) list) in
       let quiet : IsQuiet k (server_list next) = subst (IsQuiet k) (sym list) (record { calm = calm_join (server_list b) events step.quiet.calm (calm_cycle (cycle_frames s) f (entry_slot e.entry slot) (front_of (cycle_frames s) f (entry_slot e.entry slot)) look.shows); unshut = look.unshut }) in
       let track_is : (slot_of x slot).track ≡ track = ap (λ (t : FastTrack). t.track) p.is ∙ is in
       let only = slot_only x e track slot low p.carried track_is (λ j less carried one. p.only j less carried (one ∙ sym is)) (is_look (entry_slot e.entry slot).seen look.shows) in
       let counts = polled_known s told e.entry.state x uses_told.is in
       let stream : (told_at later track).stream ≡ played (cycle_frames s) e slot (told_at told track).stream =
-      ap (λ (t : TrackTold). t.stream) (cycle_track s told e track step.there) ∙ mixed_stream s (state_for s (with_poll s e.entry.state told) e.entry.state) e track slot (told_at told track) (ap (λ (y : FastState). slot_for y e.entry track) counts ∙ only) in
+      ap (λ (t : TrackTold). t.stream) (cycle_track s told e track step.there) ∙ mixed_stream s (state_for s (with_poll s e.entry.state told) e.entry.state) e track slot (told_at told track) (ap (λ (y : FastState). slot_playing y e.entry track) counts ∙ only) in
       let reported = entry_told s run e track slot item low is uses in
       let found = entry_told s told e track slot item low is uses_told in
       let states = cycle_states s told e in
@@ -144,16 +144,16 @@ module _ (s : Session) (marks : Marks) (track slot : ℕ) (item : FastTrack) (so
         draft = cycle_draft s told e ∙ step.draft;
         there = (let a = cycle_length s told e in let b = step.there in omega (arith, a, b));
         reported = found.told;
-        same = ap listed stream ∙ listed_played (cycle_frames s) e slot (told_at told track).stream (told_at run track).stream step.same ∙ ap listed (sym plays.stream);
+        same = ap listed stream ∙ listed_played (cycle_frames s) e slot (told_at told track).stream (told_at run track).stream step.same ∙ ap listed (sym shows_slot.stream);
         unshut = reported.told.shut ∙ open_known next lies.shape quiet;
         generation = reported.told.generation;
       }
 
   -- the draft plays nothing of the track if the entry shows nothing in its slot
-  draft_none : (e : EntrySeen) → is_shown (entry_slot e.entry slot).seen ≡ false → slot_for d e.entry track ≡ None
+  draft_none : (e : EntrySeen) → is_shown (entry_slot e.entry slot).seen ≡ false → slot_playing d e.entry track ≡ None
   draft_none e unshown = by q
     where
-      by : HasOrOut track slot item d → slot_for d e.entry track ≡ None
+      by : HasOrOut track slot item d → slot_playing d e.entry track ≡ None
       by (inl has) = slot_none d e track (λ j less carried shown at. true≢false (sym shown ∙ ap (λ (m : ℕ). is_shown (entry_slot e.entry m).seen) (has.only j less carried (at ∙ sym is)) ∙ unshown))
       by (inr out) = slot_none d e track (λ j less carried shown at. out.none j less carried at)
 
@@ -170,8 +170,8 @@ module _ (s : Session) (marks : Marks) (track slot : ℕ) (item : FastTrack) (so
       let beyond : length told.states < e.entry.state = (let a = step.count in omega (arith, a, above)) in
       let counts : state_for s (with_poll s e.entry.state told) e.entry.state ≡ d = polled_waits s told e.entry.state beyond ∙ step.draft in
       let actual : state_for s (with_poll s e.entry.state run) e.entry.state ≡ y.0 = polled_known s run e.entry.state y.0 y.1 in
-      let run_still : told_at next track ≡ told_at run track = track_still s run e track there (ap (λ (z : FastState). slot_for z e.entry track) actual ∙ slot_none y.0 e track (λ j less carried shown at. out.none j less carried at)) in
-      let told_still : told_at later track ≡ told_at told track = track_still s told e track step.there (ap (λ (z : FastState). slot_for z e.entry track) counts ∙ draft_none e unshown) in
+      let run_still : told_at next track ≡ told_at run track = track_still s run e track there (ap (λ (z : FastState). slot_playing z e.entry track) actual ∙ slot_none y.0 e track (λ j less carried shown at. out.none j less carried at)) in
+      let told_still : told_at later track ≡ told_at told track = track_still s told e track step.there (ap (λ (z : FastState). slot_playing z e.entry track) counts ∙ draft_none e unshown) in
       let missing : state_of told.states e.entry.state ≡ None = state_beyond told.states e.entry.state beyond in
       let told_slot : slot_told later slot ≡ slot_told told slot = slot_counts s told e slot low ∙ next_unshown s (with_looks s e (with_poll s e.entry.state told)) e.entry (last_report told.reports).slots slot missing unshown in
       let run_slot : slot_told next slot ≡ slot_told run slot = slot_counts s run e slot low ∙ next_kept s (with_looks s e (with_poll s e.entry.state run)) e.entry (last_report run.reports).slots slot (ap (λ (z : FastState). carries z slot) actual ∙ out.free) in

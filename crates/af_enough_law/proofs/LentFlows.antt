@@ -1,6 +1,6 @@
 -- What is carried of a track whose proxy is lent is kept by a round that leaves it lent.
 use Rattle.std.proofs.Common.{◌≡◌, ℕ, ◌≤◌, ◌<◌, ◌&&◌, not, is_some, Bool, true, false, true≢false, All, length, length-append, refl, sym, ap, ◌∙◌, subst, arith}
-use Rattle.af_enough_law.proofs.Common.{Counts, FastTrack, Learnt, LegalRound, Lent, Life, Marks, NormalKept, RoundSeen, Run, Session, Setting, SlotReport, TrackKept, after_round, client_list, counts_in, ends_part, holds, is_home, learnt, load_of, met_after, number_of, or_right, plays, report_at, report_of, server_list, setup_of, slot_number, slot_reported, takes_part, told_at, track_at, track_count, with_calls, with_cycles}
+use Rattle.af_enough_law.proofs.Common.{Counts, FastTrack, Learnt, LegalRound, Lent, Life, Marks, NormalKept, RoundSeen, Run, Session, Setting, SlotReport, TrackKept, after_round, client_list, counts_in, ends_part, observer_holds, is_home, learnt, load_of, met_after, number_of, or_right, plays, report_at, report_of, server_list, setup_of, slot_number, slot_reported, takes_part, told_at, track_at, track_count, with_calls, with_cycles}
 use Rattle.af_enough_law.proofs.Basics.{state_there}
 use Rattle.af_enough_law.specs.Carried.{SessionCarried}
 use Rattle.af_enough_law.specs.FastFlows.{FlowsIn, Flowed, Reported, slot_told, HasItem}
@@ -80,7 +80,7 @@ module _ (s : Session) (marks : Marks) (scales : All (λ (x : Setting). x.scale 
       let high = round_high s run round c.stands.adopted in
       let x = state_there after.states after.current (omega (arith, first, some)) high in
       let p = (states_play s marks scales long run round legal c i most total named lawful track two slot item l stays).1 after.current x.0 first x.1 in
-      or_right (is_home (track_at after.normal.tracks i).holder) (holds s after i) (holds_by s after i slot item x.0 l.low track_is x.1 p)
+      or_right (is_home (track_at after.normal.tracks i).holder) (observer_holds s after i) (holds_by s after i slot item x.0 l.low track_is x.1 p)
 
   -- the track flows
   pub flows : FlowsIn s run round i slot item

@@ -1,6 +1,6 @@
 -- A track whose proxy is lent, and stays so in a round, flows in it, and all that is carried of it is carried on.
 use Rattle.std.proofs.Common.{◌≡◌, ◌⊎◌, inl, inr, ℕ, zero, suc, ◌+◌, ◌≤◌, ◌<◌, ◌==◌, ◌&&◌, ◌||◌, not, if◌then◌else◌, unwrap_or, is_some, Bool, true, false, true≢false, All, Option, Some, List, [], ◌∷◌, ◌++◌, length, length-append, refl, sym, ap, ◌∙◌, subst, arith, eq-eqb}
-use Rattle.af_enough_law.proofs.Common.{Absent, FastState, FastTrack, Heard, LegalRound, Lent, Life, Marks, MixWrite, NormalKept, RoundSeen, Run, Session, Setting, Setup, SlotReport, TrackKept, after_round, carries, client_list, counts_in, cycle_frames, grown, heard, heard_at_home, heard_by, heard_elsewhere, heard_with, holds, initial, is_among, is_home, is_lent, learnt, lent_away, list_any, number_of, or_right, plays, range_with_len, setting_of, setup_of, slot_number, slot_of, slots, state_at, state_beyond, state_more, state_of, told_at, track_at, track_count, turn_after, within_or_beyond}
+use Rattle.af_enough_law.proofs.Common.{Absent, FastState, FastTrack, Heard, LegalRound, Lent, Life, Marks, MixWrite, NormalKept, RoundSeen, Run, Session, Setting, Setup, SlotReport, TrackKept, after_round, carries, client_list, counts_in, cycle_frames, grown, heard, heard_at_home, heard_by, heard_elsewhere, heard_with, observer_holds, initial, is_among, is_home, is_lent, learnt, lent_away, list_any, number_of, or_right, plays, range_with_len, setting_of, setup_of, slot_number, slot_of, slots, state_at, state_beyond, state_more, state_of, told_at, track_at, track_count, turn_after, within_or_beyond}
 use Rattle.af_enough_law.specs.Carried.{SessionCarried}
 use Rattle.af_enough_law.specs.Courses.{Course, absent, idle, playing, stopping, drained, stopped, over}
 use Rattle.af_enough_law.specs.Drafts.{is_busy, PushMade}
@@ -56,7 +56,7 @@ any_from p a (suc n) i low high is = by (le_cases a i low) (λ above. any_from p
     by (inr above) later = or_right (p a) (list_any p (range_with_len (a + 1) n)) (later above)
 
 -- if the state adopted last plays a track, its proxy takes part in the meeting
-pub holds_by : (s : Session) (run : Run) (track slot : ℕ) (item : FastTrack) (x : FastState) → slot < slots → item.track ≡ track → state_of run.states run.current ≡ Some x → Plays slot item x → holds s run track ≡ true
+pub holds_by : (s : Session) (run : Run) (track slot : ℕ) (item : FastTrack) (x : FastState) → slot < slots → item.track ≡ track → state_of run.states run.current ≡ Some x → Plays slot item x → observer_holds s run track ≡ true
 holds_by s run track slot item x low is at p =
     let y : FastState = state_at (cycle_frames s) run.states run.current in
     let same : y ≡ x = ap (λ (o : Option FastState). unwrap_or o (initial (cycle_frames s))) at in

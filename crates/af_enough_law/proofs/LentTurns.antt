@@ -2,7 +2,7 @@
 use Rattle.std.proofs.Common.{◌≡◌, ℕ, zero, suc, ◌+◌, ◌<◌, ◌==◌, ◌&&◌, not, nat_le, if◌then◌else◌, is_some, Bool, true, false, true≢false, Option, List, [], ◌∷◌, ◌++◌, length, map, filter, get_or, refl, sym, ap, ◌∙◌, arith, append-nil, eqb-true}
 use Rattle.af_enough_law.proofs.Common.{BlockTold, GoesOn, Holder, Learnt, Marks, NormalKept, Outside, RoundSeen, Run, ServerEvent, Session, Setup, TakeSeen, TrackKept, TrackTold, Turn, acked_len, after_ack, after_edits, after_push, after_takes, after_tracks, after_turn, asked as buffer, before_turn, cycle_events, edits_len, flat_map, found_in, hand_does, invalid, is_home, is_mixed_here, learnt, mix_events, mixed_here, not_yet, outside_of, plays, push_tracks, range_with_len, served_len, server_list, setup_of, stream_list, takes_from, told_at, track_at, track_in, tracks_at, turn_after, turned}
 use Rattle.af_enough_law.proofs.Basics.{before_normal}
-use Rattle.af_life.specs.TurnEvents.{hand_list}
+use Rattle.af_life.specs.TurnEvents.{hand_events_of}
 use Rattle.af_enough_law.specs.NormalRounds.{TurnMade}
 use Rattle.af_enough_law.proofs.FastSteps.{server_does-server, hand_does-server}
 use Rattle.af_enough_law.proofs.Following.{greeted_in}
@@ -85,7 +85,7 @@ turn_leaves s marks run round t i low there runs away slot =
     let long = before_long s run round in
     ap (λ (p : Option Turn). server_list (told_at (turned s (found_in s run round) p now) i).stream) t.is
     ∙ ap (λ (x : TrackTold). server_list x.stream) (turn_track s (found_in s run round e) e now i (omega (arith, low, long)))
-    ∙ server_does-server (stream_list c o e (tracks_at c k now.normal e i) i) (hand_does (hand_list e i) before)
-    ∙ ap (λ (l : List ServerEvent). l ++ stream_list c o e (tracks_at c k now.normal e i) i) (hand_does-server (hand_list e i) before)
+    ∙ server_does-server (stream_list c o e (tracks_at c k now.normal e i) i) (hand_does (hand_events_of e i) before)
+    ∙ ap (λ (l : List ServerEvent). l ++ stream_list c o e (tracks_at c k now.normal e i) i) (hand_does-server (hand_events_of e i) before)
     ∙ ap (λ (m : NormalKept). server_list before ++ stream_list c o e (tracks_at c k m e i) i) (before_normal s run round)
     ∙ ap (λ (l : List ServerEvent). server_list before ++ l) events ∙ append-nil (server_list before)

@@ -1,6 +1,6 @@
 -- A proxy that missed the meeting after the round in which it was detached comes home in the next one: what was done to its stream in the one is told by the history of the other.
 use Rattle.std.proofs.Common.{◌≡◌, ◌⊎◌, inl, inr, ℕ, ◌≤◌, ◌<◌, ◌&&◌, if◌then◌else◌, is_some, Bool, true, false, true≢false, All, Some, length, refl, sym, ap, ◌∙◌, subst, arith}
-use Rattle.af_enough_law.proofs.Common.{FastState, FastTrack, Home, LegalRound, Lent, Marks, NormalKept, RoundSeen, Run, Session, Setting, TrackKept, after_round, carries, holds, is_home, is_returning, learnt, or_right, plays, setup_of, slot_number, slots, state_more, state_of, takes_part, told_at, track_at, track_count, turn_after}
+use Rattle.af_enough_law.proofs.Common.{FastState, FastTrack, Home, LegalRound, Lent, Marks, NormalKept, RoundSeen, Run, Session, Setting, TrackKept, after_round, carries, observer_holds, is_home, is_returning, learnt, or_right, plays, setup_of, slot_number, slots, state_more, state_of, takes_part, told_at, track_at, track_count, turn_after}
 use Rattle.af_enough_law.specs.Acks.{KnowsAcked}
 use Rattle.af_enough_law.specs.Carried.{SessionCarried}
 use Rattle.af_enough_law.specs.Drafts.{next_holder, is_busy, PushMade}
@@ -44,7 +44,7 @@ module _ (s : Session) (marks : Marks) (scales : All (λ (x : Setting). x.scale 
       let whole = round_states s run round ∙ (turn_more s run round).whole in
       let is : state_of after.states after.current ≡ Some run.normal.last =
       ap (λ (n : ℕ). state_of after.states n) at ∙ ap (λ l. state_of l (length run.states)) whole ∙ state_more run.states (turn_more s run round).more (length run.states) (omega arith) ∙ last in
-      or_right (is_home (track_at after.normal.tracks i).holder) (holds s after i) (holds_by s after i slot item run.normal.last low is_track is plays_last)
+      or_right (is_home (track_at after.normal.tracks i).holder) (observer_holds s after i) (holds_by s after i slot item run.normal.last low is_track is plays_last)
 
   -- if another state was adopted, it is the one that the turn pushed: it is known to be acknowledged
   pub passed : carries after.normal.draft slot ≡ false → length run.states < after.current → Coming after slot

@@ -1,8 +1,8 @@
 -- The report that a turn finds in the round in which the fast mixer comes to have a proxy: if it is of this attachment, it says that the server is open.
 use Rattle.std.proofs.Common.{◌≡◌, ◌⊎◌, inl, inr, ℕ, ◌≤◌, ◌<◌, ◌||◌, if◌then◌else◌, is_some, Bool, true, false, true≢false, Option, Some, None, List, [], ◌∷◌, ◌++◌, length, refl, sym, ap, ◌∙◌, subst, arith, append_assoc, append-nil}
-use Rattle.af_enough_law.proofs.Common.{ClientEvent, EntrySeen, FastState, FastTrack, LegalEntries, LegalEntry, Listed, Marks, Report, Run, ServerEvent, Session, Shape, SlotReport, TrackTold, carried, carries, counted_look, cycle_frames, entry_slot, is_shown, known_of, last_report, last_used, listed, mixed_track, no_slot, played, polled_known, polled_pushed, polled_waits, report_at, server_kept, server_list, slot_for, slot_of, slot_report, slots, state_at, state_for, state_of, stream_of, told_at, with_cycle, with_cycles, with_looks, with_mix, with_poll}
+use Rattle.af_enough_law.proofs.Common.{ClientEvent, EntrySeen, FastState, FastTrack, LegalEntries, LegalEntry, Listed, Marks, Report, Run, ServerEvent, Session, Shape, SlotReport, TrackTold, carried, carries, counted_look, cycle_frames, entry_slot, is_shown, known_of, last_report, last_used, listed, mixed_track, no_slot, played, polled_known, polled_pushed, polled_waits, report_at, server_kept, server_list, slot_playing, slot_of, slot_report, slots, state_at, state_for, state_of, stream_of, told_at, with_cycle, with_cycles, with_looks, with_mix, with_poll}
 use Rattle.af_enough_law.proofs.Basics.{state_there}
-use Rattle.af_runs.specs.Runs.{plays}
+use Rattle.af_runs.specs.Runs.{shows_slot}
 use Rattle.af_enough_law.specs.FastFlows.{AllUse, slot_told, HasItem}
 use Rattle.af_enough_law.proofs.Commanding.{le_cases}
 use Rattle.af_enough_law.proofs.FastFlows.{cycles_later}
@@ -34,7 +34,7 @@ module _ (s : Session) (track slot : ℕ) (item : FastTrack) (low : slot < slots
       let x : FastState = state_for s now e.entry.state in
       let y : FastState = state_for s now (last_used run.entries) in
       let before : SlotReport = slot_told run slot in
-      subst (SaysOpenOf item) (sym (slot_counts s run e slot low)) (either (is_some (state_of now.states e.entry.state) || plays x e.entry slot) _ before (made x y now before (subst (NamesTrack track slot item) (sym counts) named) open_is says) says)
+      subst (SaysOpenOf item) (sym (slot_counts s run e slot low)) (either (is_some (state_of now.states e.entry.state) || shows_slot x e.entry slot) _ before (made x y now before (subst (NamesTrack track slot item) (sym counts) named) open_is says) says)
     where
       either : (b : Bool) (r q : SlotReport) → SaysOpenOf item r → SaysOpenOf item q → SaysOpenOf item (if b then r else q)
       either true r q f g = f
@@ -67,15 +67,15 @@ module _ (s : Session) (marks : Marks) (track slot : ℕ) (item : FastTrack) (so
   KnowsMet run = (n ≤ length run.states) × (state_at (cycle_frames s) run.states n ≡ x) × ((m : ℕ) (y : FastState) → n < m → state_of run.states m ≡ Some y → HasOrOut track slot item y)
 
   -- a state that has the item plays it if the entry shows its slot
-  plays_shown : (y : FastState) → HasItem slot item y → (e : EntrySeen) → is_shown (entry_slot e.entry slot).seen ≡ true → slot_for y e.entry track ≡ Some slot
+  plays_shown : (y : FastState) → HasItem slot item y → (e : EntrySeen) → is_shown (entry_slot e.entry slot).seen ≡ true → slot_playing y e.entry track ≡ Some slot
   plays_shown y q e shown = slot_only y e track slot low q.carried (ap (λ (t : FastTrack). t.track) q.is ∙ is) (λ j less carried one. q.only j less carried (one ∙ sym is)) shown
 
-  plays_not : (y : FastState) → HasItem slot item y → (e : EntrySeen) → is_shown (entry_slot e.entry slot).seen ≡ false → slot_for y e.entry track ≡ None
+  plays_not : (y : FastState) → HasItem slot item y → (e : EntrySeen) → is_shown (entry_slot e.entry slot).seen ≡ false → slot_playing y e.entry track ≡ None
   plays_not y q e hidden = slot_none y e track (λ j less carried shown at. true≢false (sym shown ∙ ap (λ (m : ℕ). is_shown (entry_slot e.entry m).seen) (q.only j less carried (at ∙ sym is)) ∙ hidden))
 
   -- under one state an entry leaves both servers of the track with the same list
   listed_mixed : (y : FastState) (e : EntrySeen) (t u : TrackTold) → listed t.stream ≡ listed u.stream → listed (mixed_track s y e track t).stream ≡ listed (mixed_track s y e track u).stream
-  listed_mixed y e t u same = by (slot_for y e.entry track)
+  listed_mixed y e t u same = by (slot_playing y e.entry track)
     where
       with_slot : Option ℕ → TrackTold → TrackTold
       with_slot o t = elim o as (λ o. TrackTold) [ None ↦ t | Some i ↦ record t { stream = played (cycle_frames s) e i t.stream } ]
@@ -97,21 +97,21 @@ module _ (s : Session) (marks : Marks) (track slot : ℕ) (item : FastTrack) (so
       → track < length run.tracks → track < length told.tracks → listed (told_at told track).stream ≡ listed (told_at run track).stream → listed (told_at (with_cycle s told e) track).stream ≡ listed (told_at (with_cycle s run e) track).stream
   same_pushed run told e y real counts state hides there there' same = by (is_shown (entry_slot e.entry slot).seen) refl state
     where
-      still_run : slot_for y e.entry track ≡ None → told_at (with_cycle s run e) track ≡ told_at run track
-      still_run none = track_still s run e track there (ap (λ (z : FastState). slot_for z e.entry track) real ∙ none)
+      still_run : slot_playing y e.entry track ≡ None → told_at (with_cycle s run e) track ≡ told_at run track
+      still_run none = track_still s run e track there (ap (λ (z : FastState). slot_playing z e.entry track) real ∙ none)
 
-      still_told : slot_for d e.entry track ≡ None → told_at (with_cycle s told e) track ≡ told_at told track
-      still_told none = track_still s told e track there' (ap (λ (z : FastState). slot_for z e.entry track) counts ∙ none)
+      still_told : slot_playing d e.entry track ≡ None → told_at (with_cycle s told e) track ≡ told_at told track
+      still_told none = track_still s told e track there' (ap (λ (z : FastState). slot_playing z e.entry track) counts ∙ none)
 
-      unplayed : slot_for d e.entry track ≡ None → slot_for y e.entry track ≡ None → listed (told_at (with_cycle s told e) track).stream ≡ listed (told_at (with_cycle s run e) track).stream
+      unplayed : slot_playing d e.entry track ≡ None → slot_playing y e.entry track ≡ None → listed (told_at (with_cycle s told e) track).stream ≡ listed (told_at (with_cycle s run e) track).stream
       unplayed a b = ap (λ (t : TrackTold). listed t.stream) (still_told a) ∙ same ∙ ap (λ (t : TrackTold). listed t.stream) (sym (still_run b))
 
       by : (shown : Bool) → is_shown (entry_slot e.entry slot).seen ≡ shown → HasOrOut track slot item y → listed (told_at (with_cycle s told e) track).stream ≡ listed (told_at (with_cycle s run e) track).stream
       by true shown (inl r) =
           let a : (told_at (with_cycle s told e) track).stream ≡ played (cycle_frames s) e slot (told_at told track).stream =
-          ap (λ (t : TrackTold). t.stream) (cycle_track s told e track there') ∙ mixed_stream s (state_for s (with_poll s e.entry.state told) e.entry.state) e track slot (told_at told track) (ap (λ (z : FastState). slot_for z e.entry track) counts ∙ plays_shown d q e shown) in
+          ap (λ (t : TrackTold). t.stream) (cycle_track s told e track there') ∙ mixed_stream s (state_for s (with_poll s e.entry.state told) e.entry.state) e track slot (told_at told track) (ap (λ (z : FastState). slot_playing z e.entry track) counts ∙ plays_shown d q e shown) in
           let b : (told_at (with_cycle s run e) track).stream ≡ played (cycle_frames s) e slot (told_at run track).stream =
-          ap (λ (t : TrackTold). t.stream) (cycle_track s run e track there) ∙ mixed_stream s (state_for s (with_poll s e.entry.state run) e.entry.state) e track slot (told_at run track) (ap (λ (z : FastState). slot_for z e.entry track) real ∙ plays_shown y r e shown) in
+          ap (λ (t : TrackTold). t.stream) (cycle_track s run e track there) ∙ mixed_stream s (state_for s (with_poll s e.entry.state run) e.entry.state) e track slot (told_at run track) (ap (λ (z : FastState). slot_playing z e.entry track) real ∙ plays_shown y r e shown) in
           ap listed a ∙ listed_played (cycle_frames s) e slot (told_at told track).stream (told_at run track).stream same ∙ ap listed (sym b)
       by true shown (inr r) = absurd (true≢false (sym shown ∙ hides r))
       by false hidden (inl r) = unplayed (plays_not d q e hidden) (plays_not y r e hidden)

@@ -3,7 +3,7 @@ use Rattle.std.proofs.Common.{◌≡◌, ℕ, zero, suc, ◌+◌, ◌*◌, ◌^�
 use Rattle.af_enough_law.proofs.Common.{All-get_or, Frame, HasEnoughCycles, IsScript, IsTrack, Op, ScriptData, Session, TrackSpec, TrackTold, div_ceil, enough_rounds, greatest_cost, mul-le-mul_left, new_at, new_run, no_spec, op_cost, portion, server_list, session_of, sides_of, spec_of, sum_by, sum_by-cons, told_at, track_cost}
 use Rattle.af_script.specs.declared.op.Op.TheVariants as op
 use Rattle.af_script.specs.Ops.{power_above, cells_of}
-use Rattle.af_runs.specs.Runs.{new_track}
+use Rattle.af_runs.specs.Runs.{new_told_track}
 use Rattle.af_enough_law.specs.Nearing.{buffer_of}
 use Rattle.af_enough_law.specs.Playing.{IsWay, way_ops, way_frames}
 use Rattle.af_enough_law.specs.Seen.{frames_taken}
@@ -121,7 +121,7 @@ pub counts_begin : (script : ScriptData) (files : List (List Frame)) (i : ℕ) �
     → (let s = session_of script files in BlockCounts (new_run s) i (spec_of s i).frames (spec_of s i).base)
 counts_begin script files i is lt =
     let s = session_of script files in
-    let here : told_at (new_run s) i ≡ new_track s i = new_at s i lt in
+    let here : told_at (new_run s) i ≡ new_told_track s i = new_at s i lt in
     let spec = All-get_or IsTrack script.tracks i no_spec lt is.tracks in
     let cells = cells_least (spec_of s i).frames spec.buffer.1 in
     record {

@@ -1,6 +1,6 @@
 -- Which command a turn leaves in the draft, and which slots the draft carries.
 use Rattle.std.proofs.Common.{◌≡◌, ℕ, zero, suc, ◌==◌, ◌&&◌, ◌||◌, not, if◌then◌else◌, Bool, true, false, true≢false, List, [], ◌∷◌, refl, sym, ap, ◌∙◌, ◌<◌, ◌≤◌, arith}
-use Rattle.af_enough_law.proofs.Common.{ColdIdle, Command, Exit, FastState, Home, HotIdle, Initial, IsSound, Learnt, Mix, MixWrite, NormalKept, Setup, TrackKept, Turn, Write, and_none, carries, code_of, comes_home, is_exit, is_home, is_lent, is_over, is_returning, lent_away, list_any, next_command, no, or_left, or_right, pipe_size, plays, slot_number, slot_of, track_at, turn_after, welcomed}
+use Rattle.af_enough_law.proofs.Common.{ColdIdle, Command, Exit, FastState, Home, HotIdle, Initial, IsSound, Learnt, Mix, MixWrite, NormalKept, Setup, TrackKept, Turn, Write, and_none, carries, code_of, comes_home, commands_exit, is_home, is_lent, is_over, is_returning, lent_away, list_any, next_command, no, or_left, or_right, pipe_size, plays, slot_number, slot_of, track_at, turn_after, welcomed}
 use Rattle.af_base.specs.declared.state.Command.TheVariants.{Idle}
 use Rattle.af_enough_law.specs.TrackTurns.{greeted}
 use Rattle.af_enough_law.proofs.Drafts.{command_turned}
@@ -48,12 +48,12 @@ module _ (c : Setup) (k : Learnt) (m : NormalKept) (e : Turn) (runs : e.ended �
 
   -- once all lives have ended and all proxies are home, a turn that sees the pipe's whole room orders the Exit
   pub orders_exit : is_over after.tracks ≡ true → (e.room == pipe_size c) ≡ true → code_of after.draft.command ≡ code_of Exit
-  orders_exit over whole = command_turned c k m e runs ∙ ap (λ (x : Command). code_of x) (facts_are (is_exit m.draft) after.tracks e.room (pipe_size c) ∙ exits_by (is_exit m.draft) (is_over after.tracks) _ (e.room == pipe_size c) over whole)
+  orders_exit over whole = command_turned c k m e runs ∙ ap (λ (x : Command). code_of x) (facts_are (commands_exit m.draft) after.tracks e.room (pipe_size c) ∙ exits_by (commands_exit m.draft) (is_over after.tracks) _ (e.room == pipe_size c) over whole)
 
   -- while a track is to be heard, it orders a mix
-  pub orders_mix : is_exit m.draft ≡ false → (i : ℕ) → plays (track_at after.tracks i).life ≡ true → code_of after.draft.command ≡ code_of MixWrite
-  orders_mix going i heard = command_turned c k m e runs ∙ ap (λ (x : Command). code_of x) (facts_are (is_exit m.draft) after.tracks e.room (pipe_size c)
-      ∙ mixes_by (is_exit m.draft) (is_over after.tracks) (list_any (λ (s : TrackKept). plays s.life) after.tracks) (e.room == pipe_size c) going (not_over after.tracks i heard) (or_left _ (not (e.room == pipe_size c)) (any_at after.tracks i heard)))
+  pub orders_mix : commands_exit m.draft ≡ false → (i : ℕ) → plays (track_at after.tracks i).life ≡ true → code_of after.draft.command ≡ code_of MixWrite
+  orders_mix going i heard = command_turned c k m e runs ∙ ap (λ (x : Command). code_of x) (facts_are (commands_exit m.draft) after.tracks e.room (pipe_size c)
+      ∙ mixes_by (commands_exit m.draft) (is_over after.tracks) (list_any (λ (s : TrackKept). plays s.life) after.tracks) (e.room == pipe_size c) going (not_over after.tracks i heard) (or_left _ (not (e.room == pipe_size c)) (any_at after.tracks i heard)))
 
 -- a track that is lent is carried by the draft, in its slot, by its number and its generation
 pub lent_carried : (m : NormalKept) (i : ℕ) → IsSound m.tracks m.draft → is_lent (track_at m.tracks i).holder ≡ true

@@ -1,6 +1,6 @@
 -- Each slot that the draft carries is that of a track that is lent.
 use Rattle.std.proofs.Common.{◌≡◌, ◌≢◌, inl, inr, ℕ, zero, suc, ◌≤◌, ◌&&◌, not, if◌then◌else◌, Bool, true, false, true≢false, All, List, [], ◌∷◌, length, map, fold, refl, sym, ap, ◌∙◌, subst, arith, ⊎_elim}
-use Rattle.af_enough_law.proofs.Common.{Busy, Clean, Command, FastState, Holder, Home, IsSound, Learnt, Lent, NormalKept, Push, Pushed, Returning, Setting, Setup, TakeSeen, TrackKept, TrackSeen, Turn, acked_len, after_ack, after_edits, after_push, after_take, after_takes, after_tracks, asked as buffer, at_here, at_other, at_set, attached_else, carries, cases_eq, comer_inside, comer_slot, comes_home, commanded as with_command, counted, detached, detached_else, detached_here, edited, edited_to, entered, goes_served, is_lent, is_returning, leaver_slot, lend, lent_away, lent_by, let_go, must_enter, must_leave, mutated, no, number_of, ordered, seen_at, served, served_len, served_to, setting_of, slice_set, slot_number, sound_acked, sound_edits, sound_served, track_at, turn_after, welcomed, welcomed_at}
+use Rattle.af_enough_law.proofs.Common.{Busy, Clean, Command, FastState, Holder, Home, IsSound, Learnt, Lent, NormalKept, Push, Pushed, Returning, Setting, Setup, TakeSeen, TrackKept, TrackSeen, Turn, acked_len, after_ack, after_edits, after_push, after_take, after_takes, after_tracks, asked as buffer, at_here, at_other, at_set, attached_else, carries, cases_eq, comer_inside, comer_slot, comes_home, draft_commanded as with_command, look_counted, detached, detached_else, detached_here, edited, edited_to, entered, goes_served, is_lent, is_returning, leaver_slot, lend, lent_away, lent_by, let_go, must_enter, must_leave, mutated, no, number_of, ordered, seen_at, served, served_len, served_to, setting_of, slice_set, slot_number, sound_acked, sound_edits, sound_served, track_at, turn_after, welcomed, welcomed_at}
 use Rattle.af_enough_law.specs.Owned.{AreOwned}
 
 -- each lent track stays lent with its slot
@@ -102,7 +102,7 @@ module _ (c : Setup) where
   takes_owned : (draft : FastState) (takes : List TakeSeen) (tracks : List TrackKept) → AreOwned tracks draft → AreOwned (fold (after_take (buffer c)) tracks takes) draft
   takes_owned draft [] tracks h = h
   takes_owned draft (take ∷ takes) tracks h = takes_owned draft takes (after_take (buffer c) tracks take)
-      (stay_owned tracks (after_take (buffer c) tracks take) draft (set_stays tracks take.track (record (track_at tracks take.track) { own = counted (buffer c) take.slot.seen (track_at tracks take.track).own }) (λ lent. (lent, refl))) h)
+      (stay_owned tracks (after_take (buffer c) tracks take) draft (set_stays tracks take.track (record (track_at tracks take.track) { own = look_counted (buffer c) take.slot.seen (track_at tracks take.track).own }) (λ lent. (lent, refl))) h)
 
   -- a turn keeps whose the slots are that the draft carries
   pub owned_turn : (scales : All (λ (x : Setting). x.scale ≤ 4096) c.settings) (k : Learnt) (m : NormalKept) (e : Turn) → length m.tracks ≤ length c.settings → IsSound m.tracks m.draft → AreOwned m.tracks m.draft → AreOwned (turn_after c k m e).tracks (turn_after c k m e).draft

@@ -5,7 +5,7 @@ use Rattle.af_base.specs.declared.event.ClientEvent.TheVariants as client
 use Rattle.af_base.specs.declared.event.ServerEvent.TheVariants as server
 use Rattle.af_base.specs.declared.seen.Seen.TheVariants as seen
 use Rattle.af_enough_law.proofs.Basics.{put-append, taken-append}
-use Rattle.af_model.specs.Order.{after}
+use Rattle.af_model.specs.Order.{point_after}
 use Rattle.af_model.specs.PipeHistory as piped
 use Rattle.af_enough_law.specs.Seen.{Stands, frames_put, frames_taken}
 use Rattle.af_enough_law.proofs.FastShows.{put-front}
@@ -21,7 +21,7 @@ module _ (size : ℕ) where
     put : p.shown ≤ p.put
     room : p.put ≤ p.taken + size
 
-  room_next : (p : PipePoint) (e : Event ClientEvent ServerEvent) → piped.legal size p e → InRoom p → InRoom (piped.next p e)
+  room_next : (p : PipePoint) (e : Event ClientEvent ServerEvent) → piped.legal_in_pipe size p e → InRoom p → InRoom (piped.next_in_pipe p e)
   room_next p (one (client.Release count)) l r = record { shown = r.shown; put = (let a = r.put in omega arith); room = (let a : p.put + count ≤ p.taken + size = l in a) }
   room_next p (one (client.SawFront front)) l r = record { shown = r.shown; put = r.put; room = r.room }
   room_next p (one (client.Learn n)) l r = record { shown = r.shown; put = r.put; room = r.room }
@@ -42,32 +42,32 @@ module _ (size : ℕ) where
   room_next p (two (server.SetFlags bits)) l r = absurd l
   room_next p (two (server.SetStatus word)) l r = absurd l
 
-  in_room : (p : PipePoint) (es : List (Event ClientEvent ServerEvent)) → Legal (piped.legal size) piped.next p es → InRoom p → InRoom (after (piped.legal size) piped.next p es)
+  in_room : (p : PipePoint) (es : List (Event ClientEvent ServerEvent)) → Legal (piped.legal_in_pipe size) piped.next_in_pipe p es → InRoom p → InRoom (point_after (piped.legal_in_pipe size) piped.next_in_pipe p es)
   in_room p [] l r = r
-  in_room p (e ∷ es) l r = in_room (piped.next p e) es l.1 (room_next p e l.0 r)
+  in_room p (e ∷ es) l r = in_room (piped.next_in_pipe p e) es l.1 (room_next p e l.0 r)
 
-  room_start : InRoom piped.start
+  room_start : InRoom piped.start_of_pipe
   room_start = record { shown = omega arith; put = omega arith; room = omega arith }
 
-  put_after : (p : PipePoint) (es : List (Event ClientEvent ServerEvent)) → (after (piped.legal size) piped.next p es).put ≡ p.put + frames_put (ones es)
+  put_after : (p : PipePoint) (es : List (Event ClientEvent ServerEvent)) → (point_after (piped.legal_in_pipe size) piped.next_in_pipe p es).put ≡ p.put + frames_put (ones es)
   put_after p [] = omega arith
-  put_after p (one e ∷ es) = let rest = put_after (piped.next p (one e)) es in let now = put_more p e in omega arith
-  put_after p (two e ∷ es) = let rest = put_after (piped.next p (two e)) es in let now = put_same p e in omega arith
+  put_after p (one e ∷ es) = let rest = put_after (piped.next_in_pipe p (one e)) es in let now = put_more p e in omega arith
+  put_after p (two e ∷ es) = let rest = put_after (piped.next_in_pipe p (two e)) es in let now = put_same p e in omega arith
 
-  taken_after : (p : PipePoint) (es : List (Event ClientEvent ServerEvent)) → (after (piped.legal size) piped.next p es).taken ≡ p.taken + frames_taken (twos es)
+  taken_after : (p : PipePoint) (es : List (Event ClientEvent ServerEvent)) → (point_after (piped.legal_in_pipe size) piped.next_in_pipe p es).taken ≡ p.taken + frames_taken (twos es)
   taken_after p [] = omega arith
-  taken_after p (one e ∷ es) = let rest = taken_after (piped.next p (one e)) es in let now = taken_same p e in omega arith
-  taken_after p (two e ∷ es) = let rest = taken_after (piped.next p (two e)) es in let now = taken_more p e in omega arith
+  taken_after p (one e ∷ es) = let rest = taken_after (piped.next_in_pipe p (one e)) es in let now = taken_same p e in omega arith
+  taken_after p (two e ∷ es) = let rest = taken_after (piped.next_in_pipe p (two e)) es in let now = taken_more p e in omega arith
 
   -- the lists of both ends
   abbrev pub History : List ClientEvent → List ServerEvent → Type 0
-  History puts takes = HasOrder (piped.legal size) piped.next piped.start puts takes
+  History puts takes = HasOrder (piped.legal_in_pipe size) piped.next_in_pipe piped.start_of_pipe puts takes
 
   -- ## The moment of an event of the end that takes
 
   record TakesAt (puts : List ClientEvent) (before : List ServerEvent) (e : ServerEvent) : Type 0 where
     at : PipePoint
-    may : piped.legal size at (two e)
+    may : piped.legal_in_pipe size at (two e)
     taken : at.taken ≡ frames_taken before
     low : at.taken ≤ at.put
     high : at.put ≤ at.taken + size
@@ -77,22 +77,22 @@ module _ (size : ℕ) where
   takes_at : (puts : List ClientEvent) (before : List ServerEvent) (e : ServerEvent) (behind : List ServerEvent) → History puts (before ++ e ∷ behind) → TakesAt puts before e
   takes_at puts before e behind h =
       let cut = split_at h.order before e behind h.of_two in
-      let at = legal_at (piped.legal size) piped.next piped.start cut.before (two e) cut.behind (subst (Legal (piped.legal size) piped.next piped.start) cut.whole h.is_legal) in
-      let room = in_room piped.start cut.before at.0 room_start in
-      let put = put_after piped.start cut.before in
-      let taken = taken_after piped.start cut.before in
+      let at = legal_at (piped.legal_in_pipe size) piped.next_in_pipe piped.start_of_pipe cut.before (two e) cut.behind (subst (Legal (piped.legal_in_pipe size) piped.next_in_pipe piped.start_of_pipe) cut.whole h.is_legal) in
+      let room = in_room piped.start_of_pipe cut.before at.0 room_start in
+      let put = put_after piped.start_of_pipe cut.before in
+      let taken = taken_after piped.start_of_pipe cut.before in
       let whole : puts ≡ ones cut.before ++ ones cut.behind = sym h.of_one ∙ ap ones cut.whole ∙ ones_append cut.before (two e ∷ cut.behind) in
       let all : frames_put puts ≡ frames_put (ones cut.before) + frames_put (ones cut.behind) = ap frames_put whole ∙ put-append (ones cut.before) (ones cut.behind) in
       let a = room.shown in let b = room.put in
       record {
-        at = after (piped.legal size) piped.next piped.start cut.before;
+        at = point_after (piped.legal_in_pipe size) piped.next_in_pipe piped.start_of_pipe cut.before;
         may = at.1;
         taken = (let z = ap frames_taken cut.first in omega arith);
         low = omega arith;
         high = room.room;
         within = omega arith;
         learnt = λ n s.
-            let few = learnt_before (piped.legal size) piped.next (λ p. p.puts) server.Learn puts_counted takes_put_none (λ p n l. l) piped.start cut.before n refl at.0 (subst (Stands (server.Learn n)) (sym cut.first) s) in
+            let few = learnt_before (piped.legal_in_pipe size) piped.next_in_pipe (λ p. p.puts) server.Learn puts_counted takes_put_none (λ p n l. l) piped.start_of_pipe cut.before n refl at.0 (subst (Stands (server.Learn n)) (sym cut.first) s) in
             let less : frames_put (take n puts) ≤ frames_put (ones cut.before) = subst (λ (l : List ClientEvent). frames_put (take n l) ≤ frames_put (ones cut.before)) (sym whole) (put-front n (ones cut.before) (ones cut.behind) few) in
             omega arith;
       }
@@ -116,7 +116,7 @@ module _ (size : ℕ) where
 
   record PutsAt (takes : List ServerEvent) (before : List ClientEvent) (e : ClientEvent) : Type 0 where
     at : PipePoint
-    may : piped.legal size at (one e)
+    may : piped.legal_in_pipe size at (one e)
     put : at.put ≡ frames_put before
     low : at.taken ≤ at.put
     high : at.put ≤ at.taken + size
@@ -137,22 +137,22 @@ module _ (size : ℕ) where
   puts_at : (takes : List ServerEvent) (before : List ClientEvent) (e : ClientEvent) (behind : List ClientEvent) → History (before ++ e ∷ behind) takes → PutsAt takes before e
   puts_at takes before e behind h =
       let cut = split_one h.order before e behind h.of_one in
-      let at = legal_at (piped.legal size) piped.next piped.start cut.before (one e) cut.behind (subst (Legal (piped.legal size) piped.next piped.start) cut.whole h.is_legal) in
-      let room = in_room piped.start cut.before at.0 room_start in
-      let put = put_after piped.start cut.before in
-      let taken = taken_after piped.start cut.before in
+      let at = legal_at (piped.legal_in_pipe size) piped.next_in_pipe piped.start_of_pipe cut.before (one e) cut.behind (subst (Legal (piped.legal_in_pipe size) piped.next_in_pipe piped.start_of_pipe) cut.whole h.is_legal) in
+      let room = in_room piped.start_of_pipe cut.before at.0 room_start in
+      let put = put_after piped.start_of_pipe cut.before in
+      let taken = taken_after piped.start_of_pipe cut.before in
       let whole : takes ≡ twos cut.before ++ twos cut.behind = sym h.of_two ∙ ap twos cut.whole ∙ twos-append cut.before (one e ∷ cut.behind) in
       let a = room.shown in let b = room.put in
       record {
-        at = after (piped.legal size) piped.next piped.start cut.before;
+        at = point_after (piped.legal_in_pipe size) piped.next_in_pipe piped.start_of_pipe cut.before;
         may = at.1;
         put = (let z = ap frames_put cut.first in omega arith);
         low = omega arith;
         high = room.room;
         within = (let z = ap frames_taken whole in let y = taken-append (twos cut.before) (twos cut.behind) in omega arith);
         learnt = λ n s.
-            let few = learnt_before (legal_swapped (piped.legal size) piped.next) (next_swapped (piped.legal size) piped.next) (λ p. p.takes) client.Learn takes_counted puts_take_none (λ p n l. l) piped.start (swap_order cut.before) n refl
-            (swap_legal (piped.legal size) piped.next piped.start cut.before at.0) (subst (Stands (client.Learn n)) (sym (twos_swap cut.before ∙ cut.first)) s) in
+            let few = learnt_before (legal_swapped (piped.legal_in_pipe size) piped.next_in_pipe) (next_swapped (piped.legal_in_pipe size) piped.next_in_pipe) (λ p. p.takes) client.Learn takes_counted puts_take_none (λ p n l. l) piped.start_of_pipe (swap_order cut.before) n refl
+            (swap_legal (piped.legal_in_pipe size) piped.next_in_pipe piped.start_of_pipe cut.before at.0) (subst (Stands (client.Learn n)) (sym (twos_swap cut.before ∙ cut.first)) s) in
             let few' : n ≤ length (twos cut.before) = (let z = ap length (ones_swap cut.before) in omega arith) in
             let less : frames_taken (take n takes) ≤ frames_taken (twos cut.before) = subst (λ (l : List ServerEvent). frames_taken (take n l) ≤ frames_taken (twos cut.before)) (sym whole) (taken-front n (twos cut.before) (twos cut.behind) few') in
             omega arith;
@@ -168,17 +168,17 @@ module _ (size : ℕ) where
       by false is = omega arith
 
   reach : (asked a p t k b c z : ℕ) → a ≡ p - t → c ≡ min asked a → z ≡ b + c → k ≤ p → t ≡ b → t ≤ p → (b + asked ≤ z) ⊎ (k ≤ z)
-  reach asked a p t k b c z far count after known taken low = by (nat_le asked a) refl
+  reach asked a p t k b c z far count point_after known taken low = by (nat_le asked a) refl
     where
       by : (x : Bool) → nat_le asked a ≡ x → (b + asked ≤ z) ⊎ (k ≤ z)
-      by true is = let l : asked ≤ a = grind (arith, nat_tests, is) in inl (omega (arith, far, count, after, known, taken, low, l))
-      by false is = let l : a < asked = grind (arith, nat_tests, is) in inr (omega (arith, far, count, after, known, taken, low, l))
+      by true is = let l : asked ≤ a = grind (arith, nat_tests, is) in inl (omega (arith, far, count, point_after, known, taken, low, l))
+      by false is = let l : a < asked = grind (arith, nat_tests, is) in inr (omega (arith, far, count, point_after, known, taken, low, l))
 
   -- a mix takes all that it asks for, or all that was known to be put
   pub pipe_look : size ≤ 65536 → (puts : List ClientEvent) (all before : List ServerEvent) (asked rear front : ℕ) (takes rest : List ServerEvent) → History puts all → takes ≡ takes_shown (shown (min asked (ahead front rear)))
       → all ≡ (before ++ server.SawRear rear ∷ server.SawFront front ∷ takes) ++ rest → (n : ℕ) → Stands (server.Learn n) before
-      → (let after = before ++ server.SawRear rear ∷ server.SawFront front ∷ takes in
-      (frames_taken before ≤ frames_taken after) × ((frames_taken before + asked ≤ frames_taken after) ⊎ (frames_put (take n puts) ≤ frames_taken after)))
+      → (let point_after = before ++ server.SawRear rear ∷ server.SawFront front ∷ takes in
+      (frames_taken before ≤ frames_taken point_after) × ((frames_taken before + asked ≤ frames_taken point_after) ⊎ (frames_put (take n puts) ≤ frames_taken point_after)))
   pipe_look few puts all before asked rear front takes rest h takes_are whole n s =
       let whole' : all ≡ before ++ server.SawRear rear ∷ server.SawFront front ∷ (takes ++ rest) = whole ∙ append_assoc before (server.SawRear rear ∷ server.SawFront front ∷ takes) rest in
       let m = takes_at puts before (server.SawRear rear) (server.SawFront front ∷ (takes ++ rest)) (subst (History puts) whole' h) in
@@ -189,27 +189,27 @@ module _ (size : ℕ) where
       let front_is : front ≡ wrapped m.at.taken = f.may ∙ ap wrapped same in
       let far : ahead front rear ≡ m.at.put - m.at.taken =
       ap (λ (x : ℕ × ℕ). ahead x.0 x.1) (λ i. (front_is i, rear_is i)) ∙ ahead-between m.at.taken m.at.put m.low (let a = m.high in omega arith) in
-      let after = taken-append before (server.SawRear rear ∷ server.SawFront front ∷ takes) in
+      let point_after = taken-append before (server.SawRear rear ∷ server.SawFront front ∷ takes) in
       let count : frames_taken takes ≡ min asked (ahead front rear) = ap frames_taken takes_are ∙ shown_taken (min asked (ahead front rear)) in
       let count' : frames_taken (server.SawRear rear ∷ server.SawFront front ∷ takes) ≡ min asked (ahead front rear) = omega (arith, count) in
       let known = m.learnt n s in
       let taken = m.taken in
       let low = m.low in
-      ((omega arith), reach asked (ahead front rear) m.at.put m.at.taken (frames_put (take n puts)) (frames_taken before) (frames_taken (server.SawRear rear ∷ server.SawFront front ∷ takes)) _ far count' after known taken low)
+      ((omega arith), reach asked (ahead front rear) m.at.put m.at.taken (frames_put (take n puts)) (frames_taken before) (frames_taken (server.SawRear rear ∷ server.SawFront front ∷ takes)) _ far count' point_after known taken low)
 
   -- no more is taken than put, and no more put than there is room for
   pub pipe_low : (puts : List ClientEvent) (takes : List ServerEvent) → History puts takes → (frames_taken takes ≤ frames_put puts) × (frames_put puts ≤ frames_taken takes + size)
   pipe_low puts takes h =
-      let room = in_room piped.start h.order h.is_legal room_start in
-      let put = put_after piped.start h.order in
-      let taken = taken_after piped.start h.order in
+      let room = in_room piped.start_of_pipe h.order h.is_legal room_start in
+      let put = put_after piped.start_of_pipe h.order in
+      let taken = taken_after piped.start_of_pipe h.order in
       let a = room.shown in let b = room.put in let c = room.room in
       let d = ap frames_put h.of_one in let e = ap frames_taken h.of_two in
       (omega arith, omega arith)
 
   -- as many frames were put as the events say
   pub pipe_words : (puts : List ClientEvent) (put : List ℕ) (takes : List ServerEvent) (taken : List ℕ) → piped.HasPipeHistory size puts put takes taken → length put ≡ frames_put puts
-  pipe_words puts put takes taken h = let a = h.put_is in let b = put_after piped.start h.history.order in let c = ap frames_put h.history.of_one in omega arith
+  pipe_words puts put takes taken h = let a = h.put_is in let b = put_after piped.start_of_pipe h.history.order in let c = ap frames_put h.history.of_one in omega arith
 
   -- the room that is seen
   pub pipe_room : size ≤ 65536 → (all : List ClientEvent) (takes : List ServerEvent) (before : List ClientEvent) (put room : ℕ) (behind : List ClientEvent) → History all takes → put ≡ frames_put before → room ≤ size

@@ -1,7 +1,7 @@
 -- The client of a track that was stopped before a round sends its REMOVE in it.
 use Rattle.std.proofs.Common.{◌≡◌, ℕ, zero, suc, ◌+◌, ◌*◌, ◌≤◌, Bool, true, false, true≢false, MatchBool, List, [], length, refl, sym, ap, ◌∙◌, subst, arith, if◌then◌else◌}
 use Rattle.af_enough_law.proofs.Common.{AreCalls, Heard, Known, LegalRound, Life, Marks, RoundSeen, Run, ServerEvent, Session, TrackKept, TrackTold, after_round, by_report, calls_in, heard, learnt, sides_of, status_word, told_at, track_at}
-use Rattle.af_life.specs.State.{code_of}
+use Rattle.af_life.specs.State.{life_code}
 use Rattle.af_enough_law.specs.Courses.{course, Course, absent, idle, playing, stopping, drained, stopped, over, stage, told_words}
 use Rattle.af_enough_law.specs.NormalRounds.{TurnMade}
 use Rattle.af_enough_law.specs.Playing.{AreFair}
@@ -19,7 +19,7 @@ use Rattle.std.specs.Prelude.{◌%◌}
 
 -- ## The words of a stopped track
 
-says_word : (s : TrackKept) → code_of s.life.state ≡ 8 → s.life.drained ≡ true → 3 ≤ s.settled → s.settled ≤ 4 → SaysStopped (status_word false s)
+says_word : (s : TrackKept) → life_code s.life.state ≡ 8 → s.life.drained ≡ true → 3 ≤ s.settled → s.settled ≤ 4 → SaysStopped (status_word false s)
 unfolding status_word
 says_word s code dry some few =
     let word : status_word false s ≡ 8 + 16 + 256 * (s.settled % 16777216) = λ j. code j + (if dry j then 16 else 0) + 256 * (s.settled % 16777216) in
@@ -27,14 +27,14 @@ says_word s code dry some few =
 
 -- a stopped life stays stopped, whether or not it is removed
 stopped_on : (count c more : ℕ) (known : Known) (l : Life) → Course count 3 l → stage l ≡ 3 → 3 + more ≤ 4 → known.shut ≡ false
-    → (code_of (by_report known (told_words (course c 3 more) l)).state ≡ 8) × ((by_report known (told_words (course c 3 more) l)).drained ≡ true)
+    → (life_code (by_report known (told_words (course c 3 more) l)).state ≡ 8) × ((by_report known (told_words (course c 3 more) l)).drained ≡ true)
 stopped_on count c more known l (stopping retries) is few open_is = absurd (let z : ⊥ = omega (arith, is) in z)
 stopped_on count c more known l (drained retries) is few open_is = absurd (let z : ⊥ = omega (arith, is) in z)
-stopped_on count c zero known l (stopped retries) is few open_is = let e = stopped_stays known retries count open_is in (ap (λ (x : Life). code_of x.state) e, ap (λ (x : Life). x.drained) e)
+stopped_on count c zero known l (stopped retries) is few open_is = let e = stopped_stays known retries count open_is in (ap (λ (x : Life). life_code x.state) e, ap (λ (x : Life). x.drained) e)
 stopped_on count c (suc zero) known l (stopped retries) is few open_is =
     let e = removed_by 0 retries count in
     let f = ap (by_report known) e ∙ over_out known _ open_is refl in
-    (ap (λ (x : Life). code_of x.state) f, ap (λ (x : Life). x.drained) f)
+    (ap (λ (x : Life). life_code x.state) f, ap (λ (x : Life). x.drained) f)
 stopped_on count c (suc (suc more)) known l (stopped retries) is few open_is = absurd (let z : ⊥ = omega (arith, few) in z)
 
 -- a life that is on its way to a stop took three commands
@@ -87,7 +87,7 @@ module _ (cut : Bool) (s : Session) (marks : Marks) (run : Run) (round : RoundSe
       gone.life ∙ ap (λ (d : Bool). if d then before.life else by_report h.known (told_words (course gone.after.count on.told gone.more) before.life)) alive ∙ ap (λ (ws : List ℕ). by_report h.known (told_words ws before.life)) words in
       let stays = stopped_on on.count gone.after.count gone.more h.known before.life there still (omega (arith, next, within, few, e)) open_is in
       let settled = gone.after.follows.settled in
-      subst SaysStopped (sym gone.after.follows.status) (says_word after (ap (λ (l : Life). code_of l.state) life ∙ stays.0) (ap (λ (l : Life). l.drained) life ∙ stays.1) (omega (arith, settled, next, e)) (omega (arith, settled, within, few)))
+      subst SaysStopped (sym gone.after.follows.status) (says_word after (ap (λ (l : Life). life_code l.state) life ∙ stays.0) (ap (λ (l : Life). l.drained) life ∙ stays.1) (omega (arith, settled, next, e)) (omega (arith, settled, within, few)))
 
   -- After the round the REMOVE was sent
   pub removes_round : (most total : ℕ) → Stands (sides_of b) most total → 6 ≤ length b.commands.released → AreFair (calls_in round i) → 8 ≤ length u.commands.released

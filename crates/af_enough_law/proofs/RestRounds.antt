@@ -1,6 +1,6 @@
 -- A round of a resting mixer that orders no Exit: what was lent comes nearer to home, and the pipe drains.
 use Rattle.std.proofs.Common.{◌≡◌, ◌⊎◌, inl, inr, ℕ, zero, suc, ◌-◌, ◌*◌, ◌<◌, ◌≤◌, ◌==◌, ◌||◌, not, unwrap_or, Bool, true, false, true≢false, All, Option, Some, List, length, is_some, refl, sym, ap, ◌∙◌, arith, eq-eqb}
-use Rattle.af_enough_law.proofs.Common.{ColdIdle, Command, FastState, LegalRound, Marks, MixWrite, NormalKept, RoundSeen, Run, Session, Setting, after_round, below_or_not, code_of, cycle_frames, initial, is_exit, is_pushed, learnt, pipe_size, setup_of, state_at, state_beyond, state_of, turn_after}
+use Rattle.af_enough_law.proofs.Common.{ColdIdle, Command, FastState, LegalRound, Marks, MixWrite, NormalKept, RoundSeen, Run, Session, Setting, after_round, below_or_not, code_of, cycle_frames, initial, commands_exit, is_pushed, learnt, pipe_size, setup_of, state_at, state_beyond, state_of, turn_after}
 use Rattle.af_enough_law.specs.Acks.{KnowsAcked}
 use Rattle.af_enough_law.specs.Drafts.{is_busy, PushMade}
 use Rattle.af_enough_law.specs.Ends.{AllHome, CarriesNone, Rests}
@@ -136,7 +136,7 @@ module _ (s : Session) (marks : Marks) (scales : All (λ (x : Setting). x.scale 
   seen = room_of_turn false s marks run round turn.turn legal r.pipe small u.within turn.is open_is
 
   -- an idle one that had nothing to push pushes nothing
-  idle_known : is_exit after.normal.draft ≡ false → IsClean run → IsIdle run → KnowsAcked after
+  idle_known : commands_exit after.normal.draft ≡ false → IsClean run → IsIdle run → KnowsAcked after
   idle_known off clean idle = unpushed_known (stays_still clean (cold ∙ sym idle.0)).unpushed_is
     where
       size : ℕ
@@ -208,5 +208,5 @@ module _ (s : Session) (marks : Marks) (scales : All (λ (x : Setting). x.scale 
       by (inr clean) (inl before) (inl still) = let m = mixed_round clean before later still in (m.0, inr m.1)
 
   -- if all is home and the pipe is empty, the Exit is ordered
-  pub orders_now : AllHome run.normal.tracks → in_pipe run ≡ 0 → is_exit after.normal.draft ≡ true
+  pub orders_now : AllHome run.normal.tracks → in_pipe run ≡ 0 → commands_exit after.normal.draft ≡ true
   orders_now home drained = orders_round s marks scales run round legal u.runs turn open_is rests_after (home_stays home) drained seen

@@ -1,9 +1,9 @@
 -- If no client flushes, a legal round leaves a stream block's server calm and open.
 use Rattle.std.proofs.Common.{◌≡◌, ◌⊎◌, inl, inr, ℕ, zero, suc, ◌+◌, ◌<◌, ◌==◌, ◌&&◌, ◌||◌, not, if◌then◌else◌, nat_le, Bool, true, false, true≢false, Option, Some, None, MatchBool, MatchOption, List, [], ◌∷◌, ◌++◌, length, map, filter, take, drop, refl, sym, ap, ◌∙◌, subst, arith, append-nil, eqb-true, is_some, get_or}
-use Rattle.af_enough_law.proofs.Common.{AllByRecursion, BlockTold, ClientEvent, CommandLook, EntrySeen, GoesOn, IsFastTurn, Learnt, LegalEntries, LegalRound, LegalTake, LegalTurnBy, Listed, LooksBy, Marks, NormalKept, Outside, RoundSeen, Run, ServerEvent, ServerKept, Session, Setup, Shape, TakeSeen, TrackKept, TrackSeen, TrackTold, Turn, TurnFound, after_edits, after_round, after_turn, asked as buffer, before_turn, cycle_events, each_at, early_count, early_of, fast_ended, fills, flat_map, fold-append, found_in, front_of, hand_does, heard, heard_at_home, heard_by, heard_elsewhere, invalid, is_found_shut, is_home, is_mixed_here, is_shut, kept, late_of, learnt, list_any, listed, met_after, mix_events, mixed_here, most_cycles, outside_of, range_with_len, server_begins, server_keeps, server_kept, server_list, setup_of, slot_reported, stream_list, stream_turned, take_front, takes_from, told_at, track_at, track_in, tracks_at, turned, turned_track, with_calls, with_cycles, with_turn}
+use Rattle.af_enough_law.proofs.Common.{AllByRecursion, BlockTold, ClientEvent, CommandLook, EntrySeen, GoesOn, IsFastTurn, Learnt, LegalEntries, LegalRound, LegalTake, LegalTurnBy, Listed, LooksBy, Marks, NormalKept, Outside, RoundSeen, Run, ServerEvent, ServerKept, Session, Setup, Shape, TakeSeen, TrackKept, TrackSeen, TrackTold, Turn, TurnFound, after_edits, after_round, after_turn, asked as buffer, before_turn, cycle_events, each_at, early_count, early_of, fast_ended, fills, flat_map, fold-append, found_in, front_of, hand_does, heard, heard_at_home, heard_by, heard_elsewhere, invalid, is_found_shut, is_home, is_mixed_here, is_shut, kept, late_of, learnt, list_any, listed, met_after, mix_events, mixed_here, most_round_cycles, outside_of, range_with_len, server_begins, server_keeps, server_kept, server_list, setup_of, slot_reported, stream_list, stream_turned, take_front, takes_from, told_at, track_at, track_in, tracks_at, turned, turned_track, with_calls, with_cycles, with_turn}
 use Rattle.af_base.specs.declared.event.ServerEvent.TheVariants as server
 use Rattle.af_enough_law.proofs.Basics.{before_normal}
-use Rattle.af_life.specs.TurnEvents.{hand_list}
+use Rattle.af_life.specs.TurnEvents.{hand_events_of}
 use Rattle.af_enough_law.specs.Courses.{none_shut}
 use Rattle.af_enough_law.proofs.FastFlows.{Later}
 use Rattle.af_enough_law.proofs.FastRounds.{Quiet, over, cycles_length}
@@ -145,7 +145,7 @@ module _ (s : Session) (marks : Marks) (track : ℕ) (k : Shape) (cs : List Clie
       let events : List ServerEvent = stream_list c o e tracks track in
       let turned_is : after ≡ stream_turned c o run.normal e track b =
       ap (λ (t : TrackTold). t.stream) (each_at (turned_track c o now.normal e) 0 now.tracks track track _ there (omega arith)) ∙ ap (λ (m : NormalKept). stream_turned c o m e track b) (before_normal s run round) in
-      let list : server_list after ≡ server_list b ++ events = ap server_list turned_is ∙ server_does-server events (hand_does (hand_list e track) b) ∙ ap (λ l. l ++ events) (hand_does-server (hand_list e track) b) in
+      let list : server_list after ≡ server_list b ++ events = ap server_list turned_is ∙ server_does-server events (hand_does (hand_events_of e track) b) ∙ ap (λ l. l ++ events) (hand_does-server (hand_events_of e track) b) in
       let shape : b.shape ≡ k = sym later.shape ∙ lies.shape in
       let x : Listed = record { shape = k; events = server_list b } in
       let same : listed b ≡ x = λ j. record { shape = shape j; events = server_list b } in
@@ -189,7 +189,7 @@ pub legal_parts : (cut : Bool) (s : Session) (marks : Marks) (run : Run) (round 
     → LegalEntries s marks (with_calls round run) (early_of run round) × LegalEntries s marks (after_turn s run round) (late_of run round)
 legal_parts cut s marks run round legal = by (fast_ended run) legal.turns.fast
   where
-    by : (b : Bool) → MatchBool b (round.entries ≡ []) (IsFastTurn most_cycles (cut && fills s run round) round.entries × LegalEntries s marks (with_calls round run) (early_of run round) × LegalEntries s marks (after_turn s run round) (late_of run round))
+    by : (b : Bool) → MatchBool b (round.entries ≡ []) (IsFastTurn most_round_cycles (cut && fills s run round) round.entries × LegalEntries s marks (with_calls round run) (early_of run round) × LegalEntries s marks (after_turn s run round) (late_of run round))
         → LegalEntries s marks (with_calls round run) (early_of run round) × LegalEntries s marks (after_turn s run round) (late_of run round)
     by true none =
         let n : ℕ = early_count run round in (

@@ -5,7 +5,7 @@ use Rattle.af_script.specs.declared.op.Op.TheVariants as op
 use Rattle.af_runs.specs.declared.want.ClientCommand.TheVariants as command
 use Rattle.af_runs.specs.declared.want.Mode.TheVariants as mode
 use Rattle.af_runs.specs.declared.want.Want.TheVariants as want
-use Rattle.af_enough.specs.Enough.{goes_on}
+use Rattle.af_enough.specs.Enough.{way_goes_on}
 use Rattle.af_enough_law.specs.Playing.{IsWay, Doing, opening}
 use Rattle.af_enough_law.proofs.Doing.{at}
 use Rattle.af_enough_law.proofs.RunTame.{rounds_pokeless}
@@ -14,8 +14,8 @@ use Rattle.af_enough_law.proofs.Pokeless.{plain_ops, IsPokelessTrack}
 -- ## The ops of a track
 
 -- ops that go on to their end, with the numbers of ops
-pub way_of : (frames gains : ℕ) (ops : List Op) → goes_on gains ops ≡ true → AllByRecursion (HasOpNumbers frames) ops → IsWay gains ops
-way_of frames gains (op.Gain left right ∷ ops) h n = (below_is gains 1024 (both_first (nat_lt gains 1024) (goes_on (gains + 1) ops) h), way_of frames (gains + 1) ops (both_right (nat_lt gains 1024) (goes_on (gains + 1) ops) h) n.1)
+pub way_of : (frames gains : ℕ) (ops : List Op) → way_goes_on gains ops ≡ true → AllByRecursion (HasOpNumbers frames) ops → IsWay gains ops
+way_of frames gains (op.Gain left right ∷ ops) h n = (below_is gains 1024 (both_first (nat_lt gains 1024) (way_goes_on (gains + 1) ops) h), way_of frames (gains + 1) ops (both_right (nat_lt gains 1024) (way_goes_on (gains + 1) ops) h) n.1)
 way_of frames gains (op.Write count ∷ ops) h n = (n.0.0, way_of frames 0 ops h n.1)
 way_of frames gains (op.Stop ∷ op.Drain ∷ op.Remove ∷ []) h n = tt
 way_of frames gains _ h n = absurd (true≢false (sym h))

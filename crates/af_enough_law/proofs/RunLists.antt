@@ -1,6 +1,6 @@
 -- The lists of a track's command block after a round.
 use Rattle.std.proofs.Common.{◌≡◌, ℕ, ◌<◌, Bool, true, List, [], ◌∷◌, ◌++◌, length, map, fold, drop, refl, sym, ap, ◌∙◌, subst, append_assoc, Option, Some, None}
-use Rattle.af_enough_law.proofs.Common.{BlockTold, ClientCall, ClientEvent, HasBlockHistory, LegalRound, Marks, Moment, NormalKept, RoundSeen, Run, ServerEvent, Session, Side, TrackTold, Turn, TurnFound, after_call, after_round, append-nil, by_server, called, calls_in, client-client, client-hand, client-server, client_list, command_list, found_in, hand_list, hand_of, is_tame, learnt, outside_of, server-client, server_list, server_of, setup_of, sides_of, told_at, track_count, tracks_at, with_side}
+use Rattle.af_enough_law.proofs.Common.{BlockTold, ClientCall, ClientEvent, HasBlockHistory, LegalRound, Marks, Moment, NormalKept, RoundSeen, Run, ServerEvent, Session, Side, TrackTold, Turn, TurnFound, after_call, after_round, append-nil, by_server, called_in_turn, calls_in, client-client, client-hand, client-server, client_list, command_list, found_in, hand_list, hand_of, is_tame, learnt, outside_of, server-client, server_list, server_of, setup_of, sides_of, told_at, track_count, tracks_at, with_side}
 use Rattle.af_base.specs.declared.event.ClientEvent.TheVariants as client
 use Rattle.af_base.specs.declared.event.ServerEvent.TheVariants as server
 use Rattle.af_enough_law.proofs.FairTurns.{commands_grow}
@@ -35,7 +35,7 @@ side_lists side b more is =
 
 -- the client's calls, as the client's own side tells them
 pub calls_commands : (t : TrackTold) (calls : List ClientCall) → let side = (fold after_call (sides_of t) calls).commands in
-    (client_list (called calls t).commands ≡ side.events) × (server_list (called calls t).commands ≡ server_list t.commands) × (hand_list (called calls t).commands ≡ hand_list t.commands)
+    (client_list (called_in_turn calls t).commands ≡ side.events) × (server_list (called_in_turn calls t).commands ≡ server_list t.commands) × (hand_list (called_in_turn calls t).commands ≡ hand_list t.commands)
 calls_commands t calls = let more = commands_grow (sides_of t) calls in side_lists (fold after_call (sides_of t) calls).commands t.commands more.0 more.1
 
 -- what the turn adds to a command block
@@ -67,7 +67,7 @@ command_lists s run round i lt =
     let t = told_at run i in
     let calls = calls_in round i in
     let c = calls_commands t calls in
-    let b = (called calls t).commands in
+    let b = (called_in_turn calls t).commands in
     let found = found_in s run round in
     let n = commands_lists s found round.turn run.normal i b in
     let turned = commands_by s found round.turn run.normal i b in

@@ -1,8 +1,8 @@
 -- What a round leaves of a track's two blocks: their sizes, and what their servers did before.
 use Rattle.std.proofs.Common.{◌≡◌, ℕ, ◌<◌, Bool, true, false, List, [], ◌∷◌, ◌++◌, length, map, fold, drop, refl, sym, ap, ◌∙◌, append_assoc, Option, Some, None}
-use Rattle.af_enough_law.proofs.Common.{BlockTold, EntrySeen, HandEvent, Moment, NormalKept, RoundSeen, Run, ServerEvent, Session, TrackTold, Turn, TurnFound, after_calls, after_round, after_turn, all_played, append-nil, by_hand, by_server, called, calls_in, client-server, client_list, cycle_events, cycle_frames, early_of, entry_slot, found_in, front_of, hand_does, late_of, learnt, listed, mixed_track, outside_of, played, server_list, server_of, setup_of, sides_of, slot_for, state_for, stream_list, stream_met, takes_part, told_at, tracks_at, with_calls, with_cycle, with_poll}
+use Rattle.af_enough_law.proofs.Common.{BlockTold, EntrySeen, HandEvent, Moment, NormalKept, RoundSeen, Run, ServerEvent, Session, TrackTold, Turn, TurnFound, after_calls, after_round, after_turn, all_played, append-nil, by_hand, by_server, called_in_turn, calls_in, client-server, client_list, cycle_events, cycle_frames, early_of, entry_slot, found_in, front_of, hand_does, late_of, learnt, listed, mixed_track, outside_of, played, server_list, server_of, setup_of, sides_of, slot_playing, state_for, stream_list, stream_met, takes_part, told_at, tracks_at, with_calls, with_cycle, with_poll}
 use Rattle.af_base.specs.declared.event.ServerEvent.TheVariants as server
-use Rattle.af_life.specs.TurnEvents.{hand_list}
+use Rattle.af_life.specs.TurnEvents.{hand_events_of}
 use Rattle.af_enough_law.proofs.RunTracks.{mixed_by, turned_by, played_track, round_blocks, met_track}
 
 abbrev told_more : List Moment → List Moment → List Moment
@@ -40,7 +40,7 @@ played_grows asked e i b = let slot = entry_slot e.entry i in let events = cycle
     record { shape = refl; more = events; server = server-server b.told events }
 
 -- a track's blocks grow by its client's calls
-side_grows : (t : TrackTold) (calls : List _) → Grows t.stream (called calls t).stream × Grows t.commands (called calls t).commands
+side_grows : (t : TrackTold) (calls : List _) → Grows t.stream (called_in_turn calls t).stream × Grows t.commands (called_in_turn calls t).commands
 side_grows t calls =
     let after = after_calls (sides_of t) calls in (
       record { shape = refl; more = []; server = client-server t.stream.told (drop (length (client_list t.stream)) after.stream.events) ∙ sym (append-nil (server_list t.stream)) },
@@ -62,7 +62,7 @@ module _ (s : Session) where
   unfolding mixed_by
   mixed_grows run [] i t = grows_no t.stream
   mixed_grows run (e ∷ es) i t = let x = state_for s (with_poll s e.entry.state run) e.entry.state in
-      grows_on (mixed_once e t (slot_for x e.entry i)) (mixed_grows (with_cycle s run e) es i (mixed_track s x e i t))
+      grows_on (mixed_once e t (slot_playing x e.entry i)) (mixed_grows (with_cycle s run e) es i (mixed_track s x e i t))
 
   pub turned_grows : (found : Turn → TurnFound) (o : Option Turn) (m : NormalKept) (i : ℕ) (t : TrackTold) → Grows t.stream (turned_by s found o m i t).stream
   unfolding turned_by
@@ -70,14 +70,14 @@ module _ (s : Session) where
   turned_grows found (Some e) m i t =
       let o = outside_of (setup_of s) (found e) e in
       let events = stream_list (setup_of s) o e (tracks_at (setup_of s) (learnt o) m e i) i in
-      record { shape = refl; more = events; server = server-server (hand_does (hand_list e i) t.stream).told events ∙ ap (λ (es : List ServerEvent). es ++ events) (hand-server t.stream.told (hand_list e i)) }
+      record { shape = refl; more = events; server = server-server (hand_does (hand_events_of e i) t.stream).told events ∙ ap (λ (es : List ServerEvent). es ++ events) (hand-server t.stream.told (hand_events_of e i)) }
 
   -- the stream block after a round
   pub round_grows : (run : Run) (round : RoundSeen) (i : ℕ) → i < length run.tracks → Grows (told_at run i).stream (told_at (after_round s run round) i).stream
   unfolding played_track
   round_grows run round i lt =
       let t = told_at run i in
-      let c = called (calls_in round i) t in
+      let c = called_in_turn (calls_in round i) t in
       let early = mixed_by s (with_calls round run) (early_of run round) i c in
       let turned = turned_by s (found_in s run round) round.turn run.normal i early in
       let all = played_track s run round i t in

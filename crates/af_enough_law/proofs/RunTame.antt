@@ -1,8 +1,8 @@
 -- In a run of a script without pokes no block is poked.
 use Rattle.std.proofs.Common.{◌≡◌, inl, inr, ℕ, ◌<◌, Bool, true, false, List, [], ◌∷◌, length, fold, refl, sym, ap, ◌∙◌, subst, arith, Option, Some, None}
-use Rattle.af_enough_law.proofs.Common.{BlockTold, EntrySeen, LegalRound, LegalRounds, Marks, NormalKept, RoundSeen, Run, Session, TrackTold, Turn, TurnFound, after_call, after_round, after_turn, all_played, both_lawful, called, calls_in, client_list, cycle_frames, early_of, found_in, hand-client, hand_does, is_lawful, late_of, learnt, mixed_track, outside_of, played, run_from, server-client, server_list, setup_of, sides_of, slot_for, state_for, stream_list, stream_met, takes_part, told_at, track_count, tracks_at, with_calls, with_cycle, with_poll}
+use Rattle.af_enough_law.proofs.Common.{BlockTold, EntrySeen, LegalRound, LegalRounds, Marks, NormalKept, RoundSeen, Run, Session, TrackTold, Turn, TurnFound, after_call, after_round, after_turn, all_played, both_lawful, called_in_turn, calls_in, client_list, cycle_frames, early_of, found_in, hand-client, hand_does, is_lawful, late_of, learnt, mixed_track, outside_of, played, run_from, server-client, server_list, setup_of, sides_of, slot_playing, state_for, stream_list, stream_met, takes_part, told_at, track_count, tracks_at, with_calls, with_cycle, with_poll}
 use Rattle.af_base.specs.declared.event.ClientEvent.TheVariants as client
-use Rattle.af_life.specs.TurnEvents.{hand_list}
+use Rattle.af_life.specs.TurnEvents.{hand_events_of}
 use Rattle.af_enough_law.proofs.FairTurns.{stream_grows}
 use Rattle.af_enough_law.proofs.Pokeless.{IsPokeless, IsPokelessTrack, turn_pokeless}
 use Rattle.af_enough_law.proofs.RunLists.{side_lists, command_lists}
@@ -20,21 +20,21 @@ module _ (s : Session) where
   unfolding mixed_by
   mixed_list run [] i t = refl
   mixed_list run (e ∷ es) i t = let x = state_for s (with_poll s e.entry.state run) e.entry.state in
-      mixed_list (with_cycle s run e) es i (mixed_track s x e i t) ∙ mixed_if e t (slot_for x e.entry i)
+      mixed_list (with_cycle s run e) es i (mixed_track s x e i t) ∙ mixed_if e t (slot_playing x e.entry i)
 
   pub turned_list : (found : Turn → TurnFound) (o : Option Turn) (m : NormalKept) (i : ℕ) (t : TrackTold) → client_list (turned_by s found o m i t).stream ≡ client_list t.stream
   unfolding turned_by
   turned_list found None m i t = refl
   turned_list found (Some e) m i t = let o = outside_of (setup_of s) (found e) e in
-      server-client (hand_does (hand_list e i) t.stream).told (stream_list (setup_of s) o e (tracks_at (setup_of s) (learnt o) m e i) i) ∙ hand-client t.stream.told (hand_list e i)
+      server-client (hand_does (hand_events_of e i) t.stream).told (stream_list (setup_of s) o e (tracks_at (setup_of s) (learnt o) m e i) i) ∙ hand-client t.stream.told (hand_events_of e i)
 
   module _ (run : Run) (round : RoundSeen) where
-    pub played_client_list : (i : ℕ) (t : TrackTold) → client_list (played_track s run round i t).stream ≡ client_list (called (calls_in round i) t).stream
+    pub played_client_list : (i : ℕ) (t : TrackTold) → client_list (played_track s run round i t).stream ≡ client_list (called_in_turn (calls_in round i) t).stream
     unfolding played_track
     played_client_list i t =
-        let early = mixed_by s (with_calls round run) (early_of run round) i (called (calls_in round i) t) in
+        let early = mixed_by s (with_calls round run) (early_of run round) i (called_in_turn (calls_in round i) t) in
         mixed_list (after_turn s run round) (late_of run round) i (turned_by s (found_in s run round) round.turn run.normal i early)
-        ∙ turned_list (found_in s run round) round.turn run.normal i early ∙ mixed_list (with_calls round run) (early_of run round) i (called (calls_in round i) t)
+        ∙ turned_list (found_in s run round) round.turn run.normal i early ∙ mixed_list (with_calls round run) (early_of run round) i (called_in_turn (calls_in round i) t)
 
     -- a meeting adds what was learnt, or nothing
     met_list : (there hands : Bool) (b : BlockTold) → is_lawful (client_list b) ≡ true → is_lawful (client_list (stream_met there hands b)) ≡ true

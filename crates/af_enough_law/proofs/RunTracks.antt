@@ -1,17 +1,17 @@
 -- What a round makes of one track of a run.
 use Rattle.std.proofs.Common.{◌≡◌, ◌⊎◌, inl, inr, ℕ, ◌<◌, Bool, true, false, List, [], ◌∷◌, length, refl, ap, ◌∙◌, arith, Option, Some, None, if◌then◌else◌}
-use Rattle.af_enough_law.proofs.Common.{BlockTold, EntrySeen, FastState, NormalKept, RoundSeen, Run, Session, TrackTold, Turn, TurnFound, after_round, after_turn, all_played, before_turn, called, calls_in, commands_turned, cycle_frames, each_long, each_track, early_of, ends, found_in, late_of, loaded, meets, met_after, met_many, mixed_track, outside_of, played, setup_of, slot_for, state_for, told_at, told_each, track_met, turned, turned_track, with_calls, with_cycle, with_cycles, with_ends, with_load, with_looks, with_mix, with_poll, with_turn}
+use Rattle.af_enough_law.proofs.Common.{BlockTold, EntrySeen, FastState, NormalKept, RoundSeen, Run, Session, TrackTold, Turn, TurnFound, after_round, after_turn, all_played, before_turn, called_in_turn, calls_in, commands_turned, cycle_frames, each_long, each_track, early_of, ends, found_in, late_of, loaded, meets, met_after, met_many, mixed_track, outside_of, played, setup_of, slot_playing, state_for, told_at, told_each, track_met, turned, turned_track, with_calls, with_cycle, with_cycles, with_ends, with_load, with_looks, with_mix, with_poll, with_turn}
 use Rattle.af_judge.proofs.BlocksMeet.{met_at}
 
 -- ## Calls
 
-told_called : (round : RoundSeen) (run : Run) (n : ℕ) → n < length run.tracks → told_at (with_calls round run) n ≡ called (calls_in round n) (told_at run n)
+told_called : (round : RoundSeen) (run : Run) (n : ℕ) → n < length run.tracks → told_at (with_calls round run) n ≡ called_in_turn (calls_in round n) (told_at run n)
 unfolding with_calls
-told_called round run n lt = told_each (λ track t. called (calls_in round track) t) run n lt
+told_called round run n lt = told_each (λ track t. called_in_turn (calls_in round track) t) run n lt
 
 pub calls_long : (round : RoundSeen) (run : Run) → length (with_calls round run).tracks ≡ length run.tracks
 unfolding with_calls
-calls_long round run = each_long (λ track t. called (calls_in round track) t) 0 run.tracks
+calls_long round run = each_long (λ track t. called_in_turn (calls_in round track) t) 0 run.tracks
 
 -- ## Ends
 
@@ -96,7 +96,7 @@ module _ (s : Session) where
   mixed_commands run [] i t = (refl, refl, refl)
   mixed_commands run (e ∷ es) i t =
       let x = state_for s (with_poll s e.entry.state run) e.entry.state in
-      let now = mixed_keeps x e t (slot_for x e.entry i) in
+      let now = mixed_keeps x e t (slot_playing x e.entry i) in
       let rest = mixed_commands (with_cycle s run e) es i (mixed_track s x e i t) in
       (rest.0 ∙ now.0, rest.1 ∙ now.1, rest.2 ∙ now.2)
 
@@ -152,7 +152,7 @@ module _ (s : Session) where
   module _ (run : Run) (round : RoundSeen) where
     -- a track once all played
     unfoldable pub played_track : ℕ → TrackTold → TrackTold
-    played_track i t = mixed_by (after_turn s run round) (late_of run round) i (turned_by (found_in s run round) round.turn run.normal i (mixed_by (with_calls round run) (early_of run round) i (called (calls_in round i) t)))
+    played_track i t = mixed_by (after_turn s run round) (late_of run round) i (turned_by (found_in s run round) round.turn run.normal i (mixed_by (with_calls round run) (early_of run round) i (called_in_turn (calls_in round i) t)))
 
     calls_normal : (with_calls round run).normal ≡ run.normal
     unfolding with_calls
@@ -180,22 +180,22 @@ module _ (s : Session) where
         ∙ (λ j. turned_by (found_in s run round) round.turn (before_normal j) i ((cycles_track (early_of run round) (with_calls round run) i (omega arith) ∙ ap (λ (t : TrackTold). mixed_by (with_calls round run) (early_of run round) i t) (told_called round run i lt)) j)))
 
     -- what is played leaves the client as its calls did
-    pub played_client : (i : ℕ) (t : TrackTold) → (played_track i t).client ≡ (called (calls_in round i) t).client
+    pub played_client : (i : ℕ) (t : TrackTold) → (played_track i t).client ≡ (called_in_turn (calls_in round i) t).client
     unfolding played_track
     played_client i t =
-        let early = mixed_by (with_calls round run) (early_of run round) i (called (calls_in round i) t) in
+        let early = mixed_by (with_calls round run) (early_of run round) i (called_in_turn (calls_in round i) t) in
         (mixed_commands (after_turn s run round) (late_of run round) i (turned_by (found_in s run round) round.turn run.normal i early)).1
         ∙ turned_client (found_in s run round) round.turn run.normal i early
-        ∙ (mixed_commands (with_calls round run) (early_of run round) i (called (calls_in round i) t)).1
+        ∙ (mixed_commands (with_calls round run) (early_of run round) i (called_in_turn (calls_in round i) t)).1
 
     -- of the command block only the turn changes what the client's calls left
-    pub played_commands : (i : ℕ) (t : TrackTold) → (played_track i t).commands ≡ commands_by (found_in s run round) round.turn run.normal i (called (calls_in round i) t).commands
+    pub played_commands : (i : ℕ) (t : TrackTold) → (played_track i t).commands ≡ commands_by (found_in s run round) round.turn run.normal i (called_in_turn (calls_in round i) t).commands
     unfolding played_track
     played_commands i t =
-        let early = mixed_by (with_calls round run) (early_of run round) i (called (calls_in round i) t) in
+        let early = mixed_by (with_calls round run) (early_of run round) i (called_in_turn (calls_in round i) t) in
         (mixed_commands (after_turn s run round) (late_of run round) i (turned_by (found_in s run round) round.turn run.normal i early)).0
         ∙ turned_commands (found_in s run round) round.turn run.normal i early
-        ∙ ap (λ (b : BlockTold). commands_by (found_in s run round) round.turn run.normal i b) (mixed_commands (with_calls round run) (early_of run round) i (called (calls_in round i) t)).0
+        ∙ ap (λ (b : BlockTold). commands_by (found_in s run round) round.turn run.normal i b) (mixed_commands (with_calls round run) (early_of run round) i (called_in_turn (calls_in round i) t)).0
 
     -- ## The meetings and the ends
 
@@ -213,14 +213,14 @@ module _ (s : Session) where
     round_blocks i lt = ends_blocks (met_after s run round) i (let a = met_many s (all_played s run round) in let b = loads_long in omega arith)
 
     -- a client that hasn't ended before the normal mixer does is the one that its calls left
-    pub round_client : (i : ℕ) → i < length run.tracks → ((told_at (after_round s run round) i).client ≡ (called (calls_in round i) (told_at run i)).client) ⊎ ((told_at (after_round s run round) i).client ≡ ends (called (calls_in round i) (told_at run i)).client)
+    pub round_client : (i : ℕ) → i < length run.tracks → ((told_at (after_round s run round) i).client ≡ (called_in_turn (calls_in round i) (told_at run i)).client) ⊎ ((told_at (after_round s run round) i).client ≡ ends (called_in_turn (calls_in round i) (told_at run i)).client)
     round_client i lt =
-        let same : (told_at (met_after s run round) i).client ≡ (called (calls_in round i) (told_at run i)).client = ap (λ (t : TrackTold). t.client) (met_track i lt) ∙ played_client i (told_at run i) in
-        elim (ends_client (met_after s run round) i (let a = met_many s (all_played s run round) in let b = loads_long in omega arith)) as (λ _. ((told_at (after_round s run round) i).client ≡ (called (calls_in round i) (told_at run i)).client) ⊎ ((told_at (after_round s run round) i).client ≡ ends (called (calls_in round i) (told_at run i)).client)) [
+        let same : (told_at (met_after s run round) i).client ≡ (called_in_turn (calls_in round i) (told_at run i)).client = ap (λ (t : TrackTold). t.client) (met_track i lt) ∙ played_client i (told_at run i) in
+        elim (ends_client (met_after s run round) i (let a = met_many s (all_played s run round) in let b = loads_long in omega arith)) as (λ _. ((told_at (after_round s run round) i).client ≡ (called_in_turn (calls_in round i) (told_at run i)).client) ⊎ ((told_at (after_round s run round) i).client ≡ ends (called_in_turn (calls_in round i) (told_at run i)).client)) [
           | inl still ↦ inl (still ∙ same)
           | inr over ↦ inr (over ∙ ap ends same)
         ]
 
     -- the command block after the round: its client's calls, the turn, and the meeting
-    pub round_commands : (i : ℕ) → i < length run.tracks → (told_at (after_round s run round) i).commands ≡ meets (commands_by (found_in s run round) round.turn run.normal i (called (calls_in round i) (told_at run i)).commands)
+    pub round_commands : (i : ℕ) → i < length run.tracks → (told_at (after_round s run round) i).commands ≡ meets (commands_by (found_in s run round) round.turn run.normal i (called_in_turn (calls_in round i) (told_at run i)).commands)
     round_commands i lt = (round_blocks i lt).1 ∙ ap (λ (t : TrackTold). t.commands) (met_track i lt) ∙ ap meets (played_commands i (told_at run i))

@@ -3,7 +3,7 @@ use Rattle.std.proofs.Common.{◌≡◌, ◌⊎◌, inl, inr, ℕ, zero, suc, �
 use Rattle.af_enough_law.proofs.Common.{Active, AreCalls, ClientCall, ClientCommand, CommandLook, IsWanted, Known, LegalClientTurn, Life, Stopping1, Stopping2, Track, TrackKept, Want, after_call, after_look, after_looks, both_first, both_right, both_true, by_command, by_report, ended, goes_on, is_shut, must_wait, no, obeyed, plays, shows_command, told, words_taken}
 use Rattle.af_base.specs.declared.event.ClientCall.TheVariants as call
 use Rattle.af_life.specs.Obeys.{commanded}
-use Rattle.af_runs.specs.Clients.{code_of}
+use Rattle.af_runs.specs.Clients.{command_code}
 use Rattle.af_runs.specs.declared.want.ClientCommand.TheVariants as command
 use Rattle.af_runs.specs.declared.want.Want.TheVariants as want
 use Rattle.af_enough_law.specs.Courses.{code_at, course, life_in}
@@ -69,7 +69,7 @@ plain_join (x ∷ y ∷ xs) code argument e p h = let rest = plain_join xs code 
 with_none : (xs : List ℕ) → ArePlain xs → ArePlain (xs ++ [])
 with_none xs h = subst ArePlain (sym (append-nil xs)) h
 
-code_plain : (sending : ClientCommand) → is_plain_want (want.Send sending) ≡ true → is_course_code (code_of sending) ≡ true
+code_plain : (sending : ClientCommand) → is_plain_want (want.Send sending) ≡ true → is_course_code (command_code sending) ≡ true
 code_plain command.Pause h = no h
 code_plain command.Flush h = no h
 code_plain _ h = refl
@@ -80,11 +80,11 @@ is_sent _ = false
 
 sent_plain : (t : Track) (w : Want) (front code argument : ℕ) → is_plain_want w ≡ true → IsWanted t w (call.Sent front code argument) → is_course_code code ≡ true
 unfolding is_sent
-sent_plain t (want.Send sending) front code argument plain made = ap is_course_code (eqb-true code (code_of sending) (both_first (code == code_of sending) _ made)) ∙ code_plain sending plain
+sent_plain t (want.Send sending) front code argument plain made = ap is_course_code (eqb-true code (command_code sending) (both_first (code == command_code sending) _ made)) ∙ code_plain sending plain
 sent_plain t (want.Gain left right) front code argument plain made = no (sym (ap is_sent made))
 sent_plain t (want.Poke in_command word value) front code argument plain made = no (sym (ap is_sent made))
 sent_plain t want.Rest front code argument plain made = absurd made
-sent_plain t want.Leave front code argument plain made = ap is_course_code (eqb-true code (code_of command.Remove) (both_first (code == code_of command.Remove) _ made))
+sent_plain t want.Leave front code argument plain made = ap is_course_code (eqb-true code (command_code command.Remove) (both_first (code == command_code command.Remove) _ made))
 sent_plain t _ front code argument plain made = no made
 
 call_plain : (t : Track) (w : Want) (answer : ClientCall) → is_plain_want w ≡ true → IsWanted t w answer → ArePlain t.commands.released → ArePlain (after_call t answer).commands.released

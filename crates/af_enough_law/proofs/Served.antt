@@ -1,6 +1,6 @@
 -- What a turn of the normal mixer makes of one track.
 use Rattle.std.proofs.Common.{◌≡◌, ◌≢◌, inl, inr, ℕ, zero, suc, ◌<◌, ◌≤◌, ◌==◌, Bool, true, false, List, [], ◌∷◌, length, fold, refl, sym, ap, ◌∙◌, subst, arith, true≢false, if◌then◌else◌}
-use Rattle.af_enough_law.proofs.Common.{CommandLook, Learnt, NormalKept, Returning, Setup, TakeSeen, TrackKept, TrackSeen, Turn, acked_len, after_ack, after_edits, after_push, after_take, after_takes, after_tracks, asked as buffer, at_here, at_other, by_test, cases_eq, counted, edited, edited_to, edits_len, entered, get_or-set_at, lend, length-set, lent_by, let_go, must_enter, must_leave, mutated, new_track, not_yet, ordered, push_tracks, seen_at, served, served_len, served_to, slice_set, track_at, track_in, tracks_at, turn_after, welcomed_at}
+use Rattle.af_enough_law.proofs.Common.{CommandLook, Learnt, NormalKept, Returning, Setup, TakeSeen, TrackKept, TrackSeen, Turn, acked_len, after_ack, after_edits, after_push, after_take, after_takes, after_tracks, asked as buffer, at_here, at_other, by_test, cases_eq, look_counted, edited, edited_to, edits_len, entered, get_or-set_at, lend, length-set, lent_by, let_go, must_enter, must_leave, mutated, new_track, not_yet, ordered, push_tracks, seen_at, served, served_len, served_to, slice_set, track_at, track_in, tracks_at, turn_after, welcomed_at}
 use Rattle.af_life.specs.Obeys.{slot_for}
 use Rattle.af_enough_law.specs.TrackTurns.{greeted, attended, Edited, stays, leaves, enters, own_after, TrackTurned}
 
@@ -69,13 +69,13 @@ ordered_tracks c k room m = by_test (λ (n : NormalKept). n.tracks ≡ (edited_t
 -- ## The looks of the mix
 
 own_here : (asked : ℕ) (tracks : List TrackKept) (take : TakeSeen) (i : ℕ) → i < length tracks
-    → track_at (after_take asked tracks take) i ≡ record (track_at tracks i) { own = (if take.track == i then counted asked take.slot.seen (track_at tracks i).own else (track_at tracks i).own) }
+    → track_at (after_take asked tracks take) i ≡ record (track_at tracks i) { own = (if take.track == i then look_counted asked take.slot.seen (track_at tracks i).own else (track_at tracks i).own) }
 own_here asked tracks take i lt = by_equal (take.track == i) refl
   where
-    by_equal : (b : Bool) → (take.track == i) ≡ b → track_at (after_take asked tracks take) i ≡ record (track_at tracks i) { own = (if b then counted asked take.slot.seen (track_at tracks i).own else (track_at tracks i).own) }
+    by_equal : (b : Bool) → (take.track == i) ≡ b → track_at (after_take asked tracks take) i ≡ record (track_at tracks i) { own = (if b then look_counted asked take.slot.seen (track_at tracks i).own else (track_at tracks i).own) }
     by_equal true e = let same : take.track ≡ i = search (arith, e) in
-        subst (λ (j : ℕ). track_at (slice_set tracks j (record (track_at tracks j) { own = counted asked take.slot.seen (track_at tracks j).own })) i ≡ record (track_at tracks i) { own = counted asked take.slot.seen (track_at tracks i).own }) (sym same)
-        (at_here tracks i (record (track_at tracks i) { own = counted asked take.slot.seen (track_at tracks i).own }) lt)
+        subst (λ (j : ℕ). track_at (slice_set tracks j (record (track_at tracks j) { own = look_counted asked take.slot.seen (track_at tracks j).own })) i ≡ record (track_at tracks i) { own = look_counted asked take.slot.seen (track_at tracks i).own }) (sym same)
+        (at_here tracks i (record (track_at tracks i) { own = look_counted asked take.slot.seen (track_at tracks i).own }) lt)
     by_equal false e = at_other tracks take.track _ i (λ h. true≢false (sym (search (arith, h)) ∙ e))
 
 pub own_all : (asked : ℕ) (takes : List TakeSeen) (tracks : List TrackKept) (i : ℕ) → i < length tracks

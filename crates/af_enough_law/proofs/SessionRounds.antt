@@ -1,6 +1,6 @@
 -- What is carried of the whole session holds before the first round and after each legal round that leaves some track a life.
 use Rattle.std.proofs.Common.{◌≡◌, ◌⊎◌, inl, inr, ℕ, ◌+◌, ◌≤◌, ◌<◌, ◌==◌, ◌&&◌, ◌||◌, not, if◌then◌else◌, Bool, true, false, true≢false, All, List, [], ◌∷◌, ◌++◌, length, length-append, refl, sym, ap, ◌∙◌, subst, arith}
-use Rattle.af_enough_law.proofs.Common.{ColdIdle, Command, Exit, Learnt, LegalRound, Marks, MixWrite, NormalKept, Push, RoundSeen, Run, Session, Setting, Setup, TrackKept, Turn, after_round, before_turn, code_of, draft_after, found_in, is_exit, is_over, is_pushed, learnt, list_any, next_command, outside_of, pipe_size, plays, setup_of, track_count, true_or_false, turn_after, turn_len}
+use Rattle.af_enough_law.proofs.Common.{ColdIdle, Command, Exit, Learnt, LegalRound, Marks, MixWrite, NormalKept, Push, RoundSeen, Run, Session, Setting, Setup, TrackKept, Turn, after_round, before_turn, code_of, draft_after, found_in, commands_exit, is_over, is_pushed, learnt, list_any, next_command, outside_of, pipe_size, plays, setup_of, track_count, true_or_false, turn_after, turn_len}
 use Rattle.af_enough_law.specs.Carried.{SessionStands, SessionCarried}
 use Rattle.af_enough_law.specs.Drafts.{is_busy, PushMade}
 use Rattle.af_enough_law.specs.EndPhases.{NoExits}
@@ -35,19 +35,19 @@ goes_by false false false true a b = refl
 goes_by false false false false a b = refl
 
 -- while a life hasn't ended the draft is no Exit
-draft_on : (c : Setup) (k : Learnt) (m : NormalKept) (e : Turn) → e.ended ≡ false → is_exit m.draft ≡ false → is_over (turn_after c k m e).tracks ≡ false → is_exit (turn_after c k m e).draft ≡ false
+draft_on : (c : Setup) (k : Learnt) (m : NormalKept) (e : Turn) → e.ended ≡ false → commands_exit m.draft ≡ false → is_over (turn_after c k m e).tracks ≡ false → commands_exit (turn_after c k m e).draft ≡ false
 unfolding next_command by_facts
 draft_on c k m e runs going over =
     let tracks : List TrackKept = (turn_after c k m e).tracks in
-    ap (λ (n : ℕ). n == code_of Exit) (command_turned c k m e runs) ∙ goes_by (is_exit m.draft) (is_over tracks) (list_any (λ (s : TrackKept). plays s.life) tracks) (e.room == pipe_size c) going over
+    ap (λ (n : ℕ). n == code_of Exit) (command_turned c k m e runs) ∙ goes_by (commands_exit m.draft) (is_over tracks) (list_any (λ (s : TrackKept). plays s.life) tracks) (e.room == pipe_size c) going over
 
 -- while the draft is no Exit the last state is none
-last_on : (m after : NormalKept) (push : Push) → PushMade m after push → is_exit m.last ≡ false → is_exit after.draft ≡ false → is_exit after.last ≡ false
+last_on : (m after : NormalKept) (push : Push) → PushMade m after push → commands_exit m.last ≡ false → commands_exit after.draft ≡ false → commands_exit after.last ≡ false
 last_on m after push made last draft = by (true_or_false (is_busy push))
   where
-    by : (is_busy push ≡ true) ⊎ (is_busy push ≡ false) → is_exit after.last ≡ false
-    by (inl busy) = ap is_exit (made.busy busy).3 ∙ last
-    by (inr free) = ap is_exit (made.done free).1 ∙ draft
+    by : (is_busy push ≡ true) ⊎ (is_busy push ≡ false) → commands_exit after.last ≡ false
+    by (inl busy) = ap commands_exit (made.busy busy).3 ∙ last
+    by (inr free) = ap commands_exit (made.done free).1 ∙ draft
 
 -- ## A round
 
@@ -86,10 +86,10 @@ module _ (s : Session) (marks : Marks) (scales : All (λ (x : Setting). x.scale 
       omega (arith, is, most, same)
 
   module _ (over : is_over after.normal.tracks ≡ false) where
-    draft_then : is_exit after.normal.draft ≡ false
-    draft_then = ap (λ (m : NormalKept). is_exit m.draft) turn_of.after ∙ draft_on (setup_of s) (learnt turn_of.by.outside) run.normal turn_of.turn turn_runs c.draft_goes (ap (λ (m : NormalKept). is_over m.tracks) (sym turn_of.after) ∙ over)
+    draft_then : commands_exit after.normal.draft ≡ false
+    draft_then = ap (λ (m : NormalKept). commands_exit m.draft) turn_of.after ∙ draft_on (setup_of s) (learnt turn_of.by.outside) run.normal turn_of.turn turn_runs c.draft_goes (ap (λ (m : NormalKept). is_over m.tracks) (sym turn_of.after) ∙ over)
 
-    last_then : is_exit after.normal.last ≡ false
+    last_then : commands_exit after.normal.last ≡ false
     last_then = last_on run.normal after.normal turn_of.turn.push push_of c.last_goes draft_then
 
     exits_then : NoExits after.states

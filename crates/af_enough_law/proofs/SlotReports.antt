@@ -1,7 +1,7 @@
 -- What the reports tell of a slot comes from the states that carry it: so no report has a generation that no state has.
 use Rattle.std.proofs.Common.{◌≡◌, ℕ, ◌<◌, ◌||◌, is_some, unwrap_or, if◌then◌else◌, Bool, true, false, true≢false, Option, Some, None, List, [], ◌∷◌, refl, sym, ap, ◌∙◌, subst, ◌≤◌, length}
 use Rattle.af_enough_law.proofs.Common.{CycleEntry, EntrySeen, FastState, LegalEntries, Marks, Run, ServerKnown, Session, SlotReport, carried, carries, counted_look, cycle_frames, entry_slot, initial, initial_none, known_of, last_used, listed, no_slot, polled_pushed, slot_of, slot_report, slots, state_at, state_for, state_of, stream_of, with_cycle, with_cycles, with_looks, with_poll}
-use Rattle.af_runs.specs.Runs.{plays}
+use Rattle.af_runs.specs.Runs.{shows_slot}
 use Rattle.af_enough_law.specs.FastFlows.{slot_told}
 use Rattle.af_enough_law.proofs.FastReports.{slot_counts}
 use Rattle.af_enough_law.proofs.FastSteps.{cycle_states, entry_pushed}
@@ -45,7 +45,7 @@ module _ (s : Session) (i : ℕ) (low : i < slots) (P : ℕ → Type 0) where
       let at : state_at (cycle_frames s) run.states e.entry.state ≡ x = sym (polled_pushed s run e.entry.state pushed) in
       let made = carried_report (cycle_frames s) x (Some y) e.entry (known_of (listed (stream_of now x i))) before
       (subst (λ z. carries z i ≡ true → P (slot_of z i).generation) at (state_at_all (cycle_frames s) run.states (λ z. carries z i ≡ true → P (slot_of z i).generation) carry (λ c. P_none c) e.entry.state)) told in
-      subst (λ (r : SlotReport). P r.generation) (sym (slot_counts s run e i low)) (either_report (is_some (state_of now.states e.entry.state) || plays x e.entry i) _ before made told)
+      subst (λ (r : SlotReport). P r.generation) (sym (slot_counts s run e i low)) (either_report (is_some (state_of now.states e.entry.state) || shows_slot x e.entry i) _ before made told)
     where
       P_none : carries (initial (cycle_frames s)) i ≡ true → P (slot_of (initial (cycle_frames s)) i).generation
       P_none c = let none : ⊥ = true≢false (sym c ∙ initial_none (cycle_frames s) i) in absurd none

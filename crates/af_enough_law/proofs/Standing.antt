@@ -1,7 +1,7 @@
 -- What stands before an event in an order of two parties.
 use Rattle.std.proofs.Common.{◌≡◌, ℕ, ◌+◌, ◌≤◌, List, [], ◌∷◌, ◌++◌, length, refl, sym, ap, ◌∙◌, subst, arith, length-append}
 use Rattle.af_enough_law.proofs.Common.{Event, HasOrder, Legal, legal_at, one, ones, ones_append, split_at, two, twos}
-use Rattle.af_model.specs.Order.{after}
+use Rattle.af_model.specs.Order.{point_after}
 use Rattle.af_enough_law.specs.Seen.{Stands, Sees}
 
 -- ## The parties exchanged
@@ -52,7 +52,7 @@ module _ {P A B : Type 0} (legal : P → Event A B → Type 0) (next : P → Eve
 module _ {P A B : Type 0} (legal : P → Event A B → Type 0) (next : P → Event A B → P) (count : P → ℕ) (learn : ℕ → B)
     (count_one : (p : P) (a : A) → count (next p (one a)) ≡ count p + 1) (count_two : (p : P) (b : B) → count (next p (two b)) ≡ count p)
     (learns : (p : P) (n : ℕ) → legal p (two (learn n)) → n ≤ count p) where
-  pub counted : (p : P) (es : List (Event A B)) → count (after legal next p es) ≡ count p + length (ones es)
+  pub counted : (p : P) (es : List (Event A B)) → count (point_after legal next p es) ≡ count p + length (ones es)
   counted p [] = omega arith
   counted p (one a ∷ es) = let rest = counted (next p (one a)) es in let first = count_one p a in omega arith
   counted p (two b ∷ es) = let rest = counted (next p (two b)) es in let first = count_two p b in omega arith
@@ -62,7 +62,7 @@ module _ {P A B : Type 0} (legal : P → Event A B → Type 0) (next : P → Eve
   learnt_before p es n none l s =
       let cut = split_at es s.before (learn n) s.behind s.whole in
       let at = legal_at legal next p cut.before (two (learn n)) cut.behind (subst (Legal legal next p) cut.whole l) in
-      let low = learns (after legal next p cut.before) n at.1 in
+      let low = learns (point_after legal next p cut.before) n at.1 in
       let is = counted p cut.before in
       let long : length (ones es) ≡ length (ones cut.before) + length (ones cut.behind) =
       ap (λ z. length (ones z)) cut.whole ∙ ap length (ones_append cut.before (two (learn n) ∷ cut.behind)) ∙ length-append (ones cut.before) (ones cut.behind) in
@@ -70,7 +70,7 @@ module _ {P A B : Type 0} (legal : P → Event A B → Type 0) (next : P → Eve
 
   -- an event of the second party sees a front of the first one's list, with all that was learnt
   pub sees_first : (p : P) (xs : List A) (before behind : List B) (b : B) (Shows : List A → Type 0) → count p ≡ 0 → HasOrder legal next p xs (before ++ b ∷ behind)
-      → ((es : List (Event A B)) → legal (after legal next p es) (two b) → Shows (ones es)) → Sees xs (λ n. Stands (learn n) before) Shows
+      → ((es : List (Event A B)) → legal (point_after legal next p es) (two b) → Shows (ones es)) → Sees xs (λ n. Stands (learn n) before) Shows
   sees_first p xs before behind b Shows none h shows =
       let cut = split_at h.order before b behind h.of_two in
       let at = legal_at legal next p cut.before (two b) cut.behind (subst (Legal legal next p) cut.whole h.is_legal) in

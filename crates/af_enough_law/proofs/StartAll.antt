@@ -175,7 +175,7 @@ module _ (script : ScriptData) (files : List (List Frame)) (marks : Marks) (form
         let gone = slotless_carried false s marks run r.first i most total t r.legal.0 at goes track few none none_then (begins.order.sound.slotted i) (order.sound.slotted i) in
         from_one (slotless gone.carried (inl slow) none_then)
 
-    here : told_at run i ≡ runs.new_track s i
+    here : told_at run i ≡ runs.new_told_track s i
     here = new_at s i named
 
     plays_on : Plays (spec_of s i).ops
@@ -185,7 +185,7 @@ module _ (script : ScriptData) (files : List (List Frame)) (marks : Marks) (form
     first_is = ap (λ (x : TrackTold). begun x.client) here ∙ ap (λ (ops : List Op). begun (runs_client ops)) plays_on.whole
       where
         runs_client : List Op → Client
-        runs_client ops = record (runs.new_track s i).client { ops = ops }
+        runs_client ops = record (runs.new_told_track s i).client { ops = ops }
 
     -- no command of a track in a new run is settled
     unsettled : Unsettled run i

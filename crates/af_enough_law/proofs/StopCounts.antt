@@ -1,10 +1,10 @@
 -- The argument of a STOP is no more than the frames that its client has put.
 use Rattle.std.proofs.Common.{◌≡◌, ℕ, zero, suc, ◌+◌, ◌-◌, ◌^◌, ◌≤◌, ◌<◌, ◌==◌, ◌&&◌, Bool, true, false, Option, Some, None, MatchBool, List, [], ◌∷◌, ◌++◌, length, fold, get_or, take, drop, refl, sym, ap, ◌∙◌, subst, arith, length-append, append-nil, is_some, if◌then◌else◌}
-use Rattle.af_enough_law.proofs.Common.{AreCalls, BlockTold, ClientCall, ClientCommand, ClientEvent, EntrySeen, IsWanted, LegalRound, Marks, NormalKept, RoundSeen, Run, Session, Track, TrackTold, Turn, TurnFound, Want, after_call, after_round, after_turn, all_played, argument_of, both_right, called, calls_in, client_kept, client_list, cycle_frames, early_of, flushes_of, found_in, late_of, mixed_track, no, played, sides_of, slot_for, state_for, stream_met, takes_part, told_at, track_count, with_calls, with_cycle, with_poll, wrapped}
+use Rattle.af_enough_law.proofs.Common.{AreCalls, BlockTold, ClientCall, ClientCommand, ClientEvent, EntrySeen, IsWanted, LegalRound, Marks, NormalKept, RoundSeen, Run, Session, Track, TrackTold, Turn, TurnFound, Want, after_call, after_round, after_turn, all_played, argument_of, both_right, called_in_turn, calls_in, client_kept, client_list, cycle_frames, early_of, flushes_of, found_in, late_of, mixed_track, no, played, sides_of, slot_playing, state_for, stream_met, takes_part, told_at, track_count, with_calls, with_cycle, with_poll, wrapped}
 use Rattle.af_base.specs.declared.event.ClientCall.TheVariants as call
 use Rattle.af_base.specs.declared.event.ClientEvent.TheVariants as client
 use Rattle.af_enough_law.proofs.Basics.{put-append}
-use Rattle.af_runs.specs.Clients.{code_of}
+use Rattle.af_runs.specs.Clients.{command_code}
 use Rattle.af_runs.specs.declared.want.ClientCommand.TheVariants as command
 use Rattle.af_runs.specs.declared.want.Want.TheVariants as want
 use Rattle.af_enough_law.specs.Courses.{course}
@@ -130,7 +130,7 @@ equal_to code c argument n most h low = let e : argument ≡ n = search (arith, 
 wrapped_low : (n : ℕ) → (wrapped n ≤ n) × (wrapped n < 2 ^ 32)
 wrapped_low n = (omega arith, omega arith)
 
-send_low : (t : Track) (sending : ClientCommand) (code argument : ℕ) → flushes_of t.stream.events ≡ 0 → length t.stream.released ≤ frames_put t.stream.events → ((code == code_of sending) && (argument == argument_of t sending)) ≡ true → Low (frames_put t.stream.events) argument
+send_low : (t : Track) (sending : ClientCommand) (code argument : ℕ) → flushes_of t.stream.events ≡ 0 → length t.stream.released ≤ frames_put t.stream.events → ((code == command_code sending) && (argument == argument_of t sending)) ≡ true → Low (frames_put t.stream.events) argument
 send_low t command.Start code argument none put h = equal_to code _ argument (flushes_of t.stream.events) _ h (omega (arith, none), omega (arith, none))
 send_low t command.Stop code argument none put h = let w = wrapped_low (length t.stream.released) in equal_to code _ argument (wrapped (length t.stream.released)) _ h (let a = w.0 in omega (arith, a, put), w.1)
 send_low t _ code argument none put h = equal_to code _ argument 0 _ h (omega arith, omega arith)
@@ -181,7 +181,7 @@ module _ (s : Session) where
   unfolding mixed_by
   mixed_released run [] i t = refl
   mixed_released run (e ∷ es) i t = let x = state_for s (with_poll s e.entry.state run) e.entry.state in
-      mixed_released (with_cycle s run e) es i (mixed_track s x e i t) ∙ mixed_once e t (slot_for x e.entry i)
+      mixed_released (with_cycle s run e) es i (mixed_track s x e i t) ∙ mixed_once e t (slot_playing x e.entry i)
 
   turned_released : (found : Turn → TurnFound) (o : Option Turn) (m : NormalKept) (i : ℕ) (t : TrackTold) → (turned_by s found o m i t).stream.released ≡ t.stream.released
   unfolding turned_by
@@ -198,7 +198,7 @@ module _ (s : Session) where
   pub stream_released : (run : Run) (round : RoundSeen) (i : ℕ) → i < length run.tracks → (told_at (after_round s run round) i).stream.released ≡ (fold after_call (sides_of (told_at run i)) (calls_in round i)).stream.released
   unfolding played_track
   stream_released run round i low =
-      let c = called (calls_in round i) (told_at run i) in
+      let c = called_in_turn (calls_in round i) (told_at run i) in
       let early = mixed_by s (with_calls round run) (early_of run round) i c in
       let turned = turned_by s (found_in s run round) round.turn run.normal i early in
       let all = played_track s run round i (told_at run i) in

@@ -1,10 +1,10 @@
 -- If no client flushes, the entries of a round leave a stream block's server calm and open.
 use Rattle.std.proofs.Common.{◌≡◌, ℕ, zero, suc, ◌+◌, ◌-◌, ◌≤◌, ◌<◌, ◌==◌, ◌&&◌, if◌then◌else◌, Bool, true, false, true≢false, Option, Some, None, List, [], ◌∷◌, ◌++◌, length, refl, sym, ap, ◌∙◌, subst, arith, append_assoc, eqb-true, is_some}
-use Rattle.af_enough_law.proofs.Common.{BlockTold, ClientEvent, Cycle, CycleEntry, EntrySeen, FastState, LegalEntries, LegalEntry, Listed, LooksBy, Marks, Run, Seen, ServerEvent, Session, Shape, SlotEntry, TrackTold, absent, both_first, both_right, both_true, carries, cycle_events, cycle_frames, cycle_of, entry_slot, find, front_of, get_or-replicate, is_mixed, is_shown, kept, listed, look_events, played, range_with_len, server_kept, server_list, slot_for, slot_of, slots, state_for, state_known, state_of, still_entry, tally, three, told_at, with_cycle, with_cycles, with_poll}
+use Rattle.af_enough_law.proofs.Common.{BlockTold, ClientEvent, Cycle, CycleEntry, EntrySeen, FastState, LegalEntries, LegalEntry, Listed, LooksBy, Marks, Run, Seen, ServerEvent, Session, Shape, SlotEntry, TrackTold, absent, both_first, both_right, both_true, carries, cycle_events, cycle_frames, cycle_of, entry_slot, find, front_of, get_or-replicate, is_mixed, is_shown, kept, listed, look_events, played, range_with_len, server_kept, server_list, slot_playing, slot_of, slots, state_for, state_known, state_of, still_entry, tally, three, told_at, with_cycle, with_cycles, with_poll}
 use Rattle.af_base.specs.declared.event.ServerEvent.TheVariants as server
 use Rattle.af_base.specs.declared.seen.Seen.TheVariants as seen
-use Rattle.af_model.specs.Cycles.{after_look}
-use Rattle.af_runs.specs.Runs.{plays}
+use Rattle.af_model.specs.Cycles.{events_behind_look}
+use Rattle.af_runs.specs.Runs.{shows_slot}
 use Rattle.af_enough_law.specs.FastFlows.{IsShown}
 use Rattle.af_enough_law.specs.Seen.{is_calm, are_calm}
 use Rattle.af_enough_law.proofs.Fair.{calm_drops}
@@ -25,7 +25,7 @@ calm_tally missing = by (missing == 0)
     by true = refl
     by false = refl
 
-calm_answer : (b : Bool) (asked flush rear front : ℕ) (answer : Seen) → IsShown answer → are_calm ((if b then [] else look_events answer flush rear front) ++ after_look asked b answer) ≡ true
+calm_answer : (b : Bool) (asked flush rear front : ℕ) (answer : Seen) → IsShown answer → are_calm ((if b then [] else look_events answer flush rear front) ++ events_behind_look asked b answer) ≡ true
 calm_answer b asked flush rear front seen.Absent h = absurd h
 calm_answer true asked flush rear front (seen.Frames count) h = calm_tally (asked - count)
 calm_answer false asked flush rear front (seen.Frames count) h = calm_tally (asked - count)
@@ -98,12 +98,12 @@ pub record LooksAt (s : Session) (run : Run) (e : EntrySeen) (track i : ℕ) : T
   pub looks : LooksBy (cycle_frames s) (listed (told_at run track).stream) (entry_slot e.entry i) front
 
 slot_looks : (s : Session) (marks : Marks) (run : Run) (e : EntrySeen) (track i : ℕ) → LegalEntry s marks (with_poll s e.entry.state run) e
-    → slot_for (state_for s (with_poll s e.entry.state run) e.entry.state) e.entry track ≡ Some i → LooksAt s run e track i
+    → slot_playing (state_for s (with_poll s e.entry.state run) e.entry.state) e.entry track ≡ Some i → LooksAt s run e track i
 unfolding with_poll
 slot_looks s marks run e track i legal is =
     let now = with_poll s e.entry.state run in
     let x = state_for s now e.entry.state in
-    let at = find_holds (λ j. plays x e.entry j && ((slot_of x j).track == track)) 0 slots i is in
+    let at = find_holds (λ j. shows_slot x e.entry j && ((slot_of x j).track == track)) 0 slots i is in
     let parts = three (carries x i) (is_shown (entry_slot e.entry i).seen) ((slot_of x i).track == track) at.holds in
     let low : i < slots = at.high in
     by_state (state_of now.states e.entry.state) refl x refl low parts.0 parts.1 (eqb-true (slot_of x i).track track parts.2)
@@ -129,12 +129,12 @@ slot_looks s marks run e track i legal is =
 module _ (s : Session) (marks : Marks) (track : ℕ) (k : Shape) (cs : List ClientEvent) (all : List ServerEvent) (h : Setting k cs all) where
   entry_quiet : (run : Run) (e : EntrySeen) → track < length run.tracks → LegalEntry s marks (with_poll s e.entry.state run) e → LiesIn k cs all h (told_at (with_cycle s run e) track).stream
       → IsQuiet k (server_list (told_at run track).stream) → IsQuiet k (server_list (told_at (with_cycle s run e) track).stream)
-  entry_quiet run e there legal lies quiet = by_slot (slot_for (state_for s (with_poll s e.entry.state run) e.entry.state) e.entry track) refl
+  entry_quiet run e there legal lies quiet = by_slot (slot_playing (state_for s (with_poll s e.entry.state run) e.entry.state) e.entry track) refl
     where
       with_slot : Option ℕ → TrackTold
       with_slot o = elim o as (λ o. TrackTold) [ None ↦ told_at run track | Some i ↦ record (told_at run track) { stream = played (cycle_frames s) e i (told_at run track).stream } ]
 
-      by_slot : (o : Option ℕ) → slot_for (state_for s (with_poll s e.entry.state run) e.entry.state) e.entry track ≡ o → IsQuiet k (server_list (told_at (with_cycle s run e) track).stream)
+      by_slot : (o : Option ℕ) → slot_playing (state_for s (with_poll s e.entry.state run) e.entry.state) e.entry track ≡ o → IsQuiet k (server_list (told_at (with_cycle s run e) track).stream)
       by_slot None none = subst (λ (t : TrackTold). IsQuiet k (server_list t.stream)) (sym (cycle_track s run e track there ∙ ap with_slot none)) quiet
       by_slot (Some i) some =
           let b : BlockTold = (told_at run track).stream in

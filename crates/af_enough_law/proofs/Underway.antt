@@ -1,6 +1,6 @@
 -- Until the Exit is ordered both mixers go on: it holds before the first round, and after each legal round that leaves no Exit in the draft; and none is ordered before all is over.
 use Rattle.std.proofs.Common.{◌≡◌, ◌⊎◌, inl, inr, ℕ, zero, suc, ◌+◌, ◌<◌, ◌≤◌, ◌==◌, ◌&&◌, ◌||◌, not, if◌then◌else◌, Bool, true, false, true≢false, All, List, [], ◌∷◌, length, refl, sym, ap, ◌∙◌, subst, arith, eqb-true}
-use Rattle.af_enough_law.proofs.Common.{ColdIdle, Exit, LegalRound, Marks, MixWrite, NormalKept, RoundSeen, Run, Session, Setting, TrackKept, after_round, and_none, code_of, cycle_frames, initial_none, is_exit, is_home, is_over, learnt, length-replicate, new_run, new_track, next_command, pipe_size, setup_of, sound_new, track_at, turn_after, turn_len}
+use Rattle.af_enough_law.proofs.Common.{ColdIdle, Exit, LegalRound, Marks, MixWrite, NormalKept, RoundSeen, Run, Session, Setting, TrackKept, after_round, and_none, code_of, cycle_frames, initial_none, commands_exit, is_home, is_over, learnt, length-replicate, new_run, new_track, next_command, pipe_size, setup_of, sound_new, track_at, turn_after, turn_len}
 use Rattle.af_enough_law.proofs.Basics.{none_exit}
 use Rattle.af_enough_law.specs.Drafts.{is_busy, PushMade}
 use Rattle.af_enough_law.specs.EndPhases.{NoExits}
@@ -115,7 +115,7 @@ module _ (s : Session) (marks : Marks) (scales : All (λ (x : Setting). x.scale 
       ∙ ap (λ (m : NormalKept). code_of (next_command false m.tracks t.turn.room (pipe_size (setup_of s)))) (sym t.after)
 
   -- no Exit before all is over and the whole room is seen
-  pub unordered : (is_over after.normal.tracks && (t.turn.room == pipe_size (setup_of s))) ≡ false → is_exit after.normal.draft ≡ false
+  pub unordered : (is_over after.normal.tracks && (t.turn.room == pipe_size (setup_of s))) ≡ false → commands_exit after.normal.draft ≡ false
   unordered off = ap (λ (n : ℕ). n == code_of Exit) orders ∙ no_exit_yet after.normal.tracks t.turn.room (pipe_size (setup_of s)) off
 
   few_more : length after.states ≤ length run.states + 1
@@ -131,12 +131,12 @@ module _ (s : Session) (marks : Marks) (scales : All (λ (x : Setting). x.scale 
       by (inl h) = omega (arith, h)
       by (inr h) = omega (arith, h)
 
-  last_none : is_exit after.normal.draft ≡ false → is_exit after.normal.last ≡ false
-  last_none draft = subst (λ (m : NormalKept). is_exit m.last ≡ false) (sym t.after) (by (is_busy t.turn.push) refl)
+  last_none : commands_exit after.normal.draft ≡ false → commands_exit after.normal.last ≡ false
+  last_none draft = subst (λ (m : NormalKept). commands_exit m.last ≡ false) (sym t.after) (by (is_busy t.turn.push) refl)
     where
-      by : (b : Bool) → is_busy t.turn.push ≡ b → is_exit next.last ≡ false
-      by true is = ap is_exit (made.busy is).3 ∙ u.none
-      by false is = ap is_exit (made.done is).1 ∙ ap (λ (m : NormalKept). is_exit m.draft) (sym t.after) ∙ draft
+      by : (b : Bool) → is_busy t.turn.push ≡ b → commands_exit next.last ≡ false
+      by true is = ap commands_exit (made.busy is).3 ∙ u.none
+      by false is = ap commands_exit (made.done is).1 ∙ ap (λ (m : NormalKept). commands_exit m.draft) (sym t.after) ∙ draft
 
   -- a cold idle is ordered if the pipe is empty after the round
   idle_round : Idles after.normal.tracks t.turn.room (pipe_size (setup_of s)) (code_of after.normal.draft.command) → IsIdle after
@@ -149,7 +149,7 @@ module _ (s : Session) (marks : Marks) (scales : All (λ (x : Setting). x.scale 
       by (inl none_put) = let puts = pipe_puts s run round in let put = puts.0 in omega (arith, put, none_put, none)
       by (inr knows) = drained_by false s marks run round t.turn legal knows small u.within t.is goes (eqb-true t.turn.room (pipe_size (setup_of s)) idles.whole) none
 
-  mixes_or_idles : is_exit after.normal.draft ≡ false → (code_of after.normal.draft.command ≡ code_of MixWrite) ⊎ IsIdle after
+  mixes_or_idles : commands_exit after.normal.draft ≡ false → (code_of after.normal.draft.command ≡ code_of MixWrite) ⊎ IsIdle after
   mixes_or_idles off = by (ordered_as after.normal.tracks t.turn.room (pipe_size (setup_of s)) (code_of after.normal.draft.command) orders off)
     where
       by : Mixes after.normal.tracks t.turn.room (pipe_size (setup_of s)) (code_of after.normal.draft.command) ⊎ Idles after.normal.tracks t.turn.room (pipe_size (setup_of s)) (code_of after.normal.draft.command) → (code_of after.normal.draft.command ≡ code_of MixWrite) ⊎ IsIdle after
@@ -157,7 +157,7 @@ module _ (s : Session) (marks : Marks) (scales : All (λ (x : Setting). x.scale 
       by (inr idles) = inr (idle_round idles)
 
   -- A round that leaves no Exit in the draft keeps it
-  pub underway_round : is_exit after.normal.draft ≡ false → Underway s after
+  pub underway_round : commands_exit after.normal.draft ≡ false → Underway s after
   underway_round draft =
       let learns = learns_states false s marks run round legal u.counts in
       let last = round_last s marks run round legal u.last in

@@ -1,6 +1,6 @@
 -- What is carried of the whole session from round to round, while some track still has a life.
 use Rattle.std.specs.Prelude.{◌≡◌, ◌≤◌, false, length}
-use Rattle.af_life.specs.Edits.{is_exit}
+use Rattle.af_life.specs.Edits.{commands_exit}
 use Rattle.af_runs.specs.Runs.{Run, fast_ended}
 use Rattle.af_runs.specs.Sessions.{Session, track_count, setup_of, cycle_frames}
 use Rattle.af_runs.specs.Told.{state_at}
@@ -30,8 +30,8 @@ pub record SessionStands (s : Session) (run : Run) : Type 0 where
   pub logged : length run.reports ≡ length run.entries
   pub adopted : run.current ≤ length run.states
   -- no Exit was ordered or pushed
-  pub draft_goes : is_exit run.normal.draft ≡ false
-  pub last_goes : is_exit run.normal.last ≡ false
+  pub draft_goes : commands_exit run.normal.draft ≡ false
+  pub last_goes : commands_exit run.normal.last ≡ false
   pub exits : NoExits run.states
 
 -- what holds once there was a meeting as well: each mixer knows what the other one did

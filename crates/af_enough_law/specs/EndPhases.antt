@@ -1,7 +1,7 @@
 -- How far the mixers are from their ends, once the Exit is ordered.
 use Rattle.std.specs.Prelude.{◌≡◌, ℕ, Some, ◌≤◌, true, false, List, length}
 use Rattle.af_base.specs.declared.state.FastState.{FastState}
-use Rattle.af_life.specs.Edits.{is_exit}
+use Rattle.af_life.specs.Edits.{commands_exit}
 use Rattle.af_model.specs.Cycles.{state_of}
 use Rattle.af_runs.specs.Runs.{Run, fast_ended}
 use Rattle.af_runs.specs.Sessions.{Session, setup_of, cycle_frames}
@@ -13,7 +13,7 @@ use Rattle.af_enough_law.specs.QueueRounds.{QueueStands}
 
 -- no state is an Exit
 abbrev pub NoExits : List FastState → Type 0
-NoExits states = (k : ℕ) (x : FastState) → state_of states k ≡ Some x → is_exit x ≡ false
+NoExits states = (k : ℕ) (x : FastState) → state_of states k ≡ Some x → commands_exit x ≡ false
 
 -- the mixer rests, and both mixers go on
 pub record BothGo (s : Session) (run : Run) : Type 0 where
@@ -29,8 +29,8 @@ pub record BothGo (s : Session) (run : Run) : Type 0 where
 -- the Exit is ordered, none was pushed, and the mixer knows that the last state is acknowledged
 pub record Ordered (s : Session) (run : Run) : Type 0 where
   pub both : BothGo s run
-  pub draft : is_exit run.normal.draft ≡ true
-  pub none : is_exit run.normal.last ≡ false
+  pub draft : commands_exit run.normal.draft ≡ true
+  pub none : commands_exit run.normal.last ≡ false
   pub exits : NoExits run.states
   pub acked : KnowsAcked run
 
@@ -42,7 +42,7 @@ pub record Sending (s : Session) (run : Run) : Type 0 where
 -- the fast mixer has ended, and the normal mixer knows that the Exit is acknowledged
 pub record Closing (run : Run) : Type 0 where
   pub runs : run.normal.ended ≡ false
-  pub last : is_exit run.normal.last ≡ true
+  pub last : commands_exit run.normal.last ≡ true
   pub acked : KnowsAcked run
   pub fast : fast_ended run ≡ true
 

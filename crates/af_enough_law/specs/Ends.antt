@@ -3,7 +3,7 @@ use Rattle.std.specs.Prelude.{◌≡◌, ℕ, ◌<◌, true, false, List, length
 use Rattle.af_base.specs.declared.state.FastState.{FastState}
 use Rattle.af_base.specs.Log.{slots}
 use Rattle.af_life.specs.declared.kept.TrackKept.{TrackKept}
-use Rattle.af_life.specs.Edits.{is_exit}
+use Rattle.af_life.specs.Edits.{commands_exit}
 use Rattle.af_life.specs.Kept.{NormalKept, track_at, is_home, is_lent}
 use Rattle.af_life.specs.Sound.{IsSound}
 use Rattle.af_model.specs.StateQueue.{carries}
@@ -41,6 +41,6 @@ pub record Rests (m : NormalKept) : Type 0 where
 
 -- the Exit is the last state pushed, and nothing is left to be pushed
 pub record ExitSent (m : NormalKept) : Type 0 where
-  pub draft : is_exit m.draft ≡ true
-  pub last : is_exit m.last ≡ true
+  pub draft : commands_exit m.draft ≡ true
+  pub last : commands_exit m.last ≡ true
   pub clean : m.dirty ≡ false

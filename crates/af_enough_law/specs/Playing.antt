@@ -11,7 +11,7 @@ use Rattle.af_runs.specs.declared.want.Want.{Want}
 use Rattle.af_runs.specs.declared.want.Want.TheVariants as want
 use Rattle.af_model.specs.ClientCalls.{client_kept}
 use Rattle.af_model.specs.Point.{wrapped}
-use Rattle.af_runs.specs.Clients.{Client, begun, state_in}
+use Rattle.af_runs.specs.Clients.{state_in}
 use Rattle.af_runs.specs.ClientTurns.{Side, Track, after_call}
 use Rattle.af_enough.specs.Enough.{most_gains}
 
@@ -34,10 +34,6 @@ pub data Doing : List Want → List Op → Mode → Type 0 where
   stopping : Doing (want.Send command.Stop ∷ []) (op.Drain ∷ op.Remove ∷ []) mode.Active
   draining : Doing (want.Drained ∷ []) (op.Remove ∷ []) mode.Stopped
   removing : Doing (want.Send command.Remove ∷ []) [] mode.Stopped
-
--- the client has ended, or is doing what Doing lists
-abbrev pub IsDoing : Client → Type 0
-IsDoing c = (c.ended ≡ true) ⊎ ((c.ended ≡ false) × Doing (begun c).due (begun c).ops c.mode)
 
 -- ## What is left of the gains, the writes and the stop
 
@@ -75,13 +71,6 @@ way_ops (o ∷ ops) = is_way_op o + way_ops ops
 abbrev pub way_frames : List Op → ℕ
 way_frames [] = 0
 way_frames (o ∷ ops) = frames_of o + way_frames ops
-
--- how many ops are left of a client, and how many frames it will still write
-abbrev pub ops_left : Client → ℕ
-ops_left c = due_ops (begun c).due + way_ops (begun c).ops
-
-abbrev pub frames_left : Client → ℕ
-frames_left c = due_frames (begun c).due + way_frames (begun c).ops
 
 -- ## What is answered in a run without pokes whose tracks are never disabled
 

@@ -47,12 +47,12 @@ pub record Sees {B : Type 0} (others : List B) (Learnt : ℕ → Type 0) (Shows 
 
 -- the mutator's look at the acknowledgement, between these events of its list, sees the last state acknowledged in a beginning of the observer's list that has all that was learnt
 abbrev pub AckIsSeen : FastState → (before behind : List (MutatorEvent Item)) → List (ObserverEvent Item) → ℕ → List (Option Item) → Type 0
-AckIsSeen first before behind others a items = queued.HasHistory first (before ++ mutator.SawAck a items ∷ behind) others
+AckIsSeen first before behind others a items = queued.HasStateHistory first (before ++ mutator.SawAck a items ∷ behind) others
     → Sees others (λ n. Stands (mutator.Learn n) before) (λ front. a ≡ (observed front).acked)
 
 -- the observer's look for a state sees the last one pushed in a beginning of the mutator's list that has all that was learnt
 abbrev pub NextIsSeen : FastState → (before behind : List (ObserverEvent Item)) → List (MutatorEvent Item) → ℕ → Option FastState → List (Option Item) → Type 0
-NextIsSeen first before behind others k x items = queued.HasHistory first others (before ++ observer.SawNext k x items ∷ behind)
+NextIsSeen first before behind others k x items = queued.HasStateHistory first others (before ++ observer.SawNext k x items ∷ behind)
     → Sees others (λ n. Stands (observer.Learn n) before) (λ front. k ≡ (mutated first front).pushed)
 
 -- ## The report
@@ -68,7 +68,7 @@ stored (w ∷ ws) = stored_by w + stored ws
 
 -- a load has the number of the last report stored in a beginning of the writer's list that has all that was learnt
 abbrev pub LoadIsSeen : (before behind : List (ReaderEvent Report)) → List (WriterEvent Report) → ℕ → Report → Type 0
-LoadIsSeen before behind others n x = newest.HasHistory no_report others (before ++ reads.Load n x ∷ behind)
+LoadIsSeen before behind others n x = newest.HasValueHistory no_report others (before ++ reads.Load n x ∷ behind)
     → Sees others (λ k. Stands (reads.Learn k) before) (λ front. n ≡ stored front)
 
 -- ## The pipe
@@ -93,12 +93,12 @@ frames_taken (e ∷ es) = taken_by e + frames_taken es
 
 -- the front that the putting end sees is the word of the frames taken in a beginning of the other end's list that has all that was learnt
 abbrev pub RoomIsSeen : ℕ → (before behind : List ClientEvent) → List ServerEvent → ℕ → Type 0
-RoomIsSeen size before behind others front = HasOrder (piped.legal size) piped.next piped.start (before ++ client.SawFront front ∷ behind) others
+RoomIsSeen size before behind others front = HasOrder (piped.legal_in_pipe size) piped.next_in_pipe piped.start_of_pipe (before ++ client.SawFront front ∷ behind) others
     → Sees others (λ n. Stands (client.Learn n) before) (λ seen. front ≡ wrapped (frames_taken seen))
 
 -- the rear that the taking end sees is the word of the frames put in a beginning of the other end's list that has all that was learnt
 abbrev pub RearIsSeen : ℕ → (before behind : List ServerEvent) → List ClientEvent → ℕ → Type 0
-RearIsSeen size before behind others rear = HasOrder (piped.legal size) piped.next piped.start others (before ++ server.SawRear rear ∷ behind)
+RearIsSeen size before behind others rear = HasOrder (piped.legal_in_pipe size) piped.next_in_pipe piped.start_of_pipe others (before ++ server.SawRear rear ∷ behind)
     → Sees others (λ n. Stands (server.Learn n) before) (λ seen. rear ≡ wrapped (frames_put seen))
 
 -- ## A block

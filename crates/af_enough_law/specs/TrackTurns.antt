@@ -11,7 +11,7 @@ use Rattle.af_life.specs.Edits.{welcomed, must_leave, must_enter, lent_by}
 use Rattle.af_life.specs.Heard.{heard, ready}
 use Rattle.af_life.specs.Kept.{Setup, asked as buffer, NormalKept, Learnt, track_at, track_in}
 use Rattle.af_life.specs.Obeys.{slot_for}
-use Rattle.af_life.specs.Plays.{counted}
+use Rattle.af_life.specs.Plays.{look_counted}
 use Rattle.af_life.specs.Serves.{after_part}
 use Rattle.af_life.specs.Turn.{turn_after}
 use Rattle.af_life.specs.TurnEvents.{tracks_at}
@@ -33,7 +33,7 @@ pub data Edited (own : Heard) (s : TrackKept) : TrackKept → Type 0 where
 -- the mixer's own looks at the track i, added to these
 abbrev pub own_after : ℕ → ℕ → Counts → List TakeSeen → Counts
 own_after asked i counts [] = counts
-own_after asked i counts (take ∷ takes) = own_after asked i (if take.track == i then counted asked take.slot.seen counts else counts) takes
+own_after asked i counts (take ∷ takes) = own_after asked i (if take.track == i then look_counted asked take.slot.seen counts else counts) takes
 
 -- The track i after a turn: greeted, served, edited, and with the looks of the mix. No other track changes anything of it but the slot that an OPEN gives
 pub record TrackTurned (c : Setup) (k : Learnt) (m : NormalKept) (e : Turn) (i : ℕ) : Type 0 where

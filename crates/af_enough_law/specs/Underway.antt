@@ -2,7 +2,7 @@
 use Rattle.std.specs.Prelude.{◌≡◌, ◌⊎◌, ℕ, ◌≤◌, false, List, length}
 use Rattle.af_base.specs.Command.{code_of}
 use Rattle.af_base.specs.declared.state.Command.TheVariants.{ColdIdle, MixWrite}
-use Rattle.af_life.specs.Edits.{is_exit}
+use Rattle.af_life.specs.Edits.{commands_exit}
 use Rattle.af_model.specs.Journals.{RoundSeen}
 use Rattle.af_runs.specs.Blocks.{Marks}
 use Rattle.af_runs.specs.LegalRuns.{run_from, LegalRounds}
@@ -29,8 +29,8 @@ pub record Underway (s : Session) (run : Run) : Type 0 where
   pub known : (length run.states ≡ 0) ⊎ KnowsStates s run
   pub runs : run.normal.ended ≡ false
   pub going : fast_ended run ≡ false
-  pub draft : is_exit run.normal.draft ≡ false
-  pub none : is_exit run.normal.last ≡ false
+  pub draft : commands_exit run.normal.draft ≡ false
+  pub none : commands_exit run.normal.last ≡ false
   pub exits : NoExits run.states
   pub within : pipe_taken run ≤ pipe_put run
   pub pipe : (pipe_put run ≡ 0) ⊎ KnowsPipe run

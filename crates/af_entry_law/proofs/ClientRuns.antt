@@ -1,10 +1,10 @@
 -- The words that the clients of a run release on their stream blocks follow from their calls alone.
 use Rattle.std.proofs.Common.{◌≡◌, ℕ, zero, suc, ◌+◌, Bool, true, false, if◌then◌else◌, fold, List, [], ◌∷◌, ◌++◌, length, map, take, drop, append-nil, Option, Some, None, slice_get, refl, ap, ◌∙◌, arith}
-use Rattle.af_entry_law.proofs.Common.{EntrySeen, FastState, RoundSeen, Run, Session, TrackTold, Turn, TurnFound, after_round, after_turn, before_turn, called, calls_in, cycle_frames, each_from, each_track, early_of, ends, found_in, late_of, loaded, meets, met, mixed_track, none-some, outside_of, played, same_Some, setup_of, side_of, state_for, stream_met, takes_part, track_met, turned, turned_track, with_calls, with_cycle, with_cycles, with_ends, with_load, with_mix, with_poll, with_turn}
+use Rattle.af_entry_law.proofs.Common.{EntrySeen, FastState, RoundSeen, Run, Session, TrackTold, Turn, TurnFound, after_round, after_turn, before_turn, called_in_turn, calls_in, cycle_frames, changed_from, each_track, early_of, ends, found_in, late_of, loaded, meets, met, mixed_track, none-some, outside_of, played, same_Some, setup_of, client_side, state_for, stream_met, takes_part, track_met, turned, turned_track, with_calls, with_cycle, with_cycles, with_ends, with_load, with_mix, with_poll, with_turn}
 use Rattle.af_base.specs.declared.event.ClientCall.{ClientCall}
 use Rattle.af_base.specs.declared.event.ClientCall.TheVariants as call
 use Rattle.af_runs.specs.ClientTurns.{Track, after_call, after_calls}
-use Rattle.af_runs.specs.Runs.{slot_for}
+use Rattle.af_runs.specs.Runs.{slot_playing}
 
 -- ## A client's calls
 
@@ -63,12 +63,12 @@ abbrev pub words_called : RoundSeen → ℕ → List Words → List Words
 words_called round n [] = []
 words_called round n (x ∷ xs) = (x.0, words_after x.0 x.1 (calls_in round n)) ∷ words_called round (n + 1) xs
 
-called_words : (round : RoundSeen) (n : ℕ) (ts : List TrackTold) → map track_words (each_from (λ track t. called (calls_in round track) t) n ts) ≡ words_called round n (map track_words ts)
+called_words : (round : RoundSeen) (n : ℕ) (ts : List TrackTold) → map track_words (changed_from (λ track t. called_in_turn (calls_in round track) t) n ts) ≡ words_called round n (map track_words ts)
 called_words round n [] = refl
-called_words round n (t ∷ ts) = λ j. (t.file, turn_words (calls_in round n) (record { file = t.file; client = t.client; stream = side_of t.stream; commands = side_of t.commands }) j) ∷ called_words round (n + 1) ts j
+called_words round n (t ∷ ts) = λ j. (t.file, turn_words (calls_in round n) (record { file = t.file; client = t.client; stream = client_side t.stream; commands = client_side t.commands }) j) ∷ called_words round (n + 1) ts j
 
 -- a change that leaves the words of each track leaves those of all
-each_words : (change : ℕ → TrackTold → TrackTold) → ((n : ℕ) (t : TrackTold) → track_words (change n t) ≡ track_words t) → (n : ℕ) (ts : List TrackTold) → map track_words (each_from change n ts) ≡ map track_words ts
+each_words : (change : ℕ → TrackTold → TrackTold) → ((n : ℕ) (t : TrackTold) → track_words (change n t) ≡ track_words t) → (n : ℕ) (ts : List TrackTold) → map track_words (changed_from change n ts) ≡ map track_words ts
 each_words change keeps n [] = refl
 each_words change keeps n (t ∷ ts) = λ j. keeps n t j ∷ each_words change keeps (n + 1) ts j
 
@@ -78,7 +78,7 @@ module _ (s : Session) where
   calls_run round run = called_words round 0 run.tracks
 
   mixed_words : (x : FastState) (e : EntrySeen) (n : ℕ) (t : TrackTold) → track_words (mixed_track s x e n t) ≡ track_words t
-  mixed_words x e n t = by_slot (slot_for x e.entry n)
+  mixed_words x e n t = by_slot (slot_playing x e.entry n)
     where
       by_slot : (o : Option ℕ) → track_words (elim o as (λ o. TrackTold) [ None ↦ t | Some i ↦ record t { stream = played (cycle_frames s) e i t.stream } ]) ≡ track_words t
       by_slot None = refl

@@ -3,7 +3,7 @@ pub use Rattle.af_base.proofs.Basics.{no}
 pub use Rattle.af_base.specs.Turn.{TakeSeen, TrackSeen, Turn}
 pub use Rattle.af_base.specs.declared.state.FastState.{FastState}
 pub use Rattle.af_base.specs.declared.turn.CommandLook.{CommandLook}
-pub use Rattle.af_life.specs.Edits.{after_ack, after_push, comes_home, edited_to, entered, is_exit, lent_by, must_enter, must_leave}
+pub use Rattle.af_life.specs.Edits.{after_ack, after_push, comes_home, edited_to, entered, commands_exit, lent_by, must_enter, must_leave}
 unfoldable pub use Rattle.af_life.specs.Edits.{edited, lend, let_go, mutated, next_command, ordered, welcomed}
 pub use Rattle.af_life.specs.Heard.{counts_in, heard, is_reached, is_reported, learnt, ready, slot_reported}
 unfoldable pub use Rattle.af_life.specs.Heard.{noted, settled_at}
@@ -23,7 +23,7 @@ pub use Rattle.af_runs.specs.Blocks.{Marks, meets}
 pub use Rattle.af_runs.specs.Clients.{ends}
 pub use Rattle.af_runs.specs.Found.{LegalTurnBy, TurnFound, outside_of}
 pub use Rattle.af_runs.specs.Rounds.{LegalNormalTurn, after_round, after_turn, before_turn, early_of, found_in, late_of, loaded, turned}
-pub use Rattle.af_runs.specs.Runs.{Run, TrackTold, called, calls_in, draft_after, each_from, each_track, mixed_track, played, pushed_by, side_of, state_for, stream_met, takes_part, track_met, turned_track, with_cycle, with_cycles}
+pub use Rattle.af_runs.specs.Runs.{Run, TrackTold, called_in_turn, calls_in, draft_after, changed_from, each_track, mixed_track, played, pushed_by, client_side, state_for, stream_met, takes_part, track_met, turned_track, with_cycle, with_cycles}
 unfoldable pub use Rattle.af_runs.specs.Runs.{met, with_calls, with_ends, with_load, with_mix, with_poll, with_turn}
 pub use Rattle.af_runs.specs.Sessions.{Session, cycle_frames, setup_of}
 pub use Rattle.std.proofs.lemmas.Option.{none-some, same_Some}

@@ -1,12 +1,12 @@
 -- What a turn makes of the draft and the tracks once they were served, by what entries tell.
 use Rattle.std.proofs.Common.{◌≡◌, ℕ, zero, suc, ◌+◌, ◌==◌, ◌&&◌, ◌||◌, not, Bool, true, false, if◌then◌else◌, List, [], ◌∷◌, length, map, fold, refl, sym, ap, ◌∙◌}
-use Rattle.af_entry_law.proofs.Common.{FastState, Learnt, NormalKept, Setup, TakeSeen, TrackKept, after_ack, after_push, after_take, after_takes, asked, comes_home, edited, edited_to, entered, is_exit, is_home, lend, lent_by, let_go, must_enter, must_leave, mutated, next_command, ordered, pipe_size, plays, setting_of, slice_set, slot_number, track_at, welcomed}
+use Rattle.af_entry_law.proofs.Common.{FastState, Learnt, NormalKept, Setup, TakeSeen, TrackKept, after_ack, after_push, after_take, after_takes, asked, comes_home, edited, edited_to, entered, commands_exit, is_home, lend, lent_by, let_go, must_enter, must_leave, mutated, next_command, ordered, pipe_size, plays, setting_of, slice_set, slot_number, track_at, welcomed}
 use Rattle.af_base.specs.declared.state.Command.{Command}
 use Rattle.af_base.specs.declared.state.Command.TheVariants.{ColdIdle, Exit, MixWrite}
 use Rattle.af_base.specs.declared.state.Push.{Push}
 use Rattle.af_base.specs.declared.state.Push.TheVariants.{Pushed, Clean, Busy}
 use Rattle.af_base.specs.Command.{code_of}
-use Rattle.af_model.specs.Draft.{attached, detached, commanded}
+use Rattle.af_model.specs.Draft.{attached, detached, draft_commanded}
 use Rattle.af_model.specs.StateQueue.{slot_of}
 use Rattle.af_life.specs.declared.kept.Holder.TheVariants.{Home, Lent, Returning}
 use Rattle.af_entry_law.specs.Told.{mixer_told, track_told}
@@ -88,20 +88,20 @@ module _ (c : Setup) (k l : Learnt) where
       else if any_told (λ s. plays s.life) (λ s. refl) ts j || not (room == size) then MixWrite
       else ColdIdle
 
-  command_same : (room : ℕ) (m n : NormalKept) → mixer_told m ≡ mixer_told n → next_command (is_exit m.draft) m.tracks room (pipe_size c) ≡ next_command (is_exit n.draft) n.tracks room (pipe_size c)
+  command_same : (room : ℕ) (m n : NormalKept) → mixer_told m ≡ mixer_told n → next_command (commands_exit m.draft) m.tracks room (pipe_size c) ≡ next_command (commands_exit n.draft) n.tracks room (pipe_size c)
   command_same room m n same =
-      sym (next_told (is_exit m.draft) m.tracks room (pipe_size c))
-      ∙ (λ j. next_command (is_exit (same j).draft) (same j).tracks room (pipe_size c))
-      ∙ next_told (is_exit n.draft) n.tracks room (pipe_size c)
+      sym (next_told (commands_exit m.draft) m.tracks room (pipe_size c))
+      ∙ (λ j. next_command (commands_exit (same j).draft) (same j).tracks room (pipe_size c))
+      ∙ next_told (commands_exit n.draft) n.tracks room (pipe_size c)
 
   ordered_same : (command : Command) (m n : NormalKept) → mixer_told m ≡ mixer_told n → mixer_told (ordered command m) ≡ mixer_told (ordered command n)
   unfolding ordered
   ordered_same command m n same =
-      (λ j. mixer_told (if code_of command == code_of (same j).draft.command then m else record m { draft = commanded command m.draft; dirty = true })) ∙ by_case (code_of command == code_of n.draft.command)
+      (λ j. mixer_told (if code_of command == code_of (same j).draft.command then m else record m { draft = draft_commanded command m.draft; dirty = true })) ∙ by_case (code_of command == code_of n.draft.command)
     where
-      by_case : (b : Bool) → mixer_told (if b then m else record m { draft = commanded command m.draft; dirty = true }) ≡ mixer_told (if b then n else record n { draft = commanded command n.draft; dirty = true })
+      by_case : (b : Bool) → mixer_told (if b then m else record m { draft = draft_commanded command m.draft; dirty = true }) ≡ mixer_told (if b then n else record n { draft = draft_commanded command n.draft; dirty = true })
       by_case true = same
-      by_case false = λ j. record (same j) { draft = commanded command (same j).draft; dirty = true }
+      by_case false = λ j. record (same j) { draft = draft_commanded command (same j).draft; dirty = true }
 
   -- all edits of a turn leave what tells the same
   pub mutated_same : (room : ℕ) (m n : NormalKept) → mixer_told m ≡ mixer_told n → mixer_told (mutated c k room m) ≡ mixer_told (mutated c l room n)
@@ -112,7 +112,7 @@ module _ (c : Setup) (k l : Learnt) where
       let y : NormalKept = edited_to c l n (length n.tracks) in
       let edits : mixer_told x ≡ mixer_told y = ap (λ (count : ℕ). mixer_told (edited_to c k m count)) (same_length m.tracks n.tracks tracks) ∙ edits_same m n same (length n.tracks) in
       ap (λ (command : Command). mixer_told (ordered command x)) (command_same room x y edits)
-      ∙ ordered_same (next_command (is_exit y.draft) y.tracks room (pipe_size c)) x y edits
+      ∙ ordered_same (next_command (commands_exit y.draft) y.tracks room (pipe_size c)) x y edits
 
 -- ## The push and the takes
 

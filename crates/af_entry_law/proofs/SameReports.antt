@@ -4,12 +4,12 @@ use Rattle.af_entry_law.proofs.Common.{Life, by_report, no, none-some, same_Some
 use Rattle.af_life.specs.declared.state.LifeState.{LifeState}
 use Rattle.af_life.specs.declared.state.LifeState.TheVariants.{Absent, Idle, Active, Pausing, Paused, Resuming, Stopping1, Stopping2, Stopped, Flushed}
 use Rattle.af_life.specs.declared.track.Known.{Known}
-use Rattle.af_life.specs.State.{code_of}
+use Rattle.af_life.specs.State.{life_code}
 use Rattle.af_entry_law.specs.Told.{life_told}
 
 -- ## The status word
 
-code_small : (x : LifeState) → code_of x < 10
+code_small : (x : LifeState) → life_code x < 10
 code_small Absent = omega arith
 code_small Idle = omega arith
 code_small Active = omega arith
@@ -50,11 +50,11 @@ life_in state member ended drained retries stop_at = record { state = state; mem
 abbrev with_shut : Bool → Known → Known
 with_shut shut k = record k { shut = shut }
 
-unshut : {A : Type 0} (x : LifeState) → 15 ≡ code_of x → A
+unshut : {A : Type 0} (x : LifeState) → 15 ≡ life_code x → A
 unshut x e = absurd (let small = code_small x in omega (arith, small, e))
 
 stopping : (member drained p q : Bool) (n m stop : ℕ) → let s : Bool → ℕ → Life = (λ b r. if b then life_in Stopping2 member false true r stop else life_in Stopping1 member false drained r stop) in
-    code_of (s p n).state ≡ code_of (s q m).state → life_told (s p n) ≡ life_told (s q m)
+    life_code (s p n).state ≡ life_code (s q m).state → life_told (s p n) ≡ life_told (s q m)
 stopping member drained true true n m stop e = refl
 stopping member drained false false n m stop e = refl
 stopping member drained true false n m stop e = absurd (omega (arith, e))

@@ -2,9 +2,9 @@
 use Rattle.std.specs.Prelude.{◌≡◌, ℕ, ◌+◌, true, false, [], ◌∷◌, ◌++◌, length, None, Some, slice_set}
 use Rattle.af_base.specs.declared.event.ServerEvent.TheVariants as takes
 use Rattle.af_model.specs.History.{is_lawful, HasHistory as HasBlockHistory}
-use Rattle.af_model.specs.NewestValue.{HasHistory as HasReportHistory}
+use Rattle.af_model.specs.NewestValue.{HasValueHistory as HasReportHistory}
 use Rattle.af_model.specs.PipeHistory.{HasPipeHistory}
-use Rattle.af_model.specs.StateQueue.{HasHistory as HasQueueHistory}
+use Rattle.af_model.specs.StateQueue.{HasStateHistory as HasQueueHistory}
 use Rattle.af_model.specs.Reports.{no_report}
 use Rattle.af_model.specs.declared.states.MutatorEvent.TheVariants as mutates
 use Rattle.af_model.specs.declared.states.ObserverEvent.TheVariants as observes

@@ -1,7 +1,7 @@
 -- Packed words are read exactly if they are spelled.
 use Rattle.std.proofs.Common.{◌≡◌, ℕ, ◌+◌, ◌*◌, ◌/◌, ◌%◌, ◌<◌, ◌^◌, List, [], ◌∷◌, ◌++◌, Option, Some, None, Bool, true, false, ◌==◌, cond, refl, ap, ◌∙◌, sym, subst, arith}
 use Rattle.af_journal.proofs.Common.{AreWords, be_bytes_4, byte_at as byte_of, byte_small, equal_is, flat_map, from_be_bytes, from_be_bytes-to_be_bytes_4, nat_tests, none-some, same_Some, small, to_be_bytes, w32}
-use Rattle.af_journal.specs.Lines.{Written, numbers, words, spelled, hex_byte, hex_digit, hex_word, line_text}
+use Rattle.af_journal.specs.Lines.{Written, numbers, words, line_bytes, hex_byte, hex_digit, hex_word, line_text}
 use Rattle.af_journal.specs.declared.line.Line.{Line}
 use Rattle.af_journal.specs.LineReading.{◌>>=◌, byte_at, hex_at, call_at, marked_at, turn_line_at, packed_at, some_words, words_after_mark, words_at, written_at, line_at}
 use Rattle.af_journal.specs.Ranges.{IsWritten}
@@ -105,7 +105,7 @@ words-sound (a ∷ b ∷ c ∷ d ∷ x ∷ y ∷ z ∷ u ∷ rest) ws e =
 -- ## A line
 
 pub record SpellsWritten (bytes : List ℕ) (w : Written) : Type 0 where
-  pub spelled : bytes ≡ spelled w
+  pub spelled : bytes ≡ line_bytes w
   pub fits : IsWritten w
 
 some_sound : (mark : ℕ) (bytes us ws : List ℕ) → some_words us ≡ Some ws → mark ∷ bytes ≡ 104 ∷ 32 ∷ flat_map hex_word us → AreWords us → SpellsWritten (mark ∷ bytes) (words ws)
@@ -151,7 +151,7 @@ number-again : (l : Line) (bytes : List ℕ) → line_at bytes ≡ Some l → wr
 number-again l [] e = cc
 number-again l (mark ∷ rest) e = number_by mark rest l (mark == 104) refl e
 
-pub written-again : (w : Written) → IsWritten w → written_at (spelled w) ≡ Some w
+pub written-again : (w : Written) → IsWritten w → written_at (line_bytes w) ≡ Some w
 unfolding words_after_mark
 written-again (numbers l) fit = number-again l (line_text l) (line-again l fit)
 written-again (words []) fit = absurd fit

@@ -8,7 +8,7 @@ use Rattle.af_journal.proofs.Basics.{fit-append}
 use Rattle.af_journal.specs.declared.line.Line.TheVariants as line
 use Rattle.af_journal.specs.declared.stage.Stage.{Stage}
 use Rattle.af_journal.specs.declared.stage.Stage.TheVariants as stage
-use Rattle.af_journal.specs.Lines.{Written, numbers, words, spelled, with_lf}
+use Rattle.af_journal.specs.Lines.{Written, numbers, words, line_bytes, with_lf}
 use Rattle.af_journal.specs.LineReading.{◌>>=◌, written_at}
 use Rattle.af_journal.specs.Ranges.{IsWritten}
 use Rattle.af_journal.specs.Readings.{IsFirstBad, IsInOrder, after_all, ends, first_lines, first_refused, parts_of, refused_or, stage_after}
@@ -109,7 +109,7 @@ ending tracks stage.Entries met = here tracks stage.Entries refl
 -- the lines that the parts spell, each of which may follow
 pub record Taken (tracks : ℕ) (ps : List (List ℕ)) (at : Stage) : Type 0 where
   pub ws : List Written
-  pub parts : ps ≡ map spelled ws
+  pub parts : ps ≡ map line_bytes ws
   pub fit : AllByRecursion IsWritten ws
   pub follow : after_all tracks stage.Nothing ws ≡ Some at
   pub met : IsMet at
@@ -128,15 +128,15 @@ taken-more tracks ps at next part t e =
     let s = written-sound part w.0 w.1 in
     record {
       ws = t.ws ++ w.0 ∷ [];
-      parts = ap (λ ps. ps ++ part ∷ []) t.parts ∙ ap (λ p. map spelled t.ws ++ p ∷ []) s.spelled ∙ sym (map-append spelled t.ws (w.0 ∷ []));
+      parts = ap (λ ps. ps ++ part ∷ []) t.parts ∙ ap (λ p. map line_bytes t.ws ++ p ∷ []) s.spelled ∙ sym (map-append line_bytes t.ws (w.0 ∷ []));
       fit = fit-append t.ws (w.0 ∷ []) t.fit (s.fits, tt);
       follow = all-append tracks t.ws (w.0 ∷ []) stage.Nothing at t.follow ∙ ap (λ o. o >>= λ next. Some next) w.2;
       met = written_met tracks at w.0 next w.2;
     }
 
-spelled-map : (ws : List Written) → text_of_lines ws ≡ flat_map with_lf (map spelled ws)
+spelled-map : (ws : List Written) → text_of_lines ws ≡ flat_map with_lf (map line_bytes ws)
 spelled-map [] = refl
-spelled-map (w ∷ ws) = ap (λ x. with_lf (spelled w) ++ x) (spelled-map ws)
+spelled-map (w ∷ ws) = ap (λ x. with_lf (line_bytes w) ++ x) (spelled-map ws)
 
 -- a text in order begins with whatever was taken
 viable : (tracks : ℕ) (ps : List (List ℕ)) (at : Stage) → Taken tracks ps at → BeginsOne (IsInOrder tracks) (flat_map with_lf ps)
@@ -151,7 +151,7 @@ viable tracks ps at t =
           follow = all-append tracks t.ws c.ws stage.Nothing at t.follow ∙ c.follow;
           ends = c.may;
         },
-        ap (λ ps. flat_map with_lf ps ++ text_of_lines c.ws) t.parts ∙ ap (λ x. x ++ text_of_lines c.ws) (sym (spelled-map t.ws)) ∙ sym (flat_map-append (λ l. with_lf (spelled l)) t.ws c.ws),
+        ap (λ ps. flat_map with_lf ps ++ text_of_lines c.ws) t.parts ∙ ap (λ x. x ++ text_of_lines c.ws) (sym (spelled-map t.ws)) ∙ sym (flat_map-append (λ l. with_lf (line_bytes l)) t.ws c.ws),
       ),
     )
 
@@ -166,17 +166,17 @@ parts-append tracks (p ∷ ps) qs at next e =
     let x = bind_some (stage_after tracks at p) (λ next. after_parts tracks next ps) next e in
     ap (λ o. o >>= λ next. after_parts tracks next (ps ++ qs)) x.1 ∙ parts-append tracks ps qs x.0 next x.2
 
-one_part : (tracks : ℕ) (at : Stage) (w : Written) → IsWritten w → stage_after tracks at (spelled w) ≡ after_written tracks at w
+one_part : (tracks : ℕ) (at : Stage) (w : Written) → IsWritten w → stage_after tracks at (line_bytes w) ≡ after_written tracks at w
 unfolding stage_after
 one_part tracks at w fit = ap (λ o. o >>= after_written tracks at) (written-again w fit)
 
-all_parts : (tracks : ℕ) (ws : List Written) (at : Stage) (next : Stage) → AllByRecursion IsWritten ws → after_all tracks at ws ≡ Some next → after_parts tracks at (map spelled ws) ≡ Some next
+all_parts : (tracks : ℕ) (ws : List Written) (at : Stage) (next : Stage) → AllByRecursion IsWritten ws → after_all tracks at ws ≡ Some next → after_parts tracks at (map line_bytes ws) ≡ Some next
 all_parts tracks [] at next fit e = e
 all_parts tracks (w ∷ ws) at next fit e =
     let x = bind_some (after_written tracks at w) (λ next. after_all tracks next ws) next e in
-    ap (λ o. o >>= λ next. after_parts tracks next (map spelled ws)) (one_part tracks at w fit.0 ∙ x.1) ∙ all_parts tracks ws x.0 next fit.1 x.2
+    ap (λ o. o >>= λ next. after_parts tracks next (map line_bytes ws)) (one_part tracks at w fit.0 ∙ x.1) ∙ all_parts tracks ws x.0 next fit.1 x.2
 
-each_lacks : (ws : List Written) → AllByRecursion IsWritten ws → EachLacks (map spelled ws)
+each_lacks : (ws : List Written) → AllByRecursion IsWritten ws → EachLacks (map line_bytes ws)
 each_lacks [] p = tt
 each_lacks (w ∷ ws) p = (written_lacks w p.0, each_lacks ws p.1)
 
@@ -191,7 +191,7 @@ record AllTaken (tracks : ℕ) (ps : List (List ℕ)) (rest : List ℕ) : Type 0
 all_taken : (tracks : ℕ) (ps : List (List ℕ)) (rest : List ℕ) → EachLacks ps → IsInOrder tracks (flat_map with_lf ps ++ rest) → AllTaken tracks ps rest
 all_taken tracks ps rest lacks r =
     let ws = r.0 in let o = r.1 in
-    let f = parts_front ps (map spelled ws) rest lacks (each_lacks ws o.numbers_fit) (sym (spelled-map ws) ∙ sym r.2) in
+    let f = parts_front ps (map line_bytes ws) rest lacks (each_lacks ws o.numbers_fit) (sym (spelled-map ws) ∙ sym r.2) in
     record {
       more = f.0;
       rest_is = f.2;
@@ -393,7 +393,7 @@ parts_from tracks at number part (q ∷ parts) none =
       last = r.last;
       follow = ap (λ o. o >>= λ next. after_all tracks next r.ws) w.2 ∙ r.follow;
       may = r.may;
-      is = (λ k. s.spelled k ++ 10 ∷ r.is k) ∙ sym (append_assoc (spelled w.0) (10 ∷ []) (text_of_lines r.ws));
+      is = (λ k. s.spelled k ++ 10 ∷ r.is k) ∙ sym (append_assoc (line_bytes w.0) (10 ∷ []) (text_of_lines r.ws));
     }
 
 -- nothing of it is refused

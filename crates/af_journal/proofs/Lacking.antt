@@ -6,7 +6,7 @@ use Rattle.af_base.specs.declared.seen.Seen.TheVariants as seen
 use Rattle.af_base.specs.declared.state.Push.TheVariants as pushing
 use Rattle.af_journal.specs.declared.line.Line.{Line}
 use Rattle.af_journal.specs.declared.line.Line.TheVariants as line
-use Rattle.af_journal.specs.Lines.{Written, numbers, words, call_line, hex_byte, hex_digit, hex_word, line_text, push_line, seen_text, spelled}
+use Rattle.af_journal.specs.Lines.{Written, numbers, words, call_line, hex_byte, hex_digit, hex_word, line_text, push_line, seen_text, line_bytes}
 use Rattle.af_journal.specs.Ranges.{IsLine, IsSeenText, IsWritten}
 use Rattle.af_journal.proofs.Spelled.{Lacks, lacks-append, decimal_lacks}
 
@@ -108,6 +108,6 @@ words_lack : (ws : List ℕ) → Lacks 10 (flat_map hex_word ws)
 words_lack [] = tt
 words_lack (w ∷ ws) = lacks-append 10 (hex_word w) (flat_map hex_word ws) (word_lacks w) (words_lack ws)
 
-pub written_lacks : (w : Written) → IsWritten w → Lacks 10 (spelled w)
+pub written_lacks : (w : Written) → IsWritten w → Lacks 10 (line_bytes w)
 written_lacks (numbers l) f = line_lacks l f
 written_lacks (words ws) f = (refl, (refl, words_lack ws))

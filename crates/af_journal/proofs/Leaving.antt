@@ -4,7 +4,7 @@ use Rattle.af_journal.proofs.Common.{All-append, All-cons, All-nil, AreWords, Co
 use Rattle.af_journal.proofs.Basics.{fit-append}
 use Rattle.af_journal.specs.declared.line.Line.{Line}
 use Rattle.af_journal.specs.declared.line.Line.TheVariants as line
-use Rattle.af_journal.specs.Lines.{Written, hex_word, numbers, words, spelled, with_lf}
+use Rattle.af_journal.specs.Lines.{Written, hex_word, numbers, words, line_bytes, with_lf}
 use Rattle.af_journal.specs.LineReading.{line_at, packed_at}
 use Rattle.af_journal.specs.Ranges.{IsLine, IsWritten}
 use Rattle.af_journal.specs.Readings.{cut}
@@ -38,8 +38,8 @@ leaves-length a b lines l = omega (arith, ap length l.text, length-append (text_
 pub leaves-line : (bytes part after : List ℕ) (l : Line) → cut bytes ≡ Some (part, after) → line_at part ≡ Some l → Leaves bytes (numbers l ∷ []) after
 leaves-line bytes part after l c e = record {
   text = (cut-sound bytes (part, after) c).whole ∙ ap (λ p. p ++ 10 ∷ after) (line-sound part l e).spelled
-      ∙ sym (append_assoc (spelled (numbers l)) (10 ∷ []) after)
-      ∙ ap (λ x. x ++ after) (sym (append-nil (with_lf (spelled (numbers l)))));
+      ∙ sym (append_assoc (line_bytes (numbers l)) (10 ∷ []) after)
+      ∙ ap (λ x. x ++ after) (sym (append-nil (with_lf (line_bytes (numbers l)))));
   fits = ((line-sound part l e).fits, tt);
 }
 
@@ -55,8 +55,8 @@ words-some (w ∷ ws) some fit = fit
 pub leaves-words : (bytes part after digits ws : List ℕ) → cut bytes ≡ Some (part, after) → part ≡ 104 ∷ 32 ∷ digits → digits ≡ flat_map hex_word ws → 1 ≤ length ws → AreWords ws → Leaves bytes (words ws ∷ []) after
 leaves-words bytes part after digits ws c p d some fit = record {
   text = (cut-sound bytes (part, after) c).whole ∙ ap (λ x. x ++ 10 ∷ after) (p ∙ ap (λ x. 104 ∷ 32 ∷ x) d)
-      ∙ sym (append_assoc (spelled (words ws)) (10 ∷ []) after)
-      ∙ ap (λ x. x ++ after) (sym (append-nil (with_lf (spelled (words ws)))));
+      ∙ sym (append_assoc (line_bytes (words ws)) (10 ∷ []) after)
+      ∙ ap (λ x. x ++ after) (sym (append-nil (with_lf (line_bytes (words ws)))));
   fits = (words-some ws some fit, tt);
 }
 

@@ -2,7 +2,7 @@
 use Rattle.std.proofs.Common.{◌≡◌, ◌⊎◌, inl, inr, ℕ, ◌+◌, ◌<◌, ◌≤◌, ◌==◌, ◌&&◌, ◌||◌, Bool, true, false, cond, replicate, List, [], ◌∷◌, ◌++◌, length, slice_index_or, Option, Some, None, refl, ap, ◌∙◌, sym, subst, arith, length-append}
 use Rattle.af_journal.proofs.Common.{All-nil, AllByRecursion, ClientCall, FitsCall, cases_lt, get_or-replicate, get_or_append_left, get_or_push, is_poke_on, length-replicate, list_any, or_both, or_false, same_Some}
 use Rattle.af_journal.specs.declared.line.Line.{Line}
-use Rattle.af_journal.specs.Lines.{Written, numbers, words, spelled}
+use Rattle.af_journal.specs.Lines.{Written, numbers, words, line_bytes}
 use Rattle.af_journal.specs.LineReading.{call_at, line_at, marked_at, turn_line_at}
 use Rattle.af_journal.specs.Pokes.{MarksAll, Notes, PokeJust, caller_after, is_poke_line, pokes}
 use Rattle.af_journal.specs.Ranges.{IsWritten}
@@ -22,13 +22,13 @@ pub record OneLine (part after : List ℕ) (left : List Written) : Type 0 where
   pub is : left ≡ first ∷ others
   pub fit : IsWritten first
   pub fits : AllByRecursion IsWritten others
-  pub spells : part ≡ spelled first
+  pub spells : part ≡ line_bytes first
   pub rest : after ≡ text_of_lines others
 
 pub one_line : (text part after : List ℕ) (left : List Written) → AllByRecursion IsWritten left → text ≡ text_of_lines left → cut text ≡ Some (part, after) → OneLine part after left
 one_line text part after [] fits is e = absurd (let h = sym e ∙ ap cut is in cc)
 one_line text part after (w ∷ ws) fits is e =
-    let p : ◌≡◌ {A = List ℕ × List ℕ} (part, after) (spelled w, text_of_lines ws) = same_Some _ _ (sym e ∙ ap cut is ∙ cut-line w ws fits.0) in
+    let p : ◌≡◌ {A = List ℕ × List ℕ} (part, after) (line_bytes w, text_of_lines ws) = same_Some _ _ (sym e ∙ ap cut is ∙ cut-line w ws fits.0) in
     record { first = w; others = ws; is = refl; fit = fits.0; fits = fits.1; spells = ap (λ (r : List ℕ × List ℕ). r.0) p; rest = ap (λ (r : List ℕ × List ℕ). r.1) p }
 
 -- nothing is left of a text without an LF
@@ -37,7 +37,7 @@ none_left text [] fits is e = refl
 none_left text (w ∷ ws) fits is e = absurd (let h = sym e ∙ ap cut is ∙ cut-line w ws fits.0 in cc)
 
 -- a line of words is no line of numbers
-words-are_none : (us : List ℕ) → line_at (spelled (words us)) ≡ None
+words-are_none : (us : List ℕ) → line_at (line_bytes (words us)) ≡ None
 unfolding marked_at turn_line_at call_at
 words-are_none us = refl
 
@@ -80,7 +80,7 @@ noted_as None own next streams commands new_streams new_commands none some = non
 noted_as (Some l) own next streams commands new_streams new_commands none some = some l refl
 
 one-more : (w : Written) (ws others : List Written) (own next : ℕ) (after : List ℕ) (streams commands s c s' c' : List Bool) → IsWritten w → AllByRecursion IsWritten others → after ≡ text_of_lines others
-    → MarksSome false own ws (w ∷ others) streams s → MarksSome true own ws (w ∷ others) commands c → IsNoted (line_at (spelled w)) own next s c s' c' → MarksLeft next ws after streams commands s' c'
+    → MarksSome false own ws (w ∷ others) streams s → MarksSome true own ws (w ∷ others) commands c → IsNoted (line_at (line_bytes w)) own next s c s' c' → MarksLeft next ws after streams commands s' c'
 one-more (numbers l) ws others own next after streams commands s c s' c' fit fits is a b n =
     let noted = subst (λ o. IsNoted o own next s c s' c') (line-again l fit) n in
     subst (λ k. MarksLeft k ws after streams commands s' c') (sym noted.0) (record {

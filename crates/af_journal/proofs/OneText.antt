@@ -4,7 +4,7 @@ use Rattle.af_journal.proofs.Common.{All-head, All-tail, AllByRecursion, ClientC
 use Rattle.af_base.specs.declared.seen.Seen.TheVariants as seen
 use Rattle.af_journal.specs.declared.line.Line.{Line}
 use Rattle.af_journal.specs.declared.line.Line.TheVariants as line
-use Rattle.af_journal.specs.Lines.{Written, numbers, words, spelled}
+use Rattle.af_journal.specs.Lines.{Written, numbers, words, line_bytes}
 use Rattle.af_journal.specs.LineReading.{written_at}
 use Rattle.af_journal.specs.Ranges.{IsWritten}
 use Rattle.af_journal.specs.Readings.{cut}
@@ -33,8 +33,8 @@ unfolding others
 others-same w v ws vs e = ap others e
 
 -- the first line of a text
-pub cut-line : (w : Written) (ws : List Written) → IsWritten w → cut (text_of_lines (w ∷ ws)) ≡ Some (spelled w, text_of_lines ws)
-cut-line w ws fit = ap cut (append_assoc (spelled w) (10 ∷ []) (text_of_lines ws)) ∙ cut-again (spelled w) (text_of_lines ws) (written_lacks w fit)
+pub cut-line : (w : Written) (ws : List Written) → IsWritten w → cut (text_of_lines (w ∷ ws)) ≡ Some (line_bytes w, text_of_lines ws)
+cut-line w ws fit = ap cut (append_assoc (line_bytes w) (10 ∷ []) (text_of_lines ws)) ∙ cut-again (line_bytes w) (text_of_lines ws) (written_lacks w fit)
 
 -- lines of one text are the same
 pub same-lines : (ws vs : List Written) → AllByRecursion IsWritten ws → AllByRecursion IsWritten vs → text_of_lines ws ≡ text_of_lines vs → ws ≡ vs
@@ -42,7 +42,7 @@ same-lines [] [] f g e = refl
 same-lines [] (v ∷ vs) f g e = absurd (let p = ap cut e ∙ cut-line v vs g.0 in cc)
 same-lines (w ∷ ws) [] f g e = absurd (let p = ap cut (sym e) ∙ cut-line w ws f.0 in cc)
 same-lines (w ∷ ws) (v ∷ vs) f g e =
-    let p : ◌≡◌ {A = List ℕ × List ℕ} (spelled w, text_of_lines ws) (spelled v, text_of_lines vs) = same_Some _ _ (sym (cut-line w ws f.0) ∙ ap cut e ∙ cut-line v vs g.0) in
+    let p : ◌≡◌ {A = List ℕ × List ℕ} (line_bytes w, text_of_lines ws) (line_bytes v, text_of_lines vs) = same_Some _ _ (sym (cut-line w ws f.0) ∙ ap cut e ∙ cut-line v vs g.0) in
     let own : w ≡ v = same_Some _ _ (sym (written-again w f.0) ∙ ap (λ (r : List ℕ × List ℕ). written_at r.0) p ∙ written-again v g.0) in
     let more : ws ≡ vs = same-lines ws vs f.1 g.1 (ap (λ (r : List ℕ × List ℕ). r.1) p) in
     λ k. own k ∷ more k

@@ -1,12 +1,12 @@
 -- How texts of lines are joined.
 use Rattle.std.proofs.Common.{◌≡◌, ℕ, suc, ◌+◌, ◌<◌, List, [], ◌∷◌, ◌++◌, length, take, drop, slice_index_or, ap, sym, ◌∙◌, arith}
 use Rattle.af_journal.proofs.Common.{append-nil, append_assoc, flat_map, flat_map-append, get_or-drop, length-drop, length-take-le, map-id, map-range_with_len_more, range_with_len, take_more}
-use Rattle.af_journal.specs.Lines.{Written, spelled, with_lf}
+use Rattle.af_journal.specs.Lines.{Written, line_bytes, with_lf}
 use Rattle.af_journal.specs.Texts.{GoesOn, each_from, text_of_lines}
 
 -- the text of some lines and some more
 pub text-append : (first more : List Written) → text_of_lines (first ++ more) ≡ text_of_lines first ++ text_of_lines more
-text-append first more = flat_map-append (λ l. with_lf (spelled l)) first more
+text-append first more = flat_map-append (λ l. with_lf (line_bytes l)) first more
 
 -- some lines, and then some more
 pub goes-then : (a b d : List ℕ) (first more : List Written) → GoesOn a first b → GoesOn b more d → GoesOn a (first ++ more) d

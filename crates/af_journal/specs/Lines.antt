@@ -96,9 +96,9 @@ line_text (line.Entry state kind) = marked (codes "y") (state ∷ kind ∷ [])
 line_text (line.Slot slot scale mono gains flush rear answer) = looked (codes "z") (slot ∷ scale ∷ one_if mono ∷ gains ∷ flush ∷ rear ∷ []) answer
 
 -- the bytes of a line of numbers, or of the frames that were taken as packed words, without its LF
-abbrev pub spelled : Written → List ℕ
-spelled (numbers l) = line_text l
-spelled (words ws) = codes "h" ++ 32 ∷ flat_map hex_word ws
+abbrev pub line_bytes : Written → List ℕ
+line_bytes (numbers l) = line_text l
+line_bytes (words ws) = codes "h" ++ 32 ∷ flat_map hex_word ws
 
 -- a line with its LF
 abbrev pub with_lf : List ℕ → List ℕ

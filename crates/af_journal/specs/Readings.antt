@@ -82,10 +82,6 @@ abbrev pub cut : List ℕ → Option (List ℕ × List ℕ)
 cut [] = None
 cut (c ∷ cs) = if c == 10 then Some ([], cs) else (cut cs >>= λ r. Some (c ∷ r.0, r.1))
 
--- what was cut off at the first LF, if some bytes stand in front
-abbrev pub with_front : List ℕ → Option (List ℕ × List ℕ) → Option (List ℕ × List ℕ)
-with_front front r = r >>= λ r. Some (front ++ r.0, r.1)
-
 -- the stage after a line of bytes
 unfoldable pub stage_after : ℕ → Stage → List ℕ → Option Stage
 stage_after tracks at part = written_at part >>= after_written tracks at

@@ -11,7 +11,7 @@ use Rattle.af_journal.specs.declared.line.Line.TheVariants as line
 use Rattle.af_model.specs.Journals.{EntrySeen, JournalData, RoundSeen, slot_frames}
 use Rattle.af_base.specs.Turn.{TakeSeen, TrackSeen, Turn}
 use Rattle.af_runs.specs.Fronts.{is_shown}
-use Rattle.af_journal.specs.Lines.{Written, numbers, words, spelled, with_lf}
+use Rattle.af_journal.specs.Lines.{Written, numbers, words, line_bytes, with_lf}
 
 -- ## The lines of a journal
 
@@ -97,7 +97,7 @@ round_lines round = numbers line.Round ∷ each_from client_lines 0 round.calls 
 
 -- the bytes of some lines, each with its LF
 abbrev pub text_of_lines : List Written → List ℕ
-text_of_lines lines = flat_map (λ l. with_lf (spelled l)) lines
+text_of_lines lines = flat_map (λ l. with_lf (line_bytes l)) lines
 
 -- the text of a journal: that of all its rounds
 abbrev pub text_of : JournalData → List ℕ

@@ -1,6 +1,6 @@
 -- Up to each meeting of its stream proxy no call shows the client of a track without a poke that the track was shut.
 use Rattle.std.proofs.Common.{◌≡◌, ◌⊎◌, inl, inr, ℕ, ◌<◌, ◌≤◌, ◌==◌, ◌&&◌, Bool, true, false, if◌then◌else◌, fold, List, ◌∷◌, ◌++◌, length, All, Option, Some, None, refl, sym, ap, ◌∙◌, subst, eqb-true, arith}
-use Rattle.af_journal_laws.proofs.Common.{All-head, All-tail, AreTurns, EntrySeen, Frame, HasLegalRounds, IsMadeBy, IsRound, IsScript, IsSpared, IsSparedIn, IsTurnRun, JournalData, LegalAlone, LegalClientTurn, LegalEntries, LegalRound, LegalRounds, LegalTurnBy, Marks, MatchBool, MatchOption, OnlyCalls, RoundSeen, Run, RunGrows, ScriptData, Session, TellsSo, TrackTold, Turn, TurnSpec, [], after_round, after_turn, all_played, before_turn, both_first, both_right, both_true, called, calls_alone, calls_in, cycle_alone, cycles_beside, early_of, fast_ended, fills, found_before, found_in, from_played, heard, heard_told, is_lawful_block, is_poke_on, is_spared_by_turn, late_of, learnt, legal_parts, list_all, list_any, loaded, made_alone, marks_of, met, met_after, met_alone, nat_tests, neither, new_run, new_tells, new_there, new_trim, no, none_corrupt_on, not_true, of_run, outside_of, recorded, rounds_grow, run_alone, run_from, run_none, run_told, session_of, setup_of, sides_of, takes_part, tells_round, told_at, told_each, told_new, track_at, track_count, track_told, tracks_at, turned, with_calls, with_cycle, with_cycles, with_ends, with_poll}
+use Rattle.af_journal_laws.proofs.Common.{All-head, All-tail, AreTurns, EntrySeen, Frame, HasLegalRounds, IsMadeBy, IsRound, IsScript, IsSpared, IsSparedIn, IsTurnRun, JournalData, LegalAlone, LegalClientTurn, LegalEntries, LegalRound, LegalRounds, LegalTurnBy, Marks, MatchBool, MatchOption, OnlyCalls, RoundSeen, Run, RunGrows, ScriptData, Session, TellsSo, TrackTold, Turn, TurnSpec, [], after_round, after_turn, all_played, before_turn, both_first, both_right, both_true, called_in_turn, calls_alone, calls_in, cycle_alone, cycles_beside, early_of, fast_ended, fills, found_before, found_in, from_played, heard, heard_told, is_lawful_block, is_poke_on, is_spared_by_turn, late_of, learnt, legal_parts, list_all, list_any, loaded, made_alone, marks_of, met, met_after, met_alone, nat_tests, neither, new_run, new_tells, new_there, new_trim, no, none_corrupt_on, not_true, of_run, outside_of, recorded, rounds_grow, run_alone, run_from, run_none, run_told, session_of, setup_of, sides_of, takes_part, tells_round, told_at, told_each, told_new, track_at, track_count, track_told, tracks_at, turned, with_calls, with_cycle, with_cycles, with_ends, with_poll}
 use Rattle.af_script.specs.declared.op.TurnSpec.TheVariants as makes
 use Rattle.af_journal_laws.specs.Alive.{NoMetCallIsDead, NoMetCallIsDeadAlone, none_dead}
 use Rattle.af_journal_laws.specs.Alone.{IsSparedAlone, IsSparedInTurn, recorded_alone}
@@ -152,7 +152,7 @@ module _ (s : Session) (marks : Marks) (n : ℕ) where
   lives_calls track round run low only still legal = by_number (n == track) refl
     where
       change : ℕ → TrackTold → TrackTold
-      change number t = if number == track then called (calls_in round track) t else t
+      change number t = if number == track then called_in_turn (calls_in round track) t else t
 
       after : Run
       after = calls_alone track round run
@@ -163,14 +163,14 @@ module _ (s : Session) (marks : Marks) (n : ℕ) where
       by_number : (b : Bool) → (n == track) ≡ b → Lives n run (calls_alone track round run) (none_dead (calls_in round n) ≡ true)
       by_number true is =
           let same : n ≡ track = eqb-true n track is in
-          lives_by s n run after (called (calls_in round n) (told_at run n)) [] _ _ goes
-          (told_each change run n low ∙ ap (λ (b : Bool). if b then called (calls_in round track) (told_at run n) else told_at run n) is ∙ ap (λ (k : ℕ). called (calls_in round k) (told_at run n)) (sym same))
+          lives_by s n run after (called_in_turn (calls_in round n) (told_at run n)) [] _ _ goes
+          (told_each change run n low ∙ ap (λ (b : Bool). if b then called_in_turn (calls_in round track) (told_at run n) else told_at run n) is ∙ ap (λ (k : ℕ). called_in_turn (calls_in round k) (told_at run n)) (sym same))
           (λ unshut spared calm. calm_called (calls_in round n) (told_at run n) calm)
           (alive_called (calls_in round n) (told_at run n) (subst (λ (k : ℕ). LegalClientTurn (sides_of (told_at run k)) (calls_in round k)) (sym same) legal))
       by_number false is =
           let none : calls_in round n ≡ [] = by_only (only n) in
           lives_as n run after (Unit {0}) _ (λ u. ap none_dead none)
-          (lives_same s n run after goes.there (told_each change run n low ∙ ap (λ (b : Bool). if b then called (calls_in round track) (told_at run n) else told_at run n) is))
+          (lives_same s n run after goes.there (told_each change run n low ∙ ap (λ (b : Bool). if b then called_in_turn (calls_in round track) (told_at run n) else told_at run n) is))
         where
           by_only : (n ≡ track) ⊎ (calls_in round n ≡ []) → calls_in round n ≡ []
           by_only (inl same) = no (sym is ∙ grind (arith, nat_tests, same))

@@ -7,7 +7,7 @@ pub use Rattle.af_audit.proofs.Growing.{grows_ends, grows_loaded, grows_met, gro
 pub use Rattle.af_audit.proofs.Grown.{Grows, RunGrows, TrackGrows, called_grows, each_grows, ends_grow, grows_twice, load_grows, meet_grows, mix_grows, rounds_grow, run_none, run_twice, track_none, turn_grows}
 pub use Rattle.af_audit.proofs.Heard.{TellsSo, from_played, heard_low, heard_told, new_tells, tells_round}
 pub use Rattle.af_audit.proofs.Measure.{Measure, of_run}
-pub use Rattle.af_audit.proofs.RearsSeen.{rear_split, sees_in, server_unshut}
+pub use Rattle.af_audit.proofs.RearsSeen.{server_unshut}
 pub use Rattle.af_audit.proofs.SentTold.{commands_at}
 pub use Rattle.af_audit.proofs.SettledRounds.{flushes, new_settles}
 pub use Rattle.af_audit.proofs.SidesKept.{fit_called, played_many, sides_mixed, sides_turned}
@@ -45,9 +45,9 @@ pub use Rattle.af_life.specs.TurnEvents.{command_events_of, command_list, going,
 pub use Rattle.af_life.specs.declared.kept.TrackKept.{TrackKept}
 pub use Rattle.af_model.proofs.Basics.{both_first, not_true}
 pub use Rattle.af_model.proofs.Logic.{both_right}
-pub use Rattle.af_model.proofs.RoomKept.{AllFit, AllFollowRear, all_fit, fit_split, never_corrupt, never_shut}
+pub use Rattle.af_model.proofs.RoomKept.{AllFit, AllFollowRear, all_fit, fit_split, never_corrupt, never_shut, rear_split, sees_in}
 pub use Rattle.af_model.specs.ClientCalls.{ClientAnswers, client_begins, client_call_events, client_kept}
-pub use Rattle.af_model.specs.Cycles.{Listed, LooksBy, after_look, cycle_events, kept, tally}
+pub use Rattle.af_model.specs.Cycles.{Listed, LooksBy, events_behind_look, cycle_events, kept, tally}
 pub use Rattle.af_model.specs.History.{IsLegal, Moment, after, by_client, by_hand, by_server, client_of, flushes_of, hand_of, server_of}
 pub use Rattle.af_model.specs.JournalForm.{IsRound, IsTurn, TracksRise}
 pub use Rattle.af_model.specs.Journals.{EntrySeen, JournalData, RoundSeen, slot_frames}
@@ -60,7 +60,7 @@ pub use Rattle.af_runs.specs.Clients.{ends, state_in}
 pub use Rattle.af_runs.specs.Found.{LegalTurnBy, TurnFound, outside_of}
 pub use Rattle.af_runs.specs.LegalRuns.{HasLegalRounds, IsLegalRun, LegalRounds, is_lawful_block, is_lawful_track, is_poke_on, marks_of, run_from, run_of, session_of}
 pub use Rattle.af_runs.specs.Rounds.{LegalEntries, LegalEntry, LegalRound, after_round, after_turn, all_played, before_turn, early_of, fills, found_in, late_of, loaded, met_after, turned}
-pub use Rattle.af_runs.specs.Runs.{Run, TrackTold, called, calls_in, each_track, fast_ended, found_before, holds, load_of, mixed_track, new_run, no_track, played, side_of, sides_of, slot_for, state_for, stream_met, takes_part, told_at, track_met, turned_track, with_cycle, with_cycles}
+pub use Rattle.af_runs.specs.Runs.{Run, TrackTold, called_in_turn, calls_in, each_track, fast_ended, found_before, observer_holds, load_of, mixed_track, new_run, no_track, played, client_side, sides_of, slot_playing, state_for, stream_met, takes_part, told_at, track_met, turned_track, with_cycle, with_cycles}
 unfoldable pub use Rattle.af_runs.specs.Runs.{met, with_calls, with_ends, with_load, with_mix, with_poll, with_turn}
 pub use Rattle.af_runs.specs.Sessions.{Session, command_shape, cycle_frames, file_words, setup_of, spec_of, stream_shape, track_count}
 pub use Rattle.af_runs.specs.TurnRuns.{AreTurns, IsMadeBy, IsTurnRun, LegalAlone, OnlyCalls, SeesAllBefore, calls_alone, cycle_alone, made_alone, met_alone, run_alone}

@@ -1,6 +1,6 @@
 -- If neither server nor hand sets INVALID on a block, and no status is stored that says 15, its client sees neither in any history.
 use Rattle.std.proofs.Common.{◌≡◌, ◌⊎◌, inl, inr, ℕ, ◌-◌, ◌==◌, not, Bool, true, false, true≢false, if◌then◌else◌, is_some, MatchBool, List, [], ◌∷◌, ◌++◌, refl, sym, ap, ◌∙◌, subst, eqb-true}
-use Rattle.af_journal_laws.proofs.Common.{BlockTold, ClientEvent, ClientMay, HandEvent, HasBlockHistory, IsLegal, Listed, Moment, ServerEvent, after, after_client, after_hand, after_look, after_server, bit_and, bit_or, both_first, both_right, both_true, by_client, by_hand, by_server, client_list, client_of, cycle_events, drops_of, hand_list, hand_of, is_shut, kept, list_all, look_events, server_list, server_of, start, state_in, tally}
+use Rattle.af_journal_laws.proofs.Common.{BlockTold, ClientEvent, ClientMay, HandEvent, HasBlockHistory, IsLegal, Listed, Moment, ServerEvent, after, after_client, after_hand, events_behind_look, after_server, bit_and, bit_or, both_first, both_right, both_true, by_client, by_hand, by_server, client_list, client_of, cycle_events, drops_of, hand_list, hand_of, is_shut, kept, list_all, look_events, server_list, server_of, start, state_in, tally}
 use Rattle.std.proofs.lemmas.List.Folds.{list_all-append}
 use Rattle.af_base.specs.declared.event.ClientEvent.TheVariants as client
 use Rattle.af_base.specs.declared.event.HandEvent.TheVariants as hand
@@ -46,7 +46,7 @@ calm_tally missing = by_zero (missing == 0)
     by_zero true = refl
     by_zero false = refl
 
-calm_after : (asked : ℕ) (was : Bool) (answer : Seen) → is_shut answer ≡ false → list_all is_calm (after_look asked was answer) ≡ true
+calm_after : (asked : ℕ) (was : Bool) (answer : Seen) → is_shut answer ≡ false → list_all is_calm (events_behind_look asked was answer) ≡ true
 calm_after asked was (seen.Frames count) open_is = calm_tally (asked - count)
 calm_after asked was seen.Empty open_is = calm_tally asked
 calm_after asked was (seen.Shut front rear) open_is = absurd (true≢false open_is)
@@ -65,7 +65,7 @@ calm_look false answer flush rear front = calm_drops answer front
 pub cycle_calm : (asked : ℕ) (s : Listed) (slot : SlotEntry) (front : ℕ) → is_shut slot.seen ≡ false → list_all is_calm (cycle_events asked s slot front) ≡ true
 cycle_calm asked s slot front open_is =
     let was = is_some (kept s).shut in
-    all_join is_calm (if was then [] else look_events slot.seen slot.flush slot.rear front) (after_look asked was slot.seen) (calm_look was slot.seen slot.flush slot.rear front) (calm_after asked was slot.seen open_is)
+    all_join is_calm (if was then [] else look_events slot.seen slot.flush slot.rear front) (events_behind_look asked was slot.seen) (calm_look was slot.seen slot.flush slot.rear front) (calm_after asked was slot.seen open_is)
 
 -- ## Flags in a history
 

@@ -20,4 +20,3 @@ pub mod DrainedSoFar
 pub mod SettledSoFar
 pub mod AllHolds
 pub mod MeetsLast
-pub mod FateCounts

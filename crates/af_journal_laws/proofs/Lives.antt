@@ -1,6 +1,6 @@
 -- If both blocks of a track are spared and no turn hears that one was shut, no step sets INVALID or stores a status that says 15; and if its client sees neither by the end, no call showed it that its track was shut.
 use Rattle.std.proofs.Common.{◌≡◌, ℕ, ◌<◌, Bool, true, false, if◌then◌else◌, List, [], length, Option, Some, None, refl, sym, ◌∙◌, subst, arith}
-use Rattle.af_journal_laws.proofs.Common.{EntrySeen, FastState, IsTrim, IsUnshut, LegalClientTurn, LegalEntry, LegalTurnBy, Marks, NormalKept, RoundSeen, Run, Session, TrackTold, TracksRise, Turn, TurnFound, called, calls_in, each_at, each_track, ends, heard, is_poke_on, is_spared_by, is_spared_in_turn, learnt, list_any, loaded, met, met_at, mixed_track, no_track, outside_of, setup_of, sides_mixed, sides_of, sides_turned, state_for, takes_part, told_at, told_each, track_at, track_met, tracks_at, turned_track, with_calls, with_ends, with_load, with_mix, with_poll, with_turn}
+use Rattle.af_journal_laws.proofs.Common.{EntrySeen, FastState, IsTrim, IsUnshut, LegalClientTurn, LegalEntry, LegalTurnBy, Marks, NormalKept, RoundSeen, Run, Session, TrackTold, TracksRise, Turn, TurnFound, called_in_turn, calls_in, each_at, each_track, ends, heard, is_poke_on, is_spared_by, is_spared_in_turn, learnt, list_any, loaded, met, met_at, mixed_track, no_track, outside_of, setup_of, sides_mixed, sides_of, sides_turned, state_for, takes_part, told_at, told_each, track_at, track_met, tracks_at, turned_track, with_calls, with_ends, with_load, with_mix, with_poll, with_turn}
 use Rattle.af_journal_laws.specs.Alive.{none_dead}
 use Rattle.af_journal_laws.proofs.CallsAlive.{IsValid}
 use Rattle.af_journal_laws.proofs.Steps.{Goes, goes_called, goes_ended, goes_met, goes_mixed, goes_same, goes_turned}
@@ -57,7 +57,7 @@ module _ (s : Session) (n : ℕ) where
   pub lives_called : (round : RoundSeen) (run : Run) → n < length run.tracks → list_any (is_poke_on false) (calls_in round n) ≡ false → LegalClientTurn (sides_of (told_at run n)) (calls_in round n) → Lives n run (with_calls round run) (none_dead (calls_in round n) ≡ true)
   unfolding with_calls
   lives_called round run low still legal =
-      lives_by run (with_calls round run) (called (calls_in round n) (told_at run n)) [] _ _ (goes_called false s n round run low still legal) (told_each (λ track t. called (calls_in round track) t) run n low)
+      lives_by run (with_calls round run) (called_in_turn (calls_in round n) (told_at run n)) [] _ _ (goes_called false s n round run low still legal) (told_each (λ track t. called_in_turn (calls_in round track) t) run n low)
       (λ unshut spared calm. calm_called (calls_in round n) (told_at run n) calm) (alive_called (calls_in round n) (told_at run n) legal)
 
   pub lives_polled : (k : ℕ) (run : Run) → n < length run.tracks → Lives n run (with_poll s k run) (Unit {0})

@@ -1,6 +1,6 @@
 -- In the last meeting of a legal run each stream proxy takes part, so that what holds at each meeting holds of the whole journal.
 use Rattle.std.proofs.Common.{◌≡◌, ℕ, Bool, true, false, List, [], ◌∷◌, refl, sym, append-nil}
-use Rattle.af_journal_laws.proofs.Common.{Frame, IsLegalRun, JournalData, LegalRounds, Marks, RoundSeen, Run, ScriptData, Session, after_round, both_first, holds, is_home, is_lawful_block, marks_of, new_run, normal_ended, or_left, run_from, run_of, session_of, setup_of, takes_part, track_at}
+use Rattle.af_journal_laws.proofs.Common.{Frame, IsLegalRun, JournalData, LegalRounds, Marks, RoundSeen, Run, ScriptData, Session, after_round, both_first, observer_holds, is_home, is_lawful_block, marks_of, new_run, normal_ended, or_left, run_from, run_of, session_of, setup_of, takes_part, track_at}
 use Rattle.af_audit.proofs.MixerEnds.{EndsHome, all_home, new_ends}
 use Rattle.af_audit.proofs.MixerRounds.{round_ends}
 use Rattle.af_journal_laws.specs.Laws.{HoldsToTheEnd}
@@ -16,7 +16,7 @@ meets-last : (script : ScriptData) (files : List (List Frame)) (j : JournalData)
 meets-last script files j legal track low =
     let s = session_of script files in
     let run = run_of script files j in
-    or_left (is_home (track_at run.normal.tracks track).holder) (holds s run track)
+    or_left (is_home (track_at run.normal.tracks track).holder) (observer_holds s run track)
     (all_home run.normal (rounds_home false s (marks_of j.rounds) j.rounds (new_run s) legal.rounds.rounds (new_ends (setup_of s))) (normal_ended s run legal.ends) track)
 
 meets_so : (commands : Bool) (s : Session) (run : Run) (track : ℕ) → takes_part s run track ≡ true → meets_on commands s run track ≡ true

@@ -1,13 +1,13 @@
 -- What each step of a turn run adds to a track: its blocks only grow, its client flushes no more than it has ops for, and its command block is kept.
 use Rattle.std.proofs.Common.{◌≡◌, ℕ, ◌<◌, ◌≤◌, ◌==◌, Bool, true, false, if◌then◌else◌, length, Option, Some, None, refl, sym, ap, subst, eqb-true, arith, []}
-use Rattle.af_journal_laws.proofs.Common.{CommandsAt, CommandsSo, EntrySeen, FastState, HasFew, LegalClientTurn, Marks, RoundSeen, Run, RunGrows, Session, TrackGrows, TrackTold, Turn, called, called_grows, called_so, calls_alone, calls_in, cycle_frames, each_few, each_grows, each_long, ends_grow, ends_have, found_before, grows_turned, load_grows, load_has, meet_grows, met, met_has, mix_grows, mix_has, mixed_track, played, run_twice, sides_called, sides_of, slot_for, state_for, told_at, told_each, told_flushes, track_at, track_none, turn_grows, turn_has, with_ends, with_load, with_mix, with_poll, with_turn}
+use Rattle.af_journal_laws.proofs.Common.{CommandsAt, CommandsSo, EntrySeen, FastState, HasFew, LegalClientTurn, Marks, RoundSeen, Run, RunGrows, Session, TrackGrows, TrackTold, Turn, called_in_turn, called_grows, called_so, calls_alone, calls_in, cycle_frames, each_few, each_grows, each_long, ends_grow, ends_have, found_before, grows_turned, load_grows, load_has, meet_grows, met, met_has, mix_grows, mix_has, mixed_track, played, run_twice, sides_called, sides_of, slot_playing, state_for, told_at, told_each, told_flushes, track_at, track_none, turn_grows, turn_has, with_ends, with_load, with_mix, with_poll, with_turn}
 use Rattle.af_audit.proofs.FewFlushes.{all_flushes, turn_few}
 use Rattle.af_audit.proofs.Growing.{RunGrows as AllGrow}
 use Rattle.af_journal_laws.proofs.Walk.{IsKept}
 
 -- what the calls of one client change of a track
 abbrev pub changed : ℕ → RoundSeen → ℕ → TrackTold → TrackTold
-changed track round number t = if number == track then called (calls_in round track) t else t
+changed track round number t = if number == track then called_in_turn (calls_in round track) t else t
 
 -- a client's calls are legal by its own number too
 pub legal_own : (track n : ℕ) (round : RoundSeen) (run : Run) → (n == track) ≡ true → LegalClientTurn (sides_of (told_at run track)) (calls_in round track) → LegalClientTurn (sides_of (told_at run n)) (calls_in round track)
@@ -18,7 +18,7 @@ legal_own track n round run is legal = subst (λ (k : ℕ). LegalClientTurn (sid
 grows_one : (n track : ℕ) (round : RoundSeen) (t : TrackTold) → TrackGrows t (changed track round n t)
 grows_one n track round t = by (n == track)
   where
-    by : (b : Bool) → TrackGrows t (if b then called (calls_in round track) t else t)
+    by : (b : Bool) → TrackGrows t (if b then called_in_turn (calls_in round track) t else t)
     by true = called_grows (calls_in round track) t
     by false = track_none t
 
@@ -60,7 +60,7 @@ module _ (s : Session) (marks : Marks) (tracks most n : ℕ) where
   few_called : (track : ℕ) (round : RoundSeen) (run : Run) → LegalClientTurn (sides_of (told_at run track)) (calls_in round track) → HasFew most n run → HasFew most n (calls_alone track round run)
   few_called track round run legal h = each_few most n (changed track round) run h (by (n == track) refl)
     where
-      by : (b : Bool) → (n == track) ≡ b → told_flushes (if b then called (calls_in round track) (told_at run n) else told_at run n) ≤ told_flushes (told_at run n)
+      by : (b : Bool) → (n == track) ≡ b → told_flushes (if b then called_in_turn (calls_in round track) (told_at run n) else told_at run n) ≤ told_flushes (told_at run n)
       by true is =
           let a = turn_few (sides_of (told_at run n)) (calls_in round track) (legal_own track n round run is legal) in
           let e = ap all_flushes (sides_called (told_at run n) (calls_in round track)) in
@@ -98,7 +98,7 @@ module _ (most n : ℕ) (s : Session) (marks : Marks) where
       record {
         there = (let m = each_long (mixed_track s x e) 0 run.tracks in let t = h.there in omega (arith, m, t));
         mixed = h.mixed;
-        commands = subst (λ (t : TrackTold). CommandsSo most t.commands t.client (track_at run.normal.tracks n)) (sym (told_each (mixed_track s x e) run n h.there)) (by_slot (slot_for x e.entry n));
+        commands = subst (λ (t : TrackTold). CommandsSo most t.commands t.client (track_at run.normal.tracks n)) (sym (told_each (mixed_track s x e) run n h.there)) (by_slot (slot_playing x e.entry n));
       }
     where
       by_slot : (o : Option ℕ) → (let t : TrackTold = elim o as (λ o. TrackTold) [ None ↦ told_at run n | Some i ↦ record (told_at run n) { stream = played (cycle_frames s) e i (told_at run n).stream } ] in CommandsSo most t.commands t.client (track_at run.normal.tracks n))
@@ -112,6 +112,6 @@ module _ (most n : ℕ) (s : Session) (marks : Marks) where
     commands = subst (λ (t : TrackTold). CommandsSo most t.commands t.client (track_at run.normal.tracks n)) (sym (told_each (changed track round) run n h.there)) (by (n == track) refl);
   }
     where
-      by : (b : Bool) → (n == track) ≡ b → (let t : TrackTold = if b then called (calls_in round track) (told_at run n) else told_at run n in CommandsSo most t.commands t.client (track_at run.normal.tracks n))
+      by : (b : Bool) → (n == track) ≡ b → (let t : TrackTold = if b then called_in_turn (calls_in round track) (told_at run n) else told_at run n in CommandsSo most t.commands t.client (track_at run.normal.tracks n))
       by true is = called_so most (calls_in round track) (told_at run n) (track_at run.normal.tracks n) (legal_own track n round run is legal) h.commands
       by false is = h.commands

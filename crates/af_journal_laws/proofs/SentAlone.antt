@@ -1,6 +1,6 @@
 -- In a turn run: which commands a track's client sent, and which of them its mixer took.
 use Rattle.std.proofs.Common.{◌≡◌, ◌⊎◌, inl, inr, ℕ, ◌<◌, ◌==◌, Bool, true, false, if◌then◌else◌, List, ◌++◌, length, Option, Some, None, refl, sym, ap, ◌∙◌, subst, eqb-true, append-nil, arith}
-use Rattle.af_journal_laws.proofs.Common.{BlockTold, ClientCall, EntrySeen, FastState, IsMadeBy, LegalClientTurn, LegalTurnBy, LifeStep, Marks, MatchBool, MatchOption, OnlyCalls, RoundSeen, Run, Sent, SentSo, Session, TrackTold, Turn, TurnFound, TurnSpec, [], called, calls_alone, calls_in, commands_at, cycle_frames, each_at, each_long, each_track, ends, found_before, going, learnt, loaded, made_alone, met, met_alone, met_at, met_many, mixed_track, nat_tests, no, no_track, outside_of, played, sent_by_all, sent_in, setup_of, sides_of, slot_for, state_for, told_at, told_each, track_in, track_legal, turned, turned_track, with_ends, with_load, with_mix, with_poll, with_turn, words_taken}
+use Rattle.af_journal_laws.proofs.Common.{BlockTold, ClientCall, EntrySeen, FastState, IsMadeBy, LegalClientTurn, LegalTurnBy, LifeStep, Marks, MatchBool, MatchOption, OnlyCalls, RoundSeen, Run, Sent, SentSo, Session, TrackTold, Turn, TurnFound, TurnSpec, [], called_in_turn, calls_alone, calls_in, commands_at, cycle_frames, each_at, each_long, each_track, ends, found_before, going, learnt, loaded, made_alone, met, met_alone, met_at, met_many, mixed_track, nat_tests, no, no_track, outside_of, played, sent_by_all, sent_in, setup_of, sides_of, slot_playing, state_for, told_at, told_each, track_in, track_legal, turned, turned_track, with_ends, with_load, with_mix, with_poll, with_turn, words_taken}
 use Rattle.af_script.specs.declared.op.TurnSpec.TheVariants as makes
 use Rattle.af_audit.proofs.Sending.{right_join, turn_right, turn_sends, words_join, words_sent}
 use Rattle.af_audit.proofs.StepsTaken.{turn_told}
@@ -16,7 +16,7 @@ use Rattle.af_journal_laws.proofs.Walk.{IsKeptQuietly, ends_keep, fast_keeps}
 sent_same : (a b : BlockTold) (steps : List LifeStep) (sent : List Sent) → b.released ≡ a.released → b.taken ≡ a.taken → SentSo a steps sent → SentSo b steps sent
 sent_same a b steps sent released taken h = record { released = released ∙ h.released; right = h.right; taken = taken ∙ h.taken }
 
-sent_called : (calls : List ClientCall) (t : TrackTold) (steps : List LifeStep) (sent : List Sent) → LegalClientTurn (sides_of t) calls → SentSo t.commands steps sent → SentSo (called calls t).commands steps (sent ++ sent_by_all (sides_of t) calls)
+sent_called : (calls : List ClientCall) (t : TrackTold) (steps : List LifeStep) (sent : List Sent) → LegalClientTurn (sides_of t) calls → SentSo t.commands steps sent → SentSo (called_in_turn calls t).commands steps (sent ++ sent_by_all (sides_of t) calls)
 sent_called calls t steps sent legal h =
     let more : List Sent = sent_by_all (sides_of t) calls in
     record {
@@ -44,7 +44,7 @@ module _ (s : Session) (marks : Marks) (n : ℕ) (steps : List LifeStep) (sent :
   unfolding with_mix
   sent_mixed e run h =
       let x : FastState = state_for s run e.entry.state in
-      sent_by (with_mix s e run) (mixed_track s x e n (told_at run n)) (let m = each_long (mixed_track s x e) 0 run.tracks in let t = h.there in omega (arith, m, t)) (told_each (mixed_track s x e) run n h.there) (by_slot (slot_for x e.entry n))
+      sent_by (with_mix s e run) (mixed_track s x e n (told_at run n)) (let m = each_long (mixed_track s x e) 0 run.tracks in let t = h.there in omega (arith, m, t)) (told_each (mixed_track s x e) run n h.there) (by_slot (slot_playing x e.entry n))
     where
       by_slot : (o : Option ℕ) → (let t : TrackTold = elim o as (λ o. TrackTold) [ None ↦ told_at run n | Some i ↦ record (told_at run n) { stream = played (cycle_frames s) e i (told_at run n).stream } ] in SentSo t.commands steps sent)
       by_slot None = h.so
@@ -85,8 +85,8 @@ module _ (s : Session) (marks : Marks) (n : ℕ) (steps : List LifeStep) (sent :
       there : n < length (calls_alone track round run).tracks
       there = let m = each_long (changed track round) 0 run.tracks in let t = h.there in omega (arith, m, t)
 
-      told : (b : Bool) → (n == track) ≡ b → told_at (calls_alone track round run) n ≡ (if b then called (calls_in round track) (told_at run n) else told_at run n)
-      told b is = told_each (changed track round) run n h.there ∙ ap (λ (b : Bool). if b then called (calls_in round track) (told_at run n) else told_at run n) is
+      told : (b : Bool) → (n == track) ≡ b → told_at (calls_alone track round run) n ≡ (if b then called_in_turn (calls_in round track) (told_at run n) else told_at run n)
+      told b is = told_each (changed track round) run n h.there ∙ ap (λ (b : Bool). if b then called_in_turn (calls_in round track) (told_at run n) else told_at run n) is
 
       by_only : (n == track) ≡ false → (n ≡ track) ⊎ (calls_in round n ≡ []) → calls_in round n ≡ []
       by_only is (inl same) = no (sym is ∙ grind (arith, nat_tests, same))
@@ -96,7 +96,7 @@ module _ (s : Session) (marks : Marks) (n : ℕ) (steps : List LifeStep) (sent :
       by_number true is = record {
         there = there;
         so = subst (λ (t : TrackTold). SentSo t.commands steps (sent ++ sent_in run round n)) (sym (told true is))
-            (subst (λ (calls : List ClientCall). SentSo (called (calls_in round track) (told_at run n)).commands steps (sent ++ sent_by_all (sides_of (told_at run n)) calls)) (ap (calls_in round) (sym (eqb-true n track is)))
+            (subst (λ (calls : List ClientCall). SentSo (called_in_turn (calls_in round track) (told_at run n)).commands steps (sent ++ sent_by_all (sides_of (told_at run n)) calls)) (ap (calls_in round) (sym (eqb-true n track is)))
             (sent_called (calls_in round track) (told_at run n) steps sent (legal_own track n round run is legal) h.so));
       }
       by_number false is = none_sent round run (calls_alone track round run) (by_only is (only n)) (sent_by (calls_alone track round run) (told_at run n) there (told false is) h.so)

@@ -1,6 +1,6 @@
 -- In legal rounds, and in a turn run: if a client saw its START settled, the frames that it released in later rounds are discarded only by looks that saw a flush count above that of the START.
 use Rattle.std.proofs.Common.{◌≡◌, ◌⊎◌, inl, inr, ℕ, ◌<◌, ◌≤◌, ◌==◌, Bool, true, false, if◌then◌else◌, List, [], ◌∷◌, ◌++◌, length, All, refl, sym, ap, ◌∙◌, subst, eqb-true, arith}
-use Rattle.af_journal_laws.proofs.Common.{All-head, All-tail, AreTurns, BlockTold, ClientCall, DropsByFlush, Frame, Grows, HasBlockHistory, HasFew, HasLegalRounds, IsMadeBy, IsRound, IsScript, IsTrim, IsTurnRun, JournalData, LegalRounds, Marks, RoundSeen, Run, RunGrows, ScriptData, SeesAllBefore, Session, Side, Track, TrackTold, TurnSpec, after_calls, both_first, both_right, called, calls_alone, calls_in, client_list, ends_grow, flushes, flushes_of, grows_twice, is_lawful_block, is_poke_on, list_any, made_alone, marks_of, meet_grows, meets, met, met_alone, met_at, nat_tests, neither, new_run, new_there, new_trim, no, not_true, of_run, run_alone, run_none, server_list, session_of, side_of, sides_called, sides_of, stream_met, takes_part, told_at, told_each, track_at, track_count, with_ends}
+use Rattle.af_journal_laws.proofs.Common.{All-head, All-tail, AreTurns, BlockTold, ClientCall, DropsByFlush, Frame, Grows, HasBlockHistory, HasFew, HasLegalRounds, IsMadeBy, IsRound, IsScript, IsTrim, IsTurnRun, JournalData, LegalRounds, Marks, RoundSeen, Run, RunGrows, ScriptData, SeesAllBefore, Session, Side, Track, TrackTold, TurnSpec, after_calls, both_first, both_right, called_in_turn, calls_alone, calls_in, client_list, ends_grow, flushes, flushes_of, grows_twice, is_lawful_block, is_poke_on, list_any, made_alone, marks_of, meet_grows, meets, met, met_alone, met_at, nat_tests, neither, new_run, new_there, new_trim, no, not_true, of_run, run_alone, run_none, server_list, session_of, client_side, sides_called, sides_of, stream_met, takes_part, told_at, told_each, track_at, track_count, with_ends}
 use Rattle.af_base.specs.declared.event.ClientCall.TheVariants as call
 use Rattle.af_script.specs.declared.op.TurnSpec.TheVariants as makes
 use Rattle.af_audit.specs.Settled.{DiscardsAbove, SeesSettled}
@@ -38,22 +38,22 @@ none_seen : (t : Track) (calls : List ClientCall) (count : ℕ) → calls ≡ []
 none_seen t calls count none sees = none_among sees.before (call.Status sees.word) sees.later (sym sees.calls_are ∙ none)
 
 module _ (s : Session) (marks : Marks) (n : ℕ) (run : Run) (low : n < length run.tracks) (round : RoundSeen) where
-  called_told : (track : ℕ) → (n == track) ≡ true → told_at (calls_alone track round run) n ≡ called (calls_in round n) (told_at run n)
+  called_told : (track : ℕ) → (n == track) ≡ true → told_at (calls_alone track round run) n ≡ called_in_turn (calls_in round n) (told_at run n)
   called_told track is =
-      told_each (changed track round) run n low ∙ ap (λ (b : Bool). if b then called (calls_in round track) (told_at run n) else told_at run n) is
-      ∙ ap (λ (k : ℕ). called (calls_in round k) (told_at run n)) (sym (eqb-true n track is))
+      told_each (changed track round) run n low ∙ ap (λ (b : Bool). if b then called_in_turn (calls_in round track) (told_at run n) else told_at run n) is
+      ∙ ap (λ (k : ℕ). called_in_turn (calls_in round k) (told_at run n)) (sym (eqb-true n track is))
 
   -- the side of the track's command block when the turn was made
   made_side : (turn : TurnSpec) (count : ℕ) → IsMadeBy s marks run turn round → SeesSettled (sides_of (told_at run n)) (calls_in round n) count
-      → side_of (told_at (made_alone s run turn round) n).commands ≡ (after_calls (sides_of (told_at run n)) (calls_in round n)).commands
+      → client_side (told_at (made_alone s run turn round) n).commands ≡ (after_calls (sides_of (told_at run n)) (calls_in round n)).commands
   made_side (makes.Client track) count made sees = by_number (n == track) refl
     where
       by_only : (n == track) ≡ false → (n ≡ track) ⊎ (calls_in round n ≡ []) → ⊥
       by_only is (inl same) = no (sym is ∙ grind (arith, nat_tests, same))
       by_only is (inr none) = none_seen (sides_of (told_at run n)) (calls_in round n) count none sees
 
-      by_number : (b : Bool) → (n == track) ≡ b → side_of (told_at (calls_alone track round run) n).commands ≡ (after_calls (sides_of (told_at run n)) (calls_in round n)).commands
-      by_number true is = ap (λ (t : TrackTold). side_of t.commands) (called_told track is) ∙ ap (λ (t : Track). t.commands) (sides_called (told_at run n) (calls_in round n))
+      by_number : (b : Bool) → (n == track) ≡ b → client_side (told_at (calls_alone track round run) n).commands ≡ (after_calls (sides_of (told_at run n)) (calls_in round n)).commands
+      by_number true is = ap (λ (t : TrackTold). client_side t.commands) (called_told track is) ∙ ap (λ (t : Track). t.commands) (sides_called (told_at run n) (calls_in round n))
       by_number false is = absurd (by_only is (made.0 n))
   made_side makes.Normal count made sees = absurd (none_seen (sides_of (told_at run n)) (calls_in round n) count (none_called false s marks n round made.0) sees)
   made_side (makes.Fast cycles) count made sees = absurd (none_seen (sides_of (told_at run n)) (calls_in round n) count (none_called false s marks n round made.0) sees)
@@ -84,7 +84,7 @@ module _ (s : Session) (script : IsScript s.script) (marks : Marks) (tracks n : 
       let there : n < length played.tracks = played_so.tells.low in
       let one = goes_met_alone true s marks n turn round tracks run h.tells.low form calm made in
       let side = made_side s marks n run h.tells.low round turn count made saw in
-      let seen : HasSeenSettled (side_of b) count = subst (λ (x : Side). HasSeenSettled x count) (sym side) (turn-sees (sides_of (told_at run n)) (calls_in round n) count saw) in
+      let seen : HasSeenSettled (client_side b) count = subst (λ (x : Side). HasSeenSettled x count) (sym side) (turn-sees (sides_of (told_at run n)) (calls_in round n) count saw) in
       let met_is : (told_at (met s played) n).commands ≡ meets b = ap (λ (t : TrackTold). t.commands) (met_at s played n there) in
       let history : HasBlockHistory (meets b) = subst HasBlockHistory met_is (sees.commands n low ((one.track.trim trim).tame refl)).0 in
       seen_low (of_run flushes played n) b (told_at played n).client (track_at played.normal.tracks n) count played_so.commands.commands history seen

@@ -1,6 +1,6 @@
 -- What holds of a track through each step of a run: its client keeps to its calls and its file, its servers drop by flushes alone, the frames taken are those recorded; and if the proxies of one of its blocks aren't shut after the step, they weren't before it, and the step spared the block.
 use Rattle.std.proofs.Common.{◌≡◌, ℕ, ◌<◌, ◌≤◌, not, Bool, true, false, if◌then◌else◌, List, [], ◌++◌, map, length, Option, Some, None, refl, sym, ap, ◌∙◌, subst, append-nil, append_assoc, arith}
-use Rattle.af_journal_laws.proofs.Common.{AreSpelled, ClientCall, EntrySeen, FastState, IsFit, IsTrim, IsUnshut, LegalClientTurn, LegalEntry, LegalTurnBy, LooksBy, Marks, NormalKept, Outside, RoundSeen, Run, Session, TrackStands, TrackTold, TracksRise, Turn, TurnFound, called, calls_in, cycle_frames, each_at, each_long, each_track, ends, entry_slot, file_words, fit_called, is_poke_on, is_shut, is_spared_by, is_spared_in_turn, list_any, listed, loaded, met, met_at, met_many, mixed_track, no_track, none_corrupt_on, outside_of, played, recorded_by, recorded_by_turn, setup_of, shape_met, sides_mixed, sides_of, sides_turned, slot_for, slot_frames, stands_called, stands_ended, stands_met, stands_mixed, stands_turned, state_for, taken_met, takes_part, told_at, told_each, track_met, track_spelled, trim_called, trim_ended, trim_met, trim_mixed, trim_turned, turned_track, unshut_called, unshut_ended, unshut_met, unshut_mixed, unshut_turned, with_calls, with_ends, with_load, with_mix, with_poll, with_turn}
+use Rattle.af_journal_laws.proofs.Common.{AreSpelled, ClientCall, EntrySeen, FastState, IsFit, IsTrim, IsUnshut, LegalClientTurn, LegalEntry, LegalTurnBy, LooksBy, Marks, NormalKept, Outside, RoundSeen, Run, Session, TrackStands, TrackTold, TracksRise, Turn, TurnFound, called_in_turn, calls_in, cycle_frames, each_at, each_long, each_track, ends, entry_slot, file_words, fit_called, is_poke_on, is_shut, is_spared_by, is_spared_in_turn, list_any, listed, loaded, met, met_at, met_many, mixed_track, no_track, none_corrupt_on, outside_of, played, recorded_by, recorded_by_turn, setup_of, shape_met, sides_mixed, sides_of, sides_turned, slot_playing, slot_frames, stands_called, stands_ended, stands_met, stands_mixed, stands_turned, state_for, taken_met, takes_part, told_at, told_each, track_met, track_spelled, trim_called, trim_ended, trim_met, trim_mixed, trim_turned, turned_track, unshut_called, unshut_ended, unshut_met, unshut_mixed, unshut_turned, with_calls, with_ends, with_load, with_mix, with_poll, with_turn}
 use Rattle.af_base.specs.Sample.{packed_word}
 use Rattle.af_audit.proofs.RunStands.{entry_looks}
 
@@ -65,7 +65,7 @@ module _ (commands : Bool) (s : Session) (n : ℕ) where
 
 module _ (commands : Bool) (s : Session) (n : ℕ) where
   -- the calls of the track's client
-  pub track_called : (calls : List ClientCall) (t : TrackTold) → list_any (is_poke_on commands) calls ≡ false → LegalClientTurn (sides_of t) calls → TrackGoes commands s n t (called calls t) [] (none_corrupt_on commands calls ≡ true)
+  pub track_called : (calls : List ClientCall) (t : TrackTold) → list_any (is_poke_on commands) calls ≡ false → LegalClientTurn (sides_of t) calls → TrackGoes commands s n t (called_in_turn calls t) [] (none_corrupt_on commands calls ≡ true)
   track_called calls t calm legal = record {
     fit = fit_called s n t calls legal;
     trim = trim_called commands calls t (λ on. subst (λ (b : Bool). list_any (is_poke_on b) calls ≡ false) on calm);
@@ -78,18 +78,18 @@ module _ (commands : Bool) (s : Session) (n : ℕ) where
       → Goes commands s n run (with_calls round run) [] (none_corrupt_on commands (calls_in round n) ≡ true)
   unfolding with_calls
   goes_called round run low calm legal =
-      let change = λ (track : ℕ) (t : TrackTold). called (calls_in round track) t in
+      let change = λ (track : ℕ) (t : TrackTold). called_in_turn (calls_in round track) t in
       goes_by commands s n run (with_calls round run) _ _ _ (let m = each_long change 0 run.tracks in omega (arith, m, low)) (told_each change run n low) (track_called (calls_in round n) (told_at run n) calm legal)
 
   -- a mix, of one track
-  track_mixed : (x : FastState) (e : EntrySeen) (t : TrackTold) → ((i : ℕ) → slot_for x e.entry n ≡ Some i → (front : ℕ) × LooksBy (cycle_frames s) (listed t.stream) (entry_slot e.entry i) front)
-      → TrackGoes commands s n t (mixed_track s x e n t) (elim (slot_for x e.entry n) as (λ o. List ℕ) [ None ↦ [] | Some i ↦ map packed_word (slot_frames e i) ])
-      (commands ≡ false → elim (slot_for x e.entry n) as (λ o. Bool) [ None ↦ true | Some i ↦ not (is_shut (entry_slot e.entry i).seen) ] ≡ true)
+  track_mixed : (x : FastState) (e : EntrySeen) (t : TrackTold) → ((i : ℕ) → slot_playing x e.entry n ≡ Some i → (front : ℕ) × LooksBy (cycle_frames s) (listed t.stream) (entry_slot e.entry i) front)
+      → TrackGoes commands s n t (mixed_track s x e n t) (elim (slot_playing x e.entry n) as (λ o. List ℕ) [ None ↦ [] | Some i ↦ map packed_word (slot_frames e i) ])
+      (commands ≡ false → elim (slot_playing x e.entry n) as (λ o. Bool) [ None ↦ true | Some i ↦ not (is_shut (entry_slot e.entry i).seen) ] ≡ true)
   track_mixed x e t looks = record {
     fit = subst (IsFit s n) (sym (sides_mixed s x e n t));
     trim = trim_mixed commands s x e n t;
     stands = λ off. stands_mixed (file_words s n) s x e n t looks;
-    taken = by_slot (slot_for x e.entry n);
+    taken = by_slot (slot_playing x e.entry n);
     unshut = λ h fine. unshut_mixed commands s x e n t looks fine;
   }
     where

@@ -1,6 +1,6 @@
 -- What each step of a round keeps of the flags and the statuses of a track's blocks, if both are spared and the mixer hears of no shut server: nobody sets INVALID, and no status says 15.
 use Rattle.std.proofs.Common.{◌≡◌, ◌⊎◌, inl, inr, ℕ, ◌+◌, ◌*◌, ◌≤◌, ◌==◌, ◌&&◌, ◌||◌, not, Bool, true, false, true≢false, if◌then◌else◌, is_some, map, List, [], ◌∷◌, ◌++◌, flat_map, drop, length, Option, Some, None, refl, sym, ap, ◌∙◌, subst, append-nil, append_assoc, MatchBool, arith}
-use Rattle.af_journal_laws.proofs.Common.{BlockTold, ClientCall, ClientEvent, EntrySeen, FastState, HandEvent, LegalClientTurn, LegalTurn, Listed, Moment, NormalKept, Outside, ServerEvent, Session, Setup, TakeSeen, TrackKept, TrackSeen, TrackTold, Turn, TurnFound, after_calls, all_command_events, asked, both_first, both_right, both_true, by_hand, by_server, called, client_does, client_list, command_events, command_events_of, command_list, cycle_events, cycle_frames, did, entry_slot, hand-server, hand_of, heard, invalid, is_home, is_shut, is_spared_in_turn, kept, learnt, list_all, list_any, listed, look_events, meets, mix_events, mixed_track, not_true, nothing_seen, outside_of, played, ready, seen_legal, server-server, server_list, shows_command, sides_called, sides_of, slot_for, state_in, status_events, stream_list, stream_met, takes_command, takes_from, told_more, track_at, track_in, tracks_at, turned_track}
+use Rattle.af_journal_laws.proofs.Common.{BlockTold, ClientCall, ClientEvent, EntrySeen, FastState, HandEvent, LegalClientTurn, LegalTurn, Listed, Moment, NormalKept, Outside, ServerEvent, Session, Setup, TakeSeen, TrackKept, TrackSeen, TrackTold, Turn, TurnFound, after_calls, all_command_events, asked, both_first, both_right, both_true, by_hand, by_server, called_in_turn, client_does, client_list, command_events, command_events_of, command_list, cycle_events, cycle_frames, did, entry_slot, hand-server, hand_of, heard, invalid, is_home, is_shut, is_spared_in_turn, kept, learnt, list_all, list_any, listed, look_events, meets, mix_events, mixed_track, not_true, nothing_seen, outside_of, played, ready, seen_legal, server-server, server_list, shows_command, sides_called, sides_of, slot_playing, state_in, status_events, stream_list, stream_met, takes_command, takes_from, told_more, track_at, track_in, tracks_at, turned_track}
 use Rattle.std.proofs.lemmas.List.Concat.{flat_map-cons}
 use Rattle.std.proofs.lemmas.Nat.{mod-mul-add}
 use Rattle.af_base.specs.declared.event.HandEvent.TheVariants as hand
@@ -10,8 +10,8 @@ use Rattle.af_life.specs.declared.state.LifeState.{LifeState}
 use Rattle.af_life.specs.declared.state.LifeState.TheVariants.{Absent, Idle, Active, Pausing, Paused, Resuming, Stopping1, Stopping2, Stopped, Flushed}
 use Rattle.af_life.specs.Obeys.{slot_for as given_for}
 use Rattle.af_life.specs.Serves.{IsServed, LegalTrack, after_report, is_found_shut, status_word, stored_over}
-use Rattle.af_life.specs.State.{code_of}
-use Rattle.af_life.specs.TurnEvents.{hand_list}
+use Rattle.af_life.specs.State.{life_code}
+use Rattle.af_life.specs.TurnEvents.{hand_events_of}
 use Rattle.af_runs.specs.Blocks as block
 use Rattle.af_runs.specs.Fronts.{front_of}
 use Rattle.af_judge.proofs.BlocksTold.{client-hand, client-server}
@@ -44,7 +44,7 @@ hand-hand told (e ∷ es) = hand-hand (by_hand e ∷ told) es ∙ append_assoc (
 calm_client : (es : List ClientEvent) (b : BlockTold) (words : List ℕ) → IsCalmBlock b → IsCalmBlock (record (client_does es b) { released = words })
 calm_client es b words h = record { server = ap (list_all is_calm) (client-server b.told es) ∙ h.server; hand = ap (list_all is_calm_hand) (client-hand b.told es) ∙ h.hand }
 
-pub calm_called : (calls : List ClientCall) (t : TrackTold) → IsCalm t → IsCalm (called calls t)
+pub calm_called : (calls : List ClientCall) (t : TrackTold) → IsCalm t → IsCalm (called_in_turn calls t)
 calm_called calls t h =
     let u = after_calls (sides_of t) calls in
     record {
@@ -52,14 +52,14 @@ calm_called calls t h =
       commands = calm_client (drop (length (client_list t.commands)) u.commands.events) t.commands u.commands.released h.commands;
     }
 
-pub alive_called : (calls : List ClientCall) (t : TrackTold) → LegalClientTurn (sides_of t) calls → IsValid (sides_of (called calls t)) → IsValid (sides_of t) × (none_dead calls ≡ true)
+pub alive_called : (calls : List ClientCall) (t : TrackTold) → LegalClientTurn (sides_of t) calls → IsValid (sides_of (called_in_turn calls t)) → IsValid (sides_of t) × (none_dead calls ≡ true)
 alive_called calls t legal h = alive_turn (sides_of t) calls legal (subst IsValid (sides_called t calls) h)
 
 -- ## An entry
 
-pub calm_mixed : (s : Session) (x : FastState) (e : EntrySeen) (n : ℕ) (t : TrackTold) → elim (slot_for x e.entry n) as (λ o. Bool) [ None ↦ true | Some i ↦ not (is_shut (entry_slot e.entry i).seen) ] ≡ true
+pub calm_mixed : (s : Session) (x : FastState) (e : EntrySeen) (n : ℕ) (t : TrackTold) → elim (slot_playing x e.entry n) as (λ o. Bool) [ None ↦ true | Some i ↦ not (is_shut (entry_slot e.entry i).seen) ] ≡ true
     → IsCalm t → IsCalm (mixed_track s x e n t)
-calm_mixed s x e n t spared h = by_slot (slot_for x e.entry n) spared
+calm_mixed s x e n t spared h = by_slot (slot_playing x e.entry n) spared
   where
     by_slot : (o : Option ℕ) → elim o as (λ o. Bool) [ None ↦ true | Some i ↦ not (is_shut (entry_slot e.entry i).seen) ] ≡ true → IsCalm (elim o as (λ o. TrackTold) [ None ↦ t | Some i ↦ record t { stream = played (cycle_frames s) e i t.stream } ])
     by_slot None spared = h
@@ -82,7 +82,7 @@ none_any p [] h = refl
 none_any p (x ∷ xs) h = ap (λ (b : Bool). b || list_any p xs) (not_true (p x) (both_first (not (p x)) _ h)) ∙ none_any p xs (both_right (not (p x)) _ h)
 
 -- no state has the code of a track that was shut
-code_open : (state : LifeState) → not (code_of state == 15) ≡ true
+code_open : (state : LifeState) → not (life_code state == 15) ≡ true
 code_open Absent = refl
 code_open Idle = refl
 code_open Active = refl
@@ -101,7 +101,7 @@ state_told code settled false low = let same : code + 0 + 256 * settled ≡ (16 
 
 state_open : (s : TrackKept) → not (state_in (status_word false s) == 15) ≡ true
 unfolding status_word
-state_open s = ap (λ (n : ℕ). not (n == 15)) (state_told (code_of s.life.state) (s.settled % 16777216) s.life.drained (code_low s.life.state)) ∙ code_open s.life.state
+state_open s = ap (λ (n : ℕ). not (n == 15)) (state_told (life_code s.life.state) (s.settled % 16777216) s.life.drained (code_low s.life.state)) ∙ code_open s.life.state
 
 stored_open : (last word : ℕ) → not (state_in word == 15) ≡ true → list_all is_calm (status_events (stored_over last word)) ≡ true
 stored_open last word h = by (word == last)
@@ -204,7 +204,7 @@ module _ (c : Setup) (f : TurnFound) (m : NormalKept) (e : Turn) (o : Outside) (
       by_end true = refl
       by_end false = all_join is_calm (if is_home s.holder then invalid (learnt told) (track_in e n) tracks n else []) (mix_events c told e.mixes n) calm_flags (calm_takes (takes_from e.mixes n) spared)
 
-  calm_hands : list_all is_calm_hand (hand_list e n) ≡ true
+  calm_hands : list_all is_calm_hand (hand_events_of e n) ≡ true
   calm_hands = by_end e.ended (track_in e n).disabled
     where
       by_end : (ended disabled : Bool) → list_all is_calm_hand (if ended then [] else (if disabled then hand.SetFlags 8 ∷ [] else [])) ≡ true
@@ -215,7 +215,7 @@ module _ (c : Setup) (f : TurnFound) (m : NormalKept) (e : Turn) (o : Outside) (
   pub calm_turned : IsCalm t → IsCalm (turned_track c told m e n t)
   calm_turned h =
       let es = stream_list c told e tracks n in
-      let hs : List HandEvent = hand_list e n in
+      let hs : List HandEvent = hand_events_of e n in
       let after : List Moment = told_more t.stream.told (map by_hand hs) in
       let sent = command_list c told e tracks n in
       record {

@@ -1,6 +1,6 @@
 -- What holds of a track through the rounds of a turn run, by their steps.
 use Rattle.std.proofs.Common.{◌≡◌, ◌⊎◌, inl, inr, ℕ, ◌<◌, ◌==◌, Bool, true, false, if◌then◌else◌, fold, List, ◌∷◌, ◌++◌, length, All, Option, Some, None, refl, sym, ap, ◌∙◌, subst, eqb-true, append-nil, arith}
-use Rattle.af_journal_laws.proofs.Common.{All-head, All-tail, AreTurns, EntrySeen, Frame, IsMadeBy, IsRound, IsScript, IsTurnRun, JournalData, LegalAlone, LegalClientTurn, LegalTurnBy, Marks, MatchBool, MatchOption, OnlyCalls, RoundSeen, Run, ScriptData, SeesAllBefore, Session, TrackTold, Turn, TurnSpec, [], both_true, called, calls_alone, calls_in, cycle_alone, each_long, fast_ended, found_before, is_lawful_block, is_poke_on, is_spared_by, is_spared_by_turn, list_any, loaded, made_alone, marks_of, met, met_alone, nat_tests, neither, new_run, new_there, no, none_corrupt_on, not_true, recorded_by, recorded_by_turn, run_alone, session_of, setup_of, sides_of, told_at, told_each, track_count, turned, with_ends, with_poll}
+use Rattle.af_journal_laws.proofs.Common.{All-head, All-tail, AreTurns, EntrySeen, Frame, IsMadeBy, IsRound, IsScript, IsTurnRun, JournalData, LegalAlone, LegalClientTurn, LegalTurnBy, Marks, MatchBool, MatchOption, OnlyCalls, RoundSeen, Run, ScriptData, SeesAllBefore, Session, TrackTold, Turn, TurnSpec, [], both_true, called_in_turn, calls_alone, calls_in, cycle_alone, each_long, fast_ended, found_before, is_lawful_block, is_poke_on, is_spared_by, is_spared_by_turn, list_any, loaded, made_alone, marks_of, met, met_alone, nat_tests, neither, new_run, new_there, no, none_corrupt_on, not_true, recorded_by, recorded_by_turn, run_alone, session_of, setup_of, sides_of, told_at, told_each, track_count, turned, with_ends, with_poll}
 use Rattle.af_script.specs.declared.op.TurnSpec.TheVariants as makes
 use Rattle.af_journal_laws.specs.Alone.{EachMetBlockIsSparedAlone, IsSparedAlone, IsSparedInTurn, is_spared_by_cycles, recorded_alone, recorded_by_cycles}
 use Rattle.af_journal_laws.proofs.AtMeetings.{HasHistoryMet, history_ends, history_new, spared_so}
@@ -40,7 +40,7 @@ module _ (commands : Bool) (s : Session) (marks : Marks) (n : ℕ) where
   goes_calls track round run low only calm legal = by_number (n == track) refl
     where
       change : ℕ → TrackTold → TrackTold
-      change number t = if number == track then called (calls_in round track) t else t
+      change number t = if number == track then called_in_turn (calls_in round track) t else t
 
       there : n < length (calls_alone track round run).tracks
       there = let m = each_long change 0 run.tracks in omega (arith, m, low)
@@ -48,13 +48,13 @@ module _ (commands : Bool) (s : Session) (marks : Marks) (n : ℕ) where
       by_number : (b : Bool) → (n == track) ≡ b → Goes commands s n run (calls_alone track round run) [] (none_corrupt_on commands (calls_in round n) ≡ true)
       by_number true is =
           let same : n ≡ track = eqb-true n track is in
-          goes_by commands s n run (calls_alone track round run) (called (calls_in round n) (told_at run n)) [] _ there
-          (told_each change run n low ∙ ap (λ (b : Bool). if b then called (calls_in round track) (told_at run n) else told_at run n) is ∙ ap (λ (k : ℕ). called (calls_in round k) (told_at run n)) (sym same))
+          goes_by commands s n run (calls_alone track round run) (called_in_turn (calls_in round n) (told_at run n)) [] _ there
+          (told_each change run n low ∙ ap (λ (b : Bool). if b then called_in_turn (calls_in round track) (told_at run n) else told_at run n) is ∙ ap (λ (k : ℕ). called_in_turn (calls_in round k) (told_at run n)) (sym same))
           (track_called commands s n (calls_in round n) (told_at run n) calm (subst (λ (k : ℕ). LegalClientTurn (sides_of (told_at run k)) (calls_in round k)) (sym same) legal))
       by_number false is =
           let none : calls_in round n ≡ [] = by_only (only n) in
           goes_as commands s n run (calls_alone track round run) [] [] (Unit {0}) _ refl (λ u. ap (none_corrupt_on commands) none)
-          (goes_same commands s n run (calls_alone track round run) there (told_each change run n low ∙ ap (λ (b : Bool). if b then called (calls_in round track) (told_at run n) else told_at run n) is))
+          (goes_same commands s n run (calls_alone track round run) there (told_each change run n low ∙ ap (λ (b : Bool). if b then called_in_turn (calls_in round track) (told_at run n) else told_at run n) is))
         where
           by_only : (n ≡ track) ⊎ (calls_in round n ≡ []) → calls_in round n ≡ []
           by_only (inl same) = no (sym is ∙ grind (arith, nat_tests, same))

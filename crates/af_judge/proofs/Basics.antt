@@ -1,12 +1,12 @@
 -- Basic lemmas that several files here, and of the crates above, cite.
 use Rattle.std.proofs.Common.{Bool, List, None, Option, Some, [], ap, append-nil, append_assoc, arith, cond, false, if◌then◌else◌, is_some, length, refl, suc, sym, true, true≢false, zero, ℕ, ◌++◌, ◌+◌, ◌<◌, ◌==◌, ◌^◌, ◌||◌, ◌∙◌, ◌∷◌, ◌≡◌}
-use Rattle.af_judge.proofs.Common.{BlockTold, Busy, Clean, Client, ClientEvent, HandEvent, Holder, Home, IsLegal, Known, Lent, Life, May, Moment, NormalKept, Op, Push, Pushed, Returning, RoundSeen, Run, ServerEvent, Session, TakeSeen, TrackKept, TrackPoint, TrackTold, TracksRise, Turn, Want, after_client, after_hand, after_push, after_server, ahead, begins, behind, by_client, by_hand, by_report, by_server, client_of, drops_none, each_from, each_track, ended, ends, get_or-map-range_with_len, get_or_default, is_home, is_lent, length-map-range_with_len, loaded, met, nat_tests, new_run, no, no_track, number_of, server_of, slice_index_or, stream_met, takes_from, takes_part, tally, told_at, track_count, track_met, unwrap_or, wants_of, with_calls, with_ends, with_load, wrapped}
+use Rattle.af_judge.proofs.Common.{BlockTold, Busy, Clean, Client, ClientEvent, HandEvent, Holder, Home, IsLegal, Known, Lent, Life, May, Moment, NormalKept, Op, Push, Pushed, Returning, RoundSeen, Run, ServerEvent, Session, TakeSeen, TrackKept, TrackPoint, TrackTold, TracksRise, Turn, Want, after_client, after_hand, after_push, after_server, ahead, begins, behind, by_client, by_hand, by_report, by_server, client_of, drops_none, changed_from, each_track, ended, ends, get_or-map-range_with_len, get_or_default, is_home, is_lent, length-map-range_with_len, loaded, met, nat_tests, new_run, no, no_track, number_of, server_of, slice_index_or, stream_met, takes_from, takes_part, tally, told_at, track_count, track_met, unwrap_or, wants_of, with_calls, with_ends, with_load, wrapped}
 use Rattle.af_base.specs.declared.event.ClientEvent.TheVariants as client
 use Rattle.af_base.specs.declared.event.HandEvent.TheVariants as hand
 use Rattle.af_base.specs.declared.event.ServerEvent.TheVariants as server
 use Rattle.af_judge.specs.NormalTold.{IsTrackAt}
 use Rattle.af_judge.specs.declared.track_judge.TrackJudge.{TrackJudge}
-use Rattle.af_runs.specs.Runs.{new_track}
+use Rattle.af_runs.specs.Runs.{new_told_track}
 
 pub ahead_behind : (count p : ℕ) → count < 2 ^ 32 → ahead (behind p count) p ≡ count
 ahead_behind count p small = omega (arith, small)
@@ -39,12 +39,12 @@ client_append (by_client e ∷ late) early = ap (λ z. z ++ e ∷ []) (client_ap
 client_append (by_server e ∷ late) early = client_append late early
 client_append (by_hand e ∷ late) early = client_append late early
 
-pub each_at : (change : ℕ → TrackTold → TrackTold) (m : ℕ) (ts : List TrackTold) (n j : ℕ) (d : TrackTold) → n < length ts → m + n ≡ j → slice_index_or (each_from change m ts) n d ≡ change j (slice_index_or ts n d)
+pub each_at : (change : ℕ → TrackTold → TrackTold) (m : ℕ) (ts : List TrackTold) (n j : ℕ) (d : TrackTold) → n < length ts → m + n ≡ j → slice_index_or (changed_from change m ts) n d ≡ change j (slice_index_or ts n d)
 each_at change m [] n j d lt is = absurd (let z : ⊥ = omega (arith, lt) in z)
 each_at change m (t ∷ ts) zero j d lt is = ap (λ (k : ℕ). change k t) (let e : m ≡ j = omega (arith, is) in e)
 each_at change m (t ∷ ts) (suc n) j d lt is = each_at change (m + 1) ts n j d (omega (arith, lt)) (omega (arith, is))
 
-pub each_long : (change : ℕ → TrackTold → TrackTold) (m : ℕ) (ts : List TrackTold) → length (each_from change m ts) ≡ length ts
+pub each_long : (change : ℕ → TrackTold → TrackTold) (m : ℕ) (ts : List TrackTold) → length (changed_from change m ts) ≡ length ts
 each_long change m [] = refl
 each_long change m (t ∷ ts) = ap suc (each_long change (m + 1) ts)
 
@@ -109,11 +109,11 @@ unfolding met
 met_states s run = refl
 
 -- the track of a number in a new run
-pub new_at : (s : Session) (i : ℕ) → i < track_count s → told_at (new_run s) i ≡ new_track s i
-new_at s i lt = get_or-map-range_with_len (new_track s) 0 (track_count s) i i _ lt (omega arith)
+pub new_at : (s : Session) (i : ℕ) → i < track_count s → told_at (new_run s) i ≡ new_told_track s i
+new_at s i lt = get_or-map-range_with_len (new_told_track s) 0 (track_count s) i i _ lt (omega arith)
 
 pub new_long : (s : Session) → length (new_run s).tracks ≡ track_count s
-new_long s = length-map-range_with_len (new_track s) 0 (track_count s)
+new_long s = length-map-range_with_len (new_told_track s) 0 (track_count s)
 
 pub not_lent : (h : Holder) → is_home h ≡ true → is_lent h ≡ false
 not_lent Home e = refl

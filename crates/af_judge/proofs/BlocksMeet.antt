@@ -1,7 +1,7 @@
 -- The blocks of a run meet: what is kept of each track follows, and the judge's answers are those of the run.
 use Rattle.std.specs.Prelude.{◌↔◌}
 use Rattle.std.proofs.Common.{◌≡◌, ℕ, zero, suc, ◌+◌, ◌^◌, ◌<◌, ◌≤◌, ◌||◌, Bool, true, false, List, [], ◌∷◌, ◌++◌, length, get_or, refl, sym, ap, ◌∙◌, subst, arith}
-use Rattle.af_judge.proofs.Common.{BlockTold, ClientEvent, KeepsHistory, Marks, Op, Run, Session, Side, TrackHistories, TrackTold, client_begins, client_keeps, each_from, flush_in, flushes_of, fold-append, get_or_default, meets, met, no_track, server_list, side_of, sides_of, spec_of, stream_met, takes_part, told_at, track_met}
+use Rattle.af_judge.proofs.Common.{BlockTold, ClientEvent, KeepsHistory, Marks, Op, Run, Session, Side, TrackHistories, TrackTold, client_begins, client_keeps, changed_from, flush_in, flushes_of, fold-append, get_or_default, meets, met, no_track, server_list, client_side, sides_of, spec_of, stream_met, takes_part, told_at, track_met}
 use Rattle.af_base.specs.declared.event.ClientEvent.TheVariants as client
 use Rattle.af_judge.proofs.Basics.{met_many, shape_met}
 use Rattle.af_judge.specs.declared.track_judge.TrackJudge.{TrackJudge}
@@ -18,7 +18,7 @@ use Rattle.af_judge.proofs.StepsTold.{stream_kept}
 
 -- ## Tracks changed by their numbers
 
-each-at : (change : ℕ → TrackTold → TrackTold) (number i : ℕ) (ts : List TrackTold) (d e : TrackTold) → i < length ts → get_or (each_from change number ts) i d ≡ change (number + i) (get_or ts i e)
+each-at : (change : ℕ → TrackTold → TrackTold) (number i : ℕ) (ts : List TrackTold) (d e : TrackTold) → i < length ts → get_or (changed_from change number ts) i d ≡ change (number + i) (get_or ts i e)
 each-at change number i [] d e low = absurd (omega (arith, low))
 each-at change number zero (t ∷ ts) d e low = ap (λ n. change n t) (let z : number ≡ number + 0 = omega arith in z)
 each-at change number (suc i) (t ∷ ts) d e low = each-at change (number + 1) i ts d e (omega (arith, low)) ∙ ap (λ n. change n (get_or ts i e)) (let z : number + 1 + i ≡ number + suc i = omega arith in z)
@@ -41,9 +41,9 @@ learns b count =
     flushes_stay [] = refl
     flushes_stay (e ∷ es) = ap (λ n. flush_in e + n) (flushes_stay es)
 
-learns-stream : (there hands : Bool) (b : BlockTold) → side_kept (side_of (stream_met there hands b)) ≡ side_kept (side_of b)
-learns-stream true true b = learns (side_of b) (length (server_list b))
-learns-stream true false b = learns (side_of b) (length (server_list b))
+learns-stream : (there hands : Bool) (b : BlockTold) → side_kept (client_side (stream_met there hands b)) ≡ side_kept (client_side b)
+learns-stream true true b = learns (client_side b) (length (server_list b))
+learns-stream true false b = learns (client_side b) (length (server_list b))
 learns-stream false true b = refl
 learns-stream false false b = refl
 
@@ -51,7 +51,7 @@ track_meets : (ops : List Op) (there hands : Bool) (t : TrackJudge) (b : TrackTo
 track_meets ops there hands t b h = record {
   client = record {
     client = h.client.client;
-    sides = h.client.sides ∙ sym (λ j. record { stream = learns-stream there hands b.stream j; commands = learns (side_of b.commands) (length (server_list b.commands)) j });
+    sides = h.client.sides ∙ sym (λ j. record { stream = learns-stream there hands b.stream j; commands = learns (client_side b.commands) (length (server_list b.commands)) j });
   };
   stream = stream_kept there hands t.stream b.stream h.stream;
   commands = stream_kept true false t.commands b.commands h.commands;

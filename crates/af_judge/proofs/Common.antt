@@ -35,7 +35,7 @@ pub use Rattle.af_life.specs.Looks.{HasWords, LegalLooks, all_command_events, as
 pub use Rattle.af_life.specs.Obeys.{after_looks, all_go_on, are_due, commanded, ended, free_slot, goes_on, holds, is_shut, must_wait, opens, shows_command, slot_for, told}
 unfoldable pub use Rattle.af_life.specs.Obeys.{obeyed}
 pub use Rattle.af_life.specs.Plain.{Plain, learnt_of}
-pub use Rattle.af_life.specs.Plays.{LegalTake, after_take, after_takes, counted, is_mixed_here, mixed_here, put_by, take_of, tracks_due}
+pub use Rattle.af_life.specs.Plays.{LegalTake, after_take, after_takes, look_counted, is_mixed_here, mixed_here, put_by, take_of, tracks_due}
 pub use Rattle.af_life.specs.Reports.{Case, reports, told_by_report}
 unfoldable pub use Rattle.af_life.specs.Reports.{by_report}
 pub use Rattle.af_life.specs.Serves.{HasDueLooks, IsServed, LegalTrack, after_commands, is_found_shut, served_to, status_due, stored_over}
@@ -57,15 +57,15 @@ pub use Rattle.af_model.proofs.Logic.{ahead-between, both_right}
 pub use Rattle.af_model.proofs.Splits.{legal_at, ones_append}
 pub use Rattle.af_model.proofs.UsedStates.{UseUpTo-more, UseUpTo-push, cold_done-before}
 pub use Rattle.af_model.specs.ClientCalls.{ClientKept, IsClientList, client_begins, client_call_events, client_events_of, client_keeps, client_kept}
-pub use Rattle.af_model.specs.Cycles.{Found, IsSeen, Listed, LooksBy, Mixes, TrackSlot, UseUpTo, after_look, cold_done, cold_of, cycle_events, cycle_of, has_exit, is_cold, is_exit, is_mixed, kept, last_used, mix_scale, mono_marks, state_of, submix_slot, taken_before, takes_shown, tally}
+pub use Rattle.af_model.specs.Cycles.{Found, IsSeen, Listed, LooksBy, Mixes, TrackSlot, UseUpTo, events_behind_look, cold_done, cold_of, cycle_events, cycle_of, has_exit, is_cold, is_exit, is_mixed, kept, last_used, mix_scale, mono_marks, state_of, submix_slot, taken_before, takes_shown, tally}
 pub use Rattle.af_model.specs.Draft.{attached, detached, initial}
 pub use Rattle.af_model.specs.Fates.{InTurn, drops_none}
-pub use Rattle.af_model.specs.History.{HasHistory, IsLegal, May, Moment, by_client, by_hand, by_server, client_of, clients_at, flush_in, flushes_of, hand_of, is_lawful, is_tame, met_in, server_of, taken_of, with_taken}
+pub use Rattle.af_model.specs.History.{HasHistory, IsLegal, May, Moment, by_client, by_hand, by_server, client_of, clients_at, flush_in, flushes_of, hand_of, is_lawful, is_no_poke, met_in, server_of, taken_of, with_taken}
 pub use Rattle.af_model.specs.JournalForm.{AreEntries, IsEntry, IsJournal, IsOpenTurn, IsTake, IsTurn, TracksRise}
 pub use Rattle.af_model.specs.Journals.{EntrySeen, JournalData, RoundSeen, entries_of, frames_of, no_round, round_at, slot_frames}
 unfoldable pub use Rattle.af_model.specs.Journals.{taken_by}
-pub use Rattle.af_model.specs.NewestValue.{CellPoint, legal, next}
-pub use Rattle.af_model.specs.Order.{Event, HasOrder, Legal, after, one, ones, two, twos}
+pub use Rattle.af_model.specs.NewestValue.{CellPoint, legal_value, next_value}
+pub use Rattle.af_model.specs.Order.{Event, HasOrder, Legal, point_after, one, ones, two, twos}
 pub use Rattle.af_model.specs.PipeHistory.{HasPipeHistory, IsPutList, IsTakeList, PipePoint, PutKept, after_put, is_taking, may_put, nothing_put, releases_of, room_by}
 pub use Rattle.af_model.specs.Point.{ClientMay, ServerMay, after_client, after_hand, after_server, drop_end, start, wrapped}
 pub use Rattle.af_model.specs.Reports.{ServerKnown, counted_look, no_report, no_slot, report_at}
@@ -87,7 +87,7 @@ pub use Rattle.af_runs.specs.Clients.{Client, after_answer, asked_first, at_next
 pub use Rattle.af_runs.specs.Found.{LegalTurnBy, TurnFound, outside_of, outside_with, take_front}
 pub use Rattle.af_runs.specs.Fronts.{behind, flushed_front, front_by_answer, front_of, fronts_by, is_own_inside, is_shown, lawful_front, leaves_open}
 pub use Rattle.af_runs.specs.Rounds.{AreMixedBut, IsFastTurn, KeepsHistory, LegalEntries, LegalEntry, LegalFastTurn, LegalNormalTurn, SharedHistories, TrackHistories, after_round, after_turn, all_played, before_turn, early_count, early_of, fills, found_for, found_in, is_early, late_of, loaded, met_after, turned}
-pub use Rattle.af_runs.specs.Runs.{Run, TrackTold, commands_turned, draft_after, each_from, each_track, fast_ended, frames_before, known_of, last_report, mixed_track, new_run, next_report, no_track, pipe_cells, played, plays, pushed_by, report_of, side_of, sides_of, state_for, stream_met, stream_of, stream_turned, takes_part, told_at, track_met, turned_track, with_cycle, with_cycles, with_looks, with_side}
+pub use Rattle.af_runs.specs.Runs.{Run, TrackTold, commands_turned, draft_after, changed_from, each_track, fast_ended, frames_before, known_of, last_report, mixed_track, new_run, next_report, no_track, pipe_cells, played, shows_slot, pushed_by, report_of, client_side, sides_of, state_for, stream_met, stream_of, stream_turned, takes_part, told_at, track_met, turned_track, with_cycle, with_cycles, with_looks, with_side}
 unfoldable pub use Rattle.af_runs.specs.Runs.{met, with_calls, with_ends, with_load, with_mix, with_poll, with_turn}
 pub use Rattle.af_runs.specs.Sessions.{Session, command_shape, cycle_frames, setup_of, spec_of, spec_setting, track_count}
 pub use Rattle.af_runs.specs.Told.{HasPipeTold, HasQueueHistory, HasReportHistory, Item, PipeTold, QueueTold, ReportTold, is_look_at, is_pushed, items_of, mutator_does, observer_does, poll_events, queue_met, report_met, state_at, was_seen}

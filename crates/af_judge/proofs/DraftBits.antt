@@ -5,7 +5,7 @@ use Rattle.std.specs.Int.{bit_at}
 use Rattle.std.proofs.lemmas.Nat.Bits.{bit_at-suc, bit_at-zero}
 use mathlib.Core.Logic.{dite}
 use native.Mathlib.Decide.{ℕ_discrete}
-use Rattle.af_model.specs.StateQueue.{slots, no_track}
+use Rattle.af_model.specs.StateQueue.{slots, no_fast_track}
 use Rattle.std.specs.Prelude.{◌+◌}
 
 module _ (slot : ℕ) (mono : Bool) (scale track : ℕ) (x : FastState) (low : 1 ≤ slot) (lt : slot < slots) (state : IsState x) where
@@ -19,10 +19,10 @@ module _ (slot : ℕ) (mono : Bool) (scale track : ℕ) (x : FastState) (low : 1
   attached_else i ne = ap (λ b. not (i == 0) && (b == 1)) (set_other x.mask slot i ne)
 
   pub slot_here : slot_of y slot ≡ (record { generation = (slot_of x slot).generation + 1; track = track; mono = mono; scale = scale })
-  slot_here = get_or-set_same x.slots slot _ no_track (let w = state.whole in omega arith)
+  slot_here = get_or-set_same x.slots slot _ no_fast_track (let w = state.whole in omega arith)
 
   pub slot_else : (i : ℕ) → i ≢ slot → slot_of y i ≡ slot_of x i
-  slot_else i ne = get_or-set_other x.slots slot i _ no_track ne
+  slot_else i ne = get_or-set_other x.slots slot i _ no_fast_track ne
 
   pub attached_state : scale ≤ 4096 → IsState y
   attached_state fine = record {
@@ -60,7 +60,7 @@ module _ (frames : ℕ) where
 
   scaled : (i : ℕ) → i < slots → (slot_of (initial frames) i).scale ≤ 4096
   scaled zero lt = omega arith
-  scaled (suc i) lt = let e : (slot_of (initial frames) (suc i)).scale ≡ 0 = ap (λ (t : FastTrack). t.scale) (get_or-replicate (slots - 1) i no_track no_track (omega arith)) in omega arith
+  scaled (suc i) lt = let e : (slot_of (initial frames) (suc i)).scale ≡ 0 = ap (λ (t : FastTrack). t.scale) (get_or-replicate (slots - 1) i no_fast_track no_fast_track (omega arith)) in omega arith
 
   pub initial_state : IsState (initial frames)
   initial_state = record { whole = refl; submix = refl; scaled = scaled }

@@ -1,6 +1,6 @@
 -- An entry is right by what a judge keeps exactly if it is a legal entry of the run.
 use Rattle.std.proofs.Common.{◌≡◌, ◌↔◌, ℕ, zero, suc, ◌+◌, ◌^◌, ◌<◌, ◌≤◌, ◌==◌, nat_le, Bool, true, false, true≢false, if◌then◌else◌, is_some, unwrap_or, refl, sym, ap, ◌∙◌, subst, List, [], ◌∷◌, ◌++◌, length, map, Option, Some, None, eqb-true, arith}
-use Rattle.af_judge.proofs.Common.{ClientEvent, EntrySeen, Event, FastState, Found, Frame, IsEntry, LegalEntry, Listed, LooksBy, Marks, MatchOption, Mixes, Report, Run, ServerEvent, Session, SlotEntry, TrackSlot, after_look, append_cancel_left, both as both-true, carries, cold_done, cycle_events, cycle_frames, cycle_of, entry_slot, found_for, frames_before, is_mixed, is_shown, kept, lawful_front, listed, look_at, look_events, one, packed_word, plays, shown_if, slice_get, slot_frames, slot_of, slots, state_at, state_for, state_known, state_of, stream_of, submix_slot, takes_shown, two, twos, with_mix, with_poll, wrapped}
+use Rattle.af_judge.proofs.Common.{ClientEvent, EntrySeen, Event, FastState, Found, Frame, IsEntry, LegalEntry, Listed, LooksBy, Marks, MatchOption, Mixes, Report, Run, ServerEvent, Session, SlotEntry, TrackSlot, events_behind_look, append_cancel_left, both as both-true, carries, cold_done, cycle_events, cycle_frames, cycle_of, entry_slot, found_for, frames_before, is_mixed, is_shown, kept, lawful_front, listed, look_at, look_events, one, packed_word, shows_slot, shown_if, slice_get, slot_frames, slot_of, slots, state_at, state_for, state_known, state_of, stream_of, submix_slot, takes_shown, two, twos, with_mix, with_poll, wrapped}
 use Rattle.af_base.specs.declared.event.ServerEvent.TheVariants as server
 use Rattle.af_base.specs.declared.seen.Seen.TheVariants as seen
 use Rattle.af_judge.specs.declared.track_judge.TrackJudge.{TrackJudge}
@@ -25,7 +25,7 @@ second-front _ = 0
 
 -- the events of a look by a server that was shut or wasn't
 abbrev events_by : ℕ → SlotEntry → Bool → ℕ → List ServerEvent
-events_by asked slot shut front = server.SawGain slot.gains ∷ (if shut then [] else look_events slot.seen slot.flush slot.rear front) ++ after_look asked shut slot.seen
+events_by asked slot shut front = server.SawGain slot.gains ∷ (if shut then [] else look_events slot.seen slot.flush slot.rear front) ++ events_behind_look asked shut slot.seen
 
 -- a look answers by any front that tells the same events
 front-told : (asked : ℕ) (s : Listed) (slot : SlotEntry) (f g : ℕ) → cycle_events asked s slot f ≡ cycle_events asked s slot g → LooksBy asked s slot f → LooksBy asked s slot g
@@ -94,7 +94,7 @@ module _ (s : Session) (marks : Marks) (r : Run) (e : EntrySeen) (f : FastKept) 
         no-other : (j : ℕ) → j < i → (b : Bool) → plays_track x e.entry n j ≡ b → plays_track x e.entry n j ≡ false
         no-other j less false is = is
         no-other j less true is =
-            let both = both-true (plays x e.entry j) ((slot_of x j).track == n) is in
+            let both = both-true (shows_slot x e.entry j) ((slot_of x j).track == n) is in
             let same : j ≡ i = apart j i (omega (arith, less, low)) low (both-true (carries x j) (is_shown (entry_slot e.entry j).seen) both.0).0 carried (eqb-true (slot_of x j).track n both.1) in
             absurd (let z : ⊥ = omega (arith, less, same) in z)
 

@@ -1,8 +1,8 @@
 -- The stream blocks of all tracks follow an entry as the run tells it.
 use Rattle.std.proofs.Common.{◌≡◌, ℕ, zero, suc, ◌^◌, ◌<◌, ◌≤◌, Bool, true, false, if◌then◌else◌, unwrap_or, refl, sym, ap, ◌∙◌, subst, List, length, length-set, map, Option, Some, None, arith}
-use Rattle.af_judge.proofs.Common.{BlockTold, CycleEntry, EntrySeen, FastState, Frame, Marks, Run, Session, Shape, TrackTold, cycle_frames, entry_slot, frames_taken, get_or_from_slice_get, mixed_track, no_track, packed_word, played, plays, sides_of, slice_get, slice_get-get_or, slice_get_within, slice_set, slot_of, slots, spec_of, state_for, told_at, with_looks}
+use Rattle.af_judge.proofs.Common.{BlockTold, CycleEntry, EntrySeen, FastState, Frame, Marks, Run, Session, Shape, TrackTold, cycle_frames, entry_slot, frames_taken, get_or_from_slice_get, mixed_track, no_track, packed_word, played, shows_slot, sides_of, slice_get, slice_get-get_or, slice_get_within, slice_set, slot_of, slots, spec_of, state_for, told_at, with_looks}
 use Rattle.af_judge.proofs.Basics.{each_at, each_long}
-use Rattle.af_runs.specs.Runs.{slot_for}
+use Rattle.af_runs.specs.Runs.{slot_playing}
 use Rattle.af_judge.specs.declared.track_judge.TrackJudge.{TrackJudge}
 use Rattle.af_judge.specs.Blocks.{BlockJudged, IsBlockOf, played_told}
 use Rattle.af_judge.specs.Entries.{CarriesApart, StandsIn, StreamsOf}
@@ -24,7 +24,7 @@ changed-long n change tracks = by_there (slice_get tracks n)
 played-long : (asked : ℕ) (x : FastState) (frames : List Frame) (entry : CycleEntry) (k : ℕ) (tracks : List TrackJudge) → length (slots_played asked x frames entry k tracks) ≡ length tracks
 unfolding slots_played
 played-long asked x frames entry zero tracks = refl
-played-long asked x frames entry (suc k) tracks = by_case (plays x entry k) ∙ played-long asked x frames entry k tracks
+played-long asked x frames entry (suc k) tracks = by_case (shows_slot x entry k) ∙ played-long asked x frames entry k tracks
   where
     by_case : (b : Bool) → (let before = slots_played asked x frames entry k tracks in
         length (if b then stream_changed (slot_of x k).track (played_told asked (entry_slot entry k) (map packed_word (frames_taken frames (entry_slot entry k)))) before else before) ≡ length before)
@@ -89,14 +89,14 @@ module _ (s : Session) (marks : Marks) (W : ℕ → Type 0) (r : Run) (e : Entry
 
   -- no shape changes, and no command block
   wrap-same : (n : ℕ) (b : TrackTold) → (mixed_track s x e n b).stream.shape ≡ b.stream.shape
-  wrap-same n b = by_slot (slot_for x e.entry n)
+  wrap-same n b = by_slot (slot_playing x e.entry n)
     where
       by_slot : (o : Option ℕ) → (elim o as (λ o. TrackTold) [ None ↦ b | Some i ↦ record b { stream = played (cycle_frames s) e i b.stream } ]).stream.shape ≡ b.stream.shape
       by_slot None = refl
       by_slot (Some i) = refl
 
   commands-same : (n : ℕ) (b : TrackTold) → (mixed_track s x e n b).commands ≡ b.commands
-  commands-same n b = by_slot (slot_for x e.entry n)
+  commands-same n b = by_slot (slot_playing x e.entry n)
     where
       by_slot : (o : Option ℕ) → (elim o as (λ o. TrackTold) [ None ↦ b | Some i ↦ record b { stream = played (cycle_frames s) e i b.stream } ]).commands ≡ b.commands
       by_slot None = refl

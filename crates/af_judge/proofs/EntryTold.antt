@@ -1,7 +1,7 @@
 -- What is kept of a run follows an entry, and the entry is right exactly if it is legal.
 use Rattle.std.proofs.Common.{◌≡◌, ◌↔◌, ℕ, zero, suc, ◌+◌, ◌==◌, if◌then◌else◌, unwrap_or, refl, sym, ◌∙◌, subst, List, [], ◌∷◌, length, Option, Some, None}
-use Rattle.af_judge.proofs.Common.{BlockTold, EntrySeen, FastState, Frame, IsEntry, LegalEntry, Marks, NormalKept, Report, Run, Session, TrackTold, cycle_frames, each_from, frames_before, mixed_track, no_track, played, slice_index_or, slots, state_among, state_at, state_for, state_of, told_at, track_count, with_cycle, with_looks, with_mix, with_poll}
-use Rattle.af_runs.specs.Runs.{slot_for}
+use Rattle.af_judge.proofs.Common.{BlockTold, EntrySeen, FastState, Frame, IsEntry, LegalEntry, Marks, NormalKept, Report, Run, Session, TrackTold, cycle_frames, changed_from, frames_before, mixed_track, no_track, played, slice_index_or, slots, state_among, state_at, state_for, state_of, told_at, track_count, with_cycle, with_looks, with_mix, with_poll}
+use Rattle.af_runs.specs.Runs.{slot_playing}
 use Rattle.af_judge.specs.declared.track_judge.TrackJudge.{TrackJudge}
 use Rattle.af_judge.specs.Entries.{CarriesApart, CarriesWithin, FastOf, StandsIn}
 use Rattle.af_judge.specs.FastKept.{FastKept, IsEntryRight, entry_told, entry_tracks, fast_polled, slots_played}
@@ -14,7 +14,7 @@ use Rattle.af_judge.proofs.EntryStreams.{looks_long, streams_of, tracks_mixed}
 -- ## What an entry leaves as it was
 
 each-kept : {A : Type 0} (part : TrackTold → A) (change : ℕ → TrackTold → TrackTold) → ((n : ℕ) (t : TrackTold) → part (change n t) ≡ part t) → (m : ℕ) (ts : List TrackTold) (n : ℕ) (d : TrackTold)
-    → part (slice_index_or (each_from change m ts) n d) ≡ part (slice_index_or ts n d)
+    → part (slice_index_or (changed_from change m ts) n d) ≡ part (slice_index_or ts n d)
 each-kept part change same m [] n d = refl
 each-kept part change same m (t ∷ ts) zero d = same m t
 each-kept part change same m (t ∷ ts) (suc n) d = each-kept part change same (m + 1) ts n d
@@ -44,7 +44,7 @@ beside_both a b c x y = record {
 }
 
 mixed-part : {A : Type 0} (part : TrackTold → A) → ((t : TrackTold) (b : BlockTold) → part (record t { stream = b }) ≡ part t) → (s : Session) (x : FastState) (e : EntrySeen) (n : ℕ) (t : TrackTold) → part (mixed_track s x e n t) ≡ part t
-mixed-part part same s x e n t = by_slot (slot_for x e.entry n)
+mixed-part part same s x e n t = by_slot (slot_playing x e.entry n)
   where
     by_slot : (o : Option ℕ) → part (elim o as (λ o. TrackTold) [ None ↦ t | Some i ↦ record t { stream = played (cycle_frames s) e i t.stream } ]) ≡ part t
     by_slot None = refl

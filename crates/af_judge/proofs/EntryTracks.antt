@@ -1,7 +1,7 @@
 -- The tracks that a judge keeps follow an entry as the run tells it.
 use Rattle.std.proofs.Common.{◌≡◌, ◌⊎◌, inl, inr, ℕ, zero, suc, ◌+◌, ◌<◌, ◌≤◌, ◌==◌, ◌&&◌, Bool, true, false, true≢false, if◌then◌else◌, is_some, unwrap_or, refl, sym, ap, ◌∙◌, subst, List, length, length-set, map, Option, Some, None, eqb-true, arith}
-use Rattle.af_judge.proofs.Common.{ClientEvent, CycleEntry, EntrySeen, FastState, Frame, Session, Track, TrackTold, both as both-true, carries, cases_eq, count_seen, cycle_events, cycle_frames, entry_slot, eqb-false, find, frames_taken, front_of, get_or-set_other, get_or-set_same, get_or_from_slice_get, length-map, listed, mixed_track, packed_word, played, plays, range_with_len, server_does, sides_of, slice_get, slice_get-get_or, slice_get_within, slice_set, slot_of, slots, took}
-use Rattle.af_runs.specs.Runs.{slot_for}
+use Rattle.af_judge.proofs.Common.{ClientEvent, CycleEntry, EntrySeen, FastState, Frame, Session, Track, TrackTold, both as both-true, carries, cases_eq, count_seen, cycle_events, cycle_frames, entry_slot, eqb-false, find, frames_taken, front_of, get_or-set_other, get_or-set_same, get_or_from_slice_get, length-map, listed, mixed_track, packed_word, played, shows_slot, range_with_len, server_does, sides_of, slice_get, slice_get-get_or, slice_get_within, slice_set, slot_of, slots, took}
+use Rattle.af_runs.specs.Runs.{slot_playing}
 use Rattle.af_judge.specs.declared.track_judge.TrackJudge.{TrackJudge}
 use Rattle.af_judge.specs.Blocks.{BlockJudged, IsBlockOf, played_told}
 use Rattle.af_judge.specs.Entries.{CarriesApart, StandsIn}
@@ -37,7 +37,7 @@ module _ (n : ℕ) (change : BlockJudged → BlockJudged) (tracks : List TrackJu
 
 -- the slot plays the track
 abbrev pub plays_track : FastState → CycleEntry → ℕ → ℕ → Bool
-plays_track x entry n i = plays x entry i && ((slot_of x i).track == n)
+plays_track x entry n i = shows_slot x entry i && ((slot_of x i).track == n)
 
 module _ (asked : ℕ) (x : FastState) (frames : List Frame) (entry : CycleEntry) (n : ℕ) where
   -- a track played in a slot
@@ -48,7 +48,7 @@ module _ (asked : ℕ) (x : FastState) (frames : List Frame) (entry : CycleEntry
   change_in i = played_told asked (entry_slot entry i) (map packed_word (frames_taken frames (entry_slot entry i)))
 
   slot_other : (i : ℕ) (tracks : List TrackJudge) (t : TrackJudge) → plays_track x entry n i ≡ false → slice_get tracks n ≡ Some t → slice_get (slot_played asked x frames entry i tracks) n ≡ Some t
-  slot_other i tracks t unplayed is = by_case (plays x entry i) unplayed
+  slot_other i tracks t unplayed is = by_case (shows_slot x entry i) unplayed
     where
       by_case : (b : Bool) → (b && ((slot_of x i).track == n)) ≡ false → slice_get (if b then stream_changed (slot_of x i).track (change_in i) tracks else tracks) n ≡ Some t
       by_case true e = changed_other (slot_of x i).track (change_in i) tracks n t (λ same. eqb-false (slot_of x i).track n e (sym same)) is
@@ -56,7 +56,7 @@ module _ (asked : ℕ) (x : FastState) (frames : List Frame) (entry : CycleEntry
 
   slot_same : (i : ℕ) (tracks : List TrackJudge) (t : TrackJudge) → plays_track x entry n i ≡ true → slice_get tracks n ≡ Some t → slice_get (slot_played asked x frames entry i tracks) n ≡ Some (played_in i t)
   slot_same i tracks t shows is =
-      let both = both-true (plays x entry i) ((slot_of x i).track == n) shows in
+      let both = both-true (shows_slot x entry i) ((slot_of x i).track == n) shows in
       let same : n ≡ (slot_of x i).track = sym (eqb-true (slot_of x i).track n both.1) in
       ap (λ (b : Bool). slice_get (if b then stream_changed (slot_of x i).track (change_in i) tracks else tracks) n) both.0
       ∙ subst (λ (m : ℕ). slice_get (stream_changed m (change_in i) tracks) n ≡ Some (played_in i t)) same (changed_same n (change_in i) tracks t is)
@@ -125,9 +125,9 @@ pub record TrackMixed (s : Session) (x : FastState) (e : EntrySeen) (n : ℕ) (b
 
 pub track_mixed : (s : Session) (x : FastState) (e : EntrySeen) (frames : List Frame) (tracks : List TrackJudge) (n : ℕ) (t : TrackJudge) (b : TrackTold) → CarriesApart x → StandsIn frames e → slice_get tracks n ≡ Some t
     → TrackMixed s x e n t b (slots_played (cycle_frames s) x frames e.entry slots tracks)
-track_mixed s x e frames tracks n t b apart stands is = by_slot (slot_for x e.entry n) refl
+track_mixed s x e frames tracks n t b apart stands is = by_slot (slot_playing x e.entry n) refl
   where
-    by_slot : (o : Option ℕ) → slot_for x e.entry n ≡ o → TrackMixed s x e n t b (slots_played (cycle_frames s) x frames e.entry slots tracks)
+    by_slot : (o : Option ℕ) → slot_playing x e.entry n ≡ o → TrackMixed s x e n t b (slots_played (cycle_frames s) x frames e.entry slots tracks)
     by_slot None o =
         let left : (mixed_track s x e n b).stream ≡ b.stream = ap (λ (q : Option ℕ). (elim q as (λ o. TrackTold) [ None ↦ b | Some i ↦ record b { stream = played (cycle_frames s) e i b.stream } ]).stream) o in
         record {
@@ -141,7 +141,7 @@ track_mixed s x e frames tracks n t b apart stands is = by_slot (slot_for x e.en
         }
     by_slot (Some i) o =
         let at = found-at (plays_track x e.entry n) 0 slots i o in
-        let here = both-true (plays x e.entry i) ((slot_of x i).track == n) at.holds in
+        let here = both-true (shows_slot x e.entry i) ((slot_of x i).track == n) at.holds in
         let asked = cycle_frames s in
         let slot = entry_slot e.entry i in
         let words = map packed_word (frames_taken frames slot) in
@@ -152,7 +152,7 @@ track_mixed s x e frames tracks n t b apart stands is = by_slot (slot_for x e.en
         record {
           track = played_in asked x frames e.entry n i t;
           is = played_once asked x frames e.entry n i slots tracks t at.high at.holds
-              (λ j low p. let there = both-true (plays x e.entry j) ((slot_of x j).track == n) p in
+              (λ j low p. let there = both-true (shows_slot x e.entry j) ((slot_of x j).track == n) p in
               apart j i low at.high (both-true (carries x j) _ there.0).0 (both-true (carries x i) _ here.0).0 (eqb-true (slot_of x j).track n there.1 ∙ sym (eqb-true (slot_of x i).track n here.1))) is;
           client = refl;
           commands = refl;
@@ -163,7 +163,7 @@ track_mixed s x e frames tracks n t b apart stands is = by_slot (slot_for x e.en
 
 -- the client's side of the track is as it was
 pub mixed_sides : (s : Session) (x : FastState) (e : EntrySeen) (n : ℕ) (b : TrackTold) → sides_of (mixed_track s x e n b) ≡ sides_of b
-mixed_sides s x e n b = by_slot (slot_for x e.entry n)
+mixed_sides s x e n b = by_slot (slot_playing x e.entry n)
   where
     by_slot : (o : Option ℕ) → sides_of (elim o as (λ o. TrackTold) [ None ↦ b | Some i ↦ record b { stream = played (cycle_frames s) e i b.stream } ]) ≡ sides_of b
     by_slot None = refl

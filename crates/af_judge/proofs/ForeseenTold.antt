@@ -1,6 +1,6 @@
 -- What the judge foresees of entries is what it would tell of them.
 use Rattle.std.proofs.Common.{◌≡◌, ℕ, zero, suc, ◌+◌, Bool, true, false, if◌then◌else◌, refl, sym, ap, ◌∙◌, map, List, [], ◌∷◌, Option, Some, None}
-use Rattle.af_judge.proofs.Common.{CycleEntry, FastState, Frame, Heard, Listed, entry_slot, frames_taken, known_by, map-set, option_map, packed_word, plays, range_with_len, slice_get, slice_get-map, slice_set, slot_of, slots}
+use Rattle.af_judge.proofs.Common.{CycleEntry, FastState, Frame, Heard, Listed, entry_slot, frames_taken, known_by, map-set, option_map, packed_word, shows_slot, range_with_len, slice_get, slice_get-map, slice_set, slot_of, slots}
 use Rattle.af_judge.specs.declared.track_judge.TrackJudge.{TrackJudge}
 use Rattle.af_judge.specs.Blocks.{BlockJudged, listed_in, played_told}
 use Rattle.af_judge.specs.EntriesTold.{Playing, entries_leave, entry_leaves}
@@ -27,7 +27,7 @@ changed-servers n change by tracks same = by_there (slice_get tracks n) refl ∙
 
 module _ (asked : ℕ) (x : FastState) (frames : List Frame) (entry : CycleEntry) where
   slot-servers : (i : ℕ) (tracks : List TrackJudge) → servers_at (slot_played asked x frames entry i tracks) ≡ slot_foreseen asked x entry i (servers_at tracks)
-  slot-servers i tracks = by_case (plays x entry i)
+  slot-servers i tracks = by_case (shows_slot x entry i)
     where
       by_case : (b : Bool) → servers_at (if b then stream_changed (slot_of x i).track (played_told asked (entry_slot entry i) (map packed_word (frames_taken frames (entry_slot entry i)))) tracks else tracks)
           ≡ (if b then server_changed (slot_of x i).track (looked_by asked (entry_slot entry i)) (servers_at tracks) else servers_at tracks)

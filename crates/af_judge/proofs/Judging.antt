@@ -6,7 +6,7 @@ use Rattle.af_base.specs.declared.event.ClientCall.TheVariants as call
 use Rattle.af_runs.specs.declared.want.ClientCommand.{ClientCommand}
 use Rattle.af_runs.specs.declared.want.ClientCommand.TheVariants as command
 use Rattle.af_runs.specs.declared.want.Want.TheVariants as want
-use Rattle.af_runs.specs.Clients.{code_of}
+use Rattle.af_runs.specs.Clients.{command_code}
 use Rattle.af_runs.specs.ClientTurns.{side_of}
 use Rattle.af_judge.specs.Judging.{SideKept, side_kept, AnswersBy, MadeBy, WantedBy, argument_by, kept_called, kept_for, sides_called, sides_kept, words_of, flushes_asked}
 
@@ -57,7 +57,7 @@ argument-by t command.Open = refl
 argument-by t _ = refl
 
 wanted-by : (t : Track) (wanted : Want) (answer : ClientCall) → IsWanted t wanted answer ≡ WantedBy (side_kept t.stream) wanted answer
-wanted-by t (want.Send sending) answer = ap (λ n. is_send (code_of sending) n answer ≡ true) (argument-by t sending)
+wanted-by t (want.Send sending) answer = ap (λ n. is_send (command_code sending) n answer ≡ true) (argument-by t sending)
 wanted-by t _ answer = refl
 
 kept-either : (b : Bool) (x y : Side) → side_kept (if b then x else y) ≡ (if b then side_kept x else side_kept y)

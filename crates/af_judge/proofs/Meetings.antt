@@ -1,6 +1,6 @@
 -- A meeting of two parties cuts an order of their events: what each did before it stands before what either does after it.
 use Rattle.std.proofs.Common.{◌≡◌, ℕ, suc, ◌+◌, ◌≤◌, List, [], ◌∷◌, ◌++◌, length, refl, sym, ap, ◌∙◌, subst, arith}
-use Rattle.af_judge.proofs.Common.{Event, HasOrder, Legal, after, one, ones, ones_append, two, twos}
+use Rattle.af_judge.proofs.Common.{Event, HasOrder, Legal, point_after, one, ones, ones_append, two, twos}
 
 tail_of : {A : Type 0} → List A → List A
 tail_of [] = []
@@ -81,9 +81,9 @@ module _ {P A B : Type 0} (legal : P → Event A B → Type 0) (next : P → Eve
     -- an order cut at the meeting: before it, and after both halves of it
     pub record IsCut (p : P) (xs : List A) (ys : List B) (later : List A) (looks : List B) : Type 0 where
       pub before : HasOrder legal next p xs ys
-      pub may_a : legal (after legal next p before.order) (one a)
-      pub may_b : legal (next (after legal next p before.order) (one a)) (two b)
-      pub behind : HasOrder legal next (next (next (after legal next p before.order) (one a)) (two b)) later looks
+      pub may_a : legal (point_after legal next p before.order) (one a)
+      pub may_b : legal (next (point_after legal next p before.order) (one a)) (two b)
+      pub behind : HasOrder legal next (next (next (point_after legal next p before.order) (one a)) (two b)) later looks
 
     cut_one : (p : P) (x : A) (xs : List A) (ys : List B) (later : List A) (looks : List B) → legal p (one x) → IsCut (next p (one x)) xs ys later looks → IsCut p (x ∷ xs) ys later looks
     cut_one p x xs ys later looks may c = record {
@@ -148,7 +148,7 @@ module _ {P A B : Type 0} (legal : P → Event A B → Type 0) (next : P → Eve
         let same : z ≡ b = ap (head_or b) f in
         absurd (omega (arith, n, m.b_knows p (subst (λ w. legal p (two w)) same l.0)))
 
-  pub legal_both : (p : P) (es fs : List (Event A B)) → Legal legal next p es → Legal legal next (after legal next p es) fs → Legal legal next p (es ++ fs)
+  pub legal_both : (p : P) (es fs : List (Event A B)) → Legal legal next p es → Legal legal next (point_after legal next p es) fs → Legal legal next p (es ++ fs)
   legal_both p [] fs l k = k
   legal_both p (e ∷ es) fs l k = (l.0, legal_both (next p e) es fs l.1 k)
 

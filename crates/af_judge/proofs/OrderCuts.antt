@@ -1,11 +1,11 @@
 -- Orders of two lists that were cut at a meeting go on to the next one, and are cut there.
 use Rattle.std.proofs.Common.{◌≡◌, ◌↔◌, ℕ, ◌+◌, List, [], ◌∷◌, ◌++◌, length, refl, sym, ap, ◌∙◌, subst, append_assoc}
-use Rattle.af_judge.proofs.Common.{Event, HasOrder, Legal, after, one, ones_append, two}
+use Rattle.af_judge.proofs.Common.{Event, HasOrder, Legal, point_after, one, ones_append, two}
 use Rattle.af_judge.specs.SharedTold.{IsCutAt}
 use Rattle.af_judge.proofs.Meetings.{IsCut, IsMeeting, cut_at, joined_at, legal_both, twos_both}
 
 module _ {P A B : Type 0} (legal : P → Event A B → Type 0) (next : P → Event A B → P) where
-  after_both : (p : P) (es fs : List (Event A B)) → after legal next p (es ++ fs) ≡ after legal next (after legal next p es) fs
+  after_both : (p : P) (es fs : List (Event A B)) → point_after legal next p (es ++ fs) ≡ point_after legal next (point_after legal next p es) fs
   after_both p [] fs = refl
   after_both p (e ∷ es) fs = after_both (next p e) es fs
 
@@ -33,7 +33,7 @@ module _ {P A B : Type 0} (legal : P → Event A B → Type 0) (next : P → Eve
 
     -- the meeting is legal after each order of what came before it
     abbrev May : Type 0
-    May = (h : HasOrder legal next point later looks) → legal (after legal next point h.order) (one a) × legal (next (after legal next point h.order) (one a)) (two b)
+    May = (h : HasOrder legal next point later looks) → legal (point_after legal next point h.order) (one a) × legal (next (point_after legal next point h.order) (one a)) (two b)
 
     with_meeting : May → HasOrder legal next point later looks → HasOrder legal next from (xs ++ (later ++ a ∷ [])) (ys ++ (looks ++ b ∷ []))
     with_meeting may h =
@@ -45,14 +45,14 @@ module _ {P A B : Type 0} (legal : P → Event A B → Type 0) (next : P → Eve
     meeting_exact may = (with_meeting may, λ h. (cut_there [] [] (c.goes_on (later ++ a ∷ []) (looks ++ b ∷ []) h)).before)
 
     -- the lists are cut at the meeting, if each order before it leaves the same point
-    pub cut_meets : May → (left : P) → ((h : HasOrder legal next point later looks) → after legal next point h.order ≡ left) → HasOrder legal next point later looks
+    pub cut_meets : May → (left : P) → ((h : HasOrder legal next point later looks) → point_after legal next point h.order ≡ left) → HasOrder legal next point later looks
         → IsCutAt legal next from (next (next left (one a)) (two b)) (xs ++ (later ++ a ∷ [])) (ys ++ (looks ++ b ∷ []))
     unfolding with_meeting join_cut joined_at
     cut_meets may left same h = record {
       order = with_meeting may h;
       leaves =
           after_both from c.order.order (h.order ++ one a ∷ two b ∷ [])
-          ∙ (ap (λ p. after legal next p (h.order ++ one a ∷ two b ∷ [])) c.leaves
+          ∙ (ap (λ p. point_after legal next p (h.order ++ one a ∷ two b ∷ [])) c.leaves
           ∙ (after_both point h.order (one a ∷ two b ∷ []) ∙ ap (λ p. next (next p (one a)) (two b)) (same h)));
       goes_on = λ more also g.
           (let all : HasOrder legal next from (xs ++ (later ++ a ∷ more)) (ys ++ (looks ++ b ∷ also)) = subst (λ (l : List A × List B). HasOrder legal next from l.0 l.1)

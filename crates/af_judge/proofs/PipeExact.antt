@@ -6,7 +6,7 @@ use Rattle.af_base.specs.declared.event.ClientEvent.TheVariants as client
 use Rattle.af_base.specs.declared.event.ServerEvent.TheVariants as server
 use Rattle.af_judge.proofs.Basics.{server_put}
 use Rattle.af_model.specs.History.{after}
-use Rattle.af_model.specs.PipeHistory.{legal, next}
+use Rattle.af_model.specs.PipeHistory.{legal_in_pipe, next_in_pipe}
 use Rattle.af_model.specs.PipeHistory as pipe
 use Rattle.af_model.proofs.Fates.{begins}
 use Rattle.af_model.proofs.PipeOrders.{pipe_history}
@@ -103,16 +103,16 @@ after_two : (order : List Moment) (e : ServerEvent) (es : List (Event ClientEven
 after_two order e es g = record { more = g.more; legal_is = g.legal_is; client_is = g.client_is; server_is = g.server_is ∙ append_assoc (server_of order) (e ∷ []) (twos es); hand_is = g.hand_is }
 
 module _ (size : ℕ) where
-  goes_on : (es : List (Event ClientEvent ServerEvent)) (order : List Moment) (q : PipePoint) → IsLegal pipe_begins order → Matches q order → Legal (legal size) next q es → GoesOn order es
+  goes_on : (es : List (Event ClientEvent ServerEvent)) (order : List Moment) (q : PipePoint) → IsLegal pipe_begins order → Matches q order → Legal (legal_in_pipe size) next_in_pipe q es → GoesOn order es
   goes_on [] order q l m legals = record { more = order; legal_is = l; client_is = sym (append-nil (client_of order)); server_is = sym (append-nil (server_of order)); hand_is = refl }
   goes_on (one (client.Release count) ∷ es) order q l m legals =
-      after_one order (client.Release count) es (goes_on es (by_client (client.Release count) ∷ order) (next q (one (client.Release count))) (tt, l)
+      after_one order (client.Release count) es (goes_on es (by_client (client.Release count) ∷ order) (next_in_pipe q (one (client.Release count))) (tt, l)
       (record { put = ap (λ n. n + count) m.put; taken = m.taken; shown = m.shown; puts = one_more (client_of order) (client.Release count) q.puts m.puts; takes = m.takes }) legals.1)
   goes_on (one (client.SawFront front) ∷ es) order q l m legals =
-      after_one order (client.SawFront front) es (goes_on es (by_client (client.SawFront front) ∷ order) (next q (one (client.SawFront front))) (legals.0.0 ∙ ap wrapped (sym m.taken), l)
+      after_one order (client.SawFront front) es (goes_on es (by_client (client.SawFront front) ∷ order) (next_in_pipe q (one (client.SawFront front))) (legals.0.0 ∙ ap wrapped (sym m.taken), l)
       (record { put = m.put; taken = m.taken; shown = m.shown; puts = one_more (client_of order) (client.SawFront front) q.puts m.puts; takes = m.takes }) legals.1)
   goes_on (one (client.Learn count) ∷ es) order q l m legals =
-      after_one order (client.Learn count) es (goes_on es (by_client (client.Learn count) ∷ order) (next q (one (client.Learn count))) (subst (λ n. count ≤ n) (sym m.takes) legals.0, l)
+      after_one order (client.Learn count) es (goes_on es (by_client (client.Learn count) ∷ order) (next_in_pipe q (one (client.Learn count))) (subst (λ n. count ≤ n) (sym m.takes) legals.0, l)
       (record { put = m.put; taken = m.taken; shown = m.shown; puts = one_more (client_of order) (client.Learn count) q.puts m.puts; takes = m.takes }) legals.1)
   goes_on (one client.Flush ∷ es) order q l m legals = absurd legals.0
   goes_on (one (client.SetGain word) ∷ es) order q l m legals = absurd legals.0
@@ -121,17 +121,17 @@ module _ (size : ℕ) where
   goes_on (one (client.SawStatus word) ∷ es) order q l m legals = absurd legals.0
   goes_on (one (client.Poke word value) ∷ es) order q l m legals = absurd legals.0
   goes_on (two (server.SawRear rear) ∷ es) order q l m legals =
-      after_two order (server.SawRear rear) es (goes_on es (by_server (server.SawRear rear) ∷ order) (next q (two (server.SawRear rear))) (legals.0 ∙ ap wrapped (sym m.put), l)
+      after_two order (server.SawRear rear) es (goes_on es (by_server (server.SawRear rear) ∷ order) (next_in_pipe q (two (server.SawRear rear))) (legals.0 ∙ ap wrapped (sym m.put), l)
       (record { put = m.put; taken = m.taken; shown = m.put; puts = m.puts; takes = one_more (server_of order) (server.SawRear rear) q.takes m.takes }) legals.1)
   goes_on (two (server.SawFront front) ∷ es) order q l m legals =
-      after_two order (server.SawFront front) es (goes_on es (by_server (server.SawFront front) ∷ order) (next q (two (server.SawFront front))) (legals.0 ∙ ap wrapped (sym m.taken), l)
+      after_two order (server.SawFront front) es (goes_on es (by_server (server.SawFront front) ∷ order) (next_in_pipe q (two (server.SawFront front))) (legals.0 ∙ ap wrapped (sym m.taken), l)
       (record { put = m.put; taken = m.taken; shown = m.shown; puts = m.puts; takes = one_more (server_of order) (server.SawFront front) q.takes m.takes }) legals.1)
   goes_on (two (server.Take count) ∷ es) order q l m legals =
-      after_two order (server.Take count) es (goes_on es (by_server (server.Take count) ∷ order) (next q (two (server.Take count)))
+      after_two order (server.Take count) es (goes_on es (by_server (server.Take count) ∷ order) (next_in_pipe q (two (server.Take count)))
       (subst (λ n. n + count ≤ (after pipe_begins order).rear_seen) (sym m.taken) (subst (λ n. q.taken + count ≤ n) (sym m.shown) legals.0), l)
       (record { put = m.put; taken = ap (λ n. n + count) m.taken; shown = m.shown; puts = m.puts; takes = one_more (server_of order) (server.Take count) q.takes m.takes }) legals.1)
   goes_on (two (server.Learn count) ∷ es) order q l m legals =
-      after_two order (server.Learn count) es (goes_on es (by_server (server.Learn count) ∷ order) (next q (two (server.Learn count))) (subst (λ n. count ≤ n) (sym m.puts) legals.0, l)
+      after_two order (server.Learn count) es (goes_on es (by_server (server.Learn count) ∷ order) (next_in_pipe q (two (server.Learn count))) (subst (λ n. count ≤ n) (sym m.puts) legals.0, l)
       (record { put = m.put; taken = m.taken; shown = m.shown; puts = m.puts; takes = one_more (server_of order) (server.Learn count) q.takes m.takes }) legals.1)
   goes_on (two (server.SawGain word) ∷ es) order q l m legals = absurd legals.0
   goes_on (two (server.SawFlush flush) ∷ es) order q l m legals = absurd legals.0
@@ -142,7 +142,7 @@ module _ (size : ℕ) where
 
 order_of : (p : PipeKept) → HasPipeHistory p.size p.puts p.put p.takes p.taken → HasPipeOrder p
 order_of p h =
-    let g = goes_on p.size h.history.order [] pipe.start tt (record { put = refl; taken = refl; shown = refl; puts = refl; takes = refl }) h.history.is_legal in
+    let g = goes_on p.size h.history.order [] pipe.start_of_pipe tt (record { put = refl; taken = refl; shown = refl; puts = refl; takes = refl }) h.history.is_legal in
     (record { order = g.more; legal = g.legal_is; client_is = g.client_is ∙ h.history.of_one; server_is = g.server_is ∙ h.history.of_two; hand_is = g.hand_is }, h.begins)
 
 -- the one exactly if the other

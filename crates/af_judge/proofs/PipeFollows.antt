@@ -1,7 +1,7 @@
 -- What is kept of the pipe follows each step of a round, and each meeting is judged exactly if all turns were legal.
 use Rattle.std.specs.Prelude.{if◌then◌else◌, ◌==◌, ◌↔◌}
 use Rattle.std.proofs.Common.{◌≡◌, ℕ, suc, ◌+◌, ◌-◌, ◌%◌, ◌^◌, ◌≤◌, ◌&&◌, Bool, true, false, List, [], ◌∷◌, ◌++◌, fold, length, map, refl, sym, ap, ◌∙◌, subst, arith, append_assoc, append-nil, length-append}
-use Rattle.af_judge.proofs.Common.{ClientEvent, EntrySeen, Frame, HasPipeHistory, HasPipeTold, IsPutList, IsTakeList, Legal, LegalTurnBy, Marks, NormalKept, PipeTold, PutKept, RoundSeen, Run, Seen, ServerEvent, Session, Setup, TakeSeen, TrackKept, Turn, TurnFound, after, after_edits, after_put, ahead, asked, count_seen, each_track, ends, entry_slot, eqb-true, fold-append, frames_taken, is_mixed, is_taking, learnt, leb-false, leb-true, length-map, length-map-range_with_len, list_all, list_all-append, may_put, met, mixed_frame, mixed_here, nat_le, new_run, nothing_put, one, ones, packed_word, pipe_cells, pipe_size, put_by as frames_put, releases_of, room_by, setup_of, slot_frames, take_of, takes_shown, tracks_due, two, twos, with_calls, with_ends, with_load, with_mix, with_poll, with_turn, wrapped}
+use Rattle.af_judge.proofs.Common.{ClientEvent, EntrySeen, Frame, HasPipeHistory, HasPipeTold, IsPutList, IsTakeList, Legal, LegalTurnBy, Marks, NormalKept, PipeTold, PutKept, RoundSeen, Run, Seen, ServerEvent, Session, Setup, TakeSeen, TrackKept, Turn, TurnFound, point_after, after_edits, after_put, ahead, asked, count_seen, each_track, ends, entry_slot, eqb-true, fold-append, frames_taken, is_mixed, is_taking, learnt, leb-false, leb-true, length-map, length-map-range_with_len, list_all, list_all-append, may_put, met, mixed_frame, mixed_here, nat_le, new_run, nothing_put, one, ones, packed_word, pipe_cells, pipe_size, put_by as frames_put, releases_of, room_by, setup_of, slot_frames, take_of, takes_shown, tracks_due, two, twos, with_calls, with_ends, with_load, with_mix, with_poll, with_turn, wrapped}
 use Rattle.af_base.specs.declared.event.ClientEvent.TheVariants as client
 use Rattle.af_base.specs.declared.event.ServerEvent.TheVariants as server
 use Rattle.af_base.specs.declared.seen.Seen.TheVariants as seen
@@ -155,7 +155,7 @@ pub taken-append : (es fs : List ServerEvent) → taken_in (es ++ fs) ≡ taken_
 taken-append es fs = fold-append (λ (sofar : ℕ) (e : ServerEvent). sofar + taken_by e) 0 es fs ∙ fold_taken (taken_in es) fs
 
 module _ {P E : Type 0} (legal : P → E → Type 0) (next : P → E → P) where
-  legal_more : (p : P) (es fs : List E) → Legal legal next p es → Legal legal next (after legal next p es) fs → Legal legal next p (es ++ fs)
+  legal_more : (p : P) (es fs : List E) → Legal legal next p es → Legal legal next (point_after legal next p es) fs → Legal legal next p (es ++ fs)
   legal_more p [] fs l k = k
   legal_more p (e ∷ es) fs l k = (l.0, legal_more (next p e) es fs l.1 k)
 
@@ -163,7 +163,7 @@ put_more : (k : PutKept) (e : ClientEvent) → (after_put k e).put ≡ k.put + p
 put_more k (client.Release count) = refl
 put_more k _ = omega arith
 
-put_after : (size : ℕ) (k : PutKept) (es : List ClientEvent) → (after (may_put size) after_put k es).put ≡ k.put + put_in es
+put_after : (size : ℕ) (k : PutKept) (es : List ClientEvent) → (point_after (may_put size) after_put k es).put ≡ k.put + put_in es
 put_after size k [] = omega arith
 put_after size k (e ∷ es) = let a = put_after size (after_put k e) es in let b = put_more k e in let c = fold_put (0 + put_by e) es in omega (arith, a, b, c)
 
@@ -251,7 +251,7 @@ module _ (size put room : ℕ) (small : size ≤ 65536) (low : room ≤ size) wh
 -- a turn that sees so much room, and puts no more
 pub ends_put : (p : PipeKept) (room : ℕ) (frames : List Frame) → room ≤ p.size → length frames ≤ room → AreEnds p → AreEnds (with_put frames (saw_front (front_by_room p.size (length p.put) room) p))
 ends_put p room frames low few h =
-    let k = after (may_put p.size) after_put nothing_put p.puts in
+    let k = point_after (may_put p.size) after_put nothing_put p.puts in
     let put_is : k.put ≡ length p.put = put_after p.size nothing_put p.puts ∙ (let e = h.put_is in omega (arith, e)) in
     let more = released p.size (length p.put) room h.small low p.cells (length frames) k put_is few in
     let events = releases_of p.cells (length p.put) (length frames) in
@@ -293,8 +293,8 @@ ends_turned s marks f m e p legal size h = by_case e.ended refl
 -- the judge's answer is that of the run, if the lists are those of ends
 pub pipe_judged : (s : Session) (run : Run) (p : PipeKept) → PipeOf s run p → AreEnds p → HasPipeOrder (with_meeting p) ↔ HasPipeTold (pipe_size (setup_of s)) (met s run).pipe
 pipe_judged s run p h are =
-    let after = pipe_met_so s run p h in
+    let point_after = pipe_met_so s run p h in
     let there = (met s run).pipe in
     subst (λ (x : PipeKept). HasPipeOrder (with_meeting p) ↔ HasPipeHistory x.size x.puts x.put x.takes x.taken)
-    (λ j. record { size = after.size j; cells = p.cells; puts = after.puts j; put = after.put j; takes = after.takes j; taken = after.taken j })
+    (λ j. record { size = point_after.size j; cells = p.cells; puts = point_after.puts j; put = point_after.put j; takes = point_after.takes j; taken = point_after.taken j })
     (pipe_exact (with_meeting p) (ends_met p are))

@@ -1,7 +1,7 @@
 -- What is kept of the queue follows a run from step to step, and each meeting is judged exactly.
 use Rattle.std.specs.Prelude.{if◌then◌else◌, ◌==◌, ◌↔◌}
 use Rattle.std.proofs.Common.{◌≡◌, ℕ, suc, ◌+◌, ◌-◌, ◌<◌, ◌≤◌, ◌||◌, Bool, true, false, List, [], ◌∷◌, ◌++◌, fold, length, Option, unwrap_or, refl, sym, ap, ◌∙◌, subst, arith, append_assoc, append-nil, length-append}
-use Rattle.af_judge.proofs.Common.{FastState, HasOrder, HasQueueHistory, Item, MutatorEvent, MutatorPoint, ObserverEvent, ObserverPoint, Push, QueuePoint, QueueTold, after, fold-append, initial, is_look_at, is_pushed, items_of, list_any, list_any-append, mutator_does, ne_eqb, observer_does, one, ones, or_both, poll_events, queue_met, state_at, state_more, state_next, two, twos, was_seen}
+use Rattle.af_judge.proofs.Common.{FastState, HasOrder, HasQueueHistory, Item, MutatorEvent, MutatorPoint, ObserverEvent, ObserverPoint, Push, QueuePoint, QueueTold, point_after, fold-append, initial, is_look_at, is_pushed, items_of, list_any, list_any-append, mutator_does, ne_eqb, observer_does, one, ones, or_both, poll_events, queue_met, state_at, state_more, state_next, two, twos, was_seen}
 use Rattle.af_model.specs.declared.states.MutatorEvent.TheVariants as mutator
 use Rattle.af_model.specs.declared.states.ObserverEvent.TheVariants as observer
 use Rattle.af_model.specs.StateQueue as queued
@@ -20,17 +20,17 @@ use Rattle.af_judge.proofs.QueueSteps.{IsBetween, brought_again, brought_if, fin
 
 pub follows_first : (frames : ℕ) → QueueFollows frames [] 0 [] queue_begins
 follows_first frames = record {
-  point = queued.start (initial frames);
+  point = queued.start_of_queue (initial frames);
   firsts = [];
   seconds = [];
   later = [];
   also = [];
   told_one = refl;
   told_two = refl;
-  cut = cut_begins queued.legal queued.next (queued.start (initial frames));
+  cut = cut_begins queued.legal queued.next (queued.start_of_queue (initial frames));
   many_one = refl;
   many_two = refl;
-  fits = λ state f are. subst (λ x. Fits state (queued.start x) (numbers queue_begins.mutator queue_begins.observer) true 0) (are 0 (omega arith)) (fits_start state f);
+  fits = λ state f are. subst (λ x. Fits state (queued.start_of_queue x) (numbers queue_begins.mutator queue_begins.observer) true 0) (are 0 (omega arith)) (fits_start state f);
   tells_steps = λ state are. tt;
   tells_looks = λ state are. tt;
   pushed = refl;
@@ -259,7 +259,7 @@ module _ (frames : ℕ) (states : List FastState) (current : ℕ) (told : QueueT
     abbrev left : QueuePoint Item
     left = record { mutator = fold queued.mutator_next h.point.mutator h.later; observer = fold queued.observer_next h.point.observer h.also }
 
-    left_is : (g : Order) → after queued.legal queued.next h.point g.order ≡ left
+    left_is : (g : Order) → point_after queued.legal queued.next h.point g.order ≡ left
     left_is g = queue_after h.point g.order ∙ (λ j. record { mutator = fold queued.mutator_next h.point.mutator (g.of_one j); observer = fold queued.observer_next h.point.observer (g.of_two j) })
 
     abbrev learnt : ℕ
@@ -280,7 +280,7 @@ module _ (frames : ℕ) (states : List FastState) (current : ℕ) (told : QueueT
         subst (λ p. Fits state p (numbers (mutated q.mutator q.steps) (observed q.observer q.looks)) (mutated q.mutator q.steps).clear (observed q.observer q.looks).acked) (left_is g)
         (fits_after state f h.point (numbers q.mutator q.observer) q.mutator.clear q.observer.acked h.later h.also q.steps q.looks (h.fits state f are) (h.tells_steps state are) (h.tells_looks state are) g)
 
-    may_meet : (g : Order) → queued.legal (after queued.legal queued.next h.point g.order) (one (mutator.Learn learnt)) × queued.legal (queued.next (after queued.legal queued.next h.point g.order) (one (mutator.Learn learnt))) (two (observer.Learn known))
+    may_meet : (g : Order) → queued.legal (point_after queued.legal queued.next h.point g.order) (one (mutator.Learn learnt)) × queued.legal (queued.next (point_after queued.legal queued.next h.point g.order) (one (mutator.Learn learnt))) (two (observer.Learn known))
     may_meet g = subst (λ p. queued.legal p (one (mutator.Learn learnt)) × queued.legal (queued.next p (one (mutator.Learn learnt))) (two (observer.Learn known))) (sym (left_is g)) (
       (let e = observer_count h.point.observer h.also in let s = second_known in omega (arith, e, s)),
       ((let e = mutator_count h.point.mutator h.later in let s = first_known in omega (arith, e, s)), (fits_left state f (λ k low. refl) g).due ∙ h.none_due),
@@ -297,9 +297,9 @@ module _ (frames : ℕ) (states : List FastState) (current : ℕ) (told : QueueT
 
     order_told : Order ↔ HasQueueHistory frames (queue_met told)
     order_told =
-        subst (λ (l : List (MutatorEvent Item) × List (ObserverEvent Item)). Order ↔ HasOrder queued.legal queued.next (queued.start (initial frames)) l.0 l.1) (λ j. (sym met_one j, sym met_two j))
+        subst (λ (l : List (MutatorEvent Item) × List (ObserverEvent Item)). Order ↔ HasOrder queued.legal queued.next (queued.start_of_queue (initial frames)) l.0 l.1) (λ j. (sym met_one j, sym met_two j))
         (meeting_exact queued.legal queued.next (λ p. p.mutator.count) (λ p. p.observer.count) (mutator.Learn learnt) (observer.Learn known) known learnt (queue_meeting learnt known)
-        (queued.start (initial frames)) h.point h.firsts h.later h.seconds h.also h.cut first_known second_known may_meet)
+        (queued.start_of_queue (initial frames)) h.point h.firsts h.later h.seconds h.also h.cut first_known second_known may_meet)
 
     -- the numbers have a legal order exactly if the run's queue has its history
     pub follows_exact : HasRoundOrder q ↔ HasQueueHistory frames (queue_met told)
@@ -320,7 +320,7 @@ module _ (frames : ℕ) (states : List FastState) (current : ℕ) (told : QueueT
           told_one = met_one ∙ sym (append-nil (h.firsts ++ (h.later ++ mutator.Learn learnt ∷ [])));
           told_two = met_two ∙ sym (append-nil (h.seconds ++ (h.also ++ observer.Learn known ∷ [])));
           cut = cut_meets queued.legal queued.next (λ p. p.mutator.count) (λ p. p.observer.count) (mutator.Learn learnt) (observer.Learn known) known learnt (queue_meeting learnt known)
-              (queued.start (initial frames)) h.point h.firsts h.later h.seconds h.also h.cut first_known second_known may_meet left left_is g;
+              (queued.start_of_queue (initial frames)) h.point h.firsts h.later h.seconds h.also h.cut first_known second_known may_meet left left_is g;
           many_one =
               (let e = mutator_count h.point.mutator h.later in let s = first_known in let l = ap (λ (z : List (MutatorEvent Item)). length z) (sym met_one ∙ ones_met told (mutator.Learn learnt) (observer.Learn known)) in
               let w = length-append (ones told) (mutator.Learn learnt ∷ []) in omega (arith, e, s, l, w));
@@ -349,7 +349,7 @@ lost_none states told q h r =
 pub lost_exact : (frames states : ℕ) (told : QueueTold) (q : QueueKept) → QueueLost states told q → HasRoundOrder q ↔ HasQueueHistory frames (queue_met told)
 lost_exact frames states told q h = (
   λ r. absurd (lost_none states told q h r),
-  λ r. absurd (none_seen states r.order (queued.start (initial frames))
+  λ r. absurd (none_seen states r.order (queued.start_of_queue (initial frames))
       (let few : pushes_told (ones (queue_met told)) ≤ states = (let e = ap pushes_told (ones_met told (mutator.Learn (length (twos told))) (observer.Learn (length (ones told)))) ∙ learn_pushes_none (ones told) (length (twos told)) in let p = h.pushes in omega (arith, e, p)) in
       let same : pushes_told (ones r.order) ≤ states = subst (λ l. pushes_told l ≤ states) (sym r.of_one) few in omega (arith, same))
       (subst (SeesBeyond states) (sym (r.of_two ∙ twos_met told (mutator.Learn (length (twos told))) (observer.Learn (length (ones told))))) (sees_more states (twos told) (observer.Learn (length (ones told)) ∷ []) h.sees))

@@ -1,7 +1,7 @@
 -- The ends of the state queue have a legal order exactly if the numbers of their steps have one.
 use Rattle.std.specs.Prelude.{◌↔◌, ◌≢◌, if◌then◌else◌, ◌==◌}
 use Rattle.std.proofs.Common.{◌≡◌, ℕ, ◌+◌, ◌-◌, ◌<◌, ◌≤◌, ◌&&◌, ◌||◌, not, Bool, true, false, true≢false, List, [], ◌∷◌, length, Option, Some, None, refl, sym, ap, ◌∙◌, subst, arith, eqb-true, eq-eqb}
-use Rattle.af_judge.proofs.Common.{AreOf, Event, FastState, HasOrder, Item, Legal, MutatorEvent, ObserverEvent, QueuePoint, after, brought, carries, get_or-map-range_with_len, has, items_of, length-map-range_with_len, one, ones, two, twos}
+use Rattle.af_judge.proofs.Common.{AreOf, Event, FastState, HasOrder, Item, Legal, MutatorEvent, ObserverEvent, QueuePoint, point_after, brought, carries, get_or-map-range_with_len, has, items_of, length-map-range_with_len, one, ones, two, twos}
 use Rattle.af_model.specs.declared.states.MutatorEvent.TheVariants as mutator
 use Rattle.af_model.specs.declared.states.ObserverEvent.TheVariants as observer
 use Rattle.af_model.specs.StateQueue as queued
@@ -266,7 +266,7 @@ module _ (state : ℕ → FastState) (f : Follow state) where
     is_legal : Legal may_step number_next n order
     of_one : ones order ≡ ss
     of_two : twos order ≡ ls
-    fits : (let m = after may_step number_next n order in Fits state (after queued.legal queued.next q es) m m.first.clear m.second.acked)
+    fits : (let m = point_after may_step number_next n order in Fits state (point_after queued.legal queued.next q es) m m.first.clear m.second.acked)
 
   numbered_one : (q : QueuePoint Item) (n : Numbers) (e : MutatorEvent Item) (es : List (Event (MutatorEvent Item) (ObserverEvent Item))) (s : MutatorStep) (ss : List MutatorStep) (ls : List ObserverStep)
       → may_step n (one s) → Numbered (queued.next q (one e)) (number_next n (one s)) es ss ls → Numbered q n (one e ∷ es) (s ∷ ss) ls
@@ -326,15 +326,15 @@ module _ (state : ℕ → FastState) (f : Follow state) where
   -- the points fit after any such order, by what all these steps leave
   pub fits_after : (q : QueuePoint Item) (n : Numbers) (seen : Bool) (current : ℕ) (xs : List (MutatorEvent Item)) (ys : List (ObserverEvent Item)) (ss : List MutatorStep) (ls : List ObserverStep) → Fits state q n seen current
       → TellsSteps state n.first.pushed seen xs ss → TellsLooks state current ys ls → (h : HasOrder queued.legal queued.next q xs ys)
-      → (let m = ends_after may_step mutator_after observer_after n ss ls in Fits state (after queued.legal queued.next q h.order) m m.first.clear m.second.acked)
+      → (let m = ends_after may_step mutator_after observer_after n ss ls in Fits state (point_after queued.legal queued.next q h.order) m m.first.clear m.second.acked)
   fits_after q n seen current xs ys ss ls t a b h =
       let r = to_numbers h.order q n seen current ss ls t (subst (λ l. TellsSteps state n.first.pushed seen l ss) (sym h.of_one) a) (subst (λ l. TellsLooks state current l ls) (sym h.of_two) b) h.is_legal in
-      let m : after may_step number_next n r.order ≡ ends_after may_step mutator_after observer_after n ss ls =
+      let m : point_after may_step number_next n r.order ≡ ends_after may_step mutator_after observer_after n ss ls =
       after_lists may_step mutator_after observer_after n r.order ∙ (λ j. ends_after may_step mutator_after observer_after n (r.of_one j) (r.of_two j)) in
-      subst (λ (k : Numbers). Fits state (after queued.legal queued.next q h.order) k k.first.clear k.second.acked) m r.fits
+      subst (λ (k : Numbers). Fits state (point_after queued.legal queued.next q h.order) k k.first.clear k.second.acked) m r.fits
 
   -- the points fit before any event, if the state 0 is the one before the first push
-  pub fits_start : Fits state (queued.start (state 0)) (numbers queue_begins.mutator queue_begins.observer) true 0
+  pub fits_start : Fits state (queued.start_of_queue (state 0)) (numbers queue_begins.mutator queue_begins.observer) true 0
   fits_start = record {
     pushed = refl;
     clear = refl;

@@ -52,28 +52,28 @@ module _ {P : Type 0} where
   }
 
 module _ {T : Type 0} where
-  writer_counts : (p : CellPoint T) (e : WriterEvent T) → (newest.next p (one e)).writes ≡ p.writes + 1
+  writer_counts : (p : CellPoint T) (e : WriterEvent T) → (newest.next_value p (one e)).writes ≡ p.writes + 1
   writer_counts p (writes.Store x) = refl
   writer_counts p (writes.Learn count) = refl
 
-  writer_stays : (p : CellPoint T) (e : WriterEvent T) → (newest.next p (one e)).reads ≡ p.reads
+  writer_stays : (p : CellPoint T) (e : WriterEvent T) → (newest.next_value p (one e)).reads ≡ p.reads
   writer_stays p (writes.Store x) = refl
   writer_stays p (writes.Learn count) = refl
 
-  writer_keeps : (c : ℕ) (p : CellPoint T) (e : WriterEvent T) → newest.legal p (one e) → newest.legal (newest.next p (two (reads.Learn c))) (one e)
+  writer_keeps : (c : ℕ) (p : CellPoint T) (e : WriterEvent T) → newest.legal_value p (one e) → newest.legal_value (newest.next_value p (two (reads.Learn c))) (one e)
   writer_keeps c p (writes.Store x) may = tt
   writer_keeps c p (writes.Learn count) may = one_up count p.reads may
 
-  reader_keeps : (c : ℕ) (p : CellPoint T) (e : ReaderEvent T) → newest.legal p (two e) → newest.legal (newest.next p (one (writes.Learn c))) (two e)
+  reader_keeps : (c : ℕ) (p : CellPoint T) (e : ReaderEvent T) → newest.legal_value p (two e) → newest.legal_value (newest.next_value p (one (writes.Learn c))) (two e)
   reader_keeps c p (reads.Load n x) may = may
   reader_keeps c p (reads.Learn count) may = one_up count p.writes may
 
-  writer_swaps : (c : ℕ) (p : CellPoint T) (e : WriterEvent T) → newest.next (newest.next p (one e)) (two (reads.Learn c)) ≡ newest.next (newest.next p (two (reads.Learn c))) (one e)
+  writer_swaps : (c : ℕ) (p : CellPoint T) (e : WriterEvent T) → newest.next_value (newest.next_value p (one e)) (two (reads.Learn c)) ≡ newest.next_value (newest.next_value p (two (reads.Learn c))) (one e)
   writer_swaps c p (writes.Store x) = refl
   writer_swaps c p (writes.Learn count) = refl
 
   -- the ends of a newest-value cell meet, when the reader did so many events before and the writer so many
-  pub cell_meeting : (loads stores : ℕ) → IsMeeting (newest.legal {T = T}) newest.next (λ p. p.writes) (λ p. p.reads) (writes.Learn loads) (reads.Learn stores) stores loads
+  pub cell_meeting : (loads stores : ℕ) → IsMeeting (newest.legal_value {T = T}) newest.next_value (λ p. p.writes) (λ p. p.reads) (writes.Learn loads) (reads.Learn stores) stores loads
   cell_meeting loads stores = record {
     first_counts = writer_counts;
     first_stays = λ p y. refl;

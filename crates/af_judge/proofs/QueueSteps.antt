@@ -1,7 +1,7 @@
 -- The steps of the queue's ends and their events, joined; the look and the push of a turn, and a poll.
 use Rattle.std.specs.Prelude.{◌≢◌, if◌then◌else◌, ◌==◌}
 use Rattle.std.proofs.Common.{◌≡◌, inl, inr, ℕ, zero, suc, ◌+◌, ◌-◌, ◌<◌, ◌≤◌, ◌&&◌, ◌||◌, not, Bool, true, false, true≢false, List, [], ◌∷◌, ◌++◌, fold, map, Option, Some, None, refl, sym, ap, ◌∙◌, subst, arith, eq-eqb}
-use Rattle.af_judge.proofs.Common.{Event, FastState, Item, Legal, MutatorEvent, ObserverEvent, Push, QueuePoint, after, eqb-true, is_look_at, is_pushed, items_of, list_any, ne_eqb, one, ones, or_nothing, or_right, two, twos}
+use Rattle.af_judge.proofs.Common.{Event, FastState, Item, Legal, MutatorEvent, ObserverEvent, Push, QueuePoint, point_after, eqb-true, is_look_at, is_pushed, items_of, list_any, ne_eqb, one, ones, or_nothing, or_right, two, twos}
 use Rattle.af_base.specs.declared.state.Push.TheVariants as pushing
 use Rattle.af_model.specs.declared.states.MutatorEvent.TheVariants as mutator
 use Rattle.af_model.specs.declared.states.ObserverEvent.TheVariants as observer
@@ -119,7 +119,7 @@ module _ (state : ℕ → FastState) where
 -- ## What a point of the queue is by both lists
 
 pub queue_after : (p : QueuePoint Item) (es : List (Event (MutatorEvent Item) (ObserverEvent Item)))
-    → after queued.legal queued.next p es ≡ record { mutator = fold queued.mutator_next p.mutator (ones es); observer = fold queued.observer_next p.observer (twos es) }
+    → point_after queued.legal queued.next p es ≡ record { mutator = fold queued.mutator_next p.mutator (ones es); observer = fold queued.observer_next p.observer (twos es) }
 queue_after p [] = refl
 queue_after p (one e ∷ es) = queue_after (queued.next p (one e)) es
 queue_after p (two e ∷ es) = queue_after (queued.next p (two e)) es

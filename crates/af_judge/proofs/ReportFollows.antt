@@ -1,7 +1,7 @@
 -- What is kept of the report follows each step of a round, and each meeting is judged exactly.
 use Rattle.std.specs.Prelude.{if◌then◌else◌, ◌↔◌}
 use Rattle.std.proofs.Common.{◌≡◌, ℕ, zero, suc, ◌+◌, ◌-◌, ◌<◌, ◌≤◌, Bool, true, false, List, [], ◌∷◌, ◌++◌, fold, length, map, take, drop, get_or, Option, Some, None, refl, sym, ap, ◌∙◌, subst, arith, append_assoc, append-nil, length-append}
-use Rattle.af_judge.proofs.Common.{EntrySeen, HasOrder, HasReportHistory, MatchOption, ReaderEvent, Report, ReportTold, RoundSeen, Run, Session, Turn, TurnFound, WriterEvent, after, drop-append-le, drop_of_length-le, each_track, ends, fold-append, get_or-drop, get_or_append_left, get_or_default, last_report, length-map, length-take-le, map-append, met, ne_eqb, new_run, no_report, one, ones, report_met, report_of, take-append-drop, two, twos, with_calls, with_ends, with_load, with_mix, with_poll, with_turn}
+use Rattle.af_judge.proofs.Common.{EntrySeen, HasOrder, HasReportHistory, MatchOption, ReaderEvent, Report, ReportTold, RoundSeen, Run, Session, Turn, TurnFound, WriterEvent, point_after, drop-append-le, drop_of_length-le, each_track, ends, fold-append, get_or-drop, get_or_append_left, get_or_default, last_report, length-map, length-take-le, map-append, met, ne_eqb, new_run, no_report, one, ones, report_met, report_of, take-append-drop, two, twos, with_calls, with_ends, with_load, with_mix, with_poll, with_turn}
 use Rattle.af_model.specs.declared.newest.ReaderEvent.TheVariants as reads
 use Rattle.af_model.specs.declared.newest.ReaderEvent.TheVariants.{Load}
 use Rattle.af_model.specs.declared.newest.WriterEvent.TheVariants as writes
@@ -59,12 +59,12 @@ drop_long reports n low =
 
 pub report_begins : ReportFollows [] [] (record { met = 0; loaded = None })
 report_begins = record {
-  point = newest.start no_report;
+  point = newest.start_value no_report;
   firsts = [];
   seconds = [];
   told_one = refl;
   told_two = refl;
-  cut = cut_begins newest.legal newest.next (newest.start no_report);
+  cut = cut_begins newest.legal_value newest.next_value (newest.start_value no_report);
   many_one = refl;
   many_two = refl;
   number = refl;
@@ -122,7 +122,7 @@ module _ (reports : List Report) (told : ReportTold) (r : ReportKept) (h : Repor
   loads = loads_of reports r.loaded
 
   abbrev Order : Type 0
-  Order = HasOrder newest.legal newest.next h.point (stores values) loads
+  Order = HasOrder newest.legal_value newest.next_value h.point (stores values) loads
 
   abbrev learnt : ℕ
   learnt = length (twos told)
@@ -145,15 +145,15 @@ module _ (reports : List Report) (told : ReportTold) (r : ReportKept) (h : Repor
           get_or-drop r.met reports above h.point.value
           ∙ (ap (λ i. get_or reports i h.point.value) at ∙ (get_or_default reports (number - 1) h.point.value (last_report reports) inside ∙ sym (ap (λ b. if b then no_report else get_or reports (number - 1) (last_report reports)) (ne_eqb number 0 some))))
 
-  by_load : (o : Option ℕ) → HasOrder newest.legal newest.next h.point (stores values) (loads_of reports o) ↔ MatchOption o (Unit {0}) (λ number. (r.met ≤ number) × (number ≤ length reports))
+  by_load : (o : Option ℕ) → HasOrder newest.legal_value newest.next_value h.point (stores values) (loads_of reports o) ↔ MatchOption o (Unit {0}) (λ number. (r.met ≤ number) × (number ≤ length reports))
   by_load None = ((λ g. tt), (λ u. none_exact h.point values))
   by_load (Some number) = (
     λ g. (let w = load_within h.point values number (report_of reports number) g in let n = h.number in let m = many in let a = w.0 in let b = w.1 in (omega (arith, a, n), omega (arith, b, n, m))),
     λ b. (let n = h.number in let m = many in let low = b.0 in let high = b.1 in
-        subst (λ v. HasOrder newest.legal newest.next h.point (stores values) (Load number v ∷ [])) (value_is number b.0 b.1) ((load_exact h.point values number).1 (omega (arith, low, n), omega (arith, high, n, m)))),
+        subst (λ v. HasOrder newest.legal_value newest.next_value h.point (stores values) (Load number v ∷ [])) (value_is number b.0 b.1) ((load_exact h.point values number).1 (omega (arith, low, n), omega (arith, high, n, m)))),
   )
 
-  left_is : (g : Order) → after newest.legal newest.next h.point g.order ≡ cell_left h.point values loads
+  left_is : (g : Order) → point_after newest.legal_value newest.next_value h.point g.order ≡ cell_left h.point values loads
   left_is g = cell_after g.order h.point values g.of_one ∙ ap (cell_left h.point values) g.of_two
 
   first_known : h.point.writes + length (stores values) ≡ known
@@ -165,8 +165,8 @@ module _ (reports : List Report) (told : ReportTold) (r : ReportKept) (h : Repor
   stored_long : length (stores values) ≡ length values
   stored_long = length-map values (λ (x : Report). writes.Store x)
 
-  may_meet : (g : Order) → newest.legal (after newest.legal newest.next h.point g.order) (one (writes.Learn learnt)) × newest.legal (newest.next (after newest.legal newest.next h.point g.order) (one (writes.Learn learnt))) (two (reads.Learn known))
-  may_meet g = subst (λ p. newest.legal p (one (writes.Learn learnt)) × newest.legal (newest.next p (one (writes.Learn learnt))) (two (reads.Learn known))) (sym (left_is g)) (
+  may_meet : (g : Order) → newest.legal_value (point_after newest.legal_value newest.next_value h.point g.order) (one (writes.Learn learnt)) × newest.legal_value (newest.next_value (point_after newest.legal_value newest.next_value h.point g.order) (one (writes.Learn learnt))) (two (reads.Learn known))
+  may_meet g = subst (λ p. newest.legal_value p (one (writes.Learn learnt)) × newest.legal_value (newest.next_value p (one (writes.Learn learnt))) (two (reads.Learn known))) (sym (left_is g)) (
     (let s = second_known in omega (arith, s)),
     (let s = first_known in let l = stored_long in omega (arith, s, l)),
   )
@@ -179,9 +179,9 @@ module _ (reports : List Report) (told : ReportTold) (r : ReportKept) (h : Repor
 
   order_told : Order ↔ HasReportHistory (report_met told)
   order_told =
-      subst (λ (l : List (WriterEvent Report) × List (ReaderEvent Report)). Order ↔ HasOrder newest.legal newest.next (newest.start no_report) l.0 l.1) (λ j. (sym met_one j, sym met_two j))
-      (meeting_exact newest.legal newest.next (λ p. p.writes) (λ p. p.reads) (writes.Learn learnt) (reads.Learn known) known learnt (cell_meeting learnt known)
-      (newest.start no_report) h.point h.firsts (stores values) h.seconds loads h.cut first_known second_known may_meet)
+      subst (λ (l : List (WriterEvent Report) × List (ReaderEvent Report)). Order ↔ HasOrder newest.legal_value newest.next_value (newest.start_value no_report) l.0 l.1) (λ j. (sym met_one j, sym met_two j))
+      (meeting_exact newest.legal_value newest.next_value (λ p. p.writes) (λ p. p.reads) (writes.Learn learnt) (reads.Learn known) known learnt (cell_meeting learnt known)
+      (newest.start_value no_report) h.point h.firsts (stores values) h.seconds loads h.cut first_known second_known may_meet)
 
   -- the load is right exactly if the report has its history
   pub report_exact : IsLoadOf (length reports) r ↔ HasReportHistory (report_met told)
@@ -193,13 +193,13 @@ module _ (reports : List Report) (told : ReportTold) (r : ReportKept) (h : Repor
       let nothing : drop (length reports) reports ≡ [] = drop_of_length-le reports (omega arith) in
       let left = cell_left h.point values loads in
       record {
-        point = newest.next (newest.next left (one (writes.Learn learnt))) (two (reads.Learn known));
+        point = newest.next_value (newest.next_value left (one (writes.Learn learnt))) (two (reads.Learn known));
         firsts = h.firsts ++ (stores values ++ writes.Learn learnt ∷ []);
         seconds = h.seconds ++ (loads ++ reads.Learn known ∷ []);
         told_one = met_one ∙ (sym (append-nil (h.firsts ++ (stores values ++ writes.Learn learnt ∷ []))) ∙ ap (λ l. (h.firsts ++ (stores values ++ writes.Learn learnt ∷ [])) ++ stores l) (sym nothing));
         told_two = met_two ∙ sym (append-nil (h.seconds ++ (loads ++ reads.Learn known ∷ [])));
-        cut = cut_meets newest.legal newest.next (λ p. p.writes) (λ p. p.reads) (writes.Learn learnt) (reads.Learn known) known learnt (cell_meeting learnt known)
-            (newest.start no_report) h.point h.firsts (stores values) h.seconds loads h.cut first_known second_known may_meet left left_is g;
+        cut = cut_meets newest.legal_value newest.next_value (λ p. p.writes) (λ p. p.reads) (writes.Learn learnt) (reads.Learn known) known learnt (cell_meeting learnt known)
+            (newest.start_value no_report) h.point h.firsts (stores values) h.seconds loads h.cut first_known second_known may_meet left left_is g;
         many_one =
             (let s = first_known in let m = stored_long in let l = ap (λ (z : List (WriterEvent Report)). length z) (sym met_one ∙ ones_met told (writes.Learn learnt) (reads.Learn known)) in
             let w = length-append (ones told) (writes.Learn learnt ∷ []) in omega (arith, s, m, l, w));

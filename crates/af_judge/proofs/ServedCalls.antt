@@ -1,7 +1,7 @@
 -- What is kept of the mixers' sides of a track stays, whatever its client does.
 use Rattle.std.proofs.Common.{◌≡◌, ℕ, List, [], ◌∷◌, ◌++◌, length, drop, sym, ap, ◌∙◌, subst, false}
 use Rattle.af_judge.proofs.Common.{BlockTold, ClientCall, ClientEvent, Marks, ServerEvent, Side, TrackTold, after_calls, client_list, server_begins, server_list, sides_of, with_side}
-use Rattle.af_runs.specs.Runs.{called}
+use Rattle.af_runs.specs.Runs.{called_in_turn}
 use Rattle.af_judge.specs.declared.track_judge.TrackJudge.{TrackJudge}
 use Rattle.af_judge.specs.Blocks.{AllFollow, BlockJudged, WholeTakes, taken_in}
 use Rattle.af_judge.specs.RunTold.{IsServedBlock, IsServedTrack}
@@ -23,7 +23,7 @@ side_served j k b y h is =
     }
 
 -- a track is kept after calls of its client, legal or not
-pub track_called : (marks : Marks) (n : ℕ) (j k : TrackJudge) (t : TrackTold) (calls : List ClientCall) → IsServedTrack marks n j t → SameServers j k → IsServedTrack marks n k (called calls t)
+pub track_called : (marks : Marks) (n : ℕ) (j k : TrackJudge) (t : TrackTold) (calls : List ClientCall) → IsServedTrack marks n j t → SameServers j k → IsServedTrack marks n k (called_in_turn calls t)
 track_called marks n j k t calls h same =
     let after = after_calls (sides_of t) calls in
     record {

@@ -1,6 +1,6 @@
 -- The slots of a report, added one after the other.
 use Rattle.std.proofs.Common.{◌≡◌, ◌⊎◌, inl, inr, ℕ, ◌+◌, ◌<◌, ◌≤◌, ◌||◌, Bool, true, false, if◌then◌else◌, is_some, List, length, refl, sym, ap, ◌∙◌, subst, arith}
-use Rattle.af_judge.proofs.Common.{CycleEntry, FastState, ServerKnown, SlotReport, carries, cases_lt, counted_look, entry_slot, get_or-set_other, get_or-set_same, length-set, no_slot, plays, report_at, slice_set, slot_of, slots, state_of}
+use Rattle.af_judge.proofs.Common.{CycleEntry, FastState, ServerKnown, SlotReport, carries, cases_lt, counted_look, entry_slot, get_or-set_other, get_or-set_same, length-set, no_slot, shows_slot, report_at, slice_set, slot_of, slots, state_of}
 use Rattle.af_judge.specs.Reporting.{CountsUpTo, slot_added}
 
 -- the slots before the one of a number are added, and the others are as before
@@ -70,8 +70,8 @@ counts-more most r c = record { fulls = (let a = c.fulls in omega (arith, a)); p
 -- a slot that the state doesn't carry is told as before
 pub not-carried : (asked : ℕ) (states : List FastState) (x y : FastState) (entry : CycleEntry) (known : ServerKnown) (i : ℕ) (before : SlotReport) → carries x i ≡ false → before ≡ slot_added asked states x y entry known i before
 not-carried asked states x y entry known i before none =
-    sym (ap (λ (b : Bool). if is_some (state_of states entry.state) || plays x entry i then (if b then counted_look asked (slot_of x i).generation (entry_slot entry i).seen known (if carries y i then before else no_slot) else before) else before) none
-    ∙ same (is_some (state_of states entry.state) || plays x entry i)) where
+    sym (ap (λ (b : Bool). if is_some (state_of states entry.state) || shows_slot x entry i then (if b then counted_look asked (slot_of x i).generation (entry_slot entry i).seen known (if carries y i then before else no_slot) else before) else before) none
+    ∙ same (is_some (state_of states entry.state) || shows_slot x entry i)) where
       same : (b : Bool) → (if b then before else before) ≡ before
       same true = refl
       same false = refl

@@ -1,6 +1,6 @@
 -- A turn of the plain mixer keeps what holds of its slots and its draft, whatever it saw.
 use Rattle.std.proofs.Common.{◌≡◌, ℕ, zero, suc, ◌≤◌, Bool, true, false, if◌then◌else◌, true≢false, sym, refl, ap, subst, ◌∙◌, List, [], ◌∷◌, length, fold, inl, replicate, All, arith}
-use Rattle.af_judge.proofs.Common.{Busy, Clean, Command, FastState, Home, IsDrafted, IsSlotted, IsSound, IsState, Learnt, NormalKept, Push, Pushed, Setting, Setup, TakeSeen, TrackKept, Turn, acked_len, after_ack, after_edits, after_push, after_take, after_takes, after_tracks, and_none, asked, at_new, both_first, comes_home, counted, edited, edited_to, edits_len, either, has_slot, holds, initial, is_home, is_returning, lend, let_go, must_enter, must_leave, mutated, new_normal, new_track, no, ordered, returning_away, scale_fits, served_len, set_each, slot_is, sound_ordered, track_at, turn_after, welcomed, welcomed_at}
+use Rattle.af_judge.proofs.Common.{Busy, Clean, Command, FastState, Home, IsDrafted, IsSlotted, IsSound, IsState, Learnt, NormalKept, Push, Pushed, Setting, Setup, TakeSeen, TrackKept, Turn, acked_len, after_ack, after_edits, after_push, after_take, after_takes, after_tracks, and_none, asked, at_new, both_first, comes_home, look_counted, edited, edited_to, edits_len, either, has_slot, holds, initial, is_home, is_returning, lend, let_go, must_enter, must_leave, mutated, new_normal, new_track, no, ordered, returning_away, scale_fits, served_len, set_each, slot_is, sound_ordered, track_at, turn_after, welcomed, welcomed_at}
 use Rattle.af_judge.proofs.DraftBits.{initial_state}
 use Rattle.af_judge.proofs.SoundSlots.{alone_set}
 use Rattle.af_judge.proofs.SoundEdits.{comer_inside, sound_go, sound_lend}
@@ -42,7 +42,7 @@ module _ (asked : ℕ) (draft : FastState) where
   sound_take tracks take h =
       let i : ℕ = take.track in
       let s : TrackKept = track_at tracks i in
-      let t : TrackKept = record s { own = counted asked take.slot.seen s.own } in record {
+      let t : TrackKept = record s { own = look_counted asked take.slot.seen s.own } in record {
         slotted = set_each (λ (j : ℕ) (x : TrackKept). IsSlotted x) tracks i t (record { slot = (h.slotted i).slot; unopened = (h.slotted i).unopened; homely = (h.slotted i).homely }) h.slotted;
         drafted = set_each (IsDrafted draft) tracks i t (record { lent = (h.drafted i).lent; returning = (h.drafted i).returning; own = (h.drafted i).own }) h.drafted;
         alone = alone_set tracks i t h.alone (λ n e. inl e);

@@ -1,6 +1,6 @@
 -- What is kept of a block of a run after each step of its parties.
 use Rattle.std.proofs.Common.{◌≡◌, ℕ, ◌-◌, ◌==◌, Bool, true, false, if◌then◌else◌, is_some, fold, List, [], ◌∷◌, ◌++◌, length, take, drop, refl, sym, ap, ◌∙◌, subst, arith, append-nil}
-use Rattle.af_judge.proofs.Common.{BlockTold, ClientEvent, CommandLook, Seen, ServerEvent, ServerKept, Shape, SlotEntry, after_look, as_slot, client_does, client_list, command_events, count_seen, cycle_events, drop_all, fold-append, front_of, hand_list, kept, listed, look_events, meets, meets_flag, server_begins, server_does, server_keeps, server_kept, server_list, shows_command, stream_met, take_all, took}
+use Rattle.af_judge.proofs.Common.{BlockTold, ClientEvent, CommandLook, Seen, ServerEvent, ServerKept, Shape, SlotEntry, events_behind_look, as_slot, client_does, client_list, command_events, count_seen, cycle_events, drop_all, fold-append, front_of, hand_list, kept, listed, look_events, meets, meets_flag, server_begins, server_does, server_keeps, server_kept, server_list, shows_command, stream_met, take_all, took}
 use Rattle.af_base.specs.declared.event.ClientEvent.TheVariants as client
 use Rattle.af_base.specs.declared.event.HandEvent.TheVariants as hand
 use Rattle.af_base.specs.declared.event.ServerEvent.TheVariants as server
@@ -39,7 +39,7 @@ tally-taken true missing shape k words = refl
 tally-taken false missing shape k words = refl
 
 -- what follows a look takes the words shown
-after-whole : (asked : ℕ) (was_shut : Bool) (sight : Seen) (words : List ℕ) → length words ≡ count_seen sight → WholeTakes (after_look asked was_shut sight) words
+after-whole : (asked : ℕ) (was_shut : Bool) (sight : Seen) (words : List ℕ) → length words ≡ count_seen sight → WholeTakes (events_behind_look asked was_shut sight) words
 after-whole asked was_shut (seen.Frames count) words long = ((let e = long in omega (arith, e)), tally-whole (asked - count == 0) (asked - count) (drop count words) (drop_all count words (let e = long in omega (arith, e))))
 after-whole asked was_shut seen.Empty words long = tally-whole (asked == 0) asked words (none-by words long)
 after-whole asked true (seen.Shut front rear) words long = none-by words long
@@ -47,7 +47,7 @@ after-whole asked false (seen.Shut front rear) words long = none-by words long
 after-whole asked was_shut seen.Absent words long = none-by words long
 after-whole asked was_shut (seen.Flushed dropped) words long = none-by words long
 
-after-follow : (asked : ℕ) (was_shut : Bool) (sight : Seen) (last : Bool) → AllFollow last (after_look asked was_shut sight)
+after-follow : (asked : ℕ) (was_shut : Bool) (sight : Seen) (last : Bool) → AllFollow last (events_behind_look asked was_shut sight)
 after-follow asked was_shut (seen.Frames count) last = (tt, tally-follow (asked - count == 0) (asked - count) false)
 after-follow asked was_shut seen.Empty last = tally-follow (asked == 0) asked last
 after-follow asked true (seen.Shut front rear) last = tt
@@ -58,7 +58,7 @@ after-follow asked was_shut (seen.Flushed dropped) last = tt
 nothing-placed : (place : ℕ) (words : List ℕ) → length words ≡ 0 → placed_from place words ≡ []
 nothing-placed place words long = ap (placed_from place) (none-by words long)
 
-after-taken : (shape : Shape) (k : ServerKept) (asked : ℕ) (was_shut : Bool) (sight : Seen) (words : List ℕ) → length words ≡ count_seen sight → placed_from k.consumed words ≡ taken_in shape k (after_look asked was_shut sight) words
+after-taken : (shape : Shape) (k : ServerKept) (asked : ℕ) (was_shut : Bool) (sight : Seen) (words : List ℕ) → length words ≡ count_seen sight → placed_from k.consumed words ≡ taken_in shape k (events_behind_look asked was_shut sight) words
 after-taken shape k asked was_shut (seen.Frames count) words long =
     sym (ap (λ (ts : List Taken). placed_from k.consumed (take count words) ++ ts) (tally-taken (asked - count == 0) (asked - count) shape (server_keeps shape k (server.Take count)) (drop count words))
     ∙ (append-nil (placed_from k.consumed (take count words)) ∙ ap (placed_from k.consumed) (take_all count words (let e = long in omega (arith, e)))))
@@ -98,7 +98,7 @@ played_kept j b asked slot words h long =
     let k = server_kept b.shape (server_list b) in
     let gained = server_keeps b.shape k (server.SawGain slot.gains) in
     let look = look_by shut slot.seen slot.flush slot.rear front in
-    let more = after_look asked shut slot.seen in
+    let more = events_behind_look asked shut slot.seen in
     let es = cycle_events asked s slot front in
     let whole : WholeTakes es words = look-whole shut slot.seen slot.flush slot.rear front more words (after-whole asked shut slot.seen words long) in
     let follow : (last : Bool) → AllFollow last es = λ last. (tt, look-follow shut slot.seen slot.flush slot.rear front more (after-follow asked shut slot.seen) false) in

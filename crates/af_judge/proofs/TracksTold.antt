@@ -1,6 +1,6 @@
 -- What is kept of a track of a run follows a turn of its client.
 use Rattle.std.proofs.Common.{◌≡◌, Bool, true, false, if◌then◌else◌, fold, ℕ, List, [], ◌∷◌, ◌++◌, length, drop, refl, sym, ap, ◌∙◌, subst, append_assoc, append-nil}
-use Rattle.af_judge.proofs.Common.{BlockTold, ClientCall, ClientEvent, Op, Side, Track, TrackTold, after_call, after_calls, called, client_does, client_events_of, client_list, drop_at, is_of_commands, released_by, side_of, sides_of, with_side}
+use Rattle.af_judge.proofs.Common.{BlockTold, ClientCall, ClientEvent, Op, Side, Track, TrackTold, after_call, after_calls, called, client_does, client_events_of, client_list, drop_at, is_of_commands, released_by, client_side, sides_of, with_side}
 use Rattle.af_runs.specs.Runs as run
 use Rattle.af_judge.specs.declared.track_judge.TrackJudge.{TrackJudge}
 use Rattle.af_judge.specs.Blocks.{BlockJudged, IsBlockOf, client_more, released_more}
@@ -54,16 +54,16 @@ grow-calls t (c ∷ calls) =
 -- ## The side of a block
 
 -- what the client did more
-more-is : (b : BlockTold) (y : Side) (g : Grows (side_of b) y) → drop (length (client_list b)) y.events ≡ g.more
+more-is : (b : BlockTold) (y : Side) (g : Grows (client_side b) y) → drop (length (client_list b)) y.events ≡ g.more
 more-is b y g = ap (drop (length (client_list b))) g.events ∙ drop_at (client_list b) g.more (length (client_list b)) refl
 
-side-is : (b : BlockTold) (y : Side) → Grows (side_of b) y → side_of (with_side y b) ≡ y
+side-is : (b : BlockTold) (y : Side) → Grows (client_side b) y → client_side (with_side y b) ≡ y
 side-is b y g =
     let events : client_list (with_side y b) ≡ y.events =
     client-client b.told (drop (length (client_list b)) y.events) ∙ (ap (λ (es : List ClientEvent). client_list b ++ es) (more-is b y g) ∙ sym g.events) in
     λ i. record { shape = sym g.shape i; events = events i; released = y.released }
 
-block-is : (j k : BlockJudged) (b : BlockTold) (y : Side) → Grows (side_of b) y → IsBlockOf j b → IsSideOf k y → k ≡ record j { client = k.client; released = k.released } → IsBlockOf k (with_side y b)
+block-is : (j k : BlockJudged) (b : BlockTold) (y : Side) → Grows (client_side b) y → IsBlockOf j b → IsSideOf k y → k ≡ record j { client = k.client; released = k.released } → IsBlockOf k (with_side y b)
 block-is j k b y g h side is =
     let here = client_told j b (drop (length (client_list b)) y.events) g.words h in
     let words : b.released ++ g.words ≡ y.released = sym g.released in
@@ -86,11 +86,11 @@ keeps_of ops j t h = record {
 }
 
 -- what is kept of a track follows a turn of its client
-pub turn_told : (ops : List Op) (j k : TrackJudge) (t : TrackTold) (calls : List ClientCall) → IsTrackOf ops j t → KeepsTrack ops k (after_calls (sides_of t) calls) → SameServers j k → IsTrackOf ops k (run.called calls t)
+pub turn_told : (ops : List Op) (j k : TrackJudge) (t : TrackTold) (calls : List ClientCall) → IsTrackOf ops j t → KeepsTrack ops k (after_calls (sides_of t) calls) → SameServers j k → IsTrackOf ops k (run.called_in_turn calls t)
 turn_told ops j k t calls h keeps same =
     let after = after_calls (sides_of t) calls in
     let grow = grow-calls (sides_of t) calls in
-    let sides : sides_kept (sides_of (run.called calls t)) ≡ sides_kept after =
+    let sides : sides_kept (sides_of (run.called_in_turn calls t)) ≡ sides_kept after =
     ap (λ (x : Side × Side). sides_kept (record after { stream = x.0; commands = x.1 })) (λ i. (side-is t.stream after.stream grow.stream i, side-is t.commands after.commands grow.commands i)) in
     record {
       client = record { client = keeps.client.client; sides = keeps.client.sides ∙ sym sides };
@@ -108,7 +108,7 @@ calls-file t (c ∷ calls) = calls-file (after_call t c) calls ∙ call-file (is
     call-file false = refl
 
 -- the client's sides after a turn
-pub sides_called : (t : TrackTold) (calls : List ClientCall) → sides_of (run.called calls t) ≡ after_calls (sides_of t) calls
+pub sides_called : (t : TrackTold) (calls : List ClientCall) → sides_of (run.called_in_turn calls t) ≡ after_calls (sides_of t) calls
 sides_called t calls =
     let after = after_calls (sides_of t) calls in
     let grow = grow-calls (sides_of t) calls in

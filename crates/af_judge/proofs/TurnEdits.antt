@@ -3,7 +3,7 @@ use Rattle.std.proofs.Common.{◌≡◌, ℕ, zero, suc, ◌+◌, ◌≤◌, ◌
 use Rattle.af_judge.proofs.Common.{Command, Learnt, NormalKept, Push, Setup, TakeSeen, TrackKept, Turn, after_ack, after_edits, after_push, after_take, after_tracks, edited, edited_to, filter, is_mixed_here, lend, let_go, mixed_here, must_enter, must_leave, mutated, nat_tests, next_command, or_false, or_true, ordered, pipe_size, range_with_len, slice_set, takes_len, track_at}
 use Rattle.af_base.specs.Command.{code_of}
 use Rattle.af_judge.proofs.Basics.{push_tracks}
-use Rattle.af_life.specs.Edits.{is_exit}
+use Rattle.af_life.specs.Edits.{commands_exit}
 use Rattle.af_judge.specs.NormalChanges.{is_edited}
 
 -- the tracks of `x` may have been edited since `m`, but not its command
@@ -83,7 +83,7 @@ by_command command m x e = by_case (code_of command == code_of x.draft.command) 
 -- what all edits leave
 pub edits_change : (c : Setup) (k : Learnt) (room : ℕ) (m : NormalKept) → Changed m (mutated c k room m)
 unfolding mutated
-edits_change c k room m = let x : NormalKept = edited_to c k m (length m.tracks) in by_command (next_command (is_exit x.draft) x.tracks room (pipe_size c)) m x (edits_so_far c k m (length m.tracks))
+edits_change c k room m = let x : NormalKept = edited_to c k m (length m.tracks) in by_command (next_command (commands_exit x.draft) x.tracks room (pipe_size c)) m x (edits_so_far c k m (length m.tracks))
 
 -- the tracks are served, and proxies come home, with no change to the draft
 pub turn_changes : (c : Setup) (k : Learnt) (e : Turn) (m : NormalKept) → Changed m (after_edits c k e m)

@@ -1,8 +1,8 @@
 -- What is kept of the tracks and of the normal mixer of a run follows a turn of that mixer, and the turn is right exactly if it is legal.
 use Rattle.std.proofs.Common.{◌≡◌, ◌↔◌, ℕ, ◌+◌, ◌^◌, ◌<◌, ◌≤◌, Bool, true, false, if◌then◌else◌, fold, refl, sym, ap, ◌∙◌, subst, List, [], ◌∷◌, ◌++◌, length, append-nil, inl, inr, arith}
-use Rattle.af_judge.proofs.Common.{BlockTold, ClientEvent, IsOpenTurn, IsTrue, IsTurn, Learnt, LegalTurnBy, Marks, NormalKept, Outside, Run, Session, Setup, Side, TakeSeen, TrackKept, TrackTold, Turn, TurnFound, after_ack, after_edits, asked, cases_lt, command_list, commands_turned, each_from, ended_turn, get_or-eq_default, get_or_default, hand_does, heard, is_pushed, known_by, learnt, learnt_of, length-map, listed, no_track, nothing_heard, outside_of, setup_of, side_of, sides_of, slice_index_or, spec_of, spec_setting, stream_list, stream_turned, takes_from, told_at, track_at, track_in, tracks_at, turn_after, turned_track, with_turn}
+use Rattle.af_judge.proofs.Common.{BlockTold, ClientEvent, IsOpenTurn, IsTrue, IsTurn, Learnt, LegalTurnBy, Marks, NormalKept, Outside, Run, Session, Setup, Side, TakeSeen, TrackKept, TrackTold, Turn, TurnFound, after_ack, after_edits, asked, cases_lt, command_list, commands_turned, changed_from, ended_turn, get_or-eq_default, get_or_default, hand_does, heard, is_pushed, known_by, learnt, learnt_of, length-map, listed, no_track, nothing_heard, outside_of, setup_of, client_side, sides_of, slice_index_or, spec_of, spec_setting, stream_list, stream_turned, takes_from, told_at, track_at, track_in, tracks_at, turn_after, turned_track, with_turn}
 use Rattle.af_judge.proofs.Basics.{each_at, each_long}
-use Rattle.af_life.specs.TurnEvents.{hand_list}
+use Rattle.af_life.specs.TurnEvents.{hand_events_of}
 use Rattle.af_judge.specs.declared.track_judge.TrackJudge.{TrackJudge}
 use Rattle.af_judge.specs.Blocks.{BlockJudged, IsBlockOf}
 use Rattle.af_judge.specs.Judging.{ClientJudged, IsKeptOf}
@@ -30,11 +30,11 @@ module _ (c : Setup) (o : Outside) (m : NormalKept) (e : Turn) (n : ℕ) where
   abbrev before_it : List TrackKept
   before_it = tracks_at c (learnt o) m e n
 
-  stream_side : (b : BlockTold) → side_of (stream_turned c o m e n b) ≡ side_of b
+  stream_side : (b : BlockTold) → client_side (stream_turned c o m e n b) ≡ client_side b
   unfolding told_side
-  stream_side b = ap (λ (es : List ClientEvent). told_side es b) (server-client (hand_does (hand_list e n) b).told (stream_list c o e before_it n) ∙ hand-client b.told (hand_list e n))
+  stream_side b = ap (λ (es : List ClientEvent). told_side es b) (server-client (hand_does (hand_events_of e n) b).told (stream_list c o e before_it n) ∙ hand-client b.told (hand_events_of e n))
 
-  commands_side : (b : BlockTold) → side_of (commands_turned c o m e n b) ≡ side_of b
+  commands_side : (b : BlockTold) → client_side (commands_turned c o m e n b) ≡ client_side b
   unfolding told_side
   commands_side b = ap (λ (es : List ClientEvent). told_side es b) (server-client b.told (command_list c o e before_it n))
 
@@ -45,7 +45,7 @@ module _ (c : Setup) (o : Outside) (m : NormalKept) (e : Turn) (n : ℕ) where
 turned_ended : (c : Setup) (o : Outside) (m : NormalKept) (n : ℕ) (t : TrackTold) → turned_track c o m ended_turn n t ≡ t
 turned_ended c o m n t = λ i. record t { stream = record t.stream { taken = append-nil t.stream.taken i }; commands = record t.commands { taken = append-nil t.commands.taken i } }
 
-each_same : (change : ℕ → TrackTold → TrackTold) → ((n : ℕ) (t : TrackTold) → change n t ≡ t) → (m : ℕ) (ts : List TrackTold) → each_from change m ts ≡ ts
+each_same : (change : ℕ → TrackTold → TrackTold) → ((n : ℕ) (t : TrackTold) → change n t ≡ t) → (m : ℕ) (ts : List TrackTold) → changed_from change m ts ≡ ts
 each_same change same m [] = refl
 each_same change same m (t ∷ ts) = λ i. same m t i ∷ each_same change same (m + 1) ts i
 
@@ -108,7 +108,7 @@ module _ (s : Session) (marks : Marks) (W : ℕ → Type 0) (run : Run) (f : Tur
       abbrev now : Run
       now = with_turn s f e run
 
-      tracks_now : (with_turn s f e run).tracks ≡ each_from (turned_track (setup_of s) (outside_of (setup_of s) f e) run.normal e) 0 run.tracks
+      tracks_now : (with_turn s f e run).tracks ≡ changed_from (turned_track (setup_of s) (outside_of (setup_of s) f e) run.normal e) 0 run.tracks
       unfolding with_turn
       tracks_now = refl
 

@@ -1,6 +1,6 @@
 -- What a judge notes of a turn in the blocks of a track is what the turn told of them in the run.
 use Rattle.std.proofs.Common.{◌≡◌, ◌⊎◌, ℕ, ◌+◌, ◌==◌, ◌&&◌, not, Bool, true, false, cond, if◌then◌else◌, is_some, fold, map, refl, sym, ap, ◌∙◌, subst, List, [], ◌∷◌, ◌++◌, length, Option, Some, None, inl, inr, nat_lt, eqb-true, append_assoc, append-nil, arith}
-use Rattle.af_judge.proofs.Common.{AllByRecursion, BlockTold, CommandLook, Frame, Listed, ServerEvent, ServerKept, Shape, SlotEntry, TakeSeen, TracksRise, after_look, ahead, all_command_events, as_slot, command_events, count_seen, cycle_events, did, flat_map, front_by_answer, front_of, fronts_by, hand_does, leaves_open, length-map, listed, look_events, own_front, packed_word, server_does, server_kept, server_list, shows_command, status_events, take_front, takes_from, took, words_taken}
+use Rattle.af_judge.proofs.Common.{AllByRecursion, BlockTold, CommandLook, Frame, Listed, ServerEvent, ServerKept, Shape, SlotEntry, TakeSeen, TracksRise, events_behind_look, ahead, all_command_events, as_slot, command_events, count_seen, cycle_events, did, flat_map, front_by_answer, front_of, fronts_by, hand_does, leaves_open, length-map, listed, look_events, own_front, packed_word, server_does, server_kept, server_list, shows_command, status_events, take_front, takes_from, took, words_taken}
 use Rattle.af_base.specs.declared.event.HandEvent.TheVariants as hand
 use Rattle.af_base.specs.declared.event.ServerEvent.TheVariants as server
 use Rattle.af_judge.proofs.Basics.{nothing_from}
@@ -71,7 +71,7 @@ mix_same k xs ys asked slot same = ap by_kept same
 
     by_kept : ServerKept → List ServerEvent
     by_kept a = let was_shut = is_some a.shut in
-        server.SawGain slot.gains ∷ (if was_shut then [] else look_events slot.seen slot.flush slot.rear (front a)) ++ after_look asked was_shut slot.seen
+        server.SawGain slot.gains ∷ (if was_shut then [] else look_events slot.seen slot.flush slot.rear (front a)) ++ events_behind_look asked was_shut slot.seen
 
 module _ (j : BlockJudged) (b : BlockTold) (h : IsBlockOf j b) (shut disabled : Bool) where
   -- the block after DISABLED and INVALID

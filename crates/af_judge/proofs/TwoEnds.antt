@@ -1,6 +1,6 @@
 -- What the last step in an order of two ends is, and which counts are open after one step more.
 use Rattle.std.proofs.Common.{◌≡◌, ◌⊎◌, inl, inr, suc, List, [], ◌∷◌, ◌++◌, length, refl, sym, ap, subst, ◌∙◌, arith, length-append}
-use Rattle.af_judge.proofs.Common.{Event, Legal, after, legal_at, one, ones, two, twos}
+use Rattle.af_judge.proofs.Common.{Event, Legal, point_after, legal_at, one, ones, two, twos}
 use Rattle.af_model.proofs.Orders.{ones_one, ones_two, twos_one, twos_two, add_one, add_two}
 use Rattle.af_judge.specs.TwoEnds.{Ends, ends_next, ends_after, HasEndsOrder}
 
@@ -31,7 +31,7 @@ not_empty xs a e = let n : length (xs ++ a ∷ []) ≡ 0 = ap length e in absurd
 
 module _ {M O A B : Type 0} (legal : Ends M O → Event A B → Type 0) (first_after : M → A → M) (second_after : O → B → O) where
   -- the halves that an order leaves are those of its two lists
-  pub after_lists : (p : Ends M O) (es : List (Event A B)) → after legal (ends_next legal first_after second_after) p es ≡ ends_after legal first_after second_after p (ones es) (twos es)
+  pub after_lists : (p : Ends M O) (es : List (Event A B)) → point_after legal (ends_next legal first_after second_after) p es ≡ ends_after legal first_after second_after p (ones es) (twos es)
   after_lists p [] = refl
   after_lists p (one a ∷ es) = after_lists (ends_next legal first_after second_after p (one a)) es
   after_lists p (two b ∷ es) = after_lists (ends_next legal first_after second_after p (two b)) es
@@ -44,7 +44,7 @@ module _ {M O A B : Type 0} (legal : Ends M O → Event A B → Type 0) (first_a
     abbrev May : List A → List B → Event A B → Type 0
     May xs ys e = legal (ends_after legal first_after second_after p xs ys) e
 
-    after_order : (xs : List A) (ys : List B) (h : Reach xs ys) → after legal (ends_next legal first_after second_after) p h.order ≡ ends_after legal first_after second_after p xs ys
+    after_order : (xs : List A) (ys : List B) (h : Reach xs ys) → point_after legal (ends_next legal first_after second_after) p h.order ≡ ends_after legal first_after second_after p xs ys
     after_order xs ys h = after_lists p h.order ∙ (ap (λ l. ends_after legal first_after second_after p l (twos h.order)) h.of_one ∙ ap (λ l. ends_after legal first_after second_after p xs l) h.of_two)
 
     pub reach_one : (xs : List A) (ys : List B) (a : A) → Reach xs ys → May xs ys (one a) → Reach (xs ++ a ∷ []) ys

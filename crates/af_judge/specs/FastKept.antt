@@ -14,7 +14,7 @@ use Rattle.af_model.specs.Point.{wrapped}
 use Rattle.af_model.specs.Reports.{no_report}
 use Rattle.af_model.specs.StateQueue.{carries, slot_of}
 use Rattle.af_runs.specs.Fronts.{is_shown}
-use Rattle.af_runs.specs.Runs.{most_cycles, plays}
+use Rattle.af_runs.specs.Runs.{most_round_cycles, shows_slot}
 use Rattle.af_judge.specs.declared.track_judge.TrackJudge.{TrackJudge}
 use Rattle.af_judge.specs.Blocks.{BlockJudged, listed_in, played_told}
 use Rattle.af_judge.specs.EntryMarks.{IsMarkedBy}
@@ -46,7 +46,7 @@ stream_changed track change tracks = elim (slice_get tracks track) as (λ o. Lis
 -- a slot that an entry plays, with the frames of the log that it took
 abbrev pub slot_played : ℕ → FastState → List Frame → CycleEntry → ℕ → List TrackJudge → List TrackJudge
 slot_played asked x frames entry i tracks =
-    if plays x entry i then stream_changed (slot_of x i).track (played_told asked (entry_slot entry i) (map packed_word (frames_taken frames (entry_slot entry i)))) tracks
+    if shows_slot x entry i then stream_changed (slot_of x i).track (played_told asked (entry_slot entry i) (map packed_word (frames_taken frames (entry_slot entry i)))) tracks
     else tracks
 
 -- the first slots, one after the other
@@ -135,7 +135,7 @@ fast_begins asked size cells = record { told = telling_begins asked; cold = 0; e
 
 -- the number of the report that a turn finds which loaded this one: none comes behind the first 16 entries of the round
 abbrev pub number_found : FastKept → ℕ → ℕ
-number_found f number = min number (f.before.cycle + most_cycles)
+number_found f number = min number (f.before.cycle + most_round_cycles)
 
 -- A turn of so many entries of a log, from this place on, ends where it may: after so many cycles, or after one that isn't Mixed, or, if `full` says so, since the log is full. Each before the last is Mixed
 pub record EndsAsTurn (entries : List CycleEntry) (first count cycles : ℕ) (full : Bool) : Type 0 where

@@ -11,7 +11,7 @@ use Rattle.af_life.specs.Heard.{known_by}
 use Rattle.af_model.specs.Cycles.{Listed, cycle_events, kept}
 use Rattle.af_model.specs.StateQueue.{slot_of}
 use Rattle.af_runs.specs.Fronts.{front_of}
-use Rattle.af_runs.specs.Runs.{plays}
+use Rattle.af_runs.specs.Runs.{shows_slot}
 use Rattle.af_runs.specs.Sessions.{command_shape}
 use Rattle.af_judge.specs.declared.server_judge.ServerJudge.{ServerJudge}
 use Rattle.af_judge.specs.declared.track_judge.TrackJudge.{TrackJudge}
@@ -44,7 +44,7 @@ server_changed track change servers = elim (slice_get servers track) as (λ o. L
 
 -- a slot that an entry plays
 abbrev pub slot_foreseen : ℕ → FastState → CycleEntry → ℕ → List Listed → List Listed
-slot_foreseen asked x entry i servers = if plays x entry i then server_changed (slot_of x i).track (looked_by asked (entry_slot entry i)) servers else servers
+slot_foreseen asked x entry i servers = if shows_slot x entry i then server_changed (slot_of x i).track (looked_by asked (entry_slot entry i)) servers else servers
 
 -- the first slots, one after the other
 unfoldable pub slots_foreseen : ℕ → FastState → CycleEntry → ℕ → List Listed → List Listed

@@ -11,7 +11,7 @@ use Rattle.af_runs.specs.declared.want.ClientCommand.TheVariants as command
 use Rattle.af_runs.specs.declared.want.Want.{Want}
 use Rattle.af_runs.specs.declared.want.Want.TheVariants as want
 use Rattle.af_script.specs.declared.op.Op.{Op}
-use Rattle.af_runs.specs.Clients.{Client, code_of, after_answer, at_next_turn, begun, next_want, rest_of}
+use Rattle.af_runs.specs.Clients.{Client, command_code, after_answer, at_next_turn, begun, next_want, rest_of}
 use Rattle.af_runs.specs.Kept.{ClientKept as ClientAt, client_of}
 use Rattle.af_runs.specs.ClientTurns.{Side, Track, asked_by, is_clear, is_flush, is_of_commands, is_send, is_status, is_write}
 
@@ -86,7 +86,7 @@ argument_by k _ = 0
 
 -- the call is the one that is wanted
 abbrev pub WantedBy : SideKept → Want → ClientCall → Type 0
-WantedBy k (want.Send sending) answer = is_send (code_of sending) (argument_by k sending) answer ≡ true
+WantedBy k (want.Send sending) answer = is_send (command_code sending) (argument_by k sending) answer ≡ true
 WantedBy k want.Settled answer = is_status answer ≡ true
 WantedBy k want.Drained answer = is_status answer ≡ true
 WantedBy k want.Flush answer = is_flush answer ≡ true
@@ -95,7 +95,7 @@ WantedBy k (want.Write count) answer = is_write answer ≡ true
 WantedBy k want.Clear answer = is_clear answer ≡ true
 WantedBy k (want.Poke in_command word value) answer = answer ≡ call.Poke in_command word value
 WantedBy k want.Rest answer = ⊥
-WantedBy k want.Leave answer = is_send (code_of command.Remove) 0 answer ≡ true
+WantedBy k want.Leave answer = is_send (command_code command.Remove) 0 answer ≡ true
 
 -- the side that a call is made on
 abbrev pub kept_for : SidesKept → ClientCall → SideKept

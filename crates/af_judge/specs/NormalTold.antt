@@ -18,10 +18,9 @@ use Rattle.af_life.specs.Serves.{is_found_shut}
 use Rattle.af_life.specs.Turn.{ends_now}
 use Rattle.af_life.specs.TurnEvents.{takes_from}
 use Rattle.af_runs.specs.Blocks.{Marks, listed}
-use Rattle.af_runs.specs.Found.{TurnFound, outside_of}
-use Rattle.af_runs.specs.Runs.{commands_turned, stream_turned}
+use Rattle.af_runs.specs.Found.{TurnFound}
 use Rattle.af_judge.specs.declared.track_judge.TrackJudge.{TrackJudge}
-use Rattle.af_judge.specs.Blocks.{BlockJudged, IsBlockOf, commanded_told, hand_more, listed_in, played_told, server_more}
+use Rattle.af_judge.specs.Blocks.{BlockJudged, commanded_told, hand_more, listed_in, played_told, server_more}
 use Rattle.af_judge.specs.NormalLooks.{AllAnswer}
 use Rattle.af_judge.specs.NormalTurns.{Begins, Serves}
 use Rattle.af_judge.specs.Servers.{LooksRightly}
@@ -129,11 +128,3 @@ pub record Finds (marks : Marks) (f : TurnFound) (tracks : List TrackJudge) : Ty
   pub lawful_streams : (i : ℕ) (t : TrackJudge) → IsTrackAt tracks i t → marks.streams i ≡ t.stream.lawful
   pub lawful_commands : (i : ℕ) (t : TrackJudge) → IsTrackAt tracks i t → marks.commands i ≡ t.commands.lawful
   pub beyond : (i : ℕ) → length tracks ≤ i → known_by (listed (f.streams i)) ≡ nothing_heard
-
--- a track after a turn is kept of the blocks that the turn leaves in the run
-pub record TrackFollows (c : Setup) (f : TurnFound) (m : NormalKept) (e : Turn) (i : ℕ) (before : TrackJudge) (after : List TrackJudge) : Type 0 where
-  pub track : TrackJudge
-  pub is : IsTrackAt after i track
-  pub client : track.client ≡ before.client
-  pub stream : IsBlockOf track.stream (stream_turned c (outside_of c f e) m e i (f.streams i))
-  pub commands : IsBlockOf track.commands (commands_turned c (outside_of c f e) m e i (f.commands i))

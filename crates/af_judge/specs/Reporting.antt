@@ -13,7 +13,7 @@ use Rattle.af_model.specs.Cycles.{state_of}
 use Rattle.af_model.specs.Draft.{initial}
 use Rattle.af_model.specs.Reports.{ServerKnown, no_report, report_at, slot_report}
 use Rattle.af_model.specs.StateQueue.{slot_of}
-use Rattle.af_runs.specs.Runs.{plays}
+use Rattle.af_runs.specs.Runs.{shows_slot}
 use Rattle.af_runs.specs.Sessions.{command_shape}
 use Rattle.af_runs.specs.Told.{state_at}
 use Rattle.af_judge.specs.Blocks.{BlockJudged, listed_in}
@@ -67,7 +67,7 @@ told_at_slot heard i = told_by (slice_index_or heard i nothing_heard)
 -- a slot of the report after an entry under the state x, after one under the state y. Of a state that isn't pushed yet only what the entry shows is told
 abbrev pub slot_added : ℕ → List FastState → FastState → FastState → CycleEntry → ServerKnown → ℕ → SlotReport → SlotReport
 slot_added asked states x y entry known i before =
-    if is_some (state_of states entry.state) || plays x entry i
+    if is_some (state_of states entry.state) || shows_slot x entry i
     then slot_report asked (Some x) (Some y) entry known i before
     else before
 

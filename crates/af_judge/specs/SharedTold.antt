@@ -13,7 +13,7 @@ use Rattle.af_model.specs.declared.states.ObserverEvent.TheVariants as observer
 use Rattle.af_model.specs.Draft.{initial}
 use Rattle.af_model.specs.NewestValue as newest
 use Rattle.af_model.specs.NewestValue.{CellPoint}
-use Rattle.af_model.specs.Order.{Event, ones, twos, after, HasOrder}
+use Rattle.af_model.specs.Order.{Event, ones, twos, point_after, HasOrder}
 use Rattle.af_model.specs.Reports.{no_report}
 use Rattle.af_model.specs.StateQueue as queued
 use Rattle.af_model.specs.StateQueue.{QueuePoint}
@@ -38,7 +38,7 @@ module _ {P A B : Type 0} (legal : P → Event A B → Type 0) (next : P → Eve
   -- two lists have a legal order, which leaves this point, and each order of lists that go on goes on from there
   pub record IsCutAt (from point : P) (xs : List A) (ys : List B) : Type 0 where
     pub order : HasOrder legal next from xs ys
-    pub leaves : after legal next from order.order ≡ point
+    pub leaves : point_after legal next from order.order ≡ point
     pub goes_on : (later : List A) (looks : List B) → HasOrder legal next from (xs ++ later) (ys ++ looks) → HasOrder legal next point later looks
 
 -- ## The queue
@@ -75,7 +75,7 @@ pub record QueueFollows (frames : ℕ) (states : List FastState) (current : ℕ)
   pub also : List (ObserverEvent Item)
   pub told_one : ones told ≡ firsts ++ later
   pub told_two : twos told ≡ seconds ++ also
-  pub cut : IsCutAt queued.legal queued.next (queued.start (initial frames)) point firsts seconds
+  pub cut : IsCutAt queued.legal queued.next (queued.start_of_queue (initial frames)) point firsts seconds
   pub many_one : point.mutator.count ≡ length firsts
   pub many_two : point.observer.count ≡ length seconds
   pub fits : (state : ℕ → FastState) → Follow state → AreStates frames states state → Fits state point (numbers q.mutator q.observer) q.mutator.clear q.observer.acked
@@ -131,7 +131,7 @@ pub record ReportFollows (reports : List Report) (told : ReportTold) (r : Report
   pub seconds : List (ReaderEvent Report)
   pub told_one : ones told ≡ firsts ++ map (λ x. Store x) (drop r.met reports)
   pub told_two : twos told ≡ seconds ++ loads_of reports r.loaded
-  pub cut : IsCutAt newest.legal newest.next (newest.start no_report) point firsts seconds
+  pub cut : IsCutAt newest.legal_value newest.next_value (newest.start_value no_report) point firsts seconds
   pub many_one : point.writes ≡ length firsts
   pub many_two : point.reads ≡ length seconds
   pub number : point.number ≡ r.met

@@ -11,9 +11,9 @@ ghost use Rattle.af_life.specs.Heard.{known_by};
 ghost use Rattle.af_life.specs.Looks.{HasWords, as_slot, takes_command};
 ghost use Rattle.af_life.specs.Obeys.{shows_command};
 ghost use Rattle.af_model.specs.ClientCalls.{client_call_events};
-ghost use Rattle.af_model.specs.History.{is_lawful, is_tame};
+ghost use Rattle.af_model.specs.History.{is_lawful, is_no_poke};
 ghost use Rattle.af_model.specs.ServerCalls.{drops_of, look_events};
-ghost use Rattle.af_model.specs.Cycles.{after_look, kept, tally};
+ghost use Rattle.af_model.specs.Cycles.{events_behind_look, kept, tally};
 ghost use Rattle.af_runs.specs.Fronts.{front_of};
 ghost use Rattle.af_judge.specs.Blocks.{HasItsHistory, client_more, commanded_told, hand_met, hand_more, listed_in, look_told, parties_met, played_told, raised_by, released_more, server_more, servers_met, taken_more};
 ghost use Rattle.af_judge.specs.Servers.{IsServerOf, LooksRightly};
@@ -83,7 +83,7 @@ fn raised_by(event: ClientEvent) -> u32
 
 // No poke was told before, and this is none.
 fn stays_tame(tame: bool, event: ClientEvent) -> bool
-    ensures { result ≡ (tame && is_tame event) }
+    ensures { result ≡ (tame && is_no_poke event) }
 {
     match event {
         ClientEvent::Poke { .. } => false,
@@ -325,7 +325,7 @@ impl BlockJudge {
 
     // What follows a look at a stream block.
     fn after_look(&mut self, asked: u32, was_shut: bool, seen: Seen) -> Result<(), Memory>
-        ensures { OnOk result (self.new ≡ server_more (after_look asked was_shut seen) self.old) }
+        ensures { OnOk result (self.new ≡ server_more (events_behind_look asked was_shut seen) self.old) }
     {
         match seen {
             Seen::Frames { count } => {

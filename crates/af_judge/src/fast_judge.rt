@@ -6,7 +6,7 @@ ghost use Rattle.af_model.specs.Cycles.{is_exit, is_mixed, submix_slot};
 ghost use Rattle.af_model.specs.Point.{wrapped};
 ghost use Rattle.af_model.specs.StateQueue.{carries, slot_of};
 ghost use Rattle.af_judge.specs.FastKept.{AreSlotsRight, EndsAsTurn, FollowsTold, IsEntryRight, IsLookRight, IsMixRight, IsSlotRight, carries_track, entry_told, entry_tracks, fast_added, fast_begins, fast_drafted, fast_polled, number_found, pipe_played, slot_played, slots_played, stream_changed};
-ghost use Rattle.af_runs.specs.Runs.{most_cycles};
+ghost use Rattle.af_runs.specs.Runs.{most_round_cycles};
 ghost use Rattle.af_judge.specs.Blocks.{played_told};
 ghost use Rattle.af_judge.specs.EntriesTold.{AreEntriesRight, entries_leave, playing};
 ghost use Rattle.af_judge.specs.Foresight.{entries_foreseen, foreseen, server_of, servers_at};
@@ -195,7 +195,7 @@ pub fn is_fast_turn(log: &FastLog, entries: Entries, cycles: usize, full: bool) 
 
 // A number, but none behind the entries that a round may have after so many reports.
 fn within_round(before: u64, number: u64) -> u64
-    ensures { result ≡ min number (before + most_cycles) }
+    ensures { result ≡ min number (before + most_round_cycles) }
 {
     if number <= before {
         return number;

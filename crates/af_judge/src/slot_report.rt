@@ -3,7 +3,7 @@ ghost use Rattle.std.specs.Prelude.{◌≡◌, ℕ, List, [], ◌∷◌, ◌+◌
 ghost use Rattle.std.specs.Option.{option_map};
 ghost use Rattle.af_base.specs.Log.{slots};
 ghost use Rattle.af_life.specs.Heard.{known_by};
-ghost use Rattle.af_model.specs.Cycles.{Listed, after_look, state_of, tally};
+ghost use Rattle.af_model.specs.Cycles.{Listed, events_behind_look, state_of, tally};
 ghost use Rattle.af_model.specs.Reports.{counted_look, is_empty, is_full, is_partial, no_slot, report_at};
 ghost use Rattle.af_model.specs.StateQueue.{carries};
 ghost use Rattle.af_runs.specs.Fronts.{is_shown};
@@ -207,7 +207,7 @@ fn note_missing(server: &mut ServerJudge, missing: u32)
 
 // Notes what follows a look.
 fn note_after(server: &mut ServerJudge, asked: u32, was_shut: bool, seen: Seen)
-    ensures { (s : Listed) → server.old ≡ server_of s → server.new ≡ server_of (did_more (after_look asked was_shut seen) s) }
+    ensures { (s : Listed) → server.old ≡ server_of s → server.new ≡ server_of (did_more (events_behind_look asked was_shut seen) s) }
 {
     match seen {
         Seen::Frames { count } => {

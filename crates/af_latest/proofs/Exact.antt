@@ -6,29 +6,29 @@ use Rattle.af_model.specs.declared.newest.WriterEvent.TheVariants as writes
 use Rattle.af_model.specs.declared.newest.ReaderEvent.{ReaderEvent}
 use Rattle.af_model.specs.declared.newest.ReaderEvent.TheVariants.{Load}
 use Rattle.af_model.specs.declared.newest.ReaderEvent.TheVariants as reads
-use Rattle.af_model.specs.Order.{Event, one, two, ones, Legal, after}
+use Rattle.af_model.specs.Order.{Event, one, two, ones, Legal, point_after}
 use Rattle.af_model.proofs.Splits.{split_at, ones_append, legal_at}
-use Rattle.af_model.specs.NewestValue.{CellPoint, start, legal, next, HasHistory}
+use Rattle.af_model.specs.NewestValue.{CellPoint, start_value, legal_value, next_value, HasValueHistory}
 use Rattle.af_latest.specs.Laws.{last_of, stores}
 
 module _ {T : Type 0} where
-  after_number : (p : CellPoint T) (es : List (Event (WriterEvent T) (ReaderEvent T))) → (after legal next p es).number ≡ p.number + stores (ones es)
+  after_number : (p : CellPoint T) (es : List (Event (WriterEvent T) (ReaderEvent T))) → (point_after legal_value next_value p es).number ≡ p.number + stores (ones es)
   after_number p [] = omega arith
-  after_number p (one (Store x) ∷ es) = let e = after_number (next p (one (Store x))) es in omega arith
-  after_number p (one (writes.Learn c) ∷ es) = after_number (next p (one (writes.Learn c))) es
-  after_number p (two e ∷ es) = after_number (next p (two e)) es
+  after_number p (one (Store x) ∷ es) = let e = after_number (next_value p (one (Store x))) es in omega arith
+  after_number p (one (writes.Learn c) ∷ es) = after_number (next_value p (one (writes.Learn c))) es
+  after_number p (two e ∷ es) = after_number (next_value p (two e)) es
 
-  after_value : (p : CellPoint T) (es : List (Event (WriterEvent T) (ReaderEvent T))) → (after legal next p es).value ≡ last_of p.value (ones es)
+  after_value : (p : CellPoint T) (es : List (Event (WriterEvent T) (ReaderEvent T))) → (point_after legal_value next_value p es).value ≡ last_of p.value (ones es)
   after_value p [] = refl
-  after_value p (one (Store x) ∷ es) = after_value (next p (one (Store x))) es
-  after_value p (one (writes.Learn c) ∷ es) = after_value (next p (one (writes.Learn c))) es
-  after_value p (two e ∷ es) = after_value (next p (two e)) es
+  after_value p (one (Store x) ∷ es) = after_value (next_value p (one (Store x))) es
+  after_value p (one (writes.Learn c) ∷ es) = after_value (next_value p (one (writes.Learn c))) es
+  after_value p (two e ∷ es) = after_value (next_value p (two e)) es
 
-  after_writes : (p : CellPoint T) (es : List (Event (WriterEvent T) (ReaderEvent T))) → (after legal next p es).writes ≡ p.writes + length (ones es)
+  after_writes : (p : CellPoint T) (es : List (Event (WriterEvent T) (ReaderEvent T))) → (point_after legal_value next_value p es).writes ≡ p.writes + length (ones es)
   after_writes p [] = omega arith
-  after_writes p (one (Store x) ∷ es) = let e = after_writes (next p (one (Store x))) es in omega arith
-  after_writes p (one (writes.Learn c) ∷ es) = let e = after_writes (next p (one (writes.Learn c))) es in omega arith
-  after_writes p (two e ∷ es) = after_writes (next p (two e)) es
+  after_writes p (one (Store x) ∷ es) = let e = after_writes (next_value p (one (Store x))) es in omega arith
+  after_writes p (one (writes.Learn c) ∷ es) = let e = after_writes (next_value p (one (writes.Learn c))) es in omega arith
+  after_writes p (two e ∷ es) = after_writes (next_value p (two e)) es
 
   tail_of : List (WriterEvent T) → List (WriterEvent T)
   tail_of [] = []
@@ -60,27 +60,27 @@ module _ {T : Type 0} where
       subst (λ w. stores (w ∷ xs) ≤ stores (z ∷ zs)) same (more_stores z xs zs (prefix_stores zs us xs ys (ap tail_of e) (omega arith)))
 
   -- the writer stored nothing after the events xs, of which the reader has learnt
-  pub exact : (first : T) (ws xs ys : List (WriterEvent T)) (rs : List (ReaderEvent T)) (c n : ℕ) (x : T) → HasHistory first ws ((rs ++ reads.Learn c ∷ []) ++ Load n x ∷ []) → ws ≡ xs ++ ys → length xs ≤ c → stores ys ≡ 0
+  pub exact : (first : T) (ws xs ys : List (WriterEvent T)) (rs : List (ReaderEvent T)) (c n : ℕ) (x : T) → HasValueHistory first ws ((rs ++ reads.Learn c ∷ []) ++ Load n x ∷ []) → ws ≡ xs ++ ys → length xs ≤ c → stores ys ≡ 0
       → (n ≡ stores ws) × (x ≡ last_of first ws)
   exact first ws xs ys rs c n x h parts told none =
       let s = split_at h.order (rs ++ reads.Learn c ∷ []) (Load n x) [] h.of_two in
       let es : List (Event (WriterEvent T) (ReaderEvent T)) = s.before in
-      let l = legal_at legal next (start first) es (two (Load n x)) s.behind (subst (Legal legal next (start first)) s.whole h.is_legal) in
+      let l = legal_at legal_value next_value (start_value first) es (two (Load n x)) s.behind (subst (Legal legal_value next_value (start_value first)) s.whole h.is_legal) in
       let t = split_at es rs (reads.Learn c) [] s.first in
-      let k = legal_at legal next (start first) t.before (two (reads.Learn c)) t.behind (subst (Legal legal next (start first)) t.whole l.0) in
+      let k = legal_at legal_value next_value (start_value first) t.before (two (reads.Learn c)) t.behind (subst (Legal legal_value next_value (start_value first)) t.whole l.0) in
       let zs : List (WriterEvent T) = ones es in
       let us : List (WriterEvent T) = ones s.behind in
       let all : zs ++ us ≡ ws = sym (ones_append es (two (Load n x) ∷ s.behind)) ∙ ap ones (sym s.whole) ∙ h.of_one in
       let inner : zs ≡ ones t.before ++ ones t.behind = ap ones t.whole ∙ ones_append t.before (two (reads.Learn c) ∷ t.behind) in
-      let counted = after_writes (start first) t.before in
+      let counted = after_writes (start_value first) t.before in
       let sum = ap length inner ∙ length-append (ones t.before) (ones t.behind) in
       let enough : length xs ≤ length zs = (let learnt = k.1 in omega arith) in
       let lower = prefix_stores zs us xs ys (all ∙ parts) enough in
       let total_1 = sym (stores_append zs us) ∙ ap stores all in
       let total_2 = ap stores parts ∙ stores_append xs ys in
       let rest_none : stores us ≡ 0 = omega arith in
-      let number = after_number (start first) es in
-      let value = after_value (start first) es in
+      let number = after_number (start_value first) es in
+      let value = after_value (start_value first) es in
       ((let e = l.1.0 in omega arith), l.1.1 ∙ value ∙ sym (last_append first zs us rest_none) ∙ ap (last_of first) all)
 
   pub last_store : (x : T) (ws : List (WriterEvent T)) (v : T) (k : ℕ) → last_of x ((ws ++ Store v ∷ []) ++ writes.Learn k ∷ []) ≡ v

@@ -8,7 +8,7 @@ use Rattle.af_latest.specs.declared.view.View.{View}
 use Rattle.af_latest.specs.declared.view.Writing.{Writing}
 use Rattle.af_latest.specs.declared.view.Reading.{Reading}
 use Rattle.af_model.proofs.PartySteps.{one_changes, two_changes, two_leaves, two_comes}
-use Rattle.af_model.specs.NewestValue.{start}
+use Rattle.af_model.specs.NewestValue.{start_value}
 use Rattle.af_latest.specs.Rule.{starting, spent, has_writing, writing, has_reading, reading, Kept, Seated, sat_writer, sat_reader}
 
 module _ {T : Type 0} where
@@ -20,7 +20,7 @@ module _ {T : Type 0} where
         reader = (starting x).reading;
         seats = record { one_at = 0; two_at = 0; one_held = λ j u e _. ((only j u e).0, ap writing (sym (only j u e).1)); two_held = λ j u e _. ((only j u e).0, ap reading (sym (only j u e).1)) };
         first_is = refl;
-        stands = record { history = record { order = []; is_legal = tt; of_one = refl; of_two = refl }; point = start x; point_is = refl };
+        stands = record { history = record { order = []; is_legal = tt; of_one = refl; of_two = refl }; point = start_value x; point_is = refl };
         counts = (refl, refl);
         middle = 2;
         fresh = false;

@@ -17,7 +17,7 @@ use Rattle.af_model.specs.declared.newest.ReaderEvent.TheVariants as reads
 use Rattle.af_model.specs.Order.{one, two}
 use Rattle.af_model.specs.Parties.{AreHeld, Stands}
 use Rattle.af_model.proofs.PartySteps.{one_changes, two_changes, both_change, stand_one, stand_two}
-use Rattle.af_model.specs.NewestValue.{CellPoint, start, legal, next, HasHistory}
+use Rattle.af_model.specs.NewestValue.{CellPoint, start_value, legal_value, next_value, HasValueHistory}
 use Rattle.af_latest.specs.Ends.{last_number}
 use Rattle.af_latest.specs.Rule.{code, has_writing, writing, has_reading, reading, Apart, known_by, AreLaid, Kept, Seated, stored, looked, fetched, met}
 
@@ -57,11 +57,11 @@ module _ {T : Type 0} (first : T) where
     p = k.stands.point
 
     -- one event more
-    abbrev more_w : (e : WriterEvent T) → legal p (one e) → Stands legal next (start first) (k.writer.events ++ e ∷ []) k.reader.events
-    more_w e l = stand_one legal next (start first) k.writer.events k.reader.events k.stands e l
+    abbrev more_w : (e : WriterEvent T) → legal_value p (one e) → Stands legal_value next_value (start_value first) (k.writer.events ++ e ∷ []) k.reader.events
+    more_w e l = stand_one legal_value next_value (start_value first) k.writer.events k.reader.events k.stands e l
 
-    abbrev more_r : (e : ReaderEvent T) → legal p (two e) → Stands legal next (start first) k.writer.events (k.reader.events ++ e ∷ [])
-    more_r e l = stand_two legal next (start first) k.writer.events k.reader.events k.stands e l
+    abbrev more_r : (e : ReaderEvent T) → legal_value p (two e) → Stands legal_value next_value (start_value first) k.writer.events (k.reader.events ++ e ∷ [])
+    more_r e l = stand_two legal_value next_value (start_value first) k.writer.events k.reader.events k.stands e l
 
     w_counts : (e : WriterEvent T) → (p.writes + 1 ≡ length (k.writer.events ++ e ∷ [])) × (p.reads ≡ length k.reader.events)
     w_counts e = (ap (λ (z : ℕ). z + 1) k.counts.0 ∙ sym (length-append k.writer.events (e ∷ [])), k.counts.1)
@@ -298,8 +298,8 @@ module _ {T : Type 0} (first : T) where
     met_view = record v { writing = met_writer; reading = met_reader }
 
     -- the lists with what was learnt have a history
-    abbrev met_stands : Stands legal next (start first) met_writer.events met_reader.events
-    met_stands = stand_two legal next (start first) met_writer.events k.reader.events
+    abbrev met_stands : Stands legal_value next_value (start_value first) met_writer.events met_reader.events
+    met_stands = stand_two legal_value next_value (start_value first) met_writer.events k.reader.events
         (more_w s k id v here (writes.Learn (length k.reader.events)) (let c = k.counts.1 in omega arith)) (reads.Learn (length k.writer.events)) (let c = k.counts.0 in omega arith)
 
     meets : (cs : List (ℕ × T)) → Kept first (stepped s 0 (get_or s.words 0 0) id cs met_view keeps)
@@ -327,7 +327,7 @@ module _ {T : Type 0} (first : T) where
         tt,
         meets s k id v here w_ok r_ok m.1,
         (
-          (λ x e. subst (λ (q : T × Writing T × Reading T). HasHistory q.0 q.1.events q.2.events × HasHistory q.0 (q.1.events ++ writes.Learn (length q.2.events) ∷ []) (q.2.events ++ reads.Learn (length q.1.events) ∷ []))
+          (λ x e. subst (λ (q : T × Writing T × Reading T). HasValueHistory q.0 q.1.events q.2.events × HasValueHistory q.0 (q.1.events ++ writes.Learn (length q.2.events) ∷ []) (q.2.events ++ reads.Learn (length q.1.events) ∷ []))
               (λ i. (some_same first x (sym k.first_is ∙ ap (λ (y : Writing T). y.first) w_is ∙ e) i, w_is i, r_is i)) (k.stands.history, (met_stands s k id v here w_ok r_ok).history)),
           λ i. (
             record v {

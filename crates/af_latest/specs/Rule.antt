@@ -13,7 +13,7 @@ use Rattle.af_model.specs.declared.newest.ReaderEvent.TheVariants.{Load}
 use Rattle.af_model.specs.declared.newest.ReaderEvent.TheVariants as reads
 use Rattle.af_model.specs.Parties.{AreHeld, Stands}
 use Rattle.af_latest.specs.Ends.{last_number}
-use Rattle.af_model.specs.NewestValue.{CellPoint, start, legal, next, HasHistory}
+use Rattle.af_model.specs.NewestValue.{CellPoint, start_value, legal_value, next_value, HasValueHistory}
 
 -- the word that names the slot k
 abbrev pub code : ℕ → Bool → ℕ
@@ -81,7 +81,7 @@ pub record Kept {T : Type 0} (first : T) (s : State T (View T)) : Type 0 where
   pub reader : Reading T
   pub seats : AreHeld has_writing writing has_reading reading s.views writer reader
   pub first_is : writer.first ≡ Some first
-  pub stands : Stands legal next (start first) writer.events reader.events
+  pub stands : Stands legal_value next_value (start_value first) writer.events reader.events
   pub counts : (stands.point.writes ≡ length writer.events) × (stands.point.reads ≡ length reader.events)
   pub middle : ℕ
   pub fresh : Bool
@@ -115,7 +115,7 @@ module _ {T : Type 0} where
   -- each party learns how many events the other has, and both lists have a history, before that and with it
   abbrev pub met : Step T → Seated T → ℕ → Seated T → Type 0
   met st m r m' = let v = m.0 in
-      ((x : T) → v.writing.first ≡ Some x → HasHistory x v.writing.events v.reading.events × HasHistory x (v.writing.events ++ writes.Learn (length v.reading.events) ∷ []) (v.reading.events ++ reads.Learn (length v.writing.events) ∷ []))
+      ((x : T) → v.writing.first ≡ Some x → HasValueHistory x v.writing.events v.reading.events × HasValueHistory x (v.writing.events ++ writes.Learn (length v.reading.events) ∷ []) (v.reading.events ++ reads.Learn (length v.writing.events) ∷ []))
       × (m' ≡ (
         record v {
           writing = record v.writing { events = v.writing.events ++ writes.Learn (length v.reading.events) ∷ [] };

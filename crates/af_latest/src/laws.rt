@@ -1,6 +1,6 @@
 //! What a history says of the loads.
 ghost use Rattle.std.specs.Prelude.{◌≡◌, ◌+◌, ◌≤◌, List, Some};
-ghost use Rattle.af_model.specs.NewestValue.{HasHistory};
+ghost use Rattle.af_model.specs.NewestValue.{HasValueHistory};
 ghost use Rattle.af_model.specs.declared.newest.WriterEvent.{WriterEvent};
 ghost use Rattle.af_model.specs.declared.newest.ReaderEvent.{ReaderEvent};
 ghost use Rattle.af_latest.specs.Laws.{NeverOlder};
@@ -12,7 +12,7 @@ use std::sync::ledger::Ledger;
 
 /// In a history no load is older than one before it, or than what was learnt before it.
 pub fn loads_never_fall<T>()
-    ensures { (first : T) (ws : List (WriterEvent T)) (rs : List (ReaderEvent T)) → HasHistory first ws rs → NeverOlder ws 0 rs }
+    ensures { (first : T) (ws : List (WriterEvent T)) (rs : List (ReaderEvent T)) → HasValueHistory first ws rs → NeverOlder ws 0 rs }
 {}
 
 /// With both ends in one hand, a load after a store and a meeting shows that store.

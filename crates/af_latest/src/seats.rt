@@ -2,7 +2,7 @@
 ghost use Rattle.std.specs.Prelude.{◌≡◌, ℕ, ◌+◌, [], ◌∷◌, ◌++◌, length, IfOk, Some};
 ghost use Rattle.af_latest.specs.Rule.{IsWriter, IsReader};
 ghost use Rattle.af_latest.specs.Ends.{Stores, Loads, last_number, load_steps};
-ghost use Rattle.af_model.specs.NewestValue.{HasHistory};
+ghost use Rattle.af_model.specs.NewestValue.{HasValueHistory};
 ghost use Rattle.af_model.specs.declared.newest.WriterEvent.TheVariants as writes;
 ghost use Rattle.af_model.specs.declared.newest.ReaderEvent.TheVariants as reads;
 
@@ -124,8 +124,8 @@ pub fn meet_latest<T: Copy, L: Ledger>(
 )
     requires together { (writer.old.cell ≡ cell.now) × (reader.old.cell ≡ cell.now) }
     ensures together { (writer.new.cell ≡ writer.old.cell) × (writer.new.first ≡ writer.old.first) × (reader.new.cell ≡ reader.old.cell) }
-    ensures before { (first : T) → writer.old.first ≡ Some first → HasHistory first writer.old.events reader.old.events }
-    ensures history { (first : T) → writer.old.first ≡ Some first → HasHistory first writer.new.events reader.new.events }
+    ensures before { (first : T) → writer.old.first ≡ Some first → HasValueHistory first writer.old.events reader.old.events }
+    ensures history { (first : T) → writer.old.first ≡ Some first → HasValueHistory first writer.new.events reader.new.events }
     ensures writer { writer.new.events ≡ writer.old.events ++ writes.Learn (length reader.old.events) ∷ [] }
     ensures reader { reader.new.events ≡ reader.old.events ++ reads.Learn (length writer.old.events) ∷ [] }
     ensures steps { steps.new ≡ steps.old + 5 }

@@ -12,7 +12,7 @@ use Rattle.af_life.specs.declared.kept.Holder.{Holder}
 use Rattle.af_life.specs.declared.kept.Setting.{Setting}
 use Rattle.af_life.specs.declared.kept.TrackKept.{TrackKept}
 use Rattle.af_life.specs.declared.track.Life.{Life}
-use Rattle.af_model.specs.Draft.{commanded as with_command}
+use Rattle.af_model.specs.Draft.{draft_commanded as with_command}
 
 pub all_of : (a b c : Bool) → a ≡ true → b ≡ true → c ≡ false → (a && b && not c) ≡ true
 all_of true true false e f g = refl

@@ -6,7 +6,7 @@ use Rattle.std.specs.Int.{bit_at}
 use Rattle.af_life.specs.declared.state.LifeState.{LifeState}
 use Rattle.af_life.specs.declared.state.LifeState.TheVariants.{Absent, Idle, Active, Pausing, Paused, Resuming, Stopping1, Stopping2, Stopped, Flushed}
 use Rattle.af_life.specs.declared.track.Life.{Life}
-use Rattle.af_life.specs.State.{code_of}
+use Rattle.af_life.specs.State.{life_code}
 use Rattle.af_life.specs.declared.kept.Heard.{Heard}
 use Rattle.af_life.specs.declared.kept.TrackKept.{TrackKept}
 use Rattle.af_life.specs.Kept.{Setup, NormalKept, Outside, track_at, track_in, nothing_seen}
@@ -19,7 +19,7 @@ use Rattle.af_life.specs.Drained.{reports_drained, Turned, life_of, kept_after, 
 use Rattle.af_life.proofs.Lives.{lives_are, turns_len, report_step}
 use Rattle.af_life.proofs.Drains.{drains_in_order}
 
-code_low : (state : LifeState) → code_of state < 16
+code_low : (state : LifeState) → life_code state < 16
 code_low Absent = omega arith
 code_low Idle = omega arith
 code_low Active = omega arith

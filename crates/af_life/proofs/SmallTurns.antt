@@ -3,7 +3,7 @@ use Rattle.std.proofs.Common.{◌≡◌, ℕ, zero, suc, refl, ◌+◌, ◌*◌,
 use Rattle.af_life.proofs.Common.{Busy, Clean, Command, Push, Pushed, Turn}
 use Rattle.af_life.proofs.Basics.{takes_len}
 use Rattle.af_life.specs.Kept.{Setup, asked, pipe_size, NormalKept, Learnt, track_at}
-use Rattle.af_life.specs.Edits.{after_ack, is_exit, must_leave, must_enter, let_go, lend, edited, edited_to, next_command, commanded_by, ordered, mutated, after_push}
+use Rattle.af_life.specs.Edits.{after_ack, commands_exit, must_leave, must_enter, let_go, lend, edited, edited_to, next_command, commanded_by, ordered, mutated, after_push}
 use Rattle.af_life.specs.Plays.{after_takes}
 use Rattle.af_life.specs.Turn.{after_tracks, after_edits, turn_after}
 use Rattle.af_life.specs.Small.{IsSmallState, IsEdited, IsSmall, IsTurnUpTo, IsSmallTurn, most_tracks}
@@ -42,7 +42,7 @@ module _ (c : Setup) (t : ℕ) where
       record { tracks = more.tracks; draft = record { generations = (λ (j : ℕ). let a = more.draft.generations j in omega arith); changes = (let a = more.draft.changes in omega arith); colds = more.draft.colds } }
 
   pub commands : (n m e room : ℕ) (x : NormalKept) → IsEdited n m e t x → IsEdited n m e (t + 1) (commanded_by c room x)
-  commands n m e room x h = ordered_small n m (next_command (is_exit x.draft) x.tracks room (pipe_size c)) e t x h
+  commands n m e room x h = ordered_small n m (next_command (commands_exit x.draft) x.tracks room (pipe_size c)) e t x h
 
   pushed_tracks : (push : Push) (x : NormalKept) → (after_push push x).tracks ≡ x.tracks
   pushed_tracks (Pushed number) x = refl

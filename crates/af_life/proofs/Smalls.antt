@@ -4,7 +4,7 @@ use Rattle.af_life.proofs.Common.{Command, CommandLook, FastState, SlotReport, T
 use Rattle.af_base.specs.declared.state.FastTrack.{FastTrack}
 use Rattle.af_model.proofs.Basics.{one_few}
 use Rattle.af_model.specs.Reports.{is_full, is_partial, is_empty}
-use Rattle.af_model.specs.StateQueue.{slot_of, no_track}
+use Rattle.af_model.specs.StateQueue.{slot_of, no_fast_track}
 use Rattle.af_life.specs.declared.kept.Heard.{Heard}
 use Rattle.af_life.specs.declared.kept.TrackKept.{TrackKept}
 use Rattle.af_life.specs.Kept.{Setup, asked, NormalKept, Learnt, track_at, new_track, new_normal, number_of, slot_number, is_home, seen_at, setting_of}
@@ -148,7 +148,7 @@ module _ (n m : ℕ) where
 
 -- each slot of a state has at most so high a generation
 abbrev AreLow : ℕ → List FastTrack → Type 0
-AreLow n xs = (k : ℕ) → (slice_index_or xs k no_track).generation ≤ n
+AreLow n xs = (k : ℕ) → (slice_index_or xs k no_fast_track).generation ≤ n
 
 set_low : (n : ℕ) (xs : List FastTrack) (k : ℕ) (t : FastTrack) → AreLow n xs → t.generation ≤ n → AreLow n (slice_set xs k t)
 set_low n [] k t low le i = low i
@@ -230,12 +230,12 @@ new_tracks_small zero i = new_track_small
 new_tracks_small (suc n) zero = new_track_small
 new_tracks_small (suc n) (suc i) = new_tracks_small n i
 
-no_tracks_low : (n : ℕ) → AreLow 0 (replicate n no_track)
+no_tracks_low : (n : ℕ) → AreLow 0 (replicate n no_fast_track)
 no_tracks_low zero i = omega arith
 no_tracks_low (suc n) zero = omega arith
 no_tracks_low (suc n) (suc i) = no_tracks_low n i
 
-first_low : (n : ℕ) → AreLow 0 (record { generation = 0; track = 0; mono = false; scale = 4096 } ∷ replicate n no_track)
+first_low : (n : ℕ) → AreLow 0 (record { generation = 0; track = 0; mono = false; scale = 4096 } ∷ replicate n no_fast_track)
 first_low n zero = omega arith
 first_low n (suc i) = no_tracks_low n i
 

@@ -7,7 +7,7 @@ use Rattle.af_base.specs.declared.state.FastState.{FastState}
 use Rattle.af_base.specs.declared.state.Push.{Push}
 use Rattle.af_base.specs.declared.state.Push.TheVariants.{Pushed, Clean, Busy}
 use Rattle.af_base.specs.Command.{code_of}
-use Rattle.af_model.specs.Draft.{attached, detached, commanded as with_command}
+use Rattle.af_model.specs.Draft.{attached, detached, draft_commanded as with_command}
 use Rattle.af_model.specs.StateQueue.{slot_of, carries, word}
 use Rattle.af_life.specs.declared.kept.Heard.{Heard}
 use Rattle.af_life.specs.declared.kept.Holder.TheVariants.{Home, Lent, Returning}
@@ -29,8 +29,8 @@ after_ack ack m = if ack then record m { tracks = map (welcomed m.last) m.tracks
 
 -- ## The edits
 
-abbrev pub is_exit : FastState → Bool
-is_exit x = code_of x.command == code_of Exit
+abbrev pub commands_exit : FastState → Bool
+commands_exit x = code_of x.command == code_of Exit
 
 -- the track is lent and not to be heard
 abbrev pub must_leave : TrackKept → Bool
@@ -91,7 +91,7 @@ ordered command m = if code_of command == code_of m.draft.command then m else re
 
 -- the command follows from the tracks and the draft that the edits left
 abbrev pub commanded_by : Setup → ℕ → NormalKept → NormalKept
-commanded_by c room m = ordered (next_command (is_exit m.draft) m.tracks room (pipe_size c)) m
+commanded_by c room m = ordered (next_command (commands_exit m.draft) m.tracks room (pipe_size c)) m
 
 -- all edits of a turn
 unfoldable pub mutated : Setup → Learnt → ℕ → NormalKept → NormalKept

@@ -51,8 +51,3 @@ words_taken (look ∷ looks) = (if shows_command look.seen then look.code ∷ lo
 -- the front is that of the frames taken and dropped before
 abbrev pub front_given : Listed → ℕ
 front_given s = wrapped (s.shape.base + (kept s).consumed)
-
--- the fronts of some looks
-abbrev pub fronts_given : Listed → List CommandLook → List ℕ
-fronts_given s [] = []
-fronts_given s (look ∷ looks) = front_given s ∷ fronts_given (did s (command_events s look (front_given s))) looks

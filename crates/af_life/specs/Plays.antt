@@ -25,13 +25,13 @@ abbrev pub tracks_due : Setup → ℕ → List TrackKept → List ℕ
 tracks_due c room tracks = if nat_le (buffer c) room then mixed_here tracks else []
 
 -- one look more
-abbrev pub counted : ℕ → Seen → Counts → Counts
-counted asked answer counts = record { fulls = counts.fulls + one_if (is_full asked answer); partials = counts.partials + one_if (is_partial asked answer); empties = counts.empties + one_if (is_empty answer) }
+abbrev pub look_counted : ℕ → Seen → Counts → Counts
+look_counted asked answer counts = record { fulls = counts.fulls + one_if (is_full asked answer); partials = counts.partials + one_if (is_partial asked answer); empties = counts.empties + one_if (is_empty answer) }
 
 -- the tracks after one of them was mixed: its own look counts at the next turn
 abbrev pub after_take : ℕ → List TrackKept → TakeSeen → List TrackKept
 after_take asked tracks take = let s = track_at tracks take.track in
-    slice_set tracks take.track (record s { own = counted asked take.slot.seen s.own })
+    slice_set tracks take.track (record s { own = look_counted asked take.slot.seen s.own })
 
 abbrev pub after_takes : Setup → List TakeSeen → NormalKept → NormalKept
 after_takes c takes m = record m { tracks = fold (after_take (buffer c)) m.tracks takes }

@@ -13,8 +13,8 @@ pub record Case : Type 0 where
   pub tells : Known → Life → Bool
 
 -- a row by which no track is disabled
-abbrev pub row : (Known → Life → Bool) → (Known → Life → Life) → Case
-row applies effect = record { applies = applies; effect = effect; tells = λ known life. false }
+abbrev pub case_row : (Known → Life → Bool) → (Known → Life → Life) → Case
+case_row applies effect = record { applies = applies; effect = effect; tells = λ known life. false }
 
 -- the life is in one of these states
 abbrev pub among : List LifeState → Known → Life → Bool
@@ -58,34 +58,34 @@ counted known life =
 -- the table: a block that was shut, a life that has ended, one that is draining, one that waits to, one that drained, a pause, a resumption, a member that plays, and the others
 abbrev pub reports : List Case
 reports =
-    row (λ known life. known.shut) (λ known life. record life { ended = true; member = false })
-    ∷ row (λ known life. life.ended) out_of_the_mix
-    ∷ row done_stopping (λ known life. record life { state = Stopping2; drained = true })
-    ∷ row (among (Stopping1 ∷ [])) unchanged
-    ∷ row (among (Stopping2 ∷ [])) (λ known life. record life { state = Stopped; member = false })
-    ∷ row (among (Pausing ∷ [])) (moved_to Paused)
-    ∷ row (among (Resuming ∷ [])) (moved_to Active)
+    case_row (λ known life. known.shut) (λ known life. record life { ended = true; member = false })
+    ∷ case_row (λ known life. life.ended) out_of_the_mix
+    ∷ case_row done_stopping (λ known life. record life { state = Stopping2; drained = true })
+    ∷ case_row (among (Stopping1 ∷ [])) unchanged
+    ∷ case_row (among (Stopping2 ∷ [])) (λ known life. record life { state = Stopped; member = false })
+    ∷ case_row (among (Pausing ∷ [])) (moved_to Paused)
+    ∷ case_row (among (Resuming ∷ [])) (moved_to Active)
     ∷ record { applies = playing; effect = counted; tells = no_retries_left }
-    ∷ row (among (Active ∷ [])) unchanged
-    ∷ row (among (Idle ∷ Paused ∷ Stopped ∷ Flushed ∷ [])) out_of_the_mix
-    ∷ row (among (Absent ∷ [])) unchanged
+    ∷ case_row (among (Active ∷ [])) unchanged
+    ∷ case_row (among (Idle ∷ Paused ∷ Stopped ∷ Flushed ∷ [])) out_of_the_mix
+    ∷ case_row (among (Absent ∷ [])) unchanged
     ∷ []
 
 -- the effect of the first row that applies
-abbrev pub first_effect : List Case → Known → Life → Life
-first_effect [] known life = life
-first_effect (row ∷ rows) known life =
-    if row.applies known life then row.effect known life else first_effect rows known life
+abbrev pub first_case_effect : List Case → Known → Life → Life
+first_case_effect [] known life = life
+first_case_effect (case_row ∷ rows) known life =
+    if case_row.applies known life then case_row.effect known life else first_case_effect rows known life
 
 -- whether the first row that applies disables the track
 abbrev pub first_told : List Case → Known → Life → Bool
 first_told [] known life = false
-first_told (row ∷ rows) known life =
-    if row.applies known life then row.tells known life else first_told rows known life
+first_told (case_row ∷ rows) known life =
+    if case_row.applies known life then case_row.tells known life else first_told rows known life
 
 -- what a report makes of a life
 unfoldable pub by_report : Known → Life → Life
-by_report known life = first_effect reports known life
+by_report known life = first_case_effect reports known life
 
 -- whether the track is to be disabled
 unfoldable pub told_by_report : Known → Life → Bool

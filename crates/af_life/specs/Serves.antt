@@ -6,7 +6,7 @@ use Rattle.af_base.specs.Turn.{TrackSeen}
 use Rattle.af_life.specs.declared.kept.Heard.{Heard}
 use Rattle.af_life.specs.declared.kept.TrackKept.{TrackKept}
 use Rattle.af_life.specs.declared.track.Life.{Life}
-use Rattle.af_life.specs.State.{code_of}
+use Rattle.af_life.specs.State.{life_code}
 use Rattle.af_life.specs.Reports.{by_report, told_by_report}
 use Rattle.af_life.specs.Kept.{Setup, Learnt, track_at, nothing_seen, seen_at}
 use Rattle.af_life.specs.Heard.{heard, ready}
@@ -18,7 +18,7 @@ most_looks = 64
 
 -- the number of a state in the status word: 15 if the track was shut
 abbrev pub state_code : Bool → Life → ℕ
-state_code shut life = if shut then 15 else code_of life.state
+state_code shut life = if shut then 15 else life_code life.state
 
 -- the status word: the state, 16 if it is drained, and 256 for each command that is settled; it has 24 bits for these, and the count begins anew when they are full
 unfoldable pub status_word : Bool → TrackKept → ℕ

@@ -5,22 +5,22 @@ use Rattle.af_life.specs.declared.state.LifeState.TheVariants.{Absent, Idle, Act
 use Rattle.af_life.specs.declared.track.Life.{Life}
 
 -- a state's number
-abbrev pub code_of : LifeState → ℕ
-code_of Absent = 0
-code_of Idle = 1
-code_of Active = 2
-code_of Pausing = 3
-code_of Paused = 4
-code_of Resuming = 5
-code_of Stopping1 = 6
-code_of Stopping2 = 7
-code_of Stopped = 8
-code_of Flushed = 9
+abbrev pub life_code : LifeState → ℕ
+life_code Absent = 0
+life_code Idle = 1
+life_code Active = 2
+life_code Pausing = 3
+life_code Paused = 4
+life_code Resuming = 5
+life_code Stopping1 = 6
+life_code Stopping2 = 7
+life_code Stopped = 8
+life_code Flushed = 9
 
 -- the state is one of these
 abbrev pub is_among : List LifeState → LifeState → Bool
 is_among [] state = false
-is_among (one ∷ others) state = (code_of one == code_of state) || is_among others state
+is_among (one ∷ others) state = (life_code one == life_code state) || is_among others state
 
 -- the life that each track begins with
 abbrev pub new_life : Life

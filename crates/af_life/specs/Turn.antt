@@ -6,7 +6,7 @@ use Rattle.af_life.specs.Kept.{Setup, pipe_size, NormalKept, Outside, Learnt, tr
 use Rattle.af_life.specs.Heard.{learnt}
 use Rattle.af_life.specs.Looks.{LegalLooks}
 use Rattle.af_life.specs.Serves.{served_to, LegalTrack}
-use Rattle.af_life.specs.Edits.{after_ack, is_exit, mutated, after_push, LegalPush}
+use Rattle.af_life.specs.Edits.{after_ack, commands_exit, mutated, after_push, LegalPush}
 use Rattle.af_life.specs.Plays.{tracks_due, after_takes, LegalTake}
 
 -- ## What a turn leaves, step by step. It never asks whether the turn was legal
@@ -29,7 +29,7 @@ turn_after c k m e =
 
 -- the mixer had ended, or sees an Exit acknowledged
 abbrev pub ends_now : NormalKept → Bool → Bool
-ends_now m ack = m.ended || (is_exit m.last && ack)
+ends_now m ack = m.ended || (commands_exit m.last && ack)
 
 -- A turn that went on: an ack that isn't seen is that of a push; each track is served by what those before it left, and each look answers by its server's list; the push answers for the draft that the edits leave; and the tracks that are due are mixed
 pub record GoesOn (c : Setup) (o : Outside) (m : NormalKept) (e : Turn) : Type 0 where

@@ -54,8 +54,8 @@ abbrev pub command_list : Setup → Outside → Turn → List TrackKept → ℕ 
 command_list c o e tracks i = going e (command_events_of c o (track_in e i) tracks i)
 
 -- the events of the hand of the stream block: DISABLED
-abbrev pub hand_list : Turn → ℕ → List HandEvent
-hand_list e i = going e (if (track_in e i).disabled then hand.SetFlags 8 ∷ [] else [])
+abbrev pub hand_events_of : Turn → ℕ → List HandEvent
+hand_events_of e i = going e (if (track_in e i).disabled then hand.SetFlags 8 ∷ [] else [])
 
 -- the takes of a track
 abbrev pub takes_from : List TakeSeen → ℕ → List TakeSeen

@@ -4,7 +4,7 @@ ghost use Rattle.std.specs.List.{fold};
 ghost use Rattle.af_base.specs.Command.{code_of};
 ghost use Rattle.af_base.specs.Log.{slots};
 ghost use Rattle.af_base.specs.Turn.{turn_of, take_seen};
-ghost use Rattle.af_model.specs.Draft.{attached, detached, commanded as with_command};
+ghost use Rattle.af_model.specs.Draft.{attached, detached, draft_commanded as with_command};
 ghost use Rattle.af_model.specs.Reports.{report_at};
 ghost use Rattle.af_model.specs.StateQueue.{slot_of};
 ghost use Rattle.af_life.specs.Kept.{Setup, Learnt, asked, new_normal, new_track, track_at, track_in, slot_number};

@@ -1,7 +1,7 @@
 //! The buffer that a turn mixes.
 ghost use Rattle.std.specs.Prelude.{◌≡◌, ◌<◌, ◌^◌};
 ghost use Rattle.af_model.specs.Reports.{is_full, is_partial, is_empty};
-ghost use Rattle.af_life.specs.Plays.{counted, is_mixed_here};
+ghost use Rattle.af_life.specs.Plays.{look_counted, is_mixed_here};
 ghost use Rattle.af_life.specs.Small.{AreUpTo};
 
 use crate::kept::{Counts, TrackKept};
@@ -36,7 +36,7 @@ impl Counts {
     /// One look more, by what was asked for and what it showed.
     pub fn counted(self, asked: u32, seen: Seen) -> Counts
         requires room { AreUpTo (2 ^ 31) self }
-        ensures { result ≡ counted asked seen self }
+        ensures { result ≡ look_counted asked seen self }
     {
         Counts {
             fulls: self.fulls + u32::from(is_full(asked, seen)),

@@ -24,11 +24,11 @@ pub enum LifeState {
 
 impl LifeState {
     ghost use Rattle.std.specs.Prelude.{◌≡◌};
-    ghost use Rattle.af_life.specs.State.{code_of};
+    ghost use Rattle.af_life.specs.State.{life_code};
 
     /// The state's number in a status word, 0 to 9 in the order of the variants.
     pub fn code(self) -> u32
-        ensures { result ≡ code_of self }
+        ensures { result ≡ life_code self }
     {
         match self {
             LifeState::Absent => 0,

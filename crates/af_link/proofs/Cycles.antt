@@ -8,7 +8,7 @@ use Rattle.af_model.specs.declared.newest.ReaderEvent.{ReaderEvent}
 use Rattle.af_model.specs.declared.newest.ReaderEvent.TheVariants.{Load}
 use Rattle.af_model.specs.declared.newest.ReaderEvent.TheVariants as reads
 use Rattle.af_model.specs.Order.{Event, one, two, ones, twos, Legal}
-use Rattle.af_model.specs.NewestValue.{CellPoint, start, legal, next, HasHistory}
+use Rattle.af_model.specs.NewestValue.{CellPoint, start_value, legal_value, next_value, HasValueHistory}
 use Rattle.af_latest.specs.Laws.{last_of}
 use Rattle.af_link.specs.Reports.{no_report, last_cycle, Rises, CyclesNeverFall}
 
@@ -60,31 +60,31 @@ record Newest (done : List (WriterEvent Report)) (p : CellPoint Report) : Type 0
   count_is : p.writes ≡ length done
   value_is : p.value ≡ last_of no_report done
 
-loads_rise : (done : List (WriterEvent Report)) (p : CellPoint Report) (es : List (Event (WriterEvent Report) (ReaderEvent Report))) (low : ℕ) → Legal legal next p es → Newest done p → Rises 0 (done ++ ones es) → low ≤ p.value.cycle
+loads_rise : (done : List (WriterEvent Report)) (p : CellPoint Report) (es : List (Event (WriterEvent Report) (ReaderEvent Report))) (low : ℕ) → Legal legal_value next_value p es → Newest done p → Rises 0 (done ++ ones es) → low ≤ p.value.cycle
     → CyclesNeverFall (done ++ ones es) low (twos es)
 loads_rise done p [] low l n r h = tt
 loads_rise done p (one (Store x) ∷ es) low l n r h =
     let same : (done ++ Store x ∷ []) ++ ones es ≡ done ++ Store x ∷ ones es = append_assoc done (Store x ∷ []) (ones es) in
     let later : p.value.cycle < x.cycle = subst (λ (y : Report). y.cycle < x.cycle) (sym n.value_is) (next_later no_report x done (ones es) r) in
-    let now : Newest (done ++ Store x ∷ []) (next p (one (Store x))) =
+    let now : Newest (done ++ Store x ∷ []) (next_value p (one (Store x))) =
     record { count_is = (let a = n.count_is in omega (arith, length-append done (Store x ∷ []))); value_is = sym (last-store no_report x done) } in
-    subst (λ ws. CyclesNeverFall ws low (twos es)) same (loads_rise (done ++ Store x ∷ []) (next p (one (Store x))) es low l.1 now (subst (λ ws. Rises 0 ws) (sym same) r) (omega arith))
+    subst (λ ws. CyclesNeverFall ws low (twos es)) same (loads_rise (done ++ Store x ∷ []) (next_value p (one (Store x))) es low l.1 now (subst (λ ws. Rises 0 ws) (sym same) r) (omega arith))
 loads_rise done p (one (writes.Learn c) ∷ es) low l n r h =
     let same : (done ++ writes.Learn c ∷ []) ++ ones es ≡ done ++ writes.Learn c ∷ ones es = append_assoc done (writes.Learn c ∷ []) (ones es) in
-    let now : Newest (done ++ writes.Learn c ∷ []) (next p (one (writes.Learn c))) =
+    let now : Newest (done ++ writes.Learn c ∷ []) (next_value p (one (writes.Learn c))) =
     record { count_is = (let a = n.count_is in omega (arith, length-append done (writes.Learn c ∷ []))); value_is = n.value_is ∙ sym (last-learn no_report c done) } in
-    subst (λ ws. CyclesNeverFall ws low (twos es)) same (loads_rise (done ++ writes.Learn c ∷ []) (next p (one (writes.Learn c))) es low l.1 now (subst (λ ws. Rises 0 ws) (sym same) r) h)
+    subst (λ ws. CyclesNeverFall ws low (twos es)) same (loads_rise (done ++ writes.Learn c ∷ []) (next_value p (one (writes.Learn c))) es low l.1 now (subst (λ ws. Rises 0 ws) (sym same) r) h)
 loads_rise done p (two (Load n x) ∷ es) low l k r h =
     let is : x.cycle ≡ p.value.cycle = ap (λ (y : Report). y.cycle) l.0.1 in
-    (omega arith, loads_rise done (next p (two (Load n x))) es x.cycle l.1 (record { count_is = k.count_is; value_is = k.value_is }) r (omega arith))
+    (omega arith, loads_rise done (next_value p (two (Load n x))) es x.cycle l.1 (record { count_is = k.count_is; value_is = k.value_is }) r (omega arith))
 loads_rise done p (two (reads.Learn c) ∷ es) low l n r h =
     let told : c ≤ length done = (let m = l.0 in let a = n.count_is in omega arith) in
     let less = learnt_low no_report done (ones es) c told r in
     let last : p.value.cycle ≡ (last_of no_report done).cycle = ap (λ (y : Report). y.cycle) n.value_is in
-    loads_rise done (next p (two (reads.Learn c))) es (max low (last_cycle (take c (done ++ ones es)))) l.1 (record { count_is = n.count_is; value_is = n.value_is }) r (omega arith)
+    loads_rise done (next_value p (two (reads.Learn c))) es (max low (last_cycle (take c (done ++ ones es)))) l.1 (record { count_is = n.count_is; value_is = n.value_is }) r (omega arith)
 
 -- in a history of a cell whose reports rise no load shows an earlier cycle than one before it, or than what was learnt before it
-pub cycles_never_fall : (ws : List (WriterEvent Report)) (rs : List (ReaderEvent Report)) → Rises 0 ws → HasHistory no_report ws rs → CyclesNeverFall ws 0 rs
+pub cycles_never_fall : (ws : List (WriterEvent Report)) (rs : List (ReaderEvent Report)) → Rises 0 ws → HasValueHistory no_report ws rs → CyclesNeverFall ws 0 rs
 cycles_never_fall ws rs rises h =
     subst (λ (q : List (WriterEvent Report) × List (ReaderEvent Report)). CyclesNeverFall q.0 0 q.1) (λ i. (h.of_one i, h.of_two i))
-    (loads_rise [] (start no_report) h.order 0 h.is_legal (record { count_is = refl; value_is = refl }) (subst (λ ws. Rises 0 ws) (sym h.of_one) rises) (omega arith))
+    (loads_rise [] (start_value no_report) h.order 0 h.is_legal (record { count_is = refl; value_is = refl }) (subst (λ ws. Rises 0 ws) (sym h.of_one) rises) (omega arith))

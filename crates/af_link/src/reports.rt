@@ -1,6 +1,6 @@
 //! The report's cell and its two ends.
 ghost use Rattle.std.specs.Prelude.{◌≡◌, ℕ, ◌+◌, ◌<◌, [], ◌∷◌, ◌++◌, length, IfOk};
-ghost use Rattle.af_model.specs.NewestValue.{HasHistory};
+ghost use Rattle.af_model.specs.NewestValue.{HasValueHistory};
 ghost use Rattle.af_model.specs.Reports.{no_slot};
 ghost use Rattle.af_model.specs.declared.newest.WriterEvent.TheVariants as writes;
 ghost use Rattle.af_model.specs.declared.newest.ReaderEvent.TheVariants as reads;
@@ -131,7 +131,7 @@ pub fn meet_report<L: Ledger>(
 )
     requires together { (writer.old.cell ≡ cell.now) × (reader.old.cell ≡ cell.now) }
     ensures together { (writer.new.cell ≡ writer.old.cell) × (reader.new.cell ≡ reader.old.cell) }
-    ensures history { HasHistory no_report writer.new.events reader.new.events }
+    ensures history { HasValueHistory no_report writer.new.events reader.new.events }
     ensures never_older { CyclesNeverFall writer.new.events 0 reader.new.events }
     ensures writer { writer.new.events ≡ writer.old.events ++ writes.Learn (length reader.old.events) ∷ [] }
     ensures reader { reader.new.events ≡ reader.old.events ++ reads.Learn (length writer.old.events) ∷ [] }

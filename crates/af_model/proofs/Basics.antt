@@ -7,7 +7,7 @@ use Rattle.af_base.specs.declared.event.HandEvent.TheVariants as hand
 use Rattle.af_base.specs.declared.event.ServerEvent.TheVariants as server
 use Rattle.af_model.specs.Cycles.{cycle_of, is_mixed, state_of}
 use Rattle.af_model.specs.Fates.{keeps_all}
-use Rattle.af_model.specs.History.{Moment, by_client, by_hand, by_server, client_of, clients_at, flushes_of, is_lawful, is_tame as is_tame_event}
+use Rattle.af_model.specs.History.{Moment, by_client, by_hand, by_server, client_of, clients_at, flushes_of, is_lawful, is_no_poke as is_tame_event}
 use Rattle.af_model.specs.Journals.{EntrySeen, RoundNoted, cycles_of, entries_of, entries_seen, rounds_seen, taken_by}
 use Rattle.af_model.specs.PipeHistory.{is_taking}
 use Rattle.af_model.specs.Point.{HandMay, after_client, after_hand, after_server, wrapped}

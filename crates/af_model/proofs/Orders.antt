@@ -1,6 +1,6 @@
 -- One event more at the end of an order.
 use Rattle.std.proofs.Common.{◌≡◌, List, [], ◌∷◌, ◌++◌, refl, ap, ◌∙◌}
-use Rattle.af_model.specs.Order.{Event, one, two, ones, twos, Legal, after, HasOrder}
+use Rattle.af_model.specs.Order.{Event, one, two, ones, twos, Legal, point_after, HasOrder}
 
 module _ {A B : Type 0} where
   pub ones_one : (es : List (Event A B)) (a : A) → ones (es ++ one a ∷ []) ≡ ones es ++ a ∷ []
@@ -24,16 +24,16 @@ module _ {A B : Type 0} where
   twos_one (two x ∷ es) a = ap (λ l. x ∷ l) (twos_one es a)
 
 module _ {P E : Type 0} (legal : P → E → Type 0) (next : P → E → P) where
-  pub after_end : (p : P) (es : List E) (e : E) → after legal next p (es ++ e ∷ []) ≡ next (after legal next p es) e
+  pub after_end : (p : P) (es : List E) (e : E) → point_after legal next p (es ++ e ∷ []) ≡ next (point_after legal next p es) e
   after_end p [] e = refl
   after_end p (x ∷ es) e = after_end (next p x) es e
 
-  pub legal_end : (p : P) (es : List E) (e : E) → Legal legal next p es → legal (after legal next p es) e → Legal legal next p (es ++ e ∷ [])
+  pub legal_end : (p : P) (es : List E) (e : E) → Legal legal next p es → legal (point_after legal next p es) e → Legal legal next p (es ++ e ∷ [])
   legal_end p [] e l h = (h, tt)
   legal_end p (x ∷ es) e l h = (l.0, legal_end (next p x) es e l.1 h)
 
 module _ {P A B : Type 0} (legal : P → Event A B → Type 0) (next : P → Event A B → P) where
-  abbrev pub add_one : (p : P) (xs : List A) (ys : List B) (a : A) (h : HasOrder legal next p xs ys) → legal (after legal next p h.order) (one a) → HasOrder legal next p (xs ++ a ∷ []) ys
+  abbrev pub add_one : (p : P) (xs : List A) (ys : List B) (a : A) (h : HasOrder legal next p xs ys) → legal (point_after legal next p h.order) (one a) → HasOrder legal next p (xs ++ a ∷ []) ys
   add_one p xs ys a h l = record {
     order = h.order ++ one a ∷ [];
     is_legal = legal_end legal next p h.order (one a) h.is_legal l;
@@ -41,7 +41,7 @@ module _ {P A B : Type 0} (legal : P → Event A B → Type 0) (next : P → Eve
     of_two = twos_one h.order a ∙ h.of_two;
   }
 
-  abbrev pub add_two : (p : P) (xs : List A) (ys : List B) (b : B) (h : HasOrder legal next p xs ys) → legal (after legal next p h.order) (two b) → HasOrder legal next p xs (ys ++ b ∷ [])
+  abbrev pub add_two : (p : P) (xs : List A) (ys : List B) (b : B) (h : HasOrder legal next p xs ys) → legal (point_after legal next p h.order) (two b) → HasOrder legal next p xs (ys ++ b ∷ [])
   add_two p xs ys b h l = record {
     order = h.order ++ two b ∷ [];
     is_legal = legal_end legal next p h.order (two b) h.is_legal l;

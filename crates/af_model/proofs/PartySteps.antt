@@ -2,7 +2,7 @@
 use Rattle.std.proofs.Common.{◌≡◌, ◌≢◌, ℕ, Bool, true, false, List, [], ◌∷◌, ◌++◌, length, set, ap, sym, ◌∙◌, subst}
 use mathlib.Core.Option.{some}
 use lib.ListN.{get_elem?}
-use Rattle.af_model.specs.Order.{Event, one, two, after}
+use Rattle.af_model.specs.Order.{Event, one, two, point_after}
 use Rattle.af_model.specs.Parties.{AreHeld, Stands}
 use Rattle.af_model.proofs.Orders.{after_end, add_one, add_two}
 use Rattle.af_model.proofs.Holds.{mine, same, none, joined_none, moved, taken}
@@ -60,10 +60,10 @@ module _ {V A B : Type 0} (has_one : V → Bool) (one_of : V → A) (has_two : V
 
 module _ {P A B : Type 0} (legal : P → Event A B → Type 0) (next : P → Event A B → P) (p : P) (xs : List A) (ys : List B) (s : Stands legal next p xs ys) where
   -- an event that is legal at the point is legal after the order
-  pub at_point : (e : Event A B) → legal s.point e → legal (after legal next p s.history.order) e
+  pub at_point : (e : Event A B) → legal s.point e → legal (point_after legal next p s.history.order) e
   at_point e l = subst (λ (q : P). legal q e) (sym s.point_is) l
 
-  pub point_more : (e : Event A B) → after legal next p (s.history.order ++ e ∷ []) ≡ next s.point e
+  pub point_more : (e : Event A B) → point_after legal next p (s.history.order ++ e ∷ []) ≡ next s.point e
   point_more e = after_end legal next p s.history.order e ∙ ap (λ q. next q e) s.point_is
 
   -- one event more of the first party

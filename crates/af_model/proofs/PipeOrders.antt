@@ -13,8 +13,8 @@ use Rattle.af_model.specs.Point.{start as block_start}
 use Rattle.af_model.specs.History.{Moment, by_client, by_server, by_hand, client_of, server_of, hand_of, IsLegal, HasHistory}
 use Rattle.af_model.specs.History.{after as block_after}
 use Rattle.af_model.specs.Fates.{InTurn, drops_none}
-use Rattle.af_model.specs.Order.{Event, one, two, ones, twos, Legal, after}
-use Rattle.af_model.specs.PipeHistory.{PipePoint, start, room_by, legal, next, HasPipeHistory, PutKept, nothing_put, may_put, after_put, IsPutList, put_kept, is_taking, IsTakeList}
+use Rattle.af_model.specs.Order.{Event, one, two, ones, twos, Legal, point_after}
+use Rattle.af_model.specs.PipeHistory.{PipePoint, start_of_pipe, room_by, legal_in_pipe, next_in_pipe, HasPipeHistory, PutKept, nothing_put, may_put, after_put, IsPutList, put_kept, is_taking, IsTakeList}
 use Rattle.af_model.proofs.Fates.{in_turn, begins}
 use Rattle.af_model.proofs.Orders.{ones_one, ones_two, twos_one, twos_two, after_end, legal_end}
 use Rattle.af_model.proofs.Splits.{legal_at}
@@ -57,13 +57,13 @@ record PipeHasRoom (size : ℕ) (k : PutKept) (p : TrackPoint) : Type 0 where
 
 -- one more event of the end that puts
 record Puts (size : ℕ) (k : PutKept) (p : TrackPoint) (puts takes : ℕ) (e : ClientEvent) : Type 0 where
-  may : legal size (point_of p puts takes) (one e)
-  point_is : next (point_of p puts takes) (one e) ≡ point_of (after_client p e) (puts + 1) takes
+  may : legal_in_pipe size (point_of p puts takes) (one e)
+  point_is : next_in_pipe (point_of p puts takes) (one e) ≡ point_of (after_client p e) (puts + 1) takes
   room : PipeHasRoom size (after_put k e) (after_client p e)
 
 record Takes (size : ℕ) (k : PutKept) (p : TrackPoint) (puts takes : ℕ) (e : ServerEvent) : Type 0 where
-  may : legal size (point_of p puts takes) (two e)
-  point_is : next (point_of p puts takes) (two e) ≡ point_of (after_server p e) puts (takes + 1)
+  may : legal_in_pipe size (point_of p puts takes) (two e)
+  point_is : next_in_pipe (point_of p puts takes) (two e) ≡ point_of (after_server p e) puts (takes + 1)
   room : PipeHasRoom size k (after_server p e)
 
 module _ (shape : Shape) (size : ℕ) (few : size ≤ 65536) (from_zero : shape.base ≡ 0) where
@@ -127,8 +127,8 @@ module _ (shape : Shape) (size : ℕ) (few : size ≤ 65536) (from_zero : shape.
 
   -- what holds of the events of an order so far
   record Agrees (order : List Moment) : Type 0 where
-    is_legal : Legal (legal size) next start (events_of order)
-    point_is : after (legal size) next start (events_of order) ≡ point_of (block_after (block_start shape) order) (length (client_of order)) (length (server_of order))
+    is_legal : Legal (legal_in_pipe size) next_in_pipe start_of_pipe (events_of order)
+    point_is : point_after (legal_in_pipe size) next_in_pipe start_of_pipe (events_of order) ≡ point_of (block_after (block_start shape) order) (length (client_of order)) (length (server_of order))
     room : PipeHasRoom size (put_kept size (client_of order)) (block_after (block_start shape) order)
 
   agrees : (order : List Moment) → IsLegal (block_start shape) order → hand_of order ≡ [] → IsPutList size (client_of order) → IsTakeList (server_of order) → Agrees order
@@ -146,8 +146,8 @@ module _ (shape : Shape) (size : ℕ) (few : size ≤ 65536) (from_zero : shape.
       let step = put_step (put_kept size (client_of order)) (block_after (block_start shape) order) n m e h.0 s.1 (in_turn shape order h.1) a.room in
       let count : n + 1 ≡ length (client_of order ++ e ∷ []) = sym (length-append (client_of order) (e ∷ [])) in
       record {
-        is_legal = legal_end (legal size) next start (events_of order) (one e) a.is_legal (subst (λ (q : PipePoint). legal size q (one e)) (sym a.point_is) step.may);
-        point_is = after_end (legal size) next start (events_of order) (one e) ∙ ap (λ (q : PipePoint). next q (one e)) a.point_is ∙ step.point_is
+        is_legal = legal_end (legal_in_pipe size) next_in_pipe start_of_pipe (events_of order) (one e) a.is_legal (subst (λ (q : PipePoint). legal_in_pipe size q (one e)) (sym a.point_is) step.may);
+        point_is = after_end (legal_in_pipe size) next_in_pipe start_of_pipe (events_of order) (one e) ∙ ap (λ (q : PipePoint). next_in_pipe q (one e)) a.point_is ∙ step.point_is
             ∙ ap (λ (c : ℕ). point_of (block_after (block_start shape) (by_client e ∷ order)) c m) count;
         room = subst (λ (k : PutKept). PipeHasRoom size k (block_after (block_start shape) (by_client e ∷ order))) (sym (after_end (may_put size) after_put nothing_put (client_of order) e)) step.room;
       }
@@ -161,8 +161,8 @@ module _ (shape : Shape) (size : ℕ) (few : size ≤ 65536) (from_zero : shape.
       let step = take_step (put_kept size (client_of order)) (block_after (block_start shape) order) n m e h.0 here a.room in
       let count : m + 1 ≡ length (server_of order ++ e ∷ []) = sym (length-append (server_of order) (e ∷ [])) in
       record {
-        is_legal = legal_end (legal size) next start (events_of order) (two e) a.is_legal (subst (λ (q : PipePoint). legal size q (two e)) (sym a.point_is) step.may);
-        point_is = after_end (legal size) next start (events_of order) (two e) ∙ ap (λ (q : PipePoint). next q (two e)) a.point_is ∙ step.point_is
+        is_legal = legal_end (legal_in_pipe size) next_in_pipe start_of_pipe (events_of order) (two e) a.is_legal (subst (λ (q : PipePoint). legal_in_pipe size q (two e)) (sym a.point_is) step.may);
+        point_is = after_end (legal_in_pipe size) next_in_pipe start_of_pipe (events_of order) (two e) ∙ ap (λ (q : PipePoint). next_in_pipe q (two e)) a.point_is ∙ step.point_is
             ∙ ap (λ (c : ℕ). point_of (block_after (block_start shape) (by_server e ∷ order)) n c) count;
         room = step.room;
       }

@@ -83,11 +83,11 @@ module _ (shape : Shape) where
   AllFollowRear b [] = Unit {0}
   AllFollowRear b (e ∷ es) = FollowsRear b e × AllFollowRear (saw_rear b e) es
 
-  rear_split : (b : Bool) (xs ys : List ServerEvent) → AllFollowRear b (xs ++ ys) → AllFollowRear b xs × AllFollowRear (fold saw_rear b xs) ys
+  pub rear_split : (b : Bool) (xs ys : List ServerEvent) → AllFollowRear b (xs ++ ys) → AllFollowRear b xs × AllFollowRear (fold saw_rear b xs) ys
   rear_split b [] ys h = (tt, h)
   rear_split b (x ∷ xs) ys h = let r = rear_split (saw_rear b x) xs ys h.1 in ((h.0, r.0), r.1)
 
-  rear_join : (b : Bool) (xs ys : List ServerEvent) → AllFollowRear b xs → AllFollowRear (fold saw_rear b xs) ys → AllFollowRear b (xs ++ ys)
+  pub rear_join : (b : Bool) (xs ys : List ServerEvent) → AllFollowRear b xs → AllFollowRear (fold saw_rear b xs) ys → AllFollowRear b (xs ++ ys)
   rear_join b [] ys h t = t
   rear_join b (x ∷ xs) ys h t = (h.0, rear_join (saw_rear b x) xs ys h.1 t)
 
@@ -224,10 +224,11 @@ module _ (shape : Shape) where
 
     -- ## The server
 
-    record SeesRoom (k : ServerKept) (b : Bool) (p : TrackPoint) : Type 0 where
-      rear_is : k.rear ≡ wrapped p.rear_seen
-      unshut : k.shut ≡ None
-      shows : b ≡ true → p.consumed ≤ p.rear_seen
+    -- the server isn't shut, and knows the rear seen last, behind which nothing was consumed
+    pub record SeesRoom (k : ServerKept) (b : Bool) (p : TrackPoint) : Type 0 where
+      pub rear_is : k.rear ≡ wrapped p.rear_seen
+      pub unshut : k.shut ≡ None
+      pub shows : b ≡ true → p.consumed ≤ p.rear_seen
 
     either_none : (b : Bool) (o : Option (ℕ × ℕ)) → o ≡ None → (if b then None else o) ≡ None
     either_none true o is = refl
@@ -272,7 +273,7 @@ module _ (shape : Shape) where
     client_leaves k b p (client.ClearFlags old) s = record { rear_is = s.rear_is; unshut = s.unshut; shows = s.shows }
     client_leaves k b p _ s = s
 
-    sees_in : (order : List Moment) → IsLegal (start shape) order → AllFit (client_begins shape.base) None (client_of order) → AllFollowRear false (server_of order)
+    pub sees_in : (order : List Moment) → IsLegal (start shape) order → AllFit (client_begins shape.base) None (client_of order) → AllFollowRear false (server_of order)
         → SeesRoom (server_kept shape (server_of order)) (fold saw_rear false (server_of order)) (after (start shape) order)
     sees_in [] h fit f = record { rear_is = refl; unshut = refl; shows = no }
     sees_in (by_client e ∷ order) h fit f = client_leaves _ _ (after (start shape) order) e (sees_in order h.1 (fit_split (client_begins shape.base) None (client_of order) (e ∷ []) fit).0 f)

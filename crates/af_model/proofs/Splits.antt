@@ -1,6 +1,6 @@
 -- An order cut at an event of the second party.
 use Rattle.std.proofs.Common.{◌≡◌, List, [], ◌∷◌, ◌++◌, length, get_or, refl, ap, arith, length-append}
-use Rattle.af_model.specs.Order.{Event, one, two, ones, twos, Legal, after}
+use Rattle.af_model.specs.Order.{Event, one, two, ones, twos, Legal, point_after}
 
 tail_of : {A : Type 0} → List A → List A
 tail_of [] = []
@@ -30,6 +30,6 @@ module _ {A B : Type 0} where
   ones_append (two b ∷ xs) ys = ones_append xs ys
 
 module _ {P E : Type 0} (legal : P → E → Type 0) (next : P → E → P) where
-  pub legal_at : (p : P) (xs : List E) (e : E) (ys : List E) → Legal legal next p (xs ++ e ∷ ys) → Legal legal next p xs × legal (after legal next p xs) e × Legal legal next (next (after legal next p xs) e) ys
+  pub legal_at : (p : P) (xs : List E) (e : E) (ys : List E) → Legal legal next p (xs ++ e ∷ ys) → Legal legal next p xs × legal (point_after legal next p xs) e × Legal legal next (next (point_after legal next p xs) e) ys
   legal_at p [] e ys l = (tt, l.0, l.1)
   legal_at p (x ∷ xs) e ys l = let t = legal_at (next p x) xs e ys l.1 in ((l.0, t.0), t.1, t.2)

@@ -115,16 +115,16 @@ abbrev pub tally : ℕ → List ServerEvent
 tally missing = if missing == 0 then [] else server.Tally missing ∷ server.SetFlags 1 ∷ []
 
 -- what follows a look: all frames shown are taken and those missing tallied, nothing after a flush, and INVALID once if it shuts the server
-abbrev pub after_look : ℕ → Bool → Seen → List ServerEvent
-after_look asked was_shut (seen.Frames count) = server.Take count ∷ tally (asked - count)
-after_look asked was_shut seen.Empty = tally asked
-after_look asked was_shut (seen.Shut front rear) = if was_shut then [] else server.SetFlags 4 ∷ []
-after_look asked was_shut _ = []
+abbrev pub events_behind_look : ℕ → Bool → Seen → List ServerEvent
+events_behind_look asked was_shut (seen.Frames count) = server.Take count ∷ tally (asked - count)
+events_behind_look asked was_shut seen.Empty = tally asked
+events_behind_look asked was_shut (seen.Shut front rear) = if was_shut then [] else server.SetFlags 4 ∷ []
+events_behind_look asked was_shut _ = []
 
 -- the events of a server in a cycle: its gains first, then the look, by a server that wasn't shut, and what follows
 abbrev pub cycle_events : ℕ → Listed → SlotEntry → ℕ → List ServerEvent
 cycle_events asked s slot front = let was_shut = is_some (kept s).shut in
-    server.SawGain slot.gains ∷ (if was_shut then [] else look_events slot.seen slot.flush slot.rear front) ++ after_look asked was_shut slot.seen
+    server.SawGain slot.gains ∷ (if was_shut then [] else look_events slot.seen slot.flush slot.rear front) ++ events_behind_look asked was_shut slot.seen
 
 -- A slot of the mask with its server's list before and after
 pub record TrackSlot (asked : ℕ) (s : Listed) (after : List ServerEvent) (slot : SlotEntry) : Type 0 where

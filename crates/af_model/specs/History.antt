@@ -11,13 +11,13 @@ use Rattle.af_model.specs.declared.shape.Shape.{Shape}
 use Rattle.af_model.specs.Point.{start, ClientMay, ServerMay, HandMay, after_client, after_server, after_hand}
 
 -- no event is a poke
-abbrev pub is_tame : ClientEvent → Bool
-is_tame (client.Poke word value) = false
-is_tame _ = true
+abbrev pub is_no_poke : ClientEvent → Bool
+is_no_poke (client.Poke word value) = false
+is_no_poke _ = true
 
 abbrev pub is_lawful : List ClientEvent → Bool
 is_lawful [] = true
-is_lawful (e ∷ es) = is_tame e && is_lawful es
+is_lawful (e ∷ es) = is_no_poke e && is_lawful es
 
 -- how many flushes there are
 abbrev pub flush_in : ClientEvent → ℕ

@@ -16,20 +16,20 @@ pub record CellPoint (T : Type 0) : Type 0 where
   pub reads : ℕ
 
 module _ {T : Type 0} where
-  abbrev pub start : T → CellPoint T
-  start x = record { number = 0; value = x; writes = 0; reads = 0 }
+  abbrev pub start_value : T → CellPoint T
+  start_value x = record { number = 0; value = x; writes = 0; reads = 0 }
 
-  abbrev pub legal : CellPoint T → Event (WriterEvent T) (ReaderEvent T) → Type 0
-  legal p (one (Store x)) = Unit {0}
-  legal p (one (writes.Learn k)) = k ≤ p.reads
-  legal p (two (Load n x)) = (n ≡ p.number) × (x ≡ p.value)
-  legal p (two (reads.Learn k)) = k ≤ p.writes
+  abbrev pub legal_value : CellPoint T → Event (WriterEvent T) (ReaderEvent T) → Type 0
+  legal_value p (one (Store x)) = Unit {0}
+  legal_value p (one (writes.Learn k)) = k ≤ p.reads
+  legal_value p (two (Load n x)) = (n ≡ p.number) × (x ≡ p.value)
+  legal_value p (two (reads.Learn k)) = k ≤ p.writes
 
-  abbrev pub next : CellPoint T → Event (WriterEvent T) (ReaderEvent T) → CellPoint T
-  next p (one (Store x)) = record { number = p.number + 1; value = x; writes = p.writes + 1; reads = p.reads }
-  next p (one (writes.Learn k)) = record { number = p.number; value = p.value; writes = p.writes + 1; reads = p.reads }
-  next p (two e) = record { number = p.number; value = p.value; writes = p.writes; reads = p.reads + 1 }
+  abbrev pub next_value : CellPoint T → Event (WriterEvent T) (ReaderEvent T) → CellPoint T
+  next_value p (one (Store x)) = record { number = p.number + 1; value = x; writes = p.writes + 1; reads = p.reads }
+  next_value p (one (writes.Learn k)) = record { number = p.number; value = p.value; writes = p.writes + 1; reads = p.reads }
+  next_value p (two e) = record { number = p.number; value = p.value; writes = p.writes; reads = p.reads + 1 }
 
   -- the two lists stand in one order, in which each load shows the last value stored before it, and what was learnt stands before
-  abbrev pub HasHistory : T → List (WriterEvent T) → List (ReaderEvent T) → Type 0
-  HasHistory first ws rs = HasOrder legal next (start first) ws rs
+  abbrev pub HasValueHistory : T → List (WriterEvent T) → List (ReaderEvent T) → Type 0
+  HasValueHistory first ws rs = HasOrder legal_value next_value (start_value first) ws rs

@@ -7,7 +7,7 @@ use Rattle.af_base.specs.declared.event.ServerEvent.{ServerEvent}
 use Rattle.af_base.specs.declared.event.ServerEvent.TheVariants as server
 use Rattle.af_model.specs.Point.{wrapped}
 use Rattle.af_model.specs.Room.{ahead}
-use Rattle.af_model.specs.Order.{Event, one, two, Legal, after, HasOrder}
+use Rattle.af_model.specs.Order.{Event, one, two, Legal, point_after, HasOrder}
 
 -- the point of a pipe: how many frames were put and taken, how many of those put the last rear seen shows, and how many events each end has had
 pub record PipePoint : Type 0 where
@@ -17,37 +17,37 @@ pub record PipePoint : Type 0 where
   pub puts : ℕ
   pub takes : ℕ
 
-abbrev pub start : PipePoint
-start = record { put = 0; taken = 0; shown = 0; puts = 0; takes = 0 }
+abbrev pub start_of_pipe : PipePoint
+start_of_pipe = record { put = 0; taken = 0; shown = 0; puts = 0; takes = 0 }
 
 -- the frames that there is room for, if so many were put and this front is seen
 abbrev pub room_by : ℕ → ℕ → ℕ → ℕ
 room_by size put front = size - ahead front (wrapped put)
 
 -- Frames are put only if there is room. A front seen is the number of frames taken, and the room by it is the pipe's size minus the frames put and not taken. A rear seen is the number of frames put, and frames are taken up to it. What was learnt stands before
-abbrev pub legal : ℕ → PipePoint → Event ClientEvent ServerEvent → Type 0
-legal size p (one (client.Release count)) = p.put + count ≤ p.taken + size
-legal size p (one (client.SawFront front)) = (front ≡ wrapped p.taken) × (room_by size p.put front ≡ size - (p.put - p.taken))
-legal size p (one (client.Learn count)) = count ≤ p.takes
-legal size p (one _) = ⊥
-legal size p (two (server.SawRear rear)) = rear ≡ wrapped p.put
-legal size p (two (server.SawFront front)) = front ≡ wrapped p.taken
-legal size p (two (server.Take count)) = p.taken + count ≤ p.shown
-legal size p (two (server.Learn count)) = count ≤ p.puts
-legal size p (two _) = ⊥
+abbrev pub legal_in_pipe : ℕ → PipePoint → Event ClientEvent ServerEvent → Type 0
+legal_in_pipe size p (one (client.Release count)) = p.put + count ≤ p.taken + size
+legal_in_pipe size p (one (client.SawFront front)) = (front ≡ wrapped p.taken) × (room_by size p.put front ≡ size - (p.put - p.taken))
+legal_in_pipe size p (one (client.Learn count)) = count ≤ p.takes
+legal_in_pipe size p (one _) = ⊥
+legal_in_pipe size p (two (server.SawRear rear)) = rear ≡ wrapped p.put
+legal_in_pipe size p (two (server.SawFront front)) = front ≡ wrapped p.taken
+legal_in_pipe size p (two (server.Take count)) = p.taken + count ≤ p.shown
+legal_in_pipe size p (two (server.Learn count)) = count ≤ p.puts
+legal_in_pipe size p (two _) = ⊥
 
-abbrev pub next : PipePoint → Event ClientEvent ServerEvent → PipePoint
-next p (one (client.Release count)) = record p { put = p.put + count; puts = p.puts + 1 }
-next p (one _) = record p { puts = p.puts + 1 }
-next p (two (server.SawRear rear)) = record p { shown = p.put; takes = p.takes + 1 }
-next p (two (server.Take count)) = record p { taken = p.taken + count; takes = p.takes + 1 }
-next p (two _) = record p { takes = p.takes + 1 }
+abbrev pub next_in_pipe : PipePoint → Event ClientEvent ServerEvent → PipePoint
+next_in_pipe p (one (client.Release count)) = record p { put = p.put + count; puts = p.puts + 1 }
+next_in_pipe p (one _) = record p { puts = p.puts + 1 }
+next_in_pipe p (two (server.SawRear rear)) = record p { shown = p.put; takes = p.takes + 1 }
+next_in_pipe p (two (server.Take count)) = record p { taken = p.taken + count; takes = p.takes + 1 }
+next_in_pipe p (two _) = record p { takes = p.takes + 1 }
 
 -- There is a legal order of both ends' events. The frames put and taken are as many as these say, and those taken begin those put
 pub record HasPipeHistory (size : ℕ) (puts : List ClientEvent) (put : List ℕ) (takes : List ServerEvent) (taken : List ℕ) : Type 0 where
-  pub history : HasOrder (legal size) next start puts takes
-  pub put_is : (after (legal size) next start history.order).put ≡ length put
-  pub taken_is : (after (legal size) next start history.order).taken ≡ length taken
+  pub history : HasOrder (legal_in_pipe size) next_in_pipe start_of_pipe puts takes
+  pub put_is : (point_after (legal_in_pipe size) next_in_pipe start_of_pipe history.order).put ≡ length put
+  pub taken_is : (point_after (legal_in_pipe size) next_in_pipe start_of_pipe history.order).taken ≡ length taken
   pub begins : taken ≡ take (length taken) put
 
 -- A put of n frames after so many is one release, or two if the index reaches the number of cells in between. No frames are no release
@@ -84,7 +84,7 @@ IsPutList size events = Legal (may_put size) after_put nothing_put events
 
 -- what the list of the end that puts tells of it
 abbrev pub put_kept : ℕ → List ClientEvent → PutKept
-put_kept size events = after (may_put size) after_put nothing_put events
+put_kept size events = point_after (may_put size) after_put nothing_put events
 
 abbrev pub is_taking : ServerEvent → Bool
 is_taking (server.SawRear rear) = true

@@ -16,7 +16,7 @@ use Rattle.af_model.specs.declared.plain_calls.QueueCall.TheVariants as call
 use Rattle.af_model.specs.declared.plain_calls.QueueAnswer.{QueueAnswer}
 use Rattle.af_model.specs.declared.plain_calls.QueueAnswer.TheVariants as answer
 use Rattle.af_model.specs.StateQueue.{slots, slot_of, carries, word}
-use Rattle.af_model.specs.Draft.{initial, attached, detached, commanded}
+use Rattle.af_model.specs.Draft.{initial, attached, detached, draft_commanded}
 
 -- an item may stand in a slot of this number
 abbrev pub is_shelf : ℕ → Bool
@@ -143,7 +143,7 @@ module _ {P : Type 0} where
   -- what a call that is allowed answers, and the state that it leaves
   abbrev pub allowed_step : QueueState P → QueueCall P → QueueAnswer P × QueueState P
   allowed_step q call.Begin = (answer.Done, record q { editing = true; edited = false })
-  allowed_step q (call.SetCommand c) = (answer.Done, record q { draft = commanded c q.draft; edited = q.edited || not (code_of c == code_of q.draft.command) })
+  allowed_step q (call.SetCommand c) = (answer.Done, record q { draft = draft_commanded c q.draft; edited = q.edited || not (code_of c == code_of q.draft.command) })
   allowed_step q (call.Attach slot mono scale track item) = (answer.Done, record q { draft = attached slot mono scale track q.draft; edited = true; places = slice_set q.places slot (Pending item) })
   allowed_step q (call.Detach slot) = (answer.Done, record q { draft = detached slot q.draft; edited = true; places = slice_set q.places slot (let_go (place_at q.places slot)) })
   allowed_step q (call.End did_modify) = (answer.Done, record q { editing = false; edited = false; dirty = q.dirty || did_modify })

@@ -20,12 +20,12 @@ cell k = (k + 3) % 4
 abbrev pub word : ℕ → ℕ
 word k = if k == 0 then 0 else cell k + 1
 
-abbrev pub no_track : FastTrack
-no_track = record { generation = 0; track = 0; mono = false; scale = 0 }
+abbrev pub no_fast_track : FastTrack
+no_fast_track = record { generation = 0; track = 0; mono = false; scale = 0 }
 
 -- the slot i of a state
 abbrev pub slot_of : FastState → ℕ → FastTrack
-slot_of x i = slice_index_or x.slots i no_track
+slot_of x i = slice_index_or x.slots i no_fast_track
 
 -- the slot i is active and carries an item. Slot 0, the submix, carries none
 abbrev pub carries : FastState → ℕ → Bool
@@ -83,8 +83,8 @@ module _ {P : Type 0} where
   abbrev pub observer_start : ObserverPoint P
   observer_start = record { acked = 0; due = 0; given = []; count = 0 }
 
-  abbrev pub start : FastState → QueuePoint P
-  start x = record { mutator = mutator_start x; observer = observer_start }
+  abbrev pub start_of_queue : FastState → QueuePoint P
+  start_of_queue x = record { mutator = mutator_start x; observer = observer_start }
 
   abbrev pub mutator_next : MutatorPoint P → MutatorEvent P → MutatorPoint P
   mutator_next m (Push k x items) = record { pushed = k; last = x; before = m.last; items = items; clear = false; count = m.count + 1 }
@@ -123,5 +123,5 @@ module _ {P : Type 0} where
   next p (two e) = record { mutator = p.mutator; observer = observer_next p.observer e }
 
   -- the two lists stand in one legal order from the first content on
-  abbrev pub HasHistory : FastState → List (MutatorEvent P) → List (ObserverEvent P) → Type 0
-  HasHistory first ms os = HasOrder legal next (start first) ms os
+  abbrev pub HasStateHistory : FastState → List (MutatorEvent P) → List (ObserverEvent P) → Type 0
+  HasStateHistory first ms os = HasOrder legal next (start_of_queue first) ms os

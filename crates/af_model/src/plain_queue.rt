@@ -2,7 +2,7 @@
 ghost use Rattle.std.specs.Prelude.{◌≡◌, ◌+◌, ◌^◌, ◌<◌, ◌≤◌, ◌==◌, ◌||◌, not, true, false, IfOk, OnOk, OnErr, MatchOption, map, Some, None, slice_set, length};
 ghost use Rattle.af_base.specs.Command.{code_of};
 ghost use Rattle.af_model.specs.StateQueue.{slots, slot_of, carries, word};
-ghost use Rattle.af_model.specs.Draft.{initial, attached, detached, commanded};
+ghost use Rattle.af_model.specs.Draft.{initial, attached, detached, draft_commanded};
 ghost use Rattle.af_model.specs.PlainQueue.{QueueState, new_queue, place_at, is_placed, held_of, returned_of, let_go, left, moved, moved_from, readiness, is_allowed, is_acked, after_look, push_answer, shown, after_push, poll_answer, after_poll, allowed_step, step, answers_of, state_after};
 ghost use Rattle.af_model.specs.declared.plain_calls.Place.TheVariants.{Nowhere, Pending};
 
@@ -120,7 +120,7 @@ impl<P: Drop> PlainQueue<P> {
 
     fn set_command(&mut self, command: Command)
         requires room { self.old.draft.cold_gen < 2 ^ 62 }
-        ensures { self.new ≡ record self.old { draft = commanded command self.old.draft; edited = self.old.edited || not (code_of command == code_of self.old.draft.command) } }
+        ensures { self.new ≡ record self.old { draft = draft_commanded command self.old.draft; edited = self.old.edited || not (code_of command == code_of self.old.draft.command) } }
     {
         let (before, after) = (self.draft.command.code(), command.code());
         let cold = Command::ColdIdle.code();

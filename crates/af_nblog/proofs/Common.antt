@@ -10,8 +10,8 @@ pub use Rattle.af_cblk.specs.Sides.{ClientSide, Made, ServerIs, ServerSide}
 pub use Rattle.af_cblk.specs.declared.view.ClientPart.{ClientPart}
 pub use Rattle.af_cblk.specs.declared.view.ServerPart.{ServerPart}
 pub use Rattle.af_link.specs.PipeEnds.{HasPut, InSide, OutSide, room_of, taken_by}
-pub use Rattle.af_model.specs.Order.{Event, Legal, after, one, ones, two, twos}
-pub use Rattle.af_model.specs.PipeHistory.{HasPipeHistory, PipePoint, legal, next, releases_of, room_by, start}
+pub use Rattle.af_model.specs.Order.{Event, Legal, point_after, one, ones, two, twos}
+pub use Rattle.af_model.specs.PipeHistory.{HasPipeHistory, PipePoint, legal_in_pipe, next_in_pipe, releases_of, room_by, start_of_pipe}
 pub use Rattle.af_model.specs.Point.{wrapped}
 pub use Rattle.af_model.specs.declared.shape.Shape.{Shape}
 pub use Rattle.std.proofs.lemmas.Bool.{and_parts}

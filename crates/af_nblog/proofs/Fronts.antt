@@ -1,6 +1,6 @@
 -- In a history of a log of notes each front that the end that notes sees is that of a number of notes read.
 use Rattle.std.proofs.Common.{◌≡◌, ℕ, zero, suc, ◌+◌, ◌-◌, ◌*◌, ◌≤◌, max, Bool, true, List, [], ◌∷◌, ◌++◌, length, take, ◌&&◌, refl, ap, ◌∙◌, subst, arith, append_assoc, length-append, eqb-true}
-use Rattle.af_nblog.proofs.Common.{ClientEvent, Event, HasPipeHistory, Legal, PipePoint, ServerEvent, and_parts, legal, list_all, list_all-append, next, one, ones, start, two, twos, wrapped}
+use Rattle.af_nblog.proofs.Common.{ClientEvent, Event, HasPipeHistory, Legal, PipePoint, ServerEvent, and_parts, legal_in_pipe, list_all, list_all-append, next_in_pipe, one, ones, start_of_pipe, two, twos, wrapped}
 use Rattle.af_base.specs.declared.event.ClientEvent.TheVariants as client
 use Rattle.af_base.specs.declared.event.ServerEvent.TheVariants as server
 use Rattle.af_nblog.specs.NoteFronts.{takes_note, read_in, SeesRead}
@@ -58,28 +58,28 @@ module _ (size : ℕ) where
       let m : length (done ++ e ∷ []) ≡ length done + 1 = length-append done (e ∷ []) in
       record { taken_is = omega arith; takes_is = omega arith; low_is = omega arith; seen = b; fewer = c; room = omega arith }
 
-  in_order : (done : List ServerEvent) (p : PipePoint) (es : List (Event ClientEvent ServerEvent)) (low : ℕ) → Legal (legal size) next p es → list_all takes_note (twos es) ≡ true → Stands done low p.put p.taken p.shown p.takes
+  in_order : (done : List ServerEvent) (p : PipePoint) (es : List (Event ClientEvent ServerEvent)) (low : ℕ) → Legal (legal_in_pipe size) next_in_pipe p es → list_all takes_note (twos es) ≡ true → Stands done low p.put p.taken p.shown p.takes
       → SeesRead size (done ++ twos es) p.put low (ones es)
   in_order done p [] low l all s = tt
   in_order done p (two (server.SawRear rear) ∷ es) low l all s =
       let e : ServerEvent = server.SawRear rear in
       subst (λ (x : List ServerEvent). SeesRead size x p.put low (ones es)) (append_assoc done (e ∷ []) (twos es))
-      (in_order (done ++ e ∷ []) (next p (two e)) es low l.1 all (more done e low p.put p.taken p.shown p.takes p.taken p.put 0 s refl (omega arith) (omega arith) (omega arith)))
+      (in_order (done ++ e ∷ []) (next_in_pipe p (two e)) es low l.1 all (more done e low p.put p.taken p.shown p.takes p.taken p.put 0 s refl (omega arith) (omega arith) (omega arith)))
   in_order done p (two (server.SawFront front) ∷ es) low l all s =
       let e : ServerEvent = server.SawFront front in
       subst (λ (x : List ServerEvent). SeesRead size x p.put low (ones es)) (append_assoc done (e ∷ []) (twos es))
-      (in_order (done ++ e ∷ []) (next p (two e)) es low l.1 all (more done e low p.put p.taken p.shown p.takes p.taken p.shown 0 s refl (omega arith) s.seen s.fewer))
+      (in_order (done ++ e ∷ []) (next_in_pipe p (two e)) es low l.1 all (more done e low p.put p.taken p.shown p.takes p.taken p.shown 0 s refl (omega arith) s.seen s.fewer))
   in_order done p (two (server.Take count) ∷ es) low l all s =
       let e : ServerEvent = server.Take count in
       let parts = and_parts (takes_note e) (list_all takes_note (twos es)) all in
       let whole : count ≡ 8 = is_eight count parts.0 in
       let fits : p.taken + count ≤ p.shown = l.0 in
       subst (λ (x : List ServerEvent). SeesRead size x p.put low (ones es)) (append_assoc done (e ∷ []) (twos es))
-      (in_order (done ++ e ∷ []) (next p (two e)) es low l.1 parts.1 (more done e low p.put p.taken p.shown p.takes (p.taken + count) p.shown 1 s refl (omega arith) fits s.fewer))
+      (in_order (done ++ e ∷ []) (next_in_pipe p (two e)) es low l.1 parts.1 (more done e low p.put p.taken p.shown p.takes (p.taken + count) p.shown 1 s refl (omega arith) fits s.fewer))
   in_order done p (two (server.Learn count) ∷ es) low l all s =
       let e : ServerEvent = server.Learn count in
       subst (λ (x : List ServerEvent). SeesRead size x p.put low (ones es)) (append_assoc done (e ∷ []) (twos es))
-      (in_order (done ++ e ∷ []) (next p (two e)) es low l.1 all (more done e low p.put p.taken p.shown p.takes p.taken p.shown 0 s refl (omega arith) s.seen s.fewer))
+      (in_order (done ++ e ∷ []) (next_in_pipe p (two e)) es low l.1 all (more done e low p.put p.taken p.shown p.takes p.taken p.shown 0 s refl (omega arith) s.seen s.fewer))
   in_order done p (two (server.SawGain word) ∷ es) low l all s = absurd l.0
   in_order done p (two (server.SawFlush flush) ∷ es) low l all s = absurd l.0
   in_order done p (two (server.Drop to) ∷ es) low l all s = absurd l.0
@@ -94,17 +94,17 @@ module _ (size : ℕ) where
         omega arith,
         l.0.0 ∙ ap wrapped s.taken_is,
         l.0.1 ∙ ap (λ (n : ℕ). size - (p.put - n)) s.taken_is,
-        in_order done (next p (one (client.SawFront front))) es (read_in done) l.1 all here,
+        in_order done (next_in_pipe p (one (client.SawFront front))) es (read_in done) l.1 all here,
       )
   in_order done p (one (client.Release count) ∷ es) low l all s =
       let fits : p.put + count ≤ p.taken + size = l.0 in
       let here : Stands done low (p.put + count) p.taken p.shown p.takes = record { taken_is = s.taken_is; takes_is = s.takes_is; low_is = s.low_is; seen = s.seen; fewer = omega arith; room = fits } in
-      in_order done (next p (one (client.Release count))) es low l.1 all here
+      in_order done (next_in_pipe p (one (client.Release count))) es low l.1 all here
   in_order done p (one (client.Learn count) ∷ es) low l all s =
       let met : count ≤ p.takes = l.0 in
       let first = read_first count done (twos es) (omega arith) in
       let here : Stands done (max low (read_in (take count (done ++ twos es)))) p.put p.taken p.shown p.takes = record { taken_is = s.taken_is; takes_is = s.takes_is; low_is = omega arith; seen = s.seen; fewer = s.fewer; room = s.room } in
-      in_order done (next p (one (client.Learn count))) es (max low (read_in (take count (done ++ twos es)))) l.1 all here
+      in_order done (next_in_pipe p (one (client.Learn count))) es (max low (read_in (take count (done ++ twos es)))) l.1 all here
   in_order done p (one client.Flush ∷ es) low l all s = absurd l.0
   in_order done p (one (client.SetGain word) ∷ es) low l all s = absurd l.0
   in_order done p (one (client.ClearFlags old) ∷ es) low l all s = absurd l.0
@@ -117,4 +117,4 @@ sees_read size puts put takes taken h all =
     let whole : list_all takes_note (twos h.history.order) ≡ true = ap (list_all takes_note) h.history.of_two ∙ all in
     let begin : Stands size [] 0 0 0 0 0 = record { taken_is = refl; takes_is = refl; low_is = omega arith; seen = omega arith; fewer = omega arith; room = omega arith } in
     subst (λ (x : List ClientEvent × List ServerEvent). SeesRead size x.1 0 0 x.0) (λ i. (h.history.of_one i, h.history.of_two i))
-    (in_order size [] start h.history.order 0 h.history.is_legal whole begin)
+    (in_order size [] start_of_pipe h.history.order 0 h.history.is_legal whole begin)

@@ -11,9 +11,9 @@ use Rattle.af_nblog.specs.declared.entries.Note.{Note}
 -- ## The note of an entry
 
 -- a look showed fewer frames than so many
-abbrev pub is_partial : ℕ → Seen → Bool
-is_partial frames (seen.Frames count) = nat_lt count frames
-is_partial frames _ = false
+abbrev pub is_short_look : ℕ → Seen → Bool
+is_short_look frames (seen.Frames count) = nat_lt count frames
+is_short_look frames _ = false
 
 -- The note of an entry at a place of the log, if a cycle has so many frames. It counts the slots but the first: those that showed frames for a whole cycle, fewer, or that no frame is there
 abbrev pub note_of : ℕ → CycleEntry → ℕ → Note
@@ -23,7 +23,7 @@ note_of place entry frames =
       state = entry.state;
       kind = kind_of entry.cycle;
       fulls = count_by (λ slot. is_full frames slot.seen) (slice_range entry.slots 1 slots);
-      partials = count_by (λ slot. is_partial frames slot.seen) (slice_range entry.slots 1 slots);
+      partials = count_by (λ slot. is_short_look frames slot.seen) (slice_range entry.slots 1 slots);
       empties = count_by (λ slot. is_empty slot.seen) (slice_range entry.slots 1 slots);
     }
 

@@ -3,7 +3,7 @@ ghost use Rattle.std.specs.Prelude.{◌≡◌, ◌≤◌, false, length};
 ghost use Rattle.std.specs.List.{count_by};
 ghost use Rattle.af_model.specs.JournalForm.{is_spent};
 ghost use Rattle.af_model.specs.Reports.{is_full, is_empty};
-ghost use Rattle.af_nblog.specs.Notes.{is_partial, note_of};
+ghost use Rattle.af_nblog.specs.Notes.{is_short_look, note_of};
 
 use af_base::{CycleEntry, Seen, SlotEntry};
 
@@ -36,7 +36,7 @@ fn is_full(frames: u32, seen: Seen) -> bool
 
 // Whether a look showed fewer frames, and some.
 fn is_partial(frames: u32, seen: Seen) -> bool
-    ensures { result ≡ is_partial frames seen }
+    ensures { result ≡ is_short_look frames seen }
 {
     match seen {
         Seen::Frames { count } => count < frames,
@@ -64,7 +64,7 @@ fn count_fulls(slots: &[SlotEntry], frames: u32) -> usize
 
 // How many of these slots showed fewer frames.
 fn count_partials(slots: &[SlotEntry], frames: u32) -> usize
-    ensures value { result ≡ count_by (λ slot. is_partial frames slot.seen) slots.now }
+    ensures value { result ≡ count_by (λ slot. is_short_look frames slot.seen) slots.now }
     ensures few { result ≤ length slots.now }
 {
     slots

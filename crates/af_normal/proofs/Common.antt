@@ -32,7 +32,7 @@ pub use Rattle.af_life.proofs.Lives.{acked_len, edits_len, served_len}
 pub use Rattle.af_life.proofs.LooksSoFar.{after_all, after_looks-go, are_due-go}
 pub use Rattle.af_life.proofs.SmallTurns.{acked, turn_small}
 pub use Rattle.af_life.proofs.Smalls.{new_small, set_all}
-pub use Rattle.af_life.specs.Edits.{LegalPush, after_ack, after_push, comes_home, commanded_by, edited_to, entered, is_exit, lent_by, must_enter, must_leave, next_command}
+pub use Rattle.af_life.specs.Edits.{LegalPush, after_ack, after_push, comes_home, commanded_by, edited_to, entered, commands_exit, lent_by, must_enter, must_leave, next_command}
 unfoldable pub use Rattle.af_life.specs.Edits.{edited, lend, let_go, mutated, ordered, welcomed}
 pub use Rattle.af_life.specs.Heard.{counts_in, heard, heard_by, heard_with, is_reached, is_reported, known_by, learnt, ready, slot_reported}
 unfoldable pub use Rattle.af_life.specs.Heard.{noted, settled_at}
@@ -40,7 +40,7 @@ pub use Rattle.af_life.specs.Kept.{Learnt, NormalKept, Outside, Setup, asked, is
 pub use Rattle.af_life.specs.Looks.{LegalLooks, all_command_events, as_slot, command_events, words_taken}
 pub use Rattle.af_life.specs.Obeys.{after_looks, all_go_on, are_due, ended, free_slot, goes_on, holds, is_shut, must_wait, opens, shows_command, slot_for, told}
 unfoldable pub use Rattle.af_life.specs.Obeys.{after_look, obeyed}
-pub use Rattle.af_life.specs.Plays.{LegalTake, after_take, after_takes, counted, is_mixed_here, put_by, tracks_due}
+pub use Rattle.af_life.specs.Plays.{LegalTake, after_take, after_takes, look_counted, is_mixed_here, put_by, tracks_due}
 pub use Rattle.af_life.specs.Reports.{Case, reports}
 unfoldable pub use Rattle.af_life.specs.Reports.{by_report}
 pub use Rattle.af_life.specs.Serves.{IsServed, LegalTrack, is_found_shut, most_looks, served_to, status_word, with_served}
@@ -49,7 +49,7 @@ pub use Rattle.af_life.specs.Small.{AreUpTo, IsSmall, IsSmallTurn, most_tracks}
 pub use Rattle.af_life.specs.Sound.{AreAlone, IsDrafted, IsSlotted, IsSound}
 pub use Rattle.af_life.specs.Turn.{GoesOn, LegalTurn, after_edits, after_tracks}
 unfoldable pub use Rattle.af_life.specs.Turn.{turn_after}
-pub use Rattle.af_life.specs.TurnEvents.{command_list, going, hand_list, invalid, mix_events, mutator_list, number_seen, push_list, status_events, stream_list, takes_from, tracks_at}
+pub use Rattle.af_life.specs.TurnEvents.{command_list, going, hand_events_of, invalid, mix_events, mutator_list, number_seen, push_list, status_events, stream_list, takes_from, tracks_at}
 pub use Rattle.af_life.specs.declared.kept.Heard.{Heard}
 pub use Rattle.af_life.specs.declared.kept.Holder.{Holder}
 pub use Rattle.af_life.specs.declared.kept.Holder.TheVariants.{Home, Lent, Returning}
@@ -63,11 +63,11 @@ pub use Rattle.af_link.specs.declared.links.Links.{Links}
 pub use Rattle.af_link.specs.declared.names.StreamNames.{StreamNames}
 pub use Rattle.af_model.proofs.Basics.{both_first, not_true, one_few}
 pub use Rattle.af_model.specs.Cycles.{IsSeen, Listed, LooksBy, cycle_events, kept}
-pub use Rattle.af_model.specs.Draft.{commanded, detached, initial}
+pub use Rattle.af_model.specs.Draft.{draft_commanded, detached, initial}
 pub use Rattle.af_model.specs.PipeHistory.{releases_of, room_by}
 pub use Rattle.af_model.specs.Reports.{is_empty, is_full, is_partial, no_report, report_at}
 pub use Rattle.af_model.specs.ServerCalls.{ServerKept, flushes_by, look_at, look_events, server_begins, server_keeps, server_kept, shown_by}
-pub use Rattle.af_model.specs.StateQueue.{IsState, carries, no_track, slot_of, word}
+pub use Rattle.af_model.specs.StateQueue.{IsState, carries, no_fast_track, slot_of, word}
 pub use Rattle.af_model.specs.declared.newest.ReaderEvent.TheVariants.{Load}
 pub use Rattle.af_model.specs.declared.shape.Shape.{Shape}
 pub use Rattle.af_server.specs.Order.{IsInOrder, IsServerOf, ServerState}

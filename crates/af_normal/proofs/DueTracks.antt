@@ -1,6 +1,6 @@
 -- What mixing one track changes, and what it leaves.
 use Rattle.std.proofs.Common.{◌≡◌, ℕ, ◌<◌, ◌≢◌, Bool, false, List, length, map, is_some, slice_index_or, slice_set, Option, Some, None, MatchOption, sym, ap, subst, ◌∙◌, get_or-set_other, get_or-set_same, arith, ⊎_elim}
-use Rattle.af_normal.proofs.Common.{IsServerOf, Made, NormalTake, ServerState, TrackKept, by_bool, cases_eq, counted, get_or-map, is_mixed_here, length-map, new_track, take_seen, track_at}
+use Rattle.af_normal.proofs.Common.{IsServerOf, Made, NormalTake, ServerState, TrackKept, by_bool, cases_eq, look_counted, get_or-map, is_mixed_here, length-map, new_track, take_seen, track_at}
 use Rattle.std.proofs.Math.Seq.{map-set_same}
 use Rattle.af_normal.specs.Mixing.{Mixing, TakesOf, MixesTrack, stream_at}
 use Rattle.af_normal.specs.AllMixed.{AreHome, AreServersOf}
@@ -38,7 +38,7 @@ module _ (asked i : ℕ) (x y : Mixing) where
       (λ (e : k ≡ i). by_track (is_mixed_here (track_at y.tracks k) ≡ is_mixed_here (track_at x.tracks k))
       (λ t. let at : t.take.track ≡ k = t.takes.track ∙ sym e in
       let s : TrackKept = track_at x.tracks t.take.track in
-      let now : TrackKept = record s { own = counted asked t.take.slot.seen s.own } in
+      let now : TrackKept = record s { own = look_counted asked t.take.slot.seen s.own } in
       ap (λ (z : Mixing). is_mixed_here (track_at z.tracks k)) t.then
       ∙ ap (λ (n : ℕ). is_mixed_here (track_at (slice_set x.tracks t.take.track now) n)) (sym at)
       ∙ ap is_mixed_here (get_or-set_same x.tracks t.take.track now new_track (subst (λ (n : ℕ). n < length x.tracks) (sym at) lt))

@@ -1,6 +1,6 @@
 -- What the edit of one track leaves.
 use Rattle.std.proofs.Common.{Bool, true, false, if◌then◌else◌, ◌==◌, ◌≡◌, ℕ, zero, suc, List, Option, length, refl, sym, ap, ◌∙◌, length-set}
-use Rattle.af_normal.proofs.Common.{Command, Mutates, ServerState, StreamNames, TrackKept, by_bool, code_of, commanded as with_command, must_enter, must_leave, track_at}
+use Rattle.af_normal.proofs.Common.{Command, Mutates, ServerState, StreamNames, TrackKept, by_bool, code_of, draft_commanded as with_command, must_enter, must_leave, track_at}
 use Rattle.af_normal.specs.Editing.{LetsGo, Lends}
 use Rattle.af_normal.specs.Mutating.{EditsAll, EditsTo, EditsTrack, begun, commands, due_command, finished}
 use Rattle.af_normal.specs.State.{NormalState}

@@ -1,6 +1,6 @@
 -- What a turn does before it looks at the acknowledgement changes neither what is kept nor a list.
 use Rattle.std.proofs.Common.{◌≡◌, ℕ, zero, suc, ◌+◌, ◌==◌, ◌&&◌, Bool, true, false, if◌then◌else◌, MatchBool, sym, refl, ap, subst, ◌∙◌, List, [], ◌∷◌, ◌++◌, length, Option, Some, arith}
-use Rattle.af_normal.proofs.Common.{HandEvent, HandSide, LegalTurn, Load, NormalKept, Outside, ServerState, Setup, Turn, going, hand_list, is_returning, learnt, map, mutator_list, none-some, packed_word, pipe_size, put_by, releases_of, room_by, slice_get, slice_set, slot_number, track_at, turn_after, turn_of, zero_is}
+use Rattle.af_normal.proofs.Common.{HandEvent, HandSide, LegalTurn, Load, NormalKept, Outside, ServerState, Setup, Turn, going, hand_events_of, is_returning, learnt, map, mutator_list, none-some, packed_word, pipe_size, put_by, releases_of, room_by, slice_get, slice_set, slot_number, track_at, turn_after, turn_of, zero_is}
 use Rattle.std.specs.Prelude.{◌⊎◌}
 use Rattle.af_base.specs.declared.event.ClientEvent.TheVariants as client
 use Rattle.af_normal.specs.LegalTurned.{hand_events, in_hand, Grows, IsLegal}
@@ -90,7 +90,7 @@ module _ (x y z : NormalState) (o : Outside) (b : BegunBy x y) where
   begun_grows c m e g = record {
     commands = (λ i s is. g.commands i s (ap (λ (w : NormalState). slice_get w.commands i) b.same ∙ is));
     whole = (λ i s t is. g.whole i s t (ap (λ (w : NormalState). slice_get w.commands i) b.same ∙ is));
-    hands = (λ i. g.hands i ∙ ap (λ (es : List HandEvent). es ++ hand_list e i) (b.hands i));
+    hands = (λ i. g.hands i ∙ ap (λ (es : List HandEvent). es ++ hand_events_of e i) (b.hands i));
     recalled = (λ f i h is. g.recalled f i h (b.flags i h is));
     streams = g.streams;
     reader = (g.reader.0, g.reader.1 ∙ ap (λ (w : NormalState). w.reader.events ++ going e (Load g.reader.0 o.report ∷ [])) b.same);

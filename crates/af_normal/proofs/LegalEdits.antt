@@ -1,6 +1,6 @@
 -- From the chain of edits to the definition's.
 use Rattle.std.proofs.Common.{◌≡◌, ◌≢◌, ℕ, zero, suc, ◌+◌, ◌<◌, ◌≤◌, ◌==◌, ◌||◌, Bool, true, false, if◌then◌else◌, true≢false, MatchBool, ◌⊎◌, inl, inr, sym, refl, ap, subst, ◌∙◌, List, [], ◌∷◌, length, Option, Some, None, get_or-set_other, arith}
-use Rattle.af_normal.proofs.Common.{Busy, Clean, Command, Heard, Learnt, LegalPush, Mutates, NormalKept, Push, Pushed, Returning, SeesIt, ServerState, Setup, StreamNames, WasPushed, after_push, code_of, commanded as with_command, commanded_by, edited, edited_to, is_exit, known_by, lend, lent_by, let_go, listed, must_enter, must_leave, mutated, next_command, ordered, pipe_size, saw, shows, slice_set, slot_number, track_at, word}
+use Rattle.af_normal.proofs.Common.{Busy, Clean, Command, Heard, Learnt, LegalPush, Mutates, NormalKept, Push, Pushed, Returning, SeesIt, ServerState, Setup, StreamNames, WasPushed, after_push, code_of, draft_commanded as with_command, commanded_by, edited, edited_to, commands_exit, known_by, lend, lent_by, let_go, listed, must_enter, must_leave, mutated, next_command, ordered, pipe_size, saw, shows, slice_set, slot_number, track_at, word}
 use Rattle.af_normal.specs.Editing.{LetsGo, Lends, lets_go, lends}
 use Rattle.af_normal.specs.LegalKept.{kept_open}
 use Rattle.af_normal.specs.Mixing.{stream_at}
@@ -162,7 +162,7 @@ module _ (c : Setup) (k : Learnt) (room : ℕ) (x y : NormalState) (setup : c �
       let z : NormalState = e.edited in
       ap kept_of e.leaves
       ∙ order_is (due_command room e.edited) e.edited
-      ∙ ap (λ (d : Setup). ordered (next_command (is_exit e.edited.mutator.draft) e.edited.tracks room (pipe_size d)) (kept_open e.edited)) (ap setup_of b.same ∙ sym setup)
+      ∙ ap (λ (d : Setup). ordered (next_command (commands_exit e.edited.mutator.draft) e.edited.tracks room (pipe_size d)) (kept_open e.edited)) (ap setup_of b.same ∙ sym setup)
       ∙ ap (commanded_by c room) (b.kept_is ∙ ap (λ (m : NormalKept). edited_to c k m (length x.tracks)) begun_is)
 
   -- neither the last state nor the other parts of the mixer change

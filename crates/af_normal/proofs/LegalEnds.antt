@@ -1,6 +1,6 @@
 -- The lists of the report's reader, of the pipe and of the mutator grow by what the entry of a turn says, and all is joined.
 use Rattle.std.proofs.Common.{◌≡◌, ℕ, zero, suc, ◌+◌, ◌<◌, ◌*◌, ◌==◌, ◌&&◌, not, Bool, true, false, if◌then◌else◌, true≢false, is_some, inl, sym, refl, ap, subst, ◌∙◌, List, [], ◌∷◌, ◌++◌, append_assoc, append-nil, length, map, Option, Some, None, eq-eqb, ne_eqb, arith}
-use Rattle.af_normal.proofs.Common.{Busy, Clean, Frame, InSide, Learnt, Links, Load, Mutates, NormalKept, Push, Pushed, Pushes as Past, Report, SeesIt, ServerEvent, ServerState, Setup, StreamNames, TakeSeen, TrackKept, Turn, WasAcked, WasPushed, after_edits, asked, at, code_of, commanded as with_command, cycle_events, flat_map, is_exit, is_home, most_tracks, must_enter, mutator_list, nothing_heard, number_seen, packed_word, pipe_size, push_list, put_by, releases_of, room_by, served_to, shows, slice_get, slot_number, slot_of_away, slots, stream_list, takes_from, track_at, tracks_at}
+use Rattle.af_normal.proofs.Common.{Busy, Clean, Frame, InSide, Learnt, Links, Load, Mutates, NormalKept, Push, Pushed, Pushes as Past, Report, SeesIt, ServerEvent, ServerState, Setup, StreamNames, TakeSeen, TrackKept, Turn, WasAcked, WasPushed, after_edits, asked, at, code_of, draft_commanded as with_command, cycle_events, flat_map, commands_exit, is_home, most_tracks, must_enter, mutator_list, nothing_heard, number_seen, packed_word, pipe_size, push_list, put_by, releases_of, room_by, served_to, shows, slice_get, slot_number, slot_of_away, slots, stream_list, takes_from, track_at, tracks_at}
 use Rattle.af_base.specs.declared.event.ClientEvent.TheVariants as client
 use Rattle.af_cblk.specs.declared.view.ClientPart.{ClientPart}
 use Rattle.af_model.specs.declared.states.MutatorEvent.{MutatorEvent}
@@ -261,7 +261,7 @@ module _ (links : Links) (t : ℕ) (x : NormalState) (ack : Bool) (report : Repo
   }
 
   -- the turn was legal, left what the definition says, and the lists grew by it
-  pub made_legally : x.ended ≡ false → (is_exit x.mutator.past.last && ack) ≡ false → IsLegal (outside links t x ack report room push y made) x y
+  pub made_legally : x.ended ≡ false → (commands_exit x.mutator.past.last && ack) ≡ false → IsLegal (outside links t x ack report room push y made) x y
   made_legally lives no_exit = record {
     commands = (λ i r is. ap (λ (rs : List ServerState). listed_at (slice_get rs i)) (commands_l links t x ack report room push y made) ∙ ap listed_at is);
     setup = ap setup_of made.goes_on.rest.leaves ∙ ap setup_of made.goes_on.rest.plays.same ∙ setup_of_p links t x ack report room push y made ∙ setup_of_l links t x ack report room push y made;

@@ -3,7 +3,7 @@ use Rattle.std.proofs.Common.{◌≡◌, ℕ, ◌&&◌, not, min, Bool, true, fa
 use Rattle.af_normal.proofs.Common.{Learnt, Listed, LooksBy, ServerEvent, ServerKept, ServerState, Shape, SlotEntry, TrackKept, TrackSeen, cycle_events, flushes_by, fold-append, heard, heard_with, invalid, is_found_shut, kept, known_by, listed, look_at, look_events, no_counts, server_begins, server_keeps, server_kept, track_at}
 use Rattle.af_base.specs.declared.event.ServerEvent.TheVariants as server
 use Rattle.af_base.specs.declared.seen.Seen.TheVariants as seen
-use Rattle.af_model.specs.Cycles.{after_look}
+use Rattle.af_model.specs.Cycles.{events_behind_look}
 use Rattle.af_normal.specs.Serving.{Adds}
 
 kept_still : (shape : Shape) (events : List ServerEvent) (b : Bool) → server_kept shape (events ++ (if b then server.SetFlags 4 ∷ [] else [])) ≡ server_kept shape events
@@ -35,4 +35,4 @@ module _ (s t : Listed) (shape : t.shape ≡ s.shape) (same : kept t ≡ kept s)
   )
 
   pub events_still : (asked : ℕ) (slot : SlotEntry) (front : ℕ) → cycle_events asked t slot front ≡ cycle_events asked s slot front
-  events_still asked slot front = ap (λ (k : ServerKept). server.SawGain slot.gains ∷ (if is_some k.shut then [] else look_events slot.seen slot.flush slot.rear front) ++ after_look asked (is_some k.shut) slot.seen) same
+  events_still asked slot front = ap (λ (k : ServerKept). server.SawGain slot.gains ∷ (if is_some k.shut then [] else look_events slot.seen slot.flush slot.rear front) ++ events_behind_look asked (is_some k.shut) slot.seen) same

@@ -1,6 +1,6 @@
 -- The list of each party grows by what the entry of a turn says.
 use Rattle.std.proofs.Common.{◌≡◌, ◌≢◌, ℕ, zero, suc, ◌<◌, ◌≤◌, Bool, true, false, if◌then◌else◌, true≢false, is_some, inl, inr, sym, refl, ap, subst, ◌∙◌, List, [], ◌∷◌, ◌++◌, append_assoc, append-nil, length, Option, Some, None, ⊎_elim, arith}
-use Rattle.af_normal.proofs.Common.{HandEvent, HandSide, Learnt, Links, Listed, NormalKept, Outside, Push, Report, ServerEvent, ServerState, Setup, StartsWith, TakeSeen, TrackKept, TrackSeen, Turn, all_command_events, asked, cases_lt, command_list, cycle_events, flat_map, hand_list, invalid, is_home, kept, listed, mix_events, seen_at, served_to, slice_get, slice_get_within, some_same, status_events, stream_list, takes_from, track_at, track_in, tracks_at, words_taken}
+use Rattle.af_normal.proofs.Common.{HandEvent, HandSide, Learnt, Links, Listed, NormalKept, Outside, Push, Report, ServerEvent, ServerState, Setup, StartsWith, TakeSeen, TrackKept, TrackSeen, Turn, all_command_events, asked, cases_lt, command_list, cycle_events, flat_map, hand_events_of, invalid, is_home, kept, listed, mix_events, seen_at, served_to, slice_get, slice_get_within, some_same, status_events, stream_list, takes_from, track_at, track_in, tracks_at, words_taken}
 use Rattle.af_normal.specs.LegalTurned.{hand_events, GoesOnFrom}
 use Rattle.af_normal.specs.Mixing.{stream_at}
 use Rattle.af_normal.specs.Serving.{Adds, StreamAdds, disabled_events}
@@ -111,11 +111,11 @@ module _ (links : Links) (t : ℕ) (x : NormalState) (ack : Bool) (report : Repo
   abbrev Events : Option HandSide → List HandEvent
   Events h = elim h as (λ w. List HandEvent) [ None ↦ [] | Some f ↦ f.part.events ]
 
-  pub hands_grow : (i : ℕ) → hand_events y.hands i ≡ hand_events x.hands i ++ hand_list e i
-  hands_grow i = ap (λ (hs : List HandSide). hand_events hs i) hands_y ∙ here ∙ ap (λ (hs : List HandSide). hand_events hs i ++ hand_list e i) hands_l
+  pub hands_grow : (i : ℕ) → hand_events y.hands i ≡ hand_events x.hands i ++ hand_events_of e i
+  hands_grow i = ap (λ (hs : List HandSide). hand_events hs i) hands_y ∙ here ∙ ap (λ (hs : List HandSide). hand_events hs i ++ hand_events_of e i) hands_l
     where
-      here : hand_events s.hands i ≡ hand_events l.hands i ++ hand_list e i
-      here = elim (cases_lt i (length l.tracks)) as (λ d. hand_events s.hands i ≡ hand_events l.hands i ++ hand_list e i) [
+      here : hand_events s.hands i ≡ hand_events l.hands i ++ hand_events_of e i
+      here = elim (cases_lt i (length l.tracks)) as (λ d. hand_events s.hands i ≡ hand_events l.hands i ++ hand_events_of e i) [
         | inl lt ↦ let part = (done links t x ack report room push y made).parts i lt in
             ap Events part.has_flag' ∙ part.disabled.list ∙ ap (λ (h : Option HandSide). Events h ++ disabled_events (seen_at ts i).disabled) (sym part.has_flag)
         | inr le ↦ ap Events ((done links t x ack report room push y made).rest i le).flag ∙ sym (append-nil (hand_events l.hands i))

@@ -1,6 +1,6 @@
 -- A turn that goes on is a legal one, and leaves what the definition says.
 use Rattle.std.proofs.Common.{◌≡◌, ℕ, ◌<◌, ◌≤◌, ◌&&◌, ◌||◌, Bool, true, false, if◌then◌else◌, true≢false, is_some, MatchBool, sym, refl, ap, subst, ◌∙◌, List, [], ◌∷◌, length, map, Option, Some, None, ⊎_elim, arith}
-use Rattle.af_normal.proofs.Common.{AllByRecursion, GoesOn, Learnt, LegalLooks, LegalPush, LegalTake, LegalTrack, LegalTurn, Links, LooksBy, Mutates, NormalKept, NormalTake, Outside, Push, Report, Roomy, ServerState, Setup, StreamNames, TakeSeen, TrackKept, TrackSeen, TrackTurn, Turn, TurnEntry, WasAcked, acked_len, after_ack, after_edits, after_push, after_take, after_takes, after_tracks, asked, filter, fold, is_exit, is_mixed_here, learnt, listed, mutated, nat_le, range_with_len, seen_at, served_to, slice_get, take_seen, takes_from, track_at, track_seen, tracks_due, turn_after, turn_of}
+use Rattle.af_normal.proofs.Common.{AllByRecursion, GoesOn, Learnt, LegalLooks, LegalPush, LegalTake, LegalTrack, LegalTurn, Links, LooksBy, Mutates, NormalKept, NormalTake, Outside, Push, Report, Roomy, ServerState, Setup, StreamNames, TakeSeen, TrackKept, TrackSeen, TrackTurn, Turn, TurnEntry, WasAcked, acked_len, after_ack, after_edits, after_push, after_take, after_takes, after_tracks, asked, filter, fold, commands_exit, is_mixed_here, learnt, listed, mutated, nat_le, range_with_len, seen_at, served_to, slice_get, take_seen, takes_from, track_at, track_seen, tracks_due, turn_after, turn_of}
 use Rattle.af_normal.specs.Mixing.{stream_at, Mixing, MixesTo}
 use Rattle.af_normal.specs.Order.{IsTied, IsGoing}
 use Rattle.af_normal.specs.Ready.{AreOwn, serving_of}
@@ -207,10 +207,10 @@ module _ (links : Links) (t : ℕ) (x : NormalState) (ack : Bool) (report : Repo
   neither true b e f = absurd (true≢false e)
   neither false b e f = sym f
 
-  module _ (lives : x.ended ≡ false) (no_exit : (is_exit x.mutator.past.last && ack) ≡ false) where
+  module _ (lives : x.ended ≡ false) (no_exit : (commands_exit x.mutator.past.last && ack) ≡ false) where
     pub legal_told : LegalTurn c outside (kept_of x) told
     legal_told = record {
-      ends = neither x.ended (is_exit x.mutator.past.last && ack) lives no_exit;
+      ends = neither x.ended (commands_exit x.mutator.past.last && ack) lives no_exit;
       still = (λ e. absurd (true≢false (sym e)));
       goes_on = (λ e. goes_on_legally);
     }

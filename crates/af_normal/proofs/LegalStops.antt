@@ -1,6 +1,6 @@
 -- A turn that has ended is a legal one, leaves what the definition says, and keeps the order.
 use Rattle.std.proofs.Common.{◌≡◌, ℕ, ◌+◌, ◌&&◌, ◌||◌, Bool, true, false, if◌then◌else◌, true≢false, MatchBool, inr, sym, refl, ap, subst, ◌∙◌, List, [], ◌∷◌, ◌++◌, append-nil, length, Option, Some, arith}
-use Rattle.af_normal.proofs.Common.{IsSmall, IsSmallTurn, LegalTurn, Links, Mutates, NormalKept, Outside, ServerState, Setup, StreamNames, Turn, WasAcked, asked, ended_turn, is_exit, learnt, mutator_list, no_report, slice_get, turn_after, turn_small}
+use Rattle.af_normal.proofs.Common.{IsSmall, IsSmallTurn, LegalTurn, Links, Mutates, NormalKept, Outside, ServerState, Setup, StreamNames, Turn, WasAcked, asked, ended_turn, commands_exit, learnt, mutator_list, no_report, slice_get, turn_after, turn_small}
 use Rattle.af_model.specs.declared.states.MutatorEvent.TheVariants as mutator
 use Rattle.af_normal.specs.AllMixed.{HasTakes}
 use Rattle.af_normal.specs.LegalTurned.{hand_events, Grows, IsLegal}
@@ -12,7 +12,7 @@ use Rattle.af_normal.specs.Turning.{listed_at}
 
 module _ (x y : NormalState) (stops : Stops x y) where
   abbrev Looks : Bool → Type 0
-  Looks b = MatchBool b (stops.mutator ≡ x.mutator) (WasAcked x.mutator true stops.mutator × (is_exit x.mutator.past.last ≡ true))
+  Looks b = MatchBool b (stops.mutator ≡ x.mutator) (WasAcked x.mutator true stops.mutator × (commands_exit x.mutator.past.last ≡ true))
 
   -- the mixer that stops saw nothing but its own lists
   abbrev pub seen : Outside
@@ -36,12 +36,12 @@ module _ (x y : NormalState) (stops : Stops x y) where
   both true e = refl
   both false e = absurd (true≢false (sym e))
 
-  ends : true ≡ (x.ended || (is_exit x.mutator.past.last && true))
+  ends : true ≡ (x.ended || (commands_exit x.mutator.past.last && true))
   ends = by_ended x.ended refl stops.looks
     where
-      by_ended : (b : Bool) → x.ended ≡ b → Looks b → true ≡ (x.ended || (is_exit x.mutator.past.last && true))
-      by_ended true e l = or_left x.ended (is_exit x.mutator.past.last && true) e
-      by_ended false e l = or_right x.ended (is_exit x.mutator.past.last && true) (both (is_exit x.mutator.past.last) l.1)
+      by_ended : (b : Bool) → x.ended ≡ b → Looks b → true ≡ (x.ended || (commands_exit x.mutator.past.last && true))
+      by_ended true e l = or_left x.ended (commands_exit x.mutator.past.last && true) e
+      by_ended false e l = or_right x.ended (commands_exit x.mutator.past.last && true) (both (commands_exit x.mutator.past.last) l.1)
 
   kept_stopped : kept_of (record x { mutator = stops.mutator; ended = true; entry = y.entry }) ≡ record (kept_of x) { ended = true }
   kept_stopped = by_ended x.ended stops.looks

@@ -1,6 +1,6 @@
 -- The order after a whole turn.
 use Rattle.std.proofs.Common.{◌≡◌, ℕ, ◌≤◌, Bool, is_some, inl, inr, sym, refl, ap, subst, ◌∙◌, List, [], ◌∷◌, length, Option, Some, None, arith}
-use Rattle.af_normal.proofs.Common.{FastState, IsDrafted, IsSlotted, IsSound, IsStreamOf, Links, Made, Push, Report, ServerEvent, ServerState, TakeSeen, TrackKept, after_take, asked, at_set, counted, fold, is_home, set_each, slice_set, takes_len, track_at}
+use Rattle.af_normal.proofs.Common.{FastState, IsDrafted, IsSlotted, IsSound, IsStreamOf, Links, Made, Push, Report, ServerEvent, ServerState, TakeSeen, TrackKept, after_take, asked, at_set, look_counted, fold, is_home, set_each, slice_set, takes_len, track_at}
 use Rattle.af_normal.specs.Mixing.{stream_at}
 use Rattle.af_normal.specs.Order.{AreThere, IsTied}
 use Rattle.af_normal.specs.State.{NormalState, setup_of}
@@ -17,7 +17,7 @@ module _ (asked : ℕ) (draft : FastState) where
   sound_take tracks take h =
       let i : ℕ = take.track in
       let s : TrackKept = track_at tracks i in
-      let t : TrackKept = record s { own = counted asked take.slot.seen s.own } in record {
+      let t : TrackKept = record s { own = look_counted asked take.slot.seen s.own } in record {
         slotted = set_each (λ (j : ℕ) (x : TrackKept). IsSlotted x) tracks i t (record { slot = (h.slotted i).slot; unopened = (h.slotted i).unopened; homely = (h.slotted i).homely }) h.slotted;
         drafted = set_each (IsDrafted draft) tracks i t (record { lent = (h.drafted i).lent; returning = (h.drafted i).returning; own = (h.drafted i).own }) h.drafted;
         alone = alone_set tracks i t h.alone (λ n e. inl e);
@@ -32,7 +32,7 @@ module _ (asked : ℕ) (draft : FastState) where
   stays_one tracks take j =
       let i : ℕ = take.track in
       let s : TrackKept = track_at tracks i in
-      let t : TrackKept = record s { own = counted asked take.slot.seen s.own } in
+      let t : TrackKept = record s { own = look_counted asked take.slot.seen s.own } in
       elim (at_set tracks i t j) as (λ p. StaysPut (track_at tracks j) (track_at (slice_set tracks i t) j)) [
         | inl p ↦ subst (StaysPut (track_at tracks j)) (sym p.1) (subst (λ (n : ℕ). StaysPut (track_at tracks n) t) (sym p.0) (refl, λ a. refl))
         | inr e ↦ subst (StaysPut (track_at tracks j)) (sym e) (refl, λ a. refl)

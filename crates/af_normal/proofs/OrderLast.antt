@@ -1,6 +1,6 @@
 -- A whole turn keeps the order.
 use Rattle.std.proofs.Common.{◌≡◌, ℕ, zero, suc, ◌+◌, ◌<◌, ◌≤◌, ◌&&◌, Bool, true, false, MatchBool, nat_le, inl, inr, sym, refl, ap, subst, ◌∙◌, List, length, Some, arith}
-use Rattle.af_normal.proofs.Common.{AreUpTo, Busy, Clean, HandSide, IsSmall, IsSmallTurn, IsStreamOf, Learnt, Links, Mutates, NormalKept, Push, Pushed, Report, SeesIt, ServerState, Setup, StreamNames, TrackKept, TrackSeen, WasPushed, asked, cases_lt, is_exit, learnt, seen_at, served_to, shows, slice_get_within, track_at, turn_of, turn_small}
+use Rattle.af_normal.proofs.Common.{AreUpTo, Busy, Clean, HandSide, IsSmall, IsSmallTurn, IsStreamOf, Learnt, Links, Mutates, NormalKept, Push, Pushed, Report, SeesIt, ServerState, Setup, StreamNames, TrackKept, TrackSeen, WasPushed, asked, cases_lt, commands_exit, learnt, seen_at, served_to, shows, slice_get_within, track_at, turn_of, turn_small}
 use Rattle.af_normal.specs.AllMixed.{HasTakes}
 use Rattle.af_normal.specs.Mixing.{Mixing, MixesTo, stream_at}
 use Rattle.af_normal.specs.Mutating.{Pushes}
@@ -71,7 +71,7 @@ module _ (links : Links) (t : ℕ) (x : NormalState) (ack : Bool) (report : Repo
   tracks_y = ap (λ (w : NormalState). w.tracks) (y_same links t x ack report room push y made)
 
   -- the numbers are small after one turn more
-  pub small_done : x.ended ≡ false → (is_exit x.mutator.past.last && ack) ≡ false → IsSmall (t + 1) (setup_of y) (kept_of y)
+  pub small_done : x.ended ≡ false → (commands_exit x.mutator.past.last && ack) ≡ false → IsSmall (t + 1) (setup_of y) (kept_of y)
   small_done lives no_exit = subst (λ (d : Setup × NormalKept). IsSmall (t + 1) d.0 d.1) (λ i. (sym setup_of_y i, sym (turn_kept links t x ack report room push y made lives no_exit) i))
       (turn_small (setup_of x) t (learnt (outside links t x ack report room push y made)) (turn_of y.entry) (kept_of x) made.going.small (subst IsSmallTurn (sym (tells links t x ack report room push y made)) few_told))
 
@@ -107,7 +107,7 @@ module _ (links : Links) (t : ℕ) (x : NormalState) (ack : Bool) (report : Repo
   }
 
   -- The turn keeps the order: the entry and the spare lists have their room, and the stream proxies are of their blocks
-  pub order_done : x.ended ≡ false → (is_exit x.mutator.past.last && ack) ≡ false
+  pub order_done : x.ended ≡ false → (commands_exit x.mutator.past.last && ack) ≡ false
       → ((j : ℕ) (r : ServerState) → stream_at q.streams j ≡ Some r → IsStreamOf links.streams.now j r)
       → HasTurns (length y.tracks) y.entry.tracks y.spare_turns → HasTakes (asked (setup_of y)) (length y.tracks) y.entry.mixes y.spare_takes → IsInOrder links y
   order_done lives no_exit of turns_room takes_room = record {

@@ -5,7 +5,7 @@ use Rattle.af_life.specs.declared.state.LifeState.TheVariants.{Absent}
 use Rattle.af_life.specs.declared.track.Known.{Known}
 use Rattle.af_life.specs.State.{is_among}
 use Rattle.af_life.specs.Commands.{Row, applies, commands, first_effect as command_effect, by_command}
-use Rattle.af_life.specs.Reports.{first_effect as report_effect}
+use Rattle.af_life.specs.Reports.{first_case_effect as report_effect}
 use Rattle.af_life.specs.Obeys.{commanded}
 
 -- ## Lives

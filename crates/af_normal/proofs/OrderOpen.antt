@@ -1,6 +1,6 @@
 -- An edit of the draft keeps the order.
 use Rattle.std.proofs.Common.{◌≡◌, ◌≢◌, ℕ, ◌+◌, ◌<◌, ◌≤◌, ◌^◌, Bool, true, false, true≢false, is_some, MatchBool, sym, refl, ap, subst, ◌∙◌, List, length, length-set, Option, Some, None, ⊎_elim, get_or-set_same, get_or-set_other, arith}
-use Rattle.af_normal.proofs.Common.{FastTrack, Heard, IsStreamOf, Links, Made, Returning, ServerState, StreamNames, TrackKept, at_here, at_other, cases_eq, entered, is_home, is_out, known_by, lent_by, listed, must_enter, must_leave, no, no_track, nothing_heard, scale_fits, setting_of, slice_set, slot_number, slot_of, slots, track_at}
+use Rattle.af_normal.proofs.Common.{FastTrack, Heard, IsStreamOf, Links, Made, Returning, ServerState, StreamNames, TrackKept, at_here, at_other, cases_eq, entered, is_home, is_out, known_by, lent_by, listed, must_enter, must_leave, no, no_fast_track, nothing_heard, scale_fits, setting_of, slice_set, slot_number, slot_of, slots, track_at}
 use Rattle.af_normal.specs.Editing.{LetsGo, Lends, lets_go, lends}
 use Rattle.af_normal.specs.Mixing.{stream_at}
 use Rattle.af_normal.specs.Mutating.{EditsTrack, MayEnter, IsEditable}
@@ -89,10 +89,10 @@ module _ (links : Links) (edits i : ℕ) (x : NormalState) (mutating : IsOpen li
     raised q = ⊎_elim
         (λ (e : q ≡ k). let is : (slot_of (entered (setup_of x) i (kept_of x)) q).generation ≡ (slot_of x.mutator.draft k).generation + 1 =
         ap (λ (n : ℕ). (slot_of (entered (setup_of x) i (kept_of x)) n).generation) e
-        ∙ ap (λ (t : FastTrack). t.generation) (get_or-set_same x.mutator.draft.slots k _ no_track (let w = mutating.tied.sound.state.whole in let l = comer_low.1 in omega arith)) in
+        ∙ ap (λ (t : FastTrack). t.generation) (get_or-set_same x.mutator.draft.slots k _ no_fast_track (let w = mutating.tied.sound.state.whole in let l = comer_low.1 in omega arith)) in
         let g : (slot_of x.mutator.draft k).generation ≤ edits = mutating.generations k in omega arith)
         (λ (ne : q ≢ k). let is : (slot_of (entered (setup_of x) i (kept_of x)) q).generation ≡ (slot_of x.mutator.draft q).generation =
-        ap (λ (t : FastTrack). t.generation) (get_or-set_other x.mutator.draft.slots k q _ no_track ne) in
+        ap (λ (t : FastTrack). t.generation) (get_or-set_other x.mutator.draft.slots k q _ no_fast_track ne) in
         let g : (slot_of x.mutator.draft q).generation ≤ edits = mutating.generations q in omega arith)
         (cases_eq q k)
 

@@ -1,6 +1,6 @@
 -- Each stage of a turn keeps the order.
 use Rattle.std.proofs.Common.{◌≡◌, ℕ, zero, suc, ◌+◌, ◌<◌, ◌≤◌, ◌==◌, Bool, true, false, if◌then◌else◌, MatchBool, sym, refl, ap, subst, ◌∙◌, List, [], ◌∷◌, ◌++◌, length, Option, eq-eqb, arith}
-use Rattle.af_normal.proofs.Common.{Busy, Clean, Command, IsJoined, Links, Made, Mutates, Push, Pushed, Pushes as Past, Report, SeesIt, ServerState, StreamNames, WasAcked, WasPushed, after_ack, code_of, commanded as with_command, is_returning, number_seen, returning_away, saw, shows, slot_number, slot_of, sound_ordered, track_at, word}
+use Rattle.af_normal.proofs.Common.{Busy, Clean, Command, IsJoined, Links, Made, Mutates, Push, Pushed, Pushes as Past, Report, SeesIt, ServerState, StreamNames, WasAcked, WasPushed, after_ack, code_of, draft_commanded as with_command, is_returning, number_seen, returning_away, saw, shows, slot_number, slot_of, sound_ordered, track_at, word}
 use Rattle.af_model.specs.declared.states.MutatorEvent.TheVariants as mutator
 use Rattle.af_normal.specs.Coming.{WelcomesTo}
 use Rattle.af_normal.specs.Mutating.{EditsTo, EditsAll, Pushes, begun, commands, finished, due_command}

@@ -1,6 +1,6 @@
 -- How few looks of its own the mixer has not told of: one of each track at most, and of a track that it may mix none until it is mixed.
 use Rattle.std.proofs.Common.{◌≡◌, ◌≢◌, ℕ, zero, suc, ◌<◌, ◌≤◌, ◌&&◌, not, Bool, true, false, true≢false, if◌then◌else◌, is_some, MatchBool, refl, sym, ap, subst, ◌∙◌, List, [], ◌∷◌, length, Option, ⊎_elim, get_or-set_same, arith}
-use Rattle.af_normal.proofs.Common.{AreUpTo, CommandLook, FastState, Heard, Holder, Home, Learnt, NormalKept, Seen, Setup, SlotReport, TrackKept, TrackSeen, after_ack, after_look, after_looks, after_part, cases_eq, cases_lt, comes_home, counted, counts_in, edited, edited_to, ended, goes_on, heard, is_empty, is_full, is_home, is_mixed_here, is_partial, is_reached, is_reported, is_shut, lend, let_go, map, must_enter, must_leave, must_wait, mutated, new_track, no, no_counts, noted, obeyed, one_few, ordered, out_of, ready, seen_at, served, served_len, served_to, set_all, set_each, settled_at, shows_command, slice_set, slot_for, slot_reported, track_at, welcomed}
+use Rattle.af_normal.proofs.Common.{AreUpTo, CommandLook, FastState, Heard, Holder, Home, Learnt, NormalKept, Seen, Setup, SlotReport, TrackKept, TrackSeen, after_ack, after_look, after_looks, after_part, cases_eq, cases_lt, comes_home, look_counted, counts_in, edited, edited_to, ended, goes_on, heard, is_empty, is_full, is_home, is_mixed_here, is_partial, is_reached, is_reported, is_shut, lend, let_go, map, must_enter, must_leave, must_wait, mutated, new_track, no, no_counts, noted, obeyed, one_few, ordered, out_of, ready, seen_at, served, served_len, served_to, set_all, set_each, settled_at, shows_command, slice_set, slot_for, slot_reported, track_at, welcomed}
 use Rattle.af_life.specs.declared.kept.Counts.{Counts}
 use Rattle.af_life.specs.Obeys.{commanded}
 use Rattle.af_normal.specs.Mixing.{Mixing, TakesOf, MixesTo}
@@ -168,7 +168,7 @@ mutated_few c k room x h = let edits : AreFew (edited_to c k x (length x.tracks)
 
 -- ## The mix
 
-counted_one : (asked : ℕ) (answer : Seen) (own : Counts) → AreUpTo 0 own → AreUpTo 1 (counted asked answer own)
+counted_one : (asked : ℕ) (answer : Seen) (own : Counts) → AreUpTo 0 own → AreUpTo 1 (look_counted asked answer own)
 counted_one asked answer own none = let a = one_few (is_full asked answer) in let b = one_few (is_partial asked answer) in let d = one_few (is_empty answer) in
     (omega (arith, a, none.0), omega (arith, b, none.1), omega (arith, d, none.2))
 

@@ -1,6 +1,6 @@
 -- A turn as a whole keeps the order.
 use Rattle.std.proofs.Common.{◌≡◌, ℕ, ◌&&◌, ◌==◌, not, if◌then◌else◌, Bool, false, MatchBool, length, sym, ap, ◌∙◌}
-use Rattle.af_normal.proofs.Common.{InDraft, Links, Mutates, Push, Report, ServerState, StreamNames, Turn, WasAcked, is_exit, length-map, take_seen, turn_of}
+use Rattle.af_normal.proofs.Common.{InDraft, Links, Mutates, Push, Report, ServerState, StreamNames, Turn, WasAcked, commands_exit, length-map, take_seen, turn_of}
 use Rattle.af_normal.specs.declared.turn.Turn.{Turn as Answer}
 use Rattle.af_normal.specs.declared.turn.Turn.TheVariants.{Turned, Ended, Spent}
 use Rattle.af_normal.specs.Coming.{WelcomesTo}
@@ -18,7 +18,7 @@ module _ (links : Links) (t : ℕ) (x : NormalState) (going : IsGoing links t x)
   abbrev pub seen : SeesAck ack x home
   seen = record { mutator = m; acked = acked; held = held; comes = comes }
 
-  module _ (lives : x.ended ≡ false) (no_exit : (is_exit x.mutator.past.last && ack) ≡ false) (report : Report) (room : ℕ) (push : Push) (y : NormalState) (went : WentOn links ack report room push home y) where
+  module _ (lives : x.ended ≡ false) (no_exit : (commands_exit x.mutator.past.last && ack) ≡ false) (report : Report) (room : ℕ) (push : Push) (y : NormalState) (went : WentOn links ack report room push home y) where
     abbrev by : GoesOnBy ack report room push x y
     by = record { home = home; sees = seen; rest = went.goes }
 

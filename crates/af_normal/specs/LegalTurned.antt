@@ -22,7 +22,7 @@ use Rattle.af_life.specs.Heard.{learnt}
 use Rattle.af_life.specs.Looks.{words_taken}
 use Rattle.af_life.specs.Plays.{put_by}
 use Rattle.af_life.specs.Turn.{after_tracks, turn_after, LegalTurn}
-use Rattle.af_life.specs.TurnEvents.{tracks_at, going, invalid, command_list, hand_list, stream_list, mutator_list}
+use Rattle.af_life.specs.TurnEvents.{tracks_at, going, invalid, command_list, hand_events_of, stream_list, mutator_list}
 use Rattle.af_normal.specs.Mixing.{stream_at}
 use Rattle.af_normal.specs.Serving.{Adds}
 use Rattle.af_normal.specs.State.{NormalState, setup_of, kept_of}
@@ -60,7 +60,7 @@ pub record Grows (c : Setup) (m : NormalKept) (o : Outside) (e : Turn) (x y : No
   pub commands : (i : ℕ) (s : ServerState) → slice_get x.commands i ≡ Some s
       → (t : ServerState) × (slice_get y.commands i ≡ Some t) × Adds s (command_list c o e (tracks_at c (learnt o) m e i) i) (words_taken (track_in e i).looks) t
   pub whole : (i : ℕ) (s t : ServerState) → slice_get x.commands i ≡ Some s → slice_get y.commands i ≡ Some t → t.pass.has_hand ≡ s.pass.has_hand
-  pub hands : (i : ℕ) → hand_events y.hands i ≡ hand_events x.hands i ++ hand_list e i
+  pub hands : (i : ℕ) → hand_events y.hands i ≡ hand_events x.hands i ++ hand_events_of e i
   pub recalled : e.ended ≡ false → (i : ℕ) (h : HandSide) → slice_get x.hands i ≡ Some h → is_home (track_at (tracks_at c (learnt o) m e i) i).holder ≡ true
       → invalid (learnt o) (track_in e i) (tracks_at c (learnt o) m e i) i ≢ [] → StartsWith (o.streams i).events h.known
   pub back : List (Option ServerState)

@@ -5,14 +5,14 @@ use Rattle.af_base.specs.declared.state.Push.{Push}
 use Rattle.af_base.specs.declared.state.FastState.{FastState}
 use Rattle.af_base.specs.Command.{code_of}
 use Rattle.af_base.specs.Log.{slots}
-use Rattle.af_model.specs.Draft.{commanded as with_command}
+use Rattle.af_model.specs.Draft.{draft_commanded as with_command}
 use Rattle.af_model.specs.StateQueue.{slot_of, carries}
 use Rattle.af_server.specs.Order.{ServerState, IsInOrder}
 use Rattle.af_stateq.specs.Answers.{WasPushed}
 use Rattle.af_stateq.specs.Mutates.{Mutates, is_out}
 use Rattle.af_link.specs.Names.{IsStreamOf}
 use Rattle.af_link.specs.declared.names.StreamNames.{StreamNames}
-use Rattle.af_life.specs.Edits.{must_leave, must_enter, next_command, is_exit}
+use Rattle.af_life.specs.Edits.{must_leave, must_enter, next_command, commands_exit}
 use Rattle.af_life.specs.declared.kept.TrackKept.{TrackKept}
 use Rattle.af_life.specs.Kept.{pipe_size, setting_of, slot_number, track_at}
 use Rattle.af_normal.specs.Editing.{LetsGo, Lends}
@@ -69,7 +69,7 @@ finished m = record m { editing = false; edited = false; dirty = m.dirty || m.ed
 
 -- the command that follows from the tracks, the draft and the room
 abbrev pub due_command : ℕ → NormalState → Command
-due_command room x = next_command (is_exit x.mutator.draft) x.tracks room (pipe_size (setup_of x))
+due_command room x = next_command (commands_exit x.mutator.draft) x.tracks room (pipe_size (setup_of x))
 
 -- All edits of a turn: the tracks in order, and then the command
 pub record EditsAll (room : ℕ) (x y : NormalState) : Type 0 where

@@ -24,13 +24,6 @@ pub record AreOwn (links : Links) (streams : List (Option ServerState)) (command
   pub flag_is : (h : HandSide) → slice_get hands i ≡ Some h → slice_get links.streams.now i ≡ Some (hand_made h)
   pub stream_is : (s : ServerState) → stream_at streams i ≡ Some s → IsStreamOf links.streams.now i s
 
--- there is one of each for each of so many tracks
-pub record AreWhole (n : ℕ) (x : Serving) : Type 0 where
-  pub tracks : length x.tracks ≡ n
-  pub streams : length x.streams ≡ n
-  pub commands : length x.commands ≡ n
-  pub hands : length x.hands ≡ n
-
 -- each record of a track has room for the looks of a turn
 abbrev pub HaveRoom : List TrackTurn → Type 0
 HaveRoom turns = All (λ t. t.looks.room ≡ most_looks) turns

@@ -10,7 +10,7 @@ use Rattle.af_server.specs.Order.{ServerState}
 use Rattle.af_link.specs.PipeEnds.{HasPut, in_made}
 use Rattle.af_link.specs.declared.links.Links.{Links}
 use Rattle.af_link.specs.declared.names.StreamNames.{StreamNames}
-use Rattle.af_life.specs.Edits.{is_exit}
+use Rattle.af_life.specs.Edits.{commands_exit}
 use Rattle.af_life.specs.Kept.{asked, slot_number, track_at}
 use Rattle.af_life.specs.Plays.{put_by}
 use Rattle.af_link.specs.Names.{IsStreamOf}
@@ -95,13 +95,13 @@ pub record TurnsBy (push : Push) (x y : NormalState) : Type 0 where
   pub ack : Bool
   pub report : Report
   pub room : ℕ
-  pub lives : (x.ended ≡ false) × ((is_exit x.mutator.past.last && ack) ≡ false)
+  pub lives : (x.ended ≡ false) × ((commands_exit x.mutator.past.last && ack) ≡ false)
   pub goes_on : GoesOnBy ack report room push x y
 
 -- The mixer had ended, or sees an Exit acknowledged
 pub record Stops (x y : NormalState) : Type 0 where
   pub mutator : Mutates ServerState StreamNames
-  pub looks : MatchBool x.ended (mutator ≡ x.mutator) (WasAcked x.mutator true mutator × (is_exit x.mutator.past.last ≡ true))
+  pub looks : MatchBool x.ended (mutator ≡ x.mutator) (WasAcked x.mutator true mutator × (commands_exit x.mutator.past.last ≡ true))
   pub tells : turn_of y.entry ≡ ended_turn
   pub leaves : y ≡ record x { mutator = mutator; ended = true; entry = y.entry }
 

@@ -2,7 +2,7 @@
 ghost use Rattle.std.specs.Prelude.{◌≡◌, ℕ, ◌+◌, ◌*◌, ◌<◌, ◌≤◌, ◌^◌, ◌||◌, not, ◌==◌, length, slice_set, Some, None, true, false};
 ghost use Rattle.af_base.specs.Command.{code_of};
 ghost use Rattle.af_base.specs.Log.{slots};
-ghost use Rattle.af_model.specs.Draft.{attached, detached, commanded as with_command};
+ghost use Rattle.af_model.specs.Draft.{attached, detached, draft_commanded as with_command};
 ghost use Rattle.af_model.specs.StateQueue.{slot_of, carries};
 ghost use Rattle.af_server.specs.Order.{IsInOrder, ServerState};
 ghost use Rattle.af_stateq.specs.Mutates.{is_out};

@@ -3,7 +3,7 @@ ghost use Rattle.std.specs.Prelude.{◌≡◌, false, ◌+◌, ◌*◌, ◌<◌,
 ghost use Rattle.std.specs.Vec.{vec_capacity};
 ghost use Rattle.af_base.specs.Turn.{ended_turn, take_seen, track_seen, turn_of};
 ghost use Rattle.af_life.specs.Kept.{new_track};
-ghost use Rattle.af_life.specs.Edits.{is_exit};
+ghost use Rattle.af_life.specs.Edits.{commands_exit};
 ghost use Rattle.af_normal.specs.AllMixed.{HasFrames};
 ghost use Rattle.af_link.specs.declared.links.Links.{Links};
 ghost use Rattle.af_normal.specs.Making.{AreNew, IsMade, with_track};
@@ -234,7 +234,7 @@ impl NormalMixer {
         requires count { (1 ≤ length tracks.settings) × (length tracks.settings ≤ 32) }
         requires scales { All (λ setting. setting.scale ≤ 4096) tracks.settings }
         requires sizes { (1 ≤ frames) × (frames ≤ 1024) × (1 ≤ normal) × (normal ≤ 16) }
-        requires none { is_exit mutator.past.last ≡ false }
+        requires none { commands_exit mutator.past.last ≡ false }
         ensures made { IfOk result (IsMade frames normal tracks mutator reader pipe) }
         ensures order { (links : Links) → AreNew links frames normal tracks mutator reader pipe → IfOk result (IsInOrder links) }
     {

@@ -2,10 +2,10 @@
 ghost use Rattle.std.specs.Prelude.{◌≡◌, ℕ, ◌+◌, ◌<◌, ◌⊎◌, true, false, [], is_some, length, slice_get, slice_set, Option, Some, None};
 ghost use Rattle.af_cblk.specs.Sides.{hand_made};
 ghost use Rattle.af_client.specs.Order.{IsClientOf};
-ghost use Rattle.af_model.specs.NewestValue.{HasHistory as HasReportHistory};
+ghost use Rattle.af_model.specs.NewestValue.{HasValueHistory as HasReportHistory};
 ghost use Rattle.af_model.specs.PipeHistory.{HasPipeHistory};
 ghost use Rattle.af_model.specs.Reports.{no_report};
-ghost use Rattle.af_model.specs.StateQueue.{HasHistory as HasQueueHistory};
+ghost use Rattle.af_model.specs.StateQueue.{HasStateHistory as HasQueueHistory};
 ghost use Rattle.af_server.specs.Order.{IsServerOf, ServerState};
 ghost use Rattle.af_link.specs.PipeEnds.{SeesTaken, out_made};
 ghost use Rattle.af_link.specs.Reports.{CyclesNeverFall};

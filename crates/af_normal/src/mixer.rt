@@ -56,14 +56,14 @@ pub struct NormalMixer {
 impl Model for NormalMixer {
     ghost use Rattle.std.specs.Prelude.{◌≡◌, ◌*◌, ◌≤◌, length};
     ghost use Rattle.std.specs.Vec.{vec_capacity};
-    ghost use Rattle.af_life.specs.Edits.{is_exit};
+    ghost use Rattle.af_life.specs.Edits.{commands_exit};
     ghost use Rattle.af_normal.specs.State.{NormalState};
 
     ghost Value = { NormalState };
 
     ghost view = { λ m. record { frames = m.frames; normal = m.normal; settings = m.settings.items; tracks = m.tracks.items; streams = m.streams.items; commands = m.commands.items; hands = m.hands.items; mutator = m.mutator; reader = m.ends.0; pipe = m.ends.1; entry = m.entry; spare_turns = m.spare_turns; spare_takes = m.spare_takes; ended = m.ended; turns = m.turns } };
 
-    ghost invariant = { λ m. (length m.sums.items ≡ m.normal * m.frames) × (length m.buffer.items ≡ m.normal * m.frames) × (m.exits ≡ is_exit m.mutator.past.last) × (length m.tracks.items ≤ vec_capacity m.hands) };
+    ghost invariant = { λ m. (length m.sums.items ≡ m.normal * m.frames) × (length m.buffer.items ≡ m.normal * m.frames) × (m.exits ≡ commands_exit m.mutator.past.last) × (length m.tracks.items ≤ vec_capacity m.hands) };
 }
 
 impl NormalMixer {

@@ -4,7 +4,7 @@ use Rattle.af_base.specs.declared.state.Push.{Push}
 use Rattle.af_base.specs.Turn.{Turn, ended_turn, turn_of}
 use Rattle.af_life.specs.Heard.{learnt}
 use Rattle.af_life.specs.Kept.{Setup, Learnt, NormalKept, Outside}
-use Rattle.af_life.specs.Edits.{is_exit}
+use Rattle.af_life.specs.Edits.{commands_exit}
 use Rattle.af_life.specs.Turn.{turn_after}
 use Rattle.af_normal.specs.LegalTurned.{IsLegal}
 use Rattle.af_normal.specs.State.{NormalState, setup_of, kept_of}
@@ -39,7 +39,7 @@ module _ (o : Outside) (x y : NormalState) (legal : IsLegal o x y) where
 
   module _ (was : x.ended ≡ true) where
     pub ended_again : y.entry.ended ≡ true
-    ended_again = legal.legal.ends ∙ ap (λ (b : Bool). b || (is_exit x.mutator.past.last && y.entry.ack)) was
+    ended_again = legal.legal.ends ∙ ap (λ (b : Bool). b || (commands_exit x.mutator.past.last && y.entry.ack)) was
 
     pub tells_end : turn_of y.entry ≡ ended_turn
     tells_end = legal.legal.still ended_again

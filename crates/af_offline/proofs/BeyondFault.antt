@@ -1,6 +1,6 @@
 -- A round that has more entries than a turn of the fast mixer, or whose turn has more looks at a track than one of the normal mixer, is some party's fault. So nothing of a legal journal is left out when it is judged, and the fault of a front that ends behind such a round is in one of its rounds.
 use Rattle.std.proofs.Common.{◌≡◌, ℕ, zero, suc, ◌<◌, ◌≤◌, ◌&&◌, ◌||◌, nat_lt, Bool, true, false, MatchBool, MatchOption, List, [], ◌∷◌, ◌++◌, length, map, is_some, Option, Some, None, refl, ap, ◌∙◌, sym, subst, arith, length-append}
-use Rattle.af_offline.proofs.Common.{AllClear, AreClear, EndsBeyond, EntrySeen, FastIsClear, Frame, HasNoFault, IsFastTurn, IsFirstFault, IsVerdict, JournalData, LegalEntries, Marks, NormalIsClear, RoundSeen, Run, ScriptData, Session, Verdict, after_round, after_turn, early_of, fast_ended, fast_party, fills, first_of_round, found_in, has_more, is_beyond, judged_of, late_of, list_any, marks_of, most_cycles, most_judged, new_run, normal_party, session_of, setup_of, true≢false, with_calls}
+use Rattle.af_offline.proofs.Common.{AllClear, AreClear, EndsBeyond, EntrySeen, FastIsClear, Frame, HasNoFault, IsFastTurn, IsFirstFault, IsVerdict, JournalData, LegalEntries, Marks, NormalIsClear, RoundSeen, Run, ScriptData, Session, Verdict, after_round, after_turn, early_of, fast_ended, fast_party, fills, first_of_round, found_in, has_more, is_beyond, judged_of, late_of, list_any, marks_of, most_round_cycles, most_judged, new_run, normal_party, session_of, setup_of, true≢false, with_calls}
 use Rattle.af_base.proofs.Basics.{is_not_below}
 use Rattle.af_base.specs.declared.turn.CommandLook.{CommandLook}
 use Rattle.af_base.specs.Turn.{TrackSeen, Turn}
@@ -52,7 +52,7 @@ normal_few c marks found m turn true none = ap (has_more 64) none
 normal_few c marks found m None false legal = absurd legal
 normal_few c marks found m (Some e) false legal = turn_few c marks (found e) m e legal e.ended refl
 
-fast_few : (entries : List EntrySeen) (full : Bool) (Early Late : Type 0) (b : Bool) → MatchBool b (entries ≡ []) (IsFastTurn most_cycles full entries × Early × Late) → length entries ≤ 16
+fast_few : (entries : List EntrySeen) (full : Bool) (Early Late : Type 0) (b : Bool) → MatchBool b (entries ≡ []) (IsFastTurn most_round_cycles full entries × Early × Late) → length entries ≤ 16
 fast_few entries full Early Late true none = let l : length entries ≡ 0 = ap (λ (es : List EntrySeen). length es) none in omega (arith, l)
 fast_few entries full Early Late false legal = legal.0.0
 

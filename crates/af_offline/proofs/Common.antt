@@ -14,7 +14,7 @@ pub use Rattle.af_record.specs.InStep.{HandState}
 pub use Rattle.af_runs.specs.Blocks.{Marks}
 pub use Rattle.af_runs.specs.LegalRuns.{marks_of, session_of}
 pub use Rattle.af_runs.specs.Rounds.{IsFastTurn, LegalEntries, after_round, after_turn, early_of, fills, found_in, late_of}
-pub use Rattle.af_runs.specs.Runs.{Run, fast_ended, fast_party, most_cycles, new_run, normal_party, with_calls}
+pub use Rattle.af_runs.specs.Runs.{Run, fast_ended, fast_party, most_round_cycles, new_run, normal_party, with_calls}
 pub use Rattle.af_runs.specs.Sessions.{Session, setup_of}
 pub use Rattle.af_script.specs.Data.{ScriptData}
 pub use Rattle.af_script.specs.Generated.{generated_name, generated_script}

@@ -1,6 +1,6 @@
 -- As many frames are taken as the takes of a server's events say.
 use Rattle.std.proofs.Common.{◌≡◌, ℕ, ◌+◌, ◌-◌, ◌<◌, ◌==◌, ◌&&◌, not, Bool, true, false, if◌then◌else◌, is_some, map, List, [], ◌∷◌, ◌++◌, length, All, refl, sym, ◌∙◌, arith, length-append}
-use Rattle.af_one_turn_run.proofs.Common.{All-head, All-tail, BlockTold, EntrySeen, IsTake, Listed, NormalKept, Outside, Seen, ServerEvent, Setup, SlotEntry, TakeSeen, Turn, after_look, asked as buffer, by_hand, by_server, count_seen, cycle_events, entry_slot, flat_map, front_of, going, hand_list, heard, invalid, is_found_shut, is_home, kept, learnt, length-map, listed, look_events, mix_events, packed_word, played, server_does, slot_frames, slots, stream_list, stream_turned, taken_before, takes_from, tally, took, track_at, track_in, tracks_at}
+use Rattle.af_one_turn_run.proofs.Common.{All-head, All-tail, BlockTold, EntrySeen, IsTake, Listed, NormalKept, Outside, Seen, ServerEvent, Setup, SlotEntry, TakeSeen, Turn, events_behind_look, asked as buffer, by_hand, by_server, count_seen, cycle_events, entry_slot, flat_map, front_of, going, hand_events_of, heard, invalid, is_found_shut, is_home, kept, learnt, length-map, listed, look_events, mix_events, packed_word, played, server_does, slot_frames, slots, stream_list, stream_turned, taken_before, takes_from, tally, took, track_at, track_in, tracks_at}
 use Rattle.af_base.specs.declared.event.ServerEvent.TheVariants as server
 use Rattle.af_base.specs.declared.seen.Seen.TheVariants as seen
 use Rattle.af_one_turn_run.specs.Growing.{takes_in, IsCounted}
@@ -29,7 +29,7 @@ tally_takes missing = by_none (missing == 0)
     by_none false = refl
 
 -- what follows takes what was shown
-after_takes : (asked : ℕ) (shut : Bool) (v : Seen) → served_in (after_look asked shut v) ≡ count_seen v
+after_takes : (asked : ℕ) (shut : Bool) (v : Seen) → served_in (events_behind_look asked shut v) ≡ count_seen v
 after_takes asked shut seen.Absent = refl
 after_takes asked shut (seen.Frames count) = let t = tally_takes (asked - count) in omega (arith, t)
 after_takes asked shut seen.Empty = tally_takes asked
@@ -40,10 +40,10 @@ after_takes asked false (seen.Shut front rear) = refl
 pub cycle_takes : (asked : ℕ) (s : Listed) (slot : SlotEntry) (front : ℕ) → served_in (cycle_events asked s slot front) ≡ count_seen slot.seen
 cycle_takes asked s slot front = by_shut (is_some (kept s).shut)
   where
-    by_shut : (b : Bool) → served_in (server.SawGain slot.gains ∷ (if b then [] else look_events slot.seen slot.flush slot.rear front) ++ after_look asked b slot.seen) ≡ count_seen slot.seen
+    by_shut : (b : Bool) → served_in (server.SawGain slot.gains ∷ (if b then [] else look_events slot.seen slot.flush slot.rear front) ++ events_behind_look asked b slot.seen) ≡ count_seen slot.seen
     by_shut true = let a = after_takes asked true slot.seen in omega (arith, a)
     by_shut false =
-        let p = served_parts (look_events slot.seen slot.flush slot.rear front) (after_look asked false slot.seen) in
+        let p = served_parts (look_events slot.seen slot.flush slot.rear front) (events_behind_look asked false slot.seen) in
         let l = look_takes slot.seen slot.flush slot.rear front in
         let a = after_takes asked false slot.seen in
         omega (arith, p, l, a)
@@ -80,8 +80,8 @@ module _ (c : Setup) (o : Outside) (many : ℕ) where
 
   pub counted_turn : (m : NormalKept) (e : Turn) (i : ℕ) (b : BlockTold) → All (IsTake many) e.mixes → IsCounted b → IsCounted (stream_turned c o m e i b)
   counted_turn m e i b all counted =
-      counted_served (record b { told = told_more b.told (map by_hand (hand_list e i)) }) (stream_list c o e (tracks_at c (learnt o) m e i) i) (going e (map packed_word (flat_map (λ take. take.frames) (takes_from e.mixes i)))) (by_end e.ended)
-      (let n = takes_more b.told (map by_hand (hand_list e i)) in let h = hand_takes (hand_list e i) in omega (arith, n, h, counted))
+      counted_served (record b { told = told_more b.told (map by_hand (hand_events_of e i)) }) (stream_list c o e (tracks_at c (learnt o) m e i) i) (going e (map packed_word (flat_map (λ take. take.frames) (takes_from e.mixes i)))) (by_end e.ended)
+      (let n = takes_more b.told (map by_hand (hand_events_of e i)) in let h = hand_takes (hand_events_of e i) in omega (arith, n, h, counted))
     where
       nothing : (home shut : Bool) → served_in (if home then (if shut then server.SetFlags 4 ∷ [] else []) else []) ≡ 0
       nothing true true = refl

@@ -1,6 +1,6 @@
 -- A want has one answer at a point.
 use Rattle.std.proofs.Common.{◌≡◌, ℕ, ◌+◌, ◌<◌, ◌≤◌, ◌==◌, nat_le, Bool, true, false, true≢false, is_some, List, [], ◌∷◌, Option, Some, None, refl, sym, ap, ◌∙◌, subst, arith, eqb-true, ne_eqb, eq-eqb, if◌then◌else◌}
-use Rattle.af_one_turn_run.proofs.Common.{AnswersOn, ClientAnswers, ClientCall, ClientEvent, ClientKept, IsMade, IsOutside, MatchOption, Side, Track, TrackPoint, Want, argument_of, bit_and, both, by_false, client_events_of, client_kept, code_of, filled_by, flushes_of, is_below, is_beyond, is_clear, is_flush, is_not_below, is_of_commands, is_send, is_status, is_within, is_write, put_count, side_of, wrapped}
+use Rattle.af_one_turn_run.proofs.Common.{AnswersOn, ClientAnswers, ClientCall, ClientEvent, ClientKept, IsMade, IsOutside, MatchOption, Side, Track, TrackPoint, Want, argument_of, bit_and, both, by_false, client_events_of, client_kept, command_code, filled_by, flushes_of, is_below, is_beyond, is_clear, is_flush, is_not_below, is_of_commands, is_send, is_status, is_within, is_write, put_count, side_of, wrapped}
 use Rattle.std.proofs.lemmas.Bool.Decides.{nat_tests}
 use Rattle.af_base.specs.declared.event.ClientCall.TheVariants as call
 use Rattle.af_base.specs.declared.event.ClientEvent.TheVariants as client
@@ -158,7 +158,7 @@ module _ (t : Track) (p : Points) where
 
   -- a want has one answer that sees what is there
   pub made_so : (wanted : Want) (answer : ClientCall) → IsMade t wanted answer → CallSees t p answer → answer ≡ answer_to t wanted p.stream p.commands
-  made_so (want.Send sending) answer h sees = send_made (code_of sending) (argument_of t sending) 0 answer h.0 h.1 sees
+  made_so (want.Send sending) answer h sees = send_made (command_code sending) (argument_of t sending) 0 answer h.0 h.1 sees
   made_so want.Settled answer h sees = status_made answer h.0 sees
   made_so want.Drained answer h sees = status_made answer h.0 sees
   made_so want.Flush answer h sees = flush_made 0 answer h.0 h.1
@@ -167,7 +167,7 @@ module _ (t : Track) (p : Points) where
   made_so want.Clear answer h sees = clear_made answer h.0 sees
   made_so (want.Poke in_command word value) answer h sees = h.0
   made_so want.Rest answer h sees = absurd h.0
-  made_so want.Leave answer h sees = send_made (code_of command.Remove) 0 0 answer h.0 h.1 sees
+  made_so want.Leave answer h sees = send_made (command_code command.Remove) 0 0 answer h.0 h.1 sees
 
   -- two answers to a want that see what is there are the same
   pub one_answer : (wanted : Want) (a b : ClientCall) → IsMade t wanted a → CallSees t p a → IsMade t wanted b → CallSees t p b → a ≡ b

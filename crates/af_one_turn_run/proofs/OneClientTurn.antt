@@ -1,6 +1,6 @@
 -- A client has one turn by what its blocks tell.
 use Rattle.std.proofs.Common.{◌≡◌, ◌⊎◌, inl, inr, ℕ, ◌-◌, ◌≤◌, Bool, true, false, true≢false, if◌then◌else◌, fold, map, List, [], ◌∷◌, ◌++◌, drop, length, Option, Some, None, refl, sym, ap, ◌∙◌, subst, arith, append_assoc, append-nil, is_some, unwrap_or}
-use Rattle.af_one_turn_run.proofs.Common.{AreCalls, ClientCall, ClientEvent, IsLegal, IsMade, LegalClientTurn, MatchBool, Side, Track, TrackTold, Want, after, after_call, by_client, called, client_list, is_of_commands, most_calls, released_by, server_of, side_of, sides_of, start, wanted_of}
+use Rattle.af_one_turn_run.proofs.Common.{AreCalls, ClientCall, ClientEvent, IsLegal, IsMade, LegalClientTurn, MatchBool, Side, Track, TrackTold, Want, after, after_call, by_client, called_in_turn, client_list, is_of_commands, most_calls, released_by, server_of, side_of, sides_of, start, wanted_of}
 use Rattle.af_runs.specs.ClientTurns.{called as side_called}
 use Rattle.af_one_turn_run.specs.Seeing.{after_clients, ClientSees}
 use Rattle.af_one_turn_run.specs.Told.{told_more, IsTrackLegal}
@@ -94,7 +94,7 @@ module _ (t : TrackTold) where
   }
 
   -- the calls of a turn after which both blocks are told legally see what is there
-  turn_sees : (calls : List ClientCall) → IsTrackLegal (called calls t) → AllSee told_points (sides_of t) calls
+  turn_sees : (calls : List ClientCall) → IsTrackLegal (called_in_turn calls t) → AllSee told_points (sides_of t) calls
   turn_sees calls h true =
       let es = calls_events true (sides_of t) calls in
       let tells : drop (length (client_list t.commands)) (fold after_call (sides_of t) calls).commands.events ≡ es =
@@ -107,7 +107,7 @@ module _ (t : TrackTold) where
       client_front (start t.stream.shape) t.stream.told es (subst (λ l. IsLegal (start t.stream.shape) (told_more t.stream.told (map by_client l))) tells h.stream)
 
   -- two legal turns after which both blocks are told legally are the same
-  pub one_client_turn : (calls others : List ClientCall) → LegalClientTurn (sides_of t) calls → IsTrackLegal (called calls t) → LegalClientTurn (sides_of t) others → IsTrackLegal (called others t) → calls ≡ others
+  pub one_client_turn : (calls others : List ClientCall) → LegalClientTurn (sides_of t) calls → IsTrackLegal (called_in_turn calls t) → LegalClientTurn (sides_of t) others → IsTrackLegal (called_in_turn others t) → calls ≡ others
   one_client_turn calls others legal told legal_others told_others = by_end t.client.ended legal legal_others
     where
       by_end : (b : Bool) → MatchBool b (calls ≡ []) (AreCalls most_calls (sides_of t) calls) → MatchBool b (others ≡ []) (AreCalls most_calls (sides_of t) others) → calls ≡ others

@@ -1,10 +1,10 @@
 -- An entry of the fast mixer is determined by what the stream blocks, the queue and the pipe tell.
 use Rattle.std.proofs.Common.{◌≡◌, ◌⊎◌, inl, inr, ℕ, zero, suc, ◌+◌, ◌<◌, ◌&&◌, Bool, true, false, true≢false, if◌then◌else◌, is_some, map, List, [], ◌∷◌, ◌++◌, take, drop, length, All, Option, Some, None, refl, sym, ap, ◌∙◌, subst, arith, length-append}
-use Rattle.af_one_turn_run.proofs.Common.{BlockTold, CarriesApart, CarriesWithin, CycleEntry, EntrySeen, FastState, Frame, IsFrame, Legal, LegalEntry, Listed, LooksBy, Marks, MatchOption, Mixes, PipeTold, Run, ServerEvent, Session, SlotEntry, TrackTold, absent, after, after_look, append_cancel_left, carries, cases_eq, client_of, cold_done, count_seen, cycle_events, cycle_frames, cycle_of, drop-take, drop_at, each_at, entry_slot, ext_get_or, found_for, frames_before, front_of, is_mixed, kept, lawful_front, length-map, listed, look_at, look_events, mixed_track, no_track, packed_word, pipe_size, played, plays, setup_of, slot_for, slot_frames, slot_of, slots, start, state_for, state_known, state_of, still_entry, stream_of, submix_slot, taken_before, takes_shown, told_at, two, twos, with_mix, wrapped}
+use Rattle.af_one_turn_run.proofs.Common.{BlockTold, CarriesApart, CarriesWithin, CycleEntry, EntrySeen, FastState, Frame, IsFrame, Legal, LegalEntry, Listed, LooksBy, Marks, MatchOption, Mixes, PipeTold, Run, ServerEvent, Session, SlotEntry, TrackTold, absent, after, events_behind_look, append_cancel_left, carries, cases_eq, client_of, cold_done, count_seen, cycle_events, cycle_frames, cycle_of, drop-take, drop_at, each_at, entry_slot, ext_get_or, found_for, frames_before, front_of, is_mixed, kept, lawful_front, length-map, listed, look_at, look_events, mixed_track, no_track, packed_word, pipe_size, played, shows_slot, setup_of, slot_playing, slot_frames, slot_of, slots, start, state_for, state_known, state_of, still_entry, stream_of, submix_slot, taken_before, takes_shown, told_at, two, twos, with_mix, wrapped}
 use Rattle.af_base.specs.declared.event.ServerEvent.TheVariants as server
 use Rattle.af_base.specs.declared.log.Cycle.{Cycle}
 use Rattle.af_base.specs.declared.seen.Seen.TheVariants as seen
-use Rattle.af_model.specs.Order.{after as after_both}
+use Rattle.af_model.specs.Order.{point_after as after_both}
 use Rattle.af_model.specs.PipeHistory as piped
 use Rattle.af_runs.proofs.Basics.{absent_at, shown_if}
 use Rattle.af_judge.proofs.EntryLegal.{twos-more}
@@ -31,7 +31,7 @@ same_answer : (asked : ℕ) (s : Listed) (slot : SlotEntry) (f g : ℕ) → cycl
 unfolding fourth_front
 same_answer asked s slot f g same by = (by.0, by_shut (kept s).shut same by.1)
   where
-    by_shut : (o : Option (ℕ × ℕ)) → (let es : ℕ → List ServerEvent = λ front. server.SawGain slot.gains ∷ (if is_some o then [] else look_events slot.seen slot.flush slot.rear front) ++ after_look asked (is_some o) slot.seen in es f ≡ es g)
+    by_shut : (o : Option (ℕ × ℕ)) → (let es : ℕ → List ServerEvent = λ front. server.SawGain slot.gains ∷ (if is_some o then [] else look_events slot.seen slot.flush slot.rear front) ++ events_behind_look asked (is_some o) slot.seen in es f ≡ es g)
         → MatchOption o (slot.seen ≡ look_at s.shape (kept s).flush asked slot.flush slot.rear f) (λ words. (slot.seen ≡ seen.Shut words.0 words.1) × (slot.flush ≡ (kept s).flush) × (slot.rear ≡ words.1))
         → MatchOption o (slot.seen ≡ look_at s.shape (kept s).flush asked slot.flush slot.rear g) (λ words. (slot.seen ≡ seen.Shut words.0 words.1) × (slot.flush ≡ (kept s).flush) × (slot.rear ≡ words.1))
     by_shut None is h = subst (λ (n : ℕ). slot.seen ≡ look_at s.shape (kept s).flush asked slot.flush slot.rear n) (ap fourth_front is) h
@@ -58,7 +58,7 @@ module _ (s : Session) (marks : Marks) (lawful : (n : ℕ) → marks.streams n �
     pub long : length e.frames ≡ taken_before e.entry slots
     pub are : All IsFrame e.frames
     pub streams : (n : ℕ) → n < many → IsBlockTold (frames n) (told_at (with_mix s e r) n).stream
-    pub pipe : Legal (piped.legal (pipe_size (setup_of s))) piped.next piped.start (with_mix s e r).pipe.told
+    pub pipe : Legal (piped.legal_in_pipe (pipe_size (setup_of s))) piped.next_in_pipe piped.start_of_pipe (with_mix s e r).pipe.told
     pub pipe_taken : (with_mix s e r).pipe.taken ≡ take (length (with_mix s e r).pipe.taken) r.pipe.put
 
   -- how all is told before the entry
@@ -101,8 +101,8 @@ module _ (s : Session) (marks : Marks) (lawful : (n : ℕ) → marks.streams n �
     slot_plays i low carried =
         let n = (slot_of x i).track in
         let few : n < length r.tracks = (let m = h.tracks in let w = h.within i low carried in omega (arith, m, w)) in
-        let here : plays x e.entry i ≡ true = λ j. carried j && shown_if (entry_slot e.entry i).seen (slot_looks i low carried).0 j in
-        let found : slot_for x e.entry n ≡ Some i = slot_found x e.entry i h.apart low carried here in
+        let here : shows_slot x e.entry i ≡ true = λ j. carried j && shown_if (entry_slot e.entry i).seen (slot_looks i low carried).0 j in
+        let found : slot_playing x e.entry n ≡ Some i = slot_found x e.entry i h.apart low carried here in
         ap (λ (z : TrackTold). z.stream) (each_at (mixed_track s (state_for s r e.entry.state) e) 0 r.tracks n n no_track few (omega arith) ∙ ap (λ (z : FastState). mixed_track s z e n (told_at r n)) state)
         ∙ ap (λ (o : Option ℕ). (elim o as (λ o. TrackTold) [ None ↦ told_at r n | Some i ↦ record (told_at r n) { stream = played asked e i (told_at r n).stream } ]).stream) found
 
@@ -130,15 +130,15 @@ module _ (s : Session) (marks : Marks) (lawful : (n : ℕ) → marks.streams n �
     unfolding with_mix pipe_events
     pipe_told = ap (λ (b : Bool). if b then record r.pipe { told = r.pipe.told ++ map two pipe_events; taken = r.pipe.taken ++ map packed_word (slot_frames e 0) } else r.pipe) mixed
 
-    submix_so : bare_slot (entry_slot e.entry 0) ≡ submix_slot asked (wrapped (length r.pipe.taken)) (wrapped (after_both (piped.legal (pipe_size (setup_of s))) piped.next piped.start r.pipe.told).put) 0
+    submix_so : bare_slot (entry_slot e.entry 0) ≡ submix_slot asked (wrapped (length r.pipe.taken)) (wrapped (after_both (piped.legal_in_pipe (pipe_size (setup_of s))) piped.next_in_pipe piped.start_of_pipe r.pipe.told).put) 0
     unfolding second_front pipe_events
     submix_so =
         let slot = entry_slot e.entry 0 in
         let m = mixes.submix in
         let front : m.front ≡ wrapped (length r.pipe.taken) =
         ap second_front (append_cancel_left (twos r.pipe.told) _ _ (sym m.list ∙ t.legal.pipe ∙ ap (λ (p : PipeTold). twos p.told) pipe_told ∙ twos-more r.pipe.told pipe_events)) in
-        let rear : slot.rear ≡ wrapped (after_both (piped.legal (pipe_size (setup_of s))) piped.next piped.start r.pipe.told).put =
-        (legal_parts (piped.legal (pipe_size (setup_of s))) piped.next piped.start r.pipe.told (map two pipe_events) (subst (λ (p : PipeTold). Legal (piped.legal (pipe_size (setup_of s))) piped.next piped.start p.told) pipe_told t.pipe)).1.0 in
+        let rear : slot.rear ≡ wrapped (after_both (piped.legal_in_pipe (pipe_size (setup_of s))) piped.next_in_pipe piped.start_of_pipe r.pipe.told).put =
+        (legal_parts (piped.legal_in_pipe (pipe_size (setup_of s))) piped.next_in_pipe piped.start_of_pipe r.pipe.told (map two pipe_events) (subst (λ (p : PipeTold). Legal (piped.legal_in_pipe (pipe_size (setup_of s))) piped.next_in_pipe piped.start_of_pipe p.told) pipe_told t.pipe)).1.0 in
         ap bare_slot m.shows ∙ (λ j. submix_slot asked (front j) (rear j) 0)
 
     submix_words : map packed_word (slot_frames e 0) ≡ take (count_seen (entry_slot e.entry 0).seen) (drop (length r.pipe.taken) r.pipe.put)

@@ -2,7 +2,7 @@
 use Rattle.std.proofs.Common.{◌≡◌, ◌⊎◌, inl, inr, ℕ, ◌+◌, ◌<◌, ◌≤◌, ◌==◌, Bool, true, false, true≢false, if◌then◌else◌, fold, map, List, [], ◌∷◌, ◌++◌, take, length, All, Some, None, refl, sym, ap, ◌∙◌, subst, arith, length-append}
 use Rattle.af_one_turn_run.proofs.Common.{AreMixedBut, CarriesWithin, ClientEvent, EntrySeen, Event, FastState, IsFastTurn, IsFrame, IsQueueAsTold, Item, Legal, LegalAlone, LegalEntry, Marks, PipeTold, QueuePoint, QueueTold, Run, RunKept, SameNormal, ServerEvent, Session, cycle_alone, cycle_frames, fits_of, initial, is_mixed, items_of, kept_beside, met, pipe_met, pipe_size, poll_events, setup_of, slots, state_among, state_at, state_for, take-take, take_at, taken_before, told_at, track_count, two, with_mix, with_poll}
 use Rattle.af_model.specs.declared.states.ObserverEvent.TheVariants as observer
-use Rattle.af_model.specs.Order.{after as after_both}
+use Rattle.af_model.specs.Order.{point_after as after_both}
 use Rattle.af_model.specs.PipeHistory as piped
 use Rattle.af_model.specs.StateQueue as queued
 use Rattle.af_judge.specs.RunTold.{CarriesFit}
@@ -50,7 +50,7 @@ met_states s k run = record { normal = refl; states = refl }
 
 module _ (s : Session) where
   abbrev queue_start : QueuePoint Item
-  queue_start = queued.start (initial (cycle_frames s))
+  queue_start = queued.start_of_queue (initial (cycle_frames s))
 
   abbrev pushed_in : QueueTold → ℕ
   pushed_in told = (after_both queued.legal queued.next queue_start told).mutator.pushed
@@ -76,7 +76,7 @@ module _ (s : Session) where
 pub record CyclesTold (s : Session) (many : ℕ) (frames : ℕ → List ℕ) (put : List ℕ) (last : Run) : Type 0 where
   pub streams : (n : ℕ) → n < many → IsBlockTold (frames n) (told_at last n).stream
   pub queue : IsQueueAsTold (cycle_frames s) last.queue
-  pub pipe : Legal (piped.legal (pipe_size (setup_of s))) piped.next piped.start last.pipe.told
+  pub pipe : Legal (piped.legal_in_pipe (pipe_size (setup_of s))) piped.next_in_pipe piped.start_of_pipe last.pipe.told
   pub taken : last.pipe.taken ≡ take (length last.pipe.taken) put
 
 -- a run before some cycles
@@ -97,8 +97,8 @@ begin_of xs ys put g is =
 pub told_earlier : (s : Session) (many : ℕ) (frames : ℕ → List ℕ) (put : List ℕ) (run last : Run) → length run.tracks ≡ many → ((n : ℕ) → n < many → IsCounted (told_at run n).stream) → Follows run last → CyclesTold s many frames put last → CyclesTold s many frames put run
 told_earlier s many frames put run last tracks counted f t = record {
   streams = λ n low. (let few : n < length run.tracks = omega (arith, low, tracks) in told_before (frames n) (told_at run n).stream (told_at last n).stream (f.streams n few) (counted n low) (f.counted n few (counted n low)) (t.streams n low));
-  queue = (legal_parts queued.legal queued.next (queued.start (initial (cycle_frames s))) run.queue f.queue.0 (subst (IsQueueAsTold (cycle_frames s)) f.queue.1 t.queue)).0;
-  pipe = (legal_parts (piped.legal (pipe_size (setup_of s))) piped.next piped.start run.pipe.told f.pipe.0 (subst (Legal (piped.legal (pipe_size (setup_of s))) piped.next piped.start) f.pipe.1 t.pipe)).0;
+  queue = (legal_parts queued.legal queued.next (queued.start_of_queue (initial (cycle_frames s))) run.queue f.queue.0 (subst (IsQueueAsTold (cycle_frames s)) f.queue.1 t.queue)).0;
+  pipe = (legal_parts (piped.legal_in_pipe (pipe_size (setup_of s))) piped.next_in_pipe piped.start_of_pipe run.pipe.told f.pipe.0 (subst (Legal (piped.legal_in_pipe (pipe_size (setup_of s))) piped.next_in_pipe piped.start_of_pipe) f.pipe.1 t.pipe)).0;
   taken = begin_of run.pipe.taken last.pipe.taken put f.taken t.taken;
 }
 

@@ -1,6 +1,6 @@
 -- A round of a turn run is determined by what is told at its end.
 use Rattle.std.proofs.Common.{◌≡◌, ◌⊎◌, inl, inr, ℕ, ◌*◌, ◌^◌, ◌<◌, ◌≤◌, ◌==◌, Bool, true, false, true≢false, MatchBool, MatchOption, if◌then◌else◌, fold, List, [], ◌∷◌, length, take, Option, Some, None, refl, sym, ap, ◌∙◌, subst, arith, eq-eqb}
-use Rattle.af_one_turn_run.proofs.Common.{BlockTold, EntrySeen, IsFastTurn, IsHistoryAsTold, IsMadeBy, IsOpenTurn, IsScript, IsTurn, LegalAlone, LegalTurn, LegalTurnBy, Marks, OnlyCalls, RoundSeen, Run, Session, TrackTold, Turn, TurnFound, TurnSpec, called, calls_alone, calls_in, cases_eq, commands_turned, cycle_alone, cycle_frames, each_at, each_long, ext_get_or, fast_ended, found_before, initial, lawful_front, loaded, meets, met, met_alone, no_report, no_track, outside_of, outside_with, pipe_size, setup_of, stream_met, stream_turned, takes_part, told_at, track_met, turned, turned_track, with_load, with_turn}
+use Rattle.af_one_turn_run.proofs.Common.{BlockTold, EntrySeen, IsFastTurn, IsHistoryAsTold, IsMadeBy, IsOpenTurn, IsScript, IsTurn, LegalAlone, LegalTurn, LegalTurnBy, Marks, OnlyCalls, RoundSeen, Run, Session, TrackTold, Turn, TurnFound, TurnSpec, called_in_turn, calls_alone, calls_in, cases_eq, commands_turned, cycle_alone, cycle_frames, each_at, each_long, ext_get_or, fast_ended, found_before, initial, lawful_front, loaded, meets, met, met_alone, no_report, no_track, outside_of, outside_with, pipe_size, setup_of, stream_met, stream_turned, takes_part, told_at, track_met, turned, turned_track, with_load, with_turn}
 use Rattle.std.proofs.lemmas.Nat.{mul-le}
 use Rattle.af_model.specs.NewestValue as newest
 use Rattle.af_model.specs.PipeHistory as piped
@@ -41,14 +41,14 @@ module _ (s : Session) (form : IsScript s.script) (marks : Marks) (lawful : (n :
 
   -- ## A client's turn
 
-  client_legal : (track : ℕ) (round : RoundSeen) → track < many → RoundTold s many frames (met s (calls_alone track round run)) → IsTrackLegal (called (calls_in round track) (told_at run track))
+  client_legal : (track : ℕ) (round : RoundSeen) → track < many → RoundTold s many frames (met s (calls_alone track round run)) → IsTrackLegal (called_in_turn (calls_in round track) (told_at run track))
   client_legal track round low told =
       let made = calls_alone track round run in
-      let t = called (calls_in round track) (told_at run track) in
+      let t = called_in_turn (calls_in round track) (told_at run track) in
       let few : track < length run.tracks = (let l = h.tracks in omega (arith, l, low)) in
       let long : length made.tracks ≡ length run.tracks = each_long _ 0 run.tracks in
-      let here : told_at made track ≡ t = each_at (λ number t. if number == track then called (calls_in round track) t else t) 0 run.tracks track track no_track few (omega arith)
-      ∙ ap (λ (b : Bool). if b then called (calls_in round track) (told_at run track) else told_at run track) (eq-eqb track track refl) in
+      let here : told_at made track ≡ t = each_at (λ number t. if number == track then called_in_turn (calls_in round track) t else t) 0 run.tracks track track no_track few (omega arith)
+      ∙ ap (λ (b : Bool). if b then called_in_turn (calls_in round track) (told_at run track) else told_at run track) (eq-eqb track track refl) in
       let last : told_at (met s made) track ≡ track_met s made track t = met_track s made track (omega (arith, few, long)) ∙ ap (track_met s made track) here in
       record {
         stream = legal_before t.stream (stream_met (takes_part s made track) made.handed t.stream) (grows_met (takes_part s made track) made.handed t.stream) (subst (λ (z : TrackTold). IsToldLegally z.stream) last (told.streams track low).legal);
@@ -158,9 +158,9 @@ module _ (s : Session) (form : IsScript s.script) (marks : Marks) (lawful : (n :
       form = open_form is;
       streams = stream_told;
       commands = commands_told;
-      queue = (legal_parts queued.legal queued.next (queued.start (initial (cycle_frames s))) made.queue _ told.queue).0;
-      report = (legal_parts newest.legal newest.next (newest.start no_report) made.report _ told.report).0;
-      pipe = (legal_parts (piped.legal (pipe_size (setup_of s))) piped.next piped.start made.pipe.told _ (pipe_legal (pipe_size (setup_of s)) (met s made).pipe told.pipe)).0;
+      queue = (legal_parts queued.legal queued.next (queued.start_of_queue (initial (cycle_frames s))) made.queue _ told.queue).0;
+      report = (legal_parts newest.legal_value newest.next_value (newest.start_value no_report) made.report _ told.report).0;
+      pipe = (legal_parts (piped.legal_in_pipe (pipe_size (setup_of s))) piped.next_in_pipe piped.start_of_pipe made.pipe.told _ (pipe_legal (pipe_size (setup_of s)) (met s made).pipe told.pipe)).0;
     }
 
     -- how all is told before the turn

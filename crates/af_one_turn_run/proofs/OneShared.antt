@@ -61,12 +61,12 @@ one_push acked n (Busy seen expected) (Pushed b) la (busy _ _ waits) lb (pushed 
 
 module _ (e : Turn) where
   -- the turn saw the number of the report
-  pub report_seen : (r : newest.CellPoint Report) (x : Report) → e.ended ≡ false → Legal newest.legal newest.next r (map two (going e (Load e.cycle x ∷ []))) → e.cycle ≡ r.number
-  report_seen r x goes l = (subst (λ (b : Bool). Legal newest.legal newest.next r (map two (if b then [] else Load e.cycle x ∷ []))) goes l).0.0
+  pub report_seen : (r : newest.CellPoint Report) (x : Report) → e.ended ≡ false → Legal newest.legal_value newest.next_value r (map two (going e (Load e.cycle x ∷ []))) → e.cycle ≡ r.number
+  report_seen r x goes l = (subst (λ (b : Bool). Legal newest.legal_value newest.next_value r (map two (if b then [] else Load e.cycle x ∷ []))) goes l).0.0
 
   -- the turn saw the front of the pipe
-  pub room_seen : (p : piped.PipePoint) (c : Setup) (cells put : ℕ) → e.ended ≡ false → Legal (piped.legal (pipe_size c)) piped.next p (map one (pipe_list c cells put e)) → front_by_room (pipe_size c) put e.room ≡ p.taken % 2 ^ 32
-  room_seen p c cells put goes l = (subst (λ (b : Bool). Legal (piped.legal (pipe_size c)) piped.next p (map one (if b then [] else client.SawFront (front_by_room (pipe_size c) put e.room) ∷ releases_of cells put (length (put_by c e.mixes))))) goes l).0.0
+  pub room_seen : (p : piped.PipePoint) (c : Setup) (cells put : ℕ) → e.ended ≡ false → Legal (piped.legal_in_pipe (pipe_size c)) piped.next_in_pipe p (map one (pipe_list c cells put e)) → front_by_room (pipe_size c) put e.room ≡ p.taken % 2 ^ 32
+  room_seen p c cells put goes l = (subst (λ (b : Bool). Legal (piped.legal_in_pipe (pipe_size c)) piped.next_in_pipe p (map one (if b then [] else client.SawFront (front_by_room (pipe_size c) put e.room) ∷ releases_of cells put (length (put_by c e.mixes))))) goes l).0.0
 
 -- one room has one front
 pub one_room : (size put a b : ℕ) → size < 2 ^ 32 → a ≤ size → b ≤ size → front_by_room size put a ≡ front_by_room size put b → a ≡ b

@@ -1,6 +1,6 @@
 -- What a turn of the normal mixer takes for its buffer is determined by what the stream blocks tell.
 use Rattle.std.proofs.Common.{◌≡◌, ℕ, ◌+◌, ◌<◌, ◌≤◌, Bool, true, false, if◌then◌else◌, is_some, map, List, [], ◌∷◌, ◌++◌, drop, length, All, refl, sym, ap, ◌∙◌, subst, arith, append-nil, ne_eqb}
-use Rattle.af_one_turn_run.proofs.Common.{AllByRecursion, BlockTold, HandEvent, IsFrame, Learnt, Listed, LooksBy, Moment, NormalKept, ServerEvent, Setup, Shape, SlotEntry, TakeSeen, TrackKept, TrackPoint, TracksRise, Turn, TurnFound, after, after_look, asked as buffer, by_hand, client_of, cycle_events, flat_map, front_of, going, hand_list, invalid, is_home, kept, lawful_front, learnt, listed, mix_events, outside_of, packed_word, slice_index_or, start, stream_list, stream_turned, take_front, taken_of, takes_from, track_at, track_in, tracks_at}
+use Rattle.af_one_turn_run.proofs.Common.{AllByRecursion, BlockTold, HandEvent, IsFrame, Learnt, Listed, LooksBy, Moment, NormalKept, ServerEvent, Setup, Shape, SlotEntry, TakeSeen, TrackKept, TrackPoint, TracksRise, Turn, TurnFound, after, events_behind_look, asked as buffer, by_hand, client_of, cycle_events, flat_map, front_of, going, hand_events_of, invalid, is_home, kept, lawful_front, learnt, listed, mix_events, outside_of, packed_word, slice_index_or, start, stream_list, stream_turned, take_front, taken_of, takes_from, track_at, track_in, tracks_at}
 use Rattle.af_base.specs.declared.event.ServerEvent.TheVariants as server
 use Rattle.af_judge.proofs.TurnExactly.{first_of, others_of}
 use Rattle.af_one_turn_run.specs.Seeing.{after_servers, ServerSees}
@@ -29,12 +29,12 @@ pub record SlotTold (frames : List ℕ) (base asked : ℕ) (s : Listed) (p : Tra
 
 module _ (frames : List ℕ) (base asked : ℕ) (s : Listed) (p : TrackPoint) (n : ℕ) where
   told_lawful : (slot : SlotEntry) → LooksBy asked s slot (lawful_front asked s slot) → cycle_events asked s slot (front_of asked s slot) ≡ slot_events asked s slot
-  told_lawful slot looks = ap (λ (es : List ServerEvent). server.SawGain slot.gains ∷ es ++ after_look asked (is_some (kept s).shut) slot.seen) (events_told asked s slot looks)
+  told_lawful slot looks = ap (λ (es : List ServerEvent). server.SawGain slot.gains ∷ es ++ events_behind_look asked (is_some (kept s).shut) slot.seen) (events_told asked s slot looks)
 
   slot_so : (slot : SlotEntry) (words : List ℕ) → SlotTold frames base asked s p n slot words → bare_slot slot ≡ (let l = looked asked s p in let x : SlotEntry = record { gains = p.gains; flush = l.flush; rear = l.rear; seen = l.seen; first = 0 } in x)
   slot_so slot words h =
       let saw = subst (ServerSees p n) (told_lawful slot h.looks) h.sees in
-      let look = look_so asked s slot p n h.looks (server_parts p n (looks_by s slot (lawful_front asked s slot)) (after_look asked (is_some (kept s).shut) slot.seen) saw.1).0 in
+      let look = look_so asked s slot p n h.looks (server_parts p n (looks_by s slot (lawful_front asked s slot)) (events_behind_look asked (is_some (kept s).shut) slot.seen) saw.1).0 in
       λ i. let x : SlotEntry = record { gains = saw.0 i; flush = (look i).flush; rear = (look i).rear; seen = (look i).seen; first = 0 } in x
 
   -- two slots that are told at one point are the same, and take the same
@@ -77,11 +77,11 @@ before_play k e tracks i = if is_home (track_at tracks i).holder then invalid k 
 pub take_told : (frames : List ℕ) (c : Setup) (f : TurnFound) (m : NormalKept) (e : Turn) (t : TakeSeen) (i : ℕ) → (let b = f.streams i in let o = outside_of c f e in
     e.ended ≡ false → takes_from e.mixes i ≡ t ∷ [] → LooksBy (buffer c) (listed b) t.slot (lawful_front (buffer c) (listed b) t.slot) → IsTakenOf frames b
     → IsToldLegally (stream_turned c o m e i b) → IsTakenOf frames (stream_turned c o m e i b)
-    → SlotTold frames b.shape.base (buffer c) (listed b) (played_from b (hand_list e i) (before_play (learnt o) e (tracks_at c (learnt o) m e i) i)) (length (client_of (handed b (hand_list e i)))) t.slot (map packed_word t.frames))
+    → SlotTold frames b.shape.base (buffer c) (listed b) (played_from b (hand_events_of e i) (before_play (learnt o) e (tracks_at c (learnt o) m e i) i)) (length (client_of (handed b (hand_events_of e i)))) t.slot (map packed_word t.frames))
 take_told frames c f m e t i runs one looks before told taken =
     let b = f.streams i in
     let o = outside_of c f e in
-    let hands = hand_list e i in
+    let hands = hand_events_of e i in
     let tracks = tracks_at c (learnt o) m e i in
     let first = before_play (learnt o) e tracks i in
     let p0 = after (start b.shape) (handed b hands) in

@@ -1,8 +1,8 @@
 -- A turn of the normal mixer is determined by what the blocks, the queue, the report and the pipe tell.
 use Rattle.std.proofs.Common.{◌≡◌, ℕ, ◌+◌, ◌%◌, ◌^◌, ◌<◌, ◌&&◌, ◌||◌, max, min, Bool, true, false, map, List, [], ◌∷◌, ◌++◌, length, All, refl, sym, ap, ◌∙◌, subst, arith}
-use Rattle.af_one_turn_run.proofs.Common.{All-head, All-tail, AllByRecursion, BlockTold, GoesOn, IsOpenTurn, IsQueueAsTold, IsReportAsTold, IsTake, Item, Learnt, Legal, LegalPush, LegalTake, LegalTrack, LegalTurn, Load, LooksBy, NormalKept, QueuePoint, Run, Session, Setup, TakeSeen, TrackKept, TrackPoint, TrackSeen, Turn, TurnFound, after, after_ack, after_edits, asked, client_of, commands_turned, cycle_frames, ends_now, found_before, front_by_room, going, hand_list, initial, is_exit, known_by, lawful_front, learnt, listed, most_cycles, mutated, no_report, number_seen, outside_of, outside_with, pipe_size, pipe_turned, queue_turned, report_of, served_to, setup_of, start, stream_turned, take_front, told_at, track_in, tracks_at, tracks_due, two}
+use Rattle.af_one_turn_run.proofs.Common.{All-head, All-tail, AllByRecursion, BlockTold, GoesOn, IsOpenTurn, IsQueueAsTold, IsReportAsTold, IsTake, Item, Learnt, Legal, LegalPush, LegalTake, LegalTrack, LegalTurn, Load, LooksBy, NormalKept, QueuePoint, Run, Session, Setup, TakeSeen, TrackKept, TrackPoint, TrackSeen, Turn, TurnFound, after, after_ack, after_edits, asked, client_of, commands_turned, cycle_frames, ends_now, found_before, front_by_room, going, hand_events_of, initial, commands_exit, known_by, lawful_front, learnt, listed, most_round_cycles, mutated, no_report, number_seen, outside_of, outside_with, pipe_size, pipe_turned, queue_turned, report_of, served_to, setup_of, start, stream_turned, take_front, told_at, track_in, tracks_at, tracks_due, two}
 use Rattle.af_model.specs.NewestValue as newest
-use Rattle.af_model.specs.Order.{after as after_both}
+use Rattle.af_model.specs.Order.{point_after as after_both}
 use Rattle.af_model.specs.PipeHistory as piped
 use Rattle.af_model.specs.StateQueue as queued
 use Rattle.af_one_turn_run.specs.Taking.{IsTakenOf, HasFrames}
@@ -37,7 +37,7 @@ module _ (s : Session) (run : Run) (many : ℕ) (frames : ℕ → List ℕ) wher
     pub commands : (i : ℕ) → i < many → IsBlockTold (told_at run i).commands.released (commands_turned c (outside_of c (found e) e) m e i (told_at run i).commands)
     pub queue : IsQueueAsTold (cycle_frames s) (queue_turned (cycle_frames s) c (outside_of c (found e) e) m e run.states run.queue)
     pub report : IsReportAsTold (run.report ++ map two (going e (Load e.cycle (report_of run.reports e.cycle) ∷ [])))
-    pub pipe : Legal (piped.legal (pipe_size c)) piped.next piped.start (pipe_turned c e run.pipe).told
+    pub pipe : Legal (piped.legal_in_pipe (pipe_size c)) piped.next_in_pipe piped.start_of_pipe (pipe_turned c e run.pipe).told
 
   -- how all is told before the turn
   pub record IsBeforeTurn : Type 0 where
@@ -49,15 +49,15 @@ module _ (s : Session) (run : Run) (many : ℕ) (frames : ℕ → List ℕ) wher
 
   module _ (h : IsBeforeTurn) where
     abbrev queue_point : QueuePoint Item
-    queue_point = after_both queued.legal queued.next (queued.start (initial (cycle_frames s))) run.queue
+    queue_point = after_both queued.legal queued.next (queued.start_of_queue (initial (cycle_frames s))) run.queue
 
     -- ## The acknowledgement, and whether the turn ended
 
     acked : (e : Turn) → IsTurnTold e → number_seen m e.ack ≡ queue_point.observer.acked
-    acked e t = ack_seen queue_point c (learnt (outside_of c (found e) e)) m e _ _ _ h.runs (legal_parts queued.legal queued.next (queued.start (initial (cycle_frames s))) run.queue _ t.queue).1
+    acked e t = ack_seen queue_point c (learnt (outside_of c (found e) e)) m e _ _ _ h.runs (legal_parts queued.legal queued.next (queued.start_of_queue (initial (cycle_frames s))) run.queue _ t.queue).1
 
     ack_low : (e : Turn) → IsTurnTold e → e.ack ≡ false → 0 < m.pushed
-    ack_low e t none = (t.legal.goes_on (t.legal.ends ∙ (λ i. h.runs i || (is_exit m.last && none i)) ∙ and_none (is_exit m.last))).ack none
+    ack_low e t none = (t.legal.goes_on (t.legal.ends ∙ (λ i. h.runs i || (commands_exit m.last && none i)) ∙ and_none (commands_exit m.last))).ack none
       where
         and_none : (b : Bool) → (b && false) ≡ false
         and_none true = refl
@@ -78,19 +78,19 @@ module _ (s : Session) (run : Run) (many : ℕ) (frames : ℕ → List ℕ) wher
     -- ## A turn that goes on
 
     abbrev learnt_at : ℕ → Learnt
-    learnt_at n = record { report = report_of run.reports (min (max (length run.entries) n) (length run.entries + most_cycles)); own = λ i. known_by (listed (told_at run i).stream) }
+    learnt_at n = record { report = report_of run.reports (min (max (length run.entries) n) (length run.entries + most_round_cycles)); own = λ i. known_by (listed (told_at run i).stream) }
 
     same_cycle : (a b : Turn) → IsTurnTold a → IsTurnTold b → a.ended ≡ false → b.ended ≡ false → a.cycle ≡ b.cycle
     same_cycle a b t u goes goes_b = cycle_of a t goes ∙ sym (cycle_of b u goes_b)
       where
-        cycle_of : (e : Turn) → IsTurnTold e → e.ended ≡ false → e.cycle ≡ (after_both newest.legal newest.next (newest.start no_report) run.report).number
-        cycle_of e t goes = report_seen e (after_both newest.legal newest.next (newest.start no_report) run.report) (report_of run.reports e.cycle) goes (legal_parts newest.legal newest.next (newest.start no_report) run.report _ t.report).1
+        cycle_of : (e : Turn) → IsTurnTold e → e.ended ≡ false → e.cycle ≡ (after_both newest.legal_value newest.next_value (newest.start_value no_report) run.report).number
+        cycle_of e t goes = report_seen e (after_both newest.legal_value newest.next_value (newest.start_value no_report) run.report) (report_of run.reports e.cycle) goes (legal_parts newest.legal_value newest.next_value (newest.start_value no_report) run.report _ t.report).1
 
     same_room : (a b : Turn) → IsTurnTold a → IsTurnTold b → a.ended ≡ false → b.ended ≡ false → a.room ≡ b.room
     same_room a b t u goes goes_b = one_room (pipe_size c) (length run.pipe.put) a.room b.room h.small (t.legal.goes_on goes).room (u.legal.goes_on goes_b).room (front_of_pipe a t goes ∙ sym (front_of_pipe b u goes_b))
       where
-        front_of_pipe : (e : Turn) → IsTurnTold e → e.ended ≡ false → front_by_room (pipe_size c) (length run.pipe.put) e.room ≡ (after_both (piped.legal (pipe_size c)) piped.next piped.start run.pipe.told).taken % 2 ^ 32
-        front_of_pipe e t goes = room_seen e (after_both (piped.legal (pipe_size c)) piped.next piped.start run.pipe.told) c _ (length run.pipe.put) goes (legal_parts (piped.legal (pipe_size c)) piped.next piped.start run.pipe.told _ t.pipe).1
+        front_of_pipe : (e : Turn) → IsTurnTold e → e.ended ≡ false → front_by_room (pipe_size c) (length run.pipe.put) e.room ≡ (after_both (piped.legal_in_pipe (pipe_size c)) piped.next_in_pipe piped.start_of_pipe run.pipe.told).taken % 2 ^ 32
+        front_of_pipe e t goes = room_seen e (after_both (piped.legal_in_pipe (pipe_size c)) piped.next_in_pipe piped.start_of_pipe run.pipe.told) c _ (length run.pipe.put) goes (legal_parts (piped.legal_in_pipe (pipe_size c)) piped.next_in_pipe piped.start_of_pipe run.pipe.told _ t.pipe).1
 
     -- ## The tracks
 
@@ -130,7 +130,7 @@ module _ (s : Session) (run : Run) (many : ℕ) (frames : ℕ → List ℕ) wher
       same_edits = λ j. edits_at (same_cycle a b t u goes goes_b j) (same_room a b t u goes goes_b j) (same_ack a b t u j) (same_tracks j)
 
       push_at : (e : Turn) → IsTurnTold e → e.ended ≡ false → PushSees queue_point.observer.acked (after_edits c (learnt_at e.cycle) e m) e.push
-      push_at e t goes = push_seen queue_point c (learnt (outside_of c (found e) e)) m e _ _ _ h.runs goes (legal_parts queued.legal queued.next (queued.start (initial (cycle_frames s))) run.queue _ t.queue).1
+      push_at e t goes = push_seen queue_point c (learnt (outside_of c (found e) e)) m e _ _ _ h.runs goes (legal_parts queued.legal queued.next (queued.start_of_queue (initial (cycle_frames s))) run.queue _ t.queue).1
 
       same_push : a.push ≡ b.push
       same_push = one_push queue_point.observer.acked (after_edits c (learnt_at a.cycle) a m) a.push b.push goes_a.push (push_at a t goes)
@@ -140,10 +140,10 @@ module _ (s : Session) (run : Run) (many : ℕ) (frames : ℕ → List ℕ) wher
 
     -- where a stream block stands when its track is mixed
     abbrev play_point : Turn → ℕ → TrackPoint
-    play_point e i = played_from (told_at run i).stream (hand_list e i) (before_play (learnt_at e.cycle) e (tracks_at c (learnt_at e.cycle) m e i) i)
+    play_point e i = played_from (told_at run i).stream (hand_events_of e i) (before_play (learnt_at e.cycle) e (tracks_at c (learnt_at e.cycle) m e i) i)
 
     abbrev play_count : Turn → ℕ → ℕ
-    play_count e i = length (client_of (handed (told_at run i).stream (hand_list e i)))
+    play_count e i = length (client_of (handed (told_at run i).stream (hand_events_of e i)))
 
     -- the takes are told, if the blocks stand as the turn e leaves them
     abbrev TakesTold : Turn → List TakeSeen → List TakeSeen → Type 0

@@ -1,10 +1,10 @@
 -- Lists and legal orders in parts.
 use Rattle.std.proofs.Common.{◌≡◌, ℕ, zero, suc, ◌+◌, List, [], ◌∷◌, ◌++◌, take, drop, refl, ap, ◌∙◌, arith}
 use Rattle.af_one_turn_run.proofs.Common.{Legal}
-use Rattle.af_model.specs.Order.{after}
+use Rattle.af_model.specs.Order.{point_after}
 
 module _ {P E : Type 0} (legal : P → E → Type 0) (next : P → E → P) where
-  pub legal_parts : (p : P) (xs ys : List E) → Legal legal next p (xs ++ ys) → Legal legal next p xs × Legal legal next (after legal next p xs) ys
+  pub legal_parts : (p : P) (xs ys : List E) → Legal legal next p (xs ++ ys) → Legal legal next p xs × Legal legal next (point_after legal next p xs) ys
   legal_parts p [] ys l = (tt, l)
   legal_parts p (x ∷ xs) ys l = let r = legal_parts (next p x) xs ys l.1 in ((l.0, r.0), r.1)
 

@@ -1,6 +1,6 @@
 -- A client whose ops have no pokes makes none.
 use Rattle.std.proofs.Common.{◌≡◌, ℕ, ◌-◌, ◌==◌, ◌&&◌, ◌||◌, nat_le, not, Bool, true, false, true≢false, if◌then◌else◌, is_some, unwrap_or, fold, List, [], ◌∷◌, Option, Some, None, refl, sym, ap, ◌∙◌}
-use Rattle.af_one_turn_run.proofs.Common.{AreCalls, Client, ClientCall, IsWanted, Track, Want, after_answer, after_call, after_clear, after_put, after_send, after_sent, after_status, after_write, argument_of, asked_first, begins, begun, bit_and, code_of, commands_sent, ends, is_active, is_clear, is_flush, is_last, is_send, is_status, is_stoppable, is_stopped, is_write, more, next_want, rest_of, rested, settled_in, state_in, wanted_of, wants_of, with_call}
+use Rattle.af_one_turn_run.proofs.Common.{AreCalls, Client, ClientCall, IsWanted, Track, Want, after_answer, after_call, after_clear, after_put, after_send, after_sent, after_status, after_write, argument_of, asked_first, begins, begun, bit_and, command_code, commands_sent, ends, is_active, is_clear, is_flush, is_last, is_send, is_status, is_stoppable, is_stopped, is_write, more, next_want, rest_of, rested, settled_in, state_in, wanted_of, wants_of, with_call}
 use Rattle.af_base.specs.declared.event.ClientCall.TheVariants as call
 use Rattle.af_script.specs.declared.op.Op.{Op}
 use Rattle.af_script.specs.declared.op.Op.TheVariants as op
@@ -8,7 +8,7 @@ use Rattle.af_runs.specs.declared.want.ClientCommand.{ClientCommand}
 use Rattle.af_runs.specs.declared.want.ClientCommand.TheVariants as command
 use Rattle.af_runs.specs.declared.want.Mode.{Mode}
 use Rattle.af_runs.specs.declared.want.Want.TheVariants as want
-use Rattle.af_runs.specs.Clients.{goes_on}
+use Rattle.af_runs.specs.Clients.{with_wants}
 use Rattle.af_one_turn_run.specs.NoPokes.{is_poke_op, is_poke_want, is_poke_call, PlainOps, PlainWants, PlainCalls, IsPlain}
 
 -- ## Ops
@@ -70,7 +70,7 @@ more_plain left wants h = by_none (left == 0)
     by_none false = (refl, h)
 
 module _ (c : Client) (h : IsPlain c) (wants : List Want) (plain : PlainWants wants) where
-  same_plain : IsPlain (goes_on wants c)
+  same_plain : IsPlain (with_wants wants c)
   same_plain = record { due = plain; ops = h.ops }
 
   sent_plain : (sending : ClientCommand) → IsPlain (after_sent sending wants c)
@@ -150,7 +150,7 @@ clear_is (call.Poke in_command word value) is = absurd (true≢false (sym is))
 clear_is a is = refl
 
 call_plain : (t : Track) (w : Want) (a : ClientCall) → is_poke_want w ≡ false → IsWanted t w a → is_poke_call a ≡ false
-call_plain t (want.Send sending) a plain is = send_is (code_of sending) (argument_of t sending) a is
+call_plain t (want.Send sending) a plain is = send_is (command_code sending) (argument_of t sending) a is
 call_plain t want.Settled a plain is = status_is a is
 call_plain t want.Drained a plain is = status_is a is
 call_plain t want.Flush a plain is = flush_is a is
@@ -159,7 +159,7 @@ call_plain t (want.Write count) a plain is = write_is a is
 call_plain t want.Clear a plain is = clear_is a is
 call_plain t (want.Poke in_command word value) a plain is = absurd (true≢false plain)
 call_plain t want.Rest a plain is = absurd is
-call_plain t want.Leave a plain is = send_is (code_of command.Remove) 0 a is
+call_plain t want.Leave a plain is = send_is (command_code command.Remove) 0 a is
 
 pub turn_plain : (left : ℕ) (t : Track) (calls : List ClientCall) → IsPlain t.client → AreCalls left t calls → PlainCalls calls × IsPlain (fold after_call t calls).client
 turn_plain left t [] h are = (tt, h)

@@ -1,6 +1,6 @@
 -- In a turn run of a script without pokes no block is poked.
 use Rattle.std.proofs.Common.{◌≡◌, ◌⊎◌, inl, inr, ℕ, ◌<◌, ◌≤◌, ◌==◌, ◌&&◌, ◌||◌, not, Bool, true, false, true≢false, MatchBool, if◌then◌else◌, is_some, fold, map, List, [], ◌∷◌, drop, length, Option, Some, None, refl, sym, ap, ◌∙◌, subst, arith, eqb-true}
-use Rattle.af_one_turn_run.proofs.Common.{AreCalls, AreTurns, Client, ClientCall, ClientEvent, EntrySeen, HandEvent, IsMadeBy, IsScript, LegalClientTurn, Marks, Moment, RoundSeen, Run, ServerEvent, Session, Track, TrackTold, Turn, TurnFound, TurnSpec, after_call, at_next_turn, begun, by_client, by_hand, by_server, called, calls_alone, calls_in, cases_eq, cases_lt, client_call_events, client_kept, client_list, client_of, command_list, cycle_alone, cycle_events, cycle_frames, each_at, each_from, each_long, each_track, ends, entry_slot, found_before, front_of, get_or_past, hand_list, is_lawful, is_of_commands, is_poke_on, is_tame as is_tame_event, learnt, list_any, listed, loaded, made_alone, marks_of, met, mixed_track, most_calls, no_track, outside_of, played, rested, setup_of, side_of, sides_of, slice_index_or, slot_for, state_for, stream_list, stream_met, takes_part, told_at, track_met, tracks_at, turned, turned_track, with_ends, with_load, with_mix, with_poll, with_turn}
+use Rattle.af_one_turn_run.proofs.Common.{AreCalls, AreTurns, Client, ClientCall, ClientEvent, EntrySeen, HandEvent, IsMadeBy, IsScript, LegalClientTurn, Marks, Moment, RoundSeen, Run, ServerEvent, Session, Track, TrackTold, Turn, TurnFound, TurnSpec, after_call, at_next_turn, begun, by_client, by_hand, by_server, called_in_turn, calls_alone, calls_in, cases_eq, cases_lt, client_call_events, client_kept, client_list, client_of, command_list, cycle_alone, cycle_events, cycle_frames, each_at, changed_from, each_long, each_track, ends, entry_slot, found_before, front_of, get_or_past, hand_events_of, is_lawful, is_of_commands, is_poke_on, is_no_poke as is_tame_event, learnt, list_any, listed, loaded, made_alone, marks_of, met, mixed_track, most_calls, no_track, outside_of, played, rested, setup_of, side_of, sides_of, slice_index_or, slot_playing, state_for, stream_list, stream_met, takes_part, told_at, track_met, tracks_at, turned, turned_track, with_ends, with_load, with_mix, with_poll, with_turn}
 use Rattle.af_base.specs.declared.event.ClientCall.TheVariants as call
 use Rattle.af_model.proofs.Basics.{both_lawful}
 use Rattle.af_script.specs.declared.op.TurnSpec.TheVariants as makes
@@ -74,7 +74,7 @@ next_plain : (cut : Bool) (c : Client) → IsPlain c → IsPlain (at_next_turn c
 next_plain cut c h = either_plain (c.waiting || c.ended || cut) (record c { waiting = false }) (record (begun c) { due = rested (begun c).due }) (record { due = h.due; ops = h.ops }) (let g = begun_plain c h in record { due = rested_plain (begun c).due g.due; ops = g.ops })
 
 -- a track stays plain by the calls of a legal turn, none of which is a poke
-pub called_plain : (t : TrackTold) (calls : List ClientCall) → IsTrackPlain t → LegalClientTurn (sides_of t) calls → PlainCalls calls × IsTrackPlain (called calls t)
+pub called_plain : (t : TrackTold) (calls : List ClientCall) → IsTrackPlain t → LegalClientTurn (sides_of t) calls → PlainCalls calls × IsTrackPlain (called_in_turn calls t)
 called_plain t calls h legal =
     let turn = by_end t.client.ended legal in
     let last = fold after_call (sides_of t) calls in (
@@ -97,7 +97,7 @@ called_plain t calls h legal =
 abbrev pub IsRunPlain : Run → Type 0
 IsRunPlain run = (n : ℕ) → n < length run.tracks → IsTrackPlain (told_at run n)
 
-each_plain : (change : ℕ → TrackTold → TrackTold) (run after : Run) → after.tracks ≡ each_from change 0 run.tracks → ((n : ℕ) → n < length run.tracks → IsTrackPlain (told_at run n) → IsTrackPlain (change n (told_at run n))) → IsRunPlain run → IsRunPlain after
+each_plain : (change : ℕ → TrackTold → TrackTold) (run after : Run) → after.tracks ≡ changed_from change 0 run.tracks → ((n : ℕ) → n < length run.tracks → IsTrackPlain (told_at run n) → IsTrackPlain (change n (told_at run n))) → IsRunPlain run → IsRunPlain after
 each_plain change run after is each h n low =
     let few : n < length run.tracks = (let l = ap (λ (ts : List TrackTold). length ts) is ∙ each_long change 0 run.tracks in omega (arith, l, low)) in
     subst IsTrackPlain (sym (ap (λ (ts : List TrackTold). slice_index_or ts n no_track) is ∙ each_at change 0 run.tracks n n no_track few (omega arith))) (each n few (h n few))
@@ -126,7 +126,7 @@ poll_plain s k run h = h
 
 pub mix_plain : (s : Session) (e : EntrySeen) (run : Run) → IsRunPlain run → IsRunPlain (with_mix s e run)
 unfolding with_mix
-mix_plain s e run = each_plain (mixed_track s (state_for s run e.entry.state) e) run (with_mix s e run) refl (λ n low h. by_slot (slot_for (state_for s run e.entry.state) e.entry n) (told_at run n) h)
+mix_plain s e run = each_plain (mixed_track s (state_for s run e.entry.state) e) run (with_mix s e run) refl (λ n low h. by_slot (slot_playing (state_for s run e.entry.state) e.entry n) (told_at run n) h)
   where
     by_slot : (o : Option ℕ) (t : TrackTold) → IsTrackPlain t → IsTrackPlain (elim o as (λ o. TrackTold) [ None ↦ t | Some i ↦ record t { stream = played (cycle_frames s) e i t.stream } ])
     by_slot None t h = h
@@ -145,7 +145,7 @@ turned_plain s f e run =
     let t = told_at run n in
     record {
       client = h.client;
-      stream = ap is_lawful (server_client (told_more t.stream.told (map by_hand (hand_list e n))) (stream_list c o e (tracks_at c (learnt o) run.normal e n) n) ∙ hand_client t.stream.told (hand_list e n)) ∙ h.stream;
+      stream = ap is_lawful (server_client (told_more t.stream.told (map by_hand (hand_events_of e n))) (stream_list c o e (tracks_at c (learnt o) run.normal e n) n) ∙ hand_client t.stream.told (hand_events_of e n)) ∙ h.stream;
       commands = ap is_lawful (server_client t.commands.told (command_list c o e (tracks_at c (learnt o) run.normal e n) n)) ∙ h.commands;
     })
 
@@ -181,9 +181,9 @@ module _ (s : Session) (marks : Marks) (run : Run) where
               subst (λ k. PlainCalls (calls_in round k)) (sym same) (called_plain (told_at run track) (calls_in round track) (h track few) made.3).0
 
       after_is : IsRunPlain (calls_alone track round run)
-      after_is = each_plain (λ number t. if number == track then called (calls_in round track) t else t) run (calls_alone track round run) refl (λ n low is. by_track n (n == track) refl is) h
+      after_is = each_plain (λ number t. if number == track then called_in_turn (calls_in round track) t else t) run (calls_alone track round run) refl (λ n low is. by_track n (n == track) refl is) h
         where
-          by_track : (n : ℕ) (b : Bool) → (n == track) ≡ b → IsTrackPlain (told_at run n) → IsTrackPlain (if b then called (calls_in round track) (told_at run n) else told_at run n)
+          by_track : (n : ℕ) (b : Bool) → (n == track) ≡ b → IsTrackPlain (told_at run n) → IsTrackPlain (if b then called_in_turn (calls_in round track) (told_at run n) else told_at run n)
           by_track n false ne is = is
           by_track n true same is = let e = eqb-true n track same in (called_plain (told_at run n) (calls_in round track) is (subst (λ k. LegalClientTurn (sides_of (told_at run k)) (calls_in round track)) (sym e) made.3)).1
   one_plain makes.Normal round long h made = ((λ n. none_plain (calls_in round n) (no_calls n (made.0 n))), by_turn round.turn)

@@ -24,8 +24,8 @@ told_frames b h =
     let is : (after (start b.shape) b.told).released ≡ b.shape.base + length b.released = subst (λ l. (after (start b.shape) l).released ≡ b.shape.base + length b.released) h.1 h.0.released_is in
     record { places = from_base b.shape b.told; within = omega (arith, is) }
 
-pub pipe_legal : (size : ℕ) (p : PipeTold) → IsPipeAsTold size p → Legal (piped.legal size) piped.next piped.start p.told
-pipe_legal size p h = subst (Legal (piped.legal size) piped.next piped.start) h.1 h.0.history.is_legal
+pub pipe_legal : (size : ℕ) (p : PipeTold) → IsPipeAsTold size p → Legal (piped.legal_in_pipe size) piped.next_in_pipe piped.start_of_pipe p.told
+pipe_legal size p h = subst (Legal (piped.legal_in_pipe size) piped.next_in_pipe piped.start_of_pipe) h.1 h.0.history.is_legal
 
 -- ## A round
 

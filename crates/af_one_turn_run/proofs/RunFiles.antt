@@ -1,6 +1,6 @@
 -- What the stream blocks of a run released are the first words of their files.
 use Rattle.std.proofs.Common.{◌≡◌, ℕ, ◌+◌, ◌<◌, ◌==◌, Bool, true, false, if◌then◌else◌, fold, List, [], ◌∷◌, ◌++◌, take, drop, length, Option, Some, None, refl, sym, ap, ◌∙◌, subst, arith, append-nil}
-use Rattle.af_one_turn_run.proofs.Common.{ClientCall, EntrySeen, RoundSeen, Run, Session, Track, TrackTold, Turn, TurnFound, TurnSpec, after_call, called, calls_alone, calls_in, cycle_alone, cycle_frames, each_at, each_from, each_long, each_track, ends, file_words, found_before, is_of_commands, length-take, loaded, made_alone, met, met_alone, mixed_track, no_track, outside_of, played, released_by, setup_of, sides_of, slice_index_or, slot_for, state_for, stream_met, take_min, takes_part, told_at, track_met, turned, turned_track, with_ends, with_load, with_mix, with_poll, with_turn}
+use Rattle.af_one_turn_run.proofs.Common.{ClientCall, EntrySeen, RoundSeen, Run, Session, Track, TrackTold, Turn, TurnFound, TurnSpec, after_call, called_in_turn, calls_alone, calls_in, cycle_alone, cycle_frames, each_at, changed_from, each_long, each_track, ends, file_words, found_before, is_of_commands, length-take, loaded, made_alone, met, met_alone, mixed_track, no_track, outside_of, played, released_by, setup_of, sides_of, slice_index_or, slot_playing, state_for, stream_met, take_min, takes_part, told_at, track_met, turned, turned_track, with_ends, with_load, with_mix, with_poll, with_turn}
 use Rattle.af_base.specs.declared.event.ClientCall.TheVariants as call
 use Rattle.af_script.specs.declared.op.TurnSpec.TheVariants as makes
 use Rattle.af_runs.specs.ClientTurns.{called as side_called}
@@ -59,15 +59,15 @@ pub record IsOfFile (file : List ℕ) (t : TrackTold) : Type 0 where
 abbrev pub AreOfFiles : Session → Run → Type 0
 AreOfFiles s run = (n : ℕ) → n < length run.tracks → IsOfFile (file_words s n) (told_at run n)
 
-each_files : (s : Session) (change : ℕ → TrackTold → TrackTold) (run after : Run) → after.tracks ≡ each_from change 0 run.tracks → ((n : ℕ) (file : List ℕ) (t : TrackTold) → IsOfFile file t → IsOfFile file (change n t)) → AreOfFiles s run → AreOfFiles s after
+each_files : (s : Session) (change : ℕ → TrackTold → TrackTold) (run after : Run) → after.tracks ≡ changed_from change 0 run.tracks → ((n : ℕ) (file : List ℕ) (t : TrackTold) → IsOfFile file t → IsOfFile file (change n t)) → AreOfFiles s run → AreOfFiles s after
 each_files s change run after is each h n low =
     let few : n < length run.tracks = (let l = ap (λ (ts : List TrackTold). length ts) is ∙ each_long change 0 run.tracks in omega (arith, l, low)) in
     subst (IsOfFile (file_words s n)) (sym (ap (λ (ts : List TrackTold). slice_index_or ts n no_track) is ∙ each_at change 0 run.tracks n n no_track few (omega arith))) (each n (file_words s n) (told_at run n) (h n few))
 
 calls_files : (s : Session) (track : ℕ) (round : RoundSeen) (run : Run) → AreOfFiles s run → AreOfFiles s (calls_alone track round run)
-calls_files s track round run = each_files s (λ number t. if number == track then called (calls_in round track) t else t) run (calls_alone track round run) refl (λ n file t h. by_track (n == track) file t h)
+calls_files s track round run = each_files s (λ number t. if number == track then called_in_turn (calls_in round track) t else t) run (calls_alone track round run) refl (λ n file t h. by_track (n == track) file t h)
   where
-    by_track : (b : Bool) (file : List ℕ) (t : TrackTold) → IsOfFile file t → IsOfFile file (if b then called (calls_in round track) t else t)
+    by_track : (b : Bool) (file : List ℕ) (t : TrackTold) → IsOfFile file t → IsOfFile file (if b then called_in_turn (calls_in round track) t else t)
     by_track true file t h = record { file_is = h.file_is; first = (calls_first file (calls_in round track) (sides_of t) (h.file_is, h.first)).1 }
     by_track false file t h = h
 
@@ -95,7 +95,7 @@ poll_files s k run h = h
 
 mix_files : (s : Session) (e : EntrySeen) (run : Run) → AreOfFiles s run → AreOfFiles s (with_mix s e run)
 unfolding with_mix
-mix_files s e run = each_files s (mixed_track s (state_for s run e.entry.state) e) run (with_mix s e run) refl (λ n file t h. by_slot (slot_for (state_for s run e.entry.state) e.entry n) file t h)
+mix_files s e run = each_files s (mixed_track s (state_for s run e.entry.state) e) run (with_mix s e run) refl (λ n file t h. by_slot (slot_playing (state_for s run e.entry.state) e.entry n) file t h)
   where
     by_slot : (o : Option ℕ) (file : List ℕ) (t : TrackTold) → IsOfFile file t → IsOfFile file (elim o as (λ o. TrackTold) [ None ↦ t | Some i ↦ record t { stream = played (cycle_frames s) e i t.stream } ])
     by_slot None file t h = h

@@ -1,6 +1,6 @@
 -- A run that goes on tells more of what it told, and keeps its blocks counted.
 use Rattle.std.proofs.Common.{◌≡◌, inl, inr, ℕ, zero, suc, ◌+◌, ◌<◌, ◌==◌, ◌&&◌, Bool, true, false, true≢false, if◌then◌else◌, is_some, unwrap_or, find, map, List, [], ◌∷◌, ◌++◌, drop, length, All, Option, Some, None, refl, sym, ap, ◌∙◌, subst, arith, append-nil, append_assoc}
-use Rattle.af_one_turn_run.proofs.Common.{All-nil, BlockTold, ClientCall, EntrySeen, IsTake, IsTurn, RoundSeen, Run, ServerEvent, Session, TrackTold, Turn, TurnFound, after_calls, by_client, by_hand, by_server, called, calls_alone, calls_in, client_list, cycle_alone, cycle_events, cycle_frames, each_at, each_from, each_long, each_track, ends, entry_slot, front_of, hand_list, is_mixed, learnt, listed, met, mixed_track, no_track, outside_of, packed_word, played, plays, range_with_len, setup_of, sides_of, slice_index_or, slot_for, slot_frames, slot_of, slots, state_for, stream_list, stream_met, taken_before, takes_part, takes_shown, told_at, track_met, tracks_at, turned_track, two, with_ends, with_load, with_mix, with_poll, with_turn, wrapped}
+use Rattle.af_one_turn_run.proofs.Common.{All-nil, BlockTold, ClientCall, EntrySeen, IsTake, IsTurn, RoundSeen, Run, ServerEvent, Session, TrackTold, Turn, TurnFound, after_calls, by_client, by_hand, by_server, called_in_turn, calls_alone, calls_in, client_list, cycle_alone, cycle_events, cycle_frames, each_at, changed_from, each_long, each_track, ends, entry_slot, front_of, hand_events_of, is_mixed, learnt, listed, met, mixed_track, no_track, outside_of, packed_word, played, shows_slot, range_with_len, setup_of, sides_of, slice_index_or, slot_playing, slot_frames, slot_of, slots, state_for, stream_list, stream_met, taken_before, takes_part, takes_shown, told_at, track_met, tracks_at, turned_track, two, with_ends, with_load, with_mix, with_poll, with_turn, wrapped}
 use Rattle.af_base.specs.declared.event.ServerEvent.TheVariants as server
 use Rattle.af_one_turn_run.specs.Growing.{Grows, IsCounted}
 use Rattle.af_one_turn_run.proofs.Counting.{counted_played, counted_turn}
@@ -42,7 +42,7 @@ follows_then a b c g h = record {
 }
 
 -- a run follows of which each track was changed, and whose queue and pipe go on
-each_follows : (change : ℕ → TrackTold → TrackTold) (run after : Run) → after.tracks ≡ each_from change 0 run.tracks
+each_follows : (change : ℕ → TrackTold → TrackTold) (run after : Run) → after.tracks ≡ changed_from change 0 run.tracks
     → ((n : ℕ) (t : TrackTold) → Grows t.stream (change n t).stream × (IsCounted t.stream → IsCounted (change n t).stream))
     → GoesOn run.queue after.queue → GoesOn run.pipe.told after.pipe.told → GoesOn run.pipe.taken after.pipe.taken → Follows run after
 each_follows change run after is each queue pipe taken = record {
@@ -60,7 +60,7 @@ each_follows change run after is each queue pipe taken = record {
 -- ## Each step
 
 -- a client's calls make a block grow and leave it counted
-called_follows : (calls : List ClientCall) (t : TrackTold) → Grows t.stream (called calls t).stream × (IsCounted t.stream → IsCounted (called calls t).stream)
+called_follows : (calls : List ClientCall) (t : TrackTold) → Grows t.stream (called_in_turn calls t).stream × (IsCounted t.stream → IsCounted (called_in_turn calls t).stream)
 called_follows calls t =
     let es = drop (length (client_list t.stream)) (after_calls (sides_of t) calls).stream.events in (
       record { shape = refl; moments = map by_client es; told = refl; words = []; taken = sym (append-nil t.stream.taken) },
@@ -69,10 +69,10 @@ called_follows calls t =
 
 pub calls_follow : (track : ℕ) (round : RoundSeen) (run : Run) → Follows run (calls_alone track round run)
 calls_follow track round run =
-    each_follows (λ number t. if number == track then called (calls_in round track) t else t) run (calls_alone track round run) refl
+    each_follows (λ number t. if number == track then called_in_turn (calls_in round track) t else t) run (calls_alone track round run) refl
     (λ n t. by_track (n == track) t) (on_not run.queue) (on_not run.pipe.told) (on_not run.pipe.taken)
   where
-    by_track : (b : Bool) (t : TrackTold) → Grows t.stream (if b then called (calls_in round track) t else t).stream × (IsCounted t.stream → IsCounted (if b then called (calls_in round track) t else t).stream)
+    by_track : (b : Bool) (t : TrackTold) → Grows t.stream (if b then called_in_turn (calls_in round track) t else t).stream × (IsCounted t.stream → IsCounted (if b then called_in_turn (calls_in round track) t else t).stream)
     by_track true t = called_follows (calls_in round track) t
     by_track false t = (grows_not t.stream, λ is. is)
 
@@ -119,14 +119,14 @@ found_low p a (suc n) k is = by_first (p a) (found_low p (a + 1) n k) is
 pub mix_follows : (s : Session) (e : EntrySeen) (run : Run) → length e.frames ≡ taken_before e.entry slots → Follows run (with_mix s e run)
 unfolding with_mix
 mix_follows s e run long =
-    each_follows (mixed_track s (state_for s run e.entry.state) e) run (with_mix s e run) refl (λ n t. by_slot n t (slot_for (state_for s run e.entry.state) e.entry n) refl) (on_not run.queue) (by_mix (is_mixed e.entry.cycle)) (taken_by_mix (is_mixed e.entry.cycle))
+    each_follows (mixed_track s (state_for s run e.entry.state) e) run (with_mix s e run) refl (λ n t. by_slot n t (slot_playing (state_for s run e.entry.state) e.entry n) refl) (on_not run.queue) (by_mix (is_mixed e.entry.cycle)) (taken_by_mix (is_mixed e.entry.cycle))
   where
-    by_slot : (n : ℕ) (t : TrackTold) (o : Option ℕ) → slot_for (state_for s run e.entry.state) e.entry n ≡ o
+    by_slot : (n : ℕ) (t : TrackTold) (o : Option ℕ) → slot_playing (state_for s run e.entry.state) e.entry n ≡ o
         → (let after : TrackTold = elim o as (λ o. TrackTold) [ None ↦ t | Some i ↦ record t { stream = played (cycle_frames s) e i t.stream } ] in Grows t.stream after.stream × (IsCounted t.stream → IsCounted after.stream))
     by_slot n t None is = (grows_not t.stream, λ c. c)
     by_slot n t (Some i) is = (
       record { shape = refl; moments = map by_server (cycle_events (cycle_frames s) (listed t.stream) (entry_slot e.entry i) (front_of (cycle_frames s) (listed t.stream) (entry_slot e.entry i))); told = refl; words = map packed_word (slot_frames e i); taken = refl },
-      λ c. counted_played (cycle_frames s) e i t.stream (let l = found_low (λ i. plays (state_for s run e.entry.state) e.entry i && ((slot_of (state_for s run e.entry.state) i).track == n)) 0 slots i is in omega (arith, l)) long c,
+      λ c. counted_played (cycle_frames s) e i t.stream (let l = found_low (λ i. shows_slot (state_for s run e.entry.state) e.entry i && ((slot_of (state_for s run e.entry.state) i).track == n)) 0 slots i is in omega (arith, l)) long c,
     )
 
     by_mix : (b : Bool) → GoesOn run.pipe.told (if b then record run.pipe { told = run.pipe.told ++ map two (pipe_mixed e run); taken = run.pipe.taken ++ map packed_word (slot_frames e 0) } else run.pipe).told
@@ -160,7 +160,7 @@ turn_follows s f e many run form =
     follows_then run (with_turn s f e run) (with_load e (with_turn s f e run))
     (each_follows (turned_track c o run.normal e) run (with_turn s f e run) refl
     (λ n t. (
-      record { shape = refl; moments = map by_hand (hand_list e n) ++ map by_server (stream_list c o e (tracks_at c (learnt o) run.normal e n) n); told = more_then t.stream.told (map by_hand (hand_list e n)) (map by_server (stream_list c o e (tracks_at c (learnt o) run.normal e n) n)); words = _; taken = refl },
+      record { shape = refl; moments = map by_hand (hand_events_of e n) ++ map by_server (stream_list c o e (tracks_at c (learnt o) run.normal e n) n); told = more_then t.stream.told (map by_hand (hand_events_of e n)) (map by_server (stream_list c o e (tracks_at c (learnt o) run.normal e n) n)); words = _; taken = refl },
       counted_turn c o many run.normal e n t.stream (form_takes many e form),
     ))
     (_, refl) (_, refl) (on_not run.pipe.taken))

@@ -9,7 +9,7 @@ use Rattle.af_model.specs.ClientCalls.{ClientKept, client_kept, filled_by, put_c
 use Rattle.af_runs.specs.declared.want.ClientCommand.TheVariants as command
 use Rattle.af_runs.specs.declared.want.Want.{Want}
 use Rattle.af_runs.specs.declared.want.Want.TheVariants as want
-use Rattle.af_runs.specs.Clients.{code_of}
+use Rattle.af_runs.specs.Clients.{command_code}
 use Rattle.af_runs.specs.ClientTurns.{Side, Track, argument_of}
 
 -- the answer of a proxy that was shut, of one that finds no INVALID, and of one that finds it
@@ -59,7 +59,7 @@ written_on t asked p = written t.stream.shape.frames t.stream.shape.cells (kept_
 
 -- The answer to a want, if the stream block and the command block stand at these points
 abbrev pub answer_to : Track → Want → (stream commands : TrackPoint) → ClientCall
-answer_to t (want.Send sending) stream commands = sent_on t (code_of sending) (argument_of t sending) commands
+answer_to t (want.Send sending) stream commands = sent_on t (command_code sending) (argument_of t sending) commands
 answer_to t want.Settled stream commands = call.Status commands.status
 answer_to t want.Drained stream commands = call.Status commands.status
 answer_to t want.Flush stream commands = call.Flush (flushes_of t.stream.events + 1)
@@ -68,4 +68,4 @@ answer_to t (want.Write count) stream commands = written_on t count stream
 answer_to t want.Clear stream commands = call.Cleared stream.flags
 answer_to t (want.Poke in_command word value) stream commands = call.Poke in_command word value
 answer_to t want.Rest stream commands = call.Gain 0
-answer_to t want.Leave stream commands = sent_on t (code_of command.Remove) 0 commands
+answer_to t want.Leave stream commands = sent_on t (command_code command.Remove) 0 commands

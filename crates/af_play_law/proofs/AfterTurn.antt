@@ -1,6 +1,6 @@
 -- The normal mixer's turn in a round of all parties is told behind the early entries, if of the proxies that aren't home it heard what the run foresees; and so are the late entries behind it.
 use Rattle.std.proofs.Common.{◌≡◌, ⊎_elim, ℕ, ◌*◌, ◌<◌, ◌≤◌, Bool, true, false, if◌then◌else◌, map, List, [], ◌∷◌, ◌++◌, length, Option, Some, None, refl, sym, ap, subst, ◌∙◌, arith}
-use Rattle.af_play_law.proofs.Common.{ClientEvent, Deeds, EntrySeen, FindsBlocks, Frame, GoOn, HasHistory, HasPipeHistory, IsLegal, Leads, LegalNormalTurn, LegalTurnBy, Links, Made, Marks, MatchBool, MatchOption, MixerState, NormalKept, NormalState, Outside, QueueKnown, RoundSeen, Run, SawOwnBy, Session, SessionState, Setup, ShowsFront, Tells, Turn, TurnFound, TurnMade, TurnPlayed, TurnShown, after_turn, answer_of, before_turn, cycle_frames, early_of, found_in, kept_of, late_of, length-map, packed_word, pipe_size, setup_of, turn_of, turned, with_calls, with_cycles, with_turn}
+use Rattle.af_play_law.proofs.Common.{ClientEvent, Deeds, EntrySeen, FindsBlocks, Frame, GoOn, HasStateHistory, HasPipeHistory, IsLegal, Leads, LegalNormalTurn, LegalTurnBy, Links, Made, Marks, MatchBool, MatchOption, MixerState, NormalKept, NormalState, Outside, QueueKnown, RoundSeen, Run, SawOwnBy, Session, SessionState, Setup, ShowsFront, Tells, Turn, TurnFound, TurnMade, TurnPlayed, TurnShown, after_turn, answer_of, before_turn, cycle_frames, early_of, found_in, kept_of, late_of, length-map, packed_word, pipe_size, setup_of, turn_of, turned, with_calls, with_cycles, with_turn}
 use Rattle.std.proofs.Math.Nat.{mul-le-mul_right}
 use Rattle.af_base.specs.declared.event.ClientEvent.TheVariants as client
 use Rattle.af_cblk.specs.declared.view.ClientPart.{ClientPart}
@@ -161,7 +161,7 @@ module _ (links : Links) (s : Session) (run : Run) (d : Deeds) (x u z : SessionS
     shown_late : AllShown links (record n { reader = x.normal.reader }) (late_of run round) f (cycles links s run d x u z bytes round stands w).last (parts links s run d x u z bytes round stands w).back
     shown_late = ⊎_elim
         (λ (none : late_of run round ≡ []). none_shown (record n { reader = x.normal.reader }) (late_of run round) f (cycles links s run d x u z bytes round stands w).last (parts links s run d x u z bytes round stands w).back none)
-        (λ (h : HasHistory x.normal.mutator.past.first n.mutator.past.events f.observer.past.events).
+        (λ (h : HasStateHistory x.normal.mutator.past.first n.mutator.past.events f.observer.past.events).
         late_shown links x u z w.meets.ends stands.stands (first_is links s run d x u z bytes round stands w) (grows_is links s run d x u z bytes round stands w) x.normal.reader turn_told.tells
         (late_of run round) f (cycles links s run d x u z bytes round stands w).last (parts links s run d x u z bytes round stands w).back
         (order_half links s run d x u z bytes round stands w) (grown_half links s run d x u z bytes round stands w) (grown_end links s run d x u z bytes round stands w) h

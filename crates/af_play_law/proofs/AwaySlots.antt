@@ -1,6 +1,6 @@
 -- What a turn of the normal mixer does to the slot of a track whose proxy is away: it stays in the draft as it was, or leaves it.
 use Rattle.std.proofs.Common.{◌≡◌, ℕ, zero, suc, ◌<◌, ◌≤◌, ◌==◌, ◌&&◌, ◌||◌, not, if◌then◌else◌, is_some, Bool, true, false, All, List, [], ◌∷◌, length, refl, sym, ap, ◌∙◌, subst, arith}
-use Rattle.af_play_law.proofs.Common.{AllByRecursion, Carried, CarriesBy, FastState, IsDone, IsLent, Learnt, NormalKept, Setting, Setup, TrackKept, Turn, after_ack, after_edits, and_none, carried_turn, carries, cycle_by, draft_stays, is_exit, is_home, is_lent, list_any, next_command, no, not_over, number_of, pipe_size, plays, slot_number, slot_of, slots, stays_home, track_at, turn_after, turn_len}
+use Rattle.af_play_law.proofs.Common.{AllByRecursion, Carried, CarriesBy, FastState, IsDone, IsLent, Learnt, NormalKept, Setting, Setup, TrackKept, Turn, after_ack, after_edits, and_none, carried_turn, carries, cycle_by, draft_stays, commands_exit, is_home, is_lent, list_any, next_command, no, not_over, number_of, pipe_size, plays, slot_number, slot_of, slots, stays_home, track_at, turn_after, turn_len}
 use Rattle.af_base.specs.declared.log.Cycle.TheVariants as cycle
 use Rattle.af_base.specs.declared.state.Command.{Command}
 use Rattle.af_base.specs.declared.state.Command.TheVariants.{Initial, HotIdle, ColdIdle, Idle, Exit, Mix, Write, MixWrite}
@@ -79,7 +79,7 @@ acked_draft true m = refl
 acked_draft false m = refl
 
 module _ (c : Setup) (scales : All (λ (t : Setting). t.scale ≤ 4096) c.settings) (k : Learnt) (m : NormalKept) (e : Turn) (few : length m.tracks ≤ length c.settings) (runs : e.ended ≡ false) (carried : Carried m)
-    (over : is_exit m.draft ≡ true → AllByRecursion IsDone m.tracks) (i : ℕ) (low : i < length m.tracks) (away : is_home (track_at (after_ack e.ack m).tracks i).holder ≡ false) where
+    (over : commands_exit m.draft ≡ true → AllByRecursion IsDone m.tracks) (i : ℕ) (low : i < length m.tracks) (away : is_home (track_at (after_ack e.ack m).tracks i).holder ≡ false) where
   abbrev after : NormalKept
   after = turn_after c k m e
 
@@ -166,17 +166,17 @@ module _ (c : Setup) (scales : All (λ (t : Setting). t.scale ≤ 4096) c.settin
     unfolding next_command
     mixes =
         let u_low : i < length after.tracks = inside in
-        let none : is_exit m.draft ≡ false = by_exit (is_exit m.draft) refl in
+        let none : commands_exit m.draft ≡ false = by_exit (commands_exit m.draft) refl in
         let heard : list_any (λ (t : TrackKept). plays t.life) after.tracks ≡ true = any_at (λ (t : TrackKept). plays t.life) after.tracks i u_low was_lent.1 in
         let going : is_over after.tracks ≡ false = not_over after.tracks i u_low u_away in
-        let told : code_of (next_command (is_exit m.draft) after.tracks e.room (pipe_size c)) ≡ code_of MixWrite =
+        let told : code_of (next_command (commands_exit m.draft) after.tracks e.room (pipe_size c)) ≡ code_of MixWrite =
         λ j. code_of (by_facts (none j) (going j) (heard j)) in
         mix_by next.command (ap (λ (x : FastState). code_of x.command) (sym next_is) ∙ command_turned c k m e runs ∙ told)
       where
         by_facts : Bool → Bool → Bool → Command
         by_facts exits all heard = if exits || (all && (e.room == pipe_size c)) then Exit else if heard || not (e.room == pipe_size c) then MixWrite else ColdIdle
 
-        by_exit : (b : Bool) → is_exit m.draft ≡ b → b ≡ false
+        by_exit : (b : Bool) → commands_exit m.draft ≡ b → b ≡ false
         by_exit true exits = no (sym s_away ∙ (done_at m.tracks i low (over exits)).home)
         by_exit false exits = refl
 

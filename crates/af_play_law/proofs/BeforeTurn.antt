@@ -1,11 +1,11 @@
 -- What the clients' calls and the early entries of a round leave of a run: the command blocks as the calls left them, and what is known of the queue.
 use Rattle.std.proofs.Common.{◌≡◌, ℕ, zero, suc, ◌+◌, List, [], ◌∷◌, refl, ap, ◌∙◌}
-use Rattle.af_play_law.proofs.Common.{EntrySeen, NormalState, QueueKnown, Quiet, RoundSeen, Run, Session, TrackTold, commands_stay, each_from, is_look_at, known_same, list_any, mixed_track, no_track, ones_observed, quiet_then, slice_index_or, state_for, told_at, with_calls, with_cycle, with_cycles, with_mix, with_poll}
+use Rattle.af_play_law.proofs.Common.{EntrySeen, NormalState, QueueKnown, Quiet, RoundSeen, Run, Session, TrackTold, commands_stay, changed_from, is_look_at, known_same, list_any, mixed_track, no_track, ones_observed, quiet_then, slice_index_or, state_for, told_at, with_calls, with_cycle, with_cycles, with_mix, with_poll}
 
 -- ## The command blocks
 
 -- a change of each track that leaves the command blocks
-at_commands : (change : ℕ → TrackTold → TrackTold) → ((n : ℕ) (t : TrackTold) → (change n t).commands ≡ t.commands) → (ts : List TrackTold) (n i : ℕ) → (slice_index_or (each_from change n ts) i no_track).commands ≡ (slice_index_or ts i no_track).commands
+at_commands : (change : ℕ → TrackTold → TrackTold) → ((n : ℕ) (t : TrackTold) → (change n t).commands ≡ t.commands) → (ts : List TrackTold) (n i : ℕ) → (slice_index_or (changed_from change n ts) i no_track).commands ≡ (slice_index_or ts i no_track).commands
 at_commands change same [] n i = refl
 at_commands change same (t ∷ ts) n zero = same n t
 at_commands change same (t ∷ ts) n (suc i) = at_commands change same ts (n + 1) i

@@ -1,6 +1,6 @@
 -- After the turns of all clients the run with their calls tells the session: one client's turn after the other.
 use Rattle.std.proofs.Common.{◌≡◌, ℕ, suc, ◌+◌, ◌<◌, ◌==◌, Bool, if◌then◌else◌, List, [], ◌∷◌, ◌++◌, length, length-append, append_assoc, Some, slice_get, slice_set, refl, sym, ap, subst, ◌∙◌, arith}
-use Rattle.af_play_law.proofs.Common.{AllZip, ClientCall, ClientPlayed, ClientTurned, Deeds, LegalClientTurn, PartyState, RoundSeen, Run, Session, SessionState, Tells, TrackTold, after_calls, at_seam, called, calls_alone, calls_in, each_from, eq-eqb, file_at, given_of, ne_eqb, ops_at, track_of, with_calls}
+use Rattle.af_play_law.proofs.Common.{AllZip, ClientCall, ClientPlayed, ClientTurned, Deeds, LegalClientTurn, PartyState, RoundSeen, Run, Session, SessionState, Tells, TrackTold, after_calls, at_seam, called_in_turn, calls_alone, calls_in, changed_from, eq-eqb, file_at, given_of, ne_eqb, ops_at, track_of, with_calls}
 use Rattle.af_told_law.proofs.ClientTold.{client_told}
 
 -- ## Lists
@@ -15,26 +15,26 @@ set_seam (z ∷ front) x y rest = ap (λ l. z ∷ l) (set_seam front x y rest)
 module _ (round : RoundSeen) where
   -- the calls of the track of this number alone
   abbrev one_called : ℕ → ℕ → TrackTold → TrackTold
-  one_called k n t = if n == k then called (calls_in round k) t else t
+  one_called k n t = if n == k then called_in_turn (calls_in round k) t else t
 
   -- the calls of each track
   abbrev each_called : ℕ → TrackTold → TrackTold
-  each_called n t = called (calls_in round n) t
+  each_called n t = called_in_turn (calls_in round n) t
 
   -- the tracks behind that of this number stay
-  others_stay : (k m : ℕ) (ts : List TrackTold) → k < m → each_from (one_called k) m ts ≡ ts
+  others_stay : (k m : ℕ) (ts : List TrackTold) → k < m → changed_from (one_called k) m ts ≡ ts
   others_stay k m [] above = refl
   others_stay k m (t ∷ ts) above =
-      let here : one_called k m t ≡ t = ap (λ (b : Bool). if b then called (calls_in round k) t else t) (ne_eqb m k (λ e. omega (arith, above, e))) in
+      let here : one_called k m t ≡ t = ap (λ (b : Bool). if b then called_in_turn (calls_in round k) t else t) (ne_eqb m k (λ e. omega (arith, above, e))) in
       λ i. here i ∷ others_stay k (m + 1) ts (omega (arith, above)) i
 
   -- the calls of a track are made in its place
-  called_in_place : (k m : ℕ) (front : List TrackTold) (t : TrackTold) (ts : List TrackTold) → m + length front ≡ k → each_from (one_called k) m (front ++ t ∷ ts) ≡ front ++ each_called k t ∷ ts
+  called_in_place : (k m : ℕ) (front : List TrackTold) (t : TrackTold) (ts : List TrackTold) → m + length front ≡ k → changed_from (one_called k) m (front ++ t ∷ ts) ≡ front ++ each_called k t ∷ ts
   called_in_place k m [] t ts at =
-      let here : one_called k m t ≡ each_called k t = ap (λ (b : Bool). if b then called (calls_in round k) t else t) (eq-eqb m k (omega (arith, at))) in
+      let here : one_called k m t ≡ each_called k t = ap (λ (b : Bool). if b then called_in_turn (calls_in round k) t else t) (eq-eqb m k (omega (arith, at))) in
       λ i. here i ∷ others_stay k (m + 1) ts (omega (arith, at)) i
   called_in_place k m (a ∷ front) t ts at =
-      let here : one_called k m a ≡ a = ap (λ (b : Bool). if b then called (calls_in round k) a else a) (ne_eqb m k (λ e. omega (arith, at, e))) in
+      let here : one_called k m a ≡ a = ap (λ (b : Bool). if b then called_in_turn (calls_in round k) a else a) (ne_eqb m k (λ e. omega (arith, at, e))) in
       λ i. here i ∷ called_in_place k (m + 1) front t ts (omega (arith, at)) i
 
   -- the calls of so many clients from this number on, one client after the other
@@ -43,16 +43,16 @@ module _ (round : RoundSeen) where
   calls_from k (q ∷ qs) run = calls_from (k + 1) qs (calls_alone k round run)
 
   -- the calls from a number on are those of each track from there on
-  calls_are : (run : Run) (k : ℕ) (front ts : List TrackTold) (qs : List PartyState) → length front ≡ k → length qs ≡ length ts → calls_from k qs (record run { tracks = front ++ ts }) ≡ record run { tracks = front ++ each_from each_called k ts }
+  calls_are : (run : Run) (k : ℕ) (front ts : List TrackTold) (qs : List PartyState) → length front ≡ k → length qs ≡ length ts → calls_from k qs (record run { tracks = front ++ ts }) ≡ record run { tracks = front ++ changed_from each_called k ts }
   calls_are run k front [] [] at long = refl
   calls_are run k front [] (q ∷ qs) at long = absurd (omega (arith, long))
   calls_are run k front (t ∷ ts) [] at long = absurd (omega (arith, long))
   calls_are run k front (t ∷ ts) (q ∷ qs) at long =
-      let placed : each_from (one_called k) 0 (front ++ t ∷ ts) ≡ (front ++ each_called k t ∷ []) ++ ts = called_in_place k 0 front t ts (omega (arith, at)) ∙ sym (append_assoc front (each_called k t ∷ []) ts) in
+      let placed : changed_from (one_called k) 0 (front ++ t ∷ ts) ≡ (front ++ each_called k t ∷ []) ++ ts = called_in_place k 0 front t ts (omega (arith, at)) ∙ sym (append_assoc front (each_called k t ∷ []) ts) in
       let next : length (front ++ each_called k t ∷ []) ≡ k + 1 = (let n = length-append front (each_called k t ∷ []) in omega (arith, n, at)) in
       ap (λ (l : List TrackTold). calls_from (k + 1) qs (record run { tracks = l })) placed
       ∙ calls_are run (k + 1) (front ++ each_called k t ∷ []) ts qs next (omega (arith, long))
-      ∙ ap (λ (l : List TrackTold). record run { tracks = l }) (append_assoc front (each_called k t ∷ []) (each_from each_called (k + 1) ts))
+      ∙ ap (λ (l : List TrackTold). record run { tracks = l }) (append_assoc front (each_called k t ∷ []) (changed_from each_called (k + 1) ts))
 
   -- the calls of all clients
   all_calls : (run : Run) (qs : List PartyState) → length qs ≡ length run.tracks → calls_from 0 qs run ≡ with_calls round run

@@ -31,12 +31,12 @@ pub use Rattle.af_judge.proofs.StatesRuns.{after_same, before_same}
 pub use Rattle.af_judge.specs.StatesKept.{Carried, CarriesBy, IsLent}
 pub use Rattle.af_latest.specs.Laws.{last_of, stores}
 pub use Rattle.af_life.proofs.Lives.{acked_len, not_yet, turn_len}
-pub use Rattle.af_life.specs.Edits.{after_ack, is_exit}
+pub use Rattle.af_life.specs.Edits.{after_ack, commands_exit}
 unfoldable pub use Rattle.af_life.specs.Edits.{next_command}
 pub use Rattle.af_life.specs.Heard.{learnt}
 pub use Rattle.af_life.specs.Kept.{Learnt, NormalKept, Outside, Setup, is_home, is_lent, number_of, pipe_size, plays, slot_number, track_at}
 pub use Rattle.af_life.specs.Turn.{after_edits, turn_after}
-pub use Rattle.af_life.specs.TurnEvents.{front_by_room, going, hand_list, mutator_list, number_seen, push_list, stream_list, tracks_at}
+pub use Rattle.af_life.specs.TurnEvents.{front_by_room, going, hand_events_of, mutator_list, number_seen, push_list, stream_list, tracks_at}
 pub use Rattle.af_life.specs.declared.kept.Setting.{Setting}
 pub use Rattle.af_life.specs.declared.kept.TrackKept.{TrackKept}
 pub use Rattle.af_link.specs.PipeEnds.{OutSide, SeesTaken}
@@ -50,10 +50,10 @@ pub use Rattle.af_model.specs.Cycles.{Mixes, cold_done, cycle_by, cycle_of, has_
 pub use Rattle.af_model.specs.History.{is_lawful}
 pub use Rattle.af_model.specs.Journals.{EntrySeen, RoundSeen, entries_seen}
 unfoldable pub use Rattle.af_model.specs.Journals.{taken_by}
-pub use Rattle.af_model.specs.Order.{Event, Legal, after, one, ones, two, twos}
+pub use Rattle.af_model.specs.Order.{Event, Legal, point_after, one, ones, two, twos}
 pub use Rattle.af_model.specs.PipeHistory.{HasPipeHistory, PipePoint, releases_of, room_by}
 pub use Rattle.af_model.specs.Reports.{ServerKnown, counted_look, no_report, no_slot, report_at}
-pub use Rattle.af_model.specs.StateQueue.{AreOf, HasHistory, MutatorPoint, ObserverPoint, QueuePoint, carries, legal, mutated, mutator_next, mutator_start, next, observed, observer_next, observer_start, slot_of, start}
+pub use Rattle.af_model.specs.StateQueue.{AreOf, HasStateHistory, MutatorPoint, ObserverPoint, QueuePoint, carries, legal, mutated, mutator_next, mutator_start, next, observed, observer_next, observer_start, slot_of, start_of_queue}
 pub use Rattle.af_model.specs.declared.newest.ReaderEvent.{ReaderEvent}
 pub use Rattle.af_model.specs.declared.newest.ReaderEvent.TheVariants.{Load}
 pub use Rattle.af_model.specs.declared.newest.WriterEvent.{WriterEvent}
@@ -81,7 +81,7 @@ pub use Rattle.af_runs.specs.Clients.{ends}
 pub use Rattle.af_runs.specs.Found.{LegalTurnBy, TurnFound, outside_of}
 pub use Rattle.af_runs.specs.LegalRuns.{LegalRounds, marks_of, run_from, session_of}
 pub use Rattle.af_runs.specs.Rounds.{AreLegalTurns, AreMixedBut, IsFastTurn, LegalEntries, LegalEntry, LegalFastTurn, LegalNormalTurn, MayFollow, after_round, after_turn, all_played, before_turn, early_count, early_of, fills, found_in, is_early, late_of, loaded, met_after, turned}
-pub use Rattle.af_runs.specs.Runs.{Run, TrackTold, all_ended, called, calls_in, each_from, each_track, fast_ended, fast_party, has_ended, holds, known_of, last_report, load_of, mixed_track, new_run, next_report, next_slot, no_track, pipe_cells, played, report_of, sides_of, slot_for, state_for, stream_met, stream_of, takes_part, told_at, turned_track, with_cycle, with_cycles, with_looks}
+pub use Rattle.af_runs.specs.Runs.{Run, TrackTold, all_ended, called_in_turn, calls_in, changed_from, each_track, fast_ended, fast_party, has_ended, observer_holds, known_of, last_report, load_of, mixed_track, new_run, next_report, next_slot, no_track, pipe_cells, played, report_of, sides_of, slot_playing, state_for, stream_met, stream_of, takes_part, told_at, turned_track, with_cycle, with_cycles, with_looks}
 unfoldable pub use Rattle.af_runs.specs.Runs.{met, with_calls, with_ends, with_load, with_mix, with_poll, with_turn}
 pub use Rattle.af_runs.specs.Sessions.{Session, cycle_frames, script_setup, setup_of, track_count}
 pub use Rattle.af_runs.specs.Told.{ReportTold, is_look_at, is_pushed, report_met, state_at}

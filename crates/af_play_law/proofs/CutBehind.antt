@@ -1,6 +1,6 @@
 -- The order of the queue cut behind a push: what the observer did before it could see the pushed state stands before the push, or it is what it learnt, which may as well stand at the end.
 use Rattle.std.proofs.Common.{◌≡◌, ◌≢◌, ⊎_elim, inl, inr, ℕ, ◌+◌, ◌<◌, ◌≤◌, List, [], ◌∷◌, ◌++◌, length, length-append, append-nil, append_assoc, fold, get_or, refl, sym, ap, subst, ◌∙◌, arith}
-use Rattle.af_play_law.proofs.Common.{Ack, Event, FastState, HasHistory, IsSane, Legal, MutatorPoint, ObserverEvent, ObserverPoint, Push, SawAck, SawNext, ServerState, add_one, after, cases_eq, fold-append, history_sane, legal, legal_at, mutated, mutator_next, mutator_start, next, observed, observer_next, observer_start, one, ones, ones_swap, point_of, split_at, start, swap, swap_order, two, twos, twos_swap}
+use Rattle.af_play_law.proofs.Common.{Ack, Event, FastState, HasStateHistory, IsSane, Legal, MutatorPoint, ObserverEvent, ObserverPoint, Push, SawAck, SawNext, ServerState, add_one, point_after, cases_eq, fold-append, history_sane, legal, legal_at, mutated, mutator_next, mutator_start, next, observed, observer_next, observer_start, one, ones, ones_swap, point_of, split_at, start_of_queue, swap, swap_order, two, twos, twos_swap}
 use Rattle.af_model.specs.declared.states.MutatorEvent.TheVariants as mutator
 use Rattle.af_model.specs.declared.states.ObserverEvent.TheVariants as observer
 use Rattle.af_told_law.proofs.SharedMeets.{twos_append}
@@ -67,9 +67,9 @@ within_in p (two (observer.Learn c) ∷ es) n count l few short =
     ((let is = l.0.0 in omega (arith, is, short)), within_in (next p (two (observer.Learn c))) es n count l.1 few short)
 
 -- in a history the looks and the meetings are within the mutator's list
-pub within : (first : FastState) (ms : Pushed) (os : Polled) → HasHistory first ms os → Within (mutated first ms).pushed (length ms) os
+pub within : (first : FastState) (ms : Pushed) (os : Polled) → HasStateHistory first ms os → Within (mutated first ms).pushed (length ms) os
 within first ms os h = subst (λ (w : Pushed × Polled). Within (mutated first w.0).pushed (length w.0) w.1) (λ j. (h.of_one j, h.of_two j))
-    (within_in (start first) h.order (mutated first (ones h.order)).pushed (length (ones h.order)) h.is_legal (omega arith) (omega arith))
+    (within_in (start_of_queue first) h.order (mutated first (ones h.order)).pushed (length (ones h.order)) h.is_legal (omega arith) (omega arith))
 
 -- ## Behind a push
 
@@ -99,15 +99,15 @@ only_learns p (two (observer.Learn c) ∷ es) (b ∷ w) rest n count l is sees m
     subst (λ (d : ObserverEvent ServerState). Learns count (d ∷ w)) same (s.0, rest_learns)
 
 -- what was learnt of no more than all events of the mutator may be learnt at the end
-learns_on : (first : FastState) (ms : Pushed) (os w : Polled) → HasHistory first ms os → (observed os).due ≡ 0 → Learns (length ms) w → HasHistory first ms (os ++ w)
-learns_on first ms os [] h owes l = subst (HasHistory first ms) (sym (append-nil os)) h
+learns_on : (first : FastState) (ms : Pushed) (os w : Polled) → HasStateHistory first ms os → (observed os).due ≡ 0 → Learns (length ms) w → HasStateHistory first ms (os ++ w)
+learns_on first ms os [] h owes l = subst (HasStateHistory first ms) (sym (append-nil os)) h
 learns_on first ms os (SawNext k x items ∷ w) h owes l = absurd l
 learns_on first ms os (Ack k items ∷ w) h owes l = absurd l
 learns_on first ms os (observer.Learn c ∷ w) h owes l =
     let many = count_of (mutator_start first) ms in
     let low : c ≤ (mutated first ms).count = (let a = l.0 in omega (arith, a, many)) in
     let settled : (observed (os ++ observer.Learn c ∷ [])).due ≡ 0 = ap (λ (o : ObserverPoint ServerState). o.due) (fold-append observer_next observer_start os (observer.Learn c ∷ [])) in
-    subst (HasHistory first ms) (append_assoc os (observer.Learn c ∷ []) w)
+    subst (HasStateHistory first ms) (append_assoc os (observer.Learn c ∷ []) w)
     (learns_on first ms (os ++ observer.Learn c ∷ []) w (one_on first ms os (observer.Learn c) h (low, owes)) settled l.1)
 
 -- an observer owes nothing if the mutator may push
@@ -120,7 +120,7 @@ none_owed p k y sent sane l = ⊎_elim
 -- ## The cut
 
 module _ (first : FastState) (ms looks : Pushed) (k : ℕ) (y : FastState) (sent : Items) (behind : Pushed) (es ls : Polled)
-    (whole : HasHistory first (((ms ++ looks) ++ Push k y sent ∷ []) ++ behind) (es ++ ls)) (before : HasHistory first ms es) (late : ComesBehind (length (ms ++ looks)) k ls) where
+    (whole : HasStateHistory first (((ms ++ looks) ++ Push k y sent ∷ []) ++ behind) (es ++ ls)) (before : HasStateHistory first ms es) (late : ComesBehind (length (ms ++ looks)) k ls) where
   abbrev xs : Pushed
   xs = ms ++ looks
 
@@ -132,12 +132,12 @@ module _ (first : FastState) (ms looks : Pushed) (k : ℕ) (y : FastState) (sent
   front = twos cut.before
 
   abbrev p : Point
-  p = after legal next (start first) cut.before
+  p = point_after legal next (start_of_queue first) cut.before
 
-  l : Legal legal next (start first) cut.before × legal p (one (Push k y sent)) × Legal legal next (next p (one (Push k y sent))) cut.behind
-  l = legal_at legal next (start first) cut.before (one (Push k y sent)) cut.behind (subst (Legal legal next (start first)) cut.whole whole.is_legal)
+  l : Legal legal next (start_of_queue first) cut.before × legal p (one (Push k y sent)) × Legal legal next (next p (one (Push k y sent))) cut.behind
+  l = legal_at legal next (start_of_queue first) cut.before (one (Push k y sent)) cut.behind (subst (Legal legal next (start_of_queue first)) cut.whole whole.is_legal)
 
-  abbrev until : HasHistory first xs front
+  abbrev until : HasStateHistory first xs front
   until = record { order = cut.before; is_legal = l.0; of_one = cut.first; of_two = refl }
 
   p_is : p ≡ point_of first xs front
@@ -149,8 +149,8 @@ module _ (first : FastState) (ms looks : Pushed) (k : ℕ) (y : FastState) (sent
   owes : p.observer.due ≡ 0
   owes = ap (λ (q : Point). q.observer.due) p_is ∙ none_owed (point_of first xs front) k y sent (history_sane first xs front until) may
 
-  pushed : HasHistory first (xs ++ Push k y sent ∷ []) front
-  pushed = add_one legal next (start first) xs front (Push k y sent) until l.1
+  pushed : HasStateHistory first (xs ++ Push k y sent ∷ []) front
+  pushed = add_one legal next (start_of_queue first) xs front (Push k y sent) until l.1
 
   parts : es ++ ls ≡ front ++ twos cut.behind
   parts = sym whole.of_two ∙ ap twos cut.whole ∙ twos_append cut.before (one (Push k y sent) ∷ cut.behind)
@@ -167,7 +167,7 @@ module _ (first : FastState) (ms looks : Pushed) (k : ℕ) (y : FastState) (sent
   not_before : (w : Polled) → front ≡ es ++ w → ls ≡ w ++ twos cut.behind → w ≡ []
   not_before [] is rest = refl
   not_before (b ∷ w) is rest =
-      let at = looks_at first xs es b w (subst (HasHistory first xs) is until) in
+      let at = looks_at first xs es b w (subst (HasStateHistory first xs) is until) in
       absurd (by_event b at.front at.back at.parts at.may (subst (ComesBehind (length xs) k) rest late))
     where
       by_event : (b : ObserverEvent ServerState) (f g : Pushed) → xs ≡ f ++ g → legal (point_of first f es) (two b) → ComesBehind (length xs) k (b ∷ (w ++ twos cut.behind)) → ⊥
@@ -178,13 +178,13 @@ module _ (first : FastState) (ms looks : Pushed) (k : ℕ) (y : FastState) (sent
           omega (arith, few, many, long, sum, late)
 
   -- what else was done by then is learnt at the end
-  learnt_at_end : (w : Polled) → es ≡ front ++ w → twos cut.behind ≡ w ++ ls → HasHistory first (xs ++ Push k y sent ∷ []) es
+  learnt_at_end : (w : Polled) → es ≡ front ++ w → twos cut.behind ≡ w ++ ls → HasStateHistory first (xs ++ Push k y sent ∷ []) es
   learnt_at_end w is rest =
       let sees : Within (mutated first ms).pushed (length ms) w = within_back (mutated first ms).pushed (length ms) front w (subst (Within (mutated first ms).pushed (length ms)) is (within first ms es before)) in
       let more : (mutated first ms).pushed < k = earlier ms looks refl in
       let learns : Learns (length ms) w = only_learns (next p (one (Push k y sent))) cut.behind w ls (mutated first ms).pushed (length ms) l.2 rest sees more owes in
       let long = length-append ms looks in let longer = length-append xs (Push k y sent ∷ []) in
-      subst (HasHistory first (xs ++ Push k y sent ∷ [])) (sym is)
+      subst (HasStateHistory first (xs ++ Push k y sent ∷ [])) (sym is)
       (learns_on first (xs ++ Push k y sent ∷ []) front w pushed (ap (λ (q : Point). q.observer.due) (sym p_is) ∙ owes) (more_count (length ms) (length (xs ++ Push k y sent ∷ [])) w (omega (arith, long, longer)) learns))
     where
       more_count : (m n : ℕ) (w : Polled) → m ≤ n → Learns m w → Learns n w
@@ -193,9 +193,9 @@ module _ (first : FastState) (ms looks : Pushed) (k : ℕ) (y : FastState) (sent
       more_count m n (Ack k items ∷ w) low l = absurd l
       more_count m n (observer.Learn c ∷ w) low l = ((let a = l.0 in omega (arith, a, low)), more_count m n w low l.1)
 
-  pub cut_behind : HasHistory first (xs ++ Push k y sent ∷ []) es
-  cut_behind = elim (either_cuts es ls front (twos cut.behind) parts) as (λ _. HasHistory first (xs ++ Push k y sent ∷ []) es) [
-    | inl c ↦ subst (HasHistory first (xs ++ Push k y sent ∷ [])) (c.longer ∙ ap (λ (w : Polled). es ++ w) (not_before c.between c.longer c.rest) ∙ append-nil es) pushed
+  pub cut_behind : HasStateHistory first (xs ++ Push k y sent ∷ []) es
+  cut_behind = elim (either_cuts es ls front (twos cut.behind) parts) as (λ _. HasStateHistory first (xs ++ Push k y sent ∷ []) es) [
+    | inl c ↦ subst (HasStateHistory first (xs ++ Push k y sent ∷ [])) (c.longer ∙ ap (λ (w : Polled). es ++ w) (not_before c.between c.longer c.rest) ∙ append-nil es) pushed
     | inr c ↦ learnt_at_end c.between c.longer c.rest
   ]
 

@@ -1,6 +1,6 @@
 -- The cycles of a turn whose polls all find the last state pushed are told, one after the other.
 use Rattle.std.proofs.Common.{◌≡◌, ℕ, ◌<◌, ◌≤◌, List, [], ◌∷◌, length, append-nil, Some, sym, ap, subst, ◌∙◌, arith}
-use Rattle.af_play_law.proofs.Common.{AreTogether, Deeds, EntrySeen, GoOn, HasHistory, LegalEntries, Links, Made, Marks, MixerState, NormalState, Observes, PartyState, Polls, Run, SawOwnBy, SawOwnOf, ServerEvent, ServerState, Session, SessionState, Shape, StartsWith, StreamNames, Tells, Track, client_made, same_Some, slice_get, some_at, told_at, track_count, with_cycle, with_cycles, with_poll}
+use Rattle.af_play_law.proofs.Common.{AreTogether, Deeds, EntrySeen, GoOn, HasStateHistory, LegalEntries, Links, Made, Marks, MixerState, NormalState, Observes, PartyState, Polls, Run, SawOwnBy, SawOwnOf, ServerEvent, ServerState, Session, SessionState, Shape, StartsWith, StreamNames, Tells, Track, client_made, same_Some, slice_get, some_at, told_at, track_count, with_cycle, with_cycles, with_poll}
 use Rattle.af_cblk.proofs.Basics.{goes_on}
 use Rattle.af_model.specs.ServerCalls.{server_begins}
 use Rattle.af_told_law.proofs.MixLooks.{own_split}
@@ -95,10 +95,10 @@ module _ (links : Links) where
   same_past f e g one = ap (λ (o : Observes ServerState StreamNames). o.past) one.adds.takes.observer
 
   -- the history goes on by the polls of these cycles
-  pub history_after : (n : NormalState) (es : List EntrySeen) (f g : MixerState) (c : CyclesAre links es f g) → AllShown n es f g c → HasHistory n.mutator.past.first n.mutator.past.events f.observer.past.events → HasHistory n.mutator.past.first n.mutator.past.events g.observer.past.events
-  history_after n [] f g c shown h = subst (λ (m : MixerState). HasHistory n.mutator.past.first n.mutator.past.events m.observer.past.events) (sym c) h
+  pub history_after : (n : NormalState) (es : List EntrySeen) (f g : MixerState) (c : CyclesAre links es f g) → AllShown n es f g c → HasStateHistory n.mutator.past.first n.mutator.past.events f.observer.past.events → HasStateHistory n.mutator.past.first n.mutator.past.events g.observer.past.events
+  history_after n [] f g c shown h = subst (λ (m : MixerState). HasStateHistory n.mutator.past.first n.mutator.past.events m.observer.past.events) (sym c) h
   history_after n (e ∷ es) f g (next, one, c) (now, later) h =
-      history_after n es next g c later (subst (λ (w : Polls ServerState StreamNames). HasHistory n.mutator.past.first n.mutator.past.events w.events) (sym (same_past f e next one)) now.history)
+      history_after n es next g c later (subst (λ (w : Polls ServerState StreamNames). HasStateHistory n.mutator.past.first n.mutator.past.events w.events) (sym (same_past f e next one)) now.history)
 
   -- the mixer has polled no more states than were pushed, and if it has polled as many, it has the last of them
   abbrev pub Reaches : NormalState → MixerState → Type 0

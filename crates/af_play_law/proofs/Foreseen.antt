@@ -1,6 +1,6 @@
 -- Of the proxies that aren't home the report which the normal mixer loads in a round of all parties says what the run foresees by the draft before the turn.
 use Rattle.std.proofs.Common.{◌≡◌, ◌⊎◌, ⊎_elim, ℕ, suc, ◌+◌, ◌<◌, ◌≤◌, ◌||◌, ◌&&◌, Bool, true, false, true≢false, if◌then◌else◌, All, List, [], ◌∷◌, ◌++◌, length, length-append, drop, Some, refl, sym, ap, subst, ◌∙◌, arith}
-use Rattle.af_play_law.proofs.Common.{AllByRecursion, Carried, CycleEntry, CyclesOn, Deeds, EntrySeen, FirstLate, HasHistory, HeardAlike, IsDone, IsLegal, LegalTurnBy, Links, Load, Marks, MatchBool, MixerState, NormalKept, NormalState, Outside, ReaderEvent, Report, RoundSeen, Run, SawOwnBy, Session, SessionState, Setting, Setup, TrackKept, Turn, TurnFound, TurnMade, TurnPlayed, TurnShown, WriterEvent, acked_len, after_ack, answer_of, before_same, before_turn, beyond_is, calls-entries, early_count, early_of, found_in, is_early, is_exit, is_home, kept_of, late_of, load_of, max, most_cycles, prefix_len, report_at, report_of, reports_stored, setup_of, slot_number, stores, take-append-drop, track_at, turn_of, with_calls, with_cycles, with_turn}
+use Rattle.af_play_law.proofs.Common.{AllByRecursion, Carried, CycleEntry, CyclesOn, Deeds, EntrySeen, FirstLate, HasStateHistory, HeardAlike, IsDone, IsLegal, LegalTurnBy, Links, Load, Marks, MatchBool, MixerState, NormalKept, NormalState, Outside, ReaderEvent, Report, RoundSeen, Run, SawOwnBy, Session, SessionState, Setting, Setup, TrackKept, Turn, TurnFound, TurnMade, TurnPlayed, TurnShown, WriterEvent, acked_len, after_ack, answer_of, before_same, before_turn, beyond_is, calls-entries, early_count, early_of, found_in, is_early, commands_exit, is_home, kept_of, late_of, load_of, max, most_cycles, prefix_len, report_at, report_of, reports_stored, setup_of, slot_number, stores, take-append-drop, track_at, turn_of, with_calls, with_cycles, with_turn}
 use Rattle.std.proofs.lemmas.Grind.{fold-append}
 use Rattle.af_normal.specs.State.{setup_of as mixer_setup}
 use Rattle.af_rendering.specs.Leads.{Tells as TellsPushes}
@@ -65,7 +65,7 @@ module _ (links : Links) (s : Session) (run : Run) (d : Deeds) (x u z : SessionS
   shown_by : TellsPushes n.mutator.past → AllShown links (record n { reader = x.normal.reader }) (late_of run round) f last (parts links s run d x u z bytes round stands w).back
   shown_by tells = ⊎_elim
       (λ (none : late_of run round ≡ []). none_shown (record n { reader = x.normal.reader }) (late_of run round) f last (parts links s run d x u z bytes round stands w).back none)
-      (λ (h : HasHistory x.normal.mutator.past.first n.mutator.past.events f.observer.past.events).
+      (λ (h : HasStateHistory x.normal.mutator.past.first n.mutator.past.events f.observer.past.events).
       late_shown links x u z w.meets.ends stands.stands (first_is links s run d x u z bytes round stands w) (grows_is links s run d x u z bytes round stands w) x.normal.reader tells
       (late_of run round) f last (parts links s run d x u z bytes round stands w).back
       (order_half links s run d x u z bytes round stands w) (grown_half links s run d x u z bytes round stands w) (grown_end links s run d x u z bytes round stands w) h
@@ -228,7 +228,7 @@ module _ (links : Links) (s : Session) (run : Run) (d : Deeds) (x u z : SessionS
     slots_heard i low away =
         ap (λ (ts : List TrackKept). report_at (report_of stored.reports number).slots (slot_number (track_at ts i))) (sym same_tracks)
         ∙ slot_foretold s scales no_marks before own e (late_of run round) few_settings many_tracks goes (subst Carried (sym same_normal) carried)
-        (λ exits. subst (λ (m : NormalKept). AllByRecursion IsDone m.tracks) (sym (same_normal ∙ sym kept)) (stands.stands.quiet.over (ap (λ (m : NormalKept). is_exit m.draft) (sym (same_normal ∙ sym kept)) ∙ exits)))
+        (λ exits. subst (λ (m : NormalKept). AllByRecursion IsDone m.tracks) (sym (same_normal ∙ sym kept)) (stands.stands.quiet.over (ap (λ (m : NormalKept). commands_exit m.draft) (sym (same_normal ∙ sym kept)) ∙ exits)))
         by told_early.may.told.fast.fresh far (late_told.legal no_marks (none_asked stored late_told.deeds))
         i (let l = long_tracks in omega (arith, low, l)) (ap (λ (ts : List TrackKept). is_home (track_at ts i).holder) same_tracks ∙ away) number
         ∙ ap (λ (ts : List TrackKept). report_at (report_of foreseen.reports number).slots (slot_number (track_at ts i))) same_tracks
@@ -244,5 +244,5 @@ module _ (links : Links) (s : Session) (run : Run) (d : Deeds) (x u z : SessionS
   hears_foreseen carried o legal goes = by_end x.normal.ended refl w.plays.normal
     where
       by_end : (b : Bool) → x.normal.ended ≡ b → MatchBool b (n ≡ x.normal) (TurnPlayed x.normal n) → HeardAlike (after_ack (turn_of n.entry).ack (kept_of x.normal)).tracks o.report (found_in s run round (turn_of n.entry)).report
-      by_end true over still = absurd (true≢false (sym (legal.legal.ends ∙ (λ j. over j || (is_exit (kept_of x.normal).last && (turn_of n.entry).ack))) ∙ goes))
+      by_end true over still = absurd (true≢false (sym (legal.legal.ends ∙ (λ j. over j || (commands_exit (kept_of x.normal).last && (turn_of n.entry).ack))) ∙ goes))
       by_end false lives played = heard carried lives o legal played.2 goes

@@ -1,6 +1,6 @@
 -- What the entries of a state that a turn pushes tell of a track whose proxy is away: the same by the draft before the turn as by that state itself.
 use Rattle.std.proofs.Common.{◌≡◌, ◌⊎◌, inl, inr, ℕ, zero, suc, ◌+◌, ◌-◌, ◌<◌, ◌≤◌, ◌==◌, ◌&&◌, ◌||◌, if◌then◌else◌, fold, is_some, map, Bool, true, false, Option, None, Some, List, [], ◌∷◌, ◌++◌, length, length-append, refl, sym, ap, ◌∙◌, arith}
-use Rattle.af_play_law.proofs.Common.{CycleEntry, EntrySeen, FastState, FirstLate, LegalEntries, LegalEntry, Marks, NormalKept, Report, Run, Seen, ServerKnown, Session, TrackTold, carried_some, carries, cases_lt, cold_done, counted_look, cycle_entries, cycle_frames, cycle_of, entry_slot, is_mixed, known_of, last_report, last_used, last_used-push, listed, map-append, mixed_track, next_report, next_slot, no, no_report, no_slot, played, report_at, report_of, shown_carried, shown_if, slice_index_or, slot_for, slot_of, slots, state_at, state_for, state_of, stream_of, told_at, told_each, unwrap_or, with_cycle, with_cycles, with_looks, with_mix, with_poll}
+use Rattle.af_play_law.proofs.Common.{CycleEntry, EntrySeen, FastState, FirstLate, LegalEntries, LegalEntry, Marks, NormalKept, Report, Run, Seen, ServerKnown, Session, TrackTold, carried_some, carries, cases_lt, cold_done, counted_look, cycle_entries, cycle_frames, cycle_of, entry_slot, is_mixed, known_of, last_report, last_used, last_used-push, listed, map-append, mixed_track, next_report, next_slot, no, no_report, no_slot, played, report_at, report_of, shown_carried, shown_if, slice_index_or, slot_playing, slot_of, slots, state_at, state_for, state_of, stream_of, told_at, told_each, unwrap_or, with_cycle, with_cycles, with_looks, with_mix, with_poll}
 use Rattle.std.proofs.lemmas.List.FromFn.{get_or-map-range_with_len}
 use Rattle.af_base.specs.declared.report.SlotReport.{SlotReport}
 use Rattle.af_base.specs.declared.state.FastTrack.{FastTrack}
@@ -161,10 +161,10 @@ module _ (s : Session) (marks : Marks) (xs : List FastState) (x y : FastState) (
           track = ap (λ (n : ℕ). (slot_of x n).track) is ∙ stays.track;
         }
 
-    same_slot : slot_for x e.entry i ≡ slot_for y e.entry i
-    same_slot = by (slot_for x e.entry i) (slot_for y e.entry i) refl refl
+    same_slot : slot_playing x e.entry i ≡ slot_playing y e.entry i
+    same_slot = by (slot_playing x e.entry i) (slot_playing y e.entry i) refl refl
       where
-        by : (o r : Option ℕ) → slot_for x e.entry i ≡ o → slot_for y e.entry i ≡ r → o ≡ r
+        by : (o r : Option ℕ) → slot_playing x e.entry i ≡ o → slot_playing y e.entry i ≡ r → o ≡ r
         by None None f g = refl
         by None (Some j) f g = absurd (plays_none x e i j f (plays_before j (plays_at y e i j g)))
         by (Some j) None f g = absurd (plays_none y e i j g (also_plays j (plays_at x e i j f)))
@@ -184,7 +184,7 @@ module _ (s : Session) (marks : Marks) (xs : List FastState) (x y : FastState) (
     server_next =
         ap (λ (t : TrackTold). listed t.stream) (track_mixed s e slot stays.low.1 p i h.there ∙ ap (λ (z : FastState). mixed_track s z e i (told_at p i)) first_state)
         ∙ ap (λ (o : Option ℕ). listed (mixed_by o (told_at p i)).stream) same_slot
-        ∙ server_by (slot_for y e.entry i) (told_at p i) (told_at q i) h.server
+        ∙ server_by (slot_playing y e.entry i) (told_at p i) (told_at q i) h.server
         ∙ ap (λ (t : TrackTold). listed t.stream) (sym (track_mixed s e slot stays.low.1 q i h.also ∙ ap (λ (z : FastState). mixed_track s z e i (told_at q i)) second_state))
 
     -- ### The report

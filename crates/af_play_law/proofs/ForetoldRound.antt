@@ -1,6 +1,6 @@
 -- The reports of a round by the draft before the turn tell what they tell by the state that the turn pushes, of each track whose proxy isn't home.
 use Rattle.std.proofs.Common.{◌≡◌, ℕ, ◌<◌, ◌≤◌, if◌then◌else◌, map, Bool, true, false, All, List, [], ◌∷◌, ◌++◌, length, refl, sym, ap, ◌∙◌, append-nil, arith}
-use Rattle.af_play_law.proofs.Common.{AllByRecursion, Carried, EntrySeen, FastState, FirstLate, IsDone, Learnt, LegalEntries, LegalTurnBy, Marks, Outside, Report, Run, ServerEvent, Session, Setting, Setup, TrackKept, TrackTold, Turn, TurnFound, after_ack, after_edits, each_at, each_long, hand_does, hand_list, is_exit, is_home, is_pushed, last_report, last_used, learnt, listed, no_slot, no_track, not_yet, outside_of, report_at, report_of, server_list, setup_of, slot_number, slots, stream_list, told_at, track_at, tracks_at, turned_track, with_cycles, with_poll, with_turn}
+use Rattle.af_play_law.proofs.Common.{AllByRecursion, Carried, EntrySeen, FastState, FirstLate, IsDone, Learnt, LegalEntries, LegalTurnBy, Marks, Outside, Report, Run, ServerEvent, Session, Setting, Setup, TrackKept, TrackTold, Turn, TurnFound, after_ack, after_edits, each_at, each_long, hand_does, hand_events_of, commands_exit, is_home, is_pushed, last_report, last_used, learnt, listed, no_slot, no_track, not_yet, outside_of, report_at, report_of, server_list, setup_of, slot_number, slots, stream_list, told_at, track_at, tracks_at, turned_track, with_cycles, with_poll, with_turn}
 use Rattle.af_audit.proofs.Quiet.{stream_quiet}
 use Rattle.af_audit.proofs.TrackStands.{hand-server, server-server}
 use Rattle.af_play_law.specs.AwaySlots.{SlotStaysAway}
@@ -48,7 +48,7 @@ module _ (s : Session) (scales : All (λ (t : Setting). t.scale ≤ 4096) (setup
   poll_states r n = refl
 
   module _ (few : length run.normal.tracks ≤ length (setup_of s).settings) (many : length run.normal.tracks ≤ length run.tracks) (runs : e.ended ≡ false) (carried : Carried run.normal)
-      (over : is_exit run.normal.draft ≡ true → AllByRecursion IsDone run.normal.tracks) (by : LegalTurnBy (setup_of s) marks f run.normal e)
+      (over : commands_exit run.normal.draft ≡ true → AllByRecursion IsDone run.normal.tracks) (by : LegalTurnBy (setup_of s) marks f run.normal e)
       (fresh : last_used run.entries ≡ 0 → (j : ℕ) → j < slots → report_at (last_report run.reports).slots j ≡ no_slot)
       (far : FirstLate (length run.states) es) (legal : LegalEntries s marks (with_turn s f e run) es) where
     abbrev tracks : List TrackKept
@@ -75,7 +75,7 @@ module _ (s : Session) (scales : All (λ (t : Setting). t.scale ≤ 4096) (setup
           let events : List ServerEvent = stream_list c o e (tracks_at c k run.normal e i) i in
           let at : told_at turned i ≡ turned_track c o run.normal e i t = each_at (turned_track c o run.normal e) 0 run.tracks i i no_track there (omega arith) in
           sym (ap (λ (u : TrackTold). listed u.stream) at
-          ∙ ap (λ (l : List ServerEvent). record { shape = t.stream.shape; events = l }) (server-server (hand_does (hand_list e i) t.stream).told events ∙ ap (λ (l : List ServerEvent). l ++ events) (hand-server t.stream.told (hand_list e i)) ∙ ap (λ (l : List ServerEvent). server_list t.stream ++ l) quiet ∙ append-nil (server_list t.stream)))
+          ∙ ap (λ (l : List ServerEvent). record { shape = t.stream.shape; events = l }) (server-server (hand_does (hand_events_of e i) t.stream).told events ∙ ap (λ (l : List ServerEvent). l ++ events) (hand-server t.stream.told (hand_events_of e i)) ∙ ap (λ (l : List ServerEvent). server_list t.stream ++ l) quiet ∙ append-nil (server_list t.stream)))
 
       begins : is_pushed e.push ≡ true → Alike run.states run.normal.draft next i slot run turned
       begins pushed = record {

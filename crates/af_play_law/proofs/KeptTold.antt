@@ -1,6 +1,6 @@
 -- The ends of a play keep the lists of the run that its rounds tell: each proxy that is home at the end met its client in the last round.
 use Rattle.std.proofs.Common.{◌≡◌, ℕ, ◌<◌, true, false, is_some, List, [], ◌∷◌, length, Some, sym, ap, subst, ◌∙◌, arith}
-use Rattle.af_play_law.proofs.Common.{Deeds, Links, Marks, NormalKept, NormalState, RoundSeen, Run, SawOwnOf, ServerState, Session, SessionState, Shape, Tells, TrackKept, TrackTold, after_round, all_played, ends_keep, holds, is_home, is_tame, marks_of, met, met_at, met_many, new_run, no_deeds, or_left, run_from, session_of, stream_at, takes_part, tame_met, told_at, track_at, track_count, with_ends as run_ends}
+use Rattle.af_play_law.proofs.Common.{Deeds, Links, Marks, NormalKept, NormalState, RoundSeen, Run, SawOwnOf, ServerState, Session, SessionState, Shape, Tells, TrackKept, TrackTold, after_round, all_played, ends_keep, observer_holds, is_home, is_tame, marks_of, met, met_at, met_many, new_run, no_deeds, or_left, run_from, session_of, stream_at, takes_part, tame_met, told_at, track_at, track_count, with_ends as run_ends}
 use Rattle.af_session.specs.Ends.{ends_from}
 use Rattle.af_session.specs.Rounds.{with_ends}
 use Rattle.af_told_law.specs.KeptEnds.{KeepsLists, SawAtHome}
@@ -62,7 +62,7 @@ module _ (links : Links) (s : Session) (run : Run) (d : Deeds) (x u z : SessionS
       let kept : is_home (track_at z.normal.tracks i).holder ≡ is_home (track_at played.normal.tracks i).holder =
       ap (λ (n : NormalState). is_home (track_at n.tracks i).holder) (sym (ends_keep z).normal)
       ∙ ap (λ (m : NormalKept). is_home (track_at m.tracks i).holder) (told_after.normal.kept ∙ after_normal s run round) in
-      or_left (is_home (track_at played.normal.tracks i).holder) (holds s played i) (sym kept ∙ home)
+      or_left (is_home (track_at played.normal.tracks i).holder) (observer_holds s played i) (sym kept ∙ home)
 
   saw_home : SawAtHome s after deeds (with_ends z)
   saw_home =

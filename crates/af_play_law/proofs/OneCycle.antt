@@ -1,6 +1,6 @@
 -- A cycle of the fast mixer whose poll finds the last state pushed is told: the run with its entry tells the session, and the entry is legal by marks on whose blocks each front seen is a server's own.
 use Rattle.std.proofs.Common.{◌≡◌, ℕ, ◌+◌, ◌<◌, ◌≤◌, true, false, true≢false, [], ◌∷◌, ◌++◌, length, Option, Some, None, refl, sym, ap, subst, ◌∙◌, arith}
-use Rattle.af_play_law.proofs.Common.{Adopts, AreTogether, CycleEntry, Deeds, EntrySeen, FastState, FindsLast, GoOn, HasHistory, LeadAway, Leaves, LegalEntry, Links, Marks, MixerState, New, NormalState, Nothing, Observes, Poll, Polls, Run, Same, SawOwnBy, SeesTaken, ServerState, Session, SessionState, StreamNames, TakesIt, Tells, TookCounted, WasPolled, acknowledged, adopted_states, cold_done, cycle_of, entry_told, is_mixed, is_over, same_last, sees_same, state_of, took, with_cycle, with_mix, with_poll}
+use Rattle.af_play_law.proofs.Common.{Adopts, AreTogether, CycleEntry, Deeds, EntrySeen, FastState, FindsLast, GoOn, HasStateHistory, LeadAway, Leaves, LegalEntry, Links, Marks, MixerState, New, NormalState, Nothing, Observes, Poll, Polls, Run, Same, SawOwnBy, SeesTaken, ServerState, Session, SessionState, StreamNames, TakesIt, Tells, TookCounted, WasPolled, acknowledged, adopted_states, cold_done, cycle_of, entry_told, is_mixed, is_over, same_last, sees_same, state_of, took, with_cycle, with_mix, with_poll}
 use Rattle.af_told_law.proofs.MixTold.{mix_told}
 use Rattle.af_told_law.proofs.PollNew.{polled_told}
 use Rattle.af_play_law.proofs.Cycled.{OneAdded}
@@ -75,7 +75,7 @@ pub record MayCycle (links : Links) (s : Session) (run : Run) (d : Deeds) (y : S
 -- a cycle that found the last state pushed, so that the history goes on by its poll, and whose look at the pipe saw the frames taken
 pub record CycleShown (n : NormalState) (f : MixerState) (p g : MixerState) : Type 0 where
   pub finds : FindsLast n f p
-  pub history : HasHistory n.mutator.past.first n.mutator.past.events p.observer.past.events
+  pub history : HasStateHistory n.mutator.past.first n.mutator.past.events p.observer.past.events
   pub sees : SeesTaken 0 g.pipe.pass.part.events
 
 -- the run with this entry tells the session with the mixer g, and the entry is legal

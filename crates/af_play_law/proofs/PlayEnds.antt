@@ -1,6 +1,6 @@
 -- Once all parties of a play have ended each stream proxy is home, so it met behind each round: the rounds are legal by all marks.
 use Rattle.std.proofs.Common.{◌≡◌, ℕ, Bool, true, false, List, [], ◌∷◌, sym, ap, subst, ◌∙◌}
-use Rattle.af_play_law.proofs.Common.{AreFewer, EndsHome, LegalRounds, Marks, MatchBool, NormalKept, NormalState, RoundSeen, Run, Session, SessionState, TurnPlayed, after_round, all_home, all_played, and_from, ends, ends_keep, ends_normal, holds, is_home, kept_of, learnt, legal_for_less, met, met_normal, or_left, or_right, run_from, takes_part, track_at, turn_ends, turn_of, with_ends}
+use Rattle.af_play_law.proofs.Common.{AreFewer, EndsHome, LegalRounds, Marks, MatchBool, NormalKept, NormalState, RoundSeen, Run, Session, SessionState, TurnPlayed, after_round, all_home, all_played, and_from, ends, ends_keep, ends_normal, observer_holds, is_home, kept_of, learnt, legal_for_less, met, met_normal, or_left, or_right, run_from, takes_part, track_at, turn_ends, turn_of, with_ends}
 use Rattle.af_normal.specs.State.{setup_of}
 use Rattle.af_session.specs.Rounds as parties
 use Rattle.af_play_law.specs.PlayRuns.{PlaysOn, SureRounds, meets_from, sure_marks}
@@ -32,7 +32,7 @@ module _ (s : Session) where
   -- each stream proxy takes part in the meeting behind which it is home
   last_meets : (run : Run) (round : RoundSeen) → AllHome (after_round s run round).normal → (i : ℕ) → takes_part s (all_played s run round) i ≡ true
   last_meets run round home i =
-      or_left (is_home (track_at (all_played s run round).normal.tracks i).holder) (holds s (all_played s run round) i)
+      or_left (is_home (track_at (all_played s run round).normal.tracks i).holder) (observer_holds s (all_played s run round) i)
       (ap (λ (m : NormalKept). is_home (track_at m.tracks i).holder) (sym (after_normal s run round)) ∙ home i)
 
   all_meet : (run : Run) (round : RoundSeen) (rounds : List RoundSeen) → AllHome (run_from s run (round ∷ rounds)).normal → (i : ℕ) → meets_from s run (round ∷ rounds) i ≡ true

@@ -1,6 +1,6 @@
 -- A play whose parties have all ended is told by its journal alone.
 use Rattle.std.proofs.Common.{◌≡◌, inl, ℕ, ◌≤◌, ◌&&◌, true, false, true≢false, List, [], ◌∷◌, length, refl, sym, ap, subst, ◌∙◌, arith}
-use Rattle.af_play_law.proofs.Common.{EndsHome, Frame, HasHistory, IsQuiet, Marks, MutatorEvent, NormalKept, ObserverEvent, PartyState, RoundSeen, Run, ServerEvent, ServerState, Session, SessionState, StandsBetween, Tells, TookCounted, and_parts, carried_new, frames_taken, kept_of, known_new, list_all, marks_of, new_ends, new_marked, new_quiet, new_run, new_told, no_deeds, run_from, script_setup, session_of, setup_of}
+use Rattle.af_play_law.proofs.Common.{EndsHome, Frame, HasStateHistory, IsQuiet, Marks, MutatorEvent, NormalKept, ObserverEvent, PartyState, RoundSeen, Run, ServerEvent, ServerState, Session, SessionState, StandsBetween, Tells, TookCounted, and_parts, carried_new, frames_taken, kept_of, known_new, list_all, marks_of, new_ends, new_marked, new_quiet, new_run, new_told, no_deeds, run_from, script_setup, session_of, setup_of}
 use Rattle.af_enough_law.proofs.AllEnd.{rounds_end}
 use Rattle.af_enough_law.specs.EndPhases.{BothEnded}
 use Rattle.af_model.specs.JournalForm.{IsJournal}
@@ -26,7 +26,7 @@ module _ (script : ScriptData) (files : List (List Frame)) (shared : SharedState
   stands_first : StandsBetween x
   stands_first = let first = entries_first script shared x new in record {
     step = first.step;
-    history = subst (λ (y : List (MutatorEvent ServerState) × List (ObserverEvent ServerState)). HasHistory x.normal.mutator.past.first y.0 y.1) (λ j. (sym new.ends.mutator.silent.2 j, sym new.ends.observer.0.silent.1 j))
+    history = subst (λ (y : List (MutatorEvent ServerState) × List (ObserverEvent ServerState)). HasStateHistory x.normal.mutator.past.first y.0 y.1) (λ j. (sym new.ends.mutator.silent.2 j, sym new.ends.observer.0.silent.1 j))
         (record { order = []; is_legal = tt; of_one = refl; of_two = refl });
     leads = first.leads;
     quiet = subst IsQuiet (sym new.kept) (new_quiet (script_setup script));

@@ -1,6 +1,6 @@
 -- In a round of all parties each cycle whose state was pushed before finds the last of those, and each later one finds that which the normal mixer's turn pushed.
 use Rattle.std.proofs.Common.{◌≡◌, ℕ, suc, ◌+◌, ◌<◌, ◌≤◌, nat_le, Bool, true, false, if◌then◌else◌, take, drop, List, [], ◌∷◌, ◌++◌, length, append-nil, append_assoc, refl, sym, ap, subst, ◌∙◌, arith}
-use Rattle.af_play_law.proofs.Common.{EndsMet, EntrySeen, FastState, FindsLast, HasHistory, IsInOrder as IsFastInOrder, Links, MixerState, Observes, Pushes, ReaderSide, SeesTaken, ServerState, SessionState, StandsBetween, StreamNames, leb-false, leb-true, prefix_len}
+use Rattle.af_play_law.proofs.Common.{EndsMet, EntrySeen, FastState, FindsLast, HasStateHistory, IsInOrder as IsFastInOrder, Links, MixerState, Observes, Pushes, ReaderSide, SeesTaken, ServerState, SessionState, StandsBetween, StreamNames, leb-false, leb-true, prefix_len}
 use Rattle.af_model.specs.declared.states.ObserverEvent.TheVariants as observer
 use Rattle.af_rendering.specs.Leads.{Tells}
 use Rattle.af_play_law.specs.Polls.{GrowsByTurn, Polled}
@@ -99,30 +99,30 @@ module _ (links : Links) (x u z : SessionState) (ends : EndsMet u.normal z.norma
     saw_here = sees_in_round u z ends next behind.takes behind.taken
 
     -- an early cycle found the last state pushed before the round
-    early_found : IsFastInOrder f → HasHistory m.first m.events f.observer.past.events → e.entry.state ≤ m.number → FindsLast x.normal f p × HasHistory m.first m.events p.observer.past.events
+    early_found : IsFastInOrder f → HasStateHistory m.first m.events f.observer.past.events → e.entry.state ≤ m.number → FindsLast x.normal f p × HasStateHistory m.first m.events p.observer.past.events
     early_found order h low =
         early_poll x u z ends between same_first grows f p one.once.adopts one.on order.observer.told.acked before.polls polled_behind.polls before.polled polled_behind.polled h
         (let is = number_is links f e next one in omega (arith, is, low))
 
     -- a late cycle found the one that the turn pushed
-    late_found : Tells u.normal.mutator.past → IsFastInOrder f → HasHistory m.first u.normal.mutator.past.events f.observer.past.events → m.number < e.entry.state → FindsLast u.normal f p × HasHistory m.first u.normal.mutator.past.events p.observer.past.events
+    late_found : Tells u.normal.mutator.past → IsFastInOrder f → HasStateHistory m.first u.normal.mutator.past.events f.observer.past.events → m.number < e.entry.state → FindsLast u.normal f p × HasStateHistory m.first u.normal.mutator.past.events p.observer.past.events
     late_found tells order h late =
         late_poll x u z ends between same_first grows f p one.once.adopts one.on order.observer.told.acked before.polls polled_behind.polls before.polled polled_behind.polled tells h
         (let is = number_is links f e next one in omega (arith, is, late))
 
   -- each early cycle found the last state pushed before the round
-  pub early_shown : (es : List EntrySeen) (f g : MixerState) (c : CyclesAre links es f g) → IsFastInOrder f → EndsGrow x.fast f → EndsGrow g u.fast → HasHistory m.first m.events f.observer.past.events → AllEarly m.number es → AllShown links x.normal es f g c
+  pub early_shown : (es : List EntrySeen) (f g : MixerState) (c : CyclesAre links es f g) → IsFastInOrder f → EndsGrow x.fast f → EndsGrow g u.fast → HasStateHistory m.first m.events f.observer.past.events → AllEarly m.number es → AllShown links x.normal es f g c
   early_shown [] f g c order before behind h low = tt
   early_shown (e ∷ es) f g (next, one, c) order before behind h low =
       let rest : EndsGrow next u.fast = grow_both next g u.fast (chain_grows links es next g c) behind in
       let now = early_found f next e one before rest order h low.0 in (
         record { finds = now.0; history = now.1; sees = saw_here f next e one before rest },
         early_shown es next g c one.once.mixed_in.0 (grow_both x.fast f next before (once_grows links f next one.answer one.bytes one.once)) behind
-            (subst (λ (o : Observes ServerState StreamNames). HasHistory m.first m.events o.past.events) (sym one.adds.takes.observer) now.1) low.1,
+            (subst (λ (o : Observes ServerState StreamNames). HasStateHistory m.first m.events o.past.events) (sym one.adds.takes.observer) now.1) low.1,
       )
 
   -- each late cycle found the one that the turn pushed; the reader of the report has no part in it
-  pub late_shown : (r : ReaderSide) → Tells u.normal.mutator.past → (es : List EntrySeen) (f g : MixerState) (c : CyclesAre links es f g) → IsFastInOrder f → EndsGrow x.fast f → EndsGrow g u.fast → HasHistory m.first u.normal.mutator.past.events f.observer.past.events
+  pub late_shown : (r : ReaderSide) → Tells u.normal.mutator.past → (es : List EntrySeen) (f g : MixerState) (c : CyclesAre links es f g) → IsFastInOrder f → EndsGrow x.fast f → EndsGrow g u.fast → HasStateHistory m.first u.normal.mutator.past.events f.observer.past.events
       → AllLate m.number es → AllShown links (record u.normal { reader = r }) es f g c
   late_shown r tells [] f g c order before behind h late = tt
   late_shown r tells (e ∷ es) f g (next, one, c) order before behind h late =
@@ -130,11 +130,11 @@ module _ (links : Links) (x u z : SessionState) (ends : EndsMet u.normal z.norma
       let now = late_found f next e one before rest tells order h late.0 in (
         record {
           finds = record { number = now.0.number; new = now.0.new };
-          history = subst (λ (first : FastState). HasHistory first u.normal.mutator.past.events one.once.polled.observer.past.events) (sym same_first) now.1;
+          history = subst (λ (first : FastState). HasStateHistory first u.normal.mutator.past.events one.once.polled.observer.past.events) (sym same_first) now.1;
           sees = saw_here f next e one before rest;
         },
         late_shown r tells es next g c one.once.mixed_in.0 (grow_both x.fast f next before (once_grows links f next one.answer one.bytes one.once)) behind
-            (subst (λ (o : Observes ServerState StreamNames). HasHistory m.first u.normal.mutator.past.events o.past.events) (sym one.adds.takes.observer) now.1) late.1,
+            (subst (λ (o : Observes ServerState StreamNames). HasStateHistory m.first u.normal.mutator.past.events o.past.events) (sym one.adds.takes.observer) now.1) late.1,
       )
 
 -- ## What the late cycles polled

@@ -1,6 +1,6 @@
 -- Of two beginnings of one list of pushes the longer one pushes as much or more, and if both push as much the last state is the same.
 use Rattle.std.proofs.Common.{◌≡◌, ◌⊎◌, inl, inr, ℕ, ◌+◌, ◌≤◌, false, true≢false, List, [], ◌∷◌, ◌++◌, length, length-append, append-nil, fold, get_or, Option, refl, sym, ap, subst, ◌∙◌, arith}
-use Rattle.af_play_law.proofs.Common.{Event, FastState, HasHistory, Legal, MutatorEvent, MutatorPoint, ObserverEvent, Push, QueuePoint, SawAck, fold-append, is_push, legal, list_any, mutated, mutator_next, mutator_start, next, one, ones, start, two}
+use Rattle.af_play_law.proofs.Common.{Event, FastState, HasStateHistory, Legal, MutatorEvent, MutatorPoint, ObserverEvent, Push, QueuePoint, SawAck, fold-append, is_push, legal, list_any, mutated, mutator_next, mutator_start, next, one, ones, start_of_queue, two}
 use Rattle.af_model.specs.declared.states.MutatorEvent.TheVariants as mutator
 
 -- ## Beginnings of one list
@@ -44,8 +44,8 @@ module _ {P : Type 0} where
   numbered_in p (two e ∷ es) l = numbered_in (next p (two e)) es l.1
 
   -- the pushes of a history are numbered
-  pub numbered : (first : FastState) (ms : List (MutatorEvent P)) (os : List (ObserverEvent P)) → HasHistory first ms os → Numbered 0 ms
-  numbered first ms os h = subst (Numbered 0) h.of_one (numbered_in (start first) h.order h.is_legal)
+  pub numbered : (first : FastState) (ms : List (MutatorEvent P)) (os : List (ObserverEvent P)) → HasStateHistory first ms os → Numbered 0 ms
+  numbered first ms os h = subst (Numbered 0) h.of_one (numbered_in (start_of_queue first) h.order h.is_legal)
 
   numbered_front : (n : ℕ) (xs ys : List (MutatorEvent P)) → Numbered n (xs ++ ys) → Numbered n xs
   numbered_front n [] ys r = tt

@@ -1,6 +1,6 @@
 -- A history goes on by what a poll did, if that found the last state pushed in it.
 use Rattle.std.proofs.Common.{◌≡◌, ◌==◌, ℕ, Some, None, if◌then◌else◌, [], ◌∷◌, ◌++◌, append-nil, append_assoc, sym, ap, subst, ◌∙◌, arith}
-use Rattle.af_play_law.proofs.Common.{Ack, AreOf, FastState, HasHistory, IsSane, MutatorPoint, ObserverEvent, ObserverPoint, SawNext, ServerState, add_two, history_sane, legal, mutated, next, observed, point_of, start, two}
+use Rattle.af_play_law.proofs.Common.{Ack, AreOf, FastState, HasStateHistory, IsSane, MutatorPoint, ObserverEvent, ObserverPoint, SawNext, ServerState, add_two, history_sane, legal, mutated, next, observed, point_of, start_of_queue, two}
 use Rattle.af_model.specs.declared.states.ObserverEvent.TheVariants as observer
 use Rattle.af_play_law.specs.Polls.{Items, Polled, Pushed}
 use Rattle.af_play_law.proofs.PollsAt.{Point, looks_at, point_is}
@@ -39,14 +39,14 @@ moves m m' o n (Ack k items) s is l = (l.0, l.1, subst (λ (w : FastState × Fas
 moves m m' o n (observer.Learn c) s is l = absurd is
 
 -- a history goes on by one event more
-pub one_on : (first : FastState) (ms : Pushed) (os : Polled) (b : ObserverEvent ServerState) → HasHistory first ms os → legal (point_of first ms os) (two b) → HasHistory first ms (os ++ b ∷ [])
-one_on first ms os b h l = add_two legal next (start first) ms os b h (subst (λ (p : Point). legal p (two b)) (sym (point_is first ms os h)) l)
+pub one_on : (first : FastState) (ms : Pushed) (os : Polled) (b : ObserverEvent ServerState) → HasStateHistory first ms os → legal (point_of first ms os) (two b) → HasStateHistory first ms (os ++ b ∷ [])
+one_on first ms os b h l = add_two legal next (start_of_queue first) ms os b h (subst (λ (p : Point). legal p (two b)) (sym (point_is first ms os h)) l)
 
 -- ## Events of a whole history
 
 module _ (first : FastState) (all ms later : Pushed) (parts : all ≡ ms ++ later) where
   -- an event that found the last state that ms pushed may stand behind ms
-  goes_on : (os : Polled) (b : ObserverEvent ServerState) (rest : Polled) → HasHistory first all (os ++ b ∷ rest) → IsOf (mutated first ms).pushed b → HasHistory first ms os → HasHistory first ms (os ++ b ∷ [])
+  goes_on : (os : Polled) (b : ObserverEvent ServerState) (rest : Polled) → HasStateHistory first all (os ++ b ∷ rest) → IsOf (mutated first ms).pushed b → HasStateHistory first ms os → HasStateHistory first ms (os ++ b ∷ [])
   goes_on os b rest whole is h =
       let at = looks_at first all os b rest whole in
       let found : (mutated first at.front).pushed ≡ (mutated first ms).pushed = number_at (point_of first at.front os) (mutated first ms).pushed b (history_sane first at.front os at.history) is at.may in
@@ -54,8 +54,8 @@ module _ (first : FastState) (all ms later : Pushed) (parts : all ≡ ms ++ late
       one_on first ms os b h (moves (mutated first at.front) (mutated first ms) (observed os) (mutated first ms).pushed b same is at.may)
 
   -- events that all found the last state that ms pushed may stand behind ms
-  pub all_go_on : (os bs rest : Polled) → HasHistory first all (os ++ (bs ++ rest)) → AllOf (mutated first ms).pushed bs → HasHistory first ms os → HasHistory first ms (os ++ bs)
-  all_go_on os [] rest whole found h = subst (HasHistory first ms) (sym (append-nil os)) h
+  pub all_go_on : (os bs rest : Polled) → HasStateHistory first all (os ++ (bs ++ rest)) → AllOf (mutated first ms).pushed bs → HasStateHistory first ms os → HasStateHistory first ms (os ++ bs)
+  all_go_on os [] rest whole found h = subst (HasStateHistory first ms) (sym (append-nil os)) h
   all_go_on os (b ∷ bs) rest whole found h =
-      let whole_on : HasHistory first all ((os ++ b ∷ []) ++ (bs ++ rest)) = subst (HasHistory first all) (sym (append_assoc os (b ∷ []) (bs ++ rest))) whole in
-      subst (HasHistory first ms) (append_assoc os (b ∷ []) bs) (all_go_on (os ++ b ∷ []) bs rest whole_on found.1 (goes_on os b (bs ++ rest) whole found.0 h))
+      let whole_on : HasStateHistory first all ((os ++ b ∷ []) ++ (bs ++ rest)) = subst (HasStateHistory first all) (sym (append_assoc os (b ∷ []) (bs ++ rest))) whole in
+      subst (HasStateHistory first ms) (append_assoc os (b ∷ []) bs) (all_go_on (os ++ b ∷ []) bs rest whole_on found.1 (goes_on os b (bs ++ rest) whole found.0 h))

@@ -1,6 +1,6 @@
 -- The clients' turns and the early entries of a round of all parties are told, and what the polls of the round show of the normal mixer's turn.
 use Rattle.std.proofs.Common.{◌≡◌, ◌⊎◌, inl, inr, ℕ, ◌+◌, Bool, true, false, map, drop, List, [], ◌∷◌, ◌++◌, length, refl, sym, ap, subst, ◌∙◌, arith}
-use Rattle.af_play_law.proofs.Common.{AreTogether, ClientPlayed, CyclesOn, Deeds, EntrySeen, HasHistory, IsInOrder as IsFastInOrder, Links, Logged, MatchBool, MixerState, NormalState, QueueKnown, Quiet, RoundSeen, Run, SawUpTo, Session, SessionState, StandsBefore, Tells, TurnPlayed, before_turn, calls_in, cycle_frames, drop-append_seam, early_count, early_of, entries_seen, given_of, late_of, most_cycles, quiet_then, with_calls, zip_long}
+use Rattle.af_play_law.proofs.Common.{AreTogether, ClientPlayed, CyclesOn, Deeds, EntrySeen, HasStateHistory, IsInOrder as IsFastInOrder, Links, Logged, MatchBool, MixerState, NormalState, QueueKnown, Quiet, RoundSeen, Run, SawUpTo, Session, SessionState, StandsBefore, Tells, TurnPlayed, before_turn, calls_in, cycle_frames, drop-append_seam, early_count, early_of, entries_seen, given_of, late_of, most_cycles, quiet_then, with_calls, zip_long}
 use Rattle.af_model.specs.declared.states.MutatorEvent.TheVariants as mutator
 use Rattle.af_play_law.specs.Polls.{GrowsByTurn, Polled}
 use Rattle.af_play_law.specs.RoundPlayed.{PlayStands, RoundPlayed}
@@ -117,7 +117,7 @@ module _ (links : Links) (s : Session) (run : Run) (d : Deeds) (x u z : SessionS
   pub early : CyclesTold links s (with_calls round run) d called (early_of run round) half
   early = cycles_told links s (early_of run round) (with_calls round run) d called half may_called parts.front shown_early
 
-  pub history_half : HasHistory x.normal.mutator.past.first x.normal.mutator.past.events half.observer.past.events
+  pub history_half : HasStateHistory x.normal.mutator.past.first x.normal.mutator.past.events half.observer.past.events
   history_half = history_after links x.normal (early_of run round) x.fast half parts.front shown_early stands.stands.history
 
   reaches_half : Reaches links x.normal half
@@ -162,8 +162,8 @@ module _ (links : Links) (s : Session) (run : Run) (d : Deeds) (x u z : SessionS
   saw_half = saw_turned x u z w.meets.ends stands.stands first_is grows_is half.observer.past.events polls cut history_half polls_late.late half.observer.past.number order_half.observer.told.acked later
 
   -- what the turn pushed is there for the late ones
-  pub late_start : (late_of run round ≡ []) ⊎ HasHistory x.normal.mutator.past.first u.normal.mutator.past.events half.observer.past.events
-  late_start = elim (grows_is.ends) as (λ _. (late_of run round ≡ []) ⊎ HasHistory x.normal.mutator.past.first u.normal.mutator.past.events half.observer.past.events) [
+  pub late_start : (late_of run round ≡ []) ⊎ HasStateHistory x.normal.mutator.past.first u.normal.mutator.past.events half.observer.past.events
+  late_start = elim (grows_is.ends) as (λ _. (late_of run round ≡ []) ⊎ HasStateHistory x.normal.mutator.past.first u.normal.mutator.past.events half.observer.past.events) [
     | inl is ↦ inl (polls_late.none (none_late x u z w.meets.ends stands.stands first_is grows_is half.observer.past.events polls cut history_half polls_late.late is))
     | inr push ↦ inr (history_turned x u z w.meets.ends stands.stands first_is grows_is half.observer.past.events polls cut history_half polls_late.late grows_is.looks grows_is.none push.0 push.1 push.2 push.3)
   ]

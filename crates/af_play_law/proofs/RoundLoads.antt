@@ -4,7 +4,7 @@ use Rattle.af_play_law.proofs.Common.{EndsMet, MixerState, NormalState, ReaderEv
 use Rattle.af_model.specs.declared.newest.ReaderEvent.TheVariants as reads
 use Rattle.af_model.specs.declared.newest.WriterEvent.TheVariants as writes
 use Rattle.af_model.specs.NewestValue as newest
-use Rattle.af_model.specs.NewestValue.{HasHistory}
+use Rattle.af_model.specs.NewestValue.{HasValueHistory}
 use Rattle.af_judge.proofs.QueueSteps.{ones_met, twos_met}
 use Rattle.af_told_law.proofs.TurnReport.{LoadsAt, loads_behind, loads_first}
 use Rattle.af_play_law.specs.Loads.{CountUp, LoadsOneOf, LoadsShowTheirNumber, MetLast}
@@ -49,7 +49,7 @@ numbered_is reports (suc k) =
 
 -- ## A load
 
-at_front : (ws : Stored) (k : ℕ) (x : Report) (known : ℕ) → (at : LoadsAt (newest.start no_report) ws k x) → known ≤ stores at.front → LoadsOneOf known k (reports_stored ws) x
+at_front : (ws : Stored) (k : ℕ) (x : Report) (known : ℕ) → (at : LoadsAt (newest.start_value no_report) ws k x) → known ≤ stores at.front → LoadsOneOf known k (reports_stored ws) x
 at_front ws k x known at low =
     let number : k ≡ stores at.front = (let is = at.number in omega (arith, is)) in
     let many = reports_many ws in
@@ -84,14 +84,14 @@ loads_show ws more rs behind k x met h = ⊎_elim first again met
   where
     first : (ws ≡ []) × (rs ≡ []) → LoadsOneOf (stores ws) k (reports_stored (ws ++ more)) x
     first (none, unread) =
-        let at : LoadsAt (newest.start no_report) (ones h.order) k x = loads_first (newest.start no_report) h.order h.is_legal k x behind (h.of_two ∙ ap (λ (l : List (ReaderEvent Report)). l ++ reads.Load k x ∷ behind) unread) in
+        let at : LoadsAt (newest.start_value no_report) (ones h.order) k x = loads_first (newest.start_value no_report) h.order h.is_legal k x behind (h.of_two ∙ ap (λ (l : List (ReaderEvent Report)). l ++ reads.Load k x ∷ behind) unread) in
         let nothing : stores ws ≡ 0 = ap (λ (l : Stored). stores l) none in
         subst (λ (l : Stored). LoadsOneOf (stores ws) k (reports_stored l) x) h.of_one (at_front (ones h.order) k x (stores ws) at (omega (arith, nothing)))
 
     again : MetLast ws rs → LoadsOneOf (stores ws) k (reports_stored (ws ++ more)) x
     again m =
         let list : twos h.order ≡ m.read ++ reads.Learn (length m.wrote) ∷ reads.Load k x ∷ behind = h.of_two ∙ ap (λ (l : List (ReaderEvent Report)). l ++ reads.Load k x ∷ behind) m.reader ∙ append_assoc m.read (reads.Learn (length m.wrote) ∷ []) (reads.Load k x ∷ behind) in
-        let found = loads_behind (newest.start no_report) h.order h.is_legal m.read (length m.wrote) k x behind list in
+        let found = loads_behind (newest.start_value no_report) h.order h.is_legal m.read (length m.wrote) k x behind list in
         let parts : m.wrote ++ (writes.Learn (length m.read) ∷ more) ≡ found.at.front ++ found.at.back = sym (append_assoc m.wrote (writes.Learn (length m.read) ∷ []) more) ∙ ap (λ (l : Stored). l ++ more) (sym m.writer) ∙ sym h.of_one ∙ found.at.parts in
         let low = fewer m.wrote (writes.Learn (length m.read) ∷ more) found.at.front found.at.back parts (let l = found.learnt in omega (arith, l)) in
         let before = ap (λ (l : Stored). stores l) m.writer in
@@ -114,8 +114,8 @@ module _ (x u z : SessionState) (ends : EndsMet u.normal z.normal u.fast z.fast)
   abbrev learns : ReaderEvent Report
   learns = reads.Learn (length u.fast.writer.events)
 
-  history : HasHistory no_report (x.fast.writer.events ++ (more ++ knows ∷ [])) (x.normal.reader.events ++ reads.Load k report ∷ (learns ∷ []))
-  history = subst (λ (w : Stored × List (ReaderEvent Report)). HasHistory no_report w.0 w.1)
+  history : HasValueHistory no_report (x.fast.writer.events ++ (more ++ knows ∷ [])) (x.normal.reader.events ++ reads.Load k report ∷ (learns ∷ []))
+  history = subst (λ (w : Stored × List (ReaderEvent Report)). HasValueHistory no_report w.0 w.1)
       (λ j. (
         (ap (λ (f : MixerState). f.writer.events) ends.fast ∙ ap (λ (l : Stored). l ++ knows ∷ []) writes_are ∙ append_assoc x.fast.writer.events more (knows ∷ [])) j,
         (ap (λ (n : NormalState). n.reader.events) ends.normal ∙ ap (λ (l : List (ReaderEvent Report)). l ++ learns ∷ []) reads_are ∙ append_assoc x.normal.reader.events (reads.Load k report ∷ []) (learns ∷ [])) j,

@@ -1,13 +1,13 @@
 -- What the looks at the pipe see in a round: the front of a mix is the number of frames that the mixer took, and that of the normal mixer's turn the one that its room tells.
 use Rattle.std.proofs.Common.{◌≡◌, ⊎_elim, ℕ, ◌+◌, ◌≤◌, if◌then◌else◌, map, drop, Bool, true, false, List, [], ◌∷◌, ◌++◌, length, length-append, append_assoc, refl, sym, ap, subst, ◌∙◌, arith}
-use Rattle.af_play_law.proofs.Common.{ClientEvent, CycleEntry, EndsMet, Event, FastState, Frame, HasPipeHistory, MixerState, Mixes, OutSide, PipePoint, Seen, SeesTaken, ServerEvent, SessionState, Takes, TookCounted, after, cases_eq, count_seen, entry_slot, frames_taken, front_by_room, is_mixed, length-drop, length-map, length-take, min, ne_eqb, one, packed_word, place_of, releases_of, room_by, slots, taken-append, taken_before, takes_shown, two, twos}
+use Rattle.af_play_law.proofs.Common.{ClientEvent, CycleEntry, EndsMet, Event, FastState, Frame, HasPipeHistory, MixerState, Mixes, OutSide, PipePoint, Seen, SeesTaken, ServerEvent, SessionState, Takes, TookCounted, point_after, cases_eq, count_seen, entry_slot, frames_taken, front_by_room, is_mixed, length-drop, length-map, length-take, min, ne_eqb, one, packed_word, place_of, releases_of, room_by, slots, taken-append, taken_before, takes_shown, two, twos}
 use Rattle.af_base.specs.declared.event.ClientEvent.TheVariants as client
 use Rattle.af_base.specs.declared.event.ServerEvent.TheVariants as server
 use Rattle.af_base.specs.declared.seen.Seen.TheVariants as seen
 use Rattle.af_base.specs.declared.log.SlotEntry.{SlotEntry}
 use Rattle.af_base.specs.Log as log
 use Rattle.af_fast.specs.Slots.{found}
-use Rattle.af_model.specs.PipeHistory.{legal, next, start}
+use Rattle.af_model.specs.PipeHistory.{legal_in_pipe, next_in_pipe, start_of_pipe}
 use Rattle.af_enough_law.proofs.SeenShared.{taken_more, taken_same}
 use Rattle.af_one_turn_run.proofs.EntrySlots.{taken_rise}
 use Rattle.af_told_law.proofs.TurnPipe.{front_told}
@@ -75,15 +75,15 @@ took_mixed f g x entry takes mixes took = by_mixed (is_mixed entry.cycle) refl
 
 -- ## A meeting
 
-took_after : (size : ℕ) (p : PipePoint) (es : List (Event ClientEvent ServerEvent)) → (after (legal size) next p es).taken ≡ p.taken + frames_taken (twos es)
+took_after : (size : ℕ) (p : PipePoint) (es : List (Event ClientEvent ServerEvent)) → (point_after (legal_in_pipe size) next_in_pipe p es).taken ≡ p.taken + frames_taken (twos es)
 took_after size p [] = omega arith
-took_after size p (one e ∷ es) = let rest = took_after size (next p (one e)) es in let now = taken_same p e in omega (arith, rest, now)
-took_after size p (two e ∷ es) = let rest = took_after size (next p (two e)) es in let now = taken_more p e in omega (arith, rest, now)
+took_after size p (one e ∷ es) = let rest = took_after size (next_in_pipe p (one e)) es in let now = taken_same p e in omega (arith, rest, now)
+took_after size p (two e ∷ es) = let rest = took_after size (next_in_pipe p (two e)) es in let now = taken_more p e in omega (arith, rest, now)
 
 -- in a history the frames taken are counted
 pub took_met : (size : ℕ) (puts : List ClientEvent) (put : List ℕ) (takes : List ServerEvent) (taken : List ℕ) → HasPipeHistory size puts put takes taken → length taken ≡ frames_taken takes
 took_met size puts put takes taken h =
-    let all = took_after size start h.history.order in
+    let all = took_after size start_of_pipe h.history.order in
     let is = h.taken_is in
     let list = ap (λ (l : List ServerEvent). frames_taken l) h.history.of_two in
     omega (arith, all, is, list)

@@ -1,6 +1,6 @@
 -- A poll of the fast mixer finds the last state that the normal mixer has pushed, if its number is that one's, and leaves a history.
 use Rattle.std.proofs.Common.{◌≡◌, ℕ, ◌+◌, ◌<◌, false, true, [], ◌∷◌, ◌++◌, append_assoc, Option, Some, None, sym, ap, subst, ◌∙◌, arith}
-use Rattle.af_play_law.proofs.Common.{Adopts, FastState, FindsLast, HasHistory, IsSane, MixerState, New, NormalState, Nothing, Observes, Poll, Polls, Pushes, Same, ServerState, StreamNames, TakesIt, WasPolled, acknowledged, false_from_ne_true, history_sane, is_over, items_sent, mutated, mutated_by, observed, point_of, sees_same, took}
+use Rattle.af_play_law.proofs.Common.{Adopts, FastState, FindsLast, HasStateHistory, IsSane, MixerState, New, NormalState, Nothing, Observes, Poll, Polls, Pushes, Same, ServerState, StreamNames, TakesIt, WasPolled, acknowledged, false_from_ne_true, history_sane, is_over, items_sent, mutated, mutated_by, observed, point_of, sees_same, took}
 use Rattle.af_model.specs.declared.states.ObserverEvent.TheVariants as observer
 use Rattle.af_rendering.specs.Leads.{Tells}
 use Rattle.af_play_law.specs.Polls.{FindsLastOf, Items, Polled, Pushed}
@@ -53,8 +53,8 @@ poll_adds o o' (New number) s s' was = let t : TakesIt o was.1.0 o' = was.1.1 in
 
 -- A poll from f to g, and all that both ends of the queue did in the end, of which what the normal mixer m did is a beginning. The events of m and of f have a history, and after the poll the mixer has the number of the last state that m pushed
 module _ (m : NormalState) (f g : MixerState) (adopts : Adopts f g) (on : is_over f ≡ false) (tells : Tells m.mutator.past) (acked : (observed f.observer.past.events).acked ≡ f.observer.past.number)
-    (all later : Pushed) (parts : all ≡ m.mutator.past.events ++ later) (rest : Polled) (whole : HasHistory m.mutator.past.first all (g.observer.past.events ++ rest))
-    (before : HasHistory m.mutator.past.first m.mutator.past.events f.observer.past.events) (number : g.observer.past.number ≡ m.mutator.past.number) where
+    (all later : Pushed) (parts : all ≡ m.mutator.past.events ++ later) (rest : Polled) (whole : HasStateHistory m.mutator.past.first all (g.observer.past.events ++ rest))
+    (before : HasStateHistory m.mutator.past.first m.mutator.past.events f.observer.past.events) (number : g.observer.past.number ≡ m.mutator.past.number) where
   abbrev p : Pushes ServerState StreamNames
   p = m.mutator.past
 
@@ -71,12 +71,12 @@ module _ (m : NormalState) (f g : MixerState) (adopts : Adopts f g) (on : is_ove
   number_is = number ∙ sym (tells.pushed p.first)
 
   -- the history goes on by the poll
-  pub history_polled : HasHistory p.first p.events o'.events
+  pub history_polled : HasStateHistory p.first p.events o'.events
   history_polled =
       let bs : Polled = observer.SawNext o'.number added.state added.items ∷ added.more in
       let found : AllOf (mutated p.first p.events).pushed bs = (number_is, subst (λ (n : ℕ). AllOf n added.more) number_is added.acks) in
-      let long : HasHistory p.first all (o.events ++ (bs ++ rest)) = subst (HasHistory p.first all) (ap (λ (es : Polled). es ++ rest) added.list ∙ append_assoc o.events bs rest) whole in
-      subst (HasHistory p.first p.events) (sym added.list) (all_go_on p.first all p.events later parts o.events bs rest long found before)
+      let long : HasStateHistory p.first all (o.events ++ (bs ++ rest)) = subst (HasStateHistory p.first all) (ap (λ (es : Polled). es ++ rest) added.list ∙ append_assoc o.events bs rest) whole in
+      subst (HasStateHistory p.first p.events) (sym added.list) (all_go_on p.first all p.events later parts o.events bs rest long found before)
 
   module _ (x : FastState) (came back : Items) (is : o' ≡ acknowledged back (took x came o)) where
     one_on_from : o'.number ≡ o.number + 1
@@ -85,8 +85,8 @@ module _ (m : NormalState) (f g : MixerState) (adopts : Adopts f g) (on : is_ove
     number_new : o.number + 1 ≡ (mutated p.first p.events).pushed
     number_new = sym one_on_from ∙ number_is
 
-    whole_new : HasHistory p.first all (o.events ++ observer.SawNext (o.number + 1) (Some x) came ∷ (observer.Ack (o.number + 1) back ∷ rest))
-    whole_new = subst (HasHistory p.first all)
+    whole_new : HasStateHistory p.first all (o.events ++ observer.SawNext (o.number + 1) (Some x) came ∷ (observer.Ack (o.number + 1) back ∷ rest))
+    whole_new = subst (HasStateHistory p.first all)
         (ap (λ (w : Watched). w.events ++ rest) is
         ∙ append_assoc (o.events ++ observer.SawNext (o.number + 1) (Some x) came ∷ []) (observer.Ack (o.number + 1) back ∷ []) rest
         ∙ append_assoc o.events (observer.SawNext (o.number + 1) (Some x) came ∷ []) (observer.Ack (o.number + 1) back ∷ rest))

@@ -1,6 +1,6 @@
 -- Which state a look finds that stands behind others since a meeting: the last one pushed before that meeting, or the one pushed since.
 use Rattle.std.proofs.Common.{◌≡◌, ◌≢◌, ◌⊎◌, inl, inr, ⊎_elim, ℕ, ◌+◌, ◌≤◌, [], ◌∷◌, ◌++◌, append_assoc, Option, Some, None, IfSome, refl, sym, ap, subst, ◌∙◌, arith}
-use Rattle.af_play_law.proofs.Common.{FastState, HasHistory, HasLearnt, MutatorEvent, ServerState, Stands, cases_eq, mutated, observed}
+use Rattle.af_play_law.proofs.Common.{FastState, HasStateHistory, HasLearnt, MutatorEvent, ServerState, Stands, cases_eq, mutated, observed}
 use Rattle.af_model.specs.declared.states.MutatorEvent.TheVariants as mutator
 use Rattle.af_model.specs.declared.states.ObserverEvent.TheVariants as observer
 use Rattle.af_play_law.specs.Polls.{FindsLastOf, GrowsByTurn, Items, Polled, PollsFindOneOfTwo, Pushed}
@@ -9,7 +9,7 @@ use Rattle.af_play_law.proofs.PushesRise.{Numbered, SameLast, longer_pushes, no_
 
 -- ## One look
 
-module _ (first : FastState) (all ms later : Pushed) (parts : all ≡ ms ++ later) (os : Polled) (k : ℕ) (x : Option FastState) (items : Items) (rest : Polled) (whole : HasHistory first all (os ++ observer.SawNext k x items ∷ rest)) where
+module _ (first : FastState) (all ms later : Pushed) (parts : all ≡ ms ++ later) (os : Polled) (k : ℕ) (x : Option FastState) (items : Items) (rest : Polled) (whole : HasStateHistory first all (os ++ observer.SawNext k x items ∷ rest)) where
   look : PollsAt first all os k x items
   look = polls_at first all os k x items rest whole
 
@@ -60,7 +60,7 @@ grown_by ms us g = elim (g.ends) as (λ _. (turn : Pushed) × (us ≡ ms ++ turn
 ]
 
 -- the turn pushes no more than one state
-pub one_more : (first : FastState) (ms us later : Pushed) (os : Polled) → GrowsByTurn ms us → HasHistory first (us ++ later) os → (mutated first us).pushed ≤ (mutated first ms).pushed + 1
+pub one_more : (first : FastState) (ms us later : Pushed) (os : Polled) → GrowsByTurn ms us → HasStateHistory first (us ++ later) os → (mutated first us).pushed ≤ (mutated first ms).pushed + 1
 one_more first ms us later os g h = elim (g.ends) as (λ _. (mutated first us).pushed ≤ (mutated first ms).pushed + 1) [
   | inl is ↦ (let same = ap (λ (l : Pushed). (mutated first l).pushed) is in omega (arith, same, looks))
   | inr push ↦

@@ -1,6 +1,6 @@
 -- What stands between two rounds of a play stands again after a round of all parties.
 use Rattle.std.proofs.Common.{◌≡◌, ℕ, ◌<◌, ◌≤◌, Bool, true, false, List, [], ◌∷◌, ◌++◌, length, sym, ap, subst, ◌∙◌, arith, All}
-use Rattle.af_play_law.proofs.Common.{Carried, Deeds, FastState, HasHistory, InStep, IsQuiet, Leads, Links, Made, MatchBool, MixerState, MutatorEvent, NormalKept, NormalState, ObserverEvent, Polls, Pushes, QueueKnown, Quiet, RoundSeen, Run, ServerState, Session, SessionState, Setting, Setup, StandsBetween, StreamNames, TookCounted, TurnPlayed, after_round, all_played, cycle_frames, ends_keep, few_acked, kept_of, known_same, learnt, met, observed, quiet_ends, quiet_met, quiet_then, report_ends, setup_of as script_setup_of, turn_of, turn_quiet}
+use Rattle.af_play_law.proofs.Common.{Carried, Deeds, FastState, HasStateHistory, InStep, IsQuiet, Leads, Links, Made, MatchBool, MixerState, MutatorEvent, NormalKept, NormalState, ObserverEvent, Polls, Pushes, QueueKnown, Quiet, RoundSeen, Run, ServerState, Session, SessionState, Setting, Setup, StandsBetween, StreamNames, TookCounted, TurnPlayed, after_round, all_played, cycle_frames, ends_keep, few_acked, kept_of, known_same, learnt, met, observed, quiet_ends, quiet_met, quiet_then, report_ends, setup_of as script_setup_of, turn_of, turn_quiet}
 use Rattle.af_model.specs.declared.states.MutatorEvent.TheVariants as mutator
 use Rattle.af_model.specs.declared.states.ObserverEvent.TheVariants as observer
 use Rattle.af_normal.specs.State.{setup_of}
@@ -48,8 +48,8 @@ module _ (links : Links) (s : Session) (run : Run) (d : Deeds) (x u z : SessionS
   kept_after : kept_of y.normal ≡ kept_of u.normal
   kept_after = ap kept_of (same_normal ∙ w.meets.ends.normal)
 
-  history : HasHistory m.first ms os
-  history = subst (λ (q : Pushes ServerState StreamNames × Polls ServerState StreamNames). HasHistory q.0.first q.0.events q.1.events)
+  history : HasStateHistory m.first ms os
+  history = subst (λ (q : Pushes ServerState StreamNames × Polls ServerState StreamNames). HasStateHistory q.0.first q.0.events q.1.events)
       (λ j. (ap (λ (n : NormalState). n.mutator.past) w.meets.ends.normal j, ap (λ (f : MixerState). f.observer.past) w.meets.ends.fast j)) w.meets.ends.histories.queue
 
   acked : (observed os).acked ≡ o.number
@@ -74,7 +74,7 @@ module _ (links : Links) (s : Session) (run : Run) (d : Deeds) (x u z : SessionS
   between : StandsBetween y
   between = record {
     step = subst (λ (q : Pushes ServerState StreamNames × Polls ServerState StreamNames). InStep q.0 q.1) (λ j. (sym pushed_after j, sym polled_after j)) (step_met m (length o.events) o tells few same);
-    history = subst (λ (q : Pushes ServerState StreamNames × Polls ServerState StreamNames). HasHistory q.0.first q.0.events q.1.events) (λ j. (sym pushed_after j, sym polled_after j)) history;
+    history = subst (λ (q : Pushes ServerState StreamNames × Polls ServerState StreamNames). HasStateHistory q.0.first q.0.events q.1.events) (λ j. (sym pushed_after j, sym polled_after j)) history;
     leads = subst (λ (q : FastState × NormalKept). Leads q.0 q.1) (λ j. (sym (ap (λ (p : Polls ServerState StreamNames). p.state) polled_after) j, sym kept_after j)) leads;
     quiet = subst IsQuiet (sym kept_after) (quiet_by x.normal.ended w.plays.normal);
   }

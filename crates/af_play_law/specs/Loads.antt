@@ -6,7 +6,7 @@ use Rattle.af_model.specs.declared.newest.ReaderEvent.{ReaderEvent}
 use Rattle.af_model.specs.declared.newest.ReaderEvent.TheVariants as reads
 use Rattle.af_model.specs.declared.newest.WriterEvent.{WriterEvent}
 use Rattle.af_model.specs.declared.newest.WriterEvent.TheVariants as writes
-use Rattle.af_model.specs.NewestValue.{HasHistory}
+use Rattle.af_model.specs.NewestValue.{HasValueHistory}
 use Rattle.af_model.specs.Reports.{no_report}
 use Rattle.af_runs.specs.Runs.{report_of}
 use Rattle.af_told_law.specs.Tells.{reports_stored}
@@ -27,7 +27,7 @@ pub record LoadsOneOf (known k : ℕ) (reports : List Report) (x : Report) : Typ
 -- The first load since a meeting shows the report of its number among all that are stored in the end. This report is no older than the last one stored before the meeting
 abbrev pub LoadsShowTheirNumber : Type 0
 LoadsShowTheirNumber = (ws more : List (WriterEvent Report)) (rs behind : List (ReaderEvent Report)) (k : ℕ) (x : Report)
-    → ((ws ≡ []) × (rs ≡ [])) ⊎ MetLast ws rs → HasHistory no_report (ws ++ more) (rs ++ reads.Load k x ∷ behind)
+    → ((ws ≡ []) × (rs ≡ [])) ⊎ MetLast ws rs → HasValueHistory no_report (ws ++ more) (rs ++ reads.Load k x ∷ behind)
     → LoadsOneOf (stores ws) k (reports_stored (ws ++ more)) x
 
 -- each report has its number, counted from n on

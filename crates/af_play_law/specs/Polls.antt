@@ -6,7 +6,7 @@ use Rattle.af_model.specs.declared.states.MutatorEvent.{MutatorEvent}
 use Rattle.af_model.specs.declared.states.MutatorEvent.TheVariants as mutator
 use Rattle.af_model.specs.declared.states.ObserverEvent.{ObserverEvent}
 use Rattle.af_model.specs.declared.states.ObserverEvent.TheVariants as observer
-use Rattle.af_model.specs.StateQueue.{HasHistory, mutated}
+use Rattle.af_model.specs.StateQueue.{HasStateHistory, mutated}
 use Rattle.af_server.specs.Order.{ServerState}
 use Rattle.af_stateq.specs.Laws.{is_push}
 use Rattle.af_rendering.specs.Leads.{HasLearnt}
@@ -35,7 +35,7 @@ pub record FindsLastOf (first : FastState) (ms : Pushed) (k : ℕ) (x : Option F
 -- An observer that had learnt of all pushes at the last meeting finds at each poll since then the last state pushed before that meeting, or the one pushed since
 abbrev pub PollsFindOneOfTwo : Type 0
 PollsFindOneOfTwo = (first : FastState) (ms us : Pushed) (old since rest : Polled) (c k : ℕ) (x : Option FastState) (items : Items)
-    → GrowsByTurn ms us → ((mutated first ms).pushed ≡ 0) ⊎ HasLearnt ms old → HasHistory first (us ++ mutator.Learn c ∷ []) ((old ++ since) ++ observer.SawNext k x items ∷ rest)
+    → GrowsByTurn ms us → ((mutated first ms).pushed ≡ 0) ⊎ HasLearnt ms old → HasStateHistory first (us ++ mutator.Learn c ∷ []) ((old ++ since) ++ observer.SawNext k x items ∷ rest)
     → FindsLastOf first ms k x items ⊎ FindsLastOf first us k x items
 
 -- what the observer did next saw the state k or a later one, or it learnt of more than so many events
@@ -48,5 +48,5 @@ ComesBehind count k (observer.Learn c ∷ os) = count < c
 -- What the observer did before it could see the state k, by what the mutator had done up to ms, stands before the push of k: with the mutator's list up to there it has a history of its own
 abbrev pub PollsStandBeforePush : Type 0
 PollsStandBeforePush = (first : FastState) (ms looks : Pushed) (k : ℕ) (y : FastState) (sent : Items) (behind : Pushed) (es ls : Polled)
-    → HasHistory first (((ms ++ looks) ++ mutator.Push k y sent ∷ []) ++ behind) (es ++ ls) → HasHistory first ms es → ComesBehind (length (ms ++ looks)) k ls
-    → HasHistory first ((ms ++ looks) ++ mutator.Push k y sent ∷ []) es
+    → HasStateHistory first (((ms ++ looks) ++ mutator.Push k y sent ∷ []) ++ behind) (es ++ ls) → HasStateHistory first ms es → ComesBehind (length (ms ++ looks)) k ls
+    → HasStateHistory first ((ms ++ looks) ++ mutator.Push k y sent ∷ []) es

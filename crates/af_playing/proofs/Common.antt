@@ -21,7 +21,7 @@ pub use Rattle.af_fast.specs.Mixing.{AddsCycle, MixesOnce}
 pub use Rattle.af_io.specs.Causes.{HasCause}
 pub use Rattle.af_io.specs.Files.{Files, LeavesFront, SetsFile}
 pub use Rattle.af_io.specs.declared.store.StoreError.{StoreError}
-pub use Rattle.af_life.specs.Edits.{LegalPush, after_push, is_exit}
+pub use Rattle.af_life.specs.Edits.{LegalPush, after_push, commands_exit}
 pub use Rattle.af_life.specs.Heard.{learnt}
 pub use Rattle.af_life.specs.Kept.{NormalKept, Outside, Setup, new_normal}
 pub use Rattle.af_life.specs.Plays.{after_takes}
@@ -34,7 +34,7 @@ pub use Rattle.af_model.specs.Cycles.{cold_done, cycle_by, cycle_of, has_exit, i
 pub use Rattle.af_model.specs.JournalForm.{IsJournal, IsTurn, IsWhole}
 pub use Rattle.af_model.specs.Journals.{EntrySeen, JournalData, RoundNoted, RoundSeen, RoundsNoted, cycles_of, entries_of, entries_seen, frames_of, journal_of, rounds_seen}
 pub use Rattle.af_model.specs.Spelled.{ClientStep, Kind, client_spells, client_step_events, commands, is_on, met_server, stream}
-pub use Rattle.af_model.specs.StateQueue.{HasHistory}
+pub use Rattle.af_model.specs.StateQueue.{HasStateHistory}
 pub use Rattle.af_model.specs.declared.states.MutatorEvent.{MutatorEvent}
 pub use Rattle.af_model.specs.declared.states.ObserverEvent.{ObserverEvent}
 pub use Rattle.af_normal.specs.Meeting.{MeetsStream, client_knows}
@@ -58,7 +58,7 @@ pub use Rattle.af_runs.specs.Blocks.{Marks}
 pub use Rattle.af_runs.specs.ClientTurns.{Side, Track, after_call, after_calls, called, is_of_commands}
 pub use Rattle.af_runs.specs.LegalRuns.{HasLegalRounds, IsCutRun, IsLegalRun, LegalRounds, marks_of, run_from, run_of, session_of}
 pub use Rattle.af_runs.specs.Pcm.{journal_pcm}
-pub use Rattle.af_runs.specs.Runs.{Run, TrackTold, calls_in, new_run, new_track, pushed_by}
+pub use Rattle.af_runs.specs.Runs.{Run, TrackTold, calls_in, new_run, new_told_track, pushed_by}
 pub use Rattle.af_runs.specs.Sessions.{Session, file_words, script_setup, track_count}
 pub use Rattle.af_script.specs.Data.{ScriptData}
 pub use Rattle.af_script.specs.Form.{IsScript}

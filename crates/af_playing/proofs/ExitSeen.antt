@@ -1,6 +1,6 @@
 -- Once the fast mixer has exited, the next turn of the normal mixer ends.
 use Rattle.std.proofs.Common.{◌≡◌, ℕ, zero, suc, ◌≤◌, ◌==◌, ◌||◌, Bool, true, false, if◌then◌else◌, sym, refl, ap, subst, ◌∙◌, List, [], ◌∷◌, ◌++◌, length, append_assoc, Some, eqb-true, arith}
-use Rattle.af_playing.proofs.Common.{AddsCycle, AreTold, Cycle, CycleEntry, CyclesOn, CyclesOnce, EndsMet, FastState, FastTurned, Frame, Given, HasHistory, IsQuiet, IsRoundOfAll, Links, MatchBool, MatchBool-at_false, MatchBool-at_true, MixerState, MixesOnce, MutatorEvent, NormalKept, NormalPlayed, NormalState, ObserverEvent, Observes, Outside, RoundNoted, ServerState, SessionState, Turn, TurnPlayed, adopted_states, after_edits, cold_done, ends_keep, going, has_exit, is_exit, is_mixed, is_over, kept_of, learnt, most_cycles, number_seen, push_list, pushed_states, setup_of, state_of, turn_of, turn_quiet}
+use Rattle.af_playing.proofs.Common.{AddsCycle, AreTold, Cycle, CycleEntry, CyclesOn, CyclesOnce, EndsMet, FastState, FastTurned, Frame, Given, HasStateHistory, IsQuiet, IsRoundOfAll, Links, MatchBool, MatchBool-at_false, MatchBool-at_true, MixerState, MixesOnce, MutatorEvent, NormalKept, NormalPlayed, NormalState, ObserverEvent, Observes, Outside, RoundNoted, ServerState, SessionState, Turn, TurnPlayed, adopted_states, after_edits, cold_done, ends_keep, going, has_exit, commands_exit, is_mixed, is_over, kept_of, learnt, most_cycles, number_seen, push_list, pushed_states, setup_of, state_of, turn_of, turn_quiet}
 use Rattle.af_model.specs.Cycles.{is_exit as answers_exit}
 use Rattle.af_model.specs.declared.plain_calls.Poll.{Poll}
 use Rattle.af_model.specs.declared.plain_calls.Poll.TheVariants.{Nothing, Same, New}
@@ -19,7 +19,7 @@ use Rattle.af_playing.proofs.LastExit.{IsLastExit, current_exit, exit_state, loo
 
 -- the current state says Exit
 abbrev pub CurrentExits : Observes ServerState StreamNames → Type 0
-CurrentExits o = (x : FastState) × (o.current ≡ Some x) × (is_exit x ≡ true)
+CurrentExits o = (x : FastState) × (o.current ≡ Some x) × (commands_exit x ≡ true)
 
 -- What the observer keeps is what its events give, and if an Exit was answered its current state says so
 pub record FastKnows (f : MixerState) : Type 0 where
@@ -137,7 +137,7 @@ pub record HasMet (m : NormalState) (f : MixerState) : Type 0 where
   pub mutator : m.mutator.past.events ≡ mutations ++ mutator.Learn known ∷ []
   pub observer : f.observer.past.events ≡ observations ++ observer.Learn seen ∷ []
   pub reached : length observations ≤ known
-  pub history : HasHistory m.mutator.past.first m.mutator.past.events f.observer.past.events
+  pub history : HasStateHistory m.mutator.past.first m.mutator.past.events f.observer.past.events
 
 pub has_met : (m m' : NormalState) (f f' : MixerState) → EndsMet m m' f f' → HasMet m' f'
 has_met m m' f f' met = record {
@@ -181,8 +181,8 @@ exit_ends o m m' n f f' normal fast before exit goes legal met =
     ∙ append_assoc front (mutator.SawAck a legal.lists.back ∷ look.0) (know ∷ []) in
     let grown : f.observer.past.events ++ learn ∷ [] ≡ (before.observations ++ observer.Learn before.seen ∷ []) ++ learn ∷ [] = ap (λ (l : List (ObserverEvent ServerState)). l ++ learn ∷ []) before.observer in
     let observations : f'.observer.past.events ≡ (before.observations ++ observer.Learn before.seen ∷ []) ++ learn ∷ [] = ap (λ (y : MixerState). y.observer.past.events) met.fast ∙ grown in
-    let history : HasHistory n.mutator.past.first (front ++ mutator.SawAck a legal.lists.back ∷ rest) ((before.observations ++ observer.Learn before.seen ∷ []) ++ learn ∷ []) =
-    subst (λ (z : List (MutatorEvent ServerState) × List (ObserverEvent ServerState)). HasHistory n.mutator.past.first z.0 z.1) (λ i. (mutations i, observations i)) met.histories.queue in
+    let history : HasStateHistory n.mutator.past.first (front ++ mutator.SawAck a legal.lists.back ∷ rest) ((before.observations ++ observer.Learn before.seen ∷ []) ++ learn ∷ []) =
+    subst (λ (z : List (MutatorEvent ServerState) × List (ObserverEvent ServerState)). HasStateHistory n.mutator.past.first z.0 z.1) (λ i. (mutations i, observations i)) met.histories.queue in
     let told : AreTold ((before.observations ++ observer.Learn before.seen ∷ []) ++ learn ∷ []) f.observer.past.number f.observer.past.state f.observer.current f.observer.previous =
     subst (λ (l : List (ObserverEvent ServerState)). AreTold l f.observer.past.number f.observer.past.state f.observer.current f.observer.previous) grown
     (told_learn f.observer.past.events f.observer.past.number f.observer.past.state f.observer.current f.observer.previous fast.told (length m'.mutator.past.events)) in

@@ -1,6 +1,6 @@
 -- An Exit that was polled is the last state pushed, and the look after a meeting sees it acknowledged.
 use Rattle.std.proofs.Common.{◌≡◌, ℕ, zero, suc, ◌+◌, ◌-◌, ◌<◌, ◌≤◌, ◌==◌, ◌&&◌, ◌||◌, Bool, true, false, if◌then◌else◌, sym, refl, ap, ◌∙◌, List, [], ◌∷◌, ◌++◌, length, append_assoc, Option, Some, None, is_some, unwrap_or, arith}
-use Rattle.af_playing.proofs.Common.{AreTold, FastState, HasHistory, LegalTurn, MutatorEvent, NormalKept, ObserverEvent, Outside, Setup, Turn, after_edits, after_push, after_takes, cycle_by, cycle_of, is_exit, learnt, no, number_seen, or_true, polled_states, pushed_states, state_of, turn_after}
+use Rattle.af_playing.proofs.Common.{AreTold, FastState, HasStateHistory, LegalTurn, MutatorEvent, NormalKept, ObserverEvent, Outside, Setup, Turn, after_edits, after_push, after_takes, cycle_by, cycle_of, commands_exit, learnt, no, number_seen, or_true, polled_states, pushed_states, state_of, turn_after}
 use Rattle.af_base.specs.declared.log.Cycle.TheVariants as cycle
 use Rattle.af_base.specs.declared.state.Command.{Command}
 use Rattle.af_base.specs.declared.state.Command.TheVariants.{Initial, HotIdle, ColdIdle, Idle, Exit, Mix, Write, MixWrite}
@@ -16,7 +16,7 @@ use Rattle.af_playing.proofs.PushedRuns.{NoneExits, EndsWith, PushedRuns}
 -- ## What an Exit was answered by
 
 -- a cycle answers Exit by a state that says so
-pub exit_state : (done : ℕ) (o : Option FastState) → answers_exit (cycle_of done o) ≡ true → (x : FastState) × (o ≡ Some x) × (is_exit x ≡ true)
+pub exit_state : (done : ℕ) (o : Option FastState) → answers_exit (cycle_of done o) ≡ true → (x : FastState) × (o ≡ Some x) × (commands_exit x ≡ true)
 exit_state done None h = no h
 exit_state done (Some x) h = (x, refl, by_command x.command h)
   where
@@ -40,12 +40,12 @@ nothing_is : {A : Type 0} {x : FastState} → None ≡ Some x → A
 nothing_is h = no (ap is_some h)
 
 -- an Exit among states of which only the last may say so is the last
-exit_is_last : (earlier : List FastState) (last x : FastState) (k : ℕ) → NoneExits earlier → state_of (earlier ++ last ∷ []) k ≡ Some x → is_exit x ≡ true → (k ≡ length earlier + 1) × (last ≡ x)
+exit_is_last : (earlier : List FastState) (last x : FastState) (k : ℕ) → NoneExits earlier → state_of (earlier ++ last ∷ []) k ≡ Some x → commands_exit x ≡ true → (k ≡ length earlier + 1) × (last ≡ x)
 exit_is_last [] last x zero none e exit = nothing_is e
 exit_is_last [] last x (suc zero) none e exit = (omega arith, ap (λ (o : Option FastState). unwrap_or o x) e)
 exit_is_last [] last x (suc (suc k)) none e exit = nothing_is e
 exit_is_last (y ∷ earlier) last x zero none e exit = nothing_is e
-exit_is_last (y ∷ earlier) last x (suc zero) none e exit = no (sym none.0 ∙ ap is_exit (ap (λ (o : Option FastState). unwrap_or o x) e) ∙ exit)
+exit_is_last (y ∷ earlier) last x (suc zero) none e exit = no (sym none.0 ∙ ap commands_exit (ap (λ (o : Option FastState). unwrap_or o x) e) ∙ exit)
 exit_is_last (y ∷ earlier) last x (suc (suc k)) none e exit = let rest = exit_is_last earlier last x (suc k) none.1 e exit in (omega (arith, rest.0), rest.1)
 
 none_of : {A : Type 0} (k : ℕ) (x : FastState) → state_of [] k ≡ Some x → A
@@ -56,19 +56,19 @@ none_of (suc k) x e = nothing_is e
 pub record IsLastExit (n count : ℕ) (last : FastState) : Type 0 where
   pub number : n ≡ count
   pub some : 0 < count
-  pub exit : is_exit last ≡ true
+  pub exit : commands_exit last ≡ true
 
-last_exit : (count n : ℕ) (last x : FastState) (states : List FastState) → PushedRuns count last states → state_of states n ≡ Some x → is_exit x ≡ true → IsLastExit n count last
+last_exit : (count n : ℕ) (last x : FastState) (states : List FastState) → PushedRuns count last states → state_of states n ≡ Some x → commands_exit x ≡ true → IsLastExit n count last
 last_exit zero n last x states runs there exit = none_of n x (sym (ap (λ (l : List FastState). state_of l n) (runs.none refl)) ∙ there)
 last_exit (suc count) n last x states runs there exit =
     let end : EndsWith (suc count) last states = runs.some (omega arith) in
     let is = exit_is_last end.earlier last x n end.run (sym (ap (λ (l : List FastState). state_of l n) end.whole) ∙ there) exit in
-    record { number = is.0 ∙ sym end.counted; some = omega arith; exit = ap is_exit is.1 ∙ exit }
+    record { number = is.0 ∙ sym end.counted; some = omega arith; exit = ap commands_exit is.1 ∙ exit }
 
 module _ {P : Type 0} where
   -- the current state of an observer that says Exit is the last one pushed
-  pub current_exit : (first y x : FastState) (ms : List (MutatorEvent P)) (os : List (ObserverEvent P)) (n count : ℕ) (last : FastState) (now before : Option FastState) → HasHistory first ms os → AreTold os n y now before
-      → now ≡ Some x → is_exit x ≡ true → PushedRuns count last (pushed_states ms) → IsLastExit n count last
+  pub current_exit : (first y x : FastState) (ms : List (MutatorEvent P)) (os : List (ObserverEvent P)) (n count : ℕ) (last : FastState) (now before : Option FastState) → HasStateHistory first ms os → AreTold os n y now before
+      → now ≡ Some x → commands_exit x ≡ true → PushedRuns count last (pushed_states ms) → IsLastExit n count last
   current_exit first y x ms os n count last now before h told is exit runs =
       let polled = polled_in_order first ms os h in
       let there : state_of (pushed_states ms) n ≡ Some x = ap (λ (l : List FastState). state_of l n) polled.2 ∙ state_some (polled_states first os) polled.0 n x (told.current first ∙ is) in
@@ -78,7 +78,7 @@ module _ {P : Type 0} where
 
   -- if the observer only learnt since the mutator did, the next look at the acknowledgement finds the number of the observer's state
   pub look_finds : (first y : FastState) (ms rest : List (MutatorEvent P)) (os : List (ObserverEvent P)) (c a d d' n : ℕ) (items : List (Option P)) (now before : Option FastState)
-      → HasHistory first ((ms ++ mutator.Learn c ∷ []) ++ mutator.SawAck a items ∷ rest) ((os ++ observer.Learn d ∷ []) ++ observer.Learn d' ∷ []) → length os ≤ c
+      → HasStateHistory first ((ms ++ mutator.Learn c ∷ []) ++ mutator.SawAck a items ∷ rest) ((os ++ observer.Learn d ∷ []) ++ observer.Learn d' ∷ []) → length os ≤ c
       → AreTold ((os ++ observer.Learn d ∷ []) ++ observer.Learn d' ∷ []) n y now before → a ≡ n
   look_finds first y ms rest os c a d d' n items now before h reached told =
       (sees_the_ack first ((os ++ observer.Learn d ∷ []) ++ observer.Learn d' ∷ []) os (observer.Learn d ∷ observer.Learn d' ∷ []) ms rest c a items h

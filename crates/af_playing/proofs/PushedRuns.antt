@@ -1,11 +1,11 @@
 -- What a mixer pushed: no state before the last one says Exit.
 use Rattle.std.proofs.Common.{◌≡◌, ℕ, zero, suc, ◌+◌, ◌<◌, ◌==◌, ◌&&◌, ◌||◌, Bool, true, false, if◌then◌else◌, sym, refl, ap, subst, ◌∙◌, List, [], ◌∷◌, ◌++◌, length, length-append, append-nil, Option, arith}
-use Rattle.af_playing.proofs.Common.{AllByRecursion, Busy, Clean, FastState, IsQuiet, LegalTurn, MutatorEvent, NormalKept, Outside, Push, Pushed, Setup, Turn, after_edits, after_push, after_takes, is_exit, learnt, mutated_none, mutator_list, no, number_seen, push_clean, push_list, pushed_states, turn_after}
+use Rattle.af_playing.proofs.Common.{AllByRecursion, Busy, Clean, FastState, IsQuiet, LegalTurn, MutatorEvent, NormalKept, Outside, Push, Pushed, Setup, Turn, after_edits, after_push, after_takes, commands_exit, learnt, mutated_none, mutator_list, no, number_seen, push_clean, push_list, pushed_states, turn_after}
 use Rattle.af_model.specs.declared.states.MutatorEvent.TheVariants as mutator
 
 -- none of these states says Exit
 abbrev pub NoneExits : List FastState → Type 0
-NoneExits states = AllByRecursion (λ x. is_exit x ≡ false) states
+NoneExits states = AllByRecursion (λ x. commands_exit x ≡ false) states
 
 -- the last of so many states is this one, and none before it says Exit
 pub record EndsWith (count : ℕ) (last : FastState) (states : List FastState) : Type 0 where
@@ -35,7 +35,7 @@ none_append [] ys none more = more
 none_append (x ∷ xs) ys none more = (none.0, none_append xs ys none.1 more)
 
 -- one state more may be pushed after a last one that doesn't say Exit
-one_more : (count : ℕ) (last next : FastState) (states : List FastState) → PushedRuns count last states → is_exit last ≡ false → PushedRuns (count + 1) next (states ++ next ∷ [])
+one_more : (count : ℕ) (last next : FastState) (states : List FastState) → PushedRuns count last states → commands_exit last ≡ false → PushedRuns (count + 1) next (states ++ next ∷ [])
 one_more zero last next states runs run = record {
   none = (λ is. absurd (omega arith));
   some = (λ _. record { earlier = []; whole = ap (λ (l : List FastState). l ++ next ∷ []) (runs.none refl); counted = omega arith; run = tt });
@@ -65,13 +65,13 @@ module _ {P : Type 0} (c : Setup) (o : Outside) (m : NormalKept) (e : Turn) (bac
   edits_run = let same = mutated_none c (learnt o) m e in subst (λ (x : ℕ × FastState). PushedRuns x.0 x.1 states) (λ i. (sym same.pushed i, sym same.last i)) runs
 
   -- if a state is pushed, the last one before it didn't say Exit
-  pushed_runs : (number : ℕ) → e.ended ≡ false → e.push ≡ Pushed number → is_exit edits.last ≡ false
+  pushed_runs : (number : ℕ) → e.ended ≡ false → e.push ≡ Pushed number → commands_exit edits.last ≡ false
   unfolding edits is_clean
-  pushed_runs number goes is = by_exit (is_exit m.last) refl
+  pushed_runs number goes is = by_exit (commands_exit m.last) refl
     where
-      by_exit : (b : Bool) → is_exit m.last ≡ b → is_exit (after_edits c (learnt o) e m).last ≡ false
+      by_exit : (b : Bool) → commands_exit m.last ≡ b → commands_exit (after_edits c (learnt o) e m).last ≡ false
       by_exit true exit = no (ap is_clean (sym is ∙ push_clean c o m e quiet exit (legal.goes_on goes)))
-      by_exit false exit = ap is_exit (mutated_none c (learnt o) m e).last ∙ exit
+      by_exit false exit = ap commands_exit (mutated_none c (learnt o) m e).last ∙ exit
 
   by_zero : (b : Bool) (number : ℕ) (x : NormalKept) → pushed_states ((if b then [] else mutator.SawAck x.pushed again ∷ []) ++ mutator.Push number x.draft sent ∷ []) ≡ x.draft ∷ []
   by_zero true number x = refl
@@ -102,7 +102,7 @@ module _ {P : Type 0} (c : Setup) (o : Outside) (m : NormalKept) (e : Turn) (bac
           (if b then [] else mutator.SawAck (number_seen m e.ack) back ∷ (if d then [] else push_list (after_edits c (learnt o) e m) e.push again sent))
       by_ends true true was is = stays (record m { ended = true }) refl refl
       by_ends false true was is = stays (record m { ended = true }) refl refl
-      by_ends true false was is = no (sym is ∙ legal.ends ∙ ap (λ (b : Bool). b || (is_exit m.last && e.ack)) was)
+      by_ends true false was is = no (sym is ∙ legal.ends ∙ ap (λ (b : Bool). b || (commands_exit m.last && e.ack)) was)
       by_ends false false was is = by_push e.push is refl
 
 -- a turn of a quiet mixer keeps what is pushed before the last state free of Exit

@@ -15,8 +15,8 @@ pub use Rattle.af_model.proofs.Basics.{both_first, flushes-append}
 pub use Rattle.af_model.proofs.Fates.{begins, in_turn}
 pub use Rattle.af_model.proofs.Logic.{ahead-between, both_right}
 pub use Rattle.af_model.specs.History.{HasHistory, IsLegal, Moment, by_client, by_hand, by_server, client_of, flushes_of, hand_of, is_lawful, server_of}
-pub use Rattle.af_model.specs.Order.{Event, Legal, after, one, ones, two, twos}
-pub use Rattle.af_model.specs.PipeHistory.{PipePoint, PutKept, after_put, next, nothing_put, room_by, start}
+pub use Rattle.af_model.specs.Order.{Event, Legal, point_after, one, ones, two, twos}
+pub use Rattle.af_model.specs.PipeHistory.{PipePoint, PutKept, after_put, next_in_pipe, nothing_put, room_by, start_of_pipe}
 pub use Rattle.af_model.specs.Point.{ClientMay, ServerMay, after_client, after_server, wrapped}
 pub use Rattle.af_model.specs.Room.{ahead}
 pub use Rattle.af_model.specs.ServerCalls.{IsServerList, ServerKept, drops_of, look_at, look_events, looks, meets, reads_gains, rests, server_begins, server_keeps, server_kept, sets_flags, sets_status, takes, tallies}

@@ -1,6 +1,6 @@
 -- In a history of a recording each front seen is the number of frames taken before it.
 use Rattle.std.proofs.Common.{◌≡◌, ℕ, List, [], ◌∷◌, refl, subst}
-use Rattle.af_record.proofs.Common.{ClientEvent, Event, Legal, PipePoint, ServerEvent, next, one, start, two, twos}
+use Rattle.af_record.proofs.Common.{ClientEvent, Event, Legal, PipePoint, ServerEvent, next_in_pipe, one, start_of_pipe, two, twos}
 use Rattle.af_base.specs.declared.event.ClientEvent.TheVariants as client
 use Rattle.af_base.specs.declared.event.ServerEvent.TheVariants as server
 use Rattle.af_record.specs.History.{legal, HasTapeHistory}
@@ -8,23 +8,23 @@ use Rattle.af_record.specs.Ends.{SeesTaken}
 
 module _ (size : ℕ) where
   -- a step of the end that supplies takes no frames
-  put_leaves : (p : PipePoint) (e : ClientEvent) → (next p (one e)).taken ≡ p.taken
+  put_leaves : (p : PipePoint) (e : ClientEvent) → (next_in_pipe p (one e)).taken ≡ p.taken
   put_leaves p (client.Release count) = refl
   put_leaves p _ = refl
 
-  in_order : (p : PipePoint) (es : List (Event ClientEvent ServerEvent)) → Legal (legal size) next p es → SeesTaken p.taken (twos es)
+  in_order : (p : PipePoint) (es : List (Event ClientEvent ServerEvent)) → Legal (legal size) next_in_pipe p es → SeesTaken p.taken (twos es)
   in_order p [] l = tt
-  in_order p (one e ∷ es) l = subst (λ (n : ℕ). SeesTaken n (twos es)) (put_leaves p e) (in_order (next p (one e)) es l.1)
-  in_order p (two (server.SawRear rear) ∷ es) l = in_order (next p (two (server.SawRear rear))) es l.1
-  in_order p (two (server.SawFront front) ∷ es) l = (l.0, in_order (next p (two (server.SawFront front))) es l.1)
-  in_order p (two (server.Take count) ∷ es) l = in_order (next p (two (server.Take count))) es l.1
-  in_order p (two (server.Learn count) ∷ es) l = in_order (next p (two (server.Learn count))) es l.1
+  in_order p (one e ∷ es) l = subst (λ (n : ℕ). SeesTaken n (twos es)) (put_leaves p e) (in_order (next_in_pipe p (one e)) es l.1)
+  in_order p (two (server.SawRear rear) ∷ es) l = in_order (next_in_pipe p (two (server.SawRear rear))) es l.1
+  in_order p (two (server.SawFront front) ∷ es) l = (l.0, in_order (next_in_pipe p (two (server.SawFront front))) es l.1)
+  in_order p (two (server.Take count) ∷ es) l = in_order (next_in_pipe p (two (server.Take count))) es l.1
+  in_order p (two (server.Learn count) ∷ es) l = in_order (next_in_pipe p (two (server.Learn count))) es l.1
   in_order p (two (server.SawGain word) ∷ es) l = absurd l.0
-  in_order p (two (server.SawFlush flush) ∷ es) l = in_order (next p (two (server.SawFlush flush))) es l.1
+  in_order p (two (server.SawFlush flush) ∷ es) l = in_order (next_in_pipe p (two (server.SawFlush flush))) es l.1
   in_order p (two (server.Drop to) ∷ es) l = absurd l.0
   in_order p (two (server.Tally missing) ∷ es) l = absurd l.0
   in_order p (two (server.SetFlags bits) ∷ es) l = absurd l.0
   in_order p (two (server.SetStatus word) ∷ es) l = absurd l.0
 
 pub sees_taken : (size : ℕ) (puts : List ClientEvent) (put : List ℕ) (takes : List ServerEvent) (taken : List ℕ) → HasTapeHistory size puts put takes taken → SeesTaken 0 takes
-sees_taken size puts put takes taken h = subst (λ (es : List ServerEvent). SeesTaken 0 es) h.history.of_two (in_order size start h.history.order h.history.is_legal)
+sees_taken size puts put takes taken h = subst (λ (es : List ServerEvent). SeesTaken 0 es) h.history.of_two (in_order size start_of_pipe h.history.order h.history.is_legal)

@@ -1,6 +1,6 @@
 -- What a write leaves of the list of the end that supplies.
 use Rattle.std.proofs.Common.{◌≡◌, inl, inr, ◌≢◌, ℕ, zero, suc, ◌+◌, ◌-◌, ◌≤◌, ◌==◌, bit_and, Bool, false, true≢false, not, List, [], ◌∷◌, ◌++◌, length, take, drop, map, refl, sym, ap, ◌∙◌, subst, arith, append_assoc, append-nil, length-append, length-take-le, ne_eqb}
-use Rattle.af_record.proofs.Common.{ClientEvent, ClientPart, ClientState, Frame, IsInOrder, Legal, PutKept, ServerEvent, Shape, after, after_put, ahead, client_kept_of, client_met, length-drop, length-map, map-append, nothing_put, packed_word, room_by, take-add, take_all, wrapped}
+use Rattle.af_record.proofs.Common.{ClientEvent, ClientPart, ClientState, Frame, IsInOrder, Legal, PutKept, ServerEvent, Shape, point_after, after_put, ahead, client_kept_of, client_met, length-drop, length-map, map-append, nothing_put, packed_word, room_by, take-add, take_all, wrapped}
 use Rattle.af_base.specs.declared.event.ClientEvent.TheVariants as client
 use Rattle.af_cblk.specs.Shape.{IsShape}
 use Rattle.af_client.specs.declared.write.Wrote.{Wrote}
@@ -55,7 +55,7 @@ last_dead-append dead (client.Learn count ∷ xs) ys = last_dead-append dead xs 
 module _ (size : ℕ) where
   -- what the list tells of an end that supplies
   abbrev known_of : PutKept → List ClientEvent → PutKept
-  known_of k events = after (may_supply size) after_put k events
+  known_of k events = point_after (may_supply size) after_put k events
 
   known_put : (k : PutKept) (es : List ClientEvent) → (known_of k es).put ≡ k.put + put_by es
   known_put k [] = omega arith

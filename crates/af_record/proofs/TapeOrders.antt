@@ -1,6 +1,6 @@
 -- The history of a block, on which the ends of a recording alone did something, is one of the recording.
 use Rattle.std.proofs.Common.{◌≡◌, ℕ, ◌+◌, ◌-◌, ◌≤◌, ◌==◌, bit_and, MatchBool, Bool, true, false, true≢false, ◌&&◌, Option, List, [], ◌∷◌, ◌++◌, length, take, refl, sym, ap, ◌∙◌, subst, arith, length-append, length-take-le, eqb-true, eq-eqb}
-use Rattle.af_record.proofs.Common.{ClientEvent, ClientMay, Event, HasHistory, IsLegal, IsServerList, Legal, Moment, PipePoint, PutKept, ServerEvent, ServerMay, Shape, TrackPoint, after, after_client, after_put, after_server, ahead-between, begins, both_first, both_right, by_client, by_hand, by_server, client_of, flushes_of, hand_of, in_turn, is_lawful, list_all, next, nothing_put, one, ones, room_by, server_of, start, two, twos, wrapped}
+use Rattle.af_record.proofs.Common.{ClientEvent, ClientMay, Event, HasHistory, IsLegal, IsServerList, Legal, Moment, PipePoint, PutKept, ServerEvent, ServerMay, Shape, TrackPoint, point_after, after_client, after_put, after_server, ahead-between, begins, both_first, both_right, by_client, by_hand, by_server, client_of, flushes_of, hand_of, in_turn, is_lawful, list_all, next_in_pipe, nothing_put, one, ones, room_by, server_of, start_of_pipe, two, twos, wrapped}
 use Rattle.af_base.specs.declared.event.ClientEvent.TheVariants as client
 use Rattle.af_base.specs.declared.event.ServerEvent.TheVariants as server
 use Rattle.af_model.specs.Point.{start as block_start}
@@ -75,12 +75,12 @@ record TapeHasRoom (size : ℕ) (k : PutKept) (p : TrackPoint) : Type 0 where
 -- one more event of the end that supplies
 record Supplies (size : ℕ) (k : PutKept) (p : TrackPoint) (puts takes : ℕ) (e : ClientEvent) : Type 0 where
   may : legal size (point_of p puts takes) (one e)
-  point_is : next (point_of p puts takes) (one e) ≡ point_of (after_client p e) (puts + 1) takes
+  point_is : next_in_pipe (point_of p puts takes) (one e) ≡ point_of (after_client p e) (puts + 1) takes
   room : TapeHasRoom size (after_put k e) (after_client p e)
 
 record Reads (size : ℕ) (k : PutKept) (p : TrackPoint) (puts takes : ℕ) (e : ServerEvent) : Type 0 where
   may : legal size (point_of p puts takes) (two e)
-  point_is : next (point_of p puts takes) (two e) ≡ point_of (after_server p e) puts (takes + 1)
+  point_is : next_in_pipe (point_of p puts takes) (two e) ≡ point_of (after_server p e) puts (takes + 1)
   room : TapeHasRoom size k (after_server p e)
 
 -- if no flag is set, none are seen to have INVALID
@@ -159,12 +159,12 @@ module _ (shape : Shape) (size : ℕ) (few : size ≤ 65536) (from_zero : shape.
 
   -- what the list of the end that supplies tells
   abbrev known_of : List ClientEvent → PutKept
-  known_of events = after (may_supply size) after_put nothing_put events
+  known_of events = point_after (may_supply size) after_put nothing_put events
 
   -- what holds of the events of an order so far
   record Agrees (order : List Moment) : Type 0 where
-    is_legal : Legal (legal size) next start (events_of order)
-    point_is : after (legal size) next start (events_of order) ≡ point_of (block_after (block_start shape) order) (length (client_of order)) (length (server_of order))
+    is_legal : Legal (legal size) next_in_pipe start_of_pipe (events_of order)
+    point_is : point_after (legal size) next_in_pipe start_of_pipe (events_of order) ≡ point_of (block_after (block_start shape) order) (length (client_of order)) (length (server_of order))
     room : TapeHasRoom size (known_of (client_of order)) (block_after (block_start shape) order)
 
   agrees : (order : List Moment) → IsLegal (block_start shape) order → hand_of order ≡ [] → IsSupplyList size (client_of order) → list_all is_calm (server_of order) ≡ true → Agrees order
@@ -182,8 +182,8 @@ module _ (shape : Shape) (size : ℕ) (few : size ≤ 65536) (from_zero : shape.
       let step = put_step (known_of (client_of order)) (block_after (block_start shape) order) n m e h.0 s.1 (in_turn shape order h.1) a.room in
       let count : n + 1 ≡ length (client_of order ++ e ∷ []) = sym (length-append (client_of order) (e ∷ [])) in
       record {
-        is_legal = legal_end (legal size) next start (events_of order) (one e) a.is_legal (subst (λ (q : PipePoint). legal size q (one e)) (sym a.point_is) step.may);
-        point_is = after_end (legal size) next start (events_of order) (one e) ∙ ap (λ (q : PipePoint). next q (one e)) a.point_is ∙ step.point_is
+        is_legal = legal_end (legal size) next_in_pipe start_of_pipe (events_of order) (one e) a.is_legal (subst (λ (q : PipePoint). legal size q (one e)) (sym a.point_is) step.may);
+        point_is = after_end (legal size) next_in_pipe start_of_pipe (events_of order) (one e) ∙ ap (λ (q : PipePoint). next_in_pipe q (one e)) a.point_is ∙ step.point_is
             ∙ ap (λ (c : ℕ). point_of (block_after (block_start shape) (by_client e ∷ order)) c m) count;
         room = subst (λ (k : PutKept). TapeHasRoom size k (block_after (block_start shape) (by_client e ∷ order))) (sym (after_end (may_supply size) after_put nothing_put (client_of order) e)) step.room;
       }
@@ -195,8 +195,8 @@ module _ (shape : Shape) (size : ℕ) (few : size ≤ 65536) (from_zero : shape.
       let step = take_step (known_of (client_of order)) (block_after (block_start shape) order) n m e h.0 here a.room in
       let count : m + 1 ≡ length (server_of order ++ e ∷ []) = sym (length-append (server_of order) (e ∷ [])) in
       record {
-        is_legal = legal_end (legal size) next start (events_of order) (two e) a.is_legal (subst (λ (q : PipePoint). legal size q (two e)) (sym a.point_is) step.may);
-        point_is = after_end (legal size) next start (events_of order) (two e) ∙ ap (λ (q : PipePoint). next q (two e)) a.point_is ∙ step.point_is
+        is_legal = legal_end (legal size) next_in_pipe start_of_pipe (events_of order) (two e) a.is_legal (subst (λ (q : PipePoint). legal size q (two e)) (sym a.point_is) step.may);
+        point_is = after_end (legal size) next_in_pipe start_of_pipe (events_of order) (two e) ∙ ap (λ (q : PipePoint). next_in_pipe q (two e)) a.point_is ∙ step.point_is
             ∙ ap (λ (c : ℕ). point_of (block_after (block_start shape) (by_server e ∷ order)) n c) count;
         room = step.room;
       }
@@ -230,14 +230,14 @@ stays_calm shape size ce cf se sf shown flat h puts reads list =
 
 -- ## What each end saw
 
-alive_in : (size : ℕ) (p : PipePoint) (es : List (Event ClientEvent ServerEvent)) → Legal (legal size) next p es → list_all is_alive (ones es) ≡ true
+alive_in : (size : ℕ) (p : PipePoint) (es : List (Event ClientEvent ServerEvent)) → Legal (legal size) next_in_pipe p es → list_all is_alive (ones es) ≡ true
 alive_in size p [] l = refl
-alive_in size p (two e ∷ es) l = alive_in size (next p (two e)) es l.1
+alive_in size p (two e ∷ es) l = alive_in size (next_in_pipe p (two e)) es l.1
 alive_in size p (one (client.SawFlags flags) ∷ es) l =
-    ap (λ (b : Bool). b && list_all is_alive (ones es)) (eq-eqb (bit_and flags 4) 0 l.0) ∙ alive_in size (next p (one (client.SawFlags flags))) es l.1
-alive_in size p (one (client.Release count) ∷ es) l = alive_in size (next p (one (client.Release count))) es l.1
-alive_in size p (one (client.SawFront front) ∷ es) l = alive_in size (next p (one (client.SawFront front))) es l.1
-alive_in size p (one (client.Learn count) ∷ es) l = alive_in size (next p (one (client.Learn count))) es l.1
+    ap (λ (b : Bool). b && list_all is_alive (ones es)) (eq-eqb (bit_and flags 4) 0 l.0) ∙ alive_in size (next_in_pipe p (one (client.SawFlags flags))) es l.1
+alive_in size p (one (client.Release count) ∷ es) l = alive_in size (next_in_pipe p (one (client.Release count))) es l.1
+alive_in size p (one (client.SawFront front) ∷ es) l = alive_in size (next_in_pipe p (one (client.SawFront front))) es l.1
+alive_in size p (one (client.Learn count) ∷ es) l = alive_in size (next_in_pipe p (one (client.Learn count))) es l.1
 alive_in size p (one client.Flush ∷ es) l = absurd l.0
 alive_in size p (one (client.SetGain word) ∷ es) l = absurd l.0
 alive_in size p (one (client.ClearFlags old) ∷ es) l = absurd l.0
@@ -247,4 +247,4 @@ alive_in size p (one (client.Poke word value) ∷ es) l = absurd l.0
 -- no look at the flags shows INVALID
 pub stays_alive : (size : ℕ) (puts : List ClientEvent) (put : List ℕ) (takes : List ServerEvent) (taken : List ℕ) → HasTapeHistory size puts put takes taken → list_all is_alive puts ≡ true
 stays_alive size puts put takes taken h =
-    subst (λ (es : List ClientEvent). list_all is_alive es ≡ true) h.history.of_one (alive_in size start h.history.order h.history.is_legal)
+    subst (λ (es : List ClientEvent). list_all is_alive es ≡ true) h.history.of_one (alive_in size start_of_pipe h.history.order h.history.is_legal)

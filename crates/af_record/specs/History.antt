@@ -5,22 +5,22 @@ use Rattle.af_base.specs.declared.event.ClientEvent.{ClientEvent}
 use Rattle.af_base.specs.declared.event.ClientEvent.TheVariants as client
 use Rattle.af_base.specs.declared.event.ServerEvent.{ServerEvent}
 use Rattle.af_base.specs.declared.event.ServerEvent.TheVariants as server
-use Rattle.af_model.specs.Order.{Event, one, two, Legal, after, HasOrder}
-use Rattle.af_model.specs.PipeHistory.{PipePoint, start, next, PutKept, nothing_put, may_put, after_put, is_taking}
+use Rattle.af_model.specs.Order.{Event, one, two, Legal, point_after, HasOrder}
+use Rattle.af_model.specs.PipeHistory.{PipePoint, start_of_pipe, next_in_pipe, PutKept, nothing_put, may_put, after_put, is_taking}
 use Rattle.af_model.specs.PipeHistory as pipe
 
 -- Which event is legal, as in a pipe, but that the end that supplies also looks at the flags, and the end that reads at the flush word. No flags seen have INVALID, each flush word seen is 0, and nothing is dropped
 abbrev pub legal : ℕ → PipePoint → Event ClientEvent ServerEvent → Type 0
 legal size p (one (client.SawFlags flags)) = bit_and flags 4 ≡ 0
-legal size p (one e) = pipe.legal size p (one e)
+legal size p (one e) = pipe.legal_in_pipe size p (one e)
 legal size p (two (server.SawFlush flush)) = flush ≡ 0
-legal size p (two e) = pipe.legal size p (two e)
+legal size p (two e) = pipe.legal_in_pipe size p (two e)
 
 -- There is a legal order of both ends' events. The frames put and taken are as many as these say, and those taken begin those put
 pub record HasTapeHistory (size : ℕ) (puts : List ClientEvent) (put : List ℕ) (takes : List ServerEvent) (taken : List ℕ) : Type 0 where
-  pub history : HasOrder (legal size) next start puts takes
-  pub put_is : (after (legal size) next start history.order).put ≡ length put
-  pub taken_is : (after (legal size) next start history.order).taken ≡ length taken
+  pub history : HasOrder (legal size) next_in_pipe start_of_pipe puts takes
+  pub put_is : (point_after (legal size) next_in_pipe start_of_pipe history.order).put ≡ length put
+  pub taken_is : (point_after (legal size) next_in_pipe start_of_pipe history.order).taken ≡ length taken
   pub begins : taken ≡ take (length taken) put
 
 -- ## What each end does by itself

@@ -1,6 +1,6 @@
 -- What stands between two rounds stands again after a round of a client, a turn of the normal mixer, and a round in which nothing is done.
 use Rattle.std.proofs.Common.{◌≡◌, ℕ, ◌<◌, ◌≤◌, Bool, true, false, MatchBool, List, [], ◌∷◌, ◌++◌, length, refl, sym, ap, subst, ◌∙◌, arith}
-use Rattle.af_render_law.proofs.Common.{AreTogether, FastState, Given, HasHistory, InStep, IsInOrder, IsLegal, IsQuiet, IsRound, Leads, Links, Met, MixerState, NormalKept, NormalState, NormalTurned, Outside, Polls, Pushes, RoundNoted, ScriptData, ServerState, SessionState, StandsBetween, StreamNames, Turn, ends_keep, kept_of, learnt, learnt_by, new_quiet, normal_round, observed, script_setup, step_met, still_round, tells_met, turn_of, turn_quiet}
+use Rattle.af_render_law.proofs.Common.{AreTogether, FastState, Given, HasStateHistory, InStep, IsInOrder, IsLegal, IsQuiet, IsRound, Leads, Links, Met, MixerState, NormalKept, NormalState, NormalTurned, Outside, Polls, Pushes, RoundNoted, ScriptData, ServerState, SessionState, StandsBetween, StreamNames, Turn, ends_keep, kept_of, learnt, learnt_by, new_quiet, normal_round, observed, script_setup, step_met, still_round, tells_met, turn_of, turn_quiet}
 use Rattle.af_model.specs.declared.states.MutatorEvent.{MutatorEvent}
 use Rattle.af_model.specs.declared.states.MutatorEvent.TheVariants as mutator
 use Rattle.af_model.specs.declared.states.ObserverEvent.{ObserverEvent}
@@ -43,12 +43,12 @@ module _ (turned met t : SessionState) (meets : Met turned met) (ends : t ≡ wi
   kept_after : kept_of t.normal ≡ kept_of turned.normal
   kept_after = ap kept_of (same_normal ∙ meets.ends.normal)
 
-  history : HasHistory turned.normal.mutator.past.first ms os
-  history = subst (λ (y : Pushes ServerState StreamNames × Polls ServerState StreamNames). HasHistory y.0.first y.0.events y.1.events)
+  history : HasStateHistory turned.normal.mutator.past.first ms os
+  history = subst (λ (y : Pushes ServerState StreamNames × Polls ServerState StreamNames). HasStateHistory y.0.first y.0.events y.1.events)
       (λ j. (ap (λ (m : NormalState). m.mutator.past) meets.ends.normal j, ap (λ (m : MixerState). m.observer.past) meets.ends.fast j)) meets.ends.histories.queue
 
-  history_after : HasHistory t.normal.mutator.past.first t.normal.mutator.past.events t.fast.observer.past.events
-  history_after = subst (λ (y : Pushes ServerState StreamNames × Polls ServerState StreamNames). HasHistory y.0.first y.0.events y.1.events) (λ j. (sym pushed_after j, sym polled_after j)) history
+  history_after : HasStateHistory t.normal.mutator.past.first t.normal.mutator.past.events t.fast.observer.past.events
+  history_after = subst (λ (y : Pushes ServerState StreamNames × Polls ServerState StreamNames). HasStateHistory y.0.first y.0.events y.1.events) (λ j. (sym pushed_after j, sym polled_after j)) history
 
   acked : (observed os).acked ≡ turned.fast.observer.past.number
   acked = subst (λ (y : Polls ServerState StreamNames). (observed y.events).acked ≡ y.number) (ap (λ (m : MixerState). m.observer.past) meets.ends.fast) order.observer.told.acked
@@ -120,7 +120,7 @@ module _ (script : ScriptData) (shared : SharedState) (s : SessionState) (new : 
   pub stands_first : StandsBetween s
   stands_first = let first = entries_first script shared s new in record {
     step = first.step;
-    history = subst (λ (y : List (MutatorEvent ServerState) × List (ObserverEvent ServerState)). HasHistory s.normal.mutator.past.first y.0 y.1) (λ j. (sym new.ends.mutator.silent.2 j, sym new.ends.observer.0.silent.1 j))
+    history = subst (λ (y : List (MutatorEvent ServerState) × List (ObserverEvent ServerState)). HasStateHistory s.normal.mutator.past.first y.0 y.1) (λ j. (sym new.ends.mutator.silent.2 j, sym new.ends.observer.0.silent.1 j))
         (record { order = []; is_legal = tt; of_one = refl; of_two = refl });
     leads = first.leads;
     quiet = subst IsQuiet (sym new.kept) (new_quiet (script_setup script));

@@ -38,7 +38,7 @@ pub use Rattle.af_life.specs.Serves.{IsServed, LegalTrack, after_commands, is_fo
 unfoldable pub use Rattle.af_life.specs.Serves.{after_part, served}
 pub use Rattle.af_life.specs.Turn.{GoesOn, LegalTurn, after_edits, after_tracks}
 unfoldable pub use Rattle.af_life.specs.Turn.{turn_after}
-pub use Rattle.af_life.specs.TurnEvents.{going, hand_list, invalid, mix_events, stream_list, takes_from, tracks_at}
+pub use Rattle.af_life.specs.TurnEvents.{going, hand_events_of, invalid, mix_events, stream_list, takes_from, tracks_at}
 pub use Rattle.af_life.specs.declared.kept.Heard.{Heard}
 pub use Rattle.af_life.specs.declared.kept.Setting.{Setting}
 pub use Rattle.af_life.specs.declared.kept.TrackKept.{TrackKept}
@@ -52,7 +52,7 @@ pub use Rattle.af_model.specs.JournalForm.{TracksRise}
 pub use Rattle.af_model.specs.Journals.{EntrySeen, JournalData, RoundNoted, RoundSeen, cycles_of, entries_of, entries_seen, frames_of, journal_of, rounds_seen}
 unfoldable pub use Rattle.af_model.specs.Journals.{taken_by}
 pub use Rattle.af_model.specs.ServerCalls.{ServerKept, drops_of, look_events, server_begins, server_keeps, server_kept}
-pub use Rattle.af_model.specs.StateQueue.{HasHistory, carries, observed, slot_of}
+pub use Rattle.af_model.specs.StateQueue.{HasStateHistory, carries, observed, slot_of}
 pub use Rattle.af_model.specs.declared.newest.ReaderEvent.TheVariants.{Load}
 pub use Rattle.af_model.specs.declared.shape.Shape.{Shape}
 pub use Rattle.af_normal.specs.LegalTurned.{IsLegal, hand_events}
@@ -74,7 +74,7 @@ pub use Rattle.af_runs.specs.Found.{LegalTurnBy, TurnFound, outside_of}
 pub use Rattle.af_runs.specs.Fronts.{front_of, is_shown}
 pub use Rattle.af_runs.specs.LegalRuns.{marks_of, session_of}
 pub use Rattle.af_runs.specs.Rounds.{HaveHistories, LegalEntry, LegalTurnIn, loaded, turned}
-pub use Rattle.af_runs.specs.Runs.{Run, TrackTold, called, calls_in, each_from, each_track, fast_ended, found_before, mixed_track, new_run, new_track, no_track, pipe_cells, played, report_of, side_of, sides_of, state_for, stream_met, takes_part, told_at, track_met, turned_track, with_side}
+pub use Rattle.af_runs.specs.Runs.{Run, TrackTold, called_in_turn, calls_in, changed_from, each_track, fast_ended, found_before, mixed_track, new_run, new_told_track, no_track, pipe_cells, played, report_of, client_side, sides_of, state_for, stream_met, takes_part, told_at, track_met, turned_track, with_side}
 unfoldable pub use Rattle.af_runs.specs.Runs.{met, with_ends, with_load, with_mix, with_poll, with_turn}
 pub use Rattle.af_runs.specs.Sessions.{Session, cycle_frames, no_spec, script_setup, setup_of, track_count}
 pub use Rattle.af_runs.specs.TurnRuns.{AreTurns, IsMadeBy, IsTurnRun, LegalAlone, OnlyCalls, calls_alone, cycle_alone, made_alone, met_alone, run_alone, turn_alone}

@@ -1,6 +1,6 @@
 -- A cycle of the fast mixer is told once it is known that each front that a server saw is its own.
 use Rattle.std.proofs.Common.{List, None, [], ap, arith, false, length, subst, sym, ℕ, ◌++◌, ◌<◌, ◌∙◌, ◌∷◌, ◌≡◌}
-use Rattle.af_render_law.proofs.Common.{AreSmall, AreTogether, Cycle, CycleEntry, Deeds, EntrySeen, Frame, HasHistory, InStep, IsCycle, IsMarkedRun, LeadAway, Leaves, LegalEntry, Links, Marks, MixerState, MixesAreTold, Observes, Polls, Run, SawOwnBy, SawOwnOf, SeesOwn, ServerState, Session, SessionState, StreamNames, Tells, Track, adds, cycle_alone, deeds_met, entry_told, held_slot, is_over, met_marked, mix_marked, poll_marked, same_frames, same_last, side_of, slot_for, small_told, still_on, tame_marks, told_at, with_mix, with_poll}
+use Rattle.af_render_law.proofs.Common.{AreSmall, AreTogether, Cycle, CycleEntry, Deeds, EntrySeen, Frame, HasStateHistory, InStep, IsCycle, IsMarkedRun, LeadAway, Leaves, LegalEntry, Links, Marks, MixerState, MixesAreTold, Observes, Polls, Run, SawOwnBy, SawOwnOf, SeesOwn, ServerState, Session, SessionState, StreamNames, Tells, Track, adds, cycle_alone, deeds_met, entry_told, held_slot, is_over, met_marked, mix_marked, poll_marked, same_frames, same_last, client_side, slot_for, small_told, still_on, tame_marks, told_at, with_mix, with_poll}
 use Rattle.af_runs.specs.Runs as run_of
 use Rattle.af_render_law.specs.Laws.{IsBetween, ToldBy}
 use Rattle.af_render_law.proofs.IdlePoll.{between_met, caught_met}
@@ -12,7 +12,7 @@ use Rattle.af_render_law.proofs.OwnKept.{mixed_many, mixed_same, saw_met, saw_no
 pub between_mixed : (x : SessionState) (g : MixerState) → g.observer.past ≡ x.fast.observer.past → IsBetween x → IsBetween (record x { fast = g })
 between_mixed x g same h = record {
   step = subst (InStep x.normal.mutator.past) (sym same) h.step;
-  history = subst (λ (p : Polls ServerState StreamNames). HasHistory x.normal.mutator.past.first x.normal.mutator.past.events p.events) (sym same) h.history;
+  history = subst (λ (p : Polls ServerState StreamNames). HasStateHistory x.normal.mutator.past.first x.normal.mutator.past.events p.events) (sym same) h.history;
   state = subst (λ (p : Polls ServerState StreamNames). LeadAway p.state x.normal.tracks) (sym same) h.state;
   last = h.last;
 }
@@ -88,7 +88,7 @@ module _ (s : Session) (run : Run) (x next : SessionState) (out out' : List Fram
     now = with_mix s (seen_by mixed.0) then_met
 
     -- the mix leaves the clients' sides
-    same_sides : (i : ℕ) → i < length then_met.tracks → (side_of (told_at now i).stream ≡ side_of (told_at then_met i).stream) × (side_of (told_at now i).commands ≡ side_of (told_at then_met i).commands)
+    same_sides : (i : ℕ) → i < length then_met.tracks → (client_side (told_at now i).stream ≡ client_side (told_at then_met i).stream) × (client_side (told_at now i).commands ≡ client_side (told_at then_met i).commands)
     same_sides i low = let same = mixed_same s (seen_by mixed.0) then_met i low in (ap (λ (y : Track). y.stream) same, ap (λ (y : Track). y.commands) same)
 
     -- each front seen up to here is a server's own: of a proxy that isn't held nothing more is told
@@ -100,7 +100,7 @@ module _ (s : Session) (run : Run) (x next : SessionState) (out out' : List Fram
     then_saw : SawOwnBy marks then_met mixed.3.deeds
     then_saw =
         let many = mixed_many s (seen_by mixed.0) then_met in
-        let same : (i : ℕ) → i < length now.tracks → (side_of (told_at then_met i).stream ≡ side_of (told_at now i).stream) × (side_of (told_at then_met i).commands ≡ side_of (told_at now i).commands) =
+        let same : (i : ℕ) → i < length now.tracks → (client_side (told_at then_met i).stream ≡ client_side (told_at now i).stream) × (client_side (told_at then_met i).commands ≡ client_side (told_at now i).commands) =
         (λ i low. let both = same_sides i (omega (arith, low, many)) in (sym both.0, sym both.1)) in
         let saw = saw_sides now then_met mixed.3.deeds (sym many) same now_saw in
         record { streams = (λ i low on. saw.streams i low ((then_tame i low).stream on)); commands = (λ i low on. saw.commands i low ((then_tame i low).commands on)) }

@@ -1,6 +1,6 @@
 -- A poll after a mix of the same turn finds nothing new, since nobody pushed in between: so the meetings after it show what they would have shown before it.
 use Rattle.std.proofs.Common.{◌≡◌, ◌⊎◌, inl, inr, ◌<◌, true, false, List, [], ◌∷◌, ◌++◌, length, sym, ap, ◌∙◌, subst, arith}
-use Rattle.af_render_law.proofs.Common.{AreSmall, AreTogether, FastState, Finds, HasHistory, InStep, LeadAway, Links, Met, MixerState, NormalState, Observes, Polls, Pushes, SeesOwn, ServerState, SessionState, StreamNames, TrackKept, finds, finds_none, is_over, item_at, meetings_show, observed, slot_for, step_met}
+use Rattle.af_render_law.proofs.Common.{AreSmall, AreTogether, FastState, Finds, HasStateHistory, InStep, LeadAway, Links, Met, MixerState, NormalState, Observes, Polls, Pushes, SeesOwn, ServerState, SessionState, StreamNames, TrackKept, finds, finds_none, is_over, item_at, meetings_show, observed, slot_for, step_met}
 use Rattle.af_fast.specs.Mixing.{Adopts}
 use Rattle.af_link.specs.PipeEnds.{SeesTaken}
 use Rattle.af_model.specs.declared.states.MutatorEvent.TheVariants as mutator
@@ -26,8 +26,8 @@ module _ (links : Links) (x : SessionState) (g : MixerState) (y : SessionState) 
   pub polled_now : y.fast.observer.past ≡ record g.observer.past { events = g.observer.past.events ++ observer.Learn (length m.events) ∷ [] }
   polled_now = ap (λ (f : MixerState). f.observer.past) met.ends.fast
 
-  history : HasHistory m.first (m.events ++ mutator.Learn (length g.observer.past.events) ∷ []) (g.observer.past.events ++ observer.Learn (length m.events) ∷ [])
-  history = subst (λ (w : Pushes ServerState StreamNames × Polls ServerState StreamNames). HasHistory w.0.first w.0.events w.1.events) (λ j. (pushed_now j, polled_now j)) met.ends.histories.queue
+  history : HasStateHistory m.first (m.events ++ mutator.Learn (length g.observer.past.events) ∷ []) (g.observer.past.events ++ observer.Learn (length m.events) ∷ [])
+  history = subst (λ (w : Pushes ServerState StreamNames × Polls ServerState StreamNames). HasStateHistory w.0.first w.0.events w.1.events) (λ j. (pushed_now j, polled_now j)) met.ends.histories.queue
 
   acked : (observed (g.observer.past.events ++ observer.Learn (length m.events) ∷ [])).acked ≡ g.observer.past.number
   acked = subst (λ (w : Polls ServerState StreamNames). (observed w.events).acked ≡ w.number) polled_now still.fast.0.observer.told.acked

@@ -6,9 +6,9 @@ use Rattle.af_base.specs.declared.event.ServerEvent.TheVariants as server
 use Rattle.af_base.specs.declared.seen.Seen.{Seen}
 use Rattle.af_base.specs.declared.seen.Seen.TheVariants as seen
 use Rattle.af_life.specs.TurnEvents as turn
-use Rattle.af_model.specs.Cycles.{after_look}
+use Rattle.af_model.specs.Cycles.{events_behind_look}
 use Rattle.af_runs.specs.Blocks.{hand_list}
-use Rattle.af_runs.specs.Runs.{slot_for}
+use Rattle.af_runs.specs.Runs.{slot_playing}
 use Rattle.af_render_law.proofs.MixedOpen.{Looked, played_open}
 use Rattle.af_render_law.proofs.NoInvalid.{SetsNoInvalid, SetNoInvalid, HandSetsNoInvalid, HandSetNoInvalid}
 use Rattle.af_render_law.proofs.Unmixed.{Unmixed}
@@ -44,7 +44,7 @@ tally_sets : (missing : ℕ) → SetNoInvalid (tally missing)
 tally_sets missing = either_sets (missing == 0) [] (server.Tally missing ∷ server.SetFlags 1 ∷ []) (All-nil SetsNoInvalid)
     (All-cons SetsNoInvalid (server.Tally missing) (server.SetFlags 1 ∷ []) tt (All-cons SetsNoInvalid (server.SetFlags 1) [] refl (All-nil SetsNoInvalid)))
 
-after_sets : (asked : ℕ) (was : Bool) (answer : Seen) → is_shut answer ≡ false → SetNoInvalid (after_look asked was answer)
+after_sets : (asked : ℕ) (was : Bool) (answer : Seen) → is_shut answer ≡ false → SetNoInvalid (events_behind_look asked was answer)
 after_sets asked was seen.Absent h = All-nil SetsNoInvalid
 after_sets asked was (seen.Frames count) h = All-cons SetsNoInvalid (server.Take count) (tally (asked - count)) tt (tally_sets (asked - count))
 after_sets asked was seen.Empty h = tally_sets asked
@@ -64,8 +64,8 @@ cycle_sets : (asked : ℕ) (x : Listed) (slot : SlotEntry) (front : ℕ) → is_
 cycle_sets asked x slot front h =
     let was : Bool = is_some (kept x).shut in
     let looks : List ServerEvent = (if was then [] else look_events slot.seen slot.flush slot.rear front) in
-    All-cons SetsNoInvalid (server.SawGain slot.gains) (looks ++ after_look asked was slot.seen) tt
-    (All-append SetsNoInvalid looks (after_look asked was slot.seen) (either_sets was [] (look_events slot.seen slot.flush slot.rear front) (All-nil SetsNoInvalid) (look_sets slot.seen slot.flush slot.rear front)) (after_sets asked was slot.seen h))
+    All-cons SetsNoInvalid (server.SawGain slot.gains) (looks ++ events_behind_look asked was slot.seen) tt
+    (All-append SetsNoInvalid looks (events_behind_look asked was slot.seen) (either_sets was [] (look_events slot.seen slot.flush slot.rear front) (All-nil SetsNoInvalid) (look_sets slot.seen slot.flush slot.rear front)) (after_sets asked was slot.seen h))
 
 -- ## The steps
 
@@ -109,16 +109,16 @@ module _ (s : TrackKept) where
       is : server_list (played asked e i b) ≡ server_list b ++ es
       is = server-server b.told es
 
-  pub unset_mixed : (session : Session) (x : FastState) (e : EntrySeen) (n : ℕ) (t : TrackTold) → ((i : ℕ) → slot_for x e.entry n ≡ Some i → Looked session e i t.stream) → StreamUnset s t.stream → StreamUnset s (mixed_track session x e n t).stream
-  unset_mixed session x e n t looks h = by_slot (slot_for x e.entry n) refl
+  pub unset_mixed : (session : Session) (x : FastState) (e : EntrySeen) (n : ℕ) (t : TrackTold) → ((i : ℕ) → slot_playing x e.entry n ≡ Some i → Looked session e i t.stream) → StreamUnset s t.stream → StreamUnset s (mixed_track session x e n t).stream
+  unset_mixed session x e n t looks h = by_slot (slot_playing x e.entry n) refl
     where
-      by_slot : (o : Option ℕ) → slot_for x e.entry n ≡ o → StreamUnset s (elim o as (λ o. TrackTold) [ None ↦ t | Some i ↦ record t { stream = played (cycle_frames session) e i t.stream } ]).stream
+      by_slot : (o : Option ℕ) → slot_playing x e.entry n ≡ o → StreamUnset s (elim o as (λ o. TrackTold) [ None ↦ t | Some i ↦ record t { stream = played (cycle_frames session) e i t.stream } ]).stream
       by_slot None is = h
       by_slot (Some i) is = unset_played (cycle_frames session) e i t.stream (played_open session x e n i t.stream is (looks i is)) h
 
 -- ## A turn
 
-hands_set : (e : Turn) (n : ℕ) → HandSetNoInvalid (turn.hand_list e n)
+hands_set : (e : Turn) (n : ℕ) → HandSetNoInvalid (turn.hand_events_of e n)
 hands_set e n = by_flags e.ended (track_in e n).disabled
   where
     by_flags : (ended off : Bool) → HandSetNoInvalid (if ended then [] else (if off then hand.SetFlags 8 ∷ [] else []))
@@ -128,18 +128,18 @@ hands_set e n = by_flags e.ended (track_in e n).disabled
 
 -- the hand does what a turn does, and the server these events: none if the track is unmixed after the turn, as it then was before
 pub unset_turned : (s t : TrackKept) (e : Turn) (n : ℕ) (es : List ServerEvent) (k : Shape) (told : List Moment) → (Unmixed t → Unmixed s) → (Unmixed t → es ≡ []) → SetsNone s k (server_of told) (hand_of told)
-    → (let after = told_more (told_more told (map by_hand (turn.hand_list e n))) (map by_server es) in SetsNone t k (server_of after) (hand_of after))
+    → (let after = told_more (told_more told (map by_hand (turn.hand_events_of e n))) (map by_server es) in SetsNone t k (server_of after) (hand_of after))
 unset_turned s t e n es k told was none h =
-    subst (λ hs. SetsNone t k (server_of after) hs) (sym (server-hand with_hand es ∙ hand-hand told (turn.hand_list e n)))
-    (subst (λ xs. SetsNone t k xs (hand_of told ++ turn.hand_list e n)) (sym (server-server with_hand es ∙ ap (λ l. l ++ es) (hand-server told (turn.hand_list e n)))) (record {
+    subst (λ hs. SetsNone t k (server_of after) hs) (sym (server-hand with_hand es ∙ hand-hand told (turn.hand_events_of e n)))
+    (subst (λ xs. SetsNone t k xs (hand_of told ++ turn.hand_events_of e n)) (sym (server-server with_hand es ∙ ap (λ l. l ++ es) (hand-server told (turn.hand_events_of e n)))) (record {
       server = λ u fine. (
           let same : server_of told ++ es ≡ server_of told = ap (λ l. server_of told ++ l) (none u) ∙ append-nil (server_of told) in
           subst SetNoInvalid (sym same) (h.server (was u) (subst (λ xs. (server_kept k xs).shut ≡ None) same fine)));
-      hand = All-append HandSetsNoInvalid (hand_of told) (turn.hand_list e n) h.hand (hands_set e n);
+      hand = All-append HandSetsNoInvalid (hand_of told) (turn.hand_events_of e n) h.hand (hands_set e n);
     }))
   where
     with_hand : List Moment
-    with_hand = told_more told (map by_hand (turn.hand_list e n))
+    with_hand = told_more told (map by_hand (turn.hand_events_of e n))
 
     after : List Moment
     after = told_more with_hand (map by_server es)

@@ -1,6 +1,6 @@
 -- In a run no INVALID is set on the stream block of a track that hasn't ended and has a slot, while the block's server isn't shut: what each step keeps of that.
 use Rattle.std.proofs.Common.{◌≡◌, ◌⊎◌, inl, inr, ℕ, zero, suc, ◌<◌, ◌≤◌, ◌==◌, Bool, true, false, MatchBool, MatchOption, if◌then◌else◌, fold, map, List, [], ◌∷◌, ◌++◌, length, Option, Some, None, refl, sym, ap, ◌∙◌, subst, arith}
-use Rattle.af_render_law.proofs.Common.{EntrySeen, GoesOn, IsMadeBy, Learnt, LegalAlone, LegalEntry, LegalTrack, LegalTurnBy, LegalTurnIn, Marks, NormalKept, Outside, RoundSeen, Run, Session, Setup, Sound, TakeSeen, TrackKept, TrackTold, Turn, TurnFound, TurnSpec, after_ack, after_calls, after_edits, asked, called, calls_alone, calls_in, cycle_alone, cycle_events, each_from, each_long, each_track, ends, fast_ended, flat_map, found_before, invalid, is_home, kept, learnt, listed, loaded, made_alone, met, met_alone, mix_events, mixed_track, new_run, new_track, no_track, outside_of, range_with_len, served_to, server_list, setup_of, sides_of, slice_index_or, state_for, stream_list, takes_from, takes_part, told_at, told_each, track_at, track_count, track_in, track_met, tracks_at, tracks_due, turn_after, turn_alone, turned, turned_track, with_ends, with_load, with_mix, with_poll, with_turn}
+use Rattle.af_render_law.proofs.Common.{EntrySeen, GoesOn, IsMadeBy, Learnt, LegalAlone, LegalEntry, LegalTrack, LegalTurnBy, LegalTurnIn, Marks, NormalKept, Outside, RoundSeen, Run, Session, Setup, Sound, TakeSeen, TrackKept, TrackTold, Turn, TurnFound, TurnSpec, after_ack, after_calls, after_edits, asked, called_in_turn, calls_alone, calls_in, cycle_alone, cycle_events, changed_from, each_long, each_track, ends, fast_ended, flat_map, found_before, invalid, is_home, kept, learnt, listed, loaded, made_alone, met, met_alone, mix_events, mixed_track, new_run, new_told_track, no_track, outside_of, range_with_len, served_to, server_list, setup_of, sides_of, slice_index_or, state_for, stream_list, takes_from, takes_part, told_at, told_each, track_at, track_count, track_in, track_met, tracks_at, tracks_due, turn_after, turn_alone, turned, turned_track, with_ends, with_load, with_mix, with_poll, with_turn}
 use Rattle.af_life.proofs.Basics.{at_new, slot_of_away}
 use Rattle.af_script.specs.declared.op.TurnSpec.TheVariants as makes
 use Rattle.af_render_law.proofs.InvalidBlocks.{StreamUnset, unset_new, unset_called, unset_met, unset_mixed, unset_turned}
@@ -15,7 +15,7 @@ pub record InvalidKept (run : Run) : Type 0 where
   pub streams : (n : ℕ) → n < length run.tracks → StreamUnset (track_at run.normal.tracks n) (told_at run n).stream
 
 -- each track is changed by its number
-kept_by : (run after : Run) (change : ℕ → TrackTold → TrackTold) → after.tracks ≡ each_from change 0 run.tracks → ((n : ℕ) → n < length run.tracks → IsOut (track_at after.normal.tracks n).life)
+kept_by : (run after : Run) (change : ℕ → TrackTold → TrackTold) → after.tracks ≡ changed_from change 0 run.tracks → ((n : ℕ) → n < length run.tracks → IsOut (track_at after.normal.tracks n).life)
     → ((n : ℕ) → n < length run.tracks → StreamUnset (track_at after.normal.tracks n) (change n (told_at run n)).stream) → InvalidKept after
 kept_by run after change is out each = record {
   out = λ n low. out n (below n low);
@@ -27,10 +27,10 @@ kept_by run after change is out each = record {
 
 -- ## Before the first round
 
-new_told : (s : Session) (ns : List ℕ) (n : ℕ) (k : TrackKept) → StreamUnset k (slice_index_or (map (new_track s) ns) n no_track).stream
+new_told : (s : Session) (ns : List ℕ) (n : ℕ) (k : TrackKept) → StreamUnset k (slice_index_or (map (new_told_track s) ns) n no_track).stream
 new_told s [] n k = unset_new k no_track.stream.shape
 new_told s (m ∷ ns) (suc n) k = new_told s ns n k
-new_told s (m ∷ ns) zero k = unset_new k (new_track s m).stream.shape
+new_told s (m ∷ ns) zero k = unset_new k (new_told_track s m).stream.shape
 
 pub invalid_new : (s : Session) → InvalidKept (new_run s)
 invalid_new s = record {
@@ -42,9 +42,9 @@ invalid_new s = record {
 
 pub invalid_calls : (track : ℕ) (round : RoundSeen) (run : Run) → InvalidKept run → InvalidKept (calls_alone track round run)
 invalid_calls track round run h =
-    kept_by run (calls_alone track round run) (λ number t. if number == track then called (calls_in round track) t else t) refl h.out (λ n low. by_number (track_at run.normal.tracks n) (n == track) (told_at run n) (h.streams n low))
+    kept_by run (calls_alone track round run) (λ number t. if number == track then called_in_turn (calls_in round track) t else t) refl h.out (λ n low. by_number (track_at run.normal.tracks n) (n == track) (told_at run n) (h.streams n low))
   where
-    by_number : (k : TrackKept) (b : Bool) (t : TrackTold) → StreamUnset k t.stream → StreamUnset k (if b then called (calls_in round track) t else t).stream
+    by_number : (k : TrackKept) (b : Bool) (t : TrackTold) → StreamUnset k t.stream → StreamUnset k (if b then called_in_turn (calls_in round track) t else t).stream
     by_number k true t h = unset_called k (after_calls (sides_of t) (calls_in round track)).stream t.stream h
     by_number k false t h = h
 

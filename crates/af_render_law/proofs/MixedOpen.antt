@@ -2,7 +2,7 @@
 use Rattle.std.proofs.Common.{◌≡◌, ℕ, zero, suc, ◌+◌, ◌<◌, ◌==◌, ◌&&◌, not, Bool, true, false, if◌then◌else◌, is_some, map, List, [], ◌++◌, Option, Some, None, refl, sym, ap, ◌∙◌, subst, eqb-true, arith}
 use Rattle.af_render_law.proofs.Common.{BlockTold, CycleEntry, EntrySeen, FastState, IsUnshut, LegalEntry, LooksBy, Marks, Run, ServerEvent, Session, SlotEntry, Track, TrackTold, absent, both_first, by_server, carries, cycle_events, cycle_frames, cycle_of, entry_slot, find, front_of, get_or-replicate, is_mixed, is_shown, is_shut, kept, listed, mixed_track, no, no_track, number_of, played, range_with_len, server-client, server-server, server_kept, server_list, sides_mixed, slot_of, slots, state_for, state_of, still_entry, told_at, told_more, unshut_mixed}
 use Rattle.af_model.specs.ClientCalls.{client_kept}
-use Rattle.af_runs.specs.Runs.{plays, slot_for}
+use Rattle.af_runs.specs.Runs.{shows_slot, slot_playing}
 use Rattle.af_model.proofs.Logic.{both_right}
 use Rattle.af_runs.proofs.StatesFor.{state_known}
 
@@ -44,16 +44,16 @@ module _ (s : Session) (marks : Marks) (r : Run) (e : EntrySeen) (legal : LegalE
       by_mixed true is = by_state (state_of r.states e.entry.state) refl is
       by_mixed false is = absurd (not_still low (legal.cycle.still is) shown)
 
-  pub entry_looked : slot_for x e.entry n ≡ Some i → Looked s e i (told_at r n).stream
+  pub entry_looked : slot_playing x e.entry n ≡ Some i → Looked s e i (told_at r n).stream
   entry_looked found =
-      let at = found_at (λ j. plays x e.entry j && ((slot_of x j).track == n)) 0 slots i found in
-      let here = both_first (plays x e.entry i) ((slot_of x i).track == n) at.0 in
+      let at = found_at (λ j. shows_slot x e.entry j && ((slot_of x j).track == n)) 0 slots i found in
+      let here = both_first (shows_slot x e.entry i) ((slot_of x i).track == n) at.0 in
       slot_looked (let h = at.1 in omega (arith, h)) (both_first (carries x i) (is_shown (entry_slot e.entry i).seen) here) (both_right (carries x i) (is_shown (entry_slot e.entry i).seen) here)
-      (eqb-true (slot_of x i).track n (both_right (plays x e.entry i) ((slot_of x i).track == n) at.0))
+      (eqb-true (slot_of x i).track n (both_right (shows_slot x e.entry i) ((slot_of x i).track == n) at.0))
 
 -- ## What the look leaves
 
-module _ (s : Session) (x : FastState) (e : EntrySeen) (n i : ℕ) (b : BlockTold) (found : slot_for x e.entry n ≡ Some i) (look : Looked s e i b) where
+module _ (s : Session) (x : FastState) (e : EntrySeen) (n i : ℕ) (b : BlockTold) (found : slot_playing x e.entry n ≡ Some i) (look : Looked s e i b) where
   -- a block with the same server, and a client that did nothing
   abbrev alone : BlockTold
   alone = record b { told = told_more [] (map by_server (server_list b)) }
@@ -71,7 +71,7 @@ module _ (s : Session) (x : FastState) (e : EntrySeen) (n i : ℕ) (b : BlockTol
   same_played : server_list (played (cycle_frames s) e i alone) ≡ server_list (played (cycle_frames s) e i b)
   same_played = server-server alone.told (then_does (server_list alone)) ∙ ap (λ es. es ++ then_does es) same ∙ sym (server-server b.told (then_does (server_list b)))
 
-  looked : (j : ℕ) → slot_for x e.entry n ≡ Some j → Looked s e j alone
+  looked : (j : ℕ) → slot_playing x e.entry n ≡ Some j → Looked s e j alone
   looked j is =
       let at : i ≡ j = ap number_of (sym found ∙ is) in
       (look.0, subst (λ k. LooksBy (cycle_frames s) (listed alone) (entry_slot e.entry k) look.0) at (subst (λ es. LooksBy (cycle_frames s) (record (listed b) { events = es }) (entry_slot e.entry i) look.0) (sym same) look.1))
@@ -85,7 +85,7 @@ module _ (s : Session) (x : FastState) (e : EntrySeen) (n i : ℕ) (b : BlockTol
             (ap (λ es. (server_kept b.shape es).shut) same_played ∙ fine);
       } in
       let before = unshut_mixed false s x e n track looked unshut in
-      (ap (λ es. (server_kept b.shape es).shut) (sym same) ∙ before.0.server, spared (slot_for x e.entry n) found (before.1 refl))
+      (ap (λ es. (server_kept b.shape es).shut) (sym same) ∙ before.0.server, spared (slot_playing x e.entry n) found (before.1 refl))
     where
       spared : (o : Option ℕ) → o ≡ Some i → elim o as (λ o. Bool) [ None ↦ true | Some k ↦ not (is_shut (entry_slot e.entry k).seen) ] ≡ true → is_shut (entry_slot e.entry i).seen ≡ false
       spared None is h = no (ap is_some is)

@@ -1,6 +1,6 @@
 -- A turn of the normal mixer that hadn't ended is a step of the run, and the queue is known again.
 use Rattle.std.proofs.Common.{Bool, List, MatchBool, MatchOption, None, Option, Some, [], ap, arith, false, inr, length, refl, subst, sym, take, true, true≢false, ℕ, ◌++◌, ◌+◌, ◌<◌, ◌∙◌, ◌∷◌, ◌≡◌}
-use Rattle.af_render_law.proofs.Common.{AreSmall, AreTogether, Deeds, EntrySeen, FindsShutUnseen, IsLegal, IsMadeBy, IsRound, LegalTurnBy, Links, Load, Marks, MatchBool-at_false, Met, NormalKept, NormalState, NormalTurned, OnlyCalls, PartsAreTold, PartsTold, Pushes, QueueKnown, Quiet, RoundNoted, RoundSeen, Run, SawOwnBy, SeesOwn, ServerState, Session, SessionState, StandsBefore, StreamNames, Tells, Track, TrackTold, Turn, TurnFound, TurnMade, TurnShown, answer_of, cycle_frames, did_by, ends_keep, found_before, given_of, going, known_same, loaded, made_alone, meetings_show, met_alone, normal_round, quiet_ends, quiet_met, quiet_then, report_of, same_Some, setup_of, side_of, sides_of, slice_index_or, small_told, still_round, tame_marks, told_at, turn_of, turned, with_ends, with_load, with_turn}
+use Rattle.af_render_law.proofs.Common.{AreSmall, AreTogether, Deeds, EntrySeen, FindsShutUnseen, IsLegal, IsMadeBy, IsRound, LegalTurnBy, Links, Load, Marks, MatchBool-at_false, Met, NormalKept, NormalState, NormalTurned, OnlyCalls, PartsAreTold, PartsTold, Pushes, QueueKnown, Quiet, RoundNoted, RoundSeen, Run, SawOwnBy, SeesOwn, ServerState, Session, SessionState, StandsBefore, StreamNames, Tells, Track, TrackTold, Turn, TurnFound, TurnMade, TurnShown, answer_of, cycle_frames, did_by, ends_keep, found_before, given_of, going, known_same, loaded, made_alone, meetings_show, met_alone, normal_round, quiet_ends, quiet_met, quiet_then, report_of, same_Some, setup_of, client_side, sides_of, slice_index_or, small_told, still_round, tame_marks, told_at, turn_of, turned, with_ends, with_load, with_turn}
 use Rattle.af_enough_law.proofs.Basics.{load_told as same_track}
 use Rattle.af_runs.specs.Runs as run_of
 use Rattle.af_script.specs.declared.op.TurnSpec.TheVariants as makes
@@ -119,7 +119,7 @@ module _ (s : Session) (marks : Marks) (parts : PartsAreTold s) (run : Run) (x :
       ap sides_of (then_at s run x n links one.2.outside found holds.told.told w.together.before after legal made seen before_turn holds.queue runs holds.cells all_parts i low)
       ∙ sides_same s run x n links one.2.outside found holds.told.told w.together.before after legal made seen before_turn holds.queue runs holds.cells all_parts i
 
-  same_sides : (i : ℕ) → i < length run.tracks → (side_of (told_at turned_run i).stream ≡ side_of (told_at run i).stream) × (side_of (told_at turned_run i).commands ≡ side_of (told_at run i).commands)
+  same_sides : (i : ℕ) → i < length run.tracks → (client_side (told_at turned_run i).stream ≡ client_side (told_at run i).stream) × (client_side (told_at turned_run i).commands ≡ client_side (told_at run i).commands)
   same_sides i low = (ap (λ (y : Track). y.stream) (turned_sides i low), ap (λ (y : Track). y.commands) (turned_sides i low))
 
   -- each front seen up to the end of the turn is its own: one whose proxy isn't home was not looked at
@@ -133,8 +133,8 @@ module _ (s : Session) (marks : Marks) (parts : PartsAreTold s) (run : Run) (x :
   before_saw : SawOwnBy marks run then_deeds
   before_saw =
       let loaded_many : length then_run.tracks ≡ length turned_run.tracks = same_many e turned_run in
-      let same : (i : ℕ) → i < length then_run.tracks → (side_of (told_at run i).stream ≡ side_of (told_at then_run i).stream) × (side_of (told_at run i).commands ≡ side_of (told_at then_run i).commands) =
-      (λ i low. let both = same_sides i (let a = many_turned in omega (arith, low, a, loaded_many)) in (sym (ap (λ (t : TrackTold). side_of t.stream) (same_track e turned_run i) ∙ both.0), sym (ap (λ (t : TrackTold). side_of t.commands) (same_track e turned_run i) ∙ both.1))) in
+      let same : (i : ℕ) → i < length then_run.tracks → (client_side (told_at run i).stream ≡ client_side (told_at then_run i).stream) × (client_side (told_at run i).commands ≡ client_side (told_at then_run i).commands) =
+      (λ i low. let both = same_sides i (let a = many_turned in omega (arith, low, a, loaded_many)) in (sym (ap (λ (t : TrackTold). client_side t.stream) (same_track e turned_run i) ∙ both.0), sym (ap (λ (t : TrackTold). client_side t.commands) (same_track e turned_run i) ∙ both.1))) in
       let saw = saw_sides then_run run then_deeds (let a = many_turned in omega (arith, a, loaded_many)) same then_saw in
       record { streams = (λ i low on. saw.streams i low ((holds.marked i low).stream on)); commands = (λ i low on. saw.commands i low ((holds.marked i low).commands on)) }
 

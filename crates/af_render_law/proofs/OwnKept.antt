@@ -1,6 +1,6 @@
 -- In a render each front that was seen at a block that wasn't poked so far is its server's own: whatever looked in a turn meets at its end.
 use Rattle.std.proofs.Common.{◌≡◌, inl, inr, ℕ, ◌<◌, ◌≤◌, ◌==◌, ◌&&◌, not, Bool, true, false, true≢false, if◌then◌else◌, is_some, fold, List, [], ◌∷◌, ◌++◌, length, slice_get, Option, Some, None, refl, sym, ap, ◌∙◌, subst, append-nil, arith}
-use Rattle.af_render_law.proofs.Common.{AreTogether, BlockTold, Deeds, EntrySeen, HaveHistories, IsLegal, Links, Met, MetTold, NormalKept, NormalState, Outside, PartyState, RoundSeen, Run, SawOwn, SawOwnBy, SawOwnOf, SeesOwn, ServerEvent, ServerKept, ServerState, Session, SessionState, Setup, Shape, Side, TakeSeen, Tells, TellsServer, Track, TrackKept, TrackTold, Turn, after_calls, asked, called, calls_alone, calls_in, client-client, client_list, cycle_events, deeds_met, done_on, drop, each_long, each_track, ends, flat_map, found_carries, heard, held_slot, invalid, is_found_shut, is_home, is_lawful, is_tame, item_at, kept_of, lawful_first, learnt, met, met_deed, met_many, mix_events, mixed_track, own_join, own_met, server_begins, server_keeps, side_of, sides_of, some_at, state_for, stream_at, stream_by, stream_met, takes_from, takes_part, tame_marks, told_at, told_each, track_at, track_in, tracks_at, turn_of, with_ends, with_load, with_mix, with_poll, with_side}
+use Rattle.af_render_law.proofs.Common.{AreTogether, BlockTold, Deeds, EntrySeen, HaveHistories, IsLegal, Links, Met, MetTold, NormalKept, NormalState, Outside, PartyState, RoundSeen, Run, SawOwn, SawOwnBy, SawOwnOf, SeesOwn, ServerEvent, ServerKept, ServerState, Session, SessionState, Setup, Shape, Side, TakeSeen, Tells, TellsServer, Track, TrackKept, TrackTold, Turn, after_calls, asked, called_in_turn, calls_alone, calls_in, client-client, client_list, cycle_events, deeds_met, done_on, drop, each_long, each_track, ends, flat_map, found_carries, heard, held_slot, invalid, is_found_shut, is_home, is_lawful, is_tame, item_at, kept_of, lawful_first, learnt, met, met_deed, met_many, mix_events, mixed_track, own_join, own_met, server_begins, server_keeps, client_side, sides_of, some_at, state_for, stream_at, stream_by, stream_met, takes_from, takes_part, tame_marks, told_at, told_each, track_at, track_in, tracks_at, turn_of, with_ends, with_load, with_mix, with_poll, with_side}
 use Rattle.af_base.specs.declared.event.ServerEvent.TheVariants as server
 use Rattle.af_model.specs.Spelled.{AllSeeOwn}
 use Rattle.af_normal.specs.State.{setup_of as mixer_setup}
@@ -96,7 +96,7 @@ saw_met s run d h = record { streams = streams; commands = commands }
 -- ## What changes no server's list
 
 -- a run with the same sides of the clients saw the same fronts
-pub saw_sides : (run after : Run) (d : Deeds) → length after.tracks ≡ length run.tracks → ((i : ℕ) → i < length run.tracks → (side_of (told_at after i).stream ≡ side_of (told_at run i).stream) × (side_of (told_at after i).commands ≡ side_of (told_at run i).commands))
+pub saw_sides : (run after : Run) (d : Deeds) → length after.tracks ≡ length run.tracks → ((i : ℕ) → i < length run.tracks → (client_side (told_at after i).stream ≡ client_side (told_at run i).stream) × (client_side (told_at after i).commands ≡ client_side (told_at run i).commands))
     → SawOwnBy (tame_marks run) run d → SawOwnBy (tame_marks after) after d
 saw_sides run after d many same h = record {
   streams = (λ i low. let l : i < length run.tracks = omega (arith, low, many) in subst (λ (y : Side). is_lawful y.events ≡ true → SawOwnOf y.shape (d.streams i)) (sym (same i l).0) (h.streams i l));
@@ -112,7 +112,7 @@ saw_ends run d h = by_end run.normal.ended
     ended i t = record t { client = ends t.client }
 
     by_end : (b : Bool) → SawOwnBy (tame_marks (if b then each_track ended run else run)) (if b then each_track ended run else run) d
-    by_end true = saw_sides run (each_track ended run) d (each_long ended 0 run.tracks) (λ i low. (ap (λ (t : TrackTold). side_of t.stream) (told_each ended run i low), ap (λ (t : TrackTold). side_of t.commands) (told_each ended run i low))) h
+    by_end true = saw_sides run (each_track ended run) d (each_long ended 0 run.tracks) (λ i low. (ap (λ (t : TrackTold). client_side t.stream) (told_each ended run i low), ap (λ (t : TrackTold). client_side t.commands) (told_each ended run i low))) h
     by_end false = h
 
 -- a client's calls change no server's list
@@ -120,7 +120,7 @@ pub saw_calls : (run : Run) (d : Deeds) (i : ℕ) (round : RoundSeen) → SawOwn
 saw_calls run d i round h = record { streams = streams; commands = commands }
   where
     change : ℕ → TrackTold → TrackTold
-    change n t = if n == i then called (calls_in round i) t else t
+    change n t = if n == i then called_in_turn (calls_in round i) t else t
 
     inside : (n : ℕ) → n < length (calls_alone i round run).tracks → n < length run.tracks
     inside n low = let many = each_long change 0 run.tracks in omega (arith, low, many)
@@ -128,11 +128,11 @@ saw_calls run d i round h = record { streams = streams; commands = commands }
     side : (b : BlockTold) (deed : List ServerEvent) (with : Side) → (is_tame b ≡ true → SawOwnOf b.shape deed) → is_tame (with_side with b) ≡ true → SawOwnOf (with_side with b).shape deed
     side b deed with saw now = saw (lawful_first (client_list b) (drop (length (client_list b)) with.events) (sym (ap is_lawful (client-client b.told (drop (length (client_list b)) with.events))) ∙ now))
 
-    stream_by_track : (own : Bool) (t : TrackTold) (deed : List ServerEvent) → (is_tame t.stream ≡ true → SawOwnOf t.stream.shape deed) → is_tame (if own then called (calls_in round i) t else t).stream ≡ true → SawOwnOf (if own then called (calls_in round i) t else t).stream.shape deed
+    stream_by_track : (own : Bool) (t : TrackTold) (deed : List ServerEvent) → (is_tame t.stream ≡ true → SawOwnOf t.stream.shape deed) → is_tame (if own then called_in_turn (calls_in round i) t else t).stream ≡ true → SawOwnOf (if own then called_in_turn (calls_in round i) t else t).stream.shape deed
     stream_by_track true t deed saw = side t.stream deed (after_calls (sides_of t) (calls_in round i)).stream saw
     stream_by_track false t deed saw = saw
 
-    commands_by_track : (own : Bool) (t : TrackTold) (deed : List ServerEvent) → (is_tame t.commands ≡ true → SawOwnOf t.commands.shape deed) → is_tame (if own then called (calls_in round i) t else t).commands ≡ true → SawOwnOf (if own then called (calls_in round i) t else t).commands.shape deed
+    commands_by_track : (own : Bool) (t : TrackTold) (deed : List ServerEvent) → (is_tame t.commands ≡ true → SawOwnOf t.commands.shape deed) → is_tame (if own then called_in_turn (calls_in round i) t else t).commands ≡ true → SawOwnOf (if own then called_in_turn (calls_in round i) t else t).commands.shape deed
     commands_by_track true t deed saw = side t.commands deed (after_calls (sides_of t) (calls_in round i)).commands saw
     commands_by_track false t deed saw = saw
 

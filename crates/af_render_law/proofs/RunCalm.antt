@@ -1,6 +1,6 @@
 -- All tracks of a turn run stay calm: what each step leaves of them.
 use Rattle.std.proofs.Common.{◌≡◌, ℕ, ◌<◌, ◌==◌, Bool, true, false, if◌then◌else◌, fold, List, [], ◌∷◌, length, refl, sym, ap, ◌∙◌, subst, arith, eqb-true, ◌≤◌}
-use Rattle.af_render_law.proofs.Common.{ActsWhereMet, AllFind, EntrySeen, LegalAlone, LegalClientTurn, LegalTurnBy, Marks, RoundSeen, Run, Session, TrackTold, TracksRise, Turn, called, calls_alone, calls_in, cycle_alone, each_from, each_long, each_track, ends, found_before, learnt, met, mixed_track, no_track, outside_of, same_current, setup_of, sides_of, slice_index_or, state_for, stream_list, takes_part, told_at, told_each, track_count, track_met, tracks_at, turned_track, with_ends, with_load, with_mix, with_poll, with_turn}
+use Rattle.af_render_law.proofs.Common.{ActsWhereMet, AllFind, EntrySeen, LegalAlone, LegalClientTurn, LegalTurnBy, Marks, RoundSeen, Run, Session, TrackTold, TracksRise, Turn, called_in_turn, calls_alone, calls_in, cycle_alone, changed_from, each_long, each_track, ends, found_before, learnt, met, mixed_track, no_track, outside_of, same_current, setup_of, sides_of, slice_index_or, state_for, stream_list, takes_part, told_at, told_each, track_count, track_met, tracks_at, turned_track, with_ends, with_load, with_mix, with_poll, with_turn}
 use Rattle.af_turn_law.proofs.RunBlocks.{part_at, PlaysParts, alone_pushed, holds_played}
 use Rattle.af_turn_law.proofs.RunTurns.{none_after}
 use Rattle.af_render_law.proofs.TrackCalm.{TrackCalm, IsOpenStream, calm_called, calm_mixed, calm_turned, calm_met, calm_ended, calm_first}
@@ -14,7 +14,7 @@ abbrev pub AllOpen : Run → Type 0
 AllOpen run = (n : ℕ) → n < length run.tracks → IsOpenStream (told_at run n)
 
 -- the run stays calm if each of its tracks is changed by its number
-calm_each : (s : Session) (run after : Run) (change : ℕ → TrackTold → TrackTold) → after.tracks ≡ each_from change 0 run.tracks → length run.tracks ≡ track_count s
+calm_each : (s : Session) (run after : Run) (change : ℕ → TrackTold → TrackTold) → after.tracks ≡ changed_from change 0 run.tracks → length run.tracks ≡ track_count s
     → ((n : ℕ) → n < length run.tracks → TrackCalm (takes_part s after n) (change n (told_at run n))) → RunCalm s after
 calm_each s run after change is many each = record {
   many = long ∙ many;
@@ -50,9 +50,9 @@ open_ends run h = by_end run.normal.ended
 
 pub run_calm_calls : (s : Session) (track : ℕ) (round : RoundSeen) (run : Run) → LegalClientTurn (sides_of (told_at run track)) (calls_in round track) → RunCalm s run → RunCalm s (calls_alone track round run)
 run_calm_calls s track round run legal h =
-    calm_each s run (calls_alone track round run) (λ number t. if number == track then called (calls_in round track) t else t) refl h.many (λ n low. by_number n (n == track) refl (h.tracks n low))
+    calm_each s run (calls_alone track round run) (λ number t. if number == track then called_in_turn (calls_in round track) t else t) refl h.many (λ n low. by_number n (n == track) refl (h.tracks n low))
   where
-    by_number : (n : ℕ) (b : Bool) → (n == track) ≡ b → TrackCalm (takes_part s run n) (told_at run n) → TrackCalm (takes_part s run n) (if b then called (calls_in round track) (told_at run n) else told_at run n)
+    by_number : (n : ℕ) (b : Bool) → (n == track) ≡ b → TrackCalm (takes_part s run n) (told_at run n) → TrackCalm (takes_part s run n) (if b then called_in_turn (calls_in round track) (told_at run n) else told_at run n)
     by_number n true is c = calm_called (takes_part s run n) (calls_in round track) (told_at run n) (subst (λ j. LegalClientTurn (sides_of (told_at run j)) (calls_in round track)) (sym (eqb-true n track is)) legal) c
     by_number n false is c = c
 

@@ -1,6 +1,6 @@
 -- What is kept of a run between two rounds, so that its next round is one of a turn run: each round of which the lists have histories keeps it.
 use Rattle.std.proofs.Common.{◌≡◌, ℕ, ◌<◌, ◌≤◌, [], Bool, true, false, fold, length, All, Option, Some, None, refl, sym, subst, arith}
-use Rattle.af_render_law.proofs.Common.{All-get_or, FindsShutUnseen, HaveHistories, IsMadeBy, IsScript, IsTrack, Marks, RoundSeen, Run, Session, Setting, Turn, TurnSpec, all_find, cycle_alone, found_before, loaded, made_alone, met, met_alone, new_run, new_track, no_spec, pushed_in, setup_of, takes_part, told_at, track_count, turned, turns_new, with_ends}
+use Rattle.af_render_law.proofs.Common.{All-get_or, FindsShutUnseen, HaveHistories, IsMadeBy, IsScript, IsTrack, Marks, RoundSeen, Run, Session, Setting, Turn, TurnSpec, all_find, cycle_alone, found_before, loaded, made_alone, met, met_alone, new_run, new_told_track, no_spec, pushed_in, setup_of, takes_part, told_at, track_count, turned, turns_new, with_ends}
 use Rattle.std.proofs.lemmas.List.FromFn.{length-map-range_with_len}
 use Rattle.af_model.specs.ClientCalls as list
 use Rattle.af_script.specs.declared.op.TurnSpec.TheVariants as makes
@@ -64,12 +64,12 @@ tame_new s script = record {
 }
   where
     many : length (new_run s).tracks ≡ track_count s
-    many = length-map-range_with_len (new_track s) 0 (track_count s)
+    many = length-map-range_with_len (new_told_track s) 0 (track_count s)
 
     there : (n : ℕ) → n < length (new_run s).tracks → n < track_count s
     there n low = let m = many in omega (arith, low, m)
 
-    new_calm : (n : ℕ) → n < track_count s → (part : Bool) → TrackCalm part (new_track s n)
+    new_calm : (n : ℕ) → n < track_count s → (part : Bool) → TrackCalm part (new_told_track s n)
     new_calm n low part = record {
       trim = record { rears = tt; tame = λ on. refl; shape = refl };
       client = record {

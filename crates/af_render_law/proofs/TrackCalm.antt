@@ -1,7 +1,7 @@
 -- What holds of a track through each step of a turn run: while its stream block is tame, its server is not shut if it takes part in no meeting.
 use Rattle.std.proofs.Common.{◌≡◌, ℕ, ◌≤◌, Bool, true, false, true≢false, map, List, [], ◌++◌, drop, length, Option, Some, None, refl, sym, ◌∙◌, subst, append-nil}
-use Rattle.af_render_law.proofs.Common.{BlockTold, ClientCall, EntrySeen, FastState, HandEvent, HasBlockHistory, IsTrim, LegalClientTurn, LegalTurn, NormalKept, Outside, ServerEvent, Session, Setup, Shape, Track, TrackTold, TracksRise, Turn, TurnFound, after_calls, by_client, by_hand, by_server, called, client-server, client_list, cycle_frames, ends, hand-server, hand_list, is_tame, kept, learnt, listed, meets, mixed_track, outside_of, played, server-server, server_kept, server_list, sides_mixed, sides_of, sides_turned, stream_list, stream_met, told_more, tracks_at, trim_called, trim_ended, trim_met, trim_mixed, trim_turned, turned_track}
-use Rattle.af_runs.specs.Runs.{slot_for}
+use Rattle.af_render_law.proofs.Common.{BlockTold, ClientCall, EntrySeen, FastState, HandEvent, HasBlockHistory, IsTrim, LegalClientTurn, LegalTurn, NormalKept, Outside, ServerEvent, Session, Setup, Shape, Track, TrackTold, TracksRise, Turn, TurnFound, after_calls, by_client, by_hand, by_server, called_in_turn, client-server, client_list, cycle_frames, ends, hand-server, hand_events_of, is_tame, kept, learnt, listed, meets, mixed_track, outside_of, played, server-server, server_kept, server_list, sides_mixed, sides_of, sides_turned, stream_list, stream_met, told_more, tracks_at, trim_called, trim_ended, trim_met, trim_mixed, trim_turned, turned_track}
+use Rattle.af_runs.specs.Runs.{slot_playing}
 use Rattle.af_judge.specs.Tracks.{AreSpelled, IsSpelled}
 use Rattle.af_judge.proofs.Spelled.{spelled_turn, spelled_met}
 use Rattle.af_judge.proofs.TracksTold.{sides_called, shapes_called}
@@ -33,14 +33,14 @@ pub record TrackCalm (part : Bool) (t : TrackTold) : Type 0 where
 calm_sides : (t u : Track) → t ≡ u → IsCalmClient u → IsCalmClient t
 calm_sides t u same h = subst IsCalmClient (sym same) h
 
-pub calm_called : (part : Bool) (calls : List ClientCall) (t : TrackTold) → LegalClientTurn (sides_of t) calls → TrackCalm part t → TrackCalm part (called calls t)
+pub calm_called : (part : Bool) (calls : List ClientCall) (t : TrackTold) → LegalClientTurn (sides_of t) calls → TrackCalm part t → TrackCalm part (called_in_turn calls t)
 calm_called part calls t legal h =
     let es = drop (length (client_list t.stream)) (after_calls (sides_of t) calls).stream.events in
     let shapes = shapes_called (sides_of t) calls in
     let c = h.client in
     record {
       trim = trim_called false calls t (λ on. absurd (true≢false (sym on))) h.trim;
-      client = calm_sides (sides_of (called calls t)) (after_calls (sides_of t) calls) (sides_called t calls) (record {
+      client = calm_sides (sides_of (called_in_turn calls t)) (after_calls (sides_of t) calls) (sides_called t calls) (record {
         spelled = spelled_turn (sides_of t) calls c.spelled legal;
         stream = subst (λ (k : Shape). k.frames ≤ 65536) (sym shapes.0) c.stream;
         commands = subst (λ (k : Shape). k.frames ≤ 65536) (sym shapes.1) c.commands;
@@ -48,11 +48,11 @@ calm_called part calls t legal h =
       unshut = λ off tame. subst (λ es. (server_kept t.stream.shape es).shut ≡ None) (sym (client-server t.stream.told es)) (h.unshut off (tame_told t.stream.told (map by_client es) tame));
     }
 
-pub calm_mixed : (part : Bool) (s : Session) (x : FastState) (e : EntrySeen) (n : ℕ) (t : TrackTold) → ((i : ℕ) → slot_for x e.entry n ≡ Some i → part ≡ true) → TrackCalm part t → TrackCalm part (mixed_track s x e n t)
+pub calm_mixed : (part : Bool) (s : Session) (x : FastState) (e : EntrySeen) (n : ℕ) (t : TrackTold) → ((i : ℕ) → slot_playing x e.entry n ≡ Some i → part ≡ true) → TrackCalm part t → TrackCalm part (mixed_track s x e n t)
 calm_mixed part s x e n t parts h = record {
   trim = trim_mixed false s x e n t h.trim;
   client = calm_sides (sides_of (mixed_track s x e n t)) (sides_of t) (sides_mixed s x e n t) h.client;
-  unshut = by_slot (slot_for x e.entry n) parts;
+  unshut = by_slot (slot_playing x e.entry n) parts;
 }
   where
     by_slot : (o : Option ℕ) → ((i : ℕ) → o ≡ Some i → part ≡ true) → part ≡ false → IsOpenStream (elim o as (λ o. TrackTold) [ None ↦ t | Some i ↦ record t { stream = played (cycle_frames s) e i t.stream } ])
@@ -74,7 +74,7 @@ calm_turned part after c f m e o n t found rise legal streams commands rests is_
     es = stream_list c told e (tracks_at c (learnt told) m e n) n
 
     hs : List HandEvent
-    hs = hand_list e n
+    hs = hand_events_of e n
 
     is : record t { stream = f.streams n; commands = f.commands n } ≡ t
     is = λ i. record t { stream = streams i; commands = commands i }

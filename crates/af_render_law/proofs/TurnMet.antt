@@ -1,6 +1,6 @@
 -- What the meetings after a turn of the normal mixer show of it, if the run told before it is what it found: the report is the last one stored, the ends of the queue have a history just behind it, and its room tells the front of the pipe.
 use Rattle.std.proofs.Common.{◌≡◌, ℕ, ◌*◌, ◌≤◌, Bool, true, false, if◌then◌else◌, map, List, [], ◌∷◌, ◌++◌, length, refl, sym, ap, subst, ◌∙◌, append_assoc, arith}
-use Rattle.af_render_law.proofs.Common.{AreTogether, ClientEvent, ClientPart, Deeds, FastState, Frame, HasHistory, HearsFound, IsLegal, Links, Load, Met, MixerState, NormalState, Outside, ReportMet, Run, Session, SessionState, Setup, ShowsFront, Tells, Turn, TurnFound, TurnMade, TurnShown, after_ack, answer_of, found_before, going, kept_of, length-map, pipe_size, put_by, report_of, setup_of, turn_of}
+use Rattle.af_render_law.proofs.Common.{AreTogether, ClientEvent, ClientPart, Deeds, FastState, Frame, HasStateHistory, HearsFound, IsLegal, Links, Load, Met, MixerState, NormalState, Outside, ReportMet, Run, Session, SessionState, Setup, ShowsFront, Tells, Turn, TurnFound, TurnMade, TurnShown, after_ack, answer_of, found_before, going, kept_of, length-map, pipe_size, put_by, report_of, setup_of, turn_of}
 use Rattle.std.proofs.Math.Nat.{mul-le-mul_right}
 use Rattle.af_base.specs.declared.event.ClientEvent.TheVariants as client
 use Rattle.af_base.specs.Sample.{packed_word}
@@ -34,8 +34,8 @@ module _ (s : Session) (run : Run) {d : Deeds} (x : SessionState) (n : NormalSta
   abbrev loads : ℕ
   loads = length n.reader.events
 
-  reports : newest.HasHistory no_report (x.fast.writer.events ++ writes.Learn (length n.reader.events) ∷ []) (n.reader.events ++ reads.Learn (length x.fast.writer.events) ∷ [])
-  reports = subst (λ (q : WriterSide × ReaderSide). newest.HasHistory no_report q.0.events q.1.events) (λ i. (ap (λ (m : MixerState). m.writer) meets.ends.fast i, ap (λ (m : NormalState). m.reader) meets.ends.normal i)) meets.ends.histories.report
+  reports : newest.HasValueHistory no_report (x.fast.writer.events ++ writes.Learn (length n.reader.events) ∷ []) (n.reader.events ++ reads.Learn (length x.fast.writer.events) ∷ [])
+  reports = subst (λ (q : WriterSide × ReaderSide). newest.HasValueHistory no_report q.0.events q.1.events) (λ i. (ap (λ (m : MixerState). m.writer) meets.ends.fast i, ap (λ (m : NormalState). m.reader) meets.ends.normal i)) meets.ends.histories.report
 
   reads_one : e.ended ≡ false → n.reader.events ≡ x.normal.reader.events ++ Load legal.lists.reader.0 o.report ∷ []
   reads_one goes = legal.lists.reader.1 ∙ ap (λ (b : Bool). x.normal.reader.events ++ (if b then [] else Load legal.lists.reader.0 o.report ∷ [])) goes
@@ -77,9 +77,9 @@ module _ (s : Session) (run : Run) {d : Deeds} (x : SessionState) (n : NormalSta
       by_end false goes = (leaves.0 goes).queue.first
       by_end true over = (leaves.1 over).first
 
-  later : HasHistory x.normal.mutator.past.first (n.mutator.past.events ++ mutator.Learn (length x.fast.observer.past.events) ∷ []) (x.fast.observer.past.events ++ observer.Learn (length n.mutator.past.events) ∷ [])
-  later = subst (λ (y : FastState). HasHistory y (n.mutator.past.events ++ mutator.Learn polled ∷ []) (x.fast.observer.past.events ++ observer.Learn pushed ∷ [])) first
-      (subst (λ (w : NormalState × MixerState). HasHistory w.0.mutator.past.first w.0.mutator.past.events w.1.observer.past.events) (λ j. (meets.ends.normal j, meets.ends.fast j)) meets.ends.histories.queue)
+  later : HasStateHistory x.normal.mutator.past.first (n.mutator.past.events ++ mutator.Learn (length x.fast.observer.past.events) ∷ []) (x.fast.observer.past.events ++ observer.Learn (length n.mutator.past.events) ∷ [])
+  later = subst (λ (y : FastState). HasStateHistory y (n.mutator.past.events ++ mutator.Learn polled ∷ []) (x.fast.observer.past.events ++ observer.Learn pushed ∷ [])) first
+      (subst (λ (w : NormalState × MixerState). HasStateHistory w.0.mutator.past.first w.0.mutator.past.events w.1.observer.past.events) (λ j. (meets.ends.normal j, meets.ends.fast j)) meets.ends.histories.queue)
 
   -- ## The pipe
 

@@ -5,7 +5,7 @@ use Rattle.af_base.specs.declared.report.SlotReport.{SlotReport}
 use Rattle.af_life.specs.declared.track.Known.{Known}
 use Rattle.af_life.specs.Commands.{Row, applies, commands, first_effect as command_effect, by_command}
 use Rattle.af_life.specs.Obeys.{slot_for}
-use Rattle.af_life.specs.Reports.{first_effect as report_effect}
+use Rattle.af_life.specs.Reports.{first_case_effect as report_effect}
 
 -- a life that isn't there yet isn't in the mix
 abbrev pub IsOut : Life → Type 0

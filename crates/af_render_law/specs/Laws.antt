@@ -2,7 +2,7 @@
 use Rattle.std.specs.Prelude.{◌≡◌, take, List, [], ◌∷◌, Some}
 use Rattle.af_base.specs.Turn.{Turn}
 use Rattle.af_script.specs.declared.op.TurnSpec.{TurnSpec}
-use Rattle.af_model.specs.StateQueue.{HasHistory}
+use Rattle.af_model.specs.StateQueue.{HasStateHistory}
 use Rattle.af_model.specs.Journals.{EntrySeen, RoundNoted, RoundSeen}
 use Rattle.af_runs.specs.Blocks.{Marks}
 use Rattle.af_runs.specs.Rounds.{HaveHistories}
@@ -41,6 +41,6 @@ AreSteps s marks run (turn ∷ turns) (round ∷ rounds) y = (m : SessionState) 
 -- the queue's ends are in step, their lists have a history, and the slots of the observer's state, and of the last one pushed, lead to tracks whose proxies are away
 pub record IsBetween (x : SessionState) : Type 0 where
   pub step : InStep x.normal.mutator.past x.fast.observer.past
-  pub history : HasHistory x.normal.mutator.past.first x.normal.mutator.past.events x.fast.observer.past.events
+  pub history : HasStateHistory x.normal.mutator.past.first x.normal.mutator.past.events x.fast.observer.past.events
   pub state : LeadAway x.fast.observer.past.state x.normal.tracks
   pub last : LeadAway x.normal.mutator.past.last x.normal.tracks

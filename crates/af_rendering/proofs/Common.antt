@@ -31,7 +31,7 @@ pub use Rattle.af_io.specs.Causes.{HasCause}
 pub use Rattle.af_io.specs.Files.{AppendsTo, Files, LeavesFront, SetsFile}
 pub use Rattle.af_io.specs.declared.store.StoreError.{StoreError}
 pub use Rattle.af_life.proofs.Lives.{acked_len, served_len}
-pub use Rattle.af_life.specs.Edits.{LegalPush, after_ack, after_push, comes_home, edited_to, entered, is_exit, lent_by, must_enter, must_leave, next_command, welcomed}
+pub use Rattle.af_life.specs.Edits.{LegalPush, after_ack, after_push, comes_home, edited_to, entered, commands_exit, lent_by, must_enter, must_leave, next_command, welcomed}
 unfoldable pub use Rattle.af_life.specs.Edits.{edited, lend, let_go, ordered}
 pub use Rattle.af_life.specs.Heard.{heard, learnt}
 pub use Rattle.af_life.specs.Kept.{Learnt, NormalKept, Outside, Setup, asked, is_home, is_lent, is_returning, new_normal, number_of, pipe_size, setting_of, slot_number, track_at, track_in}
@@ -49,14 +49,14 @@ pub use Rattle.af_model.proofs.Basics.{all_dealt, both_first, cycles_more, kept_
 pub use Rattle.af_model.proofs.EntriesMore.{AreWhole, none_whole}
 pub use Rattle.af_model.proofs.Logic.{both_right}
 pub use Rattle.af_model.specs.ClientCalls.{ClientKept}
-pub use Rattle.af_model.specs.Cycles.{Listed, LooksBy, after_look, cycle_events, is_mixed, kept, last_used, state_of}
-pub use Rattle.af_model.specs.Draft.{commanded, detached, initial}
+pub use Rattle.af_model.specs.Cycles.{Listed, LooksBy, events_behind_look, cycle_events, is_mixed, kept, last_used, state_of}
+pub use Rattle.af_model.specs.Draft.{draft_commanded, detached, initial}
 pub use Rattle.af_model.specs.History.{is_lawful}
 pub use Rattle.af_model.specs.JournalForm.{AreEntries, IsJournal, IsWhole}
 pub use Rattle.af_model.specs.Journals.{EntrySeen, JournalData, RoundNoted, RoundSeen, RoundsNoted, cycles_of, entries_of, entries_seen, frames_of, journal_of, rounds_seen, taken_by}
 pub use Rattle.af_model.specs.Numbers.{FitsEntry, HasRanges}
 pub use Rattle.af_model.specs.ServerCalls.{ServerKept, is_noticed, look_at, look_events, server_keeps, server_kept}
-pub use Rattle.af_model.specs.StateQueue.{HasHistory, MutatorPoint, ObserverPoint, QueuePoint, carries, legal, mutated, mutator_next, mutator_start, next, observed, slot_of, start}
+pub use Rattle.af_model.specs.StateQueue.{HasStateHistory, MutatorPoint, ObserverPoint, QueuePoint, carries, legal, mutated, mutator_next, mutator_start, next, observed, slot_of, start_of_queue}
 pub use Rattle.af_model.specs.declared.plain_calls.Poll.{Poll}
 pub use Rattle.af_model.specs.declared.plain_calls.Poll.TheVariants.{New, Nothing, Same}
 pub use Rattle.af_model.specs.declared.shape.Shape.{Shape}

@@ -1,6 +1,6 @@
 -- What a turn of the normal mixer leaves of its end of the queue, and where the slots of states lead after the turn.
 use Rattle.std.proofs.Common.{◌≡◌, ◌≢◌, ℕ, zero, suc, ◌-◌, ◌<◌, ◌≤◌, ◌==◌, ◌&&◌, ◌||◌, inl, inr, ⊎_elim, Bool, true, false, true≢false, if◌then◌else◌, List, [], ◌∷◌, ◌++◌, length, fold, Option, refl, sym, ap, subst, ◌∙◌, append_assoc, arith}
-use Rattle.af_rendering.proofs.Common.{Busy, CarriesNone, Clean, Command, FastState, IsLegal, Learnt, LegalPush, Links, MutatorEvent, MutatorPoint, NormalKept, NormalState, Outside, Push, Pushed, SawAck, ServerState, Setup, Turn, after_ack, after_edits, after_push, after_takes, after_tracks, cases_eq, code_of, commanded as with_command, edited, edited_to, fold-append, going, is_exit, kept_of, learnt, lend, let_go, must_enter, must_leave, mutated, mutator_list, mutator_next, mutator_start, number_seen, ordered, push_list, setup_of, track_at, turn_after, turn_of}
+use Rattle.af_rendering.proofs.Common.{Busy, CarriesNone, Clean, Command, FastState, IsLegal, Learnt, LegalPush, Links, MutatorEvent, MutatorPoint, NormalKept, NormalState, Outside, Push, Pushed, SawAck, ServerState, Setup, Turn, after_ack, after_edits, after_push, after_takes, after_tracks, cases_eq, code_of, draft_commanded as with_command, edited, edited_to, fold-append, going, commands_exit, kept_of, learnt, lend, let_go, must_enter, must_leave, mutated, mutator_list, mutator_next, mutator_start, number_seen, ordered, push_list, setup_of, track_at, turn_after, turn_of}
 use Rattle.af_life.specs.Edits.{mutated as edits_of}
 use Rattle.af_model.specs.declared.states.MutatorEvent.TheVariants.{Push as PushOf}
 use Rattle.af_model.specs.declared.states.MutatorEvent.TheVariants as mutator
@@ -98,7 +98,7 @@ module _ (links : Links) (x y : NormalState) (order : IsInOrder links x) (o : Ou
   was_running runs = by_end m.ended refl
     where
       by_end : (b : Bool) → m.ended ≡ b → m.ended ≡ false
-      by_end true is = absurd (true≢false (sym (legal.legal.ends ∙ ap (λ (b : Bool). b || (is_exit m.last && e.ack)) is) ∙ runs))
+      by_end true is = absurd (true≢false (sym (legal.legal.ends ∙ ap (λ (b : Bool). b || (commands_exit m.last && e.ack)) is) ∙ runs))
       by_end false is = is
 
   -- the list of a turn that goes on

@@ -1,6 +1,6 @@
 -- A server that is not shut in the end found no words that don't fit: none of its looks was Shut.
 use Rattle.std.proofs.Common.{◌≡◌, ℕ, ◌-◌, ◌==◌, not, nat_lt, Bool, true, false, if◌then◌else◌, is_some, fold, min, MatchOption, List, [], ◌∷◌, ◌++◌, Option, Some, None, refl, sym, ap, subst, ◌∙◌, append-nil, append_assoc}
-use Rattle.af_rendering.proofs.Common.{CommandLook, LegalLooks, Listed, LooksBy, ServerEvent, ServerKept, Shape, SlotEntry, after_look, all_command_events, as_slot, both_true, command_events, cycle_events, did, is_noticed, is_shut, kept, kept_more, list_all, look_at, look_events, none-some, server_keeps, server_kept, takes_command}
+use Rattle.af_rendering.proofs.Common.{CommandLook, LegalLooks, Listed, LooksBy, ServerEvent, ServerKept, Shape, SlotEntry, events_behind_look, all_command_events, as_slot, both_true, command_events, cycle_events, did, is_noticed, is_shut, kept, kept_more, list_all, look_at, look_events, none-some, server_keeps, server_kept, takes_command}
 use Rattle.af_base.specs.declared.event.ServerEvent.TheVariants as server
 use Rattle.af_base.specs.declared.seen.Seen.{Seen}
 use Rattle.af_base.specs.declared.seen.Seen.TheVariants as seen
@@ -59,7 +59,7 @@ module _ (asked : ℕ) (s : Listed) (slot : SlotEntry) (front : ℕ) (looks : Lo
 
   -- if a server isn't shut after a cycle, it wasn't before the cycle, and its look wasn't Shut
   pub open_cycle : shut_after s.shape (kept s) (cycle_events asked s slot front) ≡ None → ((kept s).shut ≡ None) × (is_shut slot.seen ≡ false)
-  open_cycle fine = open_look (server.SawGain slot.gains ∷ []) (after_look asked (is_some (kept s).shut) slot.seen) (λ k. refl) (stay_after s.shape asked (is_some (kept s).shut) slot.seen) (λ k. refl) fine
+  open_cycle fine = open_look (server.SawGain slot.gains ∷ []) (events_behind_look asked (is_some (kept s).shut) slot.seen) (λ k. refl) (stay_after s.shape asked (is_some (kept s).shut) slot.seen) (λ k. refl) fine
 
 -- ## The looks at a command block
 

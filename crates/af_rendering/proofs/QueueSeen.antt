@@ -1,10 +1,10 @@
 -- What the two lists of a queue say of each other: no more states were acknowledged than pushed, and no look saw more acknowledged than were.
 use Rattle.std.proofs.Common.{◌≡◌, ◌≢◌, ℕ, ◌≤◌, ◌==◌, if◌then◌else◌, Bool, true, false, List, [], ◌∷◌, ◌++◌, Option, refl, ap, subst, ◌∙◌, arith}
-use Rattle.af_rendering.proofs.Common.{Ack, FastState, HasHistory, MutatorEvent, MutatorPoint, ObserverEvent, ObserverPoint, QueuePoint, SawAck, SawNext, after_ones, after_twos, legal, mutated, next, observed, start}
+use Rattle.af_rendering.proofs.Common.{Ack, FastState, HasStateHistory, MutatorEvent, MutatorPoint, ObserverEvent, ObserverPoint, QueuePoint, SawAck, SawNext, after_ones, after_twos, legal, mutated, next, observed, start_of_queue}
 use Rattle.af_model.specs.declared.states.MutatorEvent.TheVariants.{Push}
 use Rattle.af_model.specs.declared.states.MutatorEvent.TheVariants as mutator
 use Rattle.af_model.specs.declared.states.ObserverEvent.TheVariants as observer
-use Rattle.af_model.specs.Order.{Event, one, two, ones, Legal, after}
+use Rattle.af_model.specs.Order.{Event, one, two, ones, Legal, point_after}
 
 due_next : (k acked pushed : ℕ) (b : Bool) → acked ≤ pushed → k ≡ pushed → (if b then 0 else k) ≢ 0 → (acked ≤ (if b then 0 else k)) × ((if b then 0 else k) ≤ pushed)
 due_next k acked pushed true le is ne = absurd (ne refl)
@@ -29,7 +29,7 @@ module _ {P : Type 0} where
       record { low = (let b = l.0 in let c = d.1 in omega arith); due = (λ ne. absurd (ne refl)) }
   low_next p (two (observer.Learn c)) h l = record { low = h.low; due = (λ ne. absurd (ne refl)) }
 
-  low_after : (p : QueuePoint P) (es : List (Event (MutatorEvent P) (ObserverEvent P))) → Low p → Legal legal next p es → Low (after legal next p es)
+  low_after : (p : QueuePoint P) (es : List (Event (MutatorEvent P) (ObserverEvent P))) → Low p → Legal legal next p es → Low (point_after legal next p es)
   low_after p [] h l = h
   low_after p (e ∷ es) h l = low_after (next p e) es (low_next p e h l.0) l.1
 
@@ -42,7 +42,7 @@ module _ {P : Type 0} where
       (let b = l.0 in let c = d.0 in omega arith)
   acks_grow p (two (observer.Learn c)) h l = omega arith
 
-  acks_after : (p : QueuePoint P) (es : List (Event (MutatorEvent P) (ObserverEvent P))) → Low p → Legal legal next p es → p.observer.acked ≤ (after legal next p es).observer.acked
+  acks_after : (p : QueuePoint P) (es : List (Event (MutatorEvent P) (ObserverEvent P))) → Low p → Legal legal next p es → p.observer.acked ≤ (point_after legal next p es).observer.acked
   acks_after p [] h l = omega arith
   acks_after p (e ∷ es) h l =
       let first = acks_grow p e h l.0 in
@@ -56,7 +56,7 @@ module _ {P : Type 0} where
   SawUpTo n (SawAck a items ∷ ms) = (a ≤ n) × SawUpTo n ms
   SawUpTo n (mutator.Learn c ∷ ms) = SawUpTo n ms
 
-  saw_after : (p : QueuePoint P) (es : List (Event (MutatorEvent P) (ObserverEvent P))) → Low p → Legal legal next p es → SawUpTo (after legal next p es).observer.acked (ones es)
+  saw_after : (p : QueuePoint P) (es : List (Event (MutatorEvent P) (ObserverEvent P))) → Low p → Legal legal next p es → SawUpTo (point_after legal next p es).observer.acked (ones es)
   saw_after p [] h l = tt
   saw_after p (two e ∷ es) h l = saw_after (next p (two e)) es (low_next p (two e) h l.0) l.1
   saw_after p (one (Push k x items) ∷ es) h l = saw_after (next p (one (Push k x items))) es (low_next p (one (Push k x items)) h l.0) l.1
@@ -66,23 +66,23 @@ module _ {P : Type 0} where
       let more = acks_after q es (low_next p (one (SawAck a items)) h l.0) l.1 in
       ((let b = l.0.0 in omega (arith, more, b)), saw_after q es (low_next p (one (SawAck a items)) h l.0) l.1)
 
-  low_start : (first : FastState) → Low (start first)
+  low_start : (first : FastState) → Low (start_of_queue first)
   low_start first = record { low = omega arith; due = (λ ne. absurd (ne refl)) }
 
-  module _ (first : FastState) (ms : List (MutatorEvent P)) (os : List (ObserverEvent P)) (h : HasHistory first ms os) where
-    acked_is : (after legal next (start first) h.order).observer.acked ≡ (observed os).acked
-    acked_is = ap (λ (o : ObserverPoint P). o.acked) (after_twos (start first) h.order ∙ ap observed h.of_two)
+  module _ (first : FastState) (ms : List (MutatorEvent P)) (os : List (ObserverEvent P)) (h : HasStateHistory first ms os) where
+    acked_is : (point_after legal next (start_of_queue first) h.order).observer.acked ≡ (observed os).acked
+    acked_is = ap (λ (o : ObserverPoint P). o.acked) (after_twos (start_of_queue first) h.order ∙ ap observed h.of_two)
 
-    pushed_is : (after legal next (start first) h.order).mutator.pushed ≡ (mutated first ms).pushed
-    pushed_is = ap (λ (m : MutatorPoint P). m.pushed) (after_ones (start first) h.order ∙ ap (mutated first) h.of_one)
+    pushed_is : (point_after legal next (start_of_queue first) h.order).mutator.pushed ≡ (mutated first ms).pushed
+    pushed_is = ap (λ (m : MutatorPoint P). m.pushed) (after_ones (start_of_queue first) h.order ∙ ap (mutated first) h.of_one)
 
     -- no more was acknowledged than pushed
     pub few_acked : (observed os).acked ≤ (mutated first ms).pushed
-    few_acked = let l = low_after (start first) h.order (low_start first) h.is_legal in let a = l.low in omega (arith, a, acked_is, pushed_is)
+    few_acked = let l = low_after (start_of_queue first) h.order (low_start first) h.is_legal in let a = l.low in omega (arith, a, acked_is, pushed_is)
 
     -- no look saw more acknowledged than was acknowledged
     pub few_seen : SawUpTo (observed os).acked ms
-    few_seen = subst (λ (x : ℕ × List (MutatorEvent P)). SawUpTo x.0 x.1) (λ i. (acked_is i, h.of_one i)) (saw_after (start first) h.order (low_start first) h.is_legal)
+    few_seen = subst (λ (x : ℕ × List (MutatorEvent P)). SawUpTo x.0 x.1) (λ i. (acked_is i, h.of_one i)) (saw_after (start_of_queue first) h.order (low_start first) h.is_legal)
 
   -- if no look of a list saw a number above n, this look of the list saw none above n
   pub saw_one : (n : ℕ) (before : List (MutatorEvent P)) (a : ℕ) (items : List (Option P)) (rest : List (MutatorEvent P)) → SawUpTo n (before ++ SawAck a items ∷ rest) → a ≤ n

@@ -1,6 +1,6 @@
 -- What a poll finds, if its observer had learnt of all pushes, and what meetings leave of that.
 use Rattle.std.proofs.Common.{◌≡◌, ℕ, ◌+◌, ◌<◌, ◌≤◌, ◌⊎◌, inl, inr, ⊎_elim, ◌||◌, Bool, false, List, [], ◌∷◌, ◌++◌, length, Option, Some, None, IfSome, refl, ap, subst, ◌∙◌, append_assoc, arith}
-use Rattle.af_rendering.proofs.Common.{Ack, FastState, HasHistory, MutatorEvent, MutatorPoint, New, Nothing, ObserverEvent, Observes, Poll, Polls, Pushes, Same, SawNext, ServerState, StreamNames, WasPolled, acknowledged, fold-append, is_push, list_any, list_any-append, mutated, mutator_next, mutator_start, observed, sees_same, sees_the_last, took}
+use Rattle.af_rendering.proofs.Common.{Ack, FastState, HasStateHistory, MutatorEvent, MutatorPoint, New, Nothing, ObserverEvent, Observes, Poll, Polls, Pushes, Same, SawNext, ServerState, StreamNames, WasPolled, acknowledged, fold-append, is_push, list_any, list_any-append, mutated, mutator_next, mutator_start, observed, sees_same, sees_the_last, took}
 use Rattle.af_model.specs.declared.states.MutatorEvent.TheVariants as mutator
 use Rattle.af_model.specs.declared.states.ObserverEvent.TheVariants as observer
 use Rattle.af_rendering.specs.Leads.{HasLearnt, InStep, Tells}
@@ -39,7 +39,7 @@ module _ (m : Pushes ServerState StreamNames) (c : ℕ) where
 -- ## A poll before a meeting
 
 module _ (first : FastState) (m : Pushes ServerState StreamNames) (c d : ℕ) (o o' : Observes ServerState StreamNames) (tells : Tells m)
-    (history : HasHistory first (m.events ++ mutator.Learn c ∷ []) (o'.past.events ++ observer.Learn d ∷ [])) (acked : (observed (o'.past.events ++ observer.Learn d ∷ [])).acked ≡ o'.past.number) where
+    (history : HasStateHistory first (m.events ++ mutator.Learn c ∷ []) (o'.past.events ++ observer.Learn d ∷ [])) (acked : (observed (o'.past.events ++ observer.Learn d ∷ [])).acked ≡ o'.past.number) where
   pushed_then : (mutated first (m.events ++ mutator.Learn c ∷ [])).pushed ≡ m.number
   pushed_then = (tells_met m c tells).pushed first
 
@@ -58,8 +58,8 @@ module _ (first : FastState) (m : Pushes ServerState StreamNames) (c d : ℕ) (o
         let more : Pushed = l.more ++ mutator.Learn c ∷ [] in
         let parts : ms ≡ l.told ++ more = ap (λ (es : Pushed). es ++ mutator.Learn c ∷ []) l.parts ∙ append_assoc l.told l.more (mutator.Learn c ∷ []) in
         let none : list_any is_push more ≡ false = list_any-append is_push l.more (mutator.Learn c ∷ []) ∙ ap (λ (b : Bool). b || false) l.none_pushed in
-        let all : HasHistory first ms ((l.before ++ observer.Learn l.count ∷ []) ++ SawNext n x items ∷ rest) =
-        subst (λ (es : Polled). HasHistory first ms es) (list ∙ ap (λ (es : Polled). es ++ SawNext n x items ∷ rest) l.learnt) history in
+        let all : HasStateHistory first ms ((l.before ++ observer.Learn l.count ∷ []) ++ SawNext n x items ∷ rest) =
+        subst (λ (es : Polled). HasStateHistory first ms es) (list ∙ ap (λ (es : Polled). es ++ SawNext n x items ∷ rest) l.learnt) history in
         sees_the_last first ms l.told more l.before rest l.count n x items all parts l.enough none
 
   -- a poll found nothing new, or it took the last state that was pushed

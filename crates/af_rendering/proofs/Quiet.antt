@@ -1,24 +1,24 @@
 -- A mixer whose draft says Exit does no more: its turns change no track, and once it pushed the Exit they push nothing.
 use Rattle.std.proofs.Common.{◌≡◌, ℕ, zero, suc, ◌==◌, Bool, true, false, if◌then◌else◌, sym, refl, ap, subst, ◌∙◌, List, length}
-use Rattle.af_rendering.proofs.Common.{AllByRecursion, Busy, Clean, Command, GoesOn, Learnt, LegalPush, NormalKept, Outside, Push, Pushed, Setup, TakeSeen, Turn, after_ack, after_edits, after_push, after_takes, after_tracks, asked, code_of, commanded as with_command, edited, edited_to, is_exit, learnt, lend, let_go, must_enter, must_leave, new_normal, next_command, no, ordered, pipe_size, track_at, turn_after}
+use Rattle.af_rendering.proofs.Common.{AllByRecursion, Busy, Clean, Command, GoesOn, Learnt, LegalPush, NormalKept, Outside, Push, Pushed, Setup, TakeSeen, Turn, after_ack, after_edits, after_push, after_takes, after_tracks, asked, code_of, draft_commanded as with_command, edited, edited_to, commands_exit, learnt, lend, let_go, must_enter, must_leave, new_normal, next_command, no, ordered, pipe_size, track_at, turn_after}
 use Rattle.af_base.specs.declared.state.Command.TheVariants.{Exit}
 use Rattle.af_life.specs.Edits.{mutated}
 use Rattle.af_audit.proofs.DoneTracks.{IsDone, exit_when_over, ordered_over, quiet_edits, takes_done}
 
 -- a draft that says Exit has only tracks that are done with, and after a push of an Exit there is nothing to push
 pub record IsQuiet (m : NormalKept) : Type 0 where
-  pub over : is_exit m.draft ≡ true → AllByRecursion IsDone m.tracks
-  pub rests : is_exit m.last ≡ true → (m.dirty ≡ false) × (is_exit m.draft ≡ true)
+  pub over : commands_exit m.draft ≡ true → AllByRecursion IsDone m.tracks
+  pub rests : commands_exit m.last ≡ true → (m.dirty ≡ false) × (commands_exit m.draft ≡ true)
 
 -- ## A turn keeps a mixer quiet
 
 -- a turn keeps a mixer quiet if the draft says Exit
-exit_keeps : (c : Setup) (k : Learnt) (m : NormalKept) (e : Turn) → IsQuiet m → is_exit m.draft ≡ true → IsQuiet (after_edits c k e m)
+exit_keeps : (c : Setup) (k : Learnt) (m : NormalKept) (e : Turn) → IsQuiet m → commands_exit m.draft ≡ true → IsQuiet (after_edits c k e m)
 exit_keeps c k m e quiet exit = subst IsQuiet (sym (quiet_edits c k m e exit (quiet.over exit))) quiet
 
 -- one step changes neither whether the draft says Exit nor the last state pushed
 record SaysTheSame (m x : NormalKept) : Type 0 where
-  exit : is_exit x.draft ≡ is_exit m.draft
+  exit : commands_exit x.draft ≡ commands_exit m.draft
   last : x.last ≡ m.last
 
 either_says : (b : Bool) (m x y : NormalKept) → SaysTheSame m x → SaysTheSame m y → SaysTheSame m (if b then x else y)
@@ -39,7 +39,7 @@ acked_says true m = record { exit = refl; last = refl }
 acked_says false m = record { exit = refl; last = refl }
 
 -- a turn keeps a mixer quiet if the draft doesn't say Exit
-module _ (c : Setup) (k : Learnt) (m : NormalKept) (e : Turn) (quiet : IsQuiet m) (runs : is_exit m.draft ≡ false) where
+module _ (c : Setup) (k : Learnt) (m : NormalKept) (e : Turn) (quiet : IsQuiet m) (runs : commands_exit m.draft ≡ false) where
   acked : NormalKept
   acked = after_tracks c k e (after_ack e.ack m)
 
@@ -50,13 +50,13 @@ module _ (c : Setup) (k : Learnt) (m : NormalKept) (e : Turn) (quiet : IsQuiet m
   unfolding acked edits
   says = let a = acked_says e.ack m in let b = edits_say c k acked (length acked.tracks) in record { exit = b.exit ∙ a.exit; last = b.last ∙ a.last }
 
-  still_runs : is_exit edits.draft ≡ false
+  still_runs : commands_exit edits.draft ≡ false
   still_runs = says.exit ∙ runs
 
-  last_runs : is_exit m.last ≡ false
-  last_runs = by_last (is_exit m.last) refl
+  last_runs : commands_exit m.last ≡ false
+  last_runs = by_last (commands_exit m.last) refl
     where
-      by_last : (b : Bool) → is_exit m.last ≡ b → is_exit m.last ≡ false
+      by_last : (b : Bool) → commands_exit m.last ≡ b → commands_exit m.last ≡ false
       by_last true is = no (sym runs ∙ (quiet.rests is).1)
       by_last false is = is
 
@@ -69,7 +69,7 @@ module _ (c : Setup) (k : Learnt) (m : NormalKept) (e : Turn) (quiet : IsQuiet m
       by_same false = refl
 
   told : ℕ → Command
-  told room = next_command (is_exit edits.draft) edits.tracks room (pipe_size c)
+  told room = next_command (commands_exit edits.draft) edits.tracks room (pipe_size c)
 
   over_when_exit : (code_of (told e.room) == code_of Exit) ≡ true → AllByRecursion IsDone edits.tracks
   unfolding told
@@ -78,7 +78,7 @@ module _ (c : Setup) (k : Learnt) (m : NormalKept) (e : Turn) (quiet : IsQuiet m
   edits_quiet : IsQuiet (ordered (told e.room) edits)
   edits_quiet = record {
     over = ordered_over (told e.room) edits still_runs over_when_exit;
-    rests = λ exit. no (sym (ap is_exit (ordered_last (told e.room) edits ∙ says.last) ∙ last_runs) ∙ exit);
+    rests = λ exit. no (sym (ap commands_exit (ordered_last (told e.room) edits ∙ says.last) ∙ last_runs) ∙ exit);
   }
 
   runs_keeps : IsQuiet (after_edits c k e m)
@@ -86,9 +86,9 @@ module _ (c : Setup) (k : Learnt) (m : NormalKept) (e : Turn) (quiet : IsQuiet m
   runs_keeps = edits_quiet
 
 edited_quiet : (c : Setup) (k : Learnt) (m : NormalKept) (e : Turn) → IsQuiet m → IsQuiet (after_edits c k e m)
-edited_quiet c k m e quiet = by_exit (is_exit m.draft) refl
+edited_quiet c k m e quiet = by_exit (commands_exit m.draft) refl
   where
-    by_exit : (b : Bool) → is_exit m.draft ≡ b → IsQuiet (after_edits c k e m)
+    by_exit : (b : Bool) → commands_exit m.draft ≡ b → IsQuiet (after_edits c k e m)
     by_exit true exit = exit_keeps c k m e quiet exit
     by_exit false runs = runs_keeps c k m e quiet runs
 
@@ -157,7 +157,7 @@ clean_push (Pushed number) m clean legal = no (sym clean ∙ legal.0)
 clean_push Clean m clean legal = refl
 clean_push (Busy seen expected) m clean legal = no (sym clean ∙ legal.0)
 
-module _ (c : Setup) (o : Outside) (m : NormalKept) (e : Turn) (quiet : IsQuiet m) (exit : is_exit m.last ≡ true) where
+module _ (c : Setup) (o : Outside) (m : NormalKept) (e : Turn) (quiet : IsQuiet m) (exit : commands_exit m.last ≡ true) where
   same_edits : after_edits c (learnt o) e m ≡ m
   same_edits = quiet_edits c (learnt o) m e (quiet.rests exit).1 (quiet.over (quiet.rests exit).1)
 

@@ -3,7 +3,7 @@ use Rattle.std.proofs.Common.{◌≡◌, ℕ, ◌<◌, true, List, [], length, m
 use Rattle.af_rendering.proofs.Common.{EndsState, FastState, IsNewSession, IsWhole, JournalData, Logged, MutatorEvent, PartyState, RoundNoted, RoundsNoted, ScriptData, ServerState, SessionState, SharedState, Shown, calls_of, calls_over, get_or-map-range_with_len, has_no_poke, is_lawful, journal_of, list_all, none_corrupt, pushed_states, same_Some, shown_by, shown_in, shows, shows_tracks, slice_get_within}
 use Rattle.af_cblk.specs.declared.view.ClientPart.{ClientPart}
 use Rattle.af_rendering.specs.Hostile.{IsSpared, IsTame, PokesSpareOthers, SparesSoFar, all_calls, all_turns, is_spared_in_turn}
-use Rattle.af_tally.specs.Summaries.{is_lawful as is_unpoked}
+use Rattle.af_tally.specs.Summaries.{is_lawful_shown as is_unpoked}
 use Rattle.af_rendering.proofs.ShownWhole.{shown_journal}
 
 -- ## At the start

@@ -1,6 +1,6 @@
 -- The cycles of the fast mixer spare each track whose client has not poked, if the proxies held for it are not shut in the end.
 use Rattle.std.proofs.Common.{◌≡◌, ℕ, zero, suc, ◌<◌, ◌==◌, ◌||◌, ◌⊎◌, inl, inr, ⊎_elim, Bool, true, false, List, [], ◌∷◌, ◌++◌, length, slice_get, Option, Some, None, refl, sym, ap, subst, ◌∙◌, eqb-true}
-use Rattle.af_rendering.proofs.Common.{AddsCycle, ClientState, Cycle, CycleEntry, EntryUsed, FastState, HandSide, HasHistory, IsCycle, IsFastTurn, IsInOrder, ItemStays, Made, MeetsAway, Met, MixerState, New, NormalKept, NormalState, Nothing, Observes, PartyState, Poll, Polls, Pushes, Same, ServerState, SessionState, Shown, Spot, SpotMet, StreamNames, WasPolled, Writes, WritesCycle, at, both_true, carries, client_made, cycle_sizes, cycle_whole, is_mixed, is_over, item_at, kept_of, list_all, list_all-append, none-some, observed, proxies_of, same_Some, sees_same, server_kept_of, shown_added, shown_adopted, shown_at, shown_met, shown_still, slot_for, slot_is, slot_of, spot_of, stream_at}
+use Rattle.af_rendering.proofs.Common.{AddsCycle, ClientState, Cycle, CycleEntry, EntryUsed, FastState, HandSide, HasStateHistory, IsCycle, IsFastTurn, IsInOrder, ItemStays, Made, MeetsAway, Met, MixerState, New, NormalKept, NormalState, Nothing, Observes, PartyState, Poll, Polls, Pushes, Same, ServerState, SessionState, Shown, Spot, SpotMet, StreamNames, WasPolled, Writes, WritesCycle, at, both_true, carries, client_made, cycle_sizes, cycle_whole, is_mixed, is_over, item_at, kept_of, list_all, list_all-append, none-some, observed, proxies_of, same_Some, sees_same, server_kept_of, shown_added, shown_adopted, shown_at, shown_met, shown_still, slot_for, slot_is, slot_of, spot_of, stream_at}
 use Rattle.af_model.specs.declared.states.MutatorEvent.TheVariants as mutator
 use Rattle.af_model.specs.declared.states.ObserverEvent.TheVariants as observer
 use Rattle.af_rendering.specs.Hostile.{IsTame}
@@ -144,8 +144,8 @@ module _ (kept : NormalKept) (s next : SessionState) (answer : Cycle) (bytes : L
   frames_met = sym cycle.sizes.0 ∙ (cycle_sizes s next w.before w.after answer cycle).0
 
   -- the history of the queue after the meetings
-  history : HasHistory s.normal.mutator.past.first (s.normal.mutator.past.events ++ mutator.Learn (length w.cycle.polled.observer.past.events) ∷ []) (w.cycle.polled.observer.past.events ++ observer.Learn (length s.normal.mutator.past.events) ∷ [])
-  history = subst (λ (y : Pushes ServerState StreamNames × Polls ServerState StreamNames). HasHistory y.0.first y.0.events y.1.events) (λ j. (met_pushed j, met_past j)) cycle.meets.ends.histories.queue
+  history : HasStateHistory s.normal.mutator.past.first (s.normal.mutator.past.events ++ mutator.Learn (length w.cycle.polled.observer.past.events) ∷ []) (w.cycle.polled.observer.past.events ++ observer.Learn (length s.normal.mutator.past.events) ∷ [])
+  history = subst (λ (y : Pushes ServerState StreamNames × Polls ServerState StreamNames). HasStateHistory y.0.first y.0.events y.1.events) (λ j. (met_pushed j, met_past j)) cycle.meets.ends.histories.queue
 
   acked : (observed (w.cycle.polled.observer.past.events ++ observer.Learn (length s.normal.mutator.past.events) ∷ [])).acked ≡ w.cycle.polled.observer.past.number
   acked = subst (λ (y : Polls ServerState StreamNames). (observed y.events).acked ≡ y.number) met_past cycle.order.1.observer.told.acked

@@ -2,7 +2,7 @@
 use Rattle.std.proofs.Common.{◌≡◌, ℕ, ◌<◌, ◌≤◌, inl, ⊎_elim, true, true≢false, List, length, map, slice_get, Some, None, refl, sym, ap, subst, ◌∙◌, arith}
 use Rattle.af_rendering.proofs.Common.{CycleEntry, EndsState, FastState, Given, IsInOrder, IsNewSession, IsReady, IsWhole, JournalData, Links, Logged, MixerState, MutatorEvent, PartyState, RoundNoted, RoundsNoted, ScriptData, ServerState, SessionState, SharedState, TurnSpec, carries, has_no_poke, initial, journal_of, kept_of, last_used, list_all, mutated, polled_states, pushed_states, shown_by, shown_in, shows, shows_tracks, slice_get_cases, slice_index_or, use_of, uses_stay}
 use Rattle.af_stateq.proofs.Start.{initial_none}
-use Rattle.af_tally.specs.Summaries.{is_lawful}
+use Rattle.af_tally.specs.Summaries.{is_lawful_shown}
 use Rattle.af_rendering.specs.FastSpared.{FastSparesSoFar, entries_used}
 use Rattle.af_rendering.specs.Hostile.{PokesSpareEntries, SparesSoFar, all_calls, is_spared_in_entry}
 use Rattle.af_rendering.specs.Leads.{InStep, Leads}
@@ -65,7 +65,7 @@ module _ (len : ℕ) (rounds : RoundsNoted) (t : SessionState) (long : length t.
   abbrev pushed : List FastState
   pushed = pushed_states t.normal.mutator.past.events
 
-  entries_of_track : (i : ℕ) → i < length (shown_in len rounds t.fast.log t.normal.mutator.past.events).calls → is_lawful (shown_in len rounds t.fast.log t.normal.mutator.past.events) i ≡ true
+  entries_of_track : (i : ℕ) → i < length (shown_in len rounds t.fast.log t.normal.mutator.past.events).calls → is_lawful_shown (shown_in len rounds t.fast.log t.normal.mutator.past.events) i ≡ true
       → list_all (is_spared_in_entry i) (shown_in len rounds t.fast.log t.normal.mutator.past.events).entries ≡ true
   entries_of_track i within calm =
       let lt : i < rounds.tracks = omega (arith, within, shows_tracks pushed len rounds.tracks (map (λ (r : RoundNoted). r.calls) rounds.rounds) (map (λ (r : RoundNoted). r.turn) rounds.rounds) t.fast.log.frames t.fast.log.entries) in

@@ -1,6 +1,6 @@
 -- Each round leaves the fast mixer's log sparing the tracks whose clients have not poked.
 use Rattle.std.proofs.Common.{◌≡◌, ◌≢◌, ℕ, ◌+◌, ◌<◌, ◌≤◌, ◌==◌, inl, ⊎_elim, Bool, true, false, true≢false, MatchBool, if◌then◌else◌, is_some, fold, List, [], ◌∷◌, ◌++◌, length, slice_get, slice_set, Option, Some, None, refl, sym, ap, subst, ◌∙◌, eq-eqb, arith}
-use Rattle.af_rendering.proofs.Common.{ClientCall, ClientState, FastState, Given, HandSide, HasHistory, IsFastTurn, IsInOrder, IsReady, IsRound, Links, Made, MeetsAway, MeetsStream, Met, MixerState, NormalKept, NormalState, NormalTurned, PartyState, Polls, Pushes, RoundNoted, ServerState, SessionState, Shown, Spot, SpotMet, StreamNames, Track, Turn, TurnSpec, after_call, after_calls, and_from, and_parts, at, called, carries, cases_eq, client_made, ends_keep, eqb-true, fast_round, file_at, get_set_other, get_set_same, is_home, is_lawful, is_of_commands, is_slot_of, item_at, kept_of, lawful_first, list_all, none-some, normal_round, observed, only_slot, ops_at, proxies_of, same_Some, server_kept_of, shown_met, shows, slice_get_within, slot_for, slot_number, slot_of, slots, spot_of, still_round, stream_at, track_at, track_of, with_ends}
+use Rattle.af_rendering.proofs.Common.{ClientCall, ClientState, FastState, Given, HandSide, HasStateHistory, IsFastTurn, IsInOrder, IsReady, IsRound, Links, Made, MeetsAway, MeetsStream, Met, MixerState, NormalKept, NormalState, NormalTurned, PartyState, Polls, Pushes, RoundNoted, ServerState, SessionState, Shown, Spot, SpotMet, StreamNames, Track, Turn, TurnSpec, after_call, after_calls, and_from, and_parts, at, called, carries, cases_eq, client_made, ends_keep, eqb-true, fast_round, file_at, get_set_other, get_set_same, is_home, is_lawful, is_of_commands, is_slot_of, item_at, kept_of, lawful_first, list_all, none-some, normal_round, observed, only_slot, ops_at, proxies_of, same_Some, server_kept_of, shown_met, shows, slice_get_within, slot_for, slot_number, slot_of, slots, spot_of, still_round, stream_at, track_at, track_of, with_ends}
 use Rattle.af_runs.specs.ClientTurns.{released_by}
 use Rattle.af_model.specs.declared.states.MutatorEvent.TheVariants as mutator
 use Rattle.af_model.specs.declared.states.ObserverEvent.TheVariants as observer
@@ -57,8 +57,8 @@ module _ (links : Links) (g : Given) (n : ℕ) (turned met t : SessionState) (me
   kept_after : kept_of t.normal ≡ kept_of turned.normal
   kept_after = ap kept_of (same_normal ∙ meets.ends.normal)
 
-  history : HasHistory turned.normal.mutator.past.first (turned.normal.mutator.past.events ++ mutator.Learn (length turned.fast.observer.past.events) ∷ []) (turned.fast.observer.past.events ++ observer.Learn (length turned.normal.mutator.past.events) ∷ [])
-  history = subst (λ (y : Pushes ServerState StreamNames × Polls ServerState StreamNames). HasHistory y.0.first y.0.events y.1.events)
+  history : HasStateHistory turned.normal.mutator.past.first (turned.normal.mutator.past.events ++ mutator.Learn (length turned.fast.observer.past.events) ∷ []) (turned.fast.observer.past.events ++ observer.Learn (length turned.normal.mutator.past.events) ∷ [])
+  history = subst (λ (y : Pushes ServerState StreamNames × Polls ServerState StreamNames). HasStateHistory y.0.first y.0.events y.1.events)
       (λ j. (ap (λ (m : NormalState). m.mutator.past) meets.ends.normal j, ap (λ (m : MixerState). m.observer.past) meets.ends.fast j)) meets.ends.histories.queue
 
   acked : (observed (turned.fast.observer.past.events ++ observer.Learn (length turned.normal.mutator.past.events) ∷ [])).acked ≡ turned.fast.observer.past.number

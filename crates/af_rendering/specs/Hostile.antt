@@ -10,7 +10,7 @@ use Rattle.af_model.specs.History.{is_lawful as is_tame}
 use Rattle.af_model.specs.Journals.{RoundNoted}
 use Rattle.af_party.specs.Parties.{PartyState}
 use Rattle.af_session.specs.Shown.{calls_over, turn_in}
-use Rattle.af_tally.specs.Summaries.{EntryUsed, Look, Shown, calls_of, entry_looks, has_no_poke, is_lawful, turn_looks}
+use Rattle.af_tally.specs.Summaries.{EntryUsed, Look, Shown, calls_of, entry_looks, has_no_poke, is_lawful_shown, turn_looks}
 use Rattle.af_session.specs.Together.{SessionState}
 
 -- none of these looks at stream blocks was Shut at the track i
@@ -28,7 +28,7 @@ pub record IsSpared (run : Shown) (i : ℕ) : Type 0 where
 
 -- Whatever the clients stored in their words, each track on whose blocks no poke was performed is spared
 pub record PokesSpareOthers (run : Shown) : Type 0 where
-  pub each : (i : ℕ) → i < length run.calls → is_lawful run i ≡ true → IsSpared run i
+  pub each : (i : ℕ) → i < length run.calls → is_lawful_shown run i ≡ true → IsSpared run i
 
 -- an entry of the fast mixer has no look at the track i that was Shut
 abbrev pub is_spared_in_entry : ℕ → EntryUsed → Bool
@@ -36,7 +36,7 @@ is_spared_in_entry i used = none_shut i (entry_looks used)
 
 -- Whatever the clients stored in their words, no look of the fast mixer at the stream of a track on whose blocks no poke was performed was Shut
 pub record PokesSpareEntries (run : Shown) : Type 0 where
-  pub each : (i : ℕ) → i < length run.calls → is_lawful run i ≡ true → list_all (is_spared_in_entry i) run.entries ≡ true
+  pub each : (i : ℕ) → i < length run.calls → is_lawful_shown run i ≡ true → list_all (is_spared_in_entry i) run.entries ≡ true
 
 -- ## While the run goes on
 

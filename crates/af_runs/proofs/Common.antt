@@ -12,7 +12,7 @@ pub use Rattle.af_life.specs.Kept.{NormalKept, Outside, Setup}
 pub use Rattle.af_life.specs.Obeys.{is_shut, shows_command}
 unfoldable pub use Rattle.af_life.specs.Obeys.{after_look}
 pub use Rattle.af_model.specs.Cycles.{IsSeen, cycle_events, kept, state_of, still_entry, taken_before}
-pub use Rattle.af_model.specs.Draft.{attached, commanded, initial}
+pub use Rattle.af_model.specs.Draft.{attached, draft_commanded, initial}
 pub use Rattle.af_model.specs.Journals.{EntrySeen, JournalData, RoundSeen, entries_of, no_round}
 unfoldable pub use Rattle.af_model.specs.Journals.{taken_by}
 pub use Rattle.af_model.specs.Order.{one, two, twos}

@@ -1,5 +1,5 @@
 -- The definitions of runs at work on small values: each is computed.
-use Rattle.af_runs.proofs.Common.{CommandLook, CycleEntry, EntrySeen, FastState, Frame, List, None, ScriptData, Seen, Some, Turn, [], absent, attached, cells_of, commanded, cycle_events, false, initial, kept, length, map, negsuc, no_slot, pos, refl, replicate, report_at, true, twos, ℕ}
+use Rattle.af_runs.proofs.Common.{CommandLook, CycleEntry, EntrySeen, FastState, Frame, List, None, ScriptData, Seen, Some, Turn, [], absent, attached, cells_of, draft_commanded, cycle_events, false, initial, kept, length, map, negsuc, no_slot, pos, refl, replicate, report_at, true, twos, ℕ}
 use Rattle.std.specs.Prelude.{◌≡◌, ◌∷◌, ◌++◌}
 use Rattle.af_base.specs.declared.event.ClientCall.TheVariants as call
 use Rattle.af_base.specs.declared.event.ClientEvent.TheVariants as client
@@ -18,7 +18,7 @@ use Rattle.af_base.specs.declared.event.ServerEvent.{ServerEvent}
 use Rattle.af_runs.specs.KeptLists.{AnswerAlike, shows, sure_count}
 use Rattle.af_runs.specs.KeptLists as alike
 use Rattle.af_runs.specs.Pcm.{journal_pcm}
-use Rattle.af_runs.specs.Runs.{Run, new_run, with_calls, with_poll, with_mix, with_cycle, each_track, called, told_at, found_before, met, last_report, takes_part, known_of, stream_met}
+use Rattle.af_runs.specs.Runs.{Run, new_run, with_calls, with_poll, with_mix, with_cycle, each_track, called_in_turn, told_at, found_before, met, last_report, takes_part, known_of, stream_met}
 use Rattle.af_runs.specs.Sessions.{Session}
 
 -- ## A cycle of a run
@@ -47,11 +47,11 @@ session = record { script = script; files = frames ∷ [] }
 
 -- the first state pushed carries track 0 in slot 1
 abbrev mixing : FastState
-mixing = commanded MixWrite (attached 1 false 4096 0 (initial 2))
+mixing = draft_commanded MixWrite (attached 1 false 4096 0 (initial 2))
 
 -- the client has put two frames, and all have met
 abbrev put : Run
-put = met session (record (each_track (λ track t. called (call.Put 0 2 ∷ []) t) (with_calls (record { calls = (call.Sent 0 1 0 ∷ call.Sent 0 2 0 ∷ []) ∷ []; turn = None; entries = [] }) (new_run session))) { states = mixing ∷ [] })
+put = met session (record (each_track (λ track t. called_in_turn (call.Put 0 2 ∷ []) t) (with_calls (record { calls = (call.Sent 0 1 0 ∷ call.Sent 0 2 0 ∷ []) ∷ []; turn = None; entries = [] }) (new_run session))) { states = mixing ∷ [] })
 
 met_client : client_list (told_at put 0).stream ≡ client.SawFlags 0 ∷ client.SawFront 0 ∷ client.Release 2 ∷ client.Learn 0 ∷ []
 unfolding with_calls met cells_of

@@ -11,7 +11,7 @@ use Rattle.af_runs.specs.declared.want.ClientCommand.{ClientCommand}
 use Rattle.af_runs.specs.declared.want.ClientCommand.TheVariants as command
 use Rattle.af_runs.specs.declared.want.Want.{Want}
 use Rattle.af_runs.specs.declared.want.Want.TheVariants as want
-use Rattle.af_runs.specs.Clients.{Client, code_of, begun, next_want, rest_of, after_answer, at_next_turn}
+use Rattle.af_runs.specs.Clients.{Client, command_code, begun, next_want, rest_of, after_answer, at_next_turn}
 
 -- a client's side of a block: the block's sizes, the events of its pass, and the words of the frames that it released
 pub record Side : Type 0 where
@@ -86,7 +86,7 @@ is_clear _ = false
 
 -- the call is the one that is wanted
 abbrev pub IsWanted : Track → Want → ClientCall → Type 0
-IsWanted t (want.Send sending) answer = is_send (code_of sending) (argument_of t sending) answer ≡ true
+IsWanted t (want.Send sending) answer = is_send (command_code sending) (argument_of t sending) answer ≡ true
 IsWanted t want.Settled answer = is_status answer ≡ true
 IsWanted t want.Drained answer = is_status answer ≡ true
 IsWanted t want.Flush answer = is_flush answer ≡ true
@@ -95,7 +95,7 @@ IsWanted t (want.Write count) answer = is_write answer ≡ true
 IsWanted t want.Clear answer = is_clear answer ≡ true
 IsWanted t (want.Poke in_command word value) answer = answer ≡ call.Poke in_command word value
 IsWanted t want.Rest answer = ⊥
-IsWanted t want.Leave answer = is_send (code_of command.Remove) 0 answer ≡ true
+IsWanted t want.Leave answer = is_send (command_code command.Remove) 0 answer ≡ true
 
 -- a call answers by the words that it saw and the list of its pass
 abbrev pub AnswersOn : Side → ℕ → ClientCall → Type 0

@@ -27,13 +27,13 @@ abbrev pub new_client : List Op → Client
 new_client ops = record { due = []; ops = ops; mode = mode.Idle; waiting = false; ended = false }
 
 -- the code of a command
-abbrev pub code_of : ClientCommand → ℕ
-code_of command.Open = OPEN
-code_of command.Start = START
-code_of command.Pause = PAUSE
-code_of command.Stop = STOP
-code_of command.Flush = FLUSH
-code_of command.Remove = REMOVE
+abbrev pub command_code : ClientCommand → ℕ
+command_code command.Open = OPEN
+command_code command.Start = START
+command_code command.Pause = PAUSE
+command_code command.Stop = STOP
+command_code command.Flush = FLUSH
+command_code command.Remove = REMOVE
 
 -- ## What an op wants
 
@@ -93,8 +93,8 @@ rest_of (w ∷ wants) = wants
 -- ## What an answer makes of a client
 
 -- a client that goes on with these wants, one that waits, and one that has ended
-abbrev pub goes_on : List Want → Client → Client
-goes_on wants c = record c { due = wants }
+abbrev pub with_wants : List Want → Client → Client
+with_wants wants c = record c { due = wants }
 
 abbrev pub waits : Client → Client
 waits c = record c { waiting = true }
@@ -118,7 +118,7 @@ is_last _ = false
 
 -- a command was sent
 abbrev pub after_sent : ClientCommand → List Want → Client → Client
-after_sent sending wants c = if is_last sending then ends (goes_on wants c) else record (goes_on wants c) { mode = mode_after sending c.mode }
+after_sent sending wants c = if is_last sending then ends (with_wants wants c) else record (with_wants wants c) { mode = mode_after sending c.mode }
 
 -- a send that is full waits, and one that finds the block dead or corrupt ends the client
 abbrev pub after_send : ClientCommand → List Want → Client → ClientCall → Client
@@ -132,7 +132,7 @@ more left wants = if left == 0 then wants else want.Write left ∷ wants
 
 -- after a Put an active client looks at DISABLED first
 abbrev pub after_put : ℕ → List Want → Client → Client
-after_put left wants c = goes_on (if is_active c.mode then want.Clear ∷ more left wants else more left wants) c
+after_put left wants c = with_wants (if is_active c.mode then want.Clear ∷ more left wants else more left wants) c
 
 -- a write that is full waits, and one that finds the block dead or corrupt leaves only a last REMOVE to send
 abbrev pub after_write : ℕ → List Want → Client → ClientCall → Client
@@ -151,13 +151,13 @@ settled_in word = word / 256
 abbrev pub after_status : Bool → ℕ → List Want → Client → ClientCall → Client
 after_status to_stop commands wants c (call.Status word) =
     if state_in word == 15 then ends c
-    else if nat_le commands (settled_in word) && (not to_stop || (state_in word == 8)) then goes_on wants c
+    else if nat_le commands (settled_in word) && (not to_stop || (state_in word == 8)) then with_wants wants c
     else waits c
 after_status to_stop commands wants c _ = c
 
 -- if DISABLED was set, a START is owed before anything else
 abbrev pub after_clear : List Want → Client → ClientCall → Client
-after_clear wants c (call.Cleared flags) = goes_on (if bit_and flags 8 == 0 then wants else want.Send command.Start ∷ wants) c
+after_clear wants c (call.Cleared flags) = with_wants (if bit_and flags 8 == 0 then wants else want.Send command.Start ∷ wants) c
 after_clear wants c _ = c
 
 -- the client after the answer to a want, with what is wanted after it, when so many commands were sent in all
@@ -168,7 +168,7 @@ after_answer commands want.Drained wants c answer = after_status true commands w
 after_answer commands (want.Write asked) wants c answer = after_write asked wants c answer
 after_answer commands want.Clear wants c answer = after_clear wants c answer
 after_answer commands want.Leave wants c answer = ends c
-after_answer commands _ wants c answer = goes_on wants c
+after_answer commands _ wants c answer = with_wants wants c
 
 -- ## The end of a turn
 

@@ -13,7 +13,7 @@ use Rattle.af_runs.specs.Blocks.{BlockTold, Marks, listed, is_tame, HasBlockHist
 use Rattle.af_runs.specs.ClientTurns.{LegalClientTurn}
 use Rattle.af_runs.specs.Found.{TurnFound, LegalTurnBy}
 use Rattle.af_runs.specs.Fronts.{lawful_front}
-use Rattle.af_runs.specs.Runs.{Run, most_cycles, told_at, sides_of, calls_in, with_calls, state_for, with_poll, with_mix, with_cycle, with_cycles, frames_before, stream_of, found_before, with_turn, with_load, takes_part, met, with_ends, fast_ended, all_ended}
+use Rattle.af_runs.specs.Runs.{Run, most_round_cycles, told_at, sides_of, calls_in, with_calls, state_for, with_poll, with_mix, with_cycle, with_cycles, frames_before, stream_of, found_before, with_turn, with_load, takes_part, met, with_ends, fast_ended, all_ended}
 use Rattle.af_runs.specs.Sessions.{Session, track_count, cycle_frames, setup_of}
 use Rattle.af_runs.specs.Told.{HasQueueHistory, HasReportHistory, HasPipeTold}
 
@@ -103,7 +103,7 @@ fills s run round = length run.entries + length round.entries == s.script.cycles
 -- The fast mixer's turn is one of 16 cycles, and each entry is legal. One that has ended makes none. `cut` says whether the turn may end since the log is full
 abbrev pub LegalFastTurn : Bool → Session → Marks → Run → RoundSeen → Type 0
 LegalFastTurn cut s marks run round = MatchBool (fast_ended run) (round.entries ≡ [])
-    (IsFastTurn most_cycles (cut && fills s run round) round.entries × LegalEntries s marks (with_calls round run) (early_of run round) × LegalEntries s marks (after_turn s run round) (late_of run round))
+    (IsFastTurn most_round_cycles (cut && fills s run round) round.entries × LegalEntries s marks (with_calls round run) (early_of run round) × LegalEntries s marks (after_turn s run round) (late_of run round))
 
 -- ## The normal mixer's turn
 

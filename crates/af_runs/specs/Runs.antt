@@ -15,7 +15,7 @@ use Rattle.af_life.specs.Heard.{learnt}
 use Rattle.af_life.specs.Looks.{words_taken}
 use Rattle.af_life.specs.Plays.{put_by}
 use Rattle.af_life.specs.Turn.{after_edits, turn_after}
-use Rattle.af_life.specs.TurnEvents.{tracks_at, going, takes_from, command_list, hand_list, stream_list, pipe_list, number_seen, mutator_list}
+use Rattle.af_life.specs.TurnEvents.{tracks_at, going, takes_from, command_list, hand_events_of, stream_list, pipe_list, number_seen, mutator_list}
 use Rattle.af_model.specs.declared.newest.WriterEvent.TheVariants.{Store}
 use Rattle.af_model.specs.declared.newest.ReaderEvent.TheVariants.{Load}
 use Rattle.af_model.specs.Cycles.{Listed, kept, state_of, last_used, has_exit, is_mixed, takes_shown, cycle_events}
@@ -57,13 +57,13 @@ pub record Run : Type 0 where
   pub pipe : PipeTold
 
 -- a track before the first round
-abbrev pub new_track : Session → ℕ → TrackTold
-new_track s track = record { file = file_words s track; client = new_client (spec_of s track).ops; stream = new_block (stream_shape s.script.version (spec_of s track)); commands = new_block command_shape }
+abbrev pub new_told_track : Session → ℕ → TrackTold
+new_told_track s track = record { file = file_words s track; client = new_client (spec_of s track).ops; stream = new_block (stream_shape s.script.version (spec_of s track)); commands = new_block command_shape }
 
 -- a run before its first round
 abbrev pub new_run : Session → Run
 new_run s = record {
-  tracks = map (new_track s) (range_with_len 0 (track_count s));
+  tracks = map (new_told_track s) (range_with_len 0 (track_count s));
   normal = new_normal (setup_of s);
   handed = false;
   states = [];
@@ -83,30 +83,30 @@ abbrev pub told_at : Run → ℕ → TrackTold
 told_at run track = slice_index_or run.tracks track no_track
 
 -- each track changed by its number, from this number on
-abbrev pub each_from : (ℕ → TrackTold → TrackTold) → ℕ → List TrackTold → List TrackTold
-each_from change number [] = []
-each_from change number (t ∷ ts) = change number t ∷ each_from change (number + 1) ts
+abbrev pub changed_from : (ℕ → TrackTold → TrackTold) → ℕ → List TrackTold → List TrackTold
+changed_from change number [] = []
+changed_from change number (t ∷ ts) = change number t ∷ changed_from change (number + 1) ts
 
 abbrev pub each_track : (ℕ → TrackTold → TrackTold) → Run → Run
-each_track change run = record run { tracks = each_from change 0 run.tracks }
+each_track change run = record run { tracks = changed_from change 0 run.tracks }
 
 -- ## The clients
 
 -- the client's side of a block
-abbrev pub side_of : BlockTold → Side
-side_of b = record { shape = b.shape; events = client_list b; released = b.released }
+abbrev pub client_side : BlockTold → Side
+client_side b = record { shape = b.shape; events = client_list b; released = b.released }
 
 -- the track as its client has it
 abbrev pub sides_of : TrackTold → Track
-sides_of t = record { file = t.file; client = t.client; stream = side_of t.stream; commands = side_of t.commands }
+sides_of t = record { file = t.file; client = t.client; stream = client_side t.stream; commands = client_side t.commands }
 
 -- a block whose client's side has become this one: the client did what its list has more
 abbrev pub with_side : Side → BlockTold → BlockTold
 with_side side b = record (client_does (drop (length (client_list b)) side.events) b) { released = side.released }
 
 -- a track whose client made these calls in a turn
-abbrev pub called : List ClientCall → TrackTold → TrackTold
-called calls t = let after = after_calls (sides_of t) calls in record t {
+abbrev pub called_in_turn : List ClientCall → TrackTold → TrackTold
+called_in_turn calls t = let after = after_calls (sides_of t) calls in record t {
   client = after.client;
   stream = with_side after.stream t.stream;
   commands = with_side after.commands t.commands;
@@ -118,7 +118,7 @@ calls_in round track = slice_index_or round.calls track []
 
 -- each client made its calls
 unfoldable pub with_calls : RoundSeen → Run → Run
-with_calls round run = each_track (λ track t. called (calls_in round track) t) run
+with_calls round run = each_track (λ track t. called_in_turn (calls_in round track) t) run
 
 -- ## The fast mixer
 
@@ -131,12 +131,12 @@ unfoldable pub with_poll : Session → ℕ → Run → Run
 with_poll s k run = record run { queue = observer_does (poll_events (cycle_frames s) run.states run.current k) run.queue; current = if nat_le k (length run.states) then k else run.current }
 
 -- the state carries the slot, and the entry shows it
-abbrev pub plays : FastState → CycleEntry → ℕ → Bool
-plays x entry i = carries x i && is_shown (entry_slot entry i).seen
+abbrev pub shows_slot : FastState → CycleEntry → ℕ → Bool
+shows_slot x entry i = carries x i && is_shown (entry_slot entry i).seen
 
 -- the slot that plays a track
-abbrev pub slot_for : FastState → CycleEntry → ℕ → Option ℕ
-slot_for x entry track = find (λ i. plays x entry i && ((slot_of x i).track == track)) (range_with_len 0 slots)
+abbrev pub slot_playing : FastState → CycleEntry → ℕ → Option ℕ
+slot_playing x entry track = find (λ i. shows_slot x entry i && ((slot_of x i).track == track)) (range_with_len 0 slots)
 
 -- a stream block whose server was played in a slot: its gains, its look, and what follows, with the words of the frames taken
 abbrev pub played : ℕ → EntrySeen → ℕ → BlockTold → BlockTold
@@ -146,7 +146,7 @@ played asked e i b =
 
 -- a track after an entry under the state x
 abbrev pub mixed_track : Session → FastState → EntrySeen → ℕ → TrackTold → TrackTold
-mixed_track s x e track t = elim (slot_for x e.entry track) as (λ o. TrackTold) [ None ↦ t | Some i ↦ record t { stream = played (cycle_frames s) e i t.stream } ]
+mixed_track s x e track t = elim (slot_playing x e.entry track) as (λ o. TrackTold) [ None ↦ t | Some i ↦ record t { stream = played (cycle_frames s) e i t.stream } ]
 
 -- the pipe after an entry: a mix sees rear and front, and takes what it shows
 abbrev pub mixed_pipe : EntrySeen → PipeTold → PipeTold
@@ -169,7 +169,7 @@ abbrev pub next_slot : Session → Run → CycleEntry → List SlotReport → �
 next_slot s run entry before i =
     let x = state_for s run entry.state in
     let y = state_for s run (last_used run.entries) in
-    if is_some (state_of run.states entry.state) || plays x entry i
+    if is_some (state_of run.states entry.state) || shows_slot x entry i
     then slot_report (cycle_frames s) (Some x) (Some y) entry (known_of (listed (stream_of run x i))) i (report_at before i)
     else report_at before i
 
@@ -211,12 +211,12 @@ abbrev pub report_of : List Report → ℕ → Report
 report_of reports n = if n == 0 then no_report else slice_index_or reports (n - 1) (last_report reports)
 
 -- the most entries of a round
-abbrev pub most_cycles : ℕ
-most_cycles = 16
+abbrev pub most_round_cycles : ℕ
+most_round_cycles = 16
 
 -- The number of the report that a turn loads: it is the last one before the round, or one of the round's first 16 entries. So what a turn finds rests on no entry beyond those that a legal round may have
 abbrev pub load_of : Run → Turn → ℕ
-load_of run e = min (max (length run.entries) e.cycle) (length run.entries + most_cycles)
+load_of run e = min (max (length run.entries) e.cycle) (length run.entries + most_round_cycles)
 
 -- What a turn finds that comes before these entries. An entry of the state that the turn itself pushes counts in the report by the draft before the turn, as far as it shows its slots
 abbrev pub found_before : Session → Run → List EntrySeen → Turn → TurnFound
@@ -230,7 +230,7 @@ found_before s run entries e = record {
 abbrev pub stream_turned : Setup → Outside → NormalKept → Turn → ℕ → BlockTold → BlockTold
 stream_turned c o m e i b =
     took (going e (map packed_word (flat_map (λ take. take.frames) (takes_from e.mixes i))))
-    (server_does (stream_list c o e (tracks_at c (learnt o) m e i) i) (hand_does (hand_list e i) b))
+    (server_does (stream_list c o e (tracks_at c (learnt o) m e i) i) (hand_does (hand_events_of e i) b))
 
 -- a command block after a turn: the looks, INVALID if the track was found shut, and the status
 abbrev pub commands_turned : Setup → Outside → NormalKept → Turn → ℕ → BlockTold → BlockTold
@@ -269,7 +269,7 @@ with_turn s f e run =
     let c = setup_of s in
     let o = outside_of c f e in
     record run {
-      tracks = each_from (turned_track c o run.normal e) 0 run.tracks;
+      tracks = changed_from (turned_track c o run.normal e) 0 run.tracks;
       normal = turn_after c (learnt o) run.normal e;
       handed = true;
       states = run.states ++ pushed_by c o run.normal e;
@@ -284,14 +284,14 @@ with_load e run = record run { report = run.report ++ map two (going e (Load e.c
 -- ## The meetings
 
 -- the observer holds the stream proxy of a track: the state adopted last carries it
-abbrev pub holds : Session → Run → ℕ → Bool
-holds s run track =
+abbrev pub observer_holds : Session → Run → ℕ → Bool
+observer_holds s run track =
     let x = state_at (cycle_frames s) run.states run.current in
     list_any (λ i. carries x i && ((slot_of x i).track == track)) (range_with_len 0 slots)
 
 -- the stream proxy of a track takes part in a meeting: it is home, or the observer holds it
 abbrev pub takes_part : Session → Run → ℕ → Bool
-takes_part s run track = is_home (track_at run.normal.tracks track).holder || holds s run track
+takes_part s run track = is_home (track_at run.normal.tracks track).holder || observer_holds s run track
 
 -- A stream block after a meeting, in which its proxy takes part or not, and its hand once it is there: if all three meet, first client and server, then client and hand
 abbrev pub stream_met : Bool → Bool → BlockTold → BlockTold

@@ -1,16 +1,14 @@
 -- The numbers of a run's summary: how many cycles were mixed, how many frames of lawful tracks were mixed, dropped and are queued, and how loud it was.
 use Rattle.std.specs.Prelude.{ℕ, ◌-◌, if◌then◌else◌, List, map, filter, length, sum_by}
 use Rattle.std.specs.List.{range_with_len}
-use Rattle.af_base.specs.declared.frame.Frame.{Frame}
 use Rattle.af_base.specs.Log.{takes_of}
 use Rattle.af_base.specs.Mix.{Take, mixed_frames, peak_of}
 use Rattle.af_model.specs.Cycles.{is_mixed, kept}
 use Rattle.af_model.specs.Journals.{RoundSeen, JournalData, entries_of, frames_of}
 use Rattle.af_script.specs.Data.{ScriptData}
 use Rattle.af_runs.specs.Blocks.{listed}
-use Rattle.af_runs.specs.LegalRuns.{is_lawful_track, session_of, run_of}
-use Rattle.af_runs.specs.Runs.{Run, TrackTold, new_run, told_at}
-use Rattle.af_runs.specs.TurnRuns.{run_alone}
+use Rattle.af_runs.specs.LegalRuns.{is_lawful_track}
+use Rattle.af_runs.specs.Runs.{Run, TrackTold, told_at}
 
 -- what is printed of a run
 pub record Summed : Type 0 where
@@ -55,11 +53,3 @@ summed_by script j run = record {
   queued = total queued_of j run;
   peak = peak_of (mixed_frames script.frames (mixes_of j));
 }
-
--- the numbers of a journal of rounds, in each of which all parties made a turn
-abbrev pub summed_of : ScriptData → List (List Frame) → JournalData → Summed
-summed_of script files j = summed_by script j (run_of script files j)
-
--- the numbers of a turn run
-abbrev pub turns_summed : ScriptData → List (List Frame) → JournalData → Summed
-turns_summed script files j = let s = session_of script files in summed_by script j (run_alone s (new_run s) script.turns j.rounds)

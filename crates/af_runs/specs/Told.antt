@@ -96,11 +96,11 @@ queue_met told = told ++ one (mutator.Learn (length (twos told))) ∷ two (obser
 
 -- the lists of the queue's ends stand in some legal order
 abbrev pub HasQueueHistory : ℕ → QueueTold → Type 0
-HasQueueHistory frames told = queued.HasHistory (initial frames) (ones told) (twos told)
+HasQueueHistory frames told = queued.HasStateHistory (initial frames) (ones told) (twos told)
 
 -- the order in which the queue's events are told is legal
 abbrev pub IsQueueAsTold : ℕ → QueueTold → Type 0
-IsQueueAsTold frames told = Legal queued.legal queued.next (queued.start (initial frames)) told
+IsQueueAsTold frames told = Legal queued.legal queued.next (queued.start_of_queue (initial frames)) told
 
 -- ## The report
 
@@ -110,11 +110,11 @@ report_met told = told ++ one (writes.Learn (length (twos told))) ∷ two (reads
 
 -- the lists of the report's ends stand in some legal order
 abbrev pub HasReportHistory : ReportTold → Type 0
-HasReportHistory told = newest.HasHistory no_report (ones told) (twos told)
+HasReportHistory told = newest.HasValueHistory no_report (ones told) (twos told)
 
 -- the order in which the report's events are told is legal
 abbrev pub IsReportAsTold : ReportTold → Type 0
-IsReportAsTold told = Legal newest.legal newest.next (newest.start no_report) told
+IsReportAsTold told = Legal newest.legal_value newest.next_value (newest.start_value no_report) told
 
 -- ## The pipe
 

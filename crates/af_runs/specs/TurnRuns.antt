@@ -11,7 +11,7 @@ use Rattle.af_runs.specs.Blocks.{Marks, is_tame, IsHistoryAsTold}
 use Rattle.af_runs.specs.ClientTurns.{LegalClientTurn}
 use Rattle.af_runs.specs.LegalRuns.{marks_of, session_of}
 use Rattle.af_runs.specs.Rounds.{IsFastTurn, LegalEntry, LegalTurnIn, loaded, turned}
-use Rattle.af_runs.specs.Runs.{Run, new_run, told_at, sides_of, called, calls_in, each_track, with_poll, with_mix, found_before, takes_part, met, with_ends, fast_ended}
+use Rattle.af_runs.specs.Runs.{Run, new_run, told_at, sides_of, called_in_turn, calls_in, each_track, with_poll, with_mix, found_before, takes_part, met, with_ends, fast_ended}
 use Rattle.af_runs.specs.Sessions.{Session, track_count, cycle_frames, setup_of}
 use Rattle.af_runs.specs.Told.{IsQueueAsTold, IsReportAsTold, IsPipeAsTold}
 
@@ -27,7 +27,7 @@ turn_alone s run round = loaded round.turn (turned s (found_before s run []) rou
 
 -- one client made its calls
 abbrev pub calls_alone : ℕ → RoundSeen → Run → Run
-calls_alone track round run = each_track (λ number t. if number == track then called (calls_in round track) t else t) run
+calls_alone track round run = each_track (λ number t. if number == track then called_in_turn (calls_in round track) t else t) run
 
 -- the turn of one party
 abbrev pub made_alone : Session → Run → TurnSpec → RoundSeen → Run

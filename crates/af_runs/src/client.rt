@@ -1,6 +1,6 @@
 //! A client of a session: what it wants next, by its ops, and what each answer of its proxies makes of it.
 ghost use Rattle.std.specs.Prelude.{◌≡◌, ◌<◌, ◌≤◌, ◌||◌, ◌∷◌, [], true, None, Some, Option, List, length, drop};
-ghost use Rattle.af_runs.specs.Clients.{after_answer, after_clear, after_put, after_send, after_sent, after_status, after_write, asked_first, at_next_turn, begun, due_of, goes_on, mode_after, new_client, next_want, rest_of, rested, wants_of};
+ghost use Rattle.af_runs.specs.Clients.{after_answer, after_clear, after_put, after_send, after_sent, after_status, after_write, asked_first, at_next_turn, begun, due_of, with_wants, mode_after, new_client, next_want, rest_of, rested, wants_of};
 ghost use Rattle.af_runs.specs.declared.want.Want.TheVariants.{Send};
 ghost use Rattle.af_runs.specs.declared.want.ClientCommand.TheVariants.{Start};
 ghost use Rattle.af_runs.specs.declared.want.Want.{Want as WantSeen};
@@ -188,7 +188,7 @@ impl Client {
     // The first want that is due is done: these are due.
     fn go_on(&mut self, due: Due)
         requires { WritesLast (due_of due) }
-        ensures { (ops : List OpSeen) → client_of ops self.new ≡ goes_on (due_of due) (client_of ops self.old) }
+        ensures { (ops : List OpSeen) → client_of ops self.new ≡ with_wants (due_of due) (client_of ops self.old) }
     {
         self.due = due;
     }

@@ -1,6 +1,6 @@
 //! What a client of a session may want.
 ghost use Rattle.std.specs.Prelude.{◌≡◌};
-ghost use Rattle.af_runs.specs.Clients.{code_of};
+ghost use Rattle.af_runs.specs.Clients.{command_code};
 
 use af_life::{FLUSH, OPEN, PAUSE, REMOVE, START, STOP};
 
@@ -71,7 +71,7 @@ pub enum Due {
 impl ClientCommand {
     /// The code that is sent.
     pub fn code(self) -> u32
-        ensures { result ≡ code_of self }
+        ensures { result ≡ command_code self }
     {
         match self {
             ClientCommand::Open => OPEN,

@@ -3,12 +3,12 @@ use Rattle.std.proofs.Common.{◌≡◌, ℕ, suc, ◌-◌, true, false, List, [
 use Rattle.af_script.proofs.Common.{IsCharBoundary, MatchOption, option_map, slice_get}
 use Rattle.std.specs.Str.Pattern.{FindsTextPrefix, StripsPrefix}
 use Rattle.std.proofs.lemmas.Str.Pattern.{starts_text}
-use Rattle.af_script.specs.Text.{after}
+use Rattle.af_script.specs.Text.{after_text}
 use Rattle.af_script.specs.Ops.{is_remove, ends_with_remove}
 use Rattle.af_script.specs.declared.op.Op.{Op}
 
 -- what `strip_prefix` gives
-pub after-stripped : (word text : List ℕ) (r : Option (Bor (List ℕ))) → MatchOption r (FindsTextPrefix word text None) (λ x. StripsPrefix (FindsTextPrefix word) text x.now) → option_map (λ (x : Bor (List ℕ)). x.now) r ≡ after word text
+pub after-stripped : (word text : List ℕ) (r : Option (Bor (List ℕ))) → MatchOption r (FindsTextPrefix word text None) (λ x. StripsPrefix (FindsTextPrefix word) text x.now) → option_map (λ (x : Bor (List ℕ)). x.now) r ≡ after_text word text
 after-stripped word text None missing = rw (sym (starts_text false word text missing)) refl
 after-stripped word text (Some x) (n, found, cut, len) =
     let boundary : IsCharBoundary text n = subst (λ (k : ℕ). IsCharBoundary text k) (sym found.0) found.2 in

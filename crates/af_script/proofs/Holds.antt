@@ -2,7 +2,7 @@
 use Rattle.std.proofs.Common.{◌≡◌, ℕ, suc, ◌+◌, ◌≤◌, ◌&&◌, nat_le, ℤ, pos, negsuc, Bool, true, false, List, ◌∷◌, length, Option, Some, None, Result, Ok, Err, refl, ap, arith, if◌then◌else◌}
 use Rattle.af_script.proofs.Common.{All, All-cons, All-nil, Data, IfSome, Items, Members, after_first, as_integer, before_first, digits_value, item, nat_tests, no_items, ok_or, option_and_then, option_map}
 use Rattle.std.specs.Prelude.{◌==◌}
-use Rattle.af_script.specs.Text.{within, is_number, number_within, after, number_after, pair_within, pair_after}
+use Rattle.af_script.specs.Text.{within, is_number, number_within, after_text, number_after, pair_within, pair_after}
 use Rattle.af_script.specs.Tree.{value_at, count_of}
 use Rattle.af_script.specs.Results.{◌>>=◌}
 use Rattle.af_script.specs.Reading.{in_range_if, number_in, default_if_none, number_or, each_in}
@@ -92,7 +92,7 @@ map-holds P Q None f holds later = tt
 map-holds P Q (Some x) f holds later = later x holds
 
 pub number_after-holds : (word : List ℕ) (low high : ℕ) (text : List ℕ) → IfSome (number_after word low high text) (IsIn low high)
-number_after-holds word low high text = and_then-holds (IsIn low high) (after word text) (number_within low high) (number_within-holds low high)
+number_after-holds word low high text = and_then-holds (IsIn low high) (after_text word text) (number_within low high) (number_within-holds low high)
 
 abbrev pub AreIn : ℕ → ℕ → ℕ × ℕ → Type 0
 AreIn first second pair = (pair.0 ≤ first) × (pair.1 ≤ second)
@@ -104,6 +104,6 @@ pair-holds first second (Some left) (Some right) ha hb = (ha.1, hb.1)
 
 pub pair_after-holds : (word : List ℕ) (first second : ℕ) (text : List ℕ) → IfSome (pair_after word first second text) (AreIn first second)
 pair_after-holds word first second text =
-    and_then-holds (AreIn first second) (after word text) (pair_within first second)
+    and_then-holds (AreIn first second) (after_text word text) (pair_within first second)
     (λ rest. pair-holds first second (number_within 0 first (before_first (λ c. c == 32) rest)) (number_within 0 second (after_first (λ c. c == 32) rest))
     (number_within-holds 0 first (before_first (λ c. c == 32) rest)) (number_within-holds 0 second (after_first (λ c. c == 32) rest)))

@@ -5,7 +5,7 @@ use Rattle.af_script.specs.Bounds.{most_ops, most_turns}
 use Rattle.af_script.specs.Ops.{or_else, op_of, op_at, may_stand, in_place, closed, turn_of, fast_cycles}
 use Rattle.af_script.specs.Tree.{all_are, count_of}
 use Rattle.af_script.specs.Results.{◌>>=◌}
-use Rattle.af_script.specs.Reading.{each_in, op_in, ops_in, turn_in, paid_turns, turns_in}
+use Rattle.af_script.specs.Reading.{each_in, op_in, ops_in, turn_of_words, paid_turns, turns_in}
 use Rattle.af_script.specs.Meaning.{picked, op_meant, turn_meant}
 use Rattle.af_script.specs.Places.{Place, bound, each_place, op_place, ops_places, turn_place, unless}
 use Rattle.af_script.specs.declared.op.Op.{Op}
@@ -67,7 +67,7 @@ turn-tied-by : (found : ScriptFault) (o : Option TurnSpec) → ok_or o found ≡
 turn-tied-by found None = refl
 turn-tied-by found (Some t) = refl
 
-turn-tied : (tracks : ℕ) → IsTied as_str (turn_in tracks) (turn_place tracks) (turn_meant tracks)
+turn-tied : (tracks : ℕ) → IsTied as_str (turn_of_words tracks) (turn_place tracks) (turn_meant tracks)
 turn-tied tracks i d text is =
     ap (λ o. ok_or (option_and_then (turn_of tracks) o) (fault.Turn i)) is ∙ turn-tied-by (fault.Turn i) (turn_of tracks text)
 
@@ -111,9 +111,9 @@ turns-counted tracks cycles items all =
     let turns : List TurnSpec = map (turn_meant tracks) (picked as_str items) in
     let paid : Option ScriptFault = first_of (bound limit.Asked cycles (fast_cycles turns) ∷ []) in
     let each : Option ScriptFault = first_of (each_place (turn_place tracks) 0 (picked as_str items)) in
-    behind (nat_le (count_of items) most_turns) (fault.Limit limit.Turns (count_of items)) (each_in (turn_in tracks) 0 items >>= paid_turns cycles) (or_else each paid) turns
-    (bind (each_in (turn_in tracks) 0 items) each paid turns turns (paid_turns cycles)
-    (each-tied as_str (turn_in tracks) (turn_place tracks) (turn_meant tracks) (turn-tied tracks) 0 items all)
+    behind (nat_le (count_of items) most_turns) (fault.Limit limit.Turns (count_of items)) (each_in (turn_of_words tracks) 0 items >>= paid_turns cycles) (or_else each paid) turns
+    (bind (each_in (turn_of_words tracks) 0 items) each paid turns turns (paid_turns cycles)
+    (each-tied as_str (turn_of_words tracks) (turn_place tracks) (turn_meant tracks) (turn-tied tracks) 0 items all)
     (λ none. paid-tied cycles turns (nat_le (fast_cycles turns) cycles)))
 
 pub turns_in-tied : (tracks cycles : ℕ) (items : Items) → all_are as_str items ≡ true → turns_in tracks cycles items ≡ judged (first_of (bound limit.Turns most_turns (length (picked as_str items)) ∷ (each_place (turn_place tracks) 0 (picked as_str items) ++ bound limit.Asked cycles (fast_cycles (map (turn_meant tracks) (picked as_str items))) ∷ []))) (map (turn_meant tracks) (picked as_str items))

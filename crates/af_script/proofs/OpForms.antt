@@ -2,11 +2,11 @@
 use Rattle.std.proofs.Common.{◌≡◌, ℕ, ◌+◌, ◌-◌, ◌==◌, ◌≤◌, ◌<◌, ◌&&◌, ◌++◌, not, nat_le, Bool, true, false, List, [], ◌∷◌, length, length-append, codes, Option, Some, None, Result, Ok, Err, refl, ap, subst, ◌∙◌, arith, if◌then◌else◌}
 use Rattle.af_script.proofs.Common.{All, All-append, All-cons, All-nil, Data, IfSome, Items, as_str, bytes_eq, item, nat_tests, no_items, option_and_then}
 use Rattle.af_script.specs.Bounds.{most_gain, most_write, most_value, most_fast, header_words, command_frames, most_ops}
-use Rattle.af_script.specs.Ops.{words_of, plain_op, gain_of, write_of, poke_stream, poke_command, or_else, op_of, may_stand, in_place, op_at, is_remove, ends_with_remove, closed, end_with_remove, are_whole, client_of, fast_of, turn_of}
+use Rattle.af_script.specs.Ops.{words_of, plain_op, gain_of, write_of, poke_stream, poke_command, or_else, op_of, may_stand, in_place, op_at, is_remove, ends_with_remove, closed, end_with_remove, are_whole, client_turn_of, fast_of, turn_of}
 use Rattle.af_script.specs.Tree.{count_of}
 use Rattle.af_script.specs.Form.{HasOpNumbers, IsTurn}
 use Rattle.af_script.specs.Results.{◌>>=◌}
-use Rattle.af_script.specs.Reading.{each_in, op_in, ops_in, turn_in}
+use Rattle.af_script.specs.Reading.{each_in, op_in, ops_in, turn_of_words}
 use Rattle.af_script.specs.declared.op.Op.{Op}
 use Rattle.af_script.specs.declared.op.Op.TheVariants.{OpenTrack, Start, Pause, Stop, Flush, Drain, Remove, Yield, Gain, Write, Poke}
 use Rattle.af_script.specs.declared.op.TurnSpec.{TurnSpec}
@@ -194,12 +194,12 @@ normal_choice tracks false other holds = holds
 
 turn_of-holds : (tracks : ℕ) (text : List ℕ) → 0 < tracks → IfSome (turn_of tracks text) (IsTurn tracks)
 turn_of-holds tracks text some =
-    normal_choice tracks (bytes_eq text (codes "n")) (or_else (client_of tracks text) (fast_of text))
-    (either-holds (IsTurn tracks) (client_of tracks text) (fast_of text)
+    normal_choice tracks (bytes_eq text (codes "n")) (or_else (client_turn_of tracks text) (fast_of text))
+    (either-holds (IsTurn tracks) (client_turn_of tracks text) (fast_of text)
     (map-holds (IsIn 0 (tracks - 1)) (IsTurn tracks) _ Client (number_after-holds (codes "c ") 0 (tracks - 1) text) (λ n h. below_tracks tracks n some h.1))
     (map-holds (IsIn 1 most_fast) (IsTurn tracks) _ Fast (number_after-holds (codes "f ") 1 most_fast text) (λ n h. h)))
 
-pub turn_in-holds : (tracks i : ℕ) (d : Data) → 0 < tracks → Holds (IsTurn tracks) (turn_in tracks i d)
+pub turn_in-holds : (tracks i : ℕ) (d : Data) → 0 < tracks → Holds (IsTurn tracks) (turn_of_words tracks i d)
 turn_in-holds tracks i d some =
     some_holds (IsTurn tracks) (option_and_then (turn_of tracks) (as_str d)) (fault.Turn i)
     (and_then-holds (IsTurn tracks) (as_str d) (turn_of tracks) (λ text. turn_of-holds tracks text some))

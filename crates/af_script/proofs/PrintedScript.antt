@@ -8,7 +8,7 @@ use Rattle.af_script.specs.Ops.{in_place, may_stand, closed, fast_cycles}
 use Rattle.af_script.specs.Form.{HasOpNumbers, IsTrack, IsTurn, IsScript}
 use Rattle.af_script.specs.Data.{ScriptData}
 use Rattle.af_script.specs.Results.{◌>>=◌}
-use Rattle.af_script.specs.Reading.{in_range, fast_word, top_numbers, track_items as tables_in, turn_items, shape_in, name_in, op_items, number_or, each_in, op_in, ops_in, track_in, track_item, turn_in, paid_turns, turns_in, parts_in, script_in, script_of}
+use Rattle.af_script.specs.Reading.{in_range, fast_word, top_numbers, track_items as tables_in, turn_items, shape_in, name_in, op_items, number_or, each_in, op_in, ops_in, track_of_table, track_item, turn_of_words, paid_turns, turns_in, parts_in, script_in, script_of}
 use Rattle.af_script.specs.Printing.{op_text, turn_text, kind_text, channels_of, written_ops, printed_script}
 use Rattle.af_script.specs.declared.op.Op.{Op}
 use Rattle.af_script.specs.declared.op.TurnSpec.{TurnSpec}
@@ -48,13 +48,13 @@ both r rest x xs e f = ap (λ s. s >>= (λ y. rest >>= (λ ys. Ok (y ∷ ys)))) 
 
 -- ## Turns
 
-turn-read : (tracks i : ℕ) (turn : TurnSpec) → tracks ≤ most_tracks → IsTurn tracks turn → turn_in tracks i (string (turn_text turn)) ≡ Ok turn
+turn-read : (tracks i : ℕ) (turn : TurnSpec) → tracks ≤ most_tracks → IsTurn tracks turn → turn_of_words tracks i (string (turn_text turn)) ≡ Ok turn
 turn-read tracks i turn few is = ap (λ o. ok_or o (fault.Turn i)) (turn_of-text tracks turn few is)
 
-turns-read : (tracks i : ℕ) (turns : List TurnSpec) → tracks ≤ most_tracks → All (IsTurn tracks) turns → each_in (turn_in tracks) i (text_items turn_text turns) ≡ Ok turns
+turns-read : (tracks i : ℕ) (turns : List TurnSpec) → tracks ≤ most_tracks → All (IsTurn tracks) turns → each_in (turn_of_words tracks) i (text_items turn_text turns) ≡ Ok turns
 turns-read tracks i [] few all = refl
 turns-read tracks i (turn ∷ turns) few all =
-    both (turn_in tracks i (string (turn_text turn))) (each_in (turn_in tracks) (i + 1) (text_items turn_text turns)) turn turns
+    both (turn_of_words tracks i (string (turn_text turn))) (each_in (turn_of_words tracks) (i + 1) (text_items turn_text turns)) turn turns
     (turn-read tracks i turn few (All-head (IsTurn tracks) turn turns all))
     (turns-read tracks (i + 1) turns few (All-tail (IsTurn tracks) turn turns all))
 
@@ -65,7 +65,7 @@ all-turns : (tracks cycles : ℕ) (turns : List TurnSpec) → tracks ≤ most_tr
 all-turns tracks cycles turns few short all asked =
     let count : count_of (text_items turn_text turns) ≡ length turns = count-texts turn_text turns in
     let e : nat_le (count_of (text_items turn_text turns)) most_turns ≡ true = rw count (grind (arith, nat_tests)) in
-    rw e (step_is (each_in (turn_in tracks) 0 (text_items turn_text turns)) turns (paid_turns cycles) (turns-read tracks 0 turns few all) ∙ paid cycles turns asked)
+    rw e (step_is (each_in (turn_of_words tracks) 0 (text_items turn_text turns)) turns (paid_turns cycles) (turns-read tracks 0 turns few all) ∙ paid cycles turns asked)
 
 -- ## Ops
 
@@ -136,7 +136,7 @@ module _ (track : ℕ) (t : TrackSpec) (is : IsTrack t) where
   written =
       written-read track t.frames t.ops (written_ops t.ops) (All-take (HasOpNumbers t.frames) 4096 t.ops is.numbers) (ops-stand t.ops is.whole is.count)
 
-  track-read : track_in track (track_tree t) ≡ Ok t
+  track-read : track_of_table track (track_tree t) ≡ Ok t
   track-read =
       step_is (shape_in (track + 1) (track_tree t)) (record { fast = t.fast; frames = t.frames; mono = t.mono })
       (λ shape. name_in (track + 1) (track_tree t) >>= (λ file. op_items (track + 1) (track_tree t) >>= (λ items.
@@ -160,7 +160,7 @@ module _ (track : ℕ) (t : TrackSpec) (is : IsTrack t) where
 tracks-read : (i : ℕ) (ts : List TrackSpec) → All IsTrack ts → each_in track_item i (track_items ts) ≡ Ok ts
 tracks-read i [] all = refl
 tracks-read i (t ∷ ts) all =
-    both (track_in i (track_tree t)) (each_in track_item (i + 1) (track_items ts)) t ts
+    both (track_of_table i (track_tree t)) (each_in track_item (i + 1) (track_items ts)) t ts
     (track-read i t (All-head IsTrack t ts all)) (tracks-read (i + 1) ts (All-tail IsTrack t ts all))
 
 -- ## The script

@@ -6,7 +6,7 @@ use Rattle.std.proofs.lemmas.Fmt.{first_decimal, digits_decimal, digits_value-de
 use Rattle.std.proofs.Math.Nat.{pow-le-pow_right}
 use Rattle.af_script.specs.Bounds.{most_gain, most_write, most_value, most_fast, most_tracks, header_words, command_frames}
 use Rattle.af_script.specs.Text.{has_no_leading_zero, within, number_within, pair_within}
-use Rattle.af_script.specs.Ops.{power_above, cells_of, words_of, gain_of, write_of, poke_stream, poke_command, op_of, client_of, fast_of, turn_of}
+use Rattle.af_script.specs.Ops.{power_above, cells_of, words_of, gain_of, write_of, poke_stream, poke_command, op_of, client_turn_of, fast_of, turn_of}
 use Rattle.af_script.specs.Form.{HasOpNumbers, IsTurn}
 use Rattle.af_script.specs.Printing.{op_text, turn_text}
 use Rattle.af_script.specs.declared.op.Op.{Op}
@@ -124,7 +124,7 @@ op_of-text frames (Poke true w v) (word, value) =
 pub turn_of-text : (tracks : ℕ) (turn : TurnSpec) → tracks ≤ most_tracks → IsTurn tracks turn → turn_of tracks (turn_text turn) ≡ Some turn
 turn_of-text tracks (Client track) few below =
     let e : number_within 0 (tracks - 1) (decimal track) ≡ Some track = number_within-decimal 0 (tracks - 1) track (omega arith) (omega arith) (omega arith) in
-    let f : client_of tracks (turn_text (Client track)) ≡ Some (Client track) = ap (option_map Client) e in
+    let f : client_turn_of tracks (turn_text (Client track)) ≡ Some (Client track) = ap (option_map Client) e in
     rw f refl
 turn_of-text tracks Normal few is = refl
 turn_of-text tracks (Fast cycles) few (low, high) =

@@ -7,7 +7,7 @@ use Rattle.af_script.specs.Ops.{fast_cycles}
 use Rattle.af_script.specs.Tree.{value_at, all_keys, is_track_key, count_of, array_of}
 use Rattle.af_script.specs.Form.{IsTrack, IsTurn, IsScript}
 use Rattle.af_script.specs.Results.{◌>>=◌}
-use Rattle.af_script.specs.Reading.{number_in, top_numbers, some_tables, track_items, fast_in, shape_in, name_if, name_in, op_items, number_or, ops_in, track_in, track_if, track_item, each_in, turn_in, paid_turns, turns_in}
+use Rattle.af_script.specs.Reading.{number_in, top_numbers, some_tables, track_items, fast_in, shape_in, name_if, name_in, op_items, number_or, ops_in, track_of_table, track_if, track_item, each_in, turn_of_words, paid_turns, turns_in}
 use Rattle.af_script.specs.declared.op.Op.{Op}
 use Rattle.af_script.specs.declared.op.TurnSpec.{TurnSpec}
 use Rattle.af_script.specs.declared.track.Shape.{Shape}
@@ -94,7 +94,7 @@ name-holds t tree =
 made : (fast mono : Bool) (frames base scale : ℕ) (file : List ℕ) (ops : List Op) → IsIn 1 most_buffer frames → base ≤ most_base → scale ≤ unity_scale → IsName file → AreOps frames ops → IsTrack (record { fast = fast; frames = frames; mono = mono; base = base; scale = scale; file = file; ops = ops })
 made fast mono frames base scale file ops hf hb hs hn ho = record { buffer = hf; base = hb; scale = hs; name = hn; whole = ho.whole; count = ho.count; numbers = ho.numbers }
 
-track-holds : (i : ℕ) (tree : Members) → Holds IsTrack (track_in i tree)
+track-holds : (i : ℕ) (tree : Members) → Holds IsTrack (track_of_table i tree)
 track-holds i tree =
     let t : ℕ = i + 1 in
     test_holds IsTrack (all_keys is_track_key tree)
@@ -148,11 +148,11 @@ record AreRead (tracks : ℕ) (turns : List TurnSpec) : Type 0 where
 
 turns-hold : (tracks cycles : ℕ) (items : Items) → 0 < tracks → Holds (AreTurns tracks cycles) (turns_in tracks cycles items)
 turns-hold tracks cycles items some =
-    test_holds (AreTurns tracks cycles) (nat_le (count_of items) most_turns) (each_in (turn_in tracks) 0 items >>= paid_turns cycles) (fault.Limit limit.Turns (count_of items))
+    test_holds (AreTurns tracks cycles) (nat_le (count_of items) most_turns) (each_in (turn_of_words tracks) 0 items >>= paid_turns cycles) (fault.Limit limit.Turns (count_of items))
     (λ few. let bound : count_of items ≤ most_turns = within_is (count_of items) most_turns few in
-    then_holds (AreRead tracks) (AreTurns tracks cycles) (each_in (turn_in tracks) 0 items) (paid_turns cycles)
-    (both-hold (λ (turns : List TurnSpec). length turns ≡ count_of items) (All (IsTurn tracks)) (AreRead tracks) (each_in (turn_in tracks) 0 items)
-    (each-length (turn_in tracks) 0 items) (each-holds (IsTurn tracks) (turn_in tracks) (λ i d. turn_in-holds tracks i d some) 0 items)
+    then_holds (AreRead tracks) (AreTurns tracks cycles) (each_in (turn_of_words tracks) 0 items) (paid_turns cycles)
+    (both-hold (λ (turns : List TurnSpec). length turns ≡ count_of items) (All (IsTurn tracks)) (AreRead tracks) (each_in (turn_of_words tracks) 0 items)
+    (each-length (turn_of_words tracks) 0 items) (each-holds (IsTurn tracks) (turn_of_words tracks) (λ i d. turn_in-holds tracks i d some) 0 items)
     (λ turns len all. record { count = omega (arith, bound, len); each = all }))
     (λ turns h. test_holds (AreTurns tracks cycles) (nat_le (fast_cycles turns) cycles) (Ok turns) (fault.Limit limit.Asked (fast_cycles turns))
     (λ paid. record { count = h.count; each = h.each; asked = within_is (fast_cycles turns) cycles paid })))

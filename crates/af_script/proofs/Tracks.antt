@@ -5,7 +5,7 @@ use Rattle.af_script.specs.Bounds.{most_buffer, most_base, unity_scale, most_ops
 use Rattle.af_script.specs.Ops.{or_else, closed}
 use Rattle.af_script.specs.Tree.{value_at, all_keys, is_track_key}
 use Rattle.af_script.specs.Results.{◌>>=◌}
-use Rattle.af_script.specs.Reading.{fast_in, number_in, shape_in, name_in, op_items, number_or, ops_in, track_in, track_item, track_if}
+use Rattle.af_script.specs.Reading.{fast_in, number_in, shape_in, name_in, op_items, number_or, ops_in, track_of_table, track_item, track_if}
 use Rattle.af_script.specs.Meaning.{number_of, text_of, items_of, texts_of, buffer_of, track_meant, op_meant, picked}
 use Rattle.af_script.specs.Places.{Place, number, number_or_none, kind, name, texts, entry_fault, at, bound, track_places, ops_places}
 use Rattle.af_script.specs.declared.track.Shape.{Shape}
@@ -105,7 +105,7 @@ after_shape-tied i tree =
     (λ ops. record { fast = shape.fast; frames = shape.frames; mono = shape.mono; base = base; scale = scale; file = file; ops = ops })
     (ops-tied i (buffer_of tree) items (texts-all t (value_at key.Ops tree) all))))))
 
-pub track_in-tied : (i : ℕ) (tree : Members) → track_in i tree ≡ judged (first_of (track_places i tree)) (track_meant tree)
+pub track_in-tied : (i : ℕ) (tree : Members) → track_of_table i tree ≡ judged (first_of (track_places i tree)) (track_meant tree)
 track_in-tied i tree =
     let t : ℕ = i + 1 in
     let first : Option ScriptFault = or_else (kind_fault t tree) (or_else (frames_fault t tree) (channels_fault t tree)) in

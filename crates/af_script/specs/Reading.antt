@@ -109,8 +109,8 @@ abbrev pub op_items : ℕ → Members → Result Items ScriptFault
 op_items table tree = ok_or (option_and_then (array_of as_str) (value_at key.Ops tree)) (fault.Key table key.Ops)
 
 -- a track, by its number and its table
-abbrev pub track_in : ℕ → Members → Result TrackSpec ScriptFault
-track_in track tree =
+abbrev pub track_of_table : ℕ → Members → Result TrackSpec ScriptFault
+track_of_table track tree =
     if all_keys is_track_key tree
     then shape_in (track + 1) tree >>= (λ shape. name_in (track + 1) tree >>= (λ file. op_items (track + 1) tree >>= (λ items.
     number_or (track + 1) key.Base most_base 0 tree >>= (λ base. number_or (track + 1) key.Scale unity_scale unity_scale tree >>= (λ scale.
@@ -127,14 +127,14 @@ track_in track tree =
 
 abbrev pub track_if : ℕ → Option Members → Result TrackSpec ScriptFault
 track_if track None = Err (fault.Key 0 key.Track)
-track_if track (Some tree) = track_in track tree
+track_if track (Some tree) = track_of_table track tree
 
 abbrev pub track_item : ℕ → Data → Result TrackSpec ScriptFault
 track_item track value = track_if track (as_table value)
 
 -- a turn, with so many tracks
-abbrev pub turn_in : ℕ → ℕ → Data → Result TurnSpec ScriptFault
-turn_in tracks index value = ok_or (option_and_then (turn_of tracks) (as_str value)) (fault.Turn index)
+abbrev pub turn_of_words : ℕ → ℕ → Data → Result TurnSpec ScriptFault
+turn_of_words tracks index value = ok_or (option_and_then (turn_of tracks) (as_str value)) (fault.Turn index)
 
 -- the turns: at most 100000, whose fast turns have no more cycles than the run
 abbrev pub paid_turns : ℕ → List TurnSpec → Result (List TurnSpec) ScriptFault
@@ -142,7 +142,7 @@ paid_turns cycles turns = if nat_le (fast_cycles turns) cycles then Ok turns els
 
 abbrev pub turns_in : ℕ → ℕ → Items → Result (List TurnSpec) ScriptFault
 turns_in tracks cycles items =
-    if nat_le (count_of items) most_turns then each_in (turn_in tracks) 0 items >>= paid_turns cycles
+    if nat_le (count_of items) most_turns then each_in (turn_of_words tracks) 0 items >>= paid_turns cycles
     else Err (fault.Limit limit.Turns (count_of items))
 
 -- the parts of a script whose top table is in order

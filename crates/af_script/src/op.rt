@@ -1,6 +1,6 @@
 ghost use Rattle.std.specs.Prelude.{◌≡◌, ◌<◌, ◌≤◌};
 ghost use Rattle.af_script.specs.Bounds.{most_buffer};
-ghost use Rattle.af_script.specs.Ops.{cells_of, words_of, plain_op, gain_of, write_of, poke_stream, poke_command, op_of, may_stand, op_at, is_remove, ends_with_remove, asked_cycles, client_of, fast_of, turn_of};
+ghost use Rattle.af_script.specs.Ops.{cells_of, words_of, plain_op, gain_of, write_of, poke_stream, poke_command, op_of, may_stand, op_at, is_remove, ends_with_remove, asked_cycles, client_turn_of, fast_of, turn_of};
 
 use crate::bounds::{COMMAND_FRAMES, HEADER_WORDS, MOST_FAST, MOST_GAIN, MOST_VALUE, MOST_WRITE};
 use crate::text::{number_after, pair_after};
@@ -187,7 +187,7 @@ pub fn asked_cycles(turn: &TurnSpec) -> u32
 
 fn client_of(text: &str, tracks: u32) -> Option<TurnSpec>
     requires { 0 < tracks }
-    ensures { result ≡ client_of tracks text.now }
+    ensures { result ≡ client_turn_of tracks text.now }
 {
     let track = number_after(text, "c ", 0, tracks - 1)?;
     Some(TurnSpec::Client { track })

@@ -8,7 +8,7 @@ ghost use Rattle.af_script.specs.Tree.{value_at, count_of, array_of};
 ghost use Rattle.af_script.specs.Results.{Reads};
 ghost use Rattle.af_script.specs.declared.fault.KeyId.TheVariants as key;
 ghost use Rattle.af_script.specs.Steps.{CopiesText, ClosesOps};
-ghost use Rattle.af_script.specs.Reading.{fast_in, shape_in, name_if, op_in, ops_in, each_in, track_in};
+ghost use Rattle.af_script.specs.Reading.{fast_in, shape_in, name_if, op_in, ops_in, each_in, track_of_table};
 
 use crate::bounds::{MOST_BASE, MOST_BUFFER, MOST_OPS, UNITY_SCALE};
 use crate::fault::{KeyId, LimitId, ReadError, ScriptFault};
@@ -235,7 +235,7 @@ fn ops_in(alloc: Global, track: u32, frames: u32, values: &[Value]) -> Result<Op
 /// The track that a table is, by its number.
 pub fn track_in(alloc: Global, track: u32, table: &Table) -> Result<TrackSpec, ReadError>
     requires { track < most_tracks }
-    ensures { Reads (λ spec. spec) result (track_in track (table_view table.now)) }
+    ensures { Reads (λ spec. spec) result (track_of_table track (table_view table.now)) }
 {
     let number = track + 1;
     if !has_track_keys(table) {

@@ -1,6 +1,6 @@
 -- What the calls of a cycle on one server come to.
 use Rattle.std.proofs.Common.{◌≡◌, ℕ, Bool, Option, Some, None, MatchOption, is_some, if◌then◌else◌, List, [], ◌∷◌, ◌++◌, refl, sym, ap, subst, ◌∙◌, append_assoc, append-nil}
-use Rattle.af_server.proofs.Common.{IsSeen, Seen, ServerEvent, TrackSlot, after_look, cycle_events, kept, look_at, look_events, shown_by}
+use Rattle.af_server.proofs.Common.{IsSeen, Seen, ServerEvent, TrackSlot, events_behind_look, cycle_events, kept, look_at, look_events, shown_by}
 use Rattle.af_base.specs.declared.event.ServerEvent.TheVariants as server
 use Rattle.af_base.specs.declared.frame.Frame.{Frame}
 use Rattle.af_base.specs.declared.log.SlotEntry.{SlotEntry}
@@ -16,7 +16,7 @@ joined : (before : List ServerEvent) (gain : ServerEvent) (own rest : List Serve
 joined before gain own rest = append_assoc (before ++ gain ∷ []) own rest ∙ append_assoc before (gain ∷ []) (own ++ rest)
 
 module _ (asked first : ℕ) (s u v : ServerState) (gains : ℕ) (look : Look) (frames : List Frame) (order : IsInOrder s)
-    (looks : Looks (did s (server.SawGain gains)) asked look u) (within : WithinAsk asked look.seen) (follows : HasDone u (after_look asked (is_some s.shut) look.seen) frames v) where
+    (looks : Looks (did s (server.SawGain gains)) asked look u) (within : WithinAsk asked look.seen) (follows : HasDone u (events_behind_look asked (is_some s.shut) look.seen) frames v) where
   abbrev slot : SlotEntry
   slot = record { gains = gains; flush = look.flush; rear = look.rear; seen = look.seen; first = first }
 
@@ -31,9 +31,9 @@ module _ (asked first : ℕ) (s u v : ServerState) (gains : ℕ) (look : Look) (
       → v.pass.part.events ≡ before ++ cycle_events asked (listed s) slot front
   list_of front own =
       follows.did
-      ∙ ap (λ (es : List ServerEvent). es ++ after_look asked (is_some s.shut) look.seen) own
-      ∙ joined before (server.SawGain gains) (if is_some s.shut then [] else look_events look.seen look.flush look.rear front) (after_look asked (is_some s.shut) look.seen)
-      ∙ ap (λ (o : Option (ℕ × ℕ)). before ++ (server.SawGain gains ∷ (if is_some o then [] else look_events look.seen look.flush look.rear front) ++ after_look asked (is_some o) look.seen)) order.shut_is
+      ∙ ap (λ (es : List ServerEvent). es ++ events_behind_look asked (is_some s.shut) look.seen) own
+      ∙ joined before (server.SawGain gains) (if is_some s.shut then [] else look_events look.seen look.flush look.rear front) (events_behind_look asked (is_some s.shut) look.seen)
+      ∙ ap (λ (o : Option (ℕ × ℕ)). before ++ (server.SawGain gains ∷ (if is_some o then [] else look_events look.seen look.flush look.rear front) ++ events_behind_look asked (is_some o) look.seen)) order.shut_is
 
   -- what the look says if no words had shut the server
   abbrev Opens : Type 0
@@ -81,7 +81,7 @@ module _ (asked first : ℕ) (s u v : ServerState) (gains : ℕ) (look : Look) (
   played = by_words s.shut refl
 
 pub played_by : (asked first : ℕ) (s t u v : ServerState) (gains : ℕ) (look : Look) (was_shut : Bool) (frames : List Frame) → IsInOrder s
-    → t ≡ did s (server.SawGain gains) → was_shut ≡ is_some s.shut → Looks t asked look u → WithinAsk asked look.seen → HasDone u (after_look asked was_shut look.seen) frames v
+    → t ≡ did s (server.SawGain gains) → was_shut ≡ is_some s.shut → Looks t asked look u → WithinAsk asked look.seen → HasDone u (events_behind_look asked was_shut look.seen) frames v
     → TrackSlot asked (listed s) v.pass.part.events record { gains = gains; flush = look.flush; rear = look.rear; seen = look.seen; first = first }
 played_by asked first s t u v gains look was_shut frames order read shut looks within follows =
-    played asked first s u v gains look frames order (subst (λ (x : ServerState). Looks x asked look u) read looks) within (subst (λ (b : Bool). HasDone u (after_look asked b look.seen) frames v) shut follows)
+    played asked first s u v gains look frames order (subst (λ (x : ServerState). Looks x asked look u) read looks) within (subst (λ (b : Bool). HasDone u (events_behind_look asked b look.seen) frames v) shut follows)

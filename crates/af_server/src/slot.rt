@@ -1,7 +1,7 @@
 //! What a mixer does with the server of one slot.
 ghost use Rattle.std.specs.Prelude.{◌≡◌, ◌+◌, ◌<◌, ◌≤◌, ◌^◌, length, take, Bool, []};
 ghost use Rattle.af_base.specs.Log.{count_seen};
-ghost use Rattle.af_model.specs.Cycles.{after_look, place_of, tally};
+ghost use Rattle.af_model.specs.Cycles.{events_behind_look, place_of, tally};
 ghost use Rattle.af_model.specs.ServerCalls.{shown_by};
 ghost use Rattle.af_server.specs.Order.{IsServerOf};
 ghost use Rattle.af_server.specs.Looks.{WithinAsk};
@@ -50,7 +50,7 @@ impl Server {
         requires within { WithinAsk (length buffer.old) seen }
         requires few { length buffer.old < 2 ^ 32 }
         ensures ready { IsServerOf block.now self.new }
-        ensures list { HasDone self.old (after_look (length buffer.old) was_shut seen) (take (count_seen seen) buffer.new) self.new }
+        ensures list { HasDone self.old (events_behind_look (length buffer.old) was_shut seen) (take (count_seen seen) buffer.new) self.new }
         ensures steps { steps.new ≤ steps.old + length buffer.old + 2 }
     {
         match seen {

@@ -1,6 +1,6 @@
 -- Each step of the queue is allowed, and tells what its caller relies on.
 use Rattle.std.proofs.Common.{◌≡◌, ◌≢◌, ℕ, ◌+◌, ◌<◌, ◌==◌, ◌&&◌, not, if◌then◌else◌, Bool, true, false, true≢false, List, [], ◌∷◌, ◌++◌, length, set, get_or, sym, refl, ap, ◌∙◌, subst, arith, Some, None, Option, eq-eqb, ne_eqb}
-use Rattle.af_stateq.proofs.Common.{Ack, Act, AllFit, Allows, AreOf, FastState, FitAt, HasHistory, SawNext, State, Valid, and_false, brought, carried_after, chain, drop-set-lt, gives, homes_after, keeps, rest as left, set_else, slots, some_same, step, stepped, takes}
+use Rattle.af_stateq.proofs.Common.{Ack, Act, AllFit, Allows, AreOf, FastState, FitAt, HasStateHistory, SawNext, State, Valid, and_false, brought, carried_after, chain, drop-set-lt, gives, homes_after, keeps, rest as left, set_else, slots, some_same, step, stepped, takes}
 use mathlib.Core.Option as maybe
 use lib.ListN.{get_elem?}
 use Rattle.af_stateq.specs.declared.cell.Slot.{Slot}
@@ -215,7 +215,7 @@ module _ {P K : Type 0} (fits : K → ℕ → P → Type 0) (basis : Basis K) wh
         tt,
         meets fits basis s k id v here m_ok o_ok (ap (λ (o : Observing P K). o.due) is_o ∙ rested) me.1,
         (
-          (λ x e. subst (λ (q : FastState × Mutating P K × Observing P K). HasHistory q.0 q.1.events q.2.events × HasHistory q.0 (q.1.events ++ mutator.Learn (length q.2.events) ∷ []) (q.2.events ++ observer.Learn (length q.1.events) ∷ []))
+          (λ x e. subst (λ (q : FastState × Mutating P K × Observing P K). HasStateHistory q.0 q.1.events q.2.events × HasStateHistory q.0 (q.1.events ++ mutator.Learn (length q.2.events) ∷ []) (q.2.events ++ observer.Learn (length q.1.events) ∷ []))
               (λ i. ((sym k.ties.keys.2 ∙ ap (λ (m : Mutating P K). m.first) is_m ∙ e) i, is_m i, is_o i)) (k.stands.history, (met_stands fits basis s k id v here m_ok o_ok (ap (λ (o : Observing P K). o.due) is_o ∙ rested)).history)),
           λ i. (
             record v {

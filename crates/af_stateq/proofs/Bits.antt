@@ -1,6 +1,6 @@
 -- The slots that a draft carries after an edit.
 use Rattle.std.proofs.Common.{◌≡◌, ◌≢◌, ℕ, ◌-◌, ◌^◌, ◌<◌, ◌≤◌, ◌==◌, ◌&&◌, not, true, false, Bool, bit_and, bit_or, ap, sym, ◌∙◌, subst, arith, length-set, eq-eqb, ne_eqb}
-use Rattle.af_stateq.proofs.Common.{FastState, FastTrack, IsState, attached, bit_at, carries, clear_other, clear_same, detached, get_or-set_other, get_or-set_same, no_track, set_other, set_same, slot_of, slots}
+use Rattle.af_stateq.proofs.Common.{FastState, FastTrack, IsState, attached, bit_at, carries, clear_other, clear_same, detached, get_or-set_other, get_or-set_same, no_fast_track, set_other, set_same, slot_of, slots}
 use mathlib.Core.Logic.{dite}
 use native.Mathlib.Decide.{ℕ_discrete}
 use Rattle.std.specs.Prelude.{◌+◌}
@@ -16,10 +16,10 @@ module _ (slot : ℕ) (mono : Bool) (scale track : ℕ) (x : FastState) (low : 1
   attached_else i ne = ap (λ b. not (i == 0) && (b == 1)) (set_other x.mask slot i ne)
 
   pub slot_here : slot_of y slot ≡ (record { generation = (slot_of x slot).generation + 1; track = track; mono = mono; scale = scale })
-  slot_here = get_or-set_same x.slots slot _ no_track (let w = state.whole in omega arith)
+  slot_here = get_or-set_same x.slots slot _ no_fast_track (let w = state.whole in omega arith)
 
   pub slot_else : (i : ℕ) → i ≢ slot → slot_of y i ≡ slot_of x i
-  slot_else i ne = get_or-set_other x.slots slot i _ no_track ne
+  slot_else i ne = get_or-set_other x.slots slot i _ no_fast_track ne
 
   pub attached_state : scale ≤ 4096 → IsState y
   attached_state fine = record {

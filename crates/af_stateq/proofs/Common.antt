@@ -6,9 +6,9 @@ pub use Rattle.af_base.specs.declared.state.Push.TheVariants.{Busy, Clean, Pushe
 pub use Rattle.af_model.proofs.Basics.{not_true, same_before, state_next}
 pub use Rattle.af_model.proofs.PartySteps.{both_change, one_changes, stand_one, stand_two, two_changes, two_comes, two_leaves}
 pub use Rattle.af_model.specs.Draft.{attached, detached, initial}
-pub use Rattle.af_model.specs.Order.{Event, Legal, after, one, ones, two, twos}
+pub use Rattle.af_model.specs.Order.{Event, Legal, point_after, one, ones, two, twos}
 pub use Rattle.af_model.specs.PlainQueue.{QueueState, allowed_step, answers_of, held_of, is_allowed, is_placed, is_shelf, left, let_go, moved, moved_from, new_queue, place_at, readiness, returned_of, shown, state_after}
-pub use Rattle.af_model.specs.StateQueue.{AllFit, AreOf, FitAt, HasHistory, IsState, MutatorPoint, ObserverPoint, QueuePoint, brought, carries, has, legal, mutated, mutator_next, mutator_start, next, no_track, observed, observer_next, observer_start, slot_of, slots, start}
+pub use Rattle.af_model.specs.StateQueue.{AllFit, AreOf, FitAt, HasStateHistory, IsState, MutatorPoint, ObserverPoint, QueuePoint, brought, carries, has, legal, mutated, mutator_next, mutator_start, next, no_fast_track, observed, observer_next, observer_start, slot_of, slots, start_of_queue}
 pub use Rattle.af_model.specs.declared.plain_calls.Move.{Move}
 pub use Rattle.af_model.specs.declared.plain_calls.Move.TheVariants.{SeeAck, Send, Take}
 pub use Rattle.af_model.specs.declared.plain_calls.Place.{Place}

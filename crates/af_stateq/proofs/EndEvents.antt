@@ -1,6 +1,6 @@
 -- What the ends' events say after each call and each meeting.
 use Rattle.std.proofs.Common.{◌≡◌, ◌≢◌, ℕ, ◌+◌, ◌%◌, ◌==◌, ◌&&◌, ◌||◌, not, if◌then◌else◌, Bool, true, false, true≢false, List, [], ◌∷◌, ◌++◌, Option, Some, None, IfSome, refl, ap, sym, ◌∙◌, subst, arith, eq-eqb, ne_eqb}
-use Rattle.af_stateq.proofs.Common.{Ack, FastState, HasHistory, MutatorEvent, MutatorPoint, ObserverEvent, ObserverPoint, Push, SawAck, SawNext, fold-append, mutated, mutator_next, mutator_start, observed, observer_next, observer_start}
+use Rattle.af_stateq.proofs.Common.{Ack, FastState, HasStateHistory, MutatorEvent, MutatorPoint, ObserverEvent, ObserverPoint, Push, SawAck, SawNext, fold-append, mutated, mutator_next, mutator_start, observed, observer_next, observer_start}
 use mathlib.Core.Logic.{dite}
 use native.Mathlib.Decide.{ℕ_discrete}
 use Rattle.af_model.specs.declared.states.MutatorEvent.TheVariants as mutator
@@ -128,17 +128,17 @@ module _ {P K : Type 0} (m : Pushes P K) (o : Polls P K) (s : AreInStep m o) whe
       not_clear false h = refl
 
   -- a look of the observer after a meeting
-  pub look_is_exact : HaveMet m o → (n : ℕ) (x : Option FastState) (items : List (Option P)) (rest : List (ObserverEvent P)) → HasHistory m.first m.events (o.events ++ SawNext n x items ∷ rest)
+  pub look_is_exact : HaveMet m o → (n : ℕ) (x : Option FastState) (items : List (Option P)) (rest : List (ObserverEvent P)) → HasStateHistory m.first m.events (o.events ++ SawNext n x items ∷ rest)
       → (n ≡ m.number) × IfSome x (λ y. (y ≡ m.last) × (items ≡ (mutated m.first m.events).items))
   look_is_exact met n x items rest h =
-      let e = sees_the_last m.first m.events met.ms (mutator.Learn met.d ∷ []) met.os rest met.c n x items (subst (λ (os : List (ObserverEvent P)). HasHistory m.first m.events (os ++ SawNext n x items ∷ rest)) met.observer h) met.mutator met.observer_knows refl in
+      let e = sees_the_last m.first m.events met.ms (mutator.Learn met.d ∷ []) met.os rest met.c n x items (subst (λ (os : List (ObserverEvent P)). HasStateHistory m.first m.events (os ++ SawNext n x items ∷ rest)) met.observer h) met.mutator met.observer_knows refl in
       (e.0 ∙ s.pushed, subst (λ (z : FastState). IfSome x (λ y. (y ≡ z) × (items ≡ (mutated m.first m.events).items))) s.last e.1)
 
   -- a look of the mutator after a meeting
-  pub ack_is_exact : HaveMet m o → (a : ℕ) (items : List (Option P)) (rest : List (MutatorEvent P)) → HasHistory m.first (m.events ++ SawAck a items ∷ rest) o.events
+  pub ack_is_exact : HaveMet m o → (a : ℕ) (items : List (Option P)) (rest : List (MutatorEvent P)) → HasStateHistory m.first (m.events ++ SawAck a items ∷ rest) o.events
       → (a ≡ o.number) × (a ≡ m.number → items ≡ items_coming m o)
   ack_is_exact met a items rest h =
-      let e = sees_the_ack m.first o.events met.os (observer.Learn met.c ∷ []) met.ms rest met.d a items (subst (λ (ms : List (MutatorEvent P)). HasHistory m.first (ms ++ SawAck a items ∷ rest) o.events) met.mutator h) met.observer met.mutator_knows refl in
+      let e = sees_the_ack m.first o.events met.os (observer.Learn met.c ∷ []) met.ms rest met.d a items (subst (λ (ms : List (MutatorEvent P)). HasStateHistory m.first (ms ++ SawAck a items ∷ rest) o.events) met.mutator h) met.observer met.mutator_knows refl in
       let now : mutated m.first m.events ≡ mutator_next (mutated m.first met.ms) (mutator.Learn met.d) = ap (mutated m.first) met.mutator ∙ mutated-end m.first met.ms (mutator.Learn met.d) in
       let clear : (mutated m.first met.ms).clear ≡ m.clear = ap (λ (z : MutatorPoint P). z.clear) (sym now) ∙ s.clear in
       let number : (mutated m.first met.ms).pushed ≡ m.number = ap (λ (z : MutatorPoint P). z.pushed) (sym now) ∙ s.pushed in

@@ -1,6 +1,6 @@
 -- A look of an end that has learnt of all that the other did sees the last of it.
 use Rattle.std.proofs.Common.{◌≡◌, ℕ, ◌+◌, ◌≤◌, ◌==◌, ◌&&◌, not, if◌then◌else◌, List, [], ◌∷◌, ◌++◌, length, fold, Option, Some, None, IfSome, is_some, unwrap_or, Bool, false, true≢false, eq-eqb, ne_eqb, refl, ap, sym, ◌∙◌, subst, arith, length-append, get_or, append-nil}
-use Rattle.af_stateq.proofs.Common.{Ack, Event, FastState, Legal, MutatorEvent, MutatorPoint, ObserverEvent, ObserverPoint, Push, QueuePoint, SawAck, SawNext, after, fold-append, legal, mutated, mutator_next, mutator_start, next, observed, observer_next, observer_start, one, ones, start, two, twos}
+use Rattle.af_stateq.proofs.Common.{Ack, Event, FastState, Legal, MutatorEvent, MutatorPoint, ObserverEvent, ObserverPoint, Push, QueuePoint, SawAck, SawNext, point_after, fold-append, legal, mutated, mutator_next, mutator_start, next, observed, observer_next, observer_start, one, ones, start_of_queue, two, twos}
 use Rattle.std.specs.List.{list_any}
 use mathlib.Core.Logic.{dite}
 use native.Mathlib.Decide.{ℕ_discrete}
@@ -52,12 +52,12 @@ Events P = List (Event (MutatorEvent P) (ObserverEvent P))
 
 module _ {P : Type 0} where
   -- each party's half of the point is what its events leave
-  pub after_ones : (p : QueuePoint P) (es : Events P) → (after legal next p es).mutator ≡ fold mutator_next p.mutator (ones es)
+  pub after_ones : (p : QueuePoint P) (es : Events P) → (point_after legal next p es).mutator ≡ fold mutator_next p.mutator (ones es)
   after_ones p [] = refl
   after_ones p (one e ∷ es) = after_ones (next p (one e)) es
   after_ones p (two e ∷ es) = after_ones (next p (two e)) es
 
-  pub after_twos : (p : QueuePoint P) (es : Events P) → (after legal next p es).observer ≡ fold observer_next p.observer (twos es)
+  pub after_twos : (p : QueuePoint P) (es : Events P) → (point_after legal next p es).observer ≡ fold observer_next p.observer (twos es)
   after_twos p [] = refl
   after_twos p (one e ∷ es) = after_twos (next p (one e)) es
   after_twos p (two e ∷ es) = after_twos (next p (two e)) es
@@ -126,16 +126,16 @@ module _ {P : Type 0} where
   sees_the_last first ms told more os rest c n x items h parts fewer none =
       let s = split_at h.order (os ++ observer.Learn c ∷ []) (SawNext n x items) rest h.of_two in
       let es : Events P = s.before in
-      let l = legal_at legal next (start first) es (two (SawNext n x items)) s.behind (subst (Legal legal next (start first)) s.whole h.is_legal) in
+      let l = legal_at legal next (start_of_queue first) es (two (SawNext n x items)) s.behind (subst (Legal legal next (start_of_queue first)) s.whole h.is_legal) in
       let t = split_at es os (observer.Learn c) [] s.first in
-      let k = legal_at legal next (start first) t.before (two (observer.Learn c)) t.behind (subst (Legal legal next (start first)) t.whole l.0) in
+      let k = legal_at legal next (start_of_queue first) t.before (two (observer.Learn c)) t.behind (subst (Legal legal next (start_of_queue first)) t.whole l.0) in
       let all : ones es ++ ones s.behind ≡ ms = sym (ones_append es (two (SawNext n x items) ∷ s.behind)) ∙ ap ones (sym s.whole) ∙ h.of_one in
       let inner = ap (λ (z : Events P). length (ones z)) t.whole ∙ ap length (ones_append t.before (two (observer.Learn c) ∷ t.behind)) ∙ length-append (ones t.before) (ones t.behind) in
-      let counted = ap (λ (z : MutatorPoint P). z.count) (after_ones (start first) t.before) ∙ mutator_count (mutator_start first) (ones t.before) in
+      let counted = ap (λ (z : MutatorPoint P). z.count) (after_ones (start_of_queue first) t.before) ∙ mutator_count (mutator_start first) (ones t.before) in
       let enough : length told ≤ length (ones es) = (let learnt = k.1.0 in omega arith) in
       let is = last_is first ms (ones es) (ones s.behind) told more all parts enough none in
-      let here = after_ones (start first) es in
-      let acked = (after legal next (start first) es).observer.acked in (
+      let here = after_ones (start_of_queue first) es in
+      let acked = (point_after legal next (start_of_queue first) es).observer.acked in (
         l.1.0 ∙ ap (λ (z : MutatorPoint P). z.pushed) here ∙ is.0,
         shown n acked (mutated first ms).last (mutated first ms).items items x
             (l.1.1 ∙ ap (λ (z : FastState). if n == acked then None else Some z) (ap (λ (z : MutatorPoint P). z.last) here ∙ is.1))
@@ -146,17 +146,17 @@ module _ {P : Type 0} where
   sees_the_ack first os told more ms rest c a items h parts fewer none =
       let s = cut_at h.order (ms ++ mutator.Learn c ∷ []) (SawAck a items) rest h.of_one in
       let es : Events P = s.before in
-      let l = legal_at legal next (start first) es (one (SawAck a items)) s.behind (subst (Legal legal next (start first)) s.whole h.is_legal) in
+      let l = legal_at legal next (start_of_queue first) es (one (SawAck a items)) s.behind (subst (Legal legal next (start_of_queue first)) s.whole h.is_legal) in
       let t = cut_at es ms (mutator.Learn c) [] s.first in
-      let k = legal_at legal next (start first) t.before (one (mutator.Learn c)) t.behind (subst (Legal legal next (start first)) t.whole l.0) in
+      let k = legal_at legal next (start_of_queue first) t.before (one (mutator.Learn c)) t.behind (subst (Legal legal next (start_of_queue first)) t.whole l.0) in
       let all : twos es ++ twos s.behind ≡ os = sym (twos_append es (one (SawAck a items) ∷ s.behind)) ∙ ap twos (sym s.whole) ∙ h.of_two in
       let inner = ap (λ (z : Events P). length (twos z)) t.whole ∙ ap length (twos_append t.before (one (mutator.Learn c) ∷ t.behind)) ∙ length-append (twos t.before) (twos t.behind) in
-      let counted = ap (λ (z : ObserverPoint P). z.count) (after_twos (start first) t.before) ∙ observer_count observer_start (twos t.before) in
+      let counted = ap (λ (z : ObserverPoint P). z.count) (after_twos (start_of_queue first) t.before) ∙ observer_count observer_start (twos t.before) in
       let enough : length told ≤ length (twos es) = (let learnt = k.1 in omega arith) in
       let is = last_ack_is os (twos es) (twos s.behind) told more all parts enough none in
-      let m : (after legal next (start first) es).mutator ≡ mutator_next (mutated first ms) (mutator.Learn c) = after_ones (start first) es ∙ ap (mutated first) s.first ∙ fold-append mutator_next (mutator_start first) ms (mutator.Learn c ∷ []) in
-      let o = after_twos (start first) es in
-      let seen : a ≡ (after legal next (start first) es).observer.acked = l.1.0 in (
+      let m : (point_after legal next (start_of_queue first) es).mutator ≡ mutator_next (mutated first ms) (mutator.Learn c) = after_ones (start_of_queue first) es ∙ ap (mutated first) s.first ∙ fold-append mutator_next (mutator_start first) ms (mutator.Learn c ∷ []) in
+      let o = after_twos (start_of_queue first) es in
+      let seen : a ≡ (point_after legal next (start_of_queue first) es).observer.acked = l.1.0 in (
         seen ∙ ap (λ (z : ObserverPoint P). z.acked) o ∙ is.0,
         l.1.1 ∙ (λ i. if not (m i).clear && (sym seen i == (m i).pushed) then (ap (λ (z : ObserverPoint P). z.given) o ∙ is.1) i else []),
       )

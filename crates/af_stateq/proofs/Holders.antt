@@ -1,6 +1,6 @@
 -- The item of a slot has one holder at each moment.
 use Rattle.std.proofs.Common.{◌≡◌, ◌≢◌, ℕ, ◌+◌, ◌<◌, ◌≤◌, ◌==◌, ◌&&◌, not, if◌then◌else◌, Bool, true, false, true≢false, List, [], ◌∷◌, Option, Some, None, is_some, refl, ap, sym, ◌∙◌, subst, arith, eq-eqb, ne_eqb}
-use Rattle.af_stateq.proofs.Common.{Ack, Event, FastState, Legal, MutatorEvent, ObserverEvent, Push, QueuePoint, SawAck, SawNext, carries, legal, never_true, next, not_both, one, slots, start, two}
+use Rattle.af_stateq.proofs.Common.{Ack, Event, FastState, Legal, MutatorEvent, ObserverEvent, Push, QueuePoint, SawAck, SawNext, carries, legal, never_true, next, not_both, one, slots, start_of_queue, two}
 use mathlib.Core.Logic.{dite}
 use native.Mathlib.Decide.{ℕ_discrete}
 use Rattle.af_model.specs.declared.states.MutatorEvent.TheVariants as mutator
@@ -207,8 +207,8 @@ module _ {P : Type 0} where
 
   pub one_holder : (first : FastState) (ms : List (MutatorEvent P)) (os : List (ObserverEvent P)) → OneHolder first ms os
   one_holder first ms os h i lt off =
-      let begin = where_at i lt (start first) true true true refl refl refl ∙ ap (λ (b : Bool). where_of true b (carries first i) true true None None) off in
-      subst (λ (w : Holder P). Legal (may_pass i) (passed i) w h.order) begin (ring i lt (start first) h.order record {
+      let begin = where_at i lt (start_of_queue first) true true true refl refl refl ∙ ap (λ (b : Bool). where_of true b (carries first i) true true None None) off in
+      subst (λ (w : Holder P). Legal (may_pass i) (passed i) w h.order) begin (ring i lt (start_of_queue first) h.order record {
         low = omega arith;
         high = omega arith;
         due = λ d. absurd (d refl);

@@ -1,6 +1,6 @@
 -- A call with both ends in one hand answers as the plain queue does, and leaves the ends as it says.
 use Rattle.std.proofs.Common.{◌≡◌, ℕ, ◌+◌, ◌<◌, ◌==◌, ◌&&◌, ◌||◌, not, if◌then◌else◌, Bool, true, false, List, [], ◌∷◌, ◌++◌, Option, Some, None, is_some, slice_set, refl, ap, sym, ◌∙◌, subst, arith, eq-eqb, ne_eqb, append_assoc, length-set}
-use Rattle.af_stateq.proofs.Common.{Ack, HasHistory, MutatorEvent, Nowhere, ObserverEvent, Pending, Place, Push, QueueAnswer, QueueCall, QueueState, SawAck, SawNext, SeeAck, Send, Take, allowed_step, attached, both as and_one, carries, detached, is_allowed, is_placed, left, let_go, map-set, map-set_same, moved_from, mutated, not_true, observed, place_at, readiness, returned_of, set-get_or, shown, slots}
+use Rattle.af_stateq.proofs.Common.{Ack, HasStateHistory, MutatorEvent, Nowhere, ObserverEvent, Pending, Place, Push, QueueAnswer, QueueCall, QueueState, SawAck, SawNext, SeeAck, Send, Take, allowed_step, attached, both as and_one, carries, detached, is_allowed, is_placed, left, let_go, map-set, map-set_same, moved_from, mutated, not_true, observed, place_at, readiness, returned_of, set-get_or, shown, slots}
 use mathlib.Core.Logic.{dite}
 use native.Mathlib.Decide.{ℕ_discrete}
 use Rattle.af_base.specs.declared.state.Push.{Push as PushAnswer}
@@ -36,13 +36,13 @@ module _ {P K : Type 0} (m : Mutates P K) (o : Observes P K) (places : List (Pla
 
   module _ (met : HaveMet m.past o.past) where
     abbrev HasOrder : Pushes P K → Polls P K → Type 0
-    HasOrder m' o' = HasHistory m'.first m'.events o'.events
+    HasOrder m' o' = HasStateHistory m'.first m'.events o'.events
 
     -- what a look at the acknowledgement found, if more events follow it
-    older_is : (a : ℕ) (rest : List (MutatorEvent P)) → HasHistory m.past.first (m.past.events ++ SawAck a [] ∷ rest) o.past.events → a ≡ o.past.number
+    older_is : (a : ℕ) (rest : List (MutatorEvent P)) → HasStateHistory m.past.first (m.past.events ++ SawAck a [] ∷ rest) o.past.events → a ≡ o.past.number
     older_is a rest h = (ack_is_exact m.past o.past here.in_step met a [] rest h).0
 
-    found_it : (items : List (Option P)) (rest : List (MutatorEvent P)) → HasHistory m.past.first (m.past.events ++ SawAck m.past.number items ∷ rest) o.past.events → (o.past.number ≡ m.past.number) × (items ≡ items_coming m.past o.past)
+    found_it : (items : List (Option P)) (rest : List (MutatorEvent P)) → HasStateHistory m.past.first (m.past.events ++ SawAck m.past.number items ∷ rest) o.past.events → (o.past.number ≡ m.past.number) × (items ≡ items_coming m.past o.past)
     found_it items rest h = let e = ack_is_exact m.past o.past here.in_step met m.past.number items rest h in (sym e.0, e.1 refl)
 
     acked_call : (b : Bool) (m' : Mutates P K) → WasAcked m b m' → HasOrder m'.past o.past → Kept call.Acked (answer.Acked b) m' o
@@ -103,7 +103,7 @@ module _ {P K : Type 0} (m : Mutates P K) (o : Observes P K) (places : List (Pla
         let m0 : Mutates P K = record m { past = saw m.past.number items m.past; returned = x.returned } in
         let em : m' ≡ shows m0 = t.2 ∙ ap shows t.1.1 in
         let f = found_it items (Push (m.past.number + 1) m.draft m.pending ∷ [])
-        (subst (λ (l : List (MutatorEvent P)). HasHistory m.past.first l o.past.events) (append_assoc m.past.events (SawAck m.past.number items ∷ []) (Push (m.past.number + 1) m.draft m.pending ∷ [])) (subst (λ (z : Mutates P K). HasOrder z.past o.past) em h)) in
+        (subst (λ (l : List (MutatorEvent P)). HasStateHistory m.past.first l o.past.events) (append_assoc m.past.events (SawAck m.past.number items ∷ []) (Push (m.past.number + 1) m.draft m.pending ∷ [])) (subst (λ (z : Mutates P K). HasOrder z.past o.past) em h)) in
         let e = eq-eqb o.past.number m.past.number f.0 in
         kept_as call.Push _ m' o (answer.Pushed (pushing.Pushed (m.past.number + 1))) (shows m0) o (ap (λ k. answer.Pushed (pushing.Pushed k)) w.1) em refl (
           moved_from Send 0 (moved_from SeeAck 0 places),
@@ -138,7 +138,7 @@ module _ {P K : Type 0} (m : Mutates P K) (o : Observes P K) (places : List (Pla
         let eo = w.1.1.2 in
         let o0 : Observes P K = record { past = acknowledged back (took x came o.past); current = Some x; previous = o.current; items = o'.items } in
         let f = look_is_exact m.past o.past here.in_step met (o.past.number + 1) (Some x) came (Ack (o.past.number + 1) back ∷ [])
-        (subst (λ (l : List (ObserverEvent P)). HasHistory m.past.first m.past.events l) (append_assoc o.past.events (SawNext (o.past.number + 1) (Some x) came ∷ []) (Ack (o.past.number + 1) back ∷ [])) (subst (λ (z : Observes P K). HasOrder m.past z.past) eo h)) in
+        (subst (λ (l : List (ObserverEvent P)). HasStateHistory m.past.first m.past.events l) (append_assoc o.past.events (SawNext (o.past.number + 1) (Some x) came ∷ []) (Ack (o.past.number + 1) back ∷ [])) (subst (λ (z : Observes P K). HasOrder m.past z.past) eo h)) in
         let e = ne_eqb o.past.number m.past.number (λ z. let y = f.0 in omega arith) in
         let brought : came ≡ items_going m.past o.past = f.1.1 ∙ ap (λ b. if b then [] else (mutated m.past.first m.past.events).items) (sym e) in
         kept_as call.Poll _ m o' (answer.Polled (polling.New m.past.number)) m o0 (ap (λ k. answer.Polled (polling.New k)) (w.0 ∙ f.0)) refl eo (
@@ -210,7 +210,7 @@ module _ {P K : Type 0} (fits : K → ℕ → P → Type 0) (m : Mutates P K) (o
 
   module _ (met : HaveMet m.past o.past) where
     -- a call that is allowed
-    made_call : (c : QueueCall P) (a : QueueAnswer P) (m' : Mutates P K) (o' : Observes P K) → Made c m o a m' o' → is_allowed (ready_of m o) c ≡ true → HasHistory m'.past.first m'.past.events o'.past.events → Stays c a m' o'
+    made_call : (c : QueueCall P) (a : QueueAnswer P) (m' : Mutates P K) (o' : Observes P K) → Made c m o a m' o' → is_allowed (ready_of m o) c ≡ true → HasStateHistory m'.past.first m'.past.events o'.past.events → Stays c a m' o'
     made_call call.Begin a m' o' w on h = kept_as m o places here call.Begin a m' o' _ _ o w.0 w.1 w.2 (places, record { in_step = here.in_step; whole = here.whole; out = here.out; each = here.each }, refl)
     made_call (call.SetCommand c) a m' o' w on h = kept_as m o places here (call.SetCommand c) a m' o' _ _ o w.0 w.1 w.2 (places, record { in_step = here.in_step; whole = here.whole; out = here.out; each = here.each }, refl)
     made_call (call.Attach slot mono scale track item) a m' o' w on h =
@@ -221,12 +221,12 @@ module _ {P K : Type 0} (fits : K → ℕ → P → Type 0) (m : Mutates P K) (o
         kept_as m o places here (call.Detach slot) a m' o' _ _ o w.0 w.1 w.2 (detach_call slot (on_shelf slot (and_one _ _ active.0).1).1 active.1)
     made_call (call.End did_modify) a m' o' w on h = kept_as m o places here (call.End did_modify) a m' o' _ _ o w.0 w.1 w.2 (places, record { in_step = here.in_step; whole = here.whole; out = here.out; each = here.each }, refl)
     made_call call.Push a m' o' w on h = kept_as m o places here call.Push a m' o' _ m' o w.3 refl w.5
-        (push_call m o places here met draft.begins w.0 w.1 w.2 m' w.4 (subst (λ (z : Observes P K). HasHistory m'.past.first m'.past.events z.past.events) w.5 h))
+        (push_call m o places here met draft.begins w.0 w.1 w.2 m' w.4 (subst (λ (z : Observes P K). HasStateHistory m'.past.first m'.past.events z.past.events) w.5 h))
     made_call call.Acked a m' o' w on h = kept_as m o places here call.Acked a m' o' _ m' o w.1 refl w.3
-        (acked_call m o places here met w.0 m' w.2 (subst (λ (z : Observes P K). HasHistory m'.past.first m'.past.events z.past.events) w.3 h))
+        (acked_call m o places here met w.0 m' w.2 (subst (λ (z : Observes P K). HasStateHistory m'.past.first m'.past.events z.past.events) w.3 h))
     made_call (call.TakeBack slot) a m' o' w on h = kept_as m o places here (call.TakeBack slot) a m' o' _ _ o w.0 w.1 w.2 (take_call slot (on_shelf slot on).1)
     made_call call.Poll a m' o' w on h = kept_as m o places here call.Poll a m' o' _ m o' w.3 w.5 refl
-        (poll_call m o places here met w.0 w.1 w.2 o' w.4 (subst (λ (z : Mutates P K). HasHistory z.past.first z.past.events o'.past.events) w.5 h))
+        (poll_call m o places here met w.0 w.1 w.2 o' w.4 (subst (λ (z : Mutates P K). HasStateHistory z.past.first z.past.events o'.past.events) w.5 h))
 
     abbrev Answered : QueueState P → QueueCall P → QueueAnswer P → Mutates P K → Observes P K → Type 0
     Answered q c a m' o' = (a ≡ (step q c).0) × Agrees (step q c).1 m' o'
@@ -242,14 +242,14 @@ module _ {P K : Type 0} (fits : K → ℕ → P → Type 0) (m : Mutates P K) (o
         let all : (a, plain_of m' o' after) ≡ step (plain_of m o places) c = e ∙ ap (step_by c) (sym is) ∙ ap (λ r. step_by c (is_allowed r c)) (sym ready_is) in
         (ap (λ (t : QueueAnswer P × QueueState P). t.0) all, subst (λ (z : QueueState P). Agrees z m' o') (ap (λ (t : QueueAnswer P × QueueState P). t.1) all) (refl, at_after))
 
-    pub tried_call : (c : QueueCall P) (a : QueueAnswer P) (m' : Mutates P K) (o' : Observes P K) → Tried c m o a m' o' → HasHistory m'.past.first m'.past.events o'.past.events → Answered (plain_of m o places) c a m' o'
+    pub tried_call : (c : QueueCall P) (a : QueueAnswer P) (m' : Mutates P K) (o' : Observes P K) → Tried c m o a m' o' → HasStateHistory m'.past.first m'.past.events o'.past.events → Answered (plain_of m o places) c a m' o'
     tried_call c a m' o' w h = both_ways (is_allowed (ready_of m o) c)
         (λ t. let k = made_call c a m' o' (w.made t) t h in answered c a m' o' true k.0 t k.1 k.2)
         (λ f. let r = w.refused f in answered c a m' o' false places f (subst (λ (z : Mutates P K × Observes P K). AreAt places z.0 z.1) (λ i. (sym r.1 i, sym r.2 i)) here) (λ i. (r.0 i, plain_of (r.1 i) (r.2 i) places)))
 
 -- a call answers as the plain queue does, and leaves the ends as it says
 pub call_answers : {P K : Type 0} (fits : K → ℕ → P → Type 0) (q : QueueState P) (c : QueueCall P) (m : Mutates P K) (o : Observes P K) (a : QueueAnswer P) (m' : Mutates P K) (o' : Observes P K)
-    → Agrees q m o → InDraft fits m → HaveMet m.past o.past → Tried c m o a m' o' → HasHistory m'.past.first m'.past.events o'.past.events → (a ≡ (step q c).0) × Agrees (step q c).1 m' o'
+    → Agrees q m o → InDraft fits m → HaveMet m.past o.past → Tried c m o a m' o' → HasStateHistory m'.past.first m'.past.events o'.past.events → (a ≡ (step q c).0) × Agrees (step q c).1 m' o'
 call_answers {P = P} {K = K} fits queue c m o a m' o' agrees draft met tried h =
     subst (λ (z : QueueState P). (a ≡ (step z c).0) × Agrees (step z c).1 m' o') (sym agrees.0) (tried_call fits m o queue.places agrees.1 draft met c a m' o' tried h)
 

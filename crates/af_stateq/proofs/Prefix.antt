@@ -1,6 +1,6 @@
 -- The states polled are a prefix of the states pushed, and at most one is missing.
 use Rattle.std.proofs.Common.{◌≡◌, ◌≢◌, ◌+◌, ◌≤◌, ◌==◌, if◌then◌else◌, Bool, true≢false, List, [], ◌∷◌, ◌++◌, length, Some, None, is_some, unwrap_or, refl, ap, sym, ◌∙◌, arith, eq-eqb, ne_eqb}
-use Rattle.af_stateq.proofs.Common.{Ack, Event, FastState, HasHistory, Legal, MutatorEvent, ObserverEvent, Push, QueuePoint, SawAck, SawNext, after, legal, next, one, ones, start, two, twos}
+use Rattle.af_stateq.proofs.Common.{Ack, Event, FastState, HasStateHistory, Legal, MutatorEvent, ObserverEvent, Push, QueuePoint, SawAck, SawNext, point_after, legal, next, one, ones, start_of_queue, two, twos}
 use mathlib.Core.Logic.{dite}
 use native.Mathlib.Decide.{ℕ_discrete}
 use Rattle.af_model.specs.declared.states.MutatorEvent.TheVariants as mutator
@@ -31,7 +31,7 @@ module _ {P : Type 0} where
   one_pending p e = ap (λ (b : Bool). if b then [] else p.mutator.last ∷ []) (ne_eqb p.observer.acked p.mutator.pushed e)
 
   abbrev Balanced : QueuePoint P → FastState → List (Event (MutatorEvent P) (ObserverEvent P)) → Type 0
-  Balanced p y es = pending p ++ pushed_states (ones es) ≡ polled_states y (twos es) ++ pending (after legal next p es)
+  Balanced p y es = pending p ++ pushed_states (ones es) ≡ polled_states y (twos es) ++ pending (point_after legal next p es)
 
   -- an event that changes neither the states nor the numbers
   same_pending : (p q : QueuePoint P) → q.observer.acked ≡ p.observer.acked → q.mutator.pushed ≡ p.mutator.pushed → q.mutator.last ≡ p.mutator.last → pending q ≡ pending p
@@ -76,11 +76,11 @@ module _ {P : Type 0} where
   short : (p : QueuePoint P) → length (pending p) ≤ 1
   short p = dite (ℕ_discrete p.observer.acked p.mutator.pushed) (λ e. let a = ap length (none_pending p e) in omega arith) (λ ne. let a = ap length (one_pending p ne) in omega arith)
 
-  pub polled_in_order : (first : FastState) (ms : List (MutatorEvent P)) (os : List (ObserverEvent P)) → HasHistory first ms os → PolledInOrder first ms os
+  pub polled_in_order : (first : FastState) (ms : List (MutatorEvent P)) (os : List (ObserverEvent P)) → HasStateHistory first ms os → PolledInOrder first ms os
   polled_in_order first ms os h =
-      let begin : pending (start first) ≡ [] = none_pending (start first) refl in
-      let all = balanced (start first) first h.order record { low = omega arith; high = omega arith; due = λ d. absurd (d refl) } h.is_legal in (
-        pending (after legal next (start first) h.order),
-        short (after legal next (start first) h.order),
-        ap pushed_states (sym h.of_one) ∙ sym (ap (λ (z : List FastState). z ++ pushed_states (ones h.order)) begin) ∙ all ∙ ap (λ z. polled_states first z ++ pending (after legal next (start first) h.order)) h.of_two,
+      let begin : pending (start_of_queue first) ≡ [] = none_pending (start_of_queue first) refl in
+      let all = balanced (start_of_queue first) first h.order record { low = omega arith; high = omega arith; due = λ d. absurd (d refl) } h.is_legal in (
+        pending (point_after legal next (start_of_queue first) h.order),
+        short (point_after legal next (start_of_queue first) h.order),
+        ap pushed_states (sym h.of_one) ∙ sym (ap (λ (z : List FastState). z ++ pushed_states (ones h.order)) begin) ∙ all ∙ ap (λ z. polled_states first z ++ pending (point_after legal next (start_of_queue first) h.order)) h.of_two,
       )

@@ -1,6 +1,6 @@
 -- The rule at the start, when the ends take their slots, and when a part changes seats.
 use Rattle.std.proofs.Common.{◌≡◌, ◌≢◌, ℕ, zero, suc, ◌+◌, ◌<◌, true, false, true≢false, List, [], ◌∷◌, map, drop, set, get_or, replicate, None, sym, refl, ap, ◌∙◌, arith, length-set}
-use Rattle.af_stateq.proofs.Common.{Allows, FastState, Joins, Splits, State, chain, drop-set-lt, homes_after, one_changes, opening, set_else, slots, start, step, takes, two_changes, two_comes, two_leaves}
+use Rattle.af_stateq.proofs.Common.{Allows, FastState, Joins, Splits, State, chain, drop-set-lt, homes_after, one_changes, opening, set_else, slots, start_of_queue, step, takes, two_changes, two_comes, two_leaves}
 use mathlib.Core.Option as maybe
 use lib.ListN.{get_elem?}
 use Rattle.af_stateq.specs.declared.cell.Slot.{Slot}
@@ -36,7 +36,7 @@ module _ {P K : Type 0} (fits : K → ℕ → P → Type 0) (basis : Basis K) wh
           one_held = λ j u e _. ((alone v j u e).0, ap mutating (sym (alone v j u e).1));
           two_held = λ j u e _. ((alone v j u e).0, ap observing (sym (alone v j u e).1));
         };
-        stands = record { history = record { order = []; is_legal = tt; of_one = refl; of_two = refl }; point = start basis.first; point_is = refl };
+        stands = record { history = record { order = []; is_legal = tt; of_one = refl; of_two = refl }; point = start_of_queue basis.first; point_is = refl };
         ties = record { keys = (refl, refl, refl); counts = (refl, refl); numbers = (refl, refl, refl, refl); states = (refl, refl) };
         words = refl;
         laid = record {

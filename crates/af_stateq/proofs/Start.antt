@@ -1,6 +1,6 @@
 -- What holds of the first state, of a new mutator and of a new observer.
 use Rattle.std.proofs.Common.{◌≡◌, ℕ, zero, suc, ◌-◌, ◌<◌, ◌≤◌, ◌==◌, ◌&&◌, not, true, false, true≢false, Bool, List, [], Option, Some, None, is_some, replicate, refl, ap, sym, ◌∙◌, subst, arith, ne_eqb}
-use Rattle.af_stateq.proofs.Common.{FastState, FastTrack, IsState, ObserverEvent, bit_at, carries, get_or-replicate, initial, length-replicate, no_track, slot_of, slots}
+use Rattle.af_stateq.proofs.Common.{FastState, FastTrack, IsState, ObserverEvent, bit_at, carries, get_or-replicate, initial, length-replicate, no_fast_track, slot_of, slots}
 use Rattle.std.proofs.lemmas.Nat.Bits.{bit_at-suc, bit_at-zero}
 use Rattle.af_stateq.specs.Shelved.{nothing}
 use Rattle.af_stateq.specs.Ends.{Pushes, Polls}
@@ -15,7 +15,7 @@ module _ (frames : ℕ) where
 
   scaled : (i : ℕ) → i < slots → (slot_of (initial frames) i).scale ≤ 4096
   scaled zero lt = omega arith
-  scaled (suc i) lt = let e : (slot_of (initial frames) (suc i)).scale ≡ 0 = ap (λ (t : FastTrack). t.scale) (get_or-replicate (slots - 1) i no_track no_track (omega arith)) in omega arith
+  scaled (suc i) lt = let e : (slot_of (initial frames) (suc i)).scale ≡ 0 = ap (λ (t : FastTrack). t.scale) (get_or-replicate (slots - 1) i no_fast_track no_fast_track (omega arith)) in omega arith
 
   pub initial_state : IsState (initial frames)
   initial_state = record { whole = refl; submix = refl; scaled = scaled }

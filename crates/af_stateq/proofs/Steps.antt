@@ -1,6 +1,6 @@
 -- Each step of the queue keeps its rule.
 use Rattle.std.proofs.Common.{◌≡◌, ◌≢◌, ℕ, ◌+◌, ◌<◌, ◌≤◌, ◌==◌, if◌then◌else◌, Bool, true, false, true≢false, List, [], ◌∷◌, ◌++◌, length, map, drop, set, get_or, sym, refl, ap, ◌∙◌, subst, arith, length-set, length-append, Some, None, Option, eq-eqb, ne_eqb}
-use Rattle.af_stateq.proofs.Common.{Ack, AllFit, AreOf, MutatorEvent, ObserverEvent, Push, QueuePoint, SawAck, SawNext, State, both_change, brought, chain, drop-set-lt, gives, homes_after, keeps, legal, length-map, next, one, one_changes, set_else, set_here, slots, stand_one, stand_two, start, stepped, takes, two, two_changes}
+use Rattle.af_stateq.proofs.Common.{Ack, AllFit, AreOf, MutatorEvent, ObserverEvent, Push, QueuePoint, SawAck, SawNext, State, both_change, brought, chain, drop-set-lt, gives, homes_after, keeps, legal, length-map, next, one, one_changes, set_else, set_here, slots, stand_one, stand_two, start_of_queue, stepped, takes, two, two_changes}
 use mathlib.Core.Option as maybe
 use mathlib.Core.Logic.{dite}
 use native.Mathlib.Decide.{ℕ_discrete}
@@ -71,11 +71,11 @@ module _ {P K : Type 0} (fits : K → ℕ → P → Type 0) (basis : Basis K) wh
     p = k.stands.point
 
     -- one event more of the mutator, of the observer
-    abbrev pub more_m : (e : MutatorEvent P) → legal p (one e) → Stands legal next (start basis.first) (k.m.events ++ e ∷ []) k.o.events
-    more_m e l = stand_one legal next (start basis.first) k.m.events k.o.events k.stands e l
+    abbrev pub more_m : (e : MutatorEvent P) → legal p (one e) → Stands legal next (start_of_queue basis.first) (k.m.events ++ e ∷ []) k.o.events
+    more_m e l = stand_one legal next (start_of_queue basis.first) k.m.events k.o.events k.stands e l
 
-    abbrev pub more_o : (e : ObserverEvent P) → legal p (two e) → Stands legal next (start basis.first) k.m.events (k.o.events ++ e ∷ [])
-    more_o e l = stand_two legal next (start basis.first) k.m.events k.o.events k.stands e l
+    abbrev pub more_o : (e : ObserverEvent P) → legal p (two e) → Stands legal next (start_of_queue basis.first) k.m.events (k.o.events ++ e ∷ [])
+    more_o e l = stand_two legal next (start_of_queue basis.first) k.m.events k.o.events k.stands e l
 
     -- and the counts with it
     m_counts : (e : MutatorEvent P) → (p.mutator.count + 1 ≡ length (k.m.events ++ e ∷ [])) × (p.observer.count ≡ length k.o.events)
@@ -290,8 +290,8 @@ module _ {P K : Type 0} (fits : K → ℕ → P → Type 0) (basis : Basis K) wh
       learns_o rested = ((let c = k.ties.counts.0 in omega arith), due_is false rested)
 
       -- the lists with what was learnt have a history
-      abbrev pub met_stands : k.o.due ≡ false → Stands legal next (start basis.first) met_m.events met_o.events
-      met_stands rested = stand_two legal next (start basis.first) met_m.events k.o.events (more_m learn_m learns_m) learn_o (learns_o rested)
+      abbrev pub met_stands : k.o.due ≡ false → Stands legal next (start_of_queue basis.first) met_m.events met_o.events
+      met_stands rested = stand_two legal next (start_of_queue basis.first) met_m.events k.o.events (more_m learn_m learns_m) learn_o (learns_o rested)
 
       pub meets : k.o.due ≡ false → (cs : List (ℕ × Slot P)) → Rule (stepped s 0 (get_or s.words 0 0) id cs met_view keeps)
       meets rested cs = record {

@@ -9,7 +9,7 @@ use Rattle.af_model.specs.declared.states.ObserverEvent.{ObserverEvent}
 use Rattle.af_model.specs.declared.states.ObserverEvent.TheVariants.{SawNext, Ack}
 use Rattle.af_model.specs.declared.states.ObserverEvent.TheVariants as observer
 use Rattle.af_model.specs.Order.{Event, one, two, Legal}
-use Rattle.af_model.specs.StateQueue.{slots, carries, mutated, observed, HasHistory}
+use Rattle.af_model.specs.StateQueue.{slots, carries, mutated, observed, HasStateHistory}
 use Rattle.af_stateq.specs.Mutates.{at}
 
 module _ {P : Type 0} where
@@ -40,13 +40,13 @@ module _ {P : Type 0} where
   -- If the observer learnt of the events `told`, and the mutator pushed nothing after them, the next look finds the number of the last push, and if it shows a state it shows that one, with the items that it carried
   abbrev pub SeesTheLast : FastState → List (MutatorEvent P) → Type 0
   SeesTheLast first ms =
-      (told more : List (MutatorEvent P)) (os rest : List (ObserverEvent P)) (c n : ℕ) (x : Option FastState) (items : List (Option P)) → HasHistory first ms ((os ++ observer.Learn c ∷ []) ++ SawNext n x items ∷ rest) → ms ≡ told ++ more → length told ≤ c → list_any is_push more ≡ false
+      (told more : List (MutatorEvent P)) (os rest : List (ObserverEvent P)) (c n : ℕ) (x : Option FastState) (items : List (Option P)) → HasStateHistory first ms ((os ++ observer.Learn c ∷ []) ++ SawNext n x items ∷ rest) → ms ≡ told ++ more → length told ≤ c → list_any is_push more ≡ false
       → (n ≡ (mutated first ms).pushed) × IfSome x (λ s. (s ≡ (mutated first ms).last) × (items ≡ (mutated first ms).items))
 
   -- If the mutator learnt of the events `told`, and the observer acknowledged nothing after them, the next look at the acknowledgement finds the number of the last one, and brings the items given back with it if they are those of the last push and weren't brought before
   abbrev pub SeesTheAck : FastState → List (ObserverEvent P) → Type 0
   SeesTheAck first os =
-      (told more : List (ObserverEvent P)) (ms rest : List (MutatorEvent P)) (c a : ℕ) (items : List (Option P)) → HasHistory first ((ms ++ mutator.Learn c ∷ []) ++ SawAck a items ∷ rest) os → os ≡ told ++ more → length told ≤ c → list_any is_ack more ≡ false
+      (told more : List (ObserverEvent P)) (ms rest : List (MutatorEvent P)) (c a : ℕ) (items : List (Option P)) → HasStateHistory first ((ms ++ mutator.Learn c ∷ []) ++ SawAck a items ∷ rest) os → os ≡ told ++ more → length told ≤ c → list_any is_ack more ≡ false
       → (a ≡ (observed os).acked) × (items ≡ (if not (mutated first ms).clear && (a == (mutated first ms).pushed) then (observed os).given else []))
 
   -- the states polled are a prefix of the states pushed, and at most one is missing
@@ -86,4 +86,4 @@ module _ {P : Type 0} (i : ℕ) where
 
 -- in the order of a history the item of each slot has one holder at each moment, and goes from the mutator to the shelf, to the observer, to the shelf and back
 abbrev pub OneHolder : {P : Type 0} → FastState → List (MutatorEvent P) → List (ObserverEvent P) → Type 0
-OneHolder first ms os = (h : HasHistory first ms os) (i : ℕ) → i < slots → carries first i ≡ false → Legal (may_pass i) (passed i) in_hand h.order
+OneHolder first ms os = (h : HasStateHistory first ms os) (i : ℕ) → i < slots → carries first i ≡ false → Legal (may_pass i) (passed i) in_hand h.order

@@ -15,7 +15,7 @@ use Rattle.af_model.specs.declared.plain_calls.QueueCall.TheVariants as call
 use Rattle.af_model.specs.declared.plain_calls.QueueAnswer.{QueueAnswer}
 use Rattle.af_model.specs.declared.plain_calls.QueueAnswer.TheVariants as answer
 use Rattle.af_model.specs.StateQueue.{slots, mutated, observed}
-use Rattle.af_model.specs.Draft.{attached, detached, commanded}
+use Rattle.af_model.specs.Draft.{attached, detached, draft_commanded}
 use Rattle.af_model.specs.PlainQueue.{QueueState, place_at, is_placed, held_of, returned_of, is_allowed}
 use Rattle.af_stateq.specs.Ends.{Pushes, Polls}
 use Rattle.af_stateq.specs.Mutates.{Mutates, at, is_out}
@@ -102,7 +102,7 @@ module _ {P K : Type 0} where
   -- what a call that is allowed answers and does
   abbrev pub Made : QueueCall P → Mutates P K → Observes P K → QueueAnswer P → Mutates P K → Observes P K → Type 0
   Made call.Begin m o a m' o' = (a ≡ answer.Done) × (m' ≡ record m { editing = true; edited = false }) × (o' ≡ o)
-  Made (call.SetCommand c) m o a m' o' = (a ≡ answer.Done) × (m' ≡ record m { draft = commanded c m.draft; edited = m.edited || not (code_of c == code_of m.draft.command) }) × (o' ≡ o)
+  Made (call.SetCommand c) m o a m' o' = (a ≡ answer.Done) × (m' ≡ record m { draft = draft_commanded c m.draft; edited = m.edited || not (code_of c == code_of m.draft.command) }) × (o' ≡ o)
   Made (call.Attach slot mono scale track item) m o a m' o' = (a ≡ answer.Done)
       × (m' ≡ record m { draft = attached slot mono scale track m.draft; edited = true; pending = slice_set m.pending slot (Some item); out = slice_set m.out slot true }) × (o' ≡ o)
   Made (call.Detach slot) m o a m' o' = (a ≡ answer.Done)

@@ -17,7 +17,7 @@ use Rattle.af_model.specs.declared.states.ObserverEvent.TheVariants.{SawNext, Ac
 use Rattle.af_model.specs.declared.states.ObserverEvent.TheVariants as observer
 use Rattle.af_model.specs.Parties.{AreHeld, Stands}
 pub use Rattle.af_model.specs.StateQueue.{cell, word}
-use Rattle.af_model.specs.StateQueue.{slots, AreOf, AllFit, FitAt, QueuePoint, start, legal, next, HasHistory}
+use Rattle.af_model.specs.StateQueue.{slots, AreOf, AllFit, FitAt, QueuePoint, start_of_queue, legal, next, HasStateHistory}
 
 -- how many slots of the table are cells. After them comes a shelf for each slot of a state
 abbrev pub cells : ℕ
@@ -156,7 +156,7 @@ pub record Kept {P K : Type 0} (fits : K → ℕ → P → Type 0) (basis : Basi
   pub m : Mutating P K
   pub o : Observing P K
   pub seats : AreHeld has_mutating mutating has_observing observing s.views m o
-  pub stands : Stands legal next (start basis.first) m.events o.events
+  pub stands : Stands legal next (start_of_queue basis.first) m.events o.events
   pub ties : AreTied basis (known_by m o stands.point) (length m.events) (length o.events) stands.point
   pub words : s.words ≡ word m.pushed ∷ word o.current ∷ []
   pub laid : AreLaid (fits basis.key) (known_by m o stands.point) s.homes
@@ -229,7 +229,7 @@ module _ {P K : Type 0} where
   -- each party learns how many events the other has, and both lists have a history, before that and with it
   abbrev pub met : Step (Slot P) → Seated P K → ℕ → Seated P K → Type 0
   met st me r me' = let m = me.0.mutating in let o = me.0.observing in
-      ((x : FastState) → m.first ≡ x → HasHistory x m.events o.events × HasHistory x (m.events ++ mutator.Learn (length o.events) ∷ []) (o.events ++ observer.Learn (length m.events) ∷ []))
+      ((x : FastState) → m.first ≡ x → HasStateHistory x m.events o.events × HasStateHistory x (m.events ++ mutator.Learn (length o.events) ∷ []) (o.events ++ observer.Learn (length m.events) ∷ []))
       × (me' ≡ (
         record me.0 {
           mutating = record m { events = m.events ++ mutator.Learn (length o.events) ∷ [] };

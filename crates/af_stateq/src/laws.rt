@@ -3,7 +3,7 @@ ghost use Rattle.std.specs.Prelude.{ℕ, List};
 ghost use Rattle.af_base.specs.declared.state.FastState.{FastState as State};
 ghost use Rattle.af_model.specs.declared.states.MutatorEvent.{MutatorEvent};
 ghost use Rattle.af_model.specs.declared.states.ObserverEvent.{ObserverEvent};
-ghost use Rattle.af_model.specs.StateQueue.{HasHistory};
+ghost use Rattle.af_model.specs.StateQueue.{HasStateHistory};
 ghost use Rattle.af_stateq.specs.Laws.{PolledInOrder, OneHolder, SeesTheLast, SeesTheAck};
 ghost use Rattle.af_model.specs.Draft.{initial};
 ghost use Rattle.af_model.specs.PlainQueue.{new_queue};
@@ -16,7 +16,7 @@ use crate::rule::Fits;
 
 /// In a history the states polled are a prefix of the states pushed, as values, and at most one pushed state isn't polled.
 pub fn polled_are_pushed<P>()
-    ensures { (first : State) (ms : List (MutatorEvent P)) (os : List (ObserverEvent P)) → HasHistory first ms os → PolledInOrder first ms os }
+    ensures { (first : State) (ms : List (MutatorEvent P)) (os : List (ObserverEvent P)) → HasStateHistory first ms os → PolledInOrder first ms os }
 {}
 
 /// A call leaves an attached item with the mutator: it stays pending, or its slot is detached and it is in hand, or the call is a push that carries it.

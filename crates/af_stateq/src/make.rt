@@ -1,7 +1,7 @@
 //! How a queue is made, and how its ends meet.
 ghost use Rattle.std.specs.Prelude.{◌≡◌, [], ◌∷◌, ◌++◌, ◌+◌, length, true, false, None, Some, IfOk, replicate};
 ghost use Rattle.af_model.specs.Draft.{initial};
-ghost use Rattle.af_model.specs.StateQueue.{slots, HasHistory};
+ghost use Rattle.af_model.specs.StateQueue.{slots, HasStateHistory};
 ghost use Rattle.af_stateq.specs.Mutates.{IsNewMutator};
 ghost use Rattle.af_stateq.specs.Observes.{IsNewObserver, InOrder};
 ghost use Rattle.af_stateq.specs.Shelved.{cells, nothing, starting};
@@ -124,8 +124,8 @@ pub(crate) fn meet_ends<P: Drop, N: Fits<P>, L: Ledger>(
 )
     requires together { (mutator.old.queue ≡ queue.now) × (observer.old.queue ≡ queue.now) }
     requires due { observer.old.due ≡ false }
-    ensures before { HasHistory mutator.old.first mutator.old.events observer.old.events }
-    ensures history { HasHistory mutator.new.first mutator.new.events observer.new.events }
+    ensures before { HasStateHistory mutator.old.first mutator.old.events observer.old.events }
+    ensures history { HasStateHistory mutator.new.first mutator.new.events observer.new.events }
     ensures mutator { mutator.new ≡ record mutator.old { events = mutator.old.events ++ mutates.Learn (length observer.old.events) ∷ [] } }
     ensures observer { observer.new ≡ record observer.old { events = observer.old.events ++ observes.Learn (length mutator.old.events) ∷ [] } }
     ensures steps { steps.new ≡ steps.old + 5 }
@@ -189,8 +189,8 @@ pub fn meet<P: Drop, N: Fits<P>, L: Ledger>(
     steps: &mut Steps<L>,
 )
     requires together { (mutator.old.past.queue ≡ queue.now) × (observer.old.past.queue ≡ queue.now) }
-    ensures before { HasHistory mutator.old.past.first mutator.old.past.events observer.old.past.events }
-    ensures history { HasHistory mutator.new.past.first mutator.new.past.events observer.new.past.events }
+    ensures before { HasStateHistory mutator.old.past.first mutator.old.past.events observer.old.past.events }
+    ensures history { HasStateHistory mutator.new.past.first mutator.new.past.events observer.new.past.events }
     ensures mutator { mutator.new ≡ record mutator.old { past = record mutator.old.past { events = mutator.old.past.events ++ mutates.Learn (length observer.old.past.events) ∷ [] } } }
     ensures observer { observer.new ≡ record observer.old { past = record observer.old.past { events = observer.old.past.events ++ observes.Learn (length mutator.old.past.events) ∷ [] } } }
     ensures steps { steps.new ≡ steps.old + 5 }

@@ -3,7 +3,7 @@ ghost use Rattle.std.specs.Prelude.{◌≡◌, ◌≢◌, ℕ, ◌+◌, ◌^◌,
 ghost use Rattle.af_base.specs.Command.{code_of};
 ghost use Rattle.af_base.specs.declared.state.Push.TheVariants.{Pushed};
 ghost use Rattle.af_model.specs.StateQueue.{slots, slot_of, carries, has};
-ghost use Rattle.af_model.specs.Draft.{attached, detached, commanded};
+ghost use Rattle.af_model.specs.Draft.{attached, detached, draft_commanded};
 ghost use Rattle.af_stateq.specs.Shelved.{word, nothing};
 ghost use Rattle.af_stateq.specs.Mutates.{Mutates, InDraft, IsJoined, at, is_out};
 ghost use Rattle.af_stateq.specs.Answers.{SeesIt, SeesOlder, shows, WasPushed, WasAcked, SameDraft};
@@ -66,7 +66,7 @@ impl<P: Drop, N: Fits<P>> Mutator<P, N> {
     pub fn set_command(&mut self, command: Command)
         requires editing { self.old.editing ≡ true }
         requires room { self.old.draft.cold_gen < 2 ^ 62 }
-        ensures { self.new ≡ record self.old { draft = commanded command self.old.draft; edited = self.old.edited || not (code_of command == code_of self.old.draft.command) } }
+        ensures { self.new ≡ record self.old { draft = draft_commanded command self.old.draft; edited = self.old.edited || not (code_of command == code_of self.old.draft.command) } }
     {
         let (before, after) = (self.draft.command.code(), command.code());
         let cold = Command::ColdIdle.code();

@@ -7,8 +7,8 @@ use Rattle.af_base.specs.declared.frame.Frame.{Frame}
 use Rattle.af_base.specs.Mix.{frame_at, mixed_frame, silence}
 use Rattle.af_static.specs.declared.setting.Setting.{Setting}
 use Rattle.af_static.specs.declared.head.Head.{Head}
-use Rattle.af_static.specs.Loops.{after, frames_of, head_after, heard, is_valid, moved, output, step, take_at, taken}
-use Rattle.af_static.specs.Calls.{AreOneCall, Call, Standing, after_call, filled_of, head_in, outputs_of, used_in, with_places}
+use Rattle.af_static.specs.Loops.{head_moved, loop_frames, head_after, head_heard, is_valid, moved, output, step, take_at, taken}
+use Rattle.af_static.specs.Calls.{AreOneCall, Call, Standing, standing_after, filled_of, head_in, outputs_of, used_in, with_places}
 use Rattle.af_static.proofs.Rows.{first_moves, first_step, none_left, same_mix, stays}
 use Rattle.af_static.proofs.Calling.{heard_once, used_again}
 
@@ -22,9 +22,9 @@ record IsCut (whole one two : List Frame) (places : ℕ) : Type 0 where
 
 module _ (frames : List Frame) (more : ℕ) where
   -- the steps behind a first one
-  on_cut : (steps : ℕ) (h : Head) → IsCut (frames_of frames (moved h 1) (steps + more)) (frames_of frames (moved h 1) steps) (frames_of frames (after (length frames) (moved h 1) steps) more) steps
+  on_cut : (steps : ℕ) (h : Head) → IsCut (loop_frames frames (moved h 1) (steps + more)) (loop_frames frames (moved h 1) steps) (loop_frames frames (head_moved (length frames) (moved h 1) steps) more) steps
       → (h.position < length frames) ⊎ (length frames ≤ h.position)
-      → IsCut (frames_of frames h (suc (steps + more))) (frames_of frames h (suc steps)) (frames_of frames (after (length frames) h (suc steps)) more) (suc steps)
+      → IsCut (loop_frames frames h (suc (steps + more))) (loop_frames frames h (suc steps)) (loop_frames frames (head_moved (length frames) h (suc steps)) more) (suc steps)
   on_cut steps h on (inl ahead) =
       let first = first_step frames h steps ahead in
       let moves = first_moves (length frames) h steps ahead in
@@ -33,13 +33,13 @@ module _ (frames : List Frame) (more : ℕ) where
       record {
         parts = first_step frames h (steps + more) ahead
             ∙ ap (λ (fs : List Frame). frame_at frames h.position ∷ fs) on.parts
-            ∙ (λ i. sym first i ++ frames_of frames (sym moves i) more);
+            ∙ (λ i. sym first i ++ loop_frames frames (sym moves i) more);
         most = omega arith;
-        short = λ less. ap (λ (g : Head). frames_of frames g more) moves ∙ on.short (omega arith);
+        short = λ less. ap (λ (g : Head). loop_frames frames g more) moves ∙ on.short (omega arith);
       }
   on_cut steps h on (inr past) =
       let none = none_left frames h (suc steps) past in
-      let nothing = ap (λ (g : Head). frames_of frames g more) (stays (length frames) h (suc steps) past) ∙ none_left frames h more past in
+      let nothing = ap (λ (g : Head). loop_frames frames g more) (stays (length frames) h (suc steps) past) ∙ none_left frames h more past in
       let empty = ap length none in
       record {
         parts = none_left frames h (suc (steps + more)) past ∙ (λ i. sym none i ++ sym nothing i);
@@ -48,18 +48,18 @@ module _ (frames : List Frame) (more : ℕ) where
       }
 
   -- so many steps, and more behind them
-  steps_cut : (steps : ℕ) (h : Head) → IsCut (frames_of frames h (steps + more)) (frames_of frames h steps) (frames_of frames (after (length frames) h steps) more) steps
+  steps_cut : (steps : ℕ) (h : Head) → IsCut (loop_frames frames h (steps + more)) (loop_frames frames h steps) (loop_frames frames (head_moved (length frames) h steps) more) steps
   steps_cut zero h =
       let none : 0 + more ≡ more = omega arith in
-      record { parts = ap (frames_of frames h) none; most = omega arith; short = λ less. absurd (omega arith) }
+      record { parts = ap (loop_frames frames h) none; most = omega arith; short = λ less. absurd (omega arith) }
   steps_cut (suc steps) h =
       let place : suc steps + more ≡ suc (steps + more) = omega arith in
       let on = on_cut steps h (steps_cut steps (moved h 1)) (cases_lt h.position (length frames)) in
-      record { parts = ap (frames_of frames h) place ∙ on.parts; most = on.most; short = on.short }
+      record { parts = ap (loop_frames frames h) place ∙ on.parts; most = on.most; short = on.short }
 
   -- the same if nothing is played
   cut_as : (b : Bool) (places : ℕ) (h : Head)
-      → IsCut (if b then frames_of frames h (places + more) else []) (if b then frames_of frames h places else []) (if b then frames_of frames (if b then after (length frames) h places else h) more else []) places
+      → IsCut (if b then loop_frames frames h (places + more) else []) (if b then loop_frames frames h places else []) (if b then loop_frames frames (if b then head_moved (length frames) h places else h) more else []) places
   cut_as true places h = steps_cut places h
   cut_as false places h = record { parts = refl; most = omega arith; short = λ less. refl }
 
@@ -68,14 +68,14 @@ module _ (frames : List Frame) (more : ℕ) where
 
 -- ## The head
 
-after_more : (n more steps : ℕ) (h : Head) → after n h (steps + more) ≡ after n (after n h steps) more
-after_more n more zero h = let none : 0 + more ≡ more = omega arith in ap (after n h) none
-after_more n more (suc steps) h = let place : suc steps + more ≡ suc (steps + more) = omega arith in ap (after n h) place ∙ after_more n more steps (step n h)
+after_more : (n more steps : ℕ) (h : Head) → head_moved n h (steps + more) ≡ head_moved n (head_moved n h steps) more
+after_more n more zero h = let none : 0 + more ≡ more = omega arith in ap (head_moved n h) none
+after_more n more (suc steps) h = let place : suc steps + more ≡ suc (steps + more) = omega arith in ap (head_moved n h) place ∙ after_more n more steps (step n h)
 
 head_more : (n : ℕ) (s : Setting) (h : Head) (places more : ℕ) → head_after n s (head_after n s h places) more ≡ head_after n s h (places + more)
 head_more n s h places more = go (is_valid n s)
   where
-    go : (b : Bool) → (if b then after n (if b then after n h places else h) more else (if b then after n h places else h)) ≡ (if b then after n h (places + more) else h)
+    go : (b : Bool) → (if b then head_moved n (if b then head_moved n h places else h) more else (if b then head_moved n h places else h)) ≡ (if b then head_moved n h (places + more) else h)
     go true = sym (after_more n more places h)
     go false = refl
 
@@ -140,22 +140,22 @@ one_call frames s call more calls =
     let used : Setting = used_in n s call in
     let head : Head = head_in n s call in
     let next : Head = head_after n used head call.places in
-    let between : Standing = after_call n s call in
+    let between : Standing = standing_after n s call in
     let again : Call = with_places call more in
     let whole : Call = with_places call (call.places + more) in
     let same : used_in n between again ≡ used = used_again n s call more in
-    let goes_on : head_in n between again ≡ next = ap (λ (x : Setting). heard n used next x) same ∙ heard_once n used next in
+    let goes_on : head_in n between again ≡ next = ap (λ (x : Setting). head_heard n used next x) same ∙ heard_once n used next in
     let cut = taken_cut frames more used head call.places in
     let one : List Frame = taken frames used head call.places in
     let two : List Frame = taken frames used next more in
-    let left : after_call n between again ≡ after_call n s whole = (λ i. record { used = same i; head = ((λ j. head_after n (same j) (goes_on j) more) ∙ head_more n used head call.places more) i }) in
+    let left : standing_after n between again ≡ standing_after n s whole = (λ i. record { used = same i; head = ((λ j. head_after n (same j) (goes_on j) more) ∙ head_more n used head call.places more) i }) in
     record {
       outputs = (λ i. output call.gains one call.places ++ (output call.gains (taken frames (same i) (goes_on i) more) more ++ outputs_of frames (left i) calls))
-          ∙ sym (append_assoc (output call.gains one call.places) (output call.gains two more) (outputs_of frames (after_call n s whole) calls))
-          ∙ ap (λ (fs : List Frame). fs ++ outputs_of frames (after_call n s whole) calls) (outputs_cut call.gains (taken frames used head (call.places + more)) one two call.places more cut);
+          ∙ sym (append_assoc (output call.gains one call.places) (output call.gains two more) (outputs_of frames (standing_after n s whole) calls))
+          ∙ ap (λ (fs : List Frame). fs ++ outputs_of frames (standing_after n s whole) calls) (outputs_cut call.gains (taken frames used head (call.places + more)) one two call.places more cut);
       filled = (λ i. length one + (length (taken frames (same i) (goes_on i) more) + filled_of frames (left i) calls))
-          ∙ sums (length one) (length two) (filled_of frames (after_call n s whole) calls)
-          ∙ ap (λ (k : ℕ). k + filled_of frames (after_call n s whole) calls) (counts_cut call.gains (taken frames used head (call.places + more)) one two call.places more cut);
+          ∙ sums (length one) (length two) (filled_of frames (standing_after n s whole) calls)
+          ∙ ap (λ (k : ℕ). k + filled_of frames (standing_after n s whole) calls) (counts_cut call.gains (taken frames used head (call.places + more)) one two call.places more cut);
     }
   where
     sums : (a b c : ℕ) → a + (b + c) ≡ a + b + c

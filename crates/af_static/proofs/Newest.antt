@@ -8,7 +8,7 @@ use Rattle.af_model.specs.declared.newest.ReaderEvent.{ReaderEvent}
 use Rattle.af_model.specs.declared.newest.ReaderEvent.TheVariants.{Load}
 use Rattle.af_model.specs.declared.newest.ReaderEvent.TheVariants as reads
 use Rattle.af_model.specs.Order.{Event, one, two, ones, twos, Legal}
-use Rattle.af_model.specs.NewestValue.{CellPoint, start, legal, next, HasHistory}
+use Rattle.af_model.specs.NewestValue.{CellPoint, start_value, legal_value, next_value, HasValueHistory}
 use Rattle.af_latest.specs.Laws.{last_of}
 use Rattle.af_static.specs.declared.setting.Setting.{Setting}
 use Rattle.af_static.specs.Ends.{Kept, Sets, Plays}
@@ -27,28 +27,28 @@ module _ {T : Type 0} (first : T) where
   last_of-append x (Store y ∷ xs) ys = last_of-append y xs ys
   last_of-append x (writes.Learn c ∷ xs) ys = last_of-append x xs ys
 
-  in_order : (done : List (WriterEvent T)) (p : CellPoint T) (es : List (Event (WriterEvent T) (ReaderEvent T))) (low : ℕ) → Legal legal next p es → p.value ≡ last_of first done → p.writes ≡ length done → low ≤ length done
+  in_order : (done : List (WriterEvent T)) (p : CellPoint T) (es : List (Event (WriterEvent T) (ReaderEvent T))) (low : ℕ) → Legal legal_value next_value p es → p.value ≡ last_of first done → p.writes ≡ length done → low ≤ length done
       → Shows (done ++ ones es) low (twos es)
   unfolding Shows
   in_order done p [] low l value count le = tt
   in_order done p (one (Store y) ∷ es) low l value count le =
       let many = length-append done (Store y ∷ []) in
       subst (λ (ws : List (WriterEvent T)). Shows ws low (twos es)) (append_assoc done (Store y ∷ []) (ones es))
-      (in_order (done ++ Store y ∷ []) (next p (one (Store y))) es low l.1 (sym (last_of-append first done (Store y ∷ []))) (omega arith) (omega arith))
+      (in_order (done ++ Store y ∷ []) (next_value p (one (Store y))) es low l.1 (sym (last_of-append first done (Store y ∷ []))) (omega arith) (omega arith))
   in_order done p (one (writes.Learn c) ∷ es) low l value count le =
       let many = length-append done (writes.Learn c ∷ []) in
       subst (λ (ws : List (WriterEvent T)). Shows ws low (twos es)) (append_assoc done (writes.Learn c ∷ []) (ones es))
-      (in_order (done ++ writes.Learn c ∷ []) (next p (one (writes.Learn c))) es low l.1 (value ∙ sym (last_of-append first done (writes.Learn c ∷ []))) (omega arith) (omega arith))
+      (in_order (done ++ writes.Learn c ∷ []) (next_value p (one (writes.Learn c))) es low l.1 (value ∙ sym (last_of-append first done (writes.Learn c ∷ []))) (omega arith) (omega arith))
   in_order done p (two (Load n x) ∷ es) low l value count le =
       let many = length-append done (ones es) in
-      (length done, le, omega arith, l.0.1 ∙ value ∙ ap (last_of first) (sym (take-append_seam done (ones es))), in_order done (next p (two (Load n x))) es (length done) l.1 value count (omega arith))
+      (length done, le, omega arith, l.0.1 ∙ value ∙ ap (last_of first) (sym (take-append_seam done (ones es))), in_order done (next_value p (two (Load n x))) es (length done) l.1 value count (omega arith))
   in_order done p (two (reads.Learn c) ∷ es) low l value count le =
       let known : c ≤ length done = (let m = l.0 in omega arith) in
-      in_order done (next p (two (reads.Learn c))) es (max low c) l.1 value count (omega arith)
+      in_order done (next_value p (two (reads.Learn c))) es (max low c) l.1 value count (omega arith)
 
-  shows : (ws : List (WriterEvent T)) (rs : List (ReaderEvent T)) → HasHistory first ws rs → Shows ws 0 rs
+  shows : (ws : List (WriterEvent T)) (rs : List (ReaderEvent T)) → HasValueHistory first ws rs → Shows ws 0 rs
   shows ws rs h =
-      subst (λ (x : List (WriterEvent T) × List (ReaderEvent T)). Shows x.0 0 x.1) (λ i. (h.of_one i, h.of_two i)) (in_order [] (start first) h.order 0 h.is_legal refl refl (omega arith))
+      subst (λ (x : List (WriterEvent T) × List (ReaderEvent T)). Shows x.0 0 x.1) (λ i. (h.of_one i, h.of_two i)) (in_order [] (start_value first) h.order 0 h.is_legal refl refl (omega arith))
 
   behind : (ws : List (WriterEvent T)) (xs ys : List (ReaderEvent T)) (low : ℕ) → Shows ws low (xs ++ ys) → (later : ℕ) × (low ≤ later) × Shows ws later ys
   unfolding Shows
@@ -71,7 +71,7 @@ module _ {T : Type 0} (first : T) where
   met_last c d (suc (suc (suc more))) x = refl
 
   -- the load that follows a meeting, behind which the writer only met
-  pub newest_shown : (ws : List (WriterEvent T)) (c d n : ℕ) (x : T) (readers rest : List (ReaderEvent T)) → HasHistory first ((ws ++ writes.Learn c ∷ []) ++ writes.Learn d ∷ []) ((readers ++ reads.Learn (length ws) ∷ []) ++ Load n x ∷ rest)
+  pub newest_shown : (ws : List (WriterEvent T)) (c d n : ℕ) (x : T) (readers rest : List (ReaderEvent T)) → HasValueHistory first ((ws ++ writes.Learn c ∷ []) ++ writes.Learn d ∷ []) ((readers ++ reads.Learn (length ws) ∷ []) ++ Load n x ∷ rest)
       → x ≡ last_of first (ws ++ writes.Learn c ∷ [])
   unfolding Shows
   newest_shown ws c d n x readers rest h =
@@ -104,7 +104,7 @@ last_set c s ws = last_met c (ws ++ Store s ∷ []) ∙ last_of-append opening o
 
 -- with both ends in one hand a call that isn't shut uses the last setting made
 pub used_exact : (shared : Kept) (s t : Sets) (p q r : Plays) → IsInStep shared s p → (is_valid p.size p.setting ≡ true → (n : ℕ) × (q.events ≡ p.events ++ Load n q.setting ∷ [])) → (is_valid p.size p.setting ≡ false → q ≡ p)
-    → t.events ≡ s.events ++ writes.Learn (length q.events) ∷ [] → r.events ≡ q.events ++ reads.Learn (length s.events) ∷ [] → r.setting ≡ q.setting → HasHistory opening t.events r.events
+    → t.events ≡ s.events ++ writes.Learn (length q.events) ∷ [] → r.events ≡ q.events ++ reads.Learn (length s.events) ∷ [] → r.setting ≡ q.setting → HasValueHistory opening t.events r.events
     → r.setting ≡ (if is_valid (length shared.frames) p.setting then last_of opening s.events else p.setting)
 used_exact shared s t p q r step load shut to from same h =
     same ∙ go (is_valid p.size p.setting) refl ∙ ap (λ (n : ℕ). if is_valid n p.setting then last_of opening s.events else p.setting) step.player.1
@@ -121,7 +121,7 @@ used_exact shared s t p q r step load shut to from same h =
         from ∙ ap (λ (es : List (ReaderEvent Setting)). es ++ reads.Learn (length s.events) ∷ []) seen.1
         ∙ append_assoc p.events (Load seen.0 q.setting ∷ []) (reads.Learn (length s.events) ∷ [])
         ∙ ap (λ (es : List (ReaderEvent Setting)). es ++ Load seen.0 q.setting ∷ reads.Learn (length s.events) ∷ []) step.readers_are in
-        let history = subst (λ (x : List (WriterEvent Setting) × List (ReaderEvent Setting)). HasHistory opening x.0 x.1) (λ i. (ws i, rs i)) h in
+        let history = subst (λ (x : List (WriterEvent Setting) × List (ReaderEvent Setting)). HasValueHistory opening x.0 x.1) (λ i. (ws i, rs i)) h in
         newest_shown opening writers (length readers) (length q.events) seen.0 q.setting readers (reads.Learn (length s.events) ∷ []) history
         ∙ ap (last_of opening) (sym step.writers_are)
         ∙ sym (ap (λ (b : Bool). if b then last_of opening s.events else p.setting) e)

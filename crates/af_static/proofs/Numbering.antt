@@ -7,7 +7,7 @@ use Rattle.af_model.specs.declared.newest.ReaderEvent.{ReaderEvent}
 use Rattle.af_model.specs.declared.newest.ReaderEvent.TheVariants.{Load}
 use Rattle.af_model.specs.declared.newest.ReaderEvent.TheVariants as reads
 use Rattle.af_model.specs.Order.{Event, one, two, ones, twos, Legal}
-use Rattle.af_model.specs.NewestValue.{CellPoint, start, legal, next, HasHistory}
+use Rattle.af_model.specs.NewestValue.{CellPoint, start_value, legal_value, next_value, HasValueHistory}
 use Rattle.af_latest.specs.Laws.{stored_by, stores, NeverOlder}
 use Rattle.af_static.specs.declared.setting.Setting.{Setting}
 use Rattle.af_static.specs.Loops.{opening}
@@ -42,13 +42,13 @@ Shown [] = Unit {0}
 Shown (Load n s ∷ rs) = (s.number ≡ n) × Shown rs
 Shown (reads.Learn c ∷ rs) = Shown rs
 
-shown : (p : CellPoint Setting) (es : List (Event (WriterEvent Setting) (ReaderEvent Setting))) → Legal legal next p es → p.value.number ≡ p.number → AreNumbered p.number (ones es) → Shown (twos es)
+shown : (p : CellPoint Setting) (es : List (Event (WriterEvent Setting) (ReaderEvent Setting))) → Legal legal_value next_value p es → p.value.number ≡ p.number → AreNumbered p.number (ones es) → Shown (twos es)
 unfolding Shown
 shown p [] l is r = tt
-shown p (one (Store x) ∷ es) l is r = shown (next p (one (Store x))) es l.1 r.0 r.1
-shown p (one (writes.Learn c) ∷ es) l is r = shown (next p (one (writes.Learn c))) es l.1 is r
-shown p (two (Load n x) ∷ es) l is r = (ap (λ (s : Setting). s.number) l.0.1 ∙ is ∙ sym l.0.0, shown (next p (two (Load n x))) es l.1 is r)
-shown p (two (reads.Learn c) ∷ es) l is r = shown (next p (two (reads.Learn c))) es l.1 is r
+shown p (one (Store x) ∷ es) l is r = shown (next_value p (one (Store x))) es l.1 r.0 r.1
+shown p (one (writes.Learn c) ∷ es) l is r = shown (next_value p (one (writes.Learn c))) es l.1 is r
+shown p (two (Load n x) ∷ es) l is r = (ap (λ (s : Setting). s.number) l.0.1 ∙ is ∙ sym l.0.0, shown (next_value p (two (Load n x))) es l.1 is r)
+shown p (two (reads.Learn c) ∷ es) l is r = shown (next_value p (two (reads.Learn c))) es l.1 is r
 
 both : (ws : List (WriterEvent Setting)) (low : ℕ) (rs : List (ReaderEvent Setting)) → Shown rs → NeverOlder ws low rs → NumbersNeverFall ws low rs
 unfolding Shown
@@ -60,6 +60,6 @@ both ws low (Load n x ∷ rs) s o =
 both ws low (reads.Learn c ∷ rs) s o = both ws (max low (stored_by ws c)) rs s o
 
 -- in a history of settings that are numbered no call uses an older one than it must
-pub numbers_never_fall : (ws : List (WriterEvent Setting)) (rs : List (ReaderEvent Setting)) → AreNumbered 0 ws → HasHistory opening ws rs → NeverOlder ws 0 rs → NumbersNeverFall ws 0 rs
+pub numbers_never_fall : (ws : List (WriterEvent Setting)) (rs : List (ReaderEvent Setting)) → AreNumbered 0 ws → HasValueHistory opening ws rs → NeverOlder ws 0 rs → NumbersNeverFall ws 0 rs
 numbers_never_fall ws rs r h older =
-    both ws 0 rs (subst Shown h.of_two (shown (start opening) h.order h.is_legal refl (subst (AreNumbered 0) (sym h.of_one) r))) older
+    both ws 0 rs (subst Shown h.of_two (shown (start_value opening) h.order h.is_legal refl (subst (AreNumbered 0) (sym h.of_one) r))) older

@@ -10,7 +10,7 @@ use Rattle.af_base.specs.declared.frame.Frame.{Frame}
 use Rattle.af_base.specs.Gain.{gain_used, left_half, right_half}
 use Rattle.af_base.specs.Mix.{frame_at, silence, mixed_frame, mixed_sample, right_sample}
 use Rattle.af_static.specs.declared.head.Head.{Head}
-use Rattle.af_static.specs.Loops.{IsRow, jumped, moved, spent, frames_of, after, take_at, output}
+use Rattle.af_static.specs.Loops.{IsRow, jumped, moved, spent, loop_frames, head_moved, take_at, output}
 use Rattle.af_static.specs.Played.{IsPlayedTo, IsSilentFrom, IsDone}
 
 -- ## Steps
@@ -18,11 +18,11 @@ use Rattle.af_static.specs.Played.{IsPlayedTo, IsSilentFrom, IsDone}
 abbrev head_at : Head → ℕ → Head
 head_at h position = record { position = position; start = h.start; end = h.end; left = h.left }
 
-pub first_step : (frames : List Frame) (h : Head) (steps : ℕ) → h.position < length frames → frames_of frames h (suc steps) ≡ frame_at frames h.position ∷ frames_of frames (moved h 1) steps
-first_step frames h steps ahead = ap (λ (b : Bool). if b then frame_at frames h.position ∷ frames_of frames (if b then moved h 1 else h) steps else []) (lt-ltb h.position (length frames) ahead)
+pub first_step : (frames : List Frame) (h : Head) (steps : ℕ) → h.position < length frames → loop_frames frames h (suc steps) ≡ frame_at frames h.position ∷ loop_frames frames (moved h 1) steps
+first_step frames h steps ahead = ap (λ (b : Bool). if b then frame_at frames h.position ∷ loop_frames frames (if b then moved h 1 else h) steps else []) (lt-ltb h.position (length frames) ahead)
 
-pub first_moves : (n : ℕ) (h : Head) (steps : ℕ) → h.position < n → after n h (suc steps) ≡ after n (moved h 1) steps
-first_moves n h steps ahead = ap (λ (b : Bool). after n (if b then moved h 1 else h) steps) (lt-ltb h.position n ahead)
+pub first_moves : (n : ℕ) (h : Head) (steps : ℕ) → h.position < n → head_moved n h (suc steps) ≡ head_moved n (moved h 1) steps
+first_moves n h steps ahead = ap (λ (b : Bool). head_moved n (if b then moved h 1 else h) steps) (lt-ltb h.position n ahead)
 
 no_jump : (left place stop : ℕ) → (0 < left → place < stop) → (not (left == 0) && place == stop) ≡ false
 no_jump left place stop before = grind (arith, nat_tests)
@@ -47,7 +47,7 @@ same_end h more =
 first_of_row : (frames : List Frame) (j run : ℕ) → j < length frames → take (suc run) (drop j frames) ≡ frame_at frames j ∷ take run (drop (suc j) frames)
 first_of_row frames j run inside = ap (take (suc run)) (drop-cons frames j silence inside)
 
-row_frames : (frames : List Frame) (run steps rest : ℕ) (h : Head) → 0 < run → steps ≡ run + rest → IsRow (length frames) h run → frames_of frames h steps ≡ take run (drop h.position frames) ++ frames_of frames (moved h run) rest
+row_frames : (frames : List Frame) (run steps rest : ℕ) (h : Head) → 0 < run → steps ≡ run + rest → IsRow (length frames) h run → loop_frames frames h steps ≡ take run (drop h.position frames) ++ loop_frames frames (moved h run) rest
 row_frames frames zero steps rest h some is row = absurd (omega arith)
 row_frames frames (suc run) zero rest h some is row = absurd (omega arith)
 row_frames frames (suc zero) (suc steps) rest h some is row =
@@ -55,46 +55,46 @@ row_frames frames (suc zero) (suc steps) rest h some is row =
     let ahead : h.position < length frames = omega arith in
     let same : steps ≡ rest = omega arith in
     first_step frames h steps ahead
-    ∙ ap (λ (s : ℕ). frame_at frames h.position ∷ frames_of frames (moved h 1) s) same
-    ∙ ap (λ (fs : List Frame). fs ++ frames_of frames (moved h 1) rest) (sym (first_of_row frames h.position 0 ahead))
+    ∙ ap (λ (s : ℕ). frame_at frames h.position ∷ loop_frames frames (moved h 1) s) same
+    ∙ ap (λ (fs : List Frame). fs ++ loop_frames frames (moved h 1) rest) (sym (first_of_row frames h.position 0 ahead))
 row_frames frames (suc (suc run)) (suc steps) rest h some is row =
     let inside = row.inside in
     let ahead : h.position < length frames = omega arith in
     let more : steps ≡ suc run + rest = omega arith in
     let place : h.position + 1 ≡ suc h.position = omega arith in
     first_step frames h steps ahead
-    ∙ ap (λ (g : Head). frame_at frames h.position ∷ frames_of frames g steps) (passes (length frames) h run row)
+    ∙ ap (λ (g : Head). frame_at frames h.position ∷ loop_frames frames g steps) (passes (length frames) h run row)
     ∙ ap (λ (fs : List Frame). frame_at frames h.position ∷ fs) (row_frames frames (suc run) steps rest (head_at h (h.position + 1)) (omega arith) more (later_row (length frames) h run row))
-    ∙ ap (λ (g : Head). frame_at frames h.position ∷ (take (suc run) (drop (h.position + 1) frames) ++ frames_of frames g rest)) (same_end h run)
-    ∙ ap (λ (j : ℕ). frame_at frames h.position ∷ (take (suc run) (drop j frames) ++ frames_of frames (moved h (suc (suc run))) rest)) place
-    ∙ ap (λ (fs : List Frame). fs ++ frames_of frames (moved h (suc (suc run))) rest) (sym (first_of_row frames h.position (suc run) ahead))
+    ∙ ap (λ (g : Head). frame_at frames h.position ∷ (take (suc run) (drop (h.position + 1) frames) ++ loop_frames frames g rest)) (same_end h run)
+    ∙ ap (λ (j : ℕ). frame_at frames h.position ∷ (take (suc run) (drop j frames) ++ loop_frames frames (moved h (suc (suc run))) rest)) place
+    ∙ ap (λ (fs : List Frame). fs ++ loop_frames frames (moved h (suc (suc run))) rest) (sym (first_of_row frames h.position (suc run) ahead))
 
-row_moves : (n run steps rest : ℕ) (h : Head) → 0 < run → steps ≡ run + rest → IsRow n h run → after n h steps ≡ after n (moved h run) rest
+row_moves : (n run steps rest : ℕ) (h : Head) → 0 < run → steps ≡ run + rest → IsRow n h run → head_moved n h steps ≡ head_moved n (moved h run) rest
 row_moves n zero steps rest h some is row = absurd (omega arith)
 row_moves n (suc run) zero rest h some is row = absurd (omega arith)
 row_moves n (suc zero) (suc steps) rest h some is row =
     let inside = row.inside in
     let ahead : h.position < n = omega arith in
     let same : steps ≡ rest = omega arith in
-    first_moves n h steps ahead ∙ ap (λ (s : ℕ). after n (moved h 1) s) same
+    first_moves n h steps ahead ∙ ap (λ (s : ℕ). head_moved n (moved h 1) s) same
 row_moves n (suc (suc run)) (suc steps) rest h some is row =
     let inside = row.inside in
     let ahead : h.position < n = omega arith in
     let more : steps ≡ suc run + rest = omega arith in
     first_moves n h steps ahead
-    ∙ ap (λ (g : Head). after n g steps) (passes n h run row)
+    ∙ ap (λ (g : Head). head_moved n g steps) (passes n h run row)
     ∙ row_moves n (suc run) steps rest (head_at h (h.position + 1)) (omega arith) more (later_row n h run row)
-    ∙ ap (λ (g : Head). after n g rest) (same_end h run)
+    ∙ ap (λ (g : Head). head_moved n g rest) (same_end h run)
 
 -- ## The end of the buffer
 
-pub none_left : (frames : List Frame) (h : Head) (steps : ℕ) → length frames ≤ h.position → frames_of frames h steps ≡ []
+pub none_left : (frames : List Frame) (h : Head) (steps : ℕ) → length frames ≤ h.position → loop_frames frames h steps ≡ []
 none_left frames h zero past = refl
-none_left frames h (suc steps) past = ap (λ (b : Bool). if b then frame_at frames h.position ∷ frames_of frames (if b then moved h 1 else h) steps else []) (le-ltb h.position (length frames) past)
+none_left frames h (suc steps) past = ap (λ (b : Bool). if b then frame_at frames h.position ∷ loop_frames frames (if b then moved h 1 else h) steps else []) (le-ltb h.position (length frames) past)
 
-pub stays : (n : ℕ) (h : Head) (steps : ℕ) → n ≤ h.position → after n h steps ≡ h
+pub stays : (n : ℕ) (h : Head) (steps : ℕ) → n ≤ h.position → head_moved n h steps ≡ h
 stays n h zero past = refl
-stays n h (suc steps) past = ap (λ (b : Bool). after n (if b then moved h 1 else h) steps) (le-ltb h.position n past) ∙ stays n h steps past
+stays n h (suc steps) past = ap (λ (b : Bool). head_moved n (if b then moved h 1 else h) steps) (le-ltb h.position n past) ∙ stays n h steps past
 
 -- ## What is heard
 
@@ -130,9 +130,9 @@ pub begins : (frames : List Frame) (gains : ℕ × ℕ) (first : Head) (places :
 begins frames gains first places out = record {
   inside = omega arith;
   mixed = λ k below. absurd (omega arith);
-  to_come = λ k. let here : 0 + k ≡ k = omega arith in ap (frame_at (frames_of frames first places)) here ∙ ap (λ (s : ℕ). frame_at (frames_of frames first s) k) (sym (sub_nothing places));
-  count = (let same = ap (λ (s : ℕ). length (frames_of frames first s)) (sub_nothing places) in omega arith);
-  head = ap (after (length frames) first) (sym (sub_nothing places));
+  to_come = λ k. let here : 0 + k ≡ k = omega arith in ap (frame_at (loop_frames frames first places)) here ∙ ap (λ (s : ℕ). frame_at (loop_frames frames first s) k) (sym (sub_nothing places));
+  count = (let same = ap (λ (s : ℕ). length (loop_frames frames first s)) (sub_nothing places) in omega arith);
+  head = ap (head_moved (length frames) first) (sym (sub_nothing places));
 }
 
 -- a row that was heard at its place
@@ -157,10 +157,10 @@ row_placed at run gains row old heard behind inside is =
 row_played : (at run : ℕ) (frames : List Frame) (gains : ℕ × ℕ) (first h : Head) (places : ℕ) (old new : List Frame) → 0 < run → at + run ≤ places → IsRow (length frames) h run → IsRowAt at run gains (take run (drop h.position frames)) old new
     → IsPlayedTo at frames gains first places h old → IsPlayedTo (at + run) frames gains first places (moved h run) new
 row_played at run frames gains first h places old new some fits row heard was =
-    let all : List Frame = frames_of frames first places in
+    let all : List Frame = loop_frames frames first places in
     let next : List Frame = take run (drop h.position frames) in
-    let rest : List Frame = frames_of frames (moved h run) (places - (at + run)) in
-    let split : frames_of frames h (places - at) ≡ next ++ rest = row_frames frames run (places - at) (places - (at + run)) h some (omega arith) row in
+    let rest : List Frame = loop_frames frames (moved h run) (places - (at + run)) in
+    let split : loop_frames frames h (places - at) ≡ next ++ rest = row_frames frames run (places - at) (places - (at + run)) h some (omega arith) row in
     let inside = row.inside in
     let room : run ≤ length (drop h.position frames) = omega (arith, length-drop h.position frames) in
     let size : length next ≡ run = length-take-le run (drop h.position frames) room in
@@ -213,9 +213,9 @@ all_silent gains old new places same silent =
     ∙ ap (heard_of gains) (sym (get_or_past [] k silence (omega arith)))
     ∙ sym (heard_at gains [] k))
 
-done_by : (at : ℕ) (frames : List Frame) (gains : ℕ × ℕ) (first h : Head) (places : ℕ) (old new : List Frame) → frames_of frames h (places - at) ≡ [] → after (length frames) h (places - at) ≡ h → (at < places → length frames ≤ h.position) → length new ≡ places → IsSilentFrom at old new → IsPlayedTo at frames gains first places h old → IsDone at frames gains first h places new
+done_by : (at : ℕ) (frames : List Frame) (gains : ℕ × ℕ) (first h : Head) (places : ℕ) (old new : List Frame) → loop_frames frames h (places - at) ≡ [] → head_moved (length frames) h (places - at) ≡ h → (at < places → length frames ≤ h.position) → length new ≡ places → IsSilentFrom at old new → IsPlayedTo at frames gains first places h old → IsDone at frames gains first h places new
 done_by at frames gains first h places old new none stay ended same silent was =
-    let all : List Frame = frames_of frames first places in
+    let all : List Frame = loop_frames frames first places in
     let past : (j : ℕ) → frame_at all (at + j) ≡ silence = λ j. was.to_come j ∙ ap (λ (fs : List Frame). frame_at fs j) none ∙ get_or_past [] j silence (omega arith) in
     record {
       out = fill_by_all (mixed_frame (take_at gains all ∷ [])) new places silence same
@@ -239,5 +239,5 @@ done at frames gains first h places old new ended same silent was =
       | inl less ↦ done_by at frames gains first h places old new (none_left frames h (places - at) (ended less)) (stays (length frames) h (places - at) (ended less)) ended same silent was
       | inr full ↦
           let nothing : places - at ≡ 0 = omega arith in
-          done_by at frames gains first h places old new (ap (frames_of frames h) nothing) (ap (after (length frames) h) nothing) ended same silent was
+          done_by at frames gains first h places old new (ap (loop_frames frames h) nothing) (ap (head_moved (length frames) h) nothing) ended same silent was
     ]

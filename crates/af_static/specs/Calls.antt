@@ -8,7 +8,7 @@ use Rattle.af_static.specs.declared.setting.Setting.{Setting}
 use Rattle.af_static.specs.declared.head.Head.{Head}
 use Rattle.af_static.specs.Ends.{Plays}
 use Rattle.af_static.specs.InStep.{HandState}
-use Rattle.af_static.specs.Loops.{at_first, head_after, heard, is_valid, opening, output, taken}
+use Rattle.af_static.specs.Loops.{at_first, head_after, head_heard, is_valid, opening, output, taken}
 
 -- a call: the setting that it finds, and the gains and the number of places that it is given
 pub record Call : Type 0 where
@@ -35,35 +35,35 @@ loads_in n s call = if is_valid n s.used then call.setting ∷ [] else []
 
 -- the head from which a call plays
 abbrev pub head_in : ℕ → Standing → Call → Head
-head_in n s call = heard n s.used s.head (used_in n s call)
+head_in n s call = head_heard n s.used s.head (used_in n s call)
 
 -- the frames that a call takes
-abbrev pub taken_in : List Frame → Standing → Call → List Frame
-taken_in frames s call = taken frames (used_in (length frames) s call) (head_in (length frames) s call) call.places
+abbrev pub frames_taken_by : List Frame → Standing → Call → List Frame
+frames_taken_by frames s call = taken frames (used_in (length frames) s call) (head_in (length frames) s call) call.places
 
 -- what the call after this one goes on from
-abbrev pub after_call : ℕ → Standing → Call → Standing
-after_call n s call = record { used = used_in n s call; head = head_after n (used_in n s call) (head_in n s call) call.places }
+abbrev pub standing_after : ℕ → Standing → Call → Standing
+standing_after n s call = record { used = used_in n s call; head = head_after n (used_in n s call) (head_in n s call) call.places }
 
 -- the outputs of calls, one after the other
 abbrev pub outputs_of : List Frame → Standing → List Call → List Frame
 outputs_of frames s [] = []
-outputs_of frames s (call ∷ calls) = output call.gains (taken_in frames s call) call.places ++ outputs_of frames (after_call (length frames) s call) calls
+outputs_of frames s (call ∷ calls) = output call.gains (frames_taken_by frames s call) call.places ++ outputs_of frames (standing_after (length frames) s call) calls
 
 -- how many frames some calls take
 abbrev pub filled_of : List Frame → Standing → List Call → ℕ
 filled_of frames s [] = 0
-filled_of frames s (call ∷ calls) = length (taken_in frames s call) + filled_of frames (after_call (length frames) s call) calls
+filled_of frames s (call ∷ calls) = length (frames_taken_by frames s call) + filled_of frames (standing_after (length frames) s call) calls
 
 -- the settings that some calls load
 abbrev pub loads_of : ℕ → Standing → List Call → List Setting
 loads_of n s [] = []
-loads_of n s (call ∷ calls) = loads_in n s call ++ loads_of n (after_call n s call) calls
+loads_of n s (call ∷ calls) = loads_in n s call ++ loads_of n (standing_after n s call) calls
 
 -- what a call after all of these goes on from
 abbrev pub after_calls : ℕ → Standing → List Call → Standing
 after_calls n s [] = s
-after_calls n s (call ∷ calls) = after_calls n (after_call n s call) calls
+after_calls n s (call ∷ calls) = after_calls n (standing_after n s call) calls
 
 -- calls of a buffer's player, one after the other: their outputs, how many frames they took, and what the next one goes on from
 pub record CallsPlay (frames : List Frame) (first : Standing) (calls : List Call) (played : List Frame) (count : ℕ) (now : Standing) : Type 0 where

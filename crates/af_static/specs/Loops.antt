@@ -28,8 +28,8 @@ adopted s h = if s.count == 0
     else record { position = (if nat_le s.start h.position && nat_lt h.position s.end then h.position else s.start); start = s.start; end = s.end; left = s.count }
 
 -- the head when a call has seen a setting, by the one that the last call saw: only a new one that is valid changes it
-abbrev pub heard : ℕ → Setting → Head → Setting → Head
-heard n last h s = if is_valid n s && not (s.number == last.number) then adopted s h else h
+abbrev pub head_heard : ℕ → Setting → Head → Setting → Head
+head_heard n last h s = if is_valid n s && not (s.number == last.number) then adopted s h else h
 
 -- one jump is spent, unless the jumps have no end: this is what the count 4294967295 means
 abbrev pub spent : ℕ → ℕ
@@ -52,22 +52,22 @@ abbrev pub step : ℕ → Head → Head
 step n h = if nat_lt h.position n then moved h 1 else h
 
 -- the frames of so many steps: one at each position, and none at the end of the buffer
-abbrev pub frames_of : List Frame → Head → ℕ → List Frame
-frames_of frames h zero = []
-frames_of frames h (suc steps) = if nat_lt h.position (length frames) then frame_at frames h.position ∷ frames_of frames (step (length frames) h) steps else []
+abbrev pub loop_frames : List Frame → Head → ℕ → List Frame
+loop_frames frames h zero = []
+loop_frames frames h (suc steps) = if nat_lt h.position (length frames) then frame_at frames h.position ∷ loop_frames frames (step (length frames) h) steps else []
 
 -- the head after so many steps
-abbrev pub after : ℕ → Head → ℕ → Head
-after n h zero = h
-after n h (suc steps) = after n (step n h) steps
+abbrev pub head_moved : ℕ → Head → ℕ → Head
+head_moved n h zero = h
+head_moved n h (suc steps) = head_moved n (step n h) steps
 
 -- what a call of so many places takes under a setting: nothing if it is invalid
 abbrev pub taken : List Frame → Setting → Head → ℕ → List Frame
-taken frames s h places = if is_valid (length frames) s then frames_of frames h places else []
+taken frames s h places = if is_valid (length frames) s then loop_frames frames h places else []
 
 -- the head that a call leaves
 abbrev pub head_after : ℕ → Setting → Head → ℕ → Head
-head_after n s h places = if is_valid n s then after n h places else h
+head_after n s h places = if is_valid n s then head_moved n h places else h
 
 -- frames as one take at some gains and at scale 4096
 abbrev pub take_at : ℕ × ℕ → List Frame → Take

@@ -2,14 +2,14 @@
 ghost use Rattle.std.specs.Prelude.{◌≡◌, ℕ, ◌+◌, ◌<◌, ◌≤◌, ◌^◌, true, false, List, [], ◌∷◌, ◌++◌, length, All, IfOk};
 ghost use Rattle.af_base.specs.declared.frame.Frame.{Frame};
 ghost use Rattle.af_gain.specs.Sums.{no_sum};
-ghost use Rattle.af_model.specs.NewestValue.{HasHistory};
+ghost use Rattle.af_model.specs.NewestValue.{HasValueHistory};
 ghost use Rattle.af_model.specs.declared.newest.WriterEvent.TheVariants as writes;
 ghost use Rattle.af_model.specs.declared.newest.ReaderEvent.TheVariants as reads;
 ghost use Rattle.af_latest.specs.Ends.{last_number, load_steps};
 ghost use Rattle.af_latest.specs.Laws.{stores};
 ghost use Rattle.af_static.specs.Calls.{Call, HasPlayed};
 ghost use Rattle.af_static.specs.Ends.{IsPlayerOf};
-ghost use Rattle.af_static.specs.Loops.{at_first, head_after, heard, is_valid, opening, output, shut_by, taken};
+ghost use Rattle.af_static.specs.Loops.{at_first, head_after, head_heard, is_valid, opening, output, shut_by, taken};
 ghost use Rattle.af_static.specs.Numbers.{NumbersNeverFall};
 
 use crate::head::{Head, first_head};
@@ -159,7 +159,7 @@ impl Player {
         ensures together { (self.new.cell ≡ self.old.cell) × (self.new.size ≡ self.old.size) }
         ensures load { is_valid self.old.size self.old.setting ≡ true → (n : ℕ) × (self.new.events ≡ self.old.events ++ reads.Load n self.new.setting ∷ []) × (steps.new ≡ steps.old + load_steps (last_number 0 self.old.events) n) }
         ensures shut { is_valid self.old.size self.old.setting ≡ false → (self.new ≡ self.old) × (steps.new ≡ steps.old) }
-        ensures head { self.new.head ≡ heard self.old.size self.old.setting self.old.head self.new.setting }
+        ensures head { self.new.head ≡ head_heard self.old.size self.old.setting self.old.head self.new.setting }
     {
         if self.setting.is_valid(self.size) {
             let setting = self.reader.load(&shared.cell, steps);
@@ -206,9 +206,9 @@ impl Player {
         ensures together { IsPlayerOf shared.now self.new }
         ensures load { is_valid self.old.size self.old.setting ≡ true → (n : ℕ) × (self.new.events ≡ self.old.events ++ reads.Load n self.new.setting ∷ []) × (steps.new ≡ steps.old + load_steps (last_number 0 self.old.events) n) }
         ensures shut { is_valid self.old.size self.old.setting ≡ false → (self.new ≡ self.old) × (steps.new ≡ steps.old) }
-        ensures out { let head = heard self.old.size self.old.setting self.old.head self.new.setting in out.new ≡ output gains (taken shared.now.frames self.new.setting head (length out.old)) (length out.old) }
-        ensures head { let head = heard self.old.size self.old.setting self.old.head self.new.setting in self.new.head ≡ head_after self.old.size self.new.setting head (length out.old) }
-        ensures answer { let head = heard self.old.size self.old.setting self.old.head self.new.setting in result ≡ (record { number = self.new.setting.number; filled = length (taken shared.now.frames self.new.setting head (length out.old)); shut = shut_by self.old.size self.new.setting }) }
+        ensures out { let head = head_heard self.old.size self.old.setting self.old.head self.new.setting in out.new ≡ output gains (taken shared.now.frames self.new.setting head (length out.old)) (length out.old) }
+        ensures head { let head = head_heard self.old.size self.old.setting self.old.head self.new.setting in self.new.head ≡ head_after self.old.size self.new.setting head (length out.old) }
+        ensures answer { let head = head_heard self.old.size self.old.setting self.old.head self.new.setting in result ≡ (record { number = self.new.setting.number; filled = length (taken shared.now.frames self.new.setting head (length out.old)); shut = shut_by self.old.size self.new.setting }) }
         ensures short { result.filled < length out.old → is_valid self.old.size self.new.setting ≡ true → self.new.head.position ≡ self.old.size }
         ensures played { (calls : List Call) (played : List Frame) (count : ℕ) → HasPlayed shared.now.frames calls played count self.old
             → let call : Call = record { setting = self.new.setting; gains = gains; places = length out.old } in HasPlayed shared.now.frames (calls ++ call ∷ []) (played ++ out.new) (count + result.filled) self.new }
@@ -235,8 +235,8 @@ pub fn meet_static<L: Ledger>(
     requires together { (setter.old.cell ≡ shared.now.cell) × (player.old.cell ≡ shared.now.cell) }
     ensures setter { (setter.new.cell ≡ setter.old.cell) × (setter.new.events ≡ setter.old.events ++ writes.Learn (length player.old.events) ∷ []) }
     ensures player { player.new ≡ (record player.old { events = player.old.events ++ reads.Learn (length setter.old.events) ∷ [] }) }
-    ensures before { HasHistory opening setter.old.events player.old.events }
-    ensures history { HasHistory opening setter.new.events player.new.events }
+    ensures before { HasValueHistory opening setter.old.events player.old.events }
+    ensures history { HasValueHistory opening setter.new.events player.new.events }
     ensures never_older { NumbersNeverFall setter.new.events 0 player.new.events }
     ensures played { (frames : List Frame) (calls : List Call) (played : List Frame) (count : ℕ) → HasPlayed frames calls played count player.old → HasPlayed frames calls played count player.new }
     ensures steps { steps.new ≡ steps.old + 5 }

@@ -1,5 +1,5 @@
 ghost use Rattle.std.specs.Prelude.{◌≡◌, ◌+◌, ◌<◌, ◌≤◌, true, nat_le, nat_lt, ◌&&◌, if◌then◌else◌};
-ghost use Rattle.af_static.specs.Loops.{adopted, at_first, heard, is_valid, jumped, longest_row, moved, spent, IsRow, IsSound};
+ghost use Rattle.af_static.specs.Loops.{adopted, at_first, head_heard, is_valid, jumped, longest_row, moved, spent, IsRow, IsSound};
 
 use crate::setting::Setting;
 
@@ -70,7 +70,7 @@ impl Head {
     /// The head when a call has seen a setting: only a new one that is valid changes it.
     pub(crate) fn heard(self, last: Setting, setting: Setting, size: usize) -> Head
         requires { IsSound size self }
-        ensures head { result ≡ heard size last self setting }
+        ensures head { result ≡ head_heard size last self setting }
         ensures sound { IsSound size result }
     {
         if setting.is_valid(size) && setting.number != last.number {

@@ -5,7 +5,7 @@ ghost use Rattle.af_latest.specs.Laws.{last_of, stores};
 ghost use Rattle.af_static.specs.Calls.{Call, CallsPlay, Standing, standing_in};
 ghost use Rattle.af_static.specs.Ends.{IsPlayerOf};
 ghost use Rattle.af_static.specs.InStep.{IsInStep};
-ghost use Rattle.af_static.specs.Loops.{at_first, head_after, heard, is_valid, opening, output, shut_by, taken};
+ghost use Rattle.af_static.specs.Loops.{at_first, head_after, head_heard, is_valid, opening, output, shut_by, taken};
 
 use crate::ends::{Player, Setter, Shared, Unrolled, make, meet_static};
 use af_base::{Frame, Gains, Memory, Steps};
@@ -82,9 +82,9 @@ fn play_met<L: Ledger>(
     ensures step { IsInStep shared.now setter.new player.new }
     ensures newest { (last_of opening setter.new.events ≡ last_of opening setter.old.events) × (stores setter.new.events ≡ stores setter.old.events) }
     ensures used { player.new.setting ≡ (if is_valid (length shared.now.frames) player.old.setting then last_of opening setter.old.events else player.old.setting) }
-    ensures out { let head = heard (length shared.now.frames) player.old.setting player.old.head player.new.setting in out.new ≡ output gains (taken shared.now.frames player.new.setting head (length out.old)) (length out.old) }
-    ensures head { let head = heard (length shared.now.frames) player.old.setting player.old.head player.new.setting in player.new.head ≡ head_after (length shared.now.frames) player.new.setting head (length out.old) }
-    ensures answer { let head = heard (length shared.now.frames) player.old.setting player.old.head player.new.setting in result ≡ (record { number = player.new.setting.number; filled = length (taken shared.now.frames player.new.setting head (length out.old)); shut = shut_by (length shared.now.frames) player.new.setting }) }
+    ensures out { let head = head_heard (length shared.now.frames) player.old.setting player.old.head player.new.setting in out.new ≡ output gains (taken shared.now.frames player.new.setting head (length out.old)) (length out.old) }
+    ensures head { let head = head_heard (length shared.now.frames) player.old.setting player.old.head player.new.setting in player.new.head ≡ head_after (length shared.now.frames) player.new.setting head (length out.old) }
+    ensures answer { let head = head_heard (length shared.now.frames) player.old.setting player.old.head player.new.setting in result ≡ (record { number = player.new.setting.number; filled = length (taken shared.now.frames player.new.setting head (length out.old)); shut = shut_by (length shared.now.frames) player.new.setting }) }
 {
     let mut steps = Steps::<L>::start(blank);
     let unrolled = player.mix_next(shared, gains, out, &mut steps);
@@ -128,9 +128,9 @@ impl InHand {
     pub fn play(&mut self, gains: Gains, out: &mut [Frame]) -> Unrolled
         requires { (1 ≤ length out.old) × (length out.old ≤ 1024) }
         ensures used { self.new.used ≡ (if is_valid (length self.old.frames) self.old.used then self.old.newest else self.old.used) }
-        ensures out { let head = heard (length self.old.frames) self.old.used self.old.head self.new.used in out.new ≡ output gains (taken self.old.frames self.new.used head (length out.old)) (length out.old) }
-        ensures head { let head = heard (length self.old.frames) self.old.used self.old.head self.new.used in self.new.head ≡ head_after (length self.old.frames) self.new.used head (length out.old) }
-        ensures answer { let head = heard (length self.old.frames) self.old.used self.old.head self.new.used in result ≡ (record { number = self.new.used.number; filled = length (taken self.old.frames self.new.used head (length out.old)); shut = shut_by (length self.old.frames) self.new.used }) }
+        ensures out { let head = head_heard (length self.old.frames) self.old.used self.old.head self.new.used in out.new ≡ output gains (taken self.old.frames self.new.used head (length out.old)) (length out.old) }
+        ensures head { let head = head_heard (length self.old.frames) self.old.used self.old.head self.new.used in self.new.head ≡ head_after (length self.old.frames) self.new.used head (length out.old) }
+        ensures answer { let head = head_heard (length self.old.frames) self.old.used self.old.head self.new.used in result ≡ (record { number = self.new.used.number; filled = length (taken self.old.frames self.new.used head (length out.old)); shut = shut_by (length self.old.frames) self.new.used }) }
         ensures rest { (self.new.frames ≡ self.old.frames) × (self.new.made ≡ self.old.made) × (self.new.newest ≡ self.old.newest) }
         ensures played { (first : Standing) (calls : List Call) (played : List Frame) (count : ℕ) → CallsPlay self.old.frames first calls played count (standing_in self.old)
             → let call : Call = record { setting = self.old.newest; gains = gains; places = length out.old } in CallsPlay self.old.frames first (calls ++ call ∷ []) (played ++ out.new) (count + result.filled) (standing_in self.new) }

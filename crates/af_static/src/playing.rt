@@ -1,7 +1,7 @@
 //! How the frames of one call are taken and mixed: in rows, each of which the kernel mixes at once.
 ghost use Rattle.std.specs.Prelude.{◌≡◌, ◌+◌, ◌<◌, ◌≤◌, ℕ, true, if◌then◌else◌, [], length};
 ghost use Rattle.af_static.specs.declared.head.Head.{Head};
-ghost use Rattle.af_static.specs.Loops.{after, frames_of, output, IsSound};
+ghost use Rattle.af_static.specs.Loops.{head_moved, loop_frames, output, IsSound};
 ghost use Rattle.af_static.specs.Played.{IsDone, IsPlayedTo, IsSilentFrom};
 
 use crate::head::Head;
@@ -86,9 +86,9 @@ fn play(
 ) -> usize
     requires sound { IsSound (length frames.now) head.old }
     requires sums { length out.old ≤ length sums.old }
-    ensures out { out.new ≡ output gains (frames_of frames.now head.old (length out.old)) (length out.old) }
-    ensures filled { result ≡ length (frames_of frames.now head.old (length out.old)) }
-    ensures head { head.new ≡ after (length frames.now) head.old (length out.old) }
+    ensures out { out.new ≡ output gains (loop_frames frames.now head.old (length out.old)) (length out.old) }
+    ensures filled { result ≡ length (loop_frames frames.now head.old (length out.old)) }
+    ensures head { head.new ≡ head_moved (length frames.now) head.old (length out.old) }
     ensures sound { IsSound (length frames.now) head.new }
     ensures short { result < length out.old → head.new.position ≡ length frames.now }
     ensures most { result ≤ length out.old }
@@ -112,9 +112,9 @@ pub(crate) fn roll(
 ) -> usize
     requires sound { IsSound (length frames.now) head.old }
     requires sums { length out.old ≤ length sums.old }
-    ensures out { out.new ≡ output gains (if valid then frames_of frames.now head.old (length out.old) else []) (length out.old) }
-    ensures filled { result ≡ length (if valid then frames_of frames.now head.old (length out.old) else []) }
-    ensures head { head.new ≡ (if valid then after (length frames.now) head.old (length out.old) else head.old) }
+    ensures out { out.new ≡ output gains (if valid then loop_frames frames.now head.old (length out.old) else []) (length out.old) }
+    ensures filled { result ≡ length (if valid then loop_frames frames.now head.old (length out.old) else []) }
+    ensures head { head.new ≡ (if valid then head_moved (length frames.now) head.old (length out.old) else head.old) }
     ensures sound { IsSound (length frames.now) head.new }
     ensures short { result < length out.old → valid ≡ true → head.new.position ≡ length frames.now }
     ensures most { result ≤ length out.old }

@@ -18,7 +18,7 @@ use Rattle.af_model.specs.Cycles.{is_mixed}
 use Rattle.af_tally.specs.declared.tally.TrackTally.{TrackTally}
 use Rattle.af_tally.specs.Noting.{with_note}
 use Rattle.af_tally.specs.Steps.{AreFew, IsFew, most_note, most_steps}
-use Rattle.af_tally.specs.Summaries.{EntryUsed, Shown, Look, calls_of, with_calls, with_entry, with_written, slot_looks, entry_looks, taken_by_look, taken_in, taken_by_entry, taken_of, dropped_by_look, dropped_in, dropped_by_entry, dropped_of, has_no_poke, is_poke, is_lawful, in_all, mixed_of, discarded_of, queued_of}
+use Rattle.af_tally.specs.Summaries.{EntryUsed, Shown, Look, calls_of, with_calls, with_entry, with_written, slot_looks, entry_looks, taken_by_look, taken_in, taken_by_entry, taken_in_all, dropped_by_look, dropped_in, dropped_by_entry, dropped_of, has_no_poke, is_poke, is_lawful_shown, in_all, mixed_of, discarded_of, queued_of}
 use Rattle.af_tally.specs.Tallies.{Tallied, AddsLooks, Notes, IsWithin, IsTally, untouched, track_at, most_looks, after_looks, shown_of, mixed_by, discarded_by, queued_by}
 
 -- a track's numbers
@@ -84,7 +84,7 @@ one_slot_more entry x k =
 
 -- what a track has after an entry's looks
 entry_adds : (run : Shown) (used : EntryUsed) (i : ℕ) → after_looks i (entry_looks used) (shown_of run i) ≡ shown_of (with_entry run used) i
-entry_adds run used i = same_numbers (taken_of run i + taken_by_entry i used) (dropped_of run i + dropped_by_entry i used) (taken_of (with_entry run used) i) (dropped_of (with_entry run used) i) (is_lawful run i) (is_lawful run i)
+entry_adds run used i = same_numbers (taken_in_all run i + taken_by_entry i used) (dropped_of run i + dropped_by_entry i used) (taken_in_all (with_entry run used) i) (dropped_of (with_entry run used) i) (is_lawful_shown run i) (is_lawful_shown run i)
     (omega (arith, sum_by_push (taken_by_entry i) run.entries used)) (omega (arith, sum_by_push (dropped_by_entry i) run.entries used)) refl
 
 -- one more cycle, if it is a mix
@@ -125,7 +125,7 @@ calls_noted run a b track calls t lt t_is b_is is =
     let long : length (set run.calls track next) ≡ length run.calls = length-set run.calls track next in
     let tracks : b.tracks ≡ set a.tracks track t = ap (λ (x : Tallied). x.tracks) b_is in
     let old : track_at a.tracks track ≡ shown_of run track = is.each track within in
-    let lawful : ((track_at a.tracks track).lawful && has_no_poke calls) ≡ is_lawful (with_calls run track calls) track =
+    let lawful : ((track_at a.tracks track).lawful && has_no_poke calls) ≡ is_lawful_shown (with_calls run track calls) track =
     ap (λ (x : TrackTally). x.lawful && has_no_poke calls) old ∙ sym (list_all-append (λ (call : ClientCall). not (is_poke call)) (calls_of run track) calls)
     ∙ ap has_no_poke (sym (get_or-set_same run.calls track next [] within)) in
     let here : t ≡ shown_of (with_calls run track calls) track = t_is ∙ (λ i. record { taken = (old i).taken; dropped = (old i).dropped; lawful = lawful i }) in
@@ -134,7 +134,7 @@ calls_noted run a b track calls t lt t_is b_is is =
       each = λ i below. ap (λ (ts : List TrackTally). track_at ts i) tracks ∙ elim (cases_eq i track) [
         | inl e ↦ subst (λ (k : ℕ). track_at (set a.tracks track t) k ≡ shown_of (with_calls run track calls) k) (sym e) (get_or-set_same a.tracks track t untouched lt ∙ here)
         | inr ne ↦ get_or-set_other a.tracks track i t untouched ne ∙ is.each i (omega (arith, long))
-            ∙ ap (λ (cs : List ClientCall). numbers (taken_of run i) (dropped_of run i) (has_no_poke cs)) (sym (get_or-set_other run.calls track i next [] ne))
+            ∙ ap (λ (cs : List ClientCall). numbers (taken_in_all run i) (dropped_of run i) (has_no_poke cs)) (sym (get_or-set_other run.calls track i next [] ne))
       ];
       cycles = ap (λ (x : Tallied). x.cycles) b_is ∙ is.cycles;
       looks = let before = is.looks in let same : b.looks ≡ a.looks = ap (λ (x : Tallied). x.looks) b_is in omega arith;

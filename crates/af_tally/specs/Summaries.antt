@@ -100,8 +100,8 @@ abbrev pub taken_by_turn : ℕ → Turn → ℕ
 taken_by_turn i turn = taken_in i (turn_looks turn)
 
 -- the frames of track i that were taken in all
-abbrev pub taken_of : Shown → ℕ → ℕ
-taken_of run i = sum_by (taken_by_entry i) run.entries + sum_by (taken_by_turn i) run.turns
+abbrev pub taken_in_all : Shown → ℕ → ℕ
+taken_in_all run i = sum_by (taken_by_entry i) run.entries + sum_by (taken_by_turn i) run.turns
 
 -- ## Dropped
 
@@ -133,20 +133,20 @@ is_poke _ = false
 abbrev pub has_no_poke : List ClientCall → Bool
 has_no_poke calls = list_all (λ call. not (is_poke call)) calls
 
-abbrev pub is_lawful : Shown → ℕ → Bool
-is_lawful run i = has_no_poke (calls_of run i)
+abbrev pub is_lawful_shown : Shown → ℕ → Bool
+is_lawful_shown run i = has_no_poke (calls_of run i)
 
 -- ## The summary
 
 -- how many frames of track i count as mixed, as dropped, and, of those that its client released, as queued: none if the track isn't lawful
 abbrev pub mixed_of : Shown → ℕ → ℕ
-mixed_of run i = if is_lawful run i then taken_of run i else 0
+mixed_of run i = if is_lawful_shown run i then taken_in_all run i else 0
 
 abbrev pub discarded_of : Shown → ℕ → ℕ
-discarded_of run i = if is_lawful run i then dropped_of run i else 0
+discarded_of run i = if is_lawful_shown run i then dropped_of run i else 0
 
 abbrev pub queued_of : Shown → List ℕ → ℕ → ℕ
-queued_of run released i = if is_lawful run i then slice_index released i - (taken_of run i + dropped_of run i) else 0
+queued_of run released i = if is_lawful_shown run i then slice_index released i - (taken_in_all run i + dropped_of run i) else 0
 
 -- a number of each track, in all
 abbrev pub in_all : ℕ → (ℕ → ℕ) → ℕ

@@ -5,7 +5,7 @@ use Rattle.af_base.specs.Mix.{peak_of}
 use Rattle.af_script.specs.Bounds.{most_tracks}
 use Rattle.af_tally.specs.declared.tally.TrackTally.{TrackTally}
 use Rattle.af_tally.specs.Steps.{AreFew}
-use Rattle.af_tally.specs.Summaries.{Shown, Look, taken_in, dropped_in, taken_of, dropped_of, is_lawful, mixed_cycles}
+use Rattle.af_tally.specs.Summaries.{Shown, Look, taken_in, dropped_in, taken_in_all, dropped_of, is_lawful_shown, mixed_cycles}
 
 -- a tally: the numbers of each track, how many cycles were mixed, how many looks may have been noted, the peak, and the steps of each cycle with those of its note
 pub record Tallied : Type 0 where
@@ -63,7 +63,7 @@ pub record Keeps (places mixes : ℕ) (old new : Tallied) : Type 0 where
 
 -- what a run shows of track i
 abbrev pub shown_of : Shown → ℕ → TrackTally
-shown_of run i = record { taken = taken_of run i; dropped = dropped_of run i; lawful = is_lawful run i }
+shown_of run i = record { taken = taken_in_all run i; dropped = dropped_of run i; lawful = is_lawful_shown run i }
 
 -- A tally is that of a run
 pub record IsTally (run : Shown) (t : Tallied) : Type 0 where

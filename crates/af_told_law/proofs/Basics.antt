@@ -4,11 +4,11 @@ use Rattle.af_told_law.proofs.Common.{AllSeeOwn, BlockTold, Busy, Clean, Cycle, 
 use Rattle.af_base.specs.declared.event.ServerEvent.TheVariants as server
 use Rattle.af_base.specs.declared.log.Cycle.TheVariants as cycle
 use Rattle.af_model.specs.Cycles.{is_exit}
-use Rattle.af_runs.specs.Runs.{slot_for}
+use Rattle.af_runs.specs.Runs.{slot_playing}
 use Rattle.af_told_law.specs.Deeds.{SawOwnOf, met_deed}
 
 pub commands_stay : (s : Session) (x : FastState) (e : EntrySeen) (n : ℕ) (t : TrackTold) → (mixed_track s x e n t).commands ≡ t.commands
-commands_stay s x e n t = by_slot (slot_for x e.entry n)
+commands_stay s x e n t = by_slot (slot_playing x e.entry n)
   where
     by_slot : (o : Option ℕ) → (elim o as (λ o. TrackTold) [ None ↦ t | Some k ↦ record t { stream = played (cycle_frames s) e k t.stream } ]).commands ≡ t.commands
     by_slot None = refl

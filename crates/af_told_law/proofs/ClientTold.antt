@@ -1,6 +1,6 @@
 -- After a client's turn the run with its calls tells the session.
 use Rattle.std.proofs.Common.{Bool, List, Some, ap, arith, if◌then◌else◌, inl, inr, length, length-set, refl, slice_get, slice_set, subst, sym, ℕ, ◌<◌, ◌==◌, ◌∙◌, ◌≡◌, ◌⊎◌}
-use Rattle.af_told_law.proofs.Common.{BlockTold, ClientCall, ClientTurned, MixerState, NormalState, PartyState, RoundSeen, Run, ServerEvent, Session, SessionState, Shape, Side, Track, TrackTold, after_calls, called, calls_alone, calls_in, cases_eq, client-hand, client-server, client_list, drop, each_long, eq-eqb, file_at, get_set_other, get_set_same, ne_eqb, ops_at, same_Some, server_list, sides_of, slice_get_within, told_at, told_each, track_of, with_side}
+use Rattle.af_told_law.proofs.Common.{BlockTold, ClientCall, ClientTurned, MixerState, NormalState, PartyState, RoundSeen, Run, ServerEvent, Session, SessionState, Shape, Side, Track, TrackTold, after_calls, called_in_turn, calls_alone, calls_in, cases_eq, client-hand, client-server, client_list, drop, each_long, eq-eqb, file_at, get_set_other, get_set_same, ne_eqb, ops_at, same_Some, server_list, sides_of, slice_get_within, told_at, told_each, track_of, with_side}
 use Rattle.af_runs.specs.Blocks.{hand_list}
 use Rattle.af_judge.proofs.TracksTold.{sides_called}
 use Rattle.af_told_law.specs.Alike.{TellAlike}
@@ -26,7 +26,7 @@ hand_same b side = client-hand b.told (drop (length (client_list b)) side.events
 
 module _ (s : Session) (m : NormalState) (f : MixerState) (d : Deeds) (i : ℕ) (t : TrackTold) (p q : PartyState) (calls : List ClientCall) (h : TellsTrack s m f d i t p)
     (turned : track_of (ops_at (given_of s) i) (file_at (given_of s) i) q ≡ after_calls (track_of (ops_at (given_of s) i) (file_at (given_of s) i) p) calls) where
-  called_told : TellsTrack s m f d i (called calls t) q
+  called_told : TellsTrack s m f d i (called_in_turn calls t) q
   called_told =
       let after : Track = after_calls (sides_of t) calls in
       record {
@@ -44,7 +44,7 @@ module _ (s : Session) (run : Run) (i : ℕ) (round : RoundSeen) {d : Deeds} (x 
   after = calls_alone i round run
 
   abbrev change : ℕ → TrackTold → TrackTold
-  change n t = if n == i then called (calls_in round i) t else t
+  change n t = if n == i then called_in_turn (calls_in round i) t else t
 
   long : i < length x.clients
   long = slice_get_within x.clients i c.before c.was
@@ -52,12 +52,12 @@ module _ (s : Session) (run : Run) (i : ℕ) (round : RoundSeen) {d : Deeds} (x 
   there : (j : ℕ) (q : PartyState) → (j ≡ i) ⊎ (j ≡ i → ⊥) → slice_get (slice_set x.clients i c.after) j ≡ Some q → j < length run.tracks → TellsTrack s x.normal x.fast d j (told_at after j) q
   there j q (inl e) is low =
       let one : c.after ≡ q = same_Some c.after q (sym (get_set_same x.clients i c.after long) ∙ ap (slice_get (slice_set x.clients i c.after)) (sym e) ∙ is) in
-      let told : told_at after i ≡ called (calls_in round i) (told_at run i) = told_each change run i (omega (arith, low, e)) ∙ ap (λ (b : Bool). if b then called (calls_in round i) (told_at run i) else told_at run i) (eq-eqb i i refl) in
+      let told : told_at after i ≡ called_in_turn (calls_in round i) (told_at run i) = told_each change run i (omega (arith, low, e)) ∙ ap (λ (b : Bool). if b then called_in_turn (calls_in round i) (told_at run i) else told_at run i) (eq-eqb i i refl) in
       let mine : TellsTrack s x.normal x.fast d i (told_at after i) c.after =
       subst (λ (t : TrackTold). TellsTrack s x.normal x.fast d i t c.after) (sym told) (called_told s x.normal x.fast d i (told_at run i) c.before c.after (calls_in round i) (h.tracks i c.before c.was) c.turned) in
       subst (λ (z : ℕ × PartyState). TellsTrack s x.normal x.fast d z.0 (told_at after z.0) z.1) (λ k. (sym e k, one k)) mine
   there j q (inr ne) is low =
-      let told : told_at after j ≡ told_at run j = told_each change run j low ∙ ap (λ (b : Bool). if b then called (calls_in round i) (told_at run j) else told_at run j) (ne_eqb j i ne) in
+      let told : told_at after j ≡ told_at run j = told_each change run j low ∙ ap (λ (b : Bool). if b then called_in_turn (calls_in round i) (told_at run j) else told_at run j) (ne_eqb j i ne) in
       subst (λ (t : TrackTold). TellsTrack s x.normal x.fast d j t q) (sym told) (h.tracks j q (sym (get_set_other x.clients i j c.after ne) ∙ is))
 
   abbrev left : SessionState

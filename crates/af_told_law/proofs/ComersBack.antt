@@ -1,6 +1,6 @@
 -- The stream proxies that come home in a turn of the normal mixer that goes on come as the queue's history shows, and tell their blocks.
 use Rattle.std.proofs.Common.{◌≡◌, ◌≢◌, ⊎_elim, ℕ, ◌<◌, ◌&&◌, not, Bool, true, false, true≢false, if◌then◌else◌, is_some, List, [], ◌∷◌, ◌++◌, length, Option, Some, None, refl, sym, ap, subst, ◌∙◌, arith}
-use Rattle.af_told_law.proofs.Common.{AreTogether, FastState, HasHistory, Home, IsLegal, Links, NormalKept, NormalState, Outside, Run, ServerState, Session, SessionState, TrackKept, Turn, after_ack, and_parts, at, away_slot, carries, cases_eq, comes_home, home_stream, in_hand, is_home, is_returning, kept_of, returning_away, same_Some, slot_for, slot_number, slot_of, some_at, stream_at, told_at, track_at, turn_of, welcomed, welcomed_at}
+use Rattle.af_told_law.proofs.Common.{AreTogether, FastState, HasStateHistory, Home, IsLegal, Links, NormalKept, NormalState, Outside, Run, ServerState, Session, SessionState, TrackKept, Turn, after_ack, and_parts, at, away_slot, carries, cases_eq, comes_home, home_stream, in_hand, is_home, is_returning, kept_of, returning_away, same_Some, slot_for, slot_number, slot_of, some_at, stream_at, told_at, track_at, turn_of, welcomed, welcomed_at}
 use Rattle.af_model.specs.declared.states.MutatorEvent.TheVariants as mutator
 use Rattle.af_model.specs.declared.states.ObserverEvent.TheVariants as observer
 use Rattle.af_told_law.specs.Between.{StandsBefore}
@@ -30,7 +30,7 @@ unfolding welcomed
 off_comes last s returning off = let comes : comes_home last s ≡ true = (λ j. returning j && not (off j)) in ap (λ (b : Bool). is_home (if b then record s { holder = Home } else s).holder) comes
 
 module _ (links : Links) (x : SessionState) (n : NormalState) (o : Outside) (legal : IsLegal o x.normal n) (runs : (turn_of n.entry).ended ≡ false) (goes : StreamsGo o x.normal n (turn_of n.entry)) (before : AreTogether links x) (stands : StandsBefore x) (c d : ℕ)
-    (later : HasHistory x.normal.mutator.past.first (n.mutator.past.events ++ mutator.Learn c ∷ []) (x.fast.observer.past.events ++ observer.Learn d ∷ [])) where
+    (later : HasStateHistory x.normal.mutator.past.first (n.mutator.past.events ++ mutator.Learn c ∷ []) (x.fast.observer.past.events ++ observer.Learn d ∷ [])) where
   abbrev e : Turn
   e = turn_of n.entry
 

@@ -41,20 +41,20 @@ pub use Rattle.af_judge.proofs.SoundTurns.{sound_acked}
 pub use Rattle.af_latest.specs.Laws.{last_of, stores}
 pub use Rattle.af_life.proofs.Basics.{at_here, at_new, at_other, at_set, away_holds, returning_away, set_each, slot_of_away, welcomed_at}
 pub use Rattle.af_life.proofs.Lives.{acked_len, mutation_len, not_yet, served_len}
-pub use Rattle.af_life.specs.Edits.{LegalPush, after_ack, after_push, comes_home, commanded_by, edited_to, entered, is_exit, lent_by, must_enter, must_leave}
+pub use Rattle.af_life.specs.Edits.{LegalPush, after_ack, after_push, comes_home, commanded_by, edited_to, entered, commands_exit, lent_by, must_enter, must_leave}
 unfoldable pub use Rattle.af_life.specs.Edits.{edited, lend, let_go, ordered, welcomed}
 pub use Rattle.af_life.specs.Heard.{counts_in, heard, heard_at_home, heard_elsewhere, heard_with, is_reported, known_by, learnt, ready, settled_at, slot_reported}
 unfoldable pub use Rattle.af_life.specs.Heard.{heard_by, noted}
 pub use Rattle.af_life.specs.Kept.{Learnt, NormalKept, Outside, Setup, asked, is_home, is_returning, new_track, no_counts, nothing_heard, nothing_seen, number_of, pipe_size, plays, seen_at, setting_of, slot_number, track_at, track_in}
 pub use Rattle.af_life.specs.Looks.{LegalLooks, all_command_events, as_slot, command_events, did, takes_command, words_taken}
 pub use Rattle.af_life.specs.Obeys.{holds, shows_command}
-pub use Rattle.af_life.specs.Plays.{LegalTake, after_take, after_takes, counted, is_mixed_here, mixed_here, put_by, tracks_due}
+pub use Rattle.af_life.specs.Plays.{LegalTake, after_take, after_takes, look_counted, is_mixed_here, mixed_here, put_by, tracks_due}
 pub use Rattle.af_life.specs.Serves.{IsServed, LegalTrack, after_part, is_found_shut, served_to}
 unfoldable pub use Rattle.af_life.specs.Serves.{served}
 pub use Rattle.af_life.specs.Sound.{IsSound}
 pub use Rattle.af_life.specs.Turn.{GoesOn, LegalTurn, after_edits, after_tracks}
 unfoldable pub use Rattle.af_life.specs.Turn.{turn_after}
-pub use Rattle.af_life.specs.TurnEvents.{command_events_of, command_list, front_by_room, going, hand_list, invalid, mix_events, mutator_list, number_seen, pipe_list, push_list, status_events, stream_list, takes_from, tracks_at}
+pub use Rattle.af_life.specs.TurnEvents.{command_events_of, command_list, front_by_room, going, hand_events_of, invalid, mix_events, mutator_list, number_seen, pipe_list, push_list, status_events, stream_list, takes_from, tracks_at}
 pub use Rattle.af_life.specs.declared.kept.Heard.{Heard}
 pub use Rattle.af_life.specs.declared.kept.Holder.TheVariants.{Home, Lent, Returning}
 pub use Rattle.af_life.specs.declared.kept.TrackKept.{TrackKept}
@@ -64,19 +64,19 @@ pub use Rattle.af_link.specs.declared.names.StreamNames.{StreamNames}
 pub use Rattle.af_model.proofs.Basics.{both_lawful, kept_more, lawful_first, not_true, same_before, same_length, state_next}
 pub use Rattle.af_model.proofs.Splits.{legal_at, ones_append}
 pub use Rattle.af_model.specs.ClientCalls.{IsClientList, client_call_events, client_kept}
-pub use Rattle.af_model.specs.Cycles.{Found, IsSeen, LegalCycle, Listed, LooksBy, Mixes, SubmixSlot, TrackSlot, UseUpTo, after_look, cold_done, cold_of, cycle_events, cycle_of, has_exit, is_cold, is_mixed, kept, last_used, place_of, state_of, still_entry, taken_before, takes_shown}
-pub use Rattle.af_model.specs.Draft.{commanded, detached, initial}
+pub use Rattle.af_model.specs.Cycles.{Found, IsSeen, LegalCycle, Listed, LooksBy, Mixes, SubmixSlot, TrackSlot, UseUpTo, events_behind_look, cold_done, cold_of, cycle_events, cycle_of, has_exit, is_cold, is_mixed, kept, last_used, place_of, state_of, still_entry, taken_before, takes_shown}
+pub use Rattle.af_model.specs.Draft.{draft_commanded, detached, initial}
 pub use Rattle.af_model.specs.History.{Moment, by_hand, by_server, client_of, hand_of, is_lawful, server_of}
 pub use Rattle.af_model.specs.Journals.{EntrySeen, RoundNoted, RoundSeen, entries_seen, frames_of, rounds_seen, slot_frames}
 unfoldable pub use Rattle.af_model.specs.Journals.{taken_by}
-pub use Rattle.af_model.specs.Order.{Event, Legal, after, one, ones, two, twos}
+pub use Rattle.af_model.specs.Order.{Event, Legal, point_after, one, ones, two, twos}
 pub use Rattle.af_model.specs.PipeHistory.{HasPipeHistory, PipePoint, releases_of, room_by}
 pub use Rattle.af_model.specs.Point.{wrapped}
 pub use Rattle.af_model.specs.Reports.{IsNextReport, ServerKnown, carried, counted_look, no_report, no_slot, report_at, slot_report}
 pub use Rattle.af_model.specs.Room.{ahead, outside}
 pub use Rattle.af_model.specs.ServerCalls.{IsServerList, ServerKept, dropped_by, flush_position, flushes_by, is_noticed, look_at, look_events, past_front, server_begins, server_keeps, server_kept}
 pub use Rattle.af_model.specs.Spelled.{AllSeeOwn, own_front}
-pub use Rattle.af_model.specs.StateQueue.{AreOf, HasHistory, MutatorPoint, ObserverPoint, QueuePoint, carries, has, legal, mutated, mutator_next, mutator_start, next, observed, observer_next, observer_start, slot_of, start, word}
+pub use Rattle.af_model.specs.StateQueue.{AreOf, HasStateHistory, MutatorPoint, ObserverPoint, QueuePoint, carries, has, legal, mutated, mutator_next, mutator_start, next, observed, observer_next, observer_start, slot_of, start_of_queue, word}
 pub use Rattle.af_model.specs.declared.newest.ReaderEvent.{ReaderEvent}
 pub use Rattle.af_model.specs.declared.newest.ReaderEvent.TheVariants.{Load}
 pub use Rattle.af_model.specs.declared.newest.WriterEvent.{WriterEvent}
@@ -116,7 +116,7 @@ pub use Rattle.af_runs.specs.Fronts.{behind, flushed_front, front_by_answer, fro
 pub use Rattle.af_runs.specs.KeptLists.{KeepsClient, KeepsMutator, marked, marked_event}
 pub use Rattle.af_runs.specs.LegalRuns.{is_poke_on, marks_of, session_of}
 pub use Rattle.af_runs.specs.Rounds.{AreMixedBut, HaveHistories, KeepsHistory, LegalEntry, SharedHistories, TrackHistories, found_for, loaded, turned}
-pub use Rattle.af_runs.specs.Runs.{Run, TrackTold, called, calls_in, commands_turned, each_from, each_track, found_before, frames_before, known_of, last_report, mixed_pipe, mixed_track, most_cycles, new_run, next_report, next_slot, no_track, pipe_cells, pipe_turned, played, report_of, side_of, sides_of, state_for, stream_met, stream_of, stream_turned, takes_part, told_at, track_met, turned_track, with_looks, with_side}
+pub use Rattle.af_runs.specs.Runs.{Run, TrackTold, called_in_turn, calls_in, commands_turned, changed_from, each_track, found_before, frames_before, known_of, last_report, mixed_pipe, mixed_track, most_round_cycles, new_run, next_report, next_slot, no_track, pipe_cells, pipe_turned, played, report_of, client_side, sides_of, state_for, stream_met, stream_of, stream_turned, takes_part, told_at, track_met, turned_track, with_looks, with_side}
 unfoldable pub use Rattle.af_runs.specs.Runs.{met, with_ends, with_load, with_mix, with_poll, with_turn}
 pub use Rattle.af_runs.specs.Sessions.{Session, command_shape, cycle_frames, no_spec, spec_of, spec_setting, stream_shape, track_count}
 pub use Rattle.af_runs.specs.Told.{Item, PipeTold, QueueTold, ReportTold, brought_by, is_look_at, is_pushed, items_of, mutator_does, observer_does, poll_events, queue_met, report_met, state_at, was_seen}

@@ -1,6 +1,6 @@
 -- The ends of a session that a run tells keep the lists of that run.
 use Rattle.std.proofs.Common.{◌≡◌, ℕ, ◌<◌, true, List, slice_get, Some, sym, ap, subst, ◌∙◌, arith}
-use Rattle.af_told_law.proofs.Common.{BlockTold, ClientState, KeepsClient, PartyState, Run, ServerEvent, ServerState, Session, SessionState, Side, Track, is_tame, server_list, side_of, side_of_proxy, slice_get_within, told_at, track_count}
+use Rattle.af_told_law.proofs.Common.{BlockTold, ClientState, KeepsClient, PartyState, Run, ServerEvent, ServerState, Session, SessionState, Side, Track, is_tame, server_list, client_side, side_of_proxy, slice_get_within, told_at, track_count}
 use Rattle.af_session.specs.Ends.{ends_from}
 use Rattle.af_told_law.specs.Alike.{TellAlike}
 use Rattle.af_told_law.specs.Deeds.{DeedTold, Deeds, SawOwnBy, SawOwnOf, done_on, tame_marks}
@@ -8,7 +8,7 @@ use Rattle.af_told_law.specs.KeptEnds.{KeepsLists, KeepsProxy, KeepsTrack, SawAt
 use Rattle.af_told_law.specs.Tells.{Tells, TellsServer, TellsTrack}
 
 -- a client's side is the one told
-keeps_client : (b : BlockTold) (c : ClientState) → side_of b ≡ side_of_proxy c → KeepsClient b c.pass.part.events c.pass.part.frames
+keeps_client : (b : BlockTold) (c : ClientState) → client_side b ≡ side_of_proxy c → KeepsClient b c.pass.part.events c.pass.part.frames
 keeps_client b c is = record { told = ap (λ (y : Side). y.events) (sym is); words = ap (λ (y : Side). y.released) (sym is) }
 
 -- a proxy that did what is told of it

@@ -1,6 +1,6 @@
 -- Two lists of a server that tell alike do so after the events of a look, by each front by which it answers so.
 use Rattle.std.proofs.Common.{◌≡◌, ℕ, suc, ◌+◌, ◌-◌, ◌==◌, not, Bool, true, false, true≢false, if◌then◌else◌, is_some, fold, MatchOption, List, [], ◌∷◌, ◌++◌, length, length-append, Option, Some, None, refl, sym, ap, ◌∙◌, subst, arith}
-use Rattle.af_told_law.proofs.Common.{IsSeen, Listed, LooksBy, Seen, ServerEvent, ServerKept, Shape, SlotEntry, after_look, ahead, cycle_events, fold-append, front_of, is_noticed, kept, kept_more, look_at, look_events, outside, server_keeps, server_kept, wrapped}
+use Rattle.af_told_law.proofs.Common.{IsSeen, Listed, LooksBy, Seen, ServerEvent, ServerKept, Shape, SlotEntry, events_behind_look, ahead, cycle_events, fold-append, front_of, is_noticed, kept, kept_more, look_at, look_events, outside, server_keeps, server_kept, wrapped}
 use Rattle.af_base.specs.declared.event.ServerEvent.TheVariants as server
 use Rattle.af_base.specs.declared.seen.Seen.TheVariants as seen
 use Rattle.af_told_law.specs.Alike.{TellAlike, bare}
@@ -90,7 +90,7 @@ tally_drops : (n : Bool) (missing : ℕ) → NoDrops (if n then [] else server.T
 tally_drops true missing = tt
 tally_drops false missing = tt
 
-after_drops : (asked : ℕ) (was : Bool) (answer : Seen) → NoDrops (after_look asked was answer)
+after_drops : (asked : ℕ) (was : Bool) (answer : Seen) → NoDrops (events_behind_look asked was answer)
 after_drops asked was seen.Absent = tt
 after_drops asked was (seen.Frames count) = tally_drops (asked - count == 0) (asked - count)
 after_drops asked was seen.Empty = tally_drops (asked == 0) asked
@@ -131,13 +131,13 @@ module _ (k : Shape) (xs ys : List ServerEvent) (h : TellAlike k xs ys) (asked :
 
   -- the events of the look are the same by the one as by the other
   pub events_alike : (f : ℕ) → cycle_events asked real slot f ≡ cycle_events asked told slot f
-  events_alike f = ap (λ (z : ServerKept). let was = is_some z.shut in server.SawGain slot.gains ∷ (if was then [] else look_events slot.seen slot.flush slot.rear f) ++ after_look asked was slot.seen) h.kept
+  events_alike f = ap (λ (z : ServerKept). let was = is_some z.shut in server.SawGain slot.gains ∷ (if was then [] else look_events slot.seen slot.flush slot.rear f) ++ events_behind_look asked was slot.seen) h.kept
 
   -- after the look the lists tell alike, if both fronts leave the same
   pub cycle_alike : (f g : ℕ) → (is_some (kept told).shut ≡ false → Leaves k (kept told).flush slot.flush slot.rear f g) → TellAlike k (xs ++ cycle_events asked real slot f) (ys ++ cycle_events asked told slot g)
   cycle_alike f g leaves =
       let was : Bool = is_some (kept told).shut in
-      let more : List ServerEvent = after_look asked was slot.seen in
+      let more : List ServerEvent = events_behind_look asked was slot.seen in
       let here : TellAlike k (xs ++ cycle_events asked told slot f) (ys ++ cycle_events asked told slot g) = record {
         kept = ap bare (kept_more k xs (cycle_events asked told slot f))
             ∙ some_look k was more (kept real) (kept told) slot.seen slot.flush slot.rear f g (after_drops asked was slot.seen) h.kept

@@ -1,6 +1,6 @@
 -- A turn that is legal by one outside is legal by one that is alike, and each end's list grows by the same.
 use Rattle.std.proofs.Common.{◌≡◌, ◌⊎◌, inl, inr, ℕ, ◌<◌, ◌&&◌, not, Bool, true, false, if◌then◌else◌, is_some, List, [], ◌∷◌, ◌++◌, length, Option, Some, None, refl, sym, ap, ◌∙◌, subst}
-use Rattle.af_told_law.proofs.Common.{AllByRecursion, CommandLook, GoesOn, Heard, IsServed, IsSound, LegalLooks, LegalPush, LegalTake, LegalTrack, LegalTurn, Listed, LooksBy, MatchBool, MatchOption, NormalKept, Outside, ServerEvent, Setup, SlotEntry, TakeSeen, TrackKept, Turn, after_ack, after_edits, after_look, all_command_events, as_slot, asked, command_events, command_list, cycle_events, did, flat_map, going, invalid, is_found_shut, is_home, kept, learnt, look_at, look_events, mix_events, mutator_list, nothing_seen, number_seen, push_list, status_events, stream_list, takes_command, takes_from, track_at, track_in, tracks_at, tracks_due}
+use Rattle.af_told_law.proofs.Common.{AllByRecursion, CommandLook, GoesOn, Heard, IsServed, IsSound, LegalLooks, LegalPush, LegalTake, LegalTrack, LegalTurn, Listed, LooksBy, MatchBool, MatchOption, NormalKept, Outside, ServerEvent, Setup, SlotEntry, TakeSeen, TrackKept, Turn, after_ack, after_edits, events_behind_look, all_command_events, as_slot, asked, command_events, command_list, cycle_events, did, flat_map, going, invalid, is_found_shut, is_home, kept, learnt, look_at, look_events, mix_events, mutator_list, nothing_seen, number_seen, push_list, status_events, stream_list, takes_command, takes_from, track_at, track_in, tracks_at, tracks_due}
 use Rattle.af_base.specs.declared.event.ServerEvent.TheVariants as server
 use Rattle.af_base.specs.declared.seen.Seen.TheVariants as seen
 use Rattle.af_life.specs.Obeys.{slot_for}
@@ -30,7 +30,7 @@ module _ (s : Listed) (f g : ℕ) (same : SameFront s f g) where
 
   -- the events of a look are the same by either front
   pub cycle_same : (asked : ℕ) (slot : SlotEntry) → cycle_events asked s slot f ≡ cycle_events asked s slot g
-  cycle_same asked slot = ap (λ (es : List ServerEvent). server.SawGain slot.gains ∷ es ++ after_look asked (is_some (kept s).shut) slot.seen) (events_same [] (look_events slot.seen slot.flush slot.rear))
+  cycle_same asked slot = ap (λ (es : List ServerEvent). server.SawGain slot.gains ∷ es ++ events_behind_look asked (is_some (kept s).shut) slot.seen) (events_same [] (look_events slot.seen slot.flush slot.rear))
 
   pub command_same : (look : CommandLook) → command_events s look f ≡ command_events s look g
   command_same look = ap (λ (es : List ServerEvent). es ++ takes_command look) (events_same [] (look_events look.seen look.flush look.rear))

@@ -1,6 +1,6 @@
 -- What the looks of a normal mixer's turn that goes on brought, by the history of the queue after it: the items that the observer gave back last.
 use Rattle.std.proofs.Common.{◌≡◌, ◌≢◌, ◌⊎◌, inl, inr, ⊎_elim, ℕ, ◌+◌, ◌-◌, ◌≤◌, ◌<◌, ◌==◌, ◌&&◌, ◌||◌, not, Bool, true, false, true≢false, if◌then◌else◌, is_some, List, [], ◌∷◌, ◌++◌, append_assoc, Option, Some, None, refl, sym, ap, subst, ◌∙◌, arith}
-use Rattle.af_told_law.proofs.Common.{Busy, Clean, HasHistory, IsInOrder, IsLegal, MutatorEvent, MutatorPoint, NormalKept, NormalState, ObserverEvent, ObserverPoint, Outside, Polls, Push, Pushed, Pushes, ServerState, SessionState, StreamNames, Turn, after_edits, after_push, after_takes, and_parts, append_cancel_left, at, cases_eq, eq-eqb, fold-append, going, is_exit, is_pushed, kept_of, le-ltb, learnt, lt-ltb, mutated, mutator_list, mutator_next, mutator_start, ne_eqb, not-true, number_seen, observed, observer_next, observer_start, push_list, setup_of, slots, turn_after, turn_of}
+use Rattle.af_told_law.proofs.Common.{Busy, Clean, HasStateHistory, IsInOrder, IsLegal, MutatorEvent, MutatorPoint, NormalKept, NormalState, ObserverEvent, ObserverPoint, Outside, Polls, Push, Pushed, Pushes, ServerState, SessionState, StreamNames, Turn, after_edits, after_push, after_takes, and_parts, append_cancel_left, at, cases_eq, eq-eqb, fold-append, going, commands_exit, is_pushed, kept_of, le-ltb, learnt, lt-ltb, mutated, mutator_list, mutator_next, mutator_start, ne_eqb, not-true, number_seen, observed, observer_next, observer_start, push_list, setup_of, slots, turn_after, turn_of}
 use Rattle.af_model.specs.declared.states.MutatorEvent.TheVariants as mutator
 use Rattle.af_model.specs.declared.states.ObserverEvent.TheVariants as observer
 use Rattle.af_told_law.specs.Places.{StreamsGo, told_by}
@@ -14,8 +14,8 @@ one_look : (n : ℕ) (a b : List (Option ServerState)) (xs ys : List (MutatorEve
 one_look n a b xs ys e = cc
 
 module _ (x : SessionState) (n : NormalState) (o : Outside) (legal : IsLegal o x.normal n) (runs : (turn_of n.entry).ended ≡ false) (goes : StreamsGo o x.normal n (turn_of n.entry))
-    (order : IsInOrder x.fast) (step : InReach x.normal.mutator.past x.fast.observer.past) (before : HasHistory x.normal.mutator.past.first x.normal.mutator.past.events x.fast.observer.past.events) (c d : ℕ)
-    (later : HasHistory x.normal.mutator.past.first (n.mutator.past.events ++ mutator.Learn c ∷ []) (x.fast.observer.past.events ++ observer.Learn d ∷ [])) where
+    (order : IsInOrder x.fast) (step : InReach x.normal.mutator.past x.fast.observer.past) (before : HasStateHistory x.normal.mutator.past.first x.normal.mutator.past.events x.fast.observer.past.events) (c d : ℕ)
+    (later : HasStateHistory x.normal.mutator.past.first (n.mutator.past.events ++ mutator.Learn c ∷ []) (x.fast.observer.past.events ++ observer.Learn d ∷ [])) where
   abbrev e : Turn
   e = turn_of n.entry
 
@@ -41,7 +41,7 @@ module _ (x : SessionState) (n : NormalState) (o : Outside) (legal : IsLegal o x
   lives = by_end x.normal.ended refl
     where
       by_end : (b : Bool) → x.normal.ended ≡ b → x.normal.ended ≡ false
-      by_end true is = absurd (true≢false (sym (legal.legal.ends ∙ ap (λ (b : Bool). b || (is_exit k.last && e.ack)) is) ∙ runs))
+      by_end true is = absurd (true≢false (sym (legal.legal.ends ∙ ap (λ (b : Bool). b || (commands_exit k.last && e.ack)) is) ∙ runs))
       by_end false is = is
 
   -- ## The lists
@@ -59,8 +59,8 @@ module _ (x : SessionState) (n : NormalState) (o : Outside) (legal : IsLegal o x
   back_same = one_look (number_seen k e.ack) goes.back legal.lists.back _ _ (append_cancel_left m.events _ _
       (sym list_is ∙ legal.lists.mutator ∙ ap (λ (es : List (MutatorEvent ServerState)). m.events ++ es) (running legal.lists.back legal.lists.again legal.lists.sent)))
 
-  whole : HasHistory m.first (m.events ++ mutator.SawAck (number_seen k e.ack) goes.back ∷ (push_list edits e.push goes.again goes.sent ++ mutator.Learn c ∷ [])) os
-  whole = subst (λ (es : List (MutatorEvent ServerState)). HasHistory m.first es os)
+  whole : HasStateHistory m.first (m.events ++ mutator.SawAck (number_seen k e.ack) goes.back ∷ (push_list edits e.push goes.again goes.sent ++ mutator.Learn c ∷ [])) os
+  whole = subst (λ (es : List (MutatorEvent ServerState)). HasStateHistory m.first es os)
       (ap (λ (es : List (MutatorEvent ServerState)). es ++ mutator.Learn c ∷ []) list_is ∙ append_assoc m.events (mutator.SawAck (number_seen k e.ack) goes.back ∷ push_list edits e.push goes.again goes.sent) (mutator.Learn c ∷ []))
       later
 
@@ -146,7 +146,7 @@ module _ (x : SessionState) (n : NormalState) (o : Outside) (legal : IsLegal o x
       some : 0 < m.number
       some = (legal.legal.goes_on runs).ack off
 
-      by_look : (rest : List (MutatorEvent ServerState)) → HasHistory m.first (looked ++ mutator.SawAck edits.pushed goes.again ∷ rest) os → (f.number ≡ m.number) × (goes.again ≡ items_given x.fast)
+      by_look : (rest : List (MutatorEvent ServerState)) → HasStateHistory m.first (looked ++ mutator.SawAck edits.pushed goes.again ∷ rest) os → (f.number ≡ m.number) × (goes.again ≡ items_given x.fast)
       by_look rest h =
           let second : Looked m.first looked os edits.pushed goes.again = looked_at m.first looked os edits.pushed goes.again rest h in
           let all : f.number ≡ m.number = (let low = second.few in let few = step.few in let same = edits_pushed is in omega (arith, low, few, same, acked_is)) in
@@ -154,12 +154,12 @@ module _ (x : SessionState) (n : NormalState) (o : Outside) (legal : IsLegal o x
           let last : (edits.pushed == (mutated m.first looked).pushed) ≡ true = eq-eqb edits.pushed (mutated m.first looked).pushed (edits_pushed is ∙ sym pushed_is ∙ sym (ap (λ (p : MutatorPoint ServerState). p.pushed) looked_then)) in
           (all, second.brings (edits_pushed is ∙ sym all ∙ sym acked_is) ∙ (λ j. if not (clear j) && last j then given_is j else []))
 
-      by_push : (push : Push) → is_pushed push ≡ true → HasHistory m.first (m.events ++ mutator.SawAck (number_seen k e.ack) goes.back ∷ (push_list edits push goes.again goes.sent ++ mutator.Learn c ∷ [])) os
+      by_push : (push : Push) → is_pushed push ≡ true → HasStateHistory m.first (m.events ++ mutator.SawAck (number_seen k e.ack) goes.back ∷ (push_list edits push goes.again goes.sent ++ mutator.Learn c ∷ [])) os
           → (f.number ≡ m.number) × (goes.again ≡ items_given x.fast)
       by_push Clean so h = absurd (true≢false (sym so))
       by_push (Busy seen expected) so h = absurd (true≢false (sym so))
       by_push (Pushed number) so h = by_look (mutator.Push number edits.draft goes.sent ∷ mutator.Learn c ∷ [])
-          (subst (λ (es : List (MutatorEvent ServerState)). HasHistory m.first es os)
+          (subst (λ (es : List (MutatorEvent ServerState)). HasStateHistory m.first es os)
           (ap (λ (b : Bool). m.events ++ mutator.SawAck (number_seen k e.ack) goes.back ∷ (((if b then [] else mutator.SawAck edits.pushed goes.again ∷ []) ++ mutator.Push number edits.draft goes.sent ∷ []) ++ mutator.Learn c ∷ []))
           (ne_eqb edits.pushed 0 (λ none. let same = edits_pushed is in omega (arith, none, same, some)))
           ∙ sym (append_assoc m.events (mutator.SawAck (number_seen k e.ack) goes.back ∷ []) (mutator.SawAck edits.pushed goes.again ∷ mutator.Push number edits.draft goes.sent ∷ mutator.Learn c ∷ [])))

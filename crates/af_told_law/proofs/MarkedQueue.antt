@@ -1,6 +1,6 @@
 -- A history of the queue is one of its events with their items marked.
 use Rattle.std.proofs.Common.{◌≡◌, ℕ, zero, suc, ◌==◌, ◌&&◌, not, Bool, true, false, if◌then◌else◌, map, List, [], ◌∷◌, Option, Some, None, refl, ap, ◌∙◌, subst}
-use Rattle.af_told_law.proofs.Common.{AreOf, Event, FastState, HasHistory, Item, Legal, MutatorEvent, MutatorPoint, ObserverEvent, ObserverPoint, QueuePoint, ServerState, has, legal, length-map, marked, marked_event, next, one, ones, option_map, start, two, twos}
+use Rattle.af_told_law.proofs.Common.{AreOf, Event, FastState, HasStateHistory, Item, Legal, MutatorEvent, MutatorPoint, ObserverEvent, ObserverPoint, QueuePoint, ServerState, has, legal, length-map, marked, marked_event, next, one, ones, option_map, start_of_queue, two, twos}
 use Rattle.af_model.specs.declared.states.MutatorEvent.TheVariants as mutator
 use Rattle.af_model.specs.declared.states.ObserverEvent.TheVariants as observer
 use Rattle.af_told_law.specs.Tells.{marked_poll}
@@ -72,10 +72,10 @@ twos_marked [] = refl
 twos_marked (one e ∷ es) = twos_marked es
 twos_marked (two e ∷ es) = ap (λ (l : List (ObserverEvent Item)). marked_poll e ∷ l) (twos_marked es)
 
-pub history_marked : (first : FastState) (ms : List (MutatorEvent ServerState)) (os : List (ObserverEvent ServerState)) → HasHistory first ms os → HasHistory first (map marked_event ms) (map marked_poll os)
+pub history_marked : (first : FastState) (ms : List (MutatorEvent ServerState)) (os : List (ObserverEvent ServerState)) → HasStateHistory first ms os → HasStateHistory first (map marked_event ms) (map marked_poll os)
 history_marked first ms os h = record {
   order = map marked_both h.order;
-  is_legal = legal_all (start first) h.order h.is_legal;
+  is_legal = legal_all (start_of_queue first) h.order h.is_legal;
   of_one = ones_marked h.order ∙ ap (map marked_event) h.of_one;
   of_two = twos_marked h.order ∙ ap (map marked_poll) h.of_two;
 }

@@ -1,10 +1,10 @@
 -- A round in which no lawful block is poked keeps the lawful blocks of its run unpoked.
 use Rattle.std.proofs.Common.{◌≡◌, ℕ, ◌<◌, ◌==◌, not, Bool, true, false, true≢false, if◌then◌else◌, fold, is_some, map, List, [], ◌∷◌, ◌++◌, drop, take, length, Option, Some, None, refl, sym, ap, ◌∙◌, arith, eqb-true}
-use Rattle.af_told_law.proofs.Common.{ClientCall, ClientEvent, EntrySeen, Marks, Moment, RoundNoted, RoundSeen, Run, Session, Track, TrackTold, Turn, TurnSpec, after_call, both_lawful, by_hand, called, calls_alone, calls_in, client-client, client_call_events, client_kept, client_list, command_list, cycle_alone, each_track, ends, found_before, get_or-map-range_with_len, hand-client, hand_list, is_lawful, is_of_commands, is_poke_on, is_tame, learnt, length-map-range_with_len, list_any, loaded, made_alone, marks_of, met_alone, neither, new_run, no_track, not_true, outside_of, rounds_seen, server-client, sides_of, stream_list, told_at, track_count, tracks_at, turn_alone, turned, turned_track, with_ends, with_load, with_poll, with_turn}
+use Rattle.af_told_law.proofs.Common.{ClientCall, ClientEvent, EntrySeen, Marks, Moment, RoundNoted, RoundSeen, Run, Session, Track, TrackTold, Turn, TurnSpec, after_call, both_lawful, by_hand, called_in_turn, calls_alone, calls_in, client-client, client_call_events, client_kept, client_list, command_list, cycle_alone, each_track, ends, found_before, get_or-map-range_with_len, hand-client, hand_events_of, is_lawful, is_of_commands, is_poke_on, is_tame, learnt, length-map-range_with_len, list_any, loaded, made_alone, marks_of, met_alone, neither, new_run, no_track, not_true, outside_of, rounds_seen, server-client, sides_of, stream_list, told_at, track_count, tracks_at, turn_alone, turned, turned_track, with_ends, with_load, with_poll, with_turn}
 use Rattle.af_base.specs.declared.event.ClientCall.TheVariants as call
 use Rattle.af_one_turn_run.proofs.OneClientTurn.{call_events, calls_add, calls_events, drop_first, only_on}
 use Rattle.af_runs.specs.ClientTurns.{side_of}
-use Rattle.af_runs.specs.Runs.{new_track}
+use Rattle.af_runs.specs.Runs.{new_told_track}
 use Rattle.af_runs.specs.Runs as run_of
 use Rattle.af_runs.specs.Sessions.{setup_of}
 use Rattle.af_script.specs.declared.op.TurnSpec.TheVariants as makes
@@ -51,14 +51,14 @@ calls_lawful on t (a ∷ calls) h =
     (calls_lawful on (after_call t a) calls parts.1)
 
 -- a block stays unpoked by calls that don't poke it
-stream_called : (t : TrackTold) (calls : List ClientCall) → list_any (is_poke_on false) calls ≡ false → is_tame t.stream ≡ true → is_tame (called calls t).stream ≡ true
+stream_called : (t : TrackTold) (calls : List ClientCall) → list_any (is_poke_on false) calls ≡ false → is_tame t.stream ≡ true → is_tame (called_in_turn calls t).stream ≡ true
 stream_called t calls none h =
     let es = calls_events false (sides_of t) calls in
     let all = (fold after_call (sides_of t) calls).stream.events in
     let more : drop (length (client_list t.stream)) all ≡ es = ap (drop (length (client_list t.stream))) (calls_add false (sides_of t) calls) ∙ drop_first ClientEvent (client_list t.stream) es in
     ap is_lawful (client-client t.stream.told (drop (length (client_list t.stream)) all) ∙ ap (λ (xs : List ClientEvent). client_list t.stream ++ xs) more) ∙ both_lawful (client_list t.stream) es h (calls_lawful false (sides_of t) calls none)
 
-commands_called : (t : TrackTold) (calls : List ClientCall) → list_any (is_poke_on true) calls ≡ false → is_tame t.commands ≡ true → is_tame (called calls t).commands ≡ true
+commands_called : (t : TrackTold) (calls : List ClientCall) → list_any (is_poke_on true) calls ≡ false → is_tame t.commands ≡ true → is_tame (called_in_turn calls t).commands ≡ true
 commands_called t calls none h =
     let es = calls_events true (sides_of t) calls in
     let all = (fold after_call (sides_of t) calls).commands.events in
@@ -69,9 +69,9 @@ commands_called t calls none h =
 
 module _ (marks : Marks) where
   calls_marked : (track : ℕ) (round : RoundSeen) (run : Run) → IsRoundMarked marks round.calls → IsMarkedRun marks run → IsMarkedRun marks (calls_alone track round run)
-  calls_marked track round run free = each_keeps_at (IsTrackMarked marks) (λ number t. if number == track then called (calls_in round track) t else t) run (calls_alone track round run) refl (λ n low h. by_track n (n == track) refl (told_at run n) h)
+  calls_marked track round run free = each_keeps_at (IsTrackMarked marks) (λ number t. if number == track then called_in_turn (calls_in round track) t else t) run (calls_alone track round run) refl (λ n low h. by_track n (n == track) refl (told_at run n) h)
     where
-      by_track : (n : ℕ) (b : Bool) → (n == track) ≡ b → (t : TrackTold) → IsTrackMarked marks n t → IsTrackMarked marks n (if b then called (calls_in round track) t else t)
+      by_track : (n : ℕ) (b : Bool) → (n == track) ≡ b → (t : TrackTold) → IsTrackMarked marks n t → IsTrackMarked marks n (if b then called_in_turn (calls_in round track) t else t)
       by_track n true same t h =
           let here : n ≡ track = eqb-true n track same in record {
             stream = (λ on. stream_called t (calls_in round track) (ap (λ (k : ℕ). list_any (is_poke_on false) (calls_in round k)) (sym here) ∙ (free n).0 on) (h.stream on));
@@ -86,7 +86,7 @@ module _ (marks : Marks) where
       let c = setup_of s in
       let o = outside_of c (found_before s run [] e) e in
       each_keeps_at (IsTrackMarked marks) (turned_track c o run.normal e) run (with_turn s (found_before s run [] e) e run) refl (λ n low h. let t = told_at run n in record {
-        stream = (λ on. ap is_lawful (server-client (fold (λ (told : List Moment) (moment : Moment). moment ∷ told) t.stream.told (map by_hand (hand_list e n))) (stream_list c o e (tracks_at c (learnt o) run.normal e n) n) ∙ hand-client t.stream.told (hand_list e n)) ∙ h.stream on);
+        stream = (λ on. ap is_lawful (server-client (fold (λ (told : List Moment) (moment : Moment). moment ∷ told) t.stream.told (map by_hand (hand_events_of e n))) (stream_list c o e (tracks_at c (learnt o) run.normal e n) n) ∙ hand-client t.stream.told (hand_events_of e n)) ∙ h.stream on);
         commands = (λ on. ap is_lawful (server-client t.commands.told (command_list c o e (tracks_at c (learnt o) run.normal e n) n)) ∙ h.commands on);
         few = h.few;
       })
@@ -123,8 +123,8 @@ module _ (marks : Marks) where
   pub new_marked : (s : Session) → IsSmallRun (new_run s) → IsMarkedRun marks (new_run s)
   new_marked s small n low = record { stream = (λ on. ap (λ (t : TrackTold). is_tame t.stream) (told_new n low)); commands = (λ on. ap (λ (t : TrackTold). is_tame t.commands) (told_new n low)); few = small n low }
     where
-      told_new : (i : ℕ) → i < length (new_run s).tracks → told_at (new_run s) i ≡ new_track s i
-      told_new i lt = get_or-map-range_with_len (new_track s) 0 (track_count s) i i no_track (let l = length-map-range_with_len (new_track s) 0 (track_count s) in omega (arith, l, lt)) (omega arith)
+      told_new : (i : ℕ) → i < length (new_run s).tracks → told_at (new_run s) i ≡ new_told_track s i
+      told_new i lt = get_or-map-range_with_len (new_told_track s) 0 (track_count s) i i no_track (let l = length-map-range_with_len (new_told_track s) 0 (track_count s) in omega (arith, l, lt)) (omega arith)
 
 -- ## The marks of a journal
 

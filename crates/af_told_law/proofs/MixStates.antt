@@ -1,6 +1,6 @@
 -- The states that the fast mixer adopted are the first of those that the run tells.
 use Rattle.std.proofs.Common.{◌≡◌, ◌≢◌, ⊎_elim, ℕ, zero, suc, ◌+◌, ◌<◌, ◌≤◌, true≢false, if◌then◌else◌, is_some, fold, List, [], ◌∷◌, ◌++◌, length, length-append, Option, Some, None, refl, sym, ap, subst, ◌∙◌, arith}
-use Rattle.af_told_law.proofs.Common.{CarriesNone, CycleEntry, Event, FastState, HasHistory, IsInOrder, Legal, MixerState, MutatorEvent, NormalState, ObserverEvent, QueuePoint, Run, ServerState, Session, UseUpTo, adopted_states, cases_eq, cold_done, cold_of, eq-eqb, is_cold, last_used, legal, ne_eqb, next, no_state, none-some, one, polled_in_order, polled_states, start, state_adopted, state_for, state_more, state_of, two, twos}
+use Rattle.af_told_law.proofs.Common.{CarriesNone, CycleEntry, Event, FastState, HasStateHistory, IsInOrder, Legal, MixerState, MutatorEvent, NormalState, ObserverEvent, QueuePoint, Run, ServerState, Session, UseUpTo, adopted_states, cases_eq, cold_done, cold_of, eq-eqb, is_cold, last_used, legal, ne_eqb, next, no_state, none-some, one, polled_in_order, polled_states, start_of_queue, state_adopted, state_for, state_more, state_of, two, twos}
 use Rattle.af_model.specs.declared.states.MutatorEvent.TheVariants as mutator
 use Rattle.af_model.specs.declared.states.ObserverEvent.TheVariants as observer
 use Rattle.af_told_law.specs.Tells.{TellsFast, TellsNormal}
@@ -23,8 +23,8 @@ any_first p y z (two (observer.Ack k items) ∷ es) same l =
     λ j. e j ∷ rest j
 any_first p y z (two (observer.Learn c) ∷ es) same l = any_first (next p (two (observer.Learn c))) y z es (λ due. absurd (due refl)) l.1
 
-polled_any : (first z : FastState) (ms : List (MutatorEvent ServerState)) (os : List (ObserverEvent ServerState)) → HasHistory first ms os → polled_states first os ≡ polled_states z os
-polled_any first z ms os h = subst (λ (es : List (ObserverEvent ServerState)). polled_states first es ≡ polled_states z es) h.of_two (any_first (start first) first z h.order (λ due. absurd (due refl)) h.is_legal)
+polled_any : (first z : FastState) (ms : List (MutatorEvent ServerState)) (os : List (ObserverEvent ServerState)) → HasStateHistory first ms os → polled_states first os ≡ polled_states z os
+polled_any first z ms os h = subst (λ (es : List (ObserverEvent ServerState)). polled_states first es ≡ polled_states z es) h.of_two (any_first (start_of_queue first) first z h.order (λ due. absurd (due refl)) h.is_legal)
 
 -- ## States of a number
 
@@ -46,7 +46,7 @@ cold_front xs more n done (entry ∷ entries) few up =
 
 -- ## In a session
 
-module _ (s : Session) (run : Run) (n : NormalState) (f : MixerState) (order : IsInOrder f) (normal : TellsNormal s run n) (fast : TellsFast s run f) (history : HasHistory n.mutator.past.first n.mutator.past.events f.observer.past.events) where
+module _ (s : Session) (run : Run) (n : NormalState) (f : MixerState) (order : IsInOrder f) (normal : TellsNormal s run n) (fast : TellsFast s run f) (history : HasStateHistory n.mutator.past.first n.mutator.past.events f.observer.past.events) where
   prefix : (missing : List FastState) × (run.states ≡ adopted_states f ++ missing)
   prefix =
       let all = polled_in_order n.mutator.past.first n.mutator.past.events f.observer.past.events history in

@@ -1,7 +1,7 @@
 -- A cycle that mixes nothing leaves each stream as the run's mix tells it: nothing was played.
 use Rattle.std.proofs.Common.{Bool, List, None, Option, Some, ap, arith, false, find, if◌then◌else◌, length, nat_lt, not, refl, replicate, subst, suc, sym, true, zero, ℕ, ⊎_elim, ◌&&◌, ◌+◌, ◌<◌, ◌==◌, ◌∙◌, ◌≡◌, ◌≤◌}
 use Rattle.af_told_law.proofs.Common.{BlockTold, CycleEntry, EntrySeen, FastState, MixerState, NormalState, Observes, ServerEvent, ServerState, Session, SlotEntry, StreamNames, TrackTold, absent, and_off, at, carries, cases_lt, cycle_frames, entry_slot, get_or-replicate, get_or_past, is_shown, item_at, length-replicate, mixed_track, observed, played, range_with_len, slice_index_or, slot_for, slot_of, slots, still_entry}
-use Rattle.af_runs.specs.Runs.{plays}
+use Rattle.af_runs.specs.Runs.{shows_slot}
 use Rattle.af_runs.specs.Runs as run_of
 use Rattle.af_told_law.specs.Tells.{IfThere, TellsAway, TellsStream, items_sent, mutated_by}
 use Rattle.af_told_law.specs.Deeds.{ServerDone, done_on}
@@ -21,7 +21,7 @@ absent_all k = ⊎_elim (λ (low : k < slots). get_or-replicate slots k absent a
 -- a track is as it was after an entry that mixes nothing
 pub track_still : (s : Session) (x : FastState) (e : EntrySeen) (i : ℕ) (t : TrackTold) → e.entry ≡ still_entry e.entry.state e.entry.cycle → mixed_track s x e i t ≡ t
 track_still s x e i t still =
-    let none : run_of.slot_for x e.entry i ≡ None = none_found (λ k. plays x e.entry k && ((slot_of x k).track == i)) 0 slots (λ k.
+    let none : run_of.slot_playing x e.entry i ≡ None = none_found (λ k. shows_slot x e.entry k && ((slot_of x k).track == i)) 0 slots (λ k.
     and_off (carries x k) (is_shown (entry_slot e.entry k).seen) ((slot_of x k).track == i) (ap (λ (entry : CycleEntry). is_shown (entry_slot entry k).seen) still ∙ ap (λ (slot : SlotEntry). is_shown slot.seen) (absent_all k))) in
     ap (λ (o : Option ℕ). elim o as (λ o. TrackTold) [ None ↦ t | Some k ↦ record t { stream = played (cycle_frames s) e k t.stream } ]) none
 

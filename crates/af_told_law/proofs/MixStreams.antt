@@ -2,7 +2,7 @@
 use Rattle.std.proofs.Common.{◌≡◌, ℕ, zero, suc, ◌+◌, ◌<◌, ◌==◌, ◌&&◌, not, nat_lt, Bool, true, false, true≢false, if◌then◌else◌, find, fold, is_some, map, List, [], ◌∷◌, ◌++◌, length, Option, Some, None, refl, sym, ap, ◌∙◌, subst, arith, append_assoc, append-nil}
 use Rattle.af_told_law.proofs.Common.{AreTogether, BlockTold, EntrySeen, FastState, LeadAway, Links, LooksBy, MixerState, Moment, NormalState, Observes, ServerEvent, ServerState, Session, SessionState, SlotPlayed, StartsWith, StreamNames, Takes, TrackTold, at, by_server, carries, cycle_events, cycle_frames, entry_slot, front_of, hand_of, is_home, is_mixed, is_shown, is_slot_of, item_at, mixed_track, none-some, observed, or_else, packed_word, played, range_end, range_with_len, server_of, shown_if, slot_below, slot_for, slot_number, slot_of, slots, stream_at, track_at}
 use Rattle.af_runs.specs.Blocks as told_of
-use Rattle.af_runs.specs.Runs.{plays}
+use Rattle.af_runs.specs.Runs.{shows_slot}
 use Rattle.af_runs.specs.Runs as run_of
 use Rattle.af_told_law.specs.Alike.{TellAlike}
 use Rattle.af_told_law.specs.Tells.{SawTold, TellsAway, TellsServer, TellsStream, held_slot, is_coming, is_going, items_given, mutated_by}
@@ -73,19 +73,19 @@ module _ (links : Links) (x : SessionState) (g : MixerState) (together : AreToge
   slot_played : (k : ℕ) → k < slots → carries state k ≡ true → SlotPlayed x.fast.frames (at x.fast.observer.items k) (at g.observer.items k) g.log.frames (entry_slot e.entry k)
   slot_played k low carried = takes.tracks mixed state current k low carried
 
-  plays_is : (i k : ℕ) → k < slots → (plays state e.entry k && ((slot_of state k).track == i)) ≡ is_slot_of state i k
+  plays_is : (i k : ℕ) → k < slots → (shows_slot state e.entry k && ((slot_of state k).track == i)) ≡ is_slot_of state i k
   plays_is i k low = by_carried (carries state k) refl
     where
-      by_carried : (c : Bool) → carries state k ≡ c → (plays state e.entry k && ((slot_of state k).track == i)) ≡ is_slot_of state i k
+      by_carried : (c : Bool) → carries state k ≡ c → (shows_slot state e.entry k && ((slot_of state k).track == i)) ≡ is_slot_of state i k
       by_carried true is =
           let shown : is_shown (entry_slot e.entry k).seen ≡ true = shown_if (entry_slot e.entry k).seen (slot_played k low is).plays.looks.0 in
           (λ j. (is j && shown j) && ((slot_of state k).track == i)) ∙ sym (λ j. is j && ((slot_of state k).track == i))
       by_carried false is = (λ j. (is j && is_shown (entry_slot e.entry k).seen) && ((slot_of state k).track == i)) ∙ sym (λ j. is j && ((slot_of state k).track == i))
 
   -- the run finds the track in the slot in which the observer has it
-  found_so : (i : ℕ) → run_of.slot_for state e.entry i ≡ slot_for state i
+  found_so : (i : ℕ) → run_of.slot_playing state e.entry i ≡ slot_for state i
   unfolding slot_for
-  found_so i = first_found (λ k. plays state e.entry k && ((slot_of state k).track == i)) state i slots (plays_is i)
+  found_so i = first_found (λ k. shows_slot state e.entry k && ((slot_of state k).track == i)) state i slots (plays_is i)
 
   -- the observer did nothing but play its items
   only_items : g.observer ≡ record x.fast.observer { items = g.observer.items }

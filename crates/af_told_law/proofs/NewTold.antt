@@ -1,7 +1,7 @@
 -- A new session is told by the run before the first round.
 use Rattle.std.proofs.Common.{◌≡◌, ℕ, ◌<◌, true, true≢false, is_some, length, map, List, [], slice_get, Some, refl, sym, ap, ◌∙◌, subst, arith}
 use Rattle.af_told_law.proofs.Common.{ClientPart, Frame, HandSide, IsNewSession, MixerState, NormalKept, NormalState, PartyState, ScriptData, ServerPart, ServerState, Session, SessionState, Shape, SharedState, TrackKept, TrackSpec, TrackTold, at_new, command_shape, file_at, get_or-replicate, get_or_from_slice_get, hand_events, is_home, length-map-range_with_len, marked_event, new_at, new_block, new_client, new_run, no_slot, no_spec, ops_at, ops_of, pushed_states, same_Some, session_of, sides_of, slice_get_within, slots, spec_of, spec_setting, stream_shape, told_at, track_at, track_count, track_of}
-use Rattle.af_runs.specs.Runs.{new_track}
+use Rattle.af_runs.specs.Runs.{new_told_track}
 use Rattle.af_script.specs.declared.op.Op.{Op}
 use Rattle.af_engine.specs.NewTracks.{IsNewServer}
 use Rattle.af_session.specs.NewTracks.{IsTrackAt}
@@ -44,14 +44,14 @@ module _ (script : ScriptData) (files : List (List Frame)) (shared : SharedState
     ops_are : at_place.spec.ops ≡ ops_at (given_of here) i
     ops_are = sym (ap ops_of at_place.spec_at)
 
-    client_told : sides_of (new_track here i) ≡ track_of (ops_at (given_of here) i) (file_at (given_of here) i) p
+    client_told : sides_of (new_told_track here i) ≡ track_of (ops_at (given_of here) i) (file_at (given_of here) i) p
     client_told =
         let one : at_place.party ≡ p = same_Some at_place.party p (sym at_place.party_at ∙ is) in
-        ap (λ (spec : TrackSpec). sides_of (record (new_track here i) { client = new_client spec.ops; stream = new_block (stream_shape script.version spec) })) (sym spec_is)
+        ap (λ (spec : TrackSpec). sides_of (record (new_told_track here i) { client = new_client spec.ops; stream = new_block (stream_shape script.version spec) })) (sym spec_is)
         ∙ sym (at_place.new.party.track (file_at (given_of here) i))
         ∙ ap (λ (y : List Op × PartyState). track_of y.0 (file_at (given_of here) i) y.1) (λ j. (ops_are j, one j))
 
-    stream_told : TellsStream x.normal x.fast i (new_track here i).stream []
+    stream_told : TellsStream x.normal x.fast i (new_told_track here i).stream []
     stream_told = record {
       home = (λ s found. subst (λ (y : TrackSpec × ServerState). TellsServer (done_on (new_block (stream_shape script.version y.0)) []) y.1) (λ j. (spec_is j, same_Some at_place.setup.stream s (sym at_place.proxy_at ∙ found) j))
           (server_new (stream_shape script.version at_place.spec) at_place.setup.stream at_place.new.stream_line.server_new));
@@ -59,13 +59,13 @@ module _ (script : ScriptData) (files : List (List Frame)) (shared : SharedState
       hand = ap (λ (hands : List HandSide). hand_events hands i) no_hands;
     }
 
-    commands_told : (c : ServerState) → slice_get x.normal.commands i ≡ Some c → TellsCommands (new_track here i).commands [] c
+    commands_told : (c : ServerState) → slice_get x.normal.commands i ≡ Some c → TellsCommands (new_told_track here i).commands [] c
     commands_told c found = subst (TellsCommands (new_block command_shape) []) (same_Some at_place.setup.command c (sym at_place.control_at ∙ found))
         (record { server = server_new command_shape at_place.setup.command at_place.new.command_line.server_new; whole = at_place.new.command_line.server_new.whole; none = refl })
 
     track_told : TellsTrack here x.normal x.fast no_deeds i (told_at (new_run here) i) p
     track_told = subst (λ (t : TrackTold). TellsTrack here x.normal x.fast no_deeds i t p) (sym (new_at here i below))
-        (record { client = client_told; stream = stream_told; commands = commands_told; did = record { stream = did_new (new_track here i).stream.shape; commands = did_new command_shape } })
+        (record { client = client_told; stream = stream_told; commands = commands_told; did = record { stream = did_new (new_told_track here i).stream.shape; commands = did_new command_shape } })
 
   shared_told : TellsShared here (new_run here) x.normal x.fast
   shared_told = record {
@@ -105,7 +105,7 @@ module _ (script : ScriptData) (files : List (List Frame)) (shared : SharedState
 
   pub new_told : Tells here (new_run here) no_deeds x
   new_told = record {
-    count = (length-map-range_with_len (new_track here) 0 (track_count here), new.tracks.parties);
+    count = (length-map-range_with_len (new_told_track here) 0 (track_count here), new.tracks.parties);
     tracks = track_told;
     shared = shared_told;
     normal = normal_told;

@@ -1,6 +1,6 @@
 -- A turn of the normal mixer leaves each stream proxy in the place that it tells.
 use Rattle.std.proofs.Common.{◌≡◌, ℕ, ◌<◌, ◌==◌, ◌⊎◌, inl, inr, not, Bool, true, false, true≢false, MatchBool, if◌then◌else◌, refl, sym, ap, subst, ◌∙◌, List, [], ◌∷◌, ◌++◌, append-nil, length, Option, Some, None, eq-eqb}
-use Rattle.af_told_law.proofs.Common.{BegunBy, Brings, Clean, Does, Ended, Grows, IsLegal, Links, Mutates, MutatorEvent, NormalState, Outside, ServerState, Stops, StreamNames, Turn, TurnMade, Turned, TurnsBy, WasAcked, answer_of, at, ended_turn, is_exit, items_of, kept_of, learnt, marked, mutated, mutator_list, setup_of, slots, stream_at, turn_of, word}
+use Rattle.af_told_law.proofs.Common.{BegunBy, Brings, Clean, Does, Ended, Grows, IsLegal, Links, Mutates, MutatorEvent, NormalState, Outside, ServerState, Stops, StreamNames, Turn, TurnMade, Turned, TurnsBy, WasAcked, answer_of, at, ended_turn, commands_exit, items_of, kept_of, learnt, marked, mutated, mutator_list, setup_of, slots, stream_at, turn_of, word}
 use Rattle.af_model.specs.declared.states.MutatorEvent.TheVariants as mutator
 use Rattle.af_normal.specs.Order.{IsInOrder}
 use Rattle.af_told_law.specs.Places.{StreamsGo, StreamsStay, TurnLeavesStreams, told_by}
@@ -71,7 +71,7 @@ module _ (links : Links) (o : Outside) (x y : NormalState) (order : IsInOrder li
     marks_of back brings true is = ap (λ (items : List (Option ServerState)). marked items) (brings.0 is)
     marks_of back brings false is = marks_are x.mutator.past.before x.mutator.past.last back (brings.1 is)
 
-    looked : (b : Bool) → x.ended ≡ b → MatchBool b (stops.mutator ≡ h.mutator) (WasAcked h.mutator true stops.mutator × (is_exit h.mutator.past.last ≡ true)) → Looked stops.mutator
+    looked : (b : Bool) → x.ended ≡ b → MatchBool b (stops.mutator ≡ h.mutator) (WasAcked h.mutator true stops.mutator × (commands_exit h.mutator.past.last ≡ true)) → Looked stops.mutator
     looked true is l = let same : stops.mutator ≡ x.mutator = l ∙ mutator_h in record {
       back = [];
       events = ap (λ (m : Mutates ServerState StreamNames). m.past.events) same ∙ sym (append-nil x.mutator.past.events) ∙ ap (λ (es : List (MutatorEvent ServerState)). x.mutator.past.events ++ es) (listed_by true (mutator.SawAck x.mutator.past.number [] ∷ []) is);
@@ -110,7 +110,7 @@ module _ (links : Links) (o : Outside) (x y : NormalState) (order : IsInOrder li
     mutator_y = ap (λ (w : NormalState). w.mutator) stops.leaves
 
     all_looked : Looked y.mutator
-    all_looked = subst Looked (sym mutator_y) (looked x.ended refl (subst (λ (b : Bool). MatchBool b (stops.mutator ≡ h.mutator) (WasAcked h.mutator true stops.mutator × (is_exit h.mutator.past.last ≡ true))) (ap (λ (w : NormalState). w.ended) begun.same) stops.looks))
+    all_looked = subst Looked (sym mutator_y) (looked x.ended refl (subst (λ (b : Bool). MatchBool b (stops.mutator ≡ h.mutator) (WasAcked h.mutator true stops.mutator × (commands_exit h.mutator.past.last ≡ true))) (ap (λ (w : NormalState). w.ended) begun.same) stops.looks))
 
     pub streams_stay : StreamsStay o x y (turn_of y.entry)
     streams_stay = subst (StreamsStay o x y) (sym stops.tells) (record {

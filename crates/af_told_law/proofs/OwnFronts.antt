@@ -1,6 +1,6 @@
 -- A look that saw its server's own front saw the front that its answer tells.
 use Rattle.std.proofs.Common.{◌≡◌, ℕ, ◌+◌, ◌^◌, ◌==◌, ◌&&◌, ◌||◌, not, min, nat_lt, Bool, true, false, true≢false, if◌then◌else◌, is_some, Option, Some, None, List, [], ◌∷◌, ◌++◌, refl, sym, ap, ◌∙◌, subst, eqb-true, arith}
-use Rattle.af_told_law.proofs.Common.{AllSeeOwn, Listed, LooksBy, MatchOption, Seen, ServerEvent, Shape, SlotEntry, after_look, ahead, behind, both, cycle_events, dropped_by, eqb-false, flush_position, flushed_front, front_by_answer, front_of, is_noticed, is_own_inside, kept, lawful_front, leaves_open, look_at, look_events, not_true, own_front, past_front, wrapped}
+use Rattle.af_told_law.proofs.Common.{AllSeeOwn, Listed, LooksBy, MatchOption, Seen, ServerEvent, Shape, SlotEntry, events_behind_look, ahead, behind, both, cycle_events, dropped_by, eqb-false, flush_position, flushed_front, front_by_answer, front_of, is_noticed, is_own_inside, kept, lawful_front, leaves_open, look_at, look_events, not_true, own_front, past_front, wrapped}
 use Rattle.af_base.specs.declared.event.ServerEvent.TheVariants as server
 use Rattle.af_base.specs.declared.seen.Seen.TheVariants as seen
 
@@ -101,7 +101,7 @@ pub cycle_told : (asked : ℕ) (s : Listed) (slot : SlotEntry) (f : ℕ) → Loo
 cycle_told asked s slot f looks own = by_shut (kept s).shut looks.1 own
   where
     events : Bool → ℕ → List ServerEvent
-    events was g = server.SawGain slot.gains ∷ (if was then [] else look_events slot.seen slot.flush slot.rear g) ++ after_look asked was slot.seen
+    events was g = server.SawGain slot.gains ∷ (if was then [] else look_events slot.seen slot.flush slot.rear g) ++ events_behind_look asked was slot.seen
 
     by_shut : (o : Option (ℕ × ℕ)) → MatchOption o (slot.seen ≡ look_at s.shape (kept s).flush asked slot.flush slot.rear f) (λ words. (slot.seen ≡ seen.Shut words.0 words.1) × (slot.flush ≡ (kept s).flush) × (slot.rear ≡ words.1))
         → AllSeeOwn s.shape (kept s) (events (is_some o) f) → (events (is_some o) f ≡ events (is_some o) (front_of asked s slot)) × (events (is_some o) f ≡ events (is_some o) (lawful_front asked s slot))

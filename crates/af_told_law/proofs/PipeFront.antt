@@ -1,9 +1,9 @@
 -- If each look at the pipe saw the number of frames taken before, the look of a mix saw as many as its end has.
 use Rattle.std.proofs.Common.{List, [], ap, arith, length, refl, subst, sym, ℕ, ◌++◌, ◌+◌, ◌∙◌, ◌∷◌, ◌≡◌}
-use Rattle.af_told_law.proofs.Common.{ClientEvent, Event, HasPipeHistory, MixerState, PipePoint, SeesTaken, ServerEvent, SlotEntry, SubmixSlot, after, one, takes_shown, two, twos, wrapped}
+use Rattle.af_told_law.proofs.Common.{ClientEvent, Event, HasPipeHistory, MixerState, PipePoint, SeesTaken, ServerEvent, SlotEntry, SubmixSlot, point_after, one, takes_shown, two, twos, wrapped}
 use Rattle.af_base.specs.declared.event.ClientEvent.TheVariants as client
 use Rattle.af_base.specs.declared.event.ServerEvent.TheVariants as server
-use Rattle.af_model.specs.PipeHistory.{legal, next, start}
+use Rattle.af_model.specs.PipeHistory.{legal_in_pipe, next_in_pipe, start_of_pipe}
 use Rattle.af_enough_law.specs.Seen.{frames_taken}
 use Rattle.af_told_law.specs.MixLaws.{TookCounted}
 
@@ -31,11 +31,11 @@ front_taken f g slot counted sees submix =
 -- ## By a history
 
 module _ (size : ℕ) where
-  took_one : (p : PipePoint) (e : ClientEvent) → (next p (one e)).taken ≡ p.taken
+  took_one : (p : PipePoint) (e : ClientEvent) → (next_in_pipe p (one e)).taken ≡ p.taken
   took_one p (client.Release count) = refl
   took_one p e = refl
 
-  took_two : (p : PipePoint) (e : ServerEvent) → (next p (two e)).taken ≡ p.taken + frames_taken (e ∷ [])
+  took_two : (p : PipePoint) (e : ServerEvent) → (next_in_pipe p (two e)).taken ≡ p.taken + frames_taken (e ∷ [])
   took_two p (server.Take count) = omega arith
   took_two p (server.SawRear rear) = omega arith
   took_two p e = omega arith
@@ -43,11 +43,11 @@ module _ (size : ℕ) where
   took_first : (e : ServerEvent) (es : List ServerEvent) → frames_taken (e ∷ es) ≡ frames_taken (e ∷ []) + frames_taken es
   took_first e es = omega arith
 
-  took_after : (p : PipePoint) (es : List (Event ClientEvent ServerEvent)) → (after (legal size) next p es).taken ≡ p.taken + frames_taken (twos es)
+  took_after : (p : PipePoint) (es : List (Event ClientEvent ServerEvent)) → (point_after (legal_in_pipe size) next_in_pipe p es).taken ≡ p.taken + frames_taken (twos es)
   took_after p [] = omega arith
-  took_after p (one e ∷ es) = let rest = took_after (next p (one e)) es in let now = took_one p e in omega arith
-  took_after p (two e ∷ es) = let rest = took_after (next p (two e)) es in let now = took_two p e in let all = took_first e (twos es) in omega arith
+  took_after p (one e ∷ es) = let rest = took_after (next_in_pipe p (one e)) es in let now = took_one p e in omega arith
+  took_after p (two e ∷ es) = let rest = took_after (next_in_pipe p (two e)) es in let now = took_two p e in let all = took_first e (twos es) in omega arith
 
 -- an end whose pipe has a history has as many frames as it took
 pub took_counted : (f : MixerState) (puts : List ClientEvent) (put : List ℕ) → HasPipeHistory f.pipe.pass.part.shape.frames puts put f.pipe.pass.part.events f.pipe.pass.part.frames → TookCounted f
-took_counted f puts put h = let size : ℕ = f.pipe.pass.part.shape.frames in sym h.taken_is ∙ took_after size start h.history.order ∙ (let z : start.taken + frames_taken (twos h.history.order) ≡ frames_taken (twos h.history.order) = omega arith in z) ∙ ap frames_taken h.history.of_two
+took_counted f puts put h = let size : ℕ = f.pipe.pass.part.shape.frames in sym h.taken_is ∙ took_after size start_of_pipe h.history.order ∙ (let z : start_of_pipe.taken + frames_taken (twos h.history.order) ≡ frames_taken (twos h.history.order) = omega arith in z) ∙ ap frames_taken h.history.of_two

@@ -1,6 +1,6 @@
 -- A poll finds the last state pushed, if its observer had learnt of all pushes: so the poll is told, with the meetings after it.
 use Rattle.std.proofs.Common.{◌≡◌, ◌≢◌, ⊎_elim, ℕ, ◌+◌, ◌≤◌, ◌||◌, Bool, true, false, true≢false, if◌then◌else◌, List, [], ◌∷◌, ◌++◌, length, length-append, Option, Some, None, IfSome, refl, sym, ap, subst, ◌∙◌, append_assoc, arith}
-use Rattle.af_told_law.proofs.Common.{Adopts, AreTogether, Event, FastState, HasHistory, HasLearnt, HaveHistories, InStep, LeadAway, Legal, Links, Met, MixerState, MutatorEvent, MutatorPoint, New, NormalState, Nothing, ObserverEvent, ObserverPoint, Observes, Poll, Polls, Pushes, QueuePoint, Run, Same, ServerState, Session, SessionState, StreamNames, TakesIt, WasPolled, acknowledged, after, after_ones, after_twos, cases_eq, eq-eqb, eqb-true, false_from_ne_true, fold-append, is_over, is_push, legal, list_any, list_any-append, mutated, mutator_next, mutator_start, next, observed, one, polled_in_order, polled_states, pushed_states, sees_same, sees_the_last, start, took, two, with_poll}
+use Rattle.af_told_law.proofs.Common.{Adopts, AreTogether, Event, FastState, HasStateHistory, HasLearnt, HaveHistories, InStep, LeadAway, Legal, Links, Met, MixerState, MutatorEvent, MutatorPoint, New, NormalState, Nothing, ObserverEvent, ObserverPoint, Observes, Poll, Polls, Pushes, QueuePoint, Run, Same, ServerState, Session, SessionState, StreamNames, TakesIt, WasPolled, acknowledged, point_after, after_ones, after_twos, cases_eq, eq-eqb, eqb-true, false_from_ne_true, fold-append, is_over, is_push, legal, list_any, list_any-append, mutated, mutator_next, mutator_start, next, observed, one, polled_in_order, polled_states, pushed_states, sees_same, sees_the_last, start_of_queue, took, two, with_poll}
 use Rattle.af_model.specs.declared.states.MutatorEvent.TheVariants as mutator
 use Rattle.af_model.specs.declared.states.ObserverEvent.TheVariants as observer
 use Rattle.af_runs.specs.Runs as run_of
@@ -37,15 +37,15 @@ calm_next p (two (observer.SawNext k x items)) h l = record {
 calm_next p (two (observer.Ack k items)) h l = record { clear = (λ c. absurd (l.1 (l.0 ∙ (h.clear c).1))); due = (λ ne. absurd (ne refl)) }
 calm_next p (two (observer.Learn c)) h l = record { clear = (λ seen. ((h.clear seen).0, refl)); due = (λ ne. absurd (ne refl)) }
 
-calm_after : (p : QueuePoint ServerState) (es : List (Event (MutatorEvent ServerState) (ObserverEvent ServerState))) → Calm p → Legal legal next p es → Calm (after legal next p es)
+calm_after : (p : QueuePoint ServerState) (es : List (Event (MutatorEvent ServerState) (ObserverEvent ServerState))) → Calm p → Legal legal next p es → Calm (point_after legal next p es)
 calm_after p [] h l = h
 calm_after p (e ∷ es) h l = calm_after (next p e) es (calm_next p e h l.0) l.1
 
-not_seen : (first : FastState) (ms : Pushed) (os : Polled) → HasHistory first ms os → (observed os).acked ≢ (mutated first ms).pushed → (mutated first ms).clear ≡ false
+not_seen : (first : FastState) (ms : Pushed) (os : Polled) → HasStateHistory first ms os → (observed os).acked ≢ (mutated first ms).pushed → (mutated first ms).clear ≡ false
 not_seen first ms os h ne =
-    let m : (after legal next (start first) h.order).mutator ≡ mutated first ms = after_ones (start first) h.order ∙ ap (mutated first) h.of_one in
-    let o : (after legal next (start first) h.order).observer ≡ observed os = after_twos (start first) h.order ∙ ap observed h.of_two in
-    let calm : Calm (after legal next (start first) h.order) = calm_after (start first) h.order (record { clear = (λ c. (refl, refl)); due = (λ off. absurd (off refl)) }) h.is_legal in
+    let m : (point_after legal next (start_of_queue first) h.order).mutator ≡ mutated first ms = after_ones (start_of_queue first) h.order ∙ ap (mutated first) h.of_one in
+    let o : (point_after legal next (start_of_queue first) h.order).observer ≡ observed os = after_twos (start_of_queue first) h.order ∙ ap observed h.of_two in
+    let calm : Calm (point_after legal next (start_of_queue first) h.order) = calm_after (start_of_queue first) h.order (record { clear = (λ c. (refl, refl)); due = (λ off. absurd (off refl)) }) h.is_legal in
     false_from_ne_true (mutated first ms).clear (λ c. ne (ap (λ (p : ObserverPoint ServerState). p.acked) (sym o) ∙ (calm.clear (ap (λ (p : MutatorPoint ServerState). p.clear) m ∙ c)).0 ∙ ap (λ (p : MutatorPoint ServerState). p.pushed) m))
 
 -- ## What a poll finds
@@ -58,7 +58,7 @@ polled_still y (observer.Ack k items ∷ es) count = ap (λ (xs : List FastState
 polled_still y (observer.Learn c ∷ es) count = polled_still y es count
 
 module _ (links : Links) (x : SessionState) (g : MixerState) (y : SessionState) (together : AreTogether links x) (polled : AreTogether links (record x { fast = g })) (adopts : Adopts x.fast g) (on : is_over x.fast ≡ false)
-    (met : Met (record x { fast = g }) y) (step : InStep x.normal.mutator.past x.fast.observer.past) (before : HasHistory x.normal.mutator.past.first x.normal.mutator.past.events x.fast.observer.past.events)
+    (met : Met (record x { fast = g }) y) (step : InStep x.normal.mutator.past x.fast.observer.past) (before : HasStateHistory x.normal.mutator.past.first x.normal.mutator.past.events x.fast.observer.past.events)
     (many : length (pushed_states x.normal.mutator.past.events) ≡ x.normal.mutator.past.number) where
   abbrev m : Pushes ServerState StreamNames
   m = x.normal.mutator.past
@@ -75,8 +75,8 @@ module _ (links : Links) (x : SessionState) (g : MixerState) (y : SessionState) 
   abbrev os : Polled
   os = p.events ++ observer.Learn (length m.events) ∷ []
 
-  history : HasHistory m.first ms os
-  history = subst (λ (w : NormalState × MixerState). HasHistory w.0.mutator.past.first w.0.mutator.past.events w.1.observer.past.events) (λ j. (met.ends.normal j, met.ends.fast j)) met.ends.histories.queue
+  history : HasStateHistory m.first ms os
+  history = subst (λ (w : NormalState × MixerState). HasStateHistory w.0.mutator.past.first w.0.mutator.past.events w.1.observer.past.events) (λ j. (met.ends.normal j, met.ends.fast j)) met.ends.histories.queue
 
   few : p.number ≤ m.number
   few =
@@ -101,8 +101,8 @@ module _ (links : Links) (x : SessionState) (g : MixerState) (y : SessionState) 
       let more : Pushed = l.more ++ mutator.Learn (length p.events) ∷ [] in
       let parts : ms ≡ l.told ++ more = ap (λ (es : Pushed). es ++ mutator.Learn (length p.events) ∷ []) l.parts ∙ append_assoc l.told l.more (mutator.Learn (length p.events) ∷ []) in
       let none : list_any is_push more ≡ false = list_any-append is_push l.more (mutator.Learn (length p.events) ∷ []) ∙ ap (λ (b : Bool). b || false) l.none_pushed in
-      let all : HasHistory m.first ms ((l.before ++ observer.Learn l.count ∷ []) ++ observer.SawNext n z items ∷ rest) =
-      subst (λ (es : Polled). HasHistory m.first ms es) (list ∙ ap (λ (es : Polled). es ++ observer.SawNext n z items ∷ rest) l.learnt) history in
+      let all : HasStateHistory m.first ms ((l.before ++ observer.Learn l.count ∷ []) ++ observer.SawNext n z items ∷ rest) =
+      subst (λ (es : Polled). HasStateHistory m.first ms es) (list ∙ ap (λ (es : Polled). es ++ observer.SawNext n z items ∷ rest) l.learnt) history in
       sees_the_last m.first ms l.told more l.before rest l.count n z items all parts l.enough none
 
   list_new : (z : FastState) (came back : List (Option ServerState)) → p ≡ acknowledged back (took z came o) → os ≡ o.events ++ observer.SawNext (o.number + 1) (Some z) came ∷ observer.Ack (o.number + 1) back ∷ observer.Learn (length m.events) ∷ []
@@ -151,7 +151,7 @@ module _ (links : Links) (x : SessionState) (g : MixerState) (y : SessionState) 
 
 module _ (links : Links) (s : Session) (run : Run) {d : Deeds} (x : SessionState) (g : MixerState) (y : SessionState) (h : Tells s run d x) (together : AreTogether links x) (polled : AreTogether links (record x { fast = g })) (still : AreTogether links y)
     (lead : LeadAway x.fast.observer.past.state x.normal.tracks) (lead_last : LeadAway x.normal.mutator.past.last x.normal.tracks) (step : InStep x.normal.mutator.past x.fast.observer.past)
-    (before : HasHistory x.normal.mutator.past.first x.normal.mutator.past.events x.fast.observer.past.events) (on : is_over x.fast ≡ false) (adopts : Adopts x.fast g) (met : Met (record x { fast = g }) y) where
+    (before : HasStateHistory x.normal.mutator.past.first x.normal.mutator.past.events x.fast.observer.past.events) (on : is_over x.fast ≡ false) (adopts : Adopts x.fast g) (met : Met (record x { fast = g }) y) where
   abbrev then_run : Run
   then_run = with_poll s g.observer.past.number run
 

@@ -1,6 +1,6 @@
 -- What a look at the acknowledgement brings, by the history of the queue, wherever it stands: the items given back with the last acknowledgement, if it saw that.
 use Rattle.std.proofs.Common.{◌≡◌, ◌≢◌, ⊎_elim, ℕ, ◌+◌, ◌≤◌, ◌<◌, ◌==◌, ◌&&◌, not, Bool, true, false, true≢false, if◌then◌else◌, List, [], ◌∷◌, ◌++◌, length, length-append, get_or, Option, refl, sym, ap, subst, ◌∙◌, arith}
-use Rattle.af_told_law.proofs.Common.{AreOf, Event, FastState, HasHistory, Legal, MutatorEvent, MutatorPoint, ObserverEvent, ObserverPoint, QueuePoint, SawAck, ServerState, after, after_ones, after_twos, cases_eq, eq-eqb, eqb-true, legal, legal_at, mutated, ne_eqb, next, observed, one, ones, start, two}
+use Rattle.af_told_law.proofs.Common.{AreOf, Event, FastState, HasStateHistory, Legal, MutatorEvent, MutatorPoint, ObserverEvent, ObserverPoint, QueuePoint, SawAck, ServerState, point_after, after_ones, after_twos, cases_eq, eq-eqb, eqb-true, legal, legal_at, mutated, ne_eqb, next, observed, one, ones, start_of_queue, two}
 use Rattle.af_model.specs.declared.states.MutatorEvent.TheVariants.{Push}
 use Rattle.af_model.specs.declared.states.MutatorEvent.TheVariants as mutator
 use Rattle.af_model.specs.declared.states.ObserverEvent.TheVariants.{Ack, SawNext}
@@ -34,7 +34,7 @@ cut_at (one x ∷ es) (y ∷ xs) a rest e =
     let same : x ≡ y = ap (λ (l : List (MutatorEvent ServerState)). get_or l 0 x) e in
     record { before = one x ∷ s.before; behind = s.behind; whole = ap (λ (z : Events). one x ∷ z) s.whole; first = λ i. same i ∷ s.first i }
 
-after_parts : (p : Point) (xs ys : Events) → after legal next p (xs ++ ys) ≡ after legal next (after legal next p xs) ys
+after_parts : (p : Point) (xs ys : Events) → point_after legal next p (xs ++ ys) ≡ point_after legal next (point_after legal next p xs) ys
 after_parts p [] ys = refl
 after_parts p (x ∷ xs) ys = after_parts (next p x) xs ys
 
@@ -96,11 +96,11 @@ sane_next p (two (Ack k items)) h l =
     }
 sane_next p (two (observer.Learn c)) h l = record { low = h.low; level = h.level; due = (λ ne. absurd (ne refl)); seen = h.seen; sent = h.sent; given = h.given }
 
-sane_after : (p : Point) (es : Events) → IsSane p → Legal legal next p es → IsSane (after legal next p es)
+sane_after : (p : Point) (es : Events) → IsSane p → Legal legal next p es → IsSane (point_after legal next p es)
 sane_after p [] h l = h
 sane_after p (e ∷ es) h l = sane_after (next p e) es (sane_next p e h l.0) l.1
 
-sane_start : (first : FastState) → IsSane (start first)
+sane_start : (first : FastState) → IsSane (start_of_queue first)
 sane_start first = record { low = omega arith; level = omega arith; due = (λ ne. absurd (ne refl)); seen = (λ c. refl); sent = (λ some. absurd (omega (arith, some))); given = (λ off. absurd (true≢false off)) }
 
 -- ## Acknowledgements
@@ -118,7 +118,7 @@ grown_next p (two (Ack k items)) h l =
     record { few = (let b = l.0 in let c = d.0 in omega arith); same = (λ s. absurd (let b = l.0 in let c = d.0 in omega (arith, b, c, s))) }
 grown_next p (two (observer.Learn c)) h l = record { few = omega arith; same = (λ s. refl) }
 
-grown_after : (p : Point) (es : Events) → IsSane p → Legal legal next p es → Grown p (after legal next p es)
+grown_after : (p : Point) (es : Events) → IsSane p → Legal legal next p es → Grown p (point_after legal next p es)
 grown_after p [] h l = record { few = omega arith; same = (λ s. refl) }
 grown_after p (e ∷ es) h l =
     let one_more = grown_next p e h l.0 in
@@ -137,10 +137,10 @@ module _ (first : FastState) (ms : List (MutatorEvent ServerState)) (os : List (
   abbrev pub point_of : Point
   point_of = record { mutator = mutated first ms; observer = observed os }
 
-  pub history_sane : HasHistory first ms os → IsSane point_of
+  pub history_sane : HasStateHistory first ms os → IsSane point_of
   history_sane h = subst IsSane
-      (λ j. record { mutator = (after_ones (start first) h.order ∙ ap (mutated first) h.of_one) j; observer = (after_twos (start first) h.order ∙ ap observed h.of_two) j })
-      (sane_after (start first) h.order (sane_start first) h.is_legal)
+      (λ j. record { mutator = (after_ones (start_of_queue first) h.order ∙ ap (mutated first) h.of_one) j; observer = (after_twos (start_of_queue first) h.order ∙ ap observed h.of_two) j })
+      (sane_after (start_of_queue first) h.order (sane_start first) h.is_legal)
 
   -- Of a look that saw the number a, after the events ms: no more was seen than the observer acknowledged. If that was all, the look brought what was given back with it; if it wasn't the last push, the look brought nothing, and nothing later was seen before
   pub record Looked (a : ℕ) (items : List (Option ServerState)) : Type 0 where
@@ -148,34 +148,34 @@ module _ (first : FastState) (ms : List (MutatorEvent ServerState)) (os : List (
     pub brings : a ≡ (observed os).acked → items ≡ (if not (mutated first ms).clear && (a == (mutated first ms).pushed) then (observed os).given else [])
     pub none : a ≢ (mutated first ms).pushed → (items ≡ []) × ((mutated first ms).clear ≡ false)
 
-  module _ (a : ℕ) (items : List (Option ServerState)) (rest : List (MutatorEvent ServerState)) (h : HasHistory first (ms ++ SawAck a items ∷ rest) os) where
+  module _ (a : ℕ) (items : List (Option ServerState)) (rest : List (MutatorEvent ServerState)) (h : HasStateHistory first (ms ++ SawAck a items ∷ rest) os) where
     cut : Cut h.order ms (SawAck a items)
     cut = cut_at h.order ms (SawAck a items) rest h.of_one
 
     abbrev p : Point
-    p = after legal next (start first) cut.before
+    p = point_after legal next (start_of_queue first) cut.before
 
-    l : Legal legal next (start first) cut.before × legal p (one (SawAck a items)) × Legal legal next (next p (one (SawAck a items))) cut.behind
-    l = legal_at legal next (start first) cut.before (one (SawAck a items)) cut.behind (subst (Legal legal next (start first)) cut.whole h.is_legal)
+    l : Legal legal next (start_of_queue first) cut.before × legal p (one (SawAck a items)) × Legal legal next (next p (one (SawAck a items))) cut.behind
+    l = legal_at legal next (start_of_queue first) cut.before (one (SawAck a items)) cut.behind (subst (Legal legal next (start_of_queue first)) cut.whole h.is_legal)
 
     sane : IsSane p
-    sane = sane_after (start first) cut.before (sane_start first) l.0
+    sane = sane_after (start_of_queue first) cut.before (sane_start first) l.0
 
     seen : a ≡ p.observer.acked
     seen = l.1.0
 
     m_is : p.mutator ≡ mutated first ms
-    m_is = after_ones (start first) cut.before ∙ ap (mutated first) cut.first
+    m_is = after_ones (start_of_queue first) cut.before ∙ ap (mutated first) cut.first
 
     abbrev q : Point
-    q = after legal next (next p (one (SawAck a items))) cut.behind
+    q = point_after legal next (next p (one (SawAck a items))) cut.behind
 
     grown : Grown (next p (one (SawAck a items))) q
     grown = grown_after (next p (one (SawAck a items))) cut.behind (sane_next p (one (SawAck a items)) sane l.1) l.2
 
     o_is : q.observer ≡ observed os
-    o_is = ap (λ (z : Point). z.observer) (sym (after_parts (start first) cut.before (one (SawAck a items) ∷ cut.behind)) ∙ ap (after legal next (start first)) (sym cut.whole))
-        ∙ after_twos (start first) h.order ∙ ap observed h.of_two
+    o_is = ap (λ (z : Point). z.observer) (sym (after_parts (start_of_queue first) cut.before (one (SawAck a items) ∷ cut.behind)) ∙ ap (point_after legal next (start_of_queue first)) (sym cut.whole))
+        ∙ after_twos (start_of_queue first) h.order ∙ ap observed h.of_two
 
     all_acked : q.observer.acked ≡ (observed os).acked
     all_acked = ap (λ (o : ObserverPoint ServerState). o.acked) o_is

@@ -1,10 +1,10 @@
 -- A turn of the normal mixer between two rounds loads the last report that was stored.
 use Rattle.std.proofs.Common.{◌≡◌, ⊎_elim, ℕ, suc, ◌+◌, fold, List, [], ◌∷◌, ◌++◌, length, refl, sym, ap, ◌∙◌, append_assoc, arith}
-use Rattle.af_told_law.proofs.Common.{AreTogether, CycleEntry, Links, Load, NormalState, ReaderEvent, Report, ReportTold, Run, Session, SessionState, Store, TrackKept, WriterEvent, last_of, last_report, max, min, most_cycles, no_report, one, ones, report_at, report_met, report_of, slot_number, stores, track_at, two, twos}
+use Rattle.af_told_law.proofs.Common.{AreTogether, CycleEntry, Links, Load, NormalState, ReaderEvent, Report, ReportTold, Run, Session, SessionState, Store, TrackKept, WriterEvent, last_of, last_report, max, min, most_round_cycles, no_report, one, ones, report_at, report_met, report_of, slot_number, stores, track_at, two, twos}
 use Rattle.af_model.specs.declared.newest.ReaderEvent.TheVariants as reads
 use Rattle.af_model.specs.declared.newest.WriterEvent.TheVariants as writes
 use Rattle.af_model.specs.NewestValue as newest
-use Rattle.af_model.specs.NewestValue.{HasHistory}
+use Rattle.af_model.specs.NewestValue.{HasValueHistory}
 use Rattle.af_told_law.specs.QueueTurned.{ReportMet}
 use Rattle.af_told_law.specs.Tells.{Tells, reports_stored}
 use Rattle.af_told_law.proofs.TurnReport.{all_stored, last_told, loads_behind, loads_first}
@@ -39,7 +39,7 @@ twos_met (one a ∷ told) c d = twos_met told c d
 twos_met (two b ∷ told) c d = ap (λ (l : List (ReaderEvent Report)). b ∷ l) (twos_met told c d)
 
 module _ (s : Session) (run : Run) {d : Deeds} (x : SessionState) (n : NormalState) (links : Links) (together : AreTogether links x) (told : Tells s run d x) (met_last : ReportMet run) (written read : ℕ)
-    (history : HasHistory no_report (x.fast.writer.events ++ writes.Learn read ∷ []) (n.reader.events ++ reads.Learn written ∷ []))
+    (history : HasValueHistory no_report (x.fast.writer.events ++ writes.Learn read ∷ []) (n.reader.events ++ reads.Learn written ∷ []))
     (k : ℕ) (loaded : Report) (reads_are : n.reader.events ≡ x.normal.reader.events ++ Load k loaded ∷ []) where
   abbrev ws : List (WriterEvent Report)
   ws = x.fast.writer.events
@@ -56,7 +56,7 @@ module _ (s : Session) (run : Run) {d : Deeds} (x : SessionState) (n : NormalSta
           let no_reads : x.normal.reader.events ≡ [] = told.shared.reader ∙ ap (λ (r : ReportTold). twos r) none in
           let no_writes : ws ≡ [] = told.shared.writer ∙ ap (λ (r : ReportTold). ones r) none in
           let all : twos history.order ≡ Load k loaded ∷ reads.Learn written ∷ [] = history.of_two ∙ ap (λ (l : List (ReaderEvent Report)). l ++ reads.Learn written ∷ []) (reads_are ∙ ap (λ (l : List (ReaderEvent Report)). l ++ Load k loaded ∷ []) no_reads) in
-          let at = loads_first (newest.start no_report) history.order history.is_legal k loaded (reads.Learn written ∷ []) all in
+          let at = loads_first (newest.start_value no_report) history.order history.is_legal k loaded (reads.Learn written ∷ []) all in
           let parts : writes.Learn read ∷ [] ≡ at.front ++ at.back = sym (history.of_one ∙ ap (λ (l : List (WriterEvent Report)). l ++ writes.Learn read ∷ []) no_writes) ∙ at.parts in
           let stored = all_stored no_report [] (writes.Learn read ∷ []) at.front at.back parts (omega arith) tt in
           let none_stored : stores ws ≡ 0 = ap (λ (l : List (WriterEvent Report)). stores l) no_writes in (
@@ -72,7 +72,7 @@ module _ (s : Session) (run : Run) {d : Deeds} (x : SessionState) (n : NormalSta
           let all : twos history.order ≡ twos r ++ reads.Learn c ∷ Load k loaded ∷ reads.Learn written ∷ [] =
           history.of_two ∙ ap (λ (l : List (ReaderEvent Report)). l ++ reads.Learn written ∷ []) (reads_are ∙ ap (λ (l : List (ReaderEvent Report)). l ++ Load k loaded ∷ []) before)
           ∙ append_assoc (twos r ++ reads.Learn c ∷ []) (Load k loaded ∷ []) (reads.Learn written ∷ []) ∙ append_assoc (twos r) (reads.Learn c ∷ []) (Load k loaded ∷ reads.Learn written ∷ []) in
-          let found = loads_behind (newest.start no_report) history.order history.is_legal (twos r) c k loaded (reads.Learn written ∷ []) all in
+          let found = loads_behind (newest.start_value no_report) history.order history.is_legal (twos r) c k loaded (reads.Learn written ∷ []) all in
           let tail : List (WriterEvent Report) = writes.Learn (length (twos r)) ∷ writes.Learn read ∷ [] in
           let parts : ones r ++ tail ≡ found.at.front ++ found.at.back =
           sym (history.of_one ∙ ap (λ (l : List (WriterEvent Report)). l ++ writes.Learn read ∷ []) stored_list ∙ append_assoc (ones r) (writes.Learn (length (twos r)) ∷ []) (writes.Learn read ∷ [])) ∙ found.at.parts in
@@ -100,13 +100,13 @@ module _ (s : Session) (run : Run) {d : Deeds} (x : SessionState) (n : NormalSta
       seen.1 ∙ sym (last_stored ws no_report) ∙ ap (λ (l : List Report). last_report l) told.fast.reports ∙ sym (last_told run.reports) ∙ ap (report_of run.reports) long
 
   -- the report loaded has the number that a turn with this cycle finds
-  loaded_found : (cycle : ℕ) → cycle ≡ loaded.cycle → loaded ≡ report_of run.reports (min (max (length run.entries) cycle) (length run.entries + most_cycles))
+  loaded_found : (cycle : ℕ) → cycle ≡ loaded.cycle → loaded ≡ report_of run.reports (min (max (length run.entries) cycle) (length run.entries + most_round_cycles))
   loaded_found cycle is =
       let same : min (max (length run.entries) cycle) (length run.entries + 16) ≡ length run.entries = (let c = cycle_is in let e : cycle ≡ length run.entries = is ∙ c in omega (arith, e)) in
       loaded_is ∙ ap (report_of run.reports) (sym same)
 
   -- the same is heard by the report loaded and by the one that the run tells
-  pub heard_found : (tracks : List TrackKept) (cycle : ℕ) → cycle ≡ loaded.cycle → HeardAlike tracks loaded (report_of run.reports (min (max (length run.entries) cycle) (length run.entries + most_cycles)))
+  pub heard_found : (tracks : List TrackKept) (cycle : ℕ) → cycle ≡ loaded.cycle → HeardAlike tracks loaded (report_of run.reports (min (max (length run.entries) cycle) (length run.entries + most_round_cycles)))
   heard_found tracks cycle is =
-      let same : loaded ≡ report_of run.reports (min (max (length run.entries) cycle) (length run.entries + most_cycles)) = loaded_found cycle is in
+      let same : loaded ≡ report_of run.reports (min (max (length run.entries) cycle) (length run.entries + most_round_cycles)) = loaded_found cycle is in
       record { cycle = ap (λ (r : Report). r.cycle) same; slots = (λ i low away. ap (λ (r : Report). report_at r.slots (slot_number (track_at tracks i))) same) }

@@ -1,6 +1,6 @@
 -- What the meetings leave of the queue, the report and the pipe is told by the meetings of the run.
 use Rattle.std.proofs.Common.{◌≡◌, ℕ, map, List, [], ◌∷◌, ◌++◌, length, refl, sym, ap, ◌∙◌, subst}
-use Rattle.af_told_law.proofs.Common.{ClientEvent, Event, FastState, HasHistory, HasPipeHistory, Item, Met, MixerState, MutatorEvent, NormalState, ObserverEvent, ReaderEvent, Report, Run, ServerEvent, ServerState, Session, SessionState, SharedHistories, WriterEvent, cycle_frames, kept_of, length-map, map-append, marked_event, met, no_report, one, ones, ones_append, pushed_states, setup_of as mixer_setup, state_at, two, twos}
+use Rattle.af_told_law.proofs.Common.{ClientEvent, Event, FastState, HasStateHistory, HasPipeHistory, Item, Met, MixerState, MutatorEvent, NormalState, ObserverEvent, ReaderEvent, Report, Run, ServerEvent, ServerState, Session, SessionState, SharedHistories, WriterEvent, cycle_frames, kept_of, length-map, map-append, marked_event, met, no_report, one, ones, ones_append, pushed_states, setup_of as mixer_setup, state_at, two, twos}
 use Rattle.af_base.specs.declared.event.ClientEvent.TheVariants as client
 use Rattle.af_base.specs.declared.event.ServerEvent.TheVariants as server
 use Rattle.af_model.specs.NewestValue as newest
@@ -113,9 +113,9 @@ module _ (s : Session) (run : Run) {d : Deeds} (a b : SessionState) (h : Tells s
   -- the lists of the ends have their histories
   pub shared_histories : SharedHistories s (met s run)
   shared_histories = record {
-    queue = subst (λ (y : FastState × List (MutatorEvent Item) × List (ObserverEvent Item)). HasHistory y.0 y.1 y.2) (λ j. (shared_met.first j, shared_met.mutator j, shared_met.observer j))
+    queue = subst (λ (y : FastState × List (MutatorEvent Item) × List (ObserverEvent Item)). HasStateHistory y.0 y.1 y.2) (λ j. (shared_met.first j, shared_met.mutator j, shared_met.observer j))
         (history_marked b.normal.mutator.past.first b.normal.mutator.past.events b.fast.observer.past.events m.ends.histories.queue);
-    report = subst (λ (y : List (WriterEvent Report) × List (ReaderEvent Report)). newest.HasHistory no_report y.0 y.1) (λ j. (shared_met.writer j, shared_met.reader j)) m.ends.histories.report;
+    report = subst (λ (y : List (WriterEvent Report) × List (ReaderEvent Report)). newest.HasValueHistory no_report y.0 y.1) (λ j. (shared_met.writer j, shared_met.reader j)) m.ends.histories.report;
     pipe = subst (λ (y : ℕ × List ClientEvent × List ℕ × List ServerEvent × List ℕ). HasPipeHistory y.0 y.1 y.2 y.3 y.4) (λ j. (shared_met.size j, shared_met.puts.told j, shared_met.puts.words j, shared_met.takes j, shared_met.taken j)) m.ends.histories.pipe;
   }
 

@@ -1,7 +1,7 @@
 -- The blocks of a run keep their sizes: they have no more frames than a block may have, in the first run and after each round.
 use Rattle.std.proofs.Common.{◌≡◌, ℕ, ◌<◌, ◌≤◌, ◌==◌, Bool, true, false, if◌then◌else◌, fold, List, [], ◌∷◌, Option, Some, None, refl, sym, subst, arith}
-use Rattle.af_told_law.proofs.Common.{EntrySeen, Frame, IsNewSession, RoundSeen, Run, ScriptData, Session, SessionState, Shape, SharedState, TrackSpec, TrackTold, Turn, TurnSpec, called, calls_alone, calls_in, cycle_alone, cycle_frames, each_track, ends, found_before, get_or-map-range_with_len, get_or_from_slice_get, length-map-range_with_len, loaded, made_alone, met_alone, mixed_track, new_run, no_spec, no_track, outside_of, played, session_of, shape_met, spec_of, state_for, takes_part, told_at, track_count, track_met, turn_alone, turned, turned_track, with_ends, with_load, with_mix, with_poll, with_turn}
-use Rattle.af_runs.specs.Runs.{new_track, slot_for}
+use Rattle.af_told_law.proofs.Common.{EntrySeen, Frame, IsNewSession, RoundSeen, Run, ScriptData, Session, SessionState, Shape, SharedState, TrackSpec, TrackTold, Turn, TurnSpec, called_in_turn, calls_alone, calls_in, cycle_alone, cycle_frames, each_track, ends, found_before, get_or-map-range_with_len, get_or_from_slice_get, length-map-range_with_len, loaded, made_alone, met_alone, mixed_track, new_run, no_spec, no_track, outside_of, played, session_of, shape_met, spec_of, state_for, takes_part, told_at, track_count, track_met, turn_alone, turned, turned_track, with_ends, with_load, with_mix, with_poll, with_turn}
+use Rattle.af_runs.specs.Runs.{new_told_track, slot_playing}
 use Rattle.af_runs.specs.Runs as run_of
 use Rattle.af_runs.specs.Sessions.{setup_of}
 use Rattle.af_script.specs.declared.op.TurnSpec.TheVariants as makes
@@ -29,7 +29,7 @@ poll_small s k run h = h
 
 mix_small : (s : Session) (e : EntrySeen) (run : Run) → IsSmallRun run → IsSmallRun (with_mix s e run)
 unfolding with_mix
-mix_small s e run = each_keeps IsTrackSmall (mixed_track s (state_for s run e.entry.state) e) run (with_mix s e run) refl (λ n low h. by_slot (slot_for (state_for s run e.entry.state) e.entry n) (told_at run n) h)
+mix_small s e run = each_keeps IsTrackSmall (mixed_track s (state_for s run e.entry.state) e) run (with_mix s e run) refl (λ n low h. by_slot (slot_playing (state_for s run e.entry.state) e.entry n) (told_at run n) h)
   where
     by_slot : (o : Option ℕ) (t : TrackTold) → IsTrackSmall t → IsTrackSmall (elim o as (λ o. TrackTold) [ None ↦ t | Some i ↦ record t { stream = played (cycle_frames s) e i t.stream } ])
     by_slot None t h = h
@@ -40,9 +40,9 @@ cycles_small s [] run h = h
 cycles_small s (e ∷ entries) run h = let polled = with_poll s e.entry.state run in cycles_small s entries (cycle_alone s run e) (mix_small s e (run_of.met s polled) (met_small s polled (poll_small s e.entry.state run h)))
 
 calls_small : (track : ℕ) (round : RoundSeen) (run : Run) → IsSmallRun run → IsSmallRun (calls_alone track round run)
-calls_small track round run = each_keeps IsTrackSmall (λ number t. if number == track then called (calls_in round track) t else t) run (calls_alone track round run) refl (λ n low h. by_track (n == track) (told_at run n) h)
+calls_small track round run = each_keeps IsTrackSmall (λ number t. if number == track then called_in_turn (calls_in round track) t else t) run (calls_alone track round run) refl (λ n low h. by_track (n == track) (told_at run n) h)
   where
-    by_track : (b : Bool) (t : TrackTold) → IsTrackSmall t → IsTrackSmall (if b then called (calls_in round track) t else t)
+    by_track : (b : Bool) (t : TrackTold) → IsTrackSmall t → IsTrackSmall (if b then called_in_turn (calls_in round track) t else t)
     by_track true t h = h
     by_track false t h = h
 
@@ -75,7 +75,7 @@ module _ (script : ScriptData) (files : List (List Frame)) (shared : SharedState
   abbrev here : Session
   here = session_of script files
 
-  track_small : (i : ℕ) → i < track_count here → IsTrackSmall (new_track here i)
+  track_small : (i : ℕ) → i < track_count here → IsTrackSmall (new_told_track here i)
   track_small i low =
       let at_place = new.tracks.each i low in
       let spec_is : at_place.spec ≡ spec_of here i = sym (get_or_from_slice_get script.tracks i at_place.spec no_spec at_place.spec_at) in
@@ -84,5 +84,5 @@ module _ (script : ScriptData) (files : List (List Frame)) (shared : SharedState
   -- the first run of a new session is small
   pub new_small : IsSmallRun (new_run here)
   new_small n low =
-      let below : n < track_count here = (let l = length-map-range_with_len (new_track here) 0 (track_count here) in omega (arith, low, l)) in
-      subst IsTrackSmall (sym (get_or-map-range_with_len (new_track here) 0 (track_count here) n n no_track below (omega arith))) (track_small n below)
+      let below : n < track_count here = (let l = length-map-range_with_len (new_told_track here) 0 (track_count here) in omega (arith, low, l)) in
+      subst IsTrackSmall (sym (get_or-map-range_with_len (new_told_track here) 0 (track_count here) n n no_track below (omega arith))) (track_small n below)

@@ -1,6 +1,6 @@
 -- After a turn of the normal mixer by which it ended the run with that turn tells each track's proxies: nothing was done to them, and each is home.
 use Rattle.std.proofs.Common.{◌≡◌, ℕ, zero, suc, ◌<◌, ◌&&◌, ◌||◌, Bool, true, false, true≢false, if◌then◌else◌, List, [], ◌∷◌, ◌++◌, append-nil, length, slice_get, Some, refl, sym, ap, subst, ◌∙◌, arith}
-use Rattle.af_told_law.proofs.Common.{Adds, AllByRecursion, AreTogether, BlockTold, HandEvent, IsLegal, Links, NormalKept, NormalState, Outside, Run, ServerEvent, ServerPart, ServerState, Session, SessionState, Setup, TrackKept, Turn, and_parts, command_events_of, commands_turned, ended_turn, hand_events, hand_list, invalid, is_exit, is_home, kept_of, learnt, mix_events, same_Some, setup_of as mixer_setup, some_at, stream_turned, told_at, track_at, track_in, tracks_at, turn_of, turned_track, words_taken}
+use Rattle.af_told_law.proofs.Common.{Adds, AllByRecursion, AreTogether, BlockTold, HandEvent, IsLegal, Links, NormalKept, NormalState, Outside, Run, ServerEvent, ServerPart, ServerState, Session, SessionState, Setup, TrackKept, Turn, and_parts, command_events_of, commands_turned, ended_turn, hand_events, hand_events_of, invalid, commands_exit, is_home, kept_of, learnt, mix_events, same_Some, setup_of as mixer_setup, some_at, stream_turned, told_at, track_at, track_in, tracks_at, turn_of, turned_track, words_taken}
 use Rattle.af_audit.proofs.DoneTracks.{IsDone}
 use Rattle.af_runs.specs.Blocks as told_of
 use Rattle.af_runs.specs.Sessions.{setup_of}
@@ -41,12 +41,12 @@ module _ (links : Links) (s : Session) (run : Run) {d : Deeds} (x : SessionState
   still : turn_of n.entry ≡ ended_turn
   still = legal.legal.still ends
 
-  exit : is_exit k.last ≡ true
+  exit : commands_exit k.last ≡ true
   exit = by_end x.normal.ended lives (sym legal.legal.ends ∙ ends)
     where
-      by_end : (b : Bool) → b ≡ false → (b || (is_exit k.last && e.ack)) ≡ true → is_exit k.last ≡ true
+      by_end : (b : Bool) → b ≡ false → (b || (commands_exit k.last && e.ack)) ≡ true → commands_exit k.last ≡ true
       by_end true off now = absurd (true≢false off)
-      by_end false off now = (and_parts (is_exit k.last) e.ack now).0
+      by_end false off now = (and_parts (commands_exit k.last) e.ack now).0
 
   -- each stream proxy is home
   pub all_home : (i : ℕ) → is_home (track_at n.tracks i).holder ≡ true
@@ -76,7 +76,7 @@ module _ (links : Links) (s : Session) (run : Run) {d : Deeds} (x : SessionState
       let client = some_at x.clients i (let count = before.count in omega (arith, low, count)) in
       let was : TellsStream x.normal x.fast i (told_at run i).stream (d.streams i) = (told.tracks i client.0 client.1).stream in
       let same = stream_still (setup_of s) p run.normal i (told_at run i).stream (d.streams i) e still in
-      let none : hand_list e i ≡ [] = ap (λ (t : Turn). hand_list t i) still in
+      let none : hand_events_of e i ≡ [] = ap (λ (t : Turn). hand_events_of t i) still in
       subst (TellsStream n x.fast i (turned_track (setup_of s) p run.normal e i (told_at run i)).stream) (sym (stream_none i)) (record {
         home = (λ t is. let r = stays.home i t is in subst (λ (did : ServerDone). TellsServer did t) same.0 (part_told (done_on (told_at run i).stream (d.streams i)) r.0 t r.2 (was.home r.0 r.1)));
         away = (λ gone. absurd (true≢false (sym (all_home i) ∙ gone)));

@@ -1,6 +1,6 @@
 -- After a turn of the normal mixer that goes on the run with that turn tells each track's proxies.
 use Rattle.std.proofs.Common.{◌≡◌, inl, inr, ◌⊎◌, ⊎_elim, ℕ, ◌<◌, Bool, true, false, is_some, List, [], ◌∷◌, ◌++◌, append-nil, length, slice_get, Option, Some, None, refl, sym, ap, subst, ◌∙◌, arith}
-use Rattle.af_told_law.proofs.Common.{AreTogether, BlockTold, GoesOnFrom, HasHistory, IsLegal, Links, Listed, NormalKept, NormalState, Outside, Run, ServerEvent, ServerState, Session, SessionState, Turn, TurnFound, after_ack, at, away_slot, cycle_frames, home_stream, in_queue, is_home, is_pushed, item_at, kept_of, learnt, listed_at, ltb-true, must_enter, none-some, outside_of, same_Some, served_tracks, setup_of as mixer_setup, slice_get_within, slot_number, slots, some_at, stream_at, stream_list, stream_turned, told_at, track_at, tracks_at, turn_after, turn_of, turned_track}
+use Rattle.af_told_law.proofs.Common.{AreTogether, BlockTold, GoesOnFrom, HasStateHistory, IsLegal, Links, Listed, NormalKept, NormalState, Outside, Run, ServerEvent, ServerState, Session, SessionState, Turn, TurnFound, after_ack, at, away_slot, cycle_frames, home_stream, in_queue, is_home, is_pushed, item_at, kept_of, learnt, listed_at, ltb-true, must_enter, none-some, outside_of, same_Some, served_tracks, setup_of as mixer_setup, slice_get_within, slot_number, slots, some_at, stream_at, stream_list, stream_turned, told_at, track_at, tracks_at, turn_after, turn_of, turned_track}
 use Rattle.af_model.specs.declared.states.MutatorEvent.TheVariants as mutator
 use Rattle.af_model.specs.declared.states.ObserverEvent.TheVariants as observer
 use Rattle.af_runs.specs.Sessions.{setup_of}
@@ -22,7 +22,7 @@ use Rattle.af_told_law.specs.Deeds.{Deeds, ServerDone, TrackDid, commands_by, de
 module _ (links : Links) (s : Session) (run : Run) {deeds : Deeds} (x : SessionState) (n : NormalState) (o : Outside) (told : Tells s run deeds x) (before : AreTogether links x) (after : AreTogether links (record x { normal = n })) (legal : IsLegal o x.normal n)
     (runs : (turn_of n.entry).ended ≡ false) (f : TurnFound) (finds : FindsBlocks run f) (report : HeardAlike (after_ack (turn_of n.entry).ack (kept_of x.normal)).tracks o.report f.report)
     (goes : StreamsGo o x.normal n (turn_of n.entry)) (stands : StandsBefore x) (known : QueueKnown (cycle_frames s) run x.normal)
-    (c d : ℕ) (later : HasHistory x.normal.mutator.past.first (n.mutator.past.events ++ mutator.Learn c ∷ []) (x.fast.observer.past.events ++ observer.Learn d ∷ [])) where
+    (c d : ℕ) (later : HasStateHistory x.normal.mutator.past.first (n.mutator.past.events ++ mutator.Learn c ∷ []) (x.fast.observer.past.events ++ observer.Learn d ∷ [])) where
   abbrev e : Turn
   e = turn_of n.entry
 

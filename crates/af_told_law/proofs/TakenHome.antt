@@ -1,6 +1,6 @@
 -- A track that a turn mixes has no slot, so that its stream proxy is home once the acknowledgement was seen.
 use Rattle.std.proofs.Common.{◌≡◌, ◌⊎◌, inl, inr, ℕ, zero, suc, ◌<◌, ◌==◌, ◌&&◌, not, nat_le, Bool, true, false, true≢false, if◌then◌else◌, is_some, map, filter, List, [], ◌∷◌, length, refl, sym, ap, ◌∙◌, subst, eqb-true, arith}
-use Rattle.af_told_law.proofs.Common.{AllByRecursion, Command, FastState, IsSound, Learnt, NormalKept, Returning, Setup, TakeSeen, TrackKept, TrackSeen, Turn, acked_len, after_ack, after_edits, after_tracks, asked, at_set, code_of, commanded as with_command, edited, edited_to, entered, goes_served, is_home, is_mixed_here, lend, lent_by, let_go, mixed_here, must_enter, must_leave, mutation_len, new_track, ordered, plays, range_with_len, seen_at, served, served_len, served_to, slice_set, slot_of_away, sound_acked, sound_served, takes_from, track_at, tracks_due}
+use Rattle.af_told_law.proofs.Common.{AllByRecursion, Command, FastState, IsSound, Learnt, NormalKept, Returning, Setup, TakeSeen, TrackKept, TrackSeen, Turn, acked_len, after_ack, after_edits, after_tracks, asked, at_set, code_of, draft_commanded as with_command, edited, edited_to, entered, goes_served, is_home, is_mixed_here, lend, lent_by, let_go, mixed_here, must_enter, must_leave, mutation_len, new_track, ordered, plays, range_with_len, seen_at, served, served_len, served_to, slice_set, slot_of_away, sound_acked, sound_served, takes_from, track_at, tracks_due}
 use Rattle.af_life.specs.Edits.{mutated}
 
 -- ## A slot stays

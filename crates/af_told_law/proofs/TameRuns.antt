@@ -1,7 +1,7 @@
 -- Runs whose lawful blocks weren't poked so far, through polls, meetings and mixes; what they tell is small.
 use Rattle.std.proofs.Common.{◌≡◌, ℕ, ◌<◌, ◌≤◌, Bool, true, false, fold, map, List, [], ◌∷◌, length, slice_get, Option, Some, None, refl, sym, ap, ◌∙◌, subst, arith}
-use Rattle.af_told_law.proofs.Common.{EntrySeen, Marks, Moment, PartyState, Run, ServerEvent, Session, SessionState, Shape, Track, TrackTold, both_lawful, by_server, client_of, cycle_events, cycle_frames, each_at, each_from, each_long, entry_slot, front_of, is_lawful, listed, mixed_track, no_track, played, shape_met, slice_get_within, slice_index_or, state_for, stream_met, takes_part, told_at, track_met, with_mix, with_poll}
-use Rattle.af_runs.specs.Runs.{slot_for}
+use Rattle.af_told_law.proofs.Common.{EntrySeen, Marks, Moment, PartyState, Run, ServerEvent, Session, SessionState, Shape, Track, TrackTold, both_lawful, by_server, client_of, cycle_events, cycle_frames, each_at, changed_from, each_long, entry_slot, front_of, is_lawful, listed, mixed_track, no_track, played, shape_met, slice_get_within, slice_index_or, state_for, stream_met, takes_part, told_at, track_met, with_mix, with_poll}
+use Rattle.af_runs.specs.Runs.{slot_playing}
 use Rattle.af_runs.specs.Runs as run_of
 use Rattle.af_told_law.specs.Sizes.{AreSmall, IsSmallRun, IsTrackSmall}
 use Rattle.af_told_law.specs.Marked.{IsMarkedRun, IsTrackMarked}
@@ -18,13 +18,13 @@ server_client told (e ∷ es) = server_client (by_server e ∷ told) es
 -- ## Each track
 
 -- what a change of each track keeps
-pub each_keeps_at : (P : ℕ → TrackTold → Type 0) (change : ℕ → TrackTold → TrackTold) (run after : Run) → after.tracks ≡ each_from change 0 run.tracks → ((n : ℕ) → n < length run.tracks → P n (told_at run n) → P n (change n (told_at run n)))
+pub each_keeps_at : (P : ℕ → TrackTold → Type 0) (change : ℕ → TrackTold → TrackTold) (run after : Run) → after.tracks ≡ changed_from change 0 run.tracks → ((n : ℕ) → n < length run.tracks → P n (told_at run n) → P n (change n (told_at run n)))
     → ((n : ℕ) → n < length run.tracks → P n (told_at run n)) → (n : ℕ) → n < length after.tracks → P n (told_at after n)
 each_keeps_at P change run after is each h n low =
     let few : n < length run.tracks = (let l = ap (λ (ts : List TrackTold). length ts) is ∙ each_long change 0 run.tracks in omega (arith, l, low)) in
     subst (P n) (sym (ap (λ (ts : List TrackTold). slice_index_or ts n no_track) is ∙ each_at change 0 run.tracks n n no_track few (omega arith))) (each n few (h n few))
 
-pub each_keeps : (P : TrackTold → Type 0) (change : ℕ → TrackTold → TrackTold) (run after : Run) → after.tracks ≡ each_from change 0 run.tracks → ((n : ℕ) → n < length run.tracks → P (told_at run n) → P (change n (told_at run n)))
+pub each_keeps : (P : TrackTold → Type 0) (change : ℕ → TrackTold → TrackTold) (run after : Run) → after.tracks ≡ changed_from change 0 run.tracks → ((n : ℕ) → n < length run.tracks → P (told_at run n) → P (change n (told_at run n)))
     → ((n : ℕ) → n < length run.tracks → P (told_at run n)) → (n : ℕ) → n < length after.tracks → P (told_at after n)
 each_keeps P = each_keeps_at (λ _. P)
 
@@ -49,7 +49,7 @@ module _ (marks : Marks) where
 
   pub mix_marked : (s : Session) (e : EntrySeen) (run : Run) → IsMarkedRun marks run → IsMarkedRun marks (with_mix s e run)
   unfolding with_mix
-  mix_marked s e run = each_keeps_at (IsTrackMarked marks) (mixed_track s (state_for s run e.entry.state) e) run (with_mix s e run) refl (λ n low h. by_slot n (slot_for (state_for s run e.entry.state) e.entry n) (told_at run n) h)
+  mix_marked s e run = each_keeps_at (IsTrackMarked marks) (mixed_track s (state_for s run e.entry.state) e) run (with_mix s e run) refl (λ n low h. by_slot n (slot_playing (state_for s run e.entry.state) e.entry n) (told_at run n) h)
     where
       by_slot : (n : ℕ) (o : Option ℕ) (t : TrackTold) → IsTrackMarked marks n t → IsTrackMarked marks n (elim o as (λ o. TrackTold) [ None ↦ t | Some i ↦ record t { stream = played (cycle_frames s) e i t.stream } ])
       by_slot n None t h = h

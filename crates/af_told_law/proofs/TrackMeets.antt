@@ -1,6 +1,6 @@
 -- What the meetings leave of a track is told by the meetings of the run.
 use Rattle.std.proofs.Common.{Bool, List, None, Option, Some, [], ap, arith, false, if◌then◌else◌, inl, inr, is_some, length, nat_lt, not, refl, slice_get, subst, suc, sym, true, true≢false, zero, ℕ, ◌&&◌, ◌<◌, ◌==◌, ◌||◌, ◌∙◌, ◌∷◌, ◌≡◌, ◌≤◌, ◌⊎◌}
-use Rattle.af_told_law.proofs.Common.{AreTogether, BlockTold, ClientState, FastState, HandEvent, HandSide, HasBlockHistory, Links, MeetsAway, MeetsFlag, MeetsStream, Met, MixerState, MutatorPoint, NormalKept, NormalState, ObserverPoint, PartyState, Run, ServerEvent, ServerState, Session, SessionState, SpotMet, Track, TrackKept, TrackMet, at, carries, cases_eq, client_list, client_made, fold-append, hand_events, is_home, is_lawful, item_at, list_any, meets, meets_flag, met, mutator_next, mutator_start, none-some, observer_next, observer_start, ops_at, proxies_of, range_with_len, same_Some, server_list, side_of, side_of_proxy, slot_for, slot_number, slot_of, slots, spot_of, stream_at, stream_met, takes_part, told_at, track_at, track_count, track_met}
+use Rattle.af_told_law.proofs.Common.{AreTogether, BlockTold, ClientState, FastState, HandEvent, HandSide, HasBlockHistory, Links, MeetsAway, MeetsFlag, MeetsStream, Met, MixerState, MutatorPoint, NormalKept, NormalState, ObserverPoint, PartyState, Run, ServerEvent, ServerState, Session, SessionState, SpotMet, Track, TrackKept, TrackMet, at, carries, cases_eq, client_list, client_made, fold-append, hand_events, is_home, is_lawful, item_at, list_any, meets, meets_flag, met, mutator_next, mutator_start, none-some, observer_next, observer_start, ops_at, proxies_of, range_with_len, same_Some, server_list, client_side, side_of_proxy, slot_for, slot_number, slot_of, slots, spot_of, stream_at, stream_met, takes_part, told_at, track_at, track_count, track_met}
 use Rattle.af_model.specs.declared.states.MutatorEvent.TheVariants as mutator
 use Rattle.af_model.specs.declared.states.ObserverEvent.TheVariants as observer
 use Rattle.af_runs.specs.Blocks.{hand_list}
@@ -116,7 +116,7 @@ module _ (s : Session) (run : Run) {d : Deeds} (links : Links) (a b : SessionSta
 
   -- a stream's block after the meetings, and its client
   pub record StreamMet (after : BlockTold) (list : List ServerEvent) (c : ClientState) : Type 0 where
-    pub side : side_of after ≡ side_of_proxy c
+    pub side : client_side after ≡ side_of_proxy c
     pub told : TellsStream b.normal b.fast i after list
     pub did : DeedTold after list
     pub handed : is_some (slice_get b.normal.hands i) ≡ run.handed
@@ -145,7 +145,7 @@ module _ (s : Session) (run : Run) {d : Deeds} (links : Links) (a b : SessionSta
       by_turns (inr some) =
           let w = (together.normal.hands (omega (arith, some))).whole in let l = inside in let past = none_past a.normal.hands i none in absurd (omega (arith, w, l, past))
 
-  module _ (c e : ClientState) (side : side_of stream_told ≡ side_of_proxy c) (told : TellsStream a.normal a.fast i stream_told deed) (did : DeedTold stream_told deed) where
+  module _ (c e : ClientState) (side : client_side stream_told ≡ side_of_proxy c) (told : TellsStream a.normal a.fast i stream_told deed) (did : DeedTold stream_told deed) where
     -- a stream meets whose proxy is at home
     by_home : (p : ServerState) (o o' : Option HandSide) → stream_at a.normal.streams i ≡ Some p → slice_get a.normal.hands i ≡ o → slice_get b.normal.hands i ≡ o' → MeetsStream (client_made c.pass) (Some p) o c (stream_at b.normal.streams i) o' e
         → Meeting (takes_part s run i) run.handed e
@@ -239,10 +239,10 @@ module _ (s : Session) (run : Run) {d : Deeds} (links : Links) (a b : SessionSta
     abbrev track_told : TellsTrack s a.normal a.fast d i (told_at run i) p
     track_told = h.tracks i p was
 
-    stream_side : side_of stream_told ≡ side_of_proxy p.stream
+    stream_side : client_side stream_told ≡ side_of_proxy p.stream
     stream_side = ap (λ (y : Track). y.stream) track_told.client
 
-    commands_side : side_of (told_at run i).commands ≡ side_of_proxy p.command
+    commands_side : client_side (told_at run i).commands ≡ side_of_proxy p.command
     commands_side = ap (λ (y : Track). y.commands) track_told.client
 
     pub stream_now : Meeting (takes_part s run i) run.handed q.stream

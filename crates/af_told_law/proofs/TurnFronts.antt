@@ -1,6 +1,6 @@
 -- If each front that a server saw in a turn of the normal mixer is its own, the fronts of its looks are those told, by the rule of a journal and by that of a lawful block.
 use Rattle.std.proofs.Common.{◌≡◌, inl, inr, ℕ, ◌==◌, ◌&&◌, not, Bool, true, false, true≢false, if◌then◌else◌, is_some, fold, List, [], ◌∷◌, ◌++◌, Option, Some, None, refl, sym, ap, ◌∙◌, subst, eqb-true}
-use Rattle.af_told_law.proofs.Common.{AllByRecursion, AllSeeOwn, CommandLook, LegalLooks, LegalTake, Listed, LooksBy, MatchOption, Outside, ServerEvent, ServerKept, Setup, Shape, SlotEntry, TakeSeen, TrackKept, Turn, after_look, all_command_events, as_slot, asked, command_events, command_list, cycle_events, did, flat_map, fold-append, front_by_answer, front_of, fronts_by, heard, invalid, is_found_shut, is_home, is_own_inside, kept, lawful_front, learnt, leaves_open, look_at, look_events, mix_events, own_front, server_begins, server_keeps, status_events, stream_list, takes_command, takes_from, track_at, track_in}
+use Rattle.af_told_law.proofs.Common.{AllByRecursion, AllSeeOwn, CommandLook, LegalLooks, LegalTake, Listed, LooksBy, MatchOption, Outside, ServerEvent, ServerKept, Setup, Shape, SlotEntry, TakeSeen, TrackKept, Turn, events_behind_look, all_command_events, as_slot, asked, command_events, command_list, cycle_events, did, flat_map, fold-append, front_by_answer, front_of, fronts_by, heard, invalid, is_found_shut, is_home, is_own_inside, kept, lawful_front, learnt, leaves_open, look_at, look_events, mix_events, own_front, server_begins, server_keeps, status_events, stream_list, takes_command, takes_from, track_at, track_in}
 use Rattle.af_base.specs.declared.event.ServerEvent.TheVariants as server
 use Rattle.af_base.specs.declared.seen.Seen.TheVariants as seen
 use Rattle.af_told_law.specs.Outsides.{LooksTold, SameFront, SameFronts, TakeTold}
@@ -58,7 +58,7 @@ looks_told s (look ∷ looks) (f ∷ fs) legal own =
 cycle_own : (many : ℕ) (s : Listed) (slot : SlotEntry) (f : ℕ) → AllSeeOwn s.shape (kept s) (cycle_events many s slot f) → is_some (kept s).shut ≡ false → f ≡ own_front s.shape (kept s)
 cycle_own many s slot f own = by_shut (is_some (kept s).shut) own
   where
-    by_shut : (b : Bool) → AllSeeOwn s.shape (kept s) (server.SawGain slot.gains ∷ (if b then [] else look_events slot.seen slot.flush slot.rear f) ++ after_look many b slot.seen) → b ≡ false → f ≡ own_front s.shape (kept s)
+    by_shut : (b : Bool) → AllSeeOwn s.shape (kept s) (server.SawGain slot.gains ∷ (if b then [] else look_events slot.seen slot.flush slot.rear f) ++ events_behind_look many b slot.seen) → b ≡ false → f ≡ own_front s.shape (kept s)
     by_shut true own is = absurd (true≢false is)
     by_shut false own is = own.1.1.1.0
 

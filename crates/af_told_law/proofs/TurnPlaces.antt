@@ -1,6 +1,6 @@
 -- Where each stream proxy lies after a turn that goes on, by its steps.
 use Rattle.std.proofs.Common.{◌≡◌, ◌≢◌, ℕ, zero, suc, ◌<◌, ◌≤◌, ◌==◌, ◌&&◌, ◌⊎◌, inl, inr, not, Bool, true, false, true≢false, is_some, All, if◌then◌else◌, refl, sym, ap, subst, ◌∙◌, List, [], ◌∷◌, length, map, Option, Some, None, ⊎_elim, arith}
-use Rattle.af_told_law.proofs.Common.{Command, FastState, GoesOnBy, Home, IsTied, Links, Mutates, NormalKept, NormalState, Push, Pushes as Past, Report, ServerState, Setup, StreamNames, TrackKept, WasAcked, acked_list, after_ack, apart, at, away_holds, away_slot, begun, carries, cases_eq, code_of, comer_holds, comer_home, comer_inside, comer_slot, commanded as with_command, due_command, finished, home_stream, in_queue, is_home, is_out, is_pushed, kept_of, mixing_of, must_enter, none-some, nothing_heard, number_of, served_len, setting_of, setup_of, slice_index_or, slot_number, slot_of_away, slots, stream_at, takes_from, track_at, welcomed}
+use Rattle.af_told_law.proofs.Common.{Command, FastState, GoesOnBy, Home, IsTied, Links, Mutates, NormalKept, NormalState, Push, Pushes as Past, Report, ServerState, Setup, StreamNames, TrackKept, WasAcked, acked_list, after_ack, apart, at, away_holds, away_slot, begun, carries, cases_eq, code_of, comer_holds, comer_home, comer_inside, comer_slot, draft_commanded as with_command, due_command, finished, home_stream, in_queue, is_home, is_out, is_pushed, kept_of, mixing_of, must_enter, none-some, nothing_heard, number_of, served_len, setting_of, setup_of, slice_index_or, slot_number, slot_of_away, slots, stream_at, takes_from, track_at, welcomed}
 use Rattle.std.proofs.lemmas.List.Elements.{All-head, All-tail}
 use Rattle.af_life.specs.declared.kept.Setting.{Setting}
 use Rattle.af_told_law.proofs.AckPlaces.{Acked, look_leaves, none_of}

@@ -10,7 +10,7 @@ abbrev Events : Type 0
 Events = List (Event (WriterEvent Report) (ReaderEvent Report))
 
 abbrev LegalFrom : CellPoint Report → Events → Type 0
-LegalFrom p order = Legal newest.legal newest.next p order
+LegalFrom p order = Legal newest.legal_value newest.next_value p order
 
 -- what a load saw, at some point of a list of stores
 pub record LoadsAt (p : CellPoint Report) (ws : List (WriterEvent Report)) (n : ℕ) (x : Report) : Type 0 where
@@ -21,7 +21,7 @@ pub record LoadsAt (p : CellPoint Report) (ws : List (WriterEvent Report)) (n : 
   pub value : x ≡ last_of p.value front
 
 -- what a load saw behind one event more of the writer
-loads_after : (p : CellPoint Report) (w : WriterEvent Report) (ws : List (WriterEvent Report)) (n : ℕ) (x : Report) → LoadsAt (newest.next p (one w)) ws n x → LoadsAt p (w ∷ ws) n x
+loads_after : (p : CellPoint Report) (w : WriterEvent Report) (ws : List (WriterEvent Report)) (n : ℕ) (x : Report) → LoadsAt (newest.next_value p (one w)) ws n x → LoadsAt p (w ∷ ws) n x
 loads_after p (Store y) ws n x h = record { front = Store y ∷ h.front; back = h.back; parts = ap (λ (l : List (WriterEvent Report)). Store y ∷ l) h.parts; number = (let a = h.number in omega arith); value = h.value }
 loads_after p (writes.Learn c) ws n x h = record { front = writes.Learn c ∷ h.front; back = h.back; parts = ap (λ (l : List (WriterEvent Report)). writes.Learn c ∷ l) h.parts; number = h.number; value = h.value }
 
@@ -42,9 +42,9 @@ tail_is e d xs ys h = ap rest h
 -- the first event of the reader is the load
 pub loads_first : (p : CellPoint Report) (order : Events) → LegalFrom p order → (n : ℕ) (x : Report) (behind : List (ReaderEvent Report)) → twos order ≡ Load n x ∷ behind → LoadsAt p (ones order) n x
 loads_first p [] l n x behind is = absurd (omega (arith, ap length is))
-loads_first p (one w ∷ order) l n x behind is = loads_after p w (ones order) n x (loads_first (newest.next p (one w)) order l.1 n x behind is)
+loads_first p (one w ∷ order) l n x behind is = loads_after p w (ones order) n x (loads_first (newest.next_value p (one w)) order l.1 n x behind is)
 loads_first p (two e ∷ order) l n x behind is =
-    let may : (n ≡ p.number) × (x ≡ p.value) = subst (λ (d : ReaderEvent Report). newest.legal p (two d)) (head_is e (Load n x) (twos order) behind is) l.0 in
+    let may : (n ≡ p.number) × (x ≡ p.value) = subst (λ (d : ReaderEvent Report). newest.legal_value p (two d)) (head_is e (Load n x) (twos order) behind is) l.0 in
     record { front = []; back = ones order; parts = refl; number = (let a = may.0 in omega arith); value = may.1 }
 
 -- a load behind a meeting that told of so many events of the writer
@@ -55,9 +55,9 @@ pub record LoadsBehind (p : CellPoint Report) (ws : List (WriterEvent Report)) (
 pub loads_behind : (p : CellPoint Report) (order : Events) → LegalFrom p order → (early : List (ReaderEvent Report)) (c n : ℕ) (x : Report) (behind : List (ReaderEvent Report)) → twos order ≡ early ++ reads.Learn c ∷ Load n x ∷ behind → LoadsBehind p (ones order) c n x
 loads_behind p [] l [] c n x behind is = absurd (omega (arith, ap length is))
 loads_behind p [] l (e ∷ early) c n x behind is = absurd (omega (arith, ap length is))
-loads_behind p (one w ∷ order) l early c n x behind is = after_one w (loads_behind (newest.next p (one w)) order l.1 early c n x behind is)
+loads_behind p (one w ∷ order) l early c n x behind is = after_one w (loads_behind (newest.next_value p (one w)) order l.1 early c n x behind is)
   where
-    after_one : (w : WriterEvent Report) → LoadsBehind (newest.next p (one w)) (ones order) c n x → LoadsBehind p (w ∷ ones order) c n x
+    after_one : (w : WriterEvent Report) → LoadsBehind (newest.next_value p (one w)) (ones order) c n x → LoadsBehind p (w ∷ ones order) c n x
     after_one (Store y) h = record {
       at = record { front = Store y ∷ h.at.front; back = h.at.back; parts = ap (λ (l : List (WriterEvent Report)). Store y ∷ l) h.at.parts; number = (let a = h.at.number in omega arith); value = h.at.value };
       learnt = (let a = h.learnt in omega arith);
@@ -67,11 +67,11 @@ loads_behind p (one w ∷ order) l early c n x behind is = after_one w (loads_be
       learnt = (let a = h.learnt in omega arith);
     }
 loads_behind p (two e ∷ order) l [] c n x behind is =
-    let told : c ≤ p.writes = subst (λ (d : ReaderEvent Report). newest.legal p (two d)) (head_is e (reads.Learn c) (twos order) (Load n x ∷ behind) is) l.0 in
-    let rest = loads_first (newest.next p (two e)) order l.1 n x behind (tail_is e (reads.Learn c) (twos order) (Load n x ∷ behind) is) in
+    let told : c ≤ p.writes = subst (λ (d : ReaderEvent Report). newest.legal_value p (two d)) (head_is e (reads.Learn c) (twos order) (Load n x ∷ behind) is) l.0 in
+    let rest = loads_first (newest.next_value p (two e)) order l.1 n x behind (tail_is e (reads.Learn c) (twos order) (Load n x ∷ behind) is) in
     record { at = record { front = rest.front; back = rest.back; parts = rest.parts; number = rest.number; value = rest.value }; learnt = omega arith }
 loads_behind p (two e ∷ order) l (d ∷ early) c n x behind is =
-    let h = loads_behind (newest.next p (two e)) order l.1 early c n x behind (tail_is e d (twos order) (early ++ reads.Learn c ∷ Load n x ∷ behind) is) in
+    let h = loads_behind (newest.next_value p (two e)) order l.1 early c n x behind (tail_is e d (twos order) (early ++ reads.Learn c ∷ Load n x ∷ behind) is) in
     record { at = record { front = h.at.front; back = h.at.back; parts = h.at.parts; number = h.at.number; value = h.at.value }; learnt = h.learnt }
 
 -- ## All stores stand in the front

@@ -1,6 +1,6 @@
 -- The steps of a turn that goes on, without asking that the proxies are of their blocks: what is learnt and kept, and which proxy each step leaves at home.
 use Rattle.std.proofs.Common.{◌≡◌, ℕ, zero, suc, ◌<◌, ◌≤◌, inl, inr, Bool, false, refl, sym, ap, subst, ◌∙◌, List, [], ◌∷◌, ◌++◌, append-nil, length, map, fold, Option, Some, None, ⊎_elim, arith}
-use Rattle.af_told_law.proofs.Common.{GoesOnBy, IsOut, IsSound, IsTied, Learnt, Links, Mutates, NormalKept, NormalState, Push, Report, ServerState, StaysPut, StreamAdds, StreamNames, StreamTakes, TakeSeen, TrackKept, TrackSeen, Turn, acked_kept, acked_len, acked_list, acked_same, after_ack, after_edits, after_take, after_tracks, asked, at_set, cases_lt, counted, home_stream, invalid, kept, kept_of, known_by, learnt_by, listed_at, mix_of, mixing_of, none-some, out_put, same_Some, seen_at, served_len, served_to, setup_of, slice_get, stay_put, stream_at, takes_from, tied_acked, tied_learnt, track_at, track_seen, turn_of, words_of}
+use Rattle.af_told_law.proofs.Common.{GoesOnBy, IsOut, IsSound, IsTied, Learnt, Links, Mutates, NormalKept, NormalState, Push, Report, ServerState, StaysPut, StreamAdds, StreamNames, StreamTakes, TakeSeen, TrackKept, TrackSeen, Turn, acked_kept, acked_len, acked_list, acked_same, after_ack, after_edits, after_take, after_tracks, asked, at_set, cases_lt, look_counted, home_stream, invalid, kept, kept_of, known_by, learnt_by, listed_at, mix_of, mixing_of, none-some, out_put, same_Some, seen_at, served_len, served_to, setup_of, slice_get, stay_put, stream_at, takes_from, tied_acked, tied_learnt, track_at, track_seen, turn_of, words_of}
 use Rattle.af_base.specs.declared.turn.NormalTake.{NormalTake}
 use Rattle.af_base.specs.declared.turn.TrackTurn.{TrackTurn}
 use Rattle.af_base.specs.declared.turn.TurnEntry.{TurnEntry}
@@ -31,7 +31,7 @@ takes_put many [] tracks j = (refl, refl)
 takes_put many (take ∷ takes) tracks j = let rest = takes_put many takes (after_take many tracks take) j in (rest.0 ∙ (one_put tracks take).0, rest.1 ∙ (one_put tracks take).1)
   where
     one_put : (tracks : List TrackKept) (take : TakeSeen) → Same (track_at tracks j) (track_at (after_take many tracks take) j)
-    one_put tracks take = elim (at_set tracks take.track (record (track_at tracks take.track) { own = counted many take.slot.seen (track_at tracks take.track).own }) j) as (λ p. Same (track_at tracks j) (track_at (after_take many tracks take) j)) [
+    one_put tracks take = elim (at_set tracks take.track (record (track_at tracks take.track) { own = look_counted many take.slot.seen (track_at tracks take.track).own }) j) as (λ p. Same (track_at tracks j) (track_at (after_take many tracks take) j)) [
       | inl p ↦ subst (Same (track_at tracks j)) (sym p.1) (subst (λ (n : ℕ). Same (track_at tracks j) (track_at tracks n)) p.0 (refl, refl))
       | inr q ↦ subst (Same (track_at tracks j)) (sym q) (refl, refl)
     ]

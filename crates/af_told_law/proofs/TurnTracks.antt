@@ -1,6 +1,6 @@
 -- What a turn of a session's normal mixer leaves of each track's proxies is told by the run's turn.
 use Rattle.std.proofs.Common.{◌≡◌, ◌⊎◌, inl, inr, ℕ, ◌<◌, Bool, true, false, true≢false, if◌then◌else◌, fold, map, List, [], ◌∷◌, ◌++◌, length, slice_get, Some, refl, sym, ap, ◌∙◌, subst, arith, append_assoc, append-nil}
-use Rattle.af_told_law.proofs.Common.{Adds, AreTogether, BlockTold, GoesOnFrom, HandEvent, IsLegal, Links, Listed, Moment, NormalKept, NormalState, Outside, Run, ServerEvent, ServerState, Session, SessionState, Setup, TakeSeen, TrackKept, Turn, TurnFound, after_ack, asked, by_hand, by_server, commands_turned, cycle_events, flat_map, going, hand_events, hand_list, hand_of, invalid, is_home, kept_of, learnt, listed, mix_events, not_yet, outside_of, packed_word, same_Some, server_list, server_of, setup_of as mixer_setup, stream_list, stream_turned, takes_from, told_at, track_at, track_in, tracks_at, turn_after, turn_of, words_taken}
+use Rattle.af_told_law.proofs.Common.{Adds, AreTogether, BlockTold, GoesOnFrom, HandEvent, IsLegal, Links, Listed, Moment, NormalKept, NormalState, Outside, Run, ServerEvent, ServerState, Session, SessionState, Setup, TakeSeen, TrackKept, Turn, TurnFound, after_ack, asked, by_hand, by_server, commands_turned, cycle_events, flat_map, going, hand_events, hand_events_of, hand_of, invalid, is_home, kept_of, learnt, listed, mix_events, not_yet, outside_of, packed_word, same_Some, server_list, server_of, setup_of as mixer_setup, stream_list, stream_turned, takes_from, told_at, track_at, track_in, tracks_at, turn_after, turn_of, words_taken}
 use Rattle.af_runs.specs.Blocks.{hand_list as told_hand}
 use Rattle.af_runs.specs.Sessions.{setup_of}
 use Rattle.af_told_law.specs.Comers.{ComersTell}
@@ -42,11 +42,11 @@ stream_words e i = going e (map packed_word (flat_map (λ (take : TakeSeen). tak
 -- a stream block's lists after a turn
 module _ (c : Setup) (p : Outside) (m : NormalKept) (e : Turn) (i : ℕ) (b : BlockTold) where
   pub stream_servers : server_list (stream_turned c p m e i b) ≡ server_list b ++ stream_list c p e (tracks_at c (learnt p) m e i) i
-  stream_servers = server_more (fold (λ (sofar : List Moment) (one : Moment). one ∷ sofar) b.told (map by_hand (hand_list e i))) (stream_list c p e (tracks_at c (learnt p) m e i) i)
-      ∙ ap (λ (es : List ServerEvent). es ++ stream_list c p e (tracks_at c (learnt p) m e i) i) (server_still b.told (hand_list e i))
+  stream_servers = server_more (fold (λ (sofar : List Moment) (one : Moment). one ∷ sofar) b.told (map by_hand (hand_events_of e i))) (stream_list c p e (tracks_at c (learnt p) m e i) i)
+      ∙ ap (λ (es : List ServerEvent). es ++ stream_list c p e (tracks_at c (learnt p) m e i) i) (server_still b.told (hand_events_of e i))
 
-  stream_hands : told_hand (stream_turned c p m e i b) ≡ told_hand b ++ hand_list e i
-  stream_hands = hand_still (fold (λ (sofar : List Moment) (one : Moment). one ∷ sofar) b.told (map by_hand (hand_list e i))) (stream_list c p e (tracks_at c (learnt p) m e i) i) ∙ hand_more b.told (hand_list e i)
+  stream_hands : told_hand (stream_turned c p m e i b) ≡ told_hand b ++ hand_events_of e i
+  stream_hands = hand_still (fold (λ (sofar : List Moment) (one : Moment). one ∷ sofar) b.told (map by_hand (hand_events_of e i))) (stream_list c p e (tracks_at c (learnt p) m e i) i) ∙ hand_more b.told (hand_events_of e i)
 
 module _ (links : Links) (s : Session) (run : Run) {d : Deeds} (x : SessionState) (n : NormalState) (o : Outside) (told : Tells s run d x) (before : AreTogether links x) (legal : IsLegal o x.normal n) (runs : (turn_of n.entry).ended ≡ false) (f : TurnFound) (finds : FindsBlocks run f)
     (report : HeardAlike (after_ack (turn_of n.entry).ack (kept_of x.normal)).tracks o.report f.report) (comers : ComersTell run d x.normal (turn_of n.entry) legal.lists.back) where
@@ -206,4 +206,4 @@ module _ (links : Links) (s : Session) (run : Run) {d : Deeds} (x : SessionState
   pub turned_hand : (i : ℕ) → i < length m.tracks → hand_events n.hands i ≡ told_hand (stream_turned (setup_of s) (seen_by (setup_of s)) run.normal e i (told_at run i).stream)
   turned_hand i low =
       let client = client_at links s run x n o told before legal runs f finds report comers i low in
-      legal.lists.hands i ∙ ap (λ (hs : List HandEvent). hs ++ hand_list e i) (told.tracks i client.0 client.1).stream.hand ∙ sym (stream_hands (setup_of s) (seen_by (setup_of s)) run.normal e i (told_at run i).stream)
+      legal.lists.hands i ∙ ap (λ (hs : List HandEvent). hs ++ hand_events_of e i) (told.tracks i client.0 client.1).stream.hand ∙ sym (stream_hands (setup_of s) (seen_by (setup_of s)) run.normal e i (told_at run i).stream)

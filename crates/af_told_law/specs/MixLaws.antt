@@ -17,7 +17,7 @@ use Rattle.af_runs.specs.Told.{PipeTold}
 use Rattle.af_rendering.specs.Leads.{LeadAway}
 use Rattle.af_session.specs.Together.{AreTogether, SessionState}
 use Rattle.af_told_law.specs.Tells.{Leaves, Tells, held_slot}
-use Rattle.af_model.specs.StateQueue.{HasHistory}
+use Rattle.af_model.specs.StateQueue.{HasStateHistory}
 use Rattle.af_link.specs.PipeEnds.{SeesTaken}
 use Rattle.af_enough_law.specs.Seen.{frames_taken}
 use Rattle.af_told_law.specs.Deeds.{Deeds, SawOwnBy}
@@ -38,7 +38,7 @@ TookCounted f = length f.pipe.pass.part.frames ≡ frames_taken f.pipe.pass.part
 abbrev pub MixIsTold : Links → Session → Run → Deeds → SessionState → MixerState → List Frame → Cycle → List Frame → Type 0
 MixIsTold links s run d x g out answer out' =
     AreTogether links x → AreTogether links (record x { fast = g }) → LeadAway x.fast.observer.past.state x.normal.tracks → is_over x.fast ≡ false → MixesOnce x.fast out answer g out' → (g.frames ≡ x.fast.frames) × (g.cycles ≡ x.fast.cycles)
-    → HasHistory x.normal.mutator.past.first x.normal.mutator.past.events x.fast.observer.past.events → TookCounted x.fast → SeesTaken 0 g.pipe.pass.part.events → Tells s run d x
+    → HasStateHistory x.normal.mutator.past.first x.normal.mutator.past.events x.fast.observer.past.events → TookCounted x.fast → SeesTaken 0 g.pipe.pass.part.events → Tells s run d x
     → (entry : CycleEntry) × (answer ≡ entry.cycle) × (g.log.entries ≡ x.fast.log.entries ++ entry ∷ []) × (left : Leaves s d (with_mix s (entry_added x g entry) run) (record x { fast = g }))
     × ((i : ℕ) → held_slot x.fast i ≡ None → left.deeds.streams i ≡ d.streams i) × ((marks : Marks) → SawOwnBy marks run left.deeds → LegalEntry s marks run (entry_added x g entry))
 

@@ -17,7 +17,7 @@ use Rattle.af_told_law.specs.Comers.{ComersTell}
 use Rattle.af_told_law.specs.Tells.{Tells, TellsCommands, TellsStream}
 use Rattle.af_told_law.specs.Outsides.{FindsBlocks, HeardAlike}
 use Rattle.af_life.specs.Edits.{after_ack}
-use Rattle.af_model.specs.StateQueue.{HasHistory}
+use Rattle.af_model.specs.StateQueue.{HasStateHistory}
 use Rattle.af_life.specs.TurnEvents.{front_by_room}
 use Rattle.af_model.specs.PipeHistory.{releases_of, room_by}
 use Rattle.af_life.specs.Plays.{put_by}
@@ -45,7 +45,7 @@ pub record TurnShown (s : Session) (run : Run) (x : SessionState) (n : NormalSta
   pub hears : HearsFound x.normal n o f
   pub polled : ℕ
   pub pushed : ℕ
-  pub later : HasHistory x.normal.mutator.past.first (n.mutator.past.events ++ mutator.Learn polled ∷ []) (x.fast.observer.past.events ++ observer.Learn pushed ∷ [])
+  pub later : HasStateHistory x.normal.mutator.past.first (n.mutator.past.events ++ mutator.Learn polled ∷ []) (x.fast.observer.past.events ++ observer.Learn pushed ∷ [])
   pub front : ShowsFront (setup_of s) x.normal n (turn_of n.entry)
 
 -- what the servers did up to the end of the turn that led to n and saw this

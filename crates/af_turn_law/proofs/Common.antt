@@ -21,14 +21,14 @@ unfoldable pub use Rattle.af_life.specs.Heard.{heard_by}
 pub use Rattle.af_life.specs.Kept.{Learnt, NormalKept, Outside, Setup, asked, is_home, is_lent, new_normal, new_track, nothing_seen, pipe_size, plays, seen_at, track_at, track_in}
 pub use Rattle.af_life.specs.Obeys.{after_looks, are_due, ended, goes_on, is_shut, obeyed, shows_command, slot_for}
 unfoldable pub use Rattle.af_life.specs.Obeys.{after_look}
-pub use Rattle.af_life.specs.Plays.{after_take, after_takes, counted, is_mixed_here, mixed_here, put_by, tracks_due}
+pub use Rattle.af_life.specs.Plays.{after_take, after_takes, look_counted, is_mixed_here, mixed_here, put_by, tracks_due}
 pub use Rattle.af_life.specs.Reports.{Case, by_report, first_told, no_retries_left, reports}
 unfoldable pub use Rattle.af_life.specs.Reports.{told_by_report}
 pub use Rattle.af_life.specs.Serves.{HasDueLooks, IsServed, LegalTrack, after_commands, is_found_shut, served_to}
 unfoldable pub use Rattle.af_life.specs.Serves.{after_part, served}
 pub use Rattle.af_life.specs.Turn.{GoesOn, after_edits, after_tracks}
 unfoldable pub use Rattle.af_life.specs.Turn.{turn_after}
-pub use Rattle.af_life.specs.TurnEvents.{command_events_of, command_list, front_by_room, going, hand_list, invalid, mix_events, mutator_list, number_seen, pipe_list, push_list, status_events, stream_list, takes_from, tracks_at}
+pub use Rattle.af_life.specs.TurnEvents.{command_events_of, command_list, front_by_room, going, hand_events_of, invalid, mix_events, mutator_list, number_seen, pipe_list, push_list, status_events, stream_list, takes_from, tracks_at}
 pub use Rattle.af_life.specs.declared.kept.Holder.TheVariants.{Home, Lent, Returning}
 pub use Rattle.af_life.specs.declared.kept.Setting.{Setting}
 pub use Rattle.af_life.specs.declared.kept.TrackKept.{TrackKept}
@@ -49,7 +49,7 @@ pub use Rattle.af_runs.specs.ClientTurns.{Side, Track, after_call, after_calls, 
 pub use Rattle.af_runs.specs.Clients.{ends}
 pub use Rattle.af_runs.specs.Found.{LegalTurnBy, TurnFound, outside_of}
 pub use Rattle.af_runs.specs.Rounds.{HaveHistories, LegalEntry, LegalTurnIn, loaded, turned}
-pub use Rattle.af_runs.specs.Runs.{Run, TrackTold, calls_in, each_from, each_track, fast_ended, found_before, holds, mixed_pipe, mixed_track, new_run, next_report, no_track, played, side_of, sides_of, state_for, stream_met, takes_part, told_at, turned_track, with_looks}
+pub use Rattle.af_runs.specs.Runs.{Run, TrackTold, calls_in, changed_from, each_track, fast_ended, found_before, observer_holds, mixed_pipe, mixed_track, new_run, next_report, no_track, played, client_side, sides_of, state_for, stream_met, takes_part, told_at, turned_track, with_looks}
 unfoldable pub use Rattle.af_runs.specs.Runs.{met, with_ends, with_load, with_mix, with_poll, with_turn}
 pub use Rattle.af_runs.specs.Sessions.{Session, cycle_frames, setup_of, track_count}
 pub use Rattle.af_runs.specs.Told.{HasPipeTold, HasQueueHistory, HasReportHistory, IsPipeAsTold, IsQueueAsTold, IsReportAsTold, Item, PipeTold, QueueTold, ReportTold, items_of, observer_does, poll_events, state_at}

@@ -1,6 +1,6 @@
 -- What a turn or an entry adds to a list has no marks: those are made by meetings alone.
 use Rattle.std.proofs.Common.{◌≡◌, ℕ, ◌-◌, ◌==◌, ◌&&◌, not, Bool, true, false, if◌then◌else◌, is_some, fold, List, [], ◌∷◌, ◌++◌, length, drop, Option, Some, None, refl, sym, ap, ◌∙◌, subst, append_assoc, append-nil}
-use Rattle.af_turn_law.proofs.Common.{BlockTold, ClientEvent, CommandLook, Learnt, Listed, Outside, Seen, ServerEvent, Setup, Side, TakeSeen, Track, TrackKept, TrackSeen, Turn, after_call, after_calls, asked, called, client_list, command_events_of, command_list, cycle_events, drop_at, flat_map, going, heard, invalid, is_found_shut, is_home, is_of_commands, kept, learnt, mix_events, released_by, shows_command, side_of, status_events, stream_list, takes_from, tally, track_at, track_in}
+use Rattle.af_turn_law.proofs.Common.{BlockTold, ClientEvent, CommandLook, Learnt, Listed, Outside, Seen, ServerEvent, Setup, Side, TakeSeen, Track, TrackKept, TrackSeen, Turn, after_call, after_calls, asked, called, client_list, command_events_of, command_list, cycle_events, drop_at, flat_map, going, heard, invalid, is_found_shut, is_home, is_of_commands, kept, learnt, mix_events, released_by, shows_command, client_side, status_events, stream_list, takes_from, tally, track_at, track_in}
 use Rattle.af_base.specs.declared.event.ClientCall.{ClientCall}
 use Rattle.af_base.specs.declared.event.ClientCall.TheVariants as call
 use Rattle.af_base.specs.declared.event.ServerEvent.TheVariants as server
@@ -8,7 +8,7 @@ use Rattle.af_base.specs.declared.log.SlotEntry.{SlotEntry}
 use Rattle.af_base.specs.declared.seen.Seen.TheVariants as seen
 use Rattle.af_life.specs.Looks.{takes_command, command_events, did, all_command_events}
 use Rattle.af_model.specs.ClientCalls.{client_call_events, client_events_of, client_kept}
-use Rattle.af_model.specs.Cycles.{after_look}
+use Rattle.af_model.specs.Cycles.{events_behind_look}
 use Rattle.af_model.specs.ServerCalls.{drops_of, look_events}
 use Rattle.af_turn_law.specs.Marking.{NoMarks, client_marks, server_marks}
 use Rattle.af_turn_law.proofs.Marked.{none_join}
@@ -32,7 +32,7 @@ plain_look sight flush rear front = (refl, (refl, (refl, plain_drops sight front
 plain_tally : (missing : ℕ) → Plain (tally missing)
 plain_tally missing = plain_if (missing == 0) [] (server.Tally missing ∷ server.SetFlags 1 ∷ []) tt (refl, (refl, tt))
 
-plain_after : (many : ℕ) (was_shut : Bool) (sight : Seen) → Plain (after_look many was_shut sight)
+plain_after : (many : ℕ) (was_shut : Bool) (sight : Seen) → Plain (events_behind_look many was_shut sight)
 plain_after many was_shut seen.Absent = tt
 plain_after many was_shut (seen.Frames count) = (refl, plain_tally (many - count))
 plain_after many was_shut seen.Empty = plain_tally many
@@ -42,7 +42,7 @@ plain_after many was_shut (seen.Shut back rear) = plain_if was_shut [] (server.S
 pub plain_cycle : (many : ℕ) (s : Listed) (slot : SlotEntry) (front : ℕ) → Plain (cycle_events many s slot front)
 plain_cycle many s slot front = (
   refl,
-  none_join server_marks _ (after_look many (is_some (kept s).shut) slot.seen) (plain_if (is_some (kept s).shut) [] (look_events slot.seen slot.flush slot.rear front) tt (plain_look slot.seen slot.flush slot.rear front))
+  none_join server_marks _ (events_behind_look many (is_some (kept s).shut) slot.seen) (plain_if (is_some (kept s).shut) [] (look_events slot.seen slot.flush slot.rear front) tt (plain_look slot.seen slot.flush slot.rear front))
       (plain_after many (is_some (kept s).shut) slot.seen),
 )
 
@@ -141,11 +141,11 @@ grow_calls t (c ∷ calls) =
     let last = fold after_call (after_call t c) calls in
     record { stream = grows_both t.stream (after_call t c).stream last.stream one.stream more.stream; commands = grows_both t.commands (after_call t c).commands last.commands one.commands more.commands }
 
-grown_plain : (b : BlockTold) (y : Side) → GrowsPlain (side_of b) y → NoMarks client_marks (drop (length (client_list b)) y.events)
+grown_plain : (b : BlockTold) (y : Side) → GrowsPlain (client_side b) y → NoMarks client_marks (drop (length (client_list b)) y.events)
 grown_plain b y g = subst (NoMarks client_marks) (sym (ap (drop (length (client_list b))) g.events ∙ drop_at (client_list b) g.more (length (client_list b)) refl)) g.plain
 
 -- what the calls of a turn add to both blocks
-pub plain_turn : (t : Track) (stream commands : BlockTold) (calls : List ClientCall) → t.stream ≡ side_of stream → t.commands ≡ side_of commands
+pub plain_turn : (t : Track) (stream commands : BlockTold) (calls : List ClientCall) → t.stream ≡ client_side stream → t.commands ≡ client_side commands
     → NoMarks client_marks (drop (length (client_list stream)) (after_calls t calls).stream.events) × NoMarks client_marks (drop (length (client_list commands)) (after_calls t calls).commands.events)
 plain_turn t stream commands calls same also =
     let g = grow_calls t calls in

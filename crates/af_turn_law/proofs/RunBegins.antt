@@ -2,7 +2,7 @@
 use Rattle.std.proofs.Common.{◌≡◌, ℕ, zero, suc, true, false, List, [], ◌∷◌, length, map, refl, sym, subst}
 use Rattle.af_turn_law.proofs.Common.{AreTurns, Marks, RoundSeen, Session, TurnSpec, length-replicate, new_run, new_track as first_track, no_track, range_with_len, setup_of, slice_index_or, sound_new, takes_part, track_count}
 use Rattle.af_script.specs.Form.{IsScript}
-use Rattle.af_runs.specs.Runs.{new_track}
+use Rattle.af_runs.specs.Runs.{new_told_track}
 use Rattle.af_judge.proofs.StatesRuns.{scales_of}
 use Rattle.af_turn_law.specs.ListTurns.{AreListTurns, FindShutUnseen}
 use Rattle.af_turn_law.proofs.BlockSteps.{Ready, new_ready}
@@ -10,7 +10,7 @@ use Rattle.af_turn_law.proofs.RunShared.{shared_new}
 use Rattle.af_turn_law.proofs.TurnsForced.{TurnsReady, turns_forced}
 
 -- nothing was done on any block
-new_told : (s : Session) (ns : List ℕ) (n : ℕ) → ((slice_index_or (map (new_track s) ns) n no_track).stream.told ≡ []) × ((slice_index_or (map (new_track s) ns) n no_track).commands.told ≡ [])
+new_told : (s : Session) (ns : List ℕ) (n : ℕ) → ((slice_index_or (map (new_told_track s) ns) n no_track).stream.told ≡ []) × ((slice_index_or (map (new_told_track s) ns) n no_track).commands.told ≡ [])
 new_told s [] n = (refl, refl)
 new_told s (m ∷ ns) zero = (refl, refl)
 new_told s (m ∷ ns) (suc n) = new_told s ns n

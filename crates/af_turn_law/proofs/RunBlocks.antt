@@ -1,8 +1,8 @@
 -- The command blocks of a turn run, and the stream blocks that are tame so far, are told in phases: what each step leaves of them.
 use Rattle.std.proofs.Common.{◌≡◌, ℕ, zero, suc, ◌+◌, ◌<◌, ◌==◌, ◌&&◌, ◌||◌, Bool, true, false, true≢false, if◌then◌else◌, is_some, map, length, drop, Option, Some, None, refl, sym, ap, ◌∙◌, subst, arith, ◌≤◌}
-use Rattle.af_turn_law.proofs.Common.{EntrySeen, FastState, LegalEntry, Marks, RoundSeen, Run, Session, TrackTold, after_calls, by_client, by_server, calls_alone, calls_in, carries, client_list, cycle_alone, cycle_events, cycle_frames, each_from, each_long, each_track, ends, entry_slot, find, is_home, is_within, list_any, listed, met, met_many, mixed_track, played, range_with_len, sides_of, slot_of, slots, state_at, state_for, takes_part, told_at, told_each, track_at, with_ends, with_mix, with_poll}
+use Rattle.af_turn_law.proofs.Common.{EntrySeen, FastState, LegalEntry, Marks, RoundSeen, Run, Session, TrackTold, after_calls, by_client, by_server, calls_alone, calls_in, carries, client_list, cycle_alone, cycle_events, cycle_frames, changed_from, each_long, each_track, ends, entry_slot, find, is_home, is_within, list_any, listed, met, met_many, mixed_track, played, range_with_len, sides_of, slot_of, slots, state_at, state_for, takes_part, told_at, told_each, track_at, with_ends, with_mix, with_poll}
 use Rattle.af_runs.specs.Fronts.{front_of, is_shown}
-use Rattle.af_runs.specs.Runs.{called, plays, slot_for}
+use Rattle.af_runs.specs.Runs.{called_in_turn, shows_slot, slot_playing}
 use Rattle.af_judge.proofs.BlocksMeet.{met_at}
 use Rattle.af_turn_law.proofs.Basics.{tame_met}
 use Rattle.af_turn_law.proofs.BlockSteps.{Ready, Done, told_more, rest_done, client_done, server_done, block_met}
@@ -49,7 +49,7 @@ run_ends s run h = by_end run.normal.ended
     change : ℕ → TrackTold → TrackTold
     change track t = record t { client = ends t.client }
 
-    many : length (each_from change 0 run.tracks) ≡ length run.tracks
+    many : length (changed_from change 0 run.tracks) ≡ length run.tracks
     many = each_long change 0 run.tracks
 
     by_end : (b : Bool) → RunReady s (if b then each_track (λ track t. record t { client = ends t.client }) run else run)
@@ -63,16 +63,16 @@ run_ends s run h = by_end run.normal.ended
 
 module _ (s : Session) (track : ℕ) (round : RoundSeen) (run : Run) (h : RunReady s run) where
   abbrev called_track : ℕ → TrackTold → TrackTold
-  called_track number t = if number == track then called (calls_in round track) t else t
+  called_track number t = if number == track then called_in_turn (calls_in round track) t else t
 
-  stream_called : (n : ℕ) (b : Bool) (t : TrackTold) → StreamReady (takes_part s run n) run.handed t → StreamDone (takes_part s run n) run.handed (if b then called (calls_in round track) t else t)
+  stream_called : (n : ℕ) (b : Bool) (t : TrackTold) → StreamReady (takes_part s run n) run.handed t → StreamDone (takes_part s run n) run.handed (if b then called_in_turn (calls_in round track) t else t)
   stream_called n true t ready tame =
       let es = drop (length (client_list t.stream)) (after_calls (sides_of t) (calls_in round track)).stream.events in
       client_done (takes_part s run n) (takes_part s run n) run.handed es t.stream.told
       (plain_turn (sides_of t) t.stream t.commands (calls_in round track) refl refl).0 (ready (tame_told t.stream.told (map by_client es) tame))
   stream_called n false t ready tame = rest_done (takes_part s run n) (takes_part s run n) run.handed t.stream.told (ready tame)
 
-  commands_called : (b : Bool) (t : TrackTold) → Ready true false t.commands.told → Done true false (if b then called (calls_in round track) t else t).commands.told
+  commands_called : (b : Bool) (t : TrackTold) → Ready true false t.commands.told → Done true false (if b then called_in_turn (calls_in round track) t else t).commands.told
   commands_called true t ready =
       client_done true true false (drop (length (client_list t.commands)) (after_calls (sides_of t) (calls_in round track)).commands.events) t.commands.told
       (plain_turn (sides_of t) t.stream t.commands (calls_in round track) refl refl).1 ready
@@ -113,21 +113,21 @@ poll_again s k run same h = record {
 
 -- whoever is played takes part
 abbrev pub PlaysParts : Session → EntrySeen → Run → Type 0
-PlaysParts s e run = (n i : ℕ) → slot_for (state_for s run e.entry.state) e.entry n ≡ Some i → takes_part s run n ≡ true
+PlaysParts s e run = (n i : ℕ) → slot_playing (state_for s run e.entry.state) e.entry n ≡ Some i → takes_part s run n ≡ true
 
 run_mix : (s : Session) (e : EntrySeen) (run : Run) → PlaysParts s e run → RunReady s run → RunDone s (with_mix s e run)
 unfolding with_mix
 run_mix s e run parts h = record {
   streams = λ n low. (let below : n < length run.tracks = (let m = many in omega (arith, low, m)) in
-      subst (StreamDone (takes_part s run n) run.handed) (sym (told_each (mixed_track s x e) run n below)) (stream_mixed n (slot_for x e.entry n) (parts n) (told_at run n) (h.streams n below)));
+      subst (StreamDone (takes_part s run n) run.handed) (sym (told_each (mixed_track s x e) run n below)) (stream_mixed n (slot_playing x e.entry n) (parts n) (told_at run n) (h.streams n below)));
   commands = λ n low. (let below : n < length run.tracks = (let m = many in omega (arith, low, m)) in
-      subst (λ (t : TrackTold). Done true false t.commands.told) (sym (told_each (mixed_track s x e) run n below)) (commands_mixed (slot_for x e.entry n) (told_at run n) (h.commands n below)));
+      subst (λ (t : TrackTold). Done true false t.commands.told) (sym (told_each (mixed_track s x e) run n below)) (commands_mixed (slot_playing x e.entry n) (told_at run n) (h.commands n below)));
 }
   where
     x : FastState
     x = state_for s run e.entry.state
 
-    many : length (each_from (mixed_track s x e) 0 run.tracks) ≡ length run.tracks
+    many : length (changed_from (mixed_track s x e) 0 run.tracks) ≡ length run.tracks
     many = each_long (mixed_track s x e) 0 run.tracks
 
     with_slot : Option ℕ → TrackTold → TrackTold
@@ -175,7 +175,7 @@ holds_played s e run low n i is =
     let x = state_for s (with_poll s k run) k in
     let y = state_at (cycle_frames s) run.states (with_poll s k run).current in
     let any : list_any (λ i. carries x i && ((slot_of x i).track == n)) (range_with_len 0 slots) ≡ true =
-    found_any (λ i. plays x e.entry i && ((slot_of x i).track == n)) (λ i. carries x i && ((slot_of x i).track == n)) 0 slots i
+    found_any (λ i. shows_slot x e.entry i && ((slot_of x i).track == n)) (λ i. carries x i && ((slot_of x i).track == n)) 0 slots i
     (λ i h. weaker (carries x i) (is_shown (entry_slot e.entry i).seen) ((slot_of x i).track == n) h) is in
     right (is_home (track_at run.normal.tracks n).holder) _ (subst (λ (z : FastState). list_any (λ i. carries z i && ((slot_of z i).track == n)) (range_with_len 0 slots) ≡ true) (polled_state s k run low) any)
   where

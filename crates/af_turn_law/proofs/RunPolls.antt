@@ -3,18 +3,18 @@ use Rattle.std.proofs.Common.{◌≡◌, ℕ, ◌==◌, nat_le, Bool, true, fals
 use Rattle.af_turn_law.proofs.Common.{EntrySeen, FastState, Item, Legal, LegalAlone, Marks, ObserverEvent, QueuePoint, QueueTold, Run, Session, cycle_alone, cycle_frames, initial, items_of, met, observer_does, one, ones, poll_events, state_at, two, twos, with_mix, with_poll}
 use Rattle.af_model.specs.declared.states.MutatorEvent.TheVariants as mutator
 use Rattle.af_model.specs.declared.states.ObserverEvent.TheVariants as observer
-use Rattle.af_model.specs.Order.{after}
+use Rattle.af_model.specs.Order.{point_after}
 use Rattle.af_model.specs.StateQueue as queued
 use Rattle.af_turn_law.proofs.RunBlocks.{RunReady, RunDone, nothing_done, alone_pushed, cycle_first, cycle_again}
 
 -- ## Orders in parts
 
 module _ {P E : Type 0} (legal : P → E → Type 0) (next : P → E → P) where
-  pub legal_parts : (p : P) (xs ys : List E) → Legal legal next p (xs ++ ys) → Legal legal next p xs × Legal legal next (after legal next p xs) ys
+  pub legal_parts : (p : P) (xs ys : List E) → Legal legal next p (xs ++ ys) → Legal legal next p xs × Legal legal next (point_after legal next p xs) ys
   legal_parts p [] ys l = (tt, l)
   legal_parts p (x ∷ xs) ys l = let r = legal_parts (next p x) xs ys l.1 in ((l.0, r.0), r.1)
 
-  pub after_parts : (p : P) (xs ys : List E) → after legal next p (xs ++ ys) ≡ after legal next (after legal next p xs) ys
+  pub after_parts : (p : P) (xs ys : List E) → point_after legal next p (xs ++ ys) ≡ point_after legal next (point_after legal next p xs) ys
   after_parts p [] ys = refl
   after_parts p (x ∷ xs) ys = after_parts (next p x) xs ys
 
@@ -22,13 +22,13 @@ module _ {P E : Type 0} (legal : P → E → Type 0) (next : P → E → P) wher
 
 module _ (s : Session) where
   abbrev pub begin : QueuePoint Item
-  begin = queued.start (initial (cycle_frames s))
+  begin = queued.start_of_queue (initial (cycle_frames s))
 
   abbrev pub AsTold : QueueTold → Type 0
   AsTold told = Legal queued.legal queued.next begin told
 
   abbrev pub point_of : QueueTold → QueuePoint Item
-  point_of told = after queued.legal queued.next begin told
+  point_of told = point_after queued.legal queued.next begin told
 
   -- how many states were pushed
   abbrev pub pushed_in : QueueTold → ℕ
@@ -51,14 +51,14 @@ module _ (s : Session) where
 
   -- a poll sees the last state pushed, and pushes none
   poll_sees : (q : QueuePoint Item) (frames : ℕ) (states : List FastState) (c k m n : ℕ) → let tail = one (mutator.Learn m) ∷ two (observer.Learn n) ∷ [] in Legal queued.legal queued.next q (map two (poll_events frames states c k) ++ tail)
-      → (k ≡ q.mutator.pushed) × ((after queued.legal queued.next q (map two (poll_events frames states c k) ++ tail)).mutator.pushed ≡ q.mutator.pushed)
+      → (k ≡ q.mutator.pushed) × ((point_after queued.legal queued.next q (map two (poll_events frames states c k) ++ tail)).mutator.pushed ≡ q.mutator.pushed)
   poll_sees q frames states c k m n l = by_same (k == c) l
     where
       events : Bool → List (ObserverEvent Item)
       events b = let x = state_at frames states k in let y = state_at frames states c in if b then observer.SawNext k None [] ∷ [] else observer.SawNext k (Some x) (items_of x y) ∷ observer.Ack k (items_of y x) ∷ []
 
       by_same : (b : Bool) → Legal queued.legal queued.next q (map two (events b) ++ one (mutator.Learn m) ∷ two (observer.Learn n) ∷ [])
-          → (k ≡ q.mutator.pushed) × ((after queued.legal queued.next q (map two (events b) ++ one (mutator.Learn m) ∷ two (observer.Learn n) ∷ [])).mutator.pushed ≡ q.mutator.pushed)
+          → (k ≡ q.mutator.pushed) × ((point_after queued.legal queued.next q (map two (events b) ++ one (mutator.Learn m) ∷ two (observer.Learn n) ∷ [])).mutator.pushed ≡ q.mutator.pushed)
       by_same true l = (l.0.0, refl)
       by_same false l = (l.0.0, refl)
 

@@ -1,6 +1,6 @@
 -- A turn of the normal mixer leaves the blocks of a turn run in phases, if its proxies act where they met.
 use Rattle.std.proofs.Common.{◌≡◌, ◌⊎◌, inl, inr, ℕ, ◌<◌, Bool, true, false, true≢false, if◌then◌else◌, map, List, [], ◌∷◌, length, Option, Some, None, refl, sym, ap, ◌∙◌, subst, arith}
-use Rattle.af_turn_law.proofs.Common.{HandEvent, Moment, Outside, RoundSeen, Run, ServerEvent, Session, Setup, TrackTold, Turn, TurnFound, by_hand, by_server, command_list, each_at, each_long, found_before, hand_list, learnt, loaded, no_track, outside_of, setup_of, stream_list, takes_part, told_at, track_in, tracks_at, turn_alone, turned, turned_track, with_load, with_turn}
+use Rattle.af_turn_law.proofs.Common.{HandEvent, Moment, Outside, RoundSeen, Run, ServerEvent, Session, Setup, TrackTold, Turn, TurnFound, by_hand, by_server, command_list, each_at, each_long, found_before, hand_events_of, learnt, loaded, no_track, outside_of, setup_of, stream_list, takes_part, told_at, track_in, tracks_at, turn_alone, turned, turned_track, with_load, with_turn}
 use Rattle.af_base.specs.declared.event.HandEvent.TheVariants as hand
 use Rattle.af_turn_law.specs.Acting.{StreamActs, ActsWhereMet}
 use Rattle.af_turn_law.specs.Phased.{IsBlockPhased}
@@ -18,7 +18,7 @@ hands_done part handed false told there h = (h.phased, h.client, h.server)
 hands_done part handed true told (inl none) h = absurd (let z : ⊥ = (let n : length (hand.SetFlags 8 ∷ []) ≡ 0 = ap length none in omega (arith, n)) in z)
 hands_done part handed true told (inr is) h = let r = hand_ready part 8 told (subst (λ there. Ready part there told) is h) in (r.1, r.2, r.0)
 
-hand_done : (part handed : Bool) (e : Turn) (n : ℕ) (told : List Moment) → (hand_list e n ≡ []) ⊎ (handed ≡ true) → Ready part handed told → AfterHand part (hand_list e n) told
+hand_done : (part handed : Bool) (e : Turn) (n : ℕ) (told : List Moment) → (hand_events_of e n ≡ []) ⊎ (handed ≡ true) → Ready part handed told → AfterHand part (hand_events_of e n) told
 hand_done part handed e n told there h = by_end e.ended there
   where
     by_end : (b : Bool) → ((if b then [] else (if (track_in e n).disabled then hand.SetFlags 8 ∷ [] else [])) ≡ []) ⊎ (handed ≡ true) → AfterHand part (if b then [] else (if (track_in e n).disabled then hand.SetFlags 8 ∷ [] else [])) told
@@ -54,9 +54,9 @@ run_turned s f e run acts h = record {
       let after = takes_part s (with_turn s f e run) n in
       let old = (told_at run n).stream.told in
       subst (StreamDone after true) (sym (told n below)) (λ tame. (
-      let was = tame_told old (map by_hand (hand_list e n)) (tame_told (told_more old (map by_hand (hand_list e n))) (map by_server es) tame) in
+      let was = tame_told old (map by_hand (hand_events_of e n)) (tame_told (told_more old (map by_hand (hand_events_of e n))) (map by_server es) tame) in
       let by_the_hand = hand_done (takes_part s run n) run.handed e n old (acts.hands n) (h.streams n below was) in
-      turn_done (takes_part s run n) after (hand_list e n) es old by_the_hand.0 by_the_hand.1 by_the_hand.2 (plain_stream_list c o e (tracks_at c (learnt o) run.normal e n) n)
+      turn_done (takes_part s run n) after (hand_events_of e n) es old by_the_hand.0 by_the_hand.1 by_the_hand.2 (plain_stream_list c o e (tracks_at c (learnt o) run.normal e n) n)
       (none_after s f e run n es (acts.streams n below was)) (only_invalid s f e run n es (acts.streams n below was)))));
   commands = λ n low. (let below : n < length run.tracks = (let m = many in omega (arith, low, m)) in
       subst (λ (t : TrackTold). Done true false t.commands.told) (sym (told n below))

@@ -99,7 +99,7 @@ queue_passes = record {
 
 pub queue_forced : (frames : ℕ) (told : QueueTold) → IsPhased mutator_marks observer_marks told → HasQueueHistory frames told → IsQueueAsTold frames told
 queue_forced frames told phased h =
-    (forced_from queued.legal queued.next mutator_marks observer_marks queue_ones queue_twos queue_passes (queued.start (initial frames)) [] [] told h.order refl refl (omega arith) (omega arith) phased h.is_legal h.of_one h.of_two).0
+    (forced_from queued.legal queued.next mutator_marks observer_marks queue_ones queue_twos queue_passes (queued.start_of_queue (initial frames)) [] [] told h.order refl refl (omega arith) (omega arith) phased h.is_legal h.of_one h.of_two).0
 
 -- ## The report
 
@@ -112,11 +112,11 @@ cell_ones p = p.writes
 abbrev cell_twos : C → ℕ
 cell_twos p = p.reads
 
-cell_one_counts : (p : C) (a : WriterEvent Report) → (cell_ones (newest.next p (one a)) ≡ cell_ones p + 1) × (cell_twos (newest.next p (one a)) ≡ cell_twos p)
+cell_one_counts : (p : C) (a : WriterEvent Report) → (cell_ones (newest.next_value p (one a)) ≡ cell_ones p + 1) × (cell_twos (newest.next_value p (one a)) ≡ cell_twos p)
 cell_one_counts p (writes.Store x) = (refl, refl)
 cell_one_counts p (writes.Learn c) = (refl, refl)
 
-cell_two_counts : (p : C) (b : ReaderEvent Report) → (cell_ones (newest.next p (two b)) ≡ cell_ones p) × (cell_twos (newest.next p (two b)) ≡ cell_twos p + 1)
+cell_two_counts : (p : C) (b : ReaderEvent Report) → (cell_ones (newest.next_value p (two b)) ≡ cell_ones p) × (cell_twos (newest.next_value p (two b)) ≡ cell_twos p + 1)
 cell_two_counts p b = (refl, refl)
 
 writer_plain : (a : WriterEvent Report) → writer_is_mark a ≡ false → writer_named a ≡ 0
@@ -127,29 +127,29 @@ reader_plain : (b : ReaderEvent Report) → reader_is_mark b ≡ false → reade
 reader_plain (reads.Load n x) is = refl
 reader_plain (reads.Learn c) is = absurd (true≢false is)
 
-writer_learns : (p : C) (a : WriterEvent Report) → newest.legal p (one a) → writer_named a ≤ cell_twos p
+writer_learns : (p : C) (a : WriterEvent Report) → newest.legal_value p (one a) → writer_named a ≤ cell_twos p
 writer_learns p (writes.Store x) l = omega arith
 writer_learns p (writes.Learn c) l = l
 
-reader_learns : (p : C) (b : ReaderEvent Report) → newest.legal p (two b) → reader_named b ≤ cell_ones p
+reader_learns : (p : C) (b : ReaderEvent Report) → newest.legal_value p (two b) → reader_named b ≤ cell_ones p
 reader_learns p (reads.Load n x) l = omega arith
 reader_learns p (reads.Learn c) l = l
 
-cell_one_first : (p : C) (a : WriterEvent Report) (b : ReaderEvent Report) → (writer_is_mark a || reader_is_mark b) ≡ true → writer_named a ≤ cell_twos p → newest.legal p (two b) → newest.legal (newest.next p (two b)) (one a)
-    → newest.legal p (one a) × newest.legal (newest.next p (one a)) (two b) × (newest.next (newest.next p (one a)) (two b) ≡ newest.next (newest.next p (two b)) (one a))
+cell_one_first : (p : C) (a : WriterEvent Report) (b : ReaderEvent Report) → (writer_is_mark a || reader_is_mark b) ≡ true → writer_named a ≤ cell_twos p → newest.legal_value p (two b) → newest.legal_value (newest.next_value p (two b)) (one a)
+    → newest.legal_value p (one a) × newest.legal_value (newest.next_value p (one a)) (two b) × (newest.next_value (newest.next_value p (one a)) (two b) ≡ newest.next_value (newest.next_value p (two b)) (one a))
 cell_one_first p (writes.Learn c) (reads.Load n x) marks few lb la = (few, lb, refl)
 cell_one_first p (writes.Learn c) (reads.Learn k) marks few lb la = (few, omega (arith, lb), refl)
 cell_one_first p (writes.Store y) (reads.Learn k) marks few lb la = (la, omega (arith, lb), refl)
 cell_one_first p (writes.Store y) (reads.Load n x) marks few lb la = no marks
 
-cell_two_first : (p : C) (a : WriterEvent Report) (b : ReaderEvent Report) → (writer_is_mark a || reader_is_mark b) ≡ true → reader_named b ≤ cell_ones p → newest.legal p (one a) → newest.legal (newest.next p (one a)) (two b)
-    → newest.legal p (two b) × newest.legal (newest.next p (two b)) (one a) × (newest.next (newest.next p (two b)) (one a) ≡ newest.next (newest.next p (one a)) (two b))
+cell_two_first : (p : C) (a : WriterEvent Report) (b : ReaderEvent Report) → (writer_is_mark a || reader_is_mark b) ≡ true → reader_named b ≤ cell_ones p → newest.legal_value p (one a) → newest.legal_value (newest.next_value p (one a)) (two b)
+    → newest.legal_value p (two b) × newest.legal_value (newest.next_value p (two b)) (one a) × (newest.next_value (newest.next_value p (two b)) (one a) ≡ newest.next_value (newest.next_value p (one a)) (two b))
 cell_two_first p (writes.Learn c) (reads.Load n x) marks few la lb = (lb, omega (arith, la), refl)
 cell_two_first p (writes.Learn c) (reads.Learn k) marks few la lb = (few, omega (arith, la), refl)
 cell_two_first p (writes.Store y) (reads.Learn k) marks few la lb = (few, la, refl)
 cell_two_first p (writes.Store y) (reads.Load n x) marks few la lb = no marks
 
-report_passes : MarksPass newest.legal newest.next writer_marks reader_marks cell_ones cell_twos
+report_passes : MarksPass newest.legal_value newest.next_value writer_marks reader_marks cell_ones cell_twos
 report_passes = record {
   one_counts = cell_one_counts;
   two_counts = cell_two_counts;
@@ -163,7 +163,7 @@ report_passes = record {
 
 pub report_forced : (told : ReportTold) → IsPhased writer_marks reader_marks told → HasReportHistory told → IsReportAsTold told
 report_forced told phased h =
-    (forced_from newest.legal newest.next writer_marks reader_marks cell_ones cell_twos report_passes (newest.start no_report) [] [] told h.order refl refl (omega arith) (omega arith) phased h.is_legal h.of_one h.of_two).0
+    (forced_from newest.legal_value newest.next_value writer_marks reader_marks cell_ones cell_twos report_passes (newest.start_value no_report) [] [] told h.order refl refl (omega arith) (omega arith) phased h.is_legal h.of_one h.of_two).0
 
 -- ## The pipe
 
@@ -173,11 +173,11 @@ pipe_ones p = p.puts
 abbrev pipe_twos : PipePoint → ℕ
 pipe_twos p = p.takes
 
-pipe_one_counts : (p : PipePoint) (a : ClientEvent) → (pipe_ones (piped.next p (one a)) ≡ pipe_ones p + 1) × (pipe_twos (piped.next p (one a)) ≡ pipe_twos p)
+pipe_one_counts : (p : PipePoint) (a : ClientEvent) → (pipe_ones (piped.next_in_pipe p (one a)) ≡ pipe_ones p + 1) × (pipe_twos (piped.next_in_pipe p (one a)) ≡ pipe_twos p)
 pipe_one_counts p (client.Release count) = (refl, refl)
 pipe_one_counts p a = (refl, refl)
 
-pipe_two_counts : (p : PipePoint) (b : ServerEvent) → (pipe_ones (piped.next p (two b)) ≡ pipe_ones p) × (pipe_twos (piped.next p (two b)) ≡ pipe_twos p + 1)
+pipe_two_counts : (p : PipePoint) (b : ServerEvent) → (pipe_ones (piped.next_in_pipe p (two b)) ≡ pipe_ones p) × (pipe_twos (piped.next_in_pipe p (two b)) ≡ pipe_twos p + 1)
 pipe_two_counts p (server.SawRear rear) = (refl, refl)
 pipe_two_counts p (server.Take count) = (refl, refl)
 pipe_two_counts p b = (refl, refl)
@@ -190,16 +190,16 @@ pub server_plain : (b : ServerEvent) → server_is_mark b ≡ false → server_n
 server_plain (server.Learn c) is = absurd (true≢false is)
 server_plain b is = refl
 
-put_learns : (size : ℕ) (p : PipePoint) (a : ClientEvent) → piped.legal size p (one a) → client_named a ≤ pipe_twos p
+put_learns : (size : ℕ) (p : PipePoint) (a : ClientEvent) → piped.legal_in_pipe size p (one a) → client_named a ≤ pipe_twos p
 put_learns size p (client.Learn c) l = l
 put_learns size p a l = omega arith
 
-take_learns : (size : ℕ) (p : PipePoint) (b : ServerEvent) → piped.legal size p (two b) → server_named b ≤ pipe_ones p
+take_learns : (size : ℕ) (p : PipePoint) (b : ServerEvent) → piped.legal_in_pipe size p (two b) → server_named b ≤ pipe_ones p
 take_learns size p (server.Learn c) l = l
 take_learns size p b l = omega arith
 
-pipe_one_first : (size : ℕ) (p : PipePoint) (a : ClientEvent) (b : ServerEvent) → (client_is_mark a || server_is_mark b) ≡ true → client_named a ≤ pipe_twos p → piped.legal size p (two b) → piped.legal size (piped.next p (two b)) (one a)
-    → piped.legal size p (one a) × piped.legal size (piped.next p (one a)) (two b) × (piped.next (piped.next p (one a)) (two b) ≡ piped.next (piped.next p (two b)) (one a))
+pipe_one_first : (size : ℕ) (p : PipePoint) (a : ClientEvent) (b : ServerEvent) → (client_is_mark a || server_is_mark b) ≡ true → client_named a ≤ pipe_twos p → piped.legal_in_pipe size p (two b) → piped.legal_in_pipe size (piped.next_in_pipe p (two b)) (one a)
+    → piped.legal_in_pipe size p (one a) × piped.legal_in_pipe size (piped.next_in_pipe p (one a)) (two b) × (piped.next_in_pipe (piped.next_in_pipe p (one a)) (two b) ≡ piped.next_in_pipe (piped.next_in_pipe p (two b)) (one a))
 pipe_one_first size p (client.Learn c) (server.SawRear rear) marks few lb la = (few, lb, refl)
 pipe_one_first size p (client.Learn c) (server.SawFront front) marks few lb la = (few, lb, refl)
 pipe_one_first size p (client.Learn c) (server.Take count) marks few lb la = (few, lb, refl)
@@ -211,8 +211,8 @@ pipe_one_first size p (client.SawFront n) (server.Learn k) marks few lb la = (la
 pipe_one_first size p (client.SawFront n) b marks few lb la = no marks
 pipe_one_first size p a b marks few lb la = absurd la
 
-pipe_two_first : (size : ℕ) (p : PipePoint) (a : ClientEvent) (b : ServerEvent) → (client_is_mark a || server_is_mark b) ≡ true → server_named b ≤ pipe_ones p → piped.legal size p (one a) → piped.legal size (piped.next p (one a)) (two b)
-    → piped.legal size p (two b) × piped.legal size (piped.next p (two b)) (one a) × (piped.next (piped.next p (two b)) (one a) ≡ piped.next (piped.next p (one a)) (two b))
+pipe_two_first : (size : ℕ) (p : PipePoint) (a : ClientEvent) (b : ServerEvent) → (client_is_mark a || server_is_mark b) ≡ true → server_named b ≤ pipe_ones p → piped.legal_in_pipe size p (one a) → piped.legal_in_pipe size (piped.next_in_pipe p (one a)) (two b)
+    → piped.legal_in_pipe size p (two b) × piped.legal_in_pipe size (piped.next_in_pipe p (two b)) (one a) × (piped.next_in_pipe (piped.next_in_pipe p (two b)) (one a) ≡ piped.next_in_pipe (piped.next_in_pipe p (one a)) (two b))
 pipe_two_first size p (client.Learn c) (server.SawRear rear) marks few la lb = (lb, omega (arith, la), refl)
 pipe_two_first size p (client.Learn c) (server.SawFront front) marks few la lb = (lb, omega (arith, la), refl)
 pipe_two_first size p (client.Learn c) (server.Take count) marks few la lb = (lb, omega (arith, la), refl)
@@ -224,7 +224,7 @@ pipe_two_first size p (client.SawFront n) (server.Learn k) marks few la lb = (fe
 pipe_two_first size p (client.SawFront n) b marks few la lb = no marks
 pipe_two_first size p a b marks few la lb = absurd la
 
-pipe_passes : (size : ℕ) → MarksPass (piped.legal size) piped.next client_marks server_marks pipe_ones pipe_twos
+pipe_passes : (size : ℕ) → MarksPass (piped.legal_in_pipe size) piped.next_in_pipe client_marks server_marks pipe_ones pipe_twos
 pipe_passes size = record {
   one_counts = pipe_one_counts;
   two_counts = pipe_two_counts;
@@ -238,7 +238,7 @@ pipe_passes size = record {
 
 pub pipe_forced : (size : ℕ) (p : PipeTold) → IsPhased client_marks server_marks p.told → HasPipeTold size p → IsPipeAsTold size p
 pipe_forced size p phased h =
-    let f = forced_from (piped.legal size) piped.next client_marks server_marks pipe_ones pipe_twos (pipe_passes size) piped.start [] [] p.told h.history.order refl refl (omega arith) (omega arith) phased h.history.is_legal h.history.of_one h.history.of_two in (
+    let f = forced_from (piped.legal_in_pipe size) piped.next_in_pipe client_marks server_marks pipe_ones pipe_twos (pipe_passes size) piped.start_of_pipe [] [] p.told h.history.order refl refl (omega arith) (omega arith) phased h.history.is_legal h.history.of_one h.history.of_two in (
       record {
         history = record { order = p.told; is_legal = f.0; of_one = refl; of_two = refl };
         put_is = ap (λ (q : PipePoint). q.put) f.1 ∙ h.put_is;

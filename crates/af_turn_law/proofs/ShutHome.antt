@@ -1,6 +1,6 @@
 -- A track that a turn finds shut has ended after its part of the turn, so that a stream proxy that was home then is home after the turn.
 use Rattle.std.proofs.Common.{◌≡◌, inl, inr, ℕ, zero, suc, ◌≤◌, ◌<◌, ◌==◌, ◌&&◌, ◌||◌, not, Bool, true, false, true≢false, MatchBool, if◌then◌else◌, is_some, fold, List, [], ◌∷◌, length, Option, refl, sym, ap, ◌∙◌, subst, arith, eqb-true}
-use Rattle.af_turn_law.proofs.Common.{CommandLook, HasDueLooks, Home, IsServed, Learnt, LegalTrack, Lent, NormalKept, Returning, Seen, Setup, Sound, TakeSeen, TrackKept, TrackSeen, Turn, acked_len, after_ack, after_commands, after_edits, after_look, after_looks, after_part, after_push, after_take, after_takes, after_tracks, are_due, asked, at_other, at_set, both_first, by_report, cases_eq, cases_lt, counted, edited, edited_to, ended, get_or-set_at, get_or_past, goes_on, goes_served, grew_report, heard, is_found_shut, is_home, is_lent, is_shut, lend, let_go, list_any, must_enter, must_leave, mutated, new_track, no, nothing_seen, obeyed, ordered, push_tracks, ready, report_ends, seen_at, served, served_len, served_to, shows_command, slice_set, slot_for, sound_acked, sound_served, track_at, track_in, tracks_at, turn_after, turn_len}
+use Rattle.af_turn_law.proofs.Common.{CommandLook, HasDueLooks, Home, IsServed, Learnt, LegalTrack, Lent, NormalKept, Returning, Seen, Setup, Sound, TakeSeen, TrackKept, TrackSeen, Turn, acked_len, after_ack, after_commands, after_edits, after_look, after_looks, after_part, after_push, after_take, after_takes, after_tracks, are_due, asked, at_other, at_set, both_first, by_report, cases_eq, cases_lt, look_counted, edited, edited_to, ended, get_or-set_at, get_or_past, goes_on, goes_served, grew_report, heard, is_found_shut, is_home, is_lent, is_shut, lend, let_go, list_any, must_enter, must_leave, mutated, new_track, no, nothing_seen, obeyed, ordered, push_tracks, ready, report_ends, seen_at, served, served_len, served_to, shows_command, slice_set, slot_for, sound_acked, sound_served, track_at, track_in, tracks_at, turn_after, turn_len}
 use Rattle.af_base.specs.declared.seen.Seen.TheVariants as seen
 use Rattle.af_life.specs.declared.kept.Heard.{Heard}
 use Rattle.af_life.specs.declared.kept.Holder.{Holder}
@@ -136,7 +136,7 @@ module _ (c : Setup) (k : Learnt) (i : ℕ) where
   takes_done (take ∷ takes) tracks done =
       let s : TrackKept = track_at tracks take.track in
       takes_done takes (after_take (asked c) tracks take)
-      (elim (at_set tracks take.track (record s { own = counted (asked c) take.slot.seen s.own }) i) [
+      (elim (at_set tracks take.track (record s { own = look_counted (asked c) take.slot.seen s.own }) i) [
         | inl (here, is) ↦ subst IsDone (sym is) (subst (λ j. IsDone (track_at tracks j)) here done)
         | inr same ↦ subst IsDone (sym same) done
       ])

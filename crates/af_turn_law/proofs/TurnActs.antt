@@ -1,6 +1,6 @@
 -- In a legal turn that finds tracks shut as `FindsShutUnseen` says, hands and the stream proxies of the tracks whose stream blocks are tame so far act as `ActsWhereMet` says.
 use Rattle.std.proofs.Common.{◌≡◌, ◌⊎◌, inl, inr, ℕ, ◌<◌, ◌≤◌, ◌||◌, nat_lt, Bool, true, false, true≢false, MatchBool, if◌then◌else◌, List, [], ◌∷◌, ◌++◌, length, map, All, refl, sym, ap, ◌∙◌, subst, arith}
-use Rattle.af_turn_law.proofs.Common.{Case, GoesOn, IsServed, Learnt, LegalTrack, LegalTurnBy, Marks, NormalKept, Outside, Run, ServerEvent, Session, Setting, Setup, Sound, TakeSeen, TrackKept, TrackSeen, Turn, TurnFound, after_ack, after_commands, after_edits, asked, at_new, cases_lt, client_list, cycle_events, either_false, first_told, flat_map, get_or_past, hand_list, heard, heard_by, holds, invalid, is_home, is_tame, learnt, mix_events, new_normal, new_track, no_retries_left, none_and, not_yet, nothing_seen, outside_of, ready, reports, served_to, setup_of, slot_for, stream_list, takes_part, told_at, told_by_report, track_at, track_in, tracks_at, tracks_due, turn_after, welcomed, welcomed_at, with_turn}
+use Rattle.af_turn_law.proofs.Common.{Case, GoesOn, IsServed, Learnt, LegalTrack, LegalTurnBy, Marks, NormalKept, Outside, Run, ServerEvent, Session, Setting, Setup, Sound, TakeSeen, TrackKept, TrackSeen, Turn, TurnFound, after_ack, after_commands, after_edits, asked, at_new, cases_lt, client_list, cycle_events, either_false, first_told, flat_map, get_or_past, hand_events_of, heard, heard_by, observer_holds, invalid, is_home, is_tame, learnt, mix_events, new_normal, new_track, no_retries_left, none_and, not_yet, nothing_seen, outside_of, ready, reports, served_to, setup_of, slot_for, stream_list, takes_part, told_at, told_by_report, track_at, track_in, tracks_at, tracks_due, turn_after, welcomed, welcomed_at, with_turn}
 use Rattle.af_base.specs.declared.event.HandEvent.TheVariants as hand
 use Rattle.af_base.specs.declared.event.ServerEvent.TheVariants as server
 use Rattle.af_life.specs.declared.track.Known.{Known}
@@ -57,7 +57,7 @@ module _ (c : Setup) (k : Learnt) (e : Turn) (n : ℕ) where
 -- ## The turn
 
 part_home : (s : Session) (run : Run) (n : ℕ) → is_home (track_at run.normal.tracks n).holder ≡ true → takes_part s run n ≡ true
-part_home s run n home = either (is_home (track_at run.normal.tracks n).holder) (holds s run n) home
+part_home s run n home = either (is_home (track_at run.normal.tracks n).holder) (observer_holds s run n) home
   where
     either : (a b : Bool) → a ≡ true → (a || b) ≡ true
     either true b h = refl
@@ -120,7 +120,7 @@ module _ (s : Session) (marks : Marks) (run : Run) (f : TurnFound) (e : Turn) (s
             | inr both ↦ inr (inl (part_home s run n both.0, part_turned s f e run n both.1))
           ]
 
-  hands_act : (n : ℕ) → (hand_list e n ≡ []) ⊎ (run.handed ≡ true)
+  hands_act : (n : ℕ) → (hand_events_of e n ≡ []) ⊎ (run.handed ≡ true)
   hands_act n = by_hand run.handed refl
     where
       by_disabled : (b : Bool) → b ≡ false → (if b then hand.SetFlags 8 ∷ [] else []) ≡ []
@@ -138,7 +138,7 @@ module _ (s : Session) (marks : Marks) (run : Run) (f : TurnFound) (e : Turn) (s
       by_end true is new = refl
       by_end false is new = by_disabled (track_in e n).disabled (able new is)
 
-      by_hand : (b : Bool) → run.handed ≡ b → (hand_list e n ≡ []) ⊎ (run.handed ≡ true)
+      by_hand : (b : Bool) → run.handed ≡ b → (hand_events_of e n ≡ []) ⊎ (run.handed ≡ true)
       by_hand true is = inr is
       by_hand false is = inl (by_end e.ended refl (kept.new is))
 

@@ -1,7 +1,7 @@
 -- Two parties' lists have one legal order, but for the places of marks, if an order in phases is known.
 use Rattle.std.proofs.Common.{◌≡◌, ◌⊎◌, inl, inr, ℕ, ◌+◌, ◌≤◌, ◌<◌, ◌||◌, Bool, true, false, MatchBool, List, [], ◌∷◌, ◌++◌, length, drop, get_or, refl, sym, ap, ◌∙◌, subst, arith, length-append}
 use Rattle.af_turn_law.proofs.Common.{Event, Legal, cases_lt, one, ones, two, twos}
-use Rattle.af_model.specs.Order.{after}
+use Rattle.af_model.specs.Order.{point_after}
 use Rattle.af_turn_law.specs.Marking.{Marking, learnt, OnlyMarksPast}
 use Rattle.af_turn_law.specs.Phased.{IsPhasedFrom}
 use Rattle.af_turn_law.proofs.Marked.{by_flag, past_front, past_last, learnt_last}
@@ -27,7 +27,7 @@ module _ {P A B : Type 0} (legal : P → Event A B → Type 0) (next : P → Eve
     pub is_legal : Legal legal next (next p e) rest
     pub of_one : ones rest ≡ xs
     pub of_two : twos rest ≡ ys
-    pub ends : after legal next (next p e) rest ≡ end
+    pub ends : point_after legal next (next p e) rest ≡ end
 
   -- each event of a list that is no mark comes behind a mark that names more than so many
   abbrev Behind : {E : Type 0} → Marking E → ℕ → List E → Type 0
@@ -52,7 +52,7 @@ module _ {P A B : Type 0} (legal : P → Event A B → Type 0) (next : P → Eve
 
   module _ (passes : MarksPass) where
     pull_one : (p : P) (a : A) (xs : List A) (order : List (Event A B)) → ones order ≡ a ∷ xs → Legal legal next p order → ma.named a ≤ twos_in p → (ma.is_mark a ≡ false → Behind mb (ones_in p) (twos order))
-        → Front p (one a) xs (twos order) (after legal next p order)
+        → Front p (one a) xs (twos order) (point_after legal next p order)
     pull_one p a xs [] is l few behind = absurd (let z : ⊥ = (let n : 0 ≡ length (a ∷ xs) = ap length is in omega (arith, n)) in z)
     pull_one p a xs (one x ∷ order) is l few behind =
         let same : x ≡ a = ap (λ l. get_or l 0 x) is in
@@ -62,7 +62,7 @@ module _ {P A B : Type 0} (legal : P → Event A B → Type 0) (next : P → Eve
           is_legal = subst (λ z. Legal legal next (next p (one z)) order) same l.1;
           of_one = ap (drop 1) is;
           of_two = refl;
-          ends = λ i. after legal next (next p (one (sym same i))) order;
+          ends = λ i. point_after legal next (next p (one (sym same i))) order;
         }
     pull_one p a xs (two b ∷ order) is l few behind =
         let counts = passes.two_counts p b in
@@ -75,11 +75,11 @@ module _ {P A B : Type 0} (legal : P → Event A B → Type 0) (next : P → Eve
           is_legal = (swap.1, subst (λ q. Legal legal next q r.rest) (sym swap.2) r.is_legal);
           of_one = r.of_one;
           of_two = ap (λ l. b ∷ l) r.of_two;
-          ends = ap (λ q. after legal next q r.rest) swap.2 ∙ r.ends;
+          ends = ap (λ q. point_after legal next q r.rest) swap.2 ∙ r.ends;
         }
 
     pull_two : (p : P) (b : B) (ys : List B) (order : List (Event A B)) → twos order ≡ b ∷ ys → Legal legal next p order → mb.named b ≤ ones_in p → (mb.is_mark b ≡ false → Behind ma (twos_in p) (ones order))
-        → Front p (two b) (ones order) ys (after legal next p order)
+        → Front p (two b) (ones order) ys (point_after legal next p order)
     pull_two p b ys [] is l few behind = absurd (let z : ⊥ = (let n : 0 ≡ length (b ∷ ys) = ap length is in omega (arith, n)) in z)
     pull_two p b ys (two x ∷ order) is l few behind =
         let same : x ≡ b = ap (λ l. get_or l 0 x) is in
@@ -89,7 +89,7 @@ module _ {P A B : Type 0} (legal : P → Event A B → Type 0) (next : P → Eve
           is_legal = subst (λ z. Legal legal next (next p (two z)) order) same l.1;
           of_one = refl;
           of_two = ap (drop 1) is;
-          ends = λ i. after legal next (next p (two (sym same i))) order;
+          ends = λ i. point_after legal next (next p (two (sym same i))) order;
         }
     pull_two p b ys (one a ∷ order) is l few behind =
         let counts = passes.one_counts p a in
@@ -102,7 +102,7 @@ module _ {P A B : Type 0} (legal : P → Event A B → Type 0) (next : P → Eve
           is_legal = (swap.1, subst (λ q. Legal legal next q r.rest) (sym swap.2) r.is_legal);
           of_one = ap (λ l. a ∷ l) r.of_one;
           of_two = r.of_two;
-          ends = ap (λ q. after legal next q r.rest) swap.2 ∙ r.ends;
+          ends = ap (λ q. point_after legal next q r.rest) swap.2 ∙ r.ends;
         }
 
     -- ## What an order in phases says of the list of one party
@@ -144,8 +144,8 @@ module _ {P A B : Type 0} (legal : P → Event A B → Type 0) (next : P → Eve
 
     pub forced_from : (p : P) (xs : List A) (ys : List B) (told order : List (Event A B)) → ones_in p ≡ length xs → twos_in p ≡ length ys → learnt ma xs ≤ length ys → learnt mb ys ≤ length xs
         → IsPhasedFrom ma mb xs ys told → Legal legal next p order → ones order ≡ ones told → twos order ≡ twos told
-        → Legal legal next p told × (after legal next p told ≡ after legal next p order)
-    forced_from p xs ys [] order on tw low_a low_b h l same_ones same_twos = (tt, ap (after legal next p) (sym (none_left order same_ones same_twos)))
+        → Legal legal next p told × (point_after legal next p told ≡ point_after legal next p order)
+    forced_from p xs ys [] order on tw low_a low_b h l same_ones same_twos = (tt, ap (point_after legal next p) (sym (none_left order same_ones same_twos)))
     forced_from p xs ys (one a ∷ told) order on tw low_a low_b h l same_ones same_twos =
         let named_few : ma.named a ≤ length ys = elim (by_flag (ma.is_mark a) h.0) [ inl (is, few) ↦ few | inr (is, knows) ↦ (let none = passes.one_plain a is in omega (arith, none)) ] in
         let r = pull_one p a (ones told) order same_ones l (omega (arith, named_few, tw))

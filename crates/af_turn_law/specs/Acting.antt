@@ -8,7 +8,7 @@ use Rattle.af_base.specs.declared.event.ServerEvent.TheVariants as server
 use Rattle.af_base.specs.Turn.{Turn}
 use Rattle.af_life.specs.Heard.{learnt}
 use Rattle.af_life.specs.Kept.{track_at, track_in, is_home}
-use Rattle.af_life.specs.TurnEvents.{tracks_at, invalid, hand_list, stream_list}
+use Rattle.af_life.specs.TurnEvents.{tracks_at, invalid, hand_events_of, stream_list}
 use Rattle.af_runs.specs.Blocks.{client_list, is_tame}
 use Rattle.af_runs.specs.Found.{TurnFound, outside_of}
 use Rattle.af_runs.specs.Runs.{Run, told_at, with_turn, takes_part}
@@ -32,7 +32,7 @@ StreamActs s run f e n events =
 
 -- A hand does something only once it is there; and the stream proxy of a track acts as StreamActs says if the stream block is tame so far
 pub record ActsWhereMet (s : Session) (run : Run) (f : TurnFound) (e : Turn) : Type 0 where
-  pub hands : (n : ℕ) → (hand_list e n ≡ []) ⊎ (run.handed ≡ true)
+  pub hands : (n : ℕ) → (hand_events_of e n ≡ []) ⊎ (run.handed ≡ true)
   pub streams : (n : ℕ) → n < length run.tracks → is_tame (told_at run n).stream ≡ true → let o = outside_of (setup_of s) f e in StreamActs s run f e n (stream_list (setup_of s) o e (tracks_at (setup_of s) (learnt o) run.normal e n) n)
 
 -- If a turn finds a track shut whose stream proxy is home and whose stream block is tame so far, so that INVALID is set, the proxy took part in the last meetings, or the client saw no INVALID so far

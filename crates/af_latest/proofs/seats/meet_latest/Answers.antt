@@ -1,7 +1,7 @@
 use Rattle.std.proofs.Common.{rules, ap, subst, List, ◌∙◌}
 use Rattle.af_model.specs.declared.newest.ReaderEvent.{ReaderEvent}
 use Rattle.af_model.specs.declared.newest.WriterEvent.{WriterEvent}
-use Rattle.af_model.specs.NewestValue.{HasHistory}
+use Rattle.af_model.specs.NewestValue.{HasValueHistory}
 use Rattle.af_latest.proofs.Steps.{meets_allowed}
 use Rattle.af_latest.proofs.Seating.{splits_allowed, joins_allowed}
 use Rattle.af_latest.proofs.seats.meet_latest.Goals as goal
@@ -25,7 +25,7 @@ pub returns-clause-before : goal.returns-clause-before
 returns-clause-before g c first is =
     let part = c.split_seat-part.ensures.4 in
     let both = c.join_seat.ensures.2 in
-    subst (λ (q : List (WriterEvent g.row.T.Denot) × List (ReaderEvent g.row.T.Denot)). HasHistory first q.0 q.1)
+    subst (λ (q : List (WriterEvent g.row.T.Denot) × List (ReaderEvent g.row.T.Denot)). HasValueHistory first q.0 q.1)
     (λ i. (
       (ap (λ m. m.0.writing.events) both ∙ ap (λ v. v.events) c.writer.view_is) i,
       (ap (λ m. m.0.reading.events) both ∙ ap (λ m. m.0.reading.events) part ∙ ap (λ v. v.events) c.reader.view_is) i,

@@ -1,5 +1,5 @@
 use Rattle.std.proofs.Common.{◌≡◌, ℕ, ◌-◌, ◌&&◌, Bool, true, false, MatchBool, length, refl, sym, ap, ◌∙◌, subst, arith}
-use Rattle.af_normal.proofs.Common.{Mutates, ServerState, StreamNames, WasAcked, both, is_exit}
+use Rattle.af_normal.proofs.Common.{Mutates, ServerState, StreamNames, WasAcked, both, commands_exit}
 use Rattle.af_normal.specs.Coming.{HaveSlots, WelcomesTo}
 use Rattle.af_normal.specs.Order.{IsGoing}
 use Rattle.af_normal.specs.State.{NormalState}
@@ -58,10 +58,10 @@ returns-then-over g c =
     let y : NormalState = c.stop.new.self in
     let so = both c.acked-ack.result c.self.inside.exits c.if-over.true in
     let acked : WasAcked x.mutator true m = subst (λ (b : Bool). WasAcked x.mutator b m) so.0 (subst (λ (v : NormalState). WasAcked v.mutator c.acked-ack.result c.acked-ack.new.self) c.self.view_is c.acked-ack.ensures.answer) in
-    let exit : is_exit x.mutator.past.last ≡ true = ap (λ (v : NormalState). is_exit v.mutator.past.last) (sym c.self.view_is) ∙ sym c.self.invariant.2 ∙ so.1 in
+    let exit : commands_exit x.mutator.past.last ≡ true = ap (λ (v : NormalState). commands_exit v.mutator.past.last) (sym c.self.view_is) ∙ sym c.self.invariant.2 ∙ so.1 in
     let stops : Stops x y = record {
       mutator = m;
-      looks = on_false x.ended (m ≡ x.mutator) (WasAcked x.mutator true m × (is_exit x.mutator.past.last ≡ true)) c.requires.lives (acked, exit);
+      looks = on_false x.ended (m ≡ x.mutator) (WasAcked x.mutator true m × (commands_exit x.mutator.past.last ≡ true)) c.requires.lives (acked, exit);
       tells = c.stop.ensures.tells;
       leaves = c.stop.ensures.leaves ∙ ap (λ (v : NormalState). record v { mutator = m; ended = true; entry = y.entry }) c.self.view_is;
     } in
@@ -85,7 +85,7 @@ returns g c =
     let comes : MatchBool ack (WelcomesTo (length x.tracks) (with_mutator m x) home) (home ≡ with_mutator m x) =
     subst (λ (v : NormalState). MatchBool ack (WelcomesTo (length v.tracks) (with_mutator m v) home) (home ≡ with_mutator m v)) c.self.view_is c.come_home.ensures in
     let held = c.acked-ack.ensures.holds in
-    let no_exit : (is_exit x.mutator.past.last && ack) ≡ false = ap (λ (v : NormalState). is_exit v.mutator.past.last && ack) (sym c.self.view_is) ∙ ap (λ (b : Bool). b && ack) (sym c.self.invariant.2) ∙ turned_round ack c.self.inside.exits c.if-over.false in
+    let no_exit : (commands_exit x.mutator.past.last && ack) ≡ false = ap (λ (v : NormalState). commands_exit v.mutator.past.last && ack) (sym c.self.view_is) ∙ ap (λ (b : Bool). b && ack) (sym c.self.invariant.2) ∙ turned_round ack c.self.inside.exits c.if-over.false in
     let w = c.go_on.ensures.goes in
     let by = made links t x c.requires.going ack m acked held home comes c.requires.lives no_exit w.0 w.1 w.2 y w.3 in
     record {

@@ -1,5 +1,5 @@
 use Rattle.std.proofs.Common.{◌≡◌, ℕ, true, length, refl, sym, ap, ◌∙◌, subst, arith}
-use Rattle.af_normal.proofs.Common.{Links, WasAcked, is_exit}
+use Rattle.af_normal.proofs.Common.{Links, WasAcked, commands_exit}
 use Rattle.af_normal.specs.Order.{IsGoing}
 use Rattle.af_normal.specs.State.{NormalState}
 use Rattle.af_normal.specs.TurnMade.{Does, Stops}
@@ -57,7 +57,7 @@ returns-then-self g c =
     let over : h.ended ≡ true = ap (λ (v : NormalState). v.ended) (sym c.self.view_is) ∙ c.if-self.true in
     let stops : Stops h y = record {
       mutator = h.mutator;
-      looks = on_true h.ended (h.mutator ≡ h.mutator) (WasAcked h.mutator true h.mutator × (is_exit h.mutator.past.last ≡ true)) over refl;
+      looks = on_true h.ended (h.mutator ≡ h.mutator) (WasAcked h.mutator true h.mutator × (commands_exit h.mutator.past.last ≡ true)) over refl;
       tells = c.stop.ensures.tells;
       leaves = c.stop.ensures.leaves;
     } in
