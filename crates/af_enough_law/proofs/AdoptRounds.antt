@@ -2,10 +2,10 @@
 use Rattle.std.proofs.Common.{◌≡◌, ◌⊎◌, inl, inr, ℕ, ◌≤◌, ◌<◌, ◌==◌, unwrap_or, is_some, if◌then◌else◌, Bool, true, false, true≢false, All, Option, Some, List, [], ◌++◌, length, length-append, refl, sym, ap, ◌∙◌, subst, arith, eqb-true}
 use Rattle.af_enough_law.proofs.Common.{FastState, FastTrack, Heard, Learnt, LegalRound, Lent, Marks, NormalKept, RoundSeen, Run, Session, Setting, SlotReport, TrackKept, after_round, after_turn, before_turn, client_list, counts_in, cycle_frames, ends_part, grown, heard_at_home, heard_by, heard_elsewhere, heard_with, observer_holds, is_home, learnt, load_of, met_after, number_of, or_right, report_at, report_of, server_list, setup_of, slot_reported, state_beyond, state_more, state_of, takes_part, told_at, track_at, track_count, turn_after, with_calls, with_cycles, within_or_beyond}
 use Rattle.af_enough_law.proofs.Basics.{state_there}
-use Rattle.af_enough_law.specs.Carried.{SessionCarried}
-use Rattle.af_enough_law.specs.Drafts.{is_busy}
-use Rattle.af_enough_law.specs.FastFlows.{Plays, AllStates, slot_told}
-use Rattle.af_enough_law.specs.NormalRounds.{TurnMade}
+use Rattle.af_enough_law.proofs.Carried.{SessionCarried}
+use Rattle.af_enough_law.proofs.Drafts.{is_busy}
+use Rattle.af_enough_law.proofs.FastWords.{Plays, AllStates, slot_told}
+use Rattle.af_enough_law.proofs.NormalRounds.{TurnMade}
 use Rattle.af_enough_law.proofs.AwayKeeps.{StaysOpen, away_turn}
 use Rattle.af_enough_law.proofs.AwayRounds.{AwayTurn}
 use Rattle.af_enough_law.proofs.Commanding.{le_cases}

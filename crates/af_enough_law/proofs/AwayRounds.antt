@@ -4,9 +4,10 @@ use Rattle.af_enough_law.proofs.Common.{ClientEvent, HasBlockHistory, LegalRound
 use Rattle.af_base.specs.declared.event.ClientEvent.TheVariants as client
 use Rattle.af_base.specs.declared.event.ServerEvent.TheVariants as server
 use Rattle.af_enough_law.proofs.Basics.{taken-append}
-use Rattle.af_enough_law.specs.NormalRounds.{TurnMade}
-use Rattle.af_enough_law.specs.Playing.{AreFair}
-use Rattle.af_enough_law.specs.Seen.{are_hands_calm, frames_taken}
+use Rattle.af_enough_law.proofs.NormalRounds.{TurnMade}
+use Rattle.af_enough_law.proofs.Playing.{AreFair}
+use Rattle.af_enough_law.specs.Seen.{frames_taken}
+use Rattle.af_enough_law.proofs.Calm.{are_hands_calm}
 use Rattle.af_enough_law.proofs.Able.{able_any}
 use Rattle.af_enough_law.proofs.Argued.{AreArgued}
 use Rattle.af_enough_law.proofs.CalmTracks.{CalmTrack, stream_lists}

@@ -4,7 +4,7 @@ use Rattle.af_enough_law.proofs.Common.{ClientEvent, CommandLook, LegalLooks, Li
 use Rattle.af_base.specs.declared.event.ServerEvent.TheVariants as server
 use Rattle.af_base.specs.declared.seen.Seen.TheVariants as seen
 use Rattle.af_enough_law.proofs.Basics.{old_word, put-append, taken-append}
-use Rattle.af_enough_law.specs.Courses.{none_shut, is_ended}
+use Rattle.af_enough_law.proofs.Courses.{none_shut, is_ended}
 use Rattle.af_enough_law.specs.Seen.{Stands, frames_put, frames_taken}
 use Rattle.af_enough_law.proofs.FastShows.{Setting, setting_moment, Words, none-append, stands-more, put-front, open_words}
 

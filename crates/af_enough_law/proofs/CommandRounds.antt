@@ -6,10 +6,9 @@ use Rattle.af_enough_law.proofs.CommandLooks.{server_of, LooksTaken}
 use Rattle.af_enough_law.proofs.CommandTurns.{looks_take, taken_all}
 use Rattle.af_base.specs.declared.event.ClientEvent.TheVariants as client
 use Rattle.af_base.specs.declared.event.ServerEvent.TheVariants as server
-use Rattle.af_enough_law.specs.CommandRounds.{CommandsTold, CommandsTaken}
-use Rattle.af_enough_law.specs.Courses.{none_shut}
-use Rattle.af_enough_law.specs.FastFlows.{KnowsReleased, IsOpen}
-use Rattle.af_enough_law.specs.NormalRounds.{TurnMade}
+use Rattle.af_enough_law.proofs.Courses.{none_shut, is_ended}
+use Rattle.af_enough_law.proofs.FastWords.{KnowsReleased, IsOpen}
+use Rattle.af_enough_law.proofs.NormalRounds.{TurnMade}
 use Rattle.af_enough_law.specs.Seen.{frames_put, frames_taken}
 use Rattle.af_enough_law.proofs.FastFlows.{Later}
 use Rattle.af_enough_law.proofs.FastRounds.{cycles_length, turned_length, loaded_told, loaded_tracks}
@@ -17,6 +16,23 @@ use Rattle.af_enough_law.proofs.RunTracks.{calls_long as calls_length}
 use Rattle.af_enough_law.proofs.FastShows.{Setting, none-append}
 use Rattle.af_enough_law.proofs.FastSteps.{server_does-server, server_does-client, client_does-client, client_does-server, cycle_length, cycle_track}
 use Rattle.af_enough_law.proofs.FastKnows.{meets_server, meets_client}
+
+-- the lists of the block: the client's calls, and what the turn adds to the server's list before the meeting
+pub record CommandsTold (s : Session) (run : Run) (round : RoundSeen) (e : Turn) (i : ℕ) (before after : BlockTold) : Type 0 where
+  pub shape : after.shape ≡ before.shape
+  pub calls : List ClientEvent
+  pub client : client_list after ≡ client_list before ++ calls
+  pub count : ℕ
+  pub server : (let c = setup_of s in let o = outside_of c (found_in s run round e) e in server_list after ≡ server_list before ++ (command_list c o e (tracks_at c (learnt o) run.normal e i) i ++ server.Learn count ∷ []))
+
+-- What a turn takes of the block: none of its looks finds it shut, the words of the commands are taken, and if the looks end with one that shows none, all but maybe one word of what was released before the round
+pub record CommandsTaken (e : Turn) (i : ℕ) (before after : BlockTold) : Type 0 where
+  pub open_is : none_shut (track_in e i).looks ≡ true
+  pub taken : frames_taken (server_list after) ≡ frames_taken (server_list before) + length (words_taken (track_in e i).looks)
+  pub reaches : is_ended (track_in e i).looks ≡ true → frames_put (client_list before) ≤ frames_taken (server_list after) + 1
+  pub is_open : IsOpen after
+  pub knows : KnowsReleased after
+
 
 abbrev commands_of : Run → ℕ → BlockTold
 commands_of run i = (told_at run i).commands

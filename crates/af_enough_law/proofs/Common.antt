@@ -21,7 +21,7 @@ pub use Rattle.af_base.specs.declared.state.FastTrack.{FastTrack}
 pub use Rattle.af_base.specs.declared.state.Push.{Push}
 pub use Rattle.af_base.specs.declared.state.Push.TheVariants.{Busy, Clean, Pushed}
 pub use Rattle.af_base.specs.declared.turn.CommandLook.{CommandLook}
-pub use Rattle.af_enough.specs.Enough.{HasEnoughCycles, all_play_through, enough_rounds, greatest_cost, op_cost, play_through, portion, track_cost}
+pub use Rattle.af_enough.specs.Enough.{HasEnoughCycles, all_play_through, enough_rounds, greatest_cost, most_gains, op_cost, play_through, portion, track_cost}
 pub use Rattle.af_judge.proofs.Basics.{begins_ended, calls_pipe, calls_states, client_append, each_at, each_long, ends_part, ends_pipe, ends_states, hand_puts, if_true, legal_cut, loaded_pipe, loaded_states, met_many, met_normal, met_states, new_at, new_long, not_lent, or_left, push_draft, push_tracks, report_ends, server_append, server_put, some_is, status_client, status_hand, tally_none, told_each}
 pub use Rattle.af_judge.proofs.BlocksTold.{client-client, client-hand, client-server, hand-client, server-client}
 pub use Rattle.af_judge.proofs.DraftBits.{attached_else, detached_else, detached_here, initial_none, slot_else, slot_here}
@@ -43,7 +43,7 @@ pub use Rattle.af_life.specs.Heard.{counts_in, grown, heard, heard_at_home, hear
 unfoldable pub use Rattle.af_life.specs.Heard.{heard_by, noted, settled_at}
 pub use Rattle.af_life.specs.Kept.{Learnt, NormalKept, Outside, Setup, asked, is_home, is_lent, is_returning, new_normal, new_track, no_counts, nothing_seen, number_of, pipe_size, plays, seen_at, setting_of, slot_number, track_at, track_in}
 pub use Rattle.af_life.specs.Looks.{HasWords, LegalLooks, all_command_events, as_slot, command_events, did, takes_command, words_taken}
-pub use Rattle.af_life.specs.Obeys.{after_looks, are_due, ended, free_slot, goes_on, is_shut, must_wait, opens, shows_command, told}
+pub use Rattle.af_life.specs.Obeys.{after_looks, are_due, ended, free_slot, goes_on, is_shut, must_wait, opens, shows_command, slot_for, told}
 unfoldable pub use Rattle.af_life.specs.Obeys.{after_look, obeyed}
 pub use Rattle.af_life.specs.Plays.{LegalTake, after_take, after_takes, look_counted, is_mixed_here, mixed_here, put_by, take_of, tracks_due}
 pub use Rattle.af_life.specs.Reports.{Case, first_told, no_retries_left, reports, retries_after}
@@ -61,6 +61,7 @@ pub use Rattle.af_life.specs.declared.kept.Holder.{Holder}
 pub use Rattle.af_life.specs.declared.kept.Holder.TheVariants.{Home, Lent, Returning}
 pub use Rattle.af_life.specs.declared.kept.Setting.{Setting}
 pub use Rattle.af_life.specs.declared.kept.TrackKept.{TrackKept}
+pub use Rattle.af_life.specs.declared.state.LifeState.{LifeState}
 pub use Rattle.af_life.specs.declared.state.LifeState.TheVariants.{Absent, Active, Flushed, Idle, Paused, Pausing, Resuming, Stopped, Stopping1, Stopping2}
 pub use Rattle.af_life.specs.declared.track.Known.{Known}
 pub use Rattle.af_life.specs.declared.track.Life.{Life}

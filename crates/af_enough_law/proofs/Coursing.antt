@@ -2,7 +2,7 @@
 use Rattle.std.proofs.Common.{◌≡◌, ℕ, zero, suc, ◌+◌, ◌-◌, ◌<◌, ◌≤◌, ◌==◌, ◌&&◌, ◌||◌, not, nat_le, nat_lt, Bool, true, false, min, refl, sym, ap, ◌∙◌, subst, arith, true≢false, Option, if◌then◌else◌}
 use Rattle.af_enough_law.proofs.Common.{Active, Known, Life, Stopping1, Stopping2, TrackKept, and_none, by_command, by_report, commands, first_effect, not_zero, opens, plays, retries_after, runs_dry}
 use Rattle.af_life.specs.State.{life_code}
-use Rattle.af_enough_law.specs.Courses.{told_all, starts_at_once, code_at, argument_at, course, life_in, Course, absent, idle, playing, stopping, drained, stopped, over, stage, is_heard}
+use Rattle.af_enough_law.proofs.Courses.{told_all, starts_at_once, code_at, argument_at, course, life_in, Course, absent, idle, playing, stopping, drained, stopped, over, stage, is_heard}
 
 -- ## A command
 

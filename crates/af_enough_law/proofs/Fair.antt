@@ -4,7 +4,8 @@ use Rattle.af_enough_law.proofs.Common.{AllFit, ClientEvent, ClientMay, HandEven
 use Rattle.af_base.specs.declared.event.ClientEvent.TheVariants as client
 use Rattle.af_base.specs.declared.event.HandEvent.TheVariants as hand
 use Rattle.af_base.specs.declared.event.ServerEvent.TheVariants as server
-use Rattle.af_enough_law.specs.Seen.{Stands, frames_put, taken_by, frames_taken, status_by, last_status, is_calm, are_calm, is_hand_calm, are_hands_calm}
+use Rattle.af_enough_law.specs.Seen.{Stands, frames_put, taken_by, frames_taken, status_by, last_status}
+use Rattle.af_enough_law.proofs.Calm.{is_calm, are_calm, is_hand_calm, are_hands_calm}
 use Rattle.af_enough_law.proofs.SeenBlocks.{client_cut, client_learnt, consumed_is, released_is, status_is}
 
 pub hand_append : (late early : List Moment) → hand_of (late ++ early) ≡ hand_of early ++ hand_of late

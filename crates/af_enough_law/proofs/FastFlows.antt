@@ -3,7 +3,7 @@ use Rattle.std.proofs.Common.{◌≡◌, ◌⊎◌, inl, inr, ℕ, ◌+◌, ◌�
 use Rattle.af_enough_law.proofs.Common.{BlockTold, ClientEvent, EntrySeen, FastState, FastTrack, LegalEntries, LegalEntry, Listed, LooksBy, Marks, Run, ServerEvent, Session, Shape, TrackTold, client_list, count_seen, cycle_events, cycle_frames, drops_none, entry_slot, front_of, listed, mixed_track, played, server_kept, server_list, shown_if, slot_playing, slot_of, slots, state_for, state_known, told_at, with_cycle, with_cycles, with_poll}
 use Rattle.af_base.specs.declared.event.ServerEvent.TheVariants as server
 use Rattle.af_enough_law.specs.Seen.{Stands, frames_put, frames_taken}
-use Rattle.af_enough_law.specs.FastFlows.{AllUse, AllStates, Plays, taken_in, asked_in, IsShown, AllShown}
+use Rattle.af_enough_law.proofs.FastWords.{AllUse, AllStates, Plays, taken_in, asked_in, IsShown, AllShown}
 use Rattle.af_enough_law.proofs.FastMixes.{Uses, uses_of, entry_mixed}
 use Rattle.af_enough_law.proofs.FastShows.{Setting, Look, slot_look, stands-more}
 use Rattle.af_enough_law.proofs.FastSteps.{slot_only, cycle_states, cycle_length, cycle_track, mixed_stream, played_server, played_client}

@@ -3,7 +3,7 @@ use Rattle.std.proofs.Common.{◌≡◌, ◌⊎◌, inl, inr, ℕ, ◌≤◌, �
 use Rattle.af_enough_law.proofs.Common.{BlockTold, ClientEvent, CycleEntry, EntrySeen, FastState, FastTrack, HasBlockHistory, IsClientList, LegalEntries, LegalRound, Listed, Marks, NormalKept, Report, RoundSeen, Run, Seen, ServerEvent, Session, Shape, SlotReport, TrackTold, after_round, after_turn, before_turn, calls_states, carries, client_list, counted_look, cycle_events, cycle_frames, drops_none, early_count, early_of, ends_part, entry_slot, flushes_of, front_of, hand_list, initial, is_shown, is_tame, kept, known_of, known_some, last_report, last_used, last_used-push, late_of, listed, met_after, next_slot, no_slot, or_true, played, polled_other, polled_pushed, polled_waits, report_at, report_of, server_kept, server_list, slot_playing, slot_of, slot_report, slots, state_at, state_for, state_known, state_of, stream_of, take-append-drop, told_at, with_calls, with_cycle, with_cycles, with_looks, with_mix, with_poll}
 use Rattle.af_base.specs.declared.seen.Seen.TheVariants as seen
 use Rattle.af_runs.specs.Runs.{shows_slot}
-use Rattle.af_enough_law.specs.FastFlows.{AllUse, AllStates, Plays, slot_told, IsTold, LastCarries, IsShown, AllShown, Since, FlowsIn, HasItem}
+use Rattle.af_enough_law.proofs.FastWords.{AllUse, AllStates, Plays, slot_told, IsTold, LastCarries, IsShown, AllShown, Since, FlowsIn, HasItem}
 use Rattle.af_enough_law.proofs.FastFlows.{cycle_later, later_both, Later, entries_take, cycles_later, plays_track, Lies, lies_before, entry_look}
 use Rattle.af_enough_law.proofs.FastReports.{slot_counts, last_more, calls_same, slot_same, last_same, told_same, known_quiet}
 use Rattle.af_enough_law.proofs.FastPolls.{parts_use, fast_parts, use-append, turn_more}

@@ -6,7 +6,7 @@ use Rattle.af_model.specs.declared.states.MutatorEvent.TheVariants as mutator
 use Rattle.af_model.specs.declared.states.ObserverEvent.TheVariants as observer
 use Rattle.af_model.specs.StateQueue as queued
 use Rattle.af_model.specs.StateQueue.{mutated}
-use Rattle.af_enough_law.specs.FastFlows.{KnowsStates, CountsStates}
+use Rattle.af_enough_law.proofs.FastWords.{KnowsStates, CountsStates}
 use Rattle.af_enough_law.proofs.FastPolls.{AllNext, all_next, next_rest, turn_met, before_states, round_states}
 use Rattle.af_enough_law.proofs.FastSteps.{mutated-ones}
 use Rattle.af_enough_law.proofs.Acks.{cycles_ones}

@@ -5,7 +5,7 @@ use Rattle.af_model.specs.declared.newest.ReaderEvent.TheVariants as reads
 use Rattle.af_model.specs.declared.newest.WriterEvent.TheVariants as writes
 use Rattle.af_model.specs.NewestValue as newest
 use Rattle.af_enough_law.specs.Seen.{stored}
-use Rattle.af_enough_law.specs.FastFlows.{CountsReports, KnowsReports}
+use Rattle.af_enough_law.proofs.FastWords.{CountsReports, KnowsReports}
 use Rattle.af_enough_law.proofs.SeenShared.{load_seen}
 
 -- ## Lists

@@ -6,7 +6,7 @@ use Rattle.af_model.specs.declared.states.ObserverEvent.TheVariants as observer
 use Rattle.af_model.specs.StateQueue as queued
 use Rattle.af_model.specs.StateQueue.{mutated}
 use Rattle.af_enough_law.specs.Seen.{Stands}
-use Rattle.af_enough_law.specs.FastFlows.{KnowsStates, AllUse}
+use Rattle.af_enough_law.proofs.FastWords.{KnowsStates, AllUse}
 use Rattle.af_enough_law.proofs.FastShows.{stands-more}
 use Rattle.af_enough_law.proofs.FastSteps.{cycle_queue, cycle_states, cycles_states, observed-ones, mutated-more, mutated-ones}
 use Rattle.af_enough_law.proofs.SeenShared.{next_seen}

@@ -6,7 +6,7 @@ use Rattle.af_base.specs.declared.seen.Seen.TheVariants as seen
 use Rattle.af_enough_law.proofs.Basics.{old_word, put-append, taken-append}
 use Rattle.af_model.specs.Cycles.{events_behind_look}
 use Rattle.af_enough_law.specs.Seen.{Stands, frames_put, frames_taken}
-use Rattle.af_enough_law.specs.FastFlows.{IsShown}
+use Rattle.af_enough_law.proofs.FastWords.{IsShown}
 use Rattle.af_enough_law.proofs.FastLooks.{Moments, moment}
 
 -- ## Lists

@@ -1,5 +1,5 @@
 -- A client none of whose ops is a flush, a pause or a poke flushes nothing, whatever is answered.
-use Rattle.std.proofs.Common.{◌≡◌, ℕ, arith, ◌-◌, ◌==◌, ◌&&◌, ◌||◌, Bool, true, false, List, [], ◌∷◌, ◌++◌, refl, sym, ap, ◌∙◌, true≢false, Some, if◌then◌else◌}
+use Rattle.std.proofs.Common.{◌≡◌, ℕ, arith, ◌&&◌, Bool, true, false, List, [], ◌∷◌, ◌++◌, refl, sym, ap, true≢false, Some, if◌then◌else◌}
 use Rattle.af_enough_law.proofs.Common.{list_all, Client, ClientCall, ClientEvent, IsMade, IsWanted, LegalClientTurn, Mode, Op, Track, Want, after_call, after_calls, both_first, both_right, both_true, client_call_events, flush_in, flushes_of, no, wanted_of, wants_of}
 use Rattle.af_base.specs.declared.event.ClientCall.TheVariants as call
 use Rattle.af_base.specs.declared.event.ClientEvent.TheVariants as client

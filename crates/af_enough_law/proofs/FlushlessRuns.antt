@@ -2,7 +2,7 @@
 use Rattle.std.proofs.Common.{◌≡◌, ℕ, ◌+◌, ◌<◌, true, List, [], ◌∷◌, length, refl, sym, ap, ◌∙◌, subst}
 use Rattle.af_enough_law.proofs.Common.{Frame, IsScript, Op, ScriptData, all_play_through, new_at, new_run, session_of, sides_of, told_at}
 use Rattle.af_script.specs.declared.op.Op.TheVariants as op
-use Rattle.af_enough_law.specs.Playing.{IsWay}
+use Rattle.af_enough_law.proofs.Playing.{IsWay}
 use Rattle.af_enough_law.proofs.Flushless.{plain_ops, IsFlushlessTrack}
 use Rattle.af_enough_law.proofs.RunBegins.{track_plays}
 

@@ -1,8 +1,8 @@
 -- What is known of a stream block after a round by a history in which its lists lie: of this round, if its proxy takes part in the meeting, or of a later one.
 use Rattle.std.proofs.Common.{◌≡◌, ℕ, ◌≤◌, ◌<◌, Bool, true, false, Some, List, [], ◌++◌, length, append_assoc, refl, sym, ap, ◌∙◌, subst, append-nil}
 use Rattle.af_enough_law.proofs.Common.{AreSpelled, BlockTold, ClientEvent, HasBlockHistory, Learnt, LegalRound, Marks, RoundSeen, Run, ServerEvent, Session, Shape, Turn, after_round, after_turn, before_turn, client_list, early_of, hand_list, heard, is_home, is_tame, late_of, learnt, met_after, server_list, sides_of, takes_part, told_at, track_count, track_in, with_calls, with_cycles}
-use Rattle.af_enough_law.specs.Courses.{none_shut}
-use Rattle.af_enough_law.specs.NormalRounds.{TurnMade}
+use Rattle.af_enough_law.proofs.Courses.{none_shut}
+use Rattle.af_enough_law.proofs.NormalRounds.{TurnMade}
 use Rattle.af_enough_law.proofs.CommandsGo.{spelled_round}
 use Rattle.af_enough_law.proofs.FastFlows.{Later}
 use Rattle.af_enough_law.proofs.FastRounds.{over}

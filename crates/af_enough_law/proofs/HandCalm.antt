@@ -3,7 +3,7 @@ use Rattle.std.proofs.Common.{◌≡◌, ℕ, ◌<◌, if◌then◌else◌, Bool
 use Rattle.af_enough_law.proofs.Common.{BlockTold, EntrySeen, HandEvent, Moment, NormalKept, RoundSeen, Run, ServerEvent, Session, TrackTold, Turn, TurnFound, after_calls, after_round, after_turn, all_played, both_first, both_right, both_true, by_hand, by_server, called_in_turn, calls_in, client-hand, client_list, cycle_events, cycle_frames, early_of, entry_slot, found_in, front_of, hand_does, hand_list, hand_of, late_of, learnt, listed, mixed_track, outside_of, played, setup_of, sides_of, slot_playing, state_for, stream_list, stream_met, takes_part, told_at, track_in, tracks_at, with_calls, with_cycle, with_poll}
 use Rattle.af_base.specs.declared.event.HandEvent.TheVariants as hand
 use Rattle.af_life.specs.TurnEvents.{hand_events_of as disables}
-use Rattle.af_enough_law.specs.Seen.{is_hand_calm, are_hands_calm}
+use Rattle.af_enough_law.proofs.Calm.{is_hand_calm, are_hands_calm}
 use Rattle.af_enough_law.proofs.RunTracks.{mixed_by, turned_by, played_track, round_blocks, met_track}
 
 abbrev told_more : List Moment → List Moment → List Moment

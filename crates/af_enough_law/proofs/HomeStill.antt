@@ -1,10 +1,9 @@
 -- The entries of a round leave the stream block of a track as it is that no state has.
 use Rattle.std.proofs.Common.{◌≡◌, ℕ, ◌≤◌, ◌<◌, ◌∷◌, List, [], ◌++◌, length, true, refl, sym, ap, ◌∙◌, arith}
 use Rattle.af_enough_law.proofs.Common.{EntrySeen, FastState, Run, Session, carries, polled_known, slot_playing, slot_of, slots, state_for, told_at, with_cycle, with_cycles, with_poll}
-use Rattle.af_enough_law.specs.FastFlows.{AllUse, AllStates}
+use Rattle.af_enough_law.proofs.FastWords.{AllUse, AllStates}
 use Rattle.af_enough_law.proofs.FastMixes.{Uses, uses_of}
-use Rattle.af_enough_law.proofs.FastSteps.{cycle_states}
-use Rattle.af_enough_law.proofs.FastSteps.{cycle_length}
+use Rattle.af_enough_law.proofs.FastSteps.{cycle_states, cycle_length}
 use Rattle.af_enough_law.proofs.LeftEntries.{slot_none, track_still}
 
 -- the state has nothing of the track

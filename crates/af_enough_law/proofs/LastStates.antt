@@ -6,7 +6,7 @@ use Rattle.af_base.specs.declared.state.Command.TheVariants.{Idle}
 use Rattle.af_enough_law.proofs.Basics.{before_normal}
 use Rattle.af_life.specs.Edits as edits
 use Rattle.af_model.specs.Cycles.{is_exit}
-use Rattle.af_enough_law.specs.EndPhases.{NoExits}
+use Rattle.af_enough_law.proofs.EndWords.{NoExits}
 use Rattle.af_enough_law.proofs.Drafts.{after_pushes}
 use Rattle.af_enough_law.proofs.FastCurrent.{legal_parts, rest_current}
 use Rattle.af_enough_law.proofs.FastFound.{cycle_current}

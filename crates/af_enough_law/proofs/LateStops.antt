@@ -1,10 +1,10 @@
 -- The round in which a proxy leaves that the last state plays, whether the fast mixer had it before or not: its turn doesn't hear that the stream is shut.
 use Rattle.std.proofs.Common.{◌≡◌, ◌⊎◌, inl, inr, ℕ, ◌≤◌, ◌<◌, unwrap_or, is_some, Bool, true, false, true≢false, All, Option, Some, length, refl, sym, ap, ◌∙◌, subst, arith}
 use Rattle.af_enough_law.proofs.Common.{FastState, FastTrack, Heard, Learnt, LegalRound, Marks, NormalKept, Returning, RoundSeen, Run, Session, Setting, TrackKept, after_round, after_turn, before_turn, cycle_frames, ends_part, is_home, is_lent, is_returning, learnt, load_of, met_after, number_of, plays, report_at, report_of, server_list, setup_of, slot_reported, state_beyond, state_of, takes_part, told_at, track_at, track_count, turn_after, with_calls, with_cycles, within_or_beyond}
-use Rattle.af_enough_law.specs.Carried.{SessionCarried}
-use Rattle.af_enough_law.specs.Drafts.{is_busy, PushMade}
-use Rattle.af_enough_law.specs.FastFlows.{slot_told}
-use Rattle.af_enough_law.specs.NormalRounds.{TurnMade}
+use Rattle.af_enough_law.proofs.Carried.{SessionCarried}
+use Rattle.af_enough_law.proofs.Drafts.{is_busy, PushMade}
+use Rattle.af_enough_law.proofs.FastWords.{slot_told}
+use Rattle.af_enough_law.proofs.NormalRounds.{TurnMade}
 use Rattle.af_enough_law.proofs.AdoptRounds.{away_heard}
 use Rattle.af_enough_law.proofs.AwayKeeps.{StaysOpen, open_then, away_turn}
 use Rattle.af_enough_law.proofs.AwayRounds.{AwayTurn}

@@ -2,11 +2,11 @@
 use Rattle.std.proofs.Common.{◌≡◌, ◌⊎◌, inl, inr, ℕ, zero, suc, ◌≤◌, ◌<◌, is_some, Bool, true, false, true≢false, All, Some, List, [], ◌++◌, length, length-append, refl, sym, ap, ◌∙◌, subst, arith}
 use Rattle.af_enough_law.proofs.Common.{Active, ClientEvent, FastState, FastTrack, LegalRound, Life, Marks, NormalKept, Returning, RoundSeen, Run, Session, Setting, Shape, after_round, client_list, cycle_frames, ends_part, is_lent, learnt, met_after, plays, server_list, setup_of, state_beyond, state_more, state_of, takes_part, told_at, track_at, track_count}
 use Rattle.af_enough_law.proofs.Basics.{some_is}
-use Rattle.af_enough_law.specs.Carried.{SessionCarried}
-use Rattle.af_enough_law.specs.Courses.{Course, life_in}
-use Rattle.af_enough_law.specs.Drafts.{is_busy, PushMade}
-use Rattle.af_enough_law.specs.FastFlows.{Plays, FlowsIn}
-use Rattle.af_enough_law.specs.NormalRounds.{TurnMade}
+use Rattle.af_enough_law.proofs.Carried.{SessionCarried}
+use Rattle.af_enough_law.proofs.Courses.{Course, life_in}
+use Rattle.af_enough_law.proofs.Drafts.{is_busy, PushMade}
+use Rattle.af_enough_law.proofs.FastWords.{Plays, FlowsIn}
+use Rattle.af_enough_law.proofs.NormalRounds.{TurnMade}
 use Rattle.af_enough_law.proofs.CommandsGo.{known_then, commands_of}
 use Rattle.af_enough_law.proofs.Commanding.{le_cases}
 use Rattle.af_enough_law.proofs.CourseGoes.{CourseGone}

@@ -1,7 +1,7 @@
 -- The report that a turn finds in a round in which a track leaves says that its server is open, if its lists lie in a history.
 use Rattle.std.proofs.Common.{◌≡◌, ℕ, ◌≤◌, ◌<◌, is_some, false, true≢false, Some, List, [], ◌∷◌, ◌++◌, length, refl, sym, ap, ◌∙◌, subst, arith, append_assoc}
 use Rattle.af_enough_law.proofs.Common.{EntrySeen, FastState, FastTrack, LegalRound, Marks, NormalKept, Report, RoundSeen, Run, Session, Shape, SlotReport, after_round, after_turn, all_played, before_turn, calls_states, early_count, early_of, fast_ended, found_in, late_of, listed, met_after, report_at, report_of, server_list, slots, state_beyond, state_more, state_of, take-append-drop, told_at, with_calls, with_cycle, with_cycles}
-use Rattle.af_enough_law.specs.FastFlows.{KnowsStates, Plays, IsTold, slot_told}
+use Rattle.af_enough_law.proofs.FastWords.{KnowsStates, Plays, IsTold, slot_told}
 use Rattle.af_enough_law.proofs.FastFound.{calls_current}
 use Rattle.af_enough_law.proofs.FastPolls.{fast_parts, parts_use, round_states, turn_more}
 use Rattle.af_enough_law.proofs.FastReports.{calls_same, turned_same, loaded_same, met_same, ends_same, slot_same, told_same, known_quiet}

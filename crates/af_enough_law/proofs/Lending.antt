@@ -2,18 +2,16 @@
 use Rattle.std.proofs.Common.{◌≡◌, ℕ, ◌+◌, ◌≤◌, ◌<◌, ◌&&◌, not, if◌then◌else◌, is_some, Bool, true, false, true≢false, All, Option, Some, None, List, [], ◌∷◌, ◌++◌, length, refl, sym, ap, ◌∙◌, subst, arith, append-nil}
 use Rattle.af_enough_law.proofs.Common.{Absent, Busy, Clean, FastState, FastTrack, Heard, Home, IsSlotted, Learnt, LegalRound, Lent, Marks, MixWrite, NormalKept, Push, Pushed, RoundSeen, Run, Session, Setting, Setup, TrackKept, after_round, carries, cycle_frames, initial_none, is_among, is_home, is_lent, is_pushed, learnt, number_of, plays, setting_of, setup_of, slot_number, slots, state_at, track_at, track_count, track_in, turn_after}
 use Rattle.af_enough_law.proofs.Basics.{stays_home}
-use Rattle.af_enough_law.specs.Carried.{SessionStands}
-use Rattle.af_enough_law.specs.Drafts.{is_busy, next_holder, PushMade}
-use Rattle.af_enough_law.specs.Ends.{IsInOrder}
-use Rattle.af_enough_law.specs.FastFlows.{Plays}
-use Rattle.af_enough_law.specs.Items.{AreItems, item_of}
-use Rattle.af_enough_law.specs.NormalRounds.{TurnMade}
-use Rattle.af_enough_law.specs.TrackTurns.{attended, Edited, stays, leaves, enters, TrackTurned}
-use Rattle.af_enough_law.proofs.Drafts.{holder_turned, attended_holder}
+use Rattle.af_enough_law.proofs.Carried.{SessionStands}
+use Rattle.af_enough_law.proofs.Drafts.{is_busy, next_holder, PushMade, holder_turned, attended_holder}
+use Rattle.af_enough_law.proofs.Ends.{IsInOrder}
+use Rattle.af_enough_law.proofs.FastWords.{Plays}
+use Rattle.af_enough_law.proofs.Items.{AreItems, item_of, items_turn}
+use Rattle.af_enough_law.proofs.NormalRounds.{TurnMade}
+use Rattle.af_enough_law.proofs.TrackTurns.{attended, Edited, stays, leaves, enters, TrackTurned}
 use Rattle.af_enough_law.proofs.EndRounds.{order_round}
 use Rattle.af_enough_law.proofs.Following.{greeted_in}
 use Rattle.af_enough_law.proofs.Generations.{attached_stays, lent_plays}
-use Rattle.af_enough_law.proofs.Items.{items_turn}
 use Rattle.af_enough_law.proofs.LastStates.{round_last}
 use Rattle.af_enough_law.proofs.LentRounds.{draft_plays}
 use Rattle.af_enough_law.proofs.Orders.{mix_is, orders_mix}

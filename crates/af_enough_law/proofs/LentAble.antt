@@ -3,9 +3,9 @@ use Rattle.std.proofs.Common.{◌≡◌, ◌⊎◌, inl, inr, ℕ, zero, suc, �
 use Rattle.af_enough_law.proofs.Common.{Client, Counts, FastTrack, LegalRound, Marks, RoundSeen, Run, Session, after_round, below_or_not, client_list, cycle_frames, learnt, server_list, sides_of, slot_reported, told_at, track_at}
 use Rattle.af_base.specs.declared.event.ServerEvent.TheVariants as server
 use Rattle.af_enough_law.proofs.Basics.{taken-append}
-use Rattle.af_enough_law.specs.FastFlows.{frames_left_in, heard_in}
-use Rattle.af_enough_law.specs.Nearing.{IsPast, calls_ahead, calls_left}
-use Rattle.af_enough_law.specs.NormalRounds.{TurnMade}
+use Rattle.af_enough_law.proofs.FastWords.{frames_left_in, heard_in}
+use Rattle.af_enough_law.proofs.NearWords.{IsPast, calls_ahead, calls_left}
+use Rattle.af_enough_law.proofs.NormalRounds.{TurnMade}
 use Rattle.af_enough_law.specs.Seen.{frames_put, frames_taken}
 use Rattle.af_enough_law.proofs.CourseGoes.{OnCourse}
 use Rattle.af_enough_law.proofs.FairTurns.{codes_long}

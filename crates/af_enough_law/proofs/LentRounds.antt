@@ -1,18 +1,16 @@
 -- A track whose proxy is lent, and stays so in a round, flows in it, and all that is carried of it is carried on.
 use Rattle.std.proofs.Common.{◌≡◌, ◌⊎◌, inl, inr, ℕ, zero, suc, ◌+◌, ◌≤◌, ◌<◌, ◌==◌, ◌&&◌, ◌||◌, not, if◌then◌else◌, unwrap_or, is_some, Bool, true, false, true≢false, All, Option, Some, List, [], ◌∷◌, ◌++◌, length, length-append, refl, sym, ap, ◌∙◌, subst, arith, eq-eqb}
 use Rattle.af_enough_law.proofs.Common.{Absent, FastState, FastTrack, Heard, LegalRound, Lent, Life, Marks, MixWrite, NormalKept, RoundSeen, Run, Session, Setting, Setup, SlotReport, TrackKept, after_round, carries, client_list, counts_in, cycle_frames, grown, heard, heard_at_home, heard_by, heard_elsewhere, heard_with, observer_holds, initial, is_among, is_home, is_lent, learnt, lent_away, list_any, number_of, or_right, plays, range_with_len, setting_of, setup_of, slot_number, slot_of, slots, state_at, state_beyond, state_more, state_of, told_at, track_at, track_count, turn_after, within_or_beyond}
-use Rattle.af_enough_law.specs.Carried.{SessionCarried}
-use Rattle.af_enough_law.specs.Courses.{Course, absent, idle, playing, stopping, drained, stopped, over}
-use Rattle.af_enough_law.specs.Drafts.{is_busy, PushMade}
-use Rattle.af_enough_law.specs.Ends.{IsInOrder}
-use Rattle.af_enough_law.specs.FastFlows.{Plays, AllStates, LastCarries, IsTold, KnowsReleased, slot_told, HasItem}
-use Rattle.af_enough_law.specs.Items.{AreItems, item_of}
-use Rattle.af_enough_law.specs.NormalRounds.{TurnMade}
+use Rattle.af_enough_law.proofs.Carried.{SessionCarried}
+use Rattle.af_enough_law.proofs.Courses.{Course, absent, idle, playing, stopping, drained, stopped, over}
+use Rattle.af_enough_law.proofs.Drafts.{is_busy, PushMade}
+use Rattle.af_enough_law.proofs.Ends.{IsInOrder, order_turn}
+use Rattle.af_enough_law.proofs.FastWords.{Plays, AllStates, LastCarries, IsTold, KnowsReleased, slot_told, HasItem}
+use Rattle.af_enough_law.proofs.Items.{AreItems, item_of, items_turn}
+use Rattle.af_enough_law.proofs.NormalRounds.{TurnMade}
 use Rattle.af_enough_law.proofs.Commanding.{le_cases}
-use Rattle.af_enough_law.proofs.Ends.{order_turn}
 use Rattle.af_enough_law.proofs.FastPolls.{round_states, turn_more}
 use Rattle.af_enough_law.proofs.Generations.{attached_stays, lent_plays}
-use Rattle.af_enough_law.proofs.Items.{items_turn}
 use Rattle.af_enough_law.proofs.LastStates.{round_last}
 use Rattle.af_enough_law.proofs.Orders.{lent_carried, mix_is, orders_mix}
 use Rattle.af_enough_law.proofs.SessionRounds.{turn_of, turn_runs, push_of, states_few}

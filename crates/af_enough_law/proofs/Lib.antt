@@ -1,4 +1,13 @@
 pub mod Common
+pub mod Courses
+pub mod Playing
+pub mod TrackTurns
+pub mod FastWords
+pub mod PipeFlows
+pub mod Carried
+pub mod EndWords
+pub mod NearWords
+pub mod Calm
 pub mod Basics
 pub mod Standing
 pub mod SeenShared

@@ -2,8 +2,8 @@
 use Rattle.std.proofs.Common.{◌≡◌, ◌⊎◌, inl, inr, ℕ, ◌≤◌, ◌<◌, ◌==◌, ◌&&◌, ◌||◌, nat_le, not, if◌then◌else◌, is_some, Bool, true, false, true≢false, Option, List, [], ◌∷◌, ◌++◌, length, refl, sym, ap, ◌∙◌, subst, arith, eqb-true}
 use Rattle.af_enough_law.proofs.Common.{Absent, Active, CommandLook, Idle, Known, Learnt, Life, NormalKept, Setup, Stopped, Stopping1, Stopping2, TrackKept, Turn, after_look, after_looks, both_first, both_right, both_true, by_command, by_report, commands, ended, first_effect, goes_on, heard, is_shut, must_wait, no, obeyed, plays, ready, ready_life, report_ends, shows_command, told, track_at, track_in, turn_after, words_taken}
 use Rattle.af_life.specs.Obeys.{commanded}
-use Rattle.af_enough_law.specs.Courses.{Course, absent, idle, playing, stopping, drained, stopped, over, life_in}
-use Rattle.af_enough_law.specs.TrackTurns.{TrackTurned}
+use Rattle.af_enough_law.proofs.Courses.{Course, absent, idle, playing, stopping, drained, stopped, over, life_in}
+use Rattle.af_enough_law.proofs.TrackTurns.{TrackTurned}
 use Rattle.af_enough_law.proofs.EarlyCalls.{no_stop}
 use Rattle.af_enough_law.proofs.Ends.{silent}
 use Rattle.af_enough_law.proofs.Following.{greeted_in, greeted_alike}

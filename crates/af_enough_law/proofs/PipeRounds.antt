@@ -6,8 +6,8 @@ use Rattle.af_base.specs.declared.event.ServerEvent.TheVariants as server
 use Rattle.af_base.specs.Mix.{mixed_frame}
 use Rattle.af_enough_law.proofs.Basics.{asked_in-append, asked_is, put-append, taken-append}
 use Rattle.af_enough_law.specs.Seen.{Stands, frames_put, frames_taken}
-use Rattle.af_enough_law.specs.FastFlows.{AllMixed, MixesAll, asked_in}
-use Rattle.af_enough_law.specs.PipeFlows.{pipe_put, pipe_taken, in_pipe, KnowsPipe, put_in, PipeFlowed, RoomSeen}
+use Rattle.af_enough_law.proofs.FastWords.{AllMixed, MixesAll, asked_in}
+use Rattle.af_enough_law.proofs.PipeFlows.{pipe_put, pipe_taken, in_pipe, KnowsPipe, put_in, PipeFlowed, RoomSeen}
 use Rattle.af_enough_law.proofs.FastShows.{stands-more}
 use Rattle.af_enough_law.proofs.PipeMoments.{History, pipe_look, pipe_low, pipe_words, pipe_room, pipe_room_most}
 

@@ -1,5 +1,5 @@
 -- A client none of whose ops is a poke makes no poke, whatever is answered.
-use Rattle.std.proofs.Common.{◌≡◌, ℕ, ◌-◌, ◌==◌, ◌&&◌, ◌||◌, Bool, true, false, List, [], ◌∷◌, ◌++◌, refl, sym, ap, ◌∙◌, true≢false, Some, if◌then◌else◌}
+use Rattle.std.proofs.Common.{◌≡◌, ℕ, Bool, true, false, List, [], ◌∷◌, refl, sym, ap, true≢false, Some, if◌then◌else◌}
 use Rattle.af_enough_law.proofs.Common.{Client, ClientCall, ClientEvent, IsMade, IsWanted, LegalClientTurn, Mode, Op, Track, Want, after_call, after_calls, both_lawful, client_call_events, is_lawful, list_all, no, wanted_of, wants_of}
 use Rattle.af_base.specs.declared.event.ClientCall.TheVariants as call
 use Rattle.af_script.specs.declared.op.Op.TheVariants as op

@@ -2,9 +2,9 @@
 use Rattle.std.proofs.Common.{◌≡◌, ◌⊎◌, inl, inr, ℕ, zero, suc, ◌≤◌, ◌<◌, if◌then◌else◌, is_some, unwrap_or, Bool, true, false, true≢false, All, Option, Some, List, [], ◌∷◌, ◌++◌, length, refl, sym, ap, ◌∙◌, subst, arith, append-nil}
 use Rattle.af_enough_law.proofs.Common.{FastState, Learnt, LegalRound, Marks, NormalKept, RoundSeen, Run, Session, Setting, SlotReport, after_edits, after_round, after_turn, all_played, before_turn, calls_states, carries, draft_after, early_of, found_in, get_or-replicate, is_pushed, last_report, late_of, learnt, met_after, new_run, no_slot, outside_of, pushed_by, report_at, setup_of, slot_of, slots, state_beyond, state_of, track_count, with_calls, with_cycles}
 use Rattle.af_enough_law.proofs.Basics.{before_normal}
-use Rattle.af_enough_law.specs.Carried.{SessionStands}
-use Rattle.af_enough_law.specs.FastFlows.{slot_told}
-use Rattle.af_enough_law.specs.NormalRounds.{TurnMade}
+use Rattle.af_enough_law.proofs.Carried.{SessionStands}
+use Rattle.af_enough_law.proofs.FastWords.{slot_told}
+use Rattle.af_enough_law.proofs.NormalRounds.{TurnMade}
 use Rattle.af_enough_law.proofs.FastPolls.{round_states, before_states}
 use Rattle.af_enough_law.proofs.FastReports.{SameReports, calls_same, turned_same, loaded_same, met_same, ends_same, same_both, slot_same}
 use Rattle.af_enough_law.proofs.QueueRounds.{states_turned}

@@ -6,7 +6,7 @@ use Rattle.af_script.specs.declared.op.Op.TheVariants as op
 use Rattle.af_runs.specs.declared.want.ClientCommand.TheVariants as command
 use Rattle.af_runs.specs.declared.want.Mode.TheVariants as mode
 use Rattle.af_runs.specs.declared.want.Want.TheVariants as want
-use Rattle.af_enough_law.specs.Playing.{IsWay}
+use Rattle.af_enough_law.proofs.Playing.{IsWay}
 use Rattle.af_enough_law.proofs.EarlyCalls.{no_stop, held, begun_held, client_is}
 use Rattle.af_enough_law.proofs.SentPlain.{even_words}
 use Rattle.af_enough_law.proofs.Turning.{none_some}

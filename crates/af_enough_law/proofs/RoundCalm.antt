@@ -4,7 +4,7 @@ use Rattle.af_enough_law.proofs.Common.{AllByRecursion, BlockTold, ClientEvent, 
 use Rattle.af_base.specs.declared.event.ServerEvent.TheVariants as server
 use Rattle.af_enough_law.proofs.Basics.{before_normal}
 use Rattle.af_life.specs.TurnEvents.{hand_events_of}
-use Rattle.af_enough_law.specs.Courses.{none_shut}
+use Rattle.af_enough_law.proofs.Courses.{none_shut}
 use Rattle.af_enough_law.proofs.FastFlows.{Later}
 use Rattle.af_enough_law.proofs.FastRounds.{Quiet, over, cycles_length}
 use Rattle.af_enough_law.proofs.RunTracks.{calls_long as calls_length}

@@ -6,7 +6,7 @@ use Rattle.af_runs.specs.declared.want.ClientCommand.TheVariants as command
 use Rattle.af_runs.specs.declared.want.Mode.TheVariants as mode
 use Rattle.af_runs.specs.declared.want.Want.TheVariants as want
 use Rattle.af_enough.specs.Enough.{way_goes_on}
-use Rattle.af_enough_law.specs.Playing.{IsWay, Doing, opening}
+use Rattle.af_enough_law.proofs.Playing.{IsWay, Doing, opening}
 use Rattle.af_enough_law.proofs.Doing.{at}
 use Rattle.af_enough_law.proofs.RunTame.{rounds_pokeless}
 use Rattle.af_enough_law.proofs.Pokeless.{plain_ops, IsPokelessTrack}

@@ -6,7 +6,7 @@ use Rattle.af_life.specs.Obeys.{commanded}
 use Rattle.af_runs.specs.Clients.{command_code}
 use Rattle.af_runs.specs.declared.want.ClientCommand.TheVariants as command
 use Rattle.af_runs.specs.declared.want.Want.TheVariants as want
-use Rattle.af_enough_law.specs.Courses.{code_at, course, life_in}
+use Rattle.af_enough_law.proofs.Courses.{code_at, course, life_in}
 use Rattle.af_enough_law.proofs.Able.{none_told}
 use Rattle.af_enough_law.proofs.Coursing.{ended_same}
 use Rattle.af_enough_law.proofs.Flushless.{is_plain_want, IsFlushlessTrack, wanted_plain, call_flushless}

@@ -1,12 +1,11 @@
 -- From a track at home to one whose proxy the fast mixer has: the round that lends it, maybe one in which it waits for its push, and the one in which it is adopted at the latest. All that its client was answered meanwhile is told by the history after the last of them.
 use Rattle.std.proofs.Common.{◌≡◌, ℕ, ◌+◌, ◌≤◌, ◌<◌, true, false, true≢false, All, List, [], ◌∷◌, length, sym, ap, ◌∙◌, subst, arith}
 use Rattle.af_enough_law.proofs.Common.{FastTrack, LegalRound, Lent, Marks, NormalKept, RoundSeen, Run, Session, Setting, after_round, is_home, is_lent, learnt, plays, run_from, server_list, setup_of, slots, told_at, track_at, track_count}
-use Rattle.af_enough_law.specs.Acks.{KnowsAcked}
-use Rattle.af_enough_law.specs.Carried.{SessionStands, SessionCarried}
-use Rattle.af_enough_law.specs.Drafts.{is_busy}
-use Rattle.af_enough_law.specs.FastFlows.{slot_told}
-use Rattle.af_enough_law.specs.NormalRounds.{TurnMade}
-use Rattle.af_enough_law.proofs.Acks.{turn_sees_ack}
+use Rattle.af_enough_law.proofs.Acks.{KnowsAcked, turn_sees_ack}
+use Rattle.af_enough_law.proofs.Carried.{SessionStands, SessionCarried}
+use Rattle.af_enough_law.proofs.Drafts.{is_busy}
+use Rattle.af_enough_law.proofs.FastWords.{slot_told}
+use Rattle.af_enough_law.proofs.NormalRounds.{TurnMade}
 use Rattle.af_enough_law.proofs.AdoptRounds.{adopted_met, adopted_carried, adopted_turn}
 use Rattle.af_enough_law.proofs.AwayKeeps.{StaysOpen, open_of, open_then, seen_before}
 use Rattle.af_enough_law.proofs.AwayRounds.{AwayTurn, AwayRounds, AwayBack, away_back}

@@ -2,11 +2,11 @@
 use Rattle.std.proofs.Common.{◌≡◌, ℕ, ◌+◌, ◌≤◌, ◌<◌, unwrap_or, if◌then◌else◌, Bool, true, false, All, Option, length, refl, sym, ap, ◌∙◌, subst, arith, inl, is_some, Some}
 use Rattle.af_enough_law.proofs.Common.{FastState, FastTrack, Heard, Learnt, LegalRound, Lent, Marks, NormalKept, RoundSeen, Run, Session, Setting, Shape, SlotReport, TrackKept, Turn, after_round, after_turn, before_turn, carries, early_of, heard, heard_at_home, heard_by, heard_elsewhere, is_home, late_of, learnt, load_of, met_after, number_of, report_at, report_of, server_list, setup_of, slot_of, slot_reported, slots, state_of, told_at, track_at, track_count, track_in, turn_after, with_calls, with_cycles}
 use Rattle.af_enough_law.proofs.Basics.{stays_home}
-use Rattle.af_enough_law.specs.Carried.{SessionStands}
-use Rattle.af_enough_law.specs.Courses.{none_shut}
-use Rattle.af_enough_law.specs.Drafts.{is_busy}
-use Rattle.af_enough_law.specs.FastFlows.{Plays, KnowsReports, slot_told, HasItem, KnowsStates}
-use Rattle.af_enough_law.specs.NormalRounds.{TurnMade}
+use Rattle.af_enough_law.proofs.Carried.{SessionStands}
+use Rattle.af_enough_law.proofs.Courses.{none_shut}
+use Rattle.af_enough_law.proofs.Drafts.{is_busy}
+use Rattle.af_enough_law.proofs.FastWords.{Plays, KnowsReports, slot_told, HasItem, KnowsStates}
+use Rattle.af_enough_law.proofs.NormalRounds.{TurnMade}
 use Rattle.af_enough_law.proofs.AdoptRounds.{away_heard}
 use Rattle.af_enough_law.proofs.AwayKeeps.{StaysOpen, away_turn, looks_open}
 use Rattle.af_enough_law.proofs.AwayRounds.{AwayTurn}

@@ -5,10 +5,9 @@ use Rattle.af_base.specs.declared.event.ClientCall.TheVariants as call
 use Rattle.af_base.specs.declared.event.ClientEvent.TheVariants as client
 use Rattle.af_base.specs.declared.event.ServerEvent.TheVariants as server
 use Rattle.af_base.specs.declared.seen.Seen.TheVariants as seen
-use Rattle.af_enough_law.specs.CommandRounds.{CommandsTold}
-use Rattle.af_enough_law.specs.NormalRounds.{TurnMade}
+use Rattle.af_enough_law.proofs.CommandRounds.{CommandsTold, commands_told}
+use Rattle.af_enough_law.proofs.NormalRounds.{TurnMade}
 use Rattle.af_enough_law.specs.Seen.{status_by, last_status}
-use Rattle.af_enough_law.proofs.CommandRounds.{commands_told}
 use Rattle.af_enough_law.proofs.CommandsGo.{CalmCommands, OpenTurn, commands_shape, pokeless_after, spelled_after, calm_after, hands_after}
 use Rattle.af_enough_law.proofs.Fair.{status_at}
 use Rattle.af_enough_law.proofs.FairTurns.{commands_grow}

@@ -7,7 +7,7 @@ use Rattle.af_enough_law.proofs.Basics.{put-append}
 use Rattle.af_runs.specs.Clients.{command_code}
 use Rattle.af_runs.specs.declared.want.ClientCommand.TheVariants as command
 use Rattle.af_runs.specs.declared.want.Want.TheVariants as want
-use Rattle.af_enough_law.specs.Courses.{course}
+use Rattle.af_enough_law.proofs.Courses.{course}
 use Rattle.af_enough_law.specs.Seen.{frames_put}
 use Rattle.af_enough_law.proofs.CalmTracks.{round_released}
 use Rattle.af_enough_law.proofs.CommandsGo.{MayLearn, still, learns, may_learn}

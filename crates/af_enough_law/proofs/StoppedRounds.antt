@@ -2,18 +2,15 @@
 use Rattle.std.proofs.Common.{◌≡◌, ◌⊎◌, inl, inr, ℕ, ◌≤◌, ◌<◌, ◌==◌, is_some, Bool, true, false, true≢false, All, Some, ◌++◌, length, length-append, refl, sym, ap, ◌∙◌, subst, arith}
 use Rattle.af_enough_law.proofs.Common.{FastState, FastTrack, Home, Learnt, LegalRound, Marks, NormalKept, Returning, RoundSeen, Run, Session, Setting, SlotReport, TrackKept, after_round, carries, cycle_frames, ends_part, heard, is_home, is_returning, learnt, load_of, met_after, number_of, plays, report_at, report_of, setup_of, slot_number, slot_reported, slots, state_beyond, state_more, state_of, takes_part, told_at, track_at, track_count, turn_after, turn_len, with_calls, with_cycles, within_or_beyond}
 use Rattle.af_enough_law.proofs.Basics.{not_over, some_is, stays_home}
-use Rattle.af_enough_law.specs.Acks.{KnowsAcked}
-use Rattle.af_enough_law.specs.Carried.{SessionCarried}
-use Rattle.af_enough_law.specs.Drafts.{next_holder, is_busy, PushMade}
-use Rattle.af_enough_law.specs.Ends.{IsInOrder}
-use Rattle.af_enough_law.specs.FastFlows.{Plays, IsTold, slot_told}
-use Rattle.af_enough_law.specs.NormalRounds.{TurnMade}
-use Rattle.af_enough_law.proofs.Acks.{turn_sees_ack}
+use Rattle.af_enough_law.proofs.Acks.{KnowsAcked, turn_sees_ack}
+use Rattle.af_enough_law.proofs.Carried.{SessionCarried}
+use Rattle.af_enough_law.proofs.Drafts.{next_holder, is_busy, PushMade, holder_turned}
+use Rattle.af_enough_law.proofs.Ends.{IsInOrder, silent}
+use Rattle.af_enough_law.proofs.FastWords.{Plays, IsTold, slot_told}
+use Rattle.af_enough_law.proofs.NormalRounds.{TurnMade}
 use Rattle.af_enough_law.proofs.CommandsGo.{OpenTurn}
 use Rattle.af_enough_law.proofs.Commanding.{le_cases}
-use Rattle.af_enough_law.proofs.Drafts.{holder_turned}
 use Rattle.af_enough_law.proofs.EndRounds.{order_round}
-use Rattle.af_enough_law.proofs.Ends.{silent}
 use Rattle.af_enough_law.proofs.EntryCounts.{found_within}
 use Rattle.af_enough_law.proofs.FastPolls.{round_states, turn_more}
 use Rattle.af_enough_law.proofs.Following.{greeted_in, greeted_alike}

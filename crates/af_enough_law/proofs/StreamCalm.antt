@@ -5,8 +5,8 @@ use Rattle.af_base.specs.declared.event.ServerEvent.TheVariants as server
 use Rattle.af_base.specs.declared.seen.Seen.TheVariants as seen
 use Rattle.af_model.specs.Cycles.{events_behind_look}
 use Rattle.af_runs.specs.Runs.{shows_slot}
-use Rattle.af_enough_law.specs.FastFlows.{IsShown}
-use Rattle.af_enough_law.specs.Seen.{is_calm, are_calm}
+use Rattle.af_enough_law.proofs.FastWords.{IsShown}
+use Rattle.af_enough_law.proofs.Calm.{is_calm, are_calm}
 use Rattle.af_enough_law.proofs.Fair.{calm_drops}
 use Rattle.af_enough_law.proofs.FastFlows.{Later, cycles_later}
 use Rattle.af_enough_law.proofs.FastShows.{Setting, slot_look}

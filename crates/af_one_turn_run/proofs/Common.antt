@@ -34,7 +34,7 @@ pub use Rattle.af_model.specs.JournalForm.{AreEntries, IsOpenTurn, IsRound, IsTa
 pub use Rattle.af_model.specs.Journals.{EntrySeen, JournalData, RoundSeen, entries_of, slot_frames}
 unfoldable pub use Rattle.af_model.specs.Journals.{taken_by}
 pub use Rattle.af_model.specs.Order.{Event, Legal, one, two, twos}
-pub use Rattle.af_model.specs.Point.{ServerMay, after_client, after_hand, after_server, drop_end, flush_word, start, wrapped}
+pub use Rattle.af_model.specs.Point.{ClientMay, ServerMay, after_client, after_hand, after_server, drop_end, flush_word, start, wrapped}
 pub use Rattle.af_model.specs.Reports.{no_report}
 pub use Rattle.af_model.specs.ServerCalls.{dropped_by, drops_of, look_at, look_events}
 pub use Rattle.af_model.specs.StateQueue.{QueuePoint, carries, slot_of}

@@ -1,4 +1,7 @@
 pub mod Common
+pub mod Told
+pub mod Taking
+pub mod Seeing
 pub mod OneAnswer
 pub mod LegalFronts
 pub mod OneClientTurn

@@ -5,8 +5,8 @@ use Rattle.af_model.specs.NewestValue as newest
 use Rattle.af_model.specs.Order.{point_after as after_both}
 use Rattle.af_model.specs.PipeHistory as piped
 use Rattle.af_model.specs.StateQueue as queued
-use Rattle.af_one_turn_run.specs.Taking.{IsTakenOf, HasFrames}
-use Rattle.af_one_turn_run.specs.Told.{IsToldLegally}
+use Rattle.af_one_turn_run.proofs.Taking.{IsTakenOf, HasFrames}
+use Rattle.af_one_turn_run.proofs.Told.{IsToldLegally}
 use Rattle.af_one_turn_run.proofs.OneLooks.{AreTold}
 use Rattle.af_one_turn_run.proofs.OneShared.{PushSees, ack_seen, push_seen, one_push, report_seen, room_seen, one_room}
 use Rattle.af_one_turn_run.proofs.OneTakes.{handed, played_from, before_play, IsTakeTold, take_told, one_mixes}

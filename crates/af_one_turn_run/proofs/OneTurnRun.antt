@@ -3,7 +3,7 @@ use Rattle.std.proofs.Common.{◌≡◌, ℕ, zero, suc, ◌+◌, true, List, []
 use Rattle.af_one_turn_run.proofs.Common.{All-head, All-tail, AreEntries, AreTurns, EntrySeen, Frame, IsHistoryAsTold, IsRound, IsScript, IsTurnRun, JournalData, Marks, RoundSeen, Session, Shape, TrackTold, entries_of, file_words, kept_new, marks_of, new_at, new_block, new_long, new_run, no_spec, session_of, slice_index_or, taken_by, track_count}
 use Rattle.af_script.specs.Data.{ScriptData}
 use Rattle.af_script.specs.declared.track.TrackSpec.{TrackSpec}
-use Rattle.af_one_turn_run.specs.Growing.{takes_in}
+use Rattle.af_one_turn_run.proofs.Growing.{takes_in}
 use Rattle.af_one_turn_run.specs.MetLast.{AllMetLast}
 use Rattle.af_one_turn_run.specs.NoPokes.{PlainOps, PlainTracks}
 use Rattle.af_one_turn_run.proofs.AllTold.{AllForms, all_told}

@@ -5,7 +5,7 @@ use Rattle.af_base.specs.declared.event.ClientCall.TheVariants as call
 use Rattle.af_model.proofs.Basics.{both_lawful}
 use Rattle.af_script.specs.declared.op.TurnSpec.TheVariants as makes
 use Rattle.af_one_turn_run.specs.NoPokes.{is_poke_call, PlainCalls, IsPlain}
-use Rattle.af_one_turn_run.specs.Told.{told_more}
+use Rattle.af_one_turn_run.proofs.Told.{told_more}
 use Rattle.af_one_turn_run.proofs.AllTold.{AllForms, AllTame}
 use Rattle.af_one_turn_run.proofs.RoundFollows.{met_alone_follows, round_follows}
 use Rattle.af_one_turn_run.proofs.OneClientTurn.{only_on, call_events, calls_events, calls_add, drop_first}

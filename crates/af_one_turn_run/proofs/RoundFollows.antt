@@ -3,9 +3,9 @@ use Rattle.std.proofs.Common.{◌≡◌, ℕ, ◌+◌, ◌<◌, Bool, true, fals
 use Rattle.af_one_turn_run.proofs.Common.{BlockTold, EntrySeen, IsHistoryAsTold, IsLegal, IsPipeAsTold, IsQueueAsTold, IsReportAsTold, IsRound, IsScript, IsTurn, Legal, PipeTold, RoundSeen, Run, RunKept, SameNormal, Session, TrackTold, Turn, TurnSpec, after, calls_alone, cycle_alone, cycle_frames, each_at, each_track, ends, ends_same, found_before, kept_beside, kept_turn, load_same, loaded, made_alone, met, met_alone, met_same, no_track, pipe_size, setup_of, start, taken_of, told_at, track_count, turned, with_ends, with_load, with_turn}
 use Rattle.af_model.specs.PipeHistory as piped
 use Rattle.af_script.specs.declared.op.TurnSpec.TheVariants as makes
-use Rattle.af_one_turn_run.specs.Growing.{IsCounted}
-use Rattle.af_one_turn_run.specs.Taking.{IsTakenOf, HasFrames}
-use Rattle.af_one_turn_run.specs.Told.{IsToldLegally}
+use Rattle.af_one_turn_run.proofs.Growing.{IsCounted}
+use Rattle.af_one_turn_run.proofs.Taking.{IsTakenOf, HasFrames}
+use Rattle.af_one_turn_run.proofs.Told.{IsToldLegally}
 use Rattle.af_one_turn_run.proofs.OneFast.{AreForms, cycles_follow, cycle_normal}
 use Rattle.af_one_turn_run.proofs.OneTurn.{IsBlockTold}
 use Rattle.af_one_turn_run.proofs.RunFollows.{Follows, follows_not, follows_then, calls_follow, met_follows, ends_follow, turn_follows}

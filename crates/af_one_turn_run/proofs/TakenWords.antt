@@ -4,9 +4,9 @@ use Rattle.af_one_turn_run.proofs.Common.{ClientEvent, HandEvent, Moment, Server
 use Rattle.af_base.specs.declared.event.ClientEvent.TheVariants as client
 use Rattle.af_base.specs.declared.event.ServerEvent.TheVariants as server
 use Rattle.af_base.specs.declared.event.HandEvent.TheVariants as hand
-use Rattle.af_one_turn_run.specs.Seeing.{after_servers}
-use Rattle.af_one_turn_run.specs.Taking.{takes_at, taken_by, IsFrom, HasFrames}
-use Rattle.af_one_turn_run.specs.Told.{told_more}
+use Rattle.af_one_turn_run.proofs.Seeing.{after_servers}
+use Rattle.af_one_turn_run.proofs.Taking.{takes_at, taken_by, IsFrom, HasFrames}
+use Rattle.af_one_turn_run.proofs.Told.{told_more}
 
 -- ## Positions
 

@@ -1,9 +1,9 @@
 -- What each step leaves of two ends that are told in phases.
 use Rattle.std.proofs.Common.{◌≡◌, ◌≤◌, true, map, List, [], ◌∷◌, ◌++◌, length, refl, sym, ap, ◌∙◌, subst, arith, append_assoc, append-nil, length-append}
 use Rattle.af_turn_law.proofs.Common.{Event, one, ones, two, twos}
-use Rattle.af_turn_law.specs.Marking.{Marking, KnowsAll, NoMarks}
+use Rattle.af_turn_law.specs.Marking.{Marking, KnowsAll}
 use Rattle.af_turn_law.specs.Phased.{IsPhasedFrom, IsPhased}
-use Rattle.af_turn_law.proofs.Marked.{knows_more, knows_met, knows_now, due_plain, due_mark}
+use Rattle.af_turn_law.proofs.Marked.{NoMarks, knows_more, knows_met, knows_now, due_plain, due_mark}
 
 abbrev of_one : (A B : Type 0) → A → Event A B
 of_one A B a = one a

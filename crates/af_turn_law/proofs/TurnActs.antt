@@ -5,9 +5,21 @@ use Rattle.af_base.specs.declared.event.HandEvent.TheVariants as hand
 use Rattle.af_base.specs.declared.event.ServerEvent.TheVariants as server
 use Rattle.af_life.specs.declared.track.Known.{Known}
 use Rattle.af_life.specs.declared.track.Life.{Life}
-use Rattle.af_turn_law.specs.Acting.{SawNoInvalid, StreamActs, ActsWhereMet, FindsShutUnseen}
+use Rattle.af_turn_law.specs.Acting.{SawNoInvalid, FindsShutUnseen}
 use Rattle.af_turn_law.proofs.MixedHome.{mixed_home}
 use Rattle.af_turn_law.proofs.ShutHome.{is_shut_now, shut_home}
+
+-- The stream proxy of a track does nothing in a turn; or it took part in the last meetings, and will in the next ones; or it only sets INVALID, of which the client saw nothing so far, and will take part in the next meetings
+abbrev pub StreamActs : Session → Run → TurnFound → Turn → ℕ → List ServerEvent → Type 0
+StreamActs s run f e n events =
+    let after = takes_part s (with_turn s f e run) n in
+    (events ≡ []) ⊎ (((takes_part s run n ≡ true) × (after ≡ true)) ⊎ ((events ≡ server.SetFlags 4 ∷ []) × SawNoInvalid (client_list (told_at run n).stream) × (after ≡ true)))
+
+-- A hand does something only once it is there; and the stream proxy of a track acts as StreamActs says if the stream block is tame so far
+pub record ActsWhereMet (s : Session) (run : Run) (f : TurnFound) (e : Turn) : Type 0 where
+  pub hands : (n : ℕ) → (hand_events_of e n ≡ []) ⊎ (run.handed ≡ true)
+  pub streams : (n : ℕ) → n < length run.tracks → is_tame (told_at run n).stream ≡ true → let o = outside_of (setup_of s) f e in StreamActs s run f e n (stream_list (setup_of s) o e (tracks_at (setup_of s) (learnt o) run.normal e n) n)
+
 
 -- what is kept of the normal mixer between two rounds: before it made its hands it is new
 pub record NormalReady (s : Session) (run : Run) : Type 0 where

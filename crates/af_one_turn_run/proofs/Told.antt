@@ -1,9 +1,6 @@
 -- Blocks that are told in a legal order.
-use Rattle.std.specs.Prelude.{fold, List, ◌∷◌}
-use Rattle.af_model.specs.History.{Moment, IsLegal}
-use Rattle.af_model.specs.Point.{start}
-use Rattle.af_runs.specs.Blocks.{BlockTold}
-use Rattle.af_runs.specs.Runs.{TrackTold}
+use Rattle.std.proofs.Common.{fold, List, ◌∷◌}
+use Rattle.af_one_turn_run.proofs.Common.{Moment, IsLegal, start, BlockTold, TrackTold}
 
 -- some moments more, the oldest of them first
 abbrev pub told_more : List Moment → List Moment → List Moment

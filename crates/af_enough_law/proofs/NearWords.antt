@@ -1,17 +1,10 @@
 -- How far a track that plays through is from the end of its life, in rounds.
-use Rattle.std.specs.Prelude.{◌≡◌, ◌⊎◌, ℕ, suc, ◌+◌, ◌*◌, ◌≤◌, min, Bool, true, false, List, [], ◌∷◌}
-use Rattle.af_model.specs.Journals.{RoundSeen}
-use Rattle.af_script.specs.declared.op.Op.{Op}
+use Rattle.std.proofs.Common.{◌≡◌, ◌⊎◌, suc, ◌+◌, ◌*◌, ◌≤◌, min, Bool, true, false, List, [], ◌∷◌}
+use Rattle.af_enough_law.proofs.Common.{RoundSeen, Op, server_list, Want, Client, begun, after_round, Run, told_at, Session}
 use Rattle.af_script.specs.declared.op.Op.TheVariants as op
-use Rattle.af_runs.specs.Blocks.{server_list}
 use Rattle.af_runs.specs.declared.want.ClientCommand.TheVariants as command
-use Rattle.af_runs.specs.declared.want.Want.{Want}
 use Rattle.af_runs.specs.declared.want.Want.TheVariants as want
-use Rattle.af_runs.specs.Clients.{Client, begun}
-use Rattle.af_runs.specs.Rounds.{after_round}
-use Rattle.af_runs.specs.Runs.{Run, told_at}
-use Rattle.af_runs.specs.Sessions.{Session}
-use Rattle.af_enough_law.specs.FastFlows.{frames_left_in}
+use Rattle.af_enough_law.proofs.FastWords.{frames_left_in}
 use Rattle.af_enough_law.specs.Seen.{frames_taken}
 
 -- ## The client

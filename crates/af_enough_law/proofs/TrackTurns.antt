@@ -1,20 +1,6 @@
 -- What a turn of the normal mixer makes of one track, step by step.
-use Rattle.std.specs.Prelude.{◌≡◌, ℕ, ◌==◌, Bool, true, false, if◌then◌else◌, List, [], ◌∷◌, Option}
-use Rattle.af_base.specs.declared.state.FastState.{FastState}
-use Rattle.af_base.specs.declared.turn.CommandLook.{CommandLook}
-use Rattle.af_base.specs.Turn.{Turn, TakeSeen}
-use Rattle.af_life.specs.declared.kept.Counts.{Counts}
-use Rattle.af_life.specs.declared.kept.Heard.{Heard}
-use Rattle.af_life.specs.declared.kept.Holder.TheVariants.{Returning}
-use Rattle.af_life.specs.declared.kept.TrackKept.{TrackKept}
-use Rattle.af_life.specs.Edits.{welcomed, must_leave, must_enter, lent_by}
-use Rattle.af_life.specs.Heard.{heard, ready}
-use Rattle.af_life.specs.Kept.{Setup, asked as buffer, NormalKept, Learnt, track_at, track_in}
-use Rattle.af_life.specs.Obeys.{slot_for}
-use Rattle.af_life.specs.Plays.{look_counted}
-use Rattle.af_life.specs.Serves.{after_part}
-use Rattle.af_life.specs.Turn.{turn_after}
-use Rattle.af_life.specs.TurnEvents.{tracks_at}
+use Rattle.std.proofs.Common.{◌≡◌, ◌==◌, Bool, true, false, if◌then◌else◌, List, [], ◌∷◌, Option}
+use Rattle.af_enough_law.proofs.Common.{FastState, CommandLook, Turn, TakeSeen, Counts, Heard, Returning, TrackKept, welcomed, must_leave, must_enter, lent_by, heard, ready, Setup, asked as buffer, NormalKept, Learnt, track_at, track_in, slot_for, look_counted, after_part, turn_after, tracks_at}
 
 -- the track once the acknowledgement was looked at
 abbrev pub greeted : Bool → FastState → TrackKept → TrackKept

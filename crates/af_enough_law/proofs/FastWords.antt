@@ -1,28 +1,11 @@
 -- What the fast mixer does in a round: which states its entries use, and what it takes of a track that they carry.
-use Rattle.std.specs.Prelude.{◌≡◌, ℕ, ◌+◌, ◌-◌, ◌*◌, ◌≤◌, ◌<◌, min, true, false, List, [], ◌∷◌, length, take, Some, None}
+use Rattle.std.proofs.Common.{◌≡◌, ◌+◌, ◌-◌, ◌*◌, ◌≤◌, ◌<◌, min, true, false, List, [], ◌∷◌, length, take, Some, None}
 use Rattle.af_base.specs.declared.event.ServerEvent.TheVariants as server
-use Rattle.af_base.specs.declared.report.SlotReport.{SlotReport}
-use Rattle.af_base.specs.declared.seen.Seen.{Seen}
+use Rattle.af_enough_law.proofs.Common.{SlotReport, Seen, MixWrite, FastState, FastTrack, slots, entry_slot, count_seen, IsClientList, kept, state_of, last_used, is_mixed, initial, drops_none, flushes_of, EntrySeen, RoundSeen, ones, twos, report_at, slot_of, carries, BlockTold, client_list, server_list, listed, is_tame, before_turn, after_turn, after_round, Run, told_at, last_report, known_of, takes_part, fast_ended, Session, track_count, cycle_frames}
 use Rattle.af_base.specs.declared.seen.Seen.TheVariants as seen
-use Rattle.af_base.specs.declared.state.Command.TheVariants.{MixWrite}
-use Rattle.af_base.specs.declared.state.FastState.{FastState}
-use Rattle.af_base.specs.declared.state.FastTrack.{FastTrack}
-use Rattle.af_base.specs.Log.{slots, entry_slot, count_seen}
 use Rattle.af_model.specs.declared.newest.ReaderEvent.TheVariants as reads
 use Rattle.af_model.specs.declared.states.ObserverEvent.TheVariants as observer
-use Rattle.af_model.specs.ClientCalls.{IsClientList}
-use Rattle.af_model.specs.Cycles.{kept, state_of, last_used, is_mixed}
-use Rattle.af_model.specs.Draft.{initial}
-use Rattle.af_model.specs.Fates.{drops_none}
-use Rattle.af_model.specs.History.{flushes_of}
-use Rattle.af_model.specs.Journals.{EntrySeen, RoundSeen}
-use Rattle.af_model.specs.Order.{ones, twos}
-use Rattle.af_model.specs.Reports.{report_at}
-use Rattle.af_model.specs.StateQueue.{slot_of, carries, mutated}
-use Rattle.af_runs.specs.Blocks.{BlockTold, client_list, server_list, listed, is_tame}
-use Rattle.af_runs.specs.Rounds.{before_turn, after_turn, after_round}
-use Rattle.af_runs.specs.Runs.{Run, told_at, last_report, known_of, takes_part, fast_ended}
-use Rattle.af_runs.specs.Sessions.{Session, track_count, cycle_frames}
+use Rattle.af_model.specs.StateQueue.{mutated}
 use Rattle.af_enough_law.specs.Seen.{Stands, frames_put, frames_taken, stored}
 
 -- ## The states that are used

@@ -1,17 +1,10 @@
 -- What is put into the pipe by a round, what is taken, and the room that is seen.
-use Rattle.std.specs.Prelude.{◌≡◌, ℕ, ◌+◌, ◌-◌, ◌*◌, ◌≤◌, min, if◌then◌else◌, Option, Some, None, length, take}
+use Rattle.std.proofs.Common.{◌≡◌, ◌+◌, ◌-◌, ◌*◌, ◌≤◌, min, if◌then◌else◌, Option, Some, None, length, take}
 use Rattle.af_base.specs.declared.event.ClientEvent.TheVariants as client
 use Rattle.af_base.specs.declared.event.ServerEvent.TheVariants as server
-use Rattle.af_base.specs.Turn.{Turn}
-use Rattle.af_life.specs.Kept.{pipe_size}
-use Rattle.af_life.specs.Plays.{put_by}
-use Rattle.af_model.specs.Journals.{RoundSeen}
-use Rattle.af_model.specs.Order.{ones, twos}
-use Rattle.af_runs.specs.Rounds.{after_round}
-use Rattle.af_runs.specs.Runs.{Run}
-use Rattle.af_runs.specs.Sessions.{Session, setup_of, cycle_frames}
+use Rattle.af_enough_law.proofs.Common.{Turn, pipe_size, put_by, RoundSeen, ones, twos, after_round, Run, Session, setup_of, cycle_frames}
 use Rattle.af_enough_law.specs.Seen.{Stands, frames_put, frames_taken}
-use Rattle.af_enough_law.specs.FastFlows.{MixesAll}
+use Rattle.af_enough_law.proofs.FastWords.{MixesAll}
 
 -- how many frames were put so far, and how many taken
 abbrev pub pipe_put : Run → ℕ

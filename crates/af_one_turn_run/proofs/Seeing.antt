@@ -1,9 +1,6 @@
 -- What a party's events see, one after the other, if no other party does anything between them.
-use Rattle.std.specs.Prelude.{ℕ, fold, List, [], ◌∷◌}
-use Rattle.af_base.specs.declared.event.ClientEvent.{ClientEvent}
-use Rattle.af_base.specs.declared.event.ServerEvent.{ServerEvent}
-use Rattle.af_model.specs.declared.point.TrackPoint.{TrackPoint}
-use Rattle.af_model.specs.Point.{ClientMay, ServerMay, after_client, after_server}
+use Rattle.std.proofs.Common.{fold, List, [], ◌∷◌}
+use Rattle.af_one_turn_run.proofs.Common.{ClientEvent, ServerEvent, TrackPoint, ClientMay, ServerMay, after_client, after_server}
 
 -- the point of a block after some events of its client, and of its server
 abbrev pub after_clients : TrackPoint → List ClientEvent → TrackPoint

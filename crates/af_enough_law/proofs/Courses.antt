@@ -1,15 +1,6 @@
 -- The course of a track that plays through: what its client sends it, and what each turn makes of its life.
-use Rattle.std.specs.Prelude.{◌≡◌, ℕ, zero, suc, ◌+◌, ◌≤◌, ◌==◌, ◌&&◌, ◌||◌, not, Bool, true, false, if◌then◌else◌, List, [], ◌∷◌, length, Option, None}
-use Rattle.af_base.specs.declared.turn.CommandLook.{CommandLook}
-use Rattle.af_life.specs.declared.kept.Heard.{Heard}
-use Rattle.af_life.specs.declared.kept.TrackKept.{TrackKept}
-use Rattle.af_life.specs.declared.state.LifeState.{LifeState}
-use Rattle.af_life.specs.declared.state.LifeState.TheVariants.{Absent, Idle, Active, Stopping1, Stopping2, Stopped}
-use Rattle.af_life.specs.declared.track.Life.{Life}
-use Rattle.af_life.specs.Commands.{by_command}
-use Rattle.af_life.specs.Obeys.{opens, is_shut, shows_command}
-use Rattle.af_life.specs.Reports.{by_report}
-use Rattle.af_life.specs.Serves.{status_word}
+use Rattle.std.proofs.Common.{◌≡◌, zero, suc, ◌+◌, ◌≤◌, ◌==◌, ◌&&◌, ◌||◌, not, Bool, true, false, if◌then◌else◌, List, [], ◌∷◌, length, Option, None}
+use Rattle.af_enough_law.proofs.Common.{CommandLook, Heard, TrackKept, LifeState, Absent, Idle, Active, Stopping1, Stopping2, Stopped, Life, by_command, opens, is_shut, shows_command, by_report, status_word}
 
 -- ## Words and looks
 

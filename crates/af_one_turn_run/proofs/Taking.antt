@@ -1,11 +1,7 @@
 -- What a server's events take of the frames released, and what a block must have for it.
-use Rattle.std.specs.Prelude.{◌≡◌, ℕ, ◌+◌, ◌-◌, ◌≤◌, List, [], ◌∷◌, ◌++◌, take, drop, length}
-use Rattle.af_base.specs.declared.event.ServerEvent.{ServerEvent}
+use Rattle.std.proofs.Common.{◌≡◌, ◌+◌, ◌-◌, ◌≤◌, List, [], ◌∷◌, ◌++◌, take, drop, length}
+use Rattle.af_one_turn_run.proofs.Common.{ServerEvent, TrackPoint, taken_of, after_server, BlockTold}
 use Rattle.af_base.specs.declared.event.ServerEvent.TheVariants as server
-use Rattle.af_model.specs.declared.point.TrackPoint.{TrackPoint}
-use Rattle.af_model.specs.History.{taken_of}
-use Rattle.af_model.specs.Point.{after_server}
-use Rattle.af_runs.specs.Blocks.{BlockTold}
 
 -- what an event takes of these frames
 abbrev pub takes_at : List ℕ → ℕ → TrackPoint → ServerEvent → List ℕ

@@ -1,14 +1,11 @@
 -- What is carried of the whole session from round to round, while some track still has a life.
-use Rattle.std.specs.Prelude.{◌≡◌, ◌≤◌, false, length}
-use Rattle.af_life.specs.Edits.{commands_exit}
-use Rattle.af_runs.specs.Runs.{Run, fast_ended}
-use Rattle.af_runs.specs.Sessions.{Session, track_count, setup_of, cycle_frames}
-use Rattle.af_runs.specs.Told.{state_at}
-use Rattle.af_enough_law.specs.EndPhases.{NoExits}
-use Rattle.af_enough_law.specs.Ends.{IsInOrder}
-use Rattle.af_enough_law.specs.FastFlows.{KnowsStates, CountsStates, KnowsReports, CountsReports}
-use Rattle.af_enough_law.specs.Items.{AreItems}
-use Rattle.af_enough_law.specs.QueueRounds.{QueueStands}
+use Rattle.std.proofs.Common.{◌≡◌, ◌≤◌, false, length}
+use Rattle.af_enough_law.proofs.Common.{commands_exit, Run, fast_ended, Session, track_count, setup_of, cycle_frames, state_at}
+use Rattle.af_enough_law.proofs.EndWords.{NoExits}
+use Rattle.af_enough_law.proofs.Ends.{IsInOrder}
+use Rattle.af_enough_law.proofs.FastWords.{KnowsStates, CountsStates, KnowsReports, CountsReports}
+use Rattle.af_enough_law.proofs.Items.{AreItems}
+use Rattle.af_enough_law.proofs.QueueRounds.{QueueStands}
 
 -- what holds of a session before the first round too
 pub record SessionStands (s : Session) (run : Run) : Type 0 where

@@ -1,19 +1,11 @@
 -- A client whose ops play through: what it still has to do, and what may be answered.
-use Rattle.std.specs.Prelude.{◌≡◌, ◌⊎◌, ℕ, ◌+◌, ◌≤◌, ◌<◌, ◌==◌, true, false, List, [], ◌∷◌, bit_and}
-use Rattle.af_base.specs.declared.event.ClientCall.{ClientCall}
+use Rattle.std.proofs.Common.{◌≡◌, ◌+◌, ◌≤◌, ◌<◌, ◌==◌, true, false, List, [], ◌∷◌, bit_and}
+use Rattle.af_enough_law.proofs.Common.{ClientCall, Op, Mode, Want, client_kept, wrapped, state_in, Side, Track, after_call, most_gains}
 use Rattle.af_base.specs.declared.event.ClientCall.TheVariants as call
-use Rattle.af_script.specs.declared.op.Op.{Op}
 use Rattle.af_script.specs.declared.op.Op.TheVariants as op
 use Rattle.af_runs.specs.declared.want.ClientCommand.TheVariants as command
-use Rattle.af_runs.specs.declared.want.Mode.{Mode}
 use Rattle.af_runs.specs.declared.want.Mode.TheVariants as mode
-use Rattle.af_runs.specs.declared.want.Want.{Want}
 use Rattle.af_runs.specs.declared.want.Want.TheVariants as want
-use Rattle.af_model.specs.ClientCalls.{client_kept}
-use Rattle.af_model.specs.Point.{wrapped}
-use Rattle.af_runs.specs.Clients.{state_in}
-use Rattle.af_runs.specs.ClientTurns.{Side, Track, after_call}
-use Rattle.af_enough.specs.Enough.{most_gains}
 
 -- gains and writes of some frames, and then a stop, a drain and a removal, if so many gains stand directly before
 abbrev pub IsWay : ℕ → List Op → Type 0
