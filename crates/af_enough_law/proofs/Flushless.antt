@@ -28,32 +28,32 @@ unflushed_none (e ∷ es) h = let a = unflushed_zero e (both_first (is_unflushed
 
 -- ## Wants and ops that flush, pause and poke nothing
 
-abbrev pub is_plain_want : Want → Bool
-is_plain_want want.Flush = false
-is_plain_want (want.Send command.Pause) = false
-is_plain_want (want.Send command.Flush) = false
-is_plain_want (want.Poke in_command word value) = false
-is_plain_want _ = true
+abbrev pub is_flushless_want : Want → Bool
+is_flushless_want want.Flush = false
+is_flushless_want (want.Send command.Pause) = false
+is_flushless_want (want.Send command.Flush) = false
+is_flushless_want (want.Poke in_command word value) = false
+is_flushless_want _ = true
 
-abbrev pub is_plain_op : Op → Bool
-is_plain_op op.Flush = false
-is_plain_op op.Pause = false
-is_plain_op (op.Poke in_command word value) = false
-is_plain_op _ = true
+abbrev pub is_flushless_op : Op → Bool
+is_flushless_op op.Flush = false
+is_flushless_op op.Pause = false
+is_flushless_op (op.Poke in_command word value) = false
+is_flushless_op _ = true
 
-abbrev pub plain_ops : List Op → Bool
-plain_ops ops = list_all is_plain_op ops
+abbrev pub flushless_ops : List Op → Bool
+flushless_ops ops = list_all is_flushless_op ops
 
 -- a client with nothing but these
 abbrev pub IsFlushless : Client → Type 0
-IsFlushless = IsPlain is_plain_want is_plain_op
+IsFlushless = IsPlain is_flushless_want is_flushless_op
 
-op_plain : (m : Mode) (o : Op) → is_plain_op o ≡ true → list_all is_plain_want (wants_of m o) ≡ true
-op_plain m op.Start h = only_plain is_plain_want _ (want.Send command.Start ∷ want.Settled ∷ []) refl
+op_plain : (m : Mode) (o : Op) → is_flushless_op o ≡ true → list_all is_flushless_want (wants_of m o) ≡ true
+op_plain m op.Start h = only_plain is_flushless_want _ (want.Send command.Start ∷ want.Settled ∷ []) refl
 op_plain m op.Pause h = absurd (true≢false (sym h))
-op_plain m op.Stop h = only_plain is_plain_want _ (want.Send command.Stop ∷ []) refl
+op_plain m op.Stop h = only_plain is_flushless_want _ (want.Send command.Stop ∷ []) refl
 op_plain m op.Flush h = absurd (true≢false (sym h))
-op_plain m op.Drain h = only_plain is_plain_want _ (want.Drained ∷ []) refl
+op_plain m op.Drain h = only_plain is_flushless_want _ (want.Drained ∷ []) refl
 op_plain m (op.Poke in_command word value) h = absurd (true≢false (sym h))
 op_plain m _ h = refl
 
@@ -64,7 +64,7 @@ abbrev pub is_poke_call : ClientCall → Bool
 is_poke_call (call.Poke in_command word value) = true
 is_poke_call _ = false
 
-pub poke_not : (t : Track) (w : Want) (in_command : Bool) (word value : ℕ) → is_plain_want w ≡ true → IsWanted t w (call.Poke in_command word value) → ⊥
+pub poke_not : (t : Track) (w : Want) (in_command : Bool) (word value : ℕ) → is_flushless_want w ≡ true → IsWanted t w (call.Poke in_command word value) → ⊥
 poke_not t (want.Gain left right) b word value plain made = no (sym (ap is_poke_call made))
 poke_not t (want.Poke in_command w v) b word value plain made = no plain
 poke_not t want.Rest b word value plain made = absurd made
@@ -74,7 +74,7 @@ is_flush_call : ClientCall → Bool
 is_flush_call (call.Flush count) = true
 is_flush_call _ = false
 
-flush_not : (t : Track) (w : Want) (count : ℕ) → is_plain_want w ≡ true → IsWanted t w (call.Flush count) → ⊥
+flush_not : (t : Track) (w : Want) (count : ℕ) → is_flushless_want w ≡ true → IsWanted t w (call.Flush count) → ⊥
 unfolding is_flush_call
 flush_not t want.Flush count plain made = no plain
 flush_not t (want.Gain left right) count plain made = no (sym (ap is_flush_call made))
@@ -87,7 +87,7 @@ look_unflushed true events h = refl
 look_unflushed false events h = h
 
 -- the events of such a call are no flushes
-pub call_unflushed : (t : Track) (w : Want) (answer : ClientCall) (was_shut : Bool) → is_plain_want w ≡ true → IsWanted t w answer → are_unflushed (client_call_events was_shut answer) ≡ true
+pub call_unflushed : (t : Track) (w : Want) (answer : ClientCall) (was_shut : Bool) → is_flushless_want w ≡ true → IsWanted t w answer → are_unflushed (client_call_events was_shut answer) ≡ true
 call_unflushed t w (call.Corrupt front rear) s plain made = look_unflushed s _ refl
 call_unflushed t w (call.Flush count) s plain made = absurd (flush_not t w count plain made)
 call_unflushed t w (call.SendCorrupt front rear) s plain made = look_unflushed s _ refl
@@ -100,19 +100,19 @@ pub unflushed_append : (xs ys : List ClientEvent) → are_unflushed xs ≡ true 
 unflushed_append [] ys a b = b
 unflushed_append (x ∷ xs) ys a b = both_true (is_unflushed x) (are_unflushed (xs ++ ys)) (both_first (is_unflushed x) (are_unflushed xs) a) (unflushed_append xs ys (both_right (is_unflushed x) (are_unflushed xs) a) b)
 
-flushless : IsKind is_plain_want is_plain_op are_unflushed
+flushless : IsKind is_flushless_want is_flushless_op are_unflushed
 flushless = record { ops = op_plain; start = refl; write = (λ count. refl); clear = refl; leave = refl; append = unflushed_append; call = call_unflushed }
 
 -- a track whose client wants no flush, and has not flushed
 abbrev pub IsFlushlessTrack : Track → Type 0
-IsFlushlessTrack = IsPlainTrack is_plain_want is_plain_op are_unflushed
+IsFlushlessTrack = IsPlainTrack is_flushless_want is_flushless_op are_unflushed
 
-pub wanted_plain : (t : Track) (w : Want) → IsFlushless t.client → wanted_of t ≡ Some w → is_plain_want w ≡ true
-wanted_plain = wanted_of_kind is_plain_want is_plain_op are_unflushed flushless
+pub wanted_plain : (t : Track) (w : Want) → IsFlushless t.client → wanted_of t ≡ Some w → is_flushless_want w ≡ true
+wanted_plain = wanted_of_kind is_flushless_want is_flushless_op are_unflushed flushless
 
 pub call_flushless : (t : Track) (w : Want) (answer : ClientCall) → IsFlushlessTrack t → wanted_of t ≡ Some w → IsMade t w answer → IsFlushlessTrack (after_call t answer)
-call_flushless = call_plain is_plain_want is_plain_op are_unflushed flushless
+call_flushless = call_plain is_flushless_want is_flushless_op are_unflushed flushless
 
 -- a legal turn leaves a track flushless
 pub turn_flushless : (t : Track) (calls : List ClientCall) → IsFlushlessTrack t → LegalClientTurn t calls → IsFlushlessTrack (after_calls t calls)
-turn_flushless = turn_plain is_plain_want is_plain_op are_unflushed flushless
+turn_flushless = turn_plain is_flushless_want is_flushless_op are_unflushed flushless

@@ -9,27 +9,27 @@ use Rattle.af_enough_law.proofs.PlainClients.{IsKind, IsPlain, IsPlainTrack, cal
 
 -- ## Wants and ops that poke nothing
 
-abbrev pub is_plain_want : Want → Bool
-is_plain_want (want.Poke in_command word value) = false
-is_plain_want _ = true
+abbrev pub is_pokeless_want : Want → Bool
+is_pokeless_want (want.Poke in_command word value) = false
+is_pokeless_want _ = true
 
-abbrev pub is_plain_op : Op → Bool
-is_plain_op (op.Poke in_command word value) = false
-is_plain_op _ = true
+abbrev pub is_pokeless_op : Op → Bool
+is_pokeless_op (op.Poke in_command word value) = false
+is_pokeless_op _ = true
 
-abbrev pub plain_ops : List Op → Bool
-plain_ops ops = list_all is_plain_op ops
+abbrev pub pokeless_ops : List Op → Bool
+pokeless_ops ops = list_all is_pokeless_op ops
 
 -- a client with nothing but these
 abbrev pub IsPokeless : Client → Type 0
-IsPokeless = IsPlain is_plain_want is_plain_op
+IsPokeless = IsPlain is_pokeless_want is_pokeless_op
 
-op_plain : (m : Mode) (o : Op) → is_plain_op o ≡ true → list_all is_plain_want (wants_of m o) ≡ true
-op_plain m op.Start h = only_plain is_plain_want _ (want.Send command.Start ∷ want.Settled ∷ []) refl
-op_plain m op.Pause h = only_plain is_plain_want _ (want.Send command.Pause ∷ []) refl
-op_plain m op.Stop h = only_plain is_plain_want _ (want.Send command.Stop ∷ []) refl
-op_plain m op.Flush h = only_plain is_plain_want _ (want.Flush ∷ want.Send command.Flush ∷ []) refl
-op_plain m op.Drain h = only_plain is_plain_want _ (want.Drained ∷ []) refl
+op_plain : (m : Mode) (o : Op) → is_pokeless_op o ≡ true → list_all is_pokeless_want (wants_of m o) ≡ true
+op_plain m op.Start h = only_plain is_pokeless_want _ (want.Send command.Start ∷ want.Settled ∷ []) refl
+op_plain m op.Pause h = only_plain is_pokeless_want _ (want.Send command.Pause ∷ []) refl
+op_plain m op.Stop h = only_plain is_pokeless_want _ (want.Send command.Stop ∷ []) refl
+op_plain m op.Flush h = only_plain is_pokeless_want _ (want.Flush ∷ want.Send command.Flush ∷ []) refl
+op_plain m op.Drain h = only_plain is_pokeless_want _ (want.Drained ∷ []) refl
 op_plain m (op.Poke in_command word value) h = absurd (true≢false (sym h))
 op_plain m _ h = refl
 
@@ -40,7 +40,7 @@ abbrev pub is_poke_call : ClientCall → Bool
 is_poke_call (call.Poke in_command word value) = true
 is_poke_call _ = false
 
-pub poke_not : (t : Track) (w : Want) (in_command : Bool) (word value : ℕ) → is_plain_want w ≡ true → IsWanted t w (call.Poke in_command word value) → ⊥
+pub poke_not : (t : Track) (w : Want) (in_command : Bool) (word value : ℕ) → is_pokeless_want w ≡ true → IsWanted t w (call.Poke in_command word value) → ⊥
 poke_not t (want.Gain left right) b word value plain made = no (sym (ap is_poke_call made))
 poke_not t (want.Poke in_command w v) b word value plain made = no plain
 poke_not t want.Rest b word value plain made = absurd made
@@ -51,7 +51,7 @@ look_tame true events h = refl
 look_tame false events h = h
 
 -- the events of such a call are no pokes
-pub call_tame : (t : Track) (w : Want) (answer : ClientCall) (was_shut : Bool) → is_plain_want w ≡ true → IsWanted t w answer → is_lawful (client_call_events was_shut answer) ≡ true
+pub call_tame : (t : Track) (w : Want) (answer : ClientCall) (was_shut : Bool) → is_pokeless_want w ≡ true → IsWanted t w answer → is_lawful (client_call_events was_shut answer) ≡ true
 call_tame t w (call.Corrupt front rear) s plain made = look_tame s _ refl
 call_tame t w (call.SendCorrupt front rear) s plain made = look_tame s _ refl
 call_tame t w (call.Poke in_command word value) s plain made = absurd (poke_not t w in_command word value plain made)
@@ -59,19 +59,19 @@ call_tame t w _ s plain made = refl
 
 -- ## A turn
 
-pokeless : IsKind is_plain_want is_plain_op is_lawful
+pokeless : IsKind is_pokeless_want is_pokeless_op is_lawful
 pokeless = record { ops = op_plain; start = refl; write = (λ count. refl); clear = refl; leave = refl; append = both_lawful; call = call_tame }
 
 -- a track whose client wants no poke, and has not poked
 abbrev pub IsPokelessTrack : Track → Type 0
-IsPokelessTrack = IsPlainTrack is_plain_want is_plain_op is_lawful
+IsPokelessTrack = IsPlainTrack is_pokeless_want is_pokeless_op is_lawful
 
-pub wanted_plain : (t : Track) (w : Want) → IsPokeless t.client → wanted_of t ≡ Some w → is_plain_want w ≡ true
-wanted_plain = wanted_of_kind is_plain_want is_plain_op is_lawful pokeless
+pub wanted_plain : (t : Track) (w : Want) → IsPokeless t.client → wanted_of t ≡ Some w → is_pokeless_want w ≡ true
+wanted_plain = wanted_of_kind is_pokeless_want is_pokeless_op is_lawful pokeless
 
 pub call_pokeless : (t : Track) (w : Want) (answer : ClientCall) → IsPokelessTrack t → wanted_of t ≡ Some w → IsMade t w answer → IsPokelessTrack (after_call t answer)
-call_pokeless = call_plain is_plain_want is_plain_op is_lawful pokeless
+call_pokeless = call_plain is_pokeless_want is_pokeless_op is_lawful pokeless
 
 -- a legal turn leaves a track pokeless
 pub turn_pokeless : (t : Track) (calls : List ClientCall) → IsPokelessTrack t → LegalClientTurn t calls → IsPokelessTrack (after_calls t calls)
-turn_pokeless = turn_plain is_plain_want is_plain_op is_lawful pokeless
+turn_pokeless = turn_plain is_pokeless_want is_pokeless_op is_lawful pokeless

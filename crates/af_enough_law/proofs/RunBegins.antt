@@ -9,7 +9,7 @@ use Rattle.af_enough.specs.Enough.{way_goes_on}
 use Rattle.af_enough_law.proofs.Playing.{IsWay, Doing, opening}
 use Rattle.af_enough_law.proofs.Doing.{at}
 use Rattle.af_enough_law.proofs.RunTame.{rounds_pokeless}
-use Rattle.af_enough_law.proofs.Pokeless.{plain_ops, IsPokelessTrack}
+use Rattle.af_enough_law.proofs.Pokeless.{pokeless_ops, IsPokelessTrack}
 
 -- ## The ops of a track
 
@@ -21,7 +21,7 @@ way_of frames gains (op.Stop ∷ op.Drain ∷ op.Remove ∷ []) h n = tt
 way_of frames gains _ h n = absurd (true≢false (sym h))
 
 -- none of a way's ops is a poke
-pub way_plain : (gains : ℕ) (ops : List Op) → IsWay gains ops → plain_ops ops ≡ true
+pub way_plain : (gains : ℕ) (ops : List Op) → IsWay gains ops → pokeless_ops ops ≡ true
 way_plain gains (op.Gain left right ∷ ops) way = way_plain (gains + 1) ops way.1
 way_plain gains (op.Write count ∷ ops) way = way_plain 0 ops way.1
 way_plain gains (op.Stop ∷ op.Drain ∷ op.Remove ∷ []) way = refl
@@ -62,7 +62,7 @@ begins_pokeless script files i is through lt =
     let s = session_of script files in
     let p = track_plays script files i is through lt in
     subst (λ t. IsPokelessTrack (sides_of t)) (sym (new_at s i lt)) (record {
-      client = record { due = refl; ops = ap plain_ops p.whole ∙ way_plain 0 p.rest p.way };
+      client = record { due = refl; ops = ap pokeless_ops p.whole ∙ way_plain 0 p.rest p.way };
       stream = refl;
       commands = refl;
     })

@@ -2,13 +2,13 @@
 use Rattle.std.proofs.Common.{◌≡◌, ℕ, ◌-◌, ◌<◌, not, Bool, true, false, MatchBool, List, [], ◌∷◌, length, refl, ap, arith}
 use Rattle.af_enough_law.proofs.Common.{AreCalls, ClientCall, Frame, IsScript, IsWanted, LegalRounds, Marks, RoundSeen, Run, ScriptData, Session, Track, Want, after_call, after_round, all_play_through, calls_in, is_lawful_block, is_poke_on, list_any, neither_is, new_long, new_run, session_of, sides_of, told_at, track_count}
 use Rattle.af_base.specs.declared.event.ClientCall.TheVariants as call
-use Rattle.af_enough_law.proofs.Pokeless.{is_plain_want, IsPokelessTrack, poke_not, wanted_plain, call_pokeless}
+use Rattle.af_enough_law.proofs.Pokeless.{is_pokeless_want, IsPokelessTrack, poke_not, wanted_plain, call_pokeless}
 use Rattle.af_enough_law.proofs.RunBegins.{begins_pokeless}
 use Rattle.af_enough_law.proofs.RunTame.{round_pokeless}
 use Rattle.af_enough_law.proofs.RunTracks.{round_long}
 
 -- a plain want isn't answered by a poke on a block
-pub not_on : (on : Bool) (t : Track) (w : Want) (answer : ClientCall) → is_plain_want w ≡ true → IsWanted t w answer → is_poke_on on answer ≡ false
+pub not_on : (on : Bool) (t : Track) (w : Want) (answer : ClientCall) → is_pokeless_want w ≡ true → IsWanted t w answer → is_poke_on on answer ≡ false
 not_on true t w (call.Poke in_command word value) plain made = absurd (poke_not t w in_command word value plain made)
 not_on true t w _ plain made = refl
 not_on false t w (call.Poke in_command word value) plain made = absurd (poke_not t w in_command word value plain made)

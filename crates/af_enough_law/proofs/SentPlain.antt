@@ -9,7 +9,7 @@ use Rattle.af_runs.specs.declared.want.Want.TheVariants as want
 use Rattle.af_enough_law.proofs.Courses.{code_at, course, life_in}
 use Rattle.af_enough_law.proofs.Able.{none_told}
 use Rattle.af_enough_law.proofs.Coursing.{ended_same}
-use Rattle.af_enough_law.proofs.Flushless.{is_plain_want, IsFlushlessTrack, wanted_plain, call_flushless}
+use Rattle.af_enough_law.proofs.Flushless.{is_flushless_want, IsFlushlessTrack, wanted_plain, call_flushless}
 
 -- ## Words
 
@@ -69,7 +69,7 @@ plain_join (x ∷ y ∷ xs) code argument e p h = let rest = plain_join xs code 
 with_none : (xs : List ℕ) → ArePlain xs → ArePlain (xs ++ [])
 with_none xs h = subst ArePlain (sym (append-nil xs)) h
 
-code_plain : (sending : ClientCommand) → is_plain_want (want.Send sending) ≡ true → is_course_code (command_code sending) ≡ true
+code_plain : (sending : ClientCommand) → is_flushless_want (want.Send sending) ≡ true → is_course_code (command_code sending) ≡ true
 code_plain command.Pause h = no h
 code_plain command.Flush h = no h
 code_plain _ h = refl
@@ -78,7 +78,7 @@ is_sent : ClientCall → Bool
 is_sent (call.Sent front code argument) = true
 is_sent _ = false
 
-sent_plain : (t : Track) (w : Want) (front code argument : ℕ) → is_plain_want w ≡ true → IsWanted t w (call.Sent front code argument) → is_course_code code ≡ true
+sent_plain : (t : Track) (w : Want) (front code argument : ℕ) → is_flushless_want w ≡ true → IsWanted t w (call.Sent front code argument) → is_course_code code ≡ true
 unfolding is_sent
 sent_plain t (want.Send sending) front code argument plain made = ap is_course_code (eqb-true code (command_code sending) (both_first (code == command_code sending) _ made)) ∙ code_plain sending plain
 sent_plain t (want.Gain left right) front code argument plain made = no (sym (ap is_sent made))
@@ -87,7 +87,7 @@ sent_plain t want.Rest front code argument plain made = absurd made
 sent_plain t want.Leave front code argument plain made = ap is_course_code (eqb-true code (command_code command.Remove) (both_first (code == command_code command.Remove) _ made))
 sent_plain t _ front code argument plain made = no made
 
-call_plain : (t : Track) (w : Want) (answer : ClientCall) → is_plain_want w ≡ true → IsWanted t w answer → ArePlain t.commands.released → ArePlain (after_call t answer).commands.released
+call_plain : (t : Track) (w : Want) (answer : ClientCall) → is_flushless_want w ≡ true → IsWanted t w answer → ArePlain t.commands.released → ArePlain (after_call t answer).commands.released
 call_plain t w (call.Put front count) plain made h = h
 call_plain t w (call.Full front) plain made h = h
 call_plain t w (call.Dead flags) plain made h = h
