@@ -10,8 +10,7 @@ use Rattle.af_enough_law.proofs.Calm.{are_calm, are_hands_calm}
 use Rattle.af_enough_law.proofs.FastWords.{IsOpen}
 use Rattle.af_enough_law.proofs.CalmTracks.{CalmTrack, CalmTurn, calm_round, calm_then, known_stream_then, known_commands_then}
 use Rattle.af_enough_law.proofs.ClientRounds.{fair_round}
-use Rattle.af_enough_law.proofs.FlushlessRuns.{begins_flushless}
-use Rattle.af_enough_law.proofs.RunBegins.{begins_pokeless}
+use Rattle.af_enough_law.proofs.RunBegins.{begins_flushless, begins_pokeless}
 use Rattle.af_enough_law.proofs.StreamCalm.{IsQuiet}
 use Rattle.af_enough_law.proofs.Turning.{Stands, on, gone_for_good}
 

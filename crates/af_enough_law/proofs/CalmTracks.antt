@@ -16,15 +16,14 @@ use Rattle.af_enough_law.proofs.CommandCalm.{commands_calm}
 use Rattle.af_enough_law.proofs.CommandRounds.{commands_told, commands_open}
 use Rattle.af_enough_law.proofs.FairTurns.{IsKnown, stream_grows, words_counted}
 use Rattle.af_enough_law.proofs.FastShows.{Setting}
-use Rattle.af_enough_law.proofs.Flushless.{IsFlushlessTrack, unflushed_none}
+use Rattle.af_enough_law.proofs.Flushless.{IsFlushlessTrack, unflushed_none, round_flushless}
 use Rattle.af_enough_law.proofs.Following.{greeted_in}
 use Rattle.af_enough_law.proofs.HandCalm.{round_hands}
-use Rattle.af_enough_law.proofs.Pokeless.{IsPokelessTrack}
+use Rattle.af_enough_law.proofs.Pokeless.{IsPokelessTrack, round_pokeless}
 use Rattle.af_enough_law.proofs.RoundCalm.{round_quiet}
-use Rattle.af_enough_law.proofs.RunFlushless.{round_flushless}
 use Rattle.af_enough_law.proofs.RunLists.{side_lists, command_lists}
 use Rattle.af_enough_law.proofs.RunStreams.{round_grows}
-use Rattle.af_enough_law.proofs.RunTame.{played_client_list, round_pokeless}
+use Rattle.af_enough_law.proofs.ClientLists.{played_client_list}
 use Rattle.af_enough_law.proofs.RunTracks.{commands_by, played_track, round_blocks, round_commands, met_track}
 use Rattle.af_enough_law.proofs.StreamCalm.{IsQuiet}
 

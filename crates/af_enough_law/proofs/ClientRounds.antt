@@ -9,9 +9,9 @@ use Rattle.af_enough_law.proofs.Playing.{AreFair, AllSeeFrom}
 use Rattle.af_enough_law.proofs.Advancing.{IsBlock, Progress, at_end, progress, rank}
 use Rattle.af_enough_law.proofs.Doing.{at}
 use Rattle.af_enough_law.proofs.FairTurns.{IsCalm, IsKnown, fair_turn, stream_grows}
-use Rattle.af_enough_law.proofs.Pokeless.{IsPokelessTrack}
+use Rattle.af_enough_law.proofs.Pokeless.{IsPokelessTrack, round_pokeless}
 use Rattle.af_enough_law.proofs.RunLists.{side_lists, command_lists, command_history}
-use Rattle.af_enough_law.proofs.RunTame.{played_client_list, round_pokeless}
+use Rattle.af_enough_law.proofs.ClientLists.{played_client_list}
 use Rattle.af_enough_law.proofs.RunTracks.{played_track, round_blocks, met_track}
 use Rattle.af_enough_law.proofs.Turning.{Left}
 

@@ -15,13 +15,12 @@ use Rattle.af_enough_law.proofs.CalmTracks.{CalmTrack, round_released, words_fol
 use Rattle.af_enough_law.proofs.CommandCalm.{commands_calm}
 use Rattle.af_enough_law.proofs.CommandRounds.{commands_told, commands_open, words_follow, words_begin}
 use Rattle.af_enough_law.proofs.FairTurns.{IsKnown, stream_grows}
-use Rattle.af_enough_law.proofs.Flushless.{IsFlushlessTrack, unflushed_none}
+use Rattle.af_enough_law.proofs.Flushless.{IsFlushlessTrack, unflushed_none, round_flushless}
 use Rattle.af_enough_law.proofs.Following.{greeted_in}
-use Rattle.af_enough_law.proofs.Pokeless.{IsPokelessTrack}
-use Rattle.af_enough_law.proofs.RunFlushless.{round_flushless}
+use Rattle.af_enough_law.proofs.Pokeless.{IsPokelessTrack, round_pokeless}
 use Rattle.af_enough_law.proofs.RunLists.{side_lists, command_lists}
 use Rattle.af_enough_law.proofs.RunStreams.{round_grows}
-use Rattle.af_enough_law.proofs.RunTame.{played_client_list, round_pokeless}
+use Rattle.af_enough_law.proofs.ClientLists.{played_client_list}
 use Rattle.af_enough_law.proofs.RunTracks.{played_track, round_blocks, met_track}
 
 -- ## What is carried of a command block

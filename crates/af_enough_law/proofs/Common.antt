@@ -31,7 +31,7 @@ pub use Rattle.af_judge.proofs.SoundSlots.{sound_served}
 pub use Rattle.af_judge.proofs.SoundTurns.{sound_acked, sound_edits, sound_new, sound_turn}
 pub use Rattle.af_judge.proofs.Spelled.{spelled_turn}
 pub use Rattle.af_judge.proofs.StatesRuns.{ends_same, scales_of}
-pub use Rattle.af_judge.proofs.TracksTold.{shapes_called}
+pub use Rattle.af_judge.proofs.TracksTold.{shapes_called, sides_called}
 pub use Rattle.af_judge.specs.Tracks.{AreSpelled, IsSpelled}
 pub use Rattle.af_life.proofs.Basics.{at_here, at_new, at_other, at_set, each_set, lent_away, out_of, ready_life, set_each, takes_len, welcomed_at}
 pub use Rattle.af_life.proofs.Lives.{acked_len, edits_len, not_yet, served_len, turn_len}
@@ -96,22 +96,24 @@ pub use Rattle.af_runs.proofs.Basics.{shown_if, state_more, state_some}
 pub use Rattle.af_runs.proofs.RunGrows.{AreFewer, match_bool-map, rounds-fewer}
 pub use Rattle.af_runs.proofs.StatesFor.{known_some, polled_known, polled_other, polled_pushed, polled_waits, state_beyond, state_known}
 pub use Rattle.af_runs.specs.Blocks.{BlockTold, HasBlockHistory, Marks, client_does, client_list, hand_does, hand_list, is_tame, listed, meets, meets_flag, server_does, server_list}
-pub use Rattle.af_runs.specs.ClientTurns.{AnswersOn, AreCalls, IsMade, IsWanted, LegalClientTurn, Side, Track, after_call, after_calls, argument_of, commands_sent, is_clear, is_of_commands, is_send, is_status, is_write, released_by, side_of, wanted_of, with_call}
+pub use Rattle.af_runs.specs.ClientTurns.{AnswersOn, AreCalls, IsMade, IsWanted, LegalClientTurn, Side, Track, after_call, after_calls, argument_of, commands_sent, is_clear, is_of_commands, is_send, is_status, is_write, most_calls, released_by, side_of, wanted_of, with_call}
 pub use Rattle.af_runs.specs.Clients.{Client, after_answer, after_clear, after_send, after_status, after_write, asked_first, at_next_turn, begins, begun, ends, is_last, more, new_client, next_want, rest_of, rested, settled_in, state_in, wants_of}
 pub use Rattle.af_runs.specs.Found.{LegalTurnBy, TurnFound, outside_of, take_front}
 pub use Rattle.af_runs.specs.Fronts.{behind, front_by_answer, front_of, fronts_by, is_own_inside, is_shown, lawful_front, leaves_open}
 pub use Rattle.af_runs.specs.LegalRuns.{IsCutRun, LegalRounds, is_lawful_block, is_poke_on, marks_of, run_from, session_of}
 pub use Rattle.af_runs.specs.Rounds.{AreMixedBut, IsFastTurn, LegalEntries, LegalEntry, LegalRound, after_round, after_turn, all_played, before_turn, early_count, early_of, fills, found_in, is_early, late_of, loaded, met_after, turned}
-pub use Rattle.af_runs.specs.Runs.{Run, TrackTold, all_ended, called_in_turn, calls_in, commands_turned, draft_after, each_track, fast_ended, fast_party, has_ended, observer_holds, known_of, last_report, load_of, mixed_pipe, mixed_track, most_round_cycles, new_run, next_slot, normal_party, pipe_cells, played, pushed_by, report_of, sides_of, slot_playing, state_for, stream_met, stream_of, stream_turned, takes_part, told_at, track_met, turned_track, with_cycle, with_cycles, with_looks, with_side}
+pub use Rattle.af_runs.specs.Runs.{Run, TrackTold, all_ended, called_in_turn, calls_in, changed_from, commands_turned, draft_after, each_track, fast_ended, fast_party, found_before, has_ended, known_of, last_report, load_of, mixed_pipe, mixed_track, most_round_cycles, new_run, next_slot, no_track, normal_party, observer_holds, pipe_cells, played, pushed_by, report_of, sides_of, slot_playing, state_for, stream_met, stream_of, stream_turned, takes_part, told_at, track_met, turned_track, with_cycle, with_cycles, with_looks, with_side}
 unfoldable pub use Rattle.af_runs.specs.Runs.{met, with_calls, with_ends, with_load, with_mix, with_poll, with_turn}
 pub use Rattle.af_runs.specs.Sessions.{Session, cycle_frames, no_spec, setup_of, spec_of, spec_setting, track_count}
 pub use Rattle.af_runs.specs.Told.{HasQueueHistory, Item, PipeTold, QueueTold, brought_by, is_pushed, items_of, mutator_does, observer_does, poll_events, state_at}
+pub use Rattle.af_runs.specs.TurnRuns.{calls_alone, cycle_alone, made_alone}
 pub use Rattle.af_runs.specs.declared.want.ClientCommand.{ClientCommand}
 pub use Rattle.af_runs.specs.declared.want.Mode.{Mode}
 pub use Rattle.af_runs.specs.declared.want.Want.{Want}
 pub use Rattle.af_script.specs.Data.{ScriptData}
 pub use Rattle.af_script.specs.Form.{HasOpNumbers, IsScript, IsTrack}
 pub use Rattle.af_script.specs.declared.op.Op.{Op}
+pub use Rattle.af_script.specs.declared.op.TurnSpec.{TurnSpec}
 pub use Rattle.af_script.specs.declared.track.TrackSpec.{TrackSpec}
 pub use Rattle.std.proofs.Math.Nat.{add-mod_right, div-add-mod, mod-lt, mul-le-mul, mul-le-mul_left, mul-mod_right, zero-mod}
 pub use Rattle.std.proofs.Math.Seq.{take-append_seam}

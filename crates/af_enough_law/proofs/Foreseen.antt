@@ -7,13 +7,11 @@ use Rattle.af_enough_law.proofs.CommandsGo.{spelled_round}
 use Rattle.af_enough_law.proofs.FastFlows.{Later}
 use Rattle.af_enough_law.proofs.FastRounds.{over}
 use Rattle.af_enough_law.proofs.FastShows.{Setting}
-use Rattle.af_enough_law.proofs.Flushless.{IsFlushlessTrack, unflushed_none}
+use Rattle.af_enough_law.proofs.Flushless.{IsFlushlessTrack, unflushed_none, round_flushless}
 use Rattle.af_enough_law.proofs.Following.{greeted_in}
-use Rattle.af_enough_law.proofs.Pokeless.{IsPokelessTrack}
+use Rattle.af_enough_law.proofs.Pokeless.{IsPokelessTrack, round_pokeless}
 use Rattle.af_enough_law.proofs.RoundCalm.{known_open, quiet_only, home_open, legal_parts, round_quiet}
-use Rattle.af_enough_law.proofs.RunFlushless.{round_flushless}
 use Rattle.af_enough_law.proofs.RunStreams.{round_grows}
-use Rattle.af_enough_law.proofs.RunTame.{round_pokeless}
 use Rattle.af_enough_law.proofs.RunTracks.{round_blocks}
 use Rattle.af_enough_law.proofs.StreamCalm.{IsQuiet, LiesIn, lies_earlier, entries_quiet}
 

@@ -47,10 +47,13 @@ pub mod FairTurns
 pub mod Looking
 pub mod Commanding
 pub mod RunTracks
+pub mod ClientLists
 pub mod RunLists
+pub mod ClientWalk
+pub mod TracksKept
 pub mod PlainClients
+pub mod PlainRounds
 pub mod Pokeless
-pub mod RunTame
 pub mod RunBegins
 pub mod ClientRounds
 pub mod RunMarks
@@ -65,8 +68,6 @@ pub mod RoundCalm
 pub mod CommandCalm
 pub mod HandCalm
 pub mod Flushless
-pub mod RunFlushless
-pub mod FlushlessRuns
 pub mod CalmTracks
 pub mod CalmRuns
 pub mod ClientGoesOn

@@ -20,7 +20,7 @@ use Rattle.af_enough_law.proofs.Lookahead.{home_then, round_later}
 use Rattle.af_enough_law.proofs.Ends.{silent}
 use Rattle.af_enough_law.proofs.RunLists.{side_lists}
 use Rattle.af_enough_law.proofs.RunStreams.{round_grows}
-use Rattle.af_enough_law.proofs.RunTame.{played_client_list}
+use Rattle.af_enough_law.proofs.ClientLists.{played_client_list}
 use Rattle.af_enough_law.proofs.RunTracks.{played_track, round_blocks, met_track}
 use Rattle.af_enough_law.proofs.SentCourse.{sent_course}
 use Rattle.af_enough_law.proofs.SessionRounds.{turn_of, turn_runs}

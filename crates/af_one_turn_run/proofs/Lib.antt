@@ -26,6 +26,5 @@ pub mod OneRounds
 pub mod FileWords
 pub mod RunFiles
 pub mod AllTold
-pub mod PlainClients
 pub mod PlainRuns
 pub mod OneTurnRun
