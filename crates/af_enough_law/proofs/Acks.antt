@@ -20,7 +20,6 @@ pub record KnowsAcked (run : Run) : Type 0 where
   pub within : count ≤ length (twos run.queue)
   pub acked : run.normal.pushed ≤ (observed (take count (twos run.queue))).acked
 
-
 -- ## Acknowledgements rise
 
 abbrev AllRise : ObserverPoint Item → List (ObserverEvent Item) → Type 0

@@ -33,7 +33,6 @@ pub record CommandsTaken (e : Turn) (i : ℕ) (before after : BlockTold) : Type 
   pub is_open : IsOpen after
   pub knows : KnowsReleased after
 
-
 abbrev commands_of : Run → ℕ → BlockTold
 commands_of run i = (told_at run i).commands
 

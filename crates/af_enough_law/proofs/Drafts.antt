@@ -26,7 +26,6 @@ pub record PushMade (before after : NormalKept) (push : Push) : Type 0 where
   pub latest : IsLatest after
   pub number : (after.pushed ≡ before.pushed) ⊎ (after.pushed ≡ before.pushed + 1)
 
-
 -- ## The holders
 
 next_is : (h : Holder) (slot heard : Bool) → (is_lent h && not heard) ≡ false → (is_home h && (slot && heard)) ≡ false → h ≡ next_holder heard slot h

@@ -44,7 +44,6 @@ pub record ExitSent (m : NormalKept) : Type 0 where
   pub last : commands_exit m.last ≡ true
   pub clean : m.dirty ≡ false
 
-
 -- ## The lives
 
 -- a life that has ended stays as it is

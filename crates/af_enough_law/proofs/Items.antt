@@ -15,7 +15,6 @@ IsItem c draft i s = is_home s.holder ≡ false → slot_of draft (slot_number s
 abbrev pub AreItems : Setup → NormalKept → Type 0
 AreItems c m = (i : ℕ) → IsItem c m.draft i (track_at m.tracks i)
 
-
 -- a track with the same holder, slot and generation
 same_item : (c : Setup) (draft : FastState) (i : ℕ) (s t : TrackKept) → t.holder ≡ s.holder → (is_home s.holder ≡ false → t.slot ≡ s.slot) → t.generation ≡ s.generation → IsItem c draft i s → IsItem c draft i t
 same_item c draft i s t holder slot generation h away =

@@ -21,7 +21,7 @@ use Rattle.af_enough_law.proofs.LeftEntries.{IsOut}
 use Rattle.af_enough_law.proofs.LeftGoes as goes
 use Rattle.af_enough_law.proofs.LeftGoes.{heard_told}
 use Rattle.af_enough_law.proofs.LeftRounds as round_of
-use Rattle.af_enough_law.proofs.LentRounds.{LentCarried, state_last}
+use Rattle.af_enough_law.proofs.LentRounds.{LentCarried}
 use Rattle.af_enough_law.proofs.LentTurns.{turn_leaves}
 use Rattle.af_enough_law.proofs.QueueRounds.{queue_stands, knows_acked}
 use Rattle.af_enough_law.proofs.SessionRounds.{turn_of, push_of}
@@ -30,6 +30,7 @@ use Rattle.af_enough_law.proofs.StoppedTracks.{StoppedCarried, missed_said}
 use Rattle.af_enough_law.proofs.StreamHistories.{part_stream}
 use Rattle.af_enough_law.proofs.TrackCarried.{TrackCarried}
 use Rattle.af_enough_law.proofs.TrackGoes.{CalmStream}
+use Rattle.af_enough_law.proofs.LastStates.{state_last}
 
 -- a track that took two commands or more and isn't to be heard took three
 told_three : (count told : ℕ) (l : Life) → 2 ≤ told → Course count told l → plays l ≡ false → 3 ≤ told

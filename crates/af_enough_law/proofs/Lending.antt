@@ -15,12 +15,13 @@ use Rattle.af_enough_law.proofs.Generations.{attached_stays, lent_plays}
 use Rattle.af_enough_law.proofs.LastStates.{round_last}
 use Rattle.af_enough_law.proofs.LentRounds.{draft_plays}
 use Rattle.af_enough_law.proofs.Orders.{mix_is, orders_mix}
-use Rattle.af_enough_law.proofs.RipeRounds.{round_pushes, round_slot, generation_of}
+use Rattle.af_enough_law.proofs.RipeRounds.{round_slot, generation_of}
 use Rattle.af_enough_law.proofs.Served.{track_turned}
 use Rattle.af_enough_law.proofs.SessionRounds.{turn_of, turn_runs, push_of}
 use Rattle.af_enough_law.proofs.SlotDrafts.{lent_anew}
 use Rattle.af_enough_law.proofs.Slots.{IsOpened, slot_stays}
 use Rattle.af_enough_law.proofs.StoppedPlaces.{home_is}
+use Rattle.af_enough_law.proofs.StatesHold.{round_pushes}
 
 -- a track whose proxy is lent by the draft, in this slot, and that is to be heard
 pub record IsLending (s : Session) (run : Run) (i slot : ℕ) (item : FastTrack) : Type 0 where

@@ -10,7 +10,6 @@ pub record AreCutOff (script : ScriptData) (files : List (List Frame)) (marks : 
   pub full : length (run_from (session_of script files) (new_run (session_of script files)) rounds).entries ≡ script.cycles
   pub going : all_ended (session_of script files) (run_from (session_of script files) (new_run (session_of script files)) rounds) ≡ false
 
-
 bare-length : (es : List EntrySeen) → length (bare es) ≡ length es
 bare-length [] = refl
 bare-length (e ∷ es) = let rest = bare-length es in omega arith

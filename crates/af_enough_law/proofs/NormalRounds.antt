@@ -11,7 +11,6 @@ pub record TurnMade (s : Session) (marks : Marks) (run : Run) (round : RoundSeen
   pub after : (after_round s run round).normal ≡ turn_after (setup_of s) (learnt by.outside) run.normal turn
   pub sees : learnt by.outside ≡ learnt (outside_of (setup_of s) (found_in s run round turn) turn)
 
-
 -- ## Only its turn changes what a run has of the mixer
 
 loaded_normal : (turn : Option Turn) (run : Run) → (loaded turn run).normal ≡ run.normal

@@ -12,7 +12,6 @@ pub record IsOwned (tracks : List TrackKept) (slot : ℕ) : Type 0 where
 abbrev pub AreOwned : List TrackKept → FastState → Type 0
 AreOwned tracks draft = (slot : ℕ) → slot < slots → carries draft slot ≡ true → IsOwned tracks slot
 
-
 -- each lent track stays lent with its slot
 abbrev StayLent : List TrackKept → List TrackKept → Type 0
 StayLent before after = (i : ℕ) → is_lent (track_at before i).holder ≡ true → (is_lent (track_at after i).holder ≡ true) × (slot_number (track_at after i) ≡ slot_number (track_at before i))

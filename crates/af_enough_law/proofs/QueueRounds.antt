@@ -19,7 +19,6 @@ pub record QueueStands (run : Run) : Type 0 where
   pub acked : (observed (twos run.queue)).acked ≡ run.current
   pub pushed : run.normal.pushed ≡ length run.states
 
-
 -- ## What is acknowledged
 
 abbrev pub IsAcked : Run → Type 0

@@ -20,7 +20,7 @@ use Rattle.af_enough_law.proofs.HomeRounds.{IsNamed}
 use Rattle.af_enough_law.proofs.Lending.{IsLending, WasOpen, LentBy, open_now, open_still, lent_now, lent_still, lending_draft, busy_same, free_plays}
 use Rattle.af_enough_law.proofs.MeetReports.{SaysOpenOf}
 use Rattle.af_enough_law.proofs.MeetRounds.{HaveTrack, round_says, Meeting, meets_open, named_at}
-use Rattle.af_enough_law.proofs.RipeRounds.{IsRipe, states_all, round_generation, beyond_draft}
+use Rattle.af_enough_law.proofs.RipeRounds.{IsRipe, round_generation}
 use Rattle.af_enough_law.proofs.RoundCalm.{turned_quiet}
 use Rattle.af_enough_law.proofs.SessionRounds.{turn_of, turn_runs}
 use Rattle.af_enough_law.proofs.SlotReports.{Carry}
@@ -29,6 +29,7 @@ use Rattle.af_enough_law.proofs.LentRounds.{draft_item}
 use Rattle.af_enough_law.proofs.LentTurns.{turn_leaves}
 use Rattle.af_enough_law.proofs.LeftEntries.{HasOrOut}
 use Rattle.af_enough_law.proofs.FastFound.{plays_item}
+use Rattle.af_enough_law.proofs.StatesHold.{states_all, beyond_draft}
 
 -- ## After a turn
 

@@ -32,7 +32,6 @@ takes_in (by_hand e ∷ told) = takes_in told
 abbrev pub IsCounted : BlockTold → Type 0
 IsCounted b = length b.taken ≡ takes_in b.told
 
-
 -- ## More and more
 
 pub more_then : (told xs ys : List Moment) → told_more (told_more told xs) ys ≡ told_more told (xs ++ ys)

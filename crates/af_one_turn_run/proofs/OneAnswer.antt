@@ -66,7 +66,6 @@ answer_to t (want.Poke in_command word value) stream commands = call.Poke in_com
 answer_to t want.Rest stream commands = call.Gain 0
 answer_to t want.Leave stream commands = sent_on t (command_code command.Remove) 0 commands
 
-
 -- ## Tests
 
 eq_no : (a b : ℕ) → b < a → (a == b) ≡ false

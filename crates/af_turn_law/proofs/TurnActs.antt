@@ -20,7 +20,6 @@ pub record ActsWhereMet (s : Session) (run : Run) (f : TurnFound) (e : Turn) : T
   pub hands : (n : ℕ) → (hand_events_of e n ≡ []) ⊎ (run.handed ≡ true)
   pub streams : (n : ℕ) → n < length run.tracks → is_tame (told_at run n).stream ≡ true → let o = outside_of (setup_of s) f e in StreamActs s run f e n (stream_list (setup_of s) o e (tracks_at (setup_of s) (learnt o) run.normal e n) n)
 
-
 -- what is kept of the normal mixer between two rounds: before it made its hands it is new
 pub record NormalReady (s : Session) (run : Run) : Type 0 where
   pub sound : Sound run.normal
