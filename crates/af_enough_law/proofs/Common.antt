@@ -25,6 +25,7 @@ pub use Rattle.af_enough.specs.Enough.{HasEnoughCycles, all_play_through, enough
 pub use Rattle.af_judge.proofs.Basics.{begins_ended, calls_pipe, calls_states, client_append, each_at, each_long, ends_part, ends_pipe, ends_states, hand_puts, if_true, legal_cut, loaded_pipe, loaded_states, met_many, met_normal, met_states, new_at, new_long, not_lent, or_left, push_draft, push_tracks, report_ends, server_append, server_put, some_is, status_client, status_hand, tally_none, told_each}
 pub use Rattle.af_judge.proofs.BlocksTold.{client-client, client-hand, client-server, hand-client, server-client}
 pub use Rattle.af_judge.proofs.DraftBits.{attached_else, detached_else, detached_here, initial_none, slot_else, slot_here}
+pub use Rattle.af_judge.proofs.QueueSteps.{ones_met, ones_more, ones_stay, twos_met, twos_more, twos_stay}
 pub use Rattle.af_judge.proofs.SoundEdits.{apart, comer_holds, comer_inside, comer_slot, leaver_slot}
 pub use Rattle.af_judge.proofs.SoundLives.{Goes, goes_served}
 pub use Rattle.af_judge.proofs.SoundSlots.{sound_served}
@@ -69,6 +70,7 @@ pub use Rattle.af_model.proofs.Basics.{both_first, both_lawful, client_taken, fl
 pub use Rattle.af_model.proofs.Counts.{flushes_are}
 pub use Rattle.af_model.proofs.Fates.{in_turn, taken_begins}
 pub use Rattle.af_model.proofs.Logic.{ahead-between, both_right, outside-some}
+pub use Rattle.af_model.proofs.Orders.{ones_one, twos_one}
 pub use Rattle.af_model.proofs.RoomKept.{AllFit, all_fit, fit_split, room_in, room_kept}
 pub use Rattle.af_model.proofs.Splits.{legal_at, ones_append, split_at}
 pub use Rattle.af_model.proofs.UsedStates.{last_used-push}

@@ -48,6 +48,7 @@ pub mod Looking
 pub mod Commanding
 pub mod RunTracks
 pub mod ClientLists
+pub mod MoreTold
 pub mod RunLists
 pub mod ClientWalk
 pub mod TracksKept

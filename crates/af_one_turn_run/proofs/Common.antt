@@ -13,6 +13,7 @@ pub use Rattle.af_base.specs.declared.log.SlotEntry.{SlotEntry}
 pub use Rattle.af_base.specs.declared.seen.Seen.{Seen}
 pub use Rattle.af_base.specs.declared.state.FastState.{FastState}
 pub use Rattle.af_base.specs.declared.turn.CommandLook.{CommandLook}
+pub use Rattle.af_enough_law.proofs.MoreTold.{told_more}
 pub use Rattle.af_judge.proofs.Basics.{each_at, each_long, ends_part, hand_puts, new_at, new_long, server_put}
 pub use Rattle.af_judge.proofs.StatesRuns.{RunKept, SameNormal, ends_same, fits_of, kept_beside, kept_new, kept_turn, load_same, met_same}
 pub use Rattle.af_judge.specs.Entries.{CarriesApart, CarriesWithin}

@@ -1,9 +1,9 @@
 -- A block that was told right is told right at each earlier place.
 use Rattle.std.proofs.Common.{◌≡◌, ℕ, ◌+◌, ◌-◌, ◌≤◌, Bool, true, false, map, List, [], ◌∷◌, ◌++◌, take, drop, length, refl, sym, ap, ◌∙◌, subst, arith, length-append, append-nil, append_assoc}
-use Rattle.af_one_turn_run.proofs.Common.{BlockTold, ClientEvent, HandEvent, IsLegal, Moment, ServerEvent, Shape, TrackPoint, after, by_client, by_hand, by_server, length-take, start, stream_met, taken_of, with_taken}
+use Rattle.af_one_turn_run.proofs.Common.{BlockTold, ClientEvent, HandEvent, IsLegal, Moment, ServerEvent, Shape, TrackPoint, after, by_client, by_hand, by_server, length-take, start, stream_met, taken_of, with_taken, told_more}
 use Rattle.af_base.specs.declared.event.ServerEvent.TheVariants as server
 use Rattle.af_one_turn_run.proofs.Taking.{IsTakenOf}
-use Rattle.af_one_turn_run.proofs.Told.{told_more, IsToldLegally}
+use Rattle.af_one_turn_run.proofs.Told.{IsToldLegally}
 use Rattle.af_one_turn_run.proofs.LegalFronts.{legal_front}
 use Rattle.af_one_turn_run.proofs.OneLooks.{same_parts}
 use Rattle.af_one_turn_run.proofs.OneTurn.{IsBlockTold}

@@ -1,10 +1,5 @@
 -- Blocks that are told in a legal order.
-use Rattle.std.proofs.Common.{fold, List, ◌∷◌}
-use Rattle.af_one_turn_run.proofs.Common.{Moment, IsLegal, start, BlockTold, TrackTold}
-
--- some moments more, the oldest of them first
-abbrev pub told_more : List Moment → List Moment → List Moment
-told_more told moments = fold (λ (sofar : List Moment) (m : Moment). m ∷ sofar) told moments
+use Rattle.af_one_turn_run.proofs.Common.{IsLegal, start, BlockTold, TrackTold}
 
 -- the order in which a block is told is legal
 abbrev pub IsToldLegally : BlockTold → Type 0
