@@ -1,5 +1,5 @@
 -- The course of a track that plays through: what its client sends it, and what each turn makes of its life.
-use Rattle.std.proofs.Common.{◌≡◌, zero, suc, ◌+◌, ◌≤◌, ◌==◌, ◌&&◌, ◌||◌, not, Bool, true, false, if◌then◌else◌, List, [], ◌∷◌, length, Option, None}
+use Rattle.std.proofs.Common.{◌≡◌, ℕ, zero, suc, ◌+◌, ◌≤◌, ◌==◌, ◌&&◌, ◌||◌, not, Bool, true, false, if◌then◌else◌, List, [], ◌∷◌, length, Option, None}
 use Rattle.af_enough_law.proofs.Common.{CommandLook, Heard, TrackKept, LifeState, Absent, Idle, Active, Stopping1, Stopping2, Stopped, Life, by_command, opens, is_shut, shows_command, by_report, status_word}
 
 -- ## Words and looks

@@ -1,5 +1,5 @@
 -- What holds of the mixers until the Exit is ordered, and how far they are from their ends then.
-use Rattle.std.proofs.Common.{◌≡◌, Some, ◌≤◌, true, false, List, length, ◌⊎◌}
+use Rattle.std.proofs.Common.{◌≡◌, ℕ, Some, ◌≤◌, true, false, List, length, ◌⊎◌}
 use Rattle.af_enough_law.proofs.Common.{FastState, commands_exit, state_of, Run, fast_ended, Session, setup_of, cycle_frames, state_at, code_of, ColdIdle, MixWrite, RoundSeen, Marks, run_from, LegalRounds}
 use Rattle.af_enough_law.proofs.Acks.{KnowsAcked}
 use Rattle.af_enough_law.proofs.Ends.{Rests, ExitSent, AllOver, IsInOrder}

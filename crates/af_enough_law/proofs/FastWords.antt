@@ -1,5 +1,5 @@
 -- What the fast mixer does in a round: which states its entries use, and what it takes of a track that they carry.
-use Rattle.std.proofs.Common.{◌≡◌, ◌+◌, ◌-◌, ◌*◌, ◌≤◌, ◌<◌, min, true, false, List, [], ◌∷◌, length, take, Some, None}
+use Rattle.std.proofs.Common.{◌≡◌, ℕ, ◌+◌, ◌-◌, ◌*◌, ◌≤◌, ◌<◌, min, true, false, List, [], ◌∷◌, length, take, Some, None}
 use Rattle.af_base.specs.declared.event.ServerEvent.TheVariants as server
 use Rattle.af_enough_law.proofs.Common.{SlotReport, Seen, MixWrite, FastState, FastTrack, slots, entry_slot, count_seen, IsClientList, kept, state_of, last_used, is_mixed, initial, drops_none, flushes_of, EntrySeen, RoundSeen, ones, twos, report_at, slot_of, carries, BlockTold, client_list, server_list, listed, is_tame, before_turn, after_turn, after_round, Run, told_at, last_report, known_of, takes_part, fast_ended, Session, track_count, cycle_frames}
 use Rattle.af_base.specs.declared.seen.Seen.TheVariants as seen

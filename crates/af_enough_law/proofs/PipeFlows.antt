@@ -1,5 +1,5 @@
 -- What is put into the pipe by a round, what is taken, and the room that is seen.
-use Rattle.std.proofs.Common.{◌≡◌, ◌+◌, ◌-◌, ◌*◌, ◌≤◌, min, if◌then◌else◌, Option, Some, None, length, take}
+use Rattle.std.proofs.Common.{◌≡◌, ℕ, ◌+◌, ◌-◌, ◌*◌, ◌≤◌, min, if◌then◌else◌, Option, Some, None, length, take}
 use Rattle.af_base.specs.declared.event.ClientEvent.TheVariants as client
 use Rattle.af_base.specs.declared.event.ServerEvent.TheVariants as server
 use Rattle.af_enough_law.proofs.Common.{Turn, pipe_size, put_by, RoundSeen, ones, twos, after_round, Run, Session, setup_of, cycle_frames}

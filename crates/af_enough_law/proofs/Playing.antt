@@ -1,5 +1,5 @@
 -- A client whose ops play through: what it still has to do, and what may be answered.
-use Rattle.std.proofs.Common.{◌≡◌, ◌+◌, ◌≤◌, ◌<◌, ◌==◌, true, false, List, [], ◌∷◌, bit_and}
+use Rattle.std.proofs.Common.{◌≡◌, ℕ, ◌+◌, ◌≤◌, ◌<◌, ◌==◌, true, false, List, [], ◌∷◌, bit_and}
 use Rattle.af_enough_law.proofs.Common.{ClientCall, Op, Mode, Want, client_kept, wrapped, state_in, Side, Track, after_call, most_gains}
 use Rattle.af_base.specs.declared.event.ClientCall.TheVariants as call
 use Rattle.af_script.specs.declared.op.Op.TheVariants as op

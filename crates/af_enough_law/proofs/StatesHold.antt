@@ -68,37 +68,37 @@ module _ (s : Session) (marks : Marks) (scales : All (λ (x : Setting). x.scale 
 
 module _ (s : Session) (marks : Marks) (scales : All (λ (x : Setting). x.scale ≤ 4096) (setup_of s).settings) (long : length (setup_of s).settings ≡ track_count s) (run : Run) (round : RoundSeen) (legal : LegalRound false s marks run round) (c : SessionCarried s run)
     (P : FastState → Type 0) (some : 1 ≤ length run.states) (before : P run.normal.last) (draft : P (turn_after (setup_of s) (learnt (turn_of s marks scales long run round legal c.stands).by.outside) run.normal (turn_of s marks scales long run round legal c.stands).turn).draft) where
-  abbrev t : TurnMade s marks run round
-  t = turn_of s marks scales long run round legal c.stands
+  abbrev t_now : TurnMade s marks run round
+  t_now = turn_of s marks scales long run round legal c.stands
 
-  abbrev after : Run
-  after = after_round s run round
+  abbrev later : Run
+  later = after_round s run round
 
-  draft_then : P after.normal.draft
-  draft_then = subst (λ (m : NormalKept). P m.draft) (sym t.after) draft
+  draft_then : P later.normal.draft
+  draft_then = subst (λ (m : NormalKept). P m.draft) (sym t_now.after) draft
 
-  pub last_holds : P after.normal.last
-  last_holds = by (is_busy t.turn.push) refl
+  pub last_holds : P later.normal.last
+  last_holds = by (is_busy t_now.turn.push) refl
     where
-      made : PushMade run.normal after.normal t.turn.push
+      made : PushMade run.normal later.normal t_now.turn.push
       made = push_of s marks scales long run round legal c.stands
 
-      by : (b : Bool) → is_busy t.turn.push ≡ b → P after.normal.last
+      by : (b : Bool) → is_busy t_now.turn.push ≡ b → P later.normal.last
       by true busy = subst P (sym (made.busy busy).3) before
       by false free = subst P (sym (made.done free).1) draft_then
 
-  whole : after.states ≡ run.states ++ (turn_more s run round).more
+  whole : later.states ≡ run.states ++ (turn_more s run round).more
   whole = round_states s run round ∙ (turn_more s run round).whole
 
-  pub some_after : 1 ≤ length after.states
+  pub some_after : 1 ≤ length later.states
   some_after = let a = ap length whole in let b = length-append run.states (turn_more s run round).more in let d = some in omega (arith, a, b, d)
 
-  pub states_hold : AllStates run after P
+  pub states_hold : AllStates run later P
   states_hold = (some, λ k x high is. by k x is (le_cases (length run.states) k high))
     where
-      by : (k : ℕ) (x : FastState) → state_of after.states k ≡ Some x → (k ≡ length run.states) ⊎ (length run.states < k) → P x
+      by : (k : ℕ) (x : FastState) → state_of later.states k ≡ Some x → (k ≡ length run.states) ⊎ (length run.states < k) → P x
       by k x is (inl same) =
-          let at : state_of after.states k ≡ Some run.normal.last =
+          let at : state_of later.states k ≡ Some run.normal.last =
           ap (λ (xs : List FastState). state_of xs k) whole ∙ ap (λ (n : ℕ). state_of (run.states ++ (turn_more s run round).more) n) same ∙ state_more run.states (turn_more s run round).more (length run.states) (omega arith)
           ∙ state_last run.states (cycle_frames s) run.normal.last some c.stands.last in
           subst P (some_is run.normal.last x (sym at ∙ is)) before

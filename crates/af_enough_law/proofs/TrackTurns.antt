@@ -1,5 +1,5 @@
 -- What a turn of the normal mixer makes of one track, step by step.
-use Rattle.std.proofs.Common.{◌≡◌, ◌==◌, Bool, true, false, if◌then◌else◌, List, [], ◌∷◌, Option}
+use Rattle.std.proofs.Common.{◌≡◌, ℕ, ◌==◌, Bool, true, false, if◌then◌else◌, List, [], ◌∷◌, Option}
 use Rattle.af_enough_law.proofs.Common.{FastState, CommandLook, Turn, TakeSeen, Counts, Heard, Returning, TrackKept, welcomed, must_leave, must_enter, lent_by, heard, ready, Setup, asked as buffer, NormalKept, Learnt, track_at, track_in, slot_for, look_counted, after_part, turn_after, tracks_at}
 
 -- the track once the acknowledgement was looked at

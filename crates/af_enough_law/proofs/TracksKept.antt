@@ -41,7 +41,7 @@ module _ (P : ℕ → TrackTold → Type 0) where
       each_keeps (λ number t. if number == track then called_in_turn (calls_in round track) t else t) run (calls_alone track round run) refl (λ n. by_track n (n == track) refl)
     where
       by_track : (n : ℕ) (b : Bool) → (n == track) ≡ b → n < length run.tracks → P n (told_at run n) → P n (if b then called_in_turn (calls_in round track) (told_at run n) else told_at run n)
-      by_track n true same = subst (λ (k : ℕ). k < length run.tracks → P k (told_at run k) → P k (called_in_turn (calls_in round track) (told_at run k))) (sym (eqb-true n track same)) called
+      by_track n true same low h = subst (λ (k : ℕ). k < length run.tracks → P k (told_at run k) → P k (called_in_turn (calls_in round track) (told_at run k))) (sym (eqb-true n track same)) called low h
       by_track n false other low h = h
 
 module _ (P : ℕ → TrackTold → Type 0) (k : IsQuietlyKept P) (s : Session) where

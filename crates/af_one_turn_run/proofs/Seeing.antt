@@ -1,5 +1,5 @@
 -- What a party's events see, one after the other, if no other party does anything between them.
-use Rattle.std.proofs.Common.{fold, List, [], ◌∷◌}
+use Rattle.std.proofs.Common.{ℕ, fold, List, [], ◌∷◌}
 use Rattle.af_one_turn_run.proofs.Common.{ClientEvent, ServerEvent, TrackPoint, ClientMay, ServerMay, after_client, after_server}
 
 -- the point of a block after some events of its client, and of its server

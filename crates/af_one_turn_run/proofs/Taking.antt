@@ -1,5 +1,5 @@
 -- What a server's events take of the frames released, and what a block must have for it.
-use Rattle.std.proofs.Common.{◌≡◌, ◌+◌, ◌-◌, ◌≤◌, List, [], ◌∷◌, ◌++◌, take, drop, length}
+use Rattle.std.proofs.Common.{◌≡◌, ℕ, ◌+◌, ◌-◌, ◌≤◌, List, [], ◌∷◌, ◌++◌, take, drop, length}
 use Rattle.af_one_turn_run.proofs.Common.{ServerEvent, TrackPoint, taken_of, after_server, BlockTold}
 use Rattle.af_base.specs.declared.event.ServerEvent.TheVariants as server
 
