@@ -4,8 +4,8 @@ use Rattle.af_enough_law.proofs.Common.{ClientEvent, CommandLook, HasWords, Lega
 use Rattle.af_base.specs.declared.event.ServerEvent.TheVariants as server
 use Rattle.af_enough_law.proofs.Courses.{is_ended}
 use Rattle.af_enough_law.specs.Seen.{Stands, frames_put, frames_taken}
-use Rattle.af_enough_law.proofs.CommandLooks.{server_of, words_at, one_look, all_looks, LooksTaken, events_open}
-use Rattle.af_enough_law.proofs.FastShows.{Setting, Words}
+use Rattle.af_enough_law.proofs.CommandLooks.{server_of, one_look, all_looks, LooksTaken, events_open}
+use Rattle.af_enough_law.proofs.FastShows.{Setting, Words, words_at}
 
 -- what a server that drops nothing has consumed
 own_consumed : (k : Shape) (es : List ServerEvent) → drops_none es ≡ true → (s : ServerKept) → (fold (server_keeps k) s es).consumed ≡ s.consumed + frames_taken es

@@ -10,10 +10,10 @@ use Rattle.af_enough_law.proofs.FastShows.{Setting}
 use Rattle.af_enough_law.proofs.Flushless.{IsFlushlessTrack, unflushed_none, round_flushless}
 use Rattle.af_enough_law.proofs.Following.{greeted_in}
 use Rattle.af_enough_law.proofs.Pokeless.{IsPokelessTrack, round_pokeless}
-use Rattle.af_enough_law.proofs.RoundCalm.{known_open, quiet_only, home_open, legal_parts, round_quiet}
+use Rattle.af_enough_law.proofs.RoundCalm.{known_open, quiet_only, home_open, legal_parts, round_quiet, lie_through}
 use Rattle.af_enough_law.proofs.RunStreams.{round_grows}
 use Rattle.af_enough_law.proofs.RunTracks.{round_blocks}
-use Rattle.af_enough_law.proofs.StreamCalm.{IsQuiet, LiesIn, lies_earlier, entries_quiet}
+use Rattle.af_enough_law.proofs.StreamCalm.{IsQuiet, LiesIn, entries_quiet}
 
 -- both lists of a stream block lie in a history, of a client that never flushes
 pub record Foreseen (b : BlockTold) : Type 0 where
@@ -93,12 +93,9 @@ module _ (cut : Bool) (s : Session) (marks : Marks) (run : Run) (round : RoundSe
       let o = over s run round i low in
       let parts = legal_parts cut s marks run round legal in
       let late : Run = with_cycles s (late_of run round) (after_turn s run round) in
-      let lies_met : LiesIn k seen.list seen.events seen.setting (told_at (met_after s run round) i).stream = subst (LiesIn k seen.list seen.events seen.setting) o.whole seen.lies in
-      let lies_late = lies_earlier k seen.list seen.events seen.setting (told_at late i).stream (told_at (met_after s run round) i).stream o.meeting.is_later lies_met in
-      let lies_turned = lies_earlier k seen.list seen.events seen.setting (told_at (after_turn s run round) i).stream (told_at late i).stream o.late lies_late in
-      let lies_early = lies_earlier k seen.list seen.events seen.setting (told_at (before_turn s run round) i).stream (told_at (after_turn s run round) i).stream o.turn lies_turned in
+      let lies = lie_through s run round i low k seen.list seen.events seen.setting seen.lies in
       let called = quiet_only s marks i k seen.list seen.events seen.setting (told_at run i).stream (told_at (with_calls round run) i).stream o.calls (subst (λ (x : Shape). IsQuiet x (server_list (told_at run i).stream)) (sym shape) quiet) in
-      entries_quiet s marks i k seen.list seen.events seen.setting (early_of run round) (with_calls round run) o.first parts.0 lies_early called
+      entries_quiet s marks i k seen.list seen.events seen.setting (early_of run round) (with_calls round run) o.first parts.0 lies.early called
 
   -- a turn hears that the stream of a proxy at home is open
   pub home_unshut : (t : TurnMade s marks run round) → IsQuiet (told_at run i).stream.shape (server_list (told_at run i).stream) → is_home (greeted_in run.normal t.turn i).holder ≡ true → (heard (learnt t.by.outside) i (greeted_in run.normal t.turn i)).known.shut ≡ false
