@@ -1,5 +1,5 @@
 -- The names of other crates that the proofs of this one cite, passed on from one place. Declares nothing.
-pub use Rattle.af_base.proofs.Basics.{and_none, and_off, below_is, below_or_not, both, both_true, by_false, by_test, either_false, either_none, equal_is, few_or_two, is_not_below, is_within, neither, neither_is, no, none_some, not_zero, or_nothing, or_right, or_true, rest_enters, same_slot, some_same, take_most, three, true_or_false, within_or_beyond}
+pub use Rattle.af_base.proofs.Basics.{and_false, and_none, and_off, below_is, below_or_not, both, both_true, by_false, by_test, either_false, either_none, equal_is, few_or_two, is_not_below, is_within, neither, neither_is, never_true, no, none_some, not_zero, or_nothing, or_right, or_true, rest_enters, same_slot, some_same, take_most, three, true_or_false, within_or_beyond}
 pub use Rattle.af_base.specs.Command.{code_of}
 pub use Rattle.af_base.specs.Log.{absent, count_seen, entry_slot, slots}
 pub use Rattle.af_base.specs.Turn.{TakeSeen, TrackSeen, Turn, ended_turn}

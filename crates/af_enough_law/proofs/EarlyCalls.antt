@@ -1,6 +1,6 @@
 -- A client sends its third command only after it has seen a status that says that two are settled, whatever it is answered.
 use Rattle.std.proofs.Common.{◌≡◌, ◌⊎◌, inl, inr, ℕ, zero, suc, ◌*◌, ◌/◌, ◌≤◌, ◌==◌, ◌&&◌, ◌||◌, nat_le, not, if◌then◌else◌, Bool, true, false, Some, None, List, [], ◌∷◌, ◌++◌, length, take, fold, refl, sym, ap, ◌∙◌, subst, arith, append_assoc, append-nil, length-append, eqb-true, Option}
-use Rattle.af_enough_law.proofs.Common.{Client, ClientCall, ClientEvent, IsMade, IsWanted, LegalClientTurn, Mode, Op, Side, Track, Want, after_answer, after_call, after_calls, at_next_turn, begins, begun, both_first, both_first as both_left, commands_sent, is_of_commands, next_want, no, released_by, rest_of, rested, settled_in, some_same, state_in, wanted_of, wants_of, with_call}
+use Rattle.af_enough_law.proofs.Common.{Client, ClientCall, ClientEvent, IsMade, IsWanted, LegalClientTurn, Mode, Op, Side, Track, Want, after_answer, after_call, after_calls, at_next_turn, begins, begun, both_first, both_first as both_left, commands_sent, is_of_commands, next_want, no, released_by, rest_of, rested, settled_in, some_same, state_in, wanted_of, wants_of, with_call, both_right}
 use Rattle.af_base.specs.declared.event.ClientCall.TheVariants as call
 use Rattle.af_base.specs.declared.event.ClientEvent.TheVariants as client
 use Rattle.af_enough_law.proofs.Basics.{put-append}
@@ -104,11 +104,7 @@ stop_append (x ∷ []) code argument k long none other = absurd (let z : ⊥ = o
 stop_append (x ∷ y ∷ xs) code argument zero long none other = absurd (let z : ⊥ = omega (arith, long) in z)
 stop_append (x ∷ y ∷ xs) code argument (suc k) long none other =
     let first = both_left (not (x == 4)) (no_stop xs) none in
-    ap (λ (b : Bool). b && no_stop (xs ++ code ∷ argument ∷ [])) first ∙ stop_append xs code argument k (omega (arith, long)) (rest (not (x == 4)) (no_stop xs) none) other
-  where
-    rest : (a b : Bool) → (a && b) ≡ true → b ≡ true
-    rest true b e = e
-    rest false b e = no e
+    ap (λ (b : Bool). b && no_stop (xs ++ code ∷ argument ∷ [])) first ∙ stop_append xs code argument k (omega (arith, long)) (both_right (not (x == 4)) (no_stop xs) none) other
 
 code_other : (code n : ℕ) → (code == n) ≡ true → (n == 4) ≡ false → (code == 4) ≡ false
 code_other code n e other = ap (λ (c : ℕ). c == 4) (eqb-true code n e) ∙ other

@@ -1,6 +1,6 @@
 -- A turn once every life has ended: no proxy is lent, the draft carries nothing, and what is acknowledged comes home.
 use Rattle.std.proofs.Common.{◌≡◌, ◌⊎◌, inl, inr, ℕ, suc, ◌<◌, ◌≤◌, ◌&&◌, not, Bool, true, false, true≢false, All, List, [], ◌∷◌, length, is_some, refl, sym, ap, ◌∙◌, arith}
-use Rattle.af_enough_law.proofs.Common.{FastState, GoesOn, Holder, Home, IsSlotted, Learnt, Lent, Life, NormalKept, Outside, Returning, Setting, Setup, TrackKept, Turn, after_part, below_or_not, carries, heard, if_true, is_home, is_lent, is_over, is_returning, learnt, no, out_of, plays, ready, slot_number, slots, sound_turn, track_at, track_in, turn_after, turn_len, commands_exit, IsSound}
+use Rattle.af_enough_law.proofs.Common.{FastState, GoesOn, Holder, Home, IsSlotted, Learnt, Lent, Life, NormalKept, Outside, Returning, Setting, Setup, TrackKept, Turn, after_part, below_or_not, carries, heard, if_true, is_home, is_lent, is_over, is_returning, learnt, no, out_of, plays, ready, slot_number, slots, sound_turn, track_at, track_in, turn_after, turn_len, commands_exit, IsSound, and_false}
 use Rattle.af_enough_law.proofs.Basics.{stays_home as greeted_home}
 use Rattle.af_enough_law.proofs.Drafts.{next_holder, is_busy, PushMade, IsLatest, holder_turned, turn_pushes}
 use Rattle.af_enough_law.proofs.Owned.{AreOwned, owned_turn}
@@ -62,11 +62,7 @@ over_turn c k m e runs over i lt = let long = turn_len c k m e in let lt' : i < 
 -- ## The holders
 
 pub silent : (l : Life) → l.ended ≡ true → plays l ≡ false
-silent l over = ap (λ (b : Bool). l.member && not b) over ∙ none l.member
-  where
-    none : (b : Bool) → (b && false) ≡ false
-    none true = refl
-    none false = refl
+silent l over = ap (λ (b : Bool). l.member && not b) over ∙ and_false l.member
 
 unlent : (slot : Bool) (h : Holder) → is_lent (next_holder false slot h) ≡ false
 unlent true Home = refl

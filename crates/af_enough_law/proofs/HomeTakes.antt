@@ -12,8 +12,8 @@ use Rattle.af_enough_law.proofs.BlockNumbers.{stream_setting}
 use Rattle.af_enough_law.proofs.CalmTracks.{CalmTrack, CalmTurn}
 use Rattle.af_enough_law.proofs.Fair.{calm_drops}
 use Rattle.af_enough_law.proofs.FastFlows.{Later, later_both}
-use Rattle.af_enough_law.proofs.FastRounds.{over, cycles_length}
-use Rattle.af_enough_law.proofs.RunTracks.{calls_long as calls_length, turn_track}
+use Rattle.af_enough_law.proofs.FastRounds.{over}
+use Rattle.af_enough_law.proofs.RunTracks.{calls_long as calls_length, turn_track, cycles_long}
 use Rattle.af_enough_law.proofs.FastShows.{Setting, Look, slot_look, stands-more}
 use Rattle.af_enough_law.proofs.FastSteps.{server_does-server, hand_does-server}
 use Rattle.af_enough_law.proofs.Foreseen.{Foreseen, part_seen, early_quiet}
@@ -119,7 +119,7 @@ module _ (cut : Bool) (s : Session) (marks : Marks) (run : Run) (round : RoundSe
   turned_is : (told_at (after_turn s run round) i).stream ≡ stream_turned c o run.normal t.turn i b
   turned_is =
       let a = calls_length round run in
-      let d = cycles_length s (early_of run round) (with_calls round run) in
+      let d = cycles_long s (early_of run round) (with_calls round run) in
       let low = turn.low in
       ap (λ (x : Option Turn). (told_at (turned s (found_in s run round) x now) i).stream) t.is ∙ ap (λ (x : TrackTold). x.stream) (turn_track s f t.turn now i (omega (arith, a, d, low)))
       ∙ ap (λ (m : NormalKept). stream_turned c o m t.turn i b) (before_normal s run round)

@@ -1,6 +1,6 @@
 -- A track whose proxy is lent, and stays so in a round, flows in it, and all that is carried of it is carried on.
 use Rattle.std.proofs.Common.{◌≡◌, ◌⊎◌, inl, inr, ℕ, zero, suc, ◌+◌, ◌≤◌, ◌<◌, ◌==◌, ◌&&◌, ◌||◌, not, if◌then◌else◌, unwrap_or, Bool, true, false, true≢false, All, Option, Some, [], ◌∷◌, length, refl, sym, ap, ◌∙◌, subst, arith, eq-eqb}
-use Rattle.af_enough_law.proofs.Common.{Absent, FastState, FastTrack, Heard, LegalRound, Lent, Life, Marks, MixWrite, NormalKept, RoundSeen, Run, Session, Setting, Setup, SlotReport, TrackKept, after_round, carries, client_list, counts_in, cycle_frames, grown, heard, heard_at_home, heard_by, heard_elsewhere, heard_with, observer_holds, initial, is_among, is_home, is_lent, learnt, lent_away, list_any, number_of, or_right, plays, range_with_len, setting_of, setup_of, slot_number, slot_of, slots, state_at, state_of, told_at, track_at, track_count, turn_after}
+use Rattle.af_enough_law.proofs.Common.{Absent, FastState, FastTrack, Heard, LegalRound, Lent, Life, Marks, MixWrite, NormalKept, RoundSeen, Run, Session, Setting, Setup, SlotReport, TrackKept, after_round, carries, client_list, counts_in, cycle_frames, grown, heard, heard_at_home, heard_by, heard_elsewhere, heard_with, observer_holds, initial, is_among, is_home, is_lent, learnt, lent_away, list_any, number_of, or_right, plays, range_with_len, setting_of, setup_of, slot_number, slot_of, slots, state_at, state_of, told_at, track_at, track_count, turn_after, both_true}
 use Rattle.af_enough_law.proofs.Carried.{SessionCarried}
 use Rattle.af_enough_law.proofs.Courses.{Course, absent, idle, playing, stopping, drained, stopped, over}
 use Rattle.af_enough_law.proofs.Ends.{IsInOrder, order_turn}
@@ -57,11 +57,7 @@ holds_by s run track slot item x low is at p =
     let y : FastState = state_at (cycle_frames s) run.states run.current in
     let same : y ≡ x = ap (λ (o : Option FastState). unwrap_or o (initial (cycle_frames s))) at in
     any_from (λ j. carries y j && ((slot_of y j).track == track)) 0 slots slot (omega arith) low
-    (both (carries y slot) ((slot_of y slot).track == track) (ap (λ (z : FastState). carries z slot) same ∙ p.carried) (eq-eqb (slot_of y slot).track track (ap (λ (z : FastState). (slot_of z slot).track) same ∙ ap (λ (t : FastTrack). t.track) p.is ∙ is)))
-  where
-    both : (a b : Bool) → a ≡ true → b ≡ true → (a && b) ≡ true
-    both true b e f = f
-    both false b e f = absurd (true≢false (sym e))
+    (both_true (carries y slot) ((slot_of y slot).track == track) (ap (λ (z : FastState). carries z slot) same ∙ p.carried) (eq-eqb (slot_of y slot).track track (ap (λ (z : FastState). (slot_of z slot).track) same ∙ ap (λ (t : FastTrack). t.track) p.is ∙ is)))
 
 -- ## What is carried of a track whose proxy is lent
 

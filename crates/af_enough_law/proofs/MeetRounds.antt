@@ -9,7 +9,7 @@ use Rattle.af_enough_law.proofs.FastRounds.{over}
 use Rattle.af_enough_law.proofs.FastPolls.{round_states, turn_more, parts_use, fast_parts}
 use Rattle.af_enough_law.proofs.FastShows.{Setting}
 use Rattle.af_enough_law.proofs.FastSince.{Adds, since_number}
-use Rattle.af_enough_law.proofs.FastSteps.{cycle_length, cycle_states, entry_pushed}
+use Rattle.af_enough_law.proofs.FastSteps.{cycle_states, entry_pushed}
 use Rattle.af_enough_law.proofs.Foreseen.{Foreseen}
 use Rattle.af_enough_law.proofs.LeftFound.{cycles_append, adds_both}
 use Rattle.af_enough_law.proofs.MeetReports.{SaysOpenOf, MeetStep, KnowsMet, met_entries, NamesTrack, says_next}
@@ -17,6 +17,7 @@ use Rattle.af_enough_law.proofs.RoundCalm.{quiet_only, legal_parts, lie_through}
 use Rattle.af_enough_law.proofs.StreamCalm.{IsQuiet, LiesIn, lies_earlier, entries_quiet}
 use Rattle.af_enough_law.proofs.SlotReports.{state_at_all}
 use Rattle.af_enough_law.proofs.LeftEntries.{HasOrOut}
+use Rattle.af_enough_law.proofs.RunTracks.{cycle_long}
 
 -- ## The report that a turn finds
 
@@ -113,7 +114,7 @@ module _ (s : Session) (marks : Marks) (track slot : ℕ) (item : FastTrack) (lo
     said_entries [] run have there legal lies quiet says = says
     said_entries (e ∷ es) run have there legal lies quiet says =
         let next : Run = with_cycle s run e in
-        let there' : track < length next.tracks = (let a = cycle_length s run e in omega (arith, a, there)) in
+        let there' : track < length next.tracks = (let a = cycle_long s run e in omega (arith, a, there)) in
         let lies' = lies_earlier k cs all h (told_at next track).stream (told_at (with_cycles s es next) track).stream (cycles_later s es next track there') lies in
         let now : IsQuiet k (server_list (told_at next track).stream) = entries_quiet s marks track k cs all h (e ∷ []) run there (legal.0, tt) lies' quiet in
         let open_is : (known_of (listed (told_at next track).stream)).shut ≡ false = ap is_some (ap (λ (z : Shape). (server_kept z (server_list (told_at next track).stream)).shut) lies'.shape ∙ now.unshut) in

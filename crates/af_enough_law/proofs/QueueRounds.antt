@@ -6,7 +6,7 @@ use Rattle.af_model.specs.declared.states.MutatorEvent.TheVariants as mutator
 use Rattle.af_model.specs.declared.states.ObserverEvent.TheVariants as observer
 use Rattle.af_enough_law.proofs.Acks.{KnowsAcked}
 use Rattle.af_enough_law.proofs.FastWords.{AllUse, KnowsStates}
-use Rattle.af_enough_law.proofs.FastCurrent.{round_current, rest_current, turn_current, legal_parts}
+use Rattle.af_enough_law.proofs.FastCurrent.{round_current, rest_current, turn_current, legal_parts, adopted}
 use Rattle.af_enough_law.proofs.FastLearns.{met_queue, ends_queue, loaded_queue}
 use Rattle.af_enough_law.proofs.FastPolls.{fast_parts, parts_use, before_states, round_states}
 use Rattle.af_enough_law.proofs.Drafts.{after_pushes}
@@ -36,10 +36,6 @@ poll_acks p frames states c k same = by (k == c) refl
 pub current_of : (s : Session) (marks : Marks) (run : Run) (e : EntrySeen) → LegalEntry s marks (with_poll s e.entry.state run) e → (with_cycle s run e).current ≡ e.entry.state
 unfolding with_poll with_mix
 current_of s marks run e legal = adopted _ e.entry.state run.current (le-leb e.entry.state _ legal.cycle.pushed)
-  where
-    adopted : (b : Bool) (k c : ℕ) → b ≡ true → (if b then k else c) ≡ k
-    adopted true k c is = refl
-    adopted false k c is = absurd (true≢false (sym is))
 
 cycle_acked : (s : Session) (marks : Marks) (run : Run) (e : EntrySeen) → LegalEntry s marks (with_poll s e.entry.state run) e → IsAcked run → IsAcked (with_cycle s run e)
 cycle_acked s marks run e legal is =

@@ -1,6 +1,6 @@
 -- No state pushed and no report stored so far has a generation of a slot above that of the draft.
-use Rattle.std.proofs.Common.{◌≡◌, ℕ, zero, suc, ◌≤◌, ◌<◌, is_some, true, false, true≢false, All, Some, [], length, sym, ap, ◌∙◌, subst, arith}
-use Rattle.af_enough_law.proofs.Common.{FastState, LegalRound, Marks, NormalKept, RoundSeen, Run, Session, Setting, SlotReport, after_round, after_turn, all_played, before_turn, calls_states, carries, early_of, found_in, get_or-replicate, last_report, late_of, learnt, met_after, new_run, no_slot, report_at, setup_of, slot_of, slots, state_of, track_count, with_calls, with_cycles}
+use Rattle.std.proofs.Common.{◌≡◌, ℕ, ◌≤◌, ◌<◌, true, false, All, [], length, sym, ap, ◌∙◌, subst, arith}
+use Rattle.af_enough_law.proofs.Common.{LegalRound, Marks, NormalKept, RoundSeen, Run, Session, Setting, SlotReport, after_round, after_turn, all_played, before_turn, calls_states, carries, early_of, found_in, get_or-replicate, last_report, late_of, learnt, met_after, new_run, no_slot, report_at, setup_of, slot_of, slots, state_of, track_count, with_calls, with_cycles}
 use Rattle.af_enough_law.proofs.Carried.{SessionStands}
 use Rattle.af_enough_law.proofs.FastWords.{slot_told}
 use Rattle.af_enough_law.proofs.FastPolls.{round_states}
@@ -10,6 +10,7 @@ use Rattle.af_enough_law.proofs.SlotDrafts.{SlotStays, turn_slot, generation_ris
 use Rattle.af_enough_law.proofs.StatesHold.{states_all}
 use Rattle.af_enough_law.proofs.SlotReports.{Carry, cycles_generations}
 use Rattle.af_enough_law.proofs.RoundCalm.{legal_parts}
+use Rattle.af_enough_law.proofs.Basics.{none_exit}
 
 -- ## The reports of a round
 
@@ -42,13 +43,9 @@ pub record IsRipe (s : Session) (run : Run) (n : ℕ) (low : n < slots) : Type 0
 
 pub new_ripe : (s : Session) (n : ℕ) (low : n < slots) → IsRipe s (new_run s) n low
 new_ripe s n low = record {
-  states = λ k z at. absurd (none k z at);
+  states = λ k z at. absurd (none_exit k z at);
   told = (let e : (report_at (last_report []).slots n).generation ≡ 0 = ap (λ (r : SlotReport). r.generation) (get_or-replicate slots n no_slot no_slot low) in omega (arith, e));
 }
-  where
-    none : (k : ℕ) (z : FastState) → state_of [] k ≡ Some z → ⊥
-    none zero z at = true≢false (ap is_some (sym at))
-    none (suc k) z at = true≢false (ap is_some (sym at))
 
 module _ (s : Session) (marks : Marks) (scales : All (λ (x : Setting). x.scale ≤ 4096) (setup_of s).settings) (long : length (setup_of s).settings ≡ track_count s) (run : Run) (round : RoundSeen) (legal : LegalRound false s marks run round) (c : SessionStands s run) where
   -- what the turn leaves of a slot of the draft

@@ -6,8 +6,8 @@ use Rattle.af_enough_law.proofs.Basics.{before_normal}
 use Rattle.af_life.specs.TurnEvents.{hand_events_of}
 use Rattle.af_enough_law.proofs.Courses.{none_shut}
 use Rattle.af_enough_law.proofs.FastFlows.{Later}
-use Rattle.af_enough_law.proofs.FastRounds.{Quiet, over, cycles_length}
-use Rattle.af_enough_law.proofs.RunTracks.{calls_long as calls_length}
+use Rattle.af_enough_law.proofs.FastRounds.{Quiet, over}
+use Rattle.af_enough_law.proofs.RunTracks.{calls_long as calls_length, cycles_long}
 use Rattle.af_enough_law.proofs.FastShows.{Setting}
 use Rattle.af_enough_law.proofs.FastSteps.{server_does-server, hand_does-server}
 use Rattle.af_enough_law.proofs.StreamCalm.{IsQuiet, LiesIn, lies_earlier, look_quiet, calm_join, entries_quiet}
@@ -225,7 +225,7 @@ round_quiet cut s marks run round track low legal open_is k cs all h lies_then q
     let late : Run = with_cycles s (late_of run round) (after_turn s run round) in
     let lies = lie_through s run round track low k cs all h lies_then in
     let b = calls_length round run in
-    let c = cycles_length s (early_of run round) (with_calls round run) in
+    let c = cycles_long s (early_of run round) (with_calls round run) in
     let called = quiet_only s marks track k cs all h (told_at run track).stream (told_at (with_calls round run) track).stream o.calls quiet in
     let early = entries_quiet s marks track k cs all h (early_of run round) (with_calls round run) o.first parts.0 lies.early called in
     let turned = turned_quiet s marks track k cs all h run round low legal.turns.normal open_is (omega (arith, b, c, low)) lies.turned o.turn early in

@@ -11,8 +11,8 @@ use Rattle.af_enough_law.proofs.AdoptRounds.{away_heard}
 use Rattle.af_enough_law.proofs.AwayKeeps.{StaysOpen, away_turn, looks_open}
 use Rattle.af_enough_law.proofs.AwayRounds.{AwayTurn}
 use Rattle.af_enough_law.proofs.EntryCounts.{found_within}
-use Rattle.af_enough_law.proofs.FastRounds.{over, cycles_length}
-use Rattle.af_enough_law.proofs.RunTracks.{calls_long as calls_length}
+use Rattle.af_enough_law.proofs.FastRounds.{over}
+use Rattle.af_enough_law.proofs.RunTracks.{calls_long as calls_length, cycles_long}
 use Rattle.af_enough_law.proofs.Following.{greeted_in, greeted_alike}
 use Rattle.af_enough_law.proofs.Foreseen.{Foreseen, early_quiet, home_unshut}
 use Rattle.af_enough_law.proofs.Generations.{Attached, greeted_lent, greeted_same}
@@ -42,7 +42,7 @@ turn_calm s marks run round i low legal t looks seen quiet =
     let late : Run = with_cycles s (late_of run round) (after_turn s run round) in
     let lies = lie_through s run round i low k seen.list seen.events seen.setting seen.lies in
     let b = calls_length round run in
-    let c = cycles_length s (early_of run round) (with_calls round run) in
+    let c = cycles_long s (early_of run round) (with_calls round run) in
     turned_quiet s marks i k seen.list seen.events seen.setting run round low legal.turns.normal
     (λ e is. let same : t.turn ≡ e = ap (λ (x : Option Turn). unwrap_or x t.turn) (sym t.is ∙ is) in subst (λ (e : Turn). none_shut (track_in e i).looks ≡ true) same looks)
     (omega (arith, b, c, low)) lies.turned o.turn (early_quiet false s marks run round i low legal seen quiet)

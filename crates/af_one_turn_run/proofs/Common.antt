@@ -1,5 +1,5 @@
 -- The names of other crates that the proofs of this one cite, passed on from one place. Declares nothing.
-pub use Rattle.af_base.proofs.Basics.{both, both_true, by_false, few, is_below, is_beyond, is_not_below, is_within, neither_is}
+pub use Rattle.af_base.proofs.Basics.{and_false, both, both_true, by_false, few, is_below, is_beyond, is_not_below, is_within, neither_is}
 pub use Rattle.af_base.specs.Log.{absent, count_seen, entry_slot, slots}
 pub use Rattle.af_base.specs.Sample.{IsFrame, packed_word}
 pub use Rattle.af_base.specs.Turn.{TakeSeen, TrackSeen, Turn}
@@ -14,6 +14,7 @@ pub use Rattle.af_base.specs.declared.seen.Seen.{Seen}
 pub use Rattle.af_base.specs.declared.state.FastState.{FastState}
 pub use Rattle.af_base.specs.declared.turn.CommandLook.{CommandLook}
 pub use Rattle.af_enough_law.proofs.MoreTold.{told_more}
+pub use Rattle.af_enough_law.proofs.RunTracks.{ends_blocks}
 pub use Rattle.af_judge.proofs.Basics.{each_at, each_long, ends_part, hand_puts, new_at, new_long, server_put}
 pub use Rattle.af_judge.proofs.StatesRuns.{RunKept, SameNormal, ends_same, fits_of, kept_beside, kept_new, kept_turn, load_same, met_same}
 pub use Rattle.af_judge.specs.Entries.{CarriesApart, CarriesWithin}
