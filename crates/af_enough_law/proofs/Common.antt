@@ -108,7 +108,7 @@ pub use Rattle.af_runs.specs.Runs.{Run, TrackTold, all_ended, called_in_turn, ca
 unfoldable pub use Rattle.af_runs.specs.Runs.{met, with_calls, with_ends, with_load, with_mix, with_poll, with_turn}
 pub use Rattle.af_runs.specs.Sessions.{Session, cycle_frames, no_spec, setup_of, spec_of, spec_setting, track_count}
 pub use Rattle.af_runs.specs.Told.{HasQueueHistory, Item, PipeTold, QueueTold, brought_by, is_pushed, items_of, mutator_does, observer_does, poll_events, state_at}
-pub use Rattle.af_runs.specs.TurnRuns.{calls_alone, cycle_alone, made_alone}
+pub use Rattle.af_runs.specs.TurnRuns.{calls_alone, cycle_alone, made_alone, met_alone}
 pub use Rattle.af_runs.specs.declared.want.ClientCommand.{ClientCommand}
 pub use Rattle.af_runs.specs.declared.want.Mode.{Mode}
 pub use Rattle.af_runs.specs.declared.want.Want.{Want}

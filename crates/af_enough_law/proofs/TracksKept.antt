@@ -1,6 +1,6 @@
 -- What each step of a run keeps of every track, whole rounds keep: rounds of all parties, and rounds of one.
 use Rattle.std.proofs.Common.{◌≡◌, ℕ, ◌<◌, ◌==◌, Bool, true, false, if◌then◌else◌, List, [], ◌∷◌, length, fold, refl, sym, ap, ◌∙◌, subst, arith, eqb-true, Option, Some, None}
-use Rattle.af_enough_law.proofs.Common.{EntrySeen, NormalKept, Outside, RoundSeen, Run, Session, Setup, TrackTold, Turn, TurnFound, TurnSpec, after_round, after_turn, all_played, before_turn, called_in_turn, calls_alone, calls_in, changed_from, cycle_alone, cycle_frames, each_at, each_long, each_track, early_of, ends, found_before, found_in, late_of, loaded, made_alone, meets, met, met_after, mixed_track, no_track, outside_of, played, setup_of, slice_index_or, slot_playing, state_for, stream_met, takes_part, told_at, track_met, turned, turned_track, with_calls, with_cycle, with_cycles, with_ends, with_load, with_mix, with_poll, with_turn}
+use Rattle.af_enough_law.proofs.Common.{EntrySeen, NormalKept, Outside, RoundSeen, Run, Session, Setup, TrackTold, Turn, TurnFound, TurnSpec, after_round, after_turn, all_played, before_turn, called_in_turn, calls_alone, calls_in, changed_from, cycle_alone, cycle_frames, each_at, each_long, each_track, early_of, ends, found_before, found_in, late_of, loaded, made_alone, meets, met, met_after, mixed_track, no_track, outside_of, played, setup_of, slice_index_or, slot_playing, state_for, stream_met, takes_part, told_at, track_met, turned, turned_track, with_calls, with_cycle, with_cycles, with_ends, with_load, with_mix, with_poll, with_turn, met_alone}
 use Rattle.af_script.specs.declared.op.TurnSpec.TheVariants as makes
 
 -- each track of a run has a property, which may rest on its number
@@ -110,3 +110,8 @@ module _ (P : ℕ → TrackTold → Type 0) (k : IsQuietlyKept P) (s : Session) 
   made_keeps run (makes.Client track) round called h = calls_alone_keep P track round run (called track refl) h
   made_keeps run makes.Normal round called h = loaded_keeps round.turn (turned s (found_before s run []) round.turn run) (turned_keeps (found_before s run []) round.turn run h)
   made_keeps run (makes.Fast cycles) round called h = cycles_alone_keep round.entries run h
+
+  -- and so does its whole round
+  pub round_alone_keeps : (run : Run) (turn : TurnSpec) (round : RoundSeen) → ((track : ℕ) → turn ≡ makes.Client track → track < length run.tracks → P track (told_at run track) → P track (called_in_turn (calls_in round track) (told_at run track)))
+      → AllTracks P run → AllTracks P (with_ends (met_alone s run turn round))
+  round_alone_keeps run turn round called h = ends_keep (met_alone s run turn round) (met_keeps (made_alone s run turn round) (made_keeps run turn round called h))
