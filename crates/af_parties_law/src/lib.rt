@@ -1,0 +1,2 @@
+//! What holds of the parties that a render or a play hands back, beside their journal: laws on runs, cited by the commands.
+#![tactic(auto)]
