@@ -1,10 +1,10 @@
 -- In a run of all parties each client's lists are spelled by just the calls that the journal records of it.
 use Rattle.std.proofs.Common.{◌≡◌, ℕ, Bool, true, false, if◌then◌else◌, List, [], ◌∷◌, ◌++◌, length, map, option_map, slice_get, Option, Some, None, refl, sym, ap, subst, ◌∙◌, append_assoc, append-nil, drop, take, ⊎_elim, arith}
-use Rattle.af_playing.proofs.Common.{ClientCall, ClientPart, ClientPlayed, ClientState, EndsState, EntrySeen, Frame, Given, HandSide, IsNewSession, IsRoundOfAll, IsTrackAt, JournalData, Kind, Made, MeetsAway, MeetsStream, PartyState, RoundNoted, RoundSeen, ScriptData, ServerState, SessionState, SharedState, Spot, SpotMet, client_knows, commands, end_party, file_at, flat_map, flat_map-cons, get_or_from_slice_get, none-some, ops_at, rounds_seen, same_Some, slice_get-map, slice_get_cases, slice_get_within, slice_index_or, stream, track_of, tracks_of, zip_at}
+use Rattle.af_parties_law.proofs.Common.{ClientCall, ClientPart, ClientPlayed, ClientState, EndsState, EntrySeen, Frame, Given, HandSide, IsNewSession, IsRoundOfAll, IsTrackAt, JournalData, Kind, Made, MeetsAway, MeetsStream, PartyState, RoundNoted, RoundSeen, ScriptData, ServerState, SessionState, SharedState, Spot, SpotMet, client_knows, commands, end_party, file_at, flat_map, flat_map-cons, get_or_from_slice_get, none-some, ops_at, rounds_seen, same_Some, slice_get-map, slice_get_cases, slice_get_within, slice_index_or, stream, track_of, tracks_of, zip_at}
 use Rattle.af_session.specs.Met.{TrackMet}
 use Rattle.af_playing.specs.PlayedRuns.{HandsBackRun, IsRunOfAll}
-use Rattle.af_playing.specs.Spelled.{BothSpell, CallsStandOnce, IsSpelled, Spells, calls_told}
-use Rattle.af_playing.proofs.ClientsSpelled.{spelled_met, spelled_none, turn_spells}
+use Rattle.af_parties_law.specs.Spelled.{BothSpell, CallsStandOnce, IsSpelled, Spells, calls_told}
+use Rattle.af_parties_law.proofs.ClientsSpelled.{spelled_met, spelled_none, turn_spells}
 
 -- ## A meeting
 

@@ -1,6 +1,6 @@
 -- The run that a legal journal records follows the parties that made it: their normal mixer in all that entries record of it, with the states that it pushed, and each client in the words that it released.
 use Rattle.std.proofs.Common.{◌≡◌, ℕ, zero, suc, ◌+◌, ◌<◌, ◌==◌, Bool, true, false, if◌then◌else◌, MatchBool, List, [], ◌∷◌, ◌++◌, length, map, append-nil, option_map, drop, take, Option, Some, None, slice_get, true≢false, refl, sym, ap, subst, ◌∙◌, arith}
-use Rattle.af_playing.proofs.Common.{Busy, Clean, ClientCall, ClientPart, ClientPlayed, ClientState, EntrySeen, FastState, Frame, Given, HandSide, IsNewSession, IsRoundOfAll, IsTrackAt, LegalRounds, LegalTurn, Made, Marks, MeetsAway, MeetsStream, NormalKept, NormalState, Outside, PartyState, Push, Pushed, RoundNoted, RoundSeen, Run, ScriptData, ServerState, Session, SessionState, Setup, SharedState, Spot, SpotMet, Track, Turn, TurnPlayed, Words, after_edits, called_at, called_long, calls_in, client_knows, client_made, clients_ended, clients_met, ends_keep, file_at, file_words, get_or_from_slice_get, kept_of, learnt, length-map, length-range_with_len, mutator_list, new_run, new_told_track, number_seen, ops_at, push_list, pushed_by, pushed_states, range_with_len, round_words, rounds_seen, run_from, run_words, same_Some, script_setup, session_of, setup_of, slice_get-map, slice_get_within, slice_index_or, track_count, track_of, track_words, tracks_of, turn_after, turn_of, turn_words, words_after, zip_at}
+use Rattle.af_parties_law.proofs.Common.{Busy, Clean, ClientCall, ClientPart, ClientPlayed, ClientState, EntrySeen, FastState, Frame, Given, HandSide, IsNewSession, IsRoundOfAll, IsTrackAt, LegalRounds, LegalTurn, Made, Marks, MeetsAway, MeetsStream, NormalKept, NormalState, Outside, PartyState, Push, Pushed, RoundNoted, RoundSeen, Run, ScriptData, ServerState, Session, SessionState, Setup, SharedState, Spot, SpotMet, Track, Turn, TurnPlayed, Words, after_edits, called_at, called_long, calls_in, client_knows, client_made, clients_ended, clients_met, ends_keep, file_at, file_words, get_or_from_slice_get, kept_of, learnt, length-map, length-range_with_len, mutator_list, new_run, new_told_track, number_seen, ops_at, push_list, pushed_by, pushed_states, range_with_len, round_words, rounds_seen, run_from, run_words, same_Some, script_setup, session_of, setup_of, slice_get-map, slice_get_within, slice_index_or, track_count, track_of, track_words, tracks_of, turn_after, turn_of, turn_words, words_after, zip_at}
 use Rattle.af_entry_law.proofs.NormalRuns.{IsFollowed, rest_followed, turn_followed}
 use Rattle.af_entry_law.specs.Told.{mixer_told}
 use Rattle.af_model.specs.declared.states.MutatorEvent.TheVariants as mutator
