@@ -60,7 +60,7 @@ module _ (g : Given) (s : SessionState) (r : RoundNoted) (bytes : List ℕ) (t :
       (slice_get_cases x.clients i).1
 
   -- the calls noted of a client are those of its turn
-  calls_noted : (i : ℕ) (p : PartyState) → slice_get x.clients i ≡ Some p → slice_index_or r.calls i [] ≡ p.calls.items
+  pub calls_noted : (i : ℕ) (p : PartyState) → slice_get x.clients i ≡ Some p → slice_index_or r.calls i [] ≡ p.calls.items
   calls_noted i p at =
       let f : PartyState → List ClientCall = λ (y : PartyState). y.calls.items in
       ap (λ (y : RoundNoted). slice_index_or y.calls i []) round.told ∙ get_or_from_slice_get (map f x.clients) i (f p) [] (slice_get-map f x.clients i ∙ ap (option_map f) at)
