@@ -48,7 +48,7 @@ pub use Rattle.af_session.proofs.FollowingRounds.{ends_keep}
 pub use Rattle.af_session.specs.Ends.{EndsState}
 pub use Rattle.af_session.specs.NewSession.{IsNewSession, tracks_of}
 pub use Rattle.af_session.specs.NewTracks.{IsTrackAt}
-pub use Rattle.af_session.specs.Rounds.{Given, end_party, file_at, ops_at}
+pub use Rattle.af_session.specs.Rounds.{Given, file_at, ops_at}
 pub use Rattle.af_session.specs.Shown.{released_by, shown_by, shows}
 pub use Rattle.af_session.specs.Together.{SessionState}
 pub use Rattle.af_side_by_side.proofs.ReadyOfAll.{zip_at}
@@ -60,7 +60,7 @@ pub use Rattle.af_told_law.specs.KeptEnds.{KeepsLists}
 pub use Rattle.std.proofs.lemmas.List.{length-map}
 pub use Rattle.std.proofs.lemmas.List.Concat.{flat_map-cons}
 pub use Rattle.std.proofs.lemmas.List.FromFn.{fill_by_all, length-range_with_len, map-range_with_len_more}
-pub use Rattle.std.proofs.lemmas.Option.{get_or_from_slice_get, none-some, same_Some, slice_get-map, slice_get_cases, slice_get_within}
+pub use Rattle.std.proofs.lemmas.Option.{get_or_from_slice_get, same_Some, slice_get-map, slice_get_cases, slice_get_within}
 pub use Rattle.std.specs.Bool.{MatchBool}
 pub use Rattle.std.specs.List.{range_with_len}
 pub use Rattle.std.specs.Prelude.{flat_map, slice_index_or}
