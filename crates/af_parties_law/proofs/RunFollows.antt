@@ -1,6 +1,7 @@
 -- The run that a legal journal records follows the parties that made it: their normal mixer in all that entries record of it, with the states that it pushed, and each client in the words that it released.
 use Rattle.std.proofs.Common.{◌≡◌, ℕ, zero, suc, ◌+◌, ◌<◌, ◌==◌, Bool, true, false, if◌then◌else◌, MatchBool, List, [], ◌∷◌, ◌++◌, length, map, append-nil, drop, take, Option, Some, None, slice_get, true≢false, refl, sym, ap, subst, ◌∙◌, arith}
 use Rattle.af_parties_law.proofs.Common.{Busy, Clean, ClientCall, ClientPart, ClientPlayed, ClientState, EntrySeen, FastState, Frame, Given, HandSide, IsNewSession, IsRoundOfAll, IsTrackAt, LegalRounds, LegalTurn, Made, Marks, MeetsAway, MeetsStream, NormalKept, NormalState, Outside, PartyState, Push, Pushed, RoundNoted, RoundSeen, Run, ScriptData, ServerState, Session, SessionState, Setup, SharedState, Spot, SpotMet, Track, Turn, TurnPlayed, Words, after_edits, called_at, called_long, calls_in, client_knows, client_made, clients_ended, clients_met, ends_keep, file_at, file_words, kept_of, learnt, length-map, length-range_with_len, mutator_list, new_run, new_told_track, number_seen, ops_at, push_list, pushed_by, pushed_states, range_with_len, round_words, rounds_seen, run_from, run_words, same_Some, script_setup, session_of, setup_of, slice_get_within, slice_index_or, track_count, track_of, track_words, tracks_of, turn_after, turn_of, turn_words, words_after, zip_at}
+use Rattle.std.proofs.lemmas.Simd.{map-map}
 use Rattle.af_entry_law.proofs.NormalRuns.{IsFollowed, rest_followed, turn_followed}
 use Rattle.af_entry_law.specs.Told.{mixer_told}
 use Rattle.af_model.specs.declared.states.MutatorEvent.TheVariants as mutator
@@ -53,10 +54,6 @@ by_spot block None a b c d m = by_away block a.held m.hand m.hand' c d b.held m.
 by_spot block (Some s) a b c d m = by_home block s a.hand c d b.stream b.hand m.0
 
 -- ## Who is followed
-
-map-map : {X Y Z : Type 0} (f : Y → Z) (h : X → Y) (xs : List X) → map f (map h xs) ≡ map (λ (x : X). f (h x)) xs
-map-map f h [] = refl
-map-map f h (x ∷ xs) = ap (λ (l : List _). f (h x) ∷ l) (map-map f h xs)
 
 range_at : {X : Type 0} (f : ℕ → X) (a n i : ℕ) → i < n → slice_get (map f (range_with_len a n)) i ≡ Some (f (a + i))
 range_at f a zero i lt = absurd (omega (arith, lt))
