@@ -11,7 +11,7 @@ pub use Rattle.af_base.specs.declared.state.Push.{Push}
 pub use Rattle.af_base.specs.declared.state.Push.TheVariants.{Busy, Clean, Pushed}
 pub use Rattle.af_cblk.specs.Sides.{HandSide, Made, client_made}
 pub use Rattle.af_cblk.specs.declared.view.ClientPart.{ClientPart}
-pub use Rattle.af_client.specs.Order.{ClientState, IsInOrder}
+pub use Rattle.af_client.specs.Order.{ClientState}
 pub use Rattle.af_engine.specs.Met.{MeetsAway, Spot, SpotMet}
 pub use Rattle.af_engine.specs.Shares.{SharedState}
 pub use Rattle.af_entry_law.proofs.ClientRuns.{Words, called_at, called_long, round_words, run_words, track_words, turn_words, words_after}
