@@ -1,13 +1,12 @@
 -- The summary of a play is that of its journal alone, if the journal is that of a legal run or of a cut one.
-use Rattle.std.proofs.Common.{◌≡◌, ℕ, suc, Bool, true, false, List, [], ◌∷◌, length, map, option_map, slice_get, Some, Result, Ok, Err, IfErr, IfOk, refl, sym, ap, subst, ◌∙◌, arith}
-use Rattle.af_playing.proofs.Common.{EndsState, Frame, Given, HasLegalRounds, IsCutRun, IsLegalRun, JournalData, LegalRounds, PartyState, Played, Run, ScriptData, Session, TrackTold, Words, entries_of, frames_of, length-map, marks_of, new_run, pushed_states, released_by, run_from, run_of, same_Some, session_of, shown_by, shows, slice_get-map, summary_of, track_words}
-use Rattle.af_playing.specs.declared.answering.PlayFault.{PlayFault}
-use Rattle.af_playing.specs.declared.answering.PlayFault.TheVariants as fault
+use Rattle.std.proofs.Common.{◌≡◌, ℕ, suc, Bool, true, false, List, [], ◌∷◌, length, map, option_map, slice_get, Some, refl, sym, ap, subst, ◌∙◌, arith}
+use Rattle.af_parties_law.proofs.Common.{EndsState, Frame, Given, HasLegalRounds, JournalData, LegalRounds, PartyState, Played, Run, ScriptData, Session, TrackTold, Words, entries_of, frames_of, length-map, marks_of, new_run, pushed_states, released_by, run_from, run_of, same_Some, session_of, shown_by, shows, slice_get-map, summary_of, track_words}
 use Rattle.af_rendering.specs.Alone.{shown_from}
-use Rattle.af_playing.specs.PlayedAlone.{IsToldAlone}
-use Rattle.af_playing.specs.PlayedRuns.{AtLimit, HandedBack, HandsBackRun}
-use Rattle.af_playing.proofs.RunFollows.{Follows, client_words, new_follows, run_follows}
-use Rattle.af_playing.proofs.RunReleased.{AreInOrder, new_order, run_order}
+use Rattle.af_parties_law.specs.PlayedAlone.{IsToldAlone}
+use Rattle.af_playing.specs.PlayedRuns.{HandsBackRun}
+use Rattle.af_parties_law.specs.Telling.{CutPlaysAreToldAlone, DonePlaysAreToldAlone}
+use Rattle.af_parties_law.proofs.RunFollows.{Follows, client_words, new_follows, run_follows}
+use Rattle.af_parties_law.proofs.RunReleased.{AreInOrder, new_order, run_order}
 
 -- two lists give the same if each place does
 same_maps : (ps : List PartyState) (ts : List TrackTold) → length ps ≡ length ts → ((i : ℕ) (p : PartyState) (t : TrackTold) → slice_get ps i ≡ Some p → slice_get ts i ≡ Some t → p.stream.released ≡ length t.stream.released)
@@ -52,13 +51,13 @@ module _ (ended : Bool) (script : ScriptData) (files : List (List Frame)) (j : J
       let states : pushed_states e.normal.mutator.past.events ≡ run.states = ap (λ (x : EndsState). pushed_states x.normal.mutator.past.events) h.ends_are ∙ follows.normal.pushed in
       λ k. shows (states k) script.frames j.tracks (map (λ r. r.calls) j.rounds) (map (λ r. r.turn) j.rounds) (frames_of seen) (map (λ x. x.entry) seen)
 
-  pub told_alone : IsToldAlone script files j e
+  told_alone : IsToldAlone script files j e
   told_alone = record { summary = λ k. summary_of (shown_alone k) (all_released k); shown = shown_alone }
 
--- the summary of what a play hands back is that of its journal alone
-pub alone_kept : (script : ScriptData) (files : List (List Frame)) (r : Result Played PlayFault) → IfOk r (λ (p : Played). HandsBackRun true script files p.journal p.ends) → IfErr r (AtLimit (HandsBackRun false script files))
-    → IfOk r (λ (p : Played). IsLegalRun script files p.journal) → IfErr r (AtLimit (λ (j : JournalData) (e : EndsState). IsCutRun script files j)) → HandedBack (IsToldAlone script files) r
-alone_kept script files (Ok p) back none legal none' = told_alone true script files p.journal p.ends back false legal.rounds
-alone_kept script files (Err (fault.CycleLimit j e)) none back none' cut = told_alone false script files j e back true cut.rounds
-alone_kept script files (Err fault.Store) none back none' cut = tt
-alone_kept script files (Err fault.Memory) none back none' cut = tt
+-- what a play that is done hands back is told alone
+pub done_alone : (script : ScriptData) (files : List (List Frame)) (p : Played) → DonePlaysAreToldAlone script files p
+done_alone script files p done = told_alone true script files p.journal p.ends done.played false done.promises.legal.rounds
+
+-- what a play that was cut off hands back is told alone
+pub cut_alone : (script : ScriptData) (files : List (List Frame)) (j : JournalData) (e : EndsState) → CutPlaysAreToldAlone script files j e
+cut_alone script files j e limit = told_alone false script files j e limit.played true limit.cut_run.rounds

@@ -1,6 +1,7 @@
 -- The run that a legal journal records follows the parties that made it: their normal mixer in all that entries record of it, with the states that it pushed, and each client in the words that it released.
-use Rattle.std.proofs.Common.{◌≡◌, ℕ, zero, suc, ◌+◌, ◌<◌, ◌==◌, Bool, true, false, if◌then◌else◌, MatchBool, List, [], ◌∷◌, ◌++◌, length, map, append-nil, option_map, drop, take, Option, Some, None, slice_get, true≢false, refl, sym, ap, subst, ◌∙◌, arith}
-use Rattle.af_playing.proofs.Common.{Busy, Clean, ClientCall, ClientPart, ClientPlayed, ClientState, EntrySeen, FastState, Frame, Given, HandSide, IsNewSession, IsRoundOfAll, IsTrackAt, LegalRounds, LegalTurn, Made, Marks, MeetsAway, MeetsStream, NormalKept, NormalState, Outside, PartyState, Push, Pushed, RoundNoted, RoundSeen, Run, ScriptData, ServerState, Session, SessionState, Setup, SharedState, Spot, SpotMet, Track, Turn, TurnPlayed, Words, after_edits, called_at, called_long, calls_in, client_knows, client_made, clients_ended, clients_met, ends_keep, file_at, file_words, get_or_from_slice_get, kept_of, learnt, length-map, length-range_with_len, mutator_list, new_run, new_told_track, number_seen, ops_at, push_list, pushed_by, pushed_states, range_with_len, round_words, rounds_seen, run_from, run_words, same_Some, script_setup, session_of, setup_of, slice_get-map, slice_get_within, slice_index_or, track_count, track_of, track_words, tracks_of, turn_after, turn_of, turn_words, words_after, zip_at}
+use Rattle.std.proofs.Common.{◌≡◌, ℕ, zero, suc, ◌+◌, ◌<◌, ◌==◌, Bool, true, false, if◌then◌else◌, MatchBool, List, [], ◌∷◌, ◌++◌, length, map, append-nil, drop, take, Option, Some, None, slice_get, true≢false, refl, sym, ap, subst, ◌∙◌, arith}
+use Rattle.af_parties_law.proofs.Common.{Busy, Clean, ClientCall, ClientPart, ClientPlayed, ClientState, EntrySeen, FastState, Frame, Given, HandSide, IsNewSession, IsRoundOfAll, IsTrackAt, LegalRounds, LegalTurn, Made, Marks, MeetsAway, MeetsStream, NormalKept, NormalState, Outside, PartyState, Push, Pushed, RoundNoted, RoundSeen, Run, ScriptData, ServerState, Session, SessionState, Setup, SharedState, Spot, SpotMet, Track, Turn, TurnPlayed, Words, after_edits, called_at, called_long, calls_in, client_knows, client_made, clients_ended, clients_met, ends_keep, file_at, file_words, kept_of, learnt, length-map, length-range_with_len, mutator_list, new_run, new_told_track, number_seen, ops_at, push_list, pushed_by, pushed_states, range_with_len, round_words, rounds_seen, run_from, run_words, same_Some, script_setup, session_of, setup_of, slice_get_within, slice_index_or, track_count, track_of, track_words, tracks_of, turn_after, turn_of, turn_words, words_after, zip_at}
+use Rattle.std.proofs.lemmas.Simd.{map-map}
 use Rattle.af_entry_law.proofs.NormalRuns.{IsFollowed, rest_followed, turn_followed}
 use Rattle.af_entry_law.specs.Told.{mixer_told}
 use Rattle.af_model.specs.declared.states.MutatorEvent.TheVariants as mutator
@@ -8,6 +9,7 @@ use Rattle.af_runs.specs.Rounds.{LegalNormalTurn, after_round}
 use Rattle.af_runs.specs.Told.{is_pushed}
 use Rattle.af_playing.specs.PlayedRuns.{IsRunOfAll}
 use Rattle.af_playing.proofs.PushedRuns.{pushed_append}
+use Rattle.af_parties_law.proofs.RunSpelled.{calls_noted}
 
 -- ## The states that a turn pushes
 
@@ -52,10 +54,6 @@ by_spot block None a b c d m = by_away block a.held m.hand m.hand' c d b.held m.
 by_spot block (Some s) a b c d m = by_home block s a.hand c d b.stream b.hand m.0
 
 -- ## Who is followed
-
-map-map : {X Y Z : Type 0} (f : Y → Z) (h : X → Y) (xs : List X) → map f (map h xs) ≡ map (λ (x : X). f (h x)) xs
-map-map f h [] = refl
-map-map f h (x ∷ xs) = ap (λ (l : List _). f (h x) ∷ l) (map-map f h xs)
 
 range_at : {X : Type 0} (f : ℕ → X) (a n i : ℕ) → i < n → slice_get (map f (range_with_len a n)) i ≡ Some (f (a + i))
 range_at f a zero i lt = absurd (omega (arith, lt))
@@ -154,22 +152,17 @@ module _ (script : ScriptData) (files : List (List Frame)) where
           ap setup_of met ∙ turned_follows.1,
         )
 
-    -- the calls noted of a client are those of its turn
-    calls_noted : (i : ℕ) (p : PartyState) → slice_get u.clients i ≡ Some p → calls_in seen i ≡ p.calls.items
-    calls_noted i p at =
-        let f : PartyState → List ClientCall = λ (y : PartyState). y.calls.items in
-        ap (λ (l : List (List ClientCall)). slice_index_or l i []) (calls ∙ ap (λ (y : RoundNoted). y.calls) round.told) ∙ get_or_from_slice_get (map f u.clients) i (f p) [] (slice_get-map f u.clients i ∙ ap (option_map f) at)
-
     client_follows : (i : ℕ) (q : PartyState) → slice_get t.clients i ≡ Some q → slice_get (run_words after) i ≡ Some (client_words i q)
     client_follows i q at =
         let last = clients_ended round.met i q (ap (λ (y : SessionState). slice_get y.clients i) (sym round.ends) ∙ at) in
         let met = clients_met u round.met round.meets i last.0 last.1 in
         let first = zip_at (ClientPlayed g) x.clients u.clients i met.0 round.plays.clients met.1 in
         let track : first.0.track ≡ i = round.together.0.tracks i first.0 first.1 in
+        let noted : calls_in seen i ≡ met.0.calls.items = ap (λ (l : List (List ClientCall)). slice_index_or l i []) calls ∙ calls_noted g x r bytes t round i met.0 met.1 in
         let turned : met.0.stream.pass.part.frames ≡ words_after (file_words s i) first.0.stream.pass.part.frames (calls_in seen i) =
         ap (λ (y : Track). y.stream.released) first.2.turned
         ∙ turn_words met.0.calls.items (track_of (ops_at g first.0.track) (file_at g first.0.track) first.0)
-        ∙ (λ j. words_after (file_words s (track j)) first.0.stream.pass.part.frames (sym (calls_noted i met.0 met.1) j)) in
+        ∙ (λ j. words_after (file_words s (track j)) first.0.stream.pass.part.frames (sym noted j)) in
         let is : q.stream.pass.part.frames ≡ words_after (file_words s i) first.0.stream.pass.part.frames (calls_in seen i) =
         ap (λ (c : ClientState). c.pass.part.frames) last.2
         ∙ by_spot (client_made met.0.stream.pass) _ _ _ met.0.stream last.0.stream met.2.streamed

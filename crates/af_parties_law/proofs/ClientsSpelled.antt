@@ -1,12 +1,12 @@
 -- The lists of each client are spelled by just the calls that the journal records of it.
 use Rattle.std.proofs.Common.{◌≡◌, ℕ, Bool, true, false, not, if◌then◌else◌, is_some, fold, List, [], ◌∷◌, ◌++◌, refl, sym, ap, subst, ◌∙◌, append-nil, append_assoc}
-use Rattle.af_playing.proofs.Common.{ClientCall, ClientEvent, ClientKept, ClientStep, Kind, Side, Track, after_call, after_calls, called, client_begins, client_call_events, client_kept, client_spells, client_step_events, commands, is_of_commands, is_on, met_server, stream}
+use Rattle.af_parties_law.proofs.Common.{ClientCall, ClientEvent, ClientKept, ClientStep, Kind, Side, Track, after_call, after_calls, called, client_begins, client_call_events, client_kept, client_spells, client_step_events, commands, is_of_commands, is_on, met_server, stream}
 use Rattle.af_base.specs.declared.event.ClientCall.TheVariants as call
 use Rattle.af_base.specs.declared.event.ClientEvent.TheVariants as client
 use Rattle.af_runs.specs.ClientTurns.{released_by}
 use Rattle.af_model.specs.Spelled as step
 use Rattle.af_model.proofs.Spelled.{client_spells-append}
-use Rattle.af_playing.specs.Spelled.{IsSpelled, calls_among}
+use Rattle.af_parties_law.specs.Spelled.{IsSpelled, calls_among}
 
 -- ## One list
 

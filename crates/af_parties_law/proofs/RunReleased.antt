@@ -1,15 +1,16 @@
 -- In a run of all parties each client has released as many frames as the calls that the journal records put.
 use Rattle.std.proofs.Common.{◌≡◌, ℕ, ◌+◌, ◌<◌, Bool, true, false, if◌then◌else◌, is_some, fold, List, [], ◌∷◌, length, map, sum_by, option_map, slice_get, Some, refl, sym, ap, subst, ◌∙◌, ⊎_elim, arith}
-use Rattle.af_playing.proofs.Common.{ClientCall, ClientEvent, ClientKept, ClientState, ClientStep, EndsState, Frame, Given, IsInOrder as IsClientInOrder, IsNewSession, IsRoundOfAll, IsTrackAt, JournalData, PartyState, RoundNoted, ScriptData, SessionState, SharedState, client_begins, client_keeps, client_kept, client_spells, client_step_events, clients_ended, fill_by_all, get_or_from_slice_get, length-map, met_server, released_by, same_Some, slice_get-map, slice_get_cases, slice_get_within, stream, tracks_of}
+use Rattle.af_parties_law.proofs.Common.{ClientCall, ClientEvent, ClientKept, ClientState, ClientStep, EndsState, Frame, Given, IsNewSession, IsRoundOfAll, IsTrackAt, JournalData, PartyState, RoundNoted, ScriptData, SessionState, SharedState, client_begins, client_keeps, client_kept, client_spells, client_step_events, clients_ended, fill_by_all, get_or_from_slice_get, length-map, met_server, released_by, same_Some, slice_get-map, slice_get_cases, slice_get_within, stream, tracks_of}
 use Rattle.std.proofs.Math.Nat.{add-zero}
 use Rattle.std.proofs.lemmas.Grind.{fold-append}
 use Rattle.std.proofs.lemmas.List.Sums.{sum_by-cons}
 use Rattle.af_base.specs.declared.event.ClientCall.TheVariants as call
 use Rattle.af_base.specs.declared.event.ClientEvent.TheVariants as client
+use Rattle.af_client.specs.Order.{IsInOrder as IsClientInOrder}
 use Rattle.af_model.specs.Spelled as step
 use Rattle.af_playing.specs.PlayedRuns.{HandsBackRun, IsRunOfAll}
-use Rattle.af_playing.specs.Spelled.{ReleasedAsTold, Spells, calls_among, calls_told, frames_put}
-use Rattle.af_playing.proofs.RunSpelled.{calls_stand_once}
+use Rattle.af_parties_law.specs.Spelled.{ReleasedAsTold, Spells, calls_among, calls_told, frames_put}
+use Rattle.af_parties_law.proofs.RunSpelled.{calls_stand_once}
 
 -- ## One list
 

@@ -1,9 +1,10 @@
 -- No cycle of a run uses a state older than that of a cycle before it.
 use Rattle.std.proofs.Common.{◌≡◌, ℕ, zero, suc, ◌+◌, ◌≤◌, ◌==◌, ◌||◌, Bool, true, false, fold, List, [], ◌∷◌, ◌++◌, length, map, refl, sym, ap, subst, ◌∙◌, eqb-true}
-use Rattle.af_playing.proofs.Common.{Cycle, CycleEntry, CyclesOn, CyclesOnce, EntrySeen, FastTurned, Frame, Given, IsRoundOfAll, IsWhole, Links, Logged, MatchBool, MixerState, MixesOnce, RoundNoted, RoundsNoted, ScriptData, SessionState, dealt, is_mixed, is_over, journal_of, most_cycles, polled_keeps, same_entries}
-use Rattle.af_playing.specs.PlayedRuns.{IsRunOfAll, Plays}
-use Rattle.af_playing.specs.Spelled.{NoneOlder, StepsUp}
+use Rattle.af_parties_law.proofs.Common.{Cycle, CycleEntry, CyclesOn, CyclesOnce, EndsState, EntrySeen, FastTurned, Frame, Given, IsRoundOfAll, JournalData, Links, Logged, MatchBool, MixerState, MixesOnce, RoundNoted, RoundsNoted, ScriptData, SessionState, dealt, is_mixed, is_over, most_cycles, polled_keeps, same_entries}
+use Rattle.af_playing.specs.PlayedRuns.{HandsBackRun, IsRunOfAll}
+use Rattle.af_parties_law.specs.Spelled.{NoneOlder, StepsUp}
 use Rattle.af_playing.proofs.RoundsOfAll.{log_of_turns}
+use Rattle.af_playing.proofs.RoundsSoFar.{count}
 
 -- entries step up with one entry more, which uses the last state or the next one
 steps_more : (n : ℕ) (es : List CycleEntry) (e : CycleEntry) → StepsUp n es → fold (λ (number : ℕ) (x : CycleEntry). x.state) n es ≤ e.state → e.state ≤ fold (λ (number : ℕ) (x : CycleEntry). x.state) n es + 1 → StepsUp n (es ++ e ∷ [])
@@ -61,10 +62,13 @@ run_steps g s (r ∷ rs) bytes t run steps =
     let round : IsRoundOfAll g s r run.0 run.2 = run.5 in
     run_steps g run.2 rs run.1 t run.6 (subst Steps (sym (log_of_turns g s r run.0 run.2 round)) (turn_steps round.links s.fast round.turned.fast run.0 round.plays.fast steps))
 
--- in the journal of a run that was played since its session was made no cycle uses an older state
-pub none_older : (script : ScriptData) (files : List (List Frame)) (noted : RoundsNoted) (t : SessionState) → Plays script files noted.rounds t → IsWhole noted t.fast.log → NoneOlder (journal_of noted t.fast.log)
-none_older script files noted t played whole =
+-- in a journal that is handed back no cycle uses an older state
+pub none_older : (ended : Bool) (script : ScriptData) (files : List (List Frame)) (j : JournalData) (e : EndsState) → HandsBackRun ended script files j e → NoneOlder j
+none_older ended script files j e h =
+    let played = h.played in
+    let log : Logged = h.parties.fast.log in
+    let noted : RoundsNoted = record { tracks = length script.tracks; rounds = h.rounds } in
     let first : Steps played.start.fast.log = subst (λ (m : MixerState). Steps m.log) (sym played.new.fast) tt in
-    let all : Steps t.fast.log = run_steps (record { tracks = script.tracks; files = files }) played.start noted.rounds played.bytes t played.run first in
-    let log : Logged = t.fast.log in
-    subst (StepsUp 0) (sym (ap (map (λ (x : EntrySeen). x.entry)) (dealt noted log whole.0) ∙ same_entries log.frames log.entries)) all
+    let all : Steps log = run_steps (record { tracks = script.tracks; files = files }) played.start h.rounds played.bytes h.parties played.run first in
+    let entries = dealt noted log (count script files h.rounds h.parties played) in
+    subst NoneOlder (sym h.journal_is) (subst (StepsUp 0) (sym (ap (map (λ (x : EntrySeen). x.entry)) entries ∙ same_entries log.frames log.entries)) all)

@@ -1,8 +1,8 @@
 -- In a run of all parties the journal records each push once, in order.
 use Rattle.std.proofs.Common.{◌≡◌, ℕ, zero, suc, ◌+◌, Bool, true, false, if◌then◌else◌, List, [], ◌∷◌, ◌++◌, length, length-append, drop, take, Some, None, refl, sym, ap, subst, ◌∙◌, append_assoc, append-nil, arith}
-use Rattle.af_playing.proofs.Common.{Busy, Clean, EndsState, EntrySeen, FastState, Frame, Given, IsRoundOfAll, JournalData, LegalPush, LegalTurn, MatchBool, NormalKept, NormalPlayed, NormalState, Outside, Push, Pushed, RoundNoted, RoundSeen, ScriptData, SessionState, Setup, Turn, TurnPlayed, after_edits, after_push, after_takes, ends_keep, flat_map, flat_map-cons, kept_of, learnt, map-range_with_len_more, mutated_none, pushed_states, rounds_seen, setup_of, turn_after, turn_noted, turn_of}
+use Rattle.af_parties_law.proofs.Common.{Busy, Clean, EndsState, EntrySeen, FastState, Frame, Given, IsRoundOfAll, JournalData, LegalPush, LegalTurn, MatchBool, NormalKept, NormalPlayed, NormalState, Outside, Push, Pushed, RoundNoted, RoundSeen, ScriptData, SessionState, Setup, Turn, TurnPlayed, after_edits, after_push, after_takes, ends_keep, flat_map, flat_map-cons, kept_of, learnt, map-range_with_len_more, mutated_none, pushed_states, rounds_seen, setup_of, turn_after, turn_noted, turn_of}
 use Rattle.af_playing.specs.PlayedRuns.{HandsBackRun, IsRunOfAll}
-use Rattle.af_playing.specs.Spelled.{PushesStandOnce, first_numbers, number_pushed, pushed_by, pushes_told}
+use Rattle.af_parties_law.specs.Spelled.{PushesStandOnce, first_numbers, number_pushed, pushed_by, pushes_told}
 use Rattle.af_playing.proofs.ExitSeen.{Knowing, round_knows}
 use Rattle.af_playing.proofs.PushedRuns.{PushedRuns}
 use Rattle.af_playing.proofs.RunOfAll.{knowing_first}

@@ -1,10 +1,10 @@
 -- In a run of all parties each client's lists are spelled by just the calls that the journal records of it.
-use Rattle.std.proofs.Common.{◌≡◌, ℕ, Bool, true, false, if◌then◌else◌, List, [], ◌∷◌, ◌++◌, length, map, option_map, slice_get, Option, Some, None, refl, sym, ap, subst, ◌∙◌, append_assoc, append-nil, drop, take, ⊎_elim, arith}
-use Rattle.af_playing.proofs.Common.{ClientCall, ClientPart, ClientPlayed, ClientState, EndsState, EntrySeen, Frame, Given, HandSide, IsNewSession, IsRoundOfAll, IsTrackAt, JournalData, Kind, Made, MeetsAway, MeetsStream, PartyState, RoundNoted, RoundSeen, ScriptData, ServerState, SessionState, SharedState, Spot, SpotMet, client_knows, commands, end_party, file_at, flat_map, flat_map-cons, get_or_from_slice_get, none-some, ops_at, rounds_seen, same_Some, slice_get-map, slice_get_cases, slice_get_within, slice_index_or, stream, track_of, tracks_of, zip_at}
+use Rattle.std.proofs.Common.{◌≡◌, ℕ, Bool, List, [], ◌∷◌, ◌++◌, length, map, option_map, slice_get, Option, Some, None, refl, sym, ap, subst, ◌∙◌, append_assoc, append-nil, drop, take, arith}
+use Rattle.af_parties_law.proofs.Common.{ClientCall, ClientPart, ClientPlayed, ClientState, EndsState, EntrySeen, Frame, Given, HandSide, IsNewSession, IsRoundOfAll, IsTrackAt, JournalData, Kind, Made, MeetsAway, MeetsStream, PartyState, RoundNoted, RoundSeen, ScriptData, ServerState, SessionState, SharedState, Spot, SpotMet, Track, client_knows, clients_ended, clients_met, commands, file_at, flat_map, flat_map-cons, get_or_from_slice_get, ops_at, rounds_seen, same_Some, slice_get-map, slice_get_within, slice_index_or, stream, track_of, tracks_of, zip_at}
 use Rattle.af_session.specs.Met.{TrackMet}
 use Rattle.af_playing.specs.PlayedRuns.{HandsBackRun, IsRunOfAll}
-use Rattle.af_playing.specs.Spelled.{BothSpell, CallsStandOnce, IsSpelled, Spells, calls_told}
-use Rattle.af_playing.proofs.ClientsSpelled.{spelled_met, spelled_none, turn_spells}
+use Rattle.af_parties_law.specs.Spelled.{BothSpell, CallsStandOnce, IsSpelled, Spells, calls_told}
+use Rattle.af_parties_law.proofs.ClientsSpelled.{spelled_met, spelled_none, turn_spells}
 
 -- ## A meeting
 
@@ -33,48 +33,28 @@ module _ (calls : List ClientCall) where
 abbrev AllSpell : (ℕ → List ClientCall) → SessionState → Type 0
 AllSpell calls s = (i : ℕ) (p : PartyState) → slice_get s.clients i ≡ Some p → BothSpell (calls i) p
 
--- the client at a place before the ends are made, whose lists the ends leave
-ended_from : (ps : List PartyState) (ended : Bool) (i : ℕ) (q : PartyState) (s : SessionState) → s.clients ≡ ps → slice_get (if ended then record s { clients = map end_party s.clients } else s).clients i ≡ Some q
-    → (p : PartyState) × (slice_get ps i ≡ Some p) × ((calls : List ClientCall) → BothSpell calls p → BothSpell calls q)
-ended_from ps false i q s is at = (q, ap (λ (l : List PartyState). slice_get l i) (sym is) ∙ at, λ calls spells. spells)
-ended_from ps true i q s is at = by_place (slice_get ps i) refl
-  where
-    there : option_map end_party (slice_get ps i) ≡ Some q
-    there = sym (slice_get-map end_party ps i) ∙ ap (λ (l : List PartyState). slice_get (map end_party l) i) (sym is) ∙ at
-
-    by_place : (o : Option PartyState) → slice_get ps i ≡ o → (p : PartyState) × (slice_get ps i ≡ Some p) × ((calls : List ClientCall) → BothSpell calls p → BothSpell calls q)
-    by_place None e = absurd (none-some q (sym (ap (option_map end_party) e) ∙ there))
-    by_place (Some p) e =
-        let same : end_party p ≡ q = same_Some (end_party p) q (sym (ap (option_map end_party) e) ∙ there) in
-        (p, e, λ calls spells. subst (BothSpell calls) same spells)
-
 module _ (g : Given) (s : SessionState) (r : RoundNoted) (bytes : List ℕ) (t : SessionState) (round : IsRoundOfAll g s r bytes t) where
   abbrev x : SessionState
   x = round.turned
 
-  -- a client that met had made its turn, and the meeting keeps what its lists spell
-  met_from : (i : ℕ) (q : PartyState) → slice_get round.met.clients i ≡ Some q → (p : PartyState) × (slice_get x.clients i ≡ Some p) × ((calls : List ClientCall) → BothSpell calls p → BothSpell calls q)
-  met_from i q at = ⊎_elim
-      (λ h. (h.0, h.2, λ calls spells. track_met calls _ _ h.0 q (round.meets.tracks.met i h.0 q h.1 h.2 at) spells))
-      (λ h. (q, sym (round.meets.tracks.rest i h.0).1 ∙ at, λ calls spells. spells))
-      (slice_get_cases x.clients i).1
-
   -- the calls noted of a client are those of its turn
-  calls_noted : (i : ℕ) (p : PartyState) → slice_get x.clients i ≡ Some p → slice_index_or r.calls i [] ≡ p.calls.items
+  pub calls_noted : (i : ℕ) (p : PartyState) → slice_get x.clients i ≡ Some p → slice_index_or r.calls i [] ≡ p.calls.items
   calls_noted i p at =
       let f : PartyState → List ClientCall = λ (y : PartyState). y.calls.items in
       ap (λ (y : RoundNoted). slice_index_or y.calls i []) round.told ∙ get_or_from_slice_get (map f x.clients) i (f p) [] (slice_get-map f x.clients i ∙ ap (option_map f) at)
 
   pub round_spells : (calls : ℕ → List ClientCall) → AllSpell calls s → AllSpell (λ i. calls i ++ slice_index_or r.calls i []) t
   round_spells calls spells i q at =
-      let last = ended_from round.met.clients round.met.normal.ended i q round.met refl (ap (λ (y : SessionState). slice_get y.clients i) (sym round.ends) ∙ at) in
-      let made = met_from i last.0 last.1 in
-      let first = zip_at (ClientPlayed g) s.clients x.clients i made.0 round.plays.clients made.1 in
-      let before : BothSpell (calls i) first.0 = spells i first.0 first.1 in
-      let turned : BothSpell (calls i ++ made.0.calls.items) made.0 =
-      turn_spells (calls i) made.0.calls.items (track_of (ops_at g first.0.track) (file_at g first.0.track) first.0) (track_of (ops_at g first.0.track) (file_at g first.0.track) made.0) first.2.turned before in
-      last.2 (calls i ++ slice_index_or r.calls i [])
-      (made.2 (calls i ++ slice_index_or r.calls i []) (subst (λ (l : List ClientCall). BothSpell (calls i ++ l) made.0) (sym (calls_noted i made.0 made.1)) turned))
+      let all : List ClientCall = calls i ++ slice_index_or r.calls i [] in
+      let last = clients_ended round.met i q (ap (λ (y : SessionState). slice_get y.clients i) (sym round.ends) ∙ at) in
+      let met = clients_met x round.met round.meets i last.0 last.1 in
+      let first = zip_at (ClientPlayed g) s.clients x.clients i met.0 round.plays.clients met.1 in
+      let before : Track = track_of (ops_at g first.0.track) (file_at g first.0.track) first.0 in
+      let after : Track = track_of (ops_at g first.0.track) (file_at g first.0.track) met.0 in
+      let turned : BothSpell (calls i ++ met.0.calls.items) met.0 = turn_spells (calls i) met.0.calls.items before after first.2.turned (spells i first.0 first.1) in
+      let noted : BothSpell all met.0 = subst (λ (l : List ClientCall). BothSpell (calls i ++ l) met.0) (sym (calls_noted i met.0 met.1)) turned in
+      let kept : BothSpell all last.0 = track_met all _ _ met.0 last.0 met.2 noted in
+      (subst (Spells stream all) (sym last.2) kept.0, subst (Spells commands all) (sym last.3) kept.1)
 
 -- ## A run
 

@@ -1,6 +1,6 @@
 -- The ends of a play keep the lists of the run that its journal records.
 use Rattle.std.proofs.Common.{Bool, List, sym, subst}
-use Rattle.af_playing.proofs.Common.{EndsState, Frame, JournalData, KeepsLists, ScriptData, run_of}
+use Rattle.af_parties_law.proofs.Common.{EndsState, Frame, JournalData, KeepsLists, ScriptData, run_of}
 use Rattle.af_play_law.proofs.KeptTold.{plays_keep}
 use Rattle.af_playing.specs.PlayedRuns.{HandsBackRun}
 use Rattle.af_playing.proofs.RoundsTold.{rounds_told, seen}
