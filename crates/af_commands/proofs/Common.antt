@@ -21,8 +21,9 @@ pub use Rattle.af_offline.specs.declared.status.Refusal.{Refusal}
 pub use Rattle.af_offline.specs.declared.status.Refusal.TheVariants.{File, Script, Usage}
 pub use Rattle.af_offline.specs.declared.status.Stop.{Stop}
 pub use Rattle.af_offline.specs.declared.status.Stop.TheVariants.{Memory, Over, Refused, Store}
-pub use Rattle.af_playing.specs.PlayKept.{AppendsLogOfPlay, KeepsFiles, KeepsPlay, TellsItsRun, TookFew}
-pub use Rattle.af_playing.specs.PlayedAlone.{IsToldAlone}
+pub use Rattle.af_parties_law.proofs.ToldAlone.{cut_alone, done_alone}
+pub use Rattle.af_parties_law.specs.PlayedAlone.{IsToldAlone}
+pub use Rattle.af_playing.specs.PlayKept.{AppendsLogOfPlay, KeepsFiles, KeepsPlay, TookFew}
 pub use Rattle.af_playing.specs.PlayedRuns.{HandedBack, HandsBackRun, HasStoreCause, IsLegalJournal, LeavesRun}
 pub use Rattle.af_playing.specs.declared.answering.PlayFault.{PlayFault}
 pub use Rattle.af_render_law.proofs.RendersTold.{render_told}

@@ -1,6 +1,6 @@
 -- The steps of the cycles of what a command played.
 use Rattle.std.proofs.Common.{◌≡◌, ◌≢◌, ℕ, Bool, true, false, if◌then◌else◌, List, Option, Some, Result, Ok, Err, IfOk, String, refl, sym, ap, subst, ◌∙◌}
-use Rattle.af_commands.proofs.Common.{ComesTo, Ending, EndsState, File, Files, Global, HandedBack, IsScript, IsToldAlone, Job, JournalData, Judged, Limit, Meets, Memory, Outcome, Over, PlayFault, Played, Refusal, Refused, Script, Session as Loaded, SetsFile, Stop, Store, StoreError, TookFew, Usage, ended_status, journal_pcm, play_job, render_told, run_of, session_job, shown_from, status_of, text_of, trace_job}
+use Rattle.af_commands.proofs.Common.{ComesTo, Ending, EndsState, File, Files, Global, HandedBack, IsScript, IsToldAlone, Job, JournalData, Judged, KeepsPlay, Limit, Meets, Memory, Outcome, Over, PlayFault, Played, Refusal, Refused, Script, Session as Loaded, SetsFile, Stop, Store, StoreError, TookFew, Usage, cut_alone, done_alone, ended_status, journal_pcm, play_job, render_told, run_of, session_job, shown_from, status_of, text_of, trace_job}
 use Rattle.std.specs.Str.{bytes_eq}
 use Rattle.std.proofs.lemmas.Slice.Eq.{bytes_eq-Decides}
 use Rattle.af_io.specs.declared.store.StoreError.TheVariants as outside
@@ -44,49 +44,48 @@ few_alone : (l : Loaded) (steps : List (ℕ × ℕ)) (j : JournalData) (e : Ends
 few_alone l steps j e alone few = subst (λ (run : Shown). AreFew run steps) alone.shown few
 
 module _ (l : Loaded) (cycles : ℕ) (target name : List ℕ) (old new : Files) (steps : List (ℕ × ℕ)) where
-  pub Counts-told : (played : Result Played PlayFault) (result : Result (String Global) Stop) → HandedBack (IsToldAlone l.script l.files) played → HandedBack (TookFew l.script.frames steps) played
+  pub Counts-told : (played : Result Played PlayFault) (result : Result (String Global) Stop) → KeepsPlay l.script l.files played → HandedBack (TookFew l.script.frames steps) played
       → Tells cycles played result → TellsText name played result old new → CountsOn result (Ok (play_job target name l)) new steps
-  Counts-told (Ok p) (Ok line) alone few told text = (p.journal, set_holds old new name (Some (text_of p.journal)) text, few_alone l steps p.journal p.ends alone few)
-  Counts-told (Ok p) (Err (Refused refusal)) alone few told text = tt
-  Counts-told (Ok p) (Err (Over over)) alone few none text = absurd none
-  Counts-told (Ok p) (Err Store) alone few told text = tt
-  Counts-told (Ok p) (Err Memory) alone few told text = tt
-  Counts-told (Err (fault.CycleLimit j e)) (Ok line) alone few none text = absurd none
-  Counts-told (Err (fault.CycleLimit j e)) (Err (Refused refusal)) alone few told text = tt
-  Counts-told (Err (fault.CycleLimit j e)) (Err (Over (Limit n))) alone few told text = (j, set_holds old new name (Some (text_of j)) text, few_alone l steps j e alone few)
-  Counts-told (Err (fault.CycleLimit j e)) (Err (Over (Judged refusal))) alone few told text = tt
-  Counts-told (Err (fault.CycleLimit j e)) (Err Store) alone few told text = tt
-  Counts-told (Err (fault.CycleLimit j e)) (Err Memory) alone few told text = tt
-  Counts-told (Err fault.Store) result alone few is same = subst (λ (r : Result (String Global) Stop). CountsOn r (Ok (play_job target name l)) new steps) (sym is) tt
-  Counts-told (Err fault.Memory) result alone few is same = subst (λ (r : Result (String Global) Stop). CountsOn r (Ok (play_job target name l)) new steps) (sym is) tt
+  Counts-told (Ok p) (Ok line) keeps few told text =
+      let alone = done_alone l.script l.files p keeps.done in
+      (p.journal, set_holds old new name (Some (text_of p.journal)) text, few_alone l steps p.journal p.ends alone few)
+  Counts-told (Ok p) (Err (Refused refusal)) keeps few told text = tt
+  Counts-told (Ok p) (Err (Over over)) keeps few none text = absurd none
+  Counts-told (Ok p) (Err Store) keeps few told text = tt
+  Counts-told (Ok p) (Err Memory) keeps few told text = tt
+  Counts-told (Err (fault.CycleLimit j e)) (Ok line) keeps few none text = absurd none
+  Counts-told (Err (fault.CycleLimit j e)) (Err (Refused refusal)) keeps few told text = tt
+  Counts-told (Err (fault.CycleLimit j e)) (Err (Over (Limit n))) keeps few told text =
+      let alone = cut_alone l.script l.files j e keeps.limit in
+      (j, set_holds old new name (Some (text_of j)) text, few_alone l steps j e alone few)
+  Counts-told (Err (fault.CycleLimit j e)) (Err (Over (Judged refusal))) keeps few told text = tt
+  Counts-told (Err (fault.CycleLimit j e)) (Err Store) keeps few told text = tt
+  Counts-told (Err (fault.CycleLimit j e)) (Err Memory) keeps few told text = tt
+  Counts-told (Err fault.Store) result keeps few is same = subst (λ (r : Result (String Global) Stop). CountsOn r (Ok (play_job target name l)) new steps) (sym is) tt
+  Counts-told (Err fault.Memory) result keeps few is same = subst (λ (r : Result (String Global) Stop). CountsOn r (Ok (play_job target name l)) new steps) (sym is) tt
 
   module _ (log text : List ℕ) (room : ℕ) where
-    pub Counts-logged : (played : Result Played PlayFault) (result : Result (String Global) Stop) → HandedBack (IsToldAlone l.script l.files) played → HandedBack (TookFew l.script.frames steps) played
+    pub Counts-logged : (played : Result Played PlayFault) (result : Result (String Global) Stop) → KeepsPlay l.script l.files played → HandedBack (TookFew l.script.frames steps) played
         → Tells cycles played result → TellsTexts name log text played result old new → CountsOn result (Ok (trace_job target name log room l)) new steps
-    Counts-logged (Ok p) (Ok line) alone few told (mid, set, wrote) = (
+    Counts-logged (Ok p) (Ok line) keeps few told (mid, set, wrote) = (
       p.journal,
       (λ apart. other_stays mid new log name (Some text) apart wrote ∙ set_holds old mid name (Some (text_of p.journal)) set),
-      few_alone l steps p.journal p.ends alone few,
+      few_alone l steps p.journal p.ends (done_alone l.script l.files p keeps.done) few,
     )
-    Counts-logged (Ok p) (Err (Refused refusal)) alone few told texts = tt
-    Counts-logged (Ok p) (Err (Over over)) alone few none texts = absurd none
-    Counts-logged (Ok p) (Err Store) alone few told texts = tt
-    Counts-logged (Ok p) (Err Memory) alone few told texts = tt
-    Counts-logged (Err (fault.CycleLimit j e)) (Ok line) alone few none texts = absurd none
-    Counts-logged (Err (fault.CycleLimit j e)) (Err (Refused refusal)) alone few told texts = tt
-    Counts-logged (Err (fault.CycleLimit j e)) (Err (Over (Limit n))) alone few told texts = (j, (λ apart. set_holds old new name (Some (text_of j)) texts), few_alone l steps j e alone few)
-    Counts-logged (Err (fault.CycleLimit j e)) (Err (Over (Judged refusal))) alone few told texts = tt
-    Counts-logged (Err (fault.CycleLimit j e)) (Err Store) alone few told texts = tt
-    Counts-logged (Err (fault.CycleLimit j e)) (Err Memory) alone few told texts = tt
-    Counts-logged (Err fault.Store) result alone few is same = subst (λ (r : Result (String Global) Stop). CountsOn r (Ok (trace_job target name log room l)) new steps) (sym is) tt
-    Counts-logged (Err fault.Memory) result alone few is same = subst (λ (r : Result (String Global) Stop). CountsOn r (Ok (trace_job target name log room l)) new steps) (sym is) tt
-
--- what a handed back run tells is told alone
-pub alone_of : {P Q : JournalData → EndsState → Type 0} → ((j : JournalData) (e : EndsState) → P j e → Q j e) → (played : Result Played PlayFault) → HandedBack P played → HandedBack Q played
-alone_of f (Ok p) h = f p.journal p.ends h
-alone_of f (Err (fault.CycleLimit j e)) h = f j e h
-alone_of f (Err fault.Store) h = tt
-alone_of f (Err fault.Memory) h = tt
+    Counts-logged (Ok p) (Err (Refused refusal)) keeps few told texts = tt
+    Counts-logged (Ok p) (Err (Over over)) keeps few none texts = absurd none
+    Counts-logged (Ok p) (Err Store) keeps few told texts = tt
+    Counts-logged (Ok p) (Err Memory) keeps few told texts = tt
+    Counts-logged (Err (fault.CycleLimit j e)) (Ok line) keeps few none texts = absurd none
+    Counts-logged (Err (fault.CycleLimit j e)) (Err (Refused refusal)) keeps few told texts = tt
+    Counts-logged (Err (fault.CycleLimit j e)) (Err (Over (Limit n))) keeps few told texts =
+        let alone = cut_alone l.script l.files j e keeps.limit in
+        (j, (λ apart. set_holds old new name (Some (text_of j)) texts), few_alone l steps j e alone few)
+    Counts-logged (Err (fault.CycleLimit j e)) (Err (Over (Judged refusal))) keeps few told texts = tt
+    Counts-logged (Err (fault.CycleLimit j e)) (Err Store) keeps few told texts = tt
+    Counts-logged (Err (fault.CycleLimit j e)) (Err Memory) keeps few told texts = tt
+    Counts-logged (Err fault.Store) result keeps few is same = subst (λ (r : Result (String Global) Stop). CountsOn r (Ok (trace_job target name log room l)) new steps) (sym is) tt
+    Counts-logged (Err fault.Memory) result keeps few is same = subst (λ (r : Result (String Global) Stop). CountsOn r (Ok (trace_job target name log room l)) new steps) (sym is) tt
 
 -- ## Before anything was played
 

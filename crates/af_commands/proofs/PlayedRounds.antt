@@ -1,6 +1,6 @@
 -- A script that was played in rounds, its journal and its line.
 use Rattle.std.proofs.Common.{◌≡◌, ◌∙◌, ◌≤◌, ℕ, Bool, true, false, List, Some, Ok, Err, IfOk, Result, String, length, string_bytes, ap, arith, inl, inr, refl, subst, sym}
-use Rattle.af_commands.proofs.Common.{Ending, EndsState, Files, Global, HandsBackRun, HoldsAtMeetings, IsLegalJournal, IsOneReading, IsScript, JournalData, KeepsFiles, KeepsPlay, LeavesFront, LeavesRun, Limit, Memory, OfRounds, Over, PlayFault, Played, Refused, SameFiles, Session as Loaded, SetsFile, Stop, Store, Summary, entries_seen, files_are, journal_of, journal_pcm, limit_line, play_job, rounds_seen, run_of, summary_by, text_of, with_file}
+use Rattle.af_commands.proofs.Common.{Ending, EndsState, Files, Global, HandsBackRun, HoldsAtMeetings, IsLegalJournal, IsOneReading, IsScript, JournalData, KeepsFiles, KeepsPlay, LeavesFront, LeavesRun, Limit, Memory, OfRounds, Over, PlayFault, Played, Refused, SameFiles, Session as Loaded, SetsFile, Stop, Store, Summary, done_alone, entries_seen, files_are, journal_of, journal_pcm, limit_line, play_job, rounds_seen, run_of, summary_by, text_of, with_file}
 use Rattle.af_model.proofs.Basics.{same_rounds}
 use Rattle.af_journal.proofs.OneJournal.{read-back}
 use Rattle.af_playing.specs.declared.answering.PlayFault.TheVariants as fault
@@ -102,7 +102,7 @@ leaves_rounds l target old mid new left same = subst (λ (files : Files). Leaves
 
 module _ (l : Loaded) (accepted : IsScript l.script) (follows : OfRounds HoldsAtMeetings) (cycles : ℕ) where
   pub some_play_told : (played : Result Played PlayFault) (result : Result (String Global) Stop) → KeepsPlay l.script l.files played → Tells cycles played result → IfOk result (λ line. IsSomePlayLine (string_bytes line))
-  some_play_told (Ok p) (Ok line) keeps told = some_play_line l p.journal p.ends keeps.done.played (promises l accepted follows p keeps) p.summary (keeps.done.summary ∙ keeps.run.alone.summary) (string_bytes line) told
+  some_play_told (Ok p) (Ok line) keeps told = some_play_line l p.journal p.ends keeps.done.played (promises l accepted follows p keeps) p.summary (keeps.done.summary ∙ (done_alone l.script l.files p keeps.done).summary) (string_bytes line) told
   some_play_told (Err (fault.CycleLimit journal ends)) (Ok line) keeps none = absurd none
   some_play_told (Err fault.Store) (Ok line) keeps clash = let none : ⊥ = cc in absurd none
   some_play_told (Err fault.Memory) (Ok line) keeps clash = let none : ⊥ = cc in absurd none
@@ -111,7 +111,7 @@ module _ (l : Loaded) (accepted : IsScript l.script) (follows : OfRounds HoldsAt
   module _ (cycles_are : cycles ≡ l.script.cycles) (target name : List ℕ) (old mid new : Files) where
     pub Makes-told : (played : Result Played PlayFault) (result : Result (String Global) Stop) → KeepsPlay l.script l.files played → KeepsFiles l.script l.files target old mid played
         → Tells cycles played result → TellsText name played result mid new → Makes result (Ok (play_job target name l)) old new
-    Makes-told (Ok p) (Ok line) keeps kept told text = Makes-rounds l p.journal p.ends keeps.done.played (promises l accepted follows p keeps) p.summary (keeps.done.summary ∙ keeps.run.alone.summary) target name old mid new kept.written text line told
+    Makes-told (Ok p) (Ok line) keeps kept told text = Makes-rounds l p.journal p.ends keeps.done.played (promises l accepted follows p keeps) p.summary (keeps.done.summary ∙ (done_alone l.script l.files p keeps.done).summary) target name old mid new kept.written text line told
     Makes-told (Ok p) (Err (Refused refusal)) keeps kept none text = absurd none
     Makes-told (Ok p) (Err (Over over)) keeps kept none text = absurd none
     Makes-told (Ok p) (Err Store) keeps kept told text = inl (inr (inr (text_left true l p.journal p.ends keeps.done.played (promises l accepted follows p keeps) target name old mid kept.written new text)))

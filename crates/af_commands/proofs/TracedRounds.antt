@@ -1,6 +1,6 @@
 -- A script that was played in rounds with a log: its journal, its log and its line.
 use Rattle.std.proofs.Common.{◌≡◌, ◌∙◌, ◌⊎◌, ℕ, ◌≤◌, true, false, List, [], ◌∷◌, ◌++◌, Some, Ok, Err, Result, String, string_bytes, ap, inl, inr, refl, subst, sym}
-use Rattle.af_commands.proofs.Common.{AppendsLogOfPlay, Ending, EndsState, Files, Global, HandsBackRun, HoldsAtMeetings, IsScript, JournalData, KeepsFiles, KeepsPlay, LeavesFront, Limit, Memory, OfRounds, Over, PlayFault, Played, Refused, Session as Loaded, SetsFile, Stop, Store, Summary, files_are, journal_pcm, limit_line, run_of, summary_by, text_of, trace_job, with_file, with_files}
+use Rattle.af_commands.proofs.Common.{AppendsLogOfPlay, Ending, EndsState, Files, Global, HandsBackRun, HoldsAtMeetings, IsScript, JournalData, KeepsFiles, KeepsPlay, LeavesFront, Limit, Memory, OfRounds, Over, PlayFault, Played, Refused, Session as Loaded, SetsFile, Stop, Store, Summary, done_alone, files_are, journal_pcm, limit_line, run_of, summary_by, text_of, trace_job, with_file, with_files}
 use Rattle.af_nblog.specs.declared.entries.Note.{Note}
 use Rattle.af_nblog.specs.LogText.{log_text}
 use Rattle.af_playing.specs.declared.answering.PlayFault.TheVariants as fault
@@ -76,7 +76,7 @@ module _ (l : Loaded) (accepted : IsScript l.script) (follows : OfRounds HoldsAt
         → AppendsLogOfPlay l.script.frames room played empty grown
         → Tells cycles played result → TellsTexts name log held played result mid new → Makes result (Ok (trace_job target name log room l)) old new
     Makes-logged (Ok p) (Ok line) keeps kept logged line_is (next, text, wrote) =
-        Makes-traced l room p.journal p.ends keeps.done.played (promises l accepted follows p keeps) logged.0 logged.1 logged.2 logged.4 target name log old mid next kept.written text p.summary (keeps.done.summary ∙ keeps.run.alone.summary) new
+        Makes-traced l room p.journal p.ends keeps.done.played (promises l accepted follows p keeps) logged.0 logged.1 logged.2 logged.4 target name log old mid next kept.written text p.summary (keeps.done.summary ∙ (done_alone l.script l.files p keeps.done).summary) new
         (subst (λ (xs : List ℕ). SetsFile next log (Some xs) new) (appended held grown empty (log_text logged.0 logged.1) held_is logged.3 none) wrote) line line_is
     Makes-logged (Ok p) (Err (Refused refusal)) keeps kept logged wrong texts = absurd wrong
     Makes-logged (Ok p) (Err (Over over)) keeps kept logged wrong texts = absurd wrong

@@ -3,8 +3,8 @@ use Rattle.std.proofs.Common.{◌≡◌, ℕ, ◌+◌, ◌-◌, ◌<◌, ◌≤�
 use Rattle.af_enough_law.proofs.Common.{AllByRecursion, Case, CommandLook, GoesOn, IsServed, Known, Learnt, Life, NormalKept, Outside, Row, Setup, TrackKept, TrackSeen, Turn, after_look, after_looks, and_none, by_command, by_report, commands, either_false, ended, first_effect as effect_of, first_told, goes_on, heard, is_shut, learnt, must_wait, no_retries_left, nothing_seen, obeyed, ready, ready_life, reports, runs_dry, shows_command, told_by_report, track_at, track_in}
 use Rattle.af_life.specs.Obeys.{commanded}
 use Rattle.af_life.specs.Reports.{first_case_effect as life_by}
-use Rattle.af_enough_law.specs.Courses.{told_words}
-use Rattle.af_enough_law.specs.TrackTurns.{TrackTurned}
+use Rattle.af_enough_law.proofs.Courses.{told_words}
+use Rattle.af_enough_law.proofs.TrackTurns.{TrackTurned}
 use Rattle.af_enough_law.proofs.Following.{greeted_in, greeted_alike, legal_greeted}
 use Rattle.af_enough_law.proofs.Served.{track_turned}
 

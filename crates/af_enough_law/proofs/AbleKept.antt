@@ -2,15 +2,14 @@
 use Rattle.std.proofs.Common.{◌≡◌, ◌⊎◌, ℕ, ◌+◌, ◌^◌, ◌≤◌, ◌<◌, ◌&&◌, not, is_some, Bool, true, false, true≢false, All, None, length, refl, sym, ap, ◌∙◌, arith}
 use Rattle.af_enough_law.proofs.Common.{FastTrack, LegalRound, Life, Marks, NormalKept, RoundSeen, Run, Session, Setting, after_round, cycle_frames, is_home, is_lent, is_mixed_here, learnt, not_lent, plays, setting_of, setup_of, slot_of, spec_of, told_at, track_at, track_count, turn_after}
 use Rattle.af_enough_law.proofs.Basics.{stays_home}
-use Rattle.af_enough_law.specs.Carried.{SessionCarried}
-use Rattle.af_enough_law.specs.Courses.{Course, absent, idle, playing, stopping, drained, stopped as stopped_life, over, stage}
-use Rattle.af_enough_law.specs.Ends.{IsInOrder}
-use Rattle.af_enough_law.specs.Nearing.{buffer_of}
-use Rattle.af_enough_law.specs.NormalRounds.{TurnMade}
+use Rattle.af_enough_law.proofs.Carried.{SessionCarried}
+use Rattle.af_enough_law.proofs.Courses.{Course, absent, idle, playing, stopping, drained, stopped as stopped_life, over, stage}
+use Rattle.af_enough_law.proofs.Ends.{IsInOrder, order_turn}
+use Rattle.af_enough_law.proofs.NearWords.{buffer_of}
+use Rattle.af_enough_law.proofs.NormalRounds.{TurnMade}
 use Rattle.af_enough_law.proofs.CalmTracks.{CalmTurn}
 use Rattle.af_enough_law.proofs.Carrying.{lent_is}
 use Rattle.af_enough_law.proofs.CommandsGo.{commands_of, opens_after}
-use Rattle.af_enough_law.proofs.Ends.{order_turn}
 use Rattle.af_enough_law.proofs.HomeKept.{HomeAble, home_able}
 use Rattle.af_enough_law.proofs.HomeSees.{home_sees}
 use Rattle.af_enough_law.proofs.HomeStill.{HasNone}

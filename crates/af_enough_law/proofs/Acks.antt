@@ -5,15 +5,20 @@ use Rattle.af_enough_law.proofs.Basics.{before_normal}
 use Rattle.af_model.specs.declared.states.MutatorEvent.TheVariants as mutator
 use Rattle.af_model.specs.declared.states.ObserverEvent.TheVariants as observer
 use Rattle.af_model.specs.StateQueue as queued
-use Rattle.af_enough_law.specs.Acks.{KnowsAcked}
-use Rattle.af_enough_law.specs.Drafts.{is_busy}
-use Rattle.af_enough_law.specs.NormalRounds.{TurnMade}
+use Rattle.af_enough_law.proofs.Drafts.{is_busy, after_pushes}
+use Rattle.af_enough_law.proofs.NormalRounds.{TurnMade}
 use Rattle.af_enough_law.specs.Seen.{Stands}
-use Rattle.af_enough_law.proofs.Drafts.{after_pushes}
 use Rattle.af_enough_law.proofs.FastPolls.{turn_met}
 use Rattle.af_enough_law.proofs.FastShows.{stands-more}
 use Rattle.af_enough_law.proofs.FastSteps.{cycle_queue, observed-ones, mutated-more, mutated-ones}
 use Rattle.af_enough_law.proofs.SeenShared.{ack_seen}
+
+-- at a meeting the normal mixer learnt of so many events of the fast mixer's end, by which the last state pushed was acknowledged
+pub record KnowsAcked (run : Run) : Type 0 where
+  pub count : ℕ
+  pub learnt : Stands (mutator.Learn count) (ones run.queue)
+  pub within : count ≤ length (twos run.queue)
+  pub acked : run.normal.pushed ≤ (observed (take count (twos run.queue))).acked
 
 -- ## Acknowledgements rise
 

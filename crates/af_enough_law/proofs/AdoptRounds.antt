@@ -1,30 +1,27 @@
 -- The round in which the fast mixer comes to have a proxy at the latest: the last state pushed before it plays the track, which stays lent. The proxy takes part in its meeting, and from there on it is carried as one that flows.
-use Rattle.std.proofs.Common.{◌≡◌, ◌⊎◌, inl, inr, ℕ, ◌≤◌, ◌<◌, ◌==◌, unwrap_or, is_some, if◌then◌else◌, Bool, true, false, true≢false, All, Option, Some, List, [], ◌++◌, length, length-append, refl, sym, ap, ◌∙◌, subst, arith, eqb-true}
-use Rattle.af_enough_law.proofs.Common.{FastState, FastTrack, Heard, Learnt, LegalRound, Lent, Marks, NormalKept, RoundSeen, Run, Session, Setting, SlotReport, TrackKept, after_round, after_turn, before_turn, client_list, counts_in, cycle_frames, ends_part, grown, heard_at_home, heard_by, heard_elsewhere, heard_with, observer_holds, is_home, learnt, load_of, met_after, number_of, or_right, report_at, report_of, server_list, setup_of, slot_reported, state_beyond, state_more, state_of, takes_part, told_at, track_at, track_count, turn_after, with_calls, with_cycles, within_or_beyond}
+use Rattle.std.proofs.Common.{◌≡◌, inl, ℕ, ◌≤◌, ◌<◌, ◌==◌, is_some, if◌then◌else◌, Bool, true, false, All, Some, [], length, refl, sym, ap, ◌∙◌, subst, arith, eqb-true}
+use Rattle.af_enough_law.proofs.Common.{FastState, FastTrack, Heard, Learnt, LegalRound, Lent, Marks, NormalKept, RoundSeen, Run, Session, Setting, SlotReport, TrackKept, after_round, after_turn, before_turn, client_list, counts_in, ends_part, grown, heard_at_home, heard_by, heard_elsewhere, heard_with, observer_holds, is_home, learnt, load_of, met_after, number_of, or_right, report_at, report_of, server_list, setup_of, slot_reported, state_of, takes_part, told_at, track_at, track_count, turn_after, with_calls, with_cycles}
 use Rattle.af_enough_law.proofs.Basics.{state_there}
-use Rattle.af_enough_law.specs.Carried.{SessionCarried}
-use Rattle.af_enough_law.specs.Drafts.{is_busy}
-use Rattle.af_enough_law.specs.FastFlows.{Plays, AllStates, slot_told}
-use Rattle.af_enough_law.specs.NormalRounds.{TurnMade}
+use Rattle.af_enough_law.proofs.Carried.{SessionCarried}
+use Rattle.af_enough_law.proofs.FastWords.{Plays, AllStates, slot_told}
+use Rattle.af_enough_law.proofs.NormalRounds.{TurnMade}
 use Rattle.af_enough_law.proofs.AwayKeeps.{StaysOpen, away_turn}
 use Rattle.af_enough_law.proofs.AwayRounds.{AwayTurn}
-use Rattle.af_enough_law.proofs.Commanding.{le_cases}
 use Rattle.af_enough_law.proofs.EntryCounts.{found_within, round_high}
 use Rattle.af_enough_law.proofs.FastKnows.{knows_released}
-use Rattle.af_enough_law.proofs.FastPolls.{round_states, turn_more}
 use Rattle.af_enough_law.proofs.FastReports.{plays_reported}
 use Rattle.af_enough_law.proofs.Following.{greeted_in, greeted_alike}
 use Rattle.af_enough_law.proofs.Foreseen.{Foreseen, part_seen}
 use Rattle.af_enough_law.proofs.Generations.{Attached, greeted_lent, greeted_same}
 use Rattle.af_enough_law.proofs.HomeRounds.{IsNamed}
-use Rattle.af_enough_law.proofs.LastStates.{round_last}
-use Rattle.af_enough_law.proofs.Lending.{IsLending, WasOpen, lent_still, busy_same, free_plays}
-use Rattle.af_enough_law.proofs.LentRounds.{LentCarried, holds_by, state_last, draft_item}
+use Rattle.af_enough_law.proofs.StatesHold.{beyond_draft, last_holds, some_after, states_hold}
+use Rattle.af_enough_law.proofs.Lending.{IsLending, WasOpen, lent_still, lending_draft}
+use Rattle.af_enough_law.proofs.LentRounds.{LentCarried, holds_by, draft_item}
 use Rattle.af_enough_law.proofs.LentTurns.{turn_leaves}
 use Rattle.af_enough_law.proofs.MeetReports.{SaysOpenOf, NamesTrack}
 use Rattle.af_enough_law.proofs.MeetRounds.{Meeting, meets_open}
 use Rattle.af_enough_law.proofs.QueueRounds.{acks_states}
-use Rattle.af_enough_law.proofs.SessionRounds.{turn_of, turn_runs, states_few}
+use Rattle.af_enough_law.proofs.SessionRounds.{turn_of, turn_runs}
 use Rattle.af_enough_law.proofs.StreamCalm.{IsQuiet}
 use Rattle.af_enough_law.proofs.TrackGoes.{CalmStream}
 use Rattle.af_enough_law.proofs.FastFound.{plays_item}
@@ -67,50 +64,23 @@ module _ (s : Session) (marks : Marks) (scales : All (λ (x : Setting). x.scale 
   pub still_lending : IsLending s after i slot item
   still_lending = lent_still s marks scales long run round legal c.stands i named slot item l stays
 
+  abbrev draft_plays : Plays slot item (turn_after (setup_of s) (learnt t.by.outside) run.normal t.turn).draft
+  draft_plays = subst (λ (m : NormalKept). Plays slot item m.draft) t.after (lending_draft s marks scales long run round legal c.stands i named slot item still_lending)
+
   -- the last state pushed goes on to play the track
   pub last_then : Plays slot item after.normal.last
-  last_then = by (is_busy t.turn.push) refl
-    where
-      by : (b : Bool) → is_busy t.turn.push ≡ b → Plays slot item after.normal.last
-      by true busy = subst (Plays slot item) (sym (busy_same s marks scales long run round legal c.stands i named busy).1) last
-      by false free = (free_plays s marks scales long run round legal c.stands i named slot item still_lending free).1
+  last_then = last_holds s marks scales long run round legal c (Plays slot item) some last draft_plays
 
   some_then : 1 ≤ length after.states
-  some_then =
-      let whole = ap length (round_states s run round ∙ (turn_more s run round).whole) in
-      let both = length-append run.states (turn_more s run round).more in omega (arith, whole, both, some)
-
-  first : state_of run.states (length run.states) ≡ Some run.normal.last
-  first = state_last run.states (cycle_frames s) run.normal.last some c.stands.last
-
-  some_is : (x y : FastState) → Some x ≡ Some y → x ≡ y
-  some_is x y e = ap (λ (o : Option FastState). unwrap_or o x) e
+  some_then = some_after s marks scales long run round legal c (Plays slot item) some last draft_plays
 
   -- a state that the turn pushes plays the track
   pub pushed_plays : (k : ℕ) (x : FastState) → length run.states < k → state_of after.states k ≡ Some x → Plays slot item x
-  pushed_plays k x above is = by (within_or_beyond k (length after.states))
-    where
-      by : (k ≤ length after.states) ⊎ (length after.states < k) → Plays slot item x
-      by (inr far) = absurd (true≢false (sym (ap is_some is) ∙ ap is_some (state_beyond after.states k far)))
-      by (inl high) =
-          let count = states_few s marks scales long run round legal c.stands in
-          let at : k ≡ length after.states = omega (arith, above, high, count) in
-          let final = state_last after.states (cycle_frames s) after.normal.last some_then (round_last s marks run round legal c.stands.last) in
-          subst (Plays slot item) (some_is after.normal.last x (sym final ∙ ap (λ (n : ℕ). state_of after.states n) (sym at) ∙ is)) last_then
+  pushed_plays k x above is = subst (Plays slot item) (sym (beyond_draft s marks scales long run round legal c.stands k x above is)) (lending_draft s marks scales long run round legal c.stands i named slot item still_lending)
 
   -- all states that the round may use play the track
   pub states_play : AllStates run after (Plays slot item)
-  states_play = (some, λ k x high is. by k x is (le_cases (length run.states) k high))
-    where
-      whole : after.states ≡ run.states ++ (turn_more s run round).more
-      whole = round_states s run round ∙ (turn_more s run round).whole
-
-      by : (k : ℕ) (x : FastState) → state_of after.states k ≡ Some x → (k ≡ length run.states) ⊎ (length run.states < k) → Plays slot item x
-      by k x is (inl same) =
-          let at : state_of after.states k ≡ Some run.normal.last =
-          ap (λ (xs : List FastState). state_of xs k) whole ∙ ap (λ (n : ℕ). state_of (run.states ++ (turn_more s run round).more) n) same ∙ state_more run.states (turn_more s run round).more (length run.states) (omega arith) ∙ first in
-          subst (Plays slot item) (some_is run.normal.last x (sym at ∙ is)) last
-      by k x is (inr above) = pushed_plays k x above is
+  states_play = states_hold s marks scales long run round legal c (Plays slot item) some last draft_plays
 
   track_is : item.track ≡ i
   track_is = ap (λ (x : FastTrack). x.track) l.item_is

@@ -1,7 +1,7 @@
 -- After a round whose last entry uses a state that plays a track the report tells of its slot.
 use Rattle.std.proofs.Common.{◌≡◌, ℕ, ◌≤◌, ◌<◌, Some, List, [], ◌∷◌, length, sym, ap, ◌∙◌, arith}
 use Rattle.af_enough_law.proofs.Common.{EntrySeen, FastState, FastTrack, RoundSeen, Run, Session, after_round, after_turn, all_played, before_turn, found_in, known_of, last_used, last_used-push, late_of, listed, met_after, server_list, slots, state_of, told_at, with_cycle, with_cycles}
-use Rattle.af_enough_law.specs.FastFlows.{Plays, LastCarries, IsTold}
+use Rattle.af_enough_law.proofs.FastWords.{Plays, LastCarries, IsTold}
 use Rattle.af_enough_law.proofs.FastFound.{cycle_current}
 use Rattle.af_enough_law.proofs.FastMixes.{Uses}
 use Rattle.af_enough_law.proofs.FastReports.{entry_told, turned_same, loaded_same, met_same, ends_same, same_both, last_same, told_same, known_same, known_quiet}

@@ -6,7 +6,7 @@ use Rattle.af_script.specs.declared.op.Op.TheVariants as op
 use Rattle.af_runs.specs.declared.want.ClientCommand.TheVariants as command
 use Rattle.af_runs.specs.declared.want.Mode.TheVariants as mode
 use Rattle.af_runs.specs.declared.want.Want.TheVariants as want
-use Rattle.af_enough_law.specs.Playing.{IsWay, Doing, opening, starting, settling, setting, writing, clearing, clearing_more, stopping, draining, removing, way_ops, way_frames, IsFair, AreFair, position, SeesFrom, AllSeeFrom}
+use Rattle.af_enough_law.proofs.Playing.{IsWay, Doing, opening, starting, settling, setting, writing, clearing, clearing_more, stopping, draining, removing, way_ops, way_frames, IsFair, AreFair, position, SeesFrom, AllSeeFrom}
 use Rattle.af_enough_law.proofs.Doing.{at, codes_of, next_op, put_of, sent_of, sent_is, write_is, clear_is, put_least}
 use Rattle.af_enough_law.proofs.Turning.{words_of, words_append, codes_append, spoken_after, position_after, shape_after, wanted_first, client_after, none_some, Left, Came, still, call_made, turn_came}
 

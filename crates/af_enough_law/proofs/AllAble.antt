@@ -1,9 +1,9 @@
 -- The middle keeps what makes all tracks have two retries.
 use Rattle.std.proofs.Common.{◌≡◌, ◌⊎◌, inl, inr, ℕ, zero, suc, ◌+◌, ◌^◌, ◌≤◌, ◌<◌, if◌then◌else◌, is_some, Bool, true, false, true≢false, All, Option, Some, None, List, length, refl, sym, ap, ◌∙◌, subst, arith}
 use Rattle.af_enough_law.proofs.Common.{All-get_or, Frame, IsScript, IsTrack, LegalRound, Life, Marks, RoundSeen, Run, ScriptData, Session, Setting, after_round, by_report, heard, learnt, length-map, no_spec, same_slot, scales_of, session_of, setup_of, spec_of, spec_setting, told_at, track_at, track_count}
-use Rattle.af_enough_law.specs.Courses.{course, told_words}
-use Rattle.af_enough_law.specs.Nearing.{buffer_of}
-use Rattle.af_enough_law.specs.NormalRounds.{TurnMade}
+use Rattle.af_enough_law.proofs.Courses.{course, told_words}
+use Rattle.af_enough_law.proofs.NearWords.{buffer_of}
+use Rattle.af_enough_law.proofs.NormalRounds.{TurnMade}
 use Rattle.af_enough_law.proofs.AbleKept.{home_goes, lent_goes}
 use Rattle.af_enough_law.proofs.Carrying.{TrackIs, slotless, lent, stopped, gone_over, track_on}
 use Rattle.af_enough_law.proofs.CourseGoes.{CourseGone}

@@ -1,7 +1,7 @@
 -- Once both mixers have ended, all clients have.
 use Rattle.std.proofs.Common.{◌≡◌, ℕ, zero, suc, ◌+◌, ◌<◌, ◌≤◌, ◌==◌, ◌&&◌, nat_lt, if◌then◌else◌, Bool, true, false, List, [], ◌∷◌, length, refl, sym, ap, ◌∙◌, arith}
 use Rattle.af_enough_law.proofs.Common.{NormalKept, RoundSeen, Run, Session, TrackTold, after_round, all_ended, each_track, ends, ends_same, fast_ended, fast_party, has_ended, list_all, met_after, nat_tests, normal_party, range_with_len, run_from, told_at, told_each, track_count, with_ends}
-use Rattle.af_enough_law.specs.EndPhases.{BothEnded}
+use Rattle.af_enough_law.proofs.EndWords.{BothEnded}
 use Rattle.af_enough_law.proofs.RunTracks.{ends_long, round_long}
 
 -- ## The parties

@@ -5,7 +5,7 @@ use Rattle.af_base.specs.declared.event.ClientCall.TheVariants as call
 use Rattle.af_runs.specs.Clients.{command_code}
 use Rattle.af_runs.specs.declared.want.ClientCommand.TheVariants as command
 use Rattle.af_runs.specs.declared.want.Want.TheVariants as want
-use Rattle.af_enough_law.specs.Playing.{AreFair}
+use Rattle.af_enough_law.proofs.Playing.{AreFair}
 use Rattle.af_enough_law.proofs.Doing.{sent_of}
 use Rattle.af_enough_law.proofs.Flushless.{IsFlushlessTrack, call_flushless, unflushed_none}
 use Rattle.af_enough_law.proofs.Turning.{words_of, words_append, spoken_after}

@@ -1,9 +1,9 @@
 -- A round in whose meeting a proxy may take no part is calm by what is known of a later history, whatever its client is answered.
 use Rattle.std.proofs.Common.{◌≡◌, ℕ, ◌≤◌, ◌<◌, Bool, true, false, Option, unwrap_or, length, sym, ap, ◌∙◌, subst, arith}
 use Rattle.af_enough_law.proofs.Common.{BlockTold, IsSpelled, LegalRound, Marks, RoundSeen, Run, Session, Shape, TrackTold, Turn, after_round, client_list, flushes_of, heard, is_tame, learnt, met_after, server_list, told_at, track_at, track_in}
-use Rattle.af_enough_law.specs.Courses.{none_shut}
-use Rattle.af_enough_law.specs.FastFlows.{IsOpen}
-use Rattle.af_enough_law.specs.NormalRounds.{TurnMade}
+use Rattle.af_enough_law.proofs.Courses.{none_shut}
+use Rattle.af_enough_law.proofs.FastWords.{IsOpen}
+use Rattle.af_enough_law.proofs.NormalRounds.{TurnMade}
 use Rattle.af_enough_law.proofs.AwayRounds.{AwayTurn}
 use Rattle.af_enough_law.proofs.CommandRounds.{commands_told, commands_open}
 use Rattle.af_enough_law.proofs.Flushless.{unflushed_none}

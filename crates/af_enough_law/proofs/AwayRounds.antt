@@ -4,9 +4,10 @@ use Rattle.af_enough_law.proofs.Common.{ClientEvent, HasBlockHistory, LegalRound
 use Rattle.af_base.specs.declared.event.ClientEvent.TheVariants as client
 use Rattle.af_base.specs.declared.event.ServerEvent.TheVariants as server
 use Rattle.af_enough_law.proofs.Basics.{taken-append}
-use Rattle.af_enough_law.specs.NormalRounds.{TurnMade}
-use Rattle.af_enough_law.specs.Playing.{AreFair}
-use Rattle.af_enough_law.specs.Seen.{are_hands_calm, frames_taken}
+use Rattle.af_enough_law.proofs.NormalRounds.{TurnMade}
+use Rattle.af_enough_law.proofs.Playing.{AreFair}
+use Rattle.af_enough_law.specs.Seen.{frames_taken}
+use Rattle.af_enough_law.proofs.Calm.{are_hands_calm}
 use Rattle.af_enough_law.proofs.Able.{able_any}
 use Rattle.af_enough_law.proofs.Argued.{AreArgued}
 use Rattle.af_enough_law.proofs.CalmTracks.{CalmTrack, stream_lists}
@@ -247,10 +248,10 @@ pub record AwayBack (after : Run) (i most total told : ℕ) : Type 0 where
   pub carried : TrackCarried after i most total
   pub told_on : told ≤ carried.on.told
 
--- what its client said before a round in which its proxy takes part stands in a calm history
-pub away_before : (cut : Bool) (s : Session) (marks : Marks) (i : ℕ) (first : Run) (rounds : List RoundSeen) (most total : ℕ) → AwayRounds cut s marks i first rounds → (c : TrackCarried first i most total)
-    → (let run = run_from s first rounds in (round : RoundSeen) → LegalRound cut s marks run round → (t : TurnMade s marks run round) → AwayTurn s marks run round i t → takes_part s (met_after s run round) i ≡ true → CalmStream (told_at first i).stream.shape (client_list (told_at run i).stream) c.known_stream)
-away_before cut s marks i first rounds most total away c round legal t turn part =
+-- the list that its client has after a round in which its proxy takes part stands in a calm history
+calm_back : (cut : Bool) (s : Session) (marks : Marks) (i : ℕ) (first : Run) (rounds : List RoundSeen) (most total : ℕ) → AwayRounds cut s marks i first rounds → (c : TrackCarried first i most total)
+    → (let run = run_from s first rounds in (round : RoundSeen) → LegalRound cut s marks run round → (t : TurnMade s marks run round) → AwayTurn s marks run round i t → takes_part s (met_after s run round) i ≡ true → IsCalm (told_at first i).stream.shape (client_list (told_at (after_round s run round) i).stream) c.known_stream)
+calm_back cut s marks i first rounds most total away c round legal t turn part =
     let run : Run = run_from s first rounds in
     let after : Run = after_round s run round in
     let u = told_at after i in
@@ -274,14 +275,15 @@ away_before cut s marks i first rounds most total away c round legal t turn part
       later = c.calm.stream_later ++ grows.more;
       knows = grows.server ∙ ap (λ (es : List ServerEvent). es ++ grows.more) c.calm.stream_knows ∙ append_assoc c.known_stream c.calm.stream_later grows.more;
     } in
+    subst (λ (x : Shape). IsCalm x (client_list u.stream) c.known_stream) grows.shape calm
+
+-- what its client said before such a round does too
+pub away_before : (cut : Bool) (s : Session) (marks : Marks) (i : ℕ) (first : Run) (rounds : List RoundSeen) (most total : ℕ) → AwayRounds cut s marks i first rounds → (c : TrackCarried first i most total)
+    → (let run = run_from s first rounds in (round : RoundSeen) → LegalRound cut s marks run round → (t : TurnMade s marks run round) → AwayTurn s marks run round i t → takes_part s (met_after s run round) i ≡ true → CalmStream (told_at first i).stream.shape (client_list (told_at run i).stream) c.known_stream)
+away_before cut s marks i first rounds most total away c round legal t turn part =
+    let run : Run = run_from s first rounds in
     let said = said_on s run round i turn.turn.low in
-    let before : CalmStream (told_at first i).stream.shape (client_list (told_at run i).stream) c.known_stream = record {
-      list = client_list u.stream;
-      tail = said.0;
-      whole = said.1;
-      calm = subst (λ (x : Shape). IsCalm x (client_list u.stream) c.known_stream) grows.shape calm;
-    } in
-    before
+    record { list = client_list (told_at (after_round s run round) i).stream; tail = said.0; whole = said.1; calm = calm_back cut s marks i first rounds most total away c round legal t turn part }
 
 -- Over rounds in whose meetings its proxy may take no part, up to one in which it does, all that is carried of a track is carried on
 pub away_back : (cut : Bool) (s : Session) (marks : Marks) (i : ℕ) (first : Run) (rounds : List RoundSeen) (most total : ℕ) → AwayRounds cut s marks i first rounds → (c : TrackCarried first i most total)
@@ -293,39 +295,14 @@ away_back cut s marks i first rounds most total away c round legal t turn part =
     let k : Shape = (told_at first i).stream.shape in
     let begins = away_of first i most total c in
     let r = away_remains cut s marks i rounds first first away (remains_first first i most total c) in
-    let keeps : KeepsTo after i = keeps_to cut s marks run round t i turn.turn.low turn.turn.named legal r.keeps in
-    let grown = round_grows s run round i turn.turn.low in
-    let grows : Grows (told_at first i).stream u.stream = grows_on r.grows grown in
-    let hands = away_hands cut s marks run round i t legal turn r.hands in
-    let same : u.stream ≡ (told_at (met_after s run round) i).stream = (round_blocks s run round i turn.turn.low).0 in
-    let history : HasBlockHistory u.stream = subst HasBlockHistory (sym same) ((legal.histories.blocks i turn.turn.named).stream part (ap is_tame (sym same) ∙ keeps.pokeless.stream)) in
-    let calm : IsCalm u.stream.shape (client_list u.stream) c.known_stream = record {
-      released = u.stream.released;
-      server = server_list u.stream;
-      taken = u.stream.taken;
-      hands = hand_list u.stream;
-      history = history;
-      spelled = keeps.spelled.stream;
-      calm = turn.quiet.calm;
-      calm_hands = hands;
-      few = keeps.few;
-      later = c.calm.stream_later ++ grows.more;
-      knows = grows.server ∙ ap (λ (es : List ServerEvent). es ++ grows.more) c.calm.stream_knows ∙ append_assoc c.known_stream c.calm.stream_later grows.more;
-    } in
-    let said = said_on s run round i turn.turn.low in
-    let before : CalmStream k (client_list (told_at run i).stream) c.known_stream = record {
-      list = client_list u.stream;
-      tail = said.0;
-      whole = said.1;
-      calm = subst (λ (x : Shape). IsCalm x (client_list u.stream) c.known_stream) grows.shape calm;
-    } in
+    let before = away_before cut s marks i first rounds most total away c round legal t turn part in
     let came = away_carried cut s marks i rounds first most total away begins k refl before in
     let spoke = said_then s run round i turn.turn.low in
     let now : CalmStream (told_at run i).stream.shape (said_by run round i) came.carried.known_stream = subst (CalmStream (told_at run i).stream.shape (said_by run round i)) (sym came.same) (record {
       list = client_list u.stream;
       tail = spoke.0;
       whole = spoke.1;
-      calm = subst (λ (x : Shape). IsCalm x (client_list u.stream) c.known_stream) grown.shape calm;
+      calm = subst (λ (x : Shape). IsCalm x (client_list u.stream) c.known_stream) (sym r.grows.shape) (calm_back cut s marks i first rounds most total away c round legal t turn part);
     }) in
     let gone = away_gone cut s marks run round i t legal turn most total came.carried now in
     let fresh = renewed s run round i most total turn.turn.low part gone.carried in

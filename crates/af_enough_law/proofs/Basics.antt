@@ -1,14 +1,14 @@
 -- Basic lemmas that several files here, and of the crates above, cite.
-use Rattle.std.proofs.Common.{Bool, List, Option, Some, [], ap, arith, eq-eqb, false, if◌then◌else◌, is_some, length, min, nat_lt, not, refl, suc, sym, true, true≢false, unwrap_or, zero, ℕ, ◌&&◌, ◌*◌, ◌++◌, ◌+◌, ◌-◌, ◌<◌, ◌==◌, ◌||◌, ◌∙◌, ◌∷◌, ◌≡◌, ◌≤◌}
+use Rattle.std.proofs.Common.{Bool, List, Option, Some, [], ap, arith, eq-eqb, false, if◌then◌else◌, is_some, length, min, nat_lt, not, refl, suc, sym, true, true≢false, unwrap_or, zero, ℕ, ◌&&◌, ◌*◌, ◌++◌, ◌+◌, ◌<◌, ◌==◌, ◌||◌, ◌∙◌, ◌∷◌, ◌≡◌, ◌≤◌}
 use Rattle.af_enough_law.proofs.Common.{Busy, Clean, ClientEvent, Command, EntrySeen, FastState, HandEvent, Home, Learnt, Moment, NormalKept, Push, Pushed, RoundSeen, Run, ServerEvent, Session, Setup, Shape, TrackKept, TrackPoint, Turn, after, after_ack, after_client, after_hand, after_push, after_server, ahead, and_none, and_off, before_turn, by_client, by_hand, by_server, client_of, code_of, comes_home, draft_commanded as with_command, dropped_by, each_track, early_of, edited, edited_to, ends, flush_in, flushes-append, flushes_of, is_home, is_over, kept, lend, let_go, look_at, met, must_enter, must_leave, ordered, start, state_of, takes_part, told_at, track_at, welcomed, with_calls, with_cycle, with_cycles, with_ends, with_load, with_mix, with_poll}
 use Rattle.af_base.specs.declared.event.ClientEvent.TheVariants as client
 use Rattle.af_base.specs.declared.event.HandEvent.TheVariants as hand
 use Rattle.af_base.specs.declared.event.ServerEvent.TheVariants as server
 use Rattle.af_base.specs.declared.seen.Seen.TheVariants as seen
-use Rattle.af_enough_law.specs.Courses.{course}
-use Rattle.af_enough_law.specs.FastFlows.{asked_in}
+use Rattle.af_enough_law.proofs.Courses.{course}
+use Rattle.af_enough_law.proofs.FastWords.{asked_in}
 use Rattle.af_enough_law.specs.Seen.{frames_put, frames_taken}
-use Rattle.af_enough_law.specs.TrackTurns.{greeted}
+use Rattle.af_enough_law.proofs.TrackTurns.{greeted}
 
 pub ack_ended : (ack : Bool) (m : NormalKept) → (after_ack ack m).ended ≡ m.ended
 ack_ended true m = refl

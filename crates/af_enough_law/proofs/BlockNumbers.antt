@@ -3,8 +3,8 @@ use Rattle.std.proofs.Common.{◌≡◌, ℕ, ◌+◌, ◌≤◌, Bool, true, fa
 use Rattle.af_enough_law.proofs.Common.{ClientEvent, HasBlockHistory, LegalRound, Marks, RoundSeen, Run, ServerEvent, Session, Shape, TrackTold, after, after_round, calls_in, client_kept, client_list, drops_none, hand_list, in_turn, is_tame, room_kept, server_list, server_of, sides_of, start, told_at, track_in}
 use Rattle.af_base.specs.declared.event.ClientEvent.TheVariants as client
 use Rattle.af_enough_law.proofs.Basics.{put-append, taken-append}
-use Rattle.af_enough_law.specs.NormalRounds.{TurnMade}
-use Rattle.af_enough_law.specs.Playing.{position}
+use Rattle.af_enough_law.proofs.NormalRounds.{TurnMade}
+use Rattle.af_enough_law.proofs.Playing.{position}
 use Rattle.af_enough_law.specs.Seen.{frames_put, frames_taken}
 use Rattle.af_enough_law.proofs.CalmTracks.{CalmTrack, CalmTurn, stream_lists, stream_quiet, hands_calm, spelled_then, pokeless_then, flushless_then}
 use Rattle.af_enough_law.proofs.Fair.{position_is, calm_drops}

@@ -3,14 +3,14 @@ use Rattle.std.proofs.Common.{◌≡◌, inl, ℕ, ◌≤◌, ◌<◌, Bool, tru
 use Rattle.af_enough_law.proofs.Common.{All-get_or, AreCalls, AreSpelled, ClientCall, Frame, IsScript, IsTrack, LegalRound, Marks, RoundSeen, Run, ScriptData, ServerEvent, Session, Track, TrackTold, after_round, all_play_through, calls_in, client_list, hand_list, new_at, new_run, no_spec, server_list, session_of, sides_of, told_at, track_in}
 use Rattle.af_model.specs.ClientCalls as list
 use Rattle.af_runs.specs.Runs.{new_told_track}
-use Rattle.af_enough_law.specs.NormalRounds.{TurnMade}
-use Rattle.af_enough_law.specs.Playing.{AreFair}
-use Rattle.af_enough_law.specs.Seen.{are_calm, are_hands_calm, frames_put}
-use Rattle.af_enough_law.specs.FastFlows.{IsOpen}
+use Rattle.af_enough_law.proofs.NormalRounds.{TurnMade}
+use Rattle.af_enough_law.proofs.Playing.{AreFair}
+use Rattle.af_enough_law.specs.Seen.{frames_put}
+use Rattle.af_enough_law.proofs.Calm.{are_calm, are_hands_calm}
+use Rattle.af_enough_law.proofs.FastWords.{IsOpen}
 use Rattle.af_enough_law.proofs.CalmTracks.{CalmTrack, CalmTurn, calm_round, calm_then, known_stream_then, known_commands_then}
 use Rattle.af_enough_law.proofs.ClientRounds.{fair_round}
-use Rattle.af_enough_law.proofs.FlushlessRuns.{begins_flushless}
-use Rattle.af_enough_law.proofs.RunBegins.{begins_pokeless}
+use Rattle.af_enough_law.proofs.RunBegins.{begins_flushless, begins_pokeless}
 use Rattle.af_enough_law.proofs.StreamCalm.{IsQuiet}
 use Rattle.af_enough_law.proofs.Turning.{Stands, on, gone_for_good}
 

@@ -5,25 +5,25 @@ use Rattle.af_base.specs.declared.event.ClientEvent.TheVariants as client
 use Rattle.af_base.specs.declared.event.ServerEvent.TheVariants as server
 use Rattle.af_enough_law.proofs.Basics.{part_met, put-append, taken-append}
 use Rattle.af_model.specs.ClientCalls as list
-use Rattle.af_enough_law.specs.Courses.{none_shut}
-use Rattle.af_enough_law.specs.FastFlows.{IsOpen}
-use Rattle.af_enough_law.specs.NormalRounds.{TurnMade}
-use Rattle.af_enough_law.specs.Playing.{AreFair}
-use Rattle.af_enough_law.specs.Seen.{are_calm, are_hands_calm, frames_put, frames_taken}
+use Rattle.af_enough_law.proofs.Courses.{none_shut}
+use Rattle.af_enough_law.proofs.FastWords.{IsOpen}
+use Rattle.af_enough_law.proofs.NormalRounds.{TurnMade}
+use Rattle.af_enough_law.proofs.Playing.{AreFair}
+use Rattle.af_enough_law.specs.Seen.{frames_put, frames_taken}
+use Rattle.af_enough_law.proofs.Calm.{are_calm, are_hands_calm}
 use Rattle.af_enough_law.proofs.ClientRounds.{CalmRound}
 use Rattle.af_enough_law.proofs.CommandCalm.{commands_calm}
 use Rattle.af_enough_law.proofs.CommandRounds.{commands_told, commands_open}
 use Rattle.af_enough_law.proofs.FairTurns.{IsKnown, stream_grows, words_counted}
 use Rattle.af_enough_law.proofs.FastShows.{Setting}
-use Rattle.af_enough_law.proofs.Flushless.{IsFlushlessTrack, unflushed_none}
+use Rattle.af_enough_law.proofs.Flushless.{IsFlushlessTrack, unflushed_none, round_flushless}
 use Rattle.af_enough_law.proofs.Following.{greeted_in}
 use Rattle.af_enough_law.proofs.HandCalm.{round_hands}
-use Rattle.af_enough_law.proofs.Pokeless.{IsPokelessTrack}
+use Rattle.af_enough_law.proofs.Pokeless.{IsPokelessTrack, round_pokeless}
 use Rattle.af_enough_law.proofs.RoundCalm.{round_quiet}
-use Rattle.af_enough_law.proofs.RunFlushless.{round_flushless}
 use Rattle.af_enough_law.proofs.RunLists.{side_lists, command_lists}
 use Rattle.af_enough_law.proofs.RunStreams.{round_grows}
-use Rattle.af_enough_law.proofs.RunTame.{played_client_list, round_pokeless}
+use Rattle.af_enough_law.proofs.ClientLists.{played_client_list}
 use Rattle.af_enough_law.proofs.RunTracks.{commands_by, played_track, round_blocks, round_commands, met_track}
 use Rattle.af_enough_law.proofs.StreamCalm.{IsQuiet}
 

@@ -7,8 +7,8 @@ use Rattle.af_runs.specs.declared.want.ClientCommand.TheVariants as command
 use Rattle.af_runs.specs.declared.want.Mode.TheVariants as mode
 use Rattle.af_runs.specs.declared.want.Want.TheVariants as want
 use Rattle.af_runs.specs.Runs as runs
-use Rattle.af_enough_law.specs.Carried.{SessionStands}
-use Rattle.af_enough_law.specs.Courses.{absent, Follows}
+use Rattle.af_enough_law.proofs.Carried.{SessionStands}
+use Rattle.af_enough_law.proofs.Courses.{absent, Follows}
 use Rattle.af_enough_law.specs.Seen.{last_status, frames_taken}
 use Rattle.af_enough_law.proofs.Argued.{AreArgued}
 use Rattle.af_enough_law.proofs.CalmRuns.{begins_calm}
@@ -20,7 +20,7 @@ use Rattle.af_enough_law.proofs.Items.{items_new}
 use Rattle.af_enough_law.proofs.LastStates.{new_last}
 use Rattle.af_enough_law.proofs.QueueRounds.{new_stands}
 use Rattle.af_enough_law.proofs.RunBegins.{Plays, track_plays, first_doing}
-use Rattle.af_enough_law.specs.Playing.{position, way_ops, way_frames}
+use Rattle.af_enough_law.proofs.Playing.{position, way_ops, way_frames}
 use Rattle.af_enough_law.proofs.TrackCarried.{TrackCarried}
 use Rattle.af_enough_law.proofs.Turning.{on}
 

@@ -1,10 +1,10 @@
 -- A legal round after which the normal mixer goes on leaves the client of a track that plays through on its way.
-use Rattle.std.proofs.Common.{◌≡◌, ℕ, ◌&&◌, ◌||◌, ◌<◌, Bool, true, false, true≢false, List, [], ◌∷◌, ◌++◌, length, refl, sym, ap, ◌∙◌, arith, if◌then◌else◌, ◌==◌}
+use Rattle.std.proofs.Common.{◌≡◌, ℕ, ◌&&◌, ◌||◌, ◌<◌, Bool, true, false, true≢false, List, [], ◌∷◌, ◌++◌, length, refl, sym, ap, ◌∙◌, arith, if◌then◌else◌}
 use Rattle.af_enough_law.proofs.Common.{Client, ClientEvent, ClientKept, Learnt, Marks, NormalKept, RoundSeen, Run, Session, Setup, Shape, Track, TrackTold, Turn, after_ack, after_calls, after_edits, after_push, after_round, after_takes, after_tracks, begun, calls_in, client_begins, client_keeps, client_kept, each_track, edited_to, ends, fold-append, commands_exit, learnt, met_after, mutated, next_command, pipe_size, setup_of, sides_of, told_at, turn_after, with_ends}
 use Rattle.af_base.specs.declared.event.ClientEvent.TheVariants as client
 use Rattle.af_enough_law.proofs.Basics.{ack_ended, edits_ended, ordered_ended, push_ended}
-use Rattle.af_enough_law.specs.NormalRounds.{TurnMade}
-use Rattle.af_enough_law.specs.Playing.{position}
+use Rattle.af_enough_law.proofs.NormalRounds.{TurnMade}
+use Rattle.af_enough_law.proofs.Playing.{position}
 use Rattle.af_enough_law.proofs.RunTracks.{played_client, met_track}
 use Rattle.af_enough_law.proofs.Turning.{Stands, on, gone_for_good}
 

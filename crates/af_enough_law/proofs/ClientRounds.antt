@@ -3,14 +3,15 @@ use Rattle.std.proofs.Common.{◌≡◌, ℕ, suc, ◌+◌, ◌^◌, ◌≤◌, 
 use Rattle.af_enough_law.proofs.Common.{AreCalls, AreSpelled, BlockTold, Client, ClientEvent, HasBlockHistory, IsSpelled, LegalRound, Marks, Mode, Op, RoundSeen, Run, ServerEvent, Session, Shape, TrackTold, Want, after_call, after_round, all_played, begins_ended, begun, calls_in, client_list, hand_list, is_tame, met_after, server_list, shapes_called, sides_of, spelled_turn, stream_met, takes_part, told_at, track_count}
 use Rattle.af_base.specs.declared.event.ClientEvent.TheVariants as client
 use Rattle.af_model.specs.ClientCalls as list
-use Rattle.af_enough_law.specs.Seen.{are_calm, are_hands_calm, frames_put, frames_taken}
-use Rattle.af_enough_law.specs.Playing.{AreFair, AllSeeFrom}
+use Rattle.af_enough_law.specs.Seen.{frames_put, frames_taken}
+use Rattle.af_enough_law.proofs.Calm.{are_calm, are_hands_calm}
+use Rattle.af_enough_law.proofs.Playing.{AreFair, AllSeeFrom}
 use Rattle.af_enough_law.proofs.Advancing.{IsBlock, Progress, at_end, progress, rank}
 use Rattle.af_enough_law.proofs.Doing.{at}
 use Rattle.af_enough_law.proofs.FairTurns.{IsCalm, IsKnown, fair_turn, stream_grows}
-use Rattle.af_enough_law.proofs.Pokeless.{IsPokelessTrack}
+use Rattle.af_enough_law.proofs.Pokeless.{IsPokelessTrack, round_pokeless}
 use Rattle.af_enough_law.proofs.RunLists.{side_lists, command_lists, command_history}
-use Rattle.af_enough_law.proofs.RunTame.{played_client_list, round_pokeless}
+use Rattle.af_enough_law.proofs.ClientLists.{played_client_list}
 use Rattle.af_enough_law.proofs.RunTracks.{played_track, round_blocks, met_track}
 use Rattle.af_enough_law.proofs.Turning.{Left}
 

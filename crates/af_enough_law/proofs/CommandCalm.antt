@@ -5,10 +5,10 @@ use Rattle.af_base.specs.declared.event.ServerEvent.TheVariants as server
 use Rattle.af_base.specs.declared.seen.Seen.TheVariants as seen
 use Rattle.af_life.specs.declared.state.LifeState.{LifeState}
 use Rattle.af_life.specs.State.{life_code}
-use Rattle.af_enough_law.specs.Courses.{none_shut}
-use Rattle.af_enough_law.specs.NormalRounds.{TurnMade}
-use Rattle.af_enough_law.specs.Seen.{are_calm}
-use Rattle.af_enough_law.specs.TrackTurns.{TrackTurned}
+use Rattle.af_enough_law.proofs.Courses.{none_shut}
+use Rattle.af_enough_law.proofs.NormalRounds.{TurnMade}
+use Rattle.af_enough_law.proofs.Calm.{are_calm}
+use Rattle.af_enough_law.proofs.TrackTurns.{TrackTurned}
 use Rattle.af_enough_law.proofs.CommandRounds.{commands_told}
 use Rattle.af_enough_law.proofs.Following.{greeted_in, legal_greeted}
 use Rattle.af_enough_law.proofs.RoundCalm.{none_any}

@@ -3,42 +3,10 @@ use Rattle.std.proofs.Common.{◌≡◌, ℕ, zero, suc, ◌+◌, ◌-◌, ◌�
 use Rattle.af_enough_law.proofs.Common.{ClientEvent, CommandLook, LegalLooks, Listed, LooksBy, Seen, ServerEvent, ServerKept, Shape, ahead, ahead-between, all_command_events, as_slot, command_events, did, drops_none, drops_of, either_none, fold-append, is_not_below, is_noticed, is_shut, kept, look_at, look_events, outside, server_begins, server_keeps, server_kept, shows_command, takes_command, words_taken, wrapped}
 use Rattle.af_base.specs.declared.event.ServerEvent.TheVariants as server
 use Rattle.af_base.specs.declared.seen.Seen.TheVariants as seen
-use Rattle.af_enough_law.proofs.Basics.{old_word, put-append, taken-append}
-use Rattle.af_enough_law.specs.Courses.{none_shut, is_ended}
+use Rattle.af_enough_law.proofs.Basics.{old_word, taken-append}
+use Rattle.af_enough_law.proofs.Courses.{none_shut, is_ended}
 use Rattle.af_enough_law.specs.Seen.{Stands, frames_put, frames_taken}
-use Rattle.af_enough_law.proofs.FastShows.{Setting, setting_moment, Words, none-append, stands-more, put-front, open_words}
-
--- ## The words of a look
-
-pub words_at : (k : Shape) (cs : List ClientEvent) (all before : List ServerEvent) (flush rear front : ℕ) (behind : List ServerEvent) → Setting k cs all
-    → all ≡ before ++ server.SawFlush flush ∷ server.SawRear rear ∷ server.SawFront front ∷ behind → drops_none before ≡ true → Words k cs before flush rear front
-words_at k cs all before flush rear front behind h whole none =
-    let to_rear : List ServerEvent = server.SawFlush flush ∷ [] in
-    let to_front : List ServerEvent = server.SawFlush flush ∷ server.SawRear rear ∷ [] in
-    let m_flush = setting_moment k cs all before (server.SawFlush flush) (server.SawRear rear ∷ server.SawFront front ∷ behind) h whole none in
-    let m_rear = setting_moment k cs all (before ++ to_rear) (server.SawRear rear) (server.SawFront front ∷ behind) h
-    (whole ∙ sym (append_assoc before to_rear (server.SawRear rear ∷ server.SawFront front ∷ behind))) (none-append before to_rear none refl) in
-    let m_front = setting_moment k cs all (before ++ to_front) (server.SawFront front) behind h
-    (whole ∙ sym (append_assoc before to_front (server.SawFront front ∷ behind))) (none-append before to_front none refl) in
-    let at_rear : m_rear.at.consumed ≡ k.base + frames_taken before = m_rear.consumed ∙ (let a = taken-append before to_rear in omega arith) in
-    let at_front : m_front.at.consumed ≡ k.base + frames_taken before = m_front.consumed ∙ (let a = taken-append before to_front in omega arith) in
-    let put_all : frames_put cs ≡ frames_put m_rear.front + frames_put m_rear.rest = ap frames_put m_rear.whole ∙ put-append m_rear.front m_rear.rest in
-    record {
-      consumed = m_rear.at.consumed;
-      released = m_rear.at.released;
-      flush_is = m_flush.may ∙ m_flush.word;
-      kept_is = m_flush.kept_word;
-      front_is = m_front.may ∙ ap wrapped (at_front ∙ sym at_rear);
-      rear_is = m_rear.may;
-      low = m_rear.low;
-      high = m_rear.high;
-      is_taken = at_rear;
-      is_put = let r = m_rear.released in omega arith;
-      reaches = λ n s.
-          let few = m_rear.learnt n (stands-more (server.Learn n) before to_rear s) in
-          let less : frames_put (take n cs) ≤ frames_put m_rear.front = subst (λ (l : List ClientEvent). frames_put (take n l) ≤ frames_put m_rear.front) (sym m_rear.whole) (put-front n m_rear.front m_rear.rest few) in
-          let r = m_rear.released in omega arith;
-    }
+use Rattle.af_enough_law.proofs.FastShows.{Setting, Words, words_at, none-append, stands-more, open_words}
 
 -- ## The answer
 

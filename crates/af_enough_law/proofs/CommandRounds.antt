@@ -6,17 +6,32 @@ use Rattle.af_enough_law.proofs.CommandLooks.{server_of, LooksTaken}
 use Rattle.af_enough_law.proofs.CommandTurns.{looks_take, taken_all}
 use Rattle.af_base.specs.declared.event.ClientEvent.TheVariants as client
 use Rattle.af_base.specs.declared.event.ServerEvent.TheVariants as server
-use Rattle.af_enough_law.specs.CommandRounds.{CommandsTold, CommandsTaken}
-use Rattle.af_enough_law.specs.Courses.{none_shut}
-use Rattle.af_enough_law.specs.FastFlows.{KnowsReleased, IsOpen}
-use Rattle.af_enough_law.specs.NormalRounds.{TurnMade}
+use Rattle.af_enough_law.proofs.Courses.{none_shut, is_ended}
+use Rattle.af_enough_law.proofs.FastWords.{KnowsReleased, IsOpen}
+use Rattle.af_enough_law.proofs.NormalRounds.{TurnMade}
 use Rattle.af_enough_law.specs.Seen.{frames_put, frames_taken}
 use Rattle.af_enough_law.proofs.FastFlows.{Later}
-use Rattle.af_enough_law.proofs.FastRounds.{cycles_length, turned_length, loaded_told, loaded_tracks}
-use Rattle.af_enough_law.proofs.RunTracks.{calls_long as calls_length}
+use Rattle.af_enough_law.proofs.FastRounds.{loaded_told}
+use Rattle.af_enough_law.proofs.RunTracks.{calls_long as calls_length, cycles_long, loaded_tracks, turned_long, cycle_long}
 use Rattle.af_enough_law.proofs.FastShows.{Setting, none-append}
-use Rattle.af_enough_law.proofs.FastSteps.{server_does-server, server_does-client, client_does-client, client_does-server, cycle_length, cycle_track}
+use Rattle.af_enough_law.proofs.FastSteps.{server_does-server, server_does-client, client_does-client, client_does-server, cycle_track}
 use Rattle.af_enough_law.proofs.FastKnows.{meets_server, meets_client}
+
+-- the lists of the block: the client's calls, and what the turn adds to the server's list before the meeting
+pub record CommandsTold (s : Session) (run : Run) (round : RoundSeen) (e : Turn) (i : ℕ) (before after : BlockTold) : Type 0 where
+  pub shape : after.shape ≡ before.shape
+  pub calls : List ClientEvent
+  pub client : client_list after ≡ client_list before ++ calls
+  pub count : ℕ
+  pub server : (let c = setup_of s in let o = outside_of c (found_in s run round e) e in server_list after ≡ server_list before ++ (command_list c o e (tracks_at c (learnt o) run.normal e i) i ++ server.Learn count ∷ []))
+
+-- What a turn takes of the block: none of its looks finds it shut, the words of the commands are taken, and if the looks end with one that shows none, all but maybe one word of what was released before the round
+pub record CommandsTaken (e : Turn) (i : ℕ) (before after : BlockTold) : Type 0 where
+  pub open_is : none_shut (track_in e i).looks ≡ true
+  pub taken : frames_taken (server_list after) ≡ frames_taken (server_list before) + length (words_taken (track_in e i).looks)
+  pub reaches : is_ended (track_in e i).looks ≡ true → frames_put (client_list before) ≤ frames_taken (server_list after) + 1
+  pub is_open : IsOpen after
+  pub knows : KnowsReleased after
 
 abbrev commands_of : Run → ℕ → BlockTold
 commands_of run i = (told_at run i).commands
@@ -42,7 +57,7 @@ cycle_commands s run e i low = ap (λ (t : TrackTold). t.commands) (cycle_track 
 
 cycles_commands : (s : Session) (es : List EntrySeen) (run : Run) (i : ℕ) → i < length run.tracks → commands_of (with_cycles s es run) i ≡ commands_of run i
 cycles_commands s [] run i low = refl
-cycles_commands s (e ∷ es) run i low = let l = cycle_length s run e in cycles_commands s es (with_cycle s run e) i (omega arith) ∙ cycle_commands s run e i low
+cycles_commands s (e ∷ es) run i low = let l = cycle_long s run e in cycles_commands s es (with_cycle s run e) i (omega arith) ∙ cycle_commands s run e i low
 
 turn_commands : (s : Session) (f : TurnFound) (e : Turn) (run : Run) (i : ℕ) → i < length run.tracks → commands_of (with_turn s f e run) i ≡ commands_turned (setup_of s) (outside_of (setup_of s) f e) run.normal e i (commands_of run i)
 unfolding with_turn
@@ -110,8 +125,8 @@ module _ (s : Session) (marks : Marks) (run : Run) (round : RoundSeen) (t : Turn
   played_is : commands_of (all_played s run round) i ≡ commands_turned (setup_of s) o run.normal e i (commands_of (with_calls round run) i)
   played_is =
       let a = calls_length round run in
-      let b = cycles_length s (early_of run round) (with_calls round run) in
-      let c = turned_length s (found_in s run round) round.turn (before_turn s run round) in
+      let b = cycles_long s (early_of run round) (with_calls round run) in
+      let c = turned_long s (found_in s run round) round.turn (before_turn s run round) in
       ap (λ (x : TrackTold). x.commands) (loaded_told round.turn (with_cycles s (late_of run round) (after_turn s run round)) i)
       ∙ cycles_commands s (late_of run round) (after_turn s run round) i (omega (arith, a, b, c, low))
       ∙ ap (λ (x : Option Turn). commands_of (turned s (found_in s run round) x (before_turn s run round)) i) t.is
@@ -121,9 +136,9 @@ module _ (s : Session) (marks : Marks) (run : Run) (round : RoundSeen) (t : Turn
   after_is : after ≡ meets (commands_of (all_played s run round) i)
   after_is =
       let a = calls_length round run in
-      let b = cycles_length s (early_of run round) (with_calls round run) in
-      let c = turned_length s (found_in s run round) round.turn (before_turn s run round) in
-      let d = cycles_length s (late_of run round) (after_turn s run round) in
+      let b = cycles_long s (early_of run round) (with_calls round run) in
+      let c = turned_long s (found_in s run round) round.turn (before_turn s run round) in
+      let d = cycles_long s (late_of run round) (after_turn s run round) in
       let f = ap length (loaded_tracks round.turn (with_cycles s (late_of run round) (after_turn s run round))) in
       met_commands s (all_played s run round) i (omega (arith, a, b, c, d, f, low))
 

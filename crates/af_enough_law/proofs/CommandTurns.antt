@@ -2,10 +2,10 @@
 use Rattle.std.proofs.Common.{◌≡◌, ℕ, ◌+◌, ◌≤◌, ◌&&◌, if◌then◌else◌, Bool, true, false, true≢false, None, List, [], ◌∷◌, ◌++◌, length, take, fold, refl, sym, ap, ◌∙◌, subst, arith, append_assoc}
 use Rattle.af_enough_law.proofs.Common.{ClientEvent, CommandLook, HasWords, LegalLooks, Listed, LooksBy, ServerEvent, ServerKept, Shape, all_command_events, as_slot, command_events, did, drops_none, drops_of, front_by_answer, front_of, fronts_by, is_own_inside, kept, lawful_front, leaves_open, own_front, server_begins, server_keeps, server_kept, take-append-le, takes_command, wrapped}
 use Rattle.af_base.specs.declared.event.ServerEvent.TheVariants as server
-use Rattle.af_enough_law.specs.Courses.{is_ended}
+use Rattle.af_enough_law.proofs.Courses.{is_ended}
 use Rattle.af_enough_law.specs.Seen.{Stands, frames_put, frames_taken}
-use Rattle.af_enough_law.proofs.CommandLooks.{server_of, words_at, one_look, all_looks, LooksTaken, events_open}
-use Rattle.af_enough_law.proofs.FastShows.{Setting, Words}
+use Rattle.af_enough_law.proofs.CommandLooks.{server_of, one_look, all_looks, LooksTaken, events_open}
+use Rattle.af_enough_law.proofs.FastShows.{Setting, Words, words_at}
 
 -- what a server that drops nothing has consumed
 own_consumed : (k : Shape) (es : List ServerEvent) → drops_none es ≡ true → (s : ServerKept) → (fold (server_keeps k) s es).consumed ≡ s.consumed + frames_taken es

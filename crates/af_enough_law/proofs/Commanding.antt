@@ -1,5 +1,5 @@
 -- A turn of the normal mixer takes all commands that it knew of.
-use Rattle.std.proofs.Common.{◌≡◌, ◌⊎◌, inl, inr, ℕ, zero, suc, ◌+◌, ◌-◌, ◌*◌, ◌≤◌, ◌<◌, ◌==◌, ◌&&◌, [], ◌∷◌, ◌++◌, refl, ap, ◌∙◌, arith, true≢false, if◌then◌else◌}
+use Rattle.std.proofs.Common.{◌≡◌, ◌⊎◌, inl, inr, ℕ, zero, suc, ◌≤◌, ◌<◌, refl, ap, arith}
 
 pub le_cases : (a b : ℕ) → a ≤ b → (b ≡ a) ⊎ (a < b)
 le_cases zero zero h = inl refl

@@ -5,22 +5,22 @@ use Rattle.af_base.specs.declared.event.ClientEvent.TheVariants as client
 use Rattle.af_base.specs.declared.event.ServerEvent.TheVariants as server
 use Rattle.af_enough_law.proofs.Basics.{put-append}
 use Rattle.af_model.specs.ClientCalls as list
-use Rattle.af_enough_law.specs.Courses.{none_shut}
-use Rattle.af_enough_law.specs.FastFlows.{IsOpen}
-use Rattle.af_enough_law.specs.NormalRounds.{TurnMade}
-use Rattle.af_enough_law.specs.Playing.{AreFair}
-use Rattle.af_enough_law.specs.Seen.{are_calm, are_hands_calm, frames_put}
+use Rattle.af_enough_law.proofs.Courses.{none_shut}
+use Rattle.af_enough_law.proofs.FastWords.{IsOpen}
+use Rattle.af_enough_law.proofs.NormalRounds.{TurnMade}
+use Rattle.af_enough_law.proofs.Playing.{AreFair}
+use Rattle.af_enough_law.specs.Seen.{frames_put}
+use Rattle.af_enough_law.proofs.Calm.{are_calm, are_hands_calm}
 use Rattle.af_enough_law.proofs.CalmTracks.{CalmTrack, round_released, words_fold, command_list_of as added_commands}
 use Rattle.af_enough_law.proofs.CommandCalm.{commands_calm}
 use Rattle.af_enough_law.proofs.CommandRounds.{commands_told, commands_open, words_follow, words_begin}
 use Rattle.af_enough_law.proofs.FairTurns.{IsKnown, stream_grows}
-use Rattle.af_enough_law.proofs.Flushless.{IsFlushlessTrack, unflushed_none}
+use Rattle.af_enough_law.proofs.Flushless.{IsFlushlessTrack, unflushed_none, round_flushless}
 use Rattle.af_enough_law.proofs.Following.{greeted_in}
-use Rattle.af_enough_law.proofs.Pokeless.{IsPokelessTrack}
-use Rattle.af_enough_law.proofs.RunFlushless.{round_flushless}
+use Rattle.af_enough_law.proofs.Pokeless.{IsPokelessTrack, round_pokeless}
 use Rattle.af_enough_law.proofs.RunLists.{side_lists, command_lists}
 use Rattle.af_enough_law.proofs.RunStreams.{round_grows}
-use Rattle.af_enough_law.proofs.RunTame.{played_client_list, round_pokeless}
+use Rattle.af_enough_law.proofs.ClientLists.{played_client_list}
 use Rattle.af_enough_law.proofs.RunTracks.{played_track, round_blocks, met_track}
 
 -- ## What is carried of a command block

@@ -1,10 +1,10 @@
 -- A legal round leaves a track on the course that its client sends, whether its life has ended or not.
 use Rattle.std.proofs.Common.{◌≡◌, ◌⊎◌, inl, inr, ℕ, zero, suc, ◌+◌, ◌≤◌, ◌<◌, Bool, true, false, List, ◌++◌, length, take, refl, sym, ap, ◌∙◌, subst, arith}
 use Rattle.af_enough_law.proofs.Common.{BlockTold, GoesOn, Heard, IsServed, Learnt, LegalRound, Life, Marks, NormalKept, Outside, RoundSeen, Run, ServerEvent, Session, Setup, TrackKept, TrackSeen, Turn, after_part, after_round, by_report, heard, learnt, nothing_seen, ready, server_list, setup_of, sides_of, told_at, track_at, track_in, turn_after, words_taken}
-use Rattle.af_enough_law.specs.Courses.{none_shut, course, Course, Follows, told_words, life_after}
-use Rattle.af_enough_law.specs.NormalRounds.{TurnMade}
+use Rattle.af_enough_law.proofs.Courses.{none_shut, course, Course, Follows, told_words, life_after}
+use Rattle.af_enough_law.proofs.NormalRounds.{TurnMade}
 use Rattle.af_enough_law.specs.Seen.{last_status}
-use Rattle.af_enough_law.specs.TrackTurns.{attended, TrackTurned}
+use Rattle.af_enough_law.proofs.TrackTurns.{attended, TrackTurned}
 use Rattle.af_enough_law.proofs.Able.{words_keep, wet_any}
 use Rattle.af_enough_law.proofs.Argued.{AreArgued}
 use Rattle.af_enough_law.proofs.CommandsGo.{CalmCommands, OpenTurn, opens_after, words_after}

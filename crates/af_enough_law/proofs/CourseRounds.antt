@@ -2,9 +2,9 @@
 use Rattle.std.proofs.Common.{◌≡◌, ◌⊎◌, inl, inr, ℕ, ◌+◌, ◌*◌, ◌≤◌, ◌<◌, ◌&&◌, ◌||◌, Bool, true, false, None, List, length, ap, ◌∙◌, arith}
 use Rattle.af_enough_law.proofs.Common.{GoesOn, IsServed, Learnt, Life, Marks, NormalKept, Outside, RoundSeen, Run, Session, Setup, TrackKept, Turn, by_false, heard, commands_exit, learnt, most_looks, nothing_seen, ready, track_at, track_in, words_taken}
 use Rattle.af_enough_law.proofs.Basics.{course_long}
-use Rattle.af_enough_law.specs.Courses.{none_shut, is_ended, starts_at_once, course, Follows}
-use Rattle.af_enough_law.specs.NormalRounds.{TurnMade}
-use Rattle.af_enough_law.specs.TrackTurns.{TrackTurned}
+use Rattle.af_enough_law.proofs.Courses.{none_shut, is_ended, starts_at_once, course, Follows}
+use Rattle.af_enough_law.proofs.NormalRounds.{TurnMade}
+use Rattle.af_enough_law.proofs.TrackTurns.{TrackTurned}
 use Rattle.af_enough_law.proofs.Following.{greeted_in, greeted_alike, legal_greeted}
 use Rattle.af_enough_law.proofs.Coursing.{course_starts}
 use Rattle.af_enough_law.proofs.Served.{track_turned}

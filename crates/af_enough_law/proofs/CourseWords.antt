@@ -2,7 +2,7 @@
 use Rattle.std.proofs.Common.{◌≡◌, ℕ, zero, suc, ◌+◌, ◌-◌, ◌*◌, ◌≤◌, ◌==◌, if◌then◌else◌, ◌||◌, Bool, true, false, List, [], ◌∷◌, ◌++◌, length, length-append, get_or, take, refl, sym, ap, ◌∙◌, arith, eqb-true}
 use Rattle.af_enough_law.proofs.Common.{both_first, both_right, take-append_seam, take_most}
 use Rattle.af_enough_law.proofs.Basics.{course_long}
-use Rattle.af_enough_law.specs.Courses.{code_at, argument_at, course}
+use Rattle.af_enough_law.proofs.Courses.{code_at, argument_at, course}
 use Rattle.af_enough_law.proofs.Argued.{is_argued, all_argued}
 use Rattle.af_enough_law.proofs.Doing.{codes_of}
 use Rattle.af_enough_law.proofs.Turning.{words_of}

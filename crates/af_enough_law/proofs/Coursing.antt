@@ -1,8 +1,8 @@
 -- How a track that plays through lives.
 use Rattle.std.proofs.Common.{◌≡◌, ℕ, zero, suc, ◌+◌, ◌-◌, ◌<◌, ◌≤◌, ◌==◌, ◌&&◌, ◌||◌, not, nat_le, nat_lt, Bool, true, false, min, refl, sym, ap, ◌∙◌, subst, arith, true≢false, Option, if◌then◌else◌}
-use Rattle.af_enough_law.proofs.Common.{Active, Known, Life, Stopping1, Stopping2, TrackKept, and_none, by_command, by_report, commands, first_effect, not_zero, opens, plays, retries_after, runs_dry}
+use Rattle.af_enough_law.proofs.Common.{Active, Known, Life, Stopping1, Stopping2, TrackKept, and_none, by_command, by_report, commands, first_effect, not_zero, opens, plays, retries_after, runs_dry, and_false}
 use Rattle.af_life.specs.State.{life_code}
-use Rattle.af_enough_law.specs.Courses.{told_all, starts_at_once, code_at, argument_at, course, life_in, Course, absent, idle, playing, stopping, drained, stopped, over, stage, is_heard}
+use Rattle.af_enough_law.proofs.Courses.{told_all, starts_at_once, code_at, argument_at, course, life_in, Course, absent, idle, playing, stopping, drained, stopped, over, stage, is_heard}
 
 -- ## A command
 
@@ -150,11 +150,7 @@ course_plays count k l (playing retries some few) = refl
 course_plays count k l (stopping retries) = refl
 course_plays count k l (drained retries) = refl
 course_plays count k l (stopped retries) = refl
-course_plays count k l (over life e) = ap (λ (b : Bool). life.member && not b) e ∙ last life.member
-  where
-    last : (b : Bool) → (b && false) ≡ false
-    last true = refl
-    last false = refl
+course_plays count k l (over life e) = ap (λ (b : Bool). life.member && not b) e ∙ and_false life.member
 
 -- the code of a stopped track is 8
 pub stopped_code : (count : ℕ) (l : Life) → Course count 3 l → stage l ≡ 3 → (life_code l.state ≡ 8) × (l.drained ≡ true)

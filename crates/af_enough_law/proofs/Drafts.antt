@@ -1,10 +1,30 @@
 -- What a turn makes of the holders, the draft and the pushes.
 use Rattle.std.proofs.Common.{◌≡◌, ◌⊎◌, inl, inr, ℕ, zero, suc, ◌+◌, ◌<◌, ◌==◌, ◌&&◌, ◌||◌, not, Bool, true, false, List, [], ◌∷◌, length, fold, refl, sym, ap, ◌∙◌, subst, arith, true≢false, Option, Some, None, is_some, if◌then◌else◌}
 use Rattle.af_enough_law.proofs.Common.{Busy, Clean, ColdIdle, Command, CommandLook, Exit, FastState, GoesOn, Heard, Holder, Home, Learnt, LegalPush, Lent, Life, MixWrite, NormalKept, Outside, Push, Pushed, Returning, Setup, SlotReport, TakeSeen, TrackKept, Turn, after_ack, after_edits, after_look, after_looks, after_part, after_push, after_take, after_takes, after_tracks, asked as buffer, by_test, code_of, draft_commanded as with_command, look_counted, counts_in, edited, edited_to, ended, goes_on, heard, commands_exit, is_home, is_lent, is_over, is_reached, is_reported, is_shut, learnt, lend, let_go, list_any, must_enter, must_leave, must_wait, mutated, next_command, no, no_counts, noted, obeyed, ordered, pipe_size, plays, push_draft, push_tracks, ready, settled_at, shows_command, slice_set, slot_reported, told, track_at, track_in, turn_after}
-use Rattle.af_enough_law.specs.TrackTurns.{attended, Edited, stays, leaves, enters, TrackTurned}
-use Rattle.af_enough_law.specs.Drafts.{next_holder, IsLatest, PushMade}
+use Rattle.af_enough_law.proofs.TrackTurns.{attended, Edited, stays, leaves, enters, TrackTurned}
 use Rattle.af_enough_law.proofs.Served.{track_turned, ordered_tracks}
 use Rattle.af_enough_law.proofs.Following.{greeted_in}
+
+-- who has the stream proxy of a track after the edits, by whether the track is to be heard and has a slot
+abbrev pub next_holder : Bool → Bool → Holder → Holder
+next_holder heard slot Home = if slot && heard then Lent else Home
+next_holder heard slot Lent = if heard then Lent else Returning
+next_holder heard slot Returning = Returning
+
+-- if nothing is to be pushed, the draft is the last state pushed
+abbrev pub IsLatest : NormalKept → Type 0
+IsLatest m = m.dirty ≡ false → m.last ≡ m.draft
+
+abbrev pub is_busy : Push → Bool
+is_busy (Busy seen expected) = true
+is_busy _ = false
+
+-- the push that a turn made: nothing is left to be pushed, or it was busy, and the last state pushed wasn't seen acknowledged
+pub record PushMade (before after : NormalKept) (push : Push) : Type 0 where
+  pub done : is_busy push ≡ false → (after.dirty ≡ false) × (after.last ≡ after.draft)
+  pub busy : is_busy push ≡ true → (after.dirty ≡ true) × (0 < before.pushed) × (after.pushed ≡ before.pushed) × (after.last ≡ before.last)
+  pub latest : IsLatest after
+  pub number : (after.pushed ≡ before.pushed) ⊎ (after.pushed ≡ before.pushed + 1)
 
 -- ## The holders
 

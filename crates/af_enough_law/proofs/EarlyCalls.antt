@@ -1,6 +1,6 @@
 -- A client sends its third command only after it has seen a status that says that two are settled, whatever it is answered.
-use Rattle.std.proofs.Common.{◌≡◌, ◌⊎◌, inl, inr, ℕ, zero, suc, ◌*◌, ◌-◌, ◌/◌, ◌≤◌, ◌==◌, ◌&&◌, ◌||◌, nat_le, not, if◌then◌else◌, Bool, true, false, MatchBool, Some, None, List, [], ◌∷◌, ◌++◌, length, take, fold, refl, sym, ap, ◌∙◌, subst, arith, append_assoc, append-nil, length-append, eqb-true, Option}
-use Rattle.af_enough_law.proofs.Common.{AreCalls, Client, ClientCall, ClientEvent, IsMade, IsWanted, LegalClientTurn, Mode, Op, Side, Track, Want, after_answer, after_call, after_calls, at_next_turn, begins, begun, both_first, both_first as both_left, commands_sent, is_of_commands, next_want, no, released_by, rest_of, rested, settled_in, some_same, state_in, wanted_of, wants_of, with_call}
+use Rattle.std.proofs.Common.{◌≡◌, ◌⊎◌, inl, inr, ℕ, zero, suc, ◌*◌, ◌/◌, ◌≤◌, ◌==◌, ◌&&◌, ◌||◌, nat_le, not, if◌then◌else◌, Bool, true, false, Some, None, List, [], ◌∷◌, ◌++◌, length, take, fold, refl, sym, ap, ◌∙◌, subst, arith, append_assoc, append-nil, length-append, eqb-true, Option}
+use Rattle.af_enough_law.proofs.Common.{Client, ClientCall, ClientEvent, IsMade, IsWanted, LegalClientTurn, Mode, Op, Side, Track, Want, after_answer, after_call, after_calls, at_next_turn, begins, begun, both_first, both_first as both_left, commands_sent, is_of_commands, next_want, no, released_by, rest_of, rested, settled_in, some_same, state_in, wanted_of, wants_of, with_call, both_right}
 use Rattle.af_base.specs.declared.event.ClientCall.TheVariants as call
 use Rattle.af_base.specs.declared.event.ClientEvent.TheVariants as client
 use Rattle.af_enough_law.proofs.Basics.{put-append}
@@ -10,6 +10,7 @@ use Rattle.af_runs.specs.declared.want.ClientCommand.TheVariants as command
 use Rattle.af_runs.specs.declared.want.Mode.TheVariants as mode
 use Rattle.af_runs.specs.declared.want.Want.TheVariants as want
 use Rattle.af_enough_law.specs.Seen.{frames_put}
+use Rattle.af_enough_law.proofs.ClientWalk.{turn_keeps}
 use Rattle.af_enough_law.proofs.FairTurns.{commands_grow}
 use Rattle.af_enough_law.proofs.Turning.{none_some}
 
@@ -103,11 +104,7 @@ stop_append (x ∷ []) code argument k long none other = absurd (let z : ⊥ = o
 stop_append (x ∷ y ∷ xs) code argument zero long none other = absurd (let z : ⊥ = omega (arith, long) in z)
 stop_append (x ∷ y ∷ xs) code argument (suc k) long none other =
     let first = both_left (not (x == 4)) (no_stop xs) none in
-    ap (λ (b : Bool). b && no_stop (xs ++ code ∷ argument ∷ [])) first ∙ stop_append xs code argument k (omega (arith, long)) (rest (not (x == 4)) (no_stop xs) none) other
-  where
-    rest : (a b : Bool) → (a && b) ≡ true → b ≡ true
-    rest true b e = e
-    rest false b e = no e
+    ap (λ (b : Bool). b && no_stop (xs ++ code ∷ argument ∷ [])) first ∙ stop_append xs code argument k (omega (arith, long)) (both_right (not (x == 4)) (no_stop xs) none) other
 
 code_other : (code n : ℕ) → (code == n) ≡ true → (n == 4) ≡ false → (code == 4) ≡ false
 code_other code n e other = ap (λ (c : ℕ). c == 4) (eqb-true code n e) ∙ other
@@ -200,15 +197,11 @@ early_call t w answer _ _ (settling x d ops) is wanted made put long none = by a
     by (call.Gain word) h e = no h
     by (call.Poke in_command word value) h e = no h
 
-call_comes : (t : Track) (w : Want) (answer : ClientCall) → wanted_of t ≡ Some w → IsMade t w answer → Comes t → Comes (after_call t answer)
-call_comes t w answer wanted made (late l) = late (late_call t answer l)
-call_comes t w answer wanted made (early e) = early_call t w answer (begun t.client) e.sent e.client refl wanted made e.put e.long e.stopless
+call_comes : (t : Track) (w : Want) (answer : ClientCall) → Comes t → wanted_of t ≡ Some w → IsMade t w answer → Comes (after_call t answer)
+call_comes t w answer (late l) wanted made = late (late_call t answer l)
+call_comes t w answer (early e) wanted made = early_call t w answer (begun t.client) e.sent e.client refl wanted made e.put e.long e.stopless
 
 -- ## A turn
-
-calls_come : (left : ℕ) (t : Track) (calls : List ClientCall) → AreCalls left t calls → Comes t → Comes (fold after_call t calls)
-calls_come left t [] made h = h
-calls_come left t (answer ∷ calls) made h = calls_come (left - 1) (after_call t answer) calls made.4 (call_comes t made.1 answer made.2 made.3 h)
 
 -- what a client has begun it has begun whether it waits or has ended or not
 pub begun_held : (c : Client) (w d : Bool) (wants : List Want) (ops : List Op) → begins (record c { waiting = w; ended = d }) wants ops ≡ record (begins c wants ops) { waiting = w; ended = d }
@@ -243,13 +236,9 @@ next_comes t cut (early e) = early (record {
   stopless = e.stopless;
 })
 
-turn_if : (b : Bool) (t : Track) (calls : List ClientCall) → MatchBool b (calls ≡ []) (AreCalls 64 t calls) → Comes t → Comes (fold after_call t calls)
-turn_if true t calls none h = subst (λ (cs : List ClientCall). Comes (fold after_call t cs)) (sym none) h
-turn_if false t calls made h = calls_come 64 t calls made h
-
 -- a legal turn of a client leaves it early
 pub turn_comes : (t : Track) (calls : List ClientCall) → LegalClientTurn t calls → Comes t → Comes (after_calls t calls)
-turn_comes t calls legal h = next_comes (fold after_call t calls) (length calls == 64) (turn_if t.client.ended t calls legal h)
+turn_comes t calls legal h = next_comes (fold after_call t calls) (length calls == 64) (turn_keeps Comes call_comes t calls legal h)
 
 -- what a client learns, and its end, leave it early too
 pub met_comes : (t u : Track) (n : ℕ) → u.commands.events ≡ t.commands.events ++ client.Learn n ∷ [] → u.commands.released ≡ t.commands.released → (u.client ≡ t.client) ⊎ (u.client ≡ record t.client { ended = true }) → Comes t → Comes u

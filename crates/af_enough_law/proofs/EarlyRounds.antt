@@ -3,8 +3,8 @@ use Rattle.std.proofs.Common.{◌≡◌, ◌⊎◌, ℕ, zero, suc, ◌*◌, ◌
 use Rattle.af_enough_law.proofs.Common.{BlockTold, ClientEvent, HasBlockHistory, LegalRound, Life, Marks, NormalKept, Outside, RoundSeen, Run, ServerEvent, Session, Setup, TrackTold, after_calls, after_round, all_command_events, both_right, calls_in, client_list, command_events_of, command_list, found_in, hand_list, invalid, is_tame, learnt, met_after, outside_of, plays, server_list, settled_in, setup_of, sides_of, status_events, told_at, track_at, track_in, tracks_at, words_taken}
 use Rattle.af_base.specs.declared.event.ClientEvent.TheVariants as client
 use Rattle.af_base.specs.declared.event.ServerEvent.TheVariants as server
-use Rattle.af_enough_law.specs.Courses.{stage}
-use Rattle.af_enough_law.specs.NormalRounds.{TurnMade}
+use Rattle.af_enough_law.proofs.Courses.{stage}
+use Rattle.af_enough_law.proofs.NormalRounds.{TurnMade}
 use Rattle.af_enough_law.specs.Seen.{frames_taken, status_by, last_status}
 use Rattle.af_enough_law.proofs.AwayKeeps.{StaysOpen, open_of, open_then}
 use Rattle.af_enough_law.proofs.CalmTracks.{round_released}

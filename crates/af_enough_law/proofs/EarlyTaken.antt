@@ -1,5 +1,5 @@
 -- A turn before which no status said that two commands were settled takes no more than two, whatever their client is answered.
-use Rattle.std.proofs.Common.{◌≡◌, ◌⊎◌, inl, inr, ℕ, zero, suc, ◌≤◌, ◌&&◌, nat_le, Bool, true, List, [], ◌∷◌, ◌++◌, length, take, fold, get_or, refl, sym, ap, ◌∙◌, subst, arith}
+use Rattle.std.proofs.Common.{◌≡◌, ◌⊎◌, inl, inr, ℕ, zero, suc, ◌≤◌, ◌&&◌, nat_le, Bool, true, List, [], ◌∷◌, ◌++◌, length, take, fold, get_or, refl, sym, ap, ◌∙◌, subst, arith, drop}
 use Rattle.af_enough_law.proofs.Common.{Client, ClientEvent, HandEvent, HasHistory, IsLegal, ServerEvent, Shape, both_first, both_right, both_true, by_client, drops_none, in_turn, legal_cut, server_append, server_of, settled_in, start}
 use Rattle.af_base.specs.declared.event.ClientEvent.TheVariants as client
 use Rattle.af_base.specs.declared.event.ServerEvent.TheVariants as server
@@ -54,17 +54,12 @@ still_low es still = elim (stores es) as (λ _. are_low es ≡ true) [ nothing h
 
 -- ## Two ways to cut a list
 
-rest_of : {X : Type 0} → List X → List X
-rest_of [] = []
-rest_of (x ∷ xs) = xs
-
 cut_cases : (xs ys ls bs : List ServerEvent) → xs ++ ys ≡ ls ++ bs → ((m : List ServerEvent) × (ls ≡ xs ++ m)) ⊎ ((m : List ServerEvent) × (xs ≡ ls ++ m) × (bs ≡ m ++ ys))
-unfolding rest_of
 cut_cases [] ys ls bs e = inl (ls, refl)
 cut_cases (x ∷ xs) ys [] bs e = inr (x ∷ xs, refl, sym e)
 cut_cases (x ∷ xs) ys (a ∷ ls) bs e =
     let first : x ≡ a = ap (λ l. get_or l 0 x) e in
-    elim (cut_cases xs ys ls bs (ap rest_of e)) as (λ _. ((m : List ServerEvent) × (a ∷ ls ≡ (x ∷ xs) ++ m)) ⊎ ((m : List ServerEvent) × (x ∷ xs ≡ (a ∷ ls) ++ m) × (bs ≡ m ++ ys))) [
+    elim (cut_cases xs ys ls bs (ap (drop 1) e)) as (λ _. ((m : List ServerEvent) × (a ∷ ls ≡ (x ∷ xs) ++ m)) ⊎ ((m : List ServerEvent) × (x ∷ xs ≡ (a ∷ ls) ++ m) × (bs ≡ m ++ ys))) [
       | inl front ↦ inl (front.0, λ j. sym first j ∷ front.1 j)
       | inr front ↦ inr (front.0, (λ j. first j ∷ front.1 j), front.2)
     ]

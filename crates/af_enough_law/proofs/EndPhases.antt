@@ -2,25 +2,21 @@
 use Rattle.std.proofs.Common.{None, ◌≡◌, ◌⊎◌, inl, inr, ℕ, suc, ◌+◌, ◌≤◌, Bool, true, false, All, List, [], ◌∷◌, length, if◌then◌else◌, refl, sym, ap, ◌∙◌, subst, arith}
 use Rattle.af_enough_law.proofs.Common.{EntrySeen, Learnt, LegalRound, LegalTurnBy, Marks, MatchBool, MatchOption, NormalKept, RoundSeen, Run, Session, Setting, Setup, Turn, after_ack, after_edits, after_push, after_round, after_takes, after_tracks, after_turn, before_turn, early_of, edited_to, fast_ended, found_in, has_exit, commands_exit, is_pushed, late_of, learnt, mutated, next_command, ordered, pipe_size, setup_of, turn_after, turn_len, with_calls, with_cycle, with_cycles}
 use Rattle.af_enough_law.proofs.Basics.{ack_ended, before_normal, edits_ended, ordered_ended, push_ended}
-use Rattle.af_enough_law.specs.EndPhases.{NoExits, BothGo, Ordered, Sending, Closing, BothEnded}
-use Rattle.af_enough_law.specs.Acks.{KnowsAcked}
-use Rattle.af_enough_law.specs.Ends.{IsInOrder, Rests, ExitSent}
-use Rattle.af_enough_law.specs.FastFlows.{KnowsStates}
-use Rattle.af_enough_law.specs.QueueRounds.{QueueStands}
-use Rattle.af_enough_law.specs.Underway.{Underway, EndWithin}
-use Rattle.af_enough_law.specs.NormalRounds.{TurnMade}
+use Rattle.af_enough_law.proofs.EndWords.{NoExits, BothGo, Ordered, Sending, Closing, BothEnded, Underway, EndWithin}
+use Rattle.af_enough_law.proofs.Acks.{KnowsAcked}
+use Rattle.af_enough_law.proofs.Ends.{IsInOrder, Rests, ExitSent}
+use Rattle.af_enough_law.proofs.FastWords.{KnowsStates}
+use Rattle.af_enough_law.proofs.QueueRounds.{QueueStands, states_still, queue_stands, knows_by, knows_acked}
+use Rattle.af_enough_law.proofs.NormalRounds.{TurnMade, turn_made, after_normal}
 use Rattle.af_enough_law.proofs.CourseRounds.{goes_unless_exit}
 use Rattle.af_enough_law.proofs.EndRounds.{unpushed, same_states, rests_on, exit_then, exit_known, exit_ends, exit_pushed, busy_leaves, pushed_none}
 use Rattle.af_enough_law.proofs.FastEnds.{exit_added, fast_exits}
-use Rattle.af_enough_law.proofs.Drafts.{turn_pushes}
+use Rattle.af_enough_law.proofs.Drafts.{turn_pushes, is_busy}
 use Rattle.af_enough_law.proofs.Exits.{exit_still}
-use Rattle.af_enough_law.specs.Drafts.{is_busy}
 use Rattle.af_enough_law.proofs.FastFound.{cycle_current}
 use Rattle.af_enough_law.proofs.FastLearns.{learns_states}
 use Rattle.af_enough_law.proofs.FastReports.{calls_same, turned_same}
 use Rattle.af_enough_law.proofs.LastStates.{exit_adopted, exit_there, round_last, round_entries, round_going}
-use Rattle.af_enough_law.proofs.NormalRounds.{turn_made, after_normal}
-use Rattle.af_enough_law.proofs.QueueRounds.{states_still, queue_stands, knows_by, knows_acked}
 
 -- ## A fast mixer that has ended stays so
 

@@ -1,11 +1,10 @@
 -- A resting mixer puts nothing into the pipe, which drains.
 use Rattle.std.proofs.Common.{Some, ◌≡◌, ◌-◌, ◌*◌, ◌≤◌, Bool, false, sym, subst, arith}
 use Rattle.af_enough_law.proofs.Common.{LegalRound, Marks, NormalKept, RoundSeen, Run, Session, Turn, after_round, cycle_frames, learnt, pipe_size, setup_of}
-use Rattle.af_enough_law.specs.Ends.{AllOver, Rests}
-use Rattle.af_enough_law.specs.FastFlows.{MixesAll}
-use Rattle.af_enough_law.specs.NormalRounds.{TurnMade}
-use Rattle.af_enough_law.specs.PipeFlows.{KnowsPipe, pipe_put, pipe_taken, in_pipe, put_in, PipeFlowed}
-use Rattle.af_enough_law.proofs.Ends.{over_turn}
+use Rattle.af_enough_law.proofs.Ends.{AllOver, Rests, over_turn}
+use Rattle.af_enough_law.proofs.FastWords.{MixesAll}
+use Rattle.af_enough_law.proofs.NormalRounds.{TurnMade}
+use Rattle.af_enough_law.proofs.PipeFlows.{KnowsPipe, pipe_put, pipe_taken, in_pipe, put_in, PipeFlowed}
 use Rattle.af_enough_law.proofs.PipeRounds.{pipe_flowed, pipe_puts, whole_room}
 use Rattle.af_enough_law.proofs.Unheard.{over_unheard, unheard_puts}
 

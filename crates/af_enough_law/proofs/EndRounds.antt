@@ -1,20 +1,16 @@
 -- The rounds once every life has ended: what was lent comes home.
 use Rattle.std.proofs.Common.{◌≡◌, ◌⊎◌, inl, inr, ◌≤◌, Bool, true, false, true≢false, All, [], ◌∷◌, ◌++◌, length, if◌then◌else◌, refl, sym, ap, ◌∙◌, subst, arith, append-nil, eq-eqb}
 use Rattle.af_enough_law.proofs.Common.{Busy, Clean, GoesOn, LegalRound, Marks, NormalKept, Push, Pushed, RoundSeen, Run, Session, Setting, after_round, after_turn, before_turn, draft_after, fast_ended, found_in, commands_exit, is_over, is_pushed, learnt, outside_of, pipe_size, setup_of, turn_after}
-use Rattle.af_enough_law.specs.Acks.{KnowsAcked}
-use Rattle.af_enough_law.specs.Drafts.{is_busy, PushMade}
-use Rattle.af_enough_law.specs.Ends.{AllHome, CarriesNone, IsInOrder, Rests, ExitSent}
-use Rattle.af_enough_law.specs.FastFlows.{KnowsStates}
-use Rattle.af_enough_law.specs.NormalRounds.{TurnMade}
-use Rattle.af_enough_law.specs.QueueRounds.{QueueStands}
-use Rattle.af_enough_law.proofs.Acks.{turn_sees_ack}
-use Rattle.af_enough_law.proofs.Drafts.{turn_pushes}
-use Rattle.af_enough_law.proofs.Ends.{over_turn, order_turn, rests_turn, last_empty, stays_empty, all_home, home_stays, is_over_by}
+use Rattle.af_enough_law.proofs.Acks.{KnowsAcked, turn_sees_ack}
+use Rattle.af_enough_law.proofs.Drafts.{is_busy, PushMade, turn_pushes}
+use Rattle.af_enough_law.proofs.Ends.{AllHome, CarriesNone, IsInOrder, Rests, ExitSent, over_turn, order_turn, rests_turn, last_empty, stays_empty, all_home, home_stays, is_over_by}
+use Rattle.af_enough_law.proofs.FastWords.{KnowsStates}
+use Rattle.af_enough_law.proofs.NormalRounds.{TurnMade}
+use Rattle.af_enough_law.proofs.QueueRounds.{QueueStands, states_turned, knows_acked}
 use Rattle.af_enough_law.proofs.Exits.{exit_code, exit_stays, exit_still, exit_free, ends_turn}
 use Rattle.af_enough_law.proofs.Orders.{orders_exit}
-use Rattle.af_enough_law.specs.PipeFlows.{in_pipe, RoomSeen}
+use Rattle.af_enough_law.proofs.PipeFlows.{in_pipe, RoomSeen}
 use Rattle.af_enough_law.proofs.FastPolls.{before_states, round_states}
-use Rattle.af_enough_law.proofs.QueueRounds.{states_turned, knows_acked}
 
 -- a push that was busy, or had nothing to push, pushes no state
 pub unpushed : (push : Push) → is_busy push ≡ true → is_pushed push ≡ false

@@ -1,16 +1,14 @@
 -- From the moment that every life has ended both mixers end within ten rounds.
 use Rattle.std.proofs.Common.{◌≡◌, ◌⊎◌, inl, inr, ℕ, zero, suc, ◌+◌, ◌-◌, ◌*◌, ◌<◌, ◌≤◌, Bool, true, false, All, List, [], ◌∷◌, ◌++◌, length, refl, sym, ap, ◌∙◌, subst, arith, length-append}
 use Rattle.af_enough_law.proofs.Common.{IsScript, LegalRound, LegalRounds, Marks, NormalKept, RoundSeen, Run, Session, Setting, TrackKept, after_round, asked, cycle_frames, commands_exit, learnt, mul-le-mul, new_run, pipe_size, run_from, scales_of, setup_of, track_at, turn_after}
-use Rattle.af_enough_law.specs.Acks.{KnowsAcked}
-use Rattle.af_enough_law.specs.Drafts.{is_busy}
-use Rattle.af_enough_law.specs.EndPhases.{BothEnded}
-use Rattle.af_enough_law.specs.Ends.{AllOver, CarriesNone, Rests}
-use Rattle.af_enough_law.specs.NormalRounds.{TurnMade}
-use Rattle.af_enough_law.specs.PipeFlows.{in_pipe}
-use Rattle.af_enough_law.specs.Underway.{Underway, EndBegins, EndWithin}
+use Rattle.af_enough_law.proofs.Acks.{KnowsAcked}
+use Rattle.af_enough_law.proofs.Drafts.{is_busy}
+use Rattle.af_enough_law.proofs.EndWords.{BothEnded, Underway, EndBegins, EndWithin}
+use Rattle.af_enough_law.proofs.Ends.{AllOver, CarriesNone, Rests, last_empty, over_turn, rests_turn}
+use Rattle.af_enough_law.proofs.NormalRounds.{TurnMade}
+use Rattle.af_enough_law.proofs.PipeFlows.{in_pipe}
 use Rattle.af_enough_law.proofs.EndPhases.{known_unless, more_within, next_within, ordered_within, ordering_next}
 use Rattle.af_enough_law.proofs.EndRounds.{then_empty, unpushed}
-use Rattle.af_enough_law.proofs.Ends.{last_empty, over_turn, rests_turn}
 use Rattle.af_enough_law.proofs.FastLearns.{learns_states}
 use Rattle.af_enough_law.proofs.PipeRounds.{knows_pipe, pipe_within}
 use Rattle.af_enough_law.proofs.RestRounds.{Resting, IsClean, HomeWithin, drain_next, home_next, known_clean, orders_now, rests_after}

@@ -1,16 +1,48 @@
 -- A turn once every life has ended: no proxy is lent, the draft carries nothing, and what is acknowledged comes home.
 use Rattle.std.proofs.Common.{◌≡◌, ◌⊎◌, inl, inr, ℕ, suc, ◌<◌, ◌≤◌, ◌&&◌, not, Bool, true, false, true≢false, All, List, [], ◌∷◌, length, is_some, refl, sym, ap, ◌∙◌, arith}
-use Rattle.af_enough_law.proofs.Common.{FastState, GoesOn, Holder, Home, IsSlotted, Learnt, Lent, Life, NormalKept, Outside, Returning, Setting, Setup, TrackKept, Turn, after_part, below_or_not, carries, heard, if_true, is_home, is_lent, is_over, is_returning, learnt, no, out_of, plays, ready, slot_number, slots, sound_turn, track_at, track_in, turn_after, turn_len}
+use Rattle.af_enough_law.proofs.Common.{FastState, GoesOn, Holder, Home, IsSlotted, Learnt, Lent, Life, NormalKept, Outside, Returning, Setting, Setup, TrackKept, Turn, after_part, below_or_not, carries, heard, if_true, is_home, is_lent, is_over, is_returning, learnt, no, out_of, plays, ready, slot_number, slots, sound_turn, track_at, track_in, turn_after, turn_len, commands_exit, IsSound, and_false}
 use Rattle.af_enough_law.proofs.Basics.{stays_home as greeted_home}
-use Rattle.af_enough_law.specs.Drafts.{next_holder, is_busy, PushMade}
-use Rattle.af_enough_law.specs.Ends.{AllOver, NoneLent, AllHome, CarriesNone, IsInOrder, Rests}
-use Rattle.af_enough_law.specs.Owned.{AreOwned}
-use Rattle.af_enough_law.specs.TrackTurns.{attended}
-use Rattle.af_enough_law.proofs.Drafts.{holder_turned, turn_pushes}
+use Rattle.af_enough_law.proofs.Drafts.{next_holder, is_busy, PushMade, IsLatest, holder_turned, turn_pushes}
+use Rattle.af_enough_law.proofs.Owned.{AreOwned, owned_turn}
+use Rattle.af_enough_law.proofs.TrackTurns.{attended}
 use Rattle.af_enough_law.proofs.Following.{greeted_in, greeted_alike, edited_alike}
 use Rattle.af_enough_law.proofs.Orders.{come}
-use Rattle.af_enough_law.proofs.Owned.{owned_turn}
 use Rattle.af_enough_law.proofs.Served.{track_turned}
+
+-- every life has ended
+abbrev pub AllOver : List TrackKept → Type 0
+AllOver tracks = (i : ℕ) → i < length tracks → (track_at tracks i).life.ended ≡ true
+
+-- no proxy is lent
+abbrev pub NoneLent : List TrackKept → Type 0
+NoneLent tracks = (i : ℕ) → is_lent (track_at tracks i).holder ≡ false
+
+-- each proxy is home
+abbrev pub AllHome : List TrackKept → Type 0
+AllHome tracks = (i : ℕ) → i < length tracks → is_home (track_at tracks i).holder ≡ true
+
+-- the state carries no track
+abbrev pub CarriesNone : FastState → Type 0
+CarriesNone x = (slot : ℕ) → slot < slots → carries x slot ≡ false
+
+-- what holds between any two turns
+pub record IsInOrder (m : NormalKept) : Type 0 where
+  pub sound : IsSound m.tracks m.draft
+  pub owned : AreOwned m.tracks m.draft
+  pub latest : IsLatest m
+
+-- the mixer rests: every life has ended, no proxy is lent, and the draft carries no track
+pub record Rests (m : NormalKept) : Type 0 where
+  pub order : IsInOrder m
+  pub over : AllOver m.tracks
+  pub none : NoneLent m.tracks
+  pub empty : CarriesNone m.draft
+
+-- the Exit is the last state pushed, and nothing is left to be pushed
+pub record ExitSent (m : NormalKept) : Type 0 where
+  pub draft : commands_exit m.draft ≡ true
+  pub last : commands_exit m.last ≡ true
+  pub clean : m.dirty ≡ false
 
 -- ## The lives
 
@@ -30,11 +62,7 @@ over_turn c k m e runs over i lt = let long = turn_len c k m e in let lt' : i < 
 -- ## The holders
 
 pub silent : (l : Life) → l.ended ≡ true → plays l ≡ false
-silent l over = ap (λ (b : Bool). l.member && not b) over ∙ none l.member
-  where
-    none : (b : Bool) → (b && false) ≡ false
-    none true = refl
-    none false = refl
+silent l over = ap (λ (b : Bool). l.member && not b) over ∙ and_false l.member
 
 unlent : (slot : Bool) (h : Holder) → is_lent (next_holder false slot h) ≡ false
 unlent true Home = refl

@@ -1,7 +1,7 @@
 -- Each entry stores one report, and no state is adopted that wasn't pushed.
 use Rattle.std.proofs.Common.{◌≡◌, ℕ, ◌+◌, ◌≤◌, nat_le, if◌then◌else◌, Bool, true, false, Some, List, [], ◌∷◌, length, length-append, refl, sym, ap, ◌∙◌, arith}
 use Rattle.af_enough_law.proofs.Common.{EntrySeen, LegalRound, Marks, RoundSeen, Run, Session, Turn, after_round, after_turn, all_played, before_turn, calls_states, early_count, early_of, found_in, late_of, leb-true, load_of, max, met_after, min, take-append-drop, with_calls, with_cycle, with_cycles, with_poll}
-use Rattle.af_enough_law.specs.FastFlows.{CountsReports, KnowsReports}
+use Rattle.af_enough_law.proofs.FastWords.{CountsReports, KnowsReports}
 use Rattle.af_enough_law.proofs.FastCurrent.{rest_current, turn_current}
 use Rattle.af_enough_law.proofs.FastFound.{adds_one, calls_current, cycle_current}
 use Rattle.af_enough_law.proofs.FastLoads.{loads_new}

@@ -1,15 +1,12 @@
 -- The Exit of the normal mixer: it stays in the draft, is pushed once, and ends the mixer when it is seen acknowledged.
-use Rattle.std.proofs.Common.{◌≡◌, ℕ, zero, suc, ◌<◌, ◌≤◌, ◌==◌, ◌&&◌, ◌||◌, not, Bool, true, false, true≢false, List, length, is_some, if◌then◌else◌, refl, sym, ap, ◌∙◌, arith}
-use Rattle.af_enough_law.proofs.Common.{Busy, Clean, ColdIdle, Command, Exit, FastState, GoesOn, Holder, Home, Learnt, LegalPush, Life, MixWrite, NormalKept, Outside, Push, Pushed, Setup, TrackKept, Turn, acked_len, after_ack, after_edits, after_part, after_push, after_takes, after_tracks, code_of, comes_home, draft_commanded as with_command, edited, edited_to, heard, if_true, commands_exit, is_home, is_lent, is_over, is_pushed, learnt, lend, let_go, list_any, must_enter, must_leave, mutated, next_command, no, ordered, pipe_size, plays, ready, rest_enters, served_len, track_at, track_in, tracks_at, turn_after, welcomed}
-use Rattle.af_enough_law.specs.Drafts.{is_busy}
+use Rattle.std.proofs.Common.{◌≡◌, ℕ, zero, suc, ◌<◌, ◌≤◌, ◌==◌, ◌&&◌, ◌||◌, not, Bool, true, false, true≢false, List, length, is_some, if◌then◌else◌, refl, sym, ap, ◌∙◌, arith, Option}
+use Rattle.af_enough_law.proofs.Common.{Busy, Clean, ColdIdle, Command, Exit, FastState, GoesOn, Holder, Home, Learnt, LegalPush, Life, MixWrite, NormalKept, Outside, Push, Pushed, Setup, TrackKept, Turn, acked_len, after_ack, after_edits, after_part, after_push, after_takes, after_tracks, code_of, comes_home, draft_commanded as with_command, edited, edited_to, heard, if_true, commands_exit, is_home, is_lent, is_over, is_pushed, learnt, lend, let_go, list_any, must_enter, must_leave, mutated, next_command, no, ordered, pipe_size, plays, ready, rest_enters, served_len, track_at, track_in, tracks_at, turn_after, welcomed, or_true}
+use Rattle.af_enough_law.proofs.Drafts.{is_busy, command_turned}
 use Rattle.af_life.specs.Obeys.{slot_for}
-use Rattle.af_enough_law.specs.Ends.{Rests}
-use Rattle.af_enough_law.specs.TrackTurns.{greeted}
-use Rattle.af_enough_law.proofs.Ends.{silent}
+use Rattle.af_enough_law.proofs.Ends.{Rests, silent}
+use Rattle.af_enough_law.proofs.TrackTurns.{greeted}
 use Rattle.af_enough_law.proofs.Following.{greeted_alike}
 use Rattle.af_enough_law.proofs.Served.{served_here}
-use Rattle.std.proofs.Common.{Option}
-use Rattle.af_enough_law.proofs.Drafts.{command_turned}
 
 -- ## It stays
 
@@ -126,10 +123,6 @@ pub ends_turn : (c : Setup) (k : Learnt) (m : NormalKept) (e : Turn) → e.ended
 unfolding turn_after
 ends_turn c k m e ends is ack = by (after_takes c e.mixes (after_push e.push (after_edits c k e m))) e.ended (ends ∙ ap (λ (x : Bool × Bool). m.ended || (x.0 && x.1)) (λ j. (is j, ack j)) ∙ or_true m.ended)
   where
-    or_true : (b : Bool) → (b || true) ≡ true
-    or_true true = refl
-    or_true false = refl
-
     by : (y : NormalKept) (b : Bool) → b ≡ true → (if b then record m { ended = true } else y).ended ≡ true
     by y true h = refl
     by y false h = no h

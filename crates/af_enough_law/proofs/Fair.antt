@@ -1,10 +1,11 @@
 -- What a client's calls answer on a block whose lists have a history and whose flags stay calm.
-use Rattle.std.proofs.Common.{◌≡◌, ◌⊎◌, inl, inr, ℕ, ◌+◌, ◌≤◌, ◌<◌, ◌==◌, Bool, true, false, List, [], ◌∷◌, ◌++◌, length, fold, get_or, refl, sym, ap, ◌∙◌, subst, arith, append_assoc, true≢false, None, is_some, bit_and, bit_or, MatchBool}
+use Rattle.std.proofs.Common.{◌≡◌, ◌⊎◌, inl, inr, ℕ, ◌+◌, ◌≤◌, ◌<◌, ◌==◌, Bool, true, false, List, [], ◌∷◌, ◌++◌, length, fold, get_or, refl, sym, ap, ◌∙◌, subst, arith, append_assoc, true≢false, None, is_some, bit_and, bit_or, MatchBool, drop}
 use Rattle.af_enough_law.proofs.Common.{AllFit, ClientEvent, ClientMay, HandEvent, HasHistory, IsClientList, IsInvalid, IsLegal, Moment, ServerEvent, Shape, TrackPoint, after, after_client, after_hand, after_server, all_fit, append-nil, both_first, both_right, both_true, by_client, by_hand, by_server, client_begins, client_keeps, client_kept, client_of, drops_none, filled_by, fit_split, fold-append, hand_of, in_turn, keeps_all, legal_cut, not_true, outside, outside-some, room_in, server_append, server_of, start, state_in, wrapped}
 use Rattle.af_base.specs.declared.event.ClientEvent.TheVariants as client
 use Rattle.af_base.specs.declared.event.HandEvent.TheVariants as hand
 use Rattle.af_base.specs.declared.event.ServerEvent.TheVariants as server
-use Rattle.af_enough_law.specs.Seen.{Stands, frames_put, taken_by, frames_taken, status_by, last_status, is_calm, are_calm, is_hand_calm, are_hands_calm}
+use Rattle.af_enough_law.specs.Seen.{Stands, frames_put, taken_by, frames_taken, status_by, last_status}
+use Rattle.af_enough_law.proofs.Calm.{is_calm, are_calm, is_hand_calm, are_hands_calm}
 use Rattle.af_enough_law.proofs.SeenBlocks.{client_cut, client_learnt, consumed_is, released_is, status_is}
 
 pub hand_append : (late early : List Moment) → hand_of (late ++ early) ≡ hand_of early ++ hand_of late
@@ -71,17 +72,12 @@ quiet_in k (by_server e ∷ order) calm hands = let c = calm_split (server_of or
 quiet_in k (by_hand e ∷ order) calm hands = let c = hands_split (hand_of order) (e ∷ []) hands in quiet_hand (after (start k) order) e (both_first (is_hand_calm e) true c.1) (quiet_in k order calm c.0)
 
 -- a front of a list that is longer took more
-tail_of : {X : Type 0} → List X → List X
-tail_of [] = []
-tail_of (x ∷ xs) = xs
-
 pub taken_least : (xs xs' ys ys' : List ServerEvent) → xs ++ xs' ≡ ys ++ ys' → length xs ≤ length ys → frames_taken xs ≤ frames_taken ys
-unfolding tail_of
 taken_least [] xs' ys ys' is short = omega arith
 taken_least (x ∷ xs) xs' [] ys' is short = absurd (omega arith)
 taken_least (x ∷ xs) xs' (y ∷ ys) ys' is short =
     let first : taken_by x ≡ taken_by y = ap (λ (l : List ServerEvent). taken_by (get_or l 0 x)) is in
-    let rest = taken_least xs xs' ys ys' (ap tail_of is) (omega arith) in
+    let rest = taken_least xs xs' ys ys' (ap (drop 1) is) (omega arith) in
     omega arith
 
 invalid_not : (flags found : ℕ) (b : Bool) → (bit_and flags 4 == 0) ≡ b → MatchBool b (bit_and found 4 ≡ 0) (flags ≡ found) → IsInvalid flags → IsQuiet found → ⊥

@@ -6,8 +6,9 @@ use Rattle.af_base.specs.declared.event.ClientEvent.TheVariants as client
 use Rattle.af_enough_law.proofs.Basics.{put-append}
 use Rattle.af_runs.specs.declared.want.Want.TheVariants as want
 use Rattle.af_runs.specs.ClientTurns.{called}
-use Rattle.af_enough_law.specs.Seen.{Stands, frames_put, frames_taken, are_calm, are_hands_calm}
-use Rattle.af_enough_law.specs.Playing.{Doing, opening, starting, settling, setting, writing, clearing, clearing_more, stopping, draining, removing, IsFair, AreFair, SeesFrom, AllSeeFrom}
+use Rattle.af_enough_law.specs.Seen.{Stands, frames_put, frames_taken}
+use Rattle.af_enough_law.proofs.Calm.{are_calm, are_hands_calm}
+use Rattle.af_enough_law.proofs.Playing.{Doing, opening, starting, settling, setting, writing, clearing, clearing_more, stopping, draining, removing, IsFair, AreFair, SeesFrom, AllSeeFrom}
 use Rattle.af_enough_law.proofs.Advancing.{ahead-far}
 use Rattle.af_enough_law.proofs.Doing.{at, codes_sent, codes_of, status_is, clear_is}
 use Rattle.af_enough_law.proofs.Fair.{no_dead, cleared_calm, no_corrupt, front_at, status_at, unshut, position_is, calm_split, status_calm}

@@ -3,7 +3,7 @@ use Rattle.std.proofs.Common.{◌≡◌, ℕ, ◌+◌, min, is_some, true, false
 use Rattle.af_enough_law.proofs.Common.{BlockTold, FastTrack, Run, ServerEvent, ServerKept, Shape, both_first, both_right, drops_none, keeps_all, kept, listed, server_begins, server_keeps, server_list, told_at}
 use Rattle.af_base.specs.declared.event.ServerEvent.TheVariants as server
 use Rattle.af_enough_law.specs.Seen.{taken_by, frames_taken}
-use Rattle.af_enough_law.specs.FastFlows.{IsOpen, IsTold, slot_told}
+use Rattle.af_enough_law.proofs.FastWords.{IsOpen, IsTold, slot_told}
 
 keeps_taken : (k : Shape) (s : ServerKept) (e : ServerEvent) → keeps_all e ≡ true → (server_keeps k s e).consumed ≡ s.consumed + taken_by e
 keeps_taken k s (server.Drop to) h = absurd (true≢false (sym h))

@@ -14,7 +14,7 @@ record SameCurrent (run later : Run) : Type 0 where
 current_same : (run later : Run) → SameCurrent run later → IsCurrent run → IsCurrent later
 current_same run later same is = same.current ∙ is ∙ ap last_used (sym same.entries)
 
-adopted : (b : Bool) (k c : ℕ) → b ≡ true → (if b then k else c) ≡ k
+pub adopted : (b : Bool) (k c : ℕ) → b ≡ true → (if b then k else c) ≡ k
 adopted true k c is = refl
 adopted false k c is = absurd (true≢false (sym is))
 

@@ -2,7 +2,7 @@
 use Rattle.std.proofs.Common.{◌≡◌, ◌⊎◌, inl, inr, ℕ, ◌+◌, ◌≤◌, ◌||◌, Bool, true, false, Some, List, [], ◌∷◌, ◌++◌, length, sym, ap, ◌∙◌, subst, arith, length-append}
 use Rattle.af_enough_law.proofs.Common.{CycleEntry, EntrySeen, Exit, FastState, LegalEntries, LegalEntry, LegalRound, Marks, RoundSeen, Run, Session, after_round, after_turn, all_played, before_turn, calls_states, cold_done, cycle_by, cycle_of, early_count, early_of, fast_ended, fold-append, found_in, has_exit, late_of, met_after, or_true, state_more, state_of, take-append-drop, with_calls, with_cycle, with_cycles, with_poll}
 use Rattle.af_model.specs.Cycles.{is_exit}
-use Rattle.af_enough_law.specs.FastFlows.{AllUse, KnowsStates}
+use Rattle.af_enough_law.proofs.FastWords.{AllUse, KnowsStates}
 use Rattle.af_enough_law.proofs.FastFound.{cycle_current}
 use Rattle.af_enough_law.proofs.FastPolls.{fast_parts, parts_use, turn_more}
 use Rattle.af_enough_law.proofs.FastReports.{turned_same, loaded_same, met_same, ends_same}

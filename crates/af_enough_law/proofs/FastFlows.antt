@@ -3,10 +3,11 @@ use Rattle.std.proofs.Common.{◌≡◌, ◌⊎◌, inl, inr, ℕ, ◌+◌, ◌�
 use Rattle.af_enough_law.proofs.Common.{BlockTold, ClientEvent, EntrySeen, FastState, FastTrack, LegalEntries, LegalEntry, Listed, LooksBy, Marks, Run, ServerEvent, Session, Shape, TrackTold, client_list, count_seen, cycle_events, cycle_frames, drops_none, entry_slot, front_of, listed, mixed_track, played, server_kept, server_list, shown_if, slot_playing, slot_of, slots, state_for, state_known, told_at, with_cycle, with_cycles, with_poll}
 use Rattle.af_base.specs.declared.event.ServerEvent.TheVariants as server
 use Rattle.af_enough_law.specs.Seen.{Stands, frames_put, frames_taken}
-use Rattle.af_enough_law.specs.FastFlows.{AllUse, AllStates, Plays, taken_in, asked_in, IsShown, AllShown}
+use Rattle.af_enough_law.proofs.FastWords.{AllUse, AllStates, Plays, taken_in, asked_in, IsShown, AllShown}
 use Rattle.af_enough_law.proofs.FastMixes.{Uses, uses_of, entry_mixed}
 use Rattle.af_enough_law.proofs.FastShows.{Setting, Look, slot_look, stands-more}
-use Rattle.af_enough_law.proofs.FastSteps.{slot_only, cycle_states, cycle_length, cycle_track, mixed_stream, played_server, played_client}
+use Rattle.af_enough_law.proofs.FastSteps.{slot_only, cycle_states, cycle_track, mixed_stream, played_server, played_client}
+use Rattle.af_enough_law.proofs.RunTracks.{cycle_long}
 
 -- ## What an entry adds to blocks
 
@@ -55,7 +56,7 @@ pub cycles_later : (s : Session) (es : List EntrySeen) (run : Run) (track : ℕ)
 cycles_later s [] run track low = later_same (told_at run track).stream (told_at run track).stream refl
 cycles_later s (e ∷ es) run track low =
     later_both (told_at run track).stream (told_at (with_cycle s run e) track).stream (told_at (with_cycles s es (with_cycle s run e)) track).stream
-    (cycle_later s run e track low) (cycles_later s es (with_cycle s run e) track (let a = cycle_length s run e in omega (arith, a, low)))
+    (cycle_later s run e track low) (cycles_later s es (with_cycle s run e) track (let a = cycle_long s run e in omega (arith, a, low)))
 
 -- ## One entry
 
@@ -144,7 +145,7 @@ module _ (s : Session) (marks : Marks) (track i : ℕ) (item : FastTrack) (low :
       record { none = none; unshut = unshut; taken = omega arith; reaches = inl (omega arith); shown = tt }
   entries_take high (e ∷ es) run more whole top there uses legal lies none unshut learnt =
       let next = with_cycle s run e in
-      let there' : track < length next.tracks = (let a = cycle_length s run e in omega (arith, a, there)) in
+      let there' : track < length next.tracks = (let a = cycle_long s run e in omega (arith, a, there)) in
       let below = uses.1 in
       let plays = plays_track s marks run e track i item low is there legal.0 (uses_of (Plays i item) first after run e.entry.state states more whole uses.0 (omega arith)) in
       let look = entry_look run e plays (lies_before (told_at next track).stream (told_at (with_cycles s es next) track).stream (cycles_later s es next track there') lies) none unshut in

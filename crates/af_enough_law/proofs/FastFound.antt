@@ -3,19 +3,20 @@ use Rattle.std.proofs.Common.{◌≡◌, ◌⊎◌, inl, inr, ℕ, ◌≤◌, �
 use Rattle.af_enough_law.proofs.Common.{BlockTold, ClientEvent, CycleEntry, EntrySeen, FastState, FastTrack, HasBlockHistory, IsClientList, LegalEntries, LegalRound, Listed, Marks, NormalKept, Report, RoundSeen, Run, Seen, ServerEvent, Session, Shape, SlotReport, TrackTold, after_round, after_turn, before_turn, calls_states, carries, client_list, counted_look, cycle_events, cycle_frames, drops_none, early_count, early_of, ends_part, entry_slot, flushes_of, front_of, hand_list, initial, is_shown, is_tame, kept, known_of, known_some, last_report, last_used, last_used-push, late_of, listed, met_after, next_slot, no_slot, or_true, played, polled_other, polled_pushed, polled_waits, report_at, report_of, server_kept, server_list, slot_playing, slot_of, slot_report, slots, state_at, state_for, state_known, state_of, stream_of, take-append-drop, told_at, with_calls, with_cycle, with_cycles, with_looks, with_mix, with_poll}
 use Rattle.af_base.specs.declared.seen.Seen.TheVariants as seen
 use Rattle.af_runs.specs.Runs.{shows_slot}
-use Rattle.af_enough_law.specs.FastFlows.{AllUse, AllStates, Plays, slot_told, IsTold, LastCarries, IsShown, AllShown, Since, FlowsIn, HasItem}
+use Rattle.af_enough_law.proofs.FastWords.{AllUse, AllStates, Plays, slot_told, IsTold, LastCarries, IsShown, AllShown, Since, FlowsIn, HasItem}
 use Rattle.af_enough_law.proofs.FastFlows.{cycle_later, later_both, Later, entries_take, cycles_later, plays_track, Lies, lies_before, entry_look}
 use Rattle.af_enough_law.proofs.FastReports.{slot_counts, last_more, calls_same, slot_same, last_same, told_same, known_quiet}
 use Rattle.af_enough_law.proofs.FastPolls.{parts_use, fast_parts, use-append, turn_more}
 use Rattle.af_enough_law.proofs.FastRounds.{Quiet, over}
 use Rattle.af_enough_law.proofs.FastTakes.{flowed, quiet_none, quiet_unshut}
 use Rattle.af_enough_law.proofs.FastSince.{Adds, known_more, since_number}
-use Rattle.af_enough_law.proofs.FastSteps.{cycle_states, cycle_length, cycle_track, mixed_stream, played_server, slot_only}
+use Rattle.af_enough_law.proofs.FastSteps.{cycle_states, cycle_track, mixed_stream, played_server, slot_only}
 use Rattle.af_enough_law.proofs.FastMixes.{uses_of, early_states, late_states, Uses}
 use Rattle.af_enough_law.proofs.FastShows.{Setting, stands-more}
 use Rattle.af_enough_law.specs.Seen.{Stands}
 use Rattle.af_base.specs.declared.event.ServerEvent.TheVariants as server
 use Rattle.af_enough_law.proofs.Commanding.{le_cases}
+use Rattle.af_enough_law.proofs.RunTracks.{cycle_long}
 
 -- ## One entry
 
@@ -103,7 +104,7 @@ module _ (s : Session) (track i : ℕ) (item : FastTrack) (low : i < slots) (is 
         some = f.some;
         last = f.last;
         draft = f.draft;
-        there = (let a = cycle_length s run e in let b = f.there in omega (arith, a, b));
+        there = (let a = cycle_long s run e in let b = f.there in omega (arith, a, b));
         used = (let a = f.some in omega (arith, used, high, a));
         carried = ap (λ (m : ℕ). carries (state_for s next m) i) used ∙ ap (λ (z : FastState). carries z i) c.is ∙ h.carried;
         told = record { generation = ap (λ (r : SlotReport). r.generation) t; consumed = ap (λ (r : SlotReport). r.consumed) t; shut = ap (λ (r : SlotReport). r.shut) t };
@@ -165,7 +166,7 @@ module _ (s : Session) (marks : Marks) (track i : ℕ) (item : FastTrack) (low :
   entries_open high (e ∷ es) run more whole top there uses legal lies none unshut told f used shows same =
       let next = with_cycle s run e in
       let later : Run = with_cycle s told e in
-      let there' : track < length next.tracks = (let a = cycle_length s run e in omega (arith, a, there)) in
+      let there' : track < length next.tracks = (let a = cycle_long s run e in omega (arith, a, there)) in
       let below = uses.1 in
       let shows_slot = plays_track s marks run e track i item low is there legal.0 (uses_of (Plays i item) first after run e.entry.state states more whole uses.0 (omega arith)) in
       let lies' = lies_before s marks track i item low is first after states k cs all h count (told_at next track).stream (told_at (with_cycles s es next) track).stream (cycles_later s es next track there') lies in

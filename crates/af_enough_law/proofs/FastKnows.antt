@@ -6,7 +6,7 @@ use Rattle.af_base.specs.declared.event.HandEvent.TheVariants as hand
 use Rattle.af_base.specs.declared.event.ServerEvent.TheVariants as server
 use Rattle.af_enough_law.proofs.Basics.{part_met, put-append}
 use Rattle.af_enough_law.specs.Seen.{frames_put}
-use Rattle.af_enough_law.specs.FastFlows.{KnowsReleased}
+use Rattle.af_enough_law.proofs.FastWords.{KnowsReleased}
 use Rattle.af_enough_law.proofs.FastRounds.{over, all_length}
 use Rattle.af_enough_law.proofs.FastSteps.{server_does-server, server_does-client, client_does-client, client_does-server, hand_does-client, hand_does-server}
 

@@ -1,12 +1,12 @@
 -- After a round the fast mixer knows all states that were pushed.
 use Rattle.std.proofs.Common.{◌≡◌, ℕ, ◌+◌, ◌==◌, ◌&&◌, not, if◌then◌else◌, Bool, true, false, true≢false, Option, Some, None, is_some, List, [], ◌∷◌, ◌++◌, length, take, fold, refl, sym, ap, ◌∙◌, subst, arith, length-append}
-use Rattle.af_enough_law.proofs.Common.{Busy, Clean, FastState, Item, LegalRound, LegalTurnBy, Marks, MatchBool, MatchOption, MutatorEvent, MutatorPoint, NormalKept, ObserverEvent, Outside, Push, Pushed, QueueTold, RoundSeen, Run, Session, Setup, Turn, TurnFound, after_edits, after_round, after_turn, all_played, before_turn, brought_by, cycle_frames, draft_after, each_track, early_of, ended_turn, ends, fold-append, found_in, initial, is_pushed, items_of, late_of, learnt, loaded, met, met_after, mutator_does, mutator_list, mutator_next, mutator_start, new_run, number_seen, one, ones, outside_of, push_list, pushed_by, setup_of, state_at, take-append_seam, turned, two, twos, with_calls, with_cycles, with_ends, with_load, with_turn}
+use Rattle.af_enough_law.proofs.Common.{Busy, Clean, FastState, Item, LegalRound, LegalTurnBy, Marks, MatchBool, MatchOption, MutatorEvent, MutatorPoint, NormalKept, Outside, Push, Pushed, QueueTold, RoundSeen, Run, Session, Setup, Turn, TurnFound, after_edits, after_round, after_turn, all_played, before_turn, brought_by, cycle_frames, draft_after, each_track, early_of, ended_turn, ends, fold-append, found_in, initial, is_pushed, items_of, late_of, learnt, loaded, met, met_after, mutator_does, mutator_list, mutator_next, mutator_start, new_run, number_seen, one, ones, outside_of, push_list, pushed_by, setup_of, state_at, take-append_seam, turned, two, twos, with_calls, with_cycles, with_ends, with_load, with_turn, twos_met, ones_met}
 use Rattle.af_enough_law.proofs.Basics.{before_normal}
 use Rattle.af_model.specs.declared.states.MutatorEvent.TheVariants as mutator
 use Rattle.af_model.specs.declared.states.ObserverEvent.TheVariants as observer
 use Rattle.af_model.specs.StateQueue as queued
 use Rattle.af_model.specs.StateQueue.{mutated}
-use Rattle.af_enough_law.specs.FastFlows.{KnowsStates, CountsStates}
+use Rattle.af_enough_law.proofs.FastWords.{KnowsStates, CountsStates}
 use Rattle.af_enough_law.proofs.FastPolls.{AllNext, all_next, next_rest, turn_met, before_states, round_states}
 use Rattle.af_enough_law.proofs.FastSteps.{mutated-ones}
 use Rattle.af_enough_law.proofs.Acks.{cycles_ones}
@@ -85,16 +85,6 @@ pub met_queue : (s : Session) (run : Run) → (met s run).queue ≡ run.queue ++
 unfolding met
 met_queue s run = refl
 
-pub on_twos : (told : QueueTold) (a : MutatorEvent Item) (b : ObserverEvent Item) → twos (told ++ one a ∷ two b ∷ []) ≡ twos told ++ b ∷ []
-on_twos [] a b = refl
-on_twos (one x ∷ told) a b = on_twos told a b
-on_twos (two x ∷ told) a b = ap (λ l. x ∷ l) (on_twos told a b)
-
-pub on_ones : (told : QueueTold) (a : MutatorEvent Item) (b : ObserverEvent Item) → ones (told ++ one a ∷ two b ∷ []) ≡ ones told ++ a ∷ []
-on_ones [] a b = refl
-on_ones (one x ∷ told) a b = ap (λ l. x ∷ l) (on_ones told a b)
-on_ones (two x ∷ told) a b = on_ones told a b
-
 pub ends_queue : (run : Run) → (with_ends run).queue ≡ run.queue
 unfolding with_ends
 ends_queue run = by run.normal.ended (each_track (λ track t. record t { client = ends t.client }) run) refl
@@ -112,8 +102,8 @@ learnt_by : (s : Session) (after : Run) (told : QueueTold) → after.queue ≡ t
     → (mutated (initial (cycle_frames s)) (ones told)).pushed ≡ length after.states → Learnt s after
 learnt_by s after told is counts =
     let first : FastState = initial (cycle_frames s) in
-    let edits : ones after.queue ≡ ones told ++ mutator.Learn (length (twos told)) ∷ [] = ap ones is ∙ on_ones told (mutator.Learn (length (twos told))) (observer.Learn (length (ones told))) in
-    let looks : twos after.queue ≡ twos told ++ observer.Learn (length (ones told)) ∷ [] = ap twos is ∙ on_twos told (mutator.Learn (length (twos told))) (observer.Learn (length (ones told))) in
+    let edits : ones after.queue ≡ ones told ++ mutator.Learn (length (twos told)) ∷ [] = ap ones is ∙ ones_met told (mutator.Learn (length (twos told))) (observer.Learn (length (ones told))) in
+    let looks : twos after.queue ≡ twos told ++ observer.Learn (length (ones told)) ∷ [] = ap twos is ∙ twos_met told (mutator.Learn (length (twos told))) (observer.Learn (length (ones told))) in
     record {
       counts = ap (λ l. (mutated first l).pushed) edits ∙ ap (λ (x : MutatorPoint Item). x.pushed) (fold-append mutator_next (mutator_start first) (ones told) (mutator.Learn (length (twos told)) ∷ [])) ∙ counts;
       knows = record {

@@ -1,11 +1,11 @@
 -- A turn loads a report that is no older than those of the rounds before.
 use Rattle.std.proofs.Common.{◌≡◌, ℕ, zero, suc, ◌+◌, ◌≤◌, if◌then◌else◌, Bool, true, false, Option, Some, None, List, [], ◌∷◌, ◌++◌, map, length, take, refl, sym, ap, ◌∙◌, subst, arith, append_assoc, append-nil, length-append}
-use Rattle.af_enough_law.proofs.Common.{EntrySeen, Event, LegalRound, Marks, ReaderEvent, Report, RoundSeen, Run, Session, Turn, TurnFound, WriterEvent, after_round, after_turn, all_played, before_turn, each_track, early_of, ends, found_in, late_of, loaded, met, met_after, new_run, no_report, one, ones, report_of, take-append-le, take-append_seam, turned, two, twos, with_calls, with_cycle, with_cycles, with_ends, with_load, with_mix, with_poll, with_turn}
+use Rattle.af_enough_law.proofs.Common.{EntrySeen, LegalRound, Marks, ReaderEvent, Report, RoundSeen, Run, Session, Turn, TurnFound, WriterEvent, after_round, after_turn, all_played, before_turn, each_track, early_of, ends, found_in, late_of, loaded, met, met_after, new_run, no_report, one, ones, report_of, take-append-le, take-append_seam, turned, two, twos, with_calls, with_cycle, with_cycles, with_ends, with_load, with_mix, with_poll, with_turn, ones_one, twos_one, ones_stay, twos_more, twos_met, ones_met}
 use Rattle.af_model.specs.declared.newest.ReaderEvent.TheVariants as reads
 use Rattle.af_model.specs.declared.newest.WriterEvent.TheVariants as writes
 use Rattle.af_model.specs.NewestValue as newest
 use Rattle.af_enough_law.specs.Seen.{stored}
-use Rattle.af_enough_law.specs.FastFlows.{CountsReports, KnowsReports}
+use Rattle.af_enough_law.proofs.FastWords.{CountsReports, KnowsReports}
 use Rattle.af_enough_law.proofs.SeenShared.{load_seen}
 
 -- ## Lists
@@ -18,39 +18,6 @@ stored-front : (n : ℕ) (front rest : List (WriterEvent Report)) → n ≤ leng
 stored-front zero front rest low = omega arith
 stored-front (suc n) [] rest low = absurd (omega (arith, low))
 stored-front (suc n) (x ∷ front) rest low = let more = stored-front n front rest (omega (arith, low)) in omega arith
-
-module _ {A B : Type 0} where
-  ones-one : (told : List (Event A B)) (a : A) → ones (told ++ one a ∷ []) ≡ ones told ++ a ∷ []
-  ones-one [] a = refl
-  ones-one (one x ∷ told) a = ap (λ l. x ∷ l) (ones-one told a)
-  ones-one (two x ∷ told) a = ones-one told a
-
-  twos-one : (told : List (Event A B)) (a : A) → twos (told ++ one a ∷ []) ≡ twos told
-  twos-one [] a = refl
-  twos-one (one x ∷ told) a = twos-one told a
-  twos-one (two x ∷ told) a = ap (λ l. x ∷ l) (twos-one told a)
-
-  ones-twos : (told : List (Event A B)) (es : List B) → ones (told ++ map two es) ≡ ones told
-  ones-twos [] [] = refl
-  ones-twos [] (e ∷ es) = ones-twos [] es
-  ones-twos (one x ∷ told) es = ap (λ l. x ∷ l) (ones-twos told es)
-  ones-twos (two x ∷ told) es = ones-twos told es
-
-  twos-twos : (told : List (Event A B)) (es : List B) → twos (told ++ map two es) ≡ twos told ++ es
-  twos-twos [] [] = refl
-  twos-twos [] (e ∷ es) = ap (λ l. e ∷ l) (twos-twos [] es)
-  twos-twos (one x ∷ told) es = twos-twos told es
-  twos-twos (two x ∷ told) es = ap (λ l. x ∷ l) (twos-twos told es)
-
-  on_twos : (told : List (Event A B)) (a : A) (b : B) → twos (told ++ one a ∷ two b ∷ []) ≡ twos told ++ b ∷ []
-  on_twos [] a b = refl
-  on_twos (one x ∷ told) a b = on_twos told a b
-  on_twos (two x ∷ told) a b = ap (λ l. x ∷ l) (on_twos told a b)
-
-  on_ones : (told : List (Event A B)) (a : A) (b : B) → ones (told ++ one a ∷ two b ∷ []) ≡ ones told ++ a ∷ []
-  on_ones [] a b = refl
-  on_ones (one x ∷ told) a b = ap (λ l. x ∷ l) (on_ones told a b)
-  on_ones (two x ∷ told) a b = on_ones told a b
 
 -- ## Entries
 
@@ -77,7 +44,7 @@ one_more rs r = let a = length-append rs (r ∷ []) in omega arith
 
 cycle_stores : (s : Session) (run : Run) (e : EntrySeen) → Stores run (with_cycle s run e)
 unfolding with_poll with_mix
-cycle_stores s run e = record { more = writes.Store _ ∷ []; writer = ones-one run.report (writes.Store _); reader = twos-one run.report (writes.Store _); counts = one_more run.reports _ }
+cycle_stores s run e = record { more = writes.Store _ ∷ []; writer = ones_one run.report (writes.Store _); reader = twos_one run.report (writes.Store _); counts = one_more run.reports _ }
 
 cycles_store : (s : Session) (es : List EntrySeen) (run : Run) → Stores run (with_cycles s es run)
 cycles_store s [] run = stores_none run run refl refl
@@ -113,7 +80,7 @@ load_report e run going = ap (λ (b : Bool). run.report ++ map two (if b then []
 
 load_same : (e : Turn) (run : Run) → (ones (with_load e run).report ≡ ones run.report) × ((with_load e run).reports ≡ run.reports)
 unfolding with_load
-load_same e run = (ones-twos run.report (if e.ended then [] else reads.Load e.cycle (report_of run.reports e.cycle) ∷ []), refl)
+load_same e run = (ones_stay run.report (if e.ended then [] else reads.Load e.cycle (report_of run.reports e.cycle) ∷ []), refl)
 
 loaded_same : (o : Option Turn) (run : Run) → (ones (loaded o run).report ≡ ones run.report) × ((loaded o run).reports ≡ run.reports)
 loaded_same None run = (refl, refl)
@@ -141,11 +108,11 @@ loads_new cut s marks run round e legal counts knows is going =
     let x : Report = report_of late.reports e.cycle in
     let learns : List (ReaderEvent Report) = reads.Learn (length (ones all.report)) ∷ [] in
     let writer : ones end.report ≡ ones run.report ++ (stores.more ++ writes.Learn (length (twos all.report)) ∷ []) =
-    ap ones (met_report s all).0 ∙ on_ones all.report (writes.Learn (length (twos all.report))) (reads.Learn (length (ones all.report)))
+    ap ones (met_report s all).0 ∙ ones_met all.report (writes.Learn (length (twos all.report))) (reads.Learn (length (ones all.report)))
     ∙ ap (λ l. l ++ writes.Learn (length (twos all.report)) ∷ []) ((loaded_same round.turn late).0 ∙ stores.writer) ∙ append_assoc (ones run.report) stores.more (writes.Learn (length (twos all.report)) ∷ []) in
     let reader : twos end.report ≡ twos run.report ++ reads.Load e.cycle x ∷ learns =
-    ap twos (met_report s all).0 ∙ on_twos all.report (writes.Learn (length (twos all.report))) (reads.Learn (length (ones all.report)))
-    ∙ ap (λ l. l ++ learns) (ap (λ (o : Option Turn). twos (loaded o late).report) is ∙ ap twos (load_report e late going) ∙ twos-twos late.report (reads.Load e.cycle x ∷ []) ∙ ap (λ l. l ++ reads.Load e.cycle x ∷ []) stores.reader)
+    ap twos (met_report s all).0 ∙ twos_met all.report (writes.Learn (length (twos all.report))) (reads.Learn (length (ones all.report)))
+    ∙ ap (λ l. l ++ learns) (ap (λ (o : Option Turn). twos (loaded o late).report) is ∙ ap twos (load_report e late going) ∙ twos_more late.report (reads.Load e.cycle x ∷ []) ∙ ap (λ l. l ++ reads.Load e.cycle x ∷ []) stores.reader)
     ∙ append_assoc (twos run.report) (reads.Load e.cycle x ∷ []) learns in
     let history = subst (λ (l : List (ReaderEvent Report)). newest.HasValueHistory no_report (ones end.report) l) reader legal.histories.shared.report in
     let sees = load_seen (twos run.report) learns (ones end.report) e.cycle x history in
@@ -175,8 +142,8 @@ learns_reports s run round counts =
     let stores = round_stores s run round in
     let told = all.report in
     let seen : WriterEvent Report = writes.Learn (length (twos told)) in
-    let writer : ones after.report ≡ ones told ++ seen ∷ [] = ap ones ((ends_report end).0 ∙ (met_report s all).0) ∙ on_ones told seen (reads.Learn (length (ones told))) in
-    let reader : twos after.report ≡ twos told ++ reads.Learn (length (ones told)) ∷ [] = ap twos ((ends_report end).0 ∙ (met_report s all).0) ∙ on_twos told seen (reads.Learn (length (ones told))) in
+    let writer : ones after.report ≡ ones told ++ seen ∷ [] = ap ones ((ends_report end).0 ∙ (met_report s all).0) ∙ ones_met told seen (reads.Learn (length (ones told))) in
+    let reader : twos after.report ≡ twos told ++ reads.Learn (length (ones told)) ∷ [] = ap twos ((ends_report end).0 ∙ (met_report s all).0) ∙ twos_met told seen (reads.Learn (length (ones told))) in
     let same : length after.reports ≡ length late.reports = ap length ((ends_report end).1 ∙ (met_report s all).1 ∙ (loaded_same round.turn late).1) in
     let a = ap stored ((loaded_same round.turn late).0 ∙ stores.writer) in
     let b = stored-append (ones run.report) stores.more in

@@ -2,7 +2,7 @@
 use Rattle.std.proofs.Common.{◌≡◌, ◌⊎◌, inl, inr, ℕ, ◌≤◌, true, false, true≢false, Option, Some, List, [], ◌∷◌, ◌++◌, length, sym, ap, ◌∙◌, subst, arith, append-nil}
 use Rattle.af_enough_law.proofs.Common.{AreMixedBut, Cycle, EntrySeen, FastState, LegalEntries, LegalEntry, LegalRound, Marks, MixWrite, RoundSeen, Run, Session, after_round, after_turn, calls_states, cold_done, cycle_by, cycle_of, early_count, early_of, fast_ended, is_mixed, late_of, state_more, state_of, take-append-drop, with_calls, with_cycle, with_poll}
 use Rattle.af_enough_law.proofs.Basics.{state_there}
-use Rattle.af_enough_law.specs.FastFlows.{KnowsStates, AllUse, AllStates, AllMixed, MixesAll}
+use Rattle.af_enough_law.proofs.FastWords.{KnowsStates, AllUse, AllStates, AllMixed, MixesAll}
 use Rattle.af_enough_law.proofs.FastSteps.{cycle_states}
 use Rattle.af_enough_law.proofs.FastPolls.{MoreStates, round_states, turn_more, parts_use, fast_parts}
 

@@ -1,12 +1,12 @@
 -- Which states the entries of a round use.
 use Rattle.std.proofs.Common.{◌≡◌, ℕ, ◌+◌, ◌≤◌, ◌==◌, if◌then◌else◌, Bool, true, false, Option, Some, None, List, [], ◌∷◌, ◌++◌, length, take, drop, fold, refl, sym, ap, ◌∙◌, subst, arith, append_assoc, append-nil}
-use Rattle.af_enough_law.proofs.Common.{EntrySeen, Event, FastState, HasQueueHistory, IsFastTurn, Item, Legal, LegalEntries, LegalEntry, LegalRound, Marks, MatchBool, MutatorEvent, MutatorPoint, ObserverEvent, QueuePoint, QueueTold, RoundSeen, Run, Session, Turn, TurnFound, after_round, after_turn, all_played, before_turn, calls_states, cycle_frames, early_of, ends_states, fast_ended, fold-append, found_in, initial, items_of, late_of, loaded, loaded_states, met, met_after, met_states, most_round_cycles, mutator_next, mutator_start, one, ones, poll_events, state_at, take-append-drop, take-append-le, turned, two, twos, with_calls, with_cycle, with_cycles, with_load, with_mix, with_poll, with_turn}
+use Rattle.af_enough_law.proofs.Common.{EntrySeen, Event, FastState, HasQueueHistory, IsFastTurn, Item, Legal, LegalEntries, LegalEntry, LegalRound, Marks, MatchBool, MutatorEvent, MutatorPoint, ObserverEvent, QueuePoint, RoundSeen, Run, Session, Turn, TurnFound, after_round, after_turn, all_played, before_turn, calls_states, cycle_frames, early_of, ends_states, fast_ended, fold-append, found_in, initial, items_of, late_of, loaded, loaded_states, met, met_after, met_states, most_round_cycles, mutator_next, mutator_start, one, ones, poll_events, state_at, take-append-drop, take-append-le, turned, two, twos, with_calls, with_cycle, with_cycles, with_load, with_mix, with_poll, with_turn, twos_met, ones_met}
 use Rattle.af_model.specs.declared.states.MutatorEvent.TheVariants as mutator
 use Rattle.af_model.specs.declared.states.ObserverEvent.TheVariants as observer
 use Rattle.af_model.specs.StateQueue as queued
 use Rattle.af_model.specs.StateQueue.{mutated}
 use Rattle.af_enough_law.specs.Seen.{Stands}
-use Rattle.af_enough_law.specs.FastFlows.{KnowsStates, AllUse}
+use Rattle.af_enough_law.proofs.FastWords.{KnowsStates, AllUse}
 use Rattle.af_enough_law.proofs.FastShows.{stands-more}
 use Rattle.af_enough_law.proofs.FastSteps.{cycle_queue, cycle_states, cycles_states, observed-ones, mutated-more, mutated-ones}
 use Rattle.af_enough_law.proofs.SeenShared.{next_seen}
@@ -116,20 +116,10 @@ met_goes : (s : Session) (run : Run) → Goes run (met s run)
 unfolding met
 met_goes s run = record {
   looks = observer.Learn (length (ones run.queue)) ∷ [];
-  observed = on_twos run.queue (mutator.Learn (length (twos run.queue))) (observer.Learn (length (ones run.queue)));
+  observed = twos_met run.queue (mutator.Learn (length (twos run.queue))) (observer.Learn (length (ones run.queue)));
   edits = mutator.Learn (length (twos run.queue)) ∷ [];
-  mutated = on_ones run.queue (mutator.Learn (length (twos run.queue))) (observer.Learn (length (ones run.queue)));
+  mutated = ones_met run.queue (mutator.Learn (length (twos run.queue))) (observer.Learn (length (ones run.queue)));
 }
-  where
-    on_twos : (told : QueueTold) (a : MutatorEvent Item) (b : ObserverEvent Item) → twos (told ++ one a ∷ two b ∷ []) ≡ twos told ++ b ∷ []
-    on_twos [] a b = refl
-    on_twos (one x ∷ told) a b = on_twos told a b
-    on_twos (two x ∷ told) a b = ap (λ l. x ∷ l) (on_twos told a b)
-
-    on_ones : (told : QueueTold) (a : MutatorEvent Item) (b : ObserverEvent Item) → ones (told ++ one a ∷ two b ∷ []) ≡ ones told ++ a ∷ []
-    on_ones [] a b = refl
-    on_ones (one x ∷ told) a b = ap (λ l. x ∷ l) (on_ones told a b)
-    on_ones (two x ∷ told) a b = on_ones told a b
 
 -- the queue goes on from an entry's turn to the meeting
 pub turn_met : (s : Session) (run : Run) (round : RoundSeen) → Goes (after_turn s run round) (met_after s run round)

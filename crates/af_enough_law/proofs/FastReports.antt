@@ -4,7 +4,7 @@ use Rattle.af_enough_law.proofs.Common.{BlockTold, CycleEntry, EntrySeen, FastSt
 use Rattle.af_base.specs.declared.seen.Seen.TheVariants as seen
 use Rattle.af_base.specs.declared.event.ServerEvent.TheVariants as server
 use Rattle.af_runs.specs.Runs.{shows_slot}
-use Rattle.af_enough_law.specs.FastFlows.{AllUse, AllStates, Plays, slot_told, IsTold, LastCarries, heard_by, silent_by, heard_in, silent_in, Counted, FlowsIn, Flowed, Reported, taken_in, frames_left_in, KnowsStates}
+use Rattle.af_enough_law.proofs.FastWords.{AllUse, AllStates, Plays, slot_told, IsTold, LastCarries, heard_by, silent_by, heard_in, silent_in, Counted, FlowsIn, Flowed, Reported, taken_in, frames_left_in, KnowsStates}
 use Rattle.af_enough_law.proofs.FastMixes.{Uses, uses_of, mixes_all, early_states, late_states}
 use Rattle.af_enough_law.proofs.FastPolls.{turned_states, parts_use}
 use Rattle.af_enough_law.proofs.FastRounds.{Quiet, over, loaded_told}

@@ -1,14 +1,14 @@
 -- What a round does to a stream block beside the entries, and what all its entries take.
-use Rattle.std.proofs.Common.{◌≡◌, ◌⊎◌, inl, inr, ℕ, ◌<◌, if◌then◌else◌, Bool, true, false, Option, Some, None, List, [], ◌∷◌, ◌++◌, length, drop, refl, sym, ap, ◌∙◌, subst, arith, append-nil}
-use Rattle.af_enough_law.proofs.Common.{BlockTold, ClientEvent, EntrySeen, NormalKept, Outside, RoundSeen, Run, ServerEvent, Session, Setup, Side, TrackTold, Turn, TurnFound, after_calls, after_round, after_turn, all_played, before_turn, called_in_turn, calls_in, client_does, client_list, each_at, each_long, each_track, early_of, ends, found_in, hand_does, late_of, learnt, loaded, meets, meets_flag, met, met_after, met_many, outside_of, server_list, setup_of, sides_of, stream_list, stream_met, stream_turned, takes_part, told_at, told_each, track_met, tracks_at, turned, turned_track, with_calls, with_cycle, with_cycles, with_ends, with_load, with_side, with_turn}
+use Rattle.std.proofs.Common.{◌≡◌, ◌⊎◌, inl, inr, ℕ, ◌<◌, Bool, true, false, Option, Some, None, List, [], ◌∷◌, ◌++◌, length, drop, refl, sym, ap, ◌∙◌, subst, arith, append-nil}
+use Rattle.af_enough_law.proofs.Common.{BlockTold, ClientEvent, NormalKept, Outside, RoundSeen, Run, ServerEvent, Session, Setup, Side, TrackTold, Turn, TurnFound, after_calls, after_round, after_turn, all_played, before_turn, called_in_turn, calls_in, client_does, client_list, each_at, early_of, found_in, hand_does, late_of, learnt, loaded, meets, meets_flag, met, met_after, met_many, outside_of, server_list, setup_of, sides_of, stream_list, stream_met, stream_turned, takes_part, told_at, told_each, track_met, tracks_at, turned, turned_track, with_calls, with_cycles, with_side, with_turn}
 use Rattle.af_base.specs.declared.event.ClientEvent.TheVariants as client
 use Rattle.af_base.specs.declared.event.ServerEvent.TheVariants as server
 use Rattle.af_base.specs.declared.event.HandEvent.TheVariants as hand
 use Rattle.af_enough_law.proofs.Basics.{load_told}
 use Rattle.af_life.specs.TurnEvents.{hand_events_of}
 use Rattle.af_enough_law.proofs.FastFlows.{Later, later_same, cycles_later}
-use Rattle.af_enough_law.proofs.FastSteps.{server_does-server, server_does-client, client_does-client, client_does-server, hand_does-client, hand_does-server, cycle_length}
-use Rattle.af_enough_law.proofs.RunTracks.{calls_long as calls_length}
+use Rattle.af_enough_law.proofs.FastSteps.{server_does-server, server_does-client, client_does-client, client_does-server, hand_does-client, hand_does-server}
+use Rattle.af_enough_law.proofs.RunTracks.{calls_long as calls_length, loaded_tracks, ends_blocks, cycles_long, turned_long}
 
 -- ## Steps that add no look
 
@@ -34,10 +34,6 @@ calls_quiet round run track low =
     subst (λ (t : TrackTold). Quiet (told_at run track).stream t.stream) (sym (told_each (λ track t. called_in_turn (calls_in round track) t) run track low))
     (side_quiet (after_calls (sides_of (told_at run track)) (calls_in round track)).stream (told_at run track).stream)
 
-pub cycles_length : (s : Session) (es : List EntrySeen) (run : Run) → length (with_cycles s es run).tracks ≡ length run.tracks
-cycles_length s [] run = refl
-cycles_length s (e ∷ es) run = cycles_length s es (with_cycle s run e) ∙ cycle_length s run e
-
 stream_later : (c : Setup) (o : Outside) (m : NormalKept) (e : Turn) (i : ℕ) (b : BlockTold) → Later b (stream_turned c o m e i b)
 stream_later c o m e i b =
     let added : List ServerEvent = stream_list c o e (tracks_at c (learnt o) m e i) i in
@@ -56,25 +52,9 @@ turn_later s f e run track low =
     subst (λ (t : TrackTold). Later (told_at run track).stream t.stream) (sym (each_at (turned_track (setup_of s) (outside_of (setup_of s) f e) run.normal e) 0 run.tracks track track _ low (omega arith)))
     (stream_later (setup_of s) (outside_of (setup_of s) f e) run.normal e track (told_at run track).stream)
 
-turn_length : (s : Session) (f : TurnFound) (e : Turn) (run : Run) → length (with_turn s f e run).tracks ≡ length run.tracks
-unfolding with_turn
-turn_length s f e run = each_long _ 0 run.tracks
-
 pub turned_later : (s : Session) (found : Turn → TurnFound) (o : Option Turn) (run : Run) (track : ℕ) → track < length run.tracks → Later (told_at run track).stream (told_at (turned s found o run) track).stream
 turned_later s found None run track low = later_same (told_at run track).stream (told_at run track).stream refl
 turned_later s found (Some e) run track low = turn_later s (found e) e run track low
-
-pub turned_length : (s : Session) (found : Turn → TurnFound) (o : Option Turn) (run : Run) → length (turned s found o run).tracks ≡ length run.tracks
-turned_length s found None run = refl
-turned_length s found (Some e) run = turn_length s (found e) e run
-
-load_tracks : (e : Turn) (run : Run) → (with_load e run).tracks ≡ run.tracks
-unfolding with_load
-load_tracks e run = refl
-
-pub loaded_tracks : (o : Option Turn) (run : Run) → (loaded o run).tracks ≡ run.tracks
-loaded_tracks None run = refl
-loaded_tracks (Some e) run = load_tracks e run
 
 pub loaded_told : (o : Option Turn) (run : Run) (track : ℕ) → told_at (loaded o run) track ≡ told_at run track
 loaded_told None run track = refl
@@ -118,16 +98,6 @@ met_quiet s run track low =
     subst (λ (t : TrackTold). Quiet (told_at run track).stream t.stream) (sym (told_each (track_met s run) run track low))
     (stream_quiet (takes_part s run track) run.handed (told_at run track).stream)
 
--- ## The ends of a round
-
-ends_by : (b : Bool) (run : Run) (track : ℕ) → track < length run.tracks → (told_at (if b then each_track (λ track t. record t { client = ends t.client }) run else run) track).stream ≡ (told_at run track).stream
-ends_by true run track low = ap (λ (t : TrackTold). t.stream) (told_each (λ track t. record t { client = ends t.client }) run track low)
-ends_by false run track low = refl
-
-pub ends_stream : (run : Run) (track : ℕ) → track < length run.tracks → (told_at (with_ends run) track).stream ≡ (told_at run track).stream
-unfolding with_ends
-ends_stream run track low = ends_by run.normal.ended run track low
-
 -- ## All that a round does to a block
 
 -- a block over a round: what the clients' calls, the entries, the turn and the meeting add to it
@@ -144,10 +114,10 @@ pub record Over (s : Session) (run : Run) (round : RoundSeen) (track : ℕ) : Ty
 pub over : (s : Session) (run : Run) (round : RoundSeen) (track : ℕ) → track < length run.tracks → Over s run round track
 over s run round track low =
     let a = calls_length round run in
-    let b = cycles_length s (early_of run round) (with_calls round run) in
-    let c = turned_length s (found_in s run round) round.turn (before_turn s run round) in
+    let b = cycles_long s (early_of run round) (with_calls round run) in
+    let c = turned_long s (found_in s run round) round.turn (before_turn s run round) in
     let late : Run = with_cycles s (late_of run round) (after_turn s run round) in
-    let d = cycles_length s (late_of run round) (after_turn s run round) in
+    let d = cycles_long s (late_of run round) (after_turn s run round) in
     let e = ap length (loaded_tracks round.turn late) in
     let f = met_many s (all_played s run round) in
     record {
@@ -156,7 +126,7 @@ over s run round track low =
       turn = turned_later s (found_in s run round) round.turn (before_turn s run round) track (omega (arith, a, b, low));
       late = cycles_later s (late_of run round) (after_turn s run round) track (omega (arith, a, b, c, low));
       meeting = subst (λ (t : TrackTold). Quiet t.stream (told_at (met_after s run round) track).stream) (loaded_told round.turn late track) (met_quiet s (all_played s run round) track (omega (arith, a, b, c, d, e, low)));
-      whole = ends_stream (met_after s run round) track (omega (arith, a, b, c, d, e, f, low));
+      whole = (ends_blocks (met_after s run round) track (omega (arith, a, b, c, d, e, f, low))).0;
       first = omega (arith, a, low);
       last = omega (arith, a, b, c, low);
     }
@@ -165,5 +135,5 @@ over s run round track low =
 pub all_length : (s : Session) (run : Run) (round : RoundSeen) → length (all_played s run round).tracks ≡ length run.tracks
 all_length s run round =
     let late : Run = with_cycles s (late_of run round) (after_turn s run round) in
-    ap length (loaded_tracks round.turn late) ∙ cycles_length s (late_of run round) (after_turn s run round) ∙ turned_length s (found_in s run round) round.turn (before_turn s run round)
-    ∙ cycles_length s (early_of run round) (with_calls round run) ∙ calls_length round run
+    ap length (loaded_tracks round.turn late) ∙ cycles_long s (late_of run round) (after_turn s run round) ∙ turned_long s (found_in s run round) round.turn (before_turn s run round)
+    ∙ cycles_long s (early_of run round) (with_calls round run) ∙ calls_length round run

@@ -6,7 +6,7 @@ use Rattle.af_base.specs.declared.seen.Seen.TheVariants as seen
 use Rattle.af_enough_law.proofs.Basics.{old_word, put-append, taken-append}
 use Rattle.af_model.specs.Cycles.{events_behind_look}
 use Rattle.af_enough_law.specs.Seen.{Stands, frames_put, frames_taken}
-use Rattle.af_enough_law.specs.FastFlows.{IsShown}
+use Rattle.af_enough_law.proofs.FastWords.{IsShown}
 use Rattle.af_enough_law.proofs.FastLooks.{Moments, moment}
 
 -- ## Lists
@@ -62,15 +62,12 @@ pub record Words (k : Shape) (cs : List ClientEvent) (before : List ServerEvent)
   pub is_put : released ≤ k.base + frames_put cs
   pub reaches : (n : ℕ) → Stands (server.Learn n) before → k.base + frames_put (take n cs) ≤ released
 
-pub words_of : (k : Shape) (cs : List ClientEvent) (all before : List ServerEvent) (gains flush rear front : ℕ) (behind : List ServerEvent) → Setting k cs all
-    → all ≡ before ++ server.SawGain gains ∷ server.SawFlush flush ∷ server.SawRear rear ∷ server.SawFront front ∷ behind → drops_none before ≡ true → Words k cs before flush rear front
-words_of k cs all before gains flush rear front behind h whole none =
-    let to_flush : List ServerEvent = server.SawGain gains ∷ [] in
-    let to_rear : List ServerEvent = server.SawGain gains ∷ server.SawFlush flush ∷ [] in
-    let to_front : List ServerEvent = server.SawGain gains ∷ server.SawFlush flush ∷ server.SawRear rear ∷ [] in
-    let m_gain = setting_moment k cs all before (server.SawGain gains) (server.SawFlush flush ∷ server.SawRear rear ∷ server.SawFront front ∷ behind) h whole none in
-    let m_flush = setting_moment k cs all (before ++ to_flush) (server.SawFlush flush) (server.SawRear rear ∷ server.SawFront front ∷ behind) h
-    (whole ∙ sym (append_assoc before to_flush (server.SawFlush flush ∷ server.SawRear rear ∷ server.SawFront front ∷ behind))) (none-append before to_flush none refl) in
+pub words_at : (k : Shape) (cs : List ClientEvent) (all before : List ServerEvent) (flush rear front : ℕ) (behind : List ServerEvent) → Setting k cs all
+    → all ≡ before ++ server.SawFlush flush ∷ server.SawRear rear ∷ server.SawFront front ∷ behind → drops_none before ≡ true → Words k cs before flush rear front
+words_at k cs all before flush rear front behind h whole none =
+    let to_rear : List ServerEvent = server.SawFlush flush ∷ [] in
+    let to_front : List ServerEvent = server.SawFlush flush ∷ server.SawRear rear ∷ [] in
+    let m_flush = setting_moment k cs all before (server.SawFlush flush) (server.SawRear rear ∷ server.SawFront front ∷ behind) h whole none in
     let m_rear = setting_moment k cs all (before ++ to_rear) (server.SawRear rear) (server.SawFront front ∷ behind) h
     (whole ∙ sym (append_assoc before to_rear (server.SawRear rear ∷ server.SawFront front ∷ behind))) (none-append before to_rear none refl) in
     let m_front = setting_moment k cs all (before ++ to_front) (server.SawFront front) behind h
@@ -82,7 +79,7 @@ words_of k cs all before gains flush rear front behind h whole none =
       consumed = m_rear.at.consumed;
       released = m_rear.at.released;
       flush_is = m_flush.may ∙ m_flush.word;
-      kept_is = m_gain.kept_word;
+      kept_is = m_flush.kept_word;
       front_is = m_front.may ∙ ap wrapped (at_front ∙ sym at_rear);
       rear_is = m_rear.may;
       low = m_rear.low;
@@ -93,6 +90,27 @@ words_of k cs all before gains flush rear front behind h whole none =
           let few = m_rear.learnt n (stands-more (server.Learn n) before to_rear s) in
           let less : frames_put (take n cs) ≤ frames_put m_rear.front = subst (λ (l : List ClientEvent). frames_put (take n l) ≤ frames_put m_rear.front) (sym m_rear.whole) (put-front n m_rear.front m_rear.rest few) in
           let r = m_rear.released in omega arith;
+    }
+
+pub words_of : (k : Shape) (cs : List ClientEvent) (all before : List ServerEvent) (gains flush rear front : ℕ) (behind : List ServerEvent) → Setting k cs all
+    → all ≡ before ++ server.SawGain gains ∷ server.SawFlush flush ∷ server.SawRear rear ∷ server.SawFront front ∷ behind → drops_none before ≡ true → Words k cs before flush rear front
+words_of k cs all before gains flush rear front behind h whole none =
+    let to_flush : List ServerEvent = server.SawGain gains ∷ [] in
+    let rest : List ServerEvent = server.SawFlush flush ∷ server.SawRear rear ∷ server.SawFront front ∷ behind in
+    let first = setting_moment k cs all before (server.SawGain gains) rest h whole none in
+    let w = words_at k cs all (before ++ to_flush) flush rear front behind h (whole ∙ sym (append_assoc before to_flush rest)) (none-append before to_flush none refl) in
+    record {
+      consumed = w.consumed;
+      released = w.released;
+      flush_is = w.flush_is;
+      kept_is = first.kept_word;
+      front_is = w.front_is;
+      rear_is = w.rear_is;
+      low = w.low;
+      high = w.high;
+      is_taken = w.is_taken ∙ (let a = taken-append before to_flush in omega arith);
+      is_put = w.is_put;
+      reaches = λ n s. w.reaches n (stands-more (server.Learn n) before to_flush s);
     }
 
 -- ## The look

@@ -1,6 +1,6 @@
 -- What an entry of the fast mixer changes of a run.
 use Rattle.std.proofs.Common.{◌≡◌, ℕ, zero, suc, ◌+◌, ◌≤◌, ◌<◌, ◌==◌, ◌&&◌, if◌then◌else◌, Bool, true, false, true≢false, Option, Some, None, List, [], ◌∷◌, ◌++◌, length, map, fold, refl, sym, ap, ◌∙◌, arith, append_assoc, append-nil, eqb-true, eq-eqb}
-use Rattle.af_enough_law.proofs.Common.{BlockTold, ClientEvent, EntrySeen, FastState, HandEvent, Item, LegalEntry, Marks, Moment, MutatorEvent, ObserverEvent, QueueTold, Run, ServerEvent, Session, TrackTold, by_client, by_hand, by_server, carries, client_does, client_list, client_of, cycle_events, cycle_frames, each_long, entry_slot, find, front_of, hand_does, is_shown, listed, mixed_track, mutator_does, observer_does, one, ones, played, poll_events, range_with_len, server_does, server_list, server_of, slot_playing, slot_of, slots, state_for, told_at, told_each, two, twos, with_cycle, with_cycles, with_mix, with_poll}
+use Rattle.af_enough_law.proofs.Common.{BlockTold, ClientEvent, EntrySeen, FastState, HandEvent, Item, LegalEntry, Marks, Moment, MutatorEvent, ObserverEvent, QueueTold, Run, ServerEvent, Session, TrackTold, by_client, by_hand, by_server, carries, client_does, client_list, client_of, cycle_events, cycle_frames, entry_slot, find, front_of, hand_does, is_shown, listed, mixed_track, mutator_does, observer_does, one, ones, played, poll_events, range_with_len, server_does, server_list, server_of, slot_playing, slot_of, slots, state_for, told_at, told_each, two, twos, with_cycle, with_cycles, with_mix, with_poll}
 use Rattle.af_runs.specs.Runs.{shows_slot}
 
 -- ## Blocks
@@ -139,10 +139,6 @@ cycle_draft s run e = refl
 pub cycle_queue : (s : Session) (run : Run) (e : EntrySeen) → twos (with_cycle s run e).queue ≡ twos run.queue ++ poll_events (cycle_frames s) run.states run.current e.entry.state
 unfolding with_poll with_mix
 cycle_queue s run e = observed-more (poll_events (cycle_frames s) run.states run.current e.entry.state) run.queue
-
-pub cycle_length : (s : Session) (run : Run) (e : EntrySeen) → length (with_cycle s run e).tracks ≡ length run.tracks
-unfolding with_poll with_mix
-cycle_length s run e = each_long (mixed_track s (state_for s (with_poll s e.entry.state run) e.entry.state) e) 0 run.tracks
 
 pub cycle_track : (s : Session) (run : Run) (e : EntrySeen) (track : ℕ) → track < length run.tracks
     → told_at (with_cycle s run e) track ≡ mixed_track s (state_for s (with_poll s e.entry.state run) e.entry.state) e track (told_at run track)

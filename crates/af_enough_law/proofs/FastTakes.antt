@@ -4,7 +4,7 @@ use Rattle.af_enough_law.proofs.Common.{BlockTold, ClientEvent, EntrySeen, FastT
 use Rattle.af_base.specs.declared.event.ServerEvent.TheVariants as server
 use Rattle.af_enough_law.proofs.Basics.{asked_in-append, asked_is, taken-append}
 use Rattle.af_enough_law.specs.Seen.{Stands, frames_put, frames_taken}
-use Rattle.af_enough_law.specs.FastFlows.{taken_in, asked_in, AllShown, frames_left_in, FlowsIn, Flowed}
+use Rattle.af_enough_law.proofs.FastWords.{taken_in, asked_in, AllShown, frames_left_in, FlowsIn, Flowed}
 use Rattle.af_enough_law.proofs.FastFlows.{Later, later_both, Lies, lies_before, entries_take}
 use Rattle.af_enough_law.proofs.FastMixes.{early_states, late_states, mixes_all}
 use Rattle.af_enough_law.proofs.FastPolls.{parts_use, fast_parts}

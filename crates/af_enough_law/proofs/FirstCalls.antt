@@ -6,7 +6,7 @@ use Rattle.af_script.specs.declared.op.Op.TheVariants as op
 use Rattle.af_runs.specs.declared.want.ClientCommand.TheVariants as command
 use Rattle.af_runs.specs.declared.want.Mode.TheVariants as mode
 use Rattle.af_runs.specs.declared.want.Want.TheVariants as want
-use Rattle.af_enough_law.specs.Playing.{IsFair, AreFair}
+use Rattle.af_enough_law.proofs.Playing.{IsFair, AreFair}
 use Rattle.af_enough_law.proofs.Doing.{at, sent_is, sent_of}
 use Rattle.af_enough_law.proofs.Turning.{none_some, client_after, words_of, spoken_after}
 use Rattle.af_enough_law.proofs.SeesStopped.{spoken_long as released_on}

@@ -3,9 +3,9 @@ use Rattle.std.proofs.Common.{◌≡◌, ◌⊎◌, inl, inr, ℕ, zero, suc, �
 use Rattle.af_enough_law.proofs.Common.{Client, ClientCall, LegalRound, Marks, Mode, Op, RoundSeen, Run, ServerEvent, Session, Shape, Track, TrackTold, Want, after_call, after_calls, after_round, begins_ended, begun, calls_in, client_list, server_list, sides_of, told_at, track_in}
 use Rattle.af_script.specs.declared.op.Op.TheVariants as op
 use Rattle.af_runs.specs.declared.want.Want.TheVariants as want
-use Rattle.af_enough_law.specs.Nearing.{is_started, IsPast, buffer_of, RoundFlows}
-use Rattle.af_enough_law.specs.NormalRounds.{TurnMade}
-use Rattle.af_enough_law.specs.Playing.{IsWay, way_ops, Doing, opening, starting, settling, setting, writing, clearing, clearing_more, stopping, draining, removing, position, AreFair}
+use Rattle.af_enough_law.proofs.NearWords.{is_started, IsPast, buffer_of, RoundFlows}
+use Rattle.af_enough_law.proofs.NormalRounds.{TurnMade}
+use Rattle.af_enough_law.proofs.Playing.{IsWay, way_ops, Doing, opening, starting, settling, setting, writing, clearing, clearing_more, stopping, draining, removing, position, AreFair}
 use Rattle.af_enough_law.specs.Seen.{frames_put, frames_taken}
 use Rattle.af_enough_law.proofs.Advancing.{IsBlock, Progress, fills, falls, at_end, rank, shapes_stay}
 use Rattle.af_enough_law.proofs.BlockNumbers.{block_numbers}

@@ -2,7 +2,7 @@
 use Rattle.std.proofs.Common.{◌≡◌, ℕ, ◌+◌, ◌*◌, ◌≤◌, List, [], ◌∷◌, arith}
 use Rattle.af_enough_law.proofs.Common.{Op, div_ceil, div_ceil_times, op_cost, sum_by, sum_by-cons}
 use Rattle.af_script.specs.declared.op.Op.TheVariants as op
-use Rattle.af_enough_law.specs.Playing.{IsWay, way_ops, way_frames}
+use Rattle.af_enough_law.proofs.Playing.{IsWay, way_ops, way_frames}
 
 -- the most rounds that an op takes
 abbrev pub op_rounds : ℕ → Op → ℕ

@@ -1,8 +1,8 @@
 -- A turn leaves a track on its course.
 use Rattle.std.proofs.Common.{◌≡◌, ℕ, zero, suc, ◌+◌, ◌*◌, ◌%◌, ◌<◌, ◌≤◌, Bool, true, false, List, [], ◌∷◌, length, refl, sym, ap, ◌∙◌, subst, arith, true≢false, Option, MatchBool, if◌then◌else◌}
 use Rattle.af_enough_law.proofs.Common.{FastState, GoesOn, Heard, Home, IsServed, Learnt, Life, NormalKept, Outside, Setup, SlotReport, TrackKept, TrackSeen, Turn, acked_len, after_ack, after_part, by_false, by_report, comes_home, counts_in, heard, is_home, is_reported, learnt, no_counts, not_yet, noted, nothing_seen, ready, runs_dry, slot_reported, state_code, status_word, track_at, track_in, tracks_at, turn_after, welcomed, words_taken}
-use Rattle.af_enough_law.specs.Courses.{told_all, starts_at_once, none_shut, reported_by, course, Course, Follows, told_words, life_after}
-use Rattle.af_enough_law.specs.TrackTurns.{greeted, attended, Edited, stays, leaves, enters, TrackTurned}
+use Rattle.af_enough_law.proofs.Courses.{told_all, starts_at_once, none_shut, reported_by, course, Course, Follows, told_words, life_after}
+use Rattle.af_enough_law.proofs.TrackTurns.{greeted, attended, Edited, stays, leaves, enters, TrackTurned}
 use Rattle.af_enough_law.proofs.Coursing.{course_all, course_starts, course_reported}
 use Rattle.af_enough_law.proofs.Served.{greeted_at, track_turned}
 use Rattle.af_enough_law.proofs.Told.{attended_told}

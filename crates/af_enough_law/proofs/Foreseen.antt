@@ -1,21 +1,19 @@
 -- What is known of a stream block after a round by a history in which its lists lie: of this round, if its proxy takes part in the meeting, or of a later one.
 use Rattle.std.proofs.Common.{◌≡◌, ℕ, ◌≤◌, ◌<◌, Bool, true, false, Some, List, [], ◌++◌, length, append_assoc, refl, sym, ap, ◌∙◌, subst, append-nil}
 use Rattle.af_enough_law.proofs.Common.{AreSpelled, BlockTold, ClientEvent, HasBlockHistory, Learnt, LegalRound, Marks, RoundSeen, Run, ServerEvent, Session, Shape, Turn, after_round, after_turn, before_turn, client_list, early_of, hand_list, heard, is_home, is_tame, late_of, learnt, met_after, server_list, sides_of, takes_part, told_at, track_count, track_in, with_calls, with_cycles}
-use Rattle.af_enough_law.specs.Courses.{none_shut}
-use Rattle.af_enough_law.specs.NormalRounds.{TurnMade}
+use Rattle.af_enough_law.proofs.Courses.{none_shut}
+use Rattle.af_enough_law.proofs.NormalRounds.{TurnMade}
 use Rattle.af_enough_law.proofs.CommandsGo.{spelled_round}
 use Rattle.af_enough_law.proofs.FastFlows.{Later}
 use Rattle.af_enough_law.proofs.FastRounds.{over}
 use Rattle.af_enough_law.proofs.FastShows.{Setting}
-use Rattle.af_enough_law.proofs.Flushless.{IsFlushlessTrack, unflushed_none}
+use Rattle.af_enough_law.proofs.Flushless.{IsFlushlessTrack, unflushed_none, round_flushless}
 use Rattle.af_enough_law.proofs.Following.{greeted_in}
-use Rattle.af_enough_law.proofs.Pokeless.{IsPokelessTrack}
-use Rattle.af_enough_law.proofs.RoundCalm.{known_open, quiet_only, home_open, legal_parts, round_quiet}
-use Rattle.af_enough_law.proofs.RunFlushless.{round_flushless}
+use Rattle.af_enough_law.proofs.Pokeless.{IsPokelessTrack, round_pokeless}
+use Rattle.af_enough_law.proofs.RoundCalm.{known_open, quiet_only, home_open, legal_parts, round_quiet, lie_through}
 use Rattle.af_enough_law.proofs.RunStreams.{round_grows}
-use Rattle.af_enough_law.proofs.RunTame.{round_pokeless}
 use Rattle.af_enough_law.proofs.RunTracks.{round_blocks}
-use Rattle.af_enough_law.proofs.StreamCalm.{IsQuiet, LiesIn, lies_earlier, entries_quiet}
+use Rattle.af_enough_law.proofs.StreamCalm.{IsQuiet, LiesIn, entries_quiet}
 
 -- both lists of a stream block lie in a history, of a client that never flushes
 pub record Foreseen (b : BlockTold) : Type 0 where
@@ -95,12 +93,9 @@ module _ (cut : Bool) (s : Session) (marks : Marks) (run : Run) (round : RoundSe
       let o = over s run round i low in
       let parts = legal_parts cut s marks run round legal in
       let late : Run = with_cycles s (late_of run round) (after_turn s run round) in
-      let lies_met : LiesIn k seen.list seen.events seen.setting (told_at (met_after s run round) i).stream = subst (LiesIn k seen.list seen.events seen.setting) o.whole seen.lies in
-      let lies_late = lies_earlier k seen.list seen.events seen.setting (told_at late i).stream (told_at (met_after s run round) i).stream o.meeting.is_later lies_met in
-      let lies_turned = lies_earlier k seen.list seen.events seen.setting (told_at (after_turn s run round) i).stream (told_at late i).stream o.late lies_late in
-      let lies_early = lies_earlier k seen.list seen.events seen.setting (told_at (before_turn s run round) i).stream (told_at (after_turn s run round) i).stream o.turn lies_turned in
+      let lies = lie_through s run round i low k seen.list seen.events seen.setting seen.lies in
       let called = quiet_only s marks i k seen.list seen.events seen.setting (told_at run i).stream (told_at (with_calls round run) i).stream o.calls (subst (λ (x : Shape). IsQuiet x (server_list (told_at run i).stream)) (sym shape) quiet) in
-      entries_quiet s marks i k seen.list seen.events seen.setting (early_of run round) (with_calls round run) o.first parts.0 lies_early called
+      entries_quiet s marks i k seen.list seen.events seen.setting (early_of run round) (with_calls round run) o.first parts.0 lies.early called
 
   -- a turn hears that the stream of a proxy at home is open
   pub home_unshut : (t : TurnMade s marks run round) → IsQuiet (told_at run i).stream.shape (server_list (told_at run i).stream) → is_home (greeted_in run.normal t.turn i).holder ≡ true → (heard (learnt t.by.outside) i (greeted_in run.normal t.turn i)).known.shut ≡ false

@@ -1,7 +1,7 @@
 -- The report that a turn finds of a slot counts no more looks that showed frames than the last report of its round.
 use Rattle.std.proofs.Common.{◌≡◌, ℕ, ◌+◌, ◌≤◌, ◌<◌, false, List, [], ◌∷◌, ◌++◌, length, sym, ap, ◌∙◌, subst, arith, append_assoc, append-nil}
 use Rattle.af_enough_law.proofs.Common.{EntrySeen, FastTrack, LegalRound, Marks, NormalKept, Report, RoundSeen, Run, Session, SlotReport, after_round, after_turn, calls_states, cycle_frames, early_count, early_of, entry_slot, last_report, late_of, length-append, report_at, report_of, slots, take-append-drop, told_at, with_calls, with_cycle, with_cycles}
-use Rattle.af_enough_law.specs.FastFlows.{AllUse, Plays, AllShown, LastCarries, IsTold, Since, FlowsIn, slot_told, heard_by, heard_in, HasItem}
+use Rattle.af_enough_law.proofs.FastWords.{AllUse, Plays, AllShown, LastCarries, IsTold, Since, FlowsIn, slot_told, heard_by, heard_in, HasItem}
 use Rattle.af_enough_law.proofs.FastFound.{FoundNow, found_next, found_told, adds_one, calls_current, use-up, found_first}
 use Rattle.af_enough_law.proofs.FastMixes.{uses_of, early_states}
 use Rattle.af_enough_law.proofs.FastPolls.{parts_use, use-append, turn_more}

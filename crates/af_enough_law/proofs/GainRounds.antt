@@ -1,8 +1,8 @@
 -- A round of a track whose client is past its start: frames lie past those that were taken before it, its STOP was sent, or 64 calls less are ahead of it.
 use Rattle.std.proofs.Common.{◌≡◌, ◌⊎◌, inl, inr, ℕ, ◌+◌, ◌*◌, ◌^◌, ◌≤◌, ◌<◌, ◌==◌, Bool, true, false, true≢false, MatchBool, List, [], ◌∷◌, length, fold, sym, ap, ◌∙◌, arith}
 use Rattle.af_enough_law.proofs.Common.{AreCalls, Client, ClientCall, LegalRound, Marks, Mode, Op, RoundSeen, Run, ServerEvent, Session, Track, TrackTold, Want, after_call, after_round, at_next_turn, begins_ended, begun, calls_in, client_list, next_want, server_list, sides_of, told_at, track_in, wanted_of}
-use Rattle.af_enough_law.specs.Nearing.{is_started, IsPast, calls_ahead, calls_left}
-use Rattle.af_enough_law.specs.NormalRounds.{TurnMade}
+use Rattle.af_enough_law.proofs.NearWords.{is_started, IsPast, calls_ahead, calls_left}
+use Rattle.af_enough_law.proofs.NormalRounds.{TurnMade}
 use Rattle.af_enough_law.specs.Seen.{frames_put, frames_taken}
 use Rattle.af_enough_law.proofs.Advancing.{IsBlock}
 use Rattle.af_enough_law.proofs.BlockNumbers.{BlockNumbers, block_numbers}

@@ -6,8 +6,8 @@ use Rattle.af_script.specs.declared.op.Op.TheVariants as op
 use Rattle.af_runs.specs.declared.want.ClientCommand.TheVariants as command
 use Rattle.af_runs.specs.declared.want.Mode.TheVariants as mode
 use Rattle.af_runs.specs.declared.want.Want.TheVariants as want
-use Rattle.af_enough_law.specs.Nearing.{is_started, calls_ahead, gains_ahead}
-use Rattle.af_enough_law.specs.Playing.{IsWay, Doing, opening, starting, settling, setting, writing, clearing, clearing_more, stopping, draining, removing, IsFair, AreFair, position, SeesFrom, AllSeeFrom}
+use Rattle.af_enough_law.proofs.NearWords.{is_started, calls_ahead, gains_ahead}
+use Rattle.af_enough_law.proofs.Playing.{IsWay, Doing, opening, starting, settling, setting, writing, clearing, clearing_more, stopping, draining, removing, IsFair, AreFair, position, SeesFrom, AllSeeFrom}
 use Rattle.af_enough_law.proofs.Advancing.{IsBlock, full_fills, positions_rise, still_block}
 use Rattle.af_enough_law.proofs.Doing.{at, next_op, sent_of, sent_is, write_is, clear_is, codes_sent}
 use Rattle.af_enough_law.proofs.SeesStopped.{spoken_long}

@@ -1,9 +1,8 @@
 -- A track whose proxy is lent keeps its generation, and what it knew when it was attached, in a turn.
 use Rattle.std.proofs.Common.{◌≡◌, ℕ, ◌+◌, ◌<◌, ◌&&◌, not, if◌then◌else◌, is_some, Bool, true, false, true≢false, Option, None, List, [], ◌∷◌, length, refl, sym, ap, ◌∙◌, subst}
 use Rattle.af_enough_law.proofs.Common.{CommandLook, FastState, Heard, Holder, Home, Learnt, Lent, NormalKept, Returning, Setup, SlotReport, TrackKept, Turn, after_look, after_looks, after_part, carries, comes_home, counts_in, ended, goes_on, heard, is_home, is_lent, is_reached, is_reported, is_returning, is_shut, must_wait, no_counts, noted, obeyed, plays, ready, settled_at, shows_command, slot_number, slot_reported, track_at, track_in, turn_after, welcomed}
-use Rattle.af_enough_law.specs.Drafts.{next_holder}
-use Rattle.af_enough_law.specs.TrackTurns.{greeted, attended, Edited, stays, leaves, enters, TrackTurned}
-use Rattle.af_enough_law.proofs.Drafts.{attended_holder, holder_turned}
+use Rattle.af_enough_law.proofs.Drafts.{next_holder, attended_holder, holder_turned}
+use Rattle.af_enough_law.proofs.TrackTurns.{greeted, attended, Edited, stays, leaves, enters, TrackTurned}
 use Rattle.af_enough_law.proofs.Following.{greeted_in}
 use Rattle.af_enough_law.proofs.Served.{track_turned}
 

@@ -1,21 +1,11 @@
 -- The hand of a stream block stays calm in a round whose turn doesn't disable the track.
-use Rattle.std.proofs.Common.{◌≡◌, ℕ, ◌<◌, if◌then◌else◌, Bool, true, false, true≢false, Option, Some, None, List, [], ◌∷◌, ◌++◌, length, map, fold, drop, refl, sym, ap, ◌∙◌, append_assoc, append-nil}
-use Rattle.af_enough_law.proofs.Common.{BlockTold, EntrySeen, HandEvent, Moment, NormalKept, RoundSeen, Run, ServerEvent, Session, TrackTold, Turn, TurnFound, after_calls, after_round, after_turn, all_played, both_first, both_right, both_true, by_hand, by_server, called_in_turn, calls_in, client-hand, client_list, cycle_events, cycle_frames, early_of, entry_slot, found_in, front_of, hand_does, hand_list, hand_of, late_of, learnt, listed, mixed_track, outside_of, played, setup_of, sides_of, slot_playing, state_for, stream_list, stream_met, takes_part, told_at, track_in, tracks_at, with_calls, with_cycle, with_poll}
+use Rattle.std.proofs.Common.{◌≡◌, ℕ, ◌<◌, if◌then◌else◌, Bool, true, false, true≢false, Option, Some, None, List, [], ◌∷◌, ◌++◌, length, drop, refl, ap, ◌∙◌}
+use Rattle.af_enough_law.proofs.Common.{BlockTold, EntrySeen, HandEvent, NormalKept, RoundSeen, Run, Session, TrackTold, Turn, TurnFound, after_calls, after_round, after_turn, all_played, both_first, both_right, both_true, called_in_turn, calls_in, client-hand, client_list, cycle_events, cycle_frames, early_of, entry_slot, found_in, front_of, hand_does, hand_list, late_of, learnt, listed, mixed_track, outside_of, played, setup_of, sides_of, slot_playing, state_for, stream_list, stream_met, takes_part, told_at, track_in, tracks_at, with_calls, with_cycle, with_poll}
 use Rattle.af_base.specs.declared.event.HandEvent.TheVariants as hand
 use Rattle.af_life.specs.TurnEvents.{hand_events_of as disables}
-use Rattle.af_enough_law.specs.Seen.{is_hand_calm, are_hands_calm}
+use Rattle.af_enough_law.proofs.Calm.{is_hand_calm, are_hands_calm}
 use Rattle.af_enough_law.proofs.RunTracks.{mixed_by, turned_by, played_track, round_blocks, met_track}
-
-abbrev told_more : List Moment → List Moment → List Moment
-told_more told moments = fold (λ (sofar : List Moment) (m : Moment). m ∷ sofar) told moments
-
-server-hand : (told : List Moment) (es : List ServerEvent) → hand_of (told_more told (map by_server es)) ≡ hand_of told
-server-hand told [] = refl
-server-hand told (e ∷ es) = server-hand (by_server e ∷ told) es
-
-hand-hand : (told : List Moment) (es : List HandEvent) → hand_of (told_more told (map by_hand es)) ≡ hand_of told ++ es
-hand-hand told [] = sym (append-nil (hand_of told))
-hand-hand told (e ∷ es) = hand-hand (by_hand e ∷ told) es ∙ append_assoc (hand_of told) (e ∷ []) es
+use Rattle.af_enough_law.proofs.MoreTold.{hand-hand, server-hand}
 
 pub hands_join : (xs ys : List HandEvent) → are_hands_calm xs ≡ true → are_hands_calm ys ≡ true → are_hands_calm (xs ++ ys) ≡ true
 hands_join [] ys a b = b

@@ -1,7 +1,7 @@
 -- What a turn hears of a lent track: the frames that the last report tells of and that weren't heard of before.
 use Rattle.std.proofs.Common.{◌≡◌, ℕ, ◌+◌, ◌-◌, ◌<◌, ◌&&◌, ◌||◌, nat_lt, if◌then◌else◌, is_some, Bool, true, false, true≢false, Option, None, List, [], ◌∷◌, length, refl, sym, ap, ◌∙◌, arith, eq-eqb}
 use Rattle.af_enough_law.proofs.Common.{CommandLook, Counts, FastState, Heard, Home, Learnt, Lent, NormalKept, Setup, SlotReport, TrackKept, Turn, after_look, after_looks, after_part, comes_home, counts_in, ended, goes_on, grown, heard, heard_at_home, heard_by, heard_elsewhere, heard_with, is_home, is_lent, is_reached, is_reported, is_shut, must_wait, no_counts, noted, obeyed, plays, ready, settled_at, shows_command, slot_reported, track_at, track_in, turn_after, welcomed}
-use Rattle.af_enough_law.specs.TrackTurns.{greeted, attended, Edited, stays, leaves, enters, TrackTurned}
+use Rattle.af_enough_law.proofs.TrackTurns.{greeted, attended, Edited, stays, leaves, enters, TrackTurned}
 use Rattle.af_enough_law.proofs.Drafts.{attended_holder}
 use Rattle.af_enough_law.proofs.Following.{greeted_in}
 use Rattle.af_enough_law.proofs.Generations.{greeted_lent, no_entry}

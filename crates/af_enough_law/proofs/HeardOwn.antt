@@ -1,7 +1,7 @@
 -- What a turn hears of a track whose proxy is home: the looks of the mix of the turn before.
 use Rattle.std.proofs.Common.{◌≡◌, ℕ, zero, suc, ◌+◌, ◌<◌, ◌||◌, nat_lt, if◌then◌else◌, is_some, Bool, true, false, true≢false, Option, None, List, [], ◌∷◌, length, refl, ap, ◌∙◌, arith}
 use Rattle.af_enough_law.proofs.Common.{CommandLook, Counts, FastState, Heard, Home, Learnt, NormalKept, Setup, SlotReport, TrackKept, Turn, after_look, after_looks, after_part, asked as buffer, comes_home, counts_in, ended, goes_on, heard, heard_at_home, heard_by, heard_elsewhere, is_home, is_reached, is_reported, is_shut, must_wait, no_counts, noted, obeyed, ready, settled_at, shows_command, slot_reported, track_at, track_in, turn_after, welcomed}
-use Rattle.af_enough_law.specs.TrackTurns.{greeted, attended, own_after, Edited, stays, leaves, enters, TrackTurned}
+use Rattle.af_enough_law.proofs.TrackTurns.{greeted, attended, own_after, Edited, stays, leaves, enters, TrackTurned}
 use Rattle.af_enough_law.proofs.Following.{greeted_in}
 use Rattle.af_enough_law.proofs.Served.{track_turned}
 

@@ -2,8 +2,8 @@
 use Rattle.std.proofs.Common.{◌≡◌, ℕ, suc, ◌+◌, ◌≤◌, ◌==◌, not, if◌then◌else◌, Bool, true, false, List, [], ◌∷◌, length, refl, ap, ◌∙◌, arith}
 use Rattle.af_enough_law.proofs.Common.{Counts, Seen, TakeSeen, TrackKept, count_seen, look_counted, no_counts, takes_from}
 use Rattle.af_base.specs.declared.seen.Seen.TheVariants as seen
-use Rattle.af_enough_law.specs.FastFlows.{IsShown}
-use Rattle.af_enough_law.specs.TrackTurns.{own_after}
+use Rattle.af_enough_law.proofs.FastWords.{IsShown}
+use Rattle.af_enough_law.proofs.TrackTurns.{own_after}
 
 -- ## Its own looks
 

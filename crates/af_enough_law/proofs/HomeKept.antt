@@ -3,9 +3,9 @@ use Rattle.std.proofs.Common.{◌≡◌, ◌⊎◌, inl, inr, ℕ, zero, suc, �
 use Rattle.af_enough_law.proofs.Common.{Client, Counts, LegalRound, Marks, NormalKept, RoundSeen, Run, Session, TakeSeen, after_round, client_list, count_seen, is_home, learnt, server_list, setup_of, sides_of, slot_reported, takes_from, told_at, track_at}
 use Rattle.af_base.specs.declared.event.ServerEvent.TheVariants as server
 use Rattle.af_enough_law.proofs.Basics.{taken-append}
-use Rattle.af_enough_law.specs.FastFlows.{IsShown, frames_left_in}
-use Rattle.af_enough_law.specs.Nearing.{IsPast, buffer_of, calls_ahead, calls_left}
-use Rattle.af_enough_law.specs.NormalRounds.{TurnMade}
+use Rattle.af_enough_law.proofs.FastWords.{IsShown, frames_left_in}
+use Rattle.af_enough_law.proofs.NearWords.{IsPast, buffer_of, calls_ahead, calls_left}
+use Rattle.af_enough_law.proofs.NormalRounds.{TurnMade}
 use Rattle.af_enough_law.specs.Seen.{frames_put, frames_taken}
 use Rattle.af_enough_law.proofs.FairTurns.{codes_long}
 use Rattle.af_enough_law.proofs.Following.{greeted_in, greeted_alike}

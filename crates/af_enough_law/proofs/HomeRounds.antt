@@ -2,7 +2,7 @@
 use Rattle.std.proofs.Common.{◌≡◌, ℕ, ◌≤◌, ◌<◌, ◌||◌, is_some, Bool, true, false, None, List, length, sym, ap, ◌∙◌}
 use Rattle.af_enough_law.proofs.Common.{IsSlotted, LegalRound, Marks, RoundSeen, Run, ServerEvent, Session, after_round, ends_part, observer_holds, is_home, met_after, takes_part, track_at, track_count}
 use Rattle.af_enough_law.proofs.Basics.{stays_home}
-use Rattle.af_enough_law.specs.NormalRounds.{TurnMade}
+use Rattle.af_enough_law.proofs.NormalRounds.{TurnMade}
 use Rattle.af_enough_law.proofs.CalmTracks.{CalmTrack}
 use Rattle.af_enough_law.proofs.CommandsGo.{OpenTurn}
 use Rattle.af_enough_law.proofs.Foreseen.{KeepsTo, part_seen, home_unshut}

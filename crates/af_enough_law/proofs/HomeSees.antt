@@ -3,10 +3,10 @@ use Rattle.std.proofs.Common.{◌≡◌, ◌⊎◌, inl, inr, ℕ, ◌+◌, ◌�
 use Rattle.af_enough_law.proofs.Common.{BlockTold, LegalRound, Marks, RoundSeen, Run, ServerEvent, Session, TrackTold, after_round, after_turn, calls_states, client_list, count_seen, early_of, fast_ended, is_mixed_here, is_within, late_of, met_after, server_list, told_at, track_at, track_in, with_calls, with_cycles}
 use Rattle.af_base.specs.declared.event.ServerEvent.TheVariants as server
 use Rattle.af_enough_law.proofs.Basics.{taken-append}
-use Rattle.af_enough_law.specs.Courses.{none_shut}
-use Rattle.af_enough_law.specs.FastFlows.{AllStates, KnowsReleased, KnowsStates}
-use Rattle.af_enough_law.specs.Nearing.{buffer_of}
-use Rattle.af_enough_law.specs.NormalRounds.{TurnMade}
+use Rattle.af_enough_law.proofs.Courses.{none_shut}
+use Rattle.af_enough_law.proofs.FastWords.{AllStates, KnowsReleased, KnowsStates}
+use Rattle.af_enough_law.proofs.NearWords.{buffer_of}
+use Rattle.af_enough_law.proofs.NormalRounds.{TurnMade}
 use Rattle.af_enough_law.specs.Seen.{frames_put, frames_taken}
 use Rattle.af_enough_law.proofs.CalmTracks.{CalmTrack, CalmTurn}
 use Rattle.af_enough_law.proofs.FastMixes.{early_states, late_states}

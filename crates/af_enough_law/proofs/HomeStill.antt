@@ -1,11 +1,11 @@
 -- The entries of a round leave the stream block of a track as it is that no state has.
 use Rattle.std.proofs.Common.{◌≡◌, ℕ, ◌≤◌, ◌<◌, ◌∷◌, List, [], ◌++◌, length, true, refl, sym, ap, ◌∙◌, arith}
 use Rattle.af_enough_law.proofs.Common.{EntrySeen, FastState, Run, Session, carries, polled_known, slot_playing, slot_of, slots, state_for, told_at, with_cycle, with_cycles, with_poll}
-use Rattle.af_enough_law.specs.FastFlows.{AllUse, AllStates}
+use Rattle.af_enough_law.proofs.FastWords.{AllUse, AllStates}
 use Rattle.af_enough_law.proofs.FastMixes.{Uses, uses_of}
 use Rattle.af_enough_law.proofs.FastSteps.{cycle_states}
-use Rattle.af_enough_law.proofs.FastSteps.{cycle_length}
 use Rattle.af_enough_law.proofs.LeftEntries.{slot_none, track_still}
+use Rattle.af_enough_law.proofs.RunTracks.{cycle_long}
 
 -- the state has nothing of the track
 abbrev pub HasNone : ℕ → FastState → Type 0
@@ -23,6 +23,6 @@ module _ (s : Session) (i : ℕ) (first after : Run) (all : AllStates first afte
       let up = uses.1 in
       let states = cycle_states s run e in
       let long = ap length states in
-      let many = cycle_length s run e in
+      let many = cycle_long s run e in
       entries_still high es (with_cycle s run e) more (omega (arith, many, low)) (whole ∙ ap (λ (l : List FastState). l ++ more) (sym states)) (omega (arith, long, top)) uses.2
       ∙ entry_still run e low (uses_of (HasNone i) first after run e.entry.state all more whole uses.0 (omega (arith, up, top)))

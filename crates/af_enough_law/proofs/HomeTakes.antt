@@ -3,24 +3,23 @@ use Rattle.std.proofs.Common.{◌≡◌, ◌⊎◌, inl, inr, ℕ, suc, ◌+◌,
 use Rattle.af_enough_law.proofs.Common.{BlockTold, ClientEvent, GoesOn, Learnt, LegalRound, LegalTake, Listed, LooksBy, Marks, NormalKept, Outside, RoundSeen, Run, ServerEvent, Session, Setup, Shape, TakeSeen, TrackKept, TrackTold, Turn, TurnFound, after_edits, after_push, after_round, after_takes, after_turn, asked as buffer, before_turn, both_true, client_list, count_seen, cycle_events, early_of, flat_map, found_in, front_of, hand_does, invalid, is_home, is_mixed_here, late_of, learnt, list_any, listed, mix_events, mixed_here, outside_of, push_tracks, range_with_len, server_list, setup_of, stream_list, stream_turned, take-append-le, take_front, takes_from, takes_len, told_at, track_at, track_in, tracks_at, turn_after, turn_len, turned, with_calls, with_cycles}
 use Rattle.af_enough_law.proofs.Basics.{before_normal, taken-append}
 use Rattle.af_life.specs.TurnEvents.{hand_events_of}
-use Rattle.af_enough_law.specs.Courses.{none_shut}
-use Rattle.af_enough_law.specs.FastFlows.{KnowsReleased, IsShown}
-use Rattle.af_enough_law.specs.Nearing.{RoundFlows}
-use Rattle.af_enough_law.specs.NormalRounds.{TurnMade}
+use Rattle.af_enough_law.proofs.Courses.{none_shut}
+use Rattle.af_enough_law.proofs.FastWords.{KnowsReleased, IsShown}
+use Rattle.af_enough_law.proofs.NearWords.{RoundFlows}
+use Rattle.af_enough_law.proofs.NormalRounds.{TurnMade}
 use Rattle.af_enough_law.specs.Seen.{Stands, frames_put, frames_taken}
 use Rattle.af_enough_law.proofs.BlockNumbers.{stream_setting}
 use Rattle.af_enough_law.proofs.CalmTracks.{CalmTrack, CalmTurn}
 use Rattle.af_enough_law.proofs.Fair.{calm_drops}
 use Rattle.af_enough_law.proofs.FastFlows.{Later, later_both}
-use Rattle.af_enough_law.proofs.FastRounds.{over, cycles_length}
-use Rattle.af_enough_law.proofs.RunTracks.{calls_long as calls_length}
+use Rattle.af_enough_law.proofs.FastRounds.{over}
+use Rattle.af_enough_law.proofs.RunTracks.{calls_long as calls_length, turn_track, cycles_long}
 use Rattle.af_enough_law.proofs.FastShows.{Setting, Look, slot_look, stands-more}
 use Rattle.af_enough_law.proofs.FastSteps.{server_does-server, hand_does-server}
 use Rattle.af_enough_law.proofs.Foreseen.{Foreseen, part_seen, early_quiet}
 use Rattle.af_enough_law.proofs.HomeRounds.{keeps_of}
 use Rattle.af_enough_law.proofs.NearHears.{early_taken}
 use Rattle.af_enough_law.proofs.RoundCalm.{OnlyTake, track_takes, never_invalid, home_open, known_open}
-use Rattle.af_enough_law.proofs.RunTracks.{turn_track}
 use Rattle.af_enough_law.proofs.Served.{own_all}
 use Rattle.af_enough_law.proofs.StreamCalm.{IsQuiet}
 use Rattle.af_enough_law.proofs.LentRounds.{any_from as any_at}
@@ -120,7 +119,7 @@ module _ (cut : Bool) (s : Session) (marks : Marks) (run : Run) (round : RoundSe
   turned_is : (told_at (after_turn s run round) i).stream ≡ stream_turned c o run.normal t.turn i b
   turned_is =
       let a = calls_length round run in
-      let d = cycles_length s (early_of run round) (with_calls round run) in
+      let d = cycles_long s (early_of run round) (with_calls round run) in
       let low = turn.low in
       ap (λ (x : Option Turn). (told_at (turned s (found_in s run round) x now) i).stream) t.is ∙ ap (λ (x : TrackTold). x.stream) (turn_track s f t.turn now i (omega (arith, a, d, low)))
       ∙ ap (λ (m : NormalKept). stream_turned c o m t.turn i b) (before_normal s run round)

@@ -2,7 +2,18 @@
 use Rattle.std.proofs.Common.{◌≡◌, ◌≢◌, inl, inr, ℕ, zero, suc, ◌≤◌, ◌&&◌, if◌then◌else◌, Bool, true, false, true≢false, All, Option, List, [], ◌∷◌, length, fold, refl, sym, ap, ◌∙◌, subst, arith}
 use Rattle.af_enough_law.proofs.Common.{Busy, Clean, Command, FastState, FastTrack, Goes, Holder, Home, IsSlotted, IsSound, Learnt, Lent, NormalKept, Push, Pushed, Returning, Setting, Setup, TakeSeen, TrackKept, TrackSeen, Turn, acked_len, after_ack, after_edits, after_push, after_take, after_takes, after_tracks, apart, asked as buffer, at_new, comer_holds, comer_inside, comer_slot, comes_home, draft_commanded as with_command, look_counted, each_set, edited, edited_to, entered, goes_served, is_home, is_lent, lend, lent_by, let_go, must_enter, must_leave, mutated, new_normal, no, number_of, ordered, seen_at, served, served_len, served_to, set_each, setting_of, slot_else, slot_here, slot_number, slot_of, sound_acked, sound_edits, sound_served, track_at, turn_after, welcomed, welcomed_at}
 use Rattle.af_life.specs.Obeys.{slot_for}
-use Rattle.af_enough_law.specs.Items.{IsItem, AreItems}
+
+-- the item of a track: what its slot has while its proxy is away
+abbrev pub item_of : Setup → ℕ → TrackKept → FastTrack
+item_of c i s = record { generation = s.generation; track = i; mono = (setting_of c i).mono; scale = (setting_of c i).scale }
+
+-- the slot of a track that isn't home is its item
+abbrev pub IsItem : Setup → FastState → ℕ → TrackKept → Type 0
+IsItem c draft i s = is_home s.holder ≡ false → slot_of draft (slot_number s) ≡ item_of c i s
+
+-- the slot of each track that isn't home is its item
+abbrev pub AreItems : Setup → NormalKept → Type 0
+AreItems c m = (i : ℕ) → IsItem c m.draft i (track_at m.tracks i)
 
 -- a track with the same holder, slot and generation
 same_item : (c : Setup) (draft : FastState) (i : ℕ) (s t : TrackKept) → t.holder ≡ s.holder → (is_home s.holder ≡ false → t.slot ≡ s.slot) → t.generation ≡ s.generation → IsItem c draft i s → IsItem c draft i t

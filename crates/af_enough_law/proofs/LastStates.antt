@@ -6,7 +6,7 @@ use Rattle.af_base.specs.declared.state.Command.TheVariants.{Idle}
 use Rattle.af_enough_law.proofs.Basics.{before_normal}
 use Rattle.af_life.specs.Edits as edits
 use Rattle.af_model.specs.Cycles.{is_exit}
-use Rattle.af_enough_law.specs.EndPhases.{NoExits}
+use Rattle.af_enough_law.proofs.EndWords.{NoExits}
 use Rattle.af_enough_law.proofs.Drafts.{after_pushes}
 use Rattle.af_enough_law.proofs.FastCurrent.{legal_parts, rest_current}
 use Rattle.af_enough_law.proofs.FastFound.{cycle_current}
@@ -49,6 +49,12 @@ last_turned c k m e frames states none same = by_end e.ended none
     by_end : (b : Bool) → (b ≡ true → is_pushed e.push ≡ false) → (let later = states ++ (if is_pushed e.push then x.draft ∷ [] else []) in state_at frames later (length later) ≡ (if b then record m { ended = true } else after_takes c e.mixes (after_push e.push x)).last)
     by_end true h = still (is_pushed e.push) (h refl)
     by_end false h = by_push e.push
+
+-- the states from a number on, of which at most one was added to these
+pub state_last : (xs : List FastState) (frames : ℕ) (last : FastState) → 1 ≤ length xs → state_at frames xs (length xs) ≡ last → state_of xs (length xs) ≡ Some last
+state_last [] frames last some is = absurd (let z : ⊥ = omega (arith, some) in z)
+state_last (y ∷ []) frames last some is = ap Some is
+state_last (y ∷ z ∷ xs) frames last some is = state_last (z ∷ xs) frames last (omega arith) is
 
 pub round_last : (s : Session) (marks : Marks) (run : Run) (round : RoundSeen) → LegalRound false s marks run round → LastIs s run → LastIs s (after_round s run round)
 round_last s marks run round legal same = by run.normal.ended refl

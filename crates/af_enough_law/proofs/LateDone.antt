@@ -1,11 +1,11 @@
 -- A track whose proxy leaves in the round in which it is adopted at the latest, and that was drained, is a stopped one then.
 use Rattle.std.proofs.Common.{◌≡◌, ◌⊎◌, inl, inr, ℕ, ◌+◌, ◌≤◌, ◌<◌, is_some, Bool, true, false, true≢false, All, Some, List, [], ◌∷◌, ◌++◌, length, length-append, take-append-drop, refl, sym, ap, ◌∙◌, subst, arith}
 use Rattle.af_enough_law.proofs.Common.{EntrySeen, FastTrack, LegalRound, Life, Marks, Returning, RoundSeen, Run, Session, Setting, after_round, after_turn, all_played, before_turn, calls_states, client_list, early_count, early_of, found_in, is_home, is_lent, is_returning, last_used, late_of, met_after, number_of, plays, server_list, setup_of, state_more, state_of, takes_part, told_at, track_at, track_count, with_calls, with_cycles}
-use Rattle.af_enough_law.specs.Carried.{SessionCarried}
-use Rattle.af_enough_law.specs.Courses.{Course, absent, idle, playing, stopping, drained, stopped as is_stopped, over, stage}
-use Rattle.af_enough_law.specs.FastFlows.{Plays, slot_told}
-use Rattle.af_enough_law.specs.Drafts.{is_busy, PushMade}
-use Rattle.af_enough_law.specs.NormalRounds.{TurnMade}
+use Rattle.af_enough_law.proofs.Carried.{SessionCarried}
+use Rattle.af_enough_law.proofs.Courses.{Course, absent, idle, playing, stopping, drained, stopped as is_stopped, over, stage}
+use Rattle.af_enough_law.proofs.FastWords.{Plays, slot_told}
+use Rattle.af_enough_law.proofs.Drafts.{is_busy, PushMade}
+use Rattle.af_enough_law.proofs.NormalRounds.{TurnMade}
 use Rattle.af_enough_law.proofs.AdoptedTold.{ToldNow, entries_tell, told_late, told_turn}
 use Rattle.af_enough_law.proofs.AwayKeeps.{StaysOpen, open_then, away_turn}
 use Rattle.af_enough_law.proofs.AwayRounds.{AwayTurn, AwayTrack, AwayRounds, AwayBack, away_of, away_before, away_back, away_carried}

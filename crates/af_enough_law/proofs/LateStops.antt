@@ -1,10 +1,10 @@
 -- The round in which a proxy leaves that the last state plays, whether the fast mixer had it before or not: its turn doesn't hear that the stream is shut.
-use Rattle.std.proofs.Common.{◌≡◌, ◌⊎◌, inl, inr, ℕ, ◌≤◌, ◌<◌, unwrap_or, is_some, Bool, true, false, true≢false, All, Option, Some, length, refl, sym, ap, ◌∙◌, subst, arith}
-use Rattle.af_enough_law.proofs.Common.{FastState, FastTrack, Heard, Learnt, LegalRound, Marks, NormalKept, Returning, RoundSeen, Run, Session, Setting, TrackKept, after_round, after_turn, before_turn, cycle_frames, ends_part, is_home, is_lent, is_returning, learnt, load_of, met_after, number_of, plays, report_at, report_of, server_list, setup_of, slot_reported, state_beyond, state_of, takes_part, told_at, track_at, track_count, turn_after, with_calls, with_cycles, within_or_beyond}
-use Rattle.af_enough_law.specs.Carried.{SessionCarried}
-use Rattle.af_enough_law.specs.Drafts.{is_busy, PushMade}
-use Rattle.af_enough_law.specs.FastFlows.{slot_told}
-use Rattle.af_enough_law.specs.NormalRounds.{TurnMade}
+use Rattle.std.proofs.Common.{◌≡◌, ◌⊎◌, inl, inr, ℕ, ◌≤◌, ◌<◌, is_some, true, false, All, Some, length, sym, ap, ◌∙◌, subst, arith}
+use Rattle.af_enough_law.proofs.Common.{FastState, FastTrack, Heard, Learnt, LegalRound, Marks, NormalKept, Returning, RoundSeen, Run, Session, Setting, TrackKept, after_round, after_turn, before_turn, cycle_frames, ends_part, is_home, is_lent, is_returning, learnt, load_of, met_after, number_of, plays, report_at, report_of, server_list, setup_of, slot_reported, state_of, takes_part, told_at, track_at, track_count, turn_after, with_calls, with_cycles}
+use Rattle.af_enough_law.proofs.Carried.{SessionCarried}
+use Rattle.af_enough_law.proofs.Drafts.{PushMade}
+use Rattle.af_enough_law.proofs.FastWords.{slot_told}
+use Rattle.af_enough_law.proofs.NormalRounds.{TurnMade}
 use Rattle.af_enough_law.proofs.AdoptRounds.{away_heard}
 use Rattle.af_enough_law.proofs.AwayKeeps.{StaysOpen, open_then, away_turn}
 use Rattle.af_enough_law.proofs.AwayRounds.{AwayTurn}
@@ -14,21 +14,22 @@ use Rattle.af_enough_law.proofs.Following.{greeted_in, greeted_alike}
 use Rattle.af_enough_law.proofs.Foreseen.{Foreseen, part_seen}
 use Rattle.af_enough_law.proofs.Generations.{Attached, greeted_lent, greeted_same, attached_stays}
 use Rattle.af_enough_law.proofs.HomeRounds.{IsNamed}
-use Rattle.af_enough_law.proofs.LastStates.{round_last}
+use Rattle.af_enough_law.proofs.StatesHold.{beyond_draft}
 use Rattle.af_enough_law.proofs.LeftEarly.{left_back}
 use Rattle.af_enough_law.proofs.LeftEntries.{IsOut}
 use Rattle.af_enough_law.proofs.LeftRounds.{draft_out}
 use Rattle.af_enough_law.proofs.Lending.{WasOpen, slotted_opened}
-use Rattle.af_enough_law.proofs.LentRounds.{state_last, draft_item}
+use Rattle.af_enough_law.proofs.LentRounds.{draft_item}
 use Rattle.af_enough_law.proofs.LentTurns.{turn_leaves}
 use Rattle.af_enough_law.proofs.Lookahead.{Coming, held_on, passed, greeted_coming, home_then, seen_before}
 use Rattle.af_enough_law.proofs.MeetReports.{SaysOpenOf, NamesTrack}
 use Rattle.af_enough_law.proofs.MeetRounds.{Meeting, meets_open}
-use Rattle.af_enough_law.proofs.QueueRounds.{acks_states, queue_stands}
-use Rattle.af_enough_law.proofs.SessionRounds.{turn_of, turn_runs, push_of, states_few}
+use Rattle.af_enough_law.proofs.QueueRounds.{acks_states}
+use Rattle.af_enough_law.proofs.SessionRounds.{turn_of, turn_runs, push_of}
 use Rattle.af_enough_law.proofs.Slots.{slot_stays}
 use Rattle.af_enough_law.proofs.StartRounds.{PushedLast}
 use Rattle.af_enough_law.proofs.StreamCalm.{IsQuiet}
+use Rattle.af_enough_law.proofs.LastStates.{state_last}
 
 module _ (s : Session) (marks : Marks) (scales : All (λ (x : Setting). x.scale ≤ 4096) (setup_of s).settings) (long : length (setup_of s).settings ≡ track_count s) (run : Run) (round : RoundSeen) (legal : LegalRound false s marks run round) (c : SessionCarried s run) (i : ℕ) (named : i < track_count s) (lawful : marks.commands i ≡ true)
     (slot : ℕ) (item : FastTrack) (p : PushedLast s run i slot item) (leaves : is_lent (track_at (after_round s run round).normal.tracks i).holder ≡ false) (c_after : SessionCarried s (after_round s run round)) where
@@ -81,27 +82,7 @@ module _ (s : Session) (marks : Marks) (scales : All (λ (x : Setting). x.scale 
 
   -- a state that the turn pushes has nothing of the track
   pub out_pushed : (m : ℕ) (y : FastState) → length run.states < m → state_of after.states m ≡ Some y → IsOut slot i y
-  out_pushed m y above is = by (within_or_beyond m (length after.states))
-    where
-      some_is : (x y : FastState) → Some x ≡ Some y → x ≡ y
-      some_is x y e = ap (λ (o : Option FastState). unwrap_or o x) e
-
-      by_push : (b : Bool) → is_busy t.turn.push ≡ b → length run.states < length after.states → IsOut slot i after.normal.last
-      by_push true busy more =
-          let same = (made.busy busy).2 in
-          let now = (queue_stands s marks run round legal c.stands.queue).pushed in
-          let before = c.stands.queue.pushed in
-          absurd (let z : ⊥ = omega (arith, same, now, before, more) in z)
-      by_push false pushed more = subst (IsOut slot i) (sym (made.done pushed).1) out_then
-
-      by : (m ≤ length after.states) ⊎ (length after.states < m) → IsOut slot i y
-      by (inr far) = absurd (true≢false (sym (ap is_some is) ∙ ap is_some (state_beyond after.states m far)))
-      by (inl high) =
-          let count = states_few s marks scales long run round legal c.stands in
-          let at : m ≡ length after.states = omega (arith, above, high, count) in
-          let some : 1 ≤ length after.states = omega (arith, above, high) in
-          let last = state_last after.states (cycle_frames s) after.normal.last some (round_last s marks run round legal c.stands.last) in
-          subst (IsOut slot i) (some_is after.normal.last y (sym last ∙ ap (λ (n : ℕ). state_of after.states n) (sym at) ∙ is)) (by_push (is_busy t.turn.push) refl (omega (arith, above, high)))
+  out_pushed m y above is = subst (IsOut slot i) (sym (beyond_draft s marks scales long run round legal c.stands m y above is)) out_then
 
   -- the track's proxy takes part in the meeting, or it is coming
   pub part_or : (after.current ≡ length run.states) ⊎ (length run.states < after.current)

@@ -2,11 +2,11 @@
 use Rattle.std.proofs.Common.{◌≡◌, ◌⊎◌, inl, inr, ℕ, zero, suc, ◌≤◌, ◌<◌, is_some, Bool, true, false, true≢false, All, Some, List, [], ◌++◌, length, length-append, refl, sym, ap, ◌∙◌, subst, arith}
 use Rattle.af_enough_law.proofs.Common.{Active, ClientEvent, FastState, FastTrack, LegalRound, Life, Marks, NormalKept, Returning, RoundSeen, Run, Session, Setting, Shape, after_round, client_list, cycle_frames, ends_part, is_lent, learnt, met_after, plays, server_list, setup_of, state_beyond, state_more, state_of, takes_part, told_at, track_at, track_count}
 use Rattle.af_enough_law.proofs.Basics.{some_is}
-use Rattle.af_enough_law.specs.Carried.{SessionCarried}
-use Rattle.af_enough_law.specs.Courses.{Course, life_in}
-use Rattle.af_enough_law.specs.Drafts.{is_busy, PushMade}
-use Rattle.af_enough_law.specs.FastFlows.{Plays, FlowsIn}
-use Rattle.af_enough_law.specs.NormalRounds.{TurnMade}
+use Rattle.af_enough_law.proofs.Carried.{SessionCarried}
+use Rattle.af_enough_law.proofs.Courses.{Course, life_in}
+use Rattle.af_enough_law.proofs.Drafts.{is_busy, PushMade}
+use Rattle.af_enough_law.proofs.FastWords.{Plays, FlowsIn}
+use Rattle.af_enough_law.proofs.NormalRounds.{TurnMade}
 use Rattle.af_enough_law.proofs.CommandsGo.{known_then, commands_of}
 use Rattle.af_enough_law.proofs.Commanding.{le_cases}
 use Rattle.af_enough_law.proofs.CourseGoes.{CourseGone}
@@ -21,7 +21,7 @@ use Rattle.af_enough_law.proofs.LeftEntries.{IsOut}
 use Rattle.af_enough_law.proofs.LeftGoes as goes
 use Rattle.af_enough_law.proofs.LeftGoes.{heard_told}
 use Rattle.af_enough_law.proofs.LeftRounds as round_of
-use Rattle.af_enough_law.proofs.LentRounds.{LentCarried, state_last}
+use Rattle.af_enough_law.proofs.LentRounds.{LentCarried}
 use Rattle.af_enough_law.proofs.LentTurns.{turn_leaves}
 use Rattle.af_enough_law.proofs.QueueRounds.{queue_stands, knows_acked}
 use Rattle.af_enough_law.proofs.SessionRounds.{turn_of, push_of}
@@ -30,6 +30,7 @@ use Rattle.af_enough_law.proofs.StoppedTracks.{StoppedCarried, missed_said}
 use Rattle.af_enough_law.proofs.StreamHistories.{part_stream}
 use Rattle.af_enough_law.proofs.TrackCarried.{TrackCarried}
 use Rattle.af_enough_law.proofs.TrackGoes.{CalmStream}
+use Rattle.af_enough_law.proofs.LastStates.{state_last}
 
 -- a track that took two commands or more and isn't to be heard took three
 told_three : (count told : ℕ) (l : Life) → 2 ≤ told → Course count told l → plays l ≡ false → 3 ≤ told

@@ -1,10 +1,9 @@
 -- Whether a track is to be heard, by where its proxy is.
 use Rattle.std.proofs.Common.{◌≡◌, ℕ, ◌≤◌, ◌<◌, if◌then◌else◌, is_some, Bool, true, false, true≢false, All, length, refl, sym, ap, ◌∙◌, arith}
 use Rattle.af_enough_law.proofs.Common.{LegalRound, Lent, Marks, NormalKept, Returning, RoundSeen, Run, Session, Setting, TrackKept, after_round, is_home, is_lent, learnt, plays, setup_of, track_at, track_count, turn_after, turn_len}
-use Rattle.af_enough_law.specs.Carried.{SessionStands}
-use Rattle.af_enough_law.specs.Drafts.{next_holder}
-use Rattle.af_enough_law.specs.NormalRounds.{TurnMade}
-use Rattle.af_enough_law.proofs.Drafts.{holder_turned}
+use Rattle.af_enough_law.proofs.Carried.{SessionStands}
+use Rattle.af_enough_law.proofs.Drafts.{next_holder, holder_turned}
+use Rattle.af_enough_law.proofs.NormalRounds.{TurnMade}
 use Rattle.af_enough_law.proofs.Generations.{greeted_lent, lent_plays}
 use Rattle.af_enough_law.proofs.HomeRounds.{IsNamed}
 use Rattle.af_enough_law.proofs.Lending.{lent_now}

@@ -1,9 +1,9 @@
 -- The entries of a round in which a track leaves: those of the state before play it, and those of the state that the turn pushes don't touch it. The report that the turn finds says that its server is open.
 use Rattle.std.proofs.Common.{◌≡◌, ◌⊎◌, inl, inr, ℕ, zero, suc, ◌+◌, ◌≤◌, ◌<◌, ◌==◌, ◌&&◌, ◌||◌, if◌then◌else◌, is_some, Bool, true, false, true≢false, Option, Some, None, List, [], ◌∷◌, ◌++◌, length, refl, sym, ap, ◌∙◌, subst, arith, append_assoc, append-nil, eqb-true}
-use Rattle.af_enough_law.proofs.Common.{BlockTold, ClientEvent, CycleEntry, EntrySeen, FastState, FastTrack, LegalEntries, LegalEntry, Listed, LooksBy, Marks, Report, Run, ServerEvent, Session, Shape, SlotEntry, SlotReport, TrackTold, carries, counted_look, cycle_events, cycle_frames, entry_slot, find, front_of, is_mixed, is_shown, known_of, last_report, last_used, listed, next_slot, no_slot, played, polled_known, polled_waits, range_with_len, report_at, server_kept, server_list, slot_playing, slot_of, slot_report, slots, state_beyond, state_for, state_of, stream_of, three, told_at, with_cycle, with_cycles, with_looks, with_mix, with_poll}
+use Rattle.af_enough_law.proofs.Common.{BlockTold, ClientEvent, CycleEntry, EntrySeen, FastState, FastTrack, LegalEntries, LegalEntry, Listed, LooksBy, Marks, Report, Run, ServerEvent, Session, Shape, SlotEntry, SlotReport, TrackTold, carries, counted_look, cycle_events, cycle_frames, entry_slot, find, front_of, is_mixed, is_shown, known_of, last_report, last_used, listed, next_slot, no_slot, played, polled_known, polled_waits, range_with_len, report_at, server_kept, server_list, slot_playing, slot_of, slot_report, slots, state_beyond, state_for, state_of, stream_of, three, told_at, with_cycle, with_cycles, with_looks, with_mix, with_poll, never_true}
 use Rattle.af_enough_law.proofs.Basics.{state_there}
 use Rattle.af_runs.specs.Runs.{shows_slot}
-use Rattle.af_enough_law.specs.FastFlows.{AllUse, Plays, slot_told, HasItem, IsTold}
+use Rattle.af_enough_law.proofs.FastWords.{AllUse, Plays, slot_told, HasItem, IsTold}
 use Rattle.af_enough_law.proofs.Commanding.{le_cases}
 use Rattle.af_enough_law.proofs.Fair.{calm_drops}
 use Rattle.af_enough_law.proofs.FastFlows.{PlaysTrack, plays_track, cycles_later}
@@ -12,8 +12,9 @@ use Rattle.af_enough_law.proofs.FastMixes.{Uses}
 use Rattle.af_enough_law.proofs.FastReports.{entry_told, slot_counts, last_more}
 use Rattle.af_enough_law.proofs.FastShows.{Setting, Look, slot_look}
 use Rattle.af_enough_law.proofs.FastSince.{Adds}
-use Rattle.af_enough_law.proofs.FastSteps.{cycle_states, cycle_length, cycle_track, mixed_stream, played_server, slot_only, cycle_draft}
+use Rattle.af_enough_law.proofs.FastSteps.{cycle_states, cycle_track, mixed_stream, played_server, slot_only, cycle_draft}
 use Rattle.af_enough_law.proofs.StreamCalm.{IsQuiet, LiesIn, lies_earlier, calm_join, calm_cycle, still_shows}
+use Rattle.af_enough_law.proofs.RunTracks.{cycle_long}
 
 -- the state has nothing in the slot, and the track nowhere
 pub record IsOut (slot track : ℕ) (x : FastState) : Type 0 where
@@ -70,13 +71,9 @@ pub shows_nothing : (s : Session) (marks : Marks) (run : Run) (e : EntrySeen) (i
 unfolding with_poll
 shows_nothing s marks run e i y some low legal is free = by (is_mixed e.entry.cycle) refl
   where
-    off : (b : Bool) → (b ≡ true → ⊥) → b ≡ false
-    off true h = absurd (h refl)
-    off false h = refl
-
     by : (b : Bool) → is_mixed e.entry.cycle ≡ b → is_shown (entry_slot e.entry i).seen ≡ false
     by true mixed = ap (λ (x : SlotEntry). is_shown x.seen) ((legal.cycle.mixes y is mixed).others i some low free)
-    by false mixed = off (is_shown (entry_slot e.entry i).seen) (still_shows e.entry i low (legal.cycle.still mixed))
+    by false mixed = never_true (is_shown (entry_slot e.entry i).seen) (still_shows e.entry i low (legal.cycle.still mixed))
 
 -- ## One entry
 
@@ -142,7 +139,7 @@ module _ (s : Session) (marks : Marks) (track slot : ℕ) (item : FastTrack) (so
         count = ap length states ∙ step.count;
         last = ap (λ l. state_of l n) states ∙ step.last;
         draft = cycle_draft s told e ∙ step.draft;
-        there = (let a = cycle_length s told e in let b = step.there in omega (arith, a, b));
+        there = (let a = cycle_long s told e in let b = step.there in omega (arith, a, b));
         reported = found.told;
         same = ap listed stream ∙ listed_played (cycle_frames s) e slot (told_at told track).stream (told_at run track).stream step.same ∙ ap listed (sym shows_slot.stream);
         unshut = reported.told.shut ∙ open_known next lies.shape quiet;
@@ -182,7 +179,7 @@ module _ (s : Session) (marks : Marks) (track slot : ℕ) (item : FastTrack) (so
         count = ap length states ∙ step.count;
         last = ap (λ l. state_of l n) states ∙ step.last;
         draft = cycle_draft s told e ∙ step.draft;
-        there = (let a = cycle_length s told e in let b = step.there in omega (arith, a, b));
+        there = (let a = cycle_long s told e in let b = step.there in omega (arith, a, b));
         reported = record {
           generation = ap (λ (r : SlotReport). r.generation) told_slot ∙ step.reported.generation;
           consumed = ap (λ (r : SlotReport). r.consumed) told_slot ∙ step.reported.consumed ∙ ap (λ (b : BlockTold). (known_of (listed b)).consumed) (sym stream);
@@ -209,7 +206,7 @@ module _ (s : Session) (marks : Marks) (track slot : ℕ) (item : FastTrack) (so
   left_entries high (e ∷ es) run told knows there uses top legal lies step =
       let next : Run = with_cycle s run e in
       let later : Run = with_cycle s told e in
-      let there' : track < length next.tracks = (let a = cycle_length s run e in omega (arith, a, there)) in
+      let there' : track < length next.tracks = (let a = cycle_long s run e in omega (arith, a, there)) in
       let lies' = lies_earlier k cs all h (told_at next track).stream (told_at (with_cycles s es next) track).stream (cycles_later s es next track there') lies in
       let most = uses.1 in
       let now : LeftStep s track slot item x d n k next later = by (le_cases n e.entry.state uses.0) (λ at. entry_plays run told e knows there legal.0 lies' at step) (λ above. entry_skips run told e knows there legal.0 (omega (arith, most, top)) above step) in

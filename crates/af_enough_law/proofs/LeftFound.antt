@@ -1,7 +1,7 @@
 -- The report that a turn finds in a round in which a track leaves says that its server is open, if its lists lie in a history.
 use Rattle.std.proofs.Common.{◌≡◌, ℕ, ◌≤◌, ◌<◌, is_some, false, true≢false, Some, List, [], ◌∷◌, ◌++◌, length, refl, sym, ap, ◌∙◌, subst, arith, append_assoc}
 use Rattle.af_enough_law.proofs.Common.{EntrySeen, FastState, FastTrack, LegalRound, Marks, NormalKept, Report, RoundSeen, Run, Session, Shape, SlotReport, after_round, after_turn, all_played, before_turn, calls_states, early_count, early_of, fast_ended, found_in, late_of, listed, met_after, report_at, report_of, server_list, slots, state_beyond, state_more, state_of, take-append-drop, told_at, with_calls, with_cycle, with_cycles}
-use Rattle.af_enough_law.specs.FastFlows.{KnowsStates, Plays, IsTold, slot_told}
+use Rattle.af_enough_law.proofs.FastWords.{KnowsStates, Plays, IsTold, slot_told}
 use Rattle.af_enough_law.proofs.FastFound.{calls_current}
 use Rattle.af_enough_law.proofs.FastPolls.{fast_parts, parts_use, round_states, turn_more}
 use Rattle.af_enough_law.proofs.FastReports.{calls_same, turned_same, loaded_same, met_same, ends_same, slot_same, told_same, known_quiet}
@@ -9,8 +9,8 @@ use Rattle.af_enough_law.proofs.FastRounds.{over}
 use Rattle.af_enough_law.proofs.FastSince.{Adds, AllReports, since_number}
 use Rattle.af_enough_law.proofs.Foreseen.{Foreseen}
 use Rattle.af_enough_law.proofs.LeftEntries.{IsOut, SaysOpen, LeftStep, KnowsLeft, left_entries, HasOrOut}
-use Rattle.af_enough_law.proofs.RoundCalm.{known_open, quiet_only}
-use Rattle.af_enough_law.proofs.StreamCalm.{IsQuiet, LiesIn, lies_earlier}
+use Rattle.af_enough_law.proofs.RoundCalm.{known_open, quiet_only, lie_through}
+use Rattle.af_enough_law.proofs.StreamCalm.{IsQuiet}
 
 pub cycles_append : (s : Session) (xs ys : List EntrySeen) (run : Run) → with_cycles s (xs ++ ys) run ≡ with_cycles s ys (with_cycles s xs run)
 cycles_append s [] ys run = refl
@@ -59,12 +59,8 @@ found_open s marks run round track slot item legal f out lent seen =
     let top : ℕ = length turn.states in
     let x : FastState = run.normal.last in
     let k : Shape = (told_at (after_round s run round) track).stream.shape in
-    let lies_met : LiesIn k seen.list seen.events seen.setting (told_at (met_after s run round) track).stream = subst (LiesIn k seen.list seen.events seen.setting) o.whole seen.lies in
-    let lies_late = lies_earlier k seen.list seen.events seen.setting (told_at late track).stream (told_at (met_after s run round) track).stream o.meeting.is_later lies_met in
-    let lies_turn = lies_earlier k seen.list seen.events seen.setting (told_at turn track).stream (told_at late track).stream o.late lies_late in
-    let lies_early = lies_earlier k seen.list seen.events seen.setting (told_at before track).stream (told_at turn track).stream o.turn lies_turn in
-    let lies_called = lies_earlier k seen.list seen.events seen.setting (told_at called track).stream (told_at before track).stream o.early lies_early in
-    let shape0 : (told_at run track).stream.shape ≡ k = sym o.calls.is_later.shape ∙ lies_called.shape in
+    let lies = lie_through s run round track f.there k seen.list seen.events seen.setting seen.lies in
+    let shape0 : (told_at run track).stream.shape ≡ k = sym o.calls.is_later.shape ∙ lies.called.shape in
     let quiet0 : IsQuiet k (server_list (told_at run track).stream) = subst (λ (z : Shape). IsQuiet z (server_list (told_at run track).stream)) shape0 f.quiet in
     let quiet1 : IsQuiet k (server_list (told_at called track).stream) = quiet_only s marks track k seen.list seen.events seen.setting (told_at run track).stream (told_at called track).stream o.calls quiet0 in
     let c1 = calls_same round run in
@@ -73,7 +69,7 @@ found_open s marks run round track slot item legal f out lent seen =
     let told1 : IsTold called track slot item = told_same run called track slot item c1 (known_quiet (told_at run track).stream (told_at called track).stream o.calls) f.told in
     let is_n : state_of called.states n ≡ Some x = ap (λ l. state_of l n) (calls_states round run) ∙ f.last in
     let d : FastState = run.normal.draft in
-    let open1 : (slot_told called slot).shut ≡ false = told1.shut ∙ known_open s marks track k seen.list seen.events seen.setting (told_at called track).stream lies_called.shape quiet1 in
+    let open1 : (slot_told called slot).shut ≡ false = told1.shut ∙ known_open s marks track k seen.list seen.events seen.setting (told_at called track).stream lies.called.shape quiet1 in
     let first : LeftStep s track slot item x d n k called called = record {
       quiet = quiet1;
       count = long;
@@ -87,7 +83,7 @@ found_open s marks run round track slot item legal f out lent seen =
     } in
     let knows1 : KnowsLeft s marks track slot item f.some f.low f.is x f.plays d f.draft n k seen.list seen.events seen.setting called =
     (is_n, f.states, λ m y above at. absurd (true≢false (sym (ap is_some at) ∙ ap is_some (state_beyond called.states m (omega (arith, above, long)))))) in
-    let e1 = left_entries s marks track slot item f.some f.low f.is x f.plays d f.draft n k seen.list seen.events seen.setting n (early_of run round) called called knows1 o.first uses.early (omega (arith, long)) parts.early lies_early first in
+    let e1 = left_entries s marks track slot item f.some f.low f.is x f.plays d f.draft n k seen.list seen.events seen.setting n (early_of run round) called called knows1 o.first uses.early (omega (arith, long)) parts.early lies.early first in
     let step1 = e1.step in
     let to_turn : listed (told_at before track).stream ≡ listed (told_at turn track).stream = λ j. record { shape = sym o.turn.shape j; events = sym lent j } in
     let second : LeftStep s track slot item x d n k turn before = record {
@@ -104,7 +100,7 @@ found_open s marks run round track slot item legal f out lent seen =
     let whole = (turn_more s run round).whole in
     let knows2 : KnowsLeft s marks track slot item f.some f.low f.is x f.plays d f.draft n k seen.list seen.events seen.setting turn =
     (ap (λ l. state_of l n) whole ∙ state_more run.states (turn_more s run round).more n (omega arith) ∙ f.last, f.states, λ m y above at. out m y above (ap (λ l. state_of l m) (round_states s run round) ∙ at)) in
-    let e2 = left_entries s marks track slot item f.some f.low f.is x f.plays d f.draft n k seen.list seen.events seen.setting top (late_of run round) turn before knows2 o.last uses.late (omega arith) parts.late lies_late second in
+    let e2 = left_entries s marks track slot item f.some f.low f.is x f.plays d f.draft n k seen.list seen.events seen.setting top (late_of run round) turn before knows2 o.last uses.late (omega arith) parts.late lies.late second in
     let cut : early_of run round ++ late_of run round ≡ round.entries = take-append-drop (early_count run round) round.entries in
     let all_is : with_cycles s (late_of run round) before ≡ with_cycles s round.entries called = sym (cycles_append s (early_of run round) (late_of run round) called) ∙ ap (λ es. with_cycles s es called) cut in
     let adds : Adds called (with_cycles s round.entries called) (λ r. SaysOpen (report_at r.slots slot) item) =

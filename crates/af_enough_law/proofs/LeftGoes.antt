@@ -3,11 +3,11 @@ use Rattle.std.proofs.Common.{◌≡◌, ◌⊎◌, inl, inr, ℕ, ◌≤◌, �
 use Rattle.af_enough_law.proofs.Common.{Active, ClientEvent, FastTrack, LegalRound, Life, Marks, NormalKept, Returning, RoundSeen, Run, Session, Setting, Shape, Side, TrackKept, TrackSeen, Turn, after_round, calls_in, client_list, hand_list, is_lent, learnt, met_after, number_of, plays, server_list, setup_of, sides_of, takes_part, told_at, track_at, track_count, track_in, words_taken}
 use Rattle.af_base.specs.declared.event.ClientEvent.TheVariants as client
 use Rattle.af_enough_law.proofs.Basics.{course_long}
-use Rattle.af_enough_law.specs.Carried.{SessionCarried}
-use Rattle.af_enough_law.specs.Courses.{none_shut, course, Course, absent, idle, playing, stopping, drained, stopped, over, life_in}
-use Rattle.af_enough_law.specs.NormalRounds.{TurnMade}
-use Rattle.af_enough_law.specs.Playing.{AreFair}
-use Rattle.af_enough_law.specs.Seen.{are_hands_calm}
+use Rattle.af_enough_law.proofs.Carried.{SessionCarried}
+use Rattle.af_enough_law.proofs.Courses.{none_shut, course, Course, absent, idle, playing, stopping, drained, stopped, over, life_in}
+use Rattle.af_enough_law.proofs.NormalRounds.{TurnMade}
+use Rattle.af_enough_law.proofs.Playing.{AreFair}
+use Rattle.af_enough_law.proofs.Calm.{are_hands_calm}
 use Rattle.af_enough_law.proofs.Able.{able_any}
 use Rattle.af_enough_law.proofs.CalmTracks.{round_released}
 use Rattle.af_enough_law.proofs.CommandsGo.{CalmCommands, commands_of, OpenTurn, MayLearn, still, learns, may_learn, opens_after, words_after, known_then, commands_go}

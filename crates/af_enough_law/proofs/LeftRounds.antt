@@ -1,31 +1,29 @@
 -- The round in which a lent track leaves: it hears that its stream is open, all that its client is answered is fair, and it is on its course after it. What isn't told by the history of this round is told by that of the next one.
-use Rattle.std.proofs.Common.{◌≡◌, ◌⊎◌, inl, inr, ℕ, ◌≤◌, ◌<◌, if◌then◌else◌, unwrap_or, is_some, Bool, true, false, true≢false, All, Option, Some, length, refl, sym, ap, ◌∙◌, subst, arith}
-use Rattle.af_enough_law.proofs.Common.{FastState, FastTrack, Learnt, LegalRound, Lent, Marks, NormalKept, Returning, RoundSeen, Run, Session, Setting, SlotReport, TrackKept, after_round, carries, cycle_frames, ends_part, heard, is_home, is_lent, is_over, is_returning, learnt, load_of, met_after, number_of, plays, report_at, report_of, setup_of, slot_number, slot_of, slot_reported, state_beyond, state_of, takes_part, told_at, track_at, track_count, turn_after, turn_len, with_calls, with_cycles, within_or_beyond}
+use Rattle.std.proofs.Common.{◌≡◌, inl, ℕ, ◌≤◌, ◌<◌, if◌then◌else◌, is_some, Bool, true, false, true≢false, All, Some, length, refl, sym, ap, ◌∙◌, subst, arith}
+use Rattle.af_enough_law.proofs.Common.{FastState, FastTrack, Learnt, LegalRound, Lent, Marks, NormalKept, Returning, RoundSeen, Run, Session, Setting, SlotReport, TrackKept, after_round, carries, cycle_frames, ends_part, heard, is_home, is_lent, is_over, is_returning, learnt, load_of, met_after, number_of, plays, report_at, report_of, setup_of, slot_number, slot_of, slot_reported, state_of, takes_part, told_at, track_at, track_count, turn_after, turn_len, with_calls, with_cycles}
 use Rattle.af_enough_law.proofs.Basics.{not_over}
-use Rattle.af_enough_law.specs.Carried.{SessionCarried}
-use Rattle.af_enough_law.specs.Drafts.{next_holder, is_busy, PushMade}
-use Rattle.af_enough_law.specs.Ends.{IsInOrder}
-use Rattle.af_enough_law.specs.NormalRounds.{TurnMade}
+use Rattle.af_enough_law.proofs.Carried.{SessionCarried}
+use Rattle.af_enough_law.proofs.Drafts.{next_holder, holder_turned}
+use Rattle.af_enough_law.proofs.Ends.{IsInOrder, silent}
+use Rattle.af_enough_law.proofs.NormalRounds.{TurnMade}
 use Rattle.af_enough_law.proofs.CommandsGo.{OpenTurn}
-use Rattle.af_enough_law.proofs.Drafts.{holder_turned}
-use Rattle.af_enough_law.proofs.Ends.{silent}
 use Rattle.af_enough_law.proofs.EntryCounts.{found_within}
 use Rattle.af_enough_law.proofs.Following.{greeted_in, greeted_alike}
 use Rattle.af_enough_law.proofs.Foreseen.{Foreseen, KeepsTo, keeps_to, part_seen}
 use Rattle.af_enough_law.proofs.Generations.{greeted_lent, greeted_same}
 use Rattle.af_enough_law.proofs.HomeRounds.{keeps_of}
-use Rattle.af_enough_law.proofs.LastStates.{round_last}
+use Rattle.af_enough_law.proofs.StatesHold.{beyond_draft}
 use Rattle.af_enough_law.proofs.LeftEntries.{IsOut, SaysOpen}
 use Rattle.af_enough_law.proofs.LeftFound.{Flowing, FoundOpen, found_open}
-use Rattle.af_enough_law.proofs.LentRounds.{LentCarried, heard_away, heard_opened, state_last, draft_item}
+use Rattle.af_enough_law.proofs.LentRounds.{LentCarried, heard_away, heard_opened, draft_item}
 use Rattle.af_enough_law.proofs.LentTurns.{turn_leaves}
 use Rattle.af_enough_law.proofs.Lookahead.{Coming, missed, greeted_coming, home_then, seen_before, ended_then}
 use Rattle.af_enough_law.proofs.Orders.{lent_carried}
-use Rattle.af_enough_law.proofs.QueueRounds.{queue_stands}
-use Rattle.af_enough_law.proofs.SessionRounds.{turn_of, turn_runs, push_of, states_few, session_carried}
+use Rattle.af_enough_law.proofs.SessionRounds.{turn_of, turn_runs, session_carried}
 use Rattle.af_enough_law.proofs.Slots.{slot_stays}
 use Rattle.af_enough_law.proofs.TrackCarried.{TrackCarried}
 use Rattle.af_enough_law.proofs.TurnLives.{shut_turned}
+use Rattle.af_enough_law.proofs.LastStates.{state_last}
 
 -- a draft has nothing of a track that is returning
 pub draft_out : (m : NormalKept) (i slot : ℕ) → IsInOrder m → (track_at m.tracks i).holder ≡ Returning → slot_number (track_at m.tracks i) ≡ slot → IsOut slot i m.draft
@@ -117,30 +115,7 @@ module _ (s : Session) (marks : Marks) (scales : All (λ (x : Setting). x.scale 
 
   -- a state that the turn pushes has nothing of the track
   pub out_pushed : (m : ℕ) (y : FastState) → length run.states < m → state_of after.states m ≡ Some y → IsOut slot i y
-  out_pushed m y above is = by (within_or_beyond m (length after.states))
-    where
-      some_is : (x y : FastState) → Some x ≡ Some y → x ≡ y
-      some_is x y e = ap (λ (o : Option FastState). unwrap_or o x) e
-
-      made : PushMade run.normal after.normal t.turn.push
-      made = push_of s marks scales long run round legal c.stands
-
-      by_push : (b : Bool) → is_busy t.turn.push ≡ b → length run.states < length after.states → IsOut slot i after.normal.last
-      by_push true busy more =
-          let same = (made.busy busy).2 in
-          let now = (queue_stands s marks run round legal c.stands.queue).pushed in
-          let before = c.stands.queue.pushed in
-          absurd (let z : ⊥ = omega (arith, same, now, before, more) in z)
-      by_push false pushed more = subst (IsOut slot i) (sym (made.done pushed).1) out_then
-
-      by : (m ≤ length after.states) ⊎ (length after.states < m) → IsOut slot i y
-      by (inr far) = absurd (true≢false (sym (ap is_some is) ∙ ap is_some (state_beyond after.states m far)))
-      by (inl high) =
-          let count = states_few s marks scales long run round legal c.stands in
-          let at : m ≡ length after.states = omega (arith, above, high, count) in
-          let some : 1 ≤ length after.states = omega (arith, above, high) in
-          let last = state_last after.states (cycle_frames s) after.normal.last some (round_last s marks run round legal c.stands.last) in
-          subst (IsOut slot i) (some_is after.normal.last y (sym last ∙ ap (λ (n : ℕ). state_of after.states n) (sym at) ∙ is)) (by_push (is_busy t.turn.push) refl (omega (arith, above, high)))
+  out_pushed m y above is = subst (IsOut slot i) (sym (beyond_draft s marks scales long run round legal c.stands m y above is)) out_then
 
   pub keeps : KeepsTo run i
   keeps = keeps_of run i track.known_stream track.known_commands track.calm

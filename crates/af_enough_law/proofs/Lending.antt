@@ -1,28 +1,27 @@
 -- A round whose turn lends a track's proxy, and one that leaves it lent, whether the fast mixer has it already or not: the draft plays the track, and so does the last state once the push isn't busy.
 use Rattle.std.proofs.Common.{◌≡◌, ℕ, ◌+◌, ◌≤◌, ◌<◌, ◌&&◌, not, if◌then◌else◌, is_some, Bool, true, false, true≢false, All, Option, Some, None, List, [], ◌∷◌, ◌++◌, length, refl, sym, ap, ◌∙◌, subst, arith, append-nil}
-use Rattle.af_enough_law.proofs.Common.{Absent, Busy, Clean, FastState, FastTrack, Heard, Home, IsSlotted, Learnt, LegalRound, Lent, Marks, MixWrite, NormalKept, Push, Pushed, RoundSeen, Run, Session, Setting, Setup, TrackKept, after_round, carries, cycle_frames, initial_none, is_among, is_home, is_lent, is_pushed, learnt, number_of, plays, setting_of, setup_of, slot_number, slots, state_at, track_at, track_count, track_in, turn_after}
+use Rattle.af_enough_law.proofs.Common.{Absent, FastState, FastTrack, Heard, Home, IsSlotted, Learnt, LegalRound, Lent, Marks, MixWrite, NormalKept, RoundSeen, Run, Session, Setting, Setup, TrackKept, after_round, carries, cycle_frames, initial_none, is_among, is_home, is_lent, learnt, number_of, plays, setting_of, setup_of, slot_number, slots, state_at, track_at, track_count, track_in, turn_after}
 use Rattle.af_enough_law.proofs.Basics.{stays_home}
-use Rattle.af_enough_law.specs.Carried.{SessionStands}
-use Rattle.af_enough_law.specs.Drafts.{is_busy, next_holder, PushMade}
-use Rattle.af_enough_law.specs.Ends.{IsInOrder}
-use Rattle.af_enough_law.specs.FastFlows.{Plays}
-use Rattle.af_enough_law.specs.Items.{AreItems, item_of}
-use Rattle.af_enough_law.specs.NormalRounds.{TurnMade}
-use Rattle.af_enough_law.specs.TrackTurns.{attended, Edited, stays, leaves, enters, TrackTurned}
-use Rattle.af_enough_law.proofs.Drafts.{holder_turned, attended_holder}
-use Rattle.af_enough_law.proofs.EndRounds.{order_round}
+use Rattle.af_enough_law.proofs.Carried.{SessionStands}
+use Rattle.af_enough_law.proofs.Drafts.{is_busy, next_holder, PushMade, holder_turned, attended_holder}
+use Rattle.af_enough_law.proofs.Ends.{IsInOrder}
+use Rattle.af_enough_law.proofs.FastWords.{Plays}
+use Rattle.af_enough_law.proofs.Items.{AreItems, item_of, items_turn}
+use Rattle.af_enough_law.proofs.NormalRounds.{TurnMade}
+use Rattle.af_enough_law.proofs.TrackTurns.{attended, Edited, stays, leaves, enters, TrackTurned}
+use Rattle.af_enough_law.proofs.EndRounds.{order_round, unpushed}
 use Rattle.af_enough_law.proofs.Following.{greeted_in}
 use Rattle.af_enough_law.proofs.Generations.{attached_stays, lent_plays}
-use Rattle.af_enough_law.proofs.Items.{items_turn}
 use Rattle.af_enough_law.proofs.LastStates.{round_last}
 use Rattle.af_enough_law.proofs.LentRounds.{draft_plays}
 use Rattle.af_enough_law.proofs.Orders.{mix_is, orders_mix}
-use Rattle.af_enough_law.proofs.RipeRounds.{round_pushes, round_slot, generation_of}
+use Rattle.af_enough_law.proofs.RipeRounds.{round_slot, generation_of}
 use Rattle.af_enough_law.proofs.Served.{track_turned}
 use Rattle.af_enough_law.proofs.SessionRounds.{turn_of, turn_runs, push_of}
 use Rattle.af_enough_law.proofs.SlotDrafts.{lent_anew}
 use Rattle.af_enough_law.proofs.Slots.{IsOpened, slot_stays}
 use Rattle.af_enough_law.proofs.StoppedPlaces.{home_is}
+use Rattle.af_enough_law.proofs.StatesHold.{round_pushes}
 
 -- a track whose proxy is lent by the draft, in this slot, and that is to be heard
 pub record IsLending (s : Session) (run : Run) (i slot : ℕ) (item : FastTrack) : Type 0 where
@@ -172,17 +171,12 @@ module _ (s : Session) (marks : Marks) (scales : All (λ (x : Setting). x.scale 
 
   -- ## The push
 
-  pushed_not : (push : Push) → is_busy push ≡ true → is_pushed push ≡ false
-  pushed_not (Pushed number) e = absurd (true≢false (sym e))
-  pushed_not Clean e = absurd (true≢false (sym e))
-  pushed_not (Busy seen expected) e = refl
-
   made : PushMade run.normal after.normal t.turn.push
   made = push_of s marks scales long run round legal c
 
   -- a busy push leaves the states and the last one
   pub busy_same : is_busy t.turn.push ≡ true → (after.states ≡ run.states) × (after.normal.last ≡ run.normal.last)
-  busy_same busy = (round_pushes s marks scales long run round legal c ∙ ap (λ (b : Bool). run.states ++ (if b then after.normal.draft ∷ [] else [])) (pushed_not t.turn.push busy) ∙ append-nil run.states, (made.busy busy).3)
+  busy_same busy = (round_pushes s marks scales long run round legal c ∙ ap (λ (b : Bool). run.states ++ (if b then after.normal.draft ∷ [] else [])) (unpushed t.turn.push busy) ∙ append-nil run.states, (made.busy busy).3)
 
   -- after a push that wasn't busy the last state plays the track
   pub free_plays : (slot : ℕ) (item : FastTrack) → IsLending s after i slot item → is_busy t.turn.push ≡ false → (1 ≤ length after.states) × Plays slot item after.normal.last

@@ -3,9 +3,9 @@ use Rattle.std.proofs.Common.{◌≡◌, ◌⊎◌, inl, inr, ℕ, zero, suc, �
 use Rattle.af_enough_law.proofs.Common.{Client, Counts, FastTrack, LegalRound, Marks, RoundSeen, Run, Session, after_round, below_or_not, client_list, cycle_frames, learnt, server_list, sides_of, slot_reported, told_at, track_at}
 use Rattle.af_base.specs.declared.event.ServerEvent.TheVariants as server
 use Rattle.af_enough_law.proofs.Basics.{taken-append}
-use Rattle.af_enough_law.specs.FastFlows.{frames_left_in, heard_in}
-use Rattle.af_enough_law.specs.Nearing.{IsPast, calls_ahead, calls_left}
-use Rattle.af_enough_law.specs.NormalRounds.{TurnMade}
+use Rattle.af_enough_law.proofs.FastWords.{frames_left_in, heard_in}
+use Rattle.af_enough_law.proofs.NearWords.{IsPast, calls_ahead, calls_left}
+use Rattle.af_enough_law.proofs.NormalRounds.{TurnMade}
 use Rattle.af_enough_law.specs.Seen.{frames_put, frames_taken}
 use Rattle.af_enough_law.proofs.CourseGoes.{OnCourse}
 use Rattle.af_enough_law.proofs.FairTurns.{codes_long}
@@ -87,14 +87,11 @@ module _ (s : Session) (marks : Marks) (run : Run) (round : RoundSeen) (i most t
       let less = one_less (k + 4) (omega (arith, some)) (omega (arith, small)) in
       elim (gain_round false s marks run round i t (calm_turn false s marks run round i t legal N base kept r st) legal met.did r.known_commands (known_of false s marks run round i t legal N base kept r st met) st.able kept.block.block (omega (arith, size, some_N)) (omega (arith, known, split))
       most_in total_in (omega (arith, low, base_is)) stands_in past) as (λ _. LentAble after i slot) [
-        | fed more ↦ by_left (le_or (frames_taken (server_list (told_at after i).stream)) (frames_put (client_list (told_at after i).stream))) more less
+        | fed more ↦ by_left (below_or_not (frames_taken (server_list (told_at after i).stream)) (frames_put (client_list (told_at after i).stream))) more less
         | sent six ↦ stops six (omega (arith, less))
         | fewer down ↦ next k small calls some down less
       ]
     where
-      le_or : (a b : ℕ) → (a < b) ⊎ (b ≤ a)
-      le_or a b = below_or_not a b
-
       by_left : (frames_taken (server_list (told_at (after_round s run round) i).stream) < frames_put (client_list (told_at (after_round s run round) i).stream)) ⊎ (frames_put (client_list (told_at (after_round s run round) i).stream) ≤ frames_taken (server_list (told_at (after_round s run round) i).stream))
           → frames_taken (server_list (told_at run i).stream) + 1 ≤ frames_put (client_list (told_at (after_round s run round) i).stream) → k + 4 ≤ (track_at (after_round s run round).normal.tracks i).life.retries → LentAble (after_round s run round) i slot
       by_left (inl some_left) more less = left (omega (arith, some_left)) (omega (arith, less))

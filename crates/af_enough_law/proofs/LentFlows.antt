@@ -2,10 +2,10 @@
 use Rattle.std.proofs.Common.{◌≡◌, ℕ, ◌≤◌, ◌<◌, ◌&&◌, not, is_some, Bool, true, false, true≢false, All, length, length-append, refl, sym, ap, ◌∙◌, subst, arith}
 use Rattle.af_enough_law.proofs.Common.{Counts, FastTrack, Learnt, LegalRound, Lent, Life, Marks, NormalKept, RoundSeen, Run, Session, Setting, SlotReport, TrackKept, after_round, client_list, counts_in, ends_part, observer_holds, is_home, learnt, load_of, met_after, number_of, or_right, plays, report_at, report_of, server_list, setup_of, slot_number, slot_reported, takes_part, told_at, track_at, track_count, with_calls, with_cycles}
 use Rattle.af_enough_law.proofs.Basics.{state_there}
-use Rattle.af_enough_law.specs.Carried.{SessionCarried}
-use Rattle.af_enough_law.specs.FastFlows.{FlowsIn, Flowed, Reported, slot_told, HasItem}
-use Rattle.af_enough_law.specs.Items.{item_of}
-use Rattle.af_enough_law.specs.NormalRounds.{TurnMade}
+use Rattle.af_enough_law.proofs.Carried.{SessionCarried}
+use Rattle.af_enough_law.proofs.FastWords.{FlowsIn, Flowed, Reported, slot_told, HasItem}
+use Rattle.af_enough_law.proofs.Items.{item_of}
+use Rattle.af_enough_law.proofs.NormalRounds.{TurnMade}
 use Rattle.af_enough_law.proofs.CommandsGo.{OpenTurn}
 use Rattle.af_enough_law.proofs.EntryCounts.{found_within, round_high}
 use Rattle.af_enough_law.proofs.Fair.{calm_drops}

@@ -1,8 +1,8 @@
 -- A lent track hears of the frames that were taken of it in the turn of the same round, or in the next one.
 use Rattle.std.proofs.Common.{◌≡◌, ◌⊎◌, inl, inr, ℕ, ◌+◌, ◌≤◌, ◌<◌, ◌||◌, nat_lt, true, false, sym, ap, ◌∙◌, arith}
 use Rattle.af_enough_law.proofs.Common.{Counts, FastTrack, Marks, RoundSeen, Run, Session, TrackKept, after_round, below_or_not, cycle_frames, heard, is_home, learnt, slot_reported, told_at, track_at}
-use Rattle.af_enough_law.specs.FastFlows.{slot_told, frames_left_in}
-use Rattle.af_enough_law.specs.NormalRounds.{TurnMade}
+use Rattle.af_enough_law.proofs.FastWords.{slot_told, frames_left_in}
+use Rattle.af_enough_law.proofs.NormalRounds.{TurnMade}
 use Rattle.af_enough_law.proofs.FastReports.{hears_some}
 use Rattle.af_enough_law.proofs.Following.{greeted_in}
 use Rattle.af_enough_law.proofs.FoundCounts.{shown_looks}

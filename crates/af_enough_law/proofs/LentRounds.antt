@@ -1,21 +1,17 @@
 -- A track whose proxy is lent, and stays so in a round, flows in it, and all that is carried of it is carried on.
-use Rattle.std.proofs.Common.{◌≡◌, ◌⊎◌, inl, inr, ℕ, zero, suc, ◌+◌, ◌≤◌, ◌<◌, ◌==◌, ◌&&◌, ◌||◌, not, if◌then◌else◌, unwrap_or, is_some, Bool, true, false, true≢false, All, Option, Some, List, [], ◌∷◌, ◌++◌, length, length-append, refl, sym, ap, ◌∙◌, subst, arith, eq-eqb}
-use Rattle.af_enough_law.proofs.Common.{Absent, FastState, FastTrack, Heard, LegalRound, Lent, Life, Marks, MixWrite, NormalKept, RoundSeen, Run, Session, Setting, Setup, SlotReport, TrackKept, after_round, carries, client_list, counts_in, cycle_frames, grown, heard, heard_at_home, heard_by, heard_elsewhere, heard_with, observer_holds, initial, is_among, is_home, is_lent, learnt, lent_away, list_any, number_of, or_right, plays, range_with_len, setting_of, setup_of, slot_number, slot_of, slots, state_at, state_beyond, state_more, state_of, told_at, track_at, track_count, turn_after, within_or_beyond}
-use Rattle.af_enough_law.specs.Carried.{SessionCarried}
-use Rattle.af_enough_law.specs.Courses.{Course, absent, idle, playing, stopping, drained, stopped, over}
-use Rattle.af_enough_law.specs.Drafts.{is_busy, PushMade}
-use Rattle.af_enough_law.specs.Ends.{IsInOrder}
-use Rattle.af_enough_law.specs.FastFlows.{Plays, AllStates, LastCarries, IsTold, KnowsReleased, slot_told, HasItem}
-use Rattle.af_enough_law.specs.Items.{AreItems, item_of}
-use Rattle.af_enough_law.specs.NormalRounds.{TurnMade}
+use Rattle.std.proofs.Common.{◌≡◌, ◌⊎◌, inl, inr, ℕ, zero, suc, ◌+◌, ◌≤◌, ◌<◌, ◌==◌, ◌&&◌, ◌||◌, not, if◌then◌else◌, unwrap_or, Bool, true, false, true≢false, All, Option, Some, [], ◌∷◌, length, refl, sym, ap, ◌∙◌, subst, arith, eq-eqb}
+use Rattle.af_enough_law.proofs.Common.{Absent, FastState, FastTrack, Heard, LegalRound, Lent, Life, Marks, MixWrite, NormalKept, RoundSeen, Run, Session, Setting, Setup, SlotReport, TrackKept, after_round, carries, client_list, counts_in, cycle_frames, grown, heard, heard_at_home, heard_by, heard_elsewhere, heard_with, observer_holds, initial, is_among, is_home, is_lent, learnt, lent_away, list_any, number_of, or_right, plays, range_with_len, setting_of, setup_of, slot_number, slot_of, slots, state_at, state_of, told_at, track_at, track_count, turn_after, both_true}
+use Rattle.af_enough_law.proofs.Carried.{SessionCarried}
+use Rattle.af_enough_law.proofs.Courses.{Course, absent, idle, playing, stopping, drained, stopped, over}
+use Rattle.af_enough_law.proofs.Ends.{IsInOrder, order_turn}
+use Rattle.af_enough_law.proofs.FastWords.{Plays, AllStates, LastCarries, IsTold, KnowsReleased, slot_told, HasItem}
+use Rattle.af_enough_law.proofs.Items.{AreItems, item_of, items_turn}
+use Rattle.af_enough_law.proofs.NormalRounds.{TurnMade}
 use Rattle.af_enough_law.proofs.Commanding.{le_cases}
-use Rattle.af_enough_law.proofs.Ends.{order_turn}
-use Rattle.af_enough_law.proofs.FastPolls.{round_states, turn_more}
 use Rattle.af_enough_law.proofs.Generations.{attached_stays, lent_plays}
-use Rattle.af_enough_law.proofs.Items.{items_turn}
-use Rattle.af_enough_law.proofs.LastStates.{round_last}
+use Rattle.af_enough_law.proofs.StatesHold.{last_holds, states_hold}
 use Rattle.af_enough_law.proofs.Orders.{lent_carried, mix_is, orders_mix}
-use Rattle.af_enough_law.proofs.SessionRounds.{turn_of, turn_runs, push_of, states_few}
+use Rattle.af_enough_law.proofs.SessionRounds.{turn_of, turn_runs}
 use Rattle.af_enough_law.proofs.Slots.{IsOpened, slot_stays}
 use Rattle.af_enough_law.proofs.TrackCarried.{TrackCarried}
 use Rattle.af_enough_law.proofs.TrackGoes.{CalmStream}
@@ -61,17 +57,7 @@ holds_by s run track slot item x low is at p =
     let y : FastState = state_at (cycle_frames s) run.states run.current in
     let same : y ≡ x = ap (λ (o : Option FastState). unwrap_or o (initial (cycle_frames s))) at in
     any_from (λ j. carries y j && ((slot_of y j).track == track)) 0 slots slot (omega arith) low
-    (both (carries y slot) ((slot_of y slot).track == track) (ap (λ (z : FastState). carries z slot) same ∙ p.carried) (eq-eqb (slot_of y slot).track track (ap (λ (z : FastState). (slot_of z slot).track) same ∙ ap (λ (t : FastTrack). t.track) p.is ∙ is)))
-  where
-    both : (a b : Bool) → a ≡ true → b ≡ true → (a && b) ≡ true
-    both true b e f = f
-    both false b e f = absurd (true≢false (sym e))
-
--- the states from a number on, of which at most one was added to these
-pub state_last : (xs : List FastState) (frames : ℕ) (last : FastState) → 1 ≤ length xs → state_at frames xs (length xs) ≡ last → state_of xs (length xs) ≡ Some last
-state_last [] frames last some is = absurd (let z : ⊥ = omega (arith, some) in z)
-state_last (y ∷ []) frames last some is = ap Some is
-state_last (y ∷ z ∷ xs) frames last some is = state_last (z ∷ xs) frames last (omega arith) is
+    (both_true (carries y slot) ((slot_of y slot).track == track) (ap (λ (z : FastState). carries z slot) same ∙ p.carried) (eq-eqb (slot_of y slot).track track (ap (λ (z : FastState). (slot_of z slot).track) same ∙ ap (λ (t : FastTrack). t.track) p.is ∙ is)))
 
 -- ## What is carried of a track whose proxy is lent
 
@@ -165,47 +151,8 @@ module _ (s : Session) (marks : Marks) (scales : All (λ (x : Setting). x.scale 
 
   -- the last state pushed plays the track
   pub last_then : Plays slot item after.normal.last
-  last_then = by (is_busy t.turn.push) refl
-    where
-      made : PushMade run.normal after.normal t.turn.push
-      made = push_of s marks scales long run round legal c.stands
-
-      by : (b : Bool) → is_busy t.turn.push ≡ b → Plays slot item after.normal.last
-      by true busy = subst (Plays slot item) (sym (made.busy busy).3) l.last
-      by false free = subst (Plays slot item) (sym ((made.done free).1 ∙ ap (λ (m : NormalKept). m.draft) t.after)) draft_then
+  last_then = last_holds s marks scales long run round legal c (Plays slot item) l.some l.last draft_then
 
   -- the states that the round may use play it
   pub states_play : AllStates run after (Plays slot item)
-  states_play = (l.some, λ k x high is. by k x is (le_cases (length run.states) k high) (within k x is))
-    where
-      first : state_of run.states (length run.states) ≡ Some run.normal.last
-      first = state_last run.states (cycle_frames s) run.normal.last l.some c.stands.last
-
-      whole : after.states ≡ run.states ++ (turn_more s run round).more
-      whole = round_states s run round ∙ (turn_more s run round).whole
-
-      more_states : 1 ≤ length after.states
-      more_states = let a = ap length whole in let b = length-append run.states (turn_more s run round).more in let d = l.some in omega (arith, a, b, d)
-
-      final : state_of after.states (length after.states) ≡ Some after.normal.last
-      final = state_last after.states (cycle_frames s) after.normal.last more_states (round_last s marks run round legal c.stands.last)
-
-      some_is : (x y : FastState) → Some x ≡ Some y → x ≡ y
-      some_is x y e = ap (λ (o : Option FastState). unwrap_or o x) e
-
-      within : (k : ℕ) (x : FastState) → state_of after.states k ≡ Some x → k ≤ length after.states
-      within k x is = by_place (within_or_beyond k (length after.states))
-        where
-          by_place : (k ≤ length after.states) ⊎ (length after.states < k) → k ≤ length after.states
-          by_place (inl low) = low
-          by_place (inr far) = absurd (true≢false (sym (ap is_some is) ∙ ap is_some (state_beyond after.states k far)))
-
-      by : (k : ℕ) (x : FastState) → state_of after.states k ≡ Some x → (k ≡ length run.states) ⊎ (length run.states < k) → k ≤ length after.states → Plays slot item x
-      by k x is (inl same) high =
-          let at : state_of after.states k ≡ Some run.normal.last =
-          ap (λ (xs : List FastState). state_of xs k) whole ∙ ap (λ (n : ℕ). state_of (run.states ++ (turn_more s run round).more) n) same ∙ state_more run.states (turn_more s run round).more (length run.states) (omega arith) ∙ first in
-          subst (Plays slot item) (some_is run.normal.last x (sym at ∙ is)) l.last
-      by k x is (inr above) high =
-          let count = states_few s marks scales long run round legal c.stands in
-          let at : k ≡ length after.states = omega (arith, above, high, count) in
-          subst (Plays slot item) (some_is after.normal.last x (sym final ∙ ap (λ (n : ℕ). state_of after.states n) (sym at) ∙ is)) last_then
+  states_play = states_hold s marks scales long run round legal c (Plays slot item) l.some l.last draft_then

@@ -3,7 +3,7 @@ use Rattle.std.proofs.Common.{◌≡◌, ℕ, zero, suc, ◌+◌, ◌<◌, ◌==
 use Rattle.af_enough_law.proofs.Common.{BlockTold, GoesOn, Holder, Learnt, Marks, NormalKept, Outside, RoundSeen, Run, ServerEvent, Session, Setup, TakeSeen, TrackKept, TrackTold, Turn, acked_len, after_ack, after_edits, after_push, after_takes, after_tracks, after_turn, asked as buffer, before_turn, cycle_events, edits_len, flat_map, found_in, hand_does, invalid, is_home, is_mixed_here, learnt, mix_events, mixed_here, not_yet, outside_of, plays, push_tracks, range_with_len, served_len, server_list, setup_of, stream_list, takes_from, told_at, track_at, track_in, tracks_at, turn_after, turned}
 use Rattle.af_enough_law.proofs.Basics.{before_normal}
 use Rattle.af_life.specs.TurnEvents.{hand_events_of}
-use Rattle.af_enough_law.specs.NormalRounds.{TurnMade}
+use Rattle.af_enough_law.proofs.NormalRounds.{TurnMade}
 use Rattle.af_enough_law.proofs.FastSteps.{server_does-server, hand_does-server}
 use Rattle.af_enough_law.proofs.Following.{greeted_in}
 use Rattle.af_enough_law.proofs.RunTracks.{before_long, turn_track}

@@ -1,5 +1,5 @@
 -- The life of a track whose client opens, starts, stops and removes it.
-use Rattle.std.proofs.Common.{◌≡◌, ℕ, ◌+◌, ◌-◌, ◌≤◌, ◌==◌, ◌&&◌, ◌||◌, nat_le, Bool, true, false, refl, sym, ◌∙◌, true≢false, if◌then◌else◌}
+use Rattle.std.proofs.Common.{◌≡◌, ℕ, nat_le, Bool, true, false, refl, sym, ◌∙◌, true≢false, if◌then◌else◌}
 use Rattle.af_enough_law.proofs.Common.{Active, Known, Life, Stopped, Stopping1, Stopping2, by_command, by_report}
 
 -- ## The lives

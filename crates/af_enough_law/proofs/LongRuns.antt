@@ -2,7 +2,13 @@
 use Rattle.std.proofs.Common.{◌≡◌, ◌⊎◌, inl, inr, ℕ, zero, suc, ◌+◌, ◌*◌, ◌≤◌, ◌==◌, ◌&&◌, Bool, true, false, List, [], ◌∷◌, length, take, refl, sym, ap, ◌∙◌, arith, length-append, true≢false}
 use Rattle.af_enough_law.proofs.Common.{AreMixedBut, EntrySeen, Frame, HasEnoughCycles, IsCutRun, IsFastTurn, JournalData, LegalRound, LegalRounds, Marks, MatchBool, RoundSeen, Run, ScriptData, Session, after_round, all_ended, enough_rounds, fast_ended, fills, is_mixed, length-take-le, marks_of, match_bool-map, new_run, run_from, session_of}
 use Rattle.af_runs.proofs.RoundEntries.{bare, round-entries}
-use Rattle.af_enough_law.specs.Ending.{AreCutOff, StillGoes, CutRunsAreLong}
+use Rattle.af_enough_law.specs.Ending.{StillGoes, CutRunsAreLong}
+
+-- these rounds are legal by these marks, the log is full after them, and some party hasn't ended
+pub record AreCutOff (script : ScriptData) (files : List (List Frame)) (marks : Marks) (rounds : List RoundSeen) : Type 0 where
+  pub legal : LegalRounds true (session_of script files) marks (new_run (session_of script files)) rounds
+  pub full : length (run_from (session_of script files) (new_run (session_of script files)) rounds).entries ≡ script.cycles
+  pub going : all_ended (session_of script files) (run_from (session_of script files) (new_run (session_of script files)) rounds) ≡ false
 
 bare-length : (es : List EntrySeen) → length (bare es) ≡ length es
 bare-length [] = refl

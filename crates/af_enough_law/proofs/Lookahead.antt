@@ -1,14 +1,12 @@
 -- A proxy that missed the meeting after the round in which it was detached comes home in the next one: what was done to its stream in the one is told by the history of the other.
 use Rattle.std.proofs.Common.{◌≡◌, ◌⊎◌, inl, inr, ℕ, ◌≤◌, ◌<◌, ◌&&◌, if◌then◌else◌, is_some, Bool, true, false, true≢false, All, Some, length, refl, sym, ap, ◌∙◌, subst, arith}
 use Rattle.af_enough_law.proofs.Common.{FastState, FastTrack, Home, LegalRound, Lent, Marks, NormalKept, RoundSeen, Run, Session, Setting, TrackKept, after_round, carries, observer_holds, is_home, is_returning, learnt, or_right, plays, setup_of, slot_number, slots, state_more, state_of, takes_part, told_at, track_at, track_count, turn_after}
-use Rattle.af_enough_law.specs.Acks.{KnowsAcked}
-use Rattle.af_enough_law.specs.Carried.{SessionCarried}
-use Rattle.af_enough_law.specs.Drafts.{next_holder, is_busy, PushMade}
-use Rattle.af_enough_law.specs.FastFlows.{Plays}
-use Rattle.af_enough_law.specs.NormalRounds.{TurnMade}
-use Rattle.af_enough_law.proofs.Acks.{turn_sees_ack}
+use Rattle.af_enough_law.proofs.Acks.{KnowsAcked, turn_sees_ack}
+use Rattle.af_enough_law.proofs.Carried.{SessionCarried}
+use Rattle.af_enough_law.proofs.Drafts.{next_holder, holder_turned}
+use Rattle.af_enough_law.proofs.FastWords.{Plays}
+use Rattle.af_enough_law.proofs.NormalRounds.{TurnMade}
 use Rattle.af_enough_law.proofs.Commanding.{le_cases}
-use Rattle.af_enough_law.proofs.Drafts.{holder_turned}
 use Rattle.af_enough_law.proofs.Ends.{over_stays, silent}
 use Rattle.af_enough_law.proofs.EntryCounts.{round_high}
 use Rattle.af_enough_law.proofs.FastFlows.{Later, later_both}
@@ -18,9 +16,10 @@ use Rattle.af_enough_law.proofs.Following.{greeted_in}
 use Rattle.af_enough_law.proofs.Foreseen.{Foreseen, KeepsTo, part_seen, seen_earlier}
 use Rattle.af_enough_law.proofs.HomeRounds.{home_part}
 use Rattle.af_enough_law.proofs.LentRounds.{holds_by}
+use Rattle.af_enough_law.proofs.StatesHold.{pushed_last}
 use Rattle.af_enough_law.proofs.Orders.{come}
-use Rattle.af_enough_law.proofs.QueueRounds.{acks_states, knows_by, queue_stands}
-use Rattle.af_enough_law.proofs.SessionRounds.{turn_of, turn_runs, push_of, states_few}
+use Rattle.af_enough_law.proofs.QueueRounds.{acks_states, knows_by}
+use Rattle.af_enough_law.proofs.SessionRounds.{turn_of, turn_runs, states_few}
 
 -- a stream block only grows in a round
 pub round_later : (s : Session) (run : Run) (round : RoundSeen) (i : ℕ) → i < length run.tracks → Later (told_at run i).stream (told_at (after_round s run round) i).stream
@@ -53,19 +52,8 @@ module _ (s : Session) (marks : Marks) (scales : All (λ (x : Setting). x.scale 
       let count = states_few s marks scales long run round legal c.stands in
       record {
         acked = knows_by s marks run round legal c.stands.queue (omega (arith, above, high, count));
-        free = by_push (is_busy (turn_of s marks scales long run round legal c.stands).turn.push) refl (omega (arith, above, high));
+        free = ap (λ (x : FastState). carries x slot) (pushed_last s marks scales long run round legal c.stands (omega (arith, above, high))) ∙ free;
       }
-    where
-      made : PushMade run.normal after.normal (turn_of s marks scales long run round legal c.stands).turn.push
-      made = push_of s marks scales long run round legal c.stands
-
-      by_push : (b : Bool) → is_busy (turn_of s marks scales long run round legal c.stands).turn.push ≡ b → length run.states < length after.states → carries after.normal.last slot ≡ false
-      by_push true busy more =
-          let same = (made.busy busy).2 in
-          let now = (queue_stands s marks run round legal c.stands.queue).pushed in
-          let before = c.stands.queue.pushed in
-          absurd (let z : ⊥ = omega (arith, same, now, before, more) in z)
-      by_push false pushed more = ap (λ (x : FastState). carries x slot) (made.done pushed).1 ∙ free
 
   pub missed : carries after.normal.draft slot ≡ false → takes_part s after i ≡ false → Coming after slot
   missed free none = by (le_cases (length run.states) after.current (acks_states s marks run round legal c.stands.going c.states))

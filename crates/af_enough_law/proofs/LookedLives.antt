@@ -1,9 +1,9 @@
 -- What a turn makes of a life by words of some kind.
 use Rattle.std.proofs.Common.{◌≡◌, ◌⊎◌, inl, inr, ℕ, ◌≤◌, ◌<◌, ◌==◌, ◌&&◌, ◌||◌, nat_le, not, if◌then◌else◌, is_some, Bool, true, false, true≢false, Option, List, [], ◌∷◌, ◌++◌, length, refl, sym, ap, ◌∙◌, subst, arith, eqb-true}
-use Rattle.af_enough_law.proofs.Common.{Absent, Active, CommandLook, Idle, Known, Learnt, Life, NormalKept, Setup, Stopped, Stopping1, Stopping2, TrackKept, Turn, after_look, after_looks, both_first, both_right, both_true, by_command, by_report, commands, ended, first_effect, goes_on, heard, is_shut, must_wait, no, obeyed, plays, ready, ready_life, report_ends, shows_command, told, track_at, track_in, turn_after, words_taken}
+use Rattle.af_enough_law.proofs.Common.{Absent, Active, CommandLook, Idle, Known, Learnt, Life, NormalKept, Setup, Stopped, Stopping1, Stopping2, TrackKept, Turn, after_look, after_looks, both_first, both_right, both_true, by_command, by_report, commands, ended, goes_on, heard, is_shut, must_wait, no, obeyed, plays, ready, ready_life, report_ends, shows_command, told, track_at, track_in, turn_after, words_taken}
 use Rattle.af_life.specs.Obeys.{commanded}
-use Rattle.af_enough_law.specs.Courses.{Course, absent, idle, playing, stopping, drained, stopped, over, life_in}
-use Rattle.af_enough_law.specs.TrackTurns.{TrackTurned}
+use Rattle.af_enough_law.proofs.Courses.{Course, absent, idle, playing, stopping, drained, stopped, over, life_in}
+use Rattle.af_enough_law.proofs.TrackTurns.{TrackTurned}
 use Rattle.af_enough_law.proofs.EarlyCalls.{no_stop}
 use Rattle.af_enough_law.proofs.Ends.{silent}
 use Rattle.af_enough_law.proofs.Following.{greeted_in, greeted_alike}
@@ -12,6 +12,7 @@ use Rattle.af_enough_law.proofs.RoamingCalls.{no_start}
 use Rattle.af_enough_law.proofs.SentPlain.{is_course_code, plain_words, InPlay, is_over, plays_on, stops_on, command_in}
 use Rattle.af_enough_law.proofs.Served.{track_turned}
 use Rattle.af_enough_law.proofs.TurnLives.{life_turned, in_turned, shut_turned}
+use Rattle.af_enough_law.proofs.Coursing.{ended_same}
 
 -- ## Words of some kind
 
@@ -80,13 +81,9 @@ codes P code h a b d = by (code == 1) (code == 2) (code == 6) refl refl refl h
     by false false true e f i h = subst P (sym (eqb-true code 6 i)) d
     by false false false e f i h = no h
 
-ended_command : (code argument : ℕ) (l : Life) → l.ended ≡ true → by_command code argument l ≡ l
-unfolding by_command
-ended_command code argument l e = ap (λ (b : Bool). if b then l else first_effect commands code argument l) e
-
 pub unstopped_next : (code argument : ℕ) (l : Life) → is_unstopping code ≡ true → Unstopped l → Unstopped (by_command code argument l)
 unfolding by_command
-unstopped_next code argument l h (gone x e) = subst Unstopped (sym (ended_command code argument l e)) (gone l e)
+unstopped_next code argument l h (gone x e) = subst Unstopped (sym (ended_same code argument l e)) (gone l e)
 unstopped_next code argument l h (absent_on d r s) = codes (λ c. Unstopped (by_command c argument (life_in Absent false d r s))) code h (idle_on d r s) (absent_on d r s) (gone _ refl)
 unstopped_next code argument l h (idle_on d r s) = codes (λ c. Unstopped (by_command c argument (life_in Idle false d r s))) code h (idle_on d r s) (active_on false 50 s) (gone _ refl)
 unstopped_next code argument l h (active_on d r s) = codes (λ c. Unstopped (by_command c argument (life_in Active true d r s))) code h (active_on d r s) (active_on false 50 s) (gone _ refl)
@@ -238,7 +235,7 @@ end_codes P code h a b d = by (code == 1) (code == 4) (code == 6) refl refl refl
 
 emptied_next : (code argument : ℕ) (l : Life) → is_ending code ≡ true → Emptied l → Emptied (by_command code argument l)
 unfolding by_command
-emptied_next code argument l h (is_gone x e) = subst Emptied (sym (ended_command code argument l e)) (is_gone l e)
+emptied_next code argument l h (is_gone x e) = subst Emptied (sym (ended_same code argument l e)) (is_gone l e)
 emptied_next code argument l h (empty_on r s) = end_codes (λ c. Emptied (by_command c argument (life_in Stopping2 true true r s))) code h (empty_on r s) (empty_on r s) (is_gone _ refl)
 emptied_next code argument l h (stopped_on d r s) = end_codes (λ c. Emptied (by_command c argument (life_in Stopped false d r s))) code h (stopped_on d r s) (stopped_on d r s) (is_gone _ refl)
 

@@ -1,5 +1,5 @@
 -- What a server's look shows on a block whose lists have a history, whose flags stay calm and whose client never flushes.
-use Rattle.std.proofs.Common.{◌≡◌, ◌⊎◌, ℕ, ◌+◌, ◌-◌, ◌*◌, ◌%◌, ◌≤◌, ◌<◌, ◌==◌, ◌&&◌, ◌||◌, List, [], ◌∷◌, ◌++◌, min, ◌∙◌, true≢false, if◌then◌else◌}
+use Rattle.std.proofs.Common.{◌≡◌, ℕ, ◌+◌, ◌-◌, ◌≤◌, ◌<◌, List, ◌++◌, min}
 use Rattle.af_enough_law.proofs.Common.{ClientEvent, HandEvent, HasHistory, IsClientList, IsLegal, Moment, Seen, ServerEvent, Shape, client_of, flushes_of, server_of, start}
 use Rattle.af_base.specs.declared.seen.Seen.TheVariants as seen
 use Rattle.af_enough_law.specs.Seen.{frames_put, frames_taken}

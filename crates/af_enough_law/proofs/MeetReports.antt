@@ -3,16 +3,17 @@ use Rattle.std.proofs.Common.{◌≡◌, ◌⊎◌, inl, inr, ℕ, ◌≤◌, �
 use Rattle.af_enough_law.proofs.Common.{ClientEvent, EntrySeen, FastState, FastTrack, LegalEntries, LegalEntry, Listed, Marks, Report, Run, ServerEvent, Session, Shape, SlotReport, TrackTold, carried, carries, counted_look, cycle_frames, entry_slot, is_shown, known_of, last_report, last_used, listed, mixed_track, no_slot, played, polled_known, polled_pushed, polled_waits, report_at, server_kept, server_list, slot_playing, slot_of, slot_report, slots, state_at, state_for, state_of, stream_of, told_at, with_cycle, with_cycles, with_looks, with_mix, with_poll}
 use Rattle.af_enough_law.proofs.Basics.{state_there}
 use Rattle.af_runs.specs.Runs.{shows_slot}
-use Rattle.af_enough_law.specs.FastFlows.{AllUse, slot_told, HasItem}
+use Rattle.af_enough_law.proofs.FastWords.{AllUse, slot_told, HasItem}
 use Rattle.af_enough_law.proofs.Commanding.{le_cases}
 use Rattle.af_enough_law.proofs.FastFlows.{cycles_later}
 use Rattle.af_enough_law.proofs.FastFound.{adds_one, listed_played}
 use Rattle.af_enough_law.proofs.FastReports.{slot_counts, last_more}
 use Rattle.af_enough_law.proofs.FastShows.{Setting}
 use Rattle.af_enough_law.proofs.FastSince.{Adds}
-use Rattle.af_enough_law.proofs.FastSteps.{cycle_length, cycle_states, cycle_track, mixed_stream, slot_only, cycle_draft}
+use Rattle.af_enough_law.proofs.FastSteps.{cycle_states, cycle_track, mixed_stream, slot_only, cycle_draft}
 use Rattle.af_enough_law.proofs.LeftEntries.{IsOut, slot_none, track_still, shows_nothing, HasOrOut}
 use Rattle.af_enough_law.proofs.StreamCalm.{IsQuiet, LiesIn, lies_earlier, entries_quiet}
+use Rattle.af_enough_law.proofs.RunTracks.{cycle_long}
 
 -- a report of this attachment says that the server is open
 abbrev pub SaysOpenOf : FastTrack → SlotReport → Type 0
@@ -157,7 +158,7 @@ module _ (s : Session) (marks : Marks) (track slot : ℕ) (item : FastTrack) (so
         count = ap length (cycle_states s told e) ∙ step.count;
         last = ap (λ l. state_at (cycle_frames s) l n) (cycle_states s told e) ∙ step.last;
         draft = cycle_draft s told e ∙ step.draft;
-        there = (let a = cycle_length s told e in let b = step.there in omega (arith, a, b));
+        there = (let a = cycle_long s told e in let b = step.there in omega (arith, a, b));
         says = says_next s track slot item low told e c.state c.counts c.names open_is step.says;
       }
 
@@ -174,7 +175,7 @@ module _ (s : Session) (marks : Marks) (track slot : ℕ) (item : FastTrack) (so
   met_entries high (e ∷ es) run told knows there uses top legal lies step =
       let next : Run = with_cycle s run e in
       let later : Run = with_cycle s told e in
-      let there' : track < length next.tracks = (let a = cycle_length s run e in omega (arith, a, there)) in
+      let there' : track < length next.tracks = (let a = cycle_long s run e in omega (arith, a, there)) in
       let lies' = lies_earlier k cs all h (told_at next track).stream (told_at (with_cycles s es next) track).stream (cycles_later s es next track there') lies in
       let most = uses.1 in
       let now = met_next run told e knows there legal.0 lies' uses.0 (omega (arith, most, top)) step in

@@ -1,7 +1,7 @@
 -- What the reports of a round say of a proxy that the fast mixer has, or comes to have in it.
 use Rattle.std.proofs.Common.{◌≡◌, ℕ, ◌≤◌, ◌<◌, is_some, true, false, true≢false, Some, List, [], ◌∷◌, ◌++◌, length, refl, sym, ap, ◌∙◌, subst, arith, take-append-drop, unwrap_or, Option, length-append}
 use Rattle.af_enough_law.proofs.Common.{ClientEvent, EntrySeen, FastState, FastTrack, LegalEntries, LegalRound, Marks, NormalKept, RoundSeen, Run, ServerEvent, Session, Shape, after_round, after_turn, all_played, before_turn, calls_states, carries, cycle_frames, early_count, early_of, fast_ended, found_in, initial, initial_none, known_of, late_of, listed, met_after, polled_pushed, report_at, report_of, server_kept, server_list, slot_of, slots, state_at, state_beyond, state_more, state_of, told_at, with_calls, with_cycle, with_cycles}
-use Rattle.af_enough_law.specs.FastFlows.{KnowsStates, slot_told, HasItem}
+use Rattle.af_enough_law.proofs.FastWords.{KnowsStates, slot_told, HasItem}
 use Rattle.af_enough_law.proofs.FastFlows.{cycles_later}
 use Rattle.af_enough_law.proofs.FastFound.{calls_current}
 use Rattle.af_enough_law.proofs.FastReports.{SameReports, calls_same, turned_same, loaded_same, met_same, ends_same, same_both, slot_same}
@@ -9,14 +9,15 @@ use Rattle.af_enough_law.proofs.FastRounds.{over}
 use Rattle.af_enough_law.proofs.FastPolls.{round_states, turn_more, parts_use, fast_parts}
 use Rattle.af_enough_law.proofs.FastShows.{Setting}
 use Rattle.af_enough_law.proofs.FastSince.{Adds, since_number}
-use Rattle.af_enough_law.proofs.FastSteps.{cycle_length, cycle_states, entry_pushed}
+use Rattle.af_enough_law.proofs.FastSteps.{cycle_states, entry_pushed}
 use Rattle.af_enough_law.proofs.Foreseen.{Foreseen}
 use Rattle.af_enough_law.proofs.LeftFound.{cycles_append, adds_both}
 use Rattle.af_enough_law.proofs.MeetReports.{SaysOpenOf, MeetStep, KnowsMet, met_entries, NamesTrack, says_next}
-use Rattle.af_enough_law.proofs.RoundCalm.{quiet_only, legal_parts}
+use Rattle.af_enough_law.proofs.RoundCalm.{quiet_only, legal_parts, lie_through}
 use Rattle.af_enough_law.proofs.StreamCalm.{IsQuiet, LiesIn, lies_earlier, entries_quiet}
 use Rattle.af_enough_law.proofs.SlotReports.{state_at_all}
 use Rattle.af_enough_law.proofs.LeftEntries.{HasOrOut}
+use Rattle.af_enough_law.proofs.RunTracks.{cycle_long}
 
 -- ## The report that a turn finds
 
@@ -52,12 +53,8 @@ meets_open s marks run round track slot item legal f out lent seen m below high 
     let x : FastState = state_at (cycle_frames s) run.states n in
     let d : FastState = run.normal.draft in
     let k : Shape = (told_at (after_round s run round) track).stream.shape in
-    let lies_met : LiesIn k seen.list seen.events seen.setting (told_at (met_after s run round) track).stream = subst (LiesIn k seen.list seen.events seen.setting) o.whole seen.lies in
-    let lies_late = lies_earlier k seen.list seen.events seen.setting (told_at late track).stream (told_at (met_after s run round) track).stream o.meeting.is_later lies_met in
-    let lies_turn = lies_earlier k seen.list seen.events seen.setting (told_at turn track).stream (told_at late track).stream o.late lies_late in
-    let lies_early = lies_earlier k seen.list seen.events seen.setting (told_at before track).stream (told_at turn track).stream o.turn lies_turn in
-    let lies_called = lies_earlier k seen.list seen.events seen.setting (told_at called track).stream (told_at before track).stream o.early lies_early in
-    let shape0 : (told_at run track).stream.shape ≡ k = sym o.calls.is_later.shape ∙ lies_called.shape in
+    let lies = lie_through s run round track f.there k seen.list seen.events seen.setting seen.lies in
+    let shape0 : (told_at run track).stream.shape ≡ k = sym o.calls.is_later.shape ∙ lies.called.shape in
     let quiet0 : IsQuiet k (server_list (told_at run track).stream) = subst (λ (z : Shape). IsQuiet z (server_list (told_at run track).stream)) shape0 f.quiet in
     let quiet1 : IsQuiet k (server_list (told_at called track).stream) = quiet_only s marks track k seen.list seen.events seen.setting (told_at run track).stream (told_at called track).stream o.calls quiet0 in
     let c1 = calls_same round run in
@@ -68,7 +65,7 @@ meets_open s marks run round track slot item legal f out lent seen m below high 
     let first : MeetStep s track slot item x d n k called called = record { quiet = quiet1; same = refl; count = long; last = is_n; draft = ap (λ (m : NormalKept). m.draft) (calls_current round run).1; there = o.first; says = says1 } in
     let knows1 : KnowsMet s marks track slot item f.some f.low f.is x f.named d f.draft n k seen.list seen.events seen.setting called =
     (omega (arith, long), is_n, λ m y above at. absurd (true≢false (sym (ap is_some at) ∙ ap is_some (state_beyond called.states m (omega (arith, above, long)))))) in
-    let e1 = met_entries s marks track slot item f.some f.low f.is x f.named d f.draft n k seen.list seen.events seen.setting n (early_of run round) called called knows1 o.first uses.early (omega (arith, long)) parts.early lies_early first in
+    let e1 = met_entries s marks track slot item f.some f.low f.is x f.named d f.draft n k seen.list seen.events seen.setting n (early_of run round) called called knows1 o.first uses.early (omega (arith, long)) parts.early lies.early first in
     let step1 = e1.step in
     let to_turn : listed (told_at before track).stream ≡ listed (told_at turn track).stream = λ j. record { shape = sym o.turn.shape j; events = sym lent j } in
     let second : MeetStep s track slot item x d n k turn before = record {
@@ -86,7 +83,7 @@ meets_open s marks run round track slot item legal f out lent seen m below high 
     let here : state_at (cycle_frames s) turn.states n ≡ x = ap (λ (p : Option FastState). unwrap_or p (initial (cycle_frames s))) (ap (λ l. state_of l n) whole ∙ state_more run.states (turn_more s run round).more n (omega arith)) in
     let knows2 : KnowsMet s marks track slot item f.some f.low f.is x f.named d f.draft n k seen.list seen.events seen.setting turn =
     (omega (arith, many, more), here, λ m y above at. out m y above (ap (λ l. state_of l m) (round_states s run round) ∙ at)) in
-    let e2 = met_entries s marks track slot item f.some f.low f.is x f.named d f.draft n k seen.list seen.events seen.setting top (late_of run round) turn before knows2 o.last uses.late (omega arith) parts.late lies_late second in
+    let e2 = met_entries s marks track slot item f.some f.low f.is x f.named d f.draft n k seen.list seen.events seen.setting top (late_of run round) turn before knows2 o.last uses.late (omega arith) parts.late lies.late second in
     let cut : early_of run round ++ late_of run round ≡ round.entries = take-append-drop (early_count run round) round.entries in
     let all_is : with_cycles s (late_of run round) before ≡ with_cycles s round.entries called = sym (cycles_append s (early_of run round) (late_of run round) called) ∙ ap (λ es. with_cycles s es called) cut in
     let adds : Adds called (with_cycles s round.entries called) (λ r. SaysOpenOf item (report_at r.slots slot)) =
@@ -117,7 +114,7 @@ module _ (s : Session) (marks : Marks) (track slot : ℕ) (item : FastTrack) (lo
     said_entries [] run have there legal lies quiet says = says
     said_entries (e ∷ es) run have there legal lies quiet says =
         let next : Run = with_cycle s run e in
-        let there' : track < length next.tracks = (let a = cycle_length s run e in omega (arith, a, there)) in
+        let there' : track < length next.tracks = (let a = cycle_long s run e in omega (arith, a, there)) in
         let lies' = lies_earlier k cs all h (told_at next track).stream (told_at (with_cycles s es next) track).stream (cycles_later s es next track there') lies in
         let now : IsQuiet k (server_list (told_at next track).stream) = entries_quiet s marks track k cs all h (e ∷ []) run there (legal.0, tt) lies' quiet in
         let open_is : (known_of (listed (told_at next track).stream)).shut ≡ false = ap is_some (ap (λ (z : Shape). (server_kept z (server_list (told_at next track).stream)).shut) lies'.shape ∙ now.unshut) in
@@ -136,19 +133,15 @@ module _ (s : Session) (marks : Marks) (track slot : ℕ) (item : FastTrack) (lo
       let turn : Run = after_turn s run round in
       let late : Run = with_cycles s (late_of run round) turn in
       let k : Shape = (told_at after track).stream.shape in
-      let lies_met : LiesIn k seen.list seen.events seen.setting (told_at (met_after s run round) track).stream = subst (LiesIn k seen.list seen.events seen.setting) o.whole seen.lies in
-      let lies_late = lies_earlier k seen.list seen.events seen.setting (told_at late track).stream (told_at (met_after s run round) track).stream o.meeting.is_later lies_met in
-      let lies_turn = lies_earlier k seen.list seen.events seen.setting (told_at turn track).stream (told_at late track).stream o.late lies_late in
-      let lies_early = lies_earlier k seen.list seen.events seen.setting (told_at before track).stream (told_at turn track).stream o.turn lies_turn in
-      let lies_called = lies_earlier k seen.list seen.events seen.setting (told_at called track).stream (told_at before track).stream o.early lies_early in
-      let shape0 : (told_at run track).stream.shape ≡ k = sym o.calls.is_later.shape ∙ lies_called.shape in
+      let lies = lie_through s run round track there k seen.list seen.events seen.setting seen.lies in
+      let shape0 : (told_at run track).stream.shape ≡ k = sym o.calls.is_later.shape ∙ lies.called.shape in
       let quiet1 : IsQuiet k (server_list (told_at called track).stream) =
       quiet_only s marks track k seen.list seen.events seen.setting (told_at run track).stream (told_at called track).stream o.calls (subst (λ (z : Shape). IsQuiet z (server_list (told_at run track).stream)) shape0 quiet) in
       let c1 : SameReports run called = calls_same round run in
       let c2 : SameReports before turn = turned_same s (found_in s run round) round.turn before in
       let c3 : SameReports late after = same_both late (all_played s run round) after (loaded_same round.turn late) (same_both (all_played s run round) (met_after s run round) after (met_same s (all_played s run round)) (ends_same (met_after s run round))) in
       let first : SaysOpenOf item (slot_told before slot) =
-      said_entries k seen.list seen.events seen.setting (early_of run round) called (λ m z at. have m z (ap (λ l. state_of l m) (sym (calls_states round run)) ∙ at)) o.first parts.0 lies_early quiet1 (subst (SaysOpenOf item) (sym (slot_same run called slot c1)) says) in
+      said_entries k seen.list seen.events seen.setting (early_of run round) called (λ m z at. have m z (ap (λ l. state_of l m) (sym (calls_states round run)) ∙ at)) o.first parts.0 lies.early quiet1 (subst (SaysOpenOf item) (sym (slot_same run called slot c1)) says) in
       let last : SaysOpenOf item (slot_told late slot) =
-      said_entries k seen.list seen.events seen.setting (late_of run round) turn (λ m z at. later m z (ap (λ l. state_of l m) (round_states s run round) ∙ at)) o.last parts.1 lies_late turned (subst (SaysOpenOf item) (sym (slot_same before turn slot c2)) first) in
+      said_entries k seen.list seen.events seen.setting (late_of run round) turn (λ m z at. later m z (ap (λ l. state_of l m) (round_states s run round) ∙ at)) o.last parts.1 lies.late turned (subst (SaysOpenOf item) (sym (slot_same before turn slot c2)) first) in
       subst (SaysOpenOf item) (sym (slot_same late after slot c3)) last

@@ -1,8 +1,8 @@
 -- From the first round in which all is carried until each life has ended: a round of all tracks.
 use Rattle.std.proofs.Common.{◌≡◌, inl, inr, ℕ, suc, ◌+◌, ◌^◌, ◌≤◌, ◌<◌, ◌==◌, ◌&&◌, ◌||◌, not, Bool, true, false, true≢false, All, length, refl, sym, ◌∙◌, arith}
 use Rattle.af_enough_law.proofs.Common.{LegalRound, Life, Marks, RoundSeen, Run, Session, Setting, after_round, is_over, plays, setup_of, spec_of, track_at, track_count}
-use Rattle.af_enough_law.specs.Courses.{stage, is_heard}
-use Rattle.af_enough_law.specs.NormalRounds.{TurnMade}
+use Rattle.af_enough_law.proofs.Courses.{stage, is_heard}
+use Rattle.af_enough_law.proofs.NormalRounds.{TurnMade}
 use Rattle.af_enough_law.proofs.Carrying.{Carried, carried_on}
 use Rattle.af_enough_law.proofs.Coursing.{course_plays}
 use Rattle.af_enough_law.proofs.Ends.{silent}

@@ -1,10 +1,10 @@
 -- A run whose tracks flow, and of which so many rounds are left that are enough, has ended all its lives in them.
 use Rattle.std.proofs.Common.{◌≡◌, ◌⊎◌, inl, inr, ℕ, zero, suc, ◌+◌, ◌^◌, ◌≤◌, ◌<◌, Bool, true, false, true≢false, All, List, [], ◌∷◌, length, take, refl, sym, ◌∙◌, subst, arith}
 use Rattle.af_enough_law.proofs.Common.{Frame, IsScript, LegalRound, LegalRounds, Marks, Op, RoundSeen, Run, ScriptData, Session, Setting, TrackKept, after_round, client_list, div_ceil, enough_rounds, is_over, plays, portion, run_from, server_list, session_of, setup_of, sides_of, spec_of, told_at, track_at, track_count}
-use Rattle.af_enough_law.specs.Courses.{stage}
-use Rattle.af_enough_law.specs.Ends.{AllOver}
-use Rattle.af_enough_law.specs.Nearing.{IsPast}
-use Rattle.af_enough_law.specs.Playing.{way_ops, way_frames}
+use Rattle.af_enough_law.proofs.Courses.{stage}
+use Rattle.af_enough_law.proofs.Ends.{AllOver}
+use Rattle.af_enough_law.proofs.NearWords.{IsPast}
+use Rattle.af_enough_law.proofs.Playing.{way_ops, way_frames}
 use Rattle.af_enough_law.specs.Seen.{frames_put, frames_taken}
 use Rattle.af_enough_law.proofs.Carrying.{Carried}
 use Rattle.af_enough_law.proofs.Flows.{way_rounds}

@@ -1,8 +1,8 @@
 -- A run of a script with enough cycles has ended all lives before it is too late for the mixers, if its tracks start to flow early.
 use Rattle.std.proofs.Common.{◌≡◌, ℕ, zero, suc, ◌+◌, ◌-◌, ◌^◌, ◌≤◌, ◌<◌, Bool, true, false, List, [], ◌∷◌, length, take, drop, refl, sym, ap, ◌∙◌, subst, arith, length-drop}
 use Rattle.af_enough_law.proofs.Common.{Frame, HasEnoughCycles, IsScript, LegalRound, LegalRounds, Marks, RoundSeen, Run, ScriptData, Session, after_round, enough_rounds, is_over, length-map, new_run, plays, run_from, scales_of, session_of, spec_of, spec_setting, track_at, track_count}
-use Rattle.af_enough_law.specs.Ends.{AllOver}
-use Rattle.af_enough_law.specs.Playing.{way_frames}
+use Rattle.af_enough_law.proofs.Ends.{AllOver}
+use Rattle.af_enough_law.proofs.Playing.{way_frames}
 use Rattle.af_enough_law.proofs.Carrying.{Carried}
 use Rattle.af_enough_law.proofs.Middle.{Middle}
 use Rattle.af_enough_law.proofs.MiddleEnds.{TrackStarts, portion_at, full_at, middle_start, middle_ends}

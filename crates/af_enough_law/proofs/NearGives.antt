@@ -1,10 +1,10 @@
 -- What the rounds of a track give that comes nearer to its end, by what is carried of it: while its proxy takes part in the meetings, in the round in which it leaves, and once it has stopped.
 use Rattle.std.proofs.Common.{◌≡◌, ℕ, zero, suc, ◌+◌, ◌≤◌, ◌==◌, ◌&&◌, ◌||◌, not, nat_le, Bool, true, false, true≢false, refl, sym, ap, ◌∙◌, subst, arith, if◌then◌else◌}
 use Rattle.af_enough_law.proofs.Common.{Heard, Known, LegalRound, Life, Marks, RoundSeen, Run, Session, Stopping1, after_round, by_report, calls_in, heard, learnt, met_after, plays, sides_of, takes_part, told_at, track_at}
-use Rattle.af_enough_law.specs.Courses.{course, Course, absent, idle, playing, stopping, drained, stopped, over, life_in, stage, told_words}
-use Rattle.af_enough_law.specs.Nearing.{RoundFlows}
-use Rattle.af_enough_law.specs.NormalRounds.{TurnMade}
-use Rattle.af_enough_law.specs.Playing.{AreFair}
+use Rattle.af_enough_law.proofs.Courses.{course, Course, absent, idle, playing, stopping, drained, stopped, over, life_in, stage, told_words}
+use Rattle.af_enough_law.proofs.NearWords.{RoundFlows}
+use Rattle.af_enough_law.proofs.NormalRounds.{TurnMade}
+use Rattle.af_enough_law.proofs.Playing.{AreFair}
 use Rattle.af_enough_law.proofs.CommandsGo.{OpenTurn, commands_of}
 use Rattle.af_enough_law.proofs.CourseGoes.{CourseGone}
 use Rattle.af_enough_law.proofs.Coursing.{course_plays}

@@ -2,9 +2,9 @@
 use Rattle.std.proofs.Common.{◌≡◌, ℕ, ◌*◌, ◌≤◌, ◌<◌, min, if◌then◌else◌, Bool, true, false, length, sym, ap, ◌∙◌, arith, eq-eqb}
 use Rattle.af_enough_law.proofs.Common.{BlockTold, FastTrack, Heard, Learnt, LegalRound, Marks, RoundSeen, Run, Session, Shape, SlotReport, TrackKept, after_round, before_turn, counts_in, grown, heard_at_home, heard_by, heard_elsewhere, heard_with, is_home, kept, learnt, listed, mul-le-mul_left, server_kept, server_list, slot_reported, told_at, track_at, with_calls}
 use Rattle.af_enough_law.proofs.Basics.{stays_home, taken-append}
-use Rattle.af_enough_law.specs.FastFlows.{Flowed, IsOpen, slot_told}
-use Rattle.af_enough_law.specs.Nearing.{RoundFlows}
-use Rattle.af_enough_law.specs.NormalRounds.{TurnMade}
+use Rattle.af_enough_law.proofs.FastWords.{Flowed, IsOpen, slot_told}
+use Rattle.af_enough_law.proofs.NearWords.{RoundFlows}
+use Rattle.af_enough_law.proofs.NormalRounds.{TurnMade}
 use Rattle.af_enough_law.specs.Seen.{frames_taken}
 use Rattle.af_enough_law.proofs.Fair.{calm_drops}
 use Rattle.af_enough_law.proofs.FastConsumed.{told_open, open_consumed}

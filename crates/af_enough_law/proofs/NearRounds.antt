@@ -3,9 +3,9 @@ use Rattle.std.proofs.Common.{◌≡◌, ◌⊎◌, inl, inr, ℕ, zero, suc, �
 use Rattle.af_enough_law.proofs.Common.{LegalRound, Life, Marks, RoundSeen, Run, ServerEvent, Session, Shape, TrackTold, after_round, client_list, ends_part, few_or_two, met_after, server_list, sides_of, told_at, track_at}
 use Rattle.af_base.specs.declared.event.ServerEvent.TheVariants as server
 use Rattle.af_enough_law.proofs.Basics.{taken-append}
-use Rattle.af_enough_law.specs.Courses.{stage}
-use Rattle.af_enough_law.specs.Nearing.{buffer_of}
-use Rattle.af_enough_law.specs.NormalRounds.{TurnMade}
+use Rattle.af_enough_law.proofs.Courses.{stage}
+use Rattle.af_enough_law.proofs.NearWords.{buffer_of}
+use Rattle.af_enough_law.proofs.NormalRounds.{TurnMade}
 use Rattle.af_enough_law.specs.Seen.{frames_put, frames_taken}
 use Rattle.af_enough_law.proofs.CalmTracks.{CalmTrack, stream_lists}
 use Rattle.af_enough_law.proofs.CommandsGo.{CalmCommands, OpenTurn}

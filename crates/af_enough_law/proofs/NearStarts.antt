@@ -2,8 +2,8 @@
 use Rattle.std.proofs.Common.{◌≡◌, ℕ, ◌+◌, ◌≤◌, Bool, true, List, length, ap, ◌∙◌, subst, arith}
 use Rattle.af_enough_law.proofs.Common.{LegalRound, Marks, Op, RoundSeen, Run, Session, after_round, ends_part, met_after, sides_of, spec_of, takes_part, told_at, track_at}
 use Rattle.af_enough_law.proofs.Basics.{course_long}
-use Rattle.af_enough_law.specs.NormalRounds.{TurnMade}
-use Rattle.af_enough_law.specs.Playing.{way_ops, way_frames}
+use Rattle.af_enough_law.proofs.NormalRounds.{TurnMade}
+use Rattle.af_enough_law.proofs.Playing.{way_ops, way_frames}
 use Rattle.af_enough_law.proofs.BlockNumbers.{BlockNumbers, block_numbers}
 use Rattle.af_enough_law.proofs.CalmTracks.{stream_lists}
 use Rattle.af_enough_law.proofs.CommandsGo.{CalmCommands, OpenTurn, commands_of}

@@ -4,8 +4,8 @@ use Rattle.af_enough_law.proofs.Common.{All-get_or, Frame, HasEnoughCycles, IsSc
 use Rattle.af_script.specs.declared.op.Op.TheVariants as op
 use Rattle.af_script.specs.Ops.{power_above, cells_of}
 use Rattle.af_runs.specs.Runs.{new_told_track}
-use Rattle.af_enough_law.specs.Nearing.{buffer_of}
-use Rattle.af_enough_law.specs.Playing.{IsWay, way_ops, way_frames}
+use Rattle.af_enough_law.proofs.NearWords.{buffer_of}
+use Rattle.af_enough_law.proofs.Playing.{IsWay, way_ops, way_frames}
 use Rattle.af_enough_law.specs.Seen.{frames_taken}
 use Rattle.af_enough_law.proofs.Flows.{way_rounds, way_within, way_costs, portions}
 use Rattle.af_enough_law.proofs.Nearing.{BlockCounts}

@@ -4,11 +4,11 @@ use Rattle.af_enough_law.proofs.Common.{ClientEvent, Heard, LegalRound, Life, Ma
 use Rattle.af_base.specs.declared.event.ClientEvent.TheVariants as client
 use Rattle.af_base.specs.declared.event.ServerEvent.TheVariants as server
 use Rattle.af_enough_law.proofs.Basics.{course_long}
-use Rattle.af_enough_law.specs.Courses.{course, Course, absent, idle, playing, stopping as stopping_life, drained as drained_life, stopped as stopped_life, over as has_ended, stage, told_words}
-use Rattle.af_enough_law.specs.FastFlows.{KnowsReleased}
-use Rattle.af_enough_law.specs.Nearing.{RoundFlows}
-use Rattle.af_enough_law.specs.NormalRounds.{TurnMade}
-use Rattle.af_enough_law.specs.Playing.{AreFair}
+use Rattle.af_enough_law.proofs.Courses.{course, Course, absent, idle, playing, stopping as stopping_life, drained as drained_life, stopped as stopped_life, over as has_ended, stage, told_words}
+use Rattle.af_enough_law.proofs.FastWords.{KnowsReleased}
+use Rattle.af_enough_law.proofs.NearWords.{RoundFlows}
+use Rattle.af_enough_law.proofs.NormalRounds.{TurnMade}
+use Rattle.af_enough_law.proofs.Playing.{AreFair}
 use Rattle.af_enough_law.specs.Seen.{frames_put, frames_taken}
 use Rattle.af_enough_law.proofs.Advancing.{IsBlock}
 use Rattle.af_enough_law.proofs.BlockNumbers.{BlockNumbers, block_numbers}

@@ -1,8 +1,9 @@
 -- No journal of an accepted script whose tracks play through, and whose cycles are enough, is that of a run that was cut off.
 use Rattle.std.proofs.Common.{◌≡◌, ℕ, ◌+◌, ◌≤◌, ◌<◌, true, List, length, take, arith}
 use Rattle.af_enough_law.proofs.Common.{Frame, HasEnoughCycles, IsCutRun, IsScript, JournalData, Marks, RoundSeen, ScriptData, Session, all_ended, enough_rounds, marks_of, new_run, run_from, session_of, true_from_ne_false}
-use Rattle.af_enough_law.specs.Ending.{AreCutOff, RoundsEndInTime, StillGoes}
-use Rattle.af_enough_law.specs.Ends.{AllOver}
+use Rattle.af_enough_law.specs.Ending.{RoundsEndInTime, StillGoes}
+use Rattle.af_enough_law.proofs.LongRuns.{AreCutOff}
+use Rattle.af_enough_law.proofs.Ends.{AllOver}
 use Rattle.af_enough_law.proofs.LongRuns as long_runs
 use Rattle.af_enough_law.proofs.NearSums.{near_costs}
 use Rattle.af_enough_law.proofs.NotOver.{goes_not_over}

@@ -2,7 +2,14 @@
 use Rattle.std.proofs.Common.{◌≡◌, Bool, false, refl, sym, ap, ◌∙◌, Option, Some, None, MatchOption}
 use Rattle.af_enough_law.proofs.Common.{Learnt, LegalRound, LegalTurnBy, Marks, NormalKept, Outside, RoundSeen, Run, Session, Turn, TurnFound, after_round, after_turn, all_played, before_turn, by_false, found_in, late_of, learnt, loaded, met_after, met_normal, outside_of, setup_of, turn_after, turned, with_cycles, with_load, with_turn}
 use Rattle.af_enough_law.proofs.Basics.{before_normal, cycles_normal, ends_normal}
-use Rattle.af_enough_law.specs.NormalRounds.{TurnMade}
+
+-- The turn that a round has: it is legal by what it finds, and leaves what the run has of the mixer after the round
+pub record TurnMade (s : Session) (marks : Marks) (run : Run) (round : RoundSeen) : Type 0 where
+  pub turn : Turn
+  pub is : round.turn ≡ Some turn
+  pub by : LegalTurnBy (setup_of s) marks (found_in s run round turn) run.normal turn
+  pub after : (after_round s run round).normal ≡ turn_after (setup_of s) (learnt by.outside) run.normal turn
+  pub sees : learnt by.outside ≡ learnt (outside_of (setup_of s) (found_in s run round turn) turn)
 
 -- ## Only its turn changes what a run has of the mixer
 

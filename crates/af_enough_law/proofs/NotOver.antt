@@ -2,7 +2,7 @@
 use Rattle.std.proofs.Common.{◌≡◌, ℕ, ◌+◌, ◌≤◌, true, false, true≢false, List, ◌++◌, length, take, drop, sym, ap, ◌∙◌, subst, arith, length-append, length-drop}
 use Rattle.af_enough_law.proofs.Common.{Frame, IsScript, LegalRounds, Marks, RoundSeen, ScriptData, Session, all_ended, enough_rounds, new_long, new_run, run_from, session_of, take-append-drop}
 use Rattle.af_enough_law.specs.Ending.{StillGoes}
-use Rattle.af_enough_law.specs.Ends.{AllOver}
+use Rattle.af_enough_law.proofs.Ends.{AllOver}
 use Rattle.af_enough_law.proofs.AllEnd.{rounds_end}
 use Rattle.af_enough_law.proofs.EndWithin.{both_end}
 

@@ -1,8 +1,8 @@
 -- Which command a turn leaves in the draft, and which slots the draft carries.
-use Rattle.std.proofs.Common.{◌≡◌, ℕ, zero, suc, ◌==◌, ◌&&◌, ◌||◌, not, if◌then◌else◌, Bool, true, false, true≢false, List, [], ◌∷◌, refl, sym, ap, ◌∙◌, ◌<◌, ◌≤◌, arith}
+use Rattle.std.proofs.Common.{◌≡◌, ℕ, zero, suc, ◌==◌, ◌&&◌, ◌||◌, not, if◌then◌else◌, Bool, true, false, true≢false, List, [], ◌∷◌, refl, sym, ap, ◌∙◌, arith}
 use Rattle.af_enough_law.proofs.Common.{ColdIdle, Command, Exit, FastState, Home, HotIdle, Initial, IsSound, Learnt, Mix, MixWrite, NormalKept, Setup, TrackKept, Turn, Write, and_none, carries, code_of, comes_home, commands_exit, is_home, is_lent, is_over, is_returning, lent_away, list_any, next_command, no, or_left, or_right, pipe_size, plays, slot_number, slot_of, track_at, turn_after, welcomed}
 use Rattle.af_base.specs.declared.state.Command.TheVariants.{Idle}
-use Rattle.af_enough_law.specs.TrackTurns.{greeted}
+use Rattle.af_enough_law.proofs.TrackTurns.{greeted}
 use Rattle.af_enough_law.proofs.Drafts.{command_turned}
 
 -- some track is to be heard

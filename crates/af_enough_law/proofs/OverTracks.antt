@@ -1,8 +1,8 @@
 -- A track that is over: its life has ended.
-use Rattle.std.proofs.Common.{◌≡◌, ℕ, ◌≤◌, ◌<◌, Bool, true, false, length, ap, ◌∙◌}
+use Rattle.std.proofs.Common.{◌≡◌, ℕ, ◌<◌, Bool, true, false, length, ap, ◌∙◌}
 use Rattle.af_enough_law.proofs.Common.{Learnt, LegalRound, Life, Marks, NormalKept, RoundSeen, Run, Session, Setup, TrackKept, Turn, after_part, after_round, heard, if_true, learnt, ready, setup_of, track_at, track_count, track_in, turn_after}
-use Rattle.af_enough_law.specs.NormalRounds.{TurnMade}
-use Rattle.af_enough_law.specs.TrackTurns.{attended, TrackTurned}
+use Rattle.af_enough_law.proofs.NormalRounds.{TurnMade}
+use Rattle.af_enough_law.proofs.TrackTurns.{attended, TrackTurned}
 use Rattle.af_enough_law.proofs.Following.{greeted_in, greeted_alike, edited_alike}
 use Rattle.af_enough_law.proofs.Served.{track_turned}
 

@@ -1,7 +1,16 @@
 -- Each slot that the draft carries is that of a track that is lent.
-use Rattle.std.proofs.Common.{◌≡◌, ◌≢◌, inl, inr, ℕ, zero, suc, ◌≤◌, ◌&&◌, not, if◌then◌else◌, Bool, true, false, true≢false, All, List, [], ◌∷◌, length, map, fold, refl, sym, ap, ◌∙◌, subst, arith, ⊎_elim}
-use Rattle.af_enough_law.proofs.Common.{Busy, Clean, Command, FastState, Holder, Home, IsSound, Learnt, Lent, NormalKept, Push, Pushed, Returning, Setting, Setup, TakeSeen, TrackKept, TrackSeen, Turn, acked_len, after_ack, after_edits, after_push, after_take, after_takes, after_tracks, asked as buffer, at_here, at_other, at_set, attached_else, carries, cases_eq, comer_inside, comer_slot, comes_home, draft_commanded as with_command, look_counted, detached, detached_else, detached_here, edited, edited_to, entered, goes_served, is_lent, is_returning, leaver_slot, lend, lent_away, lent_by, let_go, must_enter, must_leave, mutated, no, number_of, ordered, seen_at, served, served_len, served_to, setting_of, slice_set, slot_number, sound_acked, sound_edits, sound_served, track_at, turn_after, welcomed, welcomed_at}
-use Rattle.af_enough_law.specs.Owned.{AreOwned}
+use Rattle.std.proofs.Common.{◌≡◌, ◌≢◌, inl, inr, ℕ, zero, suc, ◌≤◌, ◌&&◌, not, if◌then◌else◌, Bool, true, false, true≢false, All, List, [], ◌∷◌, length, map, fold, refl, sym, ap, ◌∙◌, subst, arith, ⊎_elim, ◌<◌}
+use Rattle.af_enough_law.proofs.Common.{Busy, Clean, Command, FastState, Holder, Home, IsSound, Learnt, Lent, NormalKept, Push, Pushed, Returning, Setting, Setup, TakeSeen, TrackKept, TrackSeen, Turn, acked_len, after_ack, after_edits, after_push, after_take, after_takes, after_tracks, asked as buffer, at_here, at_other, at_set, attached_else, carries, cases_eq, comer_inside, comer_slot, comes_home, draft_commanded as with_command, look_counted, detached, detached_else, detached_here, edited, edited_to, entered, goes_served, is_lent, is_returning, leaver_slot, lend, lent_away, lent_by, let_go, must_enter, must_leave, mutated, no, number_of, ordered, seen_at, served, served_len, served_to, setting_of, slice_set, slot_number, sound_acked, sound_edits, sound_served, track_at, turn_after, welcomed, welcomed_at, slots}
+
+-- a track that is lent has this slot
+pub record IsOwned (tracks : List TrackKept) (slot : ℕ) : Type 0 where
+  pub owner : ℕ
+  pub lent : is_lent (track_at tracks owner).holder ≡ true
+  pub slot_is : slot_number (track_at tracks owner) ≡ slot
+
+-- each slot that the draft carries is that of a track that is lent
+abbrev pub AreOwned : List TrackKept → FastState → Type 0
+AreOwned tracks draft = (slot : ℕ) → slot < slots → carries draft slot ≡ true → IsOwned tracks slot
 
 -- each lent track stays lent with its slot
 abbrev StayLent : List TrackKept → List TrackKept → Type 0

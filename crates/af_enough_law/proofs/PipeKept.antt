@@ -1,11 +1,11 @@
 -- While some track is to be heard the pipe has room for a buffer in each turn.
 use Rattle.std.proofs.Common.{◌≡◌, ℕ, ◌*◌, ◌≤◌, true, false, All, length, sym, ap, ◌∙◌, arith}
 use Rattle.af_enough_law.proofs.Common.{FastState, IsScript, LegalRound, Marks, MixWrite, NormalKept, RoundSeen, Run, Session, Setting, after_round, asked, cycle_frames, learnt, mul-le-mul_left, pipe_size, plays, setup_of, track_at, track_count, turn_after}
-use Rattle.af_enough_law.specs.Carried.{SessionCarried}
-use Rattle.af_enough_law.specs.FastFlows.{MixesAll}
-use Rattle.af_enough_law.specs.Nearing.{buffer_of}
-use Rattle.af_enough_law.specs.NormalRounds.{TurnMade}
-use Rattle.af_enough_law.specs.PipeFlows.{pipe_put, pipe_taken, in_pipe, KnowsPipe}
+use Rattle.af_enough_law.proofs.Carried.{SessionCarried}
+use Rattle.af_enough_law.proofs.FastWords.{MixesAll}
+use Rattle.af_enough_law.proofs.NearWords.{buffer_of}
+use Rattle.af_enough_law.proofs.NormalRounds.{TurnMade}
+use Rattle.af_enough_law.proofs.PipeFlows.{pipe_put, pipe_taken, in_pipe, KnowsPipe}
 use Rattle.af_enough_law.proofs.FastMixes.{mixes_all}
 use Rattle.af_enough_law.proofs.Orders.{mix_is, orders_mix}
 use Rattle.af_enough_law.proofs.PipeRounds.{pipe_flowed, knows_pipe, room_of_turn, two_buffers, puts_buffer, pipe_within}

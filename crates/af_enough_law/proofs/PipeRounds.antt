@@ -1,52 +1,15 @@
 -- What a round does to the pipe.
 use Rattle.std.proofs.Common.{◌≡◌, ◌⊎◌, inl, inr, ℕ, ◌+◌, ◌-◌, ◌*◌, ◌%◌, ◌≤◌, ◌<◌, ◌==◌, min, nat_le, if◌then◌else◌, is_some, Bool, true, false, true≢false, Option, Some, None, List, [], ◌∷◌, ◌++◌, map, length, take, refl, sym, ap, ◌∙◌, subst, arith, append_assoc, append-nil, length-append, eqb-true}
-use Rattle.af_enough_law.proofs.Common.{ClientEvent, Cycle, EntrySeen, Event, FastState, LegalEntries, LegalEntry, LegalRound, LegalTurnBy, Marks, MatchBool, MatchOption, PipeTold, RoundSeen, Run, ServerEvent, Session, Setup, SlotEntry, TakeSeen, Turn, TurnFound, after_round, after_turn, ahead, all_played, asked, before_turn, calls_pipe, cold_done, cycle_frames, cycle_of, early_count, early_of, ends_pipe, entry_slot, fast_ended, found_in, front_by_room, is_mixed, late_of, length-map-range_with_len, loaded_pipe, met, met_after, mixed_pipe, nat_tests, one, ones, pipe_cells, pipe_list, pipe_size, put_by, releases_of, setup_of, shown, state_of, take-append-drop, take-append-le, take-append_seam, take_of, takes_shown, turned, two, twos, with_calls, with_cycle, with_cycles, with_mix, with_poll, with_turn, wrapped}
+use Rattle.af_enough_law.proofs.Common.{ClientEvent, Cycle, EntrySeen, FastState, LegalEntries, LegalEntry, LegalRound, LegalTurnBy, Marks, MatchBool, MatchOption, PipeTold, RoundSeen, Run, ServerEvent, Session, Setup, SlotEntry, TakeSeen, Turn, TurnFound, after_round, after_turn, ahead, all_played, asked, before_turn, calls_pipe, cold_done, cycle_frames, cycle_of, early_count, early_of, ends_pipe, entry_slot, fast_ended, found_in, front_by_room, is_mixed, late_of, length-map-range_with_len, loaded_pipe, met, met_after, mixed_pipe, nat_tests, one, ones, pipe_cells, pipe_list, pipe_size, put_by, releases_of, setup_of, shown, state_of, take-append-drop, take-append-le, take-append_seam, take_of, takes_shown, turned, two, twos, with_calls, with_cycle, with_cycles, with_mix, with_poll, with_turn, wrapped, twos_more, ones_stay, ones_more, twos_stay, twos_met, ones_met}
 use Rattle.af_base.specs.declared.event.ClientEvent.TheVariants as client
 use Rattle.af_base.specs.declared.event.ServerEvent.TheVariants as server
 use Rattle.af_base.specs.Mix.{mixed_frame}
 use Rattle.af_enough_law.proofs.Basics.{asked_in-append, asked_is, put-append, taken-append}
 use Rattle.af_enough_law.specs.Seen.{Stands, frames_put, frames_taken}
-use Rattle.af_enough_law.specs.FastFlows.{AllMixed, MixesAll, asked_in}
-use Rattle.af_enough_law.specs.PipeFlows.{pipe_put, pipe_taken, in_pipe, KnowsPipe, put_in, PipeFlowed, RoomSeen}
+use Rattle.af_enough_law.proofs.FastWords.{AllMixed, MixesAll, asked_in}
+use Rattle.af_enough_law.proofs.PipeFlows.{pipe_put, pipe_taken, in_pipe, KnowsPipe, put_in, PipeFlowed, RoomSeen}
 use Rattle.af_enough_law.proofs.FastShows.{stands-more}
 use Rattle.af_enough_law.proofs.PipeMoments.{History, pipe_look, pipe_low, pipe_words, pipe_room, pipe_room_most}
-
--- ## Lists of the pipe
-
-module _ {A B : Type 0} where
-  twos-more : (told : List (Event A B)) (es : List B) → twos (told ++ map two es) ≡ twos told ++ es
-  twos-more [] [] = refl
-  twos-more [] (e ∷ es) = ap (λ l. e ∷ l) (twos-more [] es)
-  twos-more (one a ∷ told) es = twos-more told es
-  twos-more (two b ∷ told) es = ap (λ l. b ∷ l) (twos-more told es)
-
-  ones-same : (told : List (Event A B)) (es : List B) → ones (told ++ map two es) ≡ ones told
-  ones-same [] [] = refl
-  ones-same [] (e ∷ es) = ones-same [] es
-  ones-same (one a ∷ told) es = ap (λ l. a ∷ l) (ones-same told es)
-  ones-same (two b ∷ told) es = ones-same told es
-
-  ones-more : (told : List (Event A B)) (es : List A) → ones (told ++ map one es) ≡ ones told ++ es
-  ones-more [] [] = refl
-  ones-more [] (e ∷ es) = ap (λ l. e ∷ l) (ones-more [] es)
-  ones-more (one a ∷ told) es = ap (λ l. a ∷ l) (ones-more told es)
-  ones-more (two b ∷ told) es = ones-more told es
-
-  twos-same : (told : List (Event A B)) (es : List A) → twos (told ++ map one es) ≡ twos told
-  twos-same [] [] = refl
-  twos-same [] (e ∷ es) = twos-same [] es
-  twos-same (one a ∷ told) es = twos-same told es
-  twos-same (two b ∷ told) es = ap (λ l. b ∷ l) (twos-same told es)
-
-  on_twos : (told : List (Event A B)) (a : A) (b : B) → twos (told ++ one a ∷ two b ∷ []) ≡ twos told ++ b ∷ []
-  on_twos [] a b = refl
-  on_twos (one x ∷ told) a b = on_twos told a b
-  on_twos (two x ∷ told) a b = ap (λ l. x ∷ l) (on_twos told a b)
-
-  on_ones : (told : List (Event A B)) (a : A) (b : B) → ones (told ++ one a ∷ two b ∷ []) ≡ ones told ++ a ∷ []
-  on_ones [] a b = refl
-  on_ones (one x ∷ told) a b = ap (λ l. x ∷ l) (on_ones told a b)
-  on_ones (two x ∷ told) a b = on_ones told a b
 
 -- both lists of the pipe go on
 record PipeGoes (p later : PipeTold) : Type 0 where
@@ -69,7 +32,7 @@ pipe_both a b c f g = record {
 -- ## Entries
 
 mixed_goes : (b : Bool) (p q : PipeTold) (es : List ServerEvent) → q.told ≡ p.told ++ map two es → PipeGoes p (if b then q else p)
-mixed_goes true p q es is = record { puts = []; put_list = ap ones is ∙ ones-same p.told es ∙ sym (append-nil (ones p.told)); takes = es; take_list = ap twos is ∙ twos-more p.told es }
+mixed_goes true p q es is = record { puts = []; put_list = ap ones is ∙ ones_stay p.told es ∙ sym (append-nil (ones p.told)); takes = es; take_list = ap twos is ∙ twos_more p.told es }
 mixed_goes false p q es is = pipe_same p p refl
 
 cycle_pipe : (s : Session) (run : Run) (e : EntrySeen) → (with_cycle s run e).pipe ≡ mixed_pipe e run.pipe
@@ -89,7 +52,7 @@ mixed_puts true p q is same = (is, same)
 mixed_puts false p q is same = (refl, refl)
 
 cycle_puts : (s : Session) (run : Run) (e : EntrySeen) → (ones (with_cycle s run e).pipe.told ≡ ones run.pipe.told) × ((with_cycle s run e).pipe.put ≡ run.pipe.put)
-cycle_puts s run e = subst (λ (p : PipeTold). (ones p.told ≡ ones run.pipe.told) × (p.put ≡ run.pipe.put)) (sym (cycle_pipe s run e)) (mixed_puts (is_mixed e.entry.cycle) run.pipe _ (ones-same run.pipe.told (server.SawRear (entry_slot e.entry 0).rear ∷ server.SawFront (wrapped (length run.pipe.taken)) ∷ takes_shown (entry_slot e.entry 0).seen)) refl)
+cycle_puts s run e = subst (λ (p : PipeTold). (ones p.told ≡ ones run.pipe.told) × (p.put ≡ run.pipe.put)) (sym (cycle_pipe s run e)) (mixed_puts (is_mixed e.entry.cycle) run.pipe _ (ones_stay run.pipe.told (server.SawRear (entry_slot e.entry 0).rear ∷ server.SawFront (wrapped (length run.pipe.taken)) ∷ takes_shown (entry_slot e.entry 0).seen)) refl)
 
 cycles_puts : (s : Session) (es : List EntrySeen) (run : Run) → (ones (with_cycles s es run).pipe.told ≡ ones run.pipe.told) × ((with_cycles s es run).pipe.put ≡ run.pipe.put)
 cycles_puts s [] run = (refl, refl)
@@ -183,7 +146,7 @@ turn_puts : (s : Session) (f : TurnFound) (e : Turn) (run : Run) → TurnPuts s 
 unfolding with_turn
 turn_puts s f e run =
     let es : List ClientEvent = pipe_list (setup_of s) (pipe_cells (setup_of s)) (length run.pipe.put) e in
-    record { puts = es; list = ones-more run.pipe.told es; sum = list_put (setup_of s) (pipe_cells (setup_of s)) (length run.pipe.put) e; same = twos-same run.pipe.told es }
+    record { puts = es; list = ones_more run.pipe.told es; sum = list_put (setup_of s) (pipe_cells (setup_of s)) (length run.pipe.put) e; same = twos_stay run.pipe.told es }
 
 turned_puts : (s : Session) (found : Turn → TurnFound) (o : Option Turn) (run : Run) → TurnPuts s run (turned s found o run) o
 turned_puts s found None run = record { puts = []; list = sym (append-nil (ones run.pipe.told)); sum = refl; same = refl }
@@ -214,8 +177,8 @@ pipe_over s run round =
       turn = turned_puts s (found_in s run round) round.turn (before_turn s run round);
       late_puts = ap (λ (p : PipeTold). ones p.told) (loaded_pipe round.turn late) ∙ (cycles_puts s (late_of run round) (after_turn s run round)).0;
       late_takes = ap (λ (p : PipeTold). twos p.told) (loaded_pipe round.turn late);
-      met_puts = ap ones (met_pipe s all) ∙ on_ones all.pipe.told (client.Learn (length (twos all.pipe.told))) (server.Learn (length (ones all.pipe.told)));
-      met_takes = ap twos (met_pipe s all) ∙ on_twos all.pipe.told (client.Learn (length (twos all.pipe.told))) (server.Learn (length (ones all.pipe.told)));
+      met_puts = ap ones (met_pipe s all) ∙ ones_met all.pipe.told (client.Learn (length (twos all.pipe.told))) (server.Learn (length (ones all.pipe.told)));
+      met_takes = ap twos (met_pipe s all) ∙ twos_met all.pipe.told (client.Learn (length (twos all.pipe.told))) (server.Learn (length (ones all.pipe.told)));
       whole = ends_pipe (met_after s run round);
     }
 
@@ -349,7 +312,7 @@ turn_list : (s : Session) (f : TurnFound) (e : Turn) (run : Run) → e.ended ≡
     → ones (with_turn s f e run).pipe.told ≡ ones run.pipe.told ++ client.SawFront (front_by_room (pipe_size (setup_of s)) (length run.pipe.put) e.room) ∷ releases_of (pipe_cells (setup_of s)) (length run.pipe.put) (length (put_by (setup_of s) e.mixes))
 unfolding with_turn
 turn_list s f e run going =
-    ones-more run.pipe.told (pipe_list (setup_of s) (pipe_cells (setup_of s)) (length run.pipe.put) e)
+    ones_more run.pipe.told (pipe_list (setup_of s) (pipe_cells (setup_of s)) (length run.pipe.put) e)
     ∙ ap (λ (b : Bool). ones run.pipe.told ++ (if b then [] else client.SawFront (front_by_room (pipe_size (setup_of s)) (length run.pipe.put) e.room) ∷ releases_of (pipe_cells (setup_of s)) (length run.pipe.put) (length (put_by (setup_of s) e.mixes)))) going
 
 -- a turn that goes on sees no more room than the pipe has

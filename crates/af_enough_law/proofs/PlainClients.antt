@@ -1,10 +1,12 @@
 -- What a client wants and does, if its ops are of a plain kind: whatever is answered, it wants plain things alone, and its calls leave plain events. A kind is told by tests of wants, of ops and of events.
-use Rattle.std.proofs.Common.{◌≡◌, ℕ, ◌-◌, ◌==◌, ◌||◌, MatchBool, Bool, true, false, List, [], ◌∷◌, ◌++◌, fold, refl, sym, ap, ◌∙◌, subst, Option, Some, None, if◌then◌else◌, bit_and}
-use Rattle.af_enough_law.proofs.Common.{AreCalls, Client, ClientCall, ClientCommand, ClientEvent, IsMade, IsWanted, LegalClientTurn, Mode, Op, Side, Track, Want, after_answer, after_call, after_calls, after_clear, after_send, after_status, after_write, asked_first, at_next_turn, begins, begun, both_first, both_right, both_true, client_call_events, client_events_of, commands_sent, is_last, is_of_commands, list_all, more, none_some, released_by, rest_of, rested, some_is, wanted_of, wants_of, with_call}
+use Rattle.std.proofs.Common.{◌≡◌, ℕ, ◌-◌, ◌==◌, ◌||◌, Bool, true, false, List, [], ◌∷◌, ◌++◌, fold, refl, sym, ap, ◌∙◌, Option, Some, None, if◌then◌else◌, bit_and}
+use Rattle.af_enough_law.proofs.Common.{Client, ClientCall, ClientCommand, ClientEvent, IsMade, IsWanted, LegalClientTurn, Mode, Op, Side, Track, Want, after_answer, after_call, after_calls, after_clear, after_send, after_status, after_write, asked_first, at_next_turn, begins, begun, both_first, both_right, both_true, client_call_events, client_events_of, commands_sent, is_last, is_of_commands, list_all, more, none_some, released_by, rest_of, rested, some_is, wanted_of, wants_of, with_call}
 use Rattle.af_runs.specs.ClientTurns.{called}
 use Rattle.af_base.specs.declared.event.ClientCall.TheVariants as call
+use Rattle.af_base.specs.declared.event.ClientEvent.TheVariants as client
 use Rattle.af_runs.specs.declared.want.ClientCommand.TheVariants as command
 use Rattle.af_runs.specs.declared.want.Want.TheVariants as want
+use Rattle.af_enough_law.proofs.ClientWalk.{turn_keeps}
 
 -- a client whose wants and ops are plain
 pub record IsPlain (W : Want → Bool) (O : Op → Bool) (c : Client) : Type 0 where
@@ -17,13 +19,14 @@ pub record IsPlainTrack (W : Want → Bool) (O : Op → Bool) (E : List ClientEv
   pub stream : E t.stream.events ≡ true
   pub commands : E t.commands.events ≡ true
 
--- A kind: what a plain op wants is plain, and so is what a client wants of its own accord. A call that was made for a plain want leaves plain events
+-- A kind: what a plain op wants is plain, and so is what a client wants of its own accord. A call that was made for a plain want leaves plain events, and a meeting leaves one
 pub record IsKind (W : Want → Bool) (O : Op → Bool) (E : List ClientEvent → Bool) : Type 0 where
   pub ops : (m : Mode) (o : Op) → O o ≡ true → list_all W (wants_of m o) ≡ true
   pub start : W (want.Send command.Start) ≡ true
   pub write : (count : ℕ) → W (want.Write count) ≡ true
   pub clear : W want.Clear ≡ true
   pub leave : W want.Leave ≡ true
+  pub learn : (count : ℕ) → E (client.Learn count ∷ []) ≡ true
   pub append : (xs ys : List ClientEvent) → E xs ≡ true → E ys ≡ true → E (xs ++ ys) ≡ true
   pub call : (t : Track) (w : Want) (answer : ClientCall) (was_shut : Bool) → W w ≡ true → IsWanted t w answer → E (client_call_events was_shut answer) ≡ true
 
@@ -147,20 +150,12 @@ module _ (W : Want → Bool) (O : Op → Bool) (E : List ClientEvent → Bool) (
       (k.call t w answer _ plain made.0) (k.call t w answer _ plain made.0) h in
       record { client = answered_plain t answer (wanted_of t) h.client; stream = sides.0; commands = sides.1 }
 
-  calls_plain : (left : ℕ) (t : Track) (calls : List ClientCall) → IsPlainTrack W O E t → AreCalls left t calls → IsPlainTrack W O E (fold after_call t calls)
-  calls_plain left t [] h made = h
-  calls_plain left t (answer ∷ calls) h made = calls_plain (left - 1) (after_call t answer) calls (call_plain t made.1 answer h made.2 made.3) made.4
-
   next_turn_plain : (cut : Bool) (c : Client) → IsPlain W O c → IsPlain W O (at_next_turn cut c)
   next_turn_plain cut c h = let b = begun_plain W O E k c h in
       either_plain W O (c.waiting || c.ended || cut) (record c { waiting = false }) (record (begun c) { due = rested (begun c).due }) (record { due = h.due; ops = h.ops }) (record { due = rested_plain W (begun c).due b.due; ops = b.ops })
 
-  turn_if : (b : Bool) (t : Track) (calls : List ClientCall) → IsPlainTrack W O E t → MatchBool b (calls ≡ []) (AreCalls 64 t calls) → IsPlainTrack W O E (fold after_call t calls)
-  turn_if true t calls h legal = subst (λ (cs : List ClientCall). IsPlainTrack W O E (fold after_call t cs)) (sym legal) h
-  turn_if false t calls h legal = calls_plain 64 t calls h legal
-
   -- a legal turn leaves a track plain
   pub turn_plain : (t : Track) (calls : List ClientCall) → IsPlainTrack W O E t → LegalClientTurn t calls → IsPlainTrack W O E (after_calls t calls)
   turn_plain t calls h legal =
-      let last = turn_if t.client.ended t calls h legal in
+      let last = turn_keeps (IsPlainTrack W O E) call_plain t calls legal h in
       record { client = next_turn_plain _ (fold after_call t calls).client last.client; stream = last.stream; commands = last.commands }

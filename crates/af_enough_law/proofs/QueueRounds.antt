@@ -1,18 +1,23 @@
 -- The queue of a run: what is acknowledged, and when the normal mixer knows of it.
 use Rattle.std.proofs.Common.{◌≡◌, ◌⊎◌, inl, inr, ℕ, zero, suc, ◌+◌, ◌≤◌, ◌==◌, if◌then◌else◌, Bool, true, false, true≢false, Option, Some, None, List, [], ◌∷◌, ◌++◌, length, take, fold, refl, sym, ap, ◌∙◌, subst, arith, length-append, eqb-true}
-use Rattle.af_enough_law.proofs.Common.{AreMixedBut, Busy, Clean, EntrySeen, FastState, Item, Learnt, LegalEntries, LegalEntry, LegalRound, LegalTurnBy, Marks, MatchBool, MatchOption, NormalKept, ObserverEvent, ObserverPoint, Push, Pushed, QueueTold, RoundSeen, Run, Session, Setup, Turn, TurnFound, after_edits, after_push, after_round, after_takes, after_turn, all_played, before_turn, cycle_frames, draft_after, early_count, early_of, fast_ended, fold-append, found_in, is_pushed, items_of, late_of, le-leb, learnt, met_after, new_run, observed, observer_next, observer_start, one, ones, outside_of, poll_events, pushed_by, setup_of, state_at, take-append-drop, take-append_seam, turn_after, turned, two, twos, with_calls, with_cycle, with_cycles, with_mix, with_poll, with_turn}
+use Rattle.af_enough_law.proofs.Common.{AreMixedBut, Busy, Clean, EntrySeen, FastState, Item, Learnt, LegalEntries, LegalEntry, LegalRound, LegalTurnBy, Marks, MatchBool, MatchOption, NormalKept, ObserverEvent, ObserverPoint, Push, Pushed, QueueTold, RoundSeen, Run, Session, Setup, Turn, TurnFound, after_edits, after_push, after_round, after_takes, after_turn, all_played, before_turn, cycle_frames, draft_after, early_count, early_of, fast_ended, fold-append, found_in, is_pushed, items_of, late_of, le-leb, learnt, met_after, new_run, observed, observer_next, observer_start, one, ones, outside_of, poll_events, pushed_by, setup_of, state_at, take-append-drop, take-append_seam, turn_after, turned, two, twos, with_calls, with_cycle, with_cycles, with_mix, with_poll, with_turn, last_used, twos_met, ones_met}
 use Rattle.af_enough_law.proofs.Basics.{before_normal}
 use Rattle.af_model.specs.declared.states.MutatorEvent.TheVariants as mutator
 use Rattle.af_model.specs.declared.states.ObserverEvent.TheVariants as observer
-use Rattle.af_enough_law.specs.Acks.{KnowsAcked}
-use Rattle.af_enough_law.specs.FastFlows.{AllUse, KnowsStates}
-use Rattle.af_enough_law.specs.QueueRounds.{QueueStands}
-use Rattle.af_enough_law.proofs.FastCurrent.{round_current, rest_current, turn_current, legal_parts}
-use Rattle.af_enough_law.proofs.FastLearns.{met_queue, on_twos, on_ones, ends_queue, loaded_queue}
+use Rattle.af_enough_law.proofs.Acks.{KnowsAcked}
+use Rattle.af_enough_law.proofs.FastWords.{AllUse, KnowsStates}
+use Rattle.af_enough_law.proofs.FastCurrent.{round_current, rest_current, turn_current, legal_parts, adopted}
+use Rattle.af_enough_law.proofs.FastLearns.{met_queue, ends_queue, loaded_queue}
 use Rattle.af_enough_law.proofs.FastPolls.{fast_parts, parts_use, before_states, round_states}
 use Rattle.af_enough_law.proofs.Drafts.{after_pushes}
 use Rattle.af_enough_law.proofs.NormalRounds.{after_normal, turn_made}
 use Rattle.af_enough_law.proofs.FastSteps.{cycle_queue, mutated-more}
+
+-- the state adopted last is that of the last entry, and the one acknowledged last; and the mixer counts the states that it pushed
+pub record QueueStands (run : Run) : Type 0 where
+  pub current : run.current ≡ last_used run.entries
+  pub acked : (observed (twos run.queue)).acked ≡ run.current
+  pub pushed : run.normal.pushed ≡ length run.states
 
 -- ## What is acknowledged
 
@@ -31,10 +36,6 @@ poll_acks p frames states c k same = by (k == c) refl
 pub current_of : (s : Session) (marks : Marks) (run : Run) (e : EntrySeen) → LegalEntry s marks (with_poll s e.entry.state run) e → (with_cycle s run e).current ≡ e.entry.state
 unfolding with_poll with_mix
 current_of s marks run e legal = adopted _ e.entry.state run.current (le-leb e.entry.state _ legal.cycle.pushed)
-  where
-    adopted : (b : Bool) (k c : ℕ) → b ≡ true → (if b then k else c) ≡ k
-    adopted true k c is = refl
-    adopted false k c is = absurd (true≢false (sym is))
 
 cycle_acked : (s : Session) (marks : Marks) (run : Run) (e : EntrySeen) → LegalEntry s marks (with_poll s e.entry.state run) e → IsAcked run → IsAcked (with_cycle s run e)
 cycle_acked s marks run e legal is =
@@ -134,7 +135,7 @@ queue_stands s marks run round legal q =
     let late : Run = with_cycles s (late_of run round) (after_turn s run round) in
     let told : QueueTold = late.queue in
     let after : Run = after_round s run round in
-    let looks : twos after.queue ≡ twos told ++ observer.Learn (length (ones told)) ∷ [] = ap twos (queue_after s run round) ∙ on_twos told (mutator.Learn (length (twos told))) (observer.Learn (length (ones told))) in
+    let looks : twos after.queue ≡ twos told ++ observer.Learn (length (ones told)) ∷ [] = ap twos (queue_after s run round) ∙ twos_met told (mutator.Learn (length (twos told))) (observer.Learn (length (ones told))) in
     record {
       current = round_current s marks run round legal q.current;
       acked = ap (λ l. (observed l).acked) looks ∙ observed_learn (twos told) (length (ones told)) ∙ played_acked s marks run round legal q.acked ∙ sym (rest_current s run round);
@@ -188,8 +189,8 @@ knows_by s marks run round legal q low =
     let told : QueueTold = late.queue in
     let after : Run = after_round s run round in
     let stands = queue_stands s marks run round legal q in
-    let edits : ones after.queue ≡ ones told ++ mutator.Learn (length (twos told)) ∷ [] = ap ones (queue_after s run round) ∙ on_ones told (mutator.Learn (length (twos told))) (observer.Learn (length (ones told))) in
-    let looks : twos after.queue ≡ twos told ++ observer.Learn (length (ones told)) ∷ [] = ap twos (queue_after s run round) ∙ on_twos told (mutator.Learn (length (twos told))) (observer.Learn (length (ones told))) in
+    let edits : ones after.queue ≡ ones told ++ mutator.Learn (length (twos told)) ∷ [] = ap ones (queue_after s run round) ∙ ones_met told (mutator.Learn (length (twos told))) (observer.Learn (length (ones told))) in
+    let looks : twos after.queue ≡ twos told ++ observer.Learn (length (ones told)) ∷ [] = ap twos (queue_after s run round) ∙ twos_met told (mutator.Learn (length (twos told))) (observer.Learn (length (ones told))) in
     let front : (observed (take (length (twos told)) (twos after.queue))).acked ≡ after.current =
     ap (λ l. (observed (take (length (twos told)) l)).acked) looks ∙ ap (λ l. (observed l).acked) (take-append_seam (twos told) (observer.Learn (length (ones told)) ∷ [])) ∙ played_acked s marks run round legal q.acked ∙ sym (rest_current s run round) in
     let is = stands.pushed in

@@ -2,9 +2,9 @@
 use Rattle.std.proofs.Common.{◌≡◌, ℕ, zero, suc, ◌+◌, ◌*◌, ◌≤◌, Bool, true, false, true≢false, MatchBool, List, [], length, refl, sym, ap, ◌∙◌, subst, arith, if◌then◌else◌}
 use Rattle.af_enough_law.proofs.Common.{AreCalls, Heard, Known, LegalRound, Life, Marks, RoundSeen, Run, ServerEvent, Session, TrackKept, TrackTold, after_round, by_report, calls_in, heard, learnt, sides_of, status_word, told_at, track_at}
 use Rattle.af_life.specs.State.{life_code}
-use Rattle.af_enough_law.specs.Courses.{course, Course, absent, idle, playing, stopping, drained, stopped, over, stage, told_words}
-use Rattle.af_enough_law.specs.NormalRounds.{TurnMade}
-use Rattle.af_enough_law.specs.Playing.{AreFair}
+use Rattle.af_enough_law.proofs.Courses.{course, Course, absent, idle, playing, stopping, drained, stopped, over, stage, told_words}
+use Rattle.af_enough_law.proofs.NormalRounds.{TurnMade}
+use Rattle.af_enough_law.proofs.Playing.{AreFair}
 use Rattle.af_enough_law.proofs.CalmTracks.{round_released}
 use Rattle.af_enough_law.proofs.CommandsGo.{CalmCommands, OpenTurn}
 use Rattle.af_enough_law.proofs.CourseGoes.{OnCourse, CourseGone}

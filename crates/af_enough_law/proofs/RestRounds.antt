@@ -1,14 +1,13 @@
 -- A round of a resting mixer that orders no Exit: what was lent comes nearer to home, and the pipe drains.
 use Rattle.std.proofs.Common.{◌≡◌, ◌⊎◌, inl, inr, ℕ, zero, suc, ◌-◌, ◌*◌, ◌<◌, ◌≤◌, ◌==◌, ◌||◌, not, unwrap_or, Bool, true, false, true≢false, All, Option, Some, List, length, is_some, refl, sym, ap, ◌∙◌, arith, eq-eqb}
 use Rattle.af_enough_law.proofs.Common.{ColdIdle, Command, FastState, LegalRound, Marks, MixWrite, NormalKept, RoundSeen, Run, Session, Setting, after_round, below_or_not, code_of, cycle_frames, initial, commands_exit, is_pushed, learnt, pipe_size, setup_of, state_at, state_beyond, state_of, turn_after}
-use Rattle.af_enough_law.specs.Acks.{KnowsAcked}
-use Rattle.af_enough_law.specs.Drafts.{is_busy, PushMade}
-use Rattle.af_enough_law.specs.Ends.{AllHome, CarriesNone, Rests}
-use Rattle.af_enough_law.specs.FastFlows.{KnowsStates, AllStates}
-use Rattle.af_enough_law.specs.NormalRounds.{TurnMade}
-use Rattle.af_enough_law.specs.PipeFlows.{KnowsPipe, in_pipe, put_in, RoomSeen}
-use Rattle.af_enough_law.specs.Underway.{IsIdle, Underway}
-use Rattle.af_enough_law.proofs.Acks.{turn_sees_ack}
+use Rattle.af_enough_law.proofs.Acks.{KnowsAcked, turn_sees_ack}
+use Rattle.af_enough_law.proofs.Drafts.{is_busy, PushMade}
+use Rattle.af_enough_law.proofs.Ends.{AllHome, CarriesNone, Rests}
+use Rattle.af_enough_law.proofs.FastWords.{KnowsStates, AllStates}
+use Rattle.af_enough_law.proofs.NormalRounds.{TurnMade}
+use Rattle.af_enough_law.proofs.PipeFlows.{KnowsPipe, in_pipe, put_in, RoomSeen}
+use Rattle.af_enough_law.proofs.EndWords.{IsIdle, Underway}
 use Rattle.af_enough_law.proofs.EndPhases.{known_unless}
 use Rattle.af_enough_law.proofs.EndPipe.{drains, rests_puts, stays_drained}
 use Rattle.af_enough_law.proofs.EndRounds.{home_on, home_round, orders_round, rests_on, same_states, unpushed}

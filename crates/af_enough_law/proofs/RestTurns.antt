@@ -1,10 +1,9 @@
 -- A resting mixer whose command stays pushes nothing; and no Exit is among the states until one is pushed last.
 use Rattle.std.proofs.Common.{◌≡◌, ◌⊎◌, inl, inr, ℕ, ◌+◌, ◌<◌, ◌≤◌, unwrap_or, Bool, true, false, true≢false, Option, ◌++◌, length, if◌then◌else◌, sym, ap, ◌∙◌, arith, eq-eqb, is_some}
 use Rattle.af_enough_law.proofs.Common.{Command, FastState, GoesOn, Learnt, NormalKept, Outside, RoundSeen, Run, Session, Setup, Turn, after_ack, after_edits, after_push, after_round, after_takes, after_tracks, code_of, cycle_frames, initial, commands_exit, is_pushed, learnt, mutated, next_command, ordered, pipe_size, push_draft, state_beyond, state_more, state_of, turn_after, within_or_beyond}
-use Rattle.af_enough_law.specs.Drafts.{is_busy}
-use Rattle.af_enough_law.specs.EndPhases.{NoExits}
-use Rattle.af_enough_law.specs.Ends.{Rests}
-use Rattle.af_enough_law.proofs.Drafts.{ordered_code}
+use Rattle.af_enough_law.proofs.Drafts.{is_busy, ordered_code}
+use Rattle.af_enough_law.proofs.EndWords.{NoExits}
+use Rattle.af_enough_law.proofs.Ends.{Rests}
 use Rattle.af_enough_law.proofs.Exits.{AreIdle, ack_kept, clean_by, clean_free, edits_none, ordered_same, rests_idle}
 use Rattle.af_enough_law.proofs.FastPolls.{round_states, turn_more}
 use Rattle.af_enough_law.proofs.LastStates.{LastIs}

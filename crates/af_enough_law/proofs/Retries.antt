@@ -1,7 +1,7 @@
 -- A track with two retries or more isn't disabled, and a turn takes one at most.
-use Rattle.std.proofs.Common.{◌≡◌, ℕ, ◌+◌, ◌≤◌, ◌<◌, ◌&&◌, ◌||◌, nat_lt, true, false, true≢false, refl, ap, ◌∙◌, arith, if◌then◌else◌}
+use Rattle.std.proofs.Common.{◌≡◌, ℕ, ◌+◌, ◌≤◌, ◌<◌, ◌||◌, nat_lt, true, false, refl, ap, arith}
 use Rattle.af_enough_law.proofs.Common.{Known, Life, by_report, retries_after}
-use Rattle.af_enough_law.specs.Courses.{Course, absent, idle, playing, stopping, drained, stopped, over}
+use Rattle.af_enough_law.proofs.Courses.{Course, absent, idle, playing, stopping, drained, stopped, over}
 use Rattle.af_enough_law.proofs.Coursing.{playing_reported, retries_fall, retries_back, wet_by_two}
 
 -- ## How many are left

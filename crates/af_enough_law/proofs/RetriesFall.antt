@@ -1,7 +1,7 @@
 -- A turn takes one retry of a track at most, whatever it takes and hears.
 use Rattle.std.proofs.Common.{◌≡◌, ℕ, ◌+◌, ◌≤◌, ◌<◌, Bool, true, false, length, refl, sym, ap, ◌∙◌, subst, arith}
 use Rattle.af_enough_law.proofs.Common.{Learnt, Life, NormalKept, Setup, TrackKept, Turn, after_part, heard, ready, ready_life, track_at, track_in, turn_after}
-use Rattle.af_enough_law.specs.TrackTurns.{attended, TrackTurned}
+use Rattle.af_enough_law.proofs.TrackTurns.{attended, TrackTurned}
 use Rattle.af_enough_law.proofs.Able.{commanded_keeps, report_leaves}
 use Rattle.af_enough_law.proofs.Following.{greeted_in, greeted_alike, edited_alike, on_true}
 use Rattle.af_enough_law.proofs.Served.{track_turned}

@@ -1,8 +1,8 @@
 -- How many retries a round leaves a track, whatever it hears.
 use Rattle.std.proofs.Common.{◌≡◌, ℕ, ◌+◌, ◌≤◌, ◌||◌, nat_lt, if◌then◌else◌, Bool, true, false, None, sym, ap, ◌∙◌, subst, arith}
 use Rattle.af_enough_law.proofs.Common.{Heard, Life, Marks, RoundSeen, Run, Session, TrackKept, after_round, by_report, heard, learnt, track_at}
-use Rattle.af_enough_law.specs.Courses.{course, Course, told_words}
-use Rattle.af_enough_law.specs.NormalRounds.{TurnMade}
+use Rattle.af_enough_law.proofs.Courses.{course, Course, told_words}
+use Rattle.af_enough_law.proofs.NormalRounds.{TurnMade}
 use Rattle.af_enough_law.proofs.Able.{words_keep, report_leaves}
 use Rattle.af_enough_law.proofs.CommandsGo.{OpenTurn}
 use Rattle.af_enough_law.proofs.CourseGoes.{OnCourse, CourseGone}

@@ -1,9 +1,9 @@
 -- Once its STOP is taken a track keeps its retries, and a lent one that plays has 49 again by the second turn after frames were taken.
 use Rattle.std.proofs.Common.{◌≡◌, ◌⊎◌, inl, inr, ℕ, ◌+◌, ◌≤◌, nat_le, if◌then◌else◌, Bool, true, false, None, refl, sym, ap, ◌∙◌, subst, arith}
 use Rattle.af_enough_law.proofs.Common.{FastTrack, Known, Life, Marks, RoundSeen, Run, Session, Stopping1, Stopping2, after_round, by_report, cycle_frames, heard, learnt, told_at, track_at}
-use Rattle.af_enough_law.specs.Courses.{course, Course, absent, idle, playing, stopping, drained, stopped, over, life_in, told_words}
-use Rattle.af_enough_law.specs.FastFlows.{frames_left_in}
-use Rattle.af_enough_law.specs.NormalRounds.{TurnMade}
+use Rattle.af_enough_law.proofs.Courses.{course, Course, absent, idle, playing, stopping, drained, stopped, over, life_in, told_words}
+use Rattle.af_enough_law.proofs.FastWords.{frames_left_in}
+use Rattle.af_enough_law.proofs.NormalRounds.{TurnMade}
 use Rattle.af_enough_law.proofs.Able.{words_keep}
 use Rattle.af_enough_law.proofs.CommandsGo.{OpenTurn}
 use Rattle.af_enough_law.proofs.CourseGoes.{OnCourse, CourseGone}

@@ -1,12 +1,13 @@
 -- A client that plays through sends no START after its STOP, whatever it is answered.
-use Rattle.std.proofs.Common.{◌≡◌, ◌⊎◌, inl, inr, ℕ, zero, suc, ◌+◌, ◌-◌, ◌==◌, ◌&&◌, ◌||◌, nat_le, not, if◌then◌else◌, bit_and, Bool, true, false, MatchBool, Some, None, List, [], ◌∷◌, ◌++◌, length, take, fold, refl, sym, ap, ◌∙◌, subst, append-nil, eqb-true}
-use Rattle.af_enough_law.proofs.Common.{AreCalls, Client, ClientCall, IsMade, IsWanted, LegalClientTurn, Op, Track, Want, after_answer, after_call, after_calls, at_next_turn, begun, both_first, both_right, both_true, commands_sent, is_clear, is_send, is_status, is_write, next_want, no, rest_of, rested, settled_in, some_same, state_in, wanted_of, with_call}
+use Rattle.std.proofs.Common.{◌≡◌, ◌⊎◌, inl, inr, ℕ, zero, suc, ◌+◌, ◌-◌, ◌==◌, ◌&&◌, ◌||◌, nat_le, not, if◌then◌else◌, bit_and, Bool, true, false, Some, None, List, [], ◌∷◌, ◌++◌, length, take, fold, refl, sym, ap, ◌∙◌, subst, append-nil, eqb-true}
+use Rattle.af_enough_law.proofs.Common.{Client, ClientCall, IsMade, IsWanted, LegalClientTurn, Op, Track, Want, after_answer, after_call, after_calls, at_next_turn, begun, both_first, both_right, both_true, commands_sent, is_clear, is_send, is_status, is_write, next_want, no, rest_of, rested, settled_in, some_same, state_in, wanted_of, with_call}
 use Rattle.af_base.specs.declared.event.ClientCall.TheVariants as call
 use Rattle.af_script.specs.declared.op.Op.TheVariants as op
 use Rattle.af_runs.specs.declared.want.ClientCommand.TheVariants as command
 use Rattle.af_runs.specs.declared.want.Mode.TheVariants as mode
 use Rattle.af_runs.specs.declared.want.Want.TheVariants as want
-use Rattle.af_enough_law.specs.Playing.{IsWay}
+use Rattle.af_enough_law.proofs.ClientWalk.{turn_keeps}
+use Rattle.af_enough_law.proofs.Playing.{IsWay}
 use Rattle.af_enough_law.proofs.EarlyCalls.{no_stop, held, begun_held, client_is}
 use Rattle.af_enough_law.proofs.SentPlain.{even_words}
 use Rattle.af_enough_law.proofs.Turning.{none_some}
@@ -417,8 +418,8 @@ module _ (t : Track) (n : ℕ) (even : even_words t.commands.released ≡ true) 
       nothing true e = e
       nothing false e = e
 
-roam_call : (t : Track) (w : Want) (answer : ClientCall) → wanted_of t ≡ Some w → IsMade t w answer → IsRoaming t → IsRoaming (after_call t answer)
-roam_call t w answer wanted made r = by r.stopped r.client r.words
+roam_call : (t : Track) (w : Want) (answer : ClientCall) → IsRoaming t → wanted_of t ≡ Some w → IsMade t w answer → IsRoaming (after_call t answer)
+roam_call t w answer r wanted made = by r.stopped r.client r.words
   where
     made_of : After t.commands.released (after_answer (commands_sent (with_call t answer)) w (rest_of (begun t.client).due) (begun t.client) answer) (said_by t answer) → IsRoaming (after_call t answer)
     made_of a = record { stopped = a.stopped; client = subst (λ (c : Client). Roams (begun c) a.stopped) (sym (client_is t w answer wanted)) a.client; even = a.even; words = a.said }
@@ -428,10 +429,6 @@ roam_call t w answer wanted made r = by r.stopped r.client r.words
     by false client said = made_of (roam_send t (commands_sent (with_call t answer)) r.even (begun t.client) answer client said w wanted made.0)
 
 -- ## A turn
-
-calls_roam : (left : ℕ) (t : Track) (calls : List ClientCall) → AreCalls left t calls → IsRoaming t → IsRoaming (fold after_call t calls)
-calls_roam left t [] made h = h
-calls_roam left t (answer ∷ calls) made h = calls_roam (left - 1) (after_call t answer) calls made.4 (roam_call t made.1 answer made.2 made.3 h)
 
 held_roams : (c : Client) (b w d : Bool) → Roams c b → Roams (record c { waiting = w; ended = d }) b
 held_roams _ _ w d (opening x y ops way) = opening w d ops way
@@ -480,13 +477,9 @@ next_roams t cut e = record {
   words = e.words;
 }
 
-turn_if : (b : Bool) (t : Track) (calls : List ClientCall) → MatchBool b (calls ≡ []) (AreCalls 64 t calls) → IsRoaming t → IsRoaming (fold after_call t calls)
-turn_if true t calls none h = subst (λ (cs : List ClientCall). IsRoaming (fold after_call t cs)) (sym none) h
-turn_if false t calls made h = calls_roam 64 t calls made h
-
 -- a legal turn of a client leaves it roaming
 pub turn_roams : (t : Track) (calls : List ClientCall) → LegalClientTurn t calls → IsRoaming t → IsRoaming (after_calls t calls)
-turn_roams t calls legal h = next_roams (fold after_call t calls) (length calls == 64) (turn_if t.client.ended t calls legal h)
+turn_roams t calls legal h = next_roams (fold after_call t calls) (length calls == 64) (turn_keeps IsRoaming roam_call t calls legal h)
 
 -- the end of a client leaves it roaming
 pub met_roams : (t u : Track) → u.commands.released ≡ t.commands.released → (u.client ≡ t.client) ⊎ (u.client ≡ record t.client { ended = true }) → IsRoaming t → IsRoaming u

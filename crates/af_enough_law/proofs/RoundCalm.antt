@@ -4,10 +4,10 @@ use Rattle.af_enough_law.proofs.Common.{AllByRecursion, BlockTold, ClientEvent, 
 use Rattle.af_base.specs.declared.event.ServerEvent.TheVariants as server
 use Rattle.af_enough_law.proofs.Basics.{before_normal}
 use Rattle.af_life.specs.TurnEvents.{hand_events_of}
-use Rattle.af_enough_law.specs.Courses.{none_shut}
+use Rattle.af_enough_law.proofs.Courses.{none_shut}
 use Rattle.af_enough_law.proofs.FastFlows.{Later}
-use Rattle.af_enough_law.proofs.FastRounds.{Quiet, over, cycles_length}
-use Rattle.af_enough_law.proofs.RunTracks.{calls_long as calls_length}
+use Rattle.af_enough_law.proofs.FastRounds.{Quiet, over}
+use Rattle.af_enough_law.proofs.RunTracks.{calls_long as calls_length, cycles_long}
 use Rattle.af_enough_law.proofs.FastShows.{Setting}
 use Rattle.af_enough_law.proofs.FastSteps.{server_does-server, hand_does-server}
 use Rattle.af_enough_law.proofs.StreamCalm.{IsQuiet, LiesIn, lies_earlier, look_quiet, calm_join, entries_quiet}
@@ -198,22 +198,36 @@ legal_parts cut s marks run round legal = by (fast_ended run) legal.turns.fast
         )
     by false all = (all.1, all.2)
 
+-- lists that lie in a history after a round lay in it all along
+pub record LieThrough (s : Session) (run : Run) (round : RoundSeen) (track : ℕ) (k : Shape) (cs : List ClientEvent) (all : List ServerEvent) (h : Setting k cs all) : Type 0 where
+  pub met : LiesIn k cs all h (told_at (met_after s run round) track).stream
+  pub late : LiesIn k cs all h (told_at (with_cycles s (late_of run round) (after_turn s run round)) track).stream
+  pub turned : LiesIn k cs all h (told_at (after_turn s run round) track).stream
+  pub early : LiesIn k cs all h (told_at (before_turn s run round) track).stream
+  pub called : LiesIn k cs all h (told_at (with_calls round run) track).stream
+
+pub lie_through : (s : Session) (run : Run) (round : RoundSeen) (track : ℕ) → track < length run.tracks → (k : Shape) (cs : List ClientEvent) (all : List ServerEvent) (h : Setting k cs all) → LiesIn k cs all h (told_at (after_round s run round) track).stream → LieThrough s run round track k cs all h
+lie_through s run round track low k cs all h lies =
+    let o = over s run round track low in
+    let met = subst (LiesIn k cs all h) o.whole lies in
+    let late = lies_earlier k cs all h (told_at (with_cycles s (late_of run round) (after_turn s run round)) track).stream (told_at (met_after s run round) track).stream o.meeting.is_later met in
+    let turned = lies_earlier k cs all h (told_at (after_turn s run round) track).stream (told_at (with_cycles s (late_of run round) (after_turn s run round)) track).stream o.late late in
+    let early = lies_earlier k cs all h (told_at (before_turn s run round) track).stream (told_at (after_turn s run round) track).stream o.turn turned in
+    record { met = met; late = late; turned = turned; early = early; called = lies_earlier k cs all h (told_at (with_calls round run) track).stream (told_at (before_turn s run round) track).stream o.early early }
+
 -- A legal round leaves the server of a stream block calm and open, if its lists lie in a history of a client that never flushes, and if no look finds the command block shut
 pub round_quiet : (cut : Bool) (s : Session) (marks : Marks) (run : Run) (round : RoundSeen) (track : ℕ) → track < length run.tracks → LegalRound cut s marks run round → ((e : Turn) → round.turn ≡ Some e → none_shut (track_in e track).looks ≡ true)
     → (k : Shape) (cs : List ClientEvent) (all : List ServerEvent) (h : Setting k cs all) → LiesIn k cs all h (told_at (after_round s run round) track).stream
     → IsQuiet k (server_list (told_at run track).stream) → IsQuiet k (server_list (told_at (after_round s run round) track).stream)
-round_quiet cut s marks run round track low legal open_is k cs all h lies quiet =
+round_quiet cut s marks run round track low legal open_is k cs all h lies_then quiet =
     let o = over s run round track low in
     let parts = legal_parts cut s marks run round legal in
     let late : Run = with_cycles s (late_of run round) (after_turn s run round) in
-    let lies_met : LiesIn k cs all h (told_at (met_after s run round) track).stream = subst (LiesIn k cs all h) o.whole lies in
-    let lies_late : LiesIn k cs all h (told_at late track).stream = lies_earlier k cs all h (told_at late track).stream (told_at (met_after s run round) track).stream o.meeting.is_later lies_met in
-    let lies_turned = lies_earlier k cs all h (told_at (after_turn s run round) track).stream (told_at late track).stream o.late lies_late in
-    let lies_early = lies_earlier k cs all h (told_at (before_turn s run round) track).stream (told_at (after_turn s run round) track).stream o.turn lies_turned in
+    let lies = lie_through s run round track low k cs all h lies_then in
     let b = calls_length round run in
-    let c = cycles_length s (early_of run round) (with_calls round run) in
+    let c = cycles_long s (early_of run round) (with_calls round run) in
     let called = quiet_only s marks track k cs all h (told_at run track).stream (told_at (with_calls round run) track).stream o.calls quiet in
-    let early = entries_quiet s marks track k cs all h (early_of run round) (with_calls round run) o.first parts.0 lies_early called in
-    let turned = turned_quiet s marks track k cs all h run round low legal.turns.normal open_is (omega (arith, b, c, low)) lies_turned o.turn early in
-    let done = entries_quiet s marks track k cs all h (late_of run round) (after_turn s run round) o.last parts.1 lies_late turned in
+    let early = entries_quiet s marks track k cs all h (early_of run round) (with_calls round run) o.first parts.0 lies.early called in
+    let turned = turned_quiet s marks track k cs all h run round low legal.turns.normal open_is (omega (arith, b, c, low)) lies.turned o.turn early in
+    let done = entries_quiet s marks track k cs all h (late_of run round) (after_turn s run round) o.last parts.1 lies.late turned in
     subst (λ (x : BlockTold). IsQuiet k (server_list x)) (sym o.whole) (quiet_only s marks track k cs all h (told_at late track).stream (told_at (met_after s run round) track).stream o.meeting done)

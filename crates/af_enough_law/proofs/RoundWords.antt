@@ -1,5 +1,5 @@
 -- The words that a round's looks take are the next of the course that the client sends.
-use Rattle.std.proofs.Common.{◌≡◌, ℕ, suc, ◌+◌, ◌*◌, ◌≤◌, if◌then◌else◌, Bool, true, false, List, [], ◌∷◌, ◌++◌, length, ◌∙◌, arith}
+use Rattle.std.proofs.Common.{◌≡◌, ℕ, suc, ◌*◌, if◌then◌else◌, Bool, true, false, List, [], ◌∷◌, ◌++◌, length, arith}
 use Rattle.af_enough_law.proofs.Common.{CommandLook, shows_command, words_taken}
 
 -- the words of some commands are two for each

@@ -1,23 +1,13 @@
 -- The lists of a track's command block after a round.
-use Rattle.std.proofs.Common.{◌≡◌, ℕ, ◌<◌, Bool, true, List, [], ◌∷◌, ◌++◌, length, map, fold, drop, refl, sym, ap, ◌∙◌, subst, append_assoc, Option, Some, None}
-use Rattle.af_enough_law.proofs.Common.{BlockTold, ClientCall, ClientEvent, HasBlockHistory, LegalRound, Marks, Moment, NormalKept, RoundSeen, Run, ServerEvent, Session, Side, TrackTold, Turn, TurnFound, after_call, after_round, append-nil, by_server, called_in_turn, calls_in, client-client, client-hand, client-server, client_list, command_list, found_in, hand_list, hand_of, is_tame, learnt, outside_of, server-client, server_list, server_of, setup_of, sides_of, told_at, track_count, tracks_at, with_side}
+use Rattle.std.proofs.Common.{◌≡◌, ℕ, ◌<◌, Bool, true, List, [], ◌∷◌, ◌++◌, length, fold, drop, refl, sym, ap, ◌∙◌, subst, Option, Some, None}
+use Rattle.af_enough_law.proofs.Common.{BlockTold, ClientCall, ClientEvent, HasBlockHistory, LegalRound, Marks, NormalKept, RoundSeen, Run, ServerEvent, Session, Side, TrackTold, Turn, TurnFound, after_call, after_round, append-nil, called_in_turn, calls_in, client-client, client-hand, client-server, client_list, command_list, found_in, hand_list, is_tame, learnt, outside_of, server-client, server_list, setup_of, sides_of, told_at, track_count, tracks_at, with_side}
 use Rattle.af_base.specs.declared.event.ClientEvent.TheVariants as client
 use Rattle.af_base.specs.declared.event.ServerEvent.TheVariants as server
 use Rattle.af_enough_law.proofs.FairTurns.{commands_grow}
 use Rattle.af_enough_law.proofs.RunTracks.{commands_by, round_blocks, round_commands}
+use Rattle.af_enough_law.proofs.MoreTold.{server-hand, server-server}
 
 -- ## Lists that grow
-
-abbrev told_more : List Moment → List Moment → List Moment
-told_more told moments = fold (λ (sofar : List Moment) (m : Moment). m ∷ sofar) told moments
-
-server-server : (told : List Moment) (es : List ServerEvent) → server_of (told_more told (map by_server es)) ≡ server_of told ++ es
-server-server told [] = sym (append-nil (server_of told))
-server-server told (e ∷ es) = server-server (by_server e ∷ told) es ∙ append_assoc (server_of told) (e ∷ []) es
-
-server-hand : (told : List Moment) (es : List ServerEvent) → hand_of (told_more told (map by_server es)) ≡ hand_of told
-server-hand told [] = refl
-server-hand told (e ∷ es) = server-hand (by_server e ∷ told) es
 
 drop_front : {X : Type 0} (xs ys : List X) → drop (length xs) (xs ++ ys) ≡ ys
 drop_front [] ys = refl

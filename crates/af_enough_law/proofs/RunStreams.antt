@@ -1,20 +1,10 @@
 -- What a round leaves of a track's two blocks: their sizes, and what their servers did before.
-use Rattle.std.proofs.Common.{◌≡◌, ℕ, ◌<◌, Bool, true, false, List, [], ◌∷◌, ◌++◌, length, map, fold, drop, refl, sym, ap, ◌∙◌, append_assoc, Option, Some, None}
-use Rattle.af_enough_law.proofs.Common.{BlockTold, EntrySeen, HandEvent, Moment, NormalKept, RoundSeen, Run, ServerEvent, Session, TrackTold, Turn, TurnFound, after_calls, after_round, after_turn, all_played, append-nil, by_hand, by_server, called_in_turn, calls_in, client-server, client_list, cycle_events, cycle_frames, early_of, entry_slot, found_in, front_of, hand_does, late_of, learnt, listed, mixed_track, outside_of, played, server_list, server_of, setup_of, sides_of, slot_playing, state_for, stream_list, stream_met, takes_part, told_at, tracks_at, with_calls, with_cycle, with_poll}
+use Rattle.std.proofs.Common.{◌≡◌, ℕ, ◌<◌, Bool, true, false, List, [], ◌∷◌, ◌++◌, length, drop, refl, sym, ap, ◌∙◌, append_assoc, Option, Some, None}
+use Rattle.af_enough_law.proofs.Common.{BlockTold, EntrySeen, NormalKept, RoundSeen, Run, ServerEvent, Session, TrackTold, Turn, TurnFound, after_calls, after_round, after_turn, all_played, append-nil, called_in_turn, calls_in, client-server, client_list, cycle_events, cycle_frames, early_of, entry_slot, found_in, front_of, hand_does, late_of, learnt, listed, mixed_track, outside_of, played, server_list, setup_of, sides_of, slot_playing, state_for, stream_list, stream_met, takes_part, told_at, tracks_at, with_calls, with_cycle, with_poll}
 use Rattle.af_base.specs.declared.event.ServerEvent.TheVariants as server
 use Rattle.af_life.specs.TurnEvents.{hand_events_of}
 use Rattle.af_enough_law.proofs.RunTracks.{mixed_by, turned_by, played_track, round_blocks, met_track}
-
-abbrev told_more : List Moment → List Moment → List Moment
-told_more told moments = fold (λ (sofar : List Moment) (m : Moment). m ∷ sofar) told moments
-
-server-server : (told : List Moment) (es : List ServerEvent) → server_of (told_more told (map by_server es)) ≡ server_of told ++ es
-server-server told [] = sym (append-nil (server_of told))
-server-server told (e ∷ es) = server-server (by_server e ∷ told) es ∙ append_assoc (server_of told) (e ∷ []) es
-
-hand-server : (told : List Moment) (es : List HandEvent) → server_of (told_more told (map by_hand es)) ≡ server_of told
-hand-server told [] = refl
-hand-server told (e ∷ es) = hand-server (by_hand e ∷ told) es
+use Rattle.af_enough_law.proofs.MoreTold.{hand-server, server-server}
 
 -- a block that has grown: it has its sizes, and its server did more
 pub record Grows (b c : BlockTold) : Type 0 where

@@ -32,7 +32,7 @@ unfolding ends_if
 if_blocks true run i lt = let e = told_each (λ track t. record t { client = ends t.client }) run i lt in (ap (λ (t : TrackTold). t.stream) e, ap (λ (t : TrackTold). t.commands) e)
 if_blocks false run i lt = (refl, refl)
 
-ends_blocks : (run : Run) (i : ℕ) → i < length run.tracks → ((told_at (with_ends run) i).stream ≡ (told_at run i).stream) × ((told_at (with_ends run) i).commands ≡ (told_at run i).commands)
+pub ends_blocks : (run : Run) (i : ℕ) → i < length run.tracks → ((told_at (with_ends run) i).stream ≡ (told_at run i).stream) × ((told_at (with_ends run) i).commands ≡ (told_at run i).commands)
 unfolding with_ends ends_if
 ends_blocks run i lt = if_blocks run.normal.ended run i lt
 
@@ -44,6 +44,14 @@ if_client false run i lt = inl refl
 ends_client : (run : Run) (i : ℕ) → i < length run.tracks → ((told_at (with_ends run) i).client ≡ (told_at run i).client) ⊎ ((told_at (with_ends run) i).client ≡ ends (told_at run i).client)
 unfolding with_ends ends_if
 ends_client run i lt = if_client run.normal.ended run i lt
+
+load_tracks : (e : Turn) (run : Run) → (with_load e run).tracks ≡ run.tracks
+unfolding with_load
+load_tracks e run = refl
+
+pub loaded_tracks : (o : Option Turn) (run : Run) → (loaded o run).tracks ≡ run.tracks
+loaded_tracks None run = refl
+loaded_tracks (Some e) run = load_tracks e run
 
 module _ (s : Session) where
   -- ## Entries
@@ -138,14 +146,6 @@ module _ (s : Session) where
   pub turned_long : (found : Turn → TurnFound) (o : Option Turn) (run : Run) → length (turned s found o run).tracks ≡ length run.tracks
   turned_long found None run = refl
   turned_long found (Some e) run = turn_long (found e) e run
-
-  load_tracks : (e : Turn) (run : Run) → (with_load e run).tracks ≡ run.tracks
-  unfolding with_load
-  load_tracks e run = refl
-
-  loaded_tracks : (o : Option Turn) (run : Run) → (loaded o run).tracks ≡ run.tracks
-  loaded_tracks None run = refl
-  loaded_tracks (Some e) run = load_tracks e run
 
   -- ## The round
 

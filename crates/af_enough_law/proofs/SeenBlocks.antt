@@ -1,5 +1,5 @@
 -- What was learnt of a block is seen.
-use Rattle.std.proofs.Common.{◌≡◌, ◌⊎◌, inl, inr, ℕ, ◌+◌, ◌≤◌, true, List, [], ◌∷◌, ◌++◌, length, get_or, refl, sym, ap, ◌∙◌, subst, arith, length-append, true≢false}
+use Rattle.std.proofs.Common.{◌≡◌, ◌⊎◌, inl, inr, ℕ, ◌+◌, ◌≤◌, true, List, [], ◌∷◌, ◌++◌, length, get_or, refl, sym, ap, ◌∙◌, subst, arith, length-append, true≢false, drop}
 use Rattle.af_enough_law.proofs.Common.{ClientEvent, ClientMay, HandEvent, HasHistory, IsLegal, Moment, ServerEvent, ServerMay, Shape, TrackPoint, after, after_client, after_server, both_first, both_right, both_true, by_client, by_hand, by_server, client_append, client_of, client_taken, drops_none, fold-append, hand_puts, keeps_all, legal_cut, server_append, server_of, server_put, start, status_client, status_hand, wrapped}
 use Rattle.af_base.specs.declared.event.ClientEvent.TheVariants as client
 use Rattle.af_base.specs.declared.event.ServerEvent.TheVariants as server
@@ -7,20 +7,15 @@ use Rattle.af_enough_law.proofs.Basics.{put-append, taken-append}
 use Rattle.af_model.proofs.OneFate.{hand_consumed}
 use Rattle.af_enough_law.specs.Seen.{Stands, Sees, put_by, frames_put, taken_by, frames_taken, status_by, last_status, FrontIsSeen, StatusIsSeen, BlockRearIsSeen}
 
-tail_of : {X : Type 0} → List X → List X
-tail_of [] = []
-tail_of (x ∷ xs) = xs
-
 -- where the last item of a list stands, by an item that stands in it
 pub last_cases : {X : Type 0} (ys : List X) (y : X) (xs : List X) (x : X) (rest : List X) → ys ++ y ∷ [] ≡ xs ++ x ∷ rest
     → ((ys ≡ xs) × (y ≡ x)) ⊎ ((less : List X) × (ys ≡ xs ++ x ∷ less))
-unfolding tail_of
 last_cases [] y [] x rest e = inl (refl, ap (λ l. get_or l 0 y) e)
 last_cases [] y (a ∷ xs) x rest e = let n : length (y ∷ []) ≡ length (a ∷ xs ++ x ∷ rest) = ap length e in absurd (omega (arith, length-append xs (x ∷ rest)))
 last_cases (b ∷ ys) y [] x rest e = inr (ys, ap (λ l. get_or l 0 b ∷ ys) e)
 last_cases (b ∷ ys) y (a ∷ xs) x rest e =
     let first : b ≡ a = ap (λ l. get_or l 0 b) e in
-    elim (last_cases ys y xs x rest (ap tail_of e)) as (λ _. ((b ∷ ys ≡ a ∷ xs) × (y ≡ x)) ⊎ ((less : List _) × (b ∷ ys ≡ (a ∷ xs) ++ x ∷ less))) [
+    elim (last_cases ys y xs x rest (ap (drop 1) e)) as (λ _. ((b ∷ ys ≡ a ∷ xs) × (y ≡ x)) ⊎ ((less : List _) × (b ∷ ys ≡ (a ∷ xs) ++ x ∷ less))) [
       | inl same ↦ inl ((λ i. first i ∷ same.0 i), same.1)
       | inr more ↦ inr (more.0, λ i. first i ∷ more.1 i)
     ]

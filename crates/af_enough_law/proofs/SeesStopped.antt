@@ -6,7 +6,7 @@ use Rattle.af_script.specs.declared.op.Op.TheVariants as op
 use Rattle.af_runs.specs.declared.want.ClientCommand.TheVariants as command
 use Rattle.af_runs.specs.declared.want.Mode.TheVariants as mode
 use Rattle.af_runs.specs.declared.want.Want.TheVariants as want
-use Rattle.af_enough_law.specs.Playing.{Doing, opening, starting, settling, setting, writing, clearing, clearing_more, stopping, draining, removing, AreFair}
+use Rattle.af_enough_law.proofs.Playing.{Doing, opening, starting, settling, setting, writing, clearing, clearing_more, stopping, draining, removing, AreFair}
 use Rattle.af_enough_law.proofs.Doing.{at, codes_sent, sent_of, sent_is, status_is}
 use Rattle.af_enough_law.proofs.FairTurns.{codes_long}
 use Rattle.af_enough_law.proofs.Turning.{Stands, on, gone_for_good, words_of, none_some, client_after, spoken_after}

@@ -2,8 +2,8 @@
 use Rattle.std.proofs.Common.{◌≡◌, ℕ, zero, suc, ◌≤◌, ◌<◌, List, [], ◌∷◌, ◌++◌, length, get_or, take, refl, sym, ap, ◌∙◌, arith, length-append}
 use Rattle.af_enough_law.proofs.Common.{Life, Mode, Op, Track, TrackKept, Want, take_most}
 use Rattle.af_enough_law.proofs.Basics.{course_long}
-use Rattle.af_enough_law.specs.Courses.{course, Course, absent, idle, playing, stopping, drained, stopped, over, Follows}
-use Rattle.af_enough_law.specs.Playing.{Doing, opening, starting, settling, setting, writing, clearing, clearing_more, stopping as stopping_due, draining, removing}
+use Rattle.af_enough_law.proofs.Courses.{course, Course, absent, idle, playing, stopping, drained, stopped, over, Follows}
+use Rattle.af_enough_law.proofs.Playing.{Doing, opening, starting, settling, setting, writing, clearing, clearing_more, stopping as stopping_due, draining, removing}
 use Rattle.af_enough_law.proofs.Argued.{AreArgued}
 use Rattle.af_enough_law.proofs.CourseWords.{codes_from, stop_in, words_course}
 use Rattle.af_enough_law.proofs.Doing.{codes_sent, codes_of}

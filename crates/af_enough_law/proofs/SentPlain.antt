@@ -1,15 +1,16 @@
 -- A client that flushes and pauses nothing sends no command but those of a course, whatever it is answered; and these keep a track that plays in the mix, or end it.
-use Rattle.std.proofs.Common.{◌≡◌, ◌⊎◌, inl, inr, ℕ, zero, suc, ◌-◌, ◌≤◌, ◌==◌, ◌&&◌, ◌||◌, nat_le, not, if◌then◌else◌, is_some, Bool, true, false, MatchBool, Option, List, [], ◌∷◌, ◌++◌, take, fold, refl, sym, ap, ◌∙◌, subst, append-nil, eqb-true}
-use Rattle.af_enough_law.proofs.Common.{Active, AreCalls, ClientCall, ClientCommand, CommandLook, IsWanted, Known, LegalClientTurn, Life, Stopping1, Stopping2, Track, TrackKept, Want, after_call, after_look, after_looks, both_first, both_right, both_true, by_command, by_report, ended, goes_on, is_shut, must_wait, no, obeyed, plays, shows_command, told, words_taken}
+use Rattle.std.proofs.Common.{◌≡◌, ◌⊎◌, inl, inr, ℕ, zero, suc, ◌≤◌, ◌==◌, ◌&&◌, ◌||◌, nat_le, not, if◌then◌else◌, is_some, Bool, true, false, Option, List, [], ◌∷◌, ◌++◌, take, fold, refl, sym, ap, ◌∙◌, subst, append-nil, eqb-true}
+use Rattle.af_enough_law.proofs.Common.{Active, ClientCall, ClientCommand, CommandLook, IsWanted, Known, LegalClientTurn, Life, Stopping1, Stopping2, Track, TrackKept, Want, after_call, after_look, after_looks, both_first, both_right, both_true, by_command, by_report, ended, goes_on, is_shut, must_wait, no, obeyed, plays, shows_command, told, words_taken}
 use Rattle.af_base.specs.declared.event.ClientCall.TheVariants as call
 use Rattle.af_life.specs.Obeys.{commanded}
 use Rattle.af_runs.specs.Clients.{command_code}
 use Rattle.af_runs.specs.declared.want.ClientCommand.TheVariants as command
 use Rattle.af_runs.specs.declared.want.Want.TheVariants as want
-use Rattle.af_enough_law.specs.Courses.{code_at, course, life_in}
+use Rattle.af_enough_law.proofs.Courses.{code_at, course, life_in}
 use Rattle.af_enough_law.proofs.Able.{none_told}
 use Rattle.af_enough_law.proofs.Coursing.{ended_same}
-use Rattle.af_enough_law.proofs.Flushless.{is_plain_want, IsFlushlessTrack, wanted_plain, call_flushless}
+use Rattle.af_enough_law.proofs.Flushless.{is_flushless_want, IsFlushlessTrack, wanted_flushless, call_flushless}
+use Rattle.af_enough_law.proofs.ClientWalk.{turn_keeps}
 
 -- ## Words
 
@@ -69,7 +70,7 @@ plain_join (x ∷ y ∷ xs) code argument e p h = let rest = plain_join xs code 
 with_none : (xs : List ℕ) → ArePlain xs → ArePlain (xs ++ [])
 with_none xs h = subst ArePlain (sym (append-nil xs)) h
 
-code_plain : (sending : ClientCommand) → is_plain_want (want.Send sending) ≡ true → is_course_code (command_code sending) ≡ true
+code_plain : (sending : ClientCommand) → is_flushless_want (want.Send sending) ≡ true → is_course_code (command_code sending) ≡ true
 code_plain command.Pause h = no h
 code_plain command.Flush h = no h
 code_plain _ h = refl
@@ -78,7 +79,7 @@ is_sent : ClientCall → Bool
 is_sent (call.Sent front code argument) = true
 is_sent _ = false
 
-sent_plain : (t : Track) (w : Want) (front code argument : ℕ) → is_plain_want w ≡ true → IsWanted t w (call.Sent front code argument) → is_course_code code ≡ true
+sent_plain : (t : Track) (w : Want) (front code argument : ℕ) → is_flushless_want w ≡ true → IsWanted t w (call.Sent front code argument) → is_course_code code ≡ true
 unfolding is_sent
 sent_plain t (want.Send sending) front code argument plain made = ap is_course_code (eqb-true code (command_code sending) (both_first (code == command_code sending) _ made)) ∙ code_plain sending plain
 sent_plain t (want.Gain left right) front code argument plain made = no (sym (ap is_sent made))
@@ -87,7 +88,7 @@ sent_plain t want.Rest front code argument plain made = absurd made
 sent_plain t want.Leave front code argument plain made = ap is_course_code (eqb-true code (command_code command.Remove) (both_first (code == command_code command.Remove) _ made))
 sent_plain t _ front code argument plain made = no made
 
-call_plain : (t : Track) (w : Want) (answer : ClientCall) → is_plain_want w ≡ true → IsWanted t w answer → ArePlain t.commands.released → ArePlain (after_call t answer).commands.released
+call_plain : (t : Track) (w : Want) (answer : ClientCall) → is_flushless_want w ≡ true → IsWanted t w answer → ArePlain t.commands.released → ArePlain (after_call t answer).commands.released
 call_plain t w (call.Put front count) plain made h = h
 call_plain t w (call.Full front) plain made h = h
 call_plain t w (call.Dead flags) plain made h = h
@@ -103,18 +104,11 @@ call_plain t w (call.Status word) plain made h = with_none t.commands.released h
 call_plain t w (call.Poke false word value) plain made h = h
 call_plain t w (call.Poke true word value) plain made h = with_none t.commands.released h
 
-calls_plain : (left : ℕ) (t : Track) (calls : List ClientCall) → IsFlushlessTrack t → AreCalls left t calls → ArePlain t.commands.released → ArePlain (fold after_call t calls).commands.released
-calls_plain left t [] flushless made h = h
-calls_plain left t (answer ∷ calls) flushless made h =
-    calls_plain (left - 1) (after_call t answer) calls (call_flushless t made.1 answer flushless made.2 made.3) made.4 (call_plain t made.1 answer (wanted_plain t made.1 flushless.client made.2) made.3.0 h)
-
-turn_if : (b : Bool) (t : Track) (calls : List ClientCall) → IsFlushlessTrack t → MatchBool b (calls ≡ []) (AreCalls 64 t calls) → ArePlain t.commands.released → ArePlain (fold after_call t calls).commands.released
-turn_if true t calls flushless legal h = subst (λ (cs : List ClientCall). ArePlain (fold after_call t cs).commands.released) (sym legal) h
-turn_if false t calls flushless legal h = calls_plain 64 t calls flushless legal h
-
 -- in a legal turn a client that never flushes sends plain commands alone
 pub turn_plain : (t : Track) (calls : List ClientCall) → IsFlushlessTrack t → LegalClientTurn t calls → ArePlain t.commands.released → ArePlain (fold after_call t calls).commands.released
-turn_plain t calls flushless legal h = turn_if t.client.ended t calls flushless legal h
+turn_plain t calls flushless legal h =
+    (turn_keeps (λ (u : Track). IsFlushlessTrack u × ArePlain u.commands.released)
+    (λ u w answer is wanted made. (call_flushless u w answer is.0 wanted made, call_plain u w answer (wanted_flushless u w is.0.client wanted) made.0 is.1)) t calls legal (flushless, h)).1
 
 -- ## What plain commands make of a track that plays
 

@@ -2,7 +2,7 @@
 use Rattle.std.proofs.Common.{◌≡◌, ◌≢◌, inl, inr, ℕ, zero, suc, ◌<◌, ◌≤◌, ◌==◌, Bool, true, false, List, [], ◌∷◌, length, fold, refl, sym, ap, ◌∙◌, subst, arith, true≢false, if◌then◌else◌}
 use Rattle.af_enough_law.proofs.Common.{CommandLook, Learnt, NormalKept, Returning, Setup, TakeSeen, TrackKept, TrackSeen, Turn, acked_len, after_ack, after_edits, after_push, after_take, after_takes, after_tracks, asked as buffer, at_here, at_other, by_test, cases_eq, look_counted, edited, edited_to, edits_len, entered, get_or-set_at, lend, length-set, lent_by, let_go, must_enter, must_leave, mutated, new_track, not_yet, ordered, push_tracks, seen_at, served, served_len, served_to, slice_set, track_at, track_in, tracks_at, turn_after, welcomed_at}
 use Rattle.af_life.specs.Obeys.{slot_for}
-use Rattle.af_enough_law.specs.TrackTurns.{greeted, attended, Edited, stays, leaves, enters, own_after, TrackTurned}
+use Rattle.af_enough_law.proofs.TrackTurns.{greeted, attended, Edited, stays, leaves, enters, own_after, TrackTurned}
 
 -- ## The acknowledgement and the part of the track
 

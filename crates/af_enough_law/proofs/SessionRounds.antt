@@ -1,22 +1,19 @@
 -- What is carried of the whole session holds before the first round and after each legal round that leaves some track a life.
-use Rattle.std.proofs.Common.{◌≡◌, ◌⊎◌, inl, inr, ℕ, ◌+◌, ◌≤◌, ◌<◌, ◌==◌, ◌&&◌, ◌||◌, not, if◌then◌else◌, Bool, true, false, true≢false, All, List, [], ◌∷◌, ◌++◌, length, length-append, refl, sym, ap, ◌∙◌, subst, arith}
+use Rattle.std.proofs.Common.{◌≡◌, ◌⊎◌, inl, inr, ℕ, ◌+◌, ◌≤◌, ◌==◌, ◌&&◌, ◌||◌, not, if◌then◌else◌, Bool, true, false, true≢false, All, List, [], ◌∷◌, ◌++◌, length, length-append, refl, sym, ap, ◌∙◌, subst, arith}
 use Rattle.af_enough_law.proofs.Common.{ColdIdle, Command, Exit, Learnt, LegalRound, Marks, MixWrite, NormalKept, Push, RoundSeen, Run, Session, Setting, Setup, TrackKept, Turn, after_round, before_turn, code_of, draft_after, found_in, commands_exit, is_over, is_pushed, learnt, list_any, next_command, outside_of, pipe_size, plays, setup_of, track_count, true_or_false, turn_after, turn_len}
-use Rattle.af_enough_law.specs.Carried.{SessionStands, SessionCarried}
-use Rattle.af_enough_law.specs.Drafts.{is_busy, PushMade}
-use Rattle.af_enough_law.specs.EndPhases.{NoExits}
-use Rattle.af_enough_law.specs.Items.{AreItems}
-use Rattle.af_enough_law.specs.NormalRounds.{TurnMade}
+use Rattle.af_enough_law.proofs.Carried.{SessionStands, SessionCarried}
+use Rattle.af_enough_law.proofs.Drafts.{is_busy, PushMade, command_turned, turn_pushes}
+use Rattle.af_enough_law.proofs.EndWords.{NoExits}
+use Rattle.af_enough_law.proofs.Items.{AreItems, items_turn}
+use Rattle.af_enough_law.proofs.NormalRounds.{TurnMade, turn_made}
 use Rattle.af_enough_law.proofs.ClientGoesOn.{mixer_goes}
 use Rattle.af_enough_law.proofs.CourseRounds.{goes_unless_exit}
-use Rattle.af_enough_law.proofs.Drafts.{command_turned, turn_pushes}
 use Rattle.af_enough_law.proofs.EndRounds.{order_round}
 use Rattle.af_enough_law.proofs.EntryCounts.{round_reports, round_logged, round_high}
 use Rattle.af_enough_law.proofs.FastLearns.{learns_states}
 use Rattle.af_enough_law.proofs.FastLoads.{learns_reports}
 use Rattle.af_enough_law.proofs.FastPolls.{before_states, round_states}
-use Rattle.af_enough_law.proofs.Items.{items_turn}
 use Rattle.af_enough_law.proofs.LastStates.{round_last, round_going}
-use Rattle.af_enough_law.proofs.NormalRounds.{turn_made}
 use Rattle.af_enough_law.proofs.QueueRounds.{queue_stands, states_turned}
 use Rattle.af_enough_law.proofs.RestTurns.{no_exits_round}
 use Rattle.af_enough_law.proofs.RunTracks.{round_long}

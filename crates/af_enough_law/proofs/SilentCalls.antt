@@ -1,12 +1,13 @@
 -- A client that has sent its STOP touches its stream no more, whatever it is answered.
-use Rattle.std.proofs.Common.{◌≡◌, ℕ, ◌-◌, ◌*◌, ◌≤◌, ◌==◌, ◌&&◌, ◌||◌, nat_le, not, if◌then◌else◌, Bool, true, false, MatchBool, Some, None, List, [], ◌∷◌, length, fold, refl, sym, ap, ◌∙◌, subst, arith}
-use Rattle.af_enough_law.proofs.Common.{AreCalls, Client, ClientCall, IsWanted, LegalClientTurn, Mode, Op, Track, Want, after_answer, after_call, begun, commands_sent, is_of_commands, is_send, next_want, no, settled_in, some_same, state_in, wanted_of, with_call}
+use Rattle.std.proofs.Common.{◌≡◌, ℕ, ◌*◌, ◌≤◌, ◌==◌, ◌&&◌, ◌||◌, nat_le, not, if◌then◌else◌, Bool, true, false, Some, None, List, [], ◌∷◌, length, fold, refl, sym, ap, ◌∙◌, subst, arith}
+use Rattle.af_enough_law.proofs.Common.{Client, ClientCall, IsWanted, LegalClientTurn, Mode, Op, Track, Want, after_answer, after_call, begun, commands_sent, is_of_commands, is_send, next_want, no, settled_in, some_same, state_in, wanted_of, with_call}
 use Rattle.af_base.specs.declared.event.ClientCall.TheVariants as call
 use Rattle.af_script.specs.declared.op.Op.TheVariants as op
 use Rattle.af_runs.specs.declared.want.ClientCommand.TheVariants as command
 use Rattle.af_runs.specs.declared.want.Mode.TheVariants as mode
 use Rattle.af_runs.specs.declared.want.Want.TheVariants as want
-use Rattle.af_enough_law.specs.Playing.{Doing, opening, starting, settling, setting, writing, clearing, clearing_more, stopping, draining, removing}
+use Rattle.af_enough_law.proofs.ClientWalk.{turn_keeps}
+use Rattle.af_enough_law.proofs.Playing.{Doing, opening, starting, settling, setting, writing, clearing, clearing_more, stopping, draining, removing}
 use Rattle.af_enough_law.proofs.Doing.{at, codes_of, codes_sent, status_is}
 use Rattle.af_enough_law.proofs.Turning.{Stands, on, gone_for_good, words_of, client_after, none_ended, none_some}
 
@@ -52,10 +53,6 @@ call_silent t w answer (removes is) wanted made =
     (subst Silent (sym client) sent.0, by_side (is_of_commands answer) t _ _ refl sent.1)
 call_silent t w answer (rests none) wanted made = none_some (wanted_of t) w none wanted
 
-calls_silent : (left : ℕ) (t : Track) (calls : List ClientCall) → Silent t.client → AreCalls left t calls → (fold after_call t calls).stream ≡ t.stream
-calls_silent left t [] h made = refl
-calls_silent left t (answer ∷ calls) h made = let one = call_silent t made.1 answer h made.2 made.3.0 in calls_silent (left - 1) (after_call t answer) calls one.0 made.4 ∙ one.1
-
 -- ## A client that has sent three commands
 
 pub words_long : (sent : List (ℕ × ℕ)) → length (words_of sent) ≡ 2 * length (codes_of sent)
@@ -82,10 +79,7 @@ stands_silent t most total (on due ops m is left) some =
     doing_silent t.client due ops m is left.doing (omega (arith, a, b, c, some))
 stands_silent t most total (gone_for_good ended sent words codes) some = rests (none_ended t.client ended)
 
-turn_if : (b : Bool) (t : Track) (calls : List ClientCall) → MatchBool b (calls ≡ []) (AreCalls 64 t calls) → Silent t.client → (fold after_call t calls).stream ≡ t.stream
-turn_if true t calls legal h = ap (λ (cs : List ClientCall). (fold after_call t cs).stream) legal
-turn_if false t calls legal h = calls_silent 64 t calls h legal
-
 -- The turn of a client that has sent three commands leaves its side of the stream block as it was
 pub silent_turn : (t : Track) (calls : List ClientCall) (most total : ℕ) → LegalClientTurn t calls → Stands t most total → 6 ≤ length t.commands.released → (fold after_call t calls).stream ≡ t.stream
-silent_turn t calls most total legal stands some = turn_if t.client.ended t calls legal (stands_silent t most total stands some)
+silent_turn t calls most total legal stands some =
+    (turn_keeps (λ (u : Track). Silent u.client × (u.stream ≡ t.stream)) (λ u w answer is wanted made. let one = call_silent u w answer is.0 wanted made.0 in (one.0, one.1 ∙ is.1)) t calls legal (stands_silent t most total stands some, refl)).1

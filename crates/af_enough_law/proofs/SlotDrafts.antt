@@ -1,7 +1,7 @@
 -- A turn leaves a slot of the draft as it was, or attaches it anew, with a higher generation; so a proxy that it lends has a generation that no state before had.
 use Rattle.std.proofs.Common.{◌≡◌, ◌≢◌, ℕ, zero, suc, ◌+◌, ◌≤◌, ◌<◌, if◌then◌else◌, Bool, true, false, true≢false, All, length, refl, sym, ap, ◌∙◌, subst, arith, ⊎_elim}
 use Rattle.af_enough_law.proofs.Common.{Command, FastState, FastTrack, IsSound, Learnt, NormalKept, Setting, Setup, TrackKept, Turn, acked_len, after_ack, after_edits, after_tracks, attached_else, carries, cases_eq, comer_slot, draft_commanded as with_command, detached, detached_else, detached_here, edited, edited_to, entered, is_lent, leaver_slot, lend, let_go, must_enter, must_leave, mutated, ordered, served_len, setting_of, slot_else, slot_here, slot_number, slot_of, slots, sound_acked, sound_edits, sound_served, track_at, turn_after}
-use Rattle.af_enough_law.specs.Ends.{IsInOrder}
+use Rattle.af_enough_law.proofs.Ends.{IsInOrder}
 use Rattle.af_enough_law.proofs.Orders.{lent_carried}
 use Rattle.af_enough_law.proofs.RestTurns.{draft_after_turn}
 

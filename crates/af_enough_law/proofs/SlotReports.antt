@@ -2,7 +2,7 @@
 use Rattle.std.proofs.Common.{◌≡◌, ℕ, ◌<◌, ◌||◌, is_some, unwrap_or, if◌then◌else◌, Bool, true, false, true≢false, Option, Some, None, List, [], ◌∷◌, refl, sym, ap, ◌∙◌, subst, ◌≤◌, length}
 use Rattle.af_enough_law.proofs.Common.{CycleEntry, EntrySeen, FastState, LegalEntries, Marks, Run, ServerKnown, Session, SlotReport, carried, carries, counted_look, cycle_frames, entry_slot, initial, initial_none, known_of, last_used, listed, no_slot, polled_pushed, slot_of, slot_report, slots, state_at, state_for, state_of, stream_of, with_cycle, with_cycles, with_looks, with_poll}
 use Rattle.af_runs.specs.Runs.{shows_slot}
-use Rattle.af_enough_law.specs.FastFlows.{slot_told}
+use Rattle.af_enough_law.proofs.FastWords.{slot_told}
 use Rattle.af_enough_law.proofs.FastReports.{slot_counts}
 use Rattle.af_enough_law.proofs.FastSteps.{cycle_states, entry_pushed}
 

@@ -1,8 +1,8 @@
 -- The slot of a track that was opened stays.
 use Rattle.std.proofs.Common.{◌≡◌, ◌⊎◌, inl, inr, ℕ, ◌<◌, ◌==◌, ◌&&◌, not, if◌then◌else◌, is_some, Bool, true, false, true≢false, Option, None, List, [], ◌∷◌, length, refl, sym, ap, ◌∙◌, subst}
 use Rattle.af_enough_law.proofs.Common.{Absent, AllByRecursion, CommandLook, Learnt, Life, NormalKept, Row, Setup, TrackKept, Turn, after_look, after_looks, after_part, and_none, by_command, commands, ended, first_effect as effect_of, free_slot, goes_on, heard, is_among, is_reached, is_shut, must_wait, noted, obeyed, opens, ready, ready_life, setting_of, settled_at, shows_command, slot_reported, told, track_at, track_in, tracks_at, turn_after}
-use Rattle.af_enough_law.specs.Courses.{Course, absent, idle, playing, stopping, drained, stopped, over}
-use Rattle.af_enough_law.specs.TrackTurns.{attended, TrackTurned}
+use Rattle.af_enough_law.proofs.Courses.{Course, absent, idle, playing, stopping, drained, stopped, over}
+use Rattle.af_enough_law.proofs.TrackTurns.{attended, TrackTurned}
 use Rattle.af_enough_law.proofs.Following.{greeted_in, greeted_alike, edited_alike, noted_alike}
 use Rattle.af_enough_law.proofs.Served.{track_turned}
 

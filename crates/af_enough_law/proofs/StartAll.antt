@@ -3,11 +3,11 @@ use Rattle.std.proofs.Common.{◌≡◌, ◌⊎◌, inl, inr, ℕ, ◌+◌, ◌*
 use Rattle.af_enough_law.proofs.Common.{AreCalls, Client, Frame, Home, IsScript, LegalRounds, Lent, Life, Marks, NormalKept, Op, RoundSeen, Run, ScriptData, Session, Setting, TrackKept, TrackTold, after_round, all_play_through, at_new, begun, calls_in, client_list, few_or_two, is_home, is_lent, is_over, new_at, new_run, new_track, scales_of, server_list, session_of, setting_of, settled_in, setup_of, sides_of, slots, spec_of, state_code, status_word, told_at, track_at, track_count, true_or_false}
 use Rattle.af_enough_law.proofs.Basics.{course_long}
 use Rattle.af_runs.specs.Runs as runs
-use Rattle.af_enough_law.specs.Carried.{SessionStands, SessionCarried}
-use Rattle.af_enough_law.specs.Courses.{Course, absent, idle, playing, stopping, drained, stopped, over, Follows}
-use Rattle.af_enough_law.specs.Drafts.{is_busy}
-use Rattle.af_enough_law.specs.NormalRounds.{TurnMade}
-use Rattle.af_enough_law.specs.Playing.{AreFair}
+use Rattle.af_enough_law.proofs.Carried.{SessionStands, SessionCarried}
+use Rattle.af_enough_law.proofs.Courses.{Course, absent, idle, playing, stopping, drained, stopped, over, Follows}
+use Rattle.af_enough_law.proofs.Drafts.{is_busy}
+use Rattle.af_enough_law.proofs.NormalRounds.{TurnMade}
+use Rattle.af_enough_law.proofs.Playing.{AreFair}
 use Rattle.af_enough_law.specs.Seen.{frames_put, frames_taken}
 use Rattle.af_enough_law.proofs.CalmTracks.{round_released}
 use Rattle.af_enough_law.proofs.Carrying.{TrackIs, slotless, lent, gone_over}

@@ -1,8 +1,8 @@
 -- What is counted of a track's blocks from the first round on, wherever its proxy is.
 use Rattle.std.proofs.Common.{◌≡◌, ℕ, ◌≤◌, ◌<◌, true, false, All, length, sym, ap, ◌∙◌, subst, arith}
 use Rattle.af_enough_law.proofs.Common.{LegalRound, Marks, RoundSeen, Run, Session, Setting, Shape, after_round, setup_of, track_count}
-use Rattle.af_enough_law.specs.Carried.{SessionStands}
-use Rattle.af_enough_law.specs.NormalRounds.{TurnMade}
+use Rattle.af_enough_law.proofs.Carried.{SessionStands}
+use Rattle.af_enough_law.proofs.NormalRounds.{TurnMade}
 use Rattle.af_enough_law.proofs.AwayKeeps.{StaysOpen, open_then}
 use Rattle.af_enough_law.proofs.HomeRounds.{IsNamed}
 use Rattle.af_enough_law.proofs.Nearing.{BlockCounts}

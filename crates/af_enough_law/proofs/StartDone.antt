@@ -1,9 +1,9 @@
 -- Three rounds after all tracks are carried the middle begins.
 use Rattle.std.proofs.Common.{◌≡◌, ℕ, ◌+◌, ◌≤◌, ◌<◌, true, false, All, None, List, [], ◌∷◌, length, drop, ap, arith}
 use Rattle.af_enough_law.proofs.Common.{Frame, IsScript, LegalRounds, Marks, Op, RoundSeen, Run, ScriptData, Session, Setting, after_round, all_play_through, plays, scales_of, session_of, setup_of, spec_of, track_at, track_count}
-use Rattle.af_enough_law.specs.Carried.{SessionCarried}
-use Rattle.af_enough_law.specs.Ends.{AllOver}
-use Rattle.af_enough_law.specs.Playing.{way_ops, way_frames}
+use Rattle.af_enough_law.proofs.Carried.{SessionCarried}
+use Rattle.af_enough_law.proofs.Ends.{AllOver}
+use Rattle.af_enough_law.proofs.Playing.{way_ops, way_frames}
 use Rattle.af_enough_law.proofs.AbleKept.{none_drafted}
 use Rattle.af_enough_law.proofs.Carrying.{TrackIs, track_on}
 use Rattle.af_enough_law.proofs.CarryBegins.{settings_long}

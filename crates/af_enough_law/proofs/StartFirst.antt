@@ -1,9 +1,9 @@
 -- After seven rounds of a run of a script with enough cycles the middle begins.
 use Rattle.std.proofs.Common.{◌≡◌, ℕ, ◌+◌, ◌≤◌, ◌<◌, true, false, List, [], ◌∷◌, length, take, drop, sym, ap, ◌∙◌, subst, arith}
 use Rattle.af_enough_law.proofs.Common.{Frame, IsScript, LegalRounds, Marks, Op, RoundSeen, Run, ScriptData, Session, after_round, all_play_through, new_run, run_from, session_of, spec_of}
-use Rattle.af_enough_law.specs.Carried.{SessionCarried}
-use Rattle.af_enough_law.specs.Ends.{AllOver}
-use Rattle.af_enough_law.specs.Playing.{way_ops, way_frames}
+use Rattle.af_enough_law.proofs.Carried.{SessionCarried}
+use Rattle.af_enough_law.proofs.Ends.{AllOver}
+use Rattle.af_enough_law.proofs.Playing.{way_ops, way_frames}
 use Rattle.af_enough_law.proofs.Carrying.{TrackIs}
 use Rattle.af_enough_law.proofs.CarryBegins.{Begun}
 use Rattle.af_enough_law.proofs.MiddleNever.{Starts}

@@ -1,12 +1,11 @@
 -- From a track at home to one whose proxy the fast mixer has: the round that lends it, maybe one in which it waits for its push, and the one in which it is adopted at the latest. All that its client was answered meanwhile is told by the history after the last of them.
 use Rattle.std.proofs.Common.{◌≡◌, ℕ, ◌+◌, ◌≤◌, ◌<◌, true, false, true≢false, All, List, [], ◌∷◌, length, sym, ap, ◌∙◌, subst, arith}
 use Rattle.af_enough_law.proofs.Common.{FastTrack, LegalRound, Lent, Marks, NormalKept, RoundSeen, Run, Session, Setting, after_round, is_home, is_lent, learnt, plays, run_from, server_list, setup_of, slots, told_at, track_at, track_count}
-use Rattle.af_enough_law.specs.Acks.{KnowsAcked}
-use Rattle.af_enough_law.specs.Carried.{SessionStands, SessionCarried}
-use Rattle.af_enough_law.specs.Drafts.{is_busy}
-use Rattle.af_enough_law.specs.FastFlows.{slot_told}
-use Rattle.af_enough_law.specs.NormalRounds.{TurnMade}
-use Rattle.af_enough_law.proofs.Acks.{turn_sees_ack}
+use Rattle.af_enough_law.proofs.Acks.{KnowsAcked, turn_sees_ack}
+use Rattle.af_enough_law.proofs.Carried.{SessionStands, SessionCarried}
+use Rattle.af_enough_law.proofs.Drafts.{is_busy}
+use Rattle.af_enough_law.proofs.FastWords.{slot_told}
+use Rattle.af_enough_law.proofs.NormalRounds.{TurnMade}
 use Rattle.af_enough_law.proofs.AdoptRounds.{adopted_met, adopted_carried, adopted_turn}
 use Rattle.af_enough_law.proofs.AwayKeeps.{StaysOpen, open_of, open_then, seen_before}
 use Rattle.af_enough_law.proofs.AwayRounds.{AwayTurn, AwayRounds, AwayBack, away_back}
@@ -113,47 +112,77 @@ module _ (s : Session) (marks : Marks) (scales : All (λ (x : Setting). x.scale 
             let few = few_one in
             adopted_all run (first ∷ []) most total (legal, (turn_of s marks scales long run first legal c, turn_one), tt) track second legal_second sc lent_by.slot lent_by.item p stays_second o_one turn_one.quiet was says (omega (arith, few))
 
-    -- the push was busy: the next one isn't, and it is adopted in the round after that
+    -- ## If that push was busy, the next one isn't
+
+    module _ (second : RoundSeen) (legal_second : LegalRound false s marks one second) (sc : SessionCarried s run) (sc_one : SessionCarried s one) (busy : is_busy (turn_of s marks scales long run first legal c).turn.push ≡ true)
+        (stays_second : (track_at (after_round s one second).normal.tracks i).holder ≡ Lent) where
+      abbrev two : Run
+      two = after_round s one second
+
+      abbrev t_two : TurnMade s marks one second
+      t_two = turn_of s marks scales long one second legal_second sc_one.stands
+
+      -- the push before was the last one, and acknowledged
+      acked : KnowsAcked one
+      acked = knows_acked s marks run first legal c.going sc.states c.queue (ap length (busy_same s marks scales long run first legal c i named busy).0)
+
+      not_busy : is_busy t_two.turn.push ≡ false
+      not_busy = (turn_sees_ack false s marks one second legal_second sc_one.stands.runs acked t_two).1 (turn_runs s marks scales long one second legal_second sc_one.stands)
+
+      pushed_now : Unpushed s one i lent_by.slot lent_by.item → PushedLast s two i lent_by.slot lent_by.item
+      pushed_now u = by_way (waits s marks scales long one second legal_second sc_one.stands i named stays_second lent_by.slot lent_by.item u)
+        where
+          by_way : OnWay s marks scales long one second legal_second sc_one.stands i named stays_second lent_by.slot lent_by.item → PushedLast s two i lent_by.slot lent_by.item
+          by_way (to_push b u) = absurd (true≢false (sym b ∙ not_busy))
+          by_way (pushed free p) = p
+
+      low_one : i < length one.tracks
+      low_one = let a = sc_one.stands.tracks in omega (arith, a, named)
+
+      o_two : StaysOpen two i
+      o_two = open_then false s marks one second i t_two legal_second (record { low = low_one; named = named; there = (let a = sc_one.stands.kept in omega (arith, a, named)); lawful = lawful }) (turn_runs s marks scales long one second legal_second sc_one.stands) o_one
+
+      -- what both rounds leave, if what is done to the stream in the second one is told by a later history
+      record Waited : Type 0 where
+        away : AwayRounds false s marks i run (first ∷ second ∷ [])
+        quiet : IsQuiet (told_at two i).stream.shape (server_list (told_at two i).stream)
+        was : WasOpen two i
+        says : SaysOpenOf lent_by.item (slot_told two lent_by.slot)
+        few : 3 ≤ (track_at two.normal.tracks i).life.retries
+
+      waited : Unpushed s one i lent_by.slot lent_by.item → Foreseen (told_at two i).stream → Waited
+      waited u seen_two =
+          let p = pushed_now u in
+          let seen_one : Foreseen (told_at one i).stream = seen_before s one second i low_one seen_two in
+          let turn_one = lends_turn s marks scales long run first legal c i named stays lawful o track.calm.stream two_run seen_one home in
+          let was = lends_open s marks scales long run first legal c i named stays lawful o track.calm.stream two_run seen_one home in
+          let few = few_one in
+          let two_one : 2 ≤ (track_at one.normal.tracks i).life.retries = omega (arith, few) in
+          let turn_two = waits_turn s marks scales long one second legal_second sc_one.stands i named stays_second lawful o_one turn_one.quiet two_one seen_two sc_one.states sc_one.reports lent_by.slot lent_by.item u was in
+          record {
+            away = (legal, (turn_of s marks scales long run first legal c, turn_one), (legal_second, (t_two, turn_two), tt));
+            quiet = turn_two.quiet;
+            was = waits_open s marks scales long one second legal_second sc_one.stands i named stays_second lawful o_one turn_one.quiet two_one seen_two sc_one.states sc_one.reports lent_by.slot lent_by.item u was;
+            says = says_after s marks scales long one second legal_second sc_one.stands i named stays_second lawful o_one turn_one.quiet two_one seen_two lent_by.slot lent_by.item p.lending u.fresh u.told;
+            few = retries_round s marks scales long one second legal_second sc_one.stands i 3 named (omega arith) few_one;
+          }
+
+    -- it is adopted in the round after that
     pub lent_three : (second : RoundSeen) (legal_second : LegalRound false s marks one second) (sc : SessionCarried s run) (sc_one : SessionCarried s one) (third : RoundSeen) → (let two = after_round s one second in LegalRound false s marks two third → SessionCarried s two
         → is_busy (turn_of s marks scales long run first legal c).turn.push ≡ true → (track_at two.normal.tracks i).holder ≡ Lent → (track_at (after_round s two third).normal.tracks i).holder ≡ Lent → StartedLent s (after_round s two third) i most total track.on.told)
     lent_three second legal_second sc sc_one third legal_third sc_two busy stays_second stays_third = by lent_by.way
       where
-        -- the push before was the last one, and acknowledged
-        acked : KnowsAcked one
-        acked = knows_acked s marks run first legal c.going sc.states c.queue (ap length (busy_same s marks scales long run first legal c i named busy).0)
-
-        not_busy : is_busy (turn_of s marks scales long one second legal_second sc_one.stands).turn.push ≡ false
-        not_busy = (turn_sees_ack false s marks one second legal_second sc_one.stands.runs acked (turn_of s marks scales long one second legal_second sc_one.stands)).1 (turn_runs s marks scales long one second legal_second sc_one.stands)
-
-        pushed_now : Unpushed s one i lent_by.slot lent_by.item → PushedLast s (after_round s one second) i lent_by.slot lent_by.item
-        pushed_now u = by_way (waits s marks scales long one second legal_second sc_one.stands i named stays_second lent_by.slot lent_by.item u)
-          where
-            by_way : OnWay s marks scales long one second legal_second sc_one.stands i named stays_second lent_by.slot lent_by.item → PushedLast s (after_round s one second) i lent_by.slot lent_by.item
-            by_way (to_push b u) = absurd (true≢false (sym b ∙ not_busy))
-            by_way (pushed free p) = p
-
         by : OnWay s marks scales long run first legal c i named stays lent_by.slot lent_by.item → StartedLent s (after_round s (after_round s one second) third) i most total track.on.told
         by (pushed free p) = absurd (true≢false (sym busy ∙ free))
         by (to_push b u) =
-            let p = pushed_now u in
-            let t_three = turn_of s marks scales long (after_round s one second) third legal_third sc_two.stands in
-            let low_one : i < length one.tracks = (let a = sc_one.stands.tracks in omega (arith, a, named)) in
+            let p = pushed_now second legal_second sc sc_one busy stays_second u in
+            let open_two = o_two second legal_second sc sc_one busy stays_second in
             let low_two : i < length (after_round s one second).tracks = (let a = sc_two.stands.tracks in omega (arith, a, named)) in
-            let named_one : IsNamed s marks one i = record { low = low_one; named = named; there = (let a = sc_one.stands.kept in omega (arith, a, named)); lawful = lawful } in
-            let o_two : StaysOpen (after_round s one second) i = open_then false s marks one second i (turn_of s marks scales long one second legal_second sc_one.stands) legal_second named_one (turn_runs s marks scales long one second legal_second sc_one.stands) o_one in
             let met = adopted_met s marks scales long (after_round s one second) third legal_third sc_two i named lent_by.slot lent_by.item p.lending p.some p.last stays_third in
-            let seen_three : Foreseen (told_at (after_round s (after_round s one second) third) i).stream = part_seen false s marks (after_round s one second) third t_three i low_two named legal_third o_two.keeps met in
-            let seen_two : Foreseen (told_at (after_round s one second) i).stream = seen_before s (after_round s one second) third i low_two seen_three in
-            let seen_one : Foreseen (told_at one i).stream = seen_before s one second i low_one seen_two in
-            let turn_one = lends_turn s marks scales long run first legal c i named stays lawful o track.calm.stream two_run seen_one home in
-            let was = lends_open s marks scales long run first legal c i named stays lawful o track.calm.stream two_run seen_one home in
-            let few = few_one in
-            let two_one : 2 ≤ (track_at one.normal.tracks i).life.retries = omega (arith, few) in
-            let turn_two = waits_turn s marks scales long one second legal_second sc_one.stands i named stays_second lawful o_one turn_one.quiet two_one seen_two sc_one.states sc_one.reports lent_by.slot lent_by.item u was in
-            let was_two = waits_open s marks scales long one second legal_second sc_one.stands i named stays_second lawful o_one turn_one.quiet two_one seen_two sc_one.states sc_one.reports lent_by.slot lent_by.item u was in
-            let says = says_after s marks scales long one second legal_second sc_one.stands i named stays_second lawful o_one turn_one.quiet two_one seen_two lent_by.slot lent_by.item p.lending u.fresh u.told in
-            let few_two = retries_round s marks scales long one second legal_second sc_one.stands i 3 named (omega arith) few_one in
-            adopted_all run (first ∷ second ∷ []) most total (legal, (turn_of s marks scales long run first legal c, turn_one), (legal_second, (turn_of s marks scales long one second legal_second sc_one.stands, turn_two), tt)) track third legal_third sc_two lent_by.slot lent_by.item p stays_third o_two turn_two.quiet was_two says (omega (arith, few_two))
+            let seen_three : Foreseen (told_at (after_round s (after_round s one second) third) i).stream = part_seen false s marks (after_round s one second) third (turn_of s marks scales long (after_round s one second) third legal_third sc_two.stands) i low_two named legal_third open_two.keeps met in
+            let w = waited second legal_second sc sc_one busy stays_second u (seen_before s (after_round s one second) third i low_two seen_three) in
+            let few = w.few in
+            adopted_all run (first ∷ second ∷ []) most total w.away track third legal_third sc_two lent_by.slot lent_by.item p stays_third open_two w.quiet w.was w.says (omega (arith, few))
 
     -- the proxy is taken back in that round, and its track has stopped
     pub left_three : (second : RoundSeen) (legal_second : LegalRound false s marks one second) (sc : SessionCarried s run) (sc_one : SessionCarried s one) (third : RoundSeen) → (let two = after_round s one second in (legal_third : LegalRound false s marks two third) → SessionCarried s two
@@ -162,37 +191,13 @@ module _ (s : Session) (marks : Marks) (scales : All (λ (x : Setting). x.scale 
         → TrackIs s three i most total))
     left_three second legal_second sc sc_one third legal_third sc_two busy stays_second leaves sc_three next legal_next silent two_three out alive emptied = by lent_by.way
       where
-        -- the push before was the last one, and acknowledged
-        acked : KnowsAcked one
-        acked = knows_acked s marks run first legal c.going sc.states c.queue (ap length (busy_same s marks scales long run first legal c i named busy).0)
-
-        not_busy : is_busy (turn_of s marks scales long one second legal_second sc_one.stands).turn.push ≡ false
-        not_busy = (turn_sees_ack false s marks one second legal_second sc_one.stands.runs acked (turn_of s marks scales long one second legal_second sc_one.stands)).1 (turn_runs s marks scales long one second legal_second sc_one.stands)
-
-        pushed_now : Unpushed s one i lent_by.slot lent_by.item → PushedLast s (after_round s one second) i lent_by.slot lent_by.item
-        pushed_now u = by_way (waits s marks scales long one second legal_second sc_one.stands i named stays_second lent_by.slot lent_by.item u)
-          where
-            by_way : OnWay s marks scales long one second legal_second sc_one.stands i named stays_second lent_by.slot lent_by.item → PushedLast s (after_round s one second) i lent_by.slot lent_by.item
-            by_way (to_push b u) = absurd (true≢false (sym b ∙ not_busy))
-            by_way (pushed free p) = p
-
         by : OnWay s marks scales long run first legal c i named stays lent_by.slot lent_by.item → TrackIs s (after_round s (after_round s one second) third) i most total
         by (pushed free p) = absurd (true≢false (sym busy ∙ free))
         by (to_push b u) =
-            let p = pushed_now u in
-            let low_one : i < length one.tracks = (let a = sc_one.stands.tracks in omega (arith, a, named)) in
+            let p = pushed_now second legal_second sc sc_one busy stays_second u in
+            let open_two = o_two second legal_second sc sc_one busy stays_second in
             let low_two : i < length (after_round s one second).tracks = (let a = sc_two.stands.tracks in omega (arith, a, named)) in
-            let named_one : IsNamed s marks one i = record { low = low_one; named = named; there = (let a = sc_one.stands.kept in omega (arith, a, named)); lawful = lawful } in
-            let o_two : StaysOpen (after_round s one second) i = open_then false s marks one second i (turn_of s marks scales long one second legal_second sc_one.stands) legal_second named_one (turn_runs s marks scales long one second legal_second sc_one.stands) o_one in
-            let seen_three : Foreseen (told_at (after_round s (after_round s one second) third) i).stream = left_seen s marks scales long (after_round s one second) third legal_third sc_two i named lawful lent_by.slot lent_by.item p leaves sc_three o_two next legal_next silent in
-            let seen_two : Foreseen (told_at (after_round s one second) i).stream = seen_before s (after_round s one second) third i low_two seen_three in
-            let seen_one : Foreseen (told_at one i).stream = seen_before s one second i low_one seen_two in
-            let turn_one = lends_turn s marks scales long run first legal c i named stays lawful o track.calm.stream two_run seen_one home in
-            let was = lends_open s marks scales long run first legal c i named stays lawful o track.calm.stream two_run seen_one home in
-            let few = few_one in
-            let two_one : 2 ≤ (track_at one.normal.tracks i).life.retries = omega (arith, few) in
-            let turn_two = waits_turn s marks scales long one second legal_second sc_one.stands i named stays_second lawful o_one turn_one.quiet two_one seen_two sc_one.states sc_one.reports lent_by.slot lent_by.item u was in
-            let was_two = waits_open s marks scales long one second legal_second sc_one.stands i named stays_second lawful o_one turn_one.quiet two_one seen_two sc_one.states sc_one.reports lent_by.slot lent_by.item u was in
-            let says = says_after s marks scales long one second legal_second sc_one.stands i named stays_second lawful o_one turn_one.quiet two_one seen_two lent_by.slot lent_by.item p.lending u.fresh u.told in
-            let few_two = retries_round s marks scales long one second legal_second sc_one.stands i 3 named (omega arith) few_one in
-            late_is s marks scales long i named lawful run first second most total (legal, (turn_of s marks scales long run first legal c, turn_one), (legal_second, (turn_of s marks scales long one second legal_second sc_one.stands, turn_two), tt)) track third legal_third sc_two lent_by.slot lent_by.item p leaves sc_three o_two next legal_next silent turn_two.quiet was_two says (omega (arith, few_two)) two_three out alive emptied
+            let seen_three : Foreseen (told_at (after_round s (after_round s one second) third) i).stream = left_seen s marks scales long (after_round s one second) third legal_third sc_two i named lawful lent_by.slot lent_by.item p leaves sc_three open_two next legal_next silent in
+            let w = waited second legal_second sc sc_one busy stays_second u (seen_before s (after_round s one second) third i low_two seen_three) in
+            let few = w.few in
+            late_is s marks scales long i named lawful run first second most total w.away track third legal_third sc_two lent_by.slot lent_by.item p leaves sc_three open_two next legal_next silent w.quiet w.was w.says (omega (arith, few)) two_three out alive emptied

@@ -2,10 +2,10 @@
 use Rattle.std.proofs.Common.{◌≡◌, ◌⊎◌, inl, inr, ℕ, ◌+◌, ◌≤◌, ◌<◌, Bool, true, false, true≢false, All, None, List, length, refl, sym, ap, ◌∙◌, arith}
 use Rattle.af_enough_law.proofs.Common.{LegalRound, Life, Marks, Op, RoundSeen, Run, Session, Setting, after_round, ends_part, is_lent, met_after, plays, setup_of, spec_of, takes_part, track_at, track_count}
 use Rattle.af_enough_law.proofs.Basics.{course_long}
-use Rattle.af_enough_law.specs.Carried.{SessionCarried}
-use Rattle.af_enough_law.specs.Courses.{Course, absent, idle, playing, stopping, drained, stopped as stopped_life, over, stage}
-use Rattle.af_enough_law.specs.NormalRounds.{TurnMade}
-use Rattle.af_enough_law.specs.Playing.{way_ops, way_frames}
+use Rattle.af_enough_law.proofs.Carried.{SessionCarried}
+use Rattle.af_enough_law.proofs.Courses.{Course, absent, idle, playing, stopping, drained, stopped as stopped_life, over, stage}
+use Rattle.af_enough_law.proofs.NormalRounds.{TurnMade}
+use Rattle.af_enough_law.proofs.Playing.{way_ops, way_frames}
 use Rattle.af_enough_law.proofs.Carrying.{TrackIs, slotless, lent, stopped, gone_over, lent_is}
 use Rattle.af_enough_law.proofs.CourseGoes.{CourseGone}
 use Rattle.af_enough_law.proofs.HomeKept.{home_fresh}

@@ -1,7 +1,7 @@
 -- No run of a script with enough cycles is still going after as many rounds as are enough, if its tracks start to flow early and its mixers end in time.
 use Rattle.std.proofs.Common.{◌≡◌, ℕ, ◌+◌, ◌^◌, ◌≤◌, ◌<◌, true, false, List, length, take, arith}
 use Rattle.af_enough_law.proofs.Common.{Frame, HasEnoughCycles, IsScript, LegalRounds, Marks, RoundSeen, ScriptData, enough_rounds, new_run, run_from, session_of, spec_of}
-use Rattle.af_enough_law.specs.Ends.{AllOver}
+use Rattle.af_enough_law.proofs.Ends.{AllOver}
 use Rattle.af_enough_law.proofs.AllAble.{keeps_able}
 use Rattle.af_enough_law.proofs.MiddleNever.{Starts, middle_never}
 use Rattle.af_enough_law.proofs.NearSums.{way_few}

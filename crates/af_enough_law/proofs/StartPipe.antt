@@ -1,14 +1,13 @@
 -- The pipe from the first round on: it is empty, or a mix waits to be pushed and at most a buffer is in it, or the last state mixes and at most two are.
 use Rattle.std.proofs.Common.{◌≡◌, ◌⊎◌, inl, inr, ℕ, ◌+◌, ◌*◌, ◌≤◌, Bool, true, false, true≢false, All, List, [], ◌∷◌, length, refl, sym, ap, ◌∙◌, subst, arith}
 use Rattle.af_enough_law.proofs.Common.{ColdIdle, FastState, LegalRound, Marks, MixWrite, NormalKept, RoundSeen, Run, Session, Setting, after_round, asked, code_of, cycle_frames, learnt, plays, setup_of, state_at, track_at, track_count, turn_after}
-use Rattle.af_enough_law.specs.Acks.{KnowsAcked}
-use Rattle.af_enough_law.specs.Carried.{SessionStands, SessionCarried}
-use Rattle.af_enough_law.specs.Drafts.{is_busy, PushMade}
-use Rattle.af_enough_law.specs.FastFlows.{MixesAll}
-use Rattle.af_enough_law.specs.NormalRounds.{TurnMade}
-use Rattle.af_enough_law.specs.PipeFlows.{KnowsPipe, in_pipe, pipe_put}
-use Rattle.af_enough_law.specs.Underway.{Underway, IsIdle}
-use Rattle.af_enough_law.proofs.Acks.{turn_sees_ack}
+use Rattle.af_enough_law.proofs.Acks.{KnowsAcked, turn_sees_ack}
+use Rattle.af_enough_law.proofs.Carried.{SessionStands, SessionCarried}
+use Rattle.af_enough_law.proofs.Drafts.{is_busy, PushMade}
+use Rattle.af_enough_law.proofs.FastWords.{MixesAll}
+use Rattle.af_enough_law.proofs.NormalRounds.{TurnMade}
+use Rattle.af_enough_law.proofs.PipeFlows.{KnowsPipe, in_pipe, pipe_put}
+use Rattle.af_enough_law.proofs.EndWords.{Underway, IsIdle}
 use Rattle.af_enough_law.proofs.EndPhases.{known_unless}
 use Rattle.af_enough_law.proofs.EndRounds.{unpushed}
 use Rattle.af_enough_law.proofs.FastMixes.{mixes_all}

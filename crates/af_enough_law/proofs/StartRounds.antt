@@ -1,18 +1,18 @@
 -- The rounds in which a proxy is lent and on its way: what the turns hear of it, and what they leave.
 use Rattle.std.proofs.Common.{◌≡◌, ℕ, ◌+◌, ◌≤◌, ◌<◌, unwrap_or, if◌then◌else◌, Bool, true, false, All, Option, length, refl, sym, ap, ◌∙◌, subst, arith, inl, is_some, Some}
-use Rattle.af_enough_law.proofs.Common.{FastState, FastTrack, Heard, Learnt, LegalRound, Lent, Marks, NormalKept, RoundSeen, Run, Session, Setting, Shape, SlotReport, TrackKept, Turn, after_round, after_turn, before_turn, carries, early_of, heard, heard_at_home, heard_by, heard_elsewhere, is_home, late_of, learnt, load_of, met_after, number_of, report_at, report_of, server_list, setup_of, slot_of, slot_reported, slots, state_of, told_at, track_at, track_count, track_in, turn_after, with_calls, with_cycles}
+use Rattle.af_enough_law.proofs.Common.{FastState, FastTrack, Heard, Learnt, LegalRound, Lent, Marks, NormalKept, RoundSeen, Run, Session, Setting, Shape, SlotReport, TrackKept, Turn, after_round, after_turn, before_turn, carries, early_of, heard, heard_at_home, heard_by, heard_elsewhere, is_home, late_of, learnt, load_of, number_of, report_at, report_of, server_list, setup_of, slot_of, slot_reported, slots, state_of, told_at, track_at, track_count, track_in, turn_after, with_calls, with_cycles}
 use Rattle.af_enough_law.proofs.Basics.{stays_home}
-use Rattle.af_enough_law.specs.Carried.{SessionStands}
-use Rattle.af_enough_law.specs.Courses.{none_shut}
-use Rattle.af_enough_law.specs.Drafts.{is_busy}
-use Rattle.af_enough_law.specs.FastFlows.{Plays, KnowsReports, slot_told, HasItem, KnowsStates}
-use Rattle.af_enough_law.specs.NormalRounds.{TurnMade}
+use Rattle.af_enough_law.proofs.Carried.{SessionStands}
+use Rattle.af_enough_law.proofs.Courses.{none_shut}
+use Rattle.af_enough_law.proofs.Drafts.{is_busy}
+use Rattle.af_enough_law.proofs.FastWords.{Plays, KnowsReports, slot_told, HasItem, KnowsStates}
+use Rattle.af_enough_law.proofs.NormalRounds.{TurnMade}
 use Rattle.af_enough_law.proofs.AdoptRounds.{away_heard}
 use Rattle.af_enough_law.proofs.AwayKeeps.{StaysOpen, away_turn, looks_open}
 use Rattle.af_enough_law.proofs.AwayRounds.{AwayTurn}
 use Rattle.af_enough_law.proofs.EntryCounts.{found_within}
-use Rattle.af_enough_law.proofs.FastRounds.{over, cycles_length}
-use Rattle.af_enough_law.proofs.RunTracks.{calls_long as calls_length}
+use Rattle.af_enough_law.proofs.FastRounds.{over}
+use Rattle.af_enough_law.proofs.RunTracks.{calls_long as calls_length, cycles_long}
 use Rattle.af_enough_law.proofs.Following.{greeted_in, greeted_alike}
 use Rattle.af_enough_law.proofs.Foreseen.{Foreseen, early_quiet, home_unshut}
 use Rattle.af_enough_law.proofs.Generations.{Attached, greeted_lent, greeted_same}
@@ -20,15 +20,16 @@ use Rattle.af_enough_law.proofs.HomeRounds.{IsNamed}
 use Rattle.af_enough_law.proofs.Lending.{IsLending, WasOpen, LentBy, open_now, open_still, lent_now, lent_still, lending_draft, busy_same, free_plays}
 use Rattle.af_enough_law.proofs.MeetReports.{SaysOpenOf}
 use Rattle.af_enough_law.proofs.MeetRounds.{HaveTrack, round_says, Meeting, meets_open, named_at}
-use Rattle.af_enough_law.proofs.RipeRounds.{IsRipe, states_all, round_generation, beyond_draft}
-use Rattle.af_enough_law.proofs.RoundCalm.{turned_quiet}
+use Rattle.af_enough_law.proofs.RipeRounds.{IsRipe, round_generation}
+use Rattle.af_enough_law.proofs.RoundCalm.{turned_quiet, lie_through}
 use Rattle.af_enough_law.proofs.SessionRounds.{turn_of, turn_runs}
 use Rattle.af_enough_law.proofs.SlotReports.{Carry}
-use Rattle.af_enough_law.proofs.StreamCalm.{IsQuiet, LiesIn, lies_earlier}
+use Rattle.af_enough_law.proofs.StreamCalm.{IsQuiet}
 use Rattle.af_enough_law.proofs.LentRounds.{draft_item}
 use Rattle.af_enough_law.proofs.LentTurns.{turn_leaves}
 use Rattle.af_enough_law.proofs.LeftEntries.{HasOrOut}
 use Rattle.af_enough_law.proofs.FastFound.{plays_item}
+use Rattle.af_enough_law.proofs.StatesHold.{states_all, beyond_draft}
 
 -- ## After a turn
 
@@ -39,14 +40,12 @@ turn_calm s marks run round i low legal t looks seen quiet =
     let o = over s run round i low in
     let k : Shape = (told_at (after_round s run round) i).stream.shape in
     let late : Run = with_cycles s (late_of run round) (after_turn s run round) in
-    let lies_met : LiesIn k seen.list seen.events seen.setting (told_at (met_after s run round) i).stream = subst (LiesIn k seen.list seen.events seen.setting) o.whole seen.lies in
-    let lies_late = lies_earlier k seen.list seen.events seen.setting (told_at late i).stream (told_at (met_after s run round) i).stream o.meeting.is_later lies_met in
-    let lies_turned = lies_earlier k seen.list seen.events seen.setting (told_at (after_turn s run round) i).stream (told_at late i).stream o.late lies_late in
+    let lies = lie_through s run round i low k seen.list seen.events seen.setting seen.lies in
     let b = calls_length round run in
-    let c = cycles_length s (early_of run round) (with_calls round run) in
+    let c = cycles_long s (early_of run round) (with_calls round run) in
     turned_quiet s marks i k seen.list seen.events seen.setting run round low legal.turns.normal
     (λ e is. let same : t.turn ≡ e = ap (λ (x : Option Turn). unwrap_or x t.turn) (sym t.is ∙ is) in subst (λ (e : Turn). none_shut (track_in e i).looks ≡ true) same looks)
-    (omega (arith, b, c, low)) lies_turned o.turn (early_quiet false s marks run round i low legal seen quiet)
+    (omega (arith, b, c, low)) lies.turned o.turn (early_quiet false s marks run round i low legal seen quiet)
 
 -- what a proxy at home has learnt is what is heard of it
 own_heard : (own : Heard) (r : SlotReport) (g : TrackKept) → is_home g.holder ≡ true → (heard_by own r g).known.shut ≡ false → own.known.shut ≡ false

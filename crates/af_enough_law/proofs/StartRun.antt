@@ -2,11 +2,11 @@
 use Rattle.std.proofs.Common.{◌≡◌, ◌⊎◌, inl, inr, ℕ, ◌≤◌, ◌<◌, true, false, All, Option, Some, None, length, refl, ap, arith}
 use Rattle.af_enough_law.proofs.Common.{Holder, Home, LegalRound, Lent, Marks, Returning, RoundSeen, Run, Session, Setting, after_round, is_home, is_lent, plays, setup_of, sides_of, slots, told_at, track_at, track_count, true_or_false}
 use Rattle.af_enough_law.proofs.Basics.{not_over}
-use Rattle.af_enough_law.specs.Carried.{SessionCarried}
-use Rattle.af_enough_law.specs.Courses.{Course, absent, idle, playing, stopping, drained, stopped as is_stopped, over}
-use Rattle.af_enough_law.specs.Drafts.{is_busy}
-use Rattle.af_enough_law.specs.FastFlows.{KnowsReleased}
-use Rattle.af_enough_law.specs.NormalRounds.{TurnMade}
+use Rattle.af_enough_law.proofs.Carried.{SessionCarried}
+use Rattle.af_enough_law.proofs.Courses.{Course, absent, idle, playing, stopping, drained, stopped as is_stopped, over}
+use Rattle.af_enough_law.proofs.Drafts.{is_busy}
+use Rattle.af_enough_law.proofs.FastWords.{KnowsReleased}
+use Rattle.af_enough_law.proofs.NormalRounds.{TurnMade}
 use Rattle.af_enough_law.proofs.AwayKeeps.{open_of}
 use Rattle.af_enough_law.proofs.Carrying.{TrackIs, slotless, lent, gone_over, track_on}
 use Rattle.af_enough_law.proofs.CourseGoes.{OnCourse}

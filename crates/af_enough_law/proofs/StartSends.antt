@@ -2,10 +2,10 @@
 use Rattle.std.proofs.Common.{◌≡◌, ◌⊎◌, inl, inr, ℕ, ◌*◌, ◌≤◌, ◌<◌, Bool, true, false, All, None, List, [], ◌∷◌, length, fold, refl, ap, ◌∙◌, arith}
 use Rattle.af_enough_law.proofs.Common.{AreCalls, ClientCall, LegalRound, Marks, Mode, Op, RoundSeen, Run, Session, Setting, Track, Want, after_call, after_round, begun, calls_in, setup_of, sides_of, told_at, track_at, track_count}
 use Rattle.af_enough_law.proofs.Basics.{course_long}
-use Rattle.af_enough_law.specs.Carried.{SessionCarried}
-use Rattle.af_enough_law.specs.FastFlows.{KnowsReleased}
-use Rattle.af_enough_law.specs.NormalRounds.{TurnMade}
-use Rattle.af_enough_law.specs.Playing.{AreFair, Doing, opening, starting, settling, setting, writing, clearing, clearing_more, stopping, draining, removing}
+use Rattle.af_enough_law.proofs.Carried.{SessionCarried}
+use Rattle.af_enough_law.proofs.FastWords.{KnowsReleased}
+use Rattle.af_enough_law.proofs.NormalRounds.{TurnMade}
+use Rattle.af_enough_law.proofs.Playing.{AreFair, Doing, opening, starting, settling, setting, writing, clearing, clearing_more, stopping, draining, removing}
 use Rattle.af_enough_law.proofs.CalmTracks.{round_released}
 use Rattle.af_enough_law.proofs.Carrying.{TrackIs, slotless, lent, stopped, gone_over, track_on}
 use Rattle.af_enough_law.proofs.CommandsGo.{commands_of}

@@ -1,8 +1,8 @@
 -- A track whose START was settled and that is to be heard after a round was to be heard before it.
 use Rattle.std.proofs.Common.{◌≡◌, inl, inr, ℕ, ◌≤◌, ◌<◌, Bool, true, false, true≢false, All, length, refl, sym, ◌∙◌, arith}
 use Rattle.af_enough_law.proofs.Common.{LegalRound, Marks, RoundSeen, Run, Session, Setting, after_round, plays, setup_of, track_at, track_count}
-use Rattle.af_enough_law.specs.Carried.{SessionCarried}
-use Rattle.af_enough_law.specs.NormalRounds.{TurnMade}
+use Rattle.af_enough_law.proofs.Carried.{SessionCarried}
+use Rattle.af_enough_law.proofs.NormalRounds.{TurnMade}
 use Rattle.af_enough_law.proofs.Carrying.{TrackIs, slotless, lent, stopped, gone_over}
 use Rattle.af_enough_law.proofs.Ends.{silent}
 use Rattle.af_enough_law.proofs.Lookahead.{ended_then}

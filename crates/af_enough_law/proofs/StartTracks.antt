@@ -2,18 +2,17 @@
 use Rattle.std.proofs.Common.{◌≡◌, ◌⊎◌, inl, inr, ℕ, ◌≤◌, ◌<◌, ◌&&◌, if◌then◌else◌, is_some, Bool, true, false, true≢false, All, Some, length, refl, sym, ap, ◌∙◌, subst, arith}
 use Rattle.af_enough_law.proofs.Common.{FastTrack, Holder, Home, LegalRound, Lent, Life, Marks, NormalKept, RoundSeen, Run, Session, Setting, after_round, calls_in, is_home, learnt, number_of, plays, setup_of, told_at, track_at, track_count, turn_after}
 use Rattle.af_enough_law.proofs.Basics.{stays_home}
-use Rattle.af_enough_law.specs.Carried.{SessionStands}
-use Rattle.af_enough_law.specs.Courses.{Course, absent, idle, playing, stopping, drained, stopped, over}
-use Rattle.af_enough_law.specs.Drafts.{next_holder}
-use Rattle.af_enough_law.specs.Ends.{IsInOrder}
-use Rattle.af_enough_law.specs.FastFlows.{KnowsReleased}
-use Rattle.af_enough_law.specs.Items.{item_of}
-use Rattle.af_enough_law.specs.NormalRounds.{TurnMade}
-use Rattle.af_enough_law.specs.Playing.{AreFair}
+use Rattle.af_enough_law.proofs.Carried.{SessionStands}
+use Rattle.af_enough_law.proofs.Courses.{Course, absent, idle, playing, stopping, drained, stopped, over}
+use Rattle.af_enough_law.proofs.Drafts.{next_holder, holder_turned}
+use Rattle.af_enough_law.proofs.Ends.{IsInOrder}
+use Rattle.af_enough_law.proofs.FastWords.{KnowsReleased}
+use Rattle.af_enough_law.proofs.Items.{item_of}
+use Rattle.af_enough_law.proofs.NormalRounds.{TurnMade}
+use Rattle.af_enough_law.proofs.Playing.{AreFair}
 use Rattle.af_enough_law.proofs.AwayKeeps.{open_of}
 use Rattle.af_enough_law.proofs.Carrying.{TrackIs, stopped}
 use Rattle.af_enough_law.proofs.CommandsGo.{commands_of}
-use Rattle.af_enough_law.proofs.Drafts.{holder_turned}
 use Rattle.af_enough_law.proofs.EndRounds.{order_round}
 use Rattle.af_enough_law.proofs.Following.{greeted_in}
 use Rattle.af_enough_law.proofs.Foreseen.{part_seen, home_unshut}

@@ -6,8 +6,8 @@ use Rattle.af_script.specs.declared.op.Op.TheVariants as op
 use Rattle.af_runs.specs.declared.want.ClientCommand.TheVariants as command
 use Rattle.af_runs.specs.declared.want.Mode.TheVariants as mode
 use Rattle.af_runs.specs.declared.want.Want.TheVariants as want
-use Rattle.af_enough_law.specs.Playing.{IsWay, Doing, opening, starting, settling, setting, writing, clearing, clearing_more, stopping, draining, removing, IsFair, AreFair}
-use Rattle.af_enough_law.specs.Nearing.{is_started, IsPast}
+use Rattle.af_enough_law.proofs.Playing.{IsWay, Doing, opening, starting, settling, setting, writing, clearing, clearing_more, stopping, draining, removing, IsFair, AreFair}
+use Rattle.af_enough_law.proofs.NearWords.{is_started, IsPast}
 use Rattle.af_enough_law.proofs.Doing.{at, waiting_at, sent_of, next_op, sent_is, status_is, write_is, clear_is}
 use Rattle.af_enough_law.proofs.Turning.{words_of, spoken_after, wanted_first, none_some, none_waiting, none_ended, client_after, next_ended, next_cut, rested_at, begins_rested}
 

@@ -2,9 +2,9 @@
 use Rattle.std.proofs.Common.{◌≡◌, inl, ℕ, ◌+◌, ◌*◌, ◌%◌, ◌/◌, ◌≤◌, ◌==◌, Bool, true, false, true≢false, MatchBool, List, [], ◌∷◌, length, fold, refl, sym, ap, ◌∙◌, subst, arith, if◌then◌else◌}
 use Rattle.af_enough_law.proofs.Common.{AreCalls, Client, ClientCall, LegalRound, Marks, Mode, Op, RoundSeen, Run, ServerEvent, Session, Track, TrackKept, Want, after_call, after_round, at_next_turn, begins_ended, begun, calls_in, settled_in, sides_of, state_code, status_word, told_at, track_at}
 use Rattle.af_base.specs.declared.event.ClientCall.TheVariants as call
-use Rattle.af_enough_law.specs.Nearing.{IsPast}
-use Rattle.af_enough_law.specs.NormalRounds.{TurnMade}
-use Rattle.af_enough_law.specs.Playing.{AreFair, Doing, opening, starting, settling, setting, writing, clearing, clearing_more, stopping, draining, removing}
+use Rattle.af_enough_law.proofs.NearWords.{IsPast}
+use Rattle.af_enough_law.proofs.NormalRounds.{TurnMade}
+use Rattle.af_enough_law.proofs.Playing.{AreFair, Doing, opening, starting, settling, setting, writing, clearing, clearing_more, stopping, draining, removing}
 use Rattle.af_enough_law.proofs.ClientGoesOn.{client_after, mixer_goes}
 use Rattle.af_enough_law.proofs.CommandsGo.{CalmCommands, OpenTurn}
 use Rattle.af_enough_law.proofs.CourseGoes.{OnCourse, CourseGone}

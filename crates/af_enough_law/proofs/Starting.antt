@@ -1,9 +1,9 @@
 -- What holds after each of the first rounds, while not all is over.
 use Rattle.std.proofs.Common.{◌≡◌, ◌⊎◌, inl, inr, ℕ, ◌+◌, ◌≤◌, ◌<◌, Bool, true, false, All, List, length, refl, ap, arith}
 use Rattle.af_enough_law.proofs.Common.{Frame, IsScript, LegalRound, Marks, RoundSeen, Run, ScriptData, Session, Setting, TrackKept, after_round, all_play_through, at_new, is_over, new_run, scales_of, session_of, setup_of, spec_of, track_at, track_count}
-use Rattle.af_enough_law.specs.Carried.{SessionStands, SessionCarried}
-use Rattle.af_enough_law.specs.Ends.{AllOver}
-use Rattle.af_enough_law.specs.Underway.{Underway}
+use Rattle.af_enough_law.proofs.Carried.{SessionStands, SessionCarried}
+use Rattle.af_enough_law.proofs.Ends.{AllOver}
+use Rattle.af_enough_law.proofs.EndWords.{Underway}
 use Rattle.af_enough_law.proofs.AwayKeeps.{open_of}
 use Rattle.af_enough_law.proofs.CarryBegins.{begins_session, begins_track, settings_long}
 use Rattle.af_enough_law.proofs.EndWithin.{still_or_over}

@@ -3,11 +3,10 @@ use Rattle.std.proofs.Common.{◌≡◌, ℕ, ◌+◌, ◌<◌, ◌==◌, if◌t
 use Rattle.af_enough_law.proofs.Common.{BlockTold, CommandLook, IsServed, Learnt, Listed, Marks, NormalKept, Outside, RoundSeen, Run, Seen, ServerEvent, Session, Setup, TrackKept, TrackSeen, Turn, after_part, after_round, all_command_events, command_events, command_events_of, command_list, did, drops_of, fold-append, found_in, heard, invalid, is_reached, kept, learnt, look_events, met_after, noted, nothing_seen, outside_of, ready, server_list, settled_at, setup_of, shows_command, slot_reported, status_due, status_events, stored_over, takes_command, told_at, track_at, track_in, tracks_at, turn_after}
 use Rattle.af_base.specs.declared.event.ServerEvent.TheVariants as server
 use Rattle.af_base.specs.declared.seen.Seen.TheVariants as seen
-use Rattle.af_enough_law.specs.CommandRounds.{CommandsTold}
-use Rattle.af_enough_law.specs.NormalRounds.{TurnMade}
+use Rattle.af_enough_law.proofs.CommandRounds.{CommandsTold, commands_told}
+use Rattle.af_enough_law.proofs.NormalRounds.{TurnMade}
 use Rattle.af_enough_law.specs.Seen.{status_by, last_status}
-use Rattle.af_enough_law.specs.TrackTurns.{attended, TrackTurned}
-use Rattle.af_enough_law.proofs.CommandRounds.{commands_told}
+use Rattle.af_enough_law.proofs.TrackTurns.{attended, TrackTurned}
 use Rattle.af_enough_law.proofs.Following.{noted_alike, greeted_alike, edited_alike, greeted_in, legal_greeted}
 use Rattle.af_enough_law.proofs.Served.{track_turned}
 

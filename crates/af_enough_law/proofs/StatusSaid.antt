@@ -1,14 +1,13 @@
 -- What a client sees of its track's status in a round, if the status before the round and the one after it say something.
-use Rattle.std.proofs.Common.{get_or, ◌≡◌, inr, ℕ, suc, ◌≤◌, Bool, true, false, Option, Some, None, is_some, List, [], ◌∷◌, ◌++◌, length, fold, refl, sym, ap, ◌∙◌, subst, arith, append_assoc, if◌then◌else◌}
+use Rattle.std.proofs.Common.{get_or, ◌≡◌, inr, ℕ, suc, ◌≤◌, Bool, true, false, Option, Some, None, is_some, List, [], ◌∷◌, ◌++◌, length, fold, refl, sym, ap, ◌∙◌, subst, arith, append_assoc, if◌then◌else◌, drop}
 use Rattle.af_enough_law.proofs.Common.{ClientCall, ClientEvent, CommandLook, LegalRound, Listed, Marks, Outside, RoundSeen, Run, Seen, ServerEvent, Session, Shape, Track, TrackKept, TrackTold, after_call, after_round, all_command_events, calls_in, client_list, command_events, command_events_of, command_list, did, drops_of, fold-append, found_in, hand_list, invalid, kept, learnt, look_events, met_after, outside_of, server_list, setup_of, shows_command, sides_of, status_events, takes_command, told_at, track_at, track_in, tracks_at}
 use Rattle.af_base.specs.declared.event.ClientCall.TheVariants as call
 use Rattle.af_base.specs.declared.event.ClientEvent.TheVariants as client
 use Rattle.af_base.specs.declared.event.ServerEvent.TheVariants as server
 use Rattle.af_base.specs.declared.seen.Seen.TheVariants as seen
-use Rattle.af_enough_law.specs.CommandRounds.{CommandsTold}
-use Rattle.af_enough_law.specs.NormalRounds.{TurnMade}
+use Rattle.af_enough_law.proofs.CommandRounds.{CommandsTold, commands_told}
+use Rattle.af_enough_law.proofs.NormalRounds.{TurnMade}
 use Rattle.af_enough_law.specs.Seen.{status_by, last_status}
-use Rattle.af_enough_law.proofs.CommandRounds.{commands_told}
 use Rattle.af_enough_law.proofs.CommandsGo.{CalmCommands, OpenTurn, commands_shape, pokeless_after, spelled_after, calm_after, hands_after}
 use Rattle.af_enough_law.proofs.Fair.{status_at}
 use Rattle.af_enough_law.proofs.FairTurns.{commands_grow}
@@ -16,10 +15,6 @@ use Rattle.af_enough_law.proofs.RunLists.{command_lists, command_history}
 use Rattle.af_enough_law.proofs.RunTracks.{round_blocks}
 use Rattle.af_enough_law.proofs.StatusRounds.{status_told, status_round}
 use Rattle.af_enough_law.proofs.TakesAll.{CommandsMet}
-
-tail_of : {X : Type 0} → List X → List X
-tail_of [] = []
-tail_of (x ∷ xs) = xs
 
 module _ (Says : ℕ → Type 0) where
   -- ## Status words
@@ -38,21 +33,19 @@ module _ (Says : ℕ → Type 0) where
   says_next word _ h s = h
 
   says_front : (word : ℕ) (es front rest : List ServerEvent) → es ≡ front ++ rest → Says word → AllSay es → Says (fold status_by word front)
-  unfolding tail_of
   says_front word es [] rest is h all = h
   says_front word [] (y ∷ front) rest is h all = absurd (let e : 0 ≡ suc (length (front ++ rest)) = ap length is in omega (arith, e))
   says_front word (e ∷ es) (y ∷ front) rest is h all =
       let first : e ≡ y = ap (λ (l : List ServerEvent). get_or l 0 e) is in
-      says_front (status_by word y) es front rest (ap tail_of is) (subst (λ (x : ServerEvent). Says (status_by word x)) first (says_next word e h all.0)) all.1
+      says_front (status_by word y) es front rest (ap (drop 1) is) (subst (λ (x : ServerEvent). Says (status_by word x)) first (says_next word e h all.0)) all.1
 
   -- the last status of a front that has these first events says so, if theirs does and all later ones do
   pub says_least : (word : ℕ) (xs xs' ys ys' : List ServerEvent) → xs ++ xs' ≡ ys ++ ys' → length xs ≤ length ys → Says (fold status_by word xs) → AllSay xs' → Says (fold status_by word ys)
-  unfolding tail_of
   says_least word [] xs' ys ys' is short h all = says_front word xs' ys ys' is h all
   says_least word (x ∷ xs) xs' [] ys' is short h all = absurd (omega arith)
   says_least word (x ∷ xs) xs' (y ∷ ys) ys' is short h all =
       let first : status_by word x ≡ status_by word y = ap (λ (l : List ServerEvent). status_by word (get_or l 0 x)) is in
-      says_least (status_by word y) xs xs' ys ys' (ap tail_of is) (omega arith) (subst (λ (w : ℕ). Says (fold status_by w xs)) first h) all
+      says_least (status_by word y) xs xs' ys ys' (ap (drop 1) is) (omega arith) (subst (λ (w : ℕ). Says (fold status_by w xs)) first h) all
 
   -- ## What a turn stores
 

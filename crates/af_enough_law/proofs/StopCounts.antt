@@ -1,18 +1,19 @@
 -- The argument of a STOP is no more than the frames that its client has put.
-use Rattle.std.proofs.Common.{◌≡◌, ℕ, zero, suc, ◌+◌, ◌-◌, ◌^◌, ◌≤◌, ◌<◌, ◌==◌, ◌&&◌, Bool, true, false, Option, Some, None, MatchBool, List, [], ◌∷◌, ◌++◌, length, fold, get_or, take, drop, refl, sym, ap, ◌∙◌, subst, arith, length-append, append-nil, is_some, if◌then◌else◌}
-use Rattle.af_enough_law.proofs.Common.{AreCalls, BlockTold, ClientCall, ClientCommand, ClientEvent, EntrySeen, IsWanted, LegalRound, Marks, NormalKept, RoundSeen, Run, Session, Track, TrackTold, Turn, TurnFound, Want, after_call, after_round, after_turn, all_played, argument_of, both_right, called_in_turn, calls_in, client_kept, client_list, cycle_frames, early_of, flushes_of, found_in, late_of, mixed_track, no, played, sides_of, slot_playing, state_for, stream_met, takes_part, told_at, track_count, with_calls, with_cycle, with_poll, wrapped}
+use Rattle.std.proofs.Common.{◌≡◌, ℕ, zero, suc, ◌+◌, ◌^◌, ◌≤◌, ◌<◌, ◌==◌, ◌&&◌, Bool, true, false, Option, Some, None, List, [], ◌∷◌, ◌++◌, length, fold, get_or, take, drop, refl, sym, ap, ◌∙◌, subst, arith, length-append, append-nil, is_some, if◌then◌else◌}
+use Rattle.af_enough_law.proofs.Common.{LegalClientTurn, BlockTold, ClientCall, ClientCommand, ClientEvent, EntrySeen, IsWanted, LegalRound, Marks, NormalKept, RoundSeen, Run, Session, Track, TrackTold, Turn, TurnFound, Want, after_call, after_round, after_turn, all_played, argument_of, both_right, called_in_turn, calls_in, client_kept, client_list, cycle_frames, early_of, flushes_of, found_in, late_of, mixed_track, no, played, sides_of, slot_playing, state_for, stream_met, takes_part, told_at, track_count, with_calls, with_cycle, with_poll, wrapped}
 use Rattle.af_base.specs.declared.event.ClientCall.TheVariants as call
 use Rattle.af_base.specs.declared.event.ClientEvent.TheVariants as client
 use Rattle.af_enough_law.proofs.Basics.{put-append}
 use Rattle.af_runs.specs.Clients.{command_code}
 use Rattle.af_runs.specs.declared.want.ClientCommand.TheVariants as command
 use Rattle.af_runs.specs.declared.want.Want.TheVariants as want
-use Rattle.af_enough_law.specs.Courses.{course}
+use Rattle.af_enough_law.proofs.Courses.{course}
 use Rattle.af_enough_law.specs.Seen.{frames_put}
 use Rattle.af_enough_law.proofs.CalmTracks.{round_released}
 use Rattle.af_enough_law.proofs.CommandsGo.{MayLearn, still, learns, may_learn}
 use Rattle.af_enough_law.proofs.Doing.{put_of, sent_of}
 use Rattle.af_enough_law.proofs.Flushless.{IsFlushlessTrack, call_flushless, unflushed_none}
+use Rattle.af_enough_law.proofs.ClientWalk.{turn_keeps}
 use Rattle.af_enough_law.proofs.RunTracks.{mixed_by, turned_by, played_track, round_blocks, met_track}
 use Rattle.af_enough_law.proofs.SentCourse.{with_none}
 use Rattle.af_enough_law.proofs.Turning.{words_of, words_append}
@@ -150,21 +151,23 @@ answer_low t w _ none put made = tt
 
 -- ## A turn
 
-pub calls_counted : (left : ℕ) (t : Track) (calls : List ClientCall) → IsFlushlessTrack t → StopCounts t → AreCalls left t calls → StopCounts (fold after_call t calls)
-calls_counted left t [] flushless h made = h
-calls_counted left t (answer ∷ calls) flushless h made =
+call_counted : (t : Track) (w : Want) (answer : ClientCall) → IsFlushlessTrack t → IsWanted t w answer → StopCounts t → StopCounts (after_call t answer)
+call_counted t w answer flushless made h =
     let put = put_counted t answer in
     let words = words_put t answer in
     let had = h.released in
     let more : frames_put t.stream.events ≤ frames_put (after_call t answer).stream.events = omega (arith, put) in
-    calls_counted (left - 1) (after_call t answer) calls (call_flushless t made.1 answer flushless made.2 made.3)
-    (record {
+    record {
       released = omega (arith, put, words, had);
       sent = h.sent ++ sent_of answer;
       words = words_spoken t answer ∙ ap (λ (ws : List ℕ). ws ++ words_of (sent_of answer)) h.words ∙ sym (words_append h.sent (sent_of answer));
       within = within_more (frames_put t.stream.events) (frames_put (after_call t answer).stream.events) (h.sent ++ sent_of answer) more
-          (within_join (frames_put t.stream.events) h.sent (sent_of answer) h.within (answer_low t made.1 answer (unflushed_none t.stream.events flushless.stream) h.released made.3.0));
-    }) made.4
+          (within_join (frames_put t.stream.events) h.sent (sent_of answer) h.within (answer_low t w answer (unflushed_none t.stream.events flushless.stream) h.released made));
+    }
+
+turn_counted : (t : Track) (calls : List ClientCall) → LegalClientTurn t calls → IsFlushlessTrack t → StopCounts t → StopCounts (fold after_call t calls)
+turn_counted t calls legal flushless h =
+    (turn_keeps (λ (u : Track). IsFlushlessTrack u × StopCounts u) (λ u w answer is wanted made. (call_flushless u w answer is.0 wanted made, call_counted u w answer is.0 made.0 is.1)) t calls legal (flushless, h)).1
 
 -- ## A round
 
@@ -206,19 +209,11 @@ module _ (s : Session) where
       ∙ met_released (takes_part s (all_played s run round) i) (all_played s run round).handed all.stream
       ∙ mixed_released (after_turn s run round) (late_of run round) i turned ∙ turned_released (found_in s run round) round.turn run.normal i early ∙ mixed_released (with_calls round run) (early_of run round) i c
 
-none_counted : (t : Track) (calls : List ClientCall) (b : Bool) → b ≡ true → MatchBool b (calls ≡ []) (AreCalls 64 t calls) → StopCounts t → StopCounts (fold after_call t calls)
-none_counted t calls true e is h = subst (λ (cs : List ClientCall). StopCounts (fold after_call t cs)) (sym is) h
-none_counted t calls false e is h = no e
-
-turn_counted : (t : Track) (calls : List ClientCall) (b : Bool) → MatchBool b (calls ≡ []) (AreCalls 64 t calls) → b ≡ t.client.ended → IsFlushlessTrack t → StopCounts t → StopCounts (fold after_call t calls)
-turn_counted t calls true made e flushless h = none_counted t calls true refl made h
-turn_counted t calls false made e flushless h = calls_counted 64 t calls flushless h made
-
 -- A legal round keeps the counts
 pub counts_round : (cut : Bool) (s : Session) (marks : Marks) (run : Run) (round : RoundSeen) (i : ℕ) → LegalRound cut s marks run round → i < length run.tracks → i < track_count s → IsFlushlessTrack (sides_of (told_at run i))
     → StopCounts (sides_of (told_at run i)) → StopCounts (sides_of (told_at (after_round s run round) i))
 counts_round cut s marks run round i legal low named flushless h =
-    let now = turn_counted (sides_of (told_at run i)) (calls_in round i) (told_at run i).client.ended (legal.turns.clients i named) refl flushless h in
+    let now = turn_counted (sides_of (told_at run i)) (calls_in round i) (legal.turns.clients i named) flushless h in
     let same = put_same (fold after_call (sides_of (told_at run i)) (calls_in round i)).stream.events (client_list (told_at (after_round s run round) i).stream) (may_learn s run round i low) in
     let long = ap (λ (ws : List ℕ). length ws) (stream_released s run round i low) in
     let had = now.released in

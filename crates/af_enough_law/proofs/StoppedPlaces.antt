@@ -1,11 +1,11 @@
 -- Where the proxy of a stopped track is, from round to round: the turn never hears that its stream is shut.
 use Rattle.std.proofs.Common.{◌≡◌, ◌⊎◌, inl, inr, ℕ, zero, suc, ◌+◌, ◌≤◌, ◌==◌, ◌&&◌, ◌||◌, not, if◌then◌else◌, Bool, true, false, true≢false, length, refl, sym, ap, ◌∙◌, subst, arith}
 use Rattle.af_enough_law.proofs.Common.{FastState, FastTrack, Holder, Home, Lent, Life, Marks, Returning, RoundSeen, Run, Session, TrackKept, after_round, by_report, carries, comes_home, heard, is_home, is_returning, learnt, plays, slot_number, track_at, welcomed}
-use Rattle.af_enough_law.specs.Acks.{KnowsAcked}
-use Rattle.af_enough_law.specs.Courses.{course, Course, stage, life_after}
-use Rattle.af_enough_law.specs.FastFlows.{Plays, IsTold, slot_told}
-use Rattle.af_enough_law.specs.NormalRounds.{TurnMade}
-use Rattle.af_enough_law.specs.TrackTurns.{greeted}
+use Rattle.af_enough_law.proofs.Acks.{KnowsAcked}
+use Rattle.af_enough_law.proofs.Courses.{course, Course, stage, life_after}
+use Rattle.af_enough_law.proofs.FastWords.{Plays, IsTold, slot_told}
+use Rattle.af_enough_law.proofs.NormalRounds.{TurnMade}
+use Rattle.af_enough_law.proofs.TrackTurns.{greeted}
 use Rattle.af_enough_law.proofs.CommandsGo.{OpenTurn}
 use Rattle.af_enough_law.proofs.CourseGoes.{OnCourse, CourseGone}
 use Rattle.af_enough_law.proofs.Coursing.{course_plays, stage_reported}

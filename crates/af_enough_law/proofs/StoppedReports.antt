@@ -2,7 +2,7 @@
 use Rattle.std.proofs.Common.{◌≡◌, ℕ, ◌≤◌, ◌<◌, false, Option, Some, None, List, [], ◌∷◌, ◌++◌, length, refl, sym, ap, ◌∙◌, subst, arith, append_assoc, append-nil}
 use Rattle.af_enough_law.proofs.Common.{EntrySeen, FastState, LegalEntries, LegalEntry, LegalRound, Marks, Report, RoundSeen, Run, Session, SlotReport, after_round, after_turn, all_played, before_turn, calls_states, carries, early_count, early_of, entry_slot, fast_ended, found_in, is_shown, last_report, late_of, met_after, polled_known, report_at, report_of, slots, state_for, state_of, take-append-drop, with_calls, with_cycle, with_cycles, with_looks, with_mix, with_poll}
 use Rattle.af_enough_law.proofs.Basics.{state_there}
-use Rattle.af_enough_law.specs.FastFlows.{AllUse, KnowsStates, slot_told}
+use Rattle.af_enough_law.proofs.FastWords.{AllUse, KnowsStates, slot_told}
 use Rattle.af_enough_law.proofs.FastFound.{adds_one}
 use Rattle.af_enough_law.proofs.FastPolls.{before_states, round_states, fast_parts, parts_use}
 use Rattle.af_enough_law.proofs.FastReports.{slot_counts, last_more, calls_same, turned_same, loaded_same, met_same, ends_same, slot_same}

@@ -1,38 +1,35 @@
 -- A round of a stopped track: its turn doesn't hear that its stream is shut, wherever its proxy is, and leaves the proxy in such a place. What isn't told by the history of this round is told by that of the next one.
 use Rattle.std.proofs.Common.{◌≡◌, ◌⊎◌, inl, inr, ℕ, ◌≤◌, ◌<◌, ◌==◌, is_some, Bool, true, false, true≢false, All, Some, ◌++◌, length, length-append, refl, sym, ap, ◌∙◌, subst, arith}
-use Rattle.af_enough_law.proofs.Common.{FastState, FastTrack, Home, Learnt, LegalRound, Marks, NormalKept, Returning, RoundSeen, Run, Session, Setting, SlotReport, TrackKept, after_round, carries, cycle_frames, ends_part, heard, is_home, is_returning, learnt, load_of, met_after, number_of, plays, report_at, report_of, setup_of, slot_number, slot_reported, slots, state_beyond, state_more, state_of, takes_part, told_at, track_at, track_count, turn_after, turn_len, with_calls, with_cycles, within_or_beyond}
+use Rattle.af_enough_law.proofs.Common.{FastState, FastTrack, Home, Learnt, LegalRound, Marks, NormalKept, Returning, RoundSeen, Run, Session, Setting, SlotReport, TrackKept, after_round, carries, cycle_frames, ends_part, heard, is_home, is_returning, learnt, load_of, met_after, number_of, plays, report_at, report_of, setup_of, slot_number, slot_reported, slots, state_beyond, state_more, state_of, takes_part, told_at, track_at, track_count, turn_after, turn_len, with_calls, with_cycles}
 use Rattle.af_enough_law.proofs.Basics.{not_over, some_is, stays_home}
-use Rattle.af_enough_law.specs.Acks.{KnowsAcked}
-use Rattle.af_enough_law.specs.Carried.{SessionCarried}
-use Rattle.af_enough_law.specs.Drafts.{next_holder, is_busy, PushMade}
-use Rattle.af_enough_law.specs.Ends.{IsInOrder}
-use Rattle.af_enough_law.specs.FastFlows.{Plays, IsTold, slot_told}
-use Rattle.af_enough_law.specs.NormalRounds.{TurnMade}
-use Rattle.af_enough_law.proofs.Acks.{turn_sees_ack}
+use Rattle.af_enough_law.proofs.Acks.{KnowsAcked, turn_sees_ack}
+use Rattle.af_enough_law.proofs.Carried.{SessionCarried}
+use Rattle.af_enough_law.proofs.Drafts.{next_holder, is_busy, PushMade, holder_turned}
+use Rattle.af_enough_law.proofs.Ends.{IsInOrder, silent}
+use Rattle.af_enough_law.proofs.FastWords.{Plays, IsTold, slot_told}
+use Rattle.af_enough_law.proofs.NormalRounds.{TurnMade}
 use Rattle.af_enough_law.proofs.CommandsGo.{OpenTurn}
 use Rattle.af_enough_law.proofs.Commanding.{le_cases}
-use Rattle.af_enough_law.proofs.Drafts.{holder_turned}
 use Rattle.af_enough_law.proofs.EndRounds.{order_round}
-use Rattle.af_enough_law.proofs.Ends.{silent}
 use Rattle.af_enough_law.proofs.EntryCounts.{found_within}
 use Rattle.af_enough_law.proofs.FastPolls.{round_states, turn_more}
 use Rattle.af_enough_law.proofs.Following.{greeted_in, greeted_alike}
 use Rattle.af_enough_law.proofs.Foreseen.{Foreseen, KeepsTo, keeps_to, part_seen, seen_earlier}
 use Rattle.af_enough_law.proofs.Generations.{greeted_same, attached_away}
-use Rattle.af_enough_law.proofs.LastStates.{round_last}
+use Rattle.af_enough_law.proofs.StatesHold.{beyond_draft}
 use Rattle.af_enough_law.proofs.LeftEntries.{IsOut, SaysOpen}
 use Rattle.af_enough_law.proofs.LeftFound.{Flowing, FoundOpen, found_open}
 use Rattle.af_enough_law.proofs.LeftRounds.{draft_out}
-use Rattle.af_enough_law.proofs.LentRounds.{heard_away, state_last}
+use Rattle.af_enough_law.proofs.LentRounds.{heard_away}
 use Rattle.af_enough_law.proofs.LentTurns.{turn_leaves}
 use Rattle.af_enough_law.proofs.Lookahead.{Coming, missed, greeted_coming, home_then, seen_before, ended_then, round_later}
-use Rattle.af_enough_law.proofs.QueueRounds.{queue_stands}
-use Rattle.af_enough_law.proofs.SessionRounds.{turn_of, turn_runs, push_of, states_few, session_carried}
+use Rattle.af_enough_law.proofs.SessionRounds.{turn_of, turn_runs, push_of, session_carried}
 use Rattle.af_enough_law.proofs.Slots.{course_opened, slot_stays}
 use Rattle.af_enough_law.proofs.StoppedPlaces.{Place, at_home, comes, waits, unpushed, home_is, greeted_or, greeted_stays}
 use Rattle.af_enough_law.proofs.StoppedReports.{AllOut, SameSlot, slot_untouched}
 use Rattle.af_enough_law.proofs.StoppedTracks.{StoppedCarried, home_open}
 use Rattle.af_enough_law.proofs.TurnLives.{shut_turned}
+use Rattle.af_enough_law.proofs.LastStates.{state_last}
 
 not_zero : (n : ℕ) → 3 ≤ n → (n == 0) ≡ false
 not_zero n some = search (arith, some)
@@ -107,24 +104,7 @@ module _ (s : Session) (marks : Marks) (scales : All (λ (x : Setting). x.scale 
 
     -- what the turn pushes has nothing of the track
     pushed_out : (m : ℕ) (y : FastState) → n < m → state_of after.states m ≡ Some y → IsOut slot i y
-    pushed_out m y above is = by (within_or_beyond m (length after.states))
-      where
-        by_push : (b : Bool) → is_busy t.turn.push ≡ b → n < length after.states → IsOut slot i after.normal.last
-        by_push true busy more =
-            let same = (made.busy busy).2 in
-            let now = (queue_stands s marks run round legal c.stands.queue).pushed in
-            let before = c.stands.queue.pushed in
-            absurd (let z : ⊥ = omega (arith, same, now, before, more) in z)
-        by_push false pushed more = subst (IsOut slot i) (sym (made.done pushed).1) out_then
-
-        by : (m ≤ length after.states) ⊎ (length after.states < m) → IsOut slot i y
-        by (inr far) = absurd (true≢false (sym (ap is_some is) ∙ ap is_some (state_beyond after.states m far)))
-        by (inl high) =
-            let count = states_few s marks scales long run round legal c.stands in
-            let at : m ≡ length after.states = omega (arith, above, high, count) in
-            let some : 1 ≤ length after.states = omega (arith, above, high) in
-            let last = state_last after.states (cycle_frames s) after.normal.last some (round_last s marks run round legal c.stands.last) in
-            subst (IsOut slot i) (some_is after.normal.last y (sym last ∙ ap (λ (m : ℕ). state_of after.states m) (sym at) ∙ is)) (by_push (is_busy t.turn.push) refl (omega (arith, above, high)))
+    pushed_out m y above is = subst (IsOut slot i) (sym (beyond_draft s marks scales long run round legal c.stands m y above is)) out_then
 
     last_out : IsOut slot i run.normal.last → IsOut slot i after.normal.last
     last_out out = by (is_busy t.turn.push) refl

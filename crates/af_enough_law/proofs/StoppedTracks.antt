@@ -2,11 +2,11 @@
 use Rattle.std.proofs.Common.{◌≡◌, inl, ℕ, ◌≤◌, ◌<◌, unwrap_or, Bool, true, false, true≢false, All, Option, Some, List, [], length, fold, refl, sym, ap, ◌∙◌, subst, arith}
 use Rattle.af_enough_law.proofs.Common.{BlockTold, ClientEvent, Home, LegalRound, Marks, NormalKept, RoundSeen, Run, ServerEvent, Session, Setting, Shape, TrackKept, TrackTold, Turn, after_call, after_round, all_played, calls_in, client_list, hand_list, heard, is_home, learnt, met_after, plays, server_list, setup_of, sides_of, stream_met, takes_part, told_at, track_at, track_count, track_in}
 use Rattle.af_enough_law.proofs.Basics.{part_met}
-use Rattle.af_enough_law.specs.Carried.{SessionCarried}
-use Rattle.af_enough_law.specs.Courses.{none_shut}
-use Rattle.af_enough_law.specs.NormalRounds.{TurnMade}
-use Rattle.af_enough_law.specs.Playing.{AreFair}
-use Rattle.af_enough_law.specs.Seen.{are_hands_calm}
+use Rattle.af_enough_law.proofs.Carried.{SessionCarried}
+use Rattle.af_enough_law.proofs.Courses.{none_shut}
+use Rattle.af_enough_law.proofs.NormalRounds.{TurnMade}
+use Rattle.af_enough_law.proofs.Playing.{AreFair}
+use Rattle.af_enough_law.proofs.Calm.{are_hands_calm}
 use Rattle.af_enough_law.proofs.Able.{able_any}
 use Rattle.af_enough_law.proofs.CommandsGo.{CalmCommands, OpenTurn, opens_after, known_then, commands_go}
 use Rattle.af_enough_law.proofs.CourseGoes.{OnCourse, CourseGone, course_goes}
@@ -20,7 +20,7 @@ use Rattle.af_enough_law.proofs.Lookahead.{home_then, round_later}
 use Rattle.af_enough_law.proofs.Ends.{silent}
 use Rattle.af_enough_law.proofs.RunLists.{side_lists}
 use Rattle.af_enough_law.proofs.RunStreams.{round_grows}
-use Rattle.af_enough_law.proofs.RunTame.{played_client_list}
+use Rattle.af_enough_law.proofs.ClientLists.{played_client_list}
 use Rattle.af_enough_law.proofs.RunTracks.{played_track, round_blocks, met_track}
 use Rattle.af_enough_law.proofs.SentCourse.{sent_course}
 use Rattle.af_enough_law.proofs.SessionRounds.{turn_of, turn_runs}

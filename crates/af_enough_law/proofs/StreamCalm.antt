@@ -5,12 +5,13 @@ use Rattle.af_base.specs.declared.event.ServerEvent.TheVariants as server
 use Rattle.af_base.specs.declared.seen.Seen.TheVariants as seen
 use Rattle.af_model.specs.Cycles.{events_behind_look}
 use Rattle.af_runs.specs.Runs.{shows_slot}
-use Rattle.af_enough_law.specs.FastFlows.{IsShown}
-use Rattle.af_enough_law.specs.Seen.{is_calm, are_calm}
+use Rattle.af_enough_law.proofs.FastWords.{IsShown}
+use Rattle.af_enough_law.proofs.Calm.{is_calm, are_calm}
 use Rattle.af_enough_law.proofs.Fair.{calm_drops}
 use Rattle.af_enough_law.proofs.FastFlows.{Later, cycles_later}
 use Rattle.af_enough_law.proofs.FastShows.{Setting, slot_look}
-use Rattle.af_enough_law.proofs.FastSteps.{cycle_length, cycle_track, played_server}
+use Rattle.af_enough_law.proofs.FastSteps.{cycle_track, played_server}
+use Rattle.af_enough_law.proofs.RunTracks.{cycle_long}
 
 -- ## Lists
 
@@ -155,6 +156,6 @@ module _ (s : Session) (marks : Marks) (track : ℕ) (k : Shape) (cs : List Clie
   entries_quiet [] run there legal lies quiet = quiet
   entries_quiet (e ∷ es) run there legal lies quiet =
       let next = with_cycle s run e in
-      let there' : track < length next.tracks = (let a = cycle_length s run e in omega (arith, a, there)) in
+      let there' : track < length next.tracks = (let a = cycle_long s run e in omega (arith, a, there)) in
       let early = lies_earlier k cs all h (told_at next track).stream (told_at (with_cycles s es next) track).stream (cycles_later s es next track there') lies in
       entries_quiet es next there' legal.1 lies (entry_quiet run e there legal.0 early quiet)

@@ -1,8 +1,8 @@
 -- The calm history that a stream block has if its proxy took part in the last meeting.
 use Rattle.std.proofs.Common.{◌≡◌, ℕ, ◌≤◌, ◌<◌, true, Bool, List, [], ◌++◌, length, refl, sym, ap, ◌∙◌, subst, append-nil, append_assoc}
 use Rattle.af_enough_law.proofs.Common.{BlockTold, ClientEvent, HasBlockHistory, IsClientList, LegalRound, Marks, RoundSeen, Run, Session, Shape, after_round, client_list, hand_list, is_tame, met_after, server_list, takes_part, told_at, track_count}
-use Rattle.af_enough_law.specs.NormalRounds.{TurnMade}
-use Rattle.af_enough_law.specs.Seen.{are_calm, are_hands_calm}
+use Rattle.af_enough_law.proofs.NormalRounds.{TurnMade}
+use Rattle.af_enough_law.proofs.Calm.{are_calm, are_hands_calm}
 use Rattle.af_enough_law.proofs.Foreseen.{KeepsTo, keeps_to}
 use Rattle.af_enough_law.proofs.RunTracks.{round_blocks}
 use Rattle.af_enough_law.proofs.TrackGoes.{CalmStream}

@@ -2,13 +2,12 @@
 use Rattle.std.proofs.Common.{◌≡◌, ℕ, ◌≤◌, Bool, true, false, ◌++◌, length, length-append, take, sym, ap, ◌∙◌, subst, arith}
 use Rattle.af_enough_law.proofs.Common.{BlockTold, IsSpelled, LegalRound, Marks, RoundSeen, Run, Session, TrackTold, after_round, client_list, flushes_of, is_tame, met_after, server_list, setup_of, told_at, track_at, track_in, words_taken}
 use Rattle.af_enough_law.proofs.Basics.{course_long}
-use Rattle.af_enough_law.specs.CommandRounds.{CommandsTaken}
-use Rattle.af_enough_law.specs.Courses.{is_ended}
-use Rattle.af_enough_law.specs.FastFlows.{KnowsReleased}
-use Rattle.af_enough_law.specs.NormalRounds.{TurnMade}
+use Rattle.af_enough_law.proofs.CommandRounds.{CommandsTaken, commands_told, commands_taken, commands_counted, commands_known, words_follow, words_begin}
+use Rattle.af_enough_law.proofs.Courses.{is_ended}
+use Rattle.af_enough_law.proofs.FastWords.{KnowsReleased}
+use Rattle.af_enough_law.proofs.NormalRounds.{TurnMade}
 use Rattle.af_enough_law.specs.Seen.{frames_put, frames_taken}
 use Rattle.af_enough_law.proofs.AwayKeeps.{StaysOpen, looks_open}
-use Rattle.af_enough_law.proofs.CommandRounds.{commands_told, commands_taken, commands_counted, commands_known, words_follow, words_begin}
 use Rattle.af_enough_law.proofs.CourseGoes.{OnCourse, CourseGone}
 use Rattle.af_enough_law.proofs.CourseRounds.{course_ends}
 use Rattle.af_enough_law.proofs.Flushless.{unflushed_none}

@@ -4,11 +4,10 @@ use Rattle.af_enough_law.proofs.Common.{BlockTold, ClientEvent, IsSpelled, Legal
 use Rattle.af_base.specs.declared.event.ClientEvent.TheVariants as client
 use Rattle.af_base.specs.declared.event.ServerEvent.TheVariants as server
 use Rattle.af_enough_law.proofs.Basics.{course_long}
-use Rattle.af_enough_law.specs.CommandRounds.{CommandsTaken}
-use Rattle.af_enough_law.specs.FastFlows.{KnowsReleased}
-use Rattle.af_enough_law.specs.NormalRounds.{TurnMade}
+use Rattle.af_enough_law.proofs.CommandRounds.{CommandsTaken, commands_known, commands_taken, words_counted}
+use Rattle.af_enough_law.proofs.FastWords.{KnowsReleased}
+use Rattle.af_enough_law.proofs.NormalRounds.{TurnMade}
 use Rattle.af_enough_law.specs.Seen.{frames_taken}
-use Rattle.af_enough_law.proofs.CommandRounds.{commands_known, commands_taken, words_counted}
 use Rattle.af_enough_law.proofs.CommandsGo.{CalmCommands, OpenTurn, same_commands, few_after, pokeless_after, flushless_after, spelled_after, words_after}
 use Rattle.af_enough_law.proofs.CourseGoes.{OnCourse, CourseGone}
 use Rattle.af_enough_law.proofs.CourseRounds.{looks_end}

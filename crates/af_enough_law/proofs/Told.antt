@@ -1,9 +1,9 @@
 -- A track takes the words that a turn's looks take.
 use Rattle.std.proofs.Common.{◌⊎◌, inl, inr, ◌*◌, ◌≡◌, ℕ, zero, suc, ◌+◌, ◌==◌, ◌&&◌, ◌||◌, not, nat_lt, Bool, true, false, List, [], ◌∷◌, ◌++◌, length, refl, sym, ap, ◌∙◌, subst, arith, Option, Some, None, is_some, if◌then◌else◌, ◌≤◌}
-use Rattle.af_enough_law.proofs.Common.{CommandLook, HasDueLooks, Heard, IsServed, Learnt, Life, SlotReport, TrackKept, TrackSeen, after_look, after_looks, after_part, are_due, both, by_command, by_false, by_report, ended, goes_on, heard, is_found_shut, is_reached, is_shut, list_any, most_looks, must_wait, no, not_true, noted, obeyed, opens, or_nothing, ready, settled_at, shows_command, slot_reported, starts, status_word, told, words_taken}
+use Rattle.af_enough_law.proofs.Common.{CommandLook, HasDueLooks, Heard, IsServed, Learnt, Life, SlotReport, TrackKept, TrackSeen, after_look, after_looks, after_part, are_due, both, by_command, by_false, by_report, ended, goes_on, heard, is_found_shut, is_reached, is_shut, list_any, most_looks, must_wait, no, not_true, noted, obeyed, opens, or_nothing, ready, settled_at, shows_command, slot_reported, starts, status_word, told, words_taken, and_none}
 use Rattle.af_life.specs.Obeys.{commanded}
-use Rattle.af_enough_law.specs.Courses.{told_all, starts_at_once, none_shut, is_ended, reported_by}
-use Rattle.af_enough_law.specs.TrackTurns.{attended}
+use Rattle.af_enough_law.proofs.Courses.{told_all, starts_at_once, none_shut, is_ended, reported_by}
+use Rattle.af_enough_law.proofs.TrackTurns.{attended}
 
 -- a START without a flush count doesn't wait
 no_wait : (flush_seen code argument : ℕ) (life : Life) → not ((code == 2) && not (argument == 0)) ≡ true → must_wait flush_seen code argument life ≡ false
@@ -11,11 +11,7 @@ unfolding starts
 no_wait flush_seen code argument life h = by_code (code == 2) (not life.ended && _) (argument == 0) refl h
   where
     none : (b : Bool) → argument ≡ 0 → (b && nat_lt flush_seen argument) ≡ false
-    none b e = let f : nat_lt flush_seen argument ≡ false = search (arith, e) in both_off b (nat_lt flush_seen argument) f
-      where
-        both_off : (b d : Bool) → d ≡ false → (b && d) ≡ false
-        both_off true d e = e
-        both_off false d e = refl
+    none b e = let f : nat_lt flush_seen argument ≡ false = search (arith, e) in and_none b (nat_lt flush_seen argument) f
 
     by_code : (b d z : Bool) → (argument == 0) ≡ z → not (b && not z) ≡ true → ((b && d) && nat_lt flush_seen argument) ≡ false
     by_code true d true z h = none d (search (arith, z))

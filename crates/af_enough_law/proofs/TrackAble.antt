@@ -1,7 +1,7 @@
 -- What makes each track have two retries, and that a round of the middle keeps it.
 use Rattle.std.proofs.Common.{◌≡◌, ◌⊎◌, ℕ, ◌≤◌, ◌<◌, true, false, true≢false, Some, None, length, sym, ◌∙◌, arith}
 use Rattle.af_enough_law.proofs.Common.{Run, Session, sides_of, told_at, track_at, track_count}
-use Rattle.af_enough_law.specs.Nearing.{IsPast}
+use Rattle.af_enough_law.proofs.NearWords.{IsPast}
 use Rattle.af_enough_law.proofs.HomeKept.{HomeAble, home_three}
 use Rattle.af_enough_law.proofs.HomeStill.{HasNone}
 use Rattle.af_enough_law.proofs.LentAble.{LentAble, lent_three}

@@ -1,8 +1,8 @@
 -- What is carried of a track that plays through from round to round, and that a round keeps it in which the proxy of its stream takes part in the meeting.
 use Rattle.std.proofs.Common.{◌≡◌, ℕ, ◌≤◌, Bool, true, false, List, refl}
 use Rattle.af_enough_law.proofs.Common.{LegalRound, Marks, RoundSeen, Run, ServerEvent, Session, after_round, calls_in, met_after, server_list, setup_of, sides_of, takes_part, told_at, track_at, track_in}
-use Rattle.af_enough_law.specs.NormalRounds.{TurnMade}
-use Rattle.af_enough_law.specs.Playing.{AreFair}
+use Rattle.af_enough_law.proofs.NormalRounds.{TurnMade}
+use Rattle.af_enough_law.proofs.Playing.{AreFair}
 use Rattle.af_enough_law.specs.Seen.{frames_taken}
 use Rattle.af_enough_law.proofs.Able.{able_any}
 use Rattle.af_enough_law.proofs.CalmRuns.{calls_fair, goes_calm}

@@ -2,11 +2,11 @@
 use Rattle.std.proofs.Common.{◌≡◌, ◌⊎◌, inl, inr, ℕ, ◌≤◌, ◌<◌, ◌&&◌, not, is_some, Bool, true, false, true≢false, All, None, length, refl, sym, ap, ◌∙◌, arith}
 use Rattle.af_enough_law.proofs.Common.{LegalRound, Life, Marks, NormalKept, RoundSeen, Run, Session, Setting, after_round, ends_part, is_home, is_lent, is_mixed_here, is_within, learnt, met_after, not_zero, plays, server_list, setting_of, setup_of, spec_of, takes_part, told_at, track_at, track_count, turn_after}
 use Rattle.af_enough_law.proofs.Basics.{stays_home}
-use Rattle.af_enough_law.specs.Carried.{SessionCarried}
-use Rattle.af_enough_law.specs.Courses.{Course, stage}
-use Rattle.af_enough_law.specs.Ends.{IsInOrder}
-use Rattle.af_enough_law.specs.Nearing.{buffer_of, RoundFlows}
-use Rattle.af_enough_law.specs.NormalRounds.{TurnMade}
+use Rattle.af_enough_law.proofs.Carried.{SessionCarried}
+use Rattle.af_enough_law.proofs.Courses.{Course, stage}
+use Rattle.af_enough_law.proofs.Ends.{IsInOrder}
+use Rattle.af_enough_law.proofs.NearWords.{buffer_of, RoundFlows}
+use Rattle.af_enough_law.proofs.NormalRounds.{TurnMade}
 use Rattle.af_enough_law.proofs.Carrying.{TrackIs, slotless, lent, stopped, gone_over, lent_is}
 use Rattle.af_enough_law.proofs.CalmTracks.{CalmTurn}
 use Rattle.af_enough_law.proofs.CommandsGo.{OpenTurn, commands_of, opens_after}

@@ -2,7 +2,7 @@
 use Rattle.std.proofs.Common.{◌≡◌, ◌⊎◌, ℕ, ◌≤◌, ◌<◌, if◌then◌else◌, Bool, true, false, true≢false, Option, length, refl, sym, ap, ◌∙◌, subst, arith}
 use Rattle.af_enough_law.proofs.Common.{GoesOn, IsServed, Learnt, Life, NormalKept, Outside, Setup, TrackKept, Turn, after_part, by_report, heard, learnt, nothing_seen, plays, ready, ready_life, report_ends, track_at, track_in, turn_after, words_taken}
 use Rattle.af_life.specs.Obeys.{commanded}
-use Rattle.af_enough_law.specs.TrackTurns.{attended, TrackTurned}
+use Rattle.af_enough_law.proofs.TrackTurns.{attended, TrackTurned}
 use Rattle.af_enough_law.proofs.Able.{commanded_keeps}
 use Rattle.af_enough_law.proofs.Following.{greeted_in, greeted_alike, edited_alike, legal_greeted, by_true}
 use Rattle.af_enough_law.proofs.SentPlain.{plain_words, InPlay, commanded_in, stays_in}

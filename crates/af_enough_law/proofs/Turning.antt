@@ -2,7 +2,7 @@
 use Rattle.std.proofs.Common.{◌≡◌, ◌⊎◌, inl, inr, ℕ, ◌+◌, ◌-◌, ◌≤◌, ◌==◌, ◌||◌, Bool, true, false, List, [], ◌∷◌, ◌++◌, length, fold, refl, sym, ap, ◌∙◌, subst, arith, true≢false, Option, Some, None, if◌then◌else◌}
 use Rattle.af_enough_law.proofs.Common.{AreCalls, Client, ClientCall, ClientEvent, IsMade, Mode, Op, Side, Track, Want, after_answer, after_call, append-nil, asked_first, at_next_turn, begins, begins_ended, begun, client_begins, client_keeps, client_kept, commands_sent, fold-append, next_want, rest_of, rested, some_same, wanted_of, wants_of, with_call}
 use Rattle.af_base.specs.declared.event.ClientCall.TheVariants as call
-use Rattle.af_enough_law.specs.Playing.{Doing, opening, starting, settling, setting, writing, clearing, clearing_more, stopping, draining, removing, IsFair, AreFair, position}
+use Rattle.af_enough_law.proofs.Playing.{Doing, opening, starting, settling, setting, writing, clearing, clearing_more, stopping, draining, removing, IsFair, AreFair, position}
 use Rattle.af_enough_law.proofs.Doing.{at, waiting_at, ops_count, frames_count, codes_sent, codes_of, all_codes, After, goes, waits, over, put_of, sent_of, step}
 use Rattle.af_enough_law.proofs.PlainClients.{answered_by}
 

@@ -2,19 +2,16 @@
 use Rattle.std.proofs.Common.{◌≡◌, ◌⊎◌, inl, inr, ℕ, zero, suc, ◌+◌, ◌<◌, ◌≤◌, ◌==◌, ◌&&◌, ◌||◌, not, if◌then◌else◌, Bool, true, false, true≢false, All, List, [], ◌∷◌, length, refl, sym, ap, ◌∙◌, subst, arith, eqb-true}
 use Rattle.af_enough_law.proofs.Common.{ColdIdle, Exit, LegalRound, Marks, MixWrite, NormalKept, RoundSeen, Run, Session, Setting, TrackKept, after_round, and_none, code_of, cycle_frames, initial_none, commands_exit, is_home, is_over, learnt, length-replicate, new_run, new_track, next_command, pipe_size, setup_of, sound_new, track_at, turn_after, turn_len}
 use Rattle.af_enough_law.proofs.Basics.{none_exit}
-use Rattle.af_enough_law.specs.Drafts.{is_busy, PushMade}
-use Rattle.af_enough_law.specs.EndPhases.{NoExits}
-use Rattle.af_enough_law.specs.NormalRounds.{TurnMade}
-use Rattle.af_enough_law.specs.PipeFlows.{KnowsPipe, in_pipe, pipe_put, put_in}
-use Rattle.af_enough_law.specs.Underway.{IsIdle, Underway}
+use Rattle.af_enough_law.proofs.Drafts.{is_busy, PushMade, command_turned, turn_pushes}
+use Rattle.af_enough_law.proofs.EndWords.{NoExits, IsIdle, Underway}
+use Rattle.af_enough_law.proofs.NormalRounds.{TurnMade, turn_made}
+use Rattle.af_enough_law.proofs.PipeFlows.{KnowsPipe, in_pipe, pipe_put, put_in}
 use Rattle.af_enough_law.proofs.CourseRounds.{goes_unless_exit}
-use Rattle.af_enough_law.proofs.Drafts.{command_turned, turn_pushes}
 use Rattle.af_enough_law.proofs.EndPhases.{ended_after}
 use Rattle.af_enough_law.proofs.EndPipe.{drained_by}
 use Rattle.af_enough_law.proofs.EndRounds.{order_round}
 use Rattle.af_enough_law.proofs.FastLearns.{learns_states, new_counts}
 use Rattle.af_enough_law.proofs.LastStates.{new_last, round_going, round_last}
-use Rattle.af_enough_law.proofs.NormalRounds.{turn_made}
 use Rattle.af_enough_law.proofs.PipeRounds.{knows_pipe, pipe_puts, pipe_within}
 use Rattle.af_enough_law.proofs.QueueRounds.{new_stands, queue_stands}
 use Rattle.af_enough_law.proofs.RestTurns.{no_exits_round}

@@ -3,10 +3,9 @@ use Rattle.std.proofs.Common.{◌≡◌, ℕ, zero, suc, ◌||◌, not, nat_le, 
 use Rattle.af_enough_law.proofs.Common.{Learnt, Marks, NormalKept, RoundSeen, Run, Session, Setup, TakeSeen, TrackKept, Turn, after_edits, after_round, and_none, asked as buffer, is_mixed_here, learnt, list_any, mixed_here, neither, plays, put_by, range_with_len, setup_of, track_at, tracks_due, turn_after}
 use Rattle.af_judge.proofs.NormalKept.{goes_on_so}
 use Rattle.af_judge.proofs.TurnEdits.{due_after}
-use Rattle.af_enough_law.specs.Ends.{AllOver}
-use Rattle.af_enough_law.specs.NormalRounds.{TurnMade}
-use Rattle.af_enough_law.specs.PipeFlows.{put_in}
-use Rattle.af_enough_law.proofs.Ends.{silent}
+use Rattle.af_enough_law.proofs.Ends.{AllOver, silent}
+use Rattle.af_enough_law.proofs.NormalRounds.{TurnMade}
+use Rattle.af_enough_law.proofs.PipeFlows.{put_in}
 
 -- some track is to be heard
 abbrev pub some_heard : List TrackKept → Bool

@@ -9,12 +9,6 @@ use Rattle.af_runs.specs.LegalRuns.{marks_of, session_of, run_from, LegalRounds,
 use Rattle.af_runs.specs.Runs.{new_run, told_at, all_ended}
 use Rattle.af_enough.specs.Enough.{all_play_through, enough_rounds, HasEnoughCycles}
 
--- these rounds are legal by these marks, the log is full after them, and some party hasn't ended
-pub record AreCutOff (script : ScriptData) (files : List (List Frame)) (marks : Marks) (rounds : List RoundSeen) : Type 0 where
-  pub legal : LegalRounds true (session_of script files) marks (new_run (session_of script files)) rounds
-  pub full : length (run_from (session_of script files) (new_run (session_of script files)) rounds).entries ≡ script.cycles
-  pub going : all_ended (session_of script files) (run_from (session_of script files) (new_run (session_of script files)) rounds) ≡ false
-
 -- as many first rounds as are enough, in each of which the fast mixer made its whole turn, and some party hasn't ended after them
 pub record StillGoes (script : ScriptData) (files : List (List Frame)) (marks : Marks) : Type 0 where
   pub rounds : List RoundSeen

@@ -1,9 +1,8 @@
 -- What an event of one party sees of another party's list, and what it had learnt of it.
-use Rattle.std.specs.Prelude.{◌≡◌, ℕ, ◌+◌, ◌≤◌, ◌==◌, ◌&&◌, not, Bool, true, false, List, [], ◌∷◌, ◌++◌, length, fold, Option}
+use Rattle.std.specs.Prelude.{◌≡◌, ℕ, ◌+◌, ◌≤◌, true, List, [], ◌∷◌, ◌++◌, length, fold, Option}
 use Rattle.af_base.specs.declared.event.ClientEvent.{ClientEvent}
 use Rattle.af_base.specs.declared.event.ClientEvent.TheVariants as client
 use Rattle.af_base.specs.declared.event.HandEvent.{HandEvent}
-use Rattle.af_base.specs.declared.event.HandEvent.TheVariants as hand
 use Rattle.af_base.specs.declared.event.ServerEvent.{ServerEvent}
 use Rattle.af_base.specs.declared.event.ServerEvent.TheVariants as server
 use Rattle.af_base.specs.declared.state.FastState.{FastState}
@@ -13,7 +12,6 @@ use Rattle.af_model.specs.declared.newest.WriterEvent.{WriterEvent}
 use Rattle.af_model.specs.declared.newest.WriterEvent.TheVariants as writes
 use Rattle.af_model.specs.Order.{HasOrder}
 use Rattle.af_model.specs.Reports.{no_report}
-use Rattle.af_runs.specs.Clients.{state_in}
 use Rattle.af_runs.specs.Told.{Item}
 use Rattle.af_base.specs.declared.report.Report.{Report}
 use Rattle.af_model.specs.declared.shape.Shape.{Shape}
@@ -125,25 +123,3 @@ StatusIsSeen k before behind others word released taken hand = block.HasHistory 
 abbrev pub BlockRearIsSeen : Shape → (before behind : List ServerEvent) → List ClientEvent → ℕ → (released taken : List ℕ) → List HandEvent → Type 0
 BlockRearIsSeen k before behind others rear released taken hand = block.HasHistory k others released (before ++ server.SawRear rear ∷ behind) taken hand
     → Sees others (λ n. Stands (server.Learn n) before) (λ seen. rear ≡ wrapped (k.base + frames_put seen))
-
--- ## A block whose flags stay calm
-
--- nothing is dropped, no flags but UNDERRUN are set, and no status says that the track was shut
-abbrev pub is_calm : ServerEvent → Bool
-is_calm (server.Drop to) = false
-is_calm (server.SetFlags bits) = bits == 1
-is_calm (server.SetStatus word) = not (state_in word == 15)
-is_calm _ = true
-
-abbrev pub are_calm : List ServerEvent → Bool
-are_calm [] = true
-are_calm (e ∷ es) = is_calm e && are_calm es
-
--- the hand sets no flag
-abbrev pub is_hand_calm : HandEvent → Bool
-is_hand_calm (hand.SetFlags bits) = false
-is_hand_calm (hand.Met count) = true
-
-abbrev pub are_hands_calm : List HandEvent → Bool
-are_hands_calm [] = true
-are_hands_calm (e ∷ es) = is_hand_calm e && are_hands_calm es

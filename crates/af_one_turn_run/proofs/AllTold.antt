@@ -1,12 +1,12 @@
 -- In a turn run in which each stream proxy takes part in the last meeting all rounds are told.
 use Rattle.std.proofs.Common.{◌≡◌, ℕ, ◌<◌, true, List, [], ◌∷◌, length, sym, ap, ◌∙◌, subst, arith}
-use Rattle.af_one_turn_run.proofs.Common.{AreTurns, IsHistoryAsTold, IsScript, Marks, RoundSeen, Run, Session, TrackTold, TurnSpec, ends_part, file_words, met_alone, run_alone, taken_of, takes_part, told_at, track_count, with_ends}
+use Rattle.af_one_turn_run.proofs.Common.{AreTurns, IsHistoryAsTold, IsScript, Marks, RoundSeen, Run, Session, TrackTold, TurnSpec, ends_part, file_words, met_alone, run_alone, taken_of, takes_part, told_at, track_count, with_ends, ends_blocks}
 use Rattle.af_runs.specs.Blocks.{is_tame}
 use Rattle.af_one_turn_run.proofs.FileWords.{taken_of_file}
 use Rattle.af_one_turn_run.proofs.Growing.{told_before}
 use Rattle.af_one_turn_run.proofs.OneRounds.{AllTold}
 use Rattle.af_one_turn_run.proofs.OneTurn.{IsBlockTold}
-use Rattle.af_one_turn_run.proofs.RoundFollows.{told_legally, told_taken_of, told_frames, RoundReady, RoundForm, round_follows, met_alone_follows, round_ready, ends_streams}
+use Rattle.af_one_turn_run.proofs.RoundFollows.{told_legally, told_taken_of, told_frames, RoundReady, RoundForm, round_follows, met_alone_follows, round_ready}
 use Rattle.af_one_turn_run.proofs.RunFiles.{IsOfFile, AreOfFiles, met_alone_files, ends_files}
 use Rattle.af_one_turn_run.proofs.RunFollows.{Follows, follows_not, follows_then, ends_follow}
 
@@ -60,7 +60,7 @@ module _ (s : Session) (form : IsScript s.script) (many : ℕ) (marks : Marks) w
       let counted : n < track_count s = (let c = h.count in omega (arith, c, low)) in
       let here : IsBlockTold (file_words s n) (told_at last n).stream = block_of_file (file_words s n) (told_at last n) (met_alone_files s run turn round files n few)
       (are.1.streams n counted (sym (ends_part s last n) ∙ part n low) (tame.0 n low).0) in
-      subst (IsBlockTold (file_words s n)) (sym (ends_streams s form many last n few)) here
+      subst (IsBlockTold (file_words s n)) (sym (ends_blocks last n few).0) here
   last_told run turn (next_turn ∷ turns) (round ∷ rounds) h files forms are tame part =
       let last = met_alone s run turn round in
       let f = met_alone_follows s form many run turn round forms.0 in

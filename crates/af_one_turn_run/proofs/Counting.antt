@@ -1,12 +1,10 @@
 -- As many frames are taken as the takes of a server's events say.
 use Rattle.std.proofs.Common.{◌≡◌, ℕ, ◌+◌, ◌-◌, ◌<◌, ◌==◌, ◌&&◌, not, Bool, true, false, if◌then◌else◌, is_some, map, List, [], ◌∷◌, ◌++◌, length, All, refl, sym, ◌∙◌, arith, length-append}
-use Rattle.af_one_turn_run.proofs.Common.{All-head, All-tail, BlockTold, EntrySeen, IsTake, Listed, NormalKept, Outside, Seen, ServerEvent, Setup, SlotEntry, TakeSeen, Turn, events_behind_look, asked as buffer, by_hand, by_server, count_seen, cycle_events, entry_slot, flat_map, front_of, going, hand_events_of, heard, invalid, is_found_shut, is_home, kept, learnt, length-map, listed, look_events, mix_events, packed_word, played, server_does, slot_frames, slots, stream_list, stream_turned, taken_before, takes_from, tally, took, track_at, track_in, tracks_at}
+use Rattle.af_one_turn_run.proofs.Common.{All-head, All-tail, BlockTold, EntrySeen, IsTake, Listed, NormalKept, Outside, Seen, ServerEvent, Setup, SlotEntry, TakeSeen, Turn, events_behind_look, asked as buffer, by_hand, by_server, count_seen, cycle_events, entry_slot, flat_map, front_of, going, hand_events_of, heard, invalid, is_found_shut, is_home, kept, learnt, length-map, listed, look_events, mix_events, packed_word, played, server_does, slot_frames, slots, stream_list, stream_turned, taken_before, takes_from, tally, took, track_at, track_in, tracks_at, told_more}
 use Rattle.af_base.specs.declared.event.ServerEvent.TheVariants as server
 use Rattle.af_base.specs.declared.seen.Seen.TheVariants as seen
-use Rattle.af_one_turn_run.specs.Growing.{takes_in, IsCounted}
-use Rattle.af_one_turn_run.specs.Told.{told_more}
+use Rattle.af_one_turn_run.proofs.Growing.{takes_in, IsCounted, takes_more, hand_takes}
 use Rattle.af_one_turn_run.proofs.EntrySlots.{slot_long}
-use Rattle.af_one_turn_run.proofs.Growing.{takes_more, hand_takes}
 
 -- how many frames the events of a server take
 abbrev pub served_in : List ServerEvent → ℕ

@@ -1,6 +1,6 @@
 -- An entry is told by its slots: by what each shows, and by the words of the frames that it took.
 use Rattle.std.proofs.Common.{◌≡◌, inl, inr, ℕ, zero, suc, ◌+◌, ◌<◌, ◌≤◌, ◌==◌, ◌&&◌, Bool, true, false, true≢false, if◌then◌else◌, find, map, ◌++◌, take, drop, length, All, Some, refl, sym, ap, ◌∙◌, subst, arith, eqb-true, eq-eqb}
-use Rattle.af_one_turn_run.proofs.Common.{CarriesApart, CycleEntry, EntrySeen, FastState, IsFrame, SlotEntry, absent, both, carries, cases_eq, count_seen, entry_slot, ext_get_or, length-drop, length-take, map-append, packed_word, place_of, shows_slot, range_with_len, slot_playing, slot_frames, slot_of, slots, take_all, taken_before}
+use Rattle.af_one_turn_run.proofs.Common.{CarriesApart, CycleEntry, EntrySeen, FastState, IsFrame, SlotEntry, absent, both, carries, cases_eq, count_seen, entry_slot, ext_get_or, length-drop, length-take, map-append, packed_word, place_of, shows_slot, range_with_len, slot_playing, slot_frames, slot_of, slots, take_all, taken_before, both_true}
 use Rattle.af_one_turn_run.proofs.Parts.{take-add}
 use Rattle.af_one_turn_run.proofs.OneFrames.{one_frames}
 use Rattle.af_one_turn_run.proofs.OneTakes.{bare_slot}
@@ -18,13 +18,10 @@ find_only p a (suc n) k holds only low high = by_first (p a) refl (λ ne. find_o
 
 pub slot_found : (x : FastState) (entry : CycleEntry) (i : ℕ) → CarriesApart x → i < slots → carries x i ≡ true → shows_slot x entry i ≡ true → slot_playing x entry (slot_of x i).track ≡ Some i
 slot_found x entry i apart low carried here =
-    find_only (λ j. shows_slot x entry j && ((slot_of x j).track == (slot_of x i).track)) 0 slots i (both_yes (shows_slot x entry i) _ here (same_yes (slot_of x i).track))
+    find_only (λ j. shows_slot x entry j && ((slot_of x j).track == (slot_of x i).track)) 0 slots i (both_true (shows_slot x entry i) _ here (same_yes (slot_of x i).track))
     (λ j lt p. let two = both (shows_slot x entry j) ((slot_of x j).track == (slot_of x i).track) p in apart j i (omega (arith, lt)) low (both (carries x j) _ two.0).0 carried (eqb-true (slot_of x j).track (slot_of x i).track two.1))
     (omega arith) (omega (arith, low))
   where
-    both_yes : (a b : Bool) → a ≡ true → b ≡ true → (a && b) ≡ true
-    both_yes a b e f = λ i. e i && f i
-
     same_yes : (n : ℕ) → (n == n) ≡ true
     same_yes n = eq-eqb n n refl
 

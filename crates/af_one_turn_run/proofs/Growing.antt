@@ -1,13 +1,36 @@
 -- A block that was told right is told right at each earlier place.
 use Rattle.std.proofs.Common.{◌≡◌, ℕ, ◌+◌, ◌-◌, ◌≤◌, Bool, true, false, map, List, [], ◌∷◌, ◌++◌, take, drop, length, refl, sym, ap, ◌∙◌, subst, arith, length-append, append-nil, append_assoc}
-use Rattle.af_one_turn_run.proofs.Common.{BlockTold, ClientEvent, HandEvent, IsLegal, Moment, ServerEvent, Shape, TrackPoint, after, by_client, by_hand, by_server, length-take, start, stream_met, taken_of, with_taken}
+use Rattle.af_one_turn_run.proofs.Common.{BlockTold, ClientEvent, HandEvent, IsLegal, Moment, ServerEvent, Shape, TrackPoint, after, by_client, by_hand, by_server, length-take, start, stream_met, taken_of, with_taken, told_more}
 use Rattle.af_base.specs.declared.event.ServerEvent.TheVariants as server
-use Rattle.af_one_turn_run.specs.Growing.{Grows, takes_by, takes_in, IsCounted}
-use Rattle.af_one_turn_run.specs.Taking.{IsTakenOf}
-use Rattle.af_one_turn_run.specs.Told.{told_more, IsToldLegally}
+use Rattle.af_one_turn_run.proofs.Taking.{IsTakenOf}
+use Rattle.af_one_turn_run.proofs.Told.{IsToldLegally}
 use Rattle.af_one_turn_run.proofs.LegalFronts.{legal_front}
 use Rattle.af_one_turn_run.proofs.OneLooks.{same_parts}
 use Rattle.af_one_turn_run.proofs.OneTurn.{IsBlockTold}
+
+-- on a block of the same shape more was told, and more taken
+pub record Grows (b after : BlockTold) : Type 0 where
+  pub shape : after.shape ≡ b.shape
+  pub moments : List Moment
+  pub told : after.told ≡ told_more b.told moments
+  pub words : List ℕ
+  pub taken : after.taken ≡ b.taken ++ words
+
+-- how many frames an event takes
+abbrev pub takes_by : ServerEvent → ℕ
+takes_by (server.Take count) = count
+takes_by _ = 0
+
+-- how many frames the takes among these moments cover
+abbrev pub takes_in : List Moment → ℕ
+takes_in [] = 0
+takes_in (by_client e ∷ told) = takes_in told
+takes_in (by_server e ∷ told) = takes_by e + takes_in told
+takes_in (by_hand e ∷ told) = takes_in told
+
+-- as many frames of a block are taken as the takes say
+abbrev pub IsCounted : BlockTold → Type 0
+IsCounted b = length b.taken ≡ takes_in b.told
 
 -- ## More and more
 

@@ -1,8 +1,7 @@
 -- In a legal order of a block each event sees what those before it left.
 use Rattle.std.proofs.Common.{ℕ, map, List, [], ◌∷◌, ◌++◌, length}
-use Rattle.af_one_turn_run.proofs.Common.{ClientEvent, IsLegal, Moment, ServerEvent, TrackPoint, after, after_client, after_server, by_client, by_server, client_of, server_of}
-use Rattle.af_one_turn_run.specs.Seeing.{after_clients, after_servers, ClientSees, ServerSees}
-use Rattle.af_one_turn_run.specs.Told.{told_more}
+use Rattle.af_one_turn_run.proofs.Common.{ClientEvent, IsLegal, Moment, ServerEvent, TrackPoint, after, after_client, after_server, by_client, by_server, client_of, server_of, told_more}
+use Rattle.af_one_turn_run.proofs.Seeing.{after_clients, after_servers, ClientSees, ServerSees}
 
 -- what comes first is legal
 pub legal_front : (p : TrackPoint) (told moments : List Moment) → IsLegal p (told_more told moments) → IsLegal p told

@@ -1,4 +1,7 @@
 pub mod Common
+pub mod Told
+pub mod Taking
+pub mod Seeing
 pub mod OneAnswer
 pub mod LegalFronts
 pub mod OneClientTurn
@@ -23,6 +26,5 @@ pub mod OneRounds
 pub mod FileWords
 pub mod RunFiles
 pub mod AllTold
-pub mod PlainClients
 pub mod PlainRuns
 pub mod OneTurnRun

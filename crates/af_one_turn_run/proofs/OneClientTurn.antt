@@ -1,9 +1,9 @@
 -- A client has one turn by what its blocks tell.
 use Rattle.std.proofs.Common.{◌≡◌, ◌⊎◌, inl, inr, ℕ, ◌-◌, ◌≤◌, Bool, true, false, true≢false, if◌then◌else◌, fold, map, List, [], ◌∷◌, ◌++◌, drop, length, Option, Some, None, refl, sym, ap, ◌∙◌, subst, arith, append_assoc, append-nil, is_some, unwrap_or}
-use Rattle.af_one_turn_run.proofs.Common.{AreCalls, ClientCall, ClientEvent, IsLegal, IsMade, LegalClientTurn, MatchBool, Side, Track, TrackTold, Want, after, after_call, by_client, called_in_turn, client_list, is_of_commands, most_calls, released_by, server_of, side_of, sides_of, start, wanted_of}
+use Rattle.af_one_turn_run.proofs.Common.{AreCalls, ClientCall, ClientEvent, IsLegal, IsMade, LegalClientTurn, MatchBool, Side, Track, TrackTold, Want, after, after_call, by_client, called_in_turn, client_list, is_of_commands, most_calls, released_by, server_of, side_of, sides_of, start, wanted_of, told_more}
 use Rattle.af_runs.specs.ClientTurns.{called as side_called}
-use Rattle.af_one_turn_run.specs.Seeing.{after_clients, ClientSees}
-use Rattle.af_one_turn_run.specs.Told.{told_more, IsTrackLegal}
+use Rattle.af_one_turn_run.proofs.Seeing.{after_clients, ClientSees}
+use Rattle.af_one_turn_run.proofs.Told.{IsTrackLegal}
 use Rattle.af_one_turn_run.proofs.LegalFronts.{client_front, client_parts}
 use Rattle.af_one_turn_run.proofs.OneAnswer.{Points, point_at, served_at, events_by, CallSees, one_answer}
 

@@ -8,7 +8,7 @@ use Rattle.af_model.specs.Order.{point_after as after_both}
 use Rattle.af_model.specs.PipeHistory as piped
 use Rattle.af_runs.proofs.Basics.{absent_at, shown_if}
 use Rattle.af_judge.proofs.EntryLegal.{twos-more}
-use Rattle.af_one_turn_run.specs.Taking.{IsTakenOf}
+use Rattle.af_one_turn_run.proofs.Taking.{IsTakenOf}
 use Rattle.af_one_turn_run.proofs.EntrySlots.{AreAlike, slot_found, slot_long, same_frames, same_slots}
 use Rattle.af_one_turn_run.proofs.LegalFronts.{server_front}
 use Rattle.af_one_turn_run.proofs.OneTakes.{bare_slot, SlotTold, one_slot}

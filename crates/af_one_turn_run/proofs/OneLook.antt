@@ -4,7 +4,7 @@ use Rattle.af_one_turn_run.proofs.Common.{Listed, LooksBy, MatchOption, Seen, Se
 use Rattle.af_base.specs.declared.seen.Seen.TheVariants as seen
 use Rattle.af_model.specs.Room.{ahead}
 use Rattle.af_model.specs.Spelled.{own_front}
-use Rattle.af_one_turn_run.specs.Seeing.{ServerSees}
+use Rattle.af_one_turn_run.proofs.Seeing.{ServerSees}
 
 -- ## The front that is told is the one by which the look answers
 

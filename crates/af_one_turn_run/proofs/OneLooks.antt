@@ -4,8 +4,8 @@ use Rattle.af_one_turn_run.proofs.Common.{CommandLook, HasWords, LegalLooks, Lis
 use Rattle.af_base.specs.declared.event.ServerEvent.TheVariants as server
 use Rattle.af_base.specs.declared.seen.Seen.TheVariants as seen
 use Rattle.af_life.specs.Obeys.{after_look}
-use Rattle.af_one_turn_run.specs.Seeing.{after_servers, ServerSees}
-use Rattle.af_one_turn_run.specs.Taking.{taken_by, HasFrames}
+use Rattle.af_one_turn_run.proofs.Seeing.{after_servers, ServerSees}
+use Rattle.af_one_turn_run.proofs.Taking.{taken_by, HasFrames}
 use Rattle.af_one_turn_run.proofs.LegalFronts.{server_parts}
 use Rattle.af_one_turn_run.proofs.OneLook.{Look, look_of, looked, looks_by, look_so, events_told}
 use Rattle.af_one_turn_run.proofs.TakenWords.{frames_after, taken_parts}

@@ -6,8 +6,8 @@ use Rattle.af_model.specs.NewestValue as newest
 use Rattle.af_model.specs.PipeHistory as piped
 use Rattle.af_model.specs.StateQueue as queued
 use Rattle.af_script.specs.declared.op.TurnSpec.TheVariants as makes
-use Rattle.af_one_turn_run.specs.Taking.{IsTakenOf}
-use Rattle.af_one_turn_run.specs.Told.{IsToldLegally, IsTrackLegal}
+use Rattle.af_one_turn_run.proofs.Taking.{IsTakenOf}
+use Rattle.af_one_turn_run.proofs.Told.{IsToldLegally, IsTrackLegal}
 use Rattle.af_one_turn_run.proofs.Growing.{grows_met, legal_before, told_before}
 use Rattle.af_one_turn_run.proofs.OneClientTurn.{one_client_turn}
 use Rattle.af_one_turn_run.proofs.OneFast.{CyclesTold, one_fast, told_earlier, cycles_follow, cycle_put}

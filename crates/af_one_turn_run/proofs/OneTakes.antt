@@ -1,11 +1,11 @@
 -- What a turn of the normal mixer takes for its buffer is determined by what the stream blocks tell.
 use Rattle.std.proofs.Common.{◌≡◌, ℕ, ◌+◌, ◌<◌, ◌≤◌, Bool, true, false, if◌then◌else◌, is_some, map, List, [], ◌∷◌, ◌++◌, drop, length, All, refl, sym, ap, ◌∙◌, subst, arith, append-nil, ne_eqb}
-use Rattle.af_one_turn_run.proofs.Common.{AllByRecursion, BlockTold, HandEvent, IsFrame, Learnt, Listed, LooksBy, Moment, NormalKept, ServerEvent, Setup, Shape, SlotEntry, TakeSeen, TrackKept, TrackPoint, TracksRise, Turn, TurnFound, after, events_behind_look, asked as buffer, by_hand, client_of, cycle_events, flat_map, front_of, going, hand_events_of, invalid, is_home, kept, lawful_front, learnt, listed, mix_events, outside_of, packed_word, slice_index_or, start, stream_list, stream_turned, take_front, taken_of, takes_from, track_at, track_in, tracks_at}
+use Rattle.af_one_turn_run.proofs.Common.{AllByRecursion, BlockTold, HandEvent, IsFrame, Learnt, Listed, LooksBy, Moment, NormalKept, ServerEvent, Setup, Shape, SlotEntry, TakeSeen, TrackKept, TrackPoint, TracksRise, Turn, TurnFound, after, events_behind_look, asked as buffer, by_hand, client_of, cycle_events, flat_map, front_of, going, hand_events_of, invalid, is_home, kept, lawful_front, learnt, listed, mix_events, outside_of, packed_word, slice_index_or, start, stream_list, stream_turned, take_front, taken_of, takes_from, track_at, track_in, tracks_at, told_more}
 use Rattle.af_base.specs.declared.event.ServerEvent.TheVariants as server
 use Rattle.af_judge.proofs.TurnExactly.{first_of, others_of}
-use Rattle.af_one_turn_run.specs.Seeing.{after_servers, ServerSees}
-use Rattle.af_one_turn_run.specs.Taking.{taken_by, IsTakenOf}
-use Rattle.af_one_turn_run.specs.Told.{told_more, IsToldLegally}
+use Rattle.af_one_turn_run.proofs.Seeing.{after_servers, ServerSees}
+use Rattle.af_one_turn_run.proofs.Taking.{taken_by, IsTakenOf}
+use Rattle.af_one_turn_run.proofs.Told.{IsToldLegally}
 use Rattle.af_one_turn_run.proofs.LegalFronts.{server_front, server_parts}
 use Rattle.af_one_turn_run.proofs.OneFrames.{one_frames}
 use Rattle.af_one_turn_run.proofs.OneLook.{looks_by, looked, look_so, events_told}

@@ -5,9 +5,9 @@ use Rattle.af_base.specs.declared.event.ServerEvent.TheVariants as server
 use Rattle.af_life.specs.declared.kept.Heard.{Heard}
 use Rattle.af_life.specs.Obeys.{slot_for}
 use Rattle.af_life.specs.Reports.{told_by_report}
-use Rattle.af_one_turn_run.specs.Seeing.{after_servers, ServerSees}
-use Rattle.af_one_turn_run.specs.Taking.{taken_by, IsTakenOf, HasFrames}
-use Rattle.af_one_turn_run.specs.Told.{IsToldLegally}
+use Rattle.af_one_turn_run.proofs.Seeing.{after_servers, ServerSees}
+use Rattle.af_one_turn_run.proofs.Taking.{taken_by, IsTakenOf, HasFrames}
+use Rattle.af_one_turn_run.proofs.Told.{IsToldLegally}
 use Rattle.af_one_turn_run.proofs.LegalFronts.{server_front, server_parts}
 use Rattle.af_one_turn_run.proofs.OneLooks.{AreTold, one_looks, all_told}
 use Rattle.af_one_turn_run.proofs.TakenWords.{taken_parts, words_told}

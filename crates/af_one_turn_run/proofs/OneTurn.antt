@@ -1,12 +1,12 @@
 -- A turn of the normal mixer is determined by what the blocks, the queue, the report and the pipe tell.
 use Rattle.std.proofs.Common.{◌≡◌, ℕ, ◌+◌, ◌%◌, ◌^◌, ◌<◌, ◌&&◌, ◌||◌, max, min, Bool, true, false, map, List, [], ◌∷◌, ◌++◌, length, All, refl, sym, ap, ◌∙◌, subst, arith}
-use Rattle.af_one_turn_run.proofs.Common.{All-head, All-tail, AllByRecursion, BlockTold, GoesOn, IsOpenTurn, IsQueueAsTold, IsReportAsTold, IsTake, Item, Learnt, Legal, LegalPush, LegalTake, LegalTrack, LegalTurn, Load, LooksBy, NormalKept, QueuePoint, Run, Session, Setup, TakeSeen, TrackKept, TrackPoint, TrackSeen, Turn, TurnFound, after, after_ack, after_edits, asked, client_of, commands_turned, cycle_frames, ends_now, found_before, front_by_room, going, hand_events_of, initial, commands_exit, known_by, lawful_front, learnt, listed, most_round_cycles, mutated, no_report, number_seen, outside_of, outside_with, pipe_size, pipe_turned, queue_turned, report_of, served_to, setup_of, start, stream_turned, take_front, told_at, track_in, tracks_at, tracks_due, two}
+use Rattle.af_one_turn_run.proofs.Common.{All-head, All-tail, AllByRecursion, BlockTold, GoesOn, IsOpenTurn, IsQueueAsTold, IsReportAsTold, IsTake, Item, Learnt, Legal, LegalPush, LegalTake, LegalTrack, LegalTurn, Load, LooksBy, NormalKept, QueuePoint, Run, Session, Setup, TakeSeen, TrackKept, TrackPoint, TrackSeen, Turn, TurnFound, after, after_ack, after_edits, asked, client_of, commands_turned, cycle_frames, ends_now, found_before, front_by_room, going, hand_events_of, initial, commands_exit, known_by, lawful_front, learnt, listed, most_round_cycles, mutated, no_report, number_seen, outside_of, outside_with, pipe_size, pipe_turned, queue_turned, report_of, served_to, setup_of, start, stream_turned, take_front, told_at, track_in, tracks_at, tracks_due, two, and_false}
 use Rattle.af_model.specs.NewestValue as newest
 use Rattle.af_model.specs.Order.{point_after as after_both}
 use Rattle.af_model.specs.PipeHistory as piped
 use Rattle.af_model.specs.StateQueue as queued
-use Rattle.af_one_turn_run.specs.Taking.{IsTakenOf, HasFrames}
-use Rattle.af_one_turn_run.specs.Told.{IsToldLegally}
+use Rattle.af_one_turn_run.proofs.Taking.{IsTakenOf, HasFrames}
+use Rattle.af_one_turn_run.proofs.Told.{IsToldLegally}
 use Rattle.af_one_turn_run.proofs.OneLooks.{AreTold}
 use Rattle.af_one_turn_run.proofs.OneShared.{PushSees, ack_seen, push_seen, one_push, report_seen, room_seen, one_room}
 use Rattle.af_one_turn_run.proofs.OneTakes.{handed, played_from, before_play, IsTakeTold, take_told, one_mixes}
@@ -57,11 +57,7 @@ module _ (s : Session) (run : Run) (many : ℕ) (frames : ℕ → List ℕ) wher
     acked e t = ack_seen queue_point c (learnt (outside_of c (found e) e)) m e _ _ _ h.runs (legal_parts queued.legal queued.next (queued.start_of_queue (initial (cycle_frames s))) run.queue _ t.queue).1
 
     ack_low : (e : Turn) → IsTurnTold e → e.ack ≡ false → 0 < m.pushed
-    ack_low e t none = (t.legal.goes_on (t.legal.ends ∙ (λ i. h.runs i || (commands_exit m.last && none i)) ∙ and_none (commands_exit m.last))).ack none
-      where
-        and_none : (b : Bool) → (b && false) ≡ false
-        and_none true = refl
-        and_none false = refl
+    ack_low e t none = (t.legal.goes_on (t.legal.ends ∙ (λ i. h.runs i || (commands_exit m.last && none i)) ∙ and_false (commands_exit m.last))).ack none
 
     same_ack : (a b : Turn) → IsTurnTold a → IsTurnTold b → a.ack ≡ b.ack
     same_ack a b t u = by_acks a.ack b.ack (acked a t ∙ sym (acked b u)) (ack_low a t) (ack_low b u)

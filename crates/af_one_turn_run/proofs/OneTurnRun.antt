@@ -3,13 +3,13 @@ use Rattle.std.proofs.Common.{◌≡◌, ℕ, zero, suc, ◌+◌, true, List, []
 use Rattle.af_one_turn_run.proofs.Common.{All-head, All-tail, AreEntries, AreTurns, EntrySeen, Frame, IsHistoryAsTold, IsRound, IsScript, IsTurnRun, JournalData, Marks, RoundSeen, Session, Shape, TrackTold, entries_of, file_words, kept_new, marks_of, new_at, new_block, new_long, new_run, no_spec, session_of, slice_index_or, taken_by, track_count}
 use Rattle.af_script.specs.Data.{ScriptData}
 use Rattle.af_script.specs.declared.track.TrackSpec.{TrackSpec}
-use Rattle.af_one_turn_run.specs.Growing.{takes_in}
+use Rattle.af_one_turn_run.proofs.Growing.{takes_in}
 use Rattle.af_one_turn_run.specs.MetLast.{AllMetLast}
 use Rattle.af_one_turn_run.specs.NoPokes.{PlainOps, PlainTracks}
 use Rattle.af_one_turn_run.proofs.AllTold.{AllForms, all_told}
 use Rattle.af_one_turn_run.proofs.OneFast.{AreForms}
 use Rattle.af_one_turn_run.proofs.OneRounds.{AllTold, one_rounds}
-use Rattle.af_one_turn_run.proofs.PlainRuns.{IsTrackPlain, IsRunPlain, rounds_plain, all_lawful}
+use Rattle.af_one_turn_run.proofs.PlainRuns.{IsTrackPlain, IsRunPlain, ops_pokeless, rounds_plain, all_lawful}
 use Rattle.af_one_turn_run.proofs.RoundFollows.{RoundReady}
 use Rattle.af_one_turn_run.proofs.RunFiles.{IsOfFile, AreOfFiles}
 
@@ -37,7 +37,7 @@ plain_at (track ∷ tracks) zero h = h.0
 plain_at (track ∷ tracks) (suc n) h = plain_at tracks n h.1
 
 pub new_plain : (s : Session) → PlainTracks s.script.tracks → IsRunPlain (new_run s)
-new_plain s h n low = subst IsTrackPlain (sym (new_at s n (let l = new_long s in omega (arith, l, low)))) (record { client = record { due = tt; ops = plain_at s.script.tracks n h }; stream = refl; commands = refl })
+new_plain s h n low = subst IsTrackPlain (sym (new_at s n (let l = new_long s in omega (arith, l, low)))) (record { client = record { due = refl; ops = ops_pokeless (slice_index_or s.script.tracks n no_spec).ops (plain_at s.script.tracks n h) }; stream = refl; commands = refl })
 
 -- ## The form of a journal
 

@@ -1,11 +1,11 @@
 -- What each round of a turn run keeps, and what is told at its end.
-use Rattle.std.proofs.Common.{◌≡◌, ℕ, ◌+◌, ◌<◌, Bool, true, false, MatchOption, if◌then◌else◌, fold, List, [], ◌∷◌, length, Option, Some, None, refl, sym, ap, ◌∙◌, subst, arith}
-use Rattle.af_one_turn_run.proofs.Common.{BlockTold, EntrySeen, IsHistoryAsTold, IsLegal, IsPipeAsTold, IsQueueAsTold, IsReportAsTold, IsRound, IsScript, IsTurn, Legal, PipeTold, RoundSeen, Run, RunKept, SameNormal, Session, TrackTold, Turn, TurnSpec, after, calls_alone, cycle_alone, cycle_frames, each_at, each_track, ends, ends_same, found_before, kept_beside, kept_turn, load_same, loaded, made_alone, met, met_alone, met_same, no_track, pipe_size, setup_of, start, taken_of, told_at, track_count, turned, with_ends, with_load, with_turn}
+use Rattle.std.proofs.Common.{◌≡◌, ℕ, ◌+◌, ◌<◌, MatchOption, fold, List, [], ◌∷◌, length, Option, Some, None, refl, sym, ◌∙◌, subst, arith}
+use Rattle.af_one_turn_run.proofs.Common.{BlockTold, EntrySeen, IsHistoryAsTold, IsLegal, IsPipeAsTold, IsQueueAsTold, IsReportAsTold, IsRound, IsScript, IsTurn, Legal, PipeTold, RoundSeen, Run, RunKept, SameNormal, Session, Turn, TurnSpec, after, calls_alone, cycle_alone, cycle_frames, ends_same, found_before, kept_beside, kept_turn, load_same, loaded, made_alone, met, met_alone, met_same, pipe_size, setup_of, start, taken_of, told_at, track_count, turned, with_ends, with_load, with_turn, ends_blocks}
 use Rattle.af_model.specs.PipeHistory as piped
 use Rattle.af_script.specs.declared.op.TurnSpec.TheVariants as makes
-use Rattle.af_one_turn_run.specs.Growing.{IsCounted}
-use Rattle.af_one_turn_run.specs.Taking.{IsTakenOf, HasFrames}
-use Rattle.af_one_turn_run.specs.Told.{IsToldLegally}
+use Rattle.af_one_turn_run.proofs.Growing.{IsCounted}
+use Rattle.af_one_turn_run.proofs.Taking.{IsTakenOf, HasFrames}
+use Rattle.af_one_turn_run.proofs.Told.{IsToldLegally}
 use Rattle.af_one_turn_run.proofs.OneFast.{AreForms, cycles_follow, cycle_normal}
 use Rattle.af_one_turn_run.proofs.OneTurn.{IsBlockTold}
 use Rattle.af_one_turn_run.proofs.RunFollows.{Follows, follows_not, follows_then, calls_follow, met_follows, ends_follow, turn_follows}
@@ -85,23 +85,6 @@ module _ (s : Session) (form : IsScript s.script) (many : ℕ) where
   pub round_follows : (run : Run) (turn : TurnSpec) (round : RoundSeen) → RoundForm many round → Follows run (with_ends (met_alone s run turn round))
   round_follows run turn round is = follows_then run (met_alone s run turn round) (with_ends (met_alone s run turn round)) (met_alone_follows run turn round is) (ends_follow (met_alone s run turn round))
 
-  -- the ends leave the blocks as they are
-  pub ends_commands : (run : Run) (n : ℕ) → n < length run.tracks → (told_at (with_ends run) n).commands ≡ (told_at run n).commands
-  unfolding with_ends
-  ends_commands run n low = by_end run.normal.ended
-    where
-      by_end : (b : Bool) → (told_at (if b then each_track (λ track t. record t { client = ends t.client }) run else run) n).commands ≡ (told_at run n).commands
-      by_end true = ap (λ (t : TrackTold). t.commands) (each_at (λ track t. record t { client = ends t.client }) 0 run.tracks n n no_track low (omega arith))
-      by_end false = refl
-
-  pub ends_streams : (run : Run) (n : ℕ) → n < length run.tracks → (told_at (with_ends run) n).stream ≡ (told_at run n).stream
-  unfolding with_ends
-  ends_streams run n low = by_end run.normal.ended
-    where
-      by_end : (b : Bool) → (told_at (if b then each_track (λ track t. record t { client = ends t.client }) run else run) n).stream ≡ (told_at run n).stream
-      by_end true = ap (λ (t : TrackTold). t.stream) (each_at (λ track t. record t { client = ends t.client }) 0 run.tracks n n no_track low (omega arith))
-      by_end false = refl
-
   -- after a round that is told all is ready for the next one
   pub round_ready : (frames : ℕ → List ℕ) (run : Run) (turn : TurnSpec) (round : RoundSeen) → RoundForm many round → RoundReady s many run → ((n : ℕ) → n < many → IsHistoryAsTold (told_at (met_alone s run turn round) n).commands) → RoundReady s many (with_ends (met_alone s run turn round))
   round_ready frames run turn round is h told =
@@ -114,5 +97,5 @@ module _ (s : Session) (form : IsScript s.script) (many : ℕ) where
         count = h.count;
         kept = kept_beside s last (with_ends last) (ends_same last) (kept_beside s made last (met_same s made) (made_kept run turn round is h.kept));
         counted = λ n low. f.counted n (let t = h.tracks in omega (arith, t, low)) (h.counted n low);
-        commands = λ n low. subst IsHistoryAsTold (sym (ends_commands last n (let l = g.long in let t = h.tracks in omega (arith, l, t, low)))) (told n low);
+        commands = λ n low. subst IsHistoryAsTold (sym (ends_blocks last n (let l = g.long in let t = h.tracks in omega (arith, l, t, low))).1) (told n low);
       }

@@ -1,9 +1,9 @@
 -- What the stream blocks of a run released are the first words of their files.
-use Rattle.std.proofs.Common.{◌≡◌, ℕ, ◌+◌, ◌<◌, ◌==◌, Bool, true, false, if◌then◌else◌, fold, List, [], ◌∷◌, ◌++◌, take, drop, length, Option, Some, None, refl, sym, ap, ◌∙◌, subst, arith, append-nil}
-use Rattle.af_one_turn_run.proofs.Common.{ClientCall, EntrySeen, RoundSeen, Run, Session, Track, TrackTold, Turn, TurnFound, TurnSpec, after_call, called_in_turn, calls_alone, calls_in, cycle_alone, cycle_frames, each_at, changed_from, each_long, each_track, ends, file_words, found_before, is_of_commands, length-take, loaded, made_alone, met, met_alone, mixed_track, no_track, outside_of, played, released_by, setup_of, sides_of, slice_index_or, slot_playing, state_for, stream_met, take_min, takes_part, told_at, track_met, turned, turned_track, with_ends, with_load, with_mix, with_poll, with_turn}
+use Rattle.std.proofs.Common.{◌≡◌, ℕ, ◌+◌, Bool, true, false, if◌then◌else◌, fold, List, [], ◌∷◌, ◌++◌, take, drop, length, sym, ap, ◌∙◌, subst, append-nil}
+use Rattle.af_one_turn_run.proofs.Common.{BlockTold, ClientCall, RoundSeen, Run, Session, Track, TrackTold, TurnSpec, after_call, called_in_turn, calls_in, file_words, is_of_commands, length-take, made_alone, met_alone, released_by, sides_of, stream_met, take_min, told_at, with_ends}
 use Rattle.af_base.specs.declared.event.ClientCall.TheVariants as call
-use Rattle.af_script.specs.declared.op.TurnSpec.TheVariants as makes
 use Rattle.af_runs.specs.ClientTurns.{called as side_called}
+use Rattle.af_enough_law.proofs.TracksKept.{AllTracks, IsQuietlyKept, ends_keep, made_keeps, met_keeps}
 use Rattle.af_one_turn_run.proofs.Parts.{take-add}
 
 -- the words are the first ones of a file
@@ -57,66 +57,30 @@ pub record IsOfFile (file : List ℕ) (t : TrackTold) : Type 0 where
   pub first : IsFirst file t.stream.released
 
 abbrev pub AreOfFiles : Session → Run → Type 0
-AreOfFiles s run = (n : ℕ) → n < length run.tracks → IsOfFile (file_words s n) (told_at run n)
+AreOfFiles s run = AllTracks (λ n. IsOfFile (file_words s n)) run
 
-each_files : (s : Session) (change : ℕ → TrackTold → TrackTold) (run after : Run) → after.tracks ≡ changed_from change 0 run.tracks → ((n : ℕ) (file : List ℕ) (t : TrackTold) → IsOfFile file t → IsOfFile file (change n t)) → AreOfFiles s run → AreOfFiles s after
-each_files s change run after is each h n low =
-    let few : n < length run.tracks = (let l = ap (λ (ts : List TrackTold). length ts) is ∙ each_long change 0 run.tracks in omega (arith, l, low)) in
-    subst (IsOfFile (file_words s n)) (sym (ap (λ (ts : List TrackTold). slice_index_or ts n no_track) is ∙ each_at change 0 run.tracks n n no_track few (omega arith))) (each n (file_words s n) (told_at run n) (h n few))
+stream_met_first : (part handed : Bool) (file : List ℕ) (b : BlockTold) → IsFirst file b.released → IsFirst file (stream_met part handed b).released
+stream_met_first true true file b h = h
+stream_met_first true false file b h = h
+stream_met_first false true file b h = h
+stream_met_first false false file b h = h
 
-calls_files : (s : Session) (track : ℕ) (round : RoundSeen) (run : Run) → AreOfFiles s run → AreOfFiles s (calls_alone track round run)
-calls_files s track round run = each_files s (λ number t. if number == track then called_in_turn (calls_in round track) t else t) run (calls_alone track round run) refl (λ n file t h. by_track (n == track) file t h)
-  where
-    by_track : (b : Bool) (file : List ℕ) (t : TrackTold) → IsOfFile file t → IsOfFile file (if b then called_in_turn (calls_in round track) t else t)
-    by_track true file t h = record { file_is = h.file_is; first = (calls_first file (calls_in round track) (sides_of t) (h.file_is, h.first)).1 }
-    by_track false file t h = h
+-- only its client changes what a stream block released
+kept : (s : Session) → IsQuietlyKept (λ n. IsOfFile (file_words s n))
+kept s = record {
+  slot_plays = λ asked e slot n t h. record { file_is = h.file_is; first = h.first };
+  turns = λ c o m e n t h. record { file_is = h.file_is; first = h.first };
+  all_meet = λ part handed n t h. record { file_is = h.file_is; first = stream_met_first part handed (file_words s n) t.stream h.first };
+  client_ends = λ n t h. record { file_is = h.file_is; first = h.first };
+}
 
-met_files : (s : Session) (run : Run) → AreOfFiles s run → AreOfFiles s (met s run)
-unfolding met
-met_files s run = each_files s (track_met s run) run (met s run) refl (λ n file t h. record { file_is = h.file_is; first = by_part (takes_part s run n) run.handed file t h.first })
-  where
-    by_part : (p q : Bool) (file : List ℕ) (t : TrackTold) → IsFirst file t.stream.released → IsFirst file (stream_met p q t.stream).released
-    by_part true true file t h = h
-    by_part true false file t h = h
-    by_part false true file t h = h
-    by_part false false file t h = h
-
-pub ends_files : (s : Session) (run : Run) → AreOfFiles s run → AreOfFiles s (with_ends run)
-unfolding with_ends
-ends_files s run h = by_end run.normal.ended
-  where
-    by_end : (b : Bool) → AreOfFiles s (if b then each_track (λ track t. record t { client = ends t.client }) run else run)
-    by_end true = each_files s (λ track t. record t { client = ends t.client }) run (each_track (λ track t. record t { client = ends t.client }) run) refl (λ n file t is. record { file_is = is.file_is; first = is.first }) h
-    by_end false = h
-
-poll_files : (s : Session) (k : ℕ) (run : Run) → AreOfFiles s run → AreOfFiles s (with_poll s k run)
-unfolding with_poll
-poll_files s k run h = h
-
-mix_files : (s : Session) (e : EntrySeen) (run : Run) → AreOfFiles s run → AreOfFiles s (with_mix s e run)
-unfolding with_mix
-mix_files s e run = each_files s (mixed_track s (state_for s run e.entry.state) e) run (with_mix s e run) refl (λ n file t h. by_slot (slot_playing (state_for s run e.entry.state) e.entry n) file t h)
-  where
-    by_slot : (o : Option ℕ) (file : List ℕ) (t : TrackTold) → IsOfFile file t → IsOfFile file (elim o as (λ o. TrackTold) [ None ↦ t | Some i ↦ record t { stream = played (cycle_frames s) e i t.stream } ])
-    by_slot None file t h = h
-    by_slot (Some i) file t h = record { file_is = h.file_is; first = h.first }
-
-cycles_files : (s : Session) (entries : List EntrySeen) (run : Run) → AreOfFiles s run → AreOfFiles s (fold (cycle_alone s) run entries)
-cycles_files s [] run h = h
-cycles_files s (e ∷ entries) run h = let polled = with_poll s e.entry.state run in cycles_files s entries (cycle_alone s run e) (mix_files s e (met s polled) (met_files s polled (poll_files s e.entry.state run h)))
-
-turn_files : (s : Session) (f : TurnFound) (e : Turn) (run : Run) → AreOfFiles s run → AreOfFiles s (with_load e (with_turn s f e run))
-unfolding with_load with_turn
-turn_files s f e run = each_files s (turned_track (setup_of s) (outside_of (setup_of s) f e) run.normal e) run (with_turn s f e run) refl (λ n file t h. record { file_is = h.file_is; first = h.first })
-
-made_files : (s : Session) (run : Run) (turn : TurnSpec) (round : RoundSeen) → AreOfFiles s run → AreOfFiles s (made_alone s run turn round)
-made_files s run (makes.Client track) round h = calls_files s track round run h
-made_files s run makes.Normal round h = by_turn round.turn
-  where
-    by_turn : (o : Option Turn) → AreOfFiles s (loaded o (turned s (found_before s run []) o run))
-    by_turn None = h
-    by_turn (Some e) = turn_files s (found_before s run [] e) e run h
-made_files s run (makes.Fast cycles) round h = cycles_files s round.entries run h
+called_files : (file : List ℕ) (t : TrackTold) (calls : List ClientCall) → IsOfFile file t → IsOfFile file (called_in_turn calls t)
+called_files file t calls h = record { file_is = h.file_is; first = (calls_first file calls (sides_of t) (h.file_is, h.first)).1 }
 
 pub met_alone_files : (s : Session) (run : Run) (turn : TurnSpec) (round : RoundSeen) → AreOfFiles s run → AreOfFiles s (met_alone s run turn round)
-met_alone_files s run turn round h = met_files s (made_alone s run turn round) (made_files s run turn round h)
+met_alone_files s run turn round h =
+    met_keeps (λ n. IsOfFile (file_words s n)) (kept s) s (made_alone s run turn round)
+    (made_keeps (λ n. IsOfFile (file_words s n)) (kept s) s run turn round (λ track is low. called_files (file_words s track) (told_at run track) (calls_in round track)) h)
+
+pub ends_files : (s : Session) (run : Run) → AreOfFiles s run → AreOfFiles s (with_ends run)
+ends_files s run = ends_keep (λ n. IsOfFile (file_words s n)) (kept s) s run

@@ -2,9 +2,8 @@
 use Rattle.std.proofs.Common.{◌≡◌, inl, inr, ℕ, zero, suc, ◌+◌, ◌<◌, ◌==◌, ◌&&◌, Bool, true, false, true≢false, if◌then◌else◌, is_some, unwrap_or, find, map, List, [], ◌∷◌, ◌++◌, drop, length, All, Option, Some, None, refl, sym, ap, ◌∙◌, subst, arith, append-nil, append_assoc}
 use Rattle.af_one_turn_run.proofs.Common.{All-nil, BlockTold, ClientCall, EntrySeen, IsTake, IsTurn, RoundSeen, Run, ServerEvent, Session, TrackTold, Turn, TurnFound, after_calls, by_client, by_hand, by_server, called_in_turn, calls_alone, calls_in, client_list, cycle_alone, cycle_events, cycle_frames, each_at, changed_from, each_long, each_track, ends, entry_slot, front_of, hand_events_of, is_mixed, learnt, listed, met, mixed_track, no_track, outside_of, packed_word, played, shows_slot, range_with_len, setup_of, sides_of, slice_index_or, slot_playing, slot_frames, slot_of, slots, state_for, stream_list, stream_met, taken_before, takes_part, takes_shown, told_at, track_met, tracks_at, turned_track, two, with_ends, with_load, with_mix, with_poll, with_turn, wrapped}
 use Rattle.af_base.specs.declared.event.ServerEvent.TheVariants as server
-use Rattle.af_one_turn_run.specs.Growing.{Grows, IsCounted}
+use Rattle.af_one_turn_run.proofs.Growing.{Grows, IsCounted, more_then, grows_not, grows_then, grows_met, takes_more, client_takes}
 use Rattle.af_one_turn_run.proofs.Counting.{counted_played, counted_turn}
-use Rattle.af_one_turn_run.proofs.Growing.{more_then, grows_not, grows_then, grows_met, takes_more, client_takes}
 
 -- ## What follows a run
 

@@ -1,12 +1,11 @@
 -- Which frames a server's events take of those released.
 use Rattle.std.proofs.Common.{◌≡◌, ℕ, ◌≤◌, ◌==◌, max, if◌then◌else◌, Bool, true, false, map, List, [], ◌∷◌, ◌++◌, refl, sym, ap, ◌∙◌, arith, append_assoc, append-nil}
-use Rattle.af_one_turn_run.proofs.Common.{ClientEvent, HandEvent, Moment, ServerEvent, Shape, TrackPoint, after, after_client, after_hand, after_server, append_cancel_left, by_client, by_hand, by_server, drop_end, server_put, start, taken_of, with_taken}
+use Rattle.af_one_turn_run.proofs.Common.{ClientEvent, HandEvent, Moment, ServerEvent, Shape, TrackPoint, after, after_client, after_hand, after_server, append_cancel_left, by_client, by_hand, by_server, drop_end, server_put, start, taken_of, with_taken, told_more}
 use Rattle.af_base.specs.declared.event.ClientEvent.TheVariants as client
 use Rattle.af_base.specs.declared.event.ServerEvent.TheVariants as server
 use Rattle.af_base.specs.declared.event.HandEvent.TheVariants as hand
-use Rattle.af_one_turn_run.specs.Seeing.{after_servers}
-use Rattle.af_one_turn_run.specs.Taking.{takes_at, taken_by, IsFrom, HasFrames}
-use Rattle.af_one_turn_run.specs.Told.{told_more}
+use Rattle.af_one_turn_run.proofs.Seeing.{after_servers}
+use Rattle.af_one_turn_run.proofs.Taking.{takes_at, taken_by, IsFrom, HasFrames}
 
 -- ## Positions
 

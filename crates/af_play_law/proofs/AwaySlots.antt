@@ -14,9 +14,8 @@ use Rattle.af_life.specs.Obeys.{holds}
 use Rattle.af_life.specs.Sound.{IsSound}
 use Rattle.af_life.specs.State.{is_among}
 use Rattle.af_judge.proofs.SoundTurns.{sound_acked}
-use Rattle.af_enough_law.specs.Drafts.{next_holder}
-use Rattle.af_enough_law.specs.TrackTurns.{greeted}
-use Rattle.af_enough_law.proofs.Drafts.{command_turned, holder_turned}
+use Rattle.af_enough_law.proofs.Drafts.{next_holder, command_turned, holder_turned}
+use Rattle.af_enough_law.proofs.TrackTurns.{greeted}
 use Rattle.af_enough_law.proofs.Following.{greeted_alike, greeted_in}
 use Rattle.af_enough_law.proofs.RestTurns.{draft_after_turn}
 use Rattle.af_enough_law.proofs.Served.{greeted_at}

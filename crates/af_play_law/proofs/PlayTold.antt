@@ -2,7 +2,7 @@
 use Rattle.std.proofs.Common.{◌≡◌, inl, ℕ, ◌≤◌, ◌&&◌, true, false, true≢false, List, [], ◌∷◌, length, refl, sym, ap, subst, ◌∙◌, arith}
 use Rattle.af_play_law.proofs.Common.{EndsHome, Frame, HasStateHistory, IsQuiet, Marks, MutatorEvent, NormalKept, ObserverEvent, PartyState, RoundSeen, Run, ServerEvent, ServerState, Session, SessionState, StandsBetween, Tells, TookCounted, and_parts, carried_new, frames_taken, kept_of, known_new, list_all, marks_of, new_ends, new_marked, new_quiet, new_run, new_told, no_deeds, run_from, script_setup, session_of, setup_of}
 use Rattle.af_enough_law.proofs.AllEnd.{rounds_end}
-use Rattle.af_enough_law.specs.EndPhases.{BothEnded}
+use Rattle.af_enough_law.proofs.EndWords.{BothEnded}
 use Rattle.af_model.specs.JournalForm.{IsJournal}
 use Rattle.af_script.specs.Data.{ScriptData}
 use Rattle.af_rendering.proofs.SparedEntries.{entries_first}

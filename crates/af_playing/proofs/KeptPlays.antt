@@ -1,6 +1,6 @@
 -- What a play keeps, by how it was answered.
 use Rattle.std.proofs.Common.{◌≡◌, ◌⊎◌, ℕ, Bool, true, false, List, Some, Result, Ok, Err, IfErr, IfOk, OnErr, OnOk, IsErrAnd, inl, inr, refl, sym, ap, subst, ◌∙◌}
-use Rattle.af_playing.proofs.Common.{EndsState, Files, Frame, HasCause, IsLegalRun, IsScript, JournalData, KeepsLists, Played, PokesSpareOthers, RoundsNoted, ScriptData, SessionState, SetsFile, Stage, ends_from, journal_of, journal_pcm, journal_sounds, on_ok, pcm_of, run_of, shown_by, spares_told, steps_told, summary_told}
+use Rattle.af_playing.proofs.Common.{EndsState, Files, Frame, HasCause, IsLegalRun, IsScript, JournalData, Played, RoundsNoted, ScriptData, SessionState, SetsFile, Stage, ends_from, journal_of, journal_pcm, journal_sounds, on_ok, pcm_of, spares_told, steps_told, summary_told}
 use Rattle.af_audit.specs.Drained.{EachDrainedTrackReachedItsStop}
 use Rattle.af_audit.proofs.EmptiedTold.{pipe-is-emptied}
 use Rattle.af_audit.proofs.FatesTold.{frames-have-fates}
@@ -10,19 +10,11 @@ use Rattle.af_base.specs.declared.want.Memory.{Memory}
 use Rattle.af_playing.proofs.InTime.{never_cut_off}
 use Rattle.af_playing.specs.declared.answering.PlayFault.{PlayFault}
 use Rattle.af_playing.specs.declared.answering.PlayFault.TheVariants as fault
-use Rattle.af_playing.specs.PlayKept.{Answers, IsCutPlay, IsDonePlay, KeepsFiles, KeepsPlay, TellsItsRun, TookFew}
+use Rattle.af_playing.specs.PlayKept.{Answers, IsCutPlay, IsDonePlay, KeepsFiles, KeepsPlay, SparesOthers, TookFew}
 use Rattle.af_playing.specs.PlayedRuns.{AtLimit, HandedBack, HandsBackRun, HasStoreCause, KeepsPromises, LeavesRun, all_ended, is_limit}
-use Rattle.af_playing.specs.PlayedAlone.{IsToldAlone}
-use Rattle.af_playing.specs.Spelled.{CallsStandOnce, NoneOlder, PushesStandOnce, ReleasedAsTold}
 use Rattle.af_playing.specs.PlayedStages.{HasPlayed}
-use Rattle.af_playing.proofs.ListsKept.{lists_kept}
-use Rattle.af_playing.proofs.NeverOlder.{none_older}
 use Rattle.af_playing.proofs.PlayCauses.{cause_behind}
-use Rattle.af_playing.proofs.PlayAnswers.{at_fault, cause_cut, cut_by, cut_off, handed, handed_two, hands_back, if_ok_always, if_ok_three, leaves, limit_two, never_limited, off_limit}
-use Rattle.af_playing.proofs.RunPushed.{pushes_stand_once}
-use Rattle.af_playing.proofs.RunReleased.{released_as_told}
-use Rattle.af_playing.proofs.RunSpelled.{calls_stand_once}
-use Rattle.af_playing.proofs.ToldAlone.{alone_kept}
+use Rattle.af_playing.proofs.PlayAnswers.{at_fault, cause_cut, cut_by, cut_off, handed, hands_back, if_ok_always, if_ok_three, leaves, limit_two, never_limited, off_limit}
 
 -- ## If nothing is handed back
 
@@ -35,7 +27,7 @@ module _ (script : ScriptData) (files : List (List Frame)) where
       record {
         done = tt;
         limit = off_limit {T = Played} (Err x) (IsCutPlay script files) never;
-        run = off_limit {T = Played} (Err x) (TellsItsRun script files) never;
+        spared = off_limit {T = Played} (Err x) (SparesOthers script.frames) never;
         enough = (λ enough. off_limit {T = Played} (Err x) (λ (j : JournalData) (e : EndsState). ⊥) never);
       }
 
@@ -69,15 +61,6 @@ promises_kept script files is law j legal = record {
   emptied = pipe-is-emptied script files j is legal;
 }
 
--- what a journal records of its run whether it is legal or not: all but the summary
-record RestTold (script : ScriptData) (files : List (List Frame)) (journal : JournalData) (ends : EndsState) : Type 0 where
-  calls : CallsStandOnce journal ends
-  released : ReleasedAsTold journal ends
-  pushes : PushesStandOnce journal ends
-  never_older : NoneOlder journal
-  spared : PokesSpareOthers (shown_by script.frames journal ends.normal.mutator.past.events)
-  kept : KeepsLists (run_of script files journal) ends
-
 module _ (script : ScriptData) (files : List (List Frame)) (s : Stage) (r : Result Played PlayFault) (have : HasPlayed script files s) (a : Answers script files s r) where
   abbrev t : SessionState
   t = s.parties
@@ -91,9 +74,6 @@ module _ (script : ScriptData) (files : List (List Frame)) (s : Stage) (r : Resu
   run : (ended : Bool) → all_ended t ≡ ended → (x : JournalData) (e : EndsState) → x ≡ j → e ≡ ends_from t → HandsBackRun ended script files x e
   run ended all x e journal ends = hands_back ended script files t noted x e have.all have.noted.tracks have.noted.form have.noted.count have.few have.over all journal ends
 
-  back : HandsBackRun (all_ended t) script files j (ends_from t)
-  back = run (all_ended t) refl j (ends_from t) refl refl
-
   handed_on : (P : JournalData → EndsState → Type 0) → P j (ends_from t) → HandedBack P r
   handed_on P p = handed P r (all_ended t ≡ false) j (ends_from t) p a.journal a.ends a.cut
 
@@ -104,16 +84,6 @@ module _ (script : ScriptData) (files : List (List Frame)) (s : Stage) (r : Resu
   limited : IfErr r (AtLimit (HandsBackRun false script files))
   limited = cut_off (HandsBackRun false script files) r (all_ended t ≡ false) j (ends_from t) (λ ended. run false ended j (ends_from t) refl refl) a.cut
 
-  rest_told : RestTold script files j (ends_from t)
-  rest_told = record {
-    calls = calls_stand_once (all_ended t) script files j (ends_from t) back;
-    released = released_as_told (all_ended t) script files j (ends_from t) back;
-    pushes = pushes_stand_once (all_ended t) script files j (ends_from t) back;
-    never_older = none_older script files noted t have.all have.noted.whole;
-    spared = spares_told script.frames noted t.fast.log t.normal.mutator.past.events j (ends_from t) have.noted.whole refl refl have.noted.spared;
-    kept = lists_kept (all_ended t) script files j (ends_from t) back;
-  }
-
   -- the steps that the tally noted are handed back
   pub steps_kept : (steps : List (ℕ × ℕ)) → steps ≡ s.room.tally.steps → HandedBack (TookFew script.frames steps) r
   steps_kept steps same = handed_on (TookFew script.frames steps) (steps_told script.frames noted t.fast.log t.normal.mutator.past.events s.room.tally j (ends_from t) steps have.noted.whole refl refl have.noted.tally same)
@@ -123,9 +93,7 @@ module _ (script : ScriptData) (files : List (List Frame)) (s : Stage) (r : Resu
     done = if_ok_three (λ (p : Played). HandsBackRun true script files p.journal p.ends) (λ (p : Played). IsLegalRun script files p.journal) (λ (p : Played). p.summary ≡ summary_told script.frames p.journal p.ends) (IsDonePlay script files) r
         (λ p back legal summary. record { played = back; promises = promises_kept script files is law p.journal legal; summary = summary }) played_on a.legal a.summary;
     limit = limit_two r (HandsBackRun false script files) (cut_by script files) (IsCutPlay script files) (λ journal ends back cut. record { played = back; cut_run = cut }) limited a.cut_run;
-    run = handed_two (IsToldAlone script files) (RestTold script files) (TellsItsRun script files) r
-        (λ journal ends alone rest. record { alone = alone; calls = rest.calls; released = rest.released; pushes = rest.pushes; never_older = rest.never_older; spared = rest.spared; kept = rest.kept })
-        (alone_kept script files r played_on limited a.legal a.cut_run) (handed_on (RestTold script files) rest_told);
+    spared = handed_on (SparesOthers script.frames) (spares_told script.frames noted t.fast.log t.normal.mutator.past.events j (ends_from t) have.noted.whole refl refl have.noted.spared);
     enough = (λ enough. never_limited r (HandsBackRun false script files) (never_cut_off script files is enough) limited);
   }
 

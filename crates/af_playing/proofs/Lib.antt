@@ -14,16 +14,8 @@ pub mod StagesPlayed
 pub mod RoundsPlayed
 pub mod InTime
 pub mod KeptPlays
-pub mod ClientsSpelled
-pub mod RunSpelled
-pub mod RunPushed
-pub mod RunReleased
-pub mod RunFollows
-pub mod ToldAlone
-pub mod NeverOlder
 pub mod SparedOfAll
 pub mod PlayedOn
 pub mod RoundsTold
 pub mod PlayLegal
-pub mod ListsKept
 pub mod RoundsSoFar

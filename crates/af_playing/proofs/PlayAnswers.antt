@@ -161,13 +161,6 @@ handed P (Ok p) A j e is journal ends cut = subst (λ (x : JournalData × EndsSt
 handed P (Err f) A j e is journal ends (more, inl cut) = subst (AtLimit P) (sym cut) is
 handed P (Err f) A j e is journal ends (more, inr want) = subst (AtLimit P) (sym want) tt
 
--- what follows from two things that are so of what is handed back is so of it
-pub handed_two : (P Q R : JournalData → EndsState → Type 0) (r : Result Played PlayFault) → ((journal : JournalData) (ends : EndsState) → P journal ends → Q journal ends → R journal ends) → HandedBack P r → HandedBack Q r → HandedBack R r
-handed_two P Q R (Ok p) follows a b = follows p.journal p.ends a b
-handed_two P Q R (Err fault.Store) follows a b = tt
-handed_two P Q R (Err fault.Memory) follows a b = tt
-handed_two P Q R (Err (fault.CycleLimit journal ends)) follows a b = follows journal ends a b
-
 -- the journal is that of a run that was cut off
 abbrev pub cut_by : ScriptData → List (List Frame) → JournalData → EndsState → Type 0
 cut_by script files j e = IsCutRun script files j

@@ -48,7 +48,8 @@ module _ (script : ScriptData) (files : List (List Frame)) (rounds : List RoundN
   no_frames : played.start.fast.log.frames ≡ []
   no_frames = ap (λ (m : MixerState). m.log.frames) played.new.fast
 
-  count : cycles_of rounds ≡ length t.fast.log.entries
+  -- the rounds note as many cycles as the log has entries
+  pub count : cycles_of rounds ≡ length t.fast.log.entries
   count =
       let all = rounds_count g played.start rounds played.bytes t played.run in
       let none : length played.start.fast.log.entries ≡ 0 = ap length no_entries in

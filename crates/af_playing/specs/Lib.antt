@@ -1,6 +1,4 @@
 pub mod PlayedRuns
-pub mod Spelled
-pub mod PlayedAlone
 pub mod InTime
 pub mod PlayedStages
 pub mod PlayKept

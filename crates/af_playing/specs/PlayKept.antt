@@ -6,7 +6,7 @@ use Rattle.af_nblog.specs.declared.entries.Note.{Note}
 use Rattle.af_nblog.specs.LogText.{log_text}
 use Rattle.af_model.specs.Journals.{JournalData, journal_of}
 use Rattle.af_io.specs.Files.{Files, SetsFile}
-use Rattle.af_runs.specs.LegalRuns.{IsCutRun, IsLegalRun, run_of}
+use Rattle.af_runs.specs.LegalRuns.{IsCutRun, IsLegalRun}
 use Rattle.af_runs.specs.Pcm.{journal_pcm}
 use Rattle.af_script.specs.Data.{ScriptData}
 use Rattle.af_script.specs.Form.{IsScript}
@@ -20,9 +20,6 @@ use Rattle.af_rendering.specs.Hostile.{PokesSpareOthers}
 use Rattle.af_playing.specs.PlayedRuns.{AtFault, AtLimit, HandedBack, HandsBackRun, KeepsPromises, LeavesRun, all_ended}
 use Rattle.af_session.specs.Shown.{shown_by, summary_told}
 use Rattle.af_tally.specs.Steps.{AreFew}
-use Rattle.af_told_law.specs.KeptEnds.{KeepsLists}
-use Rattle.af_playing.specs.PlayedAlone.{IsToldAlone}
-use Rattle.af_playing.specs.Spelled.{CallsStandOnce, NoneOlder, PushesStandOnce, ReleasedAsTold}
 
 -- The journal and the ends of a stage are handed back: if all parties have ended with the summary, and else as cut off at the limit, in whose place alone Memory may stand. By itself, the journal of a play that is done is that of a legal run, and the journal of one that was cut off is that of a cut run
 pub record Answers (script : ScriptData) (files : List (List Frame)) (s : Stage) (result : Result Played PlayFault) : Type 0 where
@@ -48,25 +45,19 @@ pub record IsCutPlay (script : ScriptData) (files : List (List Frame)) (journal 
   pub played : HandsBackRun false script files journal ends
   pub cut_run : IsCutRun script files journal
 
--- What a journal that is handed back records of its run, and the ends with it: the summary is that of the journal alone, each client's calls and each state pushed stand once in the journal, each client released as many frames as its calls put there, no cycle uses a state older than one before it, each track that nobody poked is spared, and the ends keep the lists of the run that the journal records
-pub record TellsItsRun (script : ScriptData) (files : List (List Frame)) (journal : JournalData) (ends : EndsState) : Type 0 where
-  pub alone : IsToldAlone script files journal ends
-  pub calls : CallsStandOnce journal ends
-  pub released : ReleasedAsTold journal ends
-  pub pushes : PushesStandOnce journal ends
-  pub never_older : NoneOlder journal
-  pub spared : PokesSpareOthers (shown_by script.frames journal ends.normal.mutator.past.events)
-  pub kept : KeepsLists (run_of script files journal) ends
+-- each track that nobody poked is spared in what is handed back
+abbrev pub SparesOthers : ℕ → JournalData → EndsState → Type 0
+SparesOthers frames journal ends = PokesSpareOthers (shown_by frames journal ends.normal.mutator.past.events)
 
 -- these are the steps of the cycles of the journal, one after the other, each with those of its note, and none took more than it may
 abbrev pub TookFew : ℕ → List (ℕ × ℕ) → JournalData → EndsState → Type 0
 TookFew frames steps journal ends = AreFew (shown_by frames journal ends.normal.mutator.past.events) steps
 
--- All that is promised of a play's answer: of one that is done, of one that was cut off, of the journal in both, and that a script with enough cycles is never cut off
+-- All that is promised of a play's answer: of one that is done, of one that was cut off, of the tracks that nobody poked in both, and that a script with enough cycles is never cut off
 pub record KeepsPlay (script : ScriptData) (files : List (List Frame)) (result : Result Played PlayFault) : Type 0 where
   pub done : IfOk result (IsDonePlay script files)
   pub limit : IfErr result (AtLimit (IsCutPlay script files))
-  pub run : HandedBack (TellsItsRun script files) result
+  pub spared : HandedBack (SparesOthers script.frames) result
   pub enough : HasEnoughCycles script → IfErr result (AtLimit (λ journal ends. ⊥))
 
 -- ## What is promised of its file

@@ -114,7 +114,8 @@ pub use Rattle.af_told_law.specs.Sizes.{AreSmall, IsSmallRun}
 pub use Rattle.af_told_law.specs.Tells.{Leaves, Tells, TellsServer, given_of, held_slot}
 pub use Rattle.af_turn_law.proofs.RunBegins.{forced_run, turns_new}
 pub use Rattle.af_turn_law.proofs.RunPolls.{AllFind, all_find, pushed_in, same_current}
-pub use Rattle.af_turn_law.specs.Acting.{ActsWhereMet, FindsShutUnseen, SawNoInvalid, SeesNoInvalid}
+pub use Rattle.af_turn_law.specs.Acting.{FindsShutUnseen, SawNoInvalid, SeesNoInvalid}
+pub use Rattle.af_turn_law.proofs.TurnActs.{ActsWhereMet}
 pub use Rattle.af_turn_law.specs.ListTurns.{AreListTurns, FindShutUnseen}
 pub use Rattle.std.proofs.Math.Seq.{drop-append_seam}
 pub use Rattle.std.proofs.lemmas.Bool.{MatchBool-at_false, MatchBool-at_true, cases_eq}

@@ -29,6 +29,7 @@ pub use Rattle.af_client.specs.Order.{ClientState}
 pub use Rattle.af_engine.specs.Met.{MeetsAway, MeetsFlag, SpotMet, is_slot_of, item_at, or_else, proxies_of, slot_below, spot_of}
 unfoldable pub use Rattle.af_engine.specs.Met.{slot_for}
 pub use Rattle.af_engine.specs.Shares.{SharedState}
+pub use Rattle.af_enough_law.proofs.TracksKept.{IsQuietlyKept, met_keeps, mix_keeps, poll_keeps, round_alone_keeps}
 pub use Rattle.af_fast.specs.Known.{known, known_at}
 pub use Rattle.af_fast.specs.Mixer.{CarriesNone, IsInOrder, MixerState, adopted_states, is_over}
 pub use Rattle.af_fast.specs.Mixing.{AddsCycle, Adopts, MixesOnce, Takes, Writes}
@@ -108,7 +109,7 @@ pub use Rattle.af_party.specs.Parties.{PartyState, side_of_proxy, track_of}
 pub use Rattle.af_rendering.specs.Leads.{HasLearnt, InStep, LeadAway, Leads}
 pub use Rattle.af_runs.proofs.Basics.{shown_if, state_more, taken_up}
 pub use Rattle.af_runs.proofs.StatesFor.{state_adopted, state_known}
-pub use Rattle.af_runs.specs.Blocks.{BlockTold, HasBlockHistory, Marks, client_list, is_tame, listed, meets, meets_flag, new_block, server_list}
+pub use Rattle.af_runs.specs.Blocks.{BlockTold, HasBlockHistory, Marks, client_list, hand_does, is_tame, listed, meets, meets_flag, new_block, server_list}
 pub use Rattle.af_runs.specs.ClientTurns.{Side, Track, after_call, after_calls, is_of_commands}
 pub use Rattle.af_runs.specs.Clients.{ends, new_client}
 pub use Rattle.af_runs.specs.Found.{LegalTurnBy, TurnFound, outside_of, take_front}

@@ -1,16 +1,13 @@
 -- A round in which no lawful block is poked keeps the lawful blocks of its run unpoked.
-use Rattle.std.proofs.Common.{◌≡◌, ℕ, ◌<◌, ◌==◌, not, Bool, true, false, true≢false, if◌then◌else◌, fold, is_some, map, List, [], ◌∷◌, ◌++◌, drop, take, length, Option, Some, None, refl, sym, ap, ◌∙◌, arith, eqb-true}
-use Rattle.af_told_law.proofs.Common.{ClientCall, ClientEvent, EntrySeen, Marks, Moment, RoundNoted, RoundSeen, Run, Session, Track, TrackTold, Turn, TurnSpec, after_call, both_lawful, by_hand, called_in_turn, calls_alone, calls_in, client-client, client_call_events, client_kept, client_list, command_list, cycle_alone, each_track, ends, found_before, get_or-map-range_with_len, hand-client, hand_events_of, is_lawful, is_of_commands, is_poke_on, is_tame, learnt, length-map-range_with_len, list_any, loaded, made_alone, marks_of, met_alone, neither, new_run, no_track, not_true, outside_of, rounds_seen, server-client, sides_of, stream_list, told_at, track_count, tracks_at, turn_alone, turned, turned_track, with_ends, with_load, with_poll, with_turn}
+use Rattle.std.proofs.Common.{◌≡◌, ℕ, ◌<◌, not, Bool, true, false, true≢false, fold, is_some, List, [], ◌∷◌, ◌++◌, drop, take, length, refl, ap, ◌∙◌, arith}
+use Rattle.af_told_law.proofs.Common.{ClientCall, ClientEvent, EntrySeen, Marks, RoundNoted, RoundSeen, Run, Session, Track, TrackTold, TurnSpec, after_call, both_lawful, called_in_turn, calls_in, client-client, client_call_events, client_kept, client_list, get_or-map-range_with_len, is_lawful, is_of_commands, is_poke_on, is_tame, length-map-range_with_len, list_any, marks_of, met_alone, neither, new_run, no_track, not_true, rounds_seen, sides_of, told_at, track_count, with_ends, round_alone_keeps}
 use Rattle.af_base.specs.declared.event.ClientCall.TheVariants as call
 use Rattle.af_one_turn_run.proofs.OneClientTurn.{call_events, calls_add, calls_events, drop_first, only_on}
 use Rattle.af_runs.specs.ClientTurns.{side_of}
 use Rattle.af_runs.specs.Runs.{new_told_track}
-use Rattle.af_runs.specs.Runs as run_of
-use Rattle.af_runs.specs.Sessions.{setup_of}
-use Rattle.af_script.specs.declared.op.TurnSpec.TheVariants as makes
 use Rattle.af_told_law.specs.Sizes.{IsSmallRun}
 use Rattle.af_told_law.specs.Marked.{AreRoundsMarked, IsMarkedRun, IsRoundMarked, IsTrackMarked}
-use Rattle.af_told_law.proofs.TameRuns.{each_keeps_at, met_marked, mix_marked, poll_marked}
+use Rattle.af_told_law.proofs.TameRuns.{marked_kept}
 
 -- ## Calls
 
@@ -68,56 +65,16 @@ commands_called t calls none h =
 -- ## Rounds
 
 module _ (marks : Marks) where
-  calls_marked : (track : ℕ) (round : RoundSeen) (run : Run) → IsRoundMarked marks round.calls → IsMarkedRun marks run → IsMarkedRun marks (calls_alone track round run)
-  calls_marked track round run free = each_keeps_at (IsTrackMarked marks) (λ number t. if number == track then called_in_turn (calls_in round track) t else t) run (calls_alone track round run) refl (λ n low h. by_track n (n == track) refl (told_at run n) h)
-    where
-      by_track : (n : ℕ) (b : Bool) → (n == track) ≡ b → (t : TrackTold) → IsTrackMarked marks n t → IsTrackMarked marks n (if b then called_in_turn (calls_in round track) t else t)
-      by_track n true same t h =
-          let here : n ≡ track = eqb-true n track same in record {
-            stream = (λ on. stream_called t (calls_in round track) (ap (λ (k : ℕ). list_any (is_poke_on false) (calls_in round k)) (sym here) ∙ (free n).0 on) (h.stream on));
-            commands = (λ on. commands_called t (calls_in round track) (ap (λ (k : ℕ). list_any (is_poke_on true) (calls_in round k)) (sym here) ∙ (free n).1 on) (h.commands on));
-            few = h.few;
-          }
-      by_track n false other t h = h
-
-  one_turn_marked : (s : Session) (run : Run) (e : Turn) → IsMarkedRun marks run → IsMarkedRun marks (with_load e (with_turn s (found_before s run [] e) e run))
-  unfolding with_load with_turn
-  one_turn_marked s run e =
-      let c = setup_of s in
-      let o = outside_of c (found_before s run [] e) e in
-      each_keeps_at (IsTrackMarked marks) (turned_track c o run.normal e) run (with_turn s (found_before s run [] e) e run) refl (λ n low h. let t = told_at run n in record {
-        stream = (λ on. ap is_lawful (server-client (fold (λ (told : List Moment) (moment : Moment). moment ∷ told) t.stream.told (map by_hand (hand_events_of e n))) (stream_list c o e (tracks_at c (learnt o) run.normal e n) n) ∙ hand-client t.stream.told (hand_events_of e n)) ∙ h.stream on);
-        commands = (λ on. ap is_lawful (server-client t.commands.told (command_list c o e (tracks_at c (learnt o) run.normal e n) n)) ∙ h.commands on);
-        few = h.few;
-      })
-
-  turn_marked : (s : Session) (run : Run) (round : RoundSeen) → IsMarkedRun marks run → IsMarkedRun marks (turn_alone s run round)
-  turn_marked s run round h = by_turn round.turn
-    where
-      by_turn : (o : Option Turn) → IsMarkedRun marks (loaded o (turned s (found_before s run []) o run))
-      by_turn None = h
-      by_turn (Some e) = one_turn_marked s run e h
-
-  cycles_marked : (s : Session) (entries : List EntrySeen) (run : Run) → IsMarkedRun marks run → IsMarkedRun marks (fold (cycle_alone s) run entries)
-  cycles_marked s [] run h = h
-  cycles_marked s (e ∷ entries) run h = let polled = with_poll s e.entry.state run in cycles_marked s entries (cycle_alone s run e) (mix_marked marks s e (run_of.met s polled) (met_marked marks s polled (poll_marked marks s e.entry.state run h)))
-
-  made_marked : (s : Session) (run : Run) (turn : TurnSpec) (round : RoundSeen) → IsRoundMarked marks round.calls → IsMarkedRun marks run → IsMarkedRun marks (made_alone s run turn round)
-  made_marked s run (makes.Client track) round free h = calls_marked track round run free h
-  made_marked s run makes.Normal round free h = turn_marked s run round h
-  made_marked s run (makes.Fast count) round free h = cycles_marked s round.entries run h
-
-  ends_marked : (run : Run) → IsMarkedRun marks run → IsMarkedRun marks (with_ends run)
-  unfolding with_ends
-  ends_marked run h = by_end run.normal.ended
-    where
-      by_end : (b : Bool) → IsMarkedRun marks (if b then each_track (λ track t. record t { client = ends t.client }) run else run)
-      by_end true = each_keeps_at (IsTrackMarked marks) (λ track t. record t { client = ends t.client }) run (each_track (λ track t. record t { client = ends t.client }) run) refl (λ n low is. record { stream = is.stream; commands = is.commands; few = is.few }) h
-      by_end false = h
+  called_marked : (round : RoundSeen) → IsRoundMarked marks round.calls → (n : ℕ) (t : TrackTold) → IsTrackMarked marks n t → IsTrackMarked marks n (called_in_turn (calls_in round n) t)
+  called_marked round free n t h = record {
+    stream = (λ on. stream_called t (calls_in round n) ((free n).0 on) (h.stream on));
+    commands = (λ on. commands_called t (calls_in round n) ((free n).1 on) (h.commands on));
+    few = h.few;
+  }
 
   -- a round of one party keeps the lawful blocks unpoked
   pub round_marked : (s : Session) (run : Run) (turn : TurnSpec) (round : RoundSeen) → IsRoundMarked marks round.calls → IsMarkedRun marks run → IsMarkedRun marks (with_ends (met_alone s run turn round))
-  round_marked s run turn round free h = ends_marked (met_alone s run turn round) (met_marked marks s (made_alone s run turn round) (made_marked s run turn round free h))
+  round_marked s run turn round free h = round_alone_keeps (IsTrackMarked marks) (marked_kept marks) s run turn round (λ track is low. called_marked round free track (told_at run track)) h
 
   -- the blocks of the first run weren't poked, and are small
   pub new_marked : (s : Session) → IsSmallRun (new_run s) → IsMarkedRun marks (new_run s)

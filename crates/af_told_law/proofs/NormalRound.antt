@@ -1,6 +1,6 @@
 -- A turn of the normal mixer that hadn't ended, of which it is known what it found and what was shown of it, is a step of the run but for the load of the report, and the queue is known again.
 use Rattle.std.proofs.Common.{Bool, List, Option, Some, [], ap, arith, false, fold, if◌then◌else◌, is_some, length, map, not, refl, slice_get, subst, suc, sym, true, true≢false, zero, ℕ, ◌&&◌, ◌+◌, ◌<◌, ◌∙◌, ◌∷◌, ◌≡◌, ◌≤◌}
-use Rattle.af_told_law.proofs.Common.{AreTogether, HandEvent, HandSide, IsLegal, IsSound, Item, Learnt, LegalTurnBy, Links, Marks, Moment, NormalKept, NormalState, Outside, PartyState, Run, SawAck, Session, SessionState, Setup, TrackTold, Turn, TurnFound, TurnMade, after_edits, after_push, after_takes, answer_of, by_hand, client_of, command_list, cycle_frames, each_at, each_long, hand_events_of, is_pushed, items_of, kept_of, learnt, mutator_list, no_track, number_seen, outside_of, pipe_cells, push_list, setup_of as mixer_setup, sides_of, slice_get_within, stream_list, told_at, track_count, tracks_at, turn_after, turn_of, turned_track, with_turn}
+use Rattle.af_told_law.proofs.Common.{AreTogether, HandEvent, HandSide, IsLegal, IsSound, Item, Learnt, LegalTurnBy, Links, Marks, Moment, NormalKept, NormalState, Outside, PartyState, Run, SawAck, Session, SessionState, Setup, TrackTold, Turn, TurnFound, TurnMade, after_edits, after_push, after_takes, answer_of, by_hand, client_of, command_list, cycle_frames, each_at, each_long, hand_events_of, is_pushed, items_of, kept_of, learnt, mutator_list, no_track, number_seen, outside_of, pipe_cells, push_list, setup_of as mixer_setup, sides_of, slice_get_within, stream_list, told_at, track_count, tracks_at, turn_after, turn_of, turned_track, with_turn, server-client as server_client}
 use Rattle.af_runs.specs.Sessions.{setup_of}
 use Rattle.af_told_law.specs.Between.{StandsBefore}
 use Rattle.af_told_law.specs.NormalLaws.{PartsTold, TurnShown, did_by, track_turned}
@@ -11,7 +11,6 @@ use Rattle.af_told_law.proofs.LegalAlike.{mutator_list_same}
 use Rattle.af_told_law.proofs.NormalFound.{turn_alike}
 use Rattle.af_told_law.proofs.NormalGoes.{turn_leaves}
 use Rattle.af_told_law.proofs.NormalShared.{fast_turned, known_turned, normal_turned, shared_turned}
-use Rattle.af_told_law.proofs.TameRuns.{server_client}
 use Rattle.af_told_law.proofs.TurnAlike.{after_edits_same, learn_alike}
 use Rattle.af_told_law.proofs.TurnHomes.{normal_legal}
 use Rattle.af_told_law.proofs.TurnTracks.{turned_kept}

@@ -5,9 +5,9 @@ use Rattle.af_base.specs.declared.event.ClientEvent.TheVariants as client
 use Rattle.af_base.specs.declared.event.ServerEvent.TheVariants as server
 use Rattle.af_base.specs.declared.event.HandEvent.TheVariants as hand
 use Rattle.af_turn_law.specs.Acting.{SawNoInvalid}
-use Rattle.af_turn_law.specs.Marking.{KnowsAll, NoMarks, client_marks, server_marks, hand_marks}
+use Rattle.af_turn_law.specs.Marking.{KnowsAll, client_marks, server_marks, hand_marks}
 use Rattle.af_turn_law.specs.Phased.{IsBlockPhased, ends_met}
-use Rattle.af_turn_law.proofs.Marked.{knows_more, knows_met, knows_now, due_plain}
+use Rattle.af_turn_law.proofs.Marked.{NoMarks, knows_more, knows_met, knows_now, due_plain}
 use Rattle.af_turn_law.proofs.BlockPulls.{ends_last}
 use Rattle.af_turn_law.proofs.BlockForced.{phased_hand}
 

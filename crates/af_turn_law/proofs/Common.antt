@@ -1,5 +1,5 @@
 -- The names of other crates that the proofs of this one cite, passed on from one place. Declares nothing.
-pub use Rattle.af_base.proofs.Basics.{either, either_false, is_within, no, none_and}
+pub use Rattle.af_base.proofs.Basics.{either, either_false, is_within, no, none_and, or_right}
 pub use Rattle.af_base.specs.Log.{entry_slot, slots}
 pub use Rattle.af_base.specs.Turn.{TakeSeen, TrackSeen, Turn}
 pub use Rattle.af_base.specs.declared.event.ClientEvent.{ClientEvent}
@@ -8,7 +8,8 @@ pub use Rattle.af_base.specs.declared.event.ServerEvent.{ServerEvent}
 pub use Rattle.af_base.specs.declared.seen.Seen.{Seen}
 pub use Rattle.af_base.specs.declared.state.FastState.{FastState}
 pub use Rattle.af_base.specs.declared.turn.CommandLook.{CommandLook}
-pub use Rattle.af_judge.proofs.Basics.{each_at, each_long, met_many, push_tracks, report_ends, told_each}
+pub use Rattle.af_judge.proofs.Basics.{each_at, each_long, met_many, or_left, push_tracks, report_ends, told_each}
+pub use Rattle.af_judge.proofs.QueueSteps.{ones_more, twos_stay, twos_more, ones_stay, ones_met, twos_met}
 pub use Rattle.af_judge.proofs.SoundLives.{IsGiven, goes_served, grew_report}
 pub use Rattle.af_judge.proofs.SoundSlots.{sound_served}
 pub use Rattle.af_judge.proofs.SoundTurns.{Sound, sound_acked, sound_new, sound_turn}

@@ -1,42 +1,9 @@
 -- What each step leaves of two ends that are told in phases.
-use Rattle.std.proofs.Common.{◌≡◌, ◌≤◌, true, map, List, [], ◌∷◌, ◌++◌, length, refl, sym, ap, ◌∙◌, subst, arith, append_assoc, append-nil, length-append}
-use Rattle.af_turn_law.proofs.Common.{Event, one, ones, two, twos}
-use Rattle.af_turn_law.specs.Marking.{Marking, KnowsAll, NoMarks}
+use Rattle.std.proofs.Common.{◌≡◌, ◌≤◌, true, map, List, [], ◌∷◌, ◌++◌, length, sym, subst, arith, append_assoc, append-nil, length-append}
+use Rattle.af_turn_law.proofs.Common.{Event, one, ones, two, twos, ones_more, twos_stay, twos_more, ones_stay, ones_met, twos_met}
+use Rattle.af_turn_law.specs.Marking.{Marking, KnowsAll}
 use Rattle.af_turn_law.specs.Phased.{IsPhasedFrom, IsPhased}
-use Rattle.af_turn_law.proofs.Marked.{knows_more, knows_met, knows_now, due_plain, due_mark}
-
-abbrev of_one : (A B : Type 0) → A → Event A B
-of_one A B a = one a
-
-abbrev of_two : (A B : Type 0) → B → Event A B
-of_two A B b = two b
-
-ones_one : {A : Type 0} (B : Type 0) (ds : List A) → ones (map (of_one A B) ds) ≡ ds
-ones_one B [] = refl
-ones_one B (a ∷ ds) = ap (λ l. a ∷ l) (ones_one B ds)
-
-twos_one : {A : Type 0} (B : Type 0) (ds : List A) → twos (map (of_one A B) ds) ≡ []
-twos_one B [] = refl
-twos_one B (a ∷ ds) = twos_one B ds
-
-ones_two : (A : Type 0) {B : Type 0} (bs : List B) → ones (map (of_two A B) bs) ≡ []
-ones_two A [] = refl
-ones_two A (b ∷ bs) = ones_two A bs
-
-twos_two : (A : Type 0) {B : Type 0} (bs : List B) → twos (map (of_two A B) bs) ≡ bs
-twos_two A [] = refl
-twos_two A (b ∷ bs) = ap (λ l. b ∷ l) (twos_two A bs)
-
-module _ {A B : Type 0} where
-  pub ones_join : (es fs : List (Event A B)) → ones (es ++ fs) ≡ ones es ++ ones fs
-  ones_join [] fs = refl
-  ones_join (one a ∷ es) fs = ap (λ l. a ∷ l) (ones_join es fs)
-  ones_join (two b ∷ es) fs = ones_join es fs
-
-  pub twos_join : (es fs : List (Event A B)) → twos (es ++ fs) ≡ twos es ++ twos fs
-  twos_join [] fs = refl
-  twos_join (one a ∷ es) fs = twos_join es fs
-  twos_join (two b ∷ es) fs = ap (λ l. b ∷ l) (twos_join es fs)
+use Rattle.af_turn_law.proofs.Marked.{NoMarks, knows_more, knows_met, knows_now, due_plain, due_mark}
 
 module _ {A B : Type 0} (ma : Marking A) (mb : Marking B) where
   abbrev pub OneKnows : List (Event A B) → Type 0
@@ -71,23 +38,23 @@ module _ {A B : Type 0} (ma : Marking A) (mb : Marking B) where
   pub ones_done : (told : List (Event A B)) (ds : List A) → NoMarks ma ds → IsPhased ma mb told → OneKnows told → IsPhased ma mb (told ++ map (λ a. one a) ds) × OneKnows (told ++ map (λ a. one a) ds)
   ones_done told ds plain phased knows = (
     phased_join [] [] told (map (λ a. one a) ds) phased (ones_phased (ones told) (twos told) ds plain knows),
-    subst (λ l. KnowsAll ma mb l (twos (told ++ map (λ a. one a) ds))) (sym (ones_join told (map (λ a. one a) ds) ∙ ap (λ l. ones told ++ l) (ones_one B ds)))
-        (subst (λ l. KnowsAll ma mb (ones told ++ ds) l) (sym (twos_join told (map (λ a. one a) ds) ∙ ap (λ l. twos told ++ l) (twos_one B ds) ∙ append-nil (twos told))) (knows_more ma mb (ones told) ds (twos told) knows)),
+    subst (λ l. KnowsAll ma mb l (twos (told ++ map (λ a. one a) ds))) (sym (ones_more told ds))
+        (subst (λ l. KnowsAll ma mb (ones told ++ ds) l) (sym (twos_stay told ds)) (knows_more ma mb (ones told) ds (twos told) knows)),
   )
 
   -- the order stays in phases if the second end did these events
   pub twos_done : (told : List (Event A B)) (bs : List B) → NoMarks mb bs → IsPhased ma mb told → TwoKnows told → IsPhased ma mb (told ++ map (λ b. two b) bs) × TwoKnows (told ++ map (λ b. two b) bs)
   twos_done told bs plain phased knows = (
     phased_join [] [] told (map (λ b. two b) bs) phased (twos_phased (ones told) (twos told) bs plain knows),
-    subst (λ l. KnowsAll mb ma l (ones (told ++ map (λ b. two b) bs))) (sym (twos_join told (map (λ b. two b) bs) ∙ ap (λ l. twos told ++ l) (twos_two A bs)))
-        (subst (λ l. KnowsAll mb ma (twos told ++ bs) l) (sym (ones_join told (map (λ b. two b) bs) ∙ ap (λ l. ones told ++ l) (ones_two A bs) ∙ append-nil (ones told))) (knows_more mb ma (twos told) bs (ones told) knows)),
+    subst (λ l. KnowsAll mb ma l (ones (told ++ map (λ b. two b) bs))) (sym (twos_more told bs))
+        (subst (λ l. KnowsAll mb ma (twos told ++ bs) l) (sym (ones_stay told bs)) (knows_more mb ma (twos told) bs (ones told) knows)),
   )
 
   -- the ends are ready once they met
   pub ends_met : (told : List (Event A B)) (a : A) (b : B) → ma.is_mark a ≡ true → mb.is_mark b ≡ true → ma.named a ≡ length (twos told) → mb.named b ≡ length (ones told) → IsPhased ma mb told → EndsReady (told ++ one a ∷ two b ∷ [])
   ends_met told a b mark_a mark_b all_a all_b phased =
-      let ones_are : ones (told ++ one a ∷ two b ∷ []) ≡ ones told ++ a ∷ [] = ones_join told (one a ∷ two b ∷ []) in
-      let twos_are : twos (told ++ one a ∷ two b ∷ []) ≡ twos told ++ b ∷ [] = twos_join told (one a ∷ two b ∷ []) in
+      let ones_are : ones (told ++ one a ∷ two b ∷ []) ≡ ones told ++ a ∷ [] = ones_met told a b in
+      let twos_are : twos (told ++ one a ∷ two b ∷ []) ≡ twos told ++ b ∷ [] = twos_met told a b in
       let few_a : ma.named a ≤ length (twos told) = omega (arith, all_a) in
       let few_b : mb.named b ≤ length (ones told ++ a ∷ []) = let n = length-append (ones told) (a ∷ []) in omega (arith, all_b, n) in
       let one_now : KnowsAll ma mb (ones told ++ a ∷ []) (twos told) = knows_now ma mb (ones told) (twos told) a (omega (arith, all_a)) in

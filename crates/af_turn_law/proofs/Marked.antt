@@ -1,7 +1,7 @@
 -- What was learnt by the marks of a list, and lists that end with marks.
 use Rattle.std.proofs.Common.{◌≡◌, ◌⊎◌, inl, inr, ℕ, zero, suc, ◌≤◌, ◌<◌, max, Bool, true, false, true≢false, MatchBool, fold, List, [], ◌∷◌, ◌++◌, length, refl, sym, ◌∙◌, arith}
 use Rattle.af_turn_law.proofs.Common.{fold-append}
-use Rattle.af_turn_law.specs.Marking.{Marking, learnt, OnlyMarksPast, OnlyMarks, NoMarks, IsDue, KnowsAll}
+use Rattle.af_turn_law.specs.Marking.{Marking, learnt, OnlyMarksPast, IsDue, KnowsAll}
 
 -- a case by a flag
 pub by_flag : {X Y : Type 0} (b : Bool) → MatchBool b X Y → ((b ≡ true) × X) ⊎ ((b ≡ false) × Y)
@@ -17,6 +17,11 @@ flag_false X true is y = absurd (true≢false is)
 flag_false X false is y = y
 
 module _ {E : Type 0} (m : Marking E) where
+  -- no event is a mark
+  abbrev pub NoMarks : List E → Type 0
+  NoMarks [] = Unit {0}
+  NoMarks (e ∷ es) = (m.is_mark e ≡ false) × NoMarks es
+
   pub past_front : (k : ℕ) (xs ys : List E) → OnlyMarksPast m k (xs ++ ys) → OnlyMarksPast m k xs
   past_front k [] ys h = tt
   past_front zero (x ∷ xs) ys h = (h.0, past_front zero xs ys h.1)
@@ -41,7 +46,7 @@ module _ {E : Type 0} (m : Marking E) where
   past_more (suc k) zero (x ∷ xs) le h = absurd (let z : ⊥ = omega (arith, le) in z)
   past_more (suc k) (suc n) (x ∷ xs) le h = past_more k n xs (omega (arith, le)) h
 
-  pub past_marks : (k : ℕ) (xs ys : List E) → OnlyMarksPast m k xs → OnlyMarks m ys → OnlyMarksPast m k (xs ++ ys)
+  pub past_marks : (k : ℕ) (xs ys : List E) → OnlyMarksPast m k xs → OnlyMarksPast m 0 ys → OnlyMarksPast m k (xs ++ ys)
   past_marks k [] ys h marks = past_more 0 k ys (omega arith) marks
   past_marks zero (x ∷ xs) ys h marks = (h.0, past_marks zero xs ys h.1 marks)
   past_marks (suc k) (x ∷ xs) ys h marks = past_marks k xs ys h marks
@@ -56,7 +61,7 @@ module _ {E : Type 0} (m : Marking E) where
   pub learnt_more : (xs ys : List E) → learnt m xs ≤ learnt m (xs ++ ys)
   learnt_more xs ys = let r = learnt_from (learnt m xs) ys in let e = fold-append (λ most e. max (m.named e) most) 0 xs ys in omega (arith, r, e)
 
-  pub none_join : (xs ys : List E) → NoMarks m xs → NoMarks m ys → NoMarks m (xs ++ ys)
+  pub none_join : (xs ys : List E) → NoMarks xs → NoMarks ys → NoMarks (xs ++ ys)
   none_join [] ys a b = b
   none_join (x ∷ xs) ys a b = (a.0, none_join xs ys a.1 b)
 

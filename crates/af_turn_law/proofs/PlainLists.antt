@@ -10,8 +10,8 @@ use Rattle.af_life.specs.Looks.{takes_command, command_events, did, all_command_
 use Rattle.af_model.specs.ClientCalls.{client_call_events, client_events_of, client_kept}
 use Rattle.af_model.specs.Cycles.{events_behind_look}
 use Rattle.af_model.specs.ServerCalls.{drops_of, look_events}
-use Rattle.af_turn_law.specs.Marking.{NoMarks, client_marks, server_marks}
-use Rattle.af_turn_law.proofs.Marked.{none_join}
+use Rattle.af_turn_law.specs.Marking.{client_marks, server_marks}
+use Rattle.af_turn_law.proofs.Marked.{NoMarks, none_join}
 
 abbrev pub Plain : List ServerEvent → Type 0
 Plain es = NoMarks server_marks es

@@ -1,6 +1,6 @@
 -- The command blocks of a turn run, and the stream blocks that are tame so far, are told in phases: what each step leaves of them.
 use Rattle.std.proofs.Common.{◌≡◌, ℕ, zero, suc, ◌+◌, ◌<◌, ◌==◌, ◌&&◌, ◌||◌, Bool, true, false, true≢false, if◌then◌else◌, is_some, map, length, drop, Option, Some, None, refl, sym, ap, ◌∙◌, subst, arith, ◌≤◌}
-use Rattle.af_turn_law.proofs.Common.{EntrySeen, FastState, LegalEntry, Marks, RoundSeen, Run, Session, TrackTold, after_calls, by_client, by_server, calls_alone, calls_in, carries, client_list, cycle_alone, cycle_events, cycle_frames, changed_from, each_long, each_track, ends, entry_slot, find, is_home, is_within, list_any, listed, met, met_many, mixed_track, played, range_with_len, sides_of, slot_of, slots, state_at, state_for, takes_part, told_at, told_each, track_at, with_ends, with_mix, with_poll}
+use Rattle.af_turn_law.proofs.Common.{EntrySeen, FastState, LegalEntry, Marks, RoundSeen, Run, Session, TrackTold, after_calls, by_client, by_server, calls_alone, calls_in, carries, client_list, cycle_alone, cycle_events, cycle_frames, changed_from, each_long, each_track, ends, entry_slot, find, is_home, is_within, list_any, listed, met, met_many, mixed_track, played, range_with_len, sides_of, slot_of, slots, state_at, state_for, takes_part, told_at, told_each, track_at, with_ends, with_mix, with_poll, or_left, or_right}
 use Rattle.af_runs.specs.Fronts.{front_of, is_shown}
 use Rattle.af_runs.specs.Runs.{called_in_turn, shows_slot, slot_playing}
 use Rattle.af_judge.proofs.BlocksMeet.{met_at}
@@ -151,17 +151,9 @@ found_any : (p q : ℕ → Bool) (a n k : ℕ) → ((i : ℕ) → p i ≡ true �
 found_any p q a zero k imp is = absurd (true≢false (sym (ap is_some is)))
 found_any p q a (suc n) k imp is = by_first (p a) refl is (found_any p q (a + 1) n k imp)
   where
-    by_rest : (b c : Bool) → c ≡ true → (b || c) ≡ true
-    by_rest true c h = refl
-    by_rest false c h = h
-
-    by_true : (b c : Bool) → b ≡ true → (b || c) ≡ true
-    by_true true c h = refl
-    by_true false c h = absurd (true≢false (sym h))
-
     by_first : (b : Bool) → p a ≡ b → (if b then Some a else find p (range_with_len (a + 1) n)) ≡ Some k → (find p (range_with_len (a + 1) n) ≡ Some k → list_any q (range_with_len (a + 1) n) ≡ true) → (q a || list_any q (range_with_len (a + 1) n)) ≡ true
-    by_first true is e rest = by_true (q a) (list_any q (range_with_len (a + 1) n)) (imp a is)
-    by_first false is e rest = by_rest (q a) (list_any q (range_with_len (a + 1) n)) (rest e)
+    by_first true is e rest = or_left (q a) (list_any q (range_with_len (a + 1) n)) (imp a is)
+    by_first false is e rest = or_right (q a) (list_any q (range_with_len (a + 1) n)) (rest e)
 
 -- after a poll the state of that number, which was pushed, is the one that the observer has
 polled_state : (s : Session) (k : ℕ) (run : Run) → k ≤ length run.states → state_for s (with_poll s k run) k ≡ state_at (cycle_frames s) run.states (with_poll s k run).current
@@ -177,16 +169,12 @@ holds_played s e run low n i is =
     let any : list_any (λ i. carries x i && ((slot_of x i).track == n)) (range_with_len 0 slots) ≡ true =
     found_any (λ i. shows_slot x e.entry i && ((slot_of x i).track == n)) (λ i. carries x i && ((slot_of x i).track == n)) 0 slots i
     (λ i h. weaker (carries x i) (is_shown (entry_slot e.entry i).seen) ((slot_of x i).track == n) h) is in
-    right (is_home (track_at run.normal.tracks n).holder) _ (subst (λ (z : FastState). list_any (λ i. carries z i && ((slot_of z i).track == n)) (range_with_len 0 slots) ≡ true) (polled_state s k run low) any)
+    or_right (is_home (track_at run.normal.tracks n).holder) _ (subst (λ (z : FastState). list_any (λ i. carries z i && ((slot_of z i).track == n)) (range_with_len 0 slots) ≡ true) (polled_state s k run low) any)
   where
     weaker : (a b c : Bool) → ((a && b) && c) ≡ true → (a && c) ≡ true
     weaker true true c h = h
     weaker true false c h = absurd (true≢false (sym h))
     weaker false b c h = absurd (true≢false (sym h))
-
-    right : (a b : Bool) → b ≡ true → (a || b) ≡ true
-    right true b h = refl
-    right false b h = h
 
 -- a legal cycle's state was pushed
 pub alone_pushed : (s : Session) (marks : Marks) (run : Run) (e : EntrySeen) → LegalEntry s marks (met s (with_poll s e.entry.state run)) e → e.entry.state ≤ length run.states

@@ -11,7 +11,8 @@ use Rattle.af_model.specs.declared.newest.WriterEvent.TheVariants as writes
 use Rattle.af_model.specs.declared.newest.ReaderEvent.TheVariants as reads
 use Rattle.af_model.specs.declared.states.MutatorEvent.TheVariants as mutator
 use Rattle.af_model.specs.declared.states.ObserverEvent.TheVariants as observer
-use Rattle.af_turn_law.specs.Marking.{NoMarks, mutator_marks, observer_marks, writer_marks, reader_marks, client_marks, server_marks}
+use Rattle.af_turn_law.specs.Marking.{mutator_marks, observer_marks, writer_marks, reader_marks, client_marks, server_marks}
+use Rattle.af_turn_law.proofs.Marked.{NoMarks}
 use Rattle.af_turn_law.specs.Phased.{IsPhased}
 use Rattle.af_turn_law.proofs.EndsSteps.{EndsReady, new_ends, ones_done, twos_done, ends_met}
 

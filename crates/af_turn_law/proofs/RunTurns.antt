@@ -2,7 +2,7 @@
 use Rattle.std.proofs.Common.{◌≡◌, ◌⊎◌, inl, inr, ℕ, ◌<◌, Bool, true, false, true≢false, if◌then◌else◌, map, List, [], ◌∷◌, length, Option, Some, None, refl, sym, ap, ◌∙◌, subst, arith}
 use Rattle.af_turn_law.proofs.Common.{HandEvent, Moment, Outside, RoundSeen, Run, ServerEvent, Session, Setup, TrackTold, Turn, TurnFound, by_hand, by_server, command_list, each_at, each_long, found_before, hand_events_of, learnt, loaded, no_track, outside_of, setup_of, stream_list, takes_part, told_at, track_in, tracks_at, turn_alone, turned, turned_track, with_load, with_turn}
 use Rattle.af_base.specs.declared.event.HandEvent.TheVariants as hand
-use Rattle.af_turn_law.specs.Acting.{StreamActs, ActsWhereMet}
+use Rattle.af_turn_law.proofs.TurnActs.{StreamActs, ActsWhereMet}
 use Rattle.af_turn_law.specs.Phased.{IsBlockPhased}
 use Rattle.af_turn_law.proofs.BlockSteps.{Ready, Done, ClientKnows, ServerKnows, OnlyInvalid, told_more, server_done, hand_ready, turn_done}
 use Rattle.af_turn_law.proofs.PlainLists.{plain_stream_list, plain_command_list}

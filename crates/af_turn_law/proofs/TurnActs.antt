@@ -1,13 +1,24 @@
 -- In a legal turn that finds tracks shut as `FindsShutUnseen` says, hands and the stream proxies of the tracks whose stream blocks are tame so far act as `ActsWhereMet` says.
-use Rattle.std.proofs.Common.{◌≡◌, ◌⊎◌, inl, inr, ℕ, ◌<◌, ◌≤◌, ◌||◌, nat_lt, Bool, true, false, true≢false, MatchBool, if◌then◌else◌, List, [], ◌∷◌, ◌++◌, length, map, All, refl, sym, ap, ◌∙◌, subst, arith}
-use Rattle.af_turn_law.proofs.Common.{Case, GoesOn, IsServed, Learnt, LegalTrack, LegalTurnBy, Marks, NormalKept, Outside, Run, ServerEvent, Session, Setting, Setup, Sound, TakeSeen, TrackKept, TrackSeen, Turn, TurnFound, after_ack, after_commands, after_edits, asked, at_new, cases_lt, client_list, cycle_events, either_false, first_told, flat_map, get_or_past, hand_events_of, heard, heard_by, observer_holds, invalid, is_home, is_tame, learnt, mix_events, new_normal, new_track, no_retries_left, none_and, not_yet, nothing_seen, outside_of, ready, reports, served_to, setup_of, slot_for, stream_list, takes_part, told_at, told_by_report, track_at, track_in, tracks_at, tracks_due, turn_after, welcomed, welcomed_at, with_turn}
+use Rattle.std.proofs.Common.{◌≡◌, ◌⊎◌, inl, inr, ℕ, ◌<◌, ◌≤◌, nat_lt, Bool, true, false, true≢false, MatchBool, if◌then◌else◌, List, [], ◌∷◌, ◌++◌, length, map, All, refl, ap, ◌∙◌, subst, arith}
+use Rattle.af_turn_law.proofs.Common.{Case, GoesOn, IsServed, Learnt, LegalTrack, LegalTurnBy, Marks, NormalKept, Outside, Run, ServerEvent, Session, Setting, Setup, Sound, TakeSeen, TrackKept, TrackSeen, Turn, TurnFound, after_ack, after_commands, after_edits, asked, at_new, cases_lt, client_list, cycle_events, either_false, first_told, flat_map, get_or_past, hand_events_of, heard, heard_by, observer_holds, invalid, is_home, is_tame, learnt, mix_events, new_normal, new_track, no_retries_left, none_and, not_yet, nothing_seen, outside_of, ready, reports, served_to, setup_of, slot_for, stream_list, takes_part, told_at, told_by_report, track_at, track_in, tracks_at, tracks_due, turn_after, welcomed, welcomed_at, with_turn, or_left}
 use Rattle.af_base.specs.declared.event.HandEvent.TheVariants as hand
 use Rattle.af_base.specs.declared.event.ServerEvent.TheVariants as server
 use Rattle.af_life.specs.declared.track.Known.{Known}
 use Rattle.af_life.specs.declared.track.Life.{Life}
-use Rattle.af_turn_law.specs.Acting.{SawNoInvalid, StreamActs, ActsWhereMet, FindsShutUnseen}
+use Rattle.af_turn_law.specs.Acting.{SawNoInvalid, FindsShutUnseen}
 use Rattle.af_turn_law.proofs.MixedHome.{mixed_home}
 use Rattle.af_turn_law.proofs.ShutHome.{is_shut_now, shut_home}
+
+-- The stream proxy of a track does nothing in a turn; or it took part in the last meetings, and will in the next ones; or it only sets INVALID, of which the client saw nothing so far, and will take part in the next meetings
+abbrev pub StreamActs : Session → Run → TurnFound → Turn → ℕ → List ServerEvent → Type 0
+StreamActs s run f e n events =
+    let after = takes_part s (with_turn s f e run) n in
+    (events ≡ []) ⊎ (((takes_part s run n ≡ true) × (after ≡ true)) ⊎ ((events ≡ server.SetFlags 4 ∷ []) × SawNoInvalid (client_list (told_at run n).stream) × (after ≡ true)))
+
+-- A hand does something only once it is there; and the stream proxy of a track acts as StreamActs says if the stream block is tame so far
+pub record ActsWhereMet (s : Session) (run : Run) (f : TurnFound) (e : Turn) : Type 0 where
+  pub hands : (n : ℕ) → (hand_events_of e n ≡ []) ⊎ (run.handed ≡ true)
+  pub streams : (n : ℕ) → n < length run.tracks → is_tame (told_at run n).stream ≡ true → let o = outside_of (setup_of s) f e in StreamActs s run f e n (stream_list (setup_of s) o e (tracks_at (setup_of s) (learnt o) run.normal e n) n)
 
 -- what is kept of the normal mixer between two rounds: before it made its hands it is new
 pub record NormalReady (s : Session) (run : Run) : Type 0 where
@@ -57,11 +68,7 @@ module _ (c : Setup) (k : Learnt) (e : Turn) (n : ℕ) where
 -- ## The turn
 
 part_home : (s : Session) (run : Run) (n : ℕ) → is_home (track_at run.normal.tracks n).holder ≡ true → takes_part s run n ≡ true
-part_home s run n home = either (is_home (track_at run.normal.tracks n).holder) (observer_holds s run n) home
-  where
-    either : (a b : Bool) → a ≡ true → (a || b) ≡ true
-    either true b h = refl
-    either false b h = absurd (true≢false (sym h))
+part_home s run n home = or_left (is_home (track_at run.normal.tracks n).holder) (observer_holds s run n) home
 
 part_turned : (s : Session) (f : TurnFound) (e : Turn) (run : Run) (n : ℕ) → is_home (track_at (turn_after (setup_of s) (learnt (outside_of (setup_of s) f e)) run.normal e).tracks n).holder ≡ true → takes_part s (with_turn s f e run) n ≡ true
 unfolding with_turn

@@ -31,15 +31,6 @@ module _ {E : Type 0} (m : Marking E) where
   OnlyMarksPast zero (e ∷ es) = (m.is_mark e ≡ true) × OnlyMarksPast zero es
   OnlyMarksPast (suc k) (e ∷ es) = OnlyMarksPast k es
 
-  -- all events are marks
-  abbrev pub OnlyMarks : List E → Type 0
-  OnlyMarks events = OnlyMarksPast 0 events
-
-  -- no event is a mark
-  abbrev pub NoMarks : List E → Type 0
-  NoMarks [] = Unit {0}
-  NoMarks (e ∷ es) = (m.is_mark e ≡ false) × NoMarks es
-
 module _ {A B : Type 0} (mine : Marking A) (others : Marking B) where
   -- by its marks a party has learnt of all events, but marks, that the other one did
   abbrev pub KnowsAll : List A → List B → Type 0

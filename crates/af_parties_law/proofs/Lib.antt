@@ -1,0 +1,10 @@
+pub mod Common
+pub mod ClientsSpelled
+pub mod RunSpelled
+pub mod RunPushed
+pub mod RunReleased
+pub mod RunFollows
+pub mod ToldAlone
+pub mod NeverOlder
+pub mod ListsKept
+pub mod ItsRun
